@@ -1,0 +1,3 @@
+-- The limits, and the numbers of refusals and verdicts.
+pub mod Limits
+pub mod Refusal

@@ -1,0 +1,56 @@
+-- Refusals and verdicts as the numbers of 01, and the first of several refusals.
+-- Assumes nothing.
+use mathlib.Core.Bool.{Bool, true, false}
+use mathlib.Core.List.{List, [], _∷_}
+use Prim.Native.Nat.{ℕ}
+use Rattle.answer.specs.declared.Refusal.{Refusal}
+use Rattle.answer.specs.declared.Refusal.the-variants.{TooMany, Table, ResultRoom, BadDigit, NothingToTake, TooLong, NoRoom, HullRoom, BadLine}
+use Rattle.answer.specs.declared.Judged.{Judged}
+use Rattle.answer.specs.declared.Judged.the-variants.{Good, Refused}
+use Rattle.answer.specs.declared.Verdict.{Verdict}
+use Rattle.answer.specs.declared.Verdict.the-variants.{Nowhere, Open, Room, OpenMeeting, ClosedMeeting}
+
+abbrev pub refusalNumber : Refusal → ℕ
+refusalNumber TooMany = 1
+refusalNumber Table = 2
+refusalNumber ResultRoom = 3
+refusalNumber (BadDigit i) = 4
+refusalNumber (NothingToTake i) = 5
+refusalNumber (TooLong i) = 6
+refusalNumber (NoRoom i) = 7
+refusalNumber HullRoom = 8
+refusalNumber BadLine = 9
+
+-- refusals without a place give 0
+abbrev pub refusalPlace : Refusal → ℕ
+refusalPlace TooMany = 0
+refusalPlace Table = 0
+refusalPlace ResultRoom = 0
+refusalPlace (BadDigit i) = i
+refusalPlace (NothingToTake i) = i
+refusalPlace (TooLong i) = i
+refusalPlace (NoRoom i) = i
+refusalPlace HullRoom = 0
+refusalPlace BadLine = 0
+
+abbrev pub verdictNumber : Verdict → ℕ
+verdictNumber Nowhere = 0
+verdictNumber Open = 1
+verdictNumber Room = 2
+verdictNumber OpenMeeting = 3
+verdictNumber ClosedMeeting = 4
+
+-- a refusal if the test passes
+abbrev pub when : Bool → Refusal → Judged
+when true r = Refused r
+when false r = Good
+
+-- the first of two that is a refusal
+abbrev pub orElse : Judged → Judged → Judged
+orElse Good k = k
+orElse (Refused r) k = Refused r
+
+-- the first of a list that is one
+abbrev pub firstOf : List Judged → Judged
+firstOf [] = Good
+firstOf (j ∷ js) = orElse j (firstOf js)

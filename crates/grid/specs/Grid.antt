@@ -1,0 +1,59 @@
+-- Corners, panels and steps (01, "Corners, panels and words"). A step is a digit: 0 east, 1 north, 2 west, 3 south.
+-- Assumes nothing.
+use mathlib.Core.Bool.{Bool, true, false, _&&_}
+use mathlib.Core.List.{List, [], _∷_}
+use Prim.Native.Nat.{ℕ, zero, suc}
+use lib.IntN.{ℤ, pos, negsuc, sucℤ, predℤ}
+use lib.ListN.{take}
+use lib.Dec.{eqb}
+use Rattle.grid.specs.declared.Corner.{Corner}
+use Rattle.grid.specs.declared.Panel.{Panel}
+
+-- the corner with these coordinates
+abbrev pub corner : ℤ → ℤ → Corner
+corner x y = record { 0 = x; 1 = y }
+
+abbrev pub origin : Corner
+origin = corner (pos 0) (pos 0)
+
+-- the panel whose lower left corner this is
+abbrev pub panelAt : Corner → Panel
+panelAt c = record { 0 = c .0; 1 = c .1 }
+
+abbrev pub eqZ : ℤ → ℤ → Bool
+eqZ (pos a) (pos b) = eqb a b
+eqZ (pos a) (negsuc b) = false
+eqZ (negsuc a) (pos b) = false
+eqZ (negsuc a) (negsuc b) = eqb a b
+
+-- the two are one corner
+abbrev pub same : Corner → Corner → Bool
+same a b = eqZ (a .0) (b .0) && eqZ (a .1) (b .1)
+
+-- where a step leads: 0 east (+1,0), 1 north (0,+1), 2 west (-1,0), 3 south (0,-1); a digit above 3 is never walked
+abbrev pub stepped : ℕ → Corner → Corner
+stepped zero c = corner (sucℤ (c .0)) (c .1)
+stepped (suc zero) c = corner (c .0) (sucℤ (c .1))
+stepped (suc (suc zero)) c = corner (predℤ (c .0)) (c .1)
+stepped (suc (suc (suc d))) c = corner (c .0) (predℤ (c .1))
+
+-- the direction back
+abbrev pub back : ℕ → ℕ
+back zero = 2
+back (suc zero) = 3
+back (suc (suc zero)) = 0
+back (suc (suc (suc d))) = 1
+
+-- the corners p0 to pn of the walk of these steps from c
+abbrev pub cornersFrom : Corner → List ℕ → List Corner
+cornersFrom c [] = c ∷ []
+cornersFrom c (d ∷ ds) = c ∷ cornersFrom (stepped d c) ds
+
+-- its last corner pn
+abbrev pub endFrom : Corner → List ℕ → Corner
+endFrom c [] = c
+endFrom c (d ∷ ds) = endFrom (stepped d c) ds
+
+-- its corner pk: the last of its first k steps
+abbrev pub cornerAt : Corner → List ℕ → ℕ → Corner
+cornerAt c ds k = endFrom c (take k ds)

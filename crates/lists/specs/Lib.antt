@@ -1,0 +1,2 @@
+-- Words about lists.
+pub mod Lists

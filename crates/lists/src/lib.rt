@@ -1,0 +1,1 @@
+// Words about lists, and their laws. There is no code here.
