@@ -1,0 +1,2 @@
+-- What the walk's call answers and leaves.
+pub mod Walk

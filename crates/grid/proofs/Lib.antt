@@ -1,0 +1,5 @@
+pub mod CornerLaws
+pub mod ParentLaws
+pub mod PathLaws
+pub mod StepLaws
+pub mod ChildLaws

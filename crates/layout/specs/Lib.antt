@@ -1,0 +1,3 @@
+-- Records, the table, marks and the chain.
+pub mod Table
+pub mod Marks

@@ -1,0 +1,26 @@
+-- The marks after each operation, and the chain of surviving steps (01, "What the calls take and give").
+-- Assumes nothing.
+use mathlib.Core.List.{List, [], _∷_, _++_}
+use Prim.Native.Nat.{ℕ, _-_}
+use lib.ListN.{length, replicate}
+use Rattle.lists.specs.Lists.{count}
+use Rattle.grid.specs.declared.Corner.{Corner}
+use Rattle.grid.specs.Grid.{same, cornersFrom, endFrom}
+use Rattle.word.specs.Operations.{operate, survivors}
+use Rattle.tree.specs.Nodes.{nodesOf}
+
+-- the nodes in use, then the visits at the corner now stood on
+abbrev pub markOf : Corner → List ℕ → List ℕ
+markOf c ds = length (nodesOf (cornersFrom c ds)) ∷ count (same (endFrom c ds)) (cornersFrom c ds) ∷ []
+
+abbrev pub marksFrom : Corner → List ℕ → List ℕ → List ℕ
+marksFrom c ds [] = []
+marksFrom c ds (o ∷ os) = markOf c (operate ds o) ++ marksFrom c (operate ds o) os
+
+-- the mark after each operation, one after the other
+abbrev pub marksOf : Corner → List ℕ → List ℕ
+marksOf c os = marksFrom c [] os
+
+-- the surviving steps, then zeros
+abbrev pub chainOf : List ℕ → List ℕ
+chainOf os = survivors os ++ replicate (length os - length (survivors os)) 0

@@ -1,0 +1,58 @@
+-- The words of a record, and the table (01, "The tree").
+-- Assumes nothing.
+use mathlib.Core.Bool.{cond, not, _&&_}
+use mathlib.Core.List.{List, [], _∷_, _++_}
+use Prim.Native.Nat.{ℕ, zero, suc, _+_, _-_, _*_, pred}
+use lib.ListN.{length, replicate}
+use lib.Dec.{eqb}
+use Rattle.lists.specs.Lists.{any, find, count}
+use Rattle.grid.specs.declared.Corner.{Corner}
+use Rattle.grid.specs.Grid.{same, stepped, cornersFrom}
+use Rattle.grid.specs.Tree.{parentOf, isRoot, pathOf, childWord}
+use Rattle.tree.specs.Nodes.{nodesOf, refOf, linkStepOf}
+
+-- words of a record that all walks in a table share, and words of each walk
+abbrev pub sharedWords : ℕ
+sharedWords = 14
+
+abbrev pub ownWords : ℕ
+ownWords = 7
+
+-- words of a record that m walks share
+abbrev pub recordWords : ℕ → ℕ
+recordWords m = sharedWords + m * ownWords
+
+-- the ref of the child of a that stands in word w
+abbrev pub childRefOf : List Corner → Corner → ℕ → ℕ
+childRefOf ns a w = find (λ c. not (isRoot c) && same (parentOf c) a && eqb (childWord c) w) ns
+
+-- the ref of the neighbour in direction d, if there is a link
+abbrev pub neighbourRefOf : List Corner → List Corner → Corner → ℕ → ℕ
+neighbourRefOf ps ns a d = elim (linkStepOf ps a d) [ zero ↦ 0 | suc k ↦ refOf ns (stepped d a) ]
+
+-- the record of node a, in a walk with corners ps and nodes ns: the parent; the children; the neighbours east, north, west, south;
+-- their links' steps; the visits; the step that first needed the node; 1 + the least k with pk here
+abbrev pub recordOf : List Corner → List Corner → Corner → List ℕ
+recordOf ps ns a =
+    cond (isRoot a) 0 (refOf ns (parentOf a))
+    ∷ childRefOf ns a 1 ∷ childRefOf ns a 2 ∷ childRefOf ns a 3
+    ∷ childRefOf ns a 4 ∷ childRefOf ns a 5 ∷ childRefOf ns a 6
+    ∷ childRefOf ns a 7 ∷ childRefOf ns a 8 ∷ childRefOf ns a 9
+    ∷ neighbourRefOf ps ns a 0 ∷ neighbourRefOf ps ns a 1 ∷ neighbourRefOf ps ns a 2 ∷ neighbourRefOf ps ns a 3
+    ∷ linkStepOf ps a 0 ∷ linkStepOf ps a 1 ∷ linkStepOf ps a 2 ∷ linkStepOf ps a 3
+    ∷ count (same a) ps
+    ∷ pred (find (λ p. any (same a) (pathOf p)) ps)
+    ∷ find (same a) ps
+    ∷ []
+
+abbrev pub recordsOf : List Corner → List Corner → List Corner → List ℕ
+recordsOf ps ns [] = []
+recordsOf ps ns (a ∷ rest) = recordOf ps ns a ++ recordsOf ps ns rest
+
+-- the table of so many words: the records of the nodes in use, then zeros
+abbrev pub tableOf : ℕ → Corner → List ℕ → List ℕ
+tableOf words c ds =
+    let ps = cornersFrom c ds in
+    let ns = nodesOf ps in
+    let rs = recordsOf ps ns ns in
+    rs ++ replicate (words - length rs) 0

@@ -1,0 +1,47 @@
+-- Meetings of two visits, and the different corners (01, "Corners, panels and words").
+-- Assumes nothing.
+use mathlib.Core.Path.{_≡_}
+use mathlib.Core.List.{List, [], _∷_, _++_}
+use Prim.Native.Nat.{ℕ, zero, suc, _<_, _≤_}
+use lib.ListN.{length}
+use Rattle.lists.specs.Lists.{find, gather}
+use Rattle.answer.specs.Limits.{noMeeting}
+use Rattle.grid.specs.declared.Corner.{Corner}
+use Rattle.grid.specs.Grid.{same, cornersFrom, cornerAt}
+
+-- j < k with pj = pk
+pub record Meets (c : Corner) (ds : List ℕ) (j k : ℕ) : Type 0 where
+  pub earlier : j < k
+  pub within : k ≤ length ds
+  pub equal : cornerAt c ds j ≡ cornerAt c ds k
+
+-- the first meeting has the least k
+pub record FirstMeets (c : Corner) (ds : List ℕ) (j k : ℕ) : Type 0 where
+  pub meets : Meets c ds j k
+  pub least : (i m : ℕ) → Meets c ds i m → k ≤ m
+
+pub data Meeting : Type 0 where
+  none : Meeting
+  meet : ℕ → ℕ → Meeting
+
+-- the first k whose corner is among those before it, and the place j there
+abbrev pub meetingFrom : List Corner → List Corner → Meeting
+meetingFrom seen [] = none
+meetingFrom seen (p ∷ ps) = elim (find (same p) seen) [ zero ↦ meetingFrom (seen ++ (p ∷ [])) ps | suc j ↦ meet j (length seen) ]
+
+-- the first meeting of a walk, if there is one
+abbrev pub meetingOf : Corner → List ℕ → Meeting
+meetingOf c ds = meetingFrom [] (cornersFrom c ds)
+
+-- j and k of a meeting, 65,535 if there is none
+abbrev pub meetingJ : Meeting → ℕ
+meetingJ none = noMeeting
+meetingJ (meet j k) = j
+
+abbrev pub meetingK : Meeting → ℕ
+meetingK none = noMeeting
+meetingK (meet j k) = k
+
+-- the different corners, in the order of the first visit
+abbrev pub visitedOf : List Corner → List Corner
+visitedOf ps = gather same [] ps

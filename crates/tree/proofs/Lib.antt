@@ -1,0 +1,4 @@
+pub mod NodeLaws
+pub mod RefLaws
+pub mod JoinLaws
+pub mod LinkLaws

@@ -1,0 +1,2 @@
+-- The nodes in use, and their links.
+pub mod Nodes

@@ -1,0 +1,39 @@
+-- The nodes in use in their order, and the links between them (01, "The tree"). ps are the corners p0 to pn.
+-- Assumes nothing.
+use mathlib.Core.Bool.{Bool, _&&_, _||_}
+use mathlib.Core.List.{List, [], _∷_, _++_}
+use Prim.Native.Nat.{ℕ}
+use Rattle.lists.specs.Lists.{any, find, gather, zip}
+use Rattle.grid.specs.declared.Corner.{Corner}
+use Rattle.grid.specs.Grid.{same, stepped}
+use Rattle.grid.specs.Tree.{lineageOf, pathOf}
+
+-- the paths of a list of corners, each from the root, one after the other
+abbrev pub pathsOf : List Corner → List Corner
+pathsOf [] = []
+pathsOf (p ∷ ps) = pathOf p ++ pathsOf ps
+
+-- the nodes in use: the visited corners and their ancestors, in the order in which they are first needed, nearer the root first
+abbrev pub nodesOf : List Corner → List Corner
+nodesOf ps = gather same [] (pathsOf ps)
+
+-- 1 + the number of a node; 0 if it is none
+abbrev pub refOf : List Corner → Corner → ℕ
+refOf ns a = find (same a) ns
+
+-- the steps, each as its two ends
+abbrev pub legsOf : List Corner → List (Corner × Corner)
+legsOf [] = []
+legsOf (p ∷ ps) = zip (p ∷ ps) ps
+
+-- a pair is a and b, in either order
+abbrev pub joins : Corner → Corner → Corner × Corner → Bool
+joins a b l = same (l .0) a && same (l .1) b || same (l .0) b && same (l .1) a
+
+-- a step links a and b: at some level that both its ends have, their parents are a and b
+abbrev pub links : Corner → Corner → Corner × Corner → Bool
+links a b l = any (joins a b) (zip (lineageOf (l .0)) (lineageOf (l .1)))
+
+-- the least step, counted from 1, that links a to its neighbour in direction d; 0 if none does
+abbrev pub linkStepOf : List Corner → Corner → ℕ → ℕ
+linkStepOf ps a d = find (links a (stepped d a)) (legsOf ps)

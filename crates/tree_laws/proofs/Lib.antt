@@ -1,0 +1,7 @@
+pub mod LineageLaws
+pub mod LevelLaws
+pub mod AddLaws
+pub mod PushLaws
+pub mod PopLaws
+pub mod ClassLaws
+pub mod CountLaws

@@ -1,0 +1,237 @@
+-- How every word of the table changes with one step more.
+-- Assumes nothing.
+use mathlib.Core.Bool.{Bool, true, false, cond, true≢false}
+use mathlib.Core.List.{List, [], _∷_, _++_, List·Memᴰ, List·Memᴰ·head, List·Memᴰ·tail, List·Memᴰ·not-nil, List·Memᴰ·cases-cons}
+use mathlib.Core.Logic.{_⊎_, ⊎-elim}
+use mathlib.Core.Path.{_≡_, refl, ap, ap₂, sym, _∙_}
+use Prim.Native.Nat.{ℕ, zero, suc, _+_, _<_, _≤_, pred}
+use native.Mathlib.Omega.{arith}
+use borrow.Author.Tests.{ne-eqb, eq-eqb}
+use lib.Dec.{eqb}
+use lib.ListN.{length, length-append}
+use Rattle.grid.specs.declared.Corner.{Corner}
+use Rattle.grid.specs.Grid.{origin, same, stepped, cornersFrom, endFrom}
+use Rattle.grid.specs.Tree.{parentOf, pathOf}
+use Rattle.layout.specs.Table.{neighbourRefOf}
+use Rattle.lists.specs.Lists.{any, find, count, gather, zip, tally, later}
+use Rattle.trace.specs.Meeting.{visitedOf}
+use Rattle.tree.specs.Nodes.{pathsOf, nodesOf, legsOf, links, linkStepOf, refOf}
+use Rattle.grid.proofs.CornerLaws.{same-refl, same-sound}
+use Rattle.grid.proofs.PathLaws.{pathOf-root, pathOf-snoc, tree-ind}
+use Rattle.grid.proofs.StepLaws.{length-cornersFrom, endFrom-mem, cornersFrom-snoc}
+use Rattle.lists.proofs.FindLaws.{find-cong, bool-agree, find-le, find-pos, later-old, later-new, later-none, find-snoc, count-snoc, count-none, count-any, not-found, find-none, find-any, any-mem, any-some}
+use Rattle.lists.proofs.GatherLaws.{gather-more, gather-append, add-cases, any→mem, mem→any, not-mem, mem-gather-right, mem-gather-cases}
+use Rattle.tree.proofs.NodeLaws.{mem-path, nodesOf-snoc, nodesOf-distinct, mem-paths, mem-paths-cases}
+use Rattle.tree.proofs.RefLaws.{not-any, ref-parent}
+use Rattle.tree_laws.specs.State.{linked, Good, stateOf, needed, reached, visitedBy, Alike, Sound}
+use Rattle.tree_laws.proofs.AddLaws.{ref-append}
+use Rattle.tree_laws.proofs.LevelLaws.{path-parent}
+use Rattle.tree_laws.proofs.LineageLaws.{links-up, links-flip, links-ends}
+
+pub legs-push : (c : Corner) (ds : List ℕ) (d : ℕ) → legsOf (cornersFrom c (ds ++ (d ∷ []))) ≡ legsOf (cornersFrom c ds) ++ ((endFrom c ds, stepped d (endFrom c ds)) ∷ [])
+legs-push c [] d = refl
+legs-push c (x ∷ []) d = refl
+legs-push c (x ∷ y ∷ ds) d = ap (λ (l : List (Corner × Corner)). (c, stepped x c) ∷ l) (legs-push (stepped x c) (y ∷ ds) d)
+
+pub length-legs : (c : Corner) (ds : List ℕ) → length (legsOf (cornersFrom c ds)) ≡ length ds
+length-legs c [] = refl
+length-legs c (x ∷ []) = refl
+length-legs c (x ∷ y ∷ ds) = ap suc (length-legs (stepped x c) (y ∷ ds))
+
+mem-zip : (l m : List Corner) {x : Corner × Corner} → List·Memᴰ x (zip l m) → List·Memᴰ (x .0) l × List·Memᴰ (x .1) m
+mem-zip [] m k = absurd (List·Memᴰ·not-nil k)
+mem-zip (p ∷ l) [] k = absurd (List·Memᴰ·not-nil k)
+mem-zip (p ∷ l) (q ∷ m) k =
+    ⊎-elim
+    (λ e. (List·Memᴰ·head (ap (λ (z : Corner × Corner). z .0) e), List·Memᴰ·head (ap (λ (z : Corner × Corner). z .1) e)))
+    (λ n. let h = mem-zip l m n in (List·Memᴰ·tail (h .0), List·Memᴰ·tail (h .1)))
+    (List·Memᴰ·cases-cons k)
+
+mem-legs : (ps : List Corner) {x : Corner × Corner} → List·Memᴰ x (legsOf ps) → List·Memᴰ (x .0) ps × List·Memᴰ (x .1) ps
+mem-legs [] k = absurd (List·Memᴰ·not-nil k)
+mem-legs (p ∷ ps) k = let h = mem-zip (p ∷ ps) ps k in (h .0, List·Memᴰ·tail (h .1))
+
+mem-nodes : (ps : List Corner) (p x : Corner) → List·Memᴰ p ps → List·Memᴰ x (pathOf p) → List·Memᴰ x (nodesOf ps)
+mem-nodes ps p x m k = mem-gather-right same same-sound same-refl [] (pathsOf ps) (mem-paths ps m k)
+
+mem-nodes-cases : (ps : List Corner) (x : Corner) → List·Memᴰ x (nodesOf ps) → (p : Corner) × List·Memᴰ p ps × List·Memᴰ x (pathOf p)
+mem-nodes-cases ps x m = mem-paths-cases ps (⊎-elim (λ k. absurd (List·Memᴰ·not-nil k)) (λ k. k) (mem-gather-cases same same-sound same-refl [] (pathsOf ps) m))
+
+-- a path begins at the root
+pub path-first : (c : Corner) → (r : List Corner) × (pathOf c ≡ origin ∷ r)
+path-first =
+    tree-ind (λ c. (r : List Corner) × (pathOf c ≡ origin ∷ r))
+    (λ c e. ([], pathOf-root c e ∙ ap (λ (x : Corner). x ∷ []) (same-sound c origin e)))
+    (λ c e ih. (ih .0 ++ (c ∷ []), pathOf-snoc c e ∙ ap (λ (l : List Corner). l ++ (c ∷ [])) (ih .1)))
+
+paths-first : (c : Corner) (ds : List ℕ) → (r : List Corner) × (pathsOf (cornersFrom c ds) ≡ origin ∷ r)
+paths-first c [] = let h = path-first c in (h .0 ++ [], ap (λ (l : List Corner). l ++ []) (h .1))
+paths-first c (d ∷ ds) = let h = path-first c in (h .0 ++ pathsOf (cornersFrom (stepped d c) ds), ap (λ (l : List Corner). l ++ pathsOf (cornersFrom (stepped d c) ds)) (h .1))
+
+-- the invariant holds after every walk
+pub good-walk : (c : Corner) (ds : List ℕ) → Good (nodesOf (cornersFrom c ds)) (stateOf (cornersFrom c ds) .step)
+good-walk c ds = record {
+  root = let h = paths-first c ds in let g = gather-more same (origin ∷ []) (h .0) in (g .0, ap (gather same []) (h .1) ∙ g .1);
+  closed = λ x m e. let h = mem-nodes-cases ps x m in mem-nodes ps (h .0) (parentOf x) (h .1) (path-parent x (h .0) e (h .2));
+  distinct = nodesOf-distinct ps;
+  order = λ x m e. ref-parent ps x m e .1;
+  ends = λ x y h.
+      let k = any-some (links x y) (legsOf ps) (find-any (links x y) (legsOf ps) h) in
+      let m = mem-legs ps (k .1) in
+      ⊎-elim
+      (λ p. (mem-nodes ps (k .0 .0) x (m .0) (p .0), mem-nodes ps (k .0 .1) y (m .1) (p .1)))
+      (λ p. (mem-nodes ps (k .0 .1) x (m .1) (p .1), mem-nodes ps (k .0 .0) y (m .0) (p .0)))
+      (links-ends x y (k .0 .0) (k .0 .1) (k .2));
+  both = λ x y. find-cong (links x y) (links y x) (λ l. links-flip x y (l .0) (l .1)) (legsOf ps);
+  up = λ x y h i j f.
+      let k = any-some (links x y) (legsOf ps) (find-any (links x y) (legsOf ps) h) in
+      find-pos (links (parentOf x) (parentOf y)) (legsOf ps) (any-mem (links (parentOf x) (parentOf y)) (k .0) (legsOf ps) (k .1) (links-up x y (k .0 .0) (k .0 .1) i j (k .2)));
+}
+  where
+    ps : List Corner
+    ps = cornersFrom c ds
+
+-- the number of the new step
+module _ (c : Corner) (ds : List ℕ) (d : ℕ) where
+  pub push-nodes : nodesOf (cornersFrom c (ds ++ (d ∷ []))) ≡ gather same (nodesOf (cornersFrom c ds)) (pathOf (stepped d (endFrom c ds)))
+  push-nodes = ap nodesOf (cornersFrom-snoc c ds d) ∙ nodesOf-snoc (cornersFrom c ds) (stepped d (endFrom c ds))
+
+  pub push-links : (x y : Corner) → stateOf (cornersFrom c (ds ++ (d ∷ []))) .step x y ≡ linked (stateOf (cornersFrom c ds) .step) (suc (length ds)) (endFrom c ds) (stepped d (endFrom c ds)) x y
+  push-links x y =
+      ap (find (links x y)) (legs-push c ds d)
+      ∙ find-snoc (links x y) (legsOf (cornersFrom c ds)) (endFrom c ds, stepped d (endFrom c ds))
+      ∙ ap (λ (n : ℕ). later (find (links x y) (legsOf (cornersFrom c ds))) (links x y (endFrom c ds, stepped d (endFrom c ds))) (suc n)) (length-legs c ds)
+
+  pub push-step : (a : Corner) (k : ℕ) → linkStepOf (cornersFrom c (ds ++ (d ∷ []))) a k ≡ later (linkStepOf (cornersFrom c ds) a k) (links a (stepped k a) (endFrom c ds, stepped d (endFrom c ds))) (suc (length ds))
+  push-step a k = push-links a (stepped k a)
+
+  pub push-visits : (a : Corner) → count (same a) (cornersFrom c (ds ++ (d ∷ []))) ≡ count (same a) (cornersFrom c ds) + tally (same a (stepped d (endFrom c ds)))
+  push-visits a = ap (count (same a)) (cornersFrom-snoc c ds d) ∙ count-snoc (same a) (cornersFrom c ds) (stepped d (endFrom c ds))
+
+  pub push-first : (a : Corner) → find (same a) (cornersFrom c (ds ++ (d ∷ []))) ≡ later (find (same a) (cornersFrom c ds)) (same a (stepped d (endFrom c ds))) (suc (suc (length ds)))
+  push-first a =
+      ap (find (same a)) (cornersFrom-snoc c ds d)
+      ∙ find-snoc (same a) (cornersFrom c ds) (stepped d (endFrom c ds))
+      ∙ ap (λ (n : ℕ). later (find (same a) (cornersFrom c ds)) (same a (stepped d (endFrom c ds))) (suc n)) (length-cornersFrom c ds)
+
+-- the step that first needs a node: a node in use keeps it, and a node that the path adds has the new step's number
+needs : Corner → Corner → Bool
+needs a p = any (same a) (pathOf p)
+
+needs-any : (ps : List Corner) (a : Corner) → any (needs a) ps ≡ any (same a) (nodesOf ps)
+unfolding needs
+needs-any ps a =
+    bool-agree (any (needs a) ps) (any (same a) (nodesOf ps))
+    (λ h. let k = any-some (needs a) ps h in mem→any same same-sound same-refl (mem-nodes ps (k .0) a (k .1) (any→mem same same-sound same-refl a (pathOf (k .0)) (k .2))))
+    (λ h. let k = mem-nodes-cases ps a (any→mem same same-sound same-refl a (nodesOf ps) h) in any-mem (needs a) (k .0) ps (k .1) (mem→any same same-sound same-refl (k .2)))
+
+pub need-bound : (c : Corner) (ds : List ℕ) (a : Corner) → stateOf (cornersFrom c ds) .need a ≤ length ds
+unfolding needs
+need-bound c ds a =
+    let h : pred (find (needs a) (cornersFrom c ds)) ≤ length ds = omega (arith, find-le (needs a) (cornersFrom c ds), length-cornersFrom c ds) in
+    h
+
+pub step-bound : (c : Corner) (ds : List ℕ) (x y : Corner) → stateOf (cornersFrom c ds) .step x y ≤ length ds
+step-bound c ds x y = omega (arith, find-le (links x y) (legsOf (cornersFrom c ds)), length-legs c ds)
+
+pub push-need : (c : Corner) (ds : List ℕ) (d : ℕ) (a : Corner)
+    → stateOf (cornersFrom c (ds ++ (d ∷ []))) .need a ≡ needed (nodesOf (cornersFrom c ds)) (stateOf (cornersFrom c ds) .need) (suc (length ds)) (stepped d (endFrom c ds)) a
+unfolding needs
+push-need c ds d a =
+    ap (λ (l : List Corner). pred (find (needs a) l)) (cornersFrom-snoc c ds d)
+    ∙ ap pred (find-snoc (needs a) ps e ∙ ap (λ (n : ℕ). later (find (needs a) ps) (needs a e) (suc n)) (length-cornersFrom c ds))
+    ∙ go (any (same a) (nodesOf ps)) refl (any (same a) (pathOf e)) refl
+  where
+    ps : List Corner
+    ps = cornersFrom c ds
+
+    e : Corner
+    e = stepped d (endFrom c ds)
+
+    go : (b : Bool) → any (same a) (nodesOf ps) ≡ b → (g : Bool) → any (same a) (pathOf e) ≡ g
+        → pred (later (find (needs a) ps) (needs a e) (suc (suc (length ds)))) ≡ needed (nodesOf ps) (λ x. pred (find (needs x) ps)) (suc (length ds)) e a
+    go true p g q = ap pred (later-old (find (needs a) ps) (needs a e) (suc (suc (length ds))) (find-pos (needs a) ps (needs-any ps a ∙ p))) ∙ sym (rw p)
+    go false p true q = ap pred (later-new (find (needs a) ps) (needs a e) (suc (suc (length ds))) (find-none (needs a) ps (needs-any ps a ∙ p)) q) ∙ sym (rw (p, q))
+    go false p false q = ap pred (later-none (find (needs a) ps) (needs a e) (suc (suc (length ds))) q) ∙ sym (rw (p, q))
+
+-- all of it: a lookup and then a visit
+pub push-state : (c : Corner) (ds : List ℕ) (d : ℕ)
+    → Alike (stateOf (cornersFrom c (ds ++ (d ∷ [])))) (visitedBy (reached (stateOf (cornersFrom c ds)) (suc (length ds)) (endFrom c ds) (stepped d (endFrom c ds))) (stepped d (endFrom c ds)) (suc (length ds)))
+push-state c ds d = record {
+  nodes = push-nodes c ds d;
+  step = λ x y f. push-links c ds d x y;
+  visits = push-visits c ds d;
+  need = push-need c ds d;
+  first = push-first c ds d;
+}
+
+-- the state after a walk is sound
+pub sound-walk : (c : Corner) (ds : List ℕ) → Sound (stateOf (cornersFrom c ds))
+unfolding needs
+sound-walk c ds = record {
+  good = good-walk c ds;
+  unvisited = λ x f. count-none (same x) ps (not-here x f);
+  unneeded = λ x f. ap pred (find-none (needs x) ps (needs-any ps x ∙ not-any x (nodesOf ps) f));
+  unseen = λ x f. find-none (same x) ps (not-here x f);
+  fewer = λ x h. find-none (same x) ps (count-any (same x) ps h);
+  more = λ x h. count-none (same x) ps (not-found (same x) ps h);
+}
+  where
+    ps : List Corner
+    ps = cornersFrom c ds
+
+    not-here : (x : Corner) → (List·Memᴰ x (nodesOf ps) → ⊥) → any (same x) ps ≡ false
+    not-here x f = not-any x ps (λ m. f (mem-nodes ps x x m (mem-path x)))
+
+-- the corner stood on is a node
+pub finish-node : (c : Corner) (ds : List ℕ) → List·Memᴰ (endFrom c ds) (nodesOf (cornersFrom c ds))
+finish-node c ds = mem-nodes (cornersFrom c ds) (endFrom c ds) (endFrom c ds) (endFrom-mem c ds) (mem-path (endFrom c ds))
+
+abbrev far : ℕ → ℕ → ℕ
+far n r = elim n [ zero ↦ 0 | suc j ↦ r ]
+
+-- a neighbour's ref: a link that was there keeps it, a new one refers to a node that is now in use
+pub push-neighbour-old : (c : Corner) (ds : List ℕ) (d : ℕ) (a : Corner) (k : ℕ) → 0 < linkStepOf (cornersFrom c ds) a k
+    → neighbourRefOf (cornersFrom c (ds ++ (d ∷ []))) (nodesOf (cornersFrom c (ds ++ (d ∷ [])))) a k ≡ neighbourRefOf (cornersFrom c ds) (nodesOf (cornersFrom c ds)) a k
+push-neighbour-old c ds d a k h =
+    let g = gather-more same (nodesOf (cornersFrom c ds)) (pathOf (stepped d (endFrom c ds))) in
+    let s : linkStepOf (cornersFrom c (ds ++ (d ∷ []))) a k ≡ linkStepOf (cornersFrom c ds) a k = push-step c ds d a k ∙ later-old (linkStepOf (cornersFrom c ds) a k) (links a (stepped k a) (endFrom c ds, stepped d (endFrom c ds))) (suc (length ds)) h in
+    let r : refOf (nodesOf (cornersFrom c (ds ++ (d ∷ [])))) (stepped k a) ≡ refOf (nodesOf (cornersFrom c ds)) (stepped k a) = ap (λ (l : List Corner). refOf l (stepped k a)) (push-nodes c ds d ∙ g .1) ∙ ref-append (nodesOf (cornersFrom c ds)) (g .0) (stepped k a) (good-walk c ds .ends a (stepped k a) h .1) in
+    ap₂ far s r
+
+pub push-neighbour-new : (c : Corner) (ds : List ℕ) (d : ℕ) (a : Corner) (k : ℕ) → linkStepOf (cornersFrom c ds) a k ≡ 0
+    → neighbourRefOf (cornersFrom c (ds ++ (d ∷ []))) (nodesOf (cornersFrom c (ds ++ (d ∷ [])))) a k ≡ cond (links a (stepped k a) (endFrom c ds, stepped d (endFrom c ds))) (refOf (nodesOf (cornersFrom c (ds ++ (d ∷ [])))) (stepped k a)) 0
+push-neighbour-new c ds d a k h = go (links a (stepped k a) (endFrom c ds, stepped d (endFrom c ds))) refl
+  where
+    r : ℕ
+    r = refOf (nodesOf (cornersFrom c (ds ++ (d ∷ [])))) (stepped k a)
+
+    go : (b : Bool) → links a (stepped k a) (endFrom c ds, stepped d (endFrom c ds)) ≡ b
+        → neighbourRefOf (cornersFrom c (ds ++ (d ∷ []))) (nodesOf (cornersFrom c (ds ++ (d ∷ [])))) a k ≡ cond b (refOf (nodesOf (cornersFrom c (ds ++ (d ∷ [])))) (stepped k a)) 0
+    go true p = ap (λ (n : ℕ). far n r) (push-step c ds d a k ∙ later-new (linkStepOf (cornersFrom c ds) a k) (links a (stepped k a) (endFrom c ds, stepped d (endFrom c ds))) (suc (length ds)) h p)
+    go false p = ap (λ (n : ℕ). far n r) (push-step c ds d a k ∙ later-none (linkStepOf (cornersFrom c ds) a k) (links a (stepped k a) (endFrom c ds, stepped d (endFrom c ds))) (suc (length ds)) p ∙ h)
+
+-- the refs of nodes in use, and of children in use, stay
+pub push-ref : (c : Corner) (ds : List ℕ) (d : ℕ) (a : Corner) → List·Memᴰ a (nodesOf (cornersFrom c ds)) → refOf (nodesOf (cornersFrom c (ds ++ (d ∷ [])))) a ≡ refOf (nodesOf (cornersFrom c ds)) a
+push-ref c ds d a m =
+    let g = gather-more same (nodesOf (cornersFrom c ds)) (pathOf (stepped d (endFrom c ds))) in
+    ap (λ (l : List Corner). refOf l a) (push-nodes c ds d ∙ g .1) ∙ ref-append (nodesOf (cornersFrom c ds)) (g .0) a m
+
+-- the different corners
+pub push-visited : (c : Corner) (ds : List ℕ) (d : ℕ) → length (visitedOf (cornersFrom c (ds ++ (d ∷ [])))) ≡ length (visitedOf (cornersFrom c ds)) + tally (eqb (count (same (stepped d (endFrom c ds))) (cornersFrom c ds)) 0)
+push-visited c ds d =
+    ap (λ (l : List Corner). length (visitedOf l)) (cornersFrom-snoc c ds d)
+    ∙ ap length (gather-append same [] ps (e ∷ []))
+    ∙ ⊎-elim
+    (λ h. ap length (h .1) ∙ sym (rw (ne-eqb (count (same e) ps) 0 (λ z. true≢false (sym (mem→any same same-sound same-refl (seen (any→mem same same-sound same-refl e (visitedOf ps) (h .0)))) ∙ count-any (same e) ps z))) (omega arith)))
+    (λ h. ap length (h .1) ∙ length-append (visitedOf ps) (e ∷ []) ∙ sym (rw (eq-eqb (count (same e) ps) 0 (count-none (same e) ps (not-any e ps (λ m. not-mem same same-sound same-refl e (visitedOf ps) (h .0) (mem-gather-right same same-sound same-refl [] ps m))))) (omega arith)))
+    (add-cases same (visitedOf ps) e)
+  where
+    ps : List Corner
+    ps = cornersFrom c ds
+
+    e : Corner
+    e = stepped d (endFrom c ds)
+
+    seen : List·Memᴰ e (visitedOf ps) → List·Memᴰ e ps
+    seen m = ⊎-elim (λ k. absurd (List·Memᴰ·not-nil k)) (λ k. k) (mem-gather-cases same same-sound same-refl [] ps m)

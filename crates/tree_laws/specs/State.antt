@@ -1,0 +1,185 @@
+-- What the table holds at any moment, also in the middle of a step: the nodes, and the words of a node that are no refs.
+-- Assumes nothing.
+use mathlib.Core.Bool.{Bool, true, false, cond, not, _&&_}
+use mathlib.Core.List.{List, [], _∷_, _++_, List·Memᴰ}
+use mathlib.Core.Path.{_≡_}
+use Prim.Native.Nat.{ℕ, zero, suc, _+_, _-_, _*_, _<_, _≤_, pred}
+use lib.ListN.{length, replicate}
+use Rattle.grid.specs.declared.Corner.{Corner}
+use Rattle.grid.specs.Grid.{origin, same, stepped}
+use Rattle.grid.specs.Tree.{parentOf, isRoot, pathOf}
+use Rattle.layout.specs.Table.{childRefOf}
+use Rattle.lists.specs.Lists.{later, any, find, count, gather, tally, Distinct}
+use Rattle.tree.specs.Nodes.{nodesOf, joins, links, legsOf, refOf}
+
+-- the link steps (of two nodes) after one lookup by step s from a to its neighbour e: every level that both have
+abbrev pub linked : (Corner → Corner → ℕ) → ℕ → Corner → Corner → Corner → Corner → ℕ
+linked L s a e x y = later (L x y) (links x y (a, e)) s
+
+-- the link between a and e alone, both ways
+abbrev pub put : (Corner → Corner → ℕ) → ℕ → Corner → Corner → Corner → Corner → ℕ
+put L s a e x y = cond (joins x y (a, e)) s (L x y)
+
+-- what holds of the nodes and the link steps at every moment: the root is first, the parents are there and come before, no
+-- node stands twice, a link's ends are nodes, it stands both ways, and the parents, where they differ, are linked too
+pub record Good (ns : List Corner) (L : Corner → Corner → ℕ) : Type 0 where
+  pub root : (r : List Corner) × (ns ≡ origin ∷ r)
+  pub closed : (c : Corner) → List·Memᴰ c ns → isRoot c ≡ false → List·Memᴰ (parentOf c) ns
+  pub distinct : Distinct ns
+  pub order : (c : Corner) → List·Memᴰ c ns → isRoot c ≡ false → refOf ns (parentOf c) < refOf ns c
+  pub ends : (x y : Corner) → 0 < L x y → List·Memᴰ x ns × List·Memᴰ y ns
+  pub both : (x y : Corner) → L x y ≡ L y x
+  pub up : (x y : Corner) → 0 < L x y → isRoot x ≡ false → isRoot y ≡ false → (parentOf x ≡ parentOf y → ⊥) → 0 < L (parentOf x) (parentOf y)
+
+pub record State : Type 0 where
+  pub nodes : List Corner
+  pub step : Corner → Corner → ℕ
+  pub visits : Corner → ℕ
+  pub need : Corner → ℕ
+  pub first : Corner → ℕ
+
+-- a node that the path of e adds to the nodes
+abbrev pub isNew : List Corner → Corner → Corner → Bool
+isNew ns e x = not (any (same x) ns) && any (same x) (pathOf e)
+
+abbrev pub needed : List Corner → (Corner → ℕ) → ℕ → Corner → Corner → ℕ
+needed ns N s e x = cond (isNew ns e x) s (N x)
+
+-- the state after a lookup by step s from the node a to its neighbour e
+abbrev pub reached : State → ℕ → Corner → Corner → State
+reached S s a e = record {
+  nodes = gather same (S .nodes) (pathOf e);
+  step = linked (S .step) s a e;
+  visits = S .visits;
+  need = needed (S .nodes) (S .need) s e;
+  first = S .first;
+}
+
+-- the state after a visit of the node e at corner number k
+abbrev pub visitedBy : State → Corner → ℕ → State
+visitedBy S e k = record {
+  nodes = S .nodes;
+  step = S .step;
+  visits = λ x. S .visits x + tally (same x e);
+  need = S .need;
+  first = λ x. later (S .first x) (same x e) (suc k);
+}
+
+-- the state with the node e more, which step s needs
+abbrev pub withNode : State → Corner → ℕ → State
+withNode S e s = record {
+  nodes = S .nodes ++ (e ∷ []);
+  step = S .step;
+  visits = S .visits;
+  need = λ x. cond (same x e) s (S .need x);
+  first = S .first;
+}
+
+-- the state with the link of a and e set to s (0: cleared)
+abbrev pub withLink : State → Corner → Corner → ℕ → State
+withLink S a e s = record {
+  nodes = S .nodes;
+  step = put (S .step) s a e;
+  visits = S .visits;
+  need = S .need;
+  first = S .first;
+}
+
+-- with the node e, which is made if it is not there
+abbrev pub grown : State → Corner → ℕ → State
+grown S e s = elim (any (same e) (S .nodes)) [ true ↦ S | false ↦ withNode S e s ]
+
+-- the state in which the parent of e is looked up, for the neighbour e of a: that of the parents' lookup, if they differ
+abbrev pub raised : State → ℕ → Corner → Corner → State
+raised S s a e = elim (isRoot a) [ true ↦ S | false ↦ elim (same (parentOf a) (parentOf e)) [ true ↦ S | false ↦ reached S s (parentOf a) (parentOf e) ] ]
+
+-- a take-back on its way from reached S s a e to S: the links M are left, and the nodes on the path of e
+abbrev pub unlinking : State → ℕ → Corner → (Corner → Corner → ℕ) → State
+unlinking S s e M = record {
+  nodes = gather same (S .nodes) (pathOf e);
+  step = M;
+  visits = S .visits;
+  need = needed (S .nodes) (S .need) s e;
+  first = S .first;
+}
+
+-- two states with the same table
+pub record Alike (S T : State) : Type 0 where
+  pub nodes : S .nodes ≡ T .nodes
+  pub step : (x y : Corner) → (x ≡ y → ⊥) → S .step x y ≡ T .step x y
+  pub visits : (x : Corner) → S .visits x ≡ T .visits x
+  pub need : (x : Corner) → S .need x ≡ T .need x
+  pub first : (x : Corner) → S .first x ≡ T .first x
+
+-- a state that may stand in the table: its links are good, what is no node has no visits and no step needs it, and the
+-- visited nodes are those with a first visit
+pub record Sound (S : State) : Type 0 where
+  pub good : Good (S .nodes) (S .step)
+  pub unvisited : (x : Corner) → (List·Memᴰ x (S .nodes) → ⊥) → S .visits x ≡ 0
+  pub unneeded : (x : Corner) → (List·Memᴰ x (S .nodes) → ⊥) → S .need x ≡ 0
+  pub unseen : (x : Corner) → (List·Memᴰ x (S .nodes) → ⊥) → S .first x ≡ 0
+  pub fewer : (x : Corner) → S .visits x ≡ 0 → S .first x ≡ 0
+  pub more : (x : Corner) → S .first x ≡ 0 → S .visits x ≡ 0
+
+-- the state after the walk with corners ps
+abbrev pub stateOf : List Corner → State
+stateOf ps = record {
+  nodes = nodesOf ps;
+  step = λ x y. find (links x y) (legsOf ps);
+  visits = λ a. count (same a) ps;
+  need = λ a. pred (find (λ p. any (same a) (pathOf p)) ps);
+  first = λ a. find (same a) ps;
+}
+
+abbrev pub neighbourBy : List Corner → (Corner → Corner → ℕ) → Corner → ℕ → ℕ
+neighbourBy ns L a d = elim (L a (stepped d a)) [ zero ↦ 0 | suc k ↦ refOf ns (stepped d a) ]
+
+-- the 21 words of node a
+abbrev pub recordBy : State → Corner → List ℕ
+recordBy S a =
+    cond (isRoot a) 0 (refOf (S .nodes) (parentOf a))
+    ∷ childRefOf (S .nodes) a 1 ∷ childRefOf (S .nodes) a 2 ∷ childRefOf (S .nodes) a 3
+    ∷ childRefOf (S .nodes) a 4 ∷ childRefOf (S .nodes) a 5 ∷ childRefOf (S .nodes) a 6
+    ∷ childRefOf (S .nodes) a 7 ∷ childRefOf (S .nodes) a 8 ∷ childRefOf (S .nodes) a 9
+    ∷ neighbourBy (S .nodes) (S .step) a 0 ∷ neighbourBy (S .nodes) (S .step) a 1
+    ∷ neighbourBy (S .nodes) (S .step) a 2 ∷ neighbourBy (S .nodes) (S .step) a 3
+    ∷ S .step a (stepped 0 a) ∷ S .step a (stepped 1 a) ∷ S .step a (stepped 2 a) ∷ S .step a (stepped 3 a)
+    ∷ S .visits a
+    ∷ S .need a
+    ∷ S .first a
+    ∷ []
+
+-- a table by its rows
+abbrev pub rowsOf : (Corner → List ℕ) → List Corner → List ℕ
+rowsOf R [] = []
+rowsOf R (a ∷ l) = R a ++ rowsOf R l
+
+abbrev pub filled : ℕ → List ℕ → List ℕ
+filled words rs = rs ++ replicate (words - length rs) 0
+
+abbrev pub tableBy : ℕ → State → List ℕ
+tableBy words S = filled words (rowsOf (recordBy S) (S .nodes))
+
+-- what a lookup makes of the table (t), answering the ref `at` of the node e and the number of nodes: the state T, if there is room for it
+pub record Made (words : ℕ) (T : State) (e : Corner) (t : List ℕ) (at nodes : ℕ) : Type 0 where
+  pub fits : 21 * length (T .nodes) ≤ words → (t ≡ tableBy words T) × (at ≡ refOf (T .nodes) e) × (nodes ≡ length (T .nodes))
+  pub full : words < 21 * length (T .nodes) → at ≡ 0
+
+-- a table that holds a state, with so many nodes in use
+pub record Holds (t : List ℕ) (n : ℕ) (S : State) : Type 0 where
+  pub sound : Sound S
+  pub table : t ≡ tableBy (length t) S
+  pub count : n ≡ length (S .nodes)
+  pub room : 21 * n ≤ length t
+
+-- some state
+pub record Held (t : List ℕ) (n : ℕ) : Type 0 where
+  pub state : State
+  pub holds : Holds t n state
+
+-- some state in which node u is the corner c
+pub record Stood (t : List ℕ) (n u : ℕ) (c : Corner) : Type 0 where
+  pub state : State
+  pub holds : Holds t n state
+  pub here : refOf (state .nodes) c ≡ suc u
+  pub below : u < n

@@ -1,0 +1,3 @@
+-- Operations and turns.
+pub mod Operations
+pub mod Turns

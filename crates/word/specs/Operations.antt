@@ -1,0 +1,41 @@
+-- The surviving steps of a string of operations, and the refusals 4, 5 and 6 (01, "Corners, panels and words" and the table of refusals).
+-- Assumes nothing.
+use mathlib.Core.Bool.{Bool, true, false, not, _&&_}
+use mathlib.Core.List.{List, [], _∷_, _++_}
+use Prim.Native.Nat.{ℕ, suc, _+_, _-_}
+use lib.Dec.{eqb, ltb}
+use Rattle.lists.specs.Lists.{front}
+use Rattle.answer.specs.declared.Judged.{Judged}
+use Rattle.answer.specs.declared.Judged.the-variants.{Good}
+use Rattle.answer.specs.declared.Refusal.the-variants.{BadDigit, NothingToTake, TooLong}
+use Rattle.answer.specs.Limits.{mostSteps}
+use Rattle.answer.specs.Refusal.{when, orElse, firstOf}
+
+-- one operation: 4 takes the last surviving step back, any other is a step
+abbrev pub operate : List ℕ → ℕ → List ℕ
+operate steps o = elim (eqb o 4) [ true ↦ front steps | false ↦ steps ++ (o ∷ []) ]
+
+abbrev pub survivorsFrom : List ℕ → List ℕ → List ℕ
+survivorsFrom steps [] = steps
+survivorsFrom steps (o ∷ os) = survivorsFrom (operate steps o) os
+
+-- the surviving steps of a string of operations
+abbrev pub survivors : List ℕ → List ℕ
+survivors os = survivorsFrom [] os
+
+-- what is wrong with operation o at place i, where n steps survive: 4, a byte above 4; 5, nothing to take; 6, a step too many
+abbrev pub faultOf : ℕ → ℕ → ℕ → Judged
+faultOf i n o =
+    firstOf (when (ltb 4 o) (BadDigit i)
+    ∷ when (eqb o 4 && eqb n 0) (NothingToTake i)
+    ∷ when (not (eqb o 4) && not (ltb n mostSteps)) (TooLong i)
+    ∷ [])
+
+-- how many steps survive the operation
+abbrev pub after : ℕ → ℕ → ℕ
+after n o = elim (eqb o 4) [ true ↦ n - 1 | false ↦ n + 1 ]
+
+-- the first fault, with n steps surviving at place i
+abbrev pub faultsFrom : ℕ → ℕ → List ℕ → Judged
+faultsFrom i n [] = Good
+faultsFrom i n (o ∷ os) = orElse (faultOf i n o) (faultsFrom (suc i) (after n o) os)

@@ -1,0 +1,56 @@
+-- Steps as turns and turns as steps (01, "Turns"), and the refusals of both calls.
+-- Assumes nothing.
+use mathlib.Core.Bool.{not}
+use mathlib.Core.List.{List, [], _∷_}
+use Prim.Native.Nat.{ℕ, suc, _+_, _-_, _%_}
+use lib.ListN.{length}
+use lib.Dec.{eqb, ltb}
+use Rattle.answer.specs.declared.Judged.{Judged}
+use Rattle.answer.specs.declared.Judged.the-variants.{Good, Refused}
+use Rattle.answer.specs.declared.Refusal.the-variants.{TooMany, ResultRoom, BadDigit}
+use Rattle.answer.specs.Limits.{mostInput}
+use Rattle.answer.specs.Refusal.{when, orElse, firstOf}
+
+-- a step minus the one before it, modulo 4
+abbrev pub turnOf : ℕ → ℕ → ℕ
+turnOf a b = (b + (4 - a)) % 4
+
+-- the step that a turn leads to
+abbrev pub stepAfter : ℕ → ℕ → ℕ
+stepAfter a t = (a + t) % 4
+
+abbrev pub turnsFrom : ℕ → List ℕ → List ℕ
+turnsFrom a [] = []
+turnsFrom a (b ∷ ds) = turnOf a b ∷ turnsFrom b ds
+
+-- the turns of steps: the first digit is the first step, each later digit is that step minus the one before
+abbrev pub turnsOf : List ℕ → List ℕ
+turnsOf [] = []
+turnsOf (d ∷ ds) = d ∷ turnsFrom d ds
+
+abbrev pub stepsFrom : ℕ → List ℕ → List ℕ
+stepsFrom a [] = []
+stepsFrom a (t ∷ ts) = stepAfter a t ∷ stepsFrom (stepAfter a t) ts
+
+-- the steps of turns
+abbrev pub stepsOf : List ℕ → List ℕ
+stepsOf [] = []
+stepsOf (t ∷ ts) = t ∷ stepsFrom t ts
+
+-- the first digit above 3, from place i on
+abbrev pub digitFaultsFrom : ℕ → List ℕ → Judged
+digitFaultsFrom i [] = Good
+digitFaultsFrom i (d ∷ ds) = orElse (when (ltb 3 d) (BadDigit i)) (digitFaultsFrom (suc i) ds)
+
+-- 1, then 3, then 4, for digits and a buffer of that length
+abbrev pub turnsJudged : List ℕ → ℕ → Judged
+turnsJudged ds room =
+    firstOf (when (ltb mostInput (length ds)) TooMany
+    ∷ when (not (eqb room (length ds))) ResultRoom
+    ∷ digitFaultsFrom 0 ds
+    ∷ [])
+
+-- a buffer after the call: written if accepted, untouched if refused
+abbrev pub writtenIf : Judged → List ℕ → List ℕ → List ℕ
+writtenIf Good new old = new
+writtenIf (Refused r) new old = old

@@ -1,0 +1,1 @@
+// Operations, steps and turns: definitions and laws. There is no code here.
