@@ -4,13 +4,16 @@ use mathlib.Core.Bool.{true, false, true≢false}
 use mathlib.Core.List.{List, [], _∷_, _++_, append-nil, append-assoc, List·Memᴰ, List·Memᴰ·head, List·Memᴰ·tail, Memᴰ·append-left, Memᴰ·append-right, List·Memᴰ·not-nil, List·Memᴰ·append-cases}
 use mathlib.Core.Logic.{_⊎_, ⊎-elim}
 use mathlib.Core.Path.{_≡_, refl, ap, sym, _∙_, subst}
-use Prim.Native.Nat.{_+_}
+use Prim.Native.Nat.{ℕ, _+_, _≤_, _-_}
+use native.Mathlib.Omega.{arith}
+use lib.ListN.{length, length-append}
 use Rattle.grid.specs.declared.Corner.{Corner}
-use Rattle.grid.specs.Grid.{same}
+use Rattle.grid.specs.Grid.{same, stepped, cornersFrom, endFrom}
 use Rattle.grid.specs.Tree.{parentOf, isRoot, pathOf}
 use Rattle.lists.specs.Lists.{add, gather}
 use Rattle.grid.proofs.CornerLaws.{same-refl, same-sound}
 use Rattle.grid.proofs.PathLaws.{pathOf-root, pathOf-snoc, tree-ind}
+use Rattle.grid.proofs.StepLaws.{cornersFrom-snoc}
 use Rattle.lists.proofs.GatherLaws.{Distinct, gather-append, gather-more, add-cases, distinct-gather, mem-gather-right}
 use Rattle.tree.specs.Nodes.{pathsOf, nodesOf}
 
@@ -72,3 +75,12 @@ mem-paths-cases (p ∷ ps) {a} m =
     (λ k. (p, List·Memᴰ·head refl, k))
     (λ k. let h = mem-paths-cases ps k in (h .0, List·Memᴰ·tail (h .1), h .2))
     (List·Memᴰ·append-cases (pathOf p) m)
+
+pub nodes-grow : (c : Corner) (s : List ℕ) (d : ℕ) → length (nodesOf (cornersFrom c s)) ≤ length (nodesOf (cornersFrom c (s ++ (d ∷ []))))
+nodes-grow c s d =
+    let h = nodesOf-extend (cornersFrom c s) (stepped d (endFrom c s)) in
+    omega (arith, ap (λ (l : List Corner). length (nodesOf l)) (cornersFrom-snoc c s d), ap length (h .1), length-append (nodesOf (cornersFrom c s)) (h .0))
+
+pub nodes-mono : (c : Corner) (s ds : List ℕ) → length (nodesOf (cornersFrom c s)) ≤ length (nodesOf (cornersFrom c (s ++ ds)))
+nodes-mono c s [] = rw append-nil (omega arith)
+nodes-mono c s (d ∷ ds) = omega (arith, nodes-grow c s d, nodes-mono c (s ++ (d ∷ [])) ds, ap (λ (l : List ℕ). length (nodesOf (cornersFrom c l))) (append-assoc s (d ∷ []) ds))
