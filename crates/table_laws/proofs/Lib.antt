@@ -1,0 +1,10 @@
+pub mod SegLaws
+pub mod RowLaws
+pub mod StoreLaws
+pub mod StateLaws
+pub mod LookupLaws
+pub mod TakeLaws
+pub mod BackLaws
+pub mod Cites
+pub mod UndoLaws
+pub mod WalkLaws

@@ -1,0 +1,1 @@
+// What the stores of a step and of a take-back make of the table: laws. There is no code here.
