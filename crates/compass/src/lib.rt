@@ -1,0 +1,96 @@
+// Corners as the code has them: where a step leads, the parent, and the child's word.
+ghost use mathlib.Core.Path.{_≡_};
+ghost use Prim.Native.Nat.{_<_};
+ghost use lib.IntN.{natAbs, sucℤ, predℤ};
+ghost use Rattle.grid.specs.Grid.{same, stepped};
+ghost use Rattle.grid.specs.Tree.{halfOf, parentOf, isRoot, slotOf, childWord};
+use grid::Corner;
+
+// Half the magnitude, with the sign kept: the division rounds toward zero.
+fn half_of(x: i32) -> i32
+    ensures { λ r. ⌜ r ≡ halfOf x ⌝ }
+{
+    x / 2
+}
+
+// The parent of c.
+pub fn parent_of(c: Corner) -> Corner
+    ensures { λ r. ⌜ r ≡ parentOf c ⌝ }
+{
+    Corner(half_of(c.0), half_of(c.1))
+}
+
+fn up(x: i32) -> i32
+    requires { ⌜ natAbs x < 65536 ⌝ }
+    ensures { λ r. ⌜ r ≡ sucℤ x ⌝ }
+{
+    x + 1
+}
+
+fn down(x: i32) -> i32
+    requires { ⌜ natAbs x < 65536 ⌝ }
+    ensures { λ r. ⌜ r ≡ predℤ x ⌝ }
+{
+    x - 1
+}
+
+// The corner one step from c in the direction d.
+pub fn moved(c: Corner, d: u8) -> Corner
+    requires { ⌜ (natAbs (c .0) < 65536) × (natAbs (c .1) < 65536) ⌝ }
+    ensures { λ r. ⌜ r ≡ stepped d c ⌝ }
+{
+    match d {
+        0 => Corner(up(c.0), c.1),
+        1 => Corner(c.0, up(c.1)),
+        2 => Corner(down(c.0), c.1),
+        _ => Corner(c.0, down(c.1)),
+    }
+}
+
+// 1 + the child's index on one axis.
+fn slot_of(x: i32) -> u32
+    ensures { λ r. ⌜ r ≡ slotOf x ⌝ }
+{
+    if x == -1 {
+        0
+    } else if x % 2 == 0 {
+        1
+    } else {
+        2
+    }
+}
+
+// The word of its parent's record in which e stands.
+pub fn child_word(e: Corner) -> usize
+    ensures { λ r. ⌜ r ≡ childWord e ⌝ }
+{
+    let x = slot_of(e.0) as usize;
+    let y = slot_of(e.1) as usize;
+    1 + 3 * x + y
+}
+
+// Whether c is the root.
+pub fn is_root(c: Corner) -> bool
+    ensures { λ r. ⌜ r ≡ isRoot c ⌝ }
+{
+    if c.0 == 0 {
+        if c.1 == 0 { true } else { false }
+    } else {
+        false
+    }
+}
+
+// Whether a and b are one corner.
+pub fn alike(a: Corner, b: Corner) -> bool
+    ensures { λ r. ⌜ r ≡ same a b ⌝ }
+{
+    let x = a.0;
+    let y = a.1;
+    if x != b.0 {
+        return false;
+    }
+    if y != b.1 {
+        return false;
+    }
+    true
+}
