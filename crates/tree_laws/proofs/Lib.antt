@@ -5,3 +5,4 @@ pub mod PushLaws
 pub mod PopLaws
 pub mod ClassLaws
 pub mod CountLaws
+pub mod MeetLaws

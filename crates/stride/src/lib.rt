@@ -1,0 +1,138 @@
+// A walk goes a step, or takes its last step back.
+ghost use mathlib.Core.Path.{_≡_};
+ghost use mathlib.Core.List.{List, [], _∷_, _++_};
+ghost use Prim.Native.Nat.{ℕ, _^_, _<_, _≤_};
+ghost use lib.IntN.{natAbs};
+ghost use lib.ListN.{length};
+ghost use Rattle.grid.specs.declared.Corner.{Corner as Node};
+ghost use Rattle.stride.specs.Spots.{Walked, Standing, Stepped, Went};
+ghost use Rattle.stride.specs.Tallies.{Counted};
+use cells::Record;
+use cells::word;
+use grid::Corner;
+
+// Where a walk stands: the node's number and its corner, how many steps survive, and how many nodes are in use.
+pub struct Spot {
+    pub node: usize,
+    pub at: Corner,
+    pub steps: usize,
+    pub nodes: usize,
+}
+
+// What came of a step: the walk stands there, or the table is full.
+pub enum Gone {
+    To(Spot),
+    Full,
+}
+
+// How many different corners a walk has, and its first meeting.
+pub struct Tally {
+    pub corners: usize,
+    pub j: usize,
+    pub k: usize,
+}
+
+impl Tally {
+    // j and k where there is no meeting.
+    pub const NO_MEETING: usize = 65535;
+}
+
+// One step in the direction d.
+pub fn go(t: &mut [u32], w: Spot, d: u8) -> Gone
+    requires { ⌜ Standing (now t) w ⌝ }
+    requires { ⌜ (natAbs (w .at .0) < 65536) × (natAbs (w .at .1) < 65536) × (d < 4) × (w .steps < 65536) × (length (now t) < 2 ^ 32) ⌝ }
+    ensures { λ r. ⌜ ((c : Node) (ds : List ℕ) → Walked (now (t .entry)) c ds w → Went (length (now (t .entry))) (now (t .exit)) c (ds ++ (d ∷ [])) r) ⌝ }
+{
+    let n = w.steps + 1;
+    let here = w.at;
+    let f = lookup::neighbour(t, w.nodes, w.node, here, d, n as u32);
+    let at = f.at;
+    if at == 0 {
+        return Gone::Full;
+    }
+    cells::visit(t, at - 1, n);
+    let there = compass::moved(here, d);
+    Gone::To(Spot {
+        node: at - 1,
+        at: there,
+        steps: n,
+        nodes: f.nodes,
+    })
+}
+
+// The last step, which went in the direction d, is taken back.
+pub fn take_back(t: &mut [u32], w: Spot, d: u8) -> Spot
+    requires { ⌜ Stepped (now t) w d ⌝ }
+    requires { ⌜ (natAbs (w .at .0) < 65536) × (natAbs (w .at .1) < 65536) × (d < 4) × (w .steps < 65537) ⌝ }
+    ensures { λ r. ⌜ ((c : Node) (ds : List ℕ) → Walked (now (t .entry)) c (ds ++ (d ∷ [])) w → Walked (now (t .exit)) c ds r) ⌝ }
+{
+    let n = w.steps;
+    let node = w.node;
+    let here = w.at;
+    let way = d as usize;
+    let b = (way + 2) % 4;
+    let from = word(t, node, Record::NEIGHBOUR + b) as usize - 1;
+    cells::unvisit(t, node);
+    retreat::unlink_up(t, from, way, n as u32);
+    let left = retreat::drop_up(t, w.nodes, node, here, n as u32);
+    let there = compass::moved(here, b as u8);
+    Spot {
+        node: from,
+        at: there,
+        steps: n - 1,
+        nodes: left,
+    }
+}
+
+// The tally after the step d that led to w.
+pub fn tallied(t: &[u32], w: Spot, m: Tally, d: u8) -> Tally
+    requires { ⌜ Stepped (now t) w d ⌝ }
+    requires { ⌜ (w .steps < 65535) × (m .corners < 65536) ⌝ }
+    ensures { λ r. ⌜ ((c : Node) (ds : List ℕ) → Walked (now (t .entry)) c (ds ++ (d ∷ [])) w → Counted c ds m → Counted c (ds ++ (d ∷ [])) r) ⌝ }
+{
+    let node = w.node;
+    let n = w.steps;
+    let k = m.k;
+    if word(t, node, Record::VISITS) == 1 {
+        return Tally {
+            corners: m.corners + 1,
+            j: m.j,
+            k,
+        };
+    }
+    if k == Tally::NO_MEETING {
+        let first = word(t, node, Record::FIRST) as usize;
+        return Tally {
+            corners: m.corners,
+            j: first - 1,
+            k: n,
+        };
+    }
+    m
+}
+
+// The tally before the step d that led to w: asked before the step is taken back.
+pub fn untallied(t: &[u32], w: Spot, m: Tally, d: u8) -> Tally
+    requires { ⌜ Stepped (now t) w d ⌝ }
+    requires { ⌜ (w .steps < 65535) × (0 < m .corners) ⌝ }
+    ensures { λ r. ⌜ ((c : Node) (ds : List ℕ) → Walked (now (t .entry)) c (ds ++ (d ∷ [])) w → Counted c (ds ++ (d ∷ [])) m → Counted c ds r) ⌝ }
+{
+    let node = w.node;
+    let n = w.steps;
+    let k = m.k;
+    if word(t, node, Record::VISITS) == 1 {
+        return Tally {
+            corners: m.corners - 1,
+            j: m.j,
+            k,
+        };
+    }
+    if k == n {
+        return Tally {
+            corners: m.corners,
+            j: Tally::NO_MEETING,
+            k: Tally::NO_MEETING,
+        };
+    }
+    m
+}
