@@ -4,7 +4,9 @@ use mathlib.Core.Bool.{Bool, true, false, _||_, true≢false, false≢true, _&&_
 use mathlib.Core.List.{List, [], _∷_, _++_, append-nil, append-assoc, List·Memᴰ, List·Memᴰ·head, List·Memᴰ·tail, List·Memᴰ·not-nil, Memᴰ·append-left, Memᴰ·append-right, List·Memᴰ·append-cases, List·Memᴰ·eq-of-singleton, Memᴰ·cast}
 use mathlib.Core.Logic.{_⊎_, inl, inr, ⊎-map, ⊎-elim}
 use mathlib.Core.Path.{_≡_, refl, ap, sym, _∙_}
-use Prim.Native.Nat.{_+_}
+use Prim.Native.Nat.{ℕ, _+_, _≤_}
+use native.Mathlib.Omega.{arith}
+use lib.ListN.{length, length-append}
 pub use Rattle.lists.specs.Lists.{Distinct}
 use Rattle.lists.specs.Lists.{any, add, gather}
 
@@ -105,3 +107,16 @@ and-left false b e = e
 pub and-right : (a b : Bool) → (a && b) ≡ true → b ≡ true
 and-right true b e = e
 and-right false b e = absurd (false≢true e)
+
+module _ {A : Type 0} (eq : A → A → Bool) where
+  add-le : (seen : List A) (x : A) → length (add eq seen x) ≤ length seen + 1
+  add-le seen x = ⊎-elim (λ h. omega (arith, ap length (h .1))) (λ h. omega (arith, ap length (h .1), length-append seen (x ∷ []))) (add-cases eq seen x)
+
+  -- each element adds one at most
+  pub gather-le : (seen xs : List A) → length (gather eq seen xs) ≤ length seen + length xs
+  gather-le seen [] = omega arith
+  gather-le seen (x ∷ xs) = omega (arith, gather-le (add eq seen x) xs, add-le seen x)
+
+  -- and none is lost
+  pub gather-ge : (seen xs : List A) → length seen ≤ length (gather eq seen xs)
+  gather-ge seen xs = let h = gather-more eq seen xs in omega (arith, ap length (h .1), length-append seen (h .0))

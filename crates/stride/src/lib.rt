@@ -7,6 +7,7 @@ ghost use lib.ListN.{length};
 ghost use Rattle.grid.specs.declared.Corner.{Corner as Node};
 ghost use Rattle.stride.specs.Spots.{Walked, Standing, Stepped, Went};
 ghost use Rattle.stride.specs.Tallies.{Counted};
+ghost use Rattle.stride.specs.Walks.{fresh, Known, Knowing, Withdrawable, Advanced};
 use cells::Record;
 use cells::word;
 use grid::Corner;
@@ -35,6 +36,48 @@ pub struct Tally {
 impl Tally {
     // j and k where there is no meeting.
     pub const NO_MEETING: usize = 65535;
+}
+
+// A walk on its way: where it stands, and its tally.
+pub struct Walk {
+    pub spot: Spot,
+    pub tally: Tally,
+}
+
+impl Walk {
+    // Input bytes at most.
+    pub const MOST_INPUT: usize = 32768;
+
+    // Surviving steps at most, at any moment.
+    pub const MOST_STEPS: usize = 16384;
+
+    // Records of the table at most.
+    pub const MOST_RECORDS: usize = 131080;
+
+    // A walk with no step, at the root.
+    pub fn new() -> Walk
+        ensures { λ r. ⌜ r ≡ fresh ⌝ }
+    {
+        let at = Corner(0, 0);
+        let spot = Spot {
+            node: 0,
+            at,
+            steps: 0,
+            nodes: 1,
+        };
+        let tally = Tally {
+            corners: 1,
+            j: Tally::NO_MEETING,
+            k: Tally::NO_MEETING,
+        };
+        Walk { spot, tally }
+    }
+}
+
+// What came of a step of a walk.
+pub enum Moved {
+    To(Walk),
+    Full,
 }
 
 // One step in the direction d.
@@ -135,4 +178,40 @@ pub fn untallied(t: &[u32], w: Spot, m: Tally, d: u8) -> Tally
         };
     }
     m
+}
+
+// One step of the walk in the direction d.
+pub fn advance(t: &mut [u32], w: Walk, d: u8) -> Moved
+    requires { ⌜ Knowing (now t) w ⌝ }
+    requires { ⌜ (natAbs (w .spot .at .0) < 65536) × (natAbs (w .spot .at .1) < 65536) × (d < 4) × (w .spot .steps < 65534) × (length (now t) < 2 ^ 32) ⌝ }
+    ensures { λ r. ⌜ ((c : Node) (ds : List ℕ) → Known (now (t .entry)) c ds w → Advanced (length (now (t .entry))) (now (t .exit)) c (ds ++ (d ∷ [])) r) ⌝ }
+{
+    let spot = w.spot;
+    let tally = w.tally;
+    match go(t, spot, d) {
+        Gone::To(next) => {
+            let counts = tallied(t, next, tally, d);
+            Moved::To(Walk {
+                spot: next,
+                tally: counts,
+            })
+        }
+        Gone::Full => Moved::Full,
+    }
+}
+
+// The walk before its last step, which went in the direction d.
+pub fn withdraw(t: &mut [u32], w: Walk, d: u8) -> Walk
+    requires { ⌜ Withdrawable (now t) w d ⌝ }
+    requires { ⌜ (natAbs (w .spot .at .0) < 65536) × (natAbs (w .spot .at .1) < 65536) × (d < 4) × (w .spot .steps < 65535) ⌝ }
+    ensures { λ r. ⌜ ((c : Node) (ds : List ℕ) → Known (now (t .entry)) c (ds ++ (d ∷ [])) w → Known (now (t .exit)) c ds r) ⌝ }
+{
+    let spot = w.spot;
+    let tally = w.tally;
+    let counts = untallied(t, spot, tally, d);
+    let there = take_back(t, spot, d);
+    Walk {
+        spot: there,
+        tally: counts,
+    }
 }
