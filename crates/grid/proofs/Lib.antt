@@ -3,3 +3,4 @@ pub mod ParentLaws
 pub mod PathLaws
 pub mod StepLaws
 pub mod ChildLaws
+pub mod BoundLaws

@@ -44,11 +44,18 @@ pub below-snoc : (s : List ℕ) (d : ℕ) → Below 4 s → d < 4 → Below 4 (s
 below-snoc [] d b h = (h, tt)
 below-snoc (x ∷ s) d b h = (b .0, below-snoc s d (b .1) h)
 
+pub below-last : (s : List ℕ) (d : ℕ) → Below 4 (s ++ (d ∷ [])) → d < 4
+below-last [] d b = b .0
+below-last (x ∷ s) d b = below-last s d (b .1)
+
 -- an operation with no fault: a take-back with a step to take, or a step that is not too many
-pub fault-none : (i n o : ℕ) → faultOf i n o ≡ Good → ((o ≡ 4) × (0 < n)) ⊎ ((o < 4) × (n < 16384))
+abbrev pub Fine : ℕ → ℕ → Type 0
+Fine n o = ((o ≡ 4) × (0 < n)) ⊎ ((o < 4) × (n < 16384))
+
+pub fault-none : (i n o : ℕ) → faultOf i n o ≡ Good → Fine n o
 fault-none i n o e = go (ltb 4 o) refl (eqb o 4) refl (eqb n 0) refl (ltb n 16384) refl
   where
-    go : (a : Bool) → ltb 4 o ≡ a → (b : Bool) → eqb o 4 ≡ b → (c : Bool) → eqb n 0 ≡ c → (d : Bool) → ltb n 16384 ≡ d → ((o ≡ 4) × (0 < n)) ⊎ ((o < 4) × (n < 16384))
+    go : (a : Bool) → ltb 4 o ≡ a → (b : Bool) → eqb o 4 ≡ b → (c : Bool) → eqb n 0 ≡ c → (d : Bool) → ltb n 16384 ≡ d → Fine n o
     go true p b q c r d s = absurd (refused-not-good (BadDigit i) (rw p at e))
     go false p true q true r d s = absurd (refused-not-good (NothingToTake i) (rw (p, q, r) at e))
     go false p true q false r d s = inl (eqb-true o 4 q, omega (arith, eqb-false n 0 r))
@@ -65,23 +72,29 @@ after-length s o = go (eqb o 4) refl
     go true e = rw (e, after, operate) (sym (length-front s))
     go false e = rw (e, after, operate) (sym (length-append s (o ∷ [])))
 
+pub fine-back : (n o : ℕ) → Fine n o → o ≡ 4 → 0 < n
+fine-back n o f p = ⊎-elim (λ k. k .1) (λ k. absurd (let z = k .0 in omega arith)) f
+
+pub fine-step : (n o : ℕ) → Fine n o → (o ≡ 4 → ⊥) → (o < 4) × (n < 16384)
+fine-step n o f g = ⊎-elim (λ k. absurd (g (k .0))) (λ k. k) f
+
 -- what survives of a record with no fault
 pub record Sound (s : List ℕ) : Type 0 where
   pub digits : Below 4 s
   pub few : length s ≤ 16384
 
-pub sound-operate : (i : ℕ) (s : List ℕ) (o : ℕ) → Sound s → faultOf i (length s) o ≡ Good → Sound (operate s o)
-sound-operate i s o h e =
+pub sound-operate : (s : List ℕ) (o : ℕ) → Sound s → Fine (length s) o → Sound (operate s o)
+sound-operate s o h f =
     ⊎-elim
     (λ k. rw (k .0) (record { digits = below-front s (h .digits); few = omega (arith, length-front s, h .few) }))
     (λ k. rw (operate-step s o (k .0)) (record { digits = below-snoc s o (h .digits) (k .0); few = omega (arith, length-append s (o ∷ []), k .1) }))
-    (fault-none i (length s) o e)
+    f
 
 pub sound-survivors : (i : ℕ) (s os : List ℕ) → Sound s → faultsFrom i (length s) os ≡ Good → Sound (survivorsFrom s os)
 sound-survivors i s [] h e = h
 sound-survivors i s (o ∷ os) h e =
     let k = fault-step i (length s) o os e in
-    sound-survivors (suc i) (operate s o) os (sound-operate i s o h (k .0)) (subst (λ n. faultsFrom (suc i) n os ≡ Good) (after-length s o) (k .1))
+    sound-survivors (suc i) (operate s o) os (sound-operate s o h (fault-none i (length s) o (k .0))) (subst (λ n. faultsFrom (suc i) n os ≡ Good) (after-length s o) (k .1))
 
 -- steps alone have no fault
 step-fault : (i n d : ℕ) → d < 4 → n < 16384 → faultOf i n d ≡ Good
@@ -93,7 +106,7 @@ steps-accepted i n (d ∷ ds) b h =
     let a : after n d ≡ n + 1 = rw (ne-eqb d 4 (λ e. omega (arith, b .0)), after) in
     rw (step-fault i n d (b .0) (omega arith)) (rw a (steps-accepted (suc i) (n + 1) ds (b .1) (omega arith)))
 
-length-operate : (s : List ℕ) (o : ℕ) → length (operate s o) ≤ length s + 1
+pub length-operate : (s : List ℕ) (o : ℕ) → length (operate s o) ≤ length s + 1
 length-operate s o = go (eqb o 4) refl
   where
     go : (b : Bool) → eqb o 4 ≡ b → length (operate s o) ≤ length s + 1

@@ -1,0 +1,2 @@
+-- What a run over all operations finds and leaves.
+pub mod Runs
