@@ -18,7 +18,6 @@ use Rattle.hull.specs.Call.{numbers}
 pub record OnLeft (a b c : Corner) : Type 0 where
   pub on : pos 0 ≤ℤ cross a b c
 
-
 -- the variables of the i-th corner of a list, of which `numbers` are the values
 abbrev pub X : ℕ → E
 X i = v (2 * i)

@@ -6,3 +6,10 @@ pub mod ExposedLaws
 pub mod OrderLaws
 pub mod TurnedLaws
 pub mod RoundLaws
+pub mod TrailLaws
+pub mod SinkLaws
+pub mod ScanLaws
+pub mod OutlineLaws
+pub mod WalkLaws
+pub mod HullLaws
+pub mod HullCases

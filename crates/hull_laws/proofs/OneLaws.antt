@@ -68,11 +68,11 @@ module _ (R : Corner → Corner → Type 0) (asym : (a b : Corner) → R a b →
               self = subst (λ (z : Corner). R b z) (p ∙ e) (s′ .0 q m)
           go (inr n) = n
 
--- THE THEOREM
-pub hull-unique : (P L L′ : List Corner) → HullIs P L → HullIs P L′ → L ≡ L′
-hull-unique P [] L′ h h′ = absurd (h .starts)
-hull-unique P (a ∷ l) [] h h′ = absurd (h′ .starts)
-hull-unique P (a ∷ l) (b ∷ l′) h h′ = ap₂ _∷_ e (sorted-unique (λ p q. Left a p q) (λ p q x y. left-asym x y) l l′ (h .ccw .0) (subst (λ (z : Corner). Pairs (λ p q. Left z p q) l′) (sym e) (h′ .ccw .0)) fwd bwd)
+-- two lists that are the hull of the same corners are one
+pub hullIs-one : (P L L′ : List Corner) → HullIs P L → HullIs P L′ → L ≡ L′
+hullIs-one P [] L′ h h′ = absurd (h .starts)
+hullIs-one P (a ∷ l) [] h h′ = absurd (h′ .starts)
+hullIs-one P (a ∷ l) (b ∷ l′) h h′ = ap₂ _∷_ e (sorted-unique (λ p q. Left a p q) (λ p q x y. left-asym x y) l l′ (h .ccw .0) (subst (λ (z : Corner). Pairs (λ p q. Left z p q) l′) (sym e) (h′ .ccw .0)) fwd bwd)
   where
     e : a ≡ b
     e = begins-both a b (h .starts .1 b (h′ .starts .0)) (h′ .starts .1 a (h .starts .0))
