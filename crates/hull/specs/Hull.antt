@@ -1,0 +1,61 @@
+-- The convex hull of some corners (01, "What the calls take and give", Hull).
+-- L lists it when it begins at the lowest of the leftmost corners, holds exactly the exposed ones, each once, and any three in its
+-- order turn left: so no three are in a line and the order is counterclockwise. There is no case apart: one corner gives one, and
+-- corners along one line give their two outermost.
+-- Assumes nothing.
+use mathlib.Core.Path.{_≡_}
+use mathlib.Core.List.{List, [], _∷_}
+use mathlib.Core.Logic.{_⊎_, _↔_}
+use lib.IntN.{ℤ, pos, _+ℤ_, _-ℤ_, _*ℤ_}
+use lib.Signed.{_≤ℤ_, _<ℤ_}
+use Rattle.grid.specs.declared.Corner.{Corner}
+
+-- c is one of the list
+abbrev pub In : {A : Type 0} → A → List A → Type 0
+In c [] = ⊥
+In c (d ∷ l) = (c ≡ d) ⊎ In c l
+
+-- above 0 where c lies left of the way from a to b, below 0 where right of it, 0 where the three are in a line
+unfoldable pub cross : Corner → Corner → Corner → ℤ
+cross a b c = ((b .0 -ℤ a .0) *ℤ (c .1 -ℤ a .1)) -ℤ ((b .1 -ℤ a .1) *ℤ (c .0 -ℤ a .0))
+
+-- a, b and c turn left
+pub record Left (a b c : Corner) : Type 0 where
+  pub left : pos 0 <ℤ cross a b c
+
+-- how far c lies in the direction (u,v)
+unfoldable pub reach : ℤ → ℤ → Corner → ℤ
+reach u v c = (u *ℤ c .0) +ℤ (v *ℤ c .1)
+
+-- q is one of P, and in some direction it alone lies farthest
+pub record Exposed (P : List Corner) (q : Corner) : Type 0 where
+  pub visited : In q P
+  pub u : ℤ
+  pub v : ℤ
+  pub most : (p : Corner) → In p P → ¬ (p ≡ q) → reach u v p <ℤ reach u v q
+
+-- b is left of q, or straight below it or at it
+abbrev pub Begins : Corner → Corner → Type 0
+Begins b q = (b .0 <ℤ q .0) ⊎ ((b .0 ≡ q .0) × (b .1 ≤ℤ q .1))
+
+-- every two of the list, in its order, are related
+abbrev pub Pairs : (Corner → Corner → Type 0) → List Corner → Type 0
+Pairs R [] = Unit {0}
+Pairs R (a ∷ l) = ((b : Corner) → In b l → R a b) × Pairs R l
+
+-- any three of the list, in its order, turn left
+abbrev pub Ccw : List Corner → Type 0
+Ccw [] = Unit {0}
+Ccw (a ∷ l) = Pairs (λ b c. Left a b c) l × Ccw l
+
+-- the list begins at the lowest of the leftmost of P
+abbrev pub Starts : List Corner → List Corner → Type 0
+Starts P [] = ⊥
+Starts P (b ∷ l) = In b P × ((q : Corner) → In q P → Begins b q)
+
+-- L lists the corners of the convex hull of P
+pub record HullIs (P L : List Corner) : Type 0 where
+  pub starts : Starts P L
+  pub corners : (q : Corner) → In q L ↔ Exposed P q
+  pub once : Pairs (λ a b. ¬ (a ≡ b)) L
+  pub ccw : Ccw L

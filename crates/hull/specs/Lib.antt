@@ -1,0 +1,3 @@
+-- The convex hull, and the call that lists it.
+pub mod Hull
+pub mod Call

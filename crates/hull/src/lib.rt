@@ -1,0 +1,1 @@
+// The convex hull of a walk. There is no code here.

@@ -1,0 +1,92 @@
+-- There is only one list of the corners of the hull.
+use mathlib.Core.Path.{_≡_, refl, sym, ap, ap₂, _∙_, subst}
+use mathlib.Core.List.{List, [], _∷_}
+use mathlib.Core.Logic.{_⊎_, inl, inr, ⊎-elim}
+use lib.IntN.{ℤ, pos}
+use lib.Signed.{_≤ℤ_, _<ℤ_}
+use Rattle.int_laws.proofs.LinearLaws.{zarith}
+use Rattle.int_laws.proofs.SignLaws.{h<, by⊥, _⊞_}
+use Rattle.grid.specs.declared.Corner.{Corner}
+use Rattle.hull.specs.Call.{numbers}
+use Rattle.hull.specs.Hull.{Begins, Ccw, Exposed, HullIs, In, Left, Pairs, Starts, cross}
+use Rattle.hull_laws.proofs.CornerLaws.{O, cr, corner-eq}
+
+pub left-asym : {a b c : Corner} → Left a b c → Left a c b → ⊥
+unfolding cross
+left-asym {a} {b} {c} h g =
+    let ρ = numbers (a ∷ b ∷ c ∷ []) in
+    by⊥ (h< 6 ρ O (cr 0 1 2) (h .left) ⊞ h< 6 ρ O (cr 0 2 1) (g .left)) tt
+
+pub begins-both : (a b : Corner) → Begins a b → Begins b a → a ≡ b
+begins-both a b (inl h) (inl g) = absurd (bad h g)
+  where
+    bad : a .0 <ℤ b .0 → b .0 <ℤ a .0 → ⊥
+    bad h g = omega zarith
+begins-both a b (inl h) (inr g) = absurd (bad h (g .0))
+  where
+    bad : a .0 <ℤ b .0 → b .0 ≡ a .0 → ⊥
+    bad h g = omega zarith
+begins-both a b (inr h) (inl g) = absurd (bad (h .0) g)
+  where
+    bad : a .0 ≡ b .0 → b .0 <ℤ a .0 → ⊥
+    bad h g = omega zarith
+begins-both a b (inr h) (inr g) = corner-eq a b (h .0) (omega (zarith, h .1, g .1))
+
+-- two lists in the order of a relation that goes one way only, with the same members, are one list
+module _ (R : Corner → Corner → Type 0) (asym : (a b : Corner) → R a b → R b a → ⊥) where
+  pub sorted-unique : (l l′ : List Corner) → Pairs R l → Pairs R l′ → ((q : Corner) → In q l → In q l′) → ((q : Corner) → In q l′ → In q l) → l ≡ l′
+  sorted-unique [] [] s s′ f g = refl
+  sorted-unique [] (b ∷ l′) s s′ f g = absurd (g b (inl refl))
+  sorted-unique (a ∷ l) [] s s′ f g = absurd (f a (inl refl))
+  sorted-unique (a ∷ l) (b ∷ l′) s s′ f g = ap₂ _∷_ e (sorted-unique l l′ (s .1) (s′ .1) (tail e) (tail′ e))
+    where
+      heads : (a ≡ b) ⊎ In a l′ → (b ≡ a) ⊎ In b l → a ≡ b
+      heads (inl p) y = p
+      heads (inr m) (inl p) = sym p
+      heads (inr m) (inr n) = absurd (asym a b (s .0 b n) (s′ .0 a m))
+
+      e : a ≡ b
+      e = heads (f a (inl refl)) (g b (inl refl))
+
+      tail : a ≡ b → (q : Corner) → In q l → In q l′
+      tail e q m = go (f q (inr m))
+        where
+          go : (q ≡ b) ⊎ In q l′ → In q l′
+          go (inl p) = absurd (asym a a (self) (self))
+            where
+              self : R a a
+              self = subst (λ (z : Corner). R a z) (p ∙ sym e) (s .0 q m)
+          go (inr n) = n
+
+      tail′ : a ≡ b → (q : Corner) → In q l′ → In q l
+      tail′ e q m = go (g q (inr m))
+        where
+          go : (q ≡ a) ⊎ In q l → In q l
+          go (inl p) = absurd (asym b b (self) (self))
+            where
+              self : R b b
+              self = subst (λ (z : Corner). R b z) (p ∙ e) (s′ .0 q m)
+          go (inr n) = n
+
+-- two lists that are the hull of the same corners are one
+pub hullIs-one : (P L L′ : List Corner) → HullIs P L → HullIs P L′ → L ≡ L′
+hullIs-one P [] L′ h h′ = absurd (h .starts)
+hullIs-one P (a ∷ l) [] h h′ = absurd (h′ .starts)
+hullIs-one P (a ∷ l) (b ∷ l′) h h′ = ap₂ _∷_ e (sorted-unique (λ p q. Left a p q) (λ p q x y. left-asym x y) l l′ (h .ccw .0) (subst (λ (z : Corner). Pairs (λ p q. Left z p q) l′) (sym e) (h′ .ccw .0)) fwd bwd)
+  where
+    e : a ≡ b
+    e = begins-both a b (h .starts .1 b (h′ .starts .0)) (h′ .starts .1 a (h .starts .0))
+
+    fwd : (q : Corner) → In q l → In q l′
+    fwd q m = go (h′ .corners q .1 (h .corners q .0 (inr m)))
+      where
+        go : (q ≡ b) ⊎ In q l′ → In q l′
+        go (inl p) = absurd (h .once .0 q m (e ∙ sym p))
+        go (inr n) = n
+
+    bwd : (q : Corner) → In q l′ → In q l
+    bwd q m = go (h .corners q .1 (h′ .corners q .0 (inr m)))
+      where
+        go : (q ≡ a) ⊎ In q l → In q l
+        go (inl p) = absurd (h′ .once .0 q m (sym e ∙ sym p))
+        go (inr n) = n

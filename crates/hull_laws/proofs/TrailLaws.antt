@@ -1,0 +1,169 @@
+-- A walk's corners by column and height: which corners they stand for, how far they reach, and that no column between is left out.
+-- Assumes nothing.
+use mathlib.Core.Path.{_≡_, refl, sym, ap, ap₂, _∙_, subst}
+use mathlib.Core.List.{List, [], _∷_, map}
+use mathlib.Core.Logic.{_⊎_, inl, inr, ⊎-elim}
+use Prim.Native.Nat.{ℕ, zero, suc, _+_, _-_, _≤_, _<_, min, max}
+use native.Mathlib.Omega.{arith}
+use native.Mathlib.Decide.{decLt}
+use lib.ListN.{length}
+use lib.IntN.{ℤ, pos, negsuc, negℤ, sucℤ, predℤ, _+ℤ_, _-ℤ_}
+use Rattle.int_laws.proofs.LinearLaws.{up, dn, zarith, bal+, bal-, up-neg, dn-neg}
+use Rattle.grid.specs.declared.Corner.{Corner}
+use Rattle.grid.specs.Grid.{corner, stepped, cornersFrom}
+use Rattle.hull.specs.Hull.{In}
+use Rattle.hull_laws.specs.Columns.{colAfter, rowAfter, trail, westFrom, eastFrom, eastOf, turned}
+use Rattle.hull_laws.specs.Outline.{spot}
+use Rattle.hull_laws.proofs.CornerLaws.{corner-eq}
+use Rattle.hull_laws.proofs.TurnedLaws.{neg, negs}
+
+-- a step goes to a column next to it at most
+pub near : (x d : ℕ) → 0 < x → (x ≤ colAfter x d + 1) × (colAfter x d ≤ x + 1)
+unfolding colAfter
+near x zero h = omega arith
+near x (suc zero) h = omega arith
+near x (suc (suc zero)) h = omega arith
+near x (suc (suc (suc d))) h = omega arith
+
+pub near-row : (y d : ℕ) → 0 < y → (y ≤ rowAfter y d + 1) × (rowAfter y d ≤ y + 1)
+unfolding rowAfter
+near-row y zero h = omega arith
+near-row y (suc zero) h = omega arith
+near-row y (suc (suc zero)) h = omega arith
+near-row y (suc (suc (suc d))) h = omega arith
+
+bal-suc : (z : ℤ) → up (sucℤ z) + dn z ≡ dn (sucℤ z) + up z + 1
+bal-suc (pos n) = omega arith
+bal-suc (negsuc zero) = omega arith
+bal-suc (negsuc (suc n)) = omega arith
+
+bal-pred : (z : ℤ) → up (predℤ z) + dn z + 1 ≡ dn (predℤ z) + up z
+bal-pred (pos zero) = omega arith
+bal-pred (pos (suc n)) = omega arith
+bal-pred (negsuc n) = omega arith
+
+east-one : (z : ℤ) (n : ℕ) → sucℤ (z +ℤ pos n) ≡ z +ℤ pos (n + 1)
+east-one z n = omega (zarith, bal-suc (z +ℤ pos n), bal+ z (pos n), bal+ z (pos (n + 1)))
+
+west-one : (z : ℤ) (n : ℕ) → 0 < n → predℤ (z +ℤ pos n) ≡ z +ℤ pos (n - 1)
+west-one z n h = omega (zarith, bal-pred (z +ℤ pos n), bal+ z (pos n), bal+ z (pos (n - 1)))
+
+module _ (x0 y0 : ℤ) where
+  spot-step : (x y d : ℕ) → 0 < x → 0 < y → stepped d (spot x0 y0 (x, y)) ≡ spot x0 y0 (colAfter x d, rowAfter y d)
+  unfolding colAfter rowAfter
+  spot-step x y zero h g = corner-eq (stepped 0 (spot x0 y0 (x, y))) (spot x0 y0 (x + 1, y)) (east-one x0 x) refl
+  spot-step x y (suc zero) h g = corner-eq (stepped 1 (spot x0 y0 (x, y))) (spot x0 y0 (x, y + 1)) refl (east-one y0 y)
+  spot-step x y (suc (suc zero)) h g = corner-eq (stepped 2 (spot x0 y0 (x, y))) (spot x0 y0 (x - 1, y)) (west-one x0 x h) refl
+  spot-step x y (suc (suc (suc d))) h g = corner-eq (stepped 3 (spot x0 y0 (x, y))) (spot x0 y0 (x, y - 1)) refl (west-one y0 y g)
+
+  -- the corners of a walk with room for its steps on every side
+  pub trail-corners : (x y : ℕ) (ds : List ℕ) → length ds ≤ x → length ds ≤ y → cornersFrom (spot x0 y0 (x, y)) ds ≡ map (spot x0 y0) (trail x y ds)
+  unfolding trail
+  trail-corners x y [] h g = refl
+  trail-corners x y (d ∷ ds) h g =
+      ap (λ (l : List Corner). spot x0 y0 (x, y) ∷ l)
+      (ap (λ (c : Corner). cornersFrom c ds) (spot-step x y d (omega arith) (omega arith))
+      ∙ trail-corners (colAfter x d) (rowAfter y d) ds (omega (arith, near x d (omega arith))) (omega (arith, near-row y d (omega arith))))
+
+-- how far a walk reaches
+pub west-le : (x : ℕ) (ds : List ℕ) → westFrom x ds ≤ x
+unfolding westFrom
+west-le x [] = omega arith
+west-le x (d ∷ ds) = omega arith
+
+pub east-ge : (x : ℕ) (ds : List ℕ) → x ≤ eastFrom x ds
+unfolding eastFrom
+east-ge x [] = omega arith
+east-ge x (d ∷ ds) = omega arith
+
+pub east-le : (x : ℕ) (ds : List ℕ) → length ds ≤ x → eastFrom x ds ≤ x + length ds
+unfolding eastFrom
+east-le x [] h = omega arith
+east-le x (d ∷ ds) h = omega (arith, near x d (omega arith), east-le (colAfter x d) ds (omega (arith, near x d (omega arith))))
+
+pub width-le : (x : ℕ) (ds : List ℕ) → length ds ≤ x → eastFrom x ds ≤ westFrom x ds + length ds
+unfolding eastFrom westFrom
+width-le x [] h = omega arith
+width-le x (d ∷ ds) h =
+    let n = near x d (omega arith) in
+    omega (arith, n, west-le (colAfter x d) ds, east-ge (colAfter x d) ds, width-le (colAfter x d) ds (omega (arith, n)))
+
+-- every corner of the walk lies between
+pub record Reaches (x y : ℕ) (ds : List ℕ) (v : ℕ × ℕ) : Type 0 where
+  pub west : westFrom x ds ≤ v .0
+  pub east : v .0 ≤ eastFrom x ds
+  pub below : v .1 ≤ y + length ds
+
+pub trail-reaches : (x y : ℕ) (ds : List ℕ) → length ds ≤ x → length ds ≤ y → (v : ℕ × ℕ) → In v (trail x y ds) → Reaches x y ds v
+unfolding trail westFrom eastFrom
+trail-reaches x y [] h g v (inl e) = subst (Reaches x y []) (sym e) (record { west = omega arith; east = omega arith; below = omega arith })
+trail-reaches x y [] h g v (inr m) = absurd m
+trail-reaches x y (d ∷ ds) h g v (inl e) = subst (Reaches x y (d ∷ ds)) (sym e) (record { west = omega arith; east = omega arith; below = omega arith })
+trail-reaches x y (d ∷ ds) h g v (inr m) =
+    let r = trail-reaches (colAfter x d) (rowAfter y d) ds (omega (arith, near x d (omega arith))) (omega (arith, near-row y d (omega arith))) v m in
+    record { west = omega (arith, r .west); east = omega (arith, r .east); below = omega (arith, r .below, near-row y d (omega arith)) }
+
+-- and every column between has one
+pub trail-column : (x y : ℕ) (ds : List ℕ) → length ds ≤ x → (c : ℕ) → westFrom x ds ≤ c → c ≤ eastFrom x ds → (h : ℕ) × In (c, h) (trail x y ds)
+unfolding trail westFrom eastFrom
+trail-column x y [] h c a b = (y, inl (ap (λ (n : ℕ). (n, y)) one))
+  where
+    one : c ≡ x
+    one = omega arith
+trail-column x y (d ∷ ds) h c a b = go (decLt c (westFrom x′ ds)) (decLt (eastFrom x′ ds) c) (trail-column x′ (rowAfter y d) ds (omega (arith, n)) c)
+  where
+    x′ : ℕ
+    x′ = colAfter x d
+
+    n : (x ≤ colAfter x d + 1) × (colAfter x d ≤ x + 1)
+    n = near x d (omega arith)
+
+    here : c ≡ x → (h : ℕ) × In (c, h) ((x, y) ∷ trail (colAfter x d) (rowAfter y d) ds)
+    here e = (y, inl (ap (λ (n : ℕ). (n, y)) e))
+
+    go : Dec (c < westFrom x′ ds) → Dec (eastFrom x′ ds < c) → (westFrom x′ ds ≤ c → c ≤ eastFrom x′ ds → (h : ℕ) × In (c, h) (trail x′ (rowAfter y d) ds)) → (h : ℕ) × In (c, h) ((x, y) ∷ trail (colAfter x d) (rowAfter y d) ds)
+    go (yes l) r rest = here (omega (arith, n, west-le x′ ds, east-ge x′ ds))
+    go (no l) (yes r) rest = here (omega (arith, n, west-le x′ ds, east-ge x′ ds))
+    go (no l) (no r) rest =
+        let t = rest (omega arith) (omega arith) in
+        (t .0, inr (t .1))
+
+map-ext : (f g : ℕ × ℕ → Corner) (vs : List (ℕ × ℕ)) → ((v : ℕ × ℕ) → In v vs → f v ≡ g v) → map f vs ≡ map g vs
+map-ext f g [] h = refl
+map-ext f g (v ∷ vs) h = ap₂ _∷_ (h v (inl refl)) (map-ext f g vs (λ u m. h u (inr m)))
+
+map-spot : (x0 y0 : ℤ) (f : ℕ × ℕ → ℕ × ℕ) (vs : List (ℕ × ℕ)) → map (spot x0 y0) (map f vs) ≡ map (λ v. spot x0 y0 (f v)) vs
+map-spot x0 y0 f [] = refl
+map-spot x0 y0 f (v ∷ vs) = ap (λ (l : List Corner). spot x0 y0 (f v) ∷ l) (map-spot x0 y0 f vs)
+
+-- the same corners from the column w
+pub spots-east : (x0 y0 : ℤ) (w : ℕ) (vs : List (ℕ × ℕ)) → ((v : ℕ × ℕ) → In v vs → w ≤ v .0) → map (spot x0 y0) vs ≡ map (spot (x0 +ℤ pos w) y0) (map (eastOf w) vs)
+spots-east x0 y0 w vs h = map-ext (spot x0 y0) (λ v. spot (x0 +ℤ pos w) y0 (eastOf w v)) vs each ∙ sym (map-spot (x0 +ℤ pos w) y0 (eastOf w) vs)
+  where
+    shift : (n : ℕ) → w ≤ n → x0 +ℤ pos n ≡ (x0 +ℤ pos w) +ℤ pos (n - w)
+    shift n l = omega (zarith, bal+ x0 (pos n), bal+ x0 (pos w), bal+ (x0 +ℤ pos w) (pos (n - w)))
+
+    each : (v : ℕ × ℕ) → In v vs → spot x0 y0 v ≡ spot (x0 +ℤ pos w) y0 (eastOf w v)
+    each v m = corner-eq (spot x0 y0 v) (spot (x0 +ℤ pos w) y0 (eastOf w v)) (shift (v .0) (h v m)) refl
+
+negs-map : (f : ℕ × ℕ → Corner) (vs : List (ℕ × ℕ)) → negs (map f vs) ≡ map (λ v. neg (f v)) vs
+unfolding negs
+negs-map f [] = refl
+negs-map f (v ∷ vs) = ap (λ (l : List Corner). neg (f v) ∷ l) (negs-map f vs)
+
+-- and turned by half a turn, from the column e and the height k
+pub spots-turned : (x0 y0 : ℤ) (e k : ℕ) (vs : List (ℕ × ℕ)) → ((v : ℕ × ℕ) → In v vs → (v .0 ≤ e) × (v .1 ≤ k)) → negs (map (spot x0 y0) vs) ≡ map (spot (negℤ (x0 +ℤ pos e)) (negℤ (y0 +ℤ pos k))) (map (turned e k) vs)
+spots-turned x0 y0 e k vs h = negs-map (spot x0 y0) vs ∙ map-ext (λ v. neg (spot x0 y0 v)) (λ v. spot x1 y1 (turned e k v)) vs each ∙ sym (map-spot x1 y1 (turned e k) vs)
+  where
+    x1 : ℤ
+    x1 = negℤ (x0 +ℤ pos e)
+
+    y1 : ℤ
+    y1 = negℤ (y0 +ℤ pos k)
+
+    flip : (z : ℤ) (m n : ℕ) → n ≤ m → negℤ (z +ℤ pos n) ≡ negℤ (z +ℤ pos m) +ℤ pos (m - n)
+    flip z m n l =
+        omega (zarith, bal+ z (pos n), bal+ z (pos m), bal+ (negℤ (z +ℤ pos m)) (pos (m - n)), up-neg (z +ℤ pos n), dn-neg (z +ℤ pos n), up-neg (z +ℤ pos m), dn-neg (z +ℤ pos m))
+
+    each : (v : ℕ × ℕ) → In v vs → neg (spot x0 y0 v) ≡ spot x1 y1 (turned e k v)
+    each v m = corner-eq (neg (spot x0 y0 v)) (spot x1 y1 (turned e k v)) (flip x0 e (v .0) (h v m .0)) (flip y0 k (v .1) (h v m .1))

@@ -1,0 +1,51 @@
+-- A walk's corners by column and height, and the lowest of each column. Columns and heights are counted from wherever makes them
+-- whole numbers.
+-- Assumes nothing.
+use mathlib.Core.List.{List, [], _∷_}
+use Prim.Native.Nat.{ℕ, zero, suc, _+_, _-_, min, max}
+use lib.ListN.{getD, set}
+
+-- the column after step d
+unfoldable pub colAfter : ℕ → ℕ → ℕ
+colAfter x zero = x + 1
+colAfter x (suc zero) = x
+colAfter x (suc (suc zero)) = x - 1
+colAfter x (suc (suc (suc d))) = x
+
+-- the height after step d
+unfoldable pub rowAfter : ℕ → ℕ → ℕ
+rowAfter y zero = y
+rowAfter y (suc zero) = y + 1
+rowAfter y (suc (suc zero)) = y
+rowAfter y (suc (suc (suc d))) = y - 1
+
+-- column and height of each corner of a walk
+unfoldable pub trail : ℕ → ℕ → List ℕ → List (ℕ × ℕ)
+trail x y [] = (x, y) ∷ []
+trail x y (d ∷ ds) = (x, y) ∷ trail (colAfter x d) (rowAfter y d) ds
+
+-- the least column of a walk
+unfoldable pub westFrom : ℕ → List ℕ → ℕ
+westFrom x [] = x
+westFrom x (d ∷ ds) = min x (westFrom (colAfter x d) ds)
+
+-- the greatest
+unfoldable pub eastFrom : ℕ → List ℕ → ℕ
+eastFrom x [] = x
+eastFrom x (d ∷ ds) = max x (eastFrom (colAfter x d) ds)
+
+-- a column keeps the least of its heights
+unfoldable pub sink : List ℕ → ℕ × ℕ → List ℕ
+sink a v = set a (v .0) (min (getD a (v .0) 0) (v .1))
+
+unfoldable pub sinks : List ℕ → List (ℕ × ℕ) → List ℕ
+sinks a [] = a
+sinks a (v ∷ vs) = sinks (sink a v) vs
+
+-- counted from the column w
+abbrev pub eastOf : ℕ → ℕ × ℕ → ℕ × ℕ
+eastOf w v = (v .0 - w, v .1)
+
+-- turned by half a turn: counted westward from the column e, and downward from the height h
+abbrev pub turned : ℕ → ℕ → ℕ × ℕ → ℕ × ℕ
+turned e h v = (e - v .0, h - v .1)

@@ -1,0 +1,3 @@
+-- The method by columns.
+pub mod Columns
+pub mod Outline

@@ -1,0 +1,1 @@
+// Laws of the convex hull. There is no code here.

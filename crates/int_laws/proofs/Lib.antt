@@ -1,0 +1,5 @@
+-- Tools for the integers.
+pub mod LinearLaws
+pub mod RingLaws
+pub mod SignLaws
+pub mod RangeLaws

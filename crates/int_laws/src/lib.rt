@@ -1,0 +1,1 @@
+// Laws on the integers. There is no code here.
