@@ -1,3 +1,4 @@
 pub mod GatherLaws
 pub mod FindLaws
 pub mod PigeonLaws
+pub mod BelowLaws

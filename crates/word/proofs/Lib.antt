@@ -1,1 +1,4 @@
 pub mod SurvivorLaws
+pub mod TurnCases
+pub mod TurnLaws
+pub mod TurnPromiseLaws
