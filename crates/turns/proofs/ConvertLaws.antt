@@ -5,15 +5,13 @@ use mathlib.Core.Path.{_≡_, refl, ap, ap₂, sym, _∙_}
 use Prim.Native.Nat.{ℕ, suc, _+_, _<_, _≤_}
 use native.Mathlib.Numerals.{add-one}
 use native.Mathlib.Omega.{arith}
-use borrow.Author.Tests.{lt-ltb, le-ltb, eq-eqb, ne-eqb}
+use borrow.Author.Tests.{lt-ltb, le-ltb}
 use lib.ListN.{length, take, drop, getD, set, length-set, drop-of-length-le}
 use lib.Seq.{drop-cons, take-suc-set, append-snoc, take-all}
 use Rattle.answer.specs.declared.Judged.{Judged}
 use Rattle.answer.specs.declared.Judged.the-variants.{Good, Refused}
 use Rattle.answer.specs.declared.Refusal.{Refusal}
-use Rattle.answer.specs.declared.Refusal.the-variants.{TooMany, ResultRoom, BadDigit}
-use Rattle.answer.specs.Limits.{mostInput}
-use Rattle.answer.specs.Refusal.{orElse}
+use Rattle.answer.specs.declared.Refusal.the-variants.{BadDigit}
 use Rattle.word.specs.Turns.{digitFaultsFrom, turnsJudged, writtenIf, ConvertedBy}
 
 -- the first i digits are converted, a is the step before the rest, and what is left gives the whole
@@ -53,20 +51,6 @@ fault-later ds i h b = rw (add-one, drop-cons ds i 0 h, le-ltb 3 (getD ds i 0) b
 
 pub fault-none : (ds : List ℕ) (i : ℕ) → length ds ≤ i → digitFaultsFrom i (drop i ds) ≡ Good
 fault-none ds i h = rw (drop-of-length-le ds h)
-
--- the judgement, by the first test that fails
-pub judged-many : (ds : List ℕ) (room : ℕ) → mostInput < length ds → turnsJudged ds room ≡ Refused TooMany
-judged-many ds room h = rw (lt-ltb mostInput (length ds) h)
-
-pub judged-room : (ds : List ℕ) (room : ℕ) → length ds ≤ mostInput → (room ≡ length ds → ⊥) → turnsJudged ds room ≡ Refused ResultRoom
-judged-room ds room h f = rw (le-ltb mostInput (length ds) h, ne-eqb room (length ds) f)
-
-pub judged-digits : (ds : List ℕ) (room : ℕ) → length ds ≤ mostInput → room ≡ length ds → turnsJudged ds room ≡ digitFaultsFrom 0 ds
-judged-digits ds room h e = rw (le-ltb mostInput (length ds) h, eq-eqb room (length ds) e) (last (digitFaultsFrom 0 ds))
-  where
-    last : (j : Judged) → orElse j Good ≡ j
-    last Good = refl
-    last (Refused r) = refl
 
 -- the whole call: written where the judgement is good, left as it was where it is not
 pub converted : (convert : List ℕ → List ℕ) (ds out out′ : List ℕ) (r : Judged) → r ≡ turnsJudged ds (length out) → r ≡ Good → out′ ≡ convert ds → ConvertedBy convert ds out r out′

@@ -5,7 +5,7 @@ use mathlib.Core.List.{List, [], _∷_}
 use mathlib.Core.Path.{_≡_, refl, ap, sym, _∙_, subst}
 use Prim.Native.Nat.{ℕ, suc, _<_, _≤_}
 use native.Mathlib.Omega.{arith}
-use borrow.Author.Tests.{ltb-false, le-ltb, eqb-true, eq-eqb}
+use borrow.Author.Tests.{ltb-false, lt-ltb, le-ltb, eqb-true, eq-eqb, ne-eqb}
 use lib.Dec.{eqb, ltb}
 use lib.ListN.{length}
 use Rattle.lists.specs.Lists.{Below}
@@ -17,6 +17,20 @@ use Rattle.answer.specs.Limits.{mostInput}
 use Rattle.answer.specs.Refusal.{when, orElse, firstOf}
 use Rattle.word.specs.Turns.{turnsOf, stepsOf, digitFaultsFrom, turnsJudged, writtenIf, ConvertedBy}
 use Rattle.word.proofs.TurnLaws.{stepsOf-turnsOf, turnsOf-stepsOf, turnsOf-below, stepsOf-below, length-turnsOf, length-stepsOf}
+
+-- the judgement: 1, else 3, else 4 at the first bad digit
+pub judged-many : (ds : List ℕ) (room : ℕ) → mostInput < length ds → turnsJudged ds room ≡ Refused TooMany
+judged-many ds room h = rw (lt-ltb mostInput (length ds) h)
+
+pub judged-room : (ds : List ℕ) (room : ℕ) → length ds ≤ mostInput → (room ≡ length ds → ⊥) → turnsJudged ds room ≡ Refused ResultRoom
+judged-room ds room h f = rw (le-ltb mostInput (length ds) h, ne-eqb room (length ds) f)
+
+pub judged-digits : (ds : List ℕ) (room : ℕ) → length ds ≤ mostInput → room ≡ length ds → turnsJudged ds room ≡ digitFaultsFrom 0 ds
+judged-digits ds room h e = rw (le-ltb mostInput (length ds) h, eq-eqb room (length ds) e) (last (digitFaultsFrom 0 ds))
+  where
+    last : (j : Judged) → orElse j Good ≡ j
+    last Good = refl
+    last (Refused r) = refl
 
 -- of two judgements, both are good
 orElse-good : (j k : Judged) → orElse j k ≡ Good → (j ≡ Good) × (k ≡ Good)

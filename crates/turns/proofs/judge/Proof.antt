@@ -3,7 +3,7 @@
 use mathlib.Core.Path.{sym, _∙_}
 use borrow.Author.Needs.{needs}
 use native.Mathlib.Omega.{arith}
-use Rattle.turns.proofs.ConvertLaws.{judged-many, judged-room, judged-digits}
+use Rattle.word.proofs.TurnPromiseLaws.{judged-many, judged-room, judged-digits}
 use Rattle.turns.proofs.judge.Statement.{statement}
 use Rattle.turns.proofs.judge.Tie as tie
 
