@@ -2,3 +2,4 @@ pub mod GatherLaws
 pub mod FindLaws
 pub mod PigeonLaws
 pub mod BelowLaws
+pub mod DistinctLaws

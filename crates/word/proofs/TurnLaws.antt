@@ -7,6 +7,7 @@ use native.Mathlib.Omega.{arith}
 use lib.ListN.{length}
 use Rattle.lists.specs.Lists.{Below}
 use Rattle.word.specs.Turns.{turnOf, stepAfter, turnsFrom, turnsOf, stepsFrom, stepsOf}
+use Rattle.word.proofs.TurnCases as cases
 
 pub turnOf-lt : (a b : ℕ) → turnOf a b < 4
 turnOf-lt a b = omega arith
