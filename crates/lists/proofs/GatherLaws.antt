@@ -9,6 +9,7 @@ use native.Mathlib.Omega.{arith}
 use lib.ListN.{length, length-append}
 pub use Rattle.lists.specs.Lists.{Distinct}
 use Rattle.lists.specs.Lists.{any, add, gather}
+use Rattle.lists.proofs.ListCases as cases
 
 module _ {A : Type 0} where
   pub distinct-snoc : (s : List A) (x : A) → Distinct s → (List·Memᴰ x s → ⊥) → Distinct (s ++ (x ∷ []))
@@ -120,8 +121,9 @@ module _ {A : Type 0} (eq : A → A → Bool) where
   -- and none is lost
   pub gather-ge : (seen xs : List A) → length seen ≤ length (gather eq seen xs)
   gather-ge seen xs = let h = gather-more eq seen xs in omega (arith, ap length (h .1), length-append seen (h .0))
--- where no element stands twice, all are gathered
+
 module _ {A : Type 0} (eq : A → A → Bool) (sound : (x y : A) → eq x y ≡ true → x ≡ y) (equal : (x : A) → eq x x ≡ true) where
+  -- where no element stands twice, all are gathered
   pub gather-distinct : (seen xs : List A) → Distinct (seen ++ xs) → gather eq seen xs ≡ seen ++ xs
   gather-distinct seen [] d = sym (append-nil seen)
   gather-distinct seen (x ∷ xs) d =

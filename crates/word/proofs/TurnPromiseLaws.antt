@@ -14,7 +14,8 @@ use Rattle.answer.specs.declared.Judged.the-variants.{Good, Refused}
 use Rattle.answer.specs.declared.Refusal.{Refusal}
 use Rattle.answer.specs.declared.Refusal.the-variants.{TooMany, ResultRoom, BadDigit}
 use Rattle.answer.specs.Limits.{mostInput}
-use Rattle.answer.specs.Refusal.{when, orElse, firstOf}
+use Rattle.answer.specs.Refusal.{when, orElse}
+use Rattle.answer.proofs.RefusalLaws.{orElse-good, when-good, clear}
 use Rattle.word.specs.Turns.{turnsOf, stepsOf, digitFaultsFrom, turnsJudged, writtenIf, ConvertedBy}
 use Rattle.word.proofs.TurnLaws.{stepsOf-turnsOf, turnsOf-stepsOf, turnsOf-below, stepsOf-below, length-turnsOf, length-stepsOf}
 
@@ -31,15 +32,6 @@ judged-digits ds room h e = rw (le-ltb mostInput (length ds) h, eq-eqb room (len
     last : (j : Judged) → orElse j Good ≡ j
     last Good = refl
     last (Refused r) = refl
-
--- of two judgements, both are good
-orElse-good : (j k : Judged) → orElse j k ≡ Good → (j ≡ Good) × (k ≡ Good)
-orElse-good Good k e = (refl, e)
-orElse-good (Refused r) k e = let z : _≡_ {A = ℕ} 0 1 = cc in absurd (omega arith)
-
-when-good : (b : Bool) (r : Refusal) → when b r ≡ Good → b ≡ false
-when-good true r e = let z : _≡_ {A = ℕ} 0 1 = cc in absurd (omega arith)
-when-good false r e = refl
 
 pub digitFaults-below : (i : ℕ) (ds : List ℕ) → digitFaultsFrom i ds ≡ Good → Below 4 ds
 digitFaults-below i [] e = tt
@@ -64,14 +56,11 @@ not-false false e = absurd (true≢false e)
 
 pub turnsJudged-good : (ds : List ℕ) (room : ℕ) → turnsJudged ds room ≡ Good → Convertible ds room
 turnsJudged-good ds room e =
-    let faults = digitFaultsFrom 0 ds in
-    let h = orElse-good (when (ltb mostInput (length ds)) TooMany) (firstOf (when (not (eqb room (length ds))) ResultRoom ∷ faults ∷ [])) e in
-    let k = orElse-good (when (not (eqb room (length ds))) ResultRoom) (firstOf (faults ∷ [])) (h .1) in
-    let l = orElse-good faults Good (k .1) in
+    let h = clear (when (ltb mostInput (length ds)) TooMany ∷ when (not (eqb room (length ds))) ResultRoom ∷ digitFaultsFrom 0 ds ∷ []) e in
     record {
       few = ltb-false mostInput (length ds) (when-good (ltb mostInput (length ds)) TooMany (h .0));
-      long = eqb-true room (length ds) (not-false (eqb room (length ds)) (when-good (not (eqb room (length ds))) ResultRoom (k .0)));
-      digits = digitFaults-below 0 ds (l .0);
+      long = eqb-true room (length ds) (not-false (eqb room (length ds)) (when-good (not (eqb room (length ds))) ResultRoom (h .1 .0)));
+      digits = digitFaults-below 0 ds (h .1 .1 .0);
     }
 
 pub good-turnsJudged : (ds : List ℕ) (room : ℕ) → Convertible ds room → turnsJudged ds room ≡ Good
