@@ -2,10 +2,9 @@
 -- Assumes nothing.
 use mathlib.Core.List.{[], _∷_}
 use mathlib.Core.Path.{_≡_, refl}
-use Prim.Native.Nat.{ℕ}
-use lib.IntN.{ℤ, pos, negsuc}
-use Rattle.grid.specs.Grid.{corner, origin, stepped, cornersFrom, cornerAt}
-use Rattle.grid.specs.Tree.{halfOf, parentOf, lineageOf, pathOf, slotOf, childWord}
+use lib.IntN.{pos, negsuc}
+use Rattle.grid.specs.Grid.{corner, origin, cornersFrom, cornerAt}
+use Rattle.grid.specs.Tree.{halfOf, lineageOf, pathOf, slotOf, childWord}
 
 -- -1 is a child of 0
 half-of-minus-one : halfOf (negsuc 0) ≡ pos 0

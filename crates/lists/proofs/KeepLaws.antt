@@ -2,9 +2,9 @@
 -- Assumes nothing.
 use mathlib.Core.Bool.{Bool, true, false, not, _||_}
 use mathlib.Core.List.{List, [], _∷_, _++_, append-nil, append-assoc, List·Memᴰ, List·Memᴰ·head, List·Memᴰ·tail, Memᴰ·cast}
-use mathlib.Core.Logic.{_⊎_, ⊎-elim}
+use mathlib.Core.Logic.{⊎-elim}
 use mathlib.Core.Path.{_≡_, refl, ap, sym, _∙_}
-use Rattle.lists.specs.Lists.{any, add, gather, keep, Distinct}
+use Rattle.lists.specs.Lists.{any, gather, keep, Distinct}
 use Rattle.lists.proofs.FindLaws.{any-append}
 use Rattle.lists.proofs.GatherLaws.{add-cases}
 

@@ -1,13 +1,13 @@
 -- Places of two lists side by side, and a test that passes at some place.
 -- Assumes nothing.
-use mathlib.Core.Bool.{Bool, true, false, false≢true}
+use mathlib.Core.Bool.{Bool, true, false}
 use mathlib.Core.List.{List, [], _∷_}
-use mathlib.Core.Path.{_≡_, refl, sym, _∙_}
+use mathlib.Core.Path.{_≡_, refl}
 use Prim.Native.Nat.{ℕ, zero, suc, _<_, _≤_}
 use native.Mathlib.Omega.{arith}
 use lib.ListN.{length, getD}
 use Rattle.lists.specs.Lists.{any, find, place, zip}
-use Rattle.lists.proofs.FindLaws.{find-get, find-pos, any-mem, place-more}
+use Rattle.lists.proofs.FindLaws.{find-get, find-pos, any-mem}
 use Rattle.lists.proofs.DistinctLaws.{mem-getD}
 
 module _ {A : Type 0} where

@@ -1,8 +1,7 @@
 -- Meetings, verdicts and areas, computed on small walks.
 -- Assumes nothing.
-use mathlib.Core.List.{List, [], _∷_}
+use mathlib.Core.List.{[], _∷_}
 use mathlib.Core.Path.{_≡_, refl}
-use Prim.Native.Nat.{ℕ}
 use lib.IntN.{pos, negsuc}
 use lib.ListN.{length}
 use Rattle.answer.specs.declared.Verdict.the-variants.{Nowhere, Open, Room, OpenMeeting, ClosedMeeting}

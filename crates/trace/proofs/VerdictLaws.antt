@@ -1,27 +1,27 @@
 -- The verdicts: the one given says what holds of the walk, and no other does.
 -- Assumes nothing.
-use mathlib.Core.Bool.{Bool, true, false, _&&_, true≢false}
-use mathlib.Core.List.{List, [], _∷_}
+use mathlib.Core.Bool.{Bool, true, false, true≢false}
+use mathlib.Core.List.{List}
 use mathlib.Core.Path.{_≡_, refl, ap, sym, _∙_, subst}
-use Prim.Native.Nat.{ℕ, zero, suc, _<_, _≤_}
+use Prim.Native.Nat.{ℕ, zero, suc, _<_}
 use native.Mathlib.Omega.{arith}
 use borrow.Author.Tests.{eqb-true, eq-eqb}
 use lib.Dec.{eqb}
-use lib.IntN.{ℤ, pos}
+use lib.IntN.{pos}
 use lib.ListN.{length}
 use Rattle.answer.specs.declared.Verdict.{Verdict}
 use Rattle.answer.specs.declared.Verdict.the-variants.{Nowhere, Open, Room, OpenMeeting, ClosedMeeting}
 use Rattle.lists.specs.Lists.{Below}
 use Rattle.lists.proofs.GatherLaws.{and-left, and-right}
 use Rattle.grid.specs.declared.Corner.{Corner}
-use Rattle.grid.specs.Grid.{same, endFrom, cornerAt}
+use Rattle.grid.specs.Grid.{same, endFrom}
 use Rattle.grid.proofs.CornerLaws.{same-refl, same-sound}
 use Rattle.grid.proofs.StepLaws.{cornerAt-end}
 use Rattle.word.specs.Turns.{turnsOf, stepsOf}
 use Rattle.word.proofs.TurnLaws.{stepsOf-turnsOf}
 use Rattle.trace.specs.Meeting.{Meets, FirstMeets, Meeting, none, meet, meetingOf}
 use Rattle.trace.specs.Verdict.{onlyEnds, closedBy, verdictBy, verdictOf, sweepFrom, areaBy, areaOf, IsRoom, VerdictSays}
-use Rattle.trace.proofs.MeetingLaws.{MeetingSays, meeting-says, firstMeets-only, meetingOf-meets, meetingOf-none, meets-meetingOf, none-meetingOf}
+use Rattle.trace.proofs.MeetingLaws.{firstMeets-only, meetingOf-meets, meetingOf-none, meets-meetingOf, none-meetingOf}
 
 -- whether the first meeting is (0,n)
 onlyEnds-true : (n j k : ℕ) → onlyEnds n (meet j k) ≡ true → (j ≡ 0) × (k ≡ n)

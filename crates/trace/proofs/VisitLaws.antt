@@ -1,8 +1,8 @@
 -- The different corners of a walk: exactly its corners, each once, in the order of the first visit.
 -- Assumes nothing.
 use mathlib.Core.List.{List, [], _∷_, _++_, List·Memᴰ, List·Memᴰ·not-nil}
-use mathlib.Core.Logic.{_⊎_, ⊎-elim}
-use mathlib.Core.Path.{_≡_, refl, ap, _∙_}
+use mathlib.Core.Logic.{⊎-elim}
+use mathlib.Core.Path.{_≡_, ap, _∙_}
 use Prim.Native.Nat.{ℕ, suc, _≤_}
 use lib.ListN.{length}
 use Rattle.lists.specs.Lists.{Distinct, add}
@@ -12,7 +12,7 @@ use Rattle.grid.specs.declared.Corner.{Corner}
 use Rattle.grid.specs.Grid.{same, cornersFrom}
 use Rattle.grid.proofs.CornerLaws.{same-refl, same-sound}
 use Rattle.grid.proofs.StepLaws.{length-cornersFrom}
-use Rattle.trace.specs.Meeting.{Meets, none, visitedOf}
+use Rattle.trace.specs.Meeting.{Meets, visitedOf}
 use Rattle.trace.proofs.MeetingLaws.{none-meetingOf, corners-distinct}
 
 pub visited-distinct : (ps : List Corner) → Distinct (visitedOf ps)

@@ -3,9 +3,9 @@
 -- Assumes nothing.
 use mathlib.Core.Bool.{not, false}
 use mathlib.Core.List.{List, [], _∷_, _++_, List·Memᴰ, List·Memᴰ·not-nil}
-use mathlib.Core.Logic.{_⊎_, ⊎-elim}
+use mathlib.Core.Logic.{⊎-elim}
 use mathlib.Core.Path.{_≡_, refl, ap, _∙_}
-use Prim.Native.Nat.{ℕ, suc, _<_}
+use Prim.Native.Nat.{suc, _<_}
 use Rattle.lists.specs.Lists.{any, gather, keep}
 use Rattle.lists.proofs.FindLaws.{find-pos}
 use Rattle.lists.proofs.GatherLaws.{gather-more, mem→any, mem-gather-right, mem-gather-cases}

@@ -1,13 +1,13 @@
 -- There is a link exactly when some step and some level make it, its step is the least of these, and it goes both ways.
 -- Assumes nothing.
-use mathlib.Core.Bool.{Bool, true, false}
-use mathlib.Core.List.{List, [], _∷_, List·Memᴰ}
-use mathlib.Core.Logic.{_⊎_, inl, inr, ⊎-map, ⊎-elim}
-use mathlib.Core.Path.{_≡_, refl, ap, ap₂, sym, _∙_, subst, subst₂}
+use mathlib.Core.Bool.{true}
+use mathlib.Core.List.{List, [], _∷_}
+use mathlib.Core.Logic.{inl, inr, ⊎-map, ⊎-elim}
+use mathlib.Core.Path.{_≡_, refl, ap, ap₂, sym, _∙_, subst}
 use Prim.Native.Nat.{ℕ, zero, suc, _<_, _≤_, pred}
 use native.Mathlib.Omega.{arith}
 use lib.ListN.{length, getD}
-use Rattle.lists.specs.Lists.{any, find, zip}
+use Rattle.lists.specs.Lists.{find, zip}
 use Rattle.lists.proofs.DistinctLaws.{mem-getD}
 use Rattle.lists.proofs.FindLaws.{find-get, find-cong, bool-agree}
 use Rattle.lists.proofs.ZipLaws.{zip-within, zip-at, any-at, at-any, find-least}
@@ -17,7 +17,7 @@ use Rattle.grid.specs.Tree.{AncestorAt, lineageOf}
 use Rattle.grid.proofs.AncestorLaws.{ancestor-place, place-ancestor}
 use Rattle.grid.proofs.StepLaws.{stepped-back}
 use Rattle.tree.specs.Nodes.{legsOf, joins, links, linkStepOf, InUse, JoinedAt, LinkedBy}
-use Rattle.tree.proofs.JoinLaws.{joins-cases, joins-here, joins-there, joins-flip}
+use Rattle.tree.proofs.JoinLaws.{joins-cases, joins-here, joins-there}
 
 abbrev nowhere : Corner × Corner
 nowhere = (origin, origin)
@@ -34,12 +34,13 @@ module _ (p q a b : Corner) where
       let z = zip-at (lineageOf p) (lineageOf q) i origin (w .0) (w .1) in
       let ap-x : AncestorAt i p x = place-ancestor i p origin (w .0) in
       let ap-y : AncestorAt i q y = place-ancestor i q origin (w .1) in
-      let j : joins a b (x, y) ≡ true = subst (λ (l : Corner × Corner). joins a b l ≡ true) (z .1) (h .2) in
-      (i,
-      ⊎-map
-      (λ k. (subst (AncestorAt i p) (k .0) ap-x, subst (AncestorAt i q) (k .1) ap-y))
-      (λ k. (subst (AncestorAt i p) (k .0) ap-x, subst (AncestorAt i q) (k .1) ap-y))
-      (joins-cases a b x y j))
+      let j : joins a b (x, y) ≡ true = subst (λ (l : Corner × Corner). joins a b l ≡ true) (z .1) (h .2) in (
+        i,
+        ⊎-map
+            (λ k. (subst (AncestorAt i p) (k .0) ap-x, subst (AncestorAt i q) (k .1) ap-y))
+            (λ k. (subst (AncestorAt i p) (k .0) ap-x, subst (AncestorAt i q) (k .1) ap-y))
+            (joins-cases a b x y j),
+      )
 
   pub level-links : (i : ℕ) → JoinedAt i p q a b → links a b (p, q) ≡ true
   level-links i j = ⊎-elim (λ k. by a b (k .0) (k .1) (joins-here a b)) (λ k. by b a (k .0) (k .1) (joins-there b a)) j

@@ -2,11 +2,9 @@
 -- Assumes nothing.
 use mathlib.Core.List.{[], _∷_}
 use mathlib.Core.Path.{_≡_, refl}
-use Prim.Native.Nat.{ℕ}
 use lib.IntN.{pos, negsuc}
-use lib.ListN.{length}
 use Rattle.grid.specs.Grid.{corner, origin, cornersFrom}
-use Rattle.tree.specs.Nodes.{nodesOf, refOf, linkStepOf}
+use Rattle.tree.specs.Nodes.{nodesOf, refOf, needOf, linkStepOf}
 
 -- nobody stood on (1,1), and it is a node: an ancestor of (2,2), numbered before it
 unvisited-node : nodesOf (cornersFrom origin (0 ∷ 0 ∷ 1 ∷ 1 ∷ []))
@@ -31,3 +29,11 @@ no-link = refl
 -- (1,1) and (-1,1) are two nodes
 two-nodes : refOf (nodesOf (cornersFrom origin (0 ∷ 1 ∷ 2 ∷ 2 ∷ []))) (corner (negsuc 0) (pos 1)) ≡ 5
 two-nodes = refl
+
+-- the link of a step east stands west of its end too
+link-back : linkStepOf (cornersFrom origin (0 ∷ [])) (corner (pos 1) (pos 0)) 2 ≡ 1
+link-back = refl
+
+-- (1,1) is needed by step 4, though it is visited by step 6 only
+needed-before-visited : needOf (cornersFrom origin (0 ∷ 0 ∷ 1 ∷ 1 ∷ 2 ∷ 3 ∷ [])) (corner (pos 1) (pos 1)) ≡ 4
+needed-before-visited = refl

@@ -1,7 +1,7 @@
 -- A buffer that is filled digit by digit, in either direction; and the judgement of digits, place by place.
 -- Assumes nothing.
 use mathlib.Core.List.{List, [], _∷_, _++_, append-nil}
-use mathlib.Core.Path.{_≡_, refl, ap, ap₂, sym, _∙_}
+use mathlib.Core.Path.{_≡_, ap, ap₂, sym, _∙_}
 use Prim.Native.Nat.{ℕ, suc, _+_, _<_, _≤_}
 use native.Mathlib.Numerals.{add-one}
 use native.Mathlib.Omega.{arith}
@@ -23,9 +23,6 @@ pub record SoFar (convert : ℕ → List ℕ → List ℕ) (ds out : List ℕ) (
 
 -- a conversion that writes `put a x` for the digit x after the step a, and goes on from the step `next a x`
 module _ (convert : ℕ → List ℕ → List ℕ) (put next : ℕ → ℕ → ℕ) (nil : (a : ℕ) → convert a [] ≡ []) (cons : (a x : ℕ) (xs : List ℕ) → convert a (x ∷ xs) ≡ put a x ∷ convert (next a x) xs) where
-  pub none-yet : (ds out : List ℕ) → length out ≡ length ds → SoFar convert ds out 0 0
-  none-yet ds out l = record { within = omega arith; long = l; small = omega arith; left = refl }
-
   pub one-more : (ds out : List ℕ) (a i v b : ℕ) → i < length ds → v ≡ put a (getD ds i 0) → b ≡ next a (getD ds i 0) → b < 4 → SoFar convert ds out a i → SoFar convert ds (set out i v) b (i + 1)
   one-more ds out a i v b h ev eb sb s = record {
     within = omega arith;

@@ -1,11 +1,9 @@
 -- Turns and their refusals, computed on small inputs.
 -- Assumes nothing.
-use mathlib.Core.List.{List, [], _∷_}
+use mathlib.Core.List.{[], _∷_}
 use mathlib.Core.Path.{_≡_, refl}
-use Prim.Native.Nat.{ℕ}
-use lib.ListN.{replicate}
 use Rattle.answer.specs.declared.Judged.the-variants.{Good, Refused}
-use Rattle.answer.specs.declared.Refusal.the-variants.{TooMany, ResultRoom, BadDigit}
+use Rattle.answer.specs.declared.Refusal.the-variants.{ResultRoom, BadDigit}
 use Rattle.word.specs.Turns.{turnsOf, stepsOf, turnsJudged, writtenIf}
 
 -- the word of document 000 and its turns: the first digit is the first step

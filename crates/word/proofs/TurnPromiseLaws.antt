@@ -1,6 +1,6 @@
 -- What the promise of a conversion gives: when it is accepted, that there is one answer and one buffer, and both round trips.
 -- Assumes nothing.
-use mathlib.Core.Bool.{Bool, true, false, not, true≢false, false≢true}
+use mathlib.Core.Bool.{Bool, true, false, not, true≢false}
 use mathlib.Core.List.{List, [], _∷_}
 use mathlib.Core.Path.{_≡_, refl, ap, sym, _∙_, subst}
 use Prim.Native.Nat.{ℕ, suc, _<_, _≤_}
@@ -11,7 +11,6 @@ use lib.ListN.{length}
 use Rattle.lists.specs.Lists.{Below}
 use Rattle.answer.specs.declared.Judged.{Judged}
 use Rattle.answer.specs.declared.Judged.the-variants.{Good, Refused}
-use Rattle.answer.specs.declared.Refusal.{Refusal}
 use Rattle.answer.specs.declared.Refusal.the-variants.{TooMany, ResultRoom, BadDigit}
 use Rattle.answer.specs.Limits.{mostInput}
 use Rattle.answer.specs.Refusal.{when, orElse}

@@ -8,7 +8,7 @@ use lib.ListN.{length, getD}
 use Rattle.lists.proofs.BelowLaws.{below-getD}
 use Rattle.word.specs.Turns.{turnOf, turnsFrom}
 use Rattle.word.proofs.TurnLaws.{turnsFrom-east}
-use Rattle.turns.proofs.ConvertLaws.{SoFar, none-yet, one-more, all-done}
+use Rattle.turns.proofs.ConvertLaws.{SoFar, one-more, all-done}
 use Rattle.turns.proofs.write_turns.Statement.{statement}
 use Rattle.turns.proofs.write_turns.Tie as tie
 
