@@ -1,3 +1,4 @@
+pub mod OperationCases
 pub mod SurvivorLaws
 pub mod TurnCases
 pub mod TurnLaws
