@@ -33,6 +33,15 @@ refusalPlace (NoRoom i) = i
 refusalPlace HullRoom = 0
 refusalPlace BadLine = 0
 
+-- the number and the place of a judgement: 0 for both where nothing is refused
+abbrev pub judgedNumber : Judged → ℕ
+judgedNumber Good = 0
+judgedNumber (Refused r) = refusalNumber r
+
+abbrev pub judgedPlace : Judged → ℕ
+judgedPlace Good = 0
+judgedPlace (Refused r) = refusalPlace r
+
 abbrev pub verdictNumber : Verdict → ℕ
 verdictNumber Nowhere = 0
 verdictNumber Open = 1

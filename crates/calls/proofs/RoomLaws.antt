@@ -21,6 +21,7 @@ use Rattle.answer.proofs.RefusalLaws.{refused-not-good, clear, clear-first, whe
 use Rattle.tree.proofs.NodeLaws.{nodes-grow, nodes-mono}
 use Rattle.word.proofs.SurvivorLaws.{Sound, operate-step, operate-back, survivors-steps, sound-survivors, steps-accepted, length-survivors}
 use Rattle.calls.specs.Walk.{roomFrom, walkJudgements, walkJudged}
+use Rattle.calls.proofs.CallCases as cases
 
 -- the nodes that a walk needs
 abbrev needs : Corner → List ℕ → ℕ

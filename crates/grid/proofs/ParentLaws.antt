@@ -9,6 +9,7 @@ use lib.IntN.{ℤ, pos, negsuc, sucℤ, predℤ, negℤ, suc-pred, pred-suc}
 use Rattle.grid.specs.declared.Corner.{Corner}
 use Rattle.grid.specs.Grid.{corner, stepped}
 use Rattle.grid.specs.Tree.{halfOf, parentOf}
+use Rattle.grid.proofs.GridCases as cases
 
 parity : (n : ℕ) → (suc n / 2 ≡ n / 2) ⊎ (suc n / 2 ≡ suc (n / 2))
 parity n = elim (ℕ-discrete (n % 2) 0) [ yes e ↦ inl (omega arith) | no f ↦ inr (omega arith) ]

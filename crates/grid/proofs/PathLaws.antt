@@ -9,6 +9,7 @@ use lib.IntN.{ℤ, pos, negsuc, negℤ, natAbs}
 use Rattle.grid.specs.declared.Corner.{Corner}
 use Rattle.grid.specs.Grid.{corner, origin}
 use Rattle.grid.specs.Tree.{halfOf, parentOf, isRoot, sizeOf, descentBy, pathOf}
+use Rattle.grid.proofs.GridCases as cases
 
 natAbs-neg : (k : ℕ) → natAbs (negℤ (pos k)) ≡ k
 natAbs-neg zero = refl

@@ -2,12 +2,13 @@
 -- Assumes nothing.
 use mathlib.Core.List.{List, [], _∷_, _++_, List·Memᴰ, List·Memᴰ·head, List·Memᴰ·tail}
 use mathlib.Core.Path.{_≡_, refl, ap, sym, _∙_}
-use Prim.Native.Nat.{ℕ, zero, suc, _+_, _<_, _%_, _-_}
+use Prim.Native.Nat.{ℕ, zero, suc, _+_, _<_, _≤_, _%_}
 use native.Mathlib.Omega.{arith}
 use lib.IntN.{ℤ, pos, negsuc, natAbs, sucℤ, predℤ, suc-pred, pred-suc, pos-ne-negsuc}
-use lib.ListN.{length}
+use lib.ListN.{length, getD}
+use lib.Seq.{take-length}
 use Rattle.grid.specs.declared.Corner.{Corner}
-use Rattle.grid.specs.Grid.{corner, stepped, back, cornersFrom, endFrom}
+use Rattle.grid.specs.Grid.{corner, stepped, back, cornersFrom, endFrom, cornerAt}
 
 pub back-mod : (d : ℕ) → d < 4 → back d ≡ (d + 2) % 4
 back-mod zero h = refl
@@ -72,7 +73,7 @@ stepped-inj (suc (suc (suc k))) (suc zero) c h i e = absurd (suc-pred-ne (c .1) 
 stepped-inj (suc (suc (suc k))) (suc (suc zero)) c h i e = absurd (pred-ne (c .1) (y-of e))
 stepped-inj (suc (suc (suc k))) (suc (suc (suc d))) c h i e = omega arith
 
--- the nodes only grow with the chain
+-- one step more at the end
 pub cornersFrom-snoc : (c : Corner) (s : List ℕ) (d : ℕ) → cornersFrom c (s ++ (d ∷ [])) ≡ cornersFrom c s ++ (stepped d (endFrom c s) ∷ [])
 cornersFrom-snoc c [] d = refl
 cornersFrom-snoc c (x ∷ s) d = ap (λ (l : List Corner). c ∷ l) (cornersFrom-snoc (stepped x c) s d)
@@ -88,3 +89,14 @@ endFrom-snoc c (x ∷ ds) d = endFrom-snoc (stepped x c) ds d
 pub endFrom-mem : (c : Corner) (ds : List ℕ) → List·Memᴰ (endFrom c ds) (cornersFrom c ds)
 endFrom-mem c [] = List·Memᴰ·head refl
 endFrom-mem c (d ∷ ds) = List·Memᴰ·tail (endFrom-mem (stepped d c) ds)
+
+-- place k of the corners is pk
+pub cornersFrom-at : (c : Corner) (ds : List ℕ) (k : ℕ) (z : Corner) → k ≤ length ds → getD (cornersFrom c ds) k z ≡ cornerAt c ds k
+cornersFrom-at c [] zero z h = refl
+cornersFrom-at c [] (suc k) z h = absurd (omega arith)
+cornersFrom-at c (d ∷ ds) zero z h = refl
+cornersFrom-at c (d ∷ ds) (suc k) z h = cornersFrom-at (stepped d c) ds k z (omega arith)
+
+-- pn is the last corner
+pub cornerAt-end : (c : Corner) (ds : List ℕ) → cornerAt c ds (length ds) ≡ endFrom c ds
+cornerAt-end c ds = ap (endFrom c) (take-length ds)

@@ -1,5 +1,6 @@
 -- The tree over the corners: parent, ancestors, child index (01, "The tree").
 -- Assumes nothing.
+use mathlib.Core.Path.{_≡_}
 use mathlib.Core.Bool.{Bool, true, false}
 use mathlib.Core.List.{List, [], _∷_, _++_}
 use Prim.Native.Nat.{ℕ, zero, suc, _+_, _*_, _/_, _%_}
@@ -22,6 +23,11 @@ isRoot c = same c origin
 -- the sum of the magnitudes, which falls from a node to its parent
 abbrev pub sizeOf : Corner → ℕ
 sizeOf c = natAbs (c .0) + natAbs (c .1)
+
+-- a is the i-th parent of c: c itself at level 0, and no node has one past the root
+abbrev pub AncestorAt : ℕ → Corner → Corner → Type 0
+AncestorAt zero c a = a ≡ c
+AncestorAt (suc i) c a = (isRoot c ≡ false) × AncestorAt i (parentOf c) a
 
 -- the parent of a node, its parent, and so on to the root. The first argument bounds how many there are
 abbrev pub ancestorsBy : ℕ → Corner → List Corner

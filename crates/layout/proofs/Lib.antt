@@ -1,2 +1,4 @@
+pub mod TableCases
+pub mod NeighbourLaws
 pub mod ChildLaws
 pub mod IndexLaws

@@ -2,14 +2,14 @@
 -- Assumes nothing.
 use mathlib.Core.Bool.{cond, not, _&&_}
 use mathlib.Core.List.{List, [], _∷_, _++_}
-use Prim.Native.Nat.{ℕ, zero, suc, _+_, _-_, _*_, pred}
+use Prim.Native.Nat.{ℕ, zero, suc, _+_, _-_, _*_}
 use lib.ListN.{length, replicate}
 use lib.Dec.{eqb}
-use Rattle.lists.specs.Lists.{any, find, count}
+use Rattle.lists.specs.Lists.{find, count}
 use Rattle.grid.specs.declared.Corner.{Corner}
 use Rattle.grid.specs.Grid.{same, stepped, cornersFrom}
-use Rattle.grid.specs.Tree.{parentOf, isRoot, pathOf, childWord}
-use Rattle.tree.specs.Nodes.{nodesOf, refOf, linkStepOf}
+use Rattle.grid.specs.Tree.{parentOf, isRoot, childWord}
+use Rattle.tree.specs.Nodes.{nodesOf, refOf, needOf, linkStepOf}
 
 -- words of a record that all walks in a table share, and words of each walk
 abbrev pub sharedWords : ℕ
@@ -41,7 +41,7 @@ recordOf ps ns a =
     ∷ neighbourRefOf ps ns a 0 ∷ neighbourRefOf ps ns a 1 ∷ neighbourRefOf ps ns a 2 ∷ neighbourRefOf ps ns a 3
     ∷ linkStepOf ps a 0 ∷ linkStepOf ps a 1 ∷ linkStepOf ps a 2 ∷ linkStepOf ps a 3
     ∷ count (same a) ps
-    ∷ pred (find (λ p. any (same a) (pathOf p)) ps)
+    ∷ needOf ps a
     ∷ find (same a) ps
     ∷ []
 

@@ -9,6 +9,7 @@ use native.Mathlib.Omega.{arith}
 use lib.ListN.{length, length-append}
 pub use Rattle.lists.specs.Lists.{Distinct}
 use Rattle.lists.specs.Lists.{any, add, gather}
+use Rattle.lists.proofs.ListCases as cases
 
 module _ {A : Type 0} where
   pub distinct-snoc : (s : List A) (x : A) → Distinct s → (List·Memᴰ x s → ⊥) → Distinct (s ++ (x ∷ []))
@@ -120,3 +121,17 @@ module _ {A : Type 0} (eq : A → A → Bool) where
   -- and none is lost
   pub gather-ge : (seen xs : List A) → length seen ≤ length (gather eq seen xs)
   gather-ge seen xs = let h = gather-more eq seen xs in omega (arith, ap length (h .1), length-append seen (h .0))
+
+module _ {A : Type 0} (eq : A → A → Bool) (sound : (x y : A) → eq x y ≡ true → x ≡ y) (equal : (x : A) → eq x x ≡ true) where
+  -- where no element stands twice, all are gathered
+  pub gather-distinct : (seen xs : List A) → Distinct (seen ++ xs) → gather eq seen xs ≡ seen ++ xs
+  gather-distinct seen [] d = sym (append-nil seen)
+  gather-distinct seen (x ∷ xs) d =
+      ⊎-elim
+      (λ h. absurd (seam seen d (any→mem eq sound equal x seen (h .0))))
+      (λ h. rw (h .1) (gather-distinct (seen ++ (x ∷ [])) xs (rw append-assoc d) ∙ append-assoc seen (x ∷ []) xs))
+      (add-cases eq seen x)
+    where
+      seam : (s : List A) → Distinct (s ++ (x ∷ xs)) → List·Memᴰ x s → ⊥
+      seam (y ∷ s) d (List·Memᴰ·head e) = d .0 (Memᴰ·append-right s (List·Memᴰ·head (sym e)))
+      seam (y ∷ s) d (List·Memᴰ·tail m) = seam s (d .1) m

@@ -42,6 +42,11 @@ module _ {A : Type 0} where
   count f [] = 0
   count f (x ∷ xs) = tally (f x) + count f xs
 
+  -- the elements that pass, in order
+  abbrev pub keep : (A → Bool) → List A → List A
+  keep f [] = []
+  keep f (x ∷ xs) = elim (f x) [ true ↦ x ∷ keep f xs | false ↦ keep f xs ]
+
   -- the list, with x at its end unless the test says that it is there already
   abbrev pub unless : Bool → List A → A → List A
   unless true seen x = seen

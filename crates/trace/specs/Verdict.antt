@@ -1,8 +1,9 @@
 -- The verdict on a walk, and the signed area of a room (01, "Corners, panels and words").
 -- Assumes nothing.
+use mathlib.Core.Path.{_≡_}
 use mathlib.Core.Bool.{Bool, true, false, _&&_}
 use mathlib.Core.List.{List, [], _∷_}
-use Prim.Native.Nat.{ℕ, zero, suc}
+use Prim.Native.Nat.{ℕ, zero, suc, _<_}
 use lib.IntN.{ℤ, pos, _+ℤ_, _-ℤ_, _*ℤ_}
 use lib.ListN.{length}
 use lib.Dec.{eqb}
@@ -10,7 +11,7 @@ use Rattle.answer.specs.declared.Verdict.{Verdict}
 use Rattle.answer.specs.declared.Verdict.the-variants.{Nowhere, Open, Room, OpenMeeting, ClosedMeeting}
 use Rattle.grid.specs.declared.Corner.{Corner}
 use Rattle.grid.specs.Grid.{same, stepped, endFrom}
-use Rattle.trace.specs.Meeting.{Meeting, none, meet, meetingOf}
+use Rattle.trace.specs.Meeting.{Meets, Meeting, none, meet, meetingOf}
 
 -- the first meeting is (0,n)
 abbrev pub onlyEnds : ℕ → Meeting → Bool
@@ -31,6 +32,20 @@ verdictBy (suc n) true m = closedBy (onlyEnds (suc n) m)
 
 abbrev pub verdictOf : Corner → List ℕ → Verdict
 verdictOf c ds = verdictBy (length ds) (same (endFrom c ds) c) (meetingOf c ds)
+
+-- a room: closed, with no meeting but (0,n)
+pub record IsRoom (c : Corner) (ds : List ℕ) : Type 0 where
+  pub some : 0 < length ds
+  pub closed : endFrom c ds ≡ c
+  pub only : (j k : ℕ) → Meets c ds j k → (j ≡ 0) × (k ≡ length ds)
+
+-- what each verdict says: 0, no step; 1, open, no meeting; 2, a room; 3, open, some meeting; 4, closed, a meeting other than (0,n)
+abbrev pub VerdictSays : Corner → List ℕ → Verdict → Type 0
+VerdictSays c ds Nowhere = length ds ≡ 0
+VerdictSays c ds Open = (0 < length ds) × (endFrom c ds ≡ c → ⊥) × ((j k : ℕ) → Meets c ds j k → ⊥)
+VerdictSays c ds Room = IsRoom c ds
+VerdictSays c ds OpenMeeting = (0 < length ds) × (endFrom c ds ≡ c → ⊥) × ((j : ℕ) × (k : ℕ) × Meets c ds j k)
+VerdictSays c ds ClosedMeeting = (0 < length ds) × (endFrom c ds ≡ c) × ((j : ℕ) × (k : ℕ) × Meets c ds j k × ((j ≡ 0) × (k ≡ length ds) → ⊥))
 
 -- the sum over the steps of x times the change of y
 abbrev pub sweepFrom : Corner → List ℕ → ℤ

@@ -10,6 +10,7 @@ use Rattle.grid.proofs.CornerLaws.{same-refl, same-sound}
 use Rattle.grid.proofs.StepLaws.{back-small, stepped-inj, stepped-back}
 use Rattle.lists.proofs.GatherLaws.{and-left, and-right, or-cases}
 use Rattle.tree.specs.Nodes.{joins}
+use Rattle.tree.proofs.TreeCases as cases
 
 -- a pair is x and y: the two ways round
 pub joins-cases : (x y a e : Corner) → joins x y (a, e) ≡ true → ((a ≡ x) × (e ≡ y)) ⊎ ((a ≡ y) × (e ≡ x))

@@ -11,11 +11,13 @@ use Rattle.grid.specs.declared.Corner.{Corner}
 use Rattle.grid.specs.Grid.{same, stepped, cornersFrom, endFrom}
 use Rattle.grid.specs.Tree.{parentOf, isRoot, pathOf}
 use Rattle.lists.specs.Lists.{add, gather}
+pub use Rattle.grid.proofs.AncestorLaws.{mem-path}
 use Rattle.grid.proofs.CornerLaws.{same-refl, same-sound}
 use Rattle.grid.proofs.PathLaws.{pathOf-root, pathOf-snoc, tree-ind}
 use Rattle.grid.proofs.StepLaws.{cornersFrom-snoc}
 use Rattle.lists.proofs.GatherLaws.{Distinct, gather-append, gather-more, add-cases, distinct-gather, mem-gather-right}
 use Rattle.tree.specs.Nodes.{pathsOf, nodesOf}
+use Rattle.tree.proofs.TreeCases as cases
 
 pub pathsOf-append : (ps qs : List Corner) → pathsOf (ps ++ qs) ≡ pathsOf ps ++ pathsOf qs
 pathsOf-append [] qs = refl
@@ -44,11 +46,6 @@ rooted-snoc seen (x ∷ s) c r h = (r .0, rooted-snoc (seen ++ (x ∷ [])) s c (
 
 rooted-add : (s : List Corner) (c : Corner) → Rooted [] s → (isRoot c ≡ false → List·Memᴰ (parentOf c) s) → Rooted [] (add same s c)
 rooted-add s c r h = ⊎-elim (λ k. rw (k .1) r) (λ k. rw (k .1) (rooted-snoc [] s c r h)) (add-cases same s c)
-
-pub mem-path : (c : Corner) → List·Memᴰ c (pathOf c)
-mem-path = tree-ind (λ c. List·Memᴰ c (pathOf c))
-    (λ c e. rw (pathOf-root c e) (List·Memᴰ·head refl))
-    (λ c e ih. rw (pathOf-snoc c e) (Memᴰ·append-right (pathOf (parentOf c)) (List·Memᴰ·head refl)))
 
 rooted-path : (c : Corner) (s : List Corner) → Rooted [] s → Rooted [] (gather same s (pathOf c))
 rooted-path = tree-ind (λ c. (s : List Corner) → Rooted [] s → Rooted [] (gather same s (pathOf c)))

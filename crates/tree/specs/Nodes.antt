@@ -1,12 +1,14 @@
 -- The nodes in use in their order, and the links between them (01, "The tree"). ps are the corners p0 to pn.
 -- Assumes nothing.
 use mathlib.Core.Bool.{Bool, _&&_, _||_}
-use mathlib.Core.List.{List, [], _∷_, _++_}
-use Prim.Native.Nat.{ℕ}
+use mathlib.Core.List.{List, [], _∷_, _++_, List·Memᴰ}
+use mathlib.Core.Logic.{_⊎_}
+use Prim.Native.Nat.{ℕ, _<_, pred}
+use lib.ListN.{length, getD}
 use Rattle.lists.specs.Lists.{any, find, gather, zip}
 use Rattle.grid.specs.declared.Corner.{Corner}
-use Rattle.grid.specs.Grid.{same, stepped}
-use Rattle.grid.specs.Tree.{lineageOf, pathOf}
+use Rattle.grid.specs.Grid.{origin, same, stepped}
+use Rattle.grid.specs.Tree.{AncestorAt, lineageOf, pathOf}
 
 -- the paths of a list of corners, each from the root, one after the other
 abbrev pub pathsOf : List Corner → List Corner
@@ -17,9 +19,17 @@ pathsOf (p ∷ ps) = pathOf p ++ pathsOf ps
 abbrev pub nodesOf : List Corner → List Corner
 nodesOf ps = gather same [] (pathsOf ps)
 
+-- what it is to be one: a visited corner, or an ancestor of one
+abbrev pub InUse : List Corner → Corner → Type 0
+InUse ps a = (p : Corner) × List·Memᴰ p ps × ((i : ℕ) × AncestorAt i p a)
+
 -- 1 + the number of a node; 0 if it is none
 abbrev pub refOf : List Corner → Corner → ℕ
 refOf ns a = find (same a) ns
+
+-- the step that first needed a node: the least k with the node on the path of pk; 0 for the root
+abbrev pub needOf : List Corner → Corner → ℕ
+needOf ps a = pred (find (λ p. any (same a) (pathOf p)) ps)
 
 -- the steps, each as its two ends
 abbrev pub legsOf : List Corner → List (Corner × Corner)
@@ -37,3 +47,14 @@ links a b l = any (joins a b) (zip (lineageOf (l .0)) (lineageOf (l .1)))
 -- the least step, counted from 1, that links a to its neighbour in direction d; 0 if none does
 abbrev pub linkStepOf : List Corner → Corner → ℕ → ℕ
 linkStepOf ps a d = find (links a (stepped d a)) (legsOf ps)
+
+-- the i-th parents of p and q are a and b, in either order
+abbrev pub JoinedAt : ℕ → Corner → Corner → Corner → Corner → Type 0
+JoinedAt i p q a b = (AncestorAt i p a × AncestorAt i q b) ⊎ (AncestorAt i p b × AncestorAt i q a)
+
+-- step k, counted from 1, links a and b: at some level i the i-th parents of its two ends are a and b
+pub record LinkedBy (ps : List Corner) (a b : Corner) (k : ℕ) : Type 0 where
+  pub counted : 0 < k
+  pub within : k < length ps
+  pub level : ℕ
+  pub joined : JoinedAt level (getD ps (pred k) origin) (getD ps k origin) a b

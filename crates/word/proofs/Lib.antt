@@ -1,1 +1,5 @@
+pub mod OperationCases
 pub mod SurvivorLaws
+pub mod TurnCases
+pub mod TurnLaws
+pub mod TurnPromiseLaws

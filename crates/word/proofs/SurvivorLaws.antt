@@ -14,6 +14,7 @@ use Rattle.answer.specs.declared.Refusal.the-variants.{BadDigit, NothingToTake,
 use Rattle.lists.specs.Lists.{front, Below}
 use Rattle.answer.proofs.RefusalLaws.{refused-not-good, orElse-good}
 use Rattle.word.specs.Operations.{operate, survivorsFrom, faultOf, after, faultsFrom}
+use Rattle.word.proofs.OperationCases as cases
 
 pub operate-step : (s : List ℕ) (d : ℕ) → d < 4 → operate s d ≡ s ++ (d ∷ [])
 operate-step s d h = rw (ne-eqb d 4 (λ e. omega arith), operate)

@@ -1,5 +1,6 @@
 -- Steps as turns and turns as steps (01, "Turns"), and the refusals of both calls.
 -- Assumes nothing.
+use mathlib.Core.Path.{_≡_}
 use mathlib.Core.Bool.{not}
 use mathlib.Core.List.{List, [], _∷_}
 use Prim.Native.Nat.{ℕ, suc, _+_, _-_, _%_}
@@ -54,3 +55,8 @@ turnsJudged ds room =
 abbrev pub writtenIf : Judged → List ℕ → List ℕ → List ℕ
 writtenIf Good new old = new
 writtenIf (Refused r) new old = old
+
+-- the promise of a conversion, turnsOf or stepsOf: the answer, and what the buffer holds then
+pub record ConvertedBy (convert : List ℕ → List ℕ) (ds out : List ℕ) (r : Judged) (out′ : List ℕ) : Type 0 where
+  pub answer : r ≡ turnsJudged ds (length out)
+  pub buffer : out′ ≡ writtenIf (turnsJudged ds (length out)) (convert ds) out

@@ -1,0 +1,3 @@
+-- The worked walks as a table, and what each of its facts says.
+pub mod HullTest
+pub mod Rows

@@ -1,0 +1,44 @@
+-- Records, marks and chains, computed on small walks.
+-- Assumes nothing.
+use mathlib.Core.List.{List, [], _∷_}
+use mathlib.Core.Path.{_≡_, refl}
+use Prim.Native.Nat.{ℕ}
+use lib.IntN.{pos}
+use lib.ListN.{drop}
+use Rattle.grid.specs.declared.Corner.{Corner}
+use Rattle.grid.specs.Grid.{corner, origin, cornersFrom}
+use Rattle.tree.specs.Nodes.{nodesOf}
+use Rattle.layout.specs.Table.{recordOf, tableOf}
+use Rattle.layout.specs.Marks.{marksOf, chainOf}
+
+-- the record of a node after a walk from the origin
+recordAfter : List ℕ → Corner → List ℕ
+recordAfter ds a = recordOf (cornersFrom origin ds) (nodesOf (cornersFrom origin ds)) a
+
+-- the unvisited (1,1) of 0011: a child in word 5, a link south to (1,0), needed by step 4, never visited
+unvisited-record : recordAfter (0 ∷ 0 ∷ 1 ∷ 1 ∷ []) (corner (pos 1) (pos 1))
+    ≡ 1 ∷ 0 ∷ 0 ∷ 0 ∷ 0 ∷ 6 ∷ 0 ∷ 0 ∷ 0 ∷ 0 ∷ 0 ∷ 0 ∷ 0 ∷ 2 ∷ 0 ∷ 0 ∷ 0 ∷ 4 ∷ 0 ∷ 4 ∷ 0 ∷ []
+unfolding recordAfter
+unvisited-record = refl
+
+-- visited later, it has one visit, was needed by step 4 and first visited at p6
+visited-later : drop 18 (recordAfter (0 ∷ 0 ∷ 1 ∷ 1 ∷ 2 ∷ 3 ∷ []) (corner (pos 1) (pos 1))) ≡ 1 ∷ 4 ∷ 7 ∷ []
+unfolding recordAfter
+visited-later = refl
+
+-- the root of 01223: five children in five words, and a link to the east alone, though the corners north and west are nodes
+root-record : recordAfter (0 ∷ 1 ∷ 2 ∷ 2 ∷ 3 ∷ []) origin
+    ≡ 0 ∷ 0 ∷ 6 ∷ 5 ∷ 0 ∷ 0 ∷ 4 ∷ 0 ∷ 2 ∷ 3 ∷ 2 ∷ 0 ∷ 0 ∷ 0 ∷ 1 ∷ 0 ∷ 0 ∷ 0 ∷ 1 ∷ 0 ∷ 1 ∷ []
+unfolding recordAfter
+root-record = refl
+
+-- one record in use, and zeros after it
+zeros-after : drop 20 (tableOf 25 origin []) ≡ 1 ∷ 0 ∷ 0 ∷ 0 ∷ 0 ∷ []
+zeros-after = refl
+
+-- after 0, 2, 0 and a take-back: nodes, then visits at the corner now stood on
+marks-of-a-take-back : marksOf origin (0 ∷ 2 ∷ 0 ∷ 4 ∷ []) ≡ 2 ∷ 1 ∷ 2 ∷ 2 ∷ 2 ∷ 2 ∷ 2 ∷ 2 ∷ []
+marks-of-a-take-back = refl
+
+chain-of-a-take-back : chainOf (0 ∷ 2 ∷ 1 ∷ 4 ∷ []) ≡ 0 ∷ 2 ∷ 0 ∷ 0 ∷ []
+chain-of-a-take-back = refl

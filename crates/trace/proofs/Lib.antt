@@ -1,0 +1,4 @@
+pub mod TraceCases
+pub mod MeetingLaws
+pub mod VerdictLaws
+pub mod VisitLaws

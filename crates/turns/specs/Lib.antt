@@ -1,0 +1,1 @@
+-- The contracts of turns cite the definitions of word.
