@@ -10,12 +10,15 @@ use answer::{
 
 /// The calls of an implementation, with the answers of the C boundary.
 pub struct Library {
-    pub walk: fn(&[u8], &mut [u32], &mut [u32], &mut [u8], &mut [u32; WALK_ANSWER_WORDS]) -> u32,
+    pub walk: Walk,
     pub hull: fn(&[u8], &mut [i32], &mut [u32; HULL_ANSWER_WORDS]) -> u32,
     pub turns_of_steps: Convert,
     pub steps_of_turns: Convert,
     pub line: fn(&[u8], &mut [u8]) -> usize,
 }
+
+/// The walk of operations in table, marks and chain.
+pub type Walk = fn(&[u8], &mut [u32], &mut [u32], &mut [u8], &mut [u32; WALK_ANSWER_WORDS]) -> u32;
 
 /// A conversion between steps and turns.
 pub type Convert = fn(&[u8], &mut [u8], &mut [u32; TURNS_ANSWER_WORDS]) -> u32;

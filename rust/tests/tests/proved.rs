@@ -5,12 +5,28 @@ use std::process::{Command, Stdio};
 
 use tests::PROVED as LIBRARY;
 
+/// Operations of the longest walks of which all are compared.
+const LONGEST: u32 = 8;
+/// Rounds of random calls.
+const ROUNDS: usize = 2_000;
+
 #[path = "all/mod.rs"]
 mod all;
 
+/// The calls need no more stack than the header says.
+#[test]
+fn stack() {
+    std::thread::Builder::new()
+        .stack_size(512 << 10)
+        .spawn(|| tests::suite::limits(&LIBRARY))
+        .unwrap()
+        .join()
+        .unwrap();
+}
+
 #[test]
 fn program() {
-    tests::suite::program(judge, 40, &mut tests::inputs::Random(5));
+    tests::suite::program(judge, 400, &mut tests::inputs::Random(5));
 }
 
 /// The output of the program for this input.

@@ -2,6 +2,11 @@
 
 use tests::TWIN as LIBRARY;
 
+/// Operations of the longest walks of which all are compared.
+const LONGEST: u32 = 6;
+/// Rounds of random calls.
+const ROUNDS: usize = 200;
+
 #[path = "all/mod.rs"]
 mod all;
 

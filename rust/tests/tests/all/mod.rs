@@ -3,16 +3,16 @@
 use tests::inputs::Random;
 use tests::suite;
 
-use super::LIBRARY;
+use super::{LIBRARY, LONGEST, ROUNDS};
 
 #[test]
 fn short_walks() {
-    suite::short_walks(&LIBRARY);
+    suite::short_walks(&LIBRARY, LONGEST);
 }
 
 #[test]
 fn short_chains() {
-    suite::short_chains(&LIBRARY);
+    suite::short_chains(&LIBRARY, LONGEST + 1);
 }
 
 #[test]
@@ -38,7 +38,7 @@ fn lines() {
 #[test]
 fn random_calls() {
     let mut random = Random(1);
-    for _ in 0..200 {
+    for _ in 0..ROUNDS {
         suite::random_calls(&LIBRARY, &mut random);
     }
 }
