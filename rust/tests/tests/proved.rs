@@ -18,7 +18,10 @@ mod all;
 fn stack() {
     std::thread::Builder::new()
         .stack_size(512 << 10)
-        .spawn(|| tests::suite::limits(&LIBRARY))
+        .spawn(|| {
+            tests::suite::limits(&LIBRARY);
+            tests::suite::lines(&LIBRARY);
+        })
         .unwrap()
         .join()
         .unwrap();

@@ -1,8 +1,9 @@
-//! Random comparisons for as long as is asked: `soak SECONDS [SEED]`. A line every ten seconds says how far it came; the seed
-//! and the round lead back to a failure, since each round begins from both.
+//! Random comparisons for as long as is asked: `soak SECONDS [SEED [ROUND]]`. A line every ten seconds says how far it came.
+//! A round depends on the seed and its own number alone, so that a failure can be looked at again from its round on.
 
-use std::env;
-use std::time::{Duration, Instant};
+use std::panic::catch_unwind;
+use std::time::Instant;
+use std::{env, process};
 
 use tests::inputs::Random;
 use tests::suite;
@@ -13,27 +14,25 @@ use tests::PROVED as LIBRARY;
 use tests::TWIN as LIBRARY;
 
 fn main() {
-    let arguments: Vec<u64> = env::args()
-        .skip(1)
-        .map(|word| word.parse().unwrap())
-        .collect();
-    let [seconds, seed] = match arguments[..] {
-        [seconds] => [seconds, u64::from(std::process::id())],
-        [seconds, seed] => [seconds, seed],
-        _ => panic!("soak SECONDS [SEED]"),
-    };
+    let words = env::args().skip(1);
+    let numbers: Vec<u64> = words.map(|word| word.parse().expect("a number")).collect();
+    let seconds = *numbers.first().expect("soak SECONDS [SEED [ROUND]]");
+    let seed = numbers.get(1).copied().unwrap_or(process::id().into());
+    let first = numbers.get(2).copied().unwrap_or(0);
     let (start, mut told) = (Instant::now(), 0);
-    println!("seed {seed}");
-    for round in 1_u64.. {
-        suite::random_calls(&LIBRARY, &mut Random(seed << 32 | round));
-        let passed = start.elapsed();
-        if passed >= Duration::from_secs(seconds) {
-            println!("{round} rounds agree, seed {seed}");
+    for round in first.. {
+        let passed = start.elapsed().as_secs();
+        if passed >= seconds || passed >= told + 10 {
+            println!("{passed} s: rounds {first} to {round} of seed {seed} agree");
+            told = passed;
+        }
+        if passed >= seconds {
             return;
         }
-        if passed.as_secs() / 10 > told {
-            told = passed.as_secs() / 10;
-            println!("{} s: {round} rounds agree, seed {seed}", passed.as_secs());
+        if catch_unwind(|| suite::random_calls(&LIBRARY, &mut Random(seed << 32 | round))).is_err()
+        {
+            println!("round {round} of seed {seed} does not agree");
+            process::exit(1);
         }
     }
 }
