@@ -95,8 +95,7 @@ extern "C" {
  * magnitude of its x modulo 2: 0 (even) or 1 (odd). j is likewise from y, -1 being south.
  *
  * Two nodes are linked where for some surviving step and some i they are the i-th parents of its two ends, and differ;
- * the 0-th are the ends themselves. So a link need not be a walked edge. Its step is the least such step, counted from
- * 1. */
+ * the 0-th are the ends themselves. So a link need not be a walked edge. Its step is the least such step, from 1 on. */
 #define UNDRWYTH_WORD_PARENT 0             /* ref of the parent */
 #define UNDRWYTH_WORD_CHILD_WEST_SOUTH 1   /* ref of child (-1,-1) */
 #define UNDRWYTH_WORD_CHILD_WEST_EVEN 2    /* ref of child (-1,0) */
@@ -130,8 +129,8 @@ extern "C" {
  * zeros; as 0 is also a step east, cut it at n surviving steps before handing it on. All is as if the surviving steps
  * alone had been walked, but for marks.
  *
- * Refused with 1 to 6: table, marks and chain are as they were. Refused with UNDRWYTH_NO_ROOM: table, marks and chain
- * are wholly zero. */
+ * Refused with 1 to 6: table, marks and chain are as they were.
+ * Refused with UNDRWYTH_NO_ROOM: table, marks and chain are wholly zero. */
 uint32_t undrwyth_walk(const uint8_t *ops, size_t n,
                        uint32_t *table, size_t table_words,
                        uint32_t *marks, size_t marks_words,
@@ -150,8 +149,7 @@ uint32_t undrwyth_hull(const uint8_t *chain, size_t n,
                        int32_t *out, size_t out_numbers,
                        uint32_t answer[UNDRWYTH_HULL_ANSWER_WORDS]);
 
-/* Turns n steps into turns: the first digit is the first step, each later one that step minus the one before, modulo
- * 4.
+/* Turns n steps into turns: the first is the first step, each later one that step minus the one before, modulo 4.
  *
  * out_bytes is n. n may be up to UNDRWYTH_MOST_INPUT_BYTES.
  *

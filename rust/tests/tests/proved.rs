@@ -3,7 +3,10 @@
 use std::io::Write;
 use std::process::{Command, Stdio};
 
+use answer::{Facts, Refusal};
 use tests::PROVED as LIBRARY;
+use tests::inputs::{self, Random};
+use tests::suite;
 
 /// Operations of the longest walks of which all are compared.
 const LONGEST: u32 = 8;
@@ -13,14 +16,45 @@ const ROUNDS: usize = 2_000;
 #[path = "all/mod.rs"]
 mod all;
 
+/// The safe wrapper decodes what the boundary answers.
+#[test]
+fn wrapper() {
+    type Walk = fn(&[u8], &mut [u32], &mut [u32], &mut [u8]) -> Result<Facts, Refusal>;
+    let mut random = Random(2);
+    for _ in 0..2_000 {
+        let ops = inputs::walk(100, &mut random);
+        let n = ops.len();
+        let walked = |walk: Walk| {
+            walk(
+                &ops,
+                &mut [0; 21 * 60],
+                &mut vec![0; 2 * n],
+                &mut vec![0; n],
+            )
+        };
+        assert_eq!(walked(undrwyth::walk), walked(plain::walk));
+        let listed = |hull: fn(&[u8], &mut [i32]) -> _| hull(&ops, &mut [0; 20]);
+        assert_eq!(listed(undrwyth::hull), listed(plain::hull));
+        let turned = |convert: fn(&[u8], &mut [u8]) -> _| convert(&ops, &mut vec![0; n]);
+        assert_eq!(
+            turned(undrwyth::turns_of_steps),
+            turned(plain::turns_of_steps)
+        );
+        assert_eq!(
+            turned(undrwyth::steps_of_turns),
+            turned(plain::steps_of_turns)
+        );
+    }
+}
+
 /// The calls need no more stack than the header says.
 #[test]
 fn stack() {
     std::thread::Builder::new()
         .stack_size(512 << 10)
         .spawn(|| {
-            tests::suite::limits(&LIBRARY);
-            tests::suite::lines(&LIBRARY);
+            suite::limits(&LIBRARY);
+            suite::lines(&LIBRARY);
         })
         .unwrap()
         .join()
@@ -29,7 +63,7 @@ fn stack() {
 
 #[test]
 fn program() {
-    tests::suite::program(judge, 400, &mut tests::inputs::Random(5));
+    suite::program(judge, 400, &mut Random(5));
 }
 
 /// The output of the program for this input.

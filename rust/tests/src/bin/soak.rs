@@ -23,7 +23,7 @@ fn main() {
     for round in first.. {
         let passed = start.elapsed().as_secs();
         if passed >= seconds || passed >= told + 10 {
-            println!("{passed} s: rounds {first} to {round} of seed {seed} agree");
+            println!("{passed} s: seed {seed}, all rounds from {first} to before {round} agree");
             told = passed;
         }
         if passed >= seconds {
