@@ -56,12 +56,8 @@ fn visits(ops: &[u8]) -> HashMap<(i32, i32), u32> {
 }
 
 fn stepped((x, y): (i32, i32), step: u8) -> (i32, i32) {
-    match step {
-        0 => (x + 1, y),
-        1 => (x, y + 1),
-        2 => (x - 1, y),
-        _ => (x, y - 1),
-    }
+    let (east, north) = [(1, 0), (0, 1), (-1, 0), (0, -1)][usize::from(step)];
+    (x + east, y + north)
 }
 
 /// Each hull, in a buffer that is always large enough.

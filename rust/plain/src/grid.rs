@@ -8,12 +8,8 @@ pub const ROOT: Corner = (0, 0);
 
 /// One step on: 0 east, 1 north, 2 west, 3 south.
 pub fn stepped((x, y): Corner, step: u8) -> Corner {
-    match step {
-        0 => (x + 1, y),
-        1 => (x, y + 1),
-        2 => (x - 1, y),
-        _ => (x, y - 1),
-    }
+    let (east, north) = [(1, 0), (0, 1), (-1, 0), (0, -1)][usize::from(step)];
+    (x + east, y + north)
 }
 
 /// p0 to pn of the walk of these steps.

@@ -54,15 +54,11 @@ pub fn hull_list(chain: &[u8]) -> Vec<Corner> {
 
 /// The westmost x, and the lowest and highest y of each column from there on.
 fn columns(chain: &[u8]) -> (i32, Vec<(i32, i32)>) {
-    let (mut x, mut west, mut east) = (0, 0, 0);
+    let (mut at, mut west, mut east) = (ROOT, 0, 0);
     for &step in chain {
-        match step {
-            0 => x += 1,
-            2 => x -= 1,
-            _ => continue,
-        }
-        west = west.min(x);
-        east = east.max(x);
+        at = at.stepped(step);
+        west = at.x.min(west);
+        east = at.x.max(east);
     }
     let mut columns = vec![(i32::MAX, i32::MIN); (east - west + 1) as usize];
     let mut at = ROOT;

@@ -17,14 +17,15 @@ pub struct Corner {
 
 pub const ROOT: Corner = Corner { x: 0, y: 0 };
 
+/// The change of x and y by each step.
+pub const STEPS: [(i32, i32); 4] = [(1, 0), (0, 1), (-1, 0), (0, -1)];
+
 impl Corner {
     pub fn stepped(self, way: u8) -> Corner {
-        let Corner { x, y } = self;
-        match way {
-            0 => Corner { x: x + 1, y },
-            1 => Corner { x, y: y + 1 },
-            2 => Corner { x: x - 1, y },
-            _ => Corner { x, y: y - 1 },
+        let (east, north) = STEPS[usize::from(way)];
+        Corner {
+            x: self.x + east,
+            y: self.y + north,
         }
     }
 

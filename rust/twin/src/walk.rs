@@ -2,7 +2,7 @@
 
 use answer::{Facts, MOST_INPUT, MOST_RECORDS, MOST_STEPS, RECORD_WORDS, Refusal, Verdict};
 
-use crate::tree::{Corner, ROOT, Tree, back};
+use crate::tree::{Corner, ROOT, STEPS, Tree, back};
 
 /// Judges the walk of `ops` and fills the three buffers.
 pub fn walk(
@@ -145,12 +145,9 @@ impl<'a> Walk<'a> {
 fn area(steps: &[u8]) -> i32 {
     let (mut x, mut area) = (0, 0);
     for &step in steps {
-        match step {
-            0 => x += 1,
-            1 => area += x,
-            2 => x -= 1,
-            _ => area -= x,
-        }
+        let (east, north) = STEPS[usize::from(step)];
+        area += x * north;
+        x += east;
     }
     area
 }
