@@ -1,0 +1,183 @@
+/* undrwyth.h: the judge of a surveyor's walk, for C.
+ *
+ * A surveyor walks along the edges of square floor panels, from corner (0,0). The record is a byte string of
+ * operations: bytes 0 to 4, not characters. A step 0 goes east (+1,0), 1 north (0,+1), 2 west (-1,0), 3 south (0,-1);
+ * operation 4 takes the last surviving step back. With n surviving steps the corners of the walk are p0 to pn.
+ *
+ * The caller lends every buffer. No call allocates, keeps a pointer, or holds state between calls: calls on different
+ * buffers may run at once. Buffers of one call must not overlap. A pointer may be null where the length beside it is
+ * 0; an answer is never null. Every byte string and every length is taken: what is wrong is refused.
+ *
+ * A call gives the number of its refusal, 0 if it is accepted, and writes its answer whole either way. A refused
+ * answer holds number and place, and 0 in its other words; an accepted one holds 0 for both. Places count from 0 in
+ * the input; a refusal without a place has place 0. Signed values stand in the 32-bit words of an answer in two's
+ * complement.
+ *
+ * Link with libembed.a. The calls need less than 512 KB of stack.
+ */
+#ifndef UNDRWYTH_H
+#define UNDRWYTH_H
+
+#include <stddef.h>
+#include <stdint.h>
+
+#ifdef __cplusplus
+extern "C" {
+#endif
+
+/* Limits. */
+#define UNDRWYTH_MOST_INPUT_BYTES 32768    /* operations, steps or turns in a call */
+#define UNDRWYTH_MOST_STEPS 16384          /* surviving steps, at any moment */
+#define UNDRWYTH_MOST_RECORDS 131080       /* records in a table */
+#define UNDRWYTH_MOST_LINE_DIGITS 1024     /* operations or turns in a frame of the line program */
+#define UNDRWYTH_LINE_RECORDS 390          /* records of the table in which a frame is walked */
+
+/* Lengths of buffers. */
+#define UNDRWYTH_RECORD_WORDS 21           /* table words a record */
+#define UNDRWYTH_MARK_WORDS 2              /* marks words an operation */
+#define UNDRWYTH_CORNER_NUMBERS 2          /* numbers a hull corner: x, y */
+#define UNDRWYTH_LINE_BYTES 8240           /* bytes of a buffer that holds the answer to any line */
+
+/* Refusals, in the order in which they are looked for: 1, 2, 3; then 4, 5, 6 at the first faulty place; then 7, at its
+ * first place; 8 last. */
+#define UNDRWYTH_ACCEPTED 0
+#define UNDRWYTH_TOO_MANY 1                /* more than UNDRWYTH_MOST_INPUT_BYTES input bytes */
+#define UNDRWYTH_TABLE 2                   /* words not UNDRWYTH_RECORD_WORDS times 1 to UNDRWYTH_MOST_RECORDS */
+#define UNDRWYTH_RESULT_ROOM 3             /* a result buffer has not the length that the input asks */
+#define UNDRWYTH_BAD_DIGIT 4               /* a byte above 4; in hull and turns, above 3. Has a place */
+#define UNDRWYTH_NOTHING_TO_TAKE 5         /* operation 4 with no surviving step. Has a place */
+#define UNDRWYTH_TOO_LONG 6                /* a step beyond UNDRWYTH_MOST_STEPS surviving. Has a place */
+#define UNDRWYTH_NO_ROOM 7                 /* after this operation the nodes needed exceed the records. Has a place */
+#define UNDRWYTH_HULL_ROOM 8               /* a buffer shorter than twice the hull corners */
+#define UNDRWYTH_BAD_LINE 9                /* no frame; in answers of undrwyth_line alone */
+
+/* Words of the answer to a walk. The first meeting is the j < k with pj = pk and the least k. */
+#define UNDRWYTH_WALK_ANSWER_WORDS 11
+#define UNDRWYTH_WALK_NUMBER 0             /* the refusal's number */
+#define UNDRWYTH_WALK_PLACE 1              /* the refusal's place */
+#define UNDRWYTH_WALK_VERDICT 2            /* a verdict, below */
+#define UNDRWYTH_WALK_STEPS 3              /* n, the surviving steps */
+#define UNDRWYTH_WALK_NODES 4              /* nodes in use */
+#define UNDRWYTH_WALK_CORNERS 5            /* different corners among p0 to pn */
+#define UNDRWYTH_WALK_J 6                  /* j of the first meeting, UNDRWYTH_NO_MEETING if there is none */
+#define UNDRWYTH_WALK_K 7                  /* k of the first meeting, UNDRWYTH_NO_MEETING if there is none */
+#define UNDRWYTH_WALK_AREA 8               /* signed: the area of a room, above 0 counterclockwise; else 0 */
+#define UNDRWYTH_WALK_LAST_X 9             /* signed: x of pn */
+#define UNDRWYTH_WALK_LAST_Y 10            /* signed: y of pn */
+
+#define UNDRWYTH_NO_MEETING 65535
+
+/* Verdicts. A walk is closed if pn = p0. */
+#define UNDRWYTH_NOWHERE 0                 /* n is 0 */
+#define UNDRWYTH_OPEN 1                    /* open, no meeting */
+#define UNDRWYTH_ROOM 2                    /* closed, no meeting but (0,n) */
+#define UNDRWYTH_OPEN_MEETING 3            /* open, some meeting */
+#define UNDRWYTH_CLOSED_MEETING 4          /* closed, a meeting other than (0,n) */
+
+/* Words of the answer to a hull. */
+#define UNDRWYTH_HULL_ANSWER_WORDS 3
+#define UNDRWYTH_HULL_NUMBER 0             /* the refusal's number */
+#define UNDRWYTH_HULL_PLACE 1              /* the refusal's place */
+#define UNDRWYTH_HULL_COUNT 2              /* how many hull corners */
+
+/* Words of the answer to a conversion between steps and turns. */
+#define UNDRWYTH_TURNS_ANSWER_WORDS 2
+#define UNDRWYTH_TURNS_NUMBER 0            /* the refusal's number */
+#define UNDRWYTH_TURNS_PLACE 1             /* the refusal's place */
+
+/* Words of a record. Node r has the words from UNDRWYTH_RECORD_WORDS * r on of the table.
+ *
+ * The nodes are the visited corners and all their ancestors. The parent of (x,y) halves the magnitude of each
+ * coordinate, rounds down and keeps the sign; the root (0,0), node 0, has none. Nodes are numbered in the order of the
+ * step that first needs them, within one step nearer the root first. A ref is a node number plus 1, and 0 is none.
+ *
+ * Child (i,j) of a node stands at word 1 + 3(i+1) + (j+1). i is -1 (west) if the child's x is -1, otherwise the
+ * magnitude of its x modulo 2: 0 (even) or 1 (odd). j is likewise from y, -1 being south.
+ *
+ * Two nodes are linked where for some surviving step and some i they are the i-th parents of its two ends, and differ;
+ * the 0-th are the ends themselves. So a link need not be a walked edge. Its step is the least such step, from 1 on. */
+#define UNDRWYTH_WORD_PARENT 0             /* ref of the parent */
+#define UNDRWYTH_WORD_CHILD_WEST_SOUTH 1   /* ref of child (-1,-1) */
+#define UNDRWYTH_WORD_CHILD_WEST_EVEN 2    /* ref of child (-1,0) */
+#define UNDRWYTH_WORD_CHILD_WEST_ODD 3     /* ref of child (-1,1) */
+#define UNDRWYTH_WORD_CHILD_EVEN_SOUTH 4   /* ref of child (0,-1) */
+#define UNDRWYTH_WORD_CHILD_EVEN_EVEN 5    /* ref of child (0,0) */
+#define UNDRWYTH_WORD_CHILD_EVEN_ODD 6     /* ref of child (0,1) */
+#define UNDRWYTH_WORD_CHILD_ODD_SOUTH 7    /* ref of child (1,-1) */
+#define UNDRWYTH_WORD_CHILD_ODD_EVEN 8     /* ref of child (1,0) */
+#define UNDRWYTH_WORD_CHILD_ODD_ODD 9      /* ref of child (1,1) */
+#define UNDRWYTH_WORD_LINK_EAST 10         /* ref of the linked neighbour east */
+#define UNDRWYTH_WORD_LINK_NORTH 11        /* ref of the linked neighbour north */
+#define UNDRWYTH_WORD_LINK_WEST 12         /* ref of the linked neighbour west */
+#define UNDRWYTH_WORD_LINK_SOUTH 13        /* ref of the linked neighbour south */
+#define UNDRWYTH_WORD_STEP_EAST 14         /* step of the link east, 0 if none */
+#define UNDRWYTH_WORD_STEP_NORTH 15        /* step of the link north, 0 if none */
+#define UNDRWYTH_WORD_STEP_WEST 16         /* step of the link west, 0 if none */
+#define UNDRWYTH_WORD_STEP_SOUTH 17        /* step of the link south, 0 if none */
+#define UNDRWYTH_WORD_VISITS 18            /* how many of p0 to pn are here; 0 where only the tree needs the node */
+#define UNDRWYTH_WORD_NEED 19              /* the step that first needed the node, 0 for the root */
+#define UNDRWYTH_WORD_FIRST 20             /* 1 + the least k with pk here, 0 if unvisited */
+
+/* Judges the walk of the n operations in ops.
+ *
+ * table_words is UNDRWYTH_RECORD_WORDS times the number of records, 1 to UNDRWYTH_MOST_RECORDS; eight records for each
+ * different corner that the walk touches at a moment are always enough. marks_words is 2 * n. chain_bytes is n. The
+ * contents of the three buffers before the call do not matter.
+ *
+ * Accepted: table holds the records of the nodes in use, and then zeros. marks holds for each operation, at its place,
+ * the nodes in use after it and then the visits at the corner then stood on. chain holds the surviving steps, and then
+ * zeros; as 0 is also a step east, cut it at n surviving steps before handing it on. All is as if the surviving steps
+ * alone had been walked, but for marks.
+ *
+ * Refused with 1 to 6: table, marks and chain are as they were.
+ * Refused with UNDRWYTH_NO_ROOM: table, marks and chain are wholly zero. */
+uint32_t undrwyth_walk(const uint8_t *ops, size_t n,
+                       uint32_t *table, size_t table_words,
+                       uint32_t *marks, size_t marks_words,
+                       uint8_t *chain, size_t chain_bytes,
+                       uint32_t answer[UNDRWYTH_WALK_ANSWER_WORDS]);
+
+/* Lists the corners of the convex hull of p0 to pn of the walk of the n steps in chain.
+ *
+ * out_numbers is at least twice the hull corners; any length is taken, 2 * n + 2 is always enough.
+ *
+ * Accepted: out begins with x, y of each hull corner, counterclockwise from the lowest of the leftmost, no three in a
+ * line (one corner gives one, a walk along one line its two ends); the numbers after them are as they were.
+ *
+ * Refused with 1, 4, 6 or 8: out is as it was. A step at place UNDRWYTH_MOST_STEPS is 6 (a bad byte there is 4). */
+uint32_t undrwyth_hull(const uint8_t *chain, size_t n,
+                       int32_t *out, size_t out_numbers,
+                       uint32_t answer[UNDRWYTH_HULL_ANSWER_WORDS]);
+
+/* Turns n steps into turns: the first is the first step, each later one that step minus the one before, modulo 4.
+ *
+ * out_bytes is n. n may be up to UNDRWYTH_MOST_INPUT_BYTES.
+ *
+ * Accepted: out holds the turns. Refused with 1, 3 or 4: out is as it was. */
+uint32_t undrwyth_turns_of_steps(const uint8_t *steps, size_t n,
+                                 uint8_t *out, size_t out_bytes,
+                                 uint32_t answer[UNDRWYTH_TURNS_ANSWER_WORDS]);
+
+/* Turns n turns into steps: the inverse of undrwyth_turns_of_steps, with the same lengths, refusals and buffers. */
+uint32_t undrwyth_steps_of_turns(const uint8_t *turns, size_t n,
+                                 uint8_t *out, size_t out_bytes,
+                                 uint32_t answer[UNDRWYTH_TURNS_ANSWER_WORDS]);
+
+/* Answers one line of the line program; neither the line nor its answer has a line feed.
+ *
+ * A frame is lower-case hexadecimal: kind (2 digits: 00 operations, 01 turns), count (4 digits, at most 0400), then
+ * one digit an operation or turn. Any n bytes are taken. out_bytes is at least UNDRWYTH_LINE_BYTES.
+ *
+ * The result is the length of the answer, which begins out; the bytes after it are as they were. An accepted frame
+ * gives, in lower-case hexadecimal, verdict (2 digits), n (4), nodes (8), different corners (4), j (4), k (4), area
+ * (8), hull count (4) and then x and y of each hull corner (4 each), negatives in two's complement. A refused one
+ * gives 80 plus the refusal's number (2) and the place (8); what is no frame is UNDRWYTH_BAD_LINE.
+ *
+ * If out_bytes is less than UNDRWYTH_LINE_BYTES, the result is 0 and out is as it was. */
+size_t undrwyth_line(const uint8_t *line, size_t n, uint8_t *out, size_t out_bytes);
+
+#ifdef __cplusplus
+}
+#endif
+
+#endif

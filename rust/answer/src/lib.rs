@@ -1,0 +1,136 @@
+//! What the calls answer, and their limits: the types that every implementation shares.
+
+/// Input bytes at most.
+pub const MOST_INPUT: usize = 32_768;
+/// Surviving steps at most, at any moment.
+pub const MOST_STEPS: usize = 16_384;
+/// Words in a record.
+pub const RECORD_WORDS: usize = 21;
+/// Records in a table at most.
+pub const MOST_RECORDS: usize = 131_080;
+/// j and k where there is no meeting.
+pub const NO_MEETING: u32 = 65_535;
+/// Operations or turns in a line at most.
+pub const MOST_LINE_DIGITS: usize = 1_024;
+/// Records of the table in which a line is walked.
+pub const LINE_RECORDS: usize = 390;
+/// Bytes of a buffer that holds the answer to any line.
+pub const LINE_BYTES: usize = 8_240;
+/// Words of the answer to a walk at the C boundary: number, place, verdict, n, nodes, different corners, j, k, area, last x,
+/// last y.
+pub const WALK_ANSWER_WORDS: usize = 11;
+/// Words of the answer to a hull: number, place, count.
+pub const HULL_ANSWER_WORDS: usize = 3;
+/// Words of the answer to a conversion between steps and turns: number, place.
+pub const TURNS_ANSWER_WORDS: usize = 2;
+
+/// Why a call is refused; a place counts from 0 in the input.
+#[derive(Clone, Copy, Debug, PartialEq, Eq)]
+pub enum Refusal {
+    /// More than [`MOST_INPUT`] bytes.
+    TooMany,
+    /// The table's words are not [`RECORD_WORDS`] times 1 to [`MOST_RECORDS`].
+    Table,
+    /// A result buffer has not the length that the input asks.
+    ResultRoom,
+    /// A byte above 4; in hull and turns, above 3.
+    BadDigit(u32),
+    /// Operation 4 with no surviving step.
+    NothingToTake(u32),
+    /// A step that would survive as one more than [`MOST_STEPS`].
+    TooLong(u32),
+    /// After this operation the nodes needed exceed the records.
+    NoRoom(u32),
+    /// The buffer is shorter than twice the hull corners.
+    HullRoom,
+    /// No frame of the line program.
+    BadLine,
+}
+
+impl Refusal {
+    /// The refusal with this number and place; none has another number.
+    pub fn of(number: u32, place: u32) -> Option<Refusal> {
+        Some(match number {
+            1 => Refusal::TooMany,
+            2 => Refusal::Table,
+            3 => Refusal::ResultRoom,
+            4 => Refusal::BadDigit(place),
+            5 => Refusal::NothingToTake(place),
+            6 => Refusal::TooLong(place),
+            7 => Refusal::NoRoom(place),
+            8 => Refusal::HullRoom,
+            9 => Refusal::BadLine,
+            _ => return None,
+        })
+    }
+
+    /// The number, 1 to 9.
+    pub fn number(self) -> u32 {
+        match self {
+            Refusal::TooMany => 1,
+            Refusal::Table => 2,
+            Refusal::ResultRoom => 3,
+            Refusal::BadDigit(_) => 4,
+            Refusal::NothingToTake(_) => 5,
+            Refusal::TooLong(_) => 6,
+            Refusal::NoRoom(_) => 7,
+            Refusal::HullRoom => 8,
+            Refusal::BadLine => 9,
+        }
+    }
+
+    /// The place, 0 where the refusal has none.
+    pub fn place(self) -> u32 {
+        match self {
+            Refusal::BadDigit(place)
+            | Refusal::NothingToTake(place)
+            | Refusal::TooLong(place)
+            | Refusal::NoRoom(place) => place,
+            _ => 0,
+        }
+    }
+}
+
+/// What the surviving steps make of the walk.
+#[derive(Clone, Copy, Debug, PartialEq, Eq)]
+#[repr(u32)]
+pub enum Verdict {
+    /// No step survives.
+    Nowhere = 0,
+    /// Open, no meeting.
+    Open = 1,
+    /// Closed, no meeting but that of start and end.
+    Room = 2,
+    /// Open, some meeting.
+    OpenMeeting = 3,
+    /// Closed, a meeting other than that of start and end.
+    ClosedMeeting = 4,
+}
+
+impl Verdict {
+    /// The verdict with this number.
+    pub fn of(number: u32) -> Option<Verdict> {
+        use Verdict::*;
+        [Nowhere, Open, Room, OpenMeeting, ClosedMeeting]
+            .into_iter()
+            .find(|&verdict| verdict as u32 == number)
+    }
+}
+
+/// The facts of an accepted walk.
+#[derive(Clone, Copy, Debug, PartialEq, Eq)]
+pub struct Facts {
+    pub verdict: Verdict,
+    /// n, the number of surviving steps.
+    pub steps: u32,
+    /// Nodes in use.
+    pub nodes: u32,
+    /// Different corners among p0 to pn.
+    pub corners: u32,
+    /// j and k of the first meeting.
+    pub meeting: Option<(u32, u32)>,
+    /// The signed area of a room, 0 for the other verdicts.
+    pub area: i32,
+    /// x and y of pn.
+    pub last: (i32, i32),
+}

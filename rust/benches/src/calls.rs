@@ -1,0 +1,89 @@
+//! The calls that race, each on several inputs one after the other. The buffers are ready; what a call does to them, the
+//! clearing of the table included, is timed.
+
+use std::collections::HashMap;
+use std::hint::black_box;
+
+use answer::{Facts, RECORD_WORDS, Refusal};
+use tests::inputs::most_nodes;
+
+use crate::race::Call;
+
+/// Each walk in the least table that has room.
+pub fn walk(
+    walk: impl Fn(&[u8], &mut [u32], &mut [u32], &mut [u8]) -> Result<Facts, Refusal> + 'static,
+    inputs: &[Vec<u8>],
+) -> Call<'_> {
+    let lent = |ops: &Vec<u8>| {
+        let table = vec![0; RECORD_WORDS * most_nodes(ops)];
+        (table, vec![0; 2 * ops.len()], vec![0; ops.len()])
+    };
+    let mut buffers: Vec<_> = inputs.iter().map(lent).collect();
+    Box::new(move || {
+        for (ops, (table, marks, chain)) in inputs.iter().zip(&mut buffers) {
+            let answer = walk(black_box(ops), table, marks, chain);
+            black_box(answer.expect("there is room"));
+        }
+    })
+}
+
+/// The visits of each corner, in a map of the standard library, without table, marks or verdict.
+pub fn count_visits(inputs: &[Vec<u8>]) -> Call<'_> {
+    Box::new(move || {
+        for ops in inputs {
+            black_box(visits(black_box(ops)));
+        }
+    })
+}
+
+fn visits(ops: &[u8]) -> HashMap<(i32, i32), u32> {
+    let mut visits = HashMap::with_capacity(ops.len() + 1);
+    let mut steps = Vec::with_capacity(ops.len());
+    let mut at = (0, 0);
+    visits.insert(at, 1);
+    for &op in ops {
+        if op < 4 {
+            steps.push(op);
+            at = stepped(at, op);
+            *visits.entry(at).or_default() += 1;
+        } else {
+            *visits.get_mut(&at).expect("it was visited") -= 1;
+            let step: u8 = steps.pop().expect("it was made");
+            at = stepped(at, (step + 2) % 4);
+        }
+    }
+    visits
+}
+
+fn stepped((x, y): (i32, i32), step: u8) -> (i32, i32) {
+    let (east, north) = [(1, 0), (0, 1), (-1, 0), (0, -1)][usize::from(step)];
+    (x + east, y + north)
+}
+
+/// Each hull, in a buffer that is always large enough.
+pub fn hull(
+    hull: impl Fn(&[u8], &mut [i32]) -> Result<usize, Refusal> + 'static,
+    inputs: &[Vec<u8>],
+) -> Call<'_> {
+    let mut out = vec![0; 2 * inputs[0].len() + 2];
+    Box::new(move || {
+        for chain in inputs {
+            let answer = hull(black_box(chain), &mut out);
+            black_box(answer.expect("there is room"));
+        }
+    })
+}
+
+/// Each conversion between steps and turns.
+pub fn convert(
+    convert: impl Fn(&[u8], &mut [u8]) -> Result<(), Refusal> + 'static,
+    inputs: &[Vec<u8>],
+) -> Call<'_> {
+    let mut out = vec![0; inputs[0].len()];
+    Box::new(move || {
+        for digits in inputs {
+            convert(black_box(digits), &mut out).expect("the digits are good");
+            black_box(&out);
+        }
+    })
+}

@@ -1,0 +1,107 @@
+//! The proved library and program beside plain Rust: docs/BENCHMARKS.md says what is measured and what the figures mean.
+
+mod calls;
+mod programs;
+mod race;
+
+use calls::{convert, count_visits, hull, walk};
+use race::race;
+use tests::inputs::{self, Random};
+
+/// Operations that a contestant does at each call, on as many inputs as that takes.
+const OPERATIONS: usize = 16_384;
+/// Operations of one input.
+const SIZES: [usize; 3] = [64, 1_024, 16_384];
+
+/// Inputs of n operations each; no two of a random kind are the same.
+fn several(n: usize, mut one: impl FnMut(&mut Random) -> Vec<u8>) -> Vec<Vec<u8>> {
+    let mut random = Random(1);
+    (0..OPERATIONS / n).map(|_| one(&mut random)).collect()
+}
+
+/// Walks of n steps, by the name of their shape.
+fn chains(n: usize) -> Vec<(&'static str, Vec<Vec<u8>>)> {
+    vec![
+        ("spiral", several(n, |_| inputs::spiral(n))),
+        ("comb", several(n, |_| inputs::comb(n, 30))),
+        ("room", several(n, |random| inputs::room(n, random))),
+        ("random", several(n, |random| inputs::wander(n, random))),
+        ("straight", several(n, |_| inputs::straight(n, 0))),
+    ]
+}
+
+/// Seconds of a call as nanoseconds an operation.
+fn ns(seconds: f64) -> f64 {
+    1e9 * seconds / OPERATIONS as f64
+}
+
+fn main() {
+    println!("\nwalk, ns an operation");
+    walks();
+    println!("\nhull, ns a step");
+    hulls();
+    println!("\nturns, ns a digit");
+    turns();
+    println!("\nline program, MB/s of input");
+    programs::print();
+    println!("\ngrowth: one walk of 16384 steps and two of 8192, ns a step");
+    growth();
+}
+
+fn walks() {
+    for n in SIZES {
+        let taken_back = several(n, |random| inputs::hesitant(n, 45, 0, random));
+        for (shape, inputs) in [chains(n), vec![("taken-back", taken_back)]].concat() {
+            race(vec![
+                ("proved", walk(undrwyth::walk, &inputs)),
+                ("twin", walk(twin::walk, &inputs)),
+                ("map", count_visits(&inputs)),
+            ])
+            .print(&format!("walk/{shape}/{n}"), ns);
+        }
+    }
+}
+
+fn hulls() {
+    for n in SIZES {
+        for (shape, inputs) in chains(n) {
+            race(vec![
+                ("proved", hull(undrwyth::hull, &inputs)),
+                ("columns", hull(twin::hull, &inputs)),
+                ("sort", hull(plain::hull, &inputs)),
+            ])
+            .print(&format!("hull/{shape}/{n}"), ns);
+        }
+    }
+}
+
+fn turns() {
+    for n in SIZES {
+        let inputs = several(n, |random| inputs::wander(n, random));
+        race(vec![
+            ("proved", convert(undrwyth::turns_of_steps, &inputs)),
+            ("twin", convert(twin::turns_of_steps, &inputs)),
+        ])
+        .print(&format!("turns-of-steps/{n}"), ns);
+        race(vec![
+            ("proved", convert(undrwyth::steps_of_turns, &inputs)),
+            ("twin", convert(twin::steps_of_turns, &inputs)),
+        ])
+        .print(&format!("steps-of-turns/{n}"), ns);
+    }
+}
+
+fn growth() {
+    for ((shape, long), (_, short)) in chains(16_384).into_iter().zip(chains(8_192)) {
+        race(vec![
+            ("16384", walk(undrwyth::walk, &long)),
+            ("8192", walk(undrwyth::walk, &short)),
+        ])
+        .print(&format!("growth-walk/{shape}"), ns);
+        race(vec![
+            ("16384", hull(undrwyth::hull, &long)),
+            ("8192", hull(undrwyth::hull, &short)),
+        ])
+        .print(&format!("growth-hull/{shape}"), ns);
+    }
+}

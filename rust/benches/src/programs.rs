@@ -1,0 +1,69 @@
+//! The line program as a process: its start, its reading from a file and its writing are timed.
+
+use std::fs::{self, File};
+use std::path::{Path, PathBuf};
+use std::process::{Command, Stdio};
+use std::{env, process};
+
+use tests::inputs::{self, Random};
+
+use crate::race::{Call, race};
+
+/// Frames of n digits: rooms, random walks and walks with take-backs as operations, and random turns.
+fn frames(count: usize, n: usize) -> Vec<u8> {
+    let mut random = Random(5);
+    let mut input = Vec::new();
+    for i in 0..count {
+        let (kind, digits) = match i % 4 {
+            0 => (0, inputs::room(n, &mut random)),
+            1 => (0, inputs::wander(n, &mut random)),
+            2 => (0, inputs::hesitant(n, 30, 0, &mut random)),
+            _ => (1, inputs::wander(n, &mut random)),
+        };
+        input.extend(inputs::frame(kind, &digits));
+        input.push(b'\n');
+    }
+    input
+}
+
+/// A run of the program on the file.
+fn run<'a>(program: &'a Path, input: &'a Path) -> Call<'a> {
+    Box::new(move || {
+        let status = Command::new(program)
+            .stdin(File::open(input).expect("it was written"))
+            .stdout(Stdio::null())
+            .status();
+        assert!(status.expect("the program is there").success());
+    })
+}
+
+/// What the program writes for the file.
+fn output(program: &Path, input: &Path) -> Vec<u8> {
+    let output = Command::new(program)
+        .stdin(File::open(input).expect("it was written"))
+        .output();
+    output.expect("the program is there").stdout
+}
+
+/// Prints the rows of the line program.
+pub fn print() {
+    let judge = PathBuf::from(concat!(
+        env!("CARGO_MANIFEST_DIR"),
+        "/../../target/bin/judge"
+    ));
+    let twin = env::current_exe()
+        .expect("it is running")
+        .with_file_name("judge_plain");
+    let file = env::temp_dir().join(format!("undrwyth-frames-{}", process::id()));
+    for (count, n) in [(20_000, 64), (5_000, 256)] {
+        let input = frames(count, n);
+        fs::write(&file, &input).expect("the temporary folder takes a file");
+        assert!(output(&judge, &file) == output(&twin, &file));
+        race(vec![
+            ("proved", run(&judge, &file)),
+            ("twin", run(&twin, &file)),
+        ])
+        .print(&format!("line/{n}"), |s| input.len() as f64 / 1e6 / s);
+    }
+    fs::remove_file(&file).expect("it was written");
+}

@@ -1,0 +1,14 @@
+//! The rules of the walk, the hull, the turns and the line program, said again with sets, maps and sorting. It shares no
+//! idea with the proved library but the rules, so that a slip in one shows in a comparison with the other.
+
+mod grid;
+mod hull;
+mod line;
+mod record;
+mod turns;
+mod walk;
+
+pub use hull::hull;
+pub use line::{line, program};
+pub use turns::{steps_of_turns, turns_of_steps};
+pub use walk::walk;

@@ -1,0 +1,88 @@
+//! The line program.
+
+use answer::{
+    Facts, LINE_BYTES, LINE_RECORDS, MOST_LINE_DIGITS, NO_MEETING, RECORD_WORDS, Refusal,
+};
+
+use crate::grid::{Corner, corners};
+use crate::hull::hull_list;
+use crate::turns::steps_of_turns;
+use crate::walk::walk;
+
+/// Writes the answer to one line, both without line feed, and answers its length; writes nothing where `out` is shorter than
+/// the longest answer may be.
+pub fn line(line: &[u8], out: &mut [u8]) -> usize {
+    if out.len() < LINE_BYTES {
+        return 0;
+    }
+    let answer = answer(line);
+    out[..answer.len()].copy_from_slice(answer.as_bytes());
+    answer.len()
+}
+
+/// The whole output for the whole input: a line for each line, the last with or without its line feed.
+pub fn program(input: &[u8]) -> Vec<u8> {
+    let mut output = Vec::new();
+    for line in input.split_inclusive(|&byte| byte == b'\n') {
+        let line = line.strip_suffix(b"\n").unwrap_or(line);
+        output.extend(answer(line).as_bytes());
+        output.push(b'\n');
+    }
+    output
+}
+
+/// The answer to one line.
+fn answer(line: &[u8]) -> String {
+    match judge(line) {
+        Ok((facts, hull)) => accepted(facts, &hull),
+        Err(refusal) => format!("{:02x}{:08x}", 0x80 + refusal.number(), refusal.place()),
+    }
+}
+
+/// The facts and the hull of the frame in this line.
+fn judge(line: &[u8]) -> Result<(Facts, Vec<Corner>), Refusal> {
+    let (kind, digits) = frame(line).ok_or(Refusal::BadLine)?;
+    let mut ops = digits.clone();
+    if kind == 1 {
+        steps_of_turns(&digits, &mut ops)?;
+    }
+    let mut table = [0; RECORD_WORDS * LINE_RECORDS];
+    let mut marks = vec![0; 2 * ops.len()];
+    let mut chain = vec![0; ops.len()];
+    let facts = walk(&ops, &mut table, &mut marks, &mut chain)?;
+    Ok((facts, hull_list(corners(&chain[..facts.steps as usize]))))
+}
+
+/// The kind and the digits of a frame.
+fn frame(line: &[u8]) -> Option<(u32, Vec<u8>)> {
+    let digits: Vec<u8> = line
+        .iter()
+        .map(|byte| match byte {
+            b'0'..=b'9' => Some(byte - b'0'),
+            b'a'..=b'f' => Some(byte - b'a' + 10),
+            _ => None,
+        })
+        .collect::<Option<_>>()?;
+    let (head, body) = digits.split_at_checked(6)?;
+    let number = |digits: &[u8]| digits.iter().fold(0, |v, &d| 16 * v + u32::from(d));
+    let (kind, count) = (number(&head[..2]), number(&head[2..]) as usize);
+    (kind <= 1 && count <= MOST_LINE_DIGITS && count == body.len()).then(|| (kind, body.to_vec()))
+}
+
+/// The answer line of an accepted frame.
+fn accepted(facts: Facts, hull: &[Corner]) -> String {
+    let (j, k) = facts.meeting.unwrap_or((NO_MEETING, NO_MEETING));
+    let mut answer = format!(
+        "{:02x}{:04x}{:08x}{:04x}{j:04x}{k:04x}{:08x}{:04x}",
+        facts.verdict as u32,
+        facts.steps,
+        facts.nodes,
+        facts.corners,
+        facts.area,
+        hull.len(),
+    );
+    for &(x, y) in hull {
+        answer += &format!("{:04x}{:04x}", x as i16, y as i16);
+    }
+    answer
+}

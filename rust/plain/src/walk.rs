@@ -1,0 +1,166 @@
+//! The whole call of the walk.
+
+use std::collections::HashMap;
+
+use answer::{Facts, MOST_INPUT, MOST_RECORDS, MOST_STEPS, RECORD_WORDS, Refusal, Verdict};
+
+use crate::grid::{Corner, ROOT, corners, lineage, stepped};
+use crate::record::records;
+
+/// Judges the walk of `ops` and fills the three buffers.
+pub fn walk(
+    ops: &[u8],
+    table: &mut [u32],
+    marks: &mut [u32],
+    chain: &mut [u8],
+) -> Result<Facts, Refusal> {
+    judge_sizes(ops.len(), table.len(), marks.len(), chain.len())?;
+    judge_operations(ops)?;
+    let (steps, moments) = run(ops);
+    let most_nodes = (table.len() / RECORD_WORDS) as u32;
+    table.fill(0);
+    marks.fill(0);
+    chain.fill(0);
+    if let Some(place) = moments.iter().position(|&[nodes, _]| nodes > most_nodes) {
+        return Err(Refusal::NoRoom(place as u32));
+    }
+    let records = records(&steps);
+    table[..RECORD_WORDS * records.len()].copy_from_slice(records.as_flattened());
+    marks.copy_from_slice(moments.as_flattened());
+    chain[..steps.len()].copy_from_slice(&steps);
+    Ok(facts(&steps, records.len()))
+}
+
+/// Refusals 1, 2 and 3.
+fn judge_sizes(ops: usize, table: usize, marks: usize, chain: usize) -> Result<(), Refusal> {
+    if ops > MOST_INPUT {
+        Err(Refusal::TooMany)
+    } else if !table.is_multiple_of(RECORD_WORDS)
+        || !(1..=MOST_RECORDS).contains(&(table / RECORD_WORDS))
+    {
+        Err(Refusal::Table)
+    } else if marks != 2 * ops || chain != ops {
+        Err(Refusal::ResultRoom)
+    } else {
+        Ok(())
+    }
+}
+
+/// Refusals 4, 5 and 6 at the first faulty place.
+fn judge_operations(ops: &[u8]) -> Result<(), Refusal> {
+    let mut surviving = 0;
+    for (place, &op) in (0..).zip(ops) {
+        match op {
+            0..=3 if surviving == MOST_STEPS => return Err(Refusal::TooLong(place)),
+            0..=3 => surviving += 1,
+            4 if surviving == 0 => return Err(Refusal::NothingToTake(place)),
+            4 => surviving -= 1,
+            _ => return Err(Refusal::BadDigit(place)),
+        }
+    }
+    Ok(())
+}
+
+/// Corners, each as often as it was added and not removed.
+#[derive(Default)]
+struct Bag(HashMap<Corner, u32>);
+
+impl Bag {
+    fn add(&mut self, corner: Corner) {
+        *self.0.entry(corner).or_insert(0) += 1;
+    }
+
+    fn remove(&mut self, corner: Corner) {
+        let count = self.0.get_mut(&corner).expect("it was added");
+        *count -= 1;
+        if *count == 0 {
+            self.0.remove(&corner);
+        }
+    }
+
+    fn count(&self, corner: Corner) -> u32 {
+        self.0.get(&corner).copied().unwrap_or(0)
+    }
+
+    fn different(&self) -> u32 {
+        self.0.len() as u32
+    }
+}
+
+/// The surviving steps, and after each operation the nodes in use and the visits at the corner then stood on.
+fn run(ops: &[u8]) -> (Vec<u8>, Vec<[u32; 2]>) {
+    let (mut steps, mut trail) = (Vec::new(), vec![ROOT]);
+    let (mut visits, mut nodes) = (Bag::default(), Bag::default());
+    visits.add(ROOT);
+    nodes.add(ROOT);
+    let mut moments = Vec::new();
+    for &op in ops {
+        let at = *trail.last().unwrap();
+        if op == 4 {
+            visits.remove(at);
+            lineage(at).for_each(|node| nodes.remove(node));
+            trail.pop();
+            steps.pop();
+        } else {
+            let next = stepped(at, op);
+            visits.add(next);
+            lineage(next).for_each(|node| nodes.add(node));
+            trail.push(next);
+            steps.push(op);
+        }
+        moments.push([nodes.different(), visits.count(*trail.last().unwrap())]);
+    }
+    (steps, moments)
+}
+
+/// The meeting with the least k.
+fn first_meeting(corners: &[Corner]) -> Option<(u32, u32)> {
+    let mut seen = HashMap::new();
+    (0..)
+        .zip(corners)
+        .find_map(|(k, corner)| seen.insert(corner, k).map(|j| (j, k)))
+}
+
+/// The sum over the steps of x times the change of y.
+fn area(corners: &[Corner]) -> i32 {
+    corners
+        .windows(2)
+        .map(|ends| ends[0].0 * (ends[1].1 - ends[0].1))
+        .sum()
+}
+
+/// The facts of the walk of these surviving steps.
+fn facts(steps: &[u8], nodes: usize) -> Facts {
+    let corners = corners(steps);
+    let last = corners[steps.len()];
+    let mut different = corners.clone();
+    different.sort_unstable();
+    different.dedup();
+    let verdict = if steps.is_empty() {
+        Verdict::Nowhere
+    } else if last == ROOT {
+        // Start and end meet; no others do where the corners before the end all differ.
+        if different.len() == steps.len() {
+            Verdict::Room
+        } else {
+            Verdict::ClosedMeeting
+        }
+    } else if different.len() == corners.len() {
+        Verdict::Open
+    } else {
+        Verdict::OpenMeeting
+    };
+    Facts {
+        verdict,
+        steps: steps.len() as u32,
+        nodes: nodes as u32,
+        corners: different.len() as u32,
+        meeting: first_meeting(&corners),
+        area: if verdict == Verdict::Room {
+            area(&corners)
+        } else {
+            0
+        },
+        last,
+    }
+}

@@ -1,0 +1,264 @@
+//! The worked walks and the settled readings of the rules.
+
+use answer::{Facts, RECORD_WORDS, Refusal, Verdict};
+
+/// Room enough for all walks here but those that ask for more.
+const RECORDS: usize = 400;
+
+/// The operations that these digits are.
+fn ops(digits: &str) -> Vec<u8> {
+    digits.bytes().map(|digit| digit - b'0').collect()
+}
+
+/// The three buffers after a walk.
+struct Walked {
+    answer: Result<Facts, Refusal>,
+    table: Vec<u32>,
+    marks: Vec<(u32, u32)>,
+    chain: Vec<u8>,
+}
+
+impl Walked {
+    fn facts(&self) -> Facts {
+        self.answer.unwrap()
+    }
+
+    fn word(&self, node: usize, word: usize) -> u32 {
+        self.table[RECORD_WORDS * node + word]
+    }
+
+    /// The words of a node that are not 0, with their places.
+    fn words(&self, node: usize) -> Vec<(usize, u32)> {
+        (0..RECORD_WORDS)
+            .map(|word| (word, self.word(node, word)))
+            .filter(|&(_, value)| value != 0)
+            .collect()
+    }
+}
+
+/// Walks in dirty buffers.
+fn walk_in(ops: &[u8], records: usize) -> Walked {
+    let mut table = vec![7; RECORD_WORDS * records];
+    let mut marks = vec![7; 2 * ops.len()];
+    let mut chain = vec![7; ops.len()];
+    let answer = plain::walk(ops, &mut table, &mut marks, &mut chain);
+    let marks = marks.chunks(2).map(|pair| (pair[0], pair[1])).collect();
+    Walked {
+        answer,
+        table,
+        marks,
+        chain,
+    }
+}
+
+fn walk(digits: &str) -> Walked {
+    walk_in(&ops(digits), RECORDS)
+}
+
+fn refusal(digits: &str) -> Refusal {
+    walk(digits).answer.unwrap_err()
+}
+
+fn hull(digits: &str) -> Vec<i32> {
+    let mut out = vec![0; 2 * digits.len() + 2];
+    let count = plain::hull(&ops(digits), &mut out).unwrap();
+    out.truncate(2 * count);
+    out
+}
+
+fn line(line: &str) -> String {
+    let mut out = [0; answer::LINE_BYTES];
+    let length = plain::line(line.as_bytes(), &mut out);
+    String::from_utf8(out[..length].to_vec()).unwrap()
+}
+
+#[test]
+fn p1_no_operation() {
+    let facts = walk("").facts();
+    assert_eq!(facts.verdict, Verdict::Nowhere);
+    assert_eq!((facts.nodes, facts.corners, facts.meeting), (1, 1, None));
+    assert_eq!(hull(""), [0, 0]);
+}
+
+#[test]
+fn p2_p3_p4_rooms() {
+    for (digits, meeting, area) in [("0123", (0, 4), 1), ("3210", (0, 4), -1), ("02", (0, 2), 0)] {
+        let facts = walk(digits).facts();
+        assert_eq!(facts.verdict, Verdict::Room);
+        assert_eq!((facts.meeting, facts.area), (Some(meeting), area));
+    }
+}
+
+#[test]
+fn p5_p6_p7_west_is_not_east() {
+    let facts = walk("022").facts();
+    assert_eq!(facts.verdict, Verdict::OpenMeeting);
+    assert_eq!((facts.meeting, facts.nodes), (Some((0, 2)), 3));
+    let facts = walk("01223").facts();
+    assert_eq!((facts.verdict, facts.nodes), (Verdict::Open, 6));
+    assert_eq!(walk("2222").facts().nodes, 5);
+    assert_eq!(hull("022"), [-1, 0, 1, 0]);
+}
+
+#[test]
+fn p8_a_node_that_nobody_visited() {
+    let walked = walk("0011");
+    assert_eq!((walked.facts().corners, walked.facts().nodes), (5, 6));
+    assert_eq!(walked.marks, [(2, 1), (3, 1), (4, 1), (6, 1)]);
+    assert_eq!(walked.words(4), [(0, 1), (5, 6), (13, 2), (17, 4), (19, 4)]);
+    assert!(
+        walked.table[6 * RECORD_WORDS..]
+            .iter()
+            .all(|&word| word == 0)
+    );
+}
+
+#[test]
+fn p8_no_room() {
+    let walked = walk_in(&ops("0011"), 5);
+    assert_eq!(walked.answer, Err(Refusal::NoRoom(3)));
+    assert!(walked.table.iter().all(|&word| word == 0));
+    assert_eq!(walked.marks, [(0, 0); 4]);
+    assert_eq!(walked.chain, [0; 4]);
+    assert!(walk_in(&ops("0011"), 6).answer.is_ok());
+}
+
+#[test]
+fn p9_p10_taken_back() {
+    let walked = walk("004123");
+    let marks = [(2, 1), (3, 1), (2, 1), (3, 1), (4, 1), (4, 2)];
+    assert_eq!(walked.marks, marks);
+    assert_eq!(walked.chain, ops("012300"));
+    let walked = walk("0204");
+    assert_eq!(walked.marks, [(2, 1), (2, 2), (2, 2), (2, 2)]);
+    assert_eq!(walked.chain, ops("0200"));
+    assert_eq!(walk("024").facts().verdict, Verdict::Open);
+}
+
+#[test]
+fn p11_a_crossing() {
+    let steps = "001100322223";
+    let facts = walk(steps).facts();
+    assert_eq!(facts.verdict, Verdict::ClosedMeeting);
+    assert_eq!((facts.meeting, facts.nodes), (Some((3, 9)), 11));
+    assert_eq!(hull(steps), [0, 0, 2, 0, 4, 1, 4, 2, 2, 2, 0, 1]);
+    let (mut turns, mut back) = (vec![7; 12], vec![7; 12]);
+    plain::turns_of_steps(&ops(steps), &mut turns).unwrap();
+    assert_eq!(turns, ops("001030330001"));
+    plain::steps_of_turns(&turns, &mut back).unwrap();
+    assert_eq!(back, ops(steps));
+}
+
+#[test]
+fn p12_refusals() {
+    assert_eq!(refusal("4"), Refusal::NothingToTake(0));
+    assert_eq!(refusal("05"), Refusal::BadDigit(1));
+}
+
+#[test]
+fn limits_of_steps() {
+    let mut east = vec![0; 16_384];
+    assert!(walk_in(&east, 16_385).answer.is_ok());
+    east.push(0);
+    assert_eq!(walk_in(&east, 16_385).answer, Err(Refusal::TooLong(16_384)));
+    east[16_384] = 5;
+    assert_eq!(walk_in(&east, 1).answer, Err(Refusal::BadDigit(16_384)));
+}
+
+#[test]
+fn order_of_refusals() {
+    // A fault at any place wins over room at an earlier one; a refused call leaves the buffers as they were.
+    let walked = walk_in(&ops("000005"), 2);
+    assert_eq!(walked.answer, Err(Refusal::BadDigit(5)));
+    assert!(walked.table.iter().all(|&word| word == 7));
+    assert_eq!(walked.chain, [7; 6]);
+    assert_eq!(walked.marks, [(7, 7); 6]);
+    let many = vec![9; 32_769];
+    assert_eq!(
+        plain::walk(&many, &mut [], &mut [], &mut []),
+        Err(Refusal::TooMany)
+    );
+    assert_eq!(
+        plain::walk(&many[..1], &mut [], &mut [], &mut []),
+        Err(Refusal::Table)
+    );
+    assert_eq!(
+        plain::walk(&many[..1], &mut [0; 21], &mut [0; 2], &mut []),
+        Err(Refusal::ResultRoom)
+    );
+}
+
+#[test]
+fn refusals_of_hull_and_turns() {
+    let mut chain = vec![0; 16_385];
+    assert_eq!(plain::hull(&chain, &mut []), Err(Refusal::TooLong(16_384)));
+    chain[16_384] = 4;
+    assert_eq!(plain::hull(&chain, &mut []), Err(Refusal::BadDigit(16_384)));
+    assert_eq!(plain::hull(&[0; 32_769], &mut []), Err(Refusal::TooMany));
+    assert_eq!(plain::hull(&[], &mut [0]), Err(Refusal::HullRoom));
+    assert_eq!(plain::hull(&[], &mut [5, 5, 5]), Ok(1));
+    let mut out = vec![0; 32_768];
+    assert_eq!(plain::turns_of_steps(&[3; 32_768], &mut out), Ok(()));
+    assert_eq!(
+        plain::steps_of_turns(&[9; 2], &mut out[..1]),
+        Err(Refusal::ResultRoom)
+    );
+    assert_eq!(
+        plain::steps_of_turns(&[3, 4], &mut out[..2]),
+        Err(Refusal::BadDigit(1))
+    );
+    assert_eq!(
+        plain::turns_of_steps(&[9; 32_769], &mut out),
+        Err(Refusal::TooMany)
+    );
+}
+
+#[test]
+fn a_link_may_be_older_than_the_edge() {
+    // The edge (-1,0)-(0,0) is walked at step 6; level 1 of step 3 linked it.
+    let walked = walk("322100");
+    assert_eq!(walked.word(0, 16), 3);
+    // The node (1,1) is needed at step 4 and visited at step 6.
+    let walked = walk("001123");
+    let node = walked.word(0, 9) as usize - 1;
+    assert_eq!([18, 19, 20].map(|word| walked.word(node, word)), [1, 4, 7]);
+}
+
+#[test]
+fn every_mark_is_that_of_the_survivors() {
+    for length in 0..=6 {
+        for code in 0..5_u32.pow(length) {
+            let ops: Vec<u8> = (0..length)
+                .map(|i| (code / 5_u32.pow(i) % 5) as u8)
+                .collect();
+            let walked = walk_in(&ops, 30);
+            let Ok(facts) = walked.answer else { continue };
+            let alone = walk_in(&walked.chain[..facts.steps as usize], 30);
+            assert_eq!(alone.answer, walked.answer);
+            assert_eq!(alone.table, walked.table);
+            let last = walked.marks.last().map_or(1, |mark| mark.0);
+            assert_eq!(last, facts.nodes);
+        }
+    }
+}
+
+#[test]
+fn lines() {
+    let room = "0200040000000400040000000400000001000400000000000100000001000100000001";
+    let sample = b"0000040123\n000006004123\n0000015\n";
+    let output = format!("{room}\n{room}\n8400000000\n");
+    assert_eq!(plain::program(sample), output.as_bytes());
+    assert_eq!(plain::program(&sample[..31]), output.as_bytes());
+    assert_eq!(plain::program(b""), b"");
+    assert_eq!(plain::program(b"\n"), b"8900000000\n");
+    assert_eq!(line("0100040111"), room);
+    assert_eq!(line("0100020114"), "8900000000");
+    assert_eq!(line("0100020f"), "8400000001");
+    assert_eq!(line("01000204"), "8400000001");
+    assert_eq!(line("0000010F"), "8900000000");
+    assert_eq!(line("02000000"), "8900000000");
+    assert_eq!(line(&format!("000401{}", "0".repeat(0x401))), "8900000000");
+    assert_eq!(&line(&format!("000185{}", "0".repeat(389)))[..2], "01");
+    assert_eq!(line(&format!("000186{}", "0".repeat(390))), "8700000185");
+    assert_eq!(plain::line(b"", &mut [0; answer::LINE_BYTES - 1]), 0);
+}

@@ -1,0 +1,16 @@
+//! Links target/staticlib/libembed.a, which `rt staticlib embed` writes.
+
+use std::path::Path;
+
+fn main() {
+    let folder = Path::new(env!("CARGO_MANIFEST_DIR")).join("../../target/staticlib");
+    let library = folder.join("libembed.a");
+    assert!(
+        library.exists(),
+        "{} is not there: run `rt staticlib embed`",
+        library.display()
+    );
+    println!("cargo::rerun-if-changed={}", library.display());
+    println!("cargo::rustc-link-search=native={}", folder.display());
+    println!("cargo::rustc-link-lib=static=embed");
+}

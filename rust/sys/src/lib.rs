@@ -1,0 +1,111 @@
+//! The proved judge of a surveyor's walk, for Rust.
+//!
+//! A walk is a byte string of operations: 0 east, 1 north, 2 west, 3 south, 4 takes the last surviving step back. The caller
+//! lends every buffer; a refusal leaves the buffers as they were, but [`Refusal::NoRoom`] leaves them wholly zero.
+
+pub mod raw;
+
+pub use answer::*;
+
+/// Judges the walk of `ops` in a lent table of [`RECORD_WORDS`] words a record; `marks` has two words an operation and
+/// `chain` one byte.
+///
+/// After an accepted walk the table holds the linked quadtree of the surviving steps, `marks` the nodes in use and the
+/// visits at the corner stood on after each operation, and `chain` the surviving steps and then zeros. A table of eight
+/// records for each different corner of the walk is never refused for room.
+///
+/// ```
+/// let ops = [0, 1, 2, 3];
+/// let mut table = [0; 4 * undrwyth::RECORD_WORDS];
+/// let (mut marks, mut chain) = ([0; 8], [0; 4]);
+/// let facts = undrwyth::walk(&ops, &mut table, &mut marks, &mut chain)?;
+/// assert_eq!(facts.verdict, undrwyth::Verdict::Room);
+/// assert_eq!((facts.meeting, facts.area, facts.last), (Some((0, 4)), 1, (0, 0)));
+/// assert_eq!(marks, [2, 1, 3, 1, 4, 1, 4, 2]);
+/// assert_eq!(chain, ops);
+/// # Ok::<(), undrwyth::Refusal>(())
+/// ```
+pub fn walk(
+    ops: &[u8],
+    table: &mut [u32],
+    marks: &mut [u32],
+    chain: &mut [u8],
+) -> Result<Facts, Refusal> {
+    let mut answer = [0; WALK_ANSWER_WORDS];
+    let number = raw::walk(ops, table, marks, chain, &mut answer);
+    accepted(number, answer[1])?;
+    let [_, _, verdict, steps, nodes, corners, j, k, area, x, y] = answer;
+    Ok(Facts {
+        verdict: Verdict::of(verdict).expect("a verdict is 0 to 4"),
+        steps,
+        nodes,
+        corners,
+        meeting: (k != NO_MEETING).then_some((j, k)),
+        area: area.cast_signed(),
+        last: (x.cast_signed(), y.cast_signed()),
+    })
+}
+
+/// Writes x and y of the hull corners of the walk of `chain` to the start of `out`, counterclockwise from the lowest of the
+/// leftmost, no three in a line, and answers how many corners there are. The numbers after them are unchanged.
+///
+/// ```
+/// let mut out = [0; 5];
+/// assert_eq!(undrwyth::hull(&[0, 2, 2], &mut out), Ok(2));
+/// assert_eq!(out, [-1, 0, 1, 0, 0]);
+/// assert_eq!(undrwyth::hull(&[0, 1], &mut out), Err(undrwyth::Refusal::HullRoom));
+/// ```
+pub fn hull(chain: &[u8], out: &mut [i32]) -> Result<usize, Refusal> {
+    let mut answer = [0; HULL_ANSWER_WORDS];
+    let number = raw::hull(chain, out, &mut answer);
+    accepted(number, answer[1])?;
+    Ok(answer[2] as usize)
+}
+
+/// Writes the turns of `steps` to `out`, which has the same length: the first step, then each step minus the one before,
+/// modulo 4.
+///
+/// ```
+/// let mut turns = [0; 4];
+/// undrwyth::turns_of_steps(&[0, 1, 2, 2], &mut turns)?;
+/// assert_eq!(turns, [0, 1, 1, 0]);
+/// # Ok::<(), undrwyth::Refusal>(())
+/// ```
+pub fn turns_of_steps(steps: &[u8], out: &mut [u8]) -> Result<(), Refusal> {
+    let mut answer = [0; TURNS_ANSWER_WORDS];
+    let number = raw::turns_of_steps(steps, out, &mut answer);
+    accepted(number, answer[1])
+}
+
+/// Writes the steps of `turns` to `out`, which has the same length: the inverse of [`turns_of_steps`].
+///
+/// ```
+/// let mut steps = [0; 4];
+/// undrwyth::steps_of_turns(&[0, 1, 1, 0], &mut steps)?;
+/// assert_eq!(steps, [0, 1, 2, 2]);
+/// # Ok::<(), undrwyth::Refusal>(())
+/// ```
+pub fn steps_of_turns(turns: &[u8], out: &mut [u8]) -> Result<(), Refusal> {
+    let mut answer = [0; TURNS_ANSWER_WORDS];
+    let number = raw::steps_of_turns(turns, out, &mut answer);
+    accepted(number, answer[1])
+}
+
+/// The answer of the line program to one line, both without line feed; it stands at the start of `out`.
+///
+/// ```
+/// let mut out = [0; undrwyth::LINE_BYTES];
+/// assert_eq!(undrwyth::line(b"0000015", &mut out), b"8400000000");
+/// ```
+pub fn line<'a>(line: &[u8], out: &'a mut [u8; LINE_BYTES]) -> &'a [u8] {
+    let bytes = raw::line(line, out);
+    &out[..bytes]
+}
+
+/// The refusal with this number and place, if the number is not 0.
+fn accepted(number: u32, place: u32) -> Result<(), Refusal> {
+    match number {
+        0 => Ok(()),
+        _ => Err(Refusal::of(number, place).expect("a refusal is 1 to 9")),
+    }
+}

@@ -1,0 +1,113 @@
+//! The calls of the C boundary as they are, on slices: include/undrwyth.h says what each does.
+
+use answer::{HULL_ANSWER_WORDS, TURNS_ANSWER_WORDS, WALK_ANSWER_WORDS};
+
+mod c {
+    unsafe extern "C" {
+        pub fn undrwyth_walk(
+            ops: *const u8,
+            n: usize,
+            table: *mut u32,
+            table_words: usize,
+            marks: *mut u32,
+            marks_words: usize,
+            chain: *mut u8,
+            chain_bytes: usize,
+            answer: *mut u32,
+        ) -> u32;
+        pub fn undrwyth_hull(
+            chain: *const u8,
+            n: usize,
+            out: *mut i32,
+            out_numbers: usize,
+            answer: *mut u32,
+        ) -> u32;
+        pub fn undrwyth_turns_of_steps(
+            steps: *const u8,
+            n: usize,
+            out: *mut u8,
+            out_bytes: usize,
+            answer: *mut u32,
+        ) -> u32;
+        pub fn undrwyth_steps_of_turns(
+            turns: *const u8,
+            n: usize,
+            out: *mut u8,
+            out_bytes: usize,
+            answer: *mut u32,
+        ) -> u32;
+        pub fn undrwyth_line(line: *const u8, n: usize, out: *mut u8, out_bytes: usize) -> usize;
+    }
+}
+
+/// `undrwyth_walk`: the refusal's number, 0 for none.
+pub fn walk(
+    ops: &[u8],
+    table: &mut [u32],
+    marks: &mut [u32],
+    chain: &mut [u8],
+    answer: &mut [u32; WALK_ANSWER_WORDS],
+) -> u32 {
+    // SAFETY: each pointer is of a slice of the length beside it, none overlaps another, and answer has its words.
+    unsafe {
+        c::undrwyth_walk(
+            ops.as_ptr(),
+            ops.len(),
+            table.as_mut_ptr(),
+            table.len(),
+            marks.as_mut_ptr(),
+            marks.len(),
+            chain.as_mut_ptr(),
+            chain.len(),
+            answer.as_mut_ptr(),
+        )
+    }
+}
+
+/// `undrwyth_hull`: the refusal's number, 0 for none.
+pub fn hull(chain: &[u8], out: &mut [i32], answer: &mut [u32; HULL_ANSWER_WORDS]) -> u32 {
+    // SAFETY: as for walk.
+    unsafe {
+        c::undrwyth_hull(
+            chain.as_ptr(),
+            chain.len(),
+            out.as_mut_ptr(),
+            out.len(),
+            answer.as_mut_ptr(),
+        )
+    }
+}
+
+/// `undrwyth_turns_of_steps`: the refusal's number, 0 for none.
+pub fn turns_of_steps(steps: &[u8], out: &mut [u8], answer: &mut [u32; TURNS_ANSWER_WORDS]) -> u32 {
+    // SAFETY: as for walk.
+    unsafe {
+        c::undrwyth_turns_of_steps(
+            steps.as_ptr(),
+            steps.len(),
+            out.as_mut_ptr(),
+            out.len(),
+            answer.as_mut_ptr(),
+        )
+    }
+}
+
+/// `undrwyth_steps_of_turns`: the refusal's number, 0 for none.
+pub fn steps_of_turns(turns: &[u8], out: &mut [u8], answer: &mut [u32; TURNS_ANSWER_WORDS]) -> u32 {
+    // SAFETY: as for walk.
+    unsafe {
+        c::undrwyth_steps_of_turns(
+            turns.as_ptr(),
+            turns.len(),
+            out.as_mut_ptr(),
+            out.len(),
+            answer.as_mut_ptr(),
+        )
+    }
+}
+
+/// `undrwyth_line`: the bytes written, 0 where out is shorter than `UNDRWYTH_LINE_BYTES`.
+pub fn line(line: &[u8], out: &mut [u8]) -> usize {
+    // SAFETY: as for walk.
+    unsafe { c::undrwyth_line(line.as_ptr(), line.len(), out.as_mut_ptr(), out.len()) }
+}

@@ -1,0 +1,127 @@
+//! One call of a library beside the same call of `plain`, in dirty buffers.
+
+use std::fmt::Debug;
+
+use answer::{HULL_ANSWER_WORDS, TURNS_ANSWER_WORDS, WALK_ANSWER_WORDS};
+
+use crate::{Convert, Library, PLAIN};
+
+/// Words before and after a lent buffer that no call may touch.
+const MARGIN: usize = 5;
+
+/// A lent buffer between two margins, all of it dirty: no word is 0, and no two neighbours are the same.
+struct Lent<T>(Vec<T>);
+
+impl Lent<u8> {
+    fn bytes(length: usize) -> Lent<u8> {
+        Lent((0..length + 2 * MARGIN).map(|i| i as u8 | 128).collect())
+    }
+}
+
+impl Lent<u32> {
+    fn words(length: usize) -> Lent<u32> {
+        let dirt = |i: usize| (i as u32).wrapping_mul(0x9e37_79b1) | 1 << 31;
+        Lent((0..length + 2 * MARGIN).map(dirt).collect())
+    }
+}
+
+impl Lent<i32> {
+    fn numbers(length: usize) -> Lent<i32> {
+        Lent(
+            Lent::words(length)
+                .0
+                .into_iter()
+                .map(u32::cast_signed)
+                .collect(),
+        )
+    }
+}
+
+impl<T> Lent<T> {
+    fn part(&mut self) -> &mut [T] {
+        let end = self.0.len() - MARGIN;
+        &mut self.0[MARGIN..end]
+    }
+}
+
+/// Panics, and says where they differ, unless the two are the same.
+fn same<T: PartialEq + Debug>(what: &str, input: &[u8], ours: &[T], plain: &[T]) {
+    if ours != plain {
+        let at = ours.iter().zip(plain).position(|(a, b)| a != b).unwrap();
+        panic!(
+            "{what}, index {}: {:?}, plain has {:?}\ninput of {} bytes: {:?}",
+            at as isize - MARGIN as isize,
+            ours[at],
+            plain[at],
+            input.len(),
+            &input[..input.len().min(2_000)],
+        );
+    }
+}
+
+/// Compares a walk in buffers of these lengths, and gives the answer.
+pub fn walk(
+    library: &Library,
+    ops: &[u8],
+    table: usize,
+    marks: usize,
+    chain: usize,
+) -> [u32; WALK_ANSWER_WORDS] {
+    let run = |library: &Library| {
+        let (mut table, mut marks) = (Lent::words(table), Lent::words(marks));
+        let (mut chain, mut answer) = (Lent::bytes(chain), [u32::MAX; WALK_ANSWER_WORDS]);
+        let (t, m, c) = (table.part(), marks.part(), chain.part());
+        let number = (library.walk)(ops, t, m, c, &mut answer);
+        ([number], answer, table.0, marks.0, chain.0)
+    };
+    let (ours, plain) = (run(library), run(&PLAIN));
+    same("walk's number", ops, &ours.0, &plain.0);
+    same("walk's answer", ops, &ours.1, &plain.1);
+    same("walk's table", ops, &ours.2, &plain.2);
+    same("walk's marks", ops, &ours.3, &plain.3);
+    same("walk's chain", ops, &ours.4, &plain.4);
+    plain.1
+}
+
+/// Compares a hull in a buffer of this length, and gives the answer.
+pub fn hull(library: &Library, chain: &[u8], out: usize) -> [u32; HULL_ANSWER_WORDS] {
+    let run = |library: &Library| {
+        let (mut out, mut answer) = (Lent::numbers(out), [u32::MAX; HULL_ANSWER_WORDS]);
+        let number = (library.hull)(chain, out.part(), &mut answer);
+        ([number], answer, out.0)
+    };
+    let (ours, plain) = (run(library), run(&PLAIN));
+    same("hull's number", chain, &ours.0, &plain.0);
+    same("hull's answer", chain, &ours.1, &plain.1);
+    same("hull's buffer", chain, &ours.2, &plain.2);
+    plain.1
+}
+
+/// Compares both conversions in a buffer of this length.
+pub fn turns(library: &Library, digits: &[u8], out: usize) {
+    let run = |convert: Convert| {
+        let (mut out, mut answer) = (Lent::bytes(out), [u32::MAX; TURNS_ANSWER_WORDS]);
+        let number = convert(digits, out.part(), &mut answer);
+        ([number], answer, out.0)
+    };
+    for (ours, plain) in [
+        (run(library.turns_of_steps), run(PLAIN.turns_of_steps)),
+        (run(library.steps_of_turns), run(PLAIN.steps_of_turns)),
+    ] {
+        same("turns' number", digits, &ours.0, &plain.0);
+        same("turns' answer", digits, &ours.1, &plain.1);
+        same("turns' buffer", digits, &ours.2, &plain.2);
+    }
+}
+
+/// Compares the answer to a line in a buffer of this length.
+pub fn line(library: &Library, line: &[u8], out: usize) {
+    let run = |library: &Library| {
+        let mut out = Lent::bytes(out);
+        let length = (library.line)(line, out.part());
+        ([length], out.0)
+    };
+    let (ours, plain) = (run(library), run(&PLAIN));
+    same("line's length", line, &ours.0, &plain.0);
+    same("line's answer", line, &ours.1, &plain.1);
+}

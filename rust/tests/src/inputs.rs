@@ -1,0 +1,223 @@
+//! Walks and lines for tests and benchmarks; the same seed gives the same inputs everywhere.
+
+use answer::{MOST_LINE_DIGITS, MOST_STEPS, RECORD_WORDS};
+
+/// A stream of numbers from a seed (splitmix64).
+pub struct Random(pub u64);
+
+impl Random {
+    pub fn number(&mut self) -> u64 {
+        self.0 = self.0.wrapping_add(0x9e37_79b9_7f4a_7c15);
+        let z = (self.0 ^ (self.0 >> 30)).wrapping_mul(0xbf58_476d_1ce4_e5b9);
+        let z = (z ^ (z >> 27)).wrapping_mul(0x94d0_49bb_1331_11eb);
+        z ^ (z >> 31)
+    }
+
+    /// A number below the end, which is not 0.
+    pub fn below(&mut self, end: usize) -> usize {
+        (self.number() % end as u64) as usize
+    }
+
+    /// True once in so many times.
+    pub fn once_in(&mut self, times: usize) -> bool {
+        self.below(times) == 0
+    }
+
+    /// A length up to the end, short ones as likely as long ones.
+    pub fn length(&mut self, end: usize) -> usize {
+        let end = (end >> self.below(12)).max(2);
+        self.below(end + 1)
+    }
+
+    pub fn step(&mut self) -> u8 {
+        self.below(4) as u8
+    }
+}
+
+/// n steps in one direction.
+pub fn straight(n: usize, way: u8) -> Vec<u8> {
+    vec![way; n]
+}
+
+/// n steps outwards on a square spiral.
+pub fn spiral(n: usize) -> Vec<u8> {
+    let sides = (0_usize..).flat_map(|side| vec![(side % 4) as u8; side / 2 + 1]);
+    sides.take(n).collect()
+}
+
+/// n steps up and down teeth of this height.
+pub fn comb(n: usize, height: usize) -> Vec<u8> {
+    let tooth = [vec![1; height], vec![0], vec![3; height], vec![0]].concat();
+    tooth.into_iter().cycle().take(n).collect()
+}
+
+/// n steps, each in a random direction.
+pub fn wander(n: usize, random: &mut Random) -> Vec<u8> {
+    (0..n).map(|_| random.step()).collect()
+}
+
+/// A room of n steps, n even and at least 8: out along the floor, and back over columns of random height.
+pub fn room(n: usize, random: &mut Random) -> Vec<u8> {
+    let columns = n / 4;
+    let mut heights = vec![1; columns + 2];
+    heights[0] = 0;
+    heights[columns + 1] = 0;
+    let mut length = 2 * columns as isize + 2;
+    while length < n as isize {
+        let column = 1 + random.below(columns);
+        for beside in [column - 1, column + 1] {
+            length += if heights[beside] <= heights[column] {
+                1
+            } else {
+                -1
+            };
+        }
+        heights[column] += 1;
+    }
+    let mut steps = vec![0; columns];
+    for column in (0..=columns).rev() {
+        let (before, height): (usize, usize) = (heights[column + 1], heights[column]);
+        steps.extend(vec![
+            if before < height { 1 } else { 3 };
+            before.abs_diff(height)
+        ]);
+        if column > 0 {
+            steps.push(2);
+        }
+    }
+    steps
+}
+
+/// The number of nodes that the walk needs at most at a moment, 1 where it has a fault.
+pub fn most_nodes(ops: &[u8]) -> usize {
+    let mut table = vec![0; RECORD_WORDS * 4 * (ops.len() + 1)];
+    let (mut marks, mut chain) = (vec![0; 2 * ops.len()], vec![0; ops.len()]);
+    match twin::walk(ops, &mut table, &mut marks, &mut chain) {
+        Ok(_) => marks.iter().step_by(2).copied().max().unwrap_or(1) as usize,
+        Err(_) => 1,
+    }
+}
+
+/// n operations of which so many in a hundred are take-backs, where there is something to take; no fault, and no more steps
+/// than may survive. `bias` of a hundred steps go east.
+pub fn hesitant(n: usize, take_backs: usize, bias: usize, random: &mut Random) -> Vec<u8> {
+    let mut surviving = 0;
+    (0..n)
+        .map(|_| {
+            let back = random.below(100) < take_backs;
+            if surviving == MOST_STEPS || surviving > 0 && back {
+                surviving -= 1;
+                return 4;
+            }
+            surviving += 1;
+            if random.below(100) < bias {
+                0
+            } else {
+                random.step()
+            }
+        })
+        .collect()
+}
+
+/// n operations at a border between two parts of the tree, 2^level columns out: steps over it and back, many withdrawn.
+pub fn border(n: usize, level: usize, random: &mut Random) -> Vec<u8> {
+    let (out, turned) = (((1_usize << level) - 1).min(n), random.step());
+    let mut ops = straight(out, 0);
+    ops.extend(
+        hesitant(n - out, 45, 0, random)
+            .into_iter()
+            .map(|op| match op {
+                1 if random.once_in(2) => 0,
+                3 if random.once_in(2) => 2,
+                op => op,
+            }),
+    );
+    let turn = |op: u8| if op == 4 { 4 } else { (op + turned) % 4 };
+    ops.into_iter().map(turn).collect()
+}
+
+/// n operations: half of them steps, and then all of them taken back.
+pub fn withdrawn(n: usize, random: &mut Random) -> Vec<u8> {
+    let steps = (n / 2).min(MOST_STEPS);
+    let mut ops = hesitant(steps, 0, 30, random);
+    ops.extend(vec![4; steps]);
+    ops
+}
+
+/// A walk of some kind with up to `most` operations; it may have a fault.
+pub fn walk(most: usize, random: &mut Random) -> Vec<u8> {
+    let n = random.length(most);
+    let mut ops = match random.below(11) {
+        0 => straight(n, random.step()),
+        1 => spiral(n),
+        2 => comb(n, 1 + random.below(40)),
+        3 => wander(n, random),
+        4 => room(n.clamp(8, MOST_STEPS) & !1, random),
+        5 => hesitant(n, random.below(50), 0, random),
+        6 => hesitant(n, 25, random.below(100), random),
+        7 => hesitant(n, 48, 90, random),
+        8 => border(n, random.below(14), random),
+        9 => withdrawn(n, random),
+        _ => [0, 2].repeat(n / 2),
+    };
+    if random.once_in(12) && !ops.is_empty() {
+        let place = random.below(ops.len());
+        ops[place] = random.number() as u8;
+    }
+    ops
+}
+
+/// The frame of these digits.
+pub fn frame(kind: u8, digits: &[u8]) -> Vec<u8> {
+    let mut line = format!("{kind:02x}{:04x}", digits.len());
+    line.extend(
+        digits
+            .iter()
+            .map(|&digit| char::from_digit(u32::from(digit) % 16, 16).unwrap()),
+    );
+    line.into_bytes()
+}
+
+/// A line: a frame, a damaged frame, or bytes; it has no line feed.
+pub fn line(random: &mut Random) -> Vec<u8> {
+    let kind = random.below(2) as u8;
+    let mut digits = if kind == 0 {
+        walk(MOST_LINE_DIGITS, random)
+    } else {
+        let n = random.length(MOST_LINE_DIGITS);
+        wander(n, random)
+    };
+    if random.once_in(40) {
+        digits = wander(MOST_LINE_DIGITS + random.below(3), random);
+    }
+    let mut line = frame(kind, &digits);
+    let place = random.below(line.len());
+    match random.below(16) {
+        0 => line[place] = random.number() as u8,
+        1 => line[place] = b"0123456789abcdefABCDEF "[random.below(23)],
+        2 => line.truncate(place),
+        3 => line.insert(place, b'0'),
+        4 => line = (0..place).map(|_| random.number() as u8).collect(),
+        5 => line[random.below(6)] = b'0' + random.below(10) as u8,
+        _ => {}
+    }
+    line.retain(|&byte| byte != b'\n');
+    line
+}
+
+/// Lines one after the other, mostly each with its line feed.
+pub fn lines(count: usize, random: &mut Random) -> Vec<u8> {
+    let mut input = Vec::new();
+    for _ in 0..count {
+        match random.below(20) {
+            0 => {}
+            1 => input.extend(vec![b'0'; random.length(200_000)]),
+            _ => input.extend(line(random)),
+        }
+        input.push(b'\n');
+    }
+    if random.once_in(2) {
+        input.pop();
+    }
+    input
+}

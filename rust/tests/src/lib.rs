@@ -1,0 +1,87 @@
+//! Comparisons with `plain`: every answer, and every word of every lent buffer with the words around it.
+
+pub mod compare;
+pub mod inputs;
+pub mod suite;
+
+use answer::{
+    Facts, HULL_ANSWER_WORDS, NO_MEETING, Refusal, TURNS_ANSWER_WORDS, WALK_ANSWER_WORDS,
+};
+
+/// The calls of an implementation, with the answers of the C boundary.
+pub struct Library {
+    pub walk: Walk,
+    pub hull: fn(&[u8], &mut [i32], &mut [u32; HULL_ANSWER_WORDS]) -> u32,
+    pub turns_of_steps: Convert,
+    pub steps_of_turns: Convert,
+    pub line: fn(&[u8], &mut [u8]) -> usize,
+}
+
+/// The walk of operations in table, marks and chain.
+pub type Walk = fn(&[u8], &mut [u32], &mut [u32], &mut [u8], &mut [u32; WALK_ANSWER_WORDS]) -> u32;
+
+/// A conversion between steps and turns.
+pub type Convert = fn(&[u8], &mut [u8], &mut [u32; TURNS_ANSWER_WORDS]) -> u32;
+
+/// The proved library.
+#[cfg(feature = "proved")]
+pub const PROVED: Library = Library {
+    walk: undrwyth::raw::walk,
+    hull: undrwyth::raw::hull,
+    turns_of_steps: undrwyth::raw::turns_of_steps,
+    steps_of_turns: undrwyth::raw::steps_of_turns,
+    line: undrwyth::raw::line,
+};
+
+/// A crate of this workspace as a library.
+macro_rules! library {
+    ($of:ident) => {
+        Library {
+            walk: |ops, table, marks, chain, answer| {
+                tell(answer, $of::walk(ops, table, marks, chain).map(words))
+            },
+            hull: |chain, out, answer| {
+                tell(answer, $of::hull(chain, out).map(|count| [count as u32]))
+            },
+            turns_of_steps: |steps, out, answer| {
+                tell(answer, $of::turns_of_steps(steps, out).map(|()| []))
+            },
+            steps_of_turns: |turns, out, answer| {
+                tell(answer, $of::steps_of_turns(turns, out).map(|()| []))
+            },
+            line: $of::line,
+        }
+    };
+}
+
+/// The rules by sets and maps.
+pub const PLAIN: Library = library!(plain);
+
+/// The same quadtree in plain Rust.
+pub const TWIN: Library = library!(twin);
+
+/// Writes number and place and then the facts, zeros where there are none; answers the number.
+fn tell<const FACTS: usize>(answer: &mut [u32], result: Result<[u32; FACTS], Refusal>) -> u32 {
+    answer.fill(0);
+    match result {
+        Ok(facts) => answer[2..].copy_from_slice(&facts),
+        Err(refusal) => answer[..2].copy_from_slice(&[refusal.number(), refusal.place()]),
+    }
+    answer[0]
+}
+
+/// The facts of a walk as words.
+fn words(facts: Facts) -> [u32; WALK_ANSWER_WORDS - 2] {
+    let (j, k) = facts.meeting.unwrap_or((NO_MEETING, NO_MEETING));
+    [
+        facts.verdict as u32,
+        facts.steps,
+        facts.nodes,
+        facts.corners,
+        j,
+        k,
+        facts.area.cast_unsigned(),
+        facts.last.0.cast_unsigned(),
+        facts.last.1.cast_unsigned(),
+    ]
+}

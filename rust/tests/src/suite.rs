@@ -1,0 +1,197 @@
+//! What is compared: all short inputs, every limit and one past it, random and damaged inputs of all lengths.
+
+use answer::{LINE_BYTES, MOST_INPUT, MOST_LINE_DIGITS, MOST_RECORDS, MOST_STEPS, RECORD_WORDS};
+
+use crate::inputs::{self, Random};
+use crate::{Library, compare};
+
+/// Every string of exactly this length over the digits below `digits`.
+fn strings(length: u32, digits: u32) -> impl Iterator<Item = Vec<u8>> {
+    let digit = move |code: u32, i| (code / digits.pow(i) % digits) as u8;
+    (0..digits.pow(length)).map(move |code| (0..length).map(|i| digit(code, i)).collect())
+}
+
+/// A walk in buffers of the lengths that it asks, and a table of so many words.
+fn walk(library: &Library, ops: &[u8], words: usize) {
+    compare::walk(library, ops, words, 2 * ops.len(), ops.len());
+}
+
+/// A walk in the least table that has room, in one record less and in one more.
+fn walk_near(library: &Library, ops: &[u8]) {
+    let right = inputs::most_nodes(ops);
+    for records in right - 1..=right + 1 {
+        walk(library, ops, RECORD_WORDS * records);
+    }
+}
+
+/// A hull in the least buffer that has room, in one number less and in one more.
+fn hull_near(library: &Library, chain: &[u8]) {
+    let [number, _, count] = compare::hull(library, chain, 2 * chain.len() + 2);
+    if number == 0 {
+        let right = 2 * count as usize;
+        for out in [right - 1, right, right + 1] {
+            compare::hull(library, chain, out);
+        }
+    }
+}
+
+/// Both conversions in a buffer of the right length, of one less and of one more.
+fn turns_near(library: &Library, digits: &[u8]) {
+    for out in digits.len().saturating_sub(1)..=digits.len() + 1 {
+        compare::turns(library, digits, out);
+    }
+}
+
+/// Every walk of up to `longest` operations 0 to 5, in right and slightly wrong tables.
+pub fn short_walks(library: &Library, longest: u32) {
+    for ops in (0..=longest).flat_map(|length| strings(length, 6)) {
+        walk_near(library, &ops);
+        let words = RECORD_WORDS * inputs::most_nodes(&ops);
+        walk(library, &ops, words - 1);
+        walk(library, &ops, words + 1);
+    }
+}
+
+/// Every chain of up to `longest` digits 0 to 4, as steps to a hull and both ways between steps and turns.
+pub fn short_chains(library: &Library, longest: u32) {
+    for chain in (0..=longest).flat_map(|length| strings(length, 5)) {
+        hull_near(library, &chain);
+        turns_near(library, &chain);
+    }
+}
+
+/// Every byte at each place of every walk of up to four operations.
+pub fn every_byte(library: &Library) {
+    for mut ops in (1..=4).flat_map(|length| strings(length, 5)) {
+        for place in 0..ops.len() {
+            let kept = ops[place];
+            for byte in 0..=u8::MAX {
+                ops[place] = byte;
+                walk(library, &ops, RECORD_WORDS * 9);
+                compare::hull(library, &ops, 12);
+                compare::turns(library, &ops, ops.len());
+            }
+            ops[place] = kept;
+        }
+    }
+}
+
+/// Every length of each buffer up to beyond the right one, together.
+pub fn sizes(library: &Library) {
+    for ops in [&[][..], &[0], &[4], &[5], &[1, 4, 1], &[0, 0, 1, 1]] {
+        for table in 0..=RECORD_WORDS * 7 + 1 {
+            for marks in 0..=2 * ops.len() + 3 {
+                for chain in 0..=ops.len() + 2 {
+                    compare::walk(library, ops, table, marks, chain);
+                }
+            }
+        }
+        for out in 0..=12 {
+            compare::hull(library, ops, out);
+            compare::turns(library, ops, out);
+            compare::line(library, &inputs::frame(0, ops), LINE_BYTES - 6 + out);
+        }
+    }
+}
+
+/// The largest table and one beyond, the longest input and one beyond, the longest walk and one step beyond.
+pub fn limits(library: &Library) {
+    let most = RECORD_WORDS * MOST_RECORDS;
+    for words in [most - 1, most, most + 1, most + RECORD_WORDS] {
+        walk(library, &[0, 0, 1, 1, 4], words);
+    }
+    for n in [
+        MOST_STEPS - 1,
+        MOST_STEPS,
+        MOST_STEPS + 1,
+        MOST_INPUT,
+        MOST_INPUT + 1,
+    ] {
+        for way in 0..4 {
+            let mut ops = inputs::straight(n, way);
+            limits_of(library, &ops);
+            for (place, byte) in [(MOST_STEPS, 4), (MOST_STEPS, 5), (n - 1, 9), (0, 4)] {
+                if place < n {
+                    ops[place] = byte;
+                    limits_of(library, &ops);
+                    ops[place] = way;
+                }
+            }
+        }
+        limits_of(library, &inputs::withdrawn(n, &mut Random(n as u64)));
+    }
+}
+
+/// One input near a limit, in every call, with right and wrong buffers.
+fn limits_of(library: &Library, ops: &[u8]) {
+    let words = RECORD_WORDS * (MOST_STEPS + 1);
+    walk(library, ops, words);
+    walk(library, ops, words - RECORD_WORDS);
+    compare::walk(library, ops, words - 1, 2 * ops.len() - 1, ops.len());
+    compare::walk(library, ops, words, 2 * ops.len(), ops.len() - 1);
+    hull_near(library, ops);
+    turns_near(library, ops);
+}
+
+/// Every header byte by byte, every count with fitting and unfitting digits, every byte in a short frame.
+pub fn lines(library: &Library) {
+    let line = |line: &[u8]| compare::line(library, line, LINE_BYTES);
+    for count in 0..=MOST_LINE_DIGITS + 2 {
+        for kind in 0..3 {
+            let mut frame = inputs::frame(kind, &inputs::spiral(count));
+            line(&frame);
+            frame.push(b'0');
+            line(&frame);
+        }
+    }
+    for frame in [&b"0000040123"[..], b"0100040111", b"000000"] {
+        for place in 0..frame.len() {
+            let mut damaged = frame.to_vec();
+            for byte in 0..=u8::MAX {
+                damaged[place] = byte;
+                line(&damaged);
+            }
+            line(&frame[..place]);
+        }
+    }
+}
+
+/// The whole program on random inputs: `run` gives its output.
+pub fn program(run: impl Fn(&[u8]) -> Vec<u8>, inputs: usize, random: &mut Random) {
+    assert_eq!(run(b""), b"");
+    for _ in 0..inputs {
+        let count = random.length(400);
+        let input = inputs::lines(count, random);
+        let (ours, plain) = (run(&input), plain::program(&input));
+        assert!(ours == plain, "the program, on {} bytes", input.len());
+    }
+}
+
+/// Random calls of all kinds.
+pub fn random_calls(library: &Library, random: &mut Random) {
+    random_walk(library, MOST_INPUT + 4, random);
+    for _ in 0..8 {
+        random_walk(library, 1_024, random);
+        random_chain(library, random);
+        compare::line(library, &inputs::line(random), LINE_BYTES + random.below(2));
+    }
+}
+
+/// A walk of up to `most` operations, in tables that have room and that have none.
+fn random_walk(library: &Library, most: usize, random: &mut Random) {
+    let ops = inputs::walk(most, random);
+    walk_near(library, &ops);
+    let words = RECORD_WORDS * (1 + random.below(inputs::most_nodes(&ops)));
+    walk(library, &ops, words);
+}
+
+/// A chain for the hull and for both conversions, half the time a good one.
+fn random_chain(library: &Library, random: &mut Random) {
+    let mut chain = inputs::walk(MOST_INPUT, random);
+    if random.once_in(2) {
+        chain.retain(|&step| step < 4);
+        chain.truncate(MOST_STEPS);
+    }
+    hull_near(library, &chain);
+    turns_near(library, &chain);
+}

@@ -1,0 +1,44 @@
+//! The comparisons of one library, each a test.
+
+use tests::inputs::Random;
+use tests::suite;
+
+use super::{LIBRARY, LONGEST, ROUNDS};
+
+#[test]
+fn short_walks() {
+    suite::short_walks(&LIBRARY, LONGEST);
+}
+
+#[test]
+fn short_chains() {
+    suite::short_chains(&LIBRARY, LONGEST + 1);
+}
+
+#[test]
+fn every_byte() {
+    suite::every_byte(&LIBRARY);
+}
+
+#[test]
+fn sizes() {
+    suite::sizes(&LIBRARY);
+}
+
+#[test]
+fn limits() {
+    suite::limits(&LIBRARY);
+}
+
+#[test]
+fn lines() {
+    suite::lines(&LIBRARY);
+}
+
+#[test]
+fn random_calls() {
+    let mut random = Random(1);
+    for _ in 0..ROUNDS {
+        suite::random_calls(&LIBRARY, &mut random);
+    }
+}

@@ -1,0 +1,82 @@
+//! The proved library, and the proved program, against `plain`.
+
+use std::io::Write;
+use std::process::{Command, Stdio};
+
+use answer::{Facts, Refusal};
+use tests::PROVED as LIBRARY;
+use tests::inputs::{self, Random};
+use tests::suite;
+
+/// Operations of the longest walks of which all are compared.
+const LONGEST: u32 = 8;
+/// Rounds of random calls.
+const ROUNDS: usize = 2_000;
+
+#[path = "all/mod.rs"]
+mod all;
+
+/// The safe wrapper decodes what the boundary answers.
+#[test]
+fn wrapper() {
+    type Walk = fn(&[u8], &mut [u32], &mut [u32], &mut [u8]) -> Result<Facts, Refusal>;
+    let mut random = Random(2);
+    for _ in 0..2_000 {
+        let ops = inputs::walk(100, &mut random);
+        let n = ops.len();
+        let walked = |walk: Walk| {
+            walk(
+                &ops,
+                &mut [0; 21 * 60],
+                &mut vec![0; 2 * n],
+                &mut vec![0; n],
+            )
+        };
+        assert_eq!(walked(undrwyth::walk), walked(plain::walk));
+        let listed = |hull: fn(&[u8], &mut [i32]) -> _| hull(&ops, &mut [0; 20]);
+        assert_eq!(listed(undrwyth::hull), listed(plain::hull));
+        let turned = |convert: fn(&[u8], &mut [u8]) -> _| convert(&ops, &mut vec![0; n]);
+        assert_eq!(
+            turned(undrwyth::turns_of_steps),
+            turned(plain::turns_of_steps)
+        );
+        assert_eq!(
+            turned(undrwyth::steps_of_turns),
+            turned(plain::steps_of_turns)
+        );
+    }
+}
+
+/// The calls need no more stack than the header says.
+#[test]
+fn stack() {
+    std::thread::Builder::new()
+        .stack_size(512 << 10)
+        .spawn(|| {
+            suite::limits(&LIBRARY);
+            suite::lines(&LIBRARY);
+        })
+        .unwrap()
+        .join()
+        .unwrap();
+}
+
+#[test]
+fn program() {
+    suite::program(judge, 400, &mut Random(5));
+}
+
+/// The output of the program for this input.
+fn judge(input: &[u8]) -> Vec<u8> {
+    let path = concat!(env!("CARGO_MANIFEST_DIR"), "/../../target/bin/judge");
+    let mut judge = Command::new(path)
+        .stdin(Stdio::piped())
+        .stdout(Stdio::piped())
+        .spawn()
+        .expect("rt check judge makes the program");
+    let mut stdin = judge.stdin.take().unwrap();
+    std::thread::scope(|scope| {
+        scope.spawn(move || stdin.write_all(input).unwrap());
+        judge.wait_with_output().unwrap().stdout
+    })
+}

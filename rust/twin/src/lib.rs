@@ -1,0 +1,13 @@
+//! The proved library's own design in plain Rust: the linked quadtree in a lent table, the hull by columns, the line program
+//! over both. It is what the benchmarks measure the proved library against.
+
+mod hull;
+mod line;
+mod tree;
+mod turns;
+mod walk;
+
+pub use hull::hull;
+pub use line::{line, program};
+pub use turns::{steps_of_turns, turns_of_steps};
+pub use walk::walk;

@@ -1,0 +1,134 @@
+//! The line program.
+
+use std::io::{self, BufRead, Write};
+
+use answer::{
+    Facts, LINE_BYTES, LINE_RECORDS, MOST_LINE_DIGITS, NO_MEETING, RECORD_WORDS, Refusal,
+};
+
+use crate::hull::hull_list;
+use crate::tree::Corner;
+use crate::turns::steps_of_turns;
+use crate::walk::walk;
+
+/// Writes the answer to one line, both without line feed, and answers its length; writes nothing where `out` is shorter than
+/// the longest answer may be.
+pub fn line(line: &[u8], out: &mut [u8]) -> usize {
+    if out.len() < LINE_BYTES {
+        return 0;
+    }
+    let mut answer = Vec::new();
+    Judge::new().answer(line, &mut answer);
+    out[..answer.len()].copy_from_slice(&answer);
+    answer.len()
+}
+
+/// Answers every line of the input.
+pub fn program(mut input: impl BufRead, mut output: impl Write) -> io::Result<()> {
+    let mut judge = Judge::new();
+    let (mut line, mut answer) = (Vec::new(), Vec::new());
+    while input.read_until(b'\n', &mut line)? > 0 {
+        judge.answer(line.strip_suffix(b"\n").unwrap_or(&line), &mut answer);
+        answer.push(b'\n');
+        output.write_all(&answer)?;
+        line.clear();
+        answer.clear();
+    }
+    output.flush()
+}
+
+/// The buffers in which lines are judged.
+struct Judge {
+    digits: [u8; MOST_LINE_DIGITS],
+    steps: [u8; MOST_LINE_DIGITS],
+    table: [u32; RECORD_WORDS * LINE_RECORDS],
+    marks: [u32; 2 * MOST_LINE_DIGITS],
+    chain: [u8; MOST_LINE_DIGITS],
+}
+
+impl Judge {
+    fn new() -> Judge {
+        Judge {
+            digits: [0; MOST_LINE_DIGITS],
+            steps: [0; MOST_LINE_DIGITS],
+            table: [0; RECORD_WORDS * LINE_RECORDS],
+            marks: [0; 2 * MOST_LINE_DIGITS],
+            chain: [0; MOST_LINE_DIGITS],
+        }
+    }
+
+    /// Appends the answer to the line.
+    fn answer(&mut self, line: &[u8], out: &mut Vec<u8>) {
+        match self.judge(line) {
+            Ok((facts, hull)) => spell_accepted(out, facts, &hull),
+            Err(refusal) => {
+                spell(out, 0x80 + refusal.number(), 2);
+                spell(out, refusal.place(), 8);
+            }
+        }
+    }
+
+    fn judge(&mut self, line: &[u8]) -> Result<(Facts, Vec<Corner>), Refusal> {
+        let (kind, n) = self.read(line).ok_or(Refusal::BadLine)?;
+        let digits = &self.digits[..n];
+        let ops = if kind == 0 {
+            digits
+        } else {
+            steps_of_turns(digits, &mut self.steps[..n])?;
+            &self.steps[..n]
+        };
+        let chain = &mut self.chain[..n];
+        let facts = walk(ops, &mut self.table, &mut self.marks[..2 * n], chain)?;
+        Ok((facts, hull_list(&chain[..facts.steps as usize])))
+    }
+
+    /// Reads the kind, the count and the digits of a frame.
+    fn read(&mut self, line: &[u8]) -> Option<(usize, usize)> {
+        let (kind, rest) = line.split_at_checked(2)?;
+        let (count, digits) = rest.split_at_checked(4)?;
+        let (kind, count) = (number(kind)?, number(count)?);
+        if kind > 1 || count > MOST_LINE_DIGITS || count != digits.len() {
+            return None;
+        }
+        for (to, &from) in self.digits.iter_mut().zip(digits) {
+            *to = digit(from)?;
+        }
+        Some((kind, count))
+    }
+}
+
+fn digit(byte: u8) -> Option<u8> {
+    match byte {
+        b'0'..=b'9' => Some(byte - b'0'),
+        b'a'..=b'f' => Some(byte - b'a' + 10),
+        _ => None,
+    }
+}
+
+fn number(digits: &[u8]) -> Option<usize> {
+    digits
+        .iter()
+        .try_fold(0, |v, &byte| Some(16 * v + usize::from(digit(byte)?)))
+}
+
+/// Appends the low `n` hexadecimal digits of the value.
+fn spell(out: &mut Vec<u8>, value: u32, n: u32) {
+    let digit = |i: u32| b"0123456789abcdef"[(value >> (4 * i) & 15) as usize];
+    out.extend((0..n).rev().map(digit));
+}
+
+fn spell_accepted(out: &mut Vec<u8>, facts: Facts, hull: &[Corner]) {
+    let (j, k) = facts.meeting.unwrap_or((NO_MEETING, NO_MEETING));
+    spell(out, facts.verdict as u32, 2);
+    spell(out, facts.steps, 4);
+    spell(out, facts.nodes, 8);
+    spell(out, facts.corners, 4);
+    spell(out, j, 4);
+    spell(out, k, 4);
+    spell(out, facts.area.cast_unsigned(), 8);
+    spell(out, hull.len() as u32, 4);
+    for corner in hull {
+        spell(out, corner.x.cast_unsigned(), 4);
+        spell(out, corner.y.cast_unsigned(), 4);
+    }
+}

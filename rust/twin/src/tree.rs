@@ -1,0 +1,194 @@
+//! The linked quadtree, in a lent table of words.
+
+use answer::RECORD_WORDS;
+
+const PARENT: usize = 0;
+const LINK: usize = 10;
+const LINK_STEP: usize = 14;
+const VISITS: usize = 18;
+const NEED: usize = 19;
+const FIRST: usize = 20;
+
+#[derive(Clone, Copy, PartialEq, Eq)]
+pub struct Corner {
+    pub x: i32,
+    pub y: i32,
+}
+
+pub const ROOT: Corner = Corner { x: 0, y: 0 };
+
+/// The change of x and y by each step.
+pub const STEPS: [(i32, i32); 4] = [(1, 0), (0, 1), (-1, 0), (0, -1)];
+
+impl Corner {
+    pub fn stepped(self, way: u8) -> Corner {
+        let (east, north) = STEPS[usize::from(way)];
+        Corner {
+            x: self.x + east,
+            y: self.y + north,
+        }
+    }
+
+    fn parent(self) -> Corner {
+        Corner {
+            x: self.x / 2,
+            y: self.y / 2,
+        }
+    }
+
+    /// The word of the parent's record that holds this corner's ref.
+    fn child_word(self) -> usize {
+        let side = |v: i32| match v {
+            -1 => 0,
+            _ => 1 + (v & 1) as usize,
+        };
+        1 + 3 * side(self.x) + side(self.y)
+    }
+}
+
+/// The direction back.
+pub fn back(way: u8) -> u8 {
+    (way + 2) % 4
+}
+
+pub struct Tree<'a> {
+    words: &'a mut [u32],
+    pub nodes: usize,
+}
+
+impl<'a> Tree<'a> {
+    /// Clears the table and visits the root.
+    pub fn new(words: &'a mut [u32]) -> Tree<'a> {
+        words.fill(0);
+        let mut tree = Tree { words, nodes: 1 };
+        tree.visit(0, 0);
+        tree
+    }
+
+    fn word(&self, node: usize, word: usize) -> u32 {
+        self.words[RECORD_WORDS * node + word]
+    }
+
+    fn put(&mut self, node: usize, word: usize, value: u32) {
+        self.words[RECORD_WORDS * node + word] = value;
+    }
+
+    /// The node that this word refers to.
+    fn node(&self, node: usize, word: usize) -> Option<usize> {
+        (self.word(node, word) as usize).checked_sub(1)
+    }
+
+    /// The node linked to this one in the direction `way`.
+    pub fn linked(&self, node: usize, way: u8) -> Option<usize> {
+        self.node(node, LINK + way as usize)
+    }
+
+    fn set_link(&mut self, u: usize, v: usize, way: u8, step: u32) {
+        let (way, back) = (way as usize, back(way) as usize);
+        self.put(u, LINK + way, v as u32 + 1);
+        self.put(u, LINK_STEP + way, step);
+        self.put(v, LINK + back, u as u32 + 1);
+        self.put(v, LINK_STEP + back, step);
+    }
+
+    fn clear_link(&mut self, u: usize, v: usize, way: u8) {
+        let (way, back) = (way as usize, back(way) as usize);
+        self.put(u, LINK + way, 0);
+        self.put(u, LINK_STEP + way, 0);
+        self.put(v, LINK + back, 0);
+        self.put(v, LINK_STEP + back, 0);
+    }
+
+    /// The child of `u` at the word, made by the step where it is not there; none where there is no room.
+    fn child(&mut self, u: usize, word: usize, step: u32) -> Option<usize> {
+        if let Some(known) = self.node(u, word) {
+            return Some(known);
+        }
+        let node = self.nodes;
+        if RECORD_WORDS * node >= self.words.len() {
+            return None;
+        }
+        self.nodes += 1;
+        self.put(u, word, node as u32 + 1);
+        self.put(node, PARENT, u as u32 + 1);
+        self.put(node, NEED, step);
+        Some(node)
+    }
+
+    /// The neighbour of the node `u` of corner `c`, found or made by the step; none where there is no room.
+    pub fn neighbour(&mut self, u: usize, c: Corner, way: u8, step: u32) -> Option<usize> {
+        if let Some(known) = self.linked(u, way) {
+            return Some(known);
+        }
+        let e = c.stepped(way);
+        let v = if e == ROOT {
+            0
+        } else {
+            let above = self.above(u, c, e, way, step)?;
+            self.child(above, e.child_word(), step)?
+        };
+        self.set_link(u, v, way, step);
+        Some(v)
+    }
+
+    /// The parent of the neighbour `e` of `c`: `c` itself where it is the root, the shared parent, or the parent's neighbour.
+    fn above(&mut self, u: usize, c: Corner, e: Corner, way: u8, step: u32) -> Option<usize> {
+        let Some(up) = self.node(u, PARENT) else {
+            return Some(u);
+        };
+        let parent = c.parent();
+        if parent == e.parent() {
+            return Some(up);
+        }
+        self.neighbour(up, parent, way, step)
+    }
+
+    /// Counts a visit as corner k of the walk, and answers the k of the first visit here if there was one.
+    pub fn visit(&mut self, node: usize, k: u32) -> Option<u32> {
+        let visits = self.word(node, VISITS);
+        self.put(node, VISITS, visits + 1);
+        if visits == 0 {
+            self.put(node, FIRST, k + 1);
+            return None;
+        }
+        Some(self.word(node, FIRST) - 1)
+    }
+
+    /// Takes the last visit back, and answers whether it was the only one.
+    pub fn unvisit(&mut self, node: usize) -> bool {
+        let visits = self.word(node, VISITS);
+        self.put(node, VISITS, visits - 1);
+        if visits == 1 {
+            self.put(node, FIRST, 0);
+        }
+        visits == 1
+    }
+
+    pub fn visits(&self, node: usize) -> u32 {
+        self.word(node, VISITS)
+    }
+
+    /// Clears the links that the step made, from `u` in the direction `way` and up.
+    pub fn clear_links(&mut self, mut u: usize, way: u8, step: u32) {
+        while self.word(u, LINK_STEP + way as usize) == step {
+            let v = self.linked(u, way).expect("a link's step has a link");
+            self.clear_link(u, v, way);
+            match self.node(u, PARENT) {
+                Some(up) => u = up,
+                None => return,
+            }
+        }
+    }
+
+    /// Takes the nodes that the step needed off the end of the table, from the node `u` of corner `c` and up.
+    pub fn drop_nodes(&mut self, mut u: usize, mut c: Corner, step: u32) {
+        while self.word(u, NEED) == step {
+            let up = self.node(u, PARENT).expect("the root needs no step");
+            self.put(up, c.child_word(), 0);
+            self.words[RECORD_WORDS * u..][..RECORD_WORDS].fill(0);
+            self.nodes -= 1;
+            u = up;
+            c = c.parent();
+        }
+    }
+}
