@@ -100,3 +100,10 @@ cornersFrom-at c (d ∷ ds) (suc k) z h = cornersFrom-at (stepped d c) ds k z (o
 -- pn is the last corner
 pub cornerAt-end : (c : Corner) (ds : List ℕ) → cornerAt c ds (length ds) ≡ endFrom c ds
 cornerAt-end c ds = ap (endFrom c) (take-length ds)
+
+-- the next corner is where the step leads
+pub cornersFrom-next : (c : Corner) (ds : List ℕ) (k : ℕ) (z : Corner) → k < length ds → getD (cornersFrom c ds) (suc k) z ≡ stepped (getD ds k 0) (getD (cornersFrom c ds) k z)
+cornersFrom-next c [] k z h = absurd (omega arith)
+cornersFrom-next c (d ∷ []) zero z h = refl
+cornersFrom-next c (d ∷ e ∷ ds) zero z h = refl
+cornersFrom-next c (d ∷ ds) (suc k) z h = cornersFrom-next (stepped d c) ds k z (omega arith)

@@ -1,10 +1,10 @@
 -- Lists in which no element stands twice, by places.
 -- Assumes nothing.
-use mathlib.Core.List.{List, [], _∷_, List·Memᴰ, List·Memᴰ·head, List·Memᴰ·tail, Memᴰ·cast}
+use mathlib.Core.List.{List, [], _∷_, List·Memᴰ, List·Memᴰ·head, List·Memᴰ·tail, List·Memᴰ·not-nil, Memᴰ·cast}
 use mathlib.Core.Path.{_≡_, refl, sym}
 use Prim.Native.Nat.{ℕ, zero, suc, _<_}
 use native.Mathlib.Omega.{arith}
-use lib.ListN.{length, getD}
+use lib.ListN.{length, getD, take}
 use Rattle.lists.specs.Lists.{Distinct}
 
 module _ {A : Type 0} where
@@ -22,3 +22,9 @@ module _ {A : Type 0} where
   distinct-getD (x ∷ l) i zero z d h k e = omega arith
   distinct-getD (x ∷ l) zero (suc m) z d h k e = d .0 (Memᴰ·cast e (mem-getD l m z (omega arith)))
   distinct-getD (x ∷ l) (suc i) (suc m) z d h k e = distinct-getD l i m z (d .1) (omega arith) (omega arith) e
+
+  pub mem-take : (k : ℕ) (l : List A) {a : A} → List·Memᴰ a (take k l) → List·Memᴰ a l
+  mem-take zero l m = absurd (List·Memᴰ·not-nil m)
+  mem-take (suc k) [] m = m
+  mem-take (suc k) (x ∷ l) (List·Memᴰ·head e) = List·Memᴰ·head e
+  mem-take (suc k) (x ∷ l) (List·Memᴰ·tail m) = List·Memᴰ·tail (mem-take k l m)

@@ -122,3 +122,9 @@ none-meetingOf c ds f = meetingSays-one c ds (meetingOf c ds) none (meeting-says
 -- then all its corners differ
 pub corners-distinct : (c : Corner) (ds : List ℕ) → meetingOf c ds ≡ none → Distinct (cornersFrom c ds)
 corners-distinct c ds e = subst (SaysIn (cornersFrom c ds)) e (meetingFrom-says [] (cornersFrom c ds) tt)
+
+-- before the first meeting they differ
+pub corners-fresh : (c : Corner) (ds : List ℕ) (j k : ℕ) → FirstMeets c ds j k → Distinct (take k (cornersFrom c ds))
+corners-fresh c ds j k f =
+    let s : FirstIn (cornersFrom c ds) j k = subst (SaysIn (cornersFrom c ds)) (meets-meetingOf c ds j k f) (meetingFrom-says [] (cornersFrom c ds) tt) in
+    s .fresh

@@ -81,10 +81,14 @@ module _ (c : Corner) (ds : List ℕ) where
   closed-walk : endFrom c ds ≡ c → same (endFrom c ds) c ≡ true
   closed-walk e = ap (λ (x : Corner). same x c) e ∙ same-refl c
 
+  -- the first meeting of a room is (0,n)
+  pub room-first : IsRoom c ds → FirstMeets c ds 0 (length ds)
+  room-first r = record { meets = ends-meet (r .some) (r .closed); least = λ i m x. omega (arith, r .only i m x .1) }
+
   room-verdict : (n : ℕ) → length ds ≡ suc n → IsRoom c ds → verdictOf c ds ≡ Room
   room-verdict n l r =
-      let f : FirstMeets c ds 0 (length ds) = record { meets = ends-meet (r .some) (r .closed); least = λ i m x. omega (arith, r .only i m x .1) } in
-      by-parts n true (meet 0 (length ds)) l (closed-walk (r .closed)) (meets-meetingOf c ds 0 (length ds) f) ∙ ap closedBy (eq-eqb (length ds) (suc n) l)
+      by-parts n true (meet 0 (length ds)) l (closed-walk (r .closed)) (meets-meetingOf c ds 0 (length ds) (room-first r))
+      ∙ ap closedBy (eq-eqb (length ds) (suc n) l)
 
   open-verdict : (n : ℕ) → length ds ≡ suc n → VerdictSays c ds OpenMeeting → verdictOf c ds ≡ OpenMeeting
   open-verdict n l x = by (meetingOf c ds) refl

@@ -7,17 +7,19 @@ use mathlib.Core.Path.{_≡_, refl, ap, ap₂, sym, _∙_, subst}
 use Prim.Native.Nat.{ℕ, zero, suc, _<_, _≤_, pred}
 use native.Mathlib.Omega.{arith}
 use lib.ListN.{length, getD}
-use Rattle.lists.specs.Lists.{find, zip}
+use Rattle.lists.specs.Lists.{find, zip, Below}
+use Rattle.lists.proofs.BelowLaws.{below-getD}
 use Rattle.lists.proofs.DistinctLaws.{mem-getD}
 use Rattle.lists.proofs.FindLaws.{find-get, find-cong, bool-agree}
 use Rattle.lists.proofs.ZipLaws.{zip-within, zip-at, any-at, at-any, find-least}
 use Rattle.grid.specs.declared.Corner.{Corner}
-use Rattle.grid.specs.Grid.{origin, stepped, back}
+use Rattle.grid.specs.Grid.{origin, stepped, back, cornersFrom}
 use Rattle.grid.specs.Tree.{AncestorAt, lineageOf}
 use Rattle.grid.proofs.AncestorLaws.{ancestor-place, place-ancestor}
-use Rattle.grid.proofs.StepLaws.{stepped-back}
+use Rattle.grid.proofs.StepLaws.{back-small, stepped-back, length-cornersFrom, cornersFrom-next}
 use Rattle.tree.specs.Nodes.{legsOf, joins, links, linkStepOf, InUse, JoinedAt, LinkedBy}
 use Rattle.tree.proofs.JoinLaws.{joins-cases, joins-here, joins-there}
+use Rattle.tree.proofs.LinkLaws.{link-near}
 
 abbrev nowhere : Corner × Corner
 nowhere = (origin, origin)
@@ -98,3 +100,18 @@ pub link-both-ways : (ps : List Corner) (a : Corner) (d : ℕ) → linkStepOf ps
 link-both-ways ps a d =
     find-cong (links a (stepped d a)) (links (stepped d a) a) (λ l. bool-agree (links a (stepped d a) l) (links (stepped d a) a l) (links-over a (stepped d a) (l .0) (l .1)) (links-over (stepped d a) a (l .0) (l .1))) (legsOf ps)
     ∙ ap (λ (b : Corner). find (links (stepped d a) b) (legsOf ps)) (sym (stepped-back d a))
+
+-- two different nodes that a step of a walk links are neighbours, so each link stands in the words of its two ends
+pub link-next : (c : Corner) (ds : List ℕ) → Below 4 ds → (a b : Corner) (k : ℕ) → LinkedBy (cornersFrom c ds) a b k → (a ≡ b → ⊥) → (d : ℕ) × (d < 4) × (b ≡ stepped d a)
+link-next c ds h a b zero l f = absurd (omega (arith, l .counted))
+link-next c ds h a b (suc k) l f =
+    let ps = cornersFrom c ds in
+    let i : k < length ds = omega (arith, l .within, length-cornersFrom c ds) in
+    let d = getD ds k 0 in
+    let s : d < 4 = below-getD 4 ds k h i in
+    let p = getD ps k origin in
+    let e : links a b (p, stepped d p) ≡ true = subst (λ q. links a b (p, q) ≡ true) (cornersFrom-next c ds k origin i) (level-links p (getD ps (suc k) origin) a b (l .level) (l .joined)) in
+    ⊎-elim
+    (⊎-elim (λ g. absurd (f (sym g))) (λ g. (d, s, g)))
+    (⊎-elim (λ g. absurd (f g)) (λ g. (back d, back-small d, sym (ap (stepped (back d)) g ∙ stepped-back d b))))
+    (link-near d p a b e)
