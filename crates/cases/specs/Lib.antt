@@ -1,3 +1,2 @@
 -- The worked walks as a table, and what each of its facts says.
-pub mod HullTest
 pub mod Rows

@@ -1,7 +1,6 @@
 -- The worked walks P1 to P12 (01, "Worked walks"): for each row the operations, and what is said of them.
 -- Assumes nothing.
 use mathlib.Core.Path.{_≡_}
-use mathlib.Core.Bool.{true}
 use mathlib.Core.List.{List, [], _∷_}
 use Prim.Native.Nat.{ℕ, _+_, _*_}
 use lib.IntN.{ℤ, pos, negsuc}
@@ -18,7 +17,7 @@ use Rattle.tree.specs.Nodes.{nodesOf, refOf, linkStepOf}
 use Rattle.layout.specs.Table.{recordWords, tableOf}
 use Rattle.layout.specs.Marks.{marksOf}
 use Rattle.calls.specs.Walk.{walkJudged}
-use Rattle.cases.specs.HullTest.{isHull}
+use Rattle.hull.specs.Hull.{HullIs}
 
 -- what is said of a walk from the origin
 pub data Fact : Type 0 where
@@ -51,7 +50,7 @@ Holds os (nodesAre n) = length (nodesOf (cornersOf os)) ≡ n
 Holds os (cornersAre n) = length (visitedOf (cornersOf os)) ≡ n
 Holds os (meetingIs m) = meetingOf origin (survivors os) ≡ m
 Holds os (areaIs z) = areaOf origin (survivors os) ≡ z
-Holds os (hullIs h) = isHull (cornersOf os) h ≡ true
+Holds os (hullIs h) = HullIs (cornersOf os) h
 Holds os (marksAre ms) = marksOf origin os ≡ ms
 Holds os (survive ds) = survivors os ≡ ds
 Holds os (turnsAre ts) = turnsOf (survivors os) ≡ ts

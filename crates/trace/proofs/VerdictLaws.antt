@@ -126,6 +126,10 @@ module _ (c : Corner) (ds : List ℕ) where
       by zero l ClosedMeeting x = absurd (omega (arith, x .0))
       by (suc n) l ClosedMeeting x = closed-verdict n l x
 
+  -- verdict 2 is given to rooms alone
+  pub verdict-room : verdictOf c ds ≡ Room → IsRoom c ds
+  verdict-room e = subst (VerdictSays c ds) e verdict-says
+
   -- so no two verdicts hold of one walk
   pub verdictSays-one : (v w : Verdict) → VerdictSays c ds v → VerdictSays c ds w → v ≡ w
   verdictSays-one v w x y = sym (says-verdict v x) ∙ says-verdict w y
