@@ -1,1 +1,2 @@
+pub mod RefusalCases
 pub mod RefusalLaws

@@ -9,6 +9,7 @@ use Rattle.answer.specs.declared.Judged.{Judged}
 use Rattle.answer.specs.declared.Judged.the-variants.{Good, Refused}
 use Rattle.answer.specs.declared.Refusal.{Refusal}
 use Rattle.answer.specs.Refusal.{when, orElse, firstOf}
+use Rattle.answer.proofs.RefusalCases as cases
 
 pub refused-not-good : (r : Refusal) → Refused r ≡ Good → ⊥
 refused-not-good r e = let z : _≡_ {A = ℕ} 0 1 = cc in omega arith
