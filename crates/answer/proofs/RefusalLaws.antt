@@ -34,3 +34,11 @@ clear-first (j ∷ js) h = rw (h .0) (clear-first js (h .1))
 pub when-good : (b : Bool) (r : Refusal) → when b r ≡ Good → b ≡ false
 when-good true r e = absurd (refused-not-good r e)
 when-good false r e = refl
+
+pub orElse-right : (a : Judged) → orElse a Good ≡ a
+orElse-right Good = refl
+orElse-right (Refused r) = refl
+
+pub orElse-assoc : (a b c : Judged) → orElse (orElse a b) c ≡ orElse a (orElse b c)
+orElse-assoc Good b c = refl
+orElse-assoc (Refused r) b c = refl

@@ -1,0 +1,98 @@
+-- `walk::go_on` meets its contract.
+-- Assumes nothing.
+use mathlib.Core.Path.{_≡_, ap, subst, sym, _∙_}
+use Prim.Native.Nat.{ℕ}
+use native.Mathlib.Omega.{arith}
+use borrow.Author.Needs.{needs}
+use lib.ListN.{length, replicate}
+use Rattle.course.specs.declared.Ran.{Ran}
+use Rattle.course.specs.Runs.{Ended}
+use Rattle.grid.specs.Grid.{origin}
+use Rattle.word.specs.Operations.{survivors}
+use Rattle.walk.proofs.CallLaws.{settled-of, followed-full, followed-all}
+use Rattle.walk.proofs.go_on.Statement.{statement}
+use Rattle.walk.proofs.go_on.Tie as tie
+
+zeros : {m n : ℕ} → m ≡ n → replicate {A = ℕ} m 0 ≡ replicate n 0
+zeros e = ap (λ (k : ℕ). replicate {A = ℕ} k 0) e
+
+run-requires : tie.Need-run-requires
+run-requires c κs = search needs
+
+enum-known-i : tie.Need-enum-known-i
+enum-known-i c = search needs
+
+clear-requires : tie.Need-clear-requires
+clear-requires c κs = search needs
+
+enum-known-w : tie.Need-enum-known-w
+enum-known-w c = search needs
+
+accept-requires : tie.Need-accept-requires
+accept-requires c κs =
+    let a = c .before .before .before .before .before .before .before .before .before .before .before .before .before .before .before .before .before .before .args in
+    let r = c .before .before .before .before .before .before .before .before .before .before .run in
+    let w = c .before .before .w .given in
+    let e = subst (λ (x : Ran). Ended (length (a .t .now)) origin (a .ops .now) (r .last .1 .0) (r .last .1 .1 .0) (r .last .1 .1 .1 .0) x) (w .1) (r .ensures) in
+    record { chain-steps = survivors (a .ops .now); settled = settled-of (r .last .1 .0) (r .last .1 .1 .1 .0) (survivors (a .ops .now)) (w .0 .0) (e .0) }
+
+same-length : tie.Need-same-length
+same-length c = search needs
+
+same-length-2 : tie.Need-same-length-2
+same-length-2 c = search needs
+
+same-length-3 : tie.Need-same-length-3
+same-length-3 c = search needs
+
+returns : tie.Need-returns
+returns c =
+    let a = c .before .before .before .before .before .before .before .before .before .before .before .before .before .before .before .before .before .before .before .before .before .before .before .before .before .before .before .args in
+    let r = c .before .before .before .before .before .before .before .before .before .before .before .before .before .before .before .before .before .before .before .run in
+    let k = c .before .before .before .before .before .before .clear in
+    let i = c .before .before .before .before .before .before .before .before .before .before .before .i .given in
+    let e = subst (λ (x : Ran). Ended (length (a .t .now)) origin (a .ops .now) (r .last .1 .0) (r .last .1 .1 .0) (r .last .1 .1 .1 .0) x) (i .1) (r .ensures) in
+    let p : length (r .last .1 .0) ≡ length (a .t .now) = search needs in
+    let q : length (r .last .1 .1 .0) ≡ length (a .marks .now) = search needs in
+    let o : length (r .last .1 .1 .1 .0) ≡ length (a .chain .now) = search needs in
+    followed-full (a .ops .now) (a .t .now) (a .marks .now) (a .chain .now) (k .last .0) (k .last .1 .0) (k .last .1 .1 .0) (i .0 .0) e (k .ensures .0 ∙ zeros p) (k .ensures .1 .0 ∙ zeros q) (k .ensures .1 .1 ∙ zeros o)
+
+same-length-4 : tie.Need-same-length-4
+same-length-4 c = search needs
+
+same-length-5 : tie.Need-same-length-5
+same-length-5 c = search needs
+
+same-length-6 : tie.Need-same-length-6
+same-length-6 c = search needs
+
+returns-2 : tie.Need-returns-2
+returns-2 c =
+    let s = c .before .before .before .before .before .before .before .before .before .before .before .before .before .before .before .before .before .before .before .before .before in
+    let a = s .args in
+    let r = c .before .before .before .before .before .before .before .before .before .before .before .before .before .run in
+    let k = c .before .before .accept in
+    let w = c .before .before .before .before .before .w .given in
+    let e = subst (λ (x : Ran). Ended (length (a .t .now)) origin (a .ops .now) (r .last .1 .0) (r .last .1 .1 .0) (r .last .1 .1 .1 .0) x) (w .1) (r .ensures) in
+    let p : length (r .last .1 .0) ≡ length (a .t .now) = search needs in
+    let o : length (r .last .1 .1 .1 .0) ≡ length (a .chain .now) = search needs in
+    let f = k .ensures (survivors (a .ops .now)) (settled-of (r .last .1 .0) (r .last .1 .1 .1 .0) (survivors (a .ops .now)) (w .0 .0) (e .0)) in
+    followed-all (a .ops .now) (a .t .now) (a .marks .now) (a .chain .now) (r .last .1 .0) (r .last .1 .1 .0) (r .last .1 .1 .1 .0) (k .last .0) (w .0 .0) (k .result) (e .0) (e .1) (e .2) p (o ∙ s .pre .1 .0 .1) (f .0) (f .1)
+
+pub go-on-spec : {M : Type 1} → statement M
+go-on-spec =
+    tie.close
+    (tie.spec
+    run-requires
+    enum-known-i
+    clear-requires
+    enum-known-w
+    accept-requires
+    same-length
+    same-length-2
+    same-length-3
+    returns
+    same-length-4
+    same-length-5
+    same-length-6
+    returns-2)

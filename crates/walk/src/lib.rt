@@ -1,0 +1,80 @@
+// The walk: any operations, judged in a lent table.
+mod facts;
+mod judge;
+
+use answer::Answer;
+use answer::Facts;
+use answer::Judged;
+use answer::Refusal;
+use course::Ran;
+use stride::Walk;
+ghost use mathlib.Core.List.{List, [], _++_};
+ghost use mathlib.Core.Path.{_≡_};
+ghost use Prim.Native.Nat.{ℕ, _-_, _*_, _^_, _<_, _≤_};
+ghost use lib.ListN.{length, replicate};
+ghost use Rattle.answer.specs.declared.Judged.the-variants.{Good};
+ghost use Rattle.calls.specs.Walk.{factsOf, WalkIs};
+ghost use Rattle.grid.specs.Grid.{origin};
+ghost use Rattle.layout.specs.Table.{tableOf};
+ghost use Rattle.word.specs.Operations.{faultsFrom};
+ghost use Rattle.walk.specs.Settled.{Settled, Settling, Followed};
+
+// A table with the root alone, which is visited once.
+fn plant(t: &mut [u32])
+    requires { ⌜ 21 ≤ length (now t) ⌝ }
+    ensures { λ _. ⌜ now (t .exit) ≡ tableOf (length (now (t .entry))) origin [] ⌝ }
+{
+    cells::zero(t);
+    cells::visit(t, 0, 0);
+}
+
+// All three buffers zero.
+fn clear(t: &mut [u32], marks: &mut [u32], chain: &mut [u8])
+    ensures table { λ _. ⌜ now (t .exit) ≡ replicate (length (now (t .entry))) 0 ⌝ }
+    ensures marks { λ _. ⌜ now (marks .exit) ≡ replicate (length (now (marks .entry))) 0 ⌝ }
+    ensures chain { λ _. ⌜ now (chain .exit) ≡ replicate (length (now (chain .entry))) 0 ⌝ }
+{
+    cells::zero(t);
+    cells::zero(marks);
+    cells::zero_from(chain, 0);
+}
+
+// The facts of a walk that is over, whose chain is cleared behind its steps.
+fn accept(chain: &mut [u8], w: Walk) -> Facts
+    requires { ⌜ Settling (now chain) w ⌝ }
+    ensures { λ r. ⌜ ((ds : List ℕ) → Settled (now (chain .entry)) ds w → (r ≡ factsOf origin ds) × (now (chain .exit) ≡ ds ++ replicate (length (now (chain .entry)) - length ds) 0)) ⌝ }
+{
+    let n = w.spot.steps;
+    cells::zero_from(chain, n);
+    facts::facts(chain, w)
+}
+
+// Follows operations that have no fault, in a table with the root alone.
+fn go_on(ops: &[u8], t: &mut [u32], marks: &mut [u32], chain: &mut [u8]) -> Answer
+    requires { ⌜ (now t ≡ tableOf (length (now t)) origin []) × (21 ≤ length (now t)) × (length (now t) < 2 ^ 32) ⌝ }
+    requires { ⌜ (length (now marks) ≡ 2 * length (now ops)) × (length (now chain) ≡ length (now ops)) × (length (now ops) ≤ 32768) ⌝ }
+    requires { ⌜ faultsFrom 0 0 (now ops) ≡ Good ⌝ }
+    ensures { λ r. ⌜ Followed (now (ops .entry)) (now (t .entry)) (now (marks .entry)) (now (chain .entry)) r (now (t .exit)) (now (marks .exit)) (now (chain .exit)) ⌝ }
+{
+    match course::run(ops, t, marks, chain) {
+        Ran::Full(i) => {
+            clear(t, marks, chain);
+            Answer::Refused(Refusal::NoRoom(i))
+        }
+        Ran::All(w) => Answer::Accepted(accept(chain, w)),
+    }
+}
+
+// Follows the operations from the root. If they are refused, the buffers are untouched, but all zero where there is no room. Else the
+// table t holds the records of the nodes in use, then zeros; the marks, two words an operation, hold the nodes in use and the visits
+// at the corner stood on after it; and the chain holds the surviving steps, then zeros.
+pub fn follow(ops: &[u8], t: &mut [u32], marks: &mut [u32], chain: &mut [u8]) -> Answer
+    ensures { λ r. ⌜ WalkIs origin (now (ops .entry)) (now (t .entry)) (now (marks .entry)) (now (chain .entry)) r (now (t .exit)) (now (marks .exit)) (now (chain .exit)) ⌝ }
+{
+    let j = judge::input(ops, t.len(), marks.len(), chain.len());
+    if let Judged::Refused(r) = j {
+        return Answer::Refused(r);
+    }
+    plant(t);
+    go_on(ops, t, marks, chain)
+}
