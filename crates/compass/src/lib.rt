@@ -1,7 +1,7 @@
 // Corners as the code has them: where a step leads, the parent, and the child's word.
 ghost use mathlib.Core.Path.{_≡_};
-ghost use Prim.Native.Nat.{_<_};
-ghost use lib.IntN.{natAbs, sucℤ, predℤ};
+ghost use Prim.Native.Nat.{_<_, _≤_};
+ghost use lib.IntN.{natAbs, _+ℤ_};
 ghost use Rattle.grid.specs.Grid.{same, stepped};
 ghost use Rattle.grid.specs.Tree.{halfOf, parentOf, isRoot, slotOf, childWord};
 use grid::Corner;
@@ -20,31 +20,27 @@ pub fn parent_of(c: Corner) -> Corner
     Corner(half_of(c.0), half_of(c.1))
 }
 
-fn up(x: i32) -> i32
-    requires { ⌜ natAbs x < 65536 ⌝ }
-    ensures { λ r. ⌜ r ≡ sucℤ x ⌝ }
-{
-    x + 1
-}
+// What a step adds to x and to y, by its digit.
+const EAST: [i32; 4] = [1, 0, -1, 0];
 
-fn down(x: i32) -> i32
-    requires { ⌜ natAbs x < 65536 ⌝ }
-    ensures { λ r. ⌜ r ≡ predℤ x ⌝ }
+const NORTH: [i32; 4] = [0, 1, 0, -1];
+
+fn shifted(x: i32, by: i32) -> i32
+    requires { ⌜ (natAbs x < 65536) × (natAbs by ≤ 1) ⌝ }
+    ensures { λ r. ⌜ r ≡ x +ℤ by ⌝ }
 {
-    x - 1
+    x + by
 }
 
 // The corner one step from c in the direction d.
 pub fn moved(c: Corner, d: u8) -> Corner
-    requires { ⌜ (natAbs (c .0) < 65536) × (natAbs (c .1) < 65536) ⌝ }
+    requires { ⌜ (natAbs (c .0) < 65536) × (natAbs (c .1) < 65536) × (d < 4) ⌝ }
     ensures { λ r. ⌜ r ≡ stepped d c ⌝ }
 {
-    match d {
-        0 => Corner(up(c.0), c.1),
-        1 => Corner(c.0, up(c.1)),
-        2 => Corner(down(c.0), c.1),
-        _ => Corner(c.0, down(c.1)),
-    }
+    let way = d as usize;
+    let x = shifted(c.0, EAST[way]);
+    let y = shifted(c.1, NORTH[way]);
+    Corner(x, y)
 }
 
 // 1 + the child's index on one axis.

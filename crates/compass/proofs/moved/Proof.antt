@@ -1,79 +1,59 @@
 -- `compass::moved` meets its contract.
 -- Assumes nothing.
-use mathlib.Core.Path.{_≡_, refl, ap, ap₂, _∙_, sym}
-use Prim.Native.Nat.{ℕ, zero, suc}
+use mathlib.Core.Path.{_≡_, ap₂, sym, subst, _∙_}
+use Prim.Native.Nat.{_<_, _≤_}
+use native.Mathlib.Omega.{arith}
 use borrow.Author.Needs.{needs}
-use lib.IntN.{sucℤ, predℤ}
-use Rattle.grid.specs.declared.Corner.{Corner}
-use Rattle.grid.specs.Grid.{corner, stepped}
+use lib.IntN.{ℤ, natAbs, _+ℤ_}
+use Rattle.grid.specs.Grid.{corner}
+use Rattle.compass.proofs.MoveLaws.{eastOf, northOf, east-small, north-small, read-back, stepped-by}
 use Rattle.compass.proofs.SignedLaws.{back}
 use Rattle.compass.proofs.moved.Statement.{statement}
 use Rattle.compass.proofs.moved.Tie as tie
 
--- a digit that is none of 0, 1 and 2 moves south
-south : (d : ℕ) (a : Corner) → (d ≡ 0 → ⊥) → (d ≡ 1 → ⊥) → (d ≡ 2 → ⊥) → corner (a .0) (predℤ (a .1)) ≡ stepped d a
-south zero a p q r = absurd (p refl)
-south (suc zero) a p q r = absurd (q refl)
-south (suc (suc zero)) a p q r = absurd (r refl)
-south (suc (suc (suc d))) a p q r = refl
+mul-shifted : tie.Need-mul-shifted
+mul-shifted c = search needs
 
-up-requires : tie.Need-up-requires
-up-requires c κs = search needs
+array-copy-out-shifted : tie.Need-array-copy-out-shifted
+array-copy-out-shifted c = search needs
 
-up-requires-2 : tie.Need-up-requires-2
-up-requires-2 c κs = search needs
+shifted-requires : tie.Need-shifted-requires
+shifted-requires c κs =
+    let s = c .before .before in
+    let d = s .args .d in
+    (subst (λ (z : ℤ). natAbs z < 65536) (sym (read-back (s .args .c .0) (omega (arith, s .pre .0)))) (s .pre .0), subst (λ (z : ℤ). natAbs z ≤ 1) (sym (read-back (eastOf d) (omega (arith, east-small d)))) (east-small d))
 
-down-requires : tie.Need-down-requires
-down-requires c κs = search needs
+mul-shifted-2 : tie.Need-mul-shifted-2
+mul-shifted-2 c = search needs
 
-down-requires-2 : tie.Need-down-requires-2
-down-requires-2 c κs = search needs
+array-copy-out-shifted-2 : tie.Need-array-copy-out-shifted-2
+array-copy-out-shifted-2 c = search needs
+
+shifted-requires-2 : tie.Need-shifted-requires-2
+shifted-requires-2 c κs =
+    let s = c .before .before .before .before .before in
+    let d = s .args .d in
+    (subst (λ (z : ℤ). natAbs z < 65536) (sym (read-back (s .args .c .1) (omega (arith, s .pre .1)))) (s .pre .1), subst (λ (z : ℤ). natAbs z ≤ 1) (sym (read-back (northOf d) (omega (arith, north-small d)))) (north-small d))
 
 returns : tie.Need-returns
 returns c =
-    let a = c .before .before .before .before .args in
-    let g = c .before .before .struct-told .given in
-    let h = c .before .up in
-    let k : a .d ≡ 0 = c .before .before .before .match .keys1 in
-    ap₂ corner (back (h .result) (h .ok) ∙ h .ensures ∙ ap sucℤ (back (a .c .0) (g .0 .1))) (back (a .c .1) (g .1 .0 .1))
-    ∙ ap (λ (d : ℕ). stepped d (a .c)) (sym k)
-
-returns-2 : tie.Need-returns-2
-returns-2 c =
-    let a = c .before .before .before .before .args in
-    let g = c .before .before .struct-told3 .given in
-    let h = c .before .up2 in
-    let k : a .d ≡ 1 = c .before .before .before .match .keys2 in
-    ap₂ corner (back (a .c .0) (g .0 .1)) (back (h .result) (h .ok) ∙ h .ensures ∙ ap sucℤ (back (a .c .1) (g .1 .0 .1)))
-    ∙ ap (λ (d : ℕ). stepped d (a .c)) (sym k)
-
-returns-3 : tie.Need-returns-3
-returns-3 c =
-    let a = c .before .before .before .before .args in
-    let g = c .before .before .struct-told5 .given in
-    let h = c .before .down in
-    let k : a .d ≡ 2 = c .before .before .before .match .keys3 in
-    ap₂ corner (back (h .result) (h .ok) ∙ h .ensures ∙ ap predℤ (back (a .c .0) (g .0 .1))) (back (a .c .1) (g .1 .0 .1))
-    ∙ ap (λ (d : ℕ). stepped d (a .c)) (sym k)
-
-returns-4 : tie.Need-returns-4
-returns-4 c =
-    let a = c .before .before .before .before .args in
-    let g = c .before .before .struct-told7 .given in
-    let h = c .before .down2 in
-    let m = c .before .before .before .match .rest in
-    ap₂ corner (back (a .c .0) (g .0 .1)) (back (h .result) (h .ok) ∙ h .ensures ∙ ap predℤ (back (a .c .1) (g .1 .0 .1)))
-    ∙ south (a .d) (a .c) (m .0 .0 .1) (m .0 .1) (m .1)
+    let s = c .before .before .before .before .before .before in
+    let a = s .args in
+    let x = c .before .before .before .shifted in
+    let y = c .shifted2 in
+    ap₂ corner
+    (back (x .result) (x .ok) ∙ x .ensures ∙ ap₂ _+ℤ_ (read-back (a .c .0) (omega (arith, s .pre .0))) (read-back (eastOf (a .d)) (omega (arith, east-small (a .d)))))
+    (back (y .result) (y .ok) ∙ y .ensures ∙ ap₂ _+ℤ_ (read-back (a .c .1) (omega (arith, s .pre .1))) (read-back (northOf (a .d)) (omega (arith, north-small (a .d)))))
+    ∙ stepped-by (a .d) (a .c) (s .pre .2)
 
 pub moved-spec : {M : Type 1} → statement M
 moved-spec =
     tie.close
     (tie.spec
-    up-requires
-    up-requires-2
-    down-requires
-    down-requires-2
-    returns
-    returns-2
-    returns-3
-    returns-4)
+    mul-shifted
+    array-copy-out-shifted
+    shifted-requires
+    mul-shifted-2
+    array-copy-out-shifted-2
+    shifted-requires-2
+    returns)
