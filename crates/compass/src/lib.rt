@@ -3,6 +3,7 @@ ghost use mathlib.Core.Path.{_≡_};
 ghost use Prim.Native.Nat.{_<_, _≤_};
 ghost use lib.IntN.{natAbs, _+ℤ_};
 ghost use Rattle.grid.specs.Grid.{same, stepped};
+ghost use Rattle.compass.specs.Moves.{eastOf, northOf};
 ghost use Rattle.grid.specs.Tree.{halfOf, parentOf, isRoot, slotOf, childWord};
 use grid::Corner;
 
@@ -20,10 +21,28 @@ pub fn parent_of(c: Corner) -> Corner
     Corner(half_of(c.0), half_of(c.1))
 }
 
-// What a step adds to x and to y, by its digit.
-const EAST: [i32; 4] = [1, 0, -1, 0];
+// What the step d adds to x.
+fn east(d: u8) -> i32
+    ensures { λ r. ⌜ r ≡ eastOf d ⌝ }
+{
+    match d {
+        0 => 1,
+        2 => -1,
+        _ => 0,
+    }
+}
 
-const NORTH: [i32; 4] = [0, 1, 0, -1];
+// What the step d adds to y.
+fn north(d: u8) -> i32
+    ensures { λ r. ⌜ r ≡ northOf d ⌝ }
+{
+    match d {
+        0 => 0,
+        1 => 1,
+        2 => 0,
+        _ => -1,
+    }
+}
 
 fn shifted(x: i32, by: i32) -> i32
     requires { ⌜ (natAbs x < 65536) × (natAbs by ≤ 1) ⌝ }
@@ -34,12 +53,11 @@ fn shifted(x: i32, by: i32) -> i32
 
 // The corner one step from c in the direction d.
 pub fn moved(c: Corner, d: u8) -> Corner
-    requires { ⌜ (natAbs (c .0) < 65536) × (natAbs (c .1) < 65536) × (d < 4) ⌝ }
+    requires { ⌜ (natAbs (c .0) < 65536) × (natAbs (c .1) < 65536) ⌝ }
     ensures { λ r. ⌜ r ≡ stepped d c ⌝ }
 {
-    let way = d as usize;
-    let x = shifted(c.0, EAST[way]);
-    let y = shifted(c.1, NORTH[way]);
+    let x = shifted(c.0, east(d));
+    let y = shifted(c.1, north(d));
     Corner(x, y)
 }
 

@@ -90,3 +90,16 @@ fn above(t: &mut [u32], nodes: usize, u: usize, c: Corner, e: Corner, d: u8, ste
     }
     neighbour(t, nodes, up - 1, p, d, step)
 }
+
+// The neighbour as `neighbour` finds it, in one read where the two are linked.
+pub fn reach(t: &mut [u32], nodes: usize, u: usize, c: Corner, d: u8, step: u32) -> Found
+    requires { ⌜ Stood (now t) nodes u c ⌝ }
+    requires { ⌜ (natAbs (c .0) < 65536) × (natAbs (c .1) < 65536) × (d < 4) × (0 < step) × (length (now t) < 2 ^ 32) ⌝ }
+    ensures { λ r. ⌜ ((S : State) → Holds (now (t .entry)) nodes S → refOf (S .nodes) c ≡ suc u → Made (length (now (t .entry))) (reached S step c (stepped d c)) (stepped d c) (now (t .exit)) (r .at) (r .nodes)) ⌝ }
+{
+    let known = word(t, u, Record::NEIGHBOUR + d as usize) as usize;
+    if known != 0 {
+        return Found { at: known, nodes };
+    }
+    neighbour(t, nodes, u, c, d, step)
+}

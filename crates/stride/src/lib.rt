@@ -88,7 +88,7 @@ pub fn go(t: &mut [u32], w: Spot, d: u8) -> Gone
 {
     let n = w.steps + 1;
     let here = w.at;
-    let f = lookup::neighbour(t, w.nodes, w.node, here, d, n as u32);
+    let f = lookup::reach(t, w.nodes, w.node, here, d, n as u32);
     let at = f.at;
     if at == 0 {
         return Gone::Full;

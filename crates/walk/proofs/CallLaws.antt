@@ -26,7 +26,6 @@ use Rattle.grid.specs.Grid.{origin, same, cornersFrom, endFrom}
 use Rattle.grid.specs.Tree.{isRoot}
 use Rattle.layout.specs.Marks.{marksOf, chainOf}
 use Rattle.layout.specs.Table.{tableOf}
-use Rattle.lists.specs.Lists.{Below}
 use Rattle.stride.specs.declared.Walk.{Walk}
 use Rattle.stride.specs.Tallies.{Says}
 use Rattle.table_laws.specs.Model.{visitIn}
@@ -146,7 +145,6 @@ plant-table words t t′ e q h =
 pub settled-of : (t ch ds : List ℕ) (w : Walk) → Chained origin t ch ds w → Settled ch ds w
 settled-of t ch ds w k = record {
   steps = k .known .walked .steps;
-  digits = k .sound .digits;
   few = k .sound .few;
   corner = k .known .walked .corner;
   nodes = k .known .walked .count;
@@ -161,7 +159,6 @@ settled-cleared ch ch′ ds w k e =
     let q : ch′ ≡ ds ++ replicate (length ch - length ds) 0 = e ∙ ap (λ (n : ℕ). take n ch ++ replicate (length ch - n) 0) (k .steps) ∙ ap (λ (l : List ℕ). l ++ replicate (length ch - length ds) 0) (sym (k .kept)) in (
       record {
         steps = k .steps;
-        digits = k .digits;
         few = k .few;
         corner = k .corner;
         nodes = k .nodes;
@@ -171,9 +168,6 @@ settled-cleared ch ch′ ds w k e =
       },
       q,
     )
-
-pub settled-digits : (ch ds : List ℕ) (w : Walk) → Settled ch ds w → Below 4 (take (w .spot .steps) ch)
-settled-digits ch ds w k = subst (λ (l : List ℕ). Below 4 l) (k .kept ∙ ap (λ (n : ℕ). take n ch) (sym (k .steps))) (k .digits)
 
 -- ---- its facts
 abbrev pub factsWith : Verdict → ℕ → ℕ → ℕ → ℕ → ℕ → ℤ → Corner → Facts

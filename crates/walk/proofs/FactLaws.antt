@@ -1,7 +1,7 @@
 -- The area and the verdict, as the proofs of the code cite them.
 -- Assumes nothing.
 use mathlib.Core.Bool.{Bool, true, false, _&&_}
-use mathlib.Core.List.{List, [], _∷_}
+use mathlib.Core.List.{List}
 use mathlib.Core.Path.{_≡_, refl, ap, ap₂, sym, subst, _∙_}
 use Prim.Native.Nat.{ℕ, zero, suc, _+_, _*_, _<_, _≤_}
 use native.Mathlib.Omega.{arith}
@@ -14,7 +14,6 @@ use Rattle.answer.specs.declared.Verdict.{Verdict}
 use Rattle.answer.specs.declared.Verdict.the-variants.{Nowhere, Open, Room, OpenMeeting, ClosedMeeting}
 use Rattle.grid.specs.declared.Corner.{Corner}
 use Rattle.grid.specs.Grid.{stepped}
-use Rattle.lists.specs.Lists.{Below}
 use Rattle.stride.specs.Tallies.{Says}
 use Rattle.trace.specs.Meeting.{Meeting, none, meet}
 use Rattle.trace.specs.Verdict.{onlyEnds, verdictBy, sweepFrom, areaBy}
@@ -62,16 +61,6 @@ gain-bound (suc (suc (suc d))) x = omega (arith, abs-neg x)
 
 pub sum-bound : (sum x : ℤ) (d i : ℕ) → natAbs sum ≤ i * 16384 → natAbs x ≤ 16384 → natAbs (sum +ℤ gain d x) ≤ (i + 1) * 16384
 sum-bound sum x d i h k = omega (arith, abs+ sum (gain d x), gain-bound d x)
-
-below-at : (l : List ℕ) (i : ℕ) → Below 4 l → i < length l → getD l i 0 < 4
-below-at [] i b h = absurd (omega arith)
-below-at (d ∷ l) zero b h = b .0
-below-at (d ∷ l) (suc i) b h = below-at l i (b .1) (omega arith)
-
--- a digit of the first n
-pub digit-small : (chain : List ℕ) (n i : ℕ) → n ≤ length chain → i < n → Below 4 (take n chain) → getD chain i 0 < 4
-digit-small chain n i long more b =
-    subst (λ (d : ℕ). d < 4) (getD-take n chain i 0 more) (below-at (take n chain) i b (omega (arith, length-take-le n chain long)))
 
 -- one step more of the sum over the first n steps
 pub sweep-again : (chain : List ℕ) (n i : ℕ) (at at′ : Corner) (sum sum′ w : ℤ) → n ≤ length chain → n ≤ 16384 → i < n → natAbs (at .0) ≤ i → natAbs (at .1) ≤ i → natAbs sum ≤ i * 16384

@@ -10,7 +10,6 @@ use Rattle.calls.specs.Walk.{roomFrom, factsOf, answerBy, bufferBy}
 use Rattle.grid.specs.Grid.{origin, cornersFrom, endFrom}
 use Rattle.layout.specs.Marks.{marksOf, chainOf}
 use Rattle.layout.specs.Table.{tableOf}
-use Rattle.lists.specs.Lists.{Below}
 use Rattle.stride.specs.declared.Walk.{Walk}
 use Rattle.stride.specs.Tallies.{Counted}
 use Rattle.tree.specs.Nodes.{nodesOf}
@@ -26,7 +25,6 @@ gain (suc (suc (suc d))) x = negℤ x
 -- w is the walk from the root with the steps ds, which stand in the chain
 pub record Settled (chain ds : List ℕ) (w : Walk) : Type 0 where
   pub steps : w .spot .steps ≡ length ds
-  pub digits : Below 4 ds
   pub few : length ds ≤ 16384
   pub corner : w .spot .at ≡ endFrom origin ds
   pub nodes : w .spot .nodes ≡ length (nodesOf (cornersFrom origin ds))

@@ -11,7 +11,6 @@ ghost use lib.IntN.{natAbs, _+ℤ_};
 ghost use lib.ListN.{length, take};
 ghost use Rattle.calls.specs.Walk.{factsOf};
 ghost use Rattle.grid.specs.Grid.{origin};
-ghost use Rattle.lists.specs.Lists.{Below};
 ghost use Rattle.stride.specs.Tallies.{Says};
 ghost use Rattle.trace.specs.Meeting.{Meeting};
 ghost use Rattle.trace.specs.Verdict.{verdictBy, sweepFrom, areaBy};
@@ -32,7 +31,7 @@ fn gained(sum: i32, x: i32, d: u8) -> i32
 
 // The sum over the first n steps of x times the change of y.
 fn sweep(chain: &[u8], n: usize) -> i32
-    requires { ⌜ (n ≤ length (now chain)) × (n ≤ 16384) × Below 4 (take n (now chain)) ⌝ }
+    requires { ⌜ (n ≤ length (now chain)) × (n ≤ 16384) ⌝ }
     ensures { λ r. ⌜ r ≡ sweepFrom origin (take n (now (chain .entry))) ⌝ }
 {
     let mut at = Corner(0, 0);
@@ -49,7 +48,7 @@ fn sweep(chain: &[u8], n: usize) -> i32
 
 // The signed area of the first n steps: 0 where they are no room.
 fn area(chain: &[u8], n: usize, v: Verdict) -> i32
-    requires { ⌜ (n ≤ length (now chain)) × (n ≤ 16384) × Below 4 (take n (now chain)) ⌝ }
+    requires { ⌜ (n ≤ length (now chain)) × (n ≤ 16384) ⌝ }
     ensures { λ r. ⌜ r ≡ areaBy v (sweepFrom origin (take n (now (chain .entry)))) ⌝ }
 {
     if let Verdict::Room = v {

@@ -12,11 +12,11 @@ use Rattle.stride.proofs.go.Tie as tie
 add-n : tie.Need-add-n
 add-n c = search needs
 
-cast-neighbour : tie.Need-cast-neighbour
-cast-neighbour c = search needs
+cast-reach : tie.Need-cast-reach
+cast-reach c = search needs
 
-neighbour-requires : tie.Need-neighbour-requires
-neighbour-requires c κs =
+reach-requires : tie.Need-reach-requires
+reach-requires c κs =
     let s = c .before .before .before .before in
     let a = s .args in
     let k = s .pre .0 in
@@ -32,7 +32,7 @@ returns c =
     let a = s .args in
     let k = s .pre .0 in
     let q = s .pre .1 in
-    let o = c .before .before .before .neighbour in
+    let o = c .before .before .before .reach in
     λ x ds h. step-full (a .t .now) x ds (a .w) h (a .d) (o .last .0) (o .result .at) (o .result .nodes) (o .ensures) (c .if1 .taken)
 
 sub-visit : tie.Need-sub-visit
@@ -44,7 +44,7 @@ visit-requires c κs =
     let a = s .args in
     let k = s .pre .0 in
     let q = s .pre .1 in
-    let o = c .before .before .before .before .neighbour in
+    let o = c .before .before .before .before .reach in
     let v = step-visits (a .t .now) (k .start) (k .chain) (a .w) (k .walked) (a .d) (o .last .0) (o .result .at) (o .result .nodes) (o .ensures) (c .before .if1 .left) in
     (v .0, omega (arith, v .1, q .3), omega (arith, q .3))
 
@@ -63,7 +63,7 @@ returns-2 c =
     let a = s .args in
     let k = s .pre .0 in
     let q = s .pre .1 in
-    let o = c .before .before .before .before .before .before .before .before .neighbour in
+    let o = c .before .before .before .before .before .before .before .before .reach in
     let v = c .before .before .before .visit in
     let r : Spot = record { node = o .result .at - 1; at = c .moved .result; steps = a .w .steps + 1; nodes = o .result .nodes } in
     λ x ds h. step-to (a .t .now) x ds (a .w) h (a .d) (o .last .0) (o .result .at) (o .result .nodes) (o .ensures) (c .before .before .before .before .before .if1 .left) (v .last .0) (v .ensures) r refl (c .moved .ensures) refl refl
@@ -73,8 +73,8 @@ go-spec =
     tie.close
     (tie.spec
     add-n
-    cast-neighbour
-    neighbour-requires
+    cast-reach
+    reach-requires
     same-length
     returns
     sub-visit

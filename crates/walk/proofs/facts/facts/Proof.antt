@@ -5,7 +5,7 @@ use native.Mathlib.Omega.{arith}
 use mir.Syntax.{w32}
 use mir.Val.{toZ, ofZ}
 use Rattle.compass.proofs.SignedLaws.{back}
-use Rattle.walk.proofs.CallLaws.{facts-are, settled-digits}
+use Rattle.walk.proofs.CallLaws.{facts-are}
 use Rattle.walk.proofs.facts.facts.Statement.{statement}
 use Rattle.walk.proofs.facts.facts.Tie as tie
 
@@ -16,10 +16,7 @@ verdict-requires : tie.Need-verdict-requires
 verdict-requires c κs = let k = c .before .before .before .before .before .pre .settled in omega (arith, k .steps, k .few)
 
 area-requires : tie.Need-area-requires
-area-requires c κs =
-    let s = c .before .before .before .before .before .before in
-    let k = s .pre .settled in
-    (omega (arith, k .steps, k .space), omega (arith, k .steps, k .few), settled-digits (s .args .chain .now) (s .pre .chain-steps) (s .args .w) k)
+area-requires c κs = let k = c .before .before .before .before .before .before .pre .settled in (omega (arith, k .steps, k .space), omega (arith, k .steps, k .few))
 
 returns : tie.Need-returns
 returns c =

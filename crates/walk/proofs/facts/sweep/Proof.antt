@@ -13,7 +13,7 @@ use Rattle.grid.specs.Grid.{origin, stepped}
 use Rattle.trace.specs.Verdict.{sweepFrom}
 use Rattle.compass.proofs.SignedLaws.{back}
 use Rattle.walk.specs.Settled.{gain}
-use Rattle.walk.proofs.FactLaws.{digit-small, sweep-again, sweep-end}
+use Rattle.walk.proofs.FactLaws.{sweep-again, sweep-end}
 use Rattle.walk.proofs.facts.sweep.Statement.{statement}
 use Rattle.walk.proofs.facts.sweep.Tie as tie
 
@@ -36,10 +36,7 @@ gained-requires c κs =
     (omega (arith, l .inv .3, l .inv .0, c .before .before .before .before .before .pre .1), subst (λ (z : ℤ). natAbs z ≤ 16384) (sym (back (l .at .0) (c .struct-told .given .0 .1))) (omega (arith, l .inv .1, l .inv .0, c .before .before .before .before .before .pre .1)))
 
 moved-requires : tie.Need-moved-requires Inv-loop μ-loop
-moved-requires c κs =
-    let s = c .before .before .before .before .before .before in
-    let l = c .before .before .before .before .loop in
-    (omega (arith, l .inv .1, l .inv .0, s .pre .1), omega (arith, l .inv .2, l .inv .0, s .pre .1), digit-small (s .args .chain .now) (s .args .n) (l .i) (s .pre .0) (omega (arith, c .before .before .before .loop-test .taken)) (s .pre .2))
+moved-requires c κs = let l = c .before .before .before .before .loop in (omega (arith, l .inv .1, l .inv .0, c .before .before .before .before .before .before .pre .1), omega (arith, l .inv .2, l .inv .0, c .before .before .before .before .before .before .pre .1))
 
 add-i : tie.Need-add-i Inv-loop μ-loop
 add-i c = omega (arith, c .before .before .before .before .before .before .before .pre .1)
