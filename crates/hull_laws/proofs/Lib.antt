@@ -16,4 +16,5 @@ pub mod OutlineLaws
 pub mod JoinLaws
 pub mod WalkLaws
 pub mod HullLaws
+pub mod CallLaws
 pub mod HullCases

@@ -1,10 +1,11 @@
 -- What the parts of the hull call ask and promise.
 -- Assumes nothing.
 use mathlib.Core.Path.{_≡_}
-use mathlib.Core.List.{List, map}
+use mathlib.Core.List.{List, _++_, map}
 use Prim.Native.Nat.{ℕ, suc, _+_, _*_, _-_, _<_, _≤_}
-use lib.IntN.{ℤ, pos, natAbs, _-ℤ_}
+use lib.IntN.{ℤ, pos, natAbs, _+ℤ_, _-ℤ_}
 use lib.ListN.{length, getD, drop, replicate}
+use lib.Seq.{slice}
 use Rattle.grid.specs.declared.Corner.{Corner}
 use Rattle.grid.specs.Grid.{cornersFrom}
 use Rattle.answer.specs.declared.Judged.{Judged}
@@ -14,7 +15,7 @@ use Rattle.answer.specs.Limits.{mostSteps}
 use Rattle.hull.specs.Hull.{HullIs}
 use Rattle.hull.specs.Call.{roomJudged, countedOf, bufferOf}
 use Rattle.hull_laws.specs.Columns.{westFrom, eastFrom}
-use Rattle.hull_laws.specs.Outline.{chainFrom, outlineOf}
+use Rattle.hull_laws.specs.Outline.{chainFrom, spot, spotBack, colAt}
 use Rattle.hull_scan.specs.declared.columns.Extent.{Extent}
 
 -- the column and the height of a walk's start: it has room on every side
@@ -71,6 +72,23 @@ pub record Puts (room o : ℕ) (base : Corner) (way : ℤ) (ys s : List ℕ) (fr
   pub y : natAbs (base .1) ≤ suc blank
   pub one : natAbs way ≤ 1
   pub columns : (j : ℕ) → from ≤ j → j < to → getD s j 0 < length ys
+
+-- the corners of s from place a on, and then of t from f up to g
+abbrev pub joined : Corner → ℕ → ℕ → List ℕ → List ℕ → List ℕ → List ℕ → ℕ → ℕ → ℕ → List Corner
+joined c w e lo hi s t a f g =
+    map (λ i. spot ((c .0 -ℤ pos middle) +ℤ pos w) (c .1 -ℤ pos middle) (colAt lo i)) (drop a s)
+    ++ map (λ i. spotBack ((c .0 -ℤ pos middle) +ℤ pos e) ((c .1 -ℤ pos middle) +ℤ pos top) (colAt hi i)) (slice f g t)
+
+-- parts of the two chains of the columns w to e, and room for them
+pub record Parts (w e : ℕ) (lo hi s t : List ℕ) (a f g room : ℕ) : Type 0 where
+  pub ordered : w ≤ e
+  pub within : e ≤ top
+  pub lower : a ≤ length s
+  pub from : f ≤ g
+  pub upto : g ≤ length t
+  pub fits : 2 * ((length s - a) + (g - f)) ≤ room
+  pub columns : (j : ℕ) → a ≤ j → j < length s → getD s j 0 < length lo
+  pub columns2 : (j : ℕ) → f ≤ j → j < g → getD t j 0 < length hi
 
 -- the two chains of the columns w to e
 pub record Chained (w e : ℕ) (lo hi s t : List ℕ) (a b : ℕ) : Type 0 where

@@ -9,12 +9,11 @@ ghost use Prim.Native.Nat.{_+_, _*_, _-_, _<_, _≤_};
 ghost use lib.Dec.{eqb, ltb};
 ghost use Rattle.lists.specs.Lists.{tally};
 ghost use lib.IntN.{ℤ, pos, natAbs, _+ℤ_, _-ℤ_, _*ℤ_};
-ghost use lib.ListN.{length, getD, drop};
+ghost use lib.ListN.{length, set};
 ghost use lib.Seq.{sets, slice};
 ghost use Rattle.hull.specs.Call.{numbers};
-ghost use Rattle.hull_laws.specs.Outline.{outlineOf, spotBy, colAt, skip, stop};
-ghost use Rattle.hull_scan.specs.Scan.{middle, top, Near, Chained, Listed, Puts};
-
+ghost use Rattle.hull_laws.specs.Outline.{outlineOf, spot, spotBy, colAt};
+ghost use Rattle.hull_scan.specs.Scan.{middle, top, joined, Near, Puts, Parts, Chained, Listed};
 
 // A coordinate: n steps of `way`, which is 1 or -1, from `base`.
 fn coordinate(base: i32, way: i32, n: u16) -> i32
@@ -22,6 +21,15 @@ fn coordinate(base: i32, way: i32, n: u16) -> i32
     ensures { λ r. ⌜ r ≡ base +ℤ (way *ℤ pos n) ⌝ }
 {
     base + way * (n as i32)
+}
+
+// Writes x and y of the corner at column c and height y to place o.
+fn put_corner(out: &mut [i32], o: usize, base: Corner, way: i32, c: u16, y: u16)
+    requires { ⌜ (o + 1 < length (now out)) × (natAbs (base .0) ≤ 65536) × (natAbs (base .1) ≤ 65536) × (natAbs way ≤ 1) ⌝ }
+    ensures { λ _. ⌜ now (out .exit) ≡ set (set (now (out .entry)) o (spotBy base way (c, y) .0)) (o + 1) (spotBy base way (c, y) .1) ⌝ }
+{
+    out[o] = coordinate(base.0, way, c);
+    out[o + 1] = coordinate(base.1, way, y);
 }
 
 // Writes the corners of the columns s[from] up to s[to] from place `at` on.
@@ -42,8 +50,7 @@ fn put(
     let mut o = at;
     while i < to {
         let c = s[i];
-        out[o] = coordinate(base.0, way, c);
-        out[o + 1] = coordinate(base.1, way, ys[c as usize]);
+        put_corner(out, o, base, way, c, ys[c as usize]);
         o += 2;
         i += 1;
     }
@@ -72,6 +79,48 @@ fn close(lo: u16, hi: u16, f: usize, n: usize) -> usize
     n
 }
 
+// The coordinate at place n, where z stands in the middle.
+fn shifted(z: i32, n: usize) -> i32
+    requires { ⌜ (natAbs z ≤ middle) × (n ≤ top) ⌝ }
+    ensures { λ r. ⌜ r ≡ (z -ℤ pos middle) +ℤ pos n ⌝ }
+{
+    z - 16384 + n as i32
+}
+
+// The corner at this column and height, where start stands in the middle.
+fn placed(start: Corner, column: usize, height: usize) -> Corner
+    requires { ⌜ Near start × (column ≤ top) × (height ≤ top) ⌝ }
+    ensures { λ r. ⌜ r ≡ spot (start .0 -ℤ pos middle) (start .1 -ℤ pos middle) (column, height) ⌝ }
+{
+    let x = shifted(start.0, column);
+    let y = shifted(start.1, height);
+    Corner(x, y)
+}
+
+// Writes the lower chain, from s[a] on, and then t[f] up to t[g] of the upper one.
+fn write(
+    start: Corner,
+    west: usize,
+    east: usize,
+    lo: &[u16],
+    hi: &[u16],
+    s: &[u16],
+    a: usize,
+    t: &[u16],
+    f: usize,
+    g: usize,
+    out: &mut [i32],
+)
+    requires { ⌜ Near start × Parts west east (now lo) (now hi) (now s) (now t) a f g (length (now out)) ⌝ }
+    ensures { λ _. ⌜ now (out .exit) ≡ sets (now (out .entry)) 0 (numbers (joined start west east (now (lo .entry)) (now (hi .entry)) (now (s .entry)) (now (t .entry)) a f g)) ⌝ }
+{
+    let first = placed(start, west, 0);
+    let last = placed(start, east, 32768);
+    let n = s.len();
+    put(out, 0, first, 1, lo, s, a, n);
+    put(out, 2 * (n - a), last, -1, hi, t, f, g);
+}
+
 // Writes both chains if there is room, and answers how many corners there are.
 pub fn finish(
     start: Corner,
@@ -91,14 +140,10 @@ pub fn finish(
     let k = east - west;
     let f = seam(lo[k], hi[0], b);
     let g = close(lo[0], hi[k], f, t.len());
-    let below = s.len() - a;
-    let count = below + (g - f);
+    let count = (s.len() - a) + (g - f);
     if out.len() < 2 * count {
         return Counted::Refused(Refusal::HullRoom);
     }
-    let first = Corner(start.0 - 16384 + west as i32, start.1 - 16384);
-    let last = Corner(start.0 - 16384 + east as i32, start.1 + 16384);
-    put(out, 0, first, 1, lo, s, a, s.len());
-    put(out, 2 * below, last, -1, hi, t, f, g);
+    write(start, west, east, lo, hi, s, a, t, f, g, out);
     Counted::Corners(count)
 }

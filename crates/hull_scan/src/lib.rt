@@ -3,6 +3,7 @@
 mod chains;
 mod columns;
 mod corners;
+
 use answer::Counted;
 use answer::Refusal;
 use chains::scan;
@@ -47,7 +48,15 @@ fn list_narrow(chain: &[u8], start: Corner, west: usize, east: usize, out: &mut 
     let mut s = [0u16; 256];
     let mut t = [0u16; 256];
     list_in(
-        chain, start, west, east, &mut lo, &mut hi, &mut s, &mut t, out,
+        chain,
+        start,
+        west,
+        east,
+        &mut lo,
+        &mut hi,
+        &mut s,
+        &mut t,
+        out,
     )
 }
 
@@ -61,7 +70,15 @@ fn list_wider(chain: &[u8], start: Corner, west: usize, east: usize, out: &mut [
     let mut s = [0u16; 2048];
     let mut t = [0u16; 2048];
     list_in(
-        chain, start, west, east, &mut lo, &mut hi, &mut s, &mut t, out,
+        chain,
+        start,
+        west,
+        east,
+        &mut lo,
+        &mut hi,
+        &mut s,
+        &mut t,
+        out,
     )
 }
 
@@ -75,7 +92,15 @@ fn list_widest(chain: &[u8], start: Corner, west: usize, east: usize, out: &mut 
     let mut s = [0u16; 16385];
     let mut t = [0u16; 16385];
     list_in(
-        chain, start, west, east, &mut lo, &mut hi, &mut s, &mut t, out,
+        chain,
+        start,
+        west,
+        east,
+        &mut lo,
+        &mut hi,
+        &mut s,
+        &mut t,
+        out,
     )
 }
 

@@ -1,91 +1,98 @@
 use borrow.Author.Needs.{needs}
+use native.Mathlib.Omega.{arith}
+use mathlib.Core.Path.{_≡_, refl, sym, ap, _∙_}
+use mathlib.Core.List.{List, map}
+use Prim.Native.Nat.{ℕ, _+_, _*_, _-_, _≤_}
+use lib.ListN.{length, getD}
+use lib.IntN.{ℤ}
+use lib.Seq.{sets, slice}
+use mir.Syntax.{w32}
+use mir.Val.{toZ, ofZ}
+use mir.Facts.{toZ-ofZ}
+use Rattle.grid.specs.declared.Corner.{Corner}
+use Rattle.hull.specs.Call.{numbers}
+use Rattle.hull_laws.specs.Outline.{spotBy, colAt}
+use Rattle.hull_laws.proofs.JoinLaws.{put-turn, put-end}
 use Rattle.hull_scan.proofs.corners.put.Statement.{statement}
 use Rattle.hull_scan.proofs.corners.put.Tie as tie
 use Rattle.hull_scan.proofs.corners.put.Reads as reads
 use Rattle.hull_scan.proofs.corners.put.Lts as lts
-use Rattle.hull_scan.proofs.corners.coordinate.Reads as coordinate-reads
+use Rattle.hull_scan.proofs.corners.put_corner.Reads as put-corner-reads
+
+-- the corner of a column
+abbrev corner : Corner → ℤ → List ℕ → ℕ → Corner
+corner base way ys k = spotBy base way (colAt ys k)
 
 abbrev Inv-loop : tie.InvT-loop
-Inv-loop out₀ at base way ys s from to i₀ o₀ out i o = ?
+Inv-loop out₀ at base way ys s from to i₀ o₀ out i o =
+    (from ≤ i) × (i ≤ to) × (o ≡ at + 2 * (i - from)) × (length out ≡ length out₀)
+    × (sets out o (numbers (map (corner base (toZ w32 way) ys) (slice i to s))) ≡ sets out₀ at (numbers (map (corner base (toZ w32 way) ys) (slice from to s))))
 
 abbrev μ-loop : tie.MeasureT-loop
-μ-loop out₀ at base way ys s from to i₀ o₀ out i o = ?
+μ-loop out₀ at base way ys s from to i₀ o₀ out i o = to - i
 
--- src/corners.rt:43:5
+-- src/corners.rt:52:5
 loop-holds : tie.Need-loop-holds Inv-loop μ-loop
-loop-holds c = search needs
+loop-holds c = (omega arith, c .before .before .pre .ordered, omega arith, refl, refl)
 
--- src/corners.rt:44:17
+-- src/corners.rt:53:17
 mul-c : tie.Need-mul-c Inv-loop μ-loop
 mul-c c = search needs
 
--- src/corners.rt:44:17
+-- src/corners.rt:53:17
 shared-slice-read-c : tie.Need-shared-slice-read-c Inv-loop μ-loop
 shared-slice-read-c c = search needs
 
--- src/corners.rt:45:18
-coordinate-requires : tie.Need-coordinate-requires Inv-loop μ-loop
-coordinate-requires c κs = search needs
+-- src/corners.rt:54:45
+cast-put-corner : tie.Need-cast-put-corner Inv-loop μ-loop
+cast-put-corner c = omega (arith, c .before .shared-slice-known3 .given (c .before .before .before .loop .i))
 
--- src/corners.rt:45:9
-mul-out : tie.Need-mul-out Inv-loop μ-loop
-mul-out c = search needs
+-- src/corners.rt:54:42
+mul-put-corner : tie.Need-mul-put-corner Inv-loop μ-loop
+mul-put-corner c = omega (arith, c .before .shared-slice-known3 .given (c .before .before .before .loop .i))
 
--- src/corners.rt:45:9
-slice-set-from-out : tie.Need-slice-set-from-out Inv-loop μ-loop
-slice-set-from-out c = search needs
+-- src/corners.rt:54:42
+shared-slice-read-put-corner : tie.Need-shared-slice-read-put-corner Inv-loop μ-loop
+shared-slice-read-put-corner c =
+    let l = c .before .before .before .before .loop in
+    c .before .before .before .before .before .before .before .pre .columns (l .i) (l .inv .0) (omega arith)
 
--- src/corners.rt:46:49
-cast-coordinate : tie.Need-cast-coordinate Inv-loop μ-loop
-cast-coordinate c = search needs
+-- src/corners.rt:54:9
+put-corner-requires : tie.Need-put-corner-requires Inv-loop μ-loop
+put-corner-requires c κs =
+    let s = c .before .before .before .before .before .before .before in
+    (omega arith, s .pre .x, s .pre .y, simp (toZ-ofZ (s .fits .way)) (s .pre .one))
 
--- src/corners.rt:46:46
-mul-coordinate : tie.Need-mul-coordinate Inv-loop μ-loop
-mul-coordinate c = search needs
-
--- src/corners.rt:46:46
-shared-slice-read-coordinate : tie.Need-shared-slice-read-coordinate Inv-loop μ-loop
-shared-slice-read-coordinate c = search needs
-
--- src/corners.rt:46:22
-coordinate-requires-2 : tie.Need-coordinate-requires-2 Inv-loop μ-loop
-coordinate-requires-2 c κs = search needs
-
--- src/corners.rt:46:13
-add-t20 : tie.Need-add-t20 Inv-loop μ-loop
-add-t20 c = search needs
-
--- src/corners.rt:46:9
-mul-t21 : tie.Need-mul-t21 Inv-loop μ-loop
-mul-t21 c = search needs
-
--- src/corners.rt:46:9
-slice-set-from-out-2 : tie.Need-slice-set-from-out-2 Inv-loop μ-loop
-slice-set-from-out-2 c = search needs
-
--- src/corners.rt:47:9
+-- src/corners.rt:55:9
 add-o : tie.Need-add-o Inv-loop μ-loop
 add-o c = search needs
 
--- src/corners.rt:48:9
+-- src/corners.rt:56:9
 add-i : tie.Need-add-i Inv-loop μ-loop
 add-i c = search needs
 
--- src/corners.rt:43:5
+-- src/corners.rt:52:5
 loop-less : tie.Need-loop-less Inv-loop μ-loop
 loop-less c = search needs
 
--- src/corners.rt:43:5
+-- src/corners.rt:52:5
 loop-again : tie.Need-loop-again Inv-loop μ-loop
-loop-again c = search needs
+loop-again c =
+    let s = c .before .before .before .before .before .before .before .before .before in
+    let l = c .before .before .before .before .before .before .loop in
+    (omega arith, omega arith, omega arith, c .before .put-corner .kept .0 ∙ l .inv .3, put-turn (corner (s .args .base) (toZ w32 (ofZ w32 (s .args .way))) (s .args .ys .now)) (s .args .s .now) (s .args .to) (l .i) (l .o) (l .out) (c .before .put-corner .last .0) (sets (s .args .out .now) (s .args .at) (numbers (map (corner (s .args .base) (toZ w32 (ofZ w32 (s .args .way))) (s .args .ys .now)) (slice (s .args .from) (s .args .to) (s .args .s .now))))) (omega arith) (s .pre .inside) (c .before .put-corner .ensures) (l .inv .4))
 
--- src/corners.rt:28:1
+-- src/corners.rt:37:1
 same-length : tie.Need-same-length Inv-loop μ-loop
 same-length c = search needs
 
--- src/corners.rt:28:1
+-- src/corners.rt:37:1
 returns : tie.Need-returns Inv-loop μ-loop
-returns c = search needs
+returns c =
+    let s = c .before .before .before .before in
+    let l = c .before .loop in
+    let way = toZ-ofZ (s .fits .way) in
+    put-end (corner (s .args .base) (s .args .way) (s .args .ys .now)) (s .args .s .now) (s .args .to) (l .i) (l .o) (l .out) (sets (s .args .out .now) (s .args .at) (numbers (map (corner (s .args .base) (s .args .way) (s .args .ys .now)) (slice (s .args .from) (s .args .to) (s .args .s .now))))) (l .inv .1) (omega arith) (simp way at (l .inv .4))
 
 pub put-spec : {M : Type 1} → statement M
 put-spec =
@@ -96,16 +103,10 @@ put-spec =
     loop-holds
     mul-c
     shared-slice-read-c
-    coordinate-requires
-    mul-out
-    slice-set-from-out
-    cast-coordinate
-    mul-coordinate
-    shared-slice-read-coordinate
-    coordinate-requires-2
-    add-t20
-    mul-t21
-    slice-set-from-out-2
+    cast-put-corner
+    mul-put-corner
+    shared-slice-read-put-corner
+    put-corner-requires
     add-o
     add-i
     loop-less
