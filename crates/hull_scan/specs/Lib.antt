@@ -1,2 +1,2 @@
--- What the parts of the hull call ask and promise.
-pub mod Scan
+-- The hull call.
+pub mod Store

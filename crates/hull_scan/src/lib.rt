@@ -1,20 +1,20 @@
 // Lists the convex hull of a walk's corners: the lowest and the highest corner of each column, a chain over each, and both as one
 // list. The upper chain is the lower one of the walk turned by half a turn.
-mod chains;
-mod columns;
-mod corners;
-
 use answer::Counted;
 use answer::Refusal;
-use chains::scan;
-use columns::Columns;
-use columns::Extent;
-use corners::finish;
 use grid::Corner;
+use hull_chains::scan;
+use hull_columns::Columns;
+use hull_columns::Extent;
+use hull_columns::fill;
+use hull_columns::survey;
+use hull_corners::finish;
 ghost use Prim.Native.Nat.{_-_, _<_, _≤_};
 ghost use Rattle.grid.specs.Grid.{origin};
 ghost use Rattle.hull.specs.Call.{HullCall};
-ghost use Rattle.hull_scan.specs.Scan.{Walked, Near, Store, Hulled};
+ghost use Rattle.hull_columns.specs.Extent.{Walked};
+ghost use Rattle.hull_corners.specs.Parts.{Near};
+ghost use Rattle.hull_scan.specs.Store.{Store, Hulled};
 
 // The hull of the walk from start through the columns west to east. The working store is lent; lo and hi hold no height yet.
 fn list_in(
@@ -31,7 +31,7 @@ fn list_in(
     requires { ⌜ Walked (now chain) west east × Near start × Store west east (now lo) (now hi) (now s) (now t) ⌝ }
     ensures { λ r. ⌜ Hulled start (now (chain .entry)) (now (out .entry)) r (now (out .exit)) ⌝ }
 {
-    columns::fill(chain, west, east, lo, hi);
+    fill(chain, west, east, lo, hi);
     let n = east - west + 1;
     let a = scan(lo, n, s);
     let b = scan(hi, n, t);
@@ -126,7 +126,7 @@ pub fn list(chain: &[u8], out: &mut [i32]) -> Counted
     if chain.len() > Columns::MOST_INPUT {
         return Counted::Refused(Refusal::TooMany);
     }
-    match columns::survey(chain) {
+    match survey(chain) {
         Extent::Within(west, east) => list_from(chain, Corner(0, 0), west, east, out),
         Extent::Refused(r) => Counted::Refused(r),
     }

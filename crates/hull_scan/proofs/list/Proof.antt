@@ -12,7 +12,7 @@ use Rattle.hull_scan.proofs.list.Statement.{statement}
 use Rattle.hull_scan.proofs.list.Tie as tie
 use Rattle.hull_scan.proofs.list.Reads as reads
 use Rattle.hull_scan.proofs.list.Lts as lts
-use Rattle.hull_scan.proofs.columns.survey.Reads as survey-reads
+use Rattle.hull_columns.proofs.survey.Reads as survey-reads
 use Rattle.hull_scan.proofs.list_from.Reads as list-from-reads
 
 -- src/lib.rt:102:9

@@ -4,9 +4,9 @@ use Rattle.hull_scan.proofs.list_in.Statement.{statement}
 use Rattle.hull_scan.proofs.list_in.Tie as tie
 use Rattle.hull_scan.proofs.list_in.Reads as reads
 use Rattle.hull_scan.proofs.list_in.Lts as lts
-use Rattle.hull_scan.proofs.chains.scan.Reads as scan-reads
-use Rattle.hull_scan.proofs.columns.fill.Reads as fill-reads
-use Rattle.hull_scan.proofs.corners.finish.Reads as finish-reads
+use Rattle.hull_chains.proofs.scan.Reads as scan-reads
+use Rattle.hull_columns.proofs.fill.Reads as fill-reads
+use Rattle.hull_corners.proofs.finish.Reads as finish-reads
 
 -- src/lib.rt:33:5
 fill-requires : tie.Need-fill-requires
