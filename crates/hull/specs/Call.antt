@@ -26,9 +26,13 @@ abbrev pub faultFrom : ℕ → List ℕ → Judged
 faultFrom i [] = judged.Good
 faultFrom i (d ∷ ds) = orElse (faultAt i d) (faultFrom (suc i) ds)
 
--- refusal 1, then 4 and 6 at the first faulty place, then 8 where the room is shorter than twice the hull corners
+-- 8 where the room is shorter than twice the hull corners
+abbrev pub roomJudged : ℕ → ℕ → Judged
+roomJudged room corners = when (ltb room (2 * corners)) HullRoom
+
+-- refusal 1, then 4 and 6 at the first faulty place, 8 last
 abbrev pub hullJudged : List ℕ → ℕ → ℕ → Judged
-hullJudged chain room corners = firstOf (when (ltb mostInput (length chain)) TooMany ∷ faultFrom 0 chain ∷ when (ltb room (2 * corners)) HullRoom ∷ [])
+hullJudged chain room corners = firstOf (when (ltb mostInput (length chain)) TooMany ∷ faultFrom 0 chain ∷ roomJudged room corners ∷ [])
 
 -- how many corners there are, unless there is a refusal
 abbrev pub countedOf : Judged → ℕ → Counted

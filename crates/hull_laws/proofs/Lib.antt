@@ -9,7 +9,12 @@ pub mod RoundLaws
 pub mod TrailLaws
 pub mod SinkLaws
 pub mod ScanLaws
+pub mod SurveyLaws
+pub mod FillLaws
+pub mod StackLaws
 pub mod OutlineLaws
+pub mod JoinLaws
 pub mod WalkLaws
 pub mod HullLaws
+pub mod CallLaws
 pub mod HullCases

@@ -2,8 +2,21 @@
 -- whole numbers.
 -- Assumes nothing.
 use mathlib.Core.List.{List, [], _∷_}
-use Prim.Native.Nat.{ℕ, zero, suc, _+_, _-_, min, max}
+use Prim.Native.Nat.{ℕ, zero, suc, _+_, _*_, _-_, min, max}
 use lib.ListN.{getD, set}
+use Rattle.answer.specs.Limits.{mostSteps}
+
+-- the column and the height of a walk's start: it has room on every side
+abbrev pub middle : ℕ
+middle = mostSteps
+
+-- the height from which the walk turned by half a turn counts
+abbrev pub top : ℕ
+top = 2 * middle
+
+-- the height of a column that has none yet
+abbrev pub blank : ℕ
+blank = 65535
 
 -- the column after step d
 unfoldable pub colAfter : ℕ → ℕ → ℕ

@@ -1,10 +1,10 @@
 -- The chain over columns, the corners that columns stand for, and the two chains as one list.
 -- Assumes nothing.
-use mathlib.Core.Bool.{Bool, true, false}
+use mathlib.Core.Bool.{Bool, true, false, not}
 use mathlib.Core.List.{List, [], _∷_, _++_, map}
 use Prim.Native.Nat.{ℕ, zero, suc, _+_, _*_, _-_}
 use lib.Dec.{ltb, eqb}
-use lib.IntN.{ℤ, pos, _+ℤ_, _-ℤ_}
+use lib.IntN.{ℤ, pos, _+ℤ_, _-ℤ_, _*ℤ_}
 use lib.ListN.{length, getD, drop, replicate}
 use Rattle.lists.specs.Lists.{front}
 use Rattle.grid.specs.declared.Corner.{Corner}
@@ -21,6 +21,12 @@ cutAt ys p [] = []
 cutAt ys p (b ∷ []) = b ∷ []
 cutAt ys p (b ∷ (a ∷ s)) = elim (turnsAt ys p b a) [ true ↦ b ∷ (a ∷ s) | false ↦ cutAt ys p (a ∷ s) ]
 
+-- whether the first of a chain makes no left turn after p
+unfoldable pub dropsAt : List ℕ → ℕ → List ℕ → Bool
+dropsAt ys p [] = false
+dropsAt ys p (b ∷ []) = false
+dropsAt ys p (b ∷ (a ∷ s)) = not (turnsAt ys p b a)
+
 -- the chain of k columns from i on
 unfoldable pub chainFrom : List ℕ → ℕ → ℕ → List ℕ
 chainFrom ys i zero = []
@@ -33,6 +39,10 @@ spot x0 y0 v = corner (x0 +ℤ pos (v .0)) (y0 +ℤ pos (v .1))
 -- the same, where columns are counted westward and heights downward
 abbrev pub spotBack : ℤ → ℤ → ℕ × ℕ → Corner
 spotBack x1 y1 v = corner (x1 -ℤ pos (v .0)) (y1 -ℤ pos (v .1))
+
+-- the corner that lies v in the direction `way`, 1 or -1, from o
+abbrev pub spotBy : Corner → ℤ → ℕ × ℕ → Corner
+spotBy o way v = corner (o .0 +ℤ (way *ℤ pos (v .0))) (o .1 +ℤ (way *ℤ pos (v .1)))
 
 -- a column with its height
 abbrev pub colAt : List ℕ → ℕ → ℕ × ℕ

@@ -1,0 +1,2 @@
+-- The scan over columns.
+pub mod Stack

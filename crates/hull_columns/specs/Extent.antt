@@ -1,0 +1,23 @@
+-- What the passes over a walk's columns ask and promise.
+-- Assumes nothing.
+use mathlib.Core.Path.{_≡_}
+use mathlib.Core.List.{List}
+use Prim.Native.Nat.{ℕ, _<_, _≤_}
+use lib.ListN.{length, getD}
+use Rattle.answer.specs.declared.Judged.{Judged}
+use Rattle.answer.specs.declared.Judged.the-variants as judged
+use Rattle.answer.specs.Limits.{mostSteps}
+use Rattle.hull_laws.specs.Columns.{middle, westFrom, eastFrom}
+use Rattle.hull_columns.specs.declared.Extent.{Extent}
+
+-- the westmost and the eastmost column, unless there is a refusal
+abbrev pub extentBy : Judged → ℕ → ℕ → Extent
+extentBy judged.Good w e = Extent.Within w e
+extentBy (judged.Refused r) w e = Extent.Refused r
+
+-- a chain of steps that is not refused, and the columns that it goes through
+pub record Walked (chain : List ℕ) (w e : ℕ) : Type 0 where
+  pub digits : (k : ℕ) → getD chain k 0 < 4
+  pub short : length chain ≤ mostSteps
+  pub west : w ≡ westFrom middle chain
+  pub east : e ≡ eastFrom middle chain

@@ -1,0 +1,2 @@
+-- The passes over the columns.
+pub mod Extent

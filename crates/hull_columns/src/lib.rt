@@ -1,0 +1,129 @@
+// The columns of a walk, counted so that its start stands in the middle one, and the lowest corner of each.
+use answer::Refusal;
+ghost use mathlib.Core.Path.{_≡_};
+ghost use mathlib.Core.List.{map};
+ghost use Prim.Native.Nat.{_-_, _<_, _≤_, min, max};
+ghost use lib.ListN.{length};
+ghost use Rattle.hull.specs.Call.{faultFrom};
+ghost use Rattle.hull_laws.specs.Columns.{colAfter, rowAfter, trail, westFrom, eastFrom, sink, sinks, eastOf, turned};
+ghost use Rattle.hull_laws.specs.Columns.{middle, top};
+ghost use Rattle.hull_columns.specs.Extent.{extentBy, Walked};
+
+pub struct Columns;
+
+impl Columns {
+    // input bytes at most
+    pub const MOST_INPUT: usize = 32768;
+
+    // steps at most
+    pub const MOST_STEPS: usize = 16384;
+
+    // the column of the start
+    pub const MIDDLE: usize = 16384;
+
+    // the height of the start
+    pub const LEVEL: u16 = 16384;
+
+    // twice that: the height from which the walk that is turned by half a turn counts
+    pub const TOP: u16 = 32768;
+}
+
+// The westmost and the eastmost column of a walk, or why it is refused.
+pub enum Extent {
+    Within(usize, usize),
+    Refused(Refusal),
+}
+
+// One more than the columns that a step goes to the east.
+const EASTWARD: [usize; 4] = [2, 1, 0, 1];
+
+// One more than the heights that it goes up.
+const NORTHWARD: [u16; 4] = [1, 2, 1, 0];
+
+// The column after step d.
+fn column(x: usize, d: u8) -> usize
+    requires { ⌜ (0 < x) × (x ≤ top) × (d < 4) ⌝ }
+    ensures { λ r. ⌜ r ≡ colAfter x d ⌝ }
+{
+    x + EASTWARD[d as usize] - 1
+}
+
+// The height after step d.
+fn height(y: u16, d: u8) -> u16
+    requires { ⌜ (0 < y) × (y ≤ top) × (d < 4) ⌝ }
+    ensures { λ r. ⌜ r ≡ rowAfter y d ⌝ }
+{
+    y + NORTHWARD[d as usize] - 1
+}
+
+fn lesser(a: usize, b: usize) -> usize
+    ensures { λ r. ⌜ r ≡ min a b ⌝ }
+{
+    if a < b {
+        return a;
+    }
+    b
+}
+
+fn greater(a: usize, b: usize) -> usize
+    ensures { λ r. ⌜ r ≡ max a b ⌝ }
+{
+    if a < b {
+        return b;
+    }
+    a
+}
+
+// How far the walk goes, unless a byte is above 3 or a step is one too many.
+pub fn survey(chain: &[u8]) -> Extent
+    ensures { λ r. ⌜ r ≡ extentBy (faultFrom 0 (now (chain .entry))) (westFrom middle (now (chain .entry))) (eastFrom middle (now (chain .entry))) ⌝ }
+{
+    let mut x = Columns::MIDDLE;
+    let mut west = x;
+    let mut east = x;
+    let mut i = 0;
+    while i < chain.len() {
+        let d = chain[i];
+        if d > 3 {
+            return Extent::Refused(Refusal::BadDigit(i));
+        }
+        if i == Columns::MOST_STEPS {
+            return Extent::Refused(Refusal::TooLong(i));
+        }
+        x = column(x, d);
+        west = lesser(west, x);
+        east = greater(east, x);
+        i += 1;
+    }
+    Extent::Within(west, east)
+}
+
+// Column c keeps the height y if it is lower.
+fn keep(ys: &mut [u16], c: usize, y: u16)
+    requires { ⌜ c < length (now ys) ⌝ }
+    ensures { λ _. ⌜ now (ys .exit) ≡ sink (now (ys .entry)) (c, y) ⌝ }
+{
+    if y < ys[c] {
+        ys[c] = y;
+    }
+}
+
+// Keeps the lowest corner of each column in lo, counted from west, and in hi that of the walk turned by half a turn, from east.
+pub fn fill(chain: &[u8], west: usize, east: usize, lo: &mut [u16], hi: &mut [u16])
+    requires { ⌜ Walked (now chain) west east × (east - west < length (now lo)) × (east - west < length (now hi)) ⌝ }
+    ensures { λ _. ⌜ (now (lo .exit) ≡ sinks (now (lo .entry)) (map (eastOf west) (trail middle middle (now (chain .entry))))) × (now (hi .exit) ≡ sinks (now (hi .entry)) (map (turned east top) (trail middle middle (now (chain .entry))))) ⌝ }
+{
+    let mut x = Columns::MIDDLE;
+    let mut y = Columns::LEVEL;
+    let mut i = 0;
+    while i < chain.len() {
+        keep(lo, x - west, y);
+        keep(hi, east - x, Columns::TOP - y);
+        let d = chain[i];
+        x = column(x, d);
+        y = height(y, d);
+        i += 1;
+    }
+    keep(lo, x - west, y);
+    keep(hi, east - x, Columns::TOP - y);
+}

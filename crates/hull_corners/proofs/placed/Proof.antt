@@ -1,0 +1,35 @@
+use borrow.Author.Needs.{needs}
+use borrow.Author.Needs.{sfits-of}
+use mathlib.Core.Path.{_≡_, _∙_}
+use lib.IntN.{ℤ, pos, _-ℤ_}
+use mir.Syntax.{w32}
+use mir.Val.{toZ, ofZ}
+use mir.Facts.{toZ-ofZ}
+use Rattle.grid.specs.Grid.{corner}
+use Rattle.hull_laws.specs.Outline.{spot}
+use Rattle.hull_laws.proofs.CornerLaws.{corner-eq}
+use Rattle.hull_corners.proofs.placed.Statement.{statement}
+use Rattle.hull_corners.proofs.placed.Tie as tie
+use Rattle.hull_corners.proofs.placed.Reads as reads
+use Rattle.hull_corners.proofs.placed.Lts as lts
+use Rattle.hull_corners.proofs.shifted.Reads as shifted-reads
+
+-- src/corners.rt:96:9
+shifted-requires : tie.Need-shifted-requires
+shifted-requires c κs = search needs
+
+-- src/corners.rt:97:9
+shifted-requires-2 : tie.Need-shifted-requires-2
+shifted-requires-2 c κs = search needs
+
+-- src/corners.rt:92:1
+returns : tie.Need-returns
+returns c =
+    let s = c .before .before .before .before in
+    let x = simp (toZ-ofZ (sfits-of {w = w32} {z = s .args .start .0} (c .before .before .before .struct-told .given .0 .1))) at (c .before .before .shifted .ensures) in
+    let y = simp (toZ-ofZ (sfits-of {w = w32} {z = s .args .start .1} (c .before .struct-told2 .given .1 .0 .1))) at (c .shifted2 .ensures) in
+    corner-eq (corner (toZ w32 (ofZ w32 (c .before .before .shifted .result))) (toZ w32 (ofZ w32 (c .shifted2 .result)))) (spot (s .args .start .0 -ℤ pos 16384) (s .args .start .1 -ℤ pos 16384) (s .args .column, s .args .height))
+    (toZ-ofZ (sfits-of {w = w32} {z = c .before .before .shifted .result} (c .before .before .shifted .ok)) ∙ x) (toZ-ofZ (sfits-of {w = w32} {z = c .shifted2 .result} (c .shifted2 .ok)) ∙ y)
+
+pub placed-spec : {M : Type 1} → statement M
+placed-spec = tie.close (tie.spec shifted-requires shifted-requires-2 returns)

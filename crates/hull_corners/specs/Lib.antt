@@ -1,0 +1,2 @@
+-- The writing of a list of corners.
+pub mod Parts

@@ -1,0 +1,154 @@
+-- The pass that judges a chain and finds how far its walk goes.
+-- Assumes nothing.
+use mathlib.Core.Path.{_≡_, refl, sym, ap, ap₂, _∙_, subst}
+use mathlib.Core.Bool.{Bool, true, false}
+use mathlib.Core.List.{List, [], _∷_}
+use Prim.Native.Nat.{ℕ, zero, suc, _+_, _*_, _-_, _≤_, _<_, min, max}
+use native.Mathlib.Omega.{arith}
+use native.Mathlib.Numerals.{add-one}
+use lib.Dec.{ltb, eqb}
+use borrow.Author.Tests.{lt-ltb, le-ltb, eq-eqb, ne-eqb, ltb-false, eqb-false}
+use lib.ListN.{length, getD, drop, drop-of-length-le}
+use lib.Seq.{drop-cons}
+use Rattle.answer.specs.declared.Judged.{Judged}
+use Rattle.answer.specs.declared.Judged.the-variants.{Good, Refused}
+use Rattle.answer.specs.declared.Refusal.{Refusal}
+use Rattle.answer.specs.declared.Refusal.the-variants.{BadDigit, TooLong}
+use Rattle.answer.specs.Limits.{mostSteps}
+use Rattle.answer.specs.Refusal.{when, orElse}
+use Rattle.hull.specs.Call.{faultAt, faultFrom}
+use Rattle.hull_laws.specs.Columns.{colAfter, westFrom, eastFrom}
+use Rattle.hull_laws.proofs.TrailLaws.{near, west-le, east-ge}
+
+-- what is left of a pass
+pub falls : (n i : ℕ) → i < n → n - (i + 1) < n - i
+falls n i h = omega arith
+
+pub fewer : (d : ℕ) → d ≤ 3 → d < 4
+fewer d h = omega arith
+
+-- what a byte at place i gives
+at-bad : (i d : ℕ) → 3 < d → faultAt i d ≡ Refused (BadDigit i)
+at-bad i d h = ap (λ (b : Bool). orElse (when b (BadDigit i)) (when (eqb i mostSteps) (TooLong i))) (lt-ltb 3 d h)
+
+at-long : (i d : ℕ) → d ≤ 3 → i ≡ mostSteps → faultAt i d ≡ Refused (TooLong i)
+at-long i d h e = ap₂ (λ (a b : Bool). orElse (when a (BadDigit i)) (when b (TooLong i))) (le-ltb 3 d h) (eq-eqb i mostSteps e)
+
+at-good : (i d : ℕ) → d ≤ 3 → ¬ (i ≡ mostSteps) → faultAt i d ≡ Good
+at-good i d h e = ap₂ (λ (a b : Bool). orElse (when a (BadDigit i)) (when b (TooLong i))) (le-ltb 3 d h) (ne-eqb i mostSteps e)
+
+fault-here : (chain : List ℕ) (i : ℕ) → i < length chain → faultFrom i (drop i chain) ≡ orElse (faultAt i (getD chain i 0)) (faultFrom (suc i) (drop (suc i) chain))
+fault-here chain i h = ap (faultFrom i) (drop-cons chain i 0 h)
+
+-- the walk stands in column x after i steps, and was in the columns w to e
+pub record Surveyed (chain : List ℕ) (x w e i : ℕ) : Type 0 where
+  pub within : i ≤ length chain
+  pub few : i ≤ mostSteps
+  pub left : mostSteps ≤ x + i
+  pub right : x ≤ mostSteps + i
+  pub here : w ≤ x
+  pub here2 : x ≤ e
+  pub west : min w (westFrom x (drop i chain)) ≡ westFrom mostSteps chain
+  pub east : max e (eastFrom x (drop i chain)) ≡ eastFrom mostSteps chain
+  pub fault : faultFrom i (drop i chain) ≡ faultFrom 0 chain
+
+pub surveyed-start : (chain : List ℕ) → Surveyed chain mostSteps mostSteps mostSteps 0
+surveyed-start chain = record {
+  within = omega arith;
+  few = omega arith;
+  left = omega arith;
+  right = omega arith;
+  here = omega arith;
+  here2 = omega arith;
+  west = omega (arith, west-le mostSteps chain);
+  east = omega (arith, east-ge mostSteps chain);
+  fault = refl;
+}
+
+module _ (chain : List ℕ) (x w e i : ℕ) (s : Surveyed chain x w e i) where
+  west-step : i < length chain → westFrom x (drop i chain) ≡ min x (westFrom (colAfter x (getD chain i 0)) (drop (suc i) chain))
+  unfolding westFrom
+  west-step h = ap (westFrom x) (drop-cons chain i 0 h)
+
+  east-step : i < length chain → eastFrom x (drop i chain) ≡ max x (eastFrom (colAfter x (getD chain i 0)) (drop (suc i) chain))
+  unfolding eastFrom
+  east-step h = ap (eastFrom x) (drop-cons chain i 0 h)
+
+  -- a column to step to
+  pub surveyed-room : ¬ (i ≡ mostSteps) → (0 < x) × (x ≤ 2 * mostSteps)
+  surveyed-room n = (omega (arith, s .few, s .left), omega (arith, s .few, s .right))
+
+  -- one more step
+  pub surveyed-step : (x′ w′ e′ : ℕ) → i < length chain → getD chain i 0 ≤ 3 → ¬ (i ≡ mostSteps) → x′ ≡ colAfter x (getD chain i 0) → w′ ≡ min w x′ → e′ ≡ max e x′ → Surveyed chain x′ w′ e′ (i + 1)
+  surveyed-step x′ w′ e′ h g n ex ew ee = subst (Surveyed chain x′ w′ e′) (sym (add-one i)) (record {
+    within = omega arith;
+    few = below n;
+    left = omega (arith, close, s .left);
+    right = omega (arith, close, s .right);
+    here = omega arith;
+    here2 = omega arith;
+    west = omega (arith, s .west, s .here, west-step h, west-le x′ (drop (suc i) chain), ap (λ (k : ℕ). westFrom k (drop (suc i) chain)) ex);
+    east = omega (arith, s .east, s .here2, east-step h, east-ge x′ (drop (suc i) chain), ap (λ (k : ℕ). eastFrom k (drop (suc i) chain)) ex);
+    fault = sym (fault-here chain i h ∙ ap (λ (j : Judged). orElse j (faultFrom (suc i) (drop (suc i) chain))) (at-good i (getD chain i 0) g n)) ∙ s .fault;
+  })
+    where
+      below : ¬ (i ≡ mostSteps) → suc i ≤ mostSteps
+      below n = omega (arith, s .few)
+
+      close : (x ≤ colAfter x (getD chain i 0) + 1) × (colAfter x (getD chain i 0) ≤ x + 1)
+      close = near x (getD chain i 0) (omega (arith, below n, s .left))
+
+  pub surveyed-bad : i < length chain → 3 < getD chain i 0 → faultFrom 0 chain ≡ Refused (BadDigit i)
+  surveyed-bad h g = sym (s .fault) ∙ fault-here chain i h ∙ ap (λ (j : Judged). orElse j (faultFrom (suc i) (drop (suc i) chain))) (at-bad i (getD chain i 0) g)
+
+  pub surveyed-long : i < length chain → getD chain i 0 ≤ 3 → i ≡ mostSteps → faultFrom 0 chain ≡ Refused (TooLong i)
+  surveyed-long h g e = sym (s .fault) ∙ fault-here chain i h ∙ ap (λ (j : Judged). orElse j (faultFrom (suc i) (drop (suc i) chain))) (at-long i (getD chain i 0) g e)
+
+  none-left : length chain ≤ i → drop i chain ≡ []
+  none-left h = drop-of-length-le chain {i = i} h
+
+  pub surveyed-good : length chain ≤ i → faultFrom 0 chain ≡ Good
+  surveyed-good h = sym (s .fault) ∙ ap (faultFrom i) (none-left h)
+
+  pub surveyed-west : length chain ≤ i → w ≡ westFrom mostSteps chain
+  unfolding westFrom
+  surveyed-west h = omega (arith, s .west, s .here, ap (westFrom x) (none-left h))
+
+  pub surveyed-east : length chain ≤ i → e ≡ eastFrom mostSteps chain
+  unfolding eastFrom
+  surveyed-east h = omega (arith, s .east, s .here2, ap (eastFrom x) (none-left h))
+
+-- a chain that is not refused has digits below 4, and not too many
+good-or : (j k : Judged) → orElse j k ≡ Good → (j ≡ Good) × (k ≡ Good)
+good-or Good k e = (refl, e)
+good-or (Refused r) k e = let z : _≡_ {A = ℕ} 0 1 = cc in absurd (bad z)
+  where
+    bad : _≡_ {A = ℕ} 0 1 → ⊥
+    bad z = omega arith
+
+good-when : (b : Bool) (r : Refusal) → when b r ≡ Good → b ≡ false
+good-when false r e = refl
+good-when true r e = let z : _≡_ {A = ℕ} 0 1 = cc in absurd (bad z)
+  where
+    bad : _≡_ {A = ℕ} 0 1 → ⊥
+    bad z = omega arith
+
+good-at : (i d : ℕ) → faultAt i d ≡ Good → (d ≤ 3) × (¬ (i ≡ mostSteps))
+good-at i d e =
+    let t = good-or (when (ltb 3 d) (BadDigit i)) (when (eqb i mostSteps) (TooLong i)) e in
+    (ltb-false 3 d (good-when (ltb 3 d) (BadDigit i) (t .0)), eqb-false i mostSteps (good-when (eqb i mostSteps) (TooLong i) (t .1)))
+
+pub good-digits : (i : ℕ) (chain : List ℕ) → faultFrom i chain ≡ Good → (k : ℕ) → getD chain k 0 < 4
+good-digits i [] e k = omega arith
+good-digits i (d ∷ ds) e zero = let t = good-at i d (good-or (faultAt i d) (faultFrom (suc i) ds) e .0) in omega (arith, t .0)
+good-digits i (d ∷ ds) e (suc k) = good-digits (suc i) ds (good-or (faultAt i d) (faultFrom (suc i) ds) e .1) k
+
+pub good-short : (i : ℕ) (chain : List ℕ) → i ≤ mostSteps → faultFrom i chain ≡ Good → i + length chain ≤ mostSteps
+good-short i [] h e = omega arith
+good-short i (d ∷ ds) h e = omega (arith, good-short (suc i) ds (below (good-at i d (t .0) .1)) (t .1))
+  where
+    t : (faultAt i d ≡ Good) × (faultFrom (suc i) ds ≡ Good)
+    t = good-or (faultAt i d) (faultFrom (suc i) ds) e
+
+    below : ¬ (i ≡ mostSteps) → suc i ≤ mostSteps
+    below n = omega arith

@@ -1,0 +1,150 @@
+-- From the parts of the hull call to the whole.
+-- Assumes nothing.
+use mathlib.Core.Path.{_≡_, refl, sym, ap, ap₂, _∙_, subst}
+use mathlib.Core.List.{List, map}
+use Prim.Native.Nat.{ℕ, suc, _+_, _-_, _≤_, _<_}
+use native.Mathlib.Omega.{arith}
+use native.Mathlib.Numerals.{add-one}
+use lib.IntN.{ℤ, pos, _+ℤ_, _-ℤ_}
+use lib.ListN.{length, getD, replicate, getD-replicate, length-replicate}
+use Rattle.int_laws.proofs.LinearLaws.{zarith, bal+, bal-}
+use Rattle.grid.specs.declared.Corner.{Corner}
+use Rattle.grid.specs.Grid.{origin, cornersFrom}
+use Rattle.answer.specs.declared.Judged.{Judged}
+use Rattle.answer.specs.declared.Judged.the-variants as judged
+use Rattle.answer.specs.declared.Refusal.{Refusal}
+use Rattle.answer.specs.declared.Counted.{Counted}
+use Rattle.answer.specs.Limits.{mostInput, mostSteps}
+use Rattle.hull.specs.Hull.{HullIs}
+use Rattle.hull.specs.Call.{faultFrom, roomJudged, hullJudged, countedOf, bufferOf, HullCall}
+use Rattle.hull_laws.specs.Columns.{westFrom, eastFrom, trail, sinks, eastOf, turned}
+use Rattle.hull_laws.specs.Outline.{spot, outlineOf}
+use Rattle.hull_laws.proofs.CornerLaws.{corner-eq}
+use Rattle.hull_laws.proofs.TrailLaws.{width-le, east-le, west-le, east-ge}
+use Rattle.hull_laws.proofs.SinkLaws.{length-sinks}
+use Rattle.hull_laws.proofs.SurveyLaws.{good-digits, good-short}
+use Rattle.hull_laws.proofs.WalkLaws.{Room, columns-hull}
+use Rattle.hull_laws.proofs.CallLaws.{judged-room}
+use Rattle.hull_columns.specs.declared.Extent.{Extent}
+use Rattle.hull_chains.specs.Stack.{Scanned}
+use Rattle.hull_columns.specs.Extent.{extentBy, Walked}
+use Rattle.hull_corners.specs.Parts.{Near, Listed, Chained}
+use Rattle.hull_laws.specs.Columns.{middle, top, blank}
+use Rattle.hull_scan.specs.Store.{Store, Hulled}
+
+-- what the survey tells
+pub extent-good : (j : Judged) (w e x y : ℕ) → extentBy j w e ≡ Extent.Within x y → (j ≡ judged.Good) × (x ≡ w) × (y ≡ e)
+extent-good judged.Good w e x y h = (refl, cc, cc)
+extent-good (judged.Refused r) w e x y h = let z : _≡_ {A = ℕ} 0 1 = cc in absurd (bad z)
+  where
+    bad : _≡_ {A = ℕ} 0 1 → ⊥
+    bad z = omega arith
+
+pub extent-refused : (j : Judged) (w e : ℕ) (r : Refusal) → extentBy j w e ≡ Extent.Refused r → j ≡ judged.Refused r
+extent-refused judged.Good w e r h = let z : _≡_ {A = ℕ} 0 1 = cc in absurd (bad z)
+  where
+    bad : _≡_ {A = ℕ} 0 1 → ⊥
+    bad z = omega arith
+extent-refused (judged.Refused q) w e r h = let i : q ≡ r = cc in ap judged.Refused i
+
+-- the origin
+pub near-origin : Near origin
+near-origin = record { x = omega arith; y = omega arith }
+
+-- a walk that is not refused
+pub walked : (chain : List ℕ) (w e : ℕ) → faultFrom 0 chain ≡ judged.Good → w ≡ westFrom middle chain → e ≡ eastFrom middle chain → Walked chain w e
+walked chain w e g a b = record { digits = good-digits 0 chain g; short = omega (arith, good-short 0 chain (omega arith) g); west = a; east = b }
+
+pub walked-order : {chain : List ℕ} {w e : ℕ} → Walked chain w e → w ≤ e
+walked-order {chain} {w} {e} h = omega (arith, h .west, h .east, west-le middle chain, east-ge middle chain)
+
+pub walked-top : {chain : List ℕ} {w e : ℕ} → Walked chain w e → e ≤ top
+walked-top {chain} {w} {e} h = omega (arith, h .east, h .short, east-le middle chain (h .short))
+
+pub walked-width : {chain : List ℕ} {w e : ℕ} → Walked chain w e → e - w ≤ mostSteps
+walked-width {chain} {w} {e} h = omega (arith, h .west, h .east, h .short, width-le middle chain (h .short))
+
+-- a store of one length
+pub stored : {w e : ℕ} (n : ℕ) → e - w < n → n ≤ suc blank → Store w e (replicate n blank) (replicate n blank) (replicate n 0) (replicate n 0)
+stored {w} {e} n h g = record {
+  low = omega (arith, size blank);
+  high = omega (arith, size blank);
+  stack = omega (arith, size 0);
+  stack2 = omega (arith, size 0);
+  short = omega (arith, size 0);
+  short2 = omega (arith, size 0);
+  columns = omega (arith, size blank);
+  columns2 = omega (arith, size blank);
+  clear = clear;
+  clear2 = clear;
+}
+  where
+    size : (v : ℕ) → length (replicate n v) ≡ n
+    size v = length-replicate n v
+
+    clear : replicate n blank ≡ replicate (length (replicate {A = ℕ} n blank)) blank
+    clear = ap (λ (k : ℕ). replicate k blank) (sym (size blank))
+
+-- the columns filled, from a store that is clear
+module _ {chain : List ℕ} {w e : ℕ} {lo hi s t : List ℕ} (k : Walked chain w e) (m : Store w e lo hi s t) where
+  cleared : (l : List ℕ) → l ≡ replicate (length l) blank → (i : ℕ) → i < length l → getD l i 0 ≡ blank
+  cleared l r i h = ap (λ (l : List ℕ). getD l i 0) r ∙ getD-replicate (length l) i blank 0 h
+
+  store-room : Room middle middle chain top blank lo hi
+  store-room = record {
+    across = k .short;
+    up = k .short;
+    high = omega (arith, k .short);
+    over = omega arith;
+    first = omega (arith, m .low, k .west, k .east);
+    second = omega (arith, m .high, k .west, k .east);
+    blank = λ i h. cleared lo (m .clear) i (omega (arith, h, m .low, k .west, k .east));
+    blank2 = λ i h. cleared hi (m .clear2) i (omega (arith, h, m .high, k .west, k .east));
+  }
+
+  -- what the scans leave
+  pub chained : (lo′ hi′ s′ t′ : List ℕ) (a b : ℕ) → lo′ ≡ sinks lo (map (eastOf w) (trail middle middle chain)) → hi′ ≡ sinks hi (map (turned e top) (trail middle middle chain)) → length s′ ≡ length s → length t′ ≡ length t → Scanned lo′ s′ a ((e - w) + 1) → Scanned hi′ t′ b ((e - w) + 1) → Chained w e lo′ hi′ s′ t′ a b
+  chained lo′ hi′ s′ t′ a b p q i j x y = record {
+    ordered = walked-order k;
+    within = walked-top k;
+    low = omega (arith, m .low, ap length p, length-sinks lo (map (eastOf w) (trail middle middle chain)));
+    high = omega (arith, m .high, ap length q, length-sinks hi (map (turned e top) (trail middle middle chain)));
+    lower = subst (Scanned lo′ s′ a) (add-one (e - w)) x;
+    upper = subst (Scanned hi′ t′ b) (add-one (e - w)) y;
+    short = omega (arith, m .short);
+    short2 = omega (arith, m .short2);
+  }
+
+  start-is : (c : Corner) → spot (c .0 -ℤ pos middle) (c .1 -ℤ pos middle) (middle, middle) ≡ c
+  start-is c = corner-eq (spot (c .0 -ℤ pos middle) (c .1 -ℤ pos middle) (middle, middle)) c (back (c .0)) (back (c .1))
+    where
+      back : (z : ℤ) → (z -ℤ pos middle) +ℤ pos middle ≡ z
+      back z = omega (zarith, bal- z (pos middle), bal+ (z -ℤ pos middle) (pos middle))
+
+  pub hulled : (c : Corner) (lo′ hi′ : List ℕ) (before after : List ℤ) (r : Counted) → lo′ ≡ sinks lo (map (eastOf w) (trail middle middle chain)) → hi′ ≡ sinks hi (map (turned e top) (trail middle middle chain)) → Listed (outlineOf (c .0 -ℤ pos middle) (c .1 -ℤ pos middle) w e top lo′ hi′) before r after → Hulled c chain before r after
+  hulled c lo′ hi′ before after r p q l = record {
+    list = outlineOf (c .0 -ℤ pos middle) (c .1 -ℤ pos middle) w e top lo′ hi′;
+    hull = whole;
+    listed = l;
+  }
+    where
+      at : HullIs (cornersFrom c chain) (outlineOf (c .0 -ℤ pos middle) (c .1 -ℤ pos middle) (westFrom middle chain) (eastFrom middle chain) top (sinks lo (map (eastOf (westFrom middle chain)) (trail middle middle chain))) (sinks hi (map (turned (eastFrom middle chain) top) (trail middle middle chain))))
+      at = subst (λ (z : Corner). HullIs (cornersFrom z chain) (outlineOf (c .0 -ℤ pos middle) (c .1 -ℤ pos middle) (westFrom middle chain) (eastFrom middle chain) top (sinks lo (map (eastOf (westFrom middle chain)) (trail middle middle chain))) (sinks hi (map (turned (eastFrom middle chain) top) (trail middle middle chain))))) (start-is c) (columns-hull (c .0 -ℤ pos middle) (c .1 -ℤ pos middle) middle middle chain top blank lo hi store-room)
+
+      same : outlineOf (c .0 -ℤ pos middle) (c .1 -ℤ pos middle) (westFrom middle chain) (eastFrom middle chain) top (sinks lo (map (eastOf (westFrom middle chain)) (trail middle middle chain))) (sinks hi (map (turned (eastFrom middle chain) top) (trail middle middle chain))) ≡ outlineOf (c .0 -ℤ pos middle) (c .1 -ℤ pos middle) w e top lo′ hi′
+      same = ap₂ (λ (u v : ℕ). outlineOf (c .0 -ℤ pos middle) (c .1 -ℤ pos middle) u v top (sinks lo (map (eastOf u) (trail middle middle chain))) (sinks hi (map (turned v top) (trail middle middle chain)))) (sym (k .west)) (sym (k .east)) ∙ ap₂ (outlineOf (c .0 -ℤ pos middle) (c .1 -ℤ pos middle) w e top) (sym p) (sym q)
+
+      whole : HullIs (cornersFrom c chain) (outlineOf (c .0 -ℤ pos middle) (c .1 -ℤ pos middle) w e top lo′ hi′)
+      whole = subst (HullIs (cornersFrom c chain)) same at
+
+-- and where nothing else is refused that is the call
+pub call-listed : {s : Corner} {chain : List ℕ} {before after : List ℤ} {r : Counted} → length chain ≤ mostInput → faultFrom 0 chain ≡ judged.Good → Hulled s chain before r after → HullCall s chain before r after
+call-listed {s} {chain} {before} h g k = record {
+  list = k .list;
+  hull = k .hull;
+  answer = k .listed .answer ∙ sym (ap (λ (j : Judged). countedOf j (length (k .list))) same);
+  buffer = k .listed .buffer ∙ sym (ap (λ (j : Judged). bufferOf j (k .list) before) same);
+}
+  where
+    same : hullJudged chain (length before) (length (k .list)) ≡ roomJudged (length before) (length (k .list))
+    same = judged-room chain (length before) (length (k .list)) h g

@@ -1,0 +1,2 @@
+-- The hull call.
+pub mod Store

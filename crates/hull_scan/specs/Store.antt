@@ -1,0 +1,32 @@
+-- What the parts of the hull call ask and promise.
+-- Assumes nothing.
+use mathlib.Core.Path.{_≡_}
+use mathlib.Core.List.{List}
+use Prim.Native.Nat.{ℕ, suc, _-_, _<_, _≤_}
+use lib.IntN.{ℤ}
+use lib.ListN.{length, replicate}
+use Rattle.grid.specs.declared.Corner.{Corner}
+use Rattle.grid.specs.Grid.{cornersFrom}
+use Rattle.answer.specs.declared.Counted.{Counted}
+use Rattle.hull.specs.Hull.{HullIs}
+use Rattle.hull_laws.specs.Columns.{blank}
+use Rattle.hull_corners.specs.Parts.{Listed}
+
+-- working store for the columns w to e
+pub record Store (w e : ℕ) (lo hi s t : List ℕ) : Type 0 where
+  pub low : e - w < length lo
+  pub high : e - w < length hi
+  pub stack : e - w < length s
+  pub stack2 : e - w < length t
+  pub short : length s ≤ suc blank
+  pub short2 : length t ≤ suc blank
+  pub columns : length lo ≤ suc blank
+  pub columns2 : length hi ≤ suc blank
+  pub clear : lo ≡ replicate (length lo) blank
+  pub clear2 : hi ≡ replicate (length hi) blank
+
+-- the hull of the walk is listed
+pub record Hulled (s : Corner) (chain : List ℕ) (before : List ℤ) (r : Counted) (after : List ℤ) : Type 0 where
+  pub list : List Corner
+  pub hull : HullIs (cornersFrom s chain) list
+  pub listed : Listed list before r after

@@ -1,0 +1,133 @@
+// Lists the convex hull of a walk's corners: the lowest and the highest corner of each column, a chain over each, and both as one
+// list. The upper chain is the lower one of the walk turned by half a turn.
+use answer::Counted;
+use answer::Refusal;
+use grid::Corner;
+use hull_chains::scan;
+use hull_columns::Columns;
+use hull_columns::Extent;
+use hull_columns::fill;
+use hull_columns::survey;
+use hull_corners::finish;
+ghost use Prim.Native.Nat.{_-_, _<_, _≤_};
+ghost use Rattle.grid.specs.Grid.{origin};
+ghost use Rattle.hull.specs.Call.{HullCall};
+ghost use Rattle.hull_columns.specs.Extent.{Walked};
+ghost use Rattle.hull_corners.specs.Parts.{Near};
+ghost use Rattle.hull_scan.specs.Store.{Store, Hulled};
+
+// The hull of the walk from start through the columns west to east. The working store is lent; lo and hi hold no height yet.
+fn list_in(
+    chain: &[u8],
+    start: Corner,
+    west: usize,
+    east: usize,
+    lo: &mut [u16],
+    hi: &mut [u16],
+    s: &mut [u16],
+    t: &mut [u16],
+    out: &mut [i32],
+) -> Counted
+    requires { ⌜ Walked (now chain) west east × Near start × Store west east (now lo) (now hi) (now s) (now t) ⌝ }
+    ensures { λ r. ⌜ Hulled start (now (chain .entry)) (now (out .entry)) r (now (out .exit)) ⌝ }
+{
+    fill(chain, west, east, lo, hi);
+    let n = east - west + 1;
+    let a = scan(lo, n, s);
+    let b = scan(hi, n, t);
+    finish(start, west, east, lo, hi, s, a, t, b, out)
+}
+
+// The same with a store for 256 columns.
+fn list_narrow(chain: &[u8], start: Corner, west: usize, east: usize, out: &mut [i32]) -> Counted
+    requires { ⌜ Walked (now chain) west east × Near start × (east - west < 256) ⌝ }
+    ensures { λ r. ⌜ Hulled start (now (chain .entry)) (now (out .entry)) r (now (out .exit)) ⌝ }
+{
+    let mut lo = [65535u16; 256];
+    let mut hi = [65535u16; 256];
+    let mut s = [0u16; 256];
+    let mut t = [0u16; 256];
+    list_in(
+        chain,
+        start,
+        west,
+        east,
+        &mut lo,
+        &mut hi,
+        &mut s,
+        &mut t,
+        out,
+    )
+}
+
+// The same with a store for 2,048 columns.
+fn list_wider(chain: &[u8], start: Corner, west: usize, east: usize, out: &mut [i32]) -> Counted
+    requires { ⌜ Walked (now chain) west east × Near start × (east - west < 2048) ⌝ }
+    ensures { λ r. ⌜ Hulled start (now (chain .entry)) (now (out .entry)) r (now (out .exit)) ⌝ }
+{
+    let mut lo = [65535u16; 2048];
+    let mut hi = [65535u16; 2048];
+    let mut s = [0u16; 2048];
+    let mut t = [0u16; 2048];
+    list_in(
+        chain,
+        start,
+        west,
+        east,
+        &mut lo,
+        &mut hi,
+        &mut s,
+        &mut t,
+        out,
+    )
+}
+
+// The same with a store for as many columns as a walk can have.
+fn list_widest(chain: &[u8], start: Corner, west: usize, east: usize, out: &mut [i32]) -> Counted
+    requires { ⌜ Walked (now chain) west east × Near start ⌝ }
+    ensures { λ r. ⌜ Hulled start (now (chain .entry)) (now (out .entry)) r (now (out .exit)) ⌝ }
+{
+    let mut lo = [65535u16; 16385];
+    let mut hi = [65535u16; 16385];
+    let mut s = [0u16; 16385];
+    let mut t = [0u16; 16385];
+    list_in(
+        chain,
+        start,
+        west,
+        east,
+        &mut lo,
+        &mut hi,
+        &mut s,
+        &mut t,
+        out,
+    )
+}
+
+// The hull of the walk from start, with a store that is not much larger than it needs: to clear it takes time.
+fn list_from(chain: &[u8], start: Corner, west: usize, east: usize, out: &mut [i32]) -> Counted
+    requires { ⌜ Walked (now chain) west east × Near start ⌝ }
+    ensures { λ r. ⌜ Hulled start (now (chain .entry)) (now (out .entry)) r (now (out .exit)) ⌝ }
+{
+    if east - west < 256 {
+        return list_narrow(chain, start, west, east, out);
+    }
+    if east - west < 2048 {
+        return list_wider(chain, start, west, east, out);
+    }
+    list_widest(chain, start, west, east, out)
+}
+
+// Writes x and y of each corner of the hull of the walk from (0,0), and answers how many corners there are. Refuses too many bytes, a
+// digit above 3, a step too many, and a buffer that is too short; then it writes nothing.
+pub fn list(chain: &[u8], out: &mut [i32]) -> Counted
+    ensures { λ r. ⌜ HullCall origin (now (chain .entry)) (now (out .entry)) r (now (out .exit)) ⌝ }
+{
+    if chain.len() > Columns::MOST_INPUT {
+        return Counted::Refused(Refusal::TooMany);
+    }
+    match survey(chain) {
+        Extent::Within(west, east) => list_from(chain, Corner(0, 0), west, east, out),
+        Extent::Refused(r) => Counted::Refused(r),
+    }
+}
