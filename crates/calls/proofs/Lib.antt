@@ -1,2 +1,3 @@
 pub mod CallCases
 pub mod RoomLaws
+pub mod SmallLaws
