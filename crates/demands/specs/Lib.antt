@@ -1,0 +1,3 @@
+-- The moments of a walk, and when each of its answers is given.
+pub mod Moments
+pub mod Given
