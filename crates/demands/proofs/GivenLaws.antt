@@ -109,7 +109,7 @@ module _ (c : Corner) (os : List ℕ) (w m k : ℕ) where
       (λ h. (Refused (TooLong i), given.tooLong i s (record { inside = f .inside; before = f .before; here = h }))))
       (f .here)
 
-  roomy : (i : ℕ) → (nodesAfter c os (suc i) ≤ w / 21) ⊎ (w / 21 < nodesAfter c os (suc i))
+  pub roomy : (i : ℕ) → (nodesAfter c os (suc i) ≤ w / 21) ⊎ (w / 21 < nodesAfter c os (suc i))
   roomy i = elim (decLt (w / 21) (nodesAfter c os (suc i))) [ yes h ↦ inr h | no h ↦ inl (omega arith) ]
 
   by-room : Faultless os w m k → (j : Judged) × Given c os w m k j
