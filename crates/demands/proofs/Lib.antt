@@ -1,3 +1,5 @@
 pub mod FirstLaws
 pub mod GivenLaws
 pub mod WalkLaws
+pub mod BufferLaws
+pub mod AloneLaws

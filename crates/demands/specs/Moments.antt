@@ -3,8 +3,9 @@
 use mathlib.Core.List.{List}
 use Prim.Native.Nat.{ℕ, suc, _+_, _*_, _<_, _≤_}
 use lib.ListN.{length, take}
+use Rattle.lists.specs.Lists.{count}
 use Rattle.grid.specs.declared.Corner.{Corner}
-use Rattle.grid.specs.Grid.{cornersFrom}
+use Rattle.grid.specs.Grid.{same, cornersFrom, endFrom}
 use Rattle.word.specs.Operations.{survivors}
 use Rattle.trace.specs.Meeting.{visitedOf}
 use Rattle.tree.specs.Nodes.{nodesOf}
@@ -20,6 +21,10 @@ nodesAfter c os k = length (nodesOf (cornersFrom c (stepsAfter os k)))
 -- the different corners that it then touches
 abbrev pub cornersAfter : Corner → List ℕ → ℕ → ℕ
 cornersAfter c os k = length (visitedOf (cornersFrom c (stepsAfter os k)))
+
+-- the visits at the corner then stood on
+abbrev pub visitsAfter : Corner → List ℕ → ℕ → ℕ
+visitsAfter c os k = count (same (endFrom c (stepsAfter os k))) (cornersFrom c (stepsAfter os k))
 
 -- at most eight nodes for each corner, as it was demanded
 abbrev pub AtMostEight : ℕ → ℕ → Type 0
