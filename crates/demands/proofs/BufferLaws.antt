@@ -56,43 +56,6 @@ module _ (words : ℕ) (c : Corner) (ds : List ℕ) where
   pub table-length : 21 * length ns ≤ words → length (tableOf words c ds) ≡ words
   table-length h = omega (arith, length-append rs (replicate (words - length rs) 0), length-replicate {A = ℕ} (words - length rs) 0, length-records ps ns ns)
 
--- the first place of a corner in a list
-abbrev pub FirstIn : List Corner → Corner → ℕ → Type 0
-FirstIn l a k = First (length l) (λ h. getD l h origin ≡ a → ⊥) (λ h. getD l h origin ≡ a) k
-
-module _ (l : List Corner) (a : Corner) where
-  test : (k : ℕ) → getD l k origin ≡ a → same a (getD l k origin) ≡ true
-  test k e = subst (λ (b : Corner). same a b ≡ true) (sym e) (same-refl a)
-
-  placed : (k : ℕ) → FirstIn l a k → (m : ℕ) → find (same a) l ≡ m → (0 < m) × (m ≤ suc k) → m ≡ suc k
-  placed k f zero p h = absurd (omega (arith, h .0))
-  placed k f (suc i) p h =
-      elim (decLt i k) [
-        | yes z ↦ absurd (f .before i z (sym (same-sound a (getD l i origin) (find-get (same a) l i origin p .1))))
-        | no z ↦ omega (arith, h .1)
-      ]
-
-  pub find-first : (k : ℕ) → find (same a) l ≡ suc k ↔ FirstIn l a k
-  find-first k = (
-    λ e.
-        let g = find-get (same a) l k origin e in
-        record {
-          inside = g .0;
-          before = λ h i q. omega (arith, find-least (same a) l h origin (omega (arith, g .0)) (test h q) .1);
-          here = sym (same-sound a (getD l k origin) (g .1));
-        },
-    λ f. placed k f (find (same a) l) refl (find-least (same a) l k origin (f .inside) (test k (f .here))),
-  )
-
--- a ref is a node number plus 1
-pub ref-number : (ps : List Corner) (a : Corner) (n : ℕ) → refOf (nodesOf ps) a ≡ suc n ↔ (n < length (nodesOf ps)) × (getD (nodesOf ps) n origin ≡ a)
-ref-number ps a n = (
-  λ e. let f = find-first (nodesOf ps) a n .0 e in (f .inside, f .here),
-  λ h.
-      find-first (nodesOf ps) a n .1
-      (record { inside = h .0; before = λ i k e. distinct-getD (nodesOf ps) i n origin (nodesOf-distinct ps) k (h .0) (e ∙ sym (h .1)); here = h .1 }),
-)
-
 -- the marks after operation k
 module _ (c : Corner) where
   abbrev stood : List ℕ → ℕ

@@ -81,7 +81,7 @@ module _ {os t ms ch t′ ms′ ch′ : List ℕ} {r : Answer} (w : WalkIs origi
       parts (given.noRoom _ f n) = (f, n)
 
   -- with room after each operation there is room at every moment: at first the root alone is in use
-  always-room : Faultless os (length t) (length ms) (length ch) → ((h : ℕ) → h < length os → nodesAfter origin os (suc h) ≤ records) → (k : ℕ) → k ≤ length os → nodesAfter origin os k ≤ records
+  pub always-room : Faultless os (length t) (length ms) (length ch) → ((h : ℕ) → h < length os → nodesAfter origin os (suc h) ≤ records) → (k : ℕ) → k ≤ length os → nodesAfter origin os k ≤ records
   always-room f a zero l =
       let x = f .sized .table in
       let e : length t ≡ x .0 * 21 = x .3 in
