@@ -5,3 +5,5 @@ pub mod BufferLaws
 pub mod RecordLaws
 pub mod AcceptedLaws
 pub mod AloneLaws
+pub mod CallLaws
+pub mod Demand
