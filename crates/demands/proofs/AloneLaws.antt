@@ -26,7 +26,8 @@ use Rattle.trace.proofs.VisitLaws.{length-visited-le}
 use Rattle.calls.proofs.RoomLaws.{alone}
 use Rattle.tree_laws.proofs.CountLaws.{few-nodes}
 use Rattle.demands.specs.Moments.{stepsAfter, nodesAfter, cornersAfter, AtMostEight, FourLessThree}
-use Rattle.demands.specs.Given.{Fine, Faultless}
+use Rattle.demands.specs.Given.{Fine}
+use Rattle.demands.specs.Alone.{LentAlone}
 use Rattle.demands.proofs.FirstLaws.{faults-none}
 use Rattle.demands.proofs.WalkLaws.{judged-good, its-facts, its-table, its-chain, no-room-at}
 
@@ -44,7 +45,7 @@ chain-steps {os = os} w =
 
 module _ {c : Corner} {os t ms ch t′ ms′ ch′ t₁ ms₁ ch₁ t₂ ms₂ ch₂ : List ℕ} {f : Facts} {r : Answer}
     (w : WalkIs c os t ms ch (Answer.Accepted f) t′ ms′ ch′) (v : WalkIs c (survivors os) t₁ ms₁ ch₁ r t₂ ms₂ ch₂)
-    (e : length t₁ ≡ length t) (g : length ms₁ ≡ 2 * length (survivors os)) (h : length ch₁ ≡ length (survivors os)) where
+    (lent : LentAlone (survivors os) t t₁ ms₁ ch₁) where
   abbrev ds : List ℕ
   ds = survivors os
 
@@ -52,7 +53,7 @@ module _ {c : Corner} {os t ms ch t′ ms′ ch′ t₁ ms₁ ch₁ t₂ ms₂ c
   kept = alone c os (length t) (length ms) (length ch) (judged-good w) .0
 
   good : walkJudged c ds (length t₁) (length ms₁) (length ch₁) ≡ Good
-  good = rw (e, g, h) (alone c os (length t) (length ms) (length ch) (judged-good w) .1)
+  good = rw (lent .table, lent .marks, lent .chain) (alone c os (length t) (length ms) (length ch) (judged-good w) .1)
 
   pub same-answer : r ≡ Answer.Accepted f
   same-answer =
@@ -64,7 +65,7 @@ module _ {c : Corner} {os t ms ch t′ ms′ ch′ t₁ ms₁ ch₁ t₂ ms₂ c
   same-table =
       v .table
       ∙ ap (λ (j : Judged). bufferBy j (tableOf (length t₁) c (survivors ds)) t₁) good
-      ∙ ap₂ (λ (n : ℕ) (s : List ℕ). tableOf n c s) e kept
+      ∙ ap₂ (λ (n : ℕ) (s : List ℕ). tableOf n c s) (lent .table) kept
       ∙ sym (its-table w)
 
   pub same-steps : ch₂ ≡ take (f .steps) ch′

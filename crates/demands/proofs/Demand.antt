@@ -46,6 +46,7 @@ use Rattle.word.proofs.TurnPromiseLaws as promiseLaws
 use Rattle.demands.specs.Moments.{nodesAfter, cornersAfter, visitsAfter, AtMostEight, FourLessThree, Exceeds}
 use Rattle.demands.specs.Given.{Faultless, NoRoomAt, Given}
 use Rattle.demands.specs.Record.{RecordSays}
+use Rattle.demands.specs.Alone.{LentAlone}
 use Rattle.demands.proofs.WalkLaws as walkLaws
 use Rattle.demands.proofs.AcceptedLaws as acceptedLaws
 use Rattle.demands.proofs.BufferLaws as bufferLaws
@@ -203,22 +204,21 @@ pub hull-extreme : (P L : List Corner) → HullIs P L → (q : Corner) → In q 
 hull-extreme P L h = h .corners
 
 -- ---- Demand 3
--- "if it is accepted, so is the record of the surviving steps alone in a table of the same size": t₁ is that table, of any contents, and
--- ms₁ and ch₁ have the lengths that refusal 3 asks
+-- "if it is accepted, so is the record of the surviving steps alone in a table of the same size"
 module _ {c : Corner} {os t ms ch t′ ms′ ch′ t₁ ms₁ ch₁ t₂ ms₂ ch₂ : List ℕ} {f : Facts} {r : Answer}
     (w : WalkIs c os t ms ch (Answer.Accepted f) t′ ms′ ch′) (v : WalkIs c (survivors os) t₁ ms₁ ch₁ r t₂ ms₂ ch₂)
-    (table : length t₁ ≡ length t) (marks : length ms₁ ≡ 2 * length (survivors os)) (chain : length ch₁ ≡ length (survivors os)) where
+    (lent : LentAlone (survivors os) t t₁ ms₁ ch₁) where
   -- "both give the same answer"
   pub alone-answer : r ≡ Answer.Accepted f
-  alone-answer = aloneLaws.same-answer w v table marks chain
+  alone-answer = aloneLaws.same-answer w v lent
 
   -- "the same table"
   pub alone-table : t₂ ≡ t′
-  alone-table = aloneLaws.same-table w v table marks chain
+  alone-table = aloneLaws.same-table w v lent
 
   -- "and the same surviving steps": the chain has nothing else
   pub alone-steps : ch₂ ≡ take (f .steps) ch′
-  alone-steps = aloneLaws.same-steps w v table marks chain
+  alone-steps = aloneLaws.same-steps w v lent
 
 -- "after every operation, the nodes in use number at most eight times the different corners that the walk then touches"
 pub at-most-eight : (os : List ℕ) (k : ℕ) → AtMostEight (nodesAfter origin os k) (cornersAfter origin os k)

@@ -23,6 +23,7 @@ use Rattle.word.proofs.SurvivorLaws.{after-length}
 use Rattle.calls.specs.Walk.{roomFrom}
 use Rattle.calls.proofs.RoomLaws.{room-full, room-fits}
 use Rattle.demands.specs.Given.{First, Fine}
+use Rattle.demands.proofs.DemandCases as cases
 
 -- where each place is fine or bad, all are fine or one is the first that is bad
 pub all-or-first : (n : ℕ) (fine bad : ℕ → Type 0) → ((i : ℕ) → fine i ⊎ bad i) → ((i : ℕ) → i < n → fine i) ⊎ ((i : ℕ) × First n fine bad i)

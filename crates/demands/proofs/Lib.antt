@@ -1,3 +1,4 @@
+pub mod DemandCases
 pub mod FirstLaws
 pub mod GivenLaws
 pub mod WalkLaws

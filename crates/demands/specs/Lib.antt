@@ -1,4 +1,5 @@
--- The moments of a walk, and when each of its answers is given.
+-- The moments of a walk, when each of its answers is given, what a record says, and what is lent for the surviving steps alone.
 pub mod Moments
 pub mod Given
 pub mod Record
+pub mod Alone
