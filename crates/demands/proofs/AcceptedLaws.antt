@@ -1,22 +1,21 @@
 -- The facts and the buffers of an accepted walk.
 -- Assumes nothing.
-use mathlib.Core.Bool.{true, false}
-use mathlib.Core.List.{List, [], _∷_, _++_}
+use mathlib.Core.List.{List, []}
 use mathlib.Core.Logic.{_⊎_, inl, inr}
 use mathlib.Core.Path.{_≡_, refl, ap, sym, _∙_, subst}
-use Prim.Native.Nat.{ℕ, suc, _+_, _-_, _*_, _/_, _<_, _≤_}
+use Prim.Native.Nat.{ℕ, suc, _+_, _*_, _/_, _<_, _≤_}
 use native.Mathlib.Omega.{arith}
 use lib.IntN.{pos}
-use lib.ListN.{length, getD, take, replicate}
+use lib.ListN.{length, getD}
 use lib.Seq.{take-length}
 use Rattle.answer.specs.declared.Answer.{Answer}
 use Rattle.answer.specs.declared.Facts.{Facts}
 use Rattle.answer.specs.declared.Judged.the-variants.{Good}
 use Rattle.answer.specs.Limits.{noMeeting}
 use Rattle.grid.specs.declared.Corner.{Corner}
-use Rattle.grid.specs.Grid.{origin, cornersFrom, endFrom}
+use Rattle.grid.specs.Grid.{origin, cornersFrom}
 use Rattle.word.specs.Operations.{survivors}
-use Rattle.trace.specs.Meeting.{Meets, FirstMeets, Meeting, none, meet, meetingOf, meetingJ, meetingK, visitedOf}
+use Rattle.trace.specs.Meeting.{Meets, FirstMeets, Meeting, none, meet, meetingOf, meetingJ, meetingK}
 use Rattle.trace.specs.Verdict.{VerdictSays, IsRoom, sweepFrom}
 use Rattle.tree.specs.Nodes.{nodesOf}
 use Rattle.calls.specs.Walk.{factsOf, WalkIs}
@@ -28,7 +27,7 @@ use Rattle.demands.specs.Moments.{nodesAfter, visitsAfter}
 use Rattle.demands.specs.Given.{Given}
 use Rattle.demands.specs.Given as given
 use Rattle.demands.specs.Record.{RecordSays}
-use Rattle.demands.proofs.BufferLaws.{table-word, table-unused, table-length, marks-from, marks-length}
+use Rattle.demands.proofs.BufferLaws.{table-word, table-unused, table-length, marks-from, marks-length, chain-length}
 use Rattle.demands.proofs.RecordLaws.{record-says}
 use Rattle.demands.proofs.WalkLaws.{always-room, its-facts, its-occasion, its-table, its-marks, its-chain}
 
@@ -81,9 +80,15 @@ module _ {c : Corner} {os t ms ch t′ ms′ ch′ : List ℕ} {f : Facts} (w : 
 
 -- no buffer changes its length
 module _ {os t ms ch t′ ms′ ch′ : List ℕ} {f : Facts} (w : WalkIs origin os t ms ch (Answer.Accepted f) t′ ms′ ch′) where
-  room-at-last : Given origin os (length t) (length ms) (length ch) Good → length (nodesOf (cornersFrom origin (survivors os))) ≤ length t / 21
-  room-at-last (given.accepted h a) =
-      subst (λ (l : List ℕ). length (nodesOf (cornersFrom origin (survivors l))) ≤ length t / 21) (take-length os) (always-room w h a (length os) (omega arith))
-
-  pub its-length : length t′ ≡ length t
-  its-length = ap length (its-table w) ∙ table-length (length t) origin (survivors os) (omega (arith, room-at-last (its-occasion w)))
+  pub its-lengths : (length t′ ≡ length t) × (length ms′ ≡ length ms) × (length ch′ ≡ length ch)
+  its-lengths = by (its-occasion w)
+    where
+      by : Given origin os (length t) (length ms) (length ch) Good → (length t′ ≡ length t) × (length ms′ ≡ length ms) × (length ch′ ≡ length ch)
+      by (given.accepted h a) =
+          let n : length (nodesOf (cornersFrom origin (survivors os))) ≤ length t / 21 =
+          subst (λ (l : List ℕ). length (nodesOf (cornersFrom origin (survivors l))) ≤ length t / 21) (take-length os) (always-room w h a (length os) (omega arith)) in
+          let r = h .sized .room in (
+            ap length (its-table w) ∙ table-length (length t) origin (survivors os) (omega arith),
+            ap length (its-marks w) ∙ marks-length origin [] os ∙ sym (r .0),
+            ap length (its-chain w) ∙ chain-length os ∙ sym (r .1),
+          )

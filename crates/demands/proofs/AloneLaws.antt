@@ -1,12 +1,11 @@
 -- The record of the surviving steps alone gives the same; the nodes at every moment; and tables that are large enough.
 -- Assumes nothing.
-use mathlib.Core.List.{List, [], _∷_, _++_, append-nil}
-use mathlib.Core.Logic.{_⊎_, inl, inr, ⊎-elim}
+use mathlib.Core.List.{List, [], _++_, append-nil}
 use mathlib.Core.Path.{_≡_, refl, ap, ap₂, sym, _∙_, subst}
-use Prim.Native.Nat.{ℕ, zero, suc, _+_, _-_, _*_, _/_, _<_, _≤_}
+use Prim.Native.Nat.{ℕ, suc, _+_, _-_, _*_, _/_, _<_, _≤_}
 use native.Mathlib.Omega.{arith}
-use lib.ListN.{length, getD, take, replicate, length-take}
-use lib.Seq.{take-at, take-length, take-take, getD-take, length-take-le}
+use lib.ListN.{length, getD, take, replicate}
+use lib.Seq.{take-at, take-take, getD-take, length-take-le}
 use Rattle.answer.specs.declared.Answer.{Answer}
 use Rattle.answer.specs.declared.Facts.{Facts}
 use Rattle.answer.specs.declared.Judged.{Judged}
@@ -15,13 +14,11 @@ use Rattle.answer.specs.declared.Refusal.the-variants.{NoRoom}
 use Rattle.grid.specs.declared.Corner.{Corner}
 use Rattle.grid.specs.Grid.{origin, cornersFrom}
 use Rattle.word.specs.Operations.{survivors}
-use Rattle.trace.specs.Meeting.{visitedOf}
-use Rattle.tree.specs.Nodes.{nodesOf}
 use Rattle.layout.specs.Marks.{chainOf}
 use Rattle.layout.specs.Table.{recordWords, tableOf}
 use Rattle.calls.specs.Walk.{walkJudged, factsOf, answerBy, bufferBy, WalkIs}
 use Rattle.grid.proofs.StepLaws.{length-cornersFrom}
-use Rattle.word.proofs.SurvivorLaws.{Sound, sound-survivors}
+use Rattle.word.proofs.SurvivorLaws.{sound-survivors}
 use Rattle.trace.proofs.VisitLaws.{length-visited-le}
 use Rattle.calls.proofs.RoomLaws.{alone}
 use Rattle.tree_laws.proofs.CountLaws.{few-nodes}

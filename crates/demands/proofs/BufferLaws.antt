@@ -1,30 +1,22 @@
 -- The buffers of an accepted walk, word by word: records, marks and chain. And the digits of turns.
 -- Assumes nothing.
-use mathlib.Core.Bool.{true}
-use mathlib.Core.List.{List, [], _∷_, _++_, List·Memᴰ}
-use mathlib.Core.Logic.{_↔_}
-use mathlib.Core.Path.{_≡_, refl, ap, sym, _∙_, subst}
-use Prim.Native.Nat.{ℕ, zero, suc, _+_, _-_, _*_, _/_, _<_, _≤_}
+use mathlib.Core.List.{List, [], _∷_}
+use mathlib.Core.Path.{_≡_, refl, ap, _∙_}
+use Prim.Native.Nat.{ℕ, zero, suc, _+_, _-_, _*_, _<_, _≤_}
 use native.Mathlib.Decide.{decLt}
 use native.Mathlib.Omega.{arith}
 use lib.ListN.{length, getD, take, replicate, length-append, length-replicate, getD-replicate, List·getD-append, List·getD-eq-default}
-use lib.Seq.{getD-append-add, take-length}
-use Rattle.lists.specs.Lists.{count, find, Distinct}
+use lib.Seq.{getD-append-add}
+use Rattle.lists.specs.Lists.{count}
 use Rattle.grid.specs.declared.Corner.{Corner}
 use Rattle.grid.specs.Grid.{origin, same, cornersFrom, endFrom}
 use Rattle.word.specs.Operations.{operate, survivorsFrom, survivors}
 use Rattle.word.specs.Turns.{turnOf, turnsFrom, turnsOf}
-use Rattle.tree.specs.Nodes.{nodesOf, refOf}
-use Rattle.layout.specs.Marks.{marksFrom}
+use Rattle.tree.specs.Nodes.{nodesOf}
+use Rattle.layout.specs.Marks.{marksFrom, chainOf}
 use Rattle.layout.specs.Table.{recordOf, recordsOf, tableOf}
-use Rattle.grid.proofs.CornerLaws.{same-refl, same-sound}
-use Rattle.lists.proofs.DistinctLaws.{mem-getD}
-use Rattle.lists.proofs.FindLaws.{find-get}
-use Rattle.lists.proofs.ZipLaws.{find-least}
+use Rattle.word.proofs.SurvivorLaws.{length-survivors}
 use Rattle.layout.proofs.IndexLaws.{length-records, word-at}
-use Rattle.tree.proofs.NodeLaws.{nodesOf-distinct}
-use Rattle.lists.proofs.DistinctLaws.{distinct-getD}
-use Rattle.demands.specs.Given.{First}
 
 zeros : (n i : ℕ) → getD {A = ℕ} (replicate n 0) i 0 ≡ 0
 zeros n i = elim (decLt i n) [ yes h ↦ getD-replicate n i 0 0 h | no h ↦ List·getD-eq-default {A = ℕ} (replicate n 0) 0 {n = i} (omega (arith, length-replicate {A = ℕ} n 0)) ]
@@ -73,6 +65,11 @@ module _ (c : Corner) where
   pub marks-length : (s os : List ℕ) → length (marksFrom c s os) ≡ 2 * length os
   marks-length s [] = refl
   marks-length s (o ∷ os) = omega (arith, marks-length (operate s o) os)
+
+pub chain-length : (os : List ℕ) → length (chainOf os) ≡ length os
+chain-length os =
+    let n = length os - length (survivors os) in
+    omega (arith, length-append (survivors os) (replicate n 0), length-replicate {A = ℕ} n 0, length-survivors [] os)
 
 -- each later digit of turns is its step minus the one before
 turns-from : (a : ℕ) (ds : List ℕ) (k : ℕ) → k < length ds → getD (turnsFrom a ds) k 0 ≡ turnOf (getD (a ∷ ds) k 0) (getD ds k 0)

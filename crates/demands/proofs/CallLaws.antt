@@ -1,8 +1,9 @@
 -- The hull's and the conversions' promises: an answer for every input, and an untouched buffer for a refused one.
 -- Assumes nothing.
 use mathlib.Core.List.{List}
+use mathlib.Core.Logic.{_↔_}
 use mathlib.Core.Path.{_≡_, refl, ap, sym, _∙_}
-use Prim.Native.Nat.{ℕ, zero, suc, _<_}
+use Prim.Native.Nat.{ℕ}
 use native.Mathlib.Omega.{arith}
 use lib.IntN.{ℤ}
 use lib.ListN.{length}
@@ -13,8 +14,8 @@ use Rattle.answer.specs.declared.Refusal.{Refusal}
 use Rattle.grid.specs.declared.Corner.{Corner}
 use Rattle.grid.specs.Grid.{cornersFrom}
 use Rattle.word.specs.Turns.{turnsJudged, writtenIf, ConvertedBy}
-use Rattle.hull.specs.Hull.{HullIs}
 use Rattle.hull.specs.Call.{hullJudged, countedOf, bufferOf, HullCall}
+use Rattle.word.proofs.TurnPromiseLaws.{Convertible, turnsJudged-good, good-turnsJudged}
 use Rattle.hull_laws.proofs.HullLaws.{hull-exists}
 use Rattle.hull_laws.proofs.OneLaws.{hullIs-one}
 
@@ -27,6 +28,10 @@ converted-untouched {convert} {ds} {out} q p = p .buffer ∙ ap (λ (j : Judged)
 
 pub converted-written : {convert : List ℕ → List ℕ} {ds out out′ : List ℕ} → ConvertedBy convert ds out Good out′ → out′ ≡ convert ds
 converted-written {convert} {ds} {out} p = p .buffer ∙ ap (λ (j : Judged). writtenIf j (convert ds) out) (sym (p .answer))
+
+-- accepted exactly where the digits are few and below 4, and the buffer has their length
+pub converted-when : {convert : List ℕ → List ℕ} {ds out out′ : List ℕ} {r : Judged} → ConvertedBy convert ds out r out′ → r ≡ Good ↔ Convertible ds (length out)
+converted-when {ds = ds} {out = out} p = (λ e. turnsJudged-good ds (length out) (sym (p .answer) ∙ e), λ g. p .answer ∙ good-turnsJudged ds (length out) g)
 
 -- ---- hulls
 module _ (s : Corner) (chain : List ℕ) (before : List ℤ) where

@@ -1,7 +1,6 @@
 -- What the three demands ask for, as theorems about the promises: `WalkIs` of the walk, `ConvertedBy` of the turns, `HullCall` of the hull.
 -- Each is proved by naming a law. Assumes nothing.
-use mathlib.Core.Bool.{true, false}
-use mathlib.Core.List.{List, [], _∷_, _++_, List·Memᴰ}
+use mathlib.Core.List.{List, _∷_, _++_, List·Memᴰ}
 use mathlib.Core.Logic.{_⊎_, _↔_}
 use mathlib.Core.Path.{_≡_}
 use Prim.Native.Nat.{ℕ, suc, _+_, _-_, _*_, _/_, _<_, _≤_}
@@ -17,12 +16,12 @@ use Rattle.answer.specs.declared.Refusal.the-variants.{NoRoom}
 use Rattle.answer.specs.declared.Verdict.{Verdict}
 use Rattle.answer.specs.Limits.{noMeeting}
 use Rattle.answer.specs.Refusal.{refusalNumber}
-use Rattle.lists.specs.Lists.{Distinct, Below}
+use Rattle.lists.specs.Lists.{Distinct}
 use Rattle.grid.specs.declared.Corner.{Corner}
 use Rattle.grid.specs.Grid.{origin, cornersFrom}
 use Rattle.grid.specs.Tree.{AncestorAt}
 use Rattle.word.specs.Operations.{survivors}
-use Rattle.word.specs.Turns.{turnOf, stepAfter, turnsOf, stepsOf, turnsJudged, ConvertedBy}
+use Rattle.word.specs.Turns.{turnOf, turnsOf, stepsOf, ConvertedBy}
 use Rattle.trace.specs.Meeting.{Meets, FirstMeets, visitedOf}
 use Rattle.trace.specs.Verdict.{VerdictSays, IsRoom, sweepFrom}
 use Rattle.tree.specs.Nodes.{nodesOf, refOf, needOf, InUse}
@@ -40,7 +39,6 @@ use Rattle.tree.proofs.NodeLaws as nodeLaws
 use Rattle.tree.proofs.OrderLaws as orderLaws
 use Rattle.tree_laws.proofs.CountLaws.{Within}
 use Rattle.tree_laws.proofs.CountLaws as countLaws
-use Rattle.word.proofs.TurnLaws as turnLaws
 use Rattle.word.proofs.TurnPromiseLaws.{Convertible}
 use Rattle.word.proofs.TurnPromiseLaws as promiseLaws
 use Rattle.demands.specs.Moments.{nodesAfter, cornersAfter, visitsAfter, AtMostEight, FourLessThree, Exceeds}
@@ -97,6 +95,9 @@ turns-answer = callLaws.converted-some
 pub turns-one : (convert : List ℕ → List ℕ) {ds out out₁ out₂ : List ℕ} {r₁ r₂ : Judged} → ConvertedBy convert ds out r₁ out₁ → ConvertedBy convert ds out r₂ out₂ → (r₁ ≡ r₂) × (out₁ ≡ out₂)
 turns-one = promiseLaws.convertedBy-one
 
+pub turns-accepted-exactly : {convert : List ℕ → List ℕ} {ds out out′ : List ℕ} {r : Judged} → ConvertedBy convert ds out r out′ → r ≡ Good ↔ Convertible ds (length out)
+turns-accepted-exactly = callLaws.converted-when
+
 pub turns-untouched : {convert : List ℕ → List ℕ} {ds out out′ : List ℕ} (q : Refusal) → ConvertedBy convert ds out (Refused q) out′ → out′ ≡ out
 turns-untouched = callLaws.converted-untouched
 
@@ -144,9 +145,9 @@ module _ {c : Corner} {os t ms ch t′ ms′ ch′ : List ℕ} {f : Facts} (w : 
   pub chain-bytes : ch′ ≡ survivors os ++ replicate (length os - length (survivors os)) 0
   chain-bytes = walkLaws.its-chain w
 
--- the table keeps its length
-pub table-length : {os t ms ch t′ ms′ ch′ : List ℕ} {f : Facts} → WalkIs origin os t ms ch (Answer.Accepted f) t′ ms′ ch′ → length t′ ≡ length t
-table-length = acceptedLaws.its-length
+-- no buffer changes its length
+pub same-lengths : {os t ms ch t′ ms′ ch′ : List ℕ} {f : Facts} → WalkIs origin os t ms ch (Answer.Accepted f) t′ ms′ ch′ → (length t′ ≡ length t) × (length ms′ ≡ length ms) × (length ch′ ≡ length ch)
+same-lengths = acceptedLaws.its-lengths
 
 -- only one first meeting, and only one verdict
 pub firstMeets-one : {c : Corner} {ds : List ℕ} {j k j′ k′ : ℕ} → FirstMeets c ds j k → FirstMeets c ds j′ k′ → (j ≡ j′) × (k ≡ k′)

@@ -1,13 +1,13 @@
 -- Moments, occasions and bounds, computed on small walks.
 -- Assumes nothing.
-use mathlib.Core.List.{List, [], _∷_}
-use mathlib.Core.Logic.{inl, inr, ⊎-elim}
+use mathlib.Core.List.{[], _∷_}
+use mathlib.Core.Logic.{inl, ⊎-elim}
 use mathlib.Core.Path.{_≡_, refl}
-use Prim.Native.Nat.{ℕ, _*_}
+use Prim.Native.Nat.{_*_}
 use native.Mathlib.Omega.{arith}
 use Rattle.grid.specs.Grid.{origin}
-use Rattle.demands.specs.Moments.{stepsAfter, nodesAfter, cornersAfter, visitsAfter, FourLessThree, Exceeds}
-use Rattle.demands.specs.Given.{HasRecords, Fine}
+use Rattle.demands.specs.Moments.{nodesAfter, cornersAfter, visitsAfter, FourLessThree, Exceeds}
+use Rattle.demands.specs.Given.{HasRecords, Fine, FineAt, BadDigitAt, First}
 
 -- 0011 needs six nodes for its five corners at its last moment, so five records are too few and six are enough
 one-record-short : Exceeds (nodesAfter origin (0 ∷ 0 ∷ 1 ∷ 1 ∷ []) 4) 5
@@ -37,6 +37,10 @@ nothing-at-first f = ⊎-elim (λ h. omega (arith, h .1)) (λ h. omega (arith, h
 
 one-to-take : Fine (0 ∷ []) 4
 one-to-take = inl (refl, omega arith)
+
+-- of two bad digits the second is not the first faulty place
+second-of-two : First 2 (FineAt (5 ∷ 5 ∷ [])) (BadDigitAt (5 ∷ 5 ∷ [])) 1 → ⊥
+second-of-two f = ⊎-elim (λ h. omega (arith, h .0)) (λ h. omega (arith, h .0)) (f .before 0 (omega arith))
 
 -- 42 words are two records, 41 are no number of records
 two-records : HasRecords 42

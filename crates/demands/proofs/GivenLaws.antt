@@ -1,13 +1,13 @@
 -- Each judgement is given on its occasion and on no other, and for every call there is one.
 -- Assumes nothing.
 use mathlib.Core.Bool.{Bool, true, false, not, _&&_}
-use mathlib.Core.List.{List, [], _∷_}
-use mathlib.Core.Logic.{_⊎_, inl, inr, ⊎-elim, _↔_}
+use mathlib.Core.List.{List, []}
+use mathlib.Core.Logic.{_⊎_, inl, inr, ⊎-elim}
 use mathlib.Core.Path.{_≡_, refl, ap, sym, _∙_, subst}
-use Prim.Native.Nat.{ℕ, zero, suc, _+_, _*_, _/_, _%_, _<_, _≤_}
-use native.Mathlib.Decide.{ℕ-discrete, decLt}
+use Prim.Native.Nat.{ℕ, suc, _*_, _/_, _%_, _<_, _≤_}
+use native.Mathlib.Decide.{decLt}
 use native.Mathlib.Omega.{arith}
-use borrow.Author.Tests.{leb-true, eqb-true, lt-ltb, le-ltb, le-leb, eq-eqb, ne-eqb}
+use borrow.Author.Tests.{leb-true, eqb-true, lt-ltb, le-ltb, le-leb, eq-eqb}
 use lib.Dec.{eqb, ltb, leb}
 use lib.ListN.{length, getD}
 use Rattle.answer.specs.declared.Judged.{Judged}
@@ -17,13 +17,12 @@ use Rattle.answer.specs.declared.Refusal.the-variants.{TooMany, Table, ResultRo
 use Rattle.answer.specs.Limits.{mostInput, mostRecords}
 use Rattle.answer.specs.Refusal.{when, orElse}
 use Rattle.grid.specs.declared.Corner.{Corner}
-use Rattle.layout.specs.Table.{recordWords}
 use Rattle.word.specs.Operations.{faultOf, faultsFrom}
 use Rattle.calls.specs.Walk.{tableFits, roomFrom, walkJudged}
 use Rattle.answer.proofs.RefusalLaws.{orElse-right}
 use Rattle.lists.proofs.GatherLaws.{and-left, and-right}
 use Rattle.demands.specs.Moments.{stepsAfter, nodesAfter}
-use Rattle.demands.specs.Given.{HasRecords, HasRoom, FineAt, BadDigitAt, NothingAt, TooLongAt, First, Sized, Faultless, NoRoomAt, Given}
+use Rattle.demands.specs.Given.{HasRecords, HasRoom, FineAt, BadDigitAt, NothingAt, TooLongAt, First, Sized, Faultless, Given}
 use Rattle.demands.specs.Given as given
 use Rattle.demands.proofs.FirstLaws.{all-or-first, fine-or-fault, fault-digit, fault-nothing, fault-long, faults-none, faults-first, room-none, room-first}
 

@@ -1,7 +1,7 @@
 -- A node's record says what the table of words says.
 -- Assumes nothing.
-use mathlib.Core.Bool.{Bool, true, false, cond}
-use mathlib.Core.List.{List, [], _∷_, List·Memᴰ, List·Memᴰ·head}
+use mathlib.Core.Bool.{Bool, true, cond}
+use mathlib.Core.List.{List, List·Memᴰ, List·Memᴰ·head}
 use mathlib.Core.Logic.{_↔_}
 use mathlib.Core.Path.{_≡_, refl, ap, sym, _∙_, subst}
 use Prim.Native.Nat.{ℕ, zero, suc, _+_, _<_, _≤_}
@@ -26,7 +26,6 @@ use Rattle.tree.proofs.OrderLaws.{need-there, need-least}
 use Rattle.tree.proofs.RefLaws.{not-any}
 use Rattle.layout.proofs.ChildLaws.{child-ref, child-there, childWord-range}
 use Rattle.layout.proofs.NeighbourLaws.{neighbour-linked, neighbour-none}
-use Rattle.demands.specs.Given.{First}
 use Rattle.demands.specs.Record.{IsRef, IsChild, FirstIn, RecordSays}
 
 -- ---- first places

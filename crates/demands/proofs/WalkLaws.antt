@@ -1,15 +1,12 @@
 -- What the walk's promise gives: there is one answer and one state of the buffers, each refusal has its occasion and its buffers, and
 -- "no room" is given where some moment needs too many nodes.
 -- Assumes nothing.
-use mathlib.Core.Bool.{Bool, true, false}
-use mathlib.Core.List.{List, [], _∷_}
-use mathlib.Core.Logic.{_⊎_, inl, inr, ⊎-elim, _↔_}
+use mathlib.Core.List.{List}
+use mathlib.Core.Logic.{⊎-elim, _↔_}
 use mathlib.Core.Path.{_≡_, refl, ap, sym, _∙_, subst}
-use Prim.Native.Nat.{ℕ, zero, suc, _+_, _*_, _/_, _<_, _≤_}
+use Prim.Native.Nat.{ℕ, zero, suc, _*_, _/_, _<_, _≤_}
 use native.Mathlib.Omega.{arith}
-use native.Mathlib.Decide.{decLt}
 use borrow.Author.Tests.{ne-eqb}
-use lib.Dec.{eqb}
 use lib.ListN.{length, replicate}
 use Rattle.answer.specs.declared.Answer.{Answer}
 use Rattle.answer.specs.declared.Facts.{Facts}
@@ -23,9 +20,9 @@ use Rattle.grid.specs.Grid.{origin}
 use Rattle.layout.specs.Marks.{marksOf, chainOf}
 use Rattle.layout.specs.Table.{recordWords, tableOf}
 use Rattle.word.specs.Operations.{survivors}
-use Rattle.calls.specs.Walk.{walkJudged, walkAnswer, factsOf, answerBy, bufferBy, refusedBuffer, WalkIs}
+use Rattle.calls.specs.Walk.{walkJudged, walkAnswer, factsOf, answerBy, bufferBy, WalkIs}
 use Rattle.demands.specs.Moments.{nodesAfter, Exceeds}
-use Rattle.demands.specs.Given.{Faultless, NoRoomAt, Given, First}
+use Rattle.demands.specs.Given.{Faultless, NoRoomAt, Given}
 use Rattle.demands.specs.Given as given
 use Rattle.demands.proofs.GivenLaws.{roomy, given-judged, judged-given}
 use Rattle.demands.proofs.FirstLaws.{all-or-first}
