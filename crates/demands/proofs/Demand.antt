@@ -5,7 +5,7 @@ use mathlib.Core.Logic.{_⊎_, _↔_}
 use mathlib.Core.Path.{_≡_}
 use Prim.Native.Nat.{ℕ, suc, _+_, _-_, _*_, _/_, _<_, _≤_}
 use lib.IntN.{ℤ, pos}
-use lib.ListN.{length, getD, take, replicate}
+use lib.ListN.{length, getD, take, drop, replicate}
 use Rattle.answer.specs.declared.Answer.{Answer}
 use Rattle.answer.specs.declared.Counted.{Counted}
 use Rattle.answer.specs.declared.Facts.{Facts}
@@ -28,7 +28,8 @@ use Rattle.tree.specs.Nodes.{nodesOf, refOf, needOf, InUse}
 use Rattle.layout.specs.Table.{recordWords}
 use Rattle.calls.specs.Walk.{factsOf, WalkIs}
 use Rattle.hull.specs.Hull.{In, Exposed, HullIs}
-use Rattle.hull.specs.Call.{HullCall}
+use Rattle.hull.specs.Call.{numbers, HullCall}
+use Rattle.hull_laws.proofs.CallLaws as hullCallLaws
 use Rattle.hull_laws.proofs.HullLaws as hullLaws
 use Rattle.hull_laws.proofs.OneLaws as oneLaws
 use Rattle.trace.proofs.MeetingLaws as meetingLaws
@@ -39,10 +40,11 @@ use Rattle.tree.proofs.NodeLaws as nodeLaws
 use Rattle.tree.proofs.OrderLaws as orderLaws
 use Rattle.tree_laws.proofs.CountLaws.{Within}
 use Rattle.tree_laws.proofs.CountLaws as countLaws
-use Rattle.word.proofs.TurnPromiseLaws.{Convertible}
 use Rattle.word.proofs.TurnPromiseLaws as promiseLaws
 use Rattle.demands.specs.Moments.{nodesAfter, cornersAfter, visitsAfter, AtMostEight, FourLessThree, Exceeds}
 use Rattle.demands.specs.Given.{Faultless, NoRoomAt, Given}
+use Rattle.demands.specs.GivenTurns.{GivenTurns}
+use Rattle.demands.specs.GivenHull.{GivenHull}
 use Rattle.demands.specs.Record.{RecordSays}
 use Rattle.demands.specs.Alone.{LentAlone}
 use Rattle.demands.proofs.WalkLaws as walkLaws
@@ -50,6 +52,7 @@ use Rattle.demands.proofs.AcceptedLaws as acceptedLaws
 use Rattle.demands.proofs.BufferLaws as bufferLaws
 use Rattle.demands.proofs.AloneLaws as aloneLaws
 use Rattle.demands.proofs.CallLaws as callLaws
+use Rattle.demands.proofs.DigitLaws as digitLaws
 
 -- ---- Demand 1
 -- "takes every byte string .. with every size of table and result buffer": there is an answer and a state of the buffers
@@ -88,24 +91,31 @@ module _ {os t ms ch t′ ms′ ch′ : List ℕ} {r : Answer} (w : WalkIs origi
   pub no-room-place : (i : ℕ) → r ≡ Answer.Refused (NoRoom i) ↔ Faultless os (length t) (length ms) (length ch) × NoRoomAt origin os (length t / recordWords 1) i
   no-room-place = walkLaws.no-room-at w
 
--- the turns and the hull have one answer and one buffer too, which a refusal leaves untouched
+-- the same of the turns
 pub turns-answer : (convert : List ℕ → List ℕ) (ds out : List ℕ) → (r : Judged) × (out′ : List ℕ) × ConvertedBy convert ds out r out′
 turns-answer = callLaws.converted-some
 
 pub turns-one : (convert : List ℕ → List ℕ) {ds out out₁ out₂ : List ℕ} {r₁ r₂ : Judged} → ConvertedBy convert ds out r₁ out₁ → ConvertedBy convert ds out r₂ out₂ → (r₁ ≡ r₂) × (out₁ ≡ out₂)
 turns-one = promiseLaws.convertedBy-one
 
-pub turns-accepted-exactly : {convert : List ℕ → List ℕ} {ds out out′ : List ℕ} {r : Judged} → ConvertedBy convert ds out r out′ → r ≡ Good ↔ Convertible ds (length out)
-turns-accepted-exactly = callLaws.converted-when
+pub turns-exactly : {convert : List ℕ → List ℕ} {ds out out′ : List ℕ} {r : Judged} → ConvertedBy convert ds out r out′ → (j : Judged) → r ≡ j ↔ GivenTurns ds (length out) j
+turns-exactly = digitLaws.turns-when
 
 pub turns-untouched : {convert : List ℕ → List ℕ} {ds out out′ : List ℕ} (q : Refusal) → ConvertedBy convert ds out (Refused q) out′ → out′ ≡ out
 turns-untouched = callLaws.converted-untouched
 
+-- and of the hull
 pub hull-answers : (s : Corner) (chain : List ℕ) (before : List ℤ) → (r : Counted) × (after : List ℤ) × HullCall s chain before r after
 hull-answers = callLaws.hullCall-some
 
-pub hullCall-one : (s : Corner) (chain : List ℕ) (before : List ℤ) {r₁ r₂ : Counted} {after₁ after₂ : List ℤ} → HullCall s chain before r₁ after₁ → HullCall s chain before r₂ after₂ → (r₁ ≡ r₂) × (after₁ ≡ after₂)
-hullCall-one = callLaws.hullCall-one
+pub hullCall-one : {s : Corner} {chain : List ℕ} {before after₁ after₂ : List ℤ} {r₁ r₂ : Counted} → HullCall s chain before r₁ after₁ → HullCall s chain before r₂ after₂ → (r₁ ≡ r₂) × (after₁ ≡ after₂)
+hullCall-one = hullCallLaws.hullCall-one
+
+pub hull-refused-exactly : {s : Corner} {chain : List ℕ} {before after : List ℤ} {r : Counted} (w : HullCall s chain before r after) (q : Refusal) → r ≡ Counted.Refused q ↔ GivenHull chain (length before) (length (w .list)) (Refused q)
+hull-refused-exactly = digitLaws.hull-refused-when
+
+pub hull-counted-exactly : {s : Corner} {chain : List ℕ} {before after : List ℤ} {r : Counted} (w : HullCall s chain before r after) → r ≡ Counted.Corners (length (w .list)) ↔ GivenHull chain (length before) (length (w .list)) Good
+hull-counted-exactly = digitLaws.hull-counted-when
 
 pub hull-untouched : (s : Corner) (chain : List ℕ) (before : List ℤ) {after : List ℤ} (q : Refusal) → HullCall s chain before (Counted.Refused q) after → after ≡ before
 hull-untouched = callLaws.hull-untouched
@@ -180,6 +190,10 @@ corners-visited ps a = (visitLaws.visited-mem ps, visitLaws.mem-visited ps)
 pub corners-once : (ps : List Corner) → Distinct (visitedOf ps)
 corners-once = visitLaws.visited-distinct
 
+-- an accepted conversion leaves the digits converted
+pub turns-written : {convert : List ℕ → List ℕ} {ds out out′ : List ℕ} → ConvertedBy convert ds out Good out′ → out′ ≡ convert ds
+turns-written = callLaws.converted-written
+
 -- "Freeman chains": the first digit of turns is the first step, each later digit is that step minus the one before
 pub first-turn : (ds : List ℕ) → getD (turnsOf ds) 0 0 ≡ getD ds 0 0
 first-turn = bufferLaws.turn-first
@@ -203,6 +217,11 @@ hullIs-one = oneLaws.hullIs-one
 
 pub hull-extreme : (P L : List Corner) → HullIs P L → (q : Corner) → In q L ↔ Exposed P q
 hull-extreme P L h = h .corners
+
+-- an accepted call answers how many they are and leaves x and y of each; the numbers after the list are unchanged
+pub hull-written : (s : Corner) (chain : List ℕ) (before : List ℤ) {after : List ℤ} (n : ℕ) (w : HullCall s chain before (Counted.Corners n) after)
+    → (n ≡ length (w .list)) × (after ≡ numbers (w .list) ++ drop (2 * length (w .list)) before)
+hull-written = callLaws.hull-written
 
 -- ---- Demand 3
 -- "if it is accepted, so is the record of the surviving steps alone in a table of the same size"

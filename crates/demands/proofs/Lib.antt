@@ -7,4 +7,5 @@ pub mod RecordLaws
 pub mod AcceptedLaws
 pub mod AloneLaws
 pub mod CallLaws
+pub mod DigitLaws
 pub mod Demand
