@@ -27,6 +27,7 @@ use Rattle.tree.proofs.RefLaws.{not-any}
 use Rattle.layout.proofs.ChildLaws.{child-ref, child-there, childWord-range}
 use Rattle.layout.proofs.NeighbourLaws.{neighbour-linked, neighbour-none}
 use Rattle.demands.specs.Record.{IsRef, IsChild, FirstIn, RecordSays}
+use Rattle.demands.proofs.DemandCases as cases
 
 -- ---- first places
 module _ (l : List Corner) (a : Corner) where
