@@ -23,11 +23,11 @@ before-a-take-back = refl
 after-a-take-back : nodesAfter origin (0 ∷ 0 ∷ 4 ∷ []) 3 ≡ 2
 after-a-take-back = refl
 
--- in 020 the corner last stood on has two visits, as it is the second one's
+-- 020 ends on the corner that its first step reached
 stood-on-twice : visitsAfter origin (0 ∷ 2 ∷ 0 ∷ []) 3 ≡ 2
 stood-on-twice = refl
 
--- the root alone is as many nodes as four corners a node less three allow
+-- the root alone, one node and one corner, reaches the bound
 bound-is-reached : FourLessThree (nodesAfter origin [] 0) (cornersAfter origin [] 0)
 bound-is-reached = omega arith
 
