@@ -1,0 +1,266 @@
+-- What the three demands ask for, as theorems about the promises: `WalkIs` of the walk, `ConvertedBy` of the turns, `HullCall` of the hull.
+-- Each is proved by naming a law. Assumes nothing.
+use mathlib.Core.List.{List, _∷_, _++_, List·Memᴰ}
+use mathlib.Core.Logic.{_⊎_, _↔_}
+use mathlib.Core.Path.{_≡_}
+use Prim.Native.Nat.{ℕ, suc, _+_, _-_, _*_, _/_, _<_, _≤_}
+use lib.IntN.{ℤ, pos}
+use lib.ListN.{length, getD, take, drop, replicate}
+use Rattle.answer.specs.declared.Answer.{Answer}
+use Rattle.answer.specs.declared.Counted.{Counted}
+use Rattle.answer.specs.declared.Facts.{Facts}
+use Rattle.answer.specs.declared.Judged.{Judged}
+use Rattle.answer.specs.declared.Judged.the-variants.{Good, Refused}
+use Rattle.answer.specs.declared.Refusal.{Refusal}
+use Rattle.answer.specs.declared.Refusal.the-variants.{NoRoom}
+use Rattle.answer.specs.declared.Verdict.{Verdict}
+use Rattle.answer.specs.Limits.{noMeeting}
+use Rattle.answer.specs.Refusal.{refusalNumber}
+use Rattle.lists.specs.Lists.{Distinct}
+use Rattle.grid.specs.declared.Corner.{Corner}
+use Rattle.grid.specs.Grid.{origin, cornersFrom}
+use Rattle.grid.specs.Tree.{AncestorAt}
+use Rattle.word.specs.Operations.{survivors}
+use Rattle.word.specs.Turns.{turnOf, turnsOf, stepsOf, ConvertedBy}
+use Rattle.trace.specs.Meeting.{Meets, FirstMeets, visitedOf}
+use Rattle.trace.specs.Verdict.{VerdictSays, IsRoom, sweepFrom}
+use Rattle.tree.specs.Nodes.{nodesOf, refOf, needOf, InUse}
+use Rattle.layout.specs.Table.{recordWords}
+use Rattle.calls.specs.Walk.{factsOf, WalkIs}
+use Rattle.hull.specs.Hull.{In, Exposed, HullIs}
+use Rattle.hull.specs.Call.{numbers, HullCall}
+use Rattle.hull_laws.proofs.CallLaws as hullCallLaws
+use Rattle.hull_laws.proofs.HullLaws as hullLaws
+use Rattle.hull_laws.proofs.OneLaws as oneLaws
+use Rattle.trace.proofs.MeetingLaws as meetingLaws
+use Rattle.trace.proofs.VerdictLaws as verdictLaws
+use Rattle.trace.proofs.VisitLaws as visitLaws
+use Rattle.tree.proofs.InUseLaws as inUseLaws
+use Rattle.tree.proofs.NodeLaws as nodeLaws
+use Rattle.tree.proofs.OrderLaws as orderLaws
+use Rattle.tree_laws.proofs.CountLaws.{Within}
+use Rattle.tree_laws.proofs.CountLaws as countLaws
+use Rattle.word.proofs.TurnPromiseLaws as promiseLaws
+use Rattle.demands.specs.Moments.{nodesAfter, cornersAfter, visitsAfter, AtMostEight, FourLessThree, Exceeds}
+use Rattle.demands.specs.Given.{Faultless, NoRoomAt, Given}
+use Rattle.demands.specs.GivenTurns.{GivenTurns}
+use Rattle.demands.specs.GivenHull.{GivenHull}
+use Rattle.demands.specs.Record.{RecordSays}
+use Rattle.demands.specs.Alone.{LentAlone}
+use Rattle.demands.proofs.WalkLaws as walkLaws
+use Rattle.demands.proofs.AcceptedLaws as acceptedLaws
+use Rattle.demands.proofs.BufferLaws as bufferLaws
+use Rattle.demands.proofs.AloneLaws as aloneLaws
+use Rattle.demands.proofs.CallLaws as callLaws
+use Rattle.demands.proofs.DigitLaws as digitLaws
+
+-- ---- Demand 1
+-- "takes every byte string .. with every size of table and result buffer": there is an answer and a state of the buffers
+pub walk-answers : (c : Corner) (os t ms ch : List ℕ) → (r : Answer) × (t′ : List ℕ) × (ms′ : List ℕ) × (ch′ : List ℕ) × WalkIs c os t ms ch r t′ ms′ ch′
+walk-answers = walkLaws.walkIs-some
+
+-- and only one
+pub walkIs-one : {c : Corner} {os t ms ch t₁ ms₁ ch₁ t₂ ms₂ ch₂ : List ℕ} {r₁ r₂ : Answer} → WalkIs c os t ms ch r₁ t₁ ms₁ ch₁ → WalkIs c os t ms ch r₂ t₂ ms₂ ch₂
+    → (r₁ ≡ r₂) × (t₁ ≡ t₂) × (ms₁ ≡ ms₂) × (ch₁ ≡ ch₂)
+walkIs-one = walkLaws.walkIs-one
+
+module _ {c : Corner} {os t ms ch t′ ms′ ch′ : List ℕ} {r : Answer} (w : WalkIs c os t ms ch r t′ ms′ ch′) where
+  -- "an answer or a numbered refusal": each refusal exactly on its occasion, 1, 2, 3, then 4, 5, 6 at the first faulty place, then 7
+  pub refused-exactly : (q : Refusal) → r ≡ Answer.Refused q ↔ Given c os (length t) (length ms) (length ch) (Refused q)
+  refused-exactly = walkLaws.refused-when w
+
+  -- and acceptance exactly on its own, with the facts of the surviving steps
+  pub accepted-exactly : r ≡ Answer.Accepted (factsOf c (survivors os)) ↔ Given c os (length t) (length ms) (length ch) Good
+  accepted-exactly = walkLaws.accepted-when w
+
+module _ {c : Corner} {os t ms ch t′ ms′ ch′ : List ℕ} where
+  -- "a refusal leaves the buffers untouched"
+  pub refused-untouched : (q : Refusal) → (refusalNumber q ≡ 7 → ⊥) → WalkIs c os t ms ch (Answer.Refused q) t′ ms′ ch′ → (t′ ≡ t) × (ms′ ≡ ms) × (ch′ ≡ ch)
+  refused-untouched = walkLaws.untouched
+
+  -- "except that 'no room' leaves them all zero"
+  pub no-room-zero : (i : ℕ) → WalkIs c os t ms ch (Answer.Refused (NoRoom i)) t′ ms′ ch′ → (t′ ≡ replicate (length t) 0) × (ms′ ≡ replicate (length ms) 0) × (ch′ ≡ replicate (length ch) 0)
+  no-room-zero = walkLaws.all-zero
+
+module _ {os t ms ch t′ ms′ ch′ : List ℕ} {r : Answer} (w : WalkIs origin os t ms ch r t′ ms′ ch′) where
+  -- "'no room' is given exactly when nothing else is wrong with the call and the walk at some moment needs more nodes than the table has records"
+  pub no-room-exactly : ((i : ℕ) × (r ≡ Answer.Refused (NoRoom i))) ↔ Faultless os (length t) (length ms) (length ch) × ((k : ℕ) × (k ≤ length os) × Exceeds (nodesAfter origin os k) (length t / recordWords 1))
+  no-room-exactly = walkLaws.no-room-when w
+
+  -- its place is the first operation after which this is so
+  pub no-room-place : (i : ℕ) → r ≡ Answer.Refused (NoRoom i) ↔ Faultless os (length t) (length ms) (length ch) × NoRoomAt origin os (length t / recordWords 1) i
+  no-room-place = walkLaws.no-room-at w
+
+-- the same of the turns
+pub turns-answer : (convert : List ℕ → List ℕ) (ds out : List ℕ) → (r : Judged) × (out′ : List ℕ) × ConvertedBy convert ds out r out′
+turns-answer = callLaws.converted-some
+
+pub turns-one : (convert : List ℕ → List ℕ) {ds out out₁ out₂ : List ℕ} {r₁ r₂ : Judged} → ConvertedBy convert ds out r₁ out₁ → ConvertedBy convert ds out r₂ out₂ → (r₁ ≡ r₂) × (out₁ ≡ out₂)
+turns-one = promiseLaws.convertedBy-one
+
+pub turns-exactly : {convert : List ℕ → List ℕ} {ds out out′ : List ℕ} {r : Judged} → ConvertedBy convert ds out r out′ → (j : Judged) → r ≡ j ↔ GivenTurns ds (length out) j
+turns-exactly = digitLaws.turns-when
+
+pub turns-untouched : {convert : List ℕ → List ℕ} {ds out out′ : List ℕ} (q : Refusal) → ConvertedBy convert ds out (Refused q) out′ → out′ ≡ out
+turns-untouched = callLaws.converted-untouched
+
+-- and of the hull
+pub hull-answers : (s : Corner) (chain : List ℕ) (before : List ℤ) → (r : Counted) × (after : List ℤ) × HullCall s chain before r after
+hull-answers = callLaws.hullCall-some
+
+pub hullCall-one : {s : Corner} {chain : List ℕ} {before after₁ after₂ : List ℤ} {r₁ r₂ : Counted} → HullCall s chain before r₁ after₁ → HullCall s chain before r₂ after₂ → (r₁ ≡ r₂) × (after₁ ≡ after₂)
+hullCall-one = hullCallLaws.hullCall-one
+
+pub hull-refused-exactly : {s : Corner} {chain : List ℕ} {before after : List ℤ} {r : Counted} (w : HullCall s chain before r after) (q : Refusal) → r ≡ Counted.Refused q ↔ GivenHull chain (length before) (length (w .list)) (Refused q)
+hull-refused-exactly = digitLaws.hull-refused-when
+
+pub hull-counted-exactly : {s : Corner} {chain : List ℕ} {before after : List ℤ} {r : Counted} (w : HullCall s chain before r after) → r ≡ Counted.Corners (length (w .list)) ↔ GivenHull chain (length before) (length (w .list)) Good
+hull-counted-exactly = digitLaws.hull-counted-when
+
+pub hull-untouched : (s : Corner) (chain : List ℕ) (before : List ℤ) {after : List ℤ} (q : Refusal) → HullCall s chain before (Counted.Refused q) after → after ≡ before
+hull-untouched = callLaws.hull-untouched
+
+-- ---- Demand 2
+module _ {c : Corner} {os t ms ch t′ ms′ ch′ : List ℕ} {f : Facts} (w : WalkIs c os t ms ch (Answer.Accepted f) t′ ms′ ch′) where
+  -- the facts are those of the surviving steps: steps, nodes, different corners, last corner
+  pub facts : f ≡ factsOf c (survivors os)
+  facts = walkLaws.its-facts w
+
+  -- "the meeting of two visits": the first meeting, or there is none and both numbers are 65,535
+  pub meeting : FirstMeets c (survivors os) (f .j) (f .k) ⊎ ((f .j ≡ noMeeting) × (f .k ≡ noMeeting) × ((i m : ℕ) → Meets c (survivors os) i m → ⊥))
+  meeting = acceptedLaws.its-meeting w
+
+  -- "the verdict on closing and crossing"
+  pub verdict : VerdictSays c (survivors os) (f .verdict)
+  verdict = acceptedLaws.its-verdict w
+
+  -- "the panel count": the sum over the steps of x times the change of y for a room, and 0 for any other walk
+  pub area : (IsRoom c (survivors os) → f .area ≡ sweepFrom c (survivors os)) × ((IsRoom c (survivors os) → ⊥) → f .area ≡ pos 0)
+  area = acceptedLaws.its-area w
+
+  -- "every word of the table": the record of each node in use says what the table of words says, the visit count among it
+  pub record-words : (i : ℕ) → i < length (nodesOf (cornersFrom c (survivors os)))
+      → RecordSays (cornersFrom c (survivors os)) (getD (nodesOf (cornersFrom c (survivors os))) i origin) (λ n. getD t′ (21 * i + n) 0)
+  record-words = acceptedLaws.its-record w
+
+  -- and all words after these records are zero
+  pub unused-words : (n : ℕ) → 21 * f .nodes ≤ n → getD t′ n 0 ≡ 0
+  unused-words = acceptedLaws.its-unused w
+
+  -- after each operation, the nodes in use and then the visits at the corner now stood on
+  pub marks-words : (k : ℕ) → k < length os → (getD ms′ (2 * k) 0 ≡ nodesAfter c os (suc k)) × (getD ms′ (2 * k + 1) 0 ≡ visitsAfter c os (suc k))
+  marks-words = acceptedLaws.its-mark w
+
+  -- the surviving steps, then zeros
+  pub chain-bytes : ch′ ≡ survivors os ++ replicate (length os - length (survivors os)) 0
+  chain-bytes = walkLaws.its-chain w
+
+-- no buffer changes its length
+pub same-lengths : {os t ms ch t′ ms′ ch′ : List ℕ} {f : Facts} → WalkIs origin os t ms ch (Answer.Accepted f) t′ ms′ ch′ → (length t′ ≡ length t) × (length ms′ ≡ length ms) × (length ch′ ≡ length ch)
+same-lengths = acceptedLaws.its-lengths
+
+-- only one first meeting, and only one verdict
+pub firstMeets-one : {c : Corner} {ds : List ℕ} {j k j′ k′ : ℕ} → FirstMeets c ds j k → FirstMeets c ds j′ k′ → (j ≡ j′) × (k ≡ k′)
+firstMeets-one = meetingLaws.firstMeets-one
+
+pub verdict-one : (c : Corner) (ds : List ℕ) (u v : Verdict) → VerdictSays c ds u → VerdictSays c ds v → u ≡ v
+verdict-one = verdictLaws.verdictSays-one
+
+-- "the radix quadtree": the nodes in use are the visited corners and their ancestors, each once, the root first
+pub nodes-in-use : (ps : List Corner) (a : Corner) → List·Memᴰ a (nodesOf ps) ↔ InUse ps a
+nodes-in-use ps a = (inUseLaws.node-inUse ps a, inUseLaws.inUse-node ps a)
+
+pub nodes-once : (ps : List Corner) → Distinct (nodesOf ps)
+nodes-once = nodeLaws.nodesOf-distinct
+
+pub root-first : (p : Corner) (ps : List Corner) → (rest : List Corner) × (nodesOf (p ∷ ps) ≡ origin ∷ rest)
+root-first = inUseLaws.nodesOf-first
+
+-- then in the order of the step that first needs them, and nearer the root first
+pub nodes-by-step : (ps : List Corner) (a b : Corner) → InUse ps a → InUse ps b → needOf ps a < needOf ps b → refOf (nodesOf ps) a < refOf (nodesOf ps) b
+nodes-by-step = orderLaws.need-order
+
+pub nodes-by-level : (ps : List Corner) (i : ℕ) (b a : Corner) → InUse ps b → AncestorAt (suc i) b a → refOf (nodesOf ps) a < refOf (nodesOf ps) b
+nodes-by-level = orderLaws.ref-ancestor
+
+-- the different corners are the visited ones, each once
+pub corners-visited : (ps : List Corner) (a : Corner) → List·Memᴰ a (visitedOf ps) ↔ List·Memᴰ a ps
+corners-visited ps a = (visitLaws.visited-mem ps, visitLaws.mem-visited ps)
+
+pub corners-once : (ps : List Corner) → Distinct (visitedOf ps)
+corners-once = visitLaws.visited-distinct
+
+-- an accepted conversion leaves the digits converted
+pub turns-written : {convert : List ℕ → List ℕ} {ds out out′ : List ℕ} → ConvertedBy convert ds out Good out′ → out′ ≡ convert ds
+turns-written = callLaws.converted-written
+
+-- "Freeman chains": the first digit of turns is the first step, each later digit is that step minus the one before
+pub first-turn : (ds : List ℕ) → getD (turnsOf ds) 0 0 ≡ getD ds 0 0
+first-turn = bufferLaws.turn-first
+
+pub later-turn : (ds : List ℕ) (k : ℕ) → suc k < length ds → getD (turnsOf ds) (suc k) 0 ≡ turnOf (getD ds k 0) (getD ds (suc k) 0)
+later-turn = bufferLaws.turn-digit
+
+-- "steps turned into turns and back give the same steps, and turns into steps and back the same turns"
+pub steps-turns-steps : (s t₀ t u₀ u : List ℕ) (r : Judged) → ConvertedBy turnsOf s t₀ Good t → ConvertedBy stepsOf t u₀ r u → length u₀ ≡ length s → (r ≡ Good) × (u ≡ s)
+steps-turns-steps = promiseLaws.turns-and-back
+
+pub turns-steps-turns : (s t₀ t u₀ u : List ℕ) (r : Judged) → ConvertedBy stepsOf s t₀ Good t → ConvertedBy turnsOf t u₀ r u → length u₀ ≡ length s → (r ≡ Good) × (u ≡ s)
+turns-steps-turns = promiseLaws.steps-and-back
+
+-- "the hull corners": every walk has a hull list, it is the only one, and it holds exactly the extreme corners
+pub hull-exists : (s : Corner) (ds : List ℕ) → (L : List Corner) × HullIs (cornersFrom s ds) L
+hull-exists = hullLaws.hull-exists
+
+pub hullIs-one : (P L L′ : List Corner) → HullIs P L → HullIs P L′ → L ≡ L′
+hullIs-one = oneLaws.hullIs-one
+
+pub hull-extreme : (P L : List Corner) → HullIs P L → (q : Corner) → In q L ↔ Exposed P q
+hull-extreme P L h = h .corners
+
+-- an accepted call answers how many they are and leaves x and y of each; the numbers after the list are unchanged
+pub hull-written : (s : Corner) (chain : List ℕ) (before : List ℤ) {after : List ℤ} (n : ℕ) (w : HullCall s chain before (Counted.Corners n) after)
+    → (n ≡ length (w .list)) × (after ≡ numbers (w .list) ++ drop (2 * length (w .list)) before)
+hull-written = callLaws.hull-written
+
+-- ---- Demand 3
+-- "if it is accepted, so is the record of the surviving steps alone in a table of the same size"
+module _ {c : Corner} {os t ms ch t′ ms′ ch′ t₁ ms₁ ch₁ t₂ ms₂ ch₂ : List ℕ} {f : Facts} {r : Answer}
+    (w : WalkIs c os t ms ch (Answer.Accepted f) t′ ms′ ch′) (v : WalkIs c (survivors os) t₁ ms₁ ch₁ r t₂ ms₂ ch₂)
+    (lent : LentAlone (survivors os) t t₁ ms₁ ch₁) where
+  -- "both give the same answer"
+  pub alone-answer : r ≡ Answer.Accepted f
+  alone-answer = aloneLaws.same-answer w v lent
+
+  -- "the same table"
+  pub alone-table : t₂ ≡ t′
+  alone-table = aloneLaws.same-table w v lent
+
+  -- "and the same surviving steps": the chain has nothing else
+  pub alone-steps : ch₂ ≡ take (f .steps) ch′
+  alone-steps = aloneLaws.same-steps w v lent
+
+-- "after every operation, the nodes in use number at most eight times the different corners that the walk then touches"
+pub at-most-eight : (os : List ℕ) (k : ℕ) → AtMostEight (nodesAfter origin os k) (cornersAfter origin os k)
+at-most-eight = aloneLaws.at-most-eight
+
+-- half of that is enough: at most four times the corners, less three
+pub four-less-three : (os : List ℕ) (k : ℕ) → FourLessThree (nodesAfter origin os k) (cornersAfter origin os k)
+four-less-three = aloneLaws.four-less-three
+
+-- from any start, where every coordinate is below 2 ^ n: at most four times the corners and 4 n
+pub four-and-levels : (n : ℕ) (c : Corner) (ds : List ℕ) → ((q : Corner) → List·Memᴰ q (cornersFrom c ds) → Within n q) → length (nodesOf (cornersFrom c ds)) ≤ 4 * length (visitedOf (cornersFrom c ds)) + 4 * n
+four-and-levels = countLaws.few-nodes-from
+
+module _ {os t ms ch t′ ms′ ch′ : List ℕ} {r : Answer} (w : WalkIs origin os t ms ch r t′ ms′ ch′) where
+  -- "so a table that large at every moment is never refused for room"
+  pub enough-eight : ((k : ℕ) → k ≤ length os → 8 * cornersAfter origin os k ≤ length t / recordWords 1) → (i : ℕ) → r ≡ Answer.Refused (NoRoom i) → ⊥
+  enough-eight = aloneLaws.enough-eight w
+
+  -- nor one with four records a corner, less three
+  pub enough-four : ((k : ℕ) → k ≤ length os → 4 * cornersAfter origin os k ≤ length t / recordWords 1 + 3) → (i : ℕ) → r ≡ Answer.Refused (NoRoom i) → ⊥
+  enough-four = aloneLaws.enough-four w
+
+  -- nor one with 65,537 records, whatever the walk
+  pub enough-always : 65537 ≤ length t / recordWords 1 → (i : ℕ) → r ≡ Answer.Refused (NoRoom i) → ⊥
+  enough-always = aloneLaws.enough-largest w

@@ -1,0 +1,50 @@
+-- Moments, occasions and bounds, computed on small walks.
+-- Assumes nothing.
+use mathlib.Core.List.{[], _∷_}
+use mathlib.Core.Logic.{inl, ⊎-elim}
+use mathlib.Core.Path.{_≡_, refl}
+use Prim.Native.Nat.{_*_}
+use native.Mathlib.Omega.{arith}
+use Rattle.grid.specs.Grid.{origin}
+use Rattle.demands.specs.Moments.{nodesAfter, cornersAfter, visitsAfter, FourLessThree, Exceeds}
+use Rattle.demands.specs.Given.{HasRecords, Fine, FineAt, BadDigitAt, First}
+
+-- 0011 needs six nodes for its five corners at its last moment, so five records are too few and six are enough
+one-record-short : Exceeds (nodesAfter origin (0 ∷ 0 ∷ 1 ∷ 1 ∷ []) 4) 5
+one-record-short = omega arith
+
+just-enough : Exceeds (nodesAfter origin (0 ∷ 0 ∷ 1 ∷ 1 ∷ []) 4) 6 → ⊥
+just-enough h = omega arith
+
+-- 004 has three nodes before the step back and two after it
+before-a-take-back : nodesAfter origin (0 ∷ 0 ∷ 4 ∷ []) 2 ≡ 3
+before-a-take-back = refl
+
+after-a-take-back : nodesAfter origin (0 ∷ 0 ∷ 4 ∷ []) 3 ≡ 2
+after-a-take-back = refl
+
+-- 020 ends on the corner that its first step reached
+stood-on-twice : visitsAfter origin (0 ∷ 2 ∷ 0 ∷ []) 3 ≡ 2
+stood-on-twice = refl
+
+-- the root alone, one node and one corner, reaches the bound
+bound-is-reached : FourLessThree (nodesAfter origin [] 0) (cornersAfter origin [] 0)
+bound-is-reached = omega arith
+
+-- nothing can be taken back at first
+nothing-at-first : Fine [] 4 → ⊥
+nothing-at-first f = ⊎-elim (λ h. omega (arith, h .1)) (λ h. omega (arith, h .0)) f
+
+one-to-take : Fine (0 ∷ []) 4
+one-to-take = inl (refl, omega arith)
+
+-- of two bad digits the second is not the first faulty place
+second-of-two : First 2 (FineAt (5 ∷ 5 ∷ [])) (BadDigitAt (5 ∷ 5 ∷ [])) 1 → ⊥
+second-of-two f = ⊎-elim (λ h. omega (arith, h .0)) (λ h. omega (arith, h .0)) (f .before 0 (omega arith))
+
+-- 42 words are two records, 41 are no number of records
+two-records : HasRecords 42
+two-records = (2, omega arith, omega arith, refl)
+
+part-of-a-record : HasRecords 41 → ⊥
+part-of-a-record x = let e : 41 ≡ x .0 * 21 = x .3 in omega arith

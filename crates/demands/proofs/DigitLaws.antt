@@ -1,0 +1,177 @@
+-- The turns' and the hull's judgements are given on their occasions and on no other, and for every call there is one.
+-- Assumes nothing.
+use mathlib.Core.Bool.{Bool}
+use mathlib.Core.List.{List, [], _∷_}
+use mathlib.Core.Logic.{_⊎_, inl, inr, ⊎-elim, _↔_}
+use mathlib.Core.Path.{_≡_, refl, ap, sym, _∙_, subst}
+use Prim.Native.Nat.{ℕ, zero, suc, _+_, _*_, _<_, _≤_}
+use native.Mathlib.Decide.{ℕ-discrete, decLt}
+use native.Mathlib.Omega.{arith}
+use borrow.Author.Tests.{lt-ltb, le-ltb, eq-eqb, ne-eqb}
+use lib.Dec.{ltb}
+use lib.IntN.{ℤ}
+use lib.ListN.{length, getD}
+use Rattle.answer.specs.declared.Counted.{Counted}
+use Rattle.answer.specs.declared.Judged.{Judged}
+use Rattle.answer.specs.declared.Judged.the-variants.{Good, Refused}
+use Rattle.answer.specs.declared.Refusal.{Refusal}
+use Rattle.answer.specs.declared.Refusal.the-variants.{TooMany, ResultRoom, BadDigit, TooLong, HullRoom}
+use Rattle.answer.specs.Limits.{mostInput, mostSteps}
+use Rattle.answer.specs.Refusal.{when, orElse}
+use Rattle.grid.specs.declared.Corner.{Corner}
+use Rattle.word.specs.Turns.{digitFaultsFrom, turnsJudged, ConvertedBy}
+use Rattle.word.proofs.TurnPromiseLaws as turns
+use Rattle.hull.specs.Call.{faultAt, faultFrom, roomJudged, hullJudged, countedOf, HullCall}
+use Rattle.hull_laws.proofs.CallLaws as hulls
+use Rattle.demands.specs.Given.{First}
+use Rattle.demands.specs.GivenTurns.{DigitAt, AboveThreeAt, GivenTurns}
+use Rattle.demands.specs.GivenTurns as turn
+use Rattle.demands.specs.GivenHull.{StepAt, StepTooManyAt, GivenHull}
+use Rattle.demands.specs.GivenHull as hull
+use Rattle.demands.proofs.FirstLaws.{all-or-first}
+
+-- ---- the first fault of a list, where place p is judged by itself and its digit
+module _ (at : ℕ → ℕ → Judged) (from : ℕ → List ℕ → Judged) (none : (p : ℕ) → from p [] ≡ Good) (next : (p d : ℕ) (ds : List ℕ) → from p (d ∷ ds) ≡ orElse (at p d) (from (suc p) ds)) where
+  skipped : (b d : ℕ) (ds : List ℕ) → at b d ≡ Good → from b (d ∷ ds) ≡ from (suc b) ds
+  skipped b d ds e = next b d ds ∙ ap (λ (j : Judged). orElse j (from (suc b) ds)) e
+
+  none-from : (b : ℕ) (ds : List ℕ) → ((i p : ℕ) → i < length ds → p ≡ b + i → at p (getD ds i 0) ≡ Good) → from b ds ≡ Good
+  none-from b [] f = none b
+  none-from b (d ∷ ds) f = skipped b d ds (f 0 b (omega arith) (omega arith)) ∙ none-from (suc b) ds (λ i p h e. f (suc i) p (omega arith) (omega arith))
+
+  first-from : (b : ℕ) (ds : List ℕ) (i p : ℕ) (r : Refusal) → i < length ds → ((h q : ℕ) → h < i → q ≡ b + h → at q (getD ds h 0) ≡ Good) → p ≡ b + i → at p (getD ds i 0) ≡ Refused r → from b ds ≡ Refused r
+  first-from b [] i p r h f q e = absurd (omega arith)
+  first-from b (d ∷ ds) zero p r h f q e =
+      let g : p ≡ b = omega arith in
+      next b d ds ∙ ap (λ (j : Judged). orElse j (from (suc b) ds)) (subst (λ (n : ℕ). at n d ≡ Refused r) g e)
+  first-from b (d ∷ ds) (suc i) p r h f q e =
+      skipped b d ds (f 0 b (omega arith) (omega arith)) ∙ first-from (suc b) ds i p r (omega arith) (λ h q m g. f (suc h) q (omega arith) (omega arith)) (omega arith) e
+
+digit-or-above : (d : ℕ) → (d < 4) ⊎ (3 < d)
+digit-or-above d = elim (decLt d 4) [ yes h ↦ inl h | no h ↦ inr (omega arith) ]
+
+-- ---- turns
+module _ (ds : List ℕ) (room : ℕ) where
+  digit-none : (p d : ℕ) → d < 4 → when (ltb 3 d) (BadDigit p) ≡ Good
+  digit-none p d h = rw (le-ltb 3 d (omega arith))
+
+  digit-above : (p d : ℕ) → 3 < d → when (ltb 3 d) (BadDigit p) ≡ Refused (BadDigit p)
+  digit-above p d h = rw (lt-ltb 3 d h)
+
+  abbrev judgeDigit : ℕ → ℕ → Judged
+  judgeDigit p d = when (ltb 3 d) (BadDigit p)
+
+  pub given-turns : (j : Judged) → GivenTurns ds room j → turnsJudged ds room ≡ j
+  given-turns _ (turn.tooMany h) = turns.judged-many ds room h
+  given-turns _ (turn.resultRoom h f) = turns.judged-room ds room h f
+  given-turns _ (turn.badDigit i h e f) =
+      turns.judged-digits ds room h e
+      ∙ first-from judgeDigit digitFaultsFrom (λ p. refl) (λ p d l. refl) 0 ds i i (BadDigit i) (f .inside) (λ k q m g. digit-none q (getD ds k 0) (f .before k m)) (omega arith) (digit-above i (getD ds i 0) (f .here))
+  given-turns _ (turn.accepted h e f) =
+      turns.judged-digits ds room h e
+      ∙ none-from judgeDigit digitFaultsFrom (λ p. refl) (λ p d l. refl) 0 ds (λ i p k g. digit-none p (getD ds i 0) (f i k))
+
+  some-turns : (j : Judged) × GivenTurns ds room j
+  some-turns =
+      elim (decLt mostInput (length ds)) [
+        | yes h ↦ (Refused TooMany, turn.tooMany h)
+        | no h ↦ elim (ℕ-discrete room (length ds)) [
+          | no g ↦ (Refused ResultRoom, turn.resultRoom (omega arith) g)
+          | yes e ↦ ⊎-elim
+              (λ f. (Good, turn.accepted (omega arith) e f))
+              (λ x. (Refused (BadDigit (x .0)), turn.badDigit (x .0) (omega arith) e (x .1)))
+              (all-or-first (length ds) (DigitAt ds) (AboveThreeAt ds) (λ i. digit-or-above (getD ds i 0)))
+        ]
+      ]
+
+pub turns-when : {convert : List ℕ → List ℕ} {ds out out′ : List ℕ} {r : Judged} → ConvertedBy convert ds out r out′ → (j : Judged) → r ≡ j ↔ GivenTurns ds (length out) j
+turns-when {ds = ds} {out = out} {r = r} w j =
+    let x = some-turns ds (length out) in
+    let e : turnsJudged ds (length out) ≡ x .0 = given-turns ds (length out) (x .0) (x .1) in
+    (λ q. subst (GivenTurns ds (length out)) (sym e ∙ sym (w .answer) ∙ q) (x .1), λ g. w .answer ∙ given-turns ds (length out) j g)
+
+-- ---- hulls
+module _ (chain : List ℕ) (room corners : ℕ) where
+  step-none : (p d : ℕ) → d < 4 → p < mostSteps → faultAt p d ≡ Good
+  step-none p d h k = rw (le-ltb 3 d (omega arith), ne-eqb p mostSteps (λ e. omega arith))
+
+  step-above : (p d : ℕ) → 3 < d → faultAt p d ≡ Refused (BadDigit p)
+  step-above p d h = rw (lt-ltb 3 d h)
+
+  step-long : (p d : ℕ) → d < 4 → p ≡ mostSteps → faultAt p d ≡ Refused (TooLong p)
+  step-long p d h e = rw (le-ltb 3 d (omega arith), eq-eqb p mostSteps e)
+
+  -- the first step too many is that at place 16,384
+  at-most : (i : ℕ) → ((h : ℕ) → h < i → StepAt chain h) → mostSteps ≤ i → i ≡ mostSteps
+  at-most i f h = elim (ℕ-discrete i mostSteps) [ yes e ↦ e | no g ↦ absurd (omega (arith, f mostSteps (omega arith) .1)) ]
+
+  hull-fault : (bad : ℕ → Type 0) (i : ℕ) (r : Refusal) → length chain ≤ mostInput → First (length chain) (StepAt chain) bad i → faultAt i (getD chain i 0) ≡ Refused r → hullJudged chain room corners ≡ Refused r
+  hull-fault bad i r h f e =
+      hulls.judged-fault chain room corners r h
+      (first-from faultAt faultFrom (λ p. refl) (λ p d l. refl) 0 chain i i r (f .inside) (λ k q m g. step-none q (getD chain k 0) (f .before k m .0) (omega (arith, f .before k m .1))) (omega arith) e)
+
+  hull-faultless : length chain ≤ mostInput → ((i : ℕ) → i < length chain → StepAt chain i) → hullJudged chain room corners ≡ roomJudged room corners
+  hull-faultless h f =
+      hulls.judged-room chain room corners h
+      (none-from faultAt faultFrom (λ p. refl) (λ p d l. refl) 0 chain (λ i p k g. step-none p (getD chain i 0) (f i k .0) (omega (arith, f i k .1))))
+
+  pub given-hull : (j : Judged) → GivenHull chain room corners j → hullJudged chain room corners ≡ j
+  given-hull _ (hull.tooMany h) = hulls.judged-many chain room corners h
+  given-hull _ (hull.badDigit i h f) = hull-fault (AboveThreeAt chain) i (BadDigit i) h f (step-above i (getD chain i 0) (f .here))
+  given-hull _ (hull.tooLong i h f) = hull-fault (StepTooManyAt chain) i (TooLong i) h f (step-long i (getD chain i 0) (f .here .0) (at-most i (f .before) (f .here .1)))
+  given-hull _ (hull.hullRoom h f k) = hull-faultless h f ∙ hulls.room-short room corners k
+  given-hull _ (hull.accepted h f k) = hull-faultless h f ∙ hulls.room-enough room corners k
+
+  step-or-fault : (i : ℕ) → StepAt chain i ⊎ (AboveThreeAt chain i ⊎ StepTooManyAt chain i)
+  step-or-fault i =
+      ⊎-elim
+      (λ h. elim (decLt i mostSteps) [ yes k ↦ inl (h, k) | no k ↦ inr (inr (h, omega arith)) ])
+      (λ h. inr (inl h))
+      (digit-or-above (getD chain i 0))
+
+  by-kind : length chain ≤ mostInput → (i : ℕ) → First (length chain) (StepAt chain) (λ h. AboveThreeAt chain h ⊎ StepTooManyAt chain h) i → (j : Judged) × GivenHull chain room corners j
+  by-kind l i f =
+      ⊎-elim
+      (λ h. (Refused (BadDigit i), hull.badDigit i l (record { inside = f .inside; before = f .before; here = h })))
+      (λ h. (Refused (TooLong i), hull.tooLong i l (record { inside = f .inside; before = f .before; here = h })))
+      (f .here)
+
+  by-room : length chain ≤ mostInput → ((i : ℕ) → i < length chain → StepAt chain i) → (j : Judged) × GivenHull chain room corners j
+  by-room l f = elim (decLt room (2 * corners)) [ yes h ↦ (Refused HullRoom, hull.hullRoom l f h) | no h ↦ (Good, hull.accepted l f (omega arith)) ]
+
+  some-hull : (j : Judged) × GivenHull chain room corners j
+  some-hull =
+      elim (decLt mostInput (length chain)) [
+        | yes h ↦ (Refused TooMany, hull.tooMany h)
+        | no h ↦ ⊎-elim
+            (λ f. by-room (omega arith) f)
+            (λ x. by-kind (omega arith) (x .0) (x .1))
+            (all-or-first (length chain) (StepAt chain) (λ i. AboveThreeAt chain i ⊎ StepTooManyAt chain i) step-or-fault)
+      ]
+
+  pub hull-given : GivenHull chain room corners (hullJudged chain room corners)
+  hull-given = let x = some-hull in subst (GivenHull chain room corners) (sym (given-hull (x .0) (x .1))) (x .1)
+
+count-refused : (j : Judged) (n : ℕ) (q : Refusal) → Counted.Refused q ≡ countedOf j n → j ≡ Refused q
+count-refused Good n q e = absurd (let z : _≡_ {A = ℕ} 0 1 = cc in omega arith)
+count-refused (Refused r) n q e = cc
+
+count-good : (j : Judged) (n : ℕ) → Counted.Corners n ≡ countedOf j n → j ≡ Good
+count-good Good n e = refl
+count-good (Refused r) n e = absurd (let z : _≡_ {A = ℕ} 0 1 = cc in omega arith)
+
+module _ {s : Corner} {chain : List ℕ} {before after : List ℤ} {r : Counted} (w : HullCall s chain before r after) where
+  abbrev n : ℕ
+  n = length (w .list)
+
+  pub hull-refused-when : (q : Refusal) → r ≡ Counted.Refused q ↔ GivenHull chain (length before) (length (w .list)) (Refused q)
+  hull-refused-when q = (
+    λ e. subst (GivenHull chain (length before) n) (count-refused (hullJudged chain (length before) n) n q (sym e ∙ w .answer)) (hull-given chain (length before) n),
+    λ g. w .answer ∙ ap (λ (j : Judged). countedOf j n) (given-hull chain (length before) n (Refused q) g),
+  )
+
+  pub hull-counted-when : r ≡ Counted.Corners (length (w .list)) ↔ GivenHull chain (length before) (length (w .list)) Good
+  hull-counted-when = (
+    λ e. subst (GivenHull chain (length before) n) (count-good (hullJudged chain (length before) n) n (sym e ∙ w .answer)) (hull-given chain (length before) n),
+    λ g. w .answer ∙ ap (λ (j : Judged). countedOf j n) (given-hull chain (length before) n Good g),
+  )

@@ -1,0 +1,11 @@
+pub mod DemandCases
+pub mod FirstLaws
+pub mod GivenLaws
+pub mod WalkLaws
+pub mod BufferLaws
+pub mod RecordLaws
+pub mod AcceptedLaws
+pub mod AloneLaws
+pub mod CallLaws
+pub mod DigitLaws
+pub mod Demand

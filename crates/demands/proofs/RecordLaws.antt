@@ -1,0 +1,156 @@
+-- A node's record says what the table of words says.
+-- Assumes nothing.
+use mathlib.Core.Bool.{Bool, true, cond}
+use mathlib.Core.List.{List, List·Memᴰ, List·Memᴰ·head}
+use mathlib.Core.Logic.{_↔_}
+use mathlib.Core.Path.{_≡_, refl, ap, sym, _∙_, subst}
+use Prim.Native.Nat.{ℕ, zero, suc, _+_, _<_, _≤_}
+use native.Mathlib.Decide.{decLt}
+use native.Mathlib.Omega.{arith}
+use lib.ListN.{length, getD}
+use Rattle.lists.specs.Lists.{find}
+use Rattle.grid.specs.declared.Corner.{Corner}
+use Rattle.grid.specs.Grid.{origin, same, stepped}
+use Rattle.grid.specs.Tree.{parentOf, isRoot, childWord, AncestorAt, pathOf}
+use Rattle.tree.specs.Nodes.{nodesOf, refOf, linkStepOf, needOf, InUse, LinkedBy}
+use Rattle.layout.specs.Table.{recordOf, childRefOf, neighbourRefOf}
+use Rattle.grid.proofs.AncestorLaws.{path-ancestor, pathOf-first}
+use Rattle.grid.proofs.CornerLaws.{same-refl, same-sound}
+use Rattle.lists.proofs.DistinctLaws.{mem-getD, distinct-getD}
+use Rattle.lists.proofs.FindLaws.{find-get, find-none}
+use Rattle.lists.proofs.ZipLaws.{find-least}
+use Rattle.tree.proofs.InUseLaws.{node-inUse, inUse-ref, parent-inUse}
+use Rattle.tree.proofs.LinkStepLaws.{link-made, link-least}
+use Rattle.tree.proofs.NodeLaws.{nodesOf-distinct}
+use Rattle.tree.proofs.OrderLaws.{need-there, need-least}
+use Rattle.tree.proofs.RefLaws.{not-any}
+use Rattle.layout.proofs.ChildLaws.{child-ref, child-there, childWord-range}
+use Rattle.layout.proofs.NeighbourLaws.{neighbour-linked, neighbour-none}
+use Rattle.demands.specs.Record.{IsRef, IsChild, FirstIn, RecordSays}
+use Rattle.demands.proofs.DemandCases as cases
+
+-- ---- first places
+module _ (l : List Corner) (a : Corner) where
+  test : (k : ℕ) → getD l k origin ≡ a → same a (getD l k origin) ≡ true
+  test k e = subst (λ (b : Corner). same a b ≡ true) (sym e) (same-refl a)
+
+  placed : (k : ℕ) → FirstIn l a k → (m : ℕ) → find (same a) l ≡ m → (0 < m) × (m ≤ suc k) → m ≡ suc k
+  placed k f zero p h = absurd (omega (arith, h .0))
+  placed k f (suc i) p h =
+      elim (decLt i k) [
+        | yes z ↦ absurd (f .before i z (sym (same-sound a (getD l i origin) (find-get (same a) l i origin p .1))))
+        | no z ↦ omega (arith, h .1)
+      ]
+
+  pub find-first : (k : ℕ) → find (same a) l ≡ suc k ↔ FirstIn l a k
+  find-first k = (
+    λ e.
+        let g = find-get (same a) l k origin e in
+        record {
+          inside = g .0;
+          before = λ h i q. omega (arith, find-least (same a) l h origin (omega (arith, g .0)) (test h q) .1);
+          here = sym (same-sound a (getD l k origin) (g .1));
+        },
+    λ f. placed k f (find (same a) l) refl (find-least (same a) l k origin (f .inside) (test k (f .here))),
+  )
+
+-- ---- refs
+module _ (ps : List Corner) where
+  abbrev ns : List Corner
+  ns = nodesOf ps
+
+  -- a node's ref is its number plus 1
+  pub ref-number : (b : Corner) (n : ℕ) → refOf ns b ≡ n → 0 < n → IsRef ps b n
+  ref-number b zero e h = absurd (omega arith)
+  ref-number b (suc m) e h = let f = find-first ns b m .0 e in record { number = m; plus-one = refl; in-use = f .inside; node = f .here }
+
+  pub number-ref : (b : Corner) (n : ℕ) → IsRef ps b n → refOf ns b ≡ n
+  number-ref b n r =
+      find-first ns b (r .number) .1
+      (record { inside = r .in-use; before = λ i k e. distinct-getD ns i (r .number) origin (nodesOf-distinct ps) k (r .in-use) (e ∙ sym (r .node)); here = r .node })
+      ∙ sym (r .plus-one)
+
+  -- so a node has one ref, and a ref one node
+  pub isRef-one : (b : Corner) (n m : ℕ) → IsRef ps b n → IsRef ps b m → n ≡ m
+  isRef-one b n m p q = sym (number-ref b n p) ∙ number-ref b m q
+
+  inUse-isRef : (b : Corner) → InUse ps b → IsRef ps b (refOf ns b)
+  inUse-isRef b u = ref-number b (refOf ns b) refl (inUse-ref ps b u)
+
+  module _ (a : Corner) where
+    word-child : (w : ℕ) → w < 9 → getD (recordOf ps ns a) (suc w) 0 ≡ childRefOf ns a (suc w)
+    word-child zero h = refl
+    word-child (suc zero) h = refl
+    word-child (suc (suc zero)) h = refl
+    word-child (suc (suc (suc zero))) h = refl
+    word-child (suc (suc (suc (suc zero)))) h = refl
+    word-child (suc (suc (suc (suc (suc zero))))) h = refl
+    word-child (suc (suc (suc (suc (suc (suc zero)))))) h = refl
+    word-child (suc (suc (suc (suc (suc (suc (suc zero))))))) h = refl
+    word-child (suc (suc (suc (suc (suc (suc (suc (suc zero)))))))) h = refl
+    word-child (suc (suc (suc (suc (suc (suc (suc (suc (suc w))))))))) h = absurd (omega arith)
+
+    child-word : (w : ℕ) → 0 < w → w ≤ 9 → getD (recordOf ps ns a) w 0 ≡ childRefOf ns a w
+    child-word zero h k = absurd (omega arith)
+    child-word (suc w) h k = word-child w (omega arith)
+
+    word-neighbour : (d : ℕ) → d < 4 → (getD (recordOf ps ns a) (10 + d) 0 ≡ neighbourRefOf ps ns a d) × (getD (recordOf ps ns a) (14 + d) 0 ≡ linkStepOf ps a d)
+    word-neighbour zero h = (refl, refl)
+    word-neighbour (suc zero) h = (refl, refl)
+    word-neighbour (suc (suc zero)) h = (refl, refl)
+    word-neighbour (suc (suc (suc zero))) h = (refl, refl)
+    word-neighbour (suc (suc (suc (suc d)))) h = absurd (omega arith)
+
+    children : (w : ℕ) (b : Corner) → IsChild ps a w b → getD (recordOf ps ns a) w 0 ≡ refOf ns b
+    children w b k =
+        let r = childWord-range b in
+        child-word w (omega (arith, r .0, k .word)) (omega (arith, r .1, k .word))
+        ∙ subst (λ (n : ℕ). childRefOf ns a n ≡ refOf ns b) (k .word) (subst (λ (p : Corner). childRefOf ns p (childWord b) ≡ refOf ns b) (k .parent) (child-ref ns b (k .below)))
+
+    no-children : (w : ℕ) → ((b : Corner) → IsChild ps a w b → ⊥) → (n : ℕ) → childRefOf ns a w ≡ n → n ≡ 0
+    no-children w f zero e = refl
+    no-children w f (suc r) e =
+        let k = child-there ns a w r e in
+        let c = k .1 in
+        absurd (f (getD ns r origin) (record { in-use = node-inUse ps (getD ns r origin) (mem-getD ns r origin (k .0)); below = c .below; parent = c .parent; word = c .word }))
+
+    neighbours : (d n m : ℕ) → neighbourRefOf ps ns a d ≡ n → linkStepOf ps a d ≡ m → 0 < m → IsRef ps (stepped d a) n
+    neighbours d n m p q h =
+        let k = neighbour-linked ps a d (omega arith) in
+        ref-number (stepped d a) n (sym (k .0) ∙ p) (omega (arith, k .0, k .1))
+
+    -- the root is needed from the first
+    root-need : isRoot a ≡ true → InUse ps a → needOf ps a ≡ 0
+    root-need h u =
+        let p = getD ps 0 origin in
+        let k = pathOf-first p in
+        let m : List·Memᴰ a (pathOf p) = subst (λ (l : List Corner). List·Memᴰ a l) (sym (k .1)) (List·Memᴰ·head (same-sound a origin h)) in
+        let x = path-ancestor p a m in
+        omega (arith, need-least ps a 0 (x .0) (omega (arith, need-there ps a u .0)) (x .1))
+
+    -- the record of a node in use, word by word
+    pub record-says : (word : ℕ → ℕ) → InUse ps a → ((w : ℕ) → w < 21 → word w ≡ getD (recordOf ps ns a) w 0) → RecordSays ps a word
+    record-says word u e = record {
+      root = λ h. e 0 (omega arith) ∙ ap (λ (b : Bool). cond b 0 (refOf ns (parentOf a))) h;
+      parent = λ h.
+          subst (IsRef ps (parentOf a)) (sym (e 0 (omega arith) ∙ ap (λ (b : Bool). cond b 0 (refOf ns (parentOf a))) h))
+          (inUse-isRef (parentOf a) (parent-inUse ps a h u));
+      child = λ w b k. subst (IsRef ps b) (sym (e w (omega (arith, childWord-range b .1, k .word)) ∙ children w b k)) (inUse-isRef b (k .in-use));
+      childless = λ w h k f. e w (omega arith) ∙ child-word w h k ∙ no-children w f (childRefOf ns a w) refl;
+      neighbour = λ d h k. neighbours d (word (10 + d)) (word (14 + d)) (sym (near d h)) (sym (link d h)) k;
+      alone = λ d h k. near d h ∙ neighbour-none ps a d (sym (link d h) ∙ k);
+      linked = λ d h k. subst (λ (n : ℕ). LinkedBy ps a (stepped d a) n) (sym (link d h)) (link-made ps a d (subst (λ (n : ℕ). 0 < n) (link d h) k));
+      least = λ d k h l. subst (λ (n : ℕ). (0 < n) × (n ≤ k)) (sym (link d h)) (link-least ps a d k l);
+      visits = e 18 (omega arith);
+      needed = subst (λ (n : ℕ). (n < length ps) × ((i : ℕ) × AncestorAt i (getD ps n origin) a)) (sym (e 19 (omega arith))) (need-there ps a u);
+      soonest = λ k i h l. subst (λ (n : ℕ). n ≤ k) (sym (e 19 (omega arith))) (need-least ps a k i h l);
+      planted = λ h. e 19 (omega arith) ∙ root-need h u;
+      first = λ k. (λ h. find-first ps a k .0 (sym (e 20 (omega arith)) ∙ h), λ f. e 20 (omega arith) ∙ find-first ps a k .1 f);
+      unvisited = λ f. e 20 (omega arith) ∙ find-none (same a) ps (not-any a ps f);
+    }
+      where
+        near : (d : ℕ) → d < 4 → word (10 + d) ≡ neighbourRefOf ps ns a d
+        near d h = e (10 + d) (omega arith) ∙ word-neighbour d h .0
+
+        link : (d : ℕ) → d < 4 → word (14 + d) ≡ linkStepOf ps a d
+        link d h = e (14 + d) (omega arith) ∙ word-neighbour d h .1

@@ -1,0 +1,12 @@
+-- What is lent for the record of the surviving steps alone (00, demand 3; 01, "How far a contract must reach").
+-- Assumes nothing.
+use mathlib.Core.List.{List}
+use mathlib.Core.Path.{_≡_}
+use Prim.Native.Nat.{ℕ, _*_}
+use lib.ListN.{length}
+
+-- a table of the same size, of any contents, and marks and a chain of the lengths that refusal 3 asks for these steps
+pub record LentAlone (ds t t₁ ms₁ ch₁ : List ℕ) : Type 0 where
+  pub table : length t₁ ≡ length t
+  pub marks : length ms₁ ≡ 2 * length ds
+  pub chain : length ch₁ ≡ length ds

@@ -1,0 +1,71 @@
+-- When each answer of the walk is given: the table of refusals, a row a constructor (01, "What the calls take and give").
+-- Assumes nothing.
+use mathlib.Core.List.{List}
+use mathlib.Core.Logic.{_⊎_}
+use mathlib.Core.Path.{_≡_}
+use Prim.Native.Nat.{ℕ, suc, _*_, _/_, _<_, _≤_}
+use lib.ListN.{length, getD}
+use Rattle.answer.specs.declared.Judged.{Judged}
+use Rattle.answer.specs.declared.Judged.the-variants.{Good, Refused}
+use Rattle.answer.specs.declared.Refusal.the-variants.{TooMany, Table, ResultRoom, BadDigit, NothingToTake, TooLong, NoRoom}
+use Rattle.answer.specs.Limits.{mostInput, mostSteps, mostRecords}
+use Rattle.grid.specs.declared.Corner.{Corner}
+use Rattle.layout.specs.Table.{recordWords}
+use Rattle.demands.specs.Moments.{stepsAfter, nodesAfter, Exceeds}
+
+-- the words are 21 times a record count of 1 to 131,080
+abbrev pub HasRecords : ℕ → Type 0
+HasRecords words = (r : ℕ) × (1 ≤ r) × (r ≤ mostRecords) × (words ≡ r * recordWords 1)
+
+-- marks are twice, and the chain is once, the input length
+abbrev pub HasRoom : List ℕ → ℕ → ℕ → Type 0
+HasRoom os marks chain = (marks ≡ 2 * length os) × (chain ≡ length os)
+
+-- an operation on surviving steps that is a take-back with a step to take, or a step that is not too many
+abbrev pub Fine : List ℕ → ℕ → Type 0
+Fine steps o = ((o ≡ 4) × (0 < length steps)) ⊎ ((o < 4) × (length steps < mostSteps))
+
+abbrev pub FineAt : List ℕ → ℕ → Type 0
+FineAt os i = Fine (stepsAfter os i) (getD os i 0)
+
+-- the three faults of an operation: a byte above 4; operation 4 with no surviving step; a step that would be the 16,385th
+abbrev pub BadDigitAt : List ℕ → ℕ → Type 0
+BadDigitAt os i = 4 < getD os i 0
+
+abbrev pub NothingAt : List ℕ → ℕ → Type 0
+NothingAt os i = (getD os i 0 ≡ 4) × (length (stepsAfter os i) ≡ 0)
+
+abbrev pub TooLongAt : List ℕ → ℕ → Type 0
+TooLongAt os i = (getD os i 0 < 4) × (mostSteps ≤ length (stepsAfter os i))
+
+-- place i of n is bad, and all places before it are fine
+pub record First (n : ℕ) (fine bad : ℕ → Type 0) (i : ℕ) : Type 0 where
+  pub inside : i < n
+  pub before : (h : ℕ) → h < i → fine h
+  pub here : bad i
+
+-- 1, 2 and 3 are out of the question
+pub record Sized (os : List ℕ) (words marks chain : ℕ) : Type 0 where
+  pub few : length os ≤ mostInput
+  pub table : HasRecords words
+  pub room : HasRoom os marks chain
+
+-- and so are 4, 5 and 6: nothing is wrong with the call, but for room in the table
+pub record Faultless (os : List ℕ) (words marks chain : ℕ) : Type 0 where
+  pub sized : Sized os words marks chain
+  pub fine : (i : ℕ) → i < length os → FineAt os i
+
+-- after operation i, and after none before it, the nodes needed exceed the records
+abbrev pub NoRoomAt : Corner → List ℕ → ℕ → ℕ → Type 0
+NoRoomAt c os records i = First (length os) (λ h. nodesAfter c os (suc h) ≤ records) (λ h. Exceeds (nodesAfter c os (suc h)) records) i
+
+-- the occasion of each judgement
+pub data Given (c : Corner) (os : List ℕ) (words marks chain : ℕ) : Judged → Type 0 where
+  tooMany : mostInput < length os → Given c os words marks chain (Refused TooMany)
+  table : length os ≤ mostInput → (HasRecords words → ⊥) → Given c os words marks chain (Refused Table)
+  resultRoom : length os ≤ mostInput → HasRecords words → (HasRoom os marks chain → ⊥) → Given c os words marks chain (Refused ResultRoom)
+  badDigit : (i : ℕ) → Sized os words marks chain → First (length os) (FineAt os) (BadDigitAt os) i → Given c os words marks chain (Refused (BadDigit i))
+  nothingToTake : (i : ℕ) → Sized os words marks chain → First (length os) (FineAt os) (NothingAt os) i → Given c os words marks chain (Refused (NothingToTake i))
+  tooLong : (i : ℕ) → Sized os words marks chain → First (length os) (FineAt os) (TooLongAt os) i → Given c os words marks chain (Refused (TooLong i))
+  noRoom : (i : ℕ) → Faultless os words marks chain → NoRoomAt c os (words / recordWords 1) i → Given c os words marks chain (Refused (NoRoom i))
+  accepted : Faultless os words marks chain → ((h : ℕ) → h < length os → nodesAfter c os (suc h) ≤ words / recordWords 1) → Given c os words marks chain Good

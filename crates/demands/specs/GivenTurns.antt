@@ -1,0 +1,25 @@
+-- When each answer of the turns' calls is given (01, "What the calls take and give").
+-- Assumes nothing.
+use mathlib.Core.List.{List}
+use mathlib.Core.Path.{_≡_}
+use Prim.Native.Nat.{ℕ, _<_, _≤_}
+use lib.ListN.{length, getD}
+use Rattle.answer.specs.declared.Judged.{Judged}
+use Rattle.answer.specs.declared.Judged.the-variants.{Good, Refused}
+use Rattle.answer.specs.declared.Refusal.the-variants.{TooMany, ResultRoom, BadDigit}
+use Rattle.answer.specs.Limits.{mostInput}
+use Rattle.demands.specs.Given.{First}
+
+-- the digit at place i is a direction, or above 3
+abbrev pub DigitAt : List ℕ → ℕ → Type 0
+DigitAt ds i = getD ds i 0 < 4
+
+abbrev pub AboveThreeAt : List ℕ → ℕ → Type 0
+AboveThreeAt ds i = 3 < getD ds i 0
+
+-- the occasion of each judgement: 1, then 3, then 4 at the first bad digit
+pub data GivenTurns (ds : List ℕ) (room : ℕ) : Judged → Type 0 where
+  tooMany : mostInput < length ds → GivenTurns ds room (Refused TooMany)
+  resultRoom : length ds ≤ mostInput → (room ≡ length ds → ⊥) → GivenTurns ds room (Refused ResultRoom)
+  badDigit : (i : ℕ) → length ds ≤ mostInput → room ≡ length ds → First (length ds) (DigitAt ds) (AboveThreeAt ds) i → GivenTurns ds room (Refused (BadDigit i))
+  accepted : length ds ≤ mostInput → room ≡ length ds → ((i : ℕ) → i < length ds → DigitAt ds i) → GivenTurns ds room Good
