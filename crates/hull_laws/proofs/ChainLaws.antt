@@ -1,7 +1,7 @@
 -- The monotone chain. `chain ms` is the lower hull of points `ms` that stand in order of x, from left to right: each point is put in front of
 -- the chain of those right of it, after points that would not make a left turn are dropped from its front (`cut`).
 use mathlib.Core.Path.{_≡_, refl, sym, ap, _∙_, subst}
-use mathlib.Core.List.{List, [], _∷_}
+use mathlib.Core.List.{List, [], _∷_, _++_}
 use mathlib.Core.Logic.{_⊎_, inl, inr, ⊎-elim}
 use mathlib.Core.Bool.{Bool, true, false}
 use lib.IntN.{ℤ, pos}
@@ -36,6 +36,17 @@ chain (m ∷ ms) = m ∷ cut m (chain ms)
 -- all of Q is on or left of a b
 abbrev pub Supp : List Corner → Corner → Corner → Type 0
 Supp Q a b = (q : Corner) → In q Q → OnLeft a b q
+
+-- all of Q is on or left of each step of the path
+abbrev pub Path : List Corner → List Corner → Type 0
+Path Q [] = Unit {0}
+Path Q (b ∷ []) = Unit {0}
+Path Q (b ∷ (a ∷ s)) = Supp Q b a × Path Q (a ∷ s)
+
+-- and of the way from its last corner back to its first
+abbrev pub Closed : List Corner → List Corner → Type 0
+Closed Q [] = Unit {0}
+Closed Q (b ∷ s) = Path Q (b ∷ (s ++ (b ∷ [])))
 
 abbrev pub Turn : Corner → Corner → List Corner → Type 0
 Turn b a [] = Unit {0}

@@ -68,6 +68,11 @@ pub on-self′ : (a b : Corner) → OnLeft a b a
 unfolding cross
 on-self′ a b = record { on = by≤ O (cr 0 1 0) (h≤ 4 (numbers (a ∷ b ∷ [])) O O (omega zarith)) tt }
 
+-- from a corner to itself
+pub on-same : (a q : Corner) → OnLeft a a q
+unfolding cross
+on-same a q = record { on = by≤ O (cr 0 0 1) (h≤ 4 (numbers (a ∷ q ∷ [])) O O (omega zarith)) tt }
+
 -- p, b, a, z from left to right: two left turns join
 pub left-join : {p b a z : Corner} → Left p b a → Left b a z → p .0 <ℤ b .0 → b .0 <ℤ a .0 → a .0 <ℤ z .0 → Left p a z
 unfolding cross

@@ -17,7 +17,8 @@ use Rattle.hull.specs.Hull.{In}
 use Rattle.hull_laws.specs.Outline.{chainFrom, cutAt, spot, spotBack, colAt, skip, stop, upper}
 use Rattle.hull_laws.proofs.CornerLaws.{corner-eq, corner-dec}
 use Rattle.hull_laws.proofs.TurnedLaws.{neg, negs}
-use Rattle.hull_laws.proofs.RoundLaws.{lastOf, behead, trim, round, ne-x}
+use Rattle.hull_laws.proofs.RoundLaws.{lastOf, behead, trim, round}
+use Rattle.hull_laws.proofs.SideLaws.{ne-x}
 use Rattle.hull_laws.proofs.SinkLaws.{at, in-map}
 use Rattle.hull_laws.proofs.ScanLaws.{chain-rest, chain-last}
 

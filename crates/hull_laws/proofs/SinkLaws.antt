@@ -21,7 +21,7 @@ use Rattle.hull_laws.proofs.TurnedLaws.{Lows}
 
 pub length-sink : (a : List ℕ) (v : ℕ × ℕ) → length (sink a v) ≡ length a
 unfolding sink
-length-sink a v = length-set a (v .0) (min (getD a (v .0) 0) (v .1))
+length-sink a v = simp length-set
 
 pub length-sinks : (a : List ℕ) (vs : List (ℕ × ℕ)) → length (sinks a vs) ≡ length a
 unfolding sinks
