@@ -51,21 +51,6 @@ northward y (suc (suc zero)) g h = omega arith
 northward y (suc (suc (suc zero))) g h = omega arith
 northward y (suc (suc (suc (suc d)))) g h = omega arith
 
--- a column that takes a lower height, and one that keeps its own
-pub sink-lower : (a : List ℕ) (c y : ℕ) → y < getD a c 0 → set a c y ≡ sink a (c, y)
-unfolding sink
-sink-lower a c y t = ap (set a c) least
-  where
-    least : y ≡ min (getD a c 0) y
-    least = omega arith
-
-pub sink-same : (a : List ℕ) (c y : ℕ) → getD a c 0 ≤ y → a ≡ sink a (c, y)
-unfolding sink
-sink-same a c y t = sym (set-getD a c 0) ∙ ap (set a c) least
-  where
-    least : getD a c 0 ≡ min (getD a c 0) y
-    least = omega arith
-
 -- whether the first of the chain is dropped
 module _ (ys : List ℕ) (p : ℕ) where
   few-stay : (l : List ℕ) → length l < 2 → dropsAt ys p l ≡ false
