@@ -1,13 +1,13 @@
 -- Corners along one line: their hull is the two outermost.
 -- Assumes nothing.
-use mathlib.Core.Path.{_≡_, refl, sym, ap, ap₂, _∙_, subst}
+use mathlib.Core.Path.{_≡_, refl, sym, ap, _∙_, subst}
 use mathlib.Core.List.{List, [], _∷_}
 use mathlib.Core.Logic.{_⊎_, inl, inr, ⊎-elim}
 use lib.IntN.{ℤ, pos, negℤ}
 use lib.Signed.{_≤ℤ_, _<ℤ_, ≤ℤ-refl}
 use Rattle.int_laws.proofs.LinearLaws.{zarith, le-or-lt, up-neg, dn-neg}
 use Rattle.grid.specs.declared.Corner.{Corner}
-use Rattle.hull.specs.Hull.{In, cross, Left, Begins, Exposed, HullIs}
+use Rattle.hull.specs.Hull.{In, cross, Begins, Exposed, HullIs}
 use Rattle.hull_laws.proofs.OneLaws.{begins-both}
 use Rattle.hull_laws.proofs.ExposedLaws.{first-exposed}
 use Rattle.hull_laws.proofs.TurnedLaws.{neg, negs, neg-neg, in-negs, negs-in, neg-exposed}

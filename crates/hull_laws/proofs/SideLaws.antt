@@ -1,21 +1,19 @@
 -- The two chains joined are the hull: the lower one from left to right, and the upper one back. All corners lie on or left of each step.
 -- Assumes nothing.
-use mathlib.Core.Path.{_≡_, refl, sym, ap, ap₂, _∙_, subst}
-use mathlib.Core.List.{List, [], _∷_, _++_, map}
+use mathlib.Core.Path.{_≡_, refl, sym, ap, _∙_, subst}
+use mathlib.Core.List.{List, [], _∷_, _++_}
 use mathlib.Core.Logic.{_⊎_, inl, inr, ⊎-elim}
-use mathlib.Core.Bool.{Bool, true, false}
-use Prim.Native.Nat.{ℕ}
-use lib.IntN.{ℤ, pos, negsuc, negℤ, negℤ-negℤ, _+ℤ_, _-ℤ_, _*ℤ_}
-use lib.Signed.{_≤ℤ_, _<ℤ_, ltZ}
+use lib.IntN.{ℤ, pos, negℤ}
+use lib.Signed.{_≤ℤ_, _<ℤ_}
 use Rattle.int_laws.proofs.LinearLaws.{zarith, le-or-lt, up-neg, dn-neg}
-use Rattle.int_laws.proofs.RingLaws.{E, v, k, _⊕_, _⊖_, _⊗_, ⊝, ring}
-use Rattle.int_laws.proofs.SignLaws.{h≤, h<, hw, h≡, h≢, h0, hp, eqt, by≤, by<, by⊥, by≡, by≤÷, by<÷, _⊞_, _⊠_, _⊡_, _⋆_}
+use Rattle.int_laws.proofs.RingLaws.{v, k, _⊖_}
+use Rattle.int_laws.proofs.SignLaws.{h≤, eqt, by≤, _⊞_, _⊠_}
 use Rattle.grid.specs.declared.Corner.{Corner}
 use Rattle.hull.specs.Call.{numbers}
-use Rattle.hull.specs.Hull.{Begins, Ccw, Exposed, HullIs, In, Left, Pairs, Starts, cross, reach}
+use Rattle.hull.specs.Hull.{Begins, Ccw, Exposed, HullIs, In, Pairs, cross}
 use Rattle.grid.specs.Grid.{corner}
-use Rattle.hull_laws.proofs.ChainLaws.{Path, Closed, Chain, Ends, Sorted, Supp, Turn, chain, chain-ok, chain-sub, cut, turns}
-use Rattle.hull_laws.proofs.CornerLaws.{on-same, O, OnLeft, X, Y, cr, on-above, corner-dec, corner-eq}
+use Rattle.hull_laws.proofs.ChainLaws.{Path, Closed, Chain, Ends, Supp, chain, chain-ok, chain-sub, cut, turns}
+use Rattle.hull_laws.proofs.CornerLaws.{on-same, O, OnLeft, X, Y, cr, corner-dec}
 use Rattle.hull_laws.proofs.ExposedLaws.{chain-exposed, cover}
 use Rattle.hull_laws.proofs.TurnedLaws.{Lows, chain-all, lows-begin, neg, neg-neg, negs, cross-neg, in-negs, negs-in, negs-negs, exposed-neg, neg-exposed}
 use Rattle.hull_laws.proofs.OrderLaws.{Edges, edges-tail, ordered}

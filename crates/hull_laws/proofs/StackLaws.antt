@@ -3,16 +3,16 @@
 use mathlib.Core.Path.{_≡_, refl, sym, ap, ap₂, _∙_, subst}
 use mathlib.Core.Bool.{Bool, true, false, not}
 use mathlib.Core.List.{List, [], _∷_}
-use mathlib.Core.Logic.{_⊎_, inl, inr}
-use Prim.Native.Nat.{ℕ, zero, suc, _+_, _*_, _-_, _≤_, _<_, min}
+use mathlib.Core.Logic.{inl, inr}
+use Prim.Native.Nat.{ℕ, zero, suc, _+_, _*_, _-_, _≤_, _<_}
 use native.Mathlib.Omega.{arith}
 use native.Mathlib.Nat.{mul-le-mul}
 use native.Mathlib.Numerals.{add-one}
 use native.Mathlib.Decide.{decLt}
 use lib.ListN.{length, getD, drop, set, length-drop, drop-of-length-le}
-use lib.Seq.{drop-cons, drop-set-lt, getD-set-same, getD-set-other, lt-length-set, getD-drop, set-getD}
+use lib.Seq.{drop-cons, drop-set-lt, getD-set-same, lt-length-set, getD-drop}
 use Rattle.hull.specs.Hull.{In}
-use Rattle.hull_laws.specs.Columns.{colAfter, rowAfter, sink}
+use Rattle.hull_laws.specs.Columns.{colAfter, rowAfter}
 use Rattle.hull_laws.specs.Outline.{turnsAt, dropsAt, cutAt, chainFrom}
 use Rattle.hull_laws.proofs.ScanLaws.{chain-in}
 

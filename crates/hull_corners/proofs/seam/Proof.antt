@@ -9,6 +9,9 @@ use Rattle.hull_corners.proofs.seam.Tie as tie
 add-if1 : tie.Need-add-if1
 add-if1 c = search needs
 
+cast-if1 : tie.Need-cast-if1
+cast-if1 c = search needs
+
 add-result : tie.Need-add-result
 add-result c = search needs
 
@@ -19,4 +22,4 @@ returns-2 : tie.Need-returns-2
 returns-2 c = no-more (c .before .args .b) (c .before .args .lo + c .before .args .hi) 32768 (c .if1 .left)
 
 pub seam-spec : {M : Type 1} → statement M
-seam-spec = tie.close (tie.spec add-if1 add-result returns returns-2)
+seam-spec = tie.close (tie.spec add-if1 cast-if1 add-result returns returns-2)
