@@ -6,8 +6,12 @@ use mathlib.Core.Logic.{_⊎_, inl, inr, ⊎-elim}
 use lib.IntN.{ℤ, pos, negℤ}
 use lib.Signed.{_≤ℤ_, _<ℤ_, ≤ℤ-refl}
 use Rattle.int_laws.proofs.LinearLaws.{zarith, le-or-lt, up-neg, dn-neg}
+use Rattle.int_laws.proofs.RingLaws.{_⊖_}
+use Rattle.int_laws.proofs.SignLaws.{eqt, by≡, _⊞_}
 use Rattle.grid.specs.declared.Corner.{Corner}
 use Rattle.hull.specs.Hull.{In, cross, Begins, Exposed, HullIs}
+use Rattle.hull.specs.Call.{numbers}
+use Rattle.hull_laws.proofs.CornerLaws.{X, Y, cr, O}
 use Rattle.hull_laws.proofs.OneLaws.{begins-both}
 use Rattle.hull_laws.proofs.ExposedLaws.{first-exposed}
 use Rattle.hull_laws.proofs.TurnedLaws.{neg, negs, neg-neg, in-negs, negs-in, neg-exposed}
@@ -102,3 +106,20 @@ hull-of-line (p ∷ P) (a ∷ (b ∷ (c ∷ l))) h f = clash (f a b c (h .starts
   where
     clash : cross a b c ≡ pos 0 → pos 0 <ℤ cross a b c → ⊥
     clash e g = omega zarith
+
+-- corners of one height, and of one column
+pub row-in-line : (P : List Corner) (y : ℤ) → ((q : Corner) → In q P → q .1 ≡ y) → InLine P
+unfolding cross
+row-in-line P y f a b c i j l =
+    let ρ = numbers (a ∷ b ∷ c ∷ []) in
+    let ab : a .1 ≡ b .1 = f a i ∙ sym (f b j) in
+    let ac : a .1 ≡ c .1 = f a i ∙ sym (f c l) in
+    by≡ (cr 0 1 2) O (eqt 6 ρ (Y 0) (Y 2) (X 0 ⊖ X 1) ac ⊞ eqt 6 ρ (Y 0) (Y 1) (X 2 ⊖ X 0) ab) (eqt 6 ρ (Y 0) (Y 2) (X 1 ⊖ X 0) ac ⊞ eqt 6 ρ (Y 0) (Y 1) (X 0 ⊖ X 2) ab) tt tt
+
+pub column-in-line : (P : List Corner) (x : ℤ) → ((q : Corner) → In q P → q .0 ≡ x) → InLine P
+unfolding cross
+column-in-line P x f a b c i j l =
+    let ρ = numbers (a ∷ b ∷ c ∷ []) in
+    let ab : a .0 ≡ b .0 = f a i ∙ sym (f b j) in
+    let ac : a .0 ≡ c .0 = f a i ∙ sym (f c l) in
+    by≡ (cr 0 1 2) O (eqt 6 ρ (X 0) (X 1) (Y 0 ⊖ Y 2) ab ⊞ eqt 6 ρ (X 0) (X 2) (Y 1 ⊖ Y 0) ac) (eqt 6 ρ (X 0) (X 1) (Y 2 ⊖ Y 0) ab ⊞ eqt 6 ρ (X 0) (X 2) (Y 0 ⊖ Y 1) ac) tt tt
