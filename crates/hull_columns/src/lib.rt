@@ -9,6 +9,7 @@ ghost use Rattle.hull_laws.specs.Columns.{colAfter, rowAfter, trail, westFrom, 
 ghost use Rattle.hull_laws.specs.Columns.{middle, top};
 ghost use Rattle.hull_columns.specs.Extent.{extentBy, Walked};
 
+// The columns that a walk may go through, and the heights of its corners. Its start stands in the middle of both.
 pub struct Columns;
 
 impl Columns {
@@ -21,11 +22,20 @@ impl Columns {
     // the column of the start
     pub const MIDDLE: usize = 16384;
 
+    // the column farthest from it, on either side
+    pub const LAST: usize = 32768;
+
     // the height of the start
     pub const LEVEL: u16 = 16384;
 
-    // twice that: the height from which the walk that is turned by half a turn counts
+    // the greatest height, from which the walk turned by half a turn counts
     pub const TOP: u16 = 32768;
+
+    // the height of a column that has none yet
+    pub const BLANK: u16 = 65535;
+
+    // how far the start lies from column 0 and from height 0
+    pub const SHIFT: i32 = 16384;
 }
 
 // The westmost and the eastmost column of a walk, or why it is refused.
@@ -98,14 +108,22 @@ pub fn survey(chain: &[u8]) -> Extent
     Extent::Within(west, east)
 }
 
+// The lower of two heights.
+fn lower(a: u16, b: u16) -> u16
+    ensures { λ r. ⌜ r ≡ min a b ⌝ }
+{
+    if a < b {
+        return a;
+    }
+    b
+}
+
 // Column c keeps the height y if it is lower.
 fn keep(ys: &mut [u16], c: usize, y: u16)
     requires { ⌜ c < length (now ys) ⌝ }
     ensures { λ _. ⌜ now (ys .exit) ≡ sink (now (ys .entry)) (c, y) ⌝ }
 {
-    if y < ys[c] {
-        ys[c] = y;
-    }
+    ys[c] = lower(ys[c], y);
 }
 
 // Keeps the lowest corner of each column in lo, counted from west, and in hi that of the walk turned by half a turn, from east.

@@ -2,6 +2,7 @@
 use answer::Counted;
 use answer::Refusal;
 use grid::Corner;
+use hull_columns::Columns;
 ghost use mathlib.Core.Path.{_≡_};
 ghost use mathlib.Core.List.{map};
 ghost use mathlib.Core.Bool.{_&&_};
@@ -62,7 +63,7 @@ fn seam(lo: u16, hi: u16, b: usize) -> usize
     requires { ⌜ b ≤ 65536 ⌝ }
     ensures { λ r. ⌜ r ≡ b + tally (eqb (lo + hi) top) ⌝ }
 {
-    if lo as u32 + hi as u32 == 32768 {
+    if lo as u32 + hi as u32 == Columns::TOP as u32 {
         return b + 1;
     }
     b
@@ -73,7 +74,7 @@ fn close(lo: u16, hi: u16, f: usize, n: usize) -> usize
     ensures { λ r. ⌜ r ≡ n - tally (ltb f n && eqb (lo + hi) top) ⌝ }
 {
     if f < n {
-        if lo as u32 + hi as u32 == 32768 {
+        if lo as u32 + hi as u32 == Columns::TOP as u32 {
             return n - 1;
         }
     }
@@ -85,7 +86,7 @@ fn shifted(z: i32, n: usize) -> i32
     requires { ⌜ (natAbs z ≤ middle) × (n ≤ top) ⌝ }
     ensures { λ r. ⌜ r ≡ (z -ℤ pos middle) +ℤ pos n ⌝ }
 {
-    z - 16384 + n as i32
+    z - Columns::SHIFT + n as i32
 }
 
 // The corner at this column and height, where start stands in the middle.
@@ -116,7 +117,7 @@ fn write(
     ensures { λ _. ⌜ now (out .exit) ≡ sets (now (out .entry)) 0 (numbers (joined start west east (now (lo .entry)) (now (hi .entry)) (now (s .entry)) (now (t .entry)) a f g)) ⌝ }
 {
     let first = placed(start, west, 0);
-    let last = placed(start, east, 32768);
+    let last = placed(start, east, Columns::LAST);
     let n = s.len();
     put(out, 0, first, 1, lo, s, a, n);
     put(out, 2 * (n - a), last, -1, hi, t, f, g);

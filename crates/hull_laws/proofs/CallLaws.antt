@@ -1,11 +1,10 @@
 -- The refusals of the hull call in their order, and the buffer after a list is written.
 -- Assumes nothing.
-use mathlib.Core.Path.{_≡_, refl, sym, ap, ap₂, _∙_, subst}
-use mathlib.Core.Bool.{Bool, true, false}
+use mathlib.Core.Path.{_≡_, refl, sym, ap, ap₂, _∙_}
+use mathlib.Core.Bool.{Bool}
 use mathlib.Core.List.{List, [], _∷_, _++_}
-use Prim.Native.Nat.{ℕ, zero, suc, _+_, _*_, _≤_, _<_}
+use Prim.Native.Nat.{ℕ, _+_, _*_, _≤_, _<_}
 use native.Mathlib.Omega.{arith}
-use lib.Dec.{ltb}
 use borrow.Author.Tests.{lt-ltb, le-ltb}
 use lib.IntN.{ℤ}
 use lib.ListN.{length, drop}
@@ -19,7 +18,6 @@ use Rattle.answer.specs.declared.Refusal.the-variants.{TooMany, HullRoom}
 use Rattle.answer.specs.declared.Counted.{Counted}
 use Rattle.answer.specs.Limits.{mostInput}
 use Rattle.answer.specs.Refusal.{when, orElse, firstOf}
-use Rattle.hull.specs.Hull.{HullIs}
 use Rattle.hull.specs.Call.{faultFrom, roomJudged, hullJudged, countedOf, numbers, bufferOf, HullCall}
 use Rattle.hull_laws.specs.Outline.{hullOf}
 use Rattle.hull_laws.proofs.OneLaws.{hullIs-one}

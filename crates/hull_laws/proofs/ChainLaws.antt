@@ -1,7 +1,8 @@
--- The monotone chain. `chain ms` is the lower hull of points `ms` that stand in order of x, from left to right: each point is put in front of
--- the chain of those right of it, after points that would not make a left turn are dropped from its front (`cut`).
-use mathlib.Core.Path.{_≡_, refl, sym, ap, _∙_, subst}
-use mathlib.Core.List.{List, [], _∷_}
+-- The monotone chain. `chain ms` is the lower side of corners `ms` that stand from left to right: each corner is put in front of
+-- the chain of those right of it, after what would not make a left turn is dropped from its front (`cut`).
+-- Assumes nothing.
+use mathlib.Core.Path.{_≡_, refl, sym, ap, subst}
+use mathlib.Core.List.{List, [], _∷_, _++_}
 use mathlib.Core.Logic.{_⊎_, inl, inr, ⊎-elim}
 use mathlib.Core.Bool.{Bool, true, false}
 use lib.IntN.{ℤ, pos}
@@ -10,7 +11,7 @@ use Rattle.int_laws.proofs.LinearLaws.{zarith, le-or-lt}
 use Rattle.int_laws.proofs.RangeLaws.{lt-true, lt-false}
 use Rattle.grid.specs.declared.Corner.{Corner}
 use Rattle.hull.specs.Hull.{In, Left, cross}
-use Rattle.hull_laws.proofs.CornerLaws.{OnLeft, left-join, left-on, left-rot, not-left, on-above, on-ext, on-far, on-near, on-rot, on-self, on-self′}
+use Rattle.hull_laws.proofs.CornerLaws.{OnLeft, left-join, left-on, left-rot, not-left, on-ext, on-far, on-near, on-self, on-self′}
 
 -- corners from left to right, one in each column
 abbrev pub Sorted : List Corner → Type 0
@@ -37,11 +38,22 @@ chain (m ∷ ms) = m ∷ cut m (chain ms)
 abbrev pub Supp : List Corner → Corner → Corner → Type 0
 Supp Q a b = (q : Corner) → In q Q → OnLeft a b q
 
+-- all of Q is on or left of each step of the path
+abbrev pub Path : List Corner → List Corner → Type 0
+Path Q [] = Unit {0}
+Path Q (b ∷ []) = Unit {0}
+Path Q (b ∷ (a ∷ s)) = Supp Q b a × Path Q (a ∷ s)
+
+-- and of the way from its last corner back to its first
+abbrev pub Closed : List Corner → List Corner → Type 0
+Closed Q [] = Unit {0}
+Closed Q (b ∷ s) = Path Q (b ∷ (s ++ (b ∷ [])))
+
 abbrev pub Turn : Corner → Corner → List Corner → Type 0
 Turn b a [] = Unit {0}
 Turn b a (z ∷ s) = Left b a z
 
--- a chain from left to right, which turns left at each point, with all of Q on or left of each edge, and the lowest of the rightmost of Q at its end
+-- a chain from left to right, which turns left at each corner, with all of Q on or left of each edge, and the lowest of the rightmost of Q at its end
 abbrev pub Chain : List Corner → List Corner → Type 0
 Chain Q [] = Unit {0}
 Chain Q (b ∷ []) = (q : Corner) → In q Q → Ends b q
@@ -60,7 +72,7 @@ module _ (Q : List Corner) (p : Corner) where
   last-more b h g q (inl e) = inl (subst (λ (z : Corner). z .0 <ℤ b .0) (sym e) h)
   last-more b h g q (inr m) = g q m
 
-  -- a new point in front, from which the chain turns left, is left of all its edges
+  -- a new corner in front, from which the chain turns left, is left of all its edges
   extend : (b a : Corner) (s : List Corner) → Chain Q (b ∷ (a ∷ s)) → Left p b a → p .0 <ℤ b .0 → Chain (p ∷ Q) (b ∷ (a ∷ s))
   extend b a [] c h i = (c .0, supp-more b a (left-on (left-rot h)) (c .1), tt, last-more a (omega (zarith, c .0)) (c .3))
   extend b a (z ∷ s) c h i =

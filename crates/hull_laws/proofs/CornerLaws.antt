@@ -1,14 +1,13 @@
 -- Which way three corners turn.
 -- Assumes nothing.
-use mathlib.Core.Path.{_≡_, refl, sym, ap, ap₂, _∙_, subst}
-use mathlib.Core.List.{List, [], _∷_}
-use mathlib.Core.Logic.{_⊎_, inl, inr}
-use Prim.Native.Nat.{ℕ, zero, suc, _+_, _*_}
-use lib.IntN.{ℤ, pos, negsuc, negℤ, _+ℤ_, _-ℤ_, _*ℤ_}
+use mathlib.Core.Path.{_≡_, ap, subst}
+use mathlib.Core.List.{[], _∷_}
+use Prim.Native.Nat.{ℕ, _+_, _*_}
+use lib.IntN.{ℤ, pos}
 use lib.Signed.{_≤ℤ_, _<ℤ_}
-use Rattle.int_laws.proofs.LinearLaws.{zarith, zdec, bal+, bal-, up-neg, dn-neg}
-use Rattle.int_laws.proofs.RingLaws.{E, v, k, _⊕_, _⊖_, _⊗_, ⊝, den, ring}
-use Rattle.int_laws.proofs.SignLaws.{Nn, h≤, h<, hw, h≡, h≢, h0, eqt, _⊞_, _⊠_, _⋆_, _⊡_, by≤, by<, by⊥, by≤÷, by<÷, cut}
+use Rattle.int_laws.proofs.LinearLaws.{zarith, zdec}
+use Rattle.int_laws.proofs.RingLaws.{E, v, k, _⊖_, _⊗_, ring}
+use Rattle.int_laws.proofs.SignLaws.{h≤, h<, hw, eqt, _⊞_, _⊠_, _⊡_, by≤, by<, by≤÷, by<÷}
 use Rattle.grid.specs.declared.Corner.{Corner}
 use Rattle.grid.specs.Grid.{corner}
 use Rattle.hull.specs.Hull.{Left, cross}
@@ -67,6 +66,11 @@ on-self a b = record { on = by≤ O (cr 0 1 1) (h≤ 4 (numbers (a ∷ b ∷ [])
 pub on-self′ : (a b : Corner) → OnLeft a b a
 unfolding cross
 on-self′ a b = record { on = by≤ O (cr 0 1 0) (h≤ 4 (numbers (a ∷ b ∷ [])) O O (omega zarith)) tt }
+
+-- from a corner to itself
+pub on-same : (a q : Corner) → OnLeft a a q
+unfolding cross
+on-same a q = record { on = by≤ O (cr 0 0 1) (h≤ 4 (numbers (a ∷ q ∷ [])) O O (omega zarith)) tt }
 
 -- p, b, a, z from left to right: two left turns join
 pub left-join : {p b a z : Corner} → Left p b a → Left b a z → p .0 <ℤ b .0 → b .0 <ℤ a .0 → a .0 <ℤ z .0 → Left p a z

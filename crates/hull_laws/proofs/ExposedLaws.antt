@@ -1,26 +1,27 @@
--- Which points of a chain are corners, and that every corner is on a chain.
-use mathlib.Core.Path.{_≡_, refl, sym, ap, _∙_, subst}
+-- The corners of a chain are exposed, and every exposed corner is on a chain.
+-- Assumes nothing.
+use mathlib.Core.Path.{_≡_, refl, sym, ap, subst}
 use mathlib.Core.List.{List, [], _∷_}
-use mathlib.Core.Logic.{_⊎_, inl, inr, ⊎-elim}
-use Prim.Native.Nat.{ℕ, zero, suc, _+_, _*_, _≤_}
+use mathlib.Core.Logic.{_⊎_, inl, inr}
+use Prim.Native.Nat.{ℕ, zero, _+_, _≤_}
 use native.Mathlib.Omega.{arith}
 use lib.IntN.{ℤ, pos, negsuc, negℤ, natAbs, _+ℤ_, _-ℤ_, _*ℤ_}
 use lib.Signed.{_≤ℤ_, _<ℤ_}
 use Rattle.int_laws.proofs.LinearLaws.{zarith, le-or-lt, up-neg, dn-neg}
 use Rattle.int_laws.proofs.RangeLaws.{abs-nat}
 use Rattle.int_laws.proofs.RingLaws.{E, v, k, _⊕_, _⊖_, _⊗_, ⊝}
-use Rattle.int_laws.proofs.SignLaws.{h≤, h<, hw, h≡, h≢, h0, hp, eqt, by≤, by<, by⊥, by≤÷, by<÷, _⊞_, _⊠_, _⊡_, _⋆_}
+use Rattle.int_laws.proofs.SignLaws.{h≤, h<, h0, hp, eqt, by≤, by<, by⊥, by≤÷, _⊞_, _⊠_, _⋆_}
 use Rattle.grid.specs.declared.Corner.{Corner}
 use Rattle.hull.specs.Call.{numbers}
-use Rattle.hull.specs.Hull.{Begins, Exposed, In, Left, Pairs, cross, reach}
-use Rattle.hull_laws.proofs.ChainLaws.{Chain, Ends, Supp, Turn}
+use Rattle.hull.specs.Hull.{Begins, Exposed, In, Left, cross, reach}
+use Rattle.hull_laws.proofs.ChainLaws.{Chain, Ends, Supp}
 use Rattle.hull_laws.proofs.CornerLaws.{O, OnLeft, X, Y, cr, corner-dec, corner-eq}
 
--- the value of point i in the direction of variables 0 and 1
+-- how far corner i lies in the direction of variables 0 and 1
 abbrev dt : ℕ → E
 dt i = v 0 ⊗ X i ⊕ v 1 ⊗ Y i
 
--- ---- where two edges meet at a left turn, the point between them is a corner
+-- where two edges meet at a left turn, the corner between them is exposed
 -- on both lines
 meet : (a q b p : Corner) → Left a q b → cross a q p ≡ pos 0 → cross q b p ≡ pos 0 → p ≡ q
 unfolding cross
@@ -53,7 +54,7 @@ turn-exposed P a q b m f g h = record { visited = m; u = b .1 -ℤ a .1; v = a .
             zero : (z : ℤ) → z ≤ℤ pos 0 → pos 0 ≤ℤ z → z ≡ pos 0
             zero z x y = omega zarith
 
--- ---- a point on or above an edge from left to right, in its columns, is below one of its ends in any direction that does not go up
+-- a corner on or above an edge from left to right, in its columns, is below one of its ends in any direction that does not go up
 seg : (u w : ℤ) (a b q : Corner) → a .0 <ℤ b .0 → a .0 ≤ℤ q .0 → q .0 ≤ℤ b .0 → OnLeft a b q → w ≤ℤ pos 0 → reach u w a <ℤ reach u w q → reach u w b <ℤ reach u w q → ⊥
 unfolding cross reach
 seg u w a b q i j l h n f g =
@@ -86,7 +87,7 @@ cover P q c n b (a ∷ s) h sub l = go (le-or-lt (q .0) (a .0)) (corner-dec q b)
     go (inl z) (no d) (no e) f = absurd (seg (c .u) (c .v) b a q (h .0) l z (h .1 q (c .visited)) n (c .most b (sub b (inl refl)) (λ r. d (sym r))) (c .most a (sub a (inr (inl refl))) (λ r. e (sym r))))
     go (inr z) (no d) (no e) f = inr (f (omega zarith))
 
--- ---- the ends of a chain are corners, by a direction that is nearly level
+-- the ends of a chain are exposed, by a direction that is nearly level
 -- no y of the list is above this, or below its negation
 bound : List Corner → ℕ
 bound [] = 0
@@ -155,7 +156,7 @@ rest-exposed P b a (z ∷ s) c sub q (inl e) = subst (λ (z : Corner). Exposed P
     second s c = c .1
 rest-exposed P b a (z ∷ s) c sub q (inr m) = rest-exposed P a z s (c .3) (λ p n. sub p (inr n)) q m
 
--- every point of the chain is a corner
+-- every corner of the chain is exposed
 pub chain-exposed : (P : List Corner) (b : Corner) (s : List Corner) → Chain P (b ∷ s) → ((q : Corner) → In q (b ∷ s) → In q P) → ((q : Corner) → In q P → Begins b q) → (q : Corner) → In q (b ∷ s) → Exposed P q
 chain-exposed P b s c sub f q (inl e) = subst (λ (z : Corner). Exposed P z) (sym e) (first-exposed P b (sub b (inl refl)) f)
 chain-exposed P b [] c sub f q (inr m) = absurd m

@@ -1,9 +1,8 @@
 -- The lower chain and what is left of the upper one, as parts of two arrays, and as numbers in a buffer.
 -- Assumes nothing.
-use mathlib.Core.Path.{_≡_, refl, sym, ap, ap₂, _∙_, subst}
+use mathlib.Core.Path.{_≡_, refl, sym, ap, ap₂, _∙_}
 use mathlib.Core.Bool.{Bool, true, false, _&&_}
 use mathlib.Core.List.{List, [], _∷_, _++_, map}
-use mathlib.Core.Logic.{_⊎_, inl, inr}
 use Prim.Native.Nat.{ℕ, zero, suc, _+_, _*_, _-_, _≤_, _<_}
 use native.Mathlib.Omega.{arith}
 use native.Mathlib.Numerals.{add-one, add-two}
@@ -13,7 +12,7 @@ use borrow.Author.Tests.{eq-eqb, ne-eqb, lt-ltb, le-ltb}
 use lib.IntN.{ℤ, pos, negsuc, _+ℤ_, _-ℤ_, _*ℤ_}
 use lib.ListN.{length, getD, set, drop, take, length-append, length-drop, length-map, drop-of-length-le}
 use lib.Seq.{sets, slice, slice-cons, slice-empty, length-slice, take-length, drop-drop}
-use Rattle.int_laws.proofs.LinearLaws.{zarith, bal+, bal-}
+use Rattle.int_laws.proofs.LinearLaws.{zarith, bal+}
 use Rattle.lists.specs.Lists.{tally, front}
 use Rattle.grid.specs.declared.Corner.{Corner}
 use Rattle.grid.specs.Grid.{corner}

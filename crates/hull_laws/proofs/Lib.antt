@@ -6,6 +6,7 @@ pub mod ExposedLaws
 pub mod OrderLaws
 pub mod TurnedLaws
 pub mod RoundLaws
+pub mod SideLaws
 pub mod TrailLaws
 pub mod SinkLaws
 pub mod ScanLaws
@@ -17,4 +18,5 @@ pub mod JoinLaws
 pub mod WalkLaws
 pub mod HullLaws
 pub mod CallLaws
+pub mod LineLaws
 pub mod HullCases

@@ -1,14 +1,15 @@
 -- There is only one list of the corners of the hull.
-use mathlib.Core.Path.{_≡_, refl, sym, ap, ap₂, _∙_, subst}
+-- Assumes nothing.
+use mathlib.Core.Path.{_≡_, refl, sym, ap₂, _∙_, subst}
 use mathlib.Core.List.{List, [], _∷_}
-use mathlib.Core.Logic.{_⊎_, inl, inr, ⊎-elim}
-use lib.IntN.{ℤ, pos}
-use lib.Signed.{_≤ℤ_, _<ℤ_}
+use mathlib.Core.Logic.{_⊎_, inl, inr}
+use lib.IntN.{ℤ}
+use lib.Signed.{_<ℤ_}
 use Rattle.int_laws.proofs.LinearLaws.{zarith}
 use Rattle.int_laws.proofs.SignLaws.{h<, by⊥, _⊞_}
 use Rattle.grid.specs.declared.Corner.{Corner}
 use Rattle.hull.specs.Call.{numbers}
-use Rattle.hull.specs.Hull.{Begins, Ccw, Exposed, HullIs, In, Left, Pairs, Starts, cross}
+use Rattle.hull.specs.Hull.{Begins, HullIs, In, Left, Pairs, cross}
 use Rattle.hull_laws.proofs.CornerLaws.{O, cr, corner-eq}
 
 pub left-asym : {a b c : Corner} → Left a b c → Left a c b → ⊥

@@ -1,18 +1,19 @@
--- The corners in their order. From edges that have all points on or left of them to the statement on any three.
-use mathlib.Core.Path.{_≡_, refl, sym, ap, _∙_, subst}
+-- The corners in their order: from edges that have all corners on or left of them to the statement on any three.
+-- Assumes nothing.
+use mathlib.Core.Path.{_≡_, refl, sym, subst}
 use mathlib.Core.List.{List, [], _∷_}
 use mathlib.Core.Logic.{_⊎_, inl, inr, ⊎-elim}
 use Prim.Native.Nat.{ℕ}
-use lib.IntN.{ℤ, pos, negsuc, negℤ, _+ℤ_, _-ℤ_, _*ℤ_, *ℤ-comm}
+use lib.IntN.{ℤ, pos, _-ℤ_, _*ℤ_, *ℤ-comm}
 use lib.Signed.{_≤ℤ_, _<ℤ_}
 use Rattle.int_laws.proofs.LinearLaws.{zarith, le-or-lt}
-use Rattle.int_laws.proofs.RingLaws.{E, v, k, _⊕_, _⊖_, _⊗_, ⊝}
-use Rattle.int_laws.proofs.SignLaws.{h≤, h<, hw, h≡, h≢, h0, hp, eqt, by≤, by<, by⊥, by≡, by≤÷, by<÷, _⊞_, _⊠_, _⊡_, _⋆_}
+use Rattle.int_laws.proofs.RingLaws.{E, v, _⊕_, _⊖_, _⊗_}
+use Rattle.int_laws.proofs.SignLaws.{h≤, h<, hw, h≡, h≢, h0, hp, eqt, by≤, by<, by⊥, by≡, by<÷, _⊞_, _⊠_, _⊡_}
 use Rattle.grid.specs.declared.Corner.{Corner}
 use Rattle.hull.specs.Call.{numbers}
 use Rattle.hull.specs.Hull.{Begins, Ccw, Exposed, In, Left, Pairs, cross, reach}
 use Rattle.hull_laws.proofs.ChainLaws.{Supp}
-use Rattle.hull_laws.proofs.CornerLaws.{O, OnLeft, X, Y, cr, left-rot, on-rot, corner-dec, corner-eq}
+use Rattle.hull_laws.proofs.CornerLaws.{O, OnLeft, X, Y, cr, left-rot, on-rot, corner-eq}
 
 abbrev dt : ℕ → E
 dt i = v 0 ⊗ X i ⊕ v 1 ⊗ Y i
@@ -61,7 +62,7 @@ turn-left P o a b c i j l e f g = go (le-or-lt (cross a b c) (pos 0))
     go (inr h) = record { left = h }
     go (inl h) = absurd (turn-in (e .u) (e .v) o a b c f g (e .most o i (left-ne₁ f)) (e .most a j (left-ne f)) (e .most c l (λ r. left-ne g (sym r))) h)
 
--- ---- three corners are in no line
+-- three corners are in no line
 -- a between o and b: s a = (s - r) o + r b
 between : (u w r s : ℤ) (o a b : Corner) → pos 0 <ℤ s → pos 0 ≤ℤ r → r ≤ℤ s → s *ℤ (a .0 -ℤ o .0) ≡ r *ℤ (b .0 -ℤ o .0) → s *ℤ (a .1 -ℤ o .1) ≡ r *ℤ (b .1 -ℤ o .1) → reach u w o <ℤ reach u w a → reach u w b <ℤ reach u w a → ⊥
 unfolding reach
@@ -134,7 +135,7 @@ strict P o a b i ea eb f g d d′ d″ h = go (le-or-lt (cross o a b) (pos 0)) (
     go (inr l) n = record { left = l }
     go (inl l) n = absurd (in-line P o a b i ea eb f g d d′ d″ (omega (zarith, n .on)))
 
--- ---- a path with all of P on or left of each step
+-- a path with all of P on or left of each step
 abbrev pub Edges : List Corner → List Corner → Type 0
 Edges P [] = Unit {0}
 Edges P (b ∷ []) = Unit {0}

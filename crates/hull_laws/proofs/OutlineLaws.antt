@@ -1,24 +1,24 @@
 -- The two chains over columns, joined, are the outline.
 -- Assumes nothing.
-use mathlib.Core.Path.{_≡_, refl, sym, ap, ap₂, _∙_, subst}
+use mathlib.Core.Path.{_≡_, refl, sym, ap, _∙_}
 use mathlib.Core.Bool.{Bool, true, false}
 use mathlib.Core.List.{List, [], _∷_, _++_, map}
-use mathlib.Core.Logic.{_⊎_, inl, inr, ⊎-elim}
-use Prim.Native.Nat.{ℕ, zero, suc, _+_, _-_, _≤_, _<_}
+use mathlib.Core.Logic.{inl, inr}
+use Prim.Native.Nat.{ℕ, suc, _+_, _<_}
 use native.Mathlib.Omega.{arith}
-use lib.ListN.{length, getD}
+use lib.ListN.{getD}
 use lib.Dec.{eqb}
 use borrow.Author.Tests.{eqb-true, eqb-false}
-use lib.IntN.{ℤ, pos, negℤ, _+ℤ_, _-ℤ_}
-use lib.Signed.{_≤ℤ_, _<ℤ_}
-use Rattle.int_laws.proofs.LinearLaws.{zarith, bal+, bal-, up-neg, dn-neg}
+use lib.IntN.{ℤ, pos, _+ℤ_, _-ℤ_}
+use lib.Signed.{_<ℤ_}
+use Rattle.int_laws.proofs.LinearLaws.{zarith, bal+, bal-}
 use Rattle.grid.specs.declared.Corner.{Corner}
 use Rattle.hull.specs.Hull.{In}
 use Rattle.hull_laws.specs.Outline.{chainFrom, cutAt, spot, spotBack, colAt, skip, stop, upper}
 use Rattle.hull_laws.proofs.CornerLaws.{corner-eq, corner-dec}
-use Rattle.hull_laws.proofs.TurnedLaws.{neg, negs}
-use Rattle.hull_laws.proofs.RoundLaws.{lastOf, behead, trim, round, ne-x}
-use Rattle.hull_laws.proofs.SinkLaws.{at, in-map}
+use Rattle.hull_laws.proofs.RoundLaws.{lastOf, behead, trim, round}
+use Rattle.hull_laws.proofs.SideLaws.{ne-x}
+use Rattle.hull_laws.proofs.SinkLaws.{in-map}
 use Rattle.hull_laws.proofs.ScanLaws.{chain-rest, chain-last}
 
 -- the path is the lower chain and then what is left of the upper

@@ -1,20 +1,20 @@
 -- The chain over columns, in whole numbers, is the chain over their corners.
 -- Assumes nothing.
-use mathlib.Core.Path.{_≡_, refl, sym, ap, ap₂, _∙_, subst}
-use mathlib.Core.Bool.{Bool, true, false, not}
+use mathlib.Core.Path.{_≡_, refl, ap, ap₂, _∙_}
+use mathlib.Core.Bool.{Bool, true, false}
 use mathlib.Core.List.{List, [], _∷_, map}
-use mathlib.Core.Logic.{_⊎_, inl, inr, ⊎-elim}
+use mathlib.Core.Logic.{inl, inr}
 use Prim.Native.Nat.{ℕ, zero, suc, _+_, _*_, _-_, _≤_, _<_}
 use native.Mathlib.Omega.{arith}
-use lib.ListN.{length, getD}
+use lib.ListN.{getD}
 use lib.Dec.{T, ltb, ltb→lt, lt→ltb}
-use lib.IntN.{ℤ, pos, _+ℤ_, _-ℤ_, _*ℤ_}
-use lib.Signed.{_≤ℤ_, _<ℤ_, ltZ, ltZ-yes}
-use Rattle.int_laws.proofs.LinearLaws.{zarith, bal-, lt-nat, nat-lt}
+use lib.IntN.{ℤ, pos, _-ℤ_}
+use lib.Signed.{_<ℤ_, ltZ, ltZ-yes}
+use Rattle.int_laws.proofs.LinearLaws.{zarith, bal-}
 use Rattle.int_laws.proofs.RingLaws.{E, v, _⊕_, _⊖_, _⊗_, ring}
 use Rattle.grid.specs.declared.Corner.{Corner}
 use Rattle.hull.specs.Hull.{In, cross}
-use Rattle.hull_laws.specs.Outline.{turnsAt, cutAt, chainFrom, spot, colAt}
+use Rattle.hull_laws.specs.Outline.{turnsAt, cutAt, chainFrom, spot}
 use Rattle.hull_laws.proofs.ChainLaws.{turns, cut, chain}
 use Rattle.hull_laws.proofs.RoundLaws.{lastOf}
 use Rattle.hull_laws.proofs.SinkLaws.{upFrom, at}

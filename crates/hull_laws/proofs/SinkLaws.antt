@@ -1,13 +1,13 @@
 -- Columns that keep the least of their heights: they are the lowest corners of the corners seen.
 -- Assumes nothing.
-use mathlib.Core.Path.{_≡_, refl, sym, ap, ap₂, _∙_, subst}
+use mathlib.Core.Path.{_≡_, refl, sym, ap, _∙_, subst}
 use mathlib.Core.List.{List, [], _∷_, map}
 use mathlib.Core.Logic.{_⊎_, inl, inr, ⊎-elim}
-use Prim.Native.Nat.{ℕ, zero, suc, _+_, _-_, _≤_, _<_, min, max}
+use Prim.Native.Nat.{ℕ, zero, suc, _+_, _≤_, _<_, min}
 use native.Mathlib.Omega.{arith}
 use native.Mathlib.Decide.{decLt, ℕ-discrete}
 use native.Mathlib.Nat.{eq-or-lt-of-le}
-use lib.ListN.{length, getD, set, length-set}
+use lib.ListN.{length, getD, length-set}
 use lib.Seq.{getD-set-same, getD-set-other, set-out}
 use lib.IntN.{ℤ, pos, _+ℤ_}
 use lib.Signed.{_≤ℤ_, _<ℤ_}
@@ -21,7 +21,7 @@ use Rattle.hull_laws.proofs.TurnedLaws.{Lows}
 
 pub length-sink : (a : List ℕ) (v : ℕ × ℕ) → length (sink a v) ≡ length a
 unfolding sink
-length-sink a v = length-set a (v .0) (min (getD a (v .0) 0) (v .1))
+length-sink a v = simp length-set
 
 pub length-sinks : (a : List ℕ) (vs : List (ℕ × ℕ)) → length (sinks a vs) ≡ length a
 unfolding sinks

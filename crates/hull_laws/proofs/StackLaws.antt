@@ -3,16 +3,16 @@
 use mathlib.Core.Path.{_≡_, refl, sym, ap, ap₂, _∙_, subst}
 use mathlib.Core.Bool.{Bool, true, false, not}
 use mathlib.Core.List.{List, [], _∷_}
-use mathlib.Core.Logic.{_⊎_, inl, inr}
-use Prim.Native.Nat.{ℕ, zero, suc, _+_, _*_, _-_, _≤_, _<_, min}
+use mathlib.Core.Logic.{inl, inr}
+use Prim.Native.Nat.{ℕ, zero, suc, _+_, _*_, _-_, _≤_, _<_}
 use native.Mathlib.Omega.{arith}
 use native.Mathlib.Nat.{mul-le-mul}
 use native.Mathlib.Numerals.{add-one}
 use native.Mathlib.Decide.{decLt}
 use lib.ListN.{length, getD, drop, set, length-drop, drop-of-length-le}
-use lib.Seq.{drop-cons, drop-set-lt, getD-set-same, getD-set-other, lt-length-set, getD-drop, set-getD}
+use lib.Seq.{drop-cons, drop-set-lt, getD-set-same, lt-length-set, getD-drop}
 use Rattle.hull.specs.Hull.{In}
-use Rattle.hull_laws.specs.Columns.{colAfter, rowAfter, sink}
+use Rattle.hull_laws.specs.Columns.{colAfter, rowAfter}
 use Rattle.hull_laws.specs.Outline.{turnsAt, dropsAt, cutAt, chainFrom}
 use Rattle.hull_laws.proofs.ScanLaws.{chain-in}
 
@@ -50,21 +50,6 @@ northward y (suc zero) g h = omega arith
 northward y (suc (suc zero)) g h = omega arith
 northward y (suc (suc (suc zero))) g h = omega arith
 northward y (suc (suc (suc (suc d)))) g h = omega arith
-
--- a column that takes a lower height, and one that keeps its own
-pub sink-lower : (a : List ℕ) (c y : ℕ) → y < getD a c 0 → set a c y ≡ sink a (c, y)
-unfolding sink
-sink-lower a c y t = ap (set a c) least
-  where
-    least : y ≡ min (getD a c 0) y
-    least = omega arith
-
-pub sink-same : (a : List ℕ) (c y : ℕ) → getD a c 0 ≤ y → a ≡ sink a (c, y)
-unfolding sink
-sink-same a c y t = sym (set-getD a c 0) ∙ ap (set a c) least
-  where
-    least : getD a c 0 ≡ min (getD a c 0) y
-    least = omega arith
 
 -- whether the first of the chain is dropped
 module _ (ys : List ℕ) (p : ℕ) where

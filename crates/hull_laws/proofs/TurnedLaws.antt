@@ -1,21 +1,19 @@
 -- The lowest corner of each column, and corners turned by half a turn.
 -- Assumes nothing.
 use mathlib.Core.Path.{_≡_, refl, sym, ap, ap₂, _∙_, subst}
-use mathlib.Core.List.{List, [], _∷_, _++_, map}
-use mathlib.Core.Logic.{_⊎_, inl, inr, ⊎-elim}
-use mathlib.Core.Bool.{Bool, true, false}
+use mathlib.Core.List.{List, [], _∷_}
+use mathlib.Core.Logic.{inl, inr}
 use Prim.Native.Nat.{ℕ}
-use lib.IntN.{ℤ, pos, negsuc, negℤ, negℤ-negℤ, _+ℤ_, _-ℤ_, _*ℤ_}
-use lib.Signed.{_≤ℤ_, _<ℤ_, ltZ}
-use Rattle.int_laws.proofs.LinearLaws.{zarith, le-or-lt, up-neg, dn-neg}
-use Rattle.int_laws.proofs.RingLaws.{E, v, k, _⊕_, _⊖_, _⊗_, ⊝, ring}
-use Rattle.int_laws.proofs.SignLaws.{h≤, h<, hw, h≡, h≢, h0, hp, eqt, by≤, by<, by⊥, by≡, by≤÷, by<÷, _⊞_, _⊠_, _⊡_, _⋆_}
+use lib.IntN.{ℤ, negℤ, negℤ-negℤ}
+use lib.Signed.{_≤ℤ_, _<ℤ_}
+use Rattle.int_laws.proofs.LinearLaws.{zarith}
+use Rattle.int_laws.proofs.RingLaws.{E, v, _⊕_, _⊖_, _⊗_, ⊝, ring}
 use Rattle.grid.specs.declared.Corner.{Corner}
 use Rattle.hull.specs.Call.{numbers}
-use Rattle.hull.specs.Hull.{Begins, Ccw, Exposed, HullIs, In, Left, Pairs, Starts, cross, reach}
+use Rattle.hull.specs.Hull.{Begins, Exposed, In, cross, reach}
 use Rattle.grid.specs.Grid.{corner}
-use Rattle.hull_laws.proofs.ChainLaws.{Chain, Ends, Sorted, Supp, Turn, chain, chain-ok, chain-sub, cut, turns}
-use Rattle.hull_laws.proofs.CornerLaws.{O, OnLeft, X, Y, cr, on-above, corner-dec, corner-eq}
+use Rattle.hull_laws.proofs.ChainLaws.{Chain, Ends, Sorted, chain}
+use Rattle.hull_laws.proofs.CornerLaws.{OnLeft, X, Y, cr, on-above, corner-eq}
 
 -- ms is the lowest of P in each column of P, from left to right
 pub record Lows (P ms : List Corner) : Type 0 where
@@ -23,7 +21,7 @@ pub record Lows (P ms : List Corner) : Type 0 where
   pub sub : (m : Corner) → In m ms → In m P
   pub low : (q : Corner) → In q P → (m : Corner) × In m ms × (m .0 ≡ q .0) × (m .1 ≤ℤ q .1)
 
--- a chain over the lowest points is one over all
+-- a chain over the lowest corners is one over all
 pub chain-all : (P ms : List Corner) → Lows P ms → (s : List Corner) → Chain ms s → Chain P s
 chain-all P ms h [] c = tt
 chain-all P ms h (b ∷ []) c = λ q m. go q (h .low q m)

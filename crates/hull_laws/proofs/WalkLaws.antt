@@ -2,21 +2,22 @@
 -- Assumes nothing.
 use mathlib.Core.Path.{_≡_, refl, sym, ap, ap₂, _∙_, subst}
 use mathlib.Core.List.{List, [], _∷_, _++_, map}
-use mathlib.Core.Logic.{_⊎_, inl, inr, ⊎-elim}
-use Prim.Native.Nat.{ℕ, zero, suc, _+_, _*_, _-_, _≤_, _<_}
+use mathlib.Core.Logic.{inl, inr}
+use Prim.Native.Nat.{ℕ, suc, _+_, _-_, _≤_, _<_}
 use native.Mathlib.Omega.{arith}
-use lib.ListN.{length, getD, replicate, length-replicate, getD-replicate}
+use lib.ListN.{length, getD}
 use lib.IntN.{ℤ, pos, negℤ, _+ℤ_, _-ℤ_}
 use Rattle.int_laws.proofs.LinearLaws.{zarith, bal+, bal-, up-neg, dn-neg}
 use Rattle.grid.specs.declared.Corner.{Corner}
-use Rattle.grid.specs.Grid.{corner, cornersFrom}
+use Rattle.grid.specs.Grid.{cornersFrom}
 use Rattle.hull.specs.Hull.{In, HullIs}
 use Rattle.hull_laws.specs.Columns.{trail, westFrom, eastFrom, sinks, eastOf, turned}
 use Rattle.hull_laws.specs.Outline.{chainFrom, spot, spotBack, colAt, upper, outlineOf}
 use Rattle.hull_laws.proofs.CornerLaws.{corner-eq}
-use Rattle.hull_laws.proofs.ChainLaws.{chain}
+use Rattle.hull_laws.proofs.ChainLaws.{chain, Closed}
 use Rattle.hull_laws.proofs.TurnedLaws.{Lows, neg, negs}
-use Rattle.hull_laws.proofs.RoundLaws.{round, hull-ok}
+use Rattle.hull_laws.proofs.RoundLaws.{round}
+use Rattle.hull_laws.proofs.SideLaws.{hull-ok}
 use Rattle.hull_laws.proofs.TrailLaws.{trail-corners, trail-reaches, trail-column, Reaches, west-le, east-ge, spots-east, spots-turned}
 use Rattle.hull_laws.proofs.SinkLaws.{at, upFrom, cols-lows}
 use Rattle.hull_laws.proofs.ScanLaws.{chain-cols}
@@ -128,10 +129,10 @@ module _ (x0 y0 : ℤ) (x y : ℕ) (ds : List ℕ) (h top : ℕ) (a b : List ℕ
       sum : (m n : ℕ) → m ≤ n → (x0 +ℤ pos m) +ℤ pos (n - m) ≡ x0 +ℤ pos n
       sum m n l = omega (zarith, bal+ x0 (pos m), bal+ x0 (pos n), bal+ (x0 +ℤ pos m) (pos (n - m)))
 
-  -- the columns of the walk give its hull
-  pub columns-hull : HullIs (cornersFrom (spot x0 y0 (x, y)) ds) (outlineOf x0 y0 (westFrom x ds) (eastFrom x ds) h (sinks a (map (eastOf (westFrom x ds)) (trail x y ds))) (sinks b (map (turned (eastFrom x ds) h) (trail x y ds))))
+  -- the columns of the walk give its hull, with all corners on or left of each edge
+  pub columns-both : HullIs (cornersFrom (spot x0 y0 (x, y)) ds) (outlineOf x0 y0 (westFrom x ds) (eastFrom x ds) h (sinks a (map (eastOf (westFrom x ds)) (trail x y ds))) (sinks b (map (turned (eastFrom x ds) h) (trail x y ds)))) × Closed (cornersFrom (spot x0 y0 (x, y)) ds) (outlineOf x0 y0 (westFrom x ds) (eastFrom x ds) h (sinks a (map (eastOf (westFrom x ds)) (trail x y ds))) (sinks b (map (turned (eastFrom x ds) h) (trail x y ds))))
   unfolding outlineOf w e vs P
-  columns-hull = subst (HullIs P) joined (hull-ok P (spot x0 y0 (x, y)) here lowers uppers lows turnedLows)
+  columns-both = subst (λ (L : List Corner). HullIs P L × Closed P L) joined (hull-ok P (spot x0 y0 (x, y)) here lowers uppers lows turnedLows)
     where
       lo : List ℕ
       lo = sinks a (map (eastOf w) vs)
@@ -157,3 +158,6 @@ module _ (x0 y0 : ℤ) (x y : ℕ) (ds : List ℕ) (h top : ℕ) (a b : List ℕ
           ap₂ (λ (s t : List Corner). round s (negs t)) (chain-cols (x0 +ℤ pos w) y0 lo 0 (suc (e - w))) (chain-cols (negℤ (x0 +ℤ pos e)) (negℤ (y0 +ℤ pos h)) hi 0 (suc (e - w)))
           ∙ ap (round (map (λ c. spot (x0 +ℤ pos w) y0 (colAt lo c)) (chainFrom lo 0 (suc (e - w))))) (turned-back (x0 +ℤ pos e) (y0 +ℤ pos h) hi (chainFrom hi 0 (suc (e - w))))
           ∙ subst (λ (z : ℤ). round (map (λ c. spot (x0 +ℤ pos w) y0 (colAt lo c)) (chainFrom lo 0 (suc (e - w)))) (map (λ c. spotBack z (y0 +ℤ pos h) (colAt hi c)) (chainFrom hi 0 (suc (e - w)))) ≡ map (λ c. spot (x0 +ℤ pos w) y0 (colAt lo c)) (chainFrom lo 0 (suc (e - w))) ++ map (λ c. spotBack z (y0 +ℤ pos h) (colAt hi c)) (upper h lo hi (e - w))) east-is (round-cols (x0 +ℤ pos w) y0 (e - w) h lo hi)
+
+  pub columns-hull : HullIs (cornersFrom (spot x0 y0 (x, y)) ds) (outlineOf x0 y0 (westFrom x ds) (eastFrom x ds) h (sinks a (map (eastOf (westFrom x ds)) (trail x y ds))) (sinks b (map (turned (eastFrom x ds) h) (trail x y ds))))
+  columns-hull = columns-both .0

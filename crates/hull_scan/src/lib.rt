@@ -43,8 +43,8 @@ fn list_narrow(chain: &[u8], start: Corner, west: usize, east: usize, out: &mut 
     requires { ⌜ Walked (now chain) west east × Near start × (east - west < 256) ⌝ }
     ensures { λ r. ⌜ Hulled start (now (chain .entry)) (now (out .entry)) r (now (out .exit)) ⌝ }
 {
-    let mut lo = [65535u16; 256];
-    let mut hi = [65535u16; 256];
+    let mut lo = [Columns::BLANK; 256];
+    let mut hi = [Columns::BLANK; 256];
     let mut s = [0u16; 256];
     let mut t = [0u16; 256];
     list_in(
@@ -65,8 +65,8 @@ fn list_wider(chain: &[u8], start: Corner, west: usize, east: usize, out: &mut [
     requires { ⌜ Walked (now chain) west east × Near start × (east - west < 2048) ⌝ }
     ensures { λ r. ⌜ Hulled start (now (chain .entry)) (now (out .entry)) r (now (out .exit)) ⌝ }
 {
-    let mut lo = [65535u16; 2048];
-    let mut hi = [65535u16; 2048];
+    let mut lo = [Columns::BLANK; 2048];
+    let mut hi = [Columns::BLANK; 2048];
     let mut s = [0u16; 2048];
     let mut t = [0u16; 2048];
     list_in(
@@ -87,8 +87,8 @@ fn list_widest(chain: &[u8], start: Corner, west: usize, east: usize, out: &mut 
     requires { ⌜ Walked (now chain) west east × Near start ⌝ }
     ensures { λ r. ⌜ Hulled start (now (chain .entry)) (now (out .entry)) r (now (out .exit)) ⌝ }
 {
-    let mut lo = [65535u16; 16385];
-    let mut hi = [65535u16; 16385];
+    let mut lo = [Columns::BLANK; 16385];
+    let mut hi = [Columns::BLANK; 16385];
     let mut s = [0u16; 16385];
     let mut t = [0u16; 16385];
     list_in(

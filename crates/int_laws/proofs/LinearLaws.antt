@@ -2,12 +2,13 @@
 -- z is `up z` less `dn z`, of which one is 0. An order or an equation of ℤ is one of ℕ: a ≤ℤ b is up a + dn b ≤ up b + dn a.
 -- `omega zarith` reads hypotheses and goals a ≤ℤ b, a <ℤ b, a ≡ b whose sides are atoms (or literals); for a sum, a difference or a negation
 -- that occurs list its fact: `omega (zarith, bal+ x y, bal- x y)`.
-use mathlib.Core.Path.{_≡_, refl, sym, ap, _∙_, subst}
+-- Assumes nothing.
+use mathlib.Core.Path.{_≡_, refl, ap, subst}
 use mathlib.Core.Bool.{Bool, true, false, not, cond}
 use mathlib.Core.Logic.{_⊎_, inl, inr}
 use Prim.Native.Nat.{ℕ, zero, suc, _+_, _*_, _-_, _≤_, _<_}
 use native.Mathlib.Omega.{arith}
-use lib.IntN.{ℤ, pos, negsuc, negℤ, subℕ, natAbs, _+ℤ_, _-ℤ_, _*ℤ_, pos-ne-negsuc}
+use lib.IntN.{ℤ, pos, negsuc, negℤ, subℕ, _+ℤ_, _-ℤ_, _*ℤ_}
 use lib.Dec.{T, leb, ltb, leb→le, le→leb, ltb→lt, lt→ltb, nltb→le, nleb→lt, eqb, eqb→eq, eqb-refl, T-not}
 use lib.Signed.{_≤ℤ_, _<ℤ_, leZ, ltZ, mag}
 
@@ -19,7 +20,7 @@ abbrev pub dn : ℤ → ℕ
 dn (pos n) = 0
 dn (negsuc n) = suc n
 
--- ---- the order
+-- the order
 le-nat′ : (a b : ℤ) → T (leZ a b) → up a + dn b ≤ up b + dn a
 le-nat′ (pos a) (pos b) t = omega (arith, leb→le a b t)
 le-nat′ (pos a) (negsuc b) t = absurd t
@@ -83,7 +84,7 @@ nat-eq (negsuc a) (negsuc b) h = ap negsuc (go a b h)
     go : (a b : ℕ) → 0 + suc b ≡ 0 + suc a → a ≡ b
     go a b h = omega arith
 
--- ---- the operations
+-- the operations
 cond-ind : (c : Bool) (x y : ℤ) (Q : ℤ → Type 0) → (T c → Q x) → (T (not c) → Q y) → Q (cond c x y)
 cond-ind true x y Q f g = f tt
 cond-ind false x y Q f g = g tt
@@ -141,7 +142,7 @@ one-zero (negsuc n) = omega arith
 
 pub ruleset zarith = (arith, le-nat, nat-le, lt-nat, nat-lt, eq-nat, nat-eq)
 
--- ---- decisions
+-- decisions
 pub le-or-lt : (a b : ℤ) → (a ≤ℤ b) ⊎ (b <ℤ a)
 le-or-lt a b = go (leb (up a + dn b) (up b + dn a)) (λ t. nat-le a b (leb→le _ _ t)) (λ t. nat-lt b a (omega (arith, nleb→lt (up a + dn b) (up b + dn a) t)))
   where

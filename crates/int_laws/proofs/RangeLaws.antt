@@ -1,7 +1,8 @@
 -- What the needs of signed machine arithmetic ask: bounds on magnitudes. `natAbs` is the absolute value.
-use mathlib.Core.Path.{_≡_, refl, sym, ap, _∙_, subst}
+-- Assumes nothing.
+use mathlib.Core.Path.{_≡_, refl, sym, subst}
 use Prim.Native.Nat.{ℕ, zero, suc, _+_, _*_, _^_, _≤_, _<_}
-use native.Mathlib.Nat.{le-trans, mul-le-mul}
+use native.Mathlib.Nat.{mul-le-mul}
 use native.Mathlib.Omega.{arith}
 use lib.IntN.{ℤ, pos, negsuc, negℤ, natAbs, _+ℤ_, _-ℤ_, _*ℤ_}
 use lib.Signed.{mag, _≤ℤ_, _<ℤ_, leZ, ltZ, leZ-yes, ltZ-yes, ltZ-no}
@@ -9,7 +10,7 @@ use mathlib.Core.Bool.{Bool, true, false, not}
 use lib.Dec.{T}
 use mir.Syntax.{Width, w32}
 use mir.Val.{SFits, hbits}
-use Rattle.int_laws.proofs.LinearLaws.{up, dn, bal+, bal*, bal-, bal-subℕ, up-neg, dn-neg, nat-le, le-nat, zarith}
+use Rattle.int_laws.proofs.LinearLaws.{up, dn, bal+, up-neg, dn-neg, zarith}
 
 pub abs-nat : (z : ℤ) → natAbs z ≡ up z + dn z
 abs-nat (pos n) = omega arith
@@ -64,6 +65,6 @@ lt-false {a} {b} e = ltZ-no (subst (λ (x : Bool). T (not x)) (sym e) tt)
 pub le-true : {a b : ℤ} → leZ a b ≡ true → a ≤ℤ b
 le-true {a} {b} e = leZ-yes (subst (λ (x : Bool). T x) (sym e) tt)
 
--- what K1 allows fits an i32
+-- a coordinate of any walk fits an i32
 pub fits32 : (z : ℤ) → natAbs z ≤ 32768 → SFits w32 z
 fits32 z h = sfits-abs w32 z (omega arith)

@@ -1,15 +1,16 @@
 -- Equations of polynomials over ℤ, by reflection. `E` is an expression in the variables 0, 1, .. , of which `den n ρ e` is the value where
 -- variable i is the i-th of the list ρ and n is how many there are. `norm n e` is the polynomial, as coefficients nested n deep, and
 -- `ring n ρ a b tt : den n ρ a ≡ den n ρ b` where a and b have the same polynomial.
-use mathlib.Core.Path.{_≡_, refl, sym, ap, ap₂, _∙_, subst}
+-- Assumes nothing.
+use mathlib.Core.Path.{_≡_, refl, sym, ap, ap₂, _∙_}
 use mathlib.Core.Bool.{Bool, true, false}
-use mathlib.Core.List.{List, [], _∷_, map}
+use mathlib.Core.List.{List, [], _∷_}
 use Prim.Native.Nat.{ℕ, zero, suc}
-use lib.IntN.{ℤ, pos, negsuc, negℤ, sucℤ, predℤ, _+ℤ_, _-ℤ_, _*ℤ_, +ℤ-assoc, +ℤ-comm, +ℤ-idl, +ℤ-idr, +ℤ-invr, -ℤ-+ℤ-cancel, negℤ-+ℤ, sucℤ-+ℤ, predℤ-+ℤ, sucℤ-*ℤ, predℤ-*ℤ, zero-*ℤ, *ℤ-zero, *ℤ-comm, *ℤ-negsuc}
+use lib.IntN.{ℤ, pos, negsuc, negℤ, _+ℤ_, _-ℤ_, _*ℤ_, +ℤ-comm, +ℤ-idl, +ℤ-idr, +ℤ-invr, -ℤ-+ℤ-cancel, negℤ-+ℤ, sucℤ-+ℤ, predℤ-+ℤ, sucℤ-*ℤ, predℤ-*ℤ, zero-*ℤ, *ℤ-zero, *ℤ-comm}
 use lib.Dec.{T}
-use Rattle.int_laws.proofs.LinearLaws.{nat-eq, eq-nat, bal+, bal*, up-neg, dn-neg, zarith}
+use Rattle.int_laws.proofs.LinearLaws.{bal+, up-neg, dn-neg, zarith}
 
--- ---- the laws that lib.IntN lacks
+-- the laws that lib.IntN lacks
 swap4 : (a b c d : ℤ) → (a +ℤ b) +ℤ (c +ℤ d) ≡ (a +ℤ c) +ℤ (b +ℤ d)
 swap4 a b c d = omega (zarith, bal+ (a +ℤ b) (c +ℤ d), bal+ (a +ℤ c) (b +ℤ d), bal+ a b, bal+ c d, bal+ a c, bal+ b d)
 
@@ -46,7 +47,7 @@ pub *ℤ-assoc : (a b c : ℤ) → (a *ℤ b) *ℤ c ≡ a *ℤ (b *ℤ c)
     minus x = predℤ-*ℤ (pos zero) x ∙ ap (λ y. y -ℤ x) (zero-*ℤ x) ∙ +ℤ-idl (negℤ x)
 *ℤ-assoc (negsuc (suc n)) b c = ap (λ x. x *ℤ c) (predℤ-*ℤ (negsuc n) b) ∙ add-*ℤ (negsuc n *ℤ b) (negℤ b) c ∙ ap₂ _+ℤ_ (*ℤ-assoc (negsuc n) b c) (neg-*ℤ b c) ∙ sym (predℤ-*ℤ (negsuc n) (b *ℤ c))
 
--- ---- expressions
+-- expressions
 infixl 6 _⊕_ _⊖_
 infixl 7 _⊗_
 pub data E : Type 0 where
@@ -78,7 +79,7 @@ den n ρ (a ⊖ b) = den n ρ a -ℤ den n ρ b
 den n ρ (a ⊗ b) = den n ρ a *ℤ den n ρ b
 den n ρ (⊝ a) = negℤ (den n ρ a)
 
--- ---- polynomials in one variable over coefficients that are known through their values
+-- polynomials in one variable over coefficients that are known through their values
 abbrev pub addL : {A : Type 0} → (A → A → A) → List A → List A → List A
 addL f [] q = q
 addL f (a ∷ p) [] = a ∷ p
@@ -137,7 +138,7 @@ module _ {A : Type 0} (ev : A → ℤ) (x : ℤ) where
   allL-ev t h [] w = refl
   allL-ev t h (a ∷ p) w = ap₂ _+ℤ_ (h a (and-l (t a) (allL t p) w)) (ap (λ y. x *ℤ y) (allL-ev t h p (and-r (t a) (allL t p) w)) ∙ *ℤ-zero x)
 
--- ---- in n variables
+-- in n variables
 abbrev pub Poly : ℕ → Type 0
 Poly zero = ℤ
 Poly (suc n) = List (Poly n)

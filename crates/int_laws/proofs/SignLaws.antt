@@ -1,16 +1,17 @@
 -- Inequalities of polynomials over ℤ, by certificate. `Nn n ρ e` says that e is not negative. Hypotheses are brought in by `h≤`, `h<`, `h≡`,
 -- combined by sums `_⊞_`, products `_⊠_` and multiples `_⋆_`, and the goal is what the ring normaliser finds equal to the combination,
 -- up to a constant that is not negative: `by≤ a b c tt`. `by≤÷ m a b hm c tt` proves a ≤ b where m * (b - a) is the combination, m above 0.
-use mathlib.Core.Path.{_≡_, refl, sym, ap, ap₂, _∙_, subst}
-use mathlib.Core.Bool.{Bool, true, false}
+-- Assumes nothing.
+use mathlib.Core.Path.{_≡_, sym, ap, _∙_, subst}
+use mathlib.Core.Bool.{Bool, true}
 use mathlib.Core.List.{List, [], _∷_}
 use Prim.Native.Nat.{ℕ, zero, suc, _*_}
-use lib.IntN.{ℤ, pos, negsuc, negℤ, _+ℤ_, _-ℤ_, _*ℤ_, *ℤ-zero, zero-*ℤ, +ℤ-idr}
+use lib.IntN.{ℤ, pos, negsuc, _+ℤ_, _-ℤ_, _*ℤ_, *ℤ-zero, zero-*ℤ, +ℤ-idr}
 use lib.Dec.{T}
-use lib.Signed.{_≤ℤ_, _<ℤ_, leZ, ltZ, nonNeg}
+use lib.Signed.{_≤ℤ_, _<ℤ_, nonNeg}
 use native.Mathlib.Omega.{arith}
-use Rattle.int_laws.proofs.LinearLaws.{up, dn, zarith, bal+, bal-, bal*, nat-le, le-nat, nat-lt, nat-eq, up-neg, dn-neg}
-use Rattle.int_laws.proofs.RingLaws.{E, v, k, _⊕_, _⊖_, _⊗_, ⊝, den, norm, norm-ev, Poly, evP, evL, zeroP, allL, _&_, hd, tl, zeroP-ev, and-l, and-r}
+use Rattle.int_laws.proofs.LinearLaws.{up, zarith, bal+, bal-, nat-le, up-neg, dn-neg}
+use Rattle.int_laws.proofs.RingLaws.{E, k, _⊕_, _⊖_, _⊗_, den, norm, norm-ev, Poly, evP, zeroP, allL, hd, tl, zeroP-ev, and-l, and-r, _&_}
 
 pub nn-add : (x y : ℤ) → pos 0 ≤ℤ x → pos 0 ≤ℤ y → pos 0 ≤ℤ (x +ℤ y)
 nn-add x y h g = omega (zarith, bal+ x y)

@@ -1,55 +1,42 @@
+-- `hull_chains::drops` meets its contract.
+-- Assumes nothing.
 use borrow.Author.Needs.{needs}
 use native.Mathlib.Omega.{arith}
-use mathlib.Core.Path.{_≡_, ap, ap₂, _∙_}
+use mathlib.Core.Path.{ap, ap₂, _∙_}
 use mathlib.Core.Bool.{not}
-use Prim.Native.Nat.{ℕ, _+_}
-use lib.ListN.{getD}
+use Prim.Native.Nat.{_+_}
 use Rattle.hull_laws.specs.Outline.{turnsAt}
 use Rattle.hull_laws.proofs.StackLaws.{drops-short, drops-long}
 use Rattle.hull_chains.proofs.drops.Statement.{statement}
 use Rattle.hull_chains.proofs.drops.Tie as tie
-use Rattle.hull_chains.proofs.drops.Reads as reads
-use Rattle.hull_chains.proofs.drops.Lts as lts
-use Rattle.hull_chains.proofs.turns.Reads as turns-reads
-use Rattle.hull_chains.proofs.wide.Reads as wide-reads
 
--- src/chains.rt:32:8
 sub-if1 : tie.Need-sub-if1
 sub-if1 c = search needs
 
--- src/chains.rt:33:9
 returns : tie.Need-returns
 returns c = let s = c .before .before .before in drops-short (s .args .ys .now) (s .args .p) (s .args .s .now) (s .args .q) (omega arith)
 
--- src/chains.rt:35:18
 mul-wide : tie.Need-mul-wide
 mul-wide c = search needs
 
--- src/chains.rt:35:18
 shared-slice-read-wide : tie.Need-shared-slice-read-wide
 shared-slice-read-wide c = search needs
 
--- src/chains.rt:35:9
 wide-requires : tie.Need-wide-requires
 wide-requires c κs = search needs
 
--- src/chains.rt:36:20
 add-wide : tie.Need-add-wide
 add-wide c = search needs
 
--- src/chains.rt:36:18
 mul-wide-2 : tie.Need-mul-wide-2
 mul-wide-2 c = search needs
 
--- src/chains.rt:36:18
 shared-slice-read-wide-2 : tie.Need-shared-slice-read-wide-2
 shared-slice-read-wide-2 c = search needs
 
--- src/chains.rt:36:9
 wide-requires-2 : tie.Need-wide-requires-2
 wide-requires-2 c κs = search needs
 
--- src/chains.rt:37:6
 turns-requires : tie.Need-turns-requires
 turns-requires c κs =
     let s = c .before .before .before .before .before .before .before in
@@ -58,7 +45,6 @@ turns-requires c κs =
     let a = s .pre .columns (q + 1) (omega arith) (omega arith) in
     (omega (arith, b, c .before .before .wide .ensures), omega (arith, a, c .wide2 .ensures), omega (arith, b, c .before .before .wide .ensures), omega (arith, a, c .wide2 .ensures), s .pre .short)
 
--- src/chains.rt:28:1
 returns-2 : tie.Need-returns-2
 returns-2 c =
     let s = c .before .before .before .before .before .before .before .before in

@@ -1,3 +1,5 @@
+-- `hull_chains::push` meets its contract.
+-- Assumes nothing.
 use borrow.Author.Needs.{needs}
 use native.Mathlib.Omega.{arith}
 use mathlib.Core.Path.{_≡_, refl, sym, _∙_}
@@ -7,9 +9,6 @@ use Rattle.hull_laws.specs.Outline.{cutAt}
 use Rattle.hull_laws.proofs.StackLaws.{drops-room, drops-next, push-front}
 use Rattle.hull_chains.proofs.push.Statement.{statement}
 use Rattle.hull_chains.proofs.push.Tie as tie
-use Rattle.hull_chains.proofs.push.Reads as reads
-use Rattle.hull_chains.proofs.push.Lts as lts
-use Rattle.hull_chains.proofs.drops.Reads as drops-reads
 
 abbrev Inv-loop : tie.InvT-loop
 Inv-loop ys s q p f₀ f = (q ≤ f) × (f ≤ length s) × (cutAt ys p (drop f s) ≡ cutAt ys p (drop q s))
@@ -17,28 +16,23 @@ Inv-loop ys s q p f₀ f = (q ≤ f) × (f ≤ length s) × (cutAt ys p (drop f 
 abbrev μ-loop : tie.MeasureT-loop
 μ-loop ys s q p f₀ f = length s - f
 
--- src/chains.rt:46:5
 loop-holds : tie.Need-loop-holds Inv-loop μ-loop
 loop-holds c = (omega arith, c .before .before .pre .0 .begins, refl)
 
--- src/chains.rt:46:11
 drops-requires : tie.Need-drops-requires Inv-loop μ-loop
 drops-requires c κs =
     let s = c .before .before .before .before in
     let i = c .before .loop .inv in
     record { begins = i .1; columns = λ j h g. s .pre .0 .columns j (omega (arith, h, i .0)) g; short = s .pre .0 .short }
 
--- src/chains.rt:47:9
 add-f : tie.Need-add-f Inv-loop μ-loop
 add-f c = search needs
 
--- src/chains.rt:46:5
 loop-less : tie.Need-loop-less Inv-loop μ-loop
 loop-less c =
     let s = c .before .before .before .before .before .before in
     omega (arith, drops-room (s .args .ys .now) (s .args .p) (s .args .s .now) (c .before .before .before .loop .f) (sym (c .before .drops .ensures) ∙ c .if1 .taken))
 
--- src/chains.rt:46:5
 loop-again : tie.Need-loop-again Inv-loop μ-loop
 loop-again c =
     let s = c .before .before .before .before .before .before in
@@ -46,27 +40,21 @@ loop-again c =
     let t = sym (c .before .drops .ensures) ∙ c .if1 .taken in
     (omega arith, omega (arith, drops-room (s .args .ys .now) (s .args .p) (s .args .s .now) f t), drops-next (s .args .ys .now) (s .args .p) (s .args .s .now) f t ∙ c .before .before .before .loop .inv .2)
 
--- src/chains.rt:49:5
 sub-f : tie.Need-sub-f Inv-loop μ-loop
 sub-f c = search needs
 
--- src/chains.rt:50:12
 cast-s : tie.Need-cast-s Inv-loop μ-loop
 cast-s c = search needs
 
--- src/chains.rt:50:5
 mul-s : tie.Need-mul-s Inv-loop μ-loop
 mul-s c = search needs
 
--- src/chains.rt:50:5
 slice-write-s : tie.Need-slice-write-s Inv-loop μ-loop
 slice-write-s c = search needs
 
--- src/chains.rt:41:1
 same-length : tie.Need-same-length Inv-loop μ-loop
 same-length c = search needs
 
--- src/chains.rt:41:1
 returns : tie.Need-returns Inv-loop μ-loop
 returns c =
     let s = c .before .before .before .before .before .before in

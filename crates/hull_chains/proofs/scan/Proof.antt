@@ -1,15 +1,14 @@
+-- `hull_chains::scan` meets its contract.
+-- Assumes nothing.
 use borrow.Author.Needs.{needs}
 use native.Mathlib.Omega.{arith}
-use mathlib.Core.Path.{_≡_, refl, sym, _∙_}
+use mathlib.Core.Path.{_≡_, refl, _∙_}
 use Prim.Native.Nat.{_+_, _-_, _≤_}
 use lib.ListN.{length, drop}
 use Rattle.hull_laws.specs.Outline.{chainFrom}
 use Rattle.hull_laws.proofs.StackLaws.{stack-columns, scan-none, scan-next, scan-done}
 use Rattle.hull_chains.proofs.scan.Statement.{statement}
 use Rattle.hull_chains.proofs.scan.Tie as tie
-use Rattle.hull_chains.proofs.scan.Reads as reads
-use Rattle.hull_chains.proofs.scan.Lts as lts
-use Rattle.hull_chains.proofs.push.Reads as push-reads
 
 abbrev Inv-loop : tie.InvT-loop
 Inv-loop ys n s₀ q₀ i₀ s q i = (i ≤ n) × (q ≤ length s) × (length s ≡ length s₀) × (length s + i ≤ q + n) × (drop q s ≡ chainFrom ys i (n - i))
@@ -17,28 +16,23 @@ Inv-loop ys n s₀ q₀ i₀ s q i = (i ≤ n) × (q ≤ length s) × (length s 
 abbrev μ-loop : tie.MeasureT-loop
 μ-loop ys n s₀ q₀ i₀ s q i = i
 
--- src/chains.rt:68:5
 loop-holds : tie.Need-loop-holds Inv-loop μ-loop
 loop-holds c =
     let s = c .before .before in
     (omega arith, omega arith, refl, omega arith, scan-none (s .args .ys .now) (s .args .s .now) (s .args .n))
 
--- src/chains.rt:69:9
 sub-i : tie.Need-sub-i Inv-loop μ-loop
 sub-i c = search needs
 
--- src/chains.rt:70:9
 push-requires : tie.Need-push-requires Inv-loop μ-loop
 push-requires c κs =
     let s = c .before .before .before .before .before in
     let l = c .before .before .loop in
     (record { begins = l .inv .1; columns = stack-columns (s .args .ys .now) (l .s) (l .q) (l .i) (s .args .n) (omega arith) (l .inv .0) (s .pre .0) (l .inv .4); short = s .pre .2 }, omega arith, omega arith)
 
--- src/chains.rt:68:5
 loop-less : tie.Need-loop-less Inv-loop μ-loop
 loop-less c = search needs
 
--- src/chains.rt:68:5
 loop-again : tie.Need-loop-again Inv-loop μ-loop
 loop-again c =
     let s = c .before .before .before .before .before .before .before .before in
@@ -47,11 +41,9 @@ loop-again c =
     let k = c .before .before .push .kept .1 .0 in
     (omega arith, omega (arith, e .2, k), k ∙ l .inv .2, omega (arith, e .1, k), scan-next (s .args .ys .now) (l .s) (l .q) (l .i) (s .args .n) (drop (c .before .before .push .result) (c .before .before .push .last .1 .0)) (omega arith) (l .inv .0) (l .inv .4) (e .0))
 
--- src/chains.rt:62:1
 same-length : tie.Need-same-length Inv-loop μ-loop
 same-length c = search needs
 
--- src/chains.rt:62:1
 returns : tie.Need-returns Inv-loop μ-loop
 returns c =
     let s = c .before .before .before .before in

@@ -1,17 +1,12 @@
+-- `hull_columns::fill` meets its contract.
+-- Assumes nothing.
 use borrow.Author.Needs.{needs}
-use native.Mathlib.Omega.{arith}
-use mathlib.Core.Path.{_≡_, refl, sym, ap, ap₂, _∙_}
-use Prim.Native.Nat.{ℕ, _-_}
-use lib.ListN.{length, getD}
+use Prim.Native.Nat.{_-_}
+use lib.ListN.{length}
 use Rattle.hull_laws.proofs.SurveyLaws.{falls}
 use Rattle.hull_laws.proofs.FillLaws.{Filling, filling-start, filling-west, filling-east, filling-top, filling-in-lo, filling-in-hi, filling-column, filling-row, filling-step, filling-low, filling-high}
 use Rattle.hull_columns.proofs.fill.Statement.{statement}
 use Rattle.hull_columns.proofs.fill.Tie as tie
-use Rattle.hull_columns.proofs.fill.Reads as reads
-use Rattle.hull_columns.proofs.fill.Lts as lts
-use Rattle.hull_columns.proofs.column.Reads as column-reads
-use Rattle.hull_columns.proofs.height.Reads as height-reads
-use Rattle.hull_columns.proofs.keep.Reads as keep-reads
 
 abbrev Inv-loop : tie.InvT-loop
 Inv-loop chain west east lo₀ hi₀ x₀ y₀ i₀ lo hi x y i = Filling chain west east lo₀ hi₀ lo hi x y i
@@ -19,83 +14,63 @@ Inv-loop chain west east lo₀ hi₀ x₀ y₀ i₀ lo hi x y i = Filling chain 
 abbrev μ-loop : tie.MeasureT-loop
 μ-loop chain west east lo₀ hi₀ x₀ y₀ i₀ lo hi x y i = length chain - i
 
--- src/columns.rt:118:5
 loop-holds : tie.Need-loop-holds Inv-loop μ-loop
 loop-holds c = let s = c .before .before .before in filling-start (s .args .chain .now) (s .args .west) (s .args .east) (s .args .lo .now) (s .args .hi .now) (s .pre .0 .short) (s .pre .0 .west) (s .pre .0 .east)
 
--- src/columns.rt:119:18
 sub-keep : tie.Need-sub-keep Inv-loop μ-loop
 sub-keep c = filling-west (c .before .before .loop .inv)
 
--- src/columns.rt:119:9
 keep-requires : tie.Need-keep-requires Inv-loop μ-loop
 keep-requires c κs = filling-in-lo (c .before .before .loop .inv) (c .before .before .before .before .before .before .pre .1)
 
--- src/columns.rt:120:18
 sub-keep-2 : tie.Need-sub-keep-2 Inv-loop μ-loop
 sub-keep-2 c = filling-east (c .before .before .before .before .before .before .loop .inv)
 
--- src/columns.rt:120:28
 sub-keep-3 : tie.Need-sub-keep-3 Inv-loop μ-loop
 sub-keep-3 c = filling-top (c .before .before .before .before .before .before .loop .inv)
 
--- src/columns.rt:120:9
 keep-requires-2 : tie.Need-keep-requires-2 Inv-loop μ-loop
 keep-requires-2 c κs = filling-in-hi (c .before .before .before .before .before .before .loop .inv) (c .before .before .before .before .before .before .before .before .before .before .pre .2)
 
--- src/columns.rt:121:17
 shared-slice-read-d : tie.Need-shared-slice-read-d Inv-loop μ-loop
 shared-slice-read-d c = c .before .before .before .before .before .before .before .before .before .loop-test .taken
 
--- src/columns.rt:122:9
 column-requires : tie.Need-column-requires Inv-loop μ-loop
 column-requires c κs = let t = filling-column (c .before .before .before .before .before .before .before .before .before .before .loop .inv) (c .before .before .before .before .before .before .before .before .before .loop-test .taken) in (t .0, t .1, c .before .before .before .before .before .before .before .before .before .before .before .before .before .before .pre .0 .digits (c .before .before .before .before .before .before .before .before .before .before .loop .i))
 
--- src/columns.rt:123:9
 height-requires : tie.Need-height-requires Inv-loop μ-loop
 height-requires c κs = let t = filling-row (c .before .before .before .before .before .before .before .before .before .before .before .loop .inv) (c .before .before .before .before .before .before .before .before .before .before .loop-test .taken) in (t .0, t .1, c .before .before .before .before .before .before .before .before .before .before .before .before .before .before .before .pre .0 .digits (c .before .before .before .before .before .before .before .before .before .before .before .loop .i))
 
--- src/columns.rt:124:9
 add-i : tie.Need-add-i Inv-loop μ-loop
 add-i c = search needs
 
--- src/columns.rt:118:5
 loop-less : tie.Need-loop-less Inv-loop μ-loop
 loop-less c = falls (length (c .before .before .before .before .before .before .before .before .before .before .before .before .before .before .before .before .args .chain .now)) (c .before .before .before .before .before .before .before .before .before .before .before .before .loop .i) (c .before .before .before .before .before .before .before .before .before .before .before .loop-test .taken)
 
--- src/columns.rt:118:5
 loop-again : tie.Need-loop-again Inv-loop μ-loop
 loop-again c = filling-step (c .before .before .before .before .before .before .before .before .before .before .before .before .loop .inv) (c .before .column .result) (c .height .result) (c .before .before .before .before .before .before .before .before .before .keep .last .0) (c .before .before .before .before .before .keep2 .last .0) (c .before .before .before .before .before .before .before .before .before .before .before .loop-test .taken) (c .before .column .ensures) (c .height .ensures) (c .before .before .before .before .before .before .before .before .before .keep .ensures) (c .before .before .before .before .before .keep2 .ensures)
 
--- src/columns.rt:126:14
 sub-keep-4 : tie.Need-sub-keep-4 Inv-loop μ-loop
 sub-keep-4 c = filling-west (c .before .before .loop .inv)
 
--- src/columns.rt:126:5
 keep-requires-3 : tie.Need-keep-requires-3 Inv-loop μ-loop
 keep-requires-3 c κs = filling-in-lo (c .before .before .loop .inv) (c .before .before .before .before .before .before .pre .1)
 
--- src/columns.rt:127:14
 sub-keep-5 : tie.Need-sub-keep-5 Inv-loop μ-loop
 sub-keep-5 c = filling-east (c .before .before .before .before .before .before .loop .inv)
 
--- src/columns.rt:127:24
 sub-keep-6 : tie.Need-sub-keep-6 Inv-loop μ-loop
 sub-keep-6 c = filling-top (c .before .before .before .before .before .before .loop .inv)
 
--- src/columns.rt:127:5
 keep-requires-4 : tie.Need-keep-requires-4 Inv-loop μ-loop
 keep-requires-4 c κs = filling-in-hi (c .before .before .before .before .before .before .loop .inv) (c .before .before .before .before .before .before .before .before .before .before .pre .2)
 
--- src/columns.rt:111:1
 same-length : tie.Need-same-length Inv-loop μ-loop
 same-length c = search needs
 
--- src/columns.rt:111:1
 same-length-2 : tie.Need-same-length-2 Inv-loop μ-loop
 same-length-2 c = search needs
 
--- src/columns.rt:111:1
 returns : tie.Need-returns Inv-loop μ-loop
 returns c = (filling-low (c .before .before .before .before .before .before .before .before .before .loop .inv) (c .before .before .before .before .before .before .keep3 .last .0) (c .before .before .before .before .before .before .before .before .loop-test .left) (c .before .before .before .before .before .before .keep3 .ensures), filling-high (c .before .before .before .before .before .before .before .before .before .loop .inv) (c .before .before .keep4 .last .0) (c .before .before .before .before .before .before .before .before .loop-test .left) (c .before .before .keep4 .ensures))
 

@@ -1,38 +1,37 @@
+-- `hull_columns::keep` meets its contract.
+-- Assumes nothing.
 use borrow.Author.Needs.{needs}
-use Rattle.hull_laws.proofs.StackLaws.{sink-lower, sink-same}
+use mathlib.Core.Path.{ap}
+use lib.ListN.{set}
+use Rattle.hull_laws.specs.Columns.{sink}
 use Rattle.hull_columns.proofs.keep.Statement.{statement}
 use Rattle.hull_columns.proofs.keep.Tie as tie
-use Rattle.hull_columns.proofs.keep.Reads as reads
-use Rattle.hull_columns.proofs.keep.Lts as lts
 
--- src/columns.rt:105:12
-mul-if1 : tie.Need-mul-if1
-mul-if1 c = search needs
+mul-lower : tie.Need-mul-lower
+mul-lower c = search needs
 
--- src/columns.rt:105:12
-slice-read-if1 : tie.Need-slice-read-if1
-slice-read-if1 c = search needs
+slice-read-lower : tie.Need-slice-read-lower
+slice-read-lower c = search needs
 
--- src/columns.rt:106:9
+lower-requires : tie.Need-lower-requires
+lower-requires c κs = search needs
+
 mul-ys : tie.Need-mul-ys
 mul-ys c = search needs
 
--- src/columns.rt:106:9
 slice-write-ys : tie.Need-slice-write-ys
 slice-write-ys c = search needs
 
--- src/columns.rt:101:1
 same-length : tie.Need-same-length
 same-length c = search needs
 
--- src/columns.rt:101:1
 returns : tie.Need-returns
-returns c = sink-lower (c .before .before .args .ys .now) (c .before .before .args .c) (c .before .before .args .y) (c .if1 .taken)
-
--- src/columns.rt:101:1
-returns-2 : tie.Need-returns-2
-returns-2 c = sink-same (c .before .before .args .ys .now) (c .before .before .args .c) (c .before .before .args .y) (c .if1 .left)
+unfolding sink
+returns c =
+    let s = c .before .before .before in
+    ap (set (s .args .ys .now) (s .args .c)) (c .lower .ensures)
 
 pub keep-spec : {M : Type 1} → statement M
 keep-spec =
-    tie.close (tie.spec mul-if1 slice-read-if1 mul-ys slice-write-ys same-length returns returns-2)
+    tie.close
+    (tie.spec mul-lower slice-read-lower lower-requires mul-ys slice-write-ys same-length returns)

@@ -1,22 +1,17 @@
+-- `hull_columns::survey` meets its contract.
+-- Assumes nothing.
 use borrow.Author.Needs.{needs}
 use native.Mathlib.Omega.{arith}
-use mathlib.Core.Path.{_≡_, refl, sym, ap, ap₂, _∙_}
-use mathlib.Core.List.{List}
-use Prim.Native.Nat.{ℕ, _-_}
+use mathlib.Core.Path.{sym, ap, ap₂, _∙_}
+use Prim.Native.Nat.{_-_}
 use lib.ListN.{length, getD}
 use Rattle.answer.specs.declared.Judged.{Judged}
-use Rattle.hull.specs.Call.{faultFrom}
 use Rattle.hull_laws.specs.Columns.{westFrom, eastFrom}
 use Rattle.hull_laws.proofs.SurveyLaws.{Surveyed, falls, fewer, surveyed-start, surveyed-room, surveyed-step, surveyed-bad, surveyed-long, surveyed-good, surveyed-west, surveyed-east}
 use Rattle.hull_columns.specs.Extent.{extentBy}
 use Rattle.hull_columns.specs.declared.Extent.{Extent}
 use Rattle.hull_columns.proofs.survey.Statement.{statement}
 use Rattle.hull_columns.proofs.survey.Tie as tie
-use Rattle.hull_columns.proofs.survey.Reads as reads
-use Rattle.hull_columns.proofs.survey.Lts as lts
-use Rattle.hull_columns.proofs.column.Reads as column-reads
-use Rattle.hull_columns.proofs.greater.Reads as greater-reads
-use Rattle.hull_columns.proofs.lesser.Reads as lesser-reads
 
 abbrev Inv-loop : tie.InvT-loop
 Inv-loop chain x₀ west₀ east₀ i₀ x west east i = Surveyed chain x west east i
@@ -24,59 +19,48 @@ Inv-loop chain x₀ west₀ east₀ i₀ x west east i = Surveyed chain x west e
 abbrev μ-loop : tie.MeasureT-loop
 μ-loop chain x₀ west₀ east₀ i₀ x west east i = length chain - i
 
--- src/columns.rt:84:5
 loop-holds : tie.Need-loop-holds Inv-loop μ-loop
 loop-holds c = surveyed-start (c .before .args .chain .now)
 
--- src/columns.rt:85:17
 shared-slice-read-d : tie.Need-shared-slice-read-d Inv-loop μ-loop
 shared-slice-read-d c = search needs
 
--- src/columns.rt:87:13
 returns : tie.Need-returns Inv-loop μ-loop
 returns c =
     let s = c .before .before .before .before .before in
     let l = c .before .before .before .loop in
     ap (λ (j : Judged). extentBy j (westFrom 16384 (s .args .chain .now)) (eastFrom 16384 (s .args .chain .now))) (sym (surveyed-bad (s .args .chain .now) (l .x) (l .west) (l .east) (l .i) (l .inv) (omega arith) (c .if1 .taken)))
 
--- src/columns.rt:90:13
 returns-2 : tie.Need-returns-2 Inv-loop μ-loop
 returns-2 c =
     let s = c .before .before .before .before .before .before in
     let l = c .before .before .before .before .loop in
     ap (λ (j : Judged). extentBy j (westFrom 16384 (s .args .chain .now)) (eastFrom 16384 (s .args .chain .now))) (sym (surveyed-long (s .args .chain .now) (l .x) (l .west) (l .east) (l .i) (l .inv) (omega arith) (c .before .if1 .left) (c .if2 .taken)))
 
--- src/columns.rt:92:9
 column-requires : tie.Need-column-requires Inv-loop μ-loop
 column-requires c κs =
     let l = c .before .before .before .before .loop in
     let t = surveyed-room (c .before .before .before .before .before .before .args .chain .now) (l .x) (l .west) (l .east) (l .i) (l .inv) (c .if2 .left) in
     (t .0, t .1, fewer (getD (c .before .before .before .before .before .before .args .chain .now) (l .i) 0) (c .before .if1 .left))
 
--- src/columns.rt:93:9
 lesser-requires : tie.Need-lesser-requires Inv-loop μ-loop
 lesser-requires c κs = search needs
 
--- src/columns.rt:94:9
 greater-requires : tie.Need-greater-requires Inv-loop μ-loop
 greater-requires c κs = search needs
 
--- src/columns.rt:95:9
 add-i : tie.Need-add-i Inv-loop μ-loop
 add-i c = search needs
 
--- src/columns.rt:84:5
 loop-less : tie.Need-loop-less Inv-loop μ-loop
 loop-less c = falls (length (c .before .before .before .before .before .before .before .before .before .args .chain .now)) (c .before .before .before .before .before .before .before .loop .i) (c .before .before .before .before .before .before .loop-test .taken)
 
--- src/columns.rt:84:5
 loop-again : tie.Need-loop-again Inv-loop μ-loop
 loop-again c =
     let s = c .before .before .before .before .before .before .before .before .before in
     let l = c .before .before .before .before .before .before .before .loop in
     surveyed-step (s .args .chain .now) (l .x) (l .west) (l .east) (l .i) (l .inv) (c .before .before .column .result) (c .before .lesser .result) (c .greater .result) (c .before .before .before .before .before .before .loop-test .taken) (c .before .before .before .before .if1 .left) (c .before .before .before .if2 .left) (c .before .before .column .ensures) (c .before .lesser .ensures) (c .greater .ensures)
 
--- src/columns.rt:77:1
 returns-3 : tie.Need-returns-3 Inv-loop μ-loop
 returns-3 c =
     let s = c .before .before .before in

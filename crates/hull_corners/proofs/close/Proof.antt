@@ -1,30 +1,28 @@
+-- `hull_corners::close` meets its contract.
+-- Assumes nothing.
 use borrow.Author.Needs.{needs}
 use Prim.Native.Nat.{_+_}
 use Rattle.hull_laws.proofs.JoinLaws.{one-less, no-less, none-less}
 use Rattle.hull_corners.proofs.close.Statement.{statement}
 use Rattle.hull_corners.proofs.close.Tie as tie
-use Rattle.hull_corners.proofs.close.Reads as reads
-use Rattle.hull_corners.proofs.close.Lts as lts
 
--- src/corners.rt:68:12
 add-if2 : tie.Need-add-if2
 add-if2 c = search needs
 
--- src/corners.rt:69:20
+cast-if2 : tie.Need-cast-if2
+cast-if2 c = search needs
+
 sub-result : tie.Need-sub-result
 sub-result c = search needs
 
--- src/corners.rt:69:13
 returns : tie.Need-returns
 returns c = let s = c .before .before in one-less (s .args .f) (s .args .n) (s .args .lo + s .args .hi) 32768 (c .before .if1 .taken) (c .if2 .taken)
 
--- src/corners.rt:64:1
 returns-2 : tie.Need-returns-2
 returns-2 c = let s = c .before .before in no-less (s .args .f) (s .args .n) (s .args .lo + s .args .hi) 32768 (c .before .if1 .taken) (c .if2 .left)
 
--- src/corners.rt:64:1
 returns-3 : tie.Need-returns-3
 returns-3 c = let s = c .before in none-less (s .args .f) (s .args .n) (s .args .lo + s .args .hi) 32768 (c .if1 .left)
 
 pub close-spec : {M : Type 1} → statement M
-close-spec = tie.close (tie.spec add-if2 sub-result returns returns-2 returns-3)
+close-spec = tie.close (tie.spec add-if2 cast-if2 sub-result returns returns-2 returns-3)

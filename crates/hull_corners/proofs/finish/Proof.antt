@@ -1,79 +1,59 @@
+-- `hull_corners::finish` meets its contract.
+-- Assumes nothing.
 use borrow.Author.Needs.{needs}
 use lib.ListN.{length}
 use Rattle.hull_corners.proofs.PartsLaws.{close-ge, chained-parts, listed-short, listed-enough}
 use Rattle.hull_corners.proofs.finish.Statement.{statement}
 use Rattle.hull_corners.proofs.finish.Tie as tie
-use Rattle.hull_corners.proofs.finish.Reads as reads
-use Rattle.hull_corners.proofs.finish.Lts as lts
-use Rattle.hull_corners.proofs.close.Reads as close-reads
-use Rattle.hull_corners.proofs.seam.Reads as seam-reads
-use Rattle.hull_corners.proofs.write.Reads as write-reads
 
--- src/corners.rt:133:13
 sub-k : tie.Need-sub-k
 sub-k c = search needs
 
--- src/corners.rt:134:18
 mul-seam : tie.Need-mul-seam
 mul-seam c = search needs
 
--- src/corners.rt:134:18
 shared-slice-read-seam : tie.Need-shared-slice-read-seam
 shared-slice-read-seam c = search needs
 
--- src/corners.rt:134:25
 shared-slice-read-seam-2 : tie.Need-shared-slice-read-seam-2
 shared-slice-read-seam-2 c = search needs
 
--- src/corners.rt:134:9
 seam-requires : tie.Need-seam-requires
 seam-requires c κs = search needs
 
--- src/corners.rt:135:19
 shared-slice-read-close : tie.Need-shared-slice-read-close
 shared-slice-read-close c = search needs
 
--- src/corners.rt:135:26
 mul-close : tie.Need-mul-close
 mul-close c = search needs
 
--- src/corners.rt:135:26
 shared-slice-read-close-2 : tie.Need-shared-slice-read-close-2
 shared-slice-read-close-2 c = search needs
 
--- src/corners.rt:135:9
 close-requires : tie.Need-close-requires
 close-requires c κs = search needs
 
--- src/corners.rt:136:18
 sub-count : tie.Need-sub-count
 sub-count c = search needs
 
--- src/corners.rt:136:34
 sub-count-2 : tie.Need-sub-count-2
 sub-count-2 c = close-ge (c .before .before .before .before .before .before .before .before .before .before .pre .1) (c .before .before .before .seam .result) (c .close .result) (c .before .before .before .seam .ensures) (c .close .ensures)
 
--- src/corners.rt:136:17
 add-count : tie.Need-add-count
 add-count c = search needs
 
--- src/corners.rt:137:20
 mul-if1 : tie.Need-mul-if1
 mul-if1 c = search needs
 
--- src/corners.rt:138:9
 returns : tie.Need-returns
 returns c = listed-short (c .before .before .before .before .before .before .before .before .before .before .before .pre .1) (c .before .before .before .before .seam .result) (c .before .close .result) (c .before .before .before .before .seam .ensures) (c .before .close .ensures) (c .before .before .before .before .before .before .before .before .before .before .before .args .start) (c .before .before .before .before .before .before .before .before .before .before .before .args .out .now) (c .if1 .taken)
 
--- src/corners.rt:140:5
 write-requires : tie.Need-write-requires
 write-requires c κs = (c .before .before .before .before .before .before .before .before .before .before .before .before .pre .0, chained-parts (c .before .before .before .before .before .before .before .before .before .before .before .before .pre .1) (c .before .before .before .before .before .seam .result) (c .before .before .close .result) (c .before .before .before .before .before .seam .ensures) (c .before .before .close .ensures) (length (c .before .before .before .before .before .before .before .before .before .before .before .before .args .out .now)) (c .before .if1 .left))
 
--- src/corners.rt:118:1
 same-length : tie.Need-same-length
 same-length c = search needs
 
--- src/corners.rt:118:1
 returns-2 : tie.Need-returns-2
 returns-2 c = listed-enough (c .before .before .before .before .before .before .before .before .before .before .before .before .before .before .pre .1) (c .before .before .before .before .before .before .before .seam .result) (c .before .before .before .before .close .result) (c .before .before .before .before .before .before .before .seam .ensures) (c .before .before .before .before .close .ensures) (c .before .before .before .before .before .before .before .before .before .before .before .before .before .before .args .start) (c .before .before .before .before .before .before .before .before .before .before .before .before .before .before .args .out .now) (c .before .write .last .1 .1 .1 .1 .1 .1 .1 .1 .1 .1 .0) (c .before .before .before .if1 .left) (c .before .write .ensures)
 

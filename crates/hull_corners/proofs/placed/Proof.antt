@@ -1,7 +1,9 @@
+-- `hull_corners::placed` meets its contract.
+-- Assumes nothing.
 use borrow.Author.Needs.{needs}
 use borrow.Author.Needs.{sfits-of}
-use mathlib.Core.Path.{_≡_, _∙_}
-use lib.IntN.{ℤ, pos, _-ℤ_}
+use mathlib.Core.Path.{_∙_}
+use lib.IntN.{pos, _-ℤ_}
 use mir.Syntax.{w32}
 use mir.Val.{toZ, ofZ}
 use mir.Facts.{toZ-ofZ}
@@ -10,19 +12,13 @@ use Rattle.hull_laws.specs.Outline.{spot}
 use Rattle.hull_laws.proofs.CornerLaws.{corner-eq}
 use Rattle.hull_corners.proofs.placed.Statement.{statement}
 use Rattle.hull_corners.proofs.placed.Tie as tie
-use Rattle.hull_corners.proofs.placed.Reads as reads
-use Rattle.hull_corners.proofs.placed.Lts as lts
-use Rattle.hull_corners.proofs.shifted.Reads as shifted-reads
 
--- src/corners.rt:96:9
 shifted-requires : tie.Need-shifted-requires
 shifted-requires c κs = search needs
 
--- src/corners.rt:97:9
 shifted-requires-2 : tie.Need-shifted-requires-2
 shifted-requires-2 c κs = search needs
 
--- src/corners.rt:92:1
 returns : tie.Need-returns
 returns c =
     let s = c .before .before .before .before in

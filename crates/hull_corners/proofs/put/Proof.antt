@@ -1,9 +1,11 @@
+-- `hull_corners::put` meets its contract.
+-- Assumes nothing.
 use borrow.Author.Needs.{needs}
 use native.Mathlib.Omega.{arith}
-use mathlib.Core.Path.{_≡_, refl, sym, ap, _∙_}
+use mathlib.Core.Path.{_≡_, refl, _∙_}
 use mathlib.Core.List.{List, map}
 use Prim.Native.Nat.{ℕ, _+_, _*_, _-_, _≤_}
-use lib.ListN.{length, getD}
+use lib.ListN.{length}
 use lib.IntN.{ℤ}
 use lib.Seq.{sets, slice}
 use mir.Syntax.{w32}
@@ -15,9 +17,6 @@ use Rattle.hull_laws.specs.Outline.{spotBy, colAt}
 use Rattle.hull_laws.proofs.JoinLaws.{put-turn, put-end}
 use Rattle.hull_corners.proofs.put.Statement.{statement}
 use Rattle.hull_corners.proofs.put.Tie as tie
-use Rattle.hull_corners.proofs.put.Reads as reads
-use Rattle.hull_corners.proofs.put.Lts as lts
-use Rattle.hull_corners.proofs.put_corner.Reads as put-corner-reads
 
 -- the corner of a column
 abbrev corner : Corner → ℤ → List ℕ → ℕ → Corner
@@ -31,62 +30,49 @@ Inv-loop out₀ at base way ys s from to i₀ o₀ out i o =
 abbrev μ-loop : tie.MeasureT-loop
 μ-loop out₀ at base way ys s from to i₀ o₀ out i o = to - i
 
--- src/corners.rt:52:5
 loop-holds : tie.Need-loop-holds Inv-loop μ-loop
 loop-holds c = (omega arith, c .before .before .pre .ordered, omega arith, refl, refl)
 
--- src/corners.rt:53:17
 mul-c : tie.Need-mul-c Inv-loop μ-loop
 mul-c c = search needs
 
--- src/corners.rt:53:17
 shared-slice-read-c : tie.Need-shared-slice-read-c Inv-loop μ-loop
 shared-slice-read-c c = search needs
 
--- src/corners.rt:54:45
 cast-put-corner : tie.Need-cast-put-corner Inv-loop μ-loop
 cast-put-corner c = omega (arith, c .before .shared-slice-known3 .given (c .before .before .before .loop .i))
 
--- src/corners.rt:54:42
 mul-put-corner : tie.Need-mul-put-corner Inv-loop μ-loop
 mul-put-corner c = omega (arith, c .before .shared-slice-known3 .given (c .before .before .before .loop .i))
 
--- src/corners.rt:54:42
 shared-slice-read-put-corner : tie.Need-shared-slice-read-put-corner Inv-loop μ-loop
 shared-slice-read-put-corner c =
     let l = c .before .before .before .before .loop in
     c .before .before .before .before .before .before .before .pre .columns (l .i) (l .inv .0) (omega arith)
 
--- src/corners.rt:54:9
 put-corner-requires : tie.Need-put-corner-requires Inv-loop μ-loop
 put-corner-requires c κs =
     let s = c .before .before .before .before .before .before .before in
     (omega arith, s .pre .x, s .pre .y, simp (toZ-ofZ (s .fits .way)) (s .pre .one))
 
--- src/corners.rt:55:9
 add-o : tie.Need-add-o Inv-loop μ-loop
 add-o c = search needs
 
--- src/corners.rt:56:9
 add-i : tie.Need-add-i Inv-loop μ-loop
 add-i c = search needs
 
--- src/corners.rt:52:5
 loop-less : tie.Need-loop-less Inv-loop μ-loop
 loop-less c = search needs
 
--- src/corners.rt:52:5
 loop-again : tie.Need-loop-again Inv-loop μ-loop
 loop-again c =
     let s = c .before .before .before .before .before .before .before .before .before in
     let l = c .before .before .before .before .before .before .loop in
     (omega arith, omega arith, omega arith, c .before .put-corner .kept .0 ∙ l .inv .3, put-turn (corner (s .args .base) (toZ w32 (ofZ w32 (s .args .way))) (s .args .ys .now)) (s .args .s .now) (s .args .to) (l .i) (l .o) (l .out) (c .before .put-corner .last .0) (sets (s .args .out .now) (s .args .at) (numbers (map (corner (s .args .base) (toZ w32 (ofZ w32 (s .args .way))) (s .args .ys .now)) (slice (s .args .from) (s .args .to) (s .args .s .now))))) (omega arith) (s .pre .inside) (c .before .put-corner .ensures) (l .inv .4))
 
--- src/corners.rt:37:1
 same-length : tie.Need-same-length Inv-loop μ-loop
 same-length c = search needs
 
--- src/corners.rt:37:1
 returns : tie.Need-returns Inv-loop μ-loop
 returns c =
     let s = c .before .before .before .before in

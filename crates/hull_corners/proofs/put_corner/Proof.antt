@@ -1,55 +1,44 @@
+-- `hull_corners::put_corner` meets its contract.
+-- Assumes nothing.
 use borrow.Author.Needs.{needs, sfits-of}
 use native.Mathlib.Omega.{arith}
-use mathlib.Core.Path.{_≡_, refl, sym, ap, ap₂, _∙_}
-use mathlib.Core.List.{List}
-use Prim.Native.Nat.{ℕ, _+_}
+use mathlib.Core.Path.{ap₂, _∙_}
+use Prim.Native.Nat.{_+_}
 use lib.ListN.{set, length-set}
-use lib.IntN.{ℤ, pos, _+ℤ_, _*ℤ_}
+use lib.IntN.{ℤ}
 use mir.Syntax.{w32}
 use mir.Facts.{toZ-ofZ}
 use Rattle.hull_corners.proofs.put_corner.Statement.{statement}
 use Rattle.hull_corners.proofs.put_corner.Tie as tie
-use Rattle.hull_corners.proofs.put_corner.Reads as reads
-use Rattle.hull_corners.proofs.put_corner.Lts as lts
-use Rattle.hull_corners.proofs.coordinate.Reads as coordinate-reads
 
--- src/corners.rt:32:14
 coordinate-requires : tie.Need-coordinate-requires
 coordinate-requires c κs =
     let s = c .before in
     simp (toZ-ofZ (sfits-of {w = w32} {z = s .args .base .0} (c .struct-told .given .0 .1)), toZ-ofZ (s .fits .way)) (s .pre .1, s .pre .3)
 
--- src/corners.rt:32:5
 mul-out : tie.Need-mul-out
 mul-out c = search needs
 
--- src/corners.rt:32:5
 slice-set-from-out : tie.Need-slice-set-from-out
 slice-set-from-out c = search needs
 
--- src/corners.rt:33:18
 coordinate-requires-2 : tie.Need-coordinate-requires-2
 coordinate-requires-2 c κs =
     let s = c .before .before .before in
     simp (toZ-ofZ (sfits-of {w = w32} {z = s .args .base .1} (c .struct-told2 .given .1 .0 .1)), toZ-ofZ (s .fits .way)) (s .pre .2, s .pre .3)
 
--- src/corners.rt:33:9
 add-t8 : tie.Need-add-t8
 add-t8 c = search needs
 
--- src/corners.rt:33:5
 mul-t10 : tie.Need-mul-t10
 mul-t10 c = search needs
 
--- src/corners.rt:33:5
 slice-set-from-out-2 : tie.Need-slice-set-from-out-2
 slice-set-from-out-2 c = simp length-set (omega arith)
 
--- src/corners.rt:28:1
 same-length : tie.Need-same-length
 same-length c = search needs
 
--- src/corners.rt:28:1
 returns : tie.Need-returns
 returns c =
     let s = c .before .before .before .before in

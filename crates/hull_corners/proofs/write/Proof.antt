@@ -1,45 +1,34 @@
+-- `hull_corners::write` meets its contract.
+-- Assumes nothing.
 use borrow.Author.Needs.{needs}
-use mathlib.Core.Path.{_≡_, _∙_}
-use lib.IntN.{ℤ, pos, _-ℤ_}
+use lib.IntN.{pos, _-ℤ_}
 use lib.ListN.{length}
 use Rattle.hull_laws.proofs.JoinLaws.{write-both}
 use Rattle.hull_corners.proofs.PartsLaws.{puts-lower, puts-upper}
 use Rattle.hull_corners.proofs.write.Statement.{statement}
 use Rattle.hull_corners.proofs.write.Tie as tie
-use Rattle.hull_corners.proofs.write.Reads as reads
-use Rattle.hull_corners.proofs.write.Lts as lts
-use Rattle.hull_corners.proofs.placed.Reads as placed-reads
-use Rattle.hull_corners.proofs.put.Reads as put-reads
 
--- src/corners.rt:110:9
 placed-requires : tie.Need-placed-requires
 placed-requires c κs = search needs
 
--- src/corners.rt:111:9
 placed-requires-2 : tie.Need-placed-requires-2
 placed-requires-2 c κs = search needs
 
--- src/corners.rt:113:5
 put-requires : tie.Need-put-requires
 put-requires c κs = puts-lower (c .before .before .before .before .before .before .before .pre .0) (c .before .before .before .before .before .before .before .pre .1) (c .before .before .placed .result) (c .before .before .placed .ensures)
 
--- src/corners.rt:114:19
 sub-put : tie.Need-sub-put
 sub-put c = search needs
 
--- src/corners.rt:114:14
 mul-put : tie.Need-mul-put
 mul-put c = search needs
 
--- src/corners.rt:114:5
 put-requires-2 : tie.Need-put-requires-2
 put-requires-2 c κs = puts-upper (c .before .before .before .before .before .before .before .before .before .before .pre .0) (c .before .before .before .before .before .before .before .before .before .before .pre .1) (c .before .before .before .before .placed2 .result) (length (c .before .before .put .last .0)) (c .before .before .before .before .placed2 .ensures) (c .before .before .put .kept .0)
 
--- src/corners.rt:94:1
 same-length : tie.Need-same-length
 same-length c = search needs
 
--- src/corners.rt:94:1
 returns : tie.Need-returns
 returns c =
     let s = c .before .before .before .before .before .before .before .before .before .before .before .before in

@@ -1,61 +1,46 @@
+-- `hull_scan::list_in` meets its contract.
+-- Assumes nothing.
 use borrow.Author.Needs.{needs}
 use Rattle.hull_scan.proofs.ListLaws.{walked-order, chained, hulled}
 use Rattle.hull_scan.proofs.list_in.Statement.{statement}
 use Rattle.hull_scan.proofs.list_in.Tie as tie
-use Rattle.hull_scan.proofs.list_in.Reads as reads
-use Rattle.hull_scan.proofs.list_in.Lts as lts
-use Rattle.hull_chains.proofs.scan.Reads as scan-reads
-use Rattle.hull_columns.proofs.fill.Reads as fill-reads
-use Rattle.hull_corners.proofs.finish.Reads as finish-reads
 
--- src/lib.rt:33:5
 fill-requires : tie.Need-fill-requires
 fill-requires c κs = search needs
 
--- src/lib.rt:34:13
 sub-n : tie.Need-sub-n
 sub-n c = walked-order (c .before .before .before .before .before .before .before .before .before .before .before .before .pre .0)
 
--- src/lib.rt:34:13
 add-n : tie.Need-add-n
 add-n c = search needs
 
--- src/lib.rt:35:9
 scan-requires : tie.Need-scan-requires
 scan-requires c κs = search needs
 
--- src/lib.rt:36:9
 scan-requires-2 : tie.Need-scan-requires-2
 scan-requires-2 c κs = search needs
 
--- src/lib.rt:37:5
 finish-requires : tie.Need-finish-requires
 finish-requires c κs =
     let s = c .before .before .before .before .before .before .before .before .before .before .before .before .before .before .before .before .before .before .before .before .before .before .before .before .before .before .before in
     let f = c .before .before .before .before .before .before .before .before .before .before .before .before .before .before .before .before .before .before .before .fill in
     (s .pre .1, chained (s .pre .0) (s .pre .2) (f .last .1 .1 .1 .0) (f .last .1 .1 .1 .1 .0) (c .before .before .before .before .before .before .before .before .before .before .before .before .scan .last .1 .1 .0) (c .before .before .before .before .before .before .before .scan2 .last .1 .1 .0) (c .before .before .before .before .before .before .before .before .before .before .before .before .scan .result) (c .before .before .before .before .before .before .before .scan2 .result) (f .ensures .0) (f .ensures .1) (c .before .before .before .before .before .before .before .before .before .before .before .before .scan .kept .1 .1 .0) (c .before .before .before .before .before .before .before .scan2 .kept .1 .1 .0) (c .before .before .before .before .before .before .before .before .before .before .before .before .scan .ensures) (c .before .before .before .before .before .before .before .scan2 .ensures))
 
--- src/lib.rt:19:1
 same-length : tie.Need-same-length
 same-length c = search needs
 
--- src/lib.rt:19:1
 same-length-2 : tie.Need-same-length-2
 same-length-2 c = search needs
 
--- src/lib.rt:19:1
 same-length-3 : tie.Need-same-length-3
 same-length-3 c = search needs
 
--- src/lib.rt:19:1
 same-length-4 : tie.Need-same-length-4
 same-length-4 c = search needs
 
--- src/lib.rt:19:1
 same-length-5 : tie.Need-same-length-5
 same-length-5 c = search needs
 
--- src/lib.rt:19:1
 returns : tie.Need-returns
 returns c =
     let s = c .before .before .before .before .before .before .before .before .before .before .before .before .before .before .before .before .before .before .before .before .before .before .before .before .before .before .before .before .before in

@@ -1,37 +1,29 @@
+-- `hull_scan::list_narrow` meets its contract.
+-- Assumes nothing.
 use borrow.Author.Needs.{needs}
 use native.Mathlib.Omega.{arith}
 use Rattle.hull_scan.proofs.ListLaws.{stored}
 use Rattle.hull_scan.proofs.list_narrow.Statement.{statement}
 use Rattle.hull_scan.proofs.list_narrow.Tie as tie
-use Rattle.hull_scan.proofs.list_narrow.Reads as reads
-use Rattle.hull_scan.proofs.list_narrow.Lts as lts
-use Rattle.hull_scan.proofs.list_in.Reads as list-in-reads
 
--- src/lib.rt:50:35
 slice-aggregate-list-in : tie.Need-slice-aggregate-list-in
 slice-aggregate-list-in c = search needs
 
--- src/lib.rt:50:44
 slice-aggregate-list-in-2 : tie.Need-slice-aggregate-list-in-2
 slice-aggregate-list-in-2 c = search needs
 
--- src/lib.rt:50:53
 slice-aggregate-list-in-3 : tie.Need-slice-aggregate-list-in-3
 slice-aggregate-list-in-3 c = search needs
 
--- src/lib.rt:50:61
 slice-aggregate-list-in-4 : tie.Need-slice-aggregate-list-in-4
 slice-aggregate-list-in-4 c = search needs
 
--- src/lib.rt:49:5
 list-in-requires : tie.Need-list-in-requires
 list-in-requires c κs = let s = c .before .before .before .before .before .before in (s .pre .0, s .pre .1, stored 256 (s .pre .2) (omega arith))
 
--- src/lib.rt:41:1
 same-length : tie.Need-same-length
 same-length c = search needs
 
--- src/lib.rt:41:1
 returns : tie.Need-returns
 returns c = search needs
 

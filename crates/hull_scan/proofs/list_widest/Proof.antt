@@ -1,37 +1,29 @@
+-- `hull_scan::list_widest` meets its contract.
+-- Assumes nothing.
 use borrow.Author.Needs.{needs}
 use native.Mathlib.Omega.{arith}
 use Rattle.hull_scan.proofs.ListLaws.{walked-width, stored}
 use Rattle.hull_scan.proofs.list_widest.Statement.{statement}
 use Rattle.hull_scan.proofs.list_widest.Tie as tie
-use Rattle.hull_scan.proofs.list_widest.Reads as reads
-use Rattle.hull_scan.proofs.list_widest.Lts as lts
-use Rattle.hull_scan.proofs.list_in.Reads as list-in-reads
 
--- src/lib.rt:78:35
 slice-aggregate-list-in : tie.Need-slice-aggregate-list-in
 slice-aggregate-list-in c = search needs
 
--- src/lib.rt:78:44
 slice-aggregate-list-in-2 : tie.Need-slice-aggregate-list-in-2
 slice-aggregate-list-in-2 c = search needs
 
--- src/lib.rt:78:53
 slice-aggregate-list-in-3 : tie.Need-slice-aggregate-list-in-3
 slice-aggregate-list-in-3 c = search needs
 
--- src/lib.rt:78:61
 slice-aggregate-list-in-4 : tie.Need-slice-aggregate-list-in-4
 slice-aggregate-list-in-4 c = search needs
 
--- src/lib.rt:77:5
 list-in-requires : tie.Need-list-in-requires
 list-in-requires c κs = let s = c .before .before .before .before .before .before in (s .pre .0, s .pre .1, stored 16385 (omega (arith, walked-width (s .pre .0))) (omega arith))
 
--- src/lib.rt:69:1
 same-length : tie.Need-same-length
 same-length c = search needs
 
--- src/lib.rt:69:1
 returns : tie.Need-returns
 returns c = search needs
 

@@ -1,0 +1,85 @@
+-- The hull and its call on small inputs, computed.
+-- Assumes nothing.
+use mathlib.Core.Path.{_≡_, refl, sym, subst, _∙_}
+use mathlib.Core.List.{List, [], _∷_}
+use mathlib.Core.Logic.{_⊎_, inl, inr}
+use Prim.Native.Nat.{ℕ}
+use lib.IntN.{ℤ, pos, negsuc}
+use lib.Signed.{_≤ℤ_, _<ℤ_, ≤ℤ-refl}
+use Rattle.grid.specs.declared.Corner.{Corner}
+use Rattle.grid.specs.Grid.{corner, origin}
+use Rattle.answer.specs.declared.Judged.the-variants as judged
+use Rattle.answer.specs.declared.Refusal.the-variants.{BadDigit, TooLong, HullRoom}
+use Rattle.hull.specs.Hull.{In, cross, Left, Begins, Exposed, HullIs}
+use Rattle.hull.specs.Call.{faultAt, faultFrom, hullJudged, countedOf, countedValues, bufferOf}
+
+-- three in a line do not turn left
+line-is-no-turn : ¬ Left origin (corner (pos 1) (pos 0)) (corner (pos 2) (pos 0))
+unfolding cross
+line-is-no-turn h = h .left .lt
+
+-- east, then north: counterclockwise
+east-then-north : Left origin (corner (pos 1) (pos 0)) (corner (pos 1) (pos 1))
+unfolding cross
+east-then-north = record { left = record { lt = tt } }
+
+-- the lowest of the leftmost comes first
+lowest-first : Begins origin (corner (pos 0) (pos 1))
+lowest-first = inr (refl, record { le = tt })
+
+leftmost-first : Begins (corner (negsuc 0) (pos 5)) origin
+leftmost-first = inl (record { lt = tt })
+
+-- one corner gives one
+pub hull-of-one : (c : Corner) → HullIs (c ∷ []) (c ∷ [])
+hull-of-one c = record {
+  starts = (inl refl, (λ q m. begin q m));
+  corners = λ q. ((λ m. record { visited = m; u = pos 0; v = pos 0; most = λ p n d. alone p q n m d }), (λ e. e .visited));
+  once = ((λ b m. absurd m), tt);
+  ccw = (tt, tt);
+}
+  where
+    begin : (q : Corner) → In q (c ∷ []) → Begins c q
+    begin q (inl e) = inr (λ i. sym e i .0, subst-le e)
+      where
+        subst-le : q ≡ c → c .1 ≤ℤ q .1
+        subst-le e = subst (λ (z : Corner). c .1 ≤ℤ z .1) (sym e) (≤ℤ-refl (c .1))
+    begin q (inr m) = absurd m
+
+    alone : {A : Type 0} (p q : Corner) → In p (c ∷ []) → In q (c ∷ []) → ¬ (p ≡ q) → A
+    alone p q (inl e) (inl f) d = absurd (d (e ∙ sym f))
+    alone p q (inl e) (inr m) d = absurd m
+    alone p q (inr m) n d = absurd m
+
+-- 4 comes before 6 at one place, and 6 only at place 16,384
+bad-digit-first : faultAt 16384 4 ≡ judged.Refused (BadDigit 16384)
+bad-digit-first = refl
+
+step-too-many : faultAt 16384 3 ≡ judged.Refused (TooLong 16384)
+step-too-many = refl
+
+last-step : faultAt 16383 3 ≡ judged.Good
+last-step = refl
+
+-- 8 comes last
+digit-before-room : hullJudged (0 ∷ 4 ∷ []) 0 2 ≡ judged.Refused (BadDigit 1)
+digit-before-room = refl
+
+-- a corner needs two numbers
+room-of-one-number : hullJudged [] 1 1 ≡ judged.Refused HullRoom
+room-of-one-number = refl
+
+room-of-two-numbers : hullJudged [] 2 1 ≡ judged.Good
+room-of-two-numbers = refl
+
+-- how many there are, and no refusal
+count-of-six : countedValues (countedOf judged.Good 6) ≡ (0, 0, 6)
+count-of-six = refl
+
+-- numbers after the list stay
+rest-stays : bufferOf judged.Good (origin ∷ []) (pos 7 ∷ pos 8 ∷ pos 9 ∷ []) ≡ pos 0 ∷ pos 0 ∷ pos 9 ∷ []
+rest-stays = refl
+
+-- a refused call writes nothing
+refused-writes-nothing : bufferOf (judged.Refused HullRoom) (origin ∷ []) (pos 7 ∷ pos 8 ∷ []) ≡ pos 7 ∷ pos 8 ∷ []
+refused-writes-nothing = refl
