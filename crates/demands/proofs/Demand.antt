@@ -29,6 +29,7 @@ use Rattle.layout.specs.Table.{recordWords}
 use Rattle.calls.specs.Walk.{factsOf, WalkIs}
 use Rattle.hull.specs.Hull.{In, Exposed, HullIs}
 use Rattle.hull.specs.Call.{numbers, HullCall}
+use Rattle.hull_laws.proofs.ChainLaws.{Closed}
 use Rattle.hull_laws.proofs.CallLaws as hullCallLaws
 use Rattle.hull_laws.proofs.HullLaws as hullLaws
 use Rattle.hull_laws.proofs.OneLaws as oneLaws
@@ -214,6 +215,10 @@ hull-exists = hullLaws.hull-exists
 
 pub hullIs-one : (P L L′ : List Corner) → HullIs P L → HullIs P L′ → L ≡ L′
 hullIs-one = oneLaws.hullIs-one
+
+-- every visited corner lies on or left of every edge of the list, the closing one included
+pub hull-edges : (s : Corner) (w : List ℕ) (L : List Corner) → HullIs (cornersFrom s w) L → Closed (cornersFrom s w) L
+hull-edges = hullLaws.hull-edges
 
 pub hull-extreme : (P L : List Corner) → HullIs P L → (q : Corner) → In q L ↔ Exposed P q
 hull-extreme P L h = h .corners
