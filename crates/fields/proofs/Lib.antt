@@ -1,0 +1,4 @@
+-- The laws that the proofs of fields cite.
+pub mod DigitLaws
+pub mod BitsLaws
+pub mod SpelledSteps

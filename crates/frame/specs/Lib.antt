@@ -1,0 +1,7 @@
+-- The definitions of the line program.
+pub mod Hex
+pub mod Spelled
+pub mod Line
+pub mod Program
+pub mod Feed
+pub mod Put
