@@ -1,0 +1,2 @@
+-- What a turn of the line program leaves.
+pub mod Turn

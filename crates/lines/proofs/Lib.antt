@@ -1,0 +1,6 @@
+-- The laws that the proofs of lines cite.
+pub mod FeedSteps
+pub mod CallSteps
+pub mod HullSteps
+pub mod ReplySteps
+pub mod Demand
