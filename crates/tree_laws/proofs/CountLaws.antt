@@ -234,7 +234,7 @@ trail-few qs t =
 pub few-nodes : (ds : List ℕ) → length (nodesOf (cornersFrom origin ds)) + 3 ≤ 4 * length (visitedOf (cornersFrom origin ds))
 few-nodes ds = let h = trail-corners origin ds in rw (h .1) (trail-few (h .0) (h .2))
 
--- Any start (K1): with coordinates below 2 ^ n in magnitude, the nodes are at most 4 V + 4 n.
+-- Any start: with coordinates below 2 ^ n in magnitude, the nodes are at most 4 V + 4 n.
 start-at : (c : Corner) → Count c (c ∷ []) (parentOf c ∷ []) (class c ∷ [])
 start-at c = record {
   here = List·Memᴰ·head refl;
