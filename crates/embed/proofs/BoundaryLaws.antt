@@ -21,14 +21,13 @@ use Rattle.answer.specs.declared.Verdict.the-variants.{Nowhere, Open, Room, Ope
 use Rattle.answer.specs.Refusal.{when, orElse, refusalNumber, refusalPlace, verdictNumber, judgedPlace}
 use Rattle.calls.specs.Walk.{walkJudged, factsOf, answerBy, WalkIs}
 use Rattle.frame.specs.Hex.{bitsOf}
-use Rattle.grid.specs.Grid.{origin, cornersFrom}
+use Rattle.grid.specs.Grid.{origin}
 use Rattle.hull.specs.Call.{faultAt, faultFrom, roomJudged, hullJudged, countedOf, HullCall}
 use Rattle.word.specs.Operations.{survivors}
 use Rattle.word.specs.Turns.{digitFaultsFrom, turnsJudged}
 use Rattle.answer.proofs.RefusalLaws.{refused-not-good}
 use Rattle.calls.proofs.SmallLaws.{Placed, placed-when, placed-or, walk-placed, walk-few}
-use Rattle.frame.proofs.HullLengthLaws.{hullIs-most}
-use Rattle.grid.proofs.StepLaws.{length-cornersFrom}
+use Rattle.hull_laws.proofs.HullLaws.{hull-count-steps}
 use Rattle.embed.specs.Boundary.{factsWords, answerWords, countedWords, judgedWords, answerNumber, countedNumber, AnswerFits, CountedFits}
 
 -- ---- the words of a refusal
@@ -111,7 +110,7 @@ pub counted-fits : (chain : List ℕ) (before : List ℤ) (r : Counted) (after :
 counted-fits chain before r after h = subst CountedFits (sym (h .answer)) (go (hullJudged chain (length before) (length (h .list))) refl)
   where
     go : (j : Judged) → hullJudged chain (length before) (length (h .list)) ≡ j → CountedFits (countedOf (hullJudged chain (length before) (length (h .list))) (length (h .list)))
-    go Good e = rw e (omega (arith, hullIs-most (cornersFrom origin chain) (h .list) (h .hull), length-cornersFrom origin chain, hull-short chain (length before) (length (h .list)) e))
+    go Good e = rw e (omega (arith, hull-count-steps origin chain (h .list) (h .hull), hull-short chain (length before) (length (h .list)) e))
     go (Refused x) e = rw e (omega (arith, subst (Placed 32768) e (hull-placed chain (length before) (length (h .list)))))
 
 -- ---- the words of an accepted walk

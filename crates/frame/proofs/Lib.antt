@@ -1,7 +1,6 @@
 -- The laws of the line program.
 pub mod PutLaws
 pub mod HexLaws
-pub mod HullLengthLaws
 pub mod SpelledLaws
 pub mod LineLaws
 pub mod FeedLaws

@@ -22,7 +22,7 @@ use Rattle.layout.specs.Table.{recordWords}
 use Rattle.calls.specs.Walk.{walkAnswer}
 use Rattle.hull.specs.Call.{numbers}
 use Rattle.hull_laws.specs.Outline.{hullOf}
-use Rattle.frame.proofs.HullLengthLaws.{length-hullOf}
+use Rattle.hull_laws.proofs.HullLaws.{length-hullOf}
 use Rattle.frame.specs.Hex.{hexOf}
 use Rattle.frame.specs.Spelled.{refusedLine, factsLine, numbersLine, hullLine, answerLine, walkedLine, turnedBy, turnedLine, lineRecords}
 use Rattle.frame.specs.Line.{mostAnswer}

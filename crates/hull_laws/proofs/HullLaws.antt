@@ -3,7 +3,7 @@
 use mathlib.Core.Path.{_≡_, refl, sym, subst}
 use mathlib.Core.List.{List, [], _∷_, List·Memᴰ, List·Memᴰ·head, List·Memᴰ·tail}
 use mathlib.Core.Logic.{inl, inr}
-use Prim.Native.Nat.{ℕ, suc, _*_, _-_, _≤_}
+use Prim.Native.Nat.{ℕ, suc, _*_, _-_, _≤_, _+_}
 use native.Mathlib.Omega.{arith}
 use lib.ListN.{length, replicate, length-replicate, getD-replicate}
 use lib.IntN.{ℤ, pos, _+ℤ_, _-ℤ_}
@@ -95,3 +95,6 @@ module _ (s : Corner) (ds : List ℕ) (L : List Corner) (h : HullIs (cornersFrom
   -- nor than steps and one
   pub hull-count-steps : length L ≤ suc (length ds)
   hull-count-steps = omega (arith, pigeon L (cornersFrom s ds) (distinct L (h .once)) (λ a m. in-mem (cornersFrom s ds) (hull-visited a (mem-in m))), length-cornersFrom s ds)
+
+pub length-hullOf : (s : Corner) (w : List ℕ) → length (hullOf s w) ≤ length w + 1
+length-hullOf s w = omega (arith, hull-count-steps s w (hullOf s w) (hullOf-hull s w))

@@ -21,12 +21,11 @@ use Rattle.answer.specs.declared.Refusal.{Refusal}
 use Rattle.hull.specs.Call.{faultAt, faultFrom, hullJudged, countedOf, numbers, bufferOf, HullCall}
 use Rattle.hull_laws.specs.Outline.{hullOf}
 use Rattle.hull_laws.proofs.OneLaws.{hullIs-one}
-use Rattle.hull_laws.proofs.HullLaws.{hullOf-hull}
+use Rattle.hull_laws.proofs.HullLaws.{hullOf-hull, length-hullOf}
 use Rattle.frame.specs.Hex.{hexOf}
 use Rattle.frame.specs.Spelled.{factsLine, numbersLine, hullLine}
 use Rattle.frame.specs.Put.{Wrote}
 use Rattle.frame.proofs.HexLaws.{length-hexOf}
-use Rattle.frame.proofs.HullLengthLaws.{length-hullOf}
 use Rattle.frame.proofs.PutLaws.{wrote-append}
 use Rattle.frame.proofs.SpelledLaws.{length-factsLine, length-numbersLine, length-numbers}
 use Rattle.lines.specs.Reply.{Listed}

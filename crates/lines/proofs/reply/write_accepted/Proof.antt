@@ -8,7 +8,7 @@ use Rattle.frame.specs.Put.{Wrote}
 use Rattle.grid.specs.Grid.{origin}
 use Rattle.hull_laws.specs.Outline.{hullOf}
 use Rattle.frame.specs.Spelled.{factsLine}
-use Rattle.frame.proofs.HullLengthLaws.{length-hullOf}
+use Rattle.hull_laws.proofs.HullLaws.{length-hullOf}
 use Rattle.frame.proofs.SpelledLaws.{length-factsLine}
 use Rattle.lines.proofs.HullSteps.{wrote-accepted}
 use borrow.Author.Needs.{needs}
