@@ -1,4 +1,4 @@
-//! Links target/staticlib/libembed.a, which `rt staticlib embed` writes.
+//! Links target/staticlib/libembed.a, which `./library` writes.
 
 use std::path::Path;
 
@@ -7,7 +7,7 @@ fn main() {
     let library = folder.join("libembed.a");
     assert!(
         library.exists(),
-        "{} is not there: run `rt staticlib embed`",
+        "{} is not there: run `./library`",
         library.display()
     );
     println!("cargo::rerun-if-changed={}", library.display());

@@ -43,7 +43,11 @@ fn main() {
     println!("\nturns, ns a digit");
     turns();
     println!("\nline program, MB/s of input");
-    programs::print();
+    if cfg!(target_arch = "x86_64") {
+        programs::print();
+    } else {
+        println!("measured on x86-64 alone, for which the program is compiled");
+    }
     println!("\ngrowth: one walk of 16384 steps and two of 8192, ns a step");
     growth();
 }

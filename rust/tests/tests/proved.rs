@@ -68,12 +68,12 @@ fn program() {
 
 /// The output of the program for this input.
 fn judge(input: &[u8]) -> Vec<u8> {
-    let path = concat!(env!("CARGO_MANIFEST_DIR"), "/../../target/bin/judge");
+    let path = concat!(env!("CARGO_MANIFEST_DIR"), "/../../judge");
     let mut judge = Command::new(path)
         .stdin(Stdio::piped())
         .stdout(Stdio::piped())
         .spawn()
-        .expect("rt check judge makes the program");
+        .expect("the script is there");
     let mut stdin = judge.stdin.take().unwrap();
     std::thread::scope(|scope| {
         scope.spawn(move || stdin.write_all(input).unwrap());
