@@ -44,26 +44,20 @@ pub enum Extent {
     Refused(Refusal),
 }
 
-// One more than the columns that a step goes to the east.
-const EASTWARD: [usize; 4] = [2, 1, 0, 1];
-
-// One more than the heights that it goes up.
-const NORTHWARD: [u16; 4] = [1, 2, 1, 0];
-
 // The column after step d.
 fn column(x: usize, d: u8) -> usize
-    requires { ⌜ (0 < x) × (x ≤ top) × (d < 4) ⌝ }
+    requires { ⌜ (0 < x) × (x ≤ top) ⌝ }
     ensures { λ r. ⌜ r ≡ colAfter x d ⌝ }
 {
-    x + EASTWARD[d as usize] - 1
+    x + (d == 0) as usize - (d == 2) as usize
 }
 
 // The height after step d.
 fn height(y: u16, d: u8) -> u16
-    requires { ⌜ (0 < y) × (y ≤ top) × (d < 4) ⌝ }
+    requires { ⌜ (0 < y) × (y ≤ top) ⌝ }
     ensures { λ r. ⌜ r ≡ rowAfter y d ⌝ }
 {
-    y + NORTHWARD[d as usize] - 1
+    y + (d == 1) as u16 - (d > 2) as u16
 }
 
 fn lesser(a: usize, b: usize) -> usize
@@ -108,22 +102,15 @@ pub fn survey(chain: &[u8]) -> Extent
     Extent::Within(west, east)
 }
 
-// The lower of two heights.
-fn lower(a: u16, b: u16) -> u16
-    ensures { λ r. ⌜ r ≡ min a b ⌝ }
-{
-    if a < b {
-        return a;
-    }
-    b
-}
-
 // Column c keeps the height y if it is lower.
 fn keep(ys: &mut [u16], c: usize, y: u16)
     requires { ⌜ c < length (now ys) ⌝ }
     ensures { λ _. ⌜ now (ys .exit) ≡ sink (now (ys .entry)) (c, y) ⌝ }
 {
-    ys[c] = lower(ys[c], y);
+    if ys[c] <= y {
+        return;
+    }
+    ys[c] = y;
 }
 
 // Keeps the lowest corner of each column in lo, counted from west, and in hi that of the walk turned by half a turn, from east.

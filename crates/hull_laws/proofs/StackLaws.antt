@@ -12,44 +12,12 @@ use native.Mathlib.Decide.{decLt}
 use lib.ListN.{length, getD, drop, set, length-drop, drop-of-length-le}
 use lib.Seq.{drop-cons, drop-set-lt, getD-set-same, lt-length-set, getD-drop}
 use Rattle.hull.specs.Hull.{In}
-use Rattle.hull_laws.specs.Columns.{colAfter, rowAfter}
 use Rattle.hull_laws.specs.Outline.{turnsAt, dropsAt, cutAt, chainFrom}
 use Rattle.hull_laws.proofs.ScanLaws.{chain-in}
 
 -- a product of two numbers of 16 bits
 pub times-lt : (m n : ℕ) → m < 65536 → n < 65536 → m * n < 4294967296
 times-lt m n h g = omega (arith, mul-le-mul {n₁ = m} {m₁ = n} {n₂ = 65535} {m₂ = 65535} (omega arith) (omega arith))
-
--- what the tables of steps come to
-pub eastward-le : (d : ℕ) → d < 4 → getD (2 ∷ 1 ∷ 0 ∷ 1 ∷ []) d 0 ≤ 2
-eastward-le zero h = omega arith
-eastward-le (suc zero) h = omega arith
-eastward-le (suc (suc zero)) h = omega arith
-eastward-le (suc (suc (suc zero))) h = omega arith
-eastward-le (suc (suc (suc (suc d)))) h = omega arith
-
-pub eastward : (x d : ℕ) → 0 < x → d < 4 → (x + getD (2 ∷ 1 ∷ 0 ∷ 1 ∷ []) d 0) - 1 ≡ colAfter x d
-unfolding colAfter
-eastward x zero g h = omega arith
-eastward x (suc zero) g h = omega arith
-eastward x (suc (suc zero)) g h = omega arith
-eastward x (suc (suc (suc zero))) g h = omega arith
-eastward x (suc (suc (suc (suc d)))) g h = omega arith
-
-pub northward-le : (d : ℕ) → d < 4 → getD (1 ∷ 2 ∷ 1 ∷ 0 ∷ []) d 0 ≤ 2
-northward-le zero h = omega arith
-northward-le (suc zero) h = omega arith
-northward-le (suc (suc zero)) h = omega arith
-northward-le (suc (suc (suc zero))) h = omega arith
-northward-le (suc (suc (suc (suc d)))) h = omega arith
-
-pub northward : (y d : ℕ) → 0 < y → d < 4 → (y + getD (1 ∷ 2 ∷ 1 ∷ 0 ∷ []) d 0) - 1 ≡ rowAfter y d
-unfolding rowAfter
-northward y zero g h = omega arith
-northward y (suc zero) g h = omega arith
-northward y (suc (suc zero)) g h = omega arith
-northward y (suc (suc (suc zero))) g h = omega arith
-northward y (suc (suc (suc (suc d)))) g h = omega arith
 
 -- whether the first of the chain is dropped
 module _ (ys : List ℕ) (p : ℕ) where

@@ -2,24 +2,25 @@
 -- Assumes nothing.
 use borrow.Author.Needs.{needs}
 use native.Mathlib.Omega.{arith}
-use Rattle.hull_laws.proofs.StackLaws.{eastward, eastward-le}
+use lib.Dec.{eqb}
+use Rattle.hull_columns.proofs.StepLaws.{test-le, column-by}
 use Rattle.hull_columns.proofs.column.Statement.{statement}
 use Rattle.hull_columns.proofs.column.Tie as tie
 
-mul-result : tie.Need-mul-result
-mul-result c = search needs
-
-array-read-result : tie.Need-array-read-result
-array-read-result c = search needs
+cast-result : tie.Need-cast-result
+cast-result c = search needs
 
 add-result : tie.Need-add-result
-add-result c = omega (arith, eastward-le (c .args .d) (c .pre .2))
+add-result c = omega (arith, test-le (eqb (c .args .d) 0))
+
+cast-result-2 : tie.Need-cast-result-2
+cast-result-2 c = search needs
 
 sub-result : tie.Need-sub-result
-sub-result c = search needs
+sub-result c = omega (arith, test-le (eqb (c .args .d) 2))
 
 returns : tie.Need-returns
-returns c = eastward (c .args .x) (c .args .d) (c .pre .0) (c .pre .2)
+returns c = column-by (c .args .x) (c .args .d) (c .pre .0)
 
 pub column-spec : {M : Type 1} → statement M
-column-spec = tie.close (tie.spec mul-result array-read-result add-result sub-result returns)
+column-spec = tie.close (tie.spec cast-result add-result cast-result-2 sub-result returns)

@@ -36,10 +36,10 @@ shared-slice-read-d : tie.Need-shared-slice-read-d Inv-loop μ-loop
 shared-slice-read-d c = c .before .before .before .before .before .before .before .before .before .loop-test .taken
 
 column-requires : tie.Need-column-requires Inv-loop μ-loop
-column-requires c κs = let t = filling-column (c .before .before .before .before .before .before .before .before .before .before .loop .inv) (c .before .before .before .before .before .before .before .before .before .loop-test .taken) in (t .0, t .1, c .before .before .before .before .before .before .before .before .before .before .before .before .before .before .pre .0 .digits (c .before .before .before .before .before .before .before .before .before .before .loop .i))
+column-requires c κs = filling-column (c .before .before .before .before .before .before .before .before .before .before .loop .inv) (c .before .before .before .before .before .before .before .before .before .loop-test .taken)
 
 height-requires : tie.Need-height-requires Inv-loop μ-loop
-height-requires c κs = let t = filling-row (c .before .before .before .before .before .before .before .before .before .before .before .loop .inv) (c .before .before .before .before .before .before .before .before .before .before .loop-test .taken) in (t .0, t .1, c .before .before .before .before .before .before .before .before .before .before .before .before .before .before .before .pre .0 .digits (c .before .before .before .before .before .before .before .before .before .before .before .loop .i))
+height-requires c κs = filling-row (c .before .before .before .before .before .before .before .before .before .before .before .loop .inv) (c .before .before .before .before .before .before .before .before .before .before .loop-test .taken)
 
 add-i : tie.Need-add-i Inv-loop μ-loop
 add-i c = search needs

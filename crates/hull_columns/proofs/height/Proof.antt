@@ -2,24 +2,25 @@
 -- Assumes nothing.
 use borrow.Author.Needs.{needs}
 use native.Mathlib.Omega.{arith}
-use Rattle.hull_laws.proofs.StackLaws.{northward, northward-le}
+use lib.Dec.{eqb, ltb}
+use Rattle.hull_columns.proofs.StepLaws.{test-le, row-by}
 use Rattle.hull_columns.proofs.height.Statement.{statement}
 use Rattle.hull_columns.proofs.height.Tie as tie
 
-mul-result : tie.Need-mul-result
-mul-result c = search needs
-
-array-read-result : tie.Need-array-read-result
-array-read-result c = search needs
+cast-result : tie.Need-cast-result
+cast-result c = search needs
 
 add-result : tie.Need-add-result
-add-result c = omega (arith, northward-le (c .args .d) (c .pre .2))
+add-result c = omega (arith, test-le (eqb (c .args .d) 1))
+
+cast-result-2 : tie.Need-cast-result-2
+cast-result-2 c = search needs
 
 sub-result : tie.Need-sub-result
-sub-result c = search needs
+sub-result c = omega (arith, test-le (ltb 2 (c .args .d)))
 
 returns : tie.Need-returns
-returns c = northward (c .args .y) (c .args .d) (c .pre .0) (c .pre .2)
+returns c = row-by (c .args .y) (c .args .d) (c .pre .0)
 
 pub height-spec : {M : Type 1} → statement M
-height-spec = tie.close (tie.spec mul-result array-read-result add-result sub-result returns)
+height-spec = tie.close (tie.spec cast-result add-result cast-result-2 sub-result returns)

@@ -40,8 +40,7 @@ returns-2 c =
 column-requires : tie.Need-column-requires Inv-loop μ-loop
 column-requires c κs =
     let l = c .before .before .before .before .loop in
-    let t = surveyed-room (c .before .before .before .before .before .before .args .chain .now) (l .x) (l .west) (l .east) (l .i) (l .inv) (c .if2 .left) in
-    (t .0, t .1, fewer (getD (c .before .before .before .before .before .before .args .chain .now) (l .i) 0) (c .before .if1 .left))
+    surveyed-room (c .before .before .before .before .before .before .args .chain .now) (l .x) (l .west) (l .east) (l .i) (l .inv) (c .if2 .left)
 
 lesser-requires : tie.Need-lesser-requires Inv-loop μ-loop
 lesser-requires c κs = search needs
