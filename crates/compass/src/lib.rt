@@ -3,7 +3,7 @@ ghost use mathlib.Core.Path.{_≡_};
 ghost use Prim.Native.Nat.{_<_, _≤_};
 ghost use lib.IntN.{natAbs, _+ℤ_};
 ghost use Rattle.grid.specs.Grid.{same, stepped};
-ghost use Rattle.compass.specs.Moves.{eastOf, northOf};
+ghost use Rattle.compass.specs.Moves.{lessOf, eastOf, northOf};
 ghost use Rattle.grid.specs.Tree.{halfOf, parentOf, isRoot, slotOf, childWord};
 use grid::Corner;
 
@@ -21,27 +21,25 @@ pub fn parent_of(c: Corner) -> Corner
     Corner(half_of(c.0), half_of(c.1))
 }
 
+// 1 where the first alone holds, -1 where the second alone does.
+fn less(a: bool, b: bool) -> i32
+    ensures { λ r. ⌜ r ≡ lessOf a b ⌝ }
+{
+    a as i32 - b as i32
+}
+
 // What the step d adds to x.
 fn east(d: u8) -> i32
     ensures { λ r. ⌜ r ≡ eastOf d ⌝ }
 {
-    match d {
-        0 => 1,
-        2 => -1,
-        _ => 0,
-    }
+    less(d == 0, d == 2)
 }
 
 // What the step d adds to y.
 fn north(d: u8) -> i32
     ensures { λ r. ⌜ r ≡ northOf d ⌝ }
 {
-    match d {
-        0 => 0,
-        1 => 1,
-        2 => 0,
-        _ => -1,
-    }
+    less(d == 1, d > 2)
 }
 
 fn shifted(x: i32, by: i32) -> i32

@@ -88,8 +88,8 @@ pub fn go(t: &mut [u32], w: Spot, d: u8) -> Gone
 {
     let n = w.steps + 1;
     let here = w.at;
-    let f = lookup::reach(t, w.nodes, w.node, here, d, n as u32);
-    let at = f.at;
+    let nodes = w.nodes;
+    let at = lookup::reach(t, nodes, w.node, here, d, n as u32);
     if at == 0 {
         return Gone::Full;
     }
@@ -99,7 +99,7 @@ pub fn go(t: &mut [u32], w: Spot, d: u8) -> Gone
         node: at - 1,
         at: there,
         steps: n,
-        nodes: f.nodes,
+        nodes: lookup::in_use(nodes, at),
     })
 }
 

@@ -5,6 +5,7 @@ pub mod StateLaws
 pub mod LookupLaws
 pub mod TakeLaws
 pub mod BackLaws
+pub mod LastLaws
 pub mod Cites
 pub mod UndoLaws
 pub mod WalkLaws

@@ -1,7 +1,7 @@
 -- `lookup::above` and `lookup::neighbour` meet their contracts. The measure is twice the size of the corner, and one more for `neighbour`.
 -- Assumes nothing.
 use mathlib.Core.Path.{_≡_, sym, ap, ap₂, subst, _∙_}
-use Prim.Native.Nat.{ℕ, _+_, _-_, _<_}
+use Prim.Native.Nat.{ℕ, _+_, _-_, _<_, max}
 use native.Mathlib.Omega.{arith}
 use borrow.Author.Needs.{needs}
 use borrow.Fn.Kinds.{In}
@@ -12,7 +12,7 @@ use Rattle.grid.specs.declared.Corner.{Corner}
 use Rattle.grid.specs.Grid.{stepped, same}
 use Rattle.grid.specs.Tree.{parentOf, isRoot, childWord, sizeOf}
 use Rattle.tree.specs.Nodes.{refOf}
-use Rattle.tree_laws.specs.State.{Stood, Made, grown, raised, reached}
+use Rattle.tree_laws.specs.State.{Stood, Holds, Made, grown, raised, reached}
 use Rattle.cells.proofs.link.Reads as link-reads
 use Rattle.cells.proofs.word.Reads as word-reads
 use Rattle.compass.proofs.alike.Reads as alike-reads
@@ -22,6 +22,7 @@ use Rattle.compass.proofs.moved.Reads as moved-reads
 use Rattle.compass.proofs.parent_of.Reads as parent-of-reads
 use Rattle.grid.proofs.PathLaws.{sizeOf-parentOf, natAbs-halfOf}
 use Rattle.table_laws.proofs.Cites.{near-known, near-root, near-no-parent, near-no-child, near-linked, above-root, above-same, above-call, parent-ref, parent-word, over-holds, link-bounds, stood, ref-below}
+use Rattle.table_laws.proofs.LastLaws.{near-last, above-last}
 use Rattle.table_laws.proofs.LookupLaws.{mem-of-ref}
 use Rattle.table_laws.proofs.StoreLaws.{child-word-small}
 use Rattle.tree_laws.proofs.AddLaws.{ref-pos}
@@ -32,6 +33,7 @@ use Rattle.lookup.proofs.+above+neighbour.{statement}
 use Rattle.lookup.proofs.above.Kinds as above-kinds
 use Rattle.lookup.proofs.above.Reads as above
 use Rattle.lookup.proofs.child.Reads as child-reads
+use Rattle.lookup.proofs.in_use.Reads as in-use-reads
 use Rattle.lookup.proofs.neighbour.Kinds as neighbour-kinds
 use Rattle.lookup.proofs.neighbour.Reads as neighbour
 
@@ -57,8 +59,8 @@ neighbour-below t =
 above-is-root-requires : (t : ℕ) → above-lts.Need-is-root-requires (is-root-reads.Asked, is-root-reads.Learnt, word-reads.Asked, word-reads.Learnt, parent-of-reads.Asked, parent-of-reads.Learnt, alike-reads.Asked, alike-reads.Learnt, neighbour-below t, neighbour.Post) (above-at t) above.Post
 above-is-root-requires t c κs = search needs
 
-above-add-t11 : (t : ℕ) → above-lts.Need-add-t11 (is-root-reads.Asked, is-root-reads.Learnt, word-reads.Asked, word-reads.Learnt, parent-of-reads.Asked, parent-of-reads.Learnt, alike-reads.Asked, alike-reads.Learnt, neighbour-below t, neighbour.Post) (above-at t) above.Post
-above-add-t11 t c = search needs
+above-add-result : (t : ℕ) → above-lts.Need-add-result (is-root-reads.Asked, is-root-reads.Learnt, word-reads.Asked, word-reads.Learnt, parent-of-reads.Asked, parent-of-reads.Learnt, alike-reads.Asked, alike-reads.Learnt, neighbour-below t, neighbour.Post) (above-at t) above.Post
+above-add-result t c = search needs
 
 above-returns : (t : ℕ) → above-lts.Need-returns (is-root-reads.Asked, is-root-reads.Learnt, word-reads.Asked, word-reads.Learnt, parent-of-reads.Asked, parent-of-reads.Learnt, alike-reads.Asked, alike-reads.Learnt, neighbour-below t, neighbour.Post) (above-at t) above.Post
 above-returns t c =
@@ -68,7 +70,7 @@ above-returns t c =
     let m = s .pre .1 .1 .1 .0 in
     let g = ap isRoot (sym m) ∙ s .pre .1 .1 .1 .1 in
     let i = sym (c .before .is-root .ensures) ∙ c .if1 .taken in
-    λ S h r. subst (λ x. Made (length (a .t .now)) (raised S (a .step) (a .c) x) (parentOf x) (a .t .now) (a .u + 1) (a .nodes)) (sym m) (above-root (a .t .now) (a .nodes) (a .u) (a .c) (a .d) (a .step) S h r (q .2) (q .3) g i)
+    λ S h r. above-last (a .t .now) (a .nodes) S h (length (a .t .now)) (a .step) (a .t .now) (a .u + 1) (a .nodes) (a .c) (a .e) (subst (λ x. Made (length (a .t .now)) (raised S (a .step) (a .c) x) (parentOf x) (a .t .now) (a .u + 1) (a .nodes)) (sym m) (above-root (a .t .now) (a .nodes) (a .u) (a .c) (a .d) (a .step) S h r (q .2) (q .3) g i))
 
 above-word-requires : (t : ℕ) → above-lts.Need-word-requires (is-root-reads.Asked, is-root-reads.Learnt, word-reads.Asked, word-reads.Learnt, parent-of-reads.Asked, parent-of-reads.Learnt, alike-reads.Asked, alike-reads.Learnt, neighbour-below t, neighbour.Post) (above-at t) above.Post
 above-word-requires t c κs = search needs
@@ -98,7 +100,7 @@ above-returns-2 t c =
     let i = sym (c .before .before .before .before .before .before .before .is-root .ensures) ∙ c .before .before .before .before .before .before .if1 .left in
     let w = c .before .before .before .before .word in
     let j = ap₂ same (sym (c .before .before .before .parent-of .ensures)) (sym (c .before .before .parent-of2 .ensures ∙ ap parentOf m)) ∙ sym (c .before .alike .ensures) ∙ c .if2 .taken in
-    λ S h r. subst (λ x. Made (length (a .t .now)) (raised S (a .step) (a .c) x) (parentOf x) (a .t .now) (w .result) (a .nodes)) (sym m) (above-same (a .t .now) (a .nodes) (a .u) (a .c) (a .d) (a .step) S h r (q .2) (q .3) g i j (w .result) (w .ensures))
+    λ S h r. above-last (a .t .now) (a .nodes) S h (length (a .t .now)) (a .step) (a .t .now) (w .result) (a .nodes) (a .c) (a .e) (subst (λ x. Made (length (a .t .now)) (raised S (a .step) (a .c) x) (parentOf x) (a .t .now) (w .result) (a .nodes)) (sym m) (above-same (a .t .now) (a .nodes) (a .u) (a .c) (a .d) (a .step) S h r (q .2) (q .3) g i j (w .result) (w .ensures)))
 
 above-sub-neighbour : (t : ℕ) → above-lts.Need-sub-neighbour (is-root-reads.Asked, is-root-reads.Learnt, word-reads.Asked, word-reads.Learnt, parent-of-reads.Asked, parent-of-reads.Learnt, alike-reads.Asked, alike-reads.Learnt, neighbour-below t, neighbour.Post) (above-at t) above.Post
 above-sub-neighbour t c =
@@ -146,43 +148,43 @@ above-returns-3 t c =
     let p = c .before .before .before .before .before .before .before .parent-of .ensures in
     let j = ap₂ same (sym p) (sym (c .before .before .before .before .before .before .parent-of2 .ensures ∙ ap parentOf m)) ∙ sym (c .before .before .before .before .before .alike .ensures) ∙ c .before .before .before .before .if2 .left in
     let v = c .before .before .neighbour in
-    λ S h r. subst (λ x. Made (length (a .t .now)) (raised S (a .step) (a .c) x) (parentOf x) (v .last .0) (v .result .at) (v .result .nodes)) (sym m) (above-call (a .t .now) (a .nodes) (a .u) (a .c) (a .d) (a .step) S h r (q .2) (q .3) g i j (v .last .0) (v .result .at) (v .result .nodes)
-    (subst (λ y. Made (length (a .t .now)) (reached S (a .step) y (stepped (a .d) y)) (stepped (a .d) y) (v .last .0) (v .result .at) (v .result .nodes)) p
+    λ S h r. subst (λ x. Made (length (a .t .now)) (raised S (a .step) (a .c) x) (parentOf x) (v .last .0) (v .result) (max (a .nodes) (v .result))) (sym m) (above-call (a .t .now) (a .nodes) (a .u) (a .c) (a .d) (a .step) S h r (q .2) (q .3) g i j (v .last .0) (v .result) (max (a .nodes) (v .result))
+    (subst (λ y. Made (length (a .t .now)) (reached S (a .step) y (stepped (a .d) y)) (stepped (a .d) y) (v .last .0) (v .result) (max (a .nodes) (v .result))) p
     (v .ensures S h (ap (refOf (S .nodes)) p ∙ parent-ref (a .t .now) (a .nodes) (a .u) (a .c) (a .d) (a .step) S h r (q .2) (q .3) i (w .result) (w .ensures)))))
 
-neighbour-add-word : (t : ℕ) → neighbour-lts.Need-add-word (word-reads.Asked, word-reads.Learnt, moved-reads.Asked, moved-reads.Learnt, is-root-reads.Asked, is-root-reads.Learnt, link-reads.Asked, link-reads.Learnt, above-below t, above.Post, child-word-reads.Asked, child-word-reads.Learnt, child-reads.Asked, child-reads.Learnt) (neighbour-at t) neighbour.Post
+neighbour-add-word : (t : ℕ) → neighbour-lts.Need-add-word (word-reads.Asked, word-reads.Learnt, moved-reads.Asked, moved-reads.Learnt, is-root-reads.Asked, is-root-reads.Learnt, link-reads.Asked, link-reads.Learnt, above-below t, above.Post, in-use-reads.Asked, in-use-reads.Learnt, child-word-reads.Asked, child-word-reads.Learnt, child-reads.Asked, child-reads.Learnt) (neighbour-at t) neighbour.Post
 neighbour-add-word t c = search needs
 
-neighbour-word-requires : (t : ℕ) → neighbour-lts.Need-word-requires (word-reads.Asked, word-reads.Learnt, moved-reads.Asked, moved-reads.Learnt, is-root-reads.Asked, is-root-reads.Learnt, link-reads.Asked, link-reads.Learnt, above-below t, above.Post, child-word-reads.Asked, child-word-reads.Learnt, child-reads.Asked, child-reads.Learnt) (neighbour-at t) neighbour.Post
+neighbour-word-requires : (t : ℕ) → neighbour-lts.Need-word-requires (word-reads.Asked, word-reads.Learnt, moved-reads.Asked, moved-reads.Learnt, is-root-reads.Asked, is-root-reads.Learnt, link-reads.Asked, link-reads.Learnt, above-below t, above.Post, in-use-reads.Asked, in-use-reads.Learnt, child-word-reads.Asked, child-word-reads.Learnt, child-reads.Asked, child-reads.Learnt) (neighbour-at t) neighbour.Post
 neighbour-word-requires t c κs = search needs
 
-neighbour-cast-known : (t : ℕ) → neighbour-lts.Need-cast-known (word-reads.Asked, word-reads.Learnt, moved-reads.Asked, moved-reads.Learnt, is-root-reads.Asked, is-root-reads.Learnt, link-reads.Asked, link-reads.Learnt, above-below t, above.Post, child-word-reads.Asked, child-word-reads.Learnt, child-reads.Asked, child-reads.Learnt) (neighbour-at t) neighbour.Post
+neighbour-cast-known : (t : ℕ) → neighbour-lts.Need-cast-known (word-reads.Asked, word-reads.Learnt, moved-reads.Asked, moved-reads.Learnt, is-root-reads.Asked, is-root-reads.Learnt, link-reads.Asked, link-reads.Learnt, above-below t, above.Post, in-use-reads.Asked, in-use-reads.Learnt, child-word-reads.Asked, child-word-reads.Learnt, child-reads.Asked, child-reads.Learnt) (neighbour-at t) neighbour.Post
 neighbour-cast-known t c = search needs
 
-neighbour-same-length : (t : ℕ) → neighbour-lts.Need-same-length (word-reads.Asked, word-reads.Learnt, moved-reads.Asked, moved-reads.Learnt, is-root-reads.Asked, is-root-reads.Learnt, link-reads.Asked, link-reads.Learnt, above-below t, above.Post, child-word-reads.Asked, child-word-reads.Learnt, child-reads.Asked, child-reads.Learnt) (neighbour-at t) neighbour.Post
+neighbour-same-length : (t : ℕ) → neighbour-lts.Need-same-length (word-reads.Asked, word-reads.Learnt, moved-reads.Asked, moved-reads.Learnt, is-root-reads.Asked, is-root-reads.Learnt, link-reads.Asked, link-reads.Learnt, above-below t, above.Post, in-use-reads.Asked, in-use-reads.Learnt, child-word-reads.Asked, child-word-reads.Learnt, child-reads.Asked, child-reads.Learnt) (neighbour-at t) neighbour.Post
 neighbour-same-length t c = search needs
 
-neighbour-returns : (t : ℕ) → neighbour-lts.Need-returns (word-reads.Asked, word-reads.Learnt, moved-reads.Asked, moved-reads.Learnt, is-root-reads.Asked, is-root-reads.Learnt, link-reads.Asked, link-reads.Learnt, above-below t, above.Post, child-word-reads.Asked, child-word-reads.Learnt, child-reads.Asked, child-reads.Learnt) (neighbour-at t) neighbour.Post
+neighbour-returns : (t : ℕ) → neighbour-lts.Need-returns (word-reads.Asked, word-reads.Learnt, moved-reads.Asked, moved-reads.Learnt, is-root-reads.Asked, is-root-reads.Learnt, link-reads.Asked, link-reads.Learnt, above-below t, above.Post, in-use-reads.Asked, in-use-reads.Learnt, child-word-reads.Asked, child-word-reads.Learnt, child-reads.Asked, child-reads.Learnt) (neighbour-at t) neighbour.Post
 neighbour-returns t c =
     let s = c .before .before .before .before in
     let a = s .args in
     let q = s .pre .1 .1 in
     let w = c .before .word in
-    λ S h r. near-known (a .t .now) (a .nodes) (a .u) (a .c) (a .d) (a .step) S h r (q .2) (q .3) (w .result) (w .ensures) (λ z. omega arith)
+    λ S h r. near-last (a .t .now) (a .nodes) S h (length (a .t .now)) (a .step) (a .t .now) (w .result) (a .nodes) (a .c) (stepped (a .d) (a .c)) (near-known (a .t .now) (a .nodes) (a .u) (a .c) (a .d) (a .step) S h r (q .2) (q .3) (w .result) (w .ensures) (λ z. omega arith))
 
-neighbour-moved-requires : (t : ℕ) → neighbour-lts.Need-moved-requires (word-reads.Asked, word-reads.Learnt, moved-reads.Asked, moved-reads.Learnt, is-root-reads.Asked, is-root-reads.Learnt, link-reads.Asked, link-reads.Learnt, above-below t, above.Post, child-word-reads.Asked, child-word-reads.Learnt, child-reads.Asked, child-reads.Learnt) (neighbour-at t) neighbour.Post
+neighbour-moved-requires : (t : ℕ) → neighbour-lts.Need-moved-requires (word-reads.Asked, word-reads.Learnt, moved-reads.Asked, moved-reads.Learnt, is-root-reads.Asked, is-root-reads.Learnt, link-reads.Asked, link-reads.Learnt, above-below t, above.Post, in-use-reads.Asked, in-use-reads.Learnt, child-word-reads.Asked, child-word-reads.Learnt, child-reads.Asked, child-reads.Learnt) (neighbour-at t) neighbour.Post
 neighbour-moved-requires t c κs = search needs
 
-neighbour-is-root-requires : (t : ℕ) → neighbour-lts.Need-is-root-requires (word-reads.Asked, word-reads.Learnt, moved-reads.Asked, moved-reads.Learnt, is-root-reads.Asked, is-root-reads.Learnt, link-reads.Asked, link-reads.Learnt, above-below t, above.Post, child-word-reads.Asked, child-word-reads.Learnt, child-reads.Asked, child-reads.Learnt) (neighbour-at t) neighbour.Post
+neighbour-is-root-requires : (t : ℕ) → neighbour-lts.Need-is-root-requires (word-reads.Asked, word-reads.Learnt, moved-reads.Asked, moved-reads.Learnt, is-root-reads.Asked, is-root-reads.Learnt, link-reads.Asked, link-reads.Learnt, above-below t, above.Post, in-use-reads.Asked, in-use-reads.Learnt, child-word-reads.Asked, child-word-reads.Learnt, child-reads.Asked, child-reads.Learnt) (neighbour-at t) neighbour.Post
 neighbour-is-root-requires t c κs = search needs
 
-neighbour-link-requires : (t : ℕ) → neighbour-lts.Need-link-requires (word-reads.Asked, word-reads.Learnt, moved-reads.Asked, moved-reads.Learnt, is-root-reads.Asked, is-root-reads.Learnt, link-reads.Asked, link-reads.Learnt, above-below t, above.Post, child-word-reads.Asked, child-word-reads.Learnt, child-reads.Asked, child-reads.Learnt) (neighbour-at t) neighbour.Post
+neighbour-link-requires : (t : ℕ) → neighbour-lts.Need-link-requires (word-reads.Asked, word-reads.Learnt, moved-reads.Asked, moved-reads.Learnt, is-root-reads.Asked, is-root-reads.Learnt, link-reads.Asked, link-reads.Learnt, above-below t, above.Post, in-use-reads.Asked, in-use-reads.Learnt, child-word-reads.Asked, child-word-reads.Learnt, child-reads.Asked, child-reads.Learnt) (neighbour-at t) neighbour.Post
 neighbour-link-requires t c κs = search needs
 
-neighbour-same-length-2 : (t : ℕ) → neighbour-lts.Need-same-length-2 (word-reads.Asked, word-reads.Learnt, moved-reads.Asked, moved-reads.Learnt, is-root-reads.Asked, is-root-reads.Learnt, link-reads.Asked, link-reads.Learnt, above-below t, above.Post, child-word-reads.Asked, child-word-reads.Learnt, child-reads.Asked, child-reads.Learnt) (neighbour-at t) neighbour.Post
+neighbour-same-length-2 : (t : ℕ) → neighbour-lts.Need-same-length-2 (word-reads.Asked, word-reads.Learnt, moved-reads.Asked, moved-reads.Learnt, is-root-reads.Asked, is-root-reads.Learnt, link-reads.Asked, link-reads.Learnt, above-below t, above.Post, in-use-reads.Asked, in-use-reads.Learnt, child-word-reads.Asked, child-word-reads.Learnt, child-reads.Asked, child-reads.Learnt) (neighbour-at t) neighbour.Post
 neighbour-same-length-2 t c = search needs
 
-neighbour-returns-2 : (t : ℕ) → neighbour-lts.Need-returns-2 (word-reads.Asked, word-reads.Learnt, moved-reads.Asked, moved-reads.Learnt, is-root-reads.Asked, is-root-reads.Learnt, link-reads.Asked, link-reads.Learnt, above-below t, above.Post, child-word-reads.Asked, child-word-reads.Learnt, child-reads.Asked, child-reads.Learnt) (neighbour-at t) neighbour.Post
+neighbour-returns-2 : (t : ℕ) → neighbour-lts.Need-returns-2 (word-reads.Asked, word-reads.Learnt, moved-reads.Asked, moved-reads.Learnt, is-root-reads.Asked, is-root-reads.Learnt, link-reads.Asked, link-reads.Learnt, above-below t, above.Post, in-use-reads.Asked, in-use-reads.Learnt, child-word-reads.Asked, child-word-reads.Learnt, child-reads.Asked, child-reads.Learnt) (neighbour-at t) neighbour.Post
 neighbour-returns-2 t c =
     let s = c .before .before .before .before .before .before .before .before .before .before .before in
     let a = s .args in
@@ -190,9 +192,9 @@ neighbour-returns-2 t c =
     let w = c .before .before .before .before .before .before .before .before .word in
     let z : w .result ≡ 0 = omega (arith, c .before .before .before .before .before .before .before .if1 .left) in
     let g = ap isRoot (sym (c .before .before .before .before .before .before .moved .ensures)) ∙ sym (c .before .before .before .before .before .is-root .ensures) ∙ c .before .before .before .before .if2 .taken in
-    λ S h r. subst (λ l. Made (length (a .t .now)) (reached S (a .step) (a .c) (stepped (a .d) (a .c))) (stepped (a .d) (a .c)) l 1 (a .nodes)) (sym (c .before .before .link .ensures)) (near-root (a .t .now) (a .nodes) (a .u) (a .c) (a .d) (a .step) S h r (q .2) (q .3) (sym z ∙ w .ensures) g)
+    λ S h r. near-last (a .t .now) (a .nodes) S h (length (a .t .now)) (a .step) _ 1 (a .nodes) (a .c) (stepped (a .d) (a .c)) (subst (λ l. Made (length (a .t .now)) (reached S (a .step) (a .c) (stepped (a .d) (a .c))) (stepped (a .d) (a .c)) l 1 (a .nodes)) (sym (c .before .before .link .ensures)) (near-root (a .t .now) (a .nodes) (a .u) (a .c) (a .d) (a .step) S h r (q .2) (q .3) (sym z ∙ w .ensures) g))
 
-neighbour-above-requires : (t : ℕ) → neighbour-lts.Need-above-requires (word-reads.Asked, word-reads.Learnt, moved-reads.Asked, moved-reads.Learnt, is-root-reads.Asked, is-root-reads.Learnt, link-reads.Asked, link-reads.Learnt, above-below t, above.Post, child-word-reads.Asked, child-word-reads.Learnt, child-reads.Asked, child-reads.Learnt) (neighbour-at t) neighbour.Post
+neighbour-above-requires : (t : ℕ) → neighbour-lts.Need-above-requires (word-reads.Asked, word-reads.Learnt, moved-reads.Asked, moved-reads.Learnt, is-root-reads.Asked, is-root-reads.Learnt, link-reads.Asked, link-reads.Learnt, above-below t, above.Post, in-use-reads.Asked, in-use-reads.Learnt, child-word-reads.Asked, child-word-reads.Learnt, child-reads.Asked, child-reads.Learnt) (neighbour-at t) neighbour.Post
 neighbour-above-requires t c κs =
     let s = c .before .before .before .before .before .before .before .before in
     let a = s .args in
@@ -200,10 +202,10 @@ neighbour-above-requires t c κs =
     let e = c .before .before .before .moved .ensures in
     (omega (arith, s .pre .0), (s .pre .1 .0, (q, (e, sym (c .before .before .is-root .ensures) ∙ c .before .if2 .left))))
 
-neighbour-same-length-3 : (t : ℕ) → neighbour-lts.Need-same-length-3 (word-reads.Asked, word-reads.Learnt, moved-reads.Asked, moved-reads.Learnt, is-root-reads.Asked, is-root-reads.Learnt, link-reads.Asked, link-reads.Learnt, above-below t, above.Post, child-word-reads.Asked, child-word-reads.Learnt, child-reads.Asked, child-reads.Learnt) (neighbour-at t) neighbour.Post
+neighbour-same-length-3 : (t : ℕ) → neighbour-lts.Need-same-length-3 (word-reads.Asked, word-reads.Learnt, moved-reads.Asked, moved-reads.Learnt, is-root-reads.Asked, is-root-reads.Learnt, link-reads.Asked, link-reads.Learnt, above-below t, above.Post, in-use-reads.Asked, in-use-reads.Learnt, child-word-reads.Asked, child-word-reads.Learnt, child-reads.Asked, child-reads.Learnt) (neighbour-at t) neighbour.Post
 neighbour-same-length-3 t c = search needs
 
-neighbour-returns-3 : (t : ℕ) → neighbour-lts.Need-returns-3 (word-reads.Asked, word-reads.Learnt, moved-reads.Asked, moved-reads.Learnt, is-root-reads.Asked, is-root-reads.Learnt, link-reads.Asked, link-reads.Learnt, above-below t, above.Post, child-word-reads.Asked, child-word-reads.Learnt, child-reads.Asked, child-reads.Learnt) (neighbour-at t) neighbour.Post
+neighbour-returns-3 : (t : ℕ) → neighbour-lts.Need-returns-3 (word-reads.Asked, word-reads.Learnt, moved-reads.Asked, moved-reads.Learnt, is-root-reads.Asked, is-root-reads.Learnt, link-reads.Asked, link-reads.Learnt, above-below t, above.Post, in-use-reads.Asked, in-use-reads.Learnt, child-word-reads.Asked, child-word-reads.Learnt, child-reads.Asked, child-reads.Learnt) (neighbour-at t) neighbour.Post
 neighbour-returns-3 t c =
     let s = c .before .before .before .before .before .before .before .before .before .before .before .before in
     let a = s .args in
@@ -215,56 +217,39 @@ neighbour-returns-3 t c =
     let m = c .before .before .before .before .before .before .before .moved .ensures in
     let g = ap isRoot (sym m) ∙ sym (c .before .before .before .before .before .before .is-root .ensures) ∙ c .before .before .before .before .before .if2 .left in
     let o = c .before .before .before .above in
-    λ S h r. near-no-parent (a .t .now) (a .nodes) (a .u) (a .c) (a .d) (a .step) S h r (q .2) (q .3) none g (o .last .0) (o .result .at) (o .result .nodes) (subst (λ x. Made (length (a .t .now)) (raised (S) (a .step) (a .c) x) (parentOf x) (o .last .0) (o .result .at) (o .result .nodes)) m (o .ensures (S) (h) (r))) (c .if3 .taken)
+    λ S h r. near-no-parent (a .t .now) (a .nodes) (a .u) (a .c) (a .d) (a .step) S h r (q .2) (q .3) none g (o .last .0) (o .result) (max (a .nodes) (o .result)) (subst (λ x. Made (length (a .t .now)) (raised (S) (a .step) (a .c) x) (parentOf x) (o .last .0) (o .result) (max (a .nodes) (o .result))) m (o .ensures (S) (h) (r))) (c .if3 .taken)
 
-neighbour-sub-child : (t : ℕ) → neighbour-lts.Need-sub-child (word-reads.Asked, word-reads.Learnt, moved-reads.Asked, moved-reads.Learnt, is-root-reads.Asked, is-root-reads.Learnt, link-reads.Asked, link-reads.Learnt, above-below t, above.Post, child-word-reads.Asked, child-word-reads.Learnt, child-reads.Asked, child-reads.Learnt) (neighbour-at t) neighbour.Post
+neighbour-in-use-requires : (t : ℕ) → neighbour-lts.Need-in-use-requires (word-reads.Asked, word-reads.Learnt, moved-reads.Asked, moved-reads.Learnt, is-root-reads.Asked, is-root-reads.Learnt, link-reads.Asked, link-reads.Learnt, above-below t, above.Post, in-use-reads.Asked, in-use-reads.Learnt, child-word-reads.Asked, child-word-reads.Learnt, child-reads.Asked, child-reads.Learnt) (neighbour-at t) neighbour.Post
+neighbour-in-use-requires t c κs = search needs
+
+neighbour-sub-child : (t : ℕ) → neighbour-lts.Need-sub-child (word-reads.Asked, word-reads.Learnt, moved-reads.Asked, moved-reads.Learnt, is-root-reads.Asked, is-root-reads.Learnt, link-reads.Asked, link-reads.Learnt, above-below t, above.Post, in-use-reads.Asked, in-use-reads.Learnt, child-word-reads.Asked, child-word-reads.Learnt, child-reads.Asked, child-reads.Learnt) (neighbour-at t) neighbour.Post
 neighbour-sub-child t c = search needs
 
-neighbour-child-word-requires : (t : ℕ) → neighbour-lts.Need-child-word-requires (word-reads.Asked, word-reads.Learnt, moved-reads.Asked, moved-reads.Learnt, is-root-reads.Asked, is-root-reads.Learnt, link-reads.Asked, link-reads.Learnt, above-below t, above.Post, child-word-reads.Asked, child-word-reads.Learnt, child-reads.Asked, child-reads.Learnt) (neighbour-at t) neighbour.Post
+neighbour-child-word-requires : (t : ℕ) → neighbour-lts.Need-child-word-requires (word-reads.Asked, word-reads.Learnt, moved-reads.Asked, moved-reads.Learnt, is-root-reads.Asked, is-root-reads.Learnt, link-reads.Asked, link-reads.Learnt, above-below t, above.Post, in-use-reads.Asked, in-use-reads.Learnt, child-word-reads.Asked, child-word-reads.Learnt, child-reads.Asked, child-reads.Learnt) (neighbour-at t) neighbour.Post
 neighbour-child-word-requires t c κs = search needs
 
-neighbour-child-requires : (t : ℕ) → neighbour-lts.Need-child-requires (word-reads.Asked, word-reads.Learnt, moved-reads.Asked, moved-reads.Learnt, is-root-reads.Asked, is-root-reads.Learnt, link-reads.Asked, link-reads.Learnt, above-below t, above.Post, child-word-reads.Asked, child-word-reads.Learnt, child-reads.Asked, child-reads.Learnt) (neighbour-at t) neighbour.Post
+neighbour-child-requires : (t : ℕ) → neighbour-lts.Need-child-requires (word-reads.Asked, word-reads.Learnt, moved-reads.Asked, moved-reads.Learnt, is-root-reads.Asked, is-root-reads.Learnt, link-reads.Asked, link-reads.Learnt, above-below t, above.Post, in-use-reads.Asked, in-use-reads.Learnt, child-word-reads.Asked, child-word-reads.Learnt, child-reads.Asked, child-reads.Learnt) (neighbour-at t) neighbour.Post
 neighbour-child-requires t c κs =
-    let s = c .before .before .before .before .before .before .before .before .before .before .before .before .before .before in
+    let s = c .before .before .before .before .before .before .before .before .before .before .before .before .before .before .before in
     let a = s .args in
     let q = s .pre .1 .1 in
     let k = s .pre .1 .0 in
-    let w = c .before .before .before .before .before .before .before .before .before .before .before .word in
-    let z : w .result ≡ 0 = omega (arith, c .before .before .before .before .before .before .before .before .before .before .if1 .left) in
+    let w = c .before .before .before .before .before .before .before .before .before .before .before .before .word in
+    let z : w .result ≡ 0 = omega (arith, c .before .before .before .before .before .before .before .before .before .before .before .if1 .left) in
     let none = sym z ∙ w .ensures in
-    let m = c .before .before .before .before .before .before .before .before .before .moved .ensures in
-    let g = ap isRoot (sym m) ∙ sym (c .before .before .before .before .before .before .before .before .is-root .ensures) ∙ c .before .before .before .before .before .before .before .if2 .left in
-    let o = c .before .before .before .before .before .above in
-    let j = over-holds (a .t .now) (a .nodes) (a .u) (a .c) (a .d) (a .step) (k .state) (k .holds) (k .here) (q .2) (q .3) g (o .last .0) (o .result .at) (o .result .nodes) (subst (λ x. Made (length (a .t .now)) (raised (k .state) (a .step) (a .c) x) (parentOf x) (o .last .0) (o .result .at) (o .result .nodes)) m (o .ensures (k .state) (k .holds) (k .here))) (λ y. c .before .before .if3 .left y) in
-    let x = child-word-small (c .before .before .before .before .before .before .before .before .before .moved .result) in
-    (record { state = raised (k .state) (a .step) (a .c) (stepped (a .d) (a .c)); holds = j .0 }, (omega (arith, ref-below (raised (k .state) (a .step) (a .c) (stepped (a .d) (a .c)) .nodes) (parentOf (stepped (a .d) (a .c))) (o .result .at - 1) (j .1), j .0 .count), omega (arith, c .child-word .ensures, x .0), omega (arith, c .child-word .ensures, x .1), omega (arith, j .2, q .4)))
+    let m = c .before .before .before .before .before .before .before .before .before .before .moved .ensures in
+    let g = ap isRoot (sym m) ∙ sym (c .before .before .before .before .before .before .before .before .before .is-root .ensures) ∙ c .before .before .before .before .before .before .before .before .if2 .left in
+    let o = c .before .before .before .before .before .before .above in
+    let j = over-holds (a .t .now) (a .nodes) (a .u) (a .c) (a .d) (a .step) (k .state) (k .holds) (k .here) (q .2) (q .3) g (o .last .0) (o .result) (max (a .nodes) (o .result)) (subst (λ x. Made (length (a .t .now)) (raised (k .state) (a .step) (a .c) x) (parentOf x) (o .last .0) (o .result) (max (a .nodes) (o .result))) m (o .ensures (k .state) (k .holds) (k .here))) (λ y. c .before .before .before .if3 .left y) in
+    let n = c .before .in-use .ensures in
+    let x = child-word-small (c .before .before .before .before .before .before .before .before .before .before .moved .result) in
+    (record { state = raised (k .state) (a .step) (a .c) (stepped (a .d) (a .c)); holds = subst (λ n. Holds (o .last .0) n (raised (k .state) (a .step) (a .c) (stepped (a .d) (a .c)))) (sym n) (j .0) }, (omega (arith, ref-below (raised (k .state) (a .step) (a .c) (stepped (a .d) (a .c)) .nodes) (parentOf (stepped (a .d) (a .c))) (o .result - 1) (j .1), j .0 .count, n), omega (arith, c .child-word .ensures, x .0), omega (arith, c .child-word .ensures, x .1), omega (arith, j .2, q .4)))
 
-neighbour-same-length-4 : (t : ℕ) → neighbour-lts.Need-same-length-4 (word-reads.Asked, word-reads.Learnt, moved-reads.Asked, moved-reads.Learnt, is-root-reads.Asked, is-root-reads.Learnt, link-reads.Asked, link-reads.Learnt, above-below t, above.Post, child-word-reads.Asked, child-word-reads.Learnt, child-reads.Asked, child-reads.Learnt) (neighbour-at t) neighbour.Post
+neighbour-same-length-4 : (t : ℕ) → neighbour-lts.Need-same-length-4 (word-reads.Asked, word-reads.Learnt, moved-reads.Asked, moved-reads.Learnt, is-root-reads.Asked, is-root-reads.Learnt, link-reads.Asked, link-reads.Learnt, above-below t, above.Post, in-use-reads.Asked, in-use-reads.Learnt, child-word-reads.Asked, child-word-reads.Learnt, child-reads.Asked, child-reads.Learnt) (neighbour-at t) neighbour.Post
 neighbour-same-length-4 t c = search needs
 
-neighbour-returns-4 : (t : ℕ) → neighbour-lts.Need-returns-4 (word-reads.Asked, word-reads.Learnt, moved-reads.Asked, moved-reads.Learnt, is-root-reads.Asked, is-root-reads.Learnt, link-reads.Asked, link-reads.Learnt, above-below t, above.Post, child-word-reads.Asked, child-word-reads.Learnt, child-reads.Asked, child-reads.Learnt) (neighbour-at t) neighbour.Post
+neighbour-returns-4 : (t : ℕ) → neighbour-lts.Need-returns-4 (word-reads.Asked, word-reads.Learnt, moved-reads.Asked, moved-reads.Learnt, is-root-reads.Asked, is-root-reads.Learnt, link-reads.Asked, link-reads.Learnt, above-below t, above.Post, in-use-reads.Asked, in-use-reads.Learnt, child-word-reads.Asked, child-word-reads.Learnt, child-reads.Asked, child-reads.Learnt) (neighbour-at t) neighbour.Post
 neighbour-returns-4 t c =
-    let s = c .before .before .before .before .before .before .before .before .before .before .before .before .before .before .before .before .before .before in
-    let a = s .args in
-    let q = s .pre .1 .1 in
-    let k = s .pre .1 .0 in
-    let w = c .before .before .before .before .before .before .before .before .before .before .before .before .before .before .before .word in
-    let z : w .result ≡ 0 = omega (arith, c .before .before .before .before .before .before .before .before .before .before .before .before .before .before .if1 .left) in
-    let none = sym z ∙ w .ensures in
-    let m = c .before .before .before .before .before .before .before .before .before .before .before .before .before .moved .ensures in
-    let g = ap isRoot (sym m) ∙ sym (c .before .before .before .before .before .before .before .before .before .before .before .before .is-root .ensures) ∙ c .before .before .before .before .before .before .before .before .before .before .before .if2 .left in
-    let o = c .before .before .before .before .before .before .before .before .before .above in
-    let v = c .before .before .before .child in
-    λ S h r.
-    let j = over-holds (a .t .now) (a .nodes) (a .u) (a .c) (a .d) (a .step) S h r (q .2) (q .3) g (o .last .0) (o .result .at) (o .result .nodes) (subst (λ x. Made (length (a .t .now)) (raised (S) (a .step) (a .c) x) (parentOf x) (o .last .0) (o .result .at) (o .result .nodes)) m (o .ensures (S) (h) (r))) (λ y. c .before .before .before .before .before .before .if3 .left y) in
-    near-no-child (a .t .now) (a .nodes) (a .u) (a .c) (a .d) (a .step) S h r (q .2) (q .3) none g (v .last .0) (v .result .at) (v .result .nodes) (subst (λ n. Made n (grown (raised (S) (a .step) (a .c) (stepped (a .d) (a .c))) (stepped (a .d) (a .c)) (a .step)) (stepped (a .d) (a .c)) (v .last .0) (v .result .at) (v .result .nodes)) (j .2)
-    (v .ensures (raised (S) (a .step) (a .c) (stepped (a .d) (a .c))) (stepped (a .d) (a .c)) (j .0) g (j .1) (c .before .before .before .before .child-word .ensures ∙ ap childWord m))) (c .if4 .taken)
-
-neighbour-sub-link : (t : ℕ) → neighbour-lts.Need-sub-link (word-reads.Asked, word-reads.Learnt, moved-reads.Asked, moved-reads.Learnt, is-root-reads.Asked, is-root-reads.Learnt, link-reads.Asked, link-reads.Learnt, above-below t, above.Post, child-word-reads.Asked, child-word-reads.Learnt, child-reads.Asked, child-reads.Learnt) (neighbour-at t) neighbour.Post
-neighbour-sub-link t c = search needs
-
-neighbour-link-requires-2 : (t : ℕ) → neighbour-lts.Need-link-requires-2 (word-reads.Asked, word-reads.Learnt, moved-reads.Asked, moved-reads.Learnt, is-root-reads.Asked, is-root-reads.Learnt, link-reads.Asked, link-reads.Learnt, above-below t, above.Post, child-word-reads.Asked, child-word-reads.Learnt, child-reads.Asked, child-reads.Learnt) (neighbour-at t) neighbour.Post
-neighbour-link-requires-2 t c κs =
     let s = c .before .before .before .before .before .before .before .before .before .before .before .before .before .before .before .before .before .before .before in
     let a = s .args in
     let q = s .pre .1 .1 in
@@ -275,40 +260,63 @@ neighbour-link-requires-2 t c κs =
     let m = c .before .before .before .before .before .before .before .before .before .before .before .before .before .before .moved .ensures in
     let g = ap isRoot (sym m) ∙ sym (c .before .before .before .before .before .before .before .before .before .before .before .before .before .is-root .ensures) ∙ c .before .before .before .before .before .before .before .before .before .before .before .before .if2 .left in
     let o = c .before .before .before .before .before .before .before .before .before .before .above in
-    let v = c .before .before .before .before .child in
-    let j = over-holds (a .t .now) (a .nodes) (a .u) (a .c) (a .d) (a .step) (k .state) (k .holds) (k .here) (q .2) (q .3) g (o .last .0) (o .result .at) (o .result .nodes) (subst (λ x. Made (length (a .t .now)) (raised (k .state) (a .step) (a .c) x) (parentOf x) (o .last .0) (o .result .at) (o .result .nodes)) m (o .ensures (k .state) (k .holds) (k .here))) (λ y. c .before .before .before .before .before .before .before .if3 .left y) in
-    let l = link-bounds (a .t .now) (a .nodes) (a .u) (a .c) (a .d) (a .step) (k .state) (k .holds) (k .here) (q .2) (q .3) (v .last .0) (v .result .at) (v .result .nodes) (subst (λ n. Made n (grown (raised (k .state) (a .step) (a .c) (stepped (a .d) (a .c))) (stepped (a .d) (a .c)) (a .step)) (stepped (a .d) (a .c)) (v .last .0) (v .result .at) (v .result .nodes)) (j .2)
-    (v .ensures (raised (k .state) (a .step) (a .c) (stepped (a .d) (a .c))) (stepped (a .d) (a .c)) (j .0) g (j .1) (c .before .before .before .before .before .child-word .ensures ∙ ap childWord m))) (λ y. c .before .if4 .left y) in
-    ((l .0, l .1), (q .2, omega (arith, l .2, q .4)))
+    let v = c .before .before .before .child in
+    λ S h r.
+    let j = over-holds (a .t .now) (a .nodes) (a .u) (a .c) (a .d) (a .step) S h r (q .2) (q .3) g (o .last .0) (o .result) (max (a .nodes) (o .result)) (subst (λ x. Made (length (a .t .now)) (raised (S) (a .step) (a .c) x) (parentOf x) (o .last .0) (o .result) (max (a .nodes) (o .result))) m (o .ensures (S) (h) (r))) (λ y. c .before .before .before .before .before .before .before .if3 .left y) in
+    near-last (a .t .now) (a .nodes) S h (length (a .t .now)) (a .step) (v .last .0) (v .result) (max (c .before .before .before .before .before .in-use .result) (v .result)) (a .c) (stepped (a .d) (a .c))
+    (near-no-child (a .t .now) (a .nodes) (a .u) (a .c) (a .d) (a .step) S h r (q .2) (q .3) none g (v .last .0) (v .result) (max (c .before .before .before .before .before .in-use .result) (v .result)) (subst (λ n. Made n (grown (raised (S) (a .step) (a .c) (stepped (a .d) (a .c))) (stepped (a .d) (a .c)) (a .step)) (stepped (a .d) (a .c)) (v .last .0) (v .result) (max (c .before .before .before .before .before .in-use .result) (v .result))) (j .2)
+    (v .ensures (raised (S) (a .step) (a .c) (stepped (a .d) (a .c))) (stepped (a .d) (a .c)) (subst (λ n. Holds (o .last .0) n (raised (S) (a .step) (a .c) (stepped (a .d) (a .c)))) (sym (c .before .before .before .before .before .in-use .ensures)) (j .0)) g (j .1) (c .before .before .before .before .child-word .ensures ∙ ap childWord m))) (c .if4 .taken))
 
-neighbour-same-length-5 : (t : ℕ) → neighbour-lts.Need-same-length-5 (word-reads.Asked, word-reads.Learnt, moved-reads.Asked, moved-reads.Learnt, is-root-reads.Asked, is-root-reads.Learnt, link-reads.Asked, link-reads.Learnt, above-below t, above.Post, child-word-reads.Asked, child-word-reads.Learnt, child-reads.Asked, child-reads.Learnt) (neighbour-at t) neighbour.Post
-neighbour-same-length-5 t c = search needs
+neighbour-sub-link : (t : ℕ) → neighbour-lts.Need-sub-link (word-reads.Asked, word-reads.Learnt, moved-reads.Asked, moved-reads.Learnt, is-root-reads.Asked, is-root-reads.Learnt, link-reads.Asked, link-reads.Learnt, above-below t, above.Post, in-use-reads.Asked, in-use-reads.Learnt, child-word-reads.Asked, child-word-reads.Learnt, child-reads.Asked, child-reads.Learnt) (neighbour-at t) neighbour.Post
+neighbour-sub-link t c = search needs
 
-neighbour-returns-5 : (t : ℕ) → neighbour-lts.Need-returns-5 (word-reads.Asked, word-reads.Learnt, moved-reads.Asked, moved-reads.Learnt, is-root-reads.Asked, is-root-reads.Learnt, link-reads.Asked, link-reads.Learnt, above-below t, above.Post, child-word-reads.Asked, child-word-reads.Learnt, child-reads.Asked, child-reads.Learnt) (neighbour-at t) neighbour.Post
-neighbour-returns-5 t c =
-    let s = c .before .before .before .before .before .before .before .before .before .before .before .before .before .before .before .before .before .before .before .before .before .before in
+neighbour-link-requires-2 : (t : ℕ) → neighbour-lts.Need-link-requires-2 (word-reads.Asked, word-reads.Learnt, moved-reads.Asked, moved-reads.Learnt, is-root-reads.Asked, is-root-reads.Learnt, link-reads.Asked, link-reads.Learnt, above-below t, above.Post, in-use-reads.Asked, in-use-reads.Learnt, child-word-reads.Asked, child-word-reads.Learnt, child-reads.Asked, child-reads.Learnt) (neighbour-at t) neighbour.Post
+neighbour-link-requires-2 t c κs =
+    let s = c .before .before .before .before .before .before .before .before .before .before .before .before .before .before .before .before .before .before .before .before in
     let a = s .args in
     let q = s .pre .1 .1 in
     let k = s .pre .1 .0 in
-    let w = c .before .before .before .before .before .before .before .before .before .before .before .before .before .before .before .before .before .before .before .word in
-    let z : w .result ≡ 0 = omega (arith, c .before .before .before .before .before .before .before .before .before .before .before .before .before .before .before .before .before .before .if1 .left) in
+    let w = c .before .before .before .before .before .before .before .before .before .before .before .before .before .before .before .before .before .word in
+    let z : w .result ≡ 0 = omega (arith, c .before .before .before .before .before .before .before .before .before .before .before .before .before .before .before .before .if1 .left) in
     let none = sym z ∙ w .ensures in
-    let m = c .before .before .before .before .before .before .before .before .before .before .before .before .before .before .before .before .before .moved .ensures in
-    let g = ap isRoot (sym m) ∙ sym (c .before .before .before .before .before .before .before .before .before .before .before .before .before .before .before .before .is-root .ensures) ∙ c .before .before .before .before .before .before .before .before .before .before .before .before .before .before .before .if2 .left in
-    let o = c .before .before .before .before .before .before .before .before .before .before .before .before .before .above in
+    let m = c .before .before .before .before .before .before .before .before .before .before .before .before .before .before .before .moved .ensures in
+    let g = ap isRoot (sym m) ∙ sym (c .before .before .before .before .before .before .before .before .before .before .before .before .before .before .is-root .ensures) ∙ c .before .before .before .before .before .before .before .before .before .before .before .before .before .if2 .left in
+    let o = c .before .before .before .before .before .before .before .before .before .before .before .above in
+    let v = c .before .before .before .before .child in
+    let j = over-holds (a .t .now) (a .nodes) (a .u) (a .c) (a .d) (a .step) (k .state) (k .holds) (k .here) (q .2) (q .3) g (o .last .0) (o .result) (max (a .nodes) (o .result)) (subst (λ x. Made (length (a .t .now)) (raised (k .state) (a .step) (a .c) x) (parentOf x) (o .last .0) (o .result) (max (a .nodes) (o .result))) m (o .ensures (k .state) (k .holds) (k .here))) (λ y. c .before .before .before .before .before .before .before .before .if3 .left y) in
+    let l = link-bounds (a .t .now) (a .nodes) (a .u) (a .c) (a .d) (a .step) (k .state) (k .holds) (k .here) (q .2) (q .3) (v .last .0) (v .result) (max (c .before .before .before .before .before .before .in-use .result) (v .result)) (subst (λ n. Made n (grown (raised (k .state) (a .step) (a .c) (stepped (a .d) (a .c))) (stepped (a .d) (a .c)) (a .step)) (stepped (a .d) (a .c)) (v .last .0) (v .result) (max (c .before .before .before .before .before .before .in-use .result) (v .result))) (j .2)
+    (v .ensures (raised (k .state) (a .step) (a .c) (stepped (a .d) (a .c))) (stepped (a .d) (a .c)) (subst (λ n. Holds (o .last .0) n (raised (k .state) (a .step) (a .c) (stepped (a .d) (a .c)))) (sym (c .before .before .before .before .before .before .in-use .ensures)) (j .0)) g (j .1) (c .before .before .before .before .before .child-word .ensures ∙ ap childWord m))) (λ y. c .before .if4 .left y) in
+    ((l .0, l .1), (q .2, omega (arith, l .2, q .4)))
+
+neighbour-same-length-5 : (t : ℕ) → neighbour-lts.Need-same-length-5 (word-reads.Asked, word-reads.Learnt, moved-reads.Asked, moved-reads.Learnt, is-root-reads.Asked, is-root-reads.Learnt, link-reads.Asked, link-reads.Learnt, above-below t, above.Post, in-use-reads.Asked, in-use-reads.Learnt, child-word-reads.Asked, child-word-reads.Learnt, child-reads.Asked, child-reads.Learnt) (neighbour-at t) neighbour.Post
+neighbour-same-length-5 t c = search needs
+
+neighbour-returns-5 : (t : ℕ) → neighbour-lts.Need-returns-5 (word-reads.Asked, word-reads.Learnt, moved-reads.Asked, moved-reads.Learnt, is-root-reads.Asked, is-root-reads.Learnt, link-reads.Asked, link-reads.Learnt, above-below t, above.Post, in-use-reads.Asked, in-use-reads.Learnt, child-word-reads.Asked, child-word-reads.Learnt, child-reads.Asked, child-reads.Learnt) (neighbour-at t) neighbour.Post
+neighbour-returns-5 t c =
+    let s = c .before .before .before .before .before .before .before .before .before .before .before .before .before .before .before .before .before .before .before .before .before .before .before in
+    let a = s .args in
+    let q = s .pre .1 .1 in
+    let k = s .pre .1 .0 in
+    let w = c .before .before .before .before .before .before .before .before .before .before .before .before .before .before .before .before .before .before .before .before .word in
+    let z : w .result ≡ 0 = omega (arith, c .before .before .before .before .before .before .before .before .before .before .before .before .before .before .before .before .before .before .before .if1 .left) in
+    let none = sym z ∙ w .ensures in
+    let m = c .before .before .before .before .before .before .before .before .before .before .before .before .before .before .before .before .before .before .moved .ensures in
+    let g = ap isRoot (sym m) ∙ sym (c .before .before .before .before .before .before .before .before .before .before .before .before .before .before .before .before .before .is-root .ensures) ∙ c .before .before .before .before .before .before .before .before .before .before .before .before .before .before .before .before .if2 .left in
+    let o = c .before .before .before .before .before .before .before .before .before .before .before .before .before .before .above in
     let v = c .before .before .before .before .before .before .before .child in
     λ S h r.
-    let j = over-holds (a .t .now) (a .nodes) (a .u) (a .c) (a .d) (a .step) S h r (q .2) (q .3) g (o .last .0) (o .result .at) (o .result .nodes) (subst (λ x. Made (length (a .t .now)) (raised (S) (a .step) (a .c) x) (parentOf x) (o .last .0) (o .result .at) (o .result .nodes)) m (o .ensures (S) (h) (r))) (λ y. c .before .before .before .before .before .before .before .before .before .before .if3 .left y) in
-    subst (λ l. Made (length (a .t .now)) (reached S (a .step) (a .c) (stepped (a .d) (a .c))) (stepped (a .d) (a .c)) l (v .result .at) (v .result .nodes)) (sym (c .before .before .link2 .ensures))
-    (near-linked (a .t .now) (a .nodes) (a .u) (a .c) (a .d) (a .step) S h r (q .2) (q .3) none g (v .last .0) (v .result .at) (v .result .nodes) (subst (λ n. Made n (grown (raised (S) (a .step) (a .c) (stepped (a .d) (a .c))) (stepped (a .d) (a .c)) (a .step)) (stepped (a .d) (a .c)) (v .last .0) (v .result .at) (v .result .nodes)) (j .2)
-    (v .ensures (raised (S) (a .step) (a .c) (stepped (a .d) (a .c))) (stepped (a .d) (a .c)) (j .0) g (j .1) (c .before .before .before .before .before .before .before .before .child-word .ensures ∙ ap childWord m))) (λ y. c .before .before .before .before .if4 .left y))
+    let j = over-holds (a .t .now) (a .nodes) (a .u) (a .c) (a .d) (a .step) S h r (q .2) (q .3) g (o .last .0) (o .result) (max (a .nodes) (o .result)) (subst (λ x. Made (length (a .t .now)) (raised (S) (a .step) (a .c) x) (parentOf x) (o .last .0) (o .result) (max (a .nodes) (o .result))) m (o .ensures (S) (h) (r))) (λ y. c .before .before .before .before .before .before .before .before .before .before .before .if3 .left y) in
+    near-last (a .t .now) (a .nodes) S h (length (a .t .now)) (a .step) _ (v .result) (max (c .before .before .before .before .before .before .before .before .before .in-use .result) (v .result)) (a .c) (stepped (a .d) (a .c))
+    (subst (λ l. Made (length (a .t .now)) (reached S (a .step) (a .c) (stepped (a .d) (a .c))) (stepped (a .d) (a .c)) l (v .result) (max (c .before .before .before .before .before .before .before .before .before .in-use .result) (v .result))) (sym (c .before .before .link2 .ensures))
+    (near-linked (a .t .now) (a .nodes) (a .u) (a .c) (a .d) (a .step) S h r (q .2) (q .3) none g (v .last .0) (v .result) (max (c .before .before .before .before .before .before .before .before .before .in-use .result) (v .result)) (subst (λ n. Made n (grown (raised (S) (a .step) (a .c) (stepped (a .d) (a .c))) (stepped (a .d) (a .c)) (a .step)) (stepped (a .d) (a .c)) (v .last .0) (v .result) (max (c .before .before .before .before .before .before .before .before .before .in-use .result) (v .result))) (j .2)
+    (v .ensures (raised (S) (a .step) (a .c) (stepped (a .d) (a .c))) (stepped (a .d) (a .c)) (subst (λ n. Holds (o .last .0) n (raised (S) (a .step) (a .c) (stepped (a .d) (a .c)))) (sym (c .before .before .before .before .before .before .before .before .before .in-use .ensures)) (j .0)) g (j .1) (c .before .before .before .before .before .before .before .before .child-word .ensures ∙ ap childWord m))) (λ y. c .before .before .before .before .if4 .left y)))
 
 pub +above+neighbour-spec : {M : Type 1} → statement M
 +above+neighbour-spec = close μ-above μ-neighbour (λ t. above-lts.spec (is-root-reads.Asked, is-root-reads.Learnt, word-reads.Asked, word-reads.Learnt, parent-of-reads.Asked, parent-of-reads.Learnt, alike-reads.Asked, alike-reads.Learnt, neighbour-below t, neighbour.Post)
     (above-at t)
     above.Post
     (above-is-root-requires t)
-    (above-add-t11 t)
+    (above-add-result t)
     (above-returns t)
     (above-word-requires t)
     (above-cast-up t)
@@ -332,6 +340,8 @@ pub +above+neighbour-spec : {M : Type 1} → statement M
       link-reads.Learnt,
       above-below t,
       above.Post,
+      in-use-reads.Asked,
+      in-use-reads.Learnt,
       child-word-reads.Asked,
       child-word-reads.Learnt,
       child-reads.Asked,
@@ -352,6 +362,7 @@ pub +above+neighbour-spec : {M : Type 1} → statement M
     (neighbour-above-requires t)
     (neighbour-same-length-3 t)
     (neighbour-returns-3 t)
+    (neighbour-in-use-requires t)
     (neighbour-sub-child t)
     (neighbour-child-word-requires t)
     (neighbour-child-requires t)

@@ -1,7 +1,7 @@
 -- `stride::go` meets its contract.
 -- Assumes nothing.
 use mathlib.Core.Path.{refl}
-use Prim.Native.Nat.{_+_, _-_}
+use Prim.Native.Nat.{_+_, _-_, max}
 use native.Mathlib.Omega.{arith}
 use borrow.Author.Needs.{needs}
 use Rattle.stride.specs.declared.Spot.{Spot}
@@ -33,7 +33,7 @@ returns c =
     let k = s .pre .0 in
     let q = s .pre .1 in
     let o = c .before .before .before .reach in
-    λ x ds h. step-full (a .t .now) x ds (a .w) h (a .d) (o .last .0) (o .result .at) (o .result .nodes) (o .ensures) (c .if1 .taken)
+    λ x ds h. step-full (a .t .now) x ds (a .w) h (a .d) (o .last .0) (o .result) (max (a .w .nodes) (o .result)) (o .ensures) (c .if1 .taken)
 
 sub-visit : tie.Need-sub-visit
 sub-visit c = search needs
@@ -45,7 +45,7 @@ visit-requires c κs =
     let k = s .pre .0 in
     let q = s .pre .1 in
     let o = c .before .before .before .before .reach in
-    let v = step-visits (a .t .now) (k .start) (k .chain) (a .w) (k .walked) (a .d) (o .last .0) (o .result .at) (o .result .nodes) (o .ensures) (c .before .if1 .left) in
+    let v = step-visits (a .t .now) (k .start) (k .chain) (a .w) (k .walked) (a .d) (o .last .0) (o .result) (max (a .w .nodes) (o .result)) (o .ensures) (c .before .if1 .left) in
     (v .0, omega (arith, v .1, q .3), omega (arith, q .3))
 
 moved-requires : tie.Need-moved-requires
@@ -54,19 +54,20 @@ moved-requires c κs = search needs
 sub-t16 : tie.Need-sub-t16
 sub-t16 c = search needs
 
+in-use-requires : tie.Need-in-use-requires
+in-use-requires c κs = search needs
+
 same-length-2 : tie.Need-same-length-2
 same-length-2 c = search needs
 
 returns-2 : tie.Need-returns-2
 returns-2 c =
-    let s = c .before .before .before .before .before .before .before .before .before .before .before .before .before in
-    let a = s .args in
-    let k = s .pre .0 in
-    let q = s .pre .1 in
-    let o = c .before .before .before .before .before .before .before .before .reach in
-    let v = c .before .before .before .visit in
-    let r : Spot = record { node = o .result .at - 1; at = c .moved .result; steps = a .w .steps + 1; nodes = o .result .nodes } in
-    λ x ds h. step-to (a .t .now) x ds (a .w) h (a .d) (o .last .0) (o .result .at) (o .result .nodes) (o .ensures) (c .before .before .before .before .before .if1 .left) (v .last .0) (v .ensures) r refl (c .moved .ensures) refl refl
+    let a = c .before .before .before .before .before .before .before .before .before .before .before .before .before .before .args in
+    let o = c .before .before .before .before .before .before .before .before .before .reach in
+    let v = c .before .before .before .before .visit in
+    let m = c .before .moved in
+    let r : Spot = record { node = o .result - 1; at = m .result; steps = a .w .steps + 1; nodes = c .in-use .result } in
+    λ x ds h. step-to (a .t .now) x ds (a .w) h (a .d) (o .last .0) (o .result) (max (a .w .nodes) (o .result)) (o .ensures) (c .before .before .before .before .before .before .if1 .left) (v .last .0) (v .ensures) r refl (m .ensures) refl (c .in-use .ensures)
 
 pub go-spec : {M : Type 1} → statement M
 go-spec =
@@ -81,5 +82,6 @@ go-spec =
     visit-requires
     moved-requires
     sub-t16
+    in-use-requires
     same-length-2
     returns-2)
