@@ -1,8 +1,6 @@
 use mathlib.Core.Path.{sym}
-use Prim.Native.Nat.{_*_, _-_}
 use native.Mathlib.Omega.{arith}
-use lib.ListN.{length, replicate}
-use lib.Seq.{length-take-le}
+use Rattle.worked.proofs.Parts.{taken, within}
 use borrow.Author.Needs.{needs}
 use Rattle.worked.proofs.limits.east.Statement.{statement}
 use Rattle.worked.proofs.limits.east.Tie as tie
@@ -34,35 +32,35 @@ text-requires-2 c κs = search needs
 
 -- src/limits.rt:52:12
 array-share-prefix-ops : tie.Need-array-share-prefix-ops
-array-share-prefix-ops c = search needs
+array-share-prefix-ops c = within 32769 0 (c .before .before .before .before .before .args .n) (omega (arith, c .before .before .before .before .before .pre))
 
 -- src/limits.rt:52:12
 slice-aggregate-walked : tie.Need-slice-aggregate-walked
-slice-aggregate-walked c = sym (length-take-le (c .before .before .before .before .before .before .args .n) (replicate 32769 0) (omega (arith, c .before .before .before .before .before .before .pre)))
+slice-aggregate-walked c = sym (taken 32769 0 (c .before .before .before .before .before .before .args .n) (omega (arith, c .before .before .before .before .before .before .pre)))
 
 -- src/limits.rt:52:23
 array-borrow-prefix-t : tie.Need-array-borrow-prefix-t
-array-borrow-prefix-t c = search needs
+array-borrow-prefix-t c = within 344085 7 (c .before .before .before .before .before .before .args .words) (omega (arith, c .before .before .before .before .before .before .pre))
 
 -- src/limits.rt:52:23
 slice-aggregate-walked-2 : tie.Need-slice-aggregate-walked-2
-slice-aggregate-walked-2 c = sym (length-take-le (c .before .before .before .before .before .before .before .args .words) (replicate 344085 7) (omega (arith, c .before .before .before .before .before .before .before .pre)))
+slice-aggregate-walked-2 c = sym (taken 344085 7 (c .before .before .before .before .before .before .before .args .words) (omega (arith, c .before .before .before .before .before .before .before .pre)))
 
 -- src/limits.rt:52:40
 array-borrow-prefix-m : tie.Need-array-borrow-prefix-m
-array-borrow-prefix-m c = search needs
+array-borrow-prefix-m c = within 32770 7 (c .before .before .before .before .before .before .before .args .marks) (omega (arith, c .before .before .before .before .before .before .before .pre))
 
 -- src/limits.rt:52:40
 slice-aggregate-walked-3 : tie.Need-slice-aggregate-walked-3
-slice-aggregate-walked-3 c = sym (length-take-le (c .before .before .before .before .before .before .before .before .args .marks) (replicate 32770 7) (omega (arith, c .before .before .before .before .before .before .before .before .pre)))
+slice-aggregate-walked-3 c = sym (taken 32770 7 (c .before .before .before .before .before .before .before .before .args .marks) (omega (arith, c .before .before .before .before .before .before .before .before .pre)))
 
 -- src/limits.rt:52:57
 array-borrow-prefix-c : tie.Need-array-borrow-prefix-c
-array-borrow-prefix-c c = search needs
+array-borrow-prefix-c c = within 16385 7 (c .before .before .before .before .before .before .before .before .args .chain) (omega (arith, c .before .before .before .before .before .before .before .before .pre))
 
 -- src/limits.rt:52:57
 slice-aggregate-walked-4 : tie.Need-slice-aggregate-walked-4
-slice-aggregate-walked-4 c = sym (length-take-le (c .before .before .before .before .before .before .before .before .before .args .chain) (replicate 16385 7) (omega (arith, c .before .before .before .before .before .before .before .before .before .pre)))
+slice-aggregate-walked-4 c = sym (taken 16385 7 (c .before .before .before .before .before .before .before .before .before .args .chain) (omega (arith, c .before .before .before .before .before .before .before .before .before .pre)))
 
 -- src/limits.rt:52:5
 walked-requires : tie.Need-walked-requires
