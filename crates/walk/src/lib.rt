@@ -1,7 +1,4 @@
 // The walk: any operations, judged in a lent table.
-mod facts;
-mod judge;
-
 use answer::Answer;
 use answer::Facts;
 use answer::Judged;
@@ -17,7 +14,8 @@ ghost use Rattle.calls.specs.Walk.{factsOf, WalkIs};
 ghost use Rattle.grid.specs.Grid.{origin};
 ghost use Rattle.layout.specs.Table.{tableOf};
 ghost use Rattle.word.specs.Operations.{faultsFrom};
-ghost use Rattle.walk.specs.Settled.{Settled, Settling, Followed};
+ghost use Rattle.facts.specs.Settled.{Settled, Settling};
+ghost use Rattle.walk.specs.Followed.{Followed};
 
 // A table with the root alone, which is visited once.
 fn plant(t: &mut [u32])
@@ -71,7 +69,7 @@ fn go_on(ops: &[u8], t: &mut [u32], marks: &mut [u32], chain: &mut [u8]) -> Answ
 pub fn follow(ops: &[u8], t: &mut [u32], marks: &mut [u32], chain: &mut [u8]) -> Answer
     ensures { λ r. ⌜ WalkIs origin (now (ops .entry)) (now (t .entry)) (now (marks .entry)) (now (chain .entry)) r (now (t .exit)) (now (marks .exit)) (now (chain .exit)) ⌝ }
 {
-    let j = judge::input(ops, t.len(), marks.len(), chain.len());
+    let j = input::input(ops, t.len(), marks.len(), chain.len());
     if let Judged::Refused(r) = j {
         return Answer::Refused(r);
     }
