@@ -1,12 +1,12 @@
--- `embed::walk_words` meets its contract.
+-- `boundary::walk_words` meets its contract.
 -- Assumes nothing.
 use borrow.Author.Needs.{needs}
 use mathlib.Core.Path.{ap, sym, subst, _∙_}
 use native.Mathlib.Omega.{arith}
-use Rattle.embed.proofs.BoundaryLaws.{refused-answer}
-use Rattle.embed.proofs.walk_words.Statement.{statement}
-use Rattle.embed.proofs.walk_words.Tie as tie
-use Rattle.embed.specs.Boundary.{AnswerFits, answerWords}
+use Rattle.boundary.proofs.WordLaws.{refused-answer}
+use Rattle.boundary.proofs.walk_words.Statement.{statement}
+use Rattle.boundary.proofs.walk_words.Tie as tie
+use Rattle.boundary.specs.Words.{AnswerFits, answerWords}
 
 enum-known-a : tie.Need-enum-known-a
 enum-known-a c = search needs

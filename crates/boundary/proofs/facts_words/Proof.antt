@@ -1,13 +1,13 @@
--- `embed::facts_words` meets its contract.
+-- `boundary::facts_words` meets its contract.
 -- Assumes nothing.
 use borrow.Author.Needs.{needs}
 use mathlib.Core.Path.{ap, ap₂, _∙_, sym}
 use native.Mathlib.Omega.{arith}
 use Rattle.frame.specs.Hex.{bitsOf}
 use Rattle.compass.proofs.SignedLaws.{back}
-use Rattle.embed.proofs.BoundaryLaws.{verdict-small, accepted-words}
-use Rattle.embed.proofs.facts_words.Statement.{statement}
-use Rattle.embed.proofs.facts_words.Tie as tie
+use Rattle.boundary.proofs.WordLaws.{verdict-small, accepted-words}
+use Rattle.boundary.proofs.facts_words.Statement.{statement}
+use Rattle.boundary.proofs.facts_words.Tie as tie
 
 verdict-requires : tie.Need-verdict-requires
 verdict-requires c κs = search needs

@@ -1,12 +1,12 @@
--- `embed::hull_words` meets its contract.
+-- `boundary::hull_words` meets its contract.
 -- Assumes nothing.
 use borrow.Author.Needs.{needs}
 use mathlib.Core.Path.{ap, sym, subst}
 use native.Mathlib.Omega.{arith}
-use Rattle.embed.proofs.BoundaryLaws.{refused-counted}
-use Rattle.embed.proofs.hull_words.Statement.{statement}
-use Rattle.embed.proofs.hull_words.Tie as tie
-use Rattle.embed.specs.Boundary.{CountedFits, countedWords}
+use Rattle.boundary.proofs.WordLaws.{refused-counted}
+use Rattle.boundary.proofs.hull_words.Statement.{statement}
+use Rattle.boundary.proofs.hull_words.Tie as tie
+use Rattle.boundary.specs.Words.{CountedFits, countedWords}
 
 enum-known-c : tie.Need-enum-known-c
 enum-known-c c = search needs

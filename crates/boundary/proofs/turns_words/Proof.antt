@@ -1,4 +1,4 @@
--- `embed::turns_words` meets its contract.
+-- `boundary::turns_words` meets its contract.
 -- Assumes nothing.
 use Prim.Native.Nat.{_<_, _^_}
 use borrow.Author.Needs.{needs}
@@ -6,10 +6,10 @@ use mathlib.Core.Path.{ap, sym, subst}
 use native.Mathlib.Omega.{arith}
 use Rattle.answer.specs.Refusal.{judgedPlace}
 use Rattle.answer.specs.declared.Judged.{Judged}
-use Rattle.embed.proofs.BoundaryLaws.{refused-judged}
-use Rattle.embed.proofs.turns_words.Statement.{statement}
-use Rattle.embed.proofs.turns_words.Tie as tie
-use Rattle.embed.specs.Boundary.{judgedWords}
+use Rattle.boundary.proofs.WordLaws.{refused-judged}
+use Rattle.boundary.proofs.turns_words.Statement.{statement}
+use Rattle.boundary.proofs.turns_words.Tie as tie
+use Rattle.boundary.specs.Words.{judgedWords}
 
 enum-told : tie.Need-enum-told
 enum-told c = search needs
