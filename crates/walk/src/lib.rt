@@ -22,7 +22,7 @@ fn plant(t: &mut [u32])
     requires { ⌜ 21 ≤ length (now t) ⌝ }
     ensures { λ _. ⌜ now (t .exit) ≡ tableOf (length (now (t .entry))) origin [] ⌝ }
 {
-    cells::zero(t);
+    erasure::zero(t);
     cells::visit(t, 0, 0);
 }
 
@@ -32,9 +32,9 @@ fn clear(t: &mut [u32], marks: &mut [u32], chain: &mut [u8])
     ensures marks { λ _. ⌜ now (marks .exit) ≡ replicate (length (now (marks .entry))) 0 ⌝ }
     ensures chain { λ _. ⌜ now (chain .exit) ≡ replicate (length (now (chain .entry))) 0 ⌝ }
 {
-    cells::zero(t);
-    cells::zero(marks);
-    cells::zero_from(chain, 0);
+    erasure::zero(t);
+    erasure::zero(marks);
+    erasure::zero_from(chain, 0);
 }
 
 // The facts of a walk that is over, whose chain is cleared behind its steps.
@@ -43,7 +43,7 @@ fn accept(chain: &mut [u8], w: Walk) -> Facts
     ensures { λ r. ⌜ ((ds : List ℕ) → Settled (now (chain .entry)) ds w → (r ≡ factsOf origin ds) × (now (chain .exit) ≡ ds ++ replicate (length (now (chain .entry)) - length ds) 0)) ⌝ }
 {
     let n = w.spot.steps;
-    cells::zero_from(chain, n);
+    erasure::zero_from(chain, n);
     facts::facts(chain, w)
 }
 

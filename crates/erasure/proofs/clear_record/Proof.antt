@@ -1,4 +1,4 @@
--- `cells::clear_record` meets its contract.
+-- `erasure::clear_record` meets its contract.
 -- Assumes nothing.
 use mathlib.Core.Path.{_≡_, refl, ap, _∙_}
 use Prim.Native.Nat.{_*_, _-_, _≤_}
@@ -6,9 +6,9 @@ use native.Mathlib.Omega.{arith}
 use borrow.Author.Needs.{needs}
 use lib.ListN.{length, replicate, length-set}
 use lib.Seq.{sets}
-use Rattle.cells.proofs.CellLaws.{clear-next, clear-end}
-use Rattle.cells.proofs.clear_record.Statement.{statement}
-use Rattle.cells.proofs.clear_record.Tie as tie
+use Rattle.erasure.proofs.ErasureLaws.{clear-next, clear-end}
+use Rattle.erasure.proofs.clear_record.Statement.{statement}
+use Rattle.erasure.proofs.clear_record.Tie as tie
 
 abbrev Inv-loop : tie.InvT-loop
 Inv-loop t₀ r f₀ t f = (length t ≡ length t₀) × (f ≤ 21) × (t ≡ sets t₀ (r * 21) (replicate f 0))

@@ -1,4 +1,4 @@
--- `cells::zero` meets its contract: the first i words are 0 and the rest as they were.
+-- `erasure::zero` meets its contract: the first i words are 0 and the rest as they were.
 -- Assumes nothing.
 use Prim.Native.Nat.{ℕ, _≤_, _-_}
 use mathlib.Core.Path.{_≡_, refl, ap, _∙_}
@@ -6,8 +6,8 @@ use mathlib.Core.List.{List, _++_, append-nil}
 use native.Mathlib.Omega.{arith}
 use lib.ListN.{length, length-set, replicate, drop, set, drop-of-length-le}
 use borrow.Author.Fill.{fill-none, fill-more}
-use Rattle.cells.proofs.zero.Statement.{statement}
-use Rattle.cells.proofs.zero.Tie as tie
+use Rattle.erasure.proofs.zero.Statement.{statement}
+use Rattle.erasure.proofs.zero.Tie as tie
 
 abbrev Inv-loop : tie.InvT-loop
 Inv-loop t₀ i₀ t i = (i ≤ length t₀) × (length t ≡ length t₀) × (t ≡ replicate i 0 ++ drop i t₀)

@@ -1,9 +1,9 @@
--- `cells::unlink` meets its contract.
+-- `erasure::unlink` meets its contract.
 -- Assumes nothing.
 use borrow.Author.Needs.{needs}
-use Rattle.cells.proofs.CellLaws.{unlink-four}
-use Rattle.cells.proofs.unlink.Statement.{statement}
-use Rattle.cells.proofs.unlink.Tie as tie
+use Rattle.erasure.proofs.ErasureLaws.{unlink-four}
+use Rattle.erasure.proofs.unlink.Statement.{statement}
+use Rattle.erasure.proofs.unlink.Tie as tie
 
 add-b : tie.Need-add-b
 add-b c = search needs

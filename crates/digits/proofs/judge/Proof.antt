@@ -1,11 +1,11 @@
--- `turns::judge` meets its contract: its tests are those of the judgement, in the same order.
+-- `digits::judge` meets its contract: its tests are those of the judgement, in the same order.
 -- Assumes nothing.
 use mathlib.Core.Path.{sym, _∙_}
 use borrow.Author.Needs.{needs}
 use native.Mathlib.Omega.{arith}
 use Rattle.word.proofs.TurnPromiseLaws.{judged-many, judged-room, judged-digits}
-use Rattle.turns.proofs.judge.Statement.{statement}
-use Rattle.turns.proofs.judge.Tie as tie
+use Rattle.digits.proofs.judge.Statement.{statement}
+use Rattle.digits.proofs.judge.Tie as tie
 
 returns : tie.Need-returns
 returns c =

@@ -1,4 +1,4 @@
--- `turns::judge_digits` meets its contract: the digits before i are good, so the first fault is that of the rest.
+-- `digits::judge_digits` meets its contract: the digits before i are good, so the first fault is that of the rest.
 -- Assumes nothing.
 use mathlib.Core.Path.{_≡_, sym, _∙_}
 use Prim.Native.Nat.{_-_, _≤_}
@@ -6,9 +6,9 @@ use native.Mathlib.Omega.{arith}
 use borrow.Author.Needs.{needs}
 use lib.ListN.{length, drop}
 use Rattle.word.specs.Turns.{digitFaultsFrom}
-use Rattle.turns.proofs.ConvertLaws.{fault-here, fault-later, fault-none}
-use Rattle.turns.proofs.judge_digits.Statement.{statement}
-use Rattle.turns.proofs.judge_digits.Tie as tie
+use Rattle.digits.proofs.FaultLaws.{fault-here, fault-later, fault-none}
+use Rattle.digits.proofs.judge_digits.Statement.{statement}
+use Rattle.digits.proofs.judge_digits.Tie as tie
 
 abbrev Inv-loop : tie.InvT-loop
 Inv-loop digits i₀ i = (i ≤ length digits) × (digitFaultsFrom i (drop i digits) ≡ digitFaultsFrom 0 digits)

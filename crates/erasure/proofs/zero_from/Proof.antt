@@ -1,4 +1,4 @@
--- `cells::zero_from` meets its contract: what is passed is the bytes before the place, and then zeros.
+-- `erasure::zero_from` meets its contract: what is passed is the bytes before the place, and then zeros.
 -- Assumes nothing.
 use mathlib.Core.List.{List, [], _∷_, _++_, append-assoc, append-nil}
 use mathlib.Core.Path.{_≡_, refl, ap, ap₂, sym, _∙_}
@@ -6,8 +6,8 @@ use Prim.Native.Nat.{ℕ, suc, _+_, _-_, _<_, _≤_}
 use native.Mathlib.Omega.{arith}
 use lib.ListN.{length, length-set, replicate, take, set, replicate-append-replicate}
 use lib.Seq.{take-suc-set, take-all}
-use Rattle.cells.proofs.zero_from.Statement.{statement}
-use Rattle.cells.proofs.zero_from.Tie as tie
+use Rattle.erasure.proofs.zero_from.Statement.{statement}
+use Rattle.erasure.proofs.zero_from.Tie as tie
 
 abbrev Inv-loop : tie.InvT-loop
 Inv-loop s₀ from i₀ s i = (from ≤ i) × (i ≤ length s₀) × (length s ≡ length s₀) × (take i s ≡ take from s₀ ++ replicate (i - from) 0)
