@@ -1,2 +1,2 @@
--- The numbers that cross the C boundary.
+-- What the exported functions promise.
 pub mod Boundary

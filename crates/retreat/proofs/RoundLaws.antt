@@ -14,7 +14,7 @@ use Rattle.lists.specs.Lists.{gather}
 use Rattle.table_laws.specs.Model.{unsetIn}
 use Rattle.tree.specs.Nodes.{refOf}
 use Rattle.tree_laws.specs.State.{State, needed, unlinking, tableBy}
-use Rattle.cells.proofs.CellLaws.{length-unset}
+use Rattle.erasure.proofs.ErasureLaws.{length-unset}
 use Rattle.table_laws.proofs.Cites.{ref-below}
 use Rattle.table_laws.proofs.LookupLaws.{mem-of-ref}
 use Rattle.table_laws.proofs.StoreLaws.{far-pos, read-neighbour, read-parent}

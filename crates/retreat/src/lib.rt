@@ -21,7 +21,7 @@ pub fn unlink_up(t: &mut [u32], u: usize, d: usize, step: u32)
         again = false;
         if word(t, at, Record::LINK_STEP + d) == step {
             let to = word(t, at, Record::NEIGHBOUR + d) as usize;
-            cells::unlink(t, at, to - 1, d);
+            erasure::unlink(t, at, to - 1, d);
             let up = word(t, at, Record::PARENT) as usize;
             if up != 0 {
                 at = up - 1;
@@ -42,7 +42,7 @@ pub fn drop_up(t: &mut [u32], nodes: usize, u: usize, c: Corner, step: u32) -> u
     while word(t, at, Record::NEED) == step {
         let up = word(t, at, Record::PARENT) as usize - 1;
         put(t, up, compass::child_word(here), 0);
-        cells::clear_record(t, at);
+        erasure::clear_record(t, at);
         left -= 1;
         at = up;
         here = compass::parent_of(here);

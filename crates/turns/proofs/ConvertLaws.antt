@@ -1,18 +1,16 @@
--- A buffer that is filled digit by digit, in either direction; and the judgement of digits, place by place.
+-- A buffer that is filled digit by digit, in either direction.
 -- Assumes nothing.
 use mathlib.Core.List.{List, [], _∷_, _++_, append-nil}
 use mathlib.Core.Path.{_≡_, ap, ap₂, sym, _∙_}
 use Prim.Native.Nat.{ℕ, suc, _+_, _<_, _≤_}
 use native.Mathlib.Numerals.{add-one}
 use native.Mathlib.Omega.{arith}
-use borrow.Author.Tests.{lt-ltb, le-ltb}
 use lib.ListN.{length, take, drop, getD, set, length-set, drop-of-length-le}
 use lib.Seq.{drop-cons, take-suc-set, append-snoc, take-all}
 use Rattle.answer.specs.declared.Judged.{Judged}
 use Rattle.answer.specs.declared.Judged.the-variants.{Good, Refused}
 use Rattle.answer.specs.declared.Refusal.{Refusal}
-use Rattle.answer.specs.declared.Refusal.the-variants.{BadDigit}
-use Rattle.word.specs.Turns.{digitFaultsFrom, turnsJudged, writtenIf, ConvertedBy}
+use Rattle.word.specs.Turns.{turnsJudged, writtenIf, ConvertedBy}
 
 -- the first i digits are converted, a is the step before the rest, and what is left gives the whole
 pub record SoFar (convert : ℕ → List ℕ → List ℕ) (ds out : List ℕ) (a i : ℕ) : Type 0 where
@@ -38,16 +36,6 @@ module _ (convert : ℕ → List ℕ → List ℕ) (put next : ℕ → ℕ → �
       let t : take i out ≡ out = take-all i out (omega (arith, s .long)) in
       let r : convert a (drop i ds) ≡ [] = ap (convert a) (drop-of-length-le ds h) ∙ nil a in
       sym (append-nil out) ∙ sym (ap₂ (λ (k l : List ℕ). k ++ l) t r) ∙ s .left
-
--- the digits before place i are good, so the first fault is that of the rest
-pub fault-here : (ds : List ℕ) (i : ℕ) → i < length ds → 3 < getD ds i 0 → digitFaultsFrom i (drop i ds) ≡ Refused (BadDigit i)
-fault-here ds i h b = rw (drop-cons ds i 0 h, lt-ltb 3 (getD ds i 0) b)
-
-pub fault-later : (ds : List ℕ) (i : ℕ) → i < length ds → getD ds i 0 ≤ 3 → digitFaultsFrom i (drop i ds) ≡ digitFaultsFrom (i + 1) (drop (i + 1) ds)
-fault-later ds i h b = rw (add-one, drop-cons ds i 0 h, le-ltb 3 (getD ds i 0) b)
-
-pub fault-none : (ds : List ℕ) (i : ℕ) → length ds ≤ i → digitFaultsFrom i (drop i ds) ≡ Good
-fault-none ds i h = rw (drop-of-length-le ds h)
 
 -- the whole call: written where the judgement is good, left as it was where it is not
 pub converted : (convert : List ℕ → List ℕ) (ds out out′ : List ℕ) (r : Judged) → r ≡ turnsJudged ds (length out) → r ≡ Good → out′ ≡ convert ds → ConvertedBy convert ds out r out′

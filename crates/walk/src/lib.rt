@@ -1,7 +1,4 @@
 // The walk: any operations, judged in a lent table.
-mod facts;
-mod judge;
-
 use answer::Answer;
 use answer::Facts;
 use answer::Judged;
@@ -17,14 +14,15 @@ ghost use Rattle.calls.specs.Walk.{factsOf, WalkIs};
 ghost use Rattle.grid.specs.Grid.{origin};
 ghost use Rattle.layout.specs.Table.{tableOf};
 ghost use Rattle.word.specs.Operations.{faultsFrom};
-ghost use Rattle.walk.specs.Settled.{Settled, Settling, Followed};
+ghost use Rattle.facts.specs.Settled.{Settled, Settling};
+ghost use Rattle.walk.specs.Followed.{Followed};
 
 // A table with the root alone, which is visited once.
 fn plant(t: &mut [u32])
     requires { ⌜ 21 ≤ length (now t) ⌝ }
     ensures { λ _. ⌜ now (t .exit) ≡ tableOf (length (now (t .entry))) origin [] ⌝ }
 {
-    cells::zero(t);
+    erasure::zero(t);
     cells::visit(t, 0, 0);
 }
 
@@ -34,9 +32,9 @@ fn clear(t: &mut [u32], marks: &mut [u32], chain: &mut [u8])
     ensures marks { λ _. ⌜ now (marks .exit) ≡ replicate (length (now (marks .entry))) 0 ⌝ }
     ensures chain { λ _. ⌜ now (chain .exit) ≡ replicate (length (now (chain .entry))) 0 ⌝ }
 {
-    cells::zero(t);
-    cells::zero(marks);
-    cells::zero_from(chain, 0);
+    erasure::zero(t);
+    erasure::zero(marks);
+    erasure::zero_from(chain, 0);
 }
 
 // The facts of a walk that is over, whose chain is cleared behind its steps.
@@ -45,7 +43,7 @@ fn accept(chain: &mut [u8], w: Walk) -> Facts
     ensures { λ r. ⌜ ((ds : List ℕ) → Settled (now (chain .entry)) ds w → (r ≡ factsOf origin ds) × (now (chain .exit) ≡ ds ++ replicate (length (now (chain .entry)) - length ds) 0)) ⌝ }
 {
     let n = w.spot.steps;
-    cells::zero_from(chain, n);
+    erasure::zero_from(chain, n);
     facts::facts(chain, w)
 }
 
@@ -71,7 +69,7 @@ fn go_on(ops: &[u8], t: &mut [u32], marks: &mut [u32], chain: &mut [u8]) -> Answ
 pub fn follow(ops: &[u8], t: &mut [u32], marks: &mut [u32], chain: &mut [u8]) -> Answer
     ensures { λ r. ⌜ WalkIs origin (now (ops .entry)) (now (t .entry)) (now (marks .entry)) (now (chain .entry)) r (now (t .exit)) (now (marks .exit)) (now (chain .exit)) ⌝ }
 {
-    let j = judge::input(ops, t.len(), marks.len(), chain.len());
+    let j = input::input(ops, t.len(), marks.len(), chain.len());
     if let Judged::Refused(r) = j {
         return Answer::Refused(r);
     }

@@ -1,7 +1,8 @@
 -- `embed::undrwyth_hull` meets its contract.
 -- Assumes nothing.
 use borrow.Author.Needs.{needs}
-use Rattle.embed.proofs.BoundaryLaws.{counted-fits, counted-first}
+use Rattle.boundary.proofs.WordLaws.{counted-first}
+use Rattle.embed.proofs.BoundaryLaws.{counted-fits}
 use Rattle.embed.proofs.undrwyth_hull.Statement.{statement}
 use Rattle.embed.proofs.undrwyth_hull.Tie as tie
 

@@ -1,7 +1,8 @@
 -- `embed::undrwyth_walk` meets its contract.
 -- Assumes nothing.
 use borrow.Author.Needs.{needs}
-use Rattle.embed.proofs.BoundaryLaws.{answer-fits, answer-first}
+use Rattle.boundary.proofs.WordLaws.{answer-first}
+use Rattle.embed.proofs.BoundaryLaws.{answer-fits}
 use Rattle.embed.proofs.undrwyth_walk.Statement.{statement}
 use Rattle.embed.proofs.undrwyth_walk.Tie as tie
 

@@ -1,0 +1,2 @@
+-- The numbers that cross the C boundary.
+pub mod Words

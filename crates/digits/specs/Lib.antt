@@ -1,0 +1,1 @@
+-- The contracts of digits cite the definitions of word.

@@ -1,0 +1,30 @@
+-- Stores of 0 that follow one another, and the words that they leave.
+-- Assumes nothing.
+use mathlib.Core.List.{List}
+use mathlib.Core.Path.{_≡_, ap, sym, _∙_}
+use Prim.Native.Nat.{ℕ, _+_, _*_, _%_, suc}
+use native.Mathlib.Omega.{arith}
+use lib.ListN.{set, length, length-set, replicate}
+use lib.Seq.{sets}
+use Rattle.table_laws.specs.Model.{unsetIn}
+use Rattle.table_laws.proofs.RowLaws.{sets-snoc}
+
+pub length-unset : (t : List ℕ) (u v d : ℕ) → length (unsetIn t u v d) ≡ length t
+length-unset t u v d =
+    length-set (set (set (set t (u * 21 + (10 + d)) 0) (u * 21 + (14 + d)) 0) (v * 21 + (10 + (d + 2) % 4)) 0) (v * 21 + (14 + (d + 2) % 4)) 0
+    ∙ length-set (set (set t (u * 21 + (10 + d)) 0) (u * 21 + (14 + d)) 0) (v * 21 + (10 + (d + 2) % 4)) 0
+    ∙ length-set (set t (u * 21 + (10 + d)) 0) (u * 21 + (14 + d)) 0
+    ∙ length-set t (u * 21 + (10 + d)) 0
+
+-- a record cleared
+pub clear-next : (t₀ t t′ : List ℕ) (r f : ℕ) → t ≡ sets t₀ (r * 21) (replicate f 0) → t′ ≡ set t (r * 21 + f) 0 → t′ ≡ sets t₀ (r * 21) (replicate (f + 1) 0)
+clear-next t₀ t t′ r f e q =
+    let z : suc f ≡ f + 1 = omega arith in
+    q ∙ ap (λ (x : List ℕ). set x (r * 21 + f) 0) e ∙ sym (sets-snoc f t₀ (r * 21)) ∙ ap (λ (n : ℕ). sets t₀ (r * 21) (replicate n 0)) z
+
+pub clear-end : (t₀ t : List ℕ) (r f : ℕ) → t ≡ sets t₀ (r * 21) (replicate f 0) → f ≡ 21 → t ≡ sets t₀ (r * 21) (replicate 21 0)
+clear-end t₀ t r f e p = e ∙ ap (λ (n : ℕ). sets t₀ (r * 21) (replicate n 0)) p
+
+pub unlink-four : (t : List ℕ) {t₁ t₂ t₃ t₄ : List ℕ} (u v d : ℕ) → t₁ ≡ set t (u * 21 + (10 + d)) 0 → t₂ ≡ set t₁ (u * 21 + (14 + d)) 0
+    → t₃ ≡ set t₂ (v * 21 + (10 + (d + 2) % 4)) 0 → t₄ ≡ set t₃ (v * 21 + (14 + (d + 2) % 4)) 0 → t₄ ≡ unsetIn t u v d
+unlink-four t u v d e₁ e₂ e₃ e₄ = cc

@@ -1,0 +1,2 @@
+-- The walk that is over.
+pub mod Settled

@@ -1,0 +1,2 @@
+-- What the judgement of the input finds.
+pub mod Input

@@ -1,0 +1,19 @@
+-- What the operations of a walk leave.
+-- Assumes nothing.
+use mathlib.Core.List.{List, []}
+use mathlib.Core.Path.{_≡_}
+use Prim.Native.Nat.{ℕ, _/_}
+use lib.ListN.{length}
+use Rattle.answer.specs.declared.Answer.{Answer}
+use Rattle.calls.specs.Walk.{roomFrom, factsOf, answerBy, bufferBy}
+use Rattle.grid.specs.Grid.{origin}
+use Rattle.layout.specs.Marks.{marksOf, chainOf}
+use Rattle.layout.specs.Table.{tableOf}
+use Rattle.word.specs.Operations.{survivors}
+
+-- what operations with no fault leave, in a table that held the root alone: the room decides
+pub record Followed (os t ms ch : List ℕ) (r : Answer) (t′ ms′ ch′ : List ℕ) : Type 0 where
+  pub answer : r ≡ answerBy (roomFrom (length t / 21) origin 0 [] os) (factsOf origin (survivors os))
+  pub table : t′ ≡ bufferBy (roomFrom (length t / 21) origin 0 [] os) (tableOf (length t) origin (survivors os)) t
+  pub marks : ms′ ≡ bufferBy (roomFrom (length t / 21) origin 0 [] os) (marksOf origin os) ms
+  pub chain : ch′ ≡ bufferBy (roomFrom (length t / 21) origin 0 [] os) (chainOf os) ch
