@@ -13,6 +13,7 @@ pub mod ScanLaws
 pub mod SurveyLaws
 pub mod FillLaws
 pub mod StackLaws
+pub mod IdleLaws
 pub mod OutlineLaws
 pub mod JoinLaws
 pub mod WalkLaws
