@@ -20,4 +20,5 @@ pub mod WalkLaws
 pub mod HullLaws
 pub mod CallLaws
 pub mod LineLaws
+pub mod RowLaws
 pub mod HullCases
