@@ -1,11 +1,11 @@
-// The chain over columns: from the last column to the first, each is put in front of those that still make a left turn. The chain
-// stands at the end of its array.
+// The chain over columns: from the last column to the first, each is put in front of those that still make a left turn, unless
+// it makes none between its own neighbours. The chain stands at the end of its array.
 ghost use mathlib.Core.Path.{_≡_};
 ghost use mathlib.Core.List.{_∷_};
 ghost use Prim.Native.Nat.{_+_, _*_, _<_, _≤_};
 ghost use lib.Dec.{ltb};
 ghost use lib.ListN.{length, drop};
-ghost use Rattle.hull_laws.specs.Outline.{turnsAt, dropsAt, cutAt};
+ghost use Rattle.hull_laws.specs.Outline.{turnsAt, dropsAt, cutAt, idleAt, placedAt};
 ghost use Rattle.hull_chains.specs.Stack.{Scanned, Stack};
 
 // Whether heights p, b and a turn left at b, where b and a lie u and w columns to the right of p.
@@ -58,6 +58,31 @@ fn push(ys: &[u16], s: &mut [u16], q: usize, p: usize) -> usize
     f
 }
 
+// Whether column i of the first n makes no left turn between its two neighbours.
+fn idle(ys: &[u16], n: usize, i: usize) -> bool
+    requires { ⌜ (i < n) × (n ≤ length (now ys)) × (length (now ys) ≤ 65536) ⌝ }
+    ensures { λ r. ⌜ r ≡ idleAt (now (ys .entry)) n i ⌝ }
+{
+    if i == 0 {
+        return false;
+    }
+    if i + 1 >= n {
+        return false;
+    }
+    !turns(ys, i - 1, i, i + 1)
+}
+
+// Puts p in front of the chain from q on unless it is idle, and answers where the chain begins then.
+fn place(ys: &[u16], n: usize, s: &mut [u16], q: usize, p: usize) -> usize
+    requires { ⌜ Stack (now ys) (now s) q p × (0 < q) × (p < n) × (n ≤ length (now ys)) ⌝ }
+    ensures { λ r. ⌜ (drop r (now (s .exit)) ≡ placedAt (now (ys .entry)) n p (drop q (now (s .entry)))) × (q ≤ r + 1) × (r ≤ length (now (s .entry))) ⌝ }
+{
+    if idle(ys, n, p) {
+        return q;
+    }
+    push(ys, s, q, p)
+}
+
 // The chain of the first n columns: where it begins in s.
 pub fn scan(ys: &[u16], n: usize, s: &mut [u16]) -> usize
     requires { ⌜ (n ≤ length (now ys)) × (n ≤ length (now s)) × (length (now ys) ≤ 65536) ⌝ }
@@ -67,7 +92,7 @@ pub fn scan(ys: &[u16], n: usize, s: &mut [u16]) -> usize
     let mut i = n;
     while i > 0 {
         i -= 1;
-        q = push(ys, s, q, i);
+        q = place(ys, n, s, q, i);
     }
     q
 }

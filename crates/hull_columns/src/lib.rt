@@ -2,8 +2,9 @@
 use answer::Refusal;
 ghost use mathlib.Core.Path.{_≡_};
 ghost use mathlib.Core.List.{map};
-ghost use Prim.Native.Nat.{_-_, _<_, _≤_, min, max};
-ghost use lib.ListN.{length};
+ghost use Prim.Native.Nat.{ℕ, _-_, _<_, _≤_, min, max};
+ghost use lib.ListN.{length, getD};
+ghost use Rattle.answer.specs.Limits.{mostSteps};
 ghost use Rattle.hull.specs.Call.{faultFrom};
 ghost use Rattle.hull_laws.specs.Columns.{colAfter, rowAfter, trail, westFrom, eastFrom, sink, sinks, eastOf, turned};
 ghost use Rattle.hull_laws.specs.Columns.{middle, top};
@@ -69,6 +70,15 @@ fn lesser(a: usize, b: usize) -> usize
     b
 }
 
+fn higher(a: u8, b: u8) -> u8
+    ensures { λ r. ⌜ r ≡ max a b ⌝ }
+{
+    if a < b {
+        return b;
+    }
+    a
+}
+
 fn greater(a: usize, b: usize) -> usize
     ensures { λ r. ⌜ r ≡ max a b ⌝ }
 {
@@ -78,8 +88,39 @@ fn greater(a: usize, b: usize) -> usize
     a
 }
 
-// How far the walk goes, unless a byte is above 3 or a step is one too many.
-pub fn survey(chain: &[u8]) -> Extent
+// The greatest byte of a chain, or 0.
+fn highest(chain: &[u8]) -> u8
+    ensures { λ r. ⌜ ((k : ℕ) → getD (now (chain .entry)) k 0 ≤ r) ⌝ }
+{
+    let mut most = 0;
+    let mut i = 0;
+    while i < chain.len() {
+        most = higher(most, chain[i]);
+        i += 1;
+    }
+    most
+}
+
+// How far a walk of digits up to 3 goes that is not too long.
+fn measure(chain: &[u8]) -> Extent
+    requires { ⌜ (length (now chain) ≤ mostSteps) × ((k : ℕ) → getD (now chain) k 0 ≤ 3) ⌝ }
+    ensures { λ r. ⌜ r ≡ extentBy (faultFrom 0 (now (chain .entry))) (westFrom middle (now (chain .entry))) (eastFrom middle (now (chain .entry))) ⌝ }
+{
+    let mut x = Columns::MIDDLE;
+    let mut west = x;
+    let mut east = x;
+    let mut i = 0;
+    while i < chain.len() {
+        x = column(x, chain[i]);
+        west = lesser(west, x);
+        east = greater(east, x);
+        i += 1;
+    }
+    Extent::Within(west, east)
+}
+
+// How far the walk goes, unless a byte is above 3 or a step is one too many: judged at each step.
+fn examine(chain: &[u8]) -> Extent
     ensures { λ r. ⌜ r ≡ extentBy (faultFrom 0 (now (chain .entry))) (westFrom middle (now (chain .entry))) (eastFrom middle (now (chain .entry))) ⌝ }
 {
     let mut x = Columns::MIDDLE;
@@ -100,6 +141,19 @@ pub fn survey(chain: &[u8]) -> Extent
         i += 1;
     }
     Extent::Within(west, east)
+}
+
+// How far the walk goes, unless a byte is above 3 or a step is one too many.
+pub fn survey(chain: &[u8]) -> Extent
+    ensures { λ r. ⌜ r ≡ extentBy (faultFrom 0 (now (chain .entry))) (westFrom middle (now (chain .entry))) (eastFrom middle (now (chain .entry))) ⌝ }
+{
+    if chain.len() > Columns::MOST_STEPS {
+        return examine(chain);
+    }
+    if highest(chain) > 3 {
+        return examine(chain);
+    }
+    measure(chain)
 }
 
 // Column c keeps the height y if it is lower.

@@ -1,14 +1,15 @@
 -- From the two chains to the list in the buffer.
 -- Assumes nothing.
-use mathlib.Core.Path.{_≡_, sym, ap, _∙_, subst}
+use mathlib.Core.Path.{_≡_, sym, ap, ap₂, _∙_, subst}
 use mathlib.Core.Bool.{_&&_}
 use mathlib.Core.List.{List}
 use Prim.Native.Nat.{ℕ, suc, _+_, _*_, _-_, _≤_, _<_}
 use native.Mathlib.Omega.{arith}
 use lib.Dec.{ltb, eqb}
 use lib.IntN.{ℤ, pos, negsuc, natAbs, _+ℤ_, _-ℤ_}
-use lib.ListN.{length, getD}
+use lib.ListN.{length, getD, set}
 use lib.Seq.{sets}
+use Rattle.int_laws.proofs.LinearLaws.{zarith, bal+}
 use Rattle.int_laws.proofs.RangeLaws.{abs+, abs-}
 use Rattle.lists.specs.Lists.{tally}
 use Rattle.grid.specs.declared.Corner.{Corner}
@@ -18,11 +19,11 @@ use Rattle.answer.specs.declared.Refusal.the-variants.{HullRoom}
 use Rattle.answer.specs.declared.Counted.{Counted}
 use Rattle.answer.specs.Limits.{mostSteps}
 use Rattle.hull.specs.Call.{roomJudged, countedOf, numbers, bufferOf}
-use Rattle.hull_laws.specs.Outline.{spot, outlineOf}
+use Rattle.hull_laws.specs.Outline.{spot, spotBy, outlineOf}
 use Rattle.hull_laws.proofs.StackLaws.{stack-in}
-use Rattle.hull_laws.proofs.JoinLaws.{seam-room, close-room, length-both, parts-outline}
+use Rattle.hull_laws.proofs.JoinLaws.{seam-room, close-room, length-both, parts-outline, spot-by}
 use Rattle.hull_laws.proofs.CallLaws.{room-short, room-enough, written}
-use Rattle.hull_corners.specs.Parts.{joined, Near, Listed, Puts, Parts, Chained}
+use Rattle.hull_corners.specs.Parts.{joined, twoAt, Near, Listed, Puts, Parts, Chained}
 use Rattle.hull_laws.specs.Columns.{middle, top, blank}
 
 -- a corner of the columns fits the numbers of the buffer
@@ -106,3 +107,41 @@ module _ {w e : ℕ} {lo hi s t : List ℕ} {a b : ℕ} (h : Chained w e lo hi s
       where
         enough : roomJudged (length before) (length (outlineOf (c .0 -ℤ pos middle) (c .1 -ℤ pos middle) w e top lo hi)) ≡ judged.Good
         enough = room-enough (length before) (length (outlineOf (c .0 -ℤ pos middle) (c .1 -ℤ pos middle) w e top lo hi)) (omega (arith, count))
+
+-- two corners in the buffer
+pub ends-base : (c base : Corner) → base ≡ spot (c .0 -ℤ pos middle) (c .1 -ℤ pos middle) (0, 0) → Near c → (natAbs (base .0) ≤ suc blank) × (natAbs (base .1) ≤ suc blank)
+ends-base c base r n =
+    (subst (λ (z : Corner). natAbs (z .0) ≤ suc blank) (sym r) (near-axis (c .0) 0 (n .x) (omega arith)), subst (λ (z : Corner). natAbs (z .1) ≤ suc blank) (sym r) (near-axis (c .1) 0 (n .y) (omega arith)))
+
+module _ (c : Corner) (w e : ℕ) where
+  pub ends-short : (before : List ℤ) → length before < 4 → Listed (twoAt c w e) before (Counted.Refused HullRoom) before
+  ends-short before k = record {
+    answer = sym (ap (λ (j : Judged). countedOf j 2) short);
+    buffer = sym (ap (λ (j : Judged). bufferOf j (twoAt c w e) before) short);
+  }
+    where
+      short : roomJudged (length before) 2 ≡ judged.Refused HullRoom
+      short = room-short (length before) 2 k
+
+  from-base : (base : Corner) → base ≡ spot (c .0 -ℤ pos middle) (c .1 -ℤ pos middle) (0, 0) → (v : ℕ × ℕ) → spotBy base (pos 1) v ≡ spot (c .0 -ℤ pos middle) (c .1 -ℤ pos middle) v
+  from-base base r v =
+      ap (λ (z : Corner). spotBy z (pos 1) v) r
+      ∙ spot-by (c .0 -ℤ pos middle) (c .1 -ℤ pos middle) 0 v
+      ∙ ap (λ (z : ℤ). spot z (c .1 -ℤ pos middle) v) none
+    where
+      none : (c .0 -ℤ pos middle) +ℤ pos 0 ≡ c .0 -ℤ pos middle
+      none = omega (zarith, bal+ (c .0 -ℤ pos middle) (pos 0))
+
+  pub ends-enough : (base : Corner) (before one after : List ℤ) → base ≡ spot (c .0 -ℤ pos middle) (c .1 -ℤ pos middle) (0, 0) → 4 ≤ length before
+      → one ≡ set (set before 0 (spotBy base (pos 1) (w, middle) .0)) 1 (spotBy base (pos 1) (w, middle) .1)
+      → after ≡ set (set one 2 (spotBy base (pos 1) (e, middle) .0)) 3 (spotBy base (pos 1) (e, middle) .1)
+      → Listed (twoAt c w e) before (Counted.Corners 2) after
+  ends-enough base before one after r k p q = record {
+    answer = sym (ap (λ (j : Judged). countedOf j 2) enough);
+    buffer =
+        q ∙ ap₂ (λ (l : List ℤ) (z : Corner). set (set l 2 (z .0)) 3 (z .1)) (p ∙ ap (λ (z : Corner). set (set before 0 (z .0)) 1 (z .1)) (from-base base r (w, middle))) (from-base base r (e, middle))
+        ∙ written (twoAt c w e) before k ∙ sym (ap (λ (j : Judged). bufferOf j (twoAt c w e) before) enough);
+  }
+    where
+      enough : roomJudged (length before) 2 ≡ judged.Good
+      enough = room-enough (length before) 2 k

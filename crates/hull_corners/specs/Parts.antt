@@ -1,7 +1,7 @@
 -- What the writing of a list of corners asks and promises.
 -- Assumes nothing.
 use mathlib.Core.Path.{_≡_}
-use mathlib.Core.List.{List, _++_, map}
+use mathlib.Core.List.{List, [], _∷_, _++_, map}
 use Prim.Native.Nat.{ℕ, suc, _+_, _*_, _-_, _<_, _≤_}
 use lib.IntN.{ℤ, pos, natAbs, _+ℤ_, _-ℤ_}
 use lib.ListN.{length, getD, drop}
@@ -39,6 +39,10 @@ abbrev pub joined : Corner → ℕ → ℕ → List ℕ → List ℕ → List �
 joined c w e lo hi s t a f g =
     map (λ i. spot ((c .0 -ℤ pos middle) +ℤ pos w) (c .1 -ℤ pos middle) (colAt lo i)) (drop a s)
     ++ map (λ i. spotBack ((c .0 -ℤ pos middle) +ℤ pos e) ((c .1 -ℤ pos middle) +ℤ pos top) (colAt hi i)) (slice f g t)
+
+-- the two corners at the height of the start in the columns w and e
+abbrev pub twoAt : Corner → ℕ → ℕ → List Corner
+twoAt c w e = spot (c .0 -ℤ pos middle) (c .1 -ℤ pos middle) (w, middle) ∷ (spot (c .0 -ℤ pos middle) (c .1 -ℤ pos middle) (e, middle) ∷ [])
 
 -- parts of the two chains of the columns w to e, and room for them
 pub record Parts (w e : ℕ) (lo hi s t : List ℕ) (a f g room : ℕ) : Type 0 where

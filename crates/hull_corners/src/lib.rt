@@ -15,7 +15,7 @@ ghost use lib.Seq.{sets, slice};
 ghost use Rattle.hull.specs.Call.{numbers};
 ghost use Rattle.hull_laws.specs.Outline.{outlineOf, spot, spotBy, colAt};
 ghost use Rattle.hull_laws.specs.Columns.{middle, top};
-ghost use Rattle.hull_corners.specs.Parts.{joined, Near, Puts, Parts, Chained, Listed};
+ghost use Rattle.hull_corners.specs.Parts.{joined, twoAt, Near, Puts, Parts, Chained, Listed};
 
 // A coordinate: n steps of `way`, which is 1 or -1, from `base`.
 fn coordinate(base: i32, way: i32, n: u16) -> i32
@@ -148,4 +148,18 @@ pub fn finish(
     }
     write(start, west, east, lo, hi, s, a, t, f, g, out);
     Counted::Corners(count)
+}
+
+// Writes the corners at the start's height in these two columns if there is room, and answers that there are two.
+pub fn ends(start: Corner, west: usize, east: usize, out: &mut [i32]) -> Counted
+    requires { ⌜ Near start × (west ≤ top) × (east ≤ top) ⌝ }
+    ensures { λ r. ⌜ Listed (twoAt start west east) (now (out .entry)) r (now (out .exit)) ⌝ }
+{
+    if out.len() < 4 {
+        return Counted::Refused(Refusal::HullRoom);
+    }
+    let base = placed(start, 0, 0);
+    put_corner(out, 0, base, 1, west as u16, Columns::LEVEL);
+    put_corner(out, 2, base, 1, east as u16, Columns::LEVEL);
+    Counted::Corners(2)
 }

@@ -13,10 +13,12 @@ pub mod ScanLaws
 pub mod SurveyLaws
 pub mod FillLaws
 pub mod StackLaws
+pub mod IdleLaws
 pub mod OutlineLaws
 pub mod JoinLaws
 pub mod WalkLaws
 pub mod HullLaws
 pub mod CallLaws
 pub mod LineLaws
+pub mod RowLaws
 pub mod HullCases

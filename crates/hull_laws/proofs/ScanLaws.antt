@@ -85,7 +85,7 @@ module _ (x0 y0 : ℤ) (ys : List ℕ) where
       (((v 0 ⊕ (v 2 ⊕ v 3)) ⊖ X) ⊗ ((v 1 ⊕ v 7) ⊖ Y) ⊖ ((v 1 ⊕ v 6) ⊖ Y) ⊗ ((v 0 ⊕ (v 2 ⊕ v 4)) ⊖ X))
       ((v 3 ⊗ v 7 ⊕ v 4 ⊗ v 5) ⊖ (v 4 ⊗ v 6 ⊕ v 3 ⊗ v 5)) tt
 
-  turns-cols : (p b a : ℕ) → p < b → p < a → turns (at x0 y0 ys p) (at x0 y0 ys b) (at x0 y0 ys a) ≡ turnsAt ys p b a
+  pub turns-cols : (p b a : ℕ) → p < b → p < a → turns (at x0 y0 ys p) (at x0 y0 ys b) (at x0 y0 ys a) ≡ turnsAt ys p b a
   unfolding turns turnsAt
   turns-cols p b a h g =
       ap₂ (λ (m n : ℕ). ltZ (pos 0) (cross (at x0 y0 ys p) (spot x0 y0 (m, getD ys b 0)) (spot x0 y0 (n, getD ys a 0)))) back back′

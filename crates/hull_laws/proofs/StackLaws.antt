@@ -93,7 +93,7 @@ module _ (ys : List ℕ) (p : ℕ) where
       back : suc (f - 1) ≡ f
       back = omega arith
 
--- the scan, from the last column to the first
+-- what the array holds are columns of the chain
 getD-in : (l : List ℕ) (i : ℕ) → i < length l → In (getD l i 0) l
 getD-in [] i h = let z : ⊥ = omega arith in z
 getD-in (x ∷ l) zero h = inl refl
@@ -108,33 +108,9 @@ stack-in ys s q i k j e h g = chain-in ys i k (getD s j 0) (subst (λ (l : List 
         back : q + (j - q) ≡ j
         back = omega arith
 
-pub stack-columns : (ys s : List ℕ) (q i n : ℕ) → 0 < i → i ≤ n → n ≤ length ys → drop q s ≡ chainFrom ys i (n - i) → (j : ℕ) → q ≤ j → j < length s → (i - 1 < getD s j 0) × (getD s j 0 < length ys)
-stack-columns ys s q i n a b c e j h g = let r = stack-in ys s q i (n - i) j e h g in (omega (arith, r .0), omega (arith, r .1))
-
 pub scan-none : (ys s : List ℕ) (n : ℕ) → drop (length s) s ≡ chainFrom ys n (n - n)
 unfolding chainFrom
 scan-none ys s n = drop-of-length-le s {i = length s} (omega arith) ∙ ap (chainFrom ys n) none
   where
     none : 0 ≡ n - n
     none = omega arith
-
-pub scan-next : (ys s : List ℕ) (q i n : ℕ) (l : List ℕ) → 0 < i → i ≤ n → drop q s ≡ chainFrom ys i (n - i) → l ≡ (i - 1) ∷ cutAt ys (i - 1) (drop q s) → l ≡ chainFrom ys (i - 1) (n - (i - 1))
-unfolding chainFrom
-scan-next ys s q i n l h g e f =
-    f ∙ ap (λ (t : List ℕ). (i - 1) ∷ cutAt ys (i - 1) t) (e ∙ ap (λ (k : ℕ). chainFrom ys k (n - i)) back)
-    ∙ ap (chainFrom ys (i - 1)) more
-  where
-    back : i ≡ suc (i - 1)
-    back = omega arith
-
-    more : suc (n - i) ≡ n - (i - 1)
-    more = omega arith
-
-pub scan-done : (ys s : List ℕ) (q i n : ℕ) → i ≤ 0 → drop q s ≡ chainFrom ys i (n - i) → drop q s ≡ chainFrom ys 0 n
-scan-done ys s q i n h e = e ∙ ap₂ (chainFrom ys) none all
-  where
-    none : i ≡ 0
-    none = omega arith
-
-    all : n - i ≡ n
-    all = omega arith

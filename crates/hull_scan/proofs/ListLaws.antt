@@ -25,10 +25,11 @@ use Rattle.hull_laws.proofs.SinkLaws.{length-sinks}
 use Rattle.hull_laws.proofs.SurveyLaws.{good-digits, good-short}
 use Rattle.hull_laws.proofs.WalkLaws.{Room, columns-hull}
 use Rattle.hull_laws.proofs.CallLaws.{judged-room}
+use Rattle.hull_laws.proofs.RowLaws.{row-hull}
 use Rattle.hull_columns.specs.declared.Extent.{Extent}
 use Rattle.hull_chains.specs.Stack.{Scanned}
 use Rattle.hull_columns.specs.Extent.{extentBy, Walked}
-use Rattle.hull_corners.specs.Parts.{Near, Listed, Chained}
+use Rattle.hull_corners.specs.Parts.{Near, Listed, Chained, twoAt}
 use Rattle.hull_laws.specs.Columns.{middle, top, blank}
 use Rattle.hull_scan.specs.Store.{Store, Hulled}
 
@@ -85,6 +86,22 @@ stored {w} {e} n h g = record {
     clear : replicate n blank ≡ replicate (length (replicate {A = ℕ} n blank)) blank
     clear = ap (λ (k : ℕ). replicate k blank) (sym (size blank))
 
+-- the start stands in the middle
+start-is : (c : Corner) → spot (c .0 -ℤ pos middle) (c .1 -ℤ pos middle) (middle, middle) ≡ c
+start-is c = corner-eq (spot (c .0 -ℤ pos middle) (c .1 -ℤ pos middle) (middle, middle)) c (back (c .0)) (back (c .1))
+  where
+    back : (z : ℤ) → (z -ℤ pos middle) +ℤ pos middle ≡ z
+    back z = omega (zarith, bal- z (pos middle), bal+ (z -ℤ pos middle) (pos middle))
+
+-- a walk through a new column at each step is along one line
+pub row-hulled : {c : Corner} {chain : List ℕ} {w e : ℕ} {before after : List ℤ} {r : Counted} → Walked chain w e → w < e → e - w ≡ length chain → Listed (twoAt c w e) before r after → Hulled c chain before r after
+row-hulled {c} {chain} {w} {e} k h g l = record { list = twoAt c w e; hull = whole; listed = l }
+  where
+    whole : HullIs (cornersFrom c chain) (twoAt c w e)
+    whole =
+        subst (λ (z : Corner). HullIs (cornersFrom z chain) (twoAt c w e)) (start-is c)
+        (subst (HullIs (cornersFrom (spot (c .0 -ℤ pos middle) (c .1 -ℤ pos middle) (middle, middle)) chain)) (ap₂ (twoAt c) (sym (k .west)) (sym (k .east))) (row-hull (c .0 -ℤ pos middle) (c .1 -ℤ pos middle) middle middle chain (k .short) (k .short) (omega arith) (omega (arith, k .west, k .east))))
+
 -- the columns filled, from a store that is clear
 module _ {chain : List ℕ} {w e : ℕ} {lo hi s t : List ℕ} (k : Walked chain w e) (m : Store w e lo hi s t) where
   cleared : (l : List ℕ) → l ≡ replicate (length l) blank → (i : ℕ) → i < length l → getD l i 0 ≡ blank
@@ -114,12 +131,6 @@ module _ {chain : List ℕ} {w e : ℕ} {lo hi s t : List ℕ} (k : Walked chain
     short = omega (arith, m .short);
     short2 = omega (arith, m .short2);
   }
-
-  start-is : (c : Corner) → spot (c .0 -ℤ pos middle) (c .1 -ℤ pos middle) (middle, middle) ≡ c
-  start-is c = corner-eq (spot (c .0 -ℤ pos middle) (c .1 -ℤ pos middle) (middle, middle)) c (back (c .0)) (back (c .1))
-    where
-      back : (z : ℤ) → (z -ℤ pos middle) +ℤ pos middle ≡ z
-      back z = omega (zarith, bal- z (pos middle), bal+ (z -ℤ pos middle) (pos middle))
 
   pub hulled : (c : Corner) (lo′ hi′ : List ℕ) (before after : List ℤ) (r : Counted) → lo′ ≡ sinks lo (map (eastOf w) (trail middle middle chain)) → hi′ ≡ sinks hi (map (turned e top) (trail middle middle chain)) → Listed (outlineOf (c .0 -ℤ pos middle) (c .1 -ℤ pos middle) w e top lo′ hi′) before r after → Hulled c chain before r after
   hulled c lo′ hi′ before after r p q l = record {

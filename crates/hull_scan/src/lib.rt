@@ -8,6 +8,7 @@ use hull_columns::Columns;
 use hull_columns::Extent;
 use hull_columns::fill;
 use hull_columns::survey;
+use hull_corners::ends;
 use hull_corners::finish;
 ghost use Prim.Native.Nat.{_-_, _<_, _≤_};
 ghost use Rattle.grid.specs.Grid.{origin};
@@ -104,11 +105,17 @@ fn list_widest(chain: &[u8], start: Corner, west: usize, east: usize, out: &mut 
     )
 }
 
-// The hull of the walk from start, with a store that is not much larger than it needs: to clear it takes time.
+// The hull of the walk from start, with a store that is not much larger than it needs: to clear it takes time. A walk that goes through a
+// new column at each step is along one line, and needs none.
 fn list_from(chain: &[u8], start: Corner, west: usize, east: usize, out: &mut [i32]) -> Counted
     requires { ⌜ Walked (now chain) west east × Near start ⌝ }
     ensures { λ r. ⌜ Hulled start (now (chain .entry)) (now (out .entry)) r (now (out .exit)) ⌝ }
 {
+    if west < east {
+        if east - west == chain.len() {
+            return ends(start, west, east, out);
+        }
+    }
     if east - west < 256 {
         return list_narrow(chain, start, west, east, out);
     }
