@@ -1,10 +1,11 @@
 // The columns of a walk, counted so that its start stands in the middle one, and the lowest corner of each.
+use answer::Judged;
 use answer::Refusal;
 ghost use mathlib.Core.Path.{_≡_};
 ghost use mathlib.Core.List.{map};
 ghost use Prim.Native.Nat.{ℕ, _-_, _<_, _≤_, min, max};
 ghost use lib.ListN.{length, getD};
-ghost use Rattle.answer.specs.Limits.{mostSteps};
+ghost use Rattle.answer.specs.declared.Judged.the-variants.{Good};
 ghost use Rattle.hull.specs.Call.{faultFrom};
 ghost use Rattle.hull_laws.specs.Columns.{colAfter, rowAfter, trail, westFrom, eastFrom, sink, sinks, eastOf, turned};
 ghost use Rattle.hull_laws.specs.Columns.{middle, top};
@@ -101,9 +102,9 @@ fn highest(chain: &[u8]) -> u8
     most
 }
 
-// How far a walk of digits up to 3 goes that is not too long.
+// How far a walk without a fault goes.
 fn measure(chain: &[u8]) -> Extent
-    requires { ⌜ (length (now chain) ≤ mostSteps) × ((k : ℕ) → getD (now chain) k 0 ≤ 3) ⌝ }
+    requires { ⌜ faultFrom 0 (now chain) ≡ Good ⌝ }
     ensures { λ r. ⌜ r ≡ extentBy (faultFrom 0 (now (chain .entry))) (westFrom middle (now (chain .entry))) (eastFrom middle (now (chain .entry))) ⌝ }
 {
     let mut x = Columns::MIDDLE;
@@ -119,41 +120,44 @@ fn measure(chain: &[u8]) -> Extent
     Extent::Within(west, east)
 }
 
-// How far the walk goes, unless a byte is above 3 or a step is one too many: judged at each step.
-fn examine(chain: &[u8]) -> Extent
-    ensures { λ r. ⌜ r ≡ extentBy (faultFrom 0 (now (chain .entry))) (westFrom middle (now (chain .entry))) (eastFrom middle (now (chain .entry))) ⌝ }
+// The first fault of a chain: a byte above 3, or a step that is one too many.
+fn fault(chain: &[u8]) -> Judged
+    ensures { λ r. ⌜ r ≡ faultFrom 0 (now (chain .entry)) ⌝ }
 {
-    let mut x = Columns::MIDDLE;
-    let mut west = x;
-    let mut east = x;
     let mut i = 0;
     while i < chain.len() {
-        let d = chain[i];
-        if d > 3 {
-            return Extent::Refused(Refusal::BadDigit(i));
+        if chain[i] > 3 {
+            return Judged::Refused(Refusal::BadDigit(i));
         }
         if i == Columns::MOST_STEPS {
-            return Extent::Refused(Refusal::TooLong(i));
+            return Judged::Refused(Refusal::TooLong(i));
         }
-        x = column(x, d);
-        west = lesser(west, x);
-        east = greater(east, x);
         i += 1;
     }
-    Extent::Within(west, east)
+    Judged::Good
 }
 
-// How far the walk goes, unless a byte is above 3 or a step is one too many.
+// The same, in one pass without a test where there is none.
+fn judge(chain: &[u8]) -> Judged
+    ensures { λ r. ⌜ r ≡ faultFrom 0 (now (chain .entry)) ⌝ }
+{
+    if chain.len() > Columns::MOST_STEPS {
+        return fault(chain);
+    }
+    if highest(chain) > 3 {
+        return fault(chain);
+    }
+    Judged::Good
+}
+
+// How far the walk goes, unless it is refused.
 pub fn survey(chain: &[u8]) -> Extent
     ensures { λ r. ⌜ r ≡ extentBy (faultFrom 0 (now (chain .entry))) (westFrom middle (now (chain .entry))) (eastFrom middle (now (chain .entry))) ⌝ }
 {
-    if chain.len() > Columns::MOST_STEPS {
-        return examine(chain);
+    match judge(chain) {
+        Judged::Good => measure(chain),
+        Judged::Refused(r) => Extent::Refused(r),
     }
-    if highest(chain) > 3 {
-        return examine(chain);
-    }
-    measure(chain)
 }
 
 // Column c keeps the height y if it is lower.

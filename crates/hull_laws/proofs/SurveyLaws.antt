@@ -25,9 +25,6 @@ use Rattle.hull_laws.proofs.TrailLaws.{near, west-le, east-ge}
 pub falls : (n i : ℕ) → i < n → n - (i + 1) < n - i
 falls n i h = omega arith
 
-pub fewer : (d : ℕ) → d ≤ 3 → d < 4
-fewer d h = omega arith
-
 -- the greatest of what was seen
 pub most-next : (chain : List ℕ) (i m m′ : ℕ) → ((k : ℕ) → k < i → getD chain k 0 ≤ m) → m′ ≡ max m (getD chain i 0) → (k : ℕ) → k < i + 1 → getD chain k 0 ≤ m′
 most-next chain i m m′ f e k h = go (decLt k i)
@@ -56,86 +53,111 @@ at-long i d h e = ap₂ (λ (a b : Bool). orElse (when a (BadDigit i)) (when b (
 at-good : (i d : ℕ) → d ≤ 3 → ¬ (i ≡ mostSteps) → faultAt i d ≡ Good
 at-good i d h e = ap₂ (λ (a b : Bool). orElse (when a (BadDigit i)) (when b (TooLong i))) (le-ltb 3 d h) (ne-eqb i mostSteps e)
 
+-- a chain with digits up to 3, and not too many, has none
+pub no-fault : (i : ℕ) (chain : List ℕ) → i + length chain ≤ mostSteps → ((k : ℕ) → getD chain k 0 ≤ 3) → faultFrom i chain ≡ Good
+no-fault i [] h f = refl
+no-fault i (d ∷ ds) h f = ap (λ (j : Judged). orElse j (faultFrom (suc i) ds)) (at-good i d (f 0) (λ e. omega arith)) ∙ no-fault (suc i) ds (omega arith) (λ k. f (suc k))
+
 fault-here : (chain : List ℕ) (i : ℕ) → i < length chain → faultFrom i (drop i chain) ≡ orElse (faultAt i (getD chain i 0)) (faultFrom (suc i) (drop (suc i) chain))
 fault-here chain i h = ap (faultFrom i) (drop-cons chain i 0 h)
 
--- the walk stands in column x after i steps, and was in the columns w to e
-pub record Surveyed (chain : List ℕ) (x w e i : ℕ) : Type 0 where
+-- the first i bytes have no fault
+pub record Judging (chain : List ℕ) (i : ℕ) : Type 0 where
   pub within : i ≤ length chain
   pub few : i ≤ mostSteps
+  pub fault : faultFrom i (drop i chain) ≡ faultFrom 0 chain
+
+pub judging-start : (chain : List ℕ) → Judging chain 0
+judging-start chain = record { within = omega arith; few = omega arith; fault = refl }
+
+none-left : (chain : List ℕ) (i : ℕ) → length chain ≤ i → drop i chain ≡ []
+none-left chain i h = drop-of-length-le chain {i = i} h
+
+module _ (chain : List ℕ) (i : ℕ) (s : Judging chain i) where
+  rest : Judged → Judged
+  rest j = orElse j (faultFrom (suc i) (drop (suc i) chain))
+
+  pub judging-step : i < length chain → getD chain i 0 ≤ 3 → ¬ (i ≡ mostSteps) → Judging chain (i + 1)
+  unfolding rest
+  judging-step h g n = subst (Judging chain) (sym (add-one i)) (record {
+    within = omega arith;
+    few = below n;
+    fault = sym (fault-here chain i h ∙ ap rest (at-good i (getD chain i 0) g n)) ∙ s .fault;
+  })
+    where
+      below : ¬ (i ≡ mostSteps) → suc i ≤ mostSteps
+      below n = omega (arith, s .few)
+
+  pub judging-bad : i < length chain → 3 < getD chain i 0 → faultFrom 0 chain ≡ Refused (BadDigit i)
+  unfolding rest
+  judging-bad h g = sym (s .fault) ∙ fault-here chain i h ∙ ap rest (at-bad i (getD chain i 0) g)
+
+  pub judging-long : i < length chain → getD chain i 0 ≤ 3 → i ≡ mostSteps → faultFrom 0 chain ≡ Refused (TooLong i)
+  unfolding rest
+  judging-long h g e = sym (s .fault) ∙ fault-here chain i h ∙ ap rest (at-long i (getD chain i 0) g e)
+
+  pub judging-good : length chain ≤ i → faultFrom 0 chain ≡ Good
+  judging-good h = sym (s .fault) ∙ ap (faultFrom i) (none-left chain i h)
+
+-- the walk stands in column x after i steps, and was in the columns w to e
+pub record Surveyed (chain : List ℕ) (x w e i : ℕ) : Type 0 where
+  pub judging : Judging chain i
   pub left : mostSteps ≤ x + i
   pub right : x ≤ mostSteps + i
   pub here : w ≤ x
   pub here2 : x ≤ e
   pub west : min w (westFrom x (drop i chain)) ≡ westFrom mostSteps chain
   pub east : max e (eastFrom x (drop i chain)) ≡ eastFrom mostSteps chain
-  pub fault : faultFrom i (drop i chain) ≡ faultFrom 0 chain
 
 pub surveyed-start : (chain : List ℕ) → Surveyed chain mostSteps mostSteps mostSteps 0
 surveyed-start chain = record {
-  within = omega arith;
-  few = omega arith;
+  judging = judging-start chain;
   left = omega arith;
   right = omega arith;
   here = omega arith;
   here2 = omega arith;
   west = omega (arith, west-le mostSteps chain);
   east = omega (arith, east-ge mostSteps chain);
-  fault = refl;
 }
 
 module _ (chain : List ℕ) (x w e i : ℕ) (s : Surveyed chain x w e i) where
-  west-step : i < length chain → westFrom x (drop i chain) ≡ min x (westFrom (colAfter x (getD chain i 0)) (drop (suc i) chain))
+  west-step : i < length chain → westFrom x (drop i chain) ≡ min x (westFrom (colAfter x (getD chain i 0)) (drop (i + 1) chain))
   unfolding westFrom
-  west-step h = ap (westFrom x) (drop-cons chain i 0 h)
+  west-step h = ap (westFrom x) (drop-cons chain i 0 h) ∙ ap (λ (k : ℕ). min x (westFrom (colAfter x (getD chain i 0)) (drop k chain))) (sym (add-one i))
 
-  east-step : i < length chain → eastFrom x (drop i chain) ≡ max x (eastFrom (colAfter x (getD chain i 0)) (drop (suc i) chain))
+  east-step : i < length chain → eastFrom x (drop i chain) ≡ max x (eastFrom (colAfter x (getD chain i 0)) (drop (i + 1) chain))
   unfolding eastFrom
-  east-step h = ap (eastFrom x) (drop-cons chain i 0 h)
+  east-step h = ap (eastFrom x) (drop-cons chain i 0 h) ∙ ap (λ (k : ℕ). max x (eastFrom (colAfter x (getD chain i 0)) (drop k chain))) (sym (add-one i))
 
   -- a column to step to
   pub surveyed-room : ¬ (i ≡ mostSteps) → (0 < x) × (x ≤ 2 * mostSteps)
-  surveyed-room n = (omega (arith, s .few, s .left), omega (arith, s .few, s .right))
+  surveyed-room n = (omega (arith, s .judging .few, s .left), omega (arith, s .judging .few, s .right))
 
   -- one more step
   pub surveyed-step : (x′ w′ e′ : ℕ) → i < length chain → getD chain i 0 ≤ 3 → ¬ (i ≡ mostSteps) → x′ ≡ colAfter x (getD chain i 0) → w′ ≡ min w x′ → e′ ≡ max e x′ → Surveyed chain x′ w′ e′ (i + 1)
-  surveyed-step x′ w′ e′ h g n ex ew ee = subst (Surveyed chain x′ w′ e′) (sym (add-one i)) (record {
-    within = omega arith;
-    few = below n;
+  surveyed-step x′ w′ e′ h g n ex ew ee = record {
+    judging = judging-step chain i (s .judging) h g n;
     left = omega (arith, close, s .left);
     right = omega (arith, close, s .right);
     here = omega arith;
     here2 = omega arith;
-    west = omega (arith, s .west, s .here, west-step h, west-le x′ (drop (suc i) chain), ap (λ (k : ℕ). westFrom k (drop (suc i) chain)) ex);
-    east = omega (arith, s .east, s .here2, east-step h, east-ge x′ (drop (suc i) chain), ap (λ (k : ℕ). eastFrom k (drop (suc i) chain)) ex);
-    fault = sym (fault-here chain i h ∙ ap (λ (j : Judged). orElse j (faultFrom (suc i) (drop (suc i) chain))) (at-good i (getD chain i 0) g n)) ∙ s .fault;
-  })
+    west = omega (arith, s .west, s .here, west-step h, west-le x′ (drop (i + 1) chain), ap (λ (k : ℕ). westFrom k (drop (i + 1) chain)) ex);
+    east = omega (arith, s .east, s .here2, east-step h, east-ge x′ (drop (i + 1) chain), ap (λ (k : ℕ). eastFrom k (drop (i + 1) chain)) ex);
+  }
     where
-      below : ¬ (i ≡ mostSteps) → suc i ≤ mostSteps
-      below n = omega (arith, s .few)
-
       close : (x ≤ colAfter x (getD chain i 0) + 1) × (colAfter x (getD chain i 0) ≤ x + 1)
-      close = near x (getD chain i 0) (omega (arith, below n, s .left))
-
-  pub surveyed-bad : i < length chain → 3 < getD chain i 0 → faultFrom 0 chain ≡ Refused (BadDigit i)
-  surveyed-bad h g = sym (s .fault) ∙ fault-here chain i h ∙ ap (λ (j : Judged). orElse j (faultFrom (suc i) (drop (suc i) chain))) (at-bad i (getD chain i 0) g)
-
-  pub surveyed-long : i < length chain → getD chain i 0 ≤ 3 → i ≡ mostSteps → faultFrom 0 chain ≡ Refused (TooLong i)
-  surveyed-long h g e = sym (s .fault) ∙ fault-here chain i h ∙ ap (λ (j : Judged). orElse j (faultFrom (suc i) (drop (suc i) chain))) (at-long i (getD chain i 0) g e)
-
-  none-left : length chain ≤ i → drop i chain ≡ []
-  none-left h = drop-of-length-le chain {i = i} h
+      close = near x (getD chain i 0) (surveyed-room n .0)
 
   pub surveyed-good : length chain ≤ i → faultFrom 0 chain ≡ Good
-  surveyed-good h = sym (s .fault) ∙ ap (faultFrom i) (none-left h)
+  surveyed-good h = judging-good chain i (s .judging) h
 
   pub surveyed-west : length chain ≤ i → w ≡ westFrom mostSteps chain
   unfolding westFrom
-  surveyed-west h = omega (arith, s .west, s .here, ap (westFrom x) (none-left h))
+  surveyed-west h = omega (arith, s .west, s .here, ap (westFrom x) (none-left chain i h))
 
   pub surveyed-east : length chain ≤ i → e ≡ eastFrom mostSteps chain
   unfolding eastFrom
-  surveyed-east h = omega (arith, s .east, s .here2, ap (eastFrom x) (none-left h))
+  surveyed-east h = omega (arith, s .east, s .here2, ap (eastFrom x) (none-left chain i h))
 
 -- a chain that is not refused has digits below 4, and not too many
 good-or : (j k : Judged) → orElse j k ≡ Good → (j ≡ Good) × (k ≡ Good)

@@ -7,7 +7,7 @@ use Prim.Native.Nat.{_-_}
 use lib.ListN.{length}
 use Rattle.answer.specs.declared.Judged.{Judged}
 use Rattle.hull_laws.specs.Columns.{westFrom, eastFrom}
-use Rattle.hull_laws.proofs.SurveyLaws.{Surveyed, falls, surveyed-start, surveyed-room, surveyed-step, surveyed-good, surveyed-west, surveyed-east}
+use Rattle.hull_laws.proofs.SurveyLaws.{Surveyed, falls, surveyed-start, surveyed-room, surveyed-step, surveyed-good, surveyed-west, surveyed-east, good-digits, good-short}
 use Rattle.hull_columns.specs.Extent.{extentBy}
 use Rattle.hull_columns.specs.declared.Extent.{Extent}
 use Rattle.hull_columns.proofs.measure.Statement.{statement}
@@ -27,8 +27,9 @@ shared-slice-read-column c = search needs
 
 column-requires : tie.Need-column-requires Inv-loop μ-loop
 column-requires c κs =
+    let s = c .before .before .before .before in
     let l = c .before .before .loop in
-    surveyed-room (c .before .before .before .before .args .chain .now) (l .x) (l .west) (l .east) (l .i) (l .inv) (λ e. omega (arith, e))
+    surveyed-room (s .args .chain .now) (l .x) (l .west) (l .east) (l .i) (l .inv) (λ e. omega (arith, e, good-short 0 (s .args .chain .now) (omega arith) (s .pre)))
 
 lesser-requires : tie.Need-lesser-requires Inv-loop μ-loop
 lesser-requires c κs = search needs
@@ -46,7 +47,7 @@ loop-again : tie.Need-loop-again Inv-loop μ-loop
 loop-again c =
     let s = c .before .before .before .before .before .before .before in
     let l = c .before .before .before .before .before .loop in
-    surveyed-step (s .args .chain .now) (l .x) (l .west) (l .east) (l .i) (l .inv) (c .before .before .column .result) (c .before .lesser .result) (c .greater .result) (c .before .before .before .before .loop-test .taken) (s .pre .1 (l .i)) (λ e. omega (arith, e)) (c .before .before .column .ensures) (c .before .lesser .ensures) (c .greater .ensures)
+    surveyed-step (s .args .chain .now) (l .x) (l .west) (l .east) (l .i) (l .inv) (c .before .before .column .result) (c .before .lesser .result) (c .greater .result) (c .before .before .before .before .loop-test .taken) (omega (arith, good-digits 0 (s .args .chain .now) (s .pre) (l .i))) (λ e. omega (arith, e, good-short 0 (s .args .chain .now) (omega arith) (s .pre))) (c .before .before .column .ensures) (c .before .lesser .ensures) (c .greater .ensures)
 
 returns : tie.Need-returns Inv-loop μ-loop
 returns c =

@@ -1,39 +1,33 @@
 -- `hull_columns::survey` meets its contract.
 -- Assumes nothing.
 use borrow.Author.Needs.{needs}
-use native.Mathlib.Omega.{arith}
+use mathlib.Core.Path.{sym, ap, _∙_}
+use Rattle.answer.specs.declared.Judged.{Judged}
+use Rattle.hull_laws.specs.Columns.{middle, westFrom, eastFrom}
+use Rattle.hull_columns.specs.Extent.{extentBy}
 use Rattle.hull_columns.proofs.survey.Statement.{statement}
 use Rattle.hull_columns.proofs.survey.Tie as tie
 
-examine-requires : tie.Need-examine-requires
-examine-requires c κs = search needs
+judge-requires : tie.Need-judge-requires
+judge-requires c κs = search needs
+
+enum-told : tie.Need-enum-told
+enum-told c = search needs
+
+measure-requires : tie.Need-measure-requires
+measure-requires c κs = search needs
+
+enum-known-r : tie.Need-enum-known-r
+enum-known-r c = search needs
 
 returns : tie.Need-returns
 returns c = search needs
 
-highest-requires : tie.Need-highest-requires
-highest-requires c κs = search needs
-
-examine-requires-2 : tie.Need-examine-requires-2
-examine-requires-2 c κs = search needs
-
 returns-2 : tie.Need-returns-2
-returns-2 c = search needs
-
-measure-requires : tie.Need-measure-requires
-measure-requires c κs = (omega arith, λ k. omega (arith, c .before .highest .ensures k, c .if2 .left))
-
-returns-3 : tie.Need-returns-3
-returns-3 c = search needs
+returns-2 c =
+    let chain = c .before .before .before .before .before .args .chain .now in
+    ap (λ (j : Judged). extentBy j (westFrom middle chain) (eastFrom middle chain)) (sym (sym (c .before .before .before .judge .ensures) ∙ c .before .r .given .1))
 
 pub survey-spec : {M : Type 1} → statement M
 survey-spec =
-    tie.close
-    (tie.spec
-    examine-requires
-    returns
-    highest-requires
-    examine-requires-2
-    returns-2
-    measure-requires
-    returns-3)
+    tie.close (tie.spec judge-requires enum-told measure-requires enum-known-r returns returns-2)
