@@ -3,15 +3,19 @@
 use mathlib.Core.Bool.{true, false}
 use mathlib.Core.List.{List}
 use mathlib.Core.Path.{_≡_, ap, sym, _∙_}
-use Prim.Native.Nat.{ℕ, _+_, _*_, _%_, _-_}
+use Prim.Native.Nat.{ℕ, _+_, _*_, _-_}
 use borrow.Author.Tests.{eq-eqb, ne-eqb}
 use lib.Dec.{eqb}
 use lib.ListN.{set, getD}
-use Rattle.table_laws.specs.Model.{linkIn, visitIn, unvisitIn}
+use Rattle.table_laws.specs.Model.{visitIn, unvisitIn}
 
-pub link-four : (t : List ℕ) {t₁ t₂ t₃ t₄ : List ℕ} (u v d s : ℕ) → t₁ ≡ set t (u * 21 + (10 + d)) (v + 1) → t₂ ≡ set t₁ (u * 21 + (14 + d)) s
-    → t₃ ≡ set t₂ (v * 21 + (10 + (d + 2) % 4)) (u + 1) → t₄ ≡ set t₃ (v * 21 + (14 + (d + 2) % 4)) s → t₄ ≡ linkIn t u v d s
-link-four t u v d s e₁ e₂ e₃ e₄ = cc
+pub store-two : (t : List ℕ) {t₁ t₂ : List ℕ} (i j x y : ℕ) → t₁ ≡ set t i x → t₂ ≡ set t₁ j y → t₂ ≡ set (set t i x) j y
+store-two t i j x y e₁ e₂ = e₂ ∙ ap (λ (l : List ℕ). set l j y) e₁
+
+-- the words of a link in the records u and v
+pub store-links : (t : List ℕ) {t₁ t₂ : List ℕ} (u d p s v b q r : ℕ) → t₁ ≡ set (set t (u * 21 + (10 + d)) p) (u * 21 + (14 + d)) s → t₂ ≡ set (set t₁ (v * 21 + (10 + b)) q) (v * 21 + (14 + b)) r
+    → t₂ ≡ set (set (set (set t (u * 21 + (10 + d)) p) (u * 21 + (14 + d)) s) (v * 21 + (10 + b)) q) (v * 21 + (14 + b)) r
+store-links t u d p s v b q r e₁ e₂ = e₂ ∙ ap (λ (l : List ℕ). set (set l (v * 21 + (10 + b)) q) (v * 21 + (14 + b)) r) e₁
 
 pub visit-first : (t : List ℕ) (r k v : ℕ) {t₁ t₂ : List ℕ} → v ≡ getD t (r * 21 + 18) 0 → t₁ ≡ set t (r * 21 + 18) (v + 1) → t₂ ≡ set t₁ (r * 21 + 20) (k + 1) → v ≡ 0 → (t₂ ≡ visitIn t r k)
 visit-first t r k v e e₁ e₂ z =

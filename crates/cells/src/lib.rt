@@ -39,6 +39,15 @@ pub fn put(t: &mut [u32], r: usize, f: usize, v: u32)
     t[r * Record::WORDS + f] = v;
 }
 
+// Sets the ref of the neighbour in the direction d and that link's step, in the record u.
+pub fn put_link(t: &mut [u32], u: usize, d: usize, to: u32, step: u32)
+    requires { ⌜ (u * 21 + 20 < length (now t)) × (d < 4) ⌝ }
+    ensures { λ _. ⌜ now (t .exit) ≡ set (set (now (t .entry)) (u * 21 + (10 + d)) to) (u * 21 + (14 + d)) step ⌝ }
+{
+    put(t, u, Record::NEIGHBOUR + d, to);
+    put(t, u, Record::LINK_STEP + d, step);
+}
+
 // Links u and v both ways, by the step: v lies in the direction d of u.
 pub fn link(t: &mut [u32], u: usize, v: usize, d: usize, step: u32)
     requires { ⌜ (u * 21 + 20 < length (now t)) × (v * 21 + 20 < length (now t)) ⌝ }
@@ -46,10 +55,8 @@ pub fn link(t: &mut [u32], u: usize, v: usize, d: usize, step: u32)
     ensures { λ _. ⌜ now (t .exit) ≡ linkIn (now (t .entry)) u v d step ⌝ }
 {
     let b = (d + 2) % 4;
-    put(t, u, Record::NEIGHBOUR + d, (v + 1) as u32);
-    put(t, u, Record::LINK_STEP + d, step);
-    put(t, v, Record::NEIGHBOUR + b, (u + 1) as u32);
-    put(t, v, Record::LINK_STEP + b, step);
+    put_link(t, u, d, (v + 1) as u32, step);
+    put_link(t, v, b, (u + 1) as u32, step);
 }
 
 // Counts a visit of the node at corner k.

@@ -24,7 +24,3 @@ clear-next t₀ t t′ r f e q =
 
 pub clear-end : (t₀ t : List ℕ) (r f : ℕ) → t ≡ sets t₀ (r * 21) (replicate f 0) → f ≡ 21 → t ≡ sets t₀ (r * 21) (replicate 21 0)
 clear-end t₀ t r f e p = e ∙ ap (λ (n : ℕ). sets t₀ (r * 21) (replicate n 0)) p
-
-pub unlink-four : (t : List ℕ) {t₁ t₂ t₃ t₄ : List ℕ} (u v d : ℕ) → t₁ ≡ set t (u * 21 + (10 + d)) 0 → t₂ ≡ set t₁ (u * 21 + (14 + d)) 0
-    → t₃ ≡ set t₂ (v * 21 + (10 + (d + 2) % 4)) 0 → t₄ ≡ set t₃ (v * 21 + (14 + (d + 2) % 4)) 0 → t₄ ≡ unsetIn t u v d
-unlink-four t u v d e₁ e₂ e₃ e₄ = cc

@@ -1,6 +1,7 @@
 // What is taken away: a link, a record, the words of a buffer, the bytes behind a place.
 use cells::Record;
 use cells::put;
+use cells::put_link;
 ghost use mathlib.Core.Path.{_≡_};
 ghost use mathlib.Core.List.{_++_};
 ghost use Prim.Native.Nat.{_+_, _-_, _*_, _<_, _≤_};
@@ -14,10 +15,8 @@ pub fn unlink(t: &mut [u32], u: usize, v: usize, d: usize)
     ensures { λ _. ⌜ now (t .exit) ≡ unsetIn (now (t .entry)) u v d ⌝ }
 {
     let b = (d + 2) % 4;
-    put(t, u, Record::NEIGHBOUR + d, 0);
-    put(t, u, Record::LINK_STEP + d, 0);
-    put(t, v, Record::NEIGHBOUR + b, 0);
-    put(t, v, Record::LINK_STEP + b, 0);
+    put_link(t, u, d, 0, 0);
+    put_link(t, v, b, 0, 0);
 }
 
 // Clears the record r.

@@ -1,73 +1,50 @@
 -- `cells::link` meets its contract.
 -- Assumes nothing.
 use borrow.Author.Needs.{needs}
-use Rattle.cells.proofs.CellLaws.{link-four}
+use Prim.Native.Nat.{_+_, _%_}
+use Rattle.cells.proofs.CellLaws.{store-links}
 use Rattle.cells.proofs.link.Statement.{statement}
 use Rattle.cells.proofs.link.Tie as tie
 
 add-b : tie.Need-add-b
 add-b c = search needs
 
-add-put : tie.Need-add-put
-add-put c = search needs
+add-put-link : tie.Need-add-put-link
+add-put-link c = search needs
 
-add-put-2 : tie.Need-add-put-2
-add-put-2 c = search needs
+cast-put-link : tie.Need-cast-put-link
+cast-put-link c = search needs
 
-cast-put : tie.Need-cast-put
-cast-put c = search needs
+put-link-requires : tie.Need-put-link-requires
+put-link-requires c κs = search needs
 
-put-requires : tie.Need-put-requires
-put-requires c κs = search needs
+add-put-link-2 : tie.Need-add-put-link-2
+add-put-link-2 c = search needs
 
-add-put-3 : tie.Need-add-put-3
-add-put-3 c = search needs
+cast-put-link-2 : tie.Need-cast-put-link-2
+cast-put-link-2 c = search needs
 
-put-requires-2 : tie.Need-put-requires-2
-put-requires-2 c κs = search needs
-
-add-put-4 : tie.Need-add-put-4
-add-put-4 c = search needs
-
-add-put-5 : tie.Need-add-put-5
-add-put-5 c = search needs
-
-cast-put-2 : tie.Need-cast-put-2
-cast-put-2 c = search needs
-
-put-requires-3 : tie.Need-put-requires-3
-put-requires-3 c κs = search needs
-
-add-put-6 : tie.Need-add-put-6
-add-put-6 c = search needs
-
-put-requires-4 : tie.Need-put-requires-4
-put-requires-4 c κs = search needs
+put-link-requires-2 : tie.Need-put-link-requires-2
+put-link-requires-2 c κs = search needs
 
 same-length : tie.Need-same-length
 same-length c = search needs
 
 returns : tie.Need-returns
 returns c =
-    let s = c .before .before .before .before .before .before .before .before .before .before .before .before .before .before .before .before .before in
-    link-four (s .args .t .now) (s .args .u) (s .args .v) (s .args .d) (s .args .step) (c .before .before .before .before .before .before .before .before .before .before .before .before .before .before .put .ensures) (c .before .before .before .before .before .before .before .before .before .before .put2 .ensures) (c .before .before .before .before .before .before .put3 .ensures) (c .before .before .put4 .ensures)
+    let a = c .before .before .before .before .before .before .before .before .before .args in
+    store-links (a .t .now) (a .u) (a .d) (a .v + 1) (a .step) (a .v) ((a .d + 2) % 4) (a .u + 1) (a .step) (c .before .before .before .before .before .before .put-link .ensures) (c .before .before .put-link2 .ensures)
 
 pub link-spec : {M : Type 1} → statement M
 link-spec =
     tie.close
     (tie.spec
     add-b
-    add-put
-    add-put-2
-    cast-put
-    put-requires
-    add-put-3
-    put-requires-2
-    add-put-4
-    add-put-5
-    cast-put-2
-    put-requires-3
-    add-put-6
-    put-requires-4
+    add-put-link
+    cast-put-link
+    put-link-requires
+    add-put-link-2
+    cast-put-link-2
+    put-link-requires-2
     same-length
     returns)
