@@ -4,10 +4,10 @@ use borrow.Author.Needs.{needs}
 use native.Mathlib.Omega.{arith}
 use mathlib.Core.Path.{sym, ap, ap₂, _∙_}
 use Prim.Native.Nat.{_-_}
-use lib.ListN.{length, getD}
+use lib.ListN.{length}
 use Rattle.answer.specs.declared.Judged.{Judged}
 use Rattle.hull_laws.specs.Columns.{westFrom, eastFrom}
-use Rattle.hull_laws.proofs.SurveyLaws.{Surveyed, falls, fewer, surveyed-start, surveyed-room, surveyed-step, surveyed-bad, surveyed-long, surveyed-good, surveyed-west, surveyed-east}
+use Rattle.hull_laws.proofs.SurveyLaws.{Surveyed, falls, surveyed-start, surveyed-room, surveyed-step, surveyed-bad, surveyed-long, surveyed-good, surveyed-west, surveyed-east}
 use Rattle.hull_columns.specs.Extent.{extentBy}
 use Rattle.hull_columns.specs.declared.Extent.{Extent}
 use Rattle.hull_columns.proofs.examine.Statement.{statement}
