@@ -3,7 +3,7 @@
 use borrow.Author.Needs.{needs}
 use native.Mathlib.Omega.{arith}
 use mathlib.Core.Path.{_≡_, refl, _∙_}
-use Prim.Native.Nat.{_+_, _-_, _≤_}
+use Prim.Native.Nat.{_+_, _≤_}
 use lib.ListN.{length, drop}
 use Rattle.hull_laws.proofs.IdleLaws.{Passed, passed-none, passed-columns, passed-next, passed-done}
 use Rattle.hull_chains.proofs.scan.Statement.{statement}
