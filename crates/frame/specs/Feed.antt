@@ -1,13 +1,6 @@
--- Input that comes in parts: how far one call goes, what it writes and what it keeps of a line begun.
--- Assumes nothing.
-use mathlib.Core.Bool.{Bool, true, false, cond}
-use mathlib.Core.Path.{_≡_}
-use mathlib.Core.List.{List, [], _∷_, _++_}
-use Prim.Native.Nat.{ℕ, suc, _+_}
-use lib.ListN.{length, take, drop}
-use lib.Dec.{eqb, ltb}
-use Rattle.frame.specs.Line.{lineAnswer, mostLine}
-use Rattle.frame.specs.Program.{owedOf, program}
+-- Input that comes in parts: how far one call goes, what it writes and what it keeps of a line begun. Assumes nothing.
+use Rattle.lists.specs.Words.{_≡_, Bool, true, false, cond, List, [], _∷_, _++_, length, take, ℕ, suc, eqb, ltb}
+use Rattle.frame.specs.{Line.lineAnswer, Line.mostLine, Program.owedOf}
 
 -- how many bytes stand before the first line feed
 unfoldable pub lineLength : List ℕ → ℕ

@@ -1,10 +1,5 @@
--- Hexadecimal, in lower case (01, "The line program").
--- Assumes nothing.
-use mathlib.Core.Bool.{Bool, true, false, cond, _&&_, _||_}
-use mathlib.Core.List.{List, [], _∷_, _++_}
-use Prim.Native.Nat.{ℕ, zero, suc, _+_, _-_, _*_, _/_, _%_, _^_}
-use lib.IntN.{ℤ, pos, negsuc}
-use lib.Dec.{leb, ltb}
+-- Hexadecimal, in lower case (01, "The line program"). Assumes nothing.
+use Rattle.lists.specs.Words.{Bool, true, cond, _&&_, _||_, List, [], _∷_, _++_, ℕ, zero, suc, _+_, _-_, _*_, _/_, _%_, _^_, ltb, leb, ℤ, pos, negsuc}
 
 -- the byte is 0 to 9 or a to f
 abbrev pub isHex : ℕ → Bool

@@ -1,15 +1,8 @@
--- One line: the frame that it is, and its answer without the line feed (01, "The line program").
--- Assumes nothing.
-use mathlib.Core.Bool.{Bool, true, false, cond, _&&_}
-use mathlib.Core.List.{List, [], _∷_, _++_}
-use Prim.Native.Nat.{ℕ, zero, suc, _+_}
-use lib.ListN.{length, take, drop}
-use lib.Dec.{leb, ltb, eqb}
+-- One line: the frame that it is, and its answer without the line feed (01, "The line program"). Assumes nothing.
+use Rattle.lists.specs.Words.{Bool, cond, _&&_, List, length, take, drop, ℕ, zero, suc, _+_, eqb, ltb, leb}
 use Rattle.answer.specs.declared.Refusal.the-variants.{BadLine}
-use Rattle.frame.specs.declared.Frame.{Frame}
-use Rattle.frame.specs.declared.Frame.the-variants.{Operations, Turns, Bad}
-use Rattle.frame.specs.Hex.{allHex, valuesOf, numberOf}
-use Rattle.frame.specs.Spelled.{walkedLine, turnedLine, refusedLine}
+use Rattle.frame.specs.declared.Frame.{Frame, the-variants.Operations, the-variants.Turns, the-variants.Bad}
+use Rattle.frame.specs.{Hex.allHex, Hex.valuesOf, Hex.numberOf, Spelled.walkedLine, Spelled.turnedLine, Spelled.refusedLine}
 
 -- the first two digits
 abbrev pub kindOf : List ℕ → ℕ

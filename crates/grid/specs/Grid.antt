@@ -1,13 +1,6 @@
--- Corners, panels and steps (01, "Corners, panels and words"). A step is a digit: 0 east, 1 north, 2 west, 3 south.
--- Assumes nothing.
-use mathlib.Core.Bool.{Bool, true, false, _&&_}
-use mathlib.Core.List.{List, [], _∷_}
-use Prim.Native.Nat.{ℕ, zero, suc}
-use lib.IntN.{ℤ, pos, negsuc, sucℤ, predℤ}
-use lib.ListN.{take}
-use lib.Dec.{eqb}
-use Rattle.grid.specs.declared.Corner.{Corner}
-use Rattle.grid.specs.declared.Panel.{Panel}
+-- Corners, panels and steps (01, "Corners, panels and words"). A step is a digit: 0 east, 1 north, 2 west, 3 south. Assumes nothing.
+use Rattle.lists.specs.Words.{Bool, false, _&&_, List, [], _∷_, take, ℕ, zero, suc, eqb, ℤ, pos, negsuc, sucℤ, predℤ}
+use Rattle.grid.specs.declared.{Corner.Corner, Panel.Panel}
 
 -- the corner with these coordinates
 abbrev pub corner : ℤ → ℤ → Corner

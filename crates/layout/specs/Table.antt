@@ -1,14 +1,7 @@
--- The words of a record, and the table (01, "The tree").
--- Assumes nothing.
-use mathlib.Core.Bool.{cond, not, _&&_}
-use mathlib.Core.List.{List, [], _∷_, _++_}
-use Prim.Native.Nat.{ℕ, zero, suc, _+_, _-_, _*_}
-use lib.ListN.{length, replicate}
-use lib.Dec.{eqb}
+-- The words of a record, and the table (01, "The tree"). Assumes nothing.
+use Rattle.lists.specs.Words.{cond, not, _&&_, List, [], _∷_, _++_, length, replicate, ℕ, zero, suc, _+_, _-_, _*_, eqb}
 use Rattle.lists.specs.Lists.{find, count}
-use Rattle.grid.specs.declared.Corner.{Corner}
-use Rattle.grid.specs.Grid.{same, stepped, cornersFrom}
-use Rattle.grid.specs.Tree.{parentOf, isRoot, childWord}
+use Rattle.grid.specs.{declared.Corner.Corner, Grid.same, Grid.stepped, Grid.cornersFrom, Tree.parentOf, Tree.isRoot, Tree.childWord}
 use Rattle.tree.specs.Nodes.{nodesOf, refOf, needOf, linkStepOf}
 
 -- words of a record that all walks in a table share, and words of each walk

@@ -1,2 +1,3 @@
--- Words about lists.
+-- Words about lists, and those of the library.
+pub mod Words
 pub mod Lists

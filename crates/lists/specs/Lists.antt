@@ -1,8 +1,5 @@
--- Lists over a type with a Boolean test of equality: membership, first place, count, and the list without repeats.
--- Assumes nothing.
-use mathlib.Core.Bool.{Bool, true, false, _&&_, _||_}
-use mathlib.Core.List.{List, [], _∷_, _++_, List·Memᴰ}
-use Prim.Native.Nat.{ℕ, zero, suc, _+_, _<_}
+-- Lists over a type with a Boolean test of equality: membership, first place, count, and the list without repeats. Assumes nothing.
+use Rattle.lists.specs.Words.{Bool, true, false, _&&_, _||_, List, [], _∷_, _++_, List·Memᴰ, ℕ, zero, suc, _+_, _<_}
 
 -- 1 for a test that passes
 abbrev pub tally : Bool → ℕ

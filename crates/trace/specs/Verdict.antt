@@ -1,16 +1,7 @@
--- The verdict on a walk, and the signed area of a room (01, "Corners, panels and words").
--- Assumes nothing.
-use mathlib.Core.Path.{_≡_}
-use mathlib.Core.Bool.{Bool, true, false, _&&_}
-use mathlib.Core.List.{List, [], _∷_}
-use Prim.Native.Nat.{ℕ, zero, suc, _<_}
-use lib.IntN.{ℤ, pos, _+ℤ_, _-ℤ_, _*ℤ_}
-use lib.ListN.{length}
-use lib.Dec.{eqb}
-use Rattle.answer.specs.declared.Verdict.{Verdict}
-use Rattle.answer.specs.declared.Verdict.the-variants.{Nowhere, Open, Room, OpenMeeting, ClosedMeeting}
-use Rattle.grid.specs.declared.Corner.{Corner}
-use Rattle.grid.specs.Grid.{same, stepped, endFrom}
+-- The verdict on a walk, and the signed area of a room (01, "Corners, panels and words"). Assumes nothing.
+use Rattle.lists.specs.Words.{_≡_, Bool, true, false, _&&_, List, [], _∷_, length, ℕ, zero, suc, _<_, eqb, ℤ, pos, _+ℤ_, _-ℤ_, _*ℤ_}
+use Rattle.answer.specs.declared.Verdict.{Verdict, the-variants.Nowhere, the-variants.Open, the-variants.Room, the-variants.OpenMeeting, the-variants.ClosedMeeting}
+use Rattle.grid.specs.{declared.Corner.Corner, Grid.same, Grid.stepped, Grid.endFrom}
 use Rattle.trace.specs.Meeting.{Meets, Meeting, none, meet, meetingOf}
 
 -- the first meeting is (0,n)
