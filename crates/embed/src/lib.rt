@@ -9,7 +9,7 @@ ghost use mathlib.Core.List.{[], _∷_};
 ghost use mathlib.Core.Path.{_≡_};
 ghost use Prim.Native.Nat.{_^_, _<_};
 ghost use Rattle.answer.specs.Refusal.{refusalNumber, refusalPlace, judgedPlace};
-ghost use Rattle.lines.specs.Reply.{LineIs};
+ghost use Rattle.reply.specs.Reply.{LineIs};
 ghost use Rattle.word.specs.Turns.{turnsOf, stepsOf};
 ghost use Rattle.embed.specs.Boundary.{factsWords, answerWords, countedWords, judgedWords, AnswerFits, CountedFits, WalkGives, HullGives, TurnsGive};
 
@@ -147,5 +147,5 @@ pub extern "C" fn undrwyth_steps_of_turns(
 pub extern "C" fn undrwyth_line(line: &[u8], out: &mut [u8]) -> usize
     ensures { λ n. ⌜ LineIs (now (line .entry)) (now (out .entry)) n (now (out .exit)) ⌝ }
 {
-    lines::reply::reply(line, out)
+    reply::reply(line, out)
 }

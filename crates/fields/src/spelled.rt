@@ -8,7 +8,7 @@ ghost use Prim.Native.Nat.{_+_, _*_, _≤_};
 ghost use lib.ListN.{length, take};
 ghost use Rattle.frame.specs.Hex.{hexOf};
 ghost use Rattle.frame.specs.Spelled.{refusedLine, factsLine, numbersLine};
-ghost use Rattle.frame.specs.Put.{Wrote};
+ghost use Rattle.fields.specs.Put.{Wrote};
 
 // Writes two fields: n digits of v, then m digits of w.
 fn spell_two(out: &mut [u8], at: usize, v: usize, n: usize, w: usize, m: usize) -> usize

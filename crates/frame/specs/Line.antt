@@ -38,11 +38,3 @@ answerOf Bad ds = refusedLine BadLine
 -- the answer to a line
 unfoldable pub lineAnswer : List ℕ → List ℕ
 lineAnswer s = answerOf (frameOf s) (digitsOf s)
-
--- no frame is longer: two digits, four, and 1,024
-abbrev pub mostLine : ℕ
-mostLine = 1030
-
--- no answer is longer, its line feed with it
-abbrev pub mostAnswer : ℕ
-mostAnswer = 8240

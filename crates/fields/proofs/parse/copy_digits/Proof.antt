@@ -1,7 +1,7 @@
 use Rattle.frame.proofs.HexLaws.{allHex-at}
 use Rattle.fields.proofs.DigitLaws.{values-next, values-done}
 use borrow.Author.Needs.{needs}
-use Rattle.frame.specs.Put.{put}
+use Rattle.fields.specs.Put.{put}
 use Rattle.frame.specs.Hex.{valuesOf}
 use lib.ListN.{length, take, drop, getD, set, length-set}
 use native.Mathlib.Omega.{arith}

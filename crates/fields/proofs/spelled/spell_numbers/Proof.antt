@@ -8,7 +8,7 @@ use Prim.Native.Nat.{ℕ, _+_, _-_, _*_, _≤_, _<_}
 use native.Mathlib.Omega.{arith}
 use lib.ListN.{length, take}
 use Rattle.frame.specs.Spelled.{numbersLine}
-use Rattle.frame.specs.Put.{Wrote}
+use Rattle.fields.specs.Put.{Wrote}
 use Rattle.fields.proofs.SpelledSteps.{wrote-none, wrote-next, wrote-at}
 use borrow.Author.Needs.{needs}
 use Rattle.fields.proofs.spelled.spell_numbers.Statement.{statement}

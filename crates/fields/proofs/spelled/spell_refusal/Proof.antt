@@ -2,7 +2,7 @@ use mathlib.Core.Path.{subst₂}
 use mathlib.Core.List.{_++_}
 use Prim.Native.Nat.{ℕ, _+_}
 use Rattle.frame.specs.Hex.{hexOf}
-use Rattle.frame.specs.Put.{Wrote}
+use Rattle.fields.specs.Put.{Wrote}
 use borrow.Author.Needs.{needs}
 use Rattle.fields.proofs.spelled.spell_refusal.Statement.{statement}
 use Rattle.fields.proofs.spelled.spell_refusal.Tie as tie

@@ -1,0 +1,3 @@
+-- The laws of input that comes in parts.
+pub mod FeedLaws
+pub mod Demand
