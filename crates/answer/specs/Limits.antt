@@ -1,5 +1,5 @@
 -- The limits of the calls (01, "What the calls take and give"). Assumes nothing.
-use Rattle.lists.specs.Words.{ℕ, _+_, _*_}
+use Rattle.lists.specs.Lists.{ℕ, _+_, _*_}
 
 -- input bytes at most
 abbrev pub mostInput : ℕ

@@ -1,5 +1,5 @@
 -- Refusals and verdicts as the numbers of 01, and the first of several refusals. Assumes nothing.
-use Rattle.lists.specs.Words.{Bool, true, false, List, [], _∷_, ℕ}
+use Rattle.lists.specs.Lists.{Bool, true, false, List, [], _∷_, ℕ}
 use Rattle.answer.specs.declared.{Refusal.Refusal, Judged.Judged, Judged.the-variants.Good, Judged.the-variants.Refused, Verdict.Verdict}
 use Rattle.answer.specs.declared.Refusal.the-variants.{TooMany, Table, ResultRoom, BadDigit, NothingToTake, TooLong, NoRoom, HullRoom, BadLine}
 use Rattle.answer.specs.declared.Verdict.the-variants.{Nowhere, Open, Room, OpenMeeting, ClosedMeeting}

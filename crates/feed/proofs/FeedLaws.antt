@@ -14,6 +14,7 @@ use Rattle.frame.specs.Line.{lineAnswer}
 use Rattle.frame.specs.Program.{linesFrom, lastLine, answersOf, owedOf, program}
 use Rattle.feed.specs.Feed.{mostLine, mostAnswer, lineLength, hasFeed, keptOf, passedOf, toldOf, heldOf, endOf, Fed, Run, ended, fed, joined}
 use Rattle.frame.proofs.LineLaws.{lineAnswer-long, lineAnswer-most}
+use Rattle.feed.proofs.FeedCases as cases
 
 -- a line feed ends the line
 pub owedOf-feed : (h s : List ℕ) (b : ℕ) → eqb b 10 ≡ true → owedOf h (b ∷ s) ≡ lineAnswer h ++ (10 ∷ []) ++ owedOf [] s

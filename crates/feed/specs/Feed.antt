@@ -1,5 +1,5 @@
 -- Input that comes in parts: how far one call goes, what it writes and what it keeps of a line begun. Assumes nothing.
-use Rattle.lists.specs.Words.{_≡_, Bool, true, false, cond, List, [], _∷_, _++_, length, take, ℕ, suc, eqb, ltb}
+use Rattle.lists.specs.Lists.{_≡_, Bool, true, false, cond, List, [], _∷_, _++_, length, take, ℕ, suc, eqb, ltb}
 use Rattle.frame.specs.{Line.lineAnswer, Program.owedOf}
 
 -- no frame is longer: two digits, four, and 1,024

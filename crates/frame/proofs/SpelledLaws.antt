@@ -24,7 +24,7 @@ use Rattle.hull.specs.Call.{numbers}
 use Rattle.hull_laws.specs.Outline.{hullOf}
 use Rattle.hull_laws.proofs.HullLaws.{length-hullOf}
 use Rattle.frame.specs.Hex.{hexOf}
-use Rattle.frame.specs.Spelled.{refusedLine, factsLine, numbersLine, hullLine, answerLine, walkedLine, turnedBy, turnedLine, lineRecords}
+use Rattle.frame.specs.Spelled.{refusedLine, factsLine, numbersLine, hullLine, answerLine, walkedLine, turnedBy, turnedLine}
 use Rattle.frame.proofs.HexLaws.{length-hexOf}
 
 pub length-refusedLine : (r : Refusal) → length (refusedLine r) ≡ 10
@@ -57,7 +57,7 @@ answerLine-most (walked.Refused r) w h = omega (arith, length-refusedLine r)
 pub walkedLine-most : (os : List ℕ) → length os ≤ 1024 → length (walkedLine os) + 1 ≤ 8240
 unfolding walkedLine
 walkedLine-most os h =
-    answerLine-most (walkAnswer origin os (recordWords 1 * lineRecords) (2 * length os) (length os)) (survivors os) (omega (arith, length-survivors [] os))
+    answerLine-most (walkAnswer origin os (recordWords 1 * 390) (2 * length os) (length os)) (survivors os) (omega (arith, length-survivors [] os))
 
 turnedBy-most : (j : Judged) (ts : List ℕ) → length ts ≤ 1024 → length (turnedBy j ts) + 1 ≤ 8240
 turnedBy-most judged.Good ts h = walkedLine-most (stepsOf ts) (omega (arith, length-stepsOf ts))

@@ -1,16 +1,16 @@
 -- One line: the frame that it is, and its answer without the line feed (01, "The line program"). Assumes nothing.
-use Rattle.lists.specs.Words.{Bool, cond, _&&_, List, length, take, drop, ℕ, zero, suc, _+_, eqb, ltb, leb}
+use Rattle.lists.specs.Lists.{Bool, cond, _&&_, List, length, take, drop, ℕ, zero, suc, _+_, eqb, ltb, leb}
 use Rattle.answer.specs.declared.Refusal.the-variants.{BadLine}
 use Rattle.frame.specs.declared.Frame.{Frame, the-variants.Operations, the-variants.Turns, the-variants.Bad}
-use Rattle.frame.specs.{Hex.allHex, Hex.valuesOf, Hex.numberOf, Spelled.walkedLine, Spelled.turnedLine, Spelled.refusedLine}
+use Rattle.frame.specs.{Hex.allHex, Hex.valuesOf, Hex.numberFrom, Spelled.walkedLine, Spelled.turnedLine, Spelled.refusedLine}
 
 -- the first two digits
 abbrev pub kindOf : List ℕ → ℕ
-kindOf s = numberOf (take 2 s)
+kindOf s = numberFrom 0 (take 2 s)
 
 -- the four digits after the kind
 abbrev pub countOf : List ℕ → ℕ
-countOf s = numberOf (take 4 (drop 2 s))
+countOf s = numberFrom 0 (take 4 (drop 2 s))
 
 -- digits alone; kind 00 or 01; a count of at most 0400; and as many digits after it as it says
 abbrev pub isFrame : List ℕ → Bool

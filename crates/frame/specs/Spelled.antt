@@ -1,5 +1,5 @@
 -- The answer to a good frame, without the line feed (01, "The line program"). Assumes nothing.
-use Rattle.lists.specs.Words.{List, [], _∷_, _++_, length, ℕ, _+_, _*_, ℤ}
+use Rattle.lists.specs.Lists.{List, [], _∷_, _++_, length, ℕ, _+_, _*_, ℤ}
 use Rattle.answer.specs.declared.{Refusal.Refusal, Judged.Judged, Judged.the-variants.Good, Judged.the-variants.Refused, Facts.Facts, Answer.Answer}
 use Rattle.answer.specs.Refusal.{refusalNumber, refusalPlace, verdictNumber}
 use Rattle.grid.specs.{declared.Corner.Corner, Grid.origin}
@@ -9,10 +9,6 @@ use Rattle.calls.specs.Walk.{walkAnswer}
 use Rattle.hull.specs.Call.{numbers}
 use Rattle.hull_laws.specs.Outline.{hullOf}
 use Rattle.frame.specs.Hex.{hexOf, bitsOf}
-
--- the records of the table in which a frame is walked
-abbrev pub lineRecords : ℕ
-lineRecords = 390
 
 -- refused: hexadecimal 80 plus the number, then the place in 8 digits
 abbrev pub refusedLine : Refusal → List ℕ
@@ -45,7 +41,7 @@ answerLine (Answer.Refused r) w = refusedLine r
 
 -- operations are walked in a table of 390 records, with marks and a chain of the lengths that the walk asks for
 unfoldable pub walkedLine : List ℕ → List ℕ
-walkedLine os = answerLine (walkAnswer origin os (recordWords 1 * lineRecords) (2 * length os) (length os)) (survivors os)
+walkedLine os = answerLine (walkAnswer origin os (recordWords 1 * 390) (2 * length os) (length os)) (survivors os)
 
 -- turns that may be converted are walked as steps
 abbrev pub turnedBy : Judged → List ℕ → List ℕ

@@ -1,5 +1,5 @@
 -- The tree over the corners: parent, ancestors, child index (01, "The tree"). Assumes nothing.
-use Rattle.lists.specs.Words.{_≡_, Bool, true, false, List, [], _∷_, _++_, ℕ, zero, suc, _+_, _*_, _/_, _%_, ℤ, pos, negsuc, negℤ, natAbs}
+use Rattle.lists.specs.Lists.{_≡_, Bool, true, false, List, [], _∷_, _++_, ℕ, zero, suc, _+_, _*_, _/_, _%_, ℤ, pos, negsuc, negℤ, natAbs}
 use Rattle.grid.specs.{declared.Corner.Corner, Grid.corner, Grid.origin, Grid.same}
 
 -- half the magnitude, rounded down, with the sign kept

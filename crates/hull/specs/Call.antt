@@ -1,8 +1,8 @@
 -- What the hull call answers, and what it leaves in the buffer (01, "What the calls take and give"). Assumes nothing.
-use Rattle.lists.specs.Words.{_≡_, List, [], _∷_, _++_, length, drop, ℕ, suc, _*_, eqb, ltb, ℤ}
+use Rattle.lists.specs.Lists.{_≡_, List, [], _∷_, _++_, length, drop, ℕ, suc, _*_, eqb, ltb, ℤ}
 use Rattle.grid.specs.{declared.Corner.Corner, Grid.cornersFrom}
 use Rattle.answer.specs.declared.{Judged.Judged, Judged.the-variants.Good, Judged.the-variants.Refused, Refusal.the-variants.TooMany, Refusal.the-variants.BadDigit, Refusal.the-variants.TooLong, Refusal.the-variants.HullRoom, Counted.Counted}
-use Rattle.answer.specs.{Limits.mostInput, Limits.mostSteps, Refusal.when, Refusal.orElse, Refusal.firstOf, Refusal.refusalNumber, Refusal.refusalPlace}
+use Rattle.answer.specs.{Limits.mostInput, Limits.mostSteps, Refusal.when, Refusal.orElse, Refusal.firstOf}
 use Rattle.hull.specs.Hull.{HullIs}
 
 -- at place i: 4 where the byte is above 3, otherwise 6 where its step would be the 16,385th
@@ -26,11 +26,6 @@ hullJudged chain room corners = firstOf (when (ltb mostInput (length chain)) Too
 abbrev pub countedOf : Judged → ℕ → Counted
 countedOf Good n = Counted.Corners n
 countedOf (Refused r) n = Counted.Refused r
-
--- an answer as numbers: refusal, place, hull corners
-abbrev pub countedValues : Counted → ℕ × ℕ × ℕ
-countedValues (Counted.Corners n) = (0, 0, n)
-countedValues (Counted.Refused r) = (refusalNumber r, refusalPlace r, 0)
 
 -- x and y of each corner
 abbrev pub numbers : List Corner → List ℤ

@@ -2,7 +2,7 @@
 -- L lists it when it begins at the lowest of the leftmost corners, holds exactly the exposed ones, each once, and any three in its
 -- order turn left: so no three are in a line and the order is counterclockwise. There is no case apart: one corner gives one, and
 -- corners along one line give their two outermost. Assumes nothing.
-use Rattle.lists.specs.Words.{_≡_, List, [], _∷_, _⊎_, _↔_, ℤ, pos, _+ℤ_, _-ℤ_, _*ℤ_, _≤ℤ_, _<ℤ_}
+use Rattle.lists.specs.Lists.{_≡_, List, [], _∷_, _⊎_, _↔_, ℤ, pos, _+ℤ_, _-ℤ_, _*ℤ_, _≤ℤ_, _<ℤ_}
 use Rattle.grid.specs.declared.Corner.{Corner}
 
 -- c is one of the list

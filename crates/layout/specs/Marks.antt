@@ -1,6 +1,5 @@
 -- The marks after each operation, and the chain of surviving steps (01, "What the calls take and give"). Assumes nothing.
-use Rattle.lists.specs.Words.{List, [], _∷_, _++_, length, replicate, ℕ, _-_}
-use Rattle.lists.specs.Lists.{count}
+use Rattle.lists.specs.Lists.{List, [], _∷_, _++_, length, replicate, ℕ, _-_, count}
 use Rattle.grid.specs.{declared.Corner.Corner, Grid.same, Grid.cornersFrom, Grid.endFrom}
 use Rattle.word.specs.Operations.{operate, survivors}
 use Rattle.tree.specs.Nodes.{nodesOf}

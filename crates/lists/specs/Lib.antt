@@ -1,3 +1,2 @@
--- Words about lists, and those of the library.
-pub mod Words
+-- The library's words, and words about lists.
 pub mod Lists

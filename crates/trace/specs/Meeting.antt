@@ -1,6 +1,5 @@
 -- Meetings of two visits, and the different corners (01, "Corners, panels and words"). Assumes nothing.
-use Rattle.lists.specs.Words.{_≡_, List, [], _∷_, _++_, length, ℕ, zero, suc, _<_, _≤_}
-use Rattle.lists.specs.Lists.{find, gather}
+use Rattle.lists.specs.Lists.{_≡_, List, [], _∷_, _++_, length, ℕ, zero, suc, _<_, _≤_, find, gather}
 use Rattle.answer.specs.Limits.{noMeeting}
 use Rattle.grid.specs.{declared.Corner.Corner, Grid.same, Grid.cornersFrom, Grid.cornerAt}
 

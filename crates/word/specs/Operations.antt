@@ -1,6 +1,5 @@
 -- The surviving steps of a string of operations, and the refusals 4, 5 and 6 (01, "Corners, panels and words" and the table of refusals). Assumes nothing.
-use Rattle.lists.specs.Words.{true, false, not, _&&_, List, [], _∷_, _++_, ℕ, suc, _+_, _-_, eqb, ltb}
-use Rattle.lists.specs.Lists.{front}
+use Rattle.lists.specs.Lists.{true, false, not, _&&_, List, [], _∷_, _++_, ℕ, suc, _+_, _-_, eqb, ltb, front}
 use Rattle.answer.specs.declared.{Judged.Judged, Judged.the-variants.Good, Refusal.the-variants.BadDigit, Refusal.the-variants.NothingToTake, Refusal.the-variants.TooLong}
 use Rattle.answer.specs.{Limits.mostSteps, Refusal.when, Refusal.orElse, Refusal.firstOf}
 
