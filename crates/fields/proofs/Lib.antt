@@ -2,4 +2,3 @@
 pub mod PutLaws
 pub mod DigitLaws
 pub mod BitsLaws
-pub mod SpelledSteps

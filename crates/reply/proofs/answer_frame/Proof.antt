@@ -16,7 +16,7 @@ use Rattle.reply.proofs.answer_frame.Statement.{statement}
 use Rattle.reply.proofs.answer_frame.Tie as tie
 use Rattle.reply.proofs.answer_frame.Reads as reads
 use Rattle.reply.proofs.answer_frame.Lts as lts
-use Rattle.fields.proofs.parse.copy_digits.Reads as copy-digits-reads
+use Rattle.reading.proofs.copy_digits.Reads as copy-digits-reads
 use Rattle.reply.proofs.answer_operations.Reads as answer-operations-reads
 use Rattle.reply.proofs.answer_turns.Reads as answer-turns-reads
 

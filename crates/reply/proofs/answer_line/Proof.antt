@@ -10,8 +10,8 @@ use Rattle.reply.proofs.answer_line.Statement.{statement}
 use Rattle.reply.proofs.answer_line.Tie as tie
 use Rattle.reply.proofs.answer_line.Reads as reads
 use Rattle.reply.proofs.answer_line.Lts as lts
-use Rattle.fields.proofs.parse.read.Reads as read-reads
-use Rattle.fields.proofs.spelled.spell_refusal.Reads as spell-refusal-reads
+use Rattle.reading.proofs.read.Reads as read-reads
+use Rattle.spelling.proofs.spell_refusal.Reads as spell-refusal-reads
 use Rattle.reply.proofs.answer_frame.Reads as answer-frame-reads
 
 -- src/lib.rt:160:9

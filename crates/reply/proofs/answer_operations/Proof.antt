@@ -14,7 +14,7 @@ use Rattle.reply.proofs.answer_operations.Statement.{statement}
 use Rattle.reply.proofs.answer_operations.Tie as tie
 use Rattle.reply.proofs.answer_operations.Reads as reads
 use Rattle.reply.proofs.answer_operations.Lts as lts
-use Rattle.fields.proofs.spelled.spell_refusal.Reads as spell-refusal-reads
+use Rattle.spelling.proofs.spell_refusal.Reads as spell-refusal-reads
 use Rattle.reply.proofs.write_accepted.Reads as write-accepted-reads
 use Rattle.walk.proofs.follow.Reads as follow-reads
 

@@ -13,7 +13,7 @@ use Rattle.reply.proofs.answer_turns.Statement.{statement}
 use Rattle.reply.proofs.answer_turns.Tie as tie
 use Rattle.reply.proofs.answer_turns.Reads as reads
 use Rattle.reply.proofs.answer_turns.Lts as lts
-use Rattle.fields.proofs.spelled.spell_refusal.Reads as spell-refusal-reads
+use Rattle.spelling.proofs.spell_refusal.Reads as spell-refusal-reads
 use Rattle.reply.proofs.answer_operations.Reads as answer-operations-reads
 use Rattle.turns.proofs.steps_of.Reads as steps-of-reads
 

@@ -14,7 +14,7 @@ use Rattle.reply.proofs.answer_line.Reads as answer-line-reads
 
 -- src/lib.rt:192:9
 returns : tie.Need-returns
-returns c = reply-short (c .before .before .before .args .line .now) (c .before .before .before .args .out .now) (c .if1 .taken)
+returns c = reply-short (c .before .before .before .args .line .now) (c .before .before .before .args .out .now) (omega (arith, c .if1 .taken))
 
 -- src/lib.rt:197:23
 slice-aggregate-answer-line : tie.Need-slice-aggregate-answer-line

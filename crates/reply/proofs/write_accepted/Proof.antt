@@ -17,8 +17,8 @@ use Rattle.reply.proofs.write_accepted.Tie as tie
 use Rattle.reply.proofs.write_accepted.Reads as reads
 use Rattle.reply.proofs.write_accepted.Lts as lts
 use Rattle.fields.proofs.hex.spell.Reads as spell-reads
-use Rattle.fields.proofs.spelled.spell_facts.Reads as spell-facts-reads
-use Rattle.fields.proofs.spelled.spell_numbers.Reads as spell-numbers-reads
+use Rattle.spelling.proofs.spell_facts.Reads as spell-facts-reads
+use Rattle.spelling.proofs.spell_numbers.Reads as spell-numbers-reads
 use Rattle.reply.proofs.list_hull.Reads as list-hull-reads
 
 -- src/lib.rt:67:9

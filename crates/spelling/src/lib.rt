@@ -1,14 +1,14 @@
 // The parts of an answer line, as fields of digits.
-use crate::hex::spell;
-use crate::hex::spell_signed;
 use answer::Facts;
 use answer::Refusal;
+use fields::hex::spell;
+use fields::hex::spell_signed;
 ghost use mathlib.Core.List.{_++_};
 ghost use Prim.Native.Nat.{_+_, _*_, _≤_};
 ghost use lib.ListN.{length, take};
 ghost use Rattle.frame.specs.Hex.{hexOf};
 ghost use Rattle.frame.specs.Spelled.{refusedLine, factsLine, numbersLine};
 ghost use Rattle.fields.specs.Put.{Wrote};
 
 // Writes two fields: n digits of v, then m digits of w.
 fn spell_two(out: &mut [u8], at: usize, v: usize, n: usize, w: usize, m: usize) -> usize

@@ -1,26 +1,26 @@
 use native.Mathlib.Omega.{arith}
 use Rattle.frame.proofs.HexLaws.{length-hexOf}
-use Rattle.fields.proofs.SpelledSteps.{wrote-two}
+use Rattle.spelling.proofs.SpelledSteps.{wrote-two}
 use borrow.Author.Needs.{needs}
-use Rattle.fields.proofs.spelled.spell_two.Statement.{statement}
-use Rattle.fields.proofs.spelled.spell_two.Tie as tie
-use Rattle.fields.proofs.spelled.spell_two.Reads as reads
-use Rattle.fields.proofs.spelled.spell_two.Lts as lts
+use Rattle.spelling.proofs.spell_two.Statement.{statement}
+use Rattle.spelling.proofs.spell_two.Tie as tie
+use Rattle.spelling.proofs.spell_two.Reads as reads
+use Rattle.spelling.proofs.spell_two.Lts as lts
 use Rattle.fields.proofs.hex.spell.Reads as spell-reads
 
--- src/spelled.rt:18:9
+-- src/lib.rt:18:9
 spell-requires : tie.Need-spell-requires
 spell-requires c κs = search needs
 
--- src/spelled.rt:19:5
+-- src/lib.rt:19:5
 spell-requires-2 : tie.Need-spell-requires-2
 spell-requires-2 c κs = omega (arith, length-hexOf (c .before .before .before .before .before .before .args .n) (c .before .before .before .before .before .before .args .v))
 
--- src/spelled.rt:14:1
+-- src/lib.rt:14:1
 same-length : tie.Need-same-length
 same-length c = search needs
 
--- src/spelled.rt:14:1
+-- src/lib.rt:14:1
 returns : tie.Need-returns
 returns c =
     let a = c .before .before .before .before .before .before .before .before .before .args in

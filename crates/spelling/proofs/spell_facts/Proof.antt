@@ -2,47 +2,47 @@ use mir.Val.{toZ, ofZ}
 use mir.Syntax.{w32}
 use mir.ValLaws.{toZ-ofZ}
 use native.Mathlib.Omega.{arith}
-use Rattle.fields.proofs.SpelledSteps.{length-two, wrote-facts}
+use Rattle.spelling.proofs.SpelledSteps.{length-two, wrote-facts}
 use borrow.Author.Needs.{needs}
-use Rattle.fields.proofs.spelled.spell_facts.Statement.{statement}
-use Rattle.fields.proofs.spelled.spell_facts.Tie as tie
-use Rattle.fields.proofs.spelled.spell_facts.Reads as reads
-use Rattle.fields.proofs.spelled.spell_facts.Lts as lts
+use Rattle.spelling.proofs.spell_facts.Statement.{statement}
+use Rattle.spelling.proofs.spell_facts.Tie as tie
+use Rattle.spelling.proofs.spell_facts.Reads as reads
+use Rattle.spelling.proofs.spell_facts.Lts as lts
 use Rattle.fields.proofs.hex.spell_signed.Reads as spell-signed-reads
-use Rattle.fields.proofs.spelled.spell_two.Reads as spell-two-reads
+use Rattle.spelling.proofs.spell_two.Reads as spell-two-reads
 use Rattle.numbers.proofs.verdict.Reads as verdict-reads
 
--- src/spelled.rt:38:32
+-- src/lib.rt:38:32
 verdict-requires : tie.Need-verdict-requires
 verdict-requires c κs = search needs
 
--- src/spelled.rt:38:9
+-- src/lib.rt:38:9
 spell-two-requires : tie.Need-spell-two-requires
 spell-two-requires c κs = search needs
 
--- src/spelled.rt:39:9
+-- src/lib.rt:39:9
 spell-two-requires-2 : tie.Need-spell-two-requires-2
 spell-two-requires-2 c κs =
     let f = c .before .before .before .before .before .before .before .args .f in
     omega (arith, length-two 2 (c .before .before .before .before .verdict .result) 4 (f .steps))
 
--- src/spelled.rt:40:9
+-- src/lib.rt:40:9
 spell-two-requires-3 : tie.Need-spell-two-requires-3
 spell-two-requires-3 c κs =
     let f = c .before .before .before .before .before .before .before .before .before .before .before .args .f in
     omega (arith, length-two 2 (c .before .before .before .before .before .before .before .before .verdict .result) 4 (f .steps), length-two 8 (f .nodes) 4 (f .corners))
 
--- src/spelled.rt:41:5
+-- src/lib.rt:41:5
 spell-signed-requires : tie.Need-spell-signed-requires
 spell-signed-requires c κs =
     let f = c .before .before .before .before .before .before .before .before .before .before .before .before .before .before .before .before .args .f in
     omega (arith, length-two 2 (c .before .before .before .before .before .before .before .before .before .before .before .before .before .verdict .result) 4 (f .steps), length-two 8 (f .nodes) 4 (f .corners), length-two 4 (f .j) 4 (f .k))
 
--- src/spelled.rt:33:1
+-- src/lib.rt:33:1
 same-length : tie.Need-same-length
 same-length c = search needs
 
--- src/spelled.rt:33:1
+-- src/lib.rt:33:1
 returns : tie.Need-returns
 returns c =
     let a = c .before .before .before .before .before .before .before .before .before .before .before .before .before .before .before .before .before .before .before .args in

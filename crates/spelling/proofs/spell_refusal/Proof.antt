@@ -2,37 +2,37 @@ use mathlib.Core.Path.{subst₂}
 use mathlib.Core.List.{_++_}
 use Prim.Native.Nat.{ℕ, _+_}
 use Rattle.frame.specs.Hex.{hexOf}
 use Rattle.fields.specs.Put.{Wrote}
 use borrow.Author.Needs.{needs}
-use Rattle.fields.proofs.spelled.spell_refusal.Statement.{statement}
-use Rattle.fields.proofs.spelled.spell_refusal.Tie as tie
-use Rattle.fields.proofs.spelled.spell_refusal.Reads as reads
-use Rattle.fields.proofs.spelled.spell_refusal.Lts as lts
-use Rattle.fields.proofs.spelled.spell_two.Reads as spell-two-reads
+use Rattle.spelling.proofs.spell_refusal.Statement.{statement}
+use Rattle.spelling.proofs.spell_refusal.Tie as tie
+use Rattle.spelling.proofs.spell_refusal.Reads as reads
+use Rattle.spelling.proofs.spell_refusal.Lts as lts
+use Rattle.spelling.proofs.spell_two.Reads as spell-two-reads
 use Rattle.numbers.proofs.number.Reads as number-reads
 use Rattle.numbers.proofs.place.Reads as place-reads
 
--- src/spelled.rt:27:9
+-- src/lib.rt:27:9
 number-requires : tie.Need-number-requires
 number-requires c κs = search needs
 
--- src/spelled.rt:28:9
+-- src/lib.rt:28:9
 place-requires : tie.Need-place-requires
 place-requires c κs = search needs
 
--- src/spelled.rt:29:24
+-- src/lib.rt:29:24
 add-spell-two : tie.Need-add-spell-two
 add-spell-two c = search needs
 
--- src/spelled.rt:29:5
+-- src/lib.rt:29:5
 spell-two-requires : tie.Need-spell-two-requires
 spell-two-requires c κs = search needs
 
--- src/spelled.rt:23:1
+-- src/lib.rt:23:1
 same-length : tie.Need-same-length
 same-length c = search needs
 
--- src/spelled.rt:23:1
+-- src/lib.rt:23:1
 returns : tie.Need-returns
 returns c =
     let a = c .before .before .before .before .before .before .before .args in

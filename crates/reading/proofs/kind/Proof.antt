@@ -3,25 +3,25 @@ use Rattle.frame.proofs.HexLaws.{allHex-at}
 use native.Mathlib.Omega.{arith}
 use mathlib.Core.Path.{_≡_, refl, sym, ap, _∙_}
 use borrow.Author.Needs.{needs}
-use Rattle.fields.proofs.parse.kind.Statement.{statement}
-use Rattle.fields.proofs.parse.kind.Tie as tie
-use Rattle.fields.proofs.parse.kind.Reads as reads
-use Rattle.fields.proofs.parse.kind.Lts as lts
+use Rattle.reading.proofs.kind.Statement.{statement}
+use Rattle.reading.proofs.kind.Tie as tie
+use Rattle.reading.proofs.kind.Reads as reads
+use Rattle.reading.proofs.kind.Lts as lts
 use Rattle.fields.proofs.hex.pair.Reads as pair-reads
 
--- src/parse.rt:34:10
+-- src/lib.rt:34:10
 shared-slice-read-pair : tie.Need-shared-slice-read-pair
 shared-slice-read-pair c = search needs
 
--- src/parse.rt:34:16
+-- src/lib.rt:34:16
 shared-slice-read-pair-2 : tie.Need-shared-slice-read-pair-2
 shared-slice-read-pair-2 c = search needs
 
--- src/parse.rt:34:5
+-- src/lib.rt:34:5
 pair-requires : tie.Need-pair-requires
 pair-requires c κs = (allHex-at (c .before .before .before .args .s .now) 0 (c .before .before .before .pre .0) (omega arith), allHex-at (c .before .before .before .args .s .now) 1 (c .before .before .before .pre .0) (omega arith))
 
--- src/parse.rt:29:1
+-- src/lib.rt:29:1
 returns : tie.Need-returns
 returns c = c .pair .ensures .0 ∙ sym (kindOf-six (c .before .before .before .before .args .s .now) (omega arith))
 
