@@ -1,6 +1,5 @@
--- The limits of the calls (01, "What the calls take and give").
--- Assumes nothing.
-use Prim.Native.Nat.{ℕ, _*_, _+_}
+-- The limits of the calls (01, "What the calls take and give"). Assumes nothing.
+use Rattle.lists.specs.Lists.{ℕ, _+_, _*_}
 
 -- input bytes at most
 abbrev pub mostInput : ℕ

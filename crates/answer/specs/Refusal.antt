@@ -1,13 +1,7 @@
--- Refusals and verdicts as the numbers of 01, and the first of several refusals.
--- Assumes nothing.
-use mathlib.Core.Bool.{Bool, true, false}
-use mathlib.Core.List.{List, [], _∷_}
-use Prim.Native.Nat.{ℕ}
-use Rattle.answer.specs.declared.Refusal.{Refusal}
+-- Refusals and verdicts as the numbers of 01, and the first of several refusals. Assumes nothing.
+use Rattle.lists.specs.Lists.{Bool, true, false, List, [], _∷_, ℕ}
+use Rattle.answer.specs.declared.{Refusal.Refusal, Judged.Judged, Judged.the-variants.Good, Judged.the-variants.Refused, Verdict.Verdict}
 use Rattle.answer.specs.declared.Refusal.the-variants.{TooMany, Table, ResultRoom, BadDigit, NothingToTake, TooLong, NoRoom, HullRoom, BadLine}
-use Rattle.answer.specs.declared.Judged.{Judged}
-use Rattle.answer.specs.declared.Judged.the-variants.{Good, Refused}
-use Rattle.answer.specs.declared.Verdict.{Verdict}
 use Rattle.answer.specs.declared.Verdict.the-variants.{Nowhere, Open, Room, OpenMeeting, ClosedMeeting}
 
 abbrev pub refusalNumber : Refusal → ℕ

@@ -1,27 +1,12 @@
--- The walk's refusals in their order, its answer, and its three buffers (01, "What the calls take and give").
--- Assumes nothing.
-use mathlib.Core.Path.{_≡_}
-use mathlib.Core.Bool.{Bool, true, false, not, _&&_}
-use mathlib.Core.List.{List, [], _∷_, _++_}
-use Prim.Native.Nat.{ℕ, suc, _*_, _/_, _%_}
-use lib.ListN.{length, replicate}
-use lib.Dec.{eqb, ltb, leb}
-use Rattle.answer.specs.declared.Judged.{Judged}
-use Rattle.answer.specs.declared.Judged.the-variants.{Good, Refused}
-use Rattle.answer.specs.declared.Refusal.{Refusal}
-use Rattle.answer.specs.declared.Refusal.the-variants.{TooMany, Table, ResultRoom, NoRoom}
-use Rattle.answer.specs.declared.Facts.{Facts}
-use Rattle.answer.specs.declared.Answer.{Answer}
-use Rattle.answer.specs.Limits.{mostInput, mostRecords}
-use Rattle.answer.specs.Refusal.{when, orElse, firstOf, refusalNumber}
-use Rattle.grid.specs.declared.Corner.{Corner}
-use Rattle.grid.specs.Grid.{cornersFrom, endFrom}
+-- The walk's refusals in their order, its answer, and its three buffers (01, "What the calls take and give"). Assumes nothing.
+use Rattle.lists.specs.Lists.{_≡_, Bool, true, false, cond, not, _&&_, List, [], _∷_, length, replicate, ℕ, suc, _*_, _/_, _%_, eqb, ltb, leb}
+use Rattle.answer.specs.declared.{Judged.Judged, Judged.the-variants.Good, Judged.the-variants.Refused, Refusal.the-variants.TooMany, Refusal.the-variants.Table, Refusal.the-variants.ResultRoom, Refusal.the-variants.NoRoom, Facts.Facts, Answer.Answer}
+use Rattle.answer.specs.{Limits.mostInput, Limits.mostRecords, Refusal.when, Refusal.firstOf, Refusal.refusalNumber}
+use Rattle.grid.specs.{declared.Corner.Corner, Grid.cornersFrom, Grid.endFrom}
 use Rattle.word.specs.Operations.{operate, survivors, faultsFrom}
-use Rattle.trace.specs.Meeting.{meetingOf, meetingJ, meetingK, visitedOf}
-use Rattle.trace.specs.Verdict.{verdictOf, areaOf}
+use Rattle.trace.specs.{Meeting.meetingOf, Meeting.meetingJ, Meeting.meetingK, Meeting.visitedOf, Verdict.verdictOf, Verdict.areaOf}
 use Rattle.tree.specs.Nodes.{nodesOf}
-use Rattle.layout.specs.Table.{recordWords, tableOf}
-use Rattle.layout.specs.Marks.{marksOf, chainOf}
+use Rattle.layout.specs.{Table.recordWords, Table.tableOf, Marks.marksOf, Marks.chainOf}
 
 -- 2: the words are 21 times a record count of 1 to 131,080
 abbrev pub tableFits : ℕ → Bool
@@ -70,15 +55,10 @@ answerBy (Refused r) f = Answer.Refused r
 abbrev pub walkAnswer : Corner → List ℕ → ℕ → ℕ → ℕ → Answer
 walkAnswer c os words marks chain = answerBy (walkJudged c os words marks chain) (factsOf c (survivors os))
 
--- a buffer after a refusal: all zero after "no room", untouched after any other
-abbrev pub refusedBuffer : Bool → List ℕ → List ℕ
-refusedBuffer true old = replicate (length old) 0
-refusedBuffer false old = old
-
--- a buffer after the call: written if accepted
+-- a buffer after the call: written if accepted; after a refusal all zero where it is 7, "no room", and untouched where it is any other
 abbrev pub bufferBy : Judged → List ℕ → List ℕ → List ℕ
 bufferBy Good new old = new
-bufferBy (Refused r) new old = refusedBuffer (eqb (refusalNumber r) 7) old
+bufferBy (Refused r) new old = cond (eqb (refusalNumber r) 7) (replicate (length old) 0) old
 
 -- the call's promise: the answer and what each of the three buffers holds then
 pub record WalkIs (c : Corner) (os t ms ch : List ℕ) (r : Answer) (t′ ms′ ch′ : List ℕ) : Type 0 where

@@ -2,7 +2,7 @@
 use boundary::hull_words;
 use boundary::turns_words;
 use boundary::walk_words;
-ghost use Rattle.lines.specs.Reply.{LineIs};
+ghost use Rattle.reply.specs.Reply.{LineIs};
 ghost use Rattle.word.specs.Turns.{turnsOf, stepsOf};
 ghost use Rattle.embed.specs.Boundary.{WalkGives, HullGives, TurnsGive};
 
@@ -69,5 +69,5 @@ pub extern "C" fn undrwyth_steps_of_turns(
 pub extern "C" fn undrwyth_line(line: &[u8], out: &mut [u8]) -> usize
     ensures { λ n. ⌜ LineIs (now (line .entry)) (now (out .entry)) n (now (out .exit)) ⌝ }
 {
-    lines::reply::reply(line, out)
+    reply::reply(line, out)
 }

@@ -9,9 +9,9 @@ use native.Mathlib.Numerals.{add-one}
 use native.Mathlib.Nat.{add-zero}
 use lib.ListN.{length, take, drop, getD, set, length-drop, length-set}
 use Rattle.frame.specs.Hex.{isHex, allHex, valueOf, valuesOf, letterOf, hexOf}
-use Rattle.frame.specs.Put.{put, Wrote}
-use Rattle.frame.proofs.HexLaws.{put-hexOf, put-hexOf-zero, length-hexOf, allHex-here, allHex-end, valuesOf-here, valuesOf-end, length-valuesOf}
-use Rattle.frame.proofs.PutLaws.{put-first, put-nil}
+use Rattle.fields.specs.Put.{put, Wrote}
+use Rattle.frame.proofs.HexLaws.{length-hexOf, allHex-here, allHex-end, valuesOf-here, valuesOf-end, length-valuesOf}
+use Rattle.fields.proofs.PutLaws.{put-first, put-last, put-nil}
 
 pub allHex-stop : (s : List ℕ) (i : ℕ) (r : Bool) → allHex (drop i s) ≡ allHex s → i < length s → r ≡ isHex (getD s i 0) → r ≡ false → false ≡ allHex s
 allHex-stop s i r h l e f = sym (sym h ∙ allHex-here s i l ∙ ap (λ (b : Bool). b && allHex (drop (suc i) s)) (sym e ∙ f))
@@ -24,6 +24,18 @@ allHex-next s i r h l e f =
 
 pub allHex-all : (s : List ℕ) (i : ℕ) → allHex (drop i s) ≡ allHex s → length s ≤ i → true ≡ allHex s
 allHex-all s i h l = sym (allHex-end s i l) ∙ h
+
+-- one digit less is left to write
+pub put-hexOf : (n v at : ℕ) (buf : List ℕ) → at + n < length buf → put (hexOf n (v / 16)) at (set buf (at + n) (letterOf (v % 16))) ≡ put (hexOf (suc n) v) at buf
+unfolding hexOf
+put-hexOf n v at buf h =
+    let l = length-hexOf n (v / 16) in
+    ap (λ (i : ℕ). put (hexOf n (v / 16)) at (set buf (at + i) (letterOf (v % 16)))) (sym l)
+    ∙ put-last (hexOf n (v / 16)) (letterOf (v % 16)) at buf (omega arith)
+
+pub put-hexOf-zero : (v at : ℕ) (buf : List ℕ) → put (hexOf 0 v) at buf ≡ buf
+unfolding hexOf
+put-hexOf-zero v at buf = put-nil at buf
 
 -- the digit at the end of what is left is written
 pub spell-next : (left rest at r : ℕ) (out w : List ℕ) → 0 < left → at + left ≤ length out → r ≡ letterOf (rest % 16) → put (hexOf left rest) at out ≡ w

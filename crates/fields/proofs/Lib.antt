@@ -1,4 +1,4 @@
 -- The laws that the proofs of fields cite.
+pub mod PutLaws
 pub mod DigitLaws
 pub mod BitsLaws
-pub mod SpelledSteps

@@ -4,7 +4,7 @@ ghost use mathlib.Core.Bool.{true};
 ghost use Prim.Native.Nat.{_+_, _*_, _<_, _≤_};
 ghost use lib.ListN.{length};
 ghost use Rattle.frame.specs.Hex.{isHex, valueOf, letterOf, hexOf, bitsOf};
-ghost use Rattle.frame.specs.Put.{Wrote};
+ghost use Rattle.fields.specs.Put.{Wrote};
 
 // Whether the byte is a lower-case hexadecimal digit.
 pub fn is_hex(b: u8) -> bool

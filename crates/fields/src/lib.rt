@@ -1,4 +1,2 @@
-// Fields of hexadecimal digits and frames, in lent buffers.
+// Fields of hexadecimal digits, in lent buffers.
 pub mod hex;
-pub mod parse;
-pub mod spelled;

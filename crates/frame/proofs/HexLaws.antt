@@ -10,8 +10,6 @@ use lib.Seq.{drop-cons}
 use lib.Dec.{leb}
 use borrow.Author.Tests.{leb-true, leb-false}
 use Rattle.frame.specs.Hex.{isHex, allHex, valuesOf, valueOf, letterOf, hexOf}
-use Rattle.frame.specs.Put.{put}
-use Rattle.frame.proofs.PutLaws.{put-last, put-nil}
 
 pub length-hexOf : (n v : ℕ) → length (hexOf n v) ≡ n
 unfolding hexOf
@@ -22,18 +20,6 @@ pub length-valuesOf : (s : List ℕ) → length (valuesOf s) ≡ length s
 unfolding valuesOf
 length-valuesOf [] = refl
 length-valuesOf (b ∷ s) = ap suc (length-valuesOf s)
-
--- one digit less is left to write
-pub put-hexOf : (n v at : ℕ) (buf : List ℕ) → at + n < length buf → put (hexOf n (v / 16)) at (set buf (at + n) (letterOf (v % 16))) ≡ put (hexOf (suc n) v) at buf
-unfolding hexOf
-put-hexOf n v at buf h =
-    let l = length-hexOf n (v / 16) in
-    ap (λ (i : ℕ). put (hexOf n (v / 16)) at (set buf (at + i) (letterOf (v % 16)))) (sym l)
-    ∙ put-last (hexOf n (v / 16)) (letterOf (v % 16)) at buf (omega arith)
-
-pub put-hexOf-zero : (v at : ℕ) (buf : List ℕ) → put (hexOf 0 v) at buf ≡ buf
-unfolding hexOf
-put-hexOf-zero v at buf = put-nil at buf
 
 -- digits alone: of what is left
 pub allHex-here : (s : List ℕ) (i : ℕ) → i < length s → allHex (drop i s) ≡ isHex (getD s i 0) && allHex (drop (suc i) s)

@@ -6,18 +6,15 @@ use mathlib.Core.List.{List, [], _∷_, _++_}
 use Prim.Native.Nat.{ℕ, zero, suc, _+_, _*_, _<_, _≤_}
 use native.Mathlib.Omega.{arith}
 use lib.ListN.{length, take, drop, getD, length-append, length-drop}
-use lib.Seq.{length-take-le, take-all}
 use lib.Dec.{leb, ltb, eqb}
 use borrow.Author.Tests.{leb-true, eqb-true, ne-eqb, le-ltb, lt-leb, lt-ltb, le-leb, eq-eqb}
 use mathlib.Core.Logic.{_⊎_, inl, inr}
-use native.Mathlib.Decide.{decLe}
 use Rattle.answer.specs.declared.Refusal.the-variants.{BadLine}
 use Rattle.frame.specs.declared.Frame.{Frame}
 use Rattle.frame.specs.declared.Frame.the-variants.{Operations, Turns, Bad}
 use Rattle.frame.specs.Hex.{allHex, hexOf, valueOf, numberFrom}
-use Rattle.frame.specs.Line.{frameOf, framed, isFrame, kindOf, countOf, digitsOf, answerOf, lineAnswer, mostLine, mostAnswer}
+use Rattle.frame.specs.Line.{frameOf, framed, isFrame, kindOf, countOf, digitsOf, answerOf, lineAnswer}
 use Rattle.frame.specs.Spelled.{walkedLine, turnedLine, refusedLine}
-use Rattle.frame.specs.Feed.{keptOf}
 use Rattle.frame.proofs.HexLaws.{length-valuesOf}
 use Rattle.frame.proofs.SpelledLaws.{length-refusedLine, walkedLine-most, turnedLine-most}
 
@@ -30,13 +27,13 @@ last-two true false c d e = let z : _≡_ {A = ℕ} 0 1 = cc in absurd (omega ar
 last-two false b c d e = let z : _≡_ {A = ℕ} 0 1 = cc in absurd (omega arith)
 
 -- a frame has at most 1,030 bytes
-pub isFrame-short : (s : List ℕ) → isFrame s ≡ true → length s ≤ mostLine
+pub isFrame-short : (s : List ℕ) → isFrame s ≡ true → length s ≤ 1030
 isFrame-short s e =
     let p = last-two (allHex s) (ltb (kindOf s) 2) (leb (countOf s) 0x0400) (eqb (length s) (6 + countOf s)) e in
     omega (arith, leb-true (countOf s) 0x0400 (p .0), eqb-true (length s) (6 + countOf s) (p .1))
 
 -- a longer line is bad
-pub frameOf-long : (s : List ℕ) → mostLine < length s → frameOf s ≡ Bad
+pub frameOf-long : (s : List ℕ) → 1030 < length s → frameOf s ≡ Bad
 unfolding frameOf
 frameOf-long s h = go (isFrame s) refl
   where
@@ -44,19 +41,10 @@ frameOf-long s h = go (isFrame s) refl
     go true e = absurd (omega (arith, isFrame-short s e))
     go false e = refl
 
--- so is its answer, and what is kept of the line gives the same
-pub lineAnswer-long : (s : List ℕ) → mostLine < length s → lineAnswer s ≡ refusedLine BadLine
+-- so is its answer
+pub lineAnswer-long : (s : List ℕ) → 1030 < length s → lineAnswer s ≡ refusedLine BadLine
 unfolding lineAnswer
 lineAnswer-long s h = ap (λ (f : Frame). answerOf f (digitsOf s)) (frameOf-long s h)
-
-pub lineAnswer-keptOf : (s : List ℕ) → lineAnswer (keptOf s) ≡ lineAnswer s
-lineAnswer-keptOf s =
-    elim (decLe (length s) (suc mostLine)) [
-      | yes e ↦ ap lineAnswer (take-all (suc mostLine) s e)
-      | no f ↦
-          lineAnswer-long (keptOf s) (omega (arith, length-take-le (suc mostLine) s (omega (arith, f))))
-          ∙ sym (lineAnswer-long s (omega (arith, f)))
-    ]
 
 -- the first bytes of a line that has six
 pub kindOf-six : (s : List ℕ) → 6 ≤ length s → kindOf s ≡ valueOf (getD s 0 0) * 16 + valueOf (getD s 1 0)
@@ -185,7 +173,7 @@ lineAnswer-bad s e = sym (ap (λ (f : Frame). answerOf f (digitsOf s)) e)
 pub length-digitsOf : (s : List ℕ) (n : ℕ) → length s ≡ 6 + n → n ≡ length (digitsOf s)
 length-digitsOf s n e = omega (arith, length-valuesOf (drop 6 s), length-drop 6 s)
 
-answerOf-most : (s : List ℕ) (f : Frame) → frameOf s ≡ f → length (answerOf f (digitsOf s)) + 1 ≤ mostAnswer
+answerOf-most : (s : List ℕ) (f : Frame) → frameOf s ≡ f → length (answerOf f (digitsOf s)) + 1 ≤ 8240
 answerOf-most s (Operations n) e =
     let g = operations-good s n e in
     walkedLine-most (digitsOf s) (omega (arith, length-digitsOf s n (g .size), g .most))
@@ -195,6 +183,6 @@ answerOf-most s (Turns n) e =
 answerOf-most s Bad e = omega (arith, length-refusedLine BadLine)
 
 -- an answer, with its line feed, is not longer than the limit
-pub lineAnswer-most : (s : List ℕ) → length (lineAnswer s) + 1 ≤ mostAnswer
+pub lineAnswer-most : (s : List ℕ) → length (lineAnswer s) + 1 ≤ 8240
 unfolding lineAnswer
 lineAnswer-most s = answerOf-most s (frameOf s) refl

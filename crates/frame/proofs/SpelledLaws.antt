@@ -24,8 +24,7 @@ use Rattle.hull.specs.Call.{numbers}
 use Rattle.hull_laws.specs.Outline.{hullOf}
 use Rattle.hull_laws.proofs.HullLaws.{length-hullOf}
 use Rattle.frame.specs.Hex.{hexOf}
-use Rattle.frame.specs.Spelled.{refusedLine, factsLine, numbersLine, hullLine, answerLine, walkedLine, turnedBy, turnedLine, lineRecords}
-use Rattle.frame.specs.Line.{mostAnswer}
+use Rattle.frame.specs.Spelled.{refusedLine, factsLine, numbersLine, hullLine, answerLine, walkedLine, turnedBy, turnedLine}
 use Rattle.frame.proofs.HexLaws.{length-hexOf}
 
 pub length-refusedLine : (r : Refusal) → length (refusedLine r) ≡ 10
@@ -51,19 +50,19 @@ length-hullLine cs =
 pub length-accepted : (f : Facts) (w : List ℕ) → length (answerLine (walked.Accepted f) w) ≡ 38 + 8 * length (hullOf origin w)
 length-accepted f w = omega (arith, length-append (factsLine f) (hullLine (hullOf origin w)), length-factsLine f, length-hullLine (hullOf origin w))
 
-answerLine-most : (a : Answer) (w : List ℕ) → length w ≤ 1024 → length (answerLine a w) + 1 ≤ mostAnswer
+answerLine-most : (a : Answer) (w : List ℕ) → length w ≤ 1024 → length (answerLine a w) + 1 ≤ 8240
 answerLine-most (walked.Accepted f) w h = omega (arith, length-accepted f w, length-hullOf origin w)
 answerLine-most (walked.Refused r) w h = omega (arith, length-refusedLine r)
 
-pub walkedLine-most : (os : List ℕ) → length os ≤ 1024 → length (walkedLine os) + 1 ≤ mostAnswer
+pub walkedLine-most : (os : List ℕ) → length os ≤ 1024 → length (walkedLine os) + 1 ≤ 8240
 unfolding walkedLine
 walkedLine-most os h =
-    answerLine-most (walkAnswer origin os (recordWords 1 * lineRecords) (2 * length os) (length os)) (survivors os) (omega (arith, length-survivors [] os))
+    answerLine-most (walkAnswer origin os (recordWords 1 * 390) (2 * length os) (length os)) (survivors os) (omega (arith, length-survivors [] os))
 
-turnedBy-most : (j : Judged) (ts : List ℕ) → length ts ≤ 1024 → length (turnedBy j ts) + 1 ≤ mostAnswer
+turnedBy-most : (j : Judged) (ts : List ℕ) → length ts ≤ 1024 → length (turnedBy j ts) + 1 ≤ 8240
 turnedBy-most judged.Good ts h = walkedLine-most (stepsOf ts) (omega (arith, length-stepsOf ts))
 turnedBy-most (judged.Refused r) ts h = omega (arith, length-refusedLine r)
 
-pub turnedLine-most : (ts : List ℕ) → length ts ≤ 1024 → length (turnedLine ts) + 1 ≤ mostAnswer
+pub turnedLine-most : (ts : List ℕ) → length ts ≤ 1024 → length (turnedLine ts) + 1 ≤ 8240
 unfolding turnedLine
 turnedLine-most ts h = turnedBy-most (turnsJudged ts (length ts)) ts h

@@ -1,10 +1,5 @@
--- Hexadecimal, in lower case (01, "The line program").
--- Assumes nothing.
-use mathlib.Core.Bool.{Bool, true, false, cond, _&&_, _||_}
-use mathlib.Core.List.{List, [], _∷_, _++_}
-use Prim.Native.Nat.{ℕ, zero, suc, _+_, _-_, _*_, _/_, _%_, _^_}
-use lib.IntN.{ℤ, pos, negsuc}
-use lib.Dec.{leb, ltb}
+-- Hexadecimal, in lower case (01, "The line program"). Assumes nothing.
+use Rattle.lists.specs.Lists.{Bool, true, cond, _&&_, _||_, List, [], _∷_, _++_, ℕ, zero, suc, _+_, _-_, _*_, _/_, _%_, _^_, ltb, leb, ℤ, pos, negsuc}
 
 -- the byte is 0 to 9 or a to f
 abbrev pub isHex : ℕ → Bool
@@ -28,9 +23,6 @@ valuesOf (b ∷ s) = valueOf b ∷ valuesOf s
 unfoldable pub numberFrom : ℕ → List ℕ → ℕ
 numberFrom v [] = v
 numberFrom v (b ∷ s) = numberFrom (v * 16 + valueOf b) s
-
-abbrev pub numberOf : List ℕ → ℕ
-numberOf s = numberFrom 0 s
 
 -- the digit that is worth d
 abbrev pub letterOf : ℕ → ℕ

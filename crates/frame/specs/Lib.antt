@@ -3,5 +3,3 @@ pub mod Hex
 pub mod Spelled
 pub mod Line
 pub mod Program
-pub mod Feed
-pub mod Put

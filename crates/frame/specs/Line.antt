@@ -1,23 +1,16 @@
--- One line: the frame that it is, and its answer without the line feed (01, "The line program").
--- Assumes nothing.
-use mathlib.Core.Bool.{Bool, true, false, cond, _&&_}
-use mathlib.Core.List.{List, [], _∷_, _++_}
-use Prim.Native.Nat.{ℕ, zero, suc, _+_}
-use lib.ListN.{length, take, drop}
-use lib.Dec.{leb, ltb, eqb}
+-- One line: the frame that it is, and its answer without the line feed (01, "The line program"). Assumes nothing.
+use Rattle.lists.specs.Lists.{Bool, cond, _&&_, List, length, take, drop, ℕ, zero, suc, _+_, eqb, ltb, leb}
 use Rattle.answer.specs.declared.Refusal.the-variants.{BadLine}
-use Rattle.frame.specs.declared.Frame.{Frame}
-use Rattle.frame.specs.declared.Frame.the-variants.{Operations, Turns, Bad}
-use Rattle.frame.specs.Hex.{allHex, valuesOf, numberOf}
-use Rattle.frame.specs.Spelled.{walkedLine, turnedLine, refusedLine}
+use Rattle.frame.specs.declared.Frame.{Frame, the-variants.Operations, the-variants.Turns, the-variants.Bad}
+use Rattle.frame.specs.{Hex.allHex, Hex.valuesOf, Hex.numberFrom, Spelled.walkedLine, Spelled.turnedLine, Spelled.refusedLine}
 
 -- the first two digits
 abbrev pub kindOf : List ℕ → ℕ
-kindOf s = numberOf (take 2 s)
+kindOf s = numberFrom 0 (take 2 s)
 
 -- the four digits after the kind
 abbrev pub countOf : List ℕ → ℕ
-countOf s = numberOf (take 4 (drop 2 s))
+countOf s = numberFrom 0 (take 4 (drop 2 s))
 
 -- digits alone; kind 00 or 01; a count of at most 0400; and as many digits after it as it says
 abbrev pub isFrame : List ℕ → Bool
@@ -45,11 +38,3 @@ answerOf Bad ds = refusedLine BadLine
 -- the answer to a line
 unfoldable pub lineAnswer : List ℕ → List ℕ
 lineAnswer s = answerOf (frameOf s) (digitsOf s)
-
--- no frame is longer: two digits, four, and 1,024
-abbrev pub mostLine : ℕ
-mostLine = 1030
-
--- no answer is longer, its line feed with it
-abbrev pub mostAnswer : ℕ
-mostAnswer = 8240

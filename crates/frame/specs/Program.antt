@@ -1,9 +1,5 @@
--- The whole output for a whole input (01, "The line program").
--- Assumes nothing.
-use mathlib.Core.Bool.{Bool, true, false}
-use mathlib.Core.List.{List, [], _∷_, _++_}
-use Prim.Native.Nat.{ℕ}
-use lib.Dec.{eqb}
+-- The whole output for a whole input (01, "The line program"). Assumes nothing.
+use Rattle.lists.specs.Lists.{true, false, List, [], _∷_, _++_, ℕ, eqb}
 use Rattle.frame.specs.Line.{lineAnswer}
 
 -- what is left of the input after its last line feed: a line, unless there is nothing

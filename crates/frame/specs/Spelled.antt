@@ -1,29 +1,14 @@
--- The answer to a good frame, without the line feed (01, "The line program").
--- Assumes nothing.
-use mathlib.Core.List.{List, [], _∷_, _++_}
-use Prim.Native.Nat.{ℕ, _+_, _*_}
-use lib.IntN.{ℤ}
-use lib.ListN.{length}
-use Rattle.answer.specs.declared.Refusal.{Refusal}
-use Rattle.answer.specs.declared.Judged.{Judged}
-use Rattle.answer.specs.declared.Judged.the-variants as judged
-use Rattle.answer.specs.declared.Facts.{Facts}
-use Rattle.answer.specs.declared.Answer.{Answer}
-use Rattle.answer.specs.declared.Answer.the-variants as walked
+-- The answer to a good frame, without the line feed (01, "The line program"). Assumes nothing.
+use Rattle.lists.specs.Lists.{List, [], _∷_, _++_, length, ℕ, _+_, _*_, ℤ}
+use Rattle.answer.specs.declared.{Refusal.Refusal, Judged.Judged, Judged.the-variants.Good, Judged.the-variants.Refused, Facts.Facts, Answer.Answer}
 use Rattle.answer.specs.Refusal.{refusalNumber, refusalPlace, verdictNumber}
-use Rattle.grid.specs.declared.Corner.{Corner}
-use Rattle.grid.specs.Grid.{origin}
-use Rattle.word.specs.Operations.{survivors}
-use Rattle.word.specs.Turns.{turnsJudged, stepsOf}
+use Rattle.grid.specs.{declared.Corner.Corner, Grid.origin}
+use Rattle.word.specs.{Operations.survivors, Turns.turnsJudged, Turns.stepsOf}
 use Rattle.layout.specs.Table.{recordWords}
 use Rattle.calls.specs.Walk.{walkAnswer}
 use Rattle.hull.specs.Call.{numbers}
 use Rattle.hull_laws.specs.Outline.{hullOf}
 use Rattle.frame.specs.Hex.{hexOf, bitsOf}
-
--- the records of the table in which a frame is walked
-abbrev pub lineRecords : ℕ
-lineRecords = 390
 
 -- refused: hexadecimal 80 plus the number, then the place in 8 digits
 abbrev pub refusedLine : Refusal → List ℕ
@@ -51,17 +36,17 @@ hullLine cs = hexOf 4 (length cs) ++ numbersLine (numbers cs)
 
 -- the walk's answer, and the hull of the surviving steps if it is accepted
 abbrev pub answerLine : Answer → List ℕ → List ℕ
-answerLine (walked.Accepted f) w = factsLine f ++ hullLine (hullOf origin w)
-answerLine (walked.Refused r) w = refusedLine r
+answerLine (Answer.Accepted f) w = factsLine f ++ hullLine (hullOf origin w)
+answerLine (Answer.Refused r) w = refusedLine r
 
 -- operations are walked in a table of 390 records, with marks and a chain of the lengths that the walk asks for
 unfoldable pub walkedLine : List ℕ → List ℕ
-walkedLine os = answerLine (walkAnswer origin os (recordWords 1 * lineRecords) (2 * length os) (length os)) (survivors os)
+walkedLine os = answerLine (walkAnswer origin os (recordWords 1 * 390) (2 * length os) (length os)) (survivors os)
 
 -- turns that may be converted are walked as steps
 abbrev pub turnedBy : Judged → List ℕ → List ℕ
-turnedBy judged.Good ts = walkedLine (stepsOf ts)
-turnedBy (judged.Refused r) ts = refusedLine r
+turnedBy Good ts = walkedLine (stepsOf ts)
+turnedBy (Refused r) ts = refusedLine r
 
 -- turns are turned into steps first, in a buffer of their length
 unfoldable pub turnedLine : List ℕ → List ℕ

@@ -1,13 +1,6 @@
--- Corners, panels and steps (01, "Corners, panels and words"). A step is a digit: 0 east, 1 north, 2 west, 3 south.
--- Assumes nothing.
-use mathlib.Core.Bool.{Bool, true, false, _&&_}
-use mathlib.Core.List.{List, [], _∷_}
-use Prim.Native.Nat.{ℕ, zero, suc}
-use lib.IntN.{ℤ, pos, negsuc, sucℤ, predℤ}
-use lib.ListN.{take}
-use lib.Dec.{eqb}
-use Rattle.grid.specs.declared.Corner.{Corner}
-use Rattle.grid.specs.declared.Panel.{Panel}
+-- Corners, panels and steps (01, "Corners, panels and words"). A step is a digit: 0 east, 1 north, 2 west, 3 south. Assumes nothing.
+use Rattle.lists.specs.Lists.{Bool, false, _&&_, List, [], _∷_, take, ℕ, zero, suc, eqb, ℤ, pos, negsuc, sucℤ, predℤ}
+use Rattle.grid.specs.declared.{Corner.Corner, Panel.Panel}
 
 -- the corner with these coordinates
 abbrev pub corner : ℤ → ℤ → Corner
@@ -36,13 +29,6 @@ stepped zero c = corner (sucℤ (c .0)) (c .1)
 stepped (suc zero) c = corner (c .0) (sucℤ (c .1))
 stepped (suc (suc zero)) c = corner (predℤ (c .0)) (c .1)
 stepped (suc (suc (suc d))) c = corner (c .0) (predℤ (c .1))
-
--- the direction back
-abbrev pub back : ℕ → ℕ
-back zero = 2
-back (suc zero) = 3
-back (suc (suc zero)) = 0
-back (suc (suc (suc d))) = 1
 
 -- the corners p0 to pn of the walk of these steps from c
 abbrev pub cornersFrom : Corner → List ℕ → List Corner

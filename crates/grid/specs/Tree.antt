@@ -1,12 +1,6 @@
--- The tree over the corners: parent, ancestors, child index (01, "The tree").
--- Assumes nothing.
-use mathlib.Core.Path.{_≡_}
-use mathlib.Core.Bool.{Bool, true, false}
-use mathlib.Core.List.{List, [], _∷_, _++_}
-use Prim.Native.Nat.{ℕ, zero, suc, _+_, _*_, _/_, _%_}
-use lib.IntN.{ℤ, pos, negsuc, negℤ, natAbs}
-use Rattle.grid.specs.declared.Corner.{Corner}
-use Rattle.grid.specs.Grid.{corner, origin, same}
+-- The tree over the corners: parent, ancestors, child index (01, "The tree"). Assumes nothing.
+use Rattle.lists.specs.Lists.{_≡_, Bool, true, false, List, [], _∷_, _++_, ℕ, zero, suc, _+_, _*_, _/_, _%_, ℤ, pos, negsuc, negℤ, natAbs}
+use Rattle.grid.specs.{declared.Corner.Corner, Grid.corner, Grid.origin, Grid.same}
 
 -- half the magnitude, rounded down, with the sign kept
 abbrev pub halfOf : ℤ → ℤ

@@ -9,9 +9,10 @@ use lib.Signed.{_≤ℤ_, _<ℤ_, ≤ℤ-refl}
 use Rattle.grid.specs.declared.Corner.{Corner}
 use Rattle.grid.specs.Grid.{corner, origin}
 use Rattle.answer.specs.declared.Judged.the-variants as judged
+use Rattle.answer.specs.declared.Counted.{Counted}
 use Rattle.answer.specs.declared.Refusal.the-variants.{BadDigit, TooLong, HullRoom}
 use Rattle.hull.specs.Hull.{In, cross, Left, Begins, Exposed, HullIs}
-use Rattle.hull.specs.Call.{faultAt, faultFrom, hullJudged, countedOf, countedValues, bufferOf}
+use Rattle.hull.specs.Call.{faultAt, faultFrom, hullJudged, countedOf, bufferOf}
 
 -- three in a line do not turn left
 line-is-no-turn : ¬ Left origin (corner (pos 1) (pos 0)) (corner (pos 2) (pos 0))
@@ -73,7 +74,7 @@ room-of-two-numbers : hullJudged [] 2 1 ≡ judged.Good
 room-of-two-numbers = refl
 
 -- how many there are, and no refusal
-count-of-six : countedValues (countedOf judged.Good 6) ≡ (0, 0, 6)
+count-of-six : countedOf judged.Good 6 ≡ Counted.Corners 6
 count-of-six = refl
 
 -- numbers after the list stay

@@ -1,20 +1,8 @@
--- What the hull call answers, and what it leaves in the buffer (01, "What the calls take and give").
--- Assumes nothing.
-use mathlib.Core.Path.{_≡_}
-use mathlib.Core.List.{List, [], _∷_, _++_}
-use Prim.Native.Nat.{ℕ, suc, _*_}
-use lib.Dec.{ltb, eqb}
-use lib.IntN.{ℤ}
-use lib.ListN.{length, drop}
-use Rattle.grid.specs.declared.Corner.{Corner}
-use Rattle.grid.specs.Grid.{cornersFrom}
-use Rattle.answer.specs.declared.Judged.{Judged}
-use Rattle.answer.specs.declared.Judged.the-variants as judged
-use Rattle.answer.specs.declared.Counted.{Counted}
-use Rattle.answer.specs.declared.Counted.the-variants as counted
-use Rattle.answer.specs.declared.Refusal.the-variants.{TooMany, BadDigit, TooLong, HullRoom}
-use Rattle.answer.specs.Limits.{mostInput, mostSteps}
-use Rattle.answer.specs.Refusal.{when, orElse, firstOf, refusalNumber, refusalPlace}
+-- What the hull call answers, and what it leaves in the buffer (01, "What the calls take and give"). Assumes nothing.
+use Rattle.lists.specs.Lists.{_≡_, List, [], _∷_, _++_, length, drop, ℕ, suc, _*_, eqb, ltb, ℤ}
+use Rattle.grid.specs.{declared.Corner.Corner, Grid.cornersFrom}
+use Rattle.answer.specs.declared.{Judged.Judged, Judged.the-variants.Good, Judged.the-variants.Refused, Refusal.the-variants.TooMany, Refusal.the-variants.BadDigit, Refusal.the-variants.TooLong, Refusal.the-variants.HullRoom, Counted.Counted}
+use Rattle.answer.specs.{Limits.mostInput, Limits.mostSteps, Refusal.when, Refusal.orElse, Refusal.firstOf}
 use Rattle.hull.specs.Hull.{HullIs}
 
 -- at place i: 4 where the byte is above 3, otherwise 6 where its step would be the 16,385th
@@ -23,7 +11,7 @@ faultAt i d = orElse (when (ltb 3 d) (BadDigit i)) (when (eqb i mostSteps) (TooL
 
 -- the refusal at the first faulty place, where the first byte stands at place i
 abbrev pub faultFrom : ℕ → List ℕ → Judged
-faultFrom i [] = judged.Good
+faultFrom i [] = Good
 faultFrom i (d ∷ ds) = orElse (faultAt i d) (faultFrom (suc i) ds)
 
 -- 8 where the room is shorter than twice the hull corners
@@ -36,13 +24,8 @@ hullJudged chain room corners = firstOf (when (ltb mostInput (length chain)) Too
 
 -- how many corners there are, unless there is a refusal
 abbrev pub countedOf : Judged → ℕ → Counted
-countedOf judged.Good n = counted.Corners n
-countedOf (judged.Refused r) n = counted.Refused r
-
--- an answer as numbers: refusal, place, hull corners
-abbrev pub countedValues : Counted → ℕ × ℕ × ℕ
-countedValues (counted.Corners n) = (0, 0, n)
-countedValues (counted.Refused r) = (refusalNumber r, refusalPlace r, 0)
+countedOf Good n = Counted.Corners n
+countedOf (Refused r) n = Counted.Refused r
 
 -- x and y of each corner
 abbrev pub numbers : List Corner → List ℤ
@@ -51,8 +34,8 @@ numbers (c ∷ cs) = c .0 ∷ c .1 ∷ numbers cs
 
 -- the numbers of the list and then what stood after them, unless there is a refusal
 abbrev pub bufferOf : Judged → List Corner → List ℤ → List ℤ
-bufferOf judged.Good L before = numbers L ++ drop (2 * length L) before
-bufferOf (judged.Refused r) L before = before
+bufferOf Good L before = numbers L ++ drop (2 * length L) before
+bufferOf (Refused r) L before = before
 
 -- a call with this chain, from the corner s: `list` is the hull of the walk. A chain that has a digit above 3 is refused, whatever its list
 pub record HullCall (s : Corner) (chain : List ℕ) (before : List ℤ) (r : Counted) (after : List ℤ) : Type 0 where

@@ -1,13 +1,8 @@
 -- The convex hull of some corners (01, "What the calls take and give", Hull).
 -- L lists it when it begins at the lowest of the leftmost corners, holds exactly the exposed ones, each once, and any three in its
 -- order turn left: so no three are in a line and the order is counterclockwise. There is no case apart: one corner gives one, and
--- corners along one line give their two outermost.
--- Assumes nothing.
-use mathlib.Core.Path.{_≡_}
-use mathlib.Core.List.{List, [], _∷_}
-use mathlib.Core.Logic.{_⊎_, _↔_}
-use lib.IntN.{ℤ, pos, negsuc, _+ℤ_, _-ℤ_, _*ℤ_}
-use lib.Signed.{_≤ℤ_, _<ℤ_}
+-- corners along one line give their two outermost. Assumes nothing.
+use Rattle.lists.specs.Lists.{_≡_, List, [], _∷_, _⊎_, _↔_, ℤ, pos, _+ℤ_, _-ℤ_, _*ℤ_, _≤ℤ_, _<ℤ_}
 use Rattle.grid.specs.declared.Corner.{Corner}
 
 -- c is one of the list

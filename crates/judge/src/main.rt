@@ -1,11 +1,11 @@
 // The line program: standard input to standard output.
 use libc::STDIN_FILENO;
 use libc::STDOUT_FILENO;
-use lines::feed::Progress;
+use lines::Progress;
 ghost use mathlib.Core.Path.{_≡_};
 ghost use Prim.Native.Nat.{_<_, _≤_};
 ghost use lib.ListN.{length};
-ghost use Rattle.frame.specs.Line.{mostAnswer};
+ghost use Rattle.feed.specs.Feed.{mostAnswer};
 ghost use Rattle.judge.specs.Turn.{heldBy};
 
 // After a turn: so many bytes of a line are held, or the input ended with so many held, or a call failed.
@@ -27,7 +27,7 @@ fn pass(line: &mut [u8], held: usize, s: &[u8], out: &mut [u8]) -> Turn
         used: 0,
     };
     while p.at < s.len() {
-        p = lines::feed::fill(line, p.held, s, p.at, out);
+        p = lines::fill(line, p.held, s, p.at, out);
         let used = p.used;
         if !io::write_all(STDOUT_FILENO, &out[..used]) {
             return Turn::Failed;
@@ -58,7 +58,7 @@ fn close(line: &[u8], held: usize, out: &mut [u8])
     requires { ⌜ (held ≤ 1031) × (length (now line) ≡ 1031) ⌝ }
     requires { ⌜ mostAnswer ≤ length (now out) ⌝ }
 {
-    let used = lines::feed::finish(line, held, out);
+    let used = lines::finish(line, held, out);
     io::write_all(STDOUT_FILENO, &out[..used]);
 }
 

@@ -1,11 +1,6 @@
--- The marks after each operation, and the chain of surviving steps (01, "What the calls take and give").
--- Assumes nothing.
-use mathlib.Core.List.{List, [], _∷_, _++_}
-use Prim.Native.Nat.{ℕ, _-_}
-use lib.ListN.{length, replicate}
-use Rattle.lists.specs.Lists.{count}
-use Rattle.grid.specs.declared.Corner.{Corner}
-use Rattle.grid.specs.Grid.{same, cornersFrom, endFrom}
+-- The marks after each operation, and the chain of surviving steps (01, "What the calls take and give"). Assumes nothing.
+use Rattle.lists.specs.Lists.{List, [], _∷_, _++_, length, replicate, ℕ, _-_, count}
+use Rattle.grid.specs.{declared.Corner.Corner, Grid.same, Grid.cornersFrom, Grid.endFrom}
 use Rattle.word.specs.Operations.{operate, survivors}
 use Rattle.tree.specs.Nodes.{nodesOf}
 

@@ -1,26 +1,11 @@
--- The words of a record, and the table (01, "The tree").
--- Assumes nothing.
-use mathlib.Core.Bool.{cond, not, _&&_}
-use mathlib.Core.List.{List, [], _∷_, _++_}
-use Prim.Native.Nat.{ℕ, zero, suc, _+_, _-_, _*_}
-use lib.ListN.{length, replicate}
-use lib.Dec.{eqb}
-use Rattle.lists.specs.Lists.{find, count}
-use Rattle.grid.specs.declared.Corner.{Corner}
-use Rattle.grid.specs.Grid.{same, stepped, cornersFrom}
-use Rattle.grid.specs.Tree.{parentOf, isRoot, childWord}
+-- The words of a record, and the table (01, "The tree"). Assumes nothing.
+use Rattle.lists.specs.Lists.{cond, not, _&&_, List, [], _∷_, _++_, length, replicate, ℕ, zero, suc, _+_, _-_, _*_, eqb, find, count}
+use Rattle.grid.specs.{declared.Corner.Corner, Grid.same, Grid.stepped, Grid.cornersFrom, Tree.parentOf, Tree.isRoot, Tree.childWord}
 use Rattle.tree.specs.Nodes.{nodesOf, refOf, needOf, linkStepOf}
 
--- words of a record that all walks in a table share, and words of each walk
-abbrev pub sharedWords : ℕ
-sharedWords = 14
-
-abbrev pub ownWords : ℕ
-ownWords = 7
-
--- words of a record that m walks share
+-- words of a record: 14 that all walks in a table share, and 7 of each of m walks
 abbrev pub recordWords : ℕ → ℕ
-recordWords m = sharedWords + m * ownWords
+recordWords m = 14 + m * 7
 
 -- the ref of the child of a that stands in word w
 abbrev pub childRefOf : List Corner → Corner → ℕ → ℕ

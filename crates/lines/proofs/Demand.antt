@@ -6,8 +6,8 @@ use Prim.Native.Nat.{ℕ, _+_, _-_, _<_, _≤_}
 use native.Mathlib.Omega.{arith}
 use lib.ListN.{length, take, drop, length-drop, take-append-drop}
 use lib.Seq.{length-take-le}
-use Rattle.frame.specs.Feed.{toldOf}
-use Rattle.lines.specs.declared.feed.Progress.{Progress}
+use Rattle.feed.specs.Feed.{toldOf}
+use Rattle.lines.specs.declared.Progress.{Progress}
 use Rattle.lines.specs.Fed.{FedLine, Filled, Block}
 
 progress-one : (r r′ : Progress) → r .held ≡ r′ .held → r .at ≡ r′ .at → r .used ≡ r′ .used → r ≡ r′

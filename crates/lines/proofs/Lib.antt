@@ -1,6 +1,4 @@
 -- The laws that the proofs of lines cite.
 pub mod FeedSteps
 pub mod CallSteps
-pub mod HullSteps
-pub mod ReplySteps
 pub mod Demand

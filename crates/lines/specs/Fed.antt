@@ -7,10 +7,10 @@ use mathlib.Core.Logic.{_⊎_}
 use Prim.Native.Nat.{ℕ, zero, suc, _+_, _-_, _<_, _≤_}
 use lib.ListN.{length, take, drop}
 use lib.Dec.{eqb, ltb, leb}
-use Rattle.frame.specs.Line.{mostAnswer}
-use Rattle.frame.specs.Feed.{lineLength, hasFeed, keptOf, passedOf, toldOf, heldOf, Fed}
-use Rattle.frame.specs.Put.{put, Wrote}
-use Rattle.lines.specs.declared.feed.Progress.{Progress}
+use Rattle.feed.specs.Feed.{mostAnswer}
+use Rattle.feed.specs.Feed.{lineLength, hasFeed, keptOf, passedOf, toldOf, heldOf, Fed}
+use Rattle.fields.specs.Put.{put, Wrote}
+use Rattle.lines.specs.declared.Progress.{Progress}
 
 -- a whole line of the chunk is answered where it stands; any other is put together in the buffer
 abbrev pub lineAfter : List ℕ → ℕ → List ℕ → List ℕ

@@ -7,7 +7,7 @@ use mathlib.Core.Path.{_≡_, refl, ap, ap₂, sym, _∙_}
 use Prim.Native.Nat.{ℕ, zero, suc, _+_, _<_, _≤_}
 use native.Mathlib.Omega.{arith}
 use lib.ListN.{length, getD}
-use Rattle.lists.specs.Lists.{any, find, place, count, tally, later}
+use Rattle.lists.specs.Lists.{any, find, place, count, tally}
 use Rattle.lists.proofs.GatherLaws.{Distinct, or-cases, or-right}
 
 place-cases : (b : Bool) (n : ℕ) → place b n ≤ suc n
@@ -58,47 +58,7 @@ pub distinct-split : {A : Type 0} (s t : List A) (c : A) → Distinct (s ++ (c �
 distinct-split (x ∷ s) t c d (List·Memᴰ·head e) = d .0 (Memᴰ·append-right s (List·Memᴰ·head (sym e)))
 distinct-split (x ∷ s) t c d (List·Memᴰ·tail m) = distinct-split s t c (d .1) m
 
-pub later-old : (n : ℕ) (b : Bool) (s : ℕ) → 0 < n → later n b s ≡ n
-later-old zero b s h = absurd (omega arith)
-later-old (suc n) b s h = refl
-
-pub later-new : (n : ℕ) (b : Bool) (s : ℕ) → n ≡ 0 → b ≡ true → later n b s ≡ s
-later-new n b s e f = rw (e, f)
-
-pub later-none : (n : ℕ) (b : Bool) (s : ℕ) → b ≡ false → later n b s ≡ n
-later-none zero b s f = rw f
-later-none (suc n) b s f = refl
-
-pub later-pos : (n : ℕ) (b : Bool) (s : ℕ) → 0 < later n b s → (0 < n) ⊎ (b ≡ true)
-later-pos zero true s h = inr refl
-later-pos zero false s h = inl h
-later-pos (suc n) b s h = inl (omega arith)
-
--- one that is set in two goes
-pub later-or : (n : ℕ) (a b : Bool) (s : ℕ) → later n (a || b) s ≡ later (later n b s) a s
-later-or zero true true zero = refl
-later-or zero true true (suc s) = refl
-later-or zero true false s = refl
-later-or zero false true zero = refl
-later-or zero false true (suc s) = refl
-later-or zero false false s = refl
-later-or (suc n) a b s = refl
-
-place-later : (b c : Bool) (n m : ℕ) → place b (later n c (suc m)) ≡ later (place b n) c (suc (suc m))
-place-later true c n m = refl
-place-later false true zero m = refl
-place-later false false zero m = refl
-place-later false c (suc n) m = refl
-
 module _ {A : Type 0} (f : A → Bool) where
-  pub find-snoc : (l : List A) (x : A) → find f (l ++ (x ∷ [])) ≡ later (find f l) (f x) (suc (length l))
-  find-snoc [] x = go (f x)
-    where
-      go : (b : Bool) → place b 0 ≡ later 0 b 1
-      go true = refl
-      go false = refl
-  find-snoc (y ∷ l) x = ap (place (f y)) (find-snoc l x) ∙ place-later (f y) (f x) (find f l) (length l)
-
   pub count-snoc : (l : List A) (x : A) → count f (l ++ (x ∷ [])) ≡ count f l + tally (f x)
   count-snoc [] x = omega arith
   count-snoc (y ∷ l) x = omega (arith, count-snoc l x)

@@ -4,9 +4,14 @@ use mathlib.Core.Bool.{Bool, true, false, not, _||_}
 use mathlib.Core.List.{List, [], _∷_, _++_, append-nil, append-assoc, List·Memᴰ, List·Memᴰ·head, List·Memᴰ·tail, Memᴰ·cast}
 use mathlib.Core.Logic.{⊎-elim}
 use mathlib.Core.Path.{_≡_, refl, ap, sym, _∙_}
-use Rattle.lists.specs.Lists.{any, gather, keep, Distinct}
+use Rattle.lists.specs.Lists.{any, gather, Distinct}
 use Rattle.lists.proofs.FindLaws.{any-append}
 use Rattle.lists.proofs.GatherLaws.{add-cases}
+
+-- the elements that pass, in order
+abbrev pub keep : {A : Type 0} → (A → Bool) → List A → List A
+keep f [] = []
+keep f (x ∷ xs) = elim (f x) [ true ↦ x ∷ keep f xs | false ↦ keep f xs ]
 
 -- two tests that agree on the elements keep the same
 pub keep-cong : {A : Type 0} (f g : A → Bool) (l : List A) → ((x : A) → List·Memᴰ x l → f x ≡ g x) → keep f l ≡ keep g l

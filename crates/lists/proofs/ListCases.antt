@@ -1,11 +1,10 @@
--- First places, counts, gathered lists and numbers that are set once, computed.
+-- First places, counts and gathered lists, computed.
 -- Assumes nothing.
-use mathlib.Core.Bool.{true, false}
 use mathlib.Core.List.{[], _∷_}
 use mathlib.Core.Path.{_≡_, refl}
 use Prim.Native.Nat.{ℕ}
 use lib.Dec.{eqb}
-use Rattle.lists.specs.Lists.{later, find, count, gather, zip, front}
+use Rattle.lists.specs.Lists.{find, count, gather, zip, front}
 
 -- the first of two places, not the last
 first-of-two : find (eqb 7) (5 ∷ 7 ∷ 7 ∷ []) ≡ 2
@@ -27,13 +26,3 @@ shorter-of-two = refl
 
 last-one-off : front {A = ℕ} (1 ∷ 2 ∷ 3 ∷ []) ≡ 1 ∷ 2 ∷ []
 last-one-off = refl
-
--- a number that was set stays
-set-before : later 1 true 3 ≡ 1
-set-before = refl
-
-set-now : later 0 true 3 ≡ 3
-set-now = refl
-
-not-set : later 0 false 3 ≡ 0
-not-set = refl

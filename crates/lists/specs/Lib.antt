@@ -1,2 +1,2 @@
--- Words about lists.
+-- The library's words, and words about lists.
 pub mod Lists

@@ -1,8 +1,14 @@
--- Lists over a type with a Boolean test of equality: membership, first place, count, and the list without repeats.
--- Assumes nothing.
-use mathlib.Core.Bool.{Bool, true, false, _&&_, _||_}
-use mathlib.Core.List.{List, [], _∷_, _++_, List·Memᴰ}
-use Prim.Native.Nat.{ℕ, zero, suc, _+_, _<_}
+-- The library's words that the definitions use, passed on: they mean what the library says. Then words about lists over a type with a
+-- Boolean test of equality: membership, first place, count, and the list without repeats. Assumes nothing.
+pub use mathlib.Core.Path.{_≡_}
+pub use mathlib.Core.Bool.{Bool, true, false, cond, not, _&&_, _||_}
+pub use mathlib.Core.List.{List, [], _∷_, _++_, List·Memᴰ}
+pub use mathlib.Core.Logic.{_⊎_, _↔_}
+pub use Prim.Native.Nat.{ℕ, zero, suc, pred, _+_, _-_, _*_, _/_, _%_, _^_, _<_, _≤_}
+pub use lib.IntN.{ℤ, pos, negsuc, sucℤ, predℤ, negℤ, natAbs, _+ℤ_, _-ℤ_, _*ℤ_}
+pub use lib.Signed.{_≤ℤ_, _<ℤ_}
+pub use lib.ListN.{length, take, drop, replicate, getD}
+pub use lib.Dec.{eqb, ltb, leb}
 
 -- 1 for a test that passes
 abbrev pub tally : Bool → ℕ
@@ -15,22 +21,11 @@ place true n = 1
 place false zero = 0
 place false (suc n) = suc (suc n)
 
--- a number that is set once: what it was, or else s if the test passes
-abbrev pub later : ℕ → Bool → ℕ → ℕ
-later zero true s = s
-later zero false s = 0
-later (suc n) b s = suc n
-
 module _ {A : Type 0} where
   -- some element passes the test
   abbrev pub any : (A → Bool) → List A → Bool
   any f [] = false
   any f (x ∷ xs) = f x || any f xs
-
-  -- every element passes the test
-  abbrev pub all : (A → Bool) → List A → Bool
-  all f [] = true
-  all f (x ∷ xs) = f x && all f xs
 
   -- 1 + the place of the first element that passes; 0 if none does
   abbrev pub find : (A → Bool) → List A → ℕ
@@ -41,11 +36,6 @@ module _ {A : Type 0} where
   abbrev pub count : (A → Bool) → List A → ℕ
   count f [] = 0
   count f (x ∷ xs) = tally (f x) + count f xs
-
-  -- the elements that pass, in order
-  abbrev pub keep : (A → Bool) → List A → List A
-  keep f [] = []
-  keep f (x ∷ xs) = elim (f x) [ true ↦ x ∷ keep f xs | false ↦ keep f xs ]
 
   -- the list, with x at its end unless the test says that it is there already
   abbrev pub unless : Bool → List A → A → List A

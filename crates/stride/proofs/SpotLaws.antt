@@ -7,7 +7,7 @@ use Prim.Native.Nat.{ℕ, suc, _+_, _-_, _*_, _%_, _<_, _≤_}
 use native.Mathlib.Omega.{arith}
 use lib.ListN.{length, length-append, getD}
 use Rattle.grid.specs.declared.Corner.{Corner}
-use Rattle.grid.specs.Grid.{same, stepped, cornersFrom, endFrom, back}
+use Rattle.grid.specs.Grid.{same, stepped, cornersFrom, endFrom}
 use Rattle.grid.specs.Tree.{pathOf}
 use Rattle.layout.specs.Table.{tableOf}
 use Rattle.lists.specs.Lists.{count, tally, gather}
@@ -16,7 +16,7 @@ use Rattle.table_laws.specs.Model.{visitIn, unvisitIn}
 use Rattle.tree.specs.Nodes.{nodesOf, refOf}
 use Rattle.tree_laws.specs.State.{State, stateOf, reached, unlinking, tableBy, Made, Holds, Stood}
 use Rattle.grid.proofs.CornerLaws.{same-refl}
-use Rattle.grid.proofs.StepLaws.{back-mod, stepped-back, length-cornersFrom, endFrom-snoc}
+use Rattle.grid.proofs.StepLaws.{back, back-mod, stepped-back, length-cornersFrom, endFrom-snoc}
 use Rattle.table_laws.proofs.Cites.{stood, ref-below, made-holds}
 use Rattle.table_laws.proofs.LookupLaws.{length-table}
 use Rattle.table_laws.proofs.RowLaws.{table-state}

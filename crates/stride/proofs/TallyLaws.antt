@@ -10,10 +10,10 @@ use lib.Dec.{eqb}
 use lib.ListN.{length, length-append, getD}
 use Rattle.grid.specs.declared.Corner.{Corner}
 use Rattle.grid.specs.Grid.{same, stepped, cornersFrom, endFrom}
-use Rattle.lists.specs.Lists.{find, count, tally, later}
+use Rattle.lists.specs.Lists.{find, count, tally}
 use Rattle.trace.specs.Meeting.{Meeting, none, meet, meetingOf, visitedOf}
 use Rattle.tree.specs.Nodes.{nodesOf}
-use Rattle.tree_laws.specs.State.{stateOf}
+use Rattle.tree_laws.specs.State.{later, stateOf}
 use Rattle.grid.proofs.CornerLaws.{same-refl}
 use Rattle.grid.proofs.StepLaws.{endFrom-snoc}
 use Rattle.table_laws.proofs.Cites.{ref-below}

@@ -12,9 +12,9 @@ use Rattle.grid.specs.declared.Corner.{Corner}
 use Rattle.grid.specs.Grid.{origin, same, stepped, cornersFrom, endFrom}
 use Rattle.grid.specs.Tree.{parentOf, isRoot, pathOf, childWord}
 use Rattle.layout.specs.Table.{childRefOf, tableOf}
-use Rattle.lists.specs.Lists.{any, add, gather, later}
+use Rattle.lists.specs.Lists.{any, add, gather}
 use Rattle.tree.specs.Nodes.{links, refOf}
-use Rattle.tree_laws.specs.State.{linked, put, Good, State, stateOf, needed, reached, visitedBy, withNode, withLink, grown, raised, unlinking, Alike, Sound, tableBy}
+use Rattle.tree_laws.specs.State.{later, linked, put, Good, State, stateOf, needed, reached, visitedBy, withNode, withLink, grown, raised, unlinking, Alike, Sound, tableBy}
 use Rattle.grid.proofs.CornerLaws.{same-refl, same-sound}
 use Rattle.layout.proofs.ChildLaws.{child-ref}
 use Rattle.lists.proofs.GatherLaws.{gather-more, add-cases, any→mem, mem→any, not-mem, distinct-gather, mem-gather-left, mem-gather-right, mem-gather-cases}

@@ -11,7 +11,7 @@ use lib.Dec.{eqb}
 use lib.ListN.{length, length-set, getD, set, replicate}
 use lib.Seq.{sets, set-set, set-getD, getD-set-other}
 use Rattle.grid.specs.declared.Corner.{Corner}
-use Rattle.grid.specs.Grid.{same, stepped, back}
+use Rattle.grid.specs.Grid.{same, stepped}
 use Rattle.grid.specs.Tree.{parentOf, isRoot, childWord}
 use Rattle.layout.specs.Table.{childRefOf}
 use Rattle.lists.specs.Lists.{tally, Distinct}
@@ -19,8 +19,8 @@ use Rattle.tree.specs.Nodes.{joins, refOf}
 use Rattle.tree_laws.specs.State.{put, State, withLink, withNode, visitedBy, Alike, Sound, neighbourBy, recordBy, rowsOf, filled, tableBy}
 use Rattle.grid.proofs.ChildLaws.{slot-small}
 use Rattle.grid.proofs.CornerLaws.{same-refl, same-sound}
-use Rattle.grid.proofs.StepLaws.{back-mod, back-small, stepped-back, stepped-ne}
-use Rattle.lists.proofs.FindLaws.{later-none}
+use Rattle.grid.proofs.StepLaws.{back, back-mod, back-small, stepped-back, stepped-ne}
+use Rattle.tree_laws.proofs.LaterLaws.{later-none}
 use Rattle.lists.proofs.GatherLaws.{distinct-snoc}
 use Rattle.tree.proofs.JoinLaws.{joins-here, joins-there, joins-stepped}
 use Rattle.tree_laws.proofs.AddLaws.{ref-append, ref-snoc, child-other, child-before, child-snoc, child-new, parent-ne}

@@ -10,7 +10,7 @@ use lib.Dec.{eqb}
 use lib.ListN.{length, length-append, getD, set, replicate}
 use lib.Seq.{sets}
 use Rattle.grid.specs.declared.Corner.{Corner}
-use Rattle.grid.specs.Grid.{origin, same, stepped, cornersFrom, endFrom, back}
+use Rattle.grid.specs.Grid.{origin, same, stepped, cornersFrom, endFrom}
 use Rattle.grid.specs.Tree.{parentOf, isRoot, sizeOf, pathOf, childWord}
 use Rattle.layout.specs.Table.{tableOf}
 use Rattle.lists.specs.Lists.{gather, Distinct}
@@ -18,7 +18,7 @@ use Rattle.tree.specs.Nodes.{nodesOf, refOf}
 use Rattle.tree_laws.specs.State.{linked, put, State, stateOf, needed, reached, visitedBy, unlinking, Alike, Sound, tableBy, Made}
 use Rattle.grid.proofs.CornerLaws.{same-refl, same-sound}
 use Rattle.grid.proofs.PathLaws.{sizeOf-parentOf}
-use Rattle.grid.proofs.StepLaws.{stepped-back, back-small, endFrom-snoc}
+use Rattle.grid.proofs.StepLaws.{back, stepped-back, back-small, endFrom-snoc}
 use Rattle.lists.proofs.GatherLaws.{gather-more, distinct-gather, mem-gather-right}
 use Rattle.tree.proofs.NodeLaws.{mem-path}
 use Rattle.tree_laws.proofs.AddLaws.{ref-pos, ref-append, ref-snoc}

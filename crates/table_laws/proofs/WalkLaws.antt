@@ -9,13 +9,13 @@ use borrow.Author.Tests.{ltb-true, ltb-false}
 use lib.Dec.{ltb}
 use lib.ListN.{length, getD}
 use Rattle.grid.specs.declared.Corner.{Corner}
-use Rattle.grid.specs.Grid.{same, stepped, cornersFrom, endFrom, back}
+use Rattle.grid.specs.Grid.{same, stepped, cornersFrom, endFrom}
 use Rattle.grid.specs.Tree.{pathOf}
 use Rattle.layout.specs.Table.{tableOf}
 use Rattle.lists.specs.Lists.{gather}
 use Rattle.tree.specs.Nodes.{nodesOf, refOf}
 use Rattle.tree_laws.specs.State.{State, stateOf, linked, reached, unlinking, tableBy, Made, Holds}
-use Rattle.grid.proofs.StepLaws.{endFrom-snoc}
+use Rattle.grid.proofs.StepLaws.{back, endFrom-snoc}
 use Rattle.lists.proofs.GatherLaws.{gather-more}
 use Rattle.tree_laws.proofs.AddLaws.{ref-pos, ref-append}
 use Rattle.tree_laws.proofs.PopLaws.{unlink-start}

@@ -1,6 +1,6 @@
 -- The verdicts: the one given says what holds of the walk, and no other does.
 -- Assumes nothing.
-use mathlib.Core.Bool.{Bool, true, false, true≢false}
+use mathlib.Core.Bool.{Bool, true, false, cond, true≢false}
 use mathlib.Core.List.{List}
 use mathlib.Core.Path.{_≡_, refl, ap, sym, _∙_, subst}
 use Prim.Native.Nat.{ℕ, zero, suc, _<_}
@@ -20,7 +20,7 @@ use Rattle.grid.proofs.StepLaws.{cornerAt-end}
 use Rattle.word.specs.Turns.{turnsOf, stepsOf}
 use Rattle.word.proofs.TurnLaws.{stepsOf-turnsOf}
 use Rattle.trace.specs.Meeting.{Meets, FirstMeets, Meeting, none, meet, meetingOf}
-use Rattle.trace.specs.Verdict.{onlyEnds, closedBy, verdictBy, verdictOf, sweepFrom, areaBy, areaOf, IsRoom, VerdictSays}
+use Rattle.trace.specs.Verdict.{onlyEnds, verdictBy, verdictOf, sweepFrom, areaBy, areaOf, IsRoom, VerdictSays}
 use Rattle.trace.proofs.MeetingLaws.{firstMeets-only, meetingOf-meets, meetingOf-none, meets-meetingOf, none-meetingOf}
 
 -- whether the first meeting is (0,n)
@@ -44,11 +44,11 @@ module _ (c : Corner) (ds : List ℕ) where
   first-ends : (j k : ℕ) → j ≡ 0 → k ≡ length ds → FirstMeets c ds j k → FirstMeets c ds 0 (length ds)
   first-ends j k p q f = subst (λ (i : ℕ). FirstMeets c ds i (length ds)) p (subst (λ (m : ℕ). FirstMeets c ds j m) q f)
 
-  closed-says : (n : ℕ) → length ds ≡ suc n → endFrom c ds ≡ c → (m : Meeting) → meetingOf c ds ≡ m → VerdictSays c ds (closedBy (onlyEnds (suc n) m))
+  closed-says : (n : ℕ) → length ds ≡ suc n → endFrom c ds ≡ c → (m : Meeting) → meetingOf c ds ≡ m → VerdictSays c ds (cond (onlyEnds (suc n) m) Room ClosedMeeting)
   closed-says n l e none p = absurd (meetingOf-none c ds p 0 (length ds) (ends-meet (omega arith) e))
   closed-says n l e (meet j k) p = by (onlyEnds (suc n) (meet j k)) refl
     where
-      by : (b : Bool) → onlyEnds (suc n) (meet j k) ≡ b → VerdictSays c ds (closedBy b)
+      by : (b : Bool) → onlyEnds (suc n) (meet j k) ≡ b → VerdictSays c ds (cond b Room ClosedMeeting)
       by true q =
           let h = onlyEnds-true (suc n) j k q in
           record { some = omega arith; closed = e; only = ends-only (first-ends j k (h .0) (h .1 ∙ sym l) (meetingOf-meets c ds j k p)) }
@@ -88,7 +88,7 @@ module _ (c : Corner) (ds : List ℕ) where
   room-verdict : (n : ℕ) → length ds ≡ suc n → IsRoom c ds → verdictOf c ds ≡ Room
   room-verdict n l r =
       by-parts n true (meet 0 (length ds)) l (closed-walk (r .closed)) (meets-meetingOf c ds 0 (length ds) (room-first r))
-      ∙ ap closedBy (eq-eqb (length ds) (suc n) l)
+      ∙ ap (λ (b : Bool). cond b Room ClosedMeeting) (eq-eqb (length ds) (suc n) l)
 
   open-verdict : (n : ℕ) → length ds ≡ suc n → VerdictSays c ds OpenMeeting → verdictOf c ds ≡ OpenMeeting
   open-verdict n l x = by (meetingOf c ds) refl
@@ -108,7 +108,7 @@ module _ (c : Corner) (ds : List ℕ) where
           ends true q =
               let h = onlyEnds-true (suc n) j k q in
               absurd (x .2 .3 (ends-only (first-ends j k (h .0) (h .1 ∙ sym l) (meetingOf-meets c ds j k p)) (x .2 .0) (x .2 .1) (x .2 .2)))
-          ends false q = by-parts n true (meet j k) l (closed-walk (x .1)) p ∙ ap closedBy q
+          ends false q = by-parts n true (meet j k) l (closed-walk (x .1)) p ∙ ap (λ (b : Bool). cond b Room ClosedMeeting) q
 
   -- a verdict that says what holds is the one
   pub says-verdict : (v : Verdict) → VerdictSays c ds v → verdictOf c ds ≡ v

@@ -1,13 +1,7 @@
--- Meetings of two visits, and the different corners (01, "Corners, panels and words").
--- Assumes nothing.
-use mathlib.Core.Path.{_≡_}
-use mathlib.Core.List.{List, [], _∷_, _++_}
-use Prim.Native.Nat.{ℕ, zero, suc, _<_, _≤_}
-use lib.ListN.{length}
-use Rattle.lists.specs.Lists.{find, gather}
+-- Meetings of two visits, and the different corners (01, "Corners, panels and words"). Assumes nothing.
+use Rattle.lists.specs.Lists.{_≡_, List, [], _∷_, _++_, length, ℕ, zero, suc, _<_, _≤_, find, gather}
 use Rattle.answer.specs.Limits.{noMeeting}
-use Rattle.grid.specs.declared.Corner.{Corner}
-use Rattle.grid.specs.Grid.{same, cornersFrom, cornerAt}
+use Rattle.grid.specs.{declared.Corner.Corner, Grid.same, Grid.cornersFrom, Grid.cornerAt}
 
 -- j < k with pj = pk
 pub record Meets (c : Corner) (ds : List ℕ) (j k : ℕ) : Type 0 where

@@ -1,16 +1,8 @@
--- The verdict on a walk, and the signed area of a room (01, "Corners, panels and words").
--- Assumes nothing.
-use mathlib.Core.Path.{_≡_}
-use mathlib.Core.Bool.{Bool, true, false, _&&_}
-use mathlib.Core.List.{List, [], _∷_}
-use Prim.Native.Nat.{ℕ, zero, suc, _<_}
-use lib.IntN.{ℤ, pos, _+ℤ_, _-ℤ_, _*ℤ_}
-use lib.ListN.{length}
-use lib.Dec.{eqb}
-use Rattle.answer.specs.declared.Verdict.{Verdict}
-use Rattle.answer.specs.declared.Verdict.the-variants.{Nowhere, Open, Room, OpenMeeting, ClosedMeeting}
-use Rattle.grid.specs.declared.Corner.{Corner}
-use Rattle.grid.specs.Grid.{same, stepped, endFrom}
+-- The verdict on a walk, and the signed area of a room (01, "Corners, panels and words"). Assumes nothing.
+use Rattle.lists.specs.Lists.{_≡_, Bool, true, false, cond, _&&_, List, [], _∷_, length, ℕ, zero, suc, _<_, eqb, ℤ, pos, _+ℤ_, _-ℤ_, _*ℤ_}
+use Rattle.answer.specs.declared.Verdict.{Verdict, the-variants.Nowhere, the-variants.Open, the-variants.Room, the-variants.OpenMeeting, the-variants.ClosedMeeting}
+use Rattle.answer.specs.Refusal.{verdictNumber}
+use Rattle.grid.specs.{declared.Corner.Corner, Grid.same, Grid.stepped, Grid.endFrom}
 use Rattle.trace.specs.Meeting.{Meets, Meeting, none, meet, meetingOf}
 
 -- the first meeting is (0,n)
@@ -18,17 +10,12 @@ abbrev pub onlyEnds : ℕ → Meeting → Bool
 onlyEnds n none = false
 onlyEnds n (meet j k) = eqb j 0 && eqb k n
 
--- of a closed walk: no meeting but (0,n), or another
-abbrev pub closedBy : Bool → Verdict
-closedBy true = Room
-closedBy false = ClosedMeeting
-
--- by the number of steps, whether the walk is closed, and its first meeting
+-- by the number of steps, whether the walk is closed, and its first meeting: a closed one with no meeting but (0,n) is a room
 abbrev pub verdictBy : ℕ → Bool → Meeting → Verdict
 verdictBy zero closed m = Nowhere
 verdictBy (suc n) false none = Open
 verdictBy (suc n) false (meet j k) = OpenMeeting
-verdictBy (suc n) true m = closedBy (onlyEnds (suc n) m)
+verdictBy (suc n) true m = cond (onlyEnds (suc n) m) Room ClosedMeeting
 
 abbrev pub verdictOf : Corner → List ℕ → Verdict
 verdictOf c ds = verdictBy (length ds) (same (endFrom c ds) c) (meetingOf c ds)
@@ -52,13 +39,9 @@ abbrev pub sweepFrom : Corner → List ℕ → ℤ
 sweepFrom c [] = pos 0
 sweepFrom c (d ∷ ds) = c .0 *ℤ (stepped d c .1 -ℤ c .1) +ℤ sweepFrom (stepped d c) ds
 
--- of a room; for other verdicts it is 0
+-- of a room, verdict 2; for other verdicts it is 0
 abbrev pub areaBy : Verdict → ℤ → ℤ
-areaBy Nowhere z = pos 0
-areaBy Open z = pos 0
-areaBy Room z = z
-areaBy OpenMeeting z = pos 0
-areaBy ClosedMeeting z = pos 0
+areaBy v z = cond (eqb (verdictNumber v) 2) z (pos 0)
 
 -- the signed area
 abbrev pub areaOf : Corner → List ℕ → ℤ

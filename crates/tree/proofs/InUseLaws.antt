@@ -6,10 +6,10 @@ use mathlib.Core.List.{List, [], _∷_, _++_, List·Memᴰ, List·Memᴰ·not-ni
 use mathlib.Core.Logic.{⊎-elim}
 use mathlib.Core.Path.{_≡_, refl, ap, _∙_}
 use Prim.Native.Nat.{suc, _<_}
-use Rattle.lists.specs.Lists.{any, gather, keep}
+use Rattle.lists.specs.Lists.{any, gather}
 use Rattle.lists.proofs.FindLaws.{find-pos}
 use Rattle.lists.proofs.GatherLaws.{gather-more, mem→any, mem-gather-right, mem-gather-cases}
-use Rattle.lists.proofs.KeepLaws.{gather-keep}
+use Rattle.lists.proofs.KeepLaws.{keep, gather-keep}
 use Rattle.grid.specs.declared.Corner.{Corner}
 use Rattle.grid.specs.Grid.{origin, same}
 use Rattle.grid.specs.Tree.{parentOf, isRoot, pathOf}

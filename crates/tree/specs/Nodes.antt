@@ -1,14 +1,6 @@
--- The nodes in use in their order, and the links between them (01, "The tree"). ps are the corners p0 to pn.
--- Assumes nothing.
-use mathlib.Core.Bool.{Bool, _&&_, _||_}
-use mathlib.Core.List.{List, [], _∷_, _++_, List·Memᴰ}
-use mathlib.Core.Logic.{_⊎_}
-use Prim.Native.Nat.{ℕ, _<_, pred}
-use lib.ListN.{length, getD}
-use Rattle.lists.specs.Lists.{any, find, gather, zip}
-use Rattle.grid.specs.declared.Corner.{Corner}
-use Rattle.grid.specs.Grid.{origin, same, stepped}
-use Rattle.grid.specs.Tree.{AncestorAt, lineageOf, pathOf}
+-- The nodes in use in their order, and the links between them (01, "The tree"). ps are the corners p0 to pn. Assumes nothing.
+use Rattle.lists.specs.Lists.{Bool, _&&_, _||_, List, [], _∷_, _++_, List·Memᴰ, length, getD, _⊎_, ℕ, pred, _<_, any, find, gather, zip}
+use Rattle.grid.specs.{declared.Corner.Corner, Grid.origin, Grid.same, Grid.stepped, Tree.AncestorAt, Tree.lineageOf, Tree.pathOf}
 
 -- the paths of a list of corners, each from the root, one after the other
 abbrev pub pathsOf : List Corner → List Corner

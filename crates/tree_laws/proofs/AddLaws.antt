@@ -18,10 +18,11 @@ use Rattle.tree.specs.Nodes.{refOf}
 use Rattle.grid.proofs.CornerLaws.{same-refl, same-sound}
 use Rattle.grid.proofs.PathLaws.{sizeOf-parentOf, pathOf-root, pathOf-snoc, tree-ind}
 use Rattle.layout.proofs.ChildLaws.{child-ref}
-use Rattle.lists.proofs.FindLaws.{find-pos, find-left, later-new, later-none, find-snoc, find-none, any-append, any-some}
+use Rattle.lists.proofs.FindLaws.{find-pos, find-left, find-none, any-append, any-some}
 use Rattle.lists.proofs.GatherLaws.{and-left, and-right, add-cases, any→mem, mem→any, not-mem}
 use Rattle.tree.proofs.NodeLaws.{mem-path}
 use Rattle.tree.proofs.RefLaws.{not-any}
+use Rattle.tree_laws.proofs.LaterLaws.{later-new, later-none, find-snoc}
 use Rattle.tree_laws.specs.State.{needed}
 use Rattle.tree_laws.proofs.LevelLaws.{nodes-known, nodes-step, path-known}
 

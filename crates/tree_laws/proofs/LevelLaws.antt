@@ -10,15 +10,16 @@ use lib.ListN.{length}
 use Rattle.grid.specs.declared.Corner.{Corner}
 use Rattle.grid.specs.Grid.{origin, same}
 use Rattle.grid.specs.Tree.{parentOf, isRoot, pathOf}
-use Rattle.lists.specs.Lists.{any, find, add, gather, later}
+use Rattle.lists.specs.Lists.{any, find, add, gather}
 use Rattle.tree.specs.Nodes.{joins, links}
 use Rattle.grid.proofs.CornerLaws.{same-refl, same-sound}
 use Rattle.grid.proofs.PathLaws.{sizeOf-parentOf, pathOf-root, pathOf-snoc, tree-ind}
-use Rattle.lists.proofs.FindLaws.{later-old, later-new, later-none, later-pos, later-or, find-snoc, find-none, find-left, find-le}
+use Rattle.lists.proofs.FindLaws.{find-none, find-left, find-le}
 use Rattle.lists.proofs.GatherLaws.{or-cases, gather-append, gather-more, add-cases, distinct-gather, mem→any, mem-gather-left, mem-gather-right, mem-gather-cases}
 use Rattle.tree.proofs.JoinLaws.{joins-cases}
 use Rattle.tree.proofs.NodeLaws.{mem-path}
-use Rattle.tree_laws.specs.State.{linked, put, Good}
+use Rattle.tree_laws.proofs.LaterLaws.{later-old, later-new, later-none, later-pos, later-or, find-snoc}
+use Rattle.tree_laws.specs.State.{later, linked, put, Good}
 use Rattle.tree_laws.proofs.LineageLaws.{links-left, links-right, links-step, links-same, links-size, links-flip, links-up, links-ends, pair-ind, path-up}
 
 pub root-is : (c : Corner) → isRoot c ≡ true → c ≡ origin

@@ -1,3 +1,5 @@
+pub mod LaterCases
+pub mod LaterLaws
 pub mod LineageLaws
 pub mod LevelLaws
 pub mod AddLaws

@@ -11,16 +11,16 @@ use lib.Dec.{eqb}
 use Rattle.grid.specs.declared.Corner.{Corner}
 use Rattle.grid.specs.Grid.{origin, same, stepped}
 use Rattle.grid.specs.Tree.{parentOf, isRoot, pathOf}
-use Rattle.lists.specs.Lists.{any, gather, tally, later}
+use Rattle.lists.specs.Lists.{any, gather, tally}
 use Rattle.tree.specs.Nodes.{joins, links}
 use Rattle.grid.proofs.CornerLaws.{same-refl, same-sound}
 use Rattle.grid.proofs.ParentLaws.{parentOf-stepped}
 use Rattle.grid.proofs.StepLaws.{stepped-ne}
-use Rattle.lists.proofs.FindLaws.{later-old, later-new, later-none}
+use Rattle.tree_laws.proofs.LaterLaws.{later-old, later-new, later-none}
 use Rattle.lists.proofs.GatherLaws.{add-cases, any→mem, mem→any, mem-gather-cases}
 use Rattle.tree.proofs.JoinLaws.{joins-cases}
 use Rattle.tree.proofs.NodeLaws.{mem-path}
-use Rattle.tree_laws.specs.State.{linked, put, Good, State, needed, visitedBy, Sound}
+use Rattle.tree_laws.specs.State.{later, linked, put, Good, State, needed, visitedBy, Sound}
 use Rattle.tree_laws.proofs.AddLaws.{path-below, needed-known, needed-step}
 use Rattle.tree_laws.proofs.LevelLaws.{root-is, nodes-known, nodes-step, known-links, left-links, right-links, sibling-links, above-links, linked-both, above-none, path-parent}
 use Rattle.tree_laws.proofs.LineageLaws.{links-here}

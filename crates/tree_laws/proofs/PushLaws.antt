@@ -13,17 +13,18 @@ use Rattle.grid.specs.declared.Corner.{Corner}
 use Rattle.grid.specs.Grid.{origin, same, stepped, cornersFrom, endFrom}
 use Rattle.grid.specs.Tree.{parentOf, pathOf}
 use Rattle.layout.specs.Table.{neighbourRefOf}
-use Rattle.lists.specs.Lists.{any, find, count, gather, zip, tally, later}
+use Rattle.lists.specs.Lists.{any, find, count, gather, zip, tally}
 use Rattle.trace.specs.Meeting.{visitedOf}
 use Rattle.tree.specs.Nodes.{pathsOf, nodesOf, legsOf, links, linkStepOf, refOf}
 use Rattle.grid.proofs.CornerLaws.{same-refl, same-sound}
 use Rattle.grid.proofs.PathLaws.{pathOf-root, pathOf-snoc, tree-ind}
 use Rattle.grid.proofs.StepLaws.{length-cornersFrom, endFrom-mem, cornersFrom-snoc}
-use Rattle.lists.proofs.FindLaws.{find-cong, bool-agree, find-le, find-pos, later-old, later-new, later-none, find-snoc, count-snoc, count-none, count-any, not-found, find-none, find-any, any-mem, any-some}
+use Rattle.lists.proofs.FindLaws.{find-cong, bool-agree, find-le, find-pos, count-snoc, count-none, count-any, not-found, find-none, find-any, any-mem, any-some}
 use Rattle.lists.proofs.GatherLaws.{gather-more, gather-append, add-cases, any→mem, mem→any, not-mem, mem-gather-right, mem-gather-cases}
 use Rattle.tree.proofs.NodeLaws.{mem-path, nodesOf-snoc, nodesOf-distinct, mem-paths, mem-paths-cases}
 use Rattle.tree.proofs.RefLaws.{not-any, ref-parent}
-use Rattle.tree_laws.specs.State.{linked, Good, stateOf, needed, reached, visitedBy, Alike, Sound}
+use Rattle.tree_laws.proofs.LaterLaws.{later-old, later-new, later-none, find-snoc}
+use Rattle.tree_laws.specs.State.{later, linked, Good, stateOf, needed, reached, visitedBy, Alike, Sound}
 use Rattle.tree_laws.proofs.AddLaws.{ref-append}
 use Rattle.tree_laws.proofs.LevelLaws.{path-parent}
 use Rattle.tree_laws.proofs.LineageLaws.{links-up, links-flip, links-ends}

@@ -9,8 +9,14 @@ use Rattle.grid.specs.declared.Corner.{Corner}
 use Rattle.grid.specs.Grid.{origin, same, stepped}
 use Rattle.grid.specs.Tree.{parentOf, isRoot, pathOf}
 use Rattle.layout.specs.Table.{childRefOf}
-use Rattle.lists.specs.Lists.{later, any, find, count, gather, tally, Distinct}
+use Rattle.lists.specs.Lists.{any, find, count, gather, tally, Distinct}
 use Rattle.tree.specs.Nodes.{nodesOf, joins, links, legsOf, refOf}
+
+-- a number that is set once: what it was, or else s if the test passes
+abbrev pub later : ℕ → Bool → ℕ → ℕ
+later zero true s = s
+later zero false s = 0
+later (suc n) b s = suc n
 
 -- the link steps (of two nodes) after one lookup by step s from a to its neighbour e: every level that both have
 abbrev pub linked : (Corner → Corner → ℕ) → ℕ → Corner → Corner → Corner → Corner → ℕ

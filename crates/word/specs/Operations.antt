@@ -1,15 +1,7 @@
--- The surviving steps of a string of operations, and the refusals 4, 5 and 6 (01, "Corners, panels and words" and the table of refusals).
--- Assumes nothing.
-use mathlib.Core.Bool.{Bool, true, false, not, _&&_}
-use mathlib.Core.List.{List, [], _∷_, _++_}
-use Prim.Native.Nat.{ℕ, suc, _+_, _-_}
-use lib.Dec.{eqb, ltb}
-use Rattle.lists.specs.Lists.{front}
-use Rattle.answer.specs.declared.Judged.{Judged}
-use Rattle.answer.specs.declared.Judged.the-variants.{Good}
-use Rattle.answer.specs.declared.Refusal.the-variants.{BadDigit, NothingToTake, TooLong}
-use Rattle.answer.specs.Limits.{mostSteps}
-use Rattle.answer.specs.Refusal.{when, orElse, firstOf}
+-- The surviving steps of a string of operations, and the refusals 4, 5 and 6 (01, "Corners, panels and words" and the table of refusals). Assumes nothing.
+use Rattle.lists.specs.Lists.{true, false, not, _&&_, List, [], _∷_, _++_, ℕ, suc, _+_, _-_, eqb, ltb, front}
+use Rattle.answer.specs.declared.{Judged.Judged, Judged.the-variants.Good, Refusal.the-variants.BadDigit, Refusal.the-variants.NothingToTake, Refusal.the-variants.TooLong}
+use Rattle.answer.specs.{Limits.mostSteps, Refusal.when, Refusal.orElse, Refusal.firstOf}
 
 -- one operation: 4 takes the last surviving step back, any other is a step
 abbrev pub operate : List ℕ → ℕ → List ℕ

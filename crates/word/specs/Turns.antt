@@ -1,16 +1,7 @@
--- Steps as turns and turns as steps (01, "Turns"), and the refusals of both calls.
--- Assumes nothing.
-use mathlib.Core.Path.{_≡_}
-use mathlib.Core.Bool.{not}
-use mathlib.Core.List.{List, [], _∷_}
-use Prim.Native.Nat.{ℕ, suc, _+_, _-_, _%_}
-use lib.ListN.{length}
-use lib.Dec.{eqb, ltb}
-use Rattle.answer.specs.declared.Judged.{Judged}
-use Rattle.answer.specs.declared.Judged.the-variants.{Good, Refused}
-use Rattle.answer.specs.declared.Refusal.the-variants.{TooMany, ResultRoom, BadDigit}
-use Rattle.answer.specs.Limits.{mostInput}
-use Rattle.answer.specs.Refusal.{when, orElse, firstOf}
+-- Steps as turns and turns as steps (01, "Turns"), and the refusals of both calls. Assumes nothing.
+use Rattle.lists.specs.Lists.{_≡_, not, List, [], _∷_, length, ℕ, suc, _+_, _-_, _%_, eqb, ltb}
+use Rattle.answer.specs.declared.{Judged.Judged, Judged.the-variants.Good, Judged.the-variants.Refused, Refusal.the-variants.TooMany, Refusal.the-variants.ResultRoom, Refusal.the-variants.BadDigit}
+use Rattle.answer.specs.{Limits.mostInput, Refusal.when, Refusal.orElse, Refusal.firstOf}
 
 -- a step minus the one before it, modulo 4
 abbrev pub turnOf : ℕ → ℕ → ℕ

@@ -1,6 +1,6 @@
 use Rattle.fields.proofs.DigitLaws.{spell-next, spell-done}
 use borrow.Author.Needs.{needs}
-use Rattle.frame.specs.Put.{put}
+use Rattle.fields.specs.Put.{put}
 use Rattle.frame.specs.Hex.{hexOf}
 use lib.ListN.{length, take, drop, getD, set, length-set}
 use native.Mathlib.Omega.{arith}

@@ -3,7 +3,7 @@ use Prim.Native.Nat.{ℕ}
 use mir.ValLaws.{toZ-ofZ}
 use mir.Syntax.{w32}
 use Rattle.frame.specs.Hex.{hexOf, bitsOf}
-use Rattle.frame.specs.Put.{Wrote}
+use Rattle.fields.specs.Put.{Wrote}
 use borrow.Author.Needs.{needs}
 use Rattle.fields.proofs.hex.spell_signed.Statement.{statement}
 use Rattle.fields.proofs.hex.spell_signed.Tie as tie

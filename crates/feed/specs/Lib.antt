@@ -1,0 +1,2 @@
+-- What the calls that take input in parts promise.
+pub mod Feed

@@ -1,0 +1,2 @@
+-- What the functions that write fields promise.
+pub mod Put

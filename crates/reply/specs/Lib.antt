@@ -1,0 +1,2 @@
+-- The contracts of the calls for one line.
+pub mod Reply

@@ -1,0 +1,2 @@
+-- The laws that the proofs of spelling cite.
+pub mod SpelledSteps
