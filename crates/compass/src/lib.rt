@@ -36,7 +36,7 @@ fn east(d: u8) -> i32
 }
 
 // What the step d adds to y.
-fn north(d: u8) -> i32
+pub fn north(d: u8) -> i32
     ensures { λ r. ⌜ r ≡ northOf d ⌝ }
 {
     less(d == 1, d > 2)

@@ -17,6 +17,7 @@ use Rattle.grid.specs.Grid.{stepped, origin, same, endFrom}
 use Rattle.stride.specs.Tallies.{Says}
 use Rattle.trace.specs.Meeting.{Meeting, none, meet, meetingOf, meetingJ, meetingK}
 use Rattle.trace.specs.Verdict.{onlyEnds, verdictBy, sweepFrom, areaBy}
+use Rattle.compass.specs.Moves.{northOf}
 use Rattle.grid.proofs.BoundLaws.{stepped-bound}
 use Rattle.int_laws.proofs.RangeLaws.{abs+, abs-neg}
 use Rattle.answer.specs.declared.Facts.{Facts}
@@ -45,6 +46,13 @@ times-gain zero c = ap (λ (z : ℤ). c .0 *ℤ z) (sub-self (c .1)) ∙ *ℤ-ze
 times-gain (suc zero) c = ap (λ (z : ℤ). c .0 *ℤ z) (suc-sub (c .1)) ∙ times-one (c .0)
 times-gain (suc (suc zero)) c = ap (λ (z : ℤ). c .0 *ℤ z) (sub-self (c .1)) ∙ *ℤ-zero (c .0)
 times-gain (suc (suc (suc d))) c = ap (λ (z : ℤ). c .0 *ℤ z) (pred-sub (c .1)) ∙ *ℤ-negsuc (c .0) 0 ∙ ap negℤ (times-one (c .0))
+
+-- and so is x times what the step adds to y
+pub gain-by : (d : ℕ) (x : ℤ) → x *ℤ northOf d ≡ gain d x
+gain-by zero x = *ℤ-zero x
+gain-by (suc zero) x = times-one x
+gain-by (suc (suc zero)) x = *ℤ-zero x
+gain-by (suc (suc (suc d))) x = *ℤ-negsuc x 0 ∙ ap negℤ (times-one x)
 
 pub sweep-next : (w : ℤ) (sum : ℤ) (c : Corner) (ds : List ℕ) (i : ℕ) → i < length ds → w ≡ sum +ℤ sweepFrom c (drop i ds)
     → w ≡ (sum +ℤ gain (getD ds i 0) (c .0)) +ℤ sweepFrom (stepped (getD ds i 0) c) (drop (i + 1) ds)
@@ -88,21 +96,6 @@ pub sweep-end : (chain : List ℕ) (n i : ℕ) (at : Corner) (sum w : ℤ) → n
 sweep-end chain n i at sum w long h e =
     let l : length (take n chain) ≤ i = omega (arith, length-take-le n chain long) in
     sym (e ∙ ap (λ (x : List ℕ). sum +ℤ sweepFrom at x) (drop-of-length-le (take n chain) l) ∙ +ℤ-idr sum)
-
-pub gain-still : (d : ℕ) (sum x : ℤ) → (d ≡ 0) → sum ≡ sum +ℤ gain d x
-gain-still d sum x e = sym (ap (λ (n : ℕ). sum +ℤ gain n x) e ∙ +ℤ-idr sum)
-
-pub gain-west : (d : ℕ) (sum x : ℤ) → (d ≡ 2) → sum ≡ sum +ℤ gain d x
-gain-west d sum x e = sym (ap (λ (n : ℕ). sum +ℤ gain n x) e ∙ +ℤ-idr sum)
-
-pub gain-north : (d : ℕ) (sum x : ℤ) → (d ≡ 1) → sum +ℤ x ≡ sum +ℤ gain d x
-gain-north d sum x e = ap (λ (n : ℕ). sum +ℤ gain n x) (sym e)
-
-pub gain-south : (d : ℕ) (sum x : ℤ) → (d ≡ 0 → ⊥) → (d ≡ 1 → ⊥) → (d ≡ 2 → ⊥) → sum -ℤ x ≡ sum +ℤ gain d x
-gain-south zero sum x p q r = absurd (p refl)
-gain-south (suc zero) sum x p q r = absurd (q refl)
-gain-south (suc (suc zero)) sum x p q r = absurd (r refl)
-gain-south (suc (suc (suc d))) sum x p q r = refl
 
 -- ---- the verdict
 module _ (m : Meeting) (j k n : ℕ) (s : Says m j k) where

@@ -21,12 +21,7 @@ fn gained(sum: i32, x: i32, d: u8) -> i32
     requires { ⌜ (natAbs sum ≤ 536870912) × (natAbs x ≤ 16384) ⌝ }
     ensures { λ r. ⌜ r ≡ sum +ℤ gain d x ⌝ }
 {
-    match d {
-        0 => sum,
-        1 => sum + x,
-        2 => sum,
-        _ => sum - x,
-    }
+    sum + x * compass::north(d)
 }
 
 // The sum over the first n steps of x times the change of y.
