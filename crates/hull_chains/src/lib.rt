@@ -2,10 +2,10 @@
 // it makes none between its own neighbours. The chain stands at the end of its array.
 ghost use mathlib.Core.Path.{_≡_};
 ghost use mathlib.Core.List.{_∷_};
-ghost use Prim.Native.Nat.{_+_, _*_, _<_, _≤_};
+ghost use Prim.Native.Nat.{_+_, _*_, _-_, _<_, _≤_};
 ghost use lib.Dec.{ltb};
 ghost use lib.ListN.{length, drop};
-ghost use Rattle.hull_laws.specs.Outline.{turnsAt, dropsAt, cutAt, idleAt, placedAt};
+ghost use Rattle.hull_laws.specs.Outline.{turnsAt, dropsAt, cutAt, turnFrom};
 ghost use Rattle.hull_chains.specs.Stack.{Scanned, Stack};
 
 // Whether heights p, b and a turn left at b, where b and a lie u and w columns to the right of p.
@@ -58,29 +58,30 @@ fn push(ys: &[u16], s: &mut [u16], q: usize, p: usize) -> usize
     f
 }
 
-// Whether column i of the first n makes no left turn between its two neighbours.
-fn idle(ys: &[u16], n: usize, i: usize) -> bool
-    requires { ⌜ (i < n) × (n ≤ length (now ys)) × (length (now ys) ≤ 65536) ⌝ }
-    ensures { λ r. ⌜ r ≡ idleAt (now (ys .entry)) n i ⌝ }
+// The first column from i on to the left that turns left between its two neighbours, or column 0.
+fn pass(ys: &[u16], i: usize) -> usize
+    requires { ⌜ (i + 1 < length (now ys)) × (length (now ys) ≤ 65536) ⌝ }
+    ensures { λ r. ⌜ r ≡ turnFrom (now (ys .entry)) i ⌝ }
 {
-    if i == 0 {
-        return false;
+    let mut j = i;
+    while j > 0 {
+        if turns(ys, j - 1, j, j + 1) {
+            return j;
+        }
+        j -= 1;
     }
-    if i + 1 >= n {
-        return false;
-    }
-    !turns(ys, i - 1, i, i + 1)
+    j
 }
 
-// Puts p in front of the chain from q on unless it is idle, and answers where the chain begins then.
-fn place(ys: &[u16], n: usize, s: &mut [u16], q: usize, p: usize) -> usize
-    requires { ⌜ Stack (now ys) (now s) q p × (0 < q) × (p < n) × (n ≤ length (now ys)) ⌝ }
-    ensures { λ r. ⌜ (drop r (now (s .exit)) ≡ placedAt (now (ys .entry)) n p (drop q (now (s .entry)))) × (q ≤ r + 1) × (r ≤ length (now (s .entry))) ⌝ }
+// The column that comes in front of the chain of the columns i to n: the others make no left turn between their two neighbours.
+fn next(ys: &[u16], n: usize, i: usize) -> usize
+    requires { ⌜ (0 < i) × (i ≤ n) × (n ≤ length (now ys)) × (length (now ys) ≤ 65536) ⌝ }
+    ensures { λ r. ⌜ (n ≡ i → r ≡ i - 1) × (i < n → r ≡ turnFrom (now (ys .entry)) (i - 1)) ⌝ }
 {
-    if idle(ys, n, p) {
-        return q;
+    if i == n {
+        return i - 1;
     }
-    push(ys, s, q, p)
+    pass(ys, i - 1)
 }
 
 // The chain of the first n columns: where it begins in s.
@@ -91,8 +92,8 @@ pub fn scan(ys: &[u16], n: usize, s: &mut [u16]) -> usize
     let mut q = s.len();
     let mut i = n;
     while i > 0 {
-        i -= 1;
-        q = place(ys, n, s, q, i);
+        i = next(ys, n, i);
+        q = push(ys, s, q, i);
     }
     q
 }

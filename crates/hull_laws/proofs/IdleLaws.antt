@@ -1,15 +1,14 @@
 -- A column that makes no left turn between its two neighbours may be passed over: the chain is the same.
 -- Assumes nothing.
 use mathlib.Core.Path.{_≡_, refl, sym, ap, ap₂, _∙_, subst}
-use mathlib.Core.Bool.{Bool, true, false, not, _&&_}
+use mathlib.Core.Bool.{Bool, true, false}
 use mathlib.Core.List.{List, [], _∷_}
 use mathlib.Core.Logic.{_⊎_, inl, inr}
 use Prim.Native.Nat.{ℕ, zero, suc, _+_, _-_, _≤_, _<_}
 use native.Mathlib.Omega.{arith}
-use borrow.Author.Tests.{ltb-true, lt-ltb, le-ltb}
-use lib.ListN.{length, getD, drop}
+use native.Mathlib.Decide.{decLt}
+use lib.ListN.{drop}
 use lib.IntN.{ℤ, pos}
-use lib.Dec.{ltb}
 use lib.Signed.{_≤ℤ_, _<ℤ_}
 use Rattle.int_laws.proofs.LinearLaws.{zarith, bal+}
 use Rattle.int_laws.proofs.RangeLaws.{lt-true, lt-false}
@@ -18,12 +17,11 @@ use Rattle.int_laws.proofs.SignLaws.{h≤, h<, hw, _⊞_, _⊠_, by≤÷}
 use Rattle.grid.specs.declared.Corner.{Corner}
 use Rattle.hull.specs.Hull.{cross}
 use Rattle.hull.specs.Call.{numbers}
-use Rattle.hull_laws.specs.Outline.{turnsAt, cutAt, chainFrom, idleAt, placedAt}
+use Rattle.hull_laws.specs.Outline.{turnsAt, cutAt, chainFrom, turnFrom}
 use Rattle.hull_laws.proofs.CornerLaws.{X, cr, O}
 use Rattle.hull_laws.proofs.ChainLaws.{turns}
 use Rattle.hull_laws.proofs.ScanLaws.{turns-cols}
 use Rattle.hull_laws.proofs.SinkLaws.{at}
-use Rattle.hull_laws.proofs.StackLaws.{stack-in, scan-none}
 
 -- p, q, b, a from left to right without a left turn at q and at b: none at q on the way to a
 near-flat : (p q b a : Corner) → p .0 <ℤ q .0 → q .0 <ℤ b .0 → b .0 <ℤ a .0 → cross p q b ≤ℤ pos 0 → cross q b a ≤ℤ pos 0 → cross p q a ≤ℤ pos 0
@@ -122,134 +120,135 @@ module _ (ys : List ℕ) where
       more : n - i ≡ suc (n - suc i)
       more = omega arith
 
--- the first column and the last are not passed over
-pub idle-first : (ys : List ℕ) (n i : ℕ) → i ≡ 0 → false ≡ idleAt ys n i
-unfolding idleAt
-idle-first ys n i e = sym (ap (λ (t : Bool). t && ltb (i + 1) n && not (turnsAt ys (i - 1) i (i + 1))) (le-ltb 0 i (omega arith)))
+-- the columns between p and r are passed over: the chain from r on is enough for p and what lies left of it
+record Skipped (ys : List ℕ) (n p r : ℕ) : Type 0 where
+  right : suc p < r
+  within : r < n
+  flat : turnsAt ys p (suc p) r ≡ false
+  same : chainFrom ys (suc p) (n - suc p) ≡ suc p ∷ cutAt ys (suc p) (chainFrom ys r (n - r))
 
-pub idle-last : (ys : List ℕ) (n i : ℕ) → n ≤ i + 1 → false ≡ idleAt ys n i
-unfolding idleAt
-idle-last ys n i h = sym (ap (λ (t : Bool). ltb 0 i && t && not (turnsAt ys (i - 1) i (i + 1))) (le-ltb (i + 1) n h) ∙ none (ltb 0 i) (not (turnsAt ys (i - 1) i (i + 1))))
-  where
-    none : (a b : Bool) → a && false && b ≡ false
-    none true b = refl
-    none false b = refl
+-- what the scan has at column p: the chain of what lies right of it, or that from a column r on after those that are passed over
+record Passed (ys : List ℕ) (n p : ℕ) (l : List ℕ) : Type 0 where
+  r : ℕ
+  first : suc p ≤ r
+  held : l ≡ chainFrom ys r (n - r)
+  between : (r ≡ suc p) ⊎ Skipped ys n p r
 
-pub idle-other : (ys : List ℕ) (n i : ℕ) → 0 < i → i + 1 < n → not (turnsAt ys (i - 1) i (i + 1)) ≡ idleAt ys n i
-unfolding idleAt
-idle-other ys n i h g = sym (ap₂ (λ (s t : Bool). s && t && not (turnsAt ys (i - 1) i (i + 1))) (lt-ltb 0 i h) (lt-ltb (i + 1) n g))
+module _ (ys : List ℕ) (n : ℕ) where
+  -- p meets the same chain
+  met : (p r : ℕ) → (r ≡ suc p) ⊎ Skipped ys n p r → cutAt ys p (chainFrom ys (suc p) (n - suc p)) ≡ cutAt ys p (chainFrom ys r (n - r))
+  met p r (inl e) = ap (λ (r : ℕ). cutAt ys p (chainFrom ys r (n - r))) (sym e)
+  met p r (inr k) =
+      ap (cutAt ys p) (k .same ∙ ap (λ (l : List ℕ). suc p ∷ cutAt ys (suc p) l) (chain-next ys r n (k .within)))
+      ∙ absorb ys p (suc p) r (cutAt ys r (chainFrom ys (suc r) (n - suc r))) (omega arith) (subst (Rising (suc p)) (chain-next ys r n (k .within)) (chain-rising ys (suc p) r (n - r) (k .right))) (k .flat)
+      ∙ ap (cutAt ys p) (sym (chain-next ys r n (k .within)))
 
--- a chain after a column that is passed over, and after one that is not
-pub placed-over : (ys : List ℕ) (n p : ℕ) (l : List ℕ) → idleAt ys n p ≡ true → l ≡ placedAt ys n p l
-unfolding placedAt
-placed-over ys n p l t = sym (ap (λ (t : Bool). elim t as (λ x. List ℕ) [ true ↦ l | false ↦ p ∷ cutAt ys p l ]) t)
+  chain-met : (p r : ℕ) → p < n → (r ≡ suc p) ⊎ Skipped ys n p r → chainFrom ys p (n - p) ≡ p ∷ cutAt ys p (chainFrom ys r (n - r))
+  chain-met p r h k = chain-next ys p n h ∙ ap (λ (l : List ℕ). p ∷ l) (met p r k)
 
-pub placed-front : (ys : List ℕ) (n p : ℕ) (l : List ℕ) → idleAt ys n p ≡ false → p ∷ cutAt ys p l ≡ placedAt ys n p l
-unfolding placedAt
-placed-front ys n p l t = sym (ap (λ (t : Bool). elim t as (λ x. List ℕ) [ true ↦ l | false ↦ p ∷ cutAt ys p l ]) t)
-
--- the columns from i on, up to r, are passed over: the chain from r on is enough for what lies left of i
-pub record Skipped (ys : List ℕ) (n i r : ℕ) : Type 0 where
-  pub above : 0 < i
-  pub right : i < r
-  pub within : r < n
-  pub flat : turnsAt ys (i - 1) i r ≡ false
-  pub same : chainFrom ys i (n - i) ≡ i ∷ cutAt ys i (chainFrom ys r (n - r))
-
--- what the scan has at column i: the chain from i on, or from a column r on after those that are passed over
-pub record Passed (ys : List ℕ) (n i : ℕ) (l : List ℕ) : Type 0 where
-  pub r : ℕ
-  pub first : i ≤ r
-  pub last : r ≤ n
-  pub held : l ≡ chainFrom ys r (n - r)
-  pub between : (r ≡ i) ⊎ Skipped ys n i r
-
-pub passed-none : (ys s : List ℕ) (n : ℕ) → Passed ys n n (drop (length s) s)
-passed-none ys s n = record { r = n; first = omega arith; last = omega arith; held = scan-none ys s n; between = inl refl }
-
-pub passed-columns : (ys s : List ℕ) (q i n : ℕ) → 0 < i → n ≤ length ys → Passed ys n i (drop q s) → (j : ℕ) → q ≤ j → j < length s → (i - 1 < getD s j 0) × (getD s j 0 < length ys)
-passed-columns ys s q i n a b k j h g = let m = stack-in ys s q (k .r) (n - k .r) j (k .held) h g in (omega (arith, m .0, k .first), omega (arith, m .1, k .last))
-
-module _ (ys : List ℕ) (n i : ℕ) (above : 0 < i) (within : i ≤ n) where
-  -- what lies left of i meets the same chain
-  met : (r : ℕ) → (r ≡ i) ⊎ Skipped ys n i r → cutAt ys (i - 1) (chainFrom ys i (n - i)) ≡ cutAt ys (i - 1) (chainFrom ys r (n - r))
-  met r (inl e) = ap (λ (r : ℕ). cutAt ys (i - 1) (chainFrom ys r (n - r))) (sym e)
-  met r (inr k) =
-      ap (cutAt ys (i - 1)) (k .same ∙ ap (λ (l : List ℕ). i ∷ cutAt ys i l) (chain-next ys r n (k .within)))
-      ∙ absorb ys (i - 1) i r (cutAt ys r (chainFrom ys (suc r) (n - suc r))) (omega arith) (subst (Rising i) (chain-next ys r n (k .within)) (chain-rising ys i r (n - r) (k .right))) (k .flat)
-      ∙ ap (cutAt ys (i - 1)) (sym (chain-next ys r n (k .within)))
-
-  chain-met : (r : ℕ) → (r ≡ i) ⊎ Skipped ys n i r → chainFrom ys (i - 1) (n - (i - 1)) ≡ (i - 1) ∷ cutAt ys (i - 1) (chainFrom ys r (n - r))
-  chain-met r k = chain-next ys (i - 1) n (omega arith) ∙ ap (λ (l : List ℕ). (i - 1) ∷ l) (ap (λ (j : ℕ). cutAt ys (i - 1) (chainFrom ys j (n - j))) back ∙ met r k)
-    where
-      back : suc (i - 1) ≡ i
-      back = omega arith
-
-  passed-push : (l : List ℕ) → Passed ys n i l → Passed ys n (i - 1) ((i - 1) ∷ cutAt ys (i - 1) l)
-  passed-push l k = record {
-    r = i - 1;
-    first = omega arith;
-    last = omega arith;
-    held = ap (λ (l : List ℕ). (i - 1) ∷ cutAt ys (i - 1) l) (k .held) ∙ sym (chain-met (k .r) (k .between));
-    between = inl refl;
-  }
-
-  and-true : (a b : Bool) → (a && b) ≡ true → (a ≡ true) × (b ≡ true)
-  and-true true b e = (refl, e)
-  and-true false b e = let z : _≡_ {A = ℕ} 0 1 = cc in absurd (bad z)
-    where
-      bad : _≡_ {A = ℕ} 0 1 → ⊥
-      bad z = omega arith
-
-  not-true : (a : Bool) → not a ≡ true → a ≡ false
-  not-true false e = refl
-  not-true true e = sym e
-
-  idle-says : idleAt ys n (i - 1) ≡ true → (0 < i - 1) × (i < n) × (turnsAt ys ((i - 1) - 1) (i - 1) i ≡ false)
-  unfolding idleAt
-  idle-says t =
-      let a = and-true (ltb 0 (i - 1) && ltb ((i - 1) + 1) n) (not (turnsAt ys ((i - 1) - 1) (i - 1) ((i - 1) + 1))) t in
-      let b = and-true (ltb 0 (i - 1)) (ltb ((i - 1) + 1) n) (a .0) in
-      (ltb-true 0 (i - 1) (b .0), omega (arith, ltb-true ((i - 1) + 1) n (b .1)), ap (turnsAt ys ((i - 1) - 1) (i - 1)) back ∙ not-true (turnsAt ys ((i - 1) - 1) (i - 1) ((i - 1) + 1)) (a .1))
-    where
-      back : i ≡ (i - 1) + 1
-      back = omega arith
-
-  passed-over : (l : List ℕ) → idleAt ys n (i - 1) ≡ true → Passed ys n i l → Passed ys n (i - 1) l
-  passed-over l t k = record {
+  passed-over : (p : ℕ) (l : List ℕ) → suc (suc p) < n → turnsAt ys p (suc p) (suc (suc p)) ≡ false → Passed ys n (suc p) l → Passed ys n p l
+  passed-over p l h t k = record {
     r = k .r;
     first = omega (arith, k .first);
-    last = k .last;
     held = k .held;
-    between = inr (record { above = idle-says t .0; right = omega (arith, k .first); within = inside (k .between); flat = flat (k .between); same = chain-met (k .r) (k .between) });
+    between = inr (record { right = omega (arith, k .first); within = inside (k .between); flat = flat (k .between); same = chain-met (suc p) (k .r) (omega arith) (k .between) });
   }
     where
-      inside : (k .r ≡ i) ⊎ Skipped ys n i (k .r) → k .r < n
-      inside (inl e) = omega (arith, e, idle-says t .1)
+      inside : (k .r ≡ suc (suc p)) ⊎ Skipped ys n (suc p) (k .r) → k .r < n
+      inside (inl e) = omega (arith, e)
       inside (inr m) = m .within
 
-      flat : (k .r ≡ i) ⊎ Skipped ys n i (k .r) → turnsAt ys ((i - 1) - 1) (i - 1) (k .r) ≡ false
-      flat (inl e) = ap (turnsAt ys ((i - 1) - 1) (i - 1)) e ∙ idle-says t .2
-      flat (inr m) = flat-near ys ((i - 1) - 1) (i - 1) i (k .r) (omega (arith, idle-says t .0)) (omega arith) (m .right) (idle-says t .2) (m .flat)
+      flat : (k .r ≡ suc (suc p)) ⊎ Skipped ys n (suc p) (k .r) → turnsAt ys p (suc p) (k .r) ≡ false
+      flat (inl e) = ap (turnsAt ys p (suc p)) e ∙ t
+      flat (inr m) = flat-near ys p (suc p) (suc (suc p)) (k .r) (omega arith) (omega arith) (m .right) t (m .flat)
 
-  -- a turn of the scan
-  pub passed-next : (l m : List ℕ) → Passed ys n i l → m ≡ placedAt ys n (i - 1) l → Passed ys n (i - 1) m
-  unfolding placedAt
-  passed-next l m k e = subst (Passed ys n (i - 1)) (sym e) (go (idleAt ys n (i - 1)) refl)
+  passed-turn : (j : ℕ) (l : List ℕ) → suc j < n → Passed ys n j l → Passed ys n (turnFrom ys j) l
+  unfolding turnFrom
+  passed-turn zero l h k = k
+  passed-turn (suc j) l h k = go (turnsAt ys j (suc j) (suc (suc j))) refl (λ m. passed-turn j l (omega arith) m)
     where
-      go : (t : Bool) → idleAt ys n (i - 1) ≡ t → Passed ys n (i - 1) (elim t as (λ x. List ℕ) [ true ↦ l | false ↦ (i - 1) ∷ cutAt ys (i - 1) l ])
-      go true t = passed-over l t k
-      go false t = passed-push l k
+      go : (t : Bool) → turnsAt ys j (suc j) (suc (suc j)) ≡ t → (Passed ys n j l → Passed ys n (turnFrom ys j) l) → Passed ys n (elim t as (λ x. ℕ) [ true ↦ suc j | false ↦ turnFrom ys j ]) l
+      go true t f = k
+      go false t f = f (passed-over j l h t k)
 
-pub passed-done : (ys l : List ℕ) (n i : ℕ) → i ≤ 0 → Passed ys n i l → l ≡ chainFrom ys 0 n
-passed-done ys l n i h k = k .held ∙ go (k .between)
+turns-suc : (ys : List ℕ) (j : ℕ) → turnsAt ys j (suc j) (suc (suc j)) ≡ turnsAt ys (suc j - 1) (suc j) (suc j + 1)
+turns-suc ys j = ap₂ (λ (p a : ℕ). turnsAt ys p (suc j) a) back next
   where
-    go : (k .r ≡ i) ⊎ Skipped ys n i (k .r) → chainFrom ys (k .r) (n - k .r) ≡ chainFrom ys 0 n
-    go (inr m) = let z : ⊥ = omega (arith, m .above) in absurd z
-    go (inl e) = ap₂ (chainFrom ys) none all
-      where
-        none : k .r ≡ 0
-        none = omega (arith, e)
+    back : j ≡ suc j - 1
+    back = omega arith
 
-        all : n - k .r ≡ n
-        all = omega (arith, e)
+    next : suc (suc j) ≡ suc j + 1
+    next = omega arith
+
+-- where the columns that are passed over end
+turn-le : (ys : List ℕ) (j : ℕ) → turnFrom ys j ≤ j
+unfolding turnFrom
+turn-le ys zero = omega arith
+turn-le ys (suc j) = go (turnsAt ys j (suc j) (suc (suc j))) (turn-le ys j)
+  where
+    go : (t : Bool) → turnFrom ys j ≤ j → (elim t as (λ x. ℕ) [ true ↦ suc j | false ↦ turnFrom ys j ]) ≤ suc j
+    go true h = omega arith
+    go false h = omega (arith, h)
+
+pub turn-none : (ys : List ℕ) (j : ℕ) → j ≤ 0 → j ≡ turnFrom ys j
+unfolding turnFrom
+turn-none ys zero h = refl
+turn-none ys (suc j) h = let z : ⊥ = omega arith in absurd z
+
+pub turn-here : (ys : List ℕ) (j : ℕ) → 0 < j → turnsAt ys (j - 1) j (j + 1) ≡ true → j ≡ turnFrom ys j
+unfolding turnFrom
+turn-here ys zero h t = let z : ⊥ = omega arith in absurd z
+turn-here ys (suc j) h t = sym (ap (λ (t : Bool). elim t as (λ x. ℕ) [ true ↦ suc j | false ↦ turnFrom ys j ]) (turns-suc ys j ∙ t))
+
+pub turn-next : (ys : List ℕ) (j : ℕ) → 0 < j → turnsAt ys (j - 1) j (j + 1) ≡ false → turnFrom ys (j - 1) ≡ turnFrom ys j
+unfolding turnFrom
+turn-next ys zero h t = let z : ⊥ = omega arith in absurd z
+turn-next ys (suc j) h t = ap (turnFrom ys) back ∙ sym (ap (λ (t : Bool). elim t as (λ x. ℕ) [ true ↦ suc j | false ↦ turnFrom ys j ]) (turns-suc ys j ∙ t))
+  where
+    back : suc j - 1 ≡ j
+    back = omega arith
+
+-- a turn of the scan: from the chain of i on to that of the next column that is put in front
+scan-turn : (ys : List ℕ) (n i r : ℕ) (l m : List ℕ) → 0 < i → i < n → r ≡ turnFrom ys (i - 1) → l ≡ chainFrom ys i (n - i) → m ≡ r ∷ cutAt ys r l → m ≡ chainFrom ys r (n - r)
+scan-turn ys n i r l m a b e f g = g ∙ front (subst (λ (j : ℕ). Passed ys n j l) (sym e) (passed-turn ys n (i - 1) l (omega arith) start))
+  where
+    start : Passed ys n (i - 1) l
+    start = record { r = i; first = omega arith; held = f; between = inl back }
+      where
+        back : i ≡ suc (i - 1)
+        back = omega arith
+
+    front : Passed ys n r l → r ∷ cutAt ys r l ≡ chainFrom ys r (n - r)
+    front k = ap (λ (t : List ℕ). r ∷ cutAt ys r t) (k .held) ∙ sym (chain-met ys n r (k .r) (omega (arith, turn-le ys (i - 1))) (k .between))
+
+-- the last column is put in front of nothing
+scan-first : (ys : List ℕ) (n i r : ℕ) (l m : List ℕ) → 0 < i → n ≡ i → r ≡ i - 1 → l ≡ chainFrom ys i (n - i) → m ≡ r ∷ cutAt ys r l → m ≡ chainFrom ys r (n - r)
+scan-first ys n i r l m a b e f g = g ∙ ap (λ (t : List ℕ). r ∷ cutAt ys r t) (f ∙ ap (λ (j : ℕ). chainFrom ys j (n - j)) back) ∙ sym (chain-next ys r n (omega arith))
+  where
+    back : i ≡ suc r
+    back = omega arith
+
+-- the column that comes in front, of either kind
+module _ (ys : List ℕ) (n i r : ℕ) (above : 0 < i) (within : i ≤ n) (last : n ≡ i → r ≡ i - 1) (other : i < n → r ≡ turnFrom ys (i - 1)) where
+  pub next-lt : r < i
+  next-lt = go (decLt i n)
+    where
+      go : Dec (i < n) → r < i
+      go (yes h) = omega (arith, other h, turn-le ys (i - 1))
+      go (no h) = omega (arith, last (omega arith))
+
+  pub scan-next : (l m : List ℕ) → l ≡ chainFrom ys i (n - i) → m ≡ r ∷ cutAt ys r l → m ≡ chainFrom ys r (n - r)
+  scan-next l m f g = go (decLt i n)
+    where
+      go : Dec (i < n) → m ≡ chainFrom ys r (n - r)
+      go (yes h) = scan-turn ys n i r l m above h (other h) f g
+      go (no h) = let e : n ≡ i = omega arith in scan-first ys n i r l m above e (last e) f g
+
+pub scan-done : (ys s : List ℕ) (q i n : ℕ) → i ≤ 0 → drop q s ≡ chainFrom ys i (n - i) → drop q s ≡ chainFrom ys 0 n
+scan-done ys s q i n h e = e ∙ ap₂ (chainFrom ys) none all
+  where
+    none : i ≡ 0
+    none = omega arith
+
+    all : n - i ≡ n
+    all = omega arith

@@ -108,6 +108,9 @@ stack-in ys s q i k j e h g = chain-in ys i k (getD s j 0) (subst (λ (l : List 
         back : q + (j - q) ≡ j
         back = omega arith
 
+pub stack-columns : (ys s : List ℕ) (q i n r : ℕ) → r < i → i ≤ n → n ≤ length ys → drop q s ≡ chainFrom ys i (n - i) → (j : ℕ) → q ≤ j → j < length s → (r < getD s j 0) × (getD s j 0 < length ys)
+stack-columns ys s q i n r a b c e j h g = let m = stack-in ys s q i (n - i) j e h g in (omega (arith, m .0), omega (arith, m .1))
+
 pub scan-none : (ys s : List ℕ) (n : ℕ) → drop (length s) s ≡ chainFrom ys n (n - n)
 unfolding chainFrom
 scan-none ys s n = drop-of-length-le s {i = length s} (omega arith) ∙ ap (chainFrom ys n) none

@@ -1,6 +1,6 @@
 -- The chain over columns, the corners that columns stand for, and the two chains as one list.
 -- Assumes nothing.
-use mathlib.Core.Bool.{Bool, true, false, not, _&&_}
+use mathlib.Core.Bool.{Bool, true, false, not}
 use mathlib.Core.List.{List, [], _∷_, _++_, map}
 use Prim.Native.Nat.{ℕ, zero, suc, _+_, _*_, _-_}
 use lib.Dec.{ltb, eqb}
@@ -32,13 +32,10 @@ unfoldable pub chainFrom : List ℕ → ℕ → ℕ → List ℕ
 chainFrom ys i zero = []
 chainFrom ys i (suc k) = i ∷ cutAt ys i (chainFrom ys (suc i) k)
 
--- whether column i of n makes no left turn between its two neighbours
-unfoldable pub idleAt : List ℕ → ℕ → ℕ → Bool
-idleAt ys n i = ltb 0 i && ltb (i + 1) n && not (turnsAt ys (i - 1) i (i + 1))
-
--- a chain after column p, which is passed over or put in front
-unfoldable pub placedAt : List ℕ → ℕ → ℕ → List ℕ → List ℕ
-placedAt ys n p l = elim (idleAt ys n p) [ true ↦ l | false ↦ p ∷ cutAt ys p l ]
+-- the first column from i on to the left that turns left between its two neighbours, or column 0
+unfoldable pub turnFrom : List ℕ → ℕ → ℕ
+turnFrom ys zero = zero
+turnFrom ys (suc i) = elim (turnsAt ys i (suc i) (suc (suc i))) [ true ↦ suc i | false ↦ turnFrom ys i ]
 
 -- the corner at column and height v, where (0,0) stands for (x0,y0)
 abbrev pub spot : ℤ → ℤ → ℕ × ℕ → Corner

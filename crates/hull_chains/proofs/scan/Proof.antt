@@ -3,14 +3,16 @@
 use borrow.Author.Needs.{needs}
 use native.Mathlib.Omega.{arith}
 use mathlib.Core.Path.{_≡_, refl, _∙_}
-use Prim.Native.Nat.{_+_, _≤_}
+use Prim.Native.Nat.{_+_, _-_, _≤_}
 use lib.ListN.{length, drop}
-use Rattle.hull_laws.proofs.IdleLaws.{Passed, passed-none, passed-columns, passed-next, passed-done}
+use Rattle.hull_laws.specs.Outline.{chainFrom}
+use Rattle.hull_laws.proofs.StackLaws.{stack-columns, scan-none}
+use Rattle.hull_laws.proofs.IdleLaws.{next-lt, scan-next, scan-done}
 use Rattle.hull_chains.proofs.scan.Statement.{statement}
 use Rattle.hull_chains.proofs.scan.Tie as tie
 
 abbrev Inv-loop : tie.InvT-loop
-Inv-loop ys n s₀ q₀ i₀ s q i = (i ≤ n) × (q ≤ length s) × (length s ≡ length s₀) × (length s + i ≤ q + n) × (Passed ys n i (drop q s))
+Inv-loop ys n s₀ q₀ i₀ s q i = (i ≤ n) × (q ≤ length s) × (length s ≡ length s₀) × (length s + i ≤ q + n) × (drop q s ≡ chainFrom ys i (n - i))
 
 abbrev μ-loop : tie.MeasureT-loop
 μ-loop ys n s₀ q₀ i₀ s q i = i
@@ -18,27 +20,35 @@ abbrev μ-loop : tie.MeasureT-loop
 loop-holds : tie.Need-loop-holds Inv-loop μ-loop
 loop-holds c =
     let s = c .before .before in
-    (omega arith, omega arith, refl, omega arith, passed-none (s .args .ys .now) (s .args .s .now) (s .args .n))
+    (omega arith, omega arith, refl, omega arith, scan-none (s .args .ys .now) (s .args .s .now) (s .args .n))
 
-sub-i : tie.Need-sub-i Inv-loop μ-loop
-sub-i c = search needs
+next-requires : tie.Need-next-requires Inv-loop μ-loop
+next-requires c κs = search needs
 
-place-requires : tie.Need-place-requires Inv-loop μ-loop
-place-requires c κs =
-    let s = c .before .before .before .before .before in
-    let l = c .before .before .loop in
-    (record { begins = l .inv .1; columns = passed-columns (s .args .ys .now) (l .s) (l .q) (l .i) (s .args .n) (omega arith) (s .pre .0) (l .inv .4); short = s .pre .2 }, omega arith, omega arith, s .pre .0)
+push-requires : tie.Need-push-requires Inv-loop μ-loop
+push-requires c κs =
+    let s = c .before .before .before .before .before .before in
+    let l = c .before .before .before .loop in
+    let e = c .before .next .ensures in
+    let r = next-lt (s .args .ys .now) (s .args .n) (l .i) (c .before .next .result) (omega arith) (l .inv .0) (e .0) (e .1) in
+    (record { begins = l .inv .1; columns = stack-columns (s .args .ys .now) (l .s) (l .q) (l .i) (s .args .n) (c .before .next .result) r (l .inv .0) (s .pre .0) (l .inv .4); short = s .pre .2 }, omega arith, omega (arith, r))
 
 loop-less : tie.Need-loop-less Inv-loop μ-loop
-loop-less c = search needs
+loop-less c =
+    let s = c .before .before .before .before .before .before .before .before .before in
+    let l = c .before .before .before .before .before .before .loop in
+    let e = c .before .before .before .before .next .ensures in
+    next-lt (s .args .ys .now) (s .args .n) (l .i) (c .before .before .before .before .next .result) (omega arith) (l .inv .0) (e .0) (e .1)
 
 loop-again : tie.Need-loop-again Inv-loop μ-loop
 loop-again c =
-    let s = c .before .before .before .before .before .before .before .before in
-    let l = c .before .before .before .before .before .loop in
-    let e = c .before .before .place .ensures in
-    let k = c .before .before .place .kept .1 .1 .0 in
-    (omega arith, omega (arith, e .2, k), k ∙ l .inv .2, omega (arith, e .1, k), passed-next (s .args .ys .now) (s .args .n) (l .i) (omega arith) (l .inv .0) (drop (l .q) (l .s)) (drop (c .before .before .place .result) (c .before .before .place .last .1 .1 .0)) (l .inv .4) (e .0))
+    let s = c .before .before .before .before .before .before .before .before .before in
+    let l = c .before .before .before .before .before .before .loop in
+    let n = c .before .before .before .before .next .ensures in
+    let e = c .before .before .push .ensures in
+    let k = c .before .before .push .kept .1 .0 in
+    let r = next-lt (s .args .ys .now) (s .args .n) (l .i) (c .before .before .before .before .next .result) (omega arith) (l .inv .0) (n .0) (n .1) in
+    (omega (arith, r), omega (arith, e .2, k), k ∙ l .inv .2, omega (arith, r, e .1, k), scan-next (s .args .ys .now) (s .args .n) (l .i) (c .before .before .before .before .next .result) (omega arith) (l .inv .0) (n .0) (n .1) (drop (l .q) (l .s)) (drop (c .before .before .push .result) (c .before .before .push .last .1 .0)) (l .inv .4) (e .0))
 
 same-length : tie.Need-same-length Inv-loop μ-loop
 same-length c = search needs
@@ -47,7 +57,7 @@ returns : tie.Need-returns Inv-loop μ-loop
 returns c =
     let s = c .before .before .before .before in
     let l = c .before .loop in
-    record { chain = passed-done (s .args .ys .now) (drop (l .q) (l .s)) (s .args .n) (l .i) (omega arith) (l .inv .4); begins = l .inv .1 }
+    record { chain = scan-done (s .args .ys .now) (l .s) (l .q) (l .i) (s .args .n) (omega arith) (l .inv .4); begins = l .inv .1 }
 
 pub scan-spec : {M : Type 1} → statement M
 scan-spec =
@@ -56,8 +66,8 @@ scan-spec =
     Inv-loop
     μ-loop
     loop-holds
-    sub-i
-    place-requires
+    next-requires
+    push-requires
     loop-less
     loop-again
     same-length

@@ -1,0 +1,59 @@
+-- `hull_chains::pass` meets its contract.
+-- Assumes nothing.
+use borrow.Author.Needs.{needs}
+use native.Mathlib.Omega.{arith}
+use mathlib.Core.Path.{_≡_, refl, sym, _∙_}
+use Prim.Native.Nat.{_≤_}
+use Rattle.hull_laws.specs.Outline.{turnFrom}
+use Rattle.hull_laws.proofs.IdleLaws.{turn-none, turn-here, turn-next}
+use Rattle.hull_chains.proofs.pass.Statement.{statement}
+use Rattle.hull_chains.proofs.pass.Tie as tie
+
+abbrev Inv-loop : tie.InvT-loop
+Inv-loop ys i j₀ j = (j ≤ i) × (turnFrom ys j ≡ turnFrom ys i)
+
+abbrev μ-loop : tie.MeasureT-loop
+μ-loop ys i j₀ j = j
+
+loop-holds : tie.Need-loop-holds Inv-loop μ-loop
+loop-holds c = (omega arith, refl)
+
+sub-turns : tie.Need-sub-turns Inv-loop μ-loop
+sub-turns c = search needs
+
+add-turns : tie.Need-add-turns Inv-loop μ-loop
+add-turns c = search needs
+
+turns-requires : tie.Need-turns-requires Inv-loop μ-loop
+turns-requires c κs = search needs
+
+returns : tie.Need-returns Inv-loop μ-loop
+returns c = let l = c .before .before .before .loop in turn-here (c .before .before .before .before .before .args .ys .now) (l .j) (omega arith) (sym (c .before .turns .ensures) ∙ c .if1 .taken) ∙ l .inv .1
+
+sub-j : tie.Need-sub-j Inv-loop μ-loop
+sub-j c = search needs
+
+loop-less : tie.Need-loop-less Inv-loop μ-loop
+loop-less c = search needs
+
+loop-again : tie.Need-loop-again Inv-loop μ-loop
+loop-again c = let l = c .before .before .before .loop in (omega arith, turn-next (c .before .before .before .before .before .args .ys .now) (l .j) (omega arith) (sym (c .before .turns .ensures) ∙ c .if1 .left) ∙ l .inv .1)
+
+returns-2 : tie.Need-returns-2 Inv-loop μ-loop
+returns-2 c = let l = c .before .loop in turn-none (c .before .before .before .args .ys .now) (l .j) (omega arith) ∙ l .inv .1
+
+pub pass-spec : {M : Type 1} → statement M
+pass-spec =
+    tie.close
+    (tie.spec
+    Inv-loop
+    μ-loop
+    loop-holds
+    sub-turns
+    add-turns
+    turns-requires
+    returns
+    sub-j
+    loop-less
+    loop-again
+    returns-2)
