@@ -27,6 +27,7 @@ fn chains(n: usize) -> Vec<(&'static str, Vec<Vec<u8>>)> {
         ("room", several(n, |random| inputs::room(n, random))),
         ("random", several(n, |random| inputs::wander(n, random))),
         ("straight", several(n, |_| inputs::straight(n, 0))),
+        ("stairs", several(n, |_| inputs::stairs(n))),
     ]
 }
 

@@ -39,6 +39,11 @@ pub fn straight(n: usize, way: u8) -> Vec<u8> {
     vec![way; n]
 }
 
+/// n steps east and north in turn.
+pub fn stairs(n: usize) -> Vec<u8> {
+    [0, 1].into_iter().cycle().take(n).collect()
+}
+
 /// n steps outwards on a square spiral.
 pub fn spiral(n: usize) -> Vec<u8> {
     let sides = (0_usize..).flat_map(|side| vec![(side % 4) as u8; side / 2 + 1]);

@@ -63,7 +63,7 @@ fn stack() {
 
 #[test]
 fn program() {
-    suite::program(judge, 400, &mut Random(5));
+    suite::program(judge, 100, &mut Random(5));
 }
 
 /// The output of the program for this input.
