@@ -144,7 +144,9 @@ uint32_t undrwyth_walk(const uint8_t *ops, size_t n,
  * Accepted: out begins with x, y of each hull corner, counterclockwise from the lowest of the leftmost, no three in a
  * line (one corner gives one, a walk along one line its two ends); the numbers after them are as they were.
  *
- * Refused with 1, 4, 6 or 8: out is as it was. A step at place UNDRWYTH_MOST_STEPS is 6 (a bad byte there is 4). */
+ * Refused with 1, 4, 6 or 8: out is as it was. A step at place UNDRWYTH_MOST_STEPS is 6 (a bad byte there is 4).
+ *
+ * Its working store, 131,080 bytes, stands on the stack. */
 uint32_t undrwyth_hull(const uint8_t *chain, size_t n,
                        int32_t *out, size_t out_numbers,
                        uint32_t answer[UNDRWYTH_HULL_ANSWER_WORDS]);
