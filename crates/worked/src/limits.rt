@@ -53,7 +53,7 @@ fn east(n: usize, words: usize, marks: usize, chain: usize)
 }
 
 // No record, a word too many and too few, a mark too few, a byte too many, no room; then the limits of length.
-pub fn all() {
+pub(crate) fn all() {
     east(3, 0, 6, 3);
     east(3, 22, 6, 3);
     east(3, 20, 5, 3);

@@ -6,11 +6,11 @@ use answer::Judged;
 use answer::Refusal;
 use libc::STDOUT_FILENO;
 
-pub fn text(s: &[u8]) {
+pub(crate) fn text(s: &[u8]) {
     io::write_all(STDOUT_FILENO, s);
 }
 
-pub fn number(n: u64) {
+pub(crate) fn number(n: u64) {
     text(b" ");
     io::print_decimal(STDOUT_FILENO, n);
 }
@@ -30,7 +30,7 @@ fn word(x: u32) -> u64 {
 }
 
 // A name, then each byte.
-pub fn bytes(name: &[u8], s: &[u8]) {
+pub(crate) fn bytes(name: &[u8], s: &[u8]) {
     text(name);
     let mut i = 0;
     while i < s.len() {
@@ -41,7 +41,7 @@ pub fn bytes(name: &[u8], s: &[u8]) {
 }
 
 // A name, then each word, 21 to a line.
-pub fn words(name: &[u8], s: &[u32]) {
+pub(crate) fn words(name: &[u8], s: &[u32]) {
     text(name);
     let mut i = 0;
     while i < s.len() {
@@ -55,7 +55,7 @@ pub fn words(name: &[u8], s: &[u32]) {
 }
 
 // A name, then each signed number.
-pub fn numbers(name: &[u8], s: &[i32]) {
+pub(crate) fn numbers(name: &[u8], s: &[i32]) {
     text(name);
     let mut i = 0;
     while i < s.len() {
@@ -65,7 +65,7 @@ pub fn numbers(name: &[u8], s: &[i32]) {
     text(b"\n");
 }
 
-pub fn refusal(r: Refusal) {
+pub(crate) fn refusal(r: Refusal) {
     text(b"  refused");
     number(numbers::number(r) as u64);
     number(numbers::place(r) as u64);
@@ -86,21 +86,21 @@ fn facts(f: Facts) {
     numbers(b"", &[f.area, last.0, last.1]);
 }
 
-pub fn answer(a: Answer) {
+pub(crate) fn answer(a: Answer) {
     match a {
         Answer::Accepted(f) => facts(f),
         Answer::Refused(r) => refusal(r),
     }
 }
 
-pub fn counted(c: Counted) {
+pub(crate) fn counted(c: Counted) {
     match c {
         Counted::Corners(n) => number(n as u64),
         Counted::Refused(r) => refusal(r),
     }
 }
 
-pub fn judged(j: Judged) {
+pub(crate) fn judged(j: Judged) {
     match j {
         Judged::Good => text(b"  good\n"),
         Judged::Refused(r) => refusal(r),

@@ -12,13 +12,13 @@ fn shown(ops: &[u8], table: &mut [u32], marks: &mut [u32], chain: &mut [u8]) {
 }
 
 // The hull of the operations, if they are steps.
-pub fn hulled(ops: &[u8], hull: &mut [i32]) {
+pub(crate) fn hulled(ops: &[u8], hull: &mut [i32]) {
     show::counted(hull_scan::list(ops, hull));
     show::numbers(b"  hull", hull);
 }
 
 // The turns of the operations, if they are steps, and the steps of these turns.
-pub fn turned(ops: &[u8], turns: &mut [u8], steps: &mut [u8]) {
+pub(crate) fn turned(ops: &[u8], turns: &mut [u8], steps: &mut [u8]) {
     show::judged(turns::turns_of(ops, turns));
     show::bytes(b"  turns", turns);
     show::judged(turns::steps_of(turns, steps));
@@ -92,7 +92,7 @@ fn end_of(s: &[u8], at: usize) -> usize
 }
 
 // Every line.
-pub fn each(s: &[u8]) {
+pub(crate) fn each(s: &[u8]) {
     let mut at = 0;
     while at < s.len() {
         let end = end_of(s, at);
