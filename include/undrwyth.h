@@ -13,7 +13,7 @@
  * the input; a refusal without a place has place 0. Signed values stand in the 32-bit words of an answer in two's
  * complement.
  *
- * Link with libembed.a. The calls need less than 512 KB of stack.
+ * Link with libundrwyth.a. The calls need less than 512 KB of stack.
  */
 #ifndef UNDRWYTH_H
 #define UNDRWYTH_H

@@ -9,14 +9,14 @@ use Rattle.lists.specs.Lists.{count}
 use Rattle.grid.specs.declared.Corner.{Corner}
 use Rattle.grid.specs.Grid.{corner, origin, same, cornersFrom}
 use Rattle.answer.specs.Refusal.{verdictNumber, judgedNumber, judgedPlace}
-use Rattle.word.specs.Operations.{survivors}
-use Rattle.word.specs.Turns.{turnsOf}
+use Rattle.steps.specs.Operations.{survivors}
+use Rattle.steps.specs.Turns.{turnsOf}
 use Rattle.trace.specs.Meeting.{Meeting, none, meet, meetingOf, visitedOf}
 use Rattle.trace.specs.Verdict.{verdictOf, areaOf}
 use Rattle.tree.specs.Nodes.{nodesOf, refOf, linkStepOf}
 use Rattle.layout.specs.Table.{recordWords, tableOf}
 use Rattle.layout.specs.Marks.{marksOf}
-use Rattle.calls.specs.Walk.{walkJudged}
+use Rattle.walk_call.specs.Walk.{walkJudged}
 use Rattle.hull.specs.Hull.{HullIs}
 
 -- what is said of a walk from the origin

@@ -14,11 +14,11 @@ use Rattle.answer.specs.declared.Judged.the-variants.{Good}
 use Rattle.answer.specs.Limits.{noMeeting}
 use Rattle.grid.specs.declared.Corner.{Corner}
 use Rattle.grid.specs.Grid.{origin, cornersFrom}
-use Rattle.word.specs.Operations.{survivors}
+use Rattle.steps.specs.Operations.{survivors}
 use Rattle.trace.specs.Meeting.{Meets, FirstMeets, Meeting, none, meet, meetingOf, meetingJ, meetingK}
 use Rattle.trace.specs.Verdict.{VerdictSays, IsRoom, sweepFrom}
 use Rattle.tree.specs.Nodes.{nodesOf}
-use Rattle.calls.specs.Walk.{factsOf, WalkIs}
+use Rattle.walk_call.specs.Walk.{factsOf, WalkIs}
 use Rattle.lists.proofs.DistinctLaws.{mem-getD}
 use Rattle.trace.proofs.MeetingLaws.{meetingOf-meets, meetingOf-none}
 use Rattle.trace.proofs.VerdictLaws.{verdict-says, area-room, area-other}

@@ -13,14 +13,14 @@ use Rattle.answer.specs.declared.Judged.the-variants.{Good}
 use Rattle.answer.specs.declared.Refusal.the-variants.{NoRoom}
 use Rattle.grid.specs.declared.Corner.{Corner}
 use Rattle.grid.specs.Grid.{origin, cornersFrom}
-use Rattle.word.specs.Operations.{survivors}
+use Rattle.steps.specs.Operations.{survivors}
 use Rattle.layout.specs.Marks.{chainOf}
 use Rattle.layout.specs.Table.{recordWords, tableOf}
-use Rattle.calls.specs.Walk.{walkJudged, factsOf, answerBy, bufferBy, WalkIs}
+use Rattle.walk_call.specs.Walk.{walkJudged, factsOf, answerBy, bufferBy, WalkIs}
 use Rattle.grid.proofs.StepLaws.{length-cornersFrom}
-use Rattle.word.proofs.SurvivorLaws.{sound-survivors}
+use Rattle.steps.proofs.SurvivorLaws.{sound-survivors}
 use Rattle.trace.proofs.VisitLaws.{length-visited-le}
-use Rattle.calls.proofs.RoomLaws.{alone}
+use Rattle.walk_call.proofs.RoomLaws.{alone}
 use Rattle.tree_laws.proofs.CountLaws.{few-nodes}
 use Rattle.demands.specs.Moments.{stepsAfter, nodesAfter, cornersAfter, AtMostEight, FourLessThree}
 use Rattle.demands.specs.Given.{Fine}

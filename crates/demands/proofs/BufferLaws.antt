@@ -10,12 +10,12 @@ use lib.Seq.{getD-append-add}
 use Rattle.lists.specs.Lists.{count}
 use Rattle.grid.specs.declared.Corner.{Corner}
 use Rattle.grid.specs.Grid.{origin, same, cornersFrom, endFrom}
-use Rattle.word.specs.Operations.{operate, survivorsFrom, survivors}
-use Rattle.word.specs.Turns.{turnOf, turnsFrom, turnsOf}
+use Rattle.steps.specs.Operations.{operate, survivorsFrom, survivors}
+use Rattle.steps.specs.Turns.{turnOf, turnsFrom, turnsOf}
 use Rattle.tree.specs.Nodes.{nodesOf}
 use Rattle.layout.specs.Marks.{marksFrom, chainOf}
 use Rattle.layout.specs.Table.{recordOf, recordsOf, tableOf}
-use Rattle.word.proofs.SurvivorLaws.{length-survivors}
+use Rattle.steps.proofs.SurvivorLaws.{length-survivors}
 use Rattle.layout.proofs.IndexLaws.{length-records, word-at}
 
 zeros : (n i : ℕ) → getD {A = ℕ} (replicate n 0) i 0 ≡ 0

@@ -11,7 +11,7 @@ use Rattle.answer.specs.declared.Judged.{Judged}
 use Rattle.answer.specs.declared.Judged.the-variants.{Good, Refused}
 use Rattle.answer.specs.declared.Refusal.{Refusal}
 use Rattle.grid.specs.declared.Corner.{Corner}
-use Rattle.word.specs.Turns.{turnsJudged, writtenIf, ConvertedBy}
+use Rattle.steps.specs.Turns.{turnsJudged, writtenIf, ConvertedBy}
 use Rattle.hull.specs.Call.{hullJudged, countedOf, numbers, bufferOf, HullCall}
 use Rattle.hull_laws.proofs.HullLaws.{hull-exists}
 

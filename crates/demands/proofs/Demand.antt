@@ -20,13 +20,13 @@ use Rattle.lists.specs.Lists.{Distinct}
 use Rattle.grid.specs.declared.Corner.{Corner}
 use Rattle.grid.specs.Grid.{origin, cornersFrom}
 use Rattle.grid.specs.Tree.{AncestorAt}
-use Rattle.word.specs.Operations.{survivors}
-use Rattle.word.specs.Turns.{turnOf, turnsOf, stepsOf, ConvertedBy}
+use Rattle.steps.specs.Operations.{survivors}
+use Rattle.steps.specs.Turns.{turnOf, turnsOf, stepsOf, ConvertedBy}
 use Rattle.trace.specs.Meeting.{Meets, FirstMeets, visitedOf}
 use Rattle.trace.specs.Verdict.{VerdictSays, IsRoom, sweepFrom}
 use Rattle.tree.specs.Nodes.{nodesOf, refOf, needOf, InUse}
 use Rattle.layout.specs.Table.{recordWords}
-use Rattle.calls.specs.Walk.{factsOf, WalkIs}
+use Rattle.walk_call.specs.Walk.{factsOf, WalkIs}
 use Rattle.hull.specs.Hull.{In, Exposed, HullIs}
 use Rattle.hull.specs.Call.{numbers, HullCall}
 use Rattle.hull_laws.proofs.ChainLaws.{Closed}
@@ -41,7 +41,7 @@ use Rattle.tree.proofs.NodeLaws as nodeLaws
 use Rattle.tree.proofs.OrderLaws as orderLaws
 use Rattle.tree_laws.proofs.CountLaws.{Within}
 use Rattle.tree_laws.proofs.CountLaws as countLaws
-use Rattle.word.proofs.TurnPromiseLaws as promiseLaws
+use Rattle.steps.proofs.TurnPromiseLaws as promiseLaws
 use Rattle.demands.specs.Moments.{nodesAfter, cornersAfter, visitsAfter, AtMostEight, FourLessThree, Exceeds}
 use Rattle.demands.specs.Given.{Faultless, NoRoomAt, Given}
 use Rattle.demands.specs.GivenTurns.{GivenTurns}

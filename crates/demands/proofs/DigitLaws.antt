@@ -19,8 +19,8 @@ use Rattle.answer.specs.declared.Refusal.the-variants.{TooMany, ResultRoom, Bad
 use Rattle.answer.specs.Limits.{mostInput, mostSteps}
 use Rattle.answer.specs.Refusal.{when, orElse}
 use Rattle.grid.specs.declared.Corner.{Corner}
-use Rattle.word.specs.Turns.{digitFaultsFrom, turnsJudged, ConvertedBy}
-use Rattle.word.proofs.TurnPromiseLaws as turns
+use Rattle.steps.specs.Turns.{digitFaultsFrom, turnsJudged, ConvertedBy}
+use Rattle.steps.proofs.TurnPromiseLaws as turns
 use Rattle.hull.specs.Call.{faultAt, faultFrom, roomJudged, hullJudged, countedOf, HullCall}
 use Rattle.hull_laws.proofs.CallLaws as hulls
 use Rattle.demands.specs.Given.{First}

@@ -17,10 +17,10 @@ use Rattle.answer.specs.Refusal.{orElse}
 use Rattle.grid.specs.declared.Corner.{Corner}
 use Rattle.grid.specs.Grid.{cornersFrom}
 use Rattle.tree.specs.Nodes.{nodesOf}
-use Rattle.word.specs.Operations.{operate, survivorsFrom, faultOf, faultsFrom, after}
-use Rattle.word.proofs.SurvivorLaws.{after-length}
-use Rattle.calls.specs.Walk.{roomFrom}
-use Rattle.calls.proofs.RoomLaws.{room-full, room-fits}
+use Rattle.steps.specs.Operations.{operate, survivorsFrom, faultOf, faultsFrom, after}
+use Rattle.steps.proofs.SurvivorLaws.{after-length}
+use Rattle.walk_call.specs.Walk.{roomFrom}
+use Rattle.walk_call.proofs.RoomLaws.{room-full, room-fits}
 use Rattle.demands.specs.Given.{First, Fine}
 use Rattle.demands.proofs.DemandCases as cases
 

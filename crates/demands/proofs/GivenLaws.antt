@@ -17,8 +17,8 @@ use Rattle.answer.specs.declared.Refusal.the-variants.{TooMany, Table, ResultRo
 use Rattle.answer.specs.Limits.{mostInput, mostRecords}
 use Rattle.answer.specs.Refusal.{when, orElse}
 use Rattle.grid.specs.declared.Corner.{Corner}
-use Rattle.word.specs.Operations.{faultOf, faultsFrom}
-use Rattle.calls.specs.Walk.{tableFits, roomFrom, walkJudged}
+use Rattle.steps.specs.Operations.{faultOf, faultsFrom}
+use Rattle.walk_call.specs.Walk.{tableFits, roomFrom, walkJudged}
 use Rattle.answer.proofs.RefusalLaws.{orElse-right}
 use Rattle.lists.proofs.GatherLaws.{and-left, and-right}
 use Rattle.demands.specs.Moments.{stepsAfter, nodesAfter}

@@ -19,8 +19,8 @@ use Rattle.grid.specs.declared.Corner.{Corner}
 use Rattle.grid.specs.Grid.{origin}
 use Rattle.layout.specs.Marks.{marksOf, chainOf}
 use Rattle.layout.specs.Table.{recordWords, tableOf}
-use Rattle.word.specs.Operations.{survivors}
-use Rattle.calls.specs.Walk.{walkJudged, walkAnswer, factsOf, answerBy, bufferBy, WalkIs}
+use Rattle.steps.specs.Operations.{survivors}
+use Rattle.walk_call.specs.Walk.{walkJudged, walkAnswer, factsOf, answerBy, bufferBy, WalkIs}
 use Rattle.demands.specs.Moments.{nodesAfter, Exceeds}
 use Rattle.demands.specs.Given.{Faultless, NoRoomAt, Given}
 use Rattle.demands.specs.Given as given

@@ -6,7 +6,7 @@ use lib.ListN.{length, take}
 use Rattle.lists.specs.Lists.{count}
 use Rattle.grid.specs.declared.Corner.{Corner}
 use Rattle.grid.specs.Grid.{same, cornersFrom, endFrom}
-use Rattle.word.specs.Operations.{survivors}
+use Rattle.steps.specs.Operations.{survivors}
 use Rattle.trace.specs.Meeting.{visitedOf}
 use Rattle.tree.specs.Nodes.{nodesOf}
 

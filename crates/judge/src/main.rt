@@ -5,7 +5,7 @@ use lines::Progress;
 ghost use mathlib.Core.Path.{_≡_};
 ghost use Prim.Native.Nat.{_<_, _≤_};
 ghost use lib.ListN.{length};
-ghost use Rattle.feed.specs.Feed.{mostAnswer};
+ghost use Rattle.line_stream.specs.Feed.{mostAnswer};
 ghost use Rattle.judge.specs.Turn.{heldBy};
 
 // After a turn: so many bytes of a line are held, or the input ended with so many held, or a call failed.

@@ -1,7 +1,7 @@
 -- The marks after each operation, and the chain of surviving steps (01, "What the calls take and give"). Assumes nothing.
 use Rattle.lists.specs.Lists.{List, [], _∷_, _++_, length, replicate, ℕ, _-_, count}
 use Rattle.grid.specs.{declared.Corner.Corner, Grid.same, Grid.cornersFrom, Grid.endFrom}
-use Rattle.word.specs.Operations.{operate, survivors}
+use Rattle.steps.specs.Operations.{operate, survivors}
 use Rattle.tree.specs.Nodes.{nodesOf}
 
 -- the nodes in use, then the visits at the corner now stood on

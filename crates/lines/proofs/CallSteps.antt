@@ -11,13 +11,13 @@ use lib.ListN.{length, take, drop, length-drop, length-take, length-append}
 use lib.Seq.{take-all, take-add, drop-drop, length-take-le}
 use lib.Dec.{eqb, ltb, leb}
 use borrow.Author.Tests.{le-ltb, lt-ltb, le-leb, lt-leb, eq-eqb, ne-eqb}
-use Rattle.frame.specs.Line.{lineAnswer}
-use Rattle.feed.specs.Feed.{mostAnswer}
-use Rattle.feed.specs.Feed.{lineLength, hasFeed, keptOf, passedOf, toldOf, heldOf, Fed}
-use Rattle.fields.specs.Put.{put, Wrote}
-use Rattle.feed.proofs.FeedLaws.{lineAnswer-keptOf}
-use Rattle.fields.proofs.PutLaws.{take-put-start, wrote-nil, take-put, drop-put, length-put}
-use Rattle.feed.proofs.FeedLaws.{lineLength-most, fed-passed, fed-nil, fed-append, passedOf-most, passedOf-some, toldOf-most}
+use Rattle.line_frame.specs.Line.{lineAnswer}
+use Rattle.line_stream.specs.Feed.{mostAnswer}
+use Rattle.line_stream.specs.Feed.{lineLength, hasFeed, keptOf, passedOf, toldOf, heldOf, Fed}
+use Rattle.line_fields.specs.Put.{put, Wrote}
+use Rattle.line_stream.proofs.FeedLaws.{lineAnswer-keptOf}
+use Rattle.line_fields.proofs.PutLaws.{take-put-start, wrote-nil, take-put, drop-put, length-put}
+use Rattle.line_stream.proofs.FeedLaws.{lineLength-most, fed-passed, fed-nil, fed-append, passedOf-most, passedOf-some, toldOf-most}
 use Rattle.lines.specs.declared.Progress.{Progress}
 use Rattle.lines.specs.Fed.{FedLine, Filled, Block, goesOn, fillOf, lineAfter}
 

@@ -6,7 +6,7 @@ use Prim.Native.Nat.{ℕ, _+_, _-_, _<_, _≤_}
 use native.Mathlib.Omega.{arith}
 use lib.ListN.{length, take, drop, length-drop, take-append-drop}
 use lib.Seq.{length-take-le}
-use Rattle.feed.specs.Feed.{toldOf}
+use Rattle.line_stream.specs.Feed.{toldOf}
 use Rattle.lines.specs.declared.Progress.{Progress}
 use Rattle.lines.specs.Fed.{FedLine, Filled, Block}
 

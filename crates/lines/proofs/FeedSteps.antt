@@ -10,10 +10,10 @@ use native.Mathlib.Decide.{decLe, decLt}
 use lib.ListN.{length, take, drop, getD, set, length-drop, length-append, drop-of-length-le}
 use lib.Seq.{drop-cons, paste, paste-suc, getD-drop, take-append-add, take-all, take-take, length-take-le, length-paste-head}
 use borrow.Author.Tests.{eq-eqb, ne-eqb}
-use Rattle.feed.specs.Feed.{mostLine}
-use Rattle.feed.specs.Feed.{lineLength, keptOf}
-use Rattle.fields.specs.Put.{put, Wrote}
-use Rattle.feed.proofs.FeedLaws.{lineLength-feed, lineLength-more}
+use Rattle.line_stream.specs.Feed.{mostLine}
+use Rattle.line_stream.specs.Feed.{lineLength, keptOf}
+use Rattle.line_fields.specs.Put.{put, Wrote}
+use Rattle.line_stream.proofs.FeedLaws.{lineLength-feed, lineLength-more}
 
 pub lineLength-here : (s : List ℕ) (i : ℕ) → i < length s → getD s i 0 ≡ 10 → lineLength (drop i s) ≡ 0
 lineLength-here s i h e = ap lineLength (drop-cons s i 0 h) ∙ lineLength-feed (drop (suc i) s) (getD s i 0) (eq-eqb (getD s i 0) 10 e)

@@ -7,9 +7,9 @@ use mathlib.Core.Logic.{_⊎_}
 use Prim.Native.Nat.{ℕ, zero, suc, _+_, _-_, _<_, _≤_}
 use lib.ListN.{length, take, drop}
 use lib.Dec.{eqb, ltb, leb}
-use Rattle.feed.specs.Feed.{mostAnswer}
-use Rattle.feed.specs.Feed.{lineLength, hasFeed, keptOf, passedOf, toldOf, heldOf, Fed}
-use Rattle.fields.specs.Put.{put, Wrote}
+use Rattle.line_stream.specs.Feed.{mostAnswer}
+use Rattle.line_stream.specs.Feed.{lineLength, hasFeed, keptOf, passedOf, toldOf, heldOf, Fed}
+use Rattle.line_fields.specs.Put.{put, Wrote}
 use Rattle.lines.specs.declared.Progress.{Progress}
 
 -- a whole line of the chunk is answered where it stands; any other is put together in the buffer

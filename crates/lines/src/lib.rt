@@ -1,13 +1,13 @@
 // Input that comes in parts: the bytes of a line begun are held in a lent buffer.
-use reply::Desk;
-use reply::tell;
+use line_reply::Desk;
+use line_reply::tell;
 ghost use mathlib.Core.Path.{_≡_};
 ghost use Prim.Native.Nat.{_+_, _-_, _<_, _≤_};
 ghost use lib.ListN.{length, take, drop};
 ghost use mathlib.Core.List.{_++_};
-ghost use Rattle.feed.specs.Feed.{mostAnswer, lineLength, keptOf, endOf};
-ghost use Rattle.fields.specs.Put.{Wrote};
-ghost use Rattle.reply.specs.Reply.{Lent};
+ghost use Rattle.line_stream.specs.Feed.{mostAnswer, lineLength, keptOf, endOf};
+ghost use Rattle.line_fields.specs.Put.{Wrote};
+ghost use Rattle.line_reply.specs.Reply.{Lent};
 ghost use Rattle.lines.specs.Fed.{FedLine, Filled};
 
 // After a call: so many bytes are held of the line begun, the chunk was passed up to at, and the output up to used is written.

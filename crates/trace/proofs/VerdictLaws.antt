@@ -17,8 +17,8 @@ use Rattle.grid.specs.declared.Corner.{Corner}
 use Rattle.grid.specs.Grid.{same, endFrom}
 use Rattle.grid.proofs.CornerLaws.{same-refl, same-sound}
 use Rattle.grid.proofs.StepLaws.{cornerAt-end}
-use Rattle.word.specs.Turns.{turnsOf, stepsOf}
-use Rattle.word.proofs.TurnLaws.{stepsOf-turnsOf}
+use Rattle.steps.specs.Turns.{turnsOf, stepsOf}
+use Rattle.steps.proofs.TurnLaws.{stepsOf-turnsOf}
 use Rattle.trace.specs.Meeting.{Meets, FirstMeets, Meeting, none, meet, meetingOf}
 use Rattle.trace.specs.Verdict.{onlyEnds, verdictBy, verdictOf, sweepFrom, areaBy, areaOf, IsRoom, VerdictSays}
 use Rattle.trace.proofs.MeetingLaws.{firstMeets-only, meetingOf-meets, meetingOf-none, meets-meetingOf, none-meetingOf}

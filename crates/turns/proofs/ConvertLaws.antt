@@ -10,7 +10,7 @@ use lib.Seq.{drop-cons, take-suc-set, append-snoc, take-all}
 use Rattle.answer.specs.declared.Judged.{Judged}
 use Rattle.answer.specs.declared.Judged.the-variants.{Good, Refused}
 use Rattle.answer.specs.declared.Refusal.{Refusal}
-use Rattle.word.specs.Turns.{turnsJudged, writtenIf, ConvertedBy}
+use Rattle.steps.specs.Turns.{turnsJudged, writtenIf, ConvertedBy}
 
 -- the first i digits are converted, a is the step before the rest, and what is left gives the whole
 pub record SoFar (convert : ℕ → List ℕ → List ℕ) (ds out : List ℕ) (a i : ℕ) : Type 0 where

@@ -1,1 +1,1 @@
--- The contracts of turns cite the definitions of word.
+-- The contracts of turns cite the definitions of steps.

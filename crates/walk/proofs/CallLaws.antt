@@ -16,21 +16,21 @@ use Rattle.answer.specs.declared.Judged.the-variants.{Good, Refused}
 use Rattle.answer.specs.declared.Refusal.{Refusal}
 use Rattle.answer.specs.declared.Refusal.the-variants.{NoRoom}
 use Rattle.answer.specs.Refusal.{orElse, refusalNumber}
-use Rattle.calls.specs.Walk.{roomFrom, walkJudged, factsOf, answerBy, bufferBy, WalkIs}
-use Rattle.course.specs.Runs.{Chained}
+use Rattle.walk_call.specs.Walk.{roomFrom, walkJudged, factsOf, answerBy, bufferBy, WalkIs}
+use Rattle.walk_run.specs.Runs.{Chained}
 use Rattle.grid.specs.declared.Corner.{Corner}
 use Rattle.grid.specs.Grid.{origin, cornersFrom}
 use Rattle.layout.specs.Marks.{marksOf, chainOf}
 use Rattle.layout.specs.Table.{tableOf}
-use Rattle.stride.specs.declared.Walk.{Walk}
+use Rattle.walk_step.specs.declared.Walk.{Walk}
 use Rattle.table_laws.specs.Model.{visitIn}
 use Rattle.tree.specs.Nodes.{nodesOf}
-use Rattle.word.specs.Operations.{operate, survivors}
-use Rattle.cells.proofs.CellLaws.{visit-first}
+use Rattle.steps.specs.Operations.{operate, survivors}
+use Rattle.walk_table.proofs.CellLaws.{visit-first}
 use Rattle.table_laws.proofs.BackLaws.{start-table}
-use Rattle.input.specs.Input.{inputJudged}
-use Rattle.facts.specs.Settled.{Settled}
-use Rattle.input.proofs.JudgeLaws.{Early, early-input, judged-split}
+use Rattle.walk_input.specs.Input.{inputJudged}
+use Rattle.walk_facts.specs.Settled.{Settled}
+use Rattle.walk_input.proofs.JudgeLaws.{Early, early-input, judged-split}
 use Rattle.walk.specs.Followed.{Followed}
 
 -- ---- the input

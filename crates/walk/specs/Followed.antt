@@ -5,11 +5,11 @@ use mathlib.Core.Path.{_≡_}
 use Prim.Native.Nat.{ℕ, _/_}
 use lib.ListN.{length}
 use Rattle.answer.specs.declared.Answer.{Answer}
-use Rattle.calls.specs.Walk.{roomFrom, factsOf, answerBy, bufferBy}
+use Rattle.walk_call.specs.Walk.{roomFrom, factsOf, answerBy, bufferBy}
 use Rattle.grid.specs.Grid.{origin}
 use Rattle.layout.specs.Marks.{marksOf, chainOf}
 use Rattle.layout.specs.Table.{tableOf}
-use Rattle.word.specs.Operations.{survivors}
+use Rattle.steps.specs.Operations.{survivors}
 
 -- what operations with no fault leave, in a table that held the root alone: the room decides
 pub record Followed (os t ms ch : List ℕ) (r : Answer) (t′ ms′ ch′ : List ℕ) : Type 0 where

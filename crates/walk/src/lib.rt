@@ -3,18 +3,18 @@ use answer::Answer;
 use answer::Facts;
 use answer::Judged;
 use answer::Refusal;
-use course::Ran;
-use stride::Walk;
+use walk_run::Ran;
+use walk_step::Walk;
 ghost use mathlib.Core.List.{List, [], _++_};
 ghost use mathlib.Core.Path.{_≡_};
 ghost use Prim.Native.Nat.{ℕ, _-_, _*_, _^_, _<_, _≤_};
 ghost use lib.ListN.{length, replicate};
 ghost use Rattle.answer.specs.declared.Judged.the-variants.{Good};
-ghost use Rattle.calls.specs.Walk.{factsOf, WalkIs};
+ghost use Rattle.walk_call.specs.Walk.{factsOf, WalkIs};
 ghost use Rattle.grid.specs.Grid.{origin};
 ghost use Rattle.layout.specs.Table.{tableOf};
-ghost use Rattle.word.specs.Operations.{faultsFrom};
-ghost use Rattle.facts.specs.Settled.{Settled, Settling};
+ghost use Rattle.steps.specs.Operations.{faultsFrom};
+ghost use Rattle.walk_facts.specs.Settled.{Settled, Settling};
 ghost use Rattle.walk.specs.Followed.{Followed};
 
 // A table with the root alone, which is visited once.
@@ -22,8 +22,8 @@ fn plant(t: &mut [u32])
     requires { ⌜ 21 ≤ length (now t) ⌝ }
     ensures { λ _. ⌜ now (t .exit) ≡ tableOf (length (now (t .entry))) origin [] ⌝ }
 {
-    erasure::zero(t);
-    cells::visit(t, 0, 0);
+    walk_table::zero(t);
+    walk_table::visit(t, 0, 0);
 }
 
 // All three buffers zero.
@@ -32,9 +32,9 @@ fn clear(t: &mut [u32], marks: &mut [u32], chain: &mut [u8])
     ensures marks { λ _. ⌜ now (marks .exit) ≡ replicate (length (now (marks .entry))) 0 ⌝ }
     ensures chain { λ _. ⌜ now (chain .exit) ≡ replicate (length (now (chain .entry))) 0 ⌝ }
 {
-    erasure::zero(t);
-    erasure::zero(marks);
-    erasure::zero_from(chain, 0);
+    walk_table::zero(t);
+    walk_table::zero(marks);
+    walk_table::zero_from(chain, 0);
 }
 
 // The facts of a walk that is over, whose chain is cleared behind its steps.
@@ -43,8 +43,8 @@ fn accept(chain: &mut [u8], w: Walk) -> Facts
     ensures { λ r. ⌜ ((ds : List ℕ) → Settled (now (chain .entry)) ds w → (r ≡ factsOf origin ds) × (now (chain .exit) ≡ ds ++ replicate (length (now (chain .entry)) - length ds) 0)) ⌝ }
 {
     let n = w.spot.steps;
-    erasure::zero_from(chain, n);
-    facts::facts(chain, w)
+    walk_table::zero_from(chain, n);
+    walk_facts::facts(chain, w)
 }
 
 // Follows operations that have no fault, in a table with the root alone.
@@ -54,7 +54,7 @@ fn go_on(ops: &[u8], t: &mut [u32], marks: &mut [u32], chain: &mut [u8]) -> Answ
     requires { ⌜ faultsFrom 0 0 (now ops) ≡ Good ⌝ }
     ensures { λ r. ⌜ Followed (now (ops .entry)) (now (t .entry)) (now (marks .entry)) (now (chain .entry)) r (now (t .exit)) (now (marks .exit)) (now (chain .exit)) ⌝ }
 {
-    match course::run(ops, t, marks, chain) {
+    match walk_run::run(ops, t, marks, chain) {
         Ran::Full(i) => {
             clear(t, marks, chain);
             Answer::Refused(Refusal::NoRoom(i))
@@ -69,7 +69,7 @@ fn go_on(ops: &[u8], t: &mut [u32], marks: &mut [u32], chain: &mut [u8]) -> Answ
 pub fn follow(ops: &[u8], t: &mut [u32], marks: &mut [u32], chain: &mut [u8]) -> Answer
     ensures { λ r. ⌜ WalkIs origin (now (ops .entry)) (now (t .entry)) (now (marks .entry)) (now (chain .entry)) r (now (t .exit)) (now (marks .exit)) (now (chain .exit)) ⌝ }
 {
-    let j = input::input(ops, t.len(), marks.len(), chain.len());
+    let j = walk_input::input(ops, t.len(), marks.len(), chain.len());
     if let Judged::Refused(r) = j {
         return Answer::Refused(r);
     }

@@ -18,7 +18,7 @@ pub(crate) fn number(n: u64) {
 // In 8 hexadecimal digits, a negative in two's complement.
 fn signed(x: i32) {
     text(b" ");
-    io::print_hex(STDOUT_FILENO, fields::hex::bits(x) as u64, 8);
+    io::print_hex(STDOUT_FILENO, line_fields::hex::bits(x) as u64, 8);
 }
 
 fn byte(x: u8) -> u64 {
@@ -67,8 +67,8 @@ pub(crate) fn numbers(name: &[u8], s: &[i32]) {
 
 pub(crate) fn refusal(r: Refusal) {
     text(b"  refused");
-    number(numbers::number(r) as u64);
-    number(numbers::place(r) as u64);
+    number(answer::refusal_number(r) as u64);
+    number(answer::refusal_place(r) as u64);
     text(b"\n");
 }
 
@@ -77,7 +77,7 @@ fn facts(f: Facts) {
     let verdict = f.verdict;
     let last = f.last;
     text(b"  accepted");
-    number(numbers::verdict(verdict) as u64);
+    number(answer::verdict_number(verdict) as u64);
     number(f.steps as u64);
     number(f.nodes as u64);
     number(f.corners as u64);

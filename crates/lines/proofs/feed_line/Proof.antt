@@ -3,9 +3,9 @@ use mathlib.Core.List.{List, [], _∷_, _++_}
 use Prim.Native.Nat.{ℕ, _+_, _-_, _≤_, _<_}
 use native.Mathlib.Omega.{arith}
 use lib.ListN.{length, take, drop, length-drop}
-use Rattle.fields.specs.Put.{Wrote}
+use Rattle.line_fields.specs.Put.{Wrote}
 use lib.Seq.{length-take-le}
-use Rattle.feed.proofs.FeedLaws.{lineLength-most}
+use Rattle.line_stream.proofs.FeedLaws.{lineLength-most}
 use Rattle.lines.proofs.CallSteps.{fed-none, fed-here, fed-kept, length-keptOf}
 use borrow.Author.Needs.{needs}
 use Rattle.lines.proofs.feed_line.Statement.{statement}
@@ -14,7 +14,7 @@ use Rattle.lines.proofs.feed_line.Reads as reads
 use Rattle.lines.proofs.feed_line.Lts as lts
 use Rattle.lines.proofs.hold.Reads as hold-reads
 use Rattle.lines.proofs.line_end.Reads as line-end-reads
-use Rattle.reply.proofs.tell.Reads as tell-reads
+use Rattle.line_reply.proofs.tell.Reads as tell-reads
 
 -- src/lib.rt:79:9
 line-end-requires : tie.Need-line-end-requires

@@ -3,11 +3,11 @@ use mathlib.Core.List.{List, [], _∷_, _++_}
 use Prim.Native.Nat.{ℕ, _+_, _-_, _≤_, _<_}
 use native.Mathlib.Omega.{arith}
 use lib.ListN.{length, take, drop, length-drop}
-use Rattle.fields.specs.Put.{Wrote}
+use Rattle.line_fields.specs.Put.{Wrote}
 use mathlib.Core.Logic.{_⊎_, inl, inr}
 use Rattle.lines.proofs.CallSteps.{Filling, filling-start, filling-next, filling-done, falls}
 use borrow.Author.Needs.{needs}
-use Rattle.reply.specs.Reply.{Lent}
+use Rattle.line_reply.specs.Reply.{Lent}
 use Rattle.lines.proofs.fill.Statement.{statement}
 use Rattle.lines.proofs.fill.Tie as tie
 use Rattle.lines.proofs.fill.Reads as reads

@@ -3,17 +3,17 @@ use mathlib.Core.List.{List, [], _∷_, _++_}
 use Prim.Native.Nat.{ℕ, _+_, _-_, _≤_, _<_}
 use native.Mathlib.Omega.{arith}
 use lib.ListN.{length, take, drop, length-drop}
-use Rattle.fields.specs.Put.{Wrote}
+use Rattle.line_fields.specs.Put.{Wrote}
 use lib.Seq.{length-take-le}
-use Rattle.feed.specs.Feed.{endOf}
-use Rattle.feed.proofs.FeedLaws.{endOf-nil, endOf-line}
-use Rattle.fields.proofs.PutLaws.{wrote-nil}
+use Rattle.line_stream.specs.Feed.{endOf}
+use Rattle.line_stream.proofs.FeedLaws.{endOf-nil, endOf-line}
+use Rattle.line_fields.proofs.PutLaws.{wrote-nil}
 use borrow.Author.Needs.{needs}
 use Rattle.lines.proofs.finish.Statement.{statement}
 use Rattle.lines.proofs.finish.Tie as tie
 use Rattle.lines.proofs.finish.Reads as reads
 use Rattle.lines.proofs.finish.Lts as lts
-use Rattle.reply.proofs.tell.Reads as tell-reads
+use Rattle.line_reply.proofs.tell.Reads as tell-reads
 
 -- src/lib.rt:142:9
 returns : tie.Need-returns

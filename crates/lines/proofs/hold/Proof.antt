@@ -1,4 +1,4 @@
-use Rattle.fields.specs.Put.{Wrote}
+use Rattle.line_fields.specs.Put.{Wrote}
 use lib.Seq.{paste-zero, length-paste}
 use Rattle.lines.proofs.FeedSteps.{paste-next, hold-kept}
 use borrow.Author.Needs.{needs}

@@ -1,6 +1,6 @@
 use Rattle.lines.proofs.FeedSteps.{lineLength-here, lineLength-next, lineLength-end}
 use borrow.Author.Needs.{needs}
-use Rattle.feed.specs.Feed.{lineLength}
+use Rattle.line_stream.specs.Feed.{lineLength}
 use lib.ListN.{length, take, drop, getD, set, length-set}
 use native.Mathlib.Omega.{arith}
 use mathlib.Core.Path.{_≡_, refl, sym, ap, _∙_}

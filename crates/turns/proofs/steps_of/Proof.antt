@@ -3,8 +3,8 @@
 use mathlib.Core.Path.{sym, _∙_}
 use borrow.Author.Needs.{needs}
 use lib.ListN.{length}
-use Rattle.word.specs.Turns.{stepsOf}
-use Rattle.word.proofs.TurnPromiseLaws.{turnsJudged-good}
+use Rattle.steps.specs.Turns.{stepsOf}
+use Rattle.steps.proofs.TurnPromiseLaws.{turnsJudged-good}
 use Rattle.turns.proofs.ConvertLaws.{converted, kept}
 use Rattle.turns.proofs.steps_of.Statement.{statement}
 use Rattle.turns.proofs.steps_of.Tie as tie

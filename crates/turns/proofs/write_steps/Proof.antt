@@ -6,8 +6,8 @@ use native.Mathlib.Omega.{arith}
 use borrow.Author.Needs.{needs}
 use lib.ListN.{length}
 use Rattle.lists.proofs.BelowLaws.{below-getD}
-use Rattle.word.specs.Turns.{stepAfter, stepsFrom}
-use Rattle.word.proofs.TurnLaws.{stepsFrom-east}
+use Rattle.steps.specs.Turns.{stepAfter, stepsFrom}
+use Rattle.steps.proofs.TurnLaws.{stepsFrom-east}
 use Rattle.turns.proofs.ConvertLaws.{SoFar, one-more, all-done}
 use Rattle.turns.proofs.write_steps.Statement.{statement}
 use Rattle.turns.proofs.write_steps.Tie as tie

@@ -6,8 +6,8 @@ use native.Mathlib.Omega.{arith}
 use borrow.Author.Needs.{needs}
 use lib.ListN.{length, getD}
 use Rattle.lists.proofs.BelowLaws.{below-getD}
-use Rattle.word.specs.Turns.{turnOf, turnsFrom}
-use Rattle.word.proofs.TurnLaws.{turnsFrom-east}
+use Rattle.steps.specs.Turns.{turnOf, turnsFrom}
+use Rattle.steps.proofs.TurnLaws.{turnsFrom-east}
 use Rattle.turns.proofs.ConvertLaws.{SoFar, one-more, all-done}
 use Rattle.turns.proofs.write_turns.Statement.{statement}
 use Rattle.turns.proofs.write_turns.Tie as tie

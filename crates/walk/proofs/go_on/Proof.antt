@@ -5,10 +5,10 @@ use Prim.Native.Nat.{ℕ}
 use native.Mathlib.Omega.{arith}
 use borrow.Author.Needs.{needs}
 use lib.ListN.{length, replicate}
-use Rattle.course.specs.declared.Ran.{Ran}
-use Rattle.course.specs.Runs.{Ended}
+use Rattle.walk_run.specs.declared.Ran.{Ran}
+use Rattle.walk_run.specs.Runs.{Ended}
 use Rattle.grid.specs.Grid.{origin}
-use Rattle.word.specs.Operations.{survivors}
+use Rattle.steps.specs.Operations.{survivors}
 use Rattle.walk.proofs.CallLaws.{settled-of, followed-full, followed-all}
 use Rattle.walk.proofs.go_on.Statement.{statement}
 use Rattle.walk.proofs.go_on.Tie as tie

@@ -1,2 +1,0 @@
--- The numbers that cross the C boundary.
-pub mod Words

@@ -1,1 +1,0 @@
--- The contracts of digits cite the definitions of word.

@@ -1,2 +1,0 @@
--- What the exported functions promise.
-pub mod Boundary

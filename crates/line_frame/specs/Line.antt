@@ -1,0 +1,40 @@
+-- One line: the frame that it is, and its answer without the line feed (01, "The line program"). Assumes nothing.
+use Rattle.lists.specs.Lists.{Bool, cond, _&&_, List, length, take, drop, ℕ, zero, suc, _+_, eqb, ltb, leb}
+use Rattle.answer.specs.declared.Refusal.the-variants.{BadLine}
+use Rattle.line_frame.specs.declared.Frame.{Frame, the-variants.Operations, the-variants.Turns, the-variants.Bad}
+use Rattle.line_frame.specs.{Hex.allHex, Hex.valuesOf, Hex.numberFrom, Spelled.walkedLine, Spelled.turnedLine, Spelled.refusedLine}
+
+-- the first two digits
+abbrev pub kindOf : List ℕ → ℕ
+kindOf s = numberFrom 0 (take 2 s)
+
+-- the four digits after the kind
+abbrev pub countOf : List ℕ → ℕ
+countOf s = numberFrom 0 (take 4 (drop 2 s))
+
+-- digits alone; kind 00 or 01; a count of at most 0400; and as many digits after it as it says
+abbrev pub isFrame : List ℕ → Bool
+isFrame s = allHex s && ltb (kindOf s) 2 && leb (countOf s) 0x0400 && eqb (length s) (6 + countOf s)
+
+-- kind 00 has operations, 01 turns
+abbrev pub framed : ℕ → ℕ → Frame
+framed zero n = Operations n
+framed (suc k) n = Turns n
+
+-- the frame that a line is; anything else is bad
+unfoldable pub frameOf : List ℕ → Frame
+frameOf s = cond (isFrame s) (framed (kindOf s) (countOf s)) Bad
+
+-- the operations or turns of a frame
+abbrev pub digitsOf : List ℕ → List ℕ
+digitsOf s = valuesOf (drop 6 s)
+
+-- the answer to a frame with these digits; to anything else, refusal 9
+abbrev pub answerOf : Frame → List ℕ → List ℕ
+answerOf (Operations n) ds = walkedLine ds
+answerOf (Turns n) ds = turnedLine ds
+answerOf Bad ds = refusedLine BadLine
+
+-- the answer to a line
+unfoldable pub lineAnswer : List ℕ → List ℕ
+lineAnswer s = answerOf (frameOf s) (digitsOf s)

@@ -1,0 +1,53 @@
+-- The answer to a good frame, without the line feed (01, "The line program"). Assumes nothing.
+use Rattle.lists.specs.Lists.{List, [], _∷_, _++_, length, ℕ, _+_, _*_, ℤ}
+use Rattle.answer.specs.declared.{Refusal.Refusal, Judged.Judged, Judged.the-variants.Good, Judged.the-variants.Refused, Facts.Facts, Answer.Answer}
+use Rattle.answer.specs.Refusal.{refusalNumber, refusalPlace, verdictNumber}
+use Rattle.grid.specs.{declared.Corner.Corner, Grid.origin}
+use Rattle.steps.specs.{Operations.survivors, Turns.turnsJudged, Turns.stepsOf}
+use Rattle.layout.specs.Table.{recordWords}
+use Rattle.walk_call.specs.Walk.{walkAnswer}
+use Rattle.hull.specs.Call.{numbers}
+use Rattle.hull_laws.specs.Outline.{hullOf}
+use Rattle.line_frame.specs.Hex.{hexOf, bitsOf}
+
+-- refused: hexadecimal 80 plus the number, then the place in 8 digits
+abbrev pub refusedLine : Refusal → List ℕ
+refusedLine r = hexOf 2 (0x80 + refusalNumber r) ++ hexOf 8 (refusalPlace r)
+
+-- verdict 2 digits, n 4, nodes 8, different corners 4, j 4, k 4, area 8
+abbrev pub factsLine : Facts → List ℕ
+factsLine f =
+    hexOf 2 (verdictNumber (f .verdict))
+    ++ hexOf 4 (f .steps)
+    ++ hexOf 8 (f .nodes)
+    ++ hexOf 4 (f .corners)
+    ++ hexOf 4 (f .j)
+    ++ hexOf 4 (f .k)
+    ++ hexOf 8 (bitsOf (f .area))
+
+-- whole numbers, 4 digits each, negatives in two's complement
+unfoldable pub numbersLine : List ℤ → List ℕ
+numbersLine [] = []
+numbersLine (z ∷ zs) = hexOf 4 (bitsOf z) ++ numbersLine zs
+
+-- hull count 4 digits, then x and y of each hull corner
+abbrev pub hullLine : List Corner → List ℕ
+hullLine cs = hexOf 4 (length cs) ++ numbersLine (numbers cs)
+
+-- the walk's answer, and the hull of the surviving steps if it is accepted
+abbrev pub answerLine : Answer → List ℕ → List ℕ
+answerLine (Answer.Accepted f) w = factsLine f ++ hullLine (hullOf origin w)
+answerLine (Answer.Refused r) w = refusedLine r
+
+-- operations are walked in a table of 390 records, with marks and a chain of the lengths that the walk asks for
+unfoldable pub walkedLine : List ℕ → List ℕ
+walkedLine os = answerLine (walkAnswer origin os (recordWords 1 * 390) (2 * length os) (length os)) (survivors os)
+
+-- turns that may be converted are walked as steps
+abbrev pub turnedBy : Judged → List ℕ → List ℕ
+turnedBy Good ts = walkedLine (stepsOf ts)
+turnedBy (Refused r) ts = refusedLine r
+
+-- turns are turned into steps first, in a buffer of their length
+unfoldable pub turnedLine : List ℕ → List ℕ
+turnedLine ts = turnedBy (turnsJudged ts (length ts)) ts

@@ -1,0 +1,119 @@
+-- Operations with no fault, and what survives of them: digits below 4, and not too many. Steps alone survive as they are.
+-- Assumes nothing.
+use mathlib.Core.Bool.{Bool, true, false, not, _&&_}
+use mathlib.Core.List.{List, [], _∷_, _++_, append-nil, append-assoc}
+use mathlib.Core.Logic.{_⊎_, inl, inr, ⊎-elim}
+use mathlib.Core.Path.{_≡_, refl, ap, sym, _∙_, subst}
+use Prim.Native.Nat.{ℕ, zero, suc, _+_, _-_, _<_, _≤_}
+use native.Mathlib.Omega.{arith}
+use borrow.Author.Tests.{ltb-true, ltb-false, eqb-true, eqb-false, ne-eqb, lt-ltb, le-ltb}
+use lib.Dec.{eqb, ltb}
+use lib.ListN.{length, length-append}
+use Rattle.answer.specs.declared.Judged.the-variants.{Good, Refused}
+use Rattle.answer.specs.declared.Refusal.the-variants.{BadDigit, NothingToTake, TooLong}
+use Rattle.lists.specs.Lists.{front, Below}
+use Rattle.answer.proofs.RefusalLaws.{refused-not-good, orElse-good}
+use Rattle.steps.specs.Operations.{operate, survivorsFrom, faultOf, after, faultsFrom}
+use Rattle.steps.proofs.OperationCases as cases
+
+pub operate-step : (s : List ℕ) (d : ℕ) → d < 4 → operate s d ≡ s ++ (d ∷ [])
+operate-step s d h = rw (ne-eqb d 4 (λ e. omega arith), operate)
+
+pub front-snoc : (s : List ℕ) (d : ℕ) → front (s ++ (d ∷ [])) ≡ s
+front-snoc [] d = refl
+front-snoc (x ∷ []) d = refl
+front-snoc (x ∷ y ∷ s) d = ap (λ (l : List ℕ). x ∷ l) (front-snoc (y ∷ s) d)
+
+pub operate-back : (s : List ℕ) (d : ℕ) → operate (s ++ (d ∷ [])) 4 ≡ s
+operate-back s d = front-snoc s d
+
+pub survivors-steps : (s ds : List ℕ) → Below 4 ds → survivorsFrom s ds ≡ s ++ ds
+survivors-steps s [] b = sym (append-nil s)
+survivors-steps s (d ∷ ds) b = rw (operate-step s d (b .0)) (survivors-steps (s ++ (d ∷ [])) ds (b .1) ∙ append-assoc s (d ∷ []) ds)
+
+length-front : (s : List ℕ) → length (front s) ≡ length s - 1
+length-front [] = refl
+length-front (x ∷ []) = refl
+length-front (x ∷ y ∷ s) = omega (arith, length-front (y ∷ s))
+
+below-front : (s : List ℕ) → Below 4 s → Below 4 (front s)
+below-front [] b = tt
+below-front (x ∷ []) b = tt
+below-front (x ∷ y ∷ s) b = (b .0, below-front (y ∷ s) (b .1))
+
+pub below-snoc : (s : List ℕ) (d : ℕ) → Below 4 s → d < 4 → Below 4 (s ++ (d ∷ []))
+below-snoc [] d b h = (h, tt)
+below-snoc (x ∷ s) d b h = (b .0, below-snoc s d (b .1) h)
+
+pub below-last : (s : List ℕ) (d : ℕ) → Below 4 (s ++ (d ∷ [])) → d < 4
+below-last [] d b = b .0
+below-last (x ∷ s) d b = below-last s d (b .1)
+
+-- an operation with no fault: a take-back with a step to take, or a step that is not too many
+abbrev pub Fine : ℕ → ℕ → Type 0
+Fine n o = ((o ≡ 4) × (0 < n)) ⊎ ((o < 4) × (n < 16384))
+
+pub fault-none : (i n o : ℕ) → faultOf i n o ≡ Good → Fine n o
+fault-none i n o e = go (ltb 4 o) refl (eqb o 4) refl (eqb n 0) refl (ltb n 16384) refl
+  where
+    go : (a : Bool) → ltb 4 o ≡ a → (b : Bool) → eqb o 4 ≡ b → (c : Bool) → eqb n 0 ≡ c → (d : Bool) → ltb n 16384 ≡ d → Fine n o
+    go true p b q c r d s = absurd (refused-not-good (BadDigit i) (rw p at e))
+    go false p true q true r d s = absurd (refused-not-good (NothingToTake i) (rw (p, q, r) at e))
+    go false p true q false r d s = inl (eqb-true o 4 q, omega (arith, eqb-false n 0 r))
+    go false p false q c r true s = inr (omega (arith, ltb-false 4 o p, eqb-false o 4 q), ltb-true n 16384 s)
+    go false p false q c r false s = absurd (refused-not-good (TooLong i) (rw (p, q, s) at e))
+
+pub fault-step : (i n o : ℕ) (os : List ℕ) → faultsFrom i n (o ∷ os) ≡ Good → (faultOf i n o ≡ Good) × (faultsFrom (suc i) (after n o) os ≡ Good)
+fault-step i n o os e = orElse-good (faultOf i n o) (faultsFrom (suc i) (after n o) os) e
+
+pub after-length : (s : List ℕ) (o : ℕ) → after (length s) o ≡ length (operate s o)
+after-length s o = go (eqb o 4) refl
+  where
+    go : (b : Bool) → eqb o 4 ≡ b → after (length s) o ≡ length (operate s o)
+    go true e = rw (e, after, operate) (sym (length-front s))
+    go false e = rw (e, after, operate) (sym (length-append s (o ∷ [])))
+
+pub fine-back : (n o : ℕ) → Fine n o → o ≡ 4 → 0 < n
+fine-back n o f p = ⊎-elim (λ k. k .1) (λ k. absurd (let z = k .0 in omega arith)) f
+
+pub fine-step : (n o : ℕ) → Fine n o → (o ≡ 4 → ⊥) → (o < 4) × (n < 16384)
+fine-step n o f g = ⊎-elim (λ k. absurd (g (k .0))) (λ k. k) f
+
+-- what survives of a record with no fault
+pub record Sound (s : List ℕ) : Type 0 where
+  pub digits : Below 4 s
+  pub few : length s ≤ 16384
+
+pub sound-operate : (s : List ℕ) (o : ℕ) → Sound s → Fine (length s) o → Sound (operate s o)
+sound-operate s o h f =
+    ⊎-elim
+    (λ k. rw (k .0) (record { digits = below-front s (h .digits); few = omega (arith, length-front s, h .few) }))
+    (λ k. rw (operate-step s o (k .0)) (record { digits = below-snoc s o (h .digits) (k .0); few = omega (arith, length-append s (o ∷ []), k .1) }))
+    f
+
+pub sound-survivors : (i : ℕ) (s os : List ℕ) → Sound s → faultsFrom i (length s) os ≡ Good → Sound (survivorsFrom s os)
+sound-survivors i s [] h e = h
+sound-survivors i s (o ∷ os) h e =
+    let k = fault-step i (length s) o os e in
+    sound-survivors (suc i) (operate s o) os (sound-operate s o h (fault-none i (length s) o (k .0))) (subst (λ n. faultsFrom (suc i) n os ≡ Good) (after-length s o) (k .1))
+
+-- steps alone have no fault
+step-fault : (i n d : ℕ) → d < 4 → n < 16384 → faultOf i n d ≡ Good
+step-fault i n d h k = rw (le-ltb 4 d (omega arith), ne-eqb d 4 (λ e. omega arith), lt-ltb n 16384 k, faultOf)
+
+pub steps-accepted : (i n : ℕ) (ds : List ℕ) → Below 4 ds → n + length ds ≤ 16384 → faultsFrom i n ds ≡ Good
+steps-accepted i n [] b h = refl
+steps-accepted i n (d ∷ ds) b h =
+    let a : after n d ≡ n + 1 = rw (ne-eqb d 4 (λ e. omega (arith, b .0)), after) in
+    rw (step-fault i n d (b .0) (omega arith)) (rw a (steps-accepted (suc i) (n + 1) ds (b .1) (omega arith)))
+
+pub length-operate : (s : List ℕ) (o : ℕ) → length (operate s o) ≤ length s + 1
+length-operate s o = go (eqb o 4) refl
+  where
+    go : (b : Bool) → eqb o 4 ≡ b → length (operate s o) ≤ length s + 1
+    go true e = rw (e, operate) (omega (arith, length-front s))
+    go false e = rw (e, operate) (omega (arith, length-append s (o ∷ [])))
+
+pub length-survivors : (s os : List ℕ) → length (survivorsFrom s os) ≤ length s + length os
+length-survivors s [] = omega arith
+length-survivors s (o ∷ os) = omega (arith, length-survivors (operate s o) os, length-operate s o)

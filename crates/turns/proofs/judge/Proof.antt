@@ -1,0 +1,29 @@
+-- `turns::judge` meets its contract: its tests are those of the judgement, in the same order.
+-- Assumes nothing.
+use mathlib.Core.Path.{sym, _∙_}
+use borrow.Author.Needs.{needs}
+use native.Mathlib.Omega.{arith}
+use Rattle.steps.proofs.TurnPromiseLaws.{judged-many, judged-room, judged-digits}
+use Rattle.turns.proofs.judge.Statement.{statement}
+use Rattle.turns.proofs.judge.Tie as tie
+
+returns : tie.Need-returns
+returns c =
+    let s = c .before .before in
+    sym (judged-many (s .args .digits .now) (s .args .room) (c .if1 .taken))
+
+returns-2 : tie.Need-returns-2
+returns-2 c =
+    let s = c .before .before .before in
+    sym (judged-room (s .args .digits .now) (s .args .room) (c .before .if1 .left) (c .if2 .taken))
+
+judge-digits-requires : tie.Need-judge-digits-requires
+judge-digits-requires c κs = search needs
+
+returns-3 : tie.Need-returns-3
+returns-3 c =
+    let s = c .before .before .before .before in
+    c .judge-digits .ensures ∙ sym (judged-digits (s .args .digits .now) (s .args .room) (c .before .before .if1 .left) (omega arith))
+
+pub judge-spec : {M : Type 1} → statement M
+judge-spec = tie.close (tie.spec returns returns-2 judge-digits-requires returns-3)

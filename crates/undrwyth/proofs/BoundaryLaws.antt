@@ -1,0 +1,89 @@
+-- The numbers that cross the boundary fit 32 bits.
+-- Assumes nothing.
+use mathlib.Core.Bool.{Bool, true, false, not}
+use mathlib.Core.List.{List, [], _∷_}
+use mathlib.Core.Path.{_≡_, refl, sym, subst}
+use Prim.Native.Nat.{ℕ, suc, _+_, _*_, _^_, _<_, _≤_}
+use native.Mathlib.Omega.{arith}
+use borrow.Author.Tests.{ltb-false}
+use lib.Dec.{eqb, ltb}
+use lib.IntN.{ℤ}
+use lib.ListN.{length}
+use Rattle.answer.specs.declared.Answer.{Answer}
+use Rattle.answer.specs.declared.Counted.{Counted}
+use Rattle.answer.specs.declared.Judged.{Judged}
+use Rattle.answer.specs.declared.Judged.the-variants.{Good, Refused}
+use Rattle.answer.specs.declared.Refusal.the-variants.{TooMany, ResultRoom, BadDigit, TooLong, HullRoom}
+use Rattle.answer.specs.Refusal.{when, orElse, judgedPlace}
+use Rattle.walk_call.specs.Walk.{walkJudged, factsOf, answerBy, WalkIs}
+use Rattle.grid.specs.Grid.{origin}
+use Rattle.hull.specs.Call.{faultFrom, roomJudged, hullJudged, countedOf, HullCall}
+use Rattle.steps.specs.Operations.{survivors}
+use Rattle.steps.specs.Turns.{digitFaultsFrom, turnsJudged}
+use Rattle.answer.proofs.RefusalLaws.{refused-not-good}
+use Rattle.walk_call.proofs.SmallLaws.{Placed, placed-when, placed-or, walk-placed, walk-few}
+use Rattle.hull_laws.proofs.HullLaws.{hull-count-steps}
+use Rattle.undrwyth.specs.Words.{AnswerFits, CountedFits}
+
+place-fits : (j : Judged) → Placed 32768 j → judgedPlace j < 2 ^ 32
+place-fits Good p = omega arith
+place-fits (Refused r) p = omega (arith, p)
+
+pub answer-fits : (os t ms ch : List ℕ) (r : Answer) (t′ ms′ ch′ : List ℕ) → WalkIs origin os t ms ch r t′ ms′ ch′ → AnswerFits r
+answer-fits os t ms ch r t′ ms′ ch′ w = subst AnswerFits (sym (w .answer)) (go (walkJudged origin os (length t) (length ms) (length ch)) refl)
+  where
+    go : (j : Judged) → walkJudged origin os (length t) (length ms) (length ch) ≡ j → AnswerFits (answerBy (walkJudged origin os (length t) (length ms) (length ch)) (factsOf origin (survivors os)))
+    go Good e =
+        let k = walk-few origin os (length t) (length ms) (length ch) (omega arith) e in
+        rw e (omega (arith, k .steps), omega (arith, k .nodes), omega (arith, k .corners), omega (arith, k .j), omega (arith, k .k))
+    go (Refused x) e = rw e (omega (arith, subst (Placed 32768) e (walk-placed origin os (length t) (length ms) (length ch))))
+
+-- a refusal of digits stands at one of them
+placed-hull : (i : ℕ) (ds : List ℕ) (b : ℕ) → i + length ds ≤ b → Placed b (faultFrom i ds)
+placed-hull i [] b h = tt
+placed-hull i (d ∷ ds) b h =
+    let x = when (ltb 3 d) (BadDigit i) in
+    let y = when (eqb i 16384) (TooLong i) in
+    placed-or b (orElse x y) (faultFrom (suc i) ds)
+    (placed-or b x y (placed-when b (ltb 3 d) (BadDigit i) (omega arith)) (placed-when b (eqb i 16384) (TooLong i) (omega arith)))
+    (placed-hull (suc i) ds b (omega arith))
+
+placed-digits : (i : ℕ) (ds : List ℕ) (b : ℕ) → i + length ds ≤ b → Placed b (digitFaultsFrom i ds)
+placed-digits i [] b h = tt
+placed-digits i (d ∷ ds) b h = placed-or b (when (ltb 3 d) (BadDigit i)) (digitFaultsFrom (suc i) ds) (placed-when b (ltb 3 d) (BadDigit i) (omega arith)) (placed-digits (suc i) ds b (omega arith))
+
+-- 1 comes first, so that what comes after it is judged of an input of 32,768 bytes at most
+placed-after : (n : ℕ) (rest : Judged) → (n ≤ 32768 → Placed 32768 rest) → Placed 32768 (orElse (when (ltb 32768 n) TooMany) rest)
+placed-after n rest f = go (ltb 32768 n) refl
+  where
+    go : (b : Bool) → ltb 32768 n ≡ b → Placed 32768 (orElse (when (ltb 32768 n) TooMany) rest)
+    go true e = rw e (omega arith)
+    go false e = rw e (f (ltb-false 32768 n e))
+
+pub turns-fit : (ds : List ℕ) (room : ℕ) (j : Judged) → j ≡ turnsJudged ds room → judgedPlace j < 2 ^ 32
+turns-fit ds room j e =
+    let x = not (eqb room (length ds)) in
+    let f = digitFaultsFrom 0 ds in
+    place-fits j (subst (Placed 32768) (sym e) (placed-after (length ds) (orElse (when x ResultRoom) (orElse f Good)) (λ h.
+    placed-or 32768 (when x ResultRoom) (orElse f Good) (placed-when 32768 x ResultRoom (omega arith)) (placed-or 32768 f Good (placed-digits 0 ds 32768 (omega arith)) tt))))
+
+hull-placed : (chain : List ℕ) (room n : ℕ) → Placed 32768 (hullJudged chain room n)
+hull-placed chain room n =
+    let f = faultFrom 0 chain in
+    let r = roomJudged room n in
+    placed-after (length chain) (orElse f (orElse r Good)) (λ h.
+    placed-or 32768 f (orElse r Good) (placed-hull 0 chain 32768 (omega arith)) (placed-or 32768 r Good (placed-when 32768 (ltb room (2 * n)) HullRoom (omega arith)) tt))
+
+hull-short : (chain : List ℕ) (room n : ℕ) → hullJudged chain room n ≡ Good → length chain ≤ 32768
+hull-short chain room n e = go (ltb 32768 (length chain)) refl
+  where
+    go : (b : Bool) → ltb 32768 (length chain) ≡ b → length chain ≤ 32768
+    go true p = absurd (refused-not-good TooMany (rw p at e))
+    go false p = ltb-false 32768 (length chain) p
+
+pub counted-fits : (chain : List ℕ) (before : List ℤ) (r : Counted) (after : List ℤ) → HullCall origin chain before r after → CountedFits r
+counted-fits chain before r after h = subst CountedFits (sym (h .answer)) (go (hullJudged chain (length before) (length (h .list))) refl)
+  where
+    go : (j : Judged) → hullJudged chain (length before) (length (h .list)) ≡ j → CountedFits (countedOf (hullJudged chain (length before) (length (h .list))) (length (h .list)))
+    go Good e = rw e (omega (arith, hull-count-steps origin chain (h .list) (h .hull), hull-short chain (length before) (length (h .list)) e))
+    go (Refused x) e = rw e (omega (arith, subst (Placed 32768) e (hull-placed chain (length before) (length (h .list)))))

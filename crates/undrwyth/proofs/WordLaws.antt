@@ -1,0 +1,51 @@
+-- The numbers that cross the boundary are those of the answers.
+-- Assumes nothing.
+use mathlib.Core.List.{List, [], _∷_}
+use mathlib.Core.Path.{_≡_, ap, ap₂, sym, _∙_}
+use Prim.Native.Nat.{ℕ, _<_}
+use native.Mathlib.Omega.{arith}
+use lib.ListN.{getD}
+use Rattle.answer.specs.declared.Answer.{Answer}
+use Rattle.answer.specs.declared.Counted.{Counted}
+use Rattle.answer.specs.declared.Facts.{Facts}
+use Rattle.answer.specs.declared.Judged.{Judged}
+use Rattle.answer.specs.declared.Judged.the-variants.{Refused}
+use Rattle.answer.specs.declared.Refusal.{Refusal}
+use Rattle.answer.specs.declared.Verdict.{Verdict}
+use Rattle.answer.specs.declared.Verdict.the-variants.{Nowhere, Open, Room, OpenMeeting, ClosedMeeting}
+use Rattle.answer.specs.Refusal.{refusalNumber, refusalPlace, verdictNumber}
+use Rattle.line_frame.specs.Hex.{bitsOf}
+use Rattle.undrwyth.specs.Words.{factsWords, answerWords, countedWords, judgedWords, answerNumber, countedNumber}
+
+-- ---- the words of a refusal
+pub refused-answer : (a : Answer) (r : Refusal) (n p : ℕ) → a ≡ Answer.Refused r → n ≡ refusalNumber r → p ≡ refusalPlace r → n ∷ p ∷ 0 ∷ 0 ∷ 0 ∷ 0 ∷ 0 ∷ 0 ∷ 0 ∷ 0 ∷ 0 ∷ [] ≡ answerWords a
+refused-answer a r n p e h k = ap₂ (λ (x y : ℕ). x ∷ y ∷ 0 ∷ 0 ∷ 0 ∷ 0 ∷ 0 ∷ 0 ∷ 0 ∷ 0 ∷ 0 ∷ []) h k ∙ sym (ap answerWords e)
+
+pub refused-counted : (c : Counted) (r : Refusal) (n p : ℕ) → c ≡ Counted.Refused r → n ≡ refusalNumber r → p ≡ refusalPlace r → n ∷ p ∷ 0 ∷ [] ≡ countedWords c
+refused-counted c r n p e h k = ap₂ (λ (x y : ℕ). x ∷ y ∷ 0 ∷ []) h k ∙ sym (ap countedWords e)
+
+pub refused-judged : (j : Judged) (r : Refusal) (n p : ℕ) → j ≡ Refused r → n ≡ refusalNumber r → p ≡ refusalPlace r → n ∷ p ∷ [] ≡ judgedWords j
+refused-judged j r n p e h k = ap₂ (λ (x y : ℕ). x ∷ y ∷ []) h k ∙ sym (ap judgedWords e)
+
+-- the first word is the result
+pub answer-first : (a : Answer) (w : List ℕ) → w ≡ answerWords a → getD w 0 0 ≡ answerNumber a
+answer-first (Answer.Accepted f) w e = ap (λ (l : List ℕ). getD l 0 0) e
+answer-first (Answer.Refused r) w e = ap (λ (l : List ℕ). getD l 0 0) e
+
+pub counted-first : (c : Counted) (w : List ℕ) → w ≡ countedWords c → getD w 0 0 ≡ countedNumber c
+counted-first (Counted.Corners n) w e = ap (λ (l : List ℕ). getD l 0 0) e
+counted-first (Counted.Refused r) w e = ap (λ (l : List ℕ). getD l 0 0) e
+
+-- ---- the words of an accepted walk
+pub verdict-small : (v : Verdict) (n : ℕ) → n ≡ verdictNumber v → n < 5
+verdict-small Nowhere n e = omega arith
+verdict-small Open n e = omega arith
+verdict-small Room n e = omega arith
+verdict-small OpenMeeting n e = omega arith
+verdict-small ClosedMeeting n e = omega arith
+
+pub accepted-words : (f : Facts) (v a x y : ℕ) → v ≡ verdictNumber (f .verdict) → a ≡ bitsOf (f .area) → x ≡ bitsOf (f .last .0) → y ≡ bitsOf (f .last .1)
+    → 0 ∷ 0 ∷ v ∷ f .steps ∷ f .nodes ∷ f .corners ∷ f .j ∷ f .k ∷ a ∷ x ∷ y ∷ [] ≡ factsWords f
+accepted-words f v a x y e₁ e₂ e₃ e₄ =
+    ap₂ (λ (p q : ℕ). 0 ∷ 0 ∷ p ∷ f .steps ∷ f .nodes ∷ f .corners ∷ f .j ∷ f .k ∷ q ∷ x ∷ y ∷ []) e₁ e₂
+    ∙ ap₂ (λ (p q : ℕ). 0 ∷ 0 ∷ verdictNumber (f .verdict) ∷ f .steps ∷ f .nodes ∷ f .corners ∷ f .j ∷ f .k ∷ bitsOf (f .area) ∷ p ∷ q ∷ []) e₃ e₄

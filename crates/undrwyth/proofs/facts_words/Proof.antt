@@ -1,0 +1,64 @@
+-- `undrwyth::facts_words` meets its contract.
+-- Assumes nothing.
+use borrow.Author.Needs.{needs}
+use mathlib.Core.Path.{ap, ap₂, _∙_, sym}
+use native.Mathlib.Omega.{arith}
+use Rattle.line_frame.specs.Hex.{bitsOf}
+use Rattle.walk_corner.proofs.SignedLaws.{back}
+use Rattle.undrwyth.proofs.WordLaws.{verdict-small, accepted-words}
+use Rattle.undrwyth.proofs.facts_words.Statement.{statement}
+use Rattle.undrwyth.proofs.facts_words.Tie as tie
+
+verdict-number-requires : tie.Need-verdict-number-requires
+verdict-number-requires c κs = search needs
+
+cast-verdict : tie.Need-cast-verdict
+cast-verdict c = omega (arith, verdict-small (c .before .args .f .verdict) (c .verdict-number .result) (c .verdict-number .ensures))
+
+bits-requires : tie.Need-bits-requires
+bits-requires c κs = search needs
+
+bits-requires-2 : tie.Need-bits-requires-2
+bits-requires-2 c κs = search needs
+
+bits-requires-3 : tie.Need-bits-requires-3
+bits-requires-3 c κs = search needs
+
+cast-t9 : tie.Need-cast-t9
+cast-t9 c = search needs
+
+cast-t10 : tie.Need-cast-t10
+cast-t10 c = search needs
+
+cast-t11 : tie.Need-cast-t11
+cast-t11 c = search needs
+
+cast-t12 : tie.Need-cast-t12
+cast-t12 c = search needs
+
+cast-t13 : tie.Need-cast-t13
+cast-t13 c = omega (arith, c .before .before .before .before .before .before .before .before .before .before .before .before .before .pre .4)
+
+returns : tie.Need-returns
+returns c =
+    let f = c .before .before .before .before .before .before .before .before .before .before .before .before .before .args .f in
+    accepted-words f (c .before .before .before .before .before .before .before .before .before .before .before .before .verdict-number .result) (c .before .before .before .before .before .before .before .before .before .bits .result) (c .before .before .before .before .before .before .before .bits2 .result) (c .before .before .before .before .before .bits3 .result) (c .before .before .before .before .before .before .before .before .before .before .before .before .verdict-number .ensures)
+    (c .before .before .before .before .before .before .before .before .before .bits .ensures ∙ ap bitsOf (back (f .area) (c .before .before .before .before .before .before .before .before .before .before .struct-told .given .1 .1 .1 .1 .1 .1 .0 .1)))
+    (c .before .before .before .before .before .before .before .bits2 .ensures ∙ ap bitsOf (back (f .last .0) (c .before .before .before .before .before .before .before .before .struct-told2 .given .0 .1)))
+    (c .before .before .before .before .before .bits3 .ensures ∙ ap bitsOf (back (f .last .1) (c .before .before .before .before .before .before .struct-told3 .given .1 .0 .1)))
+
+pub facts-words-spec : {M : Type 1} → statement M
+facts-words-spec =
+    tie.close
+    (tie.spec
+    verdict-number-requires
+    cast-verdict
+    bits-requires
+    bits-requires-2
+    bits-requires-3
+    cast-t9
+    cast-t10
+    cast-t11
+    cast-t12
+    cast-t13
+    returns)

@@ -1,0 +1,50 @@
+-- `undrwyth::hull_words` meets its contract.
+-- Assumes nothing.
+use borrow.Author.Needs.{needs}
+use mathlib.Core.Path.{ap, sym, subst}
+use native.Mathlib.Omega.{arith}
+use Rattle.undrwyth.proofs.WordLaws.{refused-counted}
+use Rattle.undrwyth.proofs.hull_words.Statement.{statement}
+use Rattle.undrwyth.proofs.hull_words.Tie as tie
+use Rattle.undrwyth.specs.Words.{CountedFits, countedWords}
+
+enum-known-c : tie.Need-enum-known-c
+enum-known-c c = search needs
+
+cast-t7 : tie.Need-cast-t7
+cast-t7 c = omega (arith, subst CountedFits (c .before .c .given .1) (c .before .before .before .pre))
+
+enum-known-c-2 : tie.Need-enum-known-c-2
+enum-known-c-2 c = search needs
+
+refusal-number-requires : tie.Need-refusal-number-requires
+refusal-number-requires c κs = search needs
+
+cast-number : tie.Need-cast-number
+cast-number c = search needs
+
+refusal-place-requires : tie.Need-refusal-place-requires
+refusal-place-requires c κs = search needs
+
+cast-place : tie.Need-cast-place
+cast-place c = omega (arith, c .refusal-place .ensures, subst CountedFits (c .before .before .before .c2 .given .1) (c .before .before .before .before .before .pre))
+
+returns : tie.Need-returns
+returns c = sym (ap countedWords (c .before .c .given .1))
+
+returns-2 : tie.Need-returns-2
+returns-2 c = refused-counted (c .before .before .before .before .before .args .c) (c .before .before .before .c2 .given .0 .0) (c .before .refusal-number .result) (c .refusal-place .result) (c .before .before .before .c2 .given .1) (c .before .refusal-number .ensures .0) (c .refusal-place .ensures)
+
+pub hull-words-spec : {M : Type 1} → statement M
+hull-words-spec =
+    tie.close
+    (tie.spec
+    enum-known-c
+    cast-t7
+    enum-known-c-2
+    refusal-number-requires
+    cast-number
+    refusal-place-requires
+    cast-place
+    returns
+    returns-2)

@@ -1,0 +1,49 @@
+-- `undrwyth::turns_words` meets its contract.
+-- Assumes nothing.
+use Prim.Native.Nat.{_<_, _^_}
+use borrow.Author.Needs.{needs}
+use mathlib.Core.Path.{ap, sym, subst}
+use native.Mathlib.Omega.{arith}
+use Rattle.answer.specs.Refusal.{judgedPlace}
+use Rattle.answer.specs.declared.Judged.{Judged}
+use Rattle.undrwyth.proofs.WordLaws.{refused-judged}
+use Rattle.undrwyth.proofs.turns_words.Statement.{statement}
+use Rattle.undrwyth.proofs.turns_words.Tie as tie
+use Rattle.undrwyth.specs.Words.{judgedWords}
+
+enum-told : tie.Need-enum-told
+enum-told c = search needs
+
+enum-known-j : tie.Need-enum-known-j
+enum-known-j c = search needs
+
+refusal-number-requires : tie.Need-refusal-number-requires
+refusal-number-requires c κs = search needs
+
+cast-number : tie.Need-cast-number
+cast-number c = search needs
+
+refusal-place-requires : tie.Need-refusal-place-requires
+refusal-place-requires c κs = search needs
+
+cast-place : tie.Need-cast-place
+cast-place c = omega (arith, c .refusal-place .ensures, subst (λ (j : Judged). judgedPlace j < 2 ^ 32) (c .before .before .before .j .given .1) (c .before .before .before .before .before .pre))
+
+returns : tie.Need-returns
+returns c = sym (ap judgedWords (c .enum-told .given .1))
+
+returns-2 : tie.Need-returns-2
+returns-2 c = refused-judged (c .before .before .before .before .before .args .j) (c .before .before .before .j .given .0 .0) (c .before .refusal-number .result) (c .refusal-place .result) (c .before .before .before .j .given .1) (c .before .refusal-number .ensures .0) (c .refusal-place .ensures)
+
+pub turns-words-spec : {M : Type 1} → statement M
+turns-words-spec =
+    tie.close
+    (tie.spec
+    enum-told
+    enum-known-j
+    refusal-number-requires
+    cast-number
+    refusal-place-requires
+    cast-place
+    returns
+    returns-2)

@@ -1,0 +1,36 @@
+-- The promises of the exported functions.
+-- Assumes nothing.
+use mathlib.Core.List.{List}
+use mathlib.Core.Path.{_≡_}
+use Prim.Native.Nat.{ℕ}
+use lib.IntN.{ℤ}
+use Rattle.answer.specs.declared.Answer.{Answer}
+use Rattle.answer.specs.declared.Counted.{Counted}
+use Rattle.answer.specs.declared.Judged.{Judged}
+use Rattle.answer.specs.Refusal.{judgedNumber}
+use Rattle.walk_call.specs.Walk.{WalkIs}
+use Rattle.grid.specs.Grid.{origin}
+use Rattle.hull.specs.Call.{HullCall}
+use Rattle.steps.specs.Turns.{ConvertedBy}
+use Rattle.undrwyth.specs.Words.{answerWords, answerNumber, countedWords, countedNumber, judgedWords}
+
+-- the walk's promise, with its answer as numbers
+pub record WalkGives (os t ms ch : List ℕ) (n : ℕ) (t′ ms′ ch′ words : List ℕ) : Type 0 where
+  pub answer : Answer
+  pub walked : WalkIs origin os t ms ch answer t′ ms′ ch′
+  pub words-are : words ≡ answerWords answer
+  pub result : n ≡ answerNumber answer
+
+-- the hull's
+pub record HullGives (chain : List ℕ) (before : List ℤ) (n : ℕ) (after : List ℤ) (words : List ℕ) : Type 0 where
+  pub answer : Counted
+  pub listed : HullCall origin chain before answer after
+  pub words-are : words ≡ countedWords answer
+  pub result : n ≡ countedNumber answer
+
+-- those of the two conversions
+pub record TurnsGive (convert : List ℕ → List ℕ) (ds out : List ℕ) (n : ℕ) (out′ words : List ℕ) : Type 0 where
+  pub answer : Judged
+  pub converted : ConvertedBy convert ds out answer out′
+  pub words-are : words ≡ judgedWords answer
+  pub result : n ≡ judgedNumber answer

@@ -1,0 +1,150 @@
+// The C boundary: include/undrwyth.h says what each function does. A slice is a pointer and then a length.
+use answer::Answer;
+use answer::Counted;
+use answer::Facts;
+use answer::Judged;
+use line_fields::hex::bits;
+ghost use mathlib.Core.Path.{_≡_};
+ghost use Prim.Native.Nat.{_^_, _<_};
+ghost use Rattle.answer.specs.Refusal.{judgedPlace};
+ghost use Rattle.undrwyth.specs.Words.{factsWords, answerWords, countedWords, judgedWords, AnswerFits, CountedFits};
+ghost use Rattle.line_reply.specs.Reply.{LineIs};
+ghost use Rattle.steps.specs.Turns.{turnsOf, stepsOf};
+ghost use Rattle.undrwyth.specs.Boundary.{WalkGives, HullGives, TurnsGive};
+
+// The numbers of an accepted walk.
+fn facts_words(f: Facts) -> [u32; 11]
+    requires { ⌜ (f .steps < 2 ^ 32) × (f .nodes < 2 ^ 32) × (f .corners < 2 ^ 32) × (f .j < 2 ^ 32) × (f .k < 2 ^ 32) ⌝ }
+    ensures { λ w. ⌜ w ≡ factsWords f ⌝ }
+{
+    let v = f.verdict;
+    let verdict = answer::verdict_number(v) as u32;
+    let last = f.last;
+    let area = bits(f.area);
+    let x = bits(last.0);
+    let y = bits(last.1);
+    [
+        0,
+        0,
+        verdict,
+        f.steps as u32,
+        f.nodes as u32,
+        f.corners as u32,
+        f.j as u32,
+        f.k as u32,
+        area,
+        x,
+        y,
+    ]
+}
+
+// The numbers of a walk's answer.
+pub fn walk_words(a: Answer) -> [u32; 11]
+    requires { ⌜ AnswerFits a ⌝ }
+    ensures { λ w. ⌜ w ≡ answerWords a ⌝ }
+{
+    match a {
+        Answer::Accepted(f) => facts_words(f),
+        Answer::Refused(r) => {
+            let number = answer::refusal_number(r) as u32;
+            let place = answer::refusal_place(r) as u32;
+            [number, place, 0, 0, 0, 0, 0, 0, 0, 0, 0]
+        }
+    }
+}
+
+// The numbers of a hull's answer.
+pub fn hull_words(c: Counted) -> [u32; 3]
+    requires { ⌜ CountedFits c ⌝ }
+    ensures { λ w. ⌜ w ≡ countedWords c ⌝ }
+{
+    match c {
+        Counted::Corners(n) => [0, 0, n as u32],
+        Counted::Refused(r) => {
+            let number = answer::refusal_number(r) as u32;
+            let place = answer::refusal_place(r) as u32;
+            [number, place, 0]
+        }
+    }
+}
+
+// The numbers of a conversion's answer.
+pub fn turns_words(j: Judged) -> [u32; 2]
+    requires { ⌜ judgedPlace j < 2 ^ 32 ⌝ }
+    ensures { λ w. ⌜ w ≡ judgedWords j ⌝ }
+{
+    match j {
+        Judged::Good => [0, 0],
+        Judged::Refused(r) => {
+            let number = answer::refusal_number(r) as u32;
+            let place = answer::refusal_place(r) as u32;
+            [number, place]
+        }
+    }
+}
+
+// Follows the operations from (0,0).
+#[no_mangle]
+pub extern "C" fn undrwyth_walk(
+    ops: &[u8],
+    table: &mut [u32],
+    marks: &mut [u32],
+    chain: &mut [u8],
+    answer: &mut [u32; 11],
+) -> u32
+    ensures { λ n. ⌜ WalkGives (now (ops .entry)) (now (table .entry)) (now (marks .entry)) (now (chain .entry)) n (now (table .exit)) (now (marks .exit)) (now (chain .exit)) (now (answer .exit)) ⌝ }
+{
+    let a = walk::follow(ops, table, marks, chain);
+    let words = walk_words(a);
+    *answer = words;
+    words[0]
+}
+
+// Lists the hull of the walk from (0,0).
+#[no_mangle]
+pub extern "C" fn undrwyth_hull(chain: &[u8], out: &mut [i32], answer: &mut [u32; 3]) -> u32
+    ensures { λ n. ⌜ HullGives (now (chain .entry)) (now (out .entry)) n (now (out .exit)) (now (answer .exit)) ⌝ }
+{
+    let c = hull_scan::list(chain, out);
+    let words = hull_words(c);
+    *answer = words;
+    words[0]
+}
+
+// Turns steps into turns.
+#[no_mangle]
+pub extern "C" fn undrwyth_turns_of_steps(
+    steps: &[u8],
+    out: &mut [u8],
+    answer: &mut [u32; 2],
+) -> u32
+    ensures { λ n. ⌜ TurnsGive turnsOf (now (steps .entry)) (now (out .entry)) n (now (out .exit)) (now (answer .exit)) ⌝ }
+{
+    let j = turns::turns_of(steps, out);
+    let words = turns_words(j);
+    *answer = words;
+    words[0]
+}
+
+// Turns turns into steps.
+#[no_mangle]
+pub extern "C" fn undrwyth_steps_of_turns(
+    turns: &[u8],
+    out: &mut [u8],
+    answer: &mut [u32; 2],
+) -> u32
+    ensures { λ n. ⌜ TurnsGive stepsOf (now (turns .entry)) (now (out .entry)) n (now (out .exit)) (now (answer .exit)) ⌝ }
+{
+    let j = turns::steps_of(turns, out);
+    let words = turns_words(j);
+    *answer = words;
+    words[0]
+}
+
+// Answers one line, which has no line feed; the answer has none either.
+#[no_mangle]
+pub extern "C" fn undrwyth_line(line: &[u8], out: &mut [u8]) -> usize
+    ensures { λ n. ⌜ LineIs (now (line .entry)) (now (out .entry)) n (now (out .exit)) ⌝ }
+{
+    line_reply::reply(line, out)
+}

@@ -1,0 +1,131 @@
+-- The numbers of an answer are small: a place is one of the input, and a walk that is accepted has few steps, nodes and corners.
+-- Assumes nothing.
+use mathlib.Core.Bool.{Bool, true, false, not, _&&_}
+use mathlib.Core.List.{List, [], _∷_}
+use mathlib.Core.Logic.{⊎-elim}
+use mathlib.Core.Path.{_≡_, refl, ap, sym, subst, _∙_}
+use Prim.Native.Nat.{ℕ, suc, _+_, _*_, _/_, _%_, _<_, _≤_}
+use native.Mathlib.Omega.{arith}
+use borrow.Author.Tests.{ltb-false, leb-true, not-false}
+use lib.Dec.{eqb, ltb, leb}
+use lib.ListN.{length}
+use Rattle.answer.specs.declared.Judged.{Judged}
+use Rattle.answer.specs.declared.Judged.the-variants.{Good, Refused}
+use Rattle.answer.specs.declared.Refusal.{Refusal}
+use Rattle.answer.specs.declared.Refusal.the-variants.{TooMany, Table, ResultRoom, BadDigit, NothingToTake, TooLong, NoRoom}
+use Rattle.answer.specs.Refusal.{when, orElse, refusalPlace}
+use Rattle.grid.specs.declared.Corner.{Corner}
+use Rattle.grid.specs.Grid.{same, cornersFrom}
+use Rattle.trace.specs.Meeting.{Meeting, none, meet, meetingOf, meetingJ, meetingK, visitedOf}
+use Rattle.tree.specs.Nodes.{nodesOf}
+use Rattle.steps.specs.Operations.{operate, survivors, faultOf, faultsFrom, after}
+use Rattle.answer.proofs.RefusalLaws.{clear, when-good}
+use Rattle.grid.proofs.StepLaws.{length-cornersFrom}
+use Rattle.lists.proofs.GatherLaws.{and-left, and-right, gather-le}
+use Rattle.trace.proofs.MeetingLaws.{meetingOf-meets}
+use Rattle.steps.proofs.SurvivorLaws.{Sound, sound-survivors}
+use Rattle.walk_call.specs.Walk.{tableFits, roomFrom, walkJudgements, walkJudged}
+use Rattle.walk_call.proofs.RoomLaws.{room-last}
+
+-- a refusal's place is at most b
+abbrev pub Placed : ℕ → Judged → Type 0
+Placed b Good = Unit {0}
+Placed b (Refused r) = refusalPlace r ≤ b
+
+pub placed-when : (b : ℕ) (t : Bool) (r : Refusal) → refusalPlace r ≤ b → Placed b (when t r)
+placed-when b true r h = h
+placed-when b false r h = tt
+
+pub placed-or : (b : ℕ) (j k : Judged) → Placed b j → Placed b k → Placed b (orElse j k)
+placed-or b Good k p q = q
+placed-or b (Refused r) k p q = p
+
+placed-more : (a b : ℕ) (j : Judged) → a ≤ b → Placed a j → Placed b j
+placed-more a b Good h p = tt
+placed-more a b (Refused r) h p = omega arith
+
+placed-fault : (i n o : ℕ) → Placed i (faultOf i n o)
+placed-fault i n o =
+    let a = when (ltb 4 o) (BadDigit i) in
+    let b = when (eqb o 4 && eqb n 0) (NothingToTake i) in
+    let d = when (not (eqb o 4) && not (ltb n 16384)) (TooLong i) in
+    placed-or i a (orElse b (orElse d Good)) (placed-when i (ltb 4 o) (BadDigit i) (omega arith))
+    (placed-or i b (orElse d Good) (placed-when i (eqb o 4 && eqb n 0) (NothingToTake i) (omega arith))
+    (placed-or i d Good (placed-when i (not (eqb o 4) && not (ltb n 16384)) (TooLong i) (omega arith)) tt))
+
+pub placed-faults : (i n : ℕ) (os : List ℕ) → Placed (i + length os) (faultsFrom i n os)
+placed-faults i n [] = tt
+placed-faults i n (o ∷ os) =
+    let b = i + suc (length os) in
+    let f = faultsFrom (suc i) (after n o) os in
+    placed-or b (faultOf i n o) f (placed-more i b (faultOf i n o) (omega arith) (placed-fault i n o)) (placed-more (suc i + length os) b f (omega arith) (placed-faults (suc i) (after n o) os))
+
+placed-room : (r : ℕ) (c : Corner) (i : ℕ) (ds os : List ℕ) → Placed (i + length os) (roomFrom r c i ds os)
+placed-room r c i ds [] = tt
+placed-room r c i ds (o ∷ os) = go (ltb r (length (nodesOf (cornersFrom c (operate ds o))))) refl (placed-room r c (suc i) (operate ds o) os)
+  where
+    go : (b : Bool) → ltb r (length (nodesOf (cornersFrom c (operate ds o)))) ≡ b → Placed (suc i + length os) (roomFrom r c (suc i) (operate ds o) os) → Placed (i + suc (length os)) (roomFrom r c i ds (o ∷ os))
+    go true e h = rw (e, roomFrom) (omega arith)
+    go false e h = rw (e, roomFrom) (placed-more (suc i + length os) (i + suc (length os)) (roomFrom r c (suc i) (operate ds o) os) (omega arith) h)
+
+-- the place of a walk's refusal
+pub walk-placed : (c : Corner) (os : List ℕ) (w m k : ℕ) → Placed 32768 (walkJudged c os w m k)
+walk-placed c os w m k = go (ltb 32768 (length os)) refl
+  where
+    b : Judged
+    b = when (not (tableFits w)) Table
+
+    d : Judged
+    d = when (not (eqb m (2 * length os) && eqb k (length os))) ResultRoom
+
+    rest : length os ≤ 32768 → Placed 32768 (orElse b (orElse d (orElse (faultsFrom 0 0 os) (orElse (roomFrom (w / 21) c 0 [] os) Good))))
+    rest h =
+        let f = faultsFrom 0 0 os in
+        let r = roomFrom (w / 21) c 0 [] os in
+        placed-or 32768 b (orElse d (orElse f (orElse r Good))) (placed-when 32768 (not (tableFits w)) Table (omega arith))
+        (placed-or 32768 d (orElse f (orElse r Good)) (placed-when 32768 (not (eqb m (2 * length os) && eqb k (length os))) ResultRoom (omega arith))
+        (placed-or 32768 f (orElse r Good) (placed-more (0 + length os) 32768 f (omega arith) (placed-faults 0 0 os))
+        (placed-or 32768 r Good (placed-more (0 + length os) 32768 r (omega arith) (placed-room (w / 21) c 0 [] os)) tt)))
+
+    go : (t : Bool) → ltb 32768 (length os) ≡ t → Placed 32768 (walkJudged c os w m k)
+    go true e = rw e (omega arith)
+    go false e = rw e (rest (ltb-false 32768 (length os) e))
+
+-- the facts of an accepted walk
+pub record Few (c : Corner) (ds : List ℕ) : Type 0 where
+  pub steps : length ds ≤ 16384
+  pub nodes : length (nodesOf (cornersFrom c ds)) ≤ 131080
+  pub corners : length (visitedOf (cornersFrom c ds)) ≤ 16385
+  pub j : meetingJ (meetingOf c ds) ≤ 65535
+  pub k : meetingK (meetingOf c ds) ≤ 65535
+
+meeting-few : (c : Corner) (ds : List ℕ) → length ds ≤ 16384 → (meetingJ (meetingOf c ds) ≤ 65535) × (meetingK (meetingOf c ds) ≤ 65535)
+meeting-few c ds h = go (meetingOf c ds) refl
+  where
+    go : (m : Meeting) → meetingOf c ds ≡ m → (meetingJ (meetingOf c ds) ≤ 65535) × (meetingK (meetingOf c ds) ≤ 65535)
+    go none e = (rw e (omega arith), rw e (omega arith))
+    go (meet j k) e =
+        let f = meetingOf-meets c ds j k e .meets in
+        (rw e (omega (arith, f .earlier, f .within)), rw e (omega (arith, f .within)))
+
+fits-records : (w : ℕ) → tableFits w ≡ true → (1 ≤ w / 21) × (w / 21 ≤ 131080)
+fits-records w e =
+    let a = eqb (w % 21) 0 in
+    let b = leb 1 (w / 21) in
+    let d = leb (w / 21) 131080 in
+    (leb-true 1 (w / 21) (and-right a b (and-left (a && b) d e)), leb-true (w / 21) 131080 (and-right (a && b) d e))
+
+pub walk-few : (c : Corner) (os : List ℕ) (w m k : ℕ) → length (nodesOf (cornersFrom c [])) ≤ 131080 → walkJudged c os w m k ≡ Good → Few c (survivors os)
+walk-few c os w m k z e =
+    let ds = survivors os in
+    let h = clear (walkJudgements c os w m k) e in
+    let s : Sound ds = sound-survivors 0 [] os (record { digits = tt; few = omega arith }) (h .1 .1 .1 .0) in
+    let t = fits-records w (not-false (tableFits w) (when-good (not (tableFits w)) Table (h .1 .0))) in
+    let j = meeting-few c ds (s .few) in
+    record {
+      steps = s .few;
+      nodes = ⊎-elim (λ n. subst (λ (x : List ℕ). length (nodesOf (cornersFrom c (survivors x))) ≤ 131080) (sym n) z) (λ r. omega (arith, r, t .1)) (room-last (w / 21) c 0 [] os (h .1 .1 .1 .1 .0));
+      corners = omega (arith, gather-le same [] (cornersFrom c ds), length-cornersFrom c ds, s .few);
+      j = j .0;
+      k = j .1;
+    }

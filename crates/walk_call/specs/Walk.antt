@@ -1,0 +1,68 @@
+-- The walk's refusals in their order, its answer, and its three buffers (01, "What the calls take and give"). Assumes nothing.
+use Rattle.lists.specs.Lists.{_≡_, Bool, true, false, cond, not, _&&_, List, [], _∷_, length, replicate, ℕ, suc, _*_, _/_, _%_, eqb, ltb, leb}
+use Rattle.answer.specs.declared.{Judged.Judged, Judged.the-variants.Good, Judged.the-variants.Refused, Refusal.the-variants.TooMany, Refusal.the-variants.Table, Refusal.the-variants.ResultRoom, Refusal.the-variants.NoRoom, Facts.Facts, Answer.Answer}
+use Rattle.answer.specs.{Limits.mostInput, Limits.mostRecords, Refusal.when, Refusal.firstOf, Refusal.refusalNumber}
+use Rattle.grid.specs.{declared.Corner.Corner, Grid.cornersFrom, Grid.endFrom}
+use Rattle.steps.specs.Operations.{operate, survivors, faultsFrom}
+use Rattle.trace.specs.{Meeting.meetingOf, Meeting.meetingJ, Meeting.meetingK, Meeting.visitedOf, Verdict.verdictOf, Verdict.areaOf}
+use Rattle.tree.specs.Nodes.{nodesOf}
+use Rattle.layout.specs.{Table.recordWords, Table.tableOf, Marks.marksOf, Marks.chainOf}
+
+-- 2: the words are 21 times a record count of 1 to 131,080
+abbrev pub tableFits : ℕ → Bool
+tableFits words = eqb (words % recordWords 1) 0 && leb 1 (words / recordWords 1) && leb (words / recordWords 1) mostRecords
+
+-- 7: the first place after which the nodes needed exceed the records
+abbrev pub roomFrom : ℕ → Corner → ℕ → List ℕ → List ℕ → Judged
+roomFrom records c i ds [] = Good
+roomFrom records c i ds (o ∷ os) =
+    elim (ltb records (length (nodesOf (cornersFrom c (operate ds o))))) [
+      | true ↦ Refused (NoRoom i)
+      | false ↦ roomFrom records c (suc i) (operate ds o) os
+    ]
+
+-- 1, 2, 3; then 4, 5, 6 at the first faulty place; then 7, at its first place
+abbrev pub walkJudgements : Corner → List ℕ → ℕ → ℕ → ℕ → List Judged
+walkJudgements c os words marks chain =
+    when (ltb mostInput (length os)) TooMany
+    ∷ when (not (tableFits words)) Table
+    ∷ when (not (eqb marks (2 * length os) && eqb chain (length os))) ResultRoom
+    ∷ faultsFrom 0 0 os
+    ∷ roomFrom (words / recordWords 1) c 0 [] os
+    ∷ []
+
+abbrev pub walkJudged : Corner → List ℕ → ℕ → ℕ → ℕ → Judged
+walkJudged c os words marks chain = firstOf (walkJudgements c os words marks chain)
+
+-- the facts of the walk of these surviving steps
+abbrev pub factsOf : Corner → List ℕ → Facts
+factsOf c ds = record {
+  verdict = verdictOf c ds;
+  steps = length ds;
+  nodes = length (nodesOf (cornersFrom c ds));
+  corners = length (visitedOf (cornersFrom c ds));
+  j = meetingJ (meetingOf c ds);
+  k = meetingK (meetingOf c ds);
+  area = areaOf c ds;
+  last = endFrom c ds;
+}
+
+abbrev pub answerBy : Judged → Facts → Answer
+answerBy Good f = Answer.Accepted f
+answerBy (Refused r) f = Answer.Refused r
+
+-- the answer to operations with a table, marks and a chain of these lengths
+abbrev pub walkAnswer : Corner → List ℕ → ℕ → ℕ → ℕ → Answer
+walkAnswer c os words marks chain = answerBy (walkJudged c os words marks chain) (factsOf c (survivors os))
+
+-- a buffer after the call: written if accepted; after a refusal all zero where it is 7, "no room", and untouched where it is any other
+abbrev pub bufferBy : Judged → List ℕ → List ℕ → List ℕ
+bufferBy Good new old = new
+bufferBy (Refused r) new old = cond (eqb (refusalNumber r) 7) (replicate (length old) 0) old
+
+-- the call's promise: the answer and what each of the three buffers holds then
+pub record WalkIs (c : Corner) (os t ms ch : List ℕ) (r : Answer) (t′ ms′ ch′ : List ℕ) : Type 0 where
+  pub answer : r ≡ walkAnswer c os (length t) (length ms) (length ch)
+  pub table : t′ ≡ bufferBy (walkJudged c os (length t) (length ms) (length ch)) (tableOf (length t) c (survivors os)) t
+  pub marks : ms′ ≡ bufferBy (walkJudged c os (length t) (length ms) (length ch)) (marksOf c os) ms
+  pub chain : ch′ ≡ bufferBy (walkJudged c os (length t) (length ms) (length ch)) (chainOf os) ch

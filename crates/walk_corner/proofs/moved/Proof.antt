@@ -1,0 +1,49 @@
+-- `walk_corner::moved` meets its contract.
+-- Assumes nothing.
+use mathlib.Core.Path.{_≡_, ap₂, sym, subst, _∙_}
+use Prim.Native.Nat.{_<_, _≤_}
+use native.Mathlib.Omega.{arith}
+use lib.IntN.{ℤ, natAbs, _+ℤ_}
+use Rattle.grid.specs.Grid.{corner}
+use Rattle.walk_corner.proofs.MoveLaws.{east-small, north-small, read-back, stepped-by}
+use Rattle.walk_corner.proofs.SignedLaws.{back}
+use Rattle.walk_corner.proofs.moved.Statement.{statement}
+use Rattle.walk_corner.proofs.moved.Tie as tie
+
+east-requires : tie.Need-east-requires
+east-requires c κs = tt
+
+shifted-requires : tie.Need-shifted-requires
+shifted-requires c κs =
+    let s = c .before .before in
+    let e = c .before .east in (
+      subst (λ (z : ℤ). natAbs z < 65536) (sym (read-back (s .args .c .0) (omega (arith, s .pre .0)))) (s .pre .0),
+      subst (λ (z : ℤ). natAbs z ≤ 1) (sym (back (e .result) (e .ok) ∙ e .ensures)) (east-small (s .args .d)),
+    )
+
+north-requires : tie.Need-north-requires
+north-requires c κs = tt
+
+shifted-requires-2 : tie.Need-shifted-requires-2
+shifted-requires-2 c κs =
+    let s = c .before .before .before .before .before in
+    let e = c .before .north in (
+      subst (λ (z : ℤ). natAbs z < 65536) (sym (read-back (s .args .c .1) (omega (arith, s .pre .1)))) (s .pre .1),
+      subst (λ (z : ℤ). natAbs z ≤ 1) (sym (back (e .result) (e .ok) ∙ e .ensures)) (north-small (s .args .d)),
+    )
+
+returns : tie.Need-returns
+returns c =
+    let s = c .before .before .before .before .before .before in
+    let a = s .args in
+    let x = c .before .before .before .shifted in
+    let y = c .shifted2 in
+    let e = c .before .before .before .before .before .east in
+    let n = c .before .before .north in
+    ap₂ corner
+    (back (x .result) (x .ok) ∙ x .ensures ∙ ap₂ _+ℤ_ (read-back (a .c .0) (omega (arith, s .pre .0))) (back (e .result) (e .ok) ∙ e .ensures))
+    (back (y .result) (y .ok) ∙ y .ensures ∙ ap₂ _+ℤ_ (read-back (a .c .1) (omega (arith, s .pre .1))) (back (n .result) (n .ok) ∙ n .ensures))
+    ∙ stepped-by (a .d) (a .c)
+
+pub moved-spec : {M : Type 1} → statement M
+moved-spec = tie.close (tie.spec east-requires shifted-requires north-requires shifted-requires-2 returns)

@@ -1,0 +1,33 @@
+-- A walk that is over: its steps in the chain, and what it counted.
+-- Assumes nothing.
+use mathlib.Core.List.{List}
+use mathlib.Core.Path.{_≡_}
+use Prim.Native.Nat.{ℕ, zero, suc, _≤_}
+use lib.IntN.{ℤ, pos, negℤ}
+use lib.ListN.{length, take}
+use Rattle.grid.specs.Grid.{origin, cornersFrom, endFrom}
+use Rattle.walk_step.specs.declared.Walk.{Walk}
+use Rattle.walk_step.specs.Tallies.{Counted}
+use Rattle.tree.specs.Nodes.{nodesOf}
+
+-- x times the change of y that the step d makes
+abbrev pub gain : ℕ → ℤ → ℤ
+gain zero x = pos 0
+gain (suc zero) x = x
+gain (suc (suc zero)) x = pos 0
+gain (suc (suc (suc d))) x = negℤ x
+
+-- w is the walk from the root with the steps ds, which stand in the chain
+pub record Settled (chain ds : List ℕ) (w : Walk) : Type 0 where
+  pub steps : w .spot .steps ≡ length ds
+  pub few : length ds ≤ 16384
+  pub corner : w .spot .at ≡ endFrom origin ds
+  pub nodes : w .spot .nodes ≡ length (nodesOf (cornersFrom origin ds))
+  pub counted : Counted origin ds (w .tally)
+  pub kept : ds ≡ take (length ds) chain
+  pub space : length ds ≤ length chain
+
+-- of some steps
+pub record Settling (chain : List ℕ) (w : Walk) : Type 0 where
+  pub chain-steps : List ℕ
+  pub settled : Settled chain chain-steps w

@@ -1,0 +1,183 @@
+-- The judgement of the input: each test that the code makes, and what it decides.
+-- Assumes nothing.
+use mathlib.Core.Bool.{Bool, true, false, not, _&&_}
+use mathlib.Core.List.{List, [], _∷_}
+use mathlib.Core.Path.{_≡_, refl, ap, ap₂, sym, _∙_}
+use Prim.Native.Nat.{ℕ, suc, _+_, _-_, _*_, _/_, _%_, _<_, _≤_, _^_}
+use native.Mathlib.Omega.{arith}
+use borrow.Author.Tests.{eq-eqb, ne-eqb, lt-ltb, le-ltb, le-leb, ltb-false, leb-true, eqb-true, not-false}
+use lib.Dec.{eqb, ltb, leb}
+use lib.ListN.{length, drop, getD}
+use lib.Seq.{drop-cons}
+use Rattle.answer.specs.declared.Judged.{Judged}
+use Rattle.answer.specs.declared.Judged.the-variants.{Good, Refused}
+use Rattle.answer.specs.declared.Refusal.{Refusal}
+use Rattle.answer.specs.declared.Refusal.the-variants.{TooMany, Table, ResultRoom, BadDigit, NothingToTake, TooLong}
+use Rattle.answer.specs.Refusal.{orElse, when, refusalNumber}
+use Rattle.walk_call.specs.Walk.{tableFits, roomFrom, walkJudged}
+use Rattle.grid.specs.declared.Corner.{Corner}
+use Rattle.steps.specs.Operations.{faultOf, faultsFrom, after}
+use Rattle.answer.proofs.RefusalLaws.{orElse-right, clear, when-good}
+use Rattle.lists.proofs.GatherLaws.{and-left, and-right}
+use Rattle.walk_input.specs.Input.{inputJudged}
+
+pub fault-bad : (i n o : ℕ) → 4 < o → Refused (BadDigit i) ≡ faultOf i n o
+fault-bad i n o h = rw (lt-ltb 4 o h)
+
+pub fault-nothing : (i n o : ℕ) → o ≡ 4 → n ≡ 0 → Refused (NothingToTake i) ≡ faultOf i n o
+fault-nothing i n o e z = rw (e, z)
+
+pub fault-take : (i n o : ℕ) → o ≡ 4 → (n ≡ 0 → ⊥) → Good ≡ faultOf i n o
+fault-take i n o e z = rw (e, ne-eqb n 0 z)
+
+pub fault-fits : (i n o : ℕ) → o ≤ 4 → (o ≡ 4 → ⊥) → n < 16384 → Good ≡ faultOf i n o
+fault-fits i n o h e l = rw (le-ltb 4 o h, ne-eqb o 4 e, lt-ltb n 16384 l)
+
+pub fault-long : (i n o : ℕ) → o ≤ 4 → (o ≡ 4 → ⊥) → 16384 ≤ n → Refused (TooLong i) ≡ faultOf i n o
+fault-long i n o h e l = rw (le-ltb 4 o h, ne-eqb o 4 e, le-ltb n 16384 l)
+
+pub after-take : (n o : ℕ) → o ≡ 4 → n - 1 ≡ after n o
+after-take n o e = rw e
+
+pub after-le : (n o : ℕ) → after n o ≤ n + 1
+after-le n o = go (eqb o 4) refl
+  where
+    go : (b : Bool) → eqb o 4 ≡ b → after n o ≤ n + 1
+    go true e = rw (e, after) (omega arith)
+    go false e = rw (e, after) (omega arith)
+
+pub after-step : (n o : ℕ) → (o ≡ 4 → ⊥) → n + 1 ≡ after n o
+after-step n o e = rw (ne-eqb o 4 e, after)
+
+-- one place on
+module _ (os : List ℕ) (i n : ℕ) (more : i < length os) (e : faultsFrom 0 0 os ≡ faultsFrom i n (drop i os)) where
+  first : faultsFrom 0 0 os ≡ orElse (faultOf i n (getD os i 0)) (faultsFrom (suc i) (after n (getD os i 0)) (drop (suc i) os))
+  first = e ∙ ap (faultsFrom i n) (drop-cons os i 0 more)
+
+  pub faults-here : (f : Judged) (r : Refusal) → f ≡ faultOf i n (getD os i 0) → f ≡ Refused r → f ≡ faultsFrom 0 0 os
+  faults-here f r p q = q ∙ sym (first ∙ ap (λ (j : Judged). orElse j (faultsFrom (suc i) (after n (getD os i 0)) (drop (suc i) os))) (sym p ∙ q))
+
+  pub faults-next : (m : ℕ) → m ≡ after n (getD os i 0) → faultOf i n (getD os i 0) ≡ Good → faultsFrom 0 0 os ≡ faultsFrom (i + 1) m (drop (i + 1) os)
+  faults-next m q p =
+      let s : suc i ≡ i + 1 = omega arith in
+      first ∙ ap (λ (j : Judged). orElse j (faultsFrom (suc i) (after n (getD os i 0)) (drop (suc i) os))) p ∙ ap₂ (λ (k l : ℕ). faultsFrom k l (drop k os)) s (sym q)
+
+pub fits-mod : (w : ℕ) → (w % 21 ≡ 0 → ⊥) → false ≡ tableFits w
+fits-mod w h = rw (ne-eqb (w % 21) 0 h)
+
+pub fits-none : (w : ℕ) → w % 21 ≡ 0 → w / 21 < 1 → false ≡ tableFits w
+fits-none w h l = let z : w / 21 ≡ 0 = omega arith in rw (eq-eqb (w % 21) 0 h, z)
+
+pub fits-most : (w : ℕ) → w % 21 ≡ 0 → 1 ≤ w / 21 → leb (w / 21) 131080 ≡ tableFits w
+fits-most w h l = go (w / 21) refl l
+  where
+    go : (n : ℕ) → w / 21 ≡ n → 1 ≤ n → leb (w / 21) 131080 ≡ tableFits w
+    go (suc n) e k = rw (eq-eqb (w % 21) 0 h, e) (rw (le-leb 1 (suc n) k))
+
+module _ (os : List ℕ) (w m k : ℕ) where
+  pub input-many : 32768 < length os → Refused TooMany ≡ inputJudged os w m k
+  input-many h = rw (lt-ltb 32768 (length os) h)
+
+  module _ (few : length os ≤ 32768) where
+    pub input-table : tableFits w ≡ false → Refused Table ≡ inputJudged os w m k
+    input-table e = rw (le-ltb 32768 (length os) few, e)
+
+    module _ (fits : tableFits w ≡ true) where
+      pub input-marks : (m ≡ 2 * length os → ⊥) → Refused ResultRoom ≡ inputJudged os w m k
+      input-marks e = rw (le-ltb 32768 (length os) few, fits, ne-eqb m (2 * length os) e)
+
+      pub input-chain : m ≡ 2 * length os → (k ≡ length os → ⊥) → Refused ResultRoom ≡ inputJudged os w m k
+      input-chain p e = rw (le-ltb 32768 (length os) few, fits, eq-eqb m (2 * length os) p, ne-eqb k (length os) e)
+
+      pub input-rest : m ≡ 2 * length os → k ≡ length os → faultsFrom 0 0 os ≡ inputJudged os w m k
+      input-rest p e = rw (le-ltb 32768 (length os) few, fits, eq-eqb m (2 * length os) p, eq-eqb k (length os) e) (sym (orElse-right (faultsFrom 0 0 os)))
+
+-- the room decides last
+pub judged-split : (c : Corner) (os : List ℕ) (w m k : ℕ) → walkJudged c os w m k ≡ orElse (inputJudged os w m k) (roomFrom (w / 21) c 0 [] os)
+judged-split c os w m k =
+    let a = when (ltb 32768 (length os)) TooMany in
+    let b = when (not (tableFits w)) Table in
+    let d = when (not (eqb m (2 * length os) && eqb k (length os))) ResultRoom in
+    let f = faultsFrom 0 0 os in
+    let r = roomFrom (w / 21) c 0 [] os in
+    split a b d f r
+  where
+    split : (a b d f r : Judged) → orElse a (orElse b (orElse d (orElse f (orElse r Good)))) ≡ orElse (orElse a (orElse b (orElse d (orElse f Good)))) r
+    split (Refused x) b d f r = refl
+    split Good (Refused x) d f r = refl
+    split Good Good (Refused x) f r = refl
+    split Good Good Good (Refused x) r = refl
+    split Good Good Good Good r = orElse-right r
+
+-- ---- an input with no fault
+fits-words : (w : ℕ) → tableFits w ≡ true → (21 ≤ w) × (w < 2 ^ 32)
+fits-words w e =
+    let a = eqb (w % 21) 0 in
+    let b = leb 1 (w / 21) in
+    let d = leb (w / 21) 131080 in
+    let h : a && b ≡ true = and-left (a && b) d e in
+    let l : 1 ≤ w / 21 = leb-true 1 (w / 21) (and-right a b h) in
+    let m : w / 21 ≤ 131080 = leb-true (w / 21) 131080 (and-right (a && b) d e) in
+    (omega arith, omega arith)
+
+pub record Sized (os : List ℕ) (w m k : ℕ) : Type 0 where
+  pub few : length os ≤ 32768
+  pub least : 21 ≤ w
+  pub most : w < 2 ^ 32
+  pub marks : m ≡ 2 * length os
+  pub chain : k ≡ length os
+  pub fine : faultsFrom 0 0 os ≡ Good
+
+pub input-good : (os : List ℕ) (w m k : ℕ) → inputJudged os w m k ≡ Good → Sized os w m k
+input-good os w m k e =
+    let a = eqb m (2 * length os) in
+    let b = eqb k (length os) in
+    let h = clear (when (ltb 32768 (length os)) TooMany ∷ when (not (tableFits w)) Table ∷ when (not (a && b)) ResultRoom ∷ faultsFrom 0 0 os ∷ []) e in
+    let t = fits-words w (not-false (tableFits w) (when-good (not (tableFits w)) Table (h .1 .0))) in
+    let r : a && b ≡ true = not-false (a && b) (when-good (not (a && b)) ResultRoom (h .1 .1 .0)) in
+    record {
+      few = ltb-false 32768 (length os) (when-good (ltb 32768 (length os)) TooMany (h .0));
+      least = t .0;
+      most = t .1;
+      marks = eqb-true m (2 * length os) (and-left a b r);
+      chain = eqb-true k (length os) (and-right a b r);
+      fine = h .1 .1 .1 .0;
+    }
+
+-- no refusal of the input is "no room"
+abbrev pub Early : Judged → Type 0
+Early Good = Unit {0}
+Early (Refused r) = eqb (refusalNumber r) 7 ≡ false
+
+early-when : (b : Bool) (r : Refusal) → eqb (refusalNumber r) 7 ≡ false → Early (when b r)
+early-when true r e = e
+early-when false r e = tt
+
+early-or : (a b : Judged) → Early a → Early b → Early (orElse a b)
+early-or Good b p q = q
+early-or (Refused r) b p q = p
+
+early-fault : (i n o : ℕ) → Early (faultOf i n o)
+early-fault i n o =
+    let a = when (ltb 4 o) (BadDigit i) in
+    let b = when (eqb o 4 && eqb n 0) (NothingToTake i) in
+    let d = when (not (eqb o 4) && not (ltb n 16384)) (TooLong i) in
+    early-or a (orElse b (orElse d Good)) (early-when (ltb 4 o) (BadDigit i) refl)
+    (early-or b (orElse d Good) (early-when (eqb o 4 && eqb n 0) (NothingToTake i) refl)
+    (early-or d Good (early-when (not (eqb o 4) && not (ltb n 16384)) (TooLong i) refl) tt))
+
+early-faults : (i n : ℕ) (os : List ℕ) → Early (faultsFrom i n os)
+early-faults i n [] = tt
+early-faults i n (o ∷ os) = early-or (faultOf i n o) (faultsFrom (suc i) (after n o) os) (early-fault i n o) (early-faults (suc i) (after n o) os)
+
+pub early-input : (os : List ℕ) (w m k : ℕ) → Early (inputJudged os w m k)
+early-input os w m k =
+    let a = when (ltb 32768 (length os)) TooMany in
+    let b = when (not (tableFits w)) Table in
+    let x = not (eqb m (2 * length os) && eqb k (length os)) in
+    let d = when x ResultRoom in
+    let f = faultsFrom 0 0 os in
+    early-or a (orElse b (orElse d (orElse f Good))) (early-when (ltb 32768 (length os)) TooMany refl)
+    (early-or b (orElse d (orElse f Good)) (early-when (not (tableFits w)) Table refl)
+    (early-or d (orElse f Good) (early-when x ResultRoom refl)
+    (early-or f Good (early-faults 0 0 os) tt)))

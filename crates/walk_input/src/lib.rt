@@ -1,0 +1,93 @@
+// The judgement of a walk's input, before anything is written: refusals 1 to 6.
+use answer::Judged;
+use answer::Refusal;
+use walk_step::Walk;
+use walk_table::Record;
+ghost use mathlib.Core.Path.{_≡_};
+ghost use Prim.Native.Nat.{_^_, _<_};
+ghost use Rattle.walk_call.specs.Walk.{tableFits};
+ghost use Rattle.steps.specs.Operations.{faultOf, faultsFrom, after};
+ghost use Rattle.steps.proofs.SurvivorLaws.{Fine};
+ghost use Rattle.walk_input.specs.Input.{inputJudged};
+
+// What is wrong with the operation at place i, where so many steps survive.
+fn fault(op: u8, steps: usize, i: usize) -> Judged
+    ensures { λ r. ⌜ r ≡ faultOf i steps op ⌝ }
+{
+    if op > 4 {
+        return Judged::Refused(Refusal::BadDigit(i));
+    }
+    if op == 4 {
+        if steps == 0 {
+            return Judged::Refused(Refusal::NothingToTake(i));
+        }
+        return Judged::Good;
+    }
+    if steps < Walk::MOST_STEPS {
+        return Judged::Good;
+    }
+    Judged::Refused(Refusal::TooLong(i))
+}
+
+// How many steps survive an operation that has no fault.
+fn survive(op: u8, steps: usize) -> usize
+    requires { ⌜ Fine steps op ⌝ }
+    requires { ⌜ steps < 2 ^ 63 ⌝ }
+    ensures { λ r. ⌜ r ≡ after steps op ⌝ }
+{
+    if op == 4 {
+        return steps - 1;
+    }
+    steps + 1
+}
+
+// The first fault of the operations.
+fn operations(ops: &[u8]) -> Judged
+    ensures { λ r. ⌜ r ≡ faultsFrom 0 0 (now (ops .entry)) ⌝ }
+{
+    let mut steps: usize = 0;
+    let mut i: usize = 0;
+    while i < ops.len() {
+        let op = ops[i];
+        let f = fault(op, steps, i);
+        if let Judged::Refused(_) = f {
+            return f;
+        }
+        steps = survive(op, steps);
+        i += 1;
+    }
+    Judged::Good
+}
+
+// Whether the words are those of 1 to 131,080 records.
+fn table(words: usize) -> bool
+    ensures { λ r. ⌜ r ≡ tableFits words ⌝ }
+{
+    if words % Record::WORDS != 0 {
+        return false;
+    }
+    if words / Record::WORDS < 1 {
+        return false;
+    }
+    words / Record::WORDS <= Walk::MOST_RECORDS
+}
+
+// Refusals 1, 2 and 3, then 4, 5 and 6 at the first faulty place.
+pub fn input(ops: &[u8], words: usize, marks: usize, chain: usize) -> Judged
+    ensures { λ r. ⌜ r ≡ inputJudged (now (ops .entry)) words marks chain ⌝ }
+{
+    let n = ops.len();
+    if n > Walk::MOST_INPUT {
+        return Judged::Refused(Refusal::TooMany);
+    }
+    if !table(words) {
+        return Judged::Refused(Refusal::Table);
+    }
+    if marks != 2 * n {
+        return Judged::Refused(Refusal::ResultRoom);
+    }
+    if chain != n {
+        return Judged::Refused(Refusal::ResultRoom);
+    }
+    operations(ops)
+}

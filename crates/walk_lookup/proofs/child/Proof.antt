@@ -1,0 +1,112 @@
+-- `walk_lookup::child` meets its contract: by the branch taken, its answer is that of `childIn`, and the laws say what that means.
+-- Assumes nothing.
+use mathlib.Core.List.{List}
+use mathlib.Core.Path.{_≡_, sym, subst, _∙_}
+use Prim.Native.Nat.{ℕ, _+_, _*_}
+use native.Mathlib.Omega.{arith}
+use borrow.Author.Needs.{needs}
+use lib.ListN.{length, set}
+use Rattle.table_laws.specs.Model.{out}
+use Rattle.tree_laws.specs.State.{Made, grown}
+use Rattle.table_laws.proofs.LastLaws.{child-last}
+use Rattle.table_laws.proofs.Cites.{child-is, child-full, child-makes, child-holds}
+use Rattle.walk_lookup.proofs.child.Statement.{statement}
+use Rattle.walk_lookup.proofs.child.Tie as tie
+
+three : (t : List ℕ) (n u f s : ℕ) {t₁ t₂ t₃ : List ℕ} → t₁ ≡ set t (u * 21 + f) (n + 1) → t₂ ≡ set t₁ (n * 21 + 0) (u + 1) → t₃ ≡ set t₂ (n * 21 + 19) s → t₃ ≡ set (set (set t (u * 21 + f) (n + 1)) (n * 21 + 0) (u + 1)) (n * 21 + 19) s
+three t n u f s e₁ e₂ e₃ = cc
+
+word-requires : tie.Need-word-requires
+word-requires c κs = search needs
+
+cast-known : tie.Need-cast-known
+cast-known c = search needs
+
+same-length : tie.Need-same-length
+same-length c = search needs
+
+returns : tie.Need-returns
+returns c =
+    let s = c .before .before .before .before in
+    let w = c .before .word in
+    let t = s .args .t .now in
+    λ S e h deep r p. child-last t (s .args .nodes) S h (length t) (s .args .step) t (w .result) (s .args .nodes) e (child-holds t (s .args .nodes) (s .args .u) (s .args .place) (s .args .step) S e h deep r p (out t (w .result) (s .args .nodes)) (child-is t (s .args .nodes) (s .args .u) (s .args .place) (s .args .step) (w .result) (w .ensures) (λ z. omega arith)))
+
+add-if2 : tie.Need-add-if2
+add-if2 c = search needs
+
+mul-if2 : tie.Need-mul-if2
+mul-if2 c = search needs
+
+same-length-2 : tie.Need-same-length-2
+same-length-2 c = search needs
+
+returns-2 : tie.Need-returns-2
+returns-2 c =
+    let s = c .before .before .before .before .before in
+    let w = c .before .before .word in
+    let t = s .args .t .now in
+    let z : w .result ≡ 0 = omega arith in
+    λ S e h deep r p. child-last t (s .args .nodes) S h (length t) (s .args .step) t 0 (s .args .nodes) e (child-holds t (s .args .nodes) (s .args .u) (s .args .place) (s .args .step) S e h deep r p (out t 0 (s .args .nodes)) (child-full t (s .args .nodes) (s .args .u) (s .args .place) (s .args .step) (sym z ∙ w .ensures) (omega arith)))
+
+add-put : tie.Need-add-put
+add-put c = search needs
+
+cast-put : tie.Need-cast-put
+cast-put c = search needs
+
+put-requires : tie.Need-put-requires
+put-requires c κs = search needs
+
+add-put-2 : tie.Need-add-put-2
+add-put-2 c = search needs
+
+cast-put-2 : tie.Need-cast-put-2
+cast-put-2 c = search needs
+
+put-requires-2 : tie.Need-put-requires-2
+put-requires-2 c κs = search needs
+
+put-requires-3 : tie.Need-put-requires-3
+put-requires-3 c κs = search needs
+
+add-result : tie.Need-add-result
+add-result c = search needs
+
+same-length-3 : tie.Need-same-length-3
+same-length-3 c = search needs
+
+returns-3 : tie.Need-returns-3
+returns-3 c =
+    let s = c .before .before .before .before .before .before .before .before .before .before .before .before .before .before .before .before .before in
+    let w = c .before .before .before .before .before .before .before .before .before .before .before .before .before .before .word in
+    let t = s .args .t .now in
+    let z : w .result ≡ 0 = omega arith in
+    let n = s .args .nodes in
+    let e = three t n (s .args .u) (s .args .place) (s .args .step) (c .before .before .before .before .before .before .before .before .before .before .put .ensures) (c .before .before .before .before .before .before .put2 .ensures) (c .before .before .put3 .ensures) in
+    λ S x h deep r p. child-last t n S h (length t) (s .args .step) _ (n + 1) (n + 1) x
+    (subst (λ (l : List ℕ). Made (length t) (grown S x (s .args .step)) x l (n + 1) (n + 1)) (sym e)
+    (child-holds t n (s .args .u) (s .args .place) (s .args .step) S x h deep r p (out (set (set (set t (s .args .u * 21 + s .args .place) (n + 1)) (n * 21 + 0) (s .args .u + 1)) (n * 21 + 19) (s .args .step)) (n + 1) (n + 1)) (child-makes t n (s .args .u) (s .args .place) (s .args .step) (sym z ∙ w .ensures) (omega arith))))
+
+pub child-spec : {M : Type 1} → statement M
+child-spec =
+    tie.close
+    (tie.spec
+    word-requires
+    cast-known
+    same-length
+    returns
+    add-if2
+    mul-if2
+    same-length-2
+    returns-2
+    add-put
+    cast-put
+    put-requires
+    add-put-2
+    cast-put-2
+    put-requires-2
+    put-requires-3
+    add-result
+    same-length-3
+    returns-3)

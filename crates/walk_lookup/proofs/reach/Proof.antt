@@ -1,0 +1,51 @@
+-- `walk_lookup::reach` meets its contract.
+-- Assumes nothing.
+use borrow.Author.Needs.{needs}
+use lib.ListN.{length}
+use Rattle.grid.specs.Grid.{stepped}
+use Rattle.table_laws.proofs.LastLaws.{near-last}
+use Rattle.table_laws.proofs.Cites.{near-known}
+use Rattle.walk_lookup.proofs.reach.Statement.{statement}
+use Rattle.walk_lookup.proofs.reach.Tie as tie
+
+add-word : tie.Need-add-word
+add-word c = search needs
+
+word-requires : tie.Need-word-requires
+word-requires c κs = search needs
+
+cast-known : tie.Need-cast-known
+cast-known c = search needs
+
+same-length : tie.Need-same-length
+same-length c = search needs
+
+returns : tie.Need-returns
+returns c =
+    let s = c .before .before .before .before in
+    let a = s .args in
+    let q = s .pre .1 in
+    let w = c .before .word in
+    λ S h r. near-last (a .t .now) (a .nodes) S h (length (a .t .now)) (a .step) (a .t .now) (w .result) (a .nodes) (a .c) (stepped (a .d) (a .c)) (near-known (a .t .now) (a .nodes) (a .u) (a .c) (a .d) (a .step) S h r (q .2) (q .3) (w .result) (w .ensures) (c .if1 .taken))
+
+neighbour-requires : tie.Need-neighbour-requires
+neighbour-requires c κs = search needs
+
+same-length-2 : tie.Need-same-length-2
+same-length-2 c = search needs
+
+returns-2 : tie.Need-returns-2
+returns-2 c = search needs
+
+pub reach-spec : {M : Type 1} → statement M
+reach-spec =
+    tie.close
+    (tie.spec
+    add-word
+    word-requires
+    cast-known
+    same-length
+    returns
+    neighbour-requires
+    same-length-2
+    returns-2)

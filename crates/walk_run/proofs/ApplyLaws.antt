@@ -1,0 +1,81 @@
+-- The laws of one operation, as its proof cites them.
+-- Assumes nothing.
+use mathlib.Core.List.{List, [], _∷_, _++_}
+use mathlib.Core.Path.{_≡_, refl, ap, ap₂, sym, _∙_, subst}
+use Prim.Native.Nat.{ℕ, suc, _+_, _-_, _*_, _<_, _≤_}
+use native.Mathlib.Omega.{arith}
+use lib.IntN.{natAbs}
+use lib.ListN.{length, length-append, length-set, take, getD, set}
+use lib.Seq.{take-suc, take-suc-set, length-take-le}
+use Rattle.grid.specs.declared.Corner.{Corner}
+use Rattle.grid.specs.Grid.{cornersFrom, endFrom}
+use Rattle.lists.specs.Lists.{Below}
+use Rattle.walk_step.specs.declared.Moved.{Moved}
+use Rattle.walk_step.specs.declared.Walk.{Walk}
+use Rattle.walk_step.specs.Walks.{Known, Advanced}
+use Rattle.tree.specs.Nodes.{nodesOf}
+use Rattle.steps.specs.Operations.{operate}
+use Rattle.grid.proofs.BoundLaws.{endFrom-bound}
+use Rattle.steps.proofs.SurvivorLaws.{Fine, Sound, sound-operate, operate-step, operate-back, below-last}
+use Rattle.walk_run.specs.Runs.{Chained, Applied}
+
+module _ (c : Corner) (t ch ds : List ℕ) (w : Walk) (k : Chained c t ch ds w) where
+  pub chained-few : w .spot .steps ≤ 16384
+  chained-few = omega (arith, k .known .walked .steps, k .sound .few)
+
+  pub chained-near : (natAbs (w .spot .at .0) < 65536) × (natAbs (w .spot .at .1) < 65536)
+  chained-near =
+      let h = endFrom-bound ds c in
+      let x : natAbs (w .spot .at .0) ≡ natAbs (endFrom c ds .0) = ap (λ (x : Corner). natAbs (x .0)) (k .known .walked .corner) in
+      let y : natAbs (w .spot .at .1) ≡ natAbs (endFrom c ds .1) = ap (λ (x : Corner). natAbs (x .1)) (k .known .walked .corner) in
+      (less (natAbs (w .spot .at .0)) (natAbs (endFrom c ds .0)) (natAbs (c .0)) (length ds) x (h .0) (k .near .0) (k .sound .few), less (natAbs (w .spot .at .1)) (natAbs (endFrom c ds .1)) (natAbs (c .1)) (length ds) y (h .1) (k .near .1) (k .sound .few))
+    where
+      less : (a b m n : ℕ) → a ≡ b → b ≤ m + n → m ≤ 16384 → n ≤ 16384 → a < 65536
+      less a b m n p q r s = omega arith
+
+  -- the last step, from the chain
+  module _ (some : 0 < w .spot .steps) where
+    pub chained-place : w .spot .steps - 1 < length ch
+    chained-place = omega (arith, k .known .walked .steps, k .space)
+
+    chained-split : ds ≡ take (w .spot .steps - 1) ch ++ (getD ch (w .spot .steps - 1) 0 ∷ [])
+    chained-split =
+        let p : length ds ≡ suc (w .spot .steps - 1) = omega (arith, k .known .walked .steps) in
+        k .kept ∙ ap (λ (n : ℕ). take n ch) p ∙ take-suc ch (w .spot .steps - 1) 0 chained-place
+
+    pub chained-digit : getD ch (w .spot .steps - 1) 0 < 4
+    chained-digit = below-last (take (w .spot .steps - 1) ch) (getD ch (w .spot .steps - 1) 0) (subst (λ (l : List ℕ). Below 4 l) chained-split (k .sound .digits))
+
+    pub chained-known : Known t c (take (w .spot .steps - 1) ch ++ (getD ch (w .spot .steps - 1) 0 ∷ [])) w
+    chained-known = subst (λ (l : List ℕ). Known t c l w) chained-split (k .known)
+
+    pub chained-back : (o : ℕ) → o ≡ 4 → Fine (w .spot .steps) o → (t′ : List ℕ) (v : Walk) → Known t′ c (take (w .spot .steps - 1) ch) v → Chained c t′ ch (operate ds o) v
+    chained-back o q f t′ v h =
+        let e : operate ds o ≡ take (w .spot .steps - 1) ch = ap₂ operate chained-split q ∙ operate-back (take (w .spot .steps - 1) ch) (getD ch (w .spot .steps - 1) 0) in
+        let n : length (take (w .spot .steps - 1) ch) ≡ w .spot .steps - 1 = length-take-le (w .spot .steps - 1) ch (omega (arith, chained-place)) in
+        subst (λ (l : List ℕ). Chained c t′ ch l v) (sym e) (record {
+          near = k .near;
+          known = h;
+          kept = ap (λ (m : ℕ). take m ch) (sym n);
+          sound = subst Sound e (sound-operate ds o (k .sound) (subst (λ (m : ℕ). Fine m o) (k .known .walked .steps) f));
+          space = omega (arith, n, chained-place);
+        })
+
+  -- a step more, in the chain
+  module _ (o : ℕ) (f : Fine (w .spot .steps) o) (small : o < 4) (place : w .spot .steps < length ch) where
+    chained-go : (t′ : List ℕ) (v : Walk) → Known t′ c (ds ++ (o ∷ [])) v → Chained c t′ (set ch (w .spot .steps) o) (operate ds o) v
+    chained-go t′ v h =
+        let e : operate ds o ≡ ds ++ (o ∷ []) = operate-step ds o small in
+        let n : length (ds ++ (o ∷ [])) ≡ suc (w .spot .steps) = omega (arith, length-append ds (o ∷ []), k .known .walked .steps) in
+        let d : take (w .spot .steps) ch ≡ ds = ap (λ (m : ℕ). take m ch) (k .known .walked .steps) ∙ sym (k .kept) in
+        subst (λ (l : List ℕ). Chained c t′ (set ch (w .spot .steps) o) l v) (sym e) (record {
+          near = k .near;
+          known = h;
+          kept = ap (λ (l : List ℕ). l ++ (o ∷ [])) (sym d) ∙ sym (take-suc-set ch (w .spot .steps) o place) ∙ ap (λ (m : ℕ). take m (set ch (w .spot .steps) o)) (sym n);
+          sound = subst Sound e (sound-operate ds o (k .sound) (subst (λ (m : ℕ). Fine m o) (k .known .walked .steps) f));
+          space = omega (arith, n, length-set ch (w .spot .steps) o);
+        })
+
+    pub chained-applied : (words : ℕ) (t′ : List ℕ) (r : Moved) → Advanced words t′ c (ds ++ (o ∷ [])) r → Applied words c t′ (set ch (w .spot .steps) o) (operate ds o) r
+    chained-applied words t′ (Moved.To v) h = (chained-go t′ v (h .0), h .1)
+    chained-applied words t′ Moved.Full h = subst (λ (l : List ℕ). words < 21 * length (nodesOf (cornersFrom c l))) (sym (operate-step ds o small)) h

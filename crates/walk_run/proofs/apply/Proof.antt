@@ -1,0 +1,117 @@
+-- `walk_run::apply` meets its contract.
+-- Assumes nothing.
+use mathlib.Core.Path.{_≡_}
+use Prim.Native.Nat.{_-_}
+use native.Mathlib.Omega.{arith}
+use borrow.Author.Needs.{needs}
+use lib.ListN.{length, take}
+use Rattle.steps.proofs.SurvivorLaws.{fine-back, fine-step}
+use Rattle.walk_run.proofs.ApplyLaws.{chained-few, chained-near, chained-place, chained-digit, chained-known, chained-back, chained-applied}
+use Rattle.walk_run.proofs.apply.Statement.{statement}
+use Rattle.walk_run.proofs.apply.Tie as tie
+
+sub-last : tie.Need-sub-last
+sub-last c =
+    let s = c .before .before .before .before in
+    let a = s .args in
+    let k = s .pre .0 in
+    let T = a .t .now in
+    let C = a .chain .now in
+    let w = a .w in
+    let some = fine-back (w .spot .steps) (a .op) (k .fine) (c .before .if1 .taken) in
+    omega (arith, some)
+
+slice-read-d : tie.Need-slice-read-d
+slice-read-d c =
+    let s = c .before .before .before .before .before in
+    let a = s .args in
+    let k = s .pre .0 in
+    let T = a .t .now in
+    let C = a .chain .now in
+    let w = a .w in
+    let some = fine-back (w .spot .steps) (a .op) (k .fine) (c .before .before .if1 .taken) in
+    chained-place (k .start) T C (k .steps) w (k .chained) some
+
+withdraw-requires : tie.Need-withdraw-requires
+withdraw-requires c κs =
+    let s = c .before .before .before .before .before .before in
+    let a = s .args in
+    let k = s .pre .0 in
+    let T = a .t .now in
+    let C = a .chain .now in
+    let w = a .w in
+    let some = fine-back (w .spot .steps) (a .op) (k .fine) (c .before .before .before .if1 .taken) in
+    let n = chained-near (k .start) T C (k .steps) w (k .chained) in
+    (record { start = k .start; chain = take (w .spot .steps - 1) C; known = chained-known (k .start) T C (k .steps) w (k .chained) some }, (n .0, n .1, chained-digit (k .start) T C (k .steps) w (k .chained) some, omega (arith, chained-few (k .start) T C (k .steps) w (k .chained))))
+
+same-length : tie.Need-same-length
+same-length c = search needs
+
+returns : tie.Need-returns
+returns c =
+    let s = c .before .before .before .before .before .before .before .before .before in
+    let a = s .args in
+    let k = s .pre .0 in
+    let T = a .t .now in
+    let C = a .chain .now in
+    let w = a .w in
+    let some = fine-back (w .spot .steps) (a .op) (k .fine) (c .before .before .before .before .before .before .if1 .taken) in
+    let b = c .before .before .withdraw in
+    let l : length (b .last .0) ≡ length T = search needs in
+    λ x ds h. (chained-back x T C ds w h some (a .op) (c .before .before .before .before .before .before .if1 .taken) (k .fine) (b .last .0) (b .result) (b .ensures x (take (w .spot .steps - 1) C) (chained-known x T C ds w h some)), l)
+
+slice-write-chain : tie.Need-slice-write-chain
+slice-write-chain c =
+    let s = c .before .before .before in
+    let a = s .args in
+    let k = s .pre .0 in
+    let T = a .t .now in
+    let C = a .chain .now in
+    let w = a .w in
+    k .next (c .if1 .left)
+
+advance-requires : tie.Need-advance-requires
+advance-requires c κs =
+    let s = c .before .before .before .before in
+    let a = s .args in
+    let k = s .pre .0 in
+    let T = a .t .now in
+    let C = a .chain .now in
+    let w = a .w in
+    let n = chained-near (k .start) T C (k .steps) w (k .chained) in
+    let g = fine-step (w .spot .steps) (a .op) (k .fine) (c .before .if1 .left) in
+    (record { start = k .start; chain = k .steps; known = k .chained .known }, (n .0, n .1, g .0, omega (arith, g .1), s .pre .1))
+
+same-length-2 : tie.Need-same-length-2
+same-length-2 c = search needs
+
+same-length-3 : tie.Need-same-length-3
+same-length-3 c = search needs
+
+returns-2 : tie.Need-returns-2
+returns-2 c =
+    let s = c .before .before .before .before .before .before .before in
+    let a = s .args in
+    let k = s .pre .0 in
+    let T = a .t .now in
+    let C = a .chain .now in
+    let w = a .w in
+    let b = c .before .before .advance in
+    let f = c .before .before .before .before .if1 .left in
+    let g = fine-step (w .spot .steps) (a .op) (k .fine) f in
+    λ x ds h. chained-applied x T C ds w h (a .op) (k .fine) (g .0) (k .next f) (length T) (b .last .0) (b .result) (b .ensures x ds (h .known))
+
+pub apply-spec : {M : Type 1} → statement M
+apply-spec =
+    tie.close
+    (tie.spec
+    sub-last
+    slice-read-d
+    withdraw-requires
+    same-length
+    returns
+    slice-write-chain
+    advance-requires
+    same-length-2
+    same-length-3
+    returns-2)

@@ -1,0 +1,46 @@
+-- A walk that follows its operations: its steps in the chain, and what the run answers.
+-- Assumes nothing.
+use mathlib.Core.List.{List, [], _∷_, _++_}
+use mathlib.Core.Path.{_≡_}
+use Prim.Native.Nat.{ℕ, suc, _*_, _/_, _<_, _≤_}
+use lib.IntN.{natAbs}
+use lib.ListN.{length, take}
+use Rattle.answer.specs.declared.Judged.the-variants.{Good, Refused}
+use Rattle.answer.specs.declared.Refusal.the-variants.{NoRoom}
+use Rattle.walk_call.specs.Walk.{roomFrom}
+use Rattle.grid.specs.declared.Corner.{Corner}
+use Rattle.grid.specs.Grid.{cornersFrom}
+use Rattle.layout.specs.Marks.{marksOf}
+use Rattle.walk_step.specs.declared.Moved.{Moved}
+use Rattle.walk_step.specs.declared.Walk.{Walk}
+use Rattle.walk_step.specs.Walks.{Known}
+use Rattle.tree.specs.Nodes.{nodesOf}
+use Rattle.steps.specs.Operations.{survivors}
+use Rattle.steps.proofs.SurvivorLaws.{Fine, Sound}
+use Rattle.walk_run.specs.declared.Ran.{Ran}
+
+-- the walk from c with the steps ds, which stand in the chain
+pub record Chained (c : Corner) (t chain ds : List ℕ) (w : Walk) : Type 0 where
+  pub near : (natAbs (c .0) ≤ 16384) × (natAbs (c .1) ≤ 16384)
+  pub known : Known t c ds w
+  pub kept : ds ≡ take (length ds) chain
+  pub sound : Sound ds
+  pub space : length ds ≤ length chain
+
+-- some walk for which the operation o is no fault, with room in the chain
+pub record Ready (t chain : List ℕ) (w : Walk) (o : ℕ) : Type 0 where
+  pub start : Corner
+  pub steps : List ℕ
+  pub chained : Chained start t chain steps w
+  pub fine : Fine (w .spot .steps) o
+  pub next : (o ≡ 4 → ⊥) → w .spot .steps < length chain
+
+-- the answer to an operation, after which the steps are ds
+abbrev pub Applied : ℕ → Corner → List ℕ → List ℕ → List ℕ → Moved → Type 0
+Applied words c t chain ds (Moved.To w) = Chained c t chain ds w × (length t ≡ words)
+Applied words c t chain ds Moved.Full = words < 21 * length (nodesOf (cornersFrom c ds))
+
+-- the answer to all of them
+abbrev pub Ended : ℕ → Corner → List ℕ → List ℕ → List ℕ → List ℕ → Ran → Type 0
+Ended words c ops t ms chain (Ran.All w) = Chained c t chain (survivors ops) w × (ms ≡ marksOf c ops) × (roomFrom (words / 21) c 0 [] ops ≡ Good)
+Ended words c ops t ms chain (Ran.Full i) = roomFrom (words / 21) c 0 [] ops ≡ Refused (NoRoom i)

@@ -1,0 +1,72 @@
+// A walk follows its operations, one after the other, and marks each.
+ghost use mathlib.Core.List.{List, [], _∷_, _++_};
+ghost use mathlib.Core.Path.{_≡_};
+ghost use Prim.Native.Nat.{ℕ, _+_, _*_, _^_, _<_, _≤_};
+ghost use lib.ListN.{length, set, getD};
+ghost use Rattle.answer.specs.declared.Judged.the-variants.{Good};
+ghost use Rattle.grid.specs.declared.Corner.{Corner as Node};
+ghost use Rattle.grid.specs.Grid.{origin};
+ghost use Rattle.layout.specs.Table.{tableOf};
+ghost use Rattle.steps.specs.Operations.{operate, faultsFrom};
+ghost use Rattle.walk_run.specs.Runs.{Chained, Ready, Applied, Ended};
+use walk_step::Moved;
+use walk_step::Spot;
+use walk_step::Walk;
+use walk_table::Record;
+
+// The walk after all operations, or the place of the first for which the table has no room.
+pub enum Ran {
+    All(Walk),
+    Full(usize),
+}
+
+// One operation: 4 takes the last surviving step back, any other is a step.
+fn apply(t: &mut [u32], chain: &mut [u8], w: Walk, op: u8) -> Moved
+    requires { ⌜ Ready (now t) (now chain) w op ⌝ }
+    requires { ⌜ length (now t) < 2 ^ 32 ⌝ }
+    ensures { λ r. ⌜ ((c : Node) (ds : List ℕ) → Chained c (now (t .entry)) (now (chain .entry)) ds w → Applied (length (now (t .entry))) c (now (t .exit)) (now (chain .exit)) (operate ds op) r) ⌝ }
+{
+    if op == 4 {
+        let last = w.spot.steps - 1;
+        let d = chain[last];
+        return Moved::To(walk_step::withdraw(t, w, d));
+    }
+    let place = w.spot.steps;
+    chain[place] = op;
+    walk_step::advance(t, w, op)
+}
+
+// The mark at place i: the nodes in use, and the visits at the corner stood on.
+fn mark(t: &[u32], marks: &mut [u32], w: Spot, i: usize)
+    requires { ⌜ (w .node * 21 + 18 < length (now t)) × (2 * i + 1 < length (now marks)) × (w .nodes < 2 ^ 32) × (i < 2 ^ 32) ⌝ }
+    ensures { λ _. ⌜ now (marks .exit) ≡ set (set (now (marks .entry)) (2 * i) (w .nodes)) (2 * i + 1) (getD (now (t .entry)) (w .node * 21 + 18) 0) ⌝ }
+{
+    let r = w.node;
+    marks[2 * i] = w.nodes as u32;
+    marks[2 * i + 1] = walk_table::word(t, r, Record::VISITS);
+}
+
+// All operations, in a table that holds the root alone.
+pub fn run(ops: &[u8], t: &mut [u32], marks: &mut [u32], chain: &mut [u8]) -> Ran
+    requires { ⌜ (now t ≡ tableOf (length (now t)) origin []) × (21 ≤ length (now t)) × (length (now t) < 2 ^ 32) ⌝ }
+    requires { ⌜ (length (now marks) ≡ 2 * length (now ops)) × (length (now chain) ≡ length (now ops)) × (length (now ops) ≤ 32768) ⌝ }
+    requires { ⌜ faultsFrom 0 0 (now ops) ≡ Good ⌝ }
+    ensures { λ r. ⌜ Ended (length (now (t .entry))) origin (now (ops .entry)) (now (t .exit)) (now (marks .exit)) (now (chain .exit)) r ⌝ }
+{
+    let mut w = Walk::new();
+    let mut i = 0;
+    while i < ops.len() {
+        match apply(t, chain, w, ops[i]) {
+            Moved::To(next) => {
+                w = next;
+            }
+            Moved::Full => {
+                return Ran::Full(i);
+            }
+        }
+        let spot = w.spot;
+        mark(t, marks, spot, i);
+        i += 1;
+    }
+    Ran::All(w)
+}

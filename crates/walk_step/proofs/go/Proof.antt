@@ -1,0 +1,87 @@
+-- `walk_step::go` meets its contract.
+-- Assumes nothing.
+use mathlib.Core.Path.{refl}
+use Prim.Native.Nat.{_+_, _-_, max}
+use native.Mathlib.Omega.{arith}
+use borrow.Author.Needs.{needs}
+use Rattle.walk_step.specs.declared.Spot.{Spot}
+use Rattle.walk_step.proofs.SpotLaws.{step-stood, step-full, step-visits, step-to}
+use Rattle.walk_step.proofs.go.Statement.{statement}
+use Rattle.walk_step.proofs.go.Tie as tie
+
+add-n : tie.Need-add-n
+add-n c = search needs
+
+cast-reach : tie.Need-cast-reach
+cast-reach c = search needs
+
+reach-requires : tie.Need-reach-requires
+reach-requires c κs =
+    let s = c .before .before .before .before in
+    let a = s .args in
+    let k = s .pre .0 in
+    let q = s .pre .1 in
+    (step-stood (a .t .now) (k .start) (k .chain) (a .w) (k .walked), (q .0, q .1, q .2, omega arith, q .4))
+
+same-length : tie.Need-same-length
+same-length c = search needs
+
+returns : tie.Need-returns
+returns c =
+    let s = c .before .before .before .before .before .before .before .before in
+    let a = s .args in
+    let k = s .pre .0 in
+    let q = s .pre .1 in
+    let o = c .before .before .before .reach in
+    λ x ds h. step-full (a .t .now) x ds (a .w) h (a .d) (o .last .0) (o .result) (max (a .w .nodes) (o .result)) (o .ensures) (c .if1 .taken)
+
+sub-visit : tie.Need-sub-visit
+sub-visit c = search needs
+
+visit-requires : tie.Need-visit-requires
+visit-requires c κs =
+    let s = c .before .before .before .before .before .before .before .before .before in
+    let a = s .args in
+    let k = s .pre .0 in
+    let q = s .pre .1 in
+    let o = c .before .before .before .before .reach in
+    let v = step-visits (a .t .now) (k .start) (k .chain) (a .w) (k .walked) (a .d) (o .last .0) (o .result) (max (a .w .nodes) (o .result)) (o .ensures) (c .before .if1 .left) in
+    (v .0, omega (arith, v .1, q .3), omega (arith, q .3))
+
+moved-requires : tie.Need-moved-requires
+moved-requires c κs = search needs
+
+sub-t16 : tie.Need-sub-t16
+sub-t16 c = search needs
+
+in-use-requires : tie.Need-in-use-requires
+in-use-requires c κs = search needs
+
+same-length-2 : tie.Need-same-length-2
+same-length-2 c = search needs
+
+returns-2 : tie.Need-returns-2
+returns-2 c =
+    let a = c .before .before .before .before .before .before .before .before .before .before .before .before .before .before .args in
+    let o = c .before .before .before .before .before .before .before .before .before .reach in
+    let v = c .before .before .before .before .visit in
+    let m = c .before .moved in
+    let r : Spot = record { node = o .result - 1; at = m .result; steps = a .w .steps + 1; nodes = c .in-use .result } in
+    λ x ds h. step-to (a .t .now) x ds (a .w) h (a .d) (o .last .0) (o .result) (max (a .w .nodes) (o .result)) (o .ensures) (c .before .before .before .before .before .before .if1 .left) (v .last .0) (v .ensures) r refl (m .ensures) refl (c .in-use .ensures)
+
+pub go-spec : {M : Type 1} → statement M
+go-spec =
+    tie.close
+    (tie.spec
+    add-n
+    cast-reach
+    reach-requires
+    same-length
+    returns
+    sub-visit
+    visit-requires
+    moved-requires
+    sub-t16
+    in-use-requires
+    same-length-2
+    returns-2)

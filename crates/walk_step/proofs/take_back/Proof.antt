@@ -1,0 +1,148 @@
+-- `walk_step::take_back` meets its contract.
+-- Assumes nothing.
+use mathlib.Core.Path.{refl}
+use Prim.Native.Nat.{_+_, _-_, _%_}
+use native.Mathlib.Omega.{arith}
+use borrow.Author.Needs.{needs}
+use Rattle.grid.specs.Grid.{stepped, cornersFrom, endFrom}
+use Rattle.tree_laws.specs.State.{stateOf}
+use Rattle.walk_step.specs.declared.Spot.{Spot}
+use Rattle.walk_step.proofs.SpotLaws.{back-steps, back-bound, back-linked, back-visits, back-unlinks, back-drops, back-to}
+use Rattle.walk_step.proofs.take_back.Statement.{statement}
+use Rattle.walk_step.proofs.take_back.Tie as tie
+
+add-b : tie.Need-add-b
+add-b c = search needs
+
+add-word : tie.Need-add-word
+add-word c = search needs
+
+word-requires : tie.Need-word-requires
+word-requires c κs =
+    let s = c .before .before .before in
+    let a = s .args in
+    let k = s .pre .0 in
+    let q = s .pre .1 in
+    let dir = q .2 in
+    let T = a .t .now in
+    omega (arith, back-bound T (k .start) (k .chain) (a .d) (a .w) (k .walked) dir)
+
+cast-from : tie.Need-cast-from
+cast-from c = search needs
+
+sub-from : tie.Need-sub-from
+sub-from c =
+    let s = c .before .before .before .before in
+    let a = s .args in
+    let k = s .pre .0 in
+    let q = s .pre .1 in
+    let dir = q .2 in
+    let T = a .t .now in
+    let e = c .word in
+    let l = back-linked T (k .start) (k .chain) (a .d) (a .w) (k .walked) dir (e .result) (e .ensures) in
+    omega (arith, l .0)
+
+unvisit-requires : tie.Need-unvisit-requires
+unvisit-requires c κs =
+    let s = c .before .before .before .before .before in
+    let a = s .args in
+    let k = s .pre .0 in
+    let q = s .pre .1 in
+    let dir = q .2 in
+    let T = a .t .now in
+    (back-bound T (k .start) (k .chain) (a .d) (a .w) (k .walked) dir, back-visits T (k .start) (k .chain) (a .d) (a .w) (k .walked) dir)
+
+cast-unlink-up : tie.Need-cast-unlink-up
+cast-unlink-up c = search needs
+
+unlink-up-requires : tie.Need-unlink-up-requires
+unlink-up-requires c κs =
+    let s = c .before .before .before .before .before .before .before .before .before in
+    let a = s .args in
+    let k = s .pre .0 in
+    let q = s .pre .1 in
+    let dir = q .2 in
+    let T = a .t .now in
+    let e = c .before .before .before .before .before .word in
+    let l = back-linked T (k .start) (k .chain) (a .d) (a .w) (k .walked) dir (e .result) (e .ensures) in
+    let v = c .before .before .before .unvisit in
+    let u = back-unlinks T (k .start) (k .chain) (a .d) (a .w) (k .walked) dir (v .last .0) (v .ensures) (e .result - 1) (l .1) in
+    record { state = stateOf (cornersFrom (k .start) (k .chain)); end = stepped (a .d) (endFrom (k .start) (k .chain)); holds = u .0 }
+
+cast-drop-up : tie.Need-cast-drop-up
+cast-drop-up c = search needs
+
+drop-up-requires : tie.Need-drop-up-requires
+drop-up-requires c κs =
+    let s = c .before .before .before .before .before .before .before .before .before .before .before .before .before in
+    let a = s .args in
+    let k = s .pre .0 in
+    let q = s .pre .1 in
+    let dir = q .2 in
+    let T = a .t .now in
+    let e = c .before .before .before .before .before .before .before .before .before .word in
+    let l = back-linked T (k .start) (k .chain) (a .d) (a .w) (k .walked) dir (e .result) (e .ensures) in
+    let v = c .before .before .before .before .before .before .before .unvisit in
+    let n = c .before .before .before .unlink-up in
+    let S = stateOf (cornersFrom (k .start) (k .chain)) in
+    let u = back-unlinks T (k .start) (k .chain) (a .d) (a .w) (k .walked) dir (v .last .0) (v .ensures) (e .result - 1) (l .1) in
+    record { state = S; holds = back-drops T (k .start) (k .chain) (a .d) (a .w) (k .walked) dir (v .last .0) (n .last .0) (u .1) (n .ensures S (stepped (a .d) (endFrom (k .start) (k .chain))) (u .0)) .0 }
+
+cast-moved : tie.Need-cast-moved
+cast-moved c = search needs
+
+moved-requires : tie.Need-moved-requires
+moved-requires c κs = search needs
+
+sub-t16 : tie.Need-sub-t16
+sub-t16 c =
+    let s = c .before .before .before .before .before .before .before .before .before .before .before .before .before .before .before .before .before in
+    let a = s .args in
+    let k = s .pre .0 in
+    let q = s .pre .1 in
+    let dir = q .2 in
+    let T = a .t .now in
+    omega (arith, back-steps T (k .start) (k .chain) (a .d) (a .w) (k .walked) dir)
+
+same-length : tie.Need-same-length
+same-length c = search needs
+
+returns : tie.Need-returns
+returns c =
+    let s = c .before .before .before .before .before .before .before .before .before .before .before .before .before .before .before .before .before in
+    let a = s .args in
+    let k = s .pre .0 in
+    let q = s .pre .1 in
+    let dir = q .2 in
+    let T = a .t .now in
+    let e = c .before .before .before .before .before .before .before .before .before .before .before .before .before .word in
+    let v = c .before .before .before .before .before .before .before .before .before .before .before .unvisit in
+    let n = c .before .before .before .before .before .before .before .unlink-up in
+    let m = c .before .before .before .drop-up in
+    let r : Spot = record { node = e .result - 1; at = c .moved .result; steps = a .w .steps - 1; nodes = m .result } in
+    λ x ds h.
+    let S = stateOf (cornersFrom x ds) in
+    let l = back-linked T x ds (a .d) (a .w) h dir (e .result) (e .ensures) in
+    let u = back-unlinks T x ds (a .d) (a .w) h dir (v .last .0) (v .ensures) (e .result - 1) (l .1) in
+    let g = back-drops T x ds (a .d) (a .w) h dir (v .last .0) (n .last .0) (u .1) (n .ensures S (stepped (a .d) (endFrom x ds)) (u .0)) in
+    back-to T x ds (a .d) (a .w) h dir (n .last .0) (m .last .0) (m .result) (g .1) (m .ensures S (g .0)) r ((a .d + 2) % 4) (e .result - 1) refl (l .1) refl (c .moved .ensures) refl refl
+
+pub take-back-spec : {M : Type 1} → statement M
+take-back-spec =
+    tie.close
+    (tie.spec
+    add-b
+    add-word
+    word-requires
+    cast-from
+    sub-from
+    unvisit-requires
+    cast-unlink-up
+    unlink-up-requires
+    cast-drop-up
+    drop-up-requires
+    cast-moved
+    moved-requires
+    sub-t16
+    same-length
+    returns)

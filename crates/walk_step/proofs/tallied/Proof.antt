@@ -1,0 +1,81 @@
+-- `walk_step::tallied` meets its contract.
+-- Assumes nothing.
+use mathlib.Core.Path.{refl}
+use Prim.Native.Nat.{_+_, _-_}
+use native.Mathlib.Omega.{arith}
+use borrow.Author.Needs.{needs}
+use Rattle.walk_step.specs.declared.Tally.{Tally}
+use Rattle.walk_step.proofs.TallyLaws.{tally-bound, tally-first, tally-new, tally-same, tally-meets}
+use Rattle.walk_step.proofs.tallied.Statement.{statement}
+use Rattle.walk_step.proofs.tallied.Tie as tie
+
+word-requires : tie.Need-word-requires
+word-requires c κs =
+    let s = c .before in
+    let a = s .args in
+    let k = s .pre .0 in
+    let T = a .t .now in
+    let b = tally-bound T (k .start) (k .chain) (a .d) (a .w) (k .walked) in
+    omega (arith, b)
+
+add-t11 : tie.Need-add-t11
+add-t11 c = search needs
+
+returns : tie.Need-returns
+returns c =
+    let s = c .before .before .before .before in
+    let a = s .args in
+    let k = s .pre .0 in
+    let T = a .t .now in
+    let b = tally-bound T (k .start) (k .chain) (a .d) (a .w) (k .walked) in
+    let v = c .before .before .word in
+    let r : Tally = record { corners = a .m .corners + 1; j = a .m .j; k = a .m .k } in
+    λ x ds h n. tally-new T x ds (a .d) (a .w) h (a .m) n (v .result) (v .ensures) (c .before .if1 .taken) r refl refl refl
+
+word-requires-2 : tie.Need-word-requires-2
+word-requires-2 c κs =
+    let s = c .before .before .before .before in
+    let a = s .args in
+    let k = s .pre .0 in
+    let T = a .t .now in
+    let b = tally-bound T (k .start) (k .chain) (a .d) (a .w) (k .walked) in
+    omega (arith, b)
+
+cast-first : tie.Need-cast-first
+cast-first c = search needs
+
+sub-t13 : tie.Need-sub-t13
+sub-t13 c =
+    let s = c .before .before .before .before .before in
+    let a = s .args in
+    let k = s .pre .0 in
+    let T = a .t .now in
+    let b = tally-bound T (k .start) (k .chain) (a .d) (a .w) (k .walked) in
+    omega (arith, tally-first T (k .start) (k .chain) (a .d) (a .w) (k .walked) (c .word2 .result) (c .word2 .ensures))
+
+returns-2 : tie.Need-returns-2
+returns-2 c =
+    let s = c .before .before .before .before .before in
+    let a = s .args in
+    let k = s .pre .0 in
+    let T = a .t .now in
+    let b = tally-bound T (k .start) (k .chain) (a .d) (a .w) (k .walked) in
+    let v = c .before .before .before .word in
+    let f = c .word2 in
+    let r : Tally = record { corners = a .m .corners; j = f .result - 1; k = a .w .steps } in
+    λ x ds h n. tally-meets T x ds (a .d) (a .w) h (a .m) n (v .result) (v .ensures) (c .before .before .if1 .left) (c .before .if2 .taken) (s .pre .1 .0) (f .result) (f .ensures) r refl refl refl
+
+returns-3 : tie.Need-returns-3
+returns-3 c =
+    let s = c .before .before .before .before in
+    let a = s .args in
+    let k = s .pre .0 in
+    let T = a .t .now in
+    let b = tally-bound T (k .start) (k .chain) (a .d) (a .w) (k .walked) in
+    let v = c .before .before .word in
+    λ x ds h n. tally-same T x ds (a .d) (a .w) h (a .m) n (v .result) (v .ensures) (c .before .if1 .left) (c .if2 .left)
+
+pub tallied-spec : {M : Type 1} → statement M
+tallied-spec =
+    tie.close
+    (tie.spec word-requires add-t11 returns word-requires-2 cast-first sub-t13 returns-2 returns-3)

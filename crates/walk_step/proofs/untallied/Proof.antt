@@ -1,0 +1,53 @@
+-- `walk_step::untallied` meets its contract.
+-- Assumes nothing.
+use mathlib.Core.Path.{refl}
+use Prim.Native.Nat.{_-_}
+use native.Mathlib.Omega.{arith}
+use borrow.Author.Needs.{needs}
+use Rattle.walk_step.specs.declared.Tally.{Tally}
+use Rattle.walk_step.proofs.TallyLaws.{tally-bound, untally-new, untally-same, untally-meets}
+use Rattle.walk_step.proofs.untallied.Statement.{statement}
+use Rattle.walk_step.proofs.untallied.Tie as tie
+
+word-requires : tie.Need-word-requires
+word-requires c κs =
+    let s = c .before in
+    let a = s .args in
+    let k = s .pre .0 in
+    let T = a .t .now in
+    omega (arith, tally-bound T (k .start) (k .chain) (a .d) (a .w) (k .walked))
+
+sub-t10 : tie.Need-sub-t10
+sub-t10 c = search needs
+
+returns : tie.Need-returns
+returns c =
+    let s = c .before .before .before .before in
+    let a = s .args in
+    let k = s .pre .0 in
+    let T = a .t .now in
+    let v = c .before .before .word in
+    let r : Tally = record { corners = a .m .corners - 1; j = a .m .j; k = a .m .k } in
+    λ x ds h n. untally-new T x ds (a .d) (a .w) h (a .m) n (v .result) (v .ensures) (c .before .if1 .taken) r refl refl refl
+
+returns-2 : tie.Need-returns-2
+returns-2 c =
+    let s = c .before .before .before .before in
+    let a = s .args in
+    let k = s .pre .0 in
+    let T = a .t .now in
+    let v = c .before .before .word in
+    let r : Tally = record { corners = a .m .corners; j = 65535; k = 65535 } in
+    λ x ds h n. untally-meets T x ds (a .d) (a .w) h (a .m) n (v .result) (v .ensures) (c .before .if1 .left) (c .if2 .taken) (s .pre .1 .0) r refl refl refl
+
+returns-3 : tie.Need-returns-3
+returns-3 c =
+    let s = c .before .before .before .before in
+    let a = s .args in
+    let k = s .pre .0 in
+    let T = a .t .now in
+    let v = c .before .before .word in
+    λ x ds h n. untally-same T x ds (a .d) (a .w) h (a .m) n (v .result) (v .ensures) (c .before .if1 .left) (c .if2 .left)
+
+pub untallied-spec : {M : Type 1} → statement M
+untallied-spec = tie.close (tie.spec word-requires sub-t10 returns returns-2 returns-3)

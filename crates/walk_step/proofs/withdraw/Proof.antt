@@ -1,0 +1,34 @@
+-- `walk_step::withdraw` meets its contract.
+-- Assumes nothing.
+use mathlib.Core.List.{[], _∷_, _++_}
+use mathlib.Core.Path.{_≡_, refl}
+use borrow.Author.Needs.{needs}
+use Rattle.walk_step.specs.declared.Walk.{Walk}
+use Rattle.walk_step.proofs.WalkLaws.{corners-some, withdraw-to}
+use Rattle.walk_step.proofs.withdraw.Statement.{statement}
+use Rattle.walk_step.proofs.withdraw.Tie as tie
+
+untallied-requires : tie.Need-untallied-requires
+untallied-requires c κs =
+    let s = c .before .before .before .before in
+    let a = s .args in
+    let k = s .pre .0 in
+    (record { start = k .start; chain = k .chain; walked = k .known .walked }, (s .pre .1 .3, corners-some (a .t .now) (k .start) (k .chain ++ (a .d ∷ [])) (a .w) (k .known)))
+
+take-back-requires : tie.Need-take-back-requires
+take-back-requires c κs = search needs
+
+same-length : tie.Need-same-length
+same-length c = search needs
+
+returns : tie.Need-returns
+returns c =
+    let s = c .before .before .before .before .before .before .before .before .before in
+    let a = s .args in
+    let u = c .before .before .before .before .untallied in
+    let b = c .before .before .take-back in
+    let v : Walk = record { spot = b .result; tally = u .result } in
+    withdraw-to (a .t .now) (b .last .0) (a .w) (a .d) (b .result) (u .result) (u .ensures) (b .ensures) v refl refl
+
+pub withdraw-spec : {M : Type 1} → statement M
+withdraw-spec = tie.close (tie.spec untallied-requires take-back-requires same-length returns)

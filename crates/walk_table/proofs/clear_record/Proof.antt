@@ -1,0 +1,58 @@
+-- `walk_table::clear_record` meets its contract.
+-- Assumes nothing.
+use mathlib.Core.Path.{_≡_, refl, ap, _∙_}
+use Prim.Native.Nat.{_*_, _-_, _≤_}
+use native.Mathlib.Omega.{arith}
+use borrow.Author.Needs.{needs}
+use lib.ListN.{length, replicate, length-set}
+use lib.Seq.{sets}
+use Rattle.walk_table.proofs.ErasureLaws.{clear-next, clear-end}
+use Rattle.walk_table.proofs.clear_record.Statement.{statement}
+use Rattle.walk_table.proofs.clear_record.Tie as tie
+
+abbrev Inv-loop : tie.InvT-loop
+Inv-loop t₀ r f₀ t f = (length t ≡ length t₀) × (f ≤ 21) × (t ≡ sets t₀ (r * 21) (replicate f 0))
+
+abbrev μ-loop : tie.MeasureT-loop
+μ-loop t₀ r f₀ t f = 21 - f
+
+loop-holds : tie.Need-loop-holds Inv-loop μ-loop
+loop-holds c = (refl, omega arith, refl)
+
+put-requires : tie.Need-put-requires Inv-loop μ-loop
+put-requires c κs = search needs
+
+add-f : tie.Need-add-f Inv-loop μ-loop
+add-f c = search needs
+
+loop-less : tie.Need-loop-less Inv-loop μ-loop
+loop-less c = search needs
+
+loop-again : tie.Need-loop-again Inv-loop μ-loop
+loop-again c =
+    let s = c .before .before .before .before .before .before .before in
+    let l = c .before .before .before .before .before .loop in
+    (ap length (c .before .before .put .ensures) ∙ length-set (l .t) _ _ ∙ l .inv .0, omega arith, clear-next (s .args .t .now) (l .t) (c .before .before .put .last .0) (s .args .r) (l .f) (l .inv .2) (c .before .before .put .ensures))
+
+same-length : tie.Need-same-length Inv-loop μ-loop
+same-length c = search needs
+
+returns : tie.Need-returns Inv-loop μ-loop
+returns c =
+    let s = c .before .before .before in
+    let l = c .before .loop in
+    clear-end (s .args .t .now) (l .t) (s .args .r) (l .f) (l .inv .2) (omega arith)
+
+pub clear-record-spec : {M : Type 1} → statement M
+clear-record-spec =
+    tie.close
+    (tie.spec
+    Inv-loop
+    μ-loop
+    loop-holds
+    put-requires
+    add-f
+    loop-less
+    loop-again
+    same-length
+    returns)

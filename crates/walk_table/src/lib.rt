@@ -1,0 +1,133 @@
+// The words of the lent table: node records of 21 words at fixed offsets, what is written there, and what is taken away.
+ghost use mathlib.Core.Path.{_≡_};
+ghost use Prim.Native.Nat.{_+_, _*_, _^_, _<_, _-_, _≤_};
+ghost use lib.ListN.{length, getD, set, take, replicate};
+ghost use Rattle.table_laws.specs.Model.{linkIn, visitIn, unvisitIn, unsetIn};
+ghost use mathlib.Core.List.{_++_};
+ghost use lib.Seq.{sets};
+
+// The record of a node, by its number, and the places of its words.
+pub struct Record(pub usize);
+
+impl Record {
+    pub const WORDS: usize = 21;
+
+    pub const PARENT: usize = 0;
+
+    pub const NEIGHBOUR: usize = 10;
+
+    pub const LINK_STEP: usize = 14;
+
+    pub const VISITS: usize = 18;
+
+    pub const NEED: usize = 19;
+
+    pub const FIRST: usize = 20;
+}
+
+// Word f of record r.
+pub fn word(t: &[u32], r: usize, f: usize) -> u32
+    requires { ⌜ r * 21 + f < length (now t) ⌝ }
+    ensures { λ v. ⌜ v ≡ getD (now (t .entry)) (r * 21 + f) 0 ⌝ }
+{
+    t[r * Record::WORDS + f]
+}
+
+// Sets word f of record r.
+pub fn put(t: &mut [u32], r: usize, f: usize, v: u32)
+    requires { ⌜ r * 21 + f < length (now t) ⌝ }
+    ensures { λ _. ⌜ now (t .exit) ≡ set (now (t .entry)) (r * 21 + f) v ⌝ }
+{
+    t[r * Record::WORDS + f] = v;
+}
+
+// Sets the ref of the neighbour in the direction d and that link's step, in the record u.
+pub fn put_link(t: &mut [u32], u: usize, d: usize, to: u32, step: u32)
+    requires { ⌜ (u * 21 + 20 < length (now t)) × (d < 4) ⌝ }
+    ensures { λ _. ⌜ now (t .exit) ≡ set (set (now (t .entry)) (u * 21 + (10 + d)) to) (u * 21 + (14 + d)) step ⌝ }
+{
+    put(t, u, Record::NEIGHBOUR + d, to);
+    put(t, u, Record::LINK_STEP + d, step);
+}
+
+// Links u and v both ways, by the step: v lies in the direction d of u.
+pub fn link(t: &mut [u32], u: usize, v: usize, d: usize, step: u32)
+    requires { ⌜ (u * 21 + 20 < length (now t)) × (v * 21 + 20 < length (now t)) ⌝ }
+    requires { ⌜ (d < 4) × (length (now t) < 2 ^ 32) ⌝ }
+    ensures { λ _. ⌜ now (t .exit) ≡ linkIn (now (t .entry)) u v d step ⌝ }
+{
+    let b = (d + 2) % 4;
+    put_link(t, u, d, (v + 1) as u32, step);
+    put_link(t, v, b, (u + 1) as u32, step);
+}
+
+// Counts a visit of the node at corner k.
+pub fn visit(t: &mut [u32], r: usize, k: usize)
+    requires { ⌜ (r * 21 + 20 < length (now t)) × (getD (now t) (r * 21 + 18) 0 + 1 < 2 ^ 32) × (k + 1 < 2 ^ 32) ⌝ }
+    ensures { λ _. ⌜ now (t .exit) ≡ visitIn (now (t .entry)) r k ⌝ }
+{
+    let v = word(t, r, Record::VISITS);
+    put(t, r, Record::VISITS, v + 1);
+    if v == 0 {
+        put(t, r, Record::FIRST, (k + 1) as u32);
+        return;
+    }
+}
+
+// Takes a visit of the node back.
+pub fn unvisit(t: &mut [u32], r: usize)
+    requires { ⌜ (r * 21 + 20 < length (now t)) × (0 < getD (now t) (r * 21 + 18) 0) ⌝ }
+    ensures { λ _. ⌜ now (t .exit) ≡ unvisitIn (now (t .entry)) r ⌝ }
+{
+    let v = word(t, r, Record::VISITS);
+    put(t, r, Record::VISITS, v - 1);
+    if v == 1 {
+        put(t, r, Record::FIRST, 0);
+        return;
+    }
+}
+
+// Takes the link between u and v away.
+pub fn unlink(t: &mut [u32], u: usize, v: usize, d: usize)
+    requires { ⌜ (u * 21 + 20 < length (now t)) × (v * 21 + 20 < length (now t)) × (d < 4) ⌝ }
+    ensures { λ _. ⌜ now (t .exit) ≡ unsetIn (now (t .entry)) u v d ⌝ }
+{
+    let b = (d + 2) % 4;
+    put_link(t, u, d, 0, 0);
+    put_link(t, v, b, 0, 0);
+}
+
+// Clears the record r.
+pub fn clear_record(t: &mut [u32], r: usize)
+    requires { ⌜ r * 21 + 20 < length (now t) ⌝ }
+    ensures { λ _. ⌜ now (t .exit) ≡ sets (now (t .entry)) (r * 21) (replicate 21 0) ⌝ }
+{
+    let mut f: usize = 0;
+    while f < Record::WORDS {
+        put(t, r, f, 0);
+        f += 1;
+    }
+}
+
+// Clears all words.
+pub fn zero(t: &mut [u32])
+    ensures { λ _. ⌜ now (t .exit) ≡ replicate (length (now (t .entry))) 0 ⌝ }
+{
+    let mut i = 0;
+    while i < t.len() {
+        t[i] = 0;
+        i += 1;
+    }
+}
+
+// Clears the bytes from a place on.
+pub fn zero_from(s: &mut [u8], from: usize)
+    requires { ⌜ from ≤ length (now s) ⌝ }
+    ensures { λ _. ⌜ now (s .exit) ≡ take from (now (s .entry)) ++ replicate (length (now (s .entry)) - from) 0 ⌝ }
+{
+    let mut i = from;
+    while i < s.len() {
+        s[i] = 0;
+        i += 1;
+    }
+}
