@@ -25,12 +25,12 @@ static void walk_of_a_room(void) {
     uint8_t chain[4];
     memset(table, 255, sizeof table);
     CHECK(undrwyth_walk(ops, 4, table, LENGTH(table), marks, 8, chain, 4, answer) == UNDRWYTH_ACCEPTED);
-    const uint32_t facts[] = {0, 0, UNDRWYTH_ROOM, 4, 4, 4, 0, 4, 1, 0, 0};
+    const uint32_t facts[] = {0, 0, UNDRWYTH_VERDICT_ROOM, 4, 4, 4, 0, 4, 1, 0, 0};
     const uint32_t pairs[] = {2, 1, 3, 1, 4, 1, 4, 2};
     const uint32_t root[UNDRWYTH_RECORD_WORDS] = {
-        [UNDRWYTH_WORD_CHILD_ODD_EVEN] = 2, [UNDRWYTH_WORD_CHILD_ODD_ODD] = 3, [UNDRWYTH_WORD_CHILD_EVEN_ODD] = 4,
-        [UNDRWYTH_WORD_LINK_EAST] = 2,      [UNDRWYTH_WORD_STEP_EAST] = 1,     [UNDRWYTH_WORD_LINK_NORTH] = 4,
-        [UNDRWYTH_WORD_STEP_NORTH] = 4,     [UNDRWYTH_WORD_VISITS] = 2,        [UNDRWYTH_WORD_FIRST] = 1,
+        [UNDRWYTH_WORD_CHILD_ODD_EVEN] = 2,  [UNDRWYTH_WORD_CHILD_ODD_ODD] = 3,  [UNDRWYTH_WORD_CHILD_EVEN_ODD] = 4,
+        [UNDRWYTH_WORD_NEIGHBOUR_EAST] = 2,  [UNDRWYTH_WORD_LINK_STEP_EAST] = 1, [UNDRWYTH_WORD_NEIGHBOUR_NORTH] = 4,
+        [UNDRWYTH_WORD_LINK_STEP_NORTH] = 4, [UNDRWYTH_WORD_VISITS] = 2,         [UNDRWYTH_WORD_FIRST] = 1,
     };
     CHECK(SAME(answer, facts));
     CHECK(SAME(marks, pairs));
@@ -43,21 +43,21 @@ static void walks_refused(void) {
     const uint8_t no_steps[4] = {0}, kept[] = {7, 7, 7, 7};
     const uint32_t no_records[5 * UNDRWYTH_RECORD_WORDS] = {0}, no_marks[8] = {0};
     uint32_t table[5 * UNDRWYTH_RECORD_WORDS] = {7}, marks[8] = {7}, answer[UNDRWYTH_WALK_ANSWER_WORDS];
-    CHECK(undrwyth_walk(ops, 4, table, LENGTH(table) - 1, marks, 8, chain, 4, answer) == UNDRWYTH_TABLE);
-    CHECK(undrwyth_walk(ops, 4, table, LENGTH(table), marks, 8, chain, 3, answer) == UNDRWYTH_RESULT_ROOM);
+    CHECK(undrwyth_walk(ops, 4, table, LENGTH(table) - 1, marks, 8, chain, 4, answer) == UNDRWYTH_REFUSAL_TABLE);
+    CHECK(undrwyth_walk(ops, 4, table, LENGTH(table), marks, 8, chain, 3, answer) == UNDRWYTH_REFUSAL_RESULT_ROOM);
     CHECK(SAME(chain, kept) && table[0] == 7 && marks[0] == 7);
-    CHECK(undrwyth_walk(ops, 4, table, LENGTH(table), marks, 8, chain, 4, answer) == UNDRWYTH_NO_ROOM);
-    const uint32_t no_room[UNDRWYTH_WALK_ANSWER_WORDS] = {UNDRWYTH_NO_ROOM, 3};
+    CHECK(undrwyth_walk(ops, 4, table, LENGTH(table), marks, 8, chain, 4, answer) == UNDRWYTH_REFUSAL_NO_ROOM);
+    const uint32_t no_room[UNDRWYTH_WALK_ANSWER_WORDS] = {UNDRWYTH_REFUSAL_NO_ROOM, 3};
     CHECK(SAME(answer, no_room));
     CHECK(SAME(table, no_records) && SAME(marks, no_marks) && SAME(chain, no_steps));
     ops[1] = 5;
-    CHECK(undrwyth_walk(ops, 2, table, LENGTH(table), marks, 4, chain, 2, answer) == UNDRWYTH_BAD_DIGIT);
+    CHECK(undrwyth_walk(ops, 2, table, LENGTH(table), marks, 4, chain, 2, answer) == UNDRWYTH_REFUSAL_BAD_DIGIT);
     CHECK(answer[UNDRWYTH_WALK_PLACE] == 1);
     ops[0] = 4;
-    CHECK(undrwyth_walk(ops, 1, table, LENGTH(table), marks, 2, chain, 1, answer) == UNDRWYTH_NOTHING_TO_TAKE);
-    CHECK(undrwyth_walk(NULL, 0, NULL, 0, NULL, 0, NULL, 0, answer) == UNDRWYTH_TABLE);
+    CHECK(undrwyth_walk(ops, 1, table, LENGTH(table), marks, 2, chain, 1, answer) == UNDRWYTH_REFUSAL_NOTHING_TO_TAKE);
+    CHECK(undrwyth_walk(NULL, 0, NULL, 0, NULL, 0, NULL, 0, answer) == UNDRWYTH_REFUSAL_TABLE);
     CHECK(undrwyth_walk(NULL, 0, table, UNDRWYTH_RECORD_WORDS, NULL, 0, NULL, 0, answer) == UNDRWYTH_ACCEPTED);
-    CHECK(answer[UNDRWYTH_WALK_VERDICT] == UNDRWYTH_NOWHERE && answer[UNDRWYTH_WALK_J] == UNDRWYTH_NO_MEETING);
+    CHECK(answer[UNDRWYTH_WALK_VERDICT] == UNDRWYTH_VERDICT_NOWHERE && answer[UNDRWYTH_WALK_J] == UNDRWYTH_NO_MEETING);
 }
 
 static const uint8_t steps[] = {0, 0, 1, 1, 0, 0, 3, 2, 2, 2, 2, 3};
@@ -67,7 +67,7 @@ static void hull_of_a_crossing(void) {
     const int32_t kept[] = {7, 7, 7, 7, 7, 7, 7, 7, 7, 7, 7, 7, 7};
     int32_t out[] = {7, 7, 7, 7, 7, 7, 7, 7, 7, 7, 7, 7, 7};
     uint32_t answer[UNDRWYTH_HULL_ANSWER_WORDS];
-    CHECK(undrwyth_hull(steps, LENGTH(steps), out, 11, answer) == UNDRWYTH_HULL_ROOM);
+    CHECK(undrwyth_hull(steps, LENGTH(steps), out, 11, answer) == UNDRWYTH_REFUSAL_HULL_ROOM);
     CHECK(SAME(out, kept) && answer[UNDRWYTH_HULL_COUNT] == 0);
     CHECK(undrwyth_hull(steps, LENGTH(steps), out, LENGTH(out), answer) == UNDRWYTH_ACCEPTED);
     CHECK(SAME(out, corners) && answer[UNDRWYTH_HULL_COUNT] == 6);
@@ -81,9 +81,9 @@ static void turns_and_back(void) {
     CHECK(SAME(turns, word));
     CHECK(undrwyth_steps_of_turns(turns, LENGTH(turns), back, LENGTH(back), answer) == UNDRWYTH_ACCEPTED);
     CHECK(SAME(back, steps));
-    CHECK(undrwyth_steps_of_turns(turns, 2, back, 3, answer) == UNDRWYTH_RESULT_ROOM);
+    CHECK(undrwyth_steps_of_turns(turns, 2, back, 3, answer) == UNDRWYTH_REFUSAL_RESULT_ROOM);
     turns[1] = 4;
-    CHECK(undrwyth_steps_of_turns(turns, 2, back, 2, answer) == UNDRWYTH_BAD_DIGIT);
+    CHECK(undrwyth_steps_of_turns(turns, 2, back, 2, answer) == UNDRWYTH_REFUSAL_BAD_DIGIT);
     CHECK(answer[UNDRWYTH_TURNS_PLACE] == 1 && SAME(back, steps));
 }
 

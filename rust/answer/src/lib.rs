@@ -24,6 +24,24 @@ pub const HULL_ANSWER_WORDS: usize = 3;
 /// Words of the answer to a conversion between steps and turns: number, place.
 pub const TURNS_ANSWER_WORDS: usize = 2;
 
+/// The words of a record, by their first place: the names of the code and of the C header.
+pub mod word {
+    /// Ref of the parent.
+    pub const PARENT: usize = 0;
+    /// Refs of the children: child (i,j) stands at `CHILD` + 3(i+1) + (j+1).
+    pub const CHILD: usize = 1;
+    /// Refs of the linked neighbours east, north, west, south.
+    pub const NEIGHBOUR: usize = 10;
+    /// The steps of these four links, 0 where there is none.
+    pub const LINK_STEP: usize = 14;
+    /// Visits.
+    pub const VISITS: usize = 18;
+    /// The step that first needed the node, 0 for the root.
+    pub const NEED: usize = 19;
+    /// 1 + the least k with pk here, 0 if unvisited.
+    pub const FIRST: usize = 20;
+}
+
 /// Why a call is refused; a place counts from 0 in the input.
 #[derive(Clone, Copy, Debug, PartialEq, Eq)]
 pub enum Refusal {

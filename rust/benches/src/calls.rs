@@ -5,7 +5,7 @@ use std::collections::HashMap;
 use std::hint::black_box;
 
 use answer::{Facts, RECORD_WORDS, Refusal};
-use tests::inputs::most_nodes;
+use compare::inputs::most_nodes;
 
 use crate::race::Call;
 

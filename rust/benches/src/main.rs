@@ -5,8 +5,8 @@ mod programs;
 mod race;
 
 use calls::{convert, count_visits, hull, walk};
+use compare::inputs::{self, Random};
 use race::race;
-use tests::inputs::{self, Random};
 
 /// Operations that a contestant does at each call, on as many inputs as that takes.
 const OPERATIONS: usize = 16_384;
@@ -23,7 +23,9 @@ fn several(n: usize, mut one: impl FnMut(&mut Random) -> Vec<u8>) -> Vec<Vec<u8>
 fn chains(n: usize) -> Vec<(&'static str, Vec<Vec<u8>>)> {
     vec![
         ("spiral", several(n, |_| inputs::spiral(n))),
+        ("closed-spiral", several(n, |_| inputs::closed_spiral(n))),
         ("comb", several(n, |_| inputs::comb(n, 30))),
+        ("closed-comb", several(n, |_| inputs::closed_comb(n, 30))),
         ("room", several(n, |random| inputs::room(n, random))),
         ("random", several(n, |random| inputs::wander(n, random))),
         ("straight", several(n, |_| inputs::straight(n, 0))),

@@ -5,7 +5,7 @@ use std::path::{Path, PathBuf};
 use std::process::{Command, Stdio};
 use std::{env, process};
 
-use tests::inputs::{self, Random};
+use compare::inputs::{self, Random};
 
 use crate::race::{Call, race};
 
@@ -53,7 +53,7 @@ pub fn print() {
     ));
     let twin = env::current_exe()
         .expect("it is running")
-        .with_file_name("judge_plain");
+        .with_file_name("judge_twin");
     let file = env::temp_dir().join(format!("undrwyth-frames-{}", process::id()));
     for (count, n) in [(20_000, 64), (5_000, 256)] {
         let input = frames(count, n);

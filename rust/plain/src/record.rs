@@ -3,6 +3,7 @@
 use std::collections::HashMap;
 
 use answer::RECORD_WORDS;
+use answer::word::{CHILD, FIRST, LINK_STEP, NEED, NEIGHBOUR, PARENT, VISITS};
 
 use crate::grid::{Corner, corners, lineage, parent};
 
@@ -11,7 +12,7 @@ pub type Record = [u32; RECORD_WORDS];
 /// The word of the parent's record that holds the ref of this child.
 fn child_word((x, y): Corner) -> usize {
     let index = |v: i32| if v == -1 { -1 } else { v.abs() % 2 };
-    (1 + 3 * (index(x) + 1) + (index(y) + 1)) as usize
+    CHILD + (3 * (index(x) + 1) + (index(y) + 1)) as usize
 }
 
 /// The direction from one corner to a neighbour.
@@ -33,20 +34,20 @@ pub fn records(steps: &[u8]) -> Vec<Record> {
     for (&node, &number) in &numbers {
         if let Some(up) = parent(node) {
             let up = numbers[&up];
-            records[number][0] = up as u32 + 1;
+            records[number][PARENT] = up as u32 + 1;
             records[up][child_word(node)] = number as u32 + 1;
         }
     }
     for ((a, b), step) in links(&corners) {
         let (number, way) = (numbers[&a], direction(a, b));
-        records[number][10 + way] = numbers[&b] as u32 + 1;
-        records[number][14 + way] = step;
+        records[number][NEIGHBOUR + way] = numbers[&b] as u32 + 1;
+        records[number][LINK_STEP + way] = step;
     }
     for (k, corner) in corners.iter().enumerate() {
         let record = &mut records[numbers[corner]];
-        record[18] += 1;
-        if record[20] == 0 {
-            record[20] = k as u32 + 1;
+        record[VISITS] += 1;
+        if record[FIRST] == 0 {
+            record[FIRST] = k as u32 + 1;
         }
     }
     records
@@ -62,7 +63,7 @@ fn numbers(corners: &[Corner], records: &mut Vec<Record>) -> HashMap<Corner, usi
         for node in line {
             numbers.entry(node).or_insert_with(|| {
                 let mut record = [0; RECORD_WORDS];
-                record[19] = step as u32;
+                record[NEED] = step as u32;
                 records.push(record);
                 records.len() - 1
             });

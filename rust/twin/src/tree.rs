@@ -1,13 +1,7 @@
 //! The linked quadtree, in a lent table of words.
 
 use answer::RECORD_WORDS;
-
-const PARENT: usize = 0;
-const LINK: usize = 10;
-const LINK_STEP: usize = 14;
-const VISITS: usize = 18;
-const NEED: usize = 19;
-const FIRST: usize = 20;
+use answer::word::{CHILD, FIRST, LINK_STEP, NEED, NEIGHBOUR, PARENT, VISITS};
 
 #[derive(Clone, Copy, PartialEq, Eq)]
 pub struct Corner {
@@ -42,7 +36,7 @@ impl Corner {
             -1 => 0,
             _ => 1 + (v & 1) as usize,
         };
-        1 + 3 * side(self.x) + side(self.y)
+        CHILD + 3 * side(self.x) + side(self.y)
     }
 }
 
@@ -80,22 +74,22 @@ impl<'a> Tree<'a> {
 
     /// The node linked to this one in the direction `way`.
     pub fn linked(&self, node: usize, way: u8) -> Option<usize> {
-        self.node(node, LINK + way as usize)
+        self.node(node, NEIGHBOUR + way as usize)
     }
 
     fn set_link(&mut self, u: usize, v: usize, way: u8, step: u32) {
         let (way, back) = (way as usize, back(way) as usize);
-        self.put(u, LINK + way, v as u32 + 1);
+        self.put(u, NEIGHBOUR + way, v as u32 + 1);
         self.put(u, LINK_STEP + way, step);
-        self.put(v, LINK + back, u as u32 + 1);
+        self.put(v, NEIGHBOUR + back, u as u32 + 1);
         self.put(v, LINK_STEP + back, step);
     }
 
     fn clear_link(&mut self, u: usize, v: usize, way: u8) {
         let (way, back) = (way as usize, back(way) as usize);
-        self.put(u, LINK + way, 0);
+        self.put(u, NEIGHBOUR + way, 0);
         self.put(u, LINK_STEP + way, 0);
-        self.put(v, LINK + back, 0);
+        self.put(v, NEIGHBOUR + back, 0);
         self.put(v, LINK_STEP + back, 0);
     }
 

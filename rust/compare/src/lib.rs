@@ -1,6 +1,6 @@
 //! Comparisons with `plain`: every answer, and every word of every lent buffer with the words around it.
 
-pub mod compare;
+pub mod calls;
 pub mod inputs;
 pub mod suite;
 

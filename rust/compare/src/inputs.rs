@@ -1,5 +1,7 @@
 //! Walks and lines for tests and benchmarks; the same seed gives the same inputs everywhere.
 
+use std::collections::HashMap;
+
 use answer::{MOST_LINE_DIGITS, MOST_STEPS, RECORD_WORDS};
 
 /// A stream of numbers from a seed (splitmix64).
@@ -54,6 +56,56 @@ pub fn spiral(n: usize) -> Vec<u8> {
 pub fn comb(n: usize, height: usize) -> Vec<u8> {
     let tooth = [vec![1; height], vec![0], vec![3; height], vec![0]].concat();
     tooth.into_iter().cycle().take(n).collect()
+}
+
+/// The outline of the first panels of so many that it has n steps, n even and at least 4: counterclockwise from (0,0), the
+/// lower left corner of the first panel. Each panel has one side in common with those before it, and touches no other.
+fn outline(n: usize, panels: impl Iterator<Item = (i32, i32)>) -> Vec<u8> {
+    let mut sides = HashMap::new();
+    for (x, y) in panels.take(n / 2 - 1) {
+        for (way, from) in (0..).zip([(x, y), (x + 1, y), (x + 1, y + 1), (x, y + 1)]) {
+            let to = stepped(from, way);
+            // A side that is walked the other way already lies between two panels.
+            if sides.remove(&(to, (way + 2) % 4)).is_none() {
+                sides.insert((from, way), to);
+            }
+        }
+    }
+    let next = |&(at, _): &((i32, i32), u8)| {
+        let way = (0..4).find(|&way| sides.contains_key(&(at, way)))?;
+        Some((sides[&(at, way)], way))
+    };
+    let start = ((0, 0), 0);
+    std::iter::successors(next(&start), next)
+        .take(n)
+        .map(|(_, way)| way)
+        .collect()
+}
+
+fn stepped((x, y): (i32, i32), way: u8) -> (i32, i32) {
+    let (east, north) = [(1, 0), (0, 1), (-1, 0), (0, -1)][usize::from(way)];
+    (x + east, y + north)
+}
+
+/// A room of n steps, n even: a spiral corridor, one panel wide.
+pub fn closed_spiral(n: usize) -> Vec<u8> {
+    let ways = (0_usize..).flat_map(|side| vec![(side % 4) as u8; side / 2 * 2 + 2]);
+    let mut at = (0, 0);
+    let rest = ways.map(move |way| {
+        at = stepped(at, way);
+        at
+    });
+    outline(n, std::iter::once((0, 0)).chain(rest))
+}
+
+/// A room of n steps, n even: a corridor with teeth of this height at every other panel.
+pub fn closed_comb(n: usize, height: i32) -> Vec<u8> {
+    let tooth = move |x: i32| {
+        (0..=height)
+            .map(move |y| (2 * x, y))
+            .chain([(2 * x + 1, 0)])
+    };
+    outline(n, (0..).flat_map(tooth))
 }
 
 /// n steps, each in a random direction.
@@ -152,7 +204,7 @@ pub fn withdrawn(n: usize, random: &mut Random) -> Vec<u8> {
 /// A walk of some kind with up to `most` operations; it may have a fault.
 pub fn walk(most: usize, random: &mut Random) -> Vec<u8> {
     let n = random.length(most);
-    let mut ops = match random.below(11) {
+    let mut ops = match random.below(13) {
         0 => straight(n, random.step()),
         1 => spiral(n),
         2 => comb(n, 1 + random.below(40)),
@@ -163,6 +215,8 @@ pub fn walk(most: usize, random: &mut Random) -> Vec<u8> {
         7 => hesitant(n, 48, 90, random),
         8 => border(n, random.below(14), random),
         9 => withdrawn(n, random),
+        10 => closed_spiral(n.clamp(4, MOST_STEPS) & !1),
+        11 => closed_comb(n.clamp(4, MOST_STEPS) & !1, random.below(40) as i32),
         _ => [0, 2].repeat(n / 2),
     };
     if random.once_in(12) && !ops.is_empty() {

@@ -3,7 +3,7 @@
 use answer::{LINE_BYTES, MOST_INPUT, MOST_LINE_DIGITS, MOST_RECORDS, MOST_STEPS, RECORD_WORDS};
 
 use crate::inputs::{self, Random};
-use crate::{Library, compare};
+use crate::{Library, calls};
 
 /// Every string of exactly this length over the digits below `digits`.
 fn strings(length: u32, digits: u32) -> impl Iterator<Item = Vec<u8>> {
@@ -13,7 +13,7 @@ fn strings(length: u32, digits: u32) -> impl Iterator<Item = Vec<u8>> {
 
 /// A walk in buffers of the lengths that it asks, and a table of so many words.
 fn walk(library: &Library, ops: &[u8], words: usize) {
-    compare::walk(library, ops, words, 2 * ops.len(), ops.len());
+    calls::walk(library, ops, words, 2 * ops.len(), ops.len());
 }
 
 /// A walk in the least table that has room, in one record less and in one more.
@@ -26,11 +26,11 @@ fn walk_near(library: &Library, ops: &[u8]) {
 
 /// A hull in the least buffer that has room, in one number less and in one more.
 fn hull_near(library: &Library, chain: &[u8]) {
-    let [number, _, count] = compare::hull(library, chain, 2 * chain.len() + 2);
+    let [number, _, count] = calls::hull(library, chain, 2 * chain.len() + 2);
     if number == 0 {
         let right = 2 * count as usize;
         for out in [right - 1, right, right + 1] {
-            compare::hull(library, chain, out);
+            calls::hull(library, chain, out);
         }
     }
 }
@@ -38,7 +38,7 @@ fn hull_near(library: &Library, chain: &[u8]) {
 /// Both conversions in a buffer of the right length, of one less and of one more.
 fn turns_near(library: &Library, digits: &[u8]) {
     for out in digits.len().saturating_sub(1)..=digits.len() + 1 {
-        compare::turns(library, digits, out);
+        calls::turns(library, digits, out);
     }
 }
 
@@ -68,8 +68,8 @@ pub fn every_byte(library: &Library) {
             for byte in 0..=u8::MAX {
                 ops[place] = byte;
                 walk(library, &ops, RECORD_WORDS * 9);
-                compare::hull(library, &ops, 12);
-                compare::turns(library, &ops, ops.len());
+                calls::hull(library, &ops, 12);
+                calls::turns(library, &ops, ops.len());
             }
             ops[place] = kept;
         }
@@ -82,14 +82,14 @@ pub fn sizes(library: &Library) {
         for table in 0..=RECORD_WORDS * 7 + 1 {
             for marks in 0..=2 * ops.len() + 3 {
                 for chain in 0..=ops.len() + 2 {
-                    compare::walk(library, ops, table, marks, chain);
+                    calls::walk(library, ops, table, marks, chain);
                 }
             }
         }
         for out in 0..=12 {
-            compare::hull(library, ops, out);
-            compare::turns(library, ops, out);
-            compare::line(library, &inputs::frame(0, ops), LINE_BYTES - 6 + out);
+            calls::hull(library, ops, out);
+            calls::turns(library, ops, out);
+            calls::line(library, &inputs::frame(0, ops), LINE_BYTES - 6 + out);
         }
     }
 }
@@ -127,15 +127,15 @@ fn limits_of(library: &Library, ops: &[u8]) {
     let words = RECORD_WORDS * (MOST_STEPS + 1);
     walk(library, ops, words);
     walk(library, ops, words - RECORD_WORDS);
-    compare::walk(library, ops, words - 1, 2 * ops.len() - 1, ops.len());
-    compare::walk(library, ops, words, 2 * ops.len(), ops.len() - 1);
+    calls::walk(library, ops, words - 1, 2 * ops.len() - 1, ops.len());
+    calls::walk(library, ops, words, 2 * ops.len(), ops.len() - 1);
     hull_near(library, ops);
     turns_near(library, ops);
 }
 
 /// Every header byte by byte, every count with fitting and unfitting digits, every byte in a short frame.
 pub fn lines(library: &Library) {
-    let line = |line: &[u8]| compare::line(library, line, LINE_BYTES);
+    let line = |line: &[u8]| calls::line(library, line, LINE_BYTES);
     for count in 0..=MOST_LINE_DIGITS + 2 {
         for kind in 0..3 {
             let mut frame = inputs::frame(kind, &inputs::spiral(count));
@@ -173,7 +173,7 @@ pub fn random_calls(library: &Library, random: &mut Random) {
     for _ in 0..8 {
         random_walk(library, 1_024, random);
         random_chain(library, random);
-        compare::line(library, &inputs::line(random), LINE_BYTES + random.below(2));
+        calls::line(library, &inputs::line(random), LINE_BYTES + random.below(2));
     }
 }
 

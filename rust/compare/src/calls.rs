@@ -1,6 +1,7 @@
 //! One call of a library beside the same call of `plain`, in dirty buffers.
 
 use std::fmt::Debug;
+use std::sync::atomic::{AtomicU64, Ordering};
 
 use answer::{HULL_ANSWER_WORDS, TURNS_ANSWER_WORDS, WALK_ANSWER_WORDS};
 
@@ -44,6 +45,9 @@ impl<T> Lent<T> {
     }
 }
 
+/// How many words and bytes were compared.
+pub static COMPARED: AtomicU64 = AtomicU64::new(0);
+
 /// Panics, and says where they differ, unless the two are the same.
 fn same<T: PartialEq + Debug>(what: &str, input: &[u8], ours: &[T], plain: &[T]) {
     if ours != plain {
@@ -57,6 +61,7 @@ fn same<T: PartialEq + Debug>(what: &str, input: &[u8], ours: &[T], plain: &[T])
             &input[..input.len().min(2_000)],
         );
     }
+    COMPARED.fetch_add(ours.len() as u64, Ordering::Relaxed);
 }
 
 /// Compares a walk in buffers of these lengths, and gives the answer.

@@ -1,7 +1,7 @@
 //! The comparisons of one library, each a test.
 
-use tests::inputs::Random;
-use tests::suite;
+use compare::inputs::Random;
+use compare::suite;
 
 use super::{LIBRARY, LONGEST, ROUNDS};
 

@@ -4,9 +4,9 @@ use std::io::Write;
 use std::process::{Command, Stdio};
 
 use answer::{Facts, Refusal};
-use tests::PROVED as LIBRARY;
-use tests::inputs::{self, Random};
-use tests::suite;
+use compare::PROVED as LIBRARY;
+use compare::inputs::{self, Random};
+use compare::suite;
 
 /// Operations of the longest walks of which all are compared.
 const LONGEST: u32 = 8;

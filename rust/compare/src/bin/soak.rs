@@ -2,16 +2,18 @@
 //! A round depends on the seed and its own number alone, so that a failure can be looked at again from its round on.
 
 use std::panic::catch_unwind;
+use std::sync::atomic::Ordering;
 use std::time::Instant;
 use std::{env, process};
 
-use tests::inputs::Random;
-use tests::suite;
+use compare::calls::COMPARED;
+use compare::inputs::Random;
+use compare::suite;
 
 #[cfg(feature = "proved")]
-use tests::PROVED as LIBRARY;
+use compare::PROVED as LIBRARY;
 #[cfg(not(feature = "proved"))]
-use tests::TWIN as LIBRARY;
+use compare::TWIN as LIBRARY;
 
 fn main() {
     let words = env::args().skip(1);
@@ -23,7 +25,10 @@ fn main() {
     for round in first.. {
         let passed = start.elapsed().as_secs();
         if passed >= seconds || passed >= told + 10 {
-            println!("{passed} s: seed {seed}, all rounds from {first} to before {round} agree");
+            let compared = COMPARED.load(Ordering::Relaxed);
+            println!(
+                "{passed} s: seed {seed}, all rounds from {first} to before {round} agree, {compared} words and bytes compared"
+            );
             told = passed;
         }
         if passed >= seconds {
