@@ -1,2 +1,3 @@
+-- The laws that the proofs of turns cite.
 pub mod FaultLaws
 pub mod ConvertLaws

@@ -1,1 +1,2 @@
--- The contracts of turns cite the definitions of steps.
+-- Both conversions as one, by its way.
+pub mod Way

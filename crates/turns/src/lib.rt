@@ -3,9 +3,16 @@ use answer::Judged;
 use answer::Refusal;
 ghost use mathlib.Core.Path.{_≡_};
 ghost use Prim.Native.Nat.{_<_};
-ghost use Rattle.steps.specs.Turns.{turnOf, stepAfter, digitFaultsFrom, turnsJudged, turnsOf, stepsOf, ConvertedBy};
 ghost use lib.ListN.{length};
 ghost use Rattle.lists.specs.Lists.{Below};
+ghost use Rattle.steps.specs.Turns.{turnsOf, stepsOf, digitFaultsFrom, turnsJudged, ConvertedBy};
+ghost use Rattle.turns.specs.Way.{digitBy, stepBy, convertOf};
+
+// Which way digits are converted.
+pub enum Way {
+    ToTurns,
+    ToSteps,
+}
 
 // The step before a digit.
 pub struct Heading(pub u8);
@@ -13,20 +20,25 @@ pub struct Heading(pub u8);
 impl Heading {
     pub const MOST_DIGITS: usize = 32_768;
 
-    // The turn from this step to the step b.
-    pub fn turn(self, b: u8) -> u8
-        requires { ⌜ (self .0 < 4) × (b < 4) ⌝ }
-        ensures { λ r. ⌜ r ≡ turnOf (self .0) b ⌝ }
+    // What is written for the digit x after this step: the turn to the step x, or the step that the turn x leads to.
+    fn digit(self, way: Way, x: u8) -> u8
+        requires { ⌜ (self .0 < 4) × (x < 4) ⌝ }
+        ensures { λ r. ⌜ (r ≡ digitBy way (self .0) x) × (r < 4) ⌝ }
     {
-        std::num::wrapping_sub_u8(b, self.0) % 4
+        match way {
+            Way::ToTurns => std::num::wrapping_sub_u8(x, self.0) % 4,
+            Way::ToSteps => std::num::wrapping_add_u8(self.0, x) % 4,
+        }
     }
+}
 
-    // The step that the turn t leads to from this step.
-    pub fn step(self, t: u8) -> u8
-        requires { ⌜ (self .0 < 4) × (t < 4) ⌝ }
-        ensures { λ r. ⌜ r ≡ stepAfter (self .0) t ⌝ }
-    {
-        std::num::wrapping_add_u8(self.0, t) % 4
+// The step at the digit x for which y is written.
+fn step_at(way: Way, x: u8, y: u8) -> u8
+    ensures { λ r. ⌜ r ≡ stepBy way x y ⌝ }
+{
+    match way {
+        Way::ToTurns => x,
+        Way::ToSteps => y,
     }
 }
 
@@ -45,7 +57,7 @@ fn judge_digits(digits: &[u8]) -> Judged
 }
 
 // Refuses too many digits, then a buffer of another length, then the first digit above 3.
-pub fn judge(digits: &[u8], room: usize) -> Judged
+fn judge(digits: &[u8], room: usize) -> Judged
     ensures { λ r. ⌜ r ≡ turnsJudged (now (digits .entry)) room ⌝ }
 {
     if digits.len() > Heading::MOST_DIGITS {
@@ -57,53 +69,43 @@ pub fn judge(digits: &[u8], room: usize) -> Judged
     judge_digits(digits)
 }
 
-// Writes the turns of the steps.
-fn write_turns(steps: &[u8], out: &mut [u8])
-    requires { ⌜ Below 4 (now steps) × (length (now out) ≡ length (now steps)) ⌝ }
-    ensures { λ _. ⌜ now (out .exit) ≡ turnsOf (now (steps .entry)) ⌝ }
+// Writes the digits, converted.
+fn write(way: Way, digits: &[u8], out: &mut [u8])
+    requires { ⌜ Below 4 (now digits) × (length (now out) ≡ length (now digits)) ⌝ }
+    ensures { λ _. ⌜ now (out .exit) ≡ convertOf way (now (digits .entry)) ⌝ }
 {
     let mut last = 0u8;
     let mut i = 0;
-    while i < steps.len() {
-        let b = steps[i];
-        out[i] = Heading(last).turn(b);
-        last = b;
+    while i < digits.len() {
+        let x = digits[i];
+        let y = Heading(last).digit(way, x);
+        out[i] = y;
+        last = step_at(way, x, y);
         i += 1;
     }
 }
 
-// Writes the steps of the turns.
-fn write_steps(turns: &[u8], out: &mut [u8])
-    requires { ⌜ Below 4 (now turns) × (length (now out) ≡ length (now turns)) ⌝ }
-    ensures { λ _. ⌜ now (out .exit) ≡ stepsOf (now (turns .entry)) ⌝ }
+// The digits converted, in a buffer of their number. Refuses 1, 3 and 4.
+fn convert(way: Way, digits: &[u8], out: &mut [u8]) -> Judged
+    ensures { λ r. ⌜ ConvertedBy (convertOf way) (now (digits .entry)) (now (out .entry)) r (now (out .exit)) ⌝ }
 {
-    let mut last = 0u8;
-    let mut i = 0;
-    while i < turns.len() {
-        last = Heading(last).step(turns[i]);
-        out[i] = last;
-        i += 1;
+    let judged = judge(digits, out.len());
+    if let Judged::Good = judged {
+        write(way, digits, out);
     }
+    judged
 }
 
-// The turns of the steps, in a buffer of their number. Refuses 1, 3 and 4.
+// The turns of the steps.
 pub fn turns_of(steps: &[u8], out: &mut [u8]) -> Judged
     ensures { λ r. ⌜ ConvertedBy turnsOf (now (steps .entry)) (now (out .entry)) r (now (out .exit)) ⌝ }
 {
-    let judged = judge(steps, out.len());
-    if let Judged::Good = judged {
-        write_turns(steps, out);
-    }
-    judged
+    convert(Way::ToTurns, steps, out)
 }
 
-// The steps of the turns, in a buffer of their number. Refuses 1, 3 and 4.
+// The steps of the turns.
 pub fn steps_of(turns: &[u8], out: &mut [u8]) -> Judged
     ensures { λ r. ⌜ ConvertedBy stepsOf (now (turns .entry)) (now (out .entry)) r (now (out .exit)) ⌝ }
 {
-    let judged = judge(turns, out.len());
-    if let Judged::Good = judged {
-        write_steps(turns, out);
-    }
-    judged
+    convert(Way::ToSteps, turns, out)
 }

@@ -1,0 +1,61 @@
+-- `turns::write` meets its contract: the digits before place i are converted, and last is the step before it.
+-- Assumes nothing.
+use Prim.Native.Nat.{_-_}
+use native.Mathlib.Omega.{arith}
+use borrow.Author.Needs.{needs}
+use lib.ListN.{length}
+use Rattle.lists.proofs.BelowLaws.{below-getD}
+use Rattle.turns.proofs.ConvertLaws.{SoFar, one-more, all-done}
+use Rattle.turns.proofs.write.Statement.{statement}
+use Rattle.turns.proofs.write.Tie as tie
+
+abbrev Inv-loop : tie.InvT-loop
+Inv-loop way digits out₀ last₀ i₀ out last i = SoFar way digits out last i
+
+abbrev μ-loop : tie.MeasureT-loop
+μ-loop way digits out₀ last₀ i₀ out last i = length digits - i
+
+loop-holds : tie.Need-loop-holds Inv-loop μ-loop
+loop-holds c = search needs
+
+shared-slice-read-x : tie.Need-shared-slice-read-x Inv-loop μ-loop
+shared-slice-read-x c = search needs
+
+digit-requires : tie.Need-digit-requires Inv-loop μ-loop
+digit-requires c κs =
+    let l = c .before .before in
+    let s = l .before .before .before in
+    (omega (arith, l .loop .inv .small), below-getD 4 (s .args .digits .now) (l .loop .i) (s .pre .0) (omega arith))
+
+slice-write-out : tie.Need-slice-write-out Inv-loop μ-loop
+slice-write-out c = search needs
+
+step-at-requires : tie.Need-step-at-requires Inv-loop μ-loop
+step-at-requires c κs = search needs
+
+add-i : tie.Need-add-i Inv-loop μ-loop
+add-i c = search needs
+
+loop-less : tie.Need-loop-less Inv-loop μ-loop
+loop-less c = search needs
+
+loop-again : tie.Need-loop-again Inv-loop μ-loop
+loop-again c =
+    let l = c .before .before .before .before in
+    let s = l .before .before .before in
+    let ds = s .args .digits .now in
+    let y = c .before .digit in
+    let b = below-getD 4 ds (l .loop .i) (s .pre .0) (omega arith) in
+    one-more (s .args .way) ds (l .loop .out) (l .loop .last) (l .loop .i) (y .result) (c .step-at .result) (omega arith) (y .ensures .0) (c .step-at .ensures) b (y .ensures .1) (l .loop .inv)
+
+same-length : tie.Need-same-length Inv-loop μ-loop
+same-length c = search needs
+
+returns : tie.Need-returns Inv-loop μ-loop
+returns c =
+    let l = c .before in
+    let s = l .before .before .before in
+    all-done (s .args .way) (s .args .digits .now) (l .loop .out) (l .loop .last) (l .loop .i) (c .loop-test .left) (s .pre .0) (l .loop .inv)
+
+pub write-spec : {M : Type 1} → statement M
+write-spec = tie.close (tie.spec Inv-loop μ-loop loop-holds shared-slice-read-x digit-requires slice-write-out step-at-requires add-i loop-less loop-again same-length returns)
