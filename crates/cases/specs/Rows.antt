@@ -14,8 +14,8 @@ use Rattle.steps.specs.Turns.{turnsOf}
 use Rattle.trace.specs.Meeting.{Meeting, none, meet, meetingOf, visitedOf}
 use Rattle.trace.specs.Verdict.{verdictOf, areaOf}
 use Rattle.tree.specs.Nodes.{nodesOf, refOf, linkStepOf}
-use Rattle.layout.specs.Table.{recordWords, tableOf}
-use Rattle.layout.specs.Marks.{marksOf}
+use Rattle.layout.specs.Table.{width, tableOf}
+use Rattle.layout.specs.Marks.{markWords, marksOf}
 use Rattle.walk_call.specs.Walk.{walkJudged}
 use Rattle.hull.specs.Hull.{HullIs}
 
@@ -56,11 +56,11 @@ Holds os (survive ds) = survivors os ≡ ds
 Holds os (turnsAre ts) = turnsOf (survivors os) ≡ ts
 Holds os (nodeIs n a) = refOf (nodesOf (cornersOf os)) a ≡ n + 1
 Holds os (visitsAre a n) = count (same a) (cornersOf os) ≡ n
-Holds os (recordIs r n ws) = take (recordWords 1) (drop (n * recordWords 1) (tableOf (r * recordWords 1) origin (survivors os))) ≡ ws
+Holds os (recordIs r n ws) = take width (drop (n * width) (tableOf (r * width) origin (survivors os))) ≡ ws
 Holds os (linkIs a d k) = linkStepOf (cornersOf os) a d ≡ k
 Holds os (judgedAs r n p) =
-    (judgedNumber (walkJudged origin os (r * recordWords 1) (2 * length os) (length os)) ≡ n)
-    × (judgedPlace (walkJudged origin os (r * recordWords 1) (2 * length os) (length os)) ≡ p)
+    (judgedNumber (walkJudged origin os (r * width) (markWords * length os) (length os)) ≡ n)
+    × (judgedPlace (walkJudged origin os (r * width) (markWords * length os) (length os)) ≡ p)
 
 abbrev pub HoldAll : List ℕ → List Fact → Type 0
 HoldAll os [] = Unit {0}

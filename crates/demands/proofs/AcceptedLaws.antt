@@ -3,7 +3,7 @@
 use mathlib.Core.List.{List, []}
 use mathlib.Core.Logic.{_⊎_, inl, inr}
 use mathlib.Core.Path.{_≡_, refl, ap, sym, _∙_, subst}
-use Prim.Native.Nat.{ℕ, suc, _+_, _*_, _/_, _<_, _≤_}
+use Prim.Native.Nat.{ℕ, suc, _+_, _*_, _<_, _≤_}
 use native.Mathlib.Omega.{arith}
 use lib.IntN.{pos}
 use lib.ListN.{length, getD}
@@ -18,6 +18,8 @@ use Rattle.steps.specs.Operations.{survivors}
 use Rattle.trace.specs.Meeting.{Meets, FirstMeets, Meeting, none, meet, meetingOf, meetingJ, meetingK}
 use Rattle.trace.specs.Verdict.{VerdictSays, IsRoom, sweepFrom}
 use Rattle.tree.specs.Nodes.{nodesOf}
+use Rattle.layout.specs.Marks.{markWords}
+use Rattle.layout.specs.Table.{width, recordsIn, wordAt}
 use Rattle.walk_call.specs.Walk.{factsOf, WalkIs}
 use Rattle.lists.proofs.DistinctLaws.{mem-getD}
 use Rattle.trace.proofs.MeetingLaws.{meetingOf-meets, meetingOf-none}
@@ -63,20 +65,20 @@ module _ {c : Corner} {os t ms ch t′ ms′ ch′ : List ℕ} {f : Facts} (w : 
   its-area = told (λ g. (IsRoom c ds → g .area ≡ sweepFrom c ds) × ((IsRoom c ds → ⊥) → g .area ≡ pos 0)) (area-room c ds, area-other c ds)
 
   pub its-record : (i : ℕ) → i < length (nodesOf (cornersFrom c (survivors os)))
-      → RecordSays (cornersFrom c (survivors os)) (getD (nodesOf (cornersFrom c (survivors os))) i origin) (λ n. getD t′ (21 * i + n) 0)
+      → RecordSays (cornersFrom c (survivors os)) (getD (nodesOf (cornersFrom c (survivors os))) i origin) (λ n. getD t′ (wordAt i n) 0)
   its-record i h =
-      record-says ps (getD (nodesOf ps) i origin) (λ n. getD t′ (21 * i + n) 0) (node-inUse ps (getD (nodesOf ps) i origin) (mem-getD (nodesOf ps) i origin h))
-      (λ n k. ap (λ (l : List ℕ). getD l (21 * i + n) 0) (its-table w) ∙ table-word (length t) c ds i n h k)
+      record-says ps (getD (nodesOf ps) i origin) (λ n. getD t′ (wordAt i n) 0) (node-inUse ps (getD (nodesOf ps) i origin) (mem-getD (nodesOf ps) i origin h))
+      (λ n k. ap (λ (l : List ℕ). getD l (wordAt i n) 0) (its-table w) ∙ table-word (length t) c ds i n h k)
 
-  pub its-unused : (n : ℕ) → 21 * f .nodes ≤ n → getD t′ n 0 ≡ 0
+  pub its-unused : (n : ℕ) → width * f .nodes ≤ n → getD t′ n 0 ≡ 0
   its-unused n h =
       ap (λ (l : List ℕ). getD l n 0) (its-table w)
       ∙ table-unused (length t) c ds n (omega (arith, ap (λ (g : Facts). g .nodes) (its-facts w)))
 
-  pub its-mark : (k : ℕ) → k < length os → (getD ms′ (2 * k) 0 ≡ nodesAfter c os (suc k)) × (getD ms′ (2 * k + 1) 0 ≡ visitsAfter c os (suc k))
+  pub its-mark : (k : ℕ) → k < length os → (getD ms′ (markWords * k) 0 ≡ nodesAfter c os (suc k)) × (getD ms′ (markWords * k + 1) 0 ≡ visitsAfter c os (suc k))
   its-mark k h =
       let x = marks-from c [] os k h in
-      (ap (λ (l : List ℕ). getD l (2 * k) 0) (its-marks w) ∙ x .0, ap (λ (l : List ℕ). getD l (2 * k + 1) 0) (its-marks w) ∙ x .1)
+      (ap (λ (l : List ℕ). getD l (markWords * k) 0) (its-marks w) ∙ x .0, ap (λ (l : List ℕ). getD l (markWords * k + 1) 0) (its-marks w) ∙ x .1)
 
 -- no buffer changes its length
 module _ {os t ms ch t′ ms′ ch′ : List ℕ} {f : Facts} (w : WalkIs origin os t ms ch (Answer.Accepted f) t′ ms′ ch′) where
@@ -85,8 +87,8 @@ module _ {os t ms ch t′ ms′ ch′ : List ℕ} {f : Facts} (w : WalkIs origin
     where
       by : Given origin os (length t) (length ms) (length ch) Good → (length t′ ≡ length t) × (length ms′ ≡ length ms) × (length ch′ ≡ length ch)
       by (given.accepted h a) =
-          let n : length (nodesOf (cornersFrom origin (survivors os))) ≤ length t / 21 =
-          subst (λ (l : List ℕ). length (nodesOf (cornersFrom origin (survivors l))) ≤ length t / 21) (take-length os) (always-room w h a (length os) (omega arith)) in
+          let n : length (nodesOf (cornersFrom origin (survivors os))) ≤ recordsIn (length t) =
+          subst (λ (l : List ℕ). length (nodesOf (cornersFrom origin (survivors l))) ≤ recordsIn (length t)) (take-length os) (always-room w h a (length os) (omega arith)) in
           let r = h .sized .room in (
             ap length (its-table w) ∙ table-length (length t) origin (survivors os) (omega arith),
             ap length (its-marks w) ∙ marks-length origin [] os ∙ sym (r .0),

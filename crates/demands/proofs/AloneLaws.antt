@@ -2,7 +2,7 @@
 -- Assumes nothing.
 use mathlib.Core.List.{List, [], _++_, append-nil}
 use mathlib.Core.Path.{_≡_, refl, ap, ap₂, sym, _∙_, subst}
-use Prim.Native.Nat.{ℕ, suc, _+_, _-_, _*_, _/_, _<_, _≤_}
+use Prim.Native.Nat.{ℕ, suc, _+_, _-_, _*_, _<_, _≤_}
 use native.Mathlib.Omega.{arith}
 use lib.ListN.{length, getD, take, replicate}
 use lib.Seq.{take-at, take-take, getD-take, length-take-le}
@@ -15,7 +15,7 @@ use Rattle.grid.specs.declared.Corner.{Corner}
 use Rattle.grid.specs.Grid.{origin, cornersFrom}
 use Rattle.steps.specs.Operations.{survivors}
 use Rattle.layout.specs.Marks.{chainOf}
-use Rattle.layout.specs.Table.{recordWords, tableOf}
+use Rattle.layout.specs.Table.{recordsIn, tableOf}
 use Rattle.walk_call.specs.Walk.{walkJudged, factsOf, answerBy, bufferBy, WalkIs}
 use Rattle.grid.proofs.StepLaws.{length-cornersFrom}
 use Rattle.steps.proofs.SurvivorLaws.{sound-survivors}
@@ -77,12 +77,12 @@ at-most-eight os k = omega (arith, four-less-three os k)
 
 module _ {os t ms ch t′ ms′ ch′ : List ℕ} {r : Answer} (w : WalkIs origin os t ms ch r t′ ms′ ch′) where
   -- a table that has four records for each corner, less three, at every moment
-  pub enough-four : ((k : ℕ) → k ≤ length os → 4 * cornersAfter origin os k ≤ length t / recordWords 1 + 3) → (i : ℕ) → r ≡ Answer.Refused (NoRoom i) → ⊥
+  pub enough-four : ((k : ℕ) → k ≤ length os → 4 * cornersAfter origin os k ≤ recordsIn (length t) + 3) → (i : ℕ) → r ≡ Answer.Refused (NoRoom i) → ⊥
   enough-four f i e =
       let n = no-room-at w i .0 e .1 in
       omega (arith, f (suc i) (omega (arith, n .inside)), n .here, four-less-three os (suc i))
 
-  pub enough-eight : ((k : ℕ) → k ≤ length os → 8 * cornersAfter origin os k ≤ length t / recordWords 1) → (i : ℕ) → r ≡ Answer.Refused (NoRoom i) → ⊥
+  pub enough-eight : ((k : ℕ) → k ≤ length os → 8 * cornersAfter origin os k ≤ recordsIn (length t)) → (i : ℕ) → r ≡ Answer.Refused (NoRoom i) → ⊥
   enough-eight f = enough-four (λ k h. omega (arith, f k h))
 
 -- no more steps survive than a walk may have
@@ -96,7 +96,7 @@ few-steps os f k h =
     sound-survivors 0 [] (take k os) (record { digits = tt; few = omega arith }) (faults-none 0 [] (take k os) g) .few
 
 -- 65,537 records are enough for any walk, and so is the largest table
-pub enough-largest : {os t ms ch t′ ms′ ch′ : List ℕ} {r : Answer} → WalkIs origin os t ms ch r t′ ms′ ch′ → 65537 ≤ length t / recordWords 1 → (i : ℕ) → r ≡ Answer.Refused (NoRoom i) → ⊥
+pub enough-largest : {os t ms ch t′ ms′ ch′ : List ℕ} {r : Answer} → WalkIs origin os t ms ch r t′ ms′ ch′ → 65537 ≤ recordsIn (length t) → (i : ℕ) → r ≡ Answer.Refused (NoRoom i) → ⊥
 enough-largest {os} w l i e =
     let n = no-room-at w i .0 e in
     let ps = cornersFrom origin (stepsAfter os (suc i)) in

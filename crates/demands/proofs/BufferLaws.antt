@@ -13,8 +13,8 @@ use Rattle.grid.specs.Grid.{origin, same, cornersFrom, endFrom}
 use Rattle.steps.specs.Operations.{operate, survivorsFrom, survivors}
 use Rattle.steps.specs.Turns.{turnOf, turnsFrom, turnsOf}
 use Rattle.tree.specs.Nodes.{nodesOf}
-use Rattle.layout.specs.Marks.{marksFrom, chainOf}
-use Rattle.layout.specs.Table.{recordOf, recordsOf, tableOf}
+use Rattle.layout.specs.Marks.{markWords, marksFrom, chainOf, markOf}
+use Rattle.layout.specs.Table.{width, wordAt, recordOf, recordsOf, tableOf}
 use Rattle.steps.proofs.SurvivorLaws.{length-survivors}
 use Rattle.layout.proofs.IndexLaws.{length-records, word-at}
 
@@ -32,20 +32,20 @@ module _ (words : ℕ) (c : Corner) (ds : List ℕ) where
   rs = recordsOf ps ns ns
 
   -- word w of the record of node i
-  pub table-word : (i w : ℕ) → i < length ns → w < 21 → getD (tableOf words c ds) (21 * i + w) 0 ≡ getD (recordOf ps ns (getD ns i origin)) w 0
+  pub table-word : (i w : ℕ) → i < length ns → w < width → getD (tableOf words c ds) (wordAt i w) 0 ≡ getD (recordOf ps ns (getD ns i origin)) w 0
   table-word i w h k =
-      List·getD-append rs (replicate (words - length rs) 0) 0 (21 * i + w) (omega (arith, length-records ps ns ns))
+      List·getD-append rs (replicate (words - length rs) 0) 0 (wordAt i w) (omega (arith, length-records ps ns ns))
       ∙ word-at ps ns ns i w origin h k
 
   -- past the nodes in use
-  pub table-unused : (n : ℕ) → 21 * length ns ≤ n → getD (tableOf words c ds) n 0 ≡ 0
+  pub table-unused : (n : ℕ) → width * length ns ≤ n → getD (tableOf words c ds) n 0 ≡ 0
   table-unused n h =
       let e : n ≡ length rs + (n - length rs) = omega (arith, length-records ps ns ns) in
       ap (λ (m : ℕ). getD (tableOf words c ds) m 0) e
       ∙ getD-append-add rs (replicate (words - length rs) 0) (n - length rs) 0
       ∙ zeros (words - length rs) (n - length rs)
 
-  pub table-length : 21 * length ns ≤ words → length (tableOf words c ds) ≡ words
+  pub table-length : width * length ns ≤ words → length (tableOf words c ds) ≡ words
   table-length h = omega (arith, length-append rs (replicate (words - length rs) 0), length-replicate {A = ℕ} (words - length rs) 0, length-records ps ns ns)
 
 -- the marks after operation k
@@ -53,16 +53,22 @@ module _ (c : Corner) where
   abbrev stood : List ℕ → ℕ
   stood ds = count (same (endFrom c ds)) (cornersFrom c ds)
 
-  pub marks-from : (s os : List ℕ) (k : ℕ) → k < length os → (getD (marksFrom c s os) (2 * k) 0 ≡ length (nodesOf (cornersFrom c (survivorsFrom s (take (suc k) os))))) × (getD (marksFrom c s os) (2 * k + 1) 0 ≡ stood (survivorsFrom s (take (suc k) os)))
-  marks-from s [] k h = absurd (omega arith)
-  marks-from s (o ∷ os) zero h = (refl, refl)
-  marks-from s (o ∷ os) (suc k) h =
-      let x = marks-from (operate s o) os k (omega arith) in
-      let e : 2 * suc k ≡ suc (suc (2 * k)) = omega arith in
-      let f : 2 * suc k + 1 ≡ suc (suc (2 * k + 1)) = omega arith in
-      (ap (λ (n : ℕ). getD (marksFrom c s (o ∷ os)) n 0) e ∙ x .0, ap (λ (n : ℕ). getD (marksFrom c s (o ∷ os)) n 0) f ∙ x .1)
+  -- word w of mark k
+  marks-word : (s os : List ℕ) (k w : ℕ) → k < length os → w < markWords → getD (marksFrom c s os) (markWords * k + w) 0 ≡ getD (markOf c (survivorsFrom s (take (suc k) os))) w 0
+  marks-word s [] k w h l = absurd (omega arith)
+  marks-word s (o ∷ os) zero w h l =
+      let e : markWords * 0 + w ≡ w = omega arith in
+      ap (λ (n : ℕ). getD (marksFrom c s (o ∷ os)) n 0) e ∙ List·getD-append (markOf c (operate s o)) (marksFrom c (operate s o) os) 0 w l
+  marks-word s (o ∷ os) (suc k) w h l =
+      let e : markWords * suc k + w ≡ markWords + (markWords * k + w) = omega arith in
+      ap (λ (n : ℕ). getD (marksFrom c s (o ∷ os)) n 0) e ∙ getD-append-add (markOf c (operate s o)) (marksFrom c (operate s o) os) (markWords * k + w) 0 ∙ marks-word (operate s o) os k w (omega arith) l
 
-  pub marks-length : (s os : List ℕ) → length (marksFrom c s os) ≡ 2 * length os
+  pub marks-from : (s os : List ℕ) (k : ℕ) → k < length os → (getD (marksFrom c s os) (markWords * k) 0 ≡ length (nodesOf (cornersFrom c (survivorsFrom s (take (suc k) os))))) × (getD (marksFrom c s os) (markWords * k + 1) 0 ≡ stood (survivorsFrom s (take (suc k) os)))
+  marks-from s os k h =
+      let e : markWords * k ≡ markWords * k + 0 = omega arith in
+      (ap (λ (n : ℕ). getD (marksFrom c s os) n 0) e ∙ marks-word s os k 0 h (omega arith), marks-word s os k 1 h (omega arith))
+
+  pub marks-length : (s os : List ℕ) → length (marksFrom c s os) ≡ markWords * length os
   marks-length s [] = refl
   marks-length s (o ∷ os) = omega (arith, marks-length (operate s o) os)
 

@@ -3,7 +3,7 @@
 use mathlib.Core.List.{List, _∷_, _++_, List·Memᴰ}
 use mathlib.Core.Logic.{_⊎_, _↔_}
 use mathlib.Core.Path.{_≡_}
-use Prim.Native.Nat.{ℕ, suc, _+_, _-_, _*_, _/_, _<_, _≤_}
+use Prim.Native.Nat.{ℕ, suc, _+_, _-_, _*_, _<_, _≤_}
 use lib.IntN.{ℤ, pos}
 use lib.ListN.{length, getD, take, drop, replicate}
 use Rattle.answer.specs.declared.Answer.{Answer}
@@ -25,7 +25,8 @@ use Rattle.steps.specs.Turns.{turnOf, turnsOf, stepsOf, ConvertedBy}
 use Rattle.trace.specs.Meeting.{Meets, FirstMeets, visitedOf}
 use Rattle.trace.specs.Verdict.{VerdictSays, IsRoom, sweepFrom}
 use Rattle.tree.specs.Nodes.{nodesOf, refOf, needOf, InUse}
-use Rattle.layout.specs.Table.{recordWords}
+use Rattle.layout.specs.Marks.{markWords}
+use Rattle.layout.specs.Table.{width, recordsIn, wordAt}
 use Rattle.walk_call.specs.Walk.{factsOf, WalkIs}
 use Rattle.hull.specs.Hull.{In, Exposed, HullIs}
 use Rattle.hull.specs.Call.{numbers, HullCall}
@@ -85,11 +86,11 @@ module _ {c : Corner} {os t ms ch t′ ms′ ch′ : List ℕ} where
 
 module _ {os t ms ch t′ ms′ ch′ : List ℕ} {r : Answer} (w : WalkIs origin os t ms ch r t′ ms′ ch′) where
   -- "'no room' is given exactly when nothing else is wrong with the call and the walk at some moment needs more nodes than the table has records"
-  pub no-room-exactly : ((i : ℕ) × (r ≡ Answer.Refused (NoRoom i))) ↔ Faultless os (length t) (length ms) (length ch) × ((k : ℕ) × (k ≤ length os) × Exceeds (nodesAfter origin os k) (length t / recordWords 1))
+  pub no-room-exactly : ((i : ℕ) × (r ≡ Answer.Refused (NoRoom i))) ↔ Faultless os (length t) (length ms) (length ch) × ((k : ℕ) × (k ≤ length os) × Exceeds (nodesAfter origin os k) (recordsIn (length t)))
   no-room-exactly = walkLaws.no-room-when w
 
   -- its place is the first operation after which this is so
-  pub no-room-place : (i : ℕ) → r ≡ Answer.Refused (NoRoom i) ↔ Faultless os (length t) (length ms) (length ch) × NoRoomAt origin os (length t / recordWords 1) i
+  pub no-room-place : (i : ℕ) → r ≡ Answer.Refused (NoRoom i) ↔ Faultless os (length t) (length ms) (length ch) × NoRoomAt origin os (recordsIn (length t)) i
   no-room-place = walkLaws.no-room-at w
 
 -- the same of the turns
@@ -141,15 +142,15 @@ module _ {c : Corner} {os t ms ch t′ ms′ ch′ : List ℕ} {f : Facts} (w : 
 
   -- "every word of the table": the record of each node in use says what the table of words says, the visit count among it
   pub record-words : (i : ℕ) → i < length (nodesOf (cornersFrom c (survivors os)))
-      → RecordSays (cornersFrom c (survivors os)) (getD (nodesOf (cornersFrom c (survivors os))) i origin) (λ n. getD t′ (21 * i + n) 0)
+      → RecordSays (cornersFrom c (survivors os)) (getD (nodesOf (cornersFrom c (survivors os))) i origin) (λ n. getD t′ (wordAt i n) 0)
   record-words = acceptedLaws.its-record w
 
   -- and all words after these records are zero
-  pub unused-words : (n : ℕ) → 21 * f .nodes ≤ n → getD t′ n 0 ≡ 0
+  pub unused-words : (n : ℕ) → width * f .nodes ≤ n → getD t′ n 0 ≡ 0
   unused-words = acceptedLaws.its-unused w
 
   -- after each operation, the nodes in use and then the visits at the corner now stood on
-  pub marks-words : (k : ℕ) → k < length os → (getD ms′ (2 * k) 0 ≡ nodesAfter c os (suc k)) × (getD ms′ (2 * k + 1) 0 ≡ visitsAfter c os (suc k))
+  pub marks-words : (k : ℕ) → k < length os → (getD ms′ (markWords * k) 0 ≡ nodesAfter c os (suc k)) × (getD ms′ (markWords * k + 1) 0 ≡ visitsAfter c os (suc k))
   marks-words = acceptedLaws.its-mark w
 
   -- the surviving steps, then zeros
@@ -259,13 +260,13 @@ four-and-levels = countLaws.few-nodes-from
 
 module _ {os t ms ch t′ ms′ ch′ : List ℕ} {r : Answer} (w : WalkIs origin os t ms ch r t′ ms′ ch′) where
   -- "so a table that large at every moment is never refused for room"
-  pub enough-eight : ((k : ℕ) → k ≤ length os → 8 * cornersAfter origin os k ≤ length t / recordWords 1) → (i : ℕ) → r ≡ Answer.Refused (NoRoom i) → ⊥
+  pub enough-eight : ((k : ℕ) → k ≤ length os → 8 * cornersAfter origin os k ≤ recordsIn (length t)) → (i : ℕ) → r ≡ Answer.Refused (NoRoom i) → ⊥
   enough-eight = aloneLaws.enough-eight w
 
   -- nor one with four records a corner, less three
-  pub enough-four : ((k : ℕ) → k ≤ length os → 4 * cornersAfter origin os k ≤ length t / recordWords 1 + 3) → (i : ℕ) → r ≡ Answer.Refused (NoRoom i) → ⊥
+  pub enough-four : ((k : ℕ) → k ≤ length os → 4 * cornersAfter origin os k ≤ recordsIn (length t) + 3) → (i : ℕ) → r ≡ Answer.Refused (NoRoom i) → ⊥
   enough-four = aloneLaws.enough-four w
 
   -- nor one with 65,537 records, whatever the walk
-  pub enough-always : 65537 ≤ length t / recordWords 1 → (i : ℕ) → r ≡ Answer.Refused (NoRoom i) → ⊥
+  pub enough-always : 65537 ≤ recordsIn (length t) → (i : ℕ) → r ≡ Answer.Refused (NoRoom i) → ⊥
   enough-always = aloneLaws.enough-largest w

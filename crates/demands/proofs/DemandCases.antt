@@ -6,6 +6,7 @@ use mathlib.Core.Path.{_≡_, refl}
 use Prim.Native.Nat.{_*_}
 use native.Mathlib.Omega.{arith}
 use Rattle.grid.specs.Grid.{origin}
+use Rattle.layout.specs.Table.{width}
 use Rattle.demands.specs.Moments.{nodesAfter, cornersAfter, visitsAfter, FourLessThree, Exceeds}
 use Rattle.demands.specs.Given.{HasRecords, Fine, FineAt, BadDigitAt, First}
 
@@ -47,4 +48,4 @@ two-records : HasRecords 42
 two-records = (2, omega arith, omega arith, refl)
 
 part-of-a-record : HasRecords 41 → ⊥
-part-of-a-record x = let e : 41 ≡ x .0 * 21 = x .3 in omega arith
+part-of-a-record x = let e : 41 ≡ x .0 * width = x .3 in omega arith

@@ -4,7 +4,7 @@ use mathlib.Core.Bool.{Bool, true, false, not, _&&_}
 use mathlib.Core.List.{List, []}
 use mathlib.Core.Logic.{_⊎_, inl, inr, ⊎-elim}
 use mathlib.Core.Path.{_≡_, refl, ap, sym, _∙_, subst}
-use Prim.Native.Nat.{ℕ, suc, _*_, _/_, _%_, _<_, _≤_}
+use Prim.Native.Nat.{ℕ, suc, _*_, _%_, _<_, _≤_}
 use native.Mathlib.Decide.{decLt}
 use native.Mathlib.Omega.{arith}
 use borrow.Author.Tests.{leb-true, eqb-true, lt-ltb, le-ltb, le-leb, eq-eqb}
@@ -18,6 +18,8 @@ use Rattle.answer.specs.Limits.{mostInput, mostRecords}
 use Rattle.answer.specs.Refusal.{when, orElse}
 use Rattle.grid.specs.declared.Corner.{Corner}
 use Rattle.steps.specs.Operations.{faultOf, faultsFrom}
+use Rattle.layout.specs.Marks.{markWords}
+use Rattle.layout.specs.Table.{width, recordsIn}
 use Rattle.walk_call.specs.Walk.{tableFits, roomFrom, walkJudged}
 use Rattle.answer.proofs.RefusalLaws.{orElse-right}
 use Rattle.lists.proofs.GatherLaws.{and-left, and-right}
@@ -29,20 +31,20 @@ use Rattle.demands.proofs.FirstLaws.{all-or-first, fine-or-fault, fault
 -- ---- the tests of 2 and 3
 pub fits-records : (w : ℕ) → tableFits w ≡ true → HasRecords w
 fits-records w e =
-    let a = eqb (w % 21) 0 in
-    let b = leb 1 (w / 21) in
-    let d = leb (w / 21) mostRecords in
+    let a = eqb (w % width) 0 in
+    let b = leb 1 (recordsIn w) in
+    let d = leb (recordsIn w) mostRecords in
     let h : a && b ≡ true = and-left (a && b) d e in
-    let z : w % 21 ≡ 0 = eqb-true (w % 21) 0 (and-left a b h) in
-    (w / 21, leb-true 1 (w / 21) (and-right a b h), leb-true (w / 21) mostRecords (and-right (a && b) d e), omega arith)
+    let z : w % width ≡ 0 = eqb-true (w % width) 0 (and-left a b h) in
+    (recordsIn w, leb-true 1 (recordsIn w) (and-right a b h), leb-true (recordsIn w) mostRecords (and-right (a && b) d e), omega arith)
 
 pub records-fit : (w : ℕ) → HasRecords w → tableFits w ≡ true
 records-fit w x =
     let r = x .0 in
     let l : 1 ≤ r = x .1 in
-    let m : r ≤ 131080 = x .2 in
-    let e : w ≡ r * 21 = x .3 in
-    rw (eq-eqb (w % 21) 0 (omega arith), le-leb 1 (w / 21) (omega arith), le-leb (w / 21) 131080 (omega arith))
+    let m : r ≤ mostRecords = x .2 in
+    let e : w ≡ r * width = x .3 in
+    rw (eq-eqb (w % width) 0 (omega arith), le-leb 1 (recordsIn w) (omega arith), le-leb (recordsIn w) mostRecords (omega arith))
 
 -- a test that tells whether something holds
 decided : {P : Type 0} (b : Bool) → (b ≡ true → P) → (P → b ≡ true) → P ⊎ ((P → ⊥) × (b ≡ false))
@@ -55,37 +57,37 @@ fails false f n = refl
 
 module _ (os : List ℕ) (m k : ℕ) where
   abbrev roomFits : Bool
-  roomFits = eqb m (2 * length os) && eqb k (length os)
+  roomFits = eqb m (markWords * length os) && eqb k (length os)
 
   fits-room : roomFits ≡ true → HasRoom os m k
-  fits-room e = (eqb-true m (2 * length os) (and-left (eqb m (2 * length os)) (eqb k (length os)) e), eqb-true k (length os) (and-right (eqb m (2 * length os)) (eqb k (length os)) e))
+  fits-room e = (eqb-true m (markWords * length os) (and-left (eqb m (markWords * length os)) (eqb k (length os)) e), eqb-true k (length os) (and-right (eqb m (markWords * length os)) (eqb k (length os)) e))
 
   room-fit : HasRoom os m k → roomFits ≡ true
-  room-fit h = rw (eq-eqb m (2 * length os) (h .0), eq-eqb k (length os) (h .1))
+  room-fit h = rw (eq-eqb m (markWords * length os) (h .0), eq-eqb k (length os) (h .1))
 
 module _ (c : Corner) (os : List ℕ) (w m k : ℕ) where
   -- the five judgements one after the other
   judged-by : (a b d f g : Judged)
-      → when (ltb mostInput (length os)) TooMany ≡ a → when (not (tableFits w)) Table ≡ b → when (not (roomFits os m k)) ResultRoom ≡ d → faultsFrom 0 0 os ≡ f → roomFrom (w / 21) c 0 [] os ≡ g
+      → when (ltb mostInput (length os)) TooMany ≡ a → when (not (tableFits w)) Table ≡ b → when (not (roomFits os m k)) ResultRoom ≡ d → faultsFrom 0 0 os ≡ f → roomFrom (recordsIn w) c 0 [] os ≡ g
       → walkJudged c os w m k ≡ orElse a (orElse b (orElse d (orElse f (orElse g Good))))
   judged-by a b d f g p q r s t = rw (p, q, r, s, t)
 
-  judged-sized : Sized os w m k → walkJudged c os w m k ≡ orElse (faultsFrom 0 0 os) (roomFrom (w / 21) c 0 [] os)
+  judged-sized : Sized os w m k → walkJudged c os w m k ≡ orElse (faultsFrom 0 0 os) (roomFrom (recordsIn w) c 0 [] os)
   judged-sized s =
-      judged-by Good Good Good (faultsFrom 0 0 os) (roomFrom (w / 21) c 0 [] os)
+      judged-by Good Good Good (faultsFrom 0 0 os) (roomFrom (recordsIn w) c 0 [] os)
       (ap (λ (b : Bool). when b TooMany) (le-ltb mostInput (length os) (s .few)))
       (ap (λ (b : Bool). when (not b) Table) (records-fit w (s .table)))
       (ap (λ (b : Bool). when (not b) ResultRoom) (room-fit os m k (s .room)))
       refl
       refl
-      ∙ ap (orElse (faultsFrom 0 0 os)) (orElse-right (roomFrom (w / 21) c 0 [] os))
+      ∙ ap (orElse (faultsFrom 0 0 os)) (orElse-right (roomFrom (recordsIn w) c 0 [] os))
 
   judged-fault : (bad : ℕ → Type 0) (i : ℕ) (r : Refusal) → Sized os w m k → First (length os) (FineAt os) bad i → (bad i → faultOf i (length (stepsAfter os i)) (getD os i 0) ≡ Refused r) → walkJudged c os w m k ≡ Refused r
   judged-fault bad i r s f e =
-      judged-sized s ∙ ap (λ (j : Judged). orElse j (roomFrom (w / 21) c 0 [] os)) (faults-first 0 [] os i i r (f .inside) (f .before) (omega arith) (e (f .here)))
+      judged-sized s ∙ ap (λ (j : Judged). orElse j (roomFrom (recordsIn w) c 0 [] os)) (faults-first 0 [] os i i r (f .inside) (f .before) (omega arith) (e (f .here)))
 
-  judged-faultless : Faultless os w m k → walkJudged c os w m k ≡ roomFrom (w / 21) c 0 [] os
-  judged-faultless h = judged-sized (h .sized) ∙ ap (λ (j : Judged). orElse j (roomFrom (w / 21) c 0 [] os)) (faults-none 0 [] os (h .fine))
+  judged-faultless : Faultless os w m k → walkJudged c os w m k ≡ roomFrom (recordsIn w) c 0 [] os
+  judged-faultless h = judged-sized (h .sized) ∙ ap (λ (j : Judged). orElse j (roomFrom (recordsIn w) c 0 [] os)) (faults-none 0 [] os (h .fine))
 
   -- on each occasion, that judgement
   pub given-judged : (j : Judged) → Given c os w m k j → walkJudged c os w m k ≡ j
@@ -95,8 +97,8 @@ module _ (c : Corner) (os : List ℕ) (w m k : ℕ) where
   given-judged _ (given.badDigit i s f) = judged-fault (BadDigitAt os) i (BadDigit i) s f (fault-digit i (length (stepsAfter os i)) (getD os i 0))
   given-judged _ (given.nothingToTake i s f) = judged-fault (NothingAt os) i (NothingToTake i) s f (fault-nothing i (length (stepsAfter os i)) (getD os i 0))
   given-judged _ (given.tooLong i s f) = judged-fault (TooLongAt os) i (TooLong i) s f (fault-long i (length (stepsAfter os i)) (getD os i 0))
-  given-judged _ (given.noRoom i h f) = judged-faultless h ∙ room-first (w / 21) c 0 [] os i i (f .inside) (f .before) (omega arith) (f .here)
-  given-judged _ (given.accepted h f) = judged-faultless h ∙ room-none (w / 21) c 0 [] os f
+  given-judged _ (given.noRoom i h f) = judged-faultless h ∙ room-first (recordsIn w) c 0 [] os i i (f .inside) (f .before) (omega arith) (f .here)
+  given-judged _ (given.accepted h f) = judged-faultless h ∙ room-none (recordsIn w) c 0 [] os f
 
   -- the place of a fault, by its kind
   by-fault : Sized os w m k → (i : ℕ) → First (length os) (FineAt os) (λ h. BadDigitAt os h ⊎ (NothingAt os h ⊎ TooLongAt os h)) i → (j : Judged) × Given c os w m k j
@@ -108,15 +110,15 @@ module _ (c : Corner) (os : List ℕ) (w m k : ℕ) where
       (λ h. (Refused (TooLong i), given.tooLong i s (record { inside = f .inside; before = f .before; here = h }))))
       (f .here)
 
-  pub roomy : (i : ℕ) → (nodesAfter c os (suc i) ≤ w / 21) ⊎ (w / 21 < nodesAfter c os (suc i))
-  roomy i = elim (decLt (w / 21) (nodesAfter c os (suc i))) [ yes h ↦ inr h | no h ↦ inl (omega arith) ]
+  pub roomy : (i : ℕ) → (nodesAfter c os (suc i) ≤ recordsIn w) ⊎ (recordsIn w < nodesAfter c os (suc i))
+  roomy i = elim (decLt (recordsIn w) (nodesAfter c os (suc i))) [ yes h ↦ inr h | no h ↦ inl (omega arith) ]
 
   by-room : Faultless os w m k → (j : Judged) × Given c os w m k j
   by-room h =
       ⊎-elim
       (λ f. (Good, given.accepted h f))
       (λ x. (Refused (NoRoom (x .0)), given.noRoom (x .0) h (x .1)))
-      (all-or-first (length os) (λ i. nodesAfter c os (suc i) ≤ w / 21) (λ i. w / 21 < nodesAfter c os (suc i)) roomy)
+      (all-or-first (length os) (λ i. nodesAfter c os (suc i) ≤ recordsIn w) (λ i. recordsIn w < nodesAfter c os (suc i)) roomy)
 
   by-size : Sized os w m k → (j : Judged) × Given c os w m k j
   by-size s =

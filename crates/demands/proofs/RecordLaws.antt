@@ -13,7 +13,7 @@ use Rattle.grid.specs.declared.Corner.{Corner}
 use Rattle.grid.specs.Grid.{origin, same, stepped}
 use Rattle.grid.specs.Tree.{parentOf, isRoot, childWord, AncestorAt, pathOf}
 use Rattle.tree.specs.Nodes.{nodesOf, refOf, linkStepOf, needOf, InUse, LinkedBy}
-use Rattle.layout.specs.Table.{recordOf, childRefOf, neighbourRefOf}
+use Rattle.layout.specs.Table.{width, fieldsOf, recordOf, childRefOf, neighbourRefOf}
 use Rattle.grid.proofs.AncestorLaws.{path-ancestor, pathOf-first}
 use Rattle.grid.proofs.CornerLaws.{same-refl, same-sound}
 use Rattle.lists.proofs.DistinctLaws.{mem-getD, distinct-getD}
@@ -26,6 +26,7 @@ use Rattle.tree.proofs.OrderLaws.{need-there, need-least}
 use Rattle.tree.proofs.RefLaws.{not-any}
 use Rattle.layout.proofs.ChildLaws.{child-ref, child-there, childWord-range}
 use Rattle.layout.proofs.NeighbourLaws.{neighbour-linked, neighbour-none}
+use Rattle.layout.proofs.WordLaws.{child-of, neighbour-of, link-of}
 use Rattle.demands.specs.Record.{IsRef, IsChild, FirstIn, RecordSays}
 use Rattle.demands.proofs.DemandCases as cases
 
@@ -78,28 +79,8 @@ module _ (ps : List Corner) where
   inUse-isRef b u = ref-number b (refOf ns b) refl (inUse-ref ps b u)
 
   module _ (a : Corner) where
-    word-child : (w : ℕ) → w < 9 → getD (recordOf ps ns a) (suc w) 0 ≡ childRefOf ns a (suc w)
-    word-child zero h = refl
-    word-child (suc zero) h = refl
-    word-child (suc (suc zero)) h = refl
-    word-child (suc (suc (suc zero))) h = refl
-    word-child (suc (suc (suc (suc zero)))) h = refl
-    word-child (suc (suc (suc (suc (suc zero))))) h = refl
-    word-child (suc (suc (suc (suc (suc (suc zero)))))) h = refl
-    word-child (suc (suc (suc (suc (suc (suc (suc zero))))))) h = refl
-    word-child (suc (suc (suc (suc (suc (suc (suc (suc zero)))))))) h = refl
-    word-child (suc (suc (suc (suc (suc (suc (suc (suc (suc w))))))))) h = absurd (omega arith)
-
     child-word : (w : ℕ) → 0 < w → w ≤ 9 → getD (recordOf ps ns a) w 0 ≡ childRefOf ns a w
-    child-word zero h k = absurd (omega arith)
-    child-word (suc w) h k = word-child w (omega arith)
-
-    word-neighbour : (d : ℕ) → d < 4 → (getD (recordOf ps ns a) (10 + d) 0 ≡ neighbourRefOf ps ns a d) × (getD (recordOf ps ns a) (14 + d) 0 ≡ linkStepOf ps a d)
-    word-neighbour zero h = (refl, refl)
-    word-neighbour (suc zero) h = (refl, refl)
-    word-neighbour (suc (suc zero)) h = (refl, refl)
-    word-neighbour (suc (suc (suc zero))) h = (refl, refl)
-    word-neighbour (suc (suc (suc (suc d)))) h = absurd (omega arith)
+    child-word w h k = child-of (fieldsOf ps ns a) w h (omega arith)
 
     children : (w : ℕ) (b : Corner) → IsChild ps a w b → getD (recordOf ps ns a) w 0 ≡ refOf ns b
     children w b k =
@@ -129,7 +110,7 @@ module _ (ps : List Corner) where
         omega (arith, need-least ps a 0 (x .0) (omega (arith, need-there ps a u .0)) (x .1))
 
     -- the record of a node in use, word by word
-    pub record-says : (word : ℕ → ℕ) → InUse ps a → ((w : ℕ) → w < 21 → word w ≡ getD (recordOf ps ns a) w 0) → RecordSays ps a word
+    pub record-says : (word : ℕ → ℕ) → InUse ps a → ((w : ℕ) → w < width → word w ≡ getD (recordOf ps ns a) w 0) → RecordSays ps a word
     record-says word u e = record {
       root = λ h. e 0 (omega arith) ∙ ap (λ (b : Bool). cond b 0 (refOf ns (parentOf a))) h;
       parent = λ h.
@@ -150,7 +131,7 @@ module _ (ps : List Corner) where
     }
       where
         near : (d : ℕ) → d < 4 → word (10 + d) ≡ neighbourRefOf ps ns a d
-        near d h = e (10 + d) (omega arith) ∙ word-neighbour d h .0
+        near d h = e (10 + d) (omega arith) ∙ neighbour-of (fieldsOf ps ns a) d h
 
         link : (d : ℕ) → d < 4 → word (14 + d) ≡ linkStepOf ps a d
-        link d h = e (14 + d) (omega arith) ∙ word-neighbour d h .1
+        link d h = e (14 + d) (omega arith) ∙ link-of (fieldsOf ps ns a) d h

@@ -4,7 +4,7 @@
 use mathlib.Core.List.{List}
 use mathlib.Core.Logic.{⊎-elim, _↔_}
 use mathlib.Core.Path.{_≡_, refl, ap, sym, _∙_, subst}
-use Prim.Native.Nat.{ℕ, zero, suc, _*_, _/_, _<_, _≤_}
+use Prim.Native.Nat.{ℕ, zero, suc, _*_, _<_, _≤_}
 use native.Mathlib.Omega.{arith}
 use borrow.Author.Tests.{ne-eqb}
 use lib.ListN.{length, replicate}
@@ -18,7 +18,7 @@ use Rattle.answer.specs.Refusal.{refusalNumber}
 use Rattle.grid.specs.declared.Corner.{Corner}
 use Rattle.grid.specs.Grid.{origin}
 use Rattle.layout.specs.Marks.{marksOf, chainOf}
-use Rattle.layout.specs.Table.{recordWords, tableOf}
+use Rattle.layout.specs.Table.{width, recordsIn, tableOf}
 use Rattle.steps.specs.Operations.{survivors}
 use Rattle.walk_call.specs.Walk.{walkJudged, walkAnswer, factsOf, answerBy, bufferBy, WalkIs}
 use Rattle.demands.specs.Moments.{nodesAfter, Exceeds}
@@ -69,23 +69,23 @@ module _ {c : Corner} {os t ms ch t′ ms′ ch′ : List ℕ} {r : Answer} (w :
 -- "no room" at a place, and at some place
 module _ {os t ms ch t′ ms′ ch′ : List ℕ} {r : Answer} (w : WalkIs origin os t ms ch r t′ ms′ ch′) where
   abbrev records : ℕ
-  records = length t / 21
+  records = recordsIn (length t)
 
-  pub no-room-at : (i : ℕ) → r ≡ Answer.Refused (NoRoom i) ↔ Faultless os (length t) (length ms) (length ch) × NoRoomAt origin os (length t / recordWords 1) i
+  pub no-room-at : (i : ℕ) → r ≡ Answer.Refused (NoRoom i) ↔ Faultless os (length t) (length ms) (length ch) × NoRoomAt origin os (recordsIn (length t)) i
   no-room-at i = (λ e. parts (refused-when w (NoRoom i) .0 e), λ g. refused-when w (NoRoom i) .1 (given.noRoom i (g .0) (g .1)))
     where
-      parts : Given origin os (length t) (length ms) (length ch) (Refused (NoRoom i)) → Faultless os (length t) (length ms) (length ch) × NoRoomAt origin os (length t / recordWords 1) i
+      parts : Given origin os (length t) (length ms) (length ch) (Refused (NoRoom i)) → Faultless os (length t) (length ms) (length ch) × NoRoomAt origin os (recordsIn (length t)) i
       parts (given.noRoom _ f n) = (f, n)
 
   -- with room after each operation there is room at every moment: at first the root alone is in use
   pub always-room : Faultless os (length t) (length ms) (length ch) → ((h : ℕ) → h < length os → nodesAfter origin os (suc h) ≤ records) → (k : ℕ) → k ≤ length os → nodesAfter origin os k ≤ records
   always-room f a zero l =
       let x = f .sized .table in
-      let e : length t ≡ x .0 * 21 = x .3 in
+      let e : length t ≡ x .0 * width = x .3 in
       omega (arith, x .1)
   always-room f a (suc k) l = a k (omega arith)
 
-  pub no-room-when : ((i : ℕ) × (r ≡ Answer.Refused (NoRoom i))) ↔ Faultless os (length t) (length ms) (length ch) × ((k : ℕ) × (k ≤ length os) × Exceeds (nodesAfter origin os k) (length t / recordWords 1))
+  pub no-room-when : ((i : ℕ) × (r ≡ Answer.Refused (NoRoom i))) ↔ Faultless os (length t) (length ms) (length ch) × ((k : ℕ) × (k ≤ length os) × Exceeds (nodesAfter origin os k) (recordsIn (length t)))
   no-room-when = (
     λ x. let h = no-room-at (x .0) .0 (x .1) in (h .0, (suc (x .0), omega (arith, h .1 .inside), h .1 .here)),
     λ x.

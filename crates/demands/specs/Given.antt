@@ -3,23 +3,24 @@
 use mathlib.Core.List.{List}
 use mathlib.Core.Logic.{_⊎_}
 use mathlib.Core.Path.{_≡_}
-use Prim.Native.Nat.{ℕ, suc, _*_, _/_, _<_, _≤_}
+use Prim.Native.Nat.{ℕ, suc, _*_, _<_, _≤_}
 use lib.ListN.{length, getD}
 use Rattle.answer.specs.declared.Judged.{Judged}
 use Rattle.answer.specs.declared.Judged.the-variants.{Good, Refused}
 use Rattle.answer.specs.declared.Refusal.the-variants.{TooMany, Table, ResultRoom, BadDigit, NothingToTake, TooLong, NoRoom}
 use Rattle.answer.specs.Limits.{mostInput, mostSteps, mostRecords}
 use Rattle.grid.specs.declared.Corner.{Corner}
-use Rattle.layout.specs.Table.{recordWords}
+use Rattle.layout.specs.Marks.{markWords}
+use Rattle.layout.specs.Table.{width, recordsIn}
 use Rattle.demands.specs.Moments.{stepsAfter, nodesAfter, Exceeds}
 
--- the words are 21 times a record count of 1 to 131,080
+-- the words are those of a record times a count of 1 to 131,080
 abbrev pub HasRecords : ℕ → Type 0
-HasRecords words = (r : ℕ) × (1 ≤ r) × (r ≤ mostRecords) × (words ≡ r * recordWords 1)
+HasRecords words = (r : ℕ) × (1 ≤ r) × (r ≤ mostRecords) × (words ≡ r * width)
 
 -- marks are twice, and the chain is once, the input length
 abbrev pub HasRoom : List ℕ → ℕ → ℕ → Type 0
-HasRoom os marks chain = (marks ≡ 2 * length os) × (chain ≡ length os)
+HasRoom os marks chain = (marks ≡ markWords * length os) × (chain ≡ length os)
 
 -- an operation on surviving steps that is a take-back with a step to take, or a step that is not too many
 abbrev pub Fine : List ℕ → ℕ → Type 0
@@ -67,5 +68,5 @@ pub data Given (c : Corner) (os : List ℕ) (words marks chain : ℕ) : Judged �
   badDigit : (i : ℕ) → Sized os words marks chain → First (length os) (FineAt os) (BadDigitAt os) i → Given c os words marks chain (Refused (BadDigit i))
   nothingToTake : (i : ℕ) → Sized os words marks chain → First (length os) (FineAt os) (NothingAt os) i → Given c os words marks chain (Refused (NothingToTake i))
   tooLong : (i : ℕ) → Sized os words marks chain → First (length os) (FineAt os) (TooLongAt os) i → Given c os words marks chain (Refused (TooLong i))
-  noRoom : (i : ℕ) → Faultless os words marks chain → NoRoomAt c os (words / recordWords 1) i → Given c os words marks chain (Refused (NoRoom i))
-  accepted : Faultless os words marks chain → ((h : ℕ) → h < length os → nodesAfter c os (suc h) ≤ words / recordWords 1) → Given c os words marks chain Good
+  noRoom : (i : ℕ) → Faultless os words marks chain → NoRoomAt c os (recordsIn words) i → Given c os words marks chain (Refused (NoRoom i))
+  accepted : Faultless os words marks chain → ((h : ℕ) → h < length os → nodesAfter c os (suc h) ≤ recordsIn words) → Given c os words marks chain Good

@@ -1,4 +1,5 @@
 pub mod TableCases
 pub mod NeighbourLaws
 pub mod ChildLaws
+pub mod WordLaws
 pub mod IndexLaws

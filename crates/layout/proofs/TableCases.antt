@@ -2,13 +2,13 @@
 -- Assumes nothing.
 use mathlib.Core.List.{List, [], _∷_}
 use mathlib.Core.Path.{_≡_, refl}
-use Prim.Native.Nat.{ℕ}
+use Prim.Native.Nat.{ℕ, _+_}
 use lib.IntN.{pos}
 use lib.ListN.{drop}
 use Rattle.grid.specs.declared.Corner.{Corner}
 use Rattle.grid.specs.Grid.{corner, origin, cornersFrom}
 use Rattle.tree.specs.Nodes.{nodesOf}
-use Rattle.layout.specs.Table.{recordOf, tableOf}
+use Rattle.layout.specs.Table.{width, recordOf, tableOf}
 use Rattle.layout.specs.Marks.{marksOf, chainOf}
 
 -- the record of a node after a walk from the origin
@@ -32,8 +32,12 @@ root-record : recordAfter (0 ∷ 1 ∷ 2 ∷ 2 ∷ 3 ∷ []) origin
 unfolding recordAfter
 root-record = refl
 
+-- a record is 21 words
+record-width : width ≡ 21
+record-width = refl
+
 -- one record in use, and zeros after it
-zeros-after : drop 20 (tableOf 25 origin []) ≡ 1 ∷ 0 ∷ 0 ∷ 0 ∷ 0 ∷ []
+zeros-after : drop width (tableOf (width + 4) origin []) ≡ 0 ∷ 0 ∷ 0 ∷ 0 ∷ []
 zeros-after = refl
 
 -- after 0, 2, 0 and a take-back: nodes, then visits at the corner now stood on

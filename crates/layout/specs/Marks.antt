@@ -4,6 +4,10 @@ use Rattle.grid.specs.{declared.Corner.Corner, Grid.same, Grid.cornersFrom, Gri
 use Rattle.steps.specs.Operations.{operate, survivors}
 use Rattle.tree.specs.Nodes.{nodesOf}
 
+-- words of a mark
+abbrev pub markWords : ℕ
+markWords = 2
+
 -- the nodes in use, then the visits at the corner now stood on
 abbrev pub markOf : Corner → List ℕ → List ℕ
 markOf c ds = length (nodesOf (cornersFrom c ds)) ∷ count (same (endFrom c ds)) (cornersFrom c ds) ∷ []

@@ -1,11 +1,72 @@
 -- The words of a record, and the table (01, "The tree"). Assumes nothing.
-use Rattle.lists.specs.Lists.{cond, not, _&&_, List, [], _∷_, _++_, length, replicate, ℕ, zero, suc, _+_, _-_, _*_, eqb, find, count}
+use Rattle.lists.specs.Lists.{cond, not, _&&_, List, [], _∷_, _++_, length, replicate, ℕ, zero, suc, _+_, _-_, _*_, _/_, _<_, eqb, find, count}
 use Rattle.grid.specs.{declared.Corner.Corner, Grid.same, Grid.stepped, Grid.cornersFrom, Tree.parentOf, Tree.isRoot, Tree.childWord}
 use Rattle.tree.specs.Nodes.{nodesOf, refOf, needOf, linkStepOf}
 
 -- words of a record: 14 that all walks in a table share, and 7 of each of m walks
 abbrev pub recordWords : ℕ → ℕ
 recordWords m = 14 + m * 7
+
+-- words of a record in the table of one walk
+abbrev pub width : ℕ
+width = recordWords 1
+
+-- how many records so many words hold
+abbrev pub recordsIn : ℕ → ℕ
+recordsIn words = words / width
+
+-- the place of word w of record u in the table
+abbrev pub wordAt : ℕ → ℕ → ℕ
+wordAt u w = u * width + w
+
+-- record u lies in the table
+abbrev pub HasRecord : List ℕ → ℕ → Type 0
+HasRecord t u = wordAt u (width - 1) < length t
+
+-- the words of a record by name; a child's is childWord
+abbrev pub parentWord : ℕ
+parentWord = 0
+
+abbrev pub neighbourWord : ℕ → ℕ
+neighbourWord d = 10 + d
+
+abbrev pub linkWord : ℕ → ℕ
+linkWord d = 14 + d
+
+abbrev pub visitsWord : ℕ
+visitsWord = 18
+
+abbrev pub needWord : ℕ
+needWord = 19
+
+abbrev pub firstWord : ℕ
+firstWord = 20
+
+-- what a record holds: the parent; the child in word w; the neighbour in direction d, and that link's step; the visits; the step that
+-- first needed the node; 1 + the least k with pk here
+pub record Fields : Type 0 where
+  pub parent : ℕ
+  pub child : ℕ → ℕ
+  pub neighbour : ℕ → ℕ
+  pub link : ℕ → ℕ
+  pub visits : ℕ
+  pub need : ℕ
+  pub first : ℕ
+
+-- the values of f at n numbers, from i on
+abbrev pub tab : ℕ → ℕ → (ℕ → ℕ) → List ℕ
+tab i zero f = []
+tab i (suc n) f = f i ∷ tab (suc i) n f
+
+-- its words: those that all walks in a table share, the children's being 1 to 9; then those of one walk
+abbrev pub sharedWords : Fields → List ℕ
+sharedWords r = r .parent ∷ tab 1 9 (r .child) ++ tab 0 4 (r .neighbour)
+
+abbrev pub ownWords : Fields → List ℕ
+ownWords r = tab 0 4 (r .link) ++ (r .visits ∷ r .need ∷ r .first ∷ [])
+
+abbrev pub wordsOf : Fields → List ℕ
+wordsOf r = sharedWords r ++ ownWords r
 
 -- the ref of the child of a that stands in word w
 abbrev pub childRefOf : List Corner → Corner → ℕ → ℕ
@@ -15,20 +76,20 @@ childRefOf ns a w = find (λ c. not (isRoot c) && same (parentOf c) a && eqb (ch
 abbrev pub neighbourRefOf : List Corner → List Corner → Corner → ℕ → ℕ
 neighbourRefOf ps ns a d = elim (linkStepOf ps a d) [ zero ↦ 0 | suc k ↦ refOf ns (stepped d a) ]
 
--- the record of node a, in a walk with corners ps and nodes ns: the parent; the children; the neighbours east, north, west, south;
--- their links' steps; the visits; the step that first needed the node; 1 + the least k with pk here
+-- what the record of node a holds, in a walk with corners ps and nodes ns, and its words
+abbrev pub fieldsOf : List Corner → List Corner → Corner → Fields
+fieldsOf ps ns a = record {
+  parent = cond (isRoot a) 0 (refOf ns (parentOf a));
+  child = childRefOf ns a;
+  neighbour = neighbourRefOf ps ns a;
+  link = linkStepOf ps a;
+  visits = count (same a) ps;
+  need = needOf ps a;
+  first = find (same a) ps;
+}
+
 abbrev pub recordOf : List Corner → List Corner → Corner → List ℕ
-recordOf ps ns a =
-    cond (isRoot a) 0 (refOf ns (parentOf a))
-    ∷ childRefOf ns a 1 ∷ childRefOf ns a 2 ∷ childRefOf ns a 3
-    ∷ childRefOf ns a 4 ∷ childRefOf ns a 5 ∷ childRefOf ns a 6
-    ∷ childRefOf ns a 7 ∷ childRefOf ns a 8 ∷ childRefOf ns a 9
-    ∷ neighbourRefOf ps ns a 0 ∷ neighbourRefOf ps ns a 1 ∷ neighbourRefOf ps ns a 2 ∷ neighbourRefOf ps ns a 3
-    ∷ linkStepOf ps a 0 ∷ linkStepOf ps a 1 ∷ linkStepOf ps a 2 ∷ linkStepOf ps a 3
-    ∷ count (same a) ps
-    ∷ needOf ps a
-    ∷ find (same a) ps
-    ∷ []
+recordOf ps ns a = wordsOf (fieldsOf ps ns a)
 
 abbrev pub recordsOf : List Corner → List Corner → List Corner → List ℕ
 recordsOf ps ns [] = []

@@ -4,14 +4,14 @@ use mathlib.Core.Bool.{true, cond}
 use mathlib.Core.List.{List, [], _∷_, _++_, append-nil, append-assoc, List·Memᴰ, List·Memᴰ·head, List·Memᴰ·tail, Memᴰ·append-right, Memᴰ·cast}
 use mathlib.Core.Logic.{_⊎_, inl, inr, ⊎-elim}
 use mathlib.Core.Path.{_≡_, refl, ap, sym, _∙_, subst}
-use Prim.Native.Nat.{ℕ, suc, _+_, _-_, _*_, _<_, _≤_}
+use Prim.Native.Nat.{ℕ, suc, _+_, _-_, _<_, _≤_}
 use native.Mathlib.Omega.{arith}
 use lib.Dec.{eqb}
 use lib.ListN.{length, set, replicate, replicate-append-replicate}
 use Rattle.grid.specs.declared.Corner.{Corner}
 use Rattle.grid.specs.Grid.{origin, same, stepped, cornersFrom, endFrom}
 use Rattle.grid.specs.Tree.{parentOf, pathOf, childWord}
-use Rattle.layout.specs.Table.{childRefOf, tableOf}
+use Rattle.layout.specs.Table.{width, wordAt, visitsWord, firstWord, childRefOf, tableOf}
 use Rattle.lists.specs.Lists.{count, tally}
 use Rattle.tree.specs.Nodes.{nodesOf, links, linkStepOf}
 use Rattle.tree_laws.specs.State.{stateOf}
@@ -76,7 +76,7 @@ child-old ns x l q a w h f m g =
     ∙ child-other ns x a w g
 
 -- before the first step: the root's record, with one visit
-pub start-table : (words : ℕ) → 21 ≤ words → set (set (replicate words 0) (0 * 21 + 18) (0 + 1)) (0 * 21 + 20) (0 + 1) ≡ tableOf words origin []
+pub start-table : (words : ℕ) → width ≤ words → set (set (replicate words 0) (wordAt 0 visitsWord) (0 + 1)) (wordAt 0 firstWord) (0 + 1) ≡ tableOf words origin []
 start-table words h =
-    let e : words ≡ 21 + (words - 21) = omega arith in
-    ap (λ (t : List ℕ). set (set t 18 1) 20 1) (ap (λ (n : ℕ). replicate n 0) e ∙ sym (replicate-append-replicate 21 (words - 21) 0))
+    let e : words ≡ width + (words - width) = omega arith in
+    ap (λ (t : List ℕ). set (set t visitsWord 1) firstWord 1) (ap (λ (n : ℕ). replicate n 0) e ∙ sym (replicate-append-replicate width (words - width) 0))

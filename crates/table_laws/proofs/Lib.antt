@@ -1,4 +1,3 @@
-pub mod SegLaws
 pub mod RowLaws
 pub mod StoreLaws
 pub mod StateLaws

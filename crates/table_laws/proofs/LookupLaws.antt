@@ -4,7 +4,7 @@ use mathlib.Core.Bool.{Bool, true, false, true≢false}
 use mathlib.Core.List.{List, [], _∷_, _++_, append-nil, append-assoc, List·Memᴰ, Memᴰ·cast}
 use mathlib.Core.Logic.{_⊎_, ⊎-elim}
 use mathlib.Core.Path.{_≡_, refl, ap, ap₂, sym, _∙_, subst}
-use Prim.Native.Nat.{ℕ, zero, suc, _+_, _-_, _*_, _/_, _<_, _≤_}
+use Prim.Native.Nat.{ℕ, zero, suc, _+_, _-_, _*_, _<_, _≤_}
 use native.Mathlib.Omega.{arith}
 use borrow.Author.Tests.{ltb-true, ltb-false}
 use lib.Dec.{ltb}
@@ -14,6 +14,7 @@ use Rattle.grid.specs.Grid.{origin, same, stepped}
 use Rattle.grid.specs.Tree.{parentOf, isRoot, sizeOf, pathOf, childWord}
 use Rattle.lists.specs.Lists.{add, gather}
 use Rattle.tree.specs.Nodes.{refOf}
+use Rattle.layout.specs.Table.{width, recordsIn, wordAt, parentWord, neighbourWord, needWord}
 use Rattle.tree_laws.specs.State.{State, reached, withNode, withLink, grown, raised, Alike, Sound, recordBy, rowsOf, tableBy, Made}
 use Rattle.grid.proofs.CornerLaws.{same-refl, same-sound}
 use Rattle.grid.proofs.ParentLaws.{parentOf-stepped}
@@ -29,14 +30,14 @@ use Rattle.table_laws.proofs.RowLaws.{length-rows}
 use Rattle.table_laws.proofs.StateLaws.{grown-known, grown-new, by-mem, add-new, reach-known, reach-root, reach-over, sound-reached, room-old}
 use Rattle.table_laws.proofs.StoreLaws.{wide, far, alike-table, node-table, link-table, read-parent, read-child, read-neighbour, child-word-small}
 
-pub length-table : (words : ℕ) (S : State) → 21 * length (S .nodes) ≤ words → length (tableBy words S) ≡ words
+pub length-table : (words : ℕ) (S : State) → width * length (S .nodes) ≤ words → length (tableBy words S) ≡ words
 length-table words S h =
     let rs = rowsOf (recordBy S) (S .nodes) in
     let z : ℕ = 0 in
     omega (arith, length-append rs (replicate (words - length rs) z), length-replicate (words - length rs) z, length-rows (recordBy S) (wide S) (S .nodes))
 
 -- `child`: the node e under its parent, of ref 1 + u
-pub child-made : (words : ℕ) (S : State) → Sound S → (e : Corner) (s u : ℕ) → isRoot e ≡ false → List·Memᴰ (parentOf e) (S .nodes) → refOf (S .nodes) (parentOf e) ≡ suc u → 21 * length (S .nodes) ≤ words
+pub child-made : (words : ℕ) (S : State) → Sound S → (e : Corner) (s u : ℕ) → isRoot e ≡ false → List·Memᴰ (parentOf e) (S .nodes) → refOf (S .nodes) (parentOf e) ≡ suc u → width * length (S .nodes) ≤ words
     → (o : Out) → childIn (tableBy words S) (length (S .nodes)) u (childWord e) s ≡ o → Made words (grown S e s) e (o .table) (o .at) (o .nodes)
 child-made words S sound e s u deep m r room o q =
     subst (λ x. Made words (grown S e s) e (x .table) (x .at) (x .nodes)) q
@@ -45,7 +46,7 @@ child-made words S sound e s u deep m r room o q =
     o₁ : Out
     o₁ = childIn (tableBy words S) (length (S .nodes)) u (childWord e) s
 
-    word : getD (tableBy words S) (u * 21 + childWord e) 0 ≡ refOf (S .nodes) e
+    word : getD (tableBy words S) (wordAt u (childWord e)) 0 ≡ refOf (S .nodes) e
     word = let w = child-word-small e in read-child words S (parentOf e) u r (childWord e) (w .0) (w .1) ∙ child-ref (S .nodes) e deep
 
     known : List·Memᴰ e (S .nodes) → Made words (grown S e s) e (o₁ .table) (o₁ .at) (o₁ .nodes)
@@ -58,7 +59,7 @@ child-made words S sound e s u deep m r room o q =
             subst (λ y. Made words S e (y .table) (y .at) (y .nodes)) (sym x) (record { fits = λ f. (refl, sym p, refl); full = λ f. absurd (omega arith) })
 
     new : (List·Memᴰ e (S .nodes) → ⊥) → Made words (grown S e s) e (o₁ .table) (o₁ .at) (o₁ .nodes)
-    new f = rw (grown-new S e s f) (go (ltb (length (S .nodes)) (length (tableBy words S) / 21)) refl)
+    new f = rw (grown-new S e s f) (go (ltb (length (S .nodes)) (recordsIn (length (tableBy words S)))) refl)
       where
         n : ℕ
         n = length (S .nodes)
@@ -66,16 +67,16 @@ child-made words S sound e s u deep m r room o q =
         more : length (S .nodes ++ (e ∷ [])) ≡ suc (length (S .nodes))
         more = length-append (S .nodes) (e ∷ []) ∙ (omega arith)
 
-        go : (b : Bool) → ltb (length (S .nodes)) (length (tableBy words S) / 21) ≡ b → Made words (withNode S e s) e (o₁ .table) (o₁ .at) (o₁ .nodes)
+        go : (b : Bool) → ltb (length (S .nodes)) (recordsIn (length (tableBy words S))) ≡ b → Made words (withNode S e s) e (o₁ .table) (o₁ .at) (o₁ .nodes)
         go true p =
-            let l = ltb-true (length (S .nodes)) (length (tableBy words S) / 21) p in
-            let x : o₁ ≡ out (set (set (set (tableBy words S) (u * 21 + childWord e) (length (S .nodes) + 1)) (length (S .nodes) * 21 + 0) (u + 1)) (length (S .nodes) * 21 + 19) s) (length (S .nodes) + 1) (length (S .nodes) + 1) = rw (word ∙ ref-none (S .nodes) e f, p, childIn) in
+            let l = ltb-true (length (S .nodes)) (recordsIn (length (tableBy words S))) p in
+            let x : o₁ ≡ out (set (set (set (tableBy words S) (wordAt u (childWord e)) (length (S .nodes) + 1)) (wordAt (length (S .nodes)) parentWord) (u + 1)) (wordAt (length (S .nodes)) needWord) s) (length (S .nodes) + 1) (length (S .nodes) + 1) = rw (word ∙ ref-none (S .nodes) e f, p, childIn) in
             subst (λ y. Made words (withNode S e s) e (y .table) (y .at) (y .nodes)) (sym x) (record {
               fits = λ g. (node-table S sound e s deep m f words u r (omega (arith, length-table words S room)), sym (ref-snoc (S .nodes) e f ∙ (omega arith)), sym (more ∙ (omega arith)));
               full = λ g. absurd (omega (arith, length-table words S room, more));
             })
         go false p =
-            let l = ltb-false (length (S .nodes)) (length (tableBy words S) / 21) p in
+            let l = ltb-false (length (S .nodes)) (recordsIn (length (tableBy words S))) p in
             let x : o₁ ≡ out (tableBy words S) 0 (length (S .nodes)) = rw (word ∙ ref-none (S .nodes) e f, p, childIn) in
             subst (λ y. Made words (withNode S e s) e (y .table) (y .at) (y .nodes)) (sym x) (record { fits = λ g. absurd (omega (arith, length-table words S room, more)); full = λ g. refl })
 
@@ -128,12 +129,12 @@ raised-is S sound s a e m r = go (isRoot a) refl (same (parentOf a) (parentOf e)
           more = g .1;
         })
 
-module _ (words : ℕ) (S : State) (sound : Sound S) (s d : ℕ) (pos : 0 < s) (small : d < 4) (room : 21 * length (S .nodes) ≤ words) where
+module _ (words : ℕ) (S : State) (sound : Sound S) (s d : ℕ) (pos : 0 < s) (small : d < 4) (room : width * length (S .nodes) ≤ words) where
   -- what a lookup from a gives
   abbrev pub Looked : Corner → Out → Type 0
   Looked a o = Made words (reached S s a (stepped d a)) (stepped d a) (o .table) (o .at) (o .nodes)
 
-  parent-word : (a : Corner) (u : ℕ) → refOf (S .nodes) a ≡ suc u → isRoot a ≡ false → getD (tableBy words S) (u * 21 + 0) 0 ≡ refOf (S .nodes) (parentOf a)
+  parent-word : (a : Corner) (u : ℕ) → refOf (S .nodes) a ≡ suc u → isRoot a ≡ false → getD (tableBy words S) (wordAt u parentWord) 0 ≡ refOf (S .nodes) (parentOf a)
   parent-word a u h r = read-parent words S a u h ∙ rw r
 
   pub above-made : (call : ℕ → Corner → Out) (a : Corner) (u : ℕ) → refOf (S .nodes) a ≡ suc u → isRoot (stepped d a) ≡ false
@@ -160,18 +161,18 @@ module _ (words : ℕ) (S : State) (sound : Sound S) (s d : ℕ) (pos : 0 < s) (
           let p : parentOf (stepped d a) ≡ a = ap (λ (c : Corner). parentOf (stepped d c)) z ∙ root-child d ∙ sym z in
           subst (λ t. is t o₁) (sym y) (subst (λ t. is S t) (sym x) (stay (u + 1) (sym (ap (refOf (S .nodes)) p ∙ h ∙ (omega arith)))))
       go false r true k =
-          let x : o₁ ≡ out (tableBy words S) (getD (tableBy words S) (u * 21 + 0) 0) (length (S .nodes)) = rw (r, k, aboveIn) in
+          let x : o₁ ≡ out (tableBy words S) (getD (tableBy words S) (wordAt u parentWord) 0) (length (S .nodes)) = rw (r, k, aboveIn) in
           let y : raised S s a (stepped d a) ≡ S = rw (r, k, raised) in
-          subst (λ t. is t o₁) (sym y) (subst (λ t. is S t) (sym x) (stay (getD (tableBy words S) (u * 21 + 0) 0) (parent-word a u h r ∙ ap (refOf (S .nodes)) (same-sound (parentOf a) (parentOf (stepped d a)) k))))
+          subst (λ t. is t o₁) (sym y) (subst (λ t. is S t) (sym x) (stay (getD (tableBy words S) (wordAt u parentWord) 0) (parent-word a u h r ∙ ap (refOf (S .nodes)) (same-sound (parentOf a) (parentOf (stepped d a)) k))))
       go false r false k =
-          let x : o₁ ≡ call (getD (tableBy words S) (u * 21 + 0) 0 - 1) (parentOf a) = rw (r, k, aboveIn) in
+          let x : o₁ ≡ call (getD (tableBy words S) (wordAt u parentWord) 0 - 1) (parentOf a) = rw (r, k, aboveIn) in
           let y : raised S s a (stepped d a) ≡ reached S s (parentOf a) (parentOf (stepped d a)) = rw (r, k, raised) in
           let m = sound .good .closed a (mem-of-ref (S .nodes) a u h) r in
           let p : parentOf (stepped d a) ≡ stepped d (parentOf a) = ⊎-elim (λ e. absurd (true≢false (sym (same-refl (parentOf a)) ∙ ap (same (parentOf a)) (sym e) ∙ k))) (λ e. e) (parentOf-stepped d a) in
-          let w : refOf (S .nodes) (parentOf a) ≡ suc (getD (tableBy words S) (u * 21 + 0) 0 - 1) = omega (arith, parent-word a u h r, ref-pos (S .nodes) (parentOf a) m) in
+          let w : refOf (S .nodes) (parentOf a) ≡ suc (getD (tableBy words S) (wordAt u parentWord) 0 - 1) = omega (arith, parent-word a u h r, ref-pos (S .nodes) (parentOf a) m) in
           subst (λ t. is t o₁) (sym y)
           (subst (λ t. is (reached S s (parentOf a) (parentOf (stepped d a))) t) (sym x)
-          (subst (λ c. Made words (reached S s (parentOf a) c) c (call (getD (tableBy words S) (u * 21 + 0) 0 - 1) (parentOf a) .table) (call (getD (tableBy words S) (u * 21 + 0) 0 - 1) (parentOf a) .at) (call (getD (tableBy words S) (u * 21 + 0) 0 - 1) (parentOf a) .nodes)) (sym p) (ih (getD (tableBy words S) (u * 21 + 0) 0 - 1) r w)))
+          (subst (λ c. Made words (reached S s (parentOf a) c) c (call (getD (tableBy words S) (wordAt u parentWord) 0 - 1) (parentOf a) .table) (call (getD (tableBy words S) (wordAt u parentWord) 0 - 1) (parentOf a) .at) (call (getD (tableBy words S) (wordAt u parentWord) 0 - 1) (parentOf a) .nodes)) (sym p) (ih (getD (tableBy words S) (wordAt u parentWord) 0 - 1) r w)))
 
   pub root-parent : (a : Corner) → List·Memᴰ a (S .nodes) → isRoot a ≡ true → List·Memᴰ (parentOf (stepped d a)) (S .nodes)
   root-parent a m r = Memᴰ·cast (ap (λ (c : Corner). parentOf (stepped d c)) (root-is a r) ∙ root-child d ∙ sym (root-is a r)) m
@@ -179,7 +180,7 @@ module _ (words : ℕ) (S : State) (sound : Sound S) (s d : ℕ) (pos : 0 < s) (
   -- the last store: the link, after the child
   pub join-made : (a : Corner) (u : ℕ) → refOf (S .nodes) a ≡ suc u → isRoot (stepped d a) ≡ false → S .step a (stepped d a) ≡ 0
       → (v : Out) → Made words (grown (raised S s a (stepped d a)) (stepped d a) s) (stepped d a) (v .table) (v .at) (v .nodes) → Looked a (joinIn v u d s)
-  join-made a u h deep z v made = fit (ltb words (21 * length (G .nodes))) refl
+  join-made a u h deep z v made = fit (ltb words (width * length (G .nodes))) refl
     where
       e : Corner
       e = stepped d a
@@ -218,16 +219,16 @@ module _ (words : ℕ) (S : State) (sound : Sound S) (s d : ℕ) (pos : 0 < s) (
           ∙ ref-append (S .nodes) (up .rest ++ g .0) a m
           ∙ h
 
-      fit : (b : Bool) → ltb words (21 * length (G .nodes)) ≡ b → Looked a (joinIn v u d s)
+      fit : (b : Bool) → ltb words (width * length (G .nodes)) ≡ b → Looked a (joinIn v u d s)
       fit true p =
-          let l = ltb-true words (21 * length (G .nodes)) p in
+          let l = ltb-true words (width * length (G .nodes)) p in
           let q : v .at ≡ 0 = made .full l in
           let x : joinIn v u d s ≡ v = join-none v u d s q in
           subst (λ y. Looked a y) (sym x) (record { fits = λ f. absurd (omega (arith, same-nodes)); full = λ f. q })
       fit false p = node (refOf (G .nodes) e) refl
         where
-          l : 21 * length (G .nodes) ≤ words
-          l = ltb-false words (21 * length (G .nodes)) p
+          l : width * length (G .nodes) ≤ words
+          l = ltb-false words (width * length (G .nodes)) p
 
           node : (n : ℕ) → refOf (G .nodes) e ≡ n → Looked a (joinIn v u d s)
           node zero q = absurd (omega (arith, ref-pos (G .nodes) e there))
@@ -248,7 +249,7 @@ module _ (words : ℕ) (S : State) (sound : Sound S) (s d : ℕ) (pos : 0 < s) (
   -- the last two stores: the child, and the link
   pub finish-made : (a : Corner) (u : ℕ) → refOf (S .nodes) a ≡ suc u → isRoot (stepped d a) ≡ false → S .step a (stepped d a) ≡ 0
       → (o : Out) → Made words (raised S s a (stepped d a)) (parentOf (stepped d a)) (o .table) (o .at) (o .nodes) → Looked a (finishIn o u (stepped d a) d s)
-  finish-made a u h deep z o made = go (ltb words (21 * length (T .nodes))) refl
+  finish-made a u h deep z o made = go (ltb words (width * length (T .nodes))) refl
     where
       e : Corner
       e = stepped d a
@@ -277,16 +278,16 @@ module _ (words : ℕ) (S : State) (sound : Sound S) (s d : ℕ) (pos : 0 < s) (
       more : length (T .nodes) ≤ length (G .nodes)
       more = omega (arith, room-old (T .nodes) (e ∷ []), ap length all)
 
-      go : (b : Bool) → ltb words (21 * length (T .nodes)) ≡ b → Looked a (finishIn o u e d s)
+      go : (b : Bool) → ltb words (width * length (T .nodes)) ≡ b → Looked a (finishIn o u e d s)
       go true p =
-          let l = ltb-true words (21 * length (T .nodes)) p in
+          let l = ltb-true words (width * length (T .nodes)) p in
           let q : o .at ≡ 0 = made .full l in
           let x : finishIn o u e d s ≡ o = finish-none o u e d s q in
           subst (λ y. Looked a y) (sym x) (record { fits = λ f. absurd (omega (arith, same-nodes, more)); full = λ f. q })
       go false p = node (refOf (T .nodes) (parentOf e)) refl
         where
-          l : 21 * length (T .nodes) ≤ words
-          l = ltb-false words (21 * length (T .nodes)) p
+          l : width * length (T .nodes) ≤ words
+          l = ltb-false words (width * length (T .nodes)) p
 
           node : (n : ℕ) → refOf (T .nodes) (parentOf e) ≡ n → Looked a (finishIn o u e d s)
           node zero q = absurd (omega (arith, ref-pos (T .nodes) (parentOf e) (up .has)))
@@ -307,7 +308,7 @@ module _ (words : ℕ) (S : State) (sound : Sound S) (s d : ℕ) (pos : 0 < s) (
       o : Out
       o = neighbourIn (suc f) (tableBy words S) (length (S .nodes)) u a d s
 
-      word : getD (tableBy words S) (u * 21 + (10 + d)) 0 ≡ far (S .step a e) (refOf (S .nodes) e)
+      word : getD (tableBy words S) (wordAt u (neighbourWord d)) 0 ≡ far (S .step a e) (refOf (S .nodes) e)
       word = read-neighbour words S a u r d small
 
       go : (n : ℕ) → S .step a e ≡ n → (b : Bool) → isRoot e ≡ b

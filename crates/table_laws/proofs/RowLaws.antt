@@ -10,12 +10,12 @@ use lib.ListN.{length, length-append, length-set, length-replicate, length-drop,
 use lib.Seq.{set-append-left, getD-append-add, sets}
 use Rattle.grid.specs.declared.Corner.{Corner}
 use Rattle.grid.specs.Grid.{same, cornersFrom}
-use Rattle.layout.specs.Table.{recordOf, recordsOf, tableOf}
+use Rattle.layout.specs.Table.{width, wordAt, recordOf, recordsOf, tableOf}
 use Rattle.lists.specs.Lists.{find, place, Distinct}
 use Rattle.tree.specs.Nodes.{refOf, nodesOf}
 use Rattle.tree_laws.specs.State.{stateOf, recordBy, rowsOf, filled, tableBy}
 use Rattle.grid.proofs.CornerLaws.{same-refl, same-sound}
-use Rattle.table_laws.proofs.SegLaws.{set-append-add}
+use Rattle.layout.proofs.WordLaws.{set-append-add}
 
 -- the table of a walk is that of its state
 records-rows : (ps l : List Corner) → recordsOf ps (nodesOf ps) l ≡ rowsOf (recordBy (stateOf ps)) l
@@ -73,8 +73,8 @@ distinct-right : (l r : List Corner) (a : Corner) → Distinct (l ++ (a ∷ r)) 
 distinct-right [] r a d m = d .0 m
 distinct-right (x ∷ l) r a d m = distinct-right l r a (d .1) m
 
-module _ (R : Corner → List ℕ) (wide : (a : Corner) → length (R a) ≡ 21) where
-  pub length-rows : (l : List Corner) → length (rowsOf R l) ≡ 21 * length l
+module _ (R : Corner → List ℕ) (wide : (a : Corner) → length (R a) ≡ width) where
+  pub length-rows : (l : List Corner) → length (rowsOf R l) ≡ width * length l
   length-rows [] = refl
   length-rows (a ∷ l) = omega (arith, length-append (R a) (rowsOf R l), wide a, length-rows l)
 
@@ -82,11 +82,11 @@ module _ (R : Corner → List ℕ) (wide : (a : Corner) → length (R a) ≡ 21)
   rows-split ns l r a e = ap (rowsOf R) e ∙ rows-append R l (a ∷ r)
 
   -- word w of the node with ref 1 + u
-  pub row-read : (words : ℕ) (ns : List Corner) (a : Corner) (u w : ℕ) → refOf ns a ≡ suc u → w < 21 → getD (filled words (rowsOf R ns)) (u * 21 + w) 0 ≡ getD (R a) w 0
+  pub row-read : (words : ℕ) (ns : List Corner) (a : Corner) (u w : ℕ) → refOf ns a ≡ suc u → w < width → getD (filled words (rowsOf R ns)) (wordAt u w) 0 ≡ getD (R a) w 0
   row-read words ns a u w e h =
       let k = ref-split ns a u e in
       let z : List ℕ = replicate (words - length (rowsOf R ns)) 0 in
-      let i : u * 21 + w ≡ length (rowsOf R (k .0)) + w = omega (arith, length-rows (k .0), k .3) in
+      let i : wordAt u w ≡ length (rowsOf R (k .0)) + w = omega (arith, length-rows (k .0), k .3) in
       ap (λ (j : ℕ). getD (filled words (rowsOf R ns)) j 0) i
       ∙ ap (λ (l : List ℕ). getD (l ++ z) (length (rowsOf R (k .0)) + w) 0) (rows-split ns (k .0) (k .1) a (k .2))
       ∙ ap (λ (l : List ℕ). getD l (length (rowsOf R (k .0)) + w) 0) (append-assoc (rowsOf R (k .0)) (R a ++ rowsOf R (k .1)) z ∙ ap (λ (l : List ℕ). rowsOf R (k .0) ++ l) (append-assoc (R a) (rowsOf R (k .1)) z))
@@ -103,8 +103,8 @@ module _ (R : Corner → List ℕ) (wide : (a : Corner) → length (R a) ≡ 21)
       (ap₂ (λ (x y : List ℕ). x ++ y) (upd-at R a row) (rows-cong (upd R a row) R r (λ b m. upd-off R a row b (λ p. distinct-right l r a (subst (λ x. Distinct x) e d) (Memᴰ·cast (sym p) m)))))
 
   -- word w of the node with ref 1 + u is set
-  pub row-set : (words : ℕ) (ns : List Corner) (a : Corner) (u w v : ℕ) → Distinct ns → refOf ns a ≡ suc u → w < 21
-      → set (filled words (rowsOf R ns)) (u * 21 + w) v ≡ filled words (rowsOf (upd R a (set (R a) w v)) ns)
+  pub row-set : (words : ℕ) (ns : List Corner) (a : Corner) (u w v : ℕ) → Distinct ns → refOf ns a ≡ suc u → w < width
+      → set (filled words (rowsOf R ns)) (wordAt u w) v ≡ filled words (rowsOf (upd R a (set (R a) w v)) ns)
   row-set words ns a u w v d e h =
       let k = ref-split ns a u e in
       let l = rowsOf R (k .0) in
@@ -112,7 +112,7 @@ module _ (R : Corner → List ℕ) (wide : (a : Corner) → length (R a) ≡ 21)
       let z : List ℕ = replicate (words - length (rowsOf R ns)) 0 in
       let s = rows-split ns (k .0) (k .1) a (k .2) in
       let q = upd-rows ns (k .0) (k .1) a (set (R a) w v) d (k .2) (k .4) in
-      let i : u * 21 + w ≡ length l + w = omega (arith, length-rows (k .0), k .3) in
+      let i : wordAt u w ≡ length l + w = omega (arith, length-rows (k .0), k .3) in
       let n : length (rowsOf (upd R a (set (R a) w v)) ns) ≡ length (rowsOf R ns) = ap length q ∙ length-append l (set (R a) w v ++ r) ∙ ap (λ (m : ℕ). length l + m) (length-append (set (R a) w v) r ∙ ap (λ (m : ℕ). m + length r) (length-set (R a) w v) ∙ sym (length-append (R a) r)) ∙ sym (length-append l (R a ++ r)) ∙ ap length (sym s) in
       ap (λ (j : ℕ). set (rowsOf R ns ++ z) j v) i
       ∙ ap (λ (x : List ℕ). set x (length l + w) v) (ap (λ (x : List ℕ). x ++ z) s ∙ append-assoc l (R a ++ r) z ∙ ap (λ (x : List ℕ). l ++ x) (append-assoc (R a) r z))
@@ -123,24 +123,24 @@ module _ (R : Corner → List ℕ) (wide : (a : Corner) → length (R a) ≡ 21)
       ∙ ap (λ (m : ℕ). rowsOf (upd R a (set (R a) w v)) ns ++ replicate (words - m) 0) (sym n)
 
   -- a row of zeros more is in the table already
-  pub row-more : (words : ℕ) (ns : List Corner) (e : Corner) → (List·Memᴰ e ns → ⊥) → 21 * suc (length ns) ≤ words
-      → filled words (rowsOf R ns) ≡ filled words (rowsOf (upd R e (replicate 21 0)) (ns ++ (e ∷ [])))
+  pub row-more : (words : ℕ) (ns : List Corner) (e : Corner) → (List·Memᴰ e ns → ⊥) → width * suc (length ns) ≤ words
+      → filled words (rowsOf R ns) ≡ filled words (rowsOf (upd R e (replicate width 0)) (ns ++ (e ∷ [])))
   row-more words ns e f h =
       let rs = rowsOf R ns in
-      let z : List ℕ = replicate 21 0 in
+      let z : List ℕ = replicate width 0 in
       let q : rowsOf (upd R e z) (ns ++ (e ∷ [])) ≡ rs ++ z = rows-append (upd R e z) ns (e ∷ []) ∙ ap₂ (λ (x y : List ℕ). x ++ (y ++ [])) (rows-cong (upd R e z) R ns (λ b m. upd-off R e z b (λ p. f (Memᴰ·cast (sym p) m)))) (upd-at R e z) in
-      let n : length (rs ++ z) ≡ length rs + 21 = length-append rs z in
-      let t : words - length rs ≡ 21 + (words - (length rs + 21)) = omega (arith, length-rows ns) in
+      let n : length (rs ++ z) ≡ length rs + width = length-append rs z in
+      let t : words - length rs ≡ width + (words - (length rs + width)) = omega (arith, length-rows ns) in
       ap (λ (m : ℕ). rs ++ replicate m 0) t
-      ∙ ap (λ (x : List ℕ). rs ++ x) (sym (replicate-append-replicate 21 (words - (length rs + 21)) 0))
-      ∙ sym (append-assoc rs z (replicate (words - (length rs + 21)) 0))
+      ∙ ap (λ (x : List ℕ). rs ++ x) (sym (replicate-append-replicate width (words - (length rs + width)) 0))
+      ∙ sym (append-assoc rs z (replicate (words - (length rs + width)) 0))
       ∙ ap (λ (m : ℕ). (rs ++ z) ++ replicate (words - m) 0) (sym n)
       ∙ ap (filled words) (sym q)
 
-pub wide-upd : (R : Corner → List ℕ) → ((a : Corner) → length (R a) ≡ 21) → (b : Corner) (row : List ℕ) → length row ≡ 21 → (a : Corner) → length (upd R b row a) ≡ 21
+pub wide-upd : (R : Corner → List ℕ) → ((a : Corner) → length (R a) ≡ width) → (b : Corner) (row : List ℕ) → length row ≡ width → (a : Corner) → length (upd R b row a) ≡ width
 wide-upd R wide b row h a = go (same a b)
   where
-    go : (t : Bool) → length (cond t row (R a)) ≡ 21
+    go : (t : Bool) → length (cond t row (R a)) ≡ width
     go true = h
     go false = wide a
 
@@ -152,8 +152,8 @@ upd-upd R a row new x = go (same x a)
     go true = refl
     go false = refl
 
-pub row-set-again : (R : Corner → List ℕ) → ((a : Corner) → length (R a) ≡ 21) → (words : ℕ) (ns : List Corner) (a : Corner) (row : List ℕ) (u w v : ℕ) → length row ≡ 21 → Distinct ns → refOf ns a ≡ suc u → w < 21
-    → set (filled words (rowsOf (upd R a row) ns)) (u * 21 + w) v ≡ filled words (rowsOf (upd R a (set row w v)) ns)
+pub row-set-again : (R : Corner → List ℕ) → ((a : Corner) → length (R a) ≡ width) → (words : ℕ) (ns : List Corner) (a : Corner) (row : List ℕ) (u w v : ℕ) → length row ≡ width → Distinct ns → refOf ns a ≡ suc u → w < width
+    → set (filled words (rowsOf (upd R a row) ns)) (wordAt u w) v ≡ filled words (rowsOf (upd R a (set row w v)) ns)
 row-set-again R wide words ns a row u w v k d e h =
     row-set (upd R a row) (wide-upd R wide a row k) words ns a u w v d e h
     ∙ ap (filled words) (rows-cong (upd (upd R a row) a (set (upd R a row a) w v)) (upd R a (set row w v)) ns (λ x m. upd-upd R a row (set (upd R a row a) w v) x ∙ ap (λ (l : List ℕ). upd R a (set l w v) x) (upd-at R a row)))
@@ -171,32 +171,32 @@ cleared-next (suc f) (x ∷ row) h = ap (λ (l : List ℕ). 0 ∷ l) (cleared-ne
 pub cleared-length : (f : ℕ) (row : List ℕ) → f ≤ length row → length (cleared f row) ≡ length row
 cleared-length f row h = omega (arith, length-append (replicate f 0) (drop f row), let z : ℕ = 0 in length-replicate f z, length-drop f row)
 
-pub cleared-all : (row : List ℕ) → length row ≡ 21 → cleared 21 row ≡ replicate 21 0
-cleared-all row h = ap (λ (l : List ℕ). replicate 21 0 ++ l) (drop-of-length-le row {i = 21} (omega arith)) ∙ append-nil (replicate 21 0)
+pub cleared-all : (row : List ℕ) → length row ≡ width → cleared width row ≡ replicate width 0
+cleared-all row h = ap (λ (l : List ℕ). replicate width 0 ++ l) (drop-of-length-le row {i = width} (omega arith)) ∙ append-nil (replicate width 0)
 
--- a whole row cleared by 21 stores
-sets-row : (R : Corner → List ℕ) → ((a : Corner) → length (R a) ≡ 21) → (words : ℕ) (ns : List Corner) (a : Corner) (u : ℕ) → Distinct ns → refOf ns a ≡ suc u → (m f : ℕ) → f + m ≤ 21
-    → sets (filled words (rowsOf (upd R a (cleared f (R a))) ns)) (u * 21 + f) (replicate m 0) ≡ filled words (rowsOf (upd R a (cleared (f + m) (R a))) ns)
+-- a whole row cleared word by word
+sets-row : (R : Corner → List ℕ) → ((a : Corner) → length (R a) ≡ width) → (words : ℕ) (ns : List Corner) (a : Corner) (u : ℕ) → Distinct ns → refOf ns a ≡ suc u → (m f : ℕ) → f + m ≤ width
+    → sets (filled words (rowsOf (upd R a (cleared f (R a))) ns)) (wordAt u f) (replicate m 0) ≡ filled words (rowsOf (upd R a (cleared (f + m) (R a))) ns)
 sets-row R wide words ns a u d e zero f h = let z : f ≡ f + 0 = omega arith in ap (λ (k : ℕ). filled words (rowsOf (upd R a (cleared k (R a))) ns)) z
 sets-row R wide words ns a u d e (suc m) f h =
-    let i : suc (u * 21 + f) ≡ u * 21 + suc f = omega arith in
+    let i : suc (wordAt u f) ≡ wordAt u (suc f) = omega arith in
     let j : suc f + m ≡ f + suc m = omega arith in
     let z : List ℕ = replicate m 0 in
-    ap (λ (t : List ℕ). sets t (suc (u * 21 + f)) z)
+    ap (λ (t : List ℕ). sets t (suc (wordAt u f)) z)
     (row-set-again R wide words ns a (cleared f (R a)) u f 0 (cleared-length f (R a) (omega (arith, wide a)) ∙ wide a) d e (omega arith)
     ∙ ap (λ (l : List ℕ). filled words (rowsOf (upd R a l) ns)) (cleared-next f (R a) (omega (arith, wide a))))
     ∙ ap (λ (k : ℕ). sets (filled words (rowsOf (upd R a (cleared (suc f) (R a))) ns)) k z) i
     ∙ sets-row R wide words ns a u d e m (suc f) (omega arith)
     ∙ ap (λ (k : ℕ). filled words (rowsOf (upd R a (cleared k (R a))) ns)) j
 
-pub row-clear : (R : Corner → List ℕ) → ((a : Corner) → length (R a) ≡ 21) → (words : ℕ) (ns : List Corner) (a : Corner) (u : ℕ) → Distinct ns → refOf ns a ≡ suc u
-    → sets (filled words (rowsOf R ns)) (u * 21) (replicate 21 0) ≡ filled words (rowsOf (upd R a (replicate 21 0)) ns)
+pub row-clear : (R : Corner → List ℕ) → ((a : Corner) → length (R a) ≡ width) → (words : ℕ) (ns : List Corner) (a : Corner) (u : ℕ) → Distinct ns → refOf ns a ≡ suc u
+    → sets (filled words (rowsOf R ns)) (u * width) (replicate width 0) ≡ filled words (rowsOf (upd R a (replicate width 0)) ns)
 row-clear R wide words ns a u d e =
-    let z : List ℕ = replicate 21 0 in
-    let i : u * 21 ≡ u * 21 + 0 = omega arith in
+    let z : List ℕ = replicate width 0 in
+    let i : u * width ≡ wordAt u 0 = omega arith in
     ap (λ (k : ℕ). sets (filled words (rowsOf R ns)) k z) i
-    ∙ ap (λ (t : List ℕ). sets (filled words t) (u * 21 + 0) z) (rows-cong R (upd R a (R a)) ns (λ x m. same-row x))
-    ∙ sets-row R wide words ns a u d e 21 0 (omega arith)
+    ∙ ap (λ (t : List ℕ). sets (filled words t) (wordAt u 0) z) (rows-cong R (upd R a (R a)) ns (λ x m. same-row x))
+    ∙ sets-row R wide words ns a u d e width 0 (omega arith)
     ∙ ap (λ (l : List ℕ). filled words (rowsOf (upd R a l) ns)) (cleared-all (R a) (wide a))
   where
     same-row : (x : Corner) → R x ≡ upd R a (R a) x
@@ -212,19 +212,19 @@ sets-snoc zero l i = let z : i ≡ i + 0 = omega arith in ap (λ (k : ℕ). set 
 sets-snoc (suc f) l i = let z : suc i + f ≡ i + suc f = omega arith in sets-snoc f (set l i 0) (suc i) ∙ ap (λ (k : ℕ). set (sets (set l i 0) (suc i) (replicate f 0)) k 0) z
 
 -- two stores in each of two rows
-pub two-rows : (R : Corner → List ℕ) → ((a : Corner) → length (R a) ≡ 21) → (words : ℕ) (ns : List Corner) (a e : Corner) (u v w₁ x₁ w₂ x₂ w₃ x₃ w₄ x₄ : ℕ)
-    → Distinct ns → refOf ns a ≡ suc u → refOf ns e ≡ suc v → (e ≡ a → ⊥) → w₁ < 21 → w₂ < 21 → w₃ < 21 → w₄ < 21
-    → set (set (set (set (filled words (rowsOf R ns)) (u * 21 + w₁) x₁) (u * 21 + w₂) x₂) (v * 21 + w₃) x₃) (v * 21 + w₄) x₄
+pub two-rows : (R : Corner → List ℕ) → ((a : Corner) → length (R a) ≡ width) → (words : ℕ) (ns : List Corner) (a e : Corner) (u v w₁ x₁ w₂ x₂ w₃ x₃ w₄ x₄ : ℕ)
+    → Distinct ns → refOf ns a ≡ suc u → refOf ns e ≡ suc v → (e ≡ a → ⊥) → w₁ < width → w₂ < width → w₃ < width → w₄ < width
+    → set (set (set (set (filled words (rowsOf R ns)) (wordAt u w₁) x₁) (wordAt u w₂) x₂) (wordAt v w₃) x₃) (wordAt v w₄) x₄
     ≡ filled words (rowsOf (upd (upd R a (set (set (R a) w₁ x₁) w₂ x₂)) e (set (set (R e) w₃ x₃) w₄ x₄)) ns)
 two-rows R wide words ns a e u v w₁ x₁ w₂ x₂ w₃ x₃ w₄ x₄ d h k f i₁ i₂ i₃ i₄ =
-    ap (λ (t : List ℕ). set (set (set t (u * 21 + w₂) x₂) (v * 21 + w₃) x₃) (v * 21 + w₄) x₄) (row-set R wide words ns a u w₁ x₁ d h i₁)
-    ∙ ap (λ (t : List ℕ). set (set t (v * 21 + w₃) x₃) (v * 21 + w₄) x₄) (row-set-again R wide words ns a (set (R a) w₁ x₁) u w₂ x₂ (length-set (R a) w₁ x₁ ∙ wide a) d h i₂)
-    ∙ ap (λ (t : List ℕ). set t (v * 21 + w₄) x₄) (row-set Q wide-Q words ns e v w₃ x₃ d k i₃)
+    ap (λ (t : List ℕ). set (set (set t (wordAt u w₂) x₂) (wordAt v w₃) x₃) (wordAt v w₄) x₄) (row-set R wide words ns a u w₁ x₁ d h i₁)
+    ∙ ap (λ (t : List ℕ). set (set t (wordAt v w₃) x₃) (wordAt v w₄) x₄) (row-set-again R wide words ns a (set (R a) w₁ x₁) u w₂ x₂ (length-set (R a) w₁ x₁ ∙ wide a) d h i₂)
+    ∙ ap (λ (t : List ℕ). set t (wordAt v w₄) x₄) (row-set Q wide-Q words ns e v w₃ x₃ d k i₃)
     ∙ row-set-again Q wide-Q words ns e (set (Q e) w₃ x₃) v w₄ x₄ (length-set (Q e) w₃ x₃ ∙ wide-Q e) d k i₄
     ∙ ap (λ (l : List ℕ). filled words (rowsOf (upd Q e (set (set l w₃ x₃) w₄ x₄)) ns)) (upd-off R a (set (set (R a) w₁ x₁) w₂ x₂) e f)
   where
     Q : Corner → List ℕ
     Q = upd R a (set (set (R a) w₁ x₁) w₂ x₂)
 
-    wide-Q : (b : Corner) → length (Q b) ≡ 21
+    wide-Q : (b : Corner) → length (Q b) ≡ width
     wide-Q = wide-upd R wide a (set (set (R a) w₁ x₁) w₂ x₂) (length-set (set (R a) w₁ x₁) w₂ x₂ ∙ length-set (R a) w₁ x₁ ∙ wide a)

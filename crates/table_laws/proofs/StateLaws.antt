@@ -4,14 +4,14 @@ use mathlib.Core.Bool.{Bool, true, false, cond}
 use mathlib.Core.List.{List, [], _∷_, _++_, List·Memᴰ, List·Memᴰ·head, Memᴰ·cast}
 use mathlib.Core.Logic.{_⊎_, ⊎-elim}
 use mathlib.Core.Path.{_≡_, refl, ap, sym, _∙_}
-use Prim.Native.Nat.{ℕ, zero, suc, _+_, _-_, _*_, _<_, _≤_}
+use Prim.Native.Nat.{ℕ, zero, suc, _-_, _*_, _<_, _≤_}
 use native.Mathlib.Omega.{arith}
 use lib.ListN.{length, length-append, set, replicate}
 use lib.Seq.{sets}
 use Rattle.grid.specs.declared.Corner.{Corner}
 use Rattle.grid.specs.Grid.{origin, same, stepped, cornersFrom, endFrom}
 use Rattle.grid.specs.Tree.{parentOf, isRoot, pathOf, childWord}
-use Rattle.layout.specs.Table.{childRefOf, tableOf}
+use Rattle.layout.specs.Table.{width, wordAt, childRefOf, tableOf}
 use Rattle.lists.specs.Lists.{any, add, gather}
 use Rattle.tree.specs.Nodes.{links, refOf}
 use Rattle.tree_laws.specs.State.{later, linked, put, Good, State, stateOf, needed, reached, visitedBy, withNode, withLink, grown, raised, unlinking, Alike, Sound, tableBy}
@@ -175,14 +175,14 @@ module _ (S : State) (sound : Sound S) (s : ℕ) (h : Corner) where
 
 -- one round of that loop, on the table
 pub dropping-table : (S : State) → Sound S → (s : ℕ) (h : Corner) → ((x : Corner) → S .need x < s) → needed (S .nodes) (S .need) s h h ≡ s
-    → (words u n : ℕ) → refOf (gather same (S .nodes) (pathOf (parentOf h))) (parentOf h) ≡ suc u → length (gather same (S .nodes) (pathOf (parentOf h))) ≡ n → 21 * suc n ≤ words
-    → sets (set (tableBy words (unlinking S s h (S .step))) (u * 21 + childWord h) 0) (n * 21) (replicate 21 0) ≡ tableBy words (unlinking S s (parentOf h) (S .step))
+    → (words u n : ℕ) → refOf (gather same (S .nodes) (pathOf (parentOf h))) (parentOf h) ≡ suc u → length (gather same (S .nodes) (pathOf (parentOf h))) ≡ n → width * suc n ≤ words
+    → sets (set (tableBy words (unlinking S s h (S .step))) (wordAt u (childWord h)) 0) (n * width) (replicate width 0) ≡ tableBy words (unlinking S s (parentOf h) (S .step))
 dropping-table S sound s h small k words u n r l room =
     let T : State = unlinking S s (parentOf h) (S .step) in
-    let z : List ℕ = replicate 21 0 in
+    let z : List ℕ = replicate width 0 in
     let top : List·Memᴰ origin (S .nodes) = rw (sound .good .root .1) (List·Memᴰ·head refl) in
-    ap (λ (t : List ℕ). sets (set t (u * 21 + childWord h) 0) (n * 21) z) (alike-table words (unlinking S s h (S .step)) (withNode T h s) (dropping-next S sound s h small k))
-    ∙ ap (λ (m : ℕ). sets (set (tableBy words (withNode T h s)) (u * 21 + childWord h) 0) (m * 21) z) (sym l)
+    ap (λ (t : List ℕ). sets (set t (wordAt u (childWord h)) 0) (n * width) z) (alike-table words (unlinking S s h (S .step)) (withNode T h s) (dropping-next S sound s h small k))
+    ∙ ap (λ (m : ℕ). sets (set (tableBy words (withNode T h s)) (wordAt u (childWord h)) 0) (m * width) z) (sym l)
     ∙ drop-table T (sound-dropping S sound s (parentOf h)) h s
     (drop-root (S .nodes) (sound .good .closed) top (S .need) s small h k)
     (mem-gather-right same same-sound same-refl (S .nodes) (pathOf (parentOf h)) (mem-path (parentOf h)))

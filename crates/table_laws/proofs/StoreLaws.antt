@@ -13,23 +13,22 @@ use lib.Seq.{sets, set-set, set-getD, getD-set-other}
 use Rattle.grid.specs.declared.Corner.{Corner}
 use Rattle.grid.specs.Grid.{same, stepped}
 use Rattle.grid.specs.Tree.{parentOf, isRoot, childWord}
-use Rattle.layout.specs.Table.{childRefOf}
+use Rattle.layout.specs.Table.{width, wordAt, parentWord, neighbourWord, linkWord, visitsWord, needWord, firstWord, childRefOf}
 use Rattle.lists.specs.Lists.{tally, Distinct}
 use Rattle.tree.specs.Nodes.{joins, refOf}
-use Rattle.tree_laws.specs.State.{put, State, withLink, withNode, visitedBy, Alike, Sound, neighbourBy, recordBy, rowsOf, filled, tableBy}
+use Rattle.tree_laws.specs.State.{put, State, withLink, withNode, visitedBy, Alike, Sound, neighbourBy, fieldsBy, recordBy, rowsOf, filled, tableBy}
 use Rattle.grid.proofs.ChildLaws.{slot-small}
 use Rattle.grid.proofs.CornerLaws.{same-refl, same-sound}
 use Rattle.grid.proofs.StepLaws.{back, back-mod, back-small, stepped-back, stepped-ne}
+use Rattle.layout.proofs.WordLaws.{bump, words-cong, withChild, words-child, withSide, words-side, child-of, neighbour-of, link-of}
 use Rattle.tree_laws.proofs.LaterLaws.{later-none}
 use Rattle.lists.proofs.GatherLaws.{distinct-snoc}
 use Rattle.tree.proofs.JoinLaws.{joins-here, joins-there, joins-stepped}
 use Rattle.tree_laws.proofs.AddLaws.{ref-append, ref-snoc, child-other, child-before, child-snoc, child-new, parent-ne}
 use Rattle.tree_laws.proofs.PopLaws.{visit-first, visit-again, unvisit-last, unvisit-more}
 use Rattle.table_laws.proofs.RowLaws.{upd, upd-at, upd-off, rows-cong, row-read, row-set, row-set-again, row-more, row-clear, two-rows, wide-upd}
-use Rattle.table_laws.proofs.SegLaws as segs
-use Rattle.table_laws.proofs.SegLaws.{bump, Row, words-cong, withKid, words-kid, withSide, words-side, kid-of, side-of, link-of}
 
-pub wide : (S : State) (a : Corner) → length (recordBy S a) ≡ 21
+pub wide : (S : State) (a : Corner) → length (recordBy S a) ≡ width
 wide S a = refl
 
 abbrev pub far : ℕ → ℕ → ℕ
@@ -38,21 +37,6 @@ far n r = elim n [ zero ↦ 0 | suc j ↦ r ]
 pub far-pos : (n r : ℕ) → 0 < n → far n r ≡ r
 far-pos zero r h = absurd (omega arith)
 far-pos (suc n) r h = refl
-
--- a record by its parts
-abbrev pub parts : State → Corner → Row
-parts S a = record {
-  up = cond (isRoot a) 0 (refOf (S .nodes) (parentOf a));
-  kids = childRefOf (S .nodes) a;
-  side = neighbourBy (S .nodes) (S .step) a;
-  link = λ k. S .step a (stepped k a);
-  visits = S .visits a;
-  need = S .need a;
-  first = S .first a;
-}
-
-pub record-parts : (S : State) (a : Corner) → recordBy S a ≡ segs.words (parts S a)
-record-parts S a = refl
 
 -- states that are alike have one table
 pub alike-table : (words : ℕ) (S T : State) → Alike S T → tableBy words S ≡ tableBy words T
@@ -65,7 +49,7 @@ alike-table words S T h =
 
     row : (x : Corner) → recordBy S x ≡ recordBy T x
     row x =
-        words-cong (parts S x) (parts T x)
+        words-cong (fieldsBy S x) (fieldsBy T x)
         (ap (λ (l : List Corner). cond (isRoot x) 0 (refOf l (parentOf x))) (h .nodes))
         (λ k a b. ap (λ (l : List Corner). childRefOf l x k) (h .nodes))
         (λ k b. ap₂ far (h .step x (stepped k x) (away k x)) (ap (λ (l : List Corner). refOf l (stepped k x)) (h .nodes)))
@@ -76,32 +60,32 @@ alike-table words S T h =
 
 -- reading: the words of the node a with ref 1 + u
 module _ (words : ℕ) (S : State) (a : Corner) (u : ℕ) (e : refOf (S .nodes) a ≡ suc u) where
-  pub read-parent : getD (tableBy words S) (u * 21 + 0) 0 ≡ cond (isRoot a) 0 (refOf (S .nodes) (parentOf a))
-  read-parent = row-read (recordBy S) (wide S) words (S .nodes) a u 0 e (omega arith)
+  pub read-parent : getD (tableBy words S) (wordAt u parentWord) 0 ≡ cond (isRoot a) 0 (refOf (S .nodes) (parentOf a))
+  read-parent = row-read (recordBy S) (wide S) words (S .nodes) a u parentWord e (omega arith)
 
-  pub read-child : (w : ℕ) → 0 < w → w < 10 → getD (tableBy words S) (u * 21 + w) 0 ≡ childRefOf (S .nodes) a w
+  pub read-child : (w : ℕ) → 0 < w → w < 10 → getD (tableBy words S) (wordAt u w) 0 ≡ childRefOf (S .nodes) a w
   read-child w h k =
       row-read (recordBy S) (wide S) words (S .nodes) a u w e (omega arith)
-      ∙ kid-of (parts S a) w h k
+      ∙ child-of (fieldsBy S a) w h k
 
-  pub read-neighbour : (d : ℕ) → d < 4 → getD (tableBy words S) (u * 21 + (10 + d)) 0 ≡ neighbourBy (S .nodes) (S .step) a d
+  pub read-neighbour : (d : ℕ) → d < 4 → getD (tableBy words S) (wordAt u (neighbourWord d)) 0 ≡ neighbourBy (S .nodes) (S .step) a d
   read-neighbour d k =
-      row-read (recordBy S) (wide S) words (S .nodes) a u (10 + d) e (omega arith)
-      ∙ side-of (parts S a) d k
+      row-read (recordBy S) (wide S) words (S .nodes) a u (neighbourWord d) e (omega arith)
+      ∙ neighbour-of (fieldsBy S a) d k
 
-  pub read-step : (d : ℕ) → d < 4 → getD (tableBy words S) (u * 21 + (14 + d)) 0 ≡ S .step a (stepped d a)
+  pub read-step : (d : ℕ) → d < 4 → getD (tableBy words S) (wordAt u (linkWord d)) 0 ≡ S .step a (stepped d a)
   read-step d k =
-      row-read (recordBy S) (wide S) words (S .nodes) a u (14 + d) e (omega arith)
-      ∙ link-of (parts S a) d k
+      row-read (recordBy S) (wide S) words (S .nodes) a u (linkWord d) e (omega arith)
+      ∙ link-of (fieldsBy S a) d k
 
-  pub read-visits : getD (tableBy words S) (u * 21 + 18) 0 ≡ S .visits a
-  read-visits = row-read (recordBy S) (wide S) words (S .nodes) a u 18 e (omega arith)
+  pub read-visits : getD (tableBy words S) (wordAt u visitsWord) 0 ≡ S .visits a
+  read-visits = row-read (recordBy S) (wide S) words (S .nodes) a u visitsWord e (omega arith)
 
-  pub read-need : getD (tableBy words S) (u * 21 + 19) 0 ≡ S .need a
-  read-need = row-read (recordBy S) (wide S) words (S .nodes) a u 19 e (omega arith)
+  pub read-need : getD (tableBy words S) (wordAt u needWord) 0 ≡ S .need a
+  read-need = row-read (recordBy S) (wide S) words (S .nodes) a u needWord e (omega arith)
 
-  pub read-first : getD (tableBy words S) (u * 21 + 20) 0 ≡ S .first a
-  read-first = row-read (recordBy S) (wide S) words (S .nodes) a u 20 e (omega arith)
+  pub read-first : getD (tableBy words S) (wordAt u firstWord) 0 ≡ S .first a
+  read-first = row-read (recordBy S) (wide S) words (S .nodes) a u firstWord e (omega arith)
 
 by-same : (x a : Corner) (P : Type 0) → (x ≡ a → P) → ((x ≡ a → ⊥) → P) → P
 by-same x a P f g = go (same x a) refl
@@ -147,47 +131,47 @@ module _ (S : State) (a : Corner) (d s : ℕ) (small : d < 4) where
   at-x : (x : Corner) → (x ≡ a → ⊥) → (x ≡ stepped d a → ⊥) → (k : ℕ) → k < 4 → put (S .step) s a (stepped d a) x (stepped k x) ≡ S .step x (stepped k x)
   at-x x f g k h = put-no x (stepped k x) (λ j. ⊎-elim (λ z. f (z .0)) (λ z. g (z .0)) (joins-stepped k d x a h small j))
 
-  link-row-a : recordBy (withLink S a (stepped d a) s) a ≡ set (set (recordBy S a) (10 + d) (far s (refOf (S .nodes) (stepped d a)))) (14 + d) s
+  link-row-a : recordBy (withLink S a (stepped d a) s) a ≡ set (set (recordBy S a) (neighbourWord d) (far s (refOf (S .nodes) (stepped d a)))) (linkWord d) s
   link-row-a =
-      words-cong (parts (withLink S a (stepped d a) s) a) (withSide (parts S a) d (far s (refOf (S .nodes) (stepped d a))) s) refl (λ k i j. refl) (λ k h. ap (λ (n : ℕ). far n (refOf (S .nodes) (stepped k a))) (at-a k h) ∙ far-bump (λ i. S .step a (stepped i a)) (λ i. refOf (S .nodes) (stepped i a)) d s k) at-a refl refl refl
-      ∙ sym (words-side (parts S a) d (far s (refOf (S .nodes) (stepped d a))) s small)
+      words-cong (fieldsBy (withLink S a (stepped d a) s) a) (withSide (fieldsBy S a) d (far s (refOf (S .nodes) (stepped d a))) s) refl (λ k i j. refl) (λ k h. ap (λ (n : ℕ). far n (refOf (S .nodes) (stepped k a))) (at-a k h) ∙ far-bump (λ i. S .step a (stepped i a)) (λ i. refOf (S .nodes) (stepped i a)) d s k) at-a refl refl refl
+      ∙ sym (words-side (fieldsBy S a) d (far s (refOf (S .nodes) (stepped d a))) s small)
 
-  link-row-e : recordBy (withLink S a (stepped d a) s) (stepped d a) ≡ set (set (recordBy S (stepped d a)) (10 + back d) (far s (refOf (S .nodes) a))) (14 + back d) s
+  link-row-e : recordBy (withLink S a (stepped d a) s) (stepped d a) ≡ set (set (recordBy S (stepped d a)) (neighbourWord (back d)) (far s (refOf (S .nodes) a))) (linkWord (back d)) s
   link-row-e =
-      words-cong (parts (withLink S a (stepped d a) s) (stepped d a)) (withSide (parts S (stepped d a)) (back d) (far s (refOf (S .nodes) a)) s) refl (λ k i j. refl)
+      words-cong (fieldsBy (withLink S a (stepped d a) s) (stepped d a)) (withSide (fieldsBy S (stepped d a)) (back d) (far s (refOf (S .nodes) a)) s) refl (λ k i j. refl)
       (λ k h. ap (λ (n : ℕ). far n (refOf (S .nodes) (stepped k (stepped d a)))) (at-e k h) ∙ far-bump (λ i. S .step (stepped d a) (stepped i (stepped d a))) (λ i. refOf (S .nodes) (stepped i (stepped d a))) (back d) s k
       ∙ ap (λ (y : Corner). bump (neighbourBy (S .nodes) (S .step) (stepped d a)) (back d) (far s (refOf (S .nodes) y)) k) (stepped-back d a))
       at-e refl refl refl
-      ∙ sym (words-side (parts S (stepped d a)) (back d) (far s (refOf (S .nodes) a)) s (back-small d))
+      ∙ sym (words-side (fieldsBy S (stepped d a)) (back d) (far s (refOf (S .nodes) a)) s (back-small d))
 
   link-row-x : (x : Corner) → (x ≡ a → ⊥) → (x ≡ stepped d a → ⊥) → recordBy (withLink S a (stepped d a) s) x ≡ recordBy S x
-  link-row-x x f g = words-cong (parts (withLink S a (stepped d a) s) x) (parts S x) refl (λ k i j. refl) (λ k h. ap (λ (n : ℕ). far n (refOf (S .nodes) (stepped k x))) (at-x x f g k h)) (at-x x f g) refl refl refl
+  link-row-x x f g = words-cong (fieldsBy (withLink S a (stepped d a) s) x) (fieldsBy S x) refl (λ k i j. refl) (λ k h. ap (λ (n : ℕ). far n (refOf (S .nodes) (stepped k x))) (at-x x f g k h)) (at-x x f g) refl refl refl
 
   -- the four stores of a link
   pub link-stores : (words u v : ℕ) → Distinct (S .nodes) → refOf (S .nodes) a ≡ suc u → refOf (S .nodes) (stepped d a) ≡ suc v
-      → set (set (set (set (tableBy words S) (u * 21 + (10 + d)) (far s (suc v))) (u * 21 + (14 + d)) s) (v * 21 + (10 + back d)) (far s (suc u))) (v * 21 + (14 + back d)) s ≡ tableBy words (withLink S a (stepped d a) s)
+      → set (set (set (set (tableBy words S) (wordAt u (neighbourWord d)) (far s (suc v))) (wordAt u (linkWord d)) s) (wordAt v (neighbourWord (back d))) (far s (suc u))) (wordAt v (linkWord (back d))) s ≡ tableBy words (withLink S a (stepped d a) s)
   link-stores words u v dis h k =
       let b = back-small d in
-      two-rows (recordBy S) (wide S) words (S .nodes) a (stepped d a) u v (10 + d) (far s (suc v)) (14 + d) s (10 + back d) (far s (suc u)) (14 + back d) s dis h k (stepped-ne d a) (omega arith) (omega arith) (omega arith) (omega arith)
+      two-rows (recordBy S) (wide S) words (S .nodes) a (stepped d a) u v (neighbourWord d) (far s (suc v)) (linkWord d) s (neighbourWord (back d)) (far s (suc u)) (linkWord (back d)) s dis h k (stepped-ne d a) (omega arith) (omega arith) (omega arith) (omega arith)
       ∙ ap (filled words) (rows-cong Q (recordBy (withLink S a (stepped d a) s)) (S .nodes) (λ x m. row x))
     where
       row-a : List ℕ
-      row-a = set (set (recordBy S a) (10 + d) (far s (suc v))) (14 + d) s
+      row-a = set (set (recordBy S a) (neighbourWord d) (far s (suc v))) (linkWord d) s
 
       row-e : List ℕ
-      row-e = set (set (recordBy S (stepped d a)) (10 + back d) (far s (suc u))) (14 + back d) s
+      row-e = set (set (recordBy S (stepped d a)) (neighbourWord (back d)) (far s (suc u))) (linkWord (back d)) s
 
       Q : Corner → List ℕ
       Q = upd (upd (recordBy S) a row-a) (stepped d a) row-e
 
       here : Q (stepped d a) ≡ recordBy (withLink S a (stepped d a) s) (stepped d a)
-      here = upd-at (upd (recordBy S) a row-a) (stepped d a) row-e ∙ ap (λ (r : ℕ). set (set (recordBy S (stepped d a)) (10 + back d) (far s r)) (14 + back d) s) (sym h) ∙ sym link-row-e
+      here = upd-at (upd (recordBy S) a row-a) (stepped d a) row-e ∙ ap (λ (r : ℕ). set (set (recordBy S (stepped d a)) (neighbourWord (back d)) (far s r)) (linkWord (back d)) s) (sym h) ∙ sym link-row-e
 
       from : Q a ≡ recordBy (withLink S a (stepped d a) s) a
       from =
           upd-off (upd (recordBy S) a row-a) (stepped d a) row-e a (λ p. stepped-ne d a (sym p))
           ∙ upd-at (recordBy S) a row-a
-          ∙ ap (λ (r : ℕ). set (set (recordBy S a) (10 + d) (far s r)) (14 + d) s) (sym k)
+          ∙ ap (λ (r : ℕ). set (set (recordBy S a) (neighbourWord d) (far s r)) (linkWord d) s) (sym k)
           ∙ sym link-row-a
 
       row : (x : Corner) → Q x ≡ recordBy (withLink S a (stepped d a) s) x
@@ -200,14 +184,14 @@ module _ (S : State) (a : Corner) (d s : ℕ) (small : d < 4) where
 
 -- the same as the code has it
 pub link-table : (S : State) (a : Corner) (d s words u v : ℕ) → d < 4 → 0 < s → Distinct (S .nodes) → refOf (S .nodes) a ≡ suc u → refOf (S .nodes) (stepped d a) ≡ suc v
-    → set (set (set (set (tableBy words S) (u * 21 + (10 + d)) (v + 1)) (u * 21 + (14 + d)) s) (v * 21 + (10 + (d + 2) % 4)) (u + 1)) (v * 21 + (14 + (d + 2) % 4)) s ≡ tableBy words (withLink S a (stepped d a) s)
+    → set (set (set (set (tableBy words S) (wordAt u (neighbourWord d)) (v + 1)) (wordAt u (linkWord d)) s) (wordAt v (neighbourWord ((d + 2) % 4))) (u + 1)) (wordAt v (linkWord ((d + 2) % 4))) s ≡ tableBy words (withLink S a (stepped d a) s)
 link-table S a d s words u v small pos dis h k =
     let x : v + 1 ≡ far s (suc v) = sym (far-pos s (suc v) pos ∙ (omega arith)) in
     let y : u + 1 ≡ far s (suc u) = sym (far-pos s (suc u) pos ∙ (omega arith)) in
     rw (← (back-mod d small), x, y) (link-stores S a d s small words u v dis h k)
 
 pub unlink-table : (S : State) (a : Corner) (d words u v : ℕ) → d < 4 → Distinct (S .nodes) → refOf (S .nodes) a ≡ suc u → refOf (S .nodes) (stepped d a) ≡ suc v
-    → set (set (set (set (tableBy words S) (u * 21 + (10 + d)) 0) (u * 21 + (14 + d)) 0) (v * 21 + (10 + (d + 2) % 4)) 0) (v * 21 + (14 + (d + 2) % 4)) 0 ≡ tableBy words (withLink S a (stepped d a) 0)
+    → set (set (set (set (tableBy words S) (wordAt u (neighbourWord d)) 0) (wordAt u (linkWord d)) 0) (wordAt v (neighbourWord ((d + 2) % 4))) 0) (wordAt v (linkWord ((d + 2) % 4))) 0 ≡ tableBy words (withLink S a (stepped d a) 0)
 unlink-table S a d words u v small dis h k = rw (← (back-mod d small)) (link-stores S a d 0 small words u v dis h k)
 
 -- ---- a node more
@@ -237,13 +221,13 @@ module _ (S : State) (sound : Sound S) (e : Corner) (s : ℕ) (deep : isRoot e �
 
   node-row-x : (x : Corner) → List·Memᴰ x (S .nodes) → (x ≡ parentOf e → ⊥) → recordBy (withNode S e s) x ≡ recordBy S x
   node-row-x x m f =
-      words-cong (parts (withNode S e s) x) (parts S x) (up-kept x m) (λ k i j. child-other (S .nodes) e x k (λ p q. f p)) (λ k h. side-kept x k) (λ k h. refl) refl (need-kept x (old-ne x m)) refl
+      words-cong (fieldsBy (withNode S e s) x) (fieldsBy S x) (up-kept x m) (λ k i j. child-other (S .nodes) e x k (λ p q. f p)) (λ k h. side-kept x k) (λ k h. refl) refl (need-kept x (old-ne x m)) refl
 
   node-row-parent : recordBy (withNode S e s) (parentOf e) ≡ set (recordBy S (parentOf e)) (childWord e) (suc (length (S .nodes)))
   node-row-parent =
-      words-cong (parts (withNode S e s) (parentOf e)) (withKid (parts S (parentOf e)) (childWord e) (suc (length (S .nodes)))) (up-kept (parentOf e) under) (λ k i j. kid k) (λ k h. side-kept (parentOf e) k) (λ k h. refl) refl
+      words-cong (fieldsBy (withNode S e s) (parentOf e)) (withChild (fieldsBy S (parentOf e)) (childWord e) (suc (length (S .nodes)))) (up-kept (parentOf e) under) (λ k i j. kid k) (λ k h. side-kept (parentOf e) k) (λ k h. refl) refl
       (need-kept (parentOf e) (old-ne (parentOf e) under)) refl
-      ∙ sym (words-kid (parts S (parentOf e)) (childWord e) (suc (length (S .nodes))) (child-word-small e .0) (child-word-small e .1))
+      ∙ sym (words-child (fieldsBy S (parentOf e)) (childWord e) (suc (length (S .nodes))) (child-word-small e .0) (child-word-small e .1))
     where
       kid : (k : ℕ) → childRefOf (S .nodes ++ (e ∷ [])) (parentOf e) k ≡ bump (childRefOf (S .nodes) (parentOf e)) (childWord e) (suc (length (S .nodes))) k
       kid k = go (eqb k (childWord e)) refl
@@ -259,9 +243,9 @@ module _ (S : State) (sound : Sound S) (e : Corner) (s : ℕ) (deep : isRoot e �
       go zero p = p
       go (suc n) p = absurd (fresh (sound .good .ends e (stepped k e) (omega arith) .0))
 
-  node-row-e : (u : ℕ) → refOf (S .nodes) (parentOf e) ≡ suc u → recordBy (withNode S e s) e ≡ set (set (replicate 21 0) 0 (suc u)) 19 s
+  node-row-e : (u : ℕ) → refOf (S .nodes) (parentOf e) ≡ suc u → recordBy (withNode S e s) e ≡ set (set (replicate width 0) parentWord (suc u)) needWord s
   node-row-e u h =
-      words-cong (parts (withNode S e s) e) (record { up = suc u; kids = λ k. 0; side = λ k. 0; link = λ k. 0; visits = 0; need = s; first = 0 })
+      words-cong (fieldsBy (withNode S e s) e) (record { parent = suc u; child = λ k. 0; neighbour = λ k. 0; link = λ k. 0; visits = 0; need = s; first = 0 })
       (rw deep (ref-append (S .nodes) (e ∷ []) (parentOf e) under ∙ h))
       (λ k i j. child-new (S .nodes) (sound .good .closed) e deep fresh k)
       (λ k i. ap (λ (n : ℕ). far n (refOf (S .nodes ++ (e ∷ [])) (stepped k e))) (unlinked k))
@@ -275,7 +259,7 @@ module _ (S : State) (sound : Sound S) (e : Corner) (s : ℕ) (deep : isRoot e �
 
   -- the rows of the nodes with the new one, from those before
   node-rows : (u : ℕ) → refOf (S .nodes) (parentOf e) ≡ suc u → (x : Corner) → List·Memᴰ x (S .nodes ++ (e ∷ []))
-      → upd (upd (recordBy S) (parentOf e) (set (recordBy S (parentOf e)) (childWord e) (suc (length (S .nodes))))) e (set (set (replicate 21 0) 0 (suc u)) 19 s) x ≡ recordBy (withNode S e s) x
+      → upd (upd (recordBy S) (parentOf e) (set (recordBy S (parentOf e)) (childWord e) (suc (length (S .nodes))))) e (set (set (replicate width 0) parentWord (suc u)) needWord s) x ≡ recordBy (withNode S e s) x
   node-rows u h x m =
       by-same x e (Q x ≡ recordBy (withNode S e s) x)
       (λ p. subst (λ y. Q y ≡ recordBy (withNode S e s) y) (sym p) (upd-at (upd (recordBy S) (parentOf e) row) e new ∙ sym (node-row-e u h)))
@@ -288,71 +272,71 @@ module _ (S : State) (sound : Sound S) (e : Corner) (s : ℕ) (deep : isRoot e �
       row = set (recordBy S (parentOf e)) (childWord e) (suc (length (S .nodes)))
 
       new : List ℕ
-      new = set (set (replicate 21 0) 0 (suc u)) 19 s
+      new = set (set (replicate width 0) parentWord (suc u)) needWord s
 
       Q : Corner → List ℕ
       Q = upd (upd (recordBy S) (parentOf e) row) e new
 
   -- the three stores of a new node
-  pub node-table : (words u : ℕ) → refOf (S .nodes) (parentOf e) ≡ suc u → 21 * suc (length (S .nodes)) ≤ words
-      → set (set (set (tableBy words S) (u * 21 + childWord e) (length (S .nodes) + 1)) (length (S .nodes) * 21 + 0) (u + 1)) (length (S .nodes) * 21 + 19) s ≡ tableBy words (withNode S e s)
+  pub node-table : (words u : ℕ) → refOf (S .nodes) (parentOf e) ≡ suc u → width * suc (length (S .nodes)) ≤ words
+      → set (set (set (tableBy words S) (wordAt u (childWord e)) (length (S .nodes) + 1)) (wordAt (length (S .nodes)) parentWord) (u + 1)) (wordAt (length (S .nodes)) needWord) s ≡ tableBy words (withNode S e s)
   node-table words u h room =
       let w = child-word-small e in
       let n : length (S .nodes) + 1 ≡ suc (length (S .nodes)) = omega arith in
       let i : u + 1 ≡ suc u = omega arith in
       rw (n, i)
-      (ap (λ (t : List ℕ). set (set (set t (u * 21 + childWord e) (suc (length (S .nodes)))) (length (S .nodes) * 21 + 0) (suc u)) (length (S .nodes) * 21 + 19) s) (row-more (recordBy S) (wide S) words (S .nodes) e fresh room)
-      ∙ ap (λ (t : List ℕ). set (set t (length (S .nodes) * 21 + 0) (suc u)) (length (S .nodes) * 21 + 19) s)
+      (ap (λ (t : List ℕ). set (set (set t (wordAt u (childWord e)) (suc (length (S .nodes)))) (wordAt (length (S .nodes)) parentWord) (suc u)) (wordAt (length (S .nodes)) needWord) s) (row-more (recordBy S) (wide S) words (S .nodes) e fresh room)
+      ∙ ap (λ (t : List ℕ). set (set t (wordAt (length (S .nodes)) parentWord) (suc u)) (wordAt (length (S .nodes)) needWord) s)
       (row-set A wide-A words all (parentOf e) u (childWord e) (suc (length (S .nodes))) grown-distinct (ref-append (S .nodes) (e ∷ []) (parentOf e) under ∙ h) (omega (arith, w .1)))
-      ∙ ap (λ (t : List ℕ). set t (length (S .nodes) * 21 + 19) s) (row-set B wide-B words all e (length (S .nodes)) 0 (suc u) grown-distinct (ref-snoc (S .nodes) e fresh) (omega arith))
-      ∙ row-set-again B wide-B words all e (set (B e) 0 (suc u)) (length (S .nodes)) 19 s (length-set (B e) 0 (suc u) ∙ wide-B e) grown-distinct (ref-snoc (S .nodes) e fresh) (omega arith)
-      ∙ ap (filled words) (rows-cong (upd B e (set (set (B e) 0 (suc u)) 19 s)) (recordBy (withNode S e s)) all (λ x m. row x ∙ node-rows u h x m)))
+      ∙ ap (λ (t : List ℕ). set t (wordAt (length (S .nodes)) needWord) s) (row-set B wide-B words all e (length (S .nodes)) parentWord (suc u) grown-distinct (ref-snoc (S .nodes) e fresh) (omega arith))
+      ∙ row-set-again B wide-B words all e (set (B e) parentWord (suc u)) (length (S .nodes)) needWord s (length-set (B e) parentWord (suc u) ∙ wide-B e) grown-distinct (ref-snoc (S .nodes) e fresh) (omega arith)
+      ∙ ap (filled words) (rows-cong (upd B e (set (set (B e) parentWord (suc u)) needWord s)) (recordBy (withNode S e s)) all (λ x m. row x ∙ node-rows u h x m)))
     where
       all : List Corner
       all = S .nodes ++ (e ∷ [])
 
       A : Corner → List ℕ
-      A = upd (recordBy S) e (replicate 21 0)
+      A = upd (recordBy S) e (replicate width 0)
 
-      wide-A : (x : Corner) → length (A x) ≡ 21
-      wide-A = wide-upd (recordBy S) (wide S) e (replicate 21 0) refl
+      wide-A : (x : Corner) → length (A x) ≡ width
+      wide-A = wide-upd (recordBy S) (wide S) e (replicate width 0) refl
 
       B : Corner → List ℕ
       B = upd A (parentOf e) (set (A (parentOf e)) (childWord e) (suc (length (S .nodes))))
 
-      wide-B : (x : Corner) → length (B x) ≡ 21
+      wide-B : (x : Corner) → length (B x) ≡ width
       wide-B = wide-upd A wide-A (parentOf e) (set (A (parentOf e)) (childWord e) (suc (length (S .nodes)))) (length-set (A (parentOf e)) (childWord e) (suc (length (S .nodes))) ∙ wide-A (parentOf e))
 
-      B-e : B e ≡ replicate 21 0
-      B-e = upd-off A (parentOf e) (set (A (parentOf e)) (childWord e) (suc (length (S .nodes)))) e (parent-ne e deep) ∙ upd-at (recordBy S) e (replicate 21 0)
+      B-e : B e ≡ replicate width 0
+      B-e = upd-off A (parentOf e) (set (A (parentOf e)) (childWord e) (suc (length (S .nodes)))) e (parent-ne e deep) ∙ upd-at (recordBy S) e (replicate width 0)
 
       A-parent : A (parentOf e) ≡ recordBy S (parentOf e)
-      A-parent = upd-off (recordBy S) e (replicate 21 0) (parentOf e) (old-ne (parentOf e) under)
+      A-parent = upd-off (recordBy S) e (replicate width 0) (parentOf e) (old-ne (parentOf e) under)
 
-      row : (x : Corner) → upd B e (set (set (B e) 0 (suc u)) 19 s) x
-          ≡ upd (upd (recordBy S) (parentOf e) (set (recordBy S (parentOf e)) (childWord e) (suc (length (S .nodes))))) e (set (set (replicate 21 0) 0 (suc u)) 19 s) x
+      row : (x : Corner) → upd B e (set (set (B e) parentWord (suc u)) needWord s) x
+          ≡ upd (upd (recordBy S) (parentOf e) (set (recordBy S (parentOf e)) (childWord e) (suc (length (S .nodes))))) e (set (set (replicate width 0) parentWord (suc u)) needWord s) x
       row x =
-          ap (λ (l : List ℕ). upd B e (set (set l 0 (suc u)) 19 s) x) B-e
+          ap (λ (l : List ℕ). upd B e (set (set l parentWord (suc u)) needWord s) x) B-e
           ∙ by-same x e (upd B e new x ≡ upd (upd (recordBy S) (parentOf e) was) e new x)
           (λ p. subst (λ y. upd B e new y ≡ upd (upd (recordBy S) (parentOf e) was) e new y) (sym p) (upd-at B e new ∙ sym (upd-at (upd (recordBy S) (parentOf e) was) e new)))
           (λ f. upd-off B e new x f
           ∙ ap (λ (l : List ℕ). upd A (parentOf e) (set l (childWord e) (suc (length (S .nodes)))) x) A-parent
-          ∙ ap (λ (l : List ℕ). cond (same x (parentOf e)) was l) (upd-off (recordBy S) e (replicate 21 0) x f)
+          ∙ ap (λ (l : List ℕ). cond (same x (parentOf e)) was l) (upd-off (recordBy S) e (replicate width 0) x f)
           ∙ sym (upd-off (upd (recordBy S) (parentOf e) was) e new x f))
         where
           new : List ℕ
-          new = set (set (replicate 21 0) 0 (suc u)) 19 s
+          new = set (set (replicate width 0) parentWord (suc u)) needWord s
 
           was : List ℕ
           was = set (recordBy S (parentOf e)) (childWord e) (suc (length (S .nodes)))
 
   -- and the stores that drop it: the parent's child word, and the whole row
-  pub drop-table : (words u : ℕ) → refOf (S .nodes) (parentOf e) ≡ suc u → 21 * suc (length (S .nodes)) ≤ words
-      → sets (set (tableBy words (withNode S e s)) (u * 21 + childWord e) 0) (length (S .nodes) * 21) (replicate 21 0) ≡ tableBy words S
+  pub drop-table : (words u : ℕ) → refOf (S .nodes) (parentOf e) ≡ suc u → width * suc (length (S .nodes)) ≤ words
+      → sets (set (tableBy words (withNode S e s)) (wordAt u (childWord e)) 0) (length (S .nodes) * width) (replicate width 0) ≡ tableBy words S
   drop-table words u h room =
       let w = child-word-small e in
-      let z : List ℕ = replicate 21 0 in
-      ap (λ (t : List ℕ). sets t (length (S .nodes) * 21) z) (row-set T (wide (withNode S e s)) words all (parentOf e) u (childWord e) 0 grown-distinct (ref-append (S .nodes) (e ∷ []) (parentOf e) under ∙ h) (omega (arith, w .1)))
+      let z : List ℕ = replicate width 0 in
+      ap (λ (t : List ℕ). sets t (length (S .nodes) * width) z) (row-set T (wide (withNode S e s)) words all (parentOf e) u (childWord e) 0 grown-distinct (ref-append (S .nodes) (e ∷ []) (parentOf e) under ∙ h) (omega (arith, w .1)))
       ∙ row-clear B wide-B words all e (length (S .nodes)) grown-distinct (ref-snoc (S .nodes) e fresh)
       ∙ ap (filled words) (rows-cong (upd B e z) (upd (recordBy S) e z) all row)
       ∙ sym (row-more (recordBy S) (wide S) words (S .nodes) e fresh room)
@@ -366,7 +350,7 @@ module _ (S : State) (sound : Sound S) (e : Corner) (s : ℕ) (deep : isRoot e �
       B : Corner → List ℕ
       B = upd T (parentOf e) (set (T (parentOf e)) (childWord e) 0)
 
-      wide-B : (x : Corner) → length (B x) ≡ 21
+      wide-B : (x : Corner) → length (B x) ≡ width
       wide-B = wide-upd T (wide (withNode S e s)) (parentOf e) (set (T (parentOf e)) (childWord e) 0) (length-set (T (parentOf e)) (childWord e) 0)
 
       back-parent : set (T (parentOf e)) (childWord e) 0 ≡ recordBy S (parentOf e)
@@ -374,10 +358,10 @@ module _ (S : State) (sound : Sound S) (e : Corner) (s : ℕ) (deep : isRoot e �
           let w = child-word-small e in
           ap (λ (l : List ℕ). set l (childWord e) 0) node-row-parent
           ∙ set-set (recordBy S (parentOf e)) (childWord e) (suc (length (S .nodes))) 0
-          ∙ ap (set (recordBy S (parentOf e)) (childWord e)) (sym (kid-of (parts S (parentOf e)) (childWord e) (w .0) (w .1) ∙ child-before (S .nodes) e deep fresh))
+          ∙ ap (set (recordBy S (parentOf e)) (childWord e)) (sym (child-of (fieldsBy S (parentOf e)) (childWord e) (w .0) (w .1) ∙ child-before (S .nodes) e deep fresh))
           ∙ set-getD (recordBy S (parentOf e)) (childWord e) 0
 
-      row : (x : Corner) → List·Memᴰ x all → upd B e (replicate 21 0) x ≡ upd (recordBy S) e (replicate 21 0) x
+      row : (x : Corner) → List·Memᴰ x all → upd B e (replicate width 0) x ≡ upd (recordBy S) e (replicate width 0) x
       row x m =
           by-same x e (upd B e z x ≡ upd (recordBy S) e z x)
           (λ p. subst (λ y. upd B e z y ≡ upd (recordBy S) e z y) (sym p) (upd-at B e z ∙ sym (upd-at (recordBy S) e z)))
@@ -388,16 +372,16 @@ module _ (S : State) (sound : Sound S) (e : Corner) (s : ℕ) (deep : isRoot e �
           ∙ sym (upd-off (recordBy S) e z x f))
         where
           z : List ℕ
-          z = replicate 21 0
+          z = replicate width 0
 
 -- ---- a visit counted, and taken back: words 18 and 20 of one row
 pub two-words : (S T : State) (e : Corner) (words r x y : ℕ) → Distinct (S .nodes) → refOf (S .nodes) e ≡ suc r → T .nodes ≡ S .nodes → ((p q : Corner) → T .step p q ≡ S .step p q) → ((p : Corner) → T .need p ≡ S .need p)
     → ((p : Corner) → (p ≡ e → ⊥) → (T .visits p ≡ S .visits p) × (T .first p ≡ S .first p)) → T .visits e ≡ x → T .first e ≡ y
-    → set (set (tableBy words S) (r * 21 + 18) x) (r * 21 + 20) y ≡ tableBy words T
+    → set (set (tableBy words S) (wordAt r visitsWord) x) (wordAt r firstWord) y ≡ tableBy words T
 two-words S T e words r x y d h n l m f p q =
-    ap (λ (t : List ℕ). set t (r * 21 + 20) y) (row-set (recordBy S) (wide S) words (S .nodes) e r 18 x d h (omega arith))
-    ∙ row-set-again (recordBy S) (wide S) words (S .nodes) e (set (recordBy S e) 18 x) r 20 y (length-set (recordBy S e) 18 x) d h (omega arith)
-    ∙ ap (filled words) (rows-cong (upd (recordBy S) e (set (set (recordBy S e) 18 x) 20 y)) (recordBy T) (S .nodes) (λ z k. row z) ∙ ap (rowsOf (recordBy T)) (sym n))
+    ap (λ (t : List ℕ). set t (wordAt r firstWord) y) (row-set (recordBy S) (wide S) words (S .nodes) e r visitsWord x d h (omega arith))
+    ∙ row-set-again (recordBy S) (wide S) words (S .nodes) e (set (recordBy S e) visitsWord x) r firstWord y (length-set (recordBy S e) visitsWord x) d h (omega arith)
+    ∙ ap (filled words) (rows-cong (upd (recordBy S) e (set (set (recordBy S e) visitsWord x) firstWord y)) (recordBy T) (S .nodes) (λ z k. row z) ∙ ap (rowsOf (recordBy T)) (sym n))
   where
     up : (z : Corner) → cond (isRoot z) 0 (refOf (S .nodes) (parentOf z)) ≡ cond (isRoot z) 0 (refOf (T .nodes) (parentOf z))
     up z = ap (λ (k : List Corner). cond (isRoot z) 0 (refOf k (parentOf z))) (sym n)
@@ -408,23 +392,23 @@ two-words S T e words r x y d h n l m f p q =
     side : (z : Corner) (k : ℕ) → neighbourBy (S .nodes) (S .step) z k ≡ neighbourBy (T .nodes) (T .step) z k
     side z k = ap₂ far (sym (l z (stepped k z))) (ap (λ (j : List Corner). refOf j (stepped k z)) (sym n))
 
-    row : (z : Corner) → upd (recordBy S) e (set (set (recordBy S e) 18 x) 20 y) z ≡ recordBy T z
+    row : (z : Corner) → upd (recordBy S) e (set (set (recordBy S e) visitsWord x) firstWord y) z ≡ recordBy T z
     row z =
-        by-same z e (upd (recordBy S) e (set (set (recordBy S e) 18 x) 20 y) z ≡ recordBy T z)
-        (λ i. subst (λ j. upd (recordBy S) e (set (set (recordBy S e) 18 x) 20 y) j ≡ recordBy T j) (sym i)
-        (upd-at (recordBy S) e (set (set (recordBy S e) 18 x) 20 y)
-        ∙ words-cong (record { up = cond (isRoot e) 0 (refOf (S .nodes) (parentOf e)); kids = childRefOf (S .nodes) e; side = neighbourBy (S .nodes) (S .step) e; link = λ k. S .step e (stepped k e); visits = x; need = S .need e; first = y }) (parts T e)
+        by-same z e (upd (recordBy S) e (set (set (recordBy S e) visitsWord x) firstWord y) z ≡ recordBy T z)
+        (λ i. subst (λ j. upd (recordBy S) e (set (set (recordBy S e) visitsWord x) firstWord y) j ≡ recordBy T j) (sym i)
+        (upd-at (recordBy S) e (set (set (recordBy S e) visitsWord x) firstWord y)
+        ∙ words-cong (record { parent = cond (isRoot e) 0 (refOf (S .nodes) (parentOf e)); child = childRefOf (S .nodes) e; neighbour = neighbourBy (S .nodes) (S .step) e; link = λ k. S .step e (stepped k e); visits = x; need = S .need e; first = y }) (fieldsBy T e)
         (up e) (λ k i j. kid e k) (λ k i. side e k) (λ k i. sym (l e (stepped k e))) (sym p) (sym (m e)) (sym q)))
-        (λ g. upd-off (recordBy S) e (set (set (recordBy S e) 18 x) 20 y) z g
-        ∙ words-cong (parts S z) (parts T z) (up z) (λ k i j. kid z k) (λ k i. side z k) (λ k i. sym (l z (stepped k z))) (sym (f z g .0)) (sym (m z)) (sym (f z g .1)))
+        (λ g. upd-off (recordBy S) e (set (set (recordBy S e) visitsWord x) firstWord y) z g
+        ∙ words-cong (fieldsBy S z) (fieldsBy T z) (up z) (λ k i j. kid z k) (λ k i. side z k) (λ k i. sym (l z (stepped k z))) (sym (f z g .0)) (sym (m z)) (sym (f z g .1)))
 
 -- the second of the two stores changes nothing where the word is there already
 pub one-word : (S T : State) (e : Corner) (words r x : ℕ) → Distinct (S .nodes) → refOf (S .nodes) e ≡ suc r → T .nodes ≡ S .nodes → ((p q : Corner) → T .step p q ≡ S .step p q) → ((p : Corner) → T .need p ≡ S .need p)
     → ((p : Corner) → (p ≡ e → ⊥) → (T .visits p ≡ S .visits p) × (T .first p ≡ S .first p)) → T .visits e ≡ x → T .first e ≡ S .first e
-    → set (tableBy words S) (r * 21 + 18) x ≡ tableBy words T
+    → set (tableBy words S) (wordAt r visitsWord) x ≡ tableBy words T
 one-word S T e words r x d h n l m f p q =
-    sym (set-getD (set (tableBy words S) (r * 21 + 18) x) (r * 21 + 20) 0)
-    ∙ ap (set (set (tableBy words S) (r * 21 + 18) x) (r * 21 + 20)) (getD-set-other (tableBy words S) (r * 21 + 18) (r * 21 + 20) x 0 (omega arith) ∙ read-first words S e r h)
+    sym (set-getD (set (tableBy words S) (wordAt r visitsWord) x) (wordAt r firstWord) 0)
+    ∙ ap (set (set (tableBy words S) (wordAt r visitsWord) x) (wordAt r firstWord)) (getD-set-other (tableBy words S) (wordAt r visitsWord) (wordAt r firstWord) x 0 (omega arith) ∙ read-first words S e r h)
     ∙ two-words S T e words r x (S .first e) d h n l m f p q
 
 module _ (S : State) (sound : Sound S) (e : Corner) (k words r : ℕ) (h : refOf (S .nodes) e ≡ suc r) where
@@ -436,12 +420,12 @@ module _ (S : State) (sound : Sound S) (e : Corner) (k words r : ℕ) (h : refOf
   one : tally (same e e) ≡ 1
   one = rw (same-refl e)
 
-  pub visit-table-first : S .visits e ≡ 0 → set (set (tableBy words S) (r * 21 + 18) (S .visits e + 1)) (r * 21 + 20) (k + 1) ≡ tableBy words (visitedBy S e k)
+  pub visit-table-first : S .visits e ≡ 0 → set (set (tableBy words S) (wordAt r visitsWord) (S .visits e + 1)) (wordAt r firstWord) (k + 1) ≡ tableBy words (visitedBy S e k)
   visit-table-first z =
       two-words S (visitedBy S e k) e words r (S .visits e + 1) (k + 1) (sound .good .distinct) h refl (λ p q. refl) (λ p. refl) off (ap (λ (n : ℕ). S .visits e + n) one)
       (visit-first S sound e k z e ∙ rw (same-refl e) (omega arith))
 
-  pub visit-table-again : (S .visits e ≡ 0 → ⊥) → set (tableBy words S) (r * 21 + 18) (S .visits e + 1) ≡ tableBy words (visitedBy S e k)
+  pub visit-table-again : (S .visits e ≡ 0 → ⊥) → set (tableBy words S) (wordAt r visitsWord) (S .visits e + 1) ≡ tableBy words (visitedBy S e k)
   visit-table-again f = one-word S (visitedBy S e k) e words r (S .visits e + 1) (sound .good .distinct) h refl (λ p q. refl) (λ p. refl) off (ap (λ (n : ℕ). S .visits e + n) one) (visit-again S sound e k f e)
 
   back-off : (p : Corner) → (p ≡ e → ⊥) → (S .visits p ≡ visitedBy S e k .visits p) × (S .first p ≡ visitedBy S e k .first p)
@@ -450,9 +434,9 @@ module _ (S : State) (sound : Sound S) (e : Corner) (k words r : ℕ) (h : refOf
   less : S .visits e ≡ visitedBy S e k .visits e - 1
   less = let z : S .visits e ≡ S .visits e + tally (same e e) - 1 = omega (arith, one) in z
 
-  pub unvisit-table-last : visitedBy S e k .visits e ≡ 1 → set (set (tableBy words (visitedBy S e k)) (r * 21 + 18) (visitedBy S e k .visits e - 1)) (r * 21 + 20) 0 ≡ tableBy words S
+  pub unvisit-table-last : visitedBy S e k .visits e ≡ 1 → set (set (tableBy words (visitedBy S e k)) (wordAt r visitsWord) (visitedBy S e k .visits e - 1)) (wordAt r firstWord) 0 ≡ tableBy words S
   unvisit-table-last z =
       two-words (visitedBy S e k) S e words r (visitedBy S e k .visits e - 1) 0 (sound .good .distinct) h refl (λ p q. refl) (λ p. refl) back-off less (unvisit-last S sound e k z e ∙ rw (same-refl e))
 
-  pub unvisit-table-more : (visitedBy S e k .visits e ≡ 1 → ⊥) → set (tableBy words (visitedBy S e k)) (r * 21 + 18) (visitedBy S e k .visits e - 1) ≡ tableBy words S
+  pub unvisit-table-more : (visitedBy S e k .visits e ≡ 1 → ⊥) → set (tableBy words (visitedBy S e k)) (wordAt r visitsWord) (visitedBy S e k .visits e - 1) ≡ tableBy words S
   unvisit-table-more f = one-word (visitedBy S e k) S e words r (visitedBy S e k .visits e - 1) (sound .good .distinct) h refl (λ p q. refl) (λ p. refl) back-off less (unvisit-more S sound e k f e)

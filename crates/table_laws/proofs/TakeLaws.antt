@@ -3,7 +3,7 @@
 use mathlib.Core.Bool.{Bool, true, false}
 use mathlib.Core.List.{List, [], _∷_, _++_, List·Memᴰ, List·Memᴰ·head}
 use mathlib.Core.Path.{_≡_, refl, ap, ap₂, sym, _∙_, subst}
-use Prim.Native.Nat.{ℕ, zero, suc, _+_, _-_, _*_, _<_, _≤_}
+use Prim.Native.Nat.{ℕ, zero, suc, _-_, _*_, _<_, _≤_}
 use native.Mathlib.Omega.{arith}
 use borrow.Author.Tests.{eqb-true, eqb-false}
 use lib.Dec.{eqb}
@@ -12,7 +12,7 @@ use lib.Seq.{sets}
 use Rattle.grid.specs.declared.Corner.{Corner}
 use Rattle.grid.specs.Grid.{origin, same, stepped, cornersFrom, endFrom}
 use Rattle.grid.specs.Tree.{parentOf, isRoot, sizeOf, pathOf, childWord}
-use Rattle.layout.specs.Table.{tableOf}
+use Rattle.layout.specs.Table.{width, wordAt, parentWord, neighbourWord, linkWord, visitsWord, needWord, tableOf}
 use Rattle.lists.specs.Lists.{gather, Distinct}
 use Rattle.tree.specs.Nodes.{nodesOf, refOf}
 use Rattle.tree_laws.specs.State.{linked, put, State, stateOf, needed, reached, visitedBy, unlinking, Alike, Sound, tableBy, Made}
@@ -35,7 +35,7 @@ module _ (words : ℕ) (S : State) (sound : Sound S) (e : Corner) (k r : ℕ) (h
   pub visit-made : visitIn (tableBy words S) r k ≡ tableBy words (visitedBy S e k)
   visit-made = go (eqb (S .visits e) 0) refl
     where
-      w : getD (tableBy words S) (r * 21 + 18) 0 ≡ S .visits e
+      w : getD (tableBy words S) (wordAt r visitsWord) 0 ≡ S .visits e
       w = read-visits words S e r h
 
       go : (b : Bool) → eqb (S .visits e) 0 ≡ b → visitIn (tableBy words S) r k ≡ tableBy words (visitedBy S e k)
@@ -45,7 +45,7 @@ module _ (words : ℕ) (S : State) (sound : Sound S) (e : Corner) (k r : ℕ) (h
   pub unvisit-made : unvisitIn (tableBy words (visitedBy S e k)) r ≡ tableBy words S
   unvisit-made = go (eqb (visitedBy S e k .visits e) 1) refl
     where
-      w : getD (tableBy words (visitedBy S e k)) (r * 21 + 18) 0 ≡ visitedBy S e k .visits e
+      w : getD (tableBy words (visitedBy S e k)) (wordAt r visitsWord) 0 ≡ visitedBy S e k .visits e
       w = read-visits words (visitedBy S e k) e r h
 
       go : (b : Bool) → eqb (visitedBy S e k .visits e) 1 ≡ b → unvisitIn (tableBy words (visitedBy S e k)) r ≡ tableBy words S
@@ -53,11 +53,11 @@ module _ (words : ℕ) (S : State) (sound : Sound S) (e : Corner) (k r : ℕ) (h
       go false p = rw (ap (λ (n : ℕ). eqb n 1) w ∙ p, unvisitIn) (rw w (unvisit-table-more S sound e k words r h (eqb-false (visitedBy S e k .visits e) 1 p)))
 
 -- ---- the step
-pub step-made : (words : ℕ) (c : Corner) (ds : List ℕ) (d f u : ℕ) → d < 4 → 21 * length (nodesOf (cornersFrom c ds)) ≤ words → sizeOf (endFrom c ds) < f → refOf (nodesOf (cornersFrom c ds)) (endFrom c ds) ≡ suc u
+pub step-made : (words : ℕ) (c : Corner) (ds : List ℕ) (d f u : ℕ) → d < 4 → width * length (nodesOf (cornersFrom c ds)) ≤ words → sizeOf (endFrom c ds) < f → refOf (nodesOf (cornersFrom c ds)) (endFrom c ds) ≡ suc u
     → (o : Out) → neighbourIn f (tableOf words c ds) (length (nodesOf (cornersFrom c ds))) u (endFrom c ds) d (suc (length ds)) ≡ o
-    → (21 * length (nodesOf (cornersFrom c (ds ++ (d ∷ [])))) ≤ words
+    → (width * length (nodesOf (cornersFrom c (ds ++ (d ∷ [])))) ≤ words
     → (r : ℕ) × (o .at ≡ suc r) × (o .nodes ≡ length (nodesOf (cornersFrom c (ds ++ (d ∷ []))))) × (refOf (nodesOf (cornersFrom c (ds ++ (d ∷ [])))) (endFrom c (ds ++ (d ∷ []))) ≡ suc r) × (visitIn (o .table) r (suc (length ds)) ≡ tableOf words c (ds ++ (d ∷ []))))
-    × (words < 21 * length (nodesOf (cornersFrom c (ds ++ (d ∷ [])))) → o .at ≡ 0)
+    × (words < width * length (nodesOf (cornersFrom c (ds ++ (d ∷ [])))) → o .at ≡ 0)
 step-made words c ds d f u small room deep h o q = (fits, full)
   where
     S : State
@@ -77,10 +77,10 @@ step-made words c ds d f u small room deep h o q = (fits, full)
     nodes : nodesOf (cornersFrom c (ds ++ (d ∷ []))) ≡ gather same (S .nodes) (pathOf e)
     nodes = push-nodes c ds d
 
-    full : words < 21 * length (nodesOf (cornersFrom c (ds ++ (d ∷ [])))) → o .at ≡ 0
+    full : words < width * length (nodesOf (cornersFrom c (ds ++ (d ∷ [])))) → o .at ≡ 0
     full l = made .full (rw nodes at l)
 
-    fits : 21 * length (nodesOf (cornersFrom c (ds ++ (d ∷ [])))) ≤ words
+    fits : width * length (nodesOf (cornersFrom c (ds ++ (d ∷ [])))) ≤ words
         → (r : ℕ) × (o .at ≡ suc r) × (o .nodes ≡ length (nodesOf (cornersFrom c (ds ++ (d ∷ []))))) × (refOf (nodesOf (cornersFrom c (ds ++ (d ∷ [])))) (endFrom c (ds ++ (d ∷ []))) ≡ suc r) × (visitIn (o .table) r (suc (length ds)) ≡ tableOf words c (ds ++ (d ∷ [])))
     fits l = node (refOf (gather same (S .nodes) (pathOf e)) e) refl
       where
@@ -111,7 +111,7 @@ module _ (words : ℕ) (S : State) (sound : Sound S) (s : ℕ) (pos : 0 < s) whe
         T′ : State
         T′ = unlinking S s z (put M 0 at (stepped d at))
 
-        test : getD (tableBy words T) (u * 21 + (14 + d)) 0 ≡ M at (stepped d at)
+        test : getD (tableBy words T) (wordAt u (linkWord d)) 0 ≡ M at (stepped d at)
         test = read-step words T at u r d dir
 
         done : (K : Corner → Corner → ℕ) → Agree K (S .step) → tableBy words (unlinking S s z K) ≡ tableBy words (unlinking S s z (S .step))
@@ -124,34 +124,34 @@ module _ (words : ℕ) (S : State) (sound : Sound S) (s : ℕ) (pos : 0 < s) whe
         distinct = distinct-gather same same-sound same-refl (S .nodes) (pathOf z) (sound .good .distinct)
 
         -- the link cleared
-        unset : M at (stepped d at) ≡ s → unsetIn (tableBy words T) u (getD (tableBy words T) (u * 21 + (10 + d)) 0 - 1) d ≡ tableBy words T′
+        unset : M at (stepped d at) ≡ s → unsetIn (tableBy words T) u (getD (tableBy words T) (wordAt u (neighbourWord d)) 0 - 1) d ≡ tableBy words T′
         unset p = node (refOf (gather same (S .nodes) (pathOf z)) (stepped d at)) refl
           where
-            word : getD (tableBy words T) (u * 21 + (10 + d)) 0 ≡ refOf (gather same (S .nodes) (pathOf z)) (stepped d at)
+            word : getD (tableBy words T) (wordAt u (neighbourWord d)) 0 ≡ refOf (gather same (S .nodes) (pathOf z)) (stepped d at)
             word = read-neighbour words T at u r d dir ∙ far-pos (M at (stepped d at)) (refOf (gather same (S .nodes) (pathOf z)) (stepped d at)) (omega (arith, pos))
 
             there : List·Memᴰ (stepped d at) (gather same (S .nodes) (pathOf z))
             there = mem-gather-right same same-sound same-refl (S .nodes) (pathOf z) (unlink-end (S .nodes) (S .step) (sound .good) s small z d M at i p)
 
-            node : (n : ℕ) → refOf (gather same (S .nodes) (pathOf z)) (stepped d at) ≡ n → unsetIn (tableBy words T) u (getD (tableBy words T) (u * 21 + (10 + d)) 0 - 1) d ≡ tableBy words T′
+            node : (n : ℕ) → refOf (gather same (S .nodes) (pathOf z)) (stepped d at) ≡ n → unsetIn (tableBy words T) u (getD (tableBy words T) (wordAt u (neighbourWord d)) 0 - 1) d ≡ tableBy words T′
             node zero q = absurd (omega (arith, ref-pos (gather same (S .nodes) (pathOf z)) (stepped d at) there))
             node (suc v) q =
-                let w : getD (tableBy words T) (u * 21 + (10 + d)) 0 - 1 ≡ v = omega (arith, word) in
+                let w : getD (tableBy words T) (wordAt u (neighbourWord d)) 0 - 1 ≡ v = omega (arith, word) in
                 ap (λ (n : ℕ). unsetIn (tableBy words T) u n d) w ∙ unlink-table T at d words u v dir distinct r q
 
         next : M at (stepped d at) ≡ s
             → ((v : ℕ) → isRoot at ≡ false → refOf (gather same (S .nodes) (pathOf z)) (parentOf at) ≡ suc v → Unlinking (S .nodes) (S .step) (sound .good) s small z d (put M 0 at (stepped d at)) (parentOf at) → unlinkIn f (tableBy words T′) v d s ≡ tableBy words (unlinking S s z (S .step)))
-            → (b : Bool) → isRoot at ≡ b → pick (tableBy words T′) (getD (tableBy words T′) (u * 21 + 0) 0) ≡ tableBy words (unlinking S s z (S .step))
+            → (b : Bool) → isRoot at ≡ b → pick (tableBy words T′) (getD (tableBy words T′) (wordAt u parentWord) 0) ≡ tableBy words (unlinking S s z (S .step))
         next p ih true j =
-            let word : getD (tableBy words T′) (u * 21 + 0) 0 ≡ 0 = read-parent words T′ at u r ∙ rw j in
+            let word : getD (tableBy words T′) (wordAt u parentWord) 0 ≡ 0 = read-parent words T′ at u r ∙ rw j in
             ap (pick (tableBy words T′)) word
             ∙ done (put M 0 at (stepped d at)) (unlink-last (S .nodes) (S .step) (sound .good) s small z d M at i p j)
         next p ih false j = node (refOf (gather same (S .nodes) (pathOf z)) (parentOf at)) refl
           where
-            word : getD (tableBy words T′) (u * 21 + 0) 0 ≡ refOf (gather same (S .nodes) (pathOf z)) (parentOf at)
+            word : getD (tableBy words T′) (wordAt u parentWord) 0 ≡ refOf (gather same (S .nodes) (pathOf z)) (parentOf at)
             word = read-parent words T′ at u r ∙ rw j
 
-            node : (n : ℕ) → refOf (gather same (S .nodes) (pathOf z)) (parentOf at) ≡ n → pick (tableBy words T′) (getD (tableBy words T′) (u * 21 + 0) 0) ≡ tableBy words (unlinking S s z (S .step))
+            node : (n : ℕ) → refOf (gather same (S .nodes) (pathOf z)) (parentOf at) ≡ n → pick (tableBy words T′) (getD (tableBy words T′) (wordAt u parentWord) 0) ≡ tableBy words (unlinking S s z (S .step))
             node zero q = absurd (omega (arith, ref-pos (gather same (S .nodes) (pathOf z)) (parentOf at) (gather-closed (S .nodes) (sound .good .closed) z at (mem-of-ref (gather same (S .nodes) (pathOf z)) at u r) j)))
             node (suc v) q = ap (pick (tableBy words T′)) (word ∙ q) ∙ ih v j q (unlink-next (S .nodes) (S .step) (sound .good) s small z d M at i p j)
 
@@ -161,10 +161,10 @@ module _ (words : ℕ) (S : State) (sound : Sound S) (s : ℕ) (pos : 0 < s) whe
         go false p ih = rw (ap (λ (n : ℕ). eqb n s) test ∙ p, unlinkIn) (done M (unlink-stop (S .nodes) (S .step) (sound .good) s small z d M at i (eqb-false (M at (stepped d at)) s p)))
         go true p ih = rw (ap (λ (n : ℕ). eqb n s) test ∙ p, unlinkIn)
             (let q = eqb-true (M at (stepped d at)) s p in
-            ap (λ (t : List ℕ). pick t (getD t (u * 21 + 0) 0)) (unset q) ∙ next q ih (isRoot at) refl)
+            ap (λ (t : List ℕ). pick t (getD t (wordAt u parentWord) 0)) (unset q) ∙ next q ih (isRoot at) refl)
 
   -- `drop_up`
-  pub drop-made : ((x : Corner) → S .need x < s) → (f : ℕ) (h : Corner) (u : ℕ) → sizeOf h < f → 21 * length (gather same (S .nodes) (pathOf h)) ≤ words → refOf (gather same (S .nodes) (pathOf h)) h ≡ suc u
+  pub drop-made : ((x : Corner) → S .need x < s) → (f : ℕ) (h : Corner) (u : ℕ) → sizeOf h < f → width * length (gather same (S .nodes) (pathOf h)) ≤ words → refOf (gather same (S .nodes) (pathOf h)) h ≡ suc u
       → dropIn f (tableBy words (unlinking S s h (S .step))) (length (gather same (S .nodes) (pathOf h))) u h s ≡ out (tableBy words S) 0 (length (S .nodes))
   drop-made small zero h u k room r = absurd (omega arith)
   drop-made small (suc f) h u k room r = go (eqb (needed (S .nodes) (S .need) s h h) s) refl (λ v j i. drop-made small f (parentOf h) v (omega (arith, sizeOf-parentOf h j)) i)
@@ -172,7 +172,7 @@ module _ (words : ℕ) (S : State) (sound : Sound S) (s : ℕ) (pos : 0 < s) whe
       T : State
       T = unlinking S s h (S .step)
 
-      test : getD (tableBy words T) (u * 21 + 19) 0 ≡ needed (S .nodes) (S .need) s h h
+      test : getD (tableBy words T) (wordAt u needWord) 0 ≡ needed (S .nodes) (S .need) s h h
       test = read-need words T h u r
 
       top : List·Memᴰ origin (S .nodes)
@@ -182,7 +182,7 @@ module _ (words : ℕ) (S : State) (sound : Sound S) (s : ℕ) (pos : 0 < s) whe
       up = gather same (S .nodes) (pathOf (parentOf h))
 
       go : (b : Bool) → eqb (needed (S .nodes) (S .need) s h h) s ≡ b
-          → ((v : ℕ) → isRoot h ≡ false → 21 * length (gather same (S .nodes) (pathOf (parentOf h))) ≤ words → refOf (gather same (S .nodes) (pathOf (parentOf h))) (parentOf h) ≡ suc v
+          → ((v : ℕ) → isRoot h ≡ false → width * length (gather same (S .nodes) (pathOf (parentOf h))) ≤ words → refOf (gather same (S .nodes) (pathOf (parentOf h))) (parentOf h) ≡ suc v
           → dropIn f (tableBy words (unlinking S s (parentOf h) (S .step))) (length (gather same (S .nodes) (pathOf (parentOf h)))) v (parentOf h) s ≡ out (tableBy words S) 0 (length (S .nodes)))
           → dropIn (suc f) (tableBy words T) (length (gather same (S .nodes) (pathOf h))) u h s ≡ out (tableBy words S) 0 (length (S .nodes))
       go false p ih =
@@ -208,22 +208,22 @@ module _ (words : ℕ) (S : State) (sound : Sound S) (s : ℕ) (pos : 0 < s) whe
           fewer : length (gather same (S .nodes) (pathOf h)) - 1 ≡ length up
           fewer = omega (arith, ap length grew, length-append up (h ∷ []))
 
-          word : getD (tableBy words T) (u * 21 + 0) 0 ≡ refOf up (parentOf h)
+          word : getD (tableBy words T) (wordAt u parentWord) 0 ≡ refOf up (parentOf h)
           word = read-parent words T h u r ∙ rw deep (ap (λ (l : List Corner). refOf l (parentOf h)) grew ∙ ref-append up (h ∷ []) (parentOf h) has)
 
           node : (n : ℕ) → refOf up (parentOf h) ≡ n → dropIn (suc f) (tableBy words T) (length (gather same (S .nodes) (pathOf h))) u h s ≡ out (tableBy words S) 0 (length (S .nodes))
           node zero i = absurd (omega (arith, ref-pos up (parentOf h) has))
           node (suc v) i =
-              let z : List ℕ = replicate 21 0 in
-              let w : getD (tableBy words T) (u * 21 + 0) 0 - 1 ≡ v = omega (arith, word) in
-              let fit : 21 * suc u ≤ words = omega (arith, ap length grew, length-append up (h ∷ []), last) in
+              let z : List ℕ = replicate width 0 in
+              let w : getD (tableBy words T) (wordAt u parentWord) 0 - 1 ≡ v = omega (arith, word) in
+              let fit : width * suc u ≤ words = omega (arith, ap length grew, length-append up (h ∷ []), last) in
               rw (ap (λ (n : ℕ). eqb n s) test ∙ p, dropIn)
-              (ap (λ (n : ℕ). dropIn f (sets (set (tableBy words T) (n * 21 + childWord h) 0) (u * 21) z) (length (gather same (S .nodes) (pathOf h)) - 1) n (parentOf h) s) w
+              (ap (λ (n : ℕ). dropIn f (sets (set (tableBy words T) (wordAt n (childWord h)) 0) (u * width) z) (length (gather same (S .nodes) (pathOf h)) - 1) n (parentOf h) s) w
               ∙ ap₂ (λ (t : List ℕ) (n : ℕ). dropIn f t n v (parentOf h) s) (dropping-table S sound s h small q words v u i last fit) fewer
               ∙ ih v deep (omega (arith, last)) i)
 
 -- `take_back`: from the table of ds ++ (d ∷ []), at the node of its last corner, to that of ds, at the node of its last corner
-module _ (words : ℕ) (c : Corner) (ds : List ℕ) (d : ℕ) (dir : d < 4) (room : 21 * length (nodesOf (cornersFrom c (ds ++ (d ∷ [])))) ≤ words) where
+module _ (words : ℕ) (c : Corner) (ds : List ℕ) (d : ℕ) (dir : d < 4) (room : width * length (nodesOf (cornersFrom c (ds ++ (d ∷ [])))) ≤ words) where
   abbrev S : State
   S = stateOf (cornersFrom c ds)
 
@@ -244,9 +244,9 @@ module _ (words : ℕ) (c : Corner) (ds : List ℕ) (d : ℕ) (dir : d < 4) (roo
 
   -- the node from which the step came
   pub back-from : (r : ℕ) → refOf (nodesOf (cornersFrom c (ds ++ (d ∷ [])))) (endFrom c (ds ++ (d ∷ []))) ≡ suc r
-      → refOf (nodesOf (cornersFrom c ds)) (endFrom c ds) ≡ getD (tableOf words c (ds ++ (d ∷ []))) (r * 21 + (10 + back d)) 0
+      → refOf (nodesOf (cornersFrom c ds)) (endFrom c ds) ≡ getD (tableOf words c (ds ++ (d ∷ []))) (wordAt r (neighbourWord (back d))) 0
   back-from r h = sym (
-      ap (λ (t : List ℕ). getD t (r * 21 + (10 + back d)) 0) (sym (step-table words c ds d))
+      ap (λ (t : List ℕ). getD t (wordAt r (neighbourWord (back d))) 0) (sym (step-table words c ds d))
       ∙ read-neighbour words W e r (sym (ap₂ refOf (push-nodes c ds d) (endFrom-snoc c ds d)) ∙ h) (back d) (back-small d)
       ∙ ap (λ (x : Corner). far (linked (S .step) s a e e x) (refOf all x)) (stepped-back d a)
       ∙ far-pos (linked (S .step) s a e e a) (refOf all a) (step-back words c ds d)

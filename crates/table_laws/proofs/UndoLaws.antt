@@ -3,7 +3,7 @@
 use mathlib.Core.Bool.{Bool, true, false, cond}
 use mathlib.Core.List.{List, [], _∷_, _++_, List·Memᴰ, List·Memᴰ·head}
 use mathlib.Core.Path.{_≡_, refl, ap, sym, _∙_}
-use Prim.Native.Nat.{ℕ, suc, _+_, _-_, _*_, _<_, _≤_}
+use Prim.Native.Nat.{ℕ, suc, _-_, _*_, _<_, _≤_}
 use native.Mathlib.Omega.{arith}
 use lib.ListN.{length, length-append, getD, set, replicate}
 use lib.Seq.{sets}
@@ -12,6 +12,7 @@ use Rattle.grid.specs.Grid.{origin, same, stepped}
 use Rattle.grid.specs.Tree.{parentOf, isRoot, pathOf, childWord}
 use Rattle.lists.specs.Lists.{gather}
 use Rattle.tree.specs.Nodes.{refOf}
+use Rattle.layout.specs.Table.{width, wordAt, parentWord, neighbourWord, linkWord, needWord}
 use Rattle.tree_laws.specs.State.{put, State, needed, unlinking, Alike, Sound, tableBy}
 use Rattle.grid.proofs.CornerLaws.{same-refl, same-sound}
 use Rattle.lists.proofs.FindLaws.{find-le}
@@ -39,37 +40,37 @@ module _ (words : ℕ) (S : State) (sound : Sound S) (s : ℕ) (pos : 0 < s) whe
       to : Corner
       to = stepped d (k .at)
 
-      pub unlink-reads : getD t (u * 21 + (14 + d)) 0 ≡ k .links (k .at) (stepped d (k .at))
-      unlink-reads = ap (λ (x : List ℕ). getD x (u * 21 + (14 + d)) 0) (k .table) ∙ read-step words (unlinking S s z (k .links)) (k .at) u (k .here) d dir
+      pub unlink-reads : getD t (wordAt u (linkWord d)) 0 ≡ k .links (k .at) (stepped d (k .at))
+      unlink-reads = ap (λ (x : List ℕ). getD x (wordAt u (linkWord d)) 0) (k .table) ∙ read-step words (unlinking S s z (k .links)) (k .at) u (k .here) d dir
 
       -- the test fails: all is done
-      pub unlink-done : (getD t (u * 21 + (14 + d)) 0 ≡ s → ⊥) → t ≡ tableBy words (unlinking S s z (S .step))
+      pub unlink-done : (getD t (wordAt u (linkWord d)) 0 ≡ s → ⊥) → t ≡ tableBy words (unlinking S s z (S .step))
       unlink-done f =
           k .table
           ∙ alike-table words (unlinking S s z (k .links)) (unlinking S s z (S .step))
           (unlinked-all S sound s z (k .links) (unlink-stop (S .nodes) (S .step) (sound .good) s small z d (k .links) (k .at) (k .inv) (λ e. f (unlink-reads ∙ e))))
 
       -- it passes: the neighbour is a node
-      pub unlink-to : getD t (u * 21 + (14 + d)) 0 ≡ s → refOf (gather same (S .nodes) (pathOf z)) (stepped d (k .at)) ≡ suc (getD t (u * 21 + (10 + d)) 0 - 1)
+      pub unlink-to : getD t (wordAt u (linkWord d)) 0 ≡ s → refOf (gather same (S .nodes) (pathOf z)) (stepped d (k .at)) ≡ suc (getD t (wordAt u (neighbourWord d)) 0 - 1)
       unlink-to e =
-          let w : getD t (u * 21 + (10 + d)) 0 ≡ refOf (gather same (S .nodes) (pathOf z)) (stepped d (k .at)) = ap (λ (x : List ℕ). getD x (u * 21 + (10 + d)) 0) (k .table) ∙ read-neighbour words (unlinking S s z (k .links)) (k .at) u (k .here) d dir ∙ far-pos (k .links (k .at) (stepped d (k .at))) (refOf (gather same (S .nodes) (pathOf z)) (stepped d (k .at))) (omega (arith, unlink-reads, pos)) in
+          let w : getD t (wordAt u (neighbourWord d)) 0 ≡ refOf (gather same (S .nodes) (pathOf z)) (stepped d (k .at)) = ap (λ (x : List ℕ). getD x (wordAt u (neighbourWord d)) 0) (k .table) ∙ read-neighbour words (unlinking S s z (k .links)) (k .at) u (k .here) d dir ∙ far-pos (k .links (k .at) (stepped d (k .at))) (refOf (gather same (S .nodes) (pathOf z)) (stepped d (k .at))) (omega (arith, unlink-reads, pos)) in
           omega (arith, ref-pos (gather same (S .nodes) (pathOf z)) (stepped d (k .at)) (mem-gather-right same same-sound same-refl (S .nodes) (pathOf z) (unlink-end (S .nodes) (S .step) (sound .good) s small z d (k .links) (k .at) (k .inv) (sym unlink-reads ∙ e))))
 
       -- the link cleared
-      pub unlink-clears : getD t (u * 21 + (14 + d)) 0 ≡ s → unsetIn t u (getD t (u * 21 + (10 + d)) 0 - 1) d ≡ tableBy words (unlinking S s z (put (k .links) 0 (k .at) (stepped d (k .at))))
+      pub unlink-clears : getD t (wordAt u (linkWord d)) 0 ≡ s → unsetIn t u (getD t (wordAt u (neighbourWord d)) 0 - 1) d ≡ tableBy words (unlinking S s z (put (k .links) 0 (k .at) (stepped d (k .at))))
       unlink-clears e =
-          ap (λ (x : List ℕ). unsetIn x u (getD t (u * 21 + (10 + d)) 0 - 1) d) (k .table)
-          ∙ unlink-table (unlinking S s z (k .links)) (k .at) d words u (getD t (u * 21 + (10 + d)) 0 - 1) dir (distinct-gather same same-sound same-refl (S .nodes) (pathOf z) (sound .good .distinct)) (k .here) (unlink-to e)
+          ap (λ (x : List ℕ). unsetIn x u (getD t (wordAt u (neighbourWord d)) 0 - 1) d) (k .table)
+          ∙ unlink-table (unlinking S s z (k .links)) (k .at) d words u (getD t (wordAt u (neighbourWord d)) 0 - 1) dir (distinct-gather same same-sound same-refl (S .nodes) (pathOf z) (sound .good .distinct)) (k .here) (unlink-to e)
 
       -- no parent: all is done; a parent: the next round, at a node of a lower number
-      module _ (t′ : List ℕ) (e : getD t (u * 21 + (14 + d)) 0 ≡ s) (q : t′ ≡ unsetIn t u (getD t (u * 21 + (10 + d)) 0 - 1) d) where
-        up-reads : getD t′ (u * 21 + 0) 0 ≡ cond (isRoot (k .at)) 0 (refOf (gather same (S .nodes) (pathOf z)) (parentOf (k .at)))
-        up-reads = ap (λ (x : List ℕ). getD x (u * 21 + 0) 0) (q ∙ unlink-clears e) ∙ read-parent words (unlinking S s z (put (k .links) 0 (k .at) (stepped d (k .at)))) (k .at) u (k .here)
+      module _ (t′ : List ℕ) (e : getD t (wordAt u (linkWord d)) 0 ≡ s) (q : t′ ≡ unsetIn t u (getD t (wordAt u (neighbourWord d)) 0 - 1) d) where
+        up-reads : getD t′ (wordAt u parentWord) 0 ≡ cond (isRoot (k .at)) 0 (refOf (gather same (S .nodes) (pathOf z)) (parentOf (k .at)))
+        up-reads = ap (λ (x : List ℕ). getD x (wordAt u parentWord) 0) (q ∙ unlink-clears e) ∙ read-parent words (unlinking S s z (put (k .links) 0 (k .at) (stepped d (k .at)))) (k .at) u (k .here)
 
         has-parent : isRoot (k .at) ≡ false → List·Memᴰ (parentOf (k .at)) (gather same (S .nodes) (pathOf z))
         has-parent r = gather-closed (S .nodes) (sound .good .closed) z (k .at) (mem-of-ref (gather same (S .nodes) (pathOf z)) (k .at) u (k .here)) r
 
-        pub unlink-top : getD t′ (u * 21 + 0) 0 ≡ 0 → t′ ≡ tableBy words (unlinking S s z (S .step))
+        pub unlink-top : getD t′ (wordAt u parentWord) 0 ≡ 0 → t′ ≡ tableBy words (unlinking S s z (S .step))
         unlink-top n = go (isRoot (k .at)) refl
           where
             go : (b : Bool) → isRoot (k .at) ≡ b → t′ ≡ tableBy words (unlinking S s z (S .step))
@@ -81,7 +82,7 @@ module _ (words : ℕ) (S : State) (sound : Sound S) (s : ℕ) (pos : 0 < s) whe
                 let w : 0 ≡ refOf (gather same (S .nodes) (pathOf z)) (parentOf (k .at)) = sym n ∙ up-reads ∙ rw r in
                 absurd (omega (arith, ref-pos (gather same (S .nodes) (pathOf z)) (parentOf (k .at)) (has-parent r)))
 
-        pub unlink-up : (v : ℕ) → getD t′ (u * 21 + 0) 0 ≡ suc v → UnlinkAt t′ v × (v < u)
+        pub unlink-up : (v : ℕ) → getD t′ (wordAt u parentWord) 0 ≡ suc v → UnlinkAt t′ v × (v < u)
         unlink-up v n = go (isRoot (k .at)) refl
           where
             go : (b : Bool) → isRoot (k .at) ≡ b → UnlinkAt t′ v × (v < u)
@@ -104,20 +105,20 @@ module _ (words : ℕ) (S : State) (sound : Sound S) (s : ℕ) (pos : 0 < s) whe
       pub table : t ≡ tableBy words (unlinking S s h (S .step))
       pub count : left ≡ length (gather same (S .nodes) (pathOf h))
       pub here : refOf (gather same (S .nodes) (pathOf h)) h ≡ suc u
-      pub room : 21 * left ≤ words
+      pub room : width * left ≤ words
 
     module _ (t : List ℕ) (left u : ℕ) (h : Corner) (k : DropAt t left u h) where
-      pub drop-reads : getD t (u * 21 + 19) 0 ≡ needed (S .nodes) (S .need) s h h
-      drop-reads = ap (λ (x : List ℕ). getD x (u * 21 + 19) 0) (k .table) ∙ read-need words (unlinking S s h (S .step)) h u (k .here)
+      pub drop-reads : getD t (wordAt u needWord) 0 ≡ needed (S .nodes) (S .need) s h h
+      drop-reads = ap (λ (x : List ℕ). getD x (wordAt u needWord) 0) (k .table) ∙ read-need words (unlinking S s h (S .step)) h u (k .here)
 
       -- the test fails: the table holds S
-      pub drop-done : (getD t (u * 21 + 19) 0 ≡ s → ⊥) → (t ≡ tableBy words S) × (left ≡ length (S .nodes))
+      pub drop-done : (getD t (wordAt u needWord) 0 ≡ s → ⊥) → (t ≡ tableBy words S) × (left ≡ length (S .nodes))
       drop-done f =
           let a : Alike (unlinking S s h (S .step)) S = dropping-stop S sound s h small (λ e. f (drop-reads ∙ e)) in
           (k .table ∙ alike-table words (unlinking S s h (S .step)) S a, k .count ∙ ap length (a .nodes))
 
       -- it passes: the node is the last, its parent is in use, and the next round is at the parent
-      module _ (e : getD t (u * 21 + 19) 0 ≡ s) where
+      module _ (e : getD t (wordAt u needWord) 0 ≡ s) where
         new : needed (S .nodes) (S .need) s h h ≡ s
         new = sym drop-reads ∙ e
 
@@ -141,21 +142,21 @@ module _ (words : ℕ) (S : State) (sound : Sound S) (s : ℕ) (pos : 0 < s) whe
         pub drop-left : left ≡ suc u
         drop-left = omega (arith, k .count, ap length grew, length-append (gather same (S .nodes) (pathOf (parentOf h))) (h ∷ []), drop-last)
 
-        pub drop-parent : refOf (gather same (S .nodes) (pathOf (parentOf h))) (parentOf h) ≡ suc (getD t (u * 21 + 0) 0 - 1)
+        pub drop-parent : refOf (gather same (S .nodes) (pathOf (parentOf h))) (parentOf h) ≡ suc (getD t (wordAt u parentWord) 0 - 1)
         drop-parent =
-            let w : getD t (u * 21 + 0) 0 ≡ refOf (gather same (S .nodes) (pathOf (parentOf h))) (parentOf h) = ap (λ (x : List ℕ). getD x (u * 21 + 0) 0) (k .table) ∙ read-parent words (unlinking S s h (S .step)) h u (k .here) ∙ rw deep (ap (λ (l : List Corner). refOf l (parentOf h)) grew ∙ ref-append (gather same (S .nodes) (pathOf (parentOf h))) (h ∷ []) (parentOf h) has) in
+            let w : getD t (wordAt u parentWord) 0 ≡ refOf (gather same (S .nodes) (pathOf (parentOf h))) (parentOf h) = ap (λ (x : List ℕ). getD x (wordAt u parentWord) 0) (k .table) ∙ read-parent words (unlinking S s h (S .step)) h u (k .here) ∙ rw deep (ap (λ (l : List Corner). refOf l (parentOf h)) grew ∙ ref-append (gather same (S .nodes) (pathOf (parentOf h))) (h ∷ []) (parentOf h) has) in
             omega (arith, ref-pos (gather same (S .nodes) (pathOf (parentOf h))) (parentOf h) has)
 
-        pub drop-up : DropAt (sets (set t ((getD t (u * 21 + 0) 0 - 1) * 21 + childWord h) 0) (u * 21) (replicate 21 0)) (left - 1) (getD t (u * 21 + 0) 0 - 1) (parentOf h)
+        pub drop-up : DropAt (sets (set t (wordAt (getD t (wordAt u parentWord) 0 - 1) (childWord h)) 0) (u * width) (replicate width 0)) (left - 1) (getD t (wordAt u parentWord) 0 - 1) (parentOf h)
         drop-up =
-            let z : List ℕ = replicate 21 0 in
+            let z : List ℕ = replicate width 0 in
             record {
-              table = ap (λ (x : List ℕ). sets (set x ((getD t (u * 21 + 0) 0 - 1) * 21 + childWord h) 0) (u * 21) z) (k .table) ∙ dropping-table S sound s h small new words (getD t (u * 21 + 0) 0 - 1) u drop-parent drop-last (omega (arith, drop-left, k .room));
+              table = ap (λ (x : List ℕ). sets (set x (wordAt (getD t (wordAt u parentWord) 0 - 1) (childWord h)) 0) (u * width) z) (k .table) ∙ dropping-table S sound s h small new words (getD t (wordAt u parentWord) 0 - 1) u drop-parent drop-last (omega (arith, drop-left, k .room));
               count = omega (arith, drop-left, drop-last);
               here = drop-parent;
               room = omega (arith, k .room);
             }
 
         -- the parent's number is lower
-        pub drop-falls : getD t (u * 21 + 0) 0 - 1 < u
+        pub drop-falls : getD t (wordAt u parentWord) 0 - 1 < u
         drop-falls = omega (arith, drop-parent, drop-last, find-le (same (parentOf h)) (gather same (S .nodes) (pathOf (parentOf h))))

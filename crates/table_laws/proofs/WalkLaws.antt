@@ -3,7 +3,7 @@
 use mathlib.Core.Bool.{Bool, true, false}
 use mathlib.Core.List.{List, [], _∷_, _++_, List·Memᴰ}
 use mathlib.Core.Path.{_≡_, refl, ap, ap₂, sym, _∙_, subst}
-use Prim.Native.Nat.{ℕ, suc, _+_, _-_, _*_, _<_, _≤_}
+use Prim.Native.Nat.{ℕ, suc, _-_, _*_, _<_, _≤_}
 use native.Mathlib.Omega.{arith}
 use borrow.Author.Tests.{ltb-true, ltb-false}
 use lib.Dec.{ltb}
@@ -11,7 +11,7 @@ use lib.ListN.{length, getD}
 use Rattle.grid.specs.declared.Corner.{Corner}
 use Rattle.grid.specs.Grid.{same, stepped, cornersFrom, endFrom}
 use Rattle.grid.specs.Tree.{pathOf}
-use Rattle.layout.specs.Table.{tableOf}
+use Rattle.layout.specs.Table.{width, wordAt, neighbourWord, tableOf}
 use Rattle.lists.specs.Lists.{gather}
 use Rattle.tree.specs.Nodes.{nodesOf, refOf}
 use Rattle.tree_laws.specs.State.{State, stateOf, linked, reached, unlinking, tableBy, Made, Holds}
@@ -29,7 +29,7 @@ use Rattle.table_laws.proofs.TakeLaws.{visit-made, unvisit-made, back-f
 use Rattle.table_laws.proofs.UndoLaws.{UnlinkAt, DropAt}
 
 -- the table of a walk, where it has room for the nodes, holds the walk's state
-pub walk-holds : (words : ℕ) (c : Corner) (ds : List ℕ) (t : List ℕ) (n : ℕ) → t ≡ tableOf words c ds → n ≡ length (nodesOf (cornersFrom c ds)) → 21 * n ≤ words → Holds t n (stateOf (cornersFrom c ds)) × (length t ≡ words)
+pub walk-holds : (words : ℕ) (c : Corner) (ds : List ℕ) (t : List ℕ) (n : ℕ) → t ≡ tableOf words c ds → n ≡ length (nodesOf (cornersFrom c ds)) → width * n ≤ words → Holds t n (stateOf (cornersFrom c ds)) × (length t ≡ words)
 walk-holds words c ds t n e p h =
     let q : t ≡ tableBy words (stateOf (cornersFrom c ds)) = e ∙ table-state words c ds in
     let l : length t ≡ words = ap length q ∙ length-table words (stateOf (cornersFrom c ds)) (omega (arith, p)) in
@@ -39,13 +39,13 @@ walk-holds words c ds t n e p h =
 module _ (words : ℕ) (c : Corner) (ds : List ℕ) (d : ℕ) (t₁ : List ℕ) (a₁ n₁ : ℕ)
     (made : Made words (reached (stateOf (cornersFrom c ds)) (suc (length ds)) (endFrom c ds) (stepped d (endFrom c ds))) (stepped d (endFrom c ds)) t₁ a₁ n₁) where
   -- no node: the nodes of the walk with the step exceed the table
-  pub go-full : a₁ ≡ 0 → words < 21 * length (nodesOf (cornersFrom c (ds ++ (d ∷ []))))
-  go-full z = go (ltb words (21 * length (nodesOf (cornersFrom c (ds ++ (d ∷ [])))))) refl
+  pub go-full : a₁ ≡ 0 → words < width * length (nodesOf (cornersFrom c (ds ++ (d ∷ []))))
+  go-full z = go (ltb words (width * length (nodesOf (cornersFrom c (ds ++ (d ∷ [])))))) refl
     where
-      go : (b : Bool) → ltb words (21 * length (nodesOf (cornersFrom c (ds ++ (d ∷ []))))) ≡ b → words < 21 * length (nodesOf (cornersFrom c (ds ++ (d ∷ []))))
-      go true p = ltb-true words (21 * length (nodesOf (cornersFrom c (ds ++ (d ∷ []))))) p
+      go : (b : Bool) → ltb words (width * length (nodesOf (cornersFrom c (ds ++ (d ∷ []))))) ≡ b → words < width * length (nodesOf (cornersFrom c (ds ++ (d ∷ []))))
+      go true p = ltb-true words (width * length (nodesOf (cornersFrom c (ds ++ (d ∷ []))))) p
       go false p =
-          let l = ltb-false words (21 * length (nodesOf (cornersFrom c (ds ++ (d ∷ []))))) p in
+          let l = ltb-false words (width * length (nodesOf (cornersFrom c (ds ++ (d ∷ []))))) p in
           let g = made .fits (rw (push-nodes c ds d) at l) in
           absurd (omega (arith, g .1, ref-pos (gather same (nodesOf (cornersFrom c ds)) (pathOf (stepped d (endFrom c ds)))) (stepped d (endFrom c ds)) there))
         where
@@ -54,7 +54,7 @@ module _ (words : ℕ) (c : Corner) (ds : List ℕ) (d : ℕ) (t₁ : List ℕ) 
 
   -- a node: after the visit the table is that of the walk with the step, and the walk stands on that node
   pub go-fits : (a₁ ≡ 0 → ⊥) → (t₂ : List ℕ) → t₂ ≡ visitIn t₁ (a₁ - 1) (suc (length ds))
-      → (t₂ ≡ tableOf words c (ds ++ (d ∷ []))) × (n₁ ≡ length (nodesOf (cornersFrom c (ds ++ (d ∷ []))))) × (21 * n₁ ≤ words) × (refOf (nodesOf (cornersFrom c (ds ++ (d ∷ [])))) (endFrom c (ds ++ (d ∷ []))) ≡ suc (a₁ - 1))
+      → (t₂ ≡ tableOf words c (ds ++ (d ∷ []))) × (n₁ ≡ length (nodesOf (cornersFrom c (ds ++ (d ∷ []))))) × (width * n₁ ≤ words) × (refOf (nodesOf (cornersFrom c (ds ++ (d ∷ [])))) (endFrom c (ds ++ (d ∷ []))) ≡ suc (a₁ - 1))
   go-fits f t₂ e =
       let T : State = reached (stateOf (cornersFrom c ds)) (suc (length ds)) (endFrom c ds) (stepped d (endFrom c ds)) in
       let k = made-holds words T (sound-step words c ds d) (stepped d (endFrom c ds)) t₁ a₁ n₁ made f in
@@ -66,15 +66,15 @@ module _ (words : ℕ) (c : Corner) (ds : List ℕ) (d : ℕ) (t₁ : List ℕ) 
       )
 
 -- a take-back from the table of ds ++ (d ∷ []), at the node r
-module _ (words : ℕ) (c : Corner) (ds : List ℕ) (d : ℕ) (dir : d < 4) (room : 21 * length (nodesOf (cornersFrom c (ds ++ (d ∷ [])))) ≤ words)
+module _ (words : ℕ) (c : Corner) (ds : List ℕ) (d : ℕ) (dir : d < 4) (room : width * length (nodesOf (cornersFrom c (ds ++ (d ∷ [])))) ≤ words)
     (t : List ℕ) (whole : t ≡ tableOf words c (ds ++ (d ∷ []))) (r : ℕ) (stands : refOf (nodesOf (cornersFrom c (ds ++ (d ∷ [])))) (endFrom c (ds ++ (d ∷ []))) ≡ suc r) where
   at-end : refOf (gather same (nodesOf (cornersFrom c ds)) (pathOf (stepped d (endFrom c ds)))) (stepped d (endFrom c ds)) ≡ suc r
   at-end = sym (ap₂ refOf (push-nodes c ds d) (endFrom-snoc c ds d)) ∙ stands
 
   -- the node that the step came from
-  pub take-from : refOf (nodesOf (cornersFrom c ds)) (endFrom c ds) ≡ suc (getD t (r * 21 + (10 + back d)) 0 - 1)
+  pub take-from : refOf (nodesOf (cornersFrom c ds)) (endFrom c ds) ≡ suc (getD t (wordAt r (neighbourWord (back d))) 0 - 1)
   take-from =
-      let p : refOf (nodesOf (cornersFrom c ds)) (endFrom c ds) ≡ getD t (r * 21 + (10 + back d)) 0 = back-from words c ds d dir room r stands ∙ ap (λ (x : List ℕ). getD x (r * 21 + (10 + back d)) 0) (sym whole) in
+      let p : refOf (nodesOf (cornersFrom c ds)) (endFrom c ds) ≡ getD t (wordAt r (neighbourWord (back d))) 0 = back-from words c ds d dir room r stands ∙ ap (λ (x : List ℕ). getD x (wordAt r (neighbourWord (back d))) 0) (sym whole) in
       omega (arith, ref-pos (nodesOf (cornersFrom c ds)) (endFrom c ds) (finish-node c ds))
 
   -- the visit taken back, the first loop begins
@@ -96,4 +96,4 @@ module _ (words : ℕ) (c : Corner) (ds : List ℕ) (d : ℕ) (dir : d < 4) (roo
   -- the first loop done, the second begins
   pub take-drops : (t₂ : List ℕ) → t₂ ≡ tableBy words (unlinking (stateOf (cornersFrom c ds)) (suc (length ds)) (stepped d (endFrom c ds)) (stateOf (cornersFrom c ds) .step)) → (n : ℕ) → n ≡ length (nodesOf (cornersFrom c (ds ++ (d ∷ []))))
       → DropAt words (stateOf (cornersFrom c ds)) (sound-walk c ds) (suc (length ds)) (omega arith) (needs-small words c ds d) t₂ n r (stepped d (endFrom c ds))
-  take-drops t₂ e n p = record { table = e; count = p ∙ ap length (push-nodes c ds d); here = at-end; room = subst (λ m. 21 * m ≤ words) (sym p) room }
+  take-drops t₂ e n p = record { table = e; count = p ∙ ap length (push-nodes c ds d); here = at-end; room = subst (λ m. width * m ≤ words) (sym p) room }

@@ -3,13 +3,14 @@
 -- Assumes nothing.
 use mathlib.Core.Bool.{true, false}
 use mathlib.Core.List.{List}
-use Prim.Native.Nat.{ℕ, zero, suc, _+_, _-_, _*_, _/_, _%_}
+use Prim.Native.Nat.{ℕ, zero, suc, _+_, _-_, _*_, _%_}
 use lib.Dec.{ltb, eqb}
 use lib.ListN.{length, getD, set, replicate}
 use lib.Seq.{sets}
 use Rattle.grid.specs.declared.Corner.{Corner}
 use Rattle.grid.specs.Grid.{same, stepped}
 use Rattle.grid.specs.Tree.{parentOf, isRoot, childWord}
+use Rattle.layout.specs.Table.{width, recordsIn, wordAt, parentWord, neighbourWord, linkWord, visitsWord, needWord, firstWord}
 
 -- the answer: the table, a ref, the number of nodes
 pub record Out : Type 0 where
@@ -22,14 +23,14 @@ out t a n = record { table = t; at = a; nodes = n }
 
 abbrev pub childIn : List ℕ → ℕ → ℕ → ℕ → ℕ → Out
 childIn t n u w s =
-    elim (getD t (u * 21 + w) 0) [
-      | zero ↦ elim (ltb n (length t / 21)) [ true ↦ out (set (set (set t (u * 21 + w) (n + 1)) (n * 21 + 0) (u + 1)) (n * 21 + 19) s) (n + 1) (n + 1) | false ↦ out t 0 n ]
+    elim (getD t (wordAt u w) 0) [
+      | zero ↦ elim (ltb n (recordsIn (length t))) [ true ↦ out (set (set (set t (wordAt u w) (n + 1)) (wordAt n parentWord) (u + 1)) (wordAt n needWord) s) (n + 1) (n + 1) | false ↦ out t 0 n ]
       | suc k ↦ out t (suc k) n
     ]
 
 -- ---- the lookup
 abbrev pub linkIn : List ℕ → ℕ → ℕ → ℕ → ℕ → List ℕ
-linkIn t u v d s = set (set (set (set t (u * 21 + (10 + d)) (v + 1)) (u * 21 + (14 + d)) s) (v * 21 + (10 + (d + 2) % 4)) (u + 1)) (v * 21 + (14 + (d + 2) % 4)) s
+linkIn t u v d s = set (set (set (set t (wordAt u (neighbourWord d)) (v + 1)) (wordAt u (linkWord d)) s) (wordAt v (neighbourWord ((d + 2) % 4))) (u + 1)) (wordAt v (linkWord ((d + 2) % 4))) s
 
 abbrev pub joinIn : Out → ℕ → ℕ → ℕ → Out
 joinIn v u d s = elim (v .at) [ zero ↦ v | suc k ↦ out (linkIn (v .table) u k d s) (suc k) (v .nodes) ]
@@ -42,13 +43,13 @@ abbrev pub aboveIn : (ℕ → Corner → Out) → List ℕ → ℕ → ℕ → C
 aboveIn call t n u c e =
     elim (isRoot c) [
       | true ↦ out t (u + 1) n
-      | false ↦ elim (same (parentOf c) (parentOf e)) [ true ↦ out t (getD t (u * 21 + 0) 0) n | false ↦ call (getD t (u * 21 + 0) 0 - 1) (parentOf c) ]
+      | false ↦ elim (same (parentOf c) (parentOf e)) [ true ↦ out t (getD t (wordAt u parentWord) 0) n | false ↦ call (getD t (wordAt u parentWord) 0 - 1) (parentOf c) ]
     ]
 
 abbrev pub neighbourIn : ℕ → List ℕ → ℕ → ℕ → Corner → ℕ → ℕ → Out
 neighbourIn zero t n u c d s = out t 0 n
 neighbourIn (suc f) t n u c d s =
-    elim (getD t (u * 21 + (10 + d)) 0) [
+    elim (getD t (wordAt u (neighbourWord d)) 0) [
       | zero ↦ elim (isRoot (stepped d c)) [ true ↦ out (linkIn t u 0 d s) 1 n | false ↦ finishIn (aboveIn (λ v p. neighbourIn f t n v p d s) t n u c (stepped d c)) u (stepped d c) d s ]
       | suc k ↦ out t (suc k) n
     ]
@@ -56,38 +57,38 @@ neighbourIn (suc f) t n u c d s =
 -- ---- the visit
 abbrev pub visitIn : List ℕ → ℕ → ℕ → List ℕ
 visitIn t r k =
-    elim (eqb (getD t (r * 21 + 18) 0) 0) [
-      | true ↦ set (set t (r * 21 + 18) (getD t (r * 21 + 18) 0 + 1)) (r * 21 + 20) (k + 1)
-      | false ↦ set t (r * 21 + 18) (getD t (r * 21 + 18) 0 + 1)
+    elim (eqb (getD t (wordAt r visitsWord) 0) 0) [
+      | true ↦ set (set t (wordAt r visitsWord) (getD t (wordAt r visitsWord) 0 + 1)) (wordAt r firstWord) (k + 1)
+      | false ↦ set t (wordAt r visitsWord) (getD t (wordAt r visitsWord) 0 + 1)
     ]
 
 abbrev pub unvisitIn : List ℕ → ℕ → List ℕ
 unvisitIn t r =
-    elim (eqb (getD t (r * 21 + 18) 0) 1) [
-      | true ↦ set (set t (r * 21 + 18) (getD t (r * 21 + 18) 0 - 1)) (r * 21 + 20) 0
-      | false ↦ set t (r * 21 + 18) (getD t (r * 21 + 18) 0 - 1)
+    elim (eqb (getD t (wordAt r visitsWord) 0) 1) [
+      | true ↦ set (set t (wordAt r visitsWord) (getD t (wordAt r visitsWord) 0 - 1)) (wordAt r firstWord) 0
+      | false ↦ set t (wordAt r visitsWord) (getD t (wordAt r visitsWord) 0 - 1)
     ]
 
 -- ---- the take-back: the links, and then the nodes
 abbrev pub unsetIn : List ℕ → ℕ → ℕ → ℕ → List ℕ
-unsetIn t u v d = set (set (set (set t (u * 21 + (10 + d)) 0) (u * 21 + (14 + d)) 0) (v * 21 + (10 + (d + 2) % 4)) 0) (v * 21 + (14 + (d + 2) % 4)) 0
+unsetIn t u v d = set (set (set (set t (wordAt u (neighbourWord d)) 0) (wordAt u (linkWord d)) 0) (wordAt v (neighbourWord ((d + 2) % 4))) 0) (wordAt v (linkWord ((d + 2) % 4))) 0
 
 abbrev pub unlinkIn : ℕ → List ℕ → ℕ → ℕ → ℕ → List ℕ
 unlinkIn zero t u d s = t
 unlinkIn (suc f) t u d s =
-    elim (eqb (getD t (u * 21 + (14 + d)) 0) s) [
+    elim (eqb (getD t (wordAt u (linkWord d)) 0) s) [
       | true ↦
-          let t′ = unsetIn t u (getD t (u * 21 + (10 + d)) 0 - 1) d in
-          elim (getD t′ (u * 21 + 0) 0) [ zero ↦ t′ | suc v ↦ unlinkIn f t′ v d s ]
+          let t′ = unsetIn t u (getD t (wordAt u (neighbourWord d)) 0 - 1) d in
+          elim (getD t′ (wordAt u parentWord) 0) [ zero ↦ t′ | suc v ↦ unlinkIn f t′ v d s ]
       | false ↦ t
     ]
 
 abbrev pub dropIn : ℕ → List ℕ → ℕ → ℕ → Corner → ℕ → Out
 dropIn zero t left u h s = out t 0 left
 dropIn (suc f) t left u h s =
-    elim (eqb (getD t (u * 21 + 19) 0) s) [
+    elim (eqb (getD t (wordAt u needWord) 0) s) [
       | true ↦
-          let v = getD t (u * 21 + 0) 0 - 1 in
-          dropIn f (sets (set t (v * 21 + childWord h) 0) (u * 21) (replicate 21 0)) (left - 1) v (parentOf h) s
+          let v = getD t (wordAt u parentWord) 0 - 1 in
+          dropIn f (sets (set t (wordAt v (childWord h)) 0) (u * width) (replicate width 0)) (left - 1) v (parentOf h) s
       | false ↦ out t 0 left
     ]

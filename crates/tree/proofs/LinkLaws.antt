@@ -25,6 +25,7 @@ legsOf-snoc (p ∷ s ∷ ps) q r = ap (λ (l : List (Corner × Corner)). (p, s) 
 pub link-kept : (ps : List Corner) (q r a : Corner) (d : ℕ) → any (links a (stepped d a)) (legsOf (ps ++ (q ∷ []))) ≡ true → linkStepOf (ps ++ (q ∷ r ∷ [])) a d ≡ linkStepOf (ps ++ (q ∷ [])) a d
 link-kept ps q r a d e = ap (find (links a (stepped d a))) (legsOf-snoc ps q r) ∙ find-left (links a (stepped d a)) (legsOf (ps ++ (q ∷ []))) ((q, r) ∷ []) e
 
+-- q is p, or its neighbour in direction d
 abbrev pub Near : ℕ → Corner → Corner → Type 0
 Near d p q = (q ≡ p) ⊎ (q ≡ stepped d p)
 

@@ -18,32 +18,25 @@ use Rattle.lists.specs.Lists.{add, gather}
 use Rattle.trace.specs.Meeting.{visitedOf}
 use Rattle.tree.specs.Nodes.{pathsOf, nodesOf}
 use Rattle.grid.proofs.CornerLaws.{same-refl, same-sound}
-use Rattle.grid.proofs.ParentLaws.{parentOf-stepped}
 use Rattle.grid.proofs.PathLaws.{pathOf-root, pathOf-snoc, natAbs-halfOf, root-of-size}
 use Rattle.lists.proofs.GatherLaws.{Distinct, gather-more, add-cases, distinct-gather, mem-add, mem-add-cases, mem-gather-left, mem-gather-right, mem-gather-cases, mem→any, any→mem}
 use Rattle.lists.proofs.PigeonLaws.{pigeon}
+use Rattle.tree.proofs.LinkLaws.{Near, near-parent}
 use Rattle.tree.proofs.NodeLaws.{mem-paths, mem-paths-cases}
 use Rattle.tree_laws.proofs.ClassLaws.{class, step-class, members, in-members}
-
-abbrev Near : Corner → Corner → Type 0
-Near p q = (q ≡ p) ⊎ ((d : ℕ) × (q ≡ stepped d p))
 
 -- each corner is at, or one step from, the one before it
 abbrev Trail : Corner → List Corner → Type 0
 Trail p [] = Unit {0}
-Trail p (q ∷ qs) = Near p q × Trail q qs
-
-near-parent : (p q : Corner) → Near p q → Near (parentOf p) (parentOf q)
-near-parent p q (inl e) = inl (ap parentOf e)
-near-parent p q (inr h) = ⊎-map (λ e. ap parentOf (h .1) ∙ e) (λ e. (h .0, ap parentOf (h .1) ∙ e)) (parentOf-stepped (h .0) p)
+Trail p (q ∷ qs) = ((d : ℕ) × Near d p q) × Trail q qs
 
 trail-parent : (p : Corner) (qs : List Corner) → Trail p qs → Trail (parentOf p) (map parentOf qs)
 trail-parent p [] t = tt
-trail-parent p (q ∷ qs) t = (near-parent p q (t .0), trail-parent q qs (t .1))
+trail-parent p (q ∷ qs) t = ((t .0 .0, near-parent (t .0 .0) p q (t .0 .1)), trail-parent q qs (t .1))
 
-near-class : (p q : Corner) → Near p q → (parentOf q ≡ parentOf p) ⊎ (class q ≡ class p)
-near-class p q (inl e) = inl (ap parentOf e)
-near-class p q (inr h) = ⊎-map (λ e. ap parentOf (h .1) ∙ e) (λ e. ap class (h .1) ∙ e) (step-class (h .0) p)
+near-class : (d : ℕ) (p q : Corner) → Near d p q → (parentOf q ≡ parentOf p) ⊎ (class q ≡ class p)
+near-class d p q (inl e) = inl (ap parentOf e)
+near-class d p q (inr e) = ⊎-map (λ h. ap parentOf e ∙ h) (λ h. ap class e ∙ h) (step-class d p)
 
 -- adding what is there changes nothing; adding anything adds at most one
 add-known : (s : List Corner) (x : Corner) → List·Memᴰ x s → add same s x ≡ s
@@ -59,7 +52,7 @@ record Count (p : Corner) (vs us ks : List Corner) : Type 0 where
   classes : (v : Corner) → List·Memᴰ v vs → List·Memᴰ (class v) ks
   few : length us + length ks ≤ length vs + 1
 
-count-few : (p q : Corner) (vs us ks : List Corner) → Count p vs us ks → Near p q
+count-few : (p q : Corner) (vs us ks : List Corner) → Count p vs us ks → (d : ℕ) × Near d p q
     → length (add same us (parentOf q)) + length (add same ks (class q)) ≤ length (add same vs q) + 1
 count-few p q vs us ks c n =
     ⊎-elim
@@ -71,10 +64,10 @@ count-few p q vs us ks c n =
     ⊎-elim
     (λ e. omega (arith, c .few, ap length (add-known us (parentOf q) (Memᴰ·cast e (c .parents p (c .here)))), add-length ks (class q)))
     (λ e. omega (arith, c .few, ap length (add-known ks (class q) (Memᴰ·cast e (c .classes p (c .here)))), add-length us (parentOf q)))
-    (near-class p q n))
+    (near-class (n .0) p q (n .1)))
     (add-cases same vs q)
 
-count-step : (p q : Corner) (vs us ks : List Corner) → Count p vs us ks → Near p q → Count q (add same vs q) (add same us (parentOf q)) (add same ks (class q))
+count-step : (p q : Corner) (vs us ks : List Corner) → Count p vs us ks → (d : ℕ) × Near d p q → Count q (add same vs q) (add same us (parentOf q)) (add same ks (class q))
 count-step p q vs us ks c n = record {
   here = mem-add same same-sound same-refl vs q;
   parents = λ v m. ⊎-elim
@@ -217,7 +210,7 @@ trail-corners : (c : Corner) (ds : List ℕ) → (r : List Corner) × (cornersFr
 trail-corners c [] = ([], refl, tt)
 trail-corners c (d ∷ ds) =
     let h = trail-corners (stepped d c) ds in
-    (stepped d c ∷ h .0, ap (λ (l : List Corner). c ∷ l) (h .1), (inr (d, refl), h .2))
+    (stepped d c ∷ h .0, ap (λ (l : List Corner). c ∷ l) (h .1), ((d, inr refl), h .2))
 
 trail-few : (qs : List Corner) → Trail origin qs → length (nodesOf (origin ∷ qs)) + 3 ≤ 4 * length (visitedOf (origin ∷ qs))
 trail-few qs t =

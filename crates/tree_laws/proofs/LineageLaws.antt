@@ -4,39 +4,18 @@ use mathlib.Core.Bool.{Bool, true, false, _||_}
 use mathlib.Core.List.{List, [], _∷_, List·Memᴰ, Memᴰ·append-left, Memᴰ·cast}
 use mathlib.Core.Logic.{_⊎_, ⊎-map, ⊎-elim}
 use mathlib.Core.Path.{_≡_, refl, ap, ap₂, sym, _∙_}
-use Prim.Native.Nat.{ℕ, zero, suc, _+_, _≤_}
+use Prim.Native.Nat.{_+_, _≤_}
 use native.Mathlib.Omega.{arith}
 use Rattle.grid.specs.declared.Corner.{Corner}
 use Rattle.grid.specs.Tree.{parentOf, isRoot, sizeOf, ancestorsBy, lineageOf, pathOf}
 use Rattle.lists.specs.Lists.{any, zip}
 use Rattle.tree.specs.Nodes.{joins, links}
-use Rattle.grid.proofs.PathLaws.{root-of-size, sizeOf-parentOf, pathOf-snoc, tree-ind}
+use Rattle.grid.proofs.AncestorLaws.{lineageOf-root, lineageOf-cons, mem-path}
+use Rattle.grid.proofs.PathLaws.{sizeOf-parentOf, pathOf-snoc, tree-ind}
 use Rattle.lists.proofs.FindLaws.{bool-agree}
 use Rattle.lists.proofs.GatherLaws.{or-cases, or-right}
 use Rattle.tree.proofs.JoinLaws.{joins-cases, joins-here, joins-there, joins-flip}
-use Rattle.tree.proofs.NodeLaws.{mem-path}
-
-above-root : (f : ℕ) (c : Corner) → isRoot c ≡ true → ancestorsBy f c ≡ []
-above-root zero c e = refl
-above-root (suc f) c e = rw (e, ancestorsBy)
-
-above-enough : (f g : ℕ) (c : Corner) → sizeOf c ≤ f → sizeOf c ≤ g → ancestorsBy f c ≡ ancestorsBy g c
-above-enough zero g c p q = sym (above-root g c (root-of-size c (omega arith)))
-above-enough (suc f) zero c p q = above-root (suc f) c (root-of-size c (omega arith))
-above-enough (suc f) (suc g) c p q = go (isRoot c) refl (λ h k. above-enough f g (parentOf c) h k)
-  where
-    go : (b : Bool) → isRoot c ≡ b → (sizeOf (parentOf c) ≤ f → sizeOf (parentOf c) ≤ g → ancestorsBy f (parentOf c) ≡ ancestorsBy g (parentOf c)) → ancestorsBy (suc f) c ≡ ancestorsBy (suc g) c
-    go true e ih = rw (e, ancestorsBy)
-    go false e ih = rw (e, ancestorsBy) (ap (λ (l : List Corner). parentOf c ∷ l) (ih (omega (arith, sizeOf-parentOf c e)) (omega (arith, sizeOf-parentOf c e))))
-
-pub lineage-root : (c : Corner) → isRoot c ≡ true → lineageOf c ≡ c ∷ []
-lineage-root c e = ap (λ (l : List Corner). c ∷ l) (above-root (sizeOf c) c e)
-
-pub lineage-step : (c : Corner) → isRoot c ≡ false → lineageOf c ≡ c ∷ lineageOf (parentOf c)
-lineage-step c e =
-    ap (λ (l : List Corner). c ∷ l)
-    (above-enough (sizeOf c) (suc (sizeOf c)) c (omega arith) (omega arith)
-    ∙ rw (e, ancestorsBy) (ap (λ (l : List Corner). parentOf c ∷ l) (above-enough (sizeOf c) (sizeOf (parentOf c)) (parentOf c) (omega (arith, sizeOf-parentOf c e)) (omega arith))))
+use Rattle.tree.proofs.LinkLaws.{zip-nil}
 
 or-nothing : (b : Bool) → (b || false) ≡ b
 or-nothing true = refl
@@ -53,17 +32,13 @@ pair-ind P l r s = tree-ind (λ a. (e : Corner) → P a e) (λ a h e. l a e h) (
 
 -- the levels of a leg, one by one
 pub links-left : (x y a e : Corner) → isRoot a ≡ true → links x y (a, e) ≡ joins x y (a, e)
-links-left x y a e h = ap (λ (l : List Corner). any (joins x y) (zip l (lineageOf e))) (lineage-root a h) ∙ or-nothing (joins x y (a, e))
+links-left x y a e h = ap (λ (l : List Corner). any (joins x y) (zip l (lineageOf e))) (lineageOf-root a h) ∙ or-nothing (joins x y (a, e))
 
 pub links-right : (x y a e : Corner) → isRoot e ≡ true → links x y (a, e) ≡ joins x y (a, e)
-links-right x y a e h = ap (λ (l : List Corner). joins x y (a, e) || any (joins x y) (zip (ancestorsBy (sizeOf a) a) l)) (above-root (sizeOf e) e h) ∙ ap (λ (l : List (Corner × Corner)). joins x y (a, e) || any (joins x y) l) (zip-none (ancestorsBy (sizeOf a) a)) ∙ or-nothing (joins x y (a, e))
-  where
-    zip-none : (l : List Corner) → zip {B = Corner} l [] ≡ []
-    zip-none [] = refl
-    zip-none (c ∷ l) = refl
+links-right x y a e h = ap (λ (l : List Corner). any (joins x y) (zip (lineageOf a) l)) (lineageOf-root e h) ∙ ap (λ (l : List (Corner × Corner)). joins x y (a, e) || any (joins x y) l) (zip-nil (ancestorsBy (sizeOf a) a)) ∙ or-nothing (joins x y (a, e))
 
 pub links-step : (x y a e : Corner) → isRoot a ≡ false → isRoot e ≡ false → links x y (a, e) ≡ (joins x y (a, e) || links x y (parentOf a, parentOf e))
-links-step x y a e h k = ap₂ (λ (l m : List Corner). any (joins x y) (zip l m)) (lineage-step a h) (lineage-step e k)
+links-step x y a e h k = ap₂ (λ (l m : List Corner). any (joins x y) (zip l m)) (lineageOf-cons a h) (lineageOf-cons e k)
 
 pub links-here : (a e : Corner) → links a e (a, e) ≡ true
 links-here a e = rw (joins-here a e)

@@ -8,7 +8,7 @@ use lib.ListN.{length, replicate}
 use Rattle.grid.specs.declared.Corner.{Corner}
 use Rattle.grid.specs.Grid.{origin, same, stepped}
 use Rattle.grid.specs.Tree.{parentOf, isRoot, pathOf}
-use Rattle.layout.specs.Table.{childRefOf}
+use Rattle.layout.specs.Table.{width, Fields, wordsOf, childRefOf}
 use Rattle.lists.specs.Lists.{any, find, count, gather, tally, Distinct}
 use Rattle.tree.specs.Nodes.{nodesOf, joins, links, legsOf, refOf}
 
@@ -140,20 +140,20 @@ stateOf ps = record {
 abbrev pub neighbourBy : List Corner → (Corner → Corner → ℕ) → Corner → ℕ → ℕ
 neighbourBy ns L a d = elim (L a (stepped d a)) [ zero ↦ 0 | suc k ↦ refOf ns (stepped d a) ]
 
--- the 21 words of node a
+-- what the record of node a holds, and its words
+abbrev pub fieldsBy : State → Corner → Fields
+fieldsBy S a = record {
+  parent = cond (isRoot a) 0 (refOf (S .nodes) (parentOf a));
+  child = childRefOf (S .nodes) a;
+  neighbour = neighbourBy (S .nodes) (S .step) a;
+  link = λ d. S .step a (stepped d a);
+  visits = S .visits a;
+  need = S .need a;
+  first = S .first a;
+}
+
 abbrev pub recordBy : State → Corner → List ℕ
-recordBy S a =
-    cond (isRoot a) 0 (refOf (S .nodes) (parentOf a))
-    ∷ childRefOf (S .nodes) a 1 ∷ childRefOf (S .nodes) a 2 ∷ childRefOf (S .nodes) a 3
-    ∷ childRefOf (S .nodes) a 4 ∷ childRefOf (S .nodes) a 5 ∷ childRefOf (S .nodes) a 6
-    ∷ childRefOf (S .nodes) a 7 ∷ childRefOf (S .nodes) a 8 ∷ childRefOf (S .nodes) a 9
-    ∷ neighbourBy (S .nodes) (S .step) a 0 ∷ neighbourBy (S .nodes) (S .step) a 1
-    ∷ neighbourBy (S .nodes) (S .step) a 2 ∷ neighbourBy (S .nodes) (S .step) a 3
-    ∷ S .step a (stepped 0 a) ∷ S .step a (stepped 1 a) ∷ S .step a (stepped 2 a) ∷ S .step a (stepped 3 a)
-    ∷ S .visits a
-    ∷ S .need a
-    ∷ S .first a
-    ∷ []
+recordBy S a = wordsOf (fieldsBy S a)
 
 -- a table by its rows
 abbrev pub rowsOf : (Corner → List ℕ) → List Corner → List ℕ
@@ -168,15 +168,15 @@ tableBy words S = filled words (rowsOf (recordBy S) (S .nodes))
 
 -- what a lookup makes of the table (t), answering the ref `at` of the node e and the number of nodes: the state T, if there is room for it
 pub record Made (words : ℕ) (T : State) (e : Corner) (t : List ℕ) (at nodes : ℕ) : Type 0 where
-  pub fits : 21 * length (T .nodes) ≤ words → (t ≡ tableBy words T) × (at ≡ refOf (T .nodes) e) × (nodes ≡ length (T .nodes))
-  pub full : words < 21 * length (T .nodes) → at ≡ 0
+  pub fits : width * length (T .nodes) ≤ words → (t ≡ tableBy words T) × (at ≡ refOf (T .nodes) e) × (nodes ≡ length (T .nodes))
+  pub full : words < width * length (T .nodes) → at ≡ 0
 
 -- a table that holds a state, with so many nodes in use
 pub record Holds (t : List ℕ) (n : ℕ) (S : State) : Type 0 where
   pub sound : Sound S
   pub table : t ≡ tableBy (length t) S
   pub count : n ≡ length (S .nodes)
-  pub room : 21 * n ≤ length t
+  pub room : width * n ≤ length t
 
 -- some state
 pub record Held (t : List ℕ) (n : ℕ) : Type 0 where

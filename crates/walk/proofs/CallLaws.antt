@@ -4,7 +4,7 @@ use mathlib.Core.Bool.{Bool, true, false, not}
 use mathlib.Core.List.{List, [], _∷_, _++_}
 use mathlib.Core.Logic.{_⊎_, inl, inr, ⊎-elim}
 use mathlib.Core.Path.{_≡_, refl, ap, ap₂, sym, subst, _∙_}
-use Prim.Native.Nat.{ℕ, suc, _+_, _-_, _*_, _/_, _≤_}
+use Prim.Native.Nat.{ℕ, suc, _-_, _≤_}
 use native.Mathlib.Omega.{arith}
 use lib.Dec.{eqb, ltb}
 use lib.ListN.{length, take, replicate, getD, length-append, getD-replicate}
@@ -21,7 +21,7 @@ use Rattle.walk_run.specs.Runs.{Chained}
 use Rattle.grid.specs.declared.Corner.{Corner}
 use Rattle.grid.specs.Grid.{origin, cornersFrom}
 use Rattle.layout.specs.Marks.{marksOf, chainOf}
-use Rattle.layout.specs.Table.{tableOf}
+use Rattle.layout.specs.Table.{width, recordsIn, wordAt, visitsWord, tableOf}
 use Rattle.walk_step.specs.declared.Walk.{Walk}
 use Rattle.table_laws.specs.Model.{visitIn}
 use Rattle.tree.specs.Nodes.{nodesOf}
@@ -40,7 +40,7 @@ untouched r new old e = rw e
 -- a refused input
 pub walk-refused : (os t ms ch : List ℕ) (r : Refusal) → Refused r ≡ inputJudged os (length t) (length ms) (length ch) → WalkIs origin os t ms ch (Answer.Refused r) t ms ch
 walk-refused os t ms ch r e =
-    let j : walkJudged origin os (length t) (length ms) (length ch) ≡ Refused r = judged-split origin os (length t) (length ms) (length ch) ∙ ap (λ (x : Judged). orElse x (roomFrom (length t / 21) origin 0 [] os)) (sym e) in
+    let j : walkJudged origin os (length t) (length ms) (length ch) ≡ Refused r = judged-split origin os (length t) (length ms) (length ch) ∙ ap (λ (x : Judged). orElse x (roomFrom (recordsIn (length t)) origin 0 [] os)) (sym e) in
     let n : eqb (refusalNumber r) 7 ≡ false = subst Early (sym e) (early-input os (length t) (length ms) (length ch)) in
     record {
       answer = sym (ap (λ (x : Judged). answerBy x (factsOf origin (survivors os))) j);
@@ -50,10 +50,10 @@ walk-refused os t ms ch r e =
     }
 
 -- ---- the root alone
-pub plant-reads : (words : ℕ) (t : List ℕ) → t ≡ replicate words 0 → 21 ≤ words → getD t (0 * 21 + 18) 0 ≡ 0
-plant-reads words t e h = ap (λ (l : List ℕ). getD l (0 * 21 + 18) 0) e ∙ getD-replicate words (0 * 21 + 18) 0 0 (omega arith)
+pub plant-reads : (words : ℕ) (t : List ℕ) → t ≡ replicate words 0 → width ≤ words → getD t (wordAt 0 visitsWord) 0 ≡ 0
+plant-reads words t e h = ap (λ (l : List ℕ). getD l (wordAt 0 visitsWord) 0) e ∙ getD-replicate words (wordAt 0 visitsWord) 0 0 (omega arith)
 
-pub plant-table : (words : ℕ) (t t′ : List ℕ) → t ≡ replicate words 0 → t′ ≡ visitIn t 0 0 → 21 ≤ words → t′ ≡ tableOf words origin []
+pub plant-table : (words : ℕ) (t t′ : List ℕ) → t ≡ replicate words 0 → t′ ≡ visitIn t 0 0 → width ≤ words → t′ ≡ tableOf words origin []
 plant-table words t t′ e q h =
     q
     ∙ ap (λ (l : List ℕ). visitIn l 0 0) e
@@ -89,7 +89,7 @@ settled-cleared ch ch′ ds w k e =
     )
 
 -- ---- the operations
-pub followed-full : (os t ms ch t′ ms′ ch′ : List ℕ) (i : ℕ) → roomFrom (length t / 21) origin 0 [] os ≡ Refused (NoRoom i)
+pub followed-full : (os t ms ch t′ ms′ ch′ : List ℕ) (i : ℕ) → roomFrom (recordsIn (length t)) origin 0 [] os ≡ Refused (NoRoom i)
     → t′ ≡ replicate (length t) 0 → ms′ ≡ replicate (length ms) 0 → ch′ ≡ replicate (length ch) 0 → Followed os t ms ch (Answer.Refused (NoRoom i)) t′ ms′ ch′
 followed-full os t ms ch t′ ms′ ch′ i e p q r = record {
   answer = sym (ap (λ (x : Judged). answerBy x (factsOf origin (survivors os))) e);
@@ -98,7 +98,7 @@ followed-full os t ms ch t′ ms′ ch′ i e p q r = record {
   chain = r ∙ sym (ap (λ (x : Judged). bufferBy x (chainOf os) ch) e);
 }
 
-pub followed-all : (os t ms ch t′ ms′ ch′ ch″ : List ℕ) (w : Walk) (f : Facts) → Chained origin t′ ch′ (survivors os) w → ms′ ≡ marksOf origin os → roomFrom (length t / 21) origin 0 [] os ≡ Good
+pub followed-all : (os t ms ch t′ ms′ ch′ ch″ : List ℕ) (w : Walk) (f : Facts) → Chained origin t′ ch′ (survivors os) w → ms′ ≡ marksOf origin os → roomFrom (recordsIn (length t)) origin 0 [] os ≡ Good
     → length t′ ≡ length t → length ch′ ≡ length os → f ≡ factsOf origin (survivors os) → ch″ ≡ survivors os ++ replicate (length ch′ - length (survivors os)) 0
     → Followed os t ms ch (Answer.Accepted f) t′ ms′ ch″
 followed-all os t ms ch t′ ms′ ch′ ch″ w f k q e l n g h = record {
@@ -127,14 +127,14 @@ room-buffer j new old old′ l (inr e) = rw (e .1) (ap (λ (n : ℕ). replicate 
 pub walk-followed : (os t t₁ ms ch : List ℕ) (r : Answer) (t′ ms′ ch′ : List ℕ) → Good ≡ inputJudged os (length t) (length ms) (length ch) → length t₁ ≡ length t
     → Followed os t₁ ms ch r t′ ms′ ch′ → WalkIs origin os t ms ch r t′ ms′ ch′
 walk-followed os t t₁ ms ch r t′ ms′ ch′ e l f =
-    let R : ℕ → Judged = λ n. roomFrom (n / 21) origin 0 [] os in
+    let R : ℕ → Judged = λ n. roomFrom (recordsIn n) origin 0 [] os in
     let j : walkJudged origin os (length t) (length ms) (length ch) ≡ R (length t) = judged-split origin os (length t) (length ms) (length ch) ∙ ap (λ (x : Judged). orElse x (R (length t))) (sym e) in
     let k : R (length t₁) ≡ walkJudged origin os (length t) (length ms) (length ch) = ap R l ∙ sym j in
     record {
       answer = f .answer ∙ ap (λ (x : Judged). answerBy x (factsOf origin (survivors os))) k;
       table =
           f .table
-          ∙ room-buffer (R (length t₁)) (tableOf (length t₁) origin (survivors os)) t₁ t l (room-cases (length t₁ / 21) origin 0 [] os)
+          ∙ room-buffer (R (length t₁)) (tableOf (length t₁) origin (survivors os)) t₁ t l (room-cases (recordsIn (length t₁)) origin 0 [] os)
           ∙ ap₂ (λ (x : Judged) (n : ℕ). bufferBy x (tableOf n origin (survivors os)) t) k l;
       marks = f .marks ∙ ap (λ (x : Judged). bufferBy x (marksOf origin os) ms) k;
       chain = f .chain ∙ ap (λ (x : Judged). bufferBy x (chainOf os) ch) k;

@@ -12,14 +12,15 @@ ghost use lib.ListN.{length, replicate};
 ghost use Rattle.answer.specs.declared.Judged.the-variants.{Good};
 ghost use Rattle.walk_call.specs.Walk.{factsOf, WalkIs};
 ghost use Rattle.grid.specs.Grid.{origin};
-ghost use Rattle.layout.specs.Table.{tableOf};
+ghost use Rattle.layout.specs.Marks.{markWords};
+ghost use Rattle.layout.specs.Table.{width, tableOf};
 ghost use Rattle.steps.specs.Operations.{faultsFrom};
 ghost use Rattle.walk_facts.specs.Settled.{Settled, Settling};
 ghost use Rattle.walk.specs.Followed.{Followed};
 
 // A table with the root alone, which is visited once.
 fn plant(t: &mut [u32])
-    requires { ⌜ 21 ≤ length (now t) ⌝ }
+    requires { ⌜ width ≤ length (now t) ⌝ }
     ensures { λ _. ⌜ now (t .exit) ≡ tableOf (length (now (t .entry))) origin [] ⌝ }
 {
     walk_table::zero(t);
@@ -49,8 +50,8 @@ fn accept(chain: &mut [u8], w: Walk) -> Facts
 
 // Follows operations that have no fault, in a table with the root alone.
 fn go_on(ops: &[u8], t: &mut [u32], marks: &mut [u32], chain: &mut [u8]) -> Answer
-    requires { ⌜ (now t ≡ tableOf (length (now t)) origin []) × (21 ≤ length (now t)) × (length (now t) < 2 ^ 32) ⌝ }
-    requires { ⌜ (length (now marks) ≡ 2 * length (now ops)) × (length (now chain) ≡ length (now ops)) × (length (now ops) ≤ 32768) ⌝ }
+    requires { ⌜ (now t ≡ tableOf (length (now t)) origin []) × (width ≤ length (now t)) × (length (now t) < 2 ^ 32) ⌝ }
+    requires { ⌜ (length (now marks) ≡ markWords * length (now ops)) × (length (now chain) ≡ length (now ops)) × (length (now ops) ≤ 32768) ⌝ }
     requires { ⌜ faultsFrom 0 0 (now ops) ≡ Good ⌝ }
     ensures { λ r. ⌜ Followed (now (ops .entry)) (now (t .entry)) (now (marks .entry)) (now (chain .entry)) r (now (t .exit)) (now (marks .exit)) (now (chain .exit)) ⌝ }
 {

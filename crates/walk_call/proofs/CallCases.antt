@@ -8,10 +8,11 @@ use Rattle.answer.specs.declared.Answer.{Answer}
 use Rattle.answer.specs.declared.Judged.the-variants.{Good, Refused}
 use Rattle.answer.specs.declared.Refusal.the-variants.{Table, ResultRoom, BadDigit, NothingToTake, NoRoom}
 use Rattle.grid.specs.Grid.{origin}
+use Rattle.layout.specs.Table.{width}
 use Rattle.walk_call.specs.Walk.{tableFits, walkJudged, walkAnswer, factsOf, bufferBy}
 
--- 21 words for each of 1 to 131,080 records
-smallest-table : tableFits 21 ≡ true
+-- the words of 1 to 131,080 records
+smallest-table : tableFits width ≡ true
 smallest-table = refl
 
 no-table : tableFits 0 ≡ false
@@ -20,24 +21,24 @@ no-table = refl
 part-of-a-record : tableFits 22 ≡ false
 part-of-a-record = refl
 
-largest-table : tableFits (21 * 131080) ≡ true
+largest-table : tableFits (width * 131080) ≡ true
 largest-table = refl
 
-larger-table : tableFits (21 * 131081) ≡ false
+larger-table : tableFits (width * 131081) ≡ false
 larger-table = refl
 
 -- 2 before 3 before 4
 table-first : walkJudged origin (5 ∷ []) 20 0 0 ≡ Refused Table
 table-first = refl
 
-room-second : walkJudged origin (5 ∷ []) 21 2 0 ≡ Refused ResultRoom
+room-second : walkJudged origin (5 ∷ []) width 2 0 ≡ Refused ResultRoom
 room-second = refl
 
 -- 4 and 5 at any place before 7 at an earlier one
-digits-before-room : walkJudged origin (0 ∷ 0 ∷ 5 ∷ []) 21 6 3 ≡ Refused (BadDigit 2)
+digits-before-room : walkJudged origin (0 ∷ 0 ∷ 5 ∷ []) width 6 3 ≡ Refused (BadDigit 2)
 digits-before-room = refl
 
-nothing-before-room : walkJudged origin (0 ∷ 4 ∷ 4 ∷ []) 21 6 3 ≡ Refused (NothingToTake 2)
+nothing-before-room : walkJudged origin (0 ∷ 4 ∷ 4 ∷ []) width 6 3 ≡ Refused (NothingToTake 2)
 nothing-before-room = refl
 
 -- 7 at the first place after which the nodes needed exceed the records, also where a take-back would mend it
@@ -54,7 +55,7 @@ zeros-for-no-room = refl
 untouched-otherwise : bufferBy (Refused (BadDigit 3)) (1 ∷ 1 ∷ []) (7 ∷ 7 ∷ []) ≡ 7 ∷ 7 ∷ []
 untouched-otherwise = refl
 
-refused-answer : walkAnswer origin (4 ∷ []) 21 2 1 ≡ Answer.Refused (NothingToTake 0)
+refused-answer : walkAnswer origin (4 ∷ []) width 2 1 ≡ Answer.Refused (NothingToTake 0)
 refused-answer = refl
 
 accepted-answer : walkAnswer origin (0 ∷ 4 ∷ []) 42 4 2 ≡ Answer.Accepted (factsOf origin [])

@@ -5,7 +5,7 @@ use mathlib.Core.Bool.{Bool, true, false}
 use mathlib.Core.List.{List, [], _∷_, _++_, append-assoc}
 use mathlib.Core.Logic.{_⊎_, inl, inr, ⊎-elim}
 use mathlib.Core.Path.{_≡_, refl, ap, sym}
-use Prim.Native.Nat.{ℕ, zero, suc, _+_, _*_, _/_, _<_, _≤_}
+use Prim.Native.Nat.{ℕ, zero, suc, _+_, _*_, _<_, _≤_}
 use native.Mathlib.Omega.{arith}
 use borrow.Author.Tests.{ltb-true, ltb-false, eq-eqb, lt-ltb, le-ltb}
 use lib.Dec.{ltb}
@@ -17,6 +17,8 @@ use Rattle.grid.specs.Grid.{cornersFrom}
 use Rattle.lists.specs.Lists.{Below}
 use Rattle.tree.specs.Nodes.{nodesOf}
 use Rattle.steps.specs.Operations.{operate, survivorsFrom, survivors}
+use Rattle.layout.specs.Marks.{markWords}
+use Rattle.layout.specs.Table.{recordsIn}
 use Rattle.answer.proofs.RefusalLaws.{refused-not-good, clear, clear-first, when-good}
 use Rattle.tree.proofs.NodeLaws.{nodes-grow, nodes-mono}
 use Rattle.steps.proofs.SurvivorLaws.{Sound, operate-step, operate-back, survivors-steps, sound-survivors, steps-accepted, length-survivors}
@@ -63,18 +65,18 @@ room-last r c i s (o ∷ os) e = inr (go (ltb r (needs c (operate s o))) refl (�
 
 -- an accepted record's surviving steps are accepted alone, in a table of the same size, and they survive
 pub alone : (c : Corner) (os : List ℕ) (words m k : ℕ) → walkJudged c os words m k ≡ Good
-    → (survivors (survivors os) ≡ survivors os) × (walkJudged c (survivors os) words (2 * length (survivors os)) (length (survivors os)) ≡ Good)
+    → (survivors (survivors os) ≡ survivors os) × (walkJudged c (survivors os) words (markWords * length (survivors os)) (length (survivors os)) ≡ Good)
 alone c os words m k e =
     let ds = survivors os in
     let h = clear (walkJudgements c os words m k) e in
     let s : Sound ds = sound-survivors 0 [] os (record { digits = tt; few = omega arith }) (h .1 .1 .1 .0) in
     let l : length os ≤ 32768 = ltb-false 32768 (length os) (when-good (ltb 32768 (length os)) TooMany (h .0)) in
     let b : ltb 32768 (length ds) ≡ false = le-ltb 32768 (length ds) (omega (arith, length-survivors [] os)) in
-    let r : roomFrom (words / 21) c 0 [] ds ≡ Good =
-    ⊎-elim (λ n. ap (λ (x : List ℕ). roomFrom (words / 21) c 0 [] (survivors x)) n) (λ r. room-steps (words / 21) c 0 [] ds (s .digits) r) (room-last (words / 21) c 0 [] os (h .1 .1 .1 .1 .0)) in (
+    let r : roomFrom (recordsIn words) c 0 [] ds ≡ Good =
+    ⊎-elim (λ n. ap (λ (x : List ℕ). roomFrom (recordsIn words) c 0 [] (survivors x)) n) (λ r. room-steps (recordsIn words) c 0 [] ds (s .digits) r) (room-last (recordsIn words) c 0 [] os (h .1 .1 .1 .1 .0)) in (
       survivors-steps [] ds (s .digits),
-      clear-first (walkJudgements c ds words (2 * length ds) (length ds)) (
+      clear-first (walkJudgements c ds words (markWords * length ds) (length ds)) (
         rw b,
-        (h .1 .0, (rw (eq-eqb (2 * length ds) (2 * length ds) refl, eq-eqb (length ds) (length ds) refl), (steps-accepted 0 0 ds (s .digits) (omega (arith, s .few)), (r, tt)))),
+        (h .1 .0, (rw (eq-eqb (markWords * length ds) (markWords * length ds) refl, eq-eqb (length ds) (length ds) refl), (steps-accepted 0 0 ds (s .digits) (omega (arith, s .few)), (r, tt)))),
       ),
     )

@@ -4,7 +4,7 @@ use mathlib.Core.Bool.{Bool, true, false, not, _&&_}
 use mathlib.Core.List.{List, [], _∷_}
 use mathlib.Core.Logic.{⊎-elim}
 use mathlib.Core.Path.{_≡_, refl, ap, sym, subst, _∙_}
-use Prim.Native.Nat.{ℕ, suc, _+_, _*_, _/_, _%_, _<_, _≤_}
+use Prim.Native.Nat.{ℕ, suc, _+_, _*_, _%_, _<_, _≤_}
 use native.Mathlib.Omega.{arith}
 use borrow.Author.Tests.{ltb-false, leb-true, not-false}
 use lib.Dec.{eqb, ltb, leb}
@@ -14,11 +14,14 @@ use Rattle.answer.specs.declared.Judged.the-variants.{Good, Refused}
 use Rattle.answer.specs.declared.Refusal.{Refusal}
 use Rattle.answer.specs.declared.Refusal.the-variants.{TooMany, Table, ResultRoom, BadDigit, NothingToTake, TooLong, NoRoom}
 use Rattle.answer.specs.Refusal.{when, orElse, refusalPlace}
+use Rattle.answer.specs.Limits.{mostRecords}
 use Rattle.grid.specs.declared.Corner.{Corner}
 use Rattle.grid.specs.Grid.{same, cornersFrom}
 use Rattle.trace.specs.Meeting.{Meeting, none, meet, meetingOf, meetingJ, meetingK, visitedOf}
 use Rattle.tree.specs.Nodes.{nodesOf}
 use Rattle.steps.specs.Operations.{operate, survivors, faultOf, faultsFrom, after}
+use Rattle.layout.specs.Marks.{markWords}
+use Rattle.layout.specs.Table.{width, recordsIn}
 use Rattle.answer.proofs.RefusalLaws.{clear, when-good}
 use Rattle.grid.proofs.StepLaws.{length-cornersFrom}
 use Rattle.lists.proofs.GatherLaws.{and-left, and-right, gather-le}
@@ -76,16 +79,16 @@ walk-placed c os w m k = go (ltb 32768 (length os)) refl
     b = when (not (tableFits w)) Table
 
     d : Judged
-    d = when (not (eqb m (2 * length os) && eqb k (length os))) ResultRoom
+    d = when (not (eqb m (markWords * length os) && eqb k (length os))) ResultRoom
 
-    rest : length os ≤ 32768 → Placed 32768 (orElse b (orElse d (orElse (faultsFrom 0 0 os) (orElse (roomFrom (w / 21) c 0 [] os) Good))))
+    rest : length os ≤ 32768 → Placed 32768 (orElse b (orElse d (orElse (faultsFrom 0 0 os) (orElse (roomFrom (recordsIn w) c 0 [] os) Good))))
     rest h =
         let f = faultsFrom 0 0 os in
-        let r = roomFrom (w / 21) c 0 [] os in
+        let r = roomFrom (recordsIn w) c 0 [] os in
         placed-or 32768 b (orElse d (orElse f (orElse r Good))) (placed-when 32768 (not (tableFits w)) Table (omega arith))
-        (placed-or 32768 d (orElse f (orElse r Good)) (placed-when 32768 (not (eqb m (2 * length os) && eqb k (length os))) ResultRoom (omega arith))
+        (placed-or 32768 d (orElse f (orElse r Good)) (placed-when 32768 (not (eqb m (markWords * length os) && eqb k (length os))) ResultRoom (omega arith))
         (placed-or 32768 f (orElse r Good) (placed-more (0 + length os) 32768 f (omega arith) (placed-faults 0 0 os))
-        (placed-or 32768 r Good (placed-more (0 + length os) 32768 r (omega arith) (placed-room (w / 21) c 0 [] os)) tt)))
+        (placed-or 32768 r Good (placed-more (0 + length os) 32768 r (omega arith) (placed-room (recordsIn w) c 0 [] os)) tt)))
 
     go : (t : Bool) → ltb 32768 (length os) ≡ t → Placed 32768 (walkJudged c os w m k)
     go true e = rw e (omega arith)
@@ -94,7 +97,7 @@ walk-placed c os w m k = go (ltb 32768 (length os)) refl
 -- the facts of an accepted walk
 pub record Few (c : Corner) (ds : List ℕ) : Type 0 where
   pub steps : length ds ≤ 16384
-  pub nodes : length (nodesOf (cornersFrom c ds)) ≤ 131080
+  pub nodes : length (nodesOf (cornersFrom c ds)) ≤ mostRecords
   pub corners : length (visitedOf (cornersFrom c ds)) ≤ 16385
   pub j : meetingJ (meetingOf c ds) ≤ 65535
   pub k : meetingK (meetingOf c ds) ≤ 65535
@@ -108,14 +111,14 @@ meeting-few c ds h = go (meetingOf c ds) refl
         let f = meetingOf-meets c ds j k e .meets in
         (rw e (omega (arith, f .earlier, f .within)), rw e (omega (arith, f .within)))
 
-fits-records : (w : ℕ) → tableFits w ≡ true → (1 ≤ w / 21) × (w / 21 ≤ 131080)
+fits-records : (w : ℕ) → tableFits w ≡ true → (1 ≤ recordsIn w) × (recordsIn w ≤ mostRecords)
 fits-records w e =
-    let a = eqb (w % 21) 0 in
-    let b = leb 1 (w / 21) in
-    let d = leb (w / 21) 131080 in
-    (leb-true 1 (w / 21) (and-right a b (and-left (a && b) d e)), leb-true (w / 21) 131080 (and-right (a && b) d e))
+    let a = eqb (w % width) 0 in
+    let b = leb 1 (recordsIn w) in
+    let d = leb (recordsIn w) mostRecords in
+    (leb-true 1 (recordsIn w) (and-right a b (and-left (a && b) d e)), leb-true (recordsIn w) mostRecords (and-right (a && b) d e))
 
-pub walk-few : (c : Corner) (os : List ℕ) (w m k : ℕ) → length (nodesOf (cornersFrom c [])) ≤ 131080 → walkJudged c os w m k ≡ Good → Few c (survivors os)
+pub walk-few : (c : Corner) (os : List ℕ) (w m k : ℕ) → length (nodesOf (cornersFrom c [])) ≤ mostRecords → walkJudged c os w m k ≡ Good → Few c (survivors os)
 walk-few c os w m k z e =
     let ds = survivors os in
     let h = clear (walkJudgements c os w m k) e in
@@ -124,7 +127,7 @@ walk-few c os w m k z e =
     let j = meeting-few c ds (s .few) in
     record {
       steps = s .few;
-      nodes = ⊎-elim (λ n. subst (λ (x : List ℕ). length (nodesOf (cornersFrom c (survivors x))) ≤ 131080) (sym n) z) (λ r. omega (arith, r, t .1)) (room-last (w / 21) c 0 [] os (h .1 .1 .1 .1 .0));
+      nodes = ⊎-elim (λ n. subst (λ (x : List ℕ). length (nodesOf (cornersFrom c (survivors x))) ≤ mostRecords) (sym n) z) (λ r. omega (arith, r, t .1)) (room-last (recordsIn w) c 0 [] os (h .1 .1 .1 .1 .0));
       corners = omega (arith, gather-le same [] (cornersFrom c ds), length-cornersFrom c ds, s .few);
       j = j .0;
       k = j .1;

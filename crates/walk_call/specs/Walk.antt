@@ -1,16 +1,16 @@
 -- The walk's refusals in their order, its answer, and its three buffers (01, "What the calls take and give"). Assumes nothing.
-use Rattle.lists.specs.Lists.{_≡_, Bool, true, false, cond, not, _&&_, List, [], _∷_, length, replicate, ℕ, suc, _*_, _/_, _%_, eqb, ltb, leb}
+use Rattle.lists.specs.Lists.{_≡_, Bool, true, false, cond, not, _&&_, List, [], _∷_, length, replicate, ℕ, suc, _*_, _%_, eqb, ltb, leb}
 use Rattle.answer.specs.declared.{Judged.Judged, Judged.the-variants.Good, Judged.the-variants.Refused, Refusal.the-variants.TooMany, Refusal.the-variants.Table, Refusal.the-variants.ResultRoom, Refusal.the-variants.NoRoom, Facts.Facts, Answer.Answer}
 use Rattle.answer.specs.{Limits.mostInput, Limits.mostRecords, Refusal.when, Refusal.firstOf, Refusal.refusalNumber}
 use Rattle.grid.specs.{declared.Corner.Corner, Grid.cornersFrom, Grid.endFrom}
 use Rattle.steps.specs.Operations.{operate, survivors, faultsFrom}
 use Rattle.trace.specs.{Meeting.meetingOf, Meeting.meetingJ, Meeting.meetingK, Meeting.visitedOf, Verdict.verdictOf, Verdict.areaOf}
 use Rattle.tree.specs.Nodes.{nodesOf}
-use Rattle.layout.specs.{Table.recordWords, Table.tableOf, Marks.marksOf, Marks.chainOf}
+use Rattle.layout.specs.{Table.width, Table.recordsIn, Table.tableOf, Marks.markWords, Marks.marksOf, Marks.chainOf}
 
--- 2: the words are 21 times a record count of 1 to 131,080
+-- 2: the words are those of a record times a count of 1 to 131,080
 abbrev pub tableFits : ℕ → Bool
-tableFits words = eqb (words % recordWords 1) 0 && leb 1 (words / recordWords 1) && leb (words / recordWords 1) mostRecords
+tableFits words = eqb (words % width) 0 && leb 1 (recordsIn words) && leb (recordsIn words) mostRecords
 
 -- 7: the first place after which the nodes needed exceed the records
 abbrev pub roomFrom : ℕ → Corner → ℕ → List ℕ → List ℕ → Judged
@@ -26,9 +26,9 @@ abbrev pub walkJudgements : Corner → List ℕ → ℕ → ℕ → ℕ → List
 walkJudgements c os words marks chain =
     when (ltb mostInput (length os)) TooMany
     ∷ when (not (tableFits words)) Table
-    ∷ when (not (eqb marks (2 * length os) && eqb chain (length os))) ResultRoom
+    ∷ when (not (eqb marks (markWords * length os) && eqb chain (length os))) ResultRoom
     ∷ faultsFrom 0 0 os
-    ∷ roomFrom (words / recordWords 1) c 0 [] os
+    ∷ roomFrom (recordsIn words) c 0 [] os
     ∷ []
 
 abbrev pub walkJudged : Corner → List ℕ → ℕ → ℕ → ℕ → Judged

@@ -3,7 +3,7 @@
 use mathlib.Core.Bool.{Bool, true, false, not, _&&_}
 use mathlib.Core.List.{List, [], _∷_}
 use mathlib.Core.Path.{_≡_, refl, ap, ap₂, sym, _∙_}
-use Prim.Native.Nat.{ℕ, suc, _+_, _-_, _*_, _/_, _%_, _<_, _≤_, _^_}
+use Prim.Native.Nat.{ℕ, suc, _+_, _-_, _*_, _%_, _<_, _≤_, _^_}
 use native.Mathlib.Omega.{arith}
 use borrow.Author.Tests.{eq-eqb, ne-eqb, lt-ltb, le-ltb, le-leb, ltb-false, leb-true, eqb-true, not-false}
 use lib.Dec.{eqb, ltb, leb}
@@ -14,9 +14,12 @@ use Rattle.answer.specs.declared.Judged.the-variants.{Good, Refused}
 use Rattle.answer.specs.declared.Refusal.{Refusal}
 use Rattle.answer.specs.declared.Refusal.the-variants.{TooMany, Table, ResultRoom, BadDigit, NothingToTake, TooLong}
 use Rattle.answer.specs.Refusal.{orElse, when, refusalNumber}
+use Rattle.answer.specs.Limits.{mostRecords}
 use Rattle.walk_call.specs.Walk.{tableFits, roomFrom, walkJudged}
 use Rattle.grid.specs.declared.Corner.{Corner}
 use Rattle.steps.specs.Operations.{faultOf, faultsFrom, after}
+use Rattle.layout.specs.Marks.{markWords}
+use Rattle.layout.specs.Table.{width, recordsIn}
 use Rattle.answer.proofs.RefusalLaws.{orElse-right, clear, when-good}
 use Rattle.lists.proofs.GatherLaws.{and-left, and-right}
 use Rattle.walk_input.specs.Input.{inputJudged}
@@ -62,17 +65,17 @@ module _ (os : List ℕ) (i n : ℕ) (more : i < length os) (e : faultsFrom 0 0 
       let s : suc i ≡ i + 1 = omega arith in
       first ∙ ap (λ (j : Judged). orElse j (faultsFrom (suc i) (after n (getD os i 0)) (drop (suc i) os))) p ∙ ap₂ (λ (k l : ℕ). faultsFrom k l (drop k os)) s (sym q)
 
-pub fits-mod : (w : ℕ) → (w % 21 ≡ 0 → ⊥) → false ≡ tableFits w
-fits-mod w h = rw (ne-eqb (w % 21) 0 h)
+pub fits-mod : (w : ℕ) → (w % width ≡ 0 → ⊥) → false ≡ tableFits w
+fits-mod w h = rw (ne-eqb (w % width) 0 h)
 
-pub fits-none : (w : ℕ) → w % 21 ≡ 0 → w / 21 < 1 → false ≡ tableFits w
-fits-none w h l = let z : w / 21 ≡ 0 = omega arith in rw (eq-eqb (w % 21) 0 h, z)
+pub fits-none : (w : ℕ) → w % width ≡ 0 → recordsIn w < 1 → false ≡ tableFits w
+fits-none w h l = let z : recordsIn w ≡ 0 = omega arith in rw (eq-eqb (w % width) 0 h, z)
 
-pub fits-most : (w : ℕ) → w % 21 ≡ 0 → 1 ≤ w / 21 → leb (w / 21) 131080 ≡ tableFits w
-fits-most w h l = go (w / 21) refl l
+pub fits-most : (w : ℕ) → w % width ≡ 0 → 1 ≤ recordsIn w → leb (recordsIn w) mostRecords ≡ tableFits w
+fits-most w h l = go (recordsIn w) refl l
   where
-    go : (n : ℕ) → w / 21 ≡ n → 1 ≤ n → leb (w / 21) 131080 ≡ tableFits w
-    go (suc n) e k = rw (eq-eqb (w % 21) 0 h, e) (rw (le-leb 1 (suc n) k))
+    go : (n : ℕ) → recordsIn w ≡ n → 1 ≤ n → leb (recordsIn w) mostRecords ≡ tableFits w
+    go (suc n) e k = rw (eq-eqb (w % width) 0 h, e) (rw (le-leb 1 (suc n) k))
 
 module _ (os : List ℕ) (w m k : ℕ) where
   pub input-many : 32768 < length os → Refused TooMany ≡ inputJudged os w m k
@@ -83,23 +86,23 @@ module _ (os : List ℕ) (w m k : ℕ) where
     input-table e = rw (le-ltb 32768 (length os) few, e)
 
     module _ (fits : tableFits w ≡ true) where
-      pub input-marks : (m ≡ 2 * length os → ⊥) → Refused ResultRoom ≡ inputJudged os w m k
-      input-marks e = rw (le-ltb 32768 (length os) few, fits, ne-eqb m (2 * length os) e)
+      pub input-marks : (m ≡ markWords * length os → ⊥) → Refused ResultRoom ≡ inputJudged os w m k
+      input-marks e = rw (le-ltb 32768 (length os) few, fits, ne-eqb m (markWords * length os) e)
 
-      pub input-chain : m ≡ 2 * length os → (k ≡ length os → ⊥) → Refused ResultRoom ≡ inputJudged os w m k
-      input-chain p e = rw (le-ltb 32768 (length os) few, fits, eq-eqb m (2 * length os) p, ne-eqb k (length os) e)
+      pub input-chain : m ≡ markWords * length os → (k ≡ length os → ⊥) → Refused ResultRoom ≡ inputJudged os w m k
+      input-chain p e = rw (le-ltb 32768 (length os) few, fits, eq-eqb m (markWords * length os) p, ne-eqb k (length os) e)
 
-      pub input-rest : m ≡ 2 * length os → k ≡ length os → faultsFrom 0 0 os ≡ inputJudged os w m k
-      input-rest p e = rw (le-ltb 32768 (length os) few, fits, eq-eqb m (2 * length os) p, eq-eqb k (length os) e) (sym (orElse-right (faultsFrom 0 0 os)))
+      pub input-rest : m ≡ markWords * length os → k ≡ length os → faultsFrom 0 0 os ≡ inputJudged os w m k
+      input-rest p e = rw (le-ltb 32768 (length os) few, fits, eq-eqb m (markWords * length os) p, eq-eqb k (length os) e) (sym (orElse-right (faultsFrom 0 0 os)))
 
 -- the room decides last
-pub judged-split : (c : Corner) (os : List ℕ) (w m k : ℕ) → walkJudged c os w m k ≡ orElse (inputJudged os w m k) (roomFrom (w / 21) c 0 [] os)
+pub judged-split : (c : Corner) (os : List ℕ) (w m k : ℕ) → walkJudged c os w m k ≡ orElse (inputJudged os w m k) (roomFrom (recordsIn w) c 0 [] os)
 judged-split c os w m k =
     let a = when (ltb 32768 (length os)) TooMany in
     let b = when (not (tableFits w)) Table in
-    let d = when (not (eqb m (2 * length os) && eqb k (length os))) ResultRoom in
+    let d = when (not (eqb m (markWords * length os) && eqb k (length os))) ResultRoom in
     let f = faultsFrom 0 0 os in
-    let r = roomFrom (w / 21) c 0 [] os in
+    let r = roomFrom (recordsIn w) c 0 [] os in
     split a b d f r
   where
     split : (a b d f r : Judged) → orElse a (orElse b (orElse d (orElse f (orElse r Good)))) ≡ orElse (orElse a (orElse b (orElse d (orElse f Good)))) r
@@ -110,27 +113,27 @@ judged-split c os w m k =
     split Good Good Good Good r = orElse-right r
 
 -- ---- an input with no fault
-fits-words : (w : ℕ) → tableFits w ≡ true → (21 ≤ w) × (w < 2 ^ 32)
+fits-words : (w : ℕ) → tableFits w ≡ true → (width ≤ w) × (w < 2 ^ 32)
 fits-words w e =
-    let a = eqb (w % 21) 0 in
-    let b = leb 1 (w / 21) in
-    let d = leb (w / 21) 131080 in
+    let a = eqb (w % width) 0 in
+    let b = leb 1 (recordsIn w) in
+    let d = leb (recordsIn w) mostRecords in
     let h : a && b ≡ true = and-left (a && b) d e in
-    let l : 1 ≤ w / 21 = leb-true 1 (w / 21) (and-right a b h) in
-    let m : w / 21 ≤ 131080 = leb-true (w / 21) 131080 (and-right (a && b) d e) in
+    let l : 1 ≤ recordsIn w = leb-true 1 (recordsIn w) (and-right a b h) in
+    let m : recordsIn w ≤ mostRecords = leb-true (recordsIn w) mostRecords (and-right (a && b) d e) in
     (omega arith, omega arith)
 
 pub record Sized (os : List ℕ) (w m k : ℕ) : Type 0 where
   pub few : length os ≤ 32768
-  pub least : 21 ≤ w
+  pub least : width ≤ w
   pub most : w < 2 ^ 32
-  pub marks : m ≡ 2 * length os
+  pub marks : m ≡ markWords * length os
   pub chain : k ≡ length os
   pub fine : faultsFrom 0 0 os ≡ Good
 
 pub input-good : (os : List ℕ) (w m k : ℕ) → inputJudged os w m k ≡ Good → Sized os w m k
 input-good os w m k e =
-    let a = eqb m (2 * length os) in
+    let a = eqb m (markWords * length os) in
     let b = eqb k (length os) in
     let h = clear (when (ltb 32768 (length os)) TooMany ∷ when (not (tableFits w)) Table ∷ when (not (a && b)) ResultRoom ∷ faultsFrom 0 0 os ∷ []) e in
     let t = fits-words w (not-false (tableFits w) (when-good (not (tableFits w)) Table (h .1 .0))) in
@@ -139,7 +142,7 @@ input-good os w m k e =
       few = ltb-false 32768 (length os) (when-good (ltb 32768 (length os)) TooMany (h .0));
       least = t .0;
       most = t .1;
-      marks = eqb-true m (2 * length os) (and-left a b r);
+      marks = eqb-true m (markWords * length os) (and-left a b r);
       chain = eqb-true k (length os) (and-right a b r);
       fine = h .1 .1 .1 .0;
     }
@@ -174,7 +177,7 @@ pub early-input : (os : List ℕ) (w m k : ℕ) → Early (inputJudged os w m k)
 early-input os w m k =
     let a = when (ltb 32768 (length os)) TooMany in
     let b = when (not (tableFits w)) Table in
-    let x = not (eqb m (2 * length os) && eqb k (length os)) in
+    let x = not (eqb m (markWords * length os) && eqb k (length os)) in
     let d = when x ResultRoom in
     let f = faultsFrom 0 0 os in
     early-or a (orElse b (orElse d (orElse f Good))) (early-when (ltb 32768 (length os)) TooMany refl)

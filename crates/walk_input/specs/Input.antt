@@ -11,12 +11,13 @@ use Rattle.answer.specs.Limits.{mostInput}
 use Rattle.answer.specs.Refusal.{when, firstOf}
 use Rattle.walk_call.specs.Walk.{tableFits}
 use Rattle.steps.specs.Operations.{faultsFrom}
+use Rattle.layout.specs.Marks.{markWords}
 
 -- 1, 2, 3; then 4, 5, 6 at the first faulty place
 abbrev pub inputJudged : List ℕ → ℕ → ℕ → ℕ → Judged
 inputJudged os words marks chain =
     firstOf (when (ltb mostInput (length os)) TooMany
     ∷ when (not (tableFits words)) Table
-    ∷ when (not (eqb marks (2 * length os) && eqb chain (length os))) ResultRoom
+    ∷ when (not (eqb marks (markWords * length os) && eqb chain (length os))) ResultRoom
     ∷ faultsFrom 0 0 os
     ∷ [])

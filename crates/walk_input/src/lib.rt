@@ -83,7 +83,7 @@ pub fn input(ops: &[u8], words: usize, marks: usize, chain: usize) -> Judged
     if !table(words) {
         return Judged::Refused(Refusal::Table);
     }
-    if marks != 2 * n {
+    if marks != Walk::MARK_WORDS * n {
         return Judged::Refused(Refusal::ResultRoom);
     }
     if chain != n {

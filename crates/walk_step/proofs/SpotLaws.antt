@@ -9,7 +9,7 @@ use lib.ListN.{length, length-append, getD}
 use Rattle.grid.specs.declared.Corner.{Corner}
 use Rattle.grid.specs.Grid.{same, stepped, cornersFrom, endFrom}
 use Rattle.grid.specs.Tree.{pathOf}
-use Rattle.layout.specs.Table.{tableOf}
+use Rattle.layout.specs.Table.{width, wordAt, HasRecord, neighbourWord, visitsWord, tableOf}
 use Rattle.lists.specs.Lists.{count, tally, gather}
 use Rattle.walk_back.specs.Takes.{Unlinks, Drops}
 use Rattle.table_laws.specs.Model.{visitIn, unvisitIn}
@@ -60,20 +60,20 @@ module _ (t : List ℕ) (c : Corner) (ds : List ℕ) (w : Spot) (k : Walked t c 
         subst (λ (x : Corner). Made (length t) (reached (stateOf (cornersFrom c ds)) (suc (length ds)) x (stepped d x)) (stepped d x) t₁ a₁ n₁) (k .corner)
         (subst (λ (s : ℕ). Made (length t) (reached (stateOf (cornersFrom c ds)) s (w .at) (stepped d (w .at))) (stepped d (w .at)) t₁ a₁ n₁) p (f (stateOf (cornersFrom c ds)) holds at-here))
 
-    pub step-full : a₁ ≡ 0 → length t < 21 * length (nodesOf (cornersFrom c (ds ++ (d ∷ []))))
+    pub step-full : a₁ ≡ 0 → length t < width * length (nodesOf (cornersFrom c (ds ++ (d ∷ []))))
     step-full z = go-full (length t) c ds d t₁ a₁ n₁ made z
 
     -- what the visit needs
-    pub step-visits : (a₁ ≡ 0 → ⊥) → ((a₁ - 1) * 21 + 20 < length t₁) × (getD t₁ ((a₁ - 1) * 21 + 18) 0 ≤ suc (w .steps))
+    pub step-visits : (a₁ ≡ 0 → ⊥) → HasRecord t₁ (a₁ - 1) × (getD t₁ (wordAt (a₁ - 1) visitsWord) 0 ≤ suc (w .steps))
     step-visits g =
         let T : State = reached (stateOf (cornersFrom c ds)) (suc (length ds)) (endFrom c ds) (stepped d (endFrom c ds)) in
         let h = made-holds (length t) T (sound-step (length t) c ds d) (stepped d (endFrom c ds)) t₁ a₁ n₁ made g in
-        let v : getD t₁ ((a₁ - 1) * 21 + 18) 0 ≡ count (same (stepped d (endFrom c ds))) (cornersFrom c ds) = ap (λ (x : List ℕ). getD x ((a₁ - 1) * 21 + 18) 0) (h .0 .table) ∙ read-visits (length t₁) T (stepped d (endFrom c ds)) (a₁ - 1) (h .1) in
+        let v : getD t₁ (wordAt (a₁ - 1) visitsWord) 0 ≡ count (same (stepped d (endFrom c ds))) (cornersFrom c ds) = ap (λ (x : List ℕ). getD x (wordAt (a₁ - 1) visitsWord) 0) (h .0 .table) ∙ read-visits (length t₁) T (stepped d (endFrom c ds)) (a₁ - 1) (h .1) in
         let m : count (same (stepped d (endFrom c ds))) (cornersFrom c ds) ≤ suc (w .steps) = subst (λ (n : ℕ). count (same (stepped d (endFrom c ds))) (cornersFrom c ds) ≤ n) (length-cornersFrom c ds ∙ ap suc (sym (k .steps))) (count-le (same (stepped d (endFrom c ds))) (cornersFrom c ds)) in
         let b = ref-below (T .nodes) (stepped d (endFrom c ds)) (a₁ - 1) (h .1) in
         (bound (a₁ - 1) (length (T .nodes)) n₁ (length t₁) b (h .0 .count) (h .0 .room), subst (λ (n : ℕ). n ≤ suc (w .steps)) (sym v) m)
       where
-        bound : (a n m l : ℕ) → a < n → m ≡ n → 21 * m ≤ l → a * 21 + 20 < l
+        bound : (a n m l : ℕ) → a < n → m ≡ n → width * m ≤ l → wordAt a (width - 1) < l
         bound a n m l p q r = omega arith
 
     pub step-to : (a₁ ≡ 0 → ⊥) → (t₂ : List ℕ) → t₂ ≡ visitIn t₁ (a₁ - 1) (w .steps + 1) → (v : Spot) → v .node ≡ a₁ - 1 → v .at ≡ stepped d (w .at) → v .steps ≡ w .steps + 1 → v .nodes ≡ n₁
@@ -85,7 +85,7 @@ module _ (t : List ℕ) (c : Corner) (ds : List ℕ) (w : Spot) (k : Walked t c 
           record {
             whole = h .0 ∙ ap (λ (x : ℕ). tableOf x c (ds ++ (d ∷ []))) (sym l);
             count = p₄ ∙ h .1;
-            room = subst (λ (x : ℕ). 21 * v .nodes ≤ x) (sym l) (subst (λ (x : ℕ). 21 * x ≤ length t) (sym p₄) (h .2));
+            room = subst (λ (x : ℕ). width * v .nodes ≤ x) (sym l) (subst (λ (x : ℕ). width * x ≤ length t) (sym p₄) (h .2));
             here = h .3 ∙ ap suc (sym p₁);
             corner = p₂ ∙ ap (stepped d) (k .corner) ∙ sym (endFrom-snoc c ds d);
             steps = p₃ ∙ n ∙ sym (length-snoc ds d);
@@ -95,38 +95,38 @@ module _ (t : List ℕ) (c : Corner) (ds : List ℕ) (w : Spot) (k : Walked t c 
 
 -- ---- a take-back
 module _ (t : List ℕ) (c : Corner) (ds : List ℕ) (d : ℕ) (w : Spot) (k : Walked t c (ds ++ (d ∷ [])) w) (dir : d < 4) where
-  room : 21 * length (nodesOf (cornersFrom c (ds ++ (d ∷ [])))) ≤ length t
-  room = subst (λ (n : ℕ). 21 * n ≤ length t) (k .count) (k .room)
+  room : width * length (nodesOf (cornersFrom c (ds ++ (d ∷ [])))) ≤ length t
+  room = subst (λ (n : ℕ). width * n ≤ length t) (k .count) (k .room)
 
-  roomy : 21 * length (gather same (nodesOf (cornersFrom c ds)) (pathOf (stepped d (endFrom c ds)))) ≤ length t
-  roomy = subst (λ (l : List Corner). 21 * length l ≤ length t) (push-nodes c ds d) room
+  roomy : width * length (gather same (nodesOf (cornersFrom c ds)) (pathOf (stepped d (endFrom c ds)))) ≤ length t
+  roomy = subst (λ (l : List Corner). width * length l ≤ length t) (push-nodes c ds d) room
 
   pub back-steps : w .steps ≡ suc (length ds)
   back-steps = k .steps ∙ length-snoc ds d
 
-  pub back-bound : w .node * 21 + 20 < length t
+  pub back-bound : HasRecord t (w .node)
   back-bound = bound (w .node) (length (nodesOf (cornersFrom c (ds ++ (d ∷ []))))) (length t) (ref-below (nodesOf (cornersFrom c (ds ++ (d ∷ [])))) (endFrom c (ds ++ (d ∷ []))) (w .node) (k .here)) room
     where
-      bound : (a n l : ℕ) → a < n → 21 * n ≤ l → a * 21 + 20 < l
+      bound : (a n l : ℕ) → a < n → width * n ≤ l → wordAt a (width - 1) < l
       bound a n l p r = omega arith
 
   -- the way back is linked
-  pub back-linked : (v : ℕ) → v ≡ getD t (w .node * 21 + (10 + (d + 2) % 4)) 0 → (0 < v) × (refOf (nodesOf (cornersFrom c ds)) (endFrom c ds) ≡ suc (v - 1))
+  pub back-linked : (v : ℕ) → v ≡ getD t (wordAt (w .node) (neighbourWord ((d + 2) % 4))) 0 → (0 < v) × (refOf (nodesOf (cornersFrom c ds)) (endFrom c ds) ≡ suc (v - 1))
   back-linked v e =
-      let q : refOf (nodesOf (cornersFrom c ds)) (endFrom c ds) ≡ v = back-from (length t) c ds d dir room (w .node) (k .here) ∙ ap (λ (x : List ℕ). getD x (w .node * 21 + (10 + back d)) 0) (sym (k .whole)) ∙ ap (λ (b : ℕ). getD t (w .node * 21 + (10 + b)) 0) (back-mod d dir) ∙ sym e in
+      let q : refOf (nodesOf (cornersFrom c ds)) (endFrom c ds) ≡ v = back-from (length t) c ds d dir room (w .node) (k .here) ∙ ap (λ (x : List ℕ). getD x (wordAt (w .node) (neighbourWord (back d))) 0) (sym (k .whole)) ∙ ap (λ (b : ℕ). getD t (wordAt (w .node) (neighbourWord b)) 0) (back-mod d dir) ∙ sym e in
       up (refOf (nodesOf (cornersFrom c ds)) (endFrom c ds)) v q (ref-pos (nodesOf (cornersFrom c ds)) (endFrom c ds) (finish-node c ds))
     where
       up : (r v : ℕ) → r ≡ v → 0 < r → (0 < v) × (r ≡ suc (v - 1))
       up r v p q = (omega arith, omega arith)
 
   -- the corner was visited
-  pub back-visits : 0 < getD t (w .node * 21 + 18) 0
+  pub back-visits : 0 < getD t (wordAt (w .node) visitsWord) 0
   back-visits =
       let ps = cornersFrom c (ds ++ (d ∷ [])) in
       let e = endFrom c (ds ++ (d ∷ [])) in
-      let q : getD t (w .node * 21 + 18) 0 ≡ count (same e) ps = ap (λ (x : List ℕ). getD x (w .node * 21 + 18) 0) (k .whole ∙ table-state (length t) c (ds ++ (d ∷ []))) ∙ read-visits (length t) (stateOf ps) e (w .node) (k .here) in
+      let q : getD t (wordAt (w .node) visitsWord) 0 ≡ count (same e) ps = ap (λ (x : List ℕ). getD x (wordAt (w .node) visitsWord) 0) (k .whole ∙ table-state (length t) c (ds ++ (d ∷ []))) ∙ read-visits (length t) (stateOf ps) e (w .node) (k .here) in
       let y : tally (same e (stepped d (endFrom c ds))) ≡ 1 = ap (λ (x : Corner). tally (same e x)) (sym (endFrom-snoc c ds d)) ∙ ap tally (same-refl e) in
-      some (getD t (w .node * 21 + 18) 0) (count (same e) (cornersFrom c ds)) (tally (same e (stepped d (endFrom c ds)))) (q ∙ push-visits c ds d e) y
+      some (getD t (wordAt (w .node) visitsWord) 0) (count (same e) (cornersFrom c ds)) (tally (same e (stepped d (endFrom c ds)))) (q ∙ push-visits c ds d e) y
     where
       some : (g a b : ℕ) → g ≡ a + b → b ≡ 1 → 0 < g
       some g a b p q = omega arith
@@ -145,7 +145,7 @@ module _ (t : List ℕ) (c : Corner) (ds : List ℕ) (d : ℕ) (w : Spot) (k : W
         dir = dir;
         small = links-small (length t) c ds d;
         held = subst (λ (n : ℕ). UnlinkAt n S (sound-walk c ds) (suc (length ds)) p z d dir (links-small (length t) c ds d) t₁ u) (sym l) y;
-        room = subst (λ (n : ℕ). 21 * length (gather same (nodesOf (cornersFrom c ds)) (pathOf (stepped d (endFrom c ds)))) ≤ n) (sym l) roomy;
+        room = subst (λ (n : ℕ). width * length (gather same (nodesOf (cornersFrom c ds)) (pathOf (stepped d (endFrom c ds)))) ≤ n) (sym l) roomy;
       } in
       (subst (λ (s : ℕ). Unlinks t₁ u d s S z) (sym back-steps) v, l)
 
@@ -170,20 +170,20 @@ module _ (t : List ℕ) (c : Corner) (ds : List ℕ) (d : ℕ) (w : Spot) (k : W
       → (v : Spot) (b u : ℕ) → b ≡ (d + 2) % 4 → refOf (nodesOf (cornersFrom c ds)) (endFrom c ds) ≡ suc u → v .node ≡ u → v .at ≡ stepped b (w .at) → v .steps ≡ w .steps - 1 → v .nodes ≡ left → Walked t₃ c ds v
   back-to t₂ t₃ left l₂ e v b u q r p₁ p₂ p₃ p₄ =
       let S : State = stateOf (cornersFrom c ds) in
-      let fits : 21 * length (nodesOf (cornersFrom c ds)) ≤ length t = less (length (nodesOf (cornersFrom c ds))) (length (gather same (nodesOf (cornersFrom c ds)) (pathOf (stepped d (endFrom c ds))))) (length t) (room-old (nodesOf (cornersFrom c ds)) (pathOf (stepped d (endFrom c ds)))) roomy in
+      let fits : width * length (nodesOf (cornersFrom c ds)) ≤ length t = less (length (nodesOf (cornersFrom c ds))) (length (gather same (nodesOf (cornersFrom c ds)) (pathOf (stepped d (endFrom c ds))))) (length t) (room-old (nodesOf (cornersFrom c ds)) (pathOf (stepped d (endFrom c ds)))) roomy in
       let x : t₃ ≡ tableBy (length t) S = e .0 ∙ ap (λ (n : ℕ). tableBy n S) l₂ in
       let l : length t₃ ≡ length t = ap length x ∙ length-table (length t) S fits in
       let n : w .steps - 1 ≡ length ds = ap (λ (s : ℕ). s - 1) back-steps ∙ last (length ds) in
       record {
         whole = x ∙ sym (table-state (length t) c ds) ∙ ap (λ (y : ℕ). tableOf y c ds) (sym l);
         count = p₄ ∙ e .1;
-        room = subst (λ (y : ℕ). 21 * v .nodes ≤ y) (sym l) (subst (λ (y : ℕ). 21 * y ≤ length t) (sym (p₄ ∙ e .1)) fits);
+        room = subst (λ (y : ℕ). width * v .nodes ≤ y) (sym l) (subst (λ (y : ℕ). width * y ≤ length t) (sym (p₄ ∙ e .1)) fits);
         here = r ∙ ap suc (sym p₁);
         corner = p₂ ∙ ap₂ stepped (q ∙ sym (back-mod d dir)) (k .corner ∙ endFrom-snoc c ds d) ∙ stepped-back d (endFrom c ds);
         steps = p₃ ∙ n;
       }
     where
-      less : (a b l : ℕ) → a ≤ b → 21 * b ≤ l → 21 * a ≤ l
+      less : (a b l : ℕ) → a ≤ b → width * b ≤ l → width * a ≤ l
       less a b l p q = omega arith
 
       last : (n : ℕ) → suc n - 1 ≡ n

@@ -13,6 +13,7 @@ use Rattle.grid.specs.Grid.{same, stepped, cornersFrom, endFrom}
 use Rattle.lists.specs.Lists.{find, count, tally}
 use Rattle.trace.specs.Meeting.{Meeting, none, meet, meetingOf, visitedOf}
 use Rattle.tree.specs.Nodes.{nodesOf}
+use Rattle.layout.specs.Table.{width, wordAt, HasRecord, visitsWord, firstWord}
 use Rattle.tree_laws.specs.State.{later, stateOf}
 use Rattle.grid.proofs.CornerLaws.{same-refl}
 use Rattle.grid.proofs.StepLaws.{endFrom-snoc}
@@ -39,37 +40,37 @@ says-some none j k h g f n = absurd (g (h .1))
 says-some (meet a b) j k h g f n = refl
 
 module _ (t : List ℕ) (c : Corner) (ds : List ℕ) (d : ℕ) (w : Spot) (k : Walked t c (ds ++ (d ∷ [])) w) where
-  pub tally-bound : w .node * 21 + 20 < length t
+  pub tally-bound : HasRecord t (w .node)
   tally-bound = bound (w .node) (length (nodesOf (cornersFrom c (ds ++ (d ∷ []))))) (w .nodes) (length t) (ref-below (nodesOf (cornersFrom c (ds ++ (d ∷ [])))) (endFrom c (ds ++ (d ∷ []))) (w .node) (k .here)) (k .count) (k .room)
     where
-      bound : (a n m l : ℕ) → a < n → m ≡ n → 21 * m ≤ l → a * 21 + 20 < l
+      bound : (a n m l : ℕ) → a < n → m ≡ n → width * m ≤ l → wordAt a (width - 1) < l
       bound a n m l p q s = omega arith
 
   steps-here : w .steps ≡ suc (length ds)
   steps-here = omega (arith, k .steps, length-append ds (d ∷ []))
 
-  seen : getD t (w .node * 21 + 18) 0 ≡ count (same (stepped d (endFrom c ds))) (cornersFrom c ds) + 1
+  seen : getD t (wordAt (w .node) visitsWord) 0 ≡ count (same (stepped d (endFrom c ds))) (cornersFrom c ds) + 1
   seen =
       let ps = cornersFrom c (ds ++ (d ∷ [])) in
       let p = stepped d (endFrom c ds) in
-      ap (λ (x : List ℕ). getD x (w .node * 21 + 18) 0) (k .whole ∙ table-state (length t) c (ds ++ (d ∷ []))) ∙ read-visits (length t) (stateOf ps) (endFrom c (ds ++ (d ∷ []))) (w .node) (k .here)
+      ap (λ (x : List ℕ). getD x (wordAt (w .node) visitsWord) 0) (k .whole ∙ table-state (length t) c (ds ++ (d ∷ []))) ∙ read-visits (length t) (stateOf ps) (endFrom c (ds ++ (d ∷ []))) (w .node) (k .here)
       ∙ ap (λ (x : Corner). count (same x) ps) (endFrom-snoc c ds d) ∙ push-visits c ds d p ∙ ap (λ (b : Bool). count (same p) (cornersFrom c ds) + tally b) (same-refl p)
 
-  first : getD t (w .node * 21 + 20) 0 ≡ later (find (same (stepped d (endFrom c ds))) (cornersFrom c ds)) true (suc (suc (length ds)))
+  first : getD t (wordAt (w .node) firstWord) 0 ≡ later (find (same (stepped d (endFrom c ds))) (cornersFrom c ds)) true (suc (suc (length ds)))
   first =
       let ps = cornersFrom c (ds ++ (d ∷ [])) in
       let p = stepped d (endFrom c ds) in
-      ap (λ (x : List ℕ). getD x (w .node * 21 + 20) 0) (k .whole ∙ table-state (length t) c (ds ++ (d ∷ []))) ∙ read-first (length t) (stateOf ps) (endFrom c (ds ++ (d ∷ []))) (w .node) (k .here)
+      ap (λ (x : List ℕ). getD x (wordAt (w .node) firstWord) 0) (k .whole ∙ table-state (length t) c (ds ++ (d ∷ []))) ∙ read-first (length t) (stateOf ps) (endFrom c (ds ++ (d ∷ []))) (w .node) (k .here)
       ∙ ap (λ (x : Corner). find (same x) ps) (endFrom-snoc c ds d) ∙ push-first c ds d p ∙ ap (λ (b : Bool). later (find (same p) (cornersFrom c ds)) b (suc (suc (length ds)))) (same-refl p)
 
-  pub tally-first : (f : ℕ) → f ≡ getD t (w .node * 21 + 20) 0 → 0 < f
+  pub tally-first : (f : ℕ) → f ≡ getD t (wordAt (w .node) firstWord) 0 → 0 < f
   tally-first f e = go (find (same (stepped d (endFrom c ds))) (cornersFrom c ds)) (e ∙ first)
     where
       go : (n : ℕ) → f ≡ later n true (suc (suc (length ds))) → 0 < f
       go zero q = omega arith
       go (suc n) q = omega arith
 
-  module _ (m : Tally) (h : Counted c ds m) (v : ℕ) (e : v ≡ getD t (w .node * 21 + 18) 0) where
+  module _ (m : Tally) (h : Counted c ds m) (v : ℕ) (e : v ≡ getD t (wordAt (w .node) visitsWord) 0) where
     none-yet : v ≡ 1 → count (same (stepped d (endFrom c ds))) (cornersFrom c ds) ≡ 0
     none-yet q = less v (count (same (stepped d (endFrom c ds))) (cornersFrom c ds)) (e ∙ seen) q
       where
@@ -104,7 +105,7 @@ module _ (t : List ℕ) (c : Corner) (ds : List ℕ) (d : ℕ) (w : Spot) (k : W
           let s : meetingOf c (ds ++ (d ∷ [])) ≡ meetingOf c ds = push-meeting c ds d ∙ says-some (meetingOf c ds) (m .j) (m .k) (h .met) x (find (same (stepped d (endFrom c ds))) (cornersFrom c ds)) (suc (length ds)) in
           record { seen = h .seen ∙ sym same-seen; met = subst (λ (y : Meeting). Says y (m .j) (m .k)) (sym s) (h .met) }
 
-      pub tally-meets : m .k ≡ 65535 → w .steps < 65535 → (f : ℕ) → f ≡ getD t (w .node * 21 + 20) 0 → (r : Tally) → r .corners ≡ m .corners → r .j ≡ f - 1 → r .k ≡ w .steps → Counted c (ds ++ (d ∷ [])) r
+      pub tally-meets : m .k ≡ 65535 → w .steps < 65535 → (f : ℕ) → f ≡ getD t (wordAt (w .node) firstWord) 0 → (r : Tally) → r .corners ≡ m .corners → r .j ≡ f - 1 → r .k ≡ w .steps → Counted c (ds ++ (d ∷ [])) r
       tally-meets x few f q r p₁ p₂ p₃ = record { seen = p₁ ∙ h .seen ∙ sym same-seen; met = subst (λ (y : Meeting). Says y (r .j) (r .k)) (sym s) (go (find (same (stepped d (endFrom c ds))) (cornersFrom c ds)) refl (q ∙ first)) }
         where
           s : meetingOf c (ds ++ (d ∷ [])) ≡ met (find (same (stepped d (endFrom c ds))) (cornersFrom c ds)) (suc (length ds)) none
@@ -126,7 +127,7 @@ unsays-not : (m : Meeting) (j k n : ℕ) → Says m j k → (k ≡ n → ⊥) �
 unsays-not none j k n h g = refl
 unsays-not (meet a b) j k n h g = rw (ne-eqb b n (λ q. g (h .1 ∙ q)), unmet)
 
-module _ (t : List ℕ) (c : Corner) (ds : List ℕ) (d : ℕ) (w : Spot) (k : Walked t c (ds ++ (d ∷ [])) w) (m : Tally) (h : Counted c (ds ++ (d ∷ [])) m) (v : ℕ) (e : v ≡ getD t (w .node * 21 + 18) 0) where
+module _ (t : List ℕ) (c : Corner) (ds : List ℕ) (d : ℕ) (w : Spot) (k : Walked t c (ds ++ (d ∷ [])) w) (m : Tally) (h : Counted c (ds ++ (d ∷ [])) m) (v : ℕ) (e : v ≡ getD t (wordAt (w .node) visitsWord) 0) where
   -- the only visit
   pub untally-new : v ≡ 1 → (r : Tally) → r .corners ≡ m .corners - 1 → r .j ≡ m .j → r .k ≡ m .k → Counted c ds r
   untally-new q r p₁ p₂ p₃ =

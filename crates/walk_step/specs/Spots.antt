@@ -6,7 +6,7 @@ use Prim.Native.Nat.{ℕ, suc, _*_, _<_, _≤_}
 use lib.ListN.{length}
 use Rattle.grid.specs.declared.Corner.{Corner}
 use Rattle.grid.specs.Grid.{cornersFrom, endFrom}
-use Rattle.layout.specs.Table.{tableOf}
+use Rattle.layout.specs.Table.{width, tableOf}
 use Rattle.tree.specs.Nodes.{nodesOf, refOf}
 use Rattle.walk_step.specs.declared.Gone.{Gone}
 use Rattle.walk_step.specs.declared.Spot.{Spot}
@@ -15,7 +15,7 @@ use Rattle.walk_step.specs.declared.Spot.{Spot}
 pub record Walked (t : List ℕ) (c : Corner) (ds : List ℕ) (w : Spot) : Type 0 where
   pub whole : t ≡ tableOf (length t) c ds
   pub count : w .nodes ≡ length (nodesOf (cornersFrom c ds))
-  pub room : 21 * w .nodes ≤ length t
+  pub room : width * w .nodes ≤ length t
   pub here : refOf (nodesOf (cornersFrom c ds)) (endFrom c ds) ≡ suc (w .node)
   pub corner : w .at ≡ endFrom c ds
   pub steps : w .steps ≡ length ds
@@ -35,4 +35,4 @@ pub record Stepped (t : List ℕ) (w : Spot) (d : ℕ) : Type 0 where
 -- the answer to a step, where ds are the steps with it: the walk stands there, or its nodes are more than the table has records
 abbrev pub Went : ℕ → List ℕ → Corner → List ℕ → Gone → Type 0
 Went words t c ds (Gone.To w) = Walked t c ds w × (length t ≡ words)
-Went words t c ds Gone.Full = words < 21 * length (nodesOf (cornersFrom c ds))
+Went words t c ds Gone.Full = words < width * length (nodesOf (cornersFrom c ds))

@@ -7,6 +7,7 @@ use lib.ListN.{length}
 use Rattle.grid.specs.declared.Corner.{Corner}
 use Rattle.grid.specs.Grid.{origin, cornersFrom}
 use Rattle.tree.specs.Nodes.{nodesOf}
+use Rattle.layout.specs.Table.{width}
 use Rattle.walk_step.specs.declared.Moved.{Moved}
 use Rattle.walk_step.specs.declared.Walk.{Walk}
 use Rattle.walk_step.specs.Spots.{Walked}
@@ -36,4 +37,4 @@ pub record Withdrawable (t : List ℕ) (w : Walk) (d : ℕ) : Type 0 where
 -- the answer to a step, where ds are the steps with it: the walk stands there, or its nodes are more than the table has records
 abbrev pub Advanced : ℕ → List ℕ → Corner → List ℕ → Moved → Type 0
 Advanced words t c ds (Moved.To w) = Known t c ds w × (length t ≡ words)
-Advanced words t c ds Moved.Full = words < 21 * length (nodesOf (cornersFrom c ds))
+Advanced words t c ds Moved.Full = words < width * length (nodesOf (cornersFrom c ds))

@@ -51,6 +51,9 @@ impl Walk {
     // Surviving steps at most, at any moment.
     pub const MOST_STEPS: usize = 16384;
 
+    // Words of the mark of an operation.
+    pub const MARK_WORDS: usize = 2;
+
     // Records of the table at most.
     pub const MOST_RECORDS: usize = 131080;
 

@@ -1,10 +1,11 @@
-// The words of the lent table: node records of 21 words at fixed offsets, what is written there, and what is taken away.
+// The words of the lent table: node records at fixed offsets, what is written there, and what is taken away.
 ghost use mathlib.Core.Path.{_≡_};
 ghost use Prim.Native.Nat.{_+_, _*_, _^_, _<_, _-_, _≤_};
 ghost use lib.ListN.{length, getD, set, take, replicate};
 ghost use Rattle.table_laws.specs.Model.{linkIn, visitIn, unvisitIn, unsetIn};
 ghost use mathlib.Core.List.{_++_};
 ghost use lib.Seq.{sets};
+ghost use Rattle.layout.specs.Table.{width, wordAt, HasRecord, neighbourWord, linkWord, visitsWord};
 
 // The record of a node, by its number, and the places of its words.
 pub struct Record(pub usize);
@@ -27,24 +28,24 @@ impl Record {
 
 // Word f of record r.
 pub fn word(t: &[u32], r: usize, f: usize) -> u32
-    requires { ⌜ r * 21 + f < length (now t) ⌝ }
-    ensures { λ v. ⌜ v ≡ getD (now (t .entry)) (r * 21 + f) 0 ⌝ }
+    requires { ⌜ wordAt r f < length (now t) ⌝ }
+    ensures { λ v. ⌜ v ≡ getD (now (t .entry)) (wordAt r f) 0 ⌝ }
 {
     t[r * Record::WORDS + f]
 }
 
 // Sets word f of record r.
 pub fn put(t: &mut [u32], r: usize, f: usize, v: u32)
-    requires { ⌜ r * 21 + f < length (now t) ⌝ }
-    ensures { λ _. ⌜ now (t .exit) ≡ set (now (t .entry)) (r * 21 + f) v ⌝ }
+    requires { ⌜ wordAt r f < length (now t) ⌝ }
+    ensures { λ _. ⌜ now (t .exit) ≡ set (now (t .entry)) (wordAt r f) v ⌝ }
 {
     t[r * Record::WORDS + f] = v;
 }
 
 // Sets the ref of the neighbour in the direction d and that link's step, in the record u.
 pub fn put_link(t: &mut [u32], u: usize, d: usize, to: u32, step: u32)
-    requires { ⌜ (u * 21 + 20 < length (now t)) × (d < 4) ⌝ }
-    ensures { λ _. ⌜ now (t .exit) ≡ set (set (now (t .entry)) (u * 21 + (10 + d)) to) (u * 21 + (14 + d)) step ⌝ }
+    requires { ⌜ HasRecord (now t) u × (d < 4) ⌝ }
+    ensures { λ _. ⌜ now (t .exit) ≡ set (set (now (t .entry)) (wordAt u (neighbourWord d)) to) (wordAt u (linkWord d)) step ⌝ }
 {
     put(t, u, Record::NEIGHBOUR + d, to);
     put(t, u, Record::LINK_STEP + d, step);
@@ -52,7 +53,7 @@ pub fn put_link(t: &mut [u32], u: usize, d: usize, to: u32, step: u32)
 
 // Links u and v both ways, by the step: v lies in the direction d of u.
 pub fn link(t: &mut [u32], u: usize, v: usize, d: usize, step: u32)
-    requires { ⌜ (u * 21 + 20 < length (now t)) × (v * 21 + 20 < length (now t)) ⌝ }
+    requires { ⌜ HasRecord (now t) u × HasRecord (now t) v ⌝ }
     requires { ⌜ (d < 4) × (length (now t) < 2 ^ 32) ⌝ }
     ensures { λ _. ⌜ now (t .exit) ≡ linkIn (now (t .entry)) u v d step ⌝ }
 {
@@ -63,7 +64,7 @@ pub fn link(t: &mut [u32], u: usize, v: usize, d: usize, step: u32)
 
 // Counts a visit of the node at corner k.
 pub fn visit(t: &mut [u32], r: usize, k: usize)
-    requires { ⌜ (r * 21 + 20 < length (now t)) × (getD (now t) (r * 21 + 18) 0 + 1 < 2 ^ 32) × (k + 1 < 2 ^ 32) ⌝ }
+    requires { ⌜ HasRecord (now t) r × (getD (now t) (wordAt r visitsWord) 0 + 1 < 2 ^ 32) × (k + 1 < 2 ^ 32) ⌝ }
     ensures { λ _. ⌜ now (t .exit) ≡ visitIn (now (t .entry)) r k ⌝ }
 {
     let v = word(t, r, Record::VISITS);
@@ -76,7 +77,7 @@ pub fn visit(t: &mut [u32], r: usize, k: usize)
 
 // Takes a visit of the node back.
 pub fn unvisit(t: &mut [u32], r: usize)
-    requires { ⌜ (r * 21 + 20 < length (now t)) × (0 < getD (now t) (r * 21 + 18) 0) ⌝ }
+    requires { ⌜ HasRecord (now t) r × (0 < getD (now t) (wordAt r visitsWord) 0) ⌝ }
     ensures { λ _. ⌜ now (t .exit) ≡ unvisitIn (now (t .entry)) r ⌝ }
 {
     let v = word(t, r, Record::VISITS);
@@ -89,7 +90,7 @@ pub fn unvisit(t: &mut [u32], r: usize)
 
 // Takes the link between u and v away.
 pub fn unlink(t: &mut [u32], u: usize, v: usize, d: usize)
-    requires { ⌜ (u * 21 + 20 < length (now t)) × (v * 21 + 20 < length (now t)) × (d < 4) ⌝ }
+    requires { ⌜ HasRecord (now t) u × HasRecord (now t) v × (d < 4) ⌝ }
     ensures { λ _. ⌜ now (t .exit) ≡ unsetIn (now (t .entry)) u v d ⌝ }
 {
     let b = (d + 2) % 4;
@@ -99,8 +100,8 @@ pub fn unlink(t: &mut [u32], u: usize, v: usize, d: usize)
 
 // Clears the record r.
 pub fn clear_record(t: &mut [u32], r: usize)
-    requires { ⌜ r * 21 + 20 < length (now t) ⌝ }
-    ensures { λ _. ⌜ now (t .exit) ≡ sets (now (t .entry)) (r * 21) (replicate 21 0) ⌝ }
+    requires { ⌜ HasRecord (now t) r ⌝ }
+    ensures { λ _. ⌜ now (t .exit) ≡ sets (now (t .entry)) (r * width) (replicate width 0) ⌝ }
 {
     let mut f: usize = 0;
     while f < Record::WORDS {

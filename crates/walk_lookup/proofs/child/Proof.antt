@@ -2,10 +2,11 @@
 -- Assumes nothing.
 use mathlib.Core.List.{List}
 use mathlib.Core.Path.{_≡_, sym, subst, _∙_}
-use Prim.Native.Nat.{ℕ, _+_, _*_}
+use Prim.Native.Nat.{ℕ, _+_}
 use native.Mathlib.Omega.{arith}
 use borrow.Author.Needs.{needs}
 use lib.ListN.{length, set}
+use Rattle.layout.specs.Table.{wordAt, parentWord, needWord}
 use Rattle.table_laws.specs.Model.{out}
 use Rattle.tree_laws.specs.State.{Made, grown}
 use Rattle.table_laws.proofs.LastLaws.{child-last}
@@ -13,7 +14,7 @@ use Rattle.table_laws.proofs.Cites.{child-is, child-full, child-makes, child-ho
 use Rattle.walk_lookup.proofs.child.Statement.{statement}
 use Rattle.walk_lookup.proofs.child.Tie as tie
 
-three : (t : List ℕ) (n u f s : ℕ) {t₁ t₂ t₃ : List ℕ} → t₁ ≡ set t (u * 21 + f) (n + 1) → t₂ ≡ set t₁ (n * 21 + 0) (u + 1) → t₃ ≡ set t₂ (n * 21 + 19) s → t₃ ≡ set (set (set t (u * 21 + f) (n + 1)) (n * 21 + 0) (u + 1)) (n * 21 + 19) s
+three : (t : List ℕ) (n u f s : ℕ) {t₁ t₂ t₃ : List ℕ} → t₁ ≡ set t (wordAt u f) (n + 1) → t₂ ≡ set t₁ (wordAt n parentWord) (u + 1) → t₃ ≡ set t₂ (wordAt n needWord) s → t₃ ≡ set (set (set t (wordAt u f) (n + 1)) (wordAt n parentWord) (u + 1)) (wordAt n needWord) s
 three t n u f s e₁ e₂ e₃ = cc
 
 word-requires : tie.Need-word-requires
@@ -86,7 +87,7 @@ returns-3 c =
     let e = three t n (s .args .u) (s .args .place) (s .args .step) (c .before .before .before .before .before .before .before .before .before .before .put .ensures) (c .before .before .before .before .before .before .put2 .ensures) (c .before .before .put3 .ensures) in
     λ S x h deep r p. child-last t n S h (length t) (s .args .step) _ (n + 1) (n + 1) x
     (subst (λ (l : List ℕ). Made (length t) (grown S x (s .args .step)) x l (n + 1) (n + 1)) (sym e)
-    (child-holds t n (s .args .u) (s .args .place) (s .args .step) S x h deep r p (out (set (set (set t (s .args .u * 21 + s .args .place) (n + 1)) (n * 21 + 0) (s .args .u + 1)) (n * 21 + 19) (s .args .step)) (n + 1) (n + 1)) (child-makes t n (s .args .u) (s .args .place) (s .args .step) (sym z ∙ w .ensures) (omega arith))))
+    (child-holds t n (s .args .u) (s .args .place) (s .args .step) S x h deep r p (out (set (set (set t (wordAt (s .args .u) (s .args .place)) (n + 1)) (wordAt n parentWord) (s .args .u + 1)) (wordAt n needWord) (s .args .step)) (n + 1) (n + 1)) (child-makes t n (s .args .u) (s .args .place) (s .args .step) (sym z ∙ w .ensures) (omega arith))))
 
 pub child-spec : {M : Type 1} → statement M
 child-spec =

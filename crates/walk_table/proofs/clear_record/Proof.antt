@@ -6,15 +6,16 @@ use native.Mathlib.Omega.{arith}
 use borrow.Author.Needs.{needs}
 use lib.ListN.{length, replicate, length-set}
 use lib.Seq.{sets}
+use Rattle.layout.specs.Table.{width}
 use Rattle.walk_table.proofs.ErasureLaws.{clear-next, clear-end}
 use Rattle.walk_table.proofs.clear_record.Statement.{statement}
 use Rattle.walk_table.proofs.clear_record.Tie as tie
 
 abbrev Inv-loop : tie.InvT-loop
-Inv-loop t₀ r f₀ t f = (length t ≡ length t₀) × (f ≤ 21) × (t ≡ sets t₀ (r * 21) (replicate f 0))
+Inv-loop t₀ r f₀ t f = (length t ≡ length t₀) × (f ≤ width) × (t ≡ sets t₀ (r * width) (replicate f 0))
 
 abbrev μ-loop : tie.MeasureT-loop
-μ-loop t₀ r f₀ t f = 21 - f
+μ-loop t₀ r f₀ t f = width - f
 
 loop-holds : tie.Need-loop-holds Inv-loop μ-loop
 loop-holds c = (refl, omega arith, refl)

@@ -1,7 +1,7 @@
 -- `walk_table::put_link` meets its contract.
 -- Assumes nothing.
 use borrow.Author.Needs.{needs}
-use Prim.Native.Nat.{_+_, _*_}
+use Rattle.layout.specs.Table.{wordAt, neighbourWord, linkWord}
 use Rattle.walk_table.proofs.CellLaws.{store-two}
 use Rattle.walk_table.proofs.put_link.Statement.{statement}
 use Rattle.walk_table.proofs.put_link.Tie as tie
@@ -24,7 +24,7 @@ same-length c = search needs
 returns : tie.Need-returns
 returns c =
     let a = c .before .before .before .before .before .before .before .before .before .args in
-    store-two (a .t .now) (a .u * 21 + (10 + a .d)) (a .u * 21 + (14 + a .d)) (a .to) (a .step) (c .before .before .before .before .before .before .put .ensures) (c .before .before .put2 .ensures)
+    store-two (a .t .now) (wordAt (a .u) (neighbourWord (a .d))) (wordAt (a .u) (linkWord (a .d))) (a .to) (a .step) (c .before .before .before .before .before .before .put .ensures) (c .before .before .put2 .ensures)
 
 pub put-link-spec : {M : Type 1} → statement M
 put-link-spec =
