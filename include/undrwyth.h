@@ -50,11 +50,11 @@ extern "C" {
 #define UNDRWYTH_CORNER_NUMBERS 2          /* numbers a hull corner: x, y */
 #define UNDRWYTH_LINE_BYTES 8240           /* bytes of a buffer that holds the answer to any line */
 
-/* Bytes of stack that suffice for a call on x86-64 and on 64-bit ARM: what include/stack.c measures, rounded up. */
-#define UNDRWYTH_WALK_STACK_BYTES 8192
-#define UNDRWYTH_HULL_STACK_BYTES 135168   /* its working store is 131,080 bytes */
-#define UNDRWYTH_TURNS_STACK_BYTES 1024
-#define UNDRWYTH_LINE_STACK_BYTES 204800   /* table, marks and hull numbers of a line, and the hull's store */
+/* Bytes of stack that a call needs, rounded up from what include/stack.c measured on x86-64 and on 64-bit ARM. */
+#define UNDRWYTH_WALK_STACK_BYTES 2048     /* 1,648 measured */
+#define UNDRWYTH_HULL_STACK_BYTES 132096   /* 131,480 measured; 131,080 are its working store */
+#define UNDRWYTH_TURNS_STACK_BYTES 256     /* 48 measured */
+#define UNDRWYTH_LINE_STACK_BYTES 184320   /* 183,992 measured: a table, marks, hull numbers, and the hull's store */
 
 /* Refusals, in the order in which they are looked for: 1, 2, 3; then 4, 5, 6 at the first faulty place; then 7, at its
  * first place; 8 last. */

@@ -47,20 +47,6 @@ fn wrapper() {
     }
 }
 
-/// The calls need no more stack than the header says.
-#[test]
-fn stack() {
-    std::thread::Builder::new()
-        .stack_size(512 << 10)
-        .spawn(|| {
-            suite::limits(&LIBRARY);
-            suite::lines(&LIBRARY);
-        })
-        .unwrap()
-        .join()
-        .unwrap();
-}
-
 #[test]
 fn program() {
     suite::program(judge, 100, &mut Random(5));
