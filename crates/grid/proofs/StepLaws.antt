@@ -93,6 +93,15 @@ pub endFrom-snoc : (c : Corner) (ds : List ℕ) (d : ℕ) → endFrom c (ds ++ (
 endFrom-snoc c [] d = refl
 endFrom-snoc c (x ∷ ds) d = endFrom-snoc (stepped x c) ds d
 
+-- a walk goes on where its first part ends
+pub endFrom-append : (c : Corner) (s t : List ℕ) → endFrom c (s ++ t) ≡ endFrom (endFrom c s) t
+endFrom-append c [] t = refl
+endFrom-append c (d ∷ s) t = endFrom-append (stepped d c) s t
+
+pub startFrom-mem : (c : Corner) (ds : List ℕ) → List·Memᴰ c (cornersFrom c ds)
+startFrom-mem c [] = List·Memᴰ·head refl
+startFrom-mem c (d ∷ ds) = List·Memᴰ·head refl
+
 pub endFrom-mem : (c : Corner) (ds : List ℕ) → List·Memᴰ (endFrom c ds) (cornersFrom c ds)
 endFrom-mem c [] = List·Memᴰ·head refl
 endFrom-mem c (d ∷ ds) = List·Memᴰ·tail (endFrom-mem (stepped d c) ds)

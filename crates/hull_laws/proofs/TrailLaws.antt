@@ -7,8 +7,9 @@ use Prim.Native.Nat.{ℕ, zero, suc, _+_, _-_, _≤_, _<_}
 use native.Mathlib.Omega.{arith}
 use native.Mathlib.Decide.{decLt}
 use lib.ListN.{length}
-use lib.IntN.{ℤ, pos, negsuc, negℤ, sucℤ, predℤ, _+ℤ_}
-use Rattle.int_laws.proofs.LinearLaws.{up, dn, zarith, bal+, up-neg, dn-neg}
+use lib.IntN.{ℤ, pos, negℤ, sucℤ, predℤ, _+ℤ_}
+use Rattle.int_laws.proofs.LinearLaws.{zarith, bal+, up-neg, dn-neg}
+use Rattle.int_laws.proofs.NextLaws.{bal-suc, bal-pred}
 use Rattle.grid.specs.declared.Corner.{Corner}
 use Rattle.grid.specs.Grid.{corner, stepped, cornersFrom}
 use Rattle.hull.specs.Hull.{In}
@@ -31,16 +32,6 @@ near-row y zero h = omega arith
 near-row y (suc zero) h = omega arith
 near-row y (suc (suc zero)) h = omega arith
 near-row y (suc (suc (suc d))) h = omega arith
-
-bal-suc : (z : ℤ) → up (sucℤ z) + dn z ≡ dn (sucℤ z) + up z + 1
-bal-suc (pos n) = omega arith
-bal-suc (negsuc zero) = omega arith
-bal-suc (negsuc (suc n)) = omega arith
-
-bal-pred : (z : ℤ) → up (predℤ z) + dn z + 1 ≡ dn (predℤ z) + up z
-bal-pred (pos zero) = omega arith
-bal-pred (pos (suc n)) = omega arith
-bal-pred (negsuc n) = omega arith
 
 east-one : (z : ℤ) (n : ℕ) → sucℤ (z +ℤ pos n) ≡ z +ℤ pos (n + 1)
 east-one z n = omega (zarith, bal-suc (z +ℤ pos n), bal+ z (pos n), bal+ z (pos (n + 1)))

@@ -3,3 +3,4 @@ pub mod LinearLaws
 pub mod RingLaws
 pub mod SignLaws
 pub mod RangeLaws
+pub mod NextLaws

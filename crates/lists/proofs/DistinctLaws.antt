@@ -1,6 +1,7 @@
 -- Lists in which no element stands twice, by places.
 -- Assumes nothing.
-use mathlib.Core.List.{List, [], _∷_, List·Memᴰ, List·Memᴰ·head, List·Memᴰ·tail, List·Memᴰ·not-nil, Memᴰ·cast}
+use mathlib.Core.List.{List, [], _∷_, _++_, List·Memᴰ, List·Memᴰ·head, List·Memᴰ·tail, List·Memᴰ·not-nil, List·Memᴰ·append-cases, Memᴰ·cast}
+use mathlib.Core.Logic.{⊎-elim}
 use mathlib.Core.Path.{_≡_, refl, sym}
 use Prim.Native.Nat.{ℕ, zero, suc, _<_}
 use native.Mathlib.Omega.{arith}
@@ -28,3 +29,8 @@ module _ {A : Type 0} where
   mem-take (suc k) [] m = m
   mem-take (suc k) (x ∷ l) (List·Memᴰ·head e) = List·Memᴰ·head e
   mem-take (suc k) (x ∷ l) (List·Memᴰ·tail m) = List·Memᴰ·tail (mem-take k l m)
+
+  -- one after another that has nothing in common with it
+  pub distinct-append : (l m : List A) → Distinct l → Distinct m → ((x : A) → List·Memᴰ x l → List·Memᴰ x m → ⊥) → Distinct (l ++ m)
+  distinct-append [] m h g f = g
+  distinct-append (x ∷ l) m h g f = ((λ k. ⊎-elim (h .0) (f x (List·Memᴰ·head refl)) (List·Memᴰ·append-cases l k)), distinct-append l m (h .1) g (λ y k. f y (List·Memᴰ·tail k)))

@@ -63,6 +63,10 @@ module _ {A : Type 0} (f : A → Bool) where
   count-snoc [] x = omega arith
   count-snoc (y ∷ l) x = omega (arith, count-snoc l x)
 
+  pub count-append : (l m : List A) → count f (l ++ m) ≡ count f l + count f m
+  count-append [] m = omega arith
+  count-append (y ∷ l) m = omega (arith, count-append l m)
+
   pub any-append : (s t : List A) → any f (s ++ t) ≡ (any f s || any f t)
   any-append [] t = refl
   any-append (x ∷ s) t = ap (λ (b : Bool). f x || b) (any-append s t) ∙ or-assoc (f x) (any f s) (any f t)

@@ -6,3 +6,4 @@ pub mod BelowLaws
 pub mod DistinctLaws
 pub mod ZipLaws
 pub mod KeepLaws
+pub mod CountLaws

@@ -6,7 +6,7 @@ pub use mathlib.Core.List.{List, [], _∷_, _++_, List·Memᴰ}
 pub use mathlib.Core.Logic.{_⊎_, _↔_}
 pub use Prim.Native.Nat.{ℕ, zero, suc, pred, _+_, _-_, _*_, _/_, _%_, _^_, _<_, _≤_}
 pub use lib.IntN.{ℤ, pos, negsuc, sucℤ, predℤ, negℤ, natAbs, _+ℤ_, _-ℤ_, _*ℤ_}
-pub use lib.Signed.{_≤ℤ_, _<ℤ_}
+pub use lib.Signed.{_≤ℤ_, _<ℤ_, leZ, ltZ}
 pub use lib.ListN.{length, take, drop, replicate, getD}
 pub use lib.Dec.{eqb, ltb, leb}
 
@@ -36,6 +36,11 @@ module _ {A : Type 0} where
   abbrev pub count : (A → Bool) → List A → ℕ
   count f [] = 0
   count f (x ∷ xs) = tally (f x) + count f xs
+
+  -- the sum of a value over the elements
+  abbrev pub sumOf : (A → ℤ) → List A → ℤ
+  sumOf f [] = pos 0
+  sumOf f (x ∷ xs) = f x +ℤ sumOf f xs
 
   -- the list, with x at its end unless the test says that it is there already
   abbrev pub unless : Bool → List A → A → List A

@@ -13,7 +13,7 @@ use Rattle.lists.proofs.DistinctLaws.{mem-getD, getD-mem, mem-take}
 use Rattle.lists.proofs.GatherLaws.{gather-append, gather-distinct, distinct-gather, mem-gather-right, mem-gather-cases}
 use Rattle.lists.proofs.PigeonLaws.{pigeon}
 use Rattle.grid.specs.declared.Corner.{Corner}
-use Rattle.grid.specs.Grid.{origin, same, cornersFrom}
+use Rattle.grid.specs.Grid.{origin, same, stepped, cornersFrom}
 use Rattle.grid.proofs.CornerLaws.{same-refl, same-sound}
 use Rattle.grid.proofs.StepLaws.{length-cornersFrom, cornersFrom-at, cornerAt-end}
 use Rattle.trace.specs.Meeting.{Meets, visitedOf}
@@ -43,6 +43,13 @@ pub visited-meetless : (c : Corner) (ds : List ℕ) → ((j k : ℕ) → Meets c
 visited-meetless c ds f =
     ap length (gather-distinct same same-sound same-refl [] (cornersFrom c ds) (corners-distinct c ds (none-meetingOf c ds f)))
     ∙ length-cornersFrom c ds
+
+-- after its first step a room meets no corner twice
+pub room-distinct : (c : Corner) (d : ℕ) (ds : List ℕ) → IsRoom c (d ∷ ds) → Distinct (cornersFrom (stepped d c) ds)
+room-distinct c d ds r = corners-distinct (stepped d c) ds (none-meetingOf (stepped d c) ds (λ j k m. no j k (r .only (suc j) (suc k) (record { earlier = omega (arith, m .earlier); within = omega (arith, m .within); equal = m .equal }))))
+  where
+    no : (j k : ℕ) → (suc j ≡ 0) × (suc k ≡ length (d ∷ ds)) → ⊥
+    no j k h = omega (arith, h .0)
 
 -- a room of n steps has n different corners
 module _ (c : Corner) (ds : List ℕ) (r : IsRoom c ds) where

@@ -7,7 +7,7 @@ use Prim.Native.Nat.{ℕ, zero, suc, _+_, _*_, _<_, _≤_}
 use native.Mathlib.Omega.{arith}
 use borrow.Author.Tests.{eq-eqb, ne-eqb}
 use lib.Dec.{eqb}
-use lib.IntN.{ℤ, pos, negsuc, negℤ, sucℤ, predℤ, natAbs, _+ℤ_, _-ℤ_, _*ℤ_, +ℤ-idr, +ℤ-assoc, +ℤ-invr, sucℤ-+ℤ, predℤ-+ℤ, *ℤ-zero, *ℤ-negsuc, pos-*ℤ-pos, negsuc-*ℤ-pos}
+use lib.IntN.{ℤ, pos, negsuc, negℤ, sucℤ, predℤ, natAbs, _+ℤ_, _-ℤ_, _*ℤ_, +ℤ-idr, +ℤ-assoc, +ℤ-invr, *ℤ-zero, *ℤ-negsuc, pos-*ℤ-pos, negsuc-*ℤ-pos}
 use lib.ListN.{length, take, drop, getD, drop-of-length-le}
 use lib.Seq.{drop-cons, getD-take, length-take-le}
 use Rattle.answer.specs.declared.Verdict.{Verdict}
@@ -19,6 +19,7 @@ use Rattle.trace.specs.Meeting.{Meeting, none, meet, meetingOf, meetingJ, meeti
 use Rattle.trace.specs.Verdict.{onlyEnds, verdictBy, sweepFrom, areaBy}
 use Rattle.walk_corner.specs.Moves.{northOf}
 use Rattle.grid.proofs.BoundLaws.{stepped-bound}
+use Rattle.int_laws.proofs.NextLaws.{suc-sub, pred-sub}
 use Rattle.int_laws.proofs.RangeLaws.{abs+, abs-neg}
 use Rattle.answer.specs.declared.Facts.{Facts}
 use Rattle.walk_call.specs.Walk.{factsOf}
@@ -29,12 +30,6 @@ use Rattle.walk_facts.specs.Settled.{gain, Settled}
 -- ---- the area
 sub-self : (y : ℤ) → y -ℤ y ≡ pos 0
 sub-self y = +ℤ-invr y
-
-suc-sub : (y : ℤ) → sucℤ y -ℤ y ≡ pos 1
-suc-sub y = sucℤ-+ℤ y (negℤ y) ∙ ap sucℤ (+ℤ-invr y)
-
-pred-sub : (y : ℤ) → predℤ y -ℤ y ≡ negsuc 0
-pred-sub y = predℤ-+ℤ y (negℤ y) ∙ ap predℤ (+ℤ-invr y)
 
 times-one : (x : ℤ) → x *ℤ pos 1 ≡ x
 times-one (pos n) = pos-*ℤ-pos n 1 ∙ ap pos (omega arith)

@@ -1,0 +1,2 @@
+pub mod PanelCases
+pub mod BesideLaws
