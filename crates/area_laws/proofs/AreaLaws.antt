@@ -1,4 +1,5 @@
--- What the sum of x times the change of y means: on a closed walk it is the sum over all panels of the bounding box, or of any box that holds the walk, of northward minus southward edges in the panel's row with x above the panel's (02, K12).
+-- What the sum of x times the change of y means: on a closed walk it is the sum over all panels of the bounding box, or of any box that holds the
+-- walk, of northward minus southward edges in the panel's row with x above the panel's.
 -- Assumes nothing.
 use mathlib.Core.Bool.{Bool, true, false, not, _&&_}
 use mathlib.Core.List.{List, [], _∷_, List·Memᴰ, List·Memᴰ·head, List·Memᴰ·tail}
@@ -18,7 +19,7 @@ use Rattle.grid.specs.Grid.{stepped, cornersFrom, endFrom}
 use Rattle.trace.specs.Verdict.{IsRoom, sweepFrom, areaOf}
 use Rattle.trace.proofs.VerdictLaws.{area-room}
 use Rattle.panels.specs.Edges.{Edge, edgeOf, edgesFrom, beside, surplusOf}
-use Rattle.panels.specs.Inside.{edgesBeside, Inside}
+use Rattle.panels.specs.Inside.{Inside}
 use Rattle.panels.specs.Box.{Box, boxOf, panelsIn, panelSum}
 use Rattle.area_laws.proofs.SumLaws.{signOf, sum-exchange}
 use Rattle.area_laws.proofs.BoxLaws.{Holds, HoldsFoot, box-holds, edges-held}
@@ -68,15 +69,14 @@ sum-counts b (e ∷ es) h =
     ∙ ring 5 (signOf e ∷ e .foot .0 ∷ b .west ∷ sumOf shareOf es ∷ sumOf signOf es ∷ []) (v 0 ⊗ (v 1 ⊖ v 2) ⊕ (v 3 ⊖ v 2 ⊗ v 4)) (v 0 ⊗ v 1 ⊕ v 3 ⊖ v 2 ⊗ (v 0 ⊕ v 4)) tt
 
 -- for any box that holds the corners
-pub sweep-box : (b : Box) (c : Corner) (ds : List ℕ) → ((p : Corner) → List·Memᴰ p (cornersFrom c ds) → Holds b p) → endFrom c ds ≡ c → sweepFrom c ds ≡ sumOf (surplusOf c ds) (panelsIn b)
+sweep-box : (b : Box) (c : Corner) (ds : List ℕ) → ((p : Corner) → List·Memᴰ p (cornersFrom c ds) → Holds b p) → endFrom c ds ≡ c → sweepFrom c ds ≡ sumOf (surplusOf c ds) (panelsIn b)
 sweep-box b c ds h e =
     sweep-edges c ds
     ∙ ring 2 (sumOf shareOf (edgesFrom c ds) ∷ b .west ∷ []) (v 0) (v 0 ⊖ v 1 ⊗ k (pos 0)) tt
     ∙ ap (λ (z : ℤ). sumOf shareOf (edgesFrom c ds) -ℤ (b .west *ℤ z)) (sym (closed-signs c ds e))
     ∙ sym (sum-exchange (edgesFrom c ds) (panelsIn b) ∙ sum-counts b (edgesFrom c ds) (edges-held b c ds h))
 
--- "the sum of x times the change of y equals the sum over all panels of the bounding box of northward minus southward edges in that panel's row
--- with x above the panel's", for every closed walk from every start
+-- so for the bounding box
 pub sweep-panels : (c : Corner) (ds : List ℕ) → endFrom c ds ≡ c → sweepFrom c ds ≡ panelSum c ds
 sweep-panels c ds e = sweep-box (boxOf c ds) c ds (box-holds c ds) e
 

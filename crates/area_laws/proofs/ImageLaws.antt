@@ -4,7 +4,7 @@
 use mathlib.Core.List.{List, [], _∷_, map}
 use mathlib.Core.Path.{_≡_, refl, ap, ap₂, sym, _∙_}
 use Prim.Native.Nat.{ℕ, zero, suc}
-use lib.IntN.{ℤ, pos, negsuc, negℤ, sucℤ, predℤ, _+ℤ_, _-ℤ_, _*ℤ_, sucℤ-+ℤ, predℤ-+ℤ, negℤ-sucℤ, negℤ-predℤ, +ℤ-idr}
+use lib.IntN.{ℤ, pos, negsuc, negℤ, _+ℤ_, _-ℤ_, _*ℤ_, sucℤ-+ℤ, predℤ-+ℤ, negℤ-sucℤ, negℤ-predℤ, +ℤ-idr}
 use Rattle.int_laws.proofs.RingLaws.{ring, v, k, _⊕_, _⊖_, _⊗_, ⊝}
 use Rattle.grid.specs.declared.Corner.{Corner}
 use Rattle.grid.specs.Grid.{corner, stepped, endFrom}

@@ -5,7 +5,7 @@ use mathlib.Core.Logic.{_⊎_, inl, inr}
 use mathlib.Core.Path.{_≡_, refl, ap, sym, _∙_, subst}
 use Prim.Native.Nat.{ℕ, suc, _+_, _*_, _<_, _≤_}
 use native.Mathlib.Omega.{arith}
-use lib.IntN.{pos}
+use lib.IntN.{pos, natAbs}
 use lib.ListN.{length, getD}
 use lib.Seq.{take-length}
 use Rattle.answer.specs.declared.Answer.{Answer}
@@ -21,6 +21,8 @@ use Rattle.tree.specs.Nodes.{nodesOf}
 use Rattle.layout.specs.Marks.{markWords}
 use Rattle.layout.specs.Table.{width, recordsIn, wordAt}
 use Rattle.walk_call.specs.Walk.{factsOf, WalkIs}
+use Rattle.panels.specs.Inside.{panelsInside}
+use Rattle.room_laws.proofs.RoomLaws.{room-magnitude}
 use Rattle.lists.proofs.DistinctLaws.{mem-getD}
 use Rattle.trace.proofs.MeetingLaws.{meetingOf-meets, meetingOf-none}
 use Rattle.trace.proofs.VerdictLaws.{verdict-says, area-room, area-other}
@@ -63,6 +65,9 @@ module _ {c : Corner} {os t ms ch t′ ms′ ch′ : List ℕ} {f : Facts} (w : 
 
   pub its-area : (IsRoom c (survivors os) → f .area ≡ sweepFrom c (survivors os)) × ((IsRoom c (survivors os) → ⊥) → f .area ≡ pos 0)
   its-area = told (λ g. (IsRoom c ds → g .area ≡ sweepFrom c ds) × ((IsRoom c ds → ⊥) → g .area ≡ pos 0)) (area-room c ds, area-other c ds)
+
+  pub its-panels : IsRoom c (survivors os) → 4 ≤ length (survivors os) → natAbs (f .area) ≡ panelsInside c (survivors os)
+  its-panels r long = told (λ g. natAbs (g .area) ≡ panelsInside c ds) (room-magnitude c ds r long)
 
   pub its-record : (i : ℕ) → i < length (nodesOf (cornersFrom c (survivors os)))
       → RecordSays (cornersFrom c (survivors os)) (getD (nodesOf (cornersFrom c (survivors os))) i origin) (λ n. getD t′ (wordAt i n) 0)

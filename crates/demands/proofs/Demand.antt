@@ -4,8 +4,9 @@ use mathlib.Core.List.{List, _∷_, _++_, List·Memᴰ}
 use mathlib.Core.Logic.{_⊎_, _↔_}
 use mathlib.Core.Path.{_≡_}
 use Prim.Native.Nat.{ℕ, suc, _+_, _-_, _*_, _<_, _≤_}
-use lib.IntN.{ℤ, pos}
+use lib.IntN.{ℤ, pos, negsuc, negℤ, natAbs}
 use lib.ListN.{length, getD, take, drop, replicate}
+use lib.Signed.{_<ℤ_}
 use Rattle.answer.specs.declared.Answer.{Answer}
 use Rattle.answer.specs.declared.Counted.{Counted}
 use Rattle.answer.specs.declared.Facts.{Facts}
@@ -17,23 +18,25 @@ use Rattle.answer.specs.declared.Verdict.{Verdict}
 use Rattle.answer.specs.Limits.{noMeeting}
 use Rattle.answer.specs.Refusal.{refusalNumber}
 use Rattle.lists.specs.Lists.{Distinct}
-use Rattle.grid.specs.declared.Corner.{Corner}
-use Rattle.grid.specs.Grid.{origin, cornersFrom}
+use Rattle.grid.specs.declared.{Corner.Corner, Panel.Panel}
+use Rattle.grid.specs.Grid.{origin, cornersFrom, endFrom}
 use Rattle.grid.specs.Tree.{AncestorAt}
 use Rattle.steps.specs.Operations.{survivors}
 use Rattle.steps.specs.Turns.{turnOf, turnsOf, stepsOf, ConvertedBy}
 use Rattle.trace.specs.Meeting.{Meets, FirstMeets, visitedOf}
-use Rattle.trace.specs.Verdict.{VerdictSays, IsRoom, sweepFrom}
+use Rattle.trace.specs.Verdict.{VerdictSays, IsRoom, sweepFrom, areaOf}
 use Rattle.tree.specs.Nodes.{nodesOf, refOf, needOf, InUse}
 use Rattle.layout.specs.Marks.{markWords}
 use Rattle.layout.specs.Table.{width, recordsIn, wordAt}
 use Rattle.walk_call.specs.Walk.{factsOf, WalkIs}
 use Rattle.hull.specs.Hull.{In, Exposed, HullIs}
 use Rattle.hull.specs.Call.{numbers, HullCall}
+use Rattle.panels.specs.{Edges.surplusOf, Box.panelSum, Inside.panelsInside, Inside.ListsInside, Inside.InsideLeft, Inside.InsideRight}
 use Rattle.hull_laws.proofs.ChainLaws.{Closed}
 use Rattle.hull_laws.proofs.CallLaws as hullCallLaws
 use Rattle.hull_laws.proofs.HullLaws as hullLaws
 use Rattle.hull_laws.proofs.OneLaws as oneLaws
+use Rattle.room_laws.proofs.RoomLaws as roomLaws
 use Rattle.trace.proofs.MeetingLaws as meetingLaws
 use Rattle.trace.proofs.VerdictLaws as verdictLaws
 use Rattle.trace.proofs.VisitLaws as visitLaws
@@ -49,6 +52,7 @@ use Rattle.demands.specs.GivenTurns.{GivenTurns}
 use Rattle.demands.specs.GivenHull.{GivenHull}
 use Rattle.demands.specs.Record.{RecordSays}
 use Rattle.demands.specs.Alone.{LentAlone}
+use Rattle.demands.proofs.Area as areaPage
 use Rattle.demands.proofs.WalkLaws as walkLaws
 use Rattle.demands.proofs.AcceptedLaws as acceptedLaws
 use Rattle.demands.proofs.BufferLaws as bufferLaws
@@ -140,6 +144,10 @@ module _ {c : Corner} {os t ms ch t′ ms′ ch′ : List ℕ} {f : Facts} (w : 
   pub area : (IsRoom c (survivors os) → f .area ≡ sweepFrom c (survivors os)) × ((IsRoom c (survivors os) → ⊥) → f .area ≡ pos 0)
   area = acceptedLaws.its-area w
 
+  -- for a room of four steps or more its magnitude is how many panels are inside
+  pub panel-count : IsRoom c (survivors os) → 4 ≤ length (survivors os) → natAbs (f .area) ≡ panelsInside c (survivors os)
+  panel-count = acceptedLaws.its-panels w
+
   -- "every word of the table": the record of each node in use says what the table of words says, the visit count among it
   pub record-words : (i : ℕ) → i < length (nodesOf (cornersFrom c (survivors os)))
       → RecordSays (cornersFrom c (survivors os)) (getD (nodesOf (cornersFrom c (survivors os))) i origin) (λ n. getD t′ (wordAt i n) 0)
@@ -167,6 +175,37 @@ firstMeets-one = meetingLaws.firstMeets-one
 
 pub verdict-one : (c : Corner) (ds : List ℕ) (u v : Verdict) → VerdictSays c ds u → VerdictSays c ds v → u ≡ v
 verdict-one = verdictLaws.verdictSays-one
+
+-- "the panel count" of any closed walk, crossed ones too: the sum over the steps is a sum over panels. What else leaves it unchanged, and what changes
+-- its sign, stands in Area.antt
+pub sweep-panels : (c : Corner) (ds : List ℕ) → endFrom c ds ≡ c → sweepFrom c ds ≡ panelSum c ds
+sweep-panels = areaPage.sweep-panels
+
+-- "the panel count" of a room of four steps or more, from any start
+module _ (c : Corner) (ds : List ℕ) (r : IsRoom c ds) (long : 4 ≤ length ds) where
+  -- each panel counts once or not at all, and none takes away what another adds: every surplus is 0 or 1, or every surplus is 0 or -1
+  pub room-surplus : ((p : Panel) → (surplusOf c ds p ≡ pos 0) ⊎ (surplusOf c ds p ≡ pos 1)) ⊎ ((p : Panel) → (surplusOf c ds p ≡ pos 0) ⊎ (surplusOf c ds p ≡ negsuc 0))
+  room-surplus = roomLaws.room-surplus c ds r long
+
+  -- walked with the room on the left hand the area is the number of panels inside, and with the room on the right hand that number's negative
+  pub room-counts : (InsideLeft c ds × (areaOf c ds ≡ pos (panelsInside c ds))) ⊎ (InsideRight c ds × (areaOf c ds ≡ negℤ (pos (panelsInside c ds))))
+  room-counts = roomLaws.room-counts c ds r long
+
+  -- so the area without its sign is the number of panels to order
+  pub room-magnitude : natAbs (areaOf c ds) ≡ panelsInside c ds
+  room-magnitude = roomLaws.room-magnitude c ds r long
+
+  -- there is one at least
+  pub room-some : 0 < panelsInside c ds
+  room-some = roomLaws.room-some c ds r long
+
+  -- and the sign of the area says which way round the room was walked
+  pub room-sign : (pos 0 <ℤ areaOf c ds ↔ InsideLeft c ds) × (areaOf c ds <ℤ pos 0 ↔ InsideRight c ds)
+  room-sign = roomLaws.room-sign c ds r long
+
+  -- whoever lists the panels inside, each once, lists that many
+  pub room-panels : (ps : List Panel) → ListsInside c ds ps → natAbs (areaOf c ds) ≡ length ps
+  room-panels = roomLaws.room-panels c ds r long
 
 -- "the radix quadtree": the nodes in use are the visited corners and their ancestors, each once, the root first
 pub nodes-in-use : (ps : List Corner) (a : Corner) → List·Memᴰ a (nodesOf ps) ↔ InUse ps a

@@ -8,4 +8,5 @@ pub mod AcceptedLaws
 pub mod AloneLaws
 pub mod CallLaws
 pub mod DigitLaws
+pub mod Area
 pub mod Demand

@@ -6,7 +6,7 @@ use mathlib.Core.Logic.{_⊎_, inl, inr, ⊎-elim}
 use mathlib.Core.Path.{_≡_, refl, ap, ap₂, sym, _∙_, subst}
 use Prim.Native.Nat.{ℕ, zero, suc, _+_, _<_}
 use native.Mathlib.Omega.{arith}
-use lib.IntN.{ℤ, pos, _+ℤ_, +ℤ-assoc, +ℤ-idl}
+use lib.IntN.{ℤ, _+ℤ_, +ℤ-assoc, +ℤ-idl}
 use lib.ListN.{length}
 use Rattle.lists.specs.Lists.{tally, count, any, sumOf, Distinct}
 use Rattle.lists.proofs.FindLaws.{any-mem, any-some, count-none, count-any}

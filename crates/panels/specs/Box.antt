@@ -1,4 +1,4 @@
--- The bounding box of a walk, and the sum over its panels (02). Assumes nothing.
+-- The bounding box of a walk, and the sum over its panels (RULES 1.10). Assumes nothing.
 use Rattle.lists.specs.Lists.{cond, List, [], _∷_, _++_, ℕ, zero, suc, ℤ, sucℤ, natAbs, _-ℤ_, leZ, sumOf}
 use Rattle.grid.specs.{declared.Corner.Corner, declared.Panel.Panel, Grid.corner, Grid.panelAt, Grid.stepped}
 use Rattle.panels.specs.Edges.{surplusOf}

@@ -1,4 +1,4 @@
--- The panels inside a walk, and on which side of its steps they lie (02). Assumes nothing.
+-- The panels inside a walk, and on which side of its steps they lie (RULES 1.9). Assumes nothing.
 use Rattle.lists.specs.Lists.{_≡_, Bool, _↔_, List, [], _∷_, List·Memᴰ, ℕ, zero, suc, _%_, predℤ, eqb, count, Distinct}
 use Rattle.grid.specs.{declared.Corner.Corner, declared.Panel.Panel, Grid.corner, Grid.panelAt, Grid.stepped}
 use Rattle.panels.specs.{Edges.edgesFrom, Edges.beside, Box.boxOf, Box.panelsIn}

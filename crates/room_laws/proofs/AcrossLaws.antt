@@ -112,7 +112,7 @@ module _ (c : Corner) (ds : List ℕ) where
   across-north v = balance (λ q. 0) 1 v c ds (across-walk (λ q. 0) 1 v (north-step v) c ds) refl
 
   -- of closed walks, across a horizontal edge
-  pub across-east : endFrom c ds ≡ c → (v : Corner) → Balanced c ds 0 v
+  across-east : endFrom c ds ≡ c → (v : Corner) → Balanced c ds 0 v
   across-east h v = balance (onLine v) 0 v c ds (across-walk (onLine v) 0 v (east-step v) c ds) (ap (onLine v) h)
 
   -- of closed walks, across every edge: west and south are east and north the other way

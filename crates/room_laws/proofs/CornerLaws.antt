@@ -91,14 +91,14 @@ module _ (c : Corner) (a b : ℕ) (ds : List ℕ) (r : Round c a (b ∷ ds)) whe
       came : along a (back d) ≡ true → stepped d v ≡ c
       came h = sym (again (λ n. stepped n v) (λ n. refl) d) ∙ ap (λ (n : ℕ). stepped n v) (sym (eqb-true (back a) (back (back d)) h)) ∙ stepped-back a c
 
-  pub around : (d : ℕ) → surplusOf c (a ∷ b ∷ ds) (leftOf d v) +ℤ pos (tally (along a (back d))) ≡ surplusOf c (a ∷ b ∷ ds) (rightOf d v) +ℤ pos (tally (along b d))
+  around : (d : ℕ) → surplusOf c (a ∷ b ∷ ds) (leftOf d v) +ℤ pos (tally (along a (back d))) ≡ surplusOf c (a ∷ b ∷ ds) (rightOf d v) +ℤ pos (tally (along b d))
   around d =
       ap (λ (n : ℕ). surplusOf c (a ∷ b ∷ ds) (leftOf d v) +ℤ pos n) (sym (arriving d))
       ∙ across c (a ∷ b ∷ ds) (r .closed) d v
       ∙ ap (λ (n : ℕ). surplusOf c (a ∷ b ∷ ds) (rightOf d v) +ℤ pos n) (leaving d)
 
   -- with another step to come it does not turn back
-  pub onward : 0 < length ds → along b (back a) ≡ false
+  onward : 0 < length ds → along b (back a) ≡ false
   onward h = bool-agree (along b (back a)) false (λ e. absurd (far ds h (r .once .1) (along-stepped b (back a) v e ∙ stepped-back a c ∙ sym (r .closed)))) (λ e. absurd (true≢false (sym e)))
     where
       far : (l : List ℕ) → 0 < length l → Distinct (cornersFrom (stepped b v) l) → stepped b v ≡ endFrom (stepped b v) l → ⊥

@@ -26,10 +26,10 @@ count-snoc f c (d ∷ ds) a = omega (arith, count-append f (edgeOf d c) (edgesFr
 count-rotated : (f : Edge → Bool) (c : Corner) (a : ℕ) (ds : List ℕ) → endFrom (stepped a c) ds ≡ c → count f (edgesFrom (stepped a c) (ds ++ (a ∷ []))) ≡ count f (edgesFrom c (a ∷ ds))
 count-rotated f c a ds h = omega (arith, count-snoc f (stepped a c) ds a, ap (λ (q : Corner). count f (edgeOf a q)) h, count-append f (edgeOf a c) (edgesFrom (stepped a c) ds))
 
-pub surplus-rotated : (c : Corner) (a : ℕ) (ds : List ℕ) → endFrom (stepped a c) ds ≡ c → (p : Panel) → surplusOf (stepped a c) (ds ++ (a ∷ [])) p ≡ surplusOf c (a ∷ ds) p
+surplus-rotated : (c : Corner) (a : ℕ) (ds : List ℕ) → endFrom (stepped a c) ds ≡ c → (p : Panel) → surplusOf (stepped a c) (ds ++ (a ∷ [])) p ≡ surplusOf c (a ∷ ds) p
 surplus-rotated c a ds h p = ap₂ (λ (n s : ℕ). pos n -ℤ pos s) (count-rotated _ c a ds h) (count-rotated _ c a ds h)
 
-pub round-rotated : (c : Corner) (a b : ℕ) (ds : List ℕ) → Round c a (b ∷ ds) → Round (stepped a c) b (ds ++ (a ∷ []))
+round-rotated : (c : Corner) (a b : ℕ) (ds : List ℕ) → Round c a (b ∷ ds) → Round (stepped a c) b (ds ++ (a ∷ []))
 round-rotated c a b ds r =
     let v = stepped b (stepped a c) in
     let e : stepped a (endFrom v ds) ≡ stepped a c = ap (stepped a) (r .closed) in
