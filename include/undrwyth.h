@@ -85,12 +85,12 @@ extern "C" {
 
 #define UNDRWYTH_NO_MEETING 65535
 
-/* Verdicts. A walk is closed if pn = p0. */
+/* Verdicts. A walk is closed if pn = p0, and crossed if it has a meeting other than (0,n). */
 #define UNDRWYTH_VERDICT_NOWHERE 0         /* n is 0 */
-#define UNDRWYTH_VERDICT_OPEN 1            /* open, no meeting */
-#define UNDRWYTH_VERDICT_ROOM 2            /* closed, no meeting but (0,n) */
-#define UNDRWYTH_VERDICT_OPEN_MEETING 3    /* open, some meeting */
-#define UNDRWYTH_VERDICT_CLOSED_MEETING 4  /* closed, a meeting other than (0,n) */
+#define UNDRWYTH_VERDICT_OPEN 1            /* open, not crossed */
+#define UNDRWYTH_VERDICT_ROOM 2            /* closed, not crossed */
+#define UNDRWYTH_VERDICT_OPEN_MEETING 3    /* open, crossed */
+#define UNDRWYTH_VERDICT_CLOSED_MEETING 4  /* closed, crossed */
 
 /* Words of the answer to a hull. */
 #define UNDRWYTH_HULL_ANSWER_WORDS 3

@@ -109,19 +109,20 @@ impl Refusal {
     }
 }
 
-/// What the surviving steps make of the walk.
+/// What the surviving steps make of the walk: it is closed if it ends where it began, and crossed if it has a meeting other
+/// than that of its start and end.
 #[derive(Clone, Copy, Debug, PartialEq, Eq)]
 #[repr(u32)]
 pub enum Verdict {
     /// No step survives.
     Nowhere = 0,
-    /// Open, no meeting.
+    /// Open, not crossed.
     Open = 1,
-    /// Closed, no meeting but that of start and end.
+    /// Closed, not crossed.
     Room = 2,
-    /// Open, some meeting.
+    /// Open, crossed.
     OpenMeeting = 3,
-    /// Closed, a meeting other than that of start and end.
+    /// Closed, crossed.
     ClosedMeeting = 4,
 }
 

@@ -11,8 +11,11 @@ pub use answer::*;
 /// `chain` one byte.
 ///
 /// After an accepted walk the table holds the linked quadtree of the surviving steps, `marks` the nodes in use and the
-/// visits at the corner stood on after each operation, and `chain` the surviving steps and then zeros. A table of eight
-/// records for each different corner of the walk is never refused for room.
+/// visits at the corner stood on after each operation, and `chain` the surviving steps and then zeros. [`word`] names the
+/// words of a record.
+///
+/// A table of 4 c - 3 records is never refused for room where the walk has at most c different corners at any moment. The
+/// whole table is cleared, whatever the walk uses of it: lend what it can need, and no more.
 ///
 /// ```
 /// let ops = [0, 1, 2, 3];
