@@ -3,7 +3,7 @@
 use mathlib.Core.List.{[], _∷_}
 use mathlib.Core.Logic.{inl, ⊎-elim}
 use mathlib.Core.Path.{_≡_, refl}
-use Prim.Native.Nat.{_*_}
+use Prim.Native.Nat.{_*_, _-_}
 use native.Mathlib.Omega.{arith}
 use Rattle.grid.specs.Grid.{origin}
 use Rattle.layout.specs.Table.{width}
@@ -43,9 +43,9 @@ one-to-take = inl (refl, omega arith)
 second-of-two : First 2 (FineAt (5 ∷ 5 ∷ [])) (BadDigitAt (5 ∷ 5 ∷ [])) 1 → ⊥
 second-of-two f = ⊎-elim (λ h. omega (arith, h .0)) (λ h. omega (arith, h .0)) (f .before 0 (omega arith))
 
--- 42 words are two records, 41 are no number of records
-two-records : HasRecords 42
+-- the words of two records, and one word less
+two-records : HasRecords (2 * width)
 two-records = (2, omega arith, omega arith, refl)
 
-part-of-a-record : HasRecords 41 → ⊥
-part-of-a-record x = let e : 41 ≡ x .0 * width = x .3 in omega arith
+part-of-a-record : HasRecords (2 * width - 1) → ⊥
+part-of-a-record x = let e : 2 * width - 1 ≡ x .0 * width = x .3 in omega arith

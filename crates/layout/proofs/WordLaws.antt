@@ -7,7 +7,7 @@ use Prim.Native.Nat.{ℕ, zero, suc, _+_, _<_, _≤_}
 use native.Mathlib.Omega.{arith}
 use borrow.Author.Tests.{ne-eqb, eq-eqb}
 use lib.Dec.{eqb}
-use lib.ListN.{length, getD, set, List·getD-append}
+use lib.ListN.{length, getD, set, drop, List·getD-append}
 use lib.Seq.{set-append-left, getD-append-add}
 use Rattle.layout.specs.Table.{neighbourWord, linkWord, Fields, tab, sharedWords, ownWords, wordsOf}
 
@@ -76,10 +76,9 @@ module _ (r : Fields) where
   words-side d y s h =
       let near : List ℕ = r .parent ∷ tab 1 9 (r .child) in
       let more : List ℕ = near ++ tab 0 4 (bump (r .neighbour) d y) in
-      let last : List ℕ = r .visits ∷ r .need ∷ r .first ∷ [] in
       ap (λ (l : List ℕ). set l (linkWord d) s) (set-append-add near (tab 0 4 (r .neighbour) ++ ownWords r) d y ∙ ap (λ (l : List ℕ). near ++ l) (set-four (r .neighbour) (ownWords r) d y h))
       ∙ set-append-add more (ownWords r) d s
-      ∙ ap (λ (l : List ℕ). more ++ l) (set-four (r .link) last d s h)
+      ∙ ap (λ (l : List ℕ). more ++ l) (set-four (r .link) (drop 4 (ownWords r)) d s h)
 
   pub child-of : (w : ℕ) → 0 < w → w < 10 → getD (wordsOf r) w 0 ≡ r .child w
   child-of zero a b = absurd (omega arith)
@@ -92,7 +91,7 @@ module _ (r : Fields) where
   neighbour-of d h = getD-append-add (r .parent ∷ tab 1 9 (r .child)) (tab 0 4 (r .neighbour) ++ ownWords r) d 0 ∙ get-four (r .neighbour) (ownWords r) d h
 
   pub link-of : (d : ℕ) → d < 4 → getD (wordsOf r) (linkWord d) 0 ≡ r .link d
-  link-of d h = getD-append-add (sharedWords r) (ownWords r) d 0 ∙ get-four (r .link) (r .visits ∷ r .need ∷ r .first ∷ []) d h
+  link-of d h = getD-append-add (sharedWords r) (ownWords r) d 0 ∙ get-four (r .link) (drop 4 (ownWords r)) d h
 
 -- records that hold the same have the same words
 pub words-cong : (r q : Fields) → r .parent ≡ q .parent → ((k : ℕ) → 0 < k → k < 10 → r .child k ≡ q .child k) → ((k : ℕ) → k < 4 → r .neighbour k ≡ q .neighbour k) → ((k : ℕ) → k < 4 → r .link k ≡ q .link k)
