@@ -88,9 +88,10 @@ extern "C" {
 /* Verdicts. A walk is closed if pn = p0, and crossed if it has a meeting other than (0,n). */
 #define UNDRWYTH_VERDICT_NOWHERE 0         /* n is 0 */
 #define UNDRWYTH_VERDICT_OPEN 1            /* open, not crossed */
-#define UNDRWYTH_VERDICT_ROOM 2            /* closed, not crossed */
+#define UNDRWYTH_VERDICT_ROOM 2            /* closed, not crossed, four steps or more */
 #define UNDRWYTH_VERDICT_OPEN_MEETING 3    /* open, crossed */
 #define UNDRWYTH_VERDICT_CLOSED_MEETING 4  /* closed, crossed */
+#define UNDRWYTH_VERDICT_THERE_AND_BACK 5  /* closed, two steps */
 
 /* Words of the answer to a hull. */
 #define UNDRWYTH_HULL_ANSWER_WORDS 3

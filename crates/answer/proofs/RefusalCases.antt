@@ -4,7 +4,7 @@ use mathlib.Core.List.{[], _∷_, map}
 use mathlib.Core.Path.{_≡_, refl}
 use Rattle.answer.specs.declared.Judged.the-variants.{Good, Refused}
 use Rattle.answer.specs.declared.Refusal.the-variants.{TooMany, Table, ResultRoom, BadDigit, NothingToTake, TooLong, NoRoom, HullRoom, BadLine}
-use Rattle.answer.specs.declared.Verdict.the-variants.{Nowhere, Open, Room, OpenMeeting, ClosedMeeting}
+use Rattle.answer.specs.declared.Verdict.the-variants.{Nowhere, Open, Room, OpenMeeting, ClosedMeeting, ThereAndBack}
 use Rattle.answer.specs.Refusal.{refusalNumber, refusalPlace, judgedNumber, judgedPlace, verdictNumber, firstOf}
 
 numbers-of-refusals : map refusalNumber (TooMany ∷ Table ∷ ResultRoom ∷ BadDigit 5 ∷ NothingToTake 5 ∷ TooLong 5 ∷ NoRoom 5 ∷ HullRoom ∷ BadLine ∷ []) ≡ 1 ∷ 2 ∷ 3 ∷ 4 ∷ 5 ∷ 6 ∷ 7 ∷ 8 ∷ 9 ∷ []
@@ -17,7 +17,7 @@ places-of-refusals = refl
 nothing-refused : judgedNumber Good ∷ judgedPlace Good ∷ [] ≡ 0 ∷ 0 ∷ []
 nothing-refused = refl
 
-numbers-of-verdicts : map verdictNumber (Nowhere ∷ Open ∷ Room ∷ OpenMeeting ∷ ClosedMeeting ∷ []) ≡ 0 ∷ 1 ∷ 2 ∷ 3 ∷ 4 ∷ []
+numbers-of-verdicts : map verdictNumber (Nowhere ∷ Open ∷ Room ∷ OpenMeeting ∷ ClosedMeeting ∷ ThereAndBack ∷ []) ≡ 0 ∷ 1 ∷ 2 ∷ 3 ∷ 4 ∷ 5 ∷ []
 numbers-of-verdicts = refl
 
 first-of-three : firstOf (Good ∷ Refused Table ∷ Refused ResultRoom ∷ []) ≡ Refused Table

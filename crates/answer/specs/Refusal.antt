@@ -2,7 +2,7 @@
 use Rattle.lists.specs.Lists.{Bool, true, false, List, [], _∷_, ℕ}
 use Rattle.answer.specs.declared.{Refusal.Refusal, Judged.Judged, Judged.the-variants.Good, Judged.the-variants.Refused, Verdict.Verdict}
 use Rattle.answer.specs.declared.Refusal.the-variants.{TooMany, Table, ResultRoom, BadDigit, NothingToTake, TooLong, NoRoom, HullRoom, BadLine}
-use Rattle.answer.specs.declared.Verdict.the-variants.{Nowhere, Open, Room, OpenMeeting, ClosedMeeting}
+use Rattle.answer.specs.declared.Verdict.the-variants.{Nowhere, Open, Room, OpenMeeting, ClosedMeeting, ThereAndBack}
 
 abbrev pub refusalNumber : Refusal → ℕ
 refusalNumber TooMany = 1
@@ -42,6 +42,7 @@ verdictNumber Open = 1
 verdictNumber Room = 2
 verdictNumber OpenMeeting = 3
 verdictNumber ClosedMeeting = 4
+verdictNumber ThereAndBack = 5
 
 -- a refusal if the test passes
 abbrev pub when : Bool → Refusal → Judged

@@ -30,6 +30,7 @@ pub enum Verdict {
     Room,
     OpenMeeting,
     ClosedMeeting,
+    ThereAndBack,
 }
 
 // The facts of an accepted walk: j and k are the first meeting, 65,535 twice if there is none.
@@ -100,5 +101,6 @@ pub fn verdict_number(v: Verdict) -> usize
         Verdict::Room => 2,
         Verdict::OpenMeeting => 3,
         Verdict::ClosedMeeting => 4,
+        Verdict::ThereAndBack => 5,
     }
 }

@@ -31,7 +31,7 @@ worked =
     & (refl & tt)
     & (refl & refl & refl & refl & refl & refl & refl & (refl, refl) & (refl, refl) & tt)
     & (refl & tt)
-    & (refl & refl & refl & tt)
+    & (refl & refl & refl & refl & tt)
     & (refl & refl & refl & hull-by (0 ∷ 0 ∷ 1 ∷ 1 ∷ 0 ∷ 0 ∷ 3 ∷ 2 ∷ 2 ∷ 2 ∷ 2 ∷ 3 ∷ []) hull-of-001100322223 & refl & tt)
     & ((refl, refl) & tt)
     & ((refl, refl) & tt)

@@ -66,8 +66,8 @@ module _ {c : Corner} {os t ms ch t′ ms′ ch′ : List ℕ} {f : Facts} (w : 
   pub its-area : (IsRoom c (survivors os) → f .area ≡ sweepFrom c (survivors os)) × ((IsRoom c (survivors os) → ⊥) → f .area ≡ pos 0)
   its-area = told (λ g. (IsRoom c ds → g .area ≡ sweepFrom c ds) × ((IsRoom c ds → ⊥) → g .area ≡ pos 0)) (area-room c ds, area-other c ds)
 
-  pub its-panels : IsRoom c (survivors os) → 4 ≤ length (survivors os) → natAbs (f .area) ≡ panelsInside c (survivors os)
-  its-panels r long = told (λ g. natAbs (g .area) ≡ panelsInside c ds) (room-magnitude c ds r long)
+  pub its-panels : IsRoom c (survivors os) → natAbs (f .area) ≡ panelsInside c (survivors os)
+  its-panels r = told (λ g. natAbs (g .area) ≡ panelsInside c ds) (room-magnitude c ds r)
 
   pub its-record : (i : ℕ) → i < length (nodesOf (cornersFrom c (survivors os)))
       → RecordSays (cornersFrom c (survivors os)) (getD (nodesOf (cornersFrom c (survivors os))) i origin) (λ n. getD t′ (wordAt i n) 0)

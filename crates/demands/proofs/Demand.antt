@@ -3,7 +3,7 @@
 use mathlib.Core.List.{List, _∷_, _++_, List·Memᴰ}
 use mathlib.Core.Logic.{_⊎_, _↔_}
 use mathlib.Core.Path.{_≡_}
-use Prim.Native.Nat.{ℕ, suc, _+_, _-_, _*_, _<_, _≤_}
+use Prim.Native.Nat.{ℕ, suc, _+_, _-_, _*_, _%_, _<_, _≤_}
 use lib.IntN.{ℤ, pos, negsuc, negℤ, natAbs}
 use lib.ListN.{length, getD, take, drop, replicate}
 use lib.Signed.{_<ℤ_}
@@ -14,7 +14,7 @@ use Rattle.answer.specs.declared.Judged.{Judged}
 use Rattle.answer.specs.declared.Judged.the-variants.{Good, Refused}
 use Rattle.answer.specs.declared.Refusal.{Refusal}
 use Rattle.answer.specs.declared.Refusal.the-variants.{NoRoom}
-use Rattle.answer.specs.declared.Verdict.{Verdict}
+use Rattle.answer.specs.declared.Verdict.{Verdict, the-variants.ThereAndBack}
 use Rattle.answer.specs.Limits.{noMeeting}
 use Rattle.answer.specs.Refusal.{refusalNumber}
 use Rattle.lists.specs.Lists.{Distinct}
@@ -36,6 +36,7 @@ use Rattle.hull_laws.proofs.ChainLaws.{Closed}
 use Rattle.hull_laws.proofs.CallLaws as hullCallLaws
 use Rattle.hull_laws.proofs.HullLaws as hullLaws
 use Rattle.hull_laws.proofs.OneLaws as oneLaws
+use Rattle.grid.proofs.ColourLaws as colourLaws
 use Rattle.room_laws.proofs.RoomLaws as roomLaws
 use Rattle.trace.proofs.MeetingLaws as meetingLaws
 use Rattle.trace.proofs.VerdictLaws as verdictLaws
@@ -144,8 +145,8 @@ module _ {c : Corner} {os t ms ch t′ ms′ ch′ : List ℕ} {f : Facts} (w : 
   pub area : (IsRoom c (survivors os) → f .area ≡ sweepFrom c (survivors os)) × ((IsRoom c (survivors os) → ⊥) → f .area ≡ pos 0)
   area = acceptedLaws.its-area w
 
-  -- for a room of four steps or more its magnitude is how many panels are inside
-  pub panel-count : IsRoom c (survivors os) → 4 ≤ length (survivors os) → natAbs (f .area) ≡ panelsInside c (survivors os)
+  -- for a room its magnitude is how many panels are inside
+  pub panel-count : IsRoom c (survivors os) → natAbs (f .area) ≡ panelsInside c (survivors os)
   panel-count = acceptedLaws.its-panels w
 
   -- "every word of the table": the record of each node in use says what the table of words says, the visit count among it
@@ -173,6 +174,17 @@ same-lengths = acceptedLaws.its-lengths
 pub firstMeets-one : {c : Corner} {ds : List ℕ} {j k j′ k′ : ℕ} → FirstMeets c ds j k → FirstMeets c ds j′ k′ → (j ≡ j′) × (k ≡ k′)
 firstMeets-one = meetingLaws.firstMeets-one
 
+-- a room has at least four steps, and a closed walk has an even number of them
+pub room-four : (c : Corner) (ds : List ℕ) → IsRoom c ds → 4 ≤ length ds
+room-four c ds r = r .four
+
+pub closed-even : (c : Corner) (ds : List ℕ) → endFrom c ds ≡ c → length ds % 2 ≡ 0
+closed-even = colourLaws.closed-even
+
+-- so every closed walk of some steps with no meeting but (0,n) is a room, or goes there and back in two
+pub room-or-back : (c : Corner) (ds : List ℕ) → 0 < length ds → endFrom c ds ≡ c → ((j k : ℕ) → Meets c ds j k → (j ≡ 0) × (k ≡ length ds)) → IsRoom c ds ⊎ VerdictSays c ds ThereAndBack
+room-or-back = verdictLaws.round-one
+
 pub verdict-one : (c : Corner) (ds : List ℕ) (u v : Verdict) → VerdictSays c ds u → VerdictSays c ds v → u ≡ v
 verdict-one = verdictLaws.verdictSays-one
 
@@ -181,31 +193,31 @@ verdict-one = verdictLaws.verdictSays-one
 pub sweep-panels : (c : Corner) (ds : List ℕ) → endFrom c ds ≡ c → sweepFrom c ds ≡ panelSum c ds
 sweep-panels = areaPage.sweep-panels
 
--- "the panel count" of a room of four steps or more, from any start
-module _ (c : Corner) (ds : List ℕ) (r : IsRoom c ds) (long : 4 ≤ length ds) where
+-- "the panel count" of a room, from any start
+module _ (c : Corner) (ds : List ℕ) (r : IsRoom c ds) where
   -- each panel counts once or not at all, and none takes away what another adds: every surplus is 0 or 1, or every surplus is 0 or -1
   pub room-surplus : ((p : Panel) → (surplusOf c ds p ≡ pos 0) ⊎ (surplusOf c ds p ≡ pos 1)) ⊎ ((p : Panel) → (surplusOf c ds p ≡ pos 0) ⊎ (surplusOf c ds p ≡ negsuc 0))
-  room-surplus = roomLaws.room-surplus c ds r long
+  room-surplus = roomLaws.room-surplus c ds r
 
   -- walked with the room on the left hand the area is the number of panels inside, and with the room on the right hand that number's negative
   pub room-counts : (InsideLeft c ds × (areaOf c ds ≡ pos (panelsInside c ds))) ⊎ (InsideRight c ds × (areaOf c ds ≡ negℤ (pos (panelsInside c ds))))
-  room-counts = roomLaws.room-counts c ds r long
+  room-counts = roomLaws.room-counts c ds r
 
   -- so the area without its sign is the number of panels to order
   pub room-magnitude : natAbs (areaOf c ds) ≡ panelsInside c ds
-  room-magnitude = roomLaws.room-magnitude c ds r long
+  room-magnitude = roomLaws.room-magnitude c ds r
 
   -- there is one at least
   pub room-some : 0 < panelsInside c ds
-  room-some = roomLaws.room-some c ds r long
+  room-some = roomLaws.room-some c ds r
 
   -- and the sign of the area says which way round the room was walked
   pub room-sign : (pos 0 <ℤ areaOf c ds ↔ InsideLeft c ds) × (areaOf c ds <ℤ pos 0 ↔ InsideRight c ds)
-  room-sign = roomLaws.room-sign c ds r long
+  room-sign = roomLaws.room-sign c ds r
 
   -- whoever lists the panels inside, each once, lists that many
   pub room-panels : (ps : List Panel) → ListsInside c ds ps → natAbs (areaOf c ds) ≡ length ps
-  room-panels = roomLaws.room-panels c ds r long
+  room-panels = roomLaws.room-panels c ds r
 
 -- "the radix quadtree": the nodes in use are the visited corners and their ancestors, each once, the root first
 pub nodes-in-use : (ps : List Corner) (a : Corner) → List·Memᴰ a (nodesOf ps) ↔ InUse ps a

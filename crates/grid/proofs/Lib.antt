@@ -3,6 +3,7 @@ pub mod CornerLaws
 pub mod ParentLaws
 pub mod PathLaws
 pub mod StepLaws
+pub mod ColourLaws
 pub mod ChildLaws
 pub mod BoundLaws
 pub mod AncestorLaws

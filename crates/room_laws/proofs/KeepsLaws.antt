@@ -108,15 +108,15 @@ module _ (c : Corner) (ds : List ℕ) (z : ℤ) (sided : Sided (surplusOf c ds) 
   all-near o p = ⊎-elim (λ h. near h o) (λ h. h .0) (settled p)
 
 -- a room keeps its inside on the left, with surplus 1, or on the right, with surplus -1
-pub room-keeps : (c : Corner) (ds : List ℕ) → IsRoom c ds → 4 ≤ length ds → Keeps (pos 0) c ds ⊎ Keeps (negsuc 0) c ds
-room-keeps c [] r h = absurd (omega arith)
-room-keeps c (d ∷ ds) r h = ⊎-map (λ e. keeps (pos 0) (sym e)) (λ e. keeps (negsuc 0) (sucℤ-one z (negsuc 0) (sym e))) zero-near
+pub room-keeps : (c : Corner) (ds : List ℕ) → IsRoom c ds → Keeps (pos 0) c ds ⊎ Keeps (negsuc 0) c ds
+room-keeps c [] r = absurd (omega (arith, r .four))
+room-keeps c (d ∷ ds) r = ⊎-map (λ e. keeps (pos 0) (sym e)) (λ e. keeps (negsuc 0) (sucℤ-one z (negsuc 0) (sym e))) zero-near
   where
     z : ℤ
     z = surplusOf c (d ∷ ds) (rightOf d c)
 
     sided : Sided (surplusOf c (d ∷ ds)) z c (d ∷ ds)
-    sided = round-sided c d ds (record { closed = r .closed; once = room-distinct c d ds r }) (omega (arith, h))
+    sided = round-sided c d ds (record { closed = r .closed; once = room-distinct c d ds r }) (omega (arith, r .four))
 
     zero-near : Near z (pos 0)
     zero-near = near-zero c (d ∷ ds) z sided (rightOf d c) refl

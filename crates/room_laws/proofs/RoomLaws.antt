@@ -1,4 +1,4 @@
--- What the area of a room counts. A room of four steps or more has its inside on the left of every step, and its area is the number of panels
+-- What the area of a room counts. A room has its inside on the left of every step, and its area is the number of panels
 -- inside it; or on the right, and its area is that number's negative.
 -- Assumes nothing.
 use mathlib.Core.List.{List, [], _∷_}
@@ -41,9 +41,12 @@ some-inside : (c : Corner) (ds : List ℕ) → 0 < length ds → endFrom c ds �
 some-inside c [] h e s = absurd (omega arith)
 some-inside c (d ∷ ds) h e s = ⊎-elim (λ l. inside-some c (d ∷ ds) e (leftOf d c) (l .0 .0)) (λ r. inside-some c (d ∷ ds) e (rightOf d c) (r .0 .0)) s
 
-module _ (c : Corner) (ds : List ℕ) (r : IsRoom c ds) (long : 4 ≤ length ds) where
+module _ (c : Corner) (ds : List ℕ) (r : IsRoom c ds) where
+  some : 0 < length ds
+  some = omega (arith, r .four)
+
   keeps : Keeps (pos 0) c ds ⊎ Keeps (negsuc 0) c ds
-  keeps = room-keeps c ds r long
+  keeps = room-keeps c ds r
 
   pub room-surplus : ((p : Panel) → (surplusOf c ds p ≡ pos 0) ⊎ (surplusOf c ds p ≡ pos 1)) ⊎ ((p : Panel) → (surplusOf c ds p ≡ pos 0) ⊎ (surplusOf c ds p ≡ negsuc 0))
   room-surplus = ⊎-map (λ g. g .panels) (λ g p. ⊎-elim inr inl (g .panels p)) keeps
@@ -60,14 +63,14 @@ module _ (c : Corner) (ds : List ℕ) (r : IsRoom c ds) (long : 4 ≤ length ds)
   room-magnitude = ⊎-elim (λ g. ap natAbs (g .1)) (λ g. ap natAbs (g .1) ∙ abs-neg (pos (panelsInside c ds))) room-counts
 
   pub room-some : 0 < panelsInside c ds
-  room-some = some-inside c ds (r .some) (r .closed) (⊎-map (λ g. g .0) (λ g. g .0) room-counts)
+  room-some = some-inside c ds some (r .closed) (⊎-map (λ g. g .0) (λ g. g .0) room-counts)
 
   pub room-sign : (pos 0 <ℤ areaOf c ds ↔ InsideLeft c ds) × (areaOf c ds <ℤ pos 0 ↔ InsideRight c ds)
   room-sign =
       let n = neg-nat (pos (panelsInside c ds)) in
       ⊎-elim
-      (λ g. ((λ h. g .0, λ l. omega (zarith, g .1, room-some)), (λ h. absurd (omega (zarith, g .1)), λ l. absurd (not-both c ds (r .some) (g .0) l))))
-      (λ g. ((λ h. absurd (omega (zarith, g .1, n)), λ l. absurd (not-both c ds (r .some) l (g .0))), (λ h. g .0, λ l. omega (zarith, g .1, n, room-some))))
+      (λ g. ((λ h. g .0, λ l. omega (zarith, g .1, room-some)), (λ h. absurd (omega (zarith, g .1)), λ l. absurd (not-both c ds some (g .0) l))))
+      (λ g. ((λ h. absurd (omega (zarith, g .1, n)), λ l. absurd (not-both c ds some l (g .0))), (λ h. g .0, λ l. omega (zarith, g .1, n, room-some))))
       room-counts
 
   pub room-panels : (ps : List Panel) → ListsInside c ds ps → natAbs (areaOf c ds) ≡ length ps

@@ -4,7 +4,7 @@ use mathlib.Core.List.{[], _∷_}
 use mathlib.Core.Path.{_≡_, refl}
 use lib.IntN.{pos, negsuc}
 use lib.ListN.{length}
-use Rattle.answer.specs.declared.Verdict.the-variants.{Nowhere, Open, Room, OpenMeeting, ClosedMeeting}
+use Rattle.answer.specs.declared.Verdict.the-variants.{Nowhere, Open, Room, OpenMeeting, ClosedMeeting, ThereAndBack}
 use Rattle.grid.specs.Grid.{origin, cornersFrom}
 use Rattle.trace.specs.Meeting.{none, meet, meetingOf, visitedOf}
 use Rattle.trace.specs.Verdict.{verdictOf, areaOf}
@@ -30,14 +30,21 @@ one-step = refl
 round-one-panel : verdictOf origin (0 ∷ 1 ∷ 2 ∷ 3 ∷ []) ≡ Room
 round-one-panel = refl
 
-there-and-back : verdictOf origin (0 ∷ 2 ∷ []) ≡ Room
+there-and-back : verdictOf origin (0 ∷ 2 ∷ []) ≡ ThereAndBack
 there-and-back = refl
 
 past-the-start : verdictOf origin (0 ∷ 2 ∷ 2 ∷ []) ≡ OpenMeeting
 past-the-start = refl
 
+two-there-and-back : verdictOf origin (0 ∷ 0 ∷ 2 ∷ 2 ∷ []) ≡ ClosedMeeting
+two-there-and-back = refl
+
 there-and-back-twice : verdictOf origin (0 ∷ 2 ∷ 0 ∷ 2 ∷ []) ≡ ClosedMeeting
 there-and-back-twice = refl
+
+-- a there-and-back is no room
+no-area-there-and-back : areaOf origin (1 ∷ 3 ∷ []) ≡ pos 0
+no-area-there-and-back = refl
 
 left-round : areaOf origin (0 ∷ 1 ∷ 2 ∷ 3 ∷ []) ≡ pos 1
 left-round = refl

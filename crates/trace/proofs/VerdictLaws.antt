@@ -1,26 +1,29 @@
 -- The verdicts: the one given says what holds of the walk, and no other does.
 -- Assumes nothing.
 use mathlib.Core.Bool.{Bool, true, false, cond, true≢false}
-use mathlib.Core.List.{List}
+use mathlib.Core.List.{List, [], _∷_}
+use mathlib.Core.Logic.{_⊎_, inl, inr}
 use mathlib.Core.Path.{_≡_, refl, ap, sym, _∙_, subst}
-use Prim.Native.Nat.{ℕ, zero, suc, _<_}
+use Prim.Native.Nat.{ℕ, zero, suc, _<_, _≤_}
 use native.Mathlib.Omega.{arith}
-use borrow.Author.Tests.{eqb-true, eq-eqb}
+use native.Mathlib.Decide.{ℕ-discrete}
+use borrow.Author.Tests.{eqb-true, eqb-false, eq-eqb, ne-eqb}
 use lib.Dec.{eqb}
 use lib.IntN.{pos}
 use lib.ListN.{length}
 use Rattle.answer.specs.declared.Verdict.{Verdict}
-use Rattle.answer.specs.declared.Verdict.the-variants.{Nowhere, Open, Room, OpenMeeting, ClosedMeeting}
+use Rattle.answer.specs.declared.Verdict.the-variants.{Nowhere, Open, Room, OpenMeeting, ClosedMeeting, ThereAndBack}
 use Rattle.lists.specs.Lists.{Below}
 use Rattle.lists.proofs.GatherLaws.{and-left, and-right}
 use Rattle.grid.specs.declared.Corner.{Corner}
 use Rattle.grid.specs.Grid.{same, endFrom}
 use Rattle.grid.proofs.CornerLaws.{same-refl, same-sound}
-use Rattle.grid.proofs.StepLaws.{cornerAt-end}
+use Rattle.grid.proofs.ColourLaws.{closed-even}
+use Rattle.grid.proofs.StepLaws.{cornerAt-end, stepped-ne}
 use Rattle.steps.specs.Turns.{turnsOf, stepsOf}
 use Rattle.steps.proofs.TurnLaws.{stepsOf-turnsOf}
 use Rattle.trace.specs.Meeting.{Meets, FirstMeets, Meeting, none, meet, meetingOf}
-use Rattle.trace.specs.Verdict.{onlyEnds, verdictBy, verdictOf, sweepFrom, areaBy, areaOf, IsRoom, VerdictSays}
+use Rattle.trace.specs.Verdict.{onlyEnds, roundBy, verdictBy, verdictOf, sweepFrom, areaBy, areaOf, IsRoom, VerdictSays}
 use Rattle.trace.proofs.MeetingLaws.{firstMeets-only, meetingOf-meets, meetingOf-none, meets-meetingOf, none-meetingOf}
 
 -- whether the first meeting is (0,n)
@@ -44,14 +47,22 @@ module _ (c : Corner) (ds : List ℕ) where
   first-ends : (j k : ℕ) → j ≡ 0 → k ≡ length ds → FirstMeets c ds j k → FirstMeets c ds 0 (length ds)
   first-ends j k p q f = subst (λ (i : ℕ). FirstMeets c ds i (length ds)) p (subst (λ (m : ℕ). FirstMeets c ds j m) q f)
 
-  closed-says : (n : ℕ) → length ds ≡ suc n → endFrom c ds ≡ c → (m : Meeting) → meetingOf c ds ≡ m → VerdictSays c ds (cond (onlyEnds (suc n) m) Room ClosedMeeting)
+  -- a closed walk with no meeting but (0,n) goes there and back or is a room: the number of its steps is even
+  round-says : 0 < length ds → endFrom c ds ≡ c → FirstMeets c ds 0 (length ds) → VerdictSays c ds (roundBy (length ds))
+  round-says h e f = by (eqb (length ds) 2) refl
+    where
+      by : (b : Bool) → eqb (length ds) 2 ≡ b → VerdictSays c ds (cond b ThereAndBack Room)
+      by true q = (eqb-true (length ds) 2 q, e)
+      by false q = record { four = omega (arith, eqb-false (length ds) 2 q, closed-even c ds e); closed = e; only = ends-only f }
+
+  closed-says : (n : ℕ) → length ds ≡ suc n → endFrom c ds ≡ c → (m : Meeting) → meetingOf c ds ≡ m → VerdictSays c ds (cond (onlyEnds (suc n) m) (roundBy (suc n)) ClosedMeeting)
   closed-says n l e none p = absurd (meetingOf-none c ds p 0 (length ds) (ends-meet (omega arith) e))
   closed-says n l e (meet j k) p = by (onlyEnds (suc n) (meet j k)) refl
     where
-      by : (b : Bool) → onlyEnds (suc n) (meet j k) ≡ b → VerdictSays c ds (cond b Room ClosedMeeting)
+      by : (b : Bool) → onlyEnds (suc n) (meet j k) ≡ b → VerdictSays c ds (cond b (roundBy (suc n)) ClosedMeeting)
       by true q =
           let h = onlyEnds-true (suc n) j k q in
-          record { some = omega arith; closed = e; only = ends-only (first-ends j k (h .0) (h .1 ∙ sym l) (meetingOf-meets c ds j k p)) }
+          subst (λ (k : ℕ). VerdictSays c ds (roundBy k)) l (round-says (omega arith) e (first-ends j k (h .0) (h .1 ∙ sym l) (meetingOf-meets c ds j k p)))
       by false q = (omega arith, e, (j, k, meetingOf-meets c ds j k p .meets, λ h. onlyEnds-false (suc n) j k q (h .0, h .1 ∙ l)))
 
   -- the verdict says what holds
@@ -83,12 +94,13 @@ module _ (c : Corner) (ds : List ℕ) where
 
   -- the first meeting of a room is (0,n)
   pub room-first : IsRoom c ds → FirstMeets c ds 0 (length ds)
-  room-first r = record { meets = ends-meet (r .some) (r .closed); least = λ i m x. omega (arith, r .only i m x .1) }
+  room-first r = record { meets = ends-meet (omega (arith, r .four)) (r .closed); least = λ i m x. omega (arith, r .only i m x .1) }
 
   room-verdict : (n : ℕ) → length ds ≡ suc n → IsRoom c ds → verdictOf c ds ≡ Room
   room-verdict n l r =
       by-parts n true (meet 0 (length ds)) l (closed-walk (r .closed)) (meets-meetingOf c ds 0 (length ds) (room-first r))
-      ∙ ap (λ (b : Bool). cond b Room ClosedMeeting) (eq-eqb (length ds) (suc n) l)
+      ∙ ap (λ (b : Bool). cond b (roundBy (suc n)) ClosedMeeting) (eq-eqb (length ds) (suc n) l)
+      ∙ ap (λ (b : Bool). cond b ThereAndBack Room) (ne-eqb (suc n) 2 (omega (arith, r .four)))
 
   open-verdict : (n : ℕ) → length ds ≡ suc n → VerdictSays c ds OpenMeeting → verdictOf c ds ≡ OpenMeeting
   open-verdict n l x = by (meetingOf c ds) refl
@@ -108,7 +120,24 @@ module _ (c : Corner) (ds : List ℕ) where
           ends true q =
               let h = onlyEnds-true (suc n) j k q in
               absurd (x .2 .3 (ends-only (first-ends j k (h .0) (h .1 ∙ sym l) (meetingOf-meets c ds j k p)) (x .2 .0) (x .2 .1) (x .2 .2)))
-          ends false q = by-parts n true (meet j k) l (closed-walk (x .1)) p ∙ ap (λ (b : Bool). cond b Room ClosedMeeting) q
+          ends false q = by-parts n true (meet j k) l (closed-walk (x .1)) p ∙ ap (λ (b : Bool). cond b (roundBy (suc n)) ClosedMeeting) q
+
+  -- of a closed walk of two steps the first meeting is (0,2), since no step leads back to its corner
+  back-first : length ds ≡ 2 → endFrom c ds ≡ c → FirstMeets c ds 0 (length ds)
+  back-first l e = record { meets = ends-meet (omega arith) e; least = λ i m x. later ds i m l x }
+    where
+      later : (ds : List ℕ) (i m : ℕ) → length ds ≡ 2 → Meets c ds i m → length ds ≤ m
+      later ds i zero l x = absurd (omega (arith, x .earlier))
+      later (d ∷ ds) zero (suc zero) l x = absurd (stepped-ne d c (sym (x .equal)))
+      later [] zero (suc zero) l x = absurd (omega (arith, x .within))
+      later ds (suc i) (suc zero) l x = absurd (omega (arith, x .earlier))
+      later ds i (suc (suc m)) l x = omega arith
+
+  back-verdict : (n : ℕ) → length ds ≡ suc n → VerdictSays c ds ThereAndBack → verdictOf c ds ≡ ThereAndBack
+  back-verdict n l x =
+      by-parts n true (meet 0 (length ds)) l (closed-walk (x .1)) (meets-meetingOf c ds 0 (length ds) (back-first (x .0) (x .1)))
+      ∙ ap (λ (b : Bool). cond b (roundBy (suc n)) ClosedMeeting) (eq-eqb (length ds) (suc n) l)
+      ∙ ap (λ (b : Bool). cond b ThereAndBack Room) (eq-eqb (suc n) 2 (omega (arith, x .0)))
 
   -- a verdict that says what holds is the one
   pub says-verdict : (v : Verdict) → VerdictSays c ds v → verdictOf c ds ≡ v
@@ -119,12 +148,21 @@ module _ (c : Corner) (ds : List ℕ) where
       by (suc n) l Nowhere x = absurd (omega arith)
       by zero l Open x = absurd (omega (arith, x .0))
       by (suc n) l Open x = by-parts n false none l (open-walk (x .1)) (none-meetingOf c ds (x .2))
-      by zero l Room x = absurd (omega (arith, x .some))
+      by zero l Room x = absurd (omega (arith, x .four))
       by (suc n) l Room x = room-verdict n l x
       by zero l OpenMeeting x = absurd (omega (arith, x .0))
       by (suc n) l OpenMeeting x = open-verdict n l x
       by zero l ClosedMeeting x = absurd (omega (arith, x .0))
       by (suc n) l ClosedMeeting x = closed-verdict n l x
+      by zero l ThereAndBack x = absurd (omega (arith, x .0))
+      by (suc n) l ThereAndBack x = back-verdict n l x
+
+  -- a closed walk with a step and no meeting but (0,n) is a room or goes there and back
+  pub round-one : 0 < length ds → endFrom c ds ≡ c → ((j k : ℕ) → Meets c ds j k → (j ≡ 0) × (k ≡ length ds)) → IsRoom c ds ⊎ VerdictSays c ds ThereAndBack
+  round-one h e f = elim (ℕ-discrete (length ds) 2) [
+    | yes l ↦ inr (l, e)
+    | no l ↦ inl (record { four = omega (arith, l, closed-even c ds e); closed = e; only = f })
+  ]
 
   -- verdict 2 is given to rooms alone
   pub verdict-room : verdictOf c ds ≡ Room → IsRoom c ds
@@ -147,6 +185,7 @@ module _ (c : Corner) (ds : List ℕ) where
       by Room x = absurd (f x)
       by OpenMeeting x = refl
       by ClosedMeeting x = refl
+      by ThereAndBack x = refl
 
 -- a walk turned into turns and back has the same area
 pub area-turns : (c : Corner) (ds : List ℕ) → Below 4 ds → areaOf c (stepsOf (turnsOf ds)) ≡ areaOf c ds

@@ -65,7 +65,7 @@ module _ (c : Corner) (ds : List ℕ) (r : IsRoom c ds) where
       let k = getD-mem ps origin m in
       elim (decLt (k .0) (length ds)) [
         | yes h ↦ at (k .0) h (k .2)
-        | no h ↦ at 0 (r .some) (cornersFrom-at c ds 0 origin (omega arith) ∙ sym (r .closed) ∙ sym (cornerAt-end c ds) ∙ sym (cornersFrom-at c ds (length ds) origin (omega arith)) ∙ ap (λ (n : ℕ). getD ps n origin) (last (k .0) (k .1) h) ∙ k .2)
+        | no h ↦ at 0 (omega (arith, r .four)) (cornersFrom-at c ds 0 origin (omega arith) ∙ sym (r .closed) ∙ sym (cornerAt-end c ds) ∙ sym (cornersFrom-at c ds (length ds) origin (omega arith)) ∙ ap (λ (n : ℕ). getD ps n origin) (last (k .0) (k .1) h) ∙ k .2)
       ]
     where
       at : (i : ℕ) → i < length ds → getD ps i origin ≡ a → List·Memᴰ a (take (length ds) ps)

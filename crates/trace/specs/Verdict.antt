@@ -1,6 +1,6 @@
 -- The verdict on a walk, and the signed area of a room (01, "Corners, panels and words"). Assumes nothing.
-use Rattle.lists.specs.Lists.{_≡_, Bool, true, false, cond, _&&_, List, [], _∷_, length, ℕ, zero, suc, _<_, eqb, ℤ, pos, _+ℤ_, _-ℤ_, _*ℤ_}
-use Rattle.answer.specs.declared.Verdict.{Verdict, the-variants.Nowhere, the-variants.Open, the-variants.Room, the-variants.OpenMeeting, the-variants.ClosedMeeting}
+use Rattle.lists.specs.Lists.{_≡_, Bool, true, false, cond, _&&_, List, [], _∷_, length, ℕ, zero, suc, _<_, _≤_, eqb, ℤ, pos, _+ℤ_, _-ℤ_, _*ℤ_}
+use Rattle.answer.specs.declared.Verdict.{Verdict, the-variants.Nowhere, the-variants.Open, the-variants.Room, the-variants.OpenMeeting, the-variants.ClosedMeeting, the-variants.ThereAndBack}
 use Rattle.answer.specs.Refusal.{verdictNumber}
 use Rattle.grid.specs.{declared.Corner.Corner, Grid.same, Grid.stepped, Grid.endFrom}
 use Rattle.trace.specs.Meeting.{Meets, Meeting, none, meet, meetingOf}
@@ -10,29 +10,35 @@ abbrev pub onlyEnds : ℕ → Meeting → Bool
 onlyEnds n none = false
 onlyEnds n (meet j k) = eqb j 0 && eqb k n
 
--- by the number of steps, whether the walk is closed, and its first meeting: a closed one with no meeting but (0,n) is a room
+-- a closed walk with no meeting but (0,n): with two steps it goes there and back, with more it is a room
+abbrev pub roundBy : ℕ → Verdict
+roundBy n = cond (eqb n 2) ThereAndBack Room
+
+-- by the number of steps, whether the walk is closed, and its first meeting
 abbrev pub verdictBy : ℕ → Bool → Meeting → Verdict
 verdictBy zero closed m = Nowhere
 verdictBy (suc n) false none = Open
 verdictBy (suc n) false (meet j k) = OpenMeeting
-verdictBy (suc n) true m = cond (onlyEnds (suc n) m) Room ClosedMeeting
+verdictBy (suc n) true m = cond (onlyEnds (suc n) m) (roundBy (suc n)) ClosedMeeting
 
 abbrev pub verdictOf : Corner → List ℕ → Verdict
 verdictOf c ds = verdictBy (length ds) (same (endFrom c ds) c) (meetingOf c ds)
 
--- a room: closed, with no meeting but (0,n)
+-- a room: at least four steps, closed, with no meeting but (0,n)
 pub record IsRoom (c : Corner) (ds : List ℕ) : Type 0 where
-  pub some : 0 < length ds
+  pub four : 4 ≤ length ds
   pub closed : endFrom c ds ≡ c
   pub only : (j k : ℕ) → Meets c ds j k → (j ≡ 0) × (k ≡ length ds)
 
--- what each verdict says: 0, no step; 1, open, no meeting; 2, a room; 3, open, some meeting; 4, closed, a meeting other than (0,n)
+-- what each verdict says: 0, no step; 1, open, no meeting; 2, a room; 3, open, some meeting; 4, closed, a meeting other than (0,n);
+-- 5, there and back
 abbrev pub VerdictSays : Corner → List ℕ → Verdict → Type 0
 VerdictSays c ds Nowhere = length ds ≡ 0
 VerdictSays c ds Open = (0 < length ds) × (endFrom c ds ≡ c → ⊥) × ((j k : ℕ) → Meets c ds j k → ⊥)
 VerdictSays c ds Room = IsRoom c ds
 VerdictSays c ds OpenMeeting = (0 < length ds) × (endFrom c ds ≡ c → ⊥) × ((j : ℕ) × (k : ℕ) × Meets c ds j k)
 VerdictSays c ds ClosedMeeting = (0 < length ds) × (endFrom c ds ≡ c) × ((j : ℕ) × (k : ℕ) × Meets c ds j k × ((j ≡ 0) × (k ≡ length ds) → ⊥))
+VerdictSays c ds ThereAndBack = (length ds ≡ 2) × (endFrom c ds ≡ c)
 
 -- the sum over the steps of x times the change of y
 abbrev pub sweepFrom : Corner → List ℕ → ℤ

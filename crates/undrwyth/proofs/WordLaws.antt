@@ -12,7 +12,7 @@ use Rattle.answer.specs.declared.Judged.{Judged}
 use Rattle.answer.specs.declared.Judged.the-variants.{Refused}
 use Rattle.answer.specs.declared.Refusal.{Refusal}
 use Rattle.answer.specs.declared.Verdict.{Verdict}
-use Rattle.answer.specs.declared.Verdict.the-variants.{Nowhere, Open, Room, OpenMeeting, ClosedMeeting}
+use Rattle.answer.specs.declared.Verdict.the-variants.{Nowhere, Open, Room, OpenMeeting, ClosedMeeting, ThereAndBack}
 use Rattle.answer.specs.Refusal.{refusalNumber, refusalPlace, verdictNumber}
 use Rattle.line_frame.specs.Hex.{bitsOf}
 use Rattle.undrwyth.specs.Words.{factsWords, answerWords, countedWords, judgedWords, answerNumber, countedNumber}
@@ -43,6 +43,7 @@ verdict-small Open n e = omega arith
 verdict-small Room n e = omega arith
 verdict-small OpenMeeting n e = omega arith
 verdict-small ClosedMeeting n e = omega arith
+verdict-small ThereAndBack n e = omega arith
 
 pub accepted-words : (f : Facts) (v a x y : ℕ) → v ≡ verdictNumber (f .verdict) → a ≡ bitsOf (f .area) → x ≡ bitsOf (f .last .0) → y ≡ bitsOf (f .last .1)
     → 0 ∷ 0 ∷ v ∷ f .steps ∷ f .nodes ∷ f .corners ∷ f .j ∷ f .k ∷ a ∷ x ∷ y ∷ [] ≡ factsWords f

@@ -1,6 +1,6 @@
 -- The area, the verdict and the facts, as the proofs of the code cite them.
 -- Assumes nothing.
-use mathlib.Core.Bool.{Bool, true, false, _&&_}
+use mathlib.Core.Bool.{Bool, true, false, cond, _&&_}
 use mathlib.Core.List.{List}
 use mathlib.Core.Path.{_≡_, refl, ap, ap₂, sym, subst, _∙_}
 use Prim.Native.Nat.{ℕ, zero, suc, _+_, _*_, _<_, _≤_}
@@ -11,12 +11,12 @@ use lib.IntN.{ℤ, pos, negsuc, negℤ, natAbs, _+ℤ_, _-ℤ_, _*ℤ_, +ℤ-idr
 use lib.ListN.{length, take, drop, getD, drop-of-length-le}
 use lib.Seq.{drop-cons, getD-take, length-take-le}
 use Rattle.answer.specs.declared.Verdict.{Verdict}
-use Rattle.answer.specs.declared.Verdict.the-variants.{Nowhere, Open, Room, OpenMeeting, ClosedMeeting}
+use Rattle.answer.specs.declared.Verdict.the-variants.{Nowhere, Open, Room, OpenMeeting, ClosedMeeting, ThereAndBack}
 use Rattle.grid.specs.declared.Corner.{Corner}
 use Rattle.grid.specs.Grid.{stepped, origin, same, endFrom}
 use Rattle.walk_step.specs.Tallies.{Says}
 use Rattle.trace.specs.Meeting.{Meeting, none, meet, meetingOf, meetingJ, meetingK}
-use Rattle.trace.specs.Verdict.{onlyEnds, verdictBy, sweepFrom, areaBy}
+use Rattle.trace.specs.Verdict.{onlyEnds, roundBy, verdictBy, sweepFrom, areaBy}
 use Rattle.walk_corner.specs.Moves.{northOf}
 use Rattle.grid.proofs.BoundLaws.{stepped-bound}
 use Rattle.int_laws.proofs.NextLaws.{suc-sub, pred-sub}
@@ -114,13 +114,19 @@ module _ (m : Meeting) (j k n : ℕ) (s : Says m j k) where
         go (suc n) f none s = absurd (q (s .1))
         go (suc n) f (meet a c) s = rw (e, verdictBy)
 
-    pub verdict-room : (b : Bool) → b ≡ true → j ≡ 0 → k ≡ n → Room ≡ verdictBy n b m
-    verdict-room b e p q = go n some q m s
+    verdict-round : (b : Bool) → b ≡ true → j ≡ 0 → k ≡ n → roundBy n ≡ verdictBy n b m
+    verdict-round b e p q = go n some q m s
       where
-        go : (n : ℕ) → (n ≡ 0 → ⊥) → k ≡ n → (m : Meeting) → Says m j k → Room ≡ verdictBy n b m
+        go : (n : ℕ) → (n ≡ 0 → ⊥) → k ≡ n → (m : Meeting) → Says m j k → roundBy n ≡ verdictBy n b m
         go zero f q m s = absurd (f refl)
         go (suc n) f q none s = absurd (omega (arith, s .0, p))
         go (suc n) f q (meet a c) s = rw (e, verdictBy) (rw (eq-eqb a 0 (sym (s .0) ∙ p), eq-eqb c (suc n) (sym (s .1) ∙ q)))
+
+    pub verdict-back : (b : Bool) → b ≡ true → j ≡ 0 → k ≡ n → n ≡ 2 → ThereAndBack ≡ verdictBy n b m
+    verdict-back b e p q l = sym (ap (λ (b : Bool). cond b ThereAndBack Room) (eq-eqb n 2 l)) ∙ verdict-round b e p q
+
+    pub verdict-room : (b : Bool) → b ≡ true → j ≡ 0 → k ≡ n → (n ≡ 2 → ⊥) → Room ≡ verdictBy n b m
+    verdict-room b e p q f = sym (ap (λ (b : Bool). cond b ThereAndBack Room) (ne-eqb n 2 f)) ∙ verdict-round b e p q
 
     pub verdict-crossed : (b : Bool) → b ≡ true → onlyEnds n m ≡ false → ClosedMeeting ≡ verdictBy n b m
     verdict-crossed b e g = go n some g
@@ -147,6 +153,7 @@ area-none Open z f = refl
 area-none Room z f = absurd (f refl)
 area-none OpenMeeting z f = refl
 area-none ClosedMeeting z f = refl
+area-none ThereAndBack z f = refl
 
 -- ---- its facts
 abbrev pub factsWith : Verdict → ℕ → ℕ → ℕ → ℕ → ℕ → ℤ → Corner → Facts

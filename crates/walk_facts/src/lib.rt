@@ -69,10 +69,13 @@ fn verdict(n: usize, closed: bool, j: usize, k: usize) -> Verdict
     if j != 0 {
         return Verdict::ClosedMeeting;
     }
-    if k == n {
-        return Verdict::Room;
+    if k != n {
+        return Verdict::ClosedMeeting;
     }
-    Verdict::ClosedMeeting
+    if n == 2 {
+        return Verdict::ThereAndBack;
+    }
+    Verdict::Room
 }
 
 // The facts of the walk w, whose steps stand in the chain.

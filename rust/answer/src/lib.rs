@@ -118,21 +118,30 @@ pub enum Verdict {
     Nowhere = 0,
     /// Open, not crossed.
     Open = 1,
-    /// Closed, not crossed.
+    /// Closed, not crossed, four steps or more.
     Room = 2,
     /// Open, crossed.
     OpenMeeting = 3,
     /// Closed, crossed.
     ClosedMeeting = 4,
+    /// Closed after two steps.
+    ThereAndBack = 5,
 }
 
 impl Verdict {
     /// The verdict with this number.
     pub fn of(number: u32) -> Option<Verdict> {
         use Verdict::*;
-        [Nowhere, Open, Room, OpenMeeting, ClosedMeeting]
-            .into_iter()
-            .find(|&verdict| verdict as u32 == number)
+        [
+            Nowhere,
+            Open,
+            Room,
+            OpenMeeting,
+            ClosedMeeting,
+            ThereAndBack,
+        ]
+        .into_iter()
+        .find(|&verdict| verdict as u32 == number)
     }
 }
 

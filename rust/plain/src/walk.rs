@@ -140,7 +140,9 @@ fn facts(steps: &[u8], nodes: usize) -> Facts {
         Verdict::Nowhere
     } else if last == ROOT {
         // Start and end meet; no others do where the corners before the end all differ.
-        if different.len() == steps.len() {
+        if steps.len() == 2 {
+            Verdict::ThereAndBack
+        } else if different.len() == steps.len() {
             Verdict::Room
         } else {
             Verdict::ClosedMeeting

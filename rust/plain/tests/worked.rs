@@ -81,11 +81,23 @@ fn p1_no_operation() {
 }
 
 #[test]
-fn p2_p3_p4_rooms() {
-    for (digits, meeting, area) in [("0123", (0, 4), 1), ("3210", (0, 4), -1), ("02", (0, 2), 0)] {
+fn p2_p3_rooms() {
+    for (digits, area) in [("0123", 1), ("3210", -1)] {
         let facts = walk(digits).facts();
         assert_eq!(facts.verdict, Verdict::Room);
-        assert_eq!((facts.meeting, facts.area), (Some(meeting), area));
+        assert_eq!((facts.meeting, facts.area), (Some((0, 4)), area));
+    }
+}
+
+#[test]
+fn p4_there_and_back_is_no_room() {
+    for digits in ["02", "20", "13", "31", "0204"] {
+        let facts = walk(digits).facts();
+        assert_eq!(facts.verdict, Verdict::ThereAndBack);
+        assert_eq!((facts.meeting, facts.area), (Some((0, 2)), 0));
+    }
+    for digits in ["0022", "0202"] {
+        assert_eq!(walk(digits).facts().verdict, Verdict::ClosedMeeting);
     }
 }
 

@@ -123,6 +123,7 @@ impl<'a> Walk<'a> {
             _ if self.steps == 0 => Verdict::Nowhere,
             None => Verdict::Open,
             Some(_) if self.at != ROOT => Verdict::OpenMeeting,
+            Some(_) if self.steps == 2 => Verdict::ThereAndBack,
             Some((_, k)) if k == self.steps => Verdict::Room,
             Some(_) => Verdict::ClosedMeeting,
         };

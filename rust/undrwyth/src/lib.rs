@@ -39,7 +39,7 @@ pub fn walk(
     accepted(number, answer[1])?;
     let [_, _, verdict, steps, nodes, corners, j, k, area, x, y] = answer;
     Ok(Facts {
-        verdict: Verdict::of(verdict).expect("a verdict is 0 to 4"),
+        verdict: Verdict::of(verdict).expect("a verdict is 0 to 5"),
         steps,
         nodes,
         corners,

@@ -1,7 +1,7 @@
 -- `walk_facts::verdict` meets its contract.
 -- Assumes nothing.
 use borrow.Author.Tests.{not-true, not-false}
-use Rattle.walk_facts.proofs.FactLaws.{verdict-nowhere, verdict-open, verdict-meets, verdict-room, verdict-crossed, ends-first, ends-last}
+use Rattle.walk_facts.proofs.FactLaws.{verdict-nowhere, verdict-open, verdict-meets, verdict-back, verdict-room, verdict-crossed, ends-first, ends-last}
 use Rattle.walk_facts.proofs.verdict.Statement.{statement}
 use Rattle.walk_facts.proofs.verdict.Tie as tie
 
@@ -18,10 +18,13 @@ returns-4 : tie.Need-returns-4
 returns-4 c = let a = c .before .before .before .args in λ m s. verdict-crossed m (a .j) (a .k) (a .n) s (c .before .before .if1 .left) (a .closed) (not-false (a .closed) (c .before .if2 .left)) (ends-first m (a .j) (a .k) (a .n) s (c .if4 .taken))
 
 returns-5 : tie.Need-returns-5
-returns-5 c = let a = c .before .before .before .before .args in λ m s. verdict-room m (a .j) (a .k) (a .n) s (c .before .before .before .if1 .left) (a .closed) (not-false (a .closed) (c .before .before .if2 .left)) (c .before .if4 .left) (c .if5 .taken)
+returns-5 c = let a = c .before .before .before .before .args in λ m s. verdict-crossed m (a .j) (a .k) (a .n) s (c .before .before .before .if1 .left) (a .closed) (not-false (a .closed) (c .before .before .if2 .left)) (ends-last m (a .j) (a .k) (a .n) s (c .if5 .taken))
 
 returns-6 : tie.Need-returns-6
-returns-6 c = let a = c .before .before .before .before .args in λ m s. verdict-crossed m (a .j) (a .k) (a .n) s (c .before .before .before .if1 .left) (a .closed) (not-false (a .closed) (c .before .before .if2 .left)) (ends-last m (a .j) (a .k) (a .n) s (c .if5 .left))
+returns-6 c = let a = c .before .before .before .before .before .args in λ m s. verdict-back m (a .j) (a .k) (a .n) s (c .before .before .before .before .if1 .left) (a .closed) (not-false (a .closed) (c .before .before .before .if2 .left)) (c .before .before .if4 .left) (c .before .if5 .left) (c .if6 .taken)
+
+returns-7 : tie.Need-returns-7
+returns-7 c = let a = c .before .before .before .before .before .args in λ m s. verdict-room m (a .j) (a .k) (a .n) s (c .before .before .before .before .if1 .left) (a .closed) (not-false (a .closed) (c .before .before .before .if2 .left)) (c .before .before .if4 .left) (c .before .if5 .left) (c .if6 .left)
 
 pub verdict-spec : {M : Type 1} → statement M
-verdict-spec = tie.close (tie.spec returns returns-2 returns-3 returns-4 returns-5 returns-6)
+verdict-spec = tie.close (tie.spec returns returns-2 returns-3 returns-4 returns-5 returns-6 returns-7)
