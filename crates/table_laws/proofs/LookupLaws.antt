@@ -177,125 +177,98 @@ module _ (words : ℕ) (S : State) (sound : Sound S) (s d : ℕ) (pos : 0 < s) (
   pub root-parent : (a : Corner) → List·Memᴰ a (S .nodes) → isRoot a ≡ true → List·Memᴰ (parentOf (stepped d a)) (S .nodes)
   root-parent a m r = Memᴰ·cast (ap (λ (c : Corner). parentOf (stepped d c)) (root-is a r) ∙ root-child d ∙ sym (root-is a r)) m
 
-  -- the last store: the link, after the child
-  pub join-made : (a : Corner) (u : ℕ) → refOf (S .nodes) a ≡ suc u → isRoot (stepped d a) ≡ false → S .step a (stepped d a) ≡ 0
-      → (v : Out) → Made words (grown (raised S s a (stepped d a)) (stepped d a) s) (stepped d a) (v .table) (v .at) (v .nodes) → Looked a (joinIn v u d s)
-  join-made a u h deep z v made = fit (ltb words (width * length (G .nodes))) refl
-    where
-      e : Corner
-      e = stepped d a
+  -- the last stores, where the neighbour e of a is no root and they are not linked: the child, and then the link
+  module _ (a : Corner) (u : ℕ) (h : refOf (S .nodes) a ≡ suc u) (deep : isRoot (stepped d a) ≡ false) (z : S .step a (stepped d a) ≡ 0) where
+    abbrev e : Corner
+    e = stepped d a
 
-      T : State
-      T = raised S s a e
+    abbrev T : State
+    T = raised S s a e
 
-      G : State
-      G = grown T e s
+    abbrev G : State
+    G = grown T e s
 
-      m : List·Memᴰ a (S .nodes)
-      m = mem-of-ref (S .nodes) a u h
+    m : List·Memᴰ a (S .nodes)
+    m = mem-of-ref (S .nodes) a u h
 
-      up : Raised S T e
-      up = raised-is S sound s a e m (root-parent a m)
+    up : Raised S T e
+    up = raised-is S sound s a e m (root-parent a m)
 
-      alike : Alike (reached S s a e) (withLink G a e s)
-      alike = reach-over S sound s a e z m deep (root-parent a m)
+    alike : Alike (reached S s a e) (withLink G a e s)
+    alike = reach-over S sound s a e z m deep (root-parent a m)
 
-      same-nodes : length (gather same (S .nodes) (pathOf e)) ≡ length (G .nodes)
-      same-nodes = ap length (alike .nodes)
+    same-nodes : length (gather same (S .nodes) (pathOf e)) ≡ length (G .nodes)
+    same-nodes = ap length (alike .nodes)
 
-      all : G .nodes ≡ add same (T .nodes) e
-      all = grown-nodes T e s
+    all : G .nodes ≡ add same (T .nodes) e
+    all = grown-nodes T e s
 
-      more : length (T .nodes) ≤ length (G .nodes)
-      more = omega (arith, room-old (T .nodes) (e ∷ []), ap length all)
+    more : length (T .nodes) ≤ length (G .nodes)
+    more = omega (arith, room-old (T .nodes) (e ∷ []), ap length all)
 
-      there : List·Memᴰ e (G .nodes)
-      there = rw all (mem-add same same-sound same-refl (T .nodes) e)
+    there : List·Memᴰ e (G .nodes)
+    there = rw all (mem-add same same-sound same-refl (T .nodes) e)
 
-      ref-a : refOf (G .nodes) a ≡ suc u
-      ref-a =
-          let g = gather-more same (T .nodes) (e ∷ []) in
-          ap (λ (l : List Corner). refOf l a) (all ∙ g .1 ∙ ap (λ (l : List Corner). l ++ g .0) (up .more) ∙ append-assoc (S .nodes) (up .rest) (g .0))
-          ∙ ref-append (S .nodes) (up .rest ++ g .0) a m
-          ∙ h
+    ref-a : refOf (G .nodes) a ≡ suc u
+    ref-a =
+        let g = gather-more same (T .nodes) (e ∷ []) in
+        ap (λ (l : List Corner). refOf l a) (all ∙ g .1 ∙ ap (λ (l : List Corner). l ++ g .0) (up .more) ∙ append-assoc (S .nodes) (up .rest) (g .0))
+        ∙ ref-append (S .nodes) (up .rest ++ g .0) a m
+        ∙ h
 
-      fit : (b : Bool) → ltb words (width * length (G .nodes)) ≡ b → Looked a (joinIn v u d s)
-      fit true p =
-          let l = ltb-true words (width * length (G .nodes)) p in
-          let q : v .at ≡ 0 = made .full l in
-          let x : joinIn v u d s ≡ v = join-none v u d s q in
-          subst (λ y. Looked a y) (sym x) (record { fits = λ f. absurd (omega (arith, same-nodes)); full = λ f. q })
-      fit false p = node (refOf (G .nodes) e) refl
-        where
-          l : width * length (G .nodes) ≤ words
-          l = ltb-false words (width * length (G .nodes)) p
+    -- the link, after the child
+    pub join-made : (v : Out) → Made words (grown (raised S s a (stepped d a)) (stepped d a) s) (stepped d a) (v .table) (v .at) (v .nodes) → Looked a (joinIn v u d s)
+    join-made v made = fit (ltb words (width * length (G .nodes))) refl
+      where
+        fit : (b : Bool) → ltb words (width * length (G .nodes)) ≡ b → Looked a (joinIn v u d s)
+        fit true p =
+            let l = ltb-true words (width * length (G .nodes)) p in
+            let q : v .at ≡ 0 = made .full l in
+            let x : joinIn v u d s ≡ v = join-none v u d s q in
+            subst (λ y. Looked a y) (sym x) (record { fits = λ f. absurd (omega (arith, same-nodes)); full = λ f. q })
+        fit false p = node (refOf (G .nodes) e) refl
+          where
+            l : width * length (G .nodes) ≤ words
+            l = ltb-false words (width * length (G .nodes)) p
 
-          node : (n : ℕ) → refOf (G .nodes) e ≡ n → Looked a (joinIn v u d s)
-          node zero q = absurd (omega (arith, ref-pos (G .nodes) e there))
-          node (suc k) q =
-              let g = made .fits l in
-              let x : joinIn v u d s ≡ out (linkIn (v .table) u k d s) (suc k) (v .nodes) = rw (g .1 ∙ q, joinIn) in
-              subst (λ y. Looked a y) (sym x) (record {
-                fits = λ f. (
-                  ap (λ (t : List ℕ). linkIn t u k d s) (g .0)
-                      ∙ link-table G a d s words u k small pos (rw all (distinct-add same same-sound same-refl (T .nodes) e (up .sound .good .distinct))) ref-a q
-                      ∙ sym (alike-table words (reached S s a e) (withLink G a e s) alike),
-                  sym (ap (λ (l : List Corner). refOf l e) (alike .nodes) ∙ q),
-                  g .2 ∙ sym same-nodes,
-                );
-                full = λ f. absurd (omega (arith, same-nodes, l));
-              })
+            node : (n : ℕ) → refOf (G .nodes) e ≡ n → Looked a (joinIn v u d s)
+            node zero q = absurd (omega (arith, ref-pos (G .nodes) e there))
+            node (suc k) q =
+                let g = made .fits l in
+                let x : joinIn v u d s ≡ out (linkIn (v .table) u k d s) (suc k) (v .nodes) = rw (g .1 ∙ q, joinIn) in
+                subst (λ y. Looked a y) (sym x) (record {
+                  fits = λ f. (
+                    ap (λ (t : List ℕ). linkIn t u k d s) (g .0)
+                        ∙ link-table G a d s words u k small pos (rw all (distinct-add same same-sound same-refl (T .nodes) e (up .sound .good .distinct))) ref-a q
+                        ∙ sym (alike-table words (reached S s a e) (withLink G a e s) alike),
+                    sym (ap (λ (l : List Corner). refOf l e) (alike .nodes) ∙ q),
+                    g .2 ∙ sym same-nodes,
+                  );
+                  full = λ f. absurd (omega (arith, same-nodes, l));
+                })
 
-  -- the last two stores: the child, and the link
-  pub finish-made : (a : Corner) (u : ℕ) → refOf (S .nodes) a ≡ suc u → isRoot (stepped d a) ≡ false → S .step a (stepped d a) ≡ 0
-      → (o : Out) → Made words (raised S s a (stepped d a)) (parentOf (stepped d a)) (o .table) (o .at) (o .nodes) → Looked a (finishIn o u (stepped d a) d s)
-  finish-made a u h deep z o made = go (ltb words (width * length (T .nodes))) refl
-    where
-      e : Corner
-      e = stepped d a
+    -- both
+    pub finish-made : (o : Out) → Made words (raised S s a (stepped d a)) (parentOf (stepped d a)) (o .table) (o .at) (o .nodes) → Looked a (finishIn o u (stepped d a) d s)
+    finish-made o made = go (ltb words (width * length (T .nodes))) refl
+      where
+        go : (b : Bool) → ltb words (width * length (T .nodes)) ≡ b → Looked a (finishIn o u e d s)
+        go true p =
+            let l = ltb-true words (width * length (T .nodes)) p in
+            let q : o .at ≡ 0 = made .full l in
+            let x : finishIn o u e d s ≡ o = finish-none o u e d s q in
+            subst (λ y. Looked a y) (sym x) (record { fits = λ f. absurd (omega (arith, same-nodes, more)); full = λ f. q })
+        go false p = node (refOf (T .nodes) (parentOf e)) refl
+          where
+            l : width * length (T .nodes) ≤ words
+            l = ltb-false words (width * length (T .nodes)) p
 
-      T : State
-      T = raised S s a e
-
-      G : State
-      G = grown T e s
-
-      m : List·Memᴰ a (S .nodes)
-      m = mem-of-ref (S .nodes) a u h
-
-      up : Raised S T e
-      up = raised-is S sound s a e m (root-parent a m)
-
-      alike : Alike (reached S s a e) (withLink G a e s)
-      alike = reach-over S sound s a e z m deep (root-parent a m)
-
-      same-nodes : length (gather same (S .nodes) (pathOf e)) ≡ length (G .nodes)
-      same-nodes = ap length (alike .nodes)
-
-      all : G .nodes ≡ add same (T .nodes) e
-      all = grown-nodes T e s
-
-      more : length (T .nodes) ≤ length (G .nodes)
-      more = omega (arith, room-old (T .nodes) (e ∷ []), ap length all)
-
-      go : (b : Bool) → ltb words (width * length (T .nodes)) ≡ b → Looked a (finishIn o u e d s)
-      go true p =
-          let l = ltb-true words (width * length (T .nodes)) p in
-          let q : o .at ≡ 0 = made .full l in
-          let x : finishIn o u e d s ≡ o = finish-none o u e d s q in
-          subst (λ y. Looked a y) (sym x) (record { fits = λ f. absurd (omega (arith, same-nodes, more)); full = λ f. q })
-      go false p = node (refOf (T .nodes) (parentOf e)) refl
-        where
-          l : width * length (T .nodes) ≤ words
-          l = ltb-false words (width * length (T .nodes)) p
-
-          node : (n : ℕ) → refOf (T .nodes) (parentOf e) ≡ n → Looked a (finishIn o u e d s)
-          node zero q = absurd (omega (arith, ref-pos (T .nodes) (parentOf e) (up .has)))
-          node (suc k) q =
-              let g = made .fits l in
-              let x : finishIn o u e d s ≡ joinIn (childIn (o .table) (o .nodes) k (childWord e) s) u d s = rw (g .1 ∙ q, finishIn) in
-              let y : childIn (o .table) (o .nodes) k (childWord e) s ≡ childIn (tableBy words T) (length (T .nodes)) k (childWord e) s = ap₂ (λ (t : List ℕ) (n : ℕ). childIn t n k (childWord e) s) (g .0) (g .2) in
-              subst (λ r. Looked a r) (sym (x ∙ ap (λ (c : Out). joinIn c u d s) y)) (join-made a u h deep z (childIn (tableBy words T) (length (T .nodes)) k (childWord e) s) (child-made words T (up .sound) e s k deep (up .has) q l (childIn (tableBy words T) (length (T .nodes)) k (childWord e) s) refl))
+            node : (n : ℕ) → refOf (T .nodes) (parentOf e) ≡ n → Looked a (finishIn o u e d s)
+            node zero q = absurd (omega (arith, ref-pos (T .nodes) (parentOf e) (up .has)))
+            node (suc k) q =
+                let g = made .fits l in
+                let x : finishIn o u e d s ≡ joinIn (childIn (o .table) (o .nodes) k (childWord e) s) u d s = rw (g .1 ∙ q, finishIn) in
+                let y : childIn (o .table) (o .nodes) k (childWord e) s ≡ childIn (tableBy words T) (length (T .nodes)) k (childWord e) s = ap₂ (λ (t : List ℕ) (n : ℕ). childIn t n k (childWord e) s) (g .0) (g .2) in
+                subst (λ r. Looked a r) (sym (x ∙ ap (λ (c : Out). joinIn c u d s) y)) (join-made (childIn (tableBy words T) (length (T .nodes)) k (childWord e) s) (child-made words T (up .sound) e s k deep (up .has) q l (childIn (tableBy words T) (length (T .nodes)) k (childWord e) s) refl))
 
   -- `neighbour`: found, or made
   pub neighbour-made : (f : ℕ) (a : Corner) (u : ℕ) → sizeOf a < f → refOf (S .nodes) a ≡ suc u → Looked a (neighbourIn f (tableBy words S) (length (S .nodes)) u a d s)

@@ -2,6 +2,7 @@
 -- Assumes nothing.
 use mathlib.Core.Bool.{Bool, true, false, cond}
 use mathlib.Core.List.{List, [], _∷_, _++_, List·Memᴰ, List·Memᴰ·head}
+use mathlib.Core.Logic.{⊎-elim}
 use mathlib.Core.Path.{_≡_, refl, ap, sym, _∙_}
 use Prim.Native.Nat.{ℕ, suc, _-_, _*_, _<_, _≤_}
 use native.Mathlib.Omega.{arith}
@@ -15,12 +16,13 @@ use Rattle.tree.specs.Nodes.{refOf}
 use Rattle.layout.specs.Table.{width, wordAt, parentWord, neighbourWord, linkWord, needWord}
 use Rattle.tree_laws.specs.State.{put, State, needed, unlinking, Alike, Sound, tableBy}
 use Rattle.grid.proofs.CornerLaws.{same-refl, same-sound}
+use Rattle.grid.proofs.StepLaws.{stepped-ne}
 use Rattle.lists.proofs.FindLaws.{find-le}
-use Rattle.lists.proofs.GatherLaws.{distinct-gather, mem-gather-right}
+use Rattle.lists.proofs.GatherLaws.{distinct-gather, mem-gather-left, mem-gather-right}
 use Rattle.tree.proofs.NodeLaws.{mem-path}
 use Rattle.tree_laws.proofs.AddLaws.{ref-pos, ref-append, ref-snoc}
 use Rattle.tree_laws.proofs.LevelLaws.{gather-closed, order-gather}
-use Rattle.tree_laws.proofs.PopLaws.{Unlinking, unlink-stop, unlink-end, unlink-last, unlink-next, drop-root, drop-next, drop-fresh}
+use Rattle.tree_laws.proofs.PopLaws.{Unlinking, unlink-stop, unlink-last, unlink-next, drop-root, drop-next, drop-fresh}
 use Rattle.table_laws.specs.Model.{unsetIn}
 use Rattle.table_laws.proofs.LookupLaws.{mem-of-ref}
 use Rattle.table_laws.proofs.StateLaws.{unlinked-all, dropping-stop, dropping-table}
@@ -50,17 +52,25 @@ module _ (words : ℕ) (S : State) (sound : Sound S) (s : ℕ) (pos : 0 < s) whe
           ∙ alike-table words (unlinking S s z (k .links)) (unlinking S s z (S .step))
           (unlinked-all S sound s z (k .links) (unlink-stop (S .nodes) (S .step) (sound .good) s small z d (k .links) (k .at) (k .inv) (λ e. f (unlink-reads ∙ e))))
 
-      -- it passes: the neighbour is a node
-      pub unlink-to : getD t (wordAt u (linkWord d)) 0 ≡ s → refOf (gather same (S .nodes) (pathOf z)) (stepped d (k .at)) ≡ suc (getD t (wordAt u (neighbourWord d)) 0 - 1)
-      unlink-to e =
-          let w : getD t (wordAt u (neighbourWord d)) 0 ≡ refOf (gather same (S .nodes) (pathOf z)) (stepped d (k .at)) = ap (λ (x : List ℕ). getD x (wordAt u (neighbourWord d)) 0) (k .table) ∙ read-neighbour words (unlinking S s z (k .links)) (k .at) u (k .here) d dir ∙ far-pos (k .links (k .at) (stepped d (k .at))) (refOf (gather same (S .nodes) (pathOf z)) (stepped d (k .at))) (omega (arith, unlink-reads, pos)) in
-          omega (arith, ref-pos (gather same (S .nodes) (pathOf z)) (stepped d (k .at)) (mem-gather-right same same-sound same-refl (S .nodes) (pathOf z) (unlink-end (S .nodes) (S .step) (sound .good) s small z d (k .links) (k .at) (k .inv) (sym unlink-reads ∙ e))))
+      -- linked: the neighbour is a node, and its ref stands in the record
+      there : 0 < getD t (wordAt u (linkWord d)) 0 → List·Memᴰ (stepped d (k .at)) (gather same (S .nodes) (pathOf z))
+      there p =
+          ⊎-elim
+          (λ h. mem-gather-left same same-sound same-refl (S .nodes) (pathOf z) (sound .good .ends (k .at) (stepped d (k .at)) (omega (arith, unlink-reads, h (k .at) (stepped d (k .at)) (λ e. stepped-ne d (k .at) (sym e)))) .1))
+          (λ h. mem-gather-right same same-sound same-refl (S .nodes) (pathOf z) (h .1))
+          (k .inv)
+
+      pub unlink-to : 0 < getD t (wordAt u (linkWord d)) 0 → (0 < getD t (wordAt u (neighbourWord d)) 0) × (refOf (gather same (S .nodes) (pathOf z)) (stepped d (k .at)) ≡ suc (getD t (wordAt u (neighbourWord d)) 0 - 1))
+      unlink-to p =
+          let w : getD t (wordAt u (neighbourWord d)) 0 ≡ refOf (gather same (S .nodes) (pathOf z)) (stepped d (k .at)) = ap (λ (x : List ℕ). getD x (wordAt u (neighbourWord d)) 0) (k .table) ∙ read-neighbour words (unlinking S s z (k .links)) (k .at) u (k .here) d dir ∙ far-pos (k .links (k .at) (stepped d (k .at))) (refOf (gather same (S .nodes) (pathOf z)) (stepped d (k .at))) (omega (arith, unlink-reads)) in
+          let g = ref-pos (gather same (S .nodes) (pathOf z)) (stepped d (k .at)) (there p) in
+          (omega (arith, w, g), omega (arith, w, g))
 
       -- the link cleared
       pub unlink-clears : getD t (wordAt u (linkWord d)) 0 ≡ s → unsetIn t u (getD t (wordAt u (neighbourWord d)) 0 - 1) d ≡ tableBy words (unlinking S s z (put (k .links) 0 (k .at) (stepped d (k .at))))
       unlink-clears e =
           ap (λ (x : List ℕ). unsetIn x u (getD t (wordAt u (neighbourWord d)) 0 - 1) d) (k .table)
-          ∙ unlink-table (unlinking S s z (k .links)) (k .at) d words u (getD t (wordAt u (neighbourWord d)) 0 - 1) dir (distinct-gather same same-sound same-refl (S .nodes) (pathOf z) (sound .good .distinct)) (k .here) (unlink-to e)
+          ∙ unlink-table (unlinking S s z (k .links)) (k .at) d words u (getD t (wordAt u (neighbourWord d)) 0 - 1) dir (distinct-gather same same-sound same-refl (S .nodes) (pathOf z) (sound .good .distinct)) (k .here) (unlink-to (omega (arith, e, pos)) .1)
 
       -- no parent: all is done; a parent: the next round, at a node of a lower number
       module _ (t′ : List ℕ) (e : getD t (wordAt u (linkWord d)) 0 ≡ s) (q : t′ ≡ unsetIn t u (getD t (wordAt u (neighbourWord d)) 0 - 1) d) where

@@ -1,23 +1,29 @@
 -- The laws of one operation, as its proof cites them.
 -- Assumes nothing.
 use mathlib.Core.List.{List, [], _∷_, _++_}
-use mathlib.Core.Path.{_≡_, refl, ap, ap₂, sym, _∙_, subst}
+use mathlib.Core.Path.{_≡_, ap, ap₂, sym, _∙_, subst}
 use Prim.Native.Nat.{ℕ, suc, _+_, _-_, _*_, _<_, _≤_}
 use native.Mathlib.Omega.{arith}
 use lib.IntN.{natAbs}
 use lib.ListN.{length, length-append, length-set, take, getD, set}
-use lib.Seq.{take-suc, take-suc-set, length-take-le}
+use lib.Seq.{sets, take-suc, take-suc-set, length-take-le}
 use Rattle.grid.specs.declared.Corner.{Corner}
-use Rattle.grid.specs.Grid.{cornersFrom, endFrom}
-use Rattle.lists.specs.Lists.{Below}
+use Rattle.grid.specs.Grid.{same, cornersFrom, endFrom}
+use Rattle.lists.specs.Lists.{Below, count}
 use Rattle.walk_step.specs.declared.Moved.{Moved}
 use Rattle.walk_step.specs.declared.Walk.{Walk}
 use Rattle.walk_step.specs.Walks.{Known, Advanced}
+use Rattle.layout.specs.Marks.{markOf}
 use Rattle.tree.specs.Nodes.{nodesOf}
+use Rattle.tree_laws.specs.State.{stateOf}
 use Rattle.steps.specs.Operations.{operate}
 use Rattle.grid.proofs.BoundLaws.{endFrom-bound}
+use Rattle.layout.specs.Table.{width, wordAt, visitsWord}
+use Rattle.table_laws.proofs.Cites.{ref-below}
+use Rattle.table_laws.proofs.RowLaws.{table-state}
+use Rattle.table_laws.proofs.StoreLaws.{read-visits}
 use Rattle.steps.proofs.SurvivorLaws.{Fine, Sound, sound-operate, operate-step, operate-back, below-last}
-use Rattle.walk_run.specs.Runs.{Chained, Applied}
+use Rattle.walk_run.specs.Runs.{Chained, Applied, Performed}
 
 module _ (c : Corner) (t ch ds : List ℕ) (w : Walk) (k : Chained c t ch ds w) where
   pub chained-few : w .spot .steps ≤ 16384
@@ -78,4 +84,36 @@ module _ (c : Corner) (t ch ds : List ℕ) (w : Walk) (k : Chained c t ch ds w) 
 
     pub chained-applied : (words : ℕ) (t′ : List ℕ) (r : Moved) → Advanced words t′ c (ds ++ (o ∷ [])) r → Applied words c t′ (set ch (w .spot .steps) o) (operate ds o) r
     chained-applied words t′ (Moved.To v) h = (chained-go t′ v (h .0), h .1)
-    chained-applied words t′ Moved.Full h = subst (λ (l : List ℕ). words < 21 * length (nodesOf (cornersFrom c l))) (sym (operate-step ds o small)) h
+    chained-applied words t′ Moved.Full h = subst (λ (l : List ℕ). words < width * length (nodesOf (cornersFrom c l))) (sym (operate-step ds o small)) h
+
+  -- its mark
+  module _ (words : ℕ) (l : length t ≡ words) where
+    pub chained-bounds : (wordAt (w .spot .node) visitsWord < length t) × (width * w .spot .nodes ≤ words)
+    chained-bounds =
+        let h = k .known .walked in
+        (bound (w .spot .node) (length (nodesOf (cornersFrom c ds))) (w .spot .nodes) (length t) (ref-below (nodesOf (cornersFrom c ds)) (endFrom c ds) (w .spot .node) (h .here)) (h .count) (h .room), subst (λ (n : ℕ). width * w .spot .nodes ≤ n) l (h .room))
+      where
+        bound : (a n m l : ℕ) → a < n → m ≡ n → width * m ≤ l → wordAt a visitsWord < l
+        bound a n m l p q s = omega arith
+
+  pub chained-mark : (ms ms′ : List ℕ) (i : ℕ) → ms′ ≡ set (set ms (2 * i) (w .spot .nodes)) (2 * i + 1) (getD t (wordAt (w .spot .node) visitsWord) 0) → ms′ ≡ sets ms (2 * i) (markOf c ds)
+  chained-mark ms ms′ i q =
+      let h = k .known .walked in
+      let n : 2 * i + 1 ≡ suc (2 * i) = omega arith in
+      let seen : getD t (wordAt (w .spot .node) visitsWord) 0 ≡ count (same (endFrom c ds)) (cornersFrom c ds) = ap (λ (x : List ℕ). getD x (wordAt (w .spot .node) visitsWord) 0) (h .whole ∙ table-state (length t) c ds) ∙ read-visits (length t) (stateOf (cornersFrom c ds)) (endFrom c ds) (w .spot .node) (h .here) in
+      q ∙ ap (λ (j : ℕ). set (set ms (2 * i) (w .spot .nodes)) j (getD t (wordAt (w .spot .node) visitsWord) 0)) n ∙ ap₂ (λ (x y : ℕ). set (set ms (2 * i) x) (suc (2 * i)) y) (h .count) seen
+
+-- one operation with its mark, from the answer to it
+module _ (words : ℕ) (ms : List ℕ) (i : ℕ) (c : Corner) (t ch ds : List ℕ) where
+  pub performed-full : (r : Moved) → r ≡ Moved.Full → Applied words c t ch ds r → (ms′ : List ℕ) → Performed words ms i c t ms′ ch ds Moved.Full
+  performed-full r e h ms′ = subst (λ y. Applied words c t ch ds y) e h
+
+  applied-to : (r : Moved) (v : Walk) → r ≡ Moved.To v → Applied words c t ch ds r → Chained c t ch ds v × (length t ≡ words)
+  applied-to r v e h = subst (λ y. Applied words c t ch ds y) e h
+
+  module _ (r : Moved) (v : Walk) (e : r ≡ Moved.To v) (h : Applied words c t ch ds r) where
+    pub applied-bounds : (wordAt (v .spot .node) visitsWord < length t) × (width * v .spot .nodes ≤ words)
+    applied-bounds = let g = applied-to r v e h in chained-bounds c t ch ds v (g .0) words (g .1)
+
+    pub performed-to : (ms′ : List ℕ) → ms′ ≡ set (set ms (2 * i) (v .spot .nodes)) (2 * i + 1) (getD t (wordAt (v .spot .node) visitsWord) 0) → Performed words ms i c t ms′ ch ds (Moved.To v)
+    performed-to ms′ q = let g = applied-to r v e h in (g .0, g .1, chained-mark c t ch ds v (g .0) ms ms′ i q)

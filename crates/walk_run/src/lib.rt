@@ -1,14 +1,14 @@
 // A walk follows its operations, one after the other, and marks each.
-ghost use mathlib.Core.List.{List, [], _∷_, _++_};
+ghost use mathlib.Core.List.{List, []};
 ghost use mathlib.Core.Path.{_≡_};
 ghost use Prim.Native.Nat.{ℕ, _+_, _*_, _^_, _<_, _≤_};
 ghost use lib.ListN.{length, set, getD};
 ghost use Rattle.answer.specs.declared.Judged.the-variants.{Good};
 ghost use Rattle.grid.specs.declared.Corner.{Corner as Node};
 ghost use Rattle.grid.specs.Grid.{origin};
-ghost use Rattle.layout.specs.Table.{tableOf};
+ghost use Rattle.layout.specs.Table.{width, wordAt, visitsWord, tableOf};
 ghost use Rattle.steps.specs.Operations.{operate, faultsFrom};
-ghost use Rattle.walk_run.specs.Runs.{Chained, Ready, Applied, Ended};
+ghost use Rattle.walk_run.specs.Runs.{Chained, Ready, Applied, Performed, Ended};
 use walk_step::Moved;
 use walk_step::Spot;
 use walk_step::Walk;
@@ -38,17 +38,33 @@ fn apply(t: &mut [u32], chain: &mut [u8], w: Walk, op: u8) -> Moved
 
 // The mark at place i: the nodes in use, and the visits at the corner stood on.
 fn mark(t: &[u32], marks: &mut [u32], w: Spot, i: usize)
-    requires { ⌜ (w .node * 21 + 18 < length (now t)) × (2 * i + 1 < length (now marks)) × (w .nodes < 2 ^ 32) × (i < 2 ^ 32) ⌝ }
-    ensures { λ _. ⌜ now (marks .exit) ≡ set (set (now (marks .entry)) (2 * i) (w .nodes)) (2 * i + 1) (getD (now (t .entry)) (w .node * 21 + 18) 0) ⌝ }
+    requires { ⌜ (wordAt (w .node) visitsWord < length (now t)) × (2 * i + 1 < length (now marks)) × (w .nodes < 2 ^ 32) × (i < 2 ^ 32) ⌝ }
+    ensures { λ _. ⌜ now (marks .exit) ≡ set (set (now (marks .entry)) (2 * i) (w .nodes)) (2 * i + 1) (getD (now (t .entry)) (wordAt (w .node) visitsWord) 0) ⌝ }
 {
     let r = w.node;
     marks[2 * i] = w.nodes as u32;
     marks[2 * i + 1] = walk_table::word(t, r, Record::VISITS);
 }
 
+// One operation, at place i: applied, and then marked.
+fn perform(t: &mut [u32], marks: &mut [u32], chain: &mut [u8], w: Walk, op: u8, i: usize) -> Moved
+    requires { ⌜ Ready (now t) (now chain) w op ⌝ }
+    requires { ⌜ (length (now t) < 2 ^ 32) × (2 * i + 1 < length (now marks)) × (i < 2 ^ 32) ⌝ }
+    ensures { λ r. ⌜ ((c : Node) (ds : List ℕ) → Chained c (now (t .entry)) (now (chain .entry)) ds w → Performed (length (now (t .entry))) (now (marks .entry)) i c (now (t .exit)) (now (marks .exit)) (now (chain .exit)) (operate ds op) r) ⌝ }
+{
+    match apply(t, chain, w, op) {
+        Moved::To(next) => {
+            let spot = next.spot;
+            mark(t, marks, spot, i);
+            Moved::To(next)
+        }
+        Moved::Full => Moved::Full,
+    }
+}
+
 // All operations, in a table that holds the root alone.
 pub fn run(ops: &[u8], t: &mut [u32], marks: &mut [u32], chain: &mut [u8]) -> Ran
-    requires { ⌜ (now t ≡ tableOf (length (now t)) origin []) × (21 ≤ length (now t)) × (length (now t) < 2 ^ 32) ⌝ }
+    requires { ⌜ (now t ≡ tableOf (length (now t)) origin []) × (width ≤ length (now t)) × (length (now t) < 2 ^ 32) ⌝ }
     requires { ⌜ (length (now marks) ≡ 2 * length (now ops)) × (length (now chain) ≡ length (now ops)) × (length (now ops) ≤ 32768) ⌝ }
     requires { ⌜ faultsFrom 0 0 (now ops) ≡ Good ⌝ }
     ensures { λ r. ⌜ Ended (length (now (t .entry))) origin (now (ops .entry)) (now (t .exit)) (now (marks .exit)) (now (chain .exit)) r ⌝ }
@@ -56,7 +72,7 @@ pub fn run(ops: &[u8], t: &mut [u32], marks: &mut [u32], chain: &mut [u8]) -> Ra
     let mut w = Walk::new();
     let mut i = 0;
     while i < ops.len() {
-        match apply(t, chain, w, ops[i]) {
+        match perform(t, marks, chain, w, ops[i], i) {
             Moved::To(next) => {
                 w = next;
             }
@@ -64,8 +80,6 @@ pub fn run(ops: &[u8], t: &mut [u32], marks: &mut [u32], chain: &mut [u8]) -> Ra
                 return Ran::Full(i);
             }
         }
-        let spot = w.spot;
-        mark(t, marks, spot, i);
         i += 1;
     }
     Ran::All(w)

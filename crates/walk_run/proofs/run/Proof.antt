@@ -1,16 +1,16 @@
 -- `walk_run::run` meets its contract. The invariant: the walk of the operations before i, and that what is left from there gives the whole.
 -- Assumes nothing.
 use mathlib.Core.List.{List}
-use mathlib.Core.Path.{_≡_, refl, ap, _∙_, subst}
-use Prim.Native.Nat.{ℕ, _+_, _-_, _*_, _<_, _≤_}
+use mathlib.Core.Path.{_≡_, refl, _∙_, subst}
+use Prim.Native.Nat.{ℕ, _-_, _*_, _<_, _≤_}
 use native.Mathlib.Omega.{arith}
 use borrow.Author.Needs.{needs}
-use lib.ListN.{length, set, length-set, getD}
+use lib.ListN.{length, getD}
 use Rattle.grid.specs.declared.Corner.{Corner}
 use Rattle.grid.specs.Grid.{origin}
 use Rattle.steps.specs.Operations.{operate}
-use Rattle.walk_run.specs.Runs.{Applied, Chained}
-use Rattle.walk_run.proofs.RunLaws.{Running, running-start, running-ready, running-full, running-bounds, running-next, running-end}
+use Rattle.walk_run.specs.Runs.{Chained, Performed}
+use Rattle.walk_run.proofs.RunLaws.{Running, running-start, running-ready, running-full, running-next, running-end}
 use Rattle.walk_run.proofs.run.Statement.{statement}
 use Rattle.walk_run.proofs.run.Tie as tie
 
@@ -29,19 +29,17 @@ loop-holds c =
     let a = s .args in
     (refl, s .pre .1 .0 .0, s .pre .1 .0 .1, omega arith, running-start (a .ops .now) (a .t .now) (a .marks .now) (a .chain .now) (s .pre .0 .0) (s .pre .0 .1) (s .pre .1 .1) (c .new .result) (c .new .ensures))
 
-shared-slice-read-apply : tie.Need-shared-slice-read-apply Inv-loop μ-loop
-shared-slice-read-apply c = search needs
+shared-slice-read-perform : tie.Need-shared-slice-read-perform Inv-loop μ-loop
+shared-slice-read-perform c = search needs
 
-apply-requires : tie.Need-apply-requires Inv-loop μ-loop
-apply-requires c κs =
-    let s = c .before .before .before .before .before .before .before .before .before .before in
+perform-requires : tie.Need-perform-requires Inv-loop μ-loop
+perform-requires c κs =
+    let s = c .before .before .before .before .before .before .before .before .before .before .before in
     let a = s .args in
-    let l = c .before .before .before .before .loop in
-    let O = a .ops .now in
+    let l = c .before .before .before .before .before .loop in
     let W = length (a .t .now) in
-    let k = l .inv .4 in
-    let m : l .i < length O = omega (arith, c .before .before .before .loop-test .taken) in
-    (running-ready W origin O (l .t) (l .marks) (l .chain) (l .w) (l .i) k m (l .inv .2), omega (arith, l .inv .0, s .pre .0 .2))
+    let m : l .i < length (a .ops .now) = omega (arith, c .before .before .before .before .loop-test .taken) in
+    (running-ready W origin (a .ops .now) (l .t) (l .marks) (l .chain) (l .w) (l .i) (l .inv .4) m (l .inv .2), (omega (arith, l .inv .0, s .pre .0 .2), omega (arith, m, l .inv .1), omega (arith, m, s .pre .1 .0 .2)))
 
 enum-known-next : tie.Need-enum-known-next Inv-loop μ-loop
 enum-known-next c = search needs
@@ -60,63 +58,35 @@ same-length-3 c = search needs
 
 returns : tie.Need-returns Inv-loop μ-loop
 returns c =
-    let s = c .before .before .before .before .before .before .before .before .before .before .before .before .before .before .before .before .before in
+    let s = c .before .before .before .before .before .before .before .before .before .before .before .before .before .before .before .before .before .before .before .before in
     let a = s .args in
-    let l = c .before .before .before .before .before .before .before .before .before .before .before .loop in
-    let O = a .ops .now in
+    let l = c .before .before .before .before .before .before .before .before .before .before .before .before .before .before .loop in
     let W = length (a .t .now) in
-    let k = l .inv .4 in
-    let m : l .i < length O = omega (arith, c .before .before .before .before .before .before .before .before .before .before .loop-test .taken) in
-    let b = c .before .before .before .before .before .before .apply in
-    let f : (x : Corner) (ds : List ℕ) → Chained x (l .t) (l .chain) ds (l .w) → Applied W x (b .last .0) (b .last .1 .0) (operate ds (getD O (l .i) 0)) (b .result) =
-    λ x ds h. subst (λ (n : ℕ). Applied n x (b .last .0) (b .last .1 .0) (operate ds (getD O (l .i) 0)) (b .result)) (l .inv .0) (b .ensures x ds h) in
-    running-full W origin O (l .t) (l .marks) (l .chain) (l .w) (l .i) k m (b .last .0) (b .last .1 .0) (b .result) (f origin) (c .enum-told .given .1)
-
-mark-requires : tie.Need-mark-requires Inv-loop μ-loop
-mark-requires c κs =
-    let s = c .before .before .before .before .before .before .before .before .before .before .before .before .before .before .before .before .before .before .before .before .before in
-    let a = s .args in
-    let l = c .before .before .before .before .before .before .before .before .before .before .before .before .before .before .before .loop in
-    let O = a .ops .now in
-    let W = length (a .t .now) in
-    let k = l .inv .4 in
-    let m : l .i < length O = omega (arith, c .before .before .before .before .before .before .before .before .before .before .before .before .before .before .loop-test .taken) in
-    let b = c .before .before .before .before .before .before .before .before .before .before .apply in
-    let v = c .before .before .before .before .next .given in
-    let f : (x : Corner) (ds : List ℕ) → Chained x (l .t) (l .chain) ds (l .w) → Applied W x (b .last .0) (b .last .1 .0) (operate ds (getD O (l .i) 0)) (b .result) =
-    λ x ds h. subst (λ (n : ℕ). Applied n x (b .last .0) (b .last .1 .0) (operate ds (getD O (l .i) 0)) (b .result)) (l .inv .0) (b .ensures x ds h) in
-    let g = running-bounds W origin O (l .t) (l .marks) (l .chain) (l .w) (l .i) k m (b .last .0) (b .last .1 .0) (b .result) (f origin) (v .0 .0) (v .1) in
-    (g .0, omega (arith, m, l .inv .1), omega (arith, g .1, s .pre .0 .2), omega (arith, m, s .pre .1 .0 .2))
+    let m : l .i < length (a .ops .now) = omega (arith, c .before .before .before .before .before .before .before .before .before .before .before .before .before .loop-test .taken) in
+    let b = c .before .before .before .before .before .before .before .before .perform in
+    let f : (x : Corner) (ds : List ℕ) → Chained x (l .t) (l .chain) ds (l .w) → Performed W (l .marks) (l .i) x (b .last .0) (b .last .1 .0) (b .last .1 .1 .0) (operate ds (getD (a .ops .now) (l .i) 0)) (b .result) =
+    λ x ds h. subst (λ (n : ℕ). Performed n (l .marks) (l .i) x (b .last .0) (b .last .1 .0) (b .last .1 .1 .0) (operate ds (getD (a .ops .now) (l .i) 0)) (b .result)) (l .inv .0) (b .ensures x ds h) in
+    running-full W origin (a .ops .now) (l .t) (l .marks) (l .chain) (l .w) (l .i) (l .inv .4) m (b .last .0) (b .last .1 .0) (b .last .1 .1 .0) (b .result) (f origin) (c .enum-told .given .1)
 
 add-i : tie.Need-add-i Inv-loop μ-loop
-add-i c = omega (arith, c .before .before .before .before .before .before .before .before .before .before .before .before .before .before .before .before .before .loop-test .taken, c .before .before .before .before .before .before .before .before .before .before .before .before .before .before .before .before .before .before .before .before .before .before .before .before .pre .1 .0 .2)
+add-i c = omega (arith, c .before .before .before .before .before .before .before .before .before .before .before .before .before .before .loop-test .taken, c .before .before .before .before .before .before .before .before .before .before .before .before .before .before .before .before .before .before .before .before .before .pre .1 .0 .2)
 
 loop-less : tie.Need-loop-less Inv-loop μ-loop
 loop-less c = search needs
 
 loop-again : tie.Need-loop-again Inv-loop μ-loop
 loop-again c =
-    let s = c .before .before .before .before .before .before .before .before .before .before .before .before .before .before .before .before .before .before .before .before .before .before .before .before in
+    let s = c .before .before .before .before .before .before .before .before .before .before .before .before .before .before .before .before .before .before .before .before .before in
     let a = s .args in
-    let l = c .before .before .before .before .before .before .before .before .before .before .before .before .before .before .before .before .before .before .loop in
-    let O = a .ops .now in
+    let l = c .before .before .before .before .before .before .before .before .before .before .before .before .before .before .before .loop in
     let W = length (a .t .now) in
-    let k = l .inv .4 in
-    let m : l .i < length O = omega (arith, c .before .before .before .before .before .before .before .before .before .before .before .before .before .before .before .before .before .loop-test .taken) in
-    let b = c .before .before .before .before .before .before .before .before .before .before .before .before .before .apply in
-    let v = c .before .before .before .before .before .before .before .next .given in
-    let n = c .before .before .mark in
-    let q = n .ensures in
-    let u = v .0 .0 .spot in
-    let f : (x : Corner) (ds : List ℕ) → Chained x (l .t) (l .chain) ds (l .w) → Applied W x (b .last .0) (b .last .1 .0) (operate ds (getD O (l .i) 0)) (b .result) =
-    λ x ds h. subst (λ (n : ℕ). Applied n x (b .last .0) (b .last .1 .0) (operate ds (getD O (l .i) 0)) (b .result)) (l .inv .0) (b .ensures x ds h) in
-    let g = running-bounds W origin O (l .t) (l .marks) (l .chain) (l .w) (l .i) k m (b .last .0) (b .last .1 .0) (b .result) (f origin) (v .0 .0) (v .1) in (
-      g .2,
-      ap length q ∙ length-set (set (l .marks) (2 * l .i) (u .nodes)) (2 * l .i + 1) (getD (b .last .0) (u .node * 21 + 18) 0) ∙ length-set (l .marks) (2 * l .i) (u .nodes) ∙ l .inv .1,
-      search needs,
-      omega (arith, m),
-      running-next W origin O (l .t) (l .marks) (l .chain) (l .w) (l .i) k m (b .last .0) (b .last .1 .0) (b .result) (f origin) (v .0 .0) (v .1) (n .last .1 .0) (omega (arith, m, l .inv .1)) q,
-    )
+    let m : l .i < length (a .ops .now) = omega (arith, c .before .before .before .before .before .before .before .before .before .before .before .before .before .before .loop-test .taken) in
+    let b = c .before .before .before .before .before .before .before .before .before .perform in
+    let f : (x : Corner) (ds : List ℕ) → Chained x (l .t) (l .chain) ds (l .w) → Performed W (l .marks) (l .i) x (b .last .0) (b .last .1 .0) (b .last .1 .1 .0) (operate ds (getD (a .ops .now) (l .i) 0)) (b .result) =
+    λ x ds h. subst (λ (n : ℕ). Performed n (l .marks) (l .i) x (b .last .0) (b .last .1 .0) (b .last .1 .1 .0) (operate ds (getD (a .ops .now) (l .i) 0)) (b .result)) (l .inv .0) (b .ensures x ds h) in
+    let v = c .before .next .given in
+    let g = running-next W origin (a .ops .now) (l .t) (l .marks) (l .chain) (l .w) (l .i) (l .inv .4) m (b .last .0) (b .last .1 .0) (b .last .1 .1 .0) (b .result) (f origin) (v .0 .0) (v .1) (omega (arith, m, l .inv .1)) in
+    (g .0, g .1 ∙ l .inv .1, search needs, omega (arith, m), g .2)
 
 same-length-4 : tie.Need-same-length-4 Inv-loop μ-loop
 same-length-4 c = search needs
@@ -141,15 +111,14 @@ run-spec =
     μ-loop
     new-requires
     loop-holds
-    shared-slice-read-apply
-    apply-requires
+    shared-slice-read-perform
+    perform-requires
     enum-known-next
     enum-told
     same-length
     same-length-2
     same-length-3
     returns
-    mark-requires
     add-i
     loop-less
     loop-again
