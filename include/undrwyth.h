@@ -34,7 +34,7 @@
 extern "C" {
 #endif
 
-/* Raised by one whenever something here changes that a caller can notice. */
+/* Raised by one with each release that changes something here that a caller can notice. */
 #define UNDRWYTH_VERSION 1
 
 /* Limits. */
