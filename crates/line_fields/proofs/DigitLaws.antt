@@ -1,16 +1,16 @@
 -- One turn of each loop over digits.
 -- Assumes nothing.
-use mathlib.Core.Path.{_≡_, refl, sym, ap, _∙_}
+use mathlib.Core.Path.{_≡_, sym, ap, _∙_}
 use mathlib.Core.Bool.{Bool, true, false, _&&_}
-use mathlib.Core.List.{List, [], _∷_, _++_}
+use mathlib.Core.List.{List, _∷_}
 use Prim.Native.Nat.{ℕ, zero, suc, _+_, _-_, _/_, _%_, _<_, _≤_}
 use native.Mathlib.Omega.{arith}
 use native.Mathlib.Numerals.{add-one}
-use native.Mathlib.Nat.{add-zero}
-use lib.ListN.{length, take, drop, getD, set, length-drop, length-set}
+use lib.ListN.{length, drop, getD, set, length-drop}
+use Rattle.line_frame.specs.Sizes.{headDigits}
 use Rattle.line_frame.specs.Hex.{isHex, allHex, valueOf, valuesOf, letterOf, hexOf}
-use Rattle.line_fields.specs.Put.{put, Wrote}
 use Rattle.line_frame.proofs.HexLaws.{length-hexOf, allHex-here, allHex-end, valuesOf-here, valuesOf-end, length-valuesOf}
+use Rattle.line_fields.specs.Put.{put, Wrote}
 use Rattle.line_fields.proofs.PutLaws.{put-first, put-last, put-nil}
 
 pub allHex-stop : (s : List ℕ) (i : ℕ) (r : Bool) → allHex (drop i s) ≡ allHex s → i < length s → r ≡ isHex (getD s i 0) → r ≡ false → false ≡ allHex s
@@ -56,18 +56,18 @@ spell-done n v zero rest at out out₀ h q = record {
 spell-done n v (suc k) rest at out out₀ h q = absurd (omega arith)
 
 -- the next digit's value is written
-pub values-next : (s buf w : List ℕ) (i v : ℕ) → 6 + i < length s → length s ≤ 6 + length buf → v ≡ valueOf (getD s (6 + i) 0)
-    → put (valuesOf (drop (6 + i) s)) i buf ≡ w → put (valuesOf (drop (6 + (i + 1)) s)) (i + 1) (set buf i v) ≡ w
+pub values-next : (s buf w : List ℕ) (i v : ℕ) → headDigits + i < length s → length s ≤ headDigits + length buf → v ≡ valueOf (getD s (headDigits + i) 0)
+    → put (valuesOf (drop (headDigits + i) s)) i buf ≡ w → put (valuesOf (drop (headDigits + (i + 1)) s)) (i + 1) (set buf i v) ≡ w
 values-next s buf w i v h l e q =
-    let d : 6 + (i + 1) ≡ suc (6 + i) = omega arith in
-    let f : List ℕ = valuesOf (drop (suc (6 + i)) s) in
-    let n : length f ≡ length s - suc (6 + i) = length-valuesOf (drop (suc (6 + i)) s) ∙ length-drop (suc (6 + i)) s in
+    let d : headDigits + (i + 1) ≡ suc (headDigits + i) = omega arith in
+    let f : List ℕ = valuesOf (drop (suc (headDigits + i)) s) in
+    let n : length f ≡ length s - suc (headDigits + i) = length-valuesOf (drop (suc (headDigits + i)) s) ∙ length-drop (suc (headDigits + i)) s in
     ap (λ (m : ℕ). put (valuesOf (drop m s)) (i + 1) (set buf i v)) d
     ∙ ap (λ (m : ℕ). put f m (set buf i v)) (add-one i)
     ∙ put-first v f i buf (omega arith)
     ∙ ap (λ (b : ℕ). put (b ∷ f) i buf) e
-    ∙ ap (λ (g : List ℕ). put g i buf) (sym (valuesOf-here s (6 + i) h))
+    ∙ ap (λ (g : List ℕ). put g i buf) (sym (valuesOf-here s (headDigits + i) h))
     ∙ q
 
-pub values-done : (s buf w : List ℕ) (i : ℕ) → length s ≤ 6 + i → put (valuesOf (drop (6 + i) s)) i buf ≡ w → buf ≡ w
-values-done s buf w i h q = sym (put-nil i buf) ∙ ap (λ (f : List ℕ). put f i buf) (sym (valuesOf-end s (6 + i) h)) ∙ q
+pub values-done : (s buf w : List ℕ) (i : ℕ) → length s ≤ headDigits + i → put (valuesOf (drop (headDigits + i) s)) i buf ≡ w → buf ≡ w
+values-done s buf w i h q = sym (put-nil i buf) ∙ ap (λ (f : List ℕ). put f i buf) (sym (valuesOf-end s (headDigits + i) h)) ∙ q

@@ -1,7 +1,7 @@
 // Hexadecimal digits, and fields of them in a buffer.
 ghost use mathlib.Core.Path.{_≡_};
 ghost use mathlib.Core.Bool.{true};
-ghost use Prim.Native.Nat.{_+_, _*_, _<_, _≤_};
+ghost use Prim.Native.Nat.{_+_, _<_, _≤_};
 ghost use lib.ListN.{length};
 ghost use Rattle.line_frame.specs.Hex.{isHex, valueOf, letterOf, hexOf, bitsOf};
 ghost use Rattle.line_fields.specs.Put.{Wrote};
@@ -36,17 +36,8 @@ pub fn value(b: u8) -> u8
     b - 87
 }
 
-// The number that two digits spell.
-pub fn pair(a: u8, b: u8) -> usize
-    requires { ⌜ isHex a ≡ true ⌝ }
-    requires { ⌜ isHex b ≡ true ⌝ }
-    ensures { λ r. ⌜ (r ≡ valueOf a * 16 + valueOf b) × (r < 256) ⌝ }
-{
-    (value(a) as usize) * 16 + (value(b) as usize)
-}
-
 // The digit that is worth d.
-pub fn letter(d: u8) -> u8
+fn letter(d: u8) -> u8
     requires { ⌜ d < 16 ⌝ }
     ensures { λ r. ⌜ r ≡ letterOf d ⌝ }
 {

@@ -1,8 +1,6 @@
 -- Lines and their answers, computed.
 -- Assumes nothing.
 use mathlib.Core.Path.{_≡_, refl}
-use mathlib.Core.List.{List, [], _∷_}
-use Prim.Native.Nat.{ℕ}
 use Rattle.hull_laws.specs.Columns.{sinks, sink, westFrom, eastFrom, trail, colAfter, rowAfter}
 use Rattle.hull_laws.specs.Outline.{turnsAt, cutAt, chainFrom, outlineOf, hullOf}
 use Rattle.line_frame.specs.Hex.{allHex, valuesOf, numberFrom, hexOf}

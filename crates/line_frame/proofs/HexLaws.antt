@@ -1,15 +1,15 @@
 -- Hexadecimal.
 -- Assumes nothing.
-use mathlib.Core.Path.{_≡_, refl, sym, ap, _∙_}
-use mathlib.Core.Bool.{Bool, true, false, cond, _&&_, _||_}
-use mathlib.Core.List.{List, [], _∷_, _++_}
-use Prim.Native.Nat.{ℕ, zero, suc, _+_, _/_, _%_, _<_, _≤_}
+use mathlib.Core.Path.{_≡_, refl, ap}
+use mathlib.Core.Bool.{Bool, true, false, _&&_, _||_}
+use mathlib.Core.List.{List, [], _∷_}
+use Prim.Native.Nat.{ℕ, zero, suc, _/_, _<_, _≤_}
 use native.Mathlib.Omega.{arith}
-use lib.ListN.{length, drop, set, getD, length-append, drop-of-length-le}
+use borrow.Author.Tests.{leb-true}
+use lib.ListN.{length, drop, getD, length-append, drop-of-length-le}
 use lib.Seq.{drop-cons}
 use lib.Dec.{leb}
-use borrow.Author.Tests.{leb-true, leb-false}
-use Rattle.line_frame.specs.Hex.{isHex, allHex, valuesOf, valueOf, letterOf, hexOf}
+use Rattle.line_frame.specs.Hex.{isHex, allHex, valuesOf, valueOf, hexOf}
 
 pub length-hexOf : (n v : ℕ) → length (hexOf n v) ≡ n
 unfolding hexOf

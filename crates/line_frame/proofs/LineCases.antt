@@ -1,20 +1,20 @@
 -- Frames and fields, computed on small inputs.
 -- Assumes nothing.
 use mathlib.Core.Path.{_≡_, refl}
-use mathlib.Core.List.{List, [], _∷_}
-use Prim.Native.Nat.{ℕ}
-use lib.IntN.{ℤ, pos, negsuc}
-use Rattle.line_frame.specs.declared.Frame.the-variants.{Operations, Turns, Bad}
+use mathlib.Core.List.{[], _∷_}
+use lib.IntN.{negsuc}
+use Rattle.line_frame.specs.declared.Kind.the-variants.{Operations, Turns}
+use Rattle.line_frame.specs.declared.Frame.the-variants.{Of, Bad}
 use Rattle.line_frame.specs.Hex.{allHex, valuesOf, numberFrom, hexOf, bitsOf}
 use Rattle.line_frame.specs.Line.{frameOf, digitsOf, lineAnswer}
 use Rattle.line_frame.specs.Program.{linesFrom, owedOf, program}
 use Rattle.line_frame.proofs.Bytes.{bytesOf}
 
-pub one-operation : frameOf (bytesOf "0000015") ≡ Operations 1
+pub one-operation : frameOf (bytesOf "0000015") ≡ Of Operations 1
 unfolding frameOf allHex numberFrom bytesOf
 one-operation = refl
 
-pub two-turns : frameOf (bytesOf "0100020f") ≡ Turns 2
+pub two-turns : frameOf (bytesOf "0100020f") ≡ Of Turns 2
 unfolding frameOf allHex numberFrom bytesOf
 two-turns = refl
 

@@ -1,20 +1,22 @@
 -- One line and its answer.
 -- Assumes nothing.
-use mathlib.Core.Path.{_≡_, refl, sym, ap, _∙_}
+use mathlib.Core.Path.{_≡_, refl, sym, ap, ap₂, _∙_}
 use mathlib.Core.Bool.{Bool, true, false, cond, _&&_}
-use mathlib.Core.List.{List, [], _∷_, _++_}
+use mathlib.Core.List.{List, [], _∷_}
 use Prim.Native.Nat.{ℕ, zero, suc, _+_, _*_, _<_, _≤_}
 use native.Mathlib.Omega.{arith}
-use lib.ListN.{length, take, drop, getD, length-append, length-drop}
-use lib.Dec.{leb, ltb, eqb}
 use borrow.Author.Tests.{leb-true, eqb-true, ne-eqb, le-ltb, lt-leb, lt-ltb, le-leb, eq-eqb}
-use mathlib.Core.Logic.{_⊎_, inl, inr}
+use lib.ListN.{length, drop, length-drop}
+use lib.Dec.{leb, ltb, eqb}
 use Rattle.answer.specs.declared.Refusal.the-variants.{BadLine}
+use Rattle.line_frame.specs.declared.Kind.{Kind}
+use Rattle.line_frame.specs.declared.Kind.the-variants.{Operations, Turns}
 use Rattle.line_frame.specs.declared.Frame.{Frame}
-use Rattle.line_frame.specs.declared.Frame.the-variants.{Operations, Turns, Bad}
-use Rattle.line_frame.specs.Hex.{allHex, hexOf, valueOf, numberFrom}
-use Rattle.line_frame.specs.Line.{frameOf, framed, isFrame, kindOf, countOf, digitsOf, answerOf, lineAnswer}
-use Rattle.line_frame.specs.Spelled.{walkedLine, turnedLine, refusedLine}
+use Rattle.line_frame.specs.declared.Frame.the-variants.{Of, Bad}
+use Rattle.line_frame.specs.Sizes.{headDigits, mostDigits, mostLine, mostAnswer}
+use Rattle.line_frame.specs.Hex.{allHex, pairAt, numberFrom}
+use Rattle.line_frame.specs.Line.{frameOf, kindNamed, isFrame, kindOf, countOf, digitsOf, digitsAnswer, answerOf, lineAnswer}
+use Rattle.line_frame.specs.Spelled.{refusedLine}
 use Rattle.line_frame.proofs.HexLaws.{length-valuesOf}
 use Rattle.line_frame.proofs.SpelledLaws.{length-refusedLine, walkedLine-most, turnedLine-most}
 
@@ -26,35 +28,34 @@ last-two true true false d e = let z : _≡_ {A = ℕ} 0 1 = cc in absurd (omega
 last-two true false c d e = let z : _≡_ {A = ℕ} 0 1 = cc in absurd (omega arith)
 last-two false b c d e = let z : _≡_ {A = ℕ} 0 1 = cc in absurd (omega arith)
 
--- a frame has at most 1,030 bytes
-pub isFrame-short : (s : List ℕ) → isFrame s ≡ true → length s ≤ 1030
+-- how long a frame is at most
+pub isFrame-short : (s : List ℕ) → isFrame s ≡ true → length s ≤ mostLine
 isFrame-short s e =
-    let p = last-two (allHex s) (ltb (kindOf s) 2) (leb (countOf s) 0x0400) (eqb (length s) (6 + countOf s)) e in
-    omega (arith, leb-true (countOf s) 0x0400 (p .0), eqb-true (length s) (6 + countOf s) (p .1))
+    let p = last-two (allHex s) (ltb (kindOf s) 2) (leb (countOf s) mostDigits) (eqb (length s) (headDigits + countOf s)) e in
+    omega (arith, leb-true (countOf s) mostDigits (p .0), eqb-true (length s) (headDigits + countOf s) (p .1))
 
 -- a longer line is bad
-pub frameOf-long : (s : List ℕ) → 1030 < length s → frameOf s ≡ Bad
+pub frameOf-long : (s : List ℕ) → mostLine < length s → frameOf s ≡ Bad
 unfolding frameOf
 frameOf-long s h = go (isFrame s) refl
   where
-    go : (b : Bool) → isFrame s ≡ b → cond b (framed (kindOf s) (countOf s)) Bad ≡ Bad
+    go : (b : Bool) → isFrame s ≡ b → cond b (Of (kindNamed (kindOf s)) (countOf s)) Bad ≡ Bad
     go true e = absurd (omega (arith, isFrame-short s e))
     go false e = refl
 
 -- so is its answer
-pub lineAnswer-long : (s : List ℕ) → 1030 < length s → lineAnswer s ≡ refusedLine BadLine
+pub lineAnswer-long : (s : List ℕ) → mostLine < length s → lineAnswer s ≡ refusedLine BadLine
 unfolding lineAnswer
 lineAnswer-long s h = ap (λ (f : Frame). answerOf f (digitsOf s)) (frameOf-long s h)
 
 -- the first bytes of a line that has six
-pub kindOf-six : (s : List ℕ) → 6 ≤ length s → kindOf s ≡ valueOf (getD s 0 0) * 16 + valueOf (getD s 1 0)
+pub kindOf-six : (s : List ℕ) → headDigits ≤ length s → kindOf s ≡ pairAt s 0
 unfolding numberFrom
 kindOf-six (a ∷ b ∷ s) h = omega arith
 kindOf-six (a ∷ []) h = absurd (omega arith)
 kindOf-six [] h = absurd (omega arith)
 
-pub countOf-six : (s : List ℕ) → 6 ≤ length s
-    → countOf s ≡ (valueOf (getD s 2 0) * 16 + valueOf (getD s 3 0)) * 256 + (valueOf (getD s 4 0) * 16 + valueOf (getD s 5 0))
+pub countOf-six : (s : List ℕ) → headDigits ≤ length s → countOf s ≡ pairAt s 2 * 256 + pairAt s 4
 unfolding numberFrom
 countOf-six (a ∷ b ∷ c ∷ d ∷ e ∷ f ∷ s) h = omega arith
 countOf-six (a ∷ b ∷ c ∷ d ∷ e ∷ []) h = absurd (omega arith)
@@ -73,10 +74,10 @@ and-false : (a b : Bool) → b ≡ false → a && b ≡ false
 and-false true b e = e
 and-false false b e = refl
 
-pub frameOf-size : (s : List ℕ) → (length s ≡ 6 + countOf s → ⊥) → Bad ≡ frameOf s
-frameOf-size s f = bad-by s (and-false (allHex s && ltb (kindOf s) 2 && leb (countOf s) 0x0400) (eqb (length s) (6 + countOf s)) (ne-eqb (length s) (6 + countOf s) f))
+pub frameOf-size : (s : List ℕ) → (length s ≡ headDigits + countOf s → ⊥) → Bad ≡ frameOf s
+frameOf-size s f = bad-by s (and-false (allHex s && ltb (kindOf s) 2 && leb (countOf s) mostDigits) (eqb (length s) (headDigits + countOf s)) (ne-eqb (length s) (headDigits + countOf s) f))
 
-pub frameOf-short : (s : List ℕ) → length s < 6 → Bad ≡ frameOf s
+pub frameOf-short : (s : List ℕ) → length s < headDigits → Bad ≡ frameOf s
 frameOf-short s h = frameOf-size s (λ e. omega arith)
 
 pub frameOf-digit : (s : List ℕ) → allHex s ≡ false → Bad ≡ frameOf s
@@ -84,105 +85,68 @@ frameOf-digit s e = bad-by s (rw e)
 
 pub frameOf-kind : (s : List ℕ) → 1 < kindOf s → Bad ≡ frameOf s
 frameOf-kind s h =
-    bad-by s (ap (λ (b : Bool). b && leb (countOf s) 0x0400 && eqb (length s) (6 + countOf s)) (and-false (allHex s) (ltb (kindOf s) 2) (le-ltb (kindOf s) 2 (omega arith))))
+    bad-by s (ap (λ (b : Bool). b && leb (countOf s) mostDigits && eqb (length s) (headDigits + countOf s)) (and-false (allHex s) (ltb (kindOf s) 2) (le-ltb (kindOf s) 2 (omega arith))))
 
-pub frameOf-count : (s : List ℕ) → 1024 < countOf s → Bad ≡ frameOf s
+pub frameOf-count : (s : List ℕ) → mostDigits < countOf s → Bad ≡ frameOf s
 frameOf-count s h =
-    bad-by s (ap (λ (b : Bool). b && eqb (length s) (6 + countOf s)) (and-false (allHex s && ltb (kindOf s) 2) (leb (countOf s) 0x0400) (lt-leb (countOf s) 0x0400 h)))
+    bad-by s (ap (λ (b : Bool). b && eqb (length s) (headDigits + countOf s)) (and-false (allHex s && ltb (kindOf s) 2) (leb (countOf s) mostDigits) (lt-leb (countOf s) mostDigits h)))
+
+-- any kind but 00 is named turns
+pub kindNamed-other : (k : ℕ) → (k ≡ 0 → ⊥) → Turns ≡ kindNamed k
+kindNamed-other zero f = absurd (f refl)
+kindNamed-other (suc k) f = refl
 
 -- what makes it a frame
-pub frameOf-good : (s : List ℕ) → allHex s ≡ true → kindOf s ≤ 1 → countOf s ≤ 1024 → length s ≡ 6 + countOf s → frameOf s ≡ framed (kindOf s) (countOf s)
+pub frameOf-frame : (s : List ℕ) (k : Kind) (n : ℕ) → allHex s ≡ true → kindOf s ≤ 1 → n ≤ mostDigits → length s ≡ headDigits + n → k ≡ kindNamed (kindOf s) → n ≡ countOf s → Of k n ≡ frameOf s
 unfolding frameOf
-frameOf-good s a k n l = simp (a, lt-ltb (kindOf s) 2 (omega arith), le-leb (countOf s) 0x0400 n, eq-eqb (length s) (6 + countOf s) l)
+frameOf-frame s k n a o m l p q =
+    ap₂ Of p q
+    ∙ sym (simp (a, lt-ltb (kindOf s) 2 (omega arith), le-leb (countOf s) mostDigits (omega arith), eq-eqb (length s) (headDigits + countOf s) (omega arith)))
 
 -- and what follows from a frame's having n digits
 pub record Good (s : List ℕ) (n : ℕ) : Type 0 where
   pub digits : allHex s ≡ true
-  pub most : n ≤ 1024
-  pub size : length s ≡ 6 + n
-
--- a frame's number of digits
-abbrev Has : Frame → ℕ → Type 0
-Has f n = (f ≡ Operations n) ⊎ (f ≡ Turns n)
-
-bad-has : (n : ℕ) → Has Bad n → ⊥
-bad-has n (inl e) = let z : _≡_ {A = ℕ} 0 1 = cc in omega arith
-bad-has n (inr e) = let z : _≡_ {A = ℕ} 0 1 = cc in omega arith
-
-framed-has : (k m n : ℕ) → Has (framed k m) n → m ≡ n
-framed-has zero m n (inl e) = cc
-framed-has zero m n (inr e) = let z : _≡_ {A = ℕ} 0 1 = cc in absurd (omega arith)
-framed-has (suc k) m n (inl e) = let z : _≡_ {A = ℕ} 0 1 = cc in absurd (omega arith)
-framed-has (suc k) m n (inr e) = cc
+  pub most : n ≤ mostDigits
+  pub size : length s ≡ headDigits + n
 
 first-of-four : (a b c d : Bool) → a && b && c && d ≡ true → a ≡ true
 first-of-four true b c d e = refl
 first-of-four false b c d e = e
 
-has-good : (s : List ℕ) (n : ℕ) (b : Bool) → isFrame s ≡ b → Has (cond b (framed (kindOf s) (countOf s)) Bad) n → Good s n
-has-good s n false e w = absurd (bad-has n w)
-has-good s n true e w =
-    let p = last-two (allHex s) (ltb (kindOf s) 2) (leb (countOf s) 0x0400) (eqb (length s) (6 + countOf s)) e in
-    let m : countOf s ≡ n = framed-has (kindOf s) (countOf s) n w in
+has-good : (s : List ℕ) (k : Kind) (n : ℕ) (b : Bool) → isFrame s ≡ b → cond b (Of (kindNamed (kindOf s)) (countOf s)) Bad ≡ Of k n → Good s n
+has-good s k n false e w = let z : _≡_ {A = ℕ} 0 1 = cc in absurd (omega arith)
+has-good s k n true e w =
+    let p = last-two (allHex s) (ltb (kindOf s) 2) (leb (countOf s) mostDigits) (eqb (length s) (headDigits + countOf s)) e in
+    let m : countOf s ≡ n = cc in
     record {
-      digits = first-of-four (allHex s) (ltb (kindOf s) 2) (leb (countOf s) 0x0400) (eqb (length s) (6 + countOf s)) e;
-      most = omega (arith, leb-true (countOf s) 0x0400 (p .0));
-      size = omega (arith, eqb-true (length s) (6 + countOf s) (p .1));
+      digits = first-of-four (allHex s) (ltb (kindOf s) 2) (leb (countOf s) mostDigits) (eqb (length s) (headDigits + countOf s)) e;
+      most = omega (arith, leb-true (countOf s) mostDigits (p .0));
+      size = omega (arith, eqb-true (length s) (headDigits + countOf s) (p .1));
     }
 
-pub operations-good : (s : List ℕ) (n : ℕ) → frameOf s ≡ Operations n → Good s n
+pub frame-good : (s : List ℕ) (k : Kind) (n : ℕ) → frameOf s ≡ Of k n → Good s n
 unfolding frameOf
-operations-good s n e = has-good s n (isFrame s) refl (inl e)
-
-pub turns-good : (s : List ℕ) (n : ℕ) → frameOf s ≡ Turns n → Good s n
-unfolding frameOf
-turns-good s n e = has-good s n (isFrame s) refl (inr e)
-
-framed-zero : (k n : ℕ) → k ≡ 0 → framed k n ≡ Operations n
-framed-zero k n e = ap (λ (i : ℕ). framed i n) e
-
-framed-one : (k n : ℕ) → (k ≡ 0 → ⊥) → framed k n ≡ Turns n
-framed-one zero n f = absurd (f refl)
-framed-one (suc k) n f = refl
-
-pub frameOf-operations : (s : List ℕ) (k n : ℕ) → allHex s ≡ true → k ≡ kindOf s → n ≡ countOf s → k ≡ 0 → n ≤ 1024 → length s ≡ 6 + n → Operations n ≡ frameOf s
-frameOf-operations s k n a p q z m l =
-    ap Operations q
-    ∙ sym (framed-zero (kindOf s) (countOf s) (omega arith))
-    ∙ sym (frameOf-good s a (omega arith) (omega arith) (omega arith))
-
-pub frameOf-turns : (s : List ℕ) (k n : ℕ) → allHex s ≡ true → k ≡ kindOf s → n ≡ countOf s → (k ≡ 0 → ⊥) → k ≤ 1 → n ≤ 1024 → length s ≡ 6 + n → Turns n ≡ frameOf s
-frameOf-turns s k n a p q f o m l =
-    ap Turns q
-    ∙ sym (framed-one (kindOf s) (countOf s) (λ e. f (p ∙ e)))
-    ∙ sym (frameOf-good s a (omega arith) (omega arith) (omega arith))
+frame-good s k n e = has-good s k n (isFrame s) refl e
 
 -- the answer by the frame
-pub lineAnswer-operations : (s : List ℕ) (n : ℕ) → frameOf s ≡ Operations n → walkedLine (digitsOf s) ≡ lineAnswer s
+pub lineAnswer-by : (s : List ℕ) (f : Frame) → frameOf s ≡ f → answerOf f (digitsOf s) ≡ lineAnswer s
 unfolding lineAnswer
-lineAnswer-operations s n e = sym (ap (λ (f : Frame). answerOf f (digitsOf s)) e)
+lineAnswer-by s f e = sym (ap (λ (g : Frame). answerOf g (digitsOf s)) e)
 
-pub lineAnswer-turns : (s : List ℕ) (n : ℕ) → frameOf s ≡ Turns n → turnedLine (digitsOf s) ≡ lineAnswer s
-unfolding lineAnswer
-lineAnswer-turns s n e = sym (ap (λ (f : Frame). answerOf f (digitsOf s)) e)
-
-pub lineAnswer-bad : (s : List ℕ) → frameOf s ≡ Bad → refusedLine BadLine ≡ lineAnswer s
-unfolding lineAnswer
-lineAnswer-bad s e = sym (ap (λ (f : Frame). answerOf f (digitsOf s)) e)
-
-pub length-digitsOf : (s : List ℕ) (n : ℕ) → length s ≡ 6 + n → n ≡ length (digitsOf s)
-length-digitsOf s n e = omega (arith, length-valuesOf (drop 6 s), length-drop 6 s)
-
-answerOf-most : (s : List ℕ) (f : Frame) → frameOf s ≡ f → length (answerOf f (digitsOf s)) + 1 ≤ 8240
-answerOf-most s (Operations n) e =
-    let g = operations-good s n e in
-    walkedLine-most (digitsOf s) (omega (arith, length-digitsOf s n (g .size), g .most))
-answerOf-most s (Turns n) e =
-    let g = turns-good s n e in
-    turnedLine-most (digitsOf s) (omega (arith, length-digitsOf s n (g .size), g .most))
-answerOf-most s Bad e = omega (arith, length-refusedLine BadLine)
+pub length-digitsOf : (s : List ℕ) (n : ℕ) → length s ≡ headDigits + n → n ≡ length (digitsOf s)
+length-digitsOf s n e = omega (arith, length-valuesOf (drop headDigits s), length-drop headDigits s)
 
 -- an answer, with its line feed, is not longer than the limit
-pub lineAnswer-most : (s : List ℕ) → length (lineAnswer s) + 1 ≤ 8240
+digitsAnswer-most : (k : Kind) (ds : List ℕ) → length ds ≤ mostDigits → length (digitsAnswer k ds) + 1 ≤ mostAnswer
+digitsAnswer-most Operations = walkedLine-most
+digitsAnswer-most Turns = turnedLine-most
+
+answerOf-most : (s : List ℕ) (f : Frame) → frameOf s ≡ f → length (answerOf f (digitsOf s)) + 1 ≤ mostAnswer
+answerOf-most s (Of k n) e =
+    let g = frame-good s k n e in
+    digitsAnswer-most k (digitsOf s) (omega (arith, length-digitsOf s n (g .size), g .most))
+answerOf-most s Bad e = omega (arith, length-refusedLine BadLine)
+
+pub lineAnswer-most : (s : List ℕ) → length (lineAnswer s) + 1 ≤ mostAnswer
 unfolding lineAnswer
 lineAnswer-most s = answerOf-most s (frameOf s) refl

@@ -1,36 +1,37 @@
 -- How long the answers to good frames are.
 -- Assumes nothing.
-use mathlib.Core.Path.{_≡_, refl, sym, ap, _∙_}
-use mathlib.Core.List.{List, [], _∷_, _++_}
-use Prim.Native.Nat.{ℕ, suc, _+_, _*_, _≤_}
+use mathlib.Core.Path.{_≡_, refl}
+use mathlib.Core.List.{List, [], _∷_}
+use Prim.Native.Nat.{ℕ, _+_, _*_, _≤_}
 use native.Mathlib.Omega.{arith}
 use lib.IntN.{ℤ}
 use lib.ListN.{length, length-append}
 use Rattle.answer.specs.declared.Refusal.{Refusal}
 use Rattle.answer.specs.declared.Judged.{Judged}
-use Rattle.answer.specs.declared.Judged.the-variants as judged
 use Rattle.answer.specs.declared.Facts.{Facts}
 use Rattle.answer.specs.declared.Answer.{Answer}
-use Rattle.answer.specs.declared.Answer.the-variants as walked
 use Rattle.grid.specs.declared.Corner.{Corner}
 use Rattle.grid.specs.Grid.{origin}
 use Rattle.steps.specs.Operations.{survivors}
 use Rattle.steps.specs.Turns.{stepsOf, turnsJudged}
 use Rattle.steps.proofs.SurvivorLaws.{length-survivors}
 use Rattle.steps.proofs.TurnLaws.{length-stepsOf}
-use Rattle.layout.specs.Table.{recordWords}
+use Rattle.layout.specs.Marks.{markWords}
 use Rattle.walk_call.specs.Walk.{walkAnswer}
 use Rattle.hull.specs.Call.{numbers}
 use Rattle.hull_laws.specs.Outline.{hullOf}
 use Rattle.hull_laws.proofs.HullLaws.{length-hullOf}
+use Rattle.answer.specs.declared.Judged.the-variants as judged
+use Rattle.answer.specs.declared.Answer.the-variants as walked
+use Rattle.line_frame.specs.Sizes.{mostDigits, tableWords, refusedDigits, factsDigits, mostAnswer}
 use Rattle.line_frame.specs.Hex.{hexOf}
 use Rattle.line_frame.specs.Spelled.{refusedLine, factsLine, numbersLine, hullLine, answerLine, walkedLine, turnedBy, turnedLine}
 use Rattle.line_frame.proofs.HexLaws.{length-hexOf}
 
-pub length-refusedLine : (r : Refusal) → length (refusedLine r) ≡ 10
+pub length-refusedLine : (r : Refusal) → length (refusedLine r) ≡ refusedDigits
 length-refusedLine r = simp (length-append, length-hexOf)
 
-pub length-factsLine : (f : Facts) → length (factsLine f) ≡ 34
+pub length-factsLine : (f : Facts) → length (factsLine f) ≡ factsDigits
 length-factsLine f = simp (length-append, length-hexOf)
 
 pub length-numbersLine : (zs : List ℤ) → length (numbersLine zs) ≡ 4 * length zs
@@ -46,23 +47,23 @@ pub length-hullLine : (cs : List Corner) → length (hullLine cs) ≡ 4 + 8 * le
 length-hullLine cs =
     omega (arith, length-append (hexOf 4 (length cs)) (numbersLine (numbers cs)), length-hexOf 4 (length cs), length-numbersLine (numbers cs), length-numbers cs)
 
--- an accepted frame gives 38 digits, and 8 for each hull corner
-pub length-accepted : (f : Facts) (w : List ℕ) → length (answerLine (walked.Accepted f) w) ≡ 38 + 8 * length (hullOf origin w)
+-- an accepted frame gives the digits of the facts, 4 for the count, and 8 for each hull corner
+pub length-accepted : (f : Facts) (w : List ℕ) → length (answerLine (walked.Accepted f) w) ≡ factsDigits + 4 + 8 * length (hullOf origin w)
 length-accepted f w = omega (arith, length-append (factsLine f) (hullLine (hullOf origin w)), length-factsLine f, length-hullLine (hullOf origin w))
 
-answerLine-most : (a : Answer) (w : List ℕ) → length w ≤ 1024 → length (answerLine a w) + 1 ≤ 8240
+answerLine-most : (a : Answer) (w : List ℕ) → length w ≤ mostDigits → length (answerLine a w) + 1 ≤ mostAnswer
 answerLine-most (walked.Accepted f) w h = omega (arith, length-accepted f w, length-hullOf origin w)
 answerLine-most (walked.Refused r) w h = omega (arith, length-refusedLine r)
 
-pub walkedLine-most : (os : List ℕ) → length os ≤ 1024 → length (walkedLine os) + 1 ≤ 8240
+pub walkedLine-most : (os : List ℕ) → length os ≤ mostDigits → length (walkedLine os) + 1 ≤ mostAnswer
 unfolding walkedLine
 walkedLine-most os h =
-    answerLine-most (walkAnswer origin os (recordWords 1 * 390) (2 * length os) (length os)) (survivors os) (omega (arith, length-survivors [] os))
+    answerLine-most (walkAnswer origin os tableWords (markWords * length os) (length os)) (survivors os) (omega (arith, length-survivors [] os))
 
-turnedBy-most : (j : Judged) (ts : List ℕ) → length ts ≤ 1024 → length (turnedBy j ts) + 1 ≤ 8240
+turnedBy-most : (j : Judged) (ts : List ℕ) → length ts ≤ mostDigits → length (turnedBy j ts) + 1 ≤ mostAnswer
 turnedBy-most judged.Good ts h = walkedLine-most (stepsOf ts) (omega (arith, length-stepsOf ts))
 turnedBy-most (judged.Refused r) ts h = omega (arith, length-refusedLine r)
 
-pub turnedLine-most : (ts : List ℕ) → length ts ≤ 1024 → length (turnedLine ts) + 1 ≤ 8240
+pub turnedLine-most : (ts : List ℕ) → length ts ≤ mostDigits → length (turnedLine ts) + 1 ≤ mostAnswer
 unfolding turnedLine
 turnedLine-most ts h = turnedBy-most (turnsJudged ts (length ts)) ts h

@@ -1,5 +1,5 @@
 -- Hexadecimal, in lower case (01, "The line program"). Assumes nothing.
-use Rattle.lists.specs.Lists.{Bool, true, cond, _&&_, _||_, List, [], _∷_, _++_, ℕ, zero, suc, _+_, _-_, _*_, _/_, _%_, _^_, ltb, leb, ℤ, pos, negsuc}
+use Rattle.lists.specs.Lists.{Bool, true, cond, _&&_, _||_, List, [], _∷_, _++_, getD, ℕ, zero, suc, _+_, _-_, _*_, _/_, _%_, _^_, ltb, leb, ℤ, pos, negsuc}
 
 -- the byte is 0 to 9 or a to f
 abbrev pub isHex : ℕ → Bool
@@ -23,6 +23,10 @@ valuesOf (b ∷ s) = valueOf b ∷ valuesOf s
 unfoldable pub numberFrom : ℕ → List ℕ → ℕ
 numberFrom v [] = v
 numberFrom v (b ∷ s) = numberFrom (v * 16 + valueOf b) s
+
+-- the number that the digits at place i and after it spell
+abbrev pub pairAt : List ℕ → ℕ → ℕ
+pairAt s i = valueOf (getD s i 0) * 16 + valueOf (getD s (i + 1) 0)
 
 -- the digit that is worth d
 abbrev pub letterOf : ℕ → ℕ

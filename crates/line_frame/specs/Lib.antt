@@ -1,4 +1,5 @@
 -- The definitions of the line program.
+pub mod Sizes
 pub mod Hex
 pub mod Spelled
 pub mod Line

@@ -4,11 +4,11 @@ use Rattle.answer.specs.declared.{Refusal.Refusal, Judged.Judged, Judged.the-va
 use Rattle.answer.specs.Refusal.{refusalNumber, refusalPlace, verdictNumber}
 use Rattle.grid.specs.{declared.Corner.Corner, Grid.origin}
 use Rattle.steps.specs.{Operations.survivors, Turns.turnsJudged, Turns.stepsOf}
-use Rattle.layout.specs.Table.{recordWords}
+use Rattle.layout.specs.Marks.{markWords}
 use Rattle.walk_call.specs.Walk.{walkAnswer}
 use Rattle.hull.specs.Call.{numbers}
 use Rattle.hull_laws.specs.Outline.{hullOf}
-use Rattle.line_frame.specs.Hex.{hexOf, bitsOf}
+use Rattle.line_frame.specs.{Sizes.tableWords, Hex.hexOf, Hex.bitsOf}
 
 -- refused: hexadecimal 80 plus the number, then the place in 8 digits
 abbrev pub refusedLine : Refusal → List ℕ
@@ -39,9 +39,9 @@ abbrev pub answerLine : Answer → List ℕ → List ℕ
 answerLine (Answer.Accepted f) w = factsLine f ++ hullLine (hullOf origin w)
 answerLine (Answer.Refused r) w = refusedLine r
 
--- operations are walked in a table of 390 records, with marks and a chain of the lengths that the walk asks for
+-- operations are walked in the program's table, with marks and a chain of the lengths that the walk asks for
 unfoldable pub walkedLine : List ℕ → List ℕ
-walkedLine os = answerLine (walkAnswer origin os (recordWords 1 * 390) (2 * length os) (length os)) (survivors os)
+walkedLine os = answerLine (walkAnswer origin os tableWords (markWords * length os) (length os)) (survivors os)
 
 -- turns that may be converted are walked as steps
 abbrev pub turnedBy : Judged → List ℕ → List ℕ

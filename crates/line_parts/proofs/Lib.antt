@@ -1,2 +1,2 @@
--- The laws that the proofs of spelling cite.
-pub mod SpelledSteps
+-- The laws that the proofs of line_parts cite.
+pub mod WroteLaws

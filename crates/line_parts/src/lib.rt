@@ -2,23 +2,24 @@
 use answer::Facts;
 use answer::Refusal;
 use line_fields::hex::is_hex;
-use line_fields::hex::pair;
 use line_fields::hex::spell;
 use line_fields::hex::spell_signed;
 use line_fields::hex::value;
 use line_frame::Frame;
+use line_frame::Kind;
 ghost use mathlib.Core.Path.{_≡_};
 ghost use mathlib.Core.Bool.{true};
-ghost use Prim.Native.Nat.{_+_, _<_, _≤_, _*_};
-ghost use lib.ListN.{length, take};
-ghost use Rattle.line_frame.specs.Hex.{allHex, hexOf};
-ghost use Rattle.line_frame.specs.Line.{kindOf, countOf, frameOf, digitsOf};
-ghost use Rattle.line_fields.specs.Put.{put, Wrote};
 ghost use mathlib.Core.List.{_++_};
+ghost use Prim.Native.Nat.{_+_, _*_, _<_, _≤_};
+ghost use lib.ListN.{length, take};
+ghost use Rattle.line_frame.specs.Sizes.{headDigits, refusedDigits, factsDigits};
+ghost use Rattle.line_frame.specs.Hex.{allHex, pairAt, hexOf};
+ghost use Rattle.line_frame.specs.Line.{kindOf, countOf, kindNamed, frameOf, digitsOf};
 ghost use Rattle.line_frame.specs.Spelled.{refusedLine, factsLine, numbersLine};
+ghost use Rattle.line_fields.specs.Put.{put, Wrote};
 
 // Whether every byte is a digit.
-pub fn all_hex(s: &[u8]) -> bool
+fn all_hex(s: &[u8]) -> bool
     ensures { λ r. ⌜ r ≡ allHex (now (s .entry)) ⌝ }
 {
     let mut i = 0;
@@ -31,29 +32,45 @@ pub fn all_hex(s: &[u8]) -> bool
     true
 }
 
+// The number that the digits at i and after it spell.
+fn pair(s: &[u8], i: usize) -> usize
+    requires { ⌜ (allHex (now s) ≡ true) × (i + 1 < length (now s)) ⌝ }
+    ensures { λ r. ⌜ (r ≡ pairAt (now (s .entry)) i) × (r < 256) ⌝ }
+{
+    (value(s[i]) as usize) * 16 + (value(s[i + 1]) as usize)
+}
+
 // The number that the first two digits spell.
 fn kind(s: &[u8]) -> usize
-    requires { ⌜ allHex (now s) ≡ true ⌝ }
-    requires { ⌜ 6 ≤ length (now s) ⌝ }
+    requires { ⌜ (allHex (now s) ≡ true) × (headDigits ≤ length (now s)) ⌝ }
     ensures { λ r. ⌜ r ≡ kindOf (now (s .entry)) ⌝ }
 {
-    pair(s[0], s[1])
+    pair(s, 0)
 }
 
 // The number that the four digits after them spell.
 fn count(s: &[u8]) -> usize
-    requires { ⌜ allHex (now s) ≡ true ⌝ }
-    requires { ⌜ 6 ≤ length (now s) ⌝ }
+    requires { ⌜ (allHex (now s) ≡ true) × (headDigits ≤ length (now s)) ⌝ }
     ensures { λ r. ⌜ r ≡ countOf (now (s .entry)) ⌝ }
 {
-    pair(s[2], s[3]) * 256 + pair(s[4], s[5])
+    pair(s, 2) * 256 + pair(s, 4)
+}
+
+// The kind with this number, which is 0 or 1.
+fn named(k: usize) -> Kind
+    ensures { λ r. ⌜ r ≡ kindNamed k ⌝ }
+{
+    if k == 0 {
+        return Kind::Operations;
+    }
+    Kind::Turns
 }
 
 // The frame that the line is, or Bad.
 pub fn read(s: &[u8]) -> Frame
     ensures { λ r. ⌜ r ≡ frameOf (now (s .entry)) ⌝ }
 {
-    if s.len() < 6 {
+    if s.len() < Frame::HEAD {
         return Frame::Bad;
     }
     if !all_hex(s) {
@@ -64,28 +81,25 @@ pub fn read(s: &[u8]) -> Frame
         return Frame::Bad;
     }
     let n = count(s);
-    if 1024 < n {
+    if Frame::MOST_DIGITS < n {
         return Frame::Bad;
     }
-    if s.len() != 6 + n {
+    if s.len() != Frame::HEAD + n {
         return Frame::Bad;
     }
-    if k == 0 {
-        return Frame::Operations(n);
-    }
-    Frame::Turns(n)
+    Frame::Of(named(k), n)
 }
 
-// Writes the values of the digits after the first six to the start of the buffer.
+// Writes the values of the frame's digits to the start of the buffer.
 pub fn copy_digits(s: &[u8], buf: &mut [u8])
     requires { ⌜ allHex (now s) ≡ true ⌝ }
-    requires { ⌜ (6 ≤ length (now s)) × (length (now s) ≤ 6 + length (now buf)) ⌝ }
+    requires { ⌜ (headDigits ≤ length (now s)) × (length (now s) ≤ headDigits + length (now buf)) ⌝ }
     ensures { λ _. ⌜ now (buf .exit) ≡ put (digitsOf (now (s .entry))) 0 (now (buf .entry)) ⌝ }
 {
-    let n = s.len() - 6;
+    let n = s.len() - Frame::HEAD;
     let mut i = 0;
     while i < n {
-        buf[i] = value(s[6 + i]);
+        buf[i] = value(s[Frame::HEAD + i]);
         i += 1;
     }
 }
@@ -101,17 +115,17 @@ fn spell_two(out: &mut [u8], at: usize, v: usize, n: usize, w: usize, m: usize) 
 
 // Writes the line of a refusal, without its line feed.
 pub fn spell_refusal(out: &mut [u8], at: usize, r: Refusal) -> usize
-    requires { ⌜ at + 10 ≤ length (now out) ⌝ }
+    requires { ⌜ at + refusedDigits ≤ length (now out) ⌝ }
     ensures { λ e. ⌜ Wrote (refusedLine r) at (now (out .entry)) e (now (out .exit)) ⌝ }
 {
     let number = answer::refusal_number(r);
     let place = answer::refusal_place(r);
-    spell_two(out, at, 128 + number, 2, place, 8)
+    spell_two(out, at, 0x80 + number, 2, place, 8)
 }
 
 // Writes the facts of an accepted walk.
 pub fn spell_facts(out: &mut [u8], at: usize, f: Facts) -> usize
-    requires { ⌜ at + 34 ≤ length (now out) ⌝ }
+    requires { ⌜ at + factsDigits ≤ length (now out) ⌝ }
     ensures { λ e. ⌜ Wrote (factsLine f) at (now (out .entry)) e (now (out .exit)) ⌝ }
 {
     let verdict = f.verdict;

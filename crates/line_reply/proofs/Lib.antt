@@ -1,3 +1,3 @@
--- The laws that the proofs of reply cite.
-pub mod HullSteps
-pub mod ReplySteps
+-- The laws that the proofs of line_reply cite.
+pub mod ListedLaws
+pub mod ReplyLaws

@@ -6,50 +6,59 @@ use answer::Judged;
 use answer::Refusal;
 use line_fields::hex::spell;
 use line_frame::Frame;
+use line_frame::Kind;
 use line_parts::copy_digits;
 use line_parts::read;
 use line_parts::spell_facts;
 use line_parts::spell_numbers;
 use line_parts::spell_refusal;
+use walk_step::Walk;
+use walk_table::Record;
 ghost use mathlib.Core.Path.{_≡_};
 ghost use mathlib.Core.Bool.{true};
 ghost use mathlib.Core.List.{_++_, _∷_, []};
-ghost use Prim.Native.Nat.{_+_, _<_, _≤_};
-ghost use lib.ListN.{length, take};
+ghost use Prim.Native.Nat.{_+_, _≤_};
+ghost use lib.ListN.{length};
 ghost use Rattle.lists.specs.Lists.{Below};
 ghost use Rattle.grid.specs.Grid.{origin};
 ghost use Rattle.hull_laws.specs.Outline.{hullOf};
+ghost use Rattle.line_frame.specs.Sizes.{headDigits, mostDigits, hullNumbers, mostAnswer};
 ghost use Rattle.line_frame.specs.Hex.{allHex};
 ghost use Rattle.line_frame.specs.Spelled.{factsLine, hullLine, walkedLine, turnedLine};
-ghost use Rattle.line_frame.specs.Line.{digitsOf, lineAnswer};
-ghost use Rattle.line_stream.specs.Feed.{mostAnswer};
+ghost use Rattle.line_frame.specs.Line.{digitsOf, digitsAnswer, lineAnswer};
 ghost use Rattle.line_fields.specs.Put.{Wrote};
-ghost use Rattle.line_reply.specs.Reply.{Lent, Listed, answeredBy, LineIs};
+ghost use Rattle.line_reply.specs.Reply.{Lent, LentExactly, Listed, LineIs};
 
 // The buffers in which lines are judged.
 pub struct Desk;
 
 impl Desk {
-    // operations or turns of a frame at most
-    pub const DIGITS: usize = 1024;
+    // records of the table
+    pub const RECORDS: usize = 390;
 
-    // words of the table: 390 records
-    pub const TABLE: usize = 8190;
+    // its words
+    pub const TABLE: usize = Desk::RECORDS * Record::WORDS;
 
-    // words of the marks: two an operation
-    pub const MARKS: usize = 2048;
+    // words of the marks
+    pub const MARKS: usize = Walk::MARK_WORDS * Frame::MOST_DIGITS;
 
-    // numbers of the hull: two for each of 1,025 corners
-    pub const HULL: usize = 2050;
+    // hull corners at most, one more than the steps
+    pub const CORNERS: usize = Frame::MOST_DIGITS + 1;
 
-    // the bytes that no answer line exceeds, its line feed among them
-    pub const MOST_ANSWER: usize = 8240;
+    // the numbers that list them
+    pub const HULL: usize = 2 * Desk::CORNERS;
+
+    // bytes that are kept of a line begun: those of the longest frame, and one by which a longer line is known
+    pub const LINE: usize = Frame::HEAD + Frame::MOST_DIGITS + 1;
+
+    // bytes that no answer line exceeds: 34 digits of facts, 4 of the hull count, 8 for each hull corner, the line feed, and one to spare
+    pub const MOST_ANSWER: usize = 40 + 8 * Desk::CORNERS;
 }
 
 // Lists the hull of the steps at the start of the buffer, which has room for it. Answers how many corners it has.
 fn list_hull(steps: &[u8], hull: &mut [i32]) -> usize
-    requires { ⌜ Below 4 (now steps) × (length (now steps) ≤ 1024) ⌝ }
-    requires { ⌜ length (now hull) ≡ 2050 ⌝ }
+    requires { ⌜ Below 4 (now steps) × (length (now steps) ≤ mostDigits) ⌝ }
+    requires { ⌜ length (now hull) ≡ hullNumbers ⌝ }
     ensures { λ n. ⌜ Listed (hullOf origin (now (steps .entry))) n (now (hull .exit)) ⌝ }
 {
     match hull_scan::list(steps, hull) {
@@ -60,8 +69,8 @@ fn list_hull(steps: &[u8], hull: &mut [i32]) -> usize
 
 // Writes the facts of an accepted walk and the hull of its surviving steps.
 fn write_accepted(f: Facts, steps: &[u8], hull: &mut [i32], out: &mut [u8], at: usize) -> usize
-    requires { ⌜ Below 4 (now steps) × (length (now steps) ≤ 1024) ⌝ }
-    requires { ⌜ length (now hull) ≡ 2050 ⌝ }
+    requires { ⌜ Below 4 (now steps) × (length (now steps) ≤ mostDigits) ⌝ }
+    requires { ⌜ length (now hull) ≡ hullNumbers ⌝ }
     requires { ⌜ at + mostAnswer ≤ length (now out) ⌝ }
     ensures { λ e. ⌜ Wrote (factsLine f ++ hullLine (hullOf origin (now (steps .entry)))) at (now (out .entry)) e (now (out .exit)) ⌝ }
 {
@@ -69,6 +78,30 @@ fn write_accepted(f: Facts, steps: &[u8], hull: &mut [i32], out: &mut [u8], at: 
     let a = spell_facts(out, at, f);
     let b = spell(out, a, n, 4);
     spell_numbers(out, b, hull, 2 * n)
+}
+
+// Walks the operations in the lent table, marks and chain, and writes the answer.
+fn answer_walk(
+    ops: &[u8],
+    table: &mut [u32],
+    marks: &mut [u32],
+    chain: &mut [u8],
+    hull: &mut [i32],
+    out: &mut [u8],
+    at: usize,
+) -> usize
+    requires { ⌜ length (now ops) ≤ mostDigits ⌝ }
+    requires { ⌜ LentExactly (now ops) (now table) (now marks) (now chain) (now hull) ⌝ }
+    requires { ⌜ at + mostAnswer ≤ length (now out) ⌝ }
+    ensures { λ e. ⌜ Wrote (walkedLine (now (ops .entry))) at (now (out .entry)) e (now (out .exit)) ⌝ }
+{
+    match walk::follow(ops, table, marks, chain) {
+        Answer::Accepted(f) => {
+            let steps = f.steps;
+            write_accepted(f, &chain[..steps], hull, out, at)
+        }
+        Answer::Refused(r) => spell_refusal(out, at, r),
+    }
 }
 
 // Walks the operations and writes the answer.
@@ -80,20 +113,42 @@ fn answer_operations(
     out: &mut [u8],
     at: usize,
 ) -> usize
-    requires { ⌜ length (now ops) ≤ 1024 ⌝ }
+    requires { ⌜ length (now ops) ≤ mostDigits ⌝ }
     requires { ⌜ Lent (now table) (now marks) (now hull) ⌝ }
     requires { ⌜ at + mostAnswer ≤ length (now out) ⌝ }
     ensures { λ e. ⌜ Wrote (walkedLine (now (ops .entry))) at (now (out .entry)) e (now (out .exit)) ⌝ }
 {
     let n = ops.len();
-    let mut chain = [0u8; 1024];
-    let answer = walk::follow(ops, table, &mut marks[..2 * n], &mut chain[..n]);
-    match answer {
-        Answer::Accepted(f) => {
-            let steps = f.steps;
-            write_accepted(f, &chain[..steps], hull, out, at)
-        }
-        Answer::Refused(r) => spell_refusal(out, at, r),
+    let mut chain = [0u8; Frame::MOST_DIGITS];
+    answer_walk(
+        ops,
+        table,
+        &mut marks[..Walk::MARK_WORDS * n],
+        &mut chain[..n],
+        hull,
+        out,
+        at,
+    )
+}
+
+// Turns the turns into the steps of the lent buffer, walks these and writes the answer.
+fn answer_converted(
+    turns: &[u8],
+    steps: &mut [u8],
+    table: &mut [u32],
+    marks: &mut [u32],
+    hull: &mut [i32],
+    out: &mut [u8],
+    at: usize,
+) -> usize
+    requires { ⌜ (length (now turns) ≤ mostDigits) × (length (now steps) ≡ length (now turns)) ⌝ }
+    requires { ⌜ Lent (now table) (now marks) (now hull) ⌝ }
+    requires { ⌜ at + mostAnswer ≤ length (now out) ⌝ }
+    ensures { λ e. ⌜ Wrote (turnedLine (now (turns .entry))) at (now (out .entry)) e (now (out .exit)) ⌝ }
+{
+    match turns::steps_of(turns, steps) {
+        Judged::Good => answer_operations(steps, table, marks, hull, out, at),
+        Judged::Refused(r) => spell_refusal(out, at, r),
     }
 }
 
@@ -106,25 +161,42 @@ fn answer_turns(
     out: &mut [u8],
     at: usize,
 ) -> usize
-    requires { ⌜ length (now turns) ≤ 1024 ⌝ }
+    requires { ⌜ length (now turns) ≤ mostDigits ⌝ }
     requires { ⌜ Lent (now table) (now marks) (now hull) ⌝ }
     requires { ⌜ at + mostAnswer ≤ length (now out) ⌝ }
     ensures { λ e. ⌜ Wrote (turnedLine (now (turns .entry))) at (now (out .entry)) e (now (out .exit)) ⌝ }
 {
     let n = turns.len();
-    let mut steps = [0u8; 1024];
-    let judged = turns::steps_of(turns, &mut steps[..n]);
-    match judged {
-        Judged::Good => answer_operations(&steps[..n], table, marks, hull, out, at),
-        Judged::Refused(r) => spell_refusal(out, at, r),
+    let mut steps = [0u8; Frame::MOST_DIGITS];
+    answer_converted(turns, &mut steps[..n], table, marks, hull, out, at)
+}
+
+// Writes the answer to the digits of a frame of this kind.
+fn answer_digits(
+    kind: Kind,
+    digits: &[u8],
+    table: &mut [u32],
+    marks: &mut [u32],
+    hull: &mut [i32],
+    out: &mut [u8],
+    at: usize,
+) -> usize
+    requires { ⌜ length (now digits) ≤ mostDigits ⌝ }
+    requires { ⌜ Lent (now table) (now marks) (now hull) ⌝ }
+    requires { ⌜ at + mostAnswer ≤ length (now out) ⌝ }
+    ensures { λ e. ⌜ Wrote (digitsAnswer kind (now (digits .entry))) at (now (out .entry)) e (now (out .exit)) ⌝ }
+{
+    match kind {
+        Kind::Operations => answer_operations(digits, table, marks, hull, out, at),
+        Kind::Turns => answer_turns(digits, table, marks, hull, out, at),
     }
 }
 
-// Writes the answer to a frame of n digits: turns or operations.
+// Writes the answer to a frame of this kind with n digits.
 fn answer_frame(
     s: &[u8],
+    kind: Kind,
     n: usize,
-    turned: bool,
     table: &mut [u32],
     marks: &mut [u32],
     hull: &mut [i32],
@@ -132,21 +204,18 @@ fn answer_frame(
     at: usize,
 ) -> usize
     requires { ⌜ allHex (now s) ≡ true ⌝ }
-    requires { ⌜ (n ≤ 1024) × (length (now s) ≡ 6 + n) ⌝ }
+    requires { ⌜ (n ≤ mostDigits) × (length (now s) ≡ headDigits + n) ⌝ }
     requires { ⌜ Lent (now table) (now marks) (now hull) ⌝ }
     requires { ⌜ at + mostAnswer ≤ length (now out) ⌝ }
-    ensures { λ e. ⌜ Wrote (answeredBy turned (digitsOf (now (s .entry)))) at (now (out .entry)) e (now (out .exit)) ⌝ }
+    ensures { λ e. ⌜ Wrote (digitsAnswer kind (digitsOf (now (s .entry)))) at (now (out .entry)) e (now (out .exit)) ⌝ }
 {
-    let mut digits = [0u8; 1024];
+    let mut digits = [0u8; Frame::MOST_DIGITS];
     copy_digits(s, &mut digits);
-    if turned {
-        return answer_turns(&digits[..n], table, marks, hull, out, at);
-    }
-    answer_operations(&digits[..n], table, marks, hull, out, at)
+    answer_digits(kind, &digits[..n], table, marks, hull, out, at)
 }
 
 // Writes the answer to the line s from the place at on, without its line feed. Answers the place after it.
-pub fn answer_line(
+fn answer_line(
     s: &[u8],
     table: &mut [u32],
     marks: &mut [u32],
@@ -158,10 +227,8 @@ pub fn answer_line(
     requires { ⌜ at + mostAnswer ≤ length (now out) ⌝ }
     ensures { λ e. ⌜ Wrote (lineAnswer (now (s .entry))) at (now (out .entry)) e (now (out .exit)) ⌝ }
 {
-    let f = read(s);
-    match f {
-        Frame::Operations(n) => answer_frame(s, n, false, table, marks, hull, out, at),
-        Frame::Turns(n) => answer_frame(s, n, true, table, marks, hull, out, at),
+    match read(s) {
+        Frame::Of(kind, n) => answer_frame(s, kind, n, table, marks, hull, out, at),
         Frame::Bad => spell_refusal(out, at, Refusal::BadLine),
     }
 }
@@ -192,8 +259,8 @@ pub fn reply(line: &[u8], out: &mut [u8]) -> usize
     if out.len() < Desk::MOST_ANSWER {
         return 0;
     }
-    let mut table = [0u32; 8190];
-    let mut marks = [0u32; 2048];
-    let mut hull = [0i32; 2050];
+    let mut table = [0u32; Desk::TABLE];
+    let mut marks = [0u32; Desk::MARKS];
+    let mut hull = [0i32; Desk::HULL];
     answer_line(line, &mut table, &mut marks, &mut hull, out, 0)
 }

@@ -6,7 +6,7 @@ use Prim.Native.Nat.{ℕ, _<_, _≤_}
 use lib.ListN.{length}
 use Rattle.line_frame.specs.Line.{lineAnswer}
 use Rattle.line_frame.specs.Program.{owedOf, program}
-use Rattle.line_stream.specs.Feed.{lineLength, Fed, Run, ended, fed, joined}
+use Rattle.line_stream.specs.Feed.{lineLength, Run, ended, fed, joined}
 use Rattle.line_stream.proofs.FeedLaws.{owedOf-held, owedOf-feed, endOf-nil, endOf-line}
 
 pub run-owed : {h o : List ℕ} {ss : List (List ℕ)} → Run h ss o → o ≡ owedOf h (joined ss)

@@ -3,17 +3,17 @@
 use mathlib.Core.Path.{_≡_, refl, sym, ap, _∙_}
 use mathlib.Core.Bool.{Bool, true, false, cond}
 use mathlib.Core.List.{List, [], _∷_, _++_, append-assoc, append-nil}
-use Prim.Native.Nat.{ℕ, zero, suc, _+_, _<_, _≤_}
+use Prim.Native.Nat.{ℕ, zero, suc, _<_, _≤_}
 use native.Mathlib.Omega.{arith}
-use lib.ListN.{length, take, drop, length-append}
-use lib.Seq.{drop-length, take-length, length-take-le, take-all}
-use lib.Dec.{eqb, ltb}
-use borrow.Author.Tests.{ltb-true, ltb-false}
 use native.Mathlib.Decide.{decLe}
+use borrow.Author.Tests.{ltb-true, ltb-false}
+use lib.ListN.{length, take, length-append}
+use lib.Seq.{take-length, length-take-le, take-all}
+use lib.Dec.{eqb}
 use Rattle.line_frame.specs.Line.{lineAnswer}
-use Rattle.line_frame.specs.Program.{linesFrom, lastLine, answersOf, owedOf, program}
-use Rattle.line_stream.specs.Feed.{mostLine, mostAnswer, lineLength, hasFeed, keptOf, passedOf, toldOf, heldOf, endOf, Fed, Run, ended, fed, joined}
+use Rattle.line_frame.specs.Program.{linesFrom, answersOf, owedOf}
 use Rattle.line_frame.proofs.LineLaws.{lineAnswer-long, lineAnswer-most}
+use Rattle.line_stream.specs.Feed.{mostLine, mostAnswer, lineLength, hasFeed, keptOf, passedOf, toldOf, heldOf, endOf, Fed}
 use Rattle.line_stream.proofs.FeedCases as cases
 
 -- a line feed ends the line

@@ -1,14 +1,7 @@
 -- Input that comes in parts: how far one call goes, what it writes and what it keeps of a line begun. Assumes nothing.
 use Rattle.lists.specs.Lists.{_≡_, Bool, true, false, cond, List, [], _∷_, _++_, length, take, ℕ, suc, eqb, ltb}
 use Rattle.line_frame.specs.{Line.lineAnswer, Program.owedOf}
-
--- no frame is longer: two digits, four, and 1,024
-abbrev pub mostLine : ℕ
-mostLine = 1030
-
--- no answer is longer, its line feed with it
-abbrev pub mostAnswer : ℕ
-mostAnswer = 8240
+pub use Rattle.line_frame.specs.Sizes.{mostLine, mostHeld, mostAnswer}
 
 -- how many bytes stand before the first line feed
 unfoldable pub lineLength : List ℕ → ℕ
@@ -21,7 +14,7 @@ hasFeed s = ltb (lineLength s) (length s)
 
 -- as many bytes as a line has at most, and one, by which a longer line is known
 abbrev pub keptOf : List ℕ → List ℕ
-keptOf h = take (suc mostLine) h
+keptOf h = take mostHeld h
 
 -- the bytes that one call passes: a line with its line feed, or all
 abbrev pub passedOf : List ℕ → ℕ

@@ -1,16 +1,15 @@
-use borrow.Author.Tests.{not-true, not-false}
-use Rattle.line_fields.proofs.DigitLaws.{allHex-stop, allHex-next, allHex-all}
-use borrow.Author.Needs.{needs}
-use Rattle.line_frame.specs.Hex.{allHex}
-use lib.ListN.{length, take, drop, getD, set, length-set}
+-- `line_parts::all_hex` meets its contract: the bytes before place i are digits, so all are if the rest are.
+-- Assumes nothing.
+use mathlib.Core.Path.{_≡_}
+use Prim.Native.Nat.{_≤_, _-_}
 use native.Mathlib.Omega.{arith}
-use mathlib.Core.Path.{_≡_, refl, sym, ap, _∙_}
-use Prim.Native.Nat.{ℕ, zero, suc, _≤_, _<_, _+_, _-_, _/_, _%_}
+use borrow.Author.Tests.{not-true, not-false}
+use borrow.Author.Needs.{needs}
+use lib.ListN.{length, drop}
+use Rattle.line_fields.proofs.DigitLaws.{allHex-stop, allHex-next, allHex-all}
+use Rattle.line_frame.specs.Hex.{allHex}
 use Rattle.line_parts.proofs.all_hex.Statement.{statement}
 use Rattle.line_parts.proofs.all_hex.Tie as tie
-use Rattle.line_parts.proofs.all_hex.Reads as reads
-use Rattle.line_parts.proofs.all_hex.Lts as lts
-use Rattle.line_fields.proofs.hex.is_hex.Reads as is-hex-reads
 
 abbrev Inv-loop : tie.InvT-loop
 Inv-loop s i₀ i = (i ≤ length s) × (allHex (drop i s) ≡ allHex s)
@@ -18,39 +17,31 @@ Inv-loop s i₀ i = (i ≤ length s) × (allHex (drop i s) ≡ allHex s)
 abbrev μ-loop : tie.MeasureT-loop
 μ-loop s i₀ i = length s - i
 
--- src/lib.rt:19:5
 loop-holds : tie.Need-loop-holds Inv-loop μ-loop
 loop-holds c = search needs
 
--- src/lib.rt:20:20
 shared-slice-read-is-hex : tie.Need-shared-slice-read-is-hex Inv-loop μ-loop
 shared-slice-read-is-hex c = search needs
 
--- src/lib.rt:20:13
 is-hex-requires : tie.Need-is-hex-requires Inv-loop μ-loop
 is-hex-requires c κs = search needs
 
--- src/lib.rt:21:13
 returns : tie.Need-returns Inv-loop μ-loop
 returns c =
     let l = c .before .before .before .before in
     allHex-stop (l .before .before .args .s .now) (l .loop .i) (c .before .is-hex .result) (l .loop .inv .1) (omega arith) (c .before .is-hex .ensures) (not-true _ (c .if1 .taken))
 
--- src/lib.rt:23:9
 add-i : tie.Need-add-i Inv-loop μ-loop
 add-i c = search needs
 
--- src/lib.rt:19:5
 loop-less : tie.Need-loop-less Inv-loop μ-loop
 loop-less c = search needs
 
--- src/lib.rt:19:5
 loop-again : tie.Need-loop-again Inv-loop μ-loop
 loop-again c =
     let l = c .before .before .before .before in
     (search needs, allHex-next (l .before .before .args .s .now) (l .loop .i) (c .before .is-hex .result) (l .loop .inv .1) (omega arith) (c .before .is-hex .ensures) (not-false _ (c .if1 .left)))
 
--- src/lib.rt:15:1
 returns-2 : tie.Need-returns-2 Inv-loop μ-loop
 returns-2 c =
     let l = c .before in

@@ -1,21 +1,19 @@
+-- `line_parts::spell_numbers` meets its contract: the numbers before place i are written, and next is the place after them.
+-- Assumes nothing.
+use mathlib.Core.Path.{_≡_, subst}
+use Prim.Native.Nat.{ℕ, _+_, _-_, _*_, _≤_}
+use native.Mathlib.Omega.{arith}
+use borrow.Author.Needs.{needs}
 use mir.Val.{toZ, ofZ}
 use mir.Syntax.{w32}
 use mir.ValLaws.{toZ-ofZ}
-use mathlib.Core.Path.{_≡_, refl, subst}
 use lib.IntN.{pos}
-use lib.ListN.{getD}
-use Prim.Native.Nat.{ℕ, _+_, _-_, _*_, _≤_, _<_}
-use native.Mathlib.Omega.{arith}
-use lib.ListN.{length, take}
+use lib.ListN.{getD, length, take}
 use Rattle.line_frame.specs.Spelled.{numbersLine}
 use Rattle.line_fields.specs.Put.{Wrote}
-use Rattle.line_parts.proofs.SpelledSteps.{wrote-none, wrote-next, wrote-at}
-use borrow.Author.Needs.{needs}
+use Rattle.line_parts.proofs.WroteLaws.{wrote-none, wrote-next, wrote-at}
 use Rattle.line_parts.proofs.spell_numbers.Statement.{statement}
 use Rattle.line_parts.proofs.spell_numbers.Tie as tie
-use Rattle.line_parts.proofs.spell_numbers.Reads as reads
-use Rattle.line_parts.proofs.spell_numbers.Lts as lts
-use Rattle.line_fields.proofs.hex.spell_signed.Reads as spell-signed-reads
 
 abbrev Inv-loop : tie.InvT-loop
 Inv-loop out₀ at xs n i₀ next₀ out i next = (i ≤ n) × (n ≤ length xs) × (at + 4 * n ≤ length out₀) × Wrote (numbersLine (take i xs)) at out₀ next out
@@ -23,19 +21,15 @@ Inv-loop out₀ at xs n i₀ next₀ out i next = (i ≤ n) × (n ≤ length xs)
 abbrev μ-loop : tie.MeasureT-loop
 μ-loop out₀ at xs n i₀ next₀ out i next = n - i
 
--- src/lib.rt:51:5
 loop-holds : tie.Need-loop-holds Inv-loop μ-loop
 loop-holds c = (omega arith, omega arith, omega arith, wrote-none (c .before .args .xs .now) (c .before .args .at) (c .before .args .out .now))
 
--- src/lib.rt:52:40
 mul-spell-signed : tie.Need-mul-spell-signed Inv-loop μ-loop
 mul-spell-signed c = search needs
 
--- src/lib.rt:52:40
 shared-slice-copy-out-spell-signed : tie.Need-shared-slice-copy-out-spell-signed Inv-loop μ-loop
 shared-slice-copy-out-spell-signed c = search needs
 
--- src/lib.rt:52:9
 spell-signed-requires : tie.Need-spell-signed-requires Inv-loop μ-loop
 spell-signed-requires c κs =
     let l = c .before .before .before in
@@ -43,30 +37,27 @@ spell-signed-requires c κs =
     let w = wrote-at (a .xs .now) (l .loop .i) (a .at) (omega arith) (omega arith) (l .loop .inv .3) in
     omega (arith, w .0, w .1)
 
--- src/lib.rt:53:9
 add-i : tie.Need-add-i Inv-loop μ-loop
 add-i c = search needs
 
--- src/lib.rt:51:5
 loop-less : tie.Need-loop-less Inv-loop μ-loop
 loop-less c = search needs
 
--- src/lib.rt:51:5
 loop-again : tie.Need-loop-again Inv-loop μ-loop
 loop-again c =
-    let l = c .before .before .before .before .before .before in
+    let w = c .before .before in
+    let l = w .before .before .before .before in
     let a = l .before .before .args in
     let z = getD (a .xs .now) (l .loop .i) (pos 0) in
-    (omega arith, omega arith, omega arith, wrote-next (a .xs .now) (l .loop .i) (a .at) (toZ w32 (ofZ w32 z)) (omega arith) (toZ-ofZ w32 z (record { sfits = c .before .before .before .spell-signed-arg2 .given })) (omega arith) (l .loop .inv .3) (c .before .before .spell-signed .ensures))
+    let e = toZ-ofZ w32 z (record { sfits = w .before .spell-signed-arg2 .given }) in
+    (omega arith, omega arith, omega arith, wrote-next (a .xs .now) (l .loop .i) (a .at) (toZ w32 (ofZ w32 z)) (omega arith) e (omega arith) (l .loop .inv .3) (w .spell-signed .ensures))
 
--- src/lib.rt:45:1
 same-length : tie.Need-same-length Inv-loop μ-loop
 same-length c =
     let l = c .before in
     let a = l .before .before .args in
     wrote-at (a .xs .now) (l .loop .i) (a .at) (omega arith) (omega arith) (l .loop .inv .3) .1
 
--- src/lib.rt:45:1
 returns : tie.Need-returns Inv-loop μ-loop
 returns c =
     let l = c .before in

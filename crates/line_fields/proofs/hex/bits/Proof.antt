@@ -2,34 +2,25 @@ use native.Mathlib.Omega.{arith}
 use Rattle.line_fields.proofs.BitsLaws.{add-fits, sub-fits, cast-fits, cast-small, bits-below, cast-above, bits-above}
 use Rattle.line_fields.proofs.hex.bits.Statement.{statement}
 use Rattle.line_fields.proofs.hex.bits.Tie as tie
-use Rattle.line_fields.proofs.hex.bits.Reads as reads
-use Rattle.line_fields.proofs.hex.bits.Lts as lts
 
--- src/hex.rt:80:19
 add-m : tie.Need-add-m
 add-m c = add-fits (c .before .args .x) (c .before .fits .x) (c .if1 .taken)
 
--- src/hex.rt:80:17
 sub-m : tie.Need-sub-m
 sub-m c = sub-fits (c .before .args .x) (c .before .fits .x) (c .if1 .taken)
 
--- src/hex.rt:81:30
 cast-result : tie.Need-cast-result
 cast-result c = cast-fits (c .before .args .x) (c .before .fits .x) (c .if1 .taken)
 
--- src/hex.rt:81:16
 sub-result : tie.Need-sub-result
 sub-result c = omega (arith, cast-small (c .before .args .x) (c .before .fits .x) (c .if1 .taken))
 
--- src/hex.rt:81:9
 returns : tie.Need-returns
 returns c = bits-below (c .before .args .x) (c .before .fits .x) (c .if1 .taken)
 
--- src/hex.rt:83:5
 cast-result-2 : tie.Need-cast-result-2
 cast-result-2 c = cast-above (c .before .args .x) (c .before .fits .x) (c .if1 .left)
 
--- src/hex.rt:76:1
 returns-2 : tie.Need-returns-2
 returns-2 c = bits-above (c .before .args .x) (c .before .fits .x) (c .if1 .left)
 

@@ -1,27 +1,20 @@
 use native.Mathlib.Omega.{arith}
-use borrow.Author.Tests.{ltb-true, ltb-false, leb-true, leb-false, lt-ltb, le-ltb, le-leb, lt-leb}
+use borrow.Author.Tests.{le-leb, lt-leb}
 use Rattle.line_fields.proofs.hex.is_hex.Statement.{statement}
 use Rattle.line_fields.proofs.hex.is_hex.Tie as tie
-use Rattle.line_fields.proofs.hex.is_hex.Reads as reads
-use Rattle.line_fields.proofs.hex.is_hex.Lts as lts
 
--- src/hex.rt:15:9
 returns : tie.Need-returns
 returns c = simp (lt-leb 48 _ (c .if1 .taken), lt-leb 97 (c .before .args .b) (omega arith))
 
--- src/hex.rt:18:9
 returns-2 : tie.Need-returns-2
 returns-2 c = simp (le-leb 48 _ (c .before .if1 .left), le-leb _ 57 (c .if2 .taken))
 
--- src/hex.rt:21:9
 returns-3 : tie.Need-returns-3
 returns-3 c = simp (lt-leb _ 57 (c .before .if2 .left), le-leb 48 (c .before .before .before .args .b) (omega arith), lt-leb 97 _ (c .if3 .taken))
 
--- src/hex.rt:24:9
 returns-4 : tie.Need-returns-4
 returns-4 c = simp (lt-leb _ 57 (c .before .before .if2 .left), le-leb 48 (c .before .before .before .before .args .b) (omega arith), le-leb 97 _ (c .before .if3 .left), le-leb _ 102 (c .if4 .taken))
 
--- src/hex.rt:11:1
 returns-5 : tie.Need-returns-5
 returns-5 c = simp (lt-leb _ 57 (c .before .before .if2 .left), le-leb 48 (c .before .before .before .before .args .b) (omega arith), le-leb 97 _ (c .before .if3 .left), lt-leb _ 102 (c .if4 .left))
 

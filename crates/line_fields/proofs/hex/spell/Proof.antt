@@ -1,16 +1,13 @@
-use Rattle.line_fields.proofs.DigitLaws.{spell-next, spell-done}
-use borrow.Author.Needs.{needs}
-use Rattle.line_fields.specs.Put.{put}
-use Rattle.line_frame.specs.Hex.{hexOf}
-use lib.ListN.{length, take, drop, getD, set, length-set}
+use mathlib.Core.Path.{_≡_}
+use Prim.Native.Nat.{_≤_}
 use native.Mathlib.Omega.{arith}
-use mathlib.Core.Path.{_≡_, refl, sym, ap, _∙_}
-use Prim.Native.Nat.{ℕ, zero, suc, _≤_, _<_, _+_, _-_, _/_, _%_}
+use borrow.Author.Needs.{needs}
+use lib.ListN.{length, length-set}
+use Rattle.line_frame.specs.Hex.{hexOf}
+use Rattle.line_fields.specs.Put.{put}
+use Rattle.line_fields.proofs.DigitLaws.{spell-next, spell-done}
 use Rattle.line_fields.proofs.hex.spell.Statement.{statement}
 use Rattle.line_fields.proofs.hex.spell.Tie as tie
-use Rattle.line_fields.proofs.hex.spell.Reads as reads
-use Rattle.line_fields.proofs.hex.spell.Lts as lts
-use Rattle.line_fields.proofs.hex.letter.Reads as letter-reads
 
 abbrev Inv-loop : tie.InvT-loop
 Inv-loop out₀ at v n left₀ rest₀ out left rest = (left ≤ n) × (length out ≡ length out₀) × (put (hexOf left rest) at out ≡ put (hexOf n v) at out₀)
@@ -18,50 +15,39 @@ Inv-loop out₀ at v n left₀ rest₀ out left rest = (left ≤ n) × (length o
 abbrev μ-loop : tie.MeasureT-loop
 μ-loop out₀ at v n left₀ rest₀ out left rest = left
 
--- src/hex.rt:67:5
 loop-holds : tie.Need-loop-holds Inv-loop μ-loop
 loop-holds c = search needs
 
--- src/hex.rt:68:9
 sub-left : tie.Need-sub-left Inv-loop μ-loop
 sub-left c = search needs
 
--- src/hex.rt:69:33
 cast-letter : tie.Need-cast-letter Inv-loop μ-loop
 cast-letter c = search needs
 
--- src/hex.rt:69:26
 letter-requires : tie.Need-letter-requires Inv-loop μ-loop
 letter-requires c κs = search needs
 
--- src/hex.rt:69:13
 add-out : tie.Need-add-out Inv-loop μ-loop
 add-out c = search needs
 
--- src/hex.rt:69:9
 slice-write-out : tie.Need-slice-write-out Inv-loop μ-loop
 slice-write-out c = search needs
 
--- src/hex.rt:67:5
 loop-less : tie.Need-loop-less Inv-loop μ-loop
 loop-less c = search needs
 
--- src/hex.rt:67:5
 loop-again : tie.Need-loop-again Inv-loop μ-loop
 loop-again c =
     let l = c .before .before in
     let a = l .before .before .args in
     (omega arith, simp length-set (l .loop .inv .1), spell-next (l .loop .left) (l .loop .rest) (a .at) (c .letter .result) (l .loop .out) _ (omega arith) (omega arith) (c .letter .ensures) (l .loop .inv .2))
 
--- src/hex.rt:72:5
 add-result : tie.Need-add-result Inv-loop μ-loop
 add-result c = search needs
 
--- src/hex.rt:61:1
 same-length : tie.Need-same-length Inv-loop μ-loop
 same-length c = search needs
 
--- src/hex.rt:61:1
 returns : tie.Need-returns Inv-loop μ-loop
 returns c =
     let l = c .before in

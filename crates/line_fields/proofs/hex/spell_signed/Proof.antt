@@ -1,34 +1,25 @@
-use mathlib.Core.Path.{_≡_, refl, sym, ap, _∙_, subst}
+use mathlib.Core.Path.{ap, _∙_, subst}
 use Prim.Native.Nat.{ℕ}
+use borrow.Author.Needs.{needs}
 use mir.ValLaws.{toZ-ofZ}
 use mir.Syntax.{w32}
 use Rattle.line_frame.specs.Hex.{hexOf, bitsOf}
 use Rattle.line_fields.specs.Put.{Wrote}
-use borrow.Author.Needs.{needs}
 use Rattle.line_fields.proofs.hex.spell_signed.Statement.{statement}
 use Rattle.line_fields.proofs.hex.spell_signed.Tie as tie
-use Rattle.line_fields.proofs.hex.spell_signed.Reads as reads
-use Rattle.line_fields.proofs.hex.spell_signed.Lts as lts
-use Rattle.line_fields.proofs.hex.bits.Reads as bits-reads
-use Rattle.line_fields.proofs.hex.spell.Reads as spell-reads
 
--- src/hex.rt:90:20
 bits-requires : tie.Need-bits-requires
 bits-requires c κs = search needs
 
--- src/hex.rt:90:20
 cast-spell : tie.Need-cast-spell
 cast-spell c = search needs
 
--- src/hex.rt:90:5
 spell-requires : tie.Need-spell-requires
 spell-requires c κs = search needs
 
--- src/hex.rt:86:1
 same-length : tie.Need-same-length
 same-length c = search needs
 
--- src/hex.rt:86:1
 returns : tie.Need-returns
 returns c =
     let s = c .before .before .before .before .before .before in

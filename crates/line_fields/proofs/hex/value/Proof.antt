@@ -1,28 +1,22 @@
-use Rattle.line_frame.proofs.HexLaws.{isHex-range}
 use native.Mathlib.Omega.{arith}
-use borrow.Author.Tests.{ltb-true, ltb-false, leb-true, leb-false, lt-ltb, le-ltb, le-leb, lt-leb}
+use borrow.Author.Tests.{le-leb, lt-leb}
+use Rattle.line_frame.proofs.HexLaws.{isHex-range}
 use Rattle.line_fields.proofs.hex.value.Statement.{statement}
 use Rattle.line_fields.proofs.hex.value.Tie as tie
-use Rattle.line_fields.proofs.hex.value.Reads as reads
-use Rattle.line_fields.proofs.hex.value.Lts as lts
 
--- src/hex.rt:35:16
 sub-result : tie.Need-sub-result
 sub-result c = isHex-range (c .before .args .b) (c .before .pre) .0
 
--- src/hex.rt:35:9
 returns : tie.Need-returns
 returns c =
     let b = c .before .args .b in
     (simp (le-leb _ 57 (c .if1 .taken)), omega (arith, isHex-range b (c .before .pre) .0))
 
--- src/hex.rt:37:5
 sub-result-2 : tie.Need-sub-result-2
 sub-result-2 c =
     let b = c .before .args .b in
     omega (arith, isHex-range b (c .before .pre) .2 (c .if1 .left))
 
--- src/hex.rt:30:1
 returns-2 : tie.Need-returns-2
 returns-2 c =
     let b = c .before .args .b in

@@ -1,6 +1,6 @@
--- Fields, one after the other.
+-- Fields, one after the other: two, the facts, and numbers.
 -- Assumes nothing.
-use mathlib.Core.Path.{_≡_, refl, sym, ap, _∙_, subst}
+use mathlib.Core.Path.{_≡_, sym, ap, _∙_, subst}
 use mathlib.Core.List.{List, [], _∷_, _++_, append-assoc, append-nil}
 use Prim.Native.Nat.{ℕ, suc, _+_, _*_, _<_, _≤_}
 use native.Mathlib.Omega.{arith}
@@ -10,9 +10,10 @@ use lib.ListN.{length, take, getD, length-append}
 use lib.Seq.{take-suc, length-take-le}
 use Rattle.answer.specs.declared.Facts.{Facts}
 use Rattle.answer.specs.Refusal.{verdictNumber}
+use Rattle.line_frame.specs.Sizes.{factsDigits}
 use Rattle.line_frame.specs.Hex.{hexOf, bitsOf}
 use Rattle.line_frame.specs.Spelled.{factsLine, numbersLine}
-use Rattle.line_fields.specs.Put.{put, Wrote}
+use Rattle.line_fields.specs.Put.{Wrote}
 use Rattle.line_frame.proofs.HexLaws.{length-hexOf}
 use Rattle.line_frame.proofs.SpelledLaws.{length-numbersLine}
 use Rattle.line_fields.proofs.PutLaws.{wrote-append, wrote-nil, length-put}
@@ -34,7 +35,7 @@ pub wrote-facts : (f : Facts) (v at : ℕ) (z : ℤ) {i j k e : ℕ} {a b c d o 
     → Wrote (hexOf 8 (f .nodes) ++ hexOf 4 (f .corners)) i b j c
     → Wrote (hexOf 4 (f .j) ++ hexOf 4 (f .k)) j c k d
     → Wrote (hexOf 8 (bitsOf z)) k d e o
-    → at + 34 ≤ length a
+    → at + factsDigits ≤ length a
     → Wrote (factsLine f) at a e o
 wrote-facts f v at z {i} {j} {k} {e} {a} {b} {c} {d} {o} y x p q r s h =
     let p1 = subst (λ (x : ℕ). Wrote (hexOf 2 x ++ hexOf 4 (f .steps)) at a i b) y p in

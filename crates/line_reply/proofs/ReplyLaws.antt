@@ -1,37 +1,35 @@
--- One line, answered.
+-- One line, answered: the call, a walk that is accepted or refused, and turns.
 -- Assumes nothing.
-use mathlib.Core.Path.{_≡_, refl, sym, ap, ap₂, _∙_, subst}
-use mathlib.Core.Bool.{Bool, true, false, cond}
-use mathlib.Core.List.{List, [], _∷_, _++_, append-assoc}
-use Prim.Native.Nat.{ℕ, zero, suc, _+_, _-_, _*_, _<_, _≤_}
+use mathlib.Core.Path.{_≡_, refl, sym, ap, ap₂, _∙_}
+use mathlib.Core.List.{List, [], _++_}
+use Prim.Native.Nat.{ℕ, _-_, _<_, _≤_}
 use native.Mathlib.Omega.{arith}
 use borrow.Author.Tests.{le-leb, lt-leb}
-use lib.ListN.{length, take, drop, replicate, length-append}
+use lib.IntN.{ℤ}
+use lib.ListN.{length, take, replicate, length-append}
 use lib.Seq.{take-at}
 use Rattle.lists.specs.Lists.{Below}
-use Rattle.grid.specs.declared.Corner.{Corner}
 use Rattle.grid.specs.Grid.{origin}
 use Rattle.answer.specs.declared.Judged.{Judged}
-use Rattle.answer.specs.declared.Judged.the-variants as judged
 use Rattle.answer.specs.declared.Refusal.{Refusal}
 use Rattle.answer.specs.declared.Facts.{Facts}
 use Rattle.answer.specs.declared.Answer.{Answer}
-use Rattle.answer.specs.declared.Answer.the-variants as walked
 use Rattle.answer.proofs.RefusalLaws.{clear}
-use Rattle.steps.specs.Operations.{survivors, faultsFrom}
+use Rattle.steps.specs.Operations.{survivors}
 use Rattle.steps.specs.Turns.{stepsOf, turnsJudged, writtenIf, ConvertedBy}
-use Rattle.steps.proofs.TurnLaws.{length-stepsOf}
 use Rattle.steps.proofs.SurvivorLaws.{Sound, sound-survivors, length-survivors}
 use Rattle.layout.specs.Marks.{chainOf}
 use Rattle.walk_call.specs.Walk.{walkJudgements, walkJudged, factsOf, answerBy, walkAnswer, bufferBy, WalkIs}
 use Rattle.hull_laws.specs.Outline.{hullOf}
 use Rattle.line_frame.specs.Spelled.{refusedLine, factsLine, hullLine, answerLine, walkedLine, turnedBy, turnedLine}
 use Rattle.line_frame.specs.Line.{lineAnswer}
-use Rattle.line_stream.specs.Feed.{mostAnswer}
-use Rattle.line_fields.specs.Put.{put, Wrote}
-use Rattle.line_reply.specs.Reply.{LineIs}
+use Rattle.line_frame.specs.Sizes.{tableWords, mostAnswer}
+use Rattle.line_fields.specs.Put.{Wrote}
+use Rattle.answer.specs.declared.Judged.the-variants as judged
+use Rattle.answer.specs.declared.Answer.the-variants as walked
+use Rattle.line_reply.specs.Reply.{LentExactly, LineIs}
 
--- the call for one line
+-- the call for one line, where the buffer is too short, and where it is not
 pub reply-short : (s out : List ℕ) → length out < mostAnswer → LineIs s out 0 out
 reply-short s out h = record {
   answer = rw (lt-leb mostAnswer (length out) h) refl;
@@ -58,14 +56,13 @@ pub record Accepted (os ch : List ℕ) (f : Facts) : Type 0 where
   pub chain : take (f .steps) ch ≡ survivors os
   pub within : f .steps ≤ length ch
 
-module _ {os t ms ch : List ℕ} {r : Answer} {t′ ms′ ch′ : List ℕ} (w : WalkIs origin os t ms ch r t′ ms′ ch′)
-    (lt : length t ≡ 8190) (lm : length ms ≡ 2 * length os) (lc : length ch ≡ length os) where
+module _ {os t ms ch : List ℕ} {h : List ℤ} {r : Answer} {t′ ms′ ch′ : List ℕ} (l : LentExactly os t ms ch h) (w : WalkIs origin os t ms ch r t′ ms′ ch′) where
   line-is : answerLine r (survivors os) ≡ walkedLine os
   unfolding walkedLine
   line-is =
       ap (λ (a : Answer). answerLine a (survivors os)) (w .answer)
-      ∙ ap (λ (n : ℕ). answerLine (walkAnswer origin os n (length ms) (length ch)) (survivors os)) lt
-      ∙ ap₂ (λ (m n : ℕ). answerLine (walkAnswer origin os 8190 m n) (survivors os)) lm lc
+      ∙ ap (λ (n : ℕ). answerLine (walkAnswer origin os n (length ms) (length ch)) (survivors os)) (l .table)
+      ∙ ap₂ (λ (m n : ℕ). answerLine (walkAnswer origin os tableWords m n) (survivors os)) (l .marks) (l .chain)
 
   pub walk-refused : (x : Refusal) → r ≡ walked.Refused x → refusedLine x ≡ walkedLine os
   walk-refused x e = ap (λ (a : Answer). answerLine a (survivors os)) (sym e) ∙ line-is
@@ -85,30 +82,19 @@ module _ {os t ms ch : List ℕ} {r : Answer} {t′ ms′ ch′ : List ℕ} (w :
     chain-is : ch′ ≡ survivors os ++ replicate (length os - length (survivors os)) 0
     chain-is = w .chain ∙ ap (λ (j : Judged). bufferBy j (chainOf os) ch) (both .0)
 
-    pub walk-accepted : (rest : List ℕ) → Accepted os (ch′ ++ rest) f
-    walk-accepted rest =
+    pub walk-accepted : Accepted os ch′ f
+    walk-accepted =
         let zeros : List ℕ = replicate (length os - length (survivors os)) 0 in
         record {
           line = ap (λ (a : Answer). answerLine a (survivors os)) (sym e) ∙ line-is;
           steps = count;
           digits = sound .digits;
           few = omega (arith, length-survivors [] os);
-          chain =
-              ap (λ (l : List ℕ). take (f .steps) (l ++ rest)) chain-is
-              ∙ ap (take (f .steps)) (append-assoc (survivors os) zeros rest)
-              ∙ take-at (survivors os) (zeros ++ rest) (f .steps) (sym count);
-          within =
-              let a : length (ch′ ++ rest) ≡ length (survivors os) + length (zeros ++ rest) =
-              ap (λ (l : List ℕ). length (l ++ rest)) chain-is ∙ ap length (append-assoc (survivors os) zeros rest) ∙ length-append (survivors os) (zeros ++ rest) in
-              omega (arith, count);
+          chain = ap (take (f .steps)) chain-is ∙ take-at (survivors os) zeros (f .steps) (sym count);
+          within = omega (arith, count, ap length chain-is ∙ length-append (survivors os) zeros);
         }
 
--- what turns that are turned into steps hand on: a buffer that begins with the steps
-pub record Turned (ts buf : List ℕ) : Type 0 where
-  pub line : walkedLine (stepsOf ts) ≡ turnedLine ts
-  pub steps : take (length ts) buf ≡ stepsOf ts
-  pub within : length ts ≤ length buf
-
+-- turns that may be converted leave their steps, and are answered as these; others are refused
 module _ {ts out : List ℕ} {r : Judged} {out′ : List ℕ} (w : ConvertedBy stepsOf ts out r out′) (l : length out ≡ length ts) where
   turned-is : turnedBy r ts ≡ turnedLine ts
   unfolding turnedLine
@@ -117,11 +103,5 @@ module _ {ts out : List ℕ} {r : Judged} {out′ : List ℕ} (w : ConvertedBy s
   pub turned-refused : (x : Refusal) → r ≡ judged.Refused x → refusedLine x ≡ turnedLine ts
   turned-refused x e = ap (λ (j : Judged). turnedBy j ts) (sym e) ∙ turned-is
 
-  pub turned-good : r ≡ judged.Good → (rest : List ℕ) → Turned ts (out′ ++ rest)
-  turned-good e rest =
-      let b : out′ ≡ stepsOf ts = w .buffer ∙ ap (λ (j : Judged). writtenIf j (stepsOf ts) out) (sym (w .answer) ∙ e) in
-      record {
-        line = ap (λ (j : Judged). turnedBy j ts) (sym e) ∙ turned-is;
-        steps = ap (λ (x : List ℕ). take (length ts) (x ++ rest)) b ∙ take-at (stepsOf ts) rest (length ts) (length-stepsOf ts);
-        within = omega (arith, length-append out′ rest, ap length b, length-stepsOf ts);
-      }
+  pub turned-good : r ≡ judged.Good → walkedLine out′ ≡ turnedLine ts
+  turned-good e = ap walkedLine (w .buffer ∙ ap (λ (j : Judged). writtenIf j (stepsOf ts) out) (sym (w .answer) ∙ e)) ∙ ap (λ (j : Judged). turnedBy j ts) (sym e) ∙ turned-is

@@ -1,12 +1,10 @@
 -- The hull of a frame's steps is never refused, and its list is the one that the answer spells.
 -- Assumes nothing.
-use mathlib.Core.Path.{_≡_, refl, sym, ap, _∙_, subst}
-use mathlib.Core.Bool.{Bool, true, false}
+use mathlib.Core.Path.{_≡_, refl, ap, _∙_, subst}
 use mathlib.Core.List.{List, [], _∷_, _++_, append-assoc}
-use Prim.Native.Nat.{ℕ, zero, suc, _+_, _*_, _<_, _≤_}
+use Prim.Native.Nat.{ℕ, suc, _+_, _*_, _≤_}
 use native.Mathlib.Omega.{arith}
 use borrow.Author.Tests.{le-ltb, ne-eqb}
-use lib.Dec.{ltb, eqb}
 use lib.IntN.{ℤ}
 use lib.ListN.{length, take, drop, length-append}
 use lib.Seq.{take-at}
@@ -14,20 +12,21 @@ use Rattle.lists.specs.Lists.{Below}
 use Rattle.grid.specs.declared.Corner.{Corner}
 use Rattle.grid.specs.Grid.{origin, cornersFrom}
 use Rattle.answer.specs.declared.Judged.{Judged}
-use Rattle.answer.specs.declared.Judged.the-variants as judged
 use Rattle.answer.specs.declared.Counted.{Counted}
-use Rattle.answer.specs.declared.Counted.the-variants as counted
 use Rattle.answer.specs.declared.Refusal.{Refusal}
-use Rattle.hull.specs.Call.{faultAt, faultFrom, hullJudged, countedOf, numbers, bufferOf, HullCall}
+use Rattle.hull.specs.Call.{faultFrom, hullJudged, countedOf, numbers, bufferOf, HullCall}
 use Rattle.hull_laws.specs.Outline.{hullOf}
 use Rattle.hull_laws.proofs.OneLaws.{hullIs-one}
 use Rattle.hull_laws.proofs.HullLaws.{hullOf-hull, length-hullOf}
+use Rattle.line_frame.specs.Sizes.{mostDigits, mostCorners, hullNumbers, factsDigits, mostAnswer}
 use Rattle.line_frame.specs.Hex.{hexOf}
-use Rattle.line_frame.specs.Spelled.{factsLine, numbersLine, hullLine}
+use Rattle.line_frame.specs.Spelled.{numbersLine, hullLine}
 use Rattle.line_fields.specs.Put.{Wrote}
 use Rattle.line_frame.proofs.HexLaws.{length-hexOf}
 use Rattle.line_fields.proofs.PutLaws.{wrote-append}
-use Rattle.line_frame.proofs.SpelledLaws.{length-factsLine, length-numbersLine, length-numbers}
+use Rattle.line_frame.proofs.SpelledLaws.{length-numbersLine, length-numbers}
+use Rattle.answer.specs.declared.Judged.the-variants as judged
+use Rattle.answer.specs.declared.Counted.the-variants as counted
 use Rattle.line_reply.specs.Reply.{Listed}
 
 steps-none : (i : ℕ) (w : List ℕ) → Below 4 w → i + length w ≤ 16384 → faultFrom i w ≡ judged.Good
@@ -35,11 +34,11 @@ steps-none i [] b h = refl
 steps-none i (d ∷ w) b h =
     rw (le-ltb 3 d (omega (arith, b .0)), ne-eqb i 16384 (λ e. omega arith)) (steps-none (suc i) w (b .1) (omega arith))
 
-hull-good : (w : List ℕ) (room n : ℕ) → Below 4 w → length w ≤ 1024 → 2 * n ≤ room → hullJudged w room n ≡ judged.Good
+hull-good : (w : List ℕ) (room n : ℕ) → Below 4 w → length w ≤ mostDigits → 2 * n ≤ room → hullJudged w room n ≡ judged.Good
 hull-good w room n b h r =
     rw (le-ltb 32768 (length w) (omega arith), steps-none 0 w b (omega arith), le-ltb room (2 * n) r)
 
-module _ {w : List ℕ} {before after : List ℤ} {r : Counted} (h : HullCall origin w before r after) (b : Below 4 w) (m : length w ≤ 1024) (room : length before ≡ 2050) where
+module _ {w : List ℕ} {before after : List ℤ} {r : Counted} (h : HullCall origin w before r after) (b : Below 4 w) (m : length w ≤ mostDigits) (room : length before ≡ hullNumbers) where
   one : h .list ≡ hullOf origin w
   one = hullIs-one (cornersFrom origin w) (h .list) (hullOf origin w) (h .hull) (hullOf-hull origin w)
 
@@ -68,7 +67,7 @@ module _ {w : List ℕ} {before after : List ℤ} {r : Counted} (h : HullCall or
 
 -- facts, count and corners, one after the other
 pub wrote-accepted : (f : List ℕ) (cs : List Corner) (at n : ℕ) (buf : List ℤ) {i j e : ℕ} {a b c d : List ℕ}
-    → Listed cs n buf → length cs ≤ 1025 → length f ≡ 34 → at + 8240 ≤ length a
+    → Listed cs n buf → length cs ≤ mostCorners → length f ≡ factsDigits → at + mostAnswer ≤ length a
     → Wrote f at a i b → Wrote (hexOf 4 n) i b j c → Wrote (numbersLine (take (2 * n) buf)) j c e d
     → Wrote (f ++ hullLine cs) at a e d
 wrote-accepted f cs at n buf {i} {j} {e} {a} {b} {c} {d} l m k h p q r =
