@@ -1,5 +1,5 @@
 -- The words of a record, and the table (01, "The tree"). Assumes nothing.
-use Rattle.lists.specs.Lists.{cond, not, _&&_, List, [], _∷_, _++_, length, replicate, ℕ, zero, suc, _+_, _-_, _*_, _/_, _<_, eqb, find, count}
+use Rattle.lists.specs.Lists.{cond, not, _&&_, List, [], _∷_, _++_, length, replicate, ℕ, zero, suc, _+_, _-_, _*_, _/_, _≤_, eqb, find, count}
 use Rattle.grid.specs.{declared.Corner.Corner, Grid.same, Grid.stepped, Grid.cornersFrom, Tree.parentOf, Tree.isRoot, Tree.childWord}
 use Rattle.tree.specs.Nodes.{nodesOf, refOf, needOf, linkStepOf}
 
@@ -21,7 +21,7 @@ wordAt u w = u * width + w
 
 -- record u lies in the table
 abbrev pub HasRecord : List ℕ → ℕ → Type 0
-HasRecord t u = wordAt u (width - 1) < length t
+HasRecord t u = suc u * width ≤ length t
 
 -- the words of a record by name; a child's is childWord
 abbrev pub parentWord : ℕ

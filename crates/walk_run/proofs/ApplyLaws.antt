@@ -13,7 +13,7 @@ use Rattle.lists.specs.Lists.{Below, count}
 use Rattle.walk_step.specs.declared.Moved.{Moved}
 use Rattle.walk_step.specs.declared.Walk.{Walk}
 use Rattle.walk_step.specs.Walks.{Known, Advanced}
-use Rattle.layout.specs.Marks.{markOf}
+use Rattle.layout.specs.Marks.{markWords, markOf}
 use Rattle.tree.specs.Nodes.{nodesOf}
 use Rattle.tree_laws.specs.State.{stateOf}
 use Rattle.steps.specs.Operations.{operate}
@@ -96,12 +96,12 @@ module _ (c : Corner) (t ch ds : List ℕ) (w : Walk) (k : Chained c t ch ds w) 
         bound : (a n m l : ℕ) → a < n → m ≡ n → width * m ≤ l → wordAt a visitsWord < l
         bound a n m l p q s = omega arith
 
-  pub chained-mark : (ms ms′ : List ℕ) (i : ℕ) → ms′ ≡ set (set ms (2 * i) (w .spot .nodes)) (2 * i + 1) (getD t (wordAt (w .spot .node) visitsWord) 0) → ms′ ≡ sets ms (2 * i) (markOf c ds)
+  pub chained-mark : (ms ms′ : List ℕ) (i : ℕ) → ms′ ≡ set (set ms (markWords * i) (w .spot .nodes)) (markWords * i + 1) (getD t (wordAt (w .spot .node) visitsWord) 0) → ms′ ≡ sets ms (markWords * i) (markOf c ds)
   chained-mark ms ms′ i q =
       let h = k .known .walked in
-      let n : 2 * i + 1 ≡ suc (2 * i) = omega arith in
+      let n : markWords * i + 1 ≡ suc (markWords * i) = omega arith in
       let seen : getD t (wordAt (w .spot .node) visitsWord) 0 ≡ count (same (endFrom c ds)) (cornersFrom c ds) = ap (λ (x : List ℕ). getD x (wordAt (w .spot .node) visitsWord) 0) (h .whole ∙ table-state (length t) c ds) ∙ read-visits (length t) (stateOf (cornersFrom c ds)) (endFrom c ds) (w .spot .node) (h .here) in
-      q ∙ ap (λ (j : ℕ). set (set ms (2 * i) (w .spot .nodes)) j (getD t (wordAt (w .spot .node) visitsWord) 0)) n ∙ ap₂ (λ (x y : ℕ). set (set ms (2 * i) x) (suc (2 * i)) y) (h .count) seen
+      q ∙ ap (λ (j : ℕ). set (set ms (markWords * i) (w .spot .nodes)) j (getD t (wordAt (w .spot .node) visitsWord) 0)) n ∙ ap₂ (λ (x y : ℕ). set (set ms (markWords * i) x) (suc (markWords * i)) y) (h .count) seen
 
 -- one operation with its mark, from the answer to it
 module _ (words : ℕ) (ms : List ℕ) (i : ℕ) (c : Corner) (t ch ds : List ℕ) where
@@ -115,5 +115,5 @@ module _ (words : ℕ) (ms : List ℕ) (i : ℕ) (c : Corner) (t ch ds : List �
     pub applied-bounds : (wordAt (v .spot .node) visitsWord < length t) × (width * v .spot .nodes ≤ words)
     applied-bounds = let g = applied-to r v e h in chained-bounds c t ch ds v (g .0) words (g .1)
 
-    pub performed-to : (ms′ : List ℕ) → ms′ ≡ set (set ms (2 * i) (v .spot .nodes)) (2 * i + 1) (getD t (wordAt (v .spot .node) visitsWord) 0) → Performed words ms i c t ms′ ch ds (Moved.To v)
+    pub performed-to : (ms′ : List ℕ) → ms′ ≡ set (set ms (markWords * i) (v .spot .nodes)) (markWords * i + 1) (getD t (wordAt (v .spot .node) visitsWord) 0) → Performed words ms i c t ms′ ch ds (Moved.To v)
     performed-to ms′ q = let g = applied-to r v e h in (g .0, g .1, chained-mark c t ch ds v (g .0) ms ms′ i q)

@@ -4,16 +4,15 @@ use mathlib.Core.List.{List, [], _∷_, _++_, append-assoc, append-nil}
 use mathlib.Core.Path.{_≡_, refl, ap, ap₂, sym, _∙_, subst}
 use Prim.Native.Nat.{ℕ, suc, _+_, _*_, _<_, _≤_}
 use native.Mathlib.Omega.{arith}
-use lib.ListN.{length, length-set, take, drop, getD, set, drop-of-length-le}
-use lib.Seq.{sets, length-sets, take-suc-set, drop-cons, take-all}
+use lib.ListN.{length, length-append, take, drop, getD, drop-of-length-le}
+use lib.Seq.{sets, length-sets, sets-eq, length-take-le, drop-cons, take-at, take-all}
 use Rattle.answer.specs.declared.Judged.the-variants.{Good, Refused}
 use Rattle.answer.specs.declared.Refusal.the-variants.{NoRoom}
 use Rattle.walk_call.specs.Walk.{roomFrom}
 use Rattle.grid.specs.declared.Corner.{Corner}
-use Rattle.grid.specs.Grid.{origin, same, cornersFrom, endFrom}
-use Rattle.layout.specs.Marks.{markOf, marksOf, marksFrom}
+use Rattle.grid.specs.Grid.{origin, cornersFrom}
+use Rattle.layout.specs.Marks.{markWords, markOf, marksOf, marksFrom}
 use Rattle.layout.specs.Table.{width, recordsIn, tableOf}
-use Rattle.lists.specs.Lists.{count}
 use Rattle.walk_step.specs.declared.Moved.{Moved}
 use Rattle.walk_step.specs.declared.Walk.{Walk}
 use Rattle.walk_step.specs.Walks.{fresh}
@@ -24,6 +23,12 @@ use Rattle.steps.proofs.SurvivorLaws.{Fine, fault-none, fault-step, after-lengt
 use Rattle.walk_run.specs.declared.Ran.{Ran}
 use Rattle.walk_run.specs.Runs.{Chained, Ready, Performed, Ended}
 
+-- what stands before a run of stores, and the run
+take-sets : (l vs : List ℕ) (i n : ℕ) → i + length vs ≤ length l → i + length vs ≡ n → take n (sets l i vs) ≡ take i l ++ vs
+take-sets l vs i n h e =
+    ap (take n) (sets-eq vs l i h)
+    ∙ take-at (take i l ++ vs) (drop (i + length vs) l) n (omega (arith, length-append (take i l) vs, length-take-le i l (omega arith)))
+
 -- before operation i: the walk of those before it, and what is left to do
 pub record Running (words : ℕ) (c : Corner) (ops t ms ch : List ℕ) (w : Walk) (i : ℕ) : Type 0 where
   pub steps : List ℕ
@@ -31,7 +36,7 @@ pub record Running (words : ℕ) (c : Corner) (ops t ms ch : List ℕ) (w : Walk
   pub rest : survivors ops ≡ survivorsFrom steps (drop i ops)
   pub fine : faultsFrom i (length steps) (drop i ops) ≡ Good
   pub room : roomFrom (recordsIn words) c 0 [] ops ≡ roomFrom (recordsIn words) c i steps (drop i ops)
-  pub marked : marksOf c ops ≡ take (2 * i) ms ++ marksFrom c steps (drop i ops)
+  pub marked : marksOf c ops ≡ take (markWords * i) ms ++ marksFrom c steps (drop i ops)
   pub few : length steps ≤ i
 
 -- the start
@@ -81,20 +86,19 @@ module _ (words : ℕ) (c : Corner) (ops t ms ch : List ℕ) (w : Walk) (i : ℕ
       over a n p = omega arith
 
   -- the walk goes on, and is marked
-  pub running-next : (t′ ms′ ch′ : List ℕ) (r : Moved) → ((ds : List ℕ) → Chained c t ch ds w → Performed words ms i c t′ ms′ ch′ (operate ds (getD ops i 0)) r) → (v : Walk) → r ≡ Moved.To v → 2 * i + 1 < length ms → (length t′ ≡ words) × (length ms′ ≡ length ms) × Running words c ops t′ ms′ ch′ v (i + 1)
+  pub running-next : (t′ ms′ ch′ : List ℕ) (r : Moved) → ((ds : List ℕ) → Chained c t ch ds w → Performed words ms i c t′ ms′ ch′ (operate ds (getD ops i 0)) r) → (v : Walk) → r ≡ Moved.To v → markWords * suc i ≤ length ms → (length t′ ≡ words) × (length ms′ ≡ length ms) × Running words c ops t′ ms′ ch′ v (i + 1)
   running-next t′ ms′ ch′ r f v e l =
       let o = getD ops i 0 in
       let ds = operate (k .steps) o in
-      let g : Chained c t′ ch′ ds v × (length t′ ≡ words) × (ms′ ≡ sets ms (2 * i) (markOf c ds)) = subst (λ y. Performed words ms i c t′ ms′ ch′ ds y) e (f (k .steps) (k .chained)) in
+      let g : Chained c t′ ch′ ds v × (length t′ ≡ words) × (ms′ ≡ sets ms (markWords * i) (markOf c ds)) = subst (λ y. Performed words ms i c t′ ms′ ch′ ds y) e (f (k .steps) (k .chained)) in
       let h = g .0 .known .walked in
-      let n₁ : 2 * (i + 1) ≡ suc (suc (2 * i)) = omega arith in
+      let n₁ : length (markOf c ds) ≡ markWords = refl in
       let n₃ : suc i ≡ i + 1 = omega arith in
       let a = length (nodesOf (cornersFrom c ds)) in
-      let b = count (same (endFrom c ds)) (cornersFrom c ds) in
-      let two : take (2 * (i + 1)) ms′ ≡ take (2 * i) ms ++ markOf c ds = ap₂ take n₁ (g .2) ∙ take-suc-set (set ms (2 * i) a) (suc (2 * i)) b (omega (arith, length-set ms (2 * i) a)) ∙ ap (λ (x : List ℕ). x ++ (b ∷ [])) (take-suc-set ms (2 * i) a (omega arith)) ∙ append-assoc (take (2 * i) ms) (a ∷ []) (b ∷ []) in
+      let two : take (markWords * (i + 1)) ms′ ≡ take (markWords * i) ms ++ markOf c ds = ap (take (markWords * (i + 1))) (g .2) ∙ take-sets ms (markOf c ds) (markWords * i) (markWords * (i + 1)) (omega arith) (omega arith) in
       let fits : a ≤ recordsIn words = under (v .spot .nodes) a words (length t′) (h .count) (h .room) (g .1) in (
         g .1,
-        ap length (g .2) ∙ length-sets ms (2 * i) (markOf c ds),
+        ap length (g .2) ∙ length-sets ms (markWords * i) (markOf c ds),
         record {
           steps = ds;
           chained = g .0;
@@ -102,8 +106,8 @@ module _ (words : ℕ) (c : Corner) (ops t ms ch : List ℕ) (w : Walk) (i : ℕ
           fine = subst (λ (j : ℕ). faultsFrom j (length ds) (drop j ops) ≡ Good) n₃ (subst (λ (n : ℕ). faultsFrom (suc i) n (drop (suc i) ops) ≡ Good) (after-length (k .steps) o) (faults .1));
           room = k .room ∙ ap (λ (x : List ℕ). roomFrom (recordsIn words) c i (k .steps) x) left ∙ room-fits (recordsIn words) c i (k .steps) o (drop (suc i) ops) fits ∙ ap (λ (j : ℕ). roomFrom (recordsIn words) c j ds (drop j ops)) n₃;
           marked =
-              k .marked ∙ ap (λ (x : List ℕ). take (2 * i) ms ++ marksFrom c (k .steps) x) left
-              ∙ sym (append-assoc (take (2 * i) ms) (markOf c ds) (marksFrom c ds (drop (suc i) ops)))
+              k .marked ∙ ap (λ (x : List ℕ). take (markWords * i) ms ++ marksFrom c (k .steps) x) left
+              ∙ sym (append-assoc (take (markWords * i) ms) (markOf c ds) (marksFrom c ds (drop (suc i) ops)))
               ∙ ap₂ (λ (x : List ℕ) (j : ℕ). x ++ marksFrom c ds (drop j ops)) (sym two) n₃;
           few = omega (arith, length-operate (k .steps) o, k .few);
         },
@@ -113,10 +117,10 @@ module _ (words : ℕ) (c : Corner) (ops t ms ch : List ℕ) (w : Walk) (i : ℕ
       under m n l q p s r = omega arith
 
 -- the end
-pub running-end : (words : ℕ) (c : Corner) (ops t ms ch : List ℕ) (w : Walk) (i : ℕ) → Running words c ops t ms ch w i → length ops ≤ i → length ms ≡ 2 * length ops → i ≤ length ops → Ended words c ops t ms ch (Ran.All w)
+pub running-end : (words : ℕ) (c : Corner) (ops t ms ch : List ℕ) (w : Walk) (i : ℕ) → Running words c ops t ms ch w i → length ops ≤ i → length ms ≡ markWords * length ops → i ≤ length ops → Ended words c ops t ms ch (Ran.All w)
 running-end words c ops t ms ch w i k h l b =
     let e : drop i ops ≡ [] = drop-of-length-le ops h in (
       subst (λ (ds : List ℕ). Chained c t ch ds w) (sym (k .rest ∙ ap (survivorsFrom (k .steps)) e)) (k .chained),
-      sym (k .marked ∙ ap (λ (x : List ℕ). take (2 * i) ms ++ marksFrom c (k .steps) x) e ∙ append-nil (take (2 * i) ms) ∙ take-all (2 * i) ms (omega arith)),
+      sym (k .marked ∙ ap (λ (x : List ℕ). take (markWords * i) ms ++ marksFrom c (k .steps) x) e ∙ append-nil (take (markWords * i) ms) ∙ take-all (markWords * i) ms (omega arith)),
       k .room ∙ ap (λ (x : List ℕ). roomFrom (recordsIn words) c i (k .steps) x) e,
     )

@@ -12,7 +12,7 @@ use Rattle.walk_call.specs.Walk.{roomFrom}
 use Rattle.grid.specs.declared.Corner.{Corner}
 use Rattle.grid.specs.Grid.{cornersFrom}
 use Rattle.layout.specs.Table.{width, recordsIn}
-use Rattle.layout.specs.Marks.{markOf, marksOf}
+use Rattle.layout.specs.Marks.{markWords, markOf, marksOf}
 use Rattle.walk_step.specs.declared.Moved.{Moved}
 use Rattle.walk_step.specs.declared.Walk.{Walk}
 use Rattle.walk_step.specs.Walks.{Known}
@@ -44,7 +44,7 @@ Applied words c t chain ds Moved.Full = words < width * length (nodesOf (corners
 
 -- the same with its mark, at place i of the marks ms₀
 abbrev pub Performed : ℕ → List ℕ → ℕ → Corner → List ℕ → List ℕ → List ℕ → List ℕ → Moved → Type 0
-Performed words ms₀ i c t ms chain ds (Moved.To w) = Chained c t chain ds w × (length t ≡ words) × (ms ≡ sets ms₀ (2 * i) (markOf c ds))
+Performed words ms₀ i c t ms chain ds (Moved.To w) = Chained c t chain ds w × (length t ≡ words) × (ms ≡ sets ms₀ (markWords * i) (markOf c ds))
 Performed words ms₀ i c t ms chain ds Moved.Full = words < width * length (nodesOf (cornersFrom c ds))
 
 -- the answer to all of them

@@ -1,11 +1,12 @@
 // A walk follows its operations, one after the other, and marks each.
 ghost use mathlib.Core.List.{List, []};
 ghost use mathlib.Core.Path.{_≡_};
-ghost use Prim.Native.Nat.{ℕ, _+_, _*_, _^_, _<_, _≤_};
+ghost use Prim.Native.Nat.{ℕ, suc, _+_, _*_, _^_, _<_, _≤_};
 ghost use lib.ListN.{length, set, getD};
 ghost use Rattle.answer.specs.declared.Judged.the-variants.{Good};
 ghost use Rattle.grid.specs.declared.Corner.{Corner as Node};
 ghost use Rattle.grid.specs.Grid.{origin};
+ghost use Rattle.layout.specs.Marks.{markWords};
 ghost use Rattle.layout.specs.Table.{width, wordAt, visitsWord, tableOf};
 ghost use Rattle.steps.specs.Operations.{operate, faultsFrom};
 ghost use Rattle.walk_run.specs.Runs.{Chained, Ready, Applied, Performed, Ended};
@@ -38,18 +39,18 @@ fn apply(t: &mut [u32], chain: &mut [u8], w: Walk, op: u8) -> Moved
 
 // The mark at place i: the nodes in use, and the visits at the corner stood on.
 fn mark(t: &[u32], marks: &mut [u32], w: Spot, i: usize)
-    requires { ⌜ (wordAt (w .node) visitsWord < length (now t)) × (2 * i + 1 < length (now marks)) × (w .nodes < 2 ^ 32) × (i < 2 ^ 32) ⌝ }
-    ensures { λ _. ⌜ now (marks .exit) ≡ set (set (now (marks .entry)) (2 * i) (w .nodes)) (2 * i + 1) (getD (now (t .entry)) (wordAt (w .node) visitsWord) 0) ⌝ }
+    requires { ⌜ (wordAt (w .node) visitsWord < length (now t)) × (markWords * i + 1 < length (now marks)) × (w .nodes < 2 ^ 32) × (i < 2 ^ 32) ⌝ }
+    ensures { λ _. ⌜ now (marks .exit) ≡ set (set (now (marks .entry)) (markWords * i) (w .nodes)) (markWords * i + 1) (getD (now (t .entry)) (wordAt (w .node) visitsWord) 0) ⌝ }
 {
     let r = w.node;
-    marks[2 * i] = w.nodes as u32;
-    marks[2 * i + 1] = walk_table::word(t, r, Record::VISITS);
+    marks[Walk::MARK_WORDS * i] = w.nodes as u32;
+    marks[Walk::MARK_WORDS * i + 1] = walk_table::word(t, r, Record::VISITS);
 }
 
 // One operation, at place i: applied, and then marked.
 fn perform(t: &mut [u32], marks: &mut [u32], chain: &mut [u8], w: Walk, op: u8, i: usize) -> Moved
     requires { ⌜ Ready (now t) (now chain) w op ⌝ }
-    requires { ⌜ (length (now t) < 2 ^ 32) × (2 * i + 1 < length (now marks)) × (i < 2 ^ 32) ⌝ }
+    requires { ⌜ (length (now t) < 2 ^ 32) × (markWords * suc i ≤ length (now marks)) × (i < 2 ^ 32) ⌝ }
     ensures { λ r. ⌜ ((c : Node) (ds : List ℕ) → Chained c (now (t .entry)) (now (chain .entry)) ds w → Performed (length (now (t .entry))) (now (marks .entry)) i c (now (t .exit)) (now (marks .exit)) (now (chain .exit)) (operate ds op) r) ⌝ }
 {
     match apply(t, chain, w, op) {
@@ -65,7 +66,7 @@ fn perform(t: &mut [u32], marks: &mut [u32], chain: &mut [u8], w: Walk, op: u8, 
 // All operations, in a table that holds the root alone.
 pub fn run(ops: &[u8], t: &mut [u32], marks: &mut [u32], chain: &mut [u8]) -> Ran
     requires { ⌜ (now t ≡ tableOf (length (now t)) origin []) × (width ≤ length (now t)) × (length (now t) < 2 ^ 32) ⌝ }
-    requires { ⌜ (length (now marks) ≡ 2 * length (now ops)) × (length (now chain) ≡ length (now ops)) × (length (now ops) ≤ 32768) ⌝ }
+    requires { ⌜ (length (now marks) ≡ markWords * length (now ops)) × (length (now chain) ≡ length (now ops)) × (length (now ops) ≤ 32768) ⌝ }
     requires { ⌜ faultsFrom 0 0 (now ops) ≡ Good ⌝ }
     ensures { λ r. ⌜ Ended (length (now (t .entry))) origin (now (ops .entry)) (now (t .exit)) (now (marks .exit)) (now (chain .exit)) r ⌝ }
 {

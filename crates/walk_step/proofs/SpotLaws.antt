@@ -73,7 +73,7 @@ module _ (t : List ℕ) (c : Corner) (ds : List ℕ) (w : Spot) (k : Walked t c 
         let b = ref-below (T .nodes) (stepped d (endFrom c ds)) (a₁ - 1) (h .1) in
         (bound (a₁ - 1) (length (T .nodes)) n₁ (length t₁) b (h .0 .count) (h .0 .room), subst (λ (n : ℕ). n ≤ suc (w .steps)) (sym v) m)
       where
-        bound : (a n m l : ℕ) → a < n → m ≡ n → width * m ≤ l → wordAt a (width - 1) < l
+        bound : (a n m l : ℕ) → a < n → m ≡ n → width * m ≤ l → suc a * width ≤ l
         bound a n m l p q r = omega arith
 
     pub step-to : (a₁ ≡ 0 → ⊥) → (t₂ : List ℕ) → t₂ ≡ visitIn t₁ (a₁ - 1) (w .steps + 1) → (v : Spot) → v .node ≡ a₁ - 1 → v .at ≡ stepped d (w .at) → v .steps ≡ w .steps + 1 → v .nodes ≡ n₁
@@ -107,7 +107,7 @@ module _ (t : List ℕ) (c : Corner) (ds : List ℕ) (d : ℕ) (w : Spot) (k : W
   pub back-bound : HasRecord t (w .node)
   back-bound = bound (w .node) (length (nodesOf (cornersFrom c (ds ++ (d ∷ []))))) (length t) (ref-below (nodesOf (cornersFrom c (ds ++ (d ∷ [])))) (endFrom c (ds ++ (d ∷ []))) (w .node) (k .here)) room
     where
-      bound : (a n l : ℕ) → a < n → width * n ≤ l → wordAt a (width - 1) < l
+      bound : (a n l : ℕ) → a < n → width * n ≤ l → suc a * width ≤ l
       bound a n l p r = omega arith
 
   -- the way back is linked

@@ -43,7 +43,7 @@ module _ (t : List ℕ) (c : Corner) (ds : List ℕ) (d : ℕ) (w : Spot) (k : W
   pub tally-bound : HasRecord t (w .node)
   tally-bound = bound (w .node) (length (nodesOf (cornersFrom c (ds ++ (d ∷ []))))) (w .nodes) (length t) (ref-below (nodesOf (cornersFrom c (ds ++ (d ∷ [])))) (endFrom c (ds ++ (d ∷ []))) (w .node) (k .here)) (k .count) (k .room)
     where
-      bound : (a n m l : ℕ) → a < n → m ≡ n → width * m ≤ l → wordAt a (width - 1) < l
+      bound : (a n m l : ℕ) → a < n → m ≡ n → width * m ≤ l → suc a * width ≤ l
       bound a n m l p q s = omega arith
 
   steps-here : w .steps ≡ suc (length ds)

@@ -4,6 +4,7 @@ use mathlib.Core.Path.{ap}
 use Prim.Native.Nat.{ℕ, _+_, _*_}
 use borrow.Author.Needs.{needs}
 use lib.ListN.{set}
+use Rattle.layout.specs.Marks.{markWords}
 use Rattle.walk_run.proofs.mark.Statement.{statement}
 use Rattle.walk_run.proofs.mark.Tie as tie
 
@@ -40,7 +41,7 @@ same-length c = search needs
 returns : tie.Need-returns
 returns c =
     let a = c .before .before .before .before .args in
-    ap (λ (v : ℕ). set (set (a .marks .now) (2 * a .i) (a .w .nodes)) (2 * a .i + 1) v) (c .word .ensures)
+    ap (λ (v : ℕ). set (set (a .marks .now) (markWords * a .i) (a .w .nodes)) (markWords * a .i + 1) v) (c .word .ensures)
 
 pub mark-spec : {M : Type 1} → statement M
 mark-spec =

@@ -9,13 +9,14 @@ use lib.ListN.{length, getD}
 use Rattle.grid.specs.declared.Corner.{Corner}
 use Rattle.grid.specs.Grid.{origin}
 use Rattle.steps.specs.Operations.{operate}
+use Rattle.layout.specs.Marks.{markWords}
 use Rattle.walk_run.specs.Runs.{Chained, Performed}
 use Rattle.walk_run.proofs.RunLaws.{Running, running-start, running-ready, running-full, running-next, running-end}
 use Rattle.walk_run.proofs.run.Statement.{statement}
 use Rattle.walk_run.proofs.run.Tie as tie
 
 abbrev Inv-loop : tie.InvT-loop
-Inv-loop ops t₀ marks₀ chain₀ w₀ i₀ t marks chain w i = (length t ≡ length t₀) × (length marks ≡ 2 * length ops) × (length chain ≡ length ops) × (i ≤ length ops) × Running (length t₀) origin ops t marks chain w i
+Inv-loop ops t₀ marks₀ chain₀ w₀ i₀ t marks chain w i = (length t ≡ length t₀) × (length marks ≡ markWords * length ops) × (length chain ≡ length ops) × (i ≤ length ops) × Running (length t₀) origin ops t marks chain w i
 
 abbrev μ-loop : tie.MeasureT-loop
 μ-loop ops t₀ marks₀ chain₀ w₀ i₀ t marks chain w i = length ops - i
