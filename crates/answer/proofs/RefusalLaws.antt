@@ -2,7 +2,7 @@
 -- Assumes nothing.
 use mathlib.Core.Bool.{Bool, true, false}
 use mathlib.Core.List.{List, [], _∷_}
-use mathlib.Core.Path.{_≡_, refl, ap, ap₂}
+use mathlib.Core.Path.{_≡_, refl}
 use Prim.Native.Nat.{ℕ}
 use native.Mathlib.Omega.{arith}
 use Rattle.answer.specs.declared.Judged.{Judged}
@@ -38,7 +38,3 @@ when-good false r e = refl
 pub orElse-right : (a : Judged) → orElse a Good ≡ a
 orElse-right Good = refl
 orElse-right (Refused r) = refl
-
-pub orElse-assoc : (a b c : Judged) → orElse (orElse a b) c ≡ orElse a (orElse b c)
-orElse-assoc Good b c = refl
-orElse-assoc (Refused r) b c = refl

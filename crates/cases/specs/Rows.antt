@@ -44,37 +44,37 @@ pub data Fact : Type 0 where
 abbrev pub cornersOf : List ℕ → List Corner
 cornersOf os = cornersFrom origin (survivors os)
 
-abbrev pub Holds : List ℕ → Fact → Type 0
-Holds os (verdictIs v) = verdictNumber (verdictOf origin (survivors os)) ≡ v
-Holds os (nodesAre n) = length (nodesOf (cornersOf os)) ≡ n
-Holds os (cornersAre n) = length (visitedOf (cornersOf os)) ≡ n
-Holds os (meetingIs m) = meetingOf origin (survivors os) ≡ m
-Holds os (areaIs z) = areaOf origin (survivors os) ≡ z
-Holds os (hullIs h) = HullIs (cornersOf os) h
-Holds os (marksAre ms) = marksOf origin os ≡ ms
-Holds os (survive ds) = survivors os ≡ ds
-Holds os (turnsAre ts) = turnsOf (survivors os) ≡ ts
-Holds os (nodeIs n a) = refOf (nodesOf (cornersOf os)) a ≡ n + 1
-Holds os (visitsAre a n) = count (same a) (cornersOf os) ≡ n
-Holds os (recordIs r n ws) = take width (drop (n * width) (tableOf (r * width) origin (survivors os))) ≡ ws
-Holds os (linkIs a d k) = linkStepOf (cornersOf os) a d ≡ k
-Holds os (judgedAs r n p) =
+abbrev pub FactHolds : List ℕ → Fact → Type 0
+FactHolds os (verdictIs v) = verdictNumber (verdictOf origin (survivors os)) ≡ v
+FactHolds os (nodesAre n) = length (nodesOf (cornersOf os)) ≡ n
+FactHolds os (cornersAre n) = length (visitedOf (cornersOf os)) ≡ n
+FactHolds os (meetingIs m) = meetingOf origin (survivors os) ≡ m
+FactHolds os (areaIs z) = areaOf origin (survivors os) ≡ z
+FactHolds os (hullIs h) = HullIs (cornersOf os) h
+FactHolds os (marksAre ms) = marksOf origin os ≡ ms
+FactHolds os (survive ds) = survivors os ≡ ds
+FactHolds os (turnsAre ts) = turnsOf (survivors os) ≡ ts
+FactHolds os (nodeIs n a) = refOf (nodesOf (cornersOf os)) a ≡ n + 1
+FactHolds os (visitsAre a n) = count (same a) (cornersOf os) ≡ n
+FactHolds os (recordIs r n ws) = take width (drop (n * width) (tableOf (r * width) origin (survivors os))) ≡ ws
+FactHolds os (linkIs a d k) = linkStepOf (cornersOf os) a d ≡ k
+FactHolds os (judgedAs r n p) =
     (judgedNumber (walkJudged origin os (r * width) (markWords * length os) (length os)) ≡ n)
     × (judgedPlace (walkJudged origin os (r * width) (markWords * length os) (length os)) ≡ p)
 
 abbrev pub HoldAll : List ℕ → List Fact → Type 0
 HoldAll os [] = Unit {0}
-HoldAll os (f ∷ fs) = Holds os f × HoldAll os fs
+HoldAll os (f ∷ fs) = FactHolds os f × HoldAll os fs
 
-pub record Row : Type 0 where
+pub record WorkedRow : Type 0 where
   pub operations : List ℕ
   pub facts : List Fact
 
-abbrev pub row : List ℕ → List Fact → Row
+abbrev pub row : List ℕ → List Fact → WorkedRow
 row os fs = record { operations = os; facts = fs }
 
 -- every fact of every row holds
-abbrev pub Worked : List Row → Type 0
+abbrev pub Worked : List WorkedRow → Type 0
 Worked [] = Unit {0}
 Worked (r ∷ rs) = HoldAll (r .operations) (r .facts) × Worked rs
 
@@ -82,7 +82,7 @@ abbrev pub at : ℕ → ℕ → Corner
 at x y = corner (pos x) (pos y)
 
 -- P1 to P12, the two refusals of P12 as a row each
-abbrev pub rows : List Row
+abbrev pub rows : List WorkedRow
 rows =
     row [] (verdictIs 0 ∷ nodesAre 1 ∷ cornersAre 1 ∷ meetingIs none ∷ hullIs (at 0 0 ∷ []) ∷ [])
     ∷ row (0 ∷ 1 ∷ 2 ∷ 3 ∷ []) (verdictIs 2 ∷ meetingIs (meet 0 4) ∷ areaIs (pos 1) ∷ [])

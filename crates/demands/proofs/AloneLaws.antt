@@ -13,17 +13,16 @@ use Rattle.answer.specs.declared.Judged.the-variants.{Good}
 use Rattle.answer.specs.declared.Refusal.the-variants.{NoRoom}
 use Rattle.grid.specs.declared.Corner.{Corner}
 use Rattle.grid.specs.Grid.{origin, cornersFrom}
-use Rattle.steps.specs.Operations.{survivors}
+use Rattle.steps.specs.Operations.{survivors, Fine}
 use Rattle.layout.specs.Marks.{chainOf}
 use Rattle.layout.specs.Table.{recordsIn, tableOf}
 use Rattle.walk_call.specs.Walk.{walkJudged, factsOf, answerBy, bufferBy, WalkIs}
 use Rattle.grid.proofs.StepLaws.{length-cornersFrom}
-use Rattle.steps.proofs.SurvivorLaws.{sound-survivors}
+use Rattle.steps.proofs.SurvivorLaws.{walkable-survivors}
 use Rattle.trace.proofs.VisitLaws.{length-visited-le}
 use Rattle.walk_call.proofs.RoomLaws.{alone}
 use Rattle.tree_laws.proofs.CountLaws.{few-nodes}
 use Rattle.demands.specs.Moments.{stepsAfter, nodesAfter, cornersAfter, AtMostEight, FourLessThree}
-use Rattle.demands.specs.Given.{Fine}
 use Rattle.demands.specs.Alone.{LentAlone}
 use Rattle.demands.proofs.FirstLaws.{faults-none}
 use Rattle.demands.proofs.WalkLaws.{judged-good, its-facts, its-table, its-chain, no-room-at}
@@ -86,14 +85,14 @@ module _ {os t ms ch t′ ms′ ch′ : List ℕ} {r : Answer} (w : WalkIs origi
   enough-eight f = enough-four (λ k h. omega (arith, f k h))
 
 -- no more steps survive than a walk may have
-few-steps : (os : List ℕ) → ((i : ℕ) → i < length os → Fine (stepsAfter os i) (getD os i 0)) → (k : ℕ) → k ≤ length os → length (stepsAfter os k) ≤ 16384
+few-steps : (os : List ℕ) → ((i : ℕ) → i < length os → Fine (length (stepsAfter os i)) (getD os i 0)) → (k : ℕ) → k ≤ length os → length (stepsAfter os k) ≤ 16384
 few-steps os f k h =
     let l : length (take k os) ≡ k = length-take-le k os h in
-    let g : (i : ℕ) → i < length (take k os) → Fine (stepsAfter (take k os) i) (getD (take k os) i 0) =
+    let g : (i : ℕ) → i < length (take k os) → Fine (length (stepsAfter (take k os) i)) (getD (take k os) i 0) =
     λ i b.
     let p : i < k = omega (arith, b) in
-    subst (λ (o : ℕ). Fine (stepsAfter (take k os) i) o) (sym (getD-take k os i 0 p)) (subst (λ (s : List ℕ). Fine (survivors s) (getD os i 0)) (sym (take-take i k os (omega arith))) (f i (omega arith))) in
-    sound-survivors 0 [] (take k os) (record { digits = tt; few = omega arith }) (faults-none 0 [] (take k os) g) .few
+    subst (λ (o : ℕ). Fine (length (stepsAfter (take k os) i)) o) (sym (getD-take k os i 0 p)) (subst (λ (s : List ℕ). Fine (length (survivors s)) (getD os i 0)) (sym (take-take i k os (omega arith))) (f i (omega arith))) in
+    walkable-survivors 0 [] (take k os) (record { digits = tt; few = omega arith }) (faults-none 0 [] (take k os) g) .few
 
 -- 65,537 records are enough for any walk, and so is the largest table
 pub enough-largest : {os t ms ch t′ ms′ ch′ : List ℕ} {r : Answer} → WalkIs origin os t ms ch r t′ ms′ ch′ → 65537 ≤ recordsIn (length t) → (i : ℕ) → r ≡ Answer.Refused (NoRoom i) → ⊥

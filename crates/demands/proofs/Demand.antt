@@ -29,7 +29,7 @@ use Rattle.tree.specs.Nodes.{nodesOf, refOf, needOf, InUse}
 use Rattle.layout.specs.Marks.{markWords}
 use Rattle.layout.specs.Table.{width, recordsIn, wordAt}
 use Rattle.walk_call.specs.Walk.{factsOf, WalkIs}
-use Rattle.hull.specs.Hull.{In, Exposed, HullIs}
+use Rattle.hull.specs.Hull.{Exposed, HullIs}
 use Rattle.hull.specs.Call.{numbers, HullCall}
 use Rattle.panels.specs.{Edges.surplusOf, Box.panelSum, Inside.panelsInside, Inside.ListsInside, Inside.InsideLeft, Inside.InsideRight}
 use Rattle.hull_laws.proofs.ChainLaws.{Closed}
@@ -272,7 +272,7 @@ hullIs-one = oneLaws.hullIs-one
 pub hull-edges : (s : Corner) (w : List ℕ) (L : List Corner) → HullIs (cornersFrom s w) L → Closed (cornersFrom s w) L
 hull-edges = hullLaws.hull-edges
 
-pub hull-extreme : (P L : List Corner) → HullIs P L → (q : Corner) → In q L ↔ Exposed P q
+pub hull-extreme : (P L : List Corner) → HullIs P L → (q : Corner) → List·Memᴰ q L ↔ Exposed P q
 hull-extreme P L h = h .corners
 
 -- an accepted call answers how many they are and leaves x and y of each; the numbers after the list are unchanged

@@ -7,8 +7,9 @@ use Prim.Native.Nat.{_*_, _-_}
 use native.Mathlib.Omega.{arith}
 use Rattle.grid.specs.Grid.{origin}
 use Rattle.layout.specs.Table.{width}
+use Rattle.steps.specs.Operations.{Fine}
 use Rattle.demands.specs.Moments.{nodesAfter, cornersAfter, visitsAfter, FourLessThree, Exceeds}
-use Rattle.demands.specs.Given.{HasRecords, Fine, FineAt, BadDigitAt, First}
+use Rattle.demands.specs.Given.{HasRecords, FineAt, BadDigitAt, First}
 
 -- 0011 needs six nodes for its five corners at its last moment, so five records are too few and six are enough
 one-record-short : Exceeds (nodesAfter origin (0 ∷ 0 ∷ 1 ∷ 1 ∷ []) 4) 5
@@ -33,10 +34,10 @@ bound-is-reached : FourLessThree (nodesAfter origin [] 0) (cornersAfter origin [
 bound-is-reached = omega arith
 
 -- nothing can be taken back at first
-nothing-at-first : Fine [] 4 → ⊥
+nothing-at-first : Fine 0 4 → ⊥
 nothing-at-first f = ⊎-elim (λ h. omega (arith, h .1)) (λ h. omega (arith, h .0)) f
 
-one-to-take : Fine (0 ∷ []) 4
+one-to-take : Fine 1 4
 one-to-take = inl (refl, omega arith)
 
 -- of two bad digits the second is not the first faulty place

@@ -1,6 +1,5 @@
 -- The turns' and the hull's judgements are given on their occasions and on no other, and for every call there is one.
 -- Assumes nothing.
-use mathlib.Core.Bool.{Bool}
 use mathlib.Core.List.{List, [], _∷_}
 use mathlib.Core.Logic.{_⊎_, inl, inr, ⊎-elim, _↔_}
 use mathlib.Core.Path.{_≡_, refl, ap, sym, _∙_, subst}
@@ -19,9 +18,9 @@ use Rattle.answer.specs.declared.Refusal.the-variants.{TooMany, ResultRoom, Bad
 use Rattle.answer.specs.Limits.{mostInput, mostSteps}
 use Rattle.answer.specs.Refusal.{when, orElse}
 use Rattle.grid.specs.declared.Corner.{Corner}
-use Rattle.steps.specs.Turns.{digitFaultsFrom, turnsJudged, ConvertedBy}
+use Rattle.steps.specs.Turns.{digitsJudged, turnsJudged, ConvertedBy}
 use Rattle.steps.proofs.TurnPromiseLaws as turns
-use Rattle.hull.specs.Call.{faultAt, faultFrom, roomJudged, hullJudged, countedOf, HullCall}
+use Rattle.hull.specs.Call.{faultAt, chainJudged, roomJudged, hullJudged, countedOf, HullCall}
 use Rattle.hull_laws.proofs.CallLaws as hulls
 use Rattle.demands.specs.Given.{First}
 use Rattle.demands.specs.GivenTurns.{DigitAt, AboveThreeAt, GivenTurns}
@@ -66,10 +65,10 @@ module _ (ds : List ℕ) (room : ℕ) where
   given-turns _ (turn.resultRoom h f) = turns.judged-room ds room h f
   given-turns _ (turn.badDigit i h e f) =
       turns.judged-digits ds room h e
-      ∙ first-from judgeDigit digitFaultsFrom (λ p. refl) (λ p d l. refl) 0 ds i i (BadDigit i) (f .inside) (λ k q m g. digit-none q (getD ds k 0) (f .before k m)) (omega arith) (digit-above i (getD ds i 0) (f .here))
+      ∙ first-from judgeDigit digitsJudged (λ p. refl) (λ p d l. refl) 0 ds i i (BadDigit i) (f .inside) (λ k q m g. digit-none q (getD ds k 0) (f .before k m)) (omega arith) (digit-above i (getD ds i 0) (f .here))
   given-turns _ (turn.accepted h e f) =
       turns.judged-digits ds room h e
-      ∙ none-from judgeDigit digitFaultsFrom (λ p. refl) (λ p d l. refl) 0 ds (λ i p k g. digit-none p (getD ds i 0) (f i k))
+      ∙ none-from judgeDigit digitsJudged (λ p. refl) (λ p d l. refl) 0 ds (λ i p k g. digit-none p (getD ds i 0) (f i k))
 
   some-turns : (j : Judged) × GivenTurns ds room j
   some-turns =
@@ -108,12 +107,12 @@ module _ (chain : List ℕ) (room corners : ℕ) where
   hull-fault : (bad : ℕ → Type 0) (i : ℕ) (r : Refusal) → length chain ≤ mostInput → First (length chain) (StepAt chain) bad i → faultAt i (getD chain i 0) ≡ Refused r → hullJudged chain room corners ≡ Refused r
   hull-fault bad i r h f e =
       hulls.judged-fault chain room corners r h
-      (first-from faultAt faultFrom (λ p. refl) (λ p d l. refl) 0 chain i i r (f .inside) (λ k q m g. step-none q (getD chain k 0) (f .before k m .0) (omega (arith, f .before k m .1))) (omega arith) e)
+      (first-from faultAt chainJudged (λ p. refl) (λ p d l. refl) 0 chain i i r (f .inside) (λ k q m g. step-none q (getD chain k 0) (f .before k m .0) (omega (arith, f .before k m .1))) (omega arith) e)
 
   hull-faultless : length chain ≤ mostInput → ((i : ℕ) → i < length chain → StepAt chain i) → hullJudged chain room corners ≡ roomJudged room corners
   hull-faultless h f =
       hulls.judged-room chain room corners h
-      (none-from faultAt faultFrom (λ p. refl) (λ p d l. refl) 0 chain (λ i p k g. step-none p (getD chain i 0) (f i k .0) (omega (arith, f i k .1))))
+      (none-from faultAt chainJudged (λ p. refl) (λ p d l. refl) 0 chain (λ i p k g. step-none p (getD chain i 0) (f i k .0) (omega (arith, f i k .1))))
 
   pub given-hull : (j : Judged) → GivenHull chain room corners j → hullJudged chain room corners ≡ j
   given-hull _ (hull.tooMany h) = hulls.judged-many chain room corners h

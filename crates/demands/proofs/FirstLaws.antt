@@ -17,11 +17,11 @@ use Rattle.answer.specs.Refusal.{orElse}
 use Rattle.grid.specs.declared.Corner.{Corner}
 use Rattle.grid.specs.Grid.{cornersFrom}
 use Rattle.tree.specs.Nodes.{nodesOf}
-use Rattle.steps.specs.Operations.{operate, survivorsFrom, faultOf, faultsFrom, after}
+use Rattle.steps.specs.Operations.{operate, survivorsFrom, faultOf, Fine, operationsJudged, after}
 use Rattle.steps.proofs.SurvivorLaws.{after-length}
 use Rattle.walk_call.specs.Walk.{roomFrom}
 use Rattle.walk_call.proofs.RoomLaws.{room-full, room-fits}
-use Rattle.demands.specs.Given.{First, Fine}
+use Rattle.demands.specs.Given.{First}
 use Rattle.demands.proofs.DemandCases as cases
 
 -- where each place is fine or bad, all are fine or one is the first that is bad
@@ -38,7 +38,7 @@ all-or-first (suc n) fine bad f =
 
 -- ---- 4, 5 and 6
 -- an operation is fine, or has one of the three faults
-pub fine-or-fault : (s : List ℕ) (o : ℕ) → Fine s o ⊎ ((4 < o) ⊎ (((o ≡ 4) × (length s ≡ 0)) ⊎ ((o < 4) × (mostSteps ≤ length s))))
+pub fine-or-fault : (s : List ℕ) (o : ℕ) → Fine (length s) o ⊎ ((4 < o) ⊎ (((o ≡ 4) × (length s ≡ 0)) ⊎ ((o < 4) × (mostSteps ≤ length s))))
 fine-or-fault s o =
     elim (decLt 4 o) [
       | yes a ↦ inr (inl a)
@@ -48,7 +48,7 @@ fine-or-fault s o =
       ]
     ]
 
-fine-fault : (i : ℕ) (s : List ℕ) (o : ℕ) → Fine s o → faultOf i (length s) o ≡ Good
+fine-fault : (i : ℕ) (s : List ℕ) (o : ℕ) → Fine (length s) o → faultOf i (length s) o ≡ Good
 fine-fault i s o (inl k) = rw (k .0, ne-eqb (length s) 0 (λ e. omega (arith, k .1)))
 fine-fault i s o (inr k) = rw (le-ltb 4 o (omega (arith, k .0)), ne-eqb o 4 (λ e. omega (arith, k .0)), lt-ltb (length s) 16384 (k .1))
 
@@ -62,21 +62,21 @@ pub fault-long : (i n o : ℕ) → (o < 4) × (mostSteps ≤ n) → faultOf i n 
 fault-long i n o h = rw (le-ltb 4 o (omega (arith, h .0)), ne-eqb o 4 (λ e. omega (arith, h .0)), le-ltb n 16384 (h .1))
 
 -- what is left of the operations after a fine one
-faults-next : (b : ℕ) (s : List ℕ) (o : ℕ) (os : List ℕ) → Fine s o → faultsFrom b (length s) (o ∷ os) ≡ faultsFrom (suc b) (length (operate s o)) os
+faults-next : (b : ℕ) (s : List ℕ) (o : ℕ) (os : List ℕ) → Fine (length s) o → operationsJudged b (length s) (o ∷ os) ≡ operationsJudged (suc b) (length (operate s o)) os
 faults-next b s o os f =
-    ap (λ (j : Judged). orElse j (faultsFrom (suc b) (after (length s) o) os)) (fine-fault b s o f)
-    ∙ ap (λ (n : ℕ). faultsFrom (suc b) n os) (after-length s o)
+    ap (λ (j : Judged). orElse j (operationsJudged (suc b) (after (length s) o) os)) (fine-fault b s o f)
+    ∙ ap (λ (n : ℕ). operationsJudged (suc b) n os) (after-length s o)
 
-pub faults-none : (b : ℕ) (s os : List ℕ) → ((i : ℕ) → i < length os → Fine (survivorsFrom s (take i os)) (getD os i 0)) → faultsFrom b (length s) os ≡ Good
+pub faults-none : (b : ℕ) (s os : List ℕ) → ((i : ℕ) → i < length os → Fine (length (survivorsFrom s (take i os))) (getD os i 0)) → operationsJudged b (length s) os ≡ Good
 faults-none b s [] f = refl
 faults-none b s (o ∷ os) f = faults-next b s o os (f 0 (omega arith)) ∙ faults-none (suc b) (operate s o) os (λ i h. f (suc i) (omega arith))
 
-pub faults-first : (b : ℕ) (s os : List ℕ) (i p : ℕ) (r : Refusal) → i < length os → ((h : ℕ) → h < i → Fine (survivorsFrom s (take h os)) (getD os h 0))
-    → p ≡ b + i → faultOf p (length (survivorsFrom s (take i os))) (getD os i 0) ≡ Refused r → faultsFrom b (length s) os ≡ Refused r
+pub faults-first : (b : ℕ) (s os : List ℕ) (i p : ℕ) (r : Refusal) → i < length os → ((h : ℕ) → h < i → Fine (length (survivorsFrom s (take h os))) (getD os h 0))
+    → p ≡ b + i → faultOf p (length (survivorsFrom s (take i os))) (getD os i 0) ≡ Refused r → operationsJudged b (length s) os ≡ Refused r
 faults-first b s [] i p r h f q e = absurd (omega arith)
 faults-first b s (o ∷ os) zero p r h f q e =
     let g : p ≡ b = omega arith in
-    ap (λ (j : Judged). orElse j (faultsFrom (suc b) (after (length s) o) os)) (subst (λ (n : ℕ). faultOf n (length s) o ≡ Refused r) g e)
+    ap (λ (j : Judged). orElse j (operationsJudged (suc b) (after (length s) o) os)) (subst (λ (n : ℕ). faultOf n (length s) o ≡ Refused r) g e)
 faults-first b s (o ∷ os) (suc i) p r h f q e =
     faults-next b s o os (f 0 (omega arith)) ∙ faults-first (suc b) (operate s o) os i p r (omega arith) (λ h k. f (suc h) (omega arith)) (omega arith) e
 

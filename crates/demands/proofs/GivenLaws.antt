@@ -17,7 +17,7 @@ use Rattle.answer.specs.declared.Refusal.the-variants.{TooMany, Table, ResultRo
 use Rattle.answer.specs.Limits.{mostInput, mostRecords}
 use Rattle.answer.specs.Refusal.{when, orElse}
 use Rattle.grid.specs.declared.Corner.{Corner}
-use Rattle.steps.specs.Operations.{faultOf, faultsFrom}
+use Rattle.steps.specs.Operations.{faultOf, operationsJudged}
 use Rattle.layout.specs.Marks.{markWords}
 use Rattle.layout.specs.Table.{width, recordsIn}
 use Rattle.walk_call.specs.Walk.{tableFits, roomFrom, walkJudged}
@@ -68,19 +68,19 @@ module _ (os : List ℕ) (m k : ℕ) where
 module _ (c : Corner) (os : List ℕ) (w m k : ℕ) where
   -- the five judgements one after the other
   judged-by : (a b d f g : Judged)
-      → when (ltb mostInput (length os)) TooMany ≡ a → when (not (tableFits w)) Table ≡ b → when (not (roomFits os m k)) ResultRoom ≡ d → faultsFrom 0 0 os ≡ f → roomFrom (recordsIn w) c 0 [] os ≡ g
+      → when (ltb mostInput (length os)) TooMany ≡ a → when (not (tableFits w)) Table ≡ b → when (not (roomFits os m k)) ResultRoom ≡ d → operationsJudged 0 0 os ≡ f → roomFrom (recordsIn w) c 0 [] os ≡ g
       → walkJudged c os w m k ≡ orElse a (orElse b (orElse d (orElse f (orElse g Good))))
   judged-by a b d f g p q r s t = rw (p, q, r, s, t)
 
-  judged-sized : Sized os w m k → walkJudged c os w m k ≡ orElse (faultsFrom 0 0 os) (roomFrom (recordsIn w) c 0 [] os)
+  judged-sized : Sized os w m k → walkJudged c os w m k ≡ orElse (operationsJudged 0 0 os) (roomFrom (recordsIn w) c 0 [] os)
   judged-sized s =
-      judged-by Good Good Good (faultsFrom 0 0 os) (roomFrom (recordsIn w) c 0 [] os)
+      judged-by Good Good Good (operationsJudged 0 0 os) (roomFrom (recordsIn w) c 0 [] os)
       (ap (λ (b : Bool). when b TooMany) (le-ltb mostInput (length os) (s .few)))
       (ap (λ (b : Bool). when (not b) Table) (records-fit w (s .table)))
       (ap (λ (b : Bool). when (not b) ResultRoom) (room-fit os m k (s .room)))
       refl
       refl
-      ∙ ap (orElse (faultsFrom 0 0 os)) (orElse-right (roomFrom (recordsIn w) c 0 [] os))
+      ∙ ap (orElse (operationsJudged 0 0 os)) (orElse-right (roomFrom (recordsIn w) c 0 [] os))
 
   judged-fault : (bad : ℕ → Type 0) (i : ℕ) (r : Refusal) → Sized os w m k → First (length os) (FineAt os) bad i → (bad i → faultOf i (length (stepsAfter os i)) (getD os i 0) ≡ Refused r) → walkJudged c os w m k ≡ Refused r
   judged-fault bad i r s f e =

@@ -16,12 +16,11 @@ use Rattle.tree.specs.Nodes.{nodesOf, refOf, linkStepOf, needOf, InUse, LinkedB
 use Rattle.layout.specs.Table.{width, fieldsOf, recordOf, childRefOf, neighbourRefOf}
 use Rattle.grid.proofs.AncestorLaws.{path-ancestor, pathOf-first}
 use Rattle.grid.proofs.CornerLaws.{same-refl, same-sound}
-use Rattle.lists.proofs.DistinctLaws.{mem-getD, distinct-getD}
+use Rattle.lists.proofs.DistinctLaws.{mem-getD}
 use Rattle.lists.proofs.FindLaws.{find-get, find-none}
 use Rattle.lists.proofs.ZipLaws.{find-least}
 use Rattle.tree.proofs.InUseLaws.{node-inUse, inUse-ref, parent-inUse}
 use Rattle.tree.proofs.LinkStepLaws.{link-made, link-least}
-use Rattle.tree.proofs.NodeLaws.{nodesOf-distinct}
 use Rattle.tree.proofs.OrderLaws.{need-there, need-least}
 use Rattle.tree.proofs.RefLaws.{not-any}
 use Rattle.layout.proofs.ChildLaws.{child-ref, child-there, childWord-range}
@@ -64,16 +63,6 @@ module _ (ps : List Corner) where
   pub ref-number : (b : Corner) (n : ℕ) → refOf ns b ≡ n → 0 < n → IsRef ps b n
   ref-number b zero e h = absurd (omega arith)
   ref-number b (suc m) e h = let f = find-first ns b m .0 e in record { number = m; plus-one = refl; in-use = f .inside; node = f .here }
-
-  pub number-ref : (b : Corner) (n : ℕ) → IsRef ps b n → refOf ns b ≡ n
-  number-ref b n r =
-      find-first ns b (r .number) .1
-      (record { inside = r .in-use; before = λ i k e. distinct-getD ns i (r .number) origin (nodesOf-distinct ps) k (r .in-use) (e ∙ sym (r .node)); here = r .node })
-      ∙ sym (r .plus-one)
-
-  -- so a node has one ref, and a ref one node
-  pub isRef-one : (b : Corner) (n m : ℕ) → IsRef ps b n → IsRef ps b m → n ≡ m
-  isRef-one b n m p q = sym (number-ref b n p) ∙ number-ref b m q
 
   inUse-isRef : (b : Corner) → InUse ps b → IsRef ps b (refOf ns b)
   inUse-isRef b u = ref-number b (refOf ns b) refl (inUse-ref ps b u)

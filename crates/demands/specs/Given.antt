@@ -1,7 +1,6 @@
 -- When each answer of the walk is given: the table of refusals, a row a constructor (01, "What the calls take and give").
 -- Assumes nothing.
 use mathlib.Core.List.{List}
-use mathlib.Core.Logic.{_⊎_}
 use mathlib.Core.Path.{_≡_}
 use Prim.Native.Nat.{ℕ, suc, _*_, _<_, _≤_}
 use lib.ListN.{length, getD}
@@ -10,6 +9,7 @@ use Rattle.answer.specs.declared.Judged.the-variants.{Good, Refused}
 use Rattle.answer.specs.declared.Refusal.the-variants.{TooMany, Table, ResultRoom, BadDigit, NothingToTake, TooLong, NoRoom}
 use Rattle.answer.specs.Limits.{mostInput, mostSteps, mostRecords}
 use Rattle.grid.specs.declared.Corner.{Corner}
+use Rattle.steps.specs.Operations.{Fine}
 use Rattle.layout.specs.Marks.{markWords}
 use Rattle.layout.specs.Table.{width, recordsIn}
 use Rattle.demands.specs.Moments.{stepsAfter, nodesAfter, Exceeds}
@@ -22,12 +22,9 @@ HasRecords words = (r : ℕ) × (1 ≤ r) × (r ≤ mostRecords) × (words ≡ r
 abbrev pub HasRoom : List ℕ → ℕ → ℕ → Type 0
 HasRoom os marks chain = (marks ≡ markWords * length os) × (chain ≡ length os)
 
--- an operation on surviving steps that is a take-back with a step to take, or a step that is not too many
-abbrev pub Fine : List ℕ → ℕ → Type 0
-Fine steps o = ((o ≡ 4) × (0 < length steps)) ⊎ ((o < 4) × (length steps < mostSteps))
-
+-- operation i has no fault
 abbrev pub FineAt : List ℕ → ℕ → Type 0
-FineAt os i = Fine (stepsAfter os i) (getD os i 0)
+FineAt os i = Fine (length (stepsAfter os i)) (getD os i 0)
 
 -- the three faults of an operation: a byte above 4; operation 4 with no surviving step; a step that would be the 16,385th
 abbrev pub BadDigitAt : List ℕ → ℕ → Type 0

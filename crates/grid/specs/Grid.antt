@@ -30,6 +30,13 @@ stepped (suc zero) c = corner (c .0) (sucℤ (c .1))
 stepped (suc (suc zero)) c = corner (predℤ (c .0)) (c .1)
 stepped (suc (suc (suc d))) c = corner (c .0) (predℤ (c .1))
 
+-- what a step adds to x, and to y: where it leads from (0,0)
+abbrev pub eastOf : ℕ → ℤ
+eastOf d = stepped d origin .0
+
+abbrev pub northOf : ℕ → ℤ
+northOf d = stepped d origin .1
+
 -- the corners p0 to pn of the walk of these steps from c
 abbrev pub cornersFrom : Corner → List ℕ → List Corner
 cornersFrom c [] = c ∷ []

@@ -1,18 +1,17 @@
 -- The hull and its call on small inputs, computed.
 -- Assumes nothing.
 use mathlib.Core.Path.{_≡_, refl, sym, subst, _∙_}
-use mathlib.Core.List.{List, [], _∷_}
-use mathlib.Core.Logic.{_⊎_, inl, inr}
-use Prim.Native.Nat.{ℕ}
-use lib.IntN.{ℤ, pos, negsuc}
-use lib.Signed.{_≤ℤ_, _<ℤ_, ≤ℤ-refl}
+use mathlib.Core.List.{[], _∷_, List·Memᴰ, List·Memᴰ·head, List·Memᴰ·tail, List·Memᴰ·not-nil}
+use mathlib.Core.Logic.{inl, inr}
+use lib.IntN.{pos, negsuc}
+use lib.Signed.{_≤ℤ_, ≤ℤ-refl}
 use Rattle.grid.specs.declared.Corner.{Corner}
 use Rattle.grid.specs.Grid.{corner, origin}
 use Rattle.answer.specs.declared.Judged.the-variants as judged
 use Rattle.answer.specs.declared.Counted.{Counted}
 use Rattle.answer.specs.declared.Refusal.the-variants.{BadDigit, TooLong, HullRoom}
-use Rattle.hull.specs.Hull.{In, cross, Left, Begins, Exposed, HullIs}
-use Rattle.hull.specs.Call.{faultAt, faultFrom, hullJudged, countedOf, bufferOf}
+use Rattle.hull.specs.Hull.{cross, Left, Begins, HullIs}
+use Rattle.hull.specs.Call.{faultAt, hullJudged, countedOf, bufferOf}
 
 -- three in a line do not turn left
 line-is-no-turn : ¬ Left origin (corner (pos 1) (pos 0)) (corner (pos 2) (pos 0))
@@ -34,23 +33,23 @@ leftmost-first = inl (record { lt = tt })
 -- one corner gives one
 pub hull-of-one : (c : Corner) → HullIs (c ∷ []) (c ∷ [])
 hull-of-one c = record {
-  starts = (inl refl, (λ q m. begin q m));
+  starts = (List·Memᴰ·head refl, (λ q m. begin q m));
   corners = λ q. ((λ m. record { visited = m; u = pos 0; v = pos 0; most = λ p n d. alone p q n m d }), (λ e. e .visited));
-  once = ((λ b m. absurd m), tt);
+  once = (List·Memᴰ·not-nil, tt);
   ccw = (tt, tt);
 }
   where
-    begin : (q : Corner) → In q (c ∷ []) → Begins c q
-    begin q (inl e) = inr (λ i. sym e i .0, subst-le e)
+    begin : (q : Corner) → List·Memᴰ q (c ∷ []) → Begins c q
+    begin q (List·Memᴰ·head e) = inr (λ i. sym e i .0, subst-le e)
       where
         subst-le : q ≡ c → c .1 ≤ℤ q .1
         subst-le e = subst (λ (z : Corner). c .1 ≤ℤ z .1) (sym e) (≤ℤ-refl (c .1))
-    begin q (inr m) = absurd m
+    begin q (List·Memᴰ·tail m) = absurd (List·Memᴰ·not-nil m)
 
-    alone : {A : Type 0} (p q : Corner) → In p (c ∷ []) → In q (c ∷ []) → ¬ (p ≡ q) → A
-    alone p q (inl e) (inl f) d = absurd (d (e ∙ sym f))
-    alone p q (inl e) (inr m) d = absurd m
-    alone p q (inr m) n d = absurd m
+    alone : {A : Type 0} (p q : Corner) → List·Memᴰ p (c ∷ []) → List·Memᴰ q (c ∷ []) → ¬ (p ≡ q) → A
+    alone p q (List·Memᴰ·head e) (List·Memᴰ·head f) d = absurd (d (e ∙ sym f))
+    alone p q (List·Memᴰ·head e) (List·Memᴰ·tail m) d = absurd (List·Memᴰ·not-nil m)
+    alone p q (List·Memᴰ·tail m) n d = absurd (List·Memᴰ·not-nil m)
 
 -- 4 comes before 6 at one place, and 6 only at place 16,384
 bad-digit-first : faultAt 16384 4 ≡ judged.Refused (BadDigit 16384)

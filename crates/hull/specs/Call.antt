@@ -10,9 +10,9 @@ abbrev pub faultAt : ℕ → ℕ → Judged
 faultAt i d = orElse (when (ltb 3 d) (BadDigit i)) (when (eqb i mostSteps) (TooLong i))
 
 -- the refusal at the first faulty place, where the first byte stands at place i
-abbrev pub faultFrom : ℕ → List ℕ → Judged
-faultFrom i [] = Good
-faultFrom i (d ∷ ds) = orElse (faultAt i d) (faultFrom (suc i) ds)
+abbrev pub chainJudged : ℕ → List ℕ → Judged
+chainJudged i [] = Good
+chainJudged i (d ∷ ds) = orElse (faultAt i d) (chainJudged (suc i) ds)
 
 -- 8 where the room is shorter than twice the hull corners
 abbrev pub roomJudged : ℕ → ℕ → Judged
@@ -20,7 +20,7 @@ roomJudged room corners = when (ltb room (2 * corners)) HullRoom
 
 -- refusal 1, then 4 and 6 at the first faulty place, 8 last
 abbrev pub hullJudged : List ℕ → ℕ → ℕ → Judged
-hullJudged chain room corners = firstOf (when (ltb mostInput (length chain)) TooMany ∷ faultFrom 0 chain ∷ roomJudged room corners ∷ [])
+hullJudged chain room corners = firstOf (when (ltb mostInput (length chain)) TooMany ∷ chainJudged 0 chain ∷ roomJudged room corners ∷ [])
 
 -- how many corners there are, unless there is a refusal
 abbrev pub countedOf : Judged → ℕ → Counted

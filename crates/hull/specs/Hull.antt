@@ -2,13 +2,8 @@
 -- L lists it when it begins at the lowest of the leftmost corners, holds exactly the exposed ones, each once, and any three in its
 -- order turn left: so no three are in a line and the order is counterclockwise. There is no case apart: one corner gives one, and
 -- corners along one line give their two outermost. Assumes nothing.
-use Rattle.lists.specs.Lists.{_≡_, List, [], _∷_, _⊎_, _↔_, ℤ, pos, _+ℤ_, _-ℤ_, _*ℤ_, _≤ℤ_, _<ℤ_}
+use Rattle.lists.specs.Lists.{_≡_, List, [], _∷_, List·Memᴰ, _⊎_, _↔_, ℤ, pos, _+ℤ_, _-ℤ_, _*ℤ_, _≤ℤ_, _<ℤ_, Distinct}
 use Rattle.grid.specs.declared.Corner.{Corner}
-
--- c is one of the list
-abbrev pub In : {A : Type 0} → A → List A → Type 0
-In c [] = ⊥
-In c (d ∷ l) = (c ≡ d) ⊎ In c l
 
 -- above 0 where c lies left of the way from a to b, below 0 where right of it, 0 where the three are in a line
 unfoldable pub cross : Corner → Corner → Corner → ℤ
@@ -24,10 +19,10 @@ reach u v c = (u *ℤ c .0) +ℤ (v *ℤ c .1)
 
 -- q is one of P, and in some direction it alone lies farthest
 pub record Exposed (P : List Corner) (q : Corner) : Type 0 where
-  pub visited : In q P
+  pub visited : List·Memᴰ q P
   pub u : ℤ
   pub v : ℤ
-  pub most : (p : Corner) → In p P → ¬ (p ≡ q) → reach u v p <ℤ reach u v q
+  pub most : (p : Corner) → List·Memᴰ p P → ¬ (p ≡ q) → reach u v p <ℤ reach u v q
 
 -- b is left of q, or straight below it or at it
 abbrev pub Begins : Corner → Corner → Type 0
@@ -36,7 +31,7 @@ Begins b q = (b .0 <ℤ q .0) ⊎ ((b .0 ≡ q .0) × (b .1 ≤ℤ q .1))
 -- every two of the list, in its order, are related
 abbrev pub Pairs : (Corner → Corner → Type 0) → List Corner → Type 0
 Pairs R [] = Unit {0}
-Pairs R (a ∷ l) = ((b : Corner) → In b l → R a b) × Pairs R l
+Pairs R (a ∷ l) = ((b : Corner) → List·Memᴰ b l → R a b) × Pairs R l
 
 -- any three of the list, in its order, turn left
 abbrev pub Ccw : List Corner → Type 0
@@ -46,11 +41,11 @@ Ccw (a ∷ l) = Pairs (λ b c. Left a b c) l × Ccw l
 -- the list begins at the lowest of the leftmost of P
 abbrev pub Starts : List Corner → List Corner → Type 0
 Starts P [] = ⊥
-Starts P (b ∷ l) = In b P × ((q : Corner) → In q P → Begins b q)
+Starts P (b ∷ l) = List·Memᴰ b P × ((q : Corner) → List·Memᴰ q P → Begins b q)
 
 -- L lists the corners of the convex hull of P
 pub record HullIs (P L : List Corner) : Type 0 where
   pub starts : Starts P L
-  pub corners : (q : Corner) → In q L ↔ Exposed P q
-  pub once : Pairs (λ a b. ¬ (a ≡ b)) L
+  pub corners : (q : Corner) → List·Memᴰ q L ↔ Exposed P q
+  pub once : Distinct L
   pub ccw : Ccw L

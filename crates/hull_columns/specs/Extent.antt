@@ -16,7 +16,7 @@ extentBy judged.Good w e = Extent.Within w e
 extentBy (judged.Refused r) w e = Extent.Refused r
 
 -- a chain of steps that is not refused, and the columns that it goes through
-pub record Walked (chain : List ℕ) (w e : ℕ) : Type 0 where
+pub record Spans (chain : List ℕ) (w e : ℕ) : Type 0 where
   pub digits : (k : ℕ) → getD chain k 0 < 4
   pub short : length chain ≤ mostSteps
   pub west : w ≡ westFrom middle chain

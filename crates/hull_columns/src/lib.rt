@@ -6,10 +6,10 @@ ghost use mathlib.Core.List.{map};
 ghost use Prim.Native.Nat.{ℕ, _-_, _<_, _≤_, min, max};
 ghost use lib.ListN.{length, getD};
 ghost use Rattle.answer.specs.declared.Judged.the-variants.{Good};
-ghost use Rattle.hull.specs.Call.{faultFrom};
-ghost use Rattle.hull_laws.specs.Columns.{colAfter, rowAfter, trail, westFrom, eastFrom, sink, sinks, eastOf, turned};
+ghost use Rattle.hull.specs.Call.{chainJudged};
+ghost use Rattle.hull_laws.specs.Columns.{colAfter, rowAfter, trail, westFrom, eastFrom, sink, sinks, countedFrom, turned};
 ghost use Rattle.hull_laws.specs.Columns.{middle, top};
-ghost use Rattle.hull_columns.specs.Extent.{extentBy, Walked};
+ghost use Rattle.hull_columns.specs.Extent.{extentBy, Spans};
 
 // The columns that a walk may go through, and the heights of its corners. Its start stands in the middle of both.
 pub struct Columns;
@@ -104,8 +104,8 @@ fn highest(chain: &[u8]) -> u8
 
 // How far a walk without a fault goes.
 fn measure(chain: &[u8]) -> Extent
-    requires { ⌜ faultFrom 0 (now chain) ≡ Good ⌝ }
-    ensures { λ r. ⌜ r ≡ extentBy (faultFrom 0 (now (chain .entry))) (westFrom middle (now (chain .entry))) (eastFrom middle (now (chain .entry))) ⌝ }
+    requires { ⌜ chainJudged 0 (now chain) ≡ Good ⌝ }
+    ensures { λ r. ⌜ r ≡ extentBy (chainJudged 0 (now (chain .entry))) (westFrom middle (now (chain .entry))) (eastFrom middle (now (chain .entry))) ⌝ }
 {
     let mut x = Columns::MIDDLE;
     let mut west = x;
@@ -122,7 +122,7 @@ fn measure(chain: &[u8]) -> Extent
 
 // The first fault of a chain: a byte above 3, or a step that is one too many.
 fn fault(chain: &[u8]) -> Judged
-    ensures { λ r. ⌜ r ≡ faultFrom 0 (now (chain .entry)) ⌝ }
+    ensures { λ r. ⌜ r ≡ chainJudged 0 (now (chain .entry)) ⌝ }
 {
     let mut i = 0;
     while i < chain.len() {
@@ -139,7 +139,7 @@ fn fault(chain: &[u8]) -> Judged
 
 // The same, in one pass without a test where there is none.
 fn judge(chain: &[u8]) -> Judged
-    ensures { λ r. ⌜ r ≡ faultFrom 0 (now (chain .entry)) ⌝ }
+    ensures { λ r. ⌜ r ≡ chainJudged 0 (now (chain .entry)) ⌝ }
 {
     if chain.len() > Columns::MOST_STEPS {
         return fault(chain);
@@ -152,7 +152,7 @@ fn judge(chain: &[u8]) -> Judged
 
 // How far the walk goes, unless it is refused.
 pub fn survey(chain: &[u8]) -> Extent
-    ensures { λ r. ⌜ r ≡ extentBy (faultFrom 0 (now (chain .entry))) (westFrom middle (now (chain .entry))) (eastFrom middle (now (chain .entry))) ⌝ }
+    ensures { λ r. ⌜ r ≡ extentBy (chainJudged 0 (now (chain .entry))) (westFrom middle (now (chain .entry))) (eastFrom middle (now (chain .entry))) ⌝ }
 {
     match judge(chain) {
         Judged::Good => measure(chain),
@@ -179,8 +179,8 @@ fn keep(ys: &mut [u16], c: usize, y: u16)
 
 // Keeps the lowest corner of each column in lo, counted from west, and in hi that of the walk turned by half a turn, from east.
 pub fn fill(chain: &[u8], west: usize, east: usize, lo: &mut [u16], hi: &mut [u16])
-    requires { ⌜ Walked (now chain) west east × (east - west < length (now lo)) × (east - west < length (now hi)) ⌝ }
-    ensures { λ _. ⌜ (now (lo .exit) ≡ sinks (now (lo .entry)) (map (eastOf west) (trail middle middle (now (chain .entry))))) × (now (hi .exit) ≡ sinks (now (hi .entry)) (map (turned east top) (trail middle middle (now (chain .entry))))) ⌝ }
+    requires { ⌜ Spans (now chain) west east × (east - west < length (now lo)) × (east - west < length (now hi)) ⌝ }
+    ensures { λ _. ⌜ (now (lo .exit) ≡ sinks (now (lo .entry)) (map (countedFrom west) (trail middle middle (now (chain .entry))))) × (now (hi .exit) ≡ sinks (now (hi .entry)) (map (turned east top) (trail middle middle (now (chain .entry))))) ⌝ }
 {
     let mut x = Columns::MIDDLE;
     let mut y = Columns::LEVEL;

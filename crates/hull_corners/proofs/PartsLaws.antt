@@ -23,7 +23,7 @@ use Rattle.hull_laws.specs.Outline.{spot, spotBy, outlineOf}
 use Rattle.hull_laws.proofs.StackLaws.{stack-in}
 use Rattle.hull_laws.proofs.JoinLaws.{seam-room, close-room, length-both, parts-outline, spot-by}
 use Rattle.hull_laws.proofs.CallLaws.{room-short, room-enough, written}
-use Rattle.hull_corners.specs.Parts.{joined, twoAt, Near, Listed, Puts, Parts, Chained}
+use Rattle.hull_corners.specs.Parts.{joined, twoAt, Near, ListGiven, Puts, Parts, TwoChains}
 use Rattle.hull_laws.specs.Columns.{middle, top, blank}
 
 -- a corner of the columns fits the numbers of the buffer
@@ -54,7 +54,7 @@ module _ {c : Corner} {w e : ℕ} {lo hi s t : List ℕ} {a f g room : ℕ} (n :
   }
 
 -- the upper chain is written without the corners that the lower one has too
-module _ {w e : ℕ} {lo hi s t : List ℕ} {a b : ℕ} (h : Chained w e lo hi s t a b) (f g : ℕ)
+module _ {w e : ℕ} {lo hi s t : List ℕ} {a b : ℕ} (h : TwoChains w e lo hi s t a b) (f g : ℕ)
     (ef : f ≡ b + tally (eqb (getD lo (e - w) 0 + getD hi 0 0) top)) (eg : g ≡ length t - tally (ltb f (length t) && eqb (getD lo 0 0 + getD hi (e - w) 0) top)) where
   pub seam-le : f ≤ length t
   seam-le = omega (arith, seam-room hi t b (e - w) (eqb (getD lo (e - w) 0 + getD hi 0 0) top) (h .upper .chain))
@@ -78,19 +78,13 @@ module _ {w e : ℕ} {lo hi s t : List ℕ} {a b : ℕ} (h : Chained w e lo hi s
   }
 
   module _ (c : Corner) where
-    x0 : ℤ
-    x0 = c .0 -ℤ pos middle
-
-    y0 : ℤ
-    y0 = c .1 -ℤ pos middle
-
     is : joined c w e lo hi s t a f g ≡ outlineOf (c .0 -ℤ pos middle) (c .1 -ℤ pos middle) w e top lo hi
     is = parts-outline (c .0 -ℤ pos middle) (c .1 -ℤ pos middle) w e top lo hi s t a b f g (h .lower .chain) (h .upper .chain) ef eg
 
     count : length (outlineOf (c .0 -ℤ pos middle) (c .1 -ℤ pos middle) w e top lo hi) ≡ (length s - a) + (g - f)
     count = ap length (sym is) ∙ length-both (c .0 -ℤ pos middle) (c .1 -ℤ pos middle) w e top lo hi s t a f g close-ge close-le
 
-    pub listed-short : (before : List ℤ) → length before < 2 * ((length s - a) + (g - f)) → Listed (outlineOf (c .0 -ℤ pos middle) (c .1 -ℤ pos middle) w e top lo hi) before (Counted.Refused HullRoom) before
+    pub listed-short : (before : List ℤ) → length before < 2 * ((length s - a) + (g - f)) → ListGiven (outlineOf (c .0 -ℤ pos middle) (c .1 -ℤ pos middle) w e top lo hi) before (Counted.Refused HullRoom) before
     listed-short before k = record {
       answer = sym (ap (λ (j : Judged). countedOf j (length (outlineOf (c .0 -ℤ pos middle) (c .1 -ℤ pos middle) w e top lo hi))) short);
       buffer = sym (ap (λ (j : Judged). bufferOf j (outlineOf (c .0 -ℤ pos middle) (c .1 -ℤ pos middle) w e top lo hi) before) short);
@@ -99,7 +93,7 @@ module _ {w e : ℕ} {lo hi s t : List ℕ} {a b : ℕ} (h : Chained w e lo hi s
         short : roomJudged (length before) (length (outlineOf (c .0 -ℤ pos middle) (c .1 -ℤ pos middle) w e top lo hi)) ≡ judged.Refused HullRoom
         short = room-short (length before) (length (outlineOf (c .0 -ℤ pos middle) (c .1 -ℤ pos middle) w e top lo hi)) (omega (arith, count))
 
-    pub listed-enough : (before after : List ℤ) → 2 * ((length s - a) + (g - f)) ≤ length before → after ≡ sets before 0 (numbers (joined c w e lo hi s t a f g)) → Listed (outlineOf (c .0 -ℤ pos middle) (c .1 -ℤ pos middle) w e top lo hi) before (Counted.Corners ((length s - a) + (g - f))) after
+    pub listed-enough : (before after : List ℤ) → 2 * ((length s - a) + (g - f)) ≤ length before → after ≡ sets before 0 (numbers (joined c w e lo hi s t a f g)) → ListGiven (outlineOf (c .0 -ℤ pos middle) (c .1 -ℤ pos middle) w e top lo hi) before (Counted.Corners ((length s - a) + (g - f))) after
     listed-enough before after k z = record {
       answer = ap Counted.Corners (sym count) ∙ sym (ap (λ (j : Judged). countedOf j (length (outlineOf (c .0 -ℤ pos middle) (c .1 -ℤ pos middle) w e top lo hi))) enough);
       buffer = z ∙ ap (λ (l : List Corner). sets before 0 (numbers l)) is ∙ written (outlineOf (c .0 -ℤ pos middle) (c .1 -ℤ pos middle) w e top lo hi) before (omega (arith, count)) ∙ sym (ap (λ (j : Judged). bufferOf j (outlineOf (c .0 -ℤ pos middle) (c .1 -ℤ pos middle) w e top lo hi) before) enough);
@@ -114,7 +108,7 @@ ends-base c base r n =
     (subst (λ (z : Corner). natAbs (z .0) ≤ suc blank) (sym r) (near-axis (c .0) 0 (n .x) (omega arith)), subst (λ (z : Corner). natAbs (z .1) ≤ suc blank) (sym r) (near-axis (c .1) 0 (n .y) (omega arith)))
 
 module _ (c : Corner) (w e : ℕ) where
-  pub ends-short : (before : List ℤ) → length before < 4 → Listed (twoAt c w e) before (Counted.Refused HullRoom) before
+  pub ends-short : (before : List ℤ) → length before < 4 → ListGiven (twoAt c w e) before (Counted.Refused HullRoom) before
   ends-short before k = record {
     answer = sym (ap (λ (j : Judged). countedOf j 2) short);
     buffer = sym (ap (λ (j : Judged). bufferOf j (twoAt c w e) before) short);
@@ -135,7 +129,7 @@ module _ (c : Corner) (w e : ℕ) where
   pub ends-enough : (base : Corner) (before one after : List ℤ) → base ≡ spot (c .0 -ℤ pos middle) (c .1 -ℤ pos middle) (0, 0) → 4 ≤ length before
       → one ≡ set (set before 0 (spotBy base (pos 1) (w, middle) .0)) 1 (spotBy base (pos 1) (w, middle) .1)
       → after ≡ set (set one 2 (spotBy base (pos 1) (e, middle) .0)) 3 (spotBy base (pos 1) (e, middle) .1)
-      → Listed (twoAt c w e) before (Counted.Corners 2) after
+      → ListGiven (twoAt c w e) before (Counted.Corners 2) after
   ends-enough base before one after r k p q = record {
     answer = sym (ap (λ (j : Judged). countedOf j 2) enough);
     buffer =

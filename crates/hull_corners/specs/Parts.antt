@@ -20,7 +20,7 @@ pub record Near (s : Corner) : Type 0 where
   pub y : natAbs (s .1) ≤ mostSteps
 
 -- the list L is counted, and written where there is room
-pub record Listed (L : List Corner) (before : List ℤ) (r : Counted) (after : List ℤ) : Type 0 where
+pub record ListGiven (L : List Corner) (before : List ℤ) (r : Counted) (after : List ℤ) : Type 0 where
   pub answer : r ≡ countedOf (roomJudged (length before) (length L)) (length L)
   pub buffer : after ≡ bufferOf (roomJudged (length before) (length L)) L before
 
@@ -56,7 +56,7 @@ pub record Parts (w e : ℕ) (lo hi s t : List ℕ) (a f g room : ℕ) : Type 0 
   pub columns2 : (j : ℕ) → f ≤ j → j < g → getD t j 0 < length hi
 
 -- the two chains of the columns w to e
-pub record Chained (w e : ℕ) (lo hi s t : List ℕ) (a b : ℕ) : Type 0 where
+pub record TwoChains (w e : ℕ) (lo hi s t : List ℕ) (a b : ℕ) : Type 0 where
   pub ordered : w ≤ e
   pub within : e ≤ top
   pub low : e - w < length lo

@@ -9,13 +9,13 @@ ghost use mathlib.Core.Bool.{_&&_};
 ghost use Prim.Native.Nat.{_+_, _*_, _-_, _<_, _≤_};
 ghost use lib.Dec.{eqb, ltb};
 ghost use Rattle.lists.specs.Lists.{tally};
-ghost use lib.IntN.{ℤ, pos, natAbs, _+ℤ_, _-ℤ_, _*ℤ_};
+ghost use lib.IntN.{pos, natAbs, _+ℤ_, _-ℤ_, _*ℤ_};
 ghost use lib.ListN.{length, set};
 ghost use lib.Seq.{sets, slice};
 ghost use Rattle.hull.specs.Call.{numbers};
 ghost use Rattle.hull_laws.specs.Outline.{outlineOf, spot, spotBy, colAt};
 ghost use Rattle.hull_laws.specs.Columns.{middle, top};
-ghost use Rattle.hull_corners.specs.Parts.{joined, twoAt, Near, Puts, Parts, Chained, Listed};
+ghost use Rattle.hull_corners.specs.Parts.{joined, twoAt, Near, Puts, Parts, TwoChains, ListGiven};
 
 // A coordinate: n steps of `way`, which is 1 or -1, from `base`.
 fn coordinate(base: i32, way: i32, n: u16) -> i32
@@ -136,8 +136,8 @@ pub fn finish(
     b: usize,
     out: &mut [i32],
 ) -> Counted
-    requires { ⌜ Near start × Chained west east (now lo) (now hi) (now s) (now t) a b ⌝ }
-    ensures { λ r. ⌜ Listed (outlineOf (start .0 -ℤ pos middle) (start .1 -ℤ pos middle) west east top (now (lo .entry)) (now (hi .entry))) (now (out .entry)) r (now (out .exit)) ⌝ }
+    requires { ⌜ Near start × TwoChains west east (now lo) (now hi) (now s) (now t) a b ⌝ }
+    ensures { λ r. ⌜ ListGiven (outlineOf (start .0 -ℤ pos middle) (start .1 -ℤ pos middle) west east top (now (lo .entry)) (now (hi .entry))) (now (out .entry)) r (now (out .exit)) ⌝ }
 {
     let k = east - west;
     let f = seam(lo[k], hi[0], b);
@@ -153,7 +153,7 @@ pub fn finish(
 // Writes the corners at the start's height in these two columns if there is room, and answers that there are two.
 pub fn ends(start: Corner, west: usize, east: usize, out: &mut [i32]) -> Counted
     requires { ⌜ Near start × (west ≤ top) × (east ≤ top) ⌝ }
-    ensures { λ r. ⌜ Listed (twoAt start west east) (now (out .entry)) r (now (out .exit)) ⌝ }
+    ensures { λ r. ⌜ ListGiven (twoAt start west east) (now (out .entry)) r (now (out .exit)) ⌝ }
 {
     if out.len() < 4 {
         return Counted::Refused(Refusal::HullRoom);

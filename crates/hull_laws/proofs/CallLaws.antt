@@ -18,7 +18,7 @@ use Rattle.answer.specs.declared.Refusal.the-variants.{TooMany, HullRoom}
 use Rattle.answer.specs.declared.Counted.{Counted}
 use Rattle.answer.specs.Limits.{mostInput}
 use Rattle.answer.specs.Refusal.{when, orElse, firstOf}
-use Rattle.hull.specs.Call.{faultFrom, roomJudged, hullJudged, countedOf, numbers, bufferOf, HullCall}
+use Rattle.hull.specs.Call.{chainJudged, roomJudged, hullJudged, countedOf, numbers, bufferOf, HullCall}
 use Rattle.hull_laws.specs.Outline.{hullOf}
 use Rattle.hull_laws.proofs.OneLaws.{hullIs-one}
 use Rattle.hull_laws.proofs.HullLaws.{hullOf-hull}
@@ -38,15 +38,15 @@ written L before h = sets-eq (numbers L) before 0 (omega (arith, length-numbers 
     count = omega (arith, length-numbers L)
 
 pub judged-many : (chain : List ℕ) (room n : ℕ) → mostInput < length chain → hullJudged chain room n ≡ Refused TooMany
-judged-many chain room n h = ap (λ (b : Bool). firstOf (when b TooMany ∷ faultFrom 0 chain ∷ roomJudged room n ∷ [])) (lt-ltb mostInput (length chain) h)
+judged-many chain room n h = ap (λ (b : Bool). firstOf (when b TooMany ∷ chainJudged 0 chain ∷ roomJudged room n ∷ [])) (lt-ltb mostInput (length chain) h)
 
-judged-rest : (chain : List ℕ) (room n : ℕ) (j : Judged) → length chain ≤ mostInput → faultFrom 0 chain ≡ j → hullJudged chain room n ≡ orElse j (orElse (roomJudged room n) Good)
+judged-rest : (chain : List ℕ) (room n : ℕ) (j : Judged) → length chain ≤ mostInput → chainJudged 0 chain ≡ j → hullJudged chain room n ≡ orElse j (orElse (roomJudged room n) Good)
 judged-rest chain room n j h e = ap₂ (λ (b : Bool) (j : Judged). firstOf (when b TooMany ∷ j ∷ roomJudged room n ∷ [])) (le-ltb mostInput (length chain) h) e
 
-pub judged-fault : (chain : List ℕ) (room n : ℕ) (r : Refusal) → length chain ≤ mostInput → faultFrom 0 chain ≡ Refused r → hullJudged chain room n ≡ Refused r
+pub judged-fault : (chain : List ℕ) (room n : ℕ) (r : Refusal) → length chain ≤ mostInput → chainJudged 0 chain ≡ Refused r → hullJudged chain room n ≡ Refused r
 judged-fault chain room n r h e = judged-rest chain room n (Refused r) h e
 
-pub judged-room : (chain : List ℕ) (room n : ℕ) → length chain ≤ mostInput → faultFrom 0 chain ≡ Good → hullJudged chain room n ≡ roomJudged room n
+pub judged-room : (chain : List ℕ) (room n : ℕ) → length chain ≤ mostInput → chainJudged 0 chain ≡ Good → hullJudged chain room n ≡ roomJudged room n
 judged-room chain room n h e = judged-rest chain room n Good h e ∙ same (roomJudged room n)
   where
     same : (j : Judged) → orElse j Good ≡ j

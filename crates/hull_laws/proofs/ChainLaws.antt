@@ -2,21 +2,21 @@
 -- the chain of those right of it, after what would not make a left turn is dropped from its front (`cut`).
 -- Assumes nothing.
 use mathlib.Core.Path.{_≡_, refl, sym, ap, subst}
-use mathlib.Core.List.{List, [], _∷_, _++_}
+use mathlib.Core.List.{List, [], _∷_, _++_, List·Memᴰ, List·Memᴰ·head, List·Memᴰ·tail, List·Memᴰ·not-nil}
 use mathlib.Core.Logic.{_⊎_, inl, inr, ⊎-elim}
 use mathlib.Core.Bool.{Bool, true, false}
-use lib.IntN.{ℤ, pos}
+use lib.IntN.{pos}
 use lib.Signed.{_≤ℤ_, _<ℤ_, ltZ}
 use Rattle.int_laws.proofs.LinearLaws.{zarith, le-or-lt}
 use Rattle.int_laws.proofs.RangeLaws.{lt-true, lt-false}
 use Rattle.grid.specs.declared.Corner.{Corner}
-use Rattle.hull.specs.Hull.{In, Left, cross}
+use Rattle.hull.specs.Hull.{Left, cross}
 use Rattle.hull_laws.proofs.CornerLaws.{OnLeft, left-join, left-on, left-rot, not-left, on-ext, on-far, on-near, on-self, on-self′}
 
 -- corners from left to right, one in each column
 abbrev pub Sorted : List Corner → Type 0
 Sorted [] = Unit {0}
-Sorted (m ∷ ms) = ((q : Corner) → In q ms → m .0 <ℤ q .0) × Sorted ms
+Sorted (m ∷ ms) = ((q : Corner) → List·Memᴰ q ms → m .0 <ℤ q .0) × Sorted ms
 
 -- b is right of q, or straight below it or at it
 abbrev pub Ends : Corner → Corner → Type 0
@@ -36,7 +36,7 @@ chain (m ∷ ms) = m ∷ cut m (chain ms)
 
 -- all of Q is on or left of a b
 abbrev pub Supp : List Corner → Corner → Corner → Type 0
-Supp Q a b = (q : Corner) → In q Q → OnLeft a b q
+Supp Q a b = (q : Corner) → List·Memᴰ q Q → OnLeft a b q
 
 -- all of Q is on or left of each step of the path
 abbrev pub Path : List Corner → List Corner → Type 0
@@ -49,15 +49,15 @@ abbrev pub Closed : List Corner → List Corner → Type 0
 Closed Q [] = Unit {0}
 Closed Q (b ∷ s) = Path Q (b ∷ (s ++ (b ∷ [])))
 
-abbrev pub Turn : Corner → Corner → List Corner → Type 0
-Turn b a [] = Unit {0}
-Turn b a (z ∷ s) = Left b a z
+abbrev pub TurnsLeft : Corner → Corner → List Corner → Type 0
+TurnsLeft b a [] = Unit {0}
+TurnsLeft b a (z ∷ s) = Left b a z
 
 -- a chain from left to right, which turns left at each corner, with all of Q on or left of each edge, and the lowest of the rightmost of Q at its end
 abbrev pub Chain : List Corner → List Corner → Type 0
 Chain Q [] = Unit {0}
-Chain Q (b ∷ []) = (q : Corner) → In q Q → Ends b q
-Chain Q (b ∷ (a ∷ s)) = (b .0 <ℤ a .0) × Supp Q b a × Turn b a s × Chain Q (a ∷ s)
+Chain Q (b ∷ []) = (q : Corner) → List·Memᴰ q Q → Ends b q
+Chain Q (b ∷ (a ∷ s)) = (b .0 <ℤ a .0) × Supp Q b a × TurnsLeft b a s × Chain Q (a ∷ s)
 
 ends-le : {b q : Corner} → Ends b q → q .0 ≤ℤ b .0
 ends-le (inl h) = omega zarith
@@ -65,12 +65,12 @@ ends-le (inr h) = omega (zarith, h .0)
 
 module _ (Q : List Corner) (p : Corner) where
   supp-more : (a b : Corner) → OnLeft a b p → Supp Q a b → Supp (p ∷ Q) a b
-  supp-more a b h g q (inl e) = subst (λ (z : Corner). OnLeft a b z) (sym e) h
-  supp-more a b h g q (inr m) = g q m
+  supp-more a b h g q (List·Memᴰ·head e) = subst (λ (z : Corner). OnLeft a b z) (sym e) h
+  supp-more a b h g q (List·Memᴰ·tail m) = g q m
 
-  last-more : (b : Corner) → p .0 <ℤ b .0 → ((q : Corner) → In q Q → Ends b q) → (q : Corner) → In q (p ∷ Q) → Ends b q
-  last-more b h g q (inl e) = inl (subst (λ (z : Corner). z .0 <ℤ b .0) (sym e) h)
-  last-more b h g q (inr m) = g q m
+  last-more : (b : Corner) → p .0 <ℤ b .0 → ((q : Corner) → List·Memᴰ q Q → Ends b q) → (q : Corner) → List·Memᴰ q (p ∷ Q) → Ends b q
+  last-more b h g q (List·Memᴰ·head e) = inl (subst (λ (z : Corner). z .0 <ℤ b .0) (sym e) h)
+  last-more b h g q (List·Memᴰ·tail m) = g q m
 
   -- a new corner in front, from which the chain turns left, is left of all its edges
   extend : (b a : Corner) (s : List Corner) → Chain Q (b ∷ (a ∷ s)) → Left p b a → p .0 <ℤ b .0 → Chain (p ∷ Q) (b ∷ (a ∷ s))
@@ -83,19 +83,19 @@ module _ (Q : List Corner) (p : Corner) where
 
   -- what was popped so far lies on or left of p b
   Popped : Corner → Type 0
-  Popped b = (q : Corner) → In q Q → q .0 ≤ℤ b .0 → OnLeft p b q
+  Popped b = (q : Corner) → List·Memᴰ q Q → q .0 ≤ℤ b .0 → OnLeft p b q
 
-  module _ (lo : (q : Corner) → In q Q → p .0 <ℤ q .0) where
-    cut-chain : (b : Corner) (s : List Corner) → ((q : Corner) → In q (b ∷ s) → In q Q) → Chain Q (b ∷ s) → Popped b → Chain (p ∷ Q) (p ∷ cut p (b ∷ s))
+  module _ (lo : (q : Corner) → List·Memᴰ q Q → p .0 <ℤ q .0) where
+    cut-chain : (b : Corner) (s : List Corner) → ((q : Corner) → List·Memᴰ q (b ∷ s) → List·Memᴰ q Q) → Chain Q (b ∷ s) → Popped b → Chain (p ∷ Q) (p ∷ cut p (b ∷ s))
     unfolding cut Popped turns
-    cut-chain b [] sub c j = (lo b (sub b (inl refl)), supp-more p b (on-self′ p b) (λ q m. j q m (ends-le (c q m))), tt, last-more b (lo b (sub b (inl refl))) c)
-    cut-chain b (a ∷ s) sub c j = go (turns p b a) refl (cut-chain a s (λ q m. sub q (inr m)) (c .3))
+    cut-chain b [] sub c j = (lo b (sub b (List·Memᴰ·head refl)), supp-more p b (on-self′ p b) (λ q m. j q m (ends-le (c q m))), tt, last-more b (lo b (sub b (List·Memᴰ·head refl))) c)
+    cut-chain b (a ∷ s) sub c j = go (turns p b a) refl (cut-chain a s (λ q m. sub q (List·Memᴰ·tail m)) (c .3))
       where
         lob : p .0 <ℤ b .0
-        lob = lo b (sub b (inl refl))
+        lob = lo b (sub b (List·Memᴰ·head refl))
 
         loa : p .0 <ℤ a .0
-        loa = lo a (sub a (inr (inl refl)))
+        loa = lo a (sub a (List·Memᴰ·tail (List·Memᴰ·head refl)))
 
         go : (t : Bool) → turns p b a ≡ t → (Popped a → Chain (p ∷ Q) (p ∷ cut p (a ∷ s))) → Chain (p ∷ Q) (p ∷ elim t as (λ x. List Corner) [ true ↦ b ∷ (a ∷ s) | false ↦ cut p (a ∷ s) ])
         go true e f =
@@ -105,35 +105,35 @@ module _ (Q : List Corner) (p : Corner) where
             let w : OnLeft p a b = not-left p b a (lt-false e) in
             f (λ q m h. ⊎-elim (λ g. on-near (j q m g) w lob loa (omega (zarith, lo q m))) (λ g. on-far (c .1 q m) w (c .0) loa h) (le-or-lt (q .0) (b .0)))
 
-cut-sub : (p : Corner) (s : List Corner) (q : Corner) → In q (cut p s) → In q s
+cut-sub : (p : Corner) (s : List Corner) (q : Corner) → List·Memᴰ q (cut p s) → List·Memᴰ q s
 unfolding cut
 cut-sub p [] q m = m
 cut-sub p (b ∷ []) q m = m
 cut-sub p (b ∷ (a ∷ s)) q m = go (turns p b a) (cut-sub p (a ∷ s) q) m
   where
-    go : (t : Bool) → (In q (cut p (a ∷ s)) → In q (a ∷ s)) → In q (elim t as (λ x. List Corner) [ true ↦ b ∷ (a ∷ s) | false ↦ cut p (a ∷ s) ]) → In q (b ∷ (a ∷ s))
+    go : (t : Bool) → (List·Memᴰ q (cut p (a ∷ s)) → List·Memᴰ q (a ∷ s)) → List·Memᴰ q (elim t as (λ x. List Corner) [ true ↦ b ∷ (a ∷ s) | false ↦ cut p (a ∷ s) ]) → List·Memᴰ q (b ∷ (a ∷ s))
     go true f m = m
-    go false f m = inr (f m)
+    go false f m = List·Memᴰ·tail (f m)
 
-pub chain-sub : (ms : List Corner) (q : Corner) → In q (chain ms) → In q ms
+pub chain-sub : (ms : List Corner) (q : Corner) → List·Memᴰ q (chain ms) → List·Memᴰ q ms
 unfolding chain
 chain-sub [] q m = m
-chain-sub (b ∷ ms) q (inl e) = inl e
-chain-sub (b ∷ ms) q (inr m) = inr (chain-sub ms q (cut-sub b (chain ms) q m))
+chain-sub (b ∷ ms) q (List·Memᴰ·head e) = List·Memᴰ·head e
+chain-sub (b ∷ ms) q (List·Memᴰ·tail m) = List·Memᴰ·tail (chain-sub ms q (cut-sub b (chain ms) q m))
 
 pub chain-ok : (ms : List Corner) → Sorted ms → Chain ms (chain ms)
 unfolding chain cut Popped
 chain-ok [] h = tt
 chain-ok (m ∷ []) h = last
   where
-    last : (q : Corner) → In q (m ∷ []) → Ends m q
-    last q (inl e) = inr (ap (λ (z : Corner). z .0) e, omega (zarith, ap (λ (z : Corner). z .1) e))
-    last q (inr n) = absurd n
+    last : (q : Corner) → List·Memᴰ q (m ∷ []) → Ends m q
+    last q (List·Memᴰ·head e) = inr (ap (λ (z : Corner). z .0) e, omega (zarith, ap (λ (z : Corner). z .1) e))
+    last q (List·Memᴰ·tail n) = absurd (List·Memᴰ·not-nil n)
 chain-ok (m ∷ (b ∷ ms)) h = cut-chain (b ∷ ms) m (h .0) b (cut b (chain ms)) (chain-sub (b ∷ ms)) (chain-ok (b ∷ ms) (h .1)) first
   where
-    first : (q : Corner) → In q (b ∷ ms) → q .0 ≤ℤ b .0 → OnLeft m b q
-    first q (inl e) l = subst (λ (z : Corner). OnLeft m b z) (sym e) (on-self m b)
-    first q (inr n) l = absurd (clash (h .1 .0 q n) l)
+    first : (q : Corner) → List·Memᴰ q (b ∷ ms) → q .0 ≤ℤ b .0 → OnLeft m b q
+    first q (List·Memᴰ·head e) l = subst (λ (z : Corner). OnLeft m b z) (sym e) (on-self m b)
+    first q (List·Memᴰ·tail n) l = absurd (clash (h .1 .0 q n) l)
       where
         clash : b .0 <ℤ q .0 → q .0 ≤ℤ b .0 → ⊥
         clash h g = omega zarith

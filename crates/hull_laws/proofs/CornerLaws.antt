@@ -1,15 +1,17 @@
 -- Which way three corners turn.
 -- Assumes nothing.
-use mathlib.Core.Path.{_≡_, ap, subst}
+use mathlib.Core.Bool.{Bool, true, false, false≢true}
+use mathlib.Core.Path.{_≡_, refl, subst}
 use mathlib.Core.List.{[], _∷_}
 use Prim.Native.Nat.{ℕ, _+_, _*_}
 use lib.IntN.{ℤ, pos}
 use lib.Signed.{_≤ℤ_, _<ℤ_}
-use Rattle.int_laws.proofs.LinearLaws.{zarith, zdec}
+use Rattle.int_laws.proofs.LinearLaws.{zarith}
 use Rattle.int_laws.proofs.RingLaws.{E, v, k, _⊖_, _⊗_, ring}
-use Rattle.int_laws.proofs.SignLaws.{h≤, h<, hw, eqt, _⊞_, _⊠_, _⊡_, by≤, by<, by≤÷, by<÷}
+use Rattle.int_laws.proofs.SignLaws.{h≤, h<, hw, eqt, _⊞_, _⊠_, _⊡_, by≤, by≤÷, by<÷}
 use Rattle.grid.specs.declared.Corner.{Corner}
-use Rattle.grid.specs.Grid.{corner}
+use Rattle.grid.specs.Grid.{corner, same}
+use Rattle.grid.proofs.CornerLaws.{same-sound, same-refl}
 use Rattle.hull.specs.Hull.{Left, cross}
 use Rattle.hull.specs.Call.{numbers}
 
@@ -34,13 +36,11 @@ pub corner-eq : (p q : Corner) → p .0 ≡ q .0 → p .1 ≡ q .1 → p ≡ q
 corner-eq p q e f = λ i. corner (e i) (f i)
 
 unfoldable pub corner-dec : (p q : Corner) → Dec (p ≡ q)
-corner-dec p q = go (zdec (p .0) (q .0)) (zdec (p .1) (q .1))
+corner-dec p q = go (same p q) (same-sound p q) (λ e. subst (λ (z : Corner). same p z ≡ true) e (same-refl p))
   where
-    go : Dec (p .0 ≡ q .0) → Dec (p .1 ≡ q .1) → Dec (p ≡ q)
-    go (yes e) (yes f) = yes (corner-eq p q e f)
-    go (yes e) (no f) = no (λ r. f (ap (λ (z : Corner). z .1) r))
-    go (no e) (yes f) = no (λ r. e (ap (λ (z : Corner). z .0) r))
-    go (no e) (no f) = no (λ r. e (ap (λ (z : Corner). z .0) r))
+    go : (b : Bool) → (b ≡ true → p ≡ q) → (p ≡ q → b ≡ true) → Dec (p ≡ q)
+    go true f g = yes (f refl)
+    go false f g = no (λ e. false≢true (g e))
 
 pub cross-rot : (a b c : Corner) → cross a b c ≡ cross b c a
 unfolding cross

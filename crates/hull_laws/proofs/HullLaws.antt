@@ -1,41 +1,26 @@
 -- Every walk has a hull; what else holds of it.
 -- Assumes nothing.
-use mathlib.Core.Path.{_≡_, refl, sym, subst}
-use mathlib.Core.List.{List, [], _∷_, List·Memᴰ, List·Memᴰ·head, List·Memᴰ·tail}
-use mathlib.Core.Logic.{inl, inr}
+use mathlib.Core.Path.{_≡_, sym, subst}
+use mathlib.Core.List.{List, [], List·Memᴰ}
 use Prim.Native.Nat.{ℕ, suc, _*_, _-_, _≤_, _+_}
 use native.Mathlib.Omega.{arith}
 use lib.ListN.{length, replicate, length-replicate, getD-replicate}
 use lib.IntN.{ℤ, pos, _+ℤ_, _-ℤ_}
 use Rattle.int_laws.proofs.LinearLaws.{zarith, bal+, bal-}
 use Rattle.grid.specs.declared.Corner.{Corner}
-use Rattle.lists.specs.Lists.{gather, Distinct}
+use Rattle.lists.specs.Lists.{gather}
 use Rattle.lists.proofs.GatherLaws.{mem-gather-right}
 use Rattle.lists.proofs.PigeonLaws.{pigeon}
 use Rattle.grid.specs.Grid.{same, cornersFrom}
 use Rattle.grid.proofs.CornerLaws.{same-sound, same-refl}
 use Rattle.grid.proofs.StepLaws.{length-cornersFrom}
-use Rattle.hull.specs.Hull.{In, Pairs, HullIs}
+use Rattle.hull.specs.Hull.{HullIs}
 use Rattle.hull_laws.specs.Columns.{westFrom, eastFrom}
 use Rattle.hull_laws.specs.Outline.{spot, hullOf}
 use Rattle.hull_laws.proofs.CornerLaws.{corner-eq}
 use Rattle.hull_laws.proofs.WalkLaws.{Room, columns-both}
 use Rattle.hull_laws.proofs.ChainLaws.{Closed}
 use Rattle.hull_laws.proofs.OneLaws.{hullIs-one}
-
--- the two ways to say that a corner is one of a list
-mem-in : {q : Corner} {l : List Corner} → List·Memᴰ q l → In q l
-mem-in (List·Memᴰ·head e) = inl e
-mem-in (List·Memᴰ·tail m) = inr (mem-in m)
-
-in-mem : {q : Corner} (l : List Corner) → In q l → List·Memᴰ q l
-in-mem [] m = absurd m
-in-mem (c ∷ l) (inl e) = List·Memᴰ·head e
-in-mem (c ∷ l) (inr m) = List·Memᴰ·tail (in-mem l m)
-
-distinct : (l : List Corner) → Pairs (λ a b. ¬ (a ≡ b)) l → Distinct l
-distinct [] d = tt
-distinct (c ∷ l) d = ((λ m. d .0 c (mem-in m) refl), distinct l (d .1))
 
 hullOf-both : (s : Corner) (ds : List ℕ) → HullIs (cornersFrom s ds) (hullOf s ds) × Closed (cornersFrom s ds) (hullOf s ds)
 unfolding hullOf
@@ -85,16 +70,16 @@ module _ (s : Corner) (ds : List ℕ) (L : List Corner) (h : HullIs (cornersFrom
   hull-edges = subst (Closed (cornersFrom s ds)) (sym hull-hullOf) (hullOf-both s ds .1)
 
   -- its corners are visited
-  pub hull-visited : (q : Corner) → In q L → In q (cornersFrom s ds)
+  pub hull-visited : (q : Corner) → List·Memᴰ q L → List·Memᴰ q (cornersFrom s ds)
   hull-visited q m = h .corners q .0 m .visited
 
   -- there are no more of them than different corners visited
   pub hull-count : length L ≤ length (gather same [] (cornersFrom s ds))
-  hull-count = pigeon L (gather same [] (cornersFrom s ds)) (distinct L (h .once)) (λ a m. mem-gather-right same same-sound same-refl [] (cornersFrom s ds) (in-mem (cornersFrom s ds) (hull-visited a (mem-in m))))
+  hull-count = pigeon L (gather same [] (cornersFrom s ds)) (h .once) (λ a m. mem-gather-right same same-sound same-refl [] (cornersFrom s ds) (hull-visited a m))
 
   -- nor than steps and one
   pub hull-count-steps : length L ≤ suc (length ds)
-  hull-count-steps = omega (arith, pigeon L (cornersFrom s ds) (distinct L (h .once)) (λ a m. in-mem (cornersFrom s ds) (hull-visited a (mem-in m))), length-cornersFrom s ds)
+  hull-count-steps = omega (arith, pigeon L (cornersFrom s ds) (h .once) hull-visited, length-cornersFrom s ds)
 
 pub length-hullOf : (s : Corner) (w : List ℕ) → length (hullOf s w) ≤ length w + 1
 length-hullOf s w = omega (arith, hull-count-steps s w (hullOf s w) (hullOf-hull s w))

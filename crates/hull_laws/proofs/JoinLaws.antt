@@ -15,7 +15,6 @@ use lib.Seq.{sets, slice, slice-cons, slice-empty, length-slice, take-length, dr
 use Rattle.int_laws.proofs.LinearLaws.{zarith, bal+}
 use Rattle.lists.specs.Lists.{tally, front}
 use Rattle.grid.specs.declared.Corner.{Corner}
-use Rattle.grid.specs.Grid.{corner}
 use Rattle.hull.specs.Call.{numbers}
 use Rattle.hull_laws.specs.Outline.{chainFrom, spot, spotBack, spotBy, colAt, skip, stop, upper, outlineOf}
 use Rattle.hull_laws.proofs.CornerLaws.{corner-eq}

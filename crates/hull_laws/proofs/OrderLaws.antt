@@ -1,7 +1,7 @@
 -- The corners in their order: from edges that have all corners on or left of them to the statement on any three.
 -- Assumes nothing.
 use mathlib.Core.Path.{_≡_, refl, sym, subst}
-use mathlib.Core.List.{List, [], _∷_}
+use mathlib.Core.List.{List, [], _∷_, List·Memᴰ, List·Memᴰ·head, List·Memᴰ·tail, List·Memᴰ·not-nil}
 use mathlib.Core.Logic.{_⊎_, inl, inr, ⊎-elim}
 use Prim.Native.Nat.{ℕ}
 use lib.IntN.{ℤ, pos, _-ℤ_, _*ℤ_, *ℤ-comm}
@@ -11,7 +11,8 @@ use Rattle.int_laws.proofs.RingLaws.{E, v, _⊕_, _⊖_, _⊗_}
 use Rattle.int_laws.proofs.SignLaws.{h≤, h<, hw, h≡, h≢, h0, hp, eqt, by≤, by<, by⊥, by≡, by<÷, _⊞_, _⊠_, _⊡_}
 use Rattle.grid.specs.declared.Corner.{Corner}
 use Rattle.hull.specs.Call.{numbers}
-use Rattle.hull.specs.Hull.{Begins, Ccw, Exposed, In, Left, Pairs, cross, reach}
+use Rattle.lists.specs.Lists.{Distinct}
+use Rattle.hull.specs.Hull.{Begins, Ccw, Exposed, Left, Pairs, cross, reach}
 use Rattle.hull_laws.proofs.ChainLaws.{Supp}
 use Rattle.hull_laws.proofs.CornerLaws.{O, OnLeft, X, Y, cr, left-rot, on-rot, corner-eq}
 
@@ -55,7 +56,7 @@ turn-in u w o a b c l m f g h n =
 left-ne₁ : {a b c : Corner} → Left a b c → ¬ (a ≡ c)
 left-ne₁ h e = left-ne (left-rot h) (sym e)
 
-pub turn-left : (P : List Corner) (o a b c : Corner) → In o P → In a P → In c P → Exposed P b → Left o a b → Left o b c → Left a b c
+pub turn-left : (P : List Corner) (o a b c : Corner) → List·Memᴰ o P → List·Memᴰ a P → List·Memᴰ c P → Exposed P b → Left o a b → Left o b c → Left a b c
 turn-left P o a b c i j l e f g = go (le-or-lt (cross a b c) (pos 0))
   where
     go : (cross a b c ≤ℤ pos 0) ⊎ (pos 0 <ℤ cross a b c) → Left a b c
@@ -107,7 +108,7 @@ above o a d e h = go (le-or-lt (a .1) (o .1))
     go (inl l) = absurd (d (corner-eq o a e (omega zarith)))
 
 -- o is the first, all three are corners, and o, a, b are in a line
-in-line : (P : List Corner) (o a b : Corner) → In o P → Exposed P a → Exposed P b → Begins o a → Begins o b → ¬ (o ≡ a) → ¬ (o ≡ b) → ¬ (a ≡ b) → cross o a b ≡ pos 0 → ⊥
+in-line : (P : List Corner) (o a b : Corner) → List·Memᴰ o P → Exposed P a → Exposed P b → Begins o a → Begins o b → ¬ (o ≡ a) → ¬ (o ≡ b) → ¬ (a ≡ b) → cross o a b ≡ pos 0 → ⊥
 in-line P o a b i ea eb f g d d′ d″ z = go f g
   where
     a-o : reach (ea .u) (ea .v) o <ℤ reach (ea .u) (ea .v) a
@@ -128,7 +129,7 @@ in-line P o a b i ea eb f g d d′ d″ z = go f g
     go (inr f) (inl g) = askew o b a g (f .0) (above o a d (f .0) (f .1)) (swap-zero o a b z)
     go (inr f) (inr g) = ⊎-elim (λ l. line-y (ea .u) (ea .v) o a b (f .0) (g .0) (above o a d (f .0) (f .1)) l a-o a-b) (λ l. line-y (eb .u) (eb .v) o b a (g .0) (f .0) (above o b d′ (g .0) (g .1)) (omega zarith) b-o b-a) (le-or-lt (a .1) (b .1))
 
-pub strict : (P : List Corner) (o a b : Corner) → In o P → Exposed P a → Exposed P b → Begins o a → Begins o b → ¬ (o ≡ a) → ¬ (o ≡ b) → ¬ (a ≡ b) → OnLeft a b o → Left o a b
+pub strict : (P : List Corner) (o a b : Corner) → List·Memᴰ o P → Exposed P a → Exposed P b → Begins o a → Begins o b → ¬ (o ≡ a) → ¬ (o ≡ b) → ¬ (a ≡ b) → OnLeft a b o → Left o a b
 strict P o a b i ea eb f g d d′ d″ h = go (le-or-lt (cross o a b) (pos 0)) (on-rot (on-rot h))
   where
     go : (cross o a b ≤ℤ pos 0) ⊎ (pos 0 <ℤ cross o a b) → OnLeft o a b → Left o a b
@@ -145,33 +146,33 @@ pub edges-tail : (P : List Corner) (b : Corner) (s : List Corner) → Edges P (b
 edges-tail P b [] h = tt
 edges-tail P b (a ∷ s) h = h .2
 
-module _ (P : List Corner) (o : Corner) (i : In o P) (first : (q : Corner) → In q P → Begins o q) where
-  fan : (R : List Corner) → Edges P R → ((q : Corner) → In q R → Exposed P q) → ((q : Corner) → In q R → ¬ (o ≡ q)) → Pairs (λ a b. Left o a b) R
+module _ (P : List Corner) (o : Corner) (i : List·Memᴰ o P) (first : (q : Corner) → List·Memᴰ q P → Begins o q) where
+  fan : (R : List Corner) → Edges P R → ((q : Corner) → List·Memᴰ q R → Exposed P q) → ((q : Corner) → List·Memᴰ q R → ¬ (o ≡ q)) → Pairs (λ a b. Left o a b) R
   fan [] h e d = tt
-  fan (a ∷ []) h e d = ((λ b m. absurd m), tt)
-  fan (a ∷ (b ∷ s)) h e d = both (fan (b ∷ s) (h .2) (λ q m. e q (inr m)) (λ q m. d q (inr m)))
+  fan (a ∷ []) h e d = ((λ b m. absurd (List·Memᴰ·not-nil m)), tt)
+  fan (a ∷ (b ∷ s)) h e d = both (fan (b ∷ s) (h .2) (λ q m. e q (List·Memᴰ·tail m)) (λ q m. d q (List·Memᴰ·tail m)))
     where
       ab : Left o a b
-      ab = strict P o a b i (e a (inl refl)) (e b (inr (inl refl))) (first a (e a (inl refl) .visited)) (first b (e b (inr (inl refl)) .visited)) (d a (inl refl)) (d b (inr (inl refl))) (h .0) (h .1 o i)
+      ab = strict P o a b i (e a (List·Memᴰ·head refl)) (e b (List·Memᴰ·tail (List·Memᴰ·head refl))) (first a (e a (List·Memᴰ·head refl) .visited)) (first b (e b (List·Memᴰ·tail (List·Memᴰ·head refl)) .visited)) (d a (List·Memᴰ·head refl)) (d b (List·Memᴰ·tail (List·Memᴰ·head refl))) (h .0) (h .1 o i)
 
-      near : Pairs (λ a b. Left o a b) (b ∷ s) → (c : Corner) → In c (b ∷ s) → Left o a c
-      near rest c (inl r) = subst (λ (z : Corner). Left o a z) (sym r) ab
-      near rest c (inr m) = left-trans o a b c (first a (e a (inl refl) .visited)) (first b (e b (inr (inl refl)) .visited)) (first c (e c (inr (inr m)) .visited)) ab (rest .0 c m)
+      near : Pairs (λ a b. Left o a b) (b ∷ s) → (c : Corner) → List·Memᴰ c (b ∷ s) → Left o a c
+      near rest c (List·Memᴰ·head r) = subst (λ (z : Corner). Left o a z) (sym r) ab
+      near rest c (List·Memᴰ·tail m) = left-trans o a b c (first a (e a (List·Memᴰ·head refl) .visited)) (first b (e b (List·Memᴰ·tail (List·Memᴰ·head refl)) .visited)) (first c (e c (List·Memᴰ·tail (List·Memᴰ·tail m)) .visited)) ab (rest .0 c m)
 
       both : Pairs (λ a b. Left o a b) (b ∷ s) → Pairs (λ a b. Left o a b) (a ∷ (b ∷ s))
       both rest = (near rest, rest)
 
-  pairs-of : (a : Corner) (R : List Corner) → In a P → ((q : Corner) → In q R → Exposed P q) → ((q : Corner) → In q R → Left o a q) → Pairs (λ b c. Left o b c) R → Pairs (λ b c. Left a b c) R
+  pairs-of : (a : Corner) (R : List Corner) → List·Memᴰ a P → ((q : Corner) → List·Memᴰ q R → Exposed P q) → ((q : Corner) → List·Memᴰ q R → Left o a q) → Pairs (λ b c. Left o b c) R → Pairs (λ b c. Left a b c) R
   pairs-of a [] n e f h = tt
-  pairs-of a (b ∷ s) n e f h = ((λ c m. turn-left P o a b c i n (e c (inr m) .visited) (e b (inl refl)) (f b (inl refl)) (h .0 c m)), pairs-of a s n (λ q m. e q (inr m)) (λ q m. f q (inr m)) (h .1))
+  pairs-of a (b ∷ s) n e f h = ((λ c m. turn-left P o a b c i n (e c (List·Memᴰ·tail m) .visited) (e b (List·Memᴰ·head refl)) (f b (List·Memᴰ·head refl)) (h .0 c m)), pairs-of a s n (λ q m. e q (List·Memᴰ·tail m)) (λ q m. f q (List·Memᴰ·tail m)) (h .1))
 
-  ccw-of : (R : List Corner) → ((q : Corner) → In q R → Exposed P q) → Pairs (λ b c. Left o b c) R → Ccw R
+  ccw-of : (R : List Corner) → ((q : Corner) → List·Memᴰ q R → Exposed P q) → Pairs (λ b c. Left o b c) R → Ccw R
   ccw-of [] e h = tt
-  ccw-of (a ∷ s) e h = (pairs-of a s (e a (inl refl) .visited) (λ q m. e q (inr m)) (h .0) (h .1), ccw-of s (λ q m. e q (inr m)) (h .1))
+  ccw-of (a ∷ s) e h = (pairs-of a s (e a (List·Memᴰ·head refl) .visited) (λ q m. e q (List·Memᴰ·tail m)) (h .0) (h .1), ccw-of s (λ q m. e q (List·Memᴰ·tail m)) (h .1))
 
-  once-of : (R : List Corner) → Pairs (λ b c. Left o b c) R → Pairs (λ a b. ¬ (a ≡ b)) R
+  once-of : (R : List Corner) → Pairs (λ b c. Left o b c) R → Distinct R
   once-of [] h = tt
-  once-of (a ∷ s) h = ((λ b m. left-ne (h .0 b m)), once-of s (h .1))
+  once-of (a ∷ s) h = ((λ m. left-ne (h .0 a m) refl), once-of s (h .1))
 
-  pub ordered : (R : List Corner) → Edges P R → ((q : Corner) → In q R → Exposed P q) → ((q : Corner) → In q R → ¬ (o ≡ q)) → Ccw (o ∷ R) × Pairs (λ a b. ¬ (a ≡ b)) (o ∷ R)
-  ordered R h e d = ((fan R h e d, ccw-of R e (fan R h e d)), (d, once-of R (fan R h e d)))
+  pub ordered : (R : List Corner) → Edges P R → ((q : Corner) → List·Memᴰ q R → Exposed P q) → ((q : Corner) → List·Memᴰ q R → ¬ (o ≡ q)) → Ccw (o ∷ R) × Distinct (o ∷ R)
+  ordered R h e d = ((fan R h e d, ccw-of R e (fan R h e d)), ((λ m. d o m refl), once-of R (fan R h e d)))

@@ -2,8 +2,7 @@
 -- Assumes nothing.
 use mathlib.Core.Path.{_≡_, refl, sym, ap, _∙_}
 use mathlib.Core.Bool.{Bool, true, false}
-use mathlib.Core.List.{List, [], _∷_, _++_, map}
-use mathlib.Core.Logic.{inl, inr}
+use mathlib.Core.List.{List, [], _∷_, _++_, map, List·Memᴰ, List·Memᴰ·head, List·Memᴰ·tail, Memᴰ·of-map}
 use Prim.Native.Nat.{ℕ, suc, _+_, _<_}
 use native.Mathlib.Omega.{arith}
 use lib.ListN.{getD}
@@ -13,33 +12,31 @@ use lib.IntN.{ℤ, pos, _+ℤ_, _-ℤ_}
 use lib.Signed.{_<ℤ_}
 use Rattle.int_laws.proofs.LinearLaws.{zarith, bal+, bal-}
 use Rattle.grid.specs.declared.Corner.{Corner}
-use Rattle.hull.specs.Hull.{In}
 use Rattle.hull_laws.specs.Outline.{chainFrom, cutAt, spot, spotBack, colAt, skip, stop, upper}
 use Rattle.hull_laws.proofs.CornerLaws.{corner-eq, corner-dec}
 use Rattle.hull_laws.proofs.RoundLaws.{lastOf, behead, trim, round}
 use Rattle.hull_laws.proofs.SideLaws.{ne-x}
-use Rattle.hull_laws.proofs.SinkLaws.{in-map}
 use Rattle.hull_laws.proofs.ScanLaws.{chain-rest, chain-last}
 
 -- the path is the lower chain and then what is left of the upper
-trim-last : (c : Corner) (s : List Corner) → ((q : Corner) → In q s → ¬ (q ≡ c)) → trim c s ≡ s
+trim-last : (c : Corner) (s : List Corner) → ((q : Corner) → List·Memᴰ q s → ¬ (q ≡ c)) → trim c s ≡ s
 unfolding trim
 trim-last c [] h = refl
 trim-last c (b ∷ []) h = go (corner-dec b c)
   where
     go : (z : Dec (b ≡ c)) → elim z as (λ x. List Corner) [ yes e ↦ [] | no e ↦ b ∷ [] ] ≡ b ∷ []
-    go (yes r) = absurd (h b (inl refl) r)
+    go (yes r) = absurd (h b (List·Memᴰ·head refl) r)
     go (no r) = refl
-trim-last c (b ∷ (a ∷ s)) h = ap (λ (t : List Corner). b ∷ t) (trim-last c (a ∷ s) (λ q m. h q (inr m)))
+trim-last c (b ∷ (a ∷ s)) h = ap (λ (t : List Corner). b ∷ t) (trim-last c (a ∷ s) (λ q m. h q (List·Memᴰ·tail m)))
 
-trim-append : (c : Corner) (s t : List Corner) → ((q : Corner) → In q s → ¬ (q ≡ c)) → trim c (s ++ t) ≡ s ++ trim c t
+trim-append : (c : Corner) (s t : List Corner) → ((q : Corner) → List·Memᴰ q s → ¬ (q ≡ c)) → trim c (s ++ t) ≡ s ++ trim c t
 unfolding trim
 trim-append c [] t h = refl
 trim-append c (b ∷ []) [] h = trim-last c (b ∷ []) h
 trim-append c (b ∷ []) (a ∷ t) h = refl
-trim-append c (b ∷ (a ∷ s)) t h = ap (λ (t : List Corner). b ∷ t) (trim-append c (a ∷ s) t (λ q m. h q (inr m)))
+trim-append c (b ∷ (a ∷ s)) t h = ap (λ (t : List Corner). b ∷ t) (trim-append c (a ∷ s) t (λ q m. h q (List·Memᴰ·tail m)))
 
-round-parts : (b : Corner) (s D : List Corner) → ((q : Corner) → In q s → ¬ (q ≡ b)) → round (b ∷ s) D ≡ (b ∷ s) ++ trim b (behead (lastOf b s) D)
+round-parts : (b : Corner) (s D : List Corner) → ((q : Corner) → List·Memᴰ q s → ¬ (q ≡ b)) → round (b ∷ s) D ≡ (b ∷ s) ++ trim b (behead (lastOf b s) D)
 unfolding round
 round-parts b s D h = ap (λ (t : List Corner). b ∷ t) (trim-append b s (behead (lastOf b s) D) h)
 
@@ -86,12 +83,6 @@ last-skip k false b s e = e
 
 -- the lower and the upper chain of columns 0 to k: h is the height from which the upper one counts down
 module _ (x0 y0 : ℤ) (k h : ℕ) (lo hi : List ℕ) where
-  x1 : ℤ
-  x1 = x0 +ℤ pos k
-
-  y1 : ℤ
-  y1 = y0 +ℤ pos h
-
   f : ℕ → Corner
   f c = spot x0 y0 (colAt lo c)
 
@@ -120,11 +111,11 @@ module _ (x0 y0 : ℤ) (k h : ℕ) (lo hi : List ℕ) where
       zero-left : 0 + k ≡ k
       zero-left = omega arith
 
-  apart : (q : Corner) → In q (map f (cutAt lo 0 (chainFrom lo 1 k))) → ¬ (q ≡ f 0)
+  apart : (q : Corner) → List·Memᴰ q (map f (cutAt lo 0 (chainFrom lo 1 k))) → ¬ (q ≡ f 0)
   unfolding f
   apart q m e =
-      let t = in-map f (cutAt lo 0 (chainFrom lo 1 k)) q m in
-      ne-x (f 0) (f (t .0)) (right (t .0) (chain-rest lo 0 k (t .0) (t .1))) (sym e ∙ t .2)
+      let t = Memᴰ·of-map f (cutAt lo 0 (chainFrom lo 1 k)) m in
+      ne-x (f 0) (f (t .0)) (right (t .0) (chain-rest lo 0 k (t .0) (t .1))) (sym (t .2 ∙ e))
     where
       right : (c : ℕ) → 0 < c → (x0 +ℤ pos 0) <ℤ (x0 +ℤ pos c)
       right c l = omega (zarith, bal+ x0 (pos 0), bal+ x0 (pos c))

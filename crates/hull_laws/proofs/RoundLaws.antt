@@ -1,11 +1,9 @@
 -- Two paths joined: without the corner that both have where they meet, and where they close.
 -- Assumes nothing.
 use mathlib.Core.Path.{_≡_, refl, sym, _∙_, subst}
-use mathlib.Core.List.{List, [], _∷_, _++_}
+use mathlib.Core.List.{List, [], _∷_, _++_, List·Memᴰ, List·Memᴰ·head, List·Memᴰ·tail, List·Memᴰ·not-nil}
 use mathlib.Core.Logic.{_⊎_, inl, inr, ⊎-elim}
 use Rattle.grid.specs.declared.Corner.{Corner}
-use Rattle.hull.specs.Hull.{In}
-use Rattle.grid.specs.Grid.{corner}
 use Rattle.hull_laws.proofs.ChainLaws.{Supp}
 use Rattle.hull_laws.proofs.CornerLaws.{corner-dec}
 use Rattle.hull_laws.proofs.OrderLaws.{Edges}
@@ -29,66 +27,52 @@ unfoldable pub round : List Corner → List Corner → List Corner
 round [] D = []
 round (b ∷ s) D = b ∷ trim b (s ++ behead (lastOf b s) D)
 
-pub in-last : (b : Corner) (s : List Corner) → In (lastOf b s) (b ∷ s)
+pub in-last : (b : Corner) (s : List Corner) → List·Memᴰ (lastOf b s) (b ∷ s)
 unfolding lastOf
-in-last b [] = inl refl
-in-last b (a ∷ s) = inr (in-last a s)
+in-last b [] = List·Memᴰ·head refl
+in-last b (a ∷ s) = List·Memᴰ·tail (in-last a s)
 
-pub in-append : (s t : List Corner) (q : Corner) → In q (s ++ t) → In q s ⊎ In q t
-in-append [] t q m = inr m
-in-append (a ∷ s) t q (inl e) = inl (inl e)
-in-append (a ∷ s) t q (inr m) = ⊎-elim (λ n. inl (inr n)) (λ n. inr n) (in-append s t q m)
-
-pub append-l : (s t : List Corner) (q : Corner) → In q s → In q (s ++ t)
-append-l [] t q m = absurd m
-append-l (a ∷ s) t q (inl e) = inl e
-append-l (a ∷ s) t q (inr m) = inr (append-l s t q m)
-
-pub append-r : (s t : List Corner) (q : Corner) → In q t → In q (s ++ t)
-append-r [] t q m = m
-append-r (a ∷ s) t q m = inr (append-r s t q m)
-
-pub in-behead : (c : Corner) (s : List Corner) (q : Corner) → In q (behead c s) → In q s
+pub in-behead : (c : Corner) (s : List Corner) (q : Corner) → List·Memᴰ q (behead c s) → List·Memᴰ q s
 unfolding behead
 in-behead c [] q m = m
 in-behead c (d ∷ s) q m = go (corner-dec d c) m
   where
-    go : (z : Dec (d ≡ c)) → In q (elim z as (λ x. List Corner) [ yes e ↦ s | no e ↦ d ∷ s ]) → In q (d ∷ s)
-    go (yes e) m = inr m
+    go : (z : Dec (d ≡ c)) → List·Memᴰ q (elim z as (λ x. List Corner) [ yes e ↦ s | no e ↦ d ∷ s ]) → List·Memᴰ q (d ∷ s)
+    go (yes e) m = List·Memᴰ·tail m
     go (no e) m = m
 
-pub behead-in : (c : Corner) (s : List Corner) (q : Corner) → In q s → In q (behead c s) ⊎ (q ≡ c)
+pub behead-in : (c : Corner) (s : List Corner) (q : Corner) → List·Memᴰ q s → List·Memᴰ q (behead c s) ⊎ (q ≡ c)
 unfolding behead
 behead-in c [] q m = inl m
 behead-in c (d ∷ s) q m = go (corner-dec d c) m
   where
-    go : (z : Dec (d ≡ c)) → In q (d ∷ s) → In q (elim z as (λ x. List Corner) [ yes e ↦ s | no e ↦ d ∷ s ]) ⊎ (q ≡ c)
-    go (yes e) (inl r) = inr (r ∙ e)
-    go (yes e) (inr m) = inl m
+    go : (z : Dec (d ≡ c)) → List·Memᴰ q (d ∷ s) → List·Memᴰ q (elim z as (λ x. List Corner) [ yes e ↦ s | no e ↦ d ∷ s ]) ⊎ (q ≡ c)
+    go (yes e) (List·Memᴰ·head r) = inr (r ∙ e)
+    go (yes e) (List·Memᴰ·tail m) = inl m
     go (no e) m = inl m
 
-pub in-trim : (c : Corner) (s : List Corner) (q : Corner) → In q (trim c s) → In q s
+pub in-trim : (c : Corner) (s : List Corner) (q : Corner) → List·Memᴰ q (trim c s) → List·Memᴰ q s
 unfolding trim
 in-trim c [] q m = m
 in-trim c (b ∷ []) q m = go (corner-dec b c) m
   where
-    go : (z : Dec (b ≡ c)) → In q (elim z as (λ x. List Corner) [ yes e ↦ [] | no e ↦ b ∷ [] ]) → In q (b ∷ [])
-    go (yes e) m = absurd m
+    go : (z : Dec (b ≡ c)) → List·Memᴰ q (elim z as (λ x. List Corner) [ yes e ↦ [] | no e ↦ b ∷ [] ]) → List·Memᴰ q (b ∷ [])
+    go (yes e) m = absurd (List·Memᴰ·not-nil m)
     go (no e) m = m
-in-trim c (b ∷ (a ∷ s)) q (inl e) = inl e
-in-trim c (b ∷ (a ∷ s)) q (inr m) = inr (in-trim c (a ∷ s) q m)
+in-trim c (b ∷ (a ∷ s)) q (List·Memᴰ·head e) = List·Memᴰ·head e
+in-trim c (b ∷ (a ∷ s)) q (List·Memᴰ·tail m) = List·Memᴰ·tail (in-trim c (a ∷ s) q m)
 
-pub trim-in : (c : Corner) (s : List Corner) (q : Corner) → In q s → In q (trim c s) ⊎ (q ≡ c)
+pub trim-in : (c : Corner) (s : List Corner) (q : Corner) → List·Memᴰ q s → List·Memᴰ q (trim c s) ⊎ (q ≡ c)
 unfolding trim
 trim-in c [] q m = inl m
 trim-in c (b ∷ []) q m = go (corner-dec b c) m
   where
-    go : (z : Dec (b ≡ c)) → In q (b ∷ []) → In q (elim z as (λ x. List Corner) [ yes e ↦ [] | no e ↦ b ∷ [] ]) ⊎ (q ≡ c)
-    go (yes e) (inl r) = inr (r ∙ e)
-    go (yes e) (inr m) = absurd m
+    go : (z : Dec (b ≡ c)) → List·Memᴰ q (b ∷ []) → List·Memᴰ q (elim z as (λ x. List Corner) [ yes e ↦ [] | no e ↦ b ∷ [] ]) ⊎ (q ≡ c)
+    go (yes e) (List·Memᴰ·head r) = inr (r ∙ e)
+    go (yes e) (List·Memᴰ·tail m) = absurd (List·Memᴰ·not-nil m)
     go (no e) m = inl m
-trim-in c (b ∷ (a ∷ s)) q (inl e) = inl (inl e)
-trim-in c (b ∷ (a ∷ s)) q (inr m) = ⊎-elim (λ n. inl (inr n)) (λ n. inr n) (trim-in c (a ∷ s) q m)
+trim-in c (b ∷ (a ∷ s)) q (List·Memᴰ·head e) = inl (List·Memᴰ·head e)
+trim-in c (b ∷ (a ∷ s)) q (List·Memᴰ·tail m) = ⊎-elim (λ n. inl (List·Memᴰ·tail n)) (λ n. inr n) (trim-in c (a ∷ s) q m)
 
 -- o is nowhere but perhaps at the end
 abbrev pub Off : Corner → List Corner → Type 0
@@ -96,23 +80,23 @@ Off o [] = Unit {0}
 Off o (b ∷ []) = Unit {0}
 Off o (b ∷ (a ∷ s)) = (¬ (o ≡ b)) × Off o (a ∷ s)
 
-pub off-trim : (o : Corner) (s : List Corner) → Off o s → (q : Corner) → In q (trim o s) → ¬ (o ≡ q)
+pub off-trim : (o : Corner) (s : List Corner) → Off o s → (q : Corner) → List·Memᴰ q (trim o s) → ¬ (o ≡ q)
 unfolding trim
-off-trim o [] h q m = absurd m
+off-trim o [] h q m = absurd (List·Memᴰ·not-nil m)
 off-trim o (b ∷ []) h q m = go (corner-dec b o) m
   where
-    go : (z : Dec (b ≡ o)) → In q (elim z as (λ x. List Corner) [ yes e ↦ [] | no e ↦ b ∷ [] ]) → ¬ (o ≡ q)
-    go (yes e) m = absurd m
-    go (no e) (inl r) = λ i. e (sym r ∙ sym i)
-    go (no e) (inr m) = absurd m
-off-trim o (b ∷ (a ∷ s)) h q (inl e) = λ i. h .0 (i ∙ e)
-off-trim o (b ∷ (a ∷ s)) h q (inr m) = off-trim o (a ∷ s) (h .1) q m
+    go : (z : Dec (b ≡ o)) → List·Memᴰ q (elim z as (λ x. List Corner) [ yes e ↦ [] | no e ↦ b ∷ [] ]) → ¬ (o ≡ q)
+    go (yes e) m = absurd (List·Memᴰ·not-nil m)
+    go (no e) (List·Memᴰ·head r) = λ i. e (sym r ∙ sym i)
+    go (no e) (List·Memᴰ·tail m) = absurd (List·Memᴰ·not-nil m)
+off-trim o (b ∷ (a ∷ s)) h q (List·Memᴰ·head e) = λ i. h .0 (i ∙ e)
+off-trim o (b ∷ (a ∷ s)) h q (List·Memᴰ·tail m) = off-trim o (a ∷ s) (h .1) q m
 
-pub off-append : (o : Corner) (s t : List Corner) → ((q : Corner) → In q s → ¬ (o ≡ q)) → Off o t → Off o (s ++ t)
+pub off-append : (o : Corner) (s t : List Corner) → ((q : Corner) → List·Memᴰ q s → ¬ (o ≡ q)) → Off o t → Off o (s ++ t)
 off-append o [] t h g = g
 off-append o (b ∷ []) [] h g = tt
-off-append o (b ∷ []) (a ∷ t) h g = (h b (inl refl), g)
-off-append o (b ∷ (a ∷ s)) t h g = (h b (inl refl), off-append o (a ∷ s) t (λ q m. h q (inr m)) g)
+off-append o (b ∷ []) (a ∷ t) h g = (h b (List·Memᴰ·head refl), g)
+off-append o (b ∷ (a ∷ s)) t h g = (h b (List·Memᴰ·head refl), off-append o (a ∷ s) t (λ q m. h q (List·Memᴰ·tail m)) g)
 
 off-tail : (o b : Corner) (s : List Corner) → Off o (b ∷ s) → Off o s
 off-tail o b [] h = tt

@@ -1,7 +1,7 @@
 -- A walk that is as many columns wide as it has steps stays on one height: its hull is its two outermost corners.
 -- Assumes nothing.
 use mathlib.Core.Path.{_≡_, refl, sym, ap, ap₂, _∙_, subst}
-use mathlib.Core.List.{List, [], _∷_, map}
+use mathlib.Core.List.{List, [], _∷_, map, List·Memᴰ, List·Memᴰ·head, List·Memᴰ·tail, List·Memᴰ·not-nil, Memᴰ·map, Memᴰ·of-map}
 use mathlib.Core.Logic.{inl, inr, ⊎-elim}
 use Prim.Native.Nat.{ℕ, zero, suc, _+_, _-_, _≤_, _<_}
 use native.Mathlib.Omega.{arith}
@@ -10,12 +10,11 @@ use lib.IntN.{ℤ, pos, _+ℤ_}
 use Rattle.int_laws.proofs.LinearLaws.{zarith, bal+, le-or-lt}
 use Rattle.grid.specs.declared.Corner.{Corner}
 use Rattle.grid.specs.Grid.{cornersFrom}
-use Rattle.hull.specs.Hull.{In, Begins, HullIs}
+use Rattle.hull.specs.Hull.{Begins, HullIs}
 use Rattle.hull_laws.specs.Columns.{colAfter, rowAfter, trail, westFrom, eastFrom}
 use Rattle.hull_laws.specs.Outline.{spot}
 use Rattle.hull_laws.proofs.OneLaws.{begins-both}
 use Rattle.hull_laws.proofs.TrailLaws.{Reaches, trail-corners, trail-column, trail-reaches, west-le, east-ge, width-le}
-use Rattle.hull_laws.proofs.SinkLaws.{in-map, map-in}
 use Rattle.hull_laws.proofs.HullLaws.{hull-exists}
 use Rattle.hull_laws.proofs.LineLaws.{InLine, Outermost, hull-of-line, row-in-line}
 
@@ -27,17 +26,17 @@ across x y (suc zero) ds h g = let z : ⊥ = omega (arith, west-le x ds, east-ge
 across x y (suc (suc zero)) ds h g = (refl, omega arith, omega (arith, west-le (x - 1) ds, east-ge (x - 1) ds))
 across x y (suc (suc (suc d))) ds h g = let z : ⊥ = omega (arith, west-le x ds, east-ge x ds, width-le x ds (omega arith)) in absurd z
 
-level : (x y : ℕ) (ds : List ℕ) → length ds ≤ x → westFrom x ds + length ds ≤ eastFrom x ds → (v : ℕ × ℕ) → In v (trail x y ds) → v .1 ≡ y
+level : (x y : ℕ) (ds : List ℕ) → length ds ≤ x → westFrom x ds + length ds ≤ eastFrom x ds → (v : ℕ × ℕ) → List·Memᴰ v (trail x y ds) → v .1 ≡ y
 unfolding trail
-level x y [] h g v (inl e) = ap (λ (u : ℕ × ℕ). u .1) e
-level x y [] h g v (inr m) = absurd m
-level x y (d ∷ ds) h g v (inl e) = ap (λ (u : ℕ × ℕ). u .1) e
-level x y (d ∷ ds) h g v (inr m) =
+level x y [] h g v (List·Memᴰ·head e) = ap (λ (u : ℕ × ℕ). u .1) e
+level x y [] h g v (List·Memᴰ·tail m) = absurd (List·Memᴰ·not-nil m)
+level x y (d ∷ ds) h g v (List·Memᴰ·head e) = ap (λ (u : ℕ × ℕ). u .1) e
+level x y (d ∷ ds) h g v (List·Memᴰ·tail m) =
     let a = across x y d ds (omega arith) g in
     level (colAfter x d) (rowAfter y d) ds (a .1) (a .2) v m ∙ a .0
 
 -- the hull of a walk along one line, given its outermost corners
-pub hull-of-ends : (s : Corner) (ds : List ℕ) (a b : Corner) → InLine (cornersFrom s ds) → In a (cornersFrom s ds) → In b (cornersFrom s ds) → ¬ (a ≡ b) → ((q : Corner) → In q (cornersFrom s ds) → Begins a q) → ((q : Corner) → In q (cornersFrom s ds) → Begins q b) → HullIs (cornersFrom s ds) (a ∷ (b ∷ []))
+pub hull-of-ends : (s : Corner) (ds : List ℕ) (a b : Corner) → InLine (cornersFrom s ds) → List·Memᴰ a (cornersFrom s ds) → List·Memᴰ b (cornersFrom s ds) → ¬ (a ≡ b) → ((q : Corner) → List·Memᴰ q (cornersFrom s ds) → Begins a q) → ((q : Corner) → List·Memᴰ q (cornersFrom s ds) → Begins q b) → HullIs (cornersFrom s ds) (a ∷ (b ∷ []))
 hull-of-ends s ds a b l i j ne f g = go (hull-exists s ds .0) (hull-exists s ds .1) (hull-of-line (cornersFrom s ds) (hull-exists s ds .0) (hull-exists s ds .1) l)
   where
     go : (L : List Corner) → HullIs (cornersFrom s ds) L → Outermost (cornersFrom s ds) L → HullIs (cornersFrom s ds) (a ∷ (b ∷ []))
@@ -49,21 +48,21 @@ hull-of-ends s ds a b l i j ne f g = go (hull-exists s ds .0) (hull-exists s ds 
         first = begins-both c a (o a i .0) (f c (h .starts .0))
 
         last : d ≡ b
-        last = begins-both d b (g d (h .corners d .0 (inr (inl refl)) .visited)) (o b j .1)
+        last = begins-both d b (g d (h .corners d .0 (List·Memᴰ·tail (List·Memᴰ·head refl)) .visited)) (o b j .1)
     go (c ∷ (d ∷ (e ∷ L))) h o = absurd o
 
 module _ (x0 y0 : ℤ) (x y : ℕ) (ds : List ℕ) (h : length ds ≤ x) (g : length ds ≤ y) (some : 0 < length ds) (wide : westFrom x ds + length ds ≤ eastFrom x ds) where
   -- a corner of the walk by its column
-  by-column : (q : Corner) → In q (cornersFrom (spot x0 y0 (x, y)) ds) → (c : ℕ) × (westFrom x ds ≤ c) × (c ≤ eastFrom x ds) × (q ≡ spot x0 y0 (c, y))
+  by-column : (q : Corner) → List·Memᴰ q (cornersFrom (spot x0 y0 (x, y)) ds) → (c : ℕ) × (westFrom x ds ≤ c) × (c ≤ eastFrom x ds) × (q ≡ spot x0 y0 (c, y))
   by-column q m =
-      let r = in-map (spot x0 y0) (trail x y ds) q (subst (In q) (trail-corners x0 y0 x y ds h g) m) in
+      let r = Memᴰ·of-map (spot x0 y0) (trail x y ds) (subst (List·Memᴰ q) (trail-corners x0 y0 x y ds h g) m) in
       let k : Reaches x y ds (r .0) = trail-reaches x y ds h g (r .0) (r .1) in
-      (r .0 .0, k .west, k .east, r .2 ∙ ap (λ (n : ℕ). spot x0 y0 (r .0 .0, n)) (level x y ds h wide (r .0) (r .1)))
+      (r .0 .0, k .west, k .east, sym (r .2) ∙ ap (λ (n : ℕ). spot x0 y0 (r .0 .0, n)) (level x y ds h wide (r .0) (r .1)))
 
-  there : (c : ℕ) → westFrom x ds ≤ c → c ≤ eastFrom x ds → In (spot x0 y0 (c, y)) (cornersFrom (spot x0 y0 (x, y)) ds)
+  there : (c : ℕ) → westFrom x ds ≤ c → c ≤ eastFrom x ds → List·Memᴰ (spot x0 y0 (c, y)) (cornersFrom (spot x0 y0 (x, y)) ds)
   there c a b =
       let t = trail-column x y ds h c a b in
-      subst (In (spot x0 y0 (c, y))) (sym (trail-corners x0 y0 x y ds h g)) (subst (λ (n : ℕ). In (spot x0 y0 (c, n)) (map (spot x0 y0) (trail x y ds))) (level x y ds h wide (c, t .0) (t .1)) (map-in (spot x0 y0) (trail x y ds) (c, t .0) (t .1)))
+      subst (List·Memᴰ (spot x0 y0 (c, y))) (sym (trail-corners x0 y0 x y ds h g)) (subst (λ (n : ℕ). List·Memᴰ (spot x0 y0 (c, n)) (map (spot x0 y0) (trail x y ds))) (level x y ds h wide (c, t .0) (t .1)) (Memᴰ·map (spot x0 y0) (t .1)))
 
   left-begins : (c d : ℕ) → c ≤ d → Begins (spot x0 y0 (c, y)) (spot x0 y0 (d, y))
   left-begins c d l = ⊎-elim (λ k. inr (omega (zarith, bal+ x0 (pos c), bal+ x0 (pos d)), omega zarith)) (λ k. inl k) (le-or-lt (x0 +ℤ pos d) (x0 +ℤ pos c))

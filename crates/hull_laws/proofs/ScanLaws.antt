@@ -2,8 +2,7 @@
 -- Assumes nothing.
 use mathlib.Core.Path.{_≡_, refl, ap, ap₂, _∙_}
 use mathlib.Core.Bool.{Bool, true, false}
-use mathlib.Core.List.{List, [], _∷_, map}
-use mathlib.Core.Logic.{inl, inr}
+use mathlib.Core.List.{List, [], _∷_, map, List·Memᴰ, List·Memᴰ·head, List·Memᴰ·tail, List·Memᴰ·not-nil}
 use Prim.Native.Nat.{ℕ, zero, suc, _+_, _*_, _-_, _≤_, _<_}
 use native.Mathlib.Omega.{arith}
 use lib.ListN.{getD}
@@ -13,30 +12,30 @@ use lib.Signed.{_<ℤ_, ltZ, ltZ-yes}
 use Rattle.int_laws.proofs.LinearLaws.{zarith, bal-}
 use Rattle.int_laws.proofs.RingLaws.{E, v, _⊕_, _⊖_, _⊗_, ring}
 use Rattle.grid.specs.declared.Corner.{Corner}
-use Rattle.hull.specs.Hull.{In, cross}
+use Rattle.hull.specs.Hull.{cross}
 use Rattle.hull_laws.specs.Outline.{turnsAt, cutAt, chainFrom, spot}
 use Rattle.hull_laws.proofs.ChainLaws.{turns, cut, chain}
 use Rattle.hull_laws.proofs.RoundLaws.{lastOf}
 use Rattle.hull_laws.proofs.SinkLaws.{upFrom, at}
 
 -- the chain holds columns of its range
-cut-in : (ys : List ℕ) (p : ℕ) (s : List ℕ) (c : ℕ) → In c (cutAt ys p s) → In c s
+cut-in : (ys : List ℕ) (p : ℕ) (s : List ℕ) (c : ℕ) → List·Memᴰ c (cutAt ys p s) → List·Memᴰ c s
 unfolding cutAt
 cut-in ys p [] c m = m
 cut-in ys p (b ∷ []) c m = m
 cut-in ys p (b ∷ (a ∷ s)) c m = go (turnsAt ys p b a) (cut-in ys p (a ∷ s) c) m
   where
-    go : (t : Bool) → (In c (cutAt ys p (a ∷ s)) → In c (a ∷ s)) → In c (elim t as (λ x. List ℕ) [ true ↦ b ∷ (a ∷ s) | false ↦ cutAt ys p (a ∷ s) ]) → In c (b ∷ (a ∷ s))
+    go : (t : Bool) → (List·Memᴰ c (cutAt ys p (a ∷ s)) → List·Memᴰ c (a ∷ s)) → List·Memᴰ c (elim t as (λ x. List ℕ) [ true ↦ b ∷ (a ∷ s) | false ↦ cutAt ys p (a ∷ s) ]) → List·Memᴰ c (b ∷ (a ∷ s))
     go true f m = m
-    go false f m = inr (f m)
+    go false f m = List·Memᴰ·tail (f m)
 
-pub chain-in : (ys : List ℕ) (i k c : ℕ) → In c (chainFrom ys i k) → (i ≤ c) × (c < i + k)
+pub chain-in : (ys : List ℕ) (i k c : ℕ) → List·Memᴰ c (chainFrom ys i k) → (i ≤ c) × (c < i + k)
 unfolding chainFrom
-chain-in ys i zero c m = absurd m
-chain-in ys i (suc k) c (inl e) = (omega arith, omega arith)
-chain-in ys i (suc k) c (inr m) = let r = chain-in ys (suc i) k c (cut-in ys i (chainFrom ys (suc i) k) c m) in (omega (arith, r .0), omega (arith, r .1))
+chain-in ys i zero c m = absurd (List·Memᴰ·not-nil m)
+chain-in ys i (suc k) c (List·Memᴰ·head e) = (omega arith, omega arith)
+chain-in ys i (suc k) c (List·Memᴰ·tail m) = let r = chain-in ys (suc i) k c (cut-in ys i (chainFrom ys (suc i) k) c m) in (omega (arith, r .0), omega (arith, r .1))
 
-pub chain-rest : (ys : List ℕ) (i k c : ℕ) → In c (cutAt ys i (chainFrom ys (suc i) k)) → i < c
+pub chain-rest : (ys : List ℕ) (i k c : ℕ) → List·Memᴰ c (cutAt ys i (chainFrom ys (suc i) k)) → i < c
 chain-rest ys i k c m = chain-in ys (suc i) k c (cut-in ys i (chainFrom ys (suc i) k) c m) .0
 
 -- and ends at the last of them
@@ -98,13 +97,13 @@ module _ (x0 y0 : ℤ) (ys : List ℕ) where
       back′ : a ≡ p + (a - p)
       back′ = omega arith
 
-  cut-cols : (p : ℕ) (s : List ℕ) → ((c : ℕ) → In c s → p < c) → cut (at x0 y0 ys p) (map (at x0 y0 ys) s) ≡ map (at x0 y0 ys) (cutAt ys p s)
+  cut-cols : (p : ℕ) (s : List ℕ) → ((c : ℕ) → List·Memᴰ c s → p < c) → cut (at x0 y0 ys p) (map (at x0 y0 ys) s) ≡ map (at x0 y0 ys) (cutAt ys p s)
   unfolding cut cutAt
   cut-cols p [] h = refl
   cut-cols p (b ∷ []) h = refl
   cut-cols p (b ∷ (a ∷ s)) h =
-      ap (λ (t : Bool). elim t as (λ x. List Corner) [ true ↦ at x0 y0 ys b ∷ (at x0 y0 ys a ∷ map (at x0 y0 ys) s) | false ↦ cut (at x0 y0 ys p) (at x0 y0 ys a ∷ map (at x0 y0 ys) s) ]) (turns-cols p b a (h b (inl refl)) (h a (inr (inl refl))))
-      ∙ go (turnsAt ys p b a) (cut-cols p (a ∷ s) (λ c m. h c (inr m)))
+      ap (λ (t : Bool). elim t as (λ x. List Corner) [ true ↦ at x0 y0 ys b ∷ (at x0 y0 ys a ∷ map (at x0 y0 ys) s) | false ↦ cut (at x0 y0 ys p) (at x0 y0 ys a ∷ map (at x0 y0 ys) s) ]) (turns-cols p b a (h b (List·Memᴰ·head refl)) (h a (List·Memᴰ·tail (List·Memᴰ·head refl))))
+      ∙ go (turnsAt ys p b a) (cut-cols p (a ∷ s) (λ c m. h c (List·Memᴰ·tail m)))
     where
       go : (t : Bool) → cut (at x0 y0 ys p) (at x0 y0 ys a ∷ map (at x0 y0 ys) s) ≡ map (at x0 y0 ys) (cutAt ys p (a ∷ s)) → elim t as (λ x. List Corner) [ true ↦ at x0 y0 ys b ∷ (at x0 y0 ys a ∷ map (at x0 y0 ys) s) | false ↦ cut (at x0 y0 ys p) (at x0 y0 ys a ∷ map (at x0 y0 ys) s) ] ≡ map (at x0 y0 ys) (elim t as (λ x. List ℕ) [ true ↦ b ∷ (a ∷ s) | false ↦ cutAt ys p (a ∷ s) ])
       go true e = refl

@@ -2,8 +2,7 @@
 -- Assumes nothing.
 use mathlib.Core.Path.{_≡_, refl, sym, ap, ap₂, _∙_, subst}
 use mathlib.Core.Bool.{Bool, true, false, not}
-use mathlib.Core.List.{List, [], _∷_}
-use mathlib.Core.Logic.{inl, inr}
+use mathlib.Core.List.{List, [], _∷_, List·Memᴰ, List·Memᴰ·head, List·Memᴰ·tail}
 use Prim.Native.Nat.{ℕ, zero, suc, _+_, _*_, _-_, _≤_, _<_}
 use native.Mathlib.Omega.{arith}
 use native.Mathlib.Nat.{mul-le-mul}
@@ -11,7 +10,6 @@ use native.Mathlib.Numerals.{add-one}
 use native.Mathlib.Decide.{decLt}
 use lib.ListN.{length, getD, drop, set, length-drop, drop-of-length-le}
 use lib.Seq.{drop-cons, drop-set-lt, getD-set-same, lt-length-set, getD-drop}
-use Rattle.hull.specs.Hull.{In}
 use Rattle.hull_laws.specs.Outline.{turnsAt, dropsAt, cutAt, chainFrom}
 use Rattle.hull_laws.proofs.ScanLaws.{chain-in}
 
@@ -94,13 +92,13 @@ module _ (ys : List ℕ) (p : ℕ) where
       back = omega arith
 
 -- what the array holds are columns of the chain
-getD-in : (l : List ℕ) (i : ℕ) → i < length l → In (getD l i 0) l
-getD-in [] i h = let z : ⊥ = omega arith in z
-getD-in (x ∷ l) zero h = inl refl
-getD-in (x ∷ l) (suc i) h = inr (getD-in l i (omega arith))
+getD-in : (l : List ℕ) (i : ℕ) → i < length l → List·Memᴰ (getD l i 0) l
+getD-in [] i h = let z : ⊥ = omega arith in absurd z
+getD-in (x ∷ l) zero h = List·Memᴰ·head refl
+getD-in (x ∷ l) (suc i) h = List·Memᴰ·tail (getD-in l i (omega arith))
 
 pub stack-in : (ys s : List ℕ) (q i k j : ℕ) → drop q s ≡ chainFrom ys i k → q ≤ j → j < length s → (i ≤ getD s j 0) × (getD s j 0 < i + k)
-stack-in ys s q i k j e h g = chain-in ys i k (getD s j 0) (subst (λ (l : List ℕ). In (getD s j 0) l) e (subst (λ (c : ℕ). In c (drop q s)) there (getD-in (drop q s) (j - q) (omega (arith, length-drop q s)))))
+stack-in ys s q i k j e h g = chain-in ys i k (getD s j 0) (subst (λ (l : List ℕ). List·Memᴰ (getD s j 0) l) e (subst (λ (c : ℕ). List·Memᴰ c (drop q s)) there (getD-in (drop q s) (j - q) (omega (arith, length-drop q s)))))
   where
     there : getD (drop q s) (j - q) 0 ≡ getD s j 0
     there = getD-drop q s (j - q) 0 ∙ ap (λ (i : ℕ). getD s i 0) back

@@ -17,7 +17,7 @@ use Rattle.answer.specs.declared.Refusal.{Refusal}
 use Rattle.answer.specs.declared.Refusal.the-variants.{BadDigit, TooLong}
 use Rattle.answer.specs.Limits.{mostSteps}
 use Rattle.answer.specs.Refusal.{when, orElse}
-use Rattle.hull.specs.Call.{faultAt, faultFrom}
+use Rattle.hull.specs.Call.{faultAt, chainJudged}
 use Rattle.hull_laws.specs.Columns.{colAfter, westFrom, eastFrom}
 use Rattle.hull_laws.proofs.TrailLaws.{near, west-le, east-ge}
 
@@ -54,18 +54,18 @@ at-good : (i d : ℕ) → d ≤ 3 → ¬ (i ≡ mostSteps) → faultAt i d ≡ G
 at-good i d h e = ap₂ (λ (a b : Bool). orElse (when a (BadDigit i)) (when b (TooLong i))) (le-ltb 3 d h) (ne-eqb i mostSteps e)
 
 -- a chain with digits up to 3, and not too many, has none
-pub no-fault : (i : ℕ) (chain : List ℕ) → i + length chain ≤ mostSteps → ((k : ℕ) → getD chain k 0 ≤ 3) → faultFrom i chain ≡ Good
+pub no-fault : (i : ℕ) (chain : List ℕ) → i + length chain ≤ mostSteps → ((k : ℕ) → getD chain k 0 ≤ 3) → chainJudged i chain ≡ Good
 no-fault i [] h f = refl
-no-fault i (d ∷ ds) h f = ap (λ (j : Judged). orElse j (faultFrom (suc i) ds)) (at-good i d (f 0) (λ e. omega arith)) ∙ no-fault (suc i) ds (omega arith) (λ k. f (suc k))
+no-fault i (d ∷ ds) h f = ap (λ (j : Judged). orElse j (chainJudged (suc i) ds)) (at-good i d (f 0) (λ e. omega arith)) ∙ no-fault (suc i) ds (omega arith) (λ k. f (suc k))
 
-fault-here : (chain : List ℕ) (i : ℕ) → i < length chain → faultFrom i (drop i chain) ≡ orElse (faultAt i (getD chain i 0)) (faultFrom (suc i) (drop (suc i) chain))
-fault-here chain i h = ap (faultFrom i) (drop-cons chain i 0 h)
+fault-here : (chain : List ℕ) (i : ℕ) → i < length chain → chainJudged i (drop i chain) ≡ orElse (faultAt i (getD chain i 0)) (chainJudged (suc i) (drop (suc i) chain))
+fault-here chain i h = ap (chainJudged i) (drop-cons chain i 0 h)
 
 -- the first i bytes have no fault
 pub record Judging (chain : List ℕ) (i : ℕ) : Type 0 where
   pub within : i ≤ length chain
   pub few : i ≤ mostSteps
-  pub fault : faultFrom i (drop i chain) ≡ faultFrom 0 chain
+  pub fault : chainJudged i (drop i chain) ≡ chainJudged 0 chain
 
 pub judging-start : (chain : List ℕ) → Judging chain 0
 judging-start chain = record { within = omega arith; few = omega arith; fault = refl }
@@ -75,7 +75,7 @@ none-left chain i h = drop-of-length-le chain {i = i} h
 
 module _ (chain : List ℕ) (i : ℕ) (s : Judging chain i) where
   rest : Judged → Judged
-  rest j = orElse j (faultFrom (suc i) (drop (suc i) chain))
+  rest j = orElse j (chainJudged (suc i) (drop (suc i) chain))
 
   pub judging-step : i < length chain → getD chain i 0 ≤ 3 → ¬ (i ≡ mostSteps) → Judging chain (i + 1)
   unfolding rest
@@ -88,16 +88,16 @@ module _ (chain : List ℕ) (i : ℕ) (s : Judging chain i) where
       below : ¬ (i ≡ mostSteps) → suc i ≤ mostSteps
       below n = omega (arith, s .few)
 
-  pub judging-bad : i < length chain → 3 < getD chain i 0 → faultFrom 0 chain ≡ Refused (BadDigit i)
+  pub judging-bad : i < length chain → 3 < getD chain i 0 → chainJudged 0 chain ≡ Refused (BadDigit i)
   unfolding rest
   judging-bad h g = sym (s .fault) ∙ fault-here chain i h ∙ ap rest (at-bad i (getD chain i 0) g)
 
-  pub judging-long : i < length chain → getD chain i 0 ≤ 3 → i ≡ mostSteps → faultFrom 0 chain ≡ Refused (TooLong i)
+  pub judging-long : i < length chain → getD chain i 0 ≤ 3 → i ≡ mostSteps → chainJudged 0 chain ≡ Refused (TooLong i)
   unfolding rest
   judging-long h g e = sym (s .fault) ∙ fault-here chain i h ∙ ap rest (at-long i (getD chain i 0) g e)
 
-  pub judging-good : length chain ≤ i → faultFrom 0 chain ≡ Good
-  judging-good h = sym (s .fault) ∙ ap (faultFrom i) (none-left chain i h)
+  pub judging-good : length chain ≤ i → chainJudged 0 chain ≡ Good
+  judging-good h = sym (s .fault) ∙ ap (chainJudged i) (none-left chain i h)
 
 -- the walk stands in column x after i steps, and was in the columns w to e
 pub record Surveyed (chain : List ℕ) (x w e i : ℕ) : Type 0 where
@@ -148,7 +148,7 @@ module _ (chain : List ℕ) (x w e i : ℕ) (s : Surveyed chain x w e i) where
       close : (x ≤ colAfter x (getD chain i 0) + 1) × (colAfter x (getD chain i 0) ≤ x + 1)
       close = near x (getD chain i 0) (surveyed-room n .0)
 
-  pub surveyed-good : length chain ≤ i → faultFrom 0 chain ≡ Good
+  pub surveyed-good : length chain ≤ i → chainJudged 0 chain ≡ Good
   surveyed-good h = judging-good chain i (s .judging) h
 
   pub surveyed-west : length chain ≤ i → w ≡ westFrom mostSteps chain
@@ -179,17 +179,17 @@ good-at i d e =
     let t = good-or (when (ltb 3 d) (BadDigit i)) (when (eqb i mostSteps) (TooLong i)) e in
     (ltb-false 3 d (good-when (ltb 3 d) (BadDigit i) (t .0)), eqb-false i mostSteps (good-when (eqb i mostSteps) (TooLong i) (t .1)))
 
-pub good-digits : (i : ℕ) (chain : List ℕ) → faultFrom i chain ≡ Good → (k : ℕ) → getD chain k 0 < 4
+pub good-digits : (i : ℕ) (chain : List ℕ) → chainJudged i chain ≡ Good → (k : ℕ) → getD chain k 0 < 4
 good-digits i [] e k = omega arith
-good-digits i (d ∷ ds) e zero = let t = good-at i d (good-or (faultAt i d) (faultFrom (suc i) ds) e .0) in omega (arith, t .0)
-good-digits i (d ∷ ds) e (suc k) = good-digits (suc i) ds (good-or (faultAt i d) (faultFrom (suc i) ds) e .1) k
+good-digits i (d ∷ ds) e zero = let t = good-at i d (good-or (faultAt i d) (chainJudged (suc i) ds) e .0) in omega (arith, t .0)
+good-digits i (d ∷ ds) e (suc k) = good-digits (suc i) ds (good-or (faultAt i d) (chainJudged (suc i) ds) e .1) k
 
-pub good-short : (i : ℕ) (chain : List ℕ) → i ≤ mostSteps → faultFrom i chain ≡ Good → i + length chain ≤ mostSteps
+pub good-short : (i : ℕ) (chain : List ℕ) → i ≤ mostSteps → chainJudged i chain ≡ Good → i + length chain ≤ mostSteps
 good-short i [] h e = omega arith
 good-short i (d ∷ ds) h e = omega (arith, good-short (suc i) ds (below (good-at i d (t .0) .1)) (t .1))
   where
-    t : (faultAt i d ≡ Good) × (faultFrom (suc i) ds ≡ Good)
-    t = good-or (faultAt i d) (faultFrom (suc i) ds) e
+    t : (faultAt i d ≡ Good) × (chainJudged (suc i) ds ≡ Good)
+    t = good-or (faultAt i d) (chainJudged (suc i) ds) e
 
     below : ¬ (i ≡ mostSteps) → suc i ≤ mostSteps
     below n = omega arith

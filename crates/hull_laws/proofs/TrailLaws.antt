@@ -1,8 +1,7 @@
 -- A walk's corners by column and height: which corners they stand for, how far they reach, and that no column between is left out.
 -- Assumes nothing.
 use mathlib.Core.Path.{_≡_, refl, sym, ap, ap₂, _∙_, subst}
-use mathlib.Core.List.{List, [], _∷_, map}
-use mathlib.Core.Logic.{inl, inr}
+use mathlib.Core.List.{List, [], _∷_, map, List·Memᴰ, List·Memᴰ·head, List·Memᴰ·tail, List·Memᴰ·not-nil}
 use Prim.Native.Nat.{ℕ, zero, suc, _+_, _-_, _≤_, _<_}
 use native.Mathlib.Omega.{arith}
 use native.Mathlib.Decide.{decLt}
@@ -11,9 +10,8 @@ use lib.IntN.{ℤ, pos, negℤ, sucℤ, predℤ, _+ℤ_}
 use Rattle.int_laws.proofs.LinearLaws.{zarith, bal+, up-neg, dn-neg}
 use Rattle.int_laws.proofs.NextLaws.{bal-suc, bal-pred}
 use Rattle.grid.specs.declared.Corner.{Corner}
-use Rattle.grid.specs.Grid.{corner, stepped, cornersFrom}
-use Rattle.hull.specs.Hull.{In}
-use Rattle.hull_laws.specs.Columns.{colAfter, rowAfter, trail, westFrom, eastFrom, eastOf, turned}
+use Rattle.grid.specs.Grid.{stepped, cornersFrom}
+use Rattle.hull_laws.specs.Columns.{colAfter, rowAfter, trail, westFrom, eastFrom, countedFrom, turned}
 use Rattle.hull_laws.specs.Outline.{spot}
 use Rattle.hull_laws.proofs.CornerLaws.{corner-eq}
 use Rattle.hull_laws.proofs.TurnedLaws.{neg, negs}
@@ -85,19 +83,19 @@ pub record Reaches (x y : ℕ) (ds : List ℕ) (v : ℕ × ℕ) : Type 0 where
   pub east : v .0 ≤ eastFrom x ds
   pub below : v .1 ≤ y + length ds
 
-pub trail-reaches : (x y : ℕ) (ds : List ℕ) → length ds ≤ x → length ds ≤ y → (v : ℕ × ℕ) → In v (trail x y ds) → Reaches x y ds v
+pub trail-reaches : (x y : ℕ) (ds : List ℕ) → length ds ≤ x → length ds ≤ y → (v : ℕ × ℕ) → List·Memᴰ v (trail x y ds) → Reaches x y ds v
 unfolding trail westFrom eastFrom
-trail-reaches x y [] h g v (inl e) = subst (Reaches x y []) (sym e) (record { west = omega arith; east = omega arith; below = omega arith })
-trail-reaches x y [] h g v (inr m) = absurd m
-trail-reaches x y (d ∷ ds) h g v (inl e) = subst (Reaches x y (d ∷ ds)) (sym e) (record { west = omega arith; east = omega arith; below = omega arith })
-trail-reaches x y (d ∷ ds) h g v (inr m) =
+trail-reaches x y [] h g v (List·Memᴰ·head e) = subst (Reaches x y []) (sym e) (record { west = omega arith; east = omega arith; below = omega arith })
+trail-reaches x y [] h g v (List·Memᴰ·tail m) = absurd (List·Memᴰ·not-nil m)
+trail-reaches x y (d ∷ ds) h g v (List·Memᴰ·head e) = subst (Reaches x y (d ∷ ds)) (sym e) (record { west = omega arith; east = omega arith; below = omega arith })
+trail-reaches x y (d ∷ ds) h g v (List·Memᴰ·tail m) =
     let r = trail-reaches (colAfter x d) (rowAfter y d) ds (omega (arith, near x d (omega arith))) (omega (arith, near-row y d (omega arith))) v m in
     record { west = omega (arith, r .west); east = omega (arith, r .east); below = omega (arith, r .below, near-row y d (omega arith)) }
 
 -- and every column between has one
-pub trail-column : (x y : ℕ) (ds : List ℕ) → length ds ≤ x → (c : ℕ) → westFrom x ds ≤ c → c ≤ eastFrom x ds → (h : ℕ) × In (c, h) (trail x y ds)
+pub trail-column : (x y : ℕ) (ds : List ℕ) → length ds ≤ x → (c : ℕ) → westFrom x ds ≤ c → c ≤ eastFrom x ds → (h : ℕ) × List·Memᴰ (c, h) (trail x y ds)
 unfolding trail westFrom eastFrom
-trail-column x y [] h c a b = (y, inl (ap (λ (n : ℕ). (n, y)) one))
+trail-column x y [] h c a b = (y, List·Memᴰ·head (ap (λ (n : ℕ). (n, y)) one))
   where
     one : c ≡ x
     one = omega arith
@@ -109,33 +107,33 @@ trail-column x y (d ∷ ds) h c a b = go (decLt c (westFrom x′ ds)) (decLt (ea
     n : (x ≤ colAfter x d + 1) × (colAfter x d ≤ x + 1)
     n = near x d (omega arith)
 
-    here : c ≡ x → (h : ℕ) × In (c, h) ((x, y) ∷ trail (colAfter x d) (rowAfter y d) ds)
-    here e = (y, inl (ap (λ (n : ℕ). (n, y)) e))
+    here : c ≡ x → (h : ℕ) × List·Memᴰ (c, h) ((x, y) ∷ trail (colAfter x d) (rowAfter y d) ds)
+    here e = (y, List·Memᴰ·head (ap (λ (n : ℕ). (n, y)) e))
 
-    go : Dec (c < westFrom x′ ds) → Dec (eastFrom x′ ds < c) → (westFrom x′ ds ≤ c → c ≤ eastFrom x′ ds → (h : ℕ) × In (c, h) (trail x′ (rowAfter y d) ds)) → (h : ℕ) × In (c, h) ((x, y) ∷ trail (colAfter x d) (rowAfter y d) ds)
+    go : Dec (c < westFrom x′ ds) → Dec (eastFrom x′ ds < c) → (westFrom x′ ds ≤ c → c ≤ eastFrom x′ ds → (h : ℕ) × List·Memᴰ (c, h) (trail x′ (rowAfter y d) ds)) → (h : ℕ) × List·Memᴰ (c, h) ((x, y) ∷ trail (colAfter x d) (rowAfter y d) ds)
     go (yes l) r rest = here (omega (arith, n, west-le x′ ds, east-ge x′ ds))
     go (no l) (yes r) rest = here (omega (arith, n, west-le x′ ds, east-ge x′ ds))
     go (no l) (no r) rest =
         let t = rest (omega arith) (omega arith) in
-        (t .0, inr (t .1))
+        (t .0, List·Memᴰ·tail (t .1))
 
-map-ext : (f g : ℕ × ℕ → Corner) (vs : List (ℕ × ℕ)) → ((v : ℕ × ℕ) → In v vs → f v ≡ g v) → map f vs ≡ map g vs
+map-ext : (f g : ℕ × ℕ → Corner) (vs : List (ℕ × ℕ)) → ((v : ℕ × ℕ) → List·Memᴰ v vs → f v ≡ g v) → map f vs ≡ map g vs
 map-ext f g [] h = refl
-map-ext f g (v ∷ vs) h = ap₂ _∷_ (h v (inl refl)) (map-ext f g vs (λ u m. h u (inr m)))
+map-ext f g (v ∷ vs) h = ap₂ _∷_ (h v (List·Memᴰ·head refl)) (map-ext f g vs (λ u m. h u (List·Memᴰ·tail m)))
 
 map-spot : (x0 y0 : ℤ) (f : ℕ × ℕ → ℕ × ℕ) (vs : List (ℕ × ℕ)) → map (spot x0 y0) (map f vs) ≡ map (λ v. spot x0 y0 (f v)) vs
 map-spot x0 y0 f [] = refl
 map-spot x0 y0 f (v ∷ vs) = ap (λ (l : List Corner). spot x0 y0 (f v) ∷ l) (map-spot x0 y0 f vs)
 
 -- the same corners from the column w
-pub spots-east : (x0 y0 : ℤ) (w : ℕ) (vs : List (ℕ × ℕ)) → ((v : ℕ × ℕ) → In v vs → w ≤ v .0) → map (spot x0 y0) vs ≡ map (spot (x0 +ℤ pos w) y0) (map (eastOf w) vs)
-spots-east x0 y0 w vs h = map-ext (spot x0 y0) (λ v. spot (x0 +ℤ pos w) y0 (eastOf w v)) vs each ∙ sym (map-spot (x0 +ℤ pos w) y0 (eastOf w) vs)
+pub spots-east : (x0 y0 : ℤ) (w : ℕ) (vs : List (ℕ × ℕ)) → ((v : ℕ × ℕ) → List·Memᴰ v vs → w ≤ v .0) → map (spot x0 y0) vs ≡ map (spot (x0 +ℤ pos w) y0) (map (countedFrom w) vs)
+spots-east x0 y0 w vs h = map-ext (spot x0 y0) (λ v. spot (x0 +ℤ pos w) y0 (countedFrom w v)) vs each ∙ sym (map-spot (x0 +ℤ pos w) y0 (countedFrom w) vs)
   where
     shift : (n : ℕ) → w ≤ n → x0 +ℤ pos n ≡ (x0 +ℤ pos w) +ℤ pos (n - w)
     shift n l = omega (zarith, bal+ x0 (pos n), bal+ x0 (pos w), bal+ (x0 +ℤ pos w) (pos (n - w)))
 
-    each : (v : ℕ × ℕ) → In v vs → spot x0 y0 v ≡ spot (x0 +ℤ pos w) y0 (eastOf w v)
-    each v m = corner-eq (spot x0 y0 v) (spot (x0 +ℤ pos w) y0 (eastOf w v)) (shift (v .0) (h v m)) refl
+    each : (v : ℕ × ℕ) → List·Memᴰ v vs → spot x0 y0 v ≡ spot (x0 +ℤ pos w) y0 (countedFrom w v)
+    each v m = corner-eq (spot x0 y0 v) (spot (x0 +ℤ pos w) y0 (countedFrom w v)) (shift (v .0) (h v m)) refl
 
 negs-map : (f : ℕ × ℕ → Corner) (vs : List (ℕ × ℕ)) → negs (map f vs) ≡ map (λ v. neg (f v)) vs
 unfolding negs
@@ -143,7 +141,7 @@ negs-map f [] = refl
 negs-map f (v ∷ vs) = ap (λ (l : List Corner). neg (f v) ∷ l) (negs-map f vs)
 
 -- and turned by half a turn, from the column e and the height k
-pub spots-turned : (x0 y0 : ℤ) (e k : ℕ) (vs : List (ℕ × ℕ)) → ((v : ℕ × ℕ) → In v vs → (v .0 ≤ e) × (v .1 ≤ k)) → negs (map (spot x0 y0) vs) ≡ map (spot (negℤ (x0 +ℤ pos e)) (negℤ (y0 +ℤ pos k))) (map (turned e k) vs)
+pub spots-turned : (x0 y0 : ℤ) (e k : ℕ) (vs : List (ℕ × ℕ)) → ((v : ℕ × ℕ) → List·Memᴰ v vs → (v .0 ≤ e) × (v .1 ≤ k)) → negs (map (spot x0 y0) vs) ≡ map (spot (negℤ (x0 +ℤ pos e)) (negℤ (y0 +ℤ pos k))) (map (turned e k) vs)
 spots-turned x0 y0 e k vs h = negs-map (spot x0 y0) vs ∙ map-ext (λ v. neg (spot x0 y0 v)) (λ v. spot x1 y1 (turned e k v)) vs each ∙ sym (map-spot x1 y1 (turned e k) vs)
   where
     x1 : ℤ
@@ -156,5 +154,5 @@ spots-turned x0 y0 e k vs h = negs-map (spot x0 y0) vs ∙ map-ext (λ v. neg (s
     flip z m n l =
         omega (zarith, bal+ z (pos n), bal+ z (pos m), bal+ (negℤ (z +ℤ pos m)) (pos (m - n)), up-neg (z +ℤ pos n), dn-neg (z +ℤ pos n), up-neg (z +ℤ pos m), dn-neg (z +ℤ pos m))
 
-    each : (v : ℕ × ℕ) → In v vs → neg (spot x0 y0 v) ≡ spot x1 y1 (turned e k v)
+    each : (v : ℕ × ℕ) → List·Memᴰ v vs → neg (spot x0 y0 v) ≡ spot x1 y1 (turned e k v)
     each v m = corner-eq (neg (spot x0 y0 v)) (spot x1 y1 (turned e k v)) (flip x0 e (v .0) (h v m .0)) (flip y0 k (v .1) (h v m .1))

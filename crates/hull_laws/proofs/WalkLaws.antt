@@ -1,8 +1,7 @@
 -- The hull of a walk's corners, by columns: any columns that have room give it, and so there is one.
 -- Assumes nothing.
 use mathlib.Core.Path.{_≡_, refl, sym, ap, ap₂, _∙_, subst}
-use mathlib.Core.List.{List, [], _∷_, _++_, map}
-use mathlib.Core.Logic.{inl, inr}
+use mathlib.Core.List.{List, [], _∷_, _++_, map, List·Memᴰ, List·Memᴰ·head, Memᴰ·map, Memᴰ·of-map}
 use Prim.Native.Nat.{ℕ, suc, _+_, _-_, _≤_, _<_}
 use native.Mathlib.Omega.{arith}
 use lib.ListN.{length, getD}
@@ -10,8 +9,8 @@ use lib.IntN.{ℤ, pos, negℤ, _+ℤ_, _-ℤ_}
 use Rattle.int_laws.proofs.LinearLaws.{zarith, bal+, bal-, up-neg, dn-neg}
 use Rattle.grid.specs.declared.Corner.{Corner}
 use Rattle.grid.specs.Grid.{cornersFrom}
-use Rattle.hull.specs.Hull.{In, HullIs}
-use Rattle.hull_laws.specs.Columns.{trail, westFrom, eastFrom, sinks, eastOf, turned}
+use Rattle.hull.specs.Hull.{HullIs}
+use Rattle.hull_laws.specs.Columns.{trail, westFrom, eastFrom, sinks, countedFrom, turned}
 use Rattle.hull_laws.specs.Outline.{chainFrom, spot, spotBack, colAt, upper, outlineOf}
 use Rattle.hull_laws.proofs.CornerLaws.{corner-eq}
 use Rattle.hull_laws.proofs.ChainLaws.{chain, Closed}
@@ -22,21 +21,6 @@ use Rattle.hull_laws.proofs.TrailLaws.{trail-corners, trail-reaches, tr
 use Rattle.hull_laws.proofs.SinkLaws.{at, upFrom, cols-lows}
 use Rattle.hull_laws.proofs.ScanLaws.{chain-cols}
 use Rattle.hull_laws.proofs.OutlineLaws.{round-cols}
-
-in-mapped : (f : ℕ × ℕ → ℕ × ℕ) (l : List (ℕ × ℕ)) (q : ℕ × ℕ) → In q (map f l) → (x : ℕ × ℕ) × In x l × (q ≡ f x)
-in-mapped f [] q m = absurd m
-in-mapped f (y ∷ l) q (inl e) = (y, inl refl, e)
-in-mapped f (y ∷ l) q (inr m) = let r = in-mapped f l q m in (r .0, inr (r .1), r .2)
-
-mapped-in : (f : ℕ × ℕ → ℕ × ℕ) (l : List (ℕ × ℕ)) (x : ℕ × ℕ) → In x l → In (f x) (map f l)
-mapped-in f [] x m = m
-mapped-in f (y ∷ l) x (inl e) = inl (ap f e)
-mapped-in f (y ∷ l) x (inr m) = inr (mapped-in f l x m)
-
-trail-first : (x y : ℕ) (ds : List ℕ) → In (x, y) (trail x y ds)
-unfolding trail
-trail-first x y [] = inl refl
-trail-first x y (d ∷ ds) = inl refl
 
 -- the upper chain, turned back
 spot-back : (x1 y1 : ℤ) (v : ℕ × ℕ) → neg (spot (negℤ x1) (negℤ y1) v) ≡ spotBack x1 y1 v
@@ -78,26 +62,26 @@ module _ (x0 y0 : ℤ) (x y : ℕ) (ds : List ℕ) (h top : ℕ) (a b : List ℕ
   unfolding P vs
   spots = trail-corners x0 y0 x y ds (r .across) (r .up)
 
-  reaches : (v : ℕ × ℕ) → In v vs → Reaches x y ds v
+  reaches : (v : ℕ × ℕ) → List·Memᴰ v vs → Reaches x y ds v
   unfolding vs
   reaches = trail-reaches x y ds (r .across) (r .up)
 
-  lows : Lows P (map (at (x0 +ℤ pos w) y0 (sinks a (map (eastOf w) vs))) (upFrom 0 (suc (e - w))))
+  lows : Lows P (map (at (x0 +ℤ pos w) y0 (sinks a (map (countedFrom w) vs))) (upFrom 0 (suc (e - w))))
   unfolding w e vs
-  lows = subst (λ (l : List Corner). Lows l (map (at (x0 +ℤ pos w) y0 (sinks a (map (eastOf w) vs))) (upFrom 0 (suc (e - w)))))
+  lows = subst (λ (l : List Corner). Lows l (map (at (x0 +ℤ pos w) y0 (sinks a (map (countedFrom w) vs))) (upFrom 0 (suc (e - w)))))
       (sym (spots ∙ spots-east x0 y0 w vs (λ v m. reaches v m .west)))
-      (cols-lows (x0 +ℤ pos w) y0 (map (eastOf w) vs) a (suc (e - w)) top (r .first) (λ c l. r .blank c (omega arith)) inside every)
+      (cols-lows (x0 +ℤ pos w) y0 (map (countedFrom w) vs) a (suc (e - w)) top (r .first) (λ c l. r .blank c (omega arith)) inside every)
     where
-      inside : (v : ℕ × ℕ) → In v (map (eastOf w) vs) → (v .0 < suc (e - w)) × (v .1 < top)
+      inside : (v : ℕ × ℕ) → List·Memᴰ v (map (countedFrom w) vs) → (v .0 < suc (e - w)) × (v .1 < top)
       inside v m =
-          let t = in-mapped (eastOf w) vs v m in
+          let t = Memᴰ·of-map (countedFrom w) vs m in
           let u = reaches (t .0) (t .1) in
-          subst (λ (v : ℕ × ℕ). (v .0 < suc (e - w)) × (v .1 < top)) (sym (t .2)) (omega (arith, u .east), omega (arith, u .below, r .high, r .over))
+          subst (λ (v : ℕ × ℕ). (v .0 < suc (e - w)) × (v .1 < top)) (t .2) (omega (arith, u .east), omega (arith, u .below, r .high, r .over))
 
-      every : (c : ℕ) → c < suc (e - w) → (k : ℕ) × In (c, k) (map (eastOf w) vs)
+      every : (c : ℕ) → c < suc (e - w) → (k : ℕ) × List·Memᴰ (c, k) (map (countedFrom w) vs)
       every c l =
           let t = trail-column x y ds (r .across) (w + c) (omega arith) (omega (arith, west-le x ds, east-ge x ds)) in
-          (t .0, subst (λ (n : ℕ). In (n, t .0) (map (eastOf w) vs)) less (mapped-in (eastOf w) vs (w + c, t .0) (t .1)))
+          (t .0, subst (λ (n : ℕ). List·Memᴰ (n, t .0) (map (countedFrom w) vs)) less (Memᴰ·map (countedFrom w) {a = (w + c, t .0)} (t .1)))
         where
           less : (w + c) - w ≡ c
           less = omega arith
@@ -108,16 +92,16 @@ module _ (x0 y0 : ℤ) (x y : ℕ) (ds : List ℕ) (h top : ℕ) (a b : List ℕ
       (sym (ap negs spots ∙ spots-turned x0 y0 e h vs (λ v m. (reaches v m .east, omega (arith, reaches v m .below, r .high)))))
       (cols-lows (negℤ (x0 +ℤ pos e)) (negℤ (y0 +ℤ pos h)) (map (turned e h) vs) b (suc (e - w)) top (r .second) (λ c l. r .blank2 c (omega arith)) inside every)
     where
-      inside : (v : ℕ × ℕ) → In v (map (turned e h) vs) → (v .0 < suc (e - w)) × (v .1 < top)
+      inside : (v : ℕ × ℕ) → List·Memᴰ v (map (turned e h) vs) → (v .0 < suc (e - w)) × (v .1 < top)
       inside v m =
-          let t = in-mapped (turned e h) vs v m in
+          let t = Memᴰ·of-map (turned e h) vs m in
           let u = reaches (t .0) (t .1) in
-          subst (λ (v : ℕ × ℕ). (v .0 < suc (e - w)) × (v .1 < top)) (sym (t .2)) (omega (arith, u .west, u .east), omega (arith, r .over))
+          subst (λ (v : ℕ × ℕ). (v .0 < suc (e - w)) × (v .1 < top)) (t .2) (omega (arith, u .west, u .east), omega (arith, r .over))
 
-      every : (c : ℕ) → c < suc (e - w) → (k : ℕ) × In (c, k) (map (turned e h) vs)
+      every : (c : ℕ) → c < suc (e - w) → (k : ℕ) × List·Memᴰ (c, k) (map (turned e h) vs)
       every c l =
           let t = trail-column x y ds (r .across) (e - c) (omega (arith, west-le x ds, east-ge x ds)) (omega arith) in
-          (h - t .0, subst (λ (n : ℕ). In (n, h - t .0) (map (turned e h) vs)) less (mapped-in (turned e h) vs (e - c, t .0) (t .1)))
+          (h - t .0, subst (λ (n : ℕ). List·Memᴰ (n, h - t .0) (map (turned e h) vs)) less (Memᴰ·map (turned e h) {a = (e - c, t .0)} (t .1)))
         where
           less : e - (e - c) ≡ c
           less = omega (arith, west-le x ds, east-ge x ds)
@@ -130,12 +114,12 @@ module _ (x0 y0 : ℤ) (x y : ℕ) (ds : List ℕ) (h top : ℕ) (a b : List ℕ
       sum m n l = omega (zarith, bal+ x0 (pos m), bal+ x0 (pos n), bal+ (x0 +ℤ pos m) (pos (n - m)))
 
   -- the columns of the walk give its hull, with all corners on or left of each edge
-  pub columns-both : HullIs (cornersFrom (spot x0 y0 (x, y)) ds) (outlineOf x0 y0 (westFrom x ds) (eastFrom x ds) h (sinks a (map (eastOf (westFrom x ds)) (trail x y ds))) (sinks b (map (turned (eastFrom x ds) h) (trail x y ds)))) × Closed (cornersFrom (spot x0 y0 (x, y)) ds) (outlineOf x0 y0 (westFrom x ds) (eastFrom x ds) h (sinks a (map (eastOf (westFrom x ds)) (trail x y ds))) (sinks b (map (turned (eastFrom x ds) h) (trail x y ds))))
+  pub columns-both : HullIs (cornersFrom (spot x0 y0 (x, y)) ds) (outlineOf x0 y0 (westFrom x ds) (eastFrom x ds) h (sinks a (map (countedFrom (westFrom x ds)) (trail x y ds))) (sinks b (map (turned (eastFrom x ds) h) (trail x y ds)))) × Closed (cornersFrom (spot x0 y0 (x, y)) ds) (outlineOf x0 y0 (westFrom x ds) (eastFrom x ds) h (sinks a (map (countedFrom (westFrom x ds)) (trail x y ds))) (sinks b (map (turned (eastFrom x ds) h) (trail x y ds))))
   unfolding outlineOf w e vs P
   columns-both = subst (λ (L : List Corner). HullIs P L × Closed P L) joined (hull-ok P (spot x0 y0 (x, y)) here lowers uppers lows turnedLows)
     where
       lo : List ℕ
-      lo = sinks a (map (eastOf w) vs)
+      lo = sinks a (map (countedFrom w) vs)
 
       hi : List ℕ
       hi = sinks b (map (turned e h) vs)
@@ -146,12 +130,12 @@ module _ (x0 y0 : ℤ) (x y : ℕ) (ds : List ℕ) (h top : ℕ) (a b : List ℕ
       uppers : List Corner
       uppers = map (at (negℤ (x0 +ℤ pos e)) (negℤ (y0 +ℤ pos h)) hi) (upFrom 0 (suc (e - w)))
 
-      here : In (spot x0 y0 (x, y)) P
+      here : List·Memᴰ (spot x0 y0 (x, y)) P
       here = first ds
         where
-          first : (ds : List ℕ) → In (spot x0 y0 (x, y)) (cornersFrom (spot x0 y0 (x, y)) ds)
-          first [] = inl refl
-          first (d ∷ ds) = inl refl
+          first : (ds : List ℕ) → List·Memᴰ (spot x0 y0 (x, y)) (cornersFrom (spot x0 y0 (x, y)) ds)
+          first [] = List·Memᴰ·head refl
+          first (d ∷ ds) = List·Memᴰ·head refl
 
       joined : round (chain lowers) (negs (chain uppers)) ≡ map (λ c. spot (x0 +ℤ pos w) y0 (colAt lo c)) (chainFrom lo 0 (suc (e - w))) ++ map (λ c. spotBack (x0 +ℤ pos e) (y0 +ℤ pos h) (colAt hi c)) (upper h lo hi (e - w))
       joined =
@@ -159,5 +143,5 @@ module _ (x0 y0 : ℤ) (x y : ℕ) (ds : List ℕ) (h top : ℕ) (a b : List ℕ
           ∙ ap (round (map (λ c. spot (x0 +ℤ pos w) y0 (colAt lo c)) (chainFrom lo 0 (suc (e - w))))) (turned-back (x0 +ℤ pos e) (y0 +ℤ pos h) hi (chainFrom hi 0 (suc (e - w))))
           ∙ subst (λ (z : ℤ). round (map (λ c. spot (x0 +ℤ pos w) y0 (colAt lo c)) (chainFrom lo 0 (suc (e - w)))) (map (λ c. spotBack z (y0 +ℤ pos h) (colAt hi c)) (chainFrom hi 0 (suc (e - w)))) ≡ map (λ c. spot (x0 +ℤ pos w) y0 (colAt lo c)) (chainFrom lo 0 (suc (e - w))) ++ map (λ c. spotBack z (y0 +ℤ pos h) (colAt hi c)) (upper h lo hi (e - w))) east-is (round-cols (x0 +ℤ pos w) y0 (e - w) h lo hi)
 
-  pub columns-hull : HullIs (cornersFrom (spot x0 y0 (x, y)) ds) (outlineOf x0 y0 (westFrom x ds) (eastFrom x ds) h (sinks a (map (eastOf (westFrom x ds)) (trail x y ds))) (sinks b (map (turned (eastFrom x ds) h) (trail x y ds))))
+  pub columns-hull : HullIs (cornersFrom (spot x0 y0 (x, y)) ds) (outlineOf x0 y0 (westFrom x ds) (eastFrom x ds) h (sinks a (map (countedFrom (westFrom x ds)) (trail x y ds))) (sinks b (map (turned (eastFrom x ds) h) (trail x y ds))))
   columns-hull = columns-both .0

@@ -3,7 +3,9 @@
 -- Assumes nothing.
 use mathlib.Core.List.{List, [], _∷_}
 use Prim.Native.Nat.{ℕ, zero, suc, _+_, _*_, _-_, min, max}
+use lib.IntN.{ℤ, pos, negsuc}
 use lib.ListN.{getD, set}
+use Rattle.grid.specs.Grid.{eastOf, northOf}
 use Rattle.answer.specs.Limits.{mostSteps}
 
 -- the column and the height of a walk's start: it has room on every side
@@ -18,19 +20,19 @@ top = 2 * middle
 abbrev pub blank : ℕ
 blank = 65535
 
+-- a column or a height with a whole number added
+abbrev pub plus : ℕ → ℤ → ℕ
+plus x (pos zero) = x
+plus x (pos (suc n)) = x + suc n
+plus x (negsuc n) = x - suc n
+
 -- the column after step d
 unfoldable pub colAfter : ℕ → ℕ → ℕ
-colAfter x zero = x + 1
-colAfter x (suc zero) = x
-colAfter x (suc (suc zero)) = x - 1
-colAfter x (suc (suc (suc d))) = x
+colAfter x d = plus x (eastOf d)
 
 -- the height after step d
 unfoldable pub rowAfter : ℕ → ℕ → ℕ
-rowAfter y zero = y
-rowAfter y (suc zero) = y + 1
-rowAfter y (suc (suc zero)) = y
-rowAfter y (suc (suc (suc d))) = y - 1
+rowAfter y d = plus y (northOf d)
 
 -- column and height of each corner of a walk
 unfoldable pub trail : ℕ → ℕ → List ℕ → List (ℕ × ℕ)
@@ -56,8 +58,8 @@ sinks a [] = a
 sinks a (v ∷ vs) = sinks (sink a v) vs
 
 -- counted from the column w
-abbrev pub eastOf : ℕ → ℕ × ℕ → ℕ × ℕ
-eastOf w v = (v .0 - w, v .1)
+abbrev pub countedFrom : ℕ → ℕ × ℕ → ℕ × ℕ
+countedFrom w v = (v .0 - w, v .1)
 
 -- turned by half a turn: counted westward from the column e, and downward from the height h
 abbrev pub turned : ℕ → ℕ → ℕ × ℕ → ℕ × ℕ

@@ -9,7 +9,7 @@ use lib.ListN.{length, getD, drop, replicate}
 use Rattle.lists.specs.Lists.{front}
 use Rattle.grid.specs.declared.Corner.{Corner}
 use Rattle.grid.specs.Grid.{corner}
-use Rattle.hull_laws.specs.Columns.{trail, westFrom, eastFrom, sinks, eastOf, turned}
+use Rattle.hull_laws.specs.Columns.{trail, westFrom, eastFrom, sinks, countedFrom, turned}
 
 -- columns p, b and a, from left to right, turn left at b
 unfoldable pub turnsAt : List ℕ → ℕ → ℕ → ℕ → Bool
@@ -78,7 +78,7 @@ outlineOf x0 y0 w e h lo hi =
 abbrev pub outlineAt : Corner → List ℕ → ℕ → ℕ → ℕ → List Corner
 outlineAt s ds n w e =
     outlineOf (s .0 -ℤ pos n) (s .1 -ℤ pos n) w e (2 * n)
-    (sinks (replicate (suc (e - w)) (suc (2 * n))) (map (eastOf w) (trail n n ds)))
+    (sinks (replicate (suc (e - w)) (suc (2 * n))) (map (countedFrom w) (trail n n ds)))
     (sinks (replicate (suc (e - w)) (suc (2 * n))) (map (turned e (2 * n)) (trail n n ds)))
 
 -- the hull of the walk ds from s: `hullOf-hull` says that it is

@@ -16,8 +16,8 @@ use Rattle.answer.specs.declared.Refusal.{Refusal}
 use Rattle.answer.specs.declared.Counted.{Counted}
 use Rattle.answer.specs.Limits.{mostInput, mostSteps}
 use Rattle.hull.specs.Hull.{HullIs}
-use Rattle.hull.specs.Call.{faultFrom, roomJudged, hullJudged, countedOf, bufferOf, HullCall}
-use Rattle.hull_laws.specs.Columns.{westFrom, eastFrom, trail, sinks, eastOf, turned}
+use Rattle.hull.specs.Call.{chainJudged, roomJudged, hullJudged, countedOf, bufferOf, HullCall}
+use Rattle.hull_laws.specs.Columns.{westFrom, eastFrom, trail, sinks, countedFrom, turned}
 use Rattle.hull_laws.specs.Outline.{spot, outlineOf}
 use Rattle.hull_laws.proofs.CornerLaws.{corner-eq}
 use Rattle.hull_laws.proofs.TrailLaws.{width-le, east-le, west-le, east-ge}
@@ -28,8 +28,8 @@ use Rattle.hull_laws.proofs.CallLaws.{judged-room}
 use Rattle.hull_laws.proofs.RowLaws.{row-hull}
 use Rattle.hull_columns.specs.declared.Extent.{Extent}
 use Rattle.hull_chains.specs.Stack.{Scanned}
-use Rattle.hull_columns.specs.Extent.{extentBy, Walked}
-use Rattle.hull_corners.specs.Parts.{Near, Listed, Chained, twoAt}
+use Rattle.hull_columns.specs.Extent.{extentBy, Spans}
+use Rattle.hull_corners.specs.Parts.{Near, ListGiven, TwoChains, twoAt}
 use Rattle.hull_laws.specs.Columns.{middle, top, blank}
 use Rattle.hull_scan.specs.Store.{Store, Hulled}
 
@@ -53,16 +53,16 @@ pub near-origin : Near origin
 near-origin = record { x = omega arith; y = omega arith }
 
 -- a walk that is not refused
-pub walked : (chain : List ℕ) (w e : ℕ) → faultFrom 0 chain ≡ judged.Good → w ≡ westFrom middle chain → e ≡ eastFrom middle chain → Walked chain w e
+pub walked : (chain : List ℕ) (w e : ℕ) → chainJudged 0 chain ≡ judged.Good → w ≡ westFrom middle chain → e ≡ eastFrom middle chain → Spans chain w e
 walked chain w e g a b = record { digits = good-digits 0 chain g; short = omega (arith, good-short 0 chain (omega arith) g); west = a; east = b }
 
-pub walked-order : {chain : List ℕ} {w e : ℕ} → Walked chain w e → w ≤ e
+pub walked-order : {chain : List ℕ} {w e : ℕ} → Spans chain w e → w ≤ e
 walked-order {chain} {w} {e} h = omega (arith, h .west, h .east, west-le middle chain, east-ge middle chain)
 
-pub walked-top : {chain : List ℕ} {w e : ℕ} → Walked chain w e → e ≤ top
+pub walked-top : {chain : List ℕ} {w e : ℕ} → Spans chain w e → e ≤ top
 walked-top {chain} {w} {e} h = omega (arith, h .east, h .short, east-le middle chain (h .short))
 
-pub walked-width : {chain : List ℕ} {w e : ℕ} → Walked chain w e → e - w ≤ mostSteps
+pub walked-width : {chain : List ℕ} {w e : ℕ} → Spans chain w e → e - w ≤ mostSteps
 walked-width {chain} {w} {e} h = omega (arith, h .west, h .east, h .short, width-le middle chain (h .short))
 
 -- a store of one length
@@ -94,7 +94,7 @@ start-is c = corner-eq (spot (c .0 -ℤ pos middle) (c .1 -ℤ pos middle) (midd
     back z = omega (zarith, bal- z (pos middle), bal+ (z -ℤ pos middle) (pos middle))
 
 -- a walk through a new column at each step is along one line
-pub row-hulled : {c : Corner} {chain : List ℕ} {w e : ℕ} {before after : List ℤ} {r : Counted} → Walked chain w e → w < e → e - w ≡ length chain → Listed (twoAt c w e) before r after → Hulled c chain before r after
+pub row-hulled : {c : Corner} {chain : List ℕ} {w e : ℕ} {before after : List ℤ} {r : Counted} → Spans chain w e → w < e → e - w ≡ length chain → ListGiven (twoAt c w e) before r after → Hulled c chain before r after
 row-hulled {c} {chain} {w} {e} k h g l = record { list = twoAt c w e; hull = whole; listed = l }
   where
     whole : HullIs (cornersFrom c chain) (twoAt c w e)
@@ -103,7 +103,7 @@ row-hulled {c} {chain} {w} {e} k h g l = record { list = twoAt c w e; hull = who
         (subst (HullIs (cornersFrom (spot (c .0 -ℤ pos middle) (c .1 -ℤ pos middle) (middle, middle)) chain)) (ap₂ (twoAt c) (sym (k .west)) (sym (k .east))) (row-hull (c .0 -ℤ pos middle) (c .1 -ℤ pos middle) middle middle chain (k .short) (k .short) (omega arith) (omega (arith, k .west, k .east))))
 
 -- the columns filled, from a store that is clear
-module _ {chain : List ℕ} {w e : ℕ} {lo hi s t : List ℕ} (k : Walked chain w e) (m : Store w e lo hi s t) where
+module _ {chain : List ℕ} {w e : ℕ} {lo hi s t : List ℕ} (k : Spans chain w e) (m : Store w e lo hi s t) where
   cleared : (l : List ℕ) → l ≡ replicate (length l) blank → (i : ℕ) → i < length l → getD l i 0 ≡ blank
   cleared l r i h = ap (λ (l : List ℕ). getD l i 0) r ∙ getD-replicate (length l) i blank 0 h
 
@@ -120,11 +120,11 @@ module _ {chain : List ℕ} {w e : ℕ} {lo hi s t : List ℕ} (k : Walked chain
   }
 
   -- what the scans leave
-  pub chained : (lo′ hi′ s′ t′ : List ℕ) (a b : ℕ) → lo′ ≡ sinks lo (map (eastOf w) (trail middle middle chain)) → hi′ ≡ sinks hi (map (turned e top) (trail middle middle chain)) → length s′ ≡ length s → length t′ ≡ length t → Scanned lo′ s′ a ((e - w) + 1) → Scanned hi′ t′ b ((e - w) + 1) → Chained w e lo′ hi′ s′ t′ a b
+  pub chained : (lo′ hi′ s′ t′ : List ℕ) (a b : ℕ) → lo′ ≡ sinks lo (map (countedFrom w) (trail middle middle chain)) → hi′ ≡ sinks hi (map (turned e top) (trail middle middle chain)) → length s′ ≡ length s → length t′ ≡ length t → Scanned lo′ s′ a ((e - w) + 1) → Scanned hi′ t′ b ((e - w) + 1) → TwoChains w e lo′ hi′ s′ t′ a b
   chained lo′ hi′ s′ t′ a b p q i j x y = record {
     ordered = walked-order k;
     within = walked-top k;
-    low = omega (arith, m .low, ap length p, length-sinks lo (map (eastOf w) (trail middle middle chain)));
+    low = omega (arith, m .low, ap length p, length-sinks lo (map (countedFrom w) (trail middle middle chain)));
     high = omega (arith, m .high, ap length q, length-sinks hi (map (turned e top) (trail middle middle chain)));
     lower = subst (Scanned lo′ s′ a) (add-one (e - w)) x;
     upper = subst (Scanned hi′ t′ b) (add-one (e - w)) y;
@@ -132,24 +132,24 @@ module _ {chain : List ℕ} {w e : ℕ} {lo hi s t : List ℕ} (k : Walked chain
     short2 = omega (arith, m .short2);
   }
 
-  pub hulled : (c : Corner) (lo′ hi′ : List ℕ) (before after : List ℤ) (r : Counted) → lo′ ≡ sinks lo (map (eastOf w) (trail middle middle chain)) → hi′ ≡ sinks hi (map (turned e top) (trail middle middle chain)) → Listed (outlineOf (c .0 -ℤ pos middle) (c .1 -ℤ pos middle) w e top lo′ hi′) before r after → Hulled c chain before r after
+  pub hulled : (c : Corner) (lo′ hi′ : List ℕ) (before after : List ℤ) (r : Counted) → lo′ ≡ sinks lo (map (countedFrom w) (trail middle middle chain)) → hi′ ≡ sinks hi (map (turned e top) (trail middle middle chain)) → ListGiven (outlineOf (c .0 -ℤ pos middle) (c .1 -ℤ pos middle) w e top lo′ hi′) before r after → Hulled c chain before r after
   hulled c lo′ hi′ before after r p q l = record {
     list = outlineOf (c .0 -ℤ pos middle) (c .1 -ℤ pos middle) w e top lo′ hi′;
     hull = whole;
     listed = l;
   }
     where
-      at : HullIs (cornersFrom c chain) (outlineOf (c .0 -ℤ pos middle) (c .1 -ℤ pos middle) (westFrom middle chain) (eastFrom middle chain) top (sinks lo (map (eastOf (westFrom middle chain)) (trail middle middle chain))) (sinks hi (map (turned (eastFrom middle chain) top) (trail middle middle chain))))
-      at = subst (λ (z : Corner). HullIs (cornersFrom z chain) (outlineOf (c .0 -ℤ pos middle) (c .1 -ℤ pos middle) (westFrom middle chain) (eastFrom middle chain) top (sinks lo (map (eastOf (westFrom middle chain)) (trail middle middle chain))) (sinks hi (map (turned (eastFrom middle chain) top) (trail middle middle chain))))) (start-is c) (columns-hull (c .0 -ℤ pos middle) (c .1 -ℤ pos middle) middle middle chain top blank lo hi store-room)
+      at : HullIs (cornersFrom c chain) (outlineOf (c .0 -ℤ pos middle) (c .1 -ℤ pos middle) (westFrom middle chain) (eastFrom middle chain) top (sinks lo (map (countedFrom (westFrom middle chain)) (trail middle middle chain))) (sinks hi (map (turned (eastFrom middle chain) top) (trail middle middle chain))))
+      at = subst (λ (z : Corner). HullIs (cornersFrom z chain) (outlineOf (c .0 -ℤ pos middle) (c .1 -ℤ pos middle) (westFrom middle chain) (eastFrom middle chain) top (sinks lo (map (countedFrom (westFrom middle chain)) (trail middle middle chain))) (sinks hi (map (turned (eastFrom middle chain) top) (trail middle middle chain))))) (start-is c) (columns-hull (c .0 -ℤ pos middle) (c .1 -ℤ pos middle) middle middle chain top blank lo hi store-room)
 
-      same : outlineOf (c .0 -ℤ pos middle) (c .1 -ℤ pos middle) (westFrom middle chain) (eastFrom middle chain) top (sinks lo (map (eastOf (westFrom middle chain)) (trail middle middle chain))) (sinks hi (map (turned (eastFrom middle chain) top) (trail middle middle chain))) ≡ outlineOf (c .0 -ℤ pos middle) (c .1 -ℤ pos middle) w e top lo′ hi′
-      same = ap₂ (λ (u v : ℕ). outlineOf (c .0 -ℤ pos middle) (c .1 -ℤ pos middle) u v top (sinks lo (map (eastOf u) (trail middle middle chain))) (sinks hi (map (turned v top) (trail middle middle chain)))) (sym (k .west)) (sym (k .east)) ∙ ap₂ (outlineOf (c .0 -ℤ pos middle) (c .1 -ℤ pos middle) w e top) (sym p) (sym q)
+      same : outlineOf (c .0 -ℤ pos middle) (c .1 -ℤ pos middle) (westFrom middle chain) (eastFrom middle chain) top (sinks lo (map (countedFrom (westFrom middle chain)) (trail middle middle chain))) (sinks hi (map (turned (eastFrom middle chain) top) (trail middle middle chain))) ≡ outlineOf (c .0 -ℤ pos middle) (c .1 -ℤ pos middle) w e top lo′ hi′
+      same = ap₂ (λ (u v : ℕ). outlineOf (c .0 -ℤ pos middle) (c .1 -ℤ pos middle) u v top (sinks lo (map (countedFrom u) (trail middle middle chain))) (sinks hi (map (turned v top) (trail middle middle chain)))) (sym (k .west)) (sym (k .east)) ∙ ap₂ (outlineOf (c .0 -ℤ pos middle) (c .1 -ℤ pos middle) w e top) (sym p) (sym q)
 
       whole : HullIs (cornersFrom c chain) (outlineOf (c .0 -ℤ pos middle) (c .1 -ℤ pos middle) w e top lo′ hi′)
       whole = subst (HullIs (cornersFrom c chain)) same at
 
 -- and where nothing else is refused that is the call
-pub call-listed : {s : Corner} {chain : List ℕ} {before after : List ℤ} {r : Counted} → length chain ≤ mostInput → faultFrom 0 chain ≡ judged.Good → Hulled s chain before r after → HullCall s chain before r after
+pub call-listed : {s : Corner} {chain : List ℕ} {before after : List ℤ} {r : Counted} → length chain ≤ mostInput → chainJudged 0 chain ≡ judged.Good → Hulled s chain before r after → HullCall s chain before r after
 call-listed {s} {chain} {before} h g k = record {
   list = k .list;
   hull = k .hull;

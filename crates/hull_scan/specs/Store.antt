@@ -10,7 +10,7 @@ use Rattle.grid.specs.Grid.{cornersFrom}
 use Rattle.answer.specs.declared.Counted.{Counted}
 use Rattle.hull.specs.Hull.{HullIs}
 use Rattle.hull_laws.specs.Columns.{blank}
-use Rattle.hull_corners.specs.Parts.{Listed}
+use Rattle.hull_corners.specs.Parts.{ListGiven}
 
 -- working store for the columns w to e
 pub record Store (w e : ℕ) (lo hi s t : List ℕ) : Type 0 where
@@ -29,4 +29,4 @@ pub record Store (w e : ℕ) (lo hi s t : List ℕ) : Type 0 where
 pub record Hulled (s : Corner) (chain : List ℕ) (before : List ℤ) (r : Counted) (after : List ℤ) : Type 0 where
   pub list : List Corner
   pub hull : HullIs (cornersFrom s chain) list
-  pub listed : Listed list before r after
+  pub listed : ListGiven list before r after

@@ -10,10 +10,10 @@ use hull_columns::fill;
 use hull_columns::survey;
 use hull_corners::ends;
 use hull_corners::finish;
-ghost use Prim.Native.Nat.{_-_, _<_, _≤_};
+ghost use Prim.Native.Nat.{_-_, _<_};
 ghost use Rattle.grid.specs.Grid.{origin};
 ghost use Rattle.hull.specs.Call.{HullCall};
-ghost use Rattle.hull_columns.specs.Extent.{Walked};
+ghost use Rattle.hull_columns.specs.Extent.{Spans};
 ghost use Rattle.hull_corners.specs.Parts.{Near};
 ghost use Rattle.hull_scan.specs.Store.{Store, Hulled};
 
@@ -29,7 +29,7 @@ fn list_in(
     t: &mut [u16],
     out: &mut [i32],
 ) -> Counted
-    requires { ⌜ Walked (now chain) west east × Near start × Store west east (now lo) (now hi) (now s) (now t) ⌝ }
+    requires { ⌜ Spans (now chain) west east × Near start × Store west east (now lo) (now hi) (now s) (now t) ⌝ }
     ensures { λ r. ⌜ Hulled start (now (chain .entry)) (now (out .entry)) r (now (out .exit)) ⌝ }
 {
     fill(chain, west, east, lo, hi);
@@ -41,7 +41,7 @@ fn list_in(
 
 // The same with a store for 256 columns.
 fn list_narrow(chain: &[u8], start: Corner, west: usize, east: usize, out: &mut [i32]) -> Counted
-    requires { ⌜ Walked (now chain) west east × Near start × (east - west < 256) ⌝ }
+    requires { ⌜ Spans (now chain) west east × Near start × (east - west < 256) ⌝ }
     ensures { λ r. ⌜ Hulled start (now (chain .entry)) (now (out .entry)) r (now (out .exit)) ⌝ }
 {
     let mut lo = [Columns::BLANK; 256];
@@ -63,7 +63,7 @@ fn list_narrow(chain: &[u8], start: Corner, west: usize, east: usize, out: &mut 
 
 // The same with a store for 2,048 columns.
 fn list_wider(chain: &[u8], start: Corner, west: usize, east: usize, out: &mut [i32]) -> Counted
-    requires { ⌜ Walked (now chain) west east × Near start × (east - west < 2048) ⌝ }
+    requires { ⌜ Spans (now chain) west east × Near start × (east - west < 2048) ⌝ }
     ensures { λ r. ⌜ Hulled start (now (chain .entry)) (now (out .entry)) r (now (out .exit)) ⌝ }
 {
     let mut lo = [Columns::BLANK; 2048];
@@ -85,7 +85,7 @@ fn list_wider(chain: &[u8], start: Corner, west: usize, east: usize, out: &mut [
 
 // The same with a store for as many columns as a walk can have.
 fn list_widest(chain: &[u8], start: Corner, west: usize, east: usize, out: &mut [i32]) -> Counted
-    requires { ⌜ Walked (now chain) west east × Near start ⌝ }
+    requires { ⌜ Spans (now chain) west east × Near start ⌝ }
     ensures { λ r. ⌜ Hulled start (now (chain .entry)) (now (out .entry)) r (now (out .exit)) ⌝ }
 {
     let mut lo = [Columns::BLANK; 16385];
@@ -108,7 +108,7 @@ fn list_widest(chain: &[u8], start: Corner, west: usize, east: usize, out: &mut 
 // The hull of the walk from start, with a store that is not much larger than it needs: to clear it takes time. A walk that goes through a
 // new column at each step is along one line, and needs none.
 fn list_from(chain: &[u8], start: Corner, west: usize, east: usize, out: &mut [i32]) -> Counted
-    requires { ⌜ Walked (now chain) west east × Near start ⌝ }
+    requires { ⌜ Spans (now chain) west east × Near start ⌝ }
     ensures { λ r. ⌜ Hulled start (now (chain .entry)) (now (out .entry)) r (now (out .exit)) ⌝ }
 {
     if west < east {

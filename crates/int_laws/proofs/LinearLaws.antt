@@ -3,14 +3,14 @@
 -- `omega zarith` reads hypotheses and goals a ≤ℤ b, a <ℤ b, a ≡ b whose sides are atoms (or literals); for a sum, a difference or a negation
 -- that occurs list its fact: `omega (zarith, bal+ x y, bal- x y)`.
 -- Assumes nothing.
-use mathlib.Core.Path.{_≡_, refl, ap, subst}
+use mathlib.Core.Path.{_≡_, refl, ap}
 use mathlib.Core.Bool.{Bool, true, false, not, cond}
 use mathlib.Core.Logic.{_⊎_, inl, inr}
-use Prim.Native.Nat.{ℕ, zero, suc, _+_, _*_, _-_, _≤_, _<_}
+use Prim.Native.Nat.{ℕ, zero, suc, _+_, _-_, _≤_, _<_}
 use native.Mathlib.Omega.{arith}
-use lib.IntN.{ℤ, pos, negsuc, negℤ, subℕ, _+ℤ_, _-ℤ_, _*ℤ_}
-use lib.Dec.{T, leb, ltb, leb→le, le→leb, ltb→lt, lt→ltb, nltb→le, nleb→lt, eqb, eqb→eq, eqb-refl, T-not}
-use lib.Signed.{_≤ℤ_, _<ℤ_, leZ, ltZ, mag}
+use lib.IntN.{ℤ, pos, negsuc, negℤ, subℕ, _+ℤ_, _-ℤ_}
+use lib.Dec.{T, leb, ltb, leb→le, le→leb, ltb→lt, lt→ltb, nltb→le, nleb→lt}
+use lib.Signed.{_≤ℤ_, _<ℤ_, leZ, ltZ}
 
 abbrev pub up : ℤ → ℕ
 up (pos n) = n
@@ -118,27 +118,8 @@ dn-neg (negsuc n) = refl
 pub bal- : (x y : ℤ) → up (x -ℤ y) + (dn x + up y) ≡ dn (x -ℤ y) + (up x + dn y)
 bal- x y = omega (arith, bal+ x (negℤ y), up-neg y, dn-neg y)
 
-pub bal* : (x y : ℤ) → up (x *ℤ y) + (up x * dn y + dn x * up y) ≡ dn (x *ℤ y) + (up x * up y + dn x * dn y)
-bal* (pos a) (pos b) = omega arith
-bal* (pos a) (negsuc b) = omega (arith, up-neg (pos (a * suc b)), dn-neg (pos (a * suc b)))
-bal* (negsuc a) (pos b) = omega (arith, up-neg (pos (suc a * b)), dn-neg (pos (suc a * b)))
-bal* (negsuc a) (negsuc b) = omega arith
-
 pub neg-nat : (x : ℤ) → (up (negℤ x) ≡ dn x) × (dn (negℤ x) ≡ up x)
 neg-nat x = (up-neg x, dn-neg x)
-
--- `mag z < H` is -H ≤ z < H
-pub mag-nat : (z : ℤ) {H : ℕ} → mag z < H → (up z < H) × (dn z ≤ H)
-mag-nat (pos n) h = omega arith
-mag-nat (negsuc n) h = omega arith
-
-pub nat-mag : (z : ℤ) {H : ℕ} → up z < H → dn z ≤ H → mag z < H
-nat-mag (pos n) h k = h
-nat-mag (negsuc n) h k = k
-
-pub one-zero : (z : ℤ) → up z * dn z ≡ 0
-one-zero (pos n) = omega arith
-one-zero (negsuc n) = omega arith
 
 pub ruleset zarith = (arith, le-nat, nat-le, lt-nat, nat-lt, eq-nat, nat-eq)
 
@@ -149,30 +130,3 @@ le-or-lt a b = go (leb (up a + dn b) (up b + dn a)) (λ t. nat-le a b (leb→le 
     go : (c : Bool) → (T c → a ≤ℤ b) → (T (not c) → b <ℤ a) → (a ≤ℤ b) ⊎ (b <ℤ a)
     go true f g = inl (f tt)
     go false f g = inr (g tt)
-
--- a test of equality that computes, and the decision by it
-abbrev pub eqZ : ℤ → ℤ → Bool
-eqZ (pos a) (pos b) = eqb a b
-eqZ (pos a) (negsuc b) = false
-eqZ (negsuc a) (pos b) = false
-eqZ (negsuc a) (negsuc b) = eqb a b
-
-pub eqZ-yes : (a b : ℤ) → T (eqZ a b) → a ≡ b
-eqZ-yes (pos a) (pos b) t = ap pos (eqb→eq a b t)
-eqZ-yes (pos a) (negsuc b) t = absurd t
-eqZ-yes (negsuc a) (pos b) t = absurd t
-eqZ-yes (negsuc a) (negsuc b) t = ap negsuc (eqb→eq a b t)
-
-pub eqZ-refl : (a : ℤ) → T (eqZ a a)
-eqZ-refl (pos a) = eqb-refl a
-eqZ-refl (negsuc a) = eqb-refl a
-
-pub eqZ-no : (a b : ℤ) → T (not (eqZ a b)) → ¬ (a ≡ b)
-eqZ-no a b t e = T-not (eqZ a b) t (subst (λ (z : ℤ). T (eqZ a z)) e (eqZ-refl a))
-
-unfoldable pub zdec : (a b : ℤ) → Dec (a ≡ b)
-zdec a b = pick (eqZ a b) (eqZ-yes a b) (eqZ-no a b)
-  where
-    pick : (c : Bool) → (T c → a ≡ b) → (T (not c) → ¬ (a ≡ b)) → Dec (a ≡ b)
-    pick true f g = yes (f tt)
-    pick false f g = no (g tt)

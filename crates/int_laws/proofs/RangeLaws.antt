@@ -8,9 +8,9 @@ use lib.IntN.{ℤ, pos, negsuc, negℤ, natAbs, _+ℤ_, _-ℤ_, _*ℤ_}
 use lib.Signed.{mag, _≤ℤ_, _<ℤ_, leZ, ltZ, leZ-yes, ltZ-yes, ltZ-no}
 use mathlib.Core.Bool.{Bool, true, false, not}
 use lib.Dec.{T}
-use mir.Syntax.{Width, w32}
+use mir.Syntax.{Width}
 use mir.Val.{SFits, hbits}
-use Rattle.int_laws.proofs.LinearLaws.{up, dn, bal+, up-neg, dn-neg, zarith}
+use Rattle.int_laws.proofs.LinearLaws.{up, dn, bal+}
 
 pub abs-nat : (z : ℤ) → natAbs z ≡ up z + dn z
 abs-nat (pos n) = omega arith
@@ -47,14 +47,6 @@ mag-abs (negsuc n) = omega arith
 pub sfits-abs : (w : Width) (z : ℤ) → natAbs z < 2 ^ hbits w → SFits w z
 sfits-abs w z h = record { sfits = omega (arith, mag-abs z) }
 
--- the bounds as orders: -A ≤ z ≤ A
-pub abs-le : (z : ℤ) (A : ℕ) → natAbs z ≤ A → (z ≤ℤ pos A) × (negℤ (pos A) ≤ℤ z)
-abs-le z A h = (omega (zarith, abs-nat z), omega (zarith, abs-nat z, up-neg (pos A), dn-neg (pos A)))
-
-pub le-abs : (z : ℤ) (A : ℕ) → z ≤ℤ pos A → negℤ (pos A) ≤ℤ z → natAbs z ≤ A
-le-abs (pos n) A h g = omega zarith
-le-abs (negsuc n) A h g = omega (zarith, up-neg (pos A), dn-neg (pos A))
-
 -- what a branch on a signed comparison leaves
 pub lt-true : {a b : ℤ} → ltZ a b ≡ true → a <ℤ b
 lt-true {a} {b} e = ltZ-yes (subst (λ (x : Bool). T x) (sym e) tt)
@@ -64,7 +56,3 @@ lt-false {a} {b} e = ltZ-no (subst (λ (x : Bool). T (not x)) (sym e) tt)
 
 pub le-true : {a b : ℤ} → leZ a b ≡ true → a ≤ℤ b
 le-true {a} {b} e = leZ-yes (subst (λ (x : Bool). T x) (sym e) tt)
-
--- a coordinate of any walk fits an i32
-pub fits32 : (z : ℤ) → natAbs z ≤ 32768 → SFits w32 z
-fits32 z h = sfits-abs w32 z (omega arith)

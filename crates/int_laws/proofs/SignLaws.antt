@@ -10,7 +10,7 @@ use lib.IntN.{ℤ, pos, negsuc, _+ℤ_, _-ℤ_, _*ℤ_, *ℤ-zero, zero-*ℤ, +�
 use lib.Dec.{T}
 use lib.Signed.{_≤ℤ_, _<ℤ_, nonNeg}
 use native.Mathlib.Omega.{arith}
-use Rattle.int_laws.proofs.LinearLaws.{up, zarith, bal+, bal-, nat-le, up-neg, dn-neg}
+use Rattle.int_laws.proofs.LinearLaws.{zarith, bal+, bal-, nat-le, up-neg, dn-neg}
 use Rattle.int_laws.proofs.RingLaws.{E, k, _⊕_, _⊖_, _⊗_, den, norm, norm-ev, Poly, evP, zeroP, allL, hd, tl, zeroP-ev, and-l, and-r, _&_}
 
 pub nn-add : (x y : ℤ) → pos 0 ≤ℤ x → pos 0 ≤ℤ y → pos 0 ≤ℤ (x +ℤ y)
@@ -21,10 +21,6 @@ nn-mul (pos a) (pos b) h g = omega zarith
 nn-mul (pos a) (negsuc b) h g = absurd (g .le)
 nn-mul (negsuc a) (pos b) h g = absurd (h .le)
 nn-mul (negsuc a) (negsuc b) h g = absurd (h .le)
-
-pub nn-sq : (x : ℤ) → pos 0 ≤ℤ (x *ℤ x)
-nn-sq (pos a) = omega zarith
-nn-sq (negsuc a) = omega zarith
 
 pub record Nn (n : ℕ) (ρ : List ℤ) (e : E) : Type 0 where
   pub nn : pos 0 ≤ℤ den n ρ e
@@ -80,9 +76,6 @@ module _ (n : ℕ) (ρ : List ℤ) where
     where
       go : (y : ℤ) → pos 0 <ℤ y → pos 0 ≤ℤ (y -ℤ pos 1)
       go y h = omega (zarith, bal- y (pos 1))
-
-  pub sq : (a : E) → Nn n ρ (a ⊗ a)
-  sq a = record { nn = nn-sq (den n ρ a) }
 
 infixl 6 _⊞_
 infixl 7 _⊠_ _⋆_ _⊡_

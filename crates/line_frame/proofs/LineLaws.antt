@@ -104,7 +104,7 @@ frameOf-frame s k n a o m l p q =
     ∙ sym (simp (a, lt-ltb (kindOf s) 2 (omega arith), le-leb (countOf s) mostDigits (omega arith), eq-eqb (length s) (headDigits + countOf s) (omega arith)))
 
 -- and what follows from a frame's having n digits
-pub record Good (s : List ℕ) (n : ℕ) : Type 0 where
+pub record HasDigits (s : List ℕ) (n : ℕ) : Type 0 where
   pub digits : allHex s ≡ true
   pub most : n ≤ mostDigits
   pub size : length s ≡ headDigits + n
@@ -113,7 +113,7 @@ first-of-four : (a b c d : Bool) → a && b && c && d ≡ true → a ≡ true
 first-of-four true b c d e = refl
 first-of-four false b c d e = e
 
-has-good : (s : List ℕ) (k : Kind) (n : ℕ) (b : Bool) → isFrame s ≡ b → cond b (Of (kindNamed (kindOf s)) (countOf s)) Bad ≡ Of k n → Good s n
+has-good : (s : List ℕ) (k : Kind) (n : ℕ) (b : Bool) → isFrame s ≡ b → cond b (Of (kindNamed (kindOf s)) (countOf s)) Bad ≡ Of k n → HasDigits s n
 has-good s k n false e w = let z : _≡_ {A = ℕ} 0 1 = cc in absurd (omega arith)
 has-good s k n true e w =
     let p = last-two (allHex s) (ltb (kindOf s) 2) (leb (countOf s) mostDigits) (eqb (length s) (headDigits + countOf s)) e in
@@ -124,7 +124,7 @@ has-good s k n true e w =
       size = omega (arith, eqb-true (length s) (headDigits + countOf s) (p .1));
     }
 
-pub frame-good : (s : List ℕ) (k : Kind) (n : ℕ) → frameOf s ≡ Of k n → Good s n
+pub frame-good : (s : List ℕ) (k : Kind) (n : ℕ) → frameOf s ≡ Of k n → HasDigits s n
 unfolding frameOf
 frame-good s k n e = has-good s k n (isFrame s) refl e
 

@@ -14,7 +14,7 @@ use Rattle.grid.specs.Grid.{origin, cornersFrom}
 use Rattle.answer.specs.declared.Judged.{Judged}
 use Rattle.answer.specs.declared.Counted.{Counted}
 use Rattle.answer.specs.declared.Refusal.{Refusal}
-use Rattle.hull.specs.Call.{faultFrom, hullJudged, countedOf, numbers, bufferOf, HullCall}
+use Rattle.hull.specs.Call.{chainJudged, hullJudged, countedOf, numbers, bufferOf, HullCall}
 use Rattle.hull_laws.specs.Outline.{hullOf}
 use Rattle.hull_laws.proofs.OneLaws.{hullIs-one}
 use Rattle.hull_laws.proofs.HullLaws.{hullOf-hull, length-hullOf}
@@ -29,7 +29,7 @@ use Rattle.answer.specs.declared.Judged.the-variants as judged
 use Rattle.answer.specs.declared.Counted.the-variants as counted
 use Rattle.line_reply.specs.Reply.{Listed}
 
-steps-none : (i : ℕ) (w : List ℕ) → Below 4 w → i + length w ≤ 16384 → faultFrom i w ≡ judged.Good
+steps-none : (i : ℕ) (w : List ℕ) → Below 4 w → i + length w ≤ 16384 → chainJudged i w ≡ judged.Good
 steps-none i [] b h = refl
 steps-none i (d ∷ w) b h =
     rw (le-ltb 3 d (omega (arith, b .0)), ne-eqb i 16384 (λ e. omega arith)) (steps-none (suc i) w (b .1) (omega arith))

@@ -15,9 +15,9 @@ use Rattle.answer.specs.declared.Refusal.{Refusal}
 use Rattle.answer.specs.declared.Facts.{Facts}
 use Rattle.answer.specs.declared.Answer.{Answer}
 use Rattle.answer.proofs.RefusalLaws.{clear}
-use Rattle.steps.specs.Operations.{survivors}
+use Rattle.steps.specs.Operations.{survivors, Walkable}
 use Rattle.steps.specs.Turns.{stepsOf, turnsJudged, writtenIf, ConvertedBy}
-use Rattle.steps.proofs.SurvivorLaws.{Sound, sound-survivors, length-survivors}
+use Rattle.steps.proofs.SurvivorLaws.{walkable-survivors, length-survivors}
 use Rattle.layout.specs.Marks.{chainOf}
 use Rattle.walk_call.specs.Walk.{walkJudgements, walkJudged, factsOf, answerBy, walkAnswer, bufferBy, WalkIs}
 use Rattle.hull_laws.specs.Outline.{hullOf}
@@ -71,10 +71,10 @@ module _ {os t ms ch : List ℕ} {h : List ℤ} {r : Answer} {t′ ms′ ch′ :
     both : (walkJudged origin os (length t) (length ms) (length ch) ≡ judged.Good) × (factsOf origin (survivors os) ≡ f)
     both = by-good (walkJudged origin os (length t) (length ms) (length ch)) f (factsOf origin (survivors os)) (sym (w .answer) ∙ e)
 
-    sound : Sound (survivors os)
+    sound : Walkable (survivors os)
     sound =
         let k = clear (walkJudgements origin os (length t) (length ms) (length ch)) (both .0) in
-        sound-survivors 0 [] os (record { digits = tt; few = omega arith }) (k .1 .1 .1 .0)
+        walkable-survivors 0 [] os (record { digits = tt; few = omega arith }) (k .1 .1 .1 .0)
 
     count : f .steps ≡ length (survivors os)
     count = sym (ap (λ (g : Facts). g .steps) (both .1))

@@ -1,19 +1,19 @@
 -- Operations with no fault, and what survives of them: digits below 4, and not too many. Steps alone survive as they are.
 -- Assumes nothing.
-use mathlib.Core.Bool.{Bool, true, false, not, _&&_}
+use mathlib.Core.Bool.{Bool, true, false}
 use mathlib.Core.List.{List, [], _∷_, _++_, append-nil, append-assoc}
 use mathlib.Core.Logic.{_⊎_, inl, inr, ⊎-elim}
 use mathlib.Core.Path.{_≡_, refl, ap, sym, _∙_, subst}
-use Prim.Native.Nat.{ℕ, zero, suc, _+_, _-_, _<_, _≤_}
+use Prim.Native.Nat.{ℕ, suc, _+_, _-_, _<_, _≤_}
 use native.Mathlib.Omega.{arith}
 use borrow.Author.Tests.{ltb-true, ltb-false, eqb-true, eqb-false, ne-eqb, lt-ltb, le-ltb}
 use lib.Dec.{eqb, ltb}
 use lib.ListN.{length, length-append}
-use Rattle.answer.specs.declared.Judged.the-variants.{Good, Refused}
+use Rattle.answer.specs.declared.Judged.the-variants.{Good}
 use Rattle.answer.specs.declared.Refusal.the-variants.{BadDigit, NothingToTake, TooLong}
 use Rattle.lists.specs.Lists.{front, Below}
 use Rattle.answer.proofs.RefusalLaws.{refused-not-good, orElse-good}
-use Rattle.steps.specs.Operations.{operate, survivorsFrom, faultOf, after, faultsFrom}
+use Rattle.steps.specs.Operations.{operate, survivorsFrom, faultOf, after, Fine, Walkable, operationsJudged}
 use Rattle.steps.proofs.OperationCases as cases
 
 pub operate-step : (s : List ℕ) (d : ℕ) → d < 4 → operate s d ≡ s ++ (d ∷ [])
@@ -49,10 +49,6 @@ pub below-last : (s : List ℕ) (d : ℕ) → Below 4 (s ++ (d ∷ [])) → d < 
 below-last [] d b = b .0
 below-last (x ∷ s) d b = below-last s d (b .1)
 
--- an operation with no fault: a take-back with a step to take, or a step that is not too many
-abbrev pub Fine : ℕ → ℕ → Type 0
-Fine n o = ((o ≡ 4) × (0 < n)) ⊎ ((o < 4) × (n < 16384))
-
 pub fault-none : (i n o : ℕ) → faultOf i n o ≡ Good → Fine n o
 fault-none i n o e = go (ltb 4 o) refl (eqb o 4) refl (eqb n 0) refl (ltb n 16384) refl
   where
@@ -63,8 +59,8 @@ fault-none i n o e = go (ltb 4 o) refl (eqb o 4) refl (eqb n 0) refl (ltb n 1638
     go false p false q c r true s = inr (omega (arith, ltb-false 4 o p, eqb-false o 4 q), ltb-true n 16384 s)
     go false p false q c r false s = absurd (refused-not-good (TooLong i) (rw (p, q, s) at e))
 
-pub fault-step : (i n o : ℕ) (os : List ℕ) → faultsFrom i n (o ∷ os) ≡ Good → (faultOf i n o ≡ Good) × (faultsFrom (suc i) (after n o) os ≡ Good)
-fault-step i n o os e = orElse-good (faultOf i n o) (faultsFrom (suc i) (after n o) os) e
+pub fault-step : (i n o : ℕ) (os : List ℕ) → operationsJudged i n (o ∷ os) ≡ Good → (faultOf i n o ≡ Good) × (operationsJudged (suc i) (after n o) os ≡ Good)
+fault-step i n o os e = orElse-good (faultOf i n o) (operationsJudged (suc i) (after n o) os) e
 
 pub after-length : (s : List ℕ) (o : ℕ) → after (length s) o ≡ length (operate s o)
 after-length s o = go (eqb o 4) refl
@@ -80,28 +76,24 @@ pub fine-step : (n o : ℕ) → Fine n o → (o ≡ 4 → ⊥) → (o < 4) × (n
 fine-step n o f g = ⊎-elim (λ k. absurd (g (k .0))) (λ k. k) f
 
 -- what survives of a record with no fault
-pub record Sound (s : List ℕ) : Type 0 where
-  pub digits : Below 4 s
-  pub few : length s ≤ 16384
-
-pub sound-operate : (s : List ℕ) (o : ℕ) → Sound s → Fine (length s) o → Sound (operate s o)
-sound-operate s o h f =
+pub walkable-operate : (s : List ℕ) (o : ℕ) → Walkable s → Fine (length s) o → Walkable (operate s o)
+walkable-operate s o h f =
     ⊎-elim
     (λ k. rw (k .0) (record { digits = below-front s (h .digits); few = omega (arith, length-front s, h .few) }))
     (λ k. rw (operate-step s o (k .0)) (record { digits = below-snoc s o (h .digits) (k .0); few = omega (arith, length-append s (o ∷ []), k .1) }))
     f
 
-pub sound-survivors : (i : ℕ) (s os : List ℕ) → Sound s → faultsFrom i (length s) os ≡ Good → Sound (survivorsFrom s os)
-sound-survivors i s [] h e = h
-sound-survivors i s (o ∷ os) h e =
+pub walkable-survivors : (i : ℕ) (s os : List ℕ) → Walkable s → operationsJudged i (length s) os ≡ Good → Walkable (survivorsFrom s os)
+walkable-survivors i s [] h e = h
+walkable-survivors i s (o ∷ os) h e =
     let k = fault-step i (length s) o os e in
-    sound-survivors (suc i) (operate s o) os (sound-operate s o h (fault-none i (length s) o (k .0))) (subst (λ n. faultsFrom (suc i) n os ≡ Good) (after-length s o) (k .1))
+    walkable-survivors (suc i) (operate s o) os (walkable-operate s o h (fault-none i (length s) o (k .0))) (subst (λ n. operationsJudged (suc i) n os ≡ Good) (after-length s o) (k .1))
 
 -- steps alone have no fault
 step-fault : (i n d : ℕ) → d < 4 → n < 16384 → faultOf i n d ≡ Good
 step-fault i n d h k = rw (le-ltb 4 d (omega arith), ne-eqb d 4 (λ e. omega arith), lt-ltb n 16384 k, faultOf)
 
-pub steps-accepted : (i n : ℕ) (ds : List ℕ) → Below 4 ds → n + length ds ≤ 16384 → faultsFrom i n ds ≡ Good
+pub steps-accepted : (i n : ℕ) (ds : List ℕ) → Below 4 ds → n + length ds ≤ 16384 → operationsJudged i n ds ≡ Good
 steps-accepted i n [] b h = refl
 steps-accepted i n (d ∷ ds) b h =
     let a : after n d ≡ n + 1 = rw (ne-eqb d 4 (λ e. omega (arith, b .0)), after) in

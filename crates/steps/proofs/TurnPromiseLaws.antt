@@ -15,7 +15,7 @@ use Rattle.answer.specs.declared.Refusal.the-variants.{TooMany, ResultRoom, Bad
 use Rattle.answer.specs.Limits.{mostInput}
 use Rattle.answer.specs.Refusal.{when, orElse}
 use Rattle.answer.proofs.RefusalLaws.{orElse-good, when-good, clear}
-use Rattle.steps.specs.Turns.{turnsOf, stepsOf, digitFaultsFrom, turnsJudged, writtenIf, ConvertedBy}
+use Rattle.steps.specs.Turns.{turnsOf, stepsOf, digitsJudged, turnsJudged, writtenIf, ConvertedBy}
 use Rattle.steps.proofs.TurnLaws.{stepsOf-turnsOf, turnsOf-stepsOf, turnsOf-below, stepsOf-below, length-turnsOf, length-stepsOf}
 
 -- the judgement: 1, else 3, else 4 at the first bad digit
@@ -25,21 +25,21 @@ judged-many ds room h = rw (lt-ltb mostInput (length ds) h)
 pub judged-room : (ds : List ℕ) (room : ℕ) → length ds ≤ mostInput → (room ≡ length ds → ⊥) → turnsJudged ds room ≡ Refused ResultRoom
 judged-room ds room h f = rw (le-ltb mostInput (length ds) h, ne-eqb room (length ds) f)
 
-pub judged-digits : (ds : List ℕ) (room : ℕ) → length ds ≤ mostInput → room ≡ length ds → turnsJudged ds room ≡ digitFaultsFrom 0 ds
-judged-digits ds room h e = rw (le-ltb mostInput (length ds) h, eq-eqb room (length ds) e) (last (digitFaultsFrom 0 ds))
+pub judged-digits : (ds : List ℕ) (room : ℕ) → length ds ≤ mostInput → room ≡ length ds → turnsJudged ds room ≡ digitsJudged 0 ds
+judged-digits ds room h e = rw (le-ltb mostInput (length ds) h, eq-eqb room (length ds) e) (last (digitsJudged 0 ds))
   where
     last : (j : Judged) → orElse j Good ≡ j
     last Good = refl
     last (Refused r) = refl
 
-pub digitFaults-below : (i : ℕ) (ds : List ℕ) → digitFaultsFrom i ds ≡ Good → Below 4 ds
+pub digitFaults-below : (i : ℕ) (ds : List ℕ) → digitsJudged i ds ≡ Good → Below 4 ds
 digitFaults-below i [] e = tt
 digitFaults-below i (d ∷ ds) e =
-    let h = orElse-good (when (ltb 3 d) (BadDigit i)) (digitFaultsFrom (suc i) ds) e in
+    let h = orElse-good (when (ltb 3 d) (BadDigit i)) (digitsJudged (suc i) ds) e in
     let k : d ≤ 3 = ltb-false 3 d (when-good (ltb 3 d) (BadDigit i) (h .0)) in
     (omega arith, digitFaults-below (suc i) ds (h .1))
 
-pub below-digitFaults : (i : ℕ) (ds : List ℕ) → Below 4 ds → digitFaultsFrom i ds ≡ Good
+pub below-digitFaults : (i : ℕ) (ds : List ℕ) → Below 4 ds → digitsJudged i ds ≡ Good
 below-digitFaults i [] b = refl
 below-digitFaults i (d ∷ ds) b = rw (le-ltb 3 d (omega (arith, b .0))) (below-digitFaults (suc i) ds (b .1))
 
@@ -55,7 +55,7 @@ not-false false e = absurd (true≢false e)
 
 pub turnsJudged-good : (ds : List ℕ) (room : ℕ) → turnsJudged ds room ≡ Good → Convertible ds room
 turnsJudged-good ds room e =
-    let h = clear (when (ltb mostInput (length ds)) TooMany ∷ when (not (eqb room (length ds))) ResultRoom ∷ digitFaultsFrom 0 ds ∷ []) e in
+    let h = clear (when (ltb mostInput (length ds)) TooMany ∷ when (not (eqb room (length ds))) ResultRoom ∷ digitsJudged 0 ds ∷ []) e in
     record {
       few = ltb-false mostInput (length ds) (when-good (ltb mostInput (length ds)) TooMany (h .0));
       long = eqb-true room (length ds) (not-false (eqb room (length ds)) (when-good (not (eqb room (length ds))) ResultRoom (h .1 .0)));

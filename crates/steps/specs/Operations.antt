@@ -1,5 +1,5 @@
 -- The surviving steps of a string of operations, and the refusals 4, 5 and 6 (01, "Corners, panels and words" and the table of refusals). Assumes nothing.
-use Rattle.lists.specs.Lists.{true, false, not, _&&_, List, [], _∷_, _++_, ℕ, suc, _+_, _-_, eqb, ltb, front}
+use Rattle.lists.specs.Lists.{_≡_, _⊎_, true, false, not, _&&_, List, [], _∷_, _++_, length, ℕ, suc, _+_, _-_, _<_, _≤_, eqb, ltb, front, Below}
 use Rattle.answer.specs.declared.{Judged.Judged, Judged.the-variants.Good, Refusal.the-variants.BadDigit, Refusal.the-variants.NothingToTake, Refusal.the-variants.TooLong}
 use Rattle.answer.specs.{Limits.mostSteps, Refusal.when, Refusal.orElse, Refusal.firstOf}
 
@@ -23,11 +23,20 @@ faultOf i n o =
     ∷ when (not (eqb o 4) && not (ltb n mostSteps)) (TooLong i)
     ∷ [])
 
+-- an operation with no fault, where n steps survive: a take-back with a step to take, or a step that is not too many
+abbrev pub Fine : ℕ → ℕ → Type 0
+Fine n o = ((o ≡ 4) × (0 < n)) ⊎ ((o < 4) × (n < mostSteps))
+
+-- the steps of a walk: digits below 4, and not too many
+pub record Walkable (ds : List ℕ) : Type 0 where
+  pub digits : Below 4 ds
+  pub few : length ds ≤ mostSteps
+
 -- how many steps survive the operation
 abbrev pub after : ℕ → ℕ → ℕ
 after n o = elim (eqb o 4) [ true ↦ n - 1 | false ↦ n + 1 ]
 
 -- the first fault, with n steps surviving at place i
-abbrev pub faultsFrom : ℕ → ℕ → List ℕ → Judged
-faultsFrom i n [] = Good
-faultsFrom i n (o ∷ os) = orElse (faultOf i n o) (faultsFrom (suc i) (after n o) os)
+abbrev pub operationsJudged : ℕ → ℕ → List ℕ → Judged
+operationsJudged i n [] = Good
+operationsJudged i n (o ∷ os) = orElse (faultOf i n o) (operationsJudged (suc i) (after n o) os)

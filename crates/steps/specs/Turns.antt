@@ -30,16 +30,16 @@ stepsOf [] = []
 stepsOf (t ∷ ts) = t ∷ stepsFrom t ts
 
 -- the first digit above 3, from place i on
-abbrev pub digitFaultsFrom : ℕ → List ℕ → Judged
-digitFaultsFrom i [] = Good
-digitFaultsFrom i (d ∷ ds) = orElse (when (ltb 3 d) (BadDigit i)) (digitFaultsFrom (suc i) ds)
+abbrev pub digitsJudged : ℕ → List ℕ → Judged
+digitsJudged i [] = Good
+digitsJudged i (d ∷ ds) = orElse (when (ltb 3 d) (BadDigit i)) (digitsJudged (suc i) ds)
 
 -- 1, then 3, then 4, for digits and a buffer of that length
 abbrev pub turnsJudged : List ℕ → ℕ → Judged
 turnsJudged ds room =
     firstOf (when (ltb mostInput (length ds)) TooMany
     ∷ when (not (eqb room (length ds))) ResultRoom
-    ∷ digitFaultsFrom 0 ds
+    ∷ digitsJudged 0 ds
     ∷ [])
 
 -- a buffer after the call: written if accepted, untouched if refused

@@ -4,7 +4,7 @@ use mathlib.Core.Bool.{Bool, true, false}
 use mathlib.Core.List.{List, [], _∷_, _++_, append-nil, append-assoc, List·Memᴰ, List·Memᴰ·head}
 use mathlib.Core.Logic.{_⊎_, inl, inr}
 use mathlib.Core.Path.{_≡_, refl, ap, sym, _∙_, subst}
-use Prim.Native.Nat.{ℕ, suc, max}
+use Prim.Native.Nat.{ℕ, max}
 use native.Mathlib.Omega.{arith}
 use lib.ListN.{length, length-append}
 use Rattle.grid.specs.declared.Corner.{Corner}
@@ -15,7 +15,7 @@ use Rattle.lists.specs.Lists.{gather, Distinct}
 use Rattle.lists.proofs.FindLaws.{find-le, distinct-split}
 use Rattle.lists.proofs.GatherLaws.{distinct-gather}
 use Rattle.tree.specs.Nodes.{refOf}
-use Rattle.tree_laws.specs.State.{State, Sound, withNode, grown, raised, reached, Made, Holds}
+use Rattle.tree_laws.specs.State.{State, Sound, grown, raised, reached, Made, Holds}
 use Rattle.tree_laws.proofs.AddLaws.{ref-snoc, Fresh, fresh}
 use Rattle.table_laws.proofs.StateLaws.{by-mem, grown-known, grown-new}
 

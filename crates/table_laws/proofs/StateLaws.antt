@@ -14,13 +14,13 @@ use Rattle.grid.specs.Tree.{parentOf, isRoot, pathOf, childWord}
 use Rattle.layout.specs.Table.{width, wordAt, childRefOf, tableOf}
 use Rattle.lists.specs.Lists.{any, add, gather}
 use Rattle.tree.specs.Nodes.{links, refOf}
-use Rattle.tree_laws.specs.State.{later, linked, put, Good, State, stateOf, needed, reached, visitedBy, withNode, withLink, grown, raised, unlinking, Alike, Sound, tableBy}
+use Rattle.tree_laws.specs.State.{later, linked, put, WellLinked, State, stateOf, needed, reached, visitedBy, withNode, withLink, grown, raised, unlinking, Alike, Sound, tableBy}
 use Rattle.grid.proofs.CornerLaws.{same-refl, same-sound}
 use Rattle.layout.proofs.ChildLaws.{child-ref}
 use Rattle.lists.proofs.GatherLaws.{gather-more, add-cases, any→mem, mem→any, not-mem, distinct-gather, mem-gather-left, mem-gather-right, mem-gather-cases}
 use Rattle.tree.proofs.NodeLaws.{mem-path}
 use Rattle.tree.proofs.RefLaws.{not-any}
-use Rattle.tree_laws.proofs.AddLaws.{ref-pos, ref-none, needed-known, needed-step, needed-child, path-below}
+use Rattle.tree_laws.proofs.AddLaws.{ref-none, needed-known, needed-step, needed-child, path-below}
 use Rattle.tree_laws.proofs.LevelLaws.{add-known, order-gather, gather-closed, known-nodes, known-links, left-links, right-nodes, right-links, child-nodes, sibling-links, above-links, nodes-step, good-linked}
 use Rattle.tree_laws.proofs.LineageLaws.{links-there}
 use Rattle.tree_laws.proofs.PopLaws.{Agree, drop-stop, drop-root, drop-fresh, drop-next, drop-needs}
@@ -49,12 +49,9 @@ by-mem e ns P f g = go (any (same e) ns) refl
 pub child-there : (ns : List Corner) (e : Corner) → isRoot e ≡ false → (childRefOf ns (parentOf e) (childWord e) ≡ 0 → ⊥) → List·Memᴰ e ns
 child-there ns e h f = by-mem e ns (List·Memᴰ e ns) (λ m. m) (λ g. absurd (f (child-ref ns e h ∙ ref-none ns e g)))
 
-pub child-absent : (ns : List Corner) (e : Corner) → isRoot e ≡ false → childRefOf ns (parentOf e) (childWord e) ≡ 0 → List·Memᴰ e ns → ⊥
-child-absent ns e h z m = omega (arith, ref-pos ns e m, child-ref ns e h)
-
 -- ---- the cases of the lookup, as states
 module _ (S : State) (sound : Sound S) (s : ℕ) (a e : Corner) where
-  good : Good (S .nodes) (S .step)
+  good : WellLinked (S .nodes) (S .step)
   good = sound .good
 
   -- 1. linked already
@@ -122,7 +119,7 @@ reach-over S sound s a e z m i r = go (isRoot a) refl (same (parentOf a) (parent
 
 -- ---- the states on the way are sound
 module _ (S : State) (sound : Sound S) (s : ℕ) (h : Corner) where
-  pub sound-unlinking : (M : Corner → Corner → ℕ) → Good (gather same (S .nodes) (pathOf h)) M → Sound (unlinking S s h M)
+  pub sound-unlinking : (M : Corner → Corner → ℕ) → WellLinked (gather same (S .nodes) (pathOf h)) M → Sound (unlinking S s h M)
   sound-unlinking M g = record {
     good = g;
     unvisited = λ x f. sound .unvisited x (outside x f);
@@ -216,11 +213,5 @@ module _ (words : ℕ) (c : Corner) (ds : List ℕ) (d : ℕ) where
   needs-small x = omega (arith, need-bound c ds x)
 
 -- ---- room
--- the nodes of each level fit if those of the whole lookup do
-pub room-above : (ns : List Corner) (e : Corner) → isRoot e ≡ false → length (gather same ns (pathOf (parentOf e))) ≤ length (gather same ns (pathOf e))
-room-above ns e h =
-    let g = gather-more same (gather same ns (pathOf (parentOf e))) (e ∷ []) in
-    omega (arith, ap length (nodes-step ns e h ∙ g .1), length-append (gather same ns (pathOf (parentOf e))) (g .0))
-
 pub room-old : (ns xs : List Corner) → length ns ≤ length (gather same ns xs)
 room-old ns xs = let g = gather-more same ns xs in omega (arith, ap length (g .1), length-append ns (g .0))

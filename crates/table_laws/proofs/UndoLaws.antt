@@ -39,9 +39,6 @@ module _ (words : ℕ) (S : State) (sound : Sound S) (s : ℕ) (pos : 0 < s) whe
       pub inv : Unlinking (S .nodes) (S .step) (sound .good) s small z d links at
 
     module _ (t : List ℕ) (u : ℕ) (k : UnlinkAt t u) where
-      to : Corner
-      to = stepped d (k .at)
-
       pub unlink-reads : getD t (wordAt u (linkWord d)) 0 ≡ k .links (k .at) (stepped d (k .at))
       unlink-reads = ap (λ (x : List ℕ). getD x (wordAt u (linkWord d)) 0) (k .table) ∙ read-step words (unlinking S s z (k .links)) (k .at) u (k .here) d dir
 

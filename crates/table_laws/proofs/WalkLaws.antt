@@ -7,15 +7,15 @@ use Prim.Native.Nat.{ℕ, suc, _-_, _*_, _<_, _≤_}
 use native.Mathlib.Omega.{arith}
 use borrow.Author.Tests.{ltb-true, ltb-false}
 use lib.Dec.{ltb}
-use lib.ListN.{length, getD}
+use lib.ListN.{length}
 use Rattle.grid.specs.declared.Corner.{Corner}
 use Rattle.grid.specs.Grid.{same, stepped, cornersFrom, endFrom}
 use Rattle.grid.specs.Tree.{pathOf}
-use Rattle.layout.specs.Table.{width, wordAt, neighbourWord, tableOf}
+use Rattle.layout.specs.Table.{width, tableOf}
 use Rattle.lists.specs.Lists.{gather}
 use Rattle.tree.specs.Nodes.{nodesOf, refOf}
 use Rattle.tree_laws.specs.State.{State, stateOf, linked, reached, unlinking, tableBy, Made, Holds}
-use Rattle.grid.proofs.StepLaws.{back, endFrom-snoc}
+use Rattle.grid.proofs.StepLaws.{endFrom-snoc}
 use Rattle.lists.proofs.GatherLaws.{gather-more}
 use Rattle.tree_laws.proofs.AddLaws.{ref-pos, ref-append}
 use Rattle.tree_laws.proofs.PopLaws.{unlink-start}
@@ -25,7 +25,7 @@ use Rattle.table_laws.proofs.Cites.{made-holds}
 use Rattle.table_laws.proofs.LookupLaws.{length-table}
 use Rattle.table_laws.proofs.RowLaws.{table-state}
 use Rattle.table_laws.proofs.StateLaws.{step-table, sound-step, links-small, needs-small}
-use Rattle.table_laws.proofs.TakeLaws.{visit-made, unvisit-made, back-from}
+use Rattle.table_laws.proofs.TakeLaws.{visit-made, unvisit-made}
 use Rattle.table_laws.proofs.UndoLaws.{UnlinkAt, DropAt}
 
 -- the table of a walk, where it has room for the nodes, holds the walk's state
@@ -70,12 +70,6 @@ module _ (words : ℕ) (c : Corner) (ds : List ℕ) (d : ℕ) (dir : d < 4) (roo
     (t : List ℕ) (whole : t ≡ tableOf words c (ds ++ (d ∷ []))) (r : ℕ) (stands : refOf (nodesOf (cornersFrom c (ds ++ (d ∷ [])))) (endFrom c (ds ++ (d ∷ []))) ≡ suc r) where
   at-end : refOf (gather same (nodesOf (cornersFrom c ds)) (pathOf (stepped d (endFrom c ds)))) (stepped d (endFrom c ds)) ≡ suc r
   at-end = sym (ap₂ refOf (push-nodes c ds d) (endFrom-snoc c ds d)) ∙ stands
-
-  -- the node that the step came from
-  pub take-from : refOf (nodesOf (cornersFrom c ds)) (endFrom c ds) ≡ suc (getD t (wordAt r (neighbourWord (back d))) 0 - 1)
-  take-from =
-      let p : refOf (nodesOf (cornersFrom c ds)) (endFrom c ds) ≡ getD t (wordAt r (neighbourWord (back d))) 0 = back-from words c ds d dir room r stands ∙ ap (λ (x : List ℕ). getD x (wordAt r (neighbourWord (back d))) 0) (sym whole) in
-      omega (arith, ref-pos (nodesOf (cornersFrom c ds)) (endFrom c ds) (finish-node c ds))
 
   -- the visit taken back, the first loop begins
   pub take-unlinks : (t₁ : List ℕ) → t₁ ≡ unvisitIn t r → (u : ℕ) → refOf (nodesOf (cornersFrom c ds)) (endFrom c ds) ≡ suc u

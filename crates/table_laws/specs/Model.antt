@@ -3,14 +3,13 @@
 -- Assumes nothing.
 use mathlib.Core.Bool.{true, false}
 use mathlib.Core.List.{List}
-use Prim.Native.Nat.{ℕ, zero, suc, _+_, _-_, _*_, _%_}
+use Prim.Native.Nat.{ℕ, zero, suc, _+_, _-_, _%_}
 use lib.Dec.{ltb, eqb}
-use lib.ListN.{length, getD, set, replicate}
-use lib.Seq.{sets}
+use lib.ListN.{length, getD, set}
 use Rattle.grid.specs.declared.Corner.{Corner}
 use Rattle.grid.specs.Grid.{same, stepped}
 use Rattle.grid.specs.Tree.{parentOf, isRoot, childWord}
-use Rattle.layout.specs.Table.{width, recordsIn, wordAt, parentWord, neighbourWord, linkWord, visitsWord, needWord, firstWord}
+use Rattle.layout.specs.Table.{recordsIn, wordAt, parentWord, neighbourWord, linkWord, visitsWord, needWord, firstWord}
 
 -- the answer: the table, a ref, the number of nodes
 pub record Out : Type 0 where
@@ -72,23 +71,3 @@ unvisitIn t r =
 -- ---- the take-back: the links, and then the nodes
 abbrev pub unsetIn : List ℕ → ℕ → ℕ → ℕ → List ℕ
 unsetIn t u v d = set (set (set (set t (wordAt u (neighbourWord d)) 0) (wordAt u (linkWord d)) 0) (wordAt v (neighbourWord ((d + 2) % 4))) 0) (wordAt v (linkWord ((d + 2) % 4))) 0
-
-abbrev pub unlinkIn : ℕ → List ℕ → ℕ → ℕ → ℕ → List ℕ
-unlinkIn zero t u d s = t
-unlinkIn (suc f) t u d s =
-    elim (eqb (getD t (wordAt u (linkWord d)) 0) s) [
-      | true ↦
-          let t′ = unsetIn t u (getD t (wordAt u (neighbourWord d)) 0 - 1) d in
-          elim (getD t′ (wordAt u parentWord) 0) [ zero ↦ t′ | suc v ↦ unlinkIn f t′ v d s ]
-      | false ↦ t
-    ]
-
-abbrev pub dropIn : ℕ → List ℕ → ℕ → ℕ → Corner → ℕ → Out
-dropIn zero t left u h s = out t 0 left
-dropIn (suc f) t left u h s =
-    elim (eqb (getD t (wordAt u needWord) 0) s) [
-      | true ↦
-          let v = getD t (wordAt u parentWord) 0 - 1 in
-          dropIn f (sets (set t (wordAt v (childWord h)) 0) (u * width) (replicate width 0)) (left - 1) v (parentOf h) s
-      | false ↦ out t 0 left
-    ]

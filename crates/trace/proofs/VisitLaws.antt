@@ -1,6 +1,6 @@
 -- The different corners of a walk: exactly its corners, each once, in the order of the first visit.
 -- Assumes nothing.
-use mathlib.Core.List.{List, [], _∷_, _++_, List·Memᴰ, List·Memᴰ·not-nil, Memᴰ·cast}
+use mathlib.Core.List.{List, [], _∷_, List·Memᴰ, List·Memᴰ·not-nil, Memᴰ·cast}
 use mathlib.Core.Logic.{⊎-elim}
 use mathlib.Core.Path.{_≡_, ap, sym, _∙_, subst}
 use Prim.Native.Nat.{ℕ, suc, _<_, _≤_}
@@ -8,9 +8,9 @@ use native.Mathlib.Decide.{ℕ-discrete, decLt}
 use native.Mathlib.Omega.{arith}
 use lib.ListN.{length, getD, take}
 use lib.Seq.{length-take-le, getD-take}
-use Rattle.lists.specs.Lists.{Distinct, add}
+use Rattle.lists.specs.Lists.{Distinct}
 use Rattle.lists.proofs.DistinctLaws.{mem-getD, getD-mem, mem-take}
-use Rattle.lists.proofs.GatherLaws.{gather-append, gather-distinct, distinct-gather, mem-gather-right, mem-gather-cases}
+use Rattle.lists.proofs.GatherLaws.{gather-distinct, distinct-gather, mem-gather-right, mem-gather-cases}
 use Rattle.lists.proofs.PigeonLaws.{pigeon}
 use Rattle.grid.specs.declared.Corner.{Corner}
 use Rattle.grid.specs.Grid.{origin, same, stepped, cornersFrom}
@@ -29,10 +29,6 @@ mem-visited ps m = mem-gather-right same same-sound same-refl [] ps m
 
 pub visited-mem : (ps : List Corner) {a : Corner} → List·Memᴰ a (visitedOf ps) → List·Memᴰ a ps
 visited-mem ps m = ⊎-elim (λ n. absurd (List·Memᴰ·not-nil n)) (λ n. n) (mem-gather-cases same same-sound same-refl [] ps m)
-
--- one corner more comes to the end, unless it was visited before
-pub visited-snoc : (ps : List Corner) (p : Corner) → visitedOf (ps ++ (p ∷ [])) ≡ add same (visitedOf ps) p
-visited-snoc ps p = gather-append same [] ps (p ∷ [])
 
 -- there are at most as many as visits
 pub length-visited-le : (ps : List Corner) → length (visitedOf ps) ≤ length ps

@@ -4,7 +4,7 @@
 use mathlib.Core.Bool.{not, false}
 use mathlib.Core.List.{List, [], _∷_, _++_, List·Memᴰ, List·Memᴰ·not-nil}
 use mathlib.Core.Logic.{⊎-elim}
-use mathlib.Core.Path.{_≡_, refl, ap, _∙_}
+use mathlib.Core.Path.{_≡_, ap, _∙_}
 use Prim.Native.Nat.{suc, _<_}
 use Rattle.lists.specs.Lists.{any, gather}
 use Rattle.lists.proofs.FindLaws.{find-pos}
@@ -30,10 +30,7 @@ inUse-node ps a u = mem-gather-right same same-sound same-refl [] (pathsOf ps) (
 pub inUse-ref : (ps : List Corner) (a : Corner) → InUse ps a → 0 < refOf (nodesOf ps) a
 inUse-ref ps a u = find-pos (same a) (nodesOf ps) (mem→any same same-sound same-refl (inUse-node ps a u))
 
--- a visited corner is in use, and so is the parent of what is in use
-pub visited-inUse : (ps : List Corner) (p : Corner) → List·Memᴰ p ps → InUse ps p
-visited-inUse ps p m = (p, m, (0, refl))
-
+-- so is the parent of what is in use
 pub parent-inUse : (ps : List Corner) (a : Corner) → isRoot a ≡ false → InUse ps a → InUse ps (parentOf a)
 parent-inUse ps a r u = (u .0, u .1, (suc (u .2 .0), ancestor-parent (u .2 .0) (u .0) a r (u .2 .1)))
 

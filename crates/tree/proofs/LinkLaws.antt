@@ -1,29 +1,18 @@
 -- Links: one step more, and that a link joins neighbours.
 -- Assumes nothing.
 use mathlib.Core.Bool.{Bool, true, false, _&&_, _||_, false≢true}
-use mathlib.Core.List.{List, [], _∷_, _++_}
+use mathlib.Core.List.{List, [], _∷_}
 use mathlib.Core.Logic.{_⊎_, inl, inr, ⊎-map, ⊎-elim}
 use mathlib.Core.Path.{_≡_, refl, ap, sym, _∙_, subst₂}
-use Prim.Native.Nat.{ℕ, zero, suc, _+_}
+use Prim.Native.Nat.{ℕ, zero, suc}
 use Rattle.grid.specs.declared.Corner.{Corner}
 use Rattle.grid.specs.Grid.{same, stepped}
 use Rattle.grid.specs.Tree.{parentOf, isRoot, sizeOf, ancestorsBy}
-use Rattle.lists.specs.Lists.{any, find, zip}
+use Rattle.lists.specs.Lists.{any, zip}
 use Rattle.grid.proofs.CornerLaws.{same-sound}
 use Rattle.grid.proofs.ParentLaws.{parentOf-stepped}
-use Rattle.lists.proofs.FindLaws.{find-left}
 use Rattle.lists.proofs.GatherLaws.{and-left, and-right, or-cases}
-use Rattle.tree.specs.Nodes.{legsOf, joins, links, linkStepOf}
-
--- a walk p, .., q has one leg more with a corner r after q
-pub legsOf-snoc : (ps : List Corner) (q r : Corner) → legsOf (ps ++ (q ∷ r ∷ [])) ≡ legsOf (ps ++ (q ∷ [])) ++ ((q, r) ∷ [])
-legsOf-snoc [] q r = refl
-legsOf-snoc (p ∷ []) q r = refl
-legsOf-snoc (p ∷ s ∷ ps) q r = ap (λ (l : List (Corner × Corner)). (p, s) ∷ l) (legsOf-snoc (s ∷ ps) q r)
-
--- a link that was there keeps its step
-pub link-kept : (ps : List Corner) (q r a : Corner) (d : ℕ) → any (links a (stepped d a)) (legsOf (ps ++ (q ∷ []))) ≡ true → linkStepOf (ps ++ (q ∷ r ∷ [])) a d ≡ linkStepOf (ps ++ (q ∷ [])) a d
-link-kept ps q r a d e = ap (find (links a (stepped d a))) (legsOf-snoc ps q r) ∙ find-left (links a (stepped d a)) (legsOf (ps ++ (q ∷ []))) ((q, r) ∷ []) e
+use Rattle.tree.specs.Nodes.{joins, links}
 
 -- q is p, or its neighbour in direction d
 abbrev pub Near : ℕ → Corner → Corner → Type 0

@@ -1,6 +1,6 @@
 -- The nodes in use: a step only adds nodes, none stands twice, and each but the root comes after its parent.
 -- Assumes nothing.
-use mathlib.Core.Bool.{true, false, true≢false}
+use mathlib.Core.Bool.{false, true≢false}
 use mathlib.Core.List.{List, [], _∷_, _++_, append-nil, append-assoc, List·Memᴰ, List·Memᴰ·head, List·Memᴰ·tail, Memᴰ·append-left, Memᴰ·append-right, List·Memᴰ·not-nil, List·Memᴰ·append-cases}
 use mathlib.Core.Logic.{_⊎_, ⊎-elim}
 use mathlib.Core.Path.{_≡_, refl, ap, sym, _∙_, subst}

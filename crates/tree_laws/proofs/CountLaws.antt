@@ -3,7 +3,7 @@
 -- parents + classes ≤ V + 1. A class has at most four corners, and the origin's has one: V + 3 ≤ 4 classes.
 -- Assumes nothing.
 use mathlib.Core.Bool.{Bool, true, false, true≢false}
-use mathlib.Core.List.{List, [], _∷_, _++_, map, List·Memᴰ, List·Memᴰ·head, List·Memᴰ·tail, List·Memᴰ·not-nil, List·Memᴰ·cases-cons, List·Memᴰ·eq-of-singleton, Memᴰ·append-left, Memᴰ·append-right, List·Memᴰ·append-cases, Memᴰ·cast}
+use mathlib.Core.List.{List, [], _∷_, _++_, map, List·Memᴰ, List·Memᴰ·head, List·Memᴰ·tail, List·Memᴰ·not-nil, List·Memᴰ·cases-cons, List·Memᴰ·eq-of-singleton, Memᴰ·append-left, Memᴰ·append-right, List·Memᴰ·append-cases, Memᴰ·cast, Memᴰ·map, Memᴰ·of-map}
 use mathlib.Core.Logic.{_⊎_, inl, inr, ⊎-map, ⊎-elim}
 use mathlib.Core.Path.{_≡_, refl, ap, sym, _∙_, subst}
 use Prim.Native.Nat.{ℕ, zero, suc, _+_, _*_, _^_, _<_, _≤_}
@@ -140,15 +140,6 @@ shrink qs t =
     let b : length (gather same (origin ∷ []) qs) ≤ 1 + 4 * length (g .0) = corners-classes-origin (gather same (origin ∷ []) qs) (g .0) (distinct-gather same same-sound same-refl (origin ∷ []) qs (distinct-one origin)) (λ v m. subst (λ l. List·Memᴰ (class v) l) (g .1) (h .1 .classes v m)) in
     omega (arith, b, h .1 .few, ap length (g .1))
 
--- what is in the paths of a list, and in a mapped list
-mem-map : (f : Corner → Corner) (l : List Corner) {a : Corner} → List·Memᴰ a l → List·Memᴰ (f a) (map f l)
-mem-map f (x ∷ l) (List·Memᴰ·head e) = List·Memᴰ·head (ap f e)
-mem-map f (x ∷ l) (List·Memᴰ·tail m) = List·Memᴰ·tail (mem-map f l m)
-
-mem-map-cases : (f : Corner → Corner) (l : List Corner) {a : Corner} → List·Memᴰ a (map f l) → (b : Corner) × List·Memᴰ b l × (a ≡ f b)
-mem-map-cases f (x ∷ l) (List·Memᴰ·head e) = (x, List·Memᴰ·head refl, e)
-mem-map-cases f (x ∷ l) (List·Memᴰ·tail m) = let h = mem-map-cases f l m in (h .0, List·Memᴰ·tail (h .1), h .2)
-
 -- a list that holds every node of a walk from the origin
 record Cover (qs : List Corner) : Type 0 where
   list : List Corner
@@ -174,7 +165,7 @@ cover-holds qs g cs e f a m =
     go p n k true r = Memᴰ·append-right g (f a (mem-paths (origin ∷ map parentOf qs) (List·Memᴰ·head refl) (List·Memᴰ·head (path-origin p a r k))))
     go p n k false r =
         ⊎-elim
-        (λ u. Memᴰ·append-right g (f a (mem-paths (origin ∷ map parentOf qs) (mem-map parentOf (origin ∷ qs) n) u)))
+        (λ u. Memᴰ·append-right g (f a (mem-paths (origin ∷ map parentOf qs) (Memᴰ·map parentOf n) u)))
         (λ u. ⊎-elim
         (λ v. absurd (true≢false (ap isRoot (sym v) ∙ r)))
         (λ v. Memᴰ·append-left cs (Memᴰ·cast (List·Memᴰ·eq-of-singleton u) v))
@@ -193,7 +184,7 @@ cover zero qs t b =
     }
 cover (suc n) qs t b =
     let g = gather-more same (origin ∷ []) qs in
-    let up : Cover (map parentOf qs) = cover n (map parentOf qs) (trail-parent origin qs t) (λ q m. let h = mem-map-cases parentOf (origin ∷ qs) m in subst (λ x. sizeOf x ≤ n) (sym (h .2)) (size-half (h .0) n (b (h .0) (h .1)))) in
+    let up : Cover (map parentOf qs) = cover n (map parentOf qs) (trail-parent origin qs t) (λ q m. let h = Memᴰ·of-map parentOf (origin ∷ qs) m in subst (λ x. sizeOf x ≤ n) (h .2) (size-half (h .0) n (b (h .0) (h .1)))) in
     record {
       list = g .0 ++ up .list;
       holds = cover-holds qs (g .0) (up .list) (g .1) (up .holds);
@@ -269,7 +260,7 @@ cover-at-holds c qs cs f a m =
     go p n k true r = seen p n (List·Memᴰ·eq-of-singleton (subst (λ l. List·Memᴰ a l) (pathOf-root p r) k))
     go p n k false r =
         ⊎-elim
-        (λ u. Memᴰ·append-right (gather same (c ∷ []) qs) (f a (mem-paths (parentOf c ∷ map parentOf qs) (mem-map parentOf (c ∷ qs) n) u)))
+        (λ u. Memᴰ·append-right (gather same (c ∷ []) qs) (f a (mem-paths (parentOf c ∷ map parentOf qs) (Memᴰ·map parentOf n) u)))
         (λ u. seen p n (List·Memᴰ·eq-of-singleton u))
         (List·Memᴰ·append-cases (pathOf (parentOf p)) (subst (λ l. List·Memᴰ a l) (pathOf-snoc p r) k))
 
@@ -285,7 +276,7 @@ cover-at zero c qs t b =
       short = omega (arith, ap length (g .1));
     }
 cover-at (suc n) c qs t b =
-    let up : CoverAt n (parentOf c) (map parentOf qs) = cover-at n (parentOf c) (map parentOf qs) (trail-parent c qs t) (λ q m. let h = mem-map-cases parentOf (c ∷ qs) m in subst (λ x. Within n x) (sym (h .2)) (within-parent n (h .0) (b (h .0) (h .1)))) in
+    let up : CoverAt n (parentOf c) (map parentOf qs) = cover-at n (parentOf c) (map parentOf qs) (trail-parent c qs t) (λ q m. let h = Memᴰ·of-map parentOf (c ∷ qs) m in subst (λ x. Within n x) (h .2) (within-parent n (h .0) (b (h .0) (h .1)))) in
     record {
       list = gather same (c ∷ []) qs ++ up .list;
       holds = cover-at-holds c qs (up .list) (up .holds);

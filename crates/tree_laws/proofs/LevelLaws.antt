@@ -19,7 +19,7 @@ use Rattle.lists.proofs.GatherLaws.{or-cases, gather-append, gather-more, add-c
 use Rattle.tree.proofs.JoinLaws.{joins-cases}
 use Rattle.tree.proofs.NodeLaws.{mem-path}
 use Rattle.tree_laws.proofs.LaterLaws.{later-old, later-new, later-none, later-pos, later-or, find-snoc}
-use Rattle.tree_laws.specs.State.{later, linked, put, Good}
+use Rattle.tree_laws.specs.State.{later, linked, put, WellLinked}
 use Rattle.tree_laws.proofs.LineageLaws.{links-left, links-right, links-step, links-same, links-size, links-flip, links-up, links-ends, pair-ind, path-up}
 
 pub root-is : (c : Corner) → isRoot c ≡ true → c ≡ origin
@@ -104,7 +104,7 @@ order-gather ns closed ord =
     (λ e r. subst (λ l. Ordered l) (sym (ap (gather same ns) (pathOf-root e r))) (order-add ns closed ord e (λ h. absurd (true≢false (sym r ∙ h)))))
     (λ e r ih. subst (λ l. Ordered l) (sym (nodes-step ns e r)) (order-add (gather same ns (pathOf (parentOf e))) (gather-closed ns closed (parentOf e)) ih e (λ h. mem-gather-right same same-sound same-refl ns (pathOf (parentOf e)) (mem-path (parentOf e)))))
 
-module _ (ns : List Corner) (L : Corner → Corner → ℕ) (good : Good ns L) where
+module _ (ns : List Corner) (L : Corner → Corner → ℕ) (good : WellLinked ns L) where
   pub root-known : List·Memᴰ origin ns
   root-known = rw (good .root .1) (List·Memᴰ·head refl)
 
@@ -174,7 +174,7 @@ module _ (ns : List Corner) (L : Corner → Corner → ℕ) (good : Good ns L) w
     pub linked-both : (x y : Corner) → linked L s a e x y ≡ linked L s a e y x
     linked-both x y = ap₂ (λ (n : ℕ) (b : Bool). later n b s) (good .both x y) (links-flip x y a e)
 
-module _ (ns : List Corner) (L : Corner → Corner → ℕ) (good : Good ns L) (s : ℕ) (a e : Corner) where
+module _ (ns : List Corner) (L : Corner → Corner → ℕ) (good : WellLinked ns L) (s : ℕ) (a e : Corner) where
   -- 5. first the parents, then the pair
   pub above-links : L a e ≡ 0 → isRoot a ≡ false → isRoot e ≡ false → (x y : Corner) → linked L s a e x y ≡ put (linked L s (parentOf a) (parentOf e)) s a e x y
   above-links z h k x y =
@@ -196,7 +196,7 @@ module _ (ns : List Corner) (L : Corner → Corner → ℕ) (good : Good ns L) (
       or-nothing false = refl
 
   -- the invariant after a lookup
-  pub good-linked : List·Memᴰ a ns → Good (gather same ns (pathOf e)) (linked L s a e)
+  pub good-linked : List·Memᴰ a ns → WellLinked (gather same ns (pathOf e)) (linked L s a e)
   good-linked m = record {
     root = let g = gather-more same ns (pathOf e) in (good .root .0 ++ g .0, g .1 ∙ ap (λ (l : List Corner). l ++ g .0) (good .root .1));
     closed = gather-closed ns (good .closed) e;

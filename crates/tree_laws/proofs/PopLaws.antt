@@ -6,8 +6,6 @@ use mathlib.Core.Logic.{_⊎_, inl, inr, ⊎-elim}
 use mathlib.Core.Path.{_≡_, refl, ap, ap₂, sym, _∙_, subst}
 use Prim.Native.Nat.{ℕ, zero, suc, _+_, _-_, _<_}
 use native.Mathlib.Omega.{arith}
-use borrow.Author.Tests.{eqb-true, eqb-false}
-use lib.Dec.{eqb}
 use Rattle.grid.specs.declared.Corner.{Corner}
 use Rattle.grid.specs.Grid.{origin, same, stepped}
 use Rattle.grid.specs.Tree.{parentOf, isRoot, pathOf}
@@ -20,7 +18,7 @@ use Rattle.tree_laws.proofs.LaterLaws.{later-old, later-new, later-none
 use Rattle.lists.proofs.GatherLaws.{add-cases, any→mem, mem→any, mem-gather-cases}
 use Rattle.tree.proofs.JoinLaws.{joins-cases}
 use Rattle.tree.proofs.NodeLaws.{mem-path}
-use Rattle.tree_laws.specs.State.{later, linked, put, Good, State, needed, visitedBy, Sound}
+use Rattle.tree_laws.specs.State.{later, linked, put, WellLinked, State, needed, visitedBy, Sound}
 use Rattle.tree_laws.proofs.AddLaws.{path-below, needed-known, needed-step}
 use Rattle.tree_laws.proofs.LevelLaws.{root-is, nodes-known, nodes-step, known-links, left-links, right-links, sibling-links, above-links, linked-both, above-none, path-parent}
 use Rattle.tree_laws.proofs.LineageLaws.{links-here}
@@ -43,7 +41,7 @@ put-cong M K s a e x y h = ap (λ (n : ℕ). cond (joins x y (a, e)) s n) h
 abbrev pub Agree : (Corner → Corner → ℕ) → (Corner → Corner → ℕ) → Type 0
 Agree M K = (x y : Corner) → (x ≡ y → ⊥) → M x y ≡ K x y
 
-module _ (ns : List Corner) (L : Corner → Corner → ℕ) (good : Good ns L) (s : ℕ) (small : (x y : Corner) → L x y < s) where
+module _ (ns : List Corner) (L : Corner → Corner → ℕ) (good : WellLinked ns L) (s : ℕ) (small : (x y : Corner) → L x y < s) where
   -- the links of the last step: those that it linked and no earlier one did
   pub last-links : (a e x y : Corner) → linked L s a e x y ≡ s → (L x y ≡ 0) × (links x y (a, e) ≡ true)
   last-links a e x y h = go (L x y) refl (links x y (a, e)) refl
@@ -52,19 +50,6 @@ module _ (ns : List Corner) (L : Corner → Corner → ℕ) (good : Good ns L) (
       go zero p true q = (p, q)
       go zero p false q = absurd (omega (arith, small x y, later-none (L x y) (links x y (a, e)) s q))
       go (suc n) p b q = absurd (omega (arith, small x y, later-old (L x y) (links x y (a, e)) s (omega arith)))
-
-  -- clearing them, and only them, gives the link steps back
-  pub pop-links : (a e x y : Corner) → L x y ≡ cond (eqb (linked L s a e x y) s) 0 (linked L s a e x y)
-  pop-links a e x y = go (eqb (linked L s a e x y) s) refl
-    where
-      go : (b : Bool) → eqb (linked L s a e x y) s ≡ b → L x y ≡ cond b 0 (linked L s a e x y)
-      go true p = last-links a e x y (eqb-true (linked L s a e x y) s p) .0
-      go false p = old (L x y) refl (links x y (a, e)) refl
-        where
-          old : (n : ℕ) → L x y ≡ n → (b : Bool) → links x y (a, e) ≡ b → L x y ≡ linked L s a e x y
-          old n q false r = sym (later-none (L x y) (links x y (a, e)) s r)
-          old zero q true r = absurd (eqb-false (linked L s a e x y) s p (later-new (L x y) (links x y (a, e)) s q r))
-          old (suc n) q true r = sym (later-old (L x y) (links x y (a, e)) s (omega arith))
 
   -- at the first older link nothing above is the last step's
   pub unlink-known : (a e : Corner) → (linked L s a e a e ≡ s → ⊥) → Agree (linked L s a e) L
@@ -193,9 +178,6 @@ module _ (S : State) (sound : Sound S) (e : Corner) (k : ℕ) where
 
   here : tally (same e e) ≡ 1
   here = rw (same-refl e)
-
-  pub unvisit-visits : (x : Corner) → S .visits x ≡ visitedBy S e k .visits x - tally (same x e)
-  unvisit-visits x = omega arith
 
   pub unvisit-last : visitedBy S e k .visits e ≡ 1 → (x : Corner) → S .first x ≡ cond (same x e) 0 (visitedBy S e k .first x)
   unvisit-last h x = go (same x e) refl

@@ -1,10 +1,10 @@
 -- How every word of the table changes with one step more.
 -- Assumes nothing.
-use mathlib.Core.Bool.{Bool, true, false, cond, true≢false}
+use mathlib.Core.Bool.{Bool, true, false, true≢false}
 use mathlib.Core.List.{List, [], _∷_, _++_, List·Memᴰ, List·Memᴰ·head, List·Memᴰ·tail, List·Memᴰ·not-nil, List·Memᴰ·cases-cons}
 use mathlib.Core.Logic.{_⊎_, ⊎-elim}
-use mathlib.Core.Path.{_≡_, refl, ap, ap₂, sym, _∙_}
-use Prim.Native.Nat.{ℕ, zero, suc, _+_, _<_, _≤_, pred}
+use mathlib.Core.Path.{_≡_, refl, ap, sym, _∙_}
+use Prim.Native.Nat.{ℕ, zero, suc, _+_, _≤_, pred}
 use native.Mathlib.Omega.{arith}
 use borrow.Author.Tests.{ne-eqb, eq-eqb}
 use lib.Dec.{eqb}
@@ -12,10 +12,9 @@ use lib.ListN.{length, length-append}
 use Rattle.grid.specs.declared.Corner.{Corner}
 use Rattle.grid.specs.Grid.{origin, same, stepped, cornersFrom, endFrom}
 use Rattle.grid.specs.Tree.{parentOf, pathOf}
-use Rattle.layout.specs.Table.{neighbourRefOf}
 use Rattle.lists.specs.Lists.{any, find, count, gather, zip, tally}
 use Rattle.trace.specs.Meeting.{visitedOf}
-use Rattle.tree.specs.Nodes.{pathsOf, nodesOf, legsOf, links, linkStepOf, refOf}
+use Rattle.tree.specs.Nodes.{pathsOf, nodesOf, legsOf, links}
 use Rattle.grid.proofs.CornerLaws.{same-refl, same-sound}
 use Rattle.grid.proofs.PathLaws.{pathOf-root, pathOf-snoc, tree-ind}
 use Rattle.grid.proofs.StepLaws.{length-cornersFrom, endFrom-mem, cornersFrom-snoc}
@@ -24,8 +23,7 @@ use Rattle.lists.proofs.GatherLaws.{gather-more, gather-append, add-cases, any�
 use Rattle.tree.proofs.NodeLaws.{mem-path, nodesOf-snoc, nodesOf-distinct, mem-paths, mem-paths-cases}
 use Rattle.tree.proofs.RefLaws.{not-any, ref-parent}
 use Rattle.tree_laws.proofs.LaterLaws.{later-old, later-new, later-none, find-snoc}
-use Rattle.tree_laws.specs.State.{later, linked, Good, stateOf, needed, reached, visitedBy, Alike, Sound}
-use Rattle.tree_laws.proofs.AddLaws.{ref-append}
+use Rattle.tree_laws.specs.State.{later, linked, WellLinked, stateOf, needed, reached, visitedBy, Alike, Sound}
 use Rattle.tree_laws.proofs.LevelLaws.{path-parent}
 use Rattle.tree_laws.proofs.LineageLaws.{links-up, links-flip, links-ends}
 
@@ -70,7 +68,7 @@ paths-first c [] = let h = path-first c in (h .0 ++ [], ap (λ (l : List Corner)
 paths-first c (d ∷ ds) = let h = path-first c in (h .0 ++ pathsOf (cornersFrom (stepped d c) ds), ap (λ (l : List Corner). l ++ pathsOf (cornersFrom (stepped d c) ds)) (h .1))
 
 -- the invariant holds after every walk
-pub good-walk : (c : Corner) (ds : List ℕ) → Good (nodesOf (cornersFrom c ds)) (stateOf (cornersFrom c ds) .step)
+pub good-walk : (c : Corner) (ds : List ℕ) → WellLinked (nodesOf (cornersFrom c ds)) (stateOf (cornersFrom c ds) .step)
 good-walk c ds = record {
   root = let h = paths-first c ds in let g = gather-more same (origin ∷ []) (h .0) in (g .0, ap (gather same []) (h .1) ∙ g .1);
   closed = λ x m e. let h = mem-nodes-cases ps x m in mem-nodes ps (h .0) (parentOf x) (h .1) (path-parent x (h .0) e (h .2));
@@ -102,9 +100,6 @@ module _ (c : Corner) (ds : List ℕ) (d : ℕ) where
       ap (find (links x y)) (legs-push c ds d)
       ∙ find-snoc (links x y) (legsOf (cornersFrom c ds)) (endFrom c ds, stepped d (endFrom c ds))
       ∙ ap (λ (n : ℕ). later (find (links x y) (legsOf (cornersFrom c ds))) (links x y (endFrom c ds, stepped d (endFrom c ds))) (suc n)) (length-legs c ds)
-
-  pub push-step : (a : Corner) (k : ℕ) → linkStepOf (cornersFrom c (ds ++ (d ∷ []))) a k ≡ later (linkStepOf (cornersFrom c ds) a k) (links a (stepped k a) (endFrom c ds, stepped d (endFrom c ds))) (suc (length ds))
-  push-step a k = push-links a (stepped k a)
 
   pub push-visits : (a : Corner) → count (same a) (cornersFrom c (ds ++ (d ∷ []))) ≡ count (same a) (cornersFrom c ds) + tally (same a (stepped d (endFrom c ds)))
   push-visits a = ap (count (same a)) (cornersFrom-snoc c ds d) ∙ count-snoc (same a) (cornersFrom c ds) (stepped d (endFrom c ds))
@@ -190,33 +185,6 @@ finish-node c ds = mem-nodes (cornersFrom c ds) (endFrom c ds) (endFrom c ds) (e
 
 abbrev far : ℕ → ℕ → ℕ
 far n r = elim n [ zero ↦ 0 | suc j ↦ r ]
-
--- a neighbour's ref: a link that was there keeps it, a new one refers to a node that is now in use
-pub push-neighbour-old : (c : Corner) (ds : List ℕ) (d : ℕ) (a : Corner) (k : ℕ) → 0 < linkStepOf (cornersFrom c ds) a k
-    → neighbourRefOf (cornersFrom c (ds ++ (d ∷ []))) (nodesOf (cornersFrom c (ds ++ (d ∷ [])))) a k ≡ neighbourRefOf (cornersFrom c ds) (nodesOf (cornersFrom c ds)) a k
-push-neighbour-old c ds d a k h =
-    let g = gather-more same (nodesOf (cornersFrom c ds)) (pathOf (stepped d (endFrom c ds))) in
-    let s : linkStepOf (cornersFrom c (ds ++ (d ∷ []))) a k ≡ linkStepOf (cornersFrom c ds) a k = push-step c ds d a k ∙ later-old (linkStepOf (cornersFrom c ds) a k) (links a (stepped k a) (endFrom c ds, stepped d (endFrom c ds))) (suc (length ds)) h in
-    let r : refOf (nodesOf (cornersFrom c (ds ++ (d ∷ [])))) (stepped k a) ≡ refOf (nodesOf (cornersFrom c ds)) (stepped k a) = ap (λ (l : List Corner). refOf l (stepped k a)) (push-nodes c ds d ∙ g .1) ∙ ref-append (nodesOf (cornersFrom c ds)) (g .0) (stepped k a) (good-walk c ds .ends a (stepped k a) h .1) in
-    ap₂ far s r
-
-pub push-neighbour-new : (c : Corner) (ds : List ℕ) (d : ℕ) (a : Corner) (k : ℕ) → linkStepOf (cornersFrom c ds) a k ≡ 0
-    → neighbourRefOf (cornersFrom c (ds ++ (d ∷ []))) (nodesOf (cornersFrom c (ds ++ (d ∷ [])))) a k ≡ cond (links a (stepped k a) (endFrom c ds, stepped d (endFrom c ds))) (refOf (nodesOf (cornersFrom c (ds ++ (d ∷ [])))) (stepped k a)) 0
-push-neighbour-new c ds d a k h = go (links a (stepped k a) (endFrom c ds, stepped d (endFrom c ds))) refl
-  where
-    r : ℕ
-    r = refOf (nodesOf (cornersFrom c (ds ++ (d ∷ [])))) (stepped k a)
-
-    go : (b : Bool) → links a (stepped k a) (endFrom c ds, stepped d (endFrom c ds)) ≡ b
-        → neighbourRefOf (cornersFrom c (ds ++ (d ∷ []))) (nodesOf (cornersFrom c (ds ++ (d ∷ [])))) a k ≡ cond b (refOf (nodesOf (cornersFrom c (ds ++ (d ∷ [])))) (stepped k a)) 0
-    go true p = ap (λ (n : ℕ). far n r) (push-step c ds d a k ∙ later-new (linkStepOf (cornersFrom c ds) a k) (links a (stepped k a) (endFrom c ds, stepped d (endFrom c ds))) (suc (length ds)) h p)
-    go false p = ap (λ (n : ℕ). far n r) (push-step c ds d a k ∙ later-none (linkStepOf (cornersFrom c ds) a k) (links a (stepped k a) (endFrom c ds, stepped d (endFrom c ds))) (suc (length ds)) p ∙ h)
-
--- the refs of nodes in use, and of children in use, stay
-pub push-ref : (c : Corner) (ds : List ℕ) (d : ℕ) (a : Corner) → List·Memᴰ a (nodesOf (cornersFrom c ds)) → refOf (nodesOf (cornersFrom c (ds ++ (d ∷ [])))) a ≡ refOf (nodesOf (cornersFrom c ds)) a
-push-ref c ds d a m =
-    let g = gather-more same (nodesOf (cornersFrom c ds)) (pathOf (stepped d (endFrom c ds))) in
-    ap (λ (l : List Corner). refOf l a) (push-nodes c ds d ∙ g .1) ∙ ref-append (nodesOf (cornersFrom c ds)) (g .0) a m
 
 -- the different corners
 pub push-visited : (c : Corner) (ds : List ℕ) (d : ℕ) → length (visitedOf (cornersFrom c (ds ++ (d ∷ [])))) ≡ length (visitedOf (cornersFrom c ds)) + tally (eqb (count (same (stepped d (endFrom c ds))) (cornersFrom c ds)) 0)

@@ -28,7 +28,7 @@ put L s a e x y = cond (joins x y (a, e)) s (L x y)
 
 -- what holds of the nodes and the link steps at every moment: the root is first, the parents are there and come before, no
 -- node stands twice, a link's ends are nodes, it stands both ways, and the parents, where they differ, are linked too
-pub record Good (ns : List Corner) (L : Corner → Corner → ℕ) : Type 0 where
+pub record WellLinked (ns : List Corner) (L : Corner → Corner → ℕ) : Type 0 where
   pub root : (r : List Corner) × (ns ≡ origin ∷ r)
   pub closed : (c : Corner) → List·Memᴰ c ns → isRoot c ≡ false → List·Memᴰ (parentOf c) ns
   pub distinct : Distinct ns
@@ -120,7 +120,7 @@ pub record Alike (S T : State) : Type 0 where
 -- a state that may stand in the table: its links are good, what is no node has no visits and no step needs it, and the
 -- visited nodes are those with a first visit
 pub record Sound (S : State) : Type 0 where
-  pub good : Good (S .nodes) (S .step)
+  pub good : WellLinked (S .nodes) (S .step)
   pub unvisited : (x : Corner) → (List·Memᴰ x (S .nodes) → ⊥) → S .visits x ≡ 0
   pub unneeded : (x : Corner) → (List·Memᴰ x (S .nodes) → ⊥) → S .need x ≡ 0
   pub unseen : (x : Corner) → (List·Memᴰ x (S .nodes) → ⊥) → S .first x ≡ 0

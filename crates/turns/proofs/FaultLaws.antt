@@ -9,14 +9,14 @@ use lib.ListN.{length, drop, getD, drop-of-length-le}
 use lib.Seq.{drop-cons}
 use Rattle.answer.specs.declared.Judged.the-variants.{Good, Refused}
 use Rattle.answer.specs.declared.Refusal.the-variants.{BadDigit}
-use Rattle.steps.specs.Turns.{digitFaultsFrom}
+use Rattle.steps.specs.Turns.{digitsJudged}
 
 -- the digits before place i are good, so the first fault is that of the rest
-pub fault-here : (ds : List ℕ) (i : ℕ) → i < length ds → 3 < getD ds i 0 → digitFaultsFrom i (drop i ds) ≡ Refused (BadDigit i)
+pub fault-here : (ds : List ℕ) (i : ℕ) → i < length ds → 3 < getD ds i 0 → digitsJudged i (drop i ds) ≡ Refused (BadDigit i)
 fault-here ds i h b = rw (drop-cons ds i 0 h, lt-ltb 3 (getD ds i 0) b)
 
-pub fault-later : (ds : List ℕ) (i : ℕ) → i < length ds → getD ds i 0 ≤ 3 → digitFaultsFrom i (drop i ds) ≡ digitFaultsFrom (i + 1) (drop (i + 1) ds)
+pub fault-later : (ds : List ℕ) (i : ℕ) → i < length ds → getD ds i 0 ≤ 3 → digitsJudged i (drop i ds) ≡ digitsJudged (i + 1) (drop (i + 1) ds)
 fault-later ds i h b = rw (add-one, drop-cons ds i 0 h, le-ltb 3 (getD ds i 0) b)
 
-pub fault-none : (ds : List ℕ) (i : ℕ) → length ds ≤ i → digitFaultsFrom i (drop i ds) ≡ Good
+pub fault-none : (ds : List ℕ) (i : ℕ) → length ds ≤ i → digitsJudged i (drop i ds) ≡ Good
 fault-none ds i h = rw (drop-of-length-le ds h)

@@ -5,7 +5,7 @@ ghost use mathlib.Core.Path.{_≡_};
 ghost use Prim.Native.Nat.{_<_};
 ghost use lib.ListN.{length};
 ghost use Rattle.lists.specs.Lists.{Below};
-ghost use Rattle.steps.specs.Turns.{turnsOf, stepsOf, digitFaultsFrom, turnsJudged, ConvertedBy};
+ghost use Rattle.steps.specs.Turns.{turnsOf, stepsOf, digitsJudged, turnsJudged, ConvertedBy};
 ghost use Rattle.turns.specs.Way.{digitBy, stepBy, convertOf};
 
 // Which way digits are converted.
@@ -44,7 +44,7 @@ fn step_at(way: Way, x: u8, y: u8) -> u8
 
 // Refuses the first digit above 3.
 fn judge_digits(digits: &[u8]) -> Judged
-    ensures { λ r. ⌜ r ≡ digitFaultsFrom 0 (now (digits .entry)) ⌝ }
+    ensures { λ r. ⌜ r ≡ digitsJudged 0 (now (digits .entry)) ⌝ }
 {
     let mut i = 0;
     while i < digits.len() {

@@ -17,9 +17,9 @@ use Rattle.answer.specs.declared.Refusal.the-variants.{TooMany, ResultRoom, Bad
 use Rattle.answer.specs.Refusal.{when, orElse, judgedPlace}
 use Rattle.walk_call.specs.Walk.{walkJudged, factsOf, answerBy, WalkIs}
 use Rattle.grid.specs.Grid.{origin}
-use Rattle.hull.specs.Call.{faultFrom, roomJudged, hullJudged, countedOf, HullCall}
+use Rattle.hull.specs.Call.{chainJudged, roomJudged, hullJudged, countedOf, HullCall}
 use Rattle.steps.specs.Operations.{survivors}
-use Rattle.steps.specs.Turns.{digitFaultsFrom, turnsJudged}
+use Rattle.steps.specs.Turns.{digitsJudged, turnsJudged}
 use Rattle.answer.proofs.RefusalLaws.{refused-not-good}
 use Rattle.walk_call.proofs.SmallLaws.{Placed, placed-when, placed-or, walk-placed, walk-few}
 use Rattle.hull_laws.proofs.HullLaws.{hull-count-steps}
@@ -39,18 +39,18 @@ answer-fits os t ms ch r t′ ms′ ch′ w = subst AnswerFits (sym (w .answer))
     go (Refused x) e = rw e (omega (arith, subst (Placed 32768) e (walk-placed origin os (length t) (length ms) (length ch))))
 
 -- a refusal of digits stands at one of them
-placed-hull : (i : ℕ) (ds : List ℕ) (b : ℕ) → i + length ds ≤ b → Placed b (faultFrom i ds)
+placed-hull : (i : ℕ) (ds : List ℕ) (b : ℕ) → i + length ds ≤ b → Placed b (chainJudged i ds)
 placed-hull i [] b h = tt
 placed-hull i (d ∷ ds) b h =
     let x = when (ltb 3 d) (BadDigit i) in
     let y = when (eqb i 16384) (TooLong i) in
-    placed-or b (orElse x y) (faultFrom (suc i) ds)
+    placed-or b (orElse x y) (chainJudged (suc i) ds)
     (placed-or b x y (placed-when b (ltb 3 d) (BadDigit i) (omega arith)) (placed-when b (eqb i 16384) (TooLong i) (omega arith)))
     (placed-hull (suc i) ds b (omega arith))
 
-placed-digits : (i : ℕ) (ds : List ℕ) (b : ℕ) → i + length ds ≤ b → Placed b (digitFaultsFrom i ds)
+placed-digits : (i : ℕ) (ds : List ℕ) (b : ℕ) → i + length ds ≤ b → Placed b (digitsJudged i ds)
 placed-digits i [] b h = tt
-placed-digits i (d ∷ ds) b h = placed-or b (when (ltb 3 d) (BadDigit i)) (digitFaultsFrom (suc i) ds) (placed-when b (ltb 3 d) (BadDigit i) (omega arith)) (placed-digits (suc i) ds b (omega arith))
+placed-digits i (d ∷ ds) b h = placed-or b (when (ltb 3 d) (BadDigit i)) (digitsJudged (suc i) ds) (placed-when b (ltb 3 d) (BadDigit i) (omega arith)) (placed-digits (suc i) ds b (omega arith))
 
 -- 1 comes first, so that what comes after it is judged of an input of 32,768 bytes at most
 placed-after : (n : ℕ) (rest : Judged) → (n ≤ 32768 → Placed 32768 rest) → Placed 32768 (orElse (when (ltb 32768 n) TooMany) rest)
@@ -63,13 +63,13 @@ placed-after n rest f = go (ltb 32768 n) refl
 pub turns-fit : (ds : List ℕ) (room : ℕ) (j : Judged) → j ≡ turnsJudged ds room → judgedPlace j < 2 ^ 32
 turns-fit ds room j e =
     let x = not (eqb room (length ds)) in
-    let f = digitFaultsFrom 0 ds in
+    let f = digitsJudged 0 ds in
     place-fits j (subst (Placed 32768) (sym e) (placed-after (length ds) (orElse (when x ResultRoom) (orElse f Good)) (λ h.
     placed-or 32768 (when x ResultRoom) (orElse f Good) (placed-when 32768 x ResultRoom (omega arith)) (placed-or 32768 f Good (placed-digits 0 ds 32768 (omega arith)) tt))))
 
 hull-placed : (chain : List ℕ) (room n : ℕ) → Placed 32768 (hullJudged chain room n)
 hull-placed chain room n =
-    let f = faultFrom 0 chain in
+    let f = chainJudged 0 chain in
     let r = roomJudged room n in
     placed-after (length chain) (orElse f (orElse r Good)) (λ h.
     placed-or 32768 f (orElse r Good) (placed-hull 0 chain 32768 (omega arith)) (placed-or 32768 r Good (placed-when 32768 (ltb room (2 * n)) HullRoom (omega arith)) tt))

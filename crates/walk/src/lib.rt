@@ -14,7 +14,7 @@ ghost use Rattle.walk_call.specs.Walk.{factsOf, WalkIs};
 ghost use Rattle.grid.specs.Grid.{origin};
 ghost use Rattle.layout.specs.Marks.{markWords};
 ghost use Rattle.layout.specs.Table.{width, tableOf};
-ghost use Rattle.steps.specs.Operations.{faultsFrom};
+ghost use Rattle.steps.specs.Operations.{operationsJudged};
 ghost use Rattle.walk_facts.specs.Settled.{Settled, Settling};
 ghost use Rattle.walk.specs.Followed.{Followed};
 
@@ -52,7 +52,7 @@ fn accept(chain: &mut [u8], w: Walk) -> Facts
 fn go_on(ops: &[u8], t: &mut [u32], marks: &mut [u32], chain: &mut [u8]) -> Answer
     requires { ⌜ (now t ≡ tableOf (length (now t)) origin []) × (width ≤ length (now t)) × (length (now t) < 2 ^ 32) ⌝ }
     requires { ⌜ (length (now marks) ≡ markWords * length (now ops)) × (length (now chain) ≡ length (now ops)) × (length (now ops) ≤ 32768) ⌝ }
-    requires { ⌜ faultsFrom 0 0 (now ops) ≡ Good ⌝ }
+    requires { ⌜ operationsJudged 0 0 (now ops) ≡ Good ⌝ }
     ensures { λ r. ⌜ Followed (now (ops .entry)) (now (t .entry)) (now (marks .entry)) (now (chain .entry)) r (now (t .exit)) (now (marks .exit)) (now (chain .exit)) ⌝ }
 {
     match walk_run::run(ops, t, marks, chain) {

@@ -4,10 +4,10 @@
 use mathlib.Core.Bool.{Bool, true, false}
 use mathlib.Core.List.{List, [], _∷_, _++_, append-assoc}
 use mathlib.Core.Logic.{_⊎_, inl, inr, ⊎-elim}
-use mathlib.Core.Path.{_≡_, refl, ap, sym}
-use Prim.Native.Nat.{ℕ, zero, suc, _+_, _*_, _<_, _≤_}
+use mathlib.Core.Path.{_≡_, refl, ap}
+use Prim.Native.Nat.{ℕ, suc, _+_, _*_, _<_, _≤_}
 use native.Mathlib.Omega.{arith}
-use borrow.Author.Tests.{ltb-true, ltb-false, eq-eqb, lt-ltb, le-ltb}
+use borrow.Author.Tests.{ltb-false, eq-eqb, lt-ltb, le-ltb}
 use lib.Dec.{ltb}
 use lib.ListN.{length}
 use Rattle.answer.specs.declared.Judged.the-variants.{Good, Refused}
@@ -16,12 +16,12 @@ use Rattle.grid.specs.declared.Corner.{Corner}
 use Rattle.grid.specs.Grid.{cornersFrom}
 use Rattle.lists.specs.Lists.{Below}
 use Rattle.tree.specs.Nodes.{nodesOf}
-use Rattle.steps.specs.Operations.{operate, survivorsFrom, survivors}
+use Rattle.steps.specs.Operations.{operate, survivorsFrom, survivors, Walkable}
 use Rattle.layout.specs.Marks.{markWords}
 use Rattle.layout.specs.Table.{recordsIn}
 use Rattle.answer.proofs.RefusalLaws.{refused-not-good, clear, clear-first, when-good}
-use Rattle.tree.proofs.NodeLaws.{nodes-grow, nodes-mono}
-use Rattle.steps.proofs.SurvivorLaws.{Sound, operate-step, operate-back, survivors-steps, sound-survivors, steps-accepted, length-survivors}
+use Rattle.tree.proofs.NodeLaws.{nodes-mono}
+use Rattle.steps.proofs.SurvivorLaws.{operate-step, survivors-steps, walkable-survivors, steps-accepted, length-survivors}
 use Rattle.walk_call.specs.Walk.{roomFrom, walkJudgements, walkJudged}
 use Rattle.walk_call.proofs.CallCases as cases
 
@@ -36,10 +36,6 @@ room-full r c i s o os h = rw (lt-ltb r (needs c (operate s o)) h, roomFrom)
 -- enough records: what is left decides
 pub room-fits : (r : ℕ) (c : Corner) (i : ℕ) (s : List ℕ) (o : ℕ) (os : List ℕ) → needs c (operate s o) ≤ r → roomFrom r c i s (o ∷ os) ≡ roomFrom r c (suc i) (operate s o) os
 room-fits r c i s o os h = rw (le-ltb r (needs c (operate s o)) h, roomFrom)
-
--- a take-back never needs more
-pub room-back : (r : ℕ) (c : Corner) (s : List ℕ) (d : ℕ) → needs c (s ++ (d ∷ [])) ≤ r → needs c (operate (s ++ (d ∷ [])) 4) ≤ r
-room-back r c s d h = rw (operate-back s d) (omega (arith, nodes-grow c s d))
 
 pub room-steps : (r : ℕ) (c : Corner) (i : ℕ) (s ds : List ℕ) → Below 4 ds → needs c (s ++ ds) ≤ r → roomFrom r c i s ds ≡ Good
 room-steps r c i s [] b h = refl
@@ -69,7 +65,7 @@ pub alone : (c : Corner) (os : List ℕ) (words m k : ℕ) → walkJudged c os w
 alone c os words m k e =
     let ds = survivors os in
     let h = clear (walkJudgements c os words m k) e in
-    let s : Sound ds = sound-survivors 0 [] os (record { digits = tt; few = omega arith }) (h .1 .1 .1 .0) in
+    let s : Walkable ds = walkable-survivors 0 [] os (record { digits = tt; few = omega arith }) (h .1 .1 .1 .0) in
     let l : length os ≤ 32768 = ltb-false 32768 (length os) (when-good (ltb 32768 (length os)) TooMany (h .0)) in
     let b : ltb 32768 (length ds) ≡ false = le-ltb 32768 (length ds) (omega (arith, length-survivors [] os)) in
     let r : roomFrom (recordsIn words) c 0 [] ds ≡ Good =

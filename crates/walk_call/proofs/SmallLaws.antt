@@ -3,8 +3,8 @@
 use mathlib.Core.Bool.{Bool, true, false, not, _&&_}
 use mathlib.Core.List.{List, [], _∷_}
 use mathlib.Core.Logic.{⊎-elim}
-use mathlib.Core.Path.{_≡_, refl, ap, sym, subst, _∙_}
-use Prim.Native.Nat.{ℕ, suc, _+_, _*_, _%_, _<_, _≤_}
+use mathlib.Core.Path.{_≡_, refl, sym, subst}
+use Prim.Native.Nat.{ℕ, suc, _+_, _*_, _%_, _≤_}
 use native.Mathlib.Omega.{arith}
 use borrow.Author.Tests.{ltb-false, leb-true, not-false}
 use lib.Dec.{eqb, ltb, leb}
@@ -12,21 +12,21 @@ use lib.ListN.{length}
 use Rattle.answer.specs.declared.Judged.{Judged}
 use Rattle.answer.specs.declared.Judged.the-variants.{Good, Refused}
 use Rattle.answer.specs.declared.Refusal.{Refusal}
-use Rattle.answer.specs.declared.Refusal.the-variants.{TooMany, Table, ResultRoom, BadDigit, NothingToTake, TooLong, NoRoom}
+use Rattle.answer.specs.declared.Refusal.the-variants.{Table, ResultRoom, BadDigit, NothingToTake, TooLong}
 use Rattle.answer.specs.Refusal.{when, orElse, refusalPlace}
 use Rattle.answer.specs.Limits.{mostRecords}
 use Rattle.grid.specs.declared.Corner.{Corner}
 use Rattle.grid.specs.Grid.{same, cornersFrom}
 use Rattle.trace.specs.Meeting.{Meeting, none, meet, meetingOf, meetingJ, meetingK, visitedOf}
 use Rattle.tree.specs.Nodes.{nodesOf}
-use Rattle.steps.specs.Operations.{operate, survivors, faultOf, faultsFrom, after}
+use Rattle.steps.specs.Operations.{operate, survivors, faultOf, operationsJudged, after, Walkable}
 use Rattle.layout.specs.Marks.{markWords}
 use Rattle.layout.specs.Table.{width, recordsIn}
 use Rattle.answer.proofs.RefusalLaws.{clear, when-good}
 use Rattle.grid.proofs.StepLaws.{length-cornersFrom}
 use Rattle.lists.proofs.GatherLaws.{and-left, and-right, gather-le}
 use Rattle.trace.proofs.MeetingLaws.{meetingOf-meets}
-use Rattle.steps.proofs.SurvivorLaws.{Sound, sound-survivors}
+use Rattle.steps.proofs.SurvivorLaws.{walkable-survivors}
 use Rattle.walk_call.specs.Walk.{tableFits, roomFrom, walkJudgements, walkJudged}
 use Rattle.walk_call.proofs.RoomLaws.{room-last}
 
@@ -56,11 +56,11 @@ placed-fault i n o =
     (placed-or i b (orElse d Good) (placed-when i (eqb o 4 && eqb n 0) (NothingToTake i) (omega arith))
     (placed-or i d Good (placed-when i (not (eqb o 4) && not (ltb n 16384)) (TooLong i) (omega arith)) tt))
 
-pub placed-faults : (i n : ℕ) (os : List ℕ) → Placed (i + length os) (faultsFrom i n os)
+pub placed-faults : (i n : ℕ) (os : List ℕ) → Placed (i + length os) (operationsJudged i n os)
 placed-faults i n [] = tt
 placed-faults i n (o ∷ os) =
     let b = i + suc (length os) in
-    let f = faultsFrom (suc i) (after n o) os in
+    let f = operationsJudged (suc i) (after n o) os in
     placed-or b (faultOf i n o) f (placed-more i b (faultOf i n o) (omega arith) (placed-fault i n o)) (placed-more (suc i + length os) b f (omega arith) (placed-faults (suc i) (after n o) os))
 
 placed-room : (r : ℕ) (c : Corner) (i : ℕ) (ds os : List ℕ) → Placed (i + length os) (roomFrom r c i ds os)
@@ -81,9 +81,9 @@ walk-placed c os w m k = go (ltb 32768 (length os)) refl
     d : Judged
     d = when (not (eqb m (markWords * length os) && eqb k (length os))) ResultRoom
 
-    rest : length os ≤ 32768 → Placed 32768 (orElse b (orElse d (orElse (faultsFrom 0 0 os) (orElse (roomFrom (recordsIn w) c 0 [] os) Good))))
+    rest : length os ≤ 32768 → Placed 32768 (orElse b (orElse d (orElse (operationsJudged 0 0 os) (orElse (roomFrom (recordsIn w) c 0 [] os) Good))))
     rest h =
-        let f = faultsFrom 0 0 os in
+        let f = operationsJudged 0 0 os in
         let r = roomFrom (recordsIn w) c 0 [] os in
         placed-or 32768 b (orElse d (orElse f (orElse r Good))) (placed-when 32768 (not (tableFits w)) Table (omega arith))
         (placed-or 32768 d (orElse f (orElse r Good)) (placed-when 32768 (not (eqb m (markWords * length os) && eqb k (length os))) ResultRoom (omega arith))
@@ -122,7 +122,7 @@ pub walk-few : (c : Corner) (os : List ℕ) (w m k : ℕ) → length (nodesOf (c
 walk-few c os w m k z e =
     let ds = survivors os in
     let h = clear (walkJudgements c os w m k) e in
-    let s : Sound ds = sound-survivors 0 [] os (record { digits = tt; few = omega arith }) (h .1 .1 .1 .0) in
+    let s : Walkable ds = walkable-survivors 0 [] os (record { digits = tt; few = omega arith }) (h .1 .1 .1 .0) in
     let t = fits-records w (not-false (tableFits w) (when-good (not (tableFits w)) Table (h .1 .0))) in
     let j = meeting-few c ds (s .few) in
     record {

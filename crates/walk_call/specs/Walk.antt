@@ -3,7 +3,7 @@ use Rattle.lists.specs.Lists.{_≡_, Bool, true, false, cond, not, _&&_, List, 
 use Rattle.answer.specs.declared.{Judged.Judged, Judged.the-variants.Good, Judged.the-variants.Refused, Refusal.the-variants.TooMany, Refusal.the-variants.Table, Refusal.the-variants.ResultRoom, Refusal.the-variants.NoRoom, Facts.Facts, Answer.Answer}
 use Rattle.answer.specs.{Limits.mostInput, Limits.mostRecords, Refusal.when, Refusal.firstOf, Refusal.refusalNumber}
 use Rattle.grid.specs.{declared.Corner.Corner, Grid.cornersFrom, Grid.endFrom}
-use Rattle.steps.specs.Operations.{operate, survivors, faultsFrom}
+use Rattle.steps.specs.Operations.{operate, survivors, operationsJudged}
 use Rattle.trace.specs.{Meeting.meetingOf, Meeting.meetingJ, Meeting.meetingK, Meeting.visitedOf, Verdict.verdictOf, Verdict.areaOf}
 use Rattle.tree.specs.Nodes.{nodesOf}
 use Rattle.layout.specs.{Table.width, Table.recordsIn, Table.tableOf, Marks.markWords, Marks.marksOf, Marks.chainOf}
@@ -27,7 +27,7 @@ walkJudgements c os words marks chain =
     when (ltb mostInput (length os)) TooMany
     ∷ when (not (tableFits words)) Table
     ∷ when (not (eqb marks (markWords * length os) && eqb chain (length os))) ResultRoom
-    ∷ faultsFrom 0 0 os
+    ∷ operationsJudged 0 0 os
     ∷ roomFrom (recordsIn words) c 0 [] os
     ∷ []
 

@@ -2,8 +2,8 @@
 ghost use mathlib.Core.Path.{_≡_};
 ghost use Prim.Native.Nat.{_<_, _≤_};
 ghost use lib.IntN.{natAbs, _+ℤ_};
-ghost use Rattle.grid.specs.Grid.{same, stepped};
-ghost use Rattle.walk_corner.specs.Moves.{lessOf, eastOf, northOf};
+ghost use Rattle.grid.specs.Grid.{same, stepped, eastOf, northOf};
+ghost use Rattle.walk_corner.specs.Moves.{differenceOf};
 ghost use Rattle.grid.specs.Tree.{halfOf, parentOf, isRoot, slotOf, childWord};
 use grid::Corner;
 
@@ -22,8 +22,8 @@ pub fn parent_of(c: Corner) -> Corner
 }
 
 // 1 where the first alone holds, -1 where the second alone does.
-fn less(a: bool, b: bool) -> i32
-    ensures { λ r. ⌜ r ≡ lessOf a b ⌝ }
+fn difference(a: bool, b: bool) -> i32
+    ensures { λ r. ⌜ r ≡ differenceOf a b ⌝ }
 {
     a as i32 - b as i32
 }
@@ -32,14 +32,14 @@ fn less(a: bool, b: bool) -> i32
 fn east(d: u8) -> i32
     ensures { λ r. ⌜ r ≡ eastOf d ⌝ }
 {
-    less(d == 0, d == 2)
+    difference(d == 0, d == 2)
 }
 
 // What the step d adds to y.
 pub fn north(d: u8) -> i32
     ensures { λ r. ⌜ r ≡ northOf d ⌝ }
 {
-    less(d == 1, d > 2)
+    difference(d == 1, d > 2)
 }
 
 fn shifted(x: i32, by: i32) -> i32

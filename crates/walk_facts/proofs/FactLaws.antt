@@ -13,11 +13,10 @@ use lib.Seq.{drop-cons, getD-take, length-take-le}
 use Rattle.answer.specs.declared.Verdict.{Verdict}
 use Rattle.answer.specs.declared.Verdict.the-variants.{Nowhere, Open, Room, OpenMeeting, ClosedMeeting, ThereAndBack}
 use Rattle.grid.specs.declared.Corner.{Corner}
-use Rattle.grid.specs.Grid.{stepped, origin, same, endFrom}
+use Rattle.grid.specs.Grid.{stepped, origin, same, endFrom, northOf}
 use Rattle.walk_step.specs.Tallies.{Says}
 use Rattle.trace.specs.Meeting.{Meeting, none, meet, meetingOf, meetingJ, meetingK}
 use Rattle.trace.specs.Verdict.{onlyEnds, roundBy, verdictBy, sweepFrom, areaBy}
-use Rattle.walk_corner.specs.Moves.{northOf}
 use Rattle.grid.proofs.BoundLaws.{stepped-bound}
 use Rattle.int_laws.proofs.NextLaws.{suc-sub, pred-sub}
 use Rattle.int_laws.proofs.RangeLaws.{abs+, abs-neg}

@@ -7,7 +7,7 @@ use lib.IntN.{ℤ, pos, negℤ}
 use lib.ListN.{length, take}
 use Rattle.grid.specs.Grid.{origin, cornersFrom, endFrom}
 use Rattle.walk_step.specs.declared.Walk.{Walk}
-use Rattle.walk_step.specs.Tallies.{Counted}
+use Rattle.walk_step.specs.Tallies.{TallyIs}
 use Rattle.tree.specs.Nodes.{nodesOf}
 
 -- x times the change of y that the step d makes
@@ -23,7 +23,7 @@ pub record Settled (chain ds : List ℕ) (w : Walk) : Type 0 where
   pub few : length ds ≤ 16384
   pub corner : w .spot .at ≡ endFrom origin ds
   pub nodes : w .spot .nodes ≡ length (nodesOf (cornersFrom origin ds))
-  pub counted : Counted origin ds (w .tally)
+  pub counted : TallyIs origin ds (w .tally)
   pub kept : ds ≡ take (length ds) chain
   pub space : length ds ≤ length chain
 

@@ -17,7 +17,7 @@ use Rattle.answer.specs.Refusal.{orElse, when, refusalNumber}
 use Rattle.answer.specs.Limits.{mostRecords}
 use Rattle.walk_call.specs.Walk.{tableFits, roomFrom, walkJudged}
 use Rattle.grid.specs.declared.Corner.{Corner}
-use Rattle.steps.specs.Operations.{faultOf, faultsFrom, after}
+use Rattle.steps.specs.Operations.{faultOf, operationsJudged, after}
 use Rattle.layout.specs.Marks.{markWords}
 use Rattle.layout.specs.Table.{width, recordsIn}
 use Rattle.answer.proofs.RefusalLaws.{orElse-right, clear, when-good}
@@ -53,17 +53,17 @@ pub after-step : (n o : ℕ) → (o ≡ 4 → ⊥) → n + 1 ≡ after n o
 after-step n o e = rw (ne-eqb o 4 e, after)
 
 -- one place on
-module _ (os : List ℕ) (i n : ℕ) (more : i < length os) (e : faultsFrom 0 0 os ≡ faultsFrom i n (drop i os)) where
-  first : faultsFrom 0 0 os ≡ orElse (faultOf i n (getD os i 0)) (faultsFrom (suc i) (after n (getD os i 0)) (drop (suc i) os))
-  first = e ∙ ap (faultsFrom i n) (drop-cons os i 0 more)
+module _ (os : List ℕ) (i n : ℕ) (more : i < length os) (e : operationsJudged 0 0 os ≡ operationsJudged i n (drop i os)) where
+  first : operationsJudged 0 0 os ≡ orElse (faultOf i n (getD os i 0)) (operationsJudged (suc i) (after n (getD os i 0)) (drop (suc i) os))
+  first = e ∙ ap (operationsJudged i n) (drop-cons os i 0 more)
 
-  pub faults-here : (f : Judged) (r : Refusal) → f ≡ faultOf i n (getD os i 0) → f ≡ Refused r → f ≡ faultsFrom 0 0 os
-  faults-here f r p q = q ∙ sym (first ∙ ap (λ (j : Judged). orElse j (faultsFrom (suc i) (after n (getD os i 0)) (drop (suc i) os))) (sym p ∙ q))
+  pub faults-here : (f : Judged) (r : Refusal) → f ≡ faultOf i n (getD os i 0) → f ≡ Refused r → f ≡ operationsJudged 0 0 os
+  faults-here f r p q = q ∙ sym (first ∙ ap (λ (j : Judged). orElse j (operationsJudged (suc i) (after n (getD os i 0)) (drop (suc i) os))) (sym p ∙ q))
 
-  pub faults-next : (m : ℕ) → m ≡ after n (getD os i 0) → faultOf i n (getD os i 0) ≡ Good → faultsFrom 0 0 os ≡ faultsFrom (i + 1) m (drop (i + 1) os)
+  pub faults-next : (m : ℕ) → m ≡ after n (getD os i 0) → faultOf i n (getD os i 0) ≡ Good → operationsJudged 0 0 os ≡ operationsJudged (i + 1) m (drop (i + 1) os)
   faults-next m q p =
       let s : suc i ≡ i + 1 = omega arith in
-      first ∙ ap (λ (j : Judged). orElse j (faultsFrom (suc i) (after n (getD os i 0)) (drop (suc i) os))) p ∙ ap₂ (λ (k l : ℕ). faultsFrom k l (drop k os)) s (sym q)
+      first ∙ ap (λ (j : Judged). orElse j (operationsJudged (suc i) (after n (getD os i 0)) (drop (suc i) os))) p ∙ ap₂ (λ (k l : ℕ). operationsJudged k l (drop k os)) s (sym q)
 
 pub fits-mod : (w : ℕ) → (w % width ≡ 0 → ⊥) → false ≡ tableFits w
 fits-mod w h = rw (ne-eqb (w % width) 0 h)
@@ -92,8 +92,8 @@ module _ (os : List ℕ) (w m k : ℕ) where
       pub input-chain : m ≡ markWords * length os → (k ≡ length os → ⊥) → Refused ResultRoom ≡ inputJudged os w m k
       input-chain p e = rw (le-ltb 32768 (length os) few, fits, eq-eqb m (markWords * length os) p, ne-eqb k (length os) e)
 
-      pub input-rest : m ≡ markWords * length os → k ≡ length os → faultsFrom 0 0 os ≡ inputJudged os w m k
-      input-rest p e = rw (le-ltb 32768 (length os) few, fits, eq-eqb m (markWords * length os) p, eq-eqb k (length os) e) (sym (orElse-right (faultsFrom 0 0 os)))
+      pub input-rest : m ≡ markWords * length os → k ≡ length os → operationsJudged 0 0 os ≡ inputJudged os w m k
+      input-rest p e = rw (le-ltb 32768 (length os) few, fits, eq-eqb m (markWords * length os) p, eq-eqb k (length os) e) (sym (orElse-right (operationsJudged 0 0 os)))
 
 -- the room decides last
 pub judged-split : (c : Corner) (os : List ℕ) (w m k : ℕ) → walkJudged c os w m k ≡ orElse (inputJudged os w m k) (roomFrom (recordsIn w) c 0 [] os)
@@ -101,7 +101,7 @@ judged-split c os w m k =
     let a = when (ltb 32768 (length os)) TooMany in
     let b = when (not (tableFits w)) Table in
     let d = when (not (eqb m (markWords * length os) && eqb k (length os))) ResultRoom in
-    let f = faultsFrom 0 0 os in
+    let f = operationsJudged 0 0 os in
     let r = roomFrom (recordsIn w) c 0 [] os in
     split a b d f r
   where
@@ -129,13 +129,13 @@ pub record Sized (os : List ℕ) (w m k : ℕ) : Type 0 where
   pub most : w < 2 ^ 32
   pub marks : m ≡ markWords * length os
   pub chain : k ≡ length os
-  pub fine : faultsFrom 0 0 os ≡ Good
+  pub fine : operationsJudged 0 0 os ≡ Good
 
 pub input-good : (os : List ℕ) (w m k : ℕ) → inputJudged os w m k ≡ Good → Sized os w m k
 input-good os w m k e =
     let a = eqb m (markWords * length os) in
     let b = eqb k (length os) in
-    let h = clear (when (ltb 32768 (length os)) TooMany ∷ when (not (tableFits w)) Table ∷ when (not (a && b)) ResultRoom ∷ faultsFrom 0 0 os ∷ []) e in
+    let h = clear (when (ltb 32768 (length os)) TooMany ∷ when (not (tableFits w)) Table ∷ when (not (a && b)) ResultRoom ∷ operationsJudged 0 0 os ∷ []) e in
     let t = fits-words w (not-false (tableFits w) (when-good (not (tableFits w)) Table (h .1 .0))) in
     let r : a && b ≡ true = not-false (a && b) (when-good (not (a && b)) ResultRoom (h .1 .1 .0)) in
     record {
@@ -169,9 +169,9 @@ early-fault i n o =
     (early-or b (orElse d Good) (early-when (eqb o 4 && eqb n 0) (NothingToTake i) refl)
     (early-or d Good (early-when (not (eqb o 4) && not (ltb n 16384)) (TooLong i) refl) tt))
 
-early-faults : (i n : ℕ) (os : List ℕ) → Early (faultsFrom i n os)
+early-faults : (i n : ℕ) (os : List ℕ) → Early (operationsJudged i n os)
 early-faults i n [] = tt
-early-faults i n (o ∷ os) = early-or (faultOf i n o) (faultsFrom (suc i) (after n o) os) (early-fault i n o) (early-faults (suc i) (after n o) os)
+early-faults i n (o ∷ os) = early-or (faultOf i n o) (operationsJudged (suc i) (after n o) os) (early-fault i n o) (early-faults (suc i) (after n o) os)
 
 pub early-input : (os : List ℕ) (w m k : ℕ) → Early (inputJudged os w m k)
 early-input os w m k =
@@ -179,7 +179,7 @@ early-input os w m k =
     let b = when (not (tableFits w)) Table in
     let x = not (eqb m (markWords * length os) && eqb k (length os)) in
     let d = when x ResultRoom in
-    let f = faultsFrom 0 0 os in
+    let f = operationsJudged 0 0 os in
     early-or a (orElse b (orElse d (orElse f Good))) (early-when (ltb 32768 (length os)) TooMany refl)
     (early-or b (orElse d (orElse f Good)) (early-when (not (tableFits w)) Table refl)
     (early-or d (orElse f Good) (early-when x ResultRoom refl)

@@ -10,7 +10,7 @@ use Rattle.answer.specs.declared.Refusal.the-variants.{TooMany, Table, ResultRo
 use Rattle.answer.specs.Limits.{mostInput}
 use Rattle.answer.specs.Refusal.{when, firstOf}
 use Rattle.walk_call.specs.Walk.{tableFits}
-use Rattle.steps.specs.Operations.{faultsFrom}
+use Rattle.steps.specs.Operations.{operationsJudged}
 use Rattle.layout.specs.Marks.{markWords}
 
 -- 1, 2, 3; then 4, 5, 6 at the first faulty place
@@ -19,5 +19,5 @@ inputJudged os words marks chain =
     firstOf (when (ltb mostInput (length os)) TooMany
     ∷ when (not (tableFits words)) Table
     ∷ when (not (eqb marks (markWords * length os) && eqb chain (length os))) ResultRoom
-    ∷ faultsFrom 0 0 os
+    ∷ operationsJudged 0 0 os
     ∷ [])

@@ -6,8 +6,7 @@ use walk_table::Record;
 ghost use mathlib.Core.Path.{_≡_};
 ghost use Prim.Native.Nat.{_^_, _<_};
 ghost use Rattle.walk_call.specs.Walk.{tableFits};
-ghost use Rattle.steps.specs.Operations.{faultOf, faultsFrom, after};
-ghost use Rattle.steps.proofs.SurvivorLaws.{Fine};
+ghost use Rattle.steps.specs.Operations.{faultOf, operationsJudged, after, Fine};
 ghost use Rattle.walk_input.specs.Input.{inputJudged};
 
 // What is wrong with the operation at place i, where so many steps survive.
@@ -43,7 +42,7 @@ fn survive(op: u8, steps: usize) -> usize
 
 // The first fault of the operations.
 fn operations(ops: &[u8]) -> Judged
-    ensures { λ r. ⌜ r ≡ faultsFrom 0 0 (now (ops .entry)) ⌝ }
+    ensures { λ r. ⌜ r ≡ operationsJudged 0 0 (now (ops .entry)) ⌝ }
 {
     let mut steps: usize = 0;
     let mut i: usize = 0;

@@ -16,13 +16,13 @@ use Rattle.walk_step.specs.Walks.{Known, Advanced}
 use Rattle.layout.specs.Marks.{markWords, markOf}
 use Rattle.tree.specs.Nodes.{nodesOf}
 use Rattle.tree_laws.specs.State.{stateOf}
-use Rattle.steps.specs.Operations.{operate}
+use Rattle.steps.specs.Operations.{operate, Fine, Walkable}
 use Rattle.grid.proofs.BoundLaws.{endFrom-bound}
 use Rattle.layout.specs.Table.{width, wordAt, visitsWord}
 use Rattle.table_laws.proofs.Cites.{ref-below}
 use Rattle.table_laws.proofs.RowLaws.{table-state}
 use Rattle.table_laws.proofs.StoreLaws.{read-visits}
-use Rattle.steps.proofs.SurvivorLaws.{Fine, Sound, sound-operate, operate-step, operate-back, below-last}
+use Rattle.steps.proofs.SurvivorLaws.{walkable-operate, operate-step, operate-back, below-last}
 use Rattle.walk_run.specs.Runs.{Chained, Applied, Performed}
 
 module _ (c : Corner) (t ch ds : List ℕ) (w : Walk) (k : Chained c t ch ds w) where
@@ -63,7 +63,7 @@ module _ (c : Corner) (t ch ds : List ℕ) (w : Walk) (k : Chained c t ch ds w) 
           near = k .near;
           known = h;
           kept = ap (λ (m : ℕ). take m ch) (sym n);
-          sound = subst Sound e (sound-operate ds o (k .sound) (subst (λ (m : ℕ). Fine m o) (k .known .walked .steps) f));
+          sound = subst Walkable e (walkable-operate ds o (k .sound) (subst (λ (m : ℕ). Fine m o) (k .known .walked .steps) f));
           space = omega (arith, n, chained-place);
         })
 
@@ -78,7 +78,7 @@ module _ (c : Corner) (t ch ds : List ℕ) (w : Walk) (k : Chained c t ch ds w) 
           near = k .near;
           known = h;
           kept = ap (λ (l : List ℕ). l ++ (o ∷ [])) (sym d) ∙ sym (take-suc-set ch (w .spot .steps) o place) ∙ ap (λ (m : ℕ). take m (set ch (w .spot .steps) o)) (sym n);
-          sound = subst Sound e (sound-operate ds o (k .sound) (subst (λ (m : ℕ). Fine m o) (k .known .walked .steps) f));
+          sound = subst Walkable e (walkable-operate ds o (k .sound) (subst (λ (m : ℕ). Fine m o) (k .known .walked .steps) f));
           space = omega (arith, n, length-set ch (w .spot .steps) o);
         })
 

@@ -17,9 +17,9 @@ use Rattle.walk_step.specs.declared.Moved.{Moved}
 use Rattle.walk_step.specs.declared.Walk.{Walk}
 use Rattle.walk_step.specs.Walks.{fresh}
 use Rattle.tree.specs.Nodes.{nodesOf}
-use Rattle.steps.specs.Operations.{operate, survivorsFrom, survivors, faultOf, faultsFrom, after}
+use Rattle.steps.specs.Operations.{operate, survivorsFrom, survivors, faultOf, operationsJudged, after, Fine}
 use Rattle.walk_call.proofs.RoomLaws.{room-full, room-fits}
-use Rattle.steps.proofs.SurvivorLaws.{Fine, fault-none, fault-step, after-length, length-operate}
+use Rattle.steps.proofs.SurvivorLaws.{fault-none, fault-step, after-length, length-operate}
 use Rattle.walk_run.specs.declared.Ran.{Ran}
 use Rattle.walk_run.specs.Runs.{Chained, Ready, Performed, Ended}
 
@@ -34,13 +34,13 @@ pub record Running (words : ℕ) (c : Corner) (ops t ms ch : List ℕ) (w : Walk
   pub steps : List ℕ
   pub chained : Chained c t ch steps w
   pub rest : survivors ops ≡ survivorsFrom steps (drop i ops)
-  pub fine : faultsFrom i (length steps) (drop i ops) ≡ Good
+  pub fine : operationsJudged i (length steps) (drop i ops) ≡ Good
   pub room : roomFrom (recordsIn words) c 0 [] ops ≡ roomFrom (recordsIn words) c i steps (drop i ops)
   pub marked : marksOf c ops ≡ take (markWords * i) ms ++ marksFrom c steps (drop i ops)
   pub few : length steps ≤ i
 
 -- the start
-pub running-start : (ops t ms ch : List ℕ) → t ≡ tableOf (length t) origin [] → width ≤ length t → faultsFrom 0 0 ops ≡ Good → (w : Walk) → w ≡ fresh → Running (length t) origin ops t ms ch w 0
+pub running-start : (ops t ms ch : List ℕ) → t ≡ tableOf (length t) origin [] → width ≤ length t → operationsJudged 0 0 ops ≡ Good → (w : Walk) → w ≡ fresh → Running (length t) origin ops t ms ch w 0
 running-start ops t ms ch e h f w q = subst (λ (v : Walk). Running (length t) origin ops t ms ch v 0) (sym q) (record {
   steps = [];
   chained = record {
@@ -64,8 +64,8 @@ module _ (words : ℕ) (c : Corner) (ops t ms ch : List ℕ) (w : Walk) (i : ℕ
   left : drop i ops ≡ getD ops i 0 ∷ drop (suc i) ops
   left = drop-cons ops i 0 more
 
-  faults : (faultOf i (length (k .steps)) (getD ops i 0) ≡ Good) × (faultsFrom (suc i) (after (length (k .steps)) (getD ops i 0)) (drop (suc i) ops) ≡ Good)
-  faults = fault-step i (length (k .steps)) (getD ops i 0) (drop (suc i) ops) (subst (λ (l : List ℕ). faultsFrom i (length (k .steps)) l ≡ Good) left (k .fine))
+  faults : (faultOf i (length (k .steps)) (getD ops i 0) ≡ Good) × (operationsJudged (suc i) (after (length (k .steps)) (getD ops i 0)) (drop (suc i) ops) ≡ Good)
+  faults = fault-step i (length (k .steps)) (getD ops i 0) (drop (suc i) ops) (subst (λ (l : List ℕ). operationsJudged i (length (k .steps)) l ≡ Good) left (k .fine))
 
   pub running-ready : length ch ≡ length ops → Ready t ch w (getD ops i 0)
   running-ready l = record {
@@ -103,7 +103,7 @@ module _ (words : ℕ) (c : Corner) (ops t ms ch : List ℕ) (w : Walk) (i : ℕ
           steps = ds;
           chained = g .0;
           rest = k .rest ∙ ap (survivorsFrom (k .steps)) left ∙ ap (λ (j : ℕ). survivorsFrom ds (drop j ops)) n₃;
-          fine = subst (λ (j : ℕ). faultsFrom j (length ds) (drop j ops) ≡ Good) n₃ (subst (λ (n : ℕ). faultsFrom (suc i) n (drop (suc i) ops) ≡ Good) (after-length (k .steps) o) (faults .1));
+          fine = subst (λ (j : ℕ). operationsJudged j (length ds) (drop j ops) ≡ Good) n₃ (subst (λ (n : ℕ). operationsJudged (suc i) n (drop (suc i) ops) ≡ Good) (after-length (k .steps) o) (faults .1));
           room = k .room ∙ ap (λ (x : List ℕ). roomFrom (recordsIn words) c i (k .steps) x) left ∙ room-fits (recordsIn words) c i (k .steps) o (drop (suc i) ops) fits ∙ ap (λ (j : ℕ). roomFrom (recordsIn words) c j ds (drop j ops)) n₃;
           marked =
               k .marked ∙ ap (λ (x : List ℕ). take (markWords * i) ms ++ marksFrom c (k .steps) x) left

@@ -17,8 +17,7 @@ use Rattle.walk_step.specs.declared.Moved.{Moved}
 use Rattle.walk_step.specs.declared.Walk.{Walk}
 use Rattle.walk_step.specs.Walks.{Known}
 use Rattle.tree.specs.Nodes.{nodesOf}
-use Rattle.steps.specs.Operations.{survivors}
-use Rattle.steps.proofs.SurvivorLaws.{Fine, Sound}
+use Rattle.steps.specs.Operations.{survivors, Fine, Walkable}
 use Rattle.walk_run.specs.declared.Ran.{Ran}
 
 -- the walk from c with the steps ds, which stand in the chain
@@ -26,7 +25,7 @@ pub record Chained (c : Corner) (t chain ds : List ℕ) (w : Walk) : Type 0 wher
   pub near : (natAbs (c .0) ≤ 16384) × (natAbs (c .1) ≤ 16384)
   pub known : Known t c ds w
   pub kept : ds ≡ take (length ds) chain
-  pub sound : Sound ds
+  pub sound : Walkable ds
   pub space : length ds ≤ length chain
 
 -- some walk for which the operation o is no fault, with room in the chain

@@ -8,7 +8,7 @@ ghost use Rattle.grid.specs.declared.Corner.{Corner as Node};
 ghost use Rattle.grid.specs.Grid.{origin};
 ghost use Rattle.layout.specs.Marks.{markWords};
 ghost use Rattle.layout.specs.Table.{width, wordAt, visitsWord, tableOf};
-ghost use Rattle.steps.specs.Operations.{operate, faultsFrom};
+ghost use Rattle.steps.specs.Operations.{operate, operationsJudged};
 ghost use Rattle.walk_run.specs.Runs.{Chained, Ready, Applied, Performed, Ended};
 use walk_step::Moved;
 use walk_step::Spot;
@@ -67,7 +67,7 @@ fn perform(t: &mut [u32], marks: &mut [u32], chain: &mut [u8], w: Walk, op: u8, 
 pub fn run(ops: &[u8], t: &mut [u32], marks: &mut [u32], chain: &mut [u8]) -> Ran
     requires { ⌜ (now t ≡ tableOf (length (now t)) origin []) × (width ≤ length (now t)) × (length (now t) < 2 ^ 32) ⌝ }
     requires { ⌜ (length (now marks) ≡ markWords * length (now ops)) × (length (now chain) ≡ length (now ops)) × (length (now ops) ≤ 32768) ⌝ }
-    requires { ⌜ faultsFrom 0 0 (now ops) ≡ Good ⌝ }
+    requires { ⌜ operationsJudged 0 0 (now ops) ≡ Good ⌝ }
     ensures { λ r. ⌜ Ended (length (now (t .entry))) origin (now (ops .entry)) (now (t .exit)) (now (marks .exit)) (now (chain .exit)) r ⌝ }
 {
     let mut w = Walk::new();

@@ -25,7 +25,7 @@ use Rattle.tree_laws.proofs.PushLaws.{push-visits, push-first, push-visited, so
 use Rattle.walk_step.specs.declared.Spot.{Spot}
 use Rattle.walk_step.specs.declared.Tally.{Tally}
 use Rattle.walk_step.specs.Spots.{Walked}
-use Rattle.walk_step.specs.Tallies.{Says, Counted}
+use Rattle.walk_step.specs.Tallies.{Says, TallyIs}
 
 met-zero : (n : ℕ) (m : Meeting) → met 0 n m ≡ m
 met-zero n none = refl
@@ -70,7 +70,7 @@ module _ (t : List ℕ) (c : Corner) (ds : List ℕ) (d : ℕ) (w : Spot) (k : W
       go zero q = omega arith
       go (suc n) q = omega arith
 
-  module _ (m : Tally) (h : Counted c ds m) (v : ℕ) (e : v ≡ getD t (wordAt (w .node) visitsWord) 0) where
+  module _ (m : Tally) (h : TallyIs c ds m) (v : ℕ) (e : v ≡ getD t (wordAt (w .node) visitsWord) 0) where
     none-yet : v ≡ 1 → count (same (stepped d (endFrom c ds))) (cornersFrom c ds) ≡ 0
     none-yet q = less v (count (same (stepped d (endFrom c ds))) (cornersFrom c ds)) (e ∙ seen) q
       where
@@ -78,7 +78,7 @@ module _ (t : List ℕ) (c : Corner) (ds : List ℕ) (d : ℕ) (w : Spot) (k : W
         less a b p r = omega arith
 
     -- the first visit
-    pub tally-new : v ≡ 1 → (r : Tally) → r .corners ≡ m .corners + 1 → r .j ≡ m .j → r .k ≡ m .k → Counted c (ds ++ (d ∷ [])) r
+    pub tally-new : v ≡ 1 → (r : Tally) → r .corners ≡ m .corners + 1 → r .j ≡ m .j → r .k ≡ m .k → TallyIs c (ds ++ (d ∷ [])) r
     tally-new q r p₁ p₂ p₃ =
         let p = stepped d (endFrom c ds) in
         let z = none-yet q in
@@ -100,12 +100,12 @@ module _ (t : List ℕ) (c : Corner) (ds : List ℕ) (d : ℕ) (w : Spot) (k : W
           let z : length (visitedOf (cornersFrom c ds)) + 0 ≡ length (visitedOf (cornersFrom c ds)) = omega arith in
           push-visited c ds d ∙ ap (λ (b : Bool). length (visitedOf (cornersFrom c ds)) + tally b) (ne-eqb (count (same p) (cornersFrom c ds)) 0 some) ∙ z
 
-      pub tally-same : (m .k ≡ 65535 → ⊥) → Counted c (ds ++ (d ∷ [])) m
+      pub tally-same : (m .k ≡ 65535 → ⊥) → TallyIs c (ds ++ (d ∷ [])) m
       tally-same x =
           let s : meetingOf c (ds ++ (d ∷ [])) ≡ meetingOf c ds = push-meeting c ds d ∙ says-some (meetingOf c ds) (m .j) (m .k) (h .met) x (find (same (stepped d (endFrom c ds))) (cornersFrom c ds)) (suc (length ds)) in
           record { seen = h .seen ∙ sym same-seen; met = subst (λ (y : Meeting). Says y (m .j) (m .k)) (sym s) (h .met) }
 
-      pub tally-meets : m .k ≡ 65535 → w .steps < 65535 → (f : ℕ) → f ≡ getD t (wordAt (w .node) firstWord) 0 → (r : Tally) → r .corners ≡ m .corners → r .j ≡ f - 1 → r .k ≡ w .steps → Counted c (ds ++ (d ∷ [])) r
+      pub tally-meets : m .k ≡ 65535 → w .steps < 65535 → (f : ℕ) → f ≡ getD t (wordAt (w .node) firstWord) 0 → (r : Tally) → r .corners ≡ m .corners → r .j ≡ f - 1 → r .k ≡ w .steps → TallyIs c (ds ++ (d ∷ [])) r
       tally-meets x few f q r p₁ p₂ p₃ = record { seen = p₁ ∙ h .seen ∙ sym same-seen; met = subst (λ (y : Meeting). Says y (r .j) (r .k)) (sym s) (go (find (same (stepped d (endFrom c ds))) (cornersFrom c ds)) refl (q ∙ first)) }
         where
           s : meetingOf c (ds ++ (d ∷ [])) ≡ met (find (same (stepped d (endFrom c ds))) (cornersFrom c ds)) (suc (length ds)) none
@@ -127,9 +127,9 @@ unsays-not : (m : Meeting) (j k n : ℕ) → Says m j k → (k ≡ n → ⊥) �
 unsays-not none j k n h g = refl
 unsays-not (meet a b) j k n h g = rw (ne-eqb b n (λ q. g (h .1 ∙ q)), unmet)
 
-module _ (t : List ℕ) (c : Corner) (ds : List ℕ) (d : ℕ) (w : Spot) (k : Walked t c (ds ++ (d ∷ [])) w) (m : Tally) (h : Counted c (ds ++ (d ∷ [])) m) (v : ℕ) (e : v ≡ getD t (wordAt (w .node) visitsWord) 0) where
+module _ (t : List ℕ) (c : Corner) (ds : List ℕ) (d : ℕ) (w : Spot) (k : Walked t c (ds ++ (d ∷ [])) w) (m : Tally) (h : TallyIs c (ds ++ (d ∷ [])) m) (v : ℕ) (e : v ≡ getD t (wordAt (w .node) visitsWord) 0) where
   -- the only visit
-  pub untally-new : v ≡ 1 → (r : Tally) → r .corners ≡ m .corners - 1 → r .j ≡ m .j → r .k ≡ m .k → Counted c ds r
+  pub untally-new : v ≡ 1 → (r : Tally) → r .corners ≡ m .corners - 1 → r .j ≡ m .j → r .k ≡ m .k → TallyIs c ds r
   untally-new q r p₁ p₂ p₃ =
       let p = stepped d (endFrom c ds) in
       let z : count (same p) (cornersFrom c ds) ≡ 0 = less v (count (same p) (cornersFrom c ds)) (e ∙ seen t c ds d w k) q in
@@ -155,12 +155,12 @@ module _ (t : List ℕ) (c : Corner) (ds : List ℕ) (d : ℕ) (w : Spot) (k : W
         let z : length (visitedOf (cornersFrom c ds)) + 0 ≡ length (visitedOf (cornersFrom c ds)) = omega arith in
         push-visited c ds d ∙ ap (λ (b : Bool). length (visitedOf (cornersFrom c ds)) + tally b) (ne-eqb (count (same p) (cornersFrom c ds)) 0 (λ y. g (e ∙ seen t c ds d w k ∙ ap (λ (n : ℕ). n + 1) y))) ∙ z
 
-    pub untally-same : (m .k ≡ w .steps → ⊥) → Counted c ds m
+    pub untally-same : (m .k ≡ w .steps → ⊥) → TallyIs c ds m
     untally-same x =
         let s : meetingOf c (ds ++ (d ∷ [])) ≡ meetingOf c ds = sym (unsays-not (meetingOf c (ds ++ (d ∷ []))) (m .j) (m .k) (suc (length ds)) (h .met) (λ y. x (y ∙ sym (steps-here t c ds d w k)))) ∙ pop-meeting c ds d in
         record { seen = h .seen ∙ still; met = subst (λ (y : Meeting). Says y (m .j) (m .k)) s (h .met) }
 
-    pub untally-meets : m .k ≡ w .steps → w .steps < 65535 → (r : Tally) → r .corners ≡ m .corners → r .j ≡ 65535 → r .k ≡ 65535 → Counted c ds r
+    pub untally-meets : m .k ≡ w .steps → w .steps < 65535 → (r : Tally) → r .corners ≡ m .corners → r .j ≡ 65535 → r .k ≡ 65535 → TallyIs c ds r
     untally-meets x few r p₁ p₂ p₃ =
         let n = steps-here t c ds d w k in
         let s : none ≡ meetingOf c ds = sym (unsays-here (meetingOf c (ds ++ (d ∷ []))) (m .j) (m .k) (suc (length ds)) (h .met) (x ∙ n) (subst (λ (b : ℕ). b < 65535) n few)) ∙ pop-meeting c ds d in

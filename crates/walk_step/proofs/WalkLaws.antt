@@ -16,7 +16,7 @@ use Rattle.walk_step.specs.declared.Spot.{Spot}
 use Rattle.walk_step.specs.declared.Tally.{Tally}
 use Rattle.walk_step.specs.declared.Walk.{Walk}
 use Rattle.walk_step.specs.Spots.{Walked, Stepped, Went}
-use Rattle.walk_step.specs.Tallies.{Counted}
+use Rattle.walk_step.specs.Tallies.{TallyIs}
 use Rattle.walk_step.specs.Walks.{Known, Knowing, Advanced}
 
 -- a walk has a corner, and one more with each step at most
@@ -50,11 +50,11 @@ module _ (t t′ : List ℕ) (w : Walk) (d : ℕ) (r : Gone) (next : Spot) (f : 
       one : (a b n s : ℕ) → a ≡ b → b ≡ n + 1 → s ≡ n → a ≡ suc s
       one a b n s p q z = omega arith
 
-  pub advance-to : (m : Tally) → ((c : Corner) (ds : List ℕ) → Walked t′ c (ds ++ (d ∷ [])) next → Counted c ds (w .tally) → Counted c (ds ++ (d ∷ [])) m)
+  pub advance-to : (m : Tally) → ((c : Corner) (ds : List ℕ) → Walked t′ c (ds ++ (d ∷ [])) next → TallyIs c ds (w .tally) → TallyIs c (ds ++ (d ∷ [])) m)
       → (v : Walk) → v .spot ≡ next → v .tally ≡ m → (c : Corner) (ds : List ℕ) → Known t c ds w → Advanced (length t) t′ c (ds ++ (d ∷ [])) (Moved.To v)
   advance-to m g v p q c ds k =
       let h = went c ds (k .walked) in
-      (record { walked = subst (λ (s : Spot). Walked t′ c (ds ++ (d ∷ [])) s) (sym p) (h .0); counted = subst (λ (x : Tally). Counted c (ds ++ (d ∷ [])) x) (sym q) (g c ds (h .0) (k .counted)) }, h .1)
+      (record { walked = subst (λ (s : Spot). Walked t′ c (ds ++ (d ∷ [])) s) (sym p) (h .0); counted = subst (λ (x : Tally). TallyIs c (ds ++ (d ∷ [])) x) (sym q) (g c ds (h .0) (k .counted)) }, h .1)
 
 pub advance-full : (t t′ : List ℕ) (w : Walk) (d : ℕ) (r : Gone) → ((c : Corner) (ds : List ℕ) → Walked t c ds (w .spot) → Went (length t) t′ c (ds ++ (d ∷ [])) r) → r ≡ Gone.Full
     → (c : Corner) (ds : List ℕ) → Known t c ds w → Advanced (length t) t′ c (ds ++ (d ∷ [])) Moved.Full
@@ -62,10 +62,10 @@ advance-full t t′ w d r f e c ds k = subst (λ (g : Gone). Went (length t) t�
 
 -- and back
 pub withdraw-to : (t t′ : List ℕ) (w : Walk) (d : ℕ) (s : Spot) (m : Tally)
-    → ((c : Corner) (ds : List ℕ) → Walked t c (ds ++ (d ∷ [])) (w .spot) → Counted c (ds ++ (d ∷ [])) (w .tally) → Counted c ds m)
+    → ((c : Corner) (ds : List ℕ) → Walked t c (ds ++ (d ∷ [])) (w .spot) → TallyIs c (ds ++ (d ∷ [])) (w .tally) → TallyIs c ds m)
     → ((c : Corner) (ds : List ℕ) → Walked t c (ds ++ (d ∷ [])) (w .spot) → Walked t′ c ds s)
     → (v : Walk) → v .spot ≡ s → v .tally ≡ m → (c : Corner) (ds : List ℕ) → Known t c (ds ++ (d ∷ [])) w → Known t′ c ds v
 withdraw-to t t′ w d s m f g v p q c ds k = record {
   walked = subst (λ (x : Spot). Walked t′ c ds x) (sym p) (g c ds (k .walked));
-  counted = subst (λ (x : Tally). Counted c ds x) (sym q) (f c ds (k .walked) (k .counted));
+  counted = subst (λ (x : Tally). TallyIs c ds x) (sym q) (f c ds (k .walked) (k .counted));
 }

@@ -14,6 +14,6 @@ abbrev pub Says : Meeting → ℕ → ℕ → Type 0
 Says none j k = (j ≡ 65535) × (k ≡ 65535)
 Says (meet a b) j k = (j ≡ a) × (k ≡ b) × (b < 65535)
 
-pub record Counted (c : Corner) (ds : List ℕ) (m : Tally) : Type 0 where
+pub record TallyIs (c : Corner) (ds : List ℕ) (m : Tally) : Type 0 where
   pub seen : m .corners ≡ length (visitedOf (cornersFrom c ds))
   pub met : Says (meetingOf c ds) (m .j) (m .k)

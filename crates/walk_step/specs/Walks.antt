@@ -11,7 +11,7 @@ use Rattle.layout.specs.Table.{width}
 use Rattle.walk_step.specs.declared.Moved.{Moved}
 use Rattle.walk_step.specs.declared.Walk.{Walk}
 use Rattle.walk_step.specs.Spots.{Walked}
-use Rattle.walk_step.specs.Tallies.{Counted}
+use Rattle.walk_step.specs.Tallies.{TallyIs}
 
 -- the walk with no step, at the root
 abbrev pub fresh : Walk
@@ -20,7 +20,7 @@ fresh = record { spot = record { node = 0; at = origin; steps = 0; nodes = 1 }; 
 -- the table is that of the walk from c with the steps ds, and w is where it stands, with its tally
 pub record Known (t : List ℕ) (c : Corner) (ds : List ℕ) (w : Walk) : Type 0 where
   pub walked : Walked t c ds (w .spot)
-  pub counted : Counted c ds (w .tally)
+  pub counted : TallyIs c ds (w .tally)
 
 -- of some walk
 pub record Knowing (t : List ℕ) (w : Walk) : Type 0 where

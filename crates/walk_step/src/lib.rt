@@ -6,7 +6,7 @@ ghost use lib.IntN.{natAbs};
 ghost use lib.ListN.{length};
 ghost use Rattle.grid.specs.declared.Corner.{Corner as Node};
 ghost use Rattle.walk_step.specs.Spots.{Walked, Standing, Stepped, Went};
-ghost use Rattle.walk_step.specs.Tallies.{Counted};
+ghost use Rattle.walk_step.specs.Tallies.{TallyIs};
 ghost use Rattle.walk_step.specs.Walks.{fresh, Known, Knowing, Withdrawable, Advanced};
 use grid::Corner;
 use walk_table::Record;
@@ -134,7 +134,7 @@ pub fn take_back(t: &mut [u32], w: Spot, d: u8) -> Spot
 pub fn tallied(t: &[u32], w: Spot, m: Tally, d: u8) -> Tally
     requires { ⌜ Stepped (now t) w d ⌝ }
     requires { ⌜ (w .steps < 65535) × (m .corners < 65536) ⌝ }
-    ensures { λ r. ⌜ ((c : Node) (ds : List ℕ) → Walked (now (t .entry)) c (ds ++ (d ∷ [])) w → Counted c ds m → Counted c (ds ++ (d ∷ [])) r) ⌝ }
+    ensures { λ r. ⌜ ((c : Node) (ds : List ℕ) → Walked (now (t .entry)) c (ds ++ (d ∷ [])) w → TallyIs c ds m → TallyIs c (ds ++ (d ∷ [])) r) ⌝ }
 {
     let node = w.node;
     let n = w.steps;
@@ -161,7 +161,7 @@ pub fn tallied(t: &[u32], w: Spot, m: Tally, d: u8) -> Tally
 pub fn untallied(t: &[u32], w: Spot, m: Tally, d: u8) -> Tally
     requires { ⌜ Stepped (now t) w d ⌝ }
     requires { ⌜ (w .steps < 65535) × (0 < m .corners) ⌝ }
-    ensures { λ r. ⌜ ((c : Node) (ds : List ℕ) → Walked (now (t .entry)) c (ds ++ (d ∷ [])) w → Counted c (ds ++ (d ∷ [])) m → Counted c ds r) ⌝ }
+    ensures { λ r. ⌜ ((c : Node) (ds : List ℕ) → Walked (now (t .entry)) c (ds ++ (d ∷ [])) w → TallyIs c (ds ++ (d ∷ [])) m → TallyIs c ds r) ⌝ }
 {
     let node = w.node;
     let n = w.steps;

@@ -5,7 +5,7 @@ use mathlib.Core.Path.{sym, _∙_}
 use lib.ListN.{length}
 use Rattle.answer.specs.declared.Refusal.the-variants.{TooMany}
 use Rattle.grid.specs.Grid.{origin}
-use Rattle.hull.specs.Call.{faultFrom}
+use Rattle.hull.specs.Call.{chainJudged}
 use Rattle.hull_laws.specs.Columns.{westFrom, eastFrom}
 use Rattle.hull_laws.proofs.CallLaws.{judged-many, judged-fault, call-refused}
 use Rattle.hull_scan.proofs.ListLaws.{extent-good, extent-refused, near-origin, walked, call-listed}
@@ -24,7 +24,7 @@ enum-known-west c = search needs
 list-from-requires : tie.Need-list-from-requires
 list-from-requires c κs =
     let s = c .before .before .before .before .before .before .before in
-    let t = extent-good (faultFrom 0 (s .args .chain .now)) (westFrom 16384 (s .args .chain .now)) (eastFrom 16384 (s .args .chain .now)) (c .before .before .west .given .0 .0) (c .before .before .west .given .0 .1 .0) (sym (c .before .before .before .before .survey .ensures) ∙ c .before .before .west .given .1) in
+    let t = extent-good (chainJudged 0 (s .args .chain .now)) (westFrom 16384 (s .args .chain .now)) (eastFrom 16384 (s .args .chain .now)) (c .before .before .west .given .0 .0) (c .before .before .west .given .0 .1 .0) (sym (c .before .before .before .before .survey .ensures) ∙ c .before .before .west .given .1) in
     (walked (s .args .chain .now) (c .before .before .west .given .0 .0) (c .before .before .west .given .0 .1 .0) (t .0) (t .1) (t .2), near-origin)
 
 enum-known-r : tie.Need-enum-known-r
@@ -36,13 +36,13 @@ same-length c = search needs
 returns-2 : tie.Need-returns-2
 returns-2 c =
     let s = c .before .before .before .before .before .before .before .before .before in
-    let t = extent-good (faultFrom 0 (s .args .chain .now)) (westFrom 16384 (s .args .chain .now)) (eastFrom 16384 (s .args .chain .now)) (c .before .before .before .before .west .given .0 .0) (c .before .before .before .before .west .given .0 .1 .0) (sym (c .before .before .before .before .before .before .survey .ensures) ∙ c .before .before .before .before .west .given .1) in
+    let t = extent-good (chainJudged 0 (s .args .chain .now)) (westFrom 16384 (s .args .chain .now)) (eastFrom 16384 (s .args .chain .now)) (c .before .before .before .before .west .given .0 .0) (c .before .before .before .before .west .given .0 .1 .0) (sym (c .before .before .before .before .before .before .survey .ensures) ∙ c .before .before .before .before .west .given .1) in
     call-listed (c .before .before .before .before .before .before .before .if1 .left) (t .0) (c .before .list-from .ensures)
 
 returns-3 : tie.Need-returns-3
 returns-3 c =
     let s = c .before .before .before .before .before .before in
-    let e = extent-refused (faultFrom 0 (s .args .chain .now)) (westFrom 16384 (s .args .chain .now)) (eastFrom 16384 (s .args .chain .now)) (c .before .r .given .0 .0) (sym (c .before .before .before .survey .ensures) ∙ c .before .r .given .1) in
+    let e = extent-refused (chainJudged 0 (s .args .chain .now)) (westFrom 16384 (s .args .chain .now)) (eastFrom 16384 (s .args .chain .now)) (c .before .r .given .0 .0) (sym (c .before .before .before .survey .ensures) ∙ c .before .r .given .1) in
     call-refused origin (s .args .chain .now) (s .args .out .now) (c .before .r .given .0 .0) (λ n. judged-fault (s .args .chain .now) (length (s .args .out .now)) n (c .before .r .given .0 .0) (c .before .before .before .before .if1 .left) e)
 
 pub list-spec : {M : Type 1} → statement M

@@ -5,13 +5,13 @@ use Prim.Native.Nat.{_-_, _≤_}
 use native.Mathlib.Omega.{arith}
 use borrow.Author.Needs.{needs}
 use lib.ListN.{length, drop}
-use Rattle.steps.specs.Turns.{digitFaultsFrom}
+use Rattle.steps.specs.Turns.{digitsJudged}
 use Rattle.turns.proofs.FaultLaws.{fault-here, fault-later, fault-none}
 use Rattle.turns.proofs.judge_digits.Statement.{statement}
 use Rattle.turns.proofs.judge_digits.Tie as tie
 
 abbrev Inv-loop : tie.InvT-loop
-Inv-loop digits i₀ i = (i ≤ length digits) × (digitFaultsFrom i (drop i digits) ≡ digitFaultsFrom 0 digits)
+Inv-loop digits i₀ i = (i ≤ length digits) × (digitsJudged i (drop i digits) ≡ digitsJudged 0 digits)
 
 abbrev μ-loop : tie.MeasureT-loop
 μ-loop digits i₀ i = length digits - i

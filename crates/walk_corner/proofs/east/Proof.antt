@@ -7,11 +7,11 @@ use Rattle.walk_corner.proofs.SignedLaws.{back}
 use Rattle.walk_corner.proofs.east.Statement.{statement}
 use Rattle.walk_corner.proofs.east.Tie as tie
 
-less-requires : tie.Need-less-requires
-less-requires c κs = search needs
+difference-requires : tie.Need-difference-requires
+difference-requires c κs = search needs
 
 returns : tie.Need-returns
-returns c = back (c .less .result) (c .less .ok) ∙ c .less .ensures ∙ east-by (c .before .args .d)
+returns c = back (c .difference .result) (c .difference .ok) ∙ c .difference .ensures ∙ east-by (c .before .args .d)
 
 pub east-spec : {M : Type 1} → statement M
-east-spec = tie.close (tie.spec less-requires returns)
+east-spec = tie.close (tie.spec difference-requires returns)

@@ -1,6 +1,6 @@
 -- `walk_corner::moved` meets its contract.
 -- Assumes nothing.
-use mathlib.Core.Path.{_≡_, ap₂, sym, subst, _∙_}
+use mathlib.Core.Path.{ap₂, sym, subst, _∙_}
 use Prim.Native.Nat.{_<_, _≤_}
 use native.Mathlib.Omega.{arith}
 use lib.IntN.{ℤ, natAbs, _+ℤ_}

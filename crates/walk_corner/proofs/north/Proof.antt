@@ -7,11 +7,11 @@ use Rattle.walk_corner.proofs.SignedLaws.{back}
 use Rattle.walk_corner.proofs.north.Statement.{statement}
 use Rattle.walk_corner.proofs.north.Tie as tie
 
-less-requires : tie.Need-less-requires
-less-requires c κs = search needs
+difference-requires : tie.Need-difference-requires
+difference-requires c κs = search needs
 
 returns : tie.Need-returns
-returns c = back (c .less .result) (c .less .ok) ∙ c .less .ensures ∙ north-by (c .before .args .d)
+returns c = back (c .difference .result) (c .difference .ok) ∙ c .difference .ensures ∙ north-by (c .before .args .d)
 
 pub north-spec : {M : Type 1} → statement M
-north-spec = tie.close (tie.spec less-requires returns)
+north-spec = tie.close (tie.spec difference-requires returns)

@@ -5,14 +5,14 @@ use Prim.Native.Nat.{ℕ, _-_, _<_, _≤_}
 use native.Mathlib.Omega.{arith}
 use borrow.Author.Needs.{needs}
 use lib.ListN.{length, drop, getD, drop-of-length-le}
-use Rattle.steps.specs.Operations.{faultsFrom}
+use Rattle.steps.specs.Operations.{operationsJudged}
 use Rattle.steps.proofs.SurvivorLaws.{fault-none}
 use Rattle.walk_input.proofs.JudgeLaws.{faults-here, faults-next, after-le}
 use Rattle.walk_input.proofs.operations.Statement.{statement}
 use Rattle.walk_input.proofs.operations.Tie as tie
 
 abbrev Inv-loop : tie.InvT-loop
-Inv-loop ops steps₀ i₀ steps i = (i ≤ length ops) × (steps ≤ i) × (faultsFrom 0 0 ops ≡ faultsFrom i steps (drop i ops))
+Inv-loop ops steps₀ i₀ steps i = (i ≤ length ops) × (steps ≤ i) × (operationsJudged 0 0 ops ≡ operationsJudged i steps (drop i ops))
 
 abbrev μ-loop : tie.MeasureT-loop
 μ-loop ops steps₀ i₀ steps i = length ops - i
