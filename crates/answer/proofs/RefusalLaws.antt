@@ -1,8 +1,8 @@
 -- The first of several refusals: there is none exactly when none of the list is one.
 -- Assumes nothing.
 use mathlib.Core.Bool.{Bool, true, false}
-use mathlib.Core.List.{List, [], _∷_}
-use mathlib.Core.Path.{_≡_, refl}
+use mathlib.Core.List.{List, [], _∷_, _++_}
+use mathlib.Core.Path.{_≡_, refl, ap, sym, _∙_}
 use Prim.Native.Nat.{ℕ}
 use native.Mathlib.Omega.{arith}
 use Rattle.answer.specs.declared.Judged.{Judged}
@@ -38,3 +38,12 @@ when-good false r e = refl
 pub orElse-right : (a : Judged) → orElse a Good ≡ a
 orElse-right Good = refl
 orElse-right (Refused r) = refl
+
+pub orElse-assoc : (a b c : Judged) → orElse (orElse a b) c ≡ orElse a (orElse b c)
+orElse-assoc Good b c = refl
+orElse-assoc (Refused r) b c = refl
+
+-- one more at the end of the list is judged last
+pub firstOf-last : (js : List Judged) (j : Judged) → firstOf (js ++ (j ∷ [])) ≡ orElse (firstOf js) j
+firstOf-last [] j = orElse-right j
+firstOf-last (i ∷ js) j = ap (orElse i) (firstOf-last js j) ∙ sym (orElse-assoc i (firstOf js) j)

@@ -1,5 +1,6 @@
 -- The limits of the calls (01, "What the calls take and give"). Assumes nothing.
-use Rattle.lists.specs.Lists.{ℕ, _+_, _*_}
+use Rattle.lists.specs.Lists.{ℕ, _+_, _*_, _≤_, natAbs}
+use Rattle.grid.specs.declared.Corner.{Corner}
 
 -- input bytes at most
 abbrev pub mostInput : ℕ
@@ -16,3 +17,11 @@ mostRecords = 8 * (mostSteps + 1)
 -- j and k where there is no meeting
 abbrev pub noMeeting : ℕ
 noMeeting = 65535
+
+-- the magnitude of a start's coordinates at most
+abbrev pub mostStart : ℕ
+mostStart = 16384
+
+-- a corner at which a walk may start
+abbrev pub Near : Corner → Type 0
+Near c = (natAbs (c .0) ≤ mostStart) × (natAbs (c .1) ≤ mostStart)

@@ -33,7 +33,7 @@ use Rattle.demands.specs.Given as given
 use Rattle.demands.specs.Record.{RecordSays}
 use Rattle.demands.proofs.BufferLaws.{table-word, table-unused, table-length, marks-from, marks-length, chain-length}
 use Rattle.demands.proofs.RecordLaws.{record-says}
-use Rattle.demands.proofs.WalkLaws.{always-room, its-facts, its-occasion, its-table, its-marks, its-chain}
+use Rattle.demands.proofs.WalkLaws.{its-facts, its-occasion, its-table, its-marks, its-chain}
 
 -- the first meeting, or there is none and both are 65,535
 abbrev pub MeetingIs : Corner → List ℕ → ℕ → ℕ → Type 0
@@ -85,17 +85,16 @@ module _ {c : Corner} {os t ms ch t′ ms′ ch′ : List ℕ} {f : Facts} (w : 
       let x = marks-from c [] os k h in
       (ap (λ (l : List ℕ). getD l (markWords * k) 0) (its-marks w) ∙ x .0, ap (λ (l : List ℕ). getD l (markWords * k + 1) 0) (its-marks w) ∙ x .1)
 
--- no buffer changes its length
-module _ {os t ms ch t′ ms′ ch′ : List ℕ} {f : Facts} (w : WalkIs origin os t ms ch (Answer.Accepted f) t′ ms′ ch′) where
+  -- no buffer changes its length
   pub its-lengths : (length t′ ≡ length t) × (length ms′ ≡ length ms) × (length ch′ ≡ length ch)
   its-lengths = by (its-occasion w)
     where
-      by : Given origin os (length t) (length ms) (length ch) Good → (length t′ ≡ length t) × (length ms′ ≡ length ms) × (length ch′ ≡ length ch)
+      by : Given c os (length t) (length ms) (length ch) Good → (length t′ ≡ length t) × (length ms′ ≡ length ms) × (length ch′ ≡ length ch)
       by (given.accepted h a) =
-          let n : length (nodesOf (cornersFrom origin (survivors os))) ≤ recordsIn (length t) =
-          subst (λ (l : List ℕ). length (nodesOf (cornersFrom origin (survivors l))) ≤ recordsIn (length t)) (take-length os) (always-room w h a (length os) (omega arith)) in
+          let n : length (nodesOf (cornersFrom c (survivors os))) ≤ recordsIn (length t) =
+          subst (λ (l : List ℕ). length (nodesOf (cornersFrom c (survivors l))) ≤ recordsIn (length t)) (take-length os) (a (length os) (omega arith)) in
           let r = h .sized .room in (
-            ap length (its-table w) ∙ table-length (length t) origin (survivors os) (omega arith),
-            ap length (its-marks w) ∙ marks-length origin [] os ∙ sym (r .0),
+            ap length (its-table w) ∙ table-length (length t) c (survivors os) (omega arith),
+            ap length (its-marks w) ∙ marks-length c [] os ∙ sym (r .0),
             ap length (its-chain w) ∙ chain-length os ∙ sym (r .1),
           )

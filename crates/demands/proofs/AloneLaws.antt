@@ -2,7 +2,7 @@
 -- Assumes nothing.
 use mathlib.Core.List.{List, [], _++_, append-nil}
 use mathlib.Core.Path.{_≡_, refl, ap, ap₂, sym, _∙_, subst}
-use Prim.Native.Nat.{ℕ, suc, _+_, _-_, _*_, _<_, _≤_}
+use Prim.Native.Nat.{ℕ, _+_, _-_, _*_, _<_, _≤_}
 use native.Mathlib.Omega.{arith}
 use lib.ListN.{length, getD, take, replicate}
 use lib.Seq.{take-at, take-take, getD-take, length-take-le}
@@ -79,7 +79,7 @@ module _ {os t ms ch t′ ms′ ch′ : List ℕ} {r : Answer} (w : WalkIs origi
   pub enough-four : ((k : ℕ) → k ≤ length os → 4 * cornersAfter origin os k ≤ recordsIn (length t) + 3) → (i : ℕ) → r ≡ Answer.Refused (NoRoom i) → ⊥
   enough-four f i e =
       let n = no-room-at w i .0 e .1 in
-      omega (arith, f (suc i) (omega (arith, n .inside)), n .here, four-less-three os (suc i))
+      omega (arith, f (n .0) (omega (arith, n .1 .inside)), n .1 .here, four-less-three os (n .0))
 
   pub enough-eight : ((k : ℕ) → k ≤ length os → 8 * cornersAfter origin os k ≤ recordsIn (length t)) → (i : ℕ) → r ≡ Answer.Refused (NoRoom i) → ⊥
   enough-eight f = enough-four (λ k h. omega (arith, f k h))
@@ -98,5 +98,7 @@ few-steps os f k h =
 pub enough-largest : {os t ms ch t′ ms′ ch′ : List ℕ} {r : Answer} → WalkIs origin os t ms ch r t′ ms′ ch′ → 65537 ≤ recordsIn (length t) → (i : ℕ) → r ≡ Answer.Refused (NoRoom i) → ⊥
 enough-largest {os} w l i e =
     let n = no-room-at w i .0 e in
-    let ps = cornersFrom origin (stepsAfter os (suc i)) in
-    omega (arith, n .1 .here, four-less-three os (suc i), few-steps os (n .0 .fine) (suc i) (omega (arith, n .1 .inside)), length-visited-le ps, length-cornersFrom origin (stepsAfter os (suc i)), l)
+    let k = n .1 .0 in
+    let m : k ≤ length os = omega (arith, n .1 .1 .inside) in
+    let ps = cornersFrom origin (stepsAfter os k) in
+    omega (arith, n .1 .1 .here, four-less-three os k, few-steps os (n .0 .fine) k m, length-visited-le ps, length-cornersFrom origin (stepsAfter os k), l)

@@ -3,7 +3,7 @@
 use mathlib.Core.List.{List, _∷_, _++_, List·Memᴰ}
 use mathlib.Core.Logic.{_⊎_, _↔_}
 use mathlib.Core.Path.{_≡_}
-use Prim.Native.Nat.{ℕ, suc, _+_, _-_, _*_, _%_, _<_, _≤_}
+use Prim.Native.Nat.{ℕ, suc, _+_, _-_, _*_, _%_, _<_, _≤_, pred}
 use lib.IntN.{ℤ, pos, negsuc, negℤ, natAbs}
 use lib.ListN.{length, getD, take, drop, replicate}
 use lib.Signed.{_<ℤ_}
@@ -20,7 +20,8 @@ use Rattle.answer.specs.Refusal.{refusalNumber}
 use Rattle.lists.specs.Lists.{Distinct}
 use Rattle.grid.specs.declared.{Corner.Corner, Panel.Panel}
 use Rattle.grid.specs.Grid.{origin, cornersFrom, endFrom}
-use Rattle.grid.specs.Tree.{AncestorAt}
+use Rattle.grid.specs.Tree.{AncestorAt, root}
+use Rattle.grid.specs.declared.Corner.{Corner}
 use Rattle.steps.specs.Operations.{survivors}
 use Rattle.steps.specs.Turns.{turnOf, turnsOf, stepsOf, ConvertedBy}
 use Rattle.trace.specs.Meeting.{Meets, FirstMeets, visitedOf}
@@ -48,7 +49,7 @@ use Rattle.tree_laws.proofs.CountLaws.{Within}
 use Rattle.tree_laws.proofs.CountLaws as countLaws
 use Rattle.steps.proofs.TurnPromiseLaws as promiseLaws
 use Rattle.demands.specs.Moments.{nodesAfter, cornersAfter, visitsAfter, AtMostEight, FourLessThree, Exceeds}
-use Rattle.demands.specs.Given.{Faultless, NoRoomAt, Given}
+use Rattle.demands.specs.Given.{Faultless, NoRoomAfter, Given}
 use Rattle.demands.specs.GivenTurns.{GivenTurns}
 use Rattle.demands.specs.GivenHull.{GivenHull}
 use Rattle.demands.specs.Record.{RecordSays}
@@ -89,13 +90,13 @@ module _ {c : Corner} {os t ms ch t′ ms′ ch′ : List ℕ} where
   pub no-room-zero : (i : ℕ) → WalkIs c os t ms ch (Answer.Refused (NoRoom i)) t′ ms′ ch′ → (t′ ≡ replicate (length t) 0) × (ms′ ≡ replicate (length ms) 0) × (ch′ ≡ replicate (length ch) 0)
   no-room-zero = walkLaws.all-zero
 
-module _ {os t ms ch t′ ms′ ch′ : List ℕ} {r : Answer} (w : WalkIs origin os t ms ch r t′ ms′ ch′) where
+module _ {c : Corner} {os t ms ch t′ ms′ ch′ : List ℕ} {r : Answer} (w : WalkIs c os t ms ch r t′ ms′ ch′) where
   -- "'no room' is given exactly when nothing else is wrong with the call and the walk at some moment needs more nodes than the table has records"
-  pub no-room-exactly : ((i : ℕ) × (r ≡ Answer.Refused (NoRoom i))) ↔ Faultless os (length t) (length ms) (length ch) × ((k : ℕ) × (k ≤ length os) × Exceeds (nodesAfter origin os k) (recordsIn (length t)))
+  pub no-room-exactly : ((i : ℕ) × (r ≡ Answer.Refused (NoRoom i))) ↔ Faultless os (length t) (length ms) (length ch) × ((k : ℕ) × (k ≤ length os) × Exceeds (nodesAfter c os k) (recordsIn (length t)))
   no-room-exactly = walkLaws.no-room-when w
 
-  -- its place is the first operation after which this is so
-  pub no-room-place : (i : ℕ) → r ≡ Answer.Refused (NoRoom i) ↔ Faultless os (length t) (length ms) (length ch) × NoRoomAt origin os (recordsIn (length t)) i
+  -- its place is k - 1, where k operations are the fewest after which this is so
+  pub no-room-place : (i : ℕ) → r ≡ Answer.Refused (NoRoom i) ↔ Faultless os (length t) (length ms) (length ch) × ((k : ℕ) × NoRoomAfter c os (recordsIn (length t)) k × (i ≡ pred k))
   no-room-place = walkLaws.no-room-at w
 
 -- the same of the turns
@@ -166,9 +167,9 @@ module _ {c : Corner} {os t ms ch t′ ms′ ch′ : List ℕ} {f : Facts} (w : 
   pub chain-bytes : ch′ ≡ survivors os ++ replicate (length os - length (survivors os)) 0
   chain-bytes = walkLaws.its-chain w
 
--- no buffer changes its length
-pub same-lengths : {os t ms ch t′ ms′ ch′ : List ℕ} {f : Facts} → WalkIs origin os t ms ch (Answer.Accepted f) t′ ms′ ch′ → (length t′ ≡ length t) × (length ms′ ≡ length ms) × (length ch′ ≡ length ch)
-same-lengths = acceptedLaws.its-lengths
+  -- no buffer changes its length
+  pub same-lengths : (length t′ ≡ length t) × (length ms′ ≡ length ms) × (length ch′ ≡ length ch)
+  same-lengths = acceptedLaws.its-lengths w
 
 -- only one first meeting, and only one verdict
 pub firstMeets-one : {c : Corner} {ds : List ℕ} {j k j′ k′ : ℕ} → FirstMeets c ds j k → FirstMeets c ds j′ k′ → (j ≡ j′) × (k ≡ k′)
@@ -226,7 +227,7 @@ nodes-in-use ps a = (inUseLaws.node-inUse ps a, inUseLaws.inUse-node ps a)
 pub nodes-once : (ps : List Corner) → Distinct (nodesOf ps)
 nodes-once = nodeLaws.nodesOf-distinct
 
-pub root-first : (p : Corner) (ps : List Corner) → (rest : List Corner) × (nodesOf (p ∷ ps) ≡ origin ∷ rest)
+pub root-first : (p : Corner) (ps : List Corner) → (rest : List Corner) × (nodesOf (p ∷ ps) ≡ root ∷ rest)
 root-first = inUseLaws.nodesOf-first
 
 -- then in the order of the step that first needs them, and nearer the root first

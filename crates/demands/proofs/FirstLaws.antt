@@ -3,7 +3,7 @@
 use mathlib.Core.List.{List, [], _∷_}
 use mathlib.Core.Logic.{_⊎_, inl, inr, ⊎-elim}
 use mathlib.Core.Path.{_≡_, refl, ap, sym, _∙_, subst}
-use Prim.Native.Nat.{ℕ, zero, suc, _+_, _<_, _≤_}
+use Prim.Native.Nat.{ℕ, zero, suc, pred, _+_, _<_, _≤_}
 use native.Mathlib.Decide.{ℕ-discrete, decLt}
 use native.Mathlib.Omega.{arith}
 use borrow.Author.Tests.{lt-ltb, le-ltb, ne-eqb}
@@ -20,7 +20,7 @@ use Rattle.tree.specs.Nodes.{nodesOf}
 use Rattle.steps.specs.Operations.{operate, survivorsFrom, faultOf, Fine, operationsJudged, after}
 use Rattle.steps.proofs.SurvivorLaws.{after-length}
 use Rattle.walk_call.specs.Walk.{roomFrom}
-use Rattle.walk_call.proofs.RoomLaws.{room-full, room-fits}
+use Rattle.walk_call.proofs.RoomLaws.{room-full, room-fits, room-end}
 use Rattle.demands.specs.Given.{First}
 use Rattle.demands.proofs.DemandCases as cases
 
@@ -82,15 +82,16 @@ faults-first b s (o ∷ os) (suc i) p r h f q e =
 
 -- ---- 7
 module _ (r : ℕ) (c : Corner) where
+  -- the nodes needed after k of the operations
   abbrev needs : List ℕ → List ℕ → ℕ → ℕ
-  needs s os i = length (nodesOf (cornersFrom c (survivorsFrom s (take (suc i) os))))
+  needs s os k = length (nodesOf (cornersFrom c (survivorsFrom s (take k os))))
 
-  pub room-none : (b : ℕ) (s os : List ℕ) → ((i : ℕ) → i < length os → needs s os i ≤ r) → roomFrom r c b s os ≡ Good
-  room-none b s [] f = refl
-  room-none b s (o ∷ os) f = room-fits r c b s o os (f 0 (omega arith)) ∙ room-none (suc b) (operate s o) os (λ i h. f (suc i) (omega arith))
+  pub room-none : (b : ℕ) (s os : List ℕ) → ((k : ℕ) → k ≤ length os → needs s os k ≤ r) → roomFrom r c b s os ≡ Good
+  room-none b s [] f = room-end r c b s (f 0 (omega arith))
+  room-none b s (o ∷ os) f = room-fits r c b s o os (f 0 (omega arith)) ∙ room-none (suc b) (operate s o) os (λ k h. f (suc k) (omega arith))
 
-  pub room-first : (b : ℕ) (s os : List ℕ) (i p : ℕ) → i < length os → ((h : ℕ) → h < i → needs s os h ≤ r) → p ≡ b + i → r < needs s os i → roomFrom r c b s os ≡ Refused (NoRoom p)
-  room-first b s [] i p h f q e = absurd (omega arith)
-  room-first b s (o ∷ os) zero p h f q e = let g : b ≡ p = omega arith in room-full r c b s o os e ∙ ap (λ (n : ℕ). Refused (NoRoom n)) g
-  room-first b s (o ∷ os) (suc i) p h f q e =
-      room-fits r c b s o os (f 0 (omega arith)) ∙ room-first (suc b) (operate s o) os i p (omega arith) (λ h k. f (suc h) (omega arith)) (omega arith) e
+  pub room-first : (b : ℕ) (s os : List ℕ) (k n : ℕ) → k ≤ length os → ((h : ℕ) → h < k → needs s os h ≤ r) → n ≡ b + k → r < needs s os k → roomFrom r c b s os ≡ Refused (NoRoom (pred n))
+  room-first b s os zero n h f q e = let g : b ≡ n = omega arith in room-full r c b s os e ∙ ap (λ (m : ℕ). Refused (NoRoom (pred m))) g
+  room-first b s [] (suc k) n h f q e = absurd (omega arith)
+  room-first b s (o ∷ os) (suc k) n h f q e =
+      room-fits r c b s o os (f 0 (omega arith)) ∙ room-first (suc b) (operate s o) os k n (omega arith) (λ h l. f (suc h) (omega arith)) (omega arith) e

@@ -2,9 +2,9 @@
 -- Assumes nothing.
 use mathlib.Core.Bool.{Bool, true, false, not, _&&_}
 use mathlib.Core.List.{List, []}
-use mathlib.Core.Logic.{_⊎_, inl, inr, ⊎-elim}
+use mathlib.Core.Logic.{_⊎_, inl, inr, ⊎-elim, ⊎-map}
 use mathlib.Core.Path.{_≡_, refl, ap, sym, _∙_, subst}
-use Prim.Native.Nat.{ℕ, suc, _*_, _%_, _<_, _≤_}
+use Prim.Native.Nat.{ℕ, suc, _*_, _%_, _<_, _≤_, pred}
 use native.Mathlib.Decide.{decLt}
 use native.Mathlib.Omega.{arith}
 use borrow.Author.Tests.{leb-true, eqb-true, lt-ltb, le-ltb, le-leb, eq-eqb}
@@ -24,7 +24,7 @@ use Rattle.walk_call.specs.Walk.{tableFits, roomFrom, walkJudged}
 use Rattle.answer.proofs.RefusalLaws.{orElse-right}
 use Rattle.lists.proofs.GatherLaws.{and-left, and-right}
 use Rattle.demands.specs.Moments.{stepsAfter, nodesAfter}
-use Rattle.demands.specs.Given.{HasRecords, HasRoom, FineAt, BadDigitAt, NothingAt, TooLongAt, First, Sized, Faultless, Given}
+use Rattle.demands.specs.Given.{HasRecords, HasRoom, FineAt, BadDigitAt, NothingAt, TooLongAt, First, Sized, Faultless, NoRoomAfter, Given}
 use Rattle.demands.specs.Given as given
 use Rattle.demands.proofs.FirstLaws.{all-or-first, fine-or-fault, fault-digit, fault-nothing, fault-long, faults-none, faults-first, room-none, room-first}
 
@@ -97,7 +97,10 @@ module _ (c : Corner) (os : List ℕ) (w m k : ℕ) where
   given-judged _ (given.badDigit i s f) = judged-fault (BadDigitAt os) i (BadDigit i) s f (fault-digit i (length (stepsAfter os i)) (getD os i 0))
   given-judged _ (given.nothingToTake i s f) = judged-fault (NothingAt os) i (NothingToTake i) s f (fault-nothing i (length (stepsAfter os i)) (getD os i 0))
   given-judged _ (given.tooLong i s f) = judged-fault (TooLongAt os) i (TooLong i) s f (fault-long i (length (stepsAfter os i)) (getD os i 0))
-  given-judged _ (given.noRoom i h f) = judged-faultless h ∙ room-first (recordsIn w) c 0 [] os i i (f .inside) (f .before) (omega arith) (f .here)
+  given-judged _ (given.noRoom i k h f e) =
+      judged-faultless h
+      ∙ room-first (recordsIn w) c 0 [] os k k (omega (arith, f .inside)) (f .before) (omega arith) (f .here)
+      ∙ ap (λ (n : ℕ). Refused (NoRoom n)) (sym e)
   given-judged _ (given.accepted h f) = judged-faultless h ∙ room-none (recordsIn w) c 0 [] os f
 
   -- the place of a fault, by its kind
@@ -110,15 +113,23 @@ module _ (c : Corner) (os : List ℕ) (w m k : ℕ) where
       (λ h. (Refused (TooLong i), given.tooLong i s (record { inside = f .inside; before = f .before; here = h }))))
       (f .here)
 
-  pub roomy : (i : ℕ) → (nodesAfter c os (suc i) ≤ recordsIn w) ⊎ (recordsIn w < nodesAfter c os (suc i))
-  roomy i = elim (decLt (recordsIn w) (nodesAfter c os (suc i))) [ yes h ↦ inr h | no h ↦ inl (omega arith) ]
+  roomy : (k : ℕ) → (nodesAfter c os k ≤ recordsIn w) ⊎ (recordsIn w < nodesAfter c os k)
+  roomy k = elim (decLt (recordsIn w) (nodesAfter c os k)) [ yes h ↦ inr h | no h ↦ inl (omega arith) ]
+
+  -- there is room at every moment, or one is the first without
+  pub room-or-not : ((k : ℕ) → k ≤ length os → nodesAfter c os k ≤ recordsIn w) ⊎ ((k : ℕ) × NoRoomAfter c os (recordsIn w) k)
+  room-or-not =
+      ⊎-map
+      (λ f k h. f k (omega arith))
+      (λ x. x)
+      (all-or-first (suc (length os)) (λ k. nodesAfter c os k ≤ recordsIn w) (λ k. recordsIn w < nodesAfter c os k) roomy)
 
   by-room : Faultless os w m k → (j : Judged) × Given c os w m k j
   by-room h =
       ⊎-elim
       (λ f. (Good, given.accepted h f))
-      (λ x. (Refused (NoRoom (x .0)), given.noRoom (x .0) h (x .1)))
-      (all-or-first (length os) (λ i. nodesAfter c os (suc i) ≤ recordsIn w) (λ i. recordsIn w < nodesAfter c os (suc i)) roomy)
+      (λ x. (Refused (NoRoom (pred (x .0))), given.noRoom (pred (x .0)) (x .0) h (x .1) refl))
+      room-or-not
 
   by-size : Sized os w m k → (j : Judged) × Given c os w m k j
   by-size s =

@@ -4,7 +4,7 @@
 use mathlib.Core.List.{List}
 use mathlib.Core.Logic.{⊎-elim, _↔_}
 use mathlib.Core.Path.{_≡_, refl, ap, sym, _∙_, subst}
-use Prim.Native.Nat.{ℕ, zero, suc, _*_, _<_, _≤_}
+use Prim.Native.Nat.{ℕ, _≤_, pred}
 use native.Mathlib.Omega.{arith}
 use borrow.Author.Tests.{ne-eqb}
 use lib.ListN.{length, replicate}
@@ -16,16 +16,14 @@ use Rattle.answer.specs.declared.Refusal.{Refusal}
 use Rattle.answer.specs.declared.Refusal.the-variants.{NoRoom}
 use Rattle.answer.specs.Refusal.{refusalNumber}
 use Rattle.grid.specs.declared.Corner.{Corner}
-use Rattle.grid.specs.Grid.{origin}
 use Rattle.layout.specs.Marks.{marksOf, chainOf}
-use Rattle.layout.specs.Table.{width, recordsIn, tableOf}
+use Rattle.layout.specs.Table.{recordsIn, tableOf}
 use Rattle.steps.specs.Operations.{survivors}
 use Rattle.walk_call.specs.Walk.{walkJudged, walkAnswer, factsOf, answerBy, bufferBy, WalkIs}
 use Rattle.demands.specs.Moments.{nodesAfter, Exceeds}
-use Rattle.demands.specs.Given.{Faultless, NoRoomAt, Given}
+use Rattle.demands.specs.Given.{Faultless, NoRoomAfter, Given}
 use Rattle.demands.specs.Given as given
-use Rattle.demands.proofs.GivenLaws.{roomy, given-judged, judged-given}
-use Rattle.demands.proofs.FirstLaws.{all-or-first}
+use Rattle.demands.proofs.GivenLaws.{room-or-not, given-judged, judged-given}
 
 -- ---- one answer, one state of the buffers
 pub walkIs-some : (c : Corner) (os t ms ch : List ℕ) → (r : Answer) × (t′ : List ℕ) × (ms′ : List ℕ) × (ch′ : List ℕ) × WalkIs c os t ms ch r t′ ms′ ch′
@@ -66,33 +64,21 @@ module _ {c : Corner} {os t ms ch t′ ms′ ch′ : List ℕ} {r : Answer} (w :
     λ g. w .answer ∙ ap (λ (j : Judged). answerBy j (factsOf c (survivors os))) (given-judged c os (length t) (length ms) (length ch) Good g),
   )
 
--- "no room" at a place, and at some place
-module _ {os t ms ch t′ ms′ ch′ : List ℕ} {r : Answer} (w : WalkIs origin os t ms ch r t′ ms′ ch′) where
-  abbrev records : ℕ
-  records = recordsIn (length t)
-
-  pub no-room-at : (i : ℕ) → r ≡ Answer.Refused (NoRoom i) ↔ Faultless os (length t) (length ms) (length ch) × NoRoomAt origin os (recordsIn (length t)) i
-  no-room-at i = (λ e. parts (refused-when w (NoRoom i) .0 e), λ g. refused-when w (NoRoom i) .1 (given.noRoom i (g .0) (g .1)))
+  -- "no room" at a place, and at some place
+  pub no-room-at : (i : ℕ) → r ≡ Answer.Refused (NoRoom i) ↔ Faultless os (length t) (length ms) (length ch) × ((k : ℕ) × NoRoomAfter c os (recordsIn (length t)) k × (i ≡ pred k))
+  no-room-at i = (λ e. parts (refused-when (NoRoom i) .0 e), λ g. refused-when (NoRoom i) .1 (given.noRoom i (g .1 .0) (g .0) (g .1 .1) (g .1 .2)))
     where
-      parts : Given origin os (length t) (length ms) (length ch) (Refused (NoRoom i)) → Faultless os (length t) (length ms) (length ch) × NoRoomAt origin os (recordsIn (length t)) i
-      parts (given.noRoom _ f n) = (f, n)
+      parts : Given c os (length t) (length ms) (length ch) (Refused (NoRoom i)) → Faultless os (length t) (length ms) (length ch) × ((k : ℕ) × NoRoomAfter c os (recordsIn (length t)) k × (i ≡ pred k))
+      parts (given.noRoom _ k f n e) = (f, (k, n, e))
 
-  -- with room after each operation there is room at every moment: at first the root alone is in use
-  pub always-room : Faultless os (length t) (length ms) (length ch) → ((h : ℕ) → h < length os → nodesAfter origin os (suc h) ≤ records) → (k : ℕ) → k ≤ length os → nodesAfter origin os k ≤ records
-  always-room f a zero l =
-      let x = f .sized .table in
-      let e : length t ≡ x .0 * width = x .3 in
-      omega (arith, x .1)
-  always-room f a (suc k) l = a k (omega arith)
-
-  pub no-room-when : ((i : ℕ) × (r ≡ Answer.Refused (NoRoom i))) ↔ Faultless os (length t) (length ms) (length ch) × ((k : ℕ) × (k ≤ length os) × Exceeds (nodesAfter origin os k) (recordsIn (length t)))
+  pub no-room-when : ((i : ℕ) × (r ≡ Answer.Refused (NoRoom i))) ↔ Faultless os (length t) (length ms) (length ch) × ((k : ℕ) × (k ≤ length os) × Exceeds (nodesAfter c os k) (recordsIn (length t)))
   no-room-when = (
-    λ x. let h = no-room-at (x .0) .0 (x .1) in (h .0, (suc (x .0), omega (arith, h .1 .inside), h .1 .here)),
+    λ x. let h = no-room-at (x .0) .0 (x .1) in let n = h .1 .1 in (h .0, (h .1 .0, omega (arith, n .inside), n .here)),
     λ x.
         ⊎-elim
-        (λ a. let y = x .1 in absurd (omega (arith, always-room (x .0) a (y .0) (y .1), y .2)))
-        (λ y. (y .0, no-room-at (y .0) .1 (x .0, y .1)))
-        (all-or-first (length os) (λ i. nodesAfter origin os (suc i) ≤ records) (λ i. records < nodesAfter origin os (suc i)) (roomy origin os (length t) (length ms) (length ch))),
+        (λ a. let y = x .1 in absurd (omega (arith, a (y .0) (y .1), y .2)))
+        (λ y. (pred (y .0), no-room-at (pred (y .0)) .1 (x .0, (y .0, y .1, refl))))
+        (room-or-not c os (length t) (length ms) (length ch)),
   )
 
 -- ---- the buffers of a refused call

@@ -2,7 +2,7 @@
 -- Assumes nothing.
 use mathlib.Core.List.{List}
 use mathlib.Core.Path.{_≡_}
-use Prim.Native.Nat.{ℕ, suc, _*_, _<_, _≤_}
+use Prim.Native.Nat.{ℕ, suc, _*_, _<_, _≤_, pred}
 use lib.ListN.{length, getD}
 use Rattle.answer.specs.declared.Judged.{Judged}
 use Rattle.answer.specs.declared.Judged.the-variants.{Good, Refused}
@@ -53,11 +53,11 @@ pub record Faultless (os : List ℕ) (words marks chain : ℕ) : Type 0 where
   pub sized : Sized os words marks chain
   pub fine : (i : ℕ) → i < length os → FineAt os i
 
--- after operation i, and after none before it, the nodes needed exceed the records
-abbrev pub NoRoomAt : Corner → List ℕ → ℕ → ℕ → Type 0
-NoRoomAt c os records i = First (length os) (λ h. nodesAfter c os (suc h) ≤ records) (λ h. Exceeds (nodesAfter c os (suc h)) records) i
+-- k operations are the fewest after which the nodes needed exceed the records
+abbrev pub NoRoomAfter : Corner → List ℕ → ℕ → ℕ → Type 0
+NoRoomAfter c os records k = First (suc (length os)) (λ h. nodesAfter c os h ≤ records) (λ h. Exceeds (nodesAfter c os h) records) k
 
--- the occasion of each judgement
+-- the occasion of each judgement; the place of "no room" is k - 1, and 0 before the first operation
 pub data Given (c : Corner) (os : List ℕ) (words marks chain : ℕ) : Judged → Type 0 where
   tooMany : mostInput < length os → Given c os words marks chain (Refused TooMany)
   table : length os ≤ mostInput → (HasRecords words → ⊥) → Given c os words marks chain (Refused Table)
@@ -65,5 +65,5 @@ pub data Given (c : Corner) (os : List ℕ) (words marks chain : ℕ) : Judged �
   badDigit : (i : ℕ) → Sized os words marks chain → First (length os) (FineAt os) (BadDigitAt os) i → Given c os words marks chain (Refused (BadDigit i))
   nothingToTake : (i : ℕ) → Sized os words marks chain → First (length os) (FineAt os) (NothingAt os) i → Given c os words marks chain (Refused (NothingToTake i))
   tooLong : (i : ℕ) → Sized os words marks chain → First (length os) (FineAt os) (TooLongAt os) i → Given c os words marks chain (Refused (TooLong i))
-  noRoom : (i : ℕ) → Faultless os words marks chain → NoRoomAt c os (recordsIn words) i → Given c os words marks chain (Refused (NoRoom i))
-  accepted : Faultless os words marks chain → ((h : ℕ) → h < length os → nodesAfter c os (suc h) ≤ recordsIn words) → Given c os words marks chain Good
+  noRoom : (i k : ℕ) → Faultless os words marks chain → NoRoomAfter c os (recordsIn words) k → i ≡ pred k → Given c os words marks chain (Refused (NoRoom i))
+  accepted : Faultless os words marks chain → ((k : ℕ) → k ≤ length os → nodesAfter c os k ≤ recordsIn words) → Given c os words marks chain Good

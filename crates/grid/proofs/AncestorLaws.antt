@@ -10,8 +10,7 @@ use lib.ListN.{length, getD}
 use Rattle.lists.specs.Lists.{Distinct}
 use Rattle.lists.proofs.GatherLaws.{distinct-snoc}
 use Rattle.grid.specs.declared.Corner.{Corner}
-use Rattle.grid.specs.Grid.{origin}
-use Rattle.grid.specs.Tree.{parentOf, isRoot, sizeOf, AncestorAt, ancestorsBy, lineageOf, pathOf}
+use Rattle.grid.specs.Tree.{root, parentOf, isRoot, sizeOf, AncestorAt, ancestorsBy, lineageOf, pathOf}
 use Rattle.grid.proofs.CornerLaws.{same-sound}
 use Rattle.grid.proofs.PathLaws.{root-of-size, sizeOf-parentOf, pathOf-root, pathOf-snoc, tree-ind}
 
@@ -81,10 +80,10 @@ path-ancestor c a =
     c
 
 -- it starts at the root
-pub pathOf-first : (c : Corner) → (r : List Corner) × (pathOf c ≡ origin ∷ r)
+pub pathOf-first : (c : Corner) → (r : List Corner) × (pathOf c ≡ root ∷ r)
 pathOf-first =
-    tree-ind (λ c. (r : List Corner) × (pathOf c ≡ origin ∷ r))
-    (λ c e. ([], pathOf-root c e ∙ ap (λ (x : Corner). x ∷ []) (same-sound c origin e)))
+    tree-ind (λ c. (r : List Corner) × (pathOf c ≡ root ∷ r))
+    (λ c e. ([], pathOf-root c e ∙ ap (λ (x : Corner). x ∷ []) (same-sound c root e)))
     (λ c e ih. (ih .0 ++ (c ∷ []), pathOf-snoc c e ∙ ap (λ (l : List Corner). l ++ (c ∷ [])) (ih .1)))
 
 -- no corner stands on it twice: the magnitudes grow along it

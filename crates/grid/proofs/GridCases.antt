@@ -4,7 +4,7 @@ use mathlib.Core.List.{[], _∷_}
 use mathlib.Core.Path.{_≡_, refl}
 use lib.IntN.{pos, negsuc}
 use Rattle.grid.specs.Grid.{corner, origin, cornersFrom, cornerAt}
-use Rattle.grid.specs.Tree.{halfOf, lineageOf, pathOf, slotOf, childWord}
+use Rattle.grid.specs.Tree.{root, halfOf, lineageOf, pathOf, slotOf, childWord}
 
 -- -1 is a child of 0
 half-of-minus-one : halfOf (negsuc 0) ≡ pos 0
@@ -42,10 +42,10 @@ slots-below-minus-one : slotOf (negsuc 1) ∷ slotOf (negsuc 2) ∷ [] ≡ 1 ∷
 slots-below-minus-one = refl
 
 -- a node and its ancestors, and the same from the root
-lineage-of-five : lineageOf (corner (pos 5) (negsuc 1)) ≡ corner (pos 5) (negsuc 1) ∷ corner (pos 2) (negsuc 0) ∷ corner (pos 1) (pos 0) ∷ origin ∷ []
+lineage-of-five : lineageOf (corner (pos 5) (negsuc 1)) ≡ corner (pos 5) (negsuc 1) ∷ corner (pos 2) (negsuc 0) ∷ corner (pos 1) (pos 0) ∷ root ∷ []
 lineage-of-five = refl
 
-path-of-five : pathOf (corner (pos 5) (negsuc 1)) ≡ origin ∷ corner (pos 1) (pos 0) ∷ corner (pos 2) (negsuc 0) ∷ corner (pos 5) (negsuc 1) ∷ []
+path-of-five : pathOf (corner (pos 5) (negsuc 1)) ≡ root ∷ corner (pos 1) (pos 0) ∷ corner (pos 2) (negsuc 0) ∷ corner (pos 5) (negsuc 1) ∷ []
 path-of-five = refl
 
 -- east, north, west, west, south

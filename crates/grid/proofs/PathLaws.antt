@@ -7,8 +7,8 @@ use Prim.Native.Nat.{ℕ, zero, suc, _+_, _/_, _<_, _≤_}
 use native.Mathlib.Omega.{arith}
 use lib.IntN.{ℤ, pos, negsuc, negℤ, natAbs}
 use Rattle.grid.specs.declared.Corner.{Corner}
-use Rattle.grid.specs.Grid.{corner, origin}
-use Rattle.grid.specs.Tree.{halfOf, parentOf, isRoot, sizeOf, descentBy, pathOf}
+use Rattle.grid.specs.Grid.{corner}
+use Rattle.grid.specs.Tree.{root, halfOf, parentOf, isRoot, sizeOf, descentBy, pathOf}
 use Rattle.grid.proofs.GridCases as cases
 
 natAbs-neg : (k : ℕ) → natAbs (negℤ (pos k)) ≡ k
@@ -25,7 +25,7 @@ natAbs-zero (negsuc n) e = absurd (omega arith)
 
 pub root-of-size : (c : Corner) → sizeOf c ≡ 0 → isRoot c ≡ true
 root-of-size c e =
-    let h : c ≡ origin = ap₂ corner (natAbs-zero (c .0) (omega arith)) (natAbs-zero (c .1) (omega arith)) in
+    let h : c ≡ root = ap₂ corner (natAbs-zero (c .0) (omega arith)) (natAbs-zero (c .1) (omega arith)) in
     rw h refl
 
 pub size-pos : (c : Corner) → isRoot c ≡ false → 0 < sizeOf c

@@ -1,18 +1,22 @@
 -- The tree over the corners: parent, ancestors, child index (01, "The tree"). Assumes nothing.
 use Rattle.lists.specs.Lists.{_≡_, Bool, true, false, List, [], _∷_, _++_, ℕ, zero, suc, _+_, _*_, _/_, _%_, ℤ, pos, negsuc, negℤ, natAbs}
-use Rattle.grid.specs.{declared.Corner.Corner, Grid.corner, Grid.origin, Grid.same}
+use Rattle.grid.specs.{declared.Corner.Corner, Grid.corner, Grid.same}
 
 -- half the magnitude, rounded down, with the sign kept
 abbrev pub halfOf : ℤ → ℤ
 halfOf (pos n) = pos (n / 2)
 halfOf (negsuc n) = negℤ (pos (suc n / 2))
 
--- the parent halves each coordinate; the root, (0,0), has none
-abbrev pub parentOf : Corner → Corner
-parentOf c = corner (halfOf (c .0)) (halfOf (c .1))
+-- the root of the tree
+abbrev pub root : Corner
+root = corner (pos 0) (pos 0)
 
 abbrev pub isRoot : Corner → Bool
-isRoot c = same c origin
+isRoot c = same c root
+
+-- the parent halves each coordinate; the root has none
+abbrev pub parentOf : Corner → Corner
+parentOf c = corner (halfOf (c .0)) (halfOf (c .1))
 
 -- the sum of the magnitudes, which falls from a node to its parent
 abbrev pub sizeOf : Corner → ℕ

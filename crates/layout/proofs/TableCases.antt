@@ -7,6 +7,7 @@ use lib.IntN.{pos}
 use lib.ListN.{drop}
 use Rattle.grid.specs.declared.Corner.{Corner}
 use Rattle.grid.specs.Grid.{corner, origin, cornersFrom}
+use Rattle.grid.specs.Tree.{root}
 use Rattle.tree.specs.Nodes.{nodesOf}
 use Rattle.layout.specs.Table.{width, recordOf, tableOf}
 use Rattle.layout.specs.Marks.{marksOf, chainOf}
@@ -27,7 +28,7 @@ unfolding recordAfter
 visited-later = refl
 
 -- the root of 01223: five children in five words, and a link to the east alone, though the corners north and west are nodes
-root-record : recordAfter (0 ∷ 1 ∷ 2 ∷ 2 ∷ 3 ∷ []) origin
+root-record : recordAfter (0 ∷ 1 ∷ 2 ∷ 2 ∷ 3 ∷ []) root
     ≡ 0 ∷ 0 ∷ 6 ∷ 5 ∷ 0 ∷ 0 ∷ 4 ∷ 0 ∷ 2 ∷ 3 ∷ 2 ∷ 0 ∷ 0 ∷ 0 ∷ 1 ∷ 0 ∷ 0 ∷ 0 ∷ 1 ∷ 0 ∷ 1 ∷ []
 unfolding recordAfter
 root-record = refl

@@ -14,12 +14,12 @@ use Rattle.answer.specs.declared.Judged.{Judged}
 use Rattle.answer.specs.declared.Refusal.{Refusal}
 use Rattle.answer.specs.declared.Facts.{Facts}
 use Rattle.answer.specs.declared.Answer.{Answer}
-use Rattle.answer.proofs.RefusalLaws.{clear}
 use Rattle.steps.specs.Operations.{survivors, Walkable}
+use Rattle.walk_call.proofs.JudgedLaws.{walk-fits}
 use Rattle.steps.specs.Turns.{stepsOf, turnsJudged, writtenIf, ConvertedBy}
 use Rattle.steps.proofs.SurvivorLaws.{walkable-survivors, length-survivors}
 use Rattle.layout.specs.Marks.{chainOf}
-use Rattle.walk_call.specs.Walk.{walkJudgements, walkJudged, factsOf, answerBy, walkAnswer, bufferBy, WalkIs}
+use Rattle.walk_call.specs.Walk.{walkJudged, factsOf, answerBy, walkAnswer, bufferBy, WalkIs}
 use Rattle.hull_laws.specs.Outline.{hullOf}
 use Rattle.line_frame.specs.Spelled.{refusedLine, factsLine, hullLine, answerLine, walkedLine, turnedBy, turnedLine}
 use Rattle.line_frame.specs.Line.{lineAnswer}
@@ -73,8 +73,8 @@ module _ {os t ms ch : List ℕ} {h : List ℤ} {r : Answer} {t′ ms′ ch′ :
 
     sound : Walkable (survivors os)
     sound =
-        let k = clear (walkJudgements origin os (length t) (length ms) (length ch)) (both .0) in
-        walkable-survivors 0 [] os (record { digits = tt; few = omega arith }) (k .1 .1 .1 .0)
+        let k = walk-fits origin os (length t) (length ms) (length ch) (both .0) in
+        walkable-survivors 0 [] os (record { digits = tt; few = omega arith }) (k .0 .fine)
 
     count : f .steps ≡ length (survivors os)
     count = sym (ap (λ (g : Facts). g .steps) (both .1))

@@ -8,8 +8,8 @@ use Prim.Native.Nat.{ℕ, max}
 use native.Mathlib.Omega.{arith}
 use lib.ListN.{length, length-append}
 use Rattle.grid.specs.declared.Corner.{Corner}
-use Rattle.grid.specs.Grid.{origin, same}
-use Rattle.grid.specs.Tree.{parentOf, isRoot, pathOf}
+use Rattle.grid.specs.Grid.{same}
+use Rattle.grid.specs.Tree.{root, parentOf, isRoot, pathOf}
 use Rattle.grid.proofs.CornerLaws.{same-sound, same-refl}
 use Rattle.lists.specs.Lists.{gather, Distinct}
 use Rattle.lists.proofs.FindLaws.{find-le, distinct-split}
@@ -39,7 +39,7 @@ path-last : (S : State) → Sound S → (e : Corner) → Last (length (S .nodes)
 path-last S sound e = subst (λ (ns : List Corner). Last (length (S .nodes)) ns e) (sym (f .nodes)) (go (f .ends))
   where
     f : Fresh (S .nodes) e
-    f = fresh (S .nodes) (sound .good .closed) (subst (List·Memᴰ origin) (sym (sound .good .root .1)) (List·Memᴰ·head refl)) e
+    f = fresh (S .nodes) (sound .good .closed) (subst (List·Memᴰ root) (sym (sound .good .root .1)) (List·Memᴰ·head refl)) e
 
     apart : Distinct (S .nodes ++ f .new)
     apart = subst Distinct (f .nodes) (distinct-gather same same-sound same-refl (S .nodes) (pathOf e) (sound .good .distinct))

@@ -10,8 +10,8 @@ use borrow.Author.Tests.{ltb-true, ltb-false}
 use lib.Dec.{ltb}
 use lib.ListN.{length, length-append, length-replicate, getD, set, replicate}
 use Rattle.grid.specs.declared.Corner.{Corner}
-use Rattle.grid.specs.Grid.{origin, same, stepped}
-use Rattle.grid.specs.Tree.{parentOf, isRoot, sizeOf, pathOf, childWord}
+use Rattle.grid.specs.Grid.{same, stepped}
+use Rattle.grid.specs.Tree.{root, parentOf, isRoot, sizeOf, pathOf, childWord}
 use Rattle.lists.specs.Lists.{add, gather}
 use Rattle.tree.specs.Nodes.{refOf}
 use Rattle.layout.specs.Table.{width, recordsIn, wordAt, parentWord, neighbourWord, needWord}
@@ -92,7 +92,7 @@ finish-none o u e d s q = ap (λ (n : ℕ). either n) q
     either : ℕ → Out
     either n = elim n [ zero ↦ o | suc p ↦ joinIn (childIn (o .table) (o .nodes) p (childWord e) s) u d s ]
 
-pub root-child : (d : ℕ) → parentOf (stepped d origin) ≡ origin
+pub root-child : (d : ℕ) → parentOf (stepped d root) ≡ root
 root-child zero = refl
 root-child (suc zero) = refl
 root-child (suc (suc zero)) = refl
@@ -155,7 +155,7 @@ module _ (words : ℕ) (S : State) (sound : Sound S) (s d : ℕ) (pos : 0 < s) (
 
       go : (b : Bool) → isRoot a ≡ b → (g : Bool) → same (parentOf a) (parentOf (stepped d a)) ≡ g → is (raised S s a (stepped d a)) o₁
       go true r g k =
-          let z : a ≡ origin = root-is a r in
+          let z : a ≡ root = root-is a r in
           let x : o₁ ≡ out (tableBy words S) (u + 1) (length (S .nodes)) = rw (r, aboveIn) in
           let y : raised S s a (stepped d a) ≡ S = rw (r, raised) in
           let p : parentOf (stepped d a) ≡ a = ap (λ (c : Corner). parentOf (stepped d c)) z ∙ root-child d ∙ sym z in

@@ -9,8 +9,8 @@ use native.Mathlib.Omega.{arith}
 use lib.ListN.{length, length-append, set, replicate}
 use lib.Seq.{sets}
 use Rattle.grid.specs.declared.Corner.{Corner}
-use Rattle.grid.specs.Grid.{origin, same, stepped, cornersFrom, endFrom}
-use Rattle.grid.specs.Tree.{parentOf, isRoot, pathOf, childWord}
+use Rattle.grid.specs.Grid.{same, stepped, cornersFrom, endFrom}
+use Rattle.grid.specs.Tree.{parentOf, isRoot, pathOf, childWord, root}
 use Rattle.layout.specs.Table.{width, wordAt, childRefOf, tableOf}
 use Rattle.lists.specs.Lists.{any, add, gather}
 use Rattle.tree.specs.Nodes.{links, refOf}
@@ -70,7 +70,7 @@ module _ (S : State) (sound : Sound S) (s : ℕ) (a e : Corner) where
     nodes = right-nodes (S .nodes) (S .step) (sound .good) s a e h;
     step = λ x y f. right-links (S .nodes) (S .step) (sound .good) s a e z h x y;
     visits = λ x. refl;
-    need = needed-known (S .nodes) (S .need) s e (sound .good .closed) (Memᴰ·cast (same-sound e origin h) (rw (sound .good .root .1) (List·Memᴰ·head refl)));
+    need = needed-known (S .nodes) (S .need) s e (sound .good .closed) (Memᴰ·cast (same-sound e root h) (rw (sound .good .root .1) (List·Memᴰ·head refl)));
     first = λ x. refl;
   }
 
@@ -153,20 +153,20 @@ module _ (S : State) (sound : Sound S) (s : ℕ) (h : Corner) where
 
   -- the loop that drops the nodes: one more, or all
   module _ (small : (x : Corner) → S .need x < s) where
-    root : List·Memᴰ origin (S .nodes)
-    root = rw (sound .good .root .1) (List·Memᴰ·head refl)
+    top : List·Memᴰ root (S .nodes)
+    top = rw (sound .good .root .1) (List·Memᴰ·head refl)
 
     pub dropping-stop : (needed (S .nodes) (S .need) s h h ≡ s → ⊥) → Alike (unlinking S s h (S .step)) S
     dropping-stop f =
-        let k = drop-stop (S .nodes) (sound .good .closed) root (S .need) s small h f in
+        let k = drop-stop (S .nodes) (sound .good .closed) top (S .need) s small h f in
         record { nodes = k .0; step = λ x y g. refl; visits = λ x. refl; need = k .1; first = λ x. refl }
 
     pub dropping-next : needed (S .nodes) (S .need) s h h ≡ s → Alike (unlinking S s h (S .step)) (withNode (unlinking S s (parentOf h) (S .step)) h s)
     dropping-next n = record {
-      nodes = drop-next (S .nodes) (sound .good .closed) root (S .need) s small h n;
+      nodes = drop-next (S .nodes) (sound .good .closed) top (S .need) s small h n;
       step = λ x y g. refl;
       visits = λ x. refl;
-      need = drop-needs (S .nodes) (sound .good .closed) root (S .need) s small h n;
+      need = drop-needs (S .nodes) (sound .good .closed) top (S .need) s small h n;
       first = λ x. refl;
     }
 
@@ -177,7 +177,7 @@ pub dropping-table : (S : State) → Sound S → (s : ℕ) (h : Corner) → ((x 
 dropping-table S sound s h small k words u n r l room =
     let T : State = unlinking S s (parentOf h) (S .step) in
     let z : List ℕ = replicate width 0 in
-    let top : List·Memᴰ origin (S .nodes) = rw (sound .good .root .1) (List·Memᴰ·head refl) in
+    let top : List·Memᴰ root (S .nodes) = rw (sound .good .root .1) (List·Memᴰ·head refl) in
     ap (λ (t : List ℕ). sets (set t (wordAt u (childWord h)) 0) (n * width) z) (alike-table words (unlinking S s h (S .step)) (withNode T h s) (dropping-next S sound s h small k))
     ∙ ap (λ (m : ℕ). sets (set (tableBy words (withNode T h s)) (wordAt u (childWord h)) 0) (m * width) z) (sym l)
     ∙ drop-table T (sound-dropping S sound s (parentOf h)) h s

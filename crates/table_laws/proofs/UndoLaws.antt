@@ -9,8 +9,8 @@ use native.Mathlib.Omega.{arith}
 use lib.ListN.{length, length-append, getD, set, replicate}
 use lib.Seq.{sets}
 use Rattle.grid.specs.declared.Corner.{Corner}
-use Rattle.grid.specs.Grid.{origin, same, stepped}
-use Rattle.grid.specs.Tree.{parentOf, isRoot, pathOf, childWord}
+use Rattle.grid.specs.Grid.{same, stepped}
+use Rattle.grid.specs.Tree.{root, parentOf, isRoot, pathOf, childWord}
 use Rattle.lists.specs.Lists.{gather}
 use Rattle.tree.specs.Nodes.{refOf}
 use Rattle.layout.specs.Table.{width, wordAt, parentWord, neighbourWord, linkWord, needWord}
@@ -129,7 +129,7 @@ module _ (words : ℕ) (S : State) (sound : Sound S) (s : ℕ) (pos : 0 < s) whe
         new : needed (S .nodes) (S .need) s h h ≡ s
         new = sym drop-reads ∙ e
 
-        top : List·Memᴰ origin (S .nodes)
+        top : List·Memᴰ root (S .nodes)
         top = rw (sound .good .root .1) (List·Memᴰ·head refl)
 
         deep : isRoot h ≡ false

@@ -11,8 +11,8 @@ use Rattle.lists.proofs.FindLaws.{find-pos}
 use Rattle.lists.proofs.GatherLaws.{gather-more, mem→any, mem-gather-right, mem-gather-cases}
 use Rattle.lists.proofs.KeepLaws.{keep, gather-keep}
 use Rattle.grid.specs.declared.Corner.{Corner}
-use Rattle.grid.specs.Grid.{origin, same}
-use Rattle.grid.specs.Tree.{parentOf, isRoot, pathOf}
+use Rattle.grid.specs.Grid.{same}
+use Rattle.grid.specs.Tree.{root, parentOf, isRoot, pathOf}
 use Rattle.grid.proofs.AncestorLaws.{ancestor-parent, ancestor-path, path-ancestor, pathOf-first, pathOf-distinct}
 use Rattle.grid.proofs.CornerLaws.{same-refl, same-sound}
 use Rattle.tree.specs.Nodes.{pathsOf, nodesOf, refOf, InUse}
@@ -35,10 +35,10 @@ pub parent-inUse : (ps : List Corner) (a : Corner) → isRoot a ≡ false → In
 parent-inUse ps a r u = (u .0, u .1, (suc (u .2 .0), ancestor-parent (u .2 .0) (u .0) a r (u .2 .1)))
 
 -- the root is number 0
-pub nodesOf-first : (p : Corner) (ps : List Corner) → (r : List Corner) × (nodesOf (p ∷ ps) ≡ origin ∷ r)
+pub nodesOf-first : (p : Corner) (ps : List Corner) → (r : List Corner) × (nodesOf (p ∷ ps) ≡ root ∷ r)
 nodesOf-first p ps =
     let h = pathOf-first p in
-    let k = gather-more same (origin ∷ []) (h .0 ++ pathsOf ps) in
+    let k = gather-more same (root ∷ []) (h .0 ++ pathsOf ps) in
     (k .0, ap (λ (l : List Corner). gather same [] (l ++ pathsOf ps)) (h .1) ∙ k .1)
 
 -- a corner more adds its path's nodes that are not in use yet, in the order of the path

@@ -10,8 +10,8 @@ use borrow.Author.Tests.{eqb-true}
 use lib.Dec.{eqb}
 use lib.ListN.{length}
 use Rattle.grid.specs.declared.Corner.{Corner}
-use Rattle.grid.specs.Grid.{origin, same}
-use Rattle.grid.specs.Tree.{parentOf, isRoot, sizeOf, pathOf, childWord}
+use Rattle.grid.specs.Grid.{same}
+use Rattle.grid.specs.Tree.{root, parentOf, isRoot, sizeOf, pathOf, childWord}
 use Rattle.layout.specs.Table.{childRefOf}
 use Rattle.lists.specs.Lists.{any, add, gather}
 use Rattle.tree.specs.Nodes.{refOf}
@@ -132,7 +132,7 @@ unfolding last-of
 last-snoc q [] c = refl
 last-snoc q (x ∷ l) c = last-snoc x l c
 
-module _ (ns : List Corner) (closed : (c : Corner) → List·Memᴰ c ns → isRoot c ≡ false → List·Memᴰ (parentOf c) ns) (root : List·Memᴰ origin ns) where
+module _ (ns : List Corner) (closed : (c : Corner) → List·Memᴰ c ns → isRoot c ≡ false → List·Memᴰ (parentOf c) ns) (top : List·Memᴰ root ns) where
   fresh-known : (c : Corner) → List·Memᴰ c ns → Fresh ns c
   fresh-known c m = record {
     old = pathOf c;
@@ -199,7 +199,7 @@ module _ (ns : List Corner) (closed : (c : Corner) → List·Memᴰ c ns → isR
   pub fresh : (c : Corner) → Fresh ns c
   fresh =
       tree-ind (λ c. Fresh ns c)
-      (λ c e. fresh-known c (Memᴰ·cast (same-sound c origin e) root))
+      (λ c e. fresh-known c (Memᴰ·cast (same-sound c root e) top))
       (λ c e ih. go c e ih (any (same c) ns) refl)
     where
       go : (c : Corner) → isRoot c ≡ false → Fresh ns (parentOf c) → (b : Bool) → any (same c) ns ≡ b → Fresh ns c

@@ -13,7 +13,7 @@ use lib.IntN.{natAbs}
 use lib.ListN.{length, length-append}
 use Rattle.grid.specs.declared.Corner.{Corner}
 use Rattle.grid.specs.Grid.{origin, same, stepped, cornersFrom}
-use Rattle.grid.specs.Tree.{parentOf, isRoot, sizeOf, pathOf}
+use Rattle.grid.specs.Tree.{root, parentOf, isRoot, sizeOf, pathOf}
 use Rattle.lists.specs.Lists.{add, gather}
 use Rattle.trace.specs.Meeting.{visitedOf}
 use Rattle.tree.specs.Nodes.{pathsOf, nodesOf}
@@ -146,11 +146,11 @@ record Cover (qs : List Corner) : Type 0 where
   holds : (a : Corner) → List·Memᴰ a (pathsOf (origin ∷ qs)) → List·Memᴰ a list
   short : length list + 3 ≤ 4 * length (gather same (origin ∷ []) qs)
 
-root-is : (c : Corner) → isRoot c ≡ true → c ≡ origin
-root-is c e = same-sound c origin e
+root-is : (c : Corner) → isRoot c ≡ true → c ≡ root
+root-is c e = same-sound c root e
 
-path-origin : (p a : Corner) → isRoot p ≡ true → List·Memᴰ a (pathOf p) → a ≡ origin
-path-origin p a e m = List·Memᴰ·eq-of-singleton (subst (λ l. List·Memᴰ a l) (pathOf-root p e) m) ∙ root-is p e
+path-root : (p a : Corner) → isRoot p ≡ true → List·Memᴰ a (pathOf p) → a ≡ root
+path-root p a e m = List·Memᴰ·eq-of-singleton (subst (λ l. List·Memᴰ a l) (pathOf-root p e) m) ∙ root-is p e
 
 size-half : (c : Corner) (n : ℕ) → sizeOf c ≤ suc n → sizeOf (parentOf c) ≤ n
 size-half c n h = omega (arith, natAbs-halfOf (c .0), natAbs-halfOf (c .1))
@@ -162,7 +162,7 @@ cover-holds qs g cs e f a m =
     go (h .0) (h .1) (h .2) (isRoot (h .0)) refl
   where
     go : (p : Corner) → List·Memᴰ p (origin ∷ qs) → List·Memᴰ a (pathOf p) → (b : Bool) → isRoot p ≡ b → List·Memᴰ a (g ++ cs)
-    go p n k true r = Memᴰ·append-right g (f a (mem-paths (origin ∷ map parentOf qs) (List·Memᴰ·head refl) (List·Memᴰ·head (path-origin p a r k))))
+    go p n k true r = Memᴰ·append-right g (f a (mem-paths (origin ∷ map parentOf qs) (List·Memᴰ·head refl) (List·Memᴰ·head (path-root p a r k))))
     go p n k false r =
         ⊎-elim
         (λ u. Memᴰ·append-right g (f a (mem-paths (origin ∷ map parentOf qs) (Memᴰ·map parentOf n) u)))
@@ -176,10 +176,10 @@ cover : (n : ℕ) (qs : List Corner) → Trail origin qs → ((q : Corner) → L
 cover zero qs t b =
     let g = gather-more same (origin ∷ []) qs in
     record {
-      list = origin ∷ [];
+      list = root ∷ [];
       holds = λ a m.
           let h = mem-paths-cases (origin ∷ qs) m in
-          List·Memᴰ·head (path-origin (h .0) a (root-of-size (h .0) (omega (arith, b (h .0) (h .1)))) (h .2));
+          List·Memᴰ·head (path-root (h .0) a (root-of-size (h .0) (omega (arith, b (h .0) (h .1)))) (h .2));
       short = omega (arith, ap length (g .1));
     }
 cover (suc n) qs t b =
@@ -268,11 +268,11 @@ cover-at : (n : ℕ) (c : Corner) (qs : List Corner) → Trail c qs → ((q : Co
 cover-at zero c qs t b =
     let g = gather-more same (c ∷ []) qs in
     record {
-      list = origin ∷ [];
+      list = root ∷ [];
       holds = λ a m.
           let h = mem-paths-cases (c ∷ qs) m in
           let w = b (h .0) (h .1) in
-          List·Memᴰ·head (path-origin (h .0) a (root-of-size (h .0) (omega (arith, w .x, w .y))) (h .2));
+          List·Memᴰ·head (path-root (h .0) a (root-of-size (h .0) (omega (arith, w .x, w .y))) (h .2));
       short = omega (arith, ap length (g .1));
     }
 cover-at (suc n) c qs t b =

@@ -8,8 +8,8 @@ use Prim.Native.Nat.{ℕ, zero, suc, _+_, _<_}
 use native.Mathlib.Omega.{arith}
 use lib.ListN.{length}
 use Rattle.grid.specs.declared.Corner.{Corner}
-use Rattle.grid.specs.Grid.{origin, same}
-use Rattle.grid.specs.Tree.{parentOf, isRoot, pathOf}
+use Rattle.grid.specs.Grid.{same}
+use Rattle.grid.specs.Tree.{root, parentOf, isRoot, pathOf}
 use Rattle.lists.specs.Lists.{any, find, add, gather}
 use Rattle.tree.specs.Nodes.{joins, links}
 use Rattle.grid.proofs.CornerLaws.{same-refl, same-sound}
@@ -22,8 +22,8 @@ use Rattle.tree_laws.proofs.LaterLaws.{later-old, later-new, later-none
 use Rattle.tree_laws.specs.State.{later, linked, put, WellLinked}
 use Rattle.tree_laws.proofs.LineageLaws.{links-left, links-right, links-step, links-same, links-size, links-flip, links-up, links-ends, pair-ind, path-up}
 
-pub root-is : (c : Corner) → isRoot c ≡ true → c ≡ origin
-root-is c e = same-sound c origin e
+pub root-is : (c : Corner) → isRoot c ≡ true → c ≡ root
+root-is c e = same-sound c root e
 
 -- gathering what is there changes nothing
 pub add-known : (ns : List Corner) (x : Corner) → List·Memᴰ x ns → add same ns x ≡ ns
@@ -105,7 +105,7 @@ order-gather ns closed ord =
     (λ e r ih. subst (λ l. Ordered l) (sym (nodes-step ns e r)) (order-add (gather same ns (pathOf (parentOf e))) (gather-closed ns closed (parentOf e)) ih e (λ h. mem-gather-right same same-sound same-refl ns (pathOf (parentOf e)) (mem-path (parentOf e)))))
 
 module _ (ns : List Corner) (L : Corner → Corner → ℕ) (good : WellLinked ns L) where
-  pub root-known : List·Memᴰ origin ns
+  pub root-known : List·Memᴰ root ns
   root-known = rw (good .root .1) (List·Memᴰ·head refl)
 
   -- where a and e are linked, a pair that is a and e is linked, and where they are not, it is not

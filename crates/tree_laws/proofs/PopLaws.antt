@@ -7,8 +7,8 @@ use mathlib.Core.Path.{_≡_, refl, ap, ap₂, sym, _∙_, subst}
 use Prim.Native.Nat.{ℕ, zero, suc, _+_, _-_, _<_}
 use native.Mathlib.Omega.{arith}
 use Rattle.grid.specs.declared.Corner.{Corner}
-use Rattle.grid.specs.Grid.{origin, same, stepped}
-use Rattle.grid.specs.Tree.{parentOf, isRoot, pathOf}
+use Rattle.grid.specs.Grid.{same, stepped}
+use Rattle.grid.specs.Tree.{root, parentOf, isRoot, pathOf}
 use Rattle.lists.specs.Lists.{any, gather, tally}
 use Rattle.tree.specs.Nodes.{joins, links}
 use Rattle.grid.proofs.CornerLaws.{same-refl, same-sound}
@@ -124,7 +124,7 @@ module _ (ns : List Corner) (L : Corner → Corner → ℕ) (good : WellLinked n
           )
 
 -- the loop that drops the nodes, from the node e up
-module _ (ns : List Corner) (closed : (c : Corner) → List·Memᴰ c ns → isRoot c ≡ false → List·Memᴰ (parentOf c) ns) (root : List·Memᴰ origin ns) (N : Corner → ℕ) (s : ℕ) (small : (x : Corner) → N x < s) where
+module _ (ns : List Corner) (closed : (c : Corner) → List·Memᴰ c ns → isRoot c ≡ false → List·Memᴰ (parentOf c) ns) (top : List·Memᴰ root ns) (N : Corner → ℕ) (s : ℕ) (small : (x : Corner) → N x < s) where
   -- a node whose need is the last step's number is new
   pub need-new : (e : Corner) → needed ns N s e e ≡ s → List·Memᴰ e ns → ⊥
   need-new e h m = omega (arith, small e, needed-known ns N s e closed m e)
@@ -145,7 +145,7 @@ module _ (ns : List Corner) (closed : (c : Corner) → List·Memᴰ c ns → isR
   drop-root e h = go (isRoot e) refl
     where
       go : (b : Bool) → isRoot e ≡ b → isRoot e ≡ false
-      go true p = absurd (need-new e h (Memᴰ·cast (root-is e p) root))
+      go true p = absurd (need-new e h (Memᴰ·cast (root-is e p) top))
       go false p = p
 
   pub drop-fresh : (e : Corner) → needed ns N s e e ≡ s → List·Memᴰ e (gather same ns (pathOf (parentOf e))) → ⊥

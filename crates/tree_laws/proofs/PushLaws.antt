@@ -10,8 +10,8 @@ use borrow.Author.Tests.{ne-eqb, eq-eqb}
 use lib.Dec.{eqb}
 use lib.ListN.{length, length-append}
 use Rattle.grid.specs.declared.Corner.{Corner}
-use Rattle.grid.specs.Grid.{origin, same, stepped, cornersFrom, endFrom}
-use Rattle.grid.specs.Tree.{parentOf, pathOf}
+use Rattle.grid.specs.Grid.{same, stepped, cornersFrom, endFrom}
+use Rattle.grid.specs.Tree.{root, parentOf, pathOf}
 use Rattle.lists.specs.Lists.{any, find, count, gather, zip, tally}
 use Rattle.trace.specs.Meeting.{visitedOf}
 use Rattle.tree.specs.Nodes.{pathsOf, nodesOf, legsOf, links}
@@ -57,20 +57,20 @@ mem-nodes-cases : (ps : List Corner) (x : Corner) → List·Memᴰ x (nodesOf ps
 mem-nodes-cases ps x m = mem-paths-cases ps (⊎-elim (λ k. absurd (List·Memᴰ·not-nil k)) (λ k. k) (mem-gather-cases same same-sound same-refl [] (pathsOf ps) m))
 
 -- a path begins at the root
-pub path-first : (c : Corner) → (r : List Corner) × (pathOf c ≡ origin ∷ r)
+pub path-first : (c : Corner) → (r : List Corner) × (pathOf c ≡ root ∷ r)
 path-first =
-    tree-ind (λ c. (r : List Corner) × (pathOf c ≡ origin ∷ r))
-    (λ c e. ([], pathOf-root c e ∙ ap (λ (x : Corner). x ∷ []) (same-sound c origin e)))
+    tree-ind (λ c. (r : List Corner) × (pathOf c ≡ root ∷ r))
+    (λ c e. ([], pathOf-root c e ∙ ap (λ (x : Corner). x ∷ []) (same-sound c root e)))
     (λ c e ih. (ih .0 ++ (c ∷ []), pathOf-snoc c e ∙ ap (λ (l : List Corner). l ++ (c ∷ [])) (ih .1)))
 
-paths-first : (c : Corner) (ds : List ℕ) → (r : List Corner) × (pathsOf (cornersFrom c ds) ≡ origin ∷ r)
+paths-first : (c : Corner) (ds : List ℕ) → (r : List Corner) × (pathsOf (cornersFrom c ds) ≡ root ∷ r)
 paths-first c [] = let h = path-first c in (h .0 ++ [], ap (λ (l : List Corner). l ++ []) (h .1))
 paths-first c (d ∷ ds) = let h = path-first c in (h .0 ++ pathsOf (cornersFrom (stepped d c) ds), ap (λ (l : List Corner). l ++ pathsOf (cornersFrom (stepped d c) ds)) (h .1))
 
 -- the invariant holds after every walk
 pub good-walk : (c : Corner) (ds : List ℕ) → WellLinked (nodesOf (cornersFrom c ds)) (stateOf (cornersFrom c ds) .step)
 good-walk c ds = record {
-  root = let h = paths-first c ds in let g = gather-more same (origin ∷ []) (h .0) in (g .0, ap (gather same []) (h .1) ∙ g .1);
+  root = let h = paths-first c ds in let g = gather-more same (root ∷ []) (h .0) in (g .0, ap (gather same []) (h .1) ∙ g .1);
   closed = λ x m e. let h = mem-nodes-cases ps x m in mem-nodes ps (h .0) (parentOf x) (h .1) (path-parent x (h .0) e (h .2));
   distinct = nodesOf-distinct ps;
   order = λ x m e. ref-parent ps x m e .1;

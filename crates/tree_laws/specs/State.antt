@@ -6,8 +6,8 @@ use mathlib.Core.Path.{_≡_}
 use Prim.Native.Nat.{ℕ, zero, suc, _+_, _-_, _*_, _<_, _≤_, pred}
 use lib.ListN.{length, replicate}
 use Rattle.grid.specs.declared.Corner.{Corner}
-use Rattle.grid.specs.Grid.{origin, same, stepped}
-use Rattle.grid.specs.Tree.{parentOf, isRoot, pathOf}
+use Rattle.grid.specs.Grid.{same, stepped}
+use Rattle.grid.specs.Tree.{root, parentOf, isRoot, pathOf}
 use Rattle.layout.specs.Table.{width, Fields, wordsOf, childRefOf}
 use Rattle.lists.specs.Lists.{any, find, count, gather, tally, Distinct}
 use Rattle.tree.specs.Nodes.{nodesOf, joins, links, legsOf, refOf}
@@ -29,7 +29,7 @@ put L s a e x y = cond (joins x y (a, e)) s (L x y)
 -- what holds of the nodes and the link steps at every moment: the root is first, the parents are there and come before, no
 -- node stands twice, a link's ends are nodes, it stands both ways, and the parents, where they differ, are linked too
 pub record WellLinked (ns : List Corner) (L : Corner → Corner → ℕ) : Type 0 where
-  pub root : (r : List Corner) × (ns ≡ origin ∷ r)
+  pub root : (r : List Corner) × (ns ≡ root ∷ r)
   pub closed : (c : Corner) → List·Memᴰ c ns → isRoot c ≡ false → List·Memᴰ (parentOf c) ns
   pub distinct : Distinct ns
   pub order : (c : Corner) → List·Memᴰ c ns → isRoot c ≡ false → refOf ns (parentOf c) < refOf ns c

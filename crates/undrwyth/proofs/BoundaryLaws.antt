@@ -34,7 +34,7 @@ answer-fits os t ms ch r t′ ms′ ch′ w = subst AnswerFits (sym (w .answer))
   where
     go : (j : Judged) → walkJudged origin os (length t) (length ms) (length ch) ≡ j → AnswerFits (answerBy (walkJudged origin os (length t) (length ms) (length ch)) (factsOf origin (survivors os)))
     go Good e =
-        let k = walk-few origin os (length t) (length ms) (length ch) (omega arith) e in
+        let k = walk-few origin os (length t) (length ms) (length ch) e in
         rw e (omega (arith, k .steps), omega (arith, k .nodes), omega (arith, k .corners), omega (arith, k .j), omega (arith, k .k))
     go (Refused x) e = rw e (omega (arith, subst (Placed 32768) e (walk-placed origin os (length t) (length ms) (length ch))))
 

@@ -2,9 +2,9 @@
 -- Assumes nothing.
 use mathlib.Core.Bool.{Bool, true, false, not}
 use mathlib.Core.List.{List, [], _∷_, _++_}
-use mathlib.Core.Logic.{_⊎_, inl, inr, ⊎-elim}
+use mathlib.Core.Logic.{_⊎_, inl, inr}
 use mathlib.Core.Path.{_≡_, refl, ap, ap₂, sym, subst, _∙_}
-use Prim.Native.Nat.{ℕ, suc, _-_, _≤_}
+use Prim.Native.Nat.{ℕ, suc, _-_, _≤_, pred, _+_}
 use native.Mathlib.Omega.{arith}
 use lib.Dec.{eqb, ltb}
 use lib.ListN.{length, take, replicate, getD, length-append, getD-replicate}
@@ -15,8 +15,8 @@ use Rattle.answer.specs.declared.Judged.{Judged}
 use Rattle.answer.specs.declared.Judged.the-variants.{Good, Refused}
 use Rattle.answer.specs.declared.Refusal.{Refusal}
 use Rattle.answer.specs.declared.Refusal.the-variants.{NoRoom}
-use Rattle.answer.specs.Refusal.{orElse, refusalNumber}
-use Rattle.walk_call.specs.Walk.{roomFrom, walkJudged, factsOf, answerBy, bufferBy, WalkIs}
+use Rattle.answer.specs.Refusal.{when, orElse, refusalNumber}
+use Rattle.walk_call.specs.Walk.{roomAt, roomFrom, walkJudged, factsOf, answerBy, bufferBy, WalkIs}
 use Rattle.walk_run.specs.Runs.{Chained}
 use Rattle.grid.specs.declared.Corner.{Corner}
 use Rattle.grid.specs.Grid.{origin, cornersFrom}
@@ -28,9 +28,10 @@ use Rattle.tree.specs.Nodes.{nodesOf}
 use Rattle.steps.specs.Operations.{operate, survivors}
 use Rattle.walk_table.proofs.CellLaws.{visit-first}
 use Rattle.table_laws.proofs.BackLaws.{start-table}
+use Rattle.walk_call.proofs.JudgedLaws.{judged-split}
 use Rattle.walk_input.specs.Input.{inputJudged}
 use Rattle.walk_facts.specs.Settled.{Settled}
-use Rattle.walk_input.proofs.JudgeLaws.{Early, early-input, judged-split}
+use Rattle.walk_input.proofs.JudgeLaws.{Early, early-input}
 use Rattle.walk.specs.Followed.{Followed}
 
 -- ---- the input
@@ -61,8 +62,9 @@ plant-table words t t′ e q h =
     ∙ start-table words h
 
 -- ---- the walk that is over
-pub settled-of : (t ch ds : List ℕ) (w : Walk) → Chained origin t ch ds w → Settled ch ds w
-settled-of t ch ds w k = record {
+pub settled-of : (c : Corner) (t ch ds : List ℕ) (w : Walk) → Chained c t ch ds w → Settled c ch ds w
+settled-of c t ch ds w k = record {
+  near = k .near;
   steps = k .known .walked .steps;
   few = k .sound .few;
   corner = k .known .walked .corner;
@@ -72,11 +74,12 @@ settled-of t ch ds w k = record {
   space = k .space;
 }
 
-pub settled-cleared : (ch ch′ ds : List ℕ) (w : Walk) → Settled ch ds w → ch′ ≡ take (w .spot .steps) ch ++ replicate (length ch - w .spot .steps) 0
-    → Settled ch′ ds w × (ch′ ≡ ds ++ replicate (length ch - length ds) 0)
-settled-cleared ch ch′ ds w k e =
+pub settled-cleared : (c : Corner) (ch ch′ ds : List ℕ) (w : Walk) → Settled c ch ds w → ch′ ≡ take (w .spot .steps) ch ++ replicate (length ch - w .spot .steps) 0
+    → Settled c ch′ ds w × (ch′ ≡ ds ++ replicate (length ch - length ds) 0)
+settled-cleared c ch ch′ ds w k e =
     let q : ch′ ≡ ds ++ replicate (length ch - length ds) 0 = e ∙ ap (λ (n : ℕ). take n ch ++ replicate (length ch - n) 0) (k .steps) ∙ ap (λ (l : List ℕ). l ++ replicate (length ch - length ds) 0) (sym (k .kept)) in (
       record {
+        near = k .near;
         steps = k .steps;
         few = k .few;
         corner = k .corner;
@@ -109,18 +112,23 @@ followed-all os t ms ch t′ ms′ ch′ ch″ w f k q e l n g h = record {
 }
 
 -- "no room" is all that the room can decide
-room-cases : (r : ℕ) (c : Corner) (i : ℕ) (ds os : List ℕ) → (roomFrom r c i ds os ≡ Good) ⊎ ((j : ℕ) × (roomFrom r c i ds os ≡ Refused (NoRoom j)))
-room-cases r c i ds [] = inl refl
-room-cases r c i ds (o ∷ os) = go (ltb r (length (nodesOf (cornersFrom c (operate ds o))))) refl (room-cases r c (suc i) (operate ds o) os)
-  where
-    go : (b : Bool) → ltb r (length (nodesOf (cornersFrom c (operate ds o)))) ≡ b
-        → (roomFrom r c (suc i) (operate ds o) os ≡ Good) ⊎ ((j : ℕ) × (roomFrom r c (suc i) (operate ds o) os ≡ Refused (NoRoom j)))
-        → (roomFrom r c i ds (o ∷ os) ≡ Good) ⊎ ((j : ℕ) × (roomFrom r c i ds (o ∷ os) ≡ Refused (NoRoom j)))
-    go true e h = inr (i, rw (e, roomFrom))
-    go false e h = ⊎-elim (λ p. inl (rw (e, roomFrom) p)) (λ p. inr (p .0, rw (e, roomFrom) (p .1))) h
+abbrev RoomAlone : Judged → Type 0
+RoomAlone j = (j ≡ Good) ⊎ ((i : ℕ) × (j ≡ Refused (NoRoom i)))
+
+room-when : (b : Bool) (i : ℕ) → RoomAlone (when b (NoRoom i))
+room-when true i = inr (i, refl)
+room-when false i = inl refl
+
+room-or : (j k : Judged) → RoomAlone j → RoomAlone k → RoomAlone (orElse j k)
+room-or Good k p q = q
+room-or (Refused r) k p q = p
+
+room-cases : (r : ℕ) (c : Corner) (k : ℕ) (ds os : List ℕ) → RoomAlone (roomFrom r c k ds os)
+room-cases r c k ds [] = room-when (ltb r (length (nodesOf (cornersFrom c ds)))) (pred k)
+room-cases r c k ds (o ∷ os) = room-or (roomAt r c k ds) (roomFrom r c (suc k) (operate ds o) os) (room-when (ltb r (length (nodesOf (cornersFrom c ds)))) (pred k)) (room-cases r c (suc k) (operate ds o) os)
 
 -- what was there before does not matter, but for its length
-room-buffer : (j : Judged) (new old old′ : List ℕ) → length old ≡ length old′ → (j ≡ Good) ⊎ ((i : ℕ) × (j ≡ Refused (NoRoom i))) → bufferBy j new old ≡ bufferBy j new old′
+room-buffer : (j : Judged) (new old old′ : List ℕ) → length old ≡ length old′ → RoomAlone j → bufferBy j new old ≡ bufferBy j new old′
 room-buffer j new old old′ l (inl e) = rw e
 room-buffer j new old old′ l (inr e) = rw (e .1) (ap (λ (n : ℕ). replicate n 0) l)
 

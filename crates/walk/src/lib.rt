@@ -3,6 +3,7 @@ use answer::Answer;
 use answer::Facts;
 use answer::Judged;
 use answer::Refusal;
+use grid::Corner;
 use walk_run::Ran;
 use walk_step::Walk;
 ghost use mathlib.Core.List.{List, [], _++_};
@@ -39,13 +40,13 @@ fn clear(t: &mut [u32], marks: &mut [u32], chain: &mut [u8])
 }
 
 // The facts of a walk that is over, whose chain is cleared behind its steps.
-fn accept(chain: &mut [u8], w: Walk) -> Facts
-    requires { ⌜ Settling (now chain) w ⌝ }
-    ensures { λ r. ⌜ ((ds : List ℕ) → Settled (now (chain .entry)) ds w → (r ≡ factsOf origin ds) × (now (chain .exit) ≡ ds ++ replicate (length (now (chain .entry)) - length ds) 0)) ⌝ }
+fn accept(start: Corner, chain: &mut [u8], w: Walk) -> Facts
+    requires { ⌜ Settling start (now chain) w ⌝ }
+    ensures { λ r. ⌜ ((ds : List ℕ) → Settled start (now (chain .entry)) ds w → (r ≡ factsOf start ds) × (now (chain .exit) ≡ ds ++ replicate (length (now (chain .entry)) - length ds) 0)) ⌝ }
 {
     let n = w.spot.steps;
     walk_table::zero_from(chain, n);
-    walk_facts::facts(chain, w)
+    walk_facts::facts(start, chain, w)
 }
 
 // Follows operations that have no fault, in a table with the root alone.
@@ -60,7 +61,7 @@ fn go_on(ops: &[u8], t: &mut [u32], marks: &mut [u32], chain: &mut [u8]) -> Answ
             clear(t, marks, chain);
             Answer::Refused(Refusal::NoRoom(i))
         }
-        Ran::All(w) => Answer::Accepted(accept(chain, w)),
+        Ran::All(w) => Answer::Accepted(accept(Corner(0, 0), chain, w)),
     }
 }
 

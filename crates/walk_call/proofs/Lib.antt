@@ -1,3 +1,4 @@
 pub mod CallCases
+pub mod JudgedLaws
 pub mod RoomLaws
 pub mod SmallLaws

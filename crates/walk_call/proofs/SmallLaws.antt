@@ -2,17 +2,16 @@
 -- Assumes nothing.
 use mathlib.Core.Bool.{Bool, true, false, not, _&&_}
 use mathlib.Core.List.{List, [], _∷_}
-use mathlib.Core.Logic.{⊎-elim}
-use mathlib.Core.Path.{_≡_, refl, sym, subst}
-use Prim.Native.Nat.{ℕ, suc, _+_, _*_, _%_, _≤_}
+use mathlib.Core.Path.{_≡_, refl}
+use Prim.Native.Nat.{ℕ, suc, _+_, _*_, _%_, _≤_, zero}
 use native.Mathlib.Omega.{arith}
-use borrow.Author.Tests.{ltb-false, leb-true, not-false}
+use borrow.Author.Tests.{ltb-false, leb-true}
 use lib.Dec.{eqb, ltb, leb}
 use lib.ListN.{length}
 use Rattle.answer.specs.declared.Judged.{Judged}
 use Rattle.answer.specs.declared.Judged.the-variants.{Good, Refused}
 use Rattle.answer.specs.declared.Refusal.{Refusal}
-use Rattle.answer.specs.declared.Refusal.the-variants.{Table, ResultRoom, BadDigit, NothingToTake, TooLong}
+use Rattle.answer.specs.declared.Refusal.the-variants.{Table, ResultRoom, BadDigit, NothingToTake, TooLong, NoRoom}
 use Rattle.answer.specs.Refusal.{when, orElse, refusalPlace}
 use Rattle.answer.specs.Limits.{mostRecords}
 use Rattle.grid.specs.declared.Corner.{Corner}
@@ -22,12 +21,12 @@ use Rattle.tree.specs.Nodes.{nodesOf}
 use Rattle.steps.specs.Operations.{operate, survivors, faultOf, operationsJudged, after, Walkable}
 use Rattle.layout.specs.Marks.{markWords}
 use Rattle.layout.specs.Table.{width, recordsIn}
-use Rattle.answer.proofs.RefusalLaws.{clear, when-good}
 use Rattle.grid.proofs.StepLaws.{length-cornersFrom}
 use Rattle.lists.proofs.GatherLaws.{and-left, and-right, gather-le}
 use Rattle.trace.proofs.MeetingLaws.{meetingOf-meets}
 use Rattle.steps.proofs.SurvivorLaws.{walkable-survivors}
-use Rattle.walk_call.specs.Walk.{tableFits, roomFrom, walkJudgements, walkJudged}
+use Rattle.walk_call.specs.Walk.{tableFits, roomFrom, walkJudged, roomAt}
+use Rattle.walk_call.proofs.JudgedLaws.{walk-fits}
 use Rattle.walk_call.proofs.RoomLaws.{room-last}
 
 -- a refusal's place is at most b
@@ -63,13 +62,16 @@ placed-faults i n (o ∷ os) =
     let f = operationsJudged (suc i) (after n o) os in
     placed-or b (faultOf i n o) f (placed-more i b (faultOf i n o) (omega arith) (placed-fault i n o)) (placed-more (suc i + length os) b f (omega arith) (placed-faults (suc i) (after n o) os))
 
-placed-room : (r : ℕ) (c : Corner) (i : ℕ) (ds os : List ℕ) → Placed (i + length os) (roomFrom r c i ds os)
-placed-room r c i ds [] = tt
-placed-room r c i ds (o ∷ os) = go (ltb r (length (nodesOf (cornersFrom c (operate ds o))))) refl (placed-room r c (suc i) (operate ds o) os)
-  where
-    go : (b : Bool) → ltb r (length (nodesOf (cornersFrom c (operate ds o)))) ≡ b → Placed (suc i + length os) (roomFrom r c (suc i) (operate ds o) os) → Placed (i + suc (length os)) (roomFrom r c i ds (o ∷ os))
-    go true e h = rw (e, roomFrom) (omega arith)
-    go false e h = rw (e, roomFrom) (placed-more (suc i + length os) (i + suc (length os)) (roomFrom r c (suc i) (operate ds o) os) (omega arith) h)
+placed-at : (b r : ℕ) (c : Corner) (k : ℕ) (ds : List ℕ) → k ≤ b → Placed b (roomAt r c k ds)
+placed-at b r c zero ds h = placed-when b (ltb r (length (nodesOf (cornersFrom c ds)))) (NoRoom 0) (omega arith)
+placed-at b r c (suc k) ds h = placed-when b (ltb r (length (nodesOf (cornersFrom c ds)))) (NoRoom k) (omega arith)
+
+placed-room : (r : ℕ) (c : Corner) (k : ℕ) (ds os : List ℕ) → Placed (k + length os) (roomFrom r c k ds os)
+placed-room r c k ds [] = placed-at (k + 0) r c k ds (omega arith)
+placed-room r c k ds (o ∷ os) =
+    let b = k + suc (length os) in
+    let j = roomFrom r c (suc k) (operate ds o) os in
+    placed-or b (roomAt r c k ds) j (placed-at b r c k ds (omega arith)) (placed-more (suc k + length os) b j (omega arith) (placed-room r c (suc k) (operate ds o) os))
 
 -- the place of a walk's refusal
 pub walk-placed : (c : Corner) (os : List ℕ) (w m k : ℕ) → Placed 32768 (walkJudged c os w m k)
@@ -118,16 +120,15 @@ fits-records w e =
     let d = leb (recordsIn w) mostRecords in
     (leb-true 1 (recordsIn w) (and-right a b (and-left (a && b) d e)), leb-true (recordsIn w) mostRecords (and-right (a && b) d e))
 
-pub walk-few : (c : Corner) (os : List ℕ) (w m k : ℕ) → length (nodesOf (cornersFrom c [])) ≤ mostRecords → walkJudged c os w m k ≡ Good → Few c (survivors os)
-walk-few c os w m k z e =
+pub walk-few : (c : Corner) (os : List ℕ) (w m k : ℕ) → walkJudged c os w m k ≡ Good → Few c (survivors os)
+walk-few c os w m k e =
     let ds = survivors os in
-    let h = clear (walkJudgements c os w m k) e in
-    let s : Walkable ds = walkable-survivors 0 [] os (record { digits = tt; few = omega arith }) (h .1 .1 .1 .0) in
-    let t = fits-records w (not-false (tableFits w) (when-good (not (tableFits w)) Table (h .1 .0))) in
+    let h = walk-fits c os w m k e in
+    let s : Walkable ds = walkable-survivors 0 [] os (record { digits = tt; few = omega arith }) (h .0 .fine) in
     let j = meeting-few c ds (s .few) in
     record {
       steps = s .few;
-      nodes = ⊎-elim (λ n. subst (λ (x : List ℕ). length (nodesOf (cornersFrom c (survivors x))) ≤ mostRecords) (sym n) z) (λ r. omega (arith, r, t .1)) (room-last (recordsIn w) c 0 [] os (h .1 .1 .1 .1 .0));
+      nodes = omega (arith, room-last (recordsIn w) c 0 [] os (h .1), fits-records w (h .0 .table) .1);
       corners = omega (arith, gather-le same [] (cornersFrom c ds), length-cornersFrom c ds, s .few);
       j = j .0;
       k = j .1;

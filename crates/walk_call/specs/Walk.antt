@@ -1,7 +1,7 @@
 -- The walk's refusals in their order, its answer, and its three buffers (01, "What the calls take and give"). Assumes nothing.
-use Rattle.lists.specs.Lists.{_≡_, Bool, true, false, cond, not, _&&_, List, [], _∷_, length, replicate, ℕ, suc, _*_, _%_, eqb, ltb, leb}
+use Rattle.lists.specs.Lists.{_≡_, Bool, cond, not, _&&_, List, [], _∷_, length, replicate, ℕ, suc, _*_, _%_, eqb, ltb, leb, _++_, pred}
 use Rattle.answer.specs.declared.{Judged.Judged, Judged.the-variants.Good, Judged.the-variants.Refused, Refusal.the-variants.TooMany, Refusal.the-variants.Table, Refusal.the-variants.ResultRoom, Refusal.the-variants.NoRoom, Facts.Facts, Answer.Answer}
-use Rattle.answer.specs.{Limits.mostInput, Limits.mostRecords, Refusal.when, Refusal.firstOf, Refusal.refusalNumber}
+use Rattle.answer.specs.{Limits.mostInput, Limits.mostRecords, Refusal.when, Refusal.orElse, Refusal.firstOf, Refusal.refusalNumber}
 use Rattle.grid.specs.{declared.Corner.Corner, Grid.cornersFrom, Grid.endFrom}
 use Rattle.steps.specs.Operations.{operate, survivors, operationsJudged}
 use Rattle.trace.specs.{Meeting.meetingOf, Meeting.meetingJ, Meeting.meetingK, Meeting.visitedOf, Verdict.verdictOf, Verdict.areaOf}
@@ -12,24 +12,27 @@ use Rattle.layout.specs.{Table.width, Table.recordsIn, Table.tableOf, Marks.mar
 abbrev pub tableFits : ℕ → Bool
 tableFits words = eqb (words % width) 0 && leb 1 (recordsIn words) && leb (recordsIn words) mostRecords
 
--- 7: the first place after which the nodes needed exceed the records
-abbrev pub roomFrom : ℕ → Corner → ℕ → List ℕ → List ℕ → Judged
-roomFrom records c i ds [] = Good
-roomFrom records c i ds (o ∷ os) =
-    elim (ltb records (length (nodesOf (cornersFrom c (operate ds o))))) [
-      | true ↦ Refused (NoRoom i)
-      | false ↦ roomFrom records c (suc i) (operate ds o) os
-    ]
-
--- 1, 2, 3; then 4, 5, 6 at the first faulty place; then 7, at its first place
-abbrev pub walkJudgements : Corner → List ℕ → ℕ → ℕ → ℕ → List Judged
-walkJudgements c os words marks chain =
+-- 1, 2, 3; then 4, 5, 6 at the first faulty place
+abbrev pub inputJudgements : List ℕ → ℕ → ℕ → ℕ → List Judged
+inputJudgements os words marks chain =
     when (ltb mostInput (length os)) TooMany
     ∷ when (not (tableFits words)) Table
     ∷ when (not (eqb marks (markWords * length os) && eqb chain (length os))) ResultRoom
     ∷ operationsJudged 0 0 os
-    ∷ roomFrom (recordsIn words) c 0 [] os
     ∷ []
+
+-- 7 after k operations, which ds survive: the nodes needed exceed the records. Its place is k - 1, and 0 before the first operation
+abbrev pub roomAt : ℕ → Corner → ℕ → List ℕ → Judged
+roomAt records c k ds = when (ltb records (length (nodesOf (cornersFrom c ds)))) (NoRoom (pred k))
+
+-- 7 at the first moment: after k operations, which ds survive, or after some of those that are left
+abbrev pub roomFrom : ℕ → Corner → ℕ → List ℕ → List ℕ → Judged
+roomFrom records c k ds [] = roomAt records c k ds
+roomFrom records c k ds (o ∷ os) = orElse (roomAt records c k ds) (roomFrom records c (suc k) (operate ds o) os)
+
+-- the input's refusals; then 7
+abbrev pub walkJudgements : Corner → List ℕ → ℕ → ℕ → ℕ → List Judged
+walkJudgements c os words marks chain = inputJudgements os words marks chain ++ (roomFrom (recordsIn words) c 0 [] os ∷ [])
 
 abbrev pub walkJudged : Corner → List ℕ → ℕ → ℕ → ℕ → Judged
 walkJudged c os words marks chain = firstOf (walkJudgements c os words marks chain)

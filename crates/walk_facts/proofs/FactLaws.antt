@@ -13,7 +13,7 @@ use lib.Seq.{drop-cons, getD-take, length-take-le}
 use Rattle.answer.specs.declared.Verdict.{Verdict}
 use Rattle.answer.specs.declared.Verdict.the-variants.{Nowhere, Open, Room, OpenMeeting, ClosedMeeting, ThereAndBack}
 use Rattle.grid.specs.declared.Corner.{Corner}
-use Rattle.grid.specs.Grid.{stepped, origin, same, endFrom, northOf}
+use Rattle.grid.specs.Grid.{stepped, same, endFrom, northOf}
 use Rattle.walk_step.specs.Tallies.{Says}
 use Rattle.trace.specs.Meeting.{Meeting, none, meet, meetingOf, meetingJ, meetingK}
 use Rattle.trace.specs.Verdict.{onlyEnds, roundBy, verdictBy, sweepFrom, areaBy}
@@ -22,7 +22,6 @@ use Rattle.int_laws.proofs.NextLaws.{suc-sub, pred-sub}
 use Rattle.int_laws.proofs.RangeLaws.{abs+, abs-neg}
 use Rattle.answer.specs.declared.Facts.{Facts}
 use Rattle.walk_call.specs.Walk.{factsOf}
-use Rattle.grid.specs.Tree.{isRoot}
 use Rattle.walk_step.specs.declared.Walk.{Walk}
 use Rattle.walk_facts.specs.Settled.{gain, Settled}
 
@@ -65,22 +64,22 @@ gain-bound (suc zero) x = omega arith
 gain-bound (suc (suc zero)) x = omega arith
 gain-bound (suc (suc (suc d))) x = omega (arith, abs-neg x)
 
-pub sum-bound : (sum x : ℤ) (d i : ℕ) → natAbs sum ≤ i * 16384 → natAbs x ≤ 16384 → natAbs (sum +ℤ gain d x) ≤ (i + 1) * 16384
+pub sum-bound : (sum x : ℤ) (d i : ℕ) → natAbs sum ≤ i * 32768 → natAbs x ≤ 32768 → natAbs (sum +ℤ gain d x) ≤ (i + 1) * 32768
 sum-bound sum x d i h k = omega (arith, abs+ sum (gain d x), gain-bound d x)
 
 -- one step more of the sum over the first n steps
-pub sweep-again : (chain : List ℕ) (n i : ℕ) (at at′ : Corner) (sum sum′ w : ℤ) → n ≤ length chain → n ≤ 16384 → i < n → natAbs (at .0) ≤ i → natAbs (at .1) ≤ i → natAbs sum ≤ i * 16384
+pub sweep-again : (chain : List ℕ) (n i : ℕ) (at at′ : Corner) (sum sum′ w : ℤ) → n ≤ length chain → n ≤ 16384 → i < n → natAbs (at .0) ≤ 16384 + i → natAbs (at .1) ≤ 16384 + i → natAbs sum ≤ i * 32768
     → w ≡ sum +ℤ sweepFrom at (drop i (take n chain)) → at′ ≡ stepped (getD chain i 0) at → sum′ ≡ sum +ℤ gain (getD chain i 0) (at .0)
-    → (natAbs (at′ .0) ≤ i + 1) × (natAbs (at′ .1) ≤ i + 1) × (natAbs sum′ ≤ (i + 1) * 16384) × (w ≡ sum′ +ℤ sweepFrom at′ (drop (i + 1) (take n chain)))
+    → (natAbs (at′ .0) ≤ 16384 + (i + 1)) × (natAbs (at′ .1) ≤ 16384 + (i + 1)) × (natAbs sum′ ≤ (i + 1) * 32768) × (w ≡ sum′ +ℤ sweepFrom at′ (drop (i + 1) (take n chain)))
 sweep-again chain n i at at′ sum sum′ w long few more x y z e p q =
     let d = getD chain i 0 in
     let h = stepped-bound d at in
     let l : i < length (take n chain) = omega (arith, length-take-le n chain long) in
     let g : getD (take n chain) i 0 ≡ d = getD-take n chain i 0 more in
     let f = sweep-next w sum at (take n chain) i l e in (
-      subst (λ (a : Corner). natAbs (a .0) ≤ i + 1) (sym p) (omega (arith, h .0)),
-      subst (λ (a : Corner). natAbs (a .1) ≤ i + 1) (sym p) (omega (arith, h .1)),
-      subst (λ (a : ℤ). natAbs a ≤ (i + 1) * 16384) (sym q) (sum-bound sum (at .0) d i z (omega arith)),
+      subst (λ (a : Corner). natAbs (a .0) ≤ 16384 + (i + 1)) (sym p) (omega (arith, h .0)),
+      subst (λ (a : Corner). natAbs (a .1) ≤ 16384 + (i + 1)) (sym p) (omega (arith, h .1)),
+      subst (λ (a : ℤ). natAbs a ≤ (i + 1) * 32768) (sym q) (sum-bound sum (at .0) d i z (omega arith)),
       f
           ∙ ap (λ (k : ℕ). (sum +ℤ gain k (at .0)) +ℤ sweepFrom (stepped k at) (drop (i + 1) (take n chain))) g
           ∙ ap₂ (λ (a : ℤ) (b : Corner). a +ℤ sweepFrom b (drop (i + 1) (take n chain))) (sym q) (sym p),
@@ -170,13 +169,13 @@ says-k : (m : Meeting) (j k : ℕ) → Says m j k → k ≡ meetingK m
 says-k none j k s = s .1
 says-k (meet a b) j k s = s .1
 
-pub facts-are : (ch ds : List ℕ) (w : Walk) → Settled ch ds w → (v : Verdict) (b : Bool) (a : ℤ)
-    → b ≡ isRoot (w .spot .at) → ((m : Meeting) → Says m (w .tally .j) (w .tally .k) → v ≡ verdictBy (w .spot .steps) b m) → a ≡ areaBy v (sweepFrom origin (take (w .spot .steps) ch))
-    → (f : Facts) → f ≡ factsWith v (w .spot .steps) (w .spot .nodes) (w .tally .corners) (w .tally .j) (w .tally .k) a (w .spot .at) → f ≡ factsOf origin ds
-facts-are ch ds w k v b a p f q g e =
-    let m = meetingOf origin ds in
+pub facts-are : (c : Corner) (ch ds : List ℕ) (w : Walk) → Settled c ch ds w → (v : Verdict) (b : Bool) (a : ℤ)
+    → b ≡ same (w .spot .at) c → ((m : Meeting) → Says m (w .tally .j) (w .tally .k) → v ≡ verdictBy (w .spot .steps) b m) → a ≡ areaBy v (sweepFrom c (take (w .spot .steps) ch))
+    → (f : Facts) → f ≡ factsWith v (w .spot .steps) (w .spot .nodes) (w .tally .corners) (w .tally .j) (w .tally .k) a (w .spot .at) → f ≡ factsOf c ds
+facts-are c ch ds w k v b a p f q g e =
+    let m = meetingOf c ds in
     let s = k .counted .met in
-    let c : b ≡ same (endFrom origin ds) origin = p ∙ ap isRoot (k .corner) in
-    let x : v ≡ verdictBy (length ds) (same (endFrom origin ds) origin) m = f m s ∙ ap₂ (λ (n : ℕ) (y : Bool). verdictBy n y m) (k .steps) c in
+    let r : b ≡ same (endFrom c ds) c = p ∙ ap (λ (z : Corner). same z c) (k .corner) in
+    let x : v ≡ verdictBy (length ds) (same (endFrom c ds) c) m = f m s ∙ ap₂ (λ (n : ℕ) (y : Bool). verdictBy n y m) (k .steps) r in
     let z : take (w .spot .steps) ch ≡ ds = ap (λ (n : ℕ). take n ch) (k .steps) ∙ sym (k .kept) in
-    e ∙ facts-equal x (k .steps) (k .nodes) (k .counted .seen) (says-j m (w .tally .j) (w .tally .k) s) (says-k m (w .tally .j) (w .tally .k) s) (q ∙ ap₂ (λ (y : Verdict) (l : List ℕ). areaBy y (sweepFrom origin l)) x z) (k .corner)
+    e ∙ facts-equal x (k .steps) (k .nodes) (k .counted .seen) (says-j m (w .tally .j) (w .tally .k) s) (says-k m (w .tally .j) (w .tally .k) s) (q ∙ ap₂ (λ (y : Verdict) (l : List ℕ). areaBy y (sweepFrom c l)) x z) (k .corner)

@@ -5,7 +5,9 @@ use mathlib.Core.Path.{_≡_}
 use Prim.Native.Nat.{ℕ, zero, suc, _≤_}
 use lib.IntN.{ℤ, pos, negℤ}
 use lib.ListN.{length, take}
-use Rattle.grid.specs.Grid.{origin, cornersFrom, endFrom}
+use Rattle.answer.specs.Limits.{Near}
+use Rattle.grid.specs.declared.Corner.{Corner}
+use Rattle.grid.specs.Grid.{cornersFrom, endFrom}
 use Rattle.walk_step.specs.declared.Walk.{Walk}
 use Rattle.walk_step.specs.Tallies.{TallyIs}
 use Rattle.tree.specs.Nodes.{nodesOf}
@@ -17,17 +19,18 @@ gain (suc zero) x = x
 gain (suc (suc zero)) x = pos 0
 gain (suc (suc (suc d))) x = negℤ x
 
--- w is the walk from the root with the steps ds, which stand in the chain
-pub record Settled (chain ds : List ℕ) (w : Walk) : Type 0 where
+-- w is the walk from c with the steps ds, which stand in the chain
+pub record Settled (c : Corner) (chain ds : List ℕ) (w : Walk) : Type 0 where
+  pub near : Near c
   pub steps : w .spot .steps ≡ length ds
   pub few : length ds ≤ 16384
-  pub corner : w .spot .at ≡ endFrom origin ds
-  pub nodes : w .spot .nodes ≡ length (nodesOf (cornersFrom origin ds))
-  pub counted : TallyIs origin ds (w .tally)
+  pub corner : w .spot .at ≡ endFrom c ds
+  pub nodes : w .spot .nodes ≡ length (nodesOf (cornersFrom c ds))
+  pub counted : TallyIs c ds (w .tally)
   pub kept : ds ≡ take (length ds) chain
   pub space : length ds ≤ length chain
 
 -- of some steps
-pub record Settling (chain : List ℕ) (w : Walk) : Type 0 where
+pub record Settling (c : Corner) (chain : List ℕ) (w : Walk) : Type 0 where
   pub chain-steps : List ℕ
-  pub settled : Settled chain chain-steps w
+  pub settled : Settled c chain chain-steps w

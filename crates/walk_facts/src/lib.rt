@@ -6,11 +6,11 @@ use walk_step::Tally;
 use walk_step::Walk;
 ghost use mathlib.Core.List.{List};
 ghost use mathlib.Core.Path.{_≡_};
-ghost use Prim.Native.Nat.{ℕ, _^_, _<_, _≤_};
+ghost use Prim.Native.Nat.{ℕ, _<_, _≤_};
 ghost use lib.IntN.{natAbs, _+ℤ_};
 ghost use lib.ListN.{length, take};
 ghost use Rattle.walk_call.specs.Walk.{factsOf};
-ghost use Rattle.grid.specs.Grid.{origin};
+ghost use Rattle.answer.specs.Limits.{Near};
 ghost use Rattle.walk_step.specs.Tallies.{Says};
 ghost use Rattle.trace.specs.Meeting.{Meeting};
 ghost use Rattle.trace.specs.Verdict.{verdictBy, sweepFrom, areaBy};
@@ -18,18 +18,18 @@ ghost use Rattle.walk_facts.specs.Settled.{gain, Settled, Settling};
 
 // The sum with x times the change of y that the step d makes.
 fn gained(sum: i32, x: i32, d: u8) -> i32
-    requires { ⌜ (natAbs sum ≤ 536870912) × (natAbs x ≤ 16384) ⌝ }
+    requires { ⌜ (natAbs sum ≤ 536870912) × (natAbs x ≤ 32768) ⌝ }
     ensures { λ r. ⌜ r ≡ sum +ℤ gain d x ⌝ }
 {
     sum + x * walk_corner::north(d)
 }
 
 // The sum over the first n steps of x times the change of y.
-fn sweep(chain: &[u8], n: usize) -> i32
-    requires { ⌜ (n ≤ length (now chain)) × (n ≤ 16384) ⌝ }
-    ensures { λ r. ⌜ r ≡ sweepFrom origin (take n (now (chain .entry))) ⌝ }
+fn sweep(start: Corner, chain: &[u8], n: usize) -> i32
+    requires { ⌜ Near start × (n ≤ length (now chain)) × (n ≤ 16384) ⌝ }
+    ensures { λ r. ⌜ r ≡ sweepFrom start (take n (now (chain .entry))) ⌝ }
 {
-    let mut at = Corner(0, 0);
+    let mut at = start;
     let mut sum: i32 = 0;
     let mut i: usize = 0;
     while i < n {
@@ -42,12 +42,12 @@ fn sweep(chain: &[u8], n: usize) -> i32
 }
 
 // The signed area of the first n steps: 0 where they are no room.
-fn area(chain: &[u8], n: usize, v: Verdict) -> i32
-    requires { ⌜ (n ≤ length (now chain)) × (n ≤ 16384) ⌝ }
-    ensures { λ r. ⌜ r ≡ areaBy v (sweepFrom origin (take n (now (chain .entry)))) ⌝ }
+fn area(start: Corner, chain: &[u8], n: usize, v: Verdict) -> i32
+    requires { ⌜ Near start × (n ≤ length (now chain)) × (n ≤ 16384) ⌝ }
+    ensures { λ r. ⌜ r ≡ areaBy v (sweepFrom start (take n (now (chain .entry)))) ⌝ }
 {
     if let Verdict::Room = v {
-        return sweep(chain, n);
+        return sweep(start, chain, n);
     }
     0
 }
@@ -78,17 +78,17 @@ fn verdict(n: usize, closed: bool, j: usize, k: usize) -> Verdict
     Verdict::Room
 }
 
-// The facts of the walk w, whose steps stand in the chain.
-pub fn facts(chain: &[u8], w: Walk) -> Facts
-    requires { ⌜ Settling (now chain) w ⌝ }
-    ensures { λ r. ⌜ ((ds : List ℕ) → Settled (now (chain .entry)) ds w → r ≡ factsOf origin ds) ⌝ }
+// The facts of the walk w from start, whose steps stand in the chain. It is closed where it ends at its start.
+pub fn facts(start: Corner, chain: &[u8], w: Walk) -> Facts
+    requires { ⌜ Settling start (now chain) w ⌝ }
+    ensures { λ r. ⌜ ((ds : List ℕ) → Settled start (now (chain .entry)) ds w → r ≡ factsOf start ds) ⌝ }
 {
     let spot = w.spot;
     let tally = w.tally;
     let n = spot.steps;
     let last = spot.at;
-    let v = verdict(n, walk_corner::is_root(last), tally.j, tally.k);
-    let a = area(chain, n, v);
+    let v = verdict(n, walk_corner::alike(last, start), tally.j, tally.k);
+    let a = area(start, chain, n, v);
     Facts {
         verdict: v,
         steps: n,

@@ -5,7 +5,7 @@ use mathlib.Core.List.{List, [], _∷_}
 use mathlib.Core.Path.{_≡_, refl, ap, ap₂, sym, _∙_}
 use Prim.Native.Nat.{ℕ, suc, _+_, _-_, _*_, _%_, _<_, _≤_, _^_}
 use native.Mathlib.Omega.{arith}
-use borrow.Author.Tests.{eq-eqb, ne-eqb, lt-ltb, le-ltb, le-leb, ltb-false, leb-true, eqb-true, not-false}
+use borrow.Author.Tests.{eq-eqb, ne-eqb, lt-ltb, le-ltb, le-leb, leb-true}
 use lib.Dec.{eqb, ltb, leb}
 use lib.ListN.{length, drop, getD}
 use lib.Seq.{drop-cons}
@@ -15,13 +15,13 @@ use Rattle.answer.specs.declared.Refusal.{Refusal}
 use Rattle.answer.specs.declared.Refusal.the-variants.{TooMany, Table, ResultRoom, BadDigit, NothingToTake, TooLong}
 use Rattle.answer.specs.Refusal.{orElse, when, refusalNumber}
 use Rattle.answer.specs.Limits.{mostRecords}
-use Rattle.walk_call.specs.Walk.{tableFits, roomFrom, walkJudged}
-use Rattle.grid.specs.declared.Corner.{Corner}
+use Rattle.walk_call.specs.Walk.{tableFits}
 use Rattle.steps.specs.Operations.{faultOf, operationsJudged, after}
 use Rattle.layout.specs.Marks.{markWords}
 use Rattle.layout.specs.Table.{width, recordsIn}
-use Rattle.answer.proofs.RefusalLaws.{orElse-right, clear, when-good}
+use Rattle.answer.proofs.RefusalLaws.{orElse-right}
 use Rattle.lists.proofs.GatherLaws.{and-left, and-right}
+use Rattle.walk_call.proofs.JudgedLaws.{input-fits}
 use Rattle.walk_input.specs.Input.{inputJudged}
 
 pub fault-bad : (i n o : ℕ) → 4 < o → Refused (BadDigit i) ≡ faultOf i n o
@@ -95,23 +95,6 @@ module _ (os : List ℕ) (w m k : ℕ) where
       pub input-rest : m ≡ markWords * length os → k ≡ length os → operationsJudged 0 0 os ≡ inputJudged os w m k
       input-rest p e = rw (le-ltb 32768 (length os) few, fits, eq-eqb m (markWords * length os) p, eq-eqb k (length os) e) (sym (orElse-right (operationsJudged 0 0 os)))
 
--- the room decides last
-pub judged-split : (c : Corner) (os : List ℕ) (w m k : ℕ) → walkJudged c os w m k ≡ orElse (inputJudged os w m k) (roomFrom (recordsIn w) c 0 [] os)
-judged-split c os w m k =
-    let a = when (ltb 32768 (length os)) TooMany in
-    let b = when (not (tableFits w)) Table in
-    let d = when (not (eqb m (markWords * length os) && eqb k (length os))) ResultRoom in
-    let f = operationsJudged 0 0 os in
-    let r = roomFrom (recordsIn w) c 0 [] os in
-    split a b d f r
-  where
-    split : (a b d f r : Judged) → orElse a (orElse b (orElse d (orElse f (orElse r Good)))) ≡ orElse (orElse a (orElse b (orElse d (orElse f Good)))) r
-    split (Refused x) b d f r = refl
-    split Good (Refused x) d f r = refl
-    split Good Good (Refused x) f r = refl
-    split Good Good Good (Refused x) r = refl
-    split Good Good Good Good r = orElse-right r
-
 -- ---- an input with no fault
 fits-words : (w : ℕ) → tableFits w ≡ true → (width ≤ w) × (w < 2 ^ 32)
 fits-words w e =
@@ -133,19 +116,9 @@ pub record Sized (os : List ℕ) (w m k : ℕ) : Type 0 where
 
 pub input-good : (os : List ℕ) (w m k : ℕ) → inputJudged os w m k ≡ Good → Sized os w m k
 input-good os w m k e =
-    let a = eqb m (markWords * length os) in
-    let b = eqb k (length os) in
-    let h = clear (when (ltb 32768 (length os)) TooMany ∷ when (not (tableFits w)) Table ∷ when (not (a && b)) ResultRoom ∷ operationsJudged 0 0 os ∷ []) e in
-    let t = fits-words w (not-false (tableFits w) (when-good (not (tableFits w)) Table (h .1 .0))) in
-    let r : a && b ≡ true = not-false (a && b) (when-good (not (a && b)) ResultRoom (h .1 .1 .0)) in
-    record {
-      few = ltb-false 32768 (length os) (when-good (ltb 32768 (length os)) TooMany (h .0));
-      least = t .0;
-      most = t .1;
-      marks = eqb-true m (markWords * length os) (and-left a b r);
-      chain = eqb-true k (length os) (and-right a b r);
-      fine = h .1 .1 .1 .0;
-    }
+    let h = input-fits os w m k e in
+    let t = fits-words w (h .table) in
+    record { few = h .few; least = t .0; most = t .1; marks = h .marks; chain = h .chain; fine = h .fine }
 
 -- no refusal of the input is "no room"
 abbrev pub Early : Judged → Type 0

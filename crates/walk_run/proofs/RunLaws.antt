@@ -18,7 +18,7 @@ use Rattle.walk_step.specs.declared.Walk.{Walk}
 use Rattle.walk_step.specs.Walks.{fresh}
 use Rattle.tree.specs.Nodes.{nodesOf}
 use Rattle.steps.specs.Operations.{operate, survivorsFrom, survivors, faultOf, operationsJudged, after, Fine}
-use Rattle.walk_call.proofs.RoomLaws.{room-full, room-fits}
+use Rattle.walk_call.proofs.RoomLaws.{room-full, room-fits, room-end}
 use Rattle.steps.proofs.SurvivorLaws.{fault-none, fault-step, after-length, length-operate}
 use Rattle.walk_run.specs.declared.Ran.{Ran}
 use Rattle.walk_run.specs.Runs.{Chained, Ready, Performed, Ended}
@@ -35,6 +35,7 @@ pub record Running (words : ℕ) (c : Corner) (ops t ms ch : List ℕ) (w : Walk
   pub chained : Chained c t ch steps w
   pub rest : survivors ops ≡ survivorsFrom steps (drop i ops)
   pub fine : operationsJudged i (length steps) (drop i ops) ≡ Good
+  pub fits : length (nodesOf (cornersFrom c steps)) ≤ recordsIn words
   pub room : roomFrom (recordsIn words) c 0 [] ops ≡ roomFrom (recordsIn words) c i steps (drop i ops)
   pub marked : marksOf c ops ≡ take (markWords * i) ms ++ marksFrom c steps (drop i ops)
   pub few : length steps ≤ i
@@ -55,6 +56,7 @@ running-start ops t ms ch e h f w q = subst (λ (v : Walk). Running (length t) o
   };
   rest = refl;
   fine = f;
+  fits = omega arith;
   room = refl;
   marked = refl;
   few = omega arith;
@@ -76,11 +78,15 @@ module _ (words : ℕ) (c : Corner) (ops t ms ch : List ℕ) (w : Walk) (i : ℕ
     next = λ f. omega (arith, k .few, k .chained .known .walked .steps);
   }
 
+  -- there was room so far
+  went : roomFrom (recordsIn words) c 0 [] ops ≡ roomFrom (recordsIn words) c (suc i) (operate (k .steps) (getD ops i 0)) (drop (suc i) ops)
+  went = k .room ∙ ap (λ (l : List ℕ). roomFrom (recordsIn words) c i (k .steps) l) left ∙ room-fits (recordsIn words) c i (k .steps) (getD ops i 0) (drop (suc i) ops) (k .fits)
+
   -- no room
   pub running-full : (t′ ms′ ch′ : List ℕ) (r : Moved) → ((ds : List ℕ) → Chained c t ch ds w → Performed words ms i c t′ ms′ ch′ (operate ds (getD ops i 0)) r) → r ≡ Moved.Full → roomFrom (recordsIn words) c 0 [] ops ≡ Refused (NoRoom i)
   running-full t′ ms′ ch′ r f e =
       let h : words < width * length (nodesOf (cornersFrom c (operate (k .steps) (getD ops i 0)))) = subst (λ y. Performed words ms i c t′ ms′ ch′ (operate (k .steps) (getD ops i 0)) y) e (f (k .steps) (k .chained)) in
-      k .room ∙ ap (λ (l : List ℕ). roomFrom (recordsIn words) c i (k .steps) l) left ∙ room-full (recordsIn words) c i (k .steps) (getD ops i 0) (drop (suc i) ops) (over words (length (nodesOf (cornersFrom c (operate (k .steps) (getD ops i 0))))) h)
+      went ∙ room-full (recordsIn words) c (suc i) (operate (k .steps) (getD ops i 0)) (drop (suc i) ops) (over words (length (nodesOf (cornersFrom c (operate (k .steps) (getD ops i 0))))) h)
     where
       over : (a n : ℕ) → a < width * n → recordsIn a < n
       over a n p = omega arith
@@ -95,8 +101,7 @@ module _ (words : ℕ) (c : Corner) (ops t ms ch : List ℕ) (w : Walk) (i : ℕ
       let n₁ : length (markOf c ds) ≡ markWords = refl in
       let n₃ : suc i ≡ i + 1 = omega arith in
       let a = length (nodesOf (cornersFrom c ds)) in
-      let two : take (markWords * (i + 1)) ms′ ≡ take (markWords * i) ms ++ markOf c ds = ap (take (markWords * (i + 1))) (g .2) ∙ take-sets ms (markOf c ds) (markWords * i) (markWords * (i + 1)) (omega arith) (omega arith) in
-      let fits : a ≤ recordsIn words = under (v .spot .nodes) a words (length t′) (h .count) (h .room) (g .1) in (
+      let two : take (markWords * (i + 1)) ms′ ≡ take (markWords * i) ms ++ markOf c ds = ap (take (markWords * (i + 1))) (g .2) ∙ take-sets ms (markOf c ds) (markWords * i) (markWords * (i + 1)) (omega arith) (omega arith) in (
         g .1,
         ap length (g .2) ∙ length-sets ms (markWords * i) (markOf c ds),
         record {
@@ -104,7 +109,8 @@ module _ (words : ℕ) (c : Corner) (ops t ms ch : List ℕ) (w : Walk) (i : ℕ
           chained = g .0;
           rest = k .rest ∙ ap (survivorsFrom (k .steps)) left ∙ ap (λ (j : ℕ). survivorsFrom ds (drop j ops)) n₃;
           fine = subst (λ (j : ℕ). operationsJudged j (length ds) (drop j ops) ≡ Good) n₃ (subst (λ (n : ℕ). operationsJudged (suc i) n (drop (suc i) ops) ≡ Good) (after-length (k .steps) o) (faults .1));
-          room = k .room ∙ ap (λ (x : List ℕ). roomFrom (recordsIn words) c i (k .steps) x) left ∙ room-fits (recordsIn words) c i (k .steps) o (drop (suc i) ops) fits ∙ ap (λ (j : ℕ). roomFrom (recordsIn words) c j ds (drop j ops)) n₃;
+          fits = under (v .spot .nodes) a words (length t′) (h .count) (h .room) (g .1);
+          room = went ∙ ap (λ (j : ℕ). roomFrom (recordsIn words) c j ds (drop j ops)) n₃;
           marked =
               k .marked ∙ ap (λ (x : List ℕ). take (markWords * i) ms ++ marksFrom c (k .steps) x) left
               ∙ sym (append-assoc (take (markWords * i) ms) (markOf c ds) (marksFrom c ds (drop (suc i) ops)))
@@ -122,5 +128,5 @@ running-end words c ops t ms ch w i k h l b =
     let e : drop i ops ≡ [] = drop-of-length-le ops h in (
       subst (λ (ds : List ℕ). Chained c t ch ds w) (sym (k .rest ∙ ap (survivorsFrom (k .steps)) e)) (k .chained),
       sym (k .marked ∙ ap (λ (x : List ℕ). take (markWords * i) ms ++ marksFrom c (k .steps) x) e ∙ append-nil (take (markWords * i) ms) ∙ take-all (markWords * i) ms (omega arith)),
-      k .room ∙ ap (λ (x : List ℕ). roomFrom (recordsIn words) c i (k .steps) x) e,
+      k .room ∙ ap (λ (x : List ℕ). roomFrom (recordsIn words) c i (k .steps) x) e ∙ room-end (recordsIn words) c i (k .steps) (k .fits),
     )

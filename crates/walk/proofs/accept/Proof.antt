@@ -1,6 +1,5 @@
 -- `walk::accept` meets its contract.
 -- Assumes nothing.
-use mathlib.Core.Path.{_≡_, subst}
 use native.Mathlib.Omega.{arith}
 use borrow.Author.Needs.{needs}
 use Rattle.walk.proofs.CallLaws.{settled-cleared}
@@ -15,7 +14,7 @@ facts-requires c κs =
     let s = c .before .before .before .before .before .before in
     let z = c .before .before .before .zero-from in
     let k = s .pre in
-    record { chain-steps = k .chain-steps; settled = settled-cleared (s .args .chain .now) (z .last .0) (k .chain-steps) (s .args .w) (k .settled) (z .ensures) .0 }
+    record { chain-steps = k .chain-steps; settled = settled-cleared (s .args .start) (s .args .chain .now) (z .last .0) (k .chain-steps) (s .args .w) (k .settled) (z .ensures) .0 }
 
 same-length : tie.Need-same-length
 same-length c = search needs
@@ -25,7 +24,7 @@ returns c =
     let s = c .before .before .before .before .before .before .before in
     let z = c .before .before .before .before .zero-from in
     λ ds k.
-    let h = settled-cleared (s .args .chain .now) (z .last .0) ds (s .args .w) k (z .ensures) in
+    let h = settled-cleared (s .args .start) (s .args .chain .now) (z .last .0) ds (s .args .w) k (z .ensures) in
     (c .facts .ensures ds (h .0), h .1)
 
 pub accept-spec : {M : Type 1} → statement M

@@ -1,8 +1,7 @@
 -- `walk::go_on` meets its contract.
 -- Assumes nothing.
-use mathlib.Core.Path.{_≡_, ap, subst, sym, _∙_}
+use mathlib.Core.Path.{_≡_, ap, subst, _∙_}
 use Prim.Native.Nat.{ℕ}
-use native.Mathlib.Omega.{arith}
 use borrow.Author.Needs.{needs}
 use lib.ListN.{length, replicate}
 use Rattle.walk_run.specs.declared.Ran.{Ran}
@@ -34,7 +33,7 @@ accept-requires c κs =
     let r = c .before .before .before .before .before .before .before .before .before .before .run in
     let w = c .before .before .w .given in
     let e = subst (λ (x : Ran). Ended (length (a .t .now)) origin (a .ops .now) (r .last .1 .0) (r .last .1 .1 .0) (r .last .1 .1 .1 .0) x) (w .1) (r .ensures) in
-    record { chain-steps = survivors (a .ops .now); settled = settled-of (r .last .1 .0) (r .last .1 .1 .1 .0) (survivors (a .ops .now)) (w .0 .0) (e .0) }
+    record { chain-steps = survivors (a .ops .now); settled = settled-of origin (r .last .1 .0) (r .last .1 .1 .1 .0) (survivors (a .ops .now)) (w .0 .0) (e .0) }
 
 same-length : tie.Need-same-length
 same-length c = search needs
@@ -76,8 +75,8 @@ returns-2 c =
     let e = subst (λ (x : Ran). Ended (length (a .t .now)) origin (a .ops .now) (r .last .1 .0) (r .last .1 .1 .0) (r .last .1 .1 .1 .0) x) (w .1) (r .ensures) in
     let p : length (r .last .1 .0) ≡ length (a .t .now) = search needs in
     let o : length (r .last .1 .1 .1 .0) ≡ length (a .chain .now) = search needs in
-    let f = k .ensures (survivors (a .ops .now)) (settled-of (r .last .1 .0) (r .last .1 .1 .1 .0) (survivors (a .ops .now)) (w .0 .0) (e .0)) in
-    followed-all (a .ops .now) (a .t .now) (a .marks .now) (a .chain .now) (r .last .1 .0) (r .last .1 .1 .0) (r .last .1 .1 .1 .0) (k .last .0) (w .0 .0) (k .result) (e .0) (e .1) (e .2) p (o ∙ s .pre .1 .0 .1) (f .0) (f .1)
+    let f = k .ensures (survivors (a .ops .now)) (settled-of origin (r .last .1 .0) (r .last .1 .1 .1 .0) (survivors (a .ops .now)) (w .0 .0) (e .0)) in
+    followed-all (a .ops .now) (a .t .now) (a .marks .now) (a .chain .now) (r .last .1 .0) (r .last .1 .1 .0) (r .last .1 .1 .1 .0) (k .last .1 .0) (w .0 .0) (k .result) (e .0) (e .1) (e .2) p (o ∙ s .pre .1 .0 .1) (f .0) (f .1)
 
 pub go-on-spec : {M : Type 1} → statement M
 go-on-spec =

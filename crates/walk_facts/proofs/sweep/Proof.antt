@@ -1,15 +1,12 @@
 -- `walk_facts::sweep` meets its contract. The invariant: the sum so far and that of what is left is that of the whole.
 -- Assumes nothing.
-use mathlib.Core.Path.{_≡_, refl, ap, sym, subst, _∙_}
-use Prim.Native.Nat.{ℕ, _+_, _*_, _-_, _<_, _≤_}
+use mathlib.Core.Path.{_≡_, ap, sym, subst, _∙_}
+use Prim.Native.Nat.{_+_, _*_, _-_, _≤_}
 use native.Mathlib.Omega.{arith}
-use lib.IntN.{ℤ, pos, natAbs, _+ℤ_, +ℤ-idl, +ℤ-idr}
-use lib.ListN.{length, take, drop, getD, drop-of-length-le}
-use lib.Seq.{getD-take, length-take-le}
+use lib.IntN.{ℤ, natAbs, _+ℤ_, +ℤ-idl}
+use lib.ListN.{take, drop, getD}
 use mir.Syntax.{w32}
 use mir.Val.{toZ, ofZ}
-use mir.ValLaws.{toZ-ofZ}
-use Rattle.grid.specs.Grid.{origin, stepped}
 use Rattle.trace.specs.Verdict.{sweepFrom}
 use Rattle.walk_corner.proofs.SignedLaws.{back}
 use Rattle.walk_facts.specs.Settled.{gain}
@@ -19,27 +16,29 @@ use Rattle.walk_facts.proofs.sweep.Tie as tie
 
 abbrev Inv-loop : tie.InvT-loop
 Inv-loop chain n at₀ sum₀ i₀ at sum i =
-    (i ≤ n) × (natAbs (at .0) ≤ i) × (natAbs (at .1) ≤ i) × (natAbs (toZ w32 sum) ≤ i * 16384) × (sweepFrom origin (take n chain) ≡ toZ w32 sum +ℤ sweepFrom at (drop i (take n chain)))
+    (i ≤ n) × (natAbs (at .0) ≤ 16384 + i) × (natAbs (at .1) ≤ 16384 + i) × (natAbs (toZ w32 sum) ≤ i * 32768) × (sweepFrom at₀ (take n chain) ≡ toZ w32 sum +ℤ sweepFrom at (drop i (take n chain)))
 
 abbrev μ-loop : tie.MeasureT-loop
 μ-loop chain n at₀ sum₀ i₀ at sum i = n - i
 
 loop-holds : tie.Need-loop-holds Inv-loop μ-loop
-loop-holds c = (omega arith, omega arith, omega arith, omega arith, sym (+ℤ-idl (sweepFrom origin (take (c .before .args .n) (c .before .args .chain .now)))))
+loop-holds c =
+    let s = c .before in
+    (omega arith, omega (arith, s .pre .0 .0), omega (arith, s .pre .0 .1), omega arith, sym (+ℤ-idl (sweepFrom (s .args .start) (take (s .args .n) (s .args .chain .now)))))
 
 shared-slice-read-d : tie.Need-shared-slice-read-d Inv-loop μ-loop
-shared-slice-read-d c = omega (arith, c .before .before .before .before .pre .0)
+shared-slice-read-d c = omega (arith, c .before .before .before .before .pre .1)
 
 gained-requires : tie.Need-gained-requires Inv-loop μ-loop
 gained-requires c κs =
     let l = c .before .before .before .loop in
-    (omega (arith, l .inv .3, l .inv .0, c .before .before .before .before .before .pre .1), subst (λ (z : ℤ). natAbs z ≤ 16384) (sym (back (l .at .0) (c .struct-told .given .0 .1))) (omega (arith, l .inv .1, l .inv .0, c .before .before .before .before .before .pre .1)))
+    (omega (arith, l .inv .3, l .inv .0, c .before .before .before .before .before .pre .2), subst (λ (z : ℤ). natAbs z ≤ 32768) (sym (back (l .at .0) (c .struct-told .given .0 .1))) (omega (arith, l .inv .1, l .inv .0, c .before .before .before .before .before .pre .2)))
 
 moved-requires : tie.Need-moved-requires Inv-loop μ-loop
-moved-requires c κs = let l = c .before .before .before .before .loop in (omega (arith, l .inv .1, l .inv .0, c .before .before .before .before .before .before .pre .1), omega (arith, l .inv .2, l .inv .0, c .before .before .before .before .before .before .pre .1))
+moved-requires c κs = let l = c .before .before .before .before .loop in (omega (arith, l .inv .1, l .inv .0, c .before .before .before .before .before .before .pre .2), omega (arith, l .inv .2, l .inv .0, c .before .before .before .before .before .before .pre .2))
 
 add-i : tie.Need-add-i Inv-loop μ-loop
-add-i c = omega (arith, c .before .before .before .before .before .before .before .pre .1)
+add-i c = omega (arith, c .before .before .before .before .before .before .before .pre .2)
 
 loop-less : tie.Need-loop-less Inv-loop μ-loop
 loop-less c = omega arith
@@ -51,14 +50,14 @@ loop-again c =
     let g = c .before .gained in
     let d = getD (s .args .chain .now) (l .i) 0 in
     let e = back (g .result) (g .ok) ∙ g .ensures ∙ ap (λ (x : ℤ). toZ w32 (l .sum) +ℤ gain d x) (back (l .at .0) (c .before .before .struct-told .given .0 .1)) in
-    let h = sweep-again (s .args .chain .now) (s .args .n) (l .i) (l .at) (c .moved .result) (toZ w32 (l .sum)) (toZ w32 (ofZ w32 (g .result))) (sweepFrom origin (take (s .args .n) (s .args .chain .now))) (s .pre .0) (s .pre .1) (omega (arith, c .before .before .before .before .loop-test .taken)) (l .inv .1) (l .inv .2) (l .inv .3) (l .inv .4) (c .moved .ensures) e in
+    let h = sweep-again (s .args .chain .now) (s .args .n) (l .i) (l .at) (c .moved .result) (toZ w32 (l .sum)) (toZ w32 (ofZ w32 (g .result))) (sweepFrom (s .args .start) (take (s .args .n) (s .args .chain .now))) (s .pre .1) (s .pre .2) (omega (arith, c .before .before .before .before .loop-test .taken)) (l .inv .1) (l .inv .2) (l .inv .3) (l .inv .4) (c .moved .ensures) e in
     (omega (arith, c .before .before .before .before .loop-test .taken), h .0, h .1, h .2, h .3)
 
 returns : tie.Need-returns Inv-loop μ-loop
 returns c =
     let s = c .before .before .before in
     let l = c .before .loop in
-    sweep-end (s .args .chain .now) (s .args .n) (l .i) (l .at) (toZ w32 (l .sum)) (sweepFrom origin (take (s .args .n) (s .args .chain .now))) (s .pre .0) (c .loop-test .left) (l .inv .4)
+    sweep-end (s .args .chain .now) (s .args .n) (l .i) (l .at) (toZ w32 (l .sum)) (sweepFrom (s .args .start) (take (s .args .n) (s .args .chain .now))) (s .pre .1) (c .loop-test .left) (l .inv .4)
 
 pub sweep-spec : {M : Type 1} → statement M
 sweep-spec = tie.close (tie.spec Inv-loop μ-loop loop-holds shared-slice-read-d gained-requires moved-requires add-i loop-less loop-again returns)
