@@ -1,4 +1,4 @@
--- The limits of the calls (01, "What the calls take and give"). Assumes nothing.
+-- The limits of the calls (RULES 6.1, 6.3). Assumes nothing.
 use Rattle.lists.specs.Lists.{ℕ, _+_, _*_, _≤_, natAbs}
 use Rattle.grid.specs.declared.Corner.{Corner}
 

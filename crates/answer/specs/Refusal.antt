@@ -1,9 +1,10 @@
--- Refusals and verdicts as the numbers of 01, and the first of several refusals. Assumes nothing.
+-- Refusals and verdicts as the numbers of RULES 1.6 and 6.1, and the first of several refusals. Assumes nothing.
 use Rattle.lists.specs.Lists.{Bool, true, false, List, [], _∷_, ℕ}
 use Rattle.answer.specs.declared.{Refusal.Refusal, Judged.Judged, Judged.the-variants.Good, Judged.the-variants.Refused, Verdict.Verdict}
 use Rattle.answer.specs.declared.Refusal.the-variants.{TooMany, Table, ResultRoom, BadDigit, NothingToTake, TooLong, NoRoom, HullRoom, BadLine}
 use Rattle.answer.specs.declared.Verdict.the-variants.{Nowhere, Open, Room, OpenMeeting, ClosedMeeting, ThereAndBack}
 
+-- the number of a refusal
 abbrev pub refusalNumber : Refusal → ℕ
 refusalNumber TooMany = 1
 refusalNumber Table = 2
@@ -36,6 +37,7 @@ abbrev pub judgedPlace : Judged → ℕ
 judgedPlace Good = 0
 judgedPlace (Refused r) = refusalPlace r
 
+-- the number of a verdict
 abbrev pub verdictNumber : Verdict → ℕ
 verdictNumber Nowhere = 0
 verdictNumber Open = 1

@@ -1,4 +1,4 @@
--- The worked walks P1 to P12 (01, "Worked walks"): for each row the operations, and what is said of them.
+-- The worked walks P1 to P12 (RULES 9.1): for each row the operations, and what is said of them.
 -- Assumes nothing.
 use mathlib.Core.Path.{_≡_}
 use mathlib.Core.List.{List, [], _∷_}
@@ -62,6 +62,7 @@ FactHolds os (judgedAs r n p) =
     (judgedNumber (walkJudged origin os (r * width) (markWords * length os) (length os)) ≡ n)
     × (judgedPlace (walkJudged origin os (r * width) (markWords * length os) (length os)) ≡ p)
 
+-- all of them hold
 abbrev pub HoldAll : List ℕ → List Fact → Type 0
 HoldAll os [] = Unit {0}
 HoldAll os (f ∷ fs) = FactHolds os f × HoldAll os fs
@@ -78,6 +79,7 @@ abbrev pub Worked : List WorkedRow → Type 0
 Worked [] = Unit {0}
 Worked (r ∷ rs) = HoldAll (r .operations) (r .facts) × Worked rs
 
+-- a corner with no coordinate below zero
 abbrev pub at : ℕ → ℕ → Corner
 at x y = corner (pos x) (pos y)
 

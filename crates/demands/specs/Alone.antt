@@ -1,4 +1,4 @@
--- What is lent for the record of the surviving steps alone (00, demand 3; 01, "How far a contract must reach").
+-- What is lent for the record of the surviving steps alone (RULES 8.3).
 -- Assumes nothing.
 use mathlib.Core.List.{List}
 use mathlib.Core.Path.{_≡_}

@@ -1,4 +1,4 @@
--- When each answer of the hull's call is given (01, "What the calls take and give").
+-- When each answer of the hull's call is given (RULES 6.1 to 6.3).
 -- Assumes nothing.
 use mathlib.Core.List.{List}
 use Prim.Native.Nat.{ℕ, _*_, _<_, _≤_}

@@ -1,4 +1,4 @@
--- What each word of a node's record says (01, "The tree", the table of words). ps are the corners p0 to pn.
+-- What each word of a node's record says (RULES 4.2). ps are the corners p0 to pn.
 -- Assumes nothing.
 use mathlib.Core.Bool.{true, false}
 use mathlib.Core.List.{List, List·Memᴰ}

@@ -1,4 +1,4 @@
--- Corners, panels and steps (01, "Corners, panels and words"). A step is a digit: 0 east, 1 north, 2 west, 3 south. Assumes nothing.
+-- Corners, panels and steps (RULES 1.1, 1.2, 1.4). A step is a digit: 0 east, 1 north, 2 west, 3 south. Assumes nothing.
 use Rattle.lists.specs.Lists.{Bool, false, _&&_, List, [], _∷_, take, ℕ, zero, suc, eqb, ℤ, pos, negsuc, sucℤ, predℤ}
 use Rattle.grid.specs.declared.{Corner.Corner, Panel.Panel}
 
@@ -14,6 +14,7 @@ origin = corner (pos 0) (pos 0)
 abbrev pub panelAt : Corner → Panel
 panelAt c = record { 0 = c .0; 1 = c .1 }
 
+-- the two are one number
 abbrev pub eqZ : ℤ → ℤ → Bool
 eqZ (pos a) (pos b) = eqb a b
 eqZ (pos a) (negsuc b) = false

@@ -1,4 +1,4 @@
--- The tree over the corners: parent, ancestors, child index (01, "The tree"). Assumes nothing.
+-- The tree over the corners: parent, ancestors, child index (RULES 3.1, 3.2). Assumes nothing.
 use Rattle.lists.specs.Lists.{_≡_, Bool, true, false, List, [], _∷_, _++_, ℕ, zero, suc, _+_, _*_, _/_, _%_, ℤ, pos, negsuc, negℤ, natAbs}
 use Rattle.grid.specs.{declared.Corner.Corner, Grid.corner, Grid.same}
 
@@ -11,6 +11,7 @@ halfOf (negsuc n) = negℤ (pos (suc n / 2))
 abbrev pub root : Corner
 root = corner (pos 0) (pos 0)
 
+-- the corner is the root
 abbrev pub isRoot : Corner → Bool
 isRoot c = same c root
 

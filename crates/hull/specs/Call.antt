@@ -1,4 +1,4 @@
--- What the hull call answers, and what it leaves in the buffer (01, "What the calls take and give"). Assumes nothing.
+-- What the hull call answers, and what it leaves in the buffer (RULES 5.5, 6.3, 6.6). Assumes nothing.
 use Rattle.lists.specs.Lists.{_≡_, List, [], _∷_, _++_, length, drop, ℕ, suc, _*_, eqb, ltb, ℤ}
 use Rattle.grid.specs.{declared.Corner.Corner, Grid.cornersFrom}
 use Rattle.answer.specs.declared.{Judged.Judged, Judged.the-variants.Good, Judged.the-variants.Refused, Refusal.the-variants.TooMany, Refusal.the-variants.BadDigit, Refusal.the-variants.TooLong, Refusal.the-variants.HullRoom, Counted.Counted}

@@ -1,4 +1,4 @@
--- Worked hulls, computed (01, "Worked walks").
+-- Worked hulls, computed (RULES 9.1).
 -- Assumes nothing.
 use mathlib.Core.Path.{_≡_, refl}
 use mathlib.Core.List.{[], _∷_}

@@ -53,6 +53,7 @@ eastFrom x (d ∷ ds) = max x (eastFrom (colAfter x d) ds)
 unfoldable pub sink : List ℕ → ℕ × ℕ → List ℕ
 sink a v = set a (v .0) (min (getD a (v .0) 0) (v .1))
 
+-- and so for several, one after the other
 unfoldable pub sinks : List ℕ → List (ℕ × ℕ) → List ℕ
 sinks a [] = a
 sinks a (v ∷ vs) = sinks (sink a v) vs

@@ -1,4 +1,4 @@
--- The marks after each operation, and the chain of surviving steps (01, "What the calls take and give"). Assumes nothing.
+-- The marks after each operation, and the chain of surviving steps (RULES 5.3, 5.4). Assumes nothing.
 use Rattle.lists.specs.Lists.{List, [], _∷_, _++_, length, replicate, ℕ, _-_, count}
 use Rattle.grid.specs.{declared.Corner.Corner, Grid.same, Grid.cornersFrom, Grid.endFrom}
 use Rattle.steps.specs.Operations.{operate, survivors}

@@ -1,4 +1,4 @@
--- The words of a record, and the table (01, "The tree"). Assumes nothing.
+-- The words of a record, and the table (RULES 4.1 to 4.3). Assumes nothing.
 use Rattle.lists.specs.Lists.{cond, not, _&&_, List, [], _∷_, _++_, length, replicate, ℕ, zero, suc, _+_, _-_, _*_, _/_, _≤_, eqb, find, count}
 use Rattle.grid.specs.{declared.Corner.Corner, Grid.same, Grid.stepped, Grid.cornersFrom, Tree.parentOf, Tree.isRoot, Tree.childWord}
 use Rattle.tree.specs.Nodes.{nodesOf, refOf, needOf, linkStepOf}
@@ -91,6 +91,7 @@ fieldsOf ps ns a = record {
 abbrev pub recordOf : List Corner → List Corner → Corner → List ℕ
 recordOf ps ns a = wordsOf (fieldsOf ps ns a)
 
+-- the records of these nodes, one after the other
 abbrev pub recordsOf : List Corner → List Corner → List Corner → List ℕ
 recordsOf ps ns [] = []
 recordsOf ps ns (a ∷ rest) = recordOf ps ns a ++ recordsOf ps ns rest

@@ -9,7 +9,7 @@ use Rattle.line_frame.specs.Line.{frameOf, lineAnswer}
 use Rattle.line_frame.specs.Program.{linesFrom, owedOf, program}
 use Rattle.line_frame.proofs.Bytes.{bytesOf}
 
--- the input of 01, and its output
+-- the input of RULES 7.6, and its output
 pub sample :
     program (bytesOf "0000040123\n000006004123\n0000015\n")
     ≡ bytesOf "0200040000000400040000000400000001000400000000000100000001000100000001\n0200040000000400040000000400000001000400000000000100000001000100000001\n8400000000\n"

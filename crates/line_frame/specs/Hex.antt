@@ -1,4 +1,4 @@
--- Hexadecimal, in lower case (01, "The line program"). Assumes nothing.
+-- Hexadecimal, in lower case (RULES 7.2, 7.4). Assumes nothing.
 use Rattle.lists.specs.Lists.{Bool, true, cond, _&&_, _||_, List, [], _∷_, _++_, getD, ℕ, zero, suc, _+_, _-_, _*_, _/_, _%_, _^_, ltb, leb, ℤ, pos, negsuc}
 
 -- the byte is 0 to 9 or a to f

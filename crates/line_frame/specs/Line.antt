@@ -1,4 +1,4 @@
--- One line: the frame that it is, and its answer without the line feed (01, "The line program"). Assumes nothing.
+-- One line: the frame that it is, and its answer without the line feed (RULES 7.2, 7.5). Assumes nothing.
 use Rattle.lists.specs.Lists.{Bool, cond, _&&_, List, length, take, drop, ℕ, zero, suc, _+_, eqb, ltb, leb}
 use Rattle.answer.specs.declared.Refusal.the-variants.{BadLine}
 use Rattle.line_frame.specs.declared.{Kind.Kind, Kind.the-variants.Operations, Kind.the-variants.Turns, Frame.Frame, Frame.the-variants.Of, Frame.the-variants.Bad}

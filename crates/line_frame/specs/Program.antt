@@ -1,4 +1,4 @@
--- The whole output for a whole input (01, "The line program"). Assumes nothing.
+-- The whole output for a whole input (RULES 7.1). Assumes nothing.
 use Rattle.lists.specs.Lists.{true, false, List, [], _∷_, _++_, ℕ, eqb}
 use Rattle.line_frame.specs.Line.{lineAnswer}
 

@@ -1,4 +1,4 @@
--- The sizes of the line program (01, "The line program"). Assumes nothing.
+-- The sizes of the line program (RULES 7.2, 7.3, 7.7). Assumes nothing.
 use Rattle.lists.specs.Lists.{ℕ, suc, _+_, _*_}
 use Rattle.layout.specs.{Table.width, Marks.markWords}
 

@@ -1,4 +1,4 @@
--- The answer to a good frame, without the line feed (01, "The line program"). Assumes nothing.
+-- The answer to a good frame, without the line feed (RULES 7.3 to 7.5). Assumes nothing.
 use Rattle.lists.specs.Lists.{List, [], _∷_, _++_, length, ℕ, _+_, _*_, ℤ}
 use Rattle.answer.specs.declared.{Refusal.Refusal, Judged.Judged, Judged.the-variants.Good, Judged.the-variants.Refused, Facts.Facts, Answer.Answer}
 use Rattle.answer.specs.Refusal.{refusalNumber, refusalPlace, verdictNumber}

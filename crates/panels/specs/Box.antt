@@ -3,6 +3,7 @@ use Rattle.lists.specs.Lists.{cond, List, [], _∷_, _++_, ℕ, zero, suc, ℤ,
 use Rattle.grid.specs.{declared.Corner.Corner, declared.Panel.Panel, Grid.corner, Grid.panelAt, Grid.stepped}
 use Rattle.panels.specs.Edges.{surplusOf}
 
+-- the lesser and the greater of two numbers
 abbrev pub lesser : ℤ → ℤ → ℤ
 lesser a b = cond (leZ a b) a b
 

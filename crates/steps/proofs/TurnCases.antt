@@ -6,7 +6,7 @@ use Rattle.answer.specs.declared.Judged.the-variants.{Good, Refused}
 use Rattle.answer.specs.declared.Refusal.the-variants.{ResultRoom, BadDigit}
 use Rattle.steps.specs.Turns.{turnsOf, stepsOf, turnsJudged, writtenIf}
 
--- the word of document 000 and its turns: the first digit is the first step
+-- the word of P11 and its turns: the first digit is the first step
 turns-of-the-word : turnsOf (0 ∷ 0 ∷ 1 ∷ 1 ∷ 0 ∷ 0 ∷ 3 ∷ 2 ∷ 2 ∷ 2 ∷ 2 ∷ 3 ∷ []) ≡ 0 ∷ 0 ∷ 1 ∷ 0 ∷ 3 ∷ 0 ∷ 3 ∷ 3 ∷ 0 ∷ 0 ∷ 0 ∷ 1 ∷ []
 turns-of-the-word = refl
 

@@ -1,4 +1,4 @@
--- The surviving steps of a string of operations, and the refusals 4, 5 and 6 (01, "Corners, panels and words" and the table of refusals). Assumes nothing.
+-- The surviving steps of a string of operations, and the refusals 4, 5 and 6 (RULES 1.3, 6.1). Assumes nothing.
 use Rattle.lists.specs.Lists.{_≡_, _⊎_, true, false, not, _&&_, List, [], _∷_, _++_, length, ℕ, suc, _+_, _-_, _<_, _≤_, eqb, ltb, front, Below}
 use Rattle.answer.specs.declared.{Judged.Judged, Judged.the-variants.Good, Refusal.the-variants.BadDigit, Refusal.the-variants.NothingToTake, Refusal.the-variants.TooLong}
 use Rattle.answer.specs.{Limits.mostSteps, Refusal.when, Refusal.orElse, Refusal.firstOf}

@@ -1,4 +1,4 @@
--- Steps as turns and turns as steps (01, "Turns"), and the refusals of both calls. Assumes nothing.
+-- Steps as turns and turns as steps (RULES 2.1, 2.2, 6.3), and the refusals of both calls. Assumes nothing.
 use Rattle.lists.specs.Lists.{_≡_, not, List, [], _∷_, length, ℕ, suc, _+_, _-_, _%_, eqb, ltb}
 use Rattle.answer.specs.declared.{Judged.Judged, Judged.the-variants.Good, Judged.the-variants.Refused, Refusal.the-variants.TooMany, Refusal.the-variants.ResultRoom, Refusal.the-variants.BadDigit}
 use Rattle.answer.specs.{Limits.mostInput, Refusal.when, Refusal.orElse, Refusal.firstOf}

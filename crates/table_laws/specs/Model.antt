@@ -20,6 +20,7 @@ pub record Out : Type 0 where
 abbrev pub out : List ℕ → ℕ → ℕ → Out
 out t a n = record { table = t; at = a; nodes = n }
 
+-- the child in word w of node u, made by step s if it is not there: `child`
 abbrev pub childIn : List ℕ → ℕ → ℕ → ℕ → ℕ → Out
 childIn t n u w s =
     elim (getD t (wordAt u w) 0) [
@@ -31,9 +32,11 @@ childIn t n u w s =
 abbrev pub linkIn : List ℕ → ℕ → ℕ → ℕ → ℕ → List ℕ
 linkIn t u v d s = set (set (set (set t (wordAt u (neighbourWord d)) (v + 1)) (wordAt u (linkWord d)) s) (wordAt v (neighbourWord ((d + 2) % 4))) (u + 1)) (wordAt v (linkWord ((d + 2) % 4))) s
 
+-- the node found is linked with u
 abbrev pub joinIn : Out → ℕ → ℕ → ℕ → Out
 joinIn v u d s = elim (v .at) [ zero ↦ v | suc k ↦ out (linkIn (v .table) u k d s) (suc k) (v .nodes) ]
 
+-- the child e of the node found, linked with u
 abbrev pub finishIn : Out → ℕ → Corner → ℕ → ℕ → Out
 finishIn o u e d s = elim (o .at) [ zero ↦ o | suc p ↦ joinIn (childIn (o .table) (o .nodes) p (childWord e) s) u d s ]
 
@@ -45,6 +48,7 @@ aboveIn call t n u c e =
       | false ↦ elim (same (parentOf c) (parentOf e)) [ true ↦ out t (getD t (wordAt u parentWord) 0) n | false ↦ call (getD t (wordAt u parentWord) 0 - 1) (parentOf c) ]
     ]
 
+-- the neighbour of node u, which is the corner c, in direction d, by step s: `neighbour`
 abbrev pub neighbourIn : ℕ → List ℕ → ℕ → ℕ → Corner → ℕ → ℕ → Out
 neighbourIn zero t n u c d s = out t 0 n
 neighbourIn (suc f) t n u c d s =
@@ -61,6 +65,7 @@ visitIn t r k =
       | false ↦ set t (wordAt r visitsWord) (getD t (wordAt r visitsWord) 0 + 1)
     ]
 
+-- a visit taken back
 abbrev pub unvisitIn : List ℕ → ℕ → List ℕ
 unvisitIn t r =
     elim (eqb (getD t (wordAt r visitsWord) 0) 1) [

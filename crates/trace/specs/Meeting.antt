@@ -1,4 +1,4 @@
--- Meetings of two visits, and the different corners (01, "Corners, panels and words"). Assumes nothing.
+-- Meetings of two visits, and the different corners (RULES 1.4, 1.5). Assumes nothing.
 use Rattle.lists.specs.Lists.{_≡_, List, [], _∷_, _++_, length, ℕ, zero, suc, _<_, _≤_, find, gather}
 use Rattle.answer.specs.Limits.{noMeeting}
 use Rattle.grid.specs.{declared.Corner.Corner, Grid.same, Grid.cornersFrom, Grid.cornerAt}
@@ -14,6 +14,7 @@ pub record FirstMeets (c : Corner) (ds : List ℕ) (j k : ℕ) : Type 0 where
   pub meets : Meets c ds j k
   pub least : (i m : ℕ) → Meets c ds i m → k ≤ m
 
+-- a meeting (j,k), or none
 pub data Meeting : Type 0 where
   none : Meeting
   meet : ℕ → ℕ → Meeting

@@ -1,4 +1,4 @@
--- The verdict on a walk, and the signed area of a room (01, "Corners, panels and words"). Assumes nothing.
+-- The verdict on a walk, and the signed area of a room (RULES 1.6, 1.7). Assumes nothing.
 use Rattle.lists.specs.Lists.{_≡_, Bool, true, false, cond, _&&_, List, [], _∷_, length, ℕ, zero, suc, _<_, _≤_, eqb, ℤ, pos, _+ℤ_, _-ℤ_, _*ℤ_}
 use Rattle.answer.specs.declared.Verdict.{Verdict, the-variants.Nowhere, the-variants.Open, the-variants.Room, the-variants.OpenMeeting, the-variants.ClosedMeeting, the-variants.ThereAndBack}
 use Rattle.answer.specs.Refusal.{verdictNumber}
@@ -21,6 +21,7 @@ verdictBy (suc n) false none = Open
 verdictBy (suc n) false (meet j k) = OpenMeeting
 verdictBy (suc n) true m = cond (onlyEnds (suc n) m) (roundBy (suc n)) ClosedMeeting
 
+-- the verdict on the walk of these steps from c
 abbrev pub verdictOf : Corner → List ℕ → Verdict
 verdictOf c ds = verdictBy (length ds) (same (endFrom c ds) c) (meetingOf c ds)
 

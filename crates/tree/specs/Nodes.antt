@@ -1,4 +1,4 @@
--- The nodes in use in their order, and the links between them (01, "The tree"). ps are the corners p0 to pn. Assumes nothing.
+-- The nodes in use in their order, and the links between them (RULES 3.3 to 3.6). ps are the corners p0 to pn. Assumes nothing.
 use Rattle.lists.specs.Lists.{Bool, _&&_, _||_, List, [], _∷_, _++_, List·Memᴰ, length, getD, _⊎_, ℕ, pred, _<_, any, find, gather, zip}
 use Rattle.grid.specs.{declared.Corner.Corner, Grid.origin, Grid.same, Grid.stepped, Tree.AncestorAt, Tree.lineageOf, Tree.pathOf}
 

@@ -37,6 +37,7 @@ pub record WellLinked (ns : List Corner) (L : Corner → Corner → ℕ) : Type 
   pub both : (x y : Corner) → L x y ≡ L y x
   pub up : (x y : Corner) → 0 < L x y → isRoot x ≡ false → isRoot y ≡ false → (parentOf x ≡ parentOf y → ⊥) → 0 < L (parentOf x) (parentOf y)
 
+-- the nodes in their order; the step of the link of two nodes; the visits, the needing step and 1 + the first visit of a node
 pub record State : Type 0 where
   pub nodes : List Corner
   pub step : Corner → Corner → ℕ
@@ -48,6 +49,7 @@ pub record State : Type 0 where
 abbrev pub isNew : List Corner → Corner → Corner → Bool
 isNew ns e x = not (any (same x) ns) && any (same x) (pathOf e)
 
+-- the needing steps after a lookup of e by step s
 abbrev pub needed : List Corner → (Corner → ℕ) → ℕ → Corner → Corner → ℕ
 needed ns N s e x = cond (isNew ns e x) s (N x)
 
@@ -137,6 +139,7 @@ stateOf ps = record {
   first = λ a. find (same a) ps;
 }
 
+-- the ref of the neighbour in direction d, if there is a link
 abbrev pub neighbourBy : List Corner → (Corner → Corner → ℕ) → Corner → ℕ → ℕ
 neighbourBy ns L a d = elim (L a (stepped d a)) [ zero ↦ 0 | suc k ↦ refOf ns (stepped d a) ]
 
@@ -160,9 +163,11 @@ abbrev pub rowsOf : (Corner → List ℕ) → List Corner → List ℕ
 rowsOf R [] = []
 rowsOf R (a ∷ l) = R a ++ rowsOf R l
 
+-- so many words: these, then zeros
 abbrev pub filled : ℕ → List ℕ → List ℕ
 filled words rs = rs ++ replicate (words - length rs) 0
 
+-- the table of a state
 abbrev pub tableBy : ℕ → State → List ℕ
 tableBy words S = filled words (rowsOf (recordBy S) (S .nodes))
 

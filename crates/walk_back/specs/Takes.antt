@@ -33,6 +33,7 @@ pub record Unlinks (t : List ℕ) (u d s : ℕ) (S : State) (z : Corner) : Type 
   pub held : UnlinkAt (length t) S sound s pos z d dir small t u
   pub room : width * length (gather same (S .nodes) (pathOf z)) ≤ length t
 
+-- the same, for some state and corner
 pub record Unlinkable (t : List ℕ) (u d s : ℕ) : Type 0 where
   pub state : State
   pub end : Corner
@@ -45,6 +46,7 @@ pub record Drops (t : List ℕ) (left u : ℕ) (h : Corner) (s : ℕ) (S : State
   pub small : (x : Corner) → S .need x < s
   pub held : DropAt (length t) S sound s pos small t left u h
 
+-- the same, for some state
 pub record Droppable (t : List ℕ) (left u : ℕ) (h : Corner) (s : ℕ) : Type 0 where
   pub state : State
   pub holds : Drops t left u h s state

@@ -1,4 +1,4 @@
--- The walk's refusals in their order, its answer, and its three buffers (01, "What the calls take and give"). Assumes nothing.
+-- The walk's refusals in their order, its answer, and its three buffers (RULES 5.2, 6.2, 6.5, 6.6). Assumes nothing.
 use Rattle.lists.specs.Lists.{_≡_, Bool, cond, not, _&&_, List, [], _∷_, length, replicate, ℕ, suc, _*_, _%_, eqb, ltb, leb, _++_, pred}
 use Rattle.answer.specs.declared.{Judged.Judged, Judged.the-variants.Good, Judged.the-variants.Refused, Refusal.the-variants.TooMany, Refusal.the-variants.Table, Refusal.the-variants.ResultRoom, Refusal.the-variants.NoRoom, Facts.Facts, Answer.Answer}
 use Rattle.answer.specs.{Limits.mostInput, Limits.mostRecords, Refusal.when, Refusal.orElse, Refusal.firstOf, Refusal.refusalNumber}
@@ -34,6 +34,7 @@ roomFrom records c k ds (o ∷ os) = orElse (roomAt records c k ds) (roomFrom re
 abbrev pub walkJudgements : Corner → List ℕ → ℕ → ℕ → ℕ → List Judged
 walkJudgements c os words marks chain = inputJudgements os words marks chain ++ (roomFrom (recordsIn words) c 0 [] os ∷ [])
 
+-- the first of them that is a refusal
 abbrev pub walkJudged : Corner → List ℕ → ℕ → ℕ → ℕ → Judged
 walkJudged c os words marks chain = firstOf (walkJudgements c os words marks chain)
 
@@ -50,6 +51,7 @@ factsOf c ds = record {
   last = endFrom c ds;
 }
 
+-- the facts, or the refusal
 abbrev pub answerBy : Judged → Facts → Answer
 answerBy Good f = Answer.Accepted f
 answerBy (Refused r) f = Answer.Refused r
