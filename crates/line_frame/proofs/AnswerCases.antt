@@ -6,14 +6,14 @@ use Rattle.hull_laws.specs.Outline.{turnsAt, cutAt, chainFrom, outlineOf, hullO
 use Rattle.line_frame.specs.Hex.{allHex, valuesOf, numberFrom, hexOf}
 use Rattle.line_frame.specs.Spelled.{walkedLine, turnedLine, numbersLine}
 use Rattle.line_frame.specs.Line.{frameOf, lineAnswer}
-use Rattle.line_frame.specs.Program.{linesFrom, owedOf, program}
+use Rattle.line_frame.specs.Program.{outputFrom, program}
 use Rattle.line_frame.proofs.Bytes.{bytesOf}
 
 -- the input of RULES 7.6, and its output
 pub sample :
     program (bytesOf "0000040123\n000006004123\n0000015\n")
     ≡ bytesOf "0200040000000400040000000400000001000400000000000100000001000100000001\n0200040000000400040000000400000001000400000000000100000001000100000001\n8400000000\n"
-unfolding lineAnswer frameOf allHex valuesOf numberFrom hexOf walkedLine turnedLine numbersLine hullOf outlineOf chainFrom cutAt turnsAt sinks sink westFrom eastFrom trail colAfter rowAfter bytesOf linesFrom owedOf
+unfolding lineAnswer frameOf allHex valuesOf numberFrom hexOf walkedLine turnedLine numbersLine hullOf outlineOf chainFrom cutAt turnsAt sinks sink westFrom eastFrom trail colAfter rowAfter bytesOf outputFrom
 sample = refl
 
 -- P1, no operations

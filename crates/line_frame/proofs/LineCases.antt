@@ -1,13 +1,14 @@
 -- Frames and fields, computed on small inputs.
 -- Assumes nothing.
 use mathlib.Core.Path.{_≡_, refl}
-use mathlib.Core.List.{[], _∷_}
+use mathlib.Core.List.{List, [], _∷_, _++_}
+use Prim.Native.Nat.{ℕ}
 use lib.IntN.{negsuc}
 use Rattle.line_frame.specs.declared.Kind.the-variants.{Operations, Turns}
 use Rattle.line_frame.specs.declared.Frame.the-variants.{Of, Bad}
 use Rattle.line_frame.specs.Hex.{allHex, valuesOf, numberFrom, hexOf, bitsOf}
 use Rattle.line_frame.specs.Line.{frameOf, digitsOf, lineAnswer}
-use Rattle.line_frame.specs.Program.{linesFrom, owedOf, program}
+use Rattle.line_frame.specs.Program.{outputFrom, program}
 use Rattle.line_frame.proofs.Bytes.{bytesOf}
 
 pub one-operation : frameOf (bytesOf "0000015") ≡ Of Operations 1
@@ -64,20 +65,29 @@ pub minus-256 : hexOf 8 (bitsOf (negsuc 255)) ≡ bytesOf "ffffff00"
 unfolding hexOf bytesOf
 minus-256 = refl
 
+-- a line between marks
+abbrev marked : List ℕ → List ℕ
+marked l = bytesOf "<" ++ l ++ bytesOf ">"
+
 -- nothing follows a final line feed; the last line may lack it; an empty line is a line
-pub final-feed : linesFrom [] (bytesOf "0\n") ≡ bytesOf "0" ∷ []
-unfolding linesFrom bytesOf
+pub final-feed : outputFrom marked marked [] (bytesOf "0\n") ≡ bytesOf "<0>"
+unfolding outputFrom bytesOf
 final-feed = refl
 
-pub no-final-feed : linesFrom [] (bytesOf "0\n1") ≡ bytesOf "0" ∷ bytesOf "1" ∷ []
-unfolding linesFrom bytesOf
+pub no-final-feed : outputFrom marked marked [] (bytesOf "0\n1") ≡ bytesOf "<0><1>"
+unfolding outputFrom bytesOf
 no-final-feed = refl
 
-pub feed-alone : linesFrom [] (bytesOf "\n") ≡ [] ∷ []
-unfolding linesFrom bytesOf
+pub feed-alone : outputFrom marked marked [] (bytesOf "\n") ≡ bytesOf "<>"
+unfolding outputFrom bytesOf
 feed-alone = refl
+
+-- what is told of a last line that lacks its line feed may be something else
+pub another-last : outputFrom marked (λ l. l) [] (bytesOf "0\n1") ≡ bytesOf "<0>1"
+unfolding outputFrom bytesOf
+another-last = refl
 
 -- no input, no output
 pub nothing : program [] ≡ []
-unfolding owedOf linesFrom
+unfolding outputFrom
 nothing = refl

@@ -3,24 +3,21 @@ use Rattle.lists.specs.Lists.{true, false, List, [], _∷_, _++_, ℕ, eqb}
 use Rattle.line_frame.specs.Line.{lineAnswer}
 
 -- what is left of the input after its last line feed: a line, unless there is nothing
-abbrev pub lastLine : List ℕ → List (List ℕ)
-lastLine [] = []
-lastLine (b ∷ s) = (b ∷ s) ∷ []
+abbrev pub lastOf : (List ℕ → List ℕ) → List ℕ → List ℕ
+lastOf f [] = []
+lastOf f (b ∷ s) = f (b ∷ s)
 
--- the lines of an input, of whose first line these bytes were read before
-unfoldable pub linesFrom : List ℕ → List ℕ → List (List ℕ)
-linesFrom line [] = lastLine line
-linesFrom line (b ∷ s) = elim (eqb b 10) [ true ↦ line ∷ linesFrom [] s | false ↦ linesFrom (line ++ (b ∷ [])) s ]
+-- an output made line by line, where these bytes of the first line were read before: what is told of each line that a line feed ends, and what
+-- is told of a last line that lacks it
+unfoldable pub outputFrom : (List ℕ → List ℕ) → (List ℕ → List ℕ) → List ℕ → List ℕ → List ℕ
+outputFrom told last line [] = lastOf last line
+outputFrom told last line (b ∷ s) =
+    elim (eqb b 10) [ true ↦ told line ++ outputFrom told last [] s | false ↦ outputFrom told last (line ++ (b ∷ [])) s ]
 
--- each line's answer, ended by a line feed
-abbrev pub answersOf : List (List ℕ) → List ℕ
-answersOf [] = []
-answersOf (l ∷ ls) = lineAnswer l ++ (10 ∷ []) ++ answersOf ls
+-- a line's answer, ended by a line feed
+abbrev pub answered : List ℕ → List ℕ
+answered l = lineAnswer l ++ (10 ∷ [])
 
--- what is still to be written, where these bytes of a line were read and the others are left
-unfoldable pub owedOf : List ℕ → List ℕ → List ℕ
-owedOf line s = answersOf (linesFrom line s)
-
--- the output for an input
+-- the output for an input: every line is answered, the last too
 abbrev pub program : List ℕ → List ℕ
-program s = owedOf [] s
+program s = outputFrom answered answered [] s

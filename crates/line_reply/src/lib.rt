@@ -48,9 +48,6 @@ impl Desk {
     // the numbers that list them
     pub const HULL: usize = 2 * Desk::CORNERS;
 
-    // bytes that are kept of a line begun: those of the longest frame, and one by which a longer line is known
-    pub const LINE: usize = Frame::HEAD + Frame::MOST_DIGITS + 1;
-
     // bytes that no answer line exceeds: 34 digits of facts, 4 of the hull count, 8 for each hull corner, the line feed, and one to spare
     pub const MOST_ANSWER: usize = 40 + 8 * Desk::CORNERS;
 }

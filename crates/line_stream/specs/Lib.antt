@@ -1,2 +1,3 @@
--- What the calls that take input in parts promise.
-pub mod Feed
+-- What is said of input that comes in parts, and what the functions that take a part promise.
+pub mod Stream
+pub mod Fill

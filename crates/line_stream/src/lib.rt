@@ -1,1 +1,61 @@
-// Input that comes in parts, as the calls that take it promise it: what one call passes, writes and holds.
+// Input that comes in parts: how far a call went, where a line ends, and the bytes of a line begun, which are held in a lent buffer.
+use line_frame::Frame;
+ghost use mathlib.Core.Path.{_≡_};
+ghost use Prim.Native.Nat.{_+_, _-_, _<_, _≤_};
+ghost use lib.ListN.{length, take, drop};
+ghost use mathlib.Core.List.{_++_};
+ghost use Rattle.line_stream.specs.Stream.{lineLength, keptOf};
+ghost use Rattle.line_frame.specs.Sizes.{mostHeld};
+ghost use Rattle.line_fields.specs.Put.{Wrote};
+
+// After a call: so many bytes are held of the line begun, the chunk was passed up to at, and the output up to used is written.
+pub struct Progress {
+    pub held: usize,
+    pub at: usize,
+    pub used: usize,
+}
+
+impl Progress {
+    // the bytes that are held of a line at most: one more than a frame has
+    pub const MOST_HELD: usize = Frame::HEAD + Frame::MOST_DIGITS + 1;
+}
+
+// The place of the first line feed from at on, or the length.
+pub fn line_end(s: &[u8], at: usize) -> usize
+    requires { ⌜ at ≤ length (now s) ⌝ }
+    ensures { λ r. ⌜ r ≡ at + lineLength (drop at (now (s .entry))) ⌝ }
+{
+    let mut i = at;
+    while i < s.len() {
+        if s[i] == 10 {
+            return i;
+        }
+        i += 1;
+    }
+    i
+}
+
+fn least(a: usize, b: usize) -> usize
+    ensures { λ r. ⌜ (r ≤ a) × (r ≤ b) ⌝ }
+    ensures { λ r. ⌜ ((r < a → r ≡ b) × (r < b → r ≡ a)) ⌝ }
+{
+    if a < b {
+        return a;
+    }
+    b
+}
+
+// Holds the bytes of the chunk from at up to end, as far as there is room. Answers how many are held then.
+pub fn hold(line: &mut [u8], held: usize, s: &[u8], at: usize, end: usize) -> usize
+    requires { ⌜ (held ≤ mostHeld) × (length (now line) ≡ mostHeld) ⌝ }
+    requires { ⌜ (at ≤ end) × (end ≤ length (now s)) ⌝ }
+    ensures { λ r. ⌜ Wrote (keptOf (take held (now (line .entry)) ++ take (end - at) (drop at (now (s .entry))))) 0 (now (line .entry)) r (now (line .exit)) ⌝ }
+{
+    let m = least(end - at, Progress::MOST_HELD - held);
+    let mut i = 0;
+    while i < m {
+        line[held + i] = s[at + i];
+        i += 1;
+    }
+    held + m
+}

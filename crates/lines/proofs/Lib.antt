@@ -1,4 +1,3 @@
 -- The laws that the proofs of lines cite.
-pub mod FeedSteps
-pub mod CallSteps
+pub mod AnsweringLaws
 pub mod Demand

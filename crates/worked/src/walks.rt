@@ -1,5 +1,6 @@
 // Walks in a small table, one a line: a letter for the records of the table, a for 1 to l for 12, then the operations.
 use crate::show;
+use line_stream::line_end;
 ghost use Prim.Native.Nat.{_≤_};
 ghost use lib.ListN.{length};
 
@@ -76,26 +77,11 @@ fn one(line: &[u8]) {
     run(&ops[..n], records);
 }
 
-// The place of the first line feed from at on, or the length.
-fn end_of(s: &[u8], at: usize) -> usize
-    requires { ⌜ at ≤ length (now s) ⌝ }
-    ensures { λ r. ⌜ (at ≤ r) × (r ≤ length (now (s .entry))) ⌝ }
-{
-    let mut i = at;
-    while i < s.len() {
-        if s[i] == 10 {
-            return i;
-        }
-        i += 1;
-    }
-    i
-}
-
 // Every line.
 pub(crate) fn each(s: &[u8]) {
     let mut at = 0;
     while at < s.len() {
-        let end = end_of(s, at);
+        let end = line_end(s, at);
         one(&s[at..end]);
         at = end + 1;
     }

@@ -63,6 +63,8 @@ fn judge(input: &[u8]) -> Vec<u8> {
     let mut stdin = judge.stdin.take().unwrap();
     std::thread::scope(|scope| {
         scope.spawn(move || stdin.write_all(input).unwrap());
-        judge.wait_with_output().unwrap().stdout
+        let output = judge.wait_with_output().unwrap();
+        assert!(output.status.success());
+        output.stdout
     })
 }

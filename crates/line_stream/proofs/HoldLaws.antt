@@ -1,4 +1,4 @@
--- One turn of each loop over a chunk.
+-- One more byte in each loop over a chunk.
 -- Assumes nothing.
 use mathlib.Core.Path.{_≡_, refl, sym, ap, _∙_}
 use mathlib.Core.Bool.{Bool, true, false, _&&_}
@@ -10,10 +10,10 @@ use native.Mathlib.Decide.{decLe, decLt}
 use lib.ListN.{length, take, drop, getD, set, length-drop, length-append, drop-of-length-le}
 use lib.Seq.{drop-cons, paste, paste-suc, getD-drop, take-append-add, take-all, take-take, length-take-le, length-paste-head}
 use borrow.Author.Tests.{eq-eqb, ne-eqb}
-use Rattle.line_stream.specs.Feed.{mostLine}
-use Rattle.line_stream.specs.Feed.{lineLength, keptOf}
+use Rattle.line_frame.specs.Sizes.{mostHeld}
 use Rattle.line_fields.specs.Put.{put, Wrote}
-use Rattle.line_stream.proofs.FeedLaws.{lineLength-feed, lineLength-more}
+use Rattle.line_stream.specs.Stream.{lineLength, keptOf}
+use Rattle.line_stream.proofs.StreamLaws.{lineLength-feed, lineLength-more}
 
 pub lineLength-here : (s : List ℕ) (i : ℕ) → i < length s → getD s i 0 ≡ 10 → lineLength (drop i s) ≡ 0
 lineLength-here s i h e = ap lineLength (drop-cons s i 0 h) ∙ lineLength-feed (drop (suc i) s) (getD s i 0) (eq-eqb (getD s i 0) 10 e)
@@ -37,29 +37,29 @@ paste-next d s held at j l h k e =
     ∙ ap (paste d held (drop at s)) (sym (add-one j))
 
 -- the bytes that are kept of the held ones and of a piece
-module _ (line s : List ℕ) (held at end m : ℕ) (hh : held ≤ 1031) (hl : length line ≡ 1031) (ha : at ≤ end) (he : end ≤ length s)
-    (h1 : m ≤ end - at) (h2 : m ≤ 1031 - held) (h3 : m < end - at → m ≡ 1031 - held) where
+module _ (line s : List ℕ) (held at end m : ℕ) (hh : held ≤ mostHeld) (hl : length line ≡ mostHeld) (ha : at ≤ end) (he : end ≤ length s)
+    (h1 : m ≤ end - at) (h2 : m ≤ mostHeld - held) (h3 : m < end - at → m ≡ mostHeld - held) where
   kept-piece : keptOf (take held line ++ take (end - at) (drop at s)) ≡ take held line ++ take m (drop at s)
   kept-piece =
       let p : List ℕ = take (end - at) (drop at s) in
       let a : length (take held line) ≡ held = length-take-le held line (omega arith) in
       let lp : length p ≡ end - at = length-take-le (end - at) (drop at s) (omega (arith, length-drop at s)) in
-      let e : suc mostLine ≡ length (take held line) + (1031 - held) = omega arith in
+      let e : mostHeld ≡ length (take held line) + (mostHeld - held) = omega arith in
       ap (λ (n : ℕ). take n (take held line ++ p)) e
-      ∙ take-append-add (take held line) p (1031 - held)
-      ∙ ap (λ (l : List ℕ). take held line ++ l) (two (decLe (end - at) (1031 - held)) lp)
+      ∙ take-append-add (take held line) p (mostHeld - held)
+      ∙ ap (λ (l : List ℕ). take held line ++ l) (two (decLe (end - at) (mostHeld - held)) lp)
     where
-      two : Dec (end - at ≤ 1031 - held) → length (take (end - at) (drop at s)) ≡ end - at → take (1031 - held) (take (end - at) (drop at s)) ≡ take m (drop at s)
+      two : Dec (end - at ≤ mostHeld - held) → length (take (end - at) (drop at s)) ≡ end - at → take (mostHeld - held) (take (end - at) (drop at s)) ≡ take m (drop at s)
       two (yes y) lp =
           let e : end - at ≡ m = both (decLt m (end - at)) in
-          take-all (1031 - held) (take (end - at) (drop at s)) (omega arith) ∙ ap (λ (n : ℕ). take n (drop at s)) e
+          take-all (mostHeld - held) (take (end - at) (drop at s)) (omega arith) ∙ ap (λ (n : ℕ). take n (drop at s)) e
         where
           both : Dec (m < end - at) → end - at ≡ m
           both (yes l) = omega (arith, h3 l)
           both (no f) = omega (arith, f)
       two (no f) lp =
-          let e : 1031 - held ≡ m = sym (h3 (omega (arith, f))) in
-          take-take (1031 - held) (end - at) (drop at s) (omega (arith, f)) ∙ ap (λ (n : ℕ). take n (drop at s)) e
+          let e : mostHeld - held ≡ m = sym (h3 (omega (arith, f))) in
+          take-take (mostHeld - held) (end - at) (drop at s) (omega (arith, f)) ∙ ap (λ (n : ℕ). take n (drop at s)) e
 
   pub hold-kept : Wrote (keptOf (take held line ++ take (end - at) (drop at s))) 0 line (held + m) (paste line held (drop at s) m)
   unfolding put

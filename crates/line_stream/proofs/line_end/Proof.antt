@@ -1,14 +1,12 @@
-use Rattle.lines.proofs.FeedSteps.{lineLength-here, lineLength-next, lineLength-end}
+use Rattle.line_stream.proofs.HoldLaws.{lineLength-here, lineLength-next, lineLength-end}
 use borrow.Author.Needs.{needs}
-use Rattle.line_stream.specs.Feed.{lineLength}
+use Rattle.line_stream.specs.Stream.{lineLength}
 use lib.ListN.{length, take, drop, getD, set, length-set}
 use native.Mathlib.Omega.{arith}
 use mathlib.Core.Path.{_≡_, refl, sym, ap, _∙_}
 use Prim.Native.Nat.{ℕ, zero, suc, _≤_, _<_, _+_, _-_, _/_, _%_}
-use Rattle.lines.proofs.line_end.Statement.{statement}
-use Rattle.lines.proofs.line_end.Tie as tie
-use Rattle.lines.proofs.line_end.Reads as reads
-use Rattle.lines.proofs.line_end.Lts as lts
+use Rattle.line_stream.proofs.line_end.Statement.{statement}
+use Rattle.line_stream.proofs.line_end.Tie as tie
 
 abbrev Inv-loop : tie.InvT-loop
 Inv-loop s at i₀ i = (at ≤ i) × (i ≤ length s) × (at + lineLength (drop at s) ≡ i + lineLength (drop i s))
@@ -16,35 +14,28 @@ Inv-loop s at i₀ i = (at ≤ i) × (i ≤ length s) × (at + lineLength (drop 
 abbrev μ-loop : tie.MeasureT-loop
 μ-loop s at i₀ i = length s - i
 
--- src/lib.rt:30:5
 loop-holds : tie.Need-loop-holds Inv-loop μ-loop
 loop-holds c = search needs
 
--- src/lib.rt:31:12
 shared-slice-read-if1 : tie.Need-shared-slice-read-if1 Inv-loop μ-loop
 shared-slice-read-if1 c = search needs
 
--- src/lib.rt:32:13
 returns : tie.Need-returns Inv-loop μ-loop
 returns c =
     let l = c .before .before .before in
     omega (arith, lineLength-here (l .before .args .s .now) (l .loop .i) (omega arith) (c .if1 .taken))
 
--- src/lib.rt:34:9
 add-i : tie.Need-add-i Inv-loop μ-loop
 add-i c = search needs
 
--- src/lib.rt:30:5
 loop-less : tie.Need-loop-less Inv-loop μ-loop
 loop-less c = search needs
 
--- src/lib.rt:30:5
 loop-again : tie.Need-loop-again Inv-loop μ-loop
 loop-again c =
     let l = c .before .before .before in
     (search needs, search needs, omega (arith, lineLength-next (l .before .args .s .now) (l .loop .i) (omega arith) (c .if1 .left)))
 
--- src/lib.rt:25:1
 returns-2 : tie.Need-returns-2 Inv-loop μ-loop
 returns-2 c =
     let l = c .before in

@@ -1,17 +1,14 @@
 use Rattle.line_fields.specs.Put.{Wrote}
 use lib.Seq.{paste-zero, length-paste}
-use Rattle.lines.proofs.FeedSteps.{paste-next, hold-kept}
+use Rattle.line_stream.proofs.HoldLaws.{paste-next, hold-kept}
 use borrow.Author.Needs.{needs}
 use lib.Seq.{paste}
 use lib.ListN.{length, take, drop, getD, set, length-set}
 use native.Mathlib.Omega.{arith}
 use mathlib.Core.Path.{_≡_, refl, sym, ap, _∙_}
 use Prim.Native.Nat.{ℕ, zero, suc, _≤_, _<_, _+_, _-_, _/_, _%_}
-use Rattle.lines.proofs.hold.Statement.{statement}
-use Rattle.lines.proofs.hold.Tie as tie
-use Rattle.lines.proofs.hold.Reads as reads
-use Rattle.lines.proofs.hold.Lts as lts
-use Rattle.lines.proofs.least.Reads as least-reads
+use Rattle.line_stream.proofs.hold.Statement.{statement}
+use Rattle.line_stream.proofs.hold.Tie as tie
 
 abbrev Inv-loop : tie.InvT-loop
 Inv-loop line₀ held s at end m i₀ line i = (i ≤ m) × (held + m ≤ length line₀) × (at + m ≤ length s) × (line ≡ paste line₀ held (drop at s) i) × (length line ≡ length line₀)
@@ -19,64 +16,50 @@ Inv-loop line₀ held s at end m i₀ line i = (i ≤ m) × (held + m ≤ length
 abbrev μ-loop : tie.MeasureT-loop
 μ-loop line₀ held s at end m i₀ line i = m - i
 
--- src/lib.rt:55:19
 sub-least : tie.Need-sub-least Inv-loop μ-loop
 sub-least c = search needs
 
--- src/lib.rt:55:29
 sub-least-2 : tie.Need-sub-least-2 Inv-loop μ-loop
 sub-least-2 c = search needs
 
--- src/lib.rt:55:9
 least-requires : tie.Need-least-requires Inv-loop μ-loop
 least-requires c κs = search needs
 
--- src/lib.rt:57:5
 loop-holds : tie.Need-loop-holds Inv-loop μ-loop
 loop-holds c =
     let a = c .before .before .before .args in
     (omega arith, omega arith, omega arith, paste-zero (a .line .now) (a .held) (drop (a .at) (a .s .now)), refl)
 
--- src/lib.rt:58:28
 add-line : tie.Need-add-line Inv-loop μ-loop
 add-line c = search needs
 
--- src/lib.rt:58:26
 shared-slice-read-line : tie.Need-shared-slice-read-line Inv-loop μ-loop
 shared-slice-read-line c = search needs
 
--- src/lib.rt:58:14
 add-line-2 : tie.Need-add-line-2 Inv-loop μ-loop
 add-line-2 c = search needs
 
--- src/lib.rt:58:9
 slice-write-line : tie.Need-slice-write-line Inv-loop μ-loop
 slice-write-line c = omega arith
 
--- src/lib.rt:59:9
 add-i : tie.Need-add-i Inv-loop μ-loop
 add-i c = search needs
 
--- src/lib.rt:57:5
 loop-less : tie.Need-loop-less Inv-loop μ-loop
 loop-less c = search needs
 
--- src/lib.rt:57:5
 loop-again : tie.Need-loop-again Inv-loop μ-loop
 loop-again c =
     let l = c .before .before in
     let a = l .before .before .before .before .args in
     (search needs, search needs, search needs, paste-next (a .line .now) (a .s .now) (a .held) (a .at) (l .loop .i) (l .loop .line) (omega arith) (omega arith) (l .loop .inv .3), simp length-set (omega arith))
 
--- src/lib.rt:61:5
 add-result : tie.Need-add-result Inv-loop μ-loop
 add-result c = search needs
 
--- src/lib.rt:50:1
 same-length : tie.Need-same-length Inv-loop μ-loop
 same-length c = omega arith
 
--- src/lib.rt:50:1
 returns : tie.Need-returns Inv-loop μ-loop
 returns c =
     let l = c .before in

@@ -1,2 +1,0 @@
--- What a turn of the line program leaves.
-pub mod Turn

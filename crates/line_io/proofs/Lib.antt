@@ -1,0 +1,2 @@
+-- The laws of the rounds of a program on lines.
+pub mod RoundLaws

@@ -1,0 +1,2 @@
+-- What a round of a program on lines leaves.
+pub mod Round
