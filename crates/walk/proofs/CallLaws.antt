@@ -1,14 +1,13 @@
 -- The parts of the call put together: its input, the table with the root alone, the walk that is over, and the refusals.
 -- Assumes nothing.
-use mathlib.Core.Bool.{Bool, true, false, not}
-use mathlib.Core.List.{List, [], _∷_, _++_}
+use mathlib.Core.Bool.{Bool, true, false}
+use mathlib.Core.List.{List, [], _∷_}
 use mathlib.Core.Logic.{_⊎_, inl, inr}
 use mathlib.Core.Path.{_≡_, refl, ap, ap₂, sym, subst, _∙_}
-use Prim.Native.Nat.{ℕ, suc, _-_, _≤_, pred, _+_}
+use Prim.Native.Nat.{ℕ, suc, _≤_, pred}
 use native.Mathlib.Omega.{arith}
 use lib.Dec.{eqb, ltb}
-use lib.ListN.{length, take, replicate, getD, length-append, getD-replicate}
-use lib.Seq.{take-at}
+use lib.ListN.{length, replicate, getD, getD-replicate}
 use Rattle.answer.specs.declared.Answer.{Answer}
 use Rattle.answer.specs.declared.Facts.{Facts}
 use Rattle.answer.specs.declared.Judged.{Judged}
@@ -74,23 +73,6 @@ settled-of c t ch ds w k = record {
   space = k .space;
 }
 
-pub settled-cleared : (c : Corner) (ch ch′ ds : List ℕ) (w : Walk) → Settled c ch ds w → ch′ ≡ take (w .spot .steps) ch ++ replicate (length ch - w .spot .steps) 0
-    → Settled c ch′ ds w × (ch′ ≡ ds ++ replicate (length ch - length ds) 0)
-settled-cleared c ch ch′ ds w k e =
-    let q : ch′ ≡ ds ++ replicate (length ch - length ds) 0 = e ∙ ap (λ (n : ℕ). take n ch ++ replicate (length ch - n) 0) (k .steps) ∙ ap (λ (l : List ℕ). l ++ replicate (length ch - length ds) 0) (sym (k .kept)) in (
-      record {
-        near = k .near;
-        steps = k .steps;
-        few = k .few;
-        corner = k .corner;
-        nodes = k .nodes;
-        counted = k .counted;
-        kept = sym (ap (take (length ds)) q ∙ take-at ds (replicate (length ch - length ds) 0) (length ds) refl);
-        space = omega (arith, ap length q, length-append ds (replicate (length ch - length ds) 0));
-      },
-      q,
-    )
-
 -- ---- the operations
 pub followed-full : (os t ms ch t′ ms′ ch′ : List ℕ) (i : ℕ) → roomFrom (recordsIn (length t)) origin 0 [] os ≡ Refused (NoRoom i)
     → t′ ≡ replicate (length t) 0 → ms′ ≡ replicate (length ms) 0 → ch′ ≡ replicate (length ch) 0 → Followed os t ms ch (Answer.Refused (NoRoom i)) t′ ms′ ch′
@@ -101,14 +83,13 @@ followed-full os t ms ch t′ ms′ ch′ i e p q r = record {
   chain = r ∙ sym (ap (λ (x : Judged). bufferBy x (chainOf os) ch) e);
 }
 
-pub followed-all : (os t ms ch t′ ms′ ch′ ch″ : List ℕ) (w : Walk) (f : Facts) → Chained origin t′ ch′ (survivors os) w → ms′ ≡ marksOf origin os → roomFrom (recordsIn (length t)) origin 0 [] os ≡ Good
-    → length t′ ≡ length t → length ch′ ≡ length os → f ≡ factsOf origin (survivors os) → ch″ ≡ survivors os ++ replicate (length ch′ - length (survivors os)) 0
-    → Followed os t ms ch (Answer.Accepted f) t′ ms′ ch″
-followed-all os t ms ch t′ ms′ ch′ ch″ w f k q e l n g h = record {
+pub followed-all : (os t ms ch t′ ms′ ch′ : List ℕ) (w : Walk) (f : Facts) → Chained origin t′ ch′ (survivors os) w → ch′ ≡ chainOf os → ms′ ≡ marksOf origin os → roomFrom (recordsIn (length t)) origin 0 [] os ≡ Good
+    → length t′ ≡ length t → f ≡ factsOf origin (survivors os) → Followed os t ms ch (Answer.Accepted f) t′ ms′ ch′
+followed-all os t ms ch t′ ms′ ch′ w f k h q e l g = record {
   answer = ap Answer.Accepted g ∙ sym (ap (λ (x : Judged). answerBy x (factsOf origin (survivors os))) e);
   table = k .known .walked .whole ∙ ap (λ (x : ℕ). tableOf x origin (survivors os)) l ∙ sym (ap (λ (x : Judged). bufferBy x (tableOf (length t) origin (survivors os)) t) e);
   marks = q ∙ sym (ap (λ (x : Judged). bufferBy x (marksOf origin os) ms) e);
-  chain = h ∙ ap (λ (x : ℕ). survivors os ++ replicate (x - length (survivors os)) 0) n ∙ sym (ap (λ (x : Judged). bufferBy x (chainOf os) ch) e);
+  chain = h ∙ sym (ap (λ (x : Judged). bufferBy x (chainOf os) ch) e);
 }
 
 -- "no room" is all that the room can decide

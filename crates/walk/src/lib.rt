@@ -1,22 +1,19 @@
 // The walk: any operations, judged in a lent table.
 use answer::Answer;
-use answer::Facts;
 use answer::Judged;
 use answer::Refusal;
 use grid::Corner;
 use walk_run::Ran;
-use walk_step::Walk;
-ghost use mathlib.Core.List.{List, [], _++_};
+ghost use mathlib.Core.List.{[]};
 ghost use mathlib.Core.Path.{_≡_};
-ghost use Prim.Native.Nat.{ℕ, _-_, _*_, _^_, _<_, _≤_};
-ghost use lib.ListN.{length, replicate};
+ghost use Prim.Native.Nat.{_*_, _^_, _<_, _≤_};
+ghost use lib.ListN.{length};
 ghost use Rattle.answer.specs.declared.Judged.the-variants.{Good};
-ghost use Rattle.walk_call.specs.Walk.{factsOf, WalkIs};
+ghost use Rattle.walk_call.specs.Walk.{WalkIs};
 ghost use Rattle.grid.specs.Grid.{origin};
 ghost use Rattle.layout.specs.Marks.{markWords};
 ghost use Rattle.layout.specs.Table.{width, tableOf};
 ghost use Rattle.steps.specs.Operations.{operationsJudged};
-ghost use Rattle.walk_facts.specs.Settled.{Settled, Settling};
 ghost use Rattle.walk.specs.Followed.{Followed};
 
 // A table with the root alone, which is visited once.
@@ -28,27 +25,6 @@ fn plant(t: &mut [u32])
     walk_table::visit(t, 0, 0);
 }
 
-// All three buffers zero.
-fn clear(t: &mut [u32], marks: &mut [u32], chain: &mut [u8])
-    ensures table { λ _. ⌜ now (t .exit) ≡ replicate (length (now (t .entry))) 0 ⌝ }
-    ensures marks { λ _. ⌜ now (marks .exit) ≡ replicate (length (now (marks .entry))) 0 ⌝ }
-    ensures chain { λ _. ⌜ now (chain .exit) ≡ replicate (length (now (chain .entry))) 0 ⌝ }
-{
-    walk_table::zero(t);
-    walk_table::zero(marks);
-    walk_table::zero_from(chain, 0);
-}
-
-// The facts of a walk that is over, whose chain is cleared behind its steps.
-fn accept(start: Corner, chain: &mut [u8], w: Walk) -> Facts
-    requires { ⌜ Settling start (now chain) w ⌝ }
-    ensures { λ r. ⌜ ((ds : List ℕ) → Settled start (now (chain .entry)) ds w → (r ≡ factsOf start ds) × (now (chain .exit) ≡ ds ++ replicate (length (now (chain .entry)) - length ds) 0)) ⌝ }
-{
-    let n = w.spot.steps;
-    walk_table::zero_from(chain, n);
-    walk_facts::facts(start, chain, w)
-}
-
 // Follows operations that have no fault, in a table with the root alone.
 fn go_on(ops: &[u8], t: &mut [u32], marks: &mut [u32], chain: &mut [u8]) -> Answer
     requires { ⌜ (now t ≡ tableOf (length (now t)) origin []) × (width ≤ length (now t)) × (length (now t) < 2 ^ 32) ⌝ }
@@ -57,11 +33,8 @@ fn go_on(ops: &[u8], t: &mut [u32], marks: &mut [u32], chain: &mut [u8]) -> Answ
     ensures { λ r. ⌜ Followed (now (ops .entry)) (now (t .entry)) (now (marks .entry)) (now (chain .entry)) r (now (t .exit)) (now (marks .exit)) (now (chain .exit)) ⌝ }
 {
     match walk_run::run(ops, t, marks, chain) {
-        Ran::Full(i) => {
-            clear(t, marks, chain);
-            Answer::Refused(Refusal::NoRoom(i))
-        }
-        Ran::All(w) => Answer::Accepted(accept(Corner(0, 0), chain, w)),
+        Ran::Full(i) => Answer::Refused(Refusal::NoRoom(i)),
+        Ran::All(w) => Answer::Accepted(walk_facts::facts(Corner(0, 0), chain, w)),
     }
 }
 

@@ -84,7 +84,7 @@ module _ (c : Corner) (t ch ds : List ℕ) (w : Walk) (k : Chained c t ch ds w) 
 
     pub chained-applied : (words : ℕ) (t′ : List ℕ) (r : Moved) → Advanced words t′ c (ds ++ (o ∷ [])) r → Applied words c t′ (set ch (w .spot .steps) o) (operate ds o) r
     chained-applied words t′ (Moved.To v) h = (chained-go t′ v (h .0), h .1)
-    chained-applied words t′ Moved.Full h = subst (λ (l : List ℕ). words < width * length (nodesOf (cornersFrom c l))) (sym (operate-step ds o small)) h
+    chained-applied words t′ Moved.Full h = (subst (λ (l : List ℕ). words < width * length (nodesOf (cornersFrom c l))) (sym (operate-step ds o small)) (h .0), h .1)
 
   -- its mark
   module _ (words : ℕ) (l : length t ≡ words) where

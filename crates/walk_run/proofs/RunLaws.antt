@@ -2,12 +2,11 @@
 -- Assumes nothing.
 use mathlib.Core.List.{List, [], _∷_, _++_, append-assoc, append-nil}
 use mathlib.Core.Path.{_≡_, refl, ap, ap₂, sym, _∙_, subst}
-use Prim.Native.Nat.{ℕ, suc, _+_, _*_, _<_, _≤_}
+use Prim.Native.Nat.{ℕ, suc, _+_, _-_, _*_, _<_, _≤_}
 use native.Mathlib.Omega.{arith}
-use lib.ListN.{length, length-append, take, drop, getD, drop-of-length-le}
+use lib.ListN.{length, length-append, take, drop, getD, replicate, drop-of-length-le}
 use lib.Seq.{sets, length-sets, sets-eq, length-take-le, drop-cons, take-at, take-all}
-use Rattle.answer.specs.declared.Judged.the-variants.{Good, Refused}
-use Rattle.answer.specs.declared.Refusal.the-variants.{NoRoom}
+use Rattle.answer.specs.declared.Judged.the-variants.{Good}
 use Rattle.walk_call.specs.Walk.{roomFrom}
 use Rattle.grid.specs.declared.Corner.{Corner}
 use Rattle.grid.specs.Grid.{origin, cornersFrom}
@@ -21,7 +20,7 @@ use Rattle.steps.specs.Operations.{operate, survivorsFrom, survivors, faultOf, 
 use Rattle.walk_call.proofs.RoomLaws.{room-full, room-fits, room-end}
 use Rattle.steps.proofs.SurvivorLaws.{fault-none, fault-step, after-length, length-operate}
 use Rattle.walk_run.specs.declared.Ran.{Ran}
-use Rattle.walk_run.specs.Runs.{Chained, Ready, Performed, Ended}
+use Rattle.walk_run.specs.Runs.{Chained, Ready, Performed, PerformedAll, Ended}
 
 -- what stands before a run of stores, and the run
 take-sets : (l vs : List ℕ) (i n : ℕ) → i + length vs ≤ length l → i + length vs ≡ n → take n (sets l i vs) ≡ take i l ++ vs
@@ -83,10 +82,10 @@ module _ (words : ℕ) (c : Corner) (ops t ms ch : List ℕ) (w : Walk) (i : ℕ
   went = k .room ∙ ap (λ (l : List ℕ). roomFrom (recordsIn words) c i (k .steps) l) left ∙ room-fits (recordsIn words) c i (k .steps) (getD ops i 0) (drop (suc i) ops) (k .fits)
 
   -- no room
-  pub running-full : (t′ ms′ ch′ : List ℕ) (r : Moved) → ((ds : List ℕ) → Chained c t ch ds w → Performed words ms i c t′ ms′ ch′ (operate ds (getD ops i 0)) r) → r ≡ Moved.Full → roomFrom (recordsIn words) c 0 [] ops ≡ Refused (NoRoom i)
+  pub running-full : (t′ ms′ ch′ : List ℕ) (r : Moved) → ((ds : List ℕ) → Chained c t ch ds w → Performed words ms i c t′ ms′ ch′ (operate ds (getD ops i 0)) r) → r ≡ Moved.Full → PerformedAll words c ops t′ ms′ ch′ (Ran.Full i)
   running-full t′ ms′ ch′ r f e =
-      let h : words < width * length (nodesOf (cornersFrom c (operate (k .steps) (getD ops i 0)))) = subst (λ y. Performed words ms i c t′ ms′ ch′ (operate (k .steps) (getD ops i 0)) y) e (f (k .steps) (k .chained)) in
-      went ∙ room-full (recordsIn words) c (suc i) (operate (k .steps) (getD ops i 0)) (drop (suc i) ops) (over words (length (nodesOf (cornersFrom c (operate (k .steps) (getD ops i 0))))) h)
+      let h : (words < width * length (nodesOf (cornersFrom c (operate (k .steps) (getD ops i 0))))) × (t′ ≡ replicate words 0) = subst (λ y. Performed words ms i c t′ ms′ ch′ (operate (k .steps) (getD ops i 0)) y) e (f (k .steps) (k .chained)) in
+      (went ∙ room-full (recordsIn words) c (suc i) (operate (k .steps) (getD ops i 0)) (drop (suc i) ops) (over words (length (nodesOf (cornersFrom c (operate (k .steps) (getD ops i 0))))) (h .0)), h .1)
     where
       over : (a n : ℕ) → a < width * n → recordsIn a < n
       over a n p = omega arith
@@ -123,10 +122,35 @@ module _ (words : ℕ) (c : Corner) (ops t ms ch : List ℕ) (w : Walk) (i : ℕ
       under m n l q p s r = omega arith
 
 -- the end
-pub running-end : (words : ℕ) (c : Corner) (ops t ms ch : List ℕ) (w : Walk) (i : ℕ) → Running words c ops t ms ch w i → length ops ≤ i → length ms ≡ markWords * length ops → i ≤ length ops → Ended words c ops t ms ch (Ran.All w)
+pub running-end : (words : ℕ) (c : Corner) (ops t ms ch : List ℕ) (w : Walk) (i : ℕ) → Running words c ops t ms ch w i → length ops ≤ i → length ms ≡ markWords * length ops → i ≤ length ops → PerformedAll words c ops t ms ch (Ran.All w)
 running-end words c ops t ms ch w i k h l b =
     let e : drop i ops ≡ [] = drop-of-length-le ops h in (
       subst (λ (ds : List ℕ). Chained c t ch ds w) (sym (k .rest ∙ ap (survivorsFrom (k .steps)) e)) (k .chained),
       sym (k .marked ∙ ap (λ (x : List ℕ). take (markWords * i) ms ++ marksFrom c (k .steps) x) e ∙ append-nil (take (markWords * i) ms) ∙ take-all (markWords * i) ms (omega arith)),
       k .room ∙ ap (λ (x : List ℕ). roomFrom (recordsIn words) c i (k .steps) x) e ∙ room-end (recordsIn words) c i (k .steps) (k .fits),
     )
+
+-- the buffers cleared
+pub ended-all : (words : ℕ) (c : Corner) (ops t ms ch : List ℕ) (w : Walk) → length ch ≡ length ops → PerformedAll words c ops t ms ch (Ran.All w)
+    → (ch′ : List ℕ) → ch′ ≡ take (w .spot .steps) ch ++ replicate (length ch - w .spot .steps) 0 → Ended words c ops t ms ch′ (Ran.All w)
+ended-all words c ops t ms ch w l h ch′ e =
+    let k = h .0 in
+    let ds = survivors ops in
+    let q : ch′ ≡ ds ++ replicate (length ch - length ds) 0 = e ∙ ap (λ (n : ℕ). take n ch ++ replicate (length ch - n) 0) (k .known .walked .steps) ∙ ap (λ (x : List ℕ). x ++ replicate (length ch - length ds) 0) (sym (k .kept)) in (
+      record {
+        near = k .near;
+        known = k .known;
+        kept = sym (ap (take (length ds)) q ∙ take-at ds (replicate (length ch - length ds) 0) (length ds) refl);
+        sound = k .sound;
+        space = omega (arith, ap length q, length-append ds (replicate (length ch - length ds) 0));
+      },
+      q ∙ ap (λ (n : ℕ). ds ++ replicate (n - length ds) 0) l,
+      h .1,
+      h .2,
+    )
+
+pub ended-steps : (words : ℕ) (c : Corner) (ops t ms ch : List ℕ) (w : Walk) → PerformedAll words c ops t ms ch (Ran.All w) → w .spot .steps ≤ length ch
+ended-steps words c ops t ms ch w h = omega (arith, h .0 .known .walked .steps, h .0 .space)
+
+pub cleared-from-0 : (ch ch′ : List ℕ) → length ch′ ≡ length ch → ch′ ≡ take 0 ch ++ replicate (length ch - 0) 0 → ch′ ≡ replicate (length ch′) 0
+cleared-from-0 ch ch′ l e = let n : length ch - 0 ≡ length ch′ = omega arith in e ∙ ap (λ (k : ℕ). replicate k 0) n

@@ -4,7 +4,7 @@ use mathlib.Core.List.{List, []}
 use mathlib.Core.Path.{_≡_}
 use Prim.Native.Nat.{ℕ, _*_, _<_, _≤_}
 use lib.IntN.{natAbs}
-use lib.ListN.{length, take}
+use lib.ListN.{length, take, replicate}
 use lib.Seq.{sets}
 use Rattle.answer.specs.declared.Judged.the-variants.{Good, Refused}
 use Rattle.answer.specs.declared.Refusal.the-variants.{NoRoom}
@@ -12,7 +12,7 @@ use Rattle.walk_call.specs.Walk.{roomFrom}
 use Rattle.grid.specs.declared.Corner.{Corner}
 use Rattle.grid.specs.Grid.{cornersFrom}
 use Rattle.layout.specs.Table.{width, recordsIn}
-use Rattle.layout.specs.Marks.{markWords, markOf, marksOf}
+use Rattle.layout.specs.Marks.{markWords, markOf, marksOf, chainOf}
 use Rattle.walk_step.specs.declared.Moved.{Moved}
 use Rattle.walk_step.specs.declared.Walk.{Walk}
 use Rattle.walk_step.specs.Walks.{Known}
@@ -39,14 +39,19 @@ pub record Ready (t chain : List ℕ) (w : Walk) (o : ℕ) : Type 0 where
 -- the answer to an operation, after which the steps are ds
 abbrev pub Applied : ℕ → Corner → List ℕ → List ℕ → List ℕ → Moved → Type 0
 Applied words c t chain ds (Moved.To w) = Chained c t chain ds w × (length t ≡ words)
-Applied words c t chain ds Moved.Full = words < width * length (nodesOf (cornersFrom c ds))
+Applied words c t chain ds Moved.Full = (words < width * length (nodesOf (cornersFrom c ds))) × (t ≡ replicate words 0)
 
 -- the same with its mark, at place i of the marks ms₀
 abbrev pub Performed : ℕ → List ℕ → ℕ → Corner → List ℕ → List ℕ → List ℕ → List ℕ → Moved → Type 0
 Performed words ms₀ i c t ms chain ds (Moved.To w) = Chained c t chain ds w × (length t ≡ words) × (ms ≡ sets ms₀ (markWords * i) (markOf c ds))
-Performed words ms₀ i c t ms chain ds Moved.Full = words < width * length (nodesOf (cornersFrom c ds))
+Performed words ms₀ i c t ms chain ds Moved.Full = (words < width * length (nodesOf (cornersFrom c ds))) × (t ≡ replicate words 0)
 
--- the answer to all of them
+-- the answer to all of them, with the chain as it then stands
+abbrev pub PerformedAll : ℕ → Corner → List ℕ → List ℕ → List ℕ → List ℕ → Ran → Type 0
+PerformedAll words c ops t ms chain (Ran.All w) = Chained c t chain (survivors ops) w × (ms ≡ marksOf c ops) × (roomFrom (recordsIn words) c 0 [] ops ≡ Good)
+PerformedAll words c ops t ms chain (Ran.Full i) = (roomFrom (recordsIn words) c 0 [] ops ≡ Refused (NoRoom i)) × (t ≡ replicate words 0)
+
+-- the answer to all of them: the walk, with zeros behind its steps in the chain, or all three buffers zero
 abbrev pub Ended : ℕ → Corner → List ℕ → List ℕ → List ℕ → List ℕ → Ran → Type 0
-Ended words c ops t ms chain (Ran.All w) = Chained c t chain (survivors ops) w × (ms ≡ marksOf c ops) × (roomFrom (recordsIn words) c 0 [] ops ≡ Good)
-Ended words c ops t ms chain (Ran.Full i) = roomFrom (recordsIn words) c 0 [] ops ≡ Refused (NoRoom i)
+Ended words c ops t ms chain (Ran.All w) = Chained c t chain (survivors ops) w × (chain ≡ chainOf ops) × (ms ≡ marksOf c ops) × (roomFrom (recordsIn words) c 0 [] ops ≡ Good)
+Ended words c ops t ms chain (Ran.Full i) = (roomFrom (recordsIn words) c 0 [] ops ≡ Refused (NoRoom i)) × (t ≡ replicate words 0) × (ms ≡ replicate (length ms) 0) × (chain ≡ replicate (length chain) 0)

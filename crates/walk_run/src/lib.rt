@@ -9,11 +9,13 @@ ghost use Rattle.grid.specs.Grid.{origin};
 ghost use Rattle.layout.specs.Marks.{markWords};
 ghost use Rattle.layout.specs.Table.{width, wordAt, visitsWord, tableOf};
 ghost use Rattle.steps.specs.Operations.{operate, operationsJudged};
-ghost use Rattle.walk_run.specs.Runs.{Chained, Ready, Applied, Performed, Ended};
+ghost use Rattle.walk_run.specs.Runs.{Chained, Ready, Applied, Performed, PerformedAll, Ended};
 use walk_step::Moved;
 use walk_step::Spot;
 use walk_step::Walk;
 use walk_table::Record;
+use walk_table::zero;
+use walk_table::zero_from;
 
 // The walk after all operations, or the place of the first for which the table has no room.
 pub enum Ran {
@@ -63,12 +65,12 @@ fn perform(t: &mut [u32], marks: &mut [u32], chain: &mut [u8], w: Walk, op: u8, 
     }
 }
 
-// All operations, in a table that holds the root alone.
-pub fn run(ops: &[u8], t: &mut [u32], marks: &mut [u32], chain: &mut [u8]) -> Ran
+// All operations, one after the other, in a table that holds the root alone.
+fn perform_all(ops: &[u8], t: &mut [u32], marks: &mut [u32], chain: &mut [u8]) -> Ran
     requires { ⌜ (now t ≡ tableOf (length (now t)) origin []) × (width ≤ length (now t)) × (length (now t) < 2 ^ 32) ⌝ }
     requires { ⌜ (length (now marks) ≡ markWords * length (now ops)) × (length (now chain) ≡ length (now ops)) × (length (now ops) ≤ 32768) ⌝ }
     requires { ⌜ operationsJudged 0 0 (now ops) ≡ Good ⌝ }
-    ensures { λ r. ⌜ Ended (length (now (t .entry))) origin (now (ops .entry)) (now (t .exit)) (now (marks .exit)) (now (chain .exit)) r ⌝ }
+    ensures { λ r. ⌜ PerformedAll (length (now (t .entry))) origin (now (ops .entry)) (now (t .exit)) (now (marks .exit)) (now (chain .exit)) r ⌝ }
 {
     let mut w = Walk::new();
     let mut i = 0;
@@ -84,4 +86,26 @@ pub fn run(ops: &[u8], t: &mut [u32], marks: &mut [u32], chain: &mut [u8]) -> Ra
         i += 1;
     }
     Ran::All(w)
+}
+
+// All operations, in a table that holds the root alone. Behind the surviving steps the chain is cleared. If the table has no room, all
+// three buffers are.
+pub fn run(ops: &[u8], t: &mut [u32], marks: &mut [u32], chain: &mut [u8]) -> Ran
+    requires { ⌜ (now t ≡ tableOf (length (now t)) origin []) × (width ≤ length (now t)) × (length (now t) < 2 ^ 32) ⌝ }
+    requires { ⌜ (length (now marks) ≡ markWords * length (now ops)) × (length (now chain) ≡ length (now ops)) × (length (now ops) ≤ 32768) ⌝ }
+    requires { ⌜ operationsJudged 0 0 (now ops) ≡ Good ⌝ }
+    ensures { λ r. ⌜ Ended (length (now (t .entry))) origin (now (ops .entry)) (now (t .exit)) (now (marks .exit)) (now (chain .exit)) r ⌝ }
+{
+    match perform_all(ops, t, marks, chain) {
+        Ran::All(w) => {
+            let n = w.spot.steps;
+            zero_from(chain, n);
+            Ran::All(w)
+        }
+        Ran::Full(i) => {
+            zero(marks);
+            zero_from(chain, 0);
+            Ran::Full(i)
+        }
+    }
 }

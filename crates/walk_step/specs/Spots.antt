@@ -3,7 +3,7 @@
 use mathlib.Core.List.{List, [], _∷_, _++_}
 use mathlib.Core.Path.{_≡_}
 use Prim.Native.Nat.{ℕ, suc, _*_, _<_, _≤_}
-use lib.ListN.{length}
+use lib.ListN.{length, replicate}
 use Rattle.grid.specs.declared.Corner.{Corner}
 use Rattle.grid.specs.Grid.{cornersFrom, endFrom}
 use Rattle.layout.specs.Table.{width, tableOf}
@@ -32,7 +32,8 @@ pub record Stepped (t : List ℕ) (w : Spot) (d : ℕ) : Type 0 where
   pub chain : List ℕ
   pub walked : Walked t start (chain ++ (d ∷ [])) w
 
--- the answer to a step, where ds are the steps with it: the walk stands there, or its nodes are more than the table has records
+-- the answer to a step, where ds are the steps with it: the walk stands there, or its nodes are more than the table has records, and the
+-- table is left all zero
 abbrev pub Went : ℕ → List ℕ → Corner → List ℕ → Gone → Type 0
 Went words t c ds (Gone.To w) = Walked t c ds w × (length t ≡ words)
-Went words t c ds Gone.Full = words < width * length (nodesOf (cornersFrom c ds))
+Went words t c ds Gone.Full = (words < width * length (nodesOf (cornersFrom c ds))) × (t ≡ replicate words 0)

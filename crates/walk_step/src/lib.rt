@@ -21,7 +21,7 @@ pub struct Spot {
 }
 
 // What came of a step: the walk stands there, or the table is full.
-pub enum Gone {
+enum Gone {
     To(Spot),
     Full,
 }
@@ -84,7 +84,7 @@ pub enum Moved {
 }
 
 // One step in the direction d.
-pub fn go(t: &mut [u32], w: Spot, d: u8) -> Gone
+fn go(t: &mut [u32], w: Spot, d: u8) -> Gone
     requires { ⌜ Standing (now t) w ⌝ }
     requires { ⌜ (natAbs (w .at .0) < 65536) × (natAbs (w .at .1) < 65536) × (d < 4) × (w .steps < 65536) × (length (now t) < 2 ^ 32) ⌝ }
     ensures { λ r. ⌜ ((c : Node) (ds : List ℕ) → Walked (now (t .entry)) c ds w → Went (length (now (t .entry))) (now (t .exit)) c (ds ++ (d ∷ [])) r) ⌝ }
@@ -107,7 +107,7 @@ pub fn go(t: &mut [u32], w: Spot, d: u8) -> Gone
 }
 
 // The last step, which went in the direction d, is taken back.
-pub fn take_back(t: &mut [u32], w: Spot, d: u8) -> Spot
+fn take_back(t: &mut [u32], w: Spot, d: u8) -> Spot
     requires { ⌜ Stepped (now t) w d ⌝ }
     requires { ⌜ (natAbs (w .at .0) < 65536) × (natAbs (w .at .1) < 65536) × (d < 4) × (w .steps < 65537) ⌝ }
     ensures { λ r. ⌜ ((c : Node) (ds : List ℕ) → Walked (now (t .entry)) c (ds ++ (d ∷ [])) w → Walked (now (t .exit)) c ds r) ⌝ }
@@ -131,7 +131,7 @@ pub fn take_back(t: &mut [u32], w: Spot, d: u8) -> Spot
 }
 
 // The tally after the step d that led to w.
-pub fn tallied(t: &[u32], w: Spot, m: Tally, d: u8) -> Tally
+fn tallied(t: &[u32], w: Spot, m: Tally, d: u8) -> Tally
     requires { ⌜ Stepped (now t) w d ⌝ }
     requires { ⌜ (w .steps < 65535) × (m .corners < 65536) ⌝ }
     ensures { λ r. ⌜ ((c : Node) (ds : List ℕ) → Walked (now (t .entry)) c (ds ++ (d ∷ [])) w → TallyIs c ds m → TallyIs c (ds ++ (d ∷ [])) r) ⌝ }
@@ -158,7 +158,7 @@ pub fn tallied(t: &[u32], w: Spot, m: Tally, d: u8) -> Tally
 }
 
 // The tally before the step d that led to w: asked before the step is taken back.
-pub fn untallied(t: &[u32], w: Spot, m: Tally, d: u8) -> Tally
+fn untallied(t: &[u32], w: Spot, m: Tally, d: u8) -> Tally
     requires { ⌜ Stepped (now t) w d ⌝ }
     requires { ⌜ (w .steps < 65535) × (0 < m .corners) ⌝ }
     ensures { λ r. ⌜ ((c : Node) (ds : List ℕ) → Walked (now (t .entry)) c (ds ++ (d ∷ [])) w → TallyIs c (ds ++ (d ∷ [])) m → TallyIs c ds r) ⌝ }

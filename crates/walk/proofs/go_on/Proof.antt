@@ -21,14 +21,11 @@ run-requires c κs = search needs
 enum-known-i : tie.Need-enum-known-i
 enum-known-i c = search needs
 
-clear-requires : tie.Need-clear-requires
-clear-requires c κs = search needs
-
 enum-known-w : tie.Need-enum-known-w
 enum-known-w c = search needs
 
-accept-requires : tie.Need-accept-requires
-accept-requires c κs =
+facts-requires : tie.Need-facts-requires
+facts-requires c κs =
     let a = c .before .before .before .before .before .before .before .before .before .before .before .before .before .before .before .before .before .before .args in
     let r = c .before .before .before .before .before .before .before .before .before .before .run in
     let w = c .before .before .w .given in
@@ -46,15 +43,13 @@ same-length-3 c = search needs
 
 returns : tie.Need-returns
 returns c =
-    let a = c .before .before .before .before .before .before .before .before .before .before .before .before .before .before .before .before .before .before .before .before .before .before .before .before .before .before .before .args in
-    let r = c .before .before .before .before .before .before .before .before .before .before .before .before .before .before .before .before .before .before .before .run in
-    let k = c .before .before .before .before .before .before .clear in
-    let i = c .before .before .before .before .before .before .before .before .before .before .before .i .given in
-    let e = subst (λ (x : Ran). Ended (length (a .t .now)) origin (a .ops .now) (r .last .1 .0) (r .last .1 .1 .0) (r .last .1 .1 .1 .0) x) (i .1) (r .ensures) in
-    let p : length (r .last .1 .0) ≡ length (a .t .now) = search needs in
+    let a = c .before .before .before .before .before .before .before .before .before .before .before .before .before .before .before .before .before .args in
+    let r = c .before .before .before .before .before .before .before .before .before .run in
+    let w = c .before .i .given in
+    let e = subst (λ (x : Ran). Ended (length (a .t .now)) origin (a .ops .now) (r .last .1 .0) (r .last .1 .1 .0) (r .last .1 .1 .1 .0) x) (w .1) (r .ensures) in
     let q : length (r .last .1 .1 .0) ≡ length (a .marks .now) = search needs in
     let o : length (r .last .1 .1 .1 .0) ≡ length (a .chain .now) = search needs in
-    followed-full (a .ops .now) (a .t .now) (a .marks .now) (a .chain .now) (k .last .0) (k .last .1 .0) (k .last .1 .1 .0) (i .0 .0) e (k .ensures .0 ∙ zeros p) (k .ensures .1 .0 ∙ zeros q) (k .ensures .1 .1 ∙ zeros o)
+    followed-full (a .ops .now) (a .t .now) (a .marks .now) (a .chain .now) (r .last .1 .0) (r .last .1 .1 .0) (r .last .1 .1 .1 .0) (w .0 .0) (e .0) (e .1) (e .2 ∙ zeros q) (e .3 ∙ zeros o)
 
 same-length-4 : tie.Need-same-length-4
 same-length-4 c = search needs
@@ -67,16 +62,13 @@ same-length-6 c = search needs
 
 returns-2 : tie.Need-returns-2
 returns-2 c =
-    let s = c .before .before .before .before .before .before .before .before .before .before .before .before .before .before .before .before .before .before .before .before .before in
-    let a = s .args in
-    let r = c .before .before .before .before .before .before .before .before .before .before .before .before .before .run in
-    let k = c .before .before .accept in
-    let w = c .before .before .before .before .before .w .given in
+    let a = c .before .before .before .before .before .before .before .before .before .before .before .before .before .before .before .before .before .before .before .args in
+    let r = c .before .before .before .before .before .before .before .before .before .before .before .run in
+    let w = c .before .before .before .w .given in
     let e = subst (λ (x : Ran). Ended (length (a .t .now)) origin (a .ops .now) (r .last .1 .0) (r .last .1 .1 .0) (r .last .1 .1 .1 .0) x) (w .1) (r .ensures) in
-    let p : length (r .last .1 .0) ≡ length (a .t .now) = search needs in
-    let o : length (r .last .1 .1 .1 .0) ≡ length (a .chain .now) = search needs in
-    let f = k .ensures (survivors (a .ops .now)) (settled-of origin (r .last .1 .0) (r .last .1 .1 .1 .0) (survivors (a .ops .now)) (w .0 .0) (e .0)) in
-    followed-all (a .ops .now) (a .t .now) (a .marks .now) (a .chain .now) (r .last .1 .0) (r .last .1 .1 .0) (r .last .1 .1 .1 .0) (k .last .1 .0) (w .0 .0) (k .result) (e .0) (e .1) (e .2) p (o ∙ s .pre .1 .0 .1) (f .0) (f .1)
+    let l : length (r .last .1 .0) ≡ length (a .t .now) = search needs in
+    let f = c .facts .ensures (survivors (a .ops .now)) (settled-of origin (r .last .1 .0) (r .last .1 .1 .1 .0) (survivors (a .ops .now)) (w .0 .0) (e .0)) in
+    followed-all (a .ops .now) (a .t .now) (a .marks .now) (a .chain .now) (r .last .1 .0) (r .last .1 .1 .0) (r .last .1 .1 .1 .0) (w .0 .0) (c .facts .result) (e .0) (e .1) (e .2) (e .3) l f
 
 pub go-on-spec : {M : Type 1} → statement M
 go-on-spec =
@@ -84,9 +76,8 @@ go-on-spec =
     (tie.spec
     run-requires
     enum-known-i
-    clear-requires
     enum-known-w
-    accept-requires
+    facts-requires
     same-length
     same-length-2
     same-length-3

@@ -265,7 +265,7 @@ neighbour-returns-4 t c =
     let j = over-holds (a .t .now) (a .nodes) (a .u) (a .c) (a .d) (a .step) S h r (q .2) (q .3) g (o .last .0) (o .result) (max (a .nodes) (o .result)) (subst (λ x. Made (length (a .t .now)) (raised (S) (a .step) (a .c) x) (parentOf x) (o .last .0) (o .result) (max (a .nodes) (o .result))) m (o .ensures (S) (h) (r))) (λ y. c .before .before .before .before .before .before .before .if3 .left y) in
     near-last (a .t .now) (a .nodes) S h (length (a .t .now)) (a .step) (v .last .0) (v .result) (max (c .before .before .before .before .before .in-use .result) (v .result)) (a .c) (stepped (a .d) (a .c))
     (near-no-child (a .t .now) (a .nodes) (a .u) (a .c) (a .d) (a .step) S h r (q .2) (q .3) none g (v .last .0) (v .result) (max (c .before .before .before .before .before .in-use .result) (v .result)) (subst (λ n. Made n (grown (raised (S) (a .step) (a .c) (stepped (a .d) (a .c))) (stepped (a .d) (a .c)) (a .step)) (stepped (a .d) (a .c)) (v .last .0) (v .result) (max (c .before .before .before .before .before .in-use .result) (v .result))) (j .2)
-    (v .ensures (raised (S) (a .step) (a .c) (stepped (a .d) (a .c))) (stepped (a .d) (a .c)) (subst (λ n. Holds (o .last .0) n (raised (S) (a .step) (a .c) (stepped (a .d) (a .c)))) (sym (c .before .before .before .before .before .in-use .ensures)) (j .0)) g (j .1) (c .before .before .before .before .child-word .ensures ∙ ap childWord m))) (c .if4 .taken))
+    (v .ensures .0 (raised (S) (a .step) (a .c) (stepped (a .d) (a .c))) (stepped (a .d) (a .c)) (subst (λ n. Holds (o .last .0) n (raised (S) (a .step) (a .c) (stepped (a .d) (a .c)))) (sym (c .before .before .before .before .before .in-use .ensures)) (j .0)) g (j .1) (c .before .before .before .before .child-word .ensures ∙ ap childWord m))) (c .if4 .taken))
 
 neighbour-sub-link : (t : ℕ) → neighbour-lts.Need-sub-link (word-reads.Asked, word-reads.Learnt, moved-reads.Asked, moved-reads.Learnt, is-root-reads.Asked, is-root-reads.Learnt, link-reads.Asked, link-reads.Learnt, above-below t, above.Post, in-use-reads.Asked, in-use-reads.Learnt, child-word-reads.Asked, child-word-reads.Learnt, child-reads.Asked, child-reads.Learnt) (neighbour-at t) neighbour.Post
 neighbour-sub-link t c = search needs
@@ -285,7 +285,7 @@ neighbour-link-requires-2 t c κs =
     let v = c .before .before .before .before .child in
     let j = over-holds (a .t .now) (a .nodes) (a .u) (a .c) (a .d) (a .step) (k .state) (k .holds) (k .here) (q .2) (q .3) g (o .last .0) (o .result) (max (a .nodes) (o .result)) (subst (λ x. Made (length (a .t .now)) (raised (k .state) (a .step) (a .c) x) (parentOf x) (o .last .0) (o .result) (max (a .nodes) (o .result))) m (o .ensures (k .state) (k .holds) (k .here))) (λ y. c .before .before .before .before .before .before .before .before .if3 .left y) in
     let l = link-bounds (a .t .now) (a .nodes) (a .u) (a .c) (a .d) (a .step) (k .state) (k .holds) (k .here) (q .2) (q .3) (v .last .0) (v .result) (max (c .before .before .before .before .before .before .in-use .result) (v .result)) (subst (λ n. Made n (grown (raised (k .state) (a .step) (a .c) (stepped (a .d) (a .c))) (stepped (a .d) (a .c)) (a .step)) (stepped (a .d) (a .c)) (v .last .0) (v .result) (max (c .before .before .before .before .before .before .in-use .result) (v .result))) (j .2)
-    (v .ensures (raised (k .state) (a .step) (a .c) (stepped (a .d) (a .c))) (stepped (a .d) (a .c)) (subst (λ n. Holds (o .last .0) n (raised (k .state) (a .step) (a .c) (stepped (a .d) (a .c)))) (sym (c .before .before .before .before .before .before .in-use .ensures)) (j .0)) g (j .1) (c .before .before .before .before .before .child-word .ensures ∙ ap childWord m))) (λ y. c .before .if4 .left y) in
+    (v .ensures .0 (raised (k .state) (a .step) (a .c) (stepped (a .d) (a .c))) (stepped (a .d) (a .c)) (subst (λ n. Holds (o .last .0) n (raised (k .state) (a .step) (a .c) (stepped (a .d) (a .c)))) (sym (c .before .before .before .before .before .before .in-use .ensures)) (j .0)) g (j .1) (c .before .before .before .before .before .child-word .ensures ∙ ap childWord m))) (λ y. c .before .if4 .left y) in
     ((l .0, l .1), (q .2, omega (arith, l .2, q .4)))
 
 neighbour-same-length-5 : (t : ℕ) → neighbour-lts.Need-same-length-5 (word-reads.Asked, word-reads.Learnt, moved-reads.Asked, moved-reads.Learnt, is-root-reads.Asked, is-root-reads.Learnt, link-reads.Asked, link-reads.Learnt, above-below t, above.Post, in-use-reads.Asked, in-use-reads.Learnt, child-word-reads.Asked, child-word-reads.Learnt, child-reads.Asked, child-reads.Learnt) (neighbour-at t) neighbour.Post
@@ -309,7 +309,7 @@ neighbour-returns-5 t c =
     near-last (a .t .now) (a .nodes) S h (length (a .t .now)) (a .step) _ (v .result) (max (c .before .before .before .before .before .before .before .before .before .in-use .result) (v .result)) (a .c) (stepped (a .d) (a .c))
     (subst (λ l. Made (length (a .t .now)) (reached S (a .step) (a .c) (stepped (a .d) (a .c))) (stepped (a .d) (a .c)) l (v .result) (max (c .before .before .before .before .before .before .before .before .before .in-use .result) (v .result))) (sym (c .before .before .link2 .ensures))
     (near-linked (a .t .now) (a .nodes) (a .u) (a .c) (a .d) (a .step) S h r (q .2) (q .3) none g (v .last .0) (v .result) (max (c .before .before .before .before .before .before .before .before .before .in-use .result) (v .result)) (subst (λ n. Made n (grown (raised (S) (a .step) (a .c) (stepped (a .d) (a .c))) (stepped (a .d) (a .c)) (a .step)) (stepped (a .d) (a .c)) (v .last .0) (v .result) (max (c .before .before .before .before .before .before .before .before .before .in-use .result) (v .result))) (j .2)
-    (v .ensures (raised (S) (a .step) (a .c) (stepped (a .d) (a .c))) (stepped (a .d) (a .c)) (subst (λ n. Holds (o .last .0) n (raised (S) (a .step) (a .c) (stepped (a .d) (a .c)))) (sym (c .before .before .before .before .before .before .before .before .before .in-use .ensures)) (j .0)) g (j .1) (c .before .before .before .before .before .before .before .before .child-word .ensures ∙ ap childWord m))) (λ y. c .before .before .before .before .if4 .left y)))
+    (v .ensures .0 (raised (S) (a .step) (a .c) (stepped (a .d) (a .c))) (stepped (a .d) (a .c)) (subst (λ n. Holds (o .last .0) n (raised (S) (a .step) (a .c) (stepped (a .d) (a .c)))) (sym (c .before .before .before .before .before .before .before .before .before .in-use .ensures)) (j .0)) g (j .1) (c .before .before .before .before .before .before .before .before .child-word .ensures ∙ ap childWord m))) (λ y. c .before .before .before .before .if4 .left y)))
 
 pub +above+neighbour-spec : {M : Type 1} → statement M
 +above+neighbour-spec = close μ-above μ-neighbour (λ t. above-lts.spec (is-root-reads.Asked, is-root-reads.Learnt, word-reads.Asked, word-reads.Learnt, parent-of-reads.Asked, parent-of-reads.Learnt, alike-reads.Asked, alike-reads.Learnt, neighbour-below t, neighbour.Post)

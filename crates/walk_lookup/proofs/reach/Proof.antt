@@ -1,10 +1,14 @@
 -- `walk_lookup::reach` meets its contract.
 -- Assumes nothing.
+use mathlib.Core.Path.{_≡_, ap, _∙_}
+use Prim.Native.Nat.{ℕ, max}
+use native.Mathlib.Omega.{arith}
 use borrow.Author.Needs.{needs}
-use lib.ListN.{length}
+use lib.ListN.{length, replicate}
 use Rattle.grid.specs.Grid.{stepped}
 use Rattle.table_laws.proofs.LastLaws.{near-last}
 use Rattle.table_laws.proofs.Cites.{near-known}
+use Rattle.walk_lookup.proofs.RoomLaws.{none-made}
 use Rattle.walk_lookup.proofs.reach.Statement.{statement}
 use Rattle.walk_lookup.proofs.reach.Tie as tie
 
@@ -25,17 +29,36 @@ returns c =
     let s = c .before .before .before .before in
     let a = s .args in
     let q = s .pre .1 in
-    let w = c .before .word in
-    λ S h r. near-last (a .t .now) (a .nodes) S h (length (a .t .now)) (a .step) (a .t .now) (w .result) (a .nodes) (a .c) (stepped (a .d) (a .c)) (near-known (a .t .now) (a .nodes) (a .u) (a .c) (a .d) (a .step) S h r (q .2) (q .3) (w .result) (w .ensures) (c .if1 .taken))
+    let w = c .before .word in (
+      (λ S h r. near-last (a .t .now) (a .nodes) S h (length (a .t .now)) (a .step) (a .t .now) (w .result) (a .nodes) (a .c) (stepped (a .d) (a .c)) (near-known (a .t .now) (a .nodes) (a .u) (a .c) (a .d) (a .step) S h r (q .2) (q .3) (w .result) (w .ensures) (c .if1 .taken))),
+      (λ z. absurd (c .if1 .taken z)),
+    )
 
 neighbour-requires : tie.Need-neighbour-requires
 neighbour-requires c κs = search needs
+
+zero-requires : tie.Need-zero-requires
+zero-requires c κs = search needs
 
 same-length-2 : tie.Need-same-length-2
 same-length-2 c = search needs
 
 returns-2 : tie.Need-returns-2
-returns-2 c = search needs
+returns-2 c =
+    let a = c .before .before .before .before .before .before .before .before .before .before .before .before .before .args in
+    let n = c .before .before .before .before .before .before .before .neighbour in
+    let z = c .before .before .zero in
+    let l : length (n .last .0) ≡ length (a .t .now) = n .kept .0 in (
+      (λ S h r. none-made (length (a .t .now)) S (a .step) (a .c) (stepped (a .d) (a .c)) (n .last .0) (z .last .0) (n .result) (max (a .nodes) (n .result)) (max (a .nodes) 0) (c .before .before .before .before .if2 .taken) (n .ensures S h r)),
+      (λ e. z .ensures ∙ ap (λ (m : ℕ). replicate {A = ℕ} m 0) l),
+    )
+
+same-length-3 : tie.Need-same-length-3
+same-length-3 c = search needs
+
+returns-3 : tie.Need-returns-3
+returns-3 c =
+    (c .before .before .before .neighbour .ensures, λ z. absurd (c .if2 .left z))
 
 pub reach-spec : {M : Type 1} → statement M
 reach-spec =
@@ -47,5 +70,8 @@ reach-spec =
     same-length
     returns
     neighbour-requires
+    zero-requires
     same-length-2
-    returns-2)
+    returns-2
+    same-length-3
+    returns-3)

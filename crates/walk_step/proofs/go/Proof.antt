@@ -33,7 +33,7 @@ returns c =
     let k = s .pre .0 in
     let q = s .pre .1 in
     let o = c .before .before .before .reach in
-    λ x ds h. step-full (a .t .now) x ds (a .w) h (a .d) (o .last .0) (o .result) (max (a .w .nodes) (o .result)) (o .ensures) (c .if1 .taken)
+    λ x ds h. (step-full (a .t .now) x ds (a .w) h (a .d) (o .last .0) (o .result) (max (a .w .nodes) (o .result)) (o .ensures .0) (c .if1 .taken), o .ensures .1 (c .if1 .taken))
 
 sub-visit : tie.Need-sub-visit
 sub-visit c = search needs
@@ -45,7 +45,7 @@ visit-requires c κs =
     let k = s .pre .0 in
     let q = s .pre .1 in
     let o = c .before .before .before .before .reach in
-    let v = step-visits (a .t .now) (k .start) (k .chain) (a .w) (k .walked) (a .d) (o .last .0) (o .result) (max (a .w .nodes) (o .result)) (o .ensures) (c .before .if1 .left) in
+    let v = step-visits (a .t .now) (k .start) (k .chain) (a .w) (k .walked) (a .d) (o .last .0) (o .result) (max (a .w .nodes) (o .result)) (o .ensures .0) (c .before .if1 .left) in
     (v .0, omega (arith, v .1, q .3), omega (arith, q .3))
 
 moved-requires : tie.Need-moved-requires
@@ -67,7 +67,7 @@ returns-2 c =
     let v = c .before .before .before .before .visit in
     let m = c .before .moved in
     let r : Spot = record { node = o .result - 1; at = m .result; steps = a .w .steps + 1; nodes = c .in-use .result } in
-    λ x ds h. step-to (a .t .now) x ds (a .w) h (a .d) (o .last .0) (o .result) (max (a .w .nodes) (o .result)) (o .ensures) (c .before .before .before .before .before .before .if1 .left) (v .last .0) (v .ensures) r refl (m .ensures) refl (c .in-use .ensures)
+    λ x ds h. step-to (a .t .now) x ds (a .w) h (a .d) (o .last .0) (o .result) (max (a .w .nodes) (o .result)) (o .ensures .0) (c .before .before .before .before .before .before .if1 .left) (v .last .0) (v .ensures) r refl (m .ensures) refl (c .in-use .ensures)
 
 pub go-spec : {M : Type 1} → statement M
 go-spec =
