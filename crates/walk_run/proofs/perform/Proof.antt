@@ -22,7 +22,7 @@ mark-requires c κs =
     let b = c .before .before .before .before .before .before .before .before .before .before .apply in
     let v = c .before .before .before .before .next .given in
     let g = applied-bounds (length (a .t .now)) (a .marks .now) (a .i) (k .start) (b .last .0) (b .last .1 .0) (operate (k .steps) (a .op)) (b .result) (v .0 .0) (v .1) (b .ensures (k .start) (k .steps) (k .chained)) in
-    (g .0, omega (arith, s .pre .1 .1), omega (arith, g .1, s .pre .1 .0), s .pre .1 .2)
+    (g .0, omega (arith, s .pre .1 .1), omega (arith, g .1, s .pre .1 .0), omega (arith, s .pre .1 .2))
 
 enum-told : tie.Need-enum-told
 enum-told c = search needs
