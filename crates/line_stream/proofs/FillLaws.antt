@@ -2,20 +2,20 @@
 -- Assumes nothing.
 use mathlib.Core.Path.{_≡_, refl, sym, ap, _∙_, subst}
 use mathlib.Core.Bool.{Bool, true, false, cond, _&&_}
-use mathlib.Core.List.{List, [], _∷_, _++_}
+use mathlib.Core.List.{List, [], _++_}
 use mathlib.Core.Logic.{_⊎_, inl, inr}
 use Prim.Native.Nat.{ℕ, zero, suc, _+_, _-_, _<_, _≤_}
 use native.Mathlib.Omega.{arith}
 use lib.ListN.{length, take, drop, length-drop, length-take}
 use lib.Seq.{take-all, take-add, drop-drop, length-take-le}
-use lib.Dec.{eqb, ltb, leb}
+use lib.Dec.{ltb, leb}
 use borrow.Author.Tests.{le-ltb, lt-ltb, le-leb, lt-leb, eq-eqb, ne-eqb}
 use Rattle.line_frame.specs.Sizes.{mostHeld}
 use Rattle.line_fields.specs.Put.{put, Wrote}
 use Rattle.line_stream.specs.Stream.{lineLength, hasFeed, keptOf, passedOf, toldOf, heldOf, Job, Does, Fed}
 use Rattle.line_stream.specs.Fill.{FedLine, Filled, Block, goesOn, fillOf, lineAfter}
 use Rattle.line_stream.specs.declared.Progress.{Progress}
-use Rattle.line_fields.proofs.PutLaws.{take-put-start, wrote-nil, take-put, drop-put, length-put}
+use Rattle.line_fields.proofs.PutLaws.{take-put-start, take-put, drop-put, length-put}
 use Rattle.line_stream.proofs.StreamLaws.{lineLength-most, fed-passed, fed-nil, fed-append, passedOf-most, passedOf-some}
 
 pub length-keptOf : (l : List ℕ) → length (keptOf l) ≤ mostHeld

@@ -1,13 +1,12 @@
 -- One more byte in each loop over a chunk.
 -- Assumes nothing.
-use mathlib.Core.Path.{_≡_, refl, sym, ap, _∙_}
-use mathlib.Core.Bool.{Bool, true, false, _&&_}
-use mathlib.Core.List.{List, [], _∷_, _++_, append-assoc}
-use Prim.Native.Nat.{ℕ, zero, suc, _+_, _-_, _<_, _≤_}
+use mathlib.Core.Path.{_≡_, sym, ap, _∙_}
+use mathlib.Core.List.{List, _++_}
+use Prim.Native.Nat.{ℕ, suc, _+_, _-_, _<_, _≤_}
 use native.Mathlib.Omega.{arith}
 use native.Mathlib.Numerals.{add-one}
 use native.Mathlib.Decide.{decLe, decLt}
-use lib.ListN.{length, take, drop, getD, set, length-drop, length-append, drop-of-length-le}
+use lib.ListN.{length, take, drop, getD, set, length-drop, drop-of-length-le}
 use lib.Seq.{drop-cons, paste, paste-suc, getD-drop, take-append-add, take-all, take-take, length-take-le, length-paste-head}
 use borrow.Author.Tests.{eq-eqb, ne-eqb}
 use Rattle.line_frame.specs.Sizes.{mostHeld}

@@ -7,7 +7,7 @@ use Prim.Native.Nat.{ℕ, _<_, _≤_}
 use native.Mathlib.Omega.{arith}
 use lib.ListN.{length}
 use lib.Dec.{eqb}
-use Rattle.line_frame.specs.Program.{lastOf, outputFrom}
+use Rattle.line_frame.specs.Program.{outputFrom}
 use Rattle.line_stream.specs.Stream.{lineLength}
 use Rattle.line_stream.proofs.StreamLaws.{lineLength-feed, lineLength-more}
 

@@ -5,12 +5,12 @@ use mathlib.Core.Bool.{Bool, true, false, cond}
 use mathlib.Core.List.{List, [], _∷_, _++_, append-assoc, append-nil}
 use Prim.Native.Nat.{ℕ, zero, suc, _+_, _<_, _≤_}
 use native.Mathlib.Omega.{arith}
-use lib.ListN.{length, take, drop}
+use lib.ListN.{length, take}
 use lib.Seq.{take-length}
-use lib.Dec.{eqb, ltb}
+use lib.Dec.{eqb}
 use borrow.Author.Tests.{ltb-true, ltb-false}
 use Rattle.line_frame.specs.Sizes.{mostHeld}
-use Rattle.line_frame.specs.Program.{lastOf, outputFrom}
+use Rattle.line_frame.specs.Program.{outputFrom}
 use Rattle.line_stream.specs.Stream.{lineLength, hasFeed, keptOf, passedOf, toldOf, heldOf, Job, Does, owedFrom, Fed, Run, ended, fed, joined}
 use Rattle.line_stream.proofs.StreamCases as cases
 

@@ -1,12 +1,14 @@
+-- `line_stream::hold` meets its contract: the bytes copied so far stand behind those that were held.
+-- Assumes nothing.
 use Rattle.line_fields.specs.Put.{Wrote}
-use lib.Seq.{paste-zero, length-paste}
+use lib.Seq.{paste-zero}
 use Rattle.line_stream.proofs.HoldLaws.{paste-next, hold-kept}
 use borrow.Author.Needs.{needs}
 use lib.Seq.{paste}
-use lib.ListN.{length, take, drop, getD, set, length-set}
+use lib.ListN.{length, drop, length-set}
 use native.Mathlib.Omega.{arith}
-use mathlib.Core.Path.{_≡_, refl, sym, ap, _∙_}
-use Prim.Native.Nat.{ℕ, zero, suc, _≤_, _<_, _+_, _-_, _/_, _%_}
+use mathlib.Core.Path.{_≡_, refl, ap, _∙_}
+use Prim.Native.Nat.{_≤_, _+_, _-_}
 use Rattle.line_stream.proofs.hold.Statement.{statement}
 use Rattle.line_stream.proofs.hold.Tie as tie
 

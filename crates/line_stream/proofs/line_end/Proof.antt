@@ -1,10 +1,12 @@
+-- `line_stream::line_end` meets its contract: no line feed was passed.
+-- Assumes nothing.
 use Rattle.line_stream.proofs.HoldLaws.{lineLength-here, lineLength-next, lineLength-end}
 use borrow.Author.Needs.{needs}
 use Rattle.line_stream.specs.Stream.{lineLength}
-use lib.ListN.{length, take, drop, getD, set, length-set}
+use lib.ListN.{length, drop}
 use native.Mathlib.Omega.{arith}
-use mathlib.Core.Path.{_≡_, refl, sym, ap, _∙_}
-use Prim.Native.Nat.{ℕ, zero, suc, _≤_, _<_, _+_, _-_, _/_, _%_}
+use mathlib.Core.Path.{_≡_}
+use Prim.Native.Nat.{_≤_, _+_, _-_}
 use Rattle.line_stream.proofs.line_end.Statement.{statement}
 use Rattle.line_stream.proofs.line_end.Tie as tie
 
