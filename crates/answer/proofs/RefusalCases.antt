@@ -7,17 +7,17 @@ use Rattle.answer.specs.declared.Refusal.the-variants.{TooMany, Table, R
 use Rattle.answer.specs.declared.Verdict.the-variants.{Nowhere, Open, Room, OpenMeeting, ClosedMeeting, ThereAndBack}
 use Rattle.answer.specs.Refusal.{refusalNumber, refusalPlace, judgedNumber, judgedPlace, verdictNumber, firstOf}
 
-numbers-of-refusals : map refusalNumber (TooMany ∷ Table ∷ ResultRoom ∷ BadDigit 5 ∷ NothingToTake 5 ∷ TooLong 5 ∷ NoRoom 5 ∷ HullRoom ∷ BadLine ∷ []) ≡ 1 ∷ 2 ∷ 3 ∷ 4 ∷ 5 ∷ 6 ∷ 7 ∷ 8 ∷ 9 ∷ []
+pub numbers-of-refusals : map refusalNumber (TooMany ∷ Table ∷ ResultRoom ∷ BadDigit 5 ∷ NothingToTake 5 ∷ TooLong 5 ∷ NoRoom 5 ∷ HullRoom ∷ BadLine ∷ []) ≡ 1 ∷ 2 ∷ 3 ∷ 4 ∷ 5 ∷ 6 ∷ 7 ∷ 8 ∷ 9 ∷ []
 numbers-of-refusals = refl
 
-places-of-refusals : map refusalPlace (TooMany ∷ Table ∷ ResultRoom ∷ BadDigit 5 ∷ NothingToTake 5 ∷ TooLong 5 ∷ NoRoom 5 ∷ HullRoom ∷ BadLine ∷ []) ≡ 0 ∷ 0 ∷ 0 ∷ 5 ∷ 5 ∷ 5 ∷ 5 ∷ 0 ∷ 0 ∷ []
+pub places-of-refusals : map refusalPlace (TooMany ∷ Table ∷ ResultRoom ∷ BadDigit 5 ∷ NothingToTake 5 ∷ TooLong 5 ∷ NoRoom 5 ∷ HullRoom ∷ BadLine ∷ []) ≡ 0 ∷ 0 ∷ 0 ∷ 5 ∷ 5 ∷ 5 ∷ 5 ∷ 0 ∷ 0 ∷ []
 places-of-refusals = refl
 
 -- an accepted answer holds 0 for both
-nothing-refused : judgedNumber Good ∷ judgedPlace Good ∷ [] ≡ 0 ∷ 0 ∷ []
+pub nothing-refused : judgedNumber Good ∷ judgedPlace Good ∷ [] ≡ 0 ∷ 0 ∷ []
 nothing-refused = refl
 
-numbers-of-verdicts : map verdictNumber (Nowhere ∷ Open ∷ Room ∷ OpenMeeting ∷ ClosedMeeting ∷ ThereAndBack ∷ []) ≡ 0 ∷ 1 ∷ 2 ∷ 3 ∷ 4 ∷ 5 ∷ []
+pub numbers-of-verdicts : map verdictNumber (Nowhere ∷ Open ∷ Room ∷ OpenMeeting ∷ ClosedMeeting ∷ ThereAndBack ∷ []) ≡ 0 ∷ 1 ∷ 2 ∷ 3 ∷ 4 ∷ 5 ∷ []
 numbers-of-verdicts = refl
 
 first-of-three : firstOf (Good ∷ Refused Table ∷ Refused ResultRoom ∷ []) ≡ Refused Table

@@ -34,7 +34,7 @@ chain-alone ds e =
     ap₂ (λ (s : List ℕ) (k : ℕ). s ++ replicate k 0) e n ∙ append-nil ds
 
 -- the first words of the chain are the surviving steps
-pub chain-steps : {c : Corner} {os t ms ch t′ ms′ ch′ : List ℕ} {f : Facts} → WalkIs c os t ms ch (Answer.Accepted f) t′ ms′ ch′ → take (f .steps) ch′ ≡ survivors os
+chain-steps : {c : Corner} {os t ms ch t′ ms′ ch′ : List ℕ} {f : Facts} → WalkIs c os t ms ch (Answer.Accepted f) t′ ms′ ch′ → take (f .steps) ch′ ≡ survivors os
 chain-steps {os = os} w =
     ap₂ (λ (k : ℕ) (l : List ℕ). take k l) (ap (λ (g : Facts). g .steps) (its-facts w)) (its-chain w)
     ∙ take-at (survivors os) (replicate (length os - length (survivors os)) 0) (length (survivors os)) refl

@@ -11,7 +11,7 @@ use Rattle.lists.specs.Lists.{count}
 use Rattle.grid.specs.declared.Corner.{Corner}
 use Rattle.grid.specs.Grid.{origin, same, cornersFrom, endFrom}
 use Rattle.steps.specs.Operations.{operate, survivorsFrom, survivors}
-use Rattle.steps.specs.Turns.{turnOf, turnsFrom, turnsOf}
+use Rattle.steps.specs.Turns.{turnOf, turnsFrom, turnsOf, stepAfter, stepsFrom, stepsOf}
 use Rattle.tree.specs.Nodes.{nodesOf}
 use Rattle.layout.specs.Marks.{markWords, marksFrom, chainOf, markOf}
 use Rattle.layout.specs.Table.{width, wordAt, recordOf, recordsOf, tableOf}
@@ -90,3 +90,17 @@ turn-digit (d ∷ ds) k h = turns-from d ds k (omega arith)
 pub turn-first : (ds : List ℕ) → getD (turnsOf ds) 0 0 ≡ getD ds 0 0
 turn-first [] = refl
 turn-first (d ∷ ds) = refl
+
+-- each later step is the one before it, turned by its digit
+steps-from : (a : ℕ) (ts : List ℕ) (k : ℕ) → k < length ts → getD (stepsFrom a ts) k 0 ≡ stepAfter (getD (a ∷ stepsFrom a ts) k 0) (getD ts k 0)
+steps-from a [] k h = absurd (omega arith)
+steps-from a (t ∷ ts) zero h = refl
+steps-from a (t ∷ ts) (suc k) h = steps-from (stepAfter a t) ts k (omega arith)
+
+pub step-digit : (ts : List ℕ) (k : ℕ) → suc k < length ts → getD (stepsOf ts) (suc k) 0 ≡ stepAfter (getD (stepsOf ts) k 0) (getD ts (suc k) 0)
+step-digit [] k h = absurd (omega arith)
+step-digit (t ∷ ts) k h = steps-from t ts k (omega arith)
+
+pub step-first : (ts : List ℕ) → getD (stepsOf ts) 0 0 ≡ getD ts 0 0
+step-first [] = refl
+step-first (t ∷ ts) = refl

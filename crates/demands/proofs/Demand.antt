@@ -17,23 +17,21 @@ use Rattle.answer.specs.declared.Refusal.the-variants.{NoRoom}
 use Rattle.answer.specs.declared.Verdict.{Verdict, the-variants.ThereAndBack}
 use Rattle.answer.specs.Limits.{noMeeting}
 use Rattle.answer.specs.Refusal.{refusalNumber}
-use Rattle.lists.specs.Lists.{Distinct}
+use Rattle.lists.specs.Lists.{Distinct, Below}
 use Rattle.grid.specs.declared.{Corner.Corner, Panel.Panel}
-use Rattle.grid.specs.Grid.{origin, cornersFrom, endFrom}
-use Rattle.grid.specs.Tree.{AncestorAt, root}
-use Rattle.grid.specs.declared.Corner.{Corner}
+use Rattle.grid.specs.Grid.{origin, cornersFrom, endFrom, stepped}
+use Rattle.grid.specs.Tree.{AncestorAt, root, WithinLevels}
 use Rattle.steps.specs.Operations.{survivors}
-use Rattle.steps.specs.Turns.{turnOf, turnsOf, stepsOf, ConvertedBy}
+use Rattle.steps.specs.Turns.{turnOf, turnsOf, stepAfter, stepsOf, ConvertedBy}
 use Rattle.trace.specs.Meeting.{Meets, FirstMeets, visitedOf}
 use Rattle.trace.specs.Verdict.{VerdictSays, IsRoom, sweepFrom, areaOf}
-use Rattle.tree.specs.Nodes.{nodesOf, refOf, needOf, InUse}
+use Rattle.tree.specs.Nodes.{nodesOf, refOf, needOf, InUse, LinkedBy}
 use Rattle.layout.specs.Marks.{markWords}
 use Rattle.layout.specs.Table.{width, recordsIn, wordAt}
 use Rattle.walk_call.specs.Walk.{factsOf, WalkIs}
-use Rattle.hull.specs.Hull.{Exposed, HullIs}
+use Rattle.hull.specs.Hull.{Exposed, HullIs, Encloses}
 use Rattle.hull.specs.Call.{numbers, HullCall}
 use Rattle.panels.specs.{Edges.surplusOf, Box.panelSum, Inside.panelsInside, Inside.ListsInside, Inside.InsideLeft, Inside.InsideRight}
-use Rattle.hull_laws.proofs.ChainLaws.{Closed}
 use Rattle.hull_laws.proofs.CallLaws as hullCallLaws
 use Rattle.hull_laws.proofs.HullLaws as hullLaws
 use Rattle.hull_laws.proofs.OneLaws as oneLaws
@@ -43,10 +41,11 @@ use Rattle.trace.proofs.MeetingLaws as meetingLaws
 use Rattle.trace.proofs.VerdictLaws as verdictLaws
 use Rattle.trace.proofs.VisitLaws as visitLaws
 use Rattle.tree.proofs.InUseLaws as inUseLaws
+use Rattle.tree.proofs.LinkStepLaws as linkStepLaws
 use Rattle.tree.proofs.NodeLaws as nodeLaws
 use Rattle.tree.proofs.OrderLaws as orderLaws
-use Rattle.tree_laws.proofs.CountLaws.{Within}
 use Rattle.tree_laws.proofs.CountLaws as countLaws
+use Rattle.steps.proofs.TurnLaws as turnLaws
 use Rattle.steps.proofs.TurnPromiseLaws as promiseLaws
 use Rattle.demands.specs.Moments.{nodesAfter, cornersAfter, visitsAfter, AtMostEight, FourLessThree, Exceeds}
 use Rattle.demands.specs.Given.{Faultless, NoRoomAfter, Given}
@@ -237,6 +236,10 @@ nodes-by-step = orderLaws.need-order
 pub nodes-by-level : (ps : List Corner) (i : ℕ) (b a : Corner) → InUse ps b → AncestorAt (suc i) b a → refOf (nodesOf ps) a < refOf (nodesOf ps) b
 nodes-by-level = orderLaws.ref-ancestor
 
+-- every link is to one of the four neighbours
+pub links-to-neighbours : (c : Corner) (ds : List ℕ) → Below 4 ds → (a b : Corner) (k : ℕ) → LinkedBy (cornersFrom c ds) a b k → (d : ℕ) × (d < 4) × (b ≡ stepped d a)
+links-to-neighbours = linkStepLaws.link-next
+
 -- the different corners are the visited ones, each once
 pub corners-visited : (ps : List Corner) (a : Corner) → List·Memᴰ a (visitedOf ps) ↔ List·Memᴰ a ps
 corners-visited ps a = (visitLaws.visited-mem ps, visitLaws.mem-visited ps)
@@ -255,6 +258,20 @@ first-turn = bufferLaws.turn-first
 pub later-turn : (ds : List ℕ) (k : ℕ) → suc k < length ds → getD (turnsOf ds) (suc k) 0 ≡ turnOf (getD ds k 0) (getD ds (suc k) 0)
 later-turn = bufferLaws.turn-digit
 
+-- the first step of turns is the first digit, each later step is the one before it turned by its digit
+pub first-step : (ts : List ℕ) → getD (stepsOf ts) 0 0 ≡ getD ts 0 0
+first-step = bufferLaws.step-first
+
+pub later-step : (ts : List ℕ) (k : ℕ) → suc k < length ts → getD (stepsOf ts) (suc k) 0 ≡ stepAfter (getD (stepsOf ts) k 0) (getD ts (suc k) 0)
+later-step = bufferLaws.step-digit
+
+-- neither has more digits or fewer
+pub turns-length : (ds : List ℕ) → length (turnsOf ds) ≡ length ds
+turns-length = turnLaws.length-turnsOf
+
+pub steps-length : (ts : List ℕ) → length (stepsOf ts) ≡ length ts
+steps-length = turnLaws.length-stepsOf
+
 -- "steps turned into turns and back give the same steps, and turns into steps and back the same turns"
 pub steps-turns-steps : (s t₀ t u₀ u : List ℕ) (r : Judged) → ConvertedBy turnsOf s t₀ Good t → ConvertedBy stepsOf t u₀ r u → length u₀ ≡ length s → (r ≡ Good) × (u ≡ s)
 steps-turns-steps = promiseLaws.turns-and-back
@@ -270,7 +287,7 @@ pub hullIs-one : (P L L′ : List Corner) → HullIs P L → HullIs P L′ → L
 hullIs-one = oneLaws.hullIs-one
 
 -- every visited corner lies on or left of every edge of the list, the closing one included
-pub hull-edges : (s : Corner) (w : List ℕ) (L : List Corner) → HullIs (cornersFrom s w) L → Closed (cornersFrom s w) L
+pub hull-edges : (s : Corner) (w : List ℕ) (L : List Corner) → HullIs (cornersFrom s w) L → Encloses (cornersFrom s w) L
 hull-edges = hullLaws.hull-edges
 
 pub hull-extreme : (P L : List Corner) → HullIs P L → (q : Corner) → List·Memᴰ q L ↔ Exposed P q
@@ -307,7 +324,7 @@ pub four-less-three : (os : List ℕ) (k : ℕ) → FourLessThree (nodesAfter or
 four-less-three = aloneLaws.four-less-three
 
 -- from any start, where every coordinate is below 2 ^ n: at most four times the corners and 4 n
-pub four-and-levels : (n : ℕ) (c : Corner) (ds : List ℕ) → ((q : Corner) → List·Memᴰ q (cornersFrom c ds) → Within n q) → length (nodesOf (cornersFrom c ds)) ≤ 4 * length (visitedOf (cornersFrom c ds)) + 4 * n
+pub four-and-levels : (n : ℕ) (c : Corner) (ds : List ℕ) → ((q : Corner) → List·Memᴰ q (cornersFrom c ds) → WithinLevels n q) → length (nodesOf (cornersFrom c ds)) ≤ 4 * length (visitedOf (cornersFrom c ds)) + 4 * n
 four-and-levels = countLaws.few-nodes-from
 
 module _ {os t ms ch t′ ms′ ch′ : List ℕ} {r : Answer} (w : WalkIs origin os t ms ch r t′ ms′ ch′) where

@@ -1,11 +1,17 @@
 -- Moments, occasions and bounds, computed on small walks.
 -- Assumes nothing.
-use mathlib.Core.List.{[], _∷_}
+use mathlib.Core.Bool.{false≢true}
+use mathlib.Core.List.{[], _∷_, List·Memᴰ, List·Memᴰ·head, List·Memᴰ·tail}
 use mathlib.Core.Logic.{inl, ⊎-elim}
-use mathlib.Core.Path.{_≡_, refl}
+use mathlib.Core.Path.{_≡_, refl, sym}
 use Prim.Native.Nat.{_*_, _-_}
 use native.Mathlib.Omega.{arith}
-use Rattle.grid.specs.Grid.{origin}
+use lib.IntN.{pos}
+use Rattle.grid.specs.Grid.{corner, origin, same, cornersFrom}
+use Rattle.grid.proofs.CornerLaws.{same-sound, same-refl}
+use Rattle.grid.proofs.StepLaws.{stepped-ne}
+use Rattle.lists.proofs.GatherLaws.{mem→any}
+use Rattle.tree.specs.Nodes.{InUse, LinkedBy}
 use Rattle.layout.specs.Table.{width}
 use Rattle.steps.specs.Operations.{Fine}
 use Rattle.demands.specs.Moments.{nodesAfter, cornersAfter, visitsAfter, FourLessThree, Exceeds}
@@ -50,3 +56,20 @@ two-records = (2, omega arith, omega arith, refl)
 
 part-of-a-record : HasRecords (2 * width - 1) → ⊥
 part-of-a-record x = let e : 2 * width - 1 ≡ x .0 * width = x .3 in omega arith
+
+-- a node that exists need not have been stood on: 0011 uses (1,1), the parent of its end, and was never there
+pub in-use-unvisited : InUse (cornersFrom origin (0 ∷ 0 ∷ 1 ∷ 1 ∷ [])) (corner (pos 1) (pos 1)) × (List·Memᴰ (corner (pos 1) (pos 1)) (cornersFrom origin (0 ∷ 0 ∷ 1 ∷ 1 ∷ [])) → ⊥)
+in-use-unvisited = (
+  (corner (pos 2) (pos 2), List·Memᴰ·tail (List·Memᴰ·tail (List·Memᴰ·tail (List·Memᴰ·tail (List·Memᴰ·head refl)))), (1, (refl, refl))),
+  (λ m. false≢true (mem→any same same-sound same-refl m)),
+)
+
+-- nor is a link a walked edge: its step 4 links (1,0) with that node, where nobody walked
+pub linked-unwalked : LinkedBy (cornersFrom origin (0 ∷ 0 ∷ 1 ∷ 1 ∷ [])) (corner (pos 1) (pos 0)) (corner (pos 1) (pos 1)) 4
+linked-unwalked = record {
+  counted = omega arith;
+  within = omega arith;
+  level = 1;
+  joined = inl ((refl, refl), (refl, refl));
+  differ = λ e. stepped-ne 1 (corner (pos 1) (pos 0)) (sym e);
+}

@@ -60,7 +60,7 @@ module _ (ds : List ℕ) (room : ℕ) where
   abbrev judgeDigit : ℕ → ℕ → Judged
   judgeDigit p d = when (ltb 3 d) (BadDigit p)
 
-  pub given-turns : (j : Judged) → GivenTurns ds room j → turnsJudged ds room ≡ j
+  given-turns : (j : Judged) → GivenTurns ds room j → turnsJudged ds room ≡ j
   given-turns _ (turn.tooMany h) = turns.judged-many ds room h
   given-turns _ (turn.resultRoom h f) = turns.judged-room ds room h f
   given-turns _ (turn.badDigit i h e f) =
@@ -114,7 +114,7 @@ module _ (chain : List ℕ) (room corners : ℕ) where
       hulls.judged-room chain room corners h
       (none-from faultAt chainJudged (λ p. refl) (λ p d l. refl) 0 chain (λ i p k g. step-none p (getD chain i 0) (f i k .0) (omega (arith, f i k .1))))
 
-  pub given-hull : (j : Judged) → GivenHull chain room corners j → hullJudged chain room corners ≡ j
+  given-hull : (j : Judged) → GivenHull chain room corners j → hullJudged chain room corners ≡ j
   given-hull _ (hull.tooMany h) = hulls.judged-many chain room corners h
   given-hull _ (hull.badDigit i h f) = hull-fault (AboveThreeAt chain) i (BadDigit i) h f (step-above i (getD chain i 0) (f .here))
   given-hull _ (hull.tooLong i h f) = hull-fault (StepTooManyAt chain) i (TooLong i) h f (step-long i (getD chain i 0) (f .here .0) (at-most i (f .before) (f .here .1)))
@@ -148,7 +148,7 @@ module _ (chain : List ℕ) (room corners : ℕ) where
             (all-or-first (length chain) (StepAt chain) (λ i. AboveThreeAt chain i ⊎ StepTooManyAt chain i) step-or-fault)
       ]
 
-  pub hull-given : GivenHull chain room corners (hullJudged chain room corners)
+  hull-given : GivenHull chain room corners (hullJudged chain room corners)
   hull-given = let x = some-hull in subst (GivenHull chain room corners) (sym (given-hull (x .0) (x .1))) (x .1)
 
 count-refused : (j : Judged) (n : ℕ) (q : Refusal) → Counted.Refused q ≡ countedOf j n → j ≡ Refused q

@@ -29,7 +29,7 @@ use Rattle.demands.specs.Given as given
 use Rattle.demands.proofs.FirstLaws.{all-or-first, fine-or-fault, fault-digit, fault-nothing, fault-long, faults-none, faults-first, room-none, room-first}
 
 -- ---- the tests of 2 and 3
-pub fits-records : (w : ℕ) → tableFits w ≡ true → HasRecords w
+fits-records : (w : ℕ) → tableFits w ≡ true → HasRecords w
 fits-records w e =
     let a = eqb (w % width) 0 in
     let b = leb 1 (recordsIn w) in
@@ -38,7 +38,7 @@ fits-records w e =
     let z : w % width ≡ 0 = eqb-true (w % width) 0 (and-left a b h) in
     (recordsIn w, leb-true 1 (recordsIn w) (and-right a b h), leb-true (recordsIn w) mostRecords (and-right (a && b) d e), omega arith)
 
-pub records-fit : (w : ℕ) → HasRecords w → tableFits w ≡ true
+records-fit : (w : ℕ) → HasRecords w → tableFits w ≡ true
 records-fit w x =
     let r = x .0 in
     let l : 1 ≤ r = x .1 in

@@ -42,7 +42,7 @@ module _ (l : List Corner) (a : Corner) where
         | no z ↦ omega (arith, h .1)
       ]
 
-  pub find-first : (k : ℕ) → find (same a) l ≡ suc k ↔ FirstIn l a k
+  find-first : (k : ℕ) → find (same a) l ≡ suc k ↔ FirstIn l a k
   find-first k = (
     λ e.
         let g = find-get (same a) l k origin e in
@@ -60,7 +60,7 @@ module _ (ps : List Corner) where
   ns = nodesOf ps
 
   -- a node's ref is its number plus 1
-  pub ref-number : (b : Corner) (n : ℕ) → refOf ns b ≡ n → 0 < n → IsRef ps b n
+  ref-number : (b : Corner) (n : ℕ) → refOf ns b ≡ n → 0 < n → IsRef ps b n
   ref-number b zero e h = absurd (omega arith)
   ref-number b (suc m) e h = let f = find-first ns b m .0 e in record { number = m; plus-one = refl; in-use = f .inside; node = f .here }
 

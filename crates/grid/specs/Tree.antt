@@ -1,5 +1,5 @@
 -- The tree over the corners: parent, ancestors, child index (RULES 3.1, 3.2). Assumes nothing.
-use Rattle.lists.specs.Lists.{_≡_, Bool, true, false, List, [], _∷_, _++_, ℕ, zero, suc, _+_, _*_, _/_, _%_, ℤ, pos, negsuc, negℤ, natAbs}
+use Rattle.lists.specs.Lists.{_≡_, Bool, true, false, List, [], _∷_, _++_, ℕ, zero, suc, _+_, _*_, _/_, _%_, _^_, _<_, ℤ, pos, negsuc, negℤ, natAbs}
 use Rattle.grid.specs.{declared.Corner.Corner, Grid.corner, Grid.same}
 
 -- half the magnitude, rounded down, with the sign kept
@@ -22,6 +22,11 @@ parentOf c = corner (halfOf (c .0)) (halfOf (c .1))
 -- the sum of the magnitudes, which falls from a node to its parent
 abbrev pub sizeOf : Corner → ℕ
 sizeOf c = natAbs (c .0) + natAbs (c .1)
+
+-- both coordinates are below 2 ^ n in magnitude: there are at most n parents above
+pub record WithinLevels (n : ℕ) (c : Corner) : Type 0 where
+  pub x : natAbs (c .0) < 2 ^ n
+  pub y : natAbs (c .1) < 2 ^ n
 
 -- a is the i-th parent of c: c itself at level 0, and no node has one past the root
 abbrev pub AncestorAt : ℕ → Corner → Corner → Type 0

@@ -2,7 +2,7 @@
 -- L lists it when it begins at the lowest of the leftmost corners, holds exactly the exposed ones, each once, and any three in its
 -- order turn left: so no three are in a line and the order is counterclockwise. There is no case apart: one corner gives one, and
 -- corners along one line give their two outermost. Assumes nothing.
-use Rattle.lists.specs.Lists.{_≡_, List, [], _∷_, List·Memᴰ, _⊎_, _↔_, ℤ, pos, _+ℤ_, _-ℤ_, _*ℤ_, _≤ℤ_, _<ℤ_, Distinct}
+use Rattle.lists.specs.Lists.{_≡_, List, [], _∷_, _++_, List·Memᴰ, _⊎_, _↔_, ℤ, pos, _+ℤ_, _-ℤ_, _*ℤ_, _≤ℤ_, _<ℤ_, Distinct}
 use Rattle.grid.specs.declared.Corner.{Corner}
 
 -- above 0 where c lies left of the way from a to b, below 0 where right of it, 0 where the three are in a line
@@ -42,6 +42,25 @@ Ccw (a ∷ l) = Pairs (λ b c. Left a b c) l × Ccw l
 abbrev pub Starts : List Corner → List Corner → Type 0
 Starts P [] = ⊥
 Starts P (b ∷ l) = List·Memᴰ b P × ((q : Corner) → List·Memᴰ q P → Begins b q)
+
+-- c lies on or left of the way from a to b
+pub record OnLeft (a b c : Corner) : Type 0 where
+  pub on : pos 0 ≤ℤ cross a b c
+
+-- every corner of P does
+abbrev pub AllLeft : List Corner → Corner → Corner → Type 0
+AllLeft P a b = (p : Corner) → List·Memᴰ p P → OnLeft a b p
+
+-- every corner of P lies on or left of each edge of the path
+abbrev pub LeftOfPath : List Corner → List Corner → Type 0
+LeftOfPath P [] = Unit {0}
+LeftOfPath P (b ∷ []) = Unit {0}
+LeftOfPath P (b ∷ (a ∷ s)) = AllLeft P b a × LeftOfPath P (a ∷ s)
+
+-- and of the edge from its last corner back to its first
+abbrev pub Encloses : List Corner → List Corner → Type 0
+Encloses P [] = Unit {0}
+Encloses P (b ∷ s) = LeftOfPath P (b ∷ (s ++ (b ∷ [])))
 
 -- L lists the corners of the convex hull of P
 pub record HullIs (P L : List Corner) : Type 0 where

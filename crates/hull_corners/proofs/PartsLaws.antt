@@ -56,13 +56,13 @@ module _ {c : Corner} {w e : ℕ} {lo hi s t : List ℕ} {a f g room : ℕ} (n :
 -- the upper chain is written without the corners that the lower one has too
 module _ {w e : ℕ} {lo hi s t : List ℕ} {a b : ℕ} (h : TwoChains w e lo hi s t a b) (f g : ℕ)
     (ef : f ≡ b + tally (eqb (getD lo (e - w) 0 + getD hi 0 0) top)) (eg : g ≡ length t - tally (ltb f (length t) && eqb (getD lo 0 0 + getD hi (e - w) 0) top)) where
-  pub seam-le : f ≤ length t
+  seam-le : f ≤ length t
   seam-le = omega (arith, seam-room hi t b (e - w) (eqb (getD lo (e - w) 0 + getD hi 0 0) top) (h .upper .chain))
 
   pub close-ge : f ≤ g
   close-ge = omega (arith, close-room f (length t) (eqb (getD lo 0 0 + getD hi (e - w) 0) top) seam-le)
 
-  pub close-le : g ≤ length t
+  close-le : g ≤ length t
   close-le = omega arith
 
   pub chained-parts : (room : ℕ) → 2 * ((length s - a) + (g - f)) ≤ room → Parts w e lo hi s t a f g room

@@ -2,7 +2,7 @@
 -- the chain of those right of it, after what would not make a left turn is dropped from its front (`cut`).
 -- Assumes nothing.
 use mathlib.Core.Path.{_≡_, refl, sym, ap, subst}
-use mathlib.Core.List.{List, [], _∷_, _++_, List·Memᴰ, List·Memᴰ·head, List·Memᴰ·tail, List·Memᴰ·not-nil}
+use mathlib.Core.List.{List, [], _∷_, List·Memᴰ, List·Memᴰ·head, List·Memᴰ·tail, List·Memᴰ·not-nil}
 use mathlib.Core.Logic.{_⊎_, inl, inr, ⊎-elim}
 use mathlib.Core.Bool.{Bool, true, false}
 use lib.IntN.{pos}
@@ -10,8 +10,8 @@ use lib.Signed.{_≤ℤ_, _<ℤ_, ltZ}
 use Rattle.int_laws.proofs.LinearLaws.{zarith, le-or-lt}
 use Rattle.int_laws.proofs.RangeLaws.{lt-true, lt-false}
 use Rattle.grid.specs.declared.Corner.{Corner}
-use Rattle.hull.specs.Hull.{Left, cross}
-use Rattle.hull_laws.proofs.CornerLaws.{OnLeft, left-join, left-on, left-rot, not-left, on-ext, on-far, on-near, on-self, on-self′}
+use Rattle.hull.specs.Hull.{Left, cross, OnLeft, AllLeft}
+use Rattle.hull_laws.proofs.CornerLaws.{left-join, left-on, left-rot, not-left, on-ext, on-far, on-near, on-self, on-self′}
 
 -- corners from left to right, one in each column
 abbrev pub Sorted : List Corner → Type 0
@@ -34,21 +34,6 @@ unfoldable pub chain : List Corner → List Corner
 chain [] = []
 chain (m ∷ ms) = m ∷ cut m (chain ms)
 
--- all of Q is on or left of a b
-abbrev pub Supp : List Corner → Corner → Corner → Type 0
-Supp Q a b = (q : Corner) → List·Memᴰ q Q → OnLeft a b q
-
--- all of Q is on or left of each step of the path
-abbrev pub Path : List Corner → List Corner → Type 0
-Path Q [] = Unit {0}
-Path Q (b ∷ []) = Unit {0}
-Path Q (b ∷ (a ∷ s)) = Supp Q b a × Path Q (a ∷ s)
-
--- and of the way from its last corner back to its first
-abbrev pub Closed : List Corner → List Corner → Type 0
-Closed Q [] = Unit {0}
-Closed Q (b ∷ s) = Path Q (b ∷ (s ++ (b ∷ [])))
-
 abbrev pub TurnsLeft : Corner → Corner → List Corner → Type 0
 TurnsLeft b a [] = Unit {0}
 TurnsLeft b a (z ∷ s) = Left b a z
@@ -57,14 +42,14 @@ TurnsLeft b a (z ∷ s) = Left b a z
 abbrev pub Chain : List Corner → List Corner → Type 0
 Chain Q [] = Unit {0}
 Chain Q (b ∷ []) = (q : Corner) → List·Memᴰ q Q → Ends b q
-Chain Q (b ∷ (a ∷ s)) = (b .0 <ℤ a .0) × Supp Q b a × TurnsLeft b a s × Chain Q (a ∷ s)
+Chain Q (b ∷ (a ∷ s)) = (b .0 <ℤ a .0) × AllLeft Q b a × TurnsLeft b a s × Chain Q (a ∷ s)
 
 ends-le : {b q : Corner} → Ends b q → q .0 ≤ℤ b .0
 ends-le (inl h) = omega zarith
 ends-le (inr h) = omega (zarith, h .0)
 
 module _ (Q : List Corner) (p : Corner) where
-  supp-more : (a b : Corner) → OnLeft a b p → Supp Q a b → Supp (p ∷ Q) a b
+  supp-more : (a b : Corner) → OnLeft a b p → AllLeft Q a b → AllLeft (p ∷ Q) a b
   supp-more a b h g q (List·Memᴰ·head e) = subst (λ (z : Corner). OnLeft a b z) (sym e) h
   supp-more a b h g q (List·Memᴰ·tail m) = g q m
 

@@ -12,12 +12,8 @@ use Rattle.int_laws.proofs.SignLaws.{h≤, h<, hw, eqt, _⊞_, _⊠_, _⊡_, by
 use Rattle.grid.specs.declared.Corner.{Corner}
 use Rattle.grid.specs.Grid.{corner, same}
 use Rattle.grid.proofs.CornerLaws.{same-sound, same-refl}
-use Rattle.hull.specs.Hull.{Left, cross}
+use Rattle.hull.specs.Hull.{Left, OnLeft, cross}
 use Rattle.hull.specs.Call.{numbers}
-
--- c is left of the way from a to b, or in a line with it
-pub record OnLeft (a b c : Corner) : Type 0 where
-  pub on : pos 0 ≤ℤ cross a b c
 
 -- the variables of the i-th corner of a list, of which `numbers` are the values
 abbrev pub X : ℕ → E
@@ -42,7 +38,7 @@ corner-dec p q = go (same p q) (same-sound p q) (λ e. subst (λ (z : Corner). s
     go true f g = yes (f refl)
     go false f g = no (λ e. false≢true (g e))
 
-pub cross-rot : (a b c : Corner) → cross a b c ≡ cross b c a
+cross-rot : (a b c : Corner) → cross a b c ≡ cross b c a
 unfolding cross
 cross-rot a b c = ring 6 (numbers (a ∷ b ∷ c ∷ [])) (cr 0 1 2) (cr 1 2 0) tt
 

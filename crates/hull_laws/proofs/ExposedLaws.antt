@@ -13,9 +13,9 @@ use Rattle.int_laws.proofs.RingLaws.{E, v, k, _⊕_, _⊖_, _⊗_, ⊝}
 use Rattle.int_laws.proofs.SignLaws.{h≤, h<, h0, hp, eqt, by≤, by<, by⊥, by≤÷, _⊞_, _⊠_, _⋆_}
 use Rattle.grid.specs.declared.Corner.{Corner}
 use Rattle.hull.specs.Call.{numbers}
-use Rattle.hull.specs.Hull.{Begins, Exposed, Left, cross, reach}
-use Rattle.hull_laws.proofs.ChainLaws.{Chain, Ends, Supp}
-use Rattle.hull_laws.proofs.CornerLaws.{O, OnLeft, X, Y, cr, corner-dec, corner-eq}
+use Rattle.hull.specs.Hull.{Begins, Exposed, Left, cross, reach, AllLeft, OnLeft}
+use Rattle.hull_laws.proofs.ChainLaws.{Chain, Ends}
+use Rattle.hull_laws.proofs.CornerLaws.{O, X, Y, cr, corner-dec, corner-eq}
 
 -- how far corner i lies in the direction of variables 0 and 1
 abbrev dt : ℕ → E
@@ -41,7 +41,7 @@ level a q b p h g l =
     let w = h≤ 8 ρ ((Y 2 ⊖ Y 0) ⊗ X 1 ⊕ (X 0 ⊖ X 2) ⊗ Y 1) ((Y 2 ⊖ Y 0) ⊗ X 3 ⊕ (X 0 ⊖ X 2) ⊗ Y 3) l in
     (by≤ (cr 0 1 3) O (w ⊞ h≤ 8 ρ O (cr 1 2 3) (g .on)) tt, by≤ (cr 1 2 3) O (w ⊞ h≤ 8 ρ O (cr 0 1 3) (h .on)) tt)
 
-pub turn-exposed : (P : List Corner) (a q b : Corner) → List·Memᴰ q P → Supp P a q → Supp P q b → Left a q b → Exposed P q
+turn-exposed : (P : List Corner) (a q b : Corner) → List·Memᴰ q P → AllLeft P a q → AllLeft P q b → Left a q b → Exposed P q
 turn-exposed P a q b m f g h = record { visited = m; u = b .1 -ℤ a .1; v = a .0 -ℤ b .0; most = top }
   where
     top : (p : Corner) → List·Memᴰ p P → ¬ (p ≡ q) → reach (b .1 -ℤ a .1) (a .0 -ℤ b .0) p <ℤ reach (b .1 -ℤ a .1) (a .0 -ℤ b .0) q
@@ -140,7 +140,7 @@ first-exposed P b m f = end-exposed P (pos 1) b m (λ q n. go q (f q n))
     go q (inl h) = inl (times-one (b .0) (q .0) h)
     go q (inr h) = inr h
 
-pub last-exposed : (P : List Corner) (b : Corner) → List·Memᴰ b P → ((q : Corner) → List·Memᴰ q P → Ends b q) → Exposed P b
+last-exposed : (P : List Corner) (b : Corner) → List·Memᴰ b P → ((q : Corner) → List·Memᴰ q P → Ends b q) → Exposed P b
 last-exposed P b m f = end-exposed P (negsuc 0) b m (λ q n. go q (f q n))
   where
     go : (q : Corner) → Ends b q → ((negsuc 0 *ℤ b .0) <ℤ (negsuc 0 *ℤ q .0)) ⊎ ((b .0 ≡ q .0) × (b .1 ≤ℤ q .1))
@@ -152,7 +152,7 @@ rest-exposed P b a [] c sub q (List·Memᴰ·head e) = subst (λ (z : Corner). E
 rest-exposed P b a [] c sub q (List·Memᴰ·tail m) = absurd (List·Memᴰ·not-nil m)
 rest-exposed P b a (z ∷ s) c sub q (List·Memᴰ·head e) = subst (λ (z : Corner). Exposed P z) (sym e) (turn-exposed P b a z (sub a (List·Memᴰ·head refl)) (c .1) (second s (c .3)) (c .2))
   where
-    second : (s : List Corner) → Chain P (a ∷ (z ∷ s)) → Supp P a z
+    second : (s : List Corner) → Chain P (a ∷ (z ∷ s)) → AllLeft P a z
     second s c = c .1
 rest-exposed P b a (z ∷ s) c sub q (List·Memᴰ·tail m) = rest-exposed P a z s (c .3) (λ p n. sub p (List·Memᴰ·tail n)) q m
 

@@ -14,17 +14,16 @@ use Rattle.lists.proofs.PigeonLaws.{pigeon}
 use Rattle.grid.specs.Grid.{same, cornersFrom}
 use Rattle.grid.proofs.CornerLaws.{same-sound, same-refl}
 use Rattle.grid.proofs.StepLaws.{length-cornersFrom}
-use Rattle.hull.specs.Hull.{HullIs}
+use Rattle.hull.specs.Hull.{HullIs, Encloses}
 use Rattle.hull_laws.specs.Columns.{westFrom, eastFrom}
 use Rattle.hull_laws.specs.Outline.{spot, hullOf}
 use Rattle.hull_laws.proofs.CornerLaws.{corner-eq}
 use Rattle.hull_laws.proofs.WalkLaws.{Room, columns-both}
-use Rattle.hull_laws.proofs.ChainLaws.{Closed}
 use Rattle.hull_laws.proofs.OneLaws.{hullIs-one}
 
-hullOf-both : (s : Corner) (ds : List ℕ) → HullIs (cornersFrom s ds) (hullOf s ds) × Closed (cornersFrom s ds) (hullOf s ds)
+hullOf-both : (s : Corner) (ds : List ℕ) → HullIs (cornersFrom s ds) (hullOf s ds) × Encloses (cornersFrom s ds) (hullOf s ds)
 unfolding hullOf
-hullOf-both s ds = subst (λ (c : Corner). HullIs (cornersFrom c ds) (hullOf s ds) × Closed (cornersFrom c ds) (hullOf s ds)) start (columns-both (s .0 -ℤ pos n) (s .1 -ℤ pos n) n n ds (2 * n) (suc (2 * n)) blank blank room)
+hullOf-both s ds = subst (λ (c : Corner). HullIs (cornersFrom c ds) (hullOf s ds) × Encloses (cornersFrom c ds) (hullOf s ds)) start (columns-both (s .0 -ℤ pos n) (s .1 -ℤ pos n) n n ds (2 * n) (suc (2 * n)) blank blank room)
   where
     n : ℕ
     n = length ds
@@ -62,15 +61,15 @@ hull-exists s ds = (hullOf s ds, hullOf-hull s ds)
 
 module _ (s : Corner) (ds : List ℕ) (L : List Corner) (h : HullIs (cornersFrom s ds) L) where
   -- and it is the computed one
-  pub hull-hullOf : L ≡ hullOf s ds
+  hull-hullOf : L ≡ hullOf s ds
   hull-hullOf = hullIs-one (cornersFrom s ds) L (hullOf s ds) h (hullOf-hull s ds)
 
   -- every visited corner lies on or left of every edge, that from the last corner to the first included
-  pub hull-edges : Closed (cornersFrom s ds) L
-  hull-edges = subst (Closed (cornersFrom s ds)) (sym hull-hullOf) (hullOf-both s ds .1)
+  pub hull-edges : Encloses (cornersFrom s ds) L
+  hull-edges = subst (Encloses (cornersFrom s ds)) (sym hull-hullOf) (hullOf-both s ds .1)
 
   -- its corners are visited
-  pub hull-visited : (q : Corner) → List·Memᴰ q L → List·Memᴰ q (cornersFrom s ds)
+  hull-visited : (q : Corner) → List·Memᴰ q L → List·Memᴰ q (cornersFrom s ds)
   hull-visited q m = h .corners q .0 m .visited
 
   -- there are no more of them than different corners visited

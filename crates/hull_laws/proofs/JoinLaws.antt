@@ -73,7 +73,7 @@ spot-by x0 y0 w v = corner-eq (spotBy (spot x0 y0 (w, 0)) (pos 1) v) (spot (x0 +
     none : y0 +ℤ pos 0 ≡ y0
     none = omega (zarith, bal+ y0 (pos 0))
 
-pub back-by : (x0 y0 : ℤ) (e h : ℕ) (v : ℕ × ℕ) → spotBy (spot x0 y0 (e, h)) (negsuc 0) v ≡ spotBack (x0 +ℤ pos e) (y0 +ℤ pos h) v
+back-by : (x0 y0 : ℤ) (e h : ℕ) (v : ℕ × ℕ) → spotBy (spot x0 y0 (e, h)) (negsuc 0) v ≡ spotBack (x0 +ℤ pos e) (y0 +ℤ pos h) v
 back-by x0 y0 e h v = corner-eq (spotBy (spot x0 y0 (e, h)) (negsuc 0) v) (spotBack (x0 +ℤ pos e) (y0 +ℤ pos h) v) (back (x0 +ℤ pos e) (v .0)) (back (y0 +ℤ pos h) (v .1))
   where
     back : (z : ℤ) (n : ℕ) → z +ℤ (negsuc 0 *ℤ pos n) ≡ z -ℤ pos n
@@ -204,7 +204,7 @@ stop-is x f t = go x (decLt f (length t))
         all : length t ≡ length t - 0
         all = omega arith
 
-pub upper-part : (h : ℕ) (lo hi t : List ℕ) (k b f g : ℕ) → drop b t ≡ chainFrom hi 0 (suc k) → f ≡ b + tally (eqb (getD lo k 0 + getD hi 0 0) h) → g ≡ length t - tally (ltb f (length t) && eqb (getD lo 0 0 + getD hi k 0) h) → slice f g t ≡ upper h lo hi k
+upper-part : (h : ℕ) (lo hi t : List ℕ) (k b f g : ℕ) → drop b t ≡ chainFrom hi 0 (suc k) → f ≡ b + tally (eqb (getD lo k 0 + getD hi 0 0) h) → g ≡ length t - tally (ltb f (length t) && eqb (getD lo 0 0 + getD hi k 0) h) → slice f g t ≡ upper h lo hi k
 upper-part h lo hi t k b f g e p q =
     ap (λ (j : ℕ). slice f j t) q
     ∙ sym (stop-is (eqb (getD lo 0 0 + getD hi k 0) h) f t)

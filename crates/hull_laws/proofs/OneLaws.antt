@@ -11,7 +11,7 @@ use Rattle.hull.specs.Call.{numbers}
 use Rattle.hull.specs.Hull.{Begins, HullIs, Left, Pairs, cross}
 use Rattle.hull_laws.proofs.CornerLaws.{O, cr, corner-eq}
 
-pub left-asym : {a b c : Corner} → Left a b c → Left a c b → ⊥
+left-asym : {a b c : Corner} → Left a b c → Left a c b → ⊥
 unfolding cross
 left-asym {a} {b} {c} h g =
     let ρ = numbers (a ∷ b ∷ c ∷ []) in
@@ -34,7 +34,7 @@ begins-both a b (inr h) (inr g) = corner-eq a b (h .0) (omega (zarith, h .1, g .
 
 -- two lists in the order of a relation that goes one way only, with the same members, are one list
 module _ (R : Corner → Corner → Type 0) (asym : (a b : Corner) → R a b → R b a → ⊥) where
-  pub sorted-unique : (l l′ : List Corner) → Pairs R l → Pairs R l′ → ((q : Corner) → List·Memᴰ q l → List·Memᴰ q l′) → ((q : Corner) → List·Memᴰ q l′ → List·Memᴰ q l) → l ≡ l′
+  sorted-unique : (l l′ : List Corner) → Pairs R l → Pairs R l′ → ((q : Corner) → List·Memᴰ q l → List·Memᴰ q l′) → ((q : Corner) → List·Memᴰ q l′ → List·Memᴰ q l) → l ≡ l′
   sorted-unique [] [] s s′ f g = refl
   sorted-unique [] (b ∷ l′) s s′ f g = absurd (List·Memᴰ·not-nil (g b (List·Memᴰ·head refl)))
   sorted-unique (a ∷ l) [] s s′ f g = absurd (List·Memᴰ·not-nil (f a (List·Memᴰ·head refl)))

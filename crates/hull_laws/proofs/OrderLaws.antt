@@ -12,9 +12,8 @@ use Rattle.int_laws.proofs.SignLaws.{h≤, h<, hw, h≡, h≢, h0, hp, eqt, by�
 use Rattle.grid.specs.declared.Corner.{Corner}
 use Rattle.hull.specs.Call.{numbers}
 use Rattle.lists.specs.Lists.{Distinct}
-use Rattle.hull.specs.Hull.{Begins, Ccw, Exposed, Left, Pairs, cross, reach}
-use Rattle.hull_laws.proofs.ChainLaws.{Supp}
-use Rattle.hull_laws.proofs.CornerLaws.{O, OnLeft, X, Y, cr, left-rot, on-rot, corner-eq}
+use Rattle.hull.specs.Hull.{Begins, Ccw, Exposed, Left, Pairs, cross, reach, AllLeft, OnLeft}
+use Rattle.hull_laws.proofs.CornerLaws.{O, X, Y, cr, left-rot, on-rot, corner-eq}
 
 abbrev dt : ℕ → E
 dt i = v 0 ⊗ X i ⊕ v 1 ⊗ Y i
@@ -24,7 +23,7 @@ unfolding cross
 flat-left a b h = by⊥ (hp 4 (numbers (a ∷ b ∷ [])) (cr 0 1 1) (h .left)) tt
 
 -- three that turn left are different
-pub left-ne : {a b c : Corner} → Left a b c → ¬ (b ≡ c)
+left-ne : {a b c : Corner} → Left a b c → ¬ (b ≡ c)
 left-ne {a} {b} {c} h e = flat-left a c (subst (λ (z : Corner). Left a z c) e h)
 
 begins-x : (o a : Corner) → Begins o a → o .0 ≤ℤ a .0
@@ -40,7 +39,7 @@ right-of o a b (inr h) g l =
     absurd (by⊥ (hp 6 ρ (cr 0 1 2) (l .left) ⊞ h≤ 6 ρ (Y 0) (Y 1) (h .1) ⊠ h≤ 6 ρ (X 0) (X 2) (begins-x o b g) ⊞ eqt 6 ρ (X 0) (X 1) (Y 0 ⊖ Y 2) (h .0)) tt)
 
 -- the order round o
-pub left-trans : (o a b c : Corner) → Begins o a → Begins o b → Begins o c → Left o a b → Left o b c → Left o a c
+left-trans : (o a b c : Corner) → Begins o a → Begins o b → Begins o c → Left o a b → Left o b c → Left o a c
 unfolding cross
 left-trans o a b c f g h l m =
     let ρ = numbers (o ∷ a ∷ b ∷ c ∷ []) in
@@ -56,7 +55,7 @@ turn-in u w o a b c l m f g h n =
 left-ne₁ : {a b c : Corner} → Left a b c → ¬ (a ≡ c)
 left-ne₁ h e = left-ne (left-rot h) (sym e)
 
-pub turn-left : (P : List Corner) (o a b c : Corner) → List·Memᴰ o P → List·Memᴰ a P → List·Memᴰ c P → Exposed P b → Left o a b → Left o b c → Left a b c
+turn-left : (P : List Corner) (o a b c : Corner) → List·Memᴰ o P → List·Memᴰ a P → List·Memᴰ c P → Exposed P b → Left o a b → Left o b c → Left a b c
 turn-left P o a b c i j l e f g = go (le-or-lt (cross a b c) (pos 0))
   where
     go : (cross a b c ≤ℤ pos 0) ⊎ (pos 0 <ℤ cross a b c) → Left a b c
@@ -129,7 +128,7 @@ in-line P o a b i ea eb f g d d′ d″ z = go f g
     go (inr f) (inl g) = askew o b a g (f .0) (above o a d (f .0) (f .1)) (swap-zero o a b z)
     go (inr f) (inr g) = ⊎-elim (λ l. line-y (ea .u) (ea .v) o a b (f .0) (g .0) (above o a d (f .0) (f .1)) l a-o a-b) (λ l. line-y (eb .u) (eb .v) o b a (g .0) (f .0) (above o b d′ (g .0) (g .1)) (omega zarith) b-o b-a) (le-or-lt (a .1) (b .1))
 
-pub strict : (P : List Corner) (o a b : Corner) → List·Memᴰ o P → Exposed P a → Exposed P b → Begins o a → Begins o b → ¬ (o ≡ a) → ¬ (o ≡ b) → ¬ (a ≡ b) → OnLeft a b o → Left o a b
+strict : (P : List Corner) (o a b : Corner) → List·Memᴰ o P → Exposed P a → Exposed P b → Begins o a → Begins o b → ¬ (o ≡ a) → ¬ (o ≡ b) → ¬ (a ≡ b) → OnLeft a b o → Left o a b
 strict P o a b i ea eb f g d d′ d″ h = go (le-or-lt (cross o a b) (pos 0)) (on-rot (on-rot h))
   where
     go : (cross o a b ≤ℤ pos 0) ⊎ (pos 0 <ℤ cross o a b) → OnLeft o a b → Left o a b
@@ -140,7 +139,7 @@ strict P o a b i ea eb f g d d′ d″ h = go (le-or-lt (cross o a b) (pos 0)) (
 abbrev pub Edges : List Corner → List Corner → Type 0
 Edges P [] = Unit {0}
 Edges P (b ∷ []) = Unit {0}
-Edges P (b ∷ (a ∷ s)) = (¬ (b ≡ a)) × Supp P b a × Edges P (a ∷ s)
+Edges P (b ∷ (a ∷ s)) = (¬ (b ≡ a)) × AllLeft P b a × Edges P (a ∷ s)
 
 pub edges-tail : (P : List Corner) (b : Corner) (s : List Corner) → Edges P (b ∷ s) → Edges P s
 edges-tail P b [] h = tt

@@ -4,7 +4,7 @@ use mathlib.Core.Path.{_≡_, refl, sym, _∙_, subst}
 use mathlib.Core.List.{List, [], _∷_, _++_, List·Memᴰ, List·Memᴰ·head, List·Memᴰ·tail, List·Memᴰ·not-nil}
 use mathlib.Core.Logic.{_⊎_, inl, inr, ⊎-elim}
 use Rattle.grid.specs.declared.Corner.{Corner}
-use Rattle.hull_laws.proofs.ChainLaws.{Supp}
+use Rattle.hull.specs.Hull.{AllLeft}
 use Rattle.hull_laws.proofs.CornerLaws.{corner-dec}
 use Rattle.hull_laws.proofs.OrderLaws.{Edges}
 
@@ -127,7 +127,7 @@ edges-trim P c b (a ∷ []) h = go (corner-dec a c)
     go (no e) = h
 edges-trim P c b (a ∷ (z ∷ s)) h = (h .0, h .1, edges-trim P c a (z ∷ s) (h .2))
 
-pub edges-behead : (P : List Corner) (c d : Corner) (s : List Corner) → Edges P (d ∷ s) → (¬ (d ≡ c) → Supp P c d) → Edges P (c ∷ behead c (d ∷ s))
+pub edges-behead : (P : List Corner) (c d : Corner) (s : List Corner) → Edges P (d ∷ s) → (¬ (d ≡ c) → AllLeft P c d) → Edges P (c ∷ behead c (d ∷ s))
 unfolding behead
 edges-behead P c d s h f = go (corner-dec d c)
   where

@@ -36,7 +36,7 @@ level x y (d ∷ ds) h g v (List·Memᴰ·tail m) =
     level (colAfter x d) (rowAfter y d) ds (a .1) (a .2) v m ∙ a .0
 
 -- the hull of a walk along one line, given its outermost corners
-pub hull-of-ends : (s : Corner) (ds : List ℕ) (a b : Corner) → InLine (cornersFrom s ds) → List·Memᴰ a (cornersFrom s ds) → List·Memᴰ b (cornersFrom s ds) → ¬ (a ≡ b) → ((q : Corner) → List·Memᴰ q (cornersFrom s ds) → Begins a q) → ((q : Corner) → List·Memᴰ q (cornersFrom s ds) → Begins q b) → HullIs (cornersFrom s ds) (a ∷ (b ∷ []))
+hull-of-ends : (s : Corner) (ds : List ℕ) (a b : Corner) → InLine (cornersFrom s ds) → List·Memᴰ a (cornersFrom s ds) → List·Memᴰ b (cornersFrom s ds) → ¬ (a ≡ b) → ((q : Corner) → List·Memᴰ q (cornersFrom s ds) → Begins a q) → ((q : Corner) → List·Memᴰ q (cornersFrom s ds) → Begins q b) → HullIs (cornersFrom s ds) (a ∷ (b ∷ []))
 hull-of-ends s ds a b l i j ne f g = go (hull-exists s ds .0) (hull-exists s ds .1) (hull-of-line (cornersFrom s ds) (hull-exists s ds .0) (hull-exists s ds .1) l)
   where
     go : (L : List Corner) → HullIs (cornersFrom s ds) L → Outermost (cornersFrom s ds) L → HullIs (cornersFrom s ds) (a ∷ (b ∷ []))

@@ -11,9 +11,9 @@ use Rattle.int_laws.proofs.SignLaws.{h≤, eqt, by≤, _⊞_, _⊠_}
 use Rattle.grid.specs.declared.Corner.{Corner}
 use Rattle.hull.specs.Call.{numbers}
 use Rattle.lists.specs.Lists.{Distinct}
-use Rattle.hull.specs.Hull.{Begins, Ccw, Exposed, HullIs, cross}
-use Rattle.hull_laws.proofs.ChainLaws.{Path, Closed, Chain, Ends, Supp, chain, chain-ok, chain-sub, cut, turns}
-use Rattle.hull_laws.proofs.CornerLaws.{on-same, O, OnLeft, X, Y, cr, corner-dec}
+use Rattle.hull.specs.Hull.{Begins, Ccw, Exposed, HullIs, cross, AllLeft, LeftOfPath, Encloses, OnLeft}
+use Rattle.hull_laws.proofs.ChainLaws.{Chain, Ends, chain, chain-ok, chain-sub, cut, turns}
+use Rattle.hull_laws.proofs.CornerLaws.{on-same, O, X, Y, cr, corner-dec}
 use Rattle.hull_laws.proofs.ExposedLaws.{chain-exposed, cover}
 use Rattle.hull_laws.proofs.TurnedLaws.{Lows, chain-all, lows-begin, neg, neg-neg, negs, cross-neg, in-negs, negs-in, negs-negs, exposed-neg, neg-exposed}
 use Rattle.hull_laws.proofs.OrderLaws.{Edges, edges-tail, ordered}
@@ -44,12 +44,12 @@ unfolding lastOf
 chain-ends P b [] c = c
 chain-ends P b (a ∷ s) c = chain-ends P a s (c .3)
 
-pub chain-right : (P : List Corner) (b : Corner) (s : List Corner) → Chain P (b ∷ s) → (q : Corner) → List·Memᴰ q s → b .0 <ℤ q .0
+chain-right : (P : List Corner) (b : Corner) (s : List Corner) → Chain P (b ∷ s) → (q : Corner) → List·Memᴰ q s → b .0 <ℤ q .0
 chain-right P b [] c q m = absurd (List·Memᴰ·not-nil m)
 chain-right P b (a ∷ s) c q (List·Memᴰ·head e) = subst (λ (z : Corner). b .0 <ℤ z .0) (sym e) (c .0)
 chain-right P b (a ∷ s) c q (List·Memᴰ·tail m) = omega (zarith, chain-right P a s (c .3) q m, c .0)
 
-supp-neg : (P : List Corner) (a b : Corner) → Supp (negs P) (neg a) (neg b) → Supp P a b
+supp-neg : (P : List Corner) (a b : Corner) → AllLeft (negs P) (neg a) (neg b) → AllLeft P a b
 supp-neg P a b h q m = record { on = subst (λ (z : ℤ). pos 0 ≤ℤ z) (cross-neg a b q) (h (neg q) (in-negs P q m) .on) }
 
 neg-edges : (P : List Corner) (b : Corner) (s : List Corner) → Chain (negs P) (neg b ∷ negs s) → Edges P (b ∷ s)
@@ -73,17 +73,17 @@ ends-x b q (inl h) = omega zarith
 ends-x b q (inr h) = omega (zarith, h .0)
 
 -- a path with its last corner left out where it is c: the way to c ends it
-close-trim : (P : List Corner) (c b : Corner) (s : List Corner) → Edges P (b ∷ s) → (¬ (lastOf b s ≡ c) → Supp P (lastOf b s) c) → Path P (b ∷ (trim c s ++ (c ∷ [])))
+close-trim : (P : List Corner) (c b : Corner) (s : List Corner) → Edges P (b ∷ s) → (¬ (lastOf b s ≡ c) → AllLeft P (lastOf b s) c) → LeftOfPath P (b ∷ (trim c s ++ (c ∷ [])))
 unfolding trim lastOf
 close-trim P c b [] h f = go (corner-dec b c)
   where
-    go : Dec (b ≡ c) → Path P (b ∷ (c ∷ []))
+    go : Dec (b ≡ c) → LeftOfPath P (b ∷ (c ∷ []))
     go (yes e) = ((λ q n. subst (λ (z : Corner). OnLeft z c q) (sym e) (on-same c q)), tt)
     go (no e) = (f e, tt)
 close-trim P c b (a ∷ []) h f = go (corner-dec a c)
   where
-    go : (z : Dec (a ≡ c)) → Path P (b ∷ (elim z as (λ x. List Corner) [ yes e ↦ [] | no e ↦ a ∷ [] ] ++ (c ∷ [])))
-    go (yes e) = (subst (λ (z : Corner). Supp P b z) e (h .1), tt)
+    go : (z : Dec (a ≡ c)) → LeftOfPath P (b ∷ (elim z as (λ x. List Corner) [ yes e ↦ [] | no e ↦ a ∷ [] ] ++ (c ∷ [])))
+    go (yes e) = (subst (λ (z : Corner). AllLeft P b z) e (h .1), tt)
     go (no e) = (h .1, (f e, tt))
 close-trim P c b (a ∷ (z ∷ s)) h f = (h .1, close-trim P c a (z ∷ s) (h .2) f)
 
@@ -127,7 +127,7 @@ module _ (P : List Corner) (b : Corner) (s : List Corner) (d : Corner) (t : List
   expD q n = neg-exposed P q (chain-exposed (negs P) (neg d) (negs t) c′ neg-sub beg′ (neg q) (in-negs (d ∷ t) q n))
 
   -- the right edge of the hull
-  side : ¬ (d ≡ m) → Supp P m d
+  side : ¬ (d ≡ m) → AllLeft P m d
   unfolding m
   side z q n = go (chain-ends P b s c d (sub′ d (List·Memᴰ·head refl))) (chain-ends P b s c q n) (beg′ (neg m) (in-negs P m (sub m (in-last b s))))
     where
@@ -151,7 +151,7 @@ module _ (P : List Corner) (b : Corner) (s : List Corner) (d : Corner) (t : List
   edges = edges-trim P b b (s ++ behead m (d ∷ t)) joined
 
   -- the left edge of the hull
-  back : Supp P (lastOf d t) b
+  back : AllLeft P (lastOf d t) b
   back = supp-neg P (lastOf d t) b left
     where
       z : Corner
@@ -160,7 +160,7 @@ module _ (P : List Corner) (b : Corner) (s : List Corner) (d : Corner) (t : List
       ends : (q : Corner) → List·Memᴰ q (negs P) → Ends (neg z) q
       ends q n = subst (λ (k : Corner). Ends k q) (last-negs d t) (chain-ends (negs P) (neg d) (negs t) c′ q n)
 
-      left : Supp (negs P) (neg z) (neg b)
+      left : AllLeft (negs P) (neg z) (neg b)
       left q n = go (ends (neg b) (in-negs P b (sub b (List·Memᴰ·head refl)))) (ends q n) (beg z (sub′ z (in-last d t)))
         where
           go : Ends (neg z) (neg b) → Ends (neg z) q → Begins b z → OnLeft (neg z) (neg b) q
@@ -174,9 +174,9 @@ module _ (P : List Corner) (b : Corner) (s : List Corner) (d : Corner) (t : List
               clash : z .0 <ℤ b .0 → b .0 ≡ z .0 → ⊥
               clash h i = omega zarith
 
-  round-path : Path P (b ∷ (R ++ (b ∷ [])))
+  round-path : LeftOfPath P (b ∷ (R ++ (b ∷ [])))
   unfolding R m
-  round-path = close-trim P b b (s ++ behead m (d ∷ t)) joined (λ n. subst (λ (z : Corner). Supp P z b) (sym (last-append b s (behead m (d ∷ t)) ∙ last-behead m d t)) back)
+  round-path = close-trim P b b (s ++ behead m (d ∷ t)) joined (λ n. subst (λ (z : Corner). AllLeft P z b) (sym (last-append b s (behead m (d ∷ t)) ∙ last-behead m d t)) back)
 
   offR : (q : Corner) → List·Memᴰ q R → ¬ (b ≡ q)
   unfolding R m
@@ -214,12 +214,12 @@ module _ (P : List Corner) (b : Corner) (s : List Corner) (d : Corner) (t : List
       mine q (List·Memᴰ·head e) = expC q (List·Memᴰ·head e)
       mine q (List·Memᴰ·tail n) = expR q n
 
-  pub both : HullIs P (round (b ∷ s) (d ∷ t)) × Closed P (round (b ∷ s) (d ∷ t))
+  both : HullIs P (round (b ∷ s) (d ∷ t)) × Encloses P (round (b ∷ s) (d ∷ t))
   unfolding round R m
   both = (round-hull, round-path)
 
 -- the lowest of each column, and the lowest of each column of the same corners turned by half a turn: their chains, joined, are the hull
-pub hull-ok : (P : List Corner) (p : Corner) → List·Memᴰ p P → (lows turned : List Corner) → Lows P lows → Lows (negs P) turned → HullIs P (round (chain lows) (negs (chain turned))) × Closed P (round (chain lows) (negs (chain turned)))
+pub hull-ok : (P : List Corner) (p : Corner) → List·Memᴰ p P → (lows turned : List Corner) → Lows P lows → Lows (negs P) turned → HullIs P (round (chain lows) (negs (chain turned))) × Encloses P (round (chain lows) (negs (chain turned)))
 unfolding chain negs
 hull-ok P p i [] ns h g = absurd (List·Memᴰ·not-nil (h .low p i .1))
 hull-ok P p i (b ∷ ms) [] h g = absurd (List·Memᴰ·not-nil (g .low (neg p) (in-negs P p i) .1))

@@ -54,7 +54,7 @@ sinks-fall [] a c = omega arith
 sinks-fall (v ∷ vs) a c = omega (arith, sinks-fall vs (sink a v) c, sink-falls a v c)
 
 -- no corner seen is lower
-pub sinks-le : (vs : List (ℕ × ℕ)) (a : List ℕ) (v : ℕ × ℕ) → List·Memᴰ v vs → v .0 < length a → getD (sinks a vs) (v .0) 0 ≤ v .1
+sinks-le : (vs : List (ℕ × ℕ)) (a : List ℕ) (v : ℕ × ℕ) → List·Memᴰ v vs → v .0 < length a → getD (sinks a vs) (v .0) 0 ≤ v .1
 unfolding sinks
 sinks-le [] a v m h = absurd (List·Memᴰ·not-nil m)
 sinks-le (u ∷ vs) a v (List·Memᴰ·head e) h = subst (λ (w : ℕ × ℕ). getD (sinks (sink a w) vs) (v .0) 0 ≤ v .1) e (omega (arith, sinks-fall vs (sink a v) (v .0), sink-at a v h))
@@ -64,7 +64,7 @@ pair-eq : {a b c d : ℕ} → a ≡ c → b ≡ d → _≡_ {A = ℕ × ℕ} (a,
 pair-eq e f = λ i. (e i, f i)
 
 -- and what a column holds was seen, unless it was there before
-pub sinks-from : (vs : List (ℕ × ℕ)) (a : List ℕ) (c : ℕ) → (getD (sinks a vs) c 0 ≡ getD a c 0) ⊎ List·Memᴰ (c, getD (sinks a vs) c 0) vs
+sinks-from : (vs : List (ℕ × ℕ)) (a : List ℕ) (c : ℕ) → (getD (sinks a vs) c 0 ≡ getD a c 0) ⊎ List·Memᴰ (c, getD (sinks a vs) c 0) vs
 unfolding sinks
 sinks-from [] a c = inl refl
 sinks-from (v ∷ vs) a c = ⊎-elim (λ e. first e (sink-cases a v c)) (λ m. inr (List·Memᴰ·tail m)) (sinks-from vs (sink a v) c)
@@ -88,7 +88,7 @@ unfoldable pub upFrom : ℕ → ℕ → List ℕ
 upFrom i zero = []
 upFrom i (suc k) = i ∷ upFrom (suc i) k
 
-pub in-upFrom : (i k c : ℕ) → List·Memᴰ c (upFrom i k) → (i ≤ c) × (c < i + k)
+in-upFrom : (i k c : ℕ) → List·Memᴰ c (upFrom i k) → (i ≤ c) × (c < i + k)
 unfolding upFrom
 in-upFrom i zero c m = absurd (List·Memᴰ·not-nil m)
 in-upFrom i (suc k) c (List·Memᴰ·head e) = (omega arith, omega arith)
@@ -104,7 +104,7 @@ module _ (x0 y0 : ℤ) (ys : List ℕ) where
   abbrev pub at : ℕ → Corner
   at c = spot x0 y0 (colAt ys c)
 
-  pub cols-sorted : (i k : ℕ) → Sorted (map at (upFrom i k))
+  cols-sorted : (i k : ℕ) → Sorted (map at (upFrom i k))
   unfolding upFrom
   cols-sorted i zero = tt
   cols-sorted i (suc k) = (right, cols-sorted (suc i) k)

@@ -9,11 +9,11 @@ use lib.IntN.{ℤ, pos, negℤ, _+ℤ_, _-ℤ_}
 use Rattle.int_laws.proofs.LinearLaws.{zarith, bal+, bal-, up-neg, dn-neg}
 use Rattle.grid.specs.declared.Corner.{Corner}
 use Rattle.grid.specs.Grid.{cornersFrom}
-use Rattle.hull.specs.Hull.{HullIs}
+use Rattle.hull.specs.Hull.{HullIs, Encloses}
 use Rattle.hull_laws.specs.Columns.{trail, westFrom, eastFrom, sinks, countedFrom, turned}
 use Rattle.hull_laws.specs.Outline.{chainFrom, spot, spotBack, colAt, upper, outlineOf}
 use Rattle.hull_laws.proofs.CornerLaws.{corner-eq}
-use Rattle.hull_laws.proofs.ChainLaws.{chain, Closed}
+use Rattle.hull_laws.proofs.ChainLaws.{chain}
 use Rattle.hull_laws.proofs.TurnedLaws.{Lows, neg, negs}
 use Rattle.hull_laws.proofs.RoundLaws.{round}
 use Rattle.hull_laws.proofs.SideLaws.{hull-ok}
@@ -114,9 +114,9 @@ module _ (x0 y0 : ℤ) (x y : ℕ) (ds : List ℕ) (h top : ℕ) (a b : List ℕ
       sum m n l = omega (zarith, bal+ x0 (pos m), bal+ x0 (pos n), bal+ (x0 +ℤ pos m) (pos (n - m)))
 
   -- the columns of the walk give its hull, with all corners on or left of each edge
-  pub columns-both : HullIs (cornersFrom (spot x0 y0 (x, y)) ds) (outlineOf x0 y0 (westFrom x ds) (eastFrom x ds) h (sinks a (map (countedFrom (westFrom x ds)) (trail x y ds))) (sinks b (map (turned (eastFrom x ds) h) (trail x y ds)))) × Closed (cornersFrom (spot x0 y0 (x, y)) ds) (outlineOf x0 y0 (westFrom x ds) (eastFrom x ds) h (sinks a (map (countedFrom (westFrom x ds)) (trail x y ds))) (sinks b (map (turned (eastFrom x ds) h) (trail x y ds))))
+  pub columns-both : HullIs (cornersFrom (spot x0 y0 (x, y)) ds) (outlineOf x0 y0 (westFrom x ds) (eastFrom x ds) h (sinks a (map (countedFrom (westFrom x ds)) (trail x y ds))) (sinks b (map (turned (eastFrom x ds) h) (trail x y ds)))) × Encloses (cornersFrom (spot x0 y0 (x, y)) ds) (outlineOf x0 y0 (westFrom x ds) (eastFrom x ds) h (sinks a (map (countedFrom (westFrom x ds)) (trail x y ds))) (sinks b (map (turned (eastFrom x ds) h) (trail x y ds))))
   unfolding outlineOf w e vs P
-  columns-both = subst (λ (L : List Corner). HullIs P L × Closed P L) joined (hull-ok P (spot x0 y0 (x, y)) here lowers uppers lows turnedLows)
+  columns-both = subst (λ (L : List Corner). HullIs P L × Encloses P L) joined (hull-ok P (spot x0 y0 (x, y)) here lowers uppers lows turnedLows)
     where
       lo : List ℕ
       lo = sinks a (map (countedFrom w) vs)

@@ -1,15 +1,15 @@
 -- The line program's job.
 -- Assumes nothing.
 use mathlib.Core.Path.{_≡_, refl, sym, ap, _∙_, subst}
-use mathlib.Core.List.{List, [], _∷_, _++_, append-nil}
+use mathlib.Core.List.{List, [], _∷_, _++_}
 use Prim.Native.Nat.{ℕ, _+_, _-_, _<_, _≤_}
 use native.Mathlib.Omega.{arith}
 use native.Mathlib.Decide.{decLe}
-use lib.ListN.{length, take, drop, length-append}
+use lib.ListN.{length, take, length-append}
 use lib.Seq.{length-take-le, take-all}
 use Rattle.line_frame.specs.Sizes.{mostHeld, mostAnswer}
 use Rattle.line_frame.specs.Line.{lineAnswer}
-use Rattle.line_frame.specs.Program.{lastOf, answered}
+use Rattle.line_frame.specs.Program.{answered}
 use Rattle.line_frame.proofs.LineLaws.{lineAnswer-long, lineAnswer-most}
 use Rattle.line_fields.specs.Put.{Wrote}
 use Rattle.line_fields.proofs.PutLaws.{wrote-nil}

@@ -1,9 +1,8 @@
 -- Whatever the parts in which an input comes, what is written is the program's output for the whole; and what that output is.
 -- Assumes nothing.
-use mathlib.Core.Path.{_≡_, refl, sym, ap, _∙_}
-use mathlib.Core.List.{List, [], _∷_, _++_, append-nil}
+use mathlib.Core.Path.{_≡_, refl}
+use mathlib.Core.List.{List, [], _∷_, _++_}
 use Prim.Native.Nat.{ℕ, _<_, _≤_}
-use native.Mathlib.Omega.{arith}
 use lib.ListN.{length}
 use Rattle.line_frame.specs.Program.{outputFrom, answered, program}
 use Rattle.line_stream.specs.Stream.{lineLength, Run, joined}

@@ -7,7 +7,6 @@ use mathlib.Core.Path.{_≡_, refl, ap, ap₂, sym, _∙_, subst}
 use Prim.Native.Nat.{ℕ, zero, suc, _+_, _<_, _≤_}
 use native.Mathlib.Omega.{arith}
 use lib.IntN.{ℤ, pos, negsuc, sucℤ, natAbs, _+ℤ_, _-ℤ_, pred-suc}
-use lib.ListN.{length}
 use lib.Signed.{_≤ℤ_}
 use Rattle.int_laws.proofs.LinearLaws.{zarith, bal+, bal-}
 use Rattle.int_laws.proofs.RangeLaws.{abs-nat}

@@ -10,7 +10,7 @@ use Rattle.int_laws.proofs.RangeLaws.{lt-true}
 use Rattle.int_laws.proofs.NextLaws.{bal-suc, bal-pred, true-lt}
 use Rattle.lists.specs.Lists.{tally}
 use Rattle.lists.proofs.FindLaws.{bool-agree}
-use Rattle.grid.specs.declared.{Corner.Corner, Panel.Panel}
+use Rattle.grid.specs.declared.{Corner.Corner}
 use Rattle.grid.specs.Grid.{corner, panelAt, eqZ, same, stepped}
 use Rattle.grid.proofs.CornerLaws.{eqZ-suc}
 use Rattle.panels.specs.Edges.{beside}

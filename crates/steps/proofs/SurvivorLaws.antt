@@ -41,7 +41,7 @@ below-front [] b = tt
 below-front (x ∷ []) b = tt
 below-front (x ∷ y ∷ s) b = (b .0, below-front (y ∷ s) (b .1))
 
-pub below-snoc : (s : List ℕ) (d : ℕ) → Below 4 s → d < 4 → Below 4 (s ++ (d ∷ []))
+below-snoc : (s : List ℕ) (d : ℕ) → Below 4 s → d < 4 → Below 4 (s ++ (d ∷ []))
 below-snoc [] d b h = (h, tt)
 below-snoc (x ∷ s) d b h = (b .0, below-snoc s d (b .1) h)
 

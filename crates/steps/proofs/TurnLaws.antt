@@ -9,16 +9,16 @@ use Rattle.lists.specs.Lists.{Below}
 use Rattle.steps.specs.Turns.{turnOf, stepAfter, turnsFrom, turnsOf, stepsFrom, stepsOf}
 use Rattle.steps.proofs.TurnCases as cases
 
-pub turnOf-lt : (a b : ℕ) → turnOf a b < 4
+turnOf-lt : (a b : ℕ) → turnOf a b < 4
 turnOf-lt a b = omega arith
 
-pub stepAfter-lt : (a t : ℕ) → stepAfter a t < 4
+stepAfter-lt : (a t : ℕ) → stepAfter a t < 4
 stepAfter-lt a t = omega arith
 
-pub stepAfter-turnOf : (a b : ℕ) → a < 4 → b < 4 → stepAfter a (turnOf a b) ≡ b
+stepAfter-turnOf : (a b : ℕ) → a < 4 → b < 4 → stepAfter a (turnOf a b) ≡ b
 stepAfter-turnOf a b ha hb = omega arith
 
-pub turnOf-stepAfter : (a t : ℕ) → a < 4 → t < 4 → turnOf a (stepAfter a t) ≡ t
+turnOf-stepAfter : (a t : ℕ) → a < 4 → t < 4 → turnOf a (stepAfter a t) ≡ t
 turnOf-stepAfter a t ha ht = omega arith
 
 stepsFrom-turnsFrom : (a : ℕ) (ds : List ℕ) → a < 4 → Below 4 ds → stepsFrom a (turnsFrom a ds) ≡ ds

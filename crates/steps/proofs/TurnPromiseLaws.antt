@@ -32,14 +32,14 @@ judged-digits ds room h e = rw (le-ltb mostInput (length ds) h, eq-eqb room (len
     last Good = refl
     last (Refused r) = refl
 
-pub digitFaults-below : (i : ℕ) (ds : List ℕ) → digitsJudged i ds ≡ Good → Below 4 ds
+digitFaults-below : (i : ℕ) (ds : List ℕ) → digitsJudged i ds ≡ Good → Below 4 ds
 digitFaults-below i [] e = tt
 digitFaults-below i (d ∷ ds) e =
     let h = orElse-good (when (ltb 3 d) (BadDigit i)) (digitsJudged (suc i) ds) e in
     let k : d ≤ 3 = ltb-false 3 d (when-good (ltb 3 d) (BadDigit i) (h .0)) in
     (omega arith, digitFaults-below (suc i) ds (h .1))
 
-pub below-digitFaults : (i : ℕ) (ds : List ℕ) → Below 4 ds → digitsJudged i ds ≡ Good
+below-digitFaults : (i : ℕ) (ds : List ℕ) → Below 4 ds → digitsJudged i ds ≡ Good
 below-digitFaults i [] b = refl
 below-digitFaults i (d ∷ ds) b = rw (le-ltb 3 d (omega (arith, b .0))) (below-digitFaults (suc i) ds (b .1))
 

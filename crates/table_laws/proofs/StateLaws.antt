@@ -14,7 +14,7 @@ use Rattle.grid.specs.Tree.{parentOf, isRoot, pathOf, childWord, root}
 use Rattle.layout.specs.Table.{width, wordAt, childRefOf, tableOf}
 use Rattle.lists.specs.Lists.{any, add, gather}
 use Rattle.tree.specs.Nodes.{links, refOf}
-use Rattle.tree_laws.specs.State.{later, linked, put, WellLinked, State, stateOf, needed, reached, visitedBy, withNode, withLink, grown, raised, unlinking, Alike, Sound, tableBy}
+use Rattle.tree_laws.specs.State.{later, linked, put, WellLinked, State, stateOf, needed, reached, visitedBy, withNode, withLink, grown, raised, unlinking, Alike, Sound, tableBy, Agree}
 use Rattle.grid.proofs.CornerLaws.{same-refl, same-sound}
 use Rattle.layout.proofs.ChildLaws.{child-ref}
 use Rattle.lists.proofs.GatherLaws.{gather-more, add-cases, any→mem, mem→any, not-mem, distinct-gather, mem-gather-left, mem-gather-right, mem-gather-cases}
@@ -23,7 +23,7 @@ use Rattle.tree.proofs.RefLaws.{not-any}
 use Rattle.tree_laws.proofs.AddLaws.{ref-none, needed-known, needed-step, needed-child, path-below}
 use Rattle.tree_laws.proofs.LevelLaws.{add-known, order-gather, gather-closed, known-nodes, known-links, left-links, right-nodes, right-links, child-nodes, sibling-links, above-links, nodes-step, good-linked}
 use Rattle.tree_laws.proofs.LineageLaws.{links-there}
-use Rattle.tree_laws.proofs.PopLaws.{Agree, drop-stop, drop-root, drop-fresh, drop-next, drop-needs}
+use Rattle.tree_laws.proofs.PopLaws.{drop-stop, drop-root, drop-fresh, drop-next, drop-needs}
 use Rattle.tree_laws.proofs.PushLaws.{push-state, sound-walk, finish-node, step-bound, need-bound}
 use Rattle.table_laws.proofs.RowLaws.{table-state}
 use Rattle.table_laws.proofs.StoreLaws.{alike-table, drop-table}

@@ -4,7 +4,7 @@ use mathlib.Core.Bool.{Bool, true, false, cond}
 use mathlib.Core.List.{List, [], _∷_, _++_, List·Memᴰ, List·Memᴰ·head}
 use mathlib.Core.Logic.{⊎-elim}
 use mathlib.Core.Path.{_≡_, refl, ap, sym, _∙_}
-use Prim.Native.Nat.{ℕ, suc, _-_, _*_, _<_, _≤_}
+use Prim.Native.Nat.{ℕ, suc, _-_, _*_, _<_}
 use native.Mathlib.Omega.{arith}
 use lib.ListN.{length, length-append, getD, set, replicate}
 use lib.Seq.{sets}
@@ -14,7 +14,7 @@ use Rattle.grid.specs.Tree.{root, parentOf, isRoot, pathOf, childWord}
 use Rattle.lists.specs.Lists.{gather}
 use Rattle.tree.specs.Nodes.{refOf}
 use Rattle.layout.specs.Table.{width, wordAt, parentWord, neighbourWord, linkWord, needWord}
-use Rattle.tree_laws.specs.State.{put, State, needed, unlinking, Alike, Sound, tableBy}
+use Rattle.tree_laws.specs.State.{put, State, needed, unlinking, Alike, Sound, tableBy, UnlinkAt, DropAt}
 use Rattle.grid.proofs.CornerLaws.{same-refl, same-sound}
 use Rattle.grid.proofs.StepLaws.{stepped-ne}
 use Rattle.lists.proofs.FindLaws.{find-le}
@@ -22,7 +22,7 @@ use Rattle.lists.proofs.GatherLaws.{distinct-gather, mem-gather-left, mem-gathe
 use Rattle.tree.proofs.NodeLaws.{mem-path}
 use Rattle.tree_laws.proofs.AddLaws.{ref-pos, ref-append, ref-snoc}
 use Rattle.tree_laws.proofs.LevelLaws.{gather-closed, order-gather}
-use Rattle.tree_laws.proofs.PopLaws.{Unlinking, unlink-stop, unlink-last, unlink-next, drop-root, drop-next, drop-fresh}
+use Rattle.tree_laws.proofs.PopLaws.{unlink-stop, unlink-last, unlink-next, drop-root, drop-next, drop-fresh}
 use Rattle.table_laws.specs.Model.{unsetIn}
 use Rattle.table_laws.proofs.LookupLaws.{mem-of-ref}
 use Rattle.table_laws.proofs.StateLaws.{unlinked-all, dropping-stop, dropping-table}
@@ -30,15 +30,7 @@ use Rattle.table_laws.proofs.StoreLaws.{far-pos, alike-table, unlink-ta
 
 module _ (words : ℕ) (S : State) (sound : Sound S) (s : ℕ) (pos : 0 < s) where
   module _ (z : Corner) (d : ℕ) (dir : d < 4) (small : (x y : Corner) → S .step x y < s) where
-    -- before a round of `unlink_up`, at the node u
-    pub record UnlinkAt (t : List ℕ) (u : ℕ) : Type 0 where
-      pub at : Corner
-      pub links : Corner → Corner → ℕ
-      pub table : t ≡ tableBy words (unlinking S s z links)
-      pub here : refOf (gather same (S .nodes) (pathOf z)) at ≡ suc u
-      pub inv : Unlinking (S .nodes) (S .step) (sound .good) s small z d links at
-
-    module _ (t : List ℕ) (u : ℕ) (k : UnlinkAt t u) where
+    module _ (t : List ℕ) (u : ℕ) (k : UnlinkAt words S s z d t u) where
       pub unlink-reads : getD t (wordAt u (linkWord d)) 0 ≡ k .links (k .at) (stepped d (k .at))
       unlink-reads = ap (λ (x : List ℕ). getD x (wordAt u (linkWord d)) 0) (k .table) ∙ read-step words (unlinking S s z (k .links)) (k .at) u (k .here) d dir
 
@@ -89,10 +81,10 @@ module _ (words : ℕ) (S : State) (sound : Sound S) (s : ℕ) (pos : 0 < s) whe
                 let w : 0 ≡ refOf (gather same (S .nodes) (pathOf z)) (parentOf (k .at)) = sym n ∙ up-reads ∙ rw r in
                 absurd (omega (arith, ref-pos (gather same (S .nodes) (pathOf z)) (parentOf (k .at)) (has-parent r)))
 
-        pub unlink-up : (v : ℕ) → getD t′ (wordAt u parentWord) 0 ≡ suc v → UnlinkAt t′ v × (v < u)
+        pub unlink-up : (v : ℕ) → getD t′ (wordAt u parentWord) 0 ≡ suc v → UnlinkAt words S s z d t′ v × (v < u)
         unlink-up v n = go (isRoot (k .at)) refl
           where
-            go : (b : Bool) → isRoot (k .at) ≡ b → UnlinkAt t′ v × (v < u)
+            go : (b : Bool) → isRoot (k .at) ≡ b → UnlinkAt words S s z d t′ v × (v < u)
             go true r = absurd (let w : suc v ≡ 0 = sym n ∙ up-reads ∙ rw r in omega arith)
             go false r =
                 let w : refOf (gather same (S .nodes) (pathOf z)) (parentOf (k .at)) ≡ suc v = sym (up-reads ∙ rw r) ∙ n in (
@@ -107,14 +99,7 @@ module _ (words : ℕ) (S : State) (sound : Sound S) (s : ℕ) (pos : 0 < s) whe
                 )
 
   module _ (small : (x : Corner) → S .need x < s) where
-    -- before a round of `drop_up`, at the node u, which stands for h
-    pub record DropAt (t : List ℕ) (left u : ℕ) (h : Corner) : Type 0 where
-      pub table : t ≡ tableBy words (unlinking S s h (S .step))
-      pub count : left ≡ length (gather same (S .nodes) (pathOf h))
-      pub here : refOf (gather same (S .nodes) (pathOf h)) h ≡ suc u
-      pub room : width * left ≤ words
-
-    module _ (t : List ℕ) (left u : ℕ) (h : Corner) (k : DropAt t left u h) where
+    module _ (t : List ℕ) (left u : ℕ) (h : Corner) (k : DropAt words S s t left u h) where
       pub drop-reads : getD t (wordAt u needWord) 0 ≡ needed (S .nodes) (S .need) s h h
       drop-reads = ap (λ (x : List ℕ). getD x (wordAt u needWord) 0) (k .table) ∙ read-need words (unlinking S s h (S .step)) h u (k .here)
 
@@ -154,7 +139,7 @@ module _ (words : ℕ) (S : State) (sound : Sound S) (s : ℕ) (pos : 0 < s) whe
             let w : getD t (wordAt u parentWord) 0 ≡ refOf (gather same (S .nodes) (pathOf (parentOf h))) (parentOf h) = ap (λ (x : List ℕ). getD x (wordAt u parentWord) 0) (k .table) ∙ read-parent words (unlinking S s h (S .step)) h u (k .here) ∙ rw deep (ap (λ (l : List Corner). refOf l (parentOf h)) grew ∙ ref-append (gather same (S .nodes) (pathOf (parentOf h))) (h ∷ []) (parentOf h) has) in
             omega (arith, ref-pos (gather same (S .nodes) (pathOf (parentOf h))) (parentOf h) has)
 
-        pub drop-up : DropAt (sets (set t (wordAt (getD t (wordAt u parentWord) 0 - 1) (childWord h)) 0) (u * width) (replicate width 0)) (left - 1) (getD t (wordAt u parentWord) 0 - 1) (parentOf h)
+        pub drop-up : DropAt words S s (sets (set t (wordAt (getD t (wordAt u parentWord) 0 - 1) (childWord h)) 0) (u * width) (replicate width 0)) (left - 1) (getD t (wordAt u parentWord) 0 - 1) (parentOf h)
         drop-up =
             let z : List ℕ = replicate width 0 in
             record {

@@ -14,7 +14,7 @@ use Rattle.grid.specs.Tree.{pathOf}
 use Rattle.layout.specs.Table.{width, tableOf}
 use Rattle.lists.specs.Lists.{gather}
 use Rattle.tree.specs.Nodes.{nodesOf, refOf}
-use Rattle.tree_laws.specs.State.{State, stateOf, linked, reached, unlinking, tableBy, Made, Holds}
+use Rattle.tree_laws.specs.State.{State, stateOf, linked, reached, unlinking, tableBy, Made, Holds, UnlinkAt, DropAt}
 use Rattle.grid.proofs.StepLaws.{endFrom-snoc}
 use Rattle.lists.proofs.GatherLaws.{gather-more}
 use Rattle.tree_laws.proofs.AddLaws.{ref-pos, ref-append}
@@ -24,9 +24,8 @@ use Rattle.table_laws.specs.Model.{visitIn, unvisitIn}
 use Rattle.table_laws.proofs.Cites.{made-holds}
 use Rattle.table_laws.proofs.LookupLaws.{length-table}
 use Rattle.table_laws.proofs.RowLaws.{table-state}
-use Rattle.table_laws.proofs.StateLaws.{step-table, sound-step, links-small, needs-small}
+use Rattle.table_laws.proofs.StateLaws.{step-table, sound-step, links-small}
 use Rattle.table_laws.proofs.TakeLaws.{visit-made, unvisit-made}
-use Rattle.table_laws.proofs.UndoLaws.{UnlinkAt, DropAt}
 
 -- the table of a walk, where it has room for the nodes, holds the walk's state
 pub walk-holds : (words : ℕ) (c : Corner) (ds : List ℕ) (t : List ℕ) (n : ℕ) → t ≡ tableOf words c ds → n ≡ length (nodesOf (cornersFrom c ds)) → width * n ≤ words → Holds t n (stateOf (cornersFrom c ds)) × (length t ≡ words)
@@ -73,7 +72,7 @@ module _ (words : ℕ) (c : Corner) (ds : List ℕ) (d : ℕ) (dir : d < 4) (roo
 
   -- the visit taken back, the first loop begins
   pub take-unlinks : (t₁ : List ℕ) → t₁ ≡ unvisitIn t r → (u : ℕ) → refOf (nodesOf (cornersFrom c ds)) (endFrom c ds) ≡ suc u
-      → UnlinkAt words (stateOf (cornersFrom c ds)) (sound-walk c ds) (suc (length ds)) (omega arith) (stepped d (endFrom c ds)) d dir (links-small words c ds d) t₁ u
+      → UnlinkAt words (stateOf (cornersFrom c ds)) (suc (length ds)) (stepped d (endFrom c ds)) d t₁ u
   take-unlinks t₁ e u h =
       let S : State = stateOf (cornersFrom c ds) in
       let g = gather-more same (nodesOf (cornersFrom c ds)) (pathOf (stepped d (endFrom c ds))) in
@@ -89,5 +88,5 @@ module _ (words : ℕ) (c : Corner) (ds : List ℕ) (d : ℕ) (dir : d < 4) (roo
 
   -- the first loop done, the second begins
   pub take-drops : (t₂ : List ℕ) → t₂ ≡ tableBy words (unlinking (stateOf (cornersFrom c ds)) (suc (length ds)) (stepped d (endFrom c ds)) (stateOf (cornersFrom c ds) .step)) → (n : ℕ) → n ≡ length (nodesOf (cornersFrom c (ds ++ (d ∷ []))))
-      → DropAt words (stateOf (cornersFrom c ds)) (sound-walk c ds) (suc (length ds)) (omega arith) (needs-small words c ds d) t₂ n r (stepped d (endFrom c ds))
+      → DropAt words (stateOf (cornersFrom c ds)) (suc (length ds)) t₂ n r (stepped d (endFrom c ds))
   take-drops t₂ e n p = record { table = e; count = p ∙ ap length (push-nodes c ds d); here = at-end; room = subst (λ m. width * m ≤ words) (sym p) room }

@@ -75,7 +75,7 @@ abbrev pub MeetingSays : Corner → List ℕ → Meeting → Type 0
 MeetingSays c ds none = (j k : ℕ) → Meets c ds j k → ⊥
 MeetingSays c ds (meet j k) = FirstMeets c ds j k
 
-pub meeting-says : (c : Corner) (ds : List ℕ) → MeetingSays c ds (meetingOf c ds)
+meeting-says : (c : Corner) (ds : List ℕ) → MeetingSays c ds (meetingOf c ds)
 meeting-says c ds = by (meetingOf c ds) (meetingFrom-says [] (cornersFrom c ds) tt)
   where
     by : (m : Meeting) → SaysIn (cornersFrom c ds) m → MeetingSays c ds m

@@ -46,9 +46,9 @@ abbrev pub sweepFrom : Corner → List ℕ → ℤ
 sweepFrom c [] = pos 0
 sweepFrom c (d ∷ ds) = c .0 *ℤ (stepped d c .1 -ℤ c .1) +ℤ sweepFrom (stepped d c) ds
 
--- of a room, verdict 2; for other verdicts it is 0
+-- of a room; for other verdicts it is 0
 abbrev pub areaBy : Verdict → ℤ → ℤ
-areaBy v z = cond (eqb (verdictNumber v) 2) z (pos 0)
+areaBy v z = cond (eqb (verdictNumber v) (verdictNumber Room)) z (pos 0)
 
 -- the signed area
 abbrev pub areaOf : Corner → List ℕ → ℤ

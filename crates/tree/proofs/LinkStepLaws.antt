@@ -16,7 +16,7 @@ use Rattle.grid.specs.declared.Corner.{Corner}
 use Rattle.grid.specs.Grid.{origin, stepped, cornersFrom}
 use Rattle.grid.specs.Tree.{AncestorAt, lineageOf}
 use Rattle.grid.proofs.AncestorLaws.{ancestor-place, place-ancestor}
-use Rattle.grid.proofs.StepLaws.{back, back-small, stepped-back, length-cornersFrom, cornersFrom-next}
+use Rattle.grid.proofs.StepLaws.{back, back-small, stepped-back, length-cornersFrom, cornersFrom-next, stepped-ne}
 use Rattle.tree.specs.Nodes.{legsOf, joins, links, linkStepOf, InUse, JoinedAt, LinkedBy}
 use Rattle.tree.proofs.JoinLaws.{joins-cases, joins-here, joins-there}
 use Rattle.tree.proofs.LinkLaws.{link-near}
@@ -75,7 +75,7 @@ module _ (ps : List Corner) (a : Corner) (d : ℕ) where
           let f = find-get (links a (stepped d a)) (legsOf ps) k nowhere e in
           let w = legs-within ps k (f .0) in
           let g = links-level (getD ps k origin) (getD ps (suc k) origin) a (stepped d a) (subst (λ (l : Corner × Corner). links a (stepped d a) l ≡ true) (legs-at ps k w .1) (f .1)) in
-          record { counted = omega arith; within = w; level = g .0; joined = g .1 }
+          record { counted = omega arith; within = w; level = g .0; joined = g .1; differ = λ q. stepped-ne d a (sym q) }
 
   -- a step that makes one is there, and it is the first or comes after
   pub link-least : (k : ℕ) → LinkedBy ps a (stepped d a) k → (0 < linkStepOf ps a d) × (linkStepOf ps a d ≤ k)
@@ -101,10 +101,10 @@ link-both-ways ps a d =
     find-cong (links a (stepped d a)) (links (stepped d a) a) (λ l. bool-agree (links a (stepped d a) l) (links (stepped d a) a l) (links-over a (stepped d a) (l .0) (l .1)) (links-over (stepped d a) a (l .0) (l .1))) (legsOf ps)
     ∙ ap (λ (b : Corner). find (links (stepped d a) b) (legsOf ps)) (sym (stepped-back d a))
 
--- two different nodes that a step of a walk links are neighbours, so each link stands in the words of its two ends
-pub link-next : (c : Corner) (ds : List ℕ) → Below 4 ds → (a b : Corner) (k : ℕ) → LinkedBy (cornersFrom c ds) a b k → (a ≡ b → ⊥) → (d : ℕ) × (d < 4) × (b ≡ stepped d a)
-link-next c ds h a b zero l f = absurd (omega (arith, l .counted))
-link-next c ds h a b (suc k) l f =
+-- two nodes that a step of a walk links are neighbours, so each link stands in the words of its two ends
+pub link-next : (c : Corner) (ds : List ℕ) → Below 4 ds → (a b : Corner) (k : ℕ) → LinkedBy (cornersFrom c ds) a b k → (d : ℕ) × (d < 4) × (b ≡ stepped d a)
+link-next c ds h a b zero l = absurd (omega (arith, l .counted))
+link-next c ds h a b (suc k) l =
     let ps = cornersFrom c ds in
     let i : k < length ds = omega (arith, l .within, length-cornersFrom c ds) in
     let d = getD ds k 0 in
@@ -112,6 +112,6 @@ link-next c ds h a b (suc k) l f =
     let p = getD ps k origin in
     let e : links a b (p, stepped d p) ≡ true = subst (λ q. links a b (p, q) ≡ true) (cornersFrom-next c ds k origin i) (level-links p (getD ps (suc k) origin) a b (l .level) (l .joined)) in
     ⊎-elim
-    (⊎-elim (λ g. absurd (f (sym g))) (λ g. (d, s, g)))
-    (⊎-elim (λ g. absurd (f g)) (λ g. (back d, back-small d, sym (ap (stepped (back d)) g ∙ stepped-back d b))))
+    (⊎-elim (λ g. absurd (l .differ (sym g))) (λ g. (d, s, g)))
+    (⊎-elim (λ g. absurd (l .differ g)) (λ g. (back d, back-small d, sym (ap (stepped (back d)) g ∙ stepped-back d b))))
     (link-near d p a b e)

@@ -1,5 +1,5 @@
 -- The nodes in use in their order, and the links between them (RULES 3.3 to 3.6). ps are the corners p0 to pn. Assumes nothing.
-use Rattle.lists.specs.Lists.{Bool, _&&_, _||_, List, [], _∷_, _++_, List·Memᴰ, length, getD, _⊎_, ℕ, pred, _<_, any, find, gather, zip}
+use Rattle.lists.specs.Lists.{_≡_, Bool, _&&_, _||_, List, [], _∷_, _++_, List·Memᴰ, length, getD, _⊎_, ℕ, pred, _<_, any, find, gather, zip}
 use Rattle.grid.specs.{declared.Corner.Corner, Grid.origin, Grid.same, Grid.stepped, Tree.AncestorAt, Tree.lineageOf, Tree.pathOf}
 
 -- the paths of a list of corners, each from the root, one after the other
@@ -44,9 +44,10 @@ linkStepOf ps a d = find (links a (stepped d a)) (legsOf ps)
 abbrev pub JoinedAt : ℕ → Corner → Corner → Corner → Corner → Type 0
 JoinedAt i p q a b = (AncestorAt i p a × AncestorAt i q b) ⊎ (AncestorAt i p b × AncestorAt i q a)
 
--- step k, counted from 1, links a and b: at some level i the i-th parents of its two ends are a and b
+-- step k, counted from 1, links a and b: at some level i the i-th parents of its two ends are a and b, and differ
 pub record LinkedBy (ps : List Corner) (a b : Corner) (k : ℕ) : Type 0 where
   pub counted : 0 < k
   pub within : k < length ps
   pub level : ℕ
   pub joined : JoinedAt level (getD ps (pred k) origin) (getD ps k origin) a b
+  pub differ : a ≡ b → ⊥

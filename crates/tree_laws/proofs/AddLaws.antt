@@ -76,7 +76,7 @@ pub child-snoc : (ns : List Corner) (e : Corner) → isRoot e ≡ false → (Lis
 child-snoc ns e h f = child-ref (ns ++ (e ∷ [])) e h ∙ ref-snoc ns e f
 
 -- a node that is not there has no children
-pub child-none : (ns : List Corner) → ((c : Corner) → List·Memᴰ c ns → isRoot c ≡ false → List·Memᴰ (parentOf c) ns) → (e : Corner) → (List·Memᴰ e ns → ⊥) → (w : ℕ) → childRefOf ns e w ≡ 0
+child-none : (ns : List Corner) → ((c : Corner) → List·Memᴰ c ns → isRoot c ≡ false → List·Memᴰ (parentOf c) ns) → (e : Corner) → (List·Memᴰ e ns → ⊥) → (w : ℕ) → childRefOf ns e w ≡ 0
 unfolding child-test
 child-none ns closed e f w =
     find-none (child-test e w) ns

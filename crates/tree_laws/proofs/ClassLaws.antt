@@ -19,13 +19,13 @@ cls (negsuc n) = negsuc (n / 2)
 abbrev pub class : Corner → Corner
 class c = corner (cls (c .0)) (cls (c .1))
 
-pub cls-suc : (z : ℤ) → (halfOf (sucℤ z) ≡ halfOf z) ⊎ (cls (sucℤ z) ≡ cls z)
+cls-suc : (z : ℤ) → (halfOf (sucℤ z) ≡ halfOf z) ⊎ (cls (sucℤ z) ≡ cls z)
 cls-suc (pos n) = elim (ℕ-discrete (n % 2) 0) [ yes e ↦ inl (ap pos (omega arith)) | no f ↦ inr (ap pos (omega arith)) ]
 cls-suc (negsuc zero) = inl refl
 cls-suc (negsuc (suc n)) =
     elim (ℕ-discrete (n % 2) 0) [ yes e ↦ inr (ap negsuc (omega arith)) | no f ↦ let q : suc n / 2 ≡ suc (suc n) / 2 = omega arith in inl (ap (λ (k : ℕ). negℤ (pos k)) q) ]
 
-pub cls-pred : (z : ℤ) → (halfOf (predℤ z) ≡ halfOf z) ⊎ (cls (predℤ z) ≡ cls z)
+cls-pred : (z : ℤ) → (halfOf (predℤ z) ≡ halfOf z) ⊎ (cls (predℤ z) ≡ cls z)
 cls-pred z =
     ⊎-map (λ e. sym e ∙ ap halfOf (suc-pred z)) (λ e. sym e ∙ ap cls (suc-pred z)) (cls-suc (predℤ z))
 
@@ -45,7 +45,7 @@ abbrev pub high : ℤ → ℤ
 high (pos k) = pos (2 * k)
 high (negsuc k) = negsuc (2 * k + 1)
 
-pub in-class : (z : ℤ) → (z ≡ low (cls z)) ⊎ (z ≡ high (cls z))
+in-class : (z : ℤ) → (z ≡ low (cls z)) ⊎ (z ≡ high (cls z))
 in-class (pos zero) = inl refl
 in-class (pos (suc n)) = elim (ℕ-discrete (n % 2) 0) [ yes e ↦ let q : suc (suc n) / 2 ≡ suc (n / 2) = omega arith in inl (rw q (ap pos (omega arith))) | no f ↦ inr (ap pos (omega arith)) ]
 in-class (negsuc n) = elim (ℕ-discrete (n % 2) 0) [ yes e ↦ inl (ap negsuc (omega arith)) | no f ↦ inr (ap negsuc (omega arith)) ]

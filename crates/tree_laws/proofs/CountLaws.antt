@@ -6,14 +6,13 @@ use mathlib.Core.Bool.{Bool, true, false, true≢false}
 use mathlib.Core.List.{List, [], _∷_, _++_, map, List·Memᴰ, List·Memᴰ·head, List·Memᴰ·tail, List·Memᴰ·not-nil, List·Memᴰ·cases-cons, List·Memᴰ·eq-of-singleton, Memᴰ·append-left, Memᴰ·append-right, List·Memᴰ·append-cases, Memᴰ·cast, Memᴰ·map, Memᴰ·of-map}
 use mathlib.Core.Logic.{_⊎_, inl, inr, ⊎-map, ⊎-elim}
 use mathlib.Core.Path.{_≡_, refl, ap, sym, _∙_, subst}
-use Prim.Native.Nat.{ℕ, zero, suc, _+_, _*_, _^_, _<_, _≤_}
+use Prim.Native.Nat.{ℕ, zero, suc, _+_, _*_, _≤_}
 use native.Mathlib.Nat.{pow-suc}
 use native.Mathlib.Omega.{arith}
-use lib.IntN.{natAbs}
 use lib.ListN.{length, length-append}
 use Rattle.grid.specs.declared.Corner.{Corner}
 use Rattle.grid.specs.Grid.{origin, same, stepped, cornersFrom}
-use Rattle.grid.specs.Tree.{root, parentOf, isRoot, sizeOf, pathOf}
+use Rattle.grid.specs.Tree.{root, parentOf, isRoot, sizeOf, pathOf, WithinLevels}
 use Rattle.lists.specs.Lists.{add, gather}
 use Rattle.trace.specs.Meeting.{visitedOf}
 use Rattle.tree.specs.Nodes.{pathsOf, nodesOf}
@@ -103,7 +102,7 @@ mem-spread (k ∷ ks) c (List·Memᴰ·head e) = Memᴰ·append-left (spread ks)
 mem-spread (k ∷ ks) c (List·Memᴰ·tail m) = Memᴰ·append-right (members k) (mem-spread ks c m)
 
 -- any walk: V ≤ 4 classes
-pub corners-classes : (vs ks : List Corner) → Distinct vs → ((v : Corner) → List·Memᴰ v vs → List·Memᴰ (class v) ks) → length vs ≤ 4 * length ks
+corners-classes : (vs ks : List Corner) → Distinct vs → ((v : Corner) → List·Memᴰ v vs → List·Memᴰ (class v) ks) → length vs ≤ 4 * length ks
 corners-classes vs ks d f = omega (arith, pigeon vs (spread ks) d (λ v m. mem-spread ks v (f v m)), length-spread ks)
 
 class-origin : (c : Corner) → class c ≡ origin → c ≡ origin
@@ -133,7 +132,7 @@ distinct-one : (c : Corner) → Distinct (c ∷ [])
 distinct-one c = (List·Memᴰ·not-nil, tt)
 
 -- the parents of a walk from the origin: 4 P ≤ 3 V + 1, the origin counted on both sides
-pub shrink : (qs : List Corner) → Trail origin qs → 4 * length (gather same (origin ∷ []) (map parentOf qs)) ≤ 3 * length (gather same (origin ∷ []) qs) + 1
+shrink : (qs : List Corner) → Trail origin qs → 4 * length (gather same (origin ∷ []) (map parentOf qs)) ≤ 3 * length (gather same (origin ∷ []) qs) + 1
 shrink qs t =
     let h = count-trail origin qs (origin ∷ []) (origin ∷ []) (origin ∷ []) start t in
     let g = gather-more same (origin ∷ []) (map class qs) in
@@ -232,11 +231,7 @@ shrink-at c qs t =
     let h = count-trail c qs (c ∷ []) (parentOf c ∷ []) (class c ∷ []) (start-at c) t in
     omega (arith, h .1 .few, corners-classes (gather same (c ∷ []) qs) (gather same (class c ∷ []) (map class qs)) (distinct-gather same same-sound same-refl (c ∷ []) qs (distinct-one c)) (h .1 .classes))
 
-pub record Within (n : ℕ) (c : Corner) : Type 0 where
-  pub x : natAbs (c .0) < 2 ^ n
-  pub y : natAbs (c .1) < 2 ^ n
-
-within-parent : (n : ℕ) (c : Corner) → Within (suc n) c → Within n (parentOf c)
+within-parent : (n : ℕ) (c : Corner) → WithinLevels (suc n) c → WithinLevels n (parentOf c)
 within-parent n c w = record {
   x = omega (arith, natAbs-halfOf (c .0), w .x, pow-suc 2 n);
   y = omega (arith, natAbs-halfOf (c .1), w .y, pow-suc 2 n);
@@ -264,7 +259,7 @@ cover-at-holds c qs cs f a m =
         (λ u. seen p n (List·Memᴰ·eq-of-singleton u))
         (List·Memᴰ·append-cases (pathOf (parentOf p)) (subst (λ l. List·Memᴰ a l) (pathOf-snoc p r) k))
 
-cover-at : (n : ℕ) (c : Corner) (qs : List Corner) → Trail c qs → ((q : Corner) → List·Memᴰ q (c ∷ qs) → Within n q) → CoverAt n c qs
+cover-at : (n : ℕ) (c : Corner) (qs : List Corner) → Trail c qs → ((q : Corner) → List·Memᴰ q (c ∷ qs) → WithinLevels n q) → CoverAt n c qs
 cover-at zero c qs t b =
     let g = gather-more same (c ∷ []) qs in
     record {
@@ -276,14 +271,14 @@ cover-at zero c qs t b =
       short = omega (arith, ap length (g .1));
     }
 cover-at (suc n) c qs t b =
-    let up : CoverAt n (parentOf c) (map parentOf qs) = cover-at n (parentOf c) (map parentOf qs) (trail-parent c qs t) (λ q m. let h = Memᴰ·of-map parentOf (c ∷ qs) m in subst (λ x. Within n x) (h .2) (within-parent n (h .0) (b (h .0) (h .1)))) in
+    let up : CoverAt n (parentOf c) (map parentOf qs) = cover-at n (parentOf c) (map parentOf qs) (trail-parent c qs t) (λ q m. let h = Memᴰ·of-map parentOf (c ∷ qs) m in subst (λ x. WithinLevels n x) (h .2) (within-parent n (h .0) (b (h .0) (h .1)))) in
     record {
       list = gather same (c ∷ []) qs ++ up .list;
       holds = cover-at-holds c qs (up .list) (up .holds);
       short = omega (arith, length-append (gather same (c ∷ []) qs) (up .list), up .short, shrink-at c qs t);
     }
 
-pub few-nodes-from : (n : ℕ) (c : Corner) (ds : List ℕ) → ((q : Corner) → List·Memᴰ q (cornersFrom c ds) → Within n q) → length (nodesOf (cornersFrom c ds)) ≤ 4 * length (visitedOf (cornersFrom c ds)) + 4 * n
+pub few-nodes-from : (n : ℕ) (c : Corner) (ds : List ℕ) → ((q : Corner) → List·Memᴰ q (cornersFrom c ds) → WithinLevels n q) → length (nodesOf (cornersFrom c ds)) ≤ 4 * length (visitedOf (cornersFrom c ds)) + 4 * n
 few-nodes-from n c ds b =
     let h = trail-corners c ds in
     let k : CoverAt n c (h .0) = cover-at n c (h .0) (h .2) (λ q m. b q (subst (λ l. List·Memᴰ q l) (sym (h .1)) m)) in

@@ -29,7 +29,7 @@ root-is c e = same-sound c root e
 pub add-known : (ns : List Corner) (x : Corner) → List·Memᴰ x ns → add same ns x ≡ ns
 add-known ns x m = ⊎-elim (λ h. h .1) (λ h. absurd (true≢false (sym (mem→any same same-sound same-refl m) ∙ h .0))) (add-cases same ns x)
 
-pub gather-known : (ns xs : List Corner) → ((x : Corner) → List·Memᴰ x xs → List·Memᴰ x ns) → gather same ns xs ≡ ns
+gather-known : (ns xs : List Corner) → ((x : Corner) → List·Memᴰ x xs → List·Memᴰ x ns) → gather same ns xs ≡ ns
 gather-known ns [] f = refl
 gather-known ns (x ∷ xs) f = rw (add-known ns x (f x (List·Memᴰ·head refl))) (gather-known ns xs (λ y m. f y (List·Memᴰ·tail m)))
 
@@ -109,11 +109,11 @@ module _ (ns : List Corner) (L : Corner → Corner → ℕ) (good : WellLinked n
   root-known = rw (good .root .1) (List·Memᴰ·head refl)
 
   -- where a and e are linked, a pair that is a and e is linked, and where they are not, it is not
-  pub joins-linked : (x y a e : Corner) → joins x y (a, e) ≡ true → L x y ≡ L a e
+  joins-linked : (x y a e : Corner) → joins x y (a, e) ≡ true → L x y ≡ L a e
   joins-linked x y a e h = ⊎-elim (λ p. ap₂ L (sym (p .0)) (sym (p .1))) (λ p. ap₂ L (sym (p .1)) (sym (p .0)) ∙ good .both e a) (joins-cases x y a e h)
 
   -- a link at one level implies those above it
-  pub links-old : (x y : Corner) → (x ≡ y → ⊥) → (a e : Corner) → 0 < L a e → links x y (a, e) ≡ true → 0 < L x y
+  links-old : (x y : Corner) → (x ≡ y → ⊥) → (a e : Corner) → 0 < L a e → links x y (a, e) ≡ true → 0 < L x y
   links-old x y f =
       pair-ind (λ a e. 0 < L a e → links x y (a, e) ≡ true → 0 < L x y)
       (λ a e h p k. omega (arith, joins-linked x y a e (sym (links-left x y a e h) ∙ k)))
@@ -137,7 +137,7 @@ module _ (ns : List Corner) (L : Corner → Corner → ℕ) (good : WellLinked n
         go false p = later-none (L x y) (links x y (a, e)) s p
 
     -- the pair alone
-    pub later-put : (M : Corner → Corner → ℕ) → ((x y : Corner) → M x y ≡ M y x) → M a e ≡ 0 → (x y : Corner) → later (M x y) (joins x y (a, e)) s ≡ put M s a e x y
+    later-put : (M : Corner → Corner → ℕ) → ((x y : Corner) → M x y ≡ M y x) → M a e ≡ 0 → (x y : Corner) → later (M x y) (joins x y (a, e)) s ≡ put M s a e x y
     later-put M both z x y = go (joins x y (a, e)) refl
       where
         at : joins x y (a, e) ≡ true → M x y ≡ 0

@@ -47,7 +47,7 @@ pub links-there : (a e : Corner) → links e a (a, e) ≡ true
 links-there a e = rw (joins-there a e)
 
 -- a law of every pair of a leg's levels
-pub links-ind : (P : Corner → Corner → Type 0) (x y : Corner)
+links-ind : (P : Corner → Corner → Type 0) (x y : Corner)
     → ((a e : Corner) → joins x y (a, e) ≡ true → P a e) → ((a e : Corner) → isRoot a ≡ false → isRoot e ≡ false → P (parentOf a) (parentOf e) → P a e)
     → (a e : Corner) → links x y (a, e) ≡ true → P a e
 links-ind P x y here up =

@@ -18,13 +18,13 @@ use Rattle.tree_laws.proofs.LaterLaws.{later-old, later-new, later-none
 use Rattle.lists.proofs.GatherLaws.{add-cases, any→mem, mem→any, mem-gather-cases}
 use Rattle.tree.proofs.JoinLaws.{joins-cases}
 use Rattle.tree.proofs.NodeLaws.{mem-path}
-use Rattle.tree_laws.specs.State.{later, linked, put, WellLinked, State, needed, visitedBy, Sound}
+use Rattle.tree_laws.specs.State.{later, linked, put, WellLinked, State, needed, visitedBy, Sound, Agree, Unlinking}
 use Rattle.tree_laws.proofs.AddLaws.{path-below, needed-known, needed-step}
 use Rattle.tree_laws.proofs.LevelLaws.{root-is, nodes-known, nodes-step, known-links, left-links, right-links, sibling-links, above-links, linked-both, above-none, path-parent}
 use Rattle.tree_laws.proofs.LineageLaws.{links-here}
 
 -- a pair that was set and is cleared
-pub put-clear : (M : Corner → Corner → ℕ) → ((x y : Corner) → M x y ≡ M y x) → (s : ℕ) (a e : Corner) → M a e ≡ 0 → (x y : Corner) → put (put M s a e) 0 a e x y ≡ M x y
+put-clear : (M : Corner → Corner → ℕ) → ((x y : Corner) → M x y ≡ M y x) → (s : ℕ) (a e : Corner) → M a e ≡ 0 → (x y : Corner) → put (put M s a e) 0 a e x y ≡ M x y
 put-clear M both s a e z x y = go (joins x y (a, e)) refl
   where
     at : joins x y (a, e) ≡ true → M x y ≡ 0
@@ -38,12 +38,9 @@ put-cong : (M K : Corner → Corner → ℕ) (s : ℕ) (a e x y : Corner) → M 
 put-cong M K s a e x y h = ap (λ (n : ℕ). cond (joins x y (a, e)) s n) h
 
 -- two link-step functions that agree at nodes that differ
-abbrev pub Agree : (Corner → Corner → ℕ) → (Corner → Corner → ℕ) → Type 0
-Agree M K = (x y : Corner) → (x ≡ y → ⊥) → M x y ≡ K x y
-
 module _ (ns : List Corner) (L : Corner → Corner → ℕ) (good : WellLinked ns L) (s : ℕ) (small : (x y : Corner) → L x y < s) where
   -- the links of the last step: those that it linked and no earlier one did
-  pub last-links : (a e x y : Corner) → linked L s a e x y ≡ s → (L x y ≡ 0) × (links x y (a, e) ≡ true)
+  last-links : (a e x y : Corner) → linked L s a e x y ≡ s → (L x y ≡ 0) × (links x y (a, e) ≡ true)
   last-links a e x y h = go (L x y) refl (links x y (a, e)) refl
     where
       go : (n : ℕ) → L x y ≡ n → (b : Bool) → links x y (a, e) ≡ b → (L x y ≡ 0) × (links x y (a, e) ≡ true)
@@ -52,7 +49,7 @@ module _ (ns : List Corner) (L : Corner → Corner → ℕ) (good : WellLinked n
       go (suc n) p b q = absurd (omega (arith, small x y, later-old (L x y) (links x y (a, e)) s (omega arith)))
 
   -- at the first older link nothing above is the last step's
-  pub unlink-known : (a e : Corner) → (linked L s a e a e ≡ s → ⊥) → Agree (linked L s a e) L
+  unlink-known : (a e : Corner) → (linked L s a e a e ≡ s → ⊥) → Agree (linked L s a e) L
   unlink-known a e f x y g = go (L a e) refl
     where
       go : (n : ℕ) → L a e ≡ n → linked L s a e x y ≡ L x y
@@ -60,22 +57,22 @@ module _ (ns : List Corner) (L : Corner → Corner → ℕ) (good : WellLinked n
       go (suc n) p = known-links ns L good s a e (omega arith) x y g
 
   -- one level cleared
-  pub unlink-left : (a e : Corner) → linked L s a e a e ≡ s → isRoot a ≡ true → Agree (put (linked L s a e) 0 a e) L
+  unlink-left : (a e : Corner) → linked L s a e a e ≡ s → isRoot a ≡ true → Agree (put (linked L s a e) 0 a e) L
   unlink-left a e h i x y g =
       let z = last-links a e a e h .0 in
       put-cong (linked L s a e) (put L s a e) 0 a e x y (left-links ns L good s a e z i x y) ∙ put-clear L (good .both) s a e z x y
 
-  pub unlink-right : (a e : Corner) → linked L s a e a e ≡ s → isRoot e ≡ true → Agree (put (linked L s a e) 0 a e) L
+  unlink-right : (a e : Corner) → linked L s a e a e ≡ s → isRoot e ≡ true → Agree (put (linked L s a e) 0 a e) L
   unlink-right a e h i x y g =
       let z = last-links a e a e h .0 in
       put-cong (linked L s a e) (put L s a e) 0 a e x y (right-links ns L good s a e z i x y) ∙ put-clear L (good .both) s a e z x y
 
-  pub unlink-sibling : (a e : Corner) → linked L s a e a e ≡ s → isRoot a ≡ false → isRoot e ≡ false → parentOf a ≡ parentOf e → Agree (put (linked L s a e) 0 a e) L
+  unlink-sibling : (a e : Corner) → linked L s a e a e ≡ s → isRoot a ≡ false → isRoot e ≡ false → parentOf a ≡ parentOf e → Agree (put (linked L s a e) 0 a e) L
   unlink-sibling a e h i j p x y g =
       let z = last-links a e a e h .0 in
       put-cong (linked L s a e) (put L s a e) 0 a e x y (sibling-links ns L good s a e z i j p x y g) ∙ put-clear L (good .both) s a e z x y
 
-  pub unlink-above : (a e : Corner) → linked L s a e a e ≡ s → isRoot a ≡ false → isRoot e ≡ false → Agree (put (linked L s a e) 0 a e) (linked L s (parentOf a) (parentOf e))
+  unlink-above : (a e : Corner) → linked L s a e a e ≡ s → isRoot a ≡ false → isRoot e ≡ false → Agree (put (linked L s a e) 0 a e) (linked L s (parentOf a) (parentOf e))
   unlink-above a e h i j x y g =
       let z = last-links a e a e h .0 in
       put-cong (linked L s a e) (put (linked L s (parentOf a) (parentOf e)) s a e) 0 a e x y (above-links ns L good s a e z i j x y)
@@ -85,20 +82,12 @@ module _ (ns : List Corner) (L : Corner → Corner → ℕ) (good : WellLinked n
   away d at e = stepped-ne d at (sym e)
 
   -- the loop that clears the links of a step to z, from the node at in direction d: its invariant, and how it goes on and ends
-  abbrev pub Unlinking : Corner → ℕ → (Corner → Corner → ℕ) → Corner → Type 0
-  Unlinking z d M at = Agree M L ⊎ (Agree M (linked L s at (stepped d at)) × List·Memᴰ (stepped d at) (pathOf z))
-
-  pub unlink-start : (d : ℕ) (at : Corner) → Unlinking (stepped d at) d (linked L s at (stepped d at)) at
+  pub unlink-start : (d : ℕ) (at : Corner) → Unlinking L s (stepped d at) d (linked L s at (stepped d at)) at
   unlink-start d at = inr (λ x y f. refl, mem-path (stepped d at))
 
-  pub unlink-stop : (z : Corner) (d : ℕ) (M : Corner → Corner → ℕ) (at : Corner) → Unlinking z d M at → (M at (stepped d at) ≡ s → ⊥) → Agree M L
+  pub unlink-stop : (z : Corner) (d : ℕ) (M : Corner → Corner → ℕ) (at : Corner) → Unlinking L s z d M at → (M at (stepped d at) ≡ s → ⊥) → Agree M L
   unlink-stop z d M at (inl h) f = h
   unlink-stop z d M at (inr h) f = λ x y g. h .0 x y g ∙ unlink-known at (stepped d at) (λ k. f (h .0 at (stepped d at) (away d at) ∙ k)) x y g
-
-  -- where the test passes, the neighbour is on the path of the step's end
-  pub unlink-end : (z : Corner) (d : ℕ) (M : Corner → Corner → ℕ) (at : Corner) → Unlinking z d M at → M at (stepped d at) ≡ s → List·Memᴰ (stepped d at) (pathOf z)
-  unlink-end z d M at (inl h) k = absurd (omega (arith, h at (stepped d at) (away d at), small at (stepped d at)))
-  unlink-end z d M at (inr h) k = h .1
 
   last-here : (d : ℕ) (M : Corner → Corner → ℕ) (at : Corner) → Agree M (linked L s at (stepped d at)) → M at (stepped d at) ≡ s → linked L s at (stepped d at) at (stepped d at) ≡ s
   last-here d M at h k = sym (h at (stepped d at) (away d at)) ∙ k
@@ -106,15 +95,15 @@ module _ (ns : List Corner) (L : Corner → Corner → ℕ) (good : WellLinked n
   cleared : (d : ℕ) (M K : Corner → Corner → ℕ) (at : Corner) → Agree M (linked L s at (stepped d at)) → Agree (put (linked L s at (stepped d at)) 0 at (stepped d at)) K → Agree (put M 0 at (stepped d at)) K
   cleared d M K at h k x y g = put-cong M (linked L s at (stepped d at)) 0 at (stepped d at) x y (h x y g) ∙ k x y g
 
-  pub unlink-last : (z : Corner) (d : ℕ) (M : Corner → Corner → ℕ) (at : Corner) → Unlinking z d M at → M at (stepped d at) ≡ s → isRoot at ≡ true → Agree (put M 0 at (stepped d at)) L
+  pub unlink-last : (z : Corner) (d : ℕ) (M : Corner → Corner → ℕ) (at : Corner) → Unlinking L s z d M at → M at (stepped d at) ≡ s → isRoot at ≡ true → Agree (put M 0 at (stepped d at)) L
   unlink-last z d M at (inl h) k r = absurd (omega (arith, h at (stepped d at) (away d at), small at (stepped d at)))
   unlink-last z d M at (inr h) k r = cleared d M L at (h .0) (unlink-left at (stepped d at) (last-here d M at (h .0) k) r)
 
-  pub unlink-next : (z : Corner) (d : ℕ) (M : Corner → Corner → ℕ) (at : Corner) → Unlinking z d M at → M at (stepped d at) ≡ s → isRoot at ≡ false → Unlinking z d (put M 0 at (stepped d at)) (parentOf at)
+  pub unlink-next : (z : Corner) (d : ℕ) (M : Corner → Corner → ℕ) (at : Corner) → Unlinking L s z d M at → M at (stepped d at) ≡ s → isRoot at ≡ false → Unlinking L s z d (put M 0 at (stepped d at)) (parentOf at)
   unlink-next z d M at (inl h) k r = absurd (omega (arith, h at (stepped d at) (away d at), small at (stepped d at)))
   unlink-next z d M at (inr h) k r = go (isRoot (stepped d at)) refl (parentOf-stepped d at)
     where
-      go : (b : Bool) → isRoot (stepped d at) ≡ b → (parentOf (stepped d at) ≡ parentOf at) ⊎ (parentOf (stepped d at) ≡ stepped d (parentOf at)) → Unlinking z d (put M 0 at (stepped d at)) (parentOf at)
+      go : (b : Bool) → isRoot (stepped d at) ≡ b → (parentOf (stepped d at) ≡ parentOf at) ⊎ (parentOf (stepped d at) ≡ stepped d (parentOf at)) → Unlinking L s z d (put M 0 at (stepped d at)) (parentOf at)
       go true i p = inl (cleared d M L at (h .0) (unlink-right at (stepped d at) (last-here d M at (h .0) k) i))
       go false i (inl p) = inl (cleared d M L at (h .0) (unlink-sibling at (stepped d at) (last-here d M at (h .0) k) r i (sym p)))
       go false i (inr p) =
@@ -126,10 +115,10 @@ module _ (ns : List Corner) (L : Corner → Corner → ℕ) (good : WellLinked n
 -- the loop that drops the nodes, from the node e up
 module _ (ns : List Corner) (closed : (c : Corner) → List·Memᴰ c ns → isRoot c ≡ false → List·Memᴰ (parentOf c) ns) (top : List·Memᴰ root ns) (N : Corner → ℕ) (s : ℕ) (small : (x : Corner) → N x < s) where
   -- a node whose need is the last step's number is new
-  pub need-new : (e : Corner) → needed ns N s e e ≡ s → List·Memᴰ e ns → ⊥
+  need-new : (e : Corner) → needed ns N s e e ≡ s → List·Memᴰ e ns → ⊥
   need-new e h m = omega (arith, small e, needed-known ns N s e closed m e)
 
-  pub need-old : (e : Corner) → (needed ns N s e e ≡ s → ⊥) → List·Memᴰ e ns
+  need-old : (e : Corner) → (needed ns N s e e ≡ s → ⊥) → List·Memᴰ e ns
   need-old e f = go (any (same e) ns) refl
     where
       go : (b : Bool) → any (same e) ns ≡ b → List·Memᴰ e ns

@@ -27,12 +27,12 @@ use Rattle.tree_laws.specs.State.{later, linked, WellLinked, stateOf, ne
 use Rattle.tree_laws.proofs.LevelLaws.{path-parent}
 use Rattle.tree_laws.proofs.LineageLaws.{links-up, links-flip, links-ends}
 
-pub legs-push : (c : Corner) (ds : List ℕ) (d : ℕ) → legsOf (cornersFrom c (ds ++ (d ∷ []))) ≡ legsOf (cornersFrom c ds) ++ ((endFrom c ds, stepped d (endFrom c ds)) ∷ [])
+legs-push : (c : Corner) (ds : List ℕ) (d : ℕ) → legsOf (cornersFrom c (ds ++ (d ∷ []))) ≡ legsOf (cornersFrom c ds) ++ ((endFrom c ds, stepped d (endFrom c ds)) ∷ [])
 legs-push c [] d = refl
 legs-push c (x ∷ []) d = refl
 legs-push c (x ∷ y ∷ ds) d = ap (λ (l : List (Corner × Corner)). (c, stepped x c) ∷ l) (legs-push (stepped x c) (y ∷ ds) d)
 
-pub length-legs : (c : Corner) (ds : List ℕ) → length (legsOf (cornersFrom c ds)) ≡ length ds
+length-legs : (c : Corner) (ds : List ℕ) → length (legsOf (cornersFrom c ds)) ≡ length ds
 length-legs c [] = refl
 length-legs c (x ∷ []) = refl
 length-legs c (x ∷ y ∷ ds) = ap suc (length-legs (stepped x c) (y ∷ ds))
@@ -68,7 +68,7 @@ paths-first c [] = let h = path-first c in (h .0 ++ [], ap (λ (l : List Corner)
 paths-first c (d ∷ ds) = let h = path-first c in (h .0 ++ pathsOf (cornersFrom (stepped d c) ds), ap (λ (l : List Corner). l ++ pathsOf (cornersFrom (stepped d c) ds)) (h .1))
 
 -- the invariant holds after every walk
-pub good-walk : (c : Corner) (ds : List ℕ) → WellLinked (nodesOf (cornersFrom c ds)) (stateOf (cornersFrom c ds) .step)
+good-walk : (c : Corner) (ds : List ℕ) → WellLinked (nodesOf (cornersFrom c ds)) (stateOf (cornersFrom c ds) .step)
 good-walk c ds = record {
   root = let h = paths-first c ds in let g = gather-more same (root ∷ []) (h .0) in (g .0, ap (gather same []) (h .1) ∙ g .1);
   closed = λ x m e. let h = mem-nodes-cases ps x m in mem-nodes ps (h .0) (parentOf x) (h .1) (path-parent x (h .0) e (h .2));
@@ -95,7 +95,7 @@ module _ (c : Corner) (ds : List ℕ) (d : ℕ) where
   pub push-nodes : nodesOf (cornersFrom c (ds ++ (d ∷ []))) ≡ gather same (nodesOf (cornersFrom c ds)) (pathOf (stepped d (endFrom c ds)))
   push-nodes = ap nodesOf (cornersFrom-snoc c ds d) ∙ nodesOf-snoc (cornersFrom c ds) (stepped d (endFrom c ds))
 
-  pub push-links : (x y : Corner) → stateOf (cornersFrom c (ds ++ (d ∷ []))) .step x y ≡ linked (stateOf (cornersFrom c ds) .step) (suc (length ds)) (endFrom c ds) (stepped d (endFrom c ds)) x y
+  push-links : (x y : Corner) → stateOf (cornersFrom c (ds ++ (d ∷ []))) .step x y ≡ linked (stateOf (cornersFrom c ds) .step) (suc (length ds)) (endFrom c ds) (stepped d (endFrom c ds)) x y
   push-links x y =
       ap (find (links x y)) (legs-push c ds d)
       ∙ find-snoc (links x y) (legsOf (cornersFrom c ds)) (endFrom c ds, stepped d (endFrom c ds))
@@ -130,7 +130,7 @@ need-bound c ds a =
 pub step-bound : (c : Corner) (ds : List ℕ) (x y : Corner) → stateOf (cornersFrom c ds) .step x y ≤ length ds
 step-bound c ds x y = omega (arith, find-le (links x y) (legsOf (cornersFrom c ds)), length-legs c ds)
 
-pub push-need : (c : Corner) (ds : List ℕ) (d : ℕ) (a : Corner)
+push-need : (c : Corner) (ds : List ℕ) (d : ℕ) (a : Corner)
     → stateOf (cornersFrom c (ds ++ (d ∷ []))) .need a ≡ needed (nodesOf (cornersFrom c ds)) (stateOf (cornersFrom c ds) .need) (suc (length ds)) (stepped d (endFrom c ds)) a
 unfolding needs
 push-need c ds d a =

@@ -2,6 +2,7 @@
 -- Assumes nothing.
 use mathlib.Core.Bool.{Bool, true, false, cond, not, _&&_}
 use mathlib.Core.List.{List, [], _∷_, _++_, List·Memᴰ}
+use mathlib.Core.Logic.{_⊎_}
 use mathlib.Core.Path.{_≡_}
 use Prim.Native.Nat.{ℕ, zero, suc, _+_, _-_, _*_, _<_, _≤_, pred}
 use lib.ListN.{length, replicate}
@@ -111,6 +112,14 @@ unlinking S s e M = record {
   first = S .first;
 }
 
+-- link steps that agree on different nodes
+abbrev pub Agree : (Corner → Corner → ℕ) → (Corner → Corner → ℕ) → Type 0
+Agree M K = (x y : Corner) → (x ≡ y → ⊥) → M x y ≡ K x y
+
+-- the links M while those of a step to z are cleared, from the node at in direction d up: they are L again, or those that the step made from here up are left
+abbrev pub Unlinking : (Corner → Corner → ℕ) → ℕ → Corner → ℕ → (Corner → Corner → ℕ) → Corner → Type 0
+Unlinking L s z d M at = Agree M L ⊎ (Agree M (linked L s at (stepped d at)) × List·Memᴰ (stepped d at) (pathOf z))
+
 -- two states with the same table
 pub record Alike (S T : State) : Type 0 where
   pub nodes : S .nodes ≡ T .nodes
@@ -170,6 +179,21 @@ filled words rs = rs ++ replicate (words - length rs) 0
 -- the table of a state
 abbrev pub tableBy : ℕ → State → List ℕ
 tableBy words S = filled words (rowsOf (recordBy S) (S .nodes))
+
+-- a table whose links of step s to z are being cleared, on the way to S; next is the node u, in direction d
+pub record UnlinkAt (words : ℕ) (S : State) (s : ℕ) (z : Corner) (d : ℕ) (t : List ℕ) (u : ℕ) : Type 0 where
+  pub at : Corner
+  pub links : Corner → Corner → ℕ
+  pub table : t ≡ tableBy words (unlinking S s z links)
+  pub here : refOf (gather same (S .nodes) (pathOf z)) at ≡ suc u
+  pub inv : Unlinking (S .step) s z d links at
+
+-- a table whose nodes of step s are being taken off, on the way to S; next is the node u, which stands for h
+pub record DropAt (words : ℕ) (S : State) (s : ℕ) (t : List ℕ) (left u : ℕ) (h : Corner) : Type 0 where
+  pub table : t ≡ tableBy words (unlinking S s h (S .step))
+  pub count : left ≡ length (gather same (S .nodes) (pathOf h))
+  pub here : refOf (gather same (S .nodes) (pathOf h)) h ≡ suc u
+  pub room : width * left ≤ words
 
 -- what a lookup makes of the table (t), answering the ref `at` of the node e and the number of nodes: the state T, if there is room for it
 pub record Made (words : ℕ) (T : State) (e : Corner) (t : List ℕ) (at nodes : ℕ) : Type 0 where

@@ -1,5 +1,5 @@
 -- Both conversions, digit by digit, as one with its way as a parameter. Assumes nothing.
-use Rattle.lists.specs.Lists.{List, [], _∷_, ℕ}
+use Rattle.lists.specs.Lists.{List, ℕ}
 use Rattle.steps.specs.Turns.{turnOf, stepAfter, turnsFrom, turnsOf, stepsFrom, stepsOf}
 use Rattle.turns.specs.declared.Way.{Way, the-variants.ToTurns, the-variants.ToSteps}
 

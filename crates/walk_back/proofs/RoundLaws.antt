@@ -15,12 +15,12 @@ use Rattle.layout.specs.Table.{width, wordAt, HasRecord, parentWord, neighbourW
 use Rattle.lists.specs.Lists.{gather}
 use Rattle.table_laws.specs.Model.{unsetIn}
 use Rattle.tree.specs.Nodes.{refOf}
-use Rattle.tree_laws.specs.State.{State, needed, unlinking, tableBy}
+use Rattle.tree_laws.specs.State.{State, needed, unlinking, tableBy, UnlinkAt, DropAt}
 use Rattle.walk_table.proofs.ErasureLaws.{length-unset}
 use Rattle.table_laws.proofs.Cites.{ref-below}
 use Rattle.table_laws.proofs.LookupLaws.{mem-of-ref}
 use Rattle.table_laws.proofs.StoreLaws.{read-parent}
-use Rattle.table_laws.proofs.UndoLaws.{UnlinkAt, DropAt, unlink-to, unlink-done, unlink-top, unlink-up, drop-reads, drop-done, drop-up, drop-left, drop-falls}
+use Rattle.table_laws.proofs.UndoLaws.{unlink-to, unlink-done, unlink-top, unlink-up, drop-reads, drop-done, drop-up, drop-left, drop-falls}
 use Rattle.tree_laws.proofs.AddLaws.{ref-pos}
 use Rattle.tree_laws.proofs.LevelLaws.{gather-closed}
 use Rattle.tree_laws.proofs.PopLaws.{drop-root}
@@ -52,7 +52,7 @@ module _ (t : List ℕ) (u d s : ℕ) (S : State) (z : Corner) (k : Unlinks t u 
     unlinks-next v n =
         let x = unlink-up (length t) S (k .sound) s (k .pos) z d (k .dir) (k .small) t u (k .held) t′ e q v n in
         let l : length t ≡ length t′ = sym (ap length q ∙ length-unset t u (getD t (wordAt u (neighbourWord d)) 0 - 1) d) in
-        (record { sound = k .sound; pos = k .pos; dir = k .dir; small = k .small; held = subst (λ (w : ℕ). UnlinkAt w S (k .sound) s (k .pos) z d (k .dir) (k .small) t′ v) l (x .0); room = subst (λ (w : ℕ). width * length (gather same (S .nodes) (pathOf z)) ≤ w) l (k .room) }, x .1)
+        (record { sound = k .sound; pos = k .pos; dir = k .dir; small = k .small; held = subst (λ (w : ℕ). UnlinkAt w S s z d t′ v) l (x .0); room = subst (λ (w : ℕ). width * length (gather same (S .nodes) (pathOf z)) ≤ w) l (k .room) }, x .1)
 
   unlinks-level : (t′ : List ℕ) (r : ℕ) → Cleared t u d s t′ r → (r ≡ 0 → t′ ≡ tableBy (length t) (unlinking S s z (S .step))) × ((v : ℕ) → r ≡ suc v → Unlinks t′ v d s S z × (v < u))
   unlinks-level t′ r h =
@@ -119,8 +119,8 @@ module _ (t : List ℕ) (left u : ℕ) (h : Corner) (s : ℕ) (S : State) (k : D
         let l : length t ≡ length t′ = sym (ap length q ∙ length-node t u h v) in
         let z : List ℕ = replicate width 0 in
         let d = drop-up (length t) S (k .sound) s (k .pos) (k .small) t left u h (k .held) e in
-        let d′ : DropAt (length t) S (k .sound) s (k .pos) (k .small) t′ (left - 1) v (parentOf h) = subst (λ (x : List ℕ). DropAt (length t) S (k .sound) s (k .pos) (k .small) x (left - 1) v (parentOf h)) (sym q) (subst (λ (w : ℕ). DropAt (length t) S (k .sound) s (k .pos) (k .small) (sets (set t (wordAt w (childWord h)) 0) (u * width) z) (left - 1) w (parentOf h)) (sym p) d) in
-        record { sound = k .sound; pos = k .pos; small = k .small; held = subst (λ (w : ℕ). DropAt w S (k .sound) s (k .pos) (k .small) t′ (left - 1) v (parentOf h)) l d′ }
+        let d′ : DropAt (length t) S s t′ (left - 1) v (parentOf h) = subst (λ (x : List ℕ). DropAt (length t) S s x (left - 1) v (parentOf h)) (sym q) (subst (λ (w : ℕ). DropAt (length t) S s (sets (set t (wordAt w (childWord h)) 0) (u * width) z) (left - 1) w (parentOf h)) (sym p) d) in
+        record { sound = k .sound; pos = k .pos; small = k .small; held = subst (λ (w : ℕ). DropAt w S s t′ (left - 1) v (parentOf h)) l d′ }
 
 -- the node u, which the step needed: what its taking off asks
 pub newest-bounds : (t : List ℕ) (u : ℕ) (h : Corner) → Newest t u h → (HasRecord t u) × (0 < getD t (wordAt u parentWord) 0) × (getD t (wordAt u parentWord) 0 - 1 < u)

@@ -9,9 +9,8 @@ use Rattle.grid.specs.Grid.{same}
 use Rattle.grid.specs.Tree.{pathOf}
 use Rattle.layout.specs.Table.{width, wordAt, HasRecord, parentWord, neighbourWord, linkWord, needWord}
 use Rattle.lists.specs.Lists.{gather}
-use Rattle.tree_laws.specs.State.{State, Sound}
+use Rattle.tree_laws.specs.State.{State, Sound, UnlinkAt, DropAt}
 use Rattle.table_laws.specs.Model.{unsetIn}
-use Rattle.table_laws.proofs.UndoLaws.{UnlinkAt, DropAt}
 
 -- u is a node in the table, and so is its neighbour in the direction d where the two are linked
 pub record Joined (t : List ℕ) (u d : ℕ) : Type 0 where
@@ -30,7 +29,7 @@ pub record Unlinks (t : List ℕ) (u d s : ℕ) (S : State) (z : Corner) : Type 
   pub pos : 0 < s
   pub dir : d < 4
   pub small : (x y : Corner) → S .step x y < s
-  pub held : UnlinkAt (length t) S sound s pos z d dir small t u
+  pub held : UnlinkAt (length t) S s z d t u
   pub room : width * length (gather same (S .nodes) (pathOf z)) ≤ length t
 
 -- the same, for some state and corner
@@ -44,7 +43,7 @@ pub record Drops (t : List ℕ) (left u : ℕ) (h : Corner) (s : ℕ) (S : State
   pub sound : Sound S
   pub pos : 0 < s
   pub small : (x : Corner) → S .need x < s
-  pub held : DropAt (length t) S sound s pos small t left u h
+  pub held : DropAt (length t) S s t left u h
 
 -- the same, for some state
 pub record Droppable (t : List ℕ) (left u : ℕ) (h : Corner) (s : ℕ) : Type 0 where

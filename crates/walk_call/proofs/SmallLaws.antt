@@ -55,7 +55,7 @@ placed-fault i n o =
     (placed-or i b (orElse d Good) (placed-when i (eqb o 4 && eqb n 0) (NothingToTake i) (omega arith))
     (placed-or i d Good (placed-when i (not (eqb o 4) && not (ltb n 16384)) (TooLong i) (omega arith)) tt))
 
-pub placed-faults : (i n : ℕ) (os : List ℕ) → Placed (i + length os) (operationsJudged i n os)
+placed-faults : (i n : ℕ) (os : List ℕ) → Placed (i + length os) (operationsJudged i n os)
 placed-faults i n [] = tt
 placed-faults i n (o ∷ os) =
     let b = i + suc (length os) in

@@ -33,19 +33,15 @@ times-one : (x : ℤ) → x *ℤ pos 1 ≡ x
 times-one (pos n) = pos-*ℤ-pos n 1 ∙ ap pos (omega arith)
 times-one (negsuc n) = let e : suc n * 1 ≡ suc n = omega arith in negsuc-*ℤ-pos n 1 ∙ ap (λ (k : ℕ). negℤ (pos k)) e
 
--- x times the change of y is the gain
-times-gain : (d : ℕ) (c : Corner) → c .0 *ℤ (stepped d c .1 -ℤ c .1) ≡ gain d (c .0)
-times-gain zero c = ap (λ (z : ℤ). c .0 *ℤ z) (sub-self (c .1)) ∙ *ℤ-zero (c .0)
-times-gain (suc zero) c = ap (λ (z : ℤ). c .0 *ℤ z) (suc-sub (c .1)) ∙ times-one (c .0)
-times-gain (suc (suc zero)) c = ap (λ (z : ℤ). c .0 *ℤ z) (sub-self (c .1)) ∙ *ℤ-zero (c .0)
-times-gain (suc (suc (suc d))) c = ap (λ (z : ℤ). c .0 *ℤ z) (pred-sub (c .1)) ∙ *ℤ-negsuc (c .0) 0 ∙ ap negℤ (times-one (c .0))
+-- the change of y is what the step adds to it
+change : (d : ℕ) (c : Corner) → stepped d c .1 -ℤ c .1 ≡ northOf d
+change zero c = sub-self (c .1)
+change (suc zero) c = suc-sub (c .1)
+change (suc (suc zero)) c = sub-self (c .1)
+change (suc (suc (suc d))) c = pred-sub (c .1)
 
--- and so is x times what the step adds to y
-pub gain-by : (d : ℕ) (x : ℤ) → x *ℤ northOf d ≡ gain d x
-gain-by zero x = *ℤ-zero x
-gain-by (suc zero) x = times-one x
-gain-by (suc (suc zero)) x = *ℤ-zero x
-gain-by (suc (suc (suc d))) x = *ℤ-negsuc x 0 ∙ ap negℤ (times-one x)
+times-gain : (d : ℕ) (c : Corner) → c .0 *ℤ (stepped d c .1 -ℤ c .1) ≡ gain d (c .0)
+times-gain d c = ap (λ (z : ℤ). c .0 *ℤ z) (change d c)
 
 pub sweep-next : (w : ℤ) (sum : ℤ) (c : Corner) (ds : List ℕ) (i : ℕ) → i < length ds → w ≡ sum +ℤ sweepFrom c (drop i ds)
     → w ≡ (sum +ℤ gain (getD ds i 0) (c .0)) +ℤ sweepFrom (stepped (getD ds i 0) c) (drop (i + 1) ds)
@@ -59,10 +55,10 @@ sweep-next w sum c ds i h e =
     ∙ ap (λ (k : ℕ). (sum +ℤ gain d (c .0)) +ℤ sweepFrom (stepped d c) (drop k ds)) n
 
 pub gain-bound : (d : ℕ) (x : ℤ) → natAbs (gain d x) ≤ natAbs x
-gain-bound zero x = omega arith
-gain-bound (suc zero) x = omega arith
-gain-bound (suc (suc zero)) x = omega arith
-gain-bound (suc (suc (suc d))) x = omega (arith, abs-neg x)
+gain-bound zero x = omega (arith, ap natAbs (*ℤ-zero x))
+gain-bound (suc zero) x = omega (arith, ap natAbs (times-one x))
+gain-bound (suc (suc zero)) x = omega (arith, ap natAbs (*ℤ-zero x))
+gain-bound (suc (suc (suc d))) x = omega (arith, ap natAbs (*ℤ-negsuc x 0 ∙ ap negℤ (times-one x)), abs-neg x)
 
 pub sum-bound : (sum x : ℤ) (d i : ℕ) → natAbs sum ≤ i * 32768 → natAbs x ≤ 32768 → natAbs (sum +ℤ gain d x) ≤ (i + 1) * 32768
 sum-bound sum x d i h k = omega (arith, abs+ sum (gain d x), gain-bound d x)

@@ -2,22 +2,19 @@
 -- Assumes nothing.
 use mathlib.Core.List.{List}
 use mathlib.Core.Path.{_≡_}
-use Prim.Native.Nat.{ℕ, zero, suc, _≤_}
-use lib.IntN.{ℤ, pos, negℤ}
+use Prim.Native.Nat.{ℕ, _≤_}
+use lib.IntN.{ℤ, _*ℤ_}
 use lib.ListN.{length, take}
 use Rattle.answer.specs.Limits.{Near}
 use Rattle.grid.specs.declared.Corner.{Corner}
-use Rattle.grid.specs.Grid.{cornersFrom, endFrom}
+use Rattle.grid.specs.Grid.{cornersFrom, endFrom, northOf}
 use Rattle.walk_step.specs.declared.Walk.{Walk}
 use Rattle.walk_step.specs.Tallies.{TallyIs}
 use Rattle.tree.specs.Nodes.{nodesOf}
 
 -- x times the change of y that the step d makes
 abbrev pub gain : ℕ → ℤ → ℤ
-gain zero x = pos 0
-gain (suc zero) x = x
-gain (suc (suc zero)) x = pos 0
-gain (suc (suc (suc d))) x = negℤ x
+gain d x = x *ℤ northOf d
 
 -- w is the walk from c with the steps ds, which stand in the chain
 pub record Settled (c : Corner) (chain ds : List ℕ) (w : Walk) : Type 0 where

@@ -2,7 +2,7 @@
 // node is answered by its ref, 0 if there was no room.
 ghost use mathlib.Core.Path.{_≡_};
 ghost use mathlib.Core.Bool.{false};
-ghost use Prim.Native.Nat.{ℕ, suc, _^_, _<_, _≤_, max};
+ghost use Prim.Native.Nat.{suc, _^_, _<_, max};
 ghost use lib.IntN.{natAbs};
 ghost use lib.ListN.{length, replicate};
 ghost use Rattle.grid.specs.declared.Corner.{Corner as Node};

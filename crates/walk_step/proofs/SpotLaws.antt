@@ -14,7 +14,7 @@ use Rattle.lists.specs.Lists.{count, tally, gather}
 use Rattle.walk_back.specs.Takes.{Unlinks, Drops}
 use Rattle.table_laws.specs.Model.{visitIn, unvisitIn}
 use Rattle.tree.specs.Nodes.{nodesOf, refOf}
-use Rattle.tree_laws.specs.State.{State, stateOf, reached, unlinking, tableBy, Made, Holds, Stood}
+use Rattle.tree_laws.specs.State.{State, stateOf, reached, unlinking, tableBy, Made, Holds, Stood, UnlinkAt, DropAt}
 use Rattle.grid.proofs.CornerLaws.{same-refl}
 use Rattle.grid.proofs.StepLaws.{back, back-mod, stepped-back, length-cornersFrom, endFrom-snoc}
 use Rattle.table_laws.proofs.Cites.{stood, ref-below, made-holds}
@@ -23,7 +23,6 @@ use Rattle.table_laws.proofs.RowLaws.{table-state}
 use Rattle.table_laws.proofs.StateLaws.{sound-step, links-small, needs-small, room-old}
 use Rattle.table_laws.proofs.StoreLaws.{read-visits}
 use Rattle.table_laws.proofs.TakeLaws.{back-from}
-use Rattle.table_laws.proofs.UndoLaws.{UnlinkAt, DropAt}
 use Rattle.table_laws.proofs.WalkLaws.{walk-holds, go-full, go-fits, take-unlinks, take-drops}
 use Rattle.tree_laws.proofs.AddLaws.{ref-pos}
 use Rattle.tree_laws.proofs.PushLaws.{finish-node, push-nodes, push-visits, sound-walk}
@@ -138,13 +137,13 @@ module _ (t : List ℕ) (c : Corner) (ds : List ℕ) (d : ℕ) (w : Spot) (k : W
       let p : 0 < suc (length ds) = omega arith in
       let x = take-unlinks (length t) c ds d dir room t (k .whole) (w .node) (k .here) t₁ e u h in
       let l : length t₁ ≡ length t = ap length (x .table) ∙ length-table (length t) (unlinking S (suc (length ds)) z (x .links)) roomy in
-      let y : UnlinkAt (length t) S (sound-walk c ds) (suc (length ds)) p z d dir (links-small (length t) c ds d) t₁ u = record { at = x .at; links = x .links; table = x .table; here = x .here; inv = x .inv } in
+      let y : UnlinkAt (length t) S (suc (length ds)) z d t₁ u = record { at = x .at; links = x .links; table = x .table; here = x .here; inv = x .inv } in
       let v : Unlinks t₁ u d (suc (length ds)) S z = record {
         sound = sound-walk c ds;
         pos = p;
         dir = dir;
         small = links-small (length t) c ds d;
-        held = subst (λ (n : ℕ). UnlinkAt n S (sound-walk c ds) (suc (length ds)) p z d dir (links-small (length t) c ds d) t₁ u) (sym l) y;
+        held = subst (λ (n : ℕ). UnlinkAt n S (suc (length ds)) z d t₁ u) (sym l) y;
         room = subst (λ (n : ℕ). width * length (gather same (nodesOf (cornersFrom c ds)) (pathOf (stepped d (endFrom c ds)))) ≤ n) (sym l) roomy;
       } in
       (subst (λ (s : ℕ). Unlinks t₁ u d s S z) (sym back-steps) v, l)
@@ -157,12 +156,12 @@ module _ (t : List ℕ) (c : Corner) (ds : List ℕ) (d : ℕ) (w : Spot) (k : W
       let e′ : t₂ ≡ tableBy (length t) (unlinking S (suc (length ds)) z (S .step)) = e ∙ ap₂ (λ (n s : ℕ). tableBy n (unlinking S s z (S .step))) l₁ back-steps in
       let x = take-drops (length t) c ds d dir room t (k .whole) (w .node) (k .here) t₂ e′ (w .nodes) (k .count) in
       let l : length t₂ ≡ length t = ap length e′ ∙ length-table (length t) (unlinking S (suc (length ds)) z (S .step)) roomy in
-      let y : DropAt (length t) S (sound-walk c ds) (suc (length ds)) p (needs-small (length t) c ds d) t₂ (w .nodes) (w .node) z = record { table = x .table; count = x .count; here = x .here; room = x .room } in
+      let y : DropAt (length t) S (suc (length ds)) t₂ (w .nodes) (w .node) z = record { table = x .table; count = x .count; here = x .here; room = x .room } in
       let v : Drops t₂ (w .nodes) (w .node) z (suc (length ds)) S = record {
         sound = sound-walk c ds;
         pos = p;
         small = needs-small (length t) c ds d;
-        held = subst (λ (n : ℕ). DropAt n S (sound-walk c ds) (suc (length ds)) p (needs-small (length t) c ds d) t₂ (w .nodes) (w .node) z) (sym l) y;
+        held = subst (λ (n : ℕ). DropAt n S (suc (length ds)) t₂ (w .nodes) (w .node) z) (sym l) y;
       } in
       (subst (λ (h : Corner). Drops t₂ (w .nodes) (w .node) h (w .steps) S) (sym (k .corner ∙ endFrom-snoc c ds d)) (subst (λ (s : ℕ). Drops t₂ (w .nodes) (w .node) z s S) (sym back-steps) v), l)
 

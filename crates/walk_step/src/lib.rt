@@ -1,7 +1,7 @@
 // A walk goes a step, or takes its last step back.
 ghost use mathlib.Core.Path.{_≡_};
 ghost use mathlib.Core.List.{List, [], _∷_, _++_};
-ghost use Prim.Native.Nat.{ℕ, _^_, _<_, _≤_};
+ghost use Prim.Native.Nat.{ℕ, _^_, _<_};
 ghost use lib.IntN.{natAbs};
 ghost use lib.ListN.{length};
 ghost use Rattle.grid.specs.declared.Corner.{Corner as Node};

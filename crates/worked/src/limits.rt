@@ -2,7 +2,6 @@
 use crate::show;
 use crate::walks;
 ghost use Prim.Native.Nat.{_≤_};
-ghost use lib.ListN.{length};
 
 // The last record of a table, or all of it.
 fn last(table: &[u32]) {

@@ -1,7 +1,7 @@
 -- `undrwyth::facts_words` meets its contract.
 -- Assumes nothing.
 use borrow.Author.Needs.{needs}
-use mathlib.Core.Path.{ap, ap₂, _∙_, sym}
+use mathlib.Core.Path.{ap, _∙_}
 use native.Mathlib.Omega.{arith}
 use Rattle.line_frame.specs.Hex.{bitsOf}
 use Rattle.walk_corner.proofs.SignedLaws.{back}

@@ -8,7 +8,7 @@ use borrow.Author.Needs.{needs}
 use lib.ListN.{length}
 use Rattle.grid.specs.Grid.{origin}
 use Rattle.layout.specs.Table.{tableOf}
-use Rattle.walk_input.proofs.JudgeLaws.{Sized, input-good}
+use Rattle.walk_input.proofs.JudgeLaws.{input-good}
 use Rattle.walk.proofs.CallLaws.{walk-refused, walk-followed}
 use Rattle.walk.proofs.follow.Statement.{statement}
 use Rattle.walk.proofs.follow.Tie as tie

@@ -10,7 +10,7 @@ use mir.ValLaws.{toZ-ofZ}
 use Rattle.walk_corner.proofs.SignedLaws.{back}
 use Rattle.int_laws.proofs.RangeLaws.{abs+, sfits-abs}
 use Rattle.walk_facts.specs.Settled.{gain}
-use Rattle.walk_facts.proofs.FactLaws.{gain-by, gain-bound}
+use Rattle.walk_facts.proofs.FactLaws.{gain-bound}
 use Rattle.walk_facts.proofs.gained.Statement.{statement}
 use Rattle.walk_facts.proofs.gained.Tie as tie
 
@@ -21,14 +21,14 @@ mul-result : tie.Need-mul-result
 mul-result c =
     let s = c .before in
     let n = c .north in
-    let p : toZ w32 (ofZ w32 (s .args .x)) *ℤ toZ w32 (ofZ w32 (n .result)) ≡ gain (s .args .d) (s .args .x) = ap₂ _*ℤ_ (toZ-ofZ w32 (s .args .x) (s .fits .x)) (back (n .result) (n .ok) ∙ n .ensures) ∙ gain-by (s .args .d) (s .args .x) in
+    let p : toZ w32 (ofZ w32 (s .args .x)) *ℤ toZ w32 (ofZ w32 (n .result)) ≡ gain (s .args .d) (s .args .x) = ap₂ _*ℤ_ (toZ-ofZ w32 (s .args .x) (s .fits .x)) (back (n .result) (n .ok) ∙ n .ensures) in
     subst (SFits w32) (sym p) (sfits-abs w32 (gain (s .args .d) (s .args .x)) (omega (arith, gain-bound (s .args .d) (s .args .x), s .pre .1)))
 
 add-result : tie.Need-add-result
 add-result c =
     let s = c .before in
     let n = c .north in
-    let p = toZ-ofZ w32 _ (mul-result c) ∙ ap₂ _*ℤ_ (toZ-ofZ w32 (s .args .x) (s .fits .x)) (back (n .result) (n .ok) ∙ n .ensures) ∙ gain-by (s .args .d) (s .args .x) in
+    let p = toZ-ofZ w32 _ (mul-result c) ∙ ap₂ _*ℤ_ (toZ-ofZ w32 (s .args .x) (s .fits .x)) (back (n .result) (n .ok) ∙ n .ensures) in
     subst (SFits w32) (sym (ap₂ _+ℤ_ (toZ-ofZ w32 (s .args .sum) (s .fits .sum)) p)) (sfits-abs w32 (s .args .sum +ℤ gain (s .args .d) (s .args .x)) (omega (arith, abs+ (s .args .sum) (gain (s .args .d) (s .args .x)), gain-bound (s .args .d) (s .args .x), s .pre .0, s .pre .1)))
 
 returns : tie.Need-returns
@@ -36,7 +36,7 @@ returns c =
     let s = c .before in
     let n = c .north in
     toZ-ofZ w32 _ (add-result c)
-    ∙ ap₂ _+ℤ_ (toZ-ofZ w32 (s .args .sum) (s .fits .sum)) (toZ-ofZ w32 _ (mul-result c) ∙ ap₂ _*ℤ_ (toZ-ofZ w32 (s .args .x) (s .fits .x)) (back (n .result) (n .ok) ∙ n .ensures) ∙ gain-by (s .args .d) (s .args .x))
+    ∙ ap₂ _+ℤ_ (toZ-ofZ w32 (s .args .sum) (s .fits .sum)) (toZ-ofZ w32 _ (mul-result c) ∙ ap₂ _*ℤ_ (toZ-ofZ w32 (s .args .x) (s .fits .x)) (back (n .result) (n .ok) ∙ n .ensures))
 
 pub gained-spec : {M : Type 1} → statement M
 gained-spec = tie.close (tie.spec north-requires mul-result add-result returns)

@@ -1,6 +1,6 @@
 -- `walk_step::advance` meets its contract.
 -- Assumes nothing.
-use mathlib.Core.Path.{_≡_, refl}
+use mathlib.Core.Path.{refl}
 use borrow.Author.Needs.{needs}
 use Rattle.walk_step.specs.declared.Walk.{Walk}
 use Rattle.walk_step.proofs.WalkLaws.{advance-stepped, advance-to, advance-full}

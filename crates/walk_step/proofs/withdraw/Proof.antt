@@ -1,7 +1,7 @@
 -- `walk_step::withdraw` meets its contract.
 -- Assumes nothing.
 use mathlib.Core.List.{[], _∷_, _++_}
-use mathlib.Core.Path.{_≡_, refl}
+use mathlib.Core.Path.{refl}
 use borrow.Author.Needs.{needs}
 use Rattle.walk_step.specs.declared.Walk.{Walk}
 use Rattle.walk_step.proofs.WalkLaws.{corners-some, withdraw-to}
