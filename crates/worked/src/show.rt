@@ -5,6 +5,7 @@ use answer::Facts;
 use answer::Judged;
 use answer::Refusal;
 use libc::STDOUT_FILENO;
+use walk_table::Record;
 
 pub(crate) fn text(s: &[u8]) {
     io::write_all(STDOUT_FILENO, s);
@@ -40,12 +41,12 @@ pub(crate) fn bytes(name: &[u8], s: &[u8]) {
     text(b"\n");
 }
 
-// A name, then each word, 21 to a line.
+// A name, then each word, a record to a line.
 pub(crate) fn words(name: &[u8], s: &[u32]) {
     text(name);
     let mut i = 0;
     while i < s.len() {
-        if i % 21 == 0 {
+        if i % Record::WORDS == 0 {
             text(b"\n   ");
         }
         number(word(s[i]));

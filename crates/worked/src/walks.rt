@@ -1,6 +1,8 @@
 // Walks in a small table, one a line: a letter for the records of the table, a for 1 to l for 12, then the operations.
 use crate::show;
 use line_stream::line_end;
+use walk_step::Walk;
+use walk_table::Record;
 ghost use Prim.Native.Nat.{_≤_};
 ghost use lib.ListN.{length};
 
@@ -31,13 +33,13 @@ fn run(ops: &[u8], records: usize)
     requires { ⌜ (length (now ops) ≤ 32) × (records ≤ 12) ⌝ }
 {
     let n = ops.len();
-    let mut table = [7u32; 252];
-    let mut marks = [7u32; 64];
+    let mut table = [7u32; 12 * Record::WORDS];
+    let mut marks = [7u32; 32 * Walk::MARK_WORDS];
     let mut chain = [7u8; 32];
     shown(
         ops,
-        &mut table[..21 * records],
-        &mut marks[..2 * n],
+        &mut table[..Record::WORDS * records],
+        &mut marks[..Walk::MARK_WORDS * n],
         &mut chain[..n],
     );
     let mut hull = [7i32; 24];

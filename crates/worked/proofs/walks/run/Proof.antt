@@ -7,14 +7,16 @@ use lib.ListN.{length, replicate}
 use lib.Seq.{length-take-le}
 use lib.IntN.{pos}
 use borrow.Author.Needs.{needs}
+use Rattle.layout.specs.Marks.{markWords}
+use Rattle.layout.specs.Table.{width}
 use Rattle.worked.proofs.walks.run.Statement.{statement}
 use Rattle.worked.proofs.walks.run.Tie as tie
 
 slice-aggregate-shown : tie.Need-slice-aggregate-shown
-slice-aggregate-shown c = sym (length-take-le (21 * c .before .before .args .records) (replicate 252 7) (omega (arith, c .before .before .pre)))
+slice-aggregate-shown c = sym (length-take-le (width * c .before .before .args .records) (replicate (12 * width) 7) (omega (arith, c .before .before .pre)))
 
 slice-aggregate-shown-2 : tie.Need-slice-aggregate-shown-2
-slice-aggregate-shown-2 c = sym (length-take-le (2 * length (c .before .before .before .args .ops .now)) (replicate 64 7) (omega (arith, c .before .before .before .pre)))
+slice-aggregate-shown-2 c = sym (length-take-le (markWords * length (c .before .before .before .args .ops .now)) (replicate (32 * markWords) 7) (omega (arith, c .before .before .before .pre)))
 
 slice-aggregate-shown-3 : tie.Need-slice-aggregate-shown-3
 slice-aggregate-shown-3 c = sym (length-take-le (length (c .before .before .before .before .args .ops .now)) (replicate 32 7) (omega (arith, c .before .before .before .before .pre)))
