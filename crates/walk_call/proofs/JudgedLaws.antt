@@ -18,6 +18,7 @@ use Rattle.lists.proofs.GatherLaws.{and-left, and-right}
 use Rattle.steps.specs.Operations.{operationsJudged}
 use Rattle.answer.proofs.RefusalLaws.{orElse-good, firstOf-last, clear, when-good}
 use Rattle.walk_call.specs.Walk.{tableFits, inputJudgements, roomFrom, walkJudged}
+use Rattle.walk_call.proofs.CallCases as cases
 
 -- the room decides last
 pub judged-split : (c : Corner) (os : List ℕ) (w m k : ℕ) → walkJudged c os w m k ≡ orElse (firstOf (inputJudgements os w m k)) (roomFrom (recordsIn w) c 0 [] os)
