@@ -1,2 +1,3 @@
 pub mod RefusalCases
 pub mod RefusalLaws
+pub mod WordCases

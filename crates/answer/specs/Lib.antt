@@ -1,3 +1,4 @@
--- The limits, and the numbers of refusals and verdicts.
+-- The limits, the numbers of refusals and verdicts, and those of the answers.
 pub mod Limits
 pub mod Refusal
+pub mod Words

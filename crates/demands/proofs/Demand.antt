@@ -1,8 +1,8 @@
 -- What the three demands ask for, as theorems about the promises: `WalkIs` of the walk, `ConvertedBy` of the turns, `HullCall` of the hull.
 -- Each is proved by naming a law. Assumes nothing.
-use mathlib.Core.List.{List, _∷_, _++_, List·Memᴰ}
+use mathlib.Core.List.{List, [], _∷_, _++_, List·Memᴰ}
 use mathlib.Core.Logic.{_⊎_, _↔_}
-use mathlib.Core.Path.{_≡_}
+use mathlib.Core.Path.{_≡_, ap}
 use Prim.Native.Nat.{ℕ, suc, _+_, _-_, _*_, _%_, _<_, _≤_, pred}
 use lib.IntN.{ℤ, pos, negsuc, negℤ, natAbs}
 use lib.ListN.{length, getD, take, drop, replicate}
@@ -16,7 +16,8 @@ use Rattle.answer.specs.declared.Refusal.{Refusal}
 use Rattle.answer.specs.declared.Refusal.the-variants.{NoRoom}
 use Rattle.answer.specs.declared.Verdict.{Verdict, the-variants.ThereAndBack}
 use Rattle.answer.specs.Limits.{noMeeting}
-use Rattle.answer.specs.Refusal.{refusalNumber}
+use Rattle.answer.specs.Refusal.{refusalNumber, refusalPlace}
+use Rattle.answer.specs.Words.{factsWords, answerWords, countedWords, judgedWords}
 use Rattle.lists.specs.Lists.{Distinct, Below}
 use Rattle.grid.specs.declared.{Corner.Corner, Panel.Panel}
 use Rattle.grid.specs.Grid.{origin, cornersFrom, endFrom, stepped}
@@ -80,6 +81,13 @@ module _ {c : Corner} {os t ms ch t′ ms′ ch′ : List ℕ} {r : Answer} (w :
   pub accepted-exactly : r ≡ Answer.Accepted (factsOf c (survivors os)) ↔ Given c os (length t) (length ms) (length ch) Good
   accepted-exactly = walkLaws.accepted-when w
 
+  -- the numbers of each: a refused answer holds number and place, all else 0; an accepted one 0 for both, and the facts
+  pub refused-words : (q : Refusal) → Given c os (length t) (length ms) (length ch) (Refused q) → answerWords r ≡ refusalNumber q ∷ refusalPlace q ∷ replicate 9 0
+  refused-words q g = ap answerWords (refused-exactly q .1 g)
+
+  pub accepted-words : Given c os (length t) (length ms) (length ch) Good → answerWords r ≡ factsWords (factsOf c (survivors os))
+  accepted-words g = ap answerWords (accepted-exactly .1 g)
+
 module _ {c : Corner} {os t ms ch t′ ms′ ch′ : List ℕ} where
   -- "a refusal leaves the buffers untouched"
   pub refused-untouched : (q : Refusal) → (refusalNumber q ≡ 7 → ⊥) → WalkIs c os t ms ch (Answer.Refused q) t′ ms′ ch′ → (t′ ≡ t) × (ms′ ≡ ms) × (ch′ ≡ ch)
@@ -108,6 +116,9 @@ turns-one = promiseLaws.convertedBy-one
 pub turns-exactly : {convert : List ℕ → List ℕ} {ds out out′ : List ℕ} {r : Judged} → ConvertedBy convert ds out r out′ → (j : Judged) → r ≡ j ↔ GivenTurns ds (length out) j
 turns-exactly = digitLaws.turns-when
 
+pub turns-words : {convert : List ℕ → List ℕ} {ds out out′ : List ℕ} {r : Judged} → ConvertedBy convert ds out r out′ → (j : Judged) → GivenTurns ds (length out) j → judgedWords r ≡ judgedWords j
+turns-words w j g = ap judgedWords (turns-exactly w j .1 g)
+
 pub turns-untouched : {convert : List ℕ → List ℕ} {ds out out′ : List ℕ} (q : Refusal) → ConvertedBy convert ds out (Refused q) out′ → out′ ≡ out
 turns-untouched = callLaws.converted-untouched
 
@@ -123,6 +134,13 @@ hull-refused-exactly = digitLaws.hull-refused-when
 
 pub hull-counted-exactly : {s : Corner} {chain : List ℕ} {before after : List ℤ} {r : Counted} (w : HullCall s chain before r after) → r ≡ Counted.Corners (length (w .list)) ↔ GivenHull chain (length before) (length (w .list)) Good
 hull-counted-exactly = digitLaws.hull-counted-when
+
+pub hull-refused-words : {s : Corner} {chain : List ℕ} {before after : List ℤ} {r : Counted} (w : HullCall s chain before r after) (q : Refusal) → GivenHull chain (length before) (length (w .list)) (Refused q)
+    → countedWords r ≡ refusalNumber q ∷ refusalPlace q ∷ 0 ∷ []
+hull-refused-words w q g = ap countedWords (hull-refused-exactly w q .1 g)
+
+pub hull-counted-words : {s : Corner} {chain : List ℕ} {before after : List ℤ} {r : Counted} (w : HullCall s chain before r after) → GivenHull chain (length before) (length (w .list)) Good → countedWords r ≡ 0 ∷ 0 ∷ length (w .list) ∷ []
+hull-counted-words w g = ap countedWords (hull-counted-exactly w .1 g)
 
 pub hull-untouched : (s : Corner) (chain : List ℕ) (before : List ℤ) {after : List ℤ} (q : Refusal) → HullCall s chain before (Counted.Refused q) after → after ≡ before
 hull-untouched = callLaws.hull-untouched

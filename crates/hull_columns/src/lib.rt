@@ -1,6 +1,8 @@
 // The columns of a walk, counted so that its start stands in the middle one, and the lowest corner of each.
 use answer::Judged;
 use answer::Refusal;
+use order::greater;
+use order::lesser;
 ghost use mathlib.Core.Path.{_≡_};
 ghost use mathlib.Core.List.{map};
 ghost use Prim.Native.Nat.{ℕ, _-_, _<_, _≤_, min, max};
@@ -62,25 +64,7 @@ fn height(y: u16, d: u8) -> u16
     y + (d == 1) as u16 - (d > 2) as u16
 }
 
-fn lesser(a: usize, b: usize) -> usize
-    ensures { λ r. ⌜ r ≡ min a b ⌝ }
-{
-    if a < b {
-        return a;
-    }
-    b
-}
-
 fn higher(a: u8, b: u8) -> u8
-    ensures { λ r. ⌜ r ≡ max a b ⌝ }
-{
-    if a < b {
-        return b;
-    }
-    a
-}
-
-fn greater(a: usize, b: usize) -> usize
     ensures { λ r. ⌜ r ≡ max a b ⌝ }
 {
     if a < b {

@@ -11,7 +11,7 @@ use mir.ValLaws.{toZ-ofZ}
 use lib.IntN.{ℤ, pos, negsuc, negℤ, natAbs, _+ℤ_, _-ℤ_, +ℤ-one, +ℤ-idl, negℤ-negℤ}
 use lib.Dec.{T}
 use lib.Signed.{ltZ, nonNeg}
-use Rattle.line_frame.specs.Hex.{bitsOf}
+use Rattle.answer.specs.Words.{bitsOf}
 
 -- the number that the bits of z are read as
 abbrev pub back : ℤ → ℤ

@@ -26,14 +26,14 @@ pub allHex-all : (s : List ℕ) (i : ℕ) → allHex (drop i s) ≡ allHex s →
 allHex-all s i h l = sym (allHex-end s i l) ∙ h
 
 -- one digit less is left to write
-pub put-hexOf : (n v at : ℕ) (buf : List ℕ) → at + n < length buf → put (hexOf n (v / 16)) at (set buf (at + n) (letterOf (v % 16))) ≡ put (hexOf (suc n) v) at buf
+put-hexOf : (n v at : ℕ) (buf : List ℕ) → at + n < length buf → put (hexOf n (v / 16)) at (set buf (at + n) (letterOf (v % 16))) ≡ put (hexOf (suc n) v) at buf
 unfolding hexOf
 put-hexOf n v at buf h =
     let l = length-hexOf n (v / 16) in
     ap (λ (i : ℕ). put (hexOf n (v / 16)) at (set buf (at + i) (letterOf (v % 16)))) (sym l)
     ∙ put-last (hexOf n (v / 16)) (letterOf (v % 16)) at buf (omega arith)
 
-pub put-hexOf-zero : (v at : ℕ) (buf : List ℕ) → put (hexOf 0 v) at buf ≡ buf
+put-hexOf-zero : (v at : ℕ) (buf : List ℕ) → put (hexOf 0 v) at buf ≡ buf
 unfolding hexOf
 put-hexOf-zero v at buf = put-nil at buf
 

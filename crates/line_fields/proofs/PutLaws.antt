@@ -41,7 +41,7 @@ drop-put f at buf n h k =
     ∙ ap (λ (m : ℕ). drop m buf) (sym e)
 
 -- one piece after the other
-pub put-append : (f g : List ℕ) (at : ℕ) (buf : List ℕ) → at + length f + length g ≤ length buf → put g (at + length f) (put f at buf) ≡ put (f ++ g) at buf
+put-append : (f g : List ℕ) (at : ℕ) (buf : List ℕ) → at + length f + length g ≤ length buf → put g (at + length f) (put f at buf) ≡ put (f ++ g) at buf
 unfolding put
 put-append f g at buf h =
     let e : at + length f + length g ≡ at + length (f ++ g) = omega (arith, length-append f g) in

@@ -3,7 +3,8 @@ ghost use mathlib.Core.Path.{_≡_};
 ghost use mathlib.Core.Bool.{true};
 ghost use Prim.Native.Nat.{_+_, _<_, _≤_};
 ghost use lib.ListN.{length};
-ghost use Rattle.line_frame.specs.Hex.{isHex, valueOf, letterOf, hexOf, bitsOf};
+ghost use Rattle.answer.specs.Words.{bitsOf};
+ghost use Rattle.line_frame.specs.Hex.{isHex, valueOf, letterOf, hexOf};
 ghost use Rattle.line_fields.specs.Put.{Wrote};
 
 // Whether the byte is a lower-case hexadecimal digit.

@@ -4,9 +4,10 @@ use mathlib.Core.Path.{_≡_, refl}
 use mathlib.Core.List.{List, [], _∷_, _++_}
 use Prim.Native.Nat.{ℕ}
 use lib.IntN.{negsuc}
+use Rattle.answer.specs.Words.{bitsOf}
 use Rattle.line_frame.specs.declared.Kind.the-variants.{Operations, Turns}
 use Rattle.line_frame.specs.declared.Frame.the-variants.{Of, Bad}
-use Rattle.line_frame.specs.Hex.{allHex, valuesOf, numberFrom, hexOf, bitsOf}
+use Rattle.line_frame.specs.Hex.{allHex, valuesOf, numberFrom, hexOf}
 use Rattle.line_frame.specs.Line.{frameOf, digitsOf, lineAnswer}
 use Rattle.line_frame.specs.Program.{outputFrom, program}
 use Rattle.line_frame.proofs.Bytes.{bytesOf}

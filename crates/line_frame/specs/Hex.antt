@@ -1,5 +1,5 @@
 -- Hexadecimal, in lower case (RULES 7.2, 7.4). Assumes nothing.
-use Rattle.lists.specs.Lists.{Bool, true, cond, _&&_, _||_, List, [], _∷_, _++_, getD, ℕ, zero, suc, _+_, _-_, _*_, _/_, _%_, _^_, ltb, leb, ℤ, pos, negsuc}
+use Rattle.lists.specs.Lists.{Bool, true, cond, _&&_, _||_, List, [], _∷_, _++_, getD, ℕ, zero, suc, _+_, _-_, _*_, _/_, _%_, ltb, leb}
 
 -- the byte is 0 to 9 or a to f
 abbrev pub isHex : ℕ → Bool
@@ -36,8 +36,3 @@ letterOf d = cond (ltb d 10) (d + 48) (d + 87)
 unfoldable pub hexOf : ℕ → ℕ → List ℕ
 hexOf zero v = []
 hexOf (suc n) v = hexOf n (v / 16) ++ (letterOf (v % 16) ∷ [])
-
--- a whole number as 32 bits, negatives in two's complement
-abbrev pub bitsOf : ℤ → ℕ
-bitsOf (pos n) = n
-bitsOf (negsuc n) = 2 ^ 32 - (n + 1)

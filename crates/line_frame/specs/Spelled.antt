@@ -1,14 +1,14 @@
 -- The answer to a good frame, without the line feed (RULES 7.3 to 7.5). Assumes nothing.
 use Rattle.lists.specs.Lists.{List, [], _∷_, _++_, length, ℕ, _+_, _*_, ℤ}
 use Rattle.answer.specs.declared.{Refusal.Refusal, Judged.Judged, Judged.the-variants.Good, Judged.the-variants.Refused, Facts.Facts, Answer.Answer}
-use Rattle.answer.specs.Refusal.{refusalNumber, refusalPlace, verdictNumber}
+use Rattle.answer.specs.{Refusal.refusalNumber, Refusal.refusalPlace, Refusal.verdictNumber, Words.bitsOf}
 use Rattle.grid.specs.{declared.Corner.Corner, Grid.origin}
 use Rattle.steps.specs.{Operations.survivors, Turns.turnsJudged, Turns.stepsOf}
 use Rattle.layout.specs.Marks.{markWords}
 use Rattle.walk_call.specs.Walk.{walkAnswer}
 use Rattle.hull.specs.Call.{numbers}
 use Rattle.hull_laws.specs.Outline.{hullOf}
-use Rattle.line_frame.specs.{Sizes.tableWords, Hex.hexOf, Hex.bitsOf}
+use Rattle.line_frame.specs.{Sizes.tableWords, Hex.hexOf}
 
 -- refused: hexadecimal 80 plus the number, then the place in 8 digits
 abbrev pub refusedLine : Refusal → List ℕ

@@ -11,14 +11,15 @@ use lib.Seq.{take-suc, length-take-le}
 use Rattle.answer.specs.declared.Facts.{Facts}
 use Rattle.answer.specs.Refusal.{verdictNumber}
 use Rattle.line_frame.specs.Sizes.{factsDigits}
-use Rattle.line_frame.specs.Hex.{hexOf, bitsOf}
+use Rattle.answer.specs.Words.{bitsOf}
+use Rattle.line_frame.specs.Hex.{hexOf}
 use Rattle.line_frame.specs.Spelled.{factsLine, numbersLine}
 use Rattle.line_fields.specs.Put.{Wrote}
 use Rattle.line_frame.proofs.HexLaws.{length-hexOf}
 use Rattle.line_frame.proofs.SpelledLaws.{length-numbersLine}
 use Rattle.line_fields.proofs.PutLaws.{wrote-append, wrote-nil, length-put}
 
-pub wrote-length : {f : List ℕ} {at e : ℕ} {a b : List ℕ} → Wrote f at a e b → at + length f ≤ length a → length b ≡ length a
+wrote-length : {f : List ℕ} {at e : ℕ} {a b : List ℕ} → Wrote f at a e b → at + length f ≤ length a → length b ≡ length a
 wrote-length {f} {at} {e} {a} w h = ap length (w .buffer) ∙ length-put f at a h
 
 pub length-two : (n v m w : ℕ) → length (hexOf n v ++ hexOf m w) ≡ n + m

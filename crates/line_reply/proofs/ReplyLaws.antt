@@ -42,6 +42,10 @@ reply-told s out h w = record {
   buffer = rw (le-leb mostAnswer (length out) h) (w .buffer);
 }
 
+-- which has one answer and one state of the buffer
+pub lineIs-one : {s before after₁ after₂ : List ℕ} {n₁ n₂ : ℕ} → LineIs s before n₁ after₁ → LineIs s before n₂ after₂ → (n₁ ≡ n₂) × (after₁ ≡ after₂)
+lineIs-one g h = (g .answer ∙ sym (h .answer), g .buffer ∙ sym (h .buffer))
+
 -- an answer that is accepted was judged good
 by-good : (j : Judged) (f g : Facts) → answerBy j g ≡ walked.Accepted f → (j ≡ judged.Good) × (g ≡ f)
 by-good judged.Good f g e = (refl, cc)

@@ -86,7 +86,7 @@ fn write(way: Way, digits: &[u8], out: &mut [u8])
 }
 
 // The digits converted, in a buffer of their number. Refuses 1, 3 and 4.
-fn convert(way: Way, digits: &[u8], out: &mut [u8]) -> Judged
+pub fn convert(way: Way, digits: &[u8], out: &mut [u8]) -> Judged
     ensures { λ r. ⌜ ConvertedBy (convertOf way) (now (digits .entry)) (now (out .entry)) r (now (out .exit)) ⌝ }
 {
     let judged = judge(digits, out.len());

@@ -1,2 +1,4 @@
+-- The laws of the C boundary.
 pub mod WordLaws
 pub mod BoundaryLaws
+pub mod Demand

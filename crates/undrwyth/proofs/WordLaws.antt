@@ -14,8 +14,7 @@ use Rattle.answer.specs.declared.Refusal.{Refusal}
 use Rattle.answer.specs.declared.Verdict.{Verdict}
 use Rattle.answer.specs.declared.Verdict.the-variants.{Nowhere, Open, Room, OpenMeeting, ClosedMeeting, ThereAndBack}
 use Rattle.answer.specs.Refusal.{refusalNumber, refusalPlace, verdictNumber}
-use Rattle.line_frame.specs.Hex.{bitsOf}
-use Rattle.undrwyth.specs.Words.{factsWords, answerWords, countedWords, judgedWords, answerNumber, countedNumber}
+use Rattle.answer.specs.Words.{bitsOf, factsWords, answerWords, countedWords, judgedWords, answerNumber, countedNumber}
 
 -- ---- the words of a refusal
 pub refused-answer : (a : Answer) (r : Refusal) (n p : ℕ) → a ≡ Answer.Refused r → n ≡ refusalNumber r → p ≡ refusalPlace r → n ∷ p ∷ 0 ∷ 0 ∷ 0 ∷ 0 ∷ 0 ∷ 0 ∷ 0 ∷ 0 ∷ 0 ∷ [] ≡ answerWords a
@@ -37,7 +36,7 @@ counted-first (Counted.Corners n) w e = ap (λ (l : List ℕ). getD l 0 0) e
 counted-first (Counted.Refused r) w e = ap (λ (l : List ℕ). getD l 0 0) e
 
 -- ---- the words of an accepted walk
-pub verdict-small : (v : Verdict) (n : ℕ) → n ≡ verdictNumber v → n < 5
+pub verdict-small : (v : Verdict) (n : ℕ) → n ≡ verdictNumber v → n < 6
 verdict-small Nowhere n e = omega arith
 verdict-small Open n e = omega arith
 verdict-small Room n e = omega arith

@@ -12,7 +12,7 @@ use Rattle.walk_call.specs.Walk.{WalkIs}
 use Rattle.grid.specs.Grid.{origin}
 use Rattle.hull.specs.Call.{HullCall}
 use Rattle.steps.specs.Turns.{ConvertedBy}
-use Rattle.undrwyth.specs.Words.{answerWords, answerNumber, countedWords, countedNumber, judgedWords}
+use Rattle.answer.specs.Words.{answerWords, answerNumber, countedWords, countedNumber, judgedWords}
 
 -- the walk's promise, with its answer as numbers
 pub record WalkGives (os t ms ch : List ℕ) (n : ℕ) (t′ ms′ ch′ words : List ℕ) : Type 0 where

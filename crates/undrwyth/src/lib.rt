@@ -4,10 +4,13 @@ use answer::Counted;
 use answer::Facts;
 use answer::Judged;
 use line_fields::hex::bits;
+use turns::Way;
 ghost use mathlib.Core.Path.{_≡_};
 ghost use Prim.Native.Nat.{_^_, _<_};
 ghost use Rattle.answer.specs.Refusal.{judgedPlace};
-ghost use Rattle.undrwyth.specs.Words.{factsWords, answerWords, countedWords, judgedWords, AnswerFits, CountedFits};
+ghost use Rattle.answer.specs.Words.{factsWords, answerWords, countedWords, judgedWords};
+ghost use Rattle.turns.specs.Way.{convertOf};
+ghost use Rattle.undrwyth.specs.Words.{AnswerFits, CountedFits};
 ghost use Rattle.line_reply.specs.Reply.{LineIs};
 ghost use Rattle.steps.specs.Turns.{turnsOf, stepsOf};
 ghost use Rattle.undrwyth.specs.Boundary.{WalkGives, HullGives, TurnsGive};
@@ -39,7 +42,7 @@ fn facts_words(f: Facts) -> [u32; 11]
 }
 
 // The numbers of a walk's answer.
-pub fn walk_words(a: Answer) -> [u32; 11]
+fn walk_words(a: Answer) -> [u32; 11]
     requires { ⌜ AnswerFits a ⌝ }
     ensures { λ w. ⌜ w ≡ answerWords a ⌝ }
 {
@@ -54,7 +57,7 @@ pub fn walk_words(a: Answer) -> [u32; 11]
 }
 
 // The numbers of a hull's answer.
-pub fn hull_words(c: Counted) -> [u32; 3]
+fn hull_words(c: Counted) -> [u32; 3]
     requires { ⌜ CountedFits c ⌝ }
     ensures { λ w. ⌜ w ≡ countedWords c ⌝ }
 {
@@ -69,7 +72,7 @@ pub fn hull_words(c: Counted) -> [u32; 3]
 }
 
 // The numbers of a conversion's answer.
-pub fn turns_words(j: Judged) -> [u32; 2]
+fn turns_words(j: Judged) -> [u32; 2]
     requires { ⌜ judgedPlace j < 2 ^ 32 ⌝ }
     ensures { λ w. ⌜ w ≡ judgedWords j ⌝ }
 {
@@ -111,6 +114,16 @@ pub extern "C" fn undrwyth_hull(chain: &[u8], out: &mut [i32], answer: &mut [u32
     words[0]
 }
 
+// Converts the digits one way or the other.
+fn give_converted(way: Way, digits: &[u8], out: &mut [u8], answer: &mut [u32; 2]) -> u32
+    ensures { λ n. ⌜ TurnsGive (convertOf way) (now (digits .entry)) (now (out .entry)) n (now (out .exit)) (now (answer .exit)) ⌝ }
+{
+    let j = turns::convert(way, digits, out);
+    let words = turns_words(j);
+    *answer = words;
+    words[0]
+}
+
 // Turns steps into turns.
 #[no_mangle]
 pub extern "C" fn undrwyth_turns_of_steps(
@@ -120,10 +133,7 @@ pub extern "C" fn undrwyth_turns_of_steps(
 ) -> u32
     ensures { λ n. ⌜ TurnsGive turnsOf (now (steps .entry)) (now (out .entry)) n (now (out .exit)) (now (answer .exit)) ⌝ }
 {
-    let j = turns::turns_of(steps, out);
-    let words = turns_words(j);
-    *answer = words;
-    words[0]
+    give_converted(Way::ToTurns, steps, out, answer)
 }
 
 // Turns turns into steps.
@@ -135,10 +145,7 @@ pub extern "C" fn undrwyth_steps_of_turns(
 ) -> u32
     ensures { λ n. ⌜ TurnsGive stepsOf (now (turns .entry)) (now (out .entry)) n (now (out .exit)) (now (answer .exit)) ⌝ }
 {
-    let j = turns::steps_of(turns, out);
-    let words = turns_words(j);
-    *answer = words;
-    words[0]
+    give_converted(Way::ToSteps, turns, out, answer)
 }
 
 // Answers one line, which has no line feed; the answer has none either.

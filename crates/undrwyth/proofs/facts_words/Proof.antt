@@ -1,9 +1,9 @@
 -- `undrwyth::facts_words` meets its contract.
 -- Assumes nothing.
-use borrow.Author.Needs.{needs}
 use mathlib.Core.Path.{ap, _∙_}
 use native.Mathlib.Omega.{arith}
-use Rattle.line_frame.specs.Hex.{bitsOf}
+use borrow.Author.Needs.{needs}
+use Rattle.answer.specs.Words.{bitsOf}
 use Rattle.walk_corner.proofs.SignedLaws.{back}
 use Rattle.undrwyth.proofs.WordLaws.{verdict-small, accepted-words}
 use Rattle.undrwyth.proofs.facts_words.Statement.{statement}

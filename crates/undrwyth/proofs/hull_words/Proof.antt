@@ -1,12 +1,13 @@
 -- `undrwyth::hull_words` meets its contract.
 -- Assumes nothing.
-use borrow.Author.Needs.{needs}
 use mathlib.Core.Path.{ap, sym, subst}
 use native.Mathlib.Omega.{arith}
+use borrow.Author.Needs.{needs}
+use Rattle.answer.specs.Words.{countedWords}
+use Rattle.undrwyth.specs.Words.{CountedFits}
 use Rattle.undrwyth.proofs.WordLaws.{refused-counted}
 use Rattle.undrwyth.proofs.hull_words.Statement.{statement}
 use Rattle.undrwyth.proofs.hull_words.Tie as tie
-use Rattle.undrwyth.specs.Words.{CountedFits, countedWords}
 
 enum-known-c : tie.Need-enum-known-c
 enum-known-c c = search needs

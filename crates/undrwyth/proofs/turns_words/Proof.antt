@@ -1,15 +1,15 @@
 -- `undrwyth::turns_words` meets its contract.
 -- Assumes nothing.
-use Prim.Native.Nat.{_<_, _^_}
-use borrow.Author.Needs.{needs}
 use mathlib.Core.Path.{ap, sym, subst}
+use Prim.Native.Nat.{_<_, _^_}
 use native.Mathlib.Omega.{arith}
+use borrow.Author.Needs.{needs}
 use Rattle.answer.specs.Refusal.{judgedPlace}
 use Rattle.answer.specs.declared.Judged.{Judged}
+use Rattle.answer.specs.Words.{judgedWords}
 use Rattle.undrwyth.proofs.WordLaws.{refused-judged}
 use Rattle.undrwyth.proofs.turns_words.Statement.{statement}
 use Rattle.undrwyth.proofs.turns_words.Tie as tie
-use Rattle.undrwyth.specs.Words.{judgedWords}
 
 enum-told : tie.Need-enum-told
 enum-told c = search needs

@@ -1,12 +1,13 @@
 -- `undrwyth::walk_words` meets its contract.
 -- Assumes nothing.
-use borrow.Author.Needs.{needs}
 use mathlib.Core.Path.{ap, sym, subst, _∙_}
 use native.Mathlib.Omega.{arith}
+use borrow.Author.Needs.{needs}
+use Rattle.answer.specs.Words.{answerWords}
+use Rattle.undrwyth.specs.Words.{AnswerFits}
 use Rattle.undrwyth.proofs.WordLaws.{refused-answer}
 use Rattle.undrwyth.proofs.walk_words.Statement.{statement}
 use Rattle.undrwyth.proofs.walk_words.Tie as tie
-use Rattle.undrwyth.specs.Words.{AnswerFits, answerWords}
 
 enum-known-a : tie.Need-enum-known-a
 enum-known-a c = search needs

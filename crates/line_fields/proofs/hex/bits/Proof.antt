@@ -1,3 +1,5 @@
+-- `line_fields::hex::bits` meets its contract: a negative number is the greatest of 32 bits less what it lacks of -1.
+-- Assumes nothing.
 use native.Mathlib.Omega.{arith}
 use Rattle.line_fields.proofs.BitsLaws.{add-fits, sub-fits, cast-fits, cast-small, bits-below, cast-above, bits-above}
 use Rattle.line_fields.proofs.hex.bits.Statement.{statement}

@@ -1,3 +1,5 @@
+-- `line_fields::hex::letter` meets its contract.
+-- Assumes nothing.
 use borrow.Author.Tests.{lt-ltb, le-ltb}
 use borrow.Author.Needs.{needs}
 use Rattle.line_fields.proofs.hex.letter.Statement.{statement}

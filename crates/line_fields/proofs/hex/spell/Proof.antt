@@ -1,3 +1,5 @@
+-- `line_fields::hex::spell` meets its contract: with the last digits written, what is left to write gives the whole field.
+-- Assumes nothing.
 use mathlib.Core.Path.{_≡_}
 use Prim.Native.Nat.{_≤_}
 use native.Mathlib.Omega.{arith}
@@ -40,7 +42,8 @@ loop-again : tie.Need-loop-again Inv-loop μ-loop
 loop-again c =
     let l = c .before .before in
     let a = l .before .before .args in
-    (omega arith, simp length-set (l .loop .inv .1), spell-next (l .loop .left) (l .loop .rest) (a .at) (c .letter .result) (l .loop .out) _ (omega arith) (omega arith) (c .letter .ensures) (l .loop .inv .2))
+    let step = spell-next (l .loop .left) (l .loop .rest) (a .at) (c .letter .result) (l .loop .out) _ (omega arith) (omega arith) (c .letter .ensures) (l .loop .inv .2) in
+    (omega arith, simp length-set (l .loop .inv .1), step)
 
 add-result : tie.Need-add-result Inv-loop μ-loop
 add-result c = search needs

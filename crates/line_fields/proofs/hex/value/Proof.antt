@@ -1,3 +1,5 @@
+-- `line_fields::hex::value` meets its contract: a digit is at or above 48, and above 57 it is at or above 97.
+-- Assumes nothing.
 use native.Mathlib.Omega.{arith}
 use borrow.Author.Tests.{le-leb, lt-leb}
 use Rattle.line_frame.proofs.HexLaws.{isHex-range}

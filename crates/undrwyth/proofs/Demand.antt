@@ -1,0 +1,33 @@
+-- Each exported call has one answer and one state of every lent buffer.
+-- Assumes nothing.
+use mathlib.Core.List.{List}
+use mathlib.Core.Path.{_≡_, ap, sym, _∙_}
+use Prim.Native.Nat.{ℕ}
+use lib.IntN.{ℤ}
+use Rattle.answer.specs.Refusal.{judgedNumber}
+use Rattle.answer.specs.Words.{answerWords, answerNumber, countedWords, countedNumber, judgedWords}
+use Rattle.line_reply.specs.Reply.{LineIs}
+use Rattle.line_reply.proofs.ReplyLaws as replyLaws
+use Rattle.demands.proofs.Demand.{walkIs-one, hullCall-one, turns-one}
+use Rattle.undrwyth.specs.Boundary.{WalkGives, HullGives, TurnsGive}
+
+pub walkGives-one : {os t ms ch t₁ ms₁ ch₁ w₁ t₂ ms₂ ch₂ w₂ : List ℕ} {n₁ n₂ : ℕ} → WalkGives os t ms ch n₁ t₁ ms₁ ch₁ w₁ → WalkGives os t ms ch n₂ t₂ ms₂ ch₂ w₂
+    → (n₁ ≡ n₂) × (t₁ ≡ t₂) × (ms₁ ≡ ms₂) × (ch₁ ≡ ch₂) × (w₁ ≡ w₂)
+walkGives-one g h =
+    let e = walkIs-one (g .walked) (h .walked) in
+    (g .result ∙ ap answerNumber (e .0) ∙ sym (h .result), e .1, e .2, e .3, g .words-are ∙ ap answerWords (e .0) ∙ sym (h .words-are))
+
+pub hullGives-one : {chain : List ℕ} {before after₁ after₂ : List ℤ} {w₁ w₂ : List ℕ} {n₁ n₂ : ℕ} → HullGives chain before n₁ after₁ w₁ → HullGives chain before n₂ after₂ w₂
+    → (n₁ ≡ n₂) × (after₁ ≡ after₂) × (w₁ ≡ w₂)
+hullGives-one g h =
+    let e = hullCall-one (g .listed) (h .listed) in
+    (g .result ∙ ap countedNumber (e .0) ∙ sym (h .result), e .1, g .words-are ∙ ap countedWords (e .0) ∙ sym (h .words-are))
+
+pub turnsGive-one : (convert : List ℕ → List ℕ) {ds out out₁ out₂ w₁ w₂ : List ℕ} {n₁ n₂ : ℕ} → TurnsGive convert ds out n₁ out₁ w₁ → TurnsGive convert ds out n₂ out₂ w₂
+    → (n₁ ≡ n₂) × (out₁ ≡ out₂) × (w₁ ≡ w₂)
+turnsGive-one convert g h =
+    let e = turns-one convert (g .converted) (h .converted) in
+    (g .result ∙ ap judgedNumber (e .0) ∙ sym (h .result), e .1, g .words-are ∙ ap judgedWords (e .0) ∙ sym (h .words-are))
+
+pub lineIs-one : {s before after₁ after₂ : List ℕ} {n₁ n₂ : ℕ} → LineIs s before n₁ after₁ → LineIs s before n₂ after₂ → (n₁ ≡ n₂) × (after₁ ≡ after₂)
+lineIs-one = replyLaws.lineIs-one
