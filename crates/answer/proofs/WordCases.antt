@@ -3,7 +3,6 @@
 use mathlib.Core.List.{[], _∷_}
 use mathlib.Core.Path.{_≡_, refl}
 use lib.IntN.{pos, negsuc}
-use Rattle.grid.specs.declared.Corner.{Corner}
 use Rattle.answer.specs.declared.Answer.{Answer}
 use Rattle.answer.specs.declared.Counted.{Counted}
 use Rattle.answer.specs.declared.Judged.the-variants.{Good, Refused}

@@ -1,5 +1,5 @@
 -- Answers whose numbers fit 32 bits. Assumes nothing.
-use Rattle.lists.specs.Lists.{ℕ, _^_, _<_}
+use Rattle.lists.specs.Lists.{_^_, _<_}
 use Rattle.answer.specs.declared.{Answer.Answer, Counted.Counted}
 use Rattle.answer.specs.Refusal.{refusalPlace}
 
