@@ -73,6 +73,24 @@ static void hull_of_a_crossing(void) {
     CHECK(SAME(out, corners) && answer[UNDRWYTH_HULL_COUNT] == 6);
 }
 
+static void room_as_polygon(void) {
+    const uint8_t room[] = {0, 1, 2, 3}, back[] = {0, 2};
+    const uint8_t header[UNDRWYTH_POLYGON_HEADER_BYTES] = {1, 3, 0, 0, 0, 1, 0, 0, 0, 5};
+    const uint8_t start[UNDRWYTH_POINT_BYTES] = {0, 0, 0, 0, 0, 0xc0, 0x62, 0xc1, 0, 0, 0, 0, 0, 0xc0, 0x62, 0x41};
+    uint8_t out[94], kept[94];
+    uint32_t answer[UNDRWYTH_POLYGON_ANSWER_WORDS];
+    memset(out, 7, sizeof out);
+    memset(kept, 7, sizeof kept);
+    CHECK(undrwyth_polygon_of_room(0, 0, back, 2, out, 94, answer) == UNDRWYTH_REFUSAL_NOT_ROOM);
+    CHECK(undrwyth_polygon_of_room(0, -16385, room, 4, out, 94, answer) == UNDRWYTH_REFUSAL_START_RANGE);
+    CHECK(undrwyth_polygon_of_room(0, 0, room, 4, out, 92, answer) == UNDRWYTH_REFUSAL_POLYGON_ROOM);
+    CHECK(SAME(out, kept) && answer[UNDRWYTH_POLYGON_BYTES] == 0);
+    CHECK(undrwyth_polygon_of_room(-16384, 16384, room, 4, out, 94, answer) == UNDRWYTH_ACCEPTED);
+    CHECK(answer[UNDRWYTH_POLYGON_BYTES] == 93 && out[93] == 7);
+    CHECK(memcmp(out, header, sizeof header) == 0);
+    CHECK(memcmp(out + 13, start, sizeof start) == 0 && memcmp(out + 77, start, sizeof start) == 0);
+}
+
 static void turns_and_back(void) {
     const uint8_t word[] = {0, 0, 1, 0, 3, 0, 3, 3, 0, 0, 0, 1};
     uint8_t turns[LENGTH(steps)], back[LENGTH(steps)];
@@ -105,6 +123,7 @@ int main(void) {
     walk_of_a_room();
     walks_refused();
     hull_of_a_crossing();
+    room_as_polygon();
     turns_and_back();
     lines();
     return failures != 0;

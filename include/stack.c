@@ -13,7 +13,7 @@ static unsigned char stack[STACK_BYTES];
 static ucontext_t here, there;
 
 /* What the call takes. */
-static uint8_t digits[MOST], bytes[UNDRWYTH_LINE_BYTES];
+static uint8_t digits[MOST], bytes[UNDRWYTH_LINE_BYTES], file[UNDRWYTH_POINT_BYTES * MOST + 29];
 static size_t count, records;
 static uint32_t table[(4 * MOST + 1) * UNDRWYTH_RECORD_WORDS], marks[UNDRWYTH_MARK_WORDS * MOST];
 static int32_t numbers[UNDRWYTH_CORNER_NUMBERS * (MOST + 1)];
@@ -28,6 +28,8 @@ static void walk(void) {
 }
 
 static void hull(void) { undrwyth_hull(digits, count, numbers, sizeof numbers / sizeof numbers[0], answer); }
+
+static void polygon(void) { undrwyth_polygon_of_room(-7, 5, digits, count, file, sizeof file, answer); }
 
 static void turns(void) {
     undrwyth_turns_of_steps(digits, count, chain, count, answer);
@@ -62,7 +64,7 @@ static size_t used(void (*call)(void)) {
 }
 
 /* n digits of a kind: out along one axis and then along the other, so that a step crosses a border of the tree at every
- * level; a staircase; a spiral; steps at random, with and without take-backs. */
+ * level; a staircase; a spiral; steps at random, with and without take-backs; round a rectangle. */
 static void fill(int kind, size_t n) {
     unsigned long random = n + 1;
     size_t surviving = 0;
@@ -78,10 +80,11 @@ static void fill(int kind, size_t n) {
             if (--left == 0)
                 left = ++side / 2 + 1;
             break;
+        case 12: way = i / ((n + 3) / 4); break;
         default: break;
         }
         digits[i] = way % 4;
-        if (kind > 10 && surviving > 0 && (random >> 8) % 100 < 45)
+        if (kind == 11 && surviving > 0 && (random >> 8) % 100 < 45)
             digits[i] = 4;
         surviving += digits[i] == 4 ? -1 : 1;
     }
@@ -96,6 +99,7 @@ int main(void) {
     } calls[] = {
         {"undrwyth_walk", walk, UNDRWYTH_WALK_STACK_BYTES},
         {"undrwyth_hull", hull, UNDRWYTH_HULL_STACK_BYTES},
+        {"undrwyth_polygon_of_room", polygon, UNDRWYTH_POLYGON_STACK_BYTES},
         {"undrwyth_turns_of_steps, undrwyth_steps_of_turns", turns, UNDRWYTH_TURNS_STACK_BYTES},
         {"undrwyth_line", line, UNDRWYTH_LINE_STACK_BYTES},
     };
@@ -103,7 +107,7 @@ int main(void) {
     size_t most[sizeof calls / sizeof calls[0]] = {0};
     int failures = 0;
     for (size_t l = 0; l < sizeof lengths / sizeof lengths[0]; l++)
-        for (int kind = 0; kind < 12; kind++) {
+        for (int kind = 0; kind < 13; kind++) {
             fill(kind, lengths[l]);
             for (size_t c = 0; c < sizeof calls / sizeof calls[0]; c++)
                 for (records = 1; records <= 4 * MOST + 1; records += 4 * MOST) {

@@ -40,6 +40,7 @@ extern "C" {
 /* Limits. */
 #define UNDRWYTH_MOST_INPUT_BYTES 32768    /* operations, steps or turns in a call */
 #define UNDRWYTH_MOST_STEPS 16384          /* surviving steps, at any moment */
+#define UNDRWYTH_MOST_START 16384          /* magnitude of a start's coordinates */
 #define UNDRWYTH_MOST_RECORDS 131080       /* records in a table */
 #define UNDRWYTH_MOST_LINE_DIGITS 1024     /* operations or turns in a frame of the line program */
 #define UNDRWYTH_LINE_RECORDS 390          /* records of the table in which a frame is walked */
@@ -48,16 +49,19 @@ extern "C" {
 #define UNDRWYTH_RECORD_WORDS 21           /* table words a record */
 #define UNDRWYTH_MARK_WORDS 2              /* marks words an operation */
 #define UNDRWYTH_CORNER_NUMBERS 2          /* numbers a hull corner: x, y */
+#define UNDRWYTH_POLYGON_HEADER_BYTES 13   /* bytes of a polygon before its points */
+#define UNDRWYTH_POINT_BYTES 16            /* bytes of a point: x, y */
 #define UNDRWYTH_LINE_BYTES 8240           /* bytes of a buffer that holds the answer to any line */
 
 /* Bytes of stack that a call needs, rounded up from what include/stack.c measured on x86-64 and on 64-bit ARM. */
 #define UNDRWYTH_WALK_STACK_BYTES 2048     /* 1,648 measured */
 #define UNDRWYTH_HULL_STACK_BYTES 132096   /* 131,480 measured; 131,080 are its working store */
+#define UNDRWYTH_POLYGON_STACK_BYTES 132096 /* 131,080 are its working store */
 #define UNDRWYTH_TURNS_STACK_BYTES 256     /* 48 measured */
 #define UNDRWYTH_LINE_STACK_BYTES 184320   /* 183,992 measured: a table, marks, hull numbers, and the hull's store */
 
-/* Refusals, in the order in which they are looked for: 1, 2, 3; then 4, 5, 6 at the first faulty place; then 7, at its
- * first place; 8 last. */
+/* Refusals, in the order in which they are looked for: 1, 2, 3, 10; then 4, 5, 6 at the first faulty place; then 7, at
+ * its first place; then 12; 8 and 13 last. */
 #define UNDRWYTH_ACCEPTED 0
 #define UNDRWYTH_REFUSAL_TOO_MANY 1        /* more than UNDRWYTH_MOST_INPUT_BYTES input bytes */
 #define UNDRWYTH_REFUSAL_TABLE 2           /* words not UNDRWYTH_RECORD_WORDS times 1 to UNDRWYTH_MOST_RECORDS */
@@ -68,6 +72,9 @@ extern "C" {
 #define UNDRWYTH_REFUSAL_NO_ROOM 7         /* after this operation the nodes needed exceed the records. Has a place */
 #define UNDRWYTH_REFUSAL_HULL_ROOM 8       /* a buffer shorter than twice the hull corners */
 #define UNDRWYTH_REFUSAL_BAD_LINE 9        /* no frame; in answers of undrwyth_line alone */
+#define UNDRWYTH_REFUSAL_START_RANGE 10    /* a coordinate of the start beyond UNDRWYTH_MOST_START */
+#define UNDRWYTH_REFUSAL_NOT_ROOM 12       /* the walk is no room */
+#define UNDRWYTH_REFUSAL_POLYGON_ROOM 13   /* a buffer shorter than the polygon */
 
 /* Words of the answer to a walk. The first meeting is the j < k with pj = pk and the least k. */
 #define UNDRWYTH_WALK_ANSWER_WORDS 11
@@ -98,6 +105,12 @@ extern "C" {
 #define UNDRWYTH_HULL_NUMBER 0             /* the refusal's number */
 #define UNDRWYTH_HULL_PLACE 1              /* the refusal's place */
 #define UNDRWYTH_HULL_COUNT 2              /* how many hull corners */
+
+/* Words of the answer to a room that is written as a polygon. */
+#define UNDRWYTH_POLYGON_ANSWER_WORDS 3
+#define UNDRWYTH_POLYGON_NUMBER 0          /* the refusal's number */
+#define UNDRWYTH_POLYGON_PLACE 1           /* the refusal's place */
+#define UNDRWYTH_POLYGON_BYTES 2           /* how many bytes the polygon has */
 
 /* Words of the answer to a conversion between steps and turns. */
 #define UNDRWYTH_TURNS_ANSWER_WORDS 2
@@ -170,6 +183,22 @@ uint32_t undrwyth_walk(const uint8_t *ops, size_t n,
 uint32_t undrwyth_hull(const uint8_t *chain, size_t n,
                        int32_t *out, size_t out_numbers,
                        uint32_t answer[UNDRWYTH_HULL_ANSWER_WORDS]);
+
+/* Writes a room as a polygon of one ring, in Well-Known Binary of the OGC Simple Features standard, little-endian: byte
+ * order 1, type 3, ring count 1 and the point count, then x and y of each point as 64-bit floats.
+ *
+ * The room is the walk of the n steps in chain from the corner (start_x, start_y). Its points, in walking order, are the
+ * start, each later corner where the turn is not 0, and the start again. A coordinate is 600 times the corner's, in
+ * millimetres and exact; zero is plus zero.
+ *
+ * out_bytes is at least 13 + 16 for each point; any length is taken, 16 * n + 29 is always enough.
+ *
+ * Accepted: out begins with the polygon; the bytes after it are as they were.
+ * Refused with 1, 10, 4, 6, 12 or 13, in this order: out is as it was. */
+uint32_t undrwyth_polygon_of_room(int32_t start_x, int32_t start_y,
+                                  const uint8_t *chain, size_t n,
+                                  uint8_t *out, size_t out_bytes,
+                                  uint32_t answer[UNDRWYTH_POLYGON_ANSWER_WORDS]);
 
 /* Turns n steps into turns: the first is the first step, each later one that step minus the one before, modulo 4.
  *

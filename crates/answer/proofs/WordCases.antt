@@ -30,7 +30,7 @@ walk-accepted = refl
 its-number : answerNumber (Answer.Refused (BadDigit 7)) ≡ 4
 its-number = refl
 
-hull-accepted : countedWords (Counted.Corners 6) ≡ 0 ∷ 0 ∷ 6 ∷ []
+hull-accepted : countedWords (Counted.Many 6) ≡ 0 ∷ 0 ∷ 6 ∷ []
 hull-accepted = refl
 
 hull-refused : countedWords (Counted.Refused (BadDigit 7)) ≡ 4 ∷ 7 ∷ 0 ∷ []

@@ -1,5 +1,5 @@
 -- The limits of the calls (RULES 6.1, 6.3). Assumes nothing.
-use Rattle.lists.specs.Lists.{ℕ, _+_, _*_, _≤_, natAbs}
+use Rattle.lists.specs.Lists.{Bool, _&&_, ℕ, _+_, _*_, _≤_, leb, natAbs}
 use Rattle.grid.specs.declared.Corner.{Corner}
 
 -- input bytes at most
@@ -25,3 +25,7 @@ mostStart = 16384
 -- a corner at which a walk may start
 abbrev pub Near : Corner → Type 0
 Near c = (natAbs (c .0) ≤ mostStart) × (natAbs (c .1) ≤ mostStart)
+
+-- the same, as a test
+abbrev pub startFits : Corner → Bool
+startFits c = leb (natAbs (c .0)) mostStart && leb (natAbs (c .1)) mostStart

@@ -26,12 +26,12 @@ answerNumber (Answer.Refused r) = refusalNumber r
 
 -- number, place, count
 abbrev pub countedWords : Counted → List ℕ
-countedWords (Counted.Corners n) = 0 ∷ 0 ∷ n ∷ []
+countedWords (Counted.Many n) = 0 ∷ 0 ∷ n ∷ []
 countedWords (Counted.Refused r) = refusalNumber r ∷ refusalPlace r ∷ 0 ∷ []
 
--- the hull's, in the same way
+-- the refusal's number, in the same way
 abbrev pub countedNumber : Counted → ℕ
-countedNumber (Counted.Corners n) = 0
+countedNumber (Counted.Many n) = 0
 countedNumber (Counted.Refused r) = refusalNumber r
 
 -- number, place

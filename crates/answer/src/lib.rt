@@ -15,6 +15,9 @@ pub enum Refusal {
     NoRoom(usize),
     HullRoom,
     BadLine,
+    StartRange,
+    NotRoom,
+    PolygonRoom,
 }
 
 // Whether there is a refusal.
@@ -51,9 +54,9 @@ pub enum Answer {
     Refused(Refusal),
 }
 
-// The answer to a hull: how many corners it has.
+// The answer of a call that lists: how many corners or bytes there are.
 pub enum Counted {
-    Corners(usize),
+    Many(usize),
     Refused(Refusal),
 }
 
@@ -71,6 +74,9 @@ pub fn refusal_number(r: Refusal) -> usize
         Refusal::NoRoom(_) => 7,
         Refusal::HullRoom => 8,
         Refusal::BadLine => 9,
+        Refusal::StartRange => 10,
+        Refusal::NotRoom => 12,
+        Refusal::PolygonRoom => 13,
     }
 }
 
@@ -88,6 +94,9 @@ pub fn refusal_place(r: Refusal) -> usize
         Refusal::NoRoom(i) => i,
         Refusal::HullRoom => 0,
         Refusal::BadLine => 0,
+        Refusal::StartRange => 0,
+        Refusal::NotRoom => 0,
+        Refusal::PolygonRoom => 0,
     }
 }
 

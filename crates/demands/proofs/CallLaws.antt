@@ -42,9 +42,9 @@ module _ (s : Corner) (chain : List ℕ) (before : List ℤ) where
       by Good e = absurd (let z : _≡_ {A = ℕ} 0 1 = cc in omega arith)
       by (Refused r) e = refl
 
-  pub hull-written : {after : List ℤ} (n : ℕ) (p : HullCall s chain before (Counted.Corners n) after) → (n ≡ length (p .list)) × (after ≡ numbers (p .list) ++ drop (2 * length (p .list)) before)
+  pub hull-written : {after : List ℤ} (n : ℕ) (p : HullCall s chain before (Counted.Many n) after) → (n ≡ length (p .list)) × (after ≡ numbers (p .list) ++ drop (2 * length (p .list)) before)
   hull-written {after} n p = by (judged (p .list)) (p .answer) (p .buffer)
     where
-      by : (j : Judged) → Counted.Corners n ≡ countedOf j (length (p .list)) → after ≡ bufferOf j (p .list) before → (n ≡ length (p .list)) × (after ≡ numbers (p .list) ++ drop (2 * length (p .list)) before)
+      by : (j : Judged) → Counted.Many n ≡ countedOf j (length (p .list)) → after ≡ bufferOf j (p .list) before → (n ≡ length (p .list)) × (after ≡ numbers (p .list) ++ drop (2 * length (p .list)) before)
       by Good e b = (cc, b)
       by (Refused r) e b = absurd (let z : _≡_ {A = ℕ} 0 1 = cc in omega arith)

@@ -132,7 +132,7 @@ hullCall-one = hullCallLaws.hullCall-one
 pub hull-refused-exactly : {s : Corner} {chain : List ℕ} {before after : List ℤ} {r : Counted} (w : HullCall s chain before r after) (q : Refusal) → r ≡ Counted.Refused q ↔ GivenHull chain (length before) (length (w .list)) (Refused q)
 hull-refused-exactly = digitLaws.hull-refused-when
 
-pub hull-counted-exactly : {s : Corner} {chain : List ℕ} {before after : List ℤ} {r : Counted} (w : HullCall s chain before r after) → r ≡ Counted.Corners (length (w .list)) ↔ GivenHull chain (length before) (length (w .list)) Good
+pub hull-counted-exactly : {s : Corner} {chain : List ℕ} {before after : List ℤ} {r : Counted} (w : HullCall s chain before r after) → r ≡ Counted.Many (length (w .list)) ↔ GivenHull chain (length before) (length (w .list)) Good
 hull-counted-exactly = digitLaws.hull-counted-when
 
 pub hull-refused-words : {s : Corner} {chain : List ℕ} {before after : List ℤ} {r : Counted} (w : HullCall s chain before r after) (q : Refusal) → GivenHull chain (length before) (length (w .list)) (Refused q)
@@ -312,7 +312,7 @@ pub hull-extreme : (P L : List Corner) → HullIs P L → (q : Corner) → List�
 hull-extreme P L h = h .corners
 
 -- an accepted call answers how many they are and leaves x and y of each; the numbers after the list are unchanged
-pub hull-written : (s : Corner) (chain : List ℕ) (before : List ℤ) {after : List ℤ} (n : ℕ) (w : HullCall s chain before (Counted.Corners n) after)
+pub hull-written : (s : Corner) (chain : List ℕ) (before : List ℤ) {after : List ℤ} (n : ℕ) (w : HullCall s chain before (Counted.Many n) after)
     → (n ≡ length (w .list)) × (after ≡ numbers (w .list) ++ drop (2 * length (w .list)) before)
 hull-written = callLaws.hull-written
 

@@ -34,11 +34,11 @@ module _ (at : ℕ → ℕ → Judged) (from : ℕ → List ℕ → Judged) (non
   skipped : (b d : ℕ) (ds : List ℕ) → at b d ≡ Good → from b (d ∷ ds) ≡ from (suc b) ds
   skipped b d ds e = next b d ds ∙ ap (λ (j : Judged). orElse j (from (suc b) ds)) e
 
-  none-from : (b : ℕ) (ds : List ℕ) → ((i p : ℕ) → i < length ds → p ≡ b + i → at p (getD ds i 0) ≡ Good) → from b ds ≡ Good
+  pub none-from : (b : ℕ) (ds : List ℕ) → ((i p : ℕ) → i < length ds → p ≡ b + i → at p (getD ds i 0) ≡ Good) → from b ds ≡ Good
   none-from b [] f = none b
   none-from b (d ∷ ds) f = skipped b d ds (f 0 b (omega arith) (omega arith)) ∙ none-from (suc b) ds (λ i p h e. f (suc i) p (omega arith) (omega arith))
 
-  first-from : (b : ℕ) (ds : List ℕ) (i p : ℕ) (r : Refusal) → i < length ds → ((h q : ℕ) → h < i → q ≡ b + h → at q (getD ds h 0) ≡ Good) → p ≡ b + i → at p (getD ds i 0) ≡ Refused r → from b ds ≡ Refused r
+  pub first-from : (b : ℕ) (ds : List ℕ) (i p : ℕ) (r : Refusal) → i < length ds → ((h q : ℕ) → h < i → q ≡ b + h → at q (getD ds h 0) ≡ Good) → p ≡ b + i → at p (getD ds i 0) ≡ Refused r → from b ds ≡ Refused r
   first-from b [] i p r h f q e = absurd (omega arith)
   first-from b (d ∷ ds) zero p r h f q e =
       let g : p ≡ b = omega arith in
@@ -91,17 +91,17 @@ turns-when {ds = ds} {out = out} {r = r} w j =
 
 -- ---- hulls
 module _ (chain : List ℕ) (room corners : ℕ) where
-  step-none : (p d : ℕ) → d < 4 → p < mostSteps → faultAt p d ≡ Good
+  pub step-none : (p d : ℕ) → d < 4 → p < mostSteps → faultAt p d ≡ Good
   step-none p d h k = rw (le-ltb 3 d (omega arith), ne-eqb p mostSteps (λ e. omega arith))
 
-  step-above : (p d : ℕ) → 3 < d → faultAt p d ≡ Refused (BadDigit p)
+  pub step-above : (p d : ℕ) → 3 < d → faultAt p d ≡ Refused (BadDigit p)
   step-above p d h = rw (lt-ltb 3 d h)
 
-  step-long : (p d : ℕ) → d < 4 → p ≡ mostSteps → faultAt p d ≡ Refused (TooLong p)
+  pub step-long : (p d : ℕ) → d < 4 → p ≡ mostSteps → faultAt p d ≡ Refused (TooLong p)
   step-long p d h e = rw (le-ltb 3 d (omega arith), eq-eqb p mostSteps e)
 
   -- the first step too many is that at place 16,384
-  at-most : (i : ℕ) → ((h : ℕ) → h < i → StepAt chain h) → mostSteps ≤ i → i ≡ mostSteps
+  pub at-most : (i : ℕ) → ((h : ℕ) → h < i → StepAt chain h) → mostSteps ≤ i → i ≡ mostSteps
   at-most i f h = elim (ℕ-discrete i mostSteps) [ yes e ↦ e | no g ↦ absurd (omega (arith, f mostSteps (omega arith) .1)) ]
 
   hull-fault : (bad : ℕ → Type 0) (i : ℕ) (r : Refusal) → length chain ≤ mostInput → First (length chain) (StepAt chain) bad i → faultAt i (getD chain i 0) ≡ Refused r → hullJudged chain room corners ≡ Refused r
@@ -121,7 +121,7 @@ module _ (chain : List ℕ) (room corners : ℕ) where
   given-hull _ (hull.hullRoom h f k) = hull-faultless h f ∙ hulls.room-short room corners k
   given-hull _ (hull.accepted h f k) = hull-faultless h f ∙ hulls.room-enough room corners k
 
-  step-or-fault : (i : ℕ) → StepAt chain i ⊎ (AboveThreeAt chain i ⊎ StepTooManyAt chain i)
+  pub step-or-fault : (i : ℕ) → StepAt chain i ⊎ (AboveThreeAt chain i ⊎ StepTooManyAt chain i)
   step-or-fault i =
       ⊎-elim
       (λ h. elim (decLt i mostSteps) [ yes k ↦ inl (h, k) | no k ↦ inr (inr (h, omega arith)) ])
@@ -151,11 +151,11 @@ module _ (chain : List ℕ) (room corners : ℕ) where
   hull-given : GivenHull chain room corners (hullJudged chain room corners)
   hull-given = let x = some-hull in subst (GivenHull chain room corners) (sym (given-hull (x .0) (x .1))) (x .1)
 
-count-refused : (j : Judged) (n : ℕ) (q : Refusal) → Counted.Refused q ≡ countedOf j n → j ≡ Refused q
+pub count-refused : (j : Judged) (n : ℕ) (q : Refusal) → Counted.Refused q ≡ countedOf j n → j ≡ Refused q
 count-refused Good n q e = absurd (let z : _≡_ {A = ℕ} 0 1 = cc in omega arith)
 count-refused (Refused r) n q e = cc
 
-count-good : (j : Judged) (n : ℕ) → Counted.Corners n ≡ countedOf j n → j ≡ Good
+pub count-good : (j : Judged) (n : ℕ) → Counted.Many n ≡ countedOf j n → j ≡ Good
 count-good Good n e = refl
 count-good (Refused r) n e = absurd (let z : _≡_ {A = ℕ} 0 1 = cc in omega arith)
 
@@ -169,7 +169,7 @@ module _ {s : Corner} {chain : List ℕ} {before after : List ℤ} {r : Counted}
     λ g. w .answer ∙ ap (λ (j : Judged). countedOf j n) (given-hull chain (length before) n (Refused q) g),
   )
 
-  pub hull-counted-when : r ≡ Counted.Corners (length (w .list)) ↔ GivenHull chain (length before) (length (w .list)) Good
+  pub hull-counted-when : r ≡ Counted.Many (length (w .list)) ↔ GivenHull chain (length before) (length (w .list)) Good
   hull-counted-when = (
     λ e. subst (GivenHull chain (length before) n) (count-good (hullJudged chain (length before) n) n (sym e ∙ w .answer)) (hull-given chain (length before) n),
     λ g. w .answer ∙ ap (λ (j : Judged). countedOf j n) (given-hull chain (length before) n Good g),

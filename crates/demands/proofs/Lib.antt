@@ -8,5 +8,7 @@ pub mod AcceptedLaws
 pub mod AloneLaws
 pub mod CallLaws
 pub mod DigitLaws
+pub mod RoomCallLaws
 pub mod Area
+pub mod Polygon
 pub mod Demand

@@ -73,7 +73,7 @@ room-of-two-numbers : hullJudged [] 2 1 ≡ judged.Good
 room-of-two-numbers = refl
 
 -- how many there are, and no refusal
-count-of-six : countedOf judged.Good 6 ≡ Counted.Corners 6
+count-of-six : countedOf judged.Good 6 ≡ Counted.Many 6
 count-of-six = refl
 
 -- numbers after the list stay

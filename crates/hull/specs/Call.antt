@@ -24,7 +24,7 @@ hullJudged chain room corners = firstOf (when (ltb mostInput (length chain)) Too
 
 -- how many corners there are, unless there is a refusal
 abbrev pub countedOf : Judged → ℕ → Counted
-countedOf Good n = Counted.Corners n
+countedOf Good n = Counted.Many n
 countedOf (Refused r) n = Counted.Refused r
 
 -- x and y of each corner

@@ -49,7 +49,7 @@ pub enum Extent {
 }
 
 // The column after step d.
-fn column(x: usize, d: u8) -> usize
+pub fn column(x: usize, d: u8) -> usize
     requires { ⌜ (0 < x) × (x ≤ top) ⌝ }
     ensures { λ r. ⌜ r ≡ colAfter x d ⌝ }
 {
@@ -57,7 +57,7 @@ fn column(x: usize, d: u8) -> usize
 }
 
 // The height after step d.
-fn height(y: u16, d: u8) -> u16
+pub fn height(y: u16, d: u8) -> u16
     requires { ⌜ (0 < y) × (y ≤ top) ⌝ }
     ensures { λ r. ⌜ r ≡ rowAfter y d ⌝ }
 {
@@ -122,7 +122,7 @@ fn fault(chain: &[u8]) -> Judged
 }
 
 // The same, in one pass without a test where there is none.
-fn judge(chain: &[u8]) -> Judged
+pub fn judge(chain: &[u8]) -> Judged
     ensures { λ r. ⌜ r ≡ chainJudged 0 (now (chain .entry)) ⌝ }
 {
     if chain.len() > Columns::MOST_STEPS {

@@ -93,9 +93,9 @@ module _ {w e : ℕ} {lo hi s t : List ℕ} {a b : ℕ} (h : TwoChains w e lo hi
         short : roomJudged (length before) (length (outlineOf (c .0 -ℤ pos middle) (c .1 -ℤ pos middle) w e top lo hi)) ≡ judged.Refused HullRoom
         short = room-short (length before) (length (outlineOf (c .0 -ℤ pos middle) (c .1 -ℤ pos middle) w e top lo hi)) (omega (arith, count))
 
-    pub listed-enough : (before after : List ℤ) → 2 * ((length s - a) + (g - f)) ≤ length before → after ≡ sets before 0 (numbers (joined c w e lo hi s t a f g)) → ListGiven (outlineOf (c .0 -ℤ pos middle) (c .1 -ℤ pos middle) w e top lo hi) before (Counted.Corners ((length s - a) + (g - f))) after
+    pub listed-enough : (before after : List ℤ) → 2 * ((length s - a) + (g - f)) ≤ length before → after ≡ sets before 0 (numbers (joined c w e lo hi s t a f g)) → ListGiven (outlineOf (c .0 -ℤ pos middle) (c .1 -ℤ pos middle) w e top lo hi) before (Counted.Many ((length s - a) + (g - f))) after
     listed-enough before after k z = record {
-      answer = ap Counted.Corners (sym count) ∙ sym (ap (λ (j : Judged). countedOf j (length (outlineOf (c .0 -ℤ pos middle) (c .1 -ℤ pos middle) w e top lo hi))) enough);
+      answer = ap Counted.Many (sym count) ∙ sym (ap (λ (j : Judged). countedOf j (length (outlineOf (c .0 -ℤ pos middle) (c .1 -ℤ pos middle) w e top lo hi))) enough);
       buffer = z ∙ ap (λ (l : List Corner). sets before 0 (numbers l)) is ∙ written (outlineOf (c .0 -ℤ pos middle) (c .1 -ℤ pos middle) w e top lo hi) before (omega (arith, count)) ∙ sym (ap (λ (j : Judged). bufferOf j (outlineOf (c .0 -ℤ pos middle) (c .1 -ℤ pos middle) w e top lo hi) before) enough);
     }
       where
@@ -129,7 +129,7 @@ module _ (c : Corner) (w e : ℕ) where
   pub ends-enough : (base : Corner) (before one after : List ℤ) → base ≡ spot (c .0 -ℤ pos middle) (c .1 -ℤ pos middle) (0, 0) → 4 ≤ length before
       → one ≡ set (set before 0 (spotBy base (pos 1) (w, middle) .0)) 1 (spotBy base (pos 1) (w, middle) .1)
       → after ≡ set (set one 2 (spotBy base (pos 1) (e, middle) .0)) 3 (spotBy base (pos 1) (e, middle) .1)
-      → ListGiven (twoAt c w e) before (Counted.Corners 2) after
+      → ListGiven (twoAt c w e) before (Counted.Many 2) after
   ends-enough base before one after r k p q = record {
     answer = sym (ap (λ (j : Judged). countedOf j 2) enough);
     buffer =

@@ -147,7 +147,7 @@ pub fn finish(
         return Counted::Refused(Refusal::HullRoom);
     }
     write(start, west, east, lo, hi, s, a, t, f, g, out);
-    Counted::Corners(count)
+    Counted::Many(count)
 }
 
 // Writes the corners at the start's height in these two columns if there is room, and answers that there are two.
@@ -161,5 +161,5 @@ pub fn ends(start: Corner, west: usize, east: usize, out: &mut [i32]) -> Counted
     let base = placed(start, 0, 0);
     put_corner(out, 0, base, 1, west as u16, Columns::LEVEL);
     put_corner(out, 2, base, 1, east as u16, Columns::LEVEL);
-    Counted::Corners(2)
+    Counted::Many(2)
 }

@@ -48,10 +48,10 @@ module _ {w : List ℕ} {before after : List ℤ} {r : Counted} (h : HullCall or
   good : hullJudged w (length before) (length (h .list)) ≡ judged.Good
   good = hull-good w (length before) (length (h .list)) b m fits
 
-  count : r ≡ counted.Corners (length (h .list))
+  count : r ≡ counted.Many (length (h .list))
   count = h .answer ∙ ap (λ (j : Judged). countedOf j (length (h .list))) good
 
-  pub hull-listed : (n : ℕ) → r ≡ counted.Corners n → Listed (hullOf origin w) n after
+  pub hull-listed : (n : ℕ) → r ≡ counted.Many n → Listed (hullOf origin w) n after
   hull-listed n e =
       let k : n ≡ length (h .list) = cc count in
       record {

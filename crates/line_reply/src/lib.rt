@@ -59,7 +59,7 @@ fn list_hull(steps: &[u8], hull: &mut [i32]) -> usize
     ensures { λ n. ⌜ Listed (hullOf origin (now (steps .entry))) n (now (hull .exit)) ⌝ }
 {
     match hull_scan::list(steps, hull) {
-        Counted::Corners(n) => n,
+        Counted::Many(n) => n,
         Counted::Refused(_) => 0,
     }
 }

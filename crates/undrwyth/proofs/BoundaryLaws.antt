@@ -13,13 +13,18 @@ use Rattle.answer.specs.declared.Answer.{Answer}
 use Rattle.answer.specs.declared.Counted.{Counted}
 use Rattle.answer.specs.declared.Judged.{Judged}
 use Rattle.answer.specs.declared.Judged.the-variants.{Good, Refused}
-use Rattle.answer.specs.declared.Refusal.the-variants.{TooMany, ResultRoom, BadDigit, TooLong, HullRoom}
+use Rattle.answer.specs.declared.Refusal.the-variants.{TooMany, ResultRoom, BadDigit, TooLong, HullRoom, StartRange, NotRoom, PolygonRoom}
+use Rattle.answer.specs.Limits.{startFits}
 use Rattle.answer.specs.Refusal.{when, orElse, judgedPlace}
 use Rattle.walk_call.specs.Walk.{walkJudged, factsOf, answerBy, WalkIs}
+use Rattle.grid.specs.declared.Corner.{Corner}
 use Rattle.grid.specs.Grid.{origin}
 use Rattle.hull.specs.Call.{chainJudged, roomJudged, hullJudged, countedOf, HullCall}
 use Rattle.steps.specs.Operations.{survivors}
 use Rattle.steps.specs.Turns.{digitsJudged, turnsJudged}
+use Rattle.room.specs.Room.{isRoom, asRoomJudged}
+use Rattle.polygon.specs.Polygon.{polygonOf, polygonJudged, PolygonCall}
+use Rattle.polygon_laws.proofs.WriteLaws.{polygon-few}
 use Rattle.answer.proofs.RefusalLaws.{refused-not-good}
 use Rattle.walk_call.proofs.SmallLaws.{Placed, placed-when, placed-or, walk-placed, walk-few}
 use Rattle.hull_laws.proofs.HullLaws.{hull-count-steps}
@@ -87,3 +92,24 @@ counted-fits chain before r after h = subst CountedFits (sym (h .answer)) (go (h
     go : (j : Judged) → hullJudged chain (length before) (length (h .list)) ≡ j → CountedFits (countedOf (hullJudged chain (length before) (length (h .list))) (length (h .list)))
     go Good e = rw e (omega (arith, hull-count-steps origin chain (h .list) (h .hull), hull-short chain (length before) (length (h .list)) e))
     go (Refused x) e = rw e (omega (arith, subst (Placed 32768) e (hull-placed chain (length before) (length (h .list)))))
+
+room-placed : (s : Corner) (ds : List ℕ) → Placed 32768 (asRoomJudged s ds)
+room-placed s ds =
+    let a = when (not (startFits s)) StartRange in
+    let f = chainJudged 0 ds in
+    let r = when (not (isRoom s ds)) NotRoom in
+    placed-after (length ds) (orElse a (orElse f (orElse r Good))) (λ h.
+    placed-or 32768 a (orElse f (orElse r Good)) (placed-when 32768 (not (startFits s)) StartRange (omega arith))
+    (placed-or 32768 f (orElse r Good) (placed-hull 0 ds 32768 (omega arith)) (placed-or 32768 r Good (placed-when 32768 (not (isRoom s ds)) NotRoom (omega arith)) tt)))
+
+polygon-placed : (s : Corner) (ds : List ℕ) (room : ℕ) → Placed 32768 (polygonJudged s ds room)
+polygon-placed s ds room =
+    let p = ltb room (length (polygonOf s ds)) in
+    placed-or 32768 (asRoomJudged s ds) (orElse (when p PolygonRoom) Good) (room-placed s ds) (placed-or 32768 (when p PolygonRoom) Good (placed-when 32768 p PolygonRoom (omega arith)) tt)
+
+pub polygon-fits : (s : Corner) (ds before : List ℕ) (r : Counted) (after : List ℕ) → PolygonCall s ds before r after → CountedFits r
+polygon-fits s ds before r after w = subst CountedFits (sym (w .answer)) (go (polygonJudged s ds (length before)) refl)
+  where
+    go : (j : Judged) → polygonJudged s ds (length before) ≡ j → CountedFits (countedOf (polygonJudged s ds (length before)) (length (polygonOf s ds)))
+    go Good e = let k = polygon-few s ds (length before) e in rw e (omega (arith, k .0, k .1))
+    go (Refused x) e = rw e (omega (arith, subst (Placed 32768) e (polygon-placed s ds (length before))))

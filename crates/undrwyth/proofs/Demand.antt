@@ -6,10 +6,12 @@ use Prim.Native.Nat.{ℕ}
 use lib.IntN.{ℤ}
 use Rattle.answer.specs.Refusal.{judgedNumber}
 use Rattle.answer.specs.Words.{answerWords, answerNumber, countedWords, countedNumber, judgedWords}
+use Rattle.grid.specs.declared.Corner.{Corner}
 use Rattle.line_reply.specs.Reply.{LineIs}
 use Rattle.line_reply.proofs.ReplyLaws as replyLaws
 use Rattle.demands.proofs.Demand.{walkIs-one, hullCall-one, turns-one}
-use Rattle.undrwyth.specs.Boundary.{WalkGives, HullGives, TurnsGive}
+use Rattle.demands.proofs.Polygon.{polygonCall-one}
+use Rattle.undrwyth.specs.Boundary.{WalkGives, HullGives, TurnsGive, PolygonGives}
 
 pub walkGives-one : {os t ms ch t₁ ms₁ ch₁ w₁ t₂ ms₂ ch₂ w₂ : List ℕ} {n₁ n₂ : ℕ} → WalkGives os t ms ch n₁ t₁ ms₁ ch₁ w₁ → WalkGives os t ms ch n₂ t₂ ms₂ ch₂ w₂
     → (n₁ ≡ n₂) × (t₁ ≡ t₂) × (ms₁ ≡ ms₂) × (ch₁ ≡ ch₂) × (w₁ ≡ w₂)
@@ -21,6 +23,12 @@ pub hullGives-one : {chain : List ℕ} {before after₁ after₂ : List ℤ} {w�
     → (n₁ ≡ n₂) × (after₁ ≡ after₂) × (w₁ ≡ w₂)
 hullGives-one g h =
     let e = hullCall-one (g .listed) (h .listed) in
+    (g .result ∙ ap countedNumber (e .0) ∙ sym (h .result), e .1, g .words-are ∙ ap countedWords (e .0) ∙ sym (h .words-are))
+
+pub polygonGives-one : {s : Corner} {chain before after₁ after₂ w₁ w₂ : List ℕ} {n₁ n₂ : ℕ} → PolygonGives s chain before n₁ after₁ w₁ → PolygonGives s chain before n₂ after₂ w₂
+    → (n₁ ≡ n₂) × (after₁ ≡ after₂) × (w₁ ≡ w₂)
+polygonGives-one g h =
+    let e = polygonCall-one (g .written) (h .written) in
     (g .result ∙ ap countedNumber (e .0) ∙ sym (h .result), e .1, g .words-are ∙ ap countedWords (e .0) ∙ sym (h .words-are))
 
 pub turnsGive-one : (convert : List ℕ → List ℕ) {ds out out₁ out₂ w₁ w₂ : List ℕ} {n₁ n₂ : ℕ} → TurnsGive convert ds out n₁ out₁ w₁ → TurnsGive convert ds out n₂ out₂ w₂

@@ -32,7 +32,7 @@ answer-first (Answer.Accepted f) w e = ap (λ (l : List ℕ). getD l 0 0) e
 answer-first (Answer.Refused r) w e = ap (λ (l : List ℕ). getD l 0 0) e
 
 pub counted-first : (c : Counted) (w : List ℕ) → w ≡ countedWords c → getD w 0 0 ≡ countedNumber c
-counted-first (Counted.Corners n) w e = ap (λ (l : List ℕ). getD l 0 0) e
+counted-first (Counted.Many n) w e = ap (λ (l : List ℕ). getD l 0 0) e
 counted-first (Counted.Refused r) w e = ap (λ (l : List ℕ). getD l 0 0) e
 
 -- ---- the words of an accepted walk

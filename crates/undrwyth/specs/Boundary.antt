@@ -9,9 +9,11 @@ use Rattle.answer.specs.declared.Counted.{Counted}
 use Rattle.answer.specs.declared.Judged.{Judged}
 use Rattle.answer.specs.Refusal.{judgedNumber}
 use Rattle.walk_call.specs.Walk.{WalkIs}
+use Rattle.grid.specs.declared.Corner.{Corner}
 use Rattle.grid.specs.Grid.{origin}
 use Rattle.hull.specs.Call.{HullCall}
 use Rattle.steps.specs.Turns.{ConvertedBy}
+use Rattle.polygon.specs.Polygon.{PolygonCall}
 use Rattle.answer.specs.Words.{answerWords, answerNumber, countedWords, countedNumber, judgedWords}
 
 -- the walk's promise, with its answer as numbers
@@ -25,6 +27,13 @@ pub record WalkGives (os t ms ch : List ℕ) (n : ℕ) (t′ ms′ ch′ words :
 pub record HullGives (chain : List ℕ) (before : List ℤ) (n : ℕ) (after : List ℤ) (words : List ℕ) : Type 0 where
   pub answer : Counted
   pub listed : HullCall origin chain before answer after
+  pub words-are : words ≡ countedWords answer
+  pub result : n ≡ countedNumber answer
+
+-- that of a room that is written as a polygon
+pub record PolygonGives (s : Corner) (chain before : List ℕ) (n : ℕ) (after words : List ℕ) : Type 0 where
+  pub answer : Counted
+  pub written : PolygonCall s chain before answer after
   pub words-are : words ≡ countedWords answer
   pub result : n ≡ countedNumber answer
 

@@ -3,6 +3,7 @@ use answer::Answer;
 use answer::Counted;
 use answer::Facts;
 use answer::Judged;
+use grid::Corner;
 use line_fields::hex::bits;
 use turns::Way;
 ghost use mathlib.Core.Path.{_≡_};
@@ -12,8 +13,9 @@ ghost use Rattle.answer.specs.Words.{factsWords, answerWords, countedWords, jud
 ghost use Rattle.turns.specs.Way.{convertOf};
 ghost use Rattle.undrwyth.specs.Words.{AnswerFits, CountedFits};
 ghost use Rattle.line_reply.specs.Reply.{LineIs};
+ghost use Rattle.grid.specs.Grid.{corner};
 ghost use Rattle.steps.specs.Turns.{turnsOf, stepsOf};
-ghost use Rattle.undrwyth.specs.Boundary.{WalkGives, HullGives, TurnsGive};
+ghost use Rattle.undrwyth.specs.Boundary.{WalkGives, HullGives, TurnsGive, PolygonGives};
 
 // The numbers of an accepted walk.
 fn facts_words(f: Facts) -> [u32; 11]
@@ -56,13 +58,13 @@ fn walk_words(a: Answer) -> [u32; 11]
     }
 }
 
-// The numbers of a hull's answer.
-fn hull_words(c: Counted) -> [u32; 3]
+// The numbers of the answer of a call that lists.
+fn counted_words(c: Counted) -> [u32; 3]
     requires { ⌜ CountedFits c ⌝ }
     ensures { λ w. ⌜ w ≡ countedWords c ⌝ }
 {
     match c {
-        Counted::Corners(n) => [0, 0, n as u32],
+        Counted::Many(n) => [0, 0, n as u32],
         Counted::Refused(r) => {
             let number = answer::refusal_number(r) as u32;
             let place = answer::refusal_place(r) as u32;
@@ -109,7 +111,24 @@ pub extern "C" fn undrwyth_hull(chain: &[u8], out: &mut [i32], answer: &mut [u32
     ensures { λ n. ⌜ HullGives (now (chain .entry)) (now (out .entry)) n (now (out .exit)) (now (answer .exit)) ⌝ }
 {
     let c = hull_scan::list(chain, out);
-    let words = hull_words(c);
+    let words = counted_words(c);
+    *answer = words;
+    words[0]
+}
+
+// Writes a room as a polygon.
+#[no_mangle]
+pub extern "C" fn undrwyth_polygon_of_room(
+    start_x: i32,
+    start_y: i32,
+    chain: &[u8],
+    out: &mut [u8],
+    answer: &mut [u32; 3],
+) -> u32
+    ensures { λ n. ⌜ PolygonGives (corner «start_x» «start_y») (now (chain .entry)) (now (out .entry)) n (now (out .exit)) (now (answer .exit)) ⌝ }
+{
+    let c = polygon_out::write(Corner(start_x, start_y), chain, out);
+    let words = counted_words(c);
     *answer = words;
     words[0]
 }

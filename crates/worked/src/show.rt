@@ -96,7 +96,7 @@ pub(crate) fn answer(a: Answer) {
 
 pub(crate) fn counted(c: Counted) {
     match c {
-        Counted::Corners(n) => number(n as u64),
+        Counted::Many(n) => number(n as u64),
         Counted::Refused(r) => refusal(r),
     }
 }

@@ -4,6 +4,8 @@
 pub const MOST_INPUT: usize = 32_768;
 /// Surviving steps at most, at any moment.
 pub const MOST_STEPS: usize = 16_384;
+/// How far from 0 a coordinate of a start may be.
+pub const MOST_START: i32 = 16_384;
 /// Words in a record.
 pub const RECORD_WORDS: usize = 21;
 /// Records in a table at most.
@@ -21,6 +23,8 @@ pub const LINE_BYTES: usize = 8_240;
 pub const WALK_ANSWER_WORDS: usize = 11;
 /// Words of the answer to a hull: number, place, count.
 pub const HULL_ANSWER_WORDS: usize = 3;
+/// Words of the answer to a room that is written as a polygon: number, place, bytes.
+pub const POLYGON_ANSWER_WORDS: usize = 3;
 /// Words of the answer to a conversion between steps and turns: number, place.
 pub const TURNS_ANSWER_WORDS: usize = 2;
 
@@ -63,6 +67,12 @@ pub enum Refusal {
     HullRoom,
     /// No frame of the line program.
     BadLine,
+    /// A coordinate of the start is farther than [`MOST_START`] from 0.
+    StartRange,
+    /// The walk is no room.
+    NotRoom,
+    /// The buffer is shorter than the polygon.
+    PolygonRoom,
 }
 
 impl Refusal {
@@ -78,11 +88,14 @@ impl Refusal {
             7 => Refusal::NoRoom(place),
             8 => Refusal::HullRoom,
             9 => Refusal::BadLine,
+            10 => Refusal::StartRange,
+            12 => Refusal::NotRoom,
+            13 => Refusal::PolygonRoom,
             _ => return None,
         })
     }
 
-    /// The number, 1 to 9.
+    /// The number, 1 to 13.
     pub fn number(self) -> u32 {
         match self {
             Refusal::TooMany => 1,
@@ -94,6 +107,9 @@ impl Refusal {
             Refusal::NoRoom(_) => 7,
             Refusal::HullRoom => 8,
             Refusal::BadLine => 9,
+            Refusal::StartRange => 10,
+            Refusal::NotRoom => 12,
+            Refusal::PolygonRoom => 13,
         }
     }
 

@@ -74,6 +74,20 @@ pub fn hull(
     })
 }
 
+/// Each room as a polygon, in a buffer that is always large enough.
+pub fn polygon(
+    polygon: impl Fn((i32, i32), &[u8], &mut [u8]) -> Result<usize, Refusal> + 'static,
+    inputs: &[Vec<u8>],
+) -> Call<'_> {
+    let mut out = vec![0; 16 * inputs[0].len() + 29];
+    Box::new(move || {
+        for chain in inputs {
+            let answer = polygon((-7, 5), black_box(chain), &mut out);
+            black_box(answer.expect("it is a room"));
+        }
+    })
+}
+
 /// Each conversion between steps and turns.
 pub fn convert(
     convert: impl Fn(&[u8], &mut [u8]) -> Result<(), Refusal> + 'static,

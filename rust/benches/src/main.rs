@@ -4,7 +4,7 @@ mod calls;
 mod programs;
 mod race;
 
-use calls::{convert, count_visits, hull, walk};
+use calls::{convert, count_visits, hull, polygon, walk};
 use compare::inputs::{self, Random};
 use race::race;
 
@@ -43,6 +43,8 @@ fn main() {
     walks();
     println!("\nhull, ns a step");
     hulls();
+    println!("\nrooms as polygons, ns a step");
+    polygons();
     println!("\nturns, ns a digit");
     turns();
     println!("\nline program, MB/s of input");
@@ -82,6 +84,27 @@ fn hulls() {
     }
 }
 
+/// The walks of n steps that are rooms.
+fn rooms(n: usize) -> impl Iterator<Item = (&'static str, Vec<Vec<u8>>)> {
+    let closed = |shape: &str| shape.starts_with("closed") || shape == "room";
+    chains(n)
+        .into_iter()
+        .filter(move |(shape, _)| closed(shape))
+}
+
+fn polygons() {
+    for n in SIZES {
+        for (shape, inputs) in rooms(n) {
+            race(vec![
+                ("proved", polygon(undrwyth::polygon_of_room, &inputs)),
+                ("twin", polygon(twin::polygon_of_room, &inputs)),
+                ("set", polygon(plain::polygon_of_room, &inputs)),
+            ])
+            .print(&format!("polygon/{shape}/{n}"), ns);
+        }
+    }
+}
+
 fn turns() {
     for n in SIZES {
         let inputs = several(n, |random| inputs::wander(n, random));
@@ -110,5 +133,12 @@ fn growth() {
             ("8192", hull(undrwyth::hull, &short)),
         ])
         .print(&format!("growth-hull/{shape}"), ns);
+    }
+    for ((shape, long), (_, short)) in rooms(16_384).zip(rooms(8_192)) {
+        race(vec![
+            ("16384", polygon(undrwyth::polygon_of_room, &long)),
+            ("8192", polygon(undrwyth::polygon_of_room, &short)),
+        ])
+        .print(&format!("growth-polygon/{shape}"), ns);
     }
 }

@@ -3,7 +3,7 @@
 use std::fmt::Debug;
 use std::sync::atomic::{AtomicU64, Ordering};
 
-use answer::{HULL_ANSWER_WORDS, TURNS_ANSWER_WORDS, WALK_ANSWER_WORDS};
+use answer::{HULL_ANSWER_WORDS, POLYGON_ANSWER_WORDS, TURNS_ANSWER_WORDS, WALK_ANSWER_WORDS};
 
 use crate::{Convert, Library, PLAIN};
 
@@ -99,6 +99,25 @@ pub fn hull(library: &Library, chain: &[u8], out: usize) -> [u32; HULL_ANSWER_WO
     same("hull's number", chain, &ours.0, &plain.0);
     same("hull's answer", chain, &ours.1, &plain.1);
     same("hull's buffer", chain, &ours.2, &plain.2);
+    plain.1
+}
+
+/// Compares a room as a polygon in a buffer of this length, and gives the answer.
+pub fn polygon(
+    library: &Library,
+    start: (i32, i32),
+    chain: &[u8],
+    out: usize,
+) -> [u32; POLYGON_ANSWER_WORDS] {
+    let run = |library: &Library| {
+        let (mut out, mut answer) = (Lent::bytes(out), [u32::MAX; POLYGON_ANSWER_WORDS]);
+        let number = (library.polygon_of_room)(start, chain, out.part(), &mut answer);
+        ([number], answer, out.0)
+    };
+    let (ours, plain) = (run(library), run(&PLAIN));
+    same("polygon's number", chain, &ours.0, &plain.0);
+    same("polygon's answer", chain, &ours.1, &plain.1);
+    same("polygon's buffer", chain, &ours.2, &plain.2);
     plain.1
 }
 

@@ -2,7 +2,7 @@
 
 use std::collections::HashMap;
 
-use answer::{MOST_LINE_DIGITS, MOST_STEPS, RECORD_WORDS};
+use answer::{MOST_LINE_DIGITS, MOST_START, MOST_STEPS, RECORD_WORDS};
 
 /// A stream of numbers from a seed (splitmix64).
 pub struct Random(pub u64);
@@ -143,6 +143,18 @@ pub fn room(n: usize, random: &mut Random) -> Vec<u8> {
         }
     }
     steps
+}
+
+/// A start: one of the range, at its ends as likely as elsewhere, and seldom one outside.
+pub fn start(random: &mut Random) -> (i32, i32) {
+    let mut coordinate = || match random.below(20) {
+        0 => MOST_START,
+        1 => -MOST_START,
+        2 if random.once_in(4) => random.number() as i32,
+        3..8 => random.below(64) as i32 - 32,
+        _ => random.below(2 * MOST_START as usize + 1) as i32 - MOST_START,
+    };
+    (coordinate(), coordinate())
 }
 
 /// The number of nodes that the walk needs at most at a moment, 1 where it has a fault.

@@ -5,13 +5,15 @@ pub mod inputs;
 pub mod suite;
 
 use answer::{
-    Facts, HULL_ANSWER_WORDS, NO_MEETING, Refusal, TURNS_ANSWER_WORDS, WALK_ANSWER_WORDS,
+    Facts, HULL_ANSWER_WORDS, NO_MEETING, POLYGON_ANSWER_WORDS, Refusal, TURNS_ANSWER_WORDS,
+    WALK_ANSWER_WORDS,
 };
 
 /// The calls of an implementation, with the answers of the C boundary.
 pub struct Library {
     pub walk: Walk,
     pub hull: fn(&[u8], &mut [i32], &mut [u32; HULL_ANSWER_WORDS]) -> u32,
+    pub polygon_of_room: Polygon,
     pub turns_of_steps: Convert,
     pub steps_of_turns: Convert,
     pub line: fn(&[u8], &mut [u8]) -> usize,
@@ -19,6 +21,9 @@ pub struct Library {
 
 /// The walk of operations in table, marks and chain.
 pub type Walk = fn(&[u8], &mut [u32], &mut [u32], &mut [u8], &mut [u32; WALK_ANSWER_WORDS]) -> u32;
+
+/// A room, by its start and chain, as a polygon.
+pub type Polygon = fn((i32, i32), &[u8], &mut [u8], &mut [u32; POLYGON_ANSWER_WORDS]) -> u32;
 
 /// A conversion between steps and turns.
 pub type Convert = fn(&[u8], &mut [u8], &mut [u32; TURNS_ANSWER_WORDS]) -> u32;
@@ -28,6 +33,7 @@ pub type Convert = fn(&[u8], &mut [u8], &mut [u32; TURNS_ANSWER_WORDS]) -> u32;
 pub const PROVED: Library = Library {
     walk: undrwyth::raw::walk,
     hull: undrwyth::raw::hull,
+    polygon_of_room: undrwyth::raw::polygon_of_room,
     turns_of_steps: undrwyth::raw::turns_of_steps,
     steps_of_turns: undrwyth::raw::steps_of_turns,
     line: undrwyth::raw::line,
@@ -42,6 +48,10 @@ macro_rules! library {
             },
             hull: |chain, out, answer| {
                 tell(answer, $of::hull(chain, out).map(|count| [count as u32]))
+            },
+            polygon_of_room: |start, chain, out, answer| {
+                let bytes = $of::polygon_of_room(start, chain, out);
+                tell(answer, bytes.map(|bytes| [bytes as u32]))
             },
             turns_of_steps: |steps, out, answer| {
                 tell(answer, $of::turns_of_steps(steps, out).map(|()| []))

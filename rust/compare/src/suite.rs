@@ -1,6 +1,8 @@
 //! What is compared: all short inputs, every limit and one past it, random and damaged inputs of all lengths.
 
-use answer::{LINE_BYTES, MOST_INPUT, MOST_LINE_DIGITS, MOST_RECORDS, MOST_STEPS, RECORD_WORDS};
+use answer::{
+    LINE_BYTES, MOST_INPUT, MOST_LINE_DIGITS, MOST_RECORDS, MOST_START, MOST_STEPS, RECORD_WORDS,
+};
 
 use crate::inputs::{self, Random};
 use crate::{Library, calls};
@@ -35,6 +37,17 @@ fn hull_near(library: &Library, chain: &[u8]) {
     }
 }
 
+/// A room as a polygon in the least buffer that has room, in one byte less and in one more.
+fn polygon_near(library: &Library, start: (i32, i32), chain: &[u8]) {
+    let [number, _, bytes] = calls::polygon(library, start, chain, 16 * chain.len() + 29);
+    if number == 0 {
+        let right = bytes as usize;
+        for out in [0, right - 1, right, right + 1] {
+            calls::polygon(library, start, chain, out);
+        }
+    }
+}
+
 /// Both conversions in a buffer of the right length, of one less and of one more.
 fn turns_near(library: &Library, digits: &[u8]) {
     for out in digits.len().saturating_sub(1)..=digits.len() + 1 {
@@ -52,10 +65,11 @@ pub fn short_walks(library: &Library, longest: u32) {
     }
 }
 
-/// Every chain of up to `longest` digits 0 to 4, as steps to a hull and both ways between steps and turns.
+/// Every chain of up to `longest` digits 0 to 4, as steps to a hull, as a room and both ways between steps and turns.
 pub fn short_chains(library: &Library, longest: u32) {
     for chain in (0..=longest).flat_map(|length| strings(length, 5)) {
         hull_near(library, &chain);
+        polygon_near(library, (1, -1), &chain);
         turns_near(library, &chain);
     }
 }
@@ -69,6 +83,7 @@ pub fn every_byte(library: &Library) {
                 ops[place] = byte;
                 walk(library, &ops, RECORD_WORDS * 9);
                 calls::hull(library, &ops, 12);
+                calls::polygon(library, (0, 0), &ops, 93);
                 calls::turns(library, &ops, ops.len());
             }
             ops[place] = kept;
@@ -89,6 +104,7 @@ pub fn sizes(library: &Library) {
         for out in 0..=12 {
             calls::hull(library, ops, out);
             calls::turns(library, ops, out);
+            calls::polygon(library, (0, 0), &[0, 1, 2, 3], 87 + out);
             calls::line(library, &inputs::frame(0, ops), LINE_BYTES - 6 + out);
         }
     }
@@ -130,7 +146,69 @@ fn limits_of(library: &Library, ops: &[u8]) {
     calls::walk(library, ops, words - 1, 2 * ops.len() - 1, ops.len());
     calls::walk(library, ops, words, 2 * ops.len(), ops.len() - 1);
     hull_near(library, ops);
+    polygon_near(library, (0, 0), ops);
+    polygon_near(library, (MOST_START + 1, 0), ops);
     turns_near(library, ops);
+}
+
+/// Rooms from every start at the ends of the range and one beyond, of every size of the working store and one beyond, begun at
+/// each of their corners, walked both ways, and each with a step more, a step less and one corner twice.
+pub fn rooms(library: &Library) {
+    let ends = [
+        i32::MIN,
+        -MOST_START - 1,
+        -MOST_START,
+        -1,
+        0,
+        1,
+        MOST_START,
+        MOST_START + 1,
+        i32::MAX,
+    ];
+    for x in ends {
+        for y in ends {
+            for chain in [&[0, 1, 2, 3][..], &[3, 2, 1, 0], &[0, 2], &[0, 1, 2], &[4]] {
+                polygon_near(library, (x, y), chain);
+            }
+        }
+    }
+    let mut random = Random(7);
+    for n in [8, 20, 254, 256, 258, 2_046, 2_048, 2_050, MOST_STEPS] {
+        for chain in [
+            inputs::room(n, &mut random),
+            inputs::closed_spiral(n),
+            inputs::closed_comb(n, 7),
+        ] {
+            rooms_of(library, &chain, &mut random);
+        }
+    }
+}
+
+/// One room, and walks that are nearly one.
+fn rooms_of(library: &Library, room: &[u8], random: &mut Random) {
+    let mut chain = room.to_vec();
+    for _ in 0..room.len().min(40) {
+        polygon_near(library, inputs::start(random), &chain);
+        chain.rotate_left(1 + random.below(3));
+    }
+    chain.reverse();
+    chain.iter_mut().for_each(|step| *step = (*step + 2) % 4);
+    polygon_near(library, inputs::start(random), &chain);
+    let twice = [&chain[..], &chain[..]].concat();
+    for near in [
+        &chain[1..],
+        &chain[..chain.len() - 1],
+        &twice[..chain.len() + 1],
+        &twice,
+    ] {
+        polygon_near(library, (0, 0), near);
+    }
+    let place = random.below(chain.len());
+    for inserted in [[0, 2], [1, 3], [2, 0], [3, 1]] {
+        let mut crossed = chain.clone();
+        crossed.splice(place..place, inserted);
+        polygon_near(library, (0, 0), &crossed);
+    }
 }
 
 /// Every header byte by byte, every count with fitting and unfitting digits, every byte in a short frame.
@@ -194,4 +272,5 @@ fn random_chain(library: &Library, random: &mut Random) {
     }
     hull_near(library, &chain);
     turns_near(library, &chain);
+    polygon_near(library, inputs::start(random), &chain);
 }

@@ -35,6 +35,13 @@ fn wrapper() {
         assert_eq!(walked(undrwyth::walk), walked(plain::walk));
         let listed = |hull: fn(&[u8], &mut [i32]) -> _| hull(&ops, &mut [0; 20]);
         assert_eq!(listed(undrwyth::hull), listed(plain::hull));
+        let drawn = |polygon: fn((i32, i32), &[u8], &mut [u8]) -> _| {
+            polygon((n as i32, -1), &ops, &mut [0; 300])
+        };
+        assert_eq!(
+            drawn(undrwyth::polygon_of_room),
+            drawn(plain::polygon_of_room)
+        );
         let turned = |convert: fn(&[u8], &mut [u8]) -> _| convert(&ops, &mut vec![0; n]);
         assert_eq!(
             turned(undrwyth::turns_of_steps),

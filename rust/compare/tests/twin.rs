@@ -22,7 +22,7 @@ fn program() {
 
 /// The rooms of the benchmarks are rooms of the length asked.
 #[test]
-fn rooms() {
+fn benched_rooms() {
     let mut random = compare::inputs::Random(3);
     for n in [8, 64, 1_024, 16_384] {
         for steps in [

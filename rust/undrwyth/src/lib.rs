@@ -65,6 +65,27 @@ pub fn hull(chain: &[u8], out: &mut [i32]) -> Result<usize, Refusal> {
     Ok(answer[2] as usize)
 }
 
+/// Writes the room with this start and chain as a polygon to the start of `out`, in Well-Known Binary of little-endian order:
+/// the start, each later corner where the turn is not 0, and the start again, in millimetres of panels of 600. Answers how
+/// many bytes it has, at most 16 for each step and 29; the bytes after them are unchanged.
+///
+/// ```
+/// let mut out = [0; 93];
+/// assert_eq!(undrwyth::polygon_of_room((0, 0), &[0, 1, 2, 3], &mut out), Ok(93));
+/// assert_eq!(out[..13], [1, 3, 0, 0, 0, 1, 0, 0, 0, 5, 0, 0, 0]);
+/// assert_eq!(out[29..37], 600_f64.to_le_bytes());
+/// assert_eq!(
+///     undrwyth::polygon_of_room((0, 0), &[0, 2], &mut out),
+///     Err(undrwyth::Refusal::NotRoom)
+/// );
+/// ```
+pub fn polygon_of_room(start: (i32, i32), chain: &[u8], out: &mut [u8]) -> Result<usize, Refusal> {
+    let mut answer = [0; POLYGON_ANSWER_WORDS];
+    let number = raw::polygon_of_room(start, chain, out, &mut answer);
+    accepted(number, answer[1])?;
+    Ok(answer[2] as usize)
+}
+
 /// Writes the turns of `steps` to `out`, which has the same length: the first step, then each step minus the one before,
 /// modulo 4.
 ///
@@ -109,6 +130,6 @@ pub fn line<'a>(line: &[u8], out: &'a mut [u8; LINE_BYTES]) -> &'a [u8] {
 fn accepted(number: u32, place: u32) -> Result<(), Refusal> {
     match number {
         0 => Ok(()),
-        _ => Err(Refusal::of(number, place).expect("a refusal is 1 to 9")),
+        _ => Err(Refusal::of(number, place).expect("the refusal has a number")),
     }
 }

@@ -9,8 +9,8 @@ use Rattle.undrwyth.proofs.undrwyth_hull.Tie as tie
 list-requires : tie.Need-list-requires
 list-requires c κs = search needs
 
-hull-words-requires : tie.Need-hull-words-requires
-hull-words-requires c κs = let a = c .before .before .before .before .args in let h = c .before .list in counted-fits (a .chain .now) (a .out .now) (h .result) (h .last .1 .0) (h .ensures)
+counted-words-requires : tie.Need-counted-words-requires
+counted-words-requires c κs = let a = c .before .before .before .before .args in let h = c .before .list in counted-fits (a .chain .now) (a .out .now) (h .result) (h .last .1 .0) (h .ensures)
 
 array-read-result : tie.Need-array-read-result
 array-read-result c = search needs
@@ -19,8 +19,8 @@ same-length : tie.Need-same-length
 same-length c = search needs
 
 returns : tie.Need-returns
-returns c = let h = c .before .before .list in record { answer = h .result; listed = h .ensures; words-are = c .hull-words .ensures; result = counted-first (h .result) (c .hull-words .result) (c .hull-words .ensures) }
+returns c = let h = c .before .before .list in record { answer = h .result; listed = h .ensures; words-are = c .counted-words .ensures; result = counted-first (h .result) (c .counted-words .result) (c .counted-words .ensures) }
 
 pub undrwyth-hull-spec : {M : Type 1} → statement M
 undrwyth-hull-spec =
-    tie.close (tie.spec list-requires hull-words-requires array-read-result same-length returns)
+    tie.close (tie.spec list-requires counted-words-requires array-read-result same-length returns)

@@ -31,6 +31,11 @@ fn limits() {
 }
 
 #[test]
+fn rooms() {
+    suite::rooms(&LIBRARY);
+}
+
+#[test]
 fn lines() {
     suite::lines(&LIBRARY);
 }

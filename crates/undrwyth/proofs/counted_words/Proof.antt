@@ -1,4 +1,4 @@
--- `undrwyth::hull_words` meets its contract.
+-- `undrwyth::counted_words` meets its contract.
 -- Assumes nothing.
 use mathlib.Core.Path.{ap, sym, subst}
 use native.Mathlib.Omega.{arith}
@@ -6,8 +6,8 @@ use borrow.Author.Needs.{needs}
 use Rattle.answer.specs.Words.{countedWords}
 use Rattle.undrwyth.specs.Words.{CountedFits}
 use Rattle.undrwyth.proofs.WordLaws.{refused-counted}
-use Rattle.undrwyth.proofs.hull_words.Statement.{statement}
-use Rattle.undrwyth.proofs.hull_words.Tie as tie
+use Rattle.undrwyth.proofs.counted_words.Statement.{statement}
+use Rattle.undrwyth.proofs.counted_words.Tie as tie
 
 enum-known-c : tie.Need-enum-known-c
 enum-known-c c = search needs
@@ -36,8 +36,8 @@ returns c = sym (ap countedWords (c .before .c .given .1))
 returns-2 : tie.Need-returns-2
 returns-2 c = refused-counted (c .before .before .before .before .before .args .c) (c .before .before .before .c2 .given .0 .0) (c .before .refusal-number .result) (c .refusal-place .result) (c .before .before .before .c2 .given .1) (c .before .refusal-number .ensures .0) (c .refusal-place .ensures)
 
-pub hull-words-spec : {M : Type 1} → statement M
-hull-words-spec =
+pub counted-words-spec : {M : Type 1} → statement M
+counted-words-spec =
     tie.close
     (tie.spec
     enum-known-c

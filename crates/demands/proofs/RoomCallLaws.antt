@@ -1,0 +1,161 @@
+-- The judgements of the calls on a room are given on their occasions and on no other; the promise of the polygon's call taken apart.
+-- Assumes nothing.
+use mathlib.Core.Bool.{Bool, true, false, not, _&&_, false≢true}
+use mathlib.Core.List.{List, _++_, List·Memᴰ}
+use mathlib.Core.Logic.{_⊎_, _↔_, ⊎-elim}
+use mathlib.Core.Path.{_≡_, refl, ap, ap₂, sym, _∙_, subst}
+use Prim.Native.Nat.{ℕ, _+_, _*_, _≤_}
+use native.Mathlib.Decide.{decLt}
+use native.Mathlib.Omega.{arith}
+use borrow.Author.Tests.{lt-ltb, le-ltb, le-leb}
+use lib.Dec.{ltb}
+use lib.IntN.{natAbs}
+use lib.ListN.{length, getD, drop}
+use Rattle.answer.specs.declared.Counted.{Counted}
+use Rattle.answer.specs.declared.Judged.{Judged}
+use Rattle.answer.specs.declared.Judged.the-variants.{Good, Refused}
+use Rattle.answer.specs.declared.Refusal.{Refusal}
+use Rattle.answer.specs.declared.Refusal.the-variants.{TooMany, StartRange, BadDigit, TooLong, NotRoom, PolygonRoom}
+use Rattle.answer.specs.Limits.{mostInput, mostStart, Near, startFits}
+use Rattle.answer.specs.Refusal.{when, orElse}
+use Rattle.grid.specs.declared.Corner.{Corner}
+use Rattle.steps.specs.Turns.{writtenIf}
+use Rattle.trace.specs.Verdict.{IsRoom}
+use Rattle.hull.specs.Call.{faultAt, chainJudged, countedOf}
+use Rattle.room.specs.Room.{isRoom, asRoomJudged}
+use Rattle.room.proofs.RoomLaws.{isRoom-exactly, start-near, judged-many, judged-range, judged-fault, judged-room}
+use Rattle.polygon.specs.Polygon.{pointsOf, polygonOf, polygonJudged, PolygonCall}
+use Rattle.polygon_laws.proofs.PointLaws.{Exact, points-exact}
+use Rattle.polygon_laws.proofs.WriteLaws.{room-drawable, polygon-few}
+use Rattle.answer.proofs.RefusalLaws.{orElse-good, orElse-right}
+use Rattle.demands.specs.Given.{First}
+use Rattle.demands.specs.GivenTurns.{AboveThreeAt}
+use Rattle.demands.specs.GivenHull.{StepAt, StepTooManyAt}
+use Rattle.demands.specs.GivenRoom.{AllSteps, GivenRoom, GivenPolygon}
+use Rattle.demands.specs.GivenRoom as given
+use Rattle.demands.proofs.FirstLaws.{all-or-first}
+use Rattle.demands.proofs.DigitLaws.{none-from, first-from, step-none, step-above, step-long, at-most, step-or-fault, count-refused, count-good}
+
+-- ---- a start and a chain as a room
+
+in-range : (s : Corner) → Near s → startFits s ≡ true
+in-range s h = ap₂ _&&_ (le-leb (natAbs (s .0)) mostStart (h .0)) (le-leb (natAbs (s .1)) mostStart (h .1))
+
+not-in-range : (s : Corner) → (Near s → ⊥) → startFits s ≡ false
+not-in-range s f = go (startFits s) refl
+  where
+    go : (b : Bool) → startFits s ≡ b → startFits s ≡ false
+    go true e = absurd (f (start-near s e))
+    go false e = e
+
+module _ (s : Corner) (ds : List ℕ) where
+  fault-first : (bad : ℕ → Type 0) (i : ℕ) (r : Refusal) → First (length ds) (StepAt ds) bad i → faultAt i (getD ds i 0) ≡ Refused r → chainJudged 0 ds ≡ Refused r
+  fault-first bad i r f e = first-from faultAt chainJudged (λ p. refl) (λ p d l. refl) 0 ds i i r (f .inside) (λ k q m g. step-none ds 0 0 q (getD ds k 0) (f .before k m .0) (omega (arith, f .before k m .1))) (omega arith) e
+
+  no-fault : AllSteps ds → chainJudged 0 ds ≡ Good
+  no-fault f = none-from faultAt chainJudged (λ p. refl) (λ p d l. refl) 0 ds (λ i p k g. step-none ds 0 0 p (getD ds i 0) (f i k .0) (omega (arith, f i k .1)))
+
+  no-room : (b : Bool) → isRoom s ds ≡ b → (IsRoom s ds → ⊥) → when (not (isRoom s ds)) NotRoom ≡ Refused NotRoom
+  no-room true e f = absurd (f (isRoom-exactly s ds .0 e))
+  no-room false e f = ap (λ (b : Bool). when (not b) NotRoom) e
+
+  given-room : (j : Judged) → GivenRoom s ds j → asRoomJudged s ds ≡ j
+  given-room _ (given.tooMany h) = judged-many s ds h
+  given-room _ (given.startRange h f) = judged-range s ds h (not-in-range s f)
+  given-room _ (given.badDigit i h n f) = judged-fault s ds h (in-range s n) (BadDigit i) (fault-first (AboveThreeAt ds) i (BadDigit i) f (step-above ds 0 0 i (getD ds i 0) (f .here)))
+  given-room _ (given.tooLong i h n f) =
+      judged-fault s ds h (in-range s n) (TooLong i)
+      (fault-first (StepTooManyAt ds) i (TooLong i) f (step-long ds 0 0 i (getD ds i 0) (f .here .0) (at-most ds 0 0 i (f .before) (f .here .1))))
+  given-room _ (given.notRoom h n f r) = judged-room s ds h (in-range s n) (no-fault f) ∙ no-room (isRoom s ds) refl r
+  given-room _ (given.isRoom h n f r) = judged-room s ds h (in-range s n) (no-fault f) ∙ ap (λ (b : Bool). when (not b) NotRoom) (isRoom-exactly s ds .1 r)
+
+  by-steps : length ds ≤ mostInput → Near s → AllSteps ds → (b : Bool) → isRoom s ds ≡ b → (j : Judged) × GivenRoom s ds j
+  by-steps h n f true e = (Good, given.isRoom h n f (isRoom-exactly s ds .0 e))
+  by-steps h n f false e = (Refused NotRoom, given.notRoom h n f (λ r. false≢true (sym e ∙ isRoom-exactly s ds .1 r)))
+
+  by-start : length ds ≤ mostInput → (b : Bool) → startFits s ≡ b → (j : Judged) × GivenRoom s ds j
+  by-start h false e = (Refused StartRange, given.startRange h (λ n. false≢true (sym e ∙ in-range s n)))
+  by-start h true e =
+      let n = start-near s e in
+      ⊎-elim
+      (λ f. by-steps h n f (isRoom s ds) refl)
+      (λ x. ⊎-elim
+      (λ k. (Refused (BadDigit (x .0)), given.badDigit (x .0) h n (record { inside = x .1 .inside; before = x .1 .before; here = k })))
+      (λ k. (Refused (TooLong (x .0)), given.tooLong (x .0) h n (record { inside = x .1 .inside; before = x .1 .before; here = k })))
+      (x .1 .here))
+      (all-or-first (length ds) (StepAt ds) (λ i. AboveThreeAt ds i ⊎ StepTooManyAt ds i) (step-or-fault ds 0 0))
+
+  some-room : (j : Judged) × GivenRoom s ds j
+  some-room = elim (decLt mostInput (length ds)) [ yes h ↦ (Refused TooMany, given.tooMany h) | no h ↦ by-start (omega arith) (startFits s) refl ]
+
+  pub room-when : (j : Judged) → asRoomJudged s ds ≡ j ↔ GivenRoom s ds j
+  room-when j = let x = some-room in (λ e. subst (GivenRoom s ds) (sym (given-room (x .0) (x .1)) ∙ e) (x .1), given-room j)
+
+  -- ---- its polygon
+  module _ (room : ℕ) where
+    abbrev bytes : ℕ
+    bytes = length (polygonOf s ds)
+
+    refused-first : (q : Refusal) → asRoomJudged s ds ≡ Refused q → polygonJudged s ds room ≡ Refused q
+    refused-first q e = ap (λ (j : Judged). orElse j (orElse (when (ltb room bytes) PolygonRoom) Good)) e
+
+    room-then : asRoomJudged s ds ≡ Good → polygonJudged s ds room ≡ when (ltb room bytes) PolygonRoom
+    room-then e = ap (λ (j : Judged). orElse j (orElse (when (ltb room bytes) PolygonRoom) Good)) e ∙ orElse-right (when (ltb room bytes) PolygonRoom)
+
+    given-polygon : (j : Judged) → GivenPolygon s ds room bytes j → polygonJudged s ds room ≡ j
+    given-polygon _ (given.noRoom q g) = refused-first q (given-room (Refused q) g)
+    given-polygon _ (given.polygonRoom g h) = room-then (given-room Good g) ∙ ap (λ (b : Bool). when b PolygonRoom) (lt-ltb room bytes h)
+    given-polygon _ (given.accepted g h) = room-then (given-room Good g) ∙ ap (λ (b : Bool). when b PolygonRoom) (le-ltb room bytes h)
+
+    by-room : (j : Judged) → GivenRoom s ds j → (k : Judged) × GivenPolygon s ds room bytes k
+    by-room Good g = elim (decLt room bytes) [ yes h ↦ (Refused PolygonRoom, given.polygonRoom g h) | no h ↦ (Good, given.accepted g (omega arith)) ]
+    by-room (Refused q) g = (Refused q, given.noRoom q g)
+
+    some-polygon : (j : Judged) × GivenPolygon s ds room bytes j
+    some-polygon = let x = some-room in by-room (x .0) (x .1)
+
+    pub polygon-when : (j : Judged) → polygonJudged s ds room ≡ j ↔ GivenPolygon s ds room bytes j
+    polygon-when j = let x = some-polygon in (λ e. subst (GivenPolygon s ds room bytes) (sym (given-polygon (x .0) (x .1)) ∙ e) (x .1), given-polygon j)
+
+-- ---- the call
+
+module _ {s : Corner} {ds before : List ℕ} {r : Counted} {after : List ℕ} (w : PolygonCall s ds before r after) where
+  abbrev judged : Judged
+  judged = polygonJudged s ds (length before)
+
+  pub refused-when : (q : Refusal) → r ≡ Counted.Refused q ↔ GivenPolygon s ds (length before) (length (polygonOf s ds)) (Refused q)
+  refused-when q = (
+    λ e. polygon-when s ds (length before) (Refused q) .0 (count-refused judged (length (polygonOf s ds)) q (sym e ∙ w .answer)),
+    λ g. w .answer ∙ ap (λ (j : Judged). countedOf j (length (polygonOf s ds))) (polygon-when s ds (length before) (Refused q) .1 g),
+  )
+
+  pub written-when : r ≡ Counted.Many (length (polygonOf s ds)) ↔ GivenPolygon s ds (length before) (length (polygonOf s ds)) Good
+  written-when = (
+    λ e. polygon-when s ds (length before) Good .0 (count-good judged (length (polygonOf s ds)) (sym e ∙ w .answer)),
+    λ g. w .answer ∙ ap (λ (j : Judged). countedOf j (length (polygonOf s ds))) (polygon-when s ds (length before) Good .1 g),
+  )
+
+module _ (s : Corner) (ds before : List ℕ) where
+  pub polygon-some : (r : Counted) × (after : List ℕ) × PolygonCall s ds before r after
+  polygon-some =
+      let j = polygonJudged s ds (length before) in
+      (countedOf j (length (polygonOf s ds)), writtenIf j (polygonOf s ds ++ drop (length (polygonOf s ds)) before) before, record { answer = refl; buffer = refl })
+
+  module _ {after : List ℕ} where
+    pub call-untouched : (q : Refusal) → PolygonCall s ds before (Counted.Refused q) after → after ≡ before
+    call-untouched q p = p .buffer ∙ ap (λ (j : Judged). writtenIf j (polygonOf s ds ++ drop (length (polygonOf s ds)) before) before) (count-refused (polygonJudged s ds (length before)) (length (polygonOf s ds)) q (p .answer))
+
+    pub call-good : (n : ℕ) → PolygonCall s ds before (Counted.Many n) after → (polygonJudged s ds (length before) ≡ Good) × (n ≡ length (polygonOf s ds)) × (after ≡ polygonOf s ds ++ drop (length (polygonOf s ds)) before)
+    call-good n p = go (polygonJudged s ds (length before)) refl (p .answer) (p .buffer)
+      where
+        go : (j : Judged) → polygonJudged s ds (length before) ≡ j → Counted.Many n ≡ countedOf j (length (polygonOf s ds)) → after ≡ writtenIf j (polygonOf s ds ++ drop (length (polygonOf s ds)) before) before → (polygonJudged s ds (length before) ≡ Good) × (n ≡ length (polygonOf s ds)) × (after ≡ polygonOf s ds ++ drop (length (polygonOf s ds)) before)
+        go Good f e b = (f, cc, b)
+        go (Refused q) f e b = absurd (let z : _≡_ {A = ℕ} 0 1 = cc in omega arith)
+
+    pub call-few : (n : ℕ) → PolygonCall s ds before (Counted.Many n) after → n ≤ 16 * length ds + 29
+    call-few n p = let g = call-good n p in omega (arith, g .1, polygon-few s ds (length before) (g .0) .0)
+
+    pub call-exact : (n : ℕ) → PolygonCall s ds before (Counted.Many n) after → (p : Corner) → List·Memᴰ p (pointsOf s ds) → Exact p
+    call-exact n p q m =
+        let g = call-good n p in
+        points-exact s ds (room-drawable s ds (asRoomJudged s ds) refl (orElse-good (asRoomJudged s ds) (orElse (when (ltb (length before) (length (polygonOf s ds))) PolygonRoom) Good) (g .0) .0)) q m

@@ -1,0 +1,4 @@
+// The bytes that every polygon of one ring begins with.
+
+// Byte order 1, type 3 and ring count 1, the lowest byte first.
+pub const PREFIX: [u8; 9] = *b"\x01\x03\x00\x00\x00\x01\x00\x00\x00";

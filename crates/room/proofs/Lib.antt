@@ -1,0 +1,3 @@
+-- Cases and laws of rooms.
+pub mod RoomCases
+pub mod RoomLaws

@@ -1,0 +1,2 @@
+-- What a call asks of a room.
+pub mod Room

@@ -1,0 +1,98 @@
+-- `room_threads::apart` meets its contract.
+-- Assumes nothing.
+use borrow.Author.Needs.{needs}
+use native.Mathlib.Omega.{arith}
+use mathlib.Core.Path.{_≡_, refl, sym, _∙_, subst}
+use mathlib.Core.Bool.{Bool}
+use Prim.Native.Nat.{_+_, _-_, _≤_}
+use lib.ListN.{length, getD}
+use Rattle.room_thread_laws.specs.Threads.{Leads, Followed, Parting}
+use Rattle.room_thread_laws.proofs.ThreadLaws.{not-true, not-false, part-start, part-step, part-twice, part-end}
+use Rattle.room_threads.proofs.apart.Statement.{statement}
+use Rattle.room_threads.proofs.apart.Tie as tie
+
+abbrev Inv-loop : tie.InvT-loop
+Inv-loop head next hs stamps₀ c₀ stamps c = (c ≤ length head) × (length stamps ≡ length stamps₀) × Parting head next hs c stamps
+
+abbrev μ-loop : tie.MeasureT-loop
+μ-loop head next hs stamps₀ c₀ stamps c = length head - c
+
+loop-holds : tie.Need-loop-holds Inv-loop μ-loop
+loop-holds c =
+    let z = c .before .before .before .before in
+    (omega arith, refl, part-start (z .args .head .now) (z .args .next .now) (z .args .hs .now) (z .args .stamps .now) (z .pre .3))
+
+add-follow : tie.Need-add-follow Inv-loop μ-loop
+add-follow c = search needs
+
+cast-follow : tie.Need-cast-follow Inv-loop μ-loop
+cast-follow c = search needs
+
+mul-follow : tie.Need-mul-follow Inv-loop μ-loop
+mul-follow c = search needs
+
+shared-slice-read-follow : tie.Need-shared-slice-read-follow Inv-loop μ-loop
+shared-slice-read-follow c = search needs
+
+follow-requires : tie.Need-follow-requires Inv-loop μ-loop
+follow-requires c κs =
+    let l = c .before .before .before .loop in
+    let z = c .before .before .before .before .before .before .before .before in
+    (subst (Leads (z .args .next .now) (z .args .hs .now)) (sym (l .inv .1)) (z .pre .0), z .pre .1 (l .c))
+
+same-length : tie.Need-same-length Inv-loop μ-loop
+same-length c = search needs
+
+returns : tie.Need-returns Inv-loop μ-loop
+returns c =
+    let l = c .before .before .before .before .before .before .before .loop in
+    let a = c .before .before .before .before .before .before .before .before .before .before .before .before .args in
+    let f = c .before .before .before .follow in
+    part-twice (a .head .now) (a .next .now) (a .hs .now) (l .c) (l .stamps) (f .last .1 .1 .1 .1 .0) (l .inv .2) (omega arith)
+    (subst (λ (b : Bool). Followed (a .next .now) (a .hs .now) (l .stamps) (l .c + 1) (getD (a .head .now) (l .c) 0) b (f .last .1 .1 .1 .1 .0)) (not-true (f .result) (c .if1 .taken)) (f .ensures))
+
+add-c : tie.Need-add-c Inv-loop μ-loop
+add-c c = search needs
+
+loop-less : tie.Need-loop-less Inv-loop μ-loop
+loop-less c = search needs
+
+loop-again : tie.Need-loop-again Inv-loop μ-loop
+loop-again c =
+    let l = c .before .before .before .before .before .before .before .loop in
+    let a = c .before .before .before .before .before .before .before .before .before .before .before .before .args in
+    let f = c .before .before .before .follow in (
+      omega arith,
+      f .kept .1 .1 .1 .1 .0 ∙ l .inv .1,
+      part-step (a .head .now) (a .next .now) (a .hs .now) (l .c) (l .stamps) (f .last .1 .1 .1 .1 .0) (l .inv .2) (omega arith)
+          (subst (λ (b : Bool). Followed (a .next .now) (a .hs .now) (l .stamps) (l .c + 1) (getD (a .head .now) (l .c) 0) b (f .last .1 .1 .1 .1 .0)) (not-false (f .result) (c .if1 .left)) (f .ensures)),
+    )
+
+same-length-2 : tie.Need-same-length-2 Inv-loop μ-loop
+same-length-2 c = search needs
+
+returns-2 : tie.Need-returns-2 Inv-loop μ-loop
+returns-2 c =
+    let l = c .before .loop in
+    let a = c .before .before .before .before .before .before .args in
+    part-end (a .head .now) (a .next .now) (a .hs .now) (l .c) (l .stamps) (l .inv .2) (omega arith)
+
+pub apart-spec : {M : Type 1} → statement M
+apart-spec =
+    tie.close
+    (tie.spec
+    Inv-loop
+    μ-loop
+    loop-holds
+    add-follow
+    cast-follow
+    mul-follow
+    shared-slice-read-follow
+    follow-requires
+    same-length
+    returns
+    add-c
+    loop-less
+    loop-again
+    same-length-2
+    returns-2)

@@ -1,0 +1,123 @@
+-- `room_threads::follow` meets its contract.
+-- Assumes nothing.
+use borrow.Author.Needs.{needs}
+use native.Mathlib.Omega.{arith}
+use mathlib.Core.Path.{_≡_, refl, sym, ap, _∙_, subst}
+use Prim.Native.Nat.{ℕ, _-_, _≤_}
+use lib.ListN.{length, getD, set, length-set}
+use Rattle.room_thread_laws.specs.Threads.{Following}
+use Rattle.room_thread_laws.proofs.ThreadLaws.{follow-start, follow-step, follow-twice, follow-end}
+use Rattle.room_threads.proofs.follow.Statement.{statement}
+use Rattle.room_threads.proofs.follow.Tie as tie
+
+abbrev Inv-loop : tie.InvT-loop
+Inv-loop tag last next hs stamps₀ p₀ stamps p = (p ≤ length next) × (length stamps ≡ length stamps₀) × Following next hs stamps₀ tag last p stamps
+
+abbrev μ-loop : tie.MeasureT-loop
+μ-loop tag last next hs stamps₀ p₀ stamps p = p
+
+wide-requires : tie.Need-wide-requires Inv-loop μ-loop
+wide-requires c κs = search needs
+
+loop-holds : tie.Need-loop-holds Inv-loop μ-loop
+loop-holds c =
+    let a = c .before .before .before .before .args in
+    (omega (arith, c .wide .ensures .0), refl, subst (λ (m : ℕ). Following (a .next .now) (a .hs .now) (a .stamps .now) (a .tag) (a .last) m (a .stamps .now)) (sym (c .wide .ensures .0)) (follow-start (a .next .now) (a .hs .now) (a .stamps .now) (a .tag) (a .last)))
+
+sub-wide : tie.Need-sub-wide Inv-loop μ-loop
+sub-wide c = search needs
+
+mul-wide : tie.Need-mul-wide Inv-loop μ-loop
+mul-wide c = search needs
+
+shared-slice-read-wide : tie.Need-shared-slice-read-wide Inv-loop μ-loop
+shared-slice-read-wide c = let l = c .before .before .loop in omega (arith, l .inv .0, c .before .before .before .before .before .before .before .pre .0 .both)
+
+wide-requires-2 : tie.Need-wide-requires-2 Inv-loop μ-loop
+wide-requires-2 c κs = search needs
+
+mul-if1 : tie.Need-mul-if1 Inv-loop μ-loop
+mul-if1 c = record { fits = omega (arith, c .wide2 .ensures .1) }
+
+slice-read-if1 : tie.Need-slice-read-if1 Inv-loop μ-loop
+slice-read-if1 c = let l = c .before .before .before .before .loop in omega (arith, c .before .wide2 .ensures .0, l .inv .1, c .before .before .before .before .before .before .before .before .before .pre .0 .heights (l .p - 1))
+
+same-length : tie.Need-same-length Inv-loop μ-loop
+same-length c = search needs
+
+returns : tie.Need-returns Inv-loop μ-loop
+returns c =
+    let l = c .before .before .before .before .before .loop in
+    let a = c .before .before .before .before .before .before .before .before .before .before .args in
+    follow-twice (a .next .now) (a .hs .now) (a .stamps .now) (a .tag) (a .last) (l .p) (l .stamps) (l .inv .2) (l .p - 1) (omega arith) (ap (λ (m : ℕ). getD (l .stamps) m 0) (sym (c .before .before .wide2 .ensures .0)) ∙ c .if1 .taken)
+
+mul-stamps : tie.Need-mul-stamps Inv-loop μ-loop
+mul-stamps c = record { fits = omega (arith, c .before .before .wide2 .ensures .1) }
+
+slice-write-stamps : tie.Need-slice-write-stamps Inv-loop μ-loop
+slice-write-stamps c = let l = c .before .before .before .before .before .loop in omega (arith, c .before .before .wide2 .ensures .0, l .inv .1, c .before .before .before .before .before .before .before .before .before .before .pre .0 .heights (l .p - 1))
+
+sub-wide-2 : tie.Need-sub-wide-2 Inv-loop μ-loop
+sub-wide-2 c = search needs
+
+mul-wide-2 : tie.Need-mul-wide-2 Inv-loop μ-loop
+mul-wide-2 c = search needs
+
+shared-slice-read-wide-2 : tie.Need-shared-slice-read-wide-2 Inv-loop μ-loop
+shared-slice-read-wide-2 c = search needs
+
+wide-requires-3 : tie.Need-wide-requires-3 Inv-loop μ-loop
+wide-requires-3 c κs = search needs
+
+loop-less : tie.Need-loop-less Inv-loop μ-loop
+loop-less c = let l = c .before .before .before .before .before .before .before .loop in omega (arith, c .wide3 .ensures .0, c .before .before .before .before .before .before .before .before .before .before .before .before .pre .0 .falls (l .p - 1))
+
+loop-again : tie.Need-loop-again Inv-loop μ-loop
+loop-again c =
+    let l = c .before .before .before .before .before .before .before .loop in
+    let z = c .before .before .before .before .before .before .before .before .before .before .before .before in
+    let a = z .args in
+    let h = c .before .before .before .before .wide2 .ensures .0 in
+    let f = z .pre .0 .falls (l .p - 1) in (
+      omega (arith, c .wide3 .ensures .0, f, l .inv .0),
+      length-set (l .stamps) (c .before .before .before .before .wide2 .result) (a .tag) ∙ l .inv .1,
+      subst (λ (m : ℕ). Following (a .next .now) (a .hs .now) (a .stamps .now) (a .tag) (a .last) m (set (l .stamps) (c .before .before .before .before .wide2 .result) (a .tag))) (sym (c .wide3 .ensures .0))
+          (subst (λ (m : ℕ). Following (a .next .now) (a .hs .now) (a .stamps .now) (a .tag) (a .last) (getD (a .next .now) (l .p - 1) 0) (set (l .stamps) m (a .tag))) (sym h)
+          (follow-step (a .next .now) (a .hs .now) (a .stamps .now) (a .tag) (a .last) (l .p) (l .stamps) (l .inv .2) (l .p - 1) (omega arith) (λ e. c .before .before .if1 .left (ap (λ (m : ℕ). getD (l .stamps) m 0) h ∙ e)) (omega (arith, l .inv .1, z .pre .0 .heights (l .p - 1))))),
+    )
+
+same-length-2 : tie.Need-same-length-2 Inv-loop μ-loop
+same-length-2 c = search needs
+
+returns-2 : tie.Need-returns-2 Inv-loop μ-loop
+returns-2 c =
+    let l = c .before .loop in
+    let a = c .before .before .before .before .before .before .args in
+    follow-end (a .next .now) (a .hs .now) (a .stamps .now) (a .tag) (a .last) (l .p) (l .stamps) (l .inv .2) (omega arith)
+
+pub follow-spec : {M : Type 1} → statement M
+follow-spec =
+    tie.close
+    (tie.spec
+    Inv-loop
+    μ-loop
+    wide-requires
+    loop-holds
+    sub-wide
+    mul-wide
+    shared-slice-read-wide
+    wide-requires-2
+    mul-if1
+    slice-read-if1
+    same-length
+    returns
+    mul-stamps
+    slice-write-stamps
+    sub-wide-2
+    mul-wide-2
+    shared-slice-read-wide-2
+    wide-requires-3
+    loop-less
+    loop-again
+    same-length-2
+    returns-2)

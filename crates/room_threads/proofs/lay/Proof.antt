@@ -1,0 +1,161 @@
+-- `room_threads::lay` meets its contract.
+-- Assumes nothing.
+use borrow.Author.Needs.{needs}
+use native.Mathlib.Omega.{arith}
+use mathlib.Core.Path.{_≡_, refl, sym, _∙_, subst}
+use Prim.Native.Nat.{ℕ, _+_, _-_, _≤_}
+use lib.ListN.{length, getD, length-set}
+use Rattle.room_thread_laws.specs.Threads.{Laid, Laying}
+use Rattle.room_thread_laws.proofs.LayLaws.{lay-start, lay-step, lay-bounds}
+use Rattle.room_threads.proofs.lay.Statement.{statement}
+use Rattle.room_threads.proofs.lay.Tie as tie
+
+abbrev Inv-loop : tie.InvT-loop
+Inv-loop chain m head₀ next₀ hs₀ x₀ y₀ i₀ head next hs x y i = (i ≤ length chain) × (length head ≡ length head₀) × (length next ≡ length next₀) × (length hs ≡ length hs₀) × Laying chain m x y i head next hs
+
+abbrev μ-loop : tie.MeasureT-loop
+μ-loop chain m head₀ next₀ hs₀ x₀ y₀ i₀ head next hs x y i = length chain - i
+
+wide-requires : tie.Need-wide-requires Inv-loop μ-loop
+wide-requires c κs = search needs
+
+loop-holds : tie.Need-loop-holds Inv-loop μ-loop
+loop-holds c =
+    let z = c .before .before .before .before .before in
+    let a = z .args in
+    (omega arith, refl, refl, refl, subst (λ (x : ℕ). Laying (a .chain .now) (a .m) x (a .m) 0 (a .head .now) (a .next .now) (a .hs .now)) (sym (c .wide .ensures .0)) (lay-start (a .chain .now) (a .m) (a .head .now) (a .next .now) (a .hs .now) (z .pre .4) (z .pre .5) (z .pre .6)))
+
+shared-slice-read-d : tie.Need-shared-slice-read-d Inv-loop μ-loop
+shared-slice-read-d c = search needs
+
+mul-hs : tie.Need-mul-hs Inv-loop μ-loop
+mul-hs c = search needs
+
+slice-write-hs : tie.Need-slice-write-hs Inv-loop μ-loop
+slice-write-hs c = search needs
+
+mul-next : tie.Need-mul-next Inv-loop μ-loop
+mul-next c =
+    let l = c .before .before .loop in
+    let z = c .before .before .before .before .before .before .before .before in
+    let a = z .args in
+    let b = lay-bounds (a .chain .now) (a .m) (l .x) (l .y) (l .i) (l .head) (l .next) (l .hs) (length (a .head .now)) (l .inv .4) (z .pre .0) (omega arith) in
+    record { fits = omega (arith, b .1, z .pre .0 .narrow) }
+
+slice-read-next : tie.Need-slice-read-next Inv-loop μ-loop
+slice-read-next c =
+    let l = c .before .before .before .loop in
+    let z = c .before .before .before .before .before .before .before .before .before in
+    let a = z .args in
+    let b = lay-bounds (a .chain .now) (a .m) (l .x) (l .y) (l .i) (l .head) (l .next) (l .hs) (length (a .head .now)) (l .inv .4) (z .pre .0) (omega arith) in
+    omega (arith, b .1, l .inv .1)
+
+mul-next-2 : tie.Need-mul-next-2 Inv-loop μ-loop
+mul-next-2 c = search needs
+
+slice-write-next : tie.Need-slice-write-next Inv-loop μ-loop
+slice-write-next c = search needs
+
+add-head : tie.Need-add-head Inv-loop μ-loop
+add-head c = search needs
+
+cast-head : tie.Need-cast-head Inv-loop μ-loop
+cast-head c = search needs
+
+mul-head : tie.Need-mul-head Inv-loop μ-loop
+mul-head c =
+    let l = c .before .before .before .loop in
+    let z = c .before .before .before .before .before .before .before .before .before in
+    let a = z .args in
+    let b = lay-bounds (a .chain .now) (a .m) (l .x) (l .y) (l .i) (l .head) (l .next) (l .hs) (length (a .head .now)) (l .inv .4) (z .pre .0) (omega arith) in
+    record { fits = omega (arith, b .1, z .pre .0 .narrow) }
+
+slice-write-head : tie.Need-slice-write-head Inv-loop μ-loop
+slice-write-head c =
+    let l = c .before .before .before .loop in
+    let z = c .before .before .before .before .before .before .before .before .before in
+    let a = z .args in
+    let b = lay-bounds (a .chain .now) (a .m) (l .x) (l .y) (l .i) (l .head) (l .next) (l .hs) (length (a .head .now)) (l .inv .4) (z .pre .0) (omega arith) in
+    omega (arith, b .1, l .inv .1)
+
+column-requires : tie.Need-column-requires Inv-loop μ-loop
+column-requires c κs =
+    let l = c .before .before .before .loop in
+    let z = c .before .before .before .before .before .before .before .before .before in
+    let a = z .args in
+    let b = lay-bounds (a .chain .now) (a .m) (l .x) (l .y) (l .i) (l .head) (l .next) (l .hs) (length (a .head .now)) (l .inv .4) (z .pre .0) (omega arith) in
+    (b .0, omega (arith, b .1, z .pre .0 .narrow))
+
+height-requires : tie.Need-height-requires Inv-loop μ-loop
+height-requires c κs =
+    let l = c .before .before .before .before .loop in
+    let z = c .before .before .before .before .before .before .before .before .before .before in
+    let a = z .args in
+    let b = lay-bounds (a .chain .now) (a .m) (l .x) (l .y) (l .i) (l .head) (l .next) (l .hs) (length (a .head .now)) (l .inv .4) (z .pre .0) (omega arith) in
+    (b .2, omega (arith, b .3, z .pre .0 .narrow))
+
+add-i : tie.Need-add-i Inv-loop μ-loop
+add-i c = search needs
+
+loop-less : tie.Need-loop-less Inv-loop μ-loop
+loop-less c = search needs
+
+loop-again : tie.Need-loop-again Inv-loop μ-loop
+loop-again c =
+    let l = c .before .before .before .before .before .loop in
+    let z = c .before .before .before .before .before .before .before .before .before .before .before in
+    let a = z .args in
+    let b = lay-bounds (a .chain .now) (a .m) (l .x) (l .y) (l .i) (l .head) (l .next) (l .hs) (length (a .head .now)) (l .inv .4) (z .pre .0) (omega arith) in (
+      omega arith,
+      length-set (l .head) (l .x) (l .i + 1) ∙ l .inv .1,
+      length-set (l .next) (l .i) (getD (l .head) (l .x) 0) ∙ l .inv .2,
+      length-set (l .hs) (l .i) (l .y) ∙ l .inv .3,
+      lay-step (a .chain .now) (a .m) (l .x) (l .y) (l .i) (l .head) (l .next) (l .hs) (l .inv .4) (omega arith) (c .before .column .result) (c .height .result) (c .before .column .ensures) (c .height .ensures) (omega (arith, b .1, l .inv .1)) (omega (arith, l .inv .2)) (omega (arith, l .inv .3)),
+    )
+
+same-length : tie.Need-same-length Inv-loop μ-loop
+same-length c = search needs
+
+same-length-2 : tie.Need-same-length-2 Inv-loop μ-loop
+same-length-2 c = search needs
+
+same-length-3 : tie.Need-same-length-3 Inv-loop μ-loop
+same-length-3 c = search needs
+
+returns : tie.Need-returns Inv-loop μ-loop
+returns c =
+    let l = c .before .loop in
+    let a = c .before .before .before .before .before .before .before .args in
+    subst (λ (n : ℕ). Laid (a .chain .now) (a .m) n (l .head) (l .next) (l .hs)) (all (l .i) (length (a .chain .now)) (l .inv .0) (omega arith)) (l .inv .4 .laid)
+  where
+    all : (i n : ℕ) → i ≤ n → n ≤ i → i ≡ n
+    all i n h g = omega arith
+
+pub lay-spec : {M : Type 1} → statement M
+lay-spec =
+    tie.close
+    (tie.spec
+    Inv-loop
+    μ-loop
+    wide-requires
+    loop-holds
+    shared-slice-read-d
+    mul-hs
+    slice-write-hs
+    mul-next
+    slice-read-next
+    mul-next-2
+    slice-write-next
+    add-head
+    cast-head
+    mul-head
+    slice-write-head
+    column-requires
+    height-requires
+    add-i
+    loop-less
+    loop-again
+    same-length
+    same-length-2
+    same-length-3
+    returns)

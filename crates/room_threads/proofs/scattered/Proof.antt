@@ -1,0 +1,57 @@
+-- `room_threads::scattered` meets its contract.
+-- Assumes nothing.
+use borrow.Author.Needs.{needs}
+use native.Mathlib.Omega.{arith}
+use mathlib.Core.Path.{sym, subst}
+use lib.ListN.{length}
+use Rattle.room_thread_laws.specs.Threads.{Leads}
+use Rattle.room_thread_laws.proofs.LayLaws.{laid-leads, laid-heads, laid-scattered}
+use Rattle.room_threads.proofs.scattered.Statement.{statement}
+use Rattle.room_threads.proofs.scattered.Tie as tie
+
+lay-requires : tie.Need-lay-requires
+lay-requires c κs = search needs
+
+apart-requires : tie.Need-apart-requires
+apart-requires c κs =
+    let f = c .before .before .before .before .before .before .before .before .before .before .lay in
+    let z = c .before .before .before .before .before .before .before .before .before .before .before .before .before .before .before .before .before .before .before in
+    let a = z .args in
+    let s = z .pre .0 in (
+      subst (Leads (f .last .1 .1 .1 .0) (f .last .1 .1 .1 .1 .0)) (sym (s .marks)) (laid-leads (a .chain .now) (a .m) (f .last .1 .1 .0) (f .last .1 .1 .1 .0) (f .last .1 .1 .1 .1 .0) (length (a .head .now)) (s .stays) (s .some) (omega (arith, s .heights, f .kept .1 .1 .1 .0, f .kept .1 .1 .1 .1 .0)) (f .ensures)),
+      laid-heads (a .chain .now) (a .m) (f .last .1 .1 .0) (f .last .1 .1 .1 .0) (f .last .1 .1 .1 .1 .0) (omega (arith, s .places, f .kept .1 .1 .1 .0)) (f .ensures),
+      omega (arith, s .stays .narrow, f .kept .1 .1 .0),
+      s .zeros .3,
+    )
+
+same-length : tie.Need-same-length
+same-length c = search needs
+
+same-length-2 : tie.Need-same-length-2
+same-length-2 c = search needs
+
+same-length-3 : tie.Need-same-length-3
+same-length-3 c = search needs
+
+same-length-4 : tie.Need-same-length-4
+same-length-4 c = search needs
+
+returns : tie.Need-returns
+returns c =
+    let f = c .before .before .before .before .before .before .before .before .before .before .before .before .before .lay in
+    let z = c .before .before .before .before .before .before .before .before .before .before .before .before .before .before .before .before .before .before .before .before .before .before in
+    let a = z .args in
+    let p = c .before .before .apart in
+    laid-scattered (a .chain .now) (a .m) (f .last .1 .1 .0) (f .last .1 .1 .1 .0) (f .last .1 .1 .1 .1 .0) (length (a .head .now)) (p .result) (z .pre .0 .stays) (f .kept .1 .1 .0) (f .ensures) (p .ensures)
+
+pub scattered-spec : {M : Type 1} → statement M
+scattered-spec =
+    tie.close
+    (tie.spec
+    lay-requires
+    apart-requires
+    same-length
+    same-length-2
+    same-length-3
+    same-length-4
+    returns)

@@ -1,0 +1,170 @@
+// Whether two places of a walk are one corner: each column's thread is followed back, and each height on it is stamped.
+use hull_columns::Columns;
+use hull_columns::column;
+use hull_columns::height;
+ghost use mathlib.Core.Path.{_≡_};
+ghost use mathlib.Core.Bool.{true};
+ghost use Prim.Native.Nat.{ℕ, _+_, _*_, _≤_, _<_};
+ghost use Rattle.hull_laws.specs.Columns.{middle};
+ghost use lib.ListN.{length, getD};
+ghost use Rattle.room_thread_laws.specs.Threads.{Leads, Followed, Parted, Stays, Laid, Store, Scattered, Closes, Told};
+
+fn wide(c: u16) -> usize
+    ensures { λ r. ⌜ (r ≡ c) × (r < 65536) ⌝ }
+{
+    c as usize
+}
+
+// Follows the thread that ends at place `last`, counted from 1, and answers whether no height on it comes twice. Each gets the stamp.
+fn follow(tag: u16, last: u16, next: &[u16], hs: &[u16], stamps: &mut [u16]) -> bool
+    requires { ⌜ Leads (now next) (now hs) (length (now stamps)) × (last ≤ length (now next)) ⌝ }
+    ensures { λ r. ⌜ Followed (now (next .entry)) (now (hs .entry)) (now (stamps .entry)) tag last r (now (stamps .exit)) ⌝ }
+{
+    let mut p = wide(last);
+    while p > 0 {
+        let h = wide(hs[p - 1]);
+        if stamps[h] == tag {
+            return false;
+        }
+        stamps[h] = tag;
+        p = wide(next[p - 1]);
+    }
+    true
+}
+
+// Follows the thread of every column, and answers whether no two places have one column and one height.
+fn apart(head: &[u16], next: &[u16], hs: &[u16], stamps: &mut [u16]) -> bool
+    requires { ⌜ Leads (now next) (now hs) (length (now stamps)) × ((c : ℕ) → getD (now head) c 0 ≤ length (now next)) × (length (now head) < 65536) × ((h : ℕ) → getD (now stamps) h 0 ≡ 0) ⌝ }
+    ensures { λ r. ⌜ Parted (now (head .entry)) (now (next .entry)) (now (hs .entry)) r ⌝ }
+{
+    let mut c = 0;
+    while c < head.len() {
+        if !follow((c + 1) as u16, head[c], next, hs, stamps) {
+            return false;
+        }
+        c += 1;
+    }
+    true
+}
+
+// Threads the places of the walk that starts in column and height m, all but its last, and keeps the height of each.
+fn lay(chain: &[u8], m: u16, head: &mut [u16], next: &mut [u16], hs: &mut [u16])
+    requires { ⌜ Stays (now chain) m (length (now head)) × (length (now chain) ≤ length (now next)) × (length (now chain) ≤ length (now hs)) × (length (now chain) < 65536) × ((c : ℕ) → getD (now head) c 0 ≡ 0) × ((j : ℕ) → getD (now next) j 0 ≡ 0) × ((j : ℕ) → getD (now hs) j 0 ≡ 0) ⌝ }
+    ensures { λ _. ⌜ Laid (now (chain .entry)) m (length (now (chain .entry))) (now (head .exit)) (now (next .exit)) (now (hs .exit)) ⌝ }
+{
+    let mut x = wide(m);
+    let mut y = m;
+    let mut i = 0;
+    while i < chain.len() {
+        let d = chain[i];
+        hs[i] = y;
+        next[i] = head[x];
+        head[x] = (i + 1) as u16;
+        x = column(x, d);
+        y = height(y, d);
+        i += 1;
+    }
+}
+
+// Whether no two places of the walk that starts in column and height m, but for its last, are one. The working store is lent.
+fn scattered(
+    chain: &[u8],
+    m: u16,
+    head: &mut [u16],
+    next: &mut [u16],
+    hs: &mut [u16],
+    stamps: &mut [u16],
+) -> bool
+    requires { ⌜ Store (now chain) m (now head) (now next) (now hs) (now stamps) × (length (now chain) < 65536) ⌝ }
+    ensures { λ r. ⌜ Scattered (now (chain .entry)) m r ⌝ }
+{
+    lay(chain, m, head, next, hs);
+    apart(head, next, hs, stamps)
+}
+
+// Whether a walk ends where it starts.
+fn closes(chain: &[u8]) -> bool
+    requires { ⌜ length (now chain) ≤ middle ⌝ }
+    ensures { λ r. ⌜ Closes (now (chain .entry)) r ⌝ }
+{
+    let mut x = Columns::MIDDLE;
+    let mut y = Columns::LEVEL;
+    let mut i = 0;
+    while i < chain.len() {
+        let d = chain[i];
+        x = column(x, d);
+        y = height(y, d);
+        i += 1;
+    }
+    if x != Columns::MIDDLE {
+        return false;
+    }
+    y == Columns::LEVEL
+}
+
+// Where the walk starts in the working store: a closed walk stays within half its steps of it.
+fn start(n: usize) -> u16
+    requires { ⌜ n ≤ middle ⌝ }
+    ensures { λ r. ⌜ (n < 2 * r) × (2 * r ≤ n + 2) ⌝ }
+{
+    (n / 2 + 1) as u16
+}
+
+// Whether a closed walk of at most 256 steps is a room.
+fn told_narrow(chain: &[u8]) -> bool
+    requires { ⌜ (4 ≤ length (now chain)) × (length (now chain) ≤ 256) × Closes (now chain) true ⌝ }
+    ensures { λ r. ⌜ Told (now (chain .entry)) r ⌝ }
+{
+    let mut head = [0u16; 258];
+    let mut next = [0u16; 256];
+    let mut hs = [0u16; 256];
+    let mut stamps = [0u16; 258];
+    let m = start(chain.len());
+    scattered(chain, m, &mut head, &mut next, &mut hs, &mut stamps)
+}
+
+// Whether a closed walk of at most 2,048 steps is a room.
+fn told_wider(chain: &[u8]) -> bool
+    requires { ⌜ (4 ≤ length (now chain)) × (length (now chain) ≤ 2048) × Closes (now chain) true ⌝ }
+    ensures { λ r. ⌜ Told (now (chain .entry)) r ⌝ }
+{
+    let mut head = [0u16; 2050];
+    let mut next = [0u16; 2048];
+    let mut hs = [0u16; 2048];
+    let mut stamps = [0u16; 2050];
+    let m = start(chain.len());
+    scattered(chain, m, &mut head, &mut next, &mut hs, &mut stamps)
+}
+
+// Whether a closed walk of at most 16,384 steps is a room.
+fn told_widest(chain: &[u8]) -> bool
+    requires { ⌜ (4 ≤ length (now chain)) × (length (now chain) ≤ 16384) × Closes (now chain) true ⌝ }
+    ensures { λ r. ⌜ Told (now (chain .entry)) r ⌝ }
+{
+    let mut head = [0u16; 16386];
+    let mut next = [0u16; 16384];
+    let mut hs = [0u16; 16384];
+    let mut stamps = [0u16; 16386];
+    let m = start(chain.len());
+    scattered(chain, m, &mut head, &mut next, &mut hs, &mut stamps)
+}
+
+// Whether a walk is a room, whatever corner it starts from: closed, of at least four steps, with no meeting but that of its ends.
+pub fn is_room(chain: &[u8]) -> bool
+    requires { ⌜ length (now chain) ≤ middle ⌝ }
+    ensures { λ r. ⌜ Told (now (chain .entry)) r ⌝ }
+{
+    if chain.len() < 4 {
+        return false;
+    }
+    if !closes(chain) {
+        return false;
+    }
+    if chain.len() <= 256 {
+        return told_narrow(chain);
+    }
+    if chain.len() <= 2048 {
+        return told_wider(chain);
+    }
+    told_widest(chain)
+}

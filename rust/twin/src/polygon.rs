@@ -1,0 +1,101 @@
+//! Rooms as polygons: whether a walk is a room by threads through its columns, and the points written one after the other.
+
+use answer::{MOST_INPUT, MOST_START, Refusal};
+
+use crate::hull;
+use crate::tree::Corner;
+
+/// Writes the room with this start and chain to the start of `out`, and answers how many bytes its polygon has.
+pub fn polygon_of_room((x, y): (i32, i32), chain: &[u8], out: &mut [u8]) -> Result<usize, Refusal> {
+    let range = -MOST_START..=MOST_START;
+    if chain.len() > MOST_INPUT {
+        return Err(Refusal::TooMany);
+    }
+    if !range.contains(&x) || !range.contains(&y) {
+        return Err(Refusal::StartRange);
+    }
+    hull::judge(chain)?;
+    if !is_room(chain) {
+        return Err(Refusal::NotRoom);
+    }
+    write(Corner { x, y }, chain, out).ok_or(Refusal::PolygonRoom)
+}
+
+/// Whether the walk is closed, of four steps or more, and at no corner twice before its end.
+fn is_room(chain: &[u8]) -> bool {
+    chain.len() >= 4
+        && closes(chain)
+        && match chain.len() {
+            ..=256 => scattered(chain, [0; 258], [0; 256], [0; 256], [0; 258]),
+            ..=2_048 => scattered(chain, [0; 2_050], [0; 2_048], [0; 2_048], [0; 2_050]),
+            _ => scattered(chain, [0; 16_386], [0; 16_384], [0; 16_384], [0; 16_386]),
+        }
+}
+
+fn closes(chain: &[u8]) -> bool {
+    let mut at = Corner { x: 0, y: 0 };
+    for &step in chain {
+        at = at.stepped(step);
+    }
+    at == Corner { x: 0, y: 0 }
+}
+
+/// Threads the places of each column, then follows each thread and stamps its heights: whether none comes twice.
+fn scattered<const N: usize, const M: usize>(
+    chain: &[u8],
+    mut head: [u16; M],
+    mut next: [u16; N],
+    mut heights: [u16; N],
+    mut stamps: [u16; M],
+) -> bool {
+    let middle = (chain.len() / 2 + 1) as i32;
+    let mut at = Corner {
+        x: middle,
+        y: middle,
+    };
+    for (i, &step) in chain.iter().enumerate() {
+        heights[i] = at.y as u16;
+        next[i] = head[at.x as usize];
+        head[at.x as usize] = (i + 1) as u16;
+        at = at.stepped(step);
+    }
+    for (column, &last) in head.iter().enumerate() {
+        let mut place = usize::from(last);
+        while place > 0 {
+            let stamp = &mut stamps[usize::from(heights[place - 1])];
+            if *stamp == (column + 1) as u16 {
+                return false;
+            }
+            *stamp = (column + 1) as u16;
+            place = usize::from(next[place - 1]);
+        }
+    }
+    true
+}
+
+/// Writes the polygon, if there is room for it.
+fn write(start: Corner, chain: &[u8], out: &mut [u8]) -> Option<usize> {
+    let count = chain.windows(2).filter(|two| two[0] != two[1]).count() + 2;
+    let bytes = 13 + 16 * count;
+    let (header, points) = out.get_mut(..bytes)?.split_at_mut(13);
+    header[..9].copy_from_slice(b"\x01\x03\x00\x00\x00\x01\x00\x00\x00");
+    header[9..].copy_from_slice(&(count as u32).to_le_bytes());
+    let mut points = points.chunks_exact_mut(16);
+    let mut put = |at: Corner| {
+        let point = points.next().expect("the points were counted");
+        point[..8].copy_from_slice(&f64::from(600 * at.x).to_le_bytes());
+        point[8..].copy_from_slice(&f64::from(600 * at.y).to_le_bytes());
+    };
+    put(start);
+    let mut at = start;
+    let mut before = chain[0];
+    for &step in chain {
+        if step != before {
+            put(at);
+        }
+        at = at.stepped(step);
+        before = step;
+    }
+    put(start);
+    Some(bytes)
+}
