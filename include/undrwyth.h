@@ -56,7 +56,7 @@ extern "C" {
 /* Bytes of stack that a call needs, rounded up from what include/stack.c measured on x86-64 and on 64-bit ARM. */
 #define UNDRWYTH_WALK_STACK_BYTES 2048     /* 1,648 measured */
 #define UNDRWYTH_HULL_STACK_BYTES 132096   /* 131,480 measured; 131,080 are its working store */
-#define UNDRWYTH_POLYGON_STACK_BYTES 132096 /* 131,080 are its working store */
+#define UNDRWYTH_POLYGON_STACK_BYTES 132096 /* 131,216 measured; 131,080 are its working store */
 #define UNDRWYTH_TURNS_STACK_BYTES 256     /* 48 measured */
 #define UNDRWYTH_LINE_STACK_BYTES 184320   /* 183,992 measured: a table, marks, hull numbers, and the hull's store */
 
