@@ -45,7 +45,7 @@ module _ {s : Corner} {ds before after : List ℕ} {r : Counted} (w : PolygonCal
 module _ (s : Corner) (ds before : List ℕ) {after : List ℕ} where
   -- "nothing written"
   pub polygon-untouched : (q : Refusal) → PolygonCall s ds before (Counted.Refused q) after → after ≡ before
-  polygon-untouched = roomCallLaws.call-untouched s ds before
+  polygon-untouched = polygonLaws.call-untouched
 
   -- the polygon, and "bytes after the polygon are unchanged"
   pub polygon-written : (n : ℕ) → PolygonCall s ds before (Counted.Many n) after → (n ≡ length (polygonOf s ds)) × (after ≡ polygonOf s ds ++ drop (length (polygonOf s ds)) before)

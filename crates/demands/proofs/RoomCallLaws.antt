@@ -142,9 +142,6 @@ module _ (s : Corner) (ds before : List ℕ) where
       (countedOf j (length (polygonOf s ds)), writtenIf j (polygonOf s ds ++ drop (length (polygonOf s ds)) before) before, record { answer = refl; buffer = refl })
 
   module _ {after : List ℕ} where
-    pub call-untouched : (q : Refusal) → PolygonCall s ds before (Counted.Refused q) after → after ≡ before
-    call-untouched q p = p .buffer ∙ ap (λ (j : Judged). writtenIf j (polygonOf s ds ++ drop (length (polygonOf s ds)) before) before) (count-refused (polygonJudged s ds (length before)) (length (polygonOf s ds)) q (p .answer))
-
     pub call-good : (n : ℕ) → PolygonCall s ds before (Counted.Many n) after → (polygonJudged s ds (length before) ≡ Good) × (n ≡ length (polygonOf s ds)) × (after ≡ polygonOf s ds ++ drop (length (polygonOf s ds)) before)
     call-good n p = go (polygonJudged s ds (length before)) refl (p .answer) (p .buffer)
       where
