@@ -2,10 +2,10 @@
 -- Assumes nothing.
 use mathlib.Core.Path.{_≡_, sym, ap, _∙_}
 use mathlib.Core.List.{List, _++_}
-use Prim.Native.Nat.{ℕ, suc, _+_, _-_, _<_, _≤_}
+use Prim.Native.Nat.{ℕ, suc, _+_, _-_, _<_, _≤_, min}
 use native.Mathlib.Omega.{arith}
 use native.Mathlib.Numerals.{add-one}
-use native.Mathlib.Decide.{decLe, decLt}
+use native.Mathlib.Decide.{decLe}
 use lib.ListN.{length, take, drop, getD, set, length-drop, drop-of-length-le}
 use lib.Seq.{drop-cons, paste, paste-suc, getD-drop, take-append-add, take-all, take-take, length-take-le, length-paste-head}
 use borrow.Author.Tests.{eq-eqb, ne-eqb}
@@ -37,7 +37,7 @@ paste-next d s held at j l h k e =
 
 -- the bytes that are kept of the held ones and of a piece
 module _ (line s : List ℕ) (held at end m : ℕ) (hh : held ≤ mostHeld) (hl : length line ≡ mostHeld) (ha : at ≤ end) (he : end ≤ length s)
-    (h1 : m ≤ end - at) (h2 : m ≤ mostHeld - held) (h3 : m < end - at → m ≡ mostHeld - held) where
+    (hm : m ≡ min (end - at) (mostHeld - held)) where
   kept-piece : keptOf (take held line ++ take (end - at) (drop at s)) ≡ take held line ++ take m (drop at s)
   kept-piece =
       let p : List ℕ = take (end - at) (drop at s) in
@@ -50,14 +50,10 @@ module _ (line s : List ℕ) (held at end m : ℕ) (hh : held ≤ mostHeld) (hl 
     where
       two : Dec (end - at ≤ mostHeld - held) → length (take (end - at) (drop at s)) ≡ end - at → take (mostHeld - held) (take (end - at) (drop at s)) ≡ take m (drop at s)
       two (yes y) lp =
-          let e : end - at ≡ m = both (decLt m (end - at)) in
+          let e : end - at ≡ m = omega (arith, hm) in
           take-all (mostHeld - held) (take (end - at) (drop at s)) (omega arith) ∙ ap (λ (n : ℕ). take n (drop at s)) e
-        where
-          both : Dec (m < end - at) → end - at ≡ m
-          both (yes l) = omega (arith, h3 l)
-          both (no f) = omega (arith, f)
       two (no f) lp =
-          let e : mostHeld - held ≡ m = sym (h3 (omega (arith, f))) in
+          let e : mostHeld - held ≡ m = omega (arith, f, hm) in
           take-take (mostHeld - held) (end - at) (drop at s) (omega (arith, f)) ∙ ap (λ (n : ℕ). take n (drop at s)) e
 
   pub hold-kept : Wrote (keptOf (take held line ++ take (end - at) (drop at s))) 0 line (held + m) (paste line held (drop at s) m)

@@ -1,7 +1,8 @@
 // Input that comes in parts: how far a call went, where a line ends, and the bytes of a line begun, which are held in a lent buffer.
 use line_frame::Frame;
+use order::lesser;
 ghost use mathlib.Core.Path.{_≡_};
-ghost use Prim.Native.Nat.{_+_, _-_, _<_, _≤_};
+ghost use Prim.Native.Nat.{_+_, _-_, _≤_};
 ghost use lib.ListN.{length, take, drop};
 ghost use mathlib.Core.List.{_++_};
 ghost use Rattle.line_stream.specs.Stream.{lineLength, keptOf};
@@ -35,23 +36,13 @@ pub fn line_end(s: &[u8], at: usize) -> usize
     i
 }
 
-fn least(a: usize, b: usize) -> usize
-    ensures { λ r. ⌜ (r ≤ a) × (r ≤ b) ⌝ }
-    ensures { λ r. ⌜ ((r < a → r ≡ b) × (r < b → r ≡ a)) ⌝ }
-{
-    if a < b {
-        return a;
-    }
-    b
-}
-
 // Holds the bytes of the chunk from at up to end, as far as there is room. Answers how many are held then.
 pub fn hold(line: &mut [u8], held: usize, s: &[u8], at: usize, end: usize) -> usize
     requires { ⌜ (held ≤ mostHeld) × (length (now line) ≡ mostHeld) ⌝ }
     requires { ⌜ (at ≤ end) × (end ≤ length (now s)) ⌝ }
     ensures { λ r. ⌜ Wrote (keptOf (take held (now (line .entry)) ++ take (end - at) (drop at (now (s .entry))))) 0 (now (line .entry)) r (now (line .exit)) ⌝ }
 {
-    let m = least(end - at, Progress::MOST_HELD - held);
+    let m = lesser(end - at, Progress::MOST_HELD - held);
     let mut i = 0;
     while i < m {
         line[held + i] = s[at + i];

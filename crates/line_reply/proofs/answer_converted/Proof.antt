@@ -9,47 +9,11 @@ use Rattle.line_reply.proofs.ReplyLaws.{turned-good, turned-refused}
 use Rattle.line_reply.proofs.answer_converted.Statement.{statement}
 use Rattle.line_reply.proofs.answer_converted.Tie as tie
 
-steps-of-requires : tie.Need-steps-of-requires
-steps-of-requires c κs = search needs
-
-enum-told : tie.Need-enum-told
-enum-told c = search needs
-
-answer-operations-requires : tie.Need-answer-operations-requires
-answer-operations-requires c κs = search needs
-
-enum-known-r : tie.Need-enum-known-r
-enum-known-r c = search needs
-
-spell-refusal-requires : tie.Need-spell-refusal-requires
-spell-refusal-requires c κs = search needs
-
-same-length : tie.Need-same-length
-same-length c = search needs
-
-same-length-2 : tie.Need-same-length-2
-same-length-2 c = search needs
-
-same-length-3 : tie.Need-same-length-3
-same-length-3 c = search needs
-
-same-length-4 : tie.Need-same-length-4
-same-length-4 c = search needs
-
-same-length-5 : tie.Need-same-length-5
-same-length-5 c = search needs
-
 returns : tie.Need-returns
 returns c =
     let r = c .before .before .before .before .before .before .before .answer-operations in
     let s = c .before .before .before .before .before .before .before .before .before .before .before .before .before .before .before .before .before .before .before .before .before .before .before .before in
     subst (λ (l : List ℕ). Wrote l (s .args .at) (s .args .out .now) (r .result) (r .last .1 .1 .1 .1 .0)) (turned-good (c .before .before .before .before .before .before .before .before .before .before .before .before .before .before .before .before .before .steps-of .ensures) (s .pre .0 .1) (c .before .before .before .before .before .before .before .before .before .before .before .before .before .enum-told .given .1)) (r .ensures)
-
-same-length-6 : tie.Need-same-length-6
-same-length-6 c = search needs
-
-same-length-7 : tie.Need-same-length-7
-same-length-7 c = search needs
 
 returns-2 : tie.Need-returns-2
 returns-2 c =
@@ -62,17 +26,17 @@ pub answer-converted-spec : {M : Type 1} → statement M
 answer-converted-spec =
     tie.close
     (tie.spec
-    steps-of-requires
-    enum-told
-    answer-operations-requires
-    enum-known-r
-    spell-refusal-requires
-    same-length
-    same-length-2
-    same-length-3
-    same-length-4
-    same-length-5
+    (λ c κs. search needs)
+    (λ c. search needs)
+    (λ c κs. search needs)
+    (λ c. search needs)
+    (λ c κs. search needs)
+    (λ c. search needs)
+    (λ c. search needs)
+    (λ c. search needs)
+    (λ c. search needs)
+    (λ c. search needs)
     returns
-    same-length-6
-    same-length-7
+    (λ c. search needs)
+    (λ c. search needs)
     returns-2)

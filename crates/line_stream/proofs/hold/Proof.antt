@@ -1,14 +1,13 @@
 -- `line_stream::hold` meets its contract: the bytes copied so far stand behind those that were held.
 -- Assumes nothing.
-use Rattle.line_fields.specs.Put.{Wrote}
-use lib.Seq.{paste-zero}
-use Rattle.line_stream.proofs.HoldLaws.{paste-next, hold-kept}
-use borrow.Author.Needs.{needs}
-use lib.Seq.{paste}
-use lib.ListN.{length, drop, length-set}
-use native.Mathlib.Omega.{arith}
 use mathlib.Core.Path.{_≡_, refl, ap, _∙_}
 use Prim.Native.Nat.{_≤_, _+_, _-_}
+use native.Mathlib.Omega.{arith}
+use borrow.Author.Needs.{needs}
+use lib.ListN.{length, drop, length-set}
+use lib.Seq.{paste, paste-zero}
+use Rattle.line_fields.specs.Put.{Wrote}
+use Rattle.line_stream.proofs.HoldLaws.{paste-next, hold-kept}
 use Rattle.line_stream.proofs.hold.Statement.{statement}
 use Rattle.line_stream.proofs.hold.Tie as tie
 
@@ -18,14 +17,14 @@ Inv-loop line₀ held s at end m i₀ line i = (i ≤ m) × (held + m ≤ length
 abbrev μ-loop : tie.MeasureT-loop
 μ-loop line₀ held s at end m i₀ line i = m - i
 
-sub-least : tie.Need-sub-least Inv-loop μ-loop
-sub-least c = search needs
+sub-lesser : tie.Need-sub-lesser Inv-loop μ-loop
+sub-lesser c = search needs
 
-sub-least-2 : tie.Need-sub-least-2 Inv-loop μ-loop
-sub-least-2 c = search needs
+sub-lesser-2 : tie.Need-sub-lesser-2 Inv-loop μ-loop
+sub-lesser-2 c = search needs
 
-least-requires : tie.Need-least-requires Inv-loop μ-loop
-least-requires c κs = search needs
+lesser-requires : tie.Need-lesser-requires Inv-loop μ-loop
+lesser-requires c κs = search needs
 
 loop-holds : tie.Need-loop-holds Inv-loop μ-loop
 loop-holds c =
@@ -65,12 +64,12 @@ same-length c = omega arith
 returns : tie.Need-returns Inv-loop μ-loop
 returns c =
     let l = c .before in
-    let m = l .before .least .result in
+    let m = l .before .lesser .result in
     let s = l .before .before .before .before in
     let e : l .loop .i ≡ m = omega arith in
     let a = s .args in
     let h : Wrote _ 0 (a .line .now) (a .held + m) (paste (a .line .now) (a .held) (drop (a .at) (a .s .now)) m) =
-    hold-kept (a .line .now) (a .s .now) (a .held) (a .at) (a .end) m (omega arith) (omega arith) (omega arith) (omega arith) (omega arith) (omega arith) (l .before .least .ensures .1 .0)
+    hold-kept (a .line .now) (a .s .now) (a .held) (a .at) (a .end) m (omega arith) (omega arith) (omega arith) (omega arith) (l .before .lesser .ensures)
     in
     record {
       end = h .end;
@@ -83,9 +82,9 @@ hold-spec =
     (tie.spec
     Inv-loop
     μ-loop
-    sub-least
-    sub-least-2
-    least-requires
+    sub-lesser
+    sub-lesser-2
+    lesser-requires
     loop-holds
     add-line
     shared-slice-read-line
