@@ -9,9 +9,6 @@ use mathlib.Core.Path.{ap}
 use Rattle.polygon_out.proofs.draw.Statement.{statement}
 use Rattle.polygon_out.proofs.draw.Tie as tie
 
-count-requires : tie.Need-count-requires
-count-requires c κs = search needs
-
 add-n : tie.Need-add-n
 add-n c = record { fits = omega (arith, c .count .ensures, turning-le (c .before .before .before .args .chain .now), c .before .before .before .pre .few) }
 
@@ -25,42 +22,6 @@ returns : tie.Need-returns
 returns c =
     let s = c .before .before .before .before in
     draw-short (s .args .start) (s .args .chain .now) (s .args .out .now) (c .before .count .result + 2) (s .pre .digits) (ap (λ (k : ℕ). k + 2) (c .before .count .ensures)) (c .if1 .taken)
-
-put-prefix-requires : tie.Need-put-prefix-requires
-put-prefix-requires c κs = search needs
-
-sub-put-number : tie.Need-sub-put-number
-sub-put-number c = search needs
-
-part-put-number-start : tie.Need-part-put-number-start
-part-put-number-start c = search needs
-
-part-put-number-end : tie.Need-part-put-number-end
-part-put-number-end c = search needs
-
-put-number-requires : tie.Need-put-number-requires
-put-number-requires c κs = search needs
-
-sub-put-ring : tie.Need-sub-put-ring
-sub-put-ring c = search needs
-
-part-put-ring-start : tie.Need-part-put-ring-start
-part-put-ring-start c = search needs
-
-part-put-ring-end : tie.Need-part-put-ring-end
-part-put-ring-end c = search needs
-
-put-ring-requires : tie.Need-put-ring-requires
-put-ring-requires c κs = search needs
-
-mul-t5 : tie.Need-mul-t5
-mul-t5 c = search needs
-
-add-t6 : tie.Need-add-t6
-add-t6 c = search needs
-
-same-length : tie.Need-same-length
-same-length c = search needs
 
 returns-2 : tie.Need-returns-2
 returns-2 c =
@@ -78,21 +39,21 @@ pub draw-spec : {M : Type 1} → statement M
 draw-spec =
     tie.close
     (tie.spec
-    count-requires
+    (λ c κs. search needs)
     add-n
     mul-if1
     add-if1
     returns
-    put-prefix-requires
-    sub-put-number
-    part-put-number-start
-    part-put-number-end
-    put-number-requires
-    sub-put-ring
-    part-put-ring-start
-    part-put-ring-end
-    put-ring-requires
-    mul-t5
-    add-t6
-    same-length
+    (λ c κs. search needs)
+    (λ c. search needs)
+    (λ c. search needs)
+    (λ c. search needs)
+    (λ c κs. search needs)
+    (λ c. search needs)
+    (λ c. search needs)
+    (λ c. search needs)
+    (λ c κs. search needs)
+    (λ c. search needs)
+    (λ c. search needs)
+    (λ c. search needs)
     returns-2)

@@ -16,23 +16,11 @@ Inv-loop chain m head₀ next₀ hs₀ x₀ y₀ i₀ head next hs x y i = (i �
 abbrev μ-loop : tie.MeasureT-loop
 μ-loop chain m head₀ next₀ hs₀ x₀ y₀ i₀ head next hs x y i = length chain - i
 
-wide-requires : tie.Need-wide-requires Inv-loop μ-loop
-wide-requires c κs = search needs
-
 loop-holds : tie.Need-loop-holds Inv-loop μ-loop
 loop-holds c =
     let z = c .before .before .before .before .before in
     let a = z .args in
     (omega arith, refl, refl, refl, subst (λ (x : ℕ). Laying (a .chain .now) (a .m) x (a .m) 0 (a .head .now) (a .next .now) (a .hs .now)) (sym (c .wide .ensures .0)) (lay-start (a .chain .now) (a .m) (a .head .now) (a .next .now) (a .hs .now) (z .pre .4) (z .pre .5) (z .pre .6)))
-
-shared-slice-read-d : tie.Need-shared-slice-read-d Inv-loop μ-loop
-shared-slice-read-d c = search needs
-
-mul-hs : tie.Need-mul-hs Inv-loop μ-loop
-mul-hs c = search needs
-
-slice-write-hs : tie.Need-slice-write-hs Inv-loop μ-loop
-slice-write-hs c = search needs
 
 mul-next : tie.Need-mul-next Inv-loop μ-loop
 mul-next c =
@@ -49,18 +37,6 @@ slice-read-next c =
     let a = z .args in
     let b = lay-bounds (a .chain .now) (a .m) (l .x) (l .y) (l .i) (l .head) (l .next) (l .hs) (length (a .head .now)) (l .inv .4) (z .pre .0) (omega arith) in
     omega (arith, b .1, l .inv .1)
-
-mul-next-2 : tie.Need-mul-next-2 Inv-loop μ-loop
-mul-next-2 c = search needs
-
-slice-write-next : tie.Need-slice-write-next Inv-loop μ-loop
-slice-write-next c = search needs
-
-add-head : tie.Need-add-head Inv-loop μ-loop
-add-head c = search needs
-
-cast-head : tie.Need-cast-head Inv-loop μ-loop
-cast-head c = search needs
 
 mul-head : tie.Need-mul-head Inv-loop μ-loop
 mul-head c =
@@ -94,12 +70,6 @@ height-requires c κs =
     let b = lay-bounds (a .chain .now) (a .m) (l .x) (l .y) (l .i) (l .head) (l .next) (l .hs) (length (a .head .now)) (l .inv .4) (z .pre .0) (omega arith) in
     (b .2, omega (arith, b .3, z .pre .0 .narrow))
 
-add-i : tie.Need-add-i Inv-loop μ-loop
-add-i c = search needs
-
-loop-less : tie.Need-loop-less Inv-loop μ-loop
-loop-less c = search needs
-
 loop-again : tie.Need-loop-again Inv-loop μ-loop
 loop-again c =
     let l = c .before .before .before .before .before .loop in
@@ -112,15 +82,6 @@ loop-again c =
       length-set (l .hs) (l .i) (l .y) ∙ l .inv .3,
       lay-step (a .chain .now) (a .m) (l .x) (l .y) (l .i) (l .head) (l .next) (l .hs) (l .inv .4) (omega arith) (c .before .column .result) (c .height .result) (c .before .column .ensures) (c .height .ensures) (omega (arith, b .1, l .inv .1)) (omega (arith, l .inv .2)) (omega (arith, l .inv .3)),
     )
-
-same-length : tie.Need-same-length Inv-loop μ-loop
-same-length c = search needs
-
-same-length-2 : tie.Need-same-length-2 Inv-loop μ-loop
-same-length-2 c = search needs
-
-same-length-3 : tie.Need-same-length-3 Inv-loop μ-loop
-same-length-3 c = search needs
 
 returns : tie.Need-returns Inv-loop μ-loop
 returns c =
@@ -137,25 +98,25 @@ lay-spec =
     (tie.spec
     Inv-loop
     μ-loop
-    wide-requires
+    (λ c κs. search needs)
     loop-holds
-    shared-slice-read-d
-    mul-hs
-    slice-write-hs
+    (λ c. search needs)
+    (λ c. search needs)
+    (λ c. search needs)
     mul-next
     slice-read-next
-    mul-next-2
-    slice-write-next
-    add-head
-    cast-head
+    (λ c. search needs)
+    (λ c. search needs)
+    (λ c. search needs)
+    (λ c. search needs)
     mul-head
     slice-write-head
     column-requires
     height-requires
-    add-i
-    loop-less
+    (λ c. search needs)
+    (λ c. search needs)
     loop-again
-    same-length
-    same-length-2
-    same-length-3
+    (λ c. search needs)
+    (λ c. search needs)
+    (λ c. search needs)
     returns)
