@@ -15,6 +15,10 @@ returns c = row-hulled (c .before .before .before .before .before .before .pre .
 sub-if3 : tie.Need-sub-if3
 sub-if3 c = walked-order (c .before .before .pre .0)
 
+-- a narrow walk fits the narrow store
+list-narrow-requires : tie.Need-list-narrow-requires
+list-narrow-requires c κs = search needs
+
 pub list-from-spec : {M : Type 1} → statement M
 list-from-spec =
     tie.close
@@ -24,7 +28,7 @@ list-from-spec =
     (λ c. search needs)
     returns
     sub-if3
-    (λ c κs. search needs)
+    list-narrow-requires
     (λ c. search needs)
     (λ c. search needs)
     (λ c. search needs)
