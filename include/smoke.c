@@ -24,7 +24,7 @@ static void walk_of_a_room(void) {
     uint32_t table[4 * UNDRWYTH_RECORD_WORDS], marks[8], answer[UNDRWYTH_WALK_ANSWER_WORDS];
     uint8_t chain[4];
     memset(table, 255, sizeof table);
-    CHECK(undrwyth_walk(ops, 4, table, LENGTH(table), marks, 8, chain, 4, answer) == UNDRWYTH_ACCEPTED);
+    CHECK(undrwyth_walk(0, 0, ops, 4, table, LENGTH(table), marks, 8, chain, 4, answer) == UNDRWYTH_ACCEPTED);
     const uint32_t facts[] = {0, 0, UNDRWYTH_VERDICT_ROOM, 4, 4, 4, 0, 4, 1, 0, 0};
     const uint32_t pairs[] = {2, 1, 3, 1, 4, 1, 4, 2};
     const uint32_t root[UNDRWYTH_RECORD_WORDS] = {
@@ -43,20 +43,20 @@ static void walks_refused(void) {
     const uint8_t no_steps[4] = {0}, kept[] = {7, 7, 7, 7};
     const uint32_t no_records[5 * UNDRWYTH_RECORD_WORDS] = {0}, no_marks[8] = {0};
     uint32_t table[5 * UNDRWYTH_RECORD_WORDS] = {7}, marks[8] = {7}, answer[UNDRWYTH_WALK_ANSWER_WORDS];
-    CHECK(undrwyth_walk(ops, 4, table, LENGTH(table) - 1, marks, 8, chain, 4, answer) == UNDRWYTH_REFUSAL_TABLE);
-    CHECK(undrwyth_walk(ops, 4, table, LENGTH(table), marks, 8, chain, 3, answer) == UNDRWYTH_REFUSAL_RESULT_ROOM);
+    CHECK(undrwyth_walk(0, 0, ops, 4, table, LENGTH(table) - 1, marks, 8, chain, 4, answer) == UNDRWYTH_REFUSAL_TABLE);
+    CHECK(undrwyth_walk(0, 0, ops, 4, table, LENGTH(table), marks, 8, chain, 3, answer) == UNDRWYTH_REFUSAL_RESULT_ROOM);
     CHECK(SAME(chain, kept) && table[0] == 7 && marks[0] == 7);
-    CHECK(undrwyth_walk(ops, 4, table, LENGTH(table), marks, 8, chain, 4, answer) == UNDRWYTH_REFUSAL_NO_ROOM);
+    CHECK(undrwyth_walk(0, 0, ops, 4, table, LENGTH(table), marks, 8, chain, 4, answer) == UNDRWYTH_REFUSAL_NO_ROOM);
     const uint32_t no_room[UNDRWYTH_WALK_ANSWER_WORDS] = {UNDRWYTH_REFUSAL_NO_ROOM, 3};
     CHECK(SAME(answer, no_room));
     CHECK(SAME(table, no_records) && SAME(marks, no_marks) && SAME(chain, no_steps));
     ops[1] = 5;
-    CHECK(undrwyth_walk(ops, 2, table, LENGTH(table), marks, 4, chain, 2, answer) == UNDRWYTH_REFUSAL_BAD_DIGIT);
+    CHECK(undrwyth_walk(0, 0, ops, 2, table, LENGTH(table), marks, 4, chain, 2, answer) == UNDRWYTH_REFUSAL_BAD_DIGIT);
     CHECK(answer[UNDRWYTH_WALK_PLACE] == 1);
     ops[0] = 4;
-    CHECK(undrwyth_walk(ops, 1, table, LENGTH(table), marks, 2, chain, 1, answer) == UNDRWYTH_REFUSAL_NOTHING_TO_TAKE);
-    CHECK(undrwyth_walk(NULL, 0, NULL, 0, NULL, 0, NULL, 0, answer) == UNDRWYTH_REFUSAL_TABLE);
-    CHECK(undrwyth_walk(NULL, 0, table, UNDRWYTH_RECORD_WORDS, NULL, 0, NULL, 0, answer) == UNDRWYTH_ACCEPTED);
+    CHECK(undrwyth_walk(0, 0, ops, 1, table, LENGTH(table), marks, 2, chain, 1, answer) == UNDRWYTH_REFUSAL_NOTHING_TO_TAKE);
+    CHECK(undrwyth_walk(0, 0, NULL, 0, NULL, 0, NULL, 0, NULL, 0, answer) == UNDRWYTH_REFUSAL_TABLE);
+    CHECK(undrwyth_walk(0, 0, NULL, 0, table, UNDRWYTH_RECORD_WORDS, NULL, 0, NULL, 0, answer) == UNDRWYTH_ACCEPTED);
     CHECK(answer[UNDRWYTH_WALK_VERDICT] == UNDRWYTH_VERDICT_NOWHERE && answer[UNDRWYTH_WALK_J] == UNDRWYTH_NO_MEETING);
 }
 
@@ -67,9 +67,9 @@ static void hull_of_a_crossing(void) {
     const int32_t kept[] = {7, 7, 7, 7, 7, 7, 7, 7, 7, 7, 7, 7, 7};
     int32_t out[] = {7, 7, 7, 7, 7, 7, 7, 7, 7, 7, 7, 7, 7};
     uint32_t answer[UNDRWYTH_HULL_ANSWER_WORDS];
-    CHECK(undrwyth_hull(steps, LENGTH(steps), out, 11, answer) == UNDRWYTH_REFUSAL_HULL_ROOM);
+    CHECK(undrwyth_hull(0, 0, steps, LENGTH(steps), out, 11, answer) == UNDRWYTH_REFUSAL_HULL_ROOM);
     CHECK(SAME(out, kept) && answer[UNDRWYTH_HULL_COUNT] == 0);
-    CHECK(undrwyth_hull(steps, LENGTH(steps), out, LENGTH(out), answer) == UNDRWYTH_ACCEPTED);
+    CHECK(undrwyth_hull(0, 0, steps, LENGTH(steps), out, LENGTH(out), answer) == UNDRWYTH_ACCEPTED);
     CHECK(SAME(out, corners) && answer[UNDRWYTH_HULL_COUNT] == 6);
 }
 
@@ -89,6 +89,21 @@ static void room_as_polygon(void) {
     CHECK(answer[UNDRWYTH_POLYGON_BYTES] == 93 && out[93] == 7);
     CHECK(memcmp(out, header, sizeof header) == 0);
     CHECK(memcmp(out + 13, start, sizeof start) == 0 && memcmp(out + 77, start, sizeof start) == 0);
+}
+
+static void starts(void) {
+    const uint8_t ops[] = {0, 4};
+    uint32_t table[17 * UNDRWYTH_RECORD_WORDS], marks[4], answer[UNDRWYTH_WALK_ANSWER_WORDS];
+    uint32_t counted[UNDRWYTH_HULL_ANSWER_WORDS];
+    uint8_t chain[2];
+    int32_t out[2] = {7, 7};
+    CHECK(undrwyth_walk(16384, -16384, ops, 2, table, LENGTH(table), marks, 4, chain, 2, answer) == UNDRWYTH_ACCEPTED);
+    CHECK(answer[UNDRWYTH_WALK_NODES] == 16 && answer[UNDRWYTH_WALK_LAST_X] == 16384);
+    CHECK((int32_t)answer[UNDRWYTH_WALK_LAST_Y] == -16384 && table[UNDRWYTH_WORD_VISITS] == 0);
+    CHECK(undrwyth_walk(3, -2, NULL, 0, table, 2 * UNDRWYTH_RECORD_WORDS, NULL, 0, NULL, 0, answer) == UNDRWYTH_REFUSAL_NO_ROOM);
+    CHECK(undrwyth_walk(0, 16385, ops, 2, table, LENGTH(table), marks, 4, chain, 2, answer) == UNDRWYTH_REFUSAL_START_RANGE);
+    CHECK(undrwyth_hull(INT32_MIN, 0, NULL, 0, out, 2, counted) == UNDRWYTH_REFUSAL_START_RANGE && out[0] == 7);
+    CHECK(undrwyth_hull(-5, 9, NULL, 0, out, 2, counted) == UNDRWYTH_ACCEPTED && out[0] == -5 && out[1] == 9);
 }
 
 static void turns_and_back(void) {
@@ -124,6 +139,7 @@ int main(void) {
     walks_refused();
     hull_of_a_crossing();
     room_as_polygon();
+    starts();
     turns_and_back();
     lines();
     return failures != 0;

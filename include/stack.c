@@ -15,19 +15,26 @@ static ucontext_t here, there;
 /* What the call takes. */
 static uint8_t digits[MOST], bytes[UNDRWYTH_LINE_BYTES], file[UNDRWYTH_POINT_BYTES * MOST + 29];
 static size_t count, records;
-static uint32_t table[(4 * MOST + 1) * UNDRWYTH_RECORD_WORDS], marks[UNDRWYTH_MARK_WORDS * MOST];
+static uint32_t table[(4 * MOST + 68) * UNDRWYTH_RECORD_WORDS], marks[UNDRWYTH_MARK_WORDS * MOST];
 static int32_t numbers[UNDRWYTH_CORNER_NUMBERS * (MOST + 1)];
 static uint8_t chain[MOST];
 static uint32_t answer[UNDRWYTH_WALK_ANSWER_WORDS];
 
 static void nothing(void) {}
 
-static void walk(void) {
-    undrwyth_walk(digits, count, table, records * UNDRWYTH_RECORD_WORDS, marks, UNDRWYTH_MARK_WORDS * count, chain, count,
-                  answer);
+static void walk_from(int32_t x, int32_t y) {
+    undrwyth_walk(x, y, digits, count, table, records * UNDRWYTH_RECORD_WORDS, marks, UNDRWYTH_MARK_WORDS * count, chain,
+                  count, answer);
 }
 
-static void hull(void) { undrwyth_hull(digits, count, numbers, sizeof numbers / sizeof numbers[0], answer); }
+/* From (0,0), and from two starts that are as far out as they may be. */
+static void walk(void) {
+    walk_from(0, 0);
+    walk_from(16384, 16384);
+    walk_from(-16384, -16384);
+}
+
+static void hull(void) { undrwyth_hull(-16384, 16384, digits, count, numbers, sizeof numbers / sizeof numbers[0], answer); }
 
 static void polygon(void) { undrwyth_polygon_of_room(-7, 5, digits, count, file, sizeof file, answer); }
 
@@ -110,7 +117,7 @@ int main(void) {
         for (int kind = 0; kind < 13; kind++) {
             fill(kind, lengths[l]);
             for (size_t c = 0; c < sizeof calls / sizeof calls[0]; c++)
-                for (records = 1; records <= 4 * MOST + 1; records += 4 * MOST) {
+                for (records = 1; records <= 4 * MOST + 68; records += 4 * MOST + 67) {
                     size_t now = used(calls[c].call);
                     most[c] = now > most[c] ? now : most[c];
                 }

@@ -1,6 +1,6 @@
 /* undrwyth.h: the judge of a surveyor's walk, for C.
  *
- * A surveyor walks along the edges of square floor panels, from corner (0,0). The record is a byte string of
+ * A surveyor walks along the edges of square floor panels, from a start corner. The record is a byte string of
  * operations: bytes 0 to 4, not characters. A step 0 goes east (+1,0), 1 north (0,+1), 2 west (-1,0), 3 south (0,-1);
  * operation 4 takes the last surviving step back. With n surviving steps the corners of the walk are p0 to pn.
  *
@@ -17,7 +17,7 @@
  *     const uint8_t ops[4] = {0, 1, 2, 3};
  *     uint32_t table[17 * UNDRWYTH_RECORD_WORDS], marks[8], answer[UNDRWYTH_WALK_ANSWER_WORDS];
  *     uint8_t chain[4];
- *     if (undrwyth_walk(ops, 4, table, 17 * UNDRWYTH_RECORD_WORDS, marks, 8, chain, 4, answer) != UNDRWYTH_ACCEPTED)
+ *     if (undrwyth_walk(0, 0, ops, 4, table, 17 * UNDRWYTH_RECORD_WORDS, marks, 8, chain, 4, answer) != 0)
  *         printf("refusal %u at %u\n", (unsigned)answer[UNDRWYTH_WALK_NUMBER], (unsigned)answer[UNDRWYTH_WALK_PLACE]);
  *     else if (answer[UNDRWYTH_WALK_VERDICT] == UNDRWYTH_VERDICT_ROOM)
  *         printf("a room of area %d\n", (int)answer[UNDRWYTH_WALK_AREA]);
@@ -41,7 +41,7 @@ extern "C" {
 #define UNDRWYTH_MOST_INPUT_BYTES 32768    /* operations, steps or turns in a call */
 #define UNDRWYTH_MOST_STEPS 16384          /* surviving steps, at any moment */
 #define UNDRWYTH_MOST_START 16384          /* magnitude of a start's coordinates */
-#define UNDRWYTH_MOST_RECORDS 131080       /* records in a table */
+#define UNDRWYTH_MOST_RECORDS 131148       /* records in a table */
 #define UNDRWYTH_MOST_LINE_DIGITS 1024     /* operations or turns in a frame of the line program */
 #define UNDRWYTH_LINE_RECORDS 390          /* records of the table in which a frame is walked */
 
@@ -69,7 +69,8 @@ extern "C" {
 #define UNDRWYTH_REFUSAL_BAD_DIGIT 4       /* a byte above 4; in hull and turns, above 3. Has a place */
 #define UNDRWYTH_REFUSAL_NOTHING_TO_TAKE 5 /* operation 4 with no surviving step. Has a place */
 #define UNDRWYTH_REFUSAL_TOO_LONG 6        /* a step beyond UNDRWYTH_MOST_STEPS surviving. Has a place */
-#define UNDRWYTH_REFUSAL_NO_ROOM 7         /* after this operation the nodes needed exceed the records. Has a place */
+#define UNDRWYTH_REFUSAL_NO_ROOM 7         /* after this operation the nodes needed exceed the records. Has a place:
+                                              0 also where the start itself has no room */
 #define UNDRWYTH_REFUSAL_HULL_ROOM 8       /* a buffer shorter than twice the hull corners */
 #define UNDRWYTH_REFUSAL_BAD_LINE 9        /* no frame; in answers of undrwyth_line alone */
 #define UNDRWYTH_REFUSAL_START_RANGE 10    /* a coordinate of the start beyond UNDRWYTH_MOST_START */
@@ -147,15 +148,17 @@ extern "C" {
 #define UNDRWYTH_WORD_LINK_STEP_WEST 16    /* step of the link west, 0 if none */
 #define UNDRWYTH_WORD_LINK_STEP_SOUTH 17   /* step of the link south, 0 if none */
 #define UNDRWYTH_WORD_VISITS 18            /* how many of p0 to pn are here; 0 where only the tree needs the node */
-#define UNDRWYTH_WORD_NEED 19              /* the step that first needed the node, 0 for the root */
+#define UNDRWYTH_WORD_NEED 19              /* the step that first needed the node, 0 for the start and its ancestors */
 #define UNDRWYTH_WORD_FIRST 20             /* 1 + the least k with pk here, 0 if unvisited */
 
-/* Judges the walk of the n operations in ops.
+/* Judges the walk of the n operations in ops from (start_x,start_y), of which neither is beyond UNDRWYTH_MOST_START in
+ * magnitude. The start and its ancestors are nodes from the beginning, numbered from the root down.
  *
  * table_words is UNDRWYTH_RECORD_WORDS times the number of records, 1 to UNDRWYTH_MOST_RECORDS. marks_words is 2 * n.
  * chain_bytes is n. The contents of the three buffers before the call do not matter.
  *
- * 4 * c - 3 records are enough where the walk has at most c different corners at any moment, so 4 * n + 1 always are.
+ * 4 * c + 64 records are enough where the walk has at most c different corners at any moment, so 4 * n + 68 always
+ * are; from (0,0), 4 * c - 3 and 4 * n + 1.
  * Lend what the walk can need and no more: the whole table is cleared, whatever the walk uses of it. A walk of 64 steps
  * took 24 ns a step in a table of 65 records and 1,489 ns in one of 65,537 (ARM Neoverse-N1).
  *
@@ -164,23 +167,25 @@ extern "C" {
  * zeros; as 0 is also a step east, cut it at n surviving steps before handing it on. All is as if the surviving steps
  * alone had been walked, but for marks.
  *
- * Refused with 1 to 6: table, marks and chain are as they were.
+ * Refused with 1 to 6 or 10: table, marks and chain are as they were.
  * Refused with UNDRWYTH_REFUSAL_NO_ROOM: table, marks and chain are wholly zero. */
-uint32_t undrwyth_walk(const uint8_t *ops, size_t n,
+uint32_t undrwyth_walk(int32_t start_x, int32_t start_y,
+                       const uint8_t *ops, size_t n,
                        uint32_t *table, size_t table_words,
                        uint32_t *marks, size_t marks_words,
                        uint8_t *chain, size_t chain_bytes,
                        uint32_t answer[UNDRWYTH_WALK_ANSWER_WORDS]);
 
-/* Lists the corners of the convex hull of p0 to pn of the walk of the n steps in chain.
+/* Lists the corners of the convex hull of p0 to pn of the walk of the n steps in chain from (start_x,start_y).
  *
  * out_numbers is at least twice the hull corners; any length is taken, 2 * n + 2 is always enough.
  *
  * Accepted: out begins with x, y of each hull corner, counterclockwise from the lowest of the leftmost, no three in a
  * line (one corner gives one, a walk along one line its two ends); the numbers after them are as they were.
  *
- * Refused with 1, 4, 6 or 8: out is as it was. A step at place UNDRWYTH_MOST_STEPS is 6 (a bad byte there is 4). */
-uint32_t undrwyth_hull(const uint8_t *chain, size_t n,
+ * Refused with 1, 10, 4, 6 or 8: out is as it was. A step at place UNDRWYTH_MOST_STEPS is 6 (a bad byte there is 4). */
+uint32_t undrwyth_hull(int32_t start_x, int32_t start_y,
+                       const uint8_t *chain, size_t n,
                        int32_t *out, size_t out_numbers,
                        uint32_t answer[UNDRWYTH_HULL_ANSWER_WORDS]);
 

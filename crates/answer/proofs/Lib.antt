@@ -1,3 +1,4 @@
 pub mod RefusalCases
 pub mod RefusalLaws
 pub mod WordCases
+pub mod StartLaws

@@ -10,9 +10,9 @@ mostInput = 32768
 abbrev pub mostSteps : ℕ
 mostSteps = 16384
 
--- records at most: eight for each corner of the longest walk
+-- records at most: eight for each corner of the longest walk, and 68 for its start
 abbrev pub mostRecords : ℕ
-mostRecords = 8 * (mostSteps + 1)
+mostRecords = 8 * (mostSteps + 1) + 68
 
 -- j and k where there is no meeting
 abbrev pub noMeeting : ℕ

@@ -1,7 +1,11 @@
-// What the calls answer, and the numbers of refusals and verdicts: no other function tells one refusal from another.
+// What the calls answer, the numbers of refusals and verdicts (no other function tells one refusal from another), and where a walk may
+// start.
 use grid::Corner;
 ghost use mathlib.Core.Path.{_≡_};
 ghost use Prim.Native.Nat.{_<_};
+ghost use lib.Dec.{leb};
+ghost use lib.IntN.{natAbs};
+ghost use Rattle.answer.specs.Limits.{mostStart, startFits};
 ghost use Rattle.answer.specs.Refusal.{refusalNumber, refusalPlace, verdictNumber};
 
 // Why a call is refused; a place counts from 0 in the input.
@@ -112,4 +116,36 @@ pub fn verdict_number(v: Verdict) -> usize
         Verdict::ClosedMeeting => 4,
         Verdict::ThereAndBack => 5,
     }
+}
+
+// The start of a walk.
+pub struct Start;
+
+impl Start {
+    // Its coordinates at least and at most.
+    pub const LEAST: i32 = -16384;
+
+    pub const MOST: i32 = 16384;
+}
+
+// Whether x may be a coordinate of a start. Both ends are compared: the least number has no magnitude of its type.
+fn in_range(x: i32) -> bool
+    ensures { λ r. ⌜ r ≡ leb (natAbs x) mostStart ⌝ }
+{
+    if x < Start::LEAST {
+        return false;
+    }
+    x <= Start::MOST
+}
+
+// Whether a walk may start at c.
+pub fn start_fits(c: Corner) -> bool
+    ensures { λ r. ⌜ r ≡ startFits c ⌝ }
+{
+    let x = c.0;
+    let y = c.1;
+    if !in_range(x) {
+        return false;
+    }
+    in_range(y)
 }

@@ -1,9 +1,10 @@
 -- The record of the surviving steps alone gives the same; the nodes at every moment; and tables that are large enough.
 -- Assumes nothing.
-use mathlib.Core.List.{List, [], _++_, append-nil}
+use mathlib.Core.List.{List, [], _++_, append-nil, List·Memᴰ}
 use mathlib.Core.Path.{_≡_, refl, ap, ap₂, sym, _∙_, subst}
-use Prim.Native.Nat.{ℕ, _+_, _-_, _*_, _<_, _≤_}
+use Prim.Native.Nat.{ℕ, _+_, _-_, _*_, _^_, _<_, _≤_}
 use native.Mathlib.Omega.{arith}
+use lib.IntN.{natAbs}
 use lib.ListN.{length, getD, take, replicate}
 use lib.Seq.{take-at, take-take, getD-take, length-take-le}
 use Rattle.answer.specs.declared.Answer.{Answer}
@@ -11,18 +12,23 @@ use Rattle.answer.specs.declared.Facts.{Facts}
 use Rattle.answer.specs.declared.Judged.{Judged}
 use Rattle.answer.specs.declared.Judged.the-variants.{Good}
 use Rattle.answer.specs.declared.Refusal.the-variants.{NoRoom}
+use Rattle.answer.specs.Limits.{Near}
 use Rattle.grid.specs.declared.Corner.{Corner}
-use Rattle.grid.specs.Grid.{origin, cornersFrom}
+use Rattle.grid.specs.Grid.{origin, cornersFrom, endFrom}
+use Rattle.grid.specs.Tree.{WithinLevels}
 use Rattle.steps.specs.Operations.{survivors, Fine}
 use Rattle.layout.specs.Marks.{chainOf}
 use Rattle.layout.specs.Table.{recordsIn, tableOf}
 use Rattle.walk_call.specs.Walk.{walkJudged, factsOf, answerBy, bufferBy, WalkIs}
-use Rattle.grid.proofs.StepLaws.{length-cornersFrom}
+use Rattle.grid.proofs.BoundLaws.{endFrom-bound}
+use Rattle.grid.proofs.StepLaws.{length-cornersFrom, cornersFrom-at}
+use Rattle.lists.proofs.DistinctLaws.{getD-mem}
 use Rattle.steps.proofs.SurvivorLaws.{walkable-survivors}
 use Rattle.trace.proofs.VisitLaws.{length-visited-le}
 use Rattle.walk_call.proofs.RoomLaws.{alone}
-use Rattle.tree_laws.proofs.CountLaws.{few-nodes}
-use Rattle.demands.specs.Moments.{stepsAfter, nodesAfter, cornersAfter, AtMostEight, FourLessThree}
+use Rattle.tree_laws.proofs.CountLaws.{few-nodes, few-nodes-from}
+use Rattle.demands.specs.Moments.{stepsAfter, nodesAfter, cornersAfter, AtMostEight, FourAndStart, FourLessThree}
+use Rattle.demands.specs.Given.{Faultless}
 use Rattle.demands.specs.Alone.{LentAlone}
 use Rattle.demands.proofs.FirstLaws.{faults-none}
 use Rattle.demands.proofs.WalkLaws.{judged-good, its-facts, its-table, its-chain, no-room-at}
@@ -71,19 +77,6 @@ module _ {c : Corner} {os t ms ch t′ ms′ ch′ t₁ ms₁ ch₁ t₂ ms₂ c
 pub four-less-three : (os : List ℕ) (k : ℕ) → FourLessThree (nodesAfter origin os k) (cornersAfter origin os k)
 four-less-three os k = few-nodes (stepsAfter os k)
 
-pub at-most-eight : (os : List ℕ) (k : ℕ) → AtMostEight (nodesAfter origin os k) (cornersAfter origin os k)
-at-most-eight os k = omega (arith, four-less-three os k)
-
-module _ {os t ms ch t′ ms′ ch′ : List ℕ} {r : Answer} (w : WalkIs origin os t ms ch r t′ ms′ ch′) where
-  -- a table that has four records for each corner, less three, at every moment
-  pub enough-four : ((k : ℕ) → k ≤ length os → 4 * cornersAfter origin os k ≤ recordsIn (length t) + 3) → (i : ℕ) → r ≡ Answer.Refused (NoRoom i) → ⊥
-  enough-four f i e =
-      let n = no-room-at w i .0 e .1 in
-      omega (arith, f (n .0) (omega (arith, n .1 .inside)), n .1 .here, four-less-three os (n .0))
-
-  pub enough-eight : ((k : ℕ) → k ≤ length os → 8 * cornersAfter origin os k ≤ recordsIn (length t)) → (i : ℕ) → r ≡ Answer.Refused (NoRoom i) → ⊥
-  enough-eight f = enough-four (λ k h. omega (arith, f k h))
-
 -- no more steps survive than a walk may have
 few-steps : (os : List ℕ) → ((i : ℕ) → i < length os → Fine (length (stepsAfter os i)) (getD os i 0)) → (k : ℕ) → k ≤ length os → length (stepsAfter os k) ≤ 16384
 few-steps os f k h =
@@ -94,11 +87,54 @@ few-steps os f k h =
     subst (λ (o : ℕ). Fine (length (stepsAfter (take k os) i)) o) (sym (getD-take k os i 0 p)) (subst (λ (s : List ℕ). Fine (length (survivors s)) (getD os i 0)) (sym (take-take i k os (omega arith))) (f i (omega arith))) in
     walkable-survivors 0 [] (take k os) (record { digits = tt; few = omega arith }) (faults-none 0 [] (take k os) g) .few
 
--- 65,537 records are enough for any walk, and so is the largest table
-pub enough-largest : {os t ms ch t′ ms′ ch′ : List ℕ} {r : Answer} → WalkIs origin os t ms ch r t′ ms′ ch′ → 65537 ≤ recordsIn (length t) → (i : ℕ) → r ≡ Answer.Refused (NoRoom i) → ⊥
-enough-largest {os} w l i e =
-    let n = no-room-at w i .0 e in
-    let k = n .1 .0 in
-    let m : k ≤ length os = omega (arith, n .1 .1 .inside) in
-    let ps = cornersFrom origin (stepsAfter os k) in
-    omega (arith, n .1 .1 .here, four-less-three os k, few-steps os (n .0 .fine) k m, length-visited-le ps, length-cornersFrom origin (stepsAfter os k), l)
+-- every corner of a walk that may start there is within 16 levels
+corners-within : (c : Corner) (ds : List ℕ) → Near c → length ds ≤ 16384 → (q : Corner) → List·Memᴰ q (cornersFrom c ds) → WithinLevels 16 q
+corners-within c ds n l q m =
+    let k = getD-mem (cornersFrom c ds) c m in
+    let i : k .0 ≤ length ds = omega (arith, k .1, length-cornersFrom c ds) in
+    let e : q ≡ endFrom c (take (k .0) ds) = sym (k .2) ∙ cornersFrom-at c ds (k .0) c i in
+    let b = endFrom-bound (take (k .0) ds) c in
+    let t : length (take (k .0) ds) ≡ k .0 = length-take-le (k .0) ds i in
+    record {
+      x = subst (λ (z : Corner). natAbs (z .0) < 2 ^ 16) (sym e) (omega (arith, b .0, n .0));
+      y = subst (λ (z : Corner). natAbs (z .1) < 2 ^ 16) (sym e) (omega (arith, b .1, n .1));
+    }
+
+module _ {c : Corner} {os : List ℕ} {words marks chain : ℕ} (f : Faultless c os words marks chain) (k : ℕ) (h : k ≤ length os) where
+  few : length (stepsAfter os k) ≤ 16384
+  few = few-steps os (f .fine) k h
+
+  pub four-and-start : FourAndStart (nodesAfter c os k) (cornersAfter c os k)
+  four-and-start = few-nodes-from 16 c (stepsAfter os k) (corners-within c (stepsAfter os k) (f .sized .start) few)
+
+  pub at-most-eight : AtMostEight (nodesAfter c os k) (cornersAfter c os k)
+  at-most-eight = omega (arith, four-and-start)
+
+  pub most-corners : cornersAfter c os k ≤ 16385
+  most-corners = omega (arith, few, length-visited-le (cornersFrom c (stepsAfter os k)), length-cornersFrom c (stepsAfter os k))
+
+-- ---- tables that are large enough at every moment
+module _ {c : Corner} {os t ms ch t′ ms′ ch′ : List ℕ} {r : Answer} (w : WalkIs c os t ms ch r t′ ms′ ch′) where
+  pub enough-four : ((k : ℕ) → k ≤ length os → 4 * cornersAfter c os k + 64 ≤ recordsIn (length t)) → (i : ℕ) → r ≡ Answer.Refused (NoRoom i) → ⊥
+  enough-four f i e =
+      let n = no-room-at w i .0 e in
+      let k = n .1 .0 in
+      let m : k ≤ length os = omega (arith, n .1 .1 .inside) in
+      omega (arith, f k m, n .1 .1 .here, four-and-start (n .0) k m)
+
+  pub enough-eight : ((k : ℕ) → k ≤ length os → 8 * cornersAfter c os k + 68 ≤ recordsIn (length t)) → (i : ℕ) → r ≡ Answer.Refused (NoRoom i) → ⊥
+  enough-eight f = enough-four (λ k h. omega (arith, f k h))
+
+  -- whatever the walk
+  pub enough-largest : 65604 ≤ recordsIn (length t) → (i : ℕ) → r ≡ Answer.Refused (NoRoom i) → ⊥
+  enough-largest l i e =
+      let n = no-room-at w i .0 e in
+      let k = n .1 .0 in
+      let m : k ≤ length os = omega (arith, n .1 .1 .inside) in
+      omega (arith, n .1 .1 .here, four-and-start (n .0) k m, most-corners (n .0) k m)
+
+-- from the origin
+pub enough-origin : {os t ms ch t′ ms′ ch′ : List ℕ} {r : Answer} → WalkIs origin os t ms ch r t′ ms′ ch′ → ((k : ℕ) → k ≤ length os → 4 * cornersAfter origin os k ≤ recordsIn (length t) + 3) → (i : ℕ) → r ≡ Answer.Refused (NoRoom i) → ⊥
+enough-origin {os} w f i e =
+    let n = no-room-at w i .0 e .1 in
+    omega (arith, f (n .0) (omega (arith, n .1 .inside)), n .1 .here, four-less-three os (n .0))

@@ -28,7 +28,7 @@ converted-written {convert} {ds} {out} p = p .buffer ∙ ap (λ (j : Judged). wr
 -- ---- hulls
 module _ (s : Corner) (chain : List ℕ) (before : List ℤ) where
   abbrev judged : List Corner → Judged
-  judged L = hullJudged chain (length before) (length L)
+  judged L = hullJudged s chain (length before) (length L)
 
   pub hullCall-some : (r : Counted) × (after : List ℤ) × HullCall s chain before r after
   hullCall-some =

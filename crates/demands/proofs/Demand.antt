@@ -21,7 +21,7 @@ use Rattle.answer.specs.Words.{factsWords, answerWords, countedWords, judgedWor
 use Rattle.lists.specs.Lists.{Distinct, Below}
 use Rattle.grid.specs.declared.{Corner.Corner, Panel.Panel}
 use Rattle.grid.specs.Grid.{origin, cornersFrom, endFrom, stepped}
-use Rattle.grid.specs.Tree.{AncestorAt, root, WithinLevels}
+use Rattle.grid.specs.Tree.{AncestorAt, root, WithinLevels, pathOf}
 use Rattle.steps.specs.Operations.{survivors}
 use Rattle.steps.specs.Turns.{turnOf, turnsOf, stepAfter, stepsOf, ConvertedBy}
 use Rattle.trace.specs.Meeting.{Meets, FirstMeets, visitedOf}
@@ -44,11 +44,12 @@ use Rattle.trace.proofs.VisitLaws as visitLaws
 use Rattle.tree.proofs.InUseLaws as inUseLaws
 use Rattle.tree.proofs.LinkStepLaws as linkStepLaws
 use Rattle.tree.proofs.NodeLaws as nodeLaws
+use Rattle.tree.proofs.StartLaws as startLaws
 use Rattle.tree.proofs.OrderLaws as orderLaws
 use Rattle.tree_laws.proofs.CountLaws as countLaws
 use Rattle.steps.proofs.TurnLaws as turnLaws
 use Rattle.steps.proofs.TurnPromiseLaws as promiseLaws
-use Rattle.demands.specs.Moments.{nodesAfter, cornersAfter, visitsAfter, AtMostEight, FourLessThree, Exceeds}
+use Rattle.demands.specs.Moments.{nodesAfter, cornersAfter, visitsAfter, AtMostEight, FourAndStart, FourLessThree, Exceeds}
 use Rattle.demands.specs.Given.{Faultless, NoRoomAfter, Given}
 use Rattle.demands.specs.GivenTurns.{GivenTurns}
 use Rattle.demands.specs.GivenHull.{GivenHull}
@@ -99,11 +100,11 @@ module _ {c : Corner} {os t ms ch t′ ms′ ch′ : List ℕ} where
 
 module _ {c : Corner} {os t ms ch t′ ms′ ch′ : List ℕ} {r : Answer} (w : WalkIs c os t ms ch r t′ ms′ ch′) where
   -- "'no room' is given exactly when nothing else is wrong with the call and the walk at some moment needs more nodes than the table has records"
-  pub no-room-exactly : ((i : ℕ) × (r ≡ Answer.Refused (NoRoom i))) ↔ Faultless os (length t) (length ms) (length ch) × ((k : ℕ) × (k ≤ length os) × Exceeds (nodesAfter c os k) (recordsIn (length t)))
+  pub no-room-exactly : ((i : ℕ) × (r ≡ Answer.Refused (NoRoom i))) ↔ Faultless c os (length t) (length ms) (length ch) × ((k : ℕ) × (k ≤ length os) × Exceeds (nodesAfter c os k) (recordsIn (length t)))
   no-room-exactly = walkLaws.no-room-when w
 
   -- its place is k - 1, where k operations are the fewest after which this is so
-  pub no-room-place : (i : ℕ) → r ≡ Answer.Refused (NoRoom i) ↔ Faultless os (length t) (length ms) (length ch) × ((k : ℕ) × NoRoomAfter c os (recordsIn (length t)) k × (i ≡ pred k))
+  pub no-room-place : (i : ℕ) → r ≡ Answer.Refused (NoRoom i) ↔ Faultless c os (length t) (length ms) (length ch) × ((k : ℕ) × NoRoomAfter c os (recordsIn (length t)) k × (i ≡ pred k))
   no-room-place = walkLaws.no-room-at w
 
 -- the same of the turns
@@ -129,17 +130,17 @@ hull-answers = callLaws.hullCall-some
 pub hullCall-one : {s : Corner} {chain : List ℕ} {before after₁ after₂ : List ℤ} {r₁ r₂ : Counted} → HullCall s chain before r₁ after₁ → HullCall s chain before r₂ after₂ → (r₁ ≡ r₂) × (after₁ ≡ after₂)
 hullCall-one = hullCallLaws.hullCall-one
 
-pub hull-refused-exactly : {s : Corner} {chain : List ℕ} {before after : List ℤ} {r : Counted} (w : HullCall s chain before r after) (q : Refusal) → r ≡ Counted.Refused q ↔ GivenHull chain (length before) (length (w .list)) (Refused q)
+pub hull-refused-exactly : {s : Corner} {chain : List ℕ} {before after : List ℤ} {r : Counted} (w : HullCall s chain before r after) (q : Refusal) → r ≡ Counted.Refused q ↔ GivenHull s chain (length before) (length (w .list)) (Refused q)
 hull-refused-exactly = digitLaws.hull-refused-when
 
-pub hull-counted-exactly : {s : Corner} {chain : List ℕ} {before after : List ℤ} {r : Counted} (w : HullCall s chain before r after) → r ≡ Counted.Many (length (w .list)) ↔ GivenHull chain (length before) (length (w .list)) Good
+pub hull-counted-exactly : {s : Corner} {chain : List ℕ} {before after : List ℤ} {r : Counted} (w : HullCall s chain before r after) → r ≡ Counted.Many (length (w .list)) ↔ GivenHull s chain (length before) (length (w .list)) Good
 hull-counted-exactly = digitLaws.hull-counted-when
 
-pub hull-refused-words : {s : Corner} {chain : List ℕ} {before after : List ℤ} {r : Counted} (w : HullCall s chain before r after) (q : Refusal) → GivenHull chain (length before) (length (w .list)) (Refused q)
+pub hull-refused-words : {s : Corner} {chain : List ℕ} {before after : List ℤ} {r : Counted} (w : HullCall s chain before r after) (q : Refusal) → GivenHull s chain (length before) (length (w .list)) (Refused q)
     → countedWords r ≡ refusalNumber q ∷ refusalPlace q ∷ 0 ∷ []
 hull-refused-words w q g = ap countedWords (hull-refused-exactly w q .1 g)
 
-pub hull-counted-words : {s : Corner} {chain : List ℕ} {before after : List ℤ} {r : Counted} (w : HullCall s chain before r after) → GivenHull chain (length before) (length (w .list)) Good → countedWords r ≡ 0 ∷ 0 ∷ length (w .list) ∷ []
+pub hull-counted-words : {s : Corner} {chain : List ℕ} {before after : List ℤ} {r : Counted} (w : HullCall s chain before r after) → GivenHull s chain (length before) (length (w .list)) Good → countedWords r ≡ 0 ∷ 0 ∷ length (w .list) ∷ []
 hull-counted-words w g = ap countedWords (hull-counted-exactly w .1 g)
 
 pub hull-untouched : (s : Corner) (chain : List ℕ) (before : List ℤ) {after : List ℤ} (q : Refusal) → HullCall s chain before (Counted.Refused q) after → after ≡ before
@@ -333,11 +334,19 @@ module _ {c : Corner} {os t ms ch t′ ms′ ch′ t₁ ms₁ ch₁ t₂ ms₂ c
   pub alone-steps : ch₂ ≡ take (f .steps) ch′
   alone-steps = aloneLaws.same-steps w v lent
 
--- "after every operation, the nodes in use number at most eight times the different corners that the walk then touches"
-pub at-most-eight : (os : List ℕ) (k : ℕ) → AtMostEight (nodesAfter origin os k) (cornersAfter origin os k)
+-- before the first operation the nodes are the start and its ancestors, from the root down
+pub start-planted : (c : Corner) → nodesOf (cornersFrom c []) ≡ pathOf c
+start-planted = startLaws.nodes-start
+
+-- "after every operation, the nodes in use number at most eight times the different corners that the walk then touches plus 68"
+pub at-most-eight : {c : Corner} {os : List ℕ} {words marks chain : ℕ} → Faultless c os words marks chain → (k : ℕ) → k ≤ length os → AtMostEight (nodesAfter c os k) (cornersAfter c os k)
 at-most-eight = aloneLaws.at-most-eight
 
--- half of that is enough: at most four times the corners, less three
+-- less is enough: at most four times the corners and 64
+pub four-and-start : {c : Corner} {os : List ℕ} {words marks chain : ℕ} → Faultless c os words marks chain → (k : ℕ) → k ≤ length os → FourAndStart (nodesAfter c os k) (cornersAfter c os k)
+four-and-start = aloneLaws.four-and-start
+
+-- and from the origin at most four times the corners, less three
 pub four-less-three : (os : List ℕ) (k : ℕ) → FourLessThree (nodesAfter origin os k) (cornersAfter origin os k)
 four-less-three = aloneLaws.four-less-three
 
@@ -345,15 +354,19 @@ four-less-three = aloneLaws.four-less-three
 pub four-and-levels : (n : ℕ) (c : Corner) (ds : List ℕ) → ((q : Corner) → List·Memᴰ q (cornersFrom c ds) → WithinLevels n q) → length (nodesOf (cornersFrom c ds)) ≤ 4 * length (visitedOf (cornersFrom c ds)) + 4 * n
 four-and-levels = countLaws.few-nodes-from
 
-module _ {os t ms ch t′ ms′ ch′ : List ℕ} {r : Answer} (w : WalkIs origin os t ms ch r t′ ms′ ch′) where
+module _ {c : Corner} {os t ms ch t′ ms′ ch′ : List ℕ} {r : Answer} (w : WalkIs c os t ms ch r t′ ms′ ch′) where
   -- "so a table that large at every moment is never refused for room"
-  pub enough-eight : ((k : ℕ) → k ≤ length os → 8 * cornersAfter origin os k ≤ recordsIn (length t)) → (i : ℕ) → r ≡ Answer.Refused (NoRoom i) → ⊥
+  pub enough-eight : ((k : ℕ) → k ≤ length os → 8 * cornersAfter c os k + 68 ≤ recordsIn (length t)) → (i : ℕ) → r ≡ Answer.Refused (NoRoom i) → ⊥
   enough-eight = aloneLaws.enough-eight w
 
-  -- nor one with four records a corner, less three
-  pub enough-four : ((k : ℕ) → k ≤ length os → 4 * cornersAfter origin os k ≤ recordsIn (length t) + 3) → (i : ℕ) → r ≡ Answer.Refused (NoRoom i) → ⊥
+  -- nor one with four records a corner and 64
+  pub enough-four : ((k : ℕ) → k ≤ length os → 4 * cornersAfter c os k + 64 ≤ recordsIn (length t)) → (i : ℕ) → r ≡ Answer.Refused (NoRoom i) → ⊥
   enough-four = aloneLaws.enough-four w
 
-  -- nor one with 65,537 records, whatever the walk
-  pub enough-always : 65537 ≤ recordsIn (length t) → (i : ℕ) → r ≡ Answer.Refused (NoRoom i) → ⊥
+  -- nor one with 65,604 records, whatever the walk
+  pub enough-always : 65604 ≤ recordsIn (length t) → (i : ℕ) → r ≡ Answer.Refused (NoRoom i) → ⊥
   enough-always = aloneLaws.enough-largest w
+
+-- from the origin four records a corner, less three, are enough
+pub enough-origin : {os t ms ch t′ ms′ ch′ : List ℕ} {r : Answer} → WalkIs origin os t ms ch r t′ ms′ ch′ → ((k : ℕ) → k ≤ length os → 4 * cornersAfter origin os k ≤ recordsIn (length t) + 3) → (i : ℕ) → r ≡ Answer.Refused (NoRoom i) → ⊥
+enough-origin = aloneLaws.enough-origin

@@ -4,9 +4,9 @@ use mathlib.Core.Bool.{false≢true}
 use mathlib.Core.List.{[], _∷_, List·Memᴰ, List·Memᴰ·head, List·Memᴰ·tail}
 use mathlib.Core.Logic.{inl, ⊎-elim}
 use mathlib.Core.Path.{_≡_, refl, sym}
-use Prim.Native.Nat.{_*_, _-_}
+use Prim.Native.Nat.{_*_, _-_, _≤_}
 use native.Mathlib.Omega.{arith}
-use lib.IntN.{pos}
+use lib.IntN.{pos, negsuc}
 use Rattle.grid.specs.Grid.{corner, origin, same, cornersFrom}
 use Rattle.grid.proofs.CornerLaws.{same-sound, same-refl}
 use Rattle.grid.proofs.StepLaws.{stepped-ne}
@@ -14,8 +14,8 @@ use Rattle.lists.proofs.GatherLaws.{mem→any}
 use Rattle.tree.specs.Nodes.{InUse, LinkedBy}
 use Rattle.layout.specs.Table.{width}
 use Rattle.steps.specs.Operations.{Fine}
-use Rattle.demands.specs.Moments.{nodesAfter, cornersAfter, visitsAfter, FourLessThree, Exceeds}
-use Rattle.demands.specs.Given.{HasRecords, FineAt, BadDigitAt, First}
+use Rattle.demands.specs.Moments.{nodesAfter, cornersAfter, visitsAfter, AtMostEight, FourLessThree, Exceeds}
+use Rattle.demands.specs.Given.{HasRecords, FineAt, BadDigitAt, First, NoRoomAfter}
 
 -- 0011 needs six nodes for its five corners at its last moment, so five records are too few and six are enough
 one-record-short : Exceeds (nodesAfter origin (0 ∷ 0 ∷ 1 ∷ 1 ∷ []) 4) 5
@@ -38,6 +38,14 @@ stood-on-twice = refl
 -- the root alone, one node and one corner, reaches the bound
 bound-is-reached : FourLessThree (nodesAfter origin [] 0) (cornersAfter origin [] 0)
 bound-is-reached = omega arith
+
+-- (16384,0) has 16 nodes and one corner before its first step: more than eight
+start-needs-more : (nodesAfter (corner (pos 16384) (pos 0)) [] 0 ≤ 8 → ⊥) × AtMostEight (nodesAfter (corner (pos 16384) (pos 0)) [] 0) (cornersAfter (corner (pos 16384) (pos 0)) [] 0)
+start-needs-more = (λ h. omega arith, omega arith)
+
+-- with two records for its three nodes (3,-2) has no room before the first operation, of an empty record
+no-room-at-first : NoRoomAfter (corner (pos 3) (negsuc 1)) [] 2 0
+no-room-at-first = record { inside = omega arith; before = λ h l. absurd (omega arith); here = omega arith }
 
 -- nothing can be taken back at first
 nothing-at-first : Fine 0 4 → ⊥

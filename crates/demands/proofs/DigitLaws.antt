@@ -1,5 +1,6 @@
 -- The turns' and the hull's judgements are given on their occasions and on no other, and for every call there is one.
 -- Assumes nothing.
+use mathlib.Core.Bool.{Bool, true, false, true≢false}
 use mathlib.Core.List.{List, [], _∷_}
 use mathlib.Core.Logic.{_⊎_, inl, inr, ⊎-elim, _↔_}
 use mathlib.Core.Path.{_≡_, refl, ap, sym, _∙_, subst}
@@ -14,8 +15,9 @@ use Rattle.answer.specs.declared.Counted.{Counted}
 use Rattle.answer.specs.declared.Judged.{Judged}
 use Rattle.answer.specs.declared.Judged.the-variants.{Good, Refused}
 use Rattle.answer.specs.declared.Refusal.{Refusal}
-use Rattle.answer.specs.declared.Refusal.the-variants.{TooMany, ResultRoom, BadDigit, TooLong, HullRoom}
-use Rattle.answer.specs.Limits.{mostInput, mostSteps}
+use Rattle.answer.specs.declared.Refusal.the-variants.{TooMany, ResultRoom, BadDigit, TooLong, HullRoom, StartRange}
+use Rattle.answer.specs.Limits.{mostInput, mostSteps, startFits}
+use Rattle.answer.proofs.StartLaws.{fits-near, near-fits}
 use Rattle.answer.specs.Refusal.{when, orElse}
 use Rattle.grid.specs.declared.Corner.{Corner}
 use Rattle.steps.specs.Turns.{digitsJudged, turnsJudged, ConvertedBy}
@@ -25,7 +27,7 @@ use Rattle.hull_laws.proofs.CallLaws as hulls
 use Rattle.demands.specs.Given.{First}
 use Rattle.demands.specs.GivenTurns.{DigitAt, AboveThreeAt, GivenTurns}
 use Rattle.demands.specs.GivenTurns as turn
-use Rattle.demands.specs.GivenHull.{StepAt, StepTooManyAt, GivenHull}
+use Rattle.demands.specs.GivenHull.{StepAt, StepTooManyAt, ChainSized, GivenHull}
 use Rattle.demands.specs.GivenHull as hull
 use Rattle.demands.proofs.FirstLaws.{all-or-first}
 
@@ -89,8 +91,13 @@ turns-when {ds = ds} {out = out} {r = r} w j =
     let e : turnsJudged ds (length out) ≡ x .0 = given-turns ds (length out) (x .0) (x .1) in
     (λ q. subst (GivenTurns ds (length out)) (sym e ∙ sym (w .answer) ∙ q) (x .1), λ g. w .answer ∙ given-turns ds (length out) j g)
 
+-- a test that fails where what it tells does not hold
+unfit : {P : Type 0} (b : Bool) → (b ≡ true → P) → (P → ⊥) → b ≡ false
+unfit true f n = absurd (n (f refl))
+unfit false f n = refl
+
 -- ---- hulls
-module _ (chain : List ℕ) (room corners : ℕ) where
+module _ (c : Corner) (chain : List ℕ) (room corners : ℕ) where
   pub step-none : (p d : ℕ) → d < 4 → p < mostSteps → faultAt p d ≡ Good
   step-none p d h k = rw (le-ltb 3 d (omega arith), ne-eqb p mostSteps (λ e. omega arith))
 
@@ -104,18 +111,19 @@ module _ (chain : List ℕ) (room corners : ℕ) where
   pub at-most : (i : ℕ) → ((h : ℕ) → h < i → StepAt chain h) → mostSteps ≤ i → i ≡ mostSteps
   at-most i f h = elim (ℕ-discrete i mostSteps) [ yes e ↦ e | no g ↦ absurd (omega (arith, f mostSteps (omega arith) .1)) ]
 
-  hull-fault : (bad : ℕ → Type 0) (i : ℕ) (r : Refusal) → length chain ≤ mostInput → First (length chain) (StepAt chain) bad i → faultAt i (getD chain i 0) ≡ Refused r → hullJudged chain room corners ≡ Refused r
+  hull-fault : (bad : ℕ → Type 0) (i : ℕ) (r : Refusal) → ChainSized c chain → First (length chain) (StepAt chain) bad i → faultAt i (getD chain i 0) ≡ Refused r → hullJudged c chain room corners ≡ Refused r
   hull-fault bad i r h f e =
-      hulls.judged-fault chain room corners r h
+      hulls.judged-fault c chain room corners (h .few) (near-fits c (h .start)) r
       (first-from faultAt chainJudged (λ p. refl) (λ p d l. refl) 0 chain i i r (f .inside) (λ k q m g. step-none q (getD chain k 0) (f .before k m .0) (omega (arith, f .before k m .1))) (omega arith) e)
 
-  hull-faultless : length chain ≤ mostInput → ((i : ℕ) → i < length chain → StepAt chain i) → hullJudged chain room corners ≡ roomJudged room corners
+  hull-faultless : ChainSized c chain → ((i : ℕ) → i < length chain → StepAt chain i) → hullJudged c chain room corners ≡ roomJudged room corners
   hull-faultless h f =
-      hulls.judged-room chain room corners h
+      hulls.judged-room c chain room corners (h .few) (near-fits c (h .start))
       (none-from faultAt chainJudged (λ p. refl) (λ p d l. refl) 0 chain (λ i p k g. step-none p (getD chain i 0) (f i k .0) (omega (arith, f i k .1))))
 
-  given-hull : (j : Judged) → GivenHull chain room corners j → hullJudged chain room corners ≡ j
-  given-hull _ (hull.tooMany h) = hulls.judged-many chain room corners h
+  given-hull : (j : Judged) → GivenHull c chain room corners j → hullJudged c chain room corners ≡ j
+  given-hull _ (hull.tooMany h) = hulls.judged-many c chain room corners h
+  given-hull _ (hull.startRange h f) = hulls.judged-start c chain room corners h (unfit (startFits c) (fits-near c) f)
   given-hull _ (hull.badDigit i h f) = hull-fault (AboveThreeAt chain) i (BadDigit i) h f (step-above i (getD chain i 0) (f .here))
   given-hull _ (hull.tooLong i h f) = hull-fault (StepTooManyAt chain) i (TooLong i) h f (step-long i (getD chain i 0) (f .here .0) (at-most i (f .before) (f .here .1)))
   given-hull _ (hull.hullRoom h f k) = hull-faultless h f ∙ hulls.room-short room corners k
@@ -128,28 +136,36 @@ module _ (chain : List ℕ) (room corners : ℕ) where
       (λ h. inr (inl h))
       (digit-or-above (getD chain i 0))
 
-  by-kind : length chain ≤ mostInput → (i : ℕ) → First (length chain) (StepAt chain) (λ h. AboveThreeAt chain h ⊎ StepTooManyAt chain h) i → (j : Judged) × GivenHull chain room corners j
+  by-kind : ChainSized c chain → (i : ℕ) → First (length chain) (StepAt chain) (λ h. AboveThreeAt chain h ⊎ StepTooManyAt chain h) i → (j : Judged) × GivenHull c chain room corners j
   by-kind l i f =
       ⊎-elim
       (λ h. (Refused (BadDigit i), hull.badDigit i l (record { inside = f .inside; before = f .before; here = h })))
       (λ h. (Refused (TooLong i), hull.tooLong i l (record { inside = f .inside; before = f .before; here = h })))
       (f .here)
 
-  by-room : length chain ≤ mostInput → ((i : ℕ) → i < length chain → StepAt chain i) → (j : Judged) × GivenHull chain room corners j
+  by-room : ChainSized c chain → ((i : ℕ) → i < length chain → StepAt chain i) → (j : Judged) × GivenHull c chain room corners j
   by-room l f = elim (decLt room (2 * corners)) [ yes h ↦ (Refused HullRoom, hull.hullRoom l f h) | no h ↦ (Good, hull.accepted l f (omega arith)) ]
 
-  some-hull : (j : Judged) × GivenHull chain room corners j
+  some-hull : (j : Judged) × GivenHull c chain room corners j
   some-hull =
       elim (decLt mostInput (length chain)) [
         | yes h ↦ (Refused TooMany, hull.tooMany h)
-        | no h ↦ ⊎-elim
-            (λ f. by-room (omega arith) f)
-            (λ x. by-kind (omega arith) (x .0) (x .1))
-            (all-or-first (length chain) (StepAt chain) (λ i. AboveThreeAt chain i ⊎ StepTooManyAt chain i) step-or-fault)
+        | no h ↦ from (startFits c) refl (omega arith)
       ]
+    where
+      sized : ChainSized c chain → (j : Judged) × GivenHull c chain room corners j
+      sized l =
+          ⊎-elim
+          (λ f. by-room l f)
+          (λ x. by-kind l (x .0) (x .1))
+          (all-or-first (length chain) (StepAt chain) (λ i. AboveThreeAt chain i ⊎ StepTooManyAt chain i) step-or-fault)
 
-  hull-given : GivenHull chain room corners (hullJudged chain room corners)
-  hull-given = let x = some-hull in subst (GivenHull chain room corners) (sym (given-hull (x .0) (x .1))) (x .1)
+      from : (b : Bool) → startFits c ≡ b → length chain ≤ mostInput → (j : Judged) × GivenHull c chain room corners j
+      from true e l = sized (record { few = l; start = fits-near c e })
+      from false e l = (Refused StartRange, hull.startRange l (λ n. absurd (true≢false (sym (near-fits c n) ∙ e))))
+
+  hull-given : GivenHull c chain room corners (hullJudged c chain room corners)
+  hull-given = let x = some-hull in subst (GivenHull c chain room corners) (sym (given-hull (x .0) (x .1))) (x .1)
 
 pub count-refused : (j : Judged) (n : ℕ) (q : Refusal) → Counted.Refused q ≡ countedOf j n → j ≡ Refused q
 count-refused Good n q e = absurd (let z : _≡_ {A = ℕ} 0 1 = cc in omega arith)
@@ -159,18 +175,18 @@ pub count-good : (j : Judged) (n : ℕ) → Counted.Many n ≡ countedOf j n →
 count-good Good n e = refl
 count-good (Refused r) n e = absurd (let z : _≡_ {A = ℕ} 0 1 = cc in omega arith)
 
-module _ {s : Corner} {chain : List ℕ} {before after : List ℤ} {r : Counted} (w : HullCall s chain before r after) where
+module _ {c : Corner} {chain : List ℕ} {before after : List ℤ} {r : Counted} (w : HullCall c chain before r after) where
   abbrev n : ℕ
   n = length (w .list)
 
-  pub hull-refused-when : (q : Refusal) → r ≡ Counted.Refused q ↔ GivenHull chain (length before) (length (w .list)) (Refused q)
+  pub hull-refused-when : (q : Refusal) → r ≡ Counted.Refused q ↔ GivenHull c chain (length before) (length (w .list)) (Refused q)
   hull-refused-when q = (
-    λ e. subst (GivenHull chain (length before) n) (count-refused (hullJudged chain (length before) n) n q (sym e ∙ w .answer)) (hull-given chain (length before) n),
-    λ g. w .answer ∙ ap (λ (j : Judged). countedOf j n) (given-hull chain (length before) n (Refused q) g),
+    λ e. subst (GivenHull c chain (length before) n) (count-refused (hullJudged c chain (length before) n) n q (sym e ∙ w .answer)) (hull-given c chain (length before) n),
+    λ g. w .answer ∙ ap (λ (j : Judged). countedOf j n) (given-hull c chain (length before) n (Refused q) g),
   )
 
-  pub hull-counted-when : r ≡ Counted.Many (length (w .list)) ↔ GivenHull chain (length before) (length (w .list)) Good
+  pub hull-counted-when : r ≡ Counted.Many (length (w .list)) ↔ GivenHull c chain (length before) (length (w .list)) Good
   hull-counted-when = (
-    λ e. subst (GivenHull chain (length before) n) (count-good (hullJudged chain (length before) n) n (sym e ∙ w .answer)) (hull-given chain (length before) n),
-    λ g. w .answer ∙ ap (λ (j : Judged). countedOf j n) (given-hull chain (length before) n Good g),
+    λ e. subst (GivenHull c chain (length before) n) (count-good (hullJudged c chain (length before) n) n (sym e ∙ w .answer)) (hull-given c chain (length before) n),
+    λ g. w .answer ∙ ap (λ (j : Judged). countedOf j n) (given-hull c chain (length before) n Good g),
   )

@@ -13,8 +13,8 @@ use lib.ListN.{length, getD}
 use Rattle.answer.specs.declared.Judged.{Judged}
 use Rattle.answer.specs.declared.Judged.the-variants.{Good, Refused}
 use Rattle.answer.specs.declared.Refusal.{Refusal}
-use Rattle.answer.specs.declared.Refusal.the-variants.{TooMany, Table, ResultRoom, BadDigit, NothingToTake, TooLong, NoRoom}
-use Rattle.answer.specs.Limits.{mostInput, mostRecords}
+use Rattle.answer.specs.declared.Refusal.the-variants.{TooMany, Table, ResultRoom, BadDigit, NothingToTake, TooLong, NoRoom, StartRange}
+use Rattle.answer.specs.Limits.{mostInput, mostRecords, startFits}
 use Rattle.answer.specs.Refusal.{when, orElse}
 use Rattle.grid.specs.declared.Corner.{Corner}
 use Rattle.steps.specs.Operations.{faultOf, operationsJudged}
@@ -22,6 +22,7 @@ use Rattle.layout.specs.Marks.{markWords}
 use Rattle.layout.specs.Table.{width, recordsIn}
 use Rattle.walk_call.specs.Walk.{tableFits, roomFrom, walkJudged}
 use Rattle.answer.proofs.RefusalLaws.{orElse-right}
+use Rattle.answer.proofs.StartLaws.{fits-near, near-fits}
 use Rattle.lists.proofs.GatherLaws.{and-left, and-right}
 use Rattle.demands.specs.Moments.{stepsAfter, nodesAfter}
 use Rattle.demands.specs.Given.{HasRecords, HasRoom, FineAt, BadDigitAt, NothingAt, TooLongAt, First, Sized, Faultless, NoRoomAfter, Given}
@@ -66,27 +67,28 @@ module _ (os : List ℕ) (m k : ℕ) where
   room-fit h = rw (eq-eqb m (markWords * length os) (h .0), eq-eqb k (length os) (h .1))
 
 module _ (c : Corner) (os : List ℕ) (w m k : ℕ) where
-  -- the five judgements one after the other
-  judged-by : (a b d f g : Judged)
-      → when (ltb mostInput (length os)) TooMany ≡ a → when (not (tableFits w)) Table ≡ b → when (not (roomFits os m k)) ResultRoom ≡ d → operationsJudged 0 0 os ≡ f → roomFrom (recordsIn w) c 0 [] os ≡ g
-      → walkJudged c os w m k ≡ orElse a (orElse b (orElse d (orElse f (orElse g Good))))
-  judged-by a b d f g p q r s t = rw (p, q, r, s, t)
+  -- the six judgements one after the other
+  judged-by : (a b d e f g : Judged)
+      → when (ltb mostInput (length os)) TooMany ≡ a → when (not (tableFits w)) Table ≡ b → when (not (roomFits os m k)) ResultRoom ≡ d → when (not (startFits c)) StartRange ≡ e → operationsJudged 0 0 os ≡ f → roomFrom (recordsIn w) c 0 [] os ≡ g
+      → walkJudged c os w m k ≡ orElse a (orElse b (orElse d (orElse e (orElse f (orElse g Good)))))
+  judged-by a b d e f g p q r o s t = rw (p, q, r, o, s, t)
 
-  judged-sized : Sized os w m k → walkJudged c os w m k ≡ orElse (operationsJudged 0 0 os) (roomFrom (recordsIn w) c 0 [] os)
+  judged-sized : Sized c os w m k → walkJudged c os w m k ≡ orElse (operationsJudged 0 0 os) (roomFrom (recordsIn w) c 0 [] os)
   judged-sized s =
-      judged-by Good Good Good (operationsJudged 0 0 os) (roomFrom (recordsIn w) c 0 [] os)
+      judged-by Good Good Good Good (operationsJudged 0 0 os) (roomFrom (recordsIn w) c 0 [] os)
       (ap (λ (b : Bool). when b TooMany) (le-ltb mostInput (length os) (s .few)))
       (ap (λ (b : Bool). when (not b) Table) (records-fit w (s .table)))
       (ap (λ (b : Bool). when (not b) ResultRoom) (room-fit os m k (s .room)))
+      (ap (λ (b : Bool). when (not b) StartRange) (near-fits c (s .start)))
       refl
       refl
       ∙ ap (orElse (operationsJudged 0 0 os)) (orElse-right (roomFrom (recordsIn w) c 0 [] os))
 
-  judged-fault : (bad : ℕ → Type 0) (i : ℕ) (r : Refusal) → Sized os w m k → First (length os) (FineAt os) bad i → (bad i → faultOf i (length (stepsAfter os i)) (getD os i 0) ≡ Refused r) → walkJudged c os w m k ≡ Refused r
+  judged-fault : (bad : ℕ → Type 0) (i : ℕ) (r : Refusal) → Sized c os w m k → First (length os) (FineAt os) bad i → (bad i → faultOf i (length (stepsAfter os i)) (getD os i 0) ≡ Refused r) → walkJudged c os w m k ≡ Refused r
   judged-fault bad i r s f e =
       judged-sized s ∙ ap (λ (j : Judged). orElse j (roomFrom (recordsIn w) c 0 [] os)) (faults-first 0 [] os i i r (f .inside) (f .before) (omega arith) (e (f .here)))
 
-  judged-faultless : Faultless os w m k → walkJudged c os w m k ≡ roomFrom (recordsIn w) c 0 [] os
+  judged-faultless : Faultless c os w m k → walkJudged c os w m k ≡ roomFrom (recordsIn w) c 0 [] os
   judged-faultless h = judged-sized (h .sized) ∙ ap (λ (j : Judged). orElse j (roomFrom (recordsIn w) c 0 [] os)) (faults-none 0 [] os (h .fine))
 
   -- on each occasion, that judgement
@@ -94,6 +96,7 @@ module _ (c : Corner) (os : List ℕ) (w m k : ℕ) where
   given-judged _ (given.tooMany h) = rw (lt-ltb mostInput (length os) h)
   given-judged _ (given.table h f) = rw (le-ltb mostInput (length os) h, fails (tableFits w) (fits-records w) f)
   given-judged _ (given.resultRoom h t f) = rw (le-ltb mostInput (length os) h, records-fit w t, fails (roomFits os m k) (fits-room os m k) f)
+  given-judged _ (given.startRange h t r f) = rw (le-ltb mostInput (length os) h, records-fit w t, room-fit os m k r, fails (startFits c) (fits-near c) f)
   given-judged _ (given.badDigit i s f) = judged-fault (BadDigitAt os) i (BadDigit i) s f (fault-digit i (length (stepsAfter os i)) (getD os i 0))
   given-judged _ (given.nothingToTake i s f) = judged-fault (NothingAt os) i (NothingToTake i) s f (fault-nothing i (length (stepsAfter os i)) (getD os i 0))
   given-judged _ (given.tooLong i s f) = judged-fault (TooLongAt os) i (TooLong i) s f (fault-long i (length (stepsAfter os i)) (getD os i 0))
@@ -104,7 +107,7 @@ module _ (c : Corner) (os : List ℕ) (w m k : ℕ) where
   given-judged _ (given.accepted h f) = judged-faultless h ∙ room-none (recordsIn w) c 0 [] os f
 
   -- the place of a fault, by its kind
-  by-fault : Sized os w m k → (i : ℕ) → First (length os) (FineAt os) (λ h. BadDigitAt os h ⊎ (NothingAt os h ⊎ TooLongAt os h)) i → (j : Judged) × Given c os w m k j
+  by-fault : Sized c os w m k → (i : ℕ) → First (length os) (FineAt os) (λ h. BadDigitAt os h ⊎ (NothingAt os h ⊎ TooLongAt os h)) i → (j : Judged) × Given c os w m k j
   by-fault s i f =
       ⊎-elim
       (λ h. (Refused (BadDigit i), given.badDigit i s (record { inside = f .inside; before = f .before; here = h })))
@@ -124,14 +127,14 @@ module _ (c : Corner) (os : List ℕ) (w m k : ℕ) where
       (λ x. x)
       (all-or-first (suc (length os)) (λ k. nodesAfter c os k ≤ recordsIn w) (λ k. recordsIn w < nodesAfter c os k) roomy)
 
-  by-room : Faultless os w m k → (j : Judged) × Given c os w m k j
+  by-room : Faultless c os w m k → (j : Judged) × Given c os w m k j
   by-room h =
       ⊎-elim
       (λ f. (Good, given.accepted h f))
       (λ x. (Refused (NoRoom (pred (x .0))), given.noRoom (pred (x .0)) (x .0) h (x .1) refl))
       room-or-not
 
-  by-size : Sized os w m k → (j : Judged) × Given c os w m k j
+  by-size : Sized c os w m k → (j : Judged) × Given c os w m k j
   by-size s =
       ⊎-elim
       (λ f. by-room (record { sized = s; fine = f }))
@@ -144,7 +147,10 @@ module _ (c : Corner) (os : List ℕ) (w m k : ℕ) where
         | yes h ↦ (Refused TooMany, given.tooMany h)
         | no h ↦ ⊎-elim
             (λ t. ⊎-elim
-            (λ r. by-size (record { few = omega arith; table = t; room = r }))
+            (λ r. ⊎-elim
+            (λ n. by-size (record { few = omega arith; table = t; room = r; start = n }))
+            (λ f. (Refused StartRange, given.startRange (omega arith) t r (f .0)))
+            (decided (startFits c) (fits-near c) (near-fits c)))
             (λ f. (Refused ResultRoom, given.resultRoom (omega arith) t (f .0)))
             (decided (roomFits os m k) (fits-room os m k) (room-fit os m k)))
             (λ f. (Refused Table, given.table (omega arith) (f .0)))

@@ -1,7 +1,7 @@
 -- A node's record says what the table of words says.
 -- Assumes nothing.
 use mathlib.Core.Bool.{Bool, true, cond}
-use mathlib.Core.List.{List, List·Memᴰ, List·Memᴰ·head}
+use mathlib.Core.List.{List}
 use mathlib.Core.Logic.{_↔_}
 use mathlib.Core.Path.{_≡_, refl, ap, sym, _∙_, subst}
 use Prim.Native.Nat.{ℕ, zero, suc, _+_, _<_, _≤_}
@@ -11,10 +11,9 @@ use lib.ListN.{length, getD}
 use Rattle.lists.specs.Lists.{find}
 use Rattle.grid.specs.declared.Corner.{Corner}
 use Rattle.grid.specs.Grid.{origin, same, stepped}
-use Rattle.grid.specs.Tree.{parentOf, isRoot, childWord, AncestorAt, pathOf}
+use Rattle.grid.specs.Tree.{parentOf, childWord, AncestorAt}
 use Rattle.tree.specs.Nodes.{nodesOf, refOf, linkStepOf, needOf, InUse, LinkedBy}
 use Rattle.layout.specs.Table.{width, fieldsOf, recordOf, childRefOf, neighbourRefOf}
-use Rattle.grid.proofs.AncestorLaws.{path-ancestor, pathOf-first}
 use Rattle.grid.proofs.CornerLaws.{same-refl, same-sound}
 use Rattle.lists.proofs.DistinctLaws.{mem-getD}
 use Rattle.lists.proofs.FindLaws.{find-get, find-none}
@@ -89,14 +88,9 @@ module _ (ps : List Corner) where
         let k = neighbour-linked ps a d (omega arith) in
         ref-number (stepped d a) n (sym (k .0) ∙ p) (omega (arith, k .0, k .1))
 
-    -- the root is needed from the first
-    root-need : isRoot a ≡ true → InUse ps a → needOf ps a ≡ 0
-    root-need h u =
-        let p = getD ps 0 origin in
-        let k = pathOf-first p in
-        let m : List·Memᴰ a (pathOf p) = subst (λ (l : List Corner). List·Memᴰ a l) (sym (k .1)) (List·Memᴰ·head (same-sound a origin h)) in
-        let x = path-ancestor p a m in
-        omega (arith, need-least ps a 0 (x .0) (omega (arith, need-there ps a u .0)) (x .1))
+    -- the start and its ancestors are needed from the first
+    start-need : (i : ℕ) → AncestorAt i (getD ps 0 origin) a → InUse ps a → needOf ps a ≡ 0
+    start-need i h u = omega (arith, need-least ps a 0 i (omega (arith, need-there ps a u .0)) h)
 
     -- the record of a node in use, word by word
     pub record-says : (word : ℕ → ℕ) → InUse ps a → ((w : ℕ) → w < width → word w ≡ getD (recordOf ps ns a) w 0) → RecordSays ps a word
@@ -114,7 +108,7 @@ module _ (ps : List Corner) where
       visits = e 18 (omega arith);
       needed = subst (λ (n : ℕ). (n < length ps) × ((i : ℕ) × AncestorAt i (getD ps n origin) a)) (sym (e 19 (omega arith))) (need-there ps a u);
       soonest = λ k i h l. subst (λ (n : ℕ). n ≤ k) (sym (e 19 (omega arith))) (need-least ps a k i h l);
-      planted = λ h. e 19 (omega arith) ∙ root-need h u;
+      planted = λ i h. e 19 (omega arith) ∙ start-need i h u;
       first = λ k. (λ h. find-first ps a k .0 (sym (e 20 (omega arith)) ∙ h), λ f. e 20 (omega arith) ∙ find-first ps a k .1 f);
       unvisited = λ f. e 20 (omega arith) ∙ find-none (same a) ps (not-any a ps f);
     }

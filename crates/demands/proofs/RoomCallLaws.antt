@@ -50,10 +50,10 @@ not-in-range s f = go (startFits s) refl
 
 module _ (s : Corner) (ds : List ℕ) where
   fault-first : (bad : ℕ → Type 0) (i : ℕ) (r : Refusal) → First (length ds) (StepAt ds) bad i → faultAt i (getD ds i 0) ≡ Refused r → chainJudged 0 ds ≡ Refused r
-  fault-first bad i r f e = first-from faultAt chainJudged (λ p. refl) (λ p d l. refl) 0 ds i i r (f .inside) (λ k q m g. step-none ds 0 0 q (getD ds k 0) (f .before k m .0) (omega (arith, f .before k m .1))) (omega arith) e
+  fault-first bad i r f e = first-from faultAt chainJudged (λ p. refl) (λ p d l. refl) 0 ds i i r (f .inside) (λ k q m g. step-none s ds 0 0 q (getD ds k 0) (f .before k m .0) (omega (arith, f .before k m .1))) (omega arith) e
 
   no-fault : AllSteps ds → chainJudged 0 ds ≡ Good
-  no-fault f = none-from faultAt chainJudged (λ p. refl) (λ p d l. refl) 0 ds (λ i p k g. step-none ds 0 0 p (getD ds i 0) (f i k .0) (omega (arith, f i k .1)))
+  no-fault f = none-from faultAt chainJudged (λ p. refl) (λ p d l. refl) 0 ds (λ i p k g. step-none s ds 0 0 p (getD ds i 0) (f i k .0) (omega (arith, f i k .1)))
 
   no-room : (b : Bool) → isRoom s ds ≡ b → (IsRoom s ds → ⊥) → when (not (isRoom s ds)) NotRoom ≡ Refused NotRoom
   no-room true e f = absurd (f (isRoom-exactly s ds .0 e))
@@ -62,10 +62,10 @@ module _ (s : Corner) (ds : List ℕ) where
   given-room : (j : Judged) → GivenRoom s ds j → asRoomJudged s ds ≡ j
   given-room _ (given.tooMany h) = judged-many s ds h
   given-room _ (given.startRange h f) = judged-range s ds h (not-in-range s f)
-  given-room _ (given.badDigit i h n f) = judged-fault s ds h (in-range s n) (BadDigit i) (fault-first (AboveThreeAt ds) i (BadDigit i) f (step-above ds 0 0 i (getD ds i 0) (f .here)))
+  given-room _ (given.badDigit i h n f) = judged-fault s ds h (in-range s n) (BadDigit i) (fault-first (AboveThreeAt ds) i (BadDigit i) f (step-above s ds 0 0 i (getD ds i 0) (f .here)))
   given-room _ (given.tooLong i h n f) =
       judged-fault s ds h (in-range s n) (TooLong i)
-      (fault-first (StepTooManyAt ds) i (TooLong i) f (step-long ds 0 0 i (getD ds i 0) (f .here .0) (at-most ds 0 0 i (f .before) (f .here .1))))
+      (fault-first (StepTooManyAt ds) i (TooLong i) f (step-long s ds 0 0 i (getD ds i 0) (f .here .0) (at-most s ds 0 0 i (f .before) (f .here .1))))
   given-room _ (given.notRoom h n f r) = judged-room s ds h (in-range s n) (no-fault f) ∙ no-room (isRoom s ds) refl r
   given-room _ (given.isRoom h n f r) = judged-room s ds h (in-range s n) (no-fault f) ∙ ap (λ (b : Bool). when (not b) NotRoom) (isRoom-exactly s ds .1 r)
 
@@ -83,7 +83,7 @@ module _ (s : Corner) (ds : List ℕ) where
       (λ k. (Refused (BadDigit (x .0)), given.badDigit (x .0) h n (record { inside = x .1 .inside; before = x .1 .before; here = k })))
       (λ k. (Refused (TooLong (x .0)), given.tooLong (x .0) h n (record { inside = x .1 .inside; before = x .1 .before; here = k })))
       (x .1 .here))
-      (all-or-first (length ds) (StepAt ds) (λ i. AboveThreeAt ds i ⊎ StepTooManyAt ds i) (step-or-fault ds 0 0))
+      (all-or-first (length ds) (StepAt ds) (λ i. AboveThreeAt ds i ⊎ StepTooManyAt ds i) (step-or-fault s ds 0 0))
 
   some-room : (j : Judged) × GivenRoom s ds j
   some-room = elim (decLt mostInput (length ds)) [ yes h ↦ (Refused TooMany, given.tooMany h) | no h ↦ by-start (omega arith) (startFits s) refl ]

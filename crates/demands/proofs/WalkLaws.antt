@@ -65,13 +65,13 @@ module _ {c : Corner} {os t ms ch t′ ms′ ch′ : List ℕ} {r : Answer} (w :
   )
 
   -- "no room" at a place, and at some place
-  pub no-room-at : (i : ℕ) → r ≡ Answer.Refused (NoRoom i) ↔ Faultless os (length t) (length ms) (length ch) × ((k : ℕ) × NoRoomAfter c os (recordsIn (length t)) k × (i ≡ pred k))
+  pub no-room-at : (i : ℕ) → r ≡ Answer.Refused (NoRoom i) ↔ Faultless c os (length t) (length ms) (length ch) × ((k : ℕ) × NoRoomAfter c os (recordsIn (length t)) k × (i ≡ pred k))
   no-room-at i = (λ e. parts (refused-when (NoRoom i) .0 e), λ g. refused-when (NoRoom i) .1 (given.noRoom i (g .1 .0) (g .0) (g .1 .1) (g .1 .2)))
     where
-      parts : Given c os (length t) (length ms) (length ch) (Refused (NoRoom i)) → Faultless os (length t) (length ms) (length ch) × ((k : ℕ) × NoRoomAfter c os (recordsIn (length t)) k × (i ≡ pred k))
+      parts : Given c os (length t) (length ms) (length ch) (Refused (NoRoom i)) → Faultless c os (length t) (length ms) (length ch) × ((k : ℕ) × NoRoomAfter c os (recordsIn (length t)) k × (i ≡ pred k))
       parts (given.noRoom _ k f n e) = (f, (k, n, e))
 
-  pub no-room-when : ((i : ℕ) × (r ≡ Answer.Refused (NoRoom i))) ↔ Faultless os (length t) (length ms) (length ch) × ((k : ℕ) × (k ≤ length os) × Exceeds (nodesAfter c os k) (recordsIn (length t)))
+  pub no-room-when : ((i : ℕ) × (r ≡ Answer.Refused (NoRoom i))) ↔ Faultless c os (length t) (length ms) (length ch) × ((k : ℕ) × (k ≤ length os) × Exceeds (nodesAfter c os k) (recordsIn (length t)))
   no-room-when = (
     λ x. let h = no-room-at (x .0) .0 (x .1) in let n = h .1 .1 in (h .0, (h .1 .0, omega (arith, n .inside), n .here)),
     λ x.

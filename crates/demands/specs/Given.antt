@@ -6,15 +6,15 @@ use Prim.Native.Nat.{ℕ, suc, _*_, _<_, _≤_, pred}
 use lib.ListN.{length, getD}
 use Rattle.answer.specs.declared.Judged.{Judged}
 use Rattle.answer.specs.declared.Judged.the-variants.{Good, Refused}
-use Rattle.answer.specs.declared.Refusal.the-variants.{TooMany, Table, ResultRoom, BadDigit, NothingToTake, TooLong, NoRoom}
-use Rattle.answer.specs.Limits.{mostInput, mostSteps, mostRecords}
+use Rattle.answer.specs.declared.Refusal.the-variants.{TooMany, Table, ResultRoom, BadDigit, NothingToTake, TooLong, NoRoom, StartRange}
+use Rattle.answer.specs.Limits.{mostInput, mostSteps, mostRecords, Near}
 use Rattle.grid.specs.declared.Corner.{Corner}
 use Rattle.steps.specs.Operations.{Fine}
 use Rattle.layout.specs.Marks.{markWords}
 use Rattle.layout.specs.Table.{width, recordsIn}
 use Rattle.demands.specs.Moments.{stepsAfter, nodesAfter, Exceeds}
 
--- the words are those of a record times a count of 1 to 131,080
+-- the words are those of a record times a count of 1 to 131,148
 abbrev pub HasRecords : ℕ → Type 0
 HasRecords words = (r : ℕ) × (1 ≤ r) × (r ≤ mostRecords) × (words ≡ r * width)
 
@@ -42,15 +42,16 @@ pub record First (n : ℕ) (fine bad : ℕ → Type 0) (i : ℕ) : Type 0 where
   pub before : (h : ℕ) → h < i → fine h
   pub here : bad i
 
--- 1, 2 and 3 are out of the question
-pub record Sized (os : List ℕ) (words marks chain : ℕ) : Type 0 where
+-- 1, 2, 3 and 10 are out of the question
+pub record Sized (c : Corner) (os : List ℕ) (words marks chain : ℕ) : Type 0 where
   pub few : length os ≤ mostInput
   pub table : HasRecords words
   pub room : HasRoom os marks chain
+  pub start : Near c
 
 -- and so are 4, 5 and 6: nothing is wrong with the call, but for room in the table
-pub record Faultless (os : List ℕ) (words marks chain : ℕ) : Type 0 where
-  pub sized : Sized os words marks chain
+pub record Faultless (c : Corner) (os : List ℕ) (words marks chain : ℕ) : Type 0 where
+  pub sized : Sized c os words marks chain
   pub fine : (i : ℕ) → i < length os → FineAt os i
 
 -- k operations are the fewest after which the nodes needed exceed the records
@@ -62,8 +63,9 @@ pub data Given (c : Corner) (os : List ℕ) (words marks chain : ℕ) : Judged �
   tooMany : mostInput < length os → Given c os words marks chain (Refused TooMany)
   table : length os ≤ mostInput → (HasRecords words → ⊥) → Given c os words marks chain (Refused Table)
   resultRoom : length os ≤ mostInput → HasRecords words → (HasRoom os marks chain → ⊥) → Given c os words marks chain (Refused ResultRoom)
-  badDigit : (i : ℕ) → Sized os words marks chain → First (length os) (FineAt os) (BadDigitAt os) i → Given c os words marks chain (Refused (BadDigit i))
-  nothingToTake : (i : ℕ) → Sized os words marks chain → First (length os) (FineAt os) (NothingAt os) i → Given c os words marks chain (Refused (NothingToTake i))
-  tooLong : (i : ℕ) → Sized os words marks chain → First (length os) (FineAt os) (TooLongAt os) i → Given c os words marks chain (Refused (TooLong i))
-  noRoom : (i k : ℕ) → Faultless os words marks chain → NoRoomAfter c os (recordsIn words) k → i ≡ pred k → Given c os words marks chain (Refused (NoRoom i))
-  accepted : Faultless os words marks chain → ((k : ℕ) → k ≤ length os → nodesAfter c os k ≤ recordsIn words) → Given c os words marks chain Good
+  startRange : length os ≤ mostInput → HasRecords words → HasRoom os marks chain → (Near c → ⊥) → Given c os words marks chain (Refused StartRange)
+  badDigit : (i : ℕ) → Sized c os words marks chain → First (length os) (FineAt os) (BadDigitAt os) i → Given c os words marks chain (Refused (BadDigit i))
+  nothingToTake : (i : ℕ) → Sized c os words marks chain → First (length os) (FineAt os) (NothingAt os) i → Given c os words marks chain (Refused (NothingToTake i))
+  tooLong : (i : ℕ) → Sized c os words marks chain → First (length os) (FineAt os) (TooLongAt os) i → Given c os words marks chain (Refused (TooLong i))
+  noRoom : (i k : ℕ) → Faultless c os words marks chain → NoRoomAfter c os (recordsIn words) k → i ≡ pred k → Given c os words marks chain (Refused (NoRoom i))
+  accepted : Faultless c os words marks chain → ((k : ℕ) → k ≤ length os → nodesAfter c os k ≤ recordsIn words) → Given c os words marks chain Good

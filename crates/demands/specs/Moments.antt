@@ -26,9 +26,13 @@ cornersAfter c os k = length (visitedOf (cornersFrom c (stepsAfter os k)))
 abbrev pub visitsAfter : Corner → List ℕ → ℕ → ℕ
 visitsAfter c os k = count (same (endFrom c (stepsAfter os k))) (cornersFrom c (stepsAfter os k))
 
--- at most eight nodes for each corner, as it was demanded
+-- at most eight nodes for each corner and 68, as it was demanded
 abbrev pub AtMostEight : ℕ → ℕ → Type 0
-AtMostEight nodes corners = nodes ≤ 8 * corners
+AtMostEight nodes corners = nodes ≤ 8 * corners + 68
+
+-- at most four for each and 64
+abbrev pub FourAndStart : ℕ → ℕ → Type 0
+FourAndStart nodes corners = nodes ≤ 4 * corners + 64
 
 -- at most four for each, less three
 abbrev pub FourLessThree : ℕ → ℕ → Type 0

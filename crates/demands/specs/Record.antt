@@ -47,10 +47,10 @@ pub record RecordSays (ps : List Corner) (a : Corner) (word : ℕ → ℕ) : Typ
   pub least : (d k : ℕ) → d < 4 → LinkedBy ps a (stepped d a) k → (0 < word (14 + d)) × (word (14 + d) ≤ k)
   -- 18: how many of p0 to pn are here
   pub visits : word 18 ≡ count (same a) ps
-  -- 19: the step that first needed the node, 0 for the root
+  -- 19: the step that first needed the node, 0 for the start and its ancestors
   pub needed : (word 19 < length ps) × ((i : ℕ) × AncestorAt i (getD ps (word 19) origin) a)
   pub soonest : (k i : ℕ) → k < length ps → AncestorAt i (getD ps k origin) a → word 19 ≤ k
-  pub planted : isRoot a ≡ true → word 19 ≡ 0
+  pub planted : (i : ℕ) → AncestorAt i (getD ps 0 origin) a → word 19 ≡ 0
   -- 20: 1 + the least k with p_k here, 0 if unvisited
   pub first : (k : ℕ) → word 20 ≡ suc k ↔ FirstIn ps a k
   pub unvisited : (List·Memᴰ a ps → ⊥) → word 20 ≡ 0

@@ -33,6 +33,11 @@ abbrev pub AncestorAt : ℕ → Corner → Corner → Type 0
 AncestorAt zero c a = a ≡ c
 AncestorAt (suc i) c a = (isRoot c ≡ false) × AncestorAt i (parentOf c) a
 
+-- its i-th parent, where the root is its own
+abbrev pub upBy : ℕ → Corner → Corner
+upBy zero c = c
+upBy (suc i) c = parentOf (upBy i c)
+
 -- the parent of a node, its parent, and so on to the root. The first argument bounds how many there are
 abbrev pub ancestorsBy : ℕ → Corner → List Corner
 ancestorsBy zero c = []

@@ -9,7 +9,7 @@ use Rattle.grid.specs.declared.Corner.{Corner}
 use Rattle.grid.specs.Grid.{corner, origin}
 use Rattle.answer.specs.declared.Judged.the-variants as judged
 use Rattle.answer.specs.declared.Counted.{Counted}
-use Rattle.answer.specs.declared.Refusal.the-variants.{BadDigit, TooLong, HullRoom}
+use Rattle.answer.specs.declared.Refusal.the-variants.{BadDigit, TooLong, HullRoom, StartRange}
 use Rattle.hull.specs.Hull.{cross, Left, Begins, HullIs}
 use Rattle.hull.specs.Call.{faultAt, hullJudged, countedOf, bufferOf}
 
@@ -61,15 +61,19 @@ step-too-many = refl
 last-step : faultAt 16383 3 ≡ judged.Good
 last-step = refl
 
+-- 10 comes before 4
+start-before-digit : hullJudged (corner (pos 0) (pos 16385)) (4 ∷ []) 4 1 ≡ judged.Refused StartRange
+start-before-digit = refl
+
 -- 8 comes last
-digit-before-room : hullJudged (0 ∷ 4 ∷ []) 0 2 ≡ judged.Refused (BadDigit 1)
+digit-before-room : hullJudged origin (0 ∷ 4 ∷ []) 0 2 ≡ judged.Refused (BadDigit 1)
 digit-before-room = refl
 
 -- a corner needs two numbers
-room-of-one-number : hullJudged [] 1 1 ≡ judged.Refused HullRoom
+room-of-one-number : hullJudged origin [] 1 1 ≡ judged.Refused HullRoom
 room-of-one-number = refl
 
-room-of-two-numbers : hullJudged [] 2 1 ≡ judged.Good
+room-of-two-numbers : hullJudged origin [] 2 1 ≡ judged.Good
 room-of-two-numbers = refl
 
 -- how many there are, and no refusal

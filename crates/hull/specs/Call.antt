@@ -1,8 +1,8 @@
 -- What the hull call answers, and what it leaves in the buffer (RULES 5.5, 6.3, 6.6). Assumes nothing.
-use Rattle.lists.specs.Lists.{_≡_, List, [], _∷_, _++_, length, drop, ℕ, suc, _*_, eqb, ltb, ℤ}
+use Rattle.lists.specs.Lists.{_≡_, not, List, [], _∷_, _++_, length, drop, ℕ, suc, _*_, eqb, ltb, ℤ}
 use Rattle.grid.specs.{declared.Corner.Corner, Grid.cornersFrom}
-use Rattle.answer.specs.declared.{Judged.Judged, Judged.the-variants.Good, Judged.the-variants.Refused, Refusal.the-variants.TooMany, Refusal.the-variants.BadDigit, Refusal.the-variants.TooLong, Refusal.the-variants.HullRoom, Counted.Counted}
-use Rattle.answer.specs.{Limits.mostInput, Limits.mostSteps, Refusal.when, Refusal.orElse, Refusal.firstOf}
+use Rattle.answer.specs.declared.{Judged.Judged, Judged.the-variants.Good, Judged.the-variants.Refused, Refusal.the-variants.TooMany, Refusal.the-variants.BadDigit, Refusal.the-variants.TooLong, Refusal.the-variants.HullRoom, Refusal.the-variants.StartRange, Counted.Counted}
+use Rattle.answer.specs.{Limits.mostInput, Limits.mostSteps, Limits.startFits, Refusal.when, Refusal.orElse, Refusal.firstOf}
 use Rattle.hull.specs.Hull.{HullIs}
 
 -- at place i: 4 where the byte is above 3, otherwise 6 where its step would be the 16,385th
@@ -18,9 +18,9 @@ chainJudged i (d ∷ ds) = orElse (faultAt i d) (chainJudged (suc i) ds)
 abbrev pub roomJudged : ℕ → ℕ → Judged
 roomJudged room corners = when (ltb room (2 * corners)) HullRoom
 
--- refusal 1, then 4 and 6 at the first faulty place, 8 last
-abbrev pub hullJudged : List ℕ → ℕ → ℕ → Judged
-hullJudged chain room corners = firstOf (when (ltb mostInput (length chain)) TooMany ∷ chainJudged 0 chain ∷ roomJudged room corners ∷ [])
+-- refusal 1, then 10, then 4 and 6 at the first faulty place, 8 last
+abbrev pub hullJudged : Corner → List ℕ → ℕ → ℕ → Judged
+hullJudged s chain room corners = firstOf (when (ltb mostInput (length chain)) TooMany ∷ when (not (startFits s)) StartRange ∷ chainJudged 0 chain ∷ roomJudged room corners ∷ [])
 
 -- how many corners there are, unless there is a refusal
 abbrev pub countedOf : Judged → ℕ → Counted
@@ -41,5 +41,5 @@ bufferOf (Refused r) L before = before
 pub record HullCall (s : Corner) (chain : List ℕ) (before : List ℤ) (r : Counted) (after : List ℤ) : Type 0 where
   pub list : List Corner
   pub hull : HullIs (cornersFrom s chain) list
-  pub answer : r ≡ countedOf (hullJudged chain (length before) (length list)) (length list)
-  pub buffer : after ≡ bufferOf (hullJudged chain (length before) (length list)) list before
+  pub answer : r ≡ countedOf (hullJudged s chain (length before) (length list)) (length list)
+  pub buffer : after ≡ bufferOf (hullJudged s chain (length before) (length list)) list before

@@ -23,21 +23,22 @@ use Rattle.hull_laws.specs.Outline.{spot, spotBy, outlineOf}
 use Rattle.hull_laws.proofs.StackLaws.{stack-in}
 use Rattle.hull_laws.proofs.JoinLaws.{seam-room, close-room, length-both, parts-outline, spot-by}
 use Rattle.hull_laws.proofs.CallLaws.{room-short, room-enough, written}
-use Rattle.hull_corners.specs.Parts.{joined, twoAt, Near, ListGiven, Puts, Parts, TwoChains}
+use Rattle.answer.specs.Limits.{Near}
+use Rattle.hull_corners.specs.Parts.{joined, twoAt, ListGiven, Puts, Parts, TwoChains}
 use Rattle.hull_laws.specs.Columns.{middle, top, blank}
 
 -- a corner of the columns fits the numbers of the buffer
 near-axis : (z : ℤ) (n : ℕ) → natAbs z ≤ mostSteps → n ≤ top → natAbs ((z -ℤ pos middle) +ℤ pos n) ≤ suc blank
 near-axis z n h g = omega (arith, abs+ (z -ℤ pos middle) (pos n), abs- z (pos middle))
 
-module _ {c : Corner} {w e : ℕ} {lo hi s t : List ℕ} {a f g room : ℕ} (n : Near c) (p : Parts w e lo hi s t a f g room) where
+module _ (c : Corner) {w e : ℕ} {lo hi s t : List ℕ} {a f g room : ℕ} (n : Near c) (p : Parts w e lo hi s t a f g room) where
   pub puts-lower : (base : Corner) → base ≡ spot (c .0 -ℤ pos middle) (c .1 -ℤ pos middle) (w, 0) → Puts room 0 base (pos 1) lo s a (length s)
   puts-lower base r = record {
     ordered = p .lower;
     inside = omega arith;
     fits = omega (arith, p .fits);
-    x = subst (λ (z : Corner). natAbs (z .0) ≤ suc blank) (sym r) (near-axis (c .0) w (n .x) (omega (arith, p .ordered, p .within)));
-    y = subst (λ (z : Corner). natAbs (z .1) ≤ suc blank) (sym r) (near-axis (c .1) 0 (n .y) (omega arith));
+    x = subst (λ (z : Corner). natAbs (z .0) ≤ suc blank) (sym r) (near-axis (c .0) w (n .0) (omega (arith, p .ordered, p .within)));
+    y = subst (λ (z : Corner). natAbs (z .1) ≤ suc blank) (sym r) (near-axis (c .1) 0 (n .1) (omega arith));
     one = omega arith;
     columns = p .columns;
   }
@@ -47,8 +48,8 @@ module _ {c : Corner} {w e : ℕ} {lo hi s t : List ℕ} {a f g room : ℕ} (n :
     ordered = p .from;
     inside = p .upto;
     fits = omega (arith, p .fits);
-    x = subst (λ (z : Corner). natAbs (z .0) ≤ suc blank) (sym r) (near-axis (c .0) e (n .x) (p .within));
-    y = subst (λ (z : Corner). natAbs (z .1) ≤ suc blank) (sym r) (near-axis (c .1) top (n .y) (omega arith));
+    x = subst (λ (z : Corner). natAbs (z .0) ≤ suc blank) (sym r) (near-axis (c .0) e (n .0) (p .within));
+    y = subst (λ (z : Corner). natAbs (z .1) ≤ suc blank) (sym r) (near-axis (c .1) top (n .1) (omega arith));
     one = omega arith;
     columns = p .columns2;
   }
@@ -105,7 +106,7 @@ module _ {w e : ℕ} {lo hi s t : List ℕ} {a b : ℕ} (h : TwoChains w e lo hi
 -- two corners in the buffer
 pub ends-base : (c base : Corner) → base ≡ spot (c .0 -ℤ pos middle) (c .1 -ℤ pos middle) (0, 0) → Near c → (natAbs (base .0) ≤ suc blank) × (natAbs (base .1) ≤ suc blank)
 ends-base c base r n =
-    (subst (λ (z : Corner). natAbs (z .0) ≤ suc blank) (sym r) (near-axis (c .0) 0 (n .x) (omega arith)), subst (λ (z : Corner). natAbs (z .1) ≤ suc blank) (sym r) (near-axis (c .1) 0 (n .y) (omega arith)))
+    (subst (λ (z : Corner). natAbs (z .0) ≤ suc blank) (sym r) (near-axis (c .0) 0 (n .0) (omega arith)), subst (λ (z : Corner). natAbs (z .1) ≤ suc blank) (sym r) (near-axis (c .1) 0 (n .1) (omega arith)))
 
 module _ (c : Corner) (w e : ℕ) where
   pub ends-short : (before : List ℤ) → length before < 4 → ListGiven (twoAt c w e) before (Counted.Refused HullRoom) before

@@ -8,16 +8,10 @@ use lib.ListN.{length, getD, drop}
 use lib.Seq.{slice}
 use Rattle.grid.specs.declared.Corner.{Corner}
 use Rattle.answer.specs.declared.Counted.{Counted}
-use Rattle.answer.specs.Limits.{mostSteps}
 use Rattle.hull.specs.Call.{roomJudged, countedOf, bufferOf}
 use Rattle.hull_laws.specs.Columns.{middle, top, blank}
 use Rattle.hull_laws.specs.Outline.{spot, spotBack, colAt}
 use Rattle.hull_chains.specs.Stack.{Scanned}
-
--- a corner from which no walk leaves the numbers of the buffer
-pub record Near (s : Corner) : Type 0 where
-  pub x : natAbs (s .0) ≤ mostSteps
-  pub y : natAbs (s .1) ≤ mostSteps
 
 -- the list L is counted, and written where there is room
 pub record ListGiven (L : List Corner) (before : List ℤ) (r : Counted) (after : List ℤ) : Type 0 where

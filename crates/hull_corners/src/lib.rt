@@ -15,7 +15,8 @@ ghost use lib.Seq.{sets, slice};
 ghost use Rattle.hull.specs.Call.{numbers};
 ghost use Rattle.hull_laws.specs.Outline.{outlineOf, spot, spotBy, colAt};
 ghost use Rattle.hull_laws.specs.Columns.{middle, top};
-ghost use Rattle.hull_corners.specs.Parts.{joined, twoAt, Near, Puts, Parts, TwoChains, ListGiven};
+ghost use Rattle.answer.specs.Limits.{Near};
+ghost use Rattle.hull_corners.specs.Parts.{joined, twoAt, Puts, Parts, TwoChains, ListGiven};
 
 // A coordinate: n steps of `way`, which is 1 or -1, from `base`.
 fn coordinate(base: i32, way: i32, n: u16) -> i32

@@ -1,11 +1,12 @@
 -- The refusals of the hull call in their order, and the buffer after a list is written.
 -- Assumes nothing.
-use mathlib.Core.Path.{_≡_, refl, sym, ap, ap₂, _∙_}
-use mathlib.Core.Bool.{Bool}
-use mathlib.Core.List.{List, [], _∷_, _++_}
+use mathlib.Core.Path.{_≡_, refl, sym, ap, _∙_}
+use mathlib.Core.Bool.{Bool, true, false, not}
+use mathlib.Core.List.{List, _++_}
 use Prim.Native.Nat.{ℕ, _+_, _*_, _≤_, _<_}
 use native.Mathlib.Omega.{arith}
 use borrow.Author.Tests.{lt-ltb, le-ltb}
+use lib.Dec.{ltb}
 use lib.IntN.{ℤ}
 use lib.ListN.{length, drop}
 use lib.Seq.{sets, sets-eq}
@@ -14,10 +15,11 @@ use Rattle.grid.specs.Grid.{cornersFrom}
 use Rattle.answer.specs.declared.Judged.{Judged}
 use Rattle.answer.specs.declared.Judged.the-variants.{Good, Refused}
 use Rattle.answer.specs.declared.Refusal.{Refusal}
-use Rattle.answer.specs.declared.Refusal.the-variants.{TooMany, HullRoom}
+use Rattle.answer.specs.declared.Refusal.the-variants.{TooMany, HullRoom, StartRange}
 use Rattle.answer.specs.declared.Counted.{Counted}
-use Rattle.answer.specs.Limits.{mostInput}
-use Rattle.answer.specs.Refusal.{when, orElse, firstOf}
+use Rattle.answer.specs.Limits.{mostInput, startFits}
+use Rattle.answer.specs.Refusal.{when, orElse}
+use Rattle.answer.proofs.RefusalLaws.{orElse-right}
 use Rattle.hull.specs.Call.{chainJudged, roomJudged, hullJudged, countedOf, numbers, bufferOf, HullCall}
 use Rattle.hull_laws.specs.Outline.{hullOf}
 use Rattle.hull_laws.proofs.OneLaws.{hullIs-one}
@@ -37,24 +39,34 @@ written L before h = sets-eq (numbers L) before 0 (omega (arith, length-numbers 
     count : 0 + length (numbers L) ≡ 2 * length L
     count = omega (arith, length-numbers L)
 
-pub judged-many : (chain : List ℕ) (room n : ℕ) → mostInput < length chain → hullJudged chain room n ≡ Refused TooMany
-judged-many chain room n h = ap (λ (b : Bool). firstOf (when b TooMany ∷ chainJudged 0 chain ∷ roomJudged room n ∷ [])) (lt-ltb mostInput (length chain) h)
+module _ (s : Corner) (chain : List ℕ) (room n : ℕ) where
+  -- the four judgements one after the other
+  judged-by : (a b j : Judged) → when (ltb mostInput (length chain)) TooMany ≡ a → when (not (startFits s)) StartRange ≡ b → chainJudged 0 chain ≡ j
+      → hullJudged s chain room n ≡ orElse a (orElse b (orElse j (orElse (roomJudged room n) Good)))
+  judged-by a b j p q r = rw (p, q, r)
 
-judged-rest : (chain : List ℕ) (room n : ℕ) (j : Judged) → length chain ≤ mostInput → chainJudged 0 chain ≡ j → hullJudged chain room n ≡ orElse j (orElse (roomJudged room n) Good)
-judged-rest chain room n j h e = ap₂ (λ (b : Bool) (j : Judged). firstOf (when b TooMany ∷ j ∷ roomJudged room n ∷ [])) (le-ltb mostInput (length chain) h) e
+  pub judged-many : mostInput < length chain → hullJudged s chain room n ≡ Refused TooMany
+  judged-many h = judged-by (Refused TooMany) (when (not (startFits s)) StartRange) (chainJudged 0 chain) (ap (λ (b : Bool). when b TooMany) (lt-ltb mostInput (length chain) h)) refl refl
 
-pub judged-fault : (chain : List ℕ) (room n : ℕ) (r : Refusal) → length chain ≤ mostInput → chainJudged 0 chain ≡ Refused r → hullJudged chain room n ≡ Refused r
-judged-fault chain room n r h e = judged-rest chain room n (Refused r) h e
+  module _ (h : length chain ≤ mostInput) where
+    few : when (ltb mostInput (length chain)) TooMany ≡ Good
+    few = ap (λ (b : Bool). when b TooMany) (le-ltb mostInput (length chain) h)
 
-pub judged-room : (chain : List ℕ) (room n : ℕ) → length chain ≤ mostInput → chainJudged 0 chain ≡ Good → hullJudged chain room n ≡ roomJudged room n
-judged-room chain room n h e = judged-rest chain room n Good h e ∙ same (roomJudged room n)
-  where
-    same : (j : Judged) → orElse j Good ≡ j
-    same Good = refl
-    same (Refused r) = refl
+    pub judged-start : startFits s ≡ false → hullJudged s chain room n ≡ Refused StartRange
+    judged-start e = judged-by Good (Refused StartRange) (chainJudged 0 chain) few (ap (λ (b : Bool). when (not b) StartRange) e) refl
+
+    module _ (f : startFits s ≡ true) where
+      fits : when (not (startFits s)) StartRange ≡ Good
+      fits = ap (λ (b : Bool). when (not b) StartRange) f
+
+      pub judged-fault : (r : Refusal) → chainJudged 0 chain ≡ Refused r → hullJudged s chain room n ≡ Refused r
+      judged-fault r e = judged-by Good Good (Refused r) few fits e
+
+      pub judged-room : chainJudged 0 chain ≡ Good → hullJudged s chain room n ≡ roomJudged room n
+      judged-room e = judged-by Good Good Good few fits e ∙ orElse-right (roomJudged room n)
 
 -- a refused call leaves the buffer as it was
-pub call-refused : (s : Corner) (chain : List ℕ) (before : List ℤ) (r : Refusal) → ((n : ℕ) → hullJudged chain (length before) n ≡ Refused r) → HullCall s chain before (Counted.Refused r) before
+pub call-refused : (s : Corner) (chain : List ℕ) (before : List ℤ) (r : Refusal) → ((n : ℕ) → hullJudged s chain (length before) n ≡ Refused r) → HullCall s chain before (Counted.Refused r) before
 call-refused s chain before r e = record {
   list = hullOf s chain;
   hull = hullOf-hull s chain;
@@ -64,7 +76,7 @@ call-refused s chain before r e = record {
 
 -- there is one answer and one buffer
 pub hullCall-one : {s : Corner} {chain : List ℕ} {before : List ℤ} {r r′ : Counted} {after after′ : List ℤ} → HullCall s chain before r after → HullCall s chain before r′ after′ → (r ≡ r′) × (after ≡ after′)
-hullCall-one {s} {chain} {before} h g = (h .answer ∙ ap (λ (L : List Corner). countedOf (hullJudged chain (length before) (length L)) (length L)) one ∙ sym (g .answer), h .buffer ∙ ap (λ (L : List Corner). bufferOf (hullJudged chain (length before) (length L)) L before) one ∙ sym (g .buffer))
+hullCall-one {s} {chain} {before} h g = (h .answer ∙ ap (λ (L : List Corner). countedOf (hullJudged s chain (length before) (length L)) (length L)) one ∙ sym (g .answer), h .buffer ∙ ap (λ (L : List Corner). bufferOf (hullJudged s chain (length before) (length L)) L before) one ∙ sym (g .buffer))
   where
     one : h .list ≡ g .list
     one = hullIs-one (cornersFrom s chain) (h .list) (g .list) (h .hull) (g .hull)

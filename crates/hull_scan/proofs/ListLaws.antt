@@ -1,6 +1,7 @@
 -- From the parts of the hull call to the whole.
 -- Assumes nothing.
 use mathlib.Core.Path.{_≡_, refl, sym, ap, ap₂, _∙_, subst}
+use mathlib.Core.Bool.{true}
 use mathlib.Core.List.{List, map}
 use Prim.Native.Nat.{ℕ, suc, _+_, _-_, _≤_, _<_}
 use native.Mathlib.Omega.{arith}
@@ -9,12 +10,12 @@ use lib.IntN.{ℤ, pos, _+ℤ_, _-ℤ_}
 use lib.ListN.{length, getD, replicate, getD-replicate, length-replicate}
 use Rattle.int_laws.proofs.LinearLaws.{zarith, bal+, bal-}
 use Rattle.grid.specs.declared.Corner.{Corner}
-use Rattle.grid.specs.Grid.{origin, cornersFrom}
+use Rattle.grid.specs.Grid.{cornersFrom}
 use Rattle.answer.specs.declared.Judged.{Judged}
 use Rattle.answer.specs.declared.Judged.the-variants as judged
 use Rattle.answer.specs.declared.Refusal.{Refusal}
 use Rattle.answer.specs.declared.Counted.{Counted}
-use Rattle.answer.specs.Limits.{mostInput, mostSteps}
+use Rattle.answer.specs.Limits.{mostInput, mostSteps, startFits}
 use Rattle.hull.specs.Hull.{HullIs}
 use Rattle.hull.specs.Call.{chainJudged, roomJudged, hullJudged, countedOf, bufferOf, HullCall}
 use Rattle.hull_laws.specs.Columns.{westFrom, eastFrom, trail, sinks, countedFrom, turned}
@@ -29,7 +30,7 @@ use Rattle.hull_laws.proofs.RowLaws.{row-hull}
 use Rattle.hull_columns.specs.declared.Extent.{Extent}
 use Rattle.hull_chains.specs.Stack.{Scanned}
 use Rattle.hull_columns.specs.Extent.{extentBy, Spans}
-use Rattle.hull_corners.specs.Parts.{Near, ListGiven, TwoChains, twoAt}
+use Rattle.hull_corners.specs.Parts.{ListGiven, TwoChains, twoAt}
 use Rattle.hull_laws.specs.Columns.{middle, top, blank}
 use Rattle.hull_scan.specs.Store.{Store, Hulled}
 
@@ -47,10 +48,6 @@ extent-refused judged.Good w e r h = let z : _≡_ {A = ℕ} 0 1 = cc in absurd 
     bad : _≡_ {A = ℕ} 0 1 → ⊥
     bad z = omega arith
 extent-refused (judged.Refused q) w e r h = let i : q ≡ r = cc in ap judged.Refused i
-
--- the origin
-pub near-origin : Near origin
-near-origin = record { x = omega arith; y = omega arith }
 
 -- a walk that is not refused
 pub walked : (chain : List ℕ) (w e : ℕ) → chainJudged 0 chain ≡ judged.Good → w ≡ westFrom middle chain → e ≡ eastFrom middle chain → Spans chain w e
@@ -149,13 +146,13 @@ module _ {chain : List ℕ} {w e : ℕ} {lo hi s t : List ℕ} (k : Spans chain 
       whole = subst (HullIs (cornersFrom c chain)) same at
 
 -- and where nothing else is refused that is the call
-pub call-listed : {s : Corner} {chain : List ℕ} {before after : List ℤ} {r : Counted} → length chain ≤ mostInput → chainJudged 0 chain ≡ judged.Good → Hulled s chain before r after → HullCall s chain before r after
-call-listed {s} {chain} {before} h g k = record {
+pub call-listed : {s : Corner} {chain : List ℕ} {before after : List ℤ} {r : Counted} → length chain ≤ mostInput → startFits s ≡ true → chainJudged 0 chain ≡ judged.Good → Hulled s chain before r after → HullCall s chain before r after
+call-listed {s} {chain} {before} h f g k = record {
   list = k .list;
   hull = k .hull;
   answer = k .listed .answer ∙ sym (ap (λ (j : Judged). countedOf j (length (k .list))) same);
   buffer = k .listed .buffer ∙ sym (ap (λ (j : Judged). bufferOf j (k .list) before) same);
 }
   where
-    same : hullJudged chain (length before) (length (k .list)) ≡ roomJudged (length before) (length (k .list))
-    same = judged-room chain (length before) (length (k .list)) h g
+    same : hullJudged s chain (length before) (length (k .list)) ≡ roomJudged (length before) (length (k .list))
+    same = judged-room s chain (length before) (length (k .list)) h f g

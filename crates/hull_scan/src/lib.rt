@@ -2,6 +2,7 @@
 // list. The upper chain is the lower one of the walk turned by half a turn.
 use answer::Counted;
 use answer::Refusal;
+use answer::start_fits;
 use grid::Corner;
 use hull_chains::scan;
 use hull_columns::Columns;
@@ -11,10 +12,9 @@ use hull_columns::survey;
 use hull_corners::ends;
 use hull_corners::finish;
 ghost use Prim.Native.Nat.{_-_, _<_};
-ghost use Rattle.grid.specs.Grid.{origin};
 ghost use Rattle.hull.specs.Call.{HullCall};
 ghost use Rattle.hull_columns.specs.Extent.{Spans};
-ghost use Rattle.hull_corners.specs.Parts.{Near};
+ghost use Rattle.answer.specs.Limits.{Near};
 ghost use Rattle.hull_scan.specs.Store.{Store, Hulled};
 
 // The hull of the walk from start through the columns west to east. The working store is lent; lo and hi hold no height yet.
@@ -125,16 +125,19 @@ fn list_from(chain: &[u8], start: Corner, west: usize, east: usize, out: &mut [i
     list_widest(chain, start, west, east, out)
 }
 
-// Writes x and y of each corner of the hull of the walk from (0,0), and answers how many corners there are. Refuses too many bytes, a
-// digit above 3, a step too many, and a buffer that is too short; then it writes nothing.
-pub fn list(chain: &[u8], out: &mut [i32]) -> Counted
-    ensures { λ r. ⌜ HullCall origin (now (chain .entry)) (now (out .entry)) r (now (out .exit)) ⌝ }
+// Writes x and y of each corner of the hull of the walk from start, and answers how many corners there are. Refuses too many bytes, a
+// start out of range, a digit above 3, a step too many, and a buffer that is too short; then it writes nothing.
+pub fn list(start: Corner, chain: &[u8], out: &mut [i32]) -> Counted
+    ensures { λ r. ⌜ HullCall start (now (chain .entry)) (now (out .entry)) r (now (out .exit)) ⌝ }
 {
     if chain.len() > Columns::MOST_INPUT {
         return Counted::Refused(Refusal::TooMany);
     }
+    if !start_fits(start) {
+        return Counted::Refused(Refusal::StartRange);
+    }
     match survey(chain) {
-        Extent::Within(west, east) => list_from(chain, Corner(0, 0), west, east, out),
+        Extent::Within(west, east) => list_from(chain, start, west, east, out),
         Extent::Refused(r) => Counted::Refused(r),
     }
 }

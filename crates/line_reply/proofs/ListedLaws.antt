@@ -34,7 +34,7 @@ steps-none i [] b h = refl
 steps-none i (d ∷ w) b h =
     rw (le-ltb 3 d (omega (arith, b .0)), ne-eqb i 16384 (λ e. omega arith)) (steps-none (suc i) w (b .1) (omega arith))
 
-hull-good : (w : List ℕ) (room n : ℕ) → Below 4 w → length w ≤ mostDigits → 2 * n ≤ room → hullJudged w room n ≡ judged.Good
+hull-good : (w : List ℕ) (room n : ℕ) → Below 4 w → length w ≤ mostDigits → 2 * n ≤ room → hullJudged origin w room n ≡ judged.Good
 hull-good w room n b h r =
     rw (le-ltb 32768 (length w) (omega arith), steps-none 0 w b (omega arith), le-ltb room (2 * n) r)
 
@@ -45,7 +45,7 @@ module _ {w : List ℕ} {before after : List ℤ} {r : Counted} (h : HullCall or
   fits : 2 * length (h .list) ≤ length before
   fits = omega (arith, ap length one, length-hullOf origin w)
 
-  good : hullJudged w (length before) (length (h .list)) ≡ judged.Good
+  good : hullJudged origin w (length before) (length (h .list)) ≡ judged.Good
   good = hull-good w (length before) (length (h .list)) b m fits
 
   count : r ≡ counted.Many (length (h .list))

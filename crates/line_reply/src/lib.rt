@@ -4,6 +4,7 @@ use answer::Counted;
 use answer::Facts;
 use answer::Judged;
 use answer::Refusal;
+use grid::Corner;
 use line_fields::hex::spell;
 use line_frame::Frame;
 use line_frame::Kind;
@@ -58,7 +59,7 @@ fn list_hull(steps: &[u8], hull: &mut [i32]) -> usize
     requires { ⌜ length (now hull) ≡ hullNumbers ⌝ }
     ensures { λ n. ⌜ Listed (hullOf origin (now (steps .entry))) n (now (hull .exit)) ⌝ }
 {
-    match hull_scan::list(steps, hull) {
+    match hull_scan::list(Corner(0, 0), steps, hull) {
         Counted::Many(n) => n,
         Counted::Refused(_) => 0,
     }
@@ -92,7 +93,7 @@ fn answer_walk(
     requires { ⌜ at + mostAnswer ≤ length (now out) ⌝ }
     ensures { λ e. ⌜ Wrote (walkedLine (now (ops .entry))) at (now (out .entry)) e (now (out .exit)) ⌝ }
 {
-    match walk::follow(ops, table, marks, chain) {
+    match walk::follow(Corner(0, 0), ops, table, marks, chain) {
         Answer::Accepted(f) => {
             let steps = f.steps;
             write_accepted(f, &chain[..steps], hull, out, at)

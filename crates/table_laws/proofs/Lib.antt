@@ -3,8 +3,8 @@ pub mod StoreLaws
 pub mod StateLaws
 pub mod LookupLaws
 pub mod TakeLaws
-pub mod BackLaws
 pub mod LastLaws
 pub mod Cites
 pub mod UndoLaws
 pub mod WalkLaws
+pub mod PlantLaws

@@ -6,3 +6,4 @@ pub mod OrderLaws
 pub mod JoinLaws
 pub mod LinkLaws
 pub mod LinkStepLaws
+pub mod StartLaws

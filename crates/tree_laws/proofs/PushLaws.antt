@@ -68,7 +68,7 @@ paths-first c [] = let h = path-first c in (h .0 ++ [], ap (λ (l : List Corner)
 paths-first c (d ∷ ds) = let h = path-first c in (h .0 ++ pathsOf (cornersFrom (stepped d c) ds), ap (λ (l : List Corner). l ++ pathsOf (cornersFrom (stepped d c) ds)) (h .1))
 
 -- the invariant holds after every walk
-good-walk : (c : Corner) (ds : List ℕ) → WellLinked (nodesOf (cornersFrom c ds)) (stateOf (cornersFrom c ds) .step)
+pub good-walk : (c : Corner) (ds : List ℕ) → WellLinked (nodesOf (cornersFrom c ds)) (stateOf (cornersFrom c ds) .step)
 good-walk c ds = record {
   root = let h = paths-first c ds in let g = gather-more same (root ∷ []) (h .0) in (g .0, ap (gather same []) (h .1) ∙ g .1);
   closed = λ x m e. let h = mem-nodes-cases ps x m in mem-nodes ps (h .0) (parentOf x) (h .1) (path-parent x (h .0) e (h .2));

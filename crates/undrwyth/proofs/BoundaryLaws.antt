@@ -18,7 +18,6 @@ use Rattle.answer.specs.Limits.{startFits}
 use Rattle.answer.specs.Refusal.{when, orElse, judgedPlace}
 use Rattle.walk_call.specs.Walk.{walkJudged, factsOf, answerBy, WalkIs}
 use Rattle.grid.specs.declared.Corner.{Corner}
-use Rattle.grid.specs.Grid.{origin}
 use Rattle.hull.specs.Call.{chainJudged, roomJudged, hullJudged, countedOf, HullCall}
 use Rattle.steps.specs.Operations.{survivors}
 use Rattle.steps.specs.Turns.{digitsJudged, turnsJudged}
@@ -34,14 +33,14 @@ place-fits : (j : Judged) → Placed 32768 j → judgedPlace j < 2 ^ 32
 place-fits Good p = omega arith
 place-fits (Refused r) p = omega (arith, p)
 
-pub answer-fits : (os t ms ch : List ℕ) (r : Answer) (t′ ms′ ch′ : List ℕ) → WalkIs origin os t ms ch r t′ ms′ ch′ → AnswerFits r
-answer-fits os t ms ch r t′ ms′ ch′ w = subst AnswerFits (sym (w .answer)) (go (walkJudged origin os (length t) (length ms) (length ch)) refl)
+pub answer-fits : (c : Corner) (os t ms ch : List ℕ) (r : Answer) (t′ ms′ ch′ : List ℕ) → WalkIs c os t ms ch r t′ ms′ ch′ → AnswerFits r
+answer-fits c os t ms ch r t′ ms′ ch′ w = subst AnswerFits (sym (w .answer)) (go (walkJudged c os (length t) (length ms) (length ch)) refl)
   where
-    go : (j : Judged) → walkJudged origin os (length t) (length ms) (length ch) ≡ j → AnswerFits (answerBy (walkJudged origin os (length t) (length ms) (length ch)) (factsOf origin (survivors os)))
+    go : (j : Judged) → walkJudged c os (length t) (length ms) (length ch) ≡ j → AnswerFits (answerBy (walkJudged c os (length t) (length ms) (length ch)) (factsOf c (survivors os)))
     go Good e =
-        let k = walk-few origin os (length t) (length ms) (length ch) e in
+        let k = walk-few c os (length t) (length ms) (length ch) e in
         rw e (omega (arith, k .steps), omega (arith, k .nodes), omega (arith, k .corners), omega (arith, k .j), omega (arith, k .k))
-    go (Refused x) e = rw e (omega (arith, subst (Placed 32768) e (walk-placed origin os (length t) (length ms) (length ch))))
+    go (Refused x) e = rw e (omega (arith, subst (Placed 32768) e (walk-placed c os (length t) (length ms) (length ch))))
 
 -- a refusal of digits stands at one of them
 placed-hull : (i : ℕ) (ds : List ℕ) (b : ℕ) → i + length ds ≤ b → Placed b (chainJudged i ds)
@@ -72,26 +71,28 @@ turns-fit ds room j e =
     place-fits j (subst (Placed 32768) (sym e) (placed-after (length ds) (orElse (when x ResultRoom) (orElse f Good)) (λ h.
     placed-or 32768 (when x ResultRoom) (orElse f Good) (placed-when 32768 x ResultRoom (omega arith)) (placed-or 32768 f Good (placed-digits 0 ds 32768 (omega arith)) tt))))
 
-hull-placed : (chain : List ℕ) (room n : ℕ) → Placed 32768 (hullJudged chain room n)
-hull-placed chain room n =
+hull-placed : (c : Corner) (chain : List ℕ) (room n : ℕ) → Placed 32768 (hullJudged c chain room n)
+hull-placed c chain room n =
+    let q = when (not (startFits c)) StartRange in
     let f = chainJudged 0 chain in
     let r = roomJudged room n in
-    placed-after (length chain) (orElse f (orElse r Good)) (λ h.
-    placed-or 32768 f (orElse r Good) (placed-hull 0 chain 32768 (omega arith)) (placed-or 32768 r Good (placed-when 32768 (ltb room (2 * n)) HullRoom (omega arith)) tt))
+    placed-after (length chain) (orElse q (orElse f (orElse r Good))) (λ h.
+    placed-or 32768 q (orElse f (orElse r Good)) (placed-when 32768 (not (startFits c)) StartRange (omega arith))
+    (placed-or 32768 f (orElse r Good) (placed-hull 0 chain 32768 (omega arith)) (placed-or 32768 r Good (placed-when 32768 (ltb room (2 * n)) HullRoom (omega arith)) tt)))
 
-hull-short : (chain : List ℕ) (room n : ℕ) → hullJudged chain room n ≡ Good → length chain ≤ 32768
-hull-short chain room n e = go (ltb 32768 (length chain)) refl
+hull-short : (c : Corner) (chain : List ℕ) (room n : ℕ) → hullJudged c chain room n ≡ Good → length chain ≤ 32768
+hull-short c chain room n e = go (ltb 32768 (length chain)) refl
   where
     go : (b : Bool) → ltb 32768 (length chain) ≡ b → length chain ≤ 32768
     go true p = absurd (refused-not-good TooMany (rw p at e))
     go false p = ltb-false 32768 (length chain) p
 
-pub counted-fits : (chain : List ℕ) (before : List ℤ) (r : Counted) (after : List ℤ) → HullCall origin chain before r after → CountedFits r
-counted-fits chain before r after h = subst CountedFits (sym (h .answer)) (go (hullJudged chain (length before) (length (h .list))) refl)
+pub counted-fits : (c : Corner) (chain : List ℕ) (before : List ℤ) (r : Counted) (after : List ℤ) → HullCall c chain before r after → CountedFits r
+counted-fits c chain before r after h = subst CountedFits (sym (h .answer)) (go (hullJudged c chain (length before) (length (h .list))) refl)
   where
-    go : (j : Judged) → hullJudged chain (length before) (length (h .list)) ≡ j → CountedFits (countedOf (hullJudged chain (length before) (length (h .list))) (length (h .list)))
-    go Good e = rw e (omega (arith, hull-count-steps origin chain (h .list) (h .hull), hull-short chain (length before) (length (h .list)) e))
-    go (Refused x) e = rw e (omega (arith, subst (Placed 32768) e (hull-placed chain (length before) (length (h .list)))))
+    go : (j : Judged) → hullJudged c chain (length before) (length (h .list)) ≡ j → CountedFits (countedOf (hullJudged c chain (length before) (length (h .list))) (length (h .list)))
+    go Good e = rw e (omega (arith, hull-count-steps c chain (h .list) (h .hull), hull-short c chain (length before) (length (h .list)) e))
+    go (Refused x) e = rw e (omega (arith, subst (Placed 32768) e (hull-placed c chain (length before) (length (h .list)))))
 
 room-placed : (s : Corner) (ds : List ℕ) → Placed 32768 (asRoomJudged s ds)
 room-placed s ds =

@@ -13,13 +13,13 @@ use Rattle.demands.proofs.Demand.{walkIs-one, hullCall-one, turns-one}
 use Rattle.demands.proofs.Polygon.{polygonCall-one}
 use Rattle.undrwyth.specs.Boundary.{WalkGives, HullGives, TurnsGive, PolygonGives}
 
-pub walkGives-one : {os t ms ch t₁ ms₁ ch₁ w₁ t₂ ms₂ ch₂ w₂ : List ℕ} {n₁ n₂ : ℕ} → WalkGives os t ms ch n₁ t₁ ms₁ ch₁ w₁ → WalkGives os t ms ch n₂ t₂ ms₂ ch₂ w₂
+pub walkGives-one : {c : Corner} {os t ms ch t₁ ms₁ ch₁ w₁ t₂ ms₂ ch₂ w₂ : List ℕ} {n₁ n₂ : ℕ} → WalkGives c os t ms ch n₁ t₁ ms₁ ch₁ w₁ → WalkGives c os t ms ch n₂ t₂ ms₂ ch₂ w₂
     → (n₁ ≡ n₂) × (t₁ ≡ t₂) × (ms₁ ≡ ms₂) × (ch₁ ≡ ch₂) × (w₁ ≡ w₂)
 walkGives-one g h =
     let e = walkIs-one (g .walked) (h .walked) in
     (g .result ∙ ap answerNumber (e .0) ∙ sym (h .result), e .1, e .2, e .3, g .words-are ∙ ap answerWords (e .0) ∙ sym (h .words-are))
 
-pub hullGives-one : {chain : List ℕ} {before after₁ after₂ : List ℤ} {w₁ w₂ : List ℕ} {n₁ n₂ : ℕ} → HullGives chain before n₁ after₁ w₁ → HullGives chain before n₂ after₂ w₂
+pub hullGives-one : {c : Corner} {chain : List ℕ} {before after₁ after₂ : List ℤ} {w₁ w₂ : List ℕ} {n₁ n₂ : ℕ} → HullGives c chain before n₁ after₁ w₁ → HullGives c chain before n₂ after₂ w₂
     → (n₁ ≡ n₂) × (after₁ ≡ after₂) × (w₁ ≡ w₂)
 hullGives-one g h =
     let e = hullCall-one (g .listed) (h .listed) in

@@ -10,23 +10,22 @@ use Rattle.answer.specs.declared.Judged.{Judged}
 use Rattle.answer.specs.Refusal.{judgedNumber}
 use Rattle.walk_call.specs.Walk.{WalkIs}
 use Rattle.grid.specs.declared.Corner.{Corner}
-use Rattle.grid.specs.Grid.{origin}
 use Rattle.hull.specs.Call.{HullCall}
 use Rattle.steps.specs.Turns.{ConvertedBy}
 use Rattle.polygon.specs.Polygon.{PolygonCall}
 use Rattle.answer.specs.Words.{answerWords, answerNumber, countedWords, countedNumber, judgedWords}
 
 -- the walk's promise, with its answer as numbers
-pub record WalkGives (os t ms ch : List ℕ) (n : ℕ) (t′ ms′ ch′ words : List ℕ) : Type 0 where
+pub record WalkGives (c : Corner) (os t ms ch : List ℕ) (n : ℕ) (t′ ms′ ch′ words : List ℕ) : Type 0 where
   pub answer : Answer
-  pub walked : WalkIs origin os t ms ch answer t′ ms′ ch′
+  pub walked : WalkIs c os t ms ch answer t′ ms′ ch′
   pub words-are : words ≡ answerWords answer
   pub result : n ≡ answerNumber answer
 
 -- the hull's
-pub record HullGives (chain : List ℕ) (before : List ℤ) (n : ℕ) (after : List ℤ) (words : List ℕ) : Type 0 where
+pub record HullGives (c : Corner) (chain : List ℕ) (before : List ℤ) (n : ℕ) (after : List ℤ) (words : List ℕ) : Type 0 where
   pub answer : Counted
-  pub listed : HullCall origin chain before answer after
+  pub listed : HullCall c chain before answer after
   pub words-are : words ≡ countedWords answer
   pub result : n ≡ countedNumber answer
 

@@ -10,10 +10,10 @@ ghost use mathlib.Core.Path.{_≡_};
 ghost use Prim.Native.Nat.{_^_, _<_};
 ghost use Rattle.answer.specs.Refusal.{judgedPlace};
 ghost use Rattle.answer.specs.Words.{factsWords, answerWords, countedWords, judgedWords};
+ghost use Rattle.grid.specs.Grid.{corner};
 ghost use Rattle.turns.specs.Way.{convertOf};
 ghost use Rattle.undrwyth.specs.Words.{AnswerFits, CountedFits};
 ghost use Rattle.line_reply.specs.Reply.{LineIs};
-ghost use Rattle.grid.specs.Grid.{corner};
 ghost use Rattle.steps.specs.Turns.{turnsOf, stepsOf};
 ghost use Rattle.undrwyth.specs.Boundary.{WalkGives, HullGives, TurnsGive, PolygonGives};
 
@@ -88,29 +88,37 @@ fn turns_words(j: Judged) -> [u32; 2]
     }
 }
 
-// Follows the operations from (0,0).
+// Follows the operations from a start.
 #[no_mangle]
 pub extern "C" fn undrwyth_walk(
+    start_x: i32,
+    start_y: i32,
     ops: &[u8],
     table: &mut [u32],
     marks: &mut [u32],
     chain: &mut [u8],
     answer: &mut [u32; 11],
 ) -> u32
-    ensures { λ n. ⌜ WalkGives (now (ops .entry)) (now (table .entry)) (now (marks .entry)) (now (chain .entry)) n (now (table .exit)) (now (marks .exit)) (now (chain .exit)) (now (answer .exit)) ⌝ }
+    ensures { λ n. ⌜ WalkGives (corner «start_x» «start_y») (now (ops .entry)) (now (table .entry)) (now (marks .entry)) (now (chain .entry)) n (now (table .exit)) (now (marks .exit)) (now (chain .exit)) (now (answer .exit)) ⌝ }
 {
-    let a = walk::follow(ops, table, marks, chain);
+    let a = walk::follow(Corner(start_x, start_y), ops, table, marks, chain);
     let words = walk_words(a);
     *answer = words;
     words[0]
 }
 
-// Lists the hull of the walk from (0,0).
+// Lists the hull of the walk from a start.
 #[no_mangle]
-pub extern "C" fn undrwyth_hull(chain: &[u8], out: &mut [i32], answer: &mut [u32; 3]) -> u32
-    ensures { λ n. ⌜ HullGives (now (chain .entry)) (now (out .entry)) n (now (out .exit)) (now (answer .exit)) ⌝ }
+pub extern "C" fn undrwyth_hull(
+    start_x: i32,
+    start_y: i32,
+    chain: &[u8],
+    out: &mut [i32],
+    answer: &mut [u32; 3],
+) -> u32
+    ensures { λ n. ⌜ HullGives (corner «start_x» «start_y») (now (chain .entry)) (now (out .entry)) n (now (out .exit)) (now (answer .exit)) ⌝ }
 {
-    let c = hull_scan::list(chain, out);
+    let c = hull_scan::list(Corner(start_x, start_y), chain, out);
     let words = counted_words(c);
     *answer = words;
     words[0]

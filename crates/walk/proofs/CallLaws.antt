@@ -1,13 +1,14 @@
--- The parts of the call put together: its input, the table with the root alone, the walk that is over, and the refusals.
+-- The parts of the call put together: its input, its start, the walk that is over, and the refusals.
 -- Assumes nothing.
 use mathlib.Core.Bool.{Bool, true, false}
-use mathlib.Core.List.{List, [], _∷_}
+use mathlib.Core.List.{List, [], _∷_, _++_}
 use mathlib.Core.Logic.{_⊎_, inl, inr}
 use mathlib.Core.Path.{_≡_, refl, ap, ap₂, sym, subst, _∙_}
-use Prim.Native.Nat.{ℕ, suc, _≤_, pred}
+use Prim.Native.Nat.{ℕ, suc, pred, _-_, _*_, _<_, _≤_}
+use native.Mathlib.Decide.{decLt}
 use native.Mathlib.Omega.{arith}
 use lib.Dec.{eqb, ltb}
-use lib.ListN.{length, replicate, getD, getD-replicate}
+use lib.ListN.{length, replicate, take}
 use Rattle.answer.specs.declared.Answer.{Answer}
 use Rattle.answer.specs.declared.Facts.{Facts}
 use Rattle.answer.specs.declared.Judged.{Judged}
@@ -18,47 +19,76 @@ use Rattle.answer.specs.Refusal.{when, orElse, refusalNumber}
 use Rattle.walk_call.specs.Walk.{roomAt, roomFrom, walkJudged, factsOf, answerBy, bufferBy, WalkIs}
 use Rattle.walk_run.specs.Runs.{Chained}
 use Rattle.grid.specs.declared.Corner.{Corner}
-use Rattle.grid.specs.Grid.{origin, cornersFrom}
+use Rattle.grid.specs.Grid.{cornersFrom}
 use Rattle.layout.specs.Marks.{marksOf, chainOf}
-use Rattle.layout.specs.Table.{width, recordsIn, wordAt, visitsWord, tableOf}
+use Rattle.layout.specs.Table.{width, recordsIn, tableOf}
 use Rattle.walk_step.specs.declared.Walk.{Walk}
-use Rattle.table_laws.specs.Model.{visitIn}
-use Rattle.tree.specs.Nodes.{nodesOf}
+use Rattle.tree.specs.Nodes.{nodesOf, refOf}
 use Rattle.steps.specs.Operations.{operate, survivors}
-use Rattle.walk_table.proofs.CellLaws.{visit-first}
-use Rattle.table_laws.proofs.BackLaws.{start-table}
 use Rattle.walk_call.proofs.JudgedLaws.{judged-split}
 use Rattle.walk_input.specs.Input.{inputJudged}
 use Rattle.walk_facts.specs.Settled.{Settled}
 use Rattle.walk_input.proofs.JudgeLaws.{Early, early-input}
+use Rattle.tree.proofs.InUseLaws.{nodesOf-first}
+use Rattle.walk_call.proofs.RoomLaws.{room-full}
+use Rattle.walk_plant.specs.Plants.{Planted}
+use Rattle.walk_step.specs.Spots.{Walked}
+use Rattle.walk_step.specs.Walks.{fresh}
 use Rattle.walk.specs.Followed.{Followed}
+
+-- ---- a chain that is cleared
+pub cleared : (ch ch′ : List ℕ) → ch′ ≡ take 0 ch ++ replicate (length ch - 0) 0 → ch′ ≡ replicate (length ch) 0
+cleared ch ch′ e = let n : length ch - 0 ≡ length ch = omega arith in e ∙ ap (λ (k : ℕ). replicate k 0) n
 
 -- ---- the input
 untouched : (r : Refusal) (new old : List ℕ) → eqb (refusalNumber r) 7 ≡ false → bufferBy (Refused r) new old ≡ old
 untouched r new old e = rw e
 
 -- a refused input
-pub walk-refused : (os t ms ch : List ℕ) (r : Refusal) → Refused r ≡ inputJudged os (length t) (length ms) (length ch) → WalkIs origin os t ms ch (Answer.Refused r) t ms ch
-walk-refused os t ms ch r e =
-    let j : walkJudged origin os (length t) (length ms) (length ch) ≡ Refused r = judged-split origin os (length t) (length ms) (length ch) ∙ ap (λ (x : Judged). orElse x (roomFrom (recordsIn (length t)) origin 0 [] os)) (sym e) in
-    let n : eqb (refusalNumber r) 7 ≡ false = subst Early (sym e) (early-input os (length t) (length ms) (length ch)) in
+pub walk-refused : (c : Corner) (os t ms ch : List ℕ) (r : Refusal) → Refused r ≡ inputJudged c os (length t) (length ms) (length ch) → WalkIs c os t ms ch (Answer.Refused r) t ms ch
+walk-refused c os t ms ch r e =
+    let j : walkJudged c os (length t) (length ms) (length ch) ≡ Refused r = judged-split c os (length t) (length ms) (length ch) ∙ ap (λ (x : Judged). orElse x (roomFrom (recordsIn (length t)) c 0 [] os)) (sym e) in
+    let n : eqb (refusalNumber r) 7 ≡ false = subst Early (sym e) (early-input c os (length t) (length ms) (length ch)) in
     record {
-      answer = sym (ap (λ (x : Judged). answerBy x (factsOf origin (survivors os))) j);
-      table = sym (ap (λ (x : Judged). bufferBy x (tableOf (length t) origin (survivors os)) t) j ∙ untouched r (tableOf (length t) origin (survivors os)) t n);
-      marks = sym (ap (λ (x : Judged). bufferBy x (marksOf origin os) ms) j ∙ untouched r (marksOf origin os) ms n);
+      answer = sym (ap (λ (x : Judged). answerBy x (factsOf c (survivors os))) j);
+      table = sym (ap (λ (x : Judged). bufferBy x (tableOf (length t) c (survivors os)) t) j ∙ untouched r (tableOf (length t) c (survivors os)) t n);
+      marks = sym (ap (λ (x : Judged). bufferBy x (marksOf c os) ms) j ∙ untouched r (marksOf c os) ms n);
       chain = sym (ap (λ (x : Judged). bufferBy x (chainOf os) ch) j ∙ untouched r (chainOf os) ch n);
     }
 
--- ---- the root alone
-pub plant-reads : (words : ℕ) (t : List ℕ) → t ≡ replicate words 0 → width ≤ words → getD t (wordAt 0 visitsWord) 0 ≡ 0
-plant-reads words t e h = ap (λ (l : List ℕ). getD l (wordAt 0 visitsWord) 0) e ∙ getD-replicate words (wordAt 0 visitsWord) 0 0 (omega arith)
+-- ---- the start
+starts : (c : Corner) → 0 < length (nodesOf (cornersFrom c []))
+starts c = let h = nodesOf-first c [] in omega (arith, ap length (h .1))
 
-pub plant-table : (words : ℕ) (t t′ : List ℕ) → t ≡ replicate words 0 → t′ ≡ visitIn t 0 0 → width ≤ words → t′ ≡ tableOf words origin []
-plant-table words t t′ e q h =
-    q
-    ∙ ap (λ (l : List ℕ). visitIn l 0 0) e
-    ∙ sym (visit-first (replicate words 0) 0 0 0 (sym (plant-reads words (replicate words 0) refl h)) refl refl refl)
-    ∙ start-table words h
+-- no room for it: refused before the first operation, and the table is cleared
+pub planted-full : (words : ℕ) (c : Corner) (os t : List ℕ) (r : ℕ) → Planted words c t r → r ≡ 0 → (roomFrom (recordsIn words) c 0 [] os ≡ Refused (NoRoom 0)) × (t ≡ replicate words 0)
+planted-full words c os t r k e = elim (decLt words (width * n)) [
+  | yes h ↦ (room-full (recordsIn words) c 0 [] os (over words n h), k .full h .1)
+  | no h ↦ absurd (omega (arith, k .fits (omega arith) .1, starts c))
+]
+  where
+    n : ℕ
+    n = length (nodesOf (cornersFrom c []))
+
+    over : (a n : ℕ) → a < width * n → recordsIn a < n
+    over a n p = omega arith
+
+-- planted: the walk stands there
+pub planted-walked : (c : Corner) (t₀ t : List ℕ) (r : ℕ) → Planted (length t₀) c t r → length t ≡ length t₀ → (r ≡ 0 → ⊥) → Walked t c [] (fresh c (r - 1) .spot)
+planted-walked c t₀ t r k l f = elim (decLt (length t₀) (width * n)) [ yes h ↦ absurd (f (k .full h .0)) | no h ↦ at (k .fits (omega arith)) (omega arith) ]
+  where
+    n : ℕ
+    n = length (nodesOf (cornersFrom c []))
+
+    at : (t ≡ tableOf (length t₀) c []) × (r ≡ n) × (r ≡ refOf (nodesOf (cornersFrom c [])) c) → width * n ≤ length t₀ → Walked t c [] (fresh c (r - 1) .spot)
+    at g h = record {
+      whole = g .0 ∙ ap (λ (m : ℕ). tableOf m c []) (sym l);
+      count = omega (arith, g .1, starts c);
+      room = omega (arith, g .1, starts c);
+      here = let e : r ≡ suc (r - 1) = omega (arith, g .1, starts c) in sym (g .2) ∙ e;
+      corner = refl;
+      steps = refl;
+    }
 
 -- ---- the walk that is over
 pub settled-of : (c : Corner) (t ch ds : List ℕ) (w : Walk) → Chained c t ch ds w → Settled c ch ds w
@@ -74,21 +104,21 @@ settled-of c t ch ds w k = record {
 }
 
 -- ---- the operations
-pub followed-full : (os t ms ch t′ ms′ ch′ : List ℕ) (i : ℕ) → roomFrom (recordsIn (length t)) origin 0 [] os ≡ Refused (NoRoom i)
-    → t′ ≡ replicate (length t) 0 → ms′ ≡ replicate (length ms) 0 → ch′ ≡ replicate (length ch) 0 → Followed os t ms ch (Answer.Refused (NoRoom i)) t′ ms′ ch′
-followed-full os t ms ch t′ ms′ ch′ i e p q r = record {
-  answer = sym (ap (λ (x : Judged). answerBy x (factsOf origin (survivors os))) e);
-  table = p ∙ sym (ap (λ (x : Judged). bufferBy x (tableOf (length t) origin (survivors os)) t) e);
-  marks = q ∙ sym (ap (λ (x : Judged). bufferBy x (marksOf origin os) ms) e);
+pub followed-full : (c : Corner) (os t ms ch t′ ms′ ch′ : List ℕ) (i : ℕ) → roomFrom (recordsIn (length t)) c 0 [] os ≡ Refused (NoRoom i)
+    → t′ ≡ replicate (length t) 0 → ms′ ≡ replicate (length ms) 0 → ch′ ≡ replicate (length ch) 0 → Followed c os t ms ch (Answer.Refused (NoRoom i)) t′ ms′ ch′
+followed-full c os t ms ch t′ ms′ ch′ i e p q r = record {
+  answer = sym (ap (λ (x : Judged). answerBy x (factsOf c (survivors os))) e);
+  table = p ∙ sym (ap (λ (x : Judged). bufferBy x (tableOf (length t) c (survivors os)) t) e);
+  marks = q ∙ sym (ap (λ (x : Judged). bufferBy x (marksOf c os) ms) e);
   chain = r ∙ sym (ap (λ (x : Judged). bufferBy x (chainOf os) ch) e);
 }
 
-pub followed-all : (os t ms ch t′ ms′ ch′ : List ℕ) (w : Walk) (f : Facts) → Chained origin t′ ch′ (survivors os) w → ch′ ≡ chainOf os → ms′ ≡ marksOf origin os → roomFrom (recordsIn (length t)) origin 0 [] os ≡ Good
-    → length t′ ≡ length t → f ≡ factsOf origin (survivors os) → Followed os t ms ch (Answer.Accepted f) t′ ms′ ch′
-followed-all os t ms ch t′ ms′ ch′ w f k h q e l g = record {
-  answer = ap Answer.Accepted g ∙ sym (ap (λ (x : Judged). answerBy x (factsOf origin (survivors os))) e);
-  table = k .known .walked .whole ∙ ap (λ (x : ℕ). tableOf x origin (survivors os)) l ∙ sym (ap (λ (x : Judged). bufferBy x (tableOf (length t) origin (survivors os)) t) e);
-  marks = q ∙ sym (ap (λ (x : Judged). bufferBy x (marksOf origin os) ms) e);
+pub followed-all : (c : Corner) (os t ms ch t′ ms′ ch′ : List ℕ) (w : Walk) (f : Facts) → Chained c t′ ch′ (survivors os) w → ch′ ≡ chainOf os → ms′ ≡ marksOf c os → roomFrom (recordsIn (length t)) c 0 [] os ≡ Good
+    → length t′ ≡ length t → f ≡ factsOf c (survivors os) → Followed c os t ms ch (Answer.Accepted f) t′ ms′ ch′
+followed-all c os t ms ch t′ ms′ ch′ w f k h q e l g = record {
+  answer = ap Answer.Accepted g ∙ sym (ap (λ (x : Judged). answerBy x (factsOf c (survivors os))) e);
+  table = k .known .walked .whole ∙ ap (λ (x : ℕ). tableOf x c (survivors os)) l ∙ sym (ap (λ (x : Judged). bufferBy x (tableOf (length t) c (survivors os)) t) e);
+  marks = q ∙ sym (ap (λ (x : Judged). bufferBy x (marksOf c os) ms) e);
   chain = h ∙ sym (ap (λ (x : Judged). bufferBy x (chainOf os) ch) e);
 }
 
@@ -113,18 +143,18 @@ room-buffer : (j : Judged) (new old old′ : List ℕ) → length old ≡ length
 room-buffer j new old old′ l (inl e) = rw e
 room-buffer j new old old′ l (inr e) = rw (e .1) (ap (λ (n : ℕ). replicate n 0) l)
 
-pub walk-followed : (os t t₁ ms ch : List ℕ) (r : Answer) (t′ ms′ ch′ : List ℕ) → Good ≡ inputJudged os (length t) (length ms) (length ch) → length t₁ ≡ length t
-    → Followed os t₁ ms ch r t′ ms′ ch′ → WalkIs origin os t ms ch r t′ ms′ ch′
-walk-followed os t t₁ ms ch r t′ ms′ ch′ e l f =
-    let R : ℕ → Judged = λ n. roomFrom (recordsIn n) origin 0 [] os in
-    let j : walkJudged origin os (length t) (length ms) (length ch) ≡ R (length t) = judged-split origin os (length t) (length ms) (length ch) ∙ ap (λ (x : Judged). orElse x (R (length t))) (sym e) in
-    let k : R (length t₁) ≡ walkJudged origin os (length t) (length ms) (length ch) = ap R l ∙ sym j in
+pub walk-followed : (c : Corner) (os t t₁ ms ch : List ℕ) (r : Answer) (t′ ms′ ch′ : List ℕ) → Good ≡ inputJudged c os (length t) (length ms) (length ch) → length t₁ ≡ length t
+    → Followed c os t₁ ms ch r t′ ms′ ch′ → WalkIs c os t ms ch r t′ ms′ ch′
+walk-followed c os t t₁ ms ch r t′ ms′ ch′ e l f =
+    let R : ℕ → Judged = λ n. roomFrom (recordsIn n) c 0 [] os in
+    let j : walkJudged c os (length t) (length ms) (length ch) ≡ R (length t) = judged-split c os (length t) (length ms) (length ch) ∙ ap (λ (x : Judged). orElse x (R (length t))) (sym e) in
+    let k : R (length t₁) ≡ walkJudged c os (length t) (length ms) (length ch) = ap R l ∙ sym j in
     record {
-      answer = f .answer ∙ ap (λ (x : Judged). answerBy x (factsOf origin (survivors os))) k;
+      answer = f .answer ∙ ap (λ (x : Judged). answerBy x (factsOf c (survivors os))) k;
       table =
           f .table
-          ∙ room-buffer (R (length t₁)) (tableOf (length t₁) origin (survivors os)) t₁ t l (room-cases (recordsIn (length t₁)) origin 0 [] os)
-          ∙ ap₂ (λ (x : Judged) (n : ℕ). bufferBy x (tableOf n origin (survivors os)) t) k l;
-      marks = f .marks ∙ ap (λ (x : Judged). bufferBy x (marksOf origin os) ms) k;
+          ∙ room-buffer (R (length t₁)) (tableOf (length t₁) c (survivors os)) t₁ t l (room-cases (recordsIn (length t₁)) c 0 [] os)
+          ∙ ap₂ (λ (x : Judged) (n : ℕ). bufferBy x (tableOf n c (survivors os)) t) k l;
+      marks = f .marks ∙ ap (λ (x : Judged). bufferBy x (marksOf c os) ms) k;
       chain = f .chain ∙ ap (λ (x : Judged). bufferBy x (chainOf os) ch) k;
     }

@@ -6,14 +6,14 @@ use Prim.Native.Nat.{ℕ}
 use lib.ListN.{length}
 use Rattle.answer.specs.declared.Answer.{Answer}
 use Rattle.walk_call.specs.Walk.{roomFrom, factsOf, answerBy, bufferBy}
-use Rattle.grid.specs.Grid.{origin}
+use Rattle.grid.specs.declared.Corner.{Corner}
 use Rattle.layout.specs.Marks.{marksOf, chainOf}
 use Rattle.layout.specs.Table.{recordsIn, tableOf}
 use Rattle.steps.specs.Operations.{survivors}
 
--- what operations with no fault leave, in a table that held the root alone: the room decides
-pub record Followed (os t ms ch : List ℕ) (r : Answer) (t′ ms′ ch′ : List ℕ) : Type 0 where
-  pub answer : r ≡ answerBy (roomFrom (recordsIn (length t)) origin 0 [] os) (factsOf origin (survivors os))
-  pub table : t′ ≡ bufferBy (roomFrom (recordsIn (length t)) origin 0 [] os) (tableOf (length t) origin (survivors os)) t
-  pub marks : ms′ ≡ bufferBy (roomFrom (recordsIn (length t)) origin 0 [] os) (marksOf origin os) ms
-  pub chain : ch′ ≡ bufferBy (roomFrom (recordsIn (length t)) origin 0 [] os) (chainOf os) ch
+-- what operations with no fault leave, from the start c: the room decides
+pub record Followed (c : Corner) (os t ms ch : List ℕ) (r : Answer) (t′ ms′ ch′ : List ℕ) : Type 0 where
+  pub answer : r ≡ answerBy (roomFrom (recordsIn (length t)) c 0 [] os) (factsOf c (survivors os))
+  pub table : t′ ≡ bufferBy (roomFrom (recordsIn (length t)) c 0 [] os) (tableOf (length t) c (survivors os)) t
+  pub marks : ms′ ≡ bufferBy (roomFrom (recordsIn (length t)) c 0 [] os) (marksOf c os) ms
+  pub chain : ch′ ≡ bufferBy (roomFrom (recordsIn (length t)) c 0 [] os) (chainOf os) ch

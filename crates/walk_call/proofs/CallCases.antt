@@ -4,12 +4,14 @@ use mathlib.Core.Bool.{true, false}
 use mathlib.Core.List.{List, [], _∷_}
 use mathlib.Core.Path.{_≡_, refl}
 use Prim.Native.Nat.{ℕ, _+_, _-_, _*_}
+use lib.IntN.{pos, negsuc}
 use lib.ListN.{length}
 use Rattle.answer.specs.declared.Answer.{Answer}
 use Rattle.answer.specs.declared.Judged.{Judged}
 use Rattle.answer.specs.declared.Judged.the-variants.{Good, Refused}
-use Rattle.answer.specs.declared.Refusal.the-variants.{Table, ResultRoom, BadDigit, NothingToTake, NoRoom}
-use Rattle.grid.specs.Grid.{origin}
+use Rattle.answer.specs.declared.Refusal.the-variants.{Table, ResultRoom, BadDigit, NothingToTake, NoRoom, StartRange}
+use Rattle.grid.specs.declared.Corner.{Corner}
+use Rattle.grid.specs.Grid.{corner, origin}
 use Rattle.layout.specs.Marks.{markWords}
 use Rattle.layout.specs.Table.{width}
 use Rattle.walk_call.specs.Walk.{tableFits, walkJudged, walkAnswer, factsOf, bufferBy}
@@ -18,7 +20,11 @@ use Rattle.walk_call.specs.Walk.{tableFits, walkJudged, walkAnswer, fact
 abbrev judgedIn : ℕ → List ℕ → Judged
 judgedIn records os = walkJudged origin os (width * records) (markWords * length os) (length os)
 
--- the words of 1 to 131,080 records
+-- one step too far west
+abbrev far : Corner
+far = corner (negsuc 16384) (pos 0)
+
+-- the words of 1 to 131,148 records
 smallest-table : tableFits width ≡ true
 smallest-table = refl
 
@@ -28,10 +34,10 @@ no-table = refl
 part-of-a-record : tableFits (width + 1) ≡ false
 part-of-a-record = refl
 
-largest-table : tableFits (width * 131080) ≡ true
+largest-table : tableFits (width * 131148) ≡ true
 largest-table = refl
 
-larger-table : tableFits (width * 131081) ≡ false
+larger-table : tableFits (width * 131149) ≡ false
 larger-table = refl
 
 -- 2 before 3 before 4
@@ -40,6 +46,26 @@ table-first = refl
 
 room-second : walkJudged origin (5 ∷ []) width markWords 0 ≡ Refused ResultRoom
 room-second = refl
+
+-- 3 before 10 before 4: a start is at most 16,384 from 0 on each axis
+room-before-start : walkJudged far (5 ∷ []) width markWords 0 ≡ Refused ResultRoom
+room-before-start = refl
+
+start-before-digits : walkJudged far (5 ∷ []) width markWords 1 ≡ Refused StartRange
+start-before-digits = refl
+
+farthest-start : walkJudged (corner (pos 16384) (negsuc 16383)) [] (width * 400) 0 0 ≡ Good
+farthest-start = refl
+
+-- 7 before the first operation, at place 0, where the start and its ancestors have no room; 4, 5 and 6 come before it
+start-without-room : walkJudged (corner (pos 3) (negsuc 1)) [] (width * 2) 0 0 ≡ Refused (NoRoom 0)
+start-without-room = refl
+
+start-with-room : walkJudged (corner (pos 3) (negsuc 1)) [] (width * 3) 0 0 ≡ Good
+start-with-room = refl
+
+digits-before-the-start's-room : walkJudged (corner (pos 3) (negsuc 1)) (0 ∷ 4 ∷ 4 ∷ []) width (markWords * 3) 3 ≡ Refused (NothingToTake 2)
+digits-before-the-start's-room = refl
 
 -- 4 and 5 at any place before 7 at an earlier one
 digits-before-room : judgedIn 1 (0 ∷ 0 ∷ 5 ∷ []) ≡ Refused (BadDigit 2)

@@ -21,6 +21,7 @@ use Rattle.layout.specs.Table.{recordsIn}
 use Rattle.answer.proofs.RefusalLaws.{clear-first, when-good, orElse-good}
 use Rattle.tree.proofs.NodeLaws.{nodes-mono}
 use Rattle.steps.proofs.SurvivorLaws.{operate-step, survivors-steps, walkable-survivors, steps-accepted, length-survivors}
+use Rattle.answer.proofs.StartLaws.{near-fits}
 use Rattle.walk_call.specs.Walk.{roomFrom, walkJudgements, walkJudged, roomAt}
 use Rattle.walk_call.proofs.JudgedLaws.{walk-fits}
 use Rattle.walk_call.proofs.CallCases as cases
@@ -66,6 +67,6 @@ alone c os words m k e =
       survivors-steps [] ds (s .digits),
       clear-first (walkJudgements c ds words (markWords * length ds) (length ds)) (
         rw b,
-        (rw (h .0 .table), (rw (eq-eqb (markWords * length ds) (markWords * length ds) refl, eq-eqb (length ds) (length ds) refl), (steps-accepted 0 0 ds (s .digits) (omega (arith, s .few)), (r, tt)))),
+        (rw (h .0 .table), (rw (eq-eqb (markWords * length ds) (markWords * length ds) refl, eq-eqb (length ds) (length ds) refl), (rw (near-fits c (h .0 .start)), (steps-accepted 0 0 ds (s .digits) (omega (arith, s .few)), (r, tt))))),
       ),
     )

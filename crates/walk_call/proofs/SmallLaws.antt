@@ -11,9 +11,9 @@ use lib.ListN.{length}
 use Rattle.answer.specs.declared.Judged.{Judged}
 use Rattle.answer.specs.declared.Judged.the-variants.{Good, Refused}
 use Rattle.answer.specs.declared.Refusal.{Refusal}
-use Rattle.answer.specs.declared.Refusal.the-variants.{Table, ResultRoom, BadDigit, NothingToTake, TooLong, NoRoom}
+use Rattle.answer.specs.declared.Refusal.the-variants.{Table, ResultRoom, BadDigit, NothingToTake, TooLong, NoRoom, StartRange}
 use Rattle.answer.specs.Refusal.{when, orElse, refusalPlace}
-use Rattle.answer.specs.Limits.{mostRecords}
+use Rattle.answer.specs.Limits.{mostRecords, startFits}
 use Rattle.grid.specs.declared.Corner.{Corner}
 use Rattle.grid.specs.Grid.{same, cornersFrom}
 use Rattle.trace.specs.Meeting.{Meeting, none, meet, meetingOf, meetingJ, meetingK, visitedOf}
@@ -83,14 +83,18 @@ walk-placed c os w m k = go (ltb 32768 (length os)) refl
     d : Judged
     d = when (not (eqb m (markWords * length os) && eqb k (length os))) ResultRoom
 
-    rest : length os ≤ 32768 → Placed 32768 (orElse b (orElse d (orElse (operationsJudged 0 0 os) (orElse (roomFrom (recordsIn w) c 0 [] os) Good))))
+    s : Judged
+    s = when (not (startFits c)) StartRange
+
+    rest : length os ≤ 32768 → Placed 32768 (orElse b (orElse d (orElse s (orElse (operationsJudged 0 0 os) (orElse (roomFrom (recordsIn w) c 0 [] os) Good)))))
     rest h =
         let f = operationsJudged 0 0 os in
         let r = roomFrom (recordsIn w) c 0 [] os in
-        placed-or 32768 b (orElse d (orElse f (orElse r Good))) (placed-when 32768 (not (tableFits w)) Table (omega arith))
-        (placed-or 32768 d (orElse f (orElse r Good)) (placed-when 32768 (not (eqb m (markWords * length os) && eqb k (length os))) ResultRoom (omega arith))
+        placed-or 32768 b (orElse d (orElse s (orElse f (orElse r Good)))) (placed-when 32768 (not (tableFits w)) Table (omega arith))
+        (placed-or 32768 d (orElse s (orElse f (orElse r Good))) (placed-when 32768 (not (eqb m (markWords * length os) && eqb k (length os))) ResultRoom (omega arith))
+        (placed-or 32768 s (orElse f (orElse r Good)) (placed-when 32768 (not (startFits c)) StartRange (omega arith))
         (placed-or 32768 f (orElse r Good) (placed-more (0 + length os) 32768 f (omega arith) (placed-faults 0 0 os))
-        (placed-or 32768 r Good (placed-more (0 + length os) 32768 r (omega arith) (placed-room (recordsIn w) c 0 [] os)) tt)))
+        (placed-or 32768 r Good (placed-more (0 + length os) 32768 r (omega arith) (placed-room (recordsIn w) c 0 [] os)) tt))))
 
     go : (t : Bool) → ltb 32768 (length os) ≡ t → Placed 32768 (walkJudged c os w m k)
     go true e = rw e (omega arith)

@@ -1,23 +1,24 @@
 -- The walk's refusals in their order, its answer, and its three buffers (RULES 5.2, 6.2, 6.5, 6.6). Assumes nothing.
 use Rattle.lists.specs.Lists.{_≡_, Bool, cond, not, _&&_, List, [], _∷_, length, replicate, ℕ, suc, _*_, _%_, eqb, ltb, leb, _++_, pred}
-use Rattle.answer.specs.declared.{Judged.Judged, Judged.the-variants.Good, Judged.the-variants.Refused, Refusal.the-variants.TooMany, Refusal.the-variants.Table, Refusal.the-variants.ResultRoom, Refusal.the-variants.NoRoom, Facts.Facts, Answer.Answer}
-use Rattle.answer.specs.{Limits.mostInput, Limits.mostRecords, Refusal.when, Refusal.orElse, Refusal.firstOf, Refusal.refusalNumber}
+use Rattle.answer.specs.declared.{Judged.Judged, Judged.the-variants.Good, Judged.the-variants.Refused, Refusal.the-variants.TooMany, Refusal.the-variants.Table, Refusal.the-variants.ResultRoom, Refusal.the-variants.NoRoom, Refusal.the-variants.StartRange, Facts.Facts, Answer.Answer}
+use Rattle.answer.specs.{Limits.mostInput, Limits.mostRecords, Limits.startFits, Refusal.when, Refusal.orElse, Refusal.firstOf, Refusal.refusalNumber}
 use Rattle.grid.specs.{declared.Corner.Corner, Grid.cornersFrom, Grid.endFrom}
 use Rattle.steps.specs.Operations.{operate, survivors, operationsJudged}
 use Rattle.trace.specs.{Meeting.meetingOf, Meeting.meetingJ, Meeting.meetingK, Meeting.visitedOf, Verdict.verdictOf, Verdict.areaOf}
 use Rattle.tree.specs.Nodes.{nodesOf}
 use Rattle.layout.specs.{Table.width, Table.recordsIn, Table.tableOf, Marks.markWords, Marks.marksOf, Marks.chainOf}
 
--- 2: the words are those of a record times a count of 1 to 131,080
+-- 2: the words are those of a record times a count of 1 to 131,148
 abbrev pub tableFits : ℕ → Bool
 tableFits words = eqb (words % width) 0 && leb 1 (recordsIn words) && leb (recordsIn words) mostRecords
 
--- 1, 2, 3; then 4, 5, 6 at the first faulty place
-abbrev pub inputJudgements : List ℕ → ℕ → ℕ → ℕ → List Judged
-inputJudgements os words marks chain =
+-- 1, 2, 3; then 10; then 4, 5, 6 at the first faulty place
+abbrev pub inputJudgements : Corner → List ℕ → ℕ → ℕ → ℕ → List Judged
+inputJudgements c os words marks chain =
     when (ltb mostInput (length os)) TooMany
     ∷ when (not (tableFits words)) Table
     ∷ when (not (eqb marks (markWords * length os) && eqb chain (length os))) ResultRoom
+    ∷ when (not (startFits c)) StartRange
     ∷ operationsJudged 0 0 os
     ∷ []
 
@@ -32,7 +33,7 @@ roomFrom records c k ds (o ∷ os) = orElse (roomAt records c k ds) (roomFrom re
 
 -- the input's refusals; then 7
 abbrev pub walkJudgements : Corner → List ℕ → ℕ → ℕ → ℕ → List Judged
-walkJudgements c os words marks chain = inputJudgements os words marks chain ++ (roomFrom (recordsIn words) c 0 [] os ∷ [])
+walkJudgements c os words marks chain = inputJudgements c os words marks chain ++ (roomFrom (recordsIn words) c 0 [] os ∷ [])
 
 -- the first of them that is a refusal
 abbrev pub walkJudged : Corner → List ℕ → ℕ → ℕ → ℕ → Judged

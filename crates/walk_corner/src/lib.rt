@@ -4,7 +4,7 @@ ghost use Prim.Native.Nat.{_<_, _≤_};
 ghost use lib.IntN.{natAbs, _+ℤ_};
 ghost use Rattle.grid.specs.Grid.{same, stepped, eastOf, northOf};
 ghost use Rattle.walk_corner.specs.Moves.{differenceOf};
-ghost use Rattle.grid.specs.Tree.{halfOf, parentOf, isRoot, slotOf, childWord};
+ghost use Rattle.grid.specs.Tree.{upBy, halfOf, parentOf, isRoot, slotOf, childWord};
 use grid::Corner;
 
 // Half the magnitude, with the sign kept: the division rounds toward zero.
@@ -19,6 +19,19 @@ pub fn parent_of(c: Corner) -> Corner
     ensures { λ r. ⌜ r ≡ parentOf c ⌝ }
 {
     Corner(half_of(c.0), half_of(c.1))
+}
+
+// The i-th parent of c, where the root is its own.
+pub fn up_by(c: Corner, i: usize) -> Corner
+    ensures { λ r. ⌜ r ≡ upBy i c ⌝ }
+{
+    let mut at = c;
+    let mut k: usize = 0;
+    while k < i {
+        at = parent_of(at);
+        k += 1;
+    }
+    at
 }
 
 // 1 where the first alone holds, -1 where the second alone does.

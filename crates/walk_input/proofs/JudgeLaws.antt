@@ -12,9 +12,10 @@ use lib.Seq.{drop-cons}
 use Rattle.answer.specs.declared.Judged.{Judged}
 use Rattle.answer.specs.declared.Judged.the-variants.{Good, Refused}
 use Rattle.answer.specs.declared.Refusal.{Refusal}
-use Rattle.answer.specs.declared.Refusal.the-variants.{TooMany, Table, ResultRoom, BadDigit, NothingToTake, TooLong}
+use Rattle.answer.specs.declared.Refusal.the-variants.{TooMany, Table, ResultRoom, BadDigit, NothingToTake, TooLong, StartRange}
 use Rattle.answer.specs.Refusal.{orElse, when, refusalNumber}
-use Rattle.answer.specs.Limits.{mostRecords}
+use Rattle.answer.specs.Limits.{mostRecords, Near, startFits}
+use Rattle.grid.specs.declared.Corner.{Corner}
 use Rattle.walk_call.specs.Walk.{tableFits}
 use Rattle.steps.specs.Operations.{faultOf, operationsJudged, after}
 use Rattle.layout.specs.Marks.{markWords}
@@ -77,23 +78,27 @@ fits-most w h l = go (recordsIn w) refl l
     go : (n : ℕ) → recordsIn w ≡ n → 1 ≤ n → leb (recordsIn w) mostRecords ≡ tableFits w
     go (suc n) e k = rw (eq-eqb (w % width) 0 h, e) (rw (le-leb 1 (suc n) k))
 
-module _ (os : List ℕ) (w m k : ℕ) where
-  pub input-many : 32768 < length os → Refused TooMany ≡ inputJudged os w m k
+module _ (c : Corner) (os : List ℕ) (w m k : ℕ) where
+  pub input-many : 32768 < length os → Refused TooMany ≡ inputJudged c os w m k
   input-many h = rw (lt-ltb 32768 (length os) h)
 
   module _ (few : length os ≤ 32768) where
-    pub input-table : tableFits w ≡ false → Refused Table ≡ inputJudged os w m k
+    pub input-table : tableFits w ≡ false → Refused Table ≡ inputJudged c os w m k
     input-table e = rw (le-ltb 32768 (length os) few, e)
 
     module _ (fits : tableFits w ≡ true) where
-      pub input-marks : (m ≡ markWords * length os → ⊥) → Refused ResultRoom ≡ inputJudged os w m k
+      pub input-marks : (m ≡ markWords * length os → ⊥) → Refused ResultRoom ≡ inputJudged c os w m k
       input-marks e = rw (le-ltb 32768 (length os) few, fits, ne-eqb m (markWords * length os) e)
 
-      pub input-chain : m ≡ markWords * length os → (k ≡ length os → ⊥) → Refused ResultRoom ≡ inputJudged os w m k
+      pub input-chain : m ≡ markWords * length os → (k ≡ length os → ⊥) → Refused ResultRoom ≡ inputJudged c os w m k
       input-chain p e = rw (le-ltb 32768 (length os) few, fits, eq-eqb m (markWords * length os) p, ne-eqb k (length os) e)
 
-      pub input-rest : m ≡ markWords * length os → k ≡ length os → operationsJudged 0 0 os ≡ inputJudged os w m k
-      input-rest p e = rw (le-ltb 32768 (length os) few, fits, eq-eqb m (markWords * length os) p, eq-eqb k (length os) e) (sym (orElse-right (operationsJudged 0 0 os)))
+      module _ (p : m ≡ markWords * length os) (q : k ≡ length os) where
+        pub input-start : startFits c ≡ false → Refused StartRange ≡ inputJudged c os w m k
+        input-start e = rw (le-ltb 32768 (length os) few, fits, eq-eqb m (markWords * length os) p, eq-eqb k (length os) q, e)
+
+        pub input-rest : startFits c ≡ true → operationsJudged 0 0 os ≡ inputJudged c os w m k
+        input-rest e = rw (le-ltb 32768 (length os) few, fits, eq-eqb m (markWords * length os) p, eq-eqb k (length os) q, e) (sym (orElse-right (operationsJudged 0 0 os)))
 
 -- ---- an input with no fault
 fits-words : (w : ℕ) → tableFits w ≡ true → (width ≤ w) × (w < 2 ^ 32)
@@ -106,19 +111,20 @@ fits-words w e =
     let m : recordsIn w ≤ mostRecords = leb-true (recordsIn w) mostRecords (and-right (a && b) d e) in
     (omega arith, omega arith)
 
-pub record Sized (os : List ℕ) (w m k : ℕ) : Type 0 where
+pub record Sized (c : Corner) (os : List ℕ) (w m k : ℕ) : Type 0 where
   pub few : length os ≤ 32768
   pub least : width ≤ w
   pub most : w < 2 ^ 32
   pub marks : m ≡ markWords * length os
   pub chain : k ≡ length os
+  pub start : Near c
   pub fine : operationsJudged 0 0 os ≡ Good
 
-pub input-good : (os : List ℕ) (w m k : ℕ) → inputJudged os w m k ≡ Good → Sized os w m k
-input-good os w m k e =
-    let h = input-fits os w m k e in
+pub input-good : (c : Corner) (os : List ℕ) (w m k : ℕ) → inputJudged c os w m k ≡ Good → Sized c os w m k
+input-good c os w m k e =
+    let h = input-fits c os w m k e in
     let t = fits-words w (h .table) in
-    record { few = h .few; least = t .0; most = t .1; marks = h .marks; chain = h .chain; fine = h .fine }
+    record { few = h .few; least = t .0; most = t .1; marks = h .marks; chain = h .chain; start = h .start; fine = h .fine }
 
 -- no refusal of the input is "no room"
 abbrev pub Early : Judged → Type 0
@@ -146,14 +152,16 @@ early-faults : (i n : ℕ) (os : List ℕ) → Early (operationsJudged i n os)
 early-faults i n [] = tt
 early-faults i n (o ∷ os) = early-or (faultOf i n o) (operationsJudged (suc i) (after n o) os) (early-fault i n o) (early-faults (suc i) (after n o) os)
 
-pub early-input : (os : List ℕ) (w m k : ℕ) → Early (inputJudged os w m k)
-early-input os w m k =
+pub early-input : (c : Corner) (os : List ℕ) (w m k : ℕ) → Early (inputJudged c os w m k)
+early-input c os w m k =
     let a = when (ltb 32768 (length os)) TooMany in
     let b = when (not (tableFits w)) Table in
     let x = not (eqb m (markWords * length os) && eqb k (length os)) in
     let d = when x ResultRoom in
+    let s = when (not (startFits c)) StartRange in
     let f = operationsJudged 0 0 os in
-    early-or a (orElse b (orElse d (orElse f Good))) (early-when (ltb 32768 (length os)) TooMany refl)
-    (early-or b (orElse d (orElse f Good)) (early-when (not (tableFits w)) Table refl)
-    (early-or d (orElse f Good) (early-when x ResultRoom refl)
-    (early-or f Good (early-faults 0 0 os) tt)))
+    early-or a (orElse b (orElse d (orElse s (orElse f Good)))) (early-when (ltb 32768 (length os)) TooMany refl)
+    (early-or b (orElse d (orElse s (orElse f Good))) (early-when (not (tableFits w)) Table refl)
+    (early-or d (orElse s (orElse f Good)) (early-when x ResultRoom refl)
+    (early-or s (orElse f Good) (early-when (not (startFits c)) StartRange refl)
+    (early-or f Good (early-faults 0 0 os) tt))))

@@ -4,7 +4,8 @@ use mathlib.Core.List.{List}
 use Prim.Native.Nat.{ℕ}
 use Rattle.answer.specs.declared.Judged.{Judged}
 use Rattle.answer.specs.Refusal.{firstOf}
+use Rattle.grid.specs.declared.Corner.{Corner}
 use Rattle.walk_call.specs.Walk.{inputJudgements}
 
-abbrev pub inputJudged : List ℕ → ℕ → ℕ → ℕ → Judged
-inputJudged os words marks chain = firstOf (inputJudgements os words marks chain)
+abbrev pub inputJudged : Corner → List ℕ → ℕ → ℕ → ℕ → Judged
+inputJudged c os words marks chain = firstOf (inputJudgements c os words marks chain)

@@ -1,6 +1,8 @@
-// The judgement of a walk's input, before anything is written: refusals 1 to 6.
+// The judgement of a walk's input, before anything is written: refusals 1 to 6 and 10.
 use answer::Judged;
 use answer::Refusal;
+use answer::start_fits;
+use grid::Corner;
 use walk_step::Walk;
 use walk_table::Record;
 ghost use mathlib.Core.Path.{_≡_};
@@ -58,7 +60,7 @@ fn operations(ops: &[u8]) -> Judged
     Judged::Good
 }
 
-// Whether the words are those of 1 to 131,080 records.
+// Whether the words are those of 1 to 131,148 records.
 fn table(words: usize) -> bool
     ensures { λ r. ⌜ r ≡ tableFits words ⌝ }
 {
@@ -71,9 +73,9 @@ fn table(words: usize) -> bool
     words / Record::WORDS <= Walk::MOST_RECORDS
 }
 
-// Refusals 1, 2 and 3, then 4, 5 and 6 at the first faulty place.
-pub fn input(ops: &[u8], words: usize, marks: usize, chain: usize) -> Judged
-    ensures { λ r. ⌜ r ≡ inputJudged (now (ops .entry)) words marks chain ⌝ }
+// Refusals 1, 2, 3 and 10, then 4, 5 and 6 at the first faulty place.
+pub fn input(start: Corner, ops: &[u8], words: usize, marks: usize, chain: usize) -> Judged
+    ensures { λ r. ⌜ r ≡ inputJudged start (now (ops .entry)) words marks chain ⌝ }
 {
     let n = ops.len();
     if n > Walk::MOST_INPUT {
@@ -87,6 +89,9 @@ pub fn input(ops: &[u8], words: usize, marks: usize, chain: usize) -> Judged
     }
     if chain != n {
         return Judged::Refused(Refusal::ResultRoom);
+    }
+    if !start_fits(start) {
+        return Judged::Refused(Refusal::StartRange);
     }
     operations(ops)
 }

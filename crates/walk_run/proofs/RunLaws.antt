@@ -6,14 +6,16 @@ use Prim.Native.Nat.{ℕ, suc, _+_, _-_, _*_, _<_, _≤_}
 use native.Mathlib.Omega.{arith}
 use lib.ListN.{length, length-append, take, drop, getD, replicate, drop-of-length-le}
 use lib.Seq.{sets, length-sets, sets-eq, length-take-le, drop-cons, take-at, take-all}
+use Rattle.answer.specs.Limits.{Near}
 use Rattle.answer.specs.declared.Judged.the-variants.{Good}
 use Rattle.walk_call.specs.Walk.{roomFrom}
 use Rattle.grid.specs.declared.Corner.{Corner}
-use Rattle.grid.specs.Grid.{origin, cornersFrom}
+use Rattle.grid.specs.Grid.{cornersFrom}
 use Rattle.layout.specs.Marks.{markWords, markOf, marksOf, marksFrom}
-use Rattle.layout.specs.Table.{width, recordsIn, tableOf}
+use Rattle.layout.specs.Table.{width, recordsIn}
 use Rattle.walk_step.specs.declared.Moved.{Moved}
 use Rattle.walk_step.specs.declared.Walk.{Walk}
+use Rattle.walk_step.specs.Spots.{Walked}
 use Rattle.walk_step.specs.Walks.{fresh}
 use Rattle.tree.specs.Nodes.{nodesOf}
 use Rattle.steps.specs.Operations.{operate, survivorsFrom, survivors, faultOf, operationsJudged, after, Fine}
@@ -40,22 +42,19 @@ pub record Running (words : ℕ) (c : Corner) (ops t ms ch : List ℕ) (w : Walk
   pub few : length steps ≤ i
 
 -- the start
-pub running-start : (ops t ms ch : List ℕ) → t ≡ tableOf (length t) origin [] → width ≤ length t → operationsJudged 0 0 ops ≡ Good → (w : Walk) → w ≡ fresh → Running (length t) origin ops t ms ch w 0
-running-start ops t ms ch e h f w q = subst (λ (v : Walk). Running (length t) origin ops t ms ch v 0) (sym q) (record {
+pub running-start : (c : Corner) (node : ℕ) (ops t ms ch : List ℕ) → Near c → Walked t c [] (fresh c node .spot) → operationsJudged 0 0 ops ≡ Good → (w : Walk) → w ≡ fresh c node → Running (length t) c ops t ms ch w 0
+running-start c node ops t ms ch n k f w q = subst (λ (v : Walk). Running (length t) c ops t ms ch v 0) (sym q) (record {
   steps = [];
   chained = record {
-    near = (omega arith, omega arith);
-    known = record {
-      walked = record { whole = e; count = refl; room = h; here = refl; corner = refl; steps = refl };
-      counted = record { seen = refl; met = (refl, refl) };
-    };
+    near = n;
+    known = record { walked = k; counted = record { seen = refl; met = (refl, refl) } };
     kept = refl;
     sound = record { digits = tt; few = omega arith };
     space = omega arith;
   };
   rest = refl;
   fine = f;
-  fits = omega arith;
+  fits = omega (arith, k .count, k .room);
   room = refl;
   marked = refl;
   few = omega arith;

@@ -3,9 +3,9 @@
 use mathlib.Core.List.{List, []}
 use mathlib.Core.Path.{_≡_}
 use Prim.Native.Nat.{ℕ, _*_, _<_, _≤_}
-use lib.IntN.{natAbs}
 use lib.ListN.{length, take, replicate}
 use lib.Seq.{sets}
+use Rattle.answer.specs.Limits.{Near}
 use Rattle.answer.specs.declared.Judged.the-variants.{Good, Refused}
 use Rattle.answer.specs.declared.Refusal.the-variants.{NoRoom}
 use Rattle.walk_call.specs.Walk.{roomFrom}
@@ -22,7 +22,7 @@ use Rattle.walk_run.specs.declared.Ran.{Ran}
 
 -- the walk from c with the steps ds, which stand in the chain
 pub record Chained (c : Corner) (t chain ds : List ℕ) (w : Walk) : Type 0 where
-  pub near : (natAbs (c .0) ≤ 16384) × (natAbs (c .1) ≤ 16384)
+  pub near : Near c
   pub known : Known t c ds w
   pub kept : ds ≡ take (length ds) chain
   pub sound : Walkable ds

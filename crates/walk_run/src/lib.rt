@@ -5,11 +5,14 @@ ghost use Prim.Native.Nat.{ℕ, suc, _+_, _*_, _^_, _<_, _≤_};
 ghost use lib.ListN.{length, set, getD};
 ghost use Rattle.answer.specs.declared.Judged.the-variants.{Good};
 ghost use Rattle.grid.specs.declared.Corner.{Corner as Node};
-ghost use Rattle.grid.specs.Grid.{origin};
+ghost use Rattle.answer.specs.Limits.{Near};
+ghost use Rattle.walk_step.specs.Spots.{Walked};
+ghost use Rattle.walk_step.specs.Walks.{fresh};
 ghost use Rattle.layout.specs.Marks.{markWords};
-ghost use Rattle.layout.specs.Table.{width, wordAt, visitsWord, tableOf};
+ghost use Rattle.layout.specs.Table.{wordAt, visitsWord};
 ghost use Rattle.steps.specs.Operations.{operate, operationsJudged};
 ghost use Rattle.walk_run.specs.Runs.{Chained, Ready, Applied, Performed, PerformedAll, Ended};
+use grid::Corner;
 use walk_step::Moved;
 use walk_step::Spot;
 use walk_step::Walk;
@@ -65,14 +68,21 @@ fn perform(t: &mut [u32], marks: &mut [u32], chain: &mut [u8], w: Walk, op: u8, 
     }
 }
 
-// All operations, one after the other, in a table that holds the root alone.
-fn perform_all(ops: &[u8], t: &mut [u32], marks: &mut [u32], chain: &mut [u8]) -> Ran
-    requires { ⌜ (now t ≡ tableOf (length (now t)) origin []) × (width ≤ length (now t)) × (length (now t) < 2 ^ 32) ⌝ }
+// All operations, one after the other, in the table of the walk from start with no step, which stands at the node.
+fn perform_all(
+    start: Corner,
+    node: usize,
+    ops: &[u8],
+    t: &mut [u32],
+    marks: &mut [u32],
+    chain: &mut [u8],
+) -> Ran
+    requires { ⌜ Near start × Walked (now t) start [] (fresh start node .spot) × (length (now t) < 2 ^ 32) ⌝ }
     requires { ⌜ (length (now marks) ≡ markWords * length (now ops)) × (length (now chain) ≡ length (now ops)) × (length (now ops) ≤ 32768) ⌝ }
     requires { ⌜ operationsJudged 0 0 (now ops) ≡ Good ⌝ }
-    ensures { λ r. ⌜ PerformedAll (length (now (t .entry))) origin (now (ops .entry)) (now (t .exit)) (now (marks .exit)) (now (chain .exit)) r ⌝ }
+    ensures { λ r. ⌜ PerformedAll (length (now (t .entry))) start (now (ops .entry)) (now (t .exit)) (now (marks .exit)) (now (chain .exit)) r ⌝ }
 {
-    let mut w = Walk::new();
+    let mut w = Walk::new(start, node);
     let mut i = 0;
     while i < ops.len() {
         match perform(t, marks, chain, w, ops[i], i) {
@@ -88,15 +98,22 @@ fn perform_all(ops: &[u8], t: &mut [u32], marks: &mut [u32], chain: &mut [u8]) -
     Ran::All(w)
 }
 
-// All operations, in a table that holds the root alone. Behind the surviving steps the chain is cleared. If the table has no room, all
-// three buffers are.
-pub fn run(ops: &[u8], t: &mut [u32], marks: &mut [u32], chain: &mut [u8]) -> Ran
-    requires { ⌜ (now t ≡ tableOf (length (now t)) origin []) × (width ≤ length (now t)) × (length (now t) < 2 ^ 32) ⌝ }
+// All operations, in the table of the walk from start with no step, which stands at the node. Behind the surviving steps the chain is
+// cleared. If the table has no room, all three buffers are.
+pub fn run(
+    start: Corner,
+    node: usize,
+    ops: &[u8],
+    t: &mut [u32],
+    marks: &mut [u32],
+    chain: &mut [u8],
+) -> Ran
+    requires { ⌜ Near start × Walked (now t) start [] (fresh start node .spot) × (length (now t) < 2 ^ 32) ⌝ }
     requires { ⌜ (length (now marks) ≡ markWords * length (now ops)) × (length (now chain) ≡ length (now ops)) × (length (now ops) ≤ 32768) ⌝ }
     requires { ⌜ operationsJudged 0 0 (now ops) ≡ Good ⌝ }
-    ensures { λ r. ⌜ Ended (length (now (t .entry))) origin (now (ops .entry)) (now (t .exit)) (now (marks .exit)) (now (chain .exit)) r ⌝ }
+    ensures { λ r. ⌜ Ended (length (now (t .entry))) start (now (ops .entry)) (now (t .exit)) (now (marks .exit)) (now (chain .exit)) r ⌝ }
 {
-    match perform_all(ops, t, marks, chain) {
+    match perform_all(start, node, ops, t, marks, chain) {
         Ran::All(w) => {
             let n = w.spot.steps;
             zero_from(chain, n);

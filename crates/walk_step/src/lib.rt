@@ -55,18 +55,18 @@ impl Walk {
     pub const MARK_WORDS: usize = 2;
 
     // Records of the table at most.
-    pub const MOST_RECORDS: usize = 131080;
+    pub const MOST_RECORDS: usize = 131148;
 
-    // A walk with no step, at the root.
-    pub fn new() -> Walk
-        ensures { λ r. ⌜ r ≡ fresh ⌝ }
+    // A walk with no step, at its start, which is the last of the nodes.
+    pub fn new(start: Corner, node: usize) -> Walk
+        requires { ⌜ node < 2 ^ 32 ⌝ }
+        ensures { λ r. ⌜ r ≡ fresh start node ⌝ }
     {
-        let at = Corner(0, 0);
         let spot = Spot {
-            node: 0,
-            at,
+            node,
+            at: start,
             steps: 0,
-            nodes: 1,
+            nodes: node + 1,
         };
         let tally = Tally {
             corners: 1,

@@ -1,6 +1,7 @@
 // Steps east, to every limit and past it.
 use crate::show;
 use crate::walks;
+use grid::Corner;
 use walk_step::Walk;
 use walk_table::Record;
 ghost use Prim.Native.Nat.{_*_, _≤_};
@@ -31,7 +32,7 @@ fn ends(marks: &[u32], chain: &[u8]) {
 
 // Walks the operations, and shows the answer and the ends of the buffers; then their hull and turns.
 fn walked(ops: &[u8], table: &mut [u32], marks: &mut [u32], chain: &mut [u8]) {
-    show::answer(walk::follow(ops, table, marks, chain));
+    show::answer(walk::follow(Corner(0, 0), ops, table, marks, chain));
     last(table);
     ends(marks, chain);
     let mut hull = [7i32; 5];

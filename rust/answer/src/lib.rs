@@ -9,7 +9,7 @@ pub const MOST_START: i32 = 16_384;
 /// Words in a record.
 pub const RECORD_WORDS: usize = 21;
 /// Records in a table at most.
-pub const MOST_RECORDS: usize = 131_080;
+pub const MOST_RECORDS: usize = 131_148;
 /// j and k where there is no meeting.
 pub const NO_MEETING: u32 = 65_535;
 /// Operations or turns in a line at most.
@@ -61,7 +61,7 @@ pub enum Refusal {
     NothingToTake(u32),
     /// A step that would survive as one more than [`MOST_STEPS`].
     TooLong(u32),
-    /// After this operation the nodes needed exceed the records.
+    /// After this operation, or before the first, the nodes needed exceed the records.
     NoRoom(u32),
     /// The buffer is shorter than twice the hull corners.
     HullRoom,

@@ -9,19 +9,23 @@ use compare::inputs::most_nodes;
 
 use crate::race::Call;
 
+/// Where the walks start.
+const START: (i32, i32) = (0, 0);
+
 /// Each walk in the least table that has room.
 pub fn walk(
-    walk: impl Fn(&[u8], &mut [u32], &mut [u32], &mut [u8]) -> Result<Facts, Refusal> + 'static,
+    walk: impl Fn((i32, i32), &[u8], &mut [u32], &mut [u32], &mut [u8]) -> Result<Facts, Refusal>
+    + 'static,
     inputs: &[Vec<u8>],
 ) -> Call<'_> {
     let lent = |ops: &Vec<u8>| {
-        let table = vec![0; RECORD_WORDS * most_nodes(ops)];
+        let table = vec![0; RECORD_WORDS * most_nodes(START, ops)];
         (table, vec![0; 2 * ops.len()], vec![0; ops.len()])
     };
     let mut buffers: Vec<_> = inputs.iter().map(lent).collect();
     Box::new(move || {
         for (ops, (table, marks, chain)) in inputs.iter().zip(&mut buffers) {
-            let answer = walk(black_box(ops), table, marks, chain);
+            let answer = walk(START, black_box(ops), table, marks, chain);
             black_box(answer.expect("there is room"));
         }
     })
@@ -62,13 +66,13 @@ fn stepped((x, y): (i32, i32), step: u8) -> (i32, i32) {
 
 /// Each hull, in a buffer that is always large enough.
 pub fn hull(
-    hull: impl Fn(&[u8], &mut [i32]) -> Result<usize, Refusal> + 'static,
+    hull: impl Fn((i32, i32), &[u8], &mut [i32]) -> Result<usize, Refusal> + 'static,
     inputs: &[Vec<u8>],
 ) -> Call<'_> {
     let mut out = vec![0; 2 * inputs[0].len() + 2];
     Box::new(move || {
         for chain in inputs {
-            let answer = hull(black_box(chain), &mut out);
+            let answer = hull(START, black_box(chain), &mut out);
             black_box(answer.expect("there is room"));
         }
     })

@@ -67,6 +67,7 @@ fn same<T: PartialEq + Debug>(what: &str, input: &[u8], ours: &[T], plain: &[T])
 /// Compares a walk in buffers of these lengths, and gives the answer.
 pub fn walk(
     library: &Library,
+    start: (i32, i32),
     ops: &[u8],
     table: usize,
     marks: usize,
@@ -76,7 +77,7 @@ pub fn walk(
         let (mut table, mut marks) = (Lent::words(table), Lent::words(marks));
         let (mut chain, mut answer) = (Lent::bytes(chain), [u32::MAX; WALK_ANSWER_WORDS]);
         let (t, m, c) = (table.part(), marks.part(), chain.part());
-        let number = (library.walk)(ops, t, m, c, &mut answer);
+        let number = (library.walk)(start, ops, t, m, c, &mut answer);
         ([number], answer, table.0, marks.0, chain.0)
     };
     let (ours, plain) = (run(library), run(&PLAIN));
@@ -89,10 +90,15 @@ pub fn walk(
 }
 
 /// Compares a hull in a buffer of this length, and gives the answer.
-pub fn hull(library: &Library, chain: &[u8], out: usize) -> [u32; HULL_ANSWER_WORDS] {
+pub fn hull(
+    library: &Library,
+    start: (i32, i32),
+    chain: &[u8],
+    out: usize,
+) -> [u32; HULL_ANSWER_WORDS] {
     let run = |library: &Library| {
         let (mut out, mut answer) = (Lent::numbers(out), [u32::MAX; HULL_ANSWER_WORDS]);
-        let number = (library.hull)(chain, out.part(), &mut answer);
+        let number = (library.hull)(start, chain, out.part(), &mut answer);
         ([number], answer, out.0)
     };
     let (ours, plain) = (run(library), run(&PLAIN));

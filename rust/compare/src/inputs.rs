@@ -2,7 +2,7 @@
 
 use std::collections::HashMap;
 
-use answer::{MOST_LINE_DIGITS, MOST_START, MOST_STEPS, RECORD_WORDS};
+use answer::{MOST_LINE_DIGITS, MOST_STEPS, RECORD_WORDS};
 
 /// A stream of numbers from a seed (splitmix64).
 pub struct Random(pub u64);
@@ -145,26 +145,39 @@ pub fn room(n: usize, random: &mut Random) -> Vec<u8> {
     steps
 }
 
-/// A start: one of the range, at its ends as likely as elsewhere, and seldom one outside.
-pub fn start(random: &mut Random) -> (i32, i32) {
-    let mut coordinate = || match random.below(20) {
-        0 => MOST_START,
-        1 => -MOST_START,
-        2 if random.once_in(4) => random.number() as i32,
-        3..8 => random.below(64) as i32 - 32,
-        _ => random.below(2 * MOST_START as usize + 1) as i32 - MOST_START,
-    };
-    (coordinate(), coordinate())
-}
-
-/// The number of nodes that the walk needs at most at a moment, 1 where it has a fault.
-pub fn most_nodes(ops: &[u8]) -> usize {
-    let mut table = vec![0; RECORD_WORDS * 4 * (ops.len() + 1)];
+/// The number of nodes that the walk from `start` needs at most at a moment, 1 where it has a fault.
+pub fn most_nodes(start: (i32, i32), ops: &[u8]) -> usize {
+    let mut table = vec![0; RECORD_WORDS * (4 * (ops.len() + 1) + 64)];
     let (mut marks, mut chain) = (vec![0; 2 * ops.len()], vec![0; ops.len()]);
-    match twin::walk(ops, &mut table, &mut marks, &mut chain) {
-        Ok(_) => marks.iter().step_by(2).copied().max().unwrap_or(1) as usize,
+    let most = |marks: &[u32]| marks.iter().step_by(2).copied().max().unwrap_or(0);
+    match twin::walk(start, ops, &mut table, &mut marks, &mut chain) {
+        Ok(facts) if ops.is_empty() => facts.nodes as usize,
+        // A step taken back may leave fewer nodes than the start has alone, never fewer than one.
+        Ok(_) => (most(&marks) as usize).max(alone(start)),
         Err(_) => 1,
     }
+}
+
+/// The nodes of the walk with no step.
+fn alone(start: (i32, i32)) -> usize {
+    let level = |v: i32| i32::BITS - v.unsigned_abs().leading_zeros();
+    1 + level(start.0).max(level(start.1)) as usize
+}
+
+/// A start: the origin, an extreme, a corner where many parts of the tree meet, one of those out of range by one or more, or any.
+pub fn start(random: &mut Random) -> (i32, i32) {
+    let mut axis = || match random.below(12) {
+        0..=3 => 0,
+        4 => 16_384,
+        5 => -16_384,
+        6 => 16_383,
+        7 => -16_383,
+        8 => [16_385, -16_385, i32::MAX, i32::MIN][random.below(4)],
+        9 => random.below(9) as i32 - 4,
+        10 => (1 << random.below(15)) - random.below(3) as i32,
+        _ => random.below(32_769) as i32 - 16_384,
+    };
+    (axis(), axis())
 }
 
 /// n operations of which so many in a hundred are take-backs, where there is something to take; no fault, and no more steps

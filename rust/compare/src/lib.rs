@@ -12,15 +12,19 @@ use answer::{
 /// The calls of an implementation, with the answers of the C boundary.
 pub struct Library {
     pub walk: Walk,
-    pub hull: fn(&[u8], &mut [i32], &mut [u32; HULL_ANSWER_WORDS]) -> u32,
+    pub hull: Hull,
     pub polygon_of_room: Polygon,
     pub turns_of_steps: Convert,
     pub steps_of_turns: Convert,
     pub line: fn(&[u8], &mut [u8]) -> usize,
 }
 
-/// The walk of operations in table, marks and chain.
-pub type Walk = fn(&[u8], &mut [u32], &mut [u32], &mut [u8], &mut [u32; WALK_ANSWER_WORDS]) -> u32;
+/// The walk of operations from a start in table, marks and chain.
+pub type Walk =
+    fn((i32, i32), &[u8], &mut [u32], &mut [u32], &mut [u8], &mut [u32; WALK_ANSWER_WORDS]) -> u32;
+
+/// The hull of the walk of a chain from a start.
+pub type Hull = fn((i32, i32), &[u8], &mut [i32], &mut [u32; HULL_ANSWER_WORDS]) -> u32;
 
 /// A room, by its start and chain, as a polygon.
 pub type Polygon = fn((i32, i32), &[u8], &mut [u8], &mut [u32; POLYGON_ANSWER_WORDS]) -> u32;
@@ -43,11 +47,17 @@ pub const PROVED: Library = Library {
 macro_rules! library {
     ($of:ident) => {
         Library {
-            walk: |ops, table, marks, chain, answer| {
-                tell(answer, $of::walk(ops, table, marks, chain).map(words))
+            walk: |start, ops, table, marks, chain, answer| {
+                tell(
+                    answer,
+                    $of::walk(start, ops, table, marks, chain).map(words),
+                )
             },
-            hull: |chain, out, answer| {
-                tell(answer, $of::hull(chain, out).map(|count| [count as u32]))
+            hull: |start, chain, out, answer| {
+                tell(
+                    answer,
+                    $of::hull(start, chain, out).map(|count| [count as u32]),
+                )
             },
             polygon_of_room: |start, chain, out, answer| {
                 let bytes = $of::polygon_of_room(start, chain, out);

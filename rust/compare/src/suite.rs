@@ -13,26 +13,29 @@ fn strings(length: u32, digits: u32) -> impl Iterator<Item = Vec<u8>> {
     (0..digits.pow(length)).map(move |code| (0..length).map(|i| digit(code, i)).collect())
 }
 
+/// Where a walk starts to which no start is given.
+const ORIGIN: (i32, i32) = (0, 0);
+
 /// A walk in buffers of the lengths that it asks, and a table of so many words.
-fn walk(library: &Library, ops: &[u8], words: usize) {
-    calls::walk(library, ops, words, 2 * ops.len(), ops.len());
+fn walk(library: &Library, start: (i32, i32), ops: &[u8], words: usize) {
+    calls::walk(library, start, ops, words, 2 * ops.len(), ops.len());
 }
 
 /// A walk in the least table that has room, in one record less and in one more.
-fn walk_near(library: &Library, ops: &[u8]) {
-    let right = inputs::most_nodes(ops);
+fn walk_near(library: &Library, start: (i32, i32), ops: &[u8]) {
+    let right = inputs::most_nodes(start, ops);
     for records in right - 1..=right + 1 {
-        walk(library, ops, RECORD_WORDS * records);
+        walk(library, start, ops, RECORD_WORDS * records);
     }
 }
 
 /// A hull in the least buffer that has room, in one number less and in one more.
-fn hull_near(library: &Library, chain: &[u8]) {
-    let [number, _, count] = calls::hull(library, chain, 2 * chain.len() + 2);
+fn hull_near(library: &Library, start: (i32, i32), chain: &[u8]) {
+    let [number, _, count] = calls::hull(library, start, chain, 2 * chain.len() + 2);
     if number == 0 {
         let right = 2 * count as usize;
         for out in [right - 1, right, right + 1] {
-            calls::hull(library, chain, out);
+            calls::hull(library, start, chain, out);
         }
     }
 }
@@ -58,17 +61,17 @@ fn turns_near(library: &Library, digits: &[u8]) {
 /// Every walk of up to `longest` operations 0 to 5, in right and slightly wrong tables.
 pub fn short_walks(library: &Library, longest: u32) {
     for ops in (0..=longest).flat_map(|length| strings(length, 6)) {
-        walk_near(library, &ops);
-        let words = RECORD_WORDS * inputs::most_nodes(&ops);
-        walk(library, &ops, words - 1);
-        walk(library, &ops, words + 1);
+        walk_near(library, ORIGIN, &ops);
+        let words = RECORD_WORDS * inputs::most_nodes(ORIGIN, &ops);
+        walk(library, ORIGIN, &ops, words - 1);
+        walk(library, ORIGIN, &ops, words + 1);
     }
 }
 
 /// Every chain of up to `longest` digits 0 to 4, as steps to a hull, as a room and both ways between steps and turns.
 pub fn short_chains(library: &Library, longest: u32) {
     for chain in (0..=longest).flat_map(|length| strings(length, 5)) {
-        hull_near(library, &chain);
+        hull_near(library, ORIGIN, &chain);
         polygon_near(library, (1, -1), &chain);
         turns_near(library, &chain);
     }
@@ -81,8 +84,8 @@ pub fn every_byte(library: &Library) {
             let kept = ops[place];
             for byte in 0..=u8::MAX {
                 ops[place] = byte;
-                walk(library, &ops, RECORD_WORDS * 9);
-                calls::hull(library, &ops, 12);
+                walk(library, ORIGIN, &ops, RECORD_WORDS * 9);
+                calls::hull(library, ORIGIN, &ops, 12);
                 calls::polygon(library, (0, 0), &ops, 93);
                 calls::turns(library, &ops, ops.len());
             }
@@ -97,12 +100,12 @@ pub fn sizes(library: &Library) {
         for table in 0..=RECORD_WORDS * 7 + 1 {
             for marks in 0..=2 * ops.len() + 3 {
                 for chain in 0..=ops.len() + 2 {
-                    calls::walk(library, ops, table, marks, chain);
+                    calls::walk(library, ORIGIN, ops, table, marks, chain);
                 }
             }
         }
         for out in 0..=12 {
-            calls::hull(library, ops, out);
+            calls::hull(library, ORIGIN, ops, out);
             calls::turns(library, ops, out);
             calls::polygon(library, (0, 0), &[0, 1, 2, 3], 87 + out);
             calls::line(library, &inputs::frame(0, ops), LINE_BYTES - 6 + out);
@@ -114,7 +117,7 @@ pub fn sizes(library: &Library) {
 pub fn limits(library: &Library) {
     let most = RECORD_WORDS * MOST_RECORDS;
     for words in [most - 1, most, most + 1, most + RECORD_WORDS] {
-        walk(library, &[0, 0, 1, 1, 4], words);
+        walk(library, ORIGIN, &[0, 0, 1, 1, 4], words);
     }
     for n in [
         MOST_STEPS - 1,
@@ -141,11 +144,18 @@ pub fn limits(library: &Library) {
 /// One input near a limit, in every call, with right and wrong buffers.
 fn limits_of(library: &Library, ops: &[u8]) {
     let words = RECORD_WORDS * (MOST_STEPS + 1);
-    walk(library, ops, words);
-    walk(library, ops, words - RECORD_WORDS);
-    calls::walk(library, ops, words - 1, 2 * ops.len() - 1, ops.len());
-    calls::walk(library, ops, words, 2 * ops.len(), ops.len() - 1);
-    hull_near(library, ops);
+    walk(library, ORIGIN, ops, words);
+    walk(library, ORIGIN, ops, words - RECORD_WORDS);
+    calls::walk(
+        library,
+        ORIGIN,
+        ops,
+        words - 1,
+        2 * ops.len() - 1,
+        ops.len(),
+    );
+    calls::walk(library, ORIGIN, ops, words, 2 * ops.len(), ops.len() - 1);
+    hull_near(library, ORIGIN, ops);
     polygon_near(library, (0, 0), ops);
     polygon_near(library, (MOST_START + 1, 0), ops);
     turns_near(library, ops);
@@ -234,6 +244,56 @@ pub fn lines(library: &Library) {
     }
 }
 
+/// The coordinates at which a start is tried: both ends of the range and one past each, the least and the greatest number, the
+/// borders of large parts of the tree, and small ones.
+const AXES: [i32; 15] = [
+    i32::MIN,
+    -16_385,
+    -16_384,
+    -16_383,
+    -8_192,
+    -2,
+    -1,
+    0,
+    1,
+    3,
+    8_191,
+    16_383,
+    16_384,
+    16_385,
+    i32::MAX,
+];
+
+/// Every pair of such coordinates as a start, with every walk of up to `longest` operations, in right and slightly wrong tables
+/// and in every table up to one with room for the start; four corners around (16383, 16383) need 59 nodes.
+pub fn starts(library: &Library, longest: u32) {
+    for start in AXES.iter().flat_map(|&x| AXES.map(|y| (x, y))) {
+        for ops in (0..=longest).flat_map(|length| strings(length, 6)) {
+            walk_near(library, start, &ops);
+            hull_near(library, start, &ops);
+        }
+        for records in 1..=18 {
+            walk(library, start, &[], RECORD_WORDS * records);
+            walk(library, start, &[2, 4], RECORD_WORDS * records);
+        }
+        calls::walk(library, start, &[0, 5], RECORD_WORDS, 4, 2);
+        calls::walk(library, start, &[0, 1], RECORD_WORDS, 4, 1);
+        calls::walk(library, start, &[0, 1], RECORD_WORDS - 1, 4, 2);
+    }
+    for way in 0..4 {
+        let ops = inputs::straight(MOST_STEPS, way);
+        for start in [
+            (16_384, 16_384),
+            (16_384, -16_384),
+            (-16_384, 16_384),
+            (-16_384, -16_384),
+        ] {
+            walk_near(library, start, &ops);
+            hull_near(library, start, &ops);
+        }
+    }
+}
+
 /// The whole program on random inputs: `run` gives its output.
 pub fn program(run: impl Fn(&[u8]) -> Vec<u8>, inputs: usize, random: &mut Random) {
     assert_eq!(run(b""), b"");
@@ -257,10 +317,10 @@ pub fn random_calls(library: &Library, random: &mut Random) {
 
 /// A walk of up to `most` operations, in tables that have room and that have none.
 fn random_walk(library: &Library, most: usize, random: &mut Random) {
-    let ops = inputs::walk(most, random);
-    walk_near(library, &ops);
-    let words = RECORD_WORDS * (1 + random.below(inputs::most_nodes(&ops)));
-    walk(library, &ops, words);
+    let (start, ops) = (inputs::start(random), inputs::walk(most, random));
+    walk_near(library, start, &ops);
+    let words = RECORD_WORDS * (1 + random.below(inputs::most_nodes(start, &ops)));
+    walk(library, start, &ops, words);
 }
 
 /// A chain for the hull and for both conversions, half the time a good one.
@@ -270,7 +330,7 @@ fn random_chain(library: &Library, random: &mut Random) {
         chain.retain(|&step| step < 4);
         chain.truncate(MOST_STEPS);
     }
-    hull_near(library, &chain);
+    hull_near(library, inputs::start(random), &chain);
     turns_near(library, &chain);
     polygon_near(library, inputs::start(random), &chain);
 }

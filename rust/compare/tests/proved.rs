@@ -19,13 +19,14 @@ mod all;
 /// The safe wrapper decodes what the boundary answers.
 #[test]
 fn wrapper() {
-    type Walk = fn(&[u8], &mut [u32], &mut [u32], &mut [u8]) -> Result<Facts, Refusal>;
+    type Walk = fn((i32, i32), &[u8], &mut [u32], &mut [u32], &mut [u8]) -> Result<Facts, Refusal>;
     let mut random = Random(2);
     for _ in 0..2_000 {
-        let ops = inputs::walk(100, &mut random);
+        let (start, ops) = (inputs::start(&mut random), inputs::walk(100, &mut random));
         let n = ops.len();
         let walked = |walk: Walk| {
             walk(
+                start,
                 &ops,
                 &mut [0; 21 * 60],
                 &mut vec![0; 2 * n],
@@ -33,7 +34,7 @@ fn wrapper() {
             )
         };
         assert_eq!(walked(undrwyth::walk), walked(plain::walk));
-        let listed = |hull: fn(&[u8], &mut [i32]) -> _| hull(&ops, &mut [0; 20]);
+        let listed = |hull: fn((i32, i32), &[u8], &mut [i32]) -> _| hull(start, &ops, &mut [0; 20]);
         assert_eq!(listed(undrwyth::hull), listed(plain::hull));
         let drawn = |polygon: fn((i32, i32), &[u8], &mut [u8]) -> _| {
             polygon((n as i32, -1), &ops, &mut [0; 300])

@@ -32,7 +32,7 @@ fn benched_rooms() {
         ] {
             let (mut marks, mut chain) = (vec![0; 2 * n], vec![0; n]);
             let mut table = vec![0; answer::RECORD_WORDS * 4 * n];
-            let facts = twin::walk(&steps, &mut table, &mut marks, &mut chain).unwrap();
+            let facts = twin::walk((0, 0), &steps, &mut table, &mut marks, &mut chain).unwrap();
             assert_eq!(facts.verdict, answer::Verdict::Room);
             assert_eq!(facts.steps, n as u32);
         }

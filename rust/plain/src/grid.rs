@@ -1,9 +1,11 @@
 //! Corners, and the parents above them.
 
+use answer::{MOST_START, Refusal};
+
 /// x and y.
 pub type Corner = (i32, i32);
 
-/// The corner without a parent, where every walk starts.
+/// The corner without a parent.
 pub const ROOT: Corner = (0, 0);
 
 /// One step on: 0 east, 1 north, 2 west, 3 south.
@@ -13,8 +15,8 @@ pub fn stepped((x, y): Corner, step: u8) -> Corner {
 }
 
 /// p0 to pn of the walk of these steps.
-pub fn corners(steps: &[u8]) -> Vec<Corner> {
-    let mut corners = vec![ROOT];
+pub fn corners(start: Corner, steps: &[u8]) -> Vec<Corner> {
+    let mut corners = vec![start];
     for &step in steps {
         corners.push(stepped(*corners.last().unwrap(), step));
     }
@@ -30,4 +32,14 @@ pub fn parent((x, y): Corner) -> Option<Corner> {
 /// The corner, its parent, and so on up to the root.
 pub fn lineage(corner: Corner) -> impl Iterator<Item = Corner> {
     std::iter::successors(Some(corner), |&c| parent(c))
+}
+
+/// Refusal 10.
+pub fn judge_start((x, y): Corner) -> Result<(), Refusal> {
+    let range = -MOST_START..=MOST_START;
+    if range.contains(&x) && range.contains(&y) {
+        Ok(())
+    } else {
+        Err(Refusal::StartRange)
+    }
 }

@@ -2,12 +2,12 @@
 
 use answer::{MOST_INPUT, MOST_STEPS, Refusal};
 
-use crate::grid::{Corner, corners};
+use crate::grid::{Corner, corners, judge_start};
 
-/// Writes x and y of each hull corner of the walk of `chain`, and answers how many there are.
-pub fn hull(chain: &[u8], out: &mut [i32]) -> Result<usize, Refusal> {
-    judge(chain)?;
-    let list = hull_list(corners(chain));
+/// Writes x and y of each hull corner of the walk of `chain` from `start`, and answers how many there are.
+pub fn hull(start: Corner, chain: &[u8], out: &mut [i32]) -> Result<usize, Refusal> {
+    judge(start, chain)?;
+    let list = hull_list(corners(start, chain));
     if out.len() < 2 * list.len() {
         return Err(Refusal::HullRoom);
     }
@@ -17,11 +17,12 @@ pub fn hull(chain: &[u8], out: &mut [i32]) -> Result<usize, Refusal> {
     Ok(list.len())
 }
 
-/// Refusals 1, 4 and 6.
-pub fn judge(chain: &[u8]) -> Result<(), Refusal> {
+/// Refusals 1, 10, 4 and 6.
+pub fn judge(start: Corner, chain: &[u8]) -> Result<(), Refusal> {
     if chain.len() > MOST_INPUT {
         return Err(Refusal::TooMany);
     }
+    judge_start(start)?;
     for (place, &step) in chain.iter().enumerate() {
         if step > 3 {
             return Err(Refusal::BadDigit(place as u32));
@@ -77,7 +78,7 @@ mod tests {
     /// Holds the list to what a hull is: visited corners, the first the lowest of the leftmost, any three of them in order a
     /// left turn, and every visited corner on or left of each edge.
     fn check(chain: &[u8]) {
-        let visited = corners(chain);
+        let visited = corners((-3, 5), chain);
         let list = hull_list(visited.clone());
         assert_eq!(Some(&list[0]), visited.iter().min());
         assert!(list.iter().all(|c| visited.contains(c)));

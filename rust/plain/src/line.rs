@@ -4,7 +4,7 @@ use answer::{
     Facts, LINE_BYTES, LINE_RECORDS, MOST_LINE_DIGITS, NO_MEETING, RECORD_WORDS, Refusal,
 };
 
-use crate::grid::{Corner, corners};
+use crate::grid::{Corner, ROOT, corners};
 use crate::hull::hull_list;
 use crate::turns::steps_of_turns;
 use crate::walk::walk;
@@ -49,8 +49,11 @@ fn judge(line: &[u8]) -> Result<(Facts, Vec<Corner>), Refusal> {
     let mut table = [0; RECORD_WORDS * LINE_RECORDS];
     let mut marks = vec![0; 2 * ops.len()];
     let mut chain = vec![0; ops.len()];
-    let facts = walk(&ops, &mut table, &mut marks, &mut chain)?;
-    Ok((facts, hull_list(corners(&chain[..facts.steps as usize]))))
+    let facts = walk(ROOT, &ops, &mut table, &mut marks, &mut chain)?;
+    Ok((
+        facts,
+        hull_list(corners(ROOT, &chain[..facts.steps as usize])),
+    ))
 }
 
 /// The kind and the digits of a frame.

@@ -2,7 +2,7 @@
 
 use std::collections::HashSet;
 
-use answer::{MOST_INPUT, MOST_START, Refusal};
+use answer::Refusal;
 
 use crate::grid::{Corner, corners};
 use crate::hull;
@@ -17,16 +17,9 @@ pub fn polygon_of_room(start: Corner, chain: &[u8], out: &mut [u8]) -> Result<us
 }
 
 /// Refusals 1, 10, 4, 6 and 12.
-fn judge((x, y): Corner, chain: &[u8]) -> Result<(), Refusal> {
-    let range = -MOST_START..=MOST_START;
-    if chain.len() > MOST_INPUT {
-        return Err(Refusal::TooMany);
-    }
-    if !range.contains(&x) || !range.contains(&y) {
-        return Err(Refusal::StartRange);
-    }
-    hull::judge(chain)?;
-    let corners = corners(chain);
+fn judge(start: Corner, chain: &[u8]) -> Result<(), Refusal> {
+    hull::judge(start, chain)?;
+    let corners = corners(start, chain);
     let different: HashSet<_> = corners.iter().collect();
     let closed = corners.first() == corners.last();
     if closed && chain.len() >= 4 && different.len() == chain.len() {
@@ -39,9 +32,9 @@ fn judge((x, y): Corner, chain: &[u8]) -> Result<(), Refusal> {
 /// The start, each later corner where the turn is not 0, and the start again.
 fn points(start: Corner, chain: &[u8]) -> Vec<Corner> {
     let mut points = vec![start];
-    for (k, &(x, y)) in corners(chain).iter().enumerate() {
+    for (k, &corner) in corners(start, chain).iter().enumerate() {
         if (1..chain.len()).contains(&k) && chain[k - 1] != chain[k] {
-            points.push((start.0 + x, start.1 + y));
+            points.push(corner);
         }
     }
     points.push(start);

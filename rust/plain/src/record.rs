@@ -27,8 +27,8 @@ fn direction((ax, ay): Corner, (bx, by): Corner) -> usize {
 }
 
 /// The records of the nodes in use.
-pub fn records(steps: &[u8]) -> Vec<Record> {
-    let corners = corners(steps);
+pub fn records(start: Corner, steps: &[u8]) -> Vec<Record> {
+    let corners = corners(start, steps);
     let mut records = Vec::new();
     let numbers = numbers(&corners, &mut records);
     for (&node, &number) in &numbers {

@@ -4,31 +4,35 @@ use std::collections::HashMap;
 
 use answer::{Facts, MOST_INPUT, MOST_RECORDS, MOST_STEPS, RECORD_WORDS, Refusal, Verdict};
 
-use crate::grid::{Corner, ROOT, corners, lineage, stepped};
+use crate::grid::{Corner, corners, judge_start, lineage, stepped};
 use crate::record::records;
 
-/// Judges the walk of `ops` and fills the three buffers.
+/// Judges the walk of `ops` from `start` and fills the three buffers.
 pub fn walk(
+    start: Corner,
     ops: &[u8],
     table: &mut [u32],
     marks: &mut [u32],
     chain: &mut [u8],
 ) -> Result<Facts, Refusal> {
     judge_sizes(ops.len(), table.len(), marks.len(), chain.len())?;
+    judge_start(start)?;
     judge_operations(ops)?;
-    let (steps, moments) = run(ops);
+    let (steps, moments) = run(start, ops);
     let most_nodes = (table.len() / RECORD_WORDS) as u32;
     table.fill(0);
     marks.fill(0);
     chain.fill(0);
-    if let Some(place) = moments.iter().position(|&[nodes, _]| nodes > most_nodes) {
-        return Err(Refusal::NoRoom(place as u32));
+    // The moment before the first operation has the place of the first.
+    let nodes = std::iter::once(lineage(start).count() as u32).chain(moments.iter().map(|m| m[0]));
+    if let Some(moment) = nodes.into_iter().position(|nodes| nodes > most_nodes) {
+        return Err(Refusal::NoRoom(moment.saturating_sub(1) as u32));
     }
-    let records = records(&steps);
+    let records = records(start, &steps);
     table[..RECORD_WORDS * records.len()].copy_from_slice(records.as_flattened());
     marks.copy_from_slice(moments.as_flattened());
     chain[..steps.len()].copy_from_slice(&steps);
-    Ok(facts(&steps, records.len()))
+    Ok(facts(start, &steps, records.len()))
 }
 
 /// Refusals 1, 2 and 3.
@@ -88,11 +92,11 @@ impl Bag {
 }
 
 /// The surviving steps, and after each operation the nodes in use and the visits at the corner then stood on.
-fn run(ops: &[u8]) -> (Vec<u8>, Vec<[u32; 2]>) {
-    let (mut steps, mut trail) = (Vec::new(), vec![ROOT]);
+fn run(start: Corner, ops: &[u8]) -> (Vec<u8>, Vec<[u32; 2]>) {
+    let (mut steps, mut trail) = (Vec::new(), vec![start]);
     let (mut visits, mut nodes) = (Bag::default(), Bag::default());
-    visits.add(ROOT);
-    nodes.add(ROOT);
+    visits.add(start);
+    lineage(start).for_each(|node| nodes.add(node));
     let mut moments = Vec::new();
     for &op in ops {
         let at = *trail.last().unwrap();
@@ -130,15 +134,15 @@ fn area(corners: &[Corner]) -> i32 {
 }
 
 /// The facts of the walk of these surviving steps.
-fn facts(steps: &[u8], nodes: usize) -> Facts {
-    let corners = corners(steps);
+fn facts(start: Corner, steps: &[u8], nodes: usize) -> Facts {
+    let corners = corners(start, steps);
     let last = corners[steps.len()];
     let mut different = corners.clone();
     different.sort_unstable();
     different.dedup();
     let verdict = if steps.is_empty() {
         Verdict::Nowhere
-    } else if last == ROOT {
+    } else if last == start {
         // Start and end meet; no others do where the corners before the end all differ.
         if steps.len() == 2 {
             Verdict::ThereAndBack

@@ -38,10 +38,15 @@ impl Walked {
 
 /// Walks in dirty buffers.
 fn walk_in(ops: &[u8], records: usize) -> Walked {
+    walk_from((0, 0), ops, records)
+}
+
+/// Walks from a start in dirty buffers.
+fn walk_from(start: (i32, i32), ops: &[u8], records: usize) -> Walked {
     let mut table = vec![7; RECORD_WORDS * records];
     let mut marks = vec![7; 2 * ops.len()];
     let mut chain = vec![7; ops.len()];
-    let answer = plain::walk(ops, &mut table, &mut marks, &mut chain);
+    let answer = plain::walk(start, ops, &mut table, &mut marks, &mut chain);
     let marks = marks.chunks(2).map(|pair| (pair[0], pair[1])).collect();
     Walked {
         answer,
@@ -61,7 +66,7 @@ fn refusal(digits: &str) -> Refusal {
 
 fn hull(digits: &str) -> Vec<i32> {
     let mut out = vec![0; 2 * digits.len() + 2];
-    let count = plain::hull(&ops(digits), &mut out).unwrap();
+    let count = plain::hull((0, 0), &ops(digits), &mut out).unwrap();
     out.truncate(2 * count);
     out
 }
@@ -168,6 +173,65 @@ fn p12_refusals() {
 }
 
 #[test]
+fn a_start_elsewhere() {
+    // Four corners where four large parts of the tree meet need 59 nodes.
+    let walked = walk_from((16_383, 16_383), &ops("0123"), 59);
+    let facts = walked.facts();
+    assert_eq!((facts.nodes, facts.corners), (59, 4));
+    assert_eq!(
+        (facts.verdict, facts.area, facts.last),
+        (Verdict::Room, 1, (16_383, 16_383))
+    );
+    assert_eq!(
+        walk_from((16_383, 16_383), &ops("0123"), 58).answer,
+        Err(Refusal::NoRoom(2))
+    );
+    // The ancestors of the start are numbered from the root down, and no step needed them; the root is unvisited.
+    assert_eq!([18, 19, 20].map(|word| walked.word(0, word)), [0, 0, 0]);
+    for node in 1..=14 {
+        assert_eq!(
+            [0, 19].map(|word| walked.word(node, word)),
+            [node as u32, 0]
+        );
+    }
+    assert_eq!([18, 19, 20].map(|word| walked.word(14, word)), [2, 0, 1]);
+}
+
+#[test]
+fn no_room_for_the_start() {
+    let start = (3, -2);
+    assert_eq!(walk_from(start, &[], 2).answer, Err(Refusal::NoRoom(0)));
+    assert_eq!(walk_from(start, &[], 3).facts().nodes, 3);
+    assert_eq!(
+        walk_from(start, &ops("0"), 2).answer,
+        Err(Refusal::NoRoom(0))
+    );
+    assert_eq!(
+        walk_from(start, &ops("044"), 2).answer,
+        Err(Refusal::NothingToTake(2))
+    );
+    let walked = walk_from(start, &ops("0"), 2);
+    assert!(walked.table.iter().all(|&word| word == 0));
+    assert_eq!((walked.marks, walked.chain), (vec![(0, 0)], vec![0]));
+}
+
+#[test]
+fn a_start_out_of_range() {
+    for v in [16_385, -16_385, i32::MAX, i32::MIN] {
+        for start in [(v, 0), (0, v)] {
+            assert_eq!(
+                walk_from(start, &ops("5"), 1).answer,
+                Err(Refusal::StartRange)
+            );
+            assert_eq!(plain::hull(start, &[4], &mut []), Err(Refusal::StartRange));
+        }
+    }
+    let mut out = [7; 4];
+    assert_eq!(plain::hull((-16_384, 16_384), &[2], &mut out), Ok(2));
+    assert_eq!(out, [-16_385, 16_384, -16_384, 16_384]);
+}
+
+#[test]
 fn limits_of_steps() {
     let mut east = vec![0; 16_384];
     assert!(walk_in(&east, 16_385).answer.is_ok());
@@ -187,15 +251,15 @@ fn order_of_refusals() {
     assert_eq!(walked.marks, [(7, 7); 6]);
     let many = vec![9; 32_769];
     assert_eq!(
-        plain::walk(&many, &mut [], &mut [], &mut []),
+        plain::walk((0, 0), &many, &mut [], &mut [], &mut []),
         Err(Refusal::TooMany)
     );
     assert_eq!(
-        plain::walk(&many[..1], &mut [], &mut [], &mut []),
+        plain::walk((0, 0), &many[..1], &mut [], &mut [], &mut []),
         Err(Refusal::Table)
     );
     assert_eq!(
-        plain::walk(&many[..1], &mut [0; 21], &mut [0; 2], &mut []),
+        plain::walk((0, 0), &many[..1], &mut [0; 21], &mut [0; 2], &mut []),
         Err(Refusal::ResultRoom)
     );
 }
@@ -203,12 +267,21 @@ fn order_of_refusals() {
 #[test]
 fn refusals_of_hull_and_turns() {
     let mut chain = vec![0; 16_385];
-    assert_eq!(plain::hull(&chain, &mut []), Err(Refusal::TooLong(16_384)));
+    assert_eq!(
+        plain::hull((0, 0), &chain, &mut []),
+        Err(Refusal::TooLong(16_384))
+    );
     chain[16_384] = 4;
-    assert_eq!(plain::hull(&chain, &mut []), Err(Refusal::BadDigit(16_384)));
-    assert_eq!(plain::hull(&[0; 32_769], &mut []), Err(Refusal::TooMany));
-    assert_eq!(plain::hull(&[], &mut [0]), Err(Refusal::HullRoom));
-    assert_eq!(plain::hull(&[], &mut [5, 5, 5]), Ok(1));
+    assert_eq!(
+        plain::hull((0, 0), &chain, &mut []),
+        Err(Refusal::BadDigit(16_384))
+    );
+    assert_eq!(
+        plain::hull((0, 0), &[0; 32_769], &mut []),
+        Err(Refusal::TooMany)
+    );
+    assert_eq!(plain::hull((0, 0), &[], &mut [0]), Err(Refusal::HullRoom));
+    assert_eq!(plain::hull((0, 0), &[], &mut [5, 5, 5]), Ok(1));
     let mut out = vec![0; 32_768];
     assert_eq!(plain::turns_of_steps(&[3; 32_768], &mut out), Ok(()));
     assert_eq!(

@@ -2,12 +2,13 @@
 
 use answer::{MOST_INPUT, MOST_STEPS, Refusal};
 
-use crate::tree::{Corner, ROOT};
+use crate::tree::{Corner, judge_start};
 
-/// Writes x and y of each hull corner of the walk of `chain`, and answers how many there are.
-pub fn hull(chain: &[u8], out: &mut [i32]) -> Result<usize, Refusal> {
-    judge(chain)?;
-    let list = hull_list(chain);
+/// Writes x and y of each hull corner of the walk of `chain` from `start`, and answers how many there are.
+pub fn hull(start: (i32, i32), chain: &[u8], out: &mut [i32]) -> Result<usize, Refusal> {
+    let start = Corner::from(start);
+    judge(start, chain)?;
+    let list = hull_list(start, chain);
     if out.len() < 2 * list.len() {
         return Err(Refusal::HullRoom);
     }
@@ -18,11 +19,12 @@ pub fn hull(chain: &[u8], out: &mut [i32]) -> Result<usize, Refusal> {
     Ok(list.len())
 }
 
-/// Refusals 1, 4 and 6.
-pub fn judge(chain: &[u8]) -> Result<(), Refusal> {
+/// Refusals 1, 10, 4 and 6.
+pub fn judge(start: Corner, chain: &[u8]) -> Result<(), Refusal> {
     if chain.len() > MOST_INPUT {
         return Err(Refusal::TooMany);
     }
+    judge_start(start)?;
     let bad = chain.iter().take(MOST_STEPS + 1).position(|&step| step > 3);
     match bad {
         Some(place) => Err(Refusal::BadDigit(place as u32)),
@@ -32,8 +34,8 @@ pub fn judge(chain: &[u8]) -> Result<(), Refusal> {
 }
 
 /// The hull corners of the walk of good steps, counterclockwise from the lowest of the leftmost.
-pub fn hull_list(chain: &[u8]) -> Vec<Corner> {
-    let (west, columns) = columns(chain);
+pub fn hull_list(start: Corner, chain: &[u8]) -> Vec<Corner> {
+    let (west, columns) = columns(start, chain);
     let columns = || (0..columns.len()).map(|i| (west + i as i32, columns[i]));
     let mut list = Vec::new();
     scan(&mut list, columns().map(|(x, (y, _))| Corner { x, y }));
@@ -53,16 +55,16 @@ pub fn hull_list(chain: &[u8]) -> Vec<Corner> {
 }
 
 /// The westmost x, and the lowest and highest y of each column from there on.
-fn columns(chain: &[u8]) -> (i32, Vec<(i32, i32)>) {
-    let (mut at, mut west, mut east) = (ROOT, 0, 0);
+fn columns(start: Corner, chain: &[u8]) -> (i32, Vec<(i32, i32)>) {
+    let (mut at, mut west, mut east) = (start, start.x, start.x);
     for &step in chain {
         at = at.stepped(step);
         west = at.x.min(west);
         east = at.x.max(east);
     }
     let mut columns = vec![(i32::MAX, i32::MIN); (east - west + 1) as usize];
-    let mut at = ROOT;
-    columns[(at.x - west) as usize] = (0, 0);
+    let mut at = start;
+    columns[(at.x - west) as usize] = (at.y, at.y);
     for &step in chain {
         at = at.stepped(step);
         let (low, high) = &mut columns[(at.x - west) as usize];

@@ -7,7 +7,7 @@ use answer::{
 };
 
 use crate::hull::hull_list;
-use crate::tree::Corner;
+use crate::tree::{Corner, ROOT};
 use crate::turns::steps_of_turns;
 use crate::walk::walk;
 
@@ -78,8 +78,14 @@ impl Judge {
             &self.steps[..n]
         };
         let chain = &mut self.chain[..n];
-        let facts = walk(ops, &mut self.table, &mut self.marks[..2 * n], chain)?;
-        Ok((facts, hull_list(&chain[..facts.steps as usize])))
+        let facts = walk(
+            (0, 0),
+            ops,
+            &mut self.table,
+            &mut self.marks[..2 * n],
+            chain,
+        )?;
+        Ok((facts, hull_list(ROOT, &chain[..facts.steps as usize])))
     }
 
     /// Reads the kind, the count and the digits of a frame.

@@ -1,24 +1,18 @@
 //! Rooms as polygons: whether a walk is a room by threads through its columns, and the points written one after the other.
 
-use answer::{MOST_INPUT, MOST_START, Refusal};
+use answer::Refusal;
 
 use crate::hull;
 use crate::tree::Corner;
 
 /// Writes the room with this start and chain to the start of `out`, and answers how many bytes its polygon has.
-pub fn polygon_of_room((x, y): (i32, i32), chain: &[u8], out: &mut [u8]) -> Result<usize, Refusal> {
-    let range = -MOST_START..=MOST_START;
-    if chain.len() > MOST_INPUT {
-        return Err(Refusal::TooMany);
-    }
-    if !range.contains(&x) || !range.contains(&y) {
-        return Err(Refusal::StartRange);
-    }
-    hull::judge(chain)?;
+pub fn polygon_of_room(start: (i32, i32), chain: &[u8], out: &mut [u8]) -> Result<usize, Refusal> {
+    let start = Corner::from(start);
+    hull::judge(start, chain)?;
     if !is_room(chain) {
         return Err(Refusal::NotRoom);
     }
-    write(Corner { x, y }, chain, out).ok_or(Refusal::PolygonRoom)
+    write(start, chain, out).ok_or(Refusal::PolygonRoom)
 }
 
 /// Whether the walk is closed, of four steps or more, and at no corner twice before its end.

@@ -1,7 +1,7 @@
 //! The linked quadtree, in a lent table of words.
 
-use answer::RECORD_WORDS;
 use answer::word::{CHILD, FIRST, LINK_STEP, NEED, NEIGHBOUR, PARENT, VISITS};
+use answer::{MOST_START, RECORD_WORDS, Refusal};
 
 #[derive(Clone, Copy, PartialEq, Eq)]
 pub struct Corner {
@@ -13,6 +13,22 @@ pub const ROOT: Corner = Corner { x: 0, y: 0 };
 
 /// The change of x and y by each step.
 pub const STEPS: [(i32, i32); 4] = [(1, 0), (0, 1), (-1, 0), (0, -1)];
+
+impl From<(i32, i32)> for Corner {
+    fn from((x, y): (i32, i32)) -> Corner {
+        Corner { x, y }
+    }
+}
+
+/// Refusal 10.
+pub fn judge_start(start: Corner) -> Result<(), Refusal> {
+    let within = |v: i32| (-MOST_START..=MOST_START).contains(&v);
+    if within(start.x) && within(start.y) {
+        Ok(())
+    } else {
+        Err(Refusal::StartRange)
+    }
+}
 
 impl Corner {
     pub fn stepped(self, way: u8) -> Corner {
@@ -51,12 +67,22 @@ pub struct Tree<'a> {
 }
 
 impl<'a> Tree<'a> {
-    /// Clears the table and visits the root.
-    pub fn new(words: &'a mut [u32]) -> Tree<'a> {
+    /// Clears the table, plants the ancestors of the start and the start, and visits it; none where there is no room.
+    pub fn new(words: &'a mut [u32], start: Corner) -> Option<Tree<'a>> {
         words.fill(0);
         let mut tree = Tree { words, nodes: 1 };
-        tree.visit(0, 0);
-        tree
+        let at = tree.planted(start)?;
+        tree.visit(at, 0);
+        Some(tree)
+    }
+
+    /// The node of the corner, made with its ancestors where they are not there.
+    fn planted(&mut self, c: Corner) -> Option<usize> {
+        if c == ROOT {
+            return Some(0);
+        }
+        let up = self.planted(c.parent())?;
+        self.child(up, c.child_word(), 0)
     }
 
     fn word(&self, node: usize, word: usize) -> u32 {

@@ -2,17 +2,24 @@
 
 use answer::{Facts, MOST_INPUT, MOST_RECORDS, MOST_STEPS, RECORD_WORDS, Refusal, Verdict};
 
-use crate::tree::{Corner, ROOT, STEPS, Tree, back};
+use crate::tree::{Corner, STEPS, Tree, back, judge_start};
 
-/// Judges the walk of `ops` and fills the three buffers.
+/// Judges the walk of `ops` from `start` and fills the three buffers.
 pub fn walk(
+    start: (i32, i32),
     ops: &[u8],
     table: &mut [u32],
     marks: &mut [u32],
     chain: &mut [u8],
 ) -> Result<Facts, Refusal> {
-    judge(ops, table.len(), marks.len(), chain.len())?;
-    let mut walk = Walk::new(table);
+    let start = Corner::from(start);
+    judge(start, ops, table.len(), marks.len(), chain.len())?;
+    let Some(mut walk) = Walk::new(table, start) else {
+        table.fill(0);
+        marks.fill(0);
+        chain.fill(0);
+        return Err(Refusal::NoRoom(0));
+    };
     for (i, (&op, mark)) in ops.iter().zip(marks.chunks_exact_mut(2)).enumerate() {
         if op == 4 {
             walk.take_back(chain);
@@ -30,8 +37,14 @@ pub fn walk(
     Ok(walk.facts(steps))
 }
 
-/// Refusals 1 to 6.
-fn judge(ops: &[u8], words: usize, marks: usize, chain: usize) -> Result<(), Refusal> {
+/// Refusals 1 to 6 and 10.
+fn judge(
+    start: Corner,
+    ops: &[u8],
+    words: usize,
+    marks: usize,
+    chain: usize,
+) -> Result<(), Refusal> {
     if ops.len() > MOST_INPUT {
         return Err(Refusal::TooMany);
     }
@@ -41,6 +54,7 @@ fn judge(ops: &[u8], words: usize, marks: usize, chain: usize) -> Result<(), Ref
     if marks != 2 * ops.len() || chain != ops.len() {
         return Err(Refusal::ResultRoom);
     }
+    judge_start(start)?;
     let mut steps = 0;
     for (i, &op) in ops.iter().enumerate() {
         if op > 4 {
@@ -64,6 +78,7 @@ fn judge(ops: &[u8], words: usize, marks: usize, chain: usize) -> Result<(), Ref
 /// The walk after some of its operations.
 struct Walk<'a> {
     tree: Tree<'a>,
+    start: Corner,
     node: usize,
     at: Corner,
     steps: u32,
@@ -72,15 +87,18 @@ struct Walk<'a> {
 }
 
 impl<'a> Walk<'a> {
-    fn new(table: &'a mut [u32]) -> Walk<'a> {
-        Walk {
-            tree: Tree::new(table),
-            node: 0,
-            at: ROOT,
+    /// At the start; none where there is no room for it.
+    fn new(table: &'a mut [u32], start: Corner) -> Option<Walk<'a>> {
+        let tree = Tree::new(table, start)?;
+        Some(Walk {
+            node: tree.nodes - 1,
+            tree,
+            start,
+            at: start,
             steps: 0,
             corners: 1,
             meeting: None,
-        }
+        })
     }
 
     /// One step on; false where there is no room.
@@ -122,7 +140,7 @@ impl<'a> Walk<'a> {
         let verdict = match self.meeting {
             _ if self.steps == 0 => Verdict::Nowhere,
             None => Verdict::Open,
-            Some(_) if self.at != ROOT => Verdict::OpenMeeting,
+            Some(_) if self.at != self.start => Verdict::OpenMeeting,
             Some(_) if self.steps == 2 => Verdict::ThereAndBack,
             Some((_, k)) if k == self.steps => Verdict::Room,
             Some(_) => Verdict::ClosedMeeting,
@@ -134,7 +152,7 @@ impl<'a> Walk<'a> {
             corners: self.corners,
             meeting: self.meeting,
             area: if verdict == Verdict::Room {
-                area(steps)
+                area(self.start, steps)
             } else {
                 0
             },
@@ -143,8 +161,8 @@ impl<'a> Walk<'a> {
     }
 }
 
-fn area(steps: &[u8]) -> i32 {
-    let (mut x, mut area) = (0, 0);
+fn area(start: Corner, steps: &[u8]) -> i32 {
+    let (mut x, mut area) = (start.x, 0);
     for &step in steps {
         let (east, north) = STEPS[usize::from(step)];
         area += x * north;

@@ -7,21 +7,22 @@ pub mod raw;
 
 pub use answer::*;
 
-/// Judges the walk of `ops` in a lent table of [`RECORD_WORDS`] words a record; `marks` has two words an operation and
+/// Judges the walk of `ops` from the corner `start`, whose coordinates are at most [`MOST_START`] from 0, in a lent table of [`RECORD_WORDS`] words a record; `marks` has two words an operation and
 /// `chain` one byte.
 ///
 /// After an accepted walk the table holds the linked quadtree of the surviving steps, `marks` the nodes in use and the
 /// visits at the corner stood on after each operation, and `chain` the surviving steps and then zeros. [`word`] names the
 /// words of a record.
 ///
-/// A table of 4 c - 3 records is never refused for room where the walk has at most c different corners at any moment. The
+/// A table of 4 c + 64 records is never refused for room where the walk has at most c different corners at any moment, nor
+/// one of 4 c - 3 where it starts at (0, 0). The
 /// whole table is cleared, whatever the walk uses of it: lend what it can need, and no more.
 ///
 /// ```
 /// let ops = [0, 1, 2, 3];
 /// let mut table = [0; 4 * undrwyth::RECORD_WORDS];
 /// let (mut marks, mut chain) = ([0; 8], [0; 4]);
-/// let facts = undrwyth::walk(&ops, &mut table, &mut marks, &mut chain)?;
+/// let facts = undrwyth::walk((0, 0), &ops, &mut table, &mut marks, &mut chain)?;
 /// assert_eq!(facts.verdict, undrwyth::Verdict::Room);
 /// assert_eq!((facts.meeting, facts.area, facts.last), (Some((0, 4)), 1, (0, 0)));
 /// assert_eq!(marks, [2, 1, 3, 1, 4, 1, 4, 2]);
@@ -29,13 +30,14 @@ pub use answer::*;
 /// # Ok::<(), undrwyth::Refusal>(())
 /// ```
 pub fn walk(
+    start: (i32, i32),
     ops: &[u8],
     table: &mut [u32],
     marks: &mut [u32],
     chain: &mut [u8],
 ) -> Result<Facts, Refusal> {
     let mut answer = [0; WALK_ANSWER_WORDS];
-    let number = raw::walk(ops, table, marks, chain, &mut answer);
+    let number = raw::walk(start, ops, table, marks, chain, &mut answer);
     accepted(number, answer[1])?;
     let [_, _, verdict, steps, nodes, corners, j, k, area, x, y] = answer;
     Ok(Facts {
@@ -49,18 +51,18 @@ pub fn walk(
     })
 }
 
-/// Writes x and y of the hull corners of the walk of `chain` to the start of `out`, counterclockwise from the lowest of the
+/// Writes x and y of the hull corners of the walk of `chain` from `start` to the start of `out`, counterclockwise from the lowest of the
 /// leftmost, no three in a line, and answers how many corners there are. The numbers after them are unchanged.
 ///
 /// ```
 /// let mut out = [0; 5];
-/// assert_eq!(undrwyth::hull(&[0, 2, 2], &mut out), Ok(2));
+/// assert_eq!(undrwyth::hull((0, 0), &[0, 2, 2], &mut out), Ok(2));
 /// assert_eq!(out, [-1, 0, 1, 0, 0]);
-/// assert_eq!(undrwyth::hull(&[0, 1], &mut out), Err(undrwyth::Refusal::HullRoom));
+/// assert_eq!(undrwyth::hull((0, 0), &[0, 1], &mut out), Err(undrwyth::Refusal::HullRoom));
 /// ```
-pub fn hull(chain: &[u8], out: &mut [i32]) -> Result<usize, Refusal> {
+pub fn hull(start: (i32, i32), chain: &[u8], out: &mut [i32]) -> Result<usize, Refusal> {
     let mut answer = [0; HULL_ANSWER_WORDS];
-    let number = raw::hull(chain, out, &mut answer);
+    let number = raw::hull(start, chain, out, &mut answer);
     accepted(number, answer[1])?;
     Ok(answer[2] as usize)
 }

@@ -5,6 +5,8 @@ use answer::{HULL_ANSWER_WORDS, POLYGON_ANSWER_WORDS, TURNS_ANSWER_WORDS, WALK_A
 mod c {
     unsafe extern "C" {
         pub fn undrwyth_walk(
+            start_x: i32,
+            start_y: i32,
             ops: *const u8,
             n: usize,
             table: *mut u32,
@@ -16,6 +18,8 @@ mod c {
             answer: *mut u32,
         ) -> u32;
         pub fn undrwyth_hull(
+            start_x: i32,
+            start_y: i32,
             chain: *const u8,
             n: usize,
             out: *mut i32,
@@ -51,6 +55,7 @@ mod c {
 
 /// `undrwyth_walk`: the refusal's number, 0 for none.
 pub fn walk(
+    start: (i32, i32),
     ops: &[u8],
     table: &mut [u32],
     marks: &mut [u32],
@@ -60,6 +65,8 @@ pub fn walk(
     // SAFETY: each pointer is of a slice of the length beside it, none overlaps another, and answer has its words.
     unsafe {
         c::undrwyth_walk(
+            start.0,
+            start.1,
             ops.as_ptr(),
             ops.len(),
             table.as_mut_ptr(),
@@ -74,10 +81,17 @@ pub fn walk(
 }
 
 /// `undrwyth_hull`: the refusal's number, 0 for none.
-pub fn hull(chain: &[u8], out: &mut [i32], answer: &mut [u32; HULL_ANSWER_WORDS]) -> u32 {
+pub fn hull(
+    start: (i32, i32),
+    chain: &[u8],
+    out: &mut [i32],
+    answer: &mut [u32; HULL_ANSWER_WORDS],
+) -> u32 {
     // SAFETY: as for walk.
     unsafe {
         c::undrwyth_hull(
+            start.0,
+            start.1,
             chain.as_ptr(),
             chain.len(),
             out.as_mut_ptr(),

@@ -15,7 +15,7 @@ placed-requires-2 : tie.Need-placed-requires-2
 placed-requires-2 c κs = search needs
 
 put-requires : tie.Need-put-requires
-put-requires c κs = puts-lower (c .before .before .before .before .before .before .before .pre .0) (c .before .before .before .before .before .before .before .pre .1) (c .before .before .placed .result) (c .before .before .placed .ensures)
+put-requires c κs = puts-lower (c .before .before .before .before .before .before .before .args .start) (c .before .before .before .before .before .before .before .pre .0) (c .before .before .before .before .before .before .before .pre .1) (c .before .before .placed .result) (c .before .before .placed .ensures)
 
 sub-put : tie.Need-sub-put
 sub-put c = search needs
@@ -24,7 +24,7 @@ mul-put : tie.Need-mul-put
 mul-put c = search needs
 
 put-requires-2 : tie.Need-put-requires-2
-put-requires-2 c κs = puts-upper (c .before .before .before .before .before .before .before .before .before .before .pre .0) (c .before .before .before .before .before .before .before .before .before .before .pre .1) (c .before .before .before .before .placed2 .result) (length (c .before .before .put .last .0)) (c .before .before .before .before .placed2 .ensures) (c .before .before .put .kept .0)
+put-requires-2 c κs = puts-upper (c .before .before .before .before .before .before .before .before .before .before .args .start) (c .before .before .before .before .before .before .before .before .before .before .pre .0) (c .before .before .before .before .before .before .before .before .before .before .pre .1) (c .before .before .before .before .placed2 .result) (length (c .before .before .put .last .0)) (c .before .before .before .before .placed2 .ensures) (c .before .before .put .kept .0)
 
 same-length : tie.Need-same-length
 same-length c = search needs

@@ -1,6 +1,12 @@
 -- `undrwyth::undrwyth_hull` meets its contract.
 -- Assumes nothing.
 use borrow.Author.Needs.{needs}
+use mathlib.Core.Path.{ap₂, subst}
+use mir.Syntax.{w32}
+use mir.ValLaws.{toZ-ofZ}
+use Rattle.grid.specs.declared.Corner.{Corner}
+use Rattle.grid.specs.Grid.{corner}
+use Rattle.hull.specs.Call.{HullCall}
 use Rattle.undrwyth.proofs.WordLaws.{counted-first}
 use Rattle.undrwyth.proofs.BoundaryLaws.{counted-fits}
 use Rattle.undrwyth.proofs.undrwyth_hull.Statement.{statement}
@@ -10,7 +16,7 @@ list-requires : tie.Need-list-requires
 list-requires c κs = search needs
 
 counted-words-requires : tie.Need-counted-words-requires
-counted-words-requires c κs = let a = c .before .before .before .before .args in let h = c .before .list in counted-fits (a .chain .now) (a .out .now) (h .result) (h .last .1 .0) (h .ensures)
+counted-words-requires c κs = let a = c .before .before .before .before .args in let w = c .before .list in counted-fits _ (a .chain .now) (a .out .now) (w .result) (w .last .1 .1 .0) (w .ensures)
 
 array-read-result : tie.Need-array-read-result
 array-read-result c = search needs
@@ -19,7 +25,15 @@ same-length : tie.Need-same-length
 same-length c = search needs
 
 returns : tie.Need-returns
-returns c = let h = c .before .before .list in record { answer = h .result; listed = h .ensures; words-are = c .counted-words .ensures; result = counted-first (h .result) (c .counted-words .result) (c .counted-words .ensures) }
+returns c =
+    let a = c .before .before .before .before .before .args in
+    let w = c .before .before .list in
+    record {
+      answer = w .result;
+      listed = subst (λ (s : Corner). HullCall s (a .chain .now) (a .out .now) (w .result) (w .last .1 .1 .0)) (ap₂ corner (toZ-ofZ w32 (a .start-x) (c .before .before .before .before .before .fits .start-x)) (toZ-ofZ w32 (a .start-y) (c .before .before .before .before .before .fits .start-y))) (w .ensures);
+      words-are = c .counted-words .ensures;
+      result = counted-first (w .result) (c .counted-words .result) (c .counted-words .ensures);
+    }
 
 pub undrwyth-hull-spec : {M : Type 1} → statement M
 undrwyth-hull-spec =

@@ -1,6 +1,12 @@
 -- `undrwyth::undrwyth_walk` meets its contract.
 -- Assumes nothing.
 use borrow.Author.Needs.{needs}
+use mathlib.Core.Path.{ap₂, subst}
+use mir.Syntax.{w32}
+use mir.ValLaws.{toZ-ofZ}
+use Rattle.grid.specs.declared.Corner.{Corner}
+use Rattle.grid.specs.Grid.{corner}
+use Rattle.walk_call.specs.Walk.{WalkIs}
 use Rattle.undrwyth.proofs.WordLaws.{answer-first}
 use Rattle.undrwyth.proofs.BoundaryLaws.{answer-fits}
 use Rattle.undrwyth.proofs.undrwyth_walk.Statement.{statement}
@@ -10,7 +16,7 @@ follow-requires : tie.Need-follow-requires
 follow-requires c κs = search needs
 
 walk-words-requires : tie.Need-walk-words-requires
-walk-words-requires c κs = let a = c .before .before .before .before .before .before .before .before .before .before .before .before .before .before .args in let w = c .before .before .before .before .before .before .follow in answer-fits (a .ops .now) (a .table .now) (a .marks .now) (a .chain .now) (w .result) (w .last .1 .0) (w .last .1 .1 .0) (w .last .1 .1 .1 .0) (w .ensures)
+walk-words-requires c κs = let a = c .before .before .before .before .before .before .before .before .before .before .before .before .before .before .args in let w = c .before .before .before .before .before .before .follow in answer-fits _ (a .ops .now) (a .table .now) (a .marks .now) (a .chain .now) (w .result) (w .last .1 .1 .0) (w .last .1 .1 .1 .0) (w .last .1 .1 .1 .1 .0) (w .ensures)
 
 array-read-result : tie.Need-array-read-result
 array-read-result c = search needs
@@ -25,7 +31,16 @@ same-length-3 : tie.Need-same-length-3
 same-length-3 c = search needs
 
 returns : tie.Need-returns
-returns c = let w = c .before .before .before .before .before .before .before .follow in record { answer = w .result; walked = w .ensures; words-are = c .walk-words .ensures; result = answer-first (w .result) (c .walk-words .result) (c .walk-words .ensures) }
+returns c =
+    let s = c .before .before .before .before .before .before .before .before .before .before .before .before .before .before .before in
+    let a = s .args in
+    let w = c .before .before .before .before .before .before .before .follow in
+    record {
+      answer = w .result;
+      walked = subst (λ (k : Corner). WalkIs k (a .ops .now) (a .table .now) (a .marks .now) (a .chain .now) (w .result) (w .last .1 .1 .0) (w .last .1 .1 .1 .0) (w .last .1 .1 .1 .1 .0)) (ap₂ corner (toZ-ofZ w32 (a .start-x) (s .fits .start-x)) (toZ-ofZ w32 (a .start-y) (s .fits .start-y))) (w .ensures);
+      words-are = c .walk-words .ensures;
+      result = answer-first (w .result) (c .walk-words .result) (c .walk-words .ensures);
+    }
 
 pub undrwyth-walk-spec : {M : Type 1} → statement M
 undrwyth-walk-spec =

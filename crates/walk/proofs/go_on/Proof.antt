@@ -6,7 +6,6 @@ use borrow.Author.Needs.{needs}
 use lib.ListN.{length, replicate}
 use Rattle.walk_run.specs.declared.Ran.{Ran}
 use Rattle.walk_run.specs.Runs.{Ended}
-use Rattle.grid.specs.Grid.{origin}
 use Rattle.steps.specs.Operations.{survivors}
 use Rattle.walk.proofs.CallLaws.{settled-of, followed-full, followed-all}
 use Rattle.walk.proofs.go_on.Statement.{statement}
@@ -29,8 +28,8 @@ facts-requires c κs =
     let a = c .before .before .before .before .before .before .before .before .before .before .before .before .before .before .before .before .before .before .args in
     let r = c .before .before .before .before .before .before .before .before .before .before .run in
     let w = c .before .before .w .given in
-    let e = subst (λ (x : Ran). Ended (length (a .t .now)) origin (a .ops .now) (r .last .1 .0) (r .last .1 .1 .0) (r .last .1 .1 .1 .0) x) (w .1) (r .ensures) in
-    record { chain-steps = survivors (a .ops .now); settled = settled-of origin (r .last .1 .0) (r .last .1 .1 .1 .0) (survivors (a .ops .now)) (w .0 .0) (e .0) }
+    let e = subst (λ (x : Ran). Ended (length (a .t .now)) (a .start) (a .ops .now) (r .last .1 .1 .1 .0) (r .last .1 .1 .1 .1 .0) (r .last .1 .1 .1 .1 .1 .0) x) (w .1) (r .ensures) in
+    record { chain-steps = survivors (a .ops .now); settled = settled-of (a .start) (r .last .1 .1 .1 .0) (r .last .1 .1 .1 .1 .1 .0) (survivors (a .ops .now)) (w .0 .0) (e .0) }
 
 same-length : tie.Need-same-length
 same-length c = search needs
@@ -46,10 +45,10 @@ returns c =
     let a = c .before .before .before .before .before .before .before .before .before .before .before .before .before .before .before .before .before .args in
     let r = c .before .before .before .before .before .before .before .before .before .run in
     let w = c .before .i .given in
-    let e = subst (λ (x : Ran). Ended (length (a .t .now)) origin (a .ops .now) (r .last .1 .0) (r .last .1 .1 .0) (r .last .1 .1 .1 .0) x) (w .1) (r .ensures) in
-    let q : length (r .last .1 .1 .0) ≡ length (a .marks .now) = search needs in
-    let o : length (r .last .1 .1 .1 .0) ≡ length (a .chain .now) = search needs in
-    followed-full (a .ops .now) (a .t .now) (a .marks .now) (a .chain .now) (r .last .1 .0) (r .last .1 .1 .0) (r .last .1 .1 .1 .0) (w .0 .0) (e .0) (e .1) (e .2 ∙ zeros q) (e .3 ∙ zeros o)
+    let e = subst (λ (x : Ran). Ended (length (a .t .now)) (a .start) (a .ops .now) (r .last .1 .1 .1 .0) (r .last .1 .1 .1 .1 .0) (r .last .1 .1 .1 .1 .1 .0) x) (w .1) (r .ensures) in
+    let q : length (r .last .1 .1 .1 .1 .0) ≡ length (a .marks .now) = search needs in
+    let o : length (r .last .1 .1 .1 .1 .1 .0) ≡ length (a .chain .now) = search needs in
+    followed-full (a .start) (a .ops .now) (a .t .now) (a .marks .now) (a .chain .now) (r .last .1 .1 .1 .0) (r .last .1 .1 .1 .1 .0) (r .last .1 .1 .1 .1 .1 .0) (w .0 .0) (e .0) (e .1) (e .2 ∙ zeros q) (e .3 ∙ zeros o)
 
 same-length-4 : tie.Need-same-length-4
 same-length-4 c = search needs
@@ -65,10 +64,10 @@ returns-2 c =
     let a = c .before .before .before .before .before .before .before .before .before .before .before .before .before .before .before .before .before .before .before .args in
     let r = c .before .before .before .before .before .before .before .before .before .before .before .run in
     let w = c .before .before .before .w .given in
-    let e = subst (λ (x : Ran). Ended (length (a .t .now)) origin (a .ops .now) (r .last .1 .0) (r .last .1 .1 .0) (r .last .1 .1 .1 .0) x) (w .1) (r .ensures) in
-    let l : length (r .last .1 .0) ≡ length (a .t .now) = search needs in
-    let f = c .facts .ensures (survivors (a .ops .now)) (settled-of origin (r .last .1 .0) (r .last .1 .1 .1 .0) (survivors (a .ops .now)) (w .0 .0) (e .0)) in
-    followed-all (a .ops .now) (a .t .now) (a .marks .now) (a .chain .now) (r .last .1 .0) (r .last .1 .1 .0) (r .last .1 .1 .1 .0) (w .0 .0) (c .facts .result) (e .0) (e .1) (e .2) (e .3) l f
+    let e = subst (λ (x : Ran). Ended (length (a .t .now)) (a .start) (a .ops .now) (r .last .1 .1 .1 .0) (r .last .1 .1 .1 .1 .0) (r .last .1 .1 .1 .1 .1 .0) x) (w .1) (r .ensures) in
+    let l : length (r .last .1 .1 .1 .0) ≡ length (a .t .now) = search needs in
+    let f = c .facts .ensures (survivors (a .ops .now)) (settled-of (a .start) (r .last .1 .1 .1 .0) (r .last .1 .1 .1 .1 .1 .0) (survivors (a .ops .now)) (w .0 .0) (e .0)) in
+    followed-all (a .start) (a .ops .now) (a .t .now) (a .marks .now) (a .chain .now) (r .last .1 .1 .1 .0) (r .last .1 .1 .1 .1 .0) (r .last .1 .1 .1 .1 .1 .0) (w .0 .0) (c .facts .result) (e .0) (e .1) (e .2) (e .3) l f
 
 pub go-on-spec : {M : Type 1} → statement M
 go-on-spec =

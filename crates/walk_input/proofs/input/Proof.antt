@@ -4,12 +4,12 @@ use mathlib.Core.Path.{sym, _∙_}
 use native.Mathlib.Omega.{arith}
 use borrow.Author.Needs.{needs}
 use borrow.Author.Tests.{not-true, not-false}
-use Rattle.walk_input.proofs.JudgeLaws.{input-many, input-table, input-marks, input-chain, input-rest}
+use Rattle.walk_input.proofs.JudgeLaws.{input-many, input-table, input-marks, input-chain, input-start, input-rest}
 use Rattle.walk_input.proofs.input.Statement.{statement}
 use Rattle.walk_input.proofs.input.Tie as tie
 
 returns : tie.Need-returns
-returns c = let a = c .before .before .args in input-many (a .ops .now) (a .words) (a .marks) (a .chain) (omega arith)
+returns c = let a = c .before .before .args in input-many (a .start) (a .ops .now) (a .words) (a .marks) (a .chain) (omega arith)
 
 table-requires : tie.Need-table-requires
 table-requires c κs = tt
@@ -18,7 +18,7 @@ returns-2 : tie.Need-returns-2
 returns-2 c =
     let a = c .before .before .before .before .args in
     let t = c .before .table in
-    input-table (a .ops .now) (a .words) (a .marks) (a .chain) (omega arith) (sym (t .ensures) ∙ not-true (t .result) (c .if2 .taken))
+    input-table (a .start) (a .ops .now) (a .words) (a .marks) (a .chain) (omega arith) (sym (t .ensures) ∙ not-true (t .result) (c .if2 .taken))
 
 mul-if3 : tie.Need-mul-if3
 mul-if3 c = search needs
@@ -27,22 +27,33 @@ returns-3 : tie.Need-returns-3
 returns-3 c =
     let a = c .before .before .before .before .before .args in
     let t = c .before .before .table in
-    input-marks (a .ops .now) (a .words) (a .marks) (a .chain) (omega arith) (sym (t .ensures) ∙ not-false (t .result) (c .before .if2 .left)) (c .if3 .taken)
+    input-marks (a .start) (a .ops .now) (a .words) (a .marks) (a .chain) (omega arith) (sym (t .ensures) ∙ not-false (t .result) (c .before .if2 .left)) (c .if3 .taken)
 
 returns-4 : tie.Need-returns-4
 returns-4 c =
     let a = c .before .before .before .before .before .before .args in
     let t = c .before .before .before .table in
-    input-chain (a .ops .now) (a .words) (a .marks) (a .chain) (omega arith) (sym (t .ensures) ∙ not-false (t .result) (c .before .before .if2 .left)) (c .before .if3 .left) (c .if4 .taken)
+    input-chain (a .start) (a .ops .now) (a .words) (a .marks) (a .chain) (omega arith) (sym (t .ensures) ∙ not-false (t .result) (c .before .before .if2 .left)) (c .before .if3 .left) (c .if4 .taken)
+
+start-fits-requires : tie.Need-start-fits-requires
+start-fits-requires c κs = search needs
+
+returns-5 : tie.Need-returns-5
+returns-5 c =
+    let a = c .before .before .before .before .before .before .before .before .args in
+    let t = c .before .before .before .before .before .table in
+    let f = c .before .start-fits in
+    input-start (a .start) (a .ops .now) (a .words) (a .marks) (a .chain) (omega arith) (sym (t .ensures) ∙ not-false (t .result) (c .before .before .before .before .if2 .left)) (c .before .before .before .if3 .left) (c .before .before .if4 .left) (sym (f .ensures) ∙ not-true (f .result) (c .if5 .taken))
 
 operations-requires : tie.Need-operations-requires
 operations-requires c κs = tt
 
-returns-5 : tie.Need-returns-5
-returns-5 c =
-    let a = c .before .before .before .before .before .before .before .args in
-    let t = c .before .before .before .before .table in
-    c .operations .ensures ∙ input-rest (a .ops .now) (a .words) (a .marks) (a .chain) (omega arith) (sym (t .ensures) ∙ not-false (t .result) (c .before .before .before .if2 .left)) (c .before .before .if3 .left) (c .before .if4 .left)
+returns-6 : tie.Need-returns-6
+returns-6 c =
+    let a = c .before .before .before .before .before .before .before .before .before .args in
+    let t = c .before .before .before .before .before .before .table in
+    let f = c .before .before .start-fits in
+    c .operations .ensures ∙ input-rest (a .start) (a .ops .now) (a .words) (a .marks) (a .chain) (omega arith) (sym (t .ensures) ∙ not-false (t .result) (c .before .before .before .before .before .if2 .left)) (c .before .before .before .before .if3 .left) (c .before .before .before .if4 .left) (sym (f .ensures) ∙ not-false (f .result) (c .before .if5 .left))
 
 pub input-spec : {M : Type 1} → statement M
-input-spec = tie.close (tie.spec returns table-requires returns-2 mul-if3 returns-3 returns-4 operations-requires returns-5)
+input-spec = tie.close (tie.spec returns table-requires returns-2 mul-if3 returns-3 returns-4 start-fits-requires returns-5 operations-requires returns-6)

@@ -36,6 +36,11 @@ fn rooms() {
 }
 
 #[test]
+fn starts() {
+    suite::starts(&LIBRARY, LONGEST / 3);
+}
+
+#[test]
 fn lines() {
     suite::lines(&LIBRARY);
 }

@@ -1,0 +1,55 @@
+-- `walk_plant::depth` meets its contract. The invariant: so many levels up, and none of those passed was the root.
+-- Assumes nothing.
+use mathlib.Core.Bool.{false}
+use mathlib.Core.Path.{_≡_, sym, subst, _∙_}
+use Prim.Native.Nat.{_<_}
+use native.Mathlib.Omega.{arith}
+use borrow.Author.Needs.{needs}
+use borrow.Author.Tests.{not-true, not-false}
+use Rattle.grid.specs.declared.Corner.{Corner}
+use Rattle.grid.specs.Tree.{parentOf, isRoot, sizeOf}
+use Rattle.grid.proofs.PathLaws.{sizeOf-parentOf}
+use Rattle.walk_plant.proofs.GrowLaws.{Climbed, climb-start, climb-next, climb-end}
+use Rattle.walk_plant.proofs.depth.Statement.{statement}
+use Rattle.walk_plant.proofs.depth.Tie as tie
+
+abbrev Inv-loop : tie.InvT-loop
+Inv-loop at₀ levels₀ at levels = Climbed at₀ at levels
+
+abbrev μ-loop : tie.MeasureT-loop
+μ-loop at₀ levels₀ at levels = sizeOf at
+
+loop-holds : tie.Need-loop-holds Inv-loop μ-loop
+loop-holds c = climb-start (c .args .c)
+
+is-root-requires : tie.Need-is-root-requires Inv-loop μ-loop
+is-root-requires c κs = search needs
+
+parent-of-requires : tie.Need-parent-of-requires Inv-loop μ-loop
+parent-of-requires c κs = search needs
+
+add-levels : tie.Need-add-levels Inv-loop μ-loop
+add-levels c =
+    let l = c .before .before .before .loop in
+    let n = c .before .before .before .before .pre in
+    omega (arith, l .inv .few, n .0, n .1)
+
+less : (a b : Corner) → isRoot a ≡ false → b ≡ parentOf a → sizeOf b < sizeOf a
+less a b e q = subst (λ (x : Corner). sizeOf x < sizeOf a) (sym q) (sizeOf-parentOf a e)
+
+loop-less : tie.Need-loop-less Inv-loop μ-loop
+loop-less c = let l = c .before .before .before .loop in less (l .at) (c .parent-of .result) (sym (c .before .before .is-root .ensures) ∙ not-true (c .before .before .is-root .result) (c .before .if1 .taken)) (c .parent-of .ensures)
+
+loop-again : tie.Need-loop-again Inv-loop μ-loop
+loop-again c = let l = c .before .before .before .loop in climb-next (c .before .before .before .before .args .c) (l .at) (c .parent-of .result) (l .levels) (l .inv) (sym (c .before .before .is-root .ensures) ∙ not-true (c .before .before .is-root .result) (c .before .if1 .taken)) (c .parent-of .ensures)
+
+returns : tie.Need-returns Inv-loop μ-loop
+returns c =
+    let l = c .before .before .loop in
+    let r = c .before .is-root in
+    climb-end (c .before .before .before .args .c) (l .at) (l .levels) (l .inv) (sym (r .ensures) ∙ not-false (r .result) (c .if1 .left))
+
+pub depth-spec : {M : Type 1} → statement M
+depth-spec =
+    tie.close
+    (tie.spec Inv-loop μ-loop loop-holds is-root-requires parent-of-requires add-levels loop-less loop-again returns)

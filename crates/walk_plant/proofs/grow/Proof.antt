@@ -1,0 +1,130 @@
+-- `walk_plant::grow` meets its contract. The invariant: the path to the left-th parent of c stands in the table, and nothing else.
+-- Assumes nothing.
+use mathlib.Core.List.{List}
+use mathlib.Core.Path.{_≡_, refl, ap, subst, _∙_}
+use Prim.Native.Nat.{ℕ, _+_, _-_, _<_, _≤_, max}
+use native.Mathlib.Omega.{arith}
+use borrow.Author.Needs.{needs}
+use lib.ListN.{length}
+use Rattle.grid.specs.declared.Corner.{Corner}
+use Rattle.grid.specs.Tree.{upBy, childWord}
+use Rattle.tree_laws.specs.State.{grown, Made}
+use Rattle.layout.proofs.ChildLaws.{childWord-range}
+use Rattle.table_laws.proofs.PlantLaws.{plantedOf}
+use Rattle.walk_plant.specs.Plants.{Deep}
+use Rattle.walk_plant.proofs.GrowLaws.{Growing, growing-start, growing-holds, growing-ref, growing-full, growing-next, growing-end, growing-none}
+use Rattle.walk_plant.proofs.grow.Statement.{statement}
+use Rattle.walk_plant.proofs.grow.Tie as tie
+
+abbrev Inv-loop : tie.InvT-loop
+Inv-loop t₀ c left₀ nodes₀ t left nodes = (length t ≡ length t₀) × Deep c left₀ × (left ≤ left₀) × Growing (length t₀) c t left nodes
+
+abbrev μ-loop : tie.MeasureT-loop
+μ-loop t₀ c left₀ nodes₀ t left nodes = left
+
+depth-requires : tie.Need-depth-requires Inv-loop μ-loop
+depth-requires c κs = search needs
+
+loop-holds : tie.Need-loop-holds Inv-loop μ-loop
+loop-holds c =
+    let s = c .before .before in
+    let d = c .depth in
+    (refl, d .ensures, omega arith, growing-start (length (s .args .t .now)) (s .args .c) (s .args .t .now) (d .result) (d .ensures) (s .pre .1) (s .pre .2))
+
+sub-left : tie.Need-sub-left Inv-loop μ-loop
+sub-left c = search needs
+
+up-by-requires : tie.Need-up-by-requires Inv-loop μ-loop
+up-by-requires c κs = search needs
+
+child-word-requires : tie.Need-child-word-requires Inv-loop μ-loop
+child-word-requires c κs = search needs
+
+sub-child : tie.Need-sub-child Inv-loop μ-loop
+sub-child c = let k = c .before .before .before .before .loop .inv .3 in omega (arith, k .some)
+
+-- one level down is what is left
+down : {words : ℕ} {c : Corner} {t : List ℕ} (left nodes : ℕ) → 0 < left → Growing words c t left nodes → Growing words c t ((left - 1) + 1) nodes
+down {words} {c} {t} left nodes h k = let e : left ≡ (left - 1) + 1 = omega arith in subst (λ (n : ℕ). Growing words c t n nodes) e k
+
+-- the word of a child
+worded : (p : ℕ) (e : Corner) → p ≡ childWord e → (0 < p) × (p < 10)
+worded p e q = let h = childWord-range e in (omega (arith, h .0), omega (arith, h .1))
+
+child-requires : tie.Need-child-requires Inv-loop μ-loop
+child-requires c κs =
+    let s = c .before .before .before .before .before .before .before in
+    let l = c .before .before .before .before .loop in
+    let k = down (l .left) (l .nodes) (omega (arith, c .before .before .before .loop-test .taken)) (l .inv .3) in
+    let w = worded (c .before .child-word .result) (c .before .before .up-by .result) (c .before .child-word .ensures) in
+    (record { state = plantedOf (upBy ((l .left - 1) + 1) (s .args .c)); holds = growing-holds (length (s .args .t .now)) (s .args .c) (l .t) (l .left - 1) (l .nodes) k (l .inv .0) }, (omega (arith, k .some), w .0, w .1, omega (arith, l .inv .0, s .pre .3)))
+
+same-length : tie.Need-same-length Inv-loop μ-loop
+same-length c = search needs
+
+returns : tie.Need-returns Inv-loop μ-loop
+returns c =
+    let s = c .before .before .before .before .before .before .before .before .before .before .before in
+    let W = length (s .args .t .now) in
+    let C = s .args .c in
+    let l = c .before .before .before .before .before .before .before .before .loop in
+    let n = l .left - 1 in
+    let m : 0 < l .left = omega (arith, c .before .before .before .before .before .before .before .loop-test .taken) in
+    let k = down (l .left) (l .nodes) m (l .inv .3) in
+    let b = c .before .before .before .child in
+    let p = c .before .before .before .before .before .child-word .ensures ∙ ap childWord (c .before .before .before .before .before .before .up-by .ensures) in
+    let deep = l .inv .1 .below n (omega (arith, l .inv .2)) in
+    let made : Made W (grown (plantedOf (upBy (n + 1) C)) (upBy n C) 0) (upBy n C) (b .last .0) (b .result) (max (l .nodes) (b .result)) =
+    subst (λ (x : ℕ). Made x (grown (plantedOf (upBy (n + 1) C)) (upBy n C) 0) (upBy n C) (b .last .0) (b .result) (max (l .nodes) (b .result))) (l .inv .0)
+    (b .ensures .0 (plantedOf (upBy (n + 1) C)) (upBy n C) (growing-holds W C (l .t) n (l .nodes) k (l .inv .0)) deep (growing-ref W C (l .t) n (l .nodes) k) p) in
+    growing-none W C (b .last .0) (growing-full W C (l .t) n (l .nodes) k deep (b .last .0) (b .result) (max (l .nodes) (b .result)) made (c .if1 .taken))
+
+loop-less : tie.Need-loop-less Inv-loop μ-loop
+loop-less c = search needs
+
+loop-again : tie.Need-loop-again Inv-loop μ-loop
+loop-again c =
+    let s = c .before .before .before .before .before .before .before .before .before .before .before in
+    let W = length (s .args .t .now) in
+    let C = s .args .c in
+    let l = c .before .before .before .before .before .before .before .before .loop in
+    let n = l .left - 1 in
+    let m : 0 < l .left = omega (arith, c .before .before .before .before .before .before .before .loop-test .taken) in
+    let k = down (l .left) (l .nodes) m (l .inv .3) in
+    let b = c .before .before .before .child in
+    let p = c .before .before .before .before .before .child-word .ensures ∙ ap childWord (c .before .before .before .before .before .before .up-by .ensures) in
+    let deep = l .inv .1 .below n (omega (arith, l .inv .2)) in
+    let made : Made W (grown (plantedOf (upBy (n + 1) C)) (upBy n C) 0) (upBy n C) (b .last .0) (b .result) (max (l .nodes) (b .result)) =
+    subst (λ (x : ℕ). Made x (grown (plantedOf (upBy (n + 1) C)) (upBy n C) 0) (upBy n C) (b .last .0) (b .result) (max (l .nodes) (b .result))) (l .inv .0)
+    (b .ensures .0 (plantedOf (upBy (n + 1) C)) (upBy n C) (growing-holds W C (l .t) n (l .nodes) k (l .inv .0)) deep (growing-ref W C (l .t) n (l .nodes) k) p) in
+    let same : length (b .last .0) ≡ length (l .t) = search needs in
+    (same ∙ l .inv .0, l .inv .1, omega (arith, l .inv .2), growing-next W C (l .t) n (l .nodes) k deep (b .last .0) (b .result) (max (l .nodes) (b .result)) made (c .if1 .left))
+
+same-length-2 : tie.Need-same-length-2 Inv-loop μ-loop
+same-length-2 c = search needs
+
+returns-2 : tie.Need-returns-2 Inv-loop μ-loop
+returns-2 c =
+    let s = c .before .before .before .before in
+    let l = c .before .loop in
+    growing-end (length (s .args .t .now)) (s .args .c) (l .t) (l .left) (l .nodes) (l .inv .3) (omega (arith, c .loop-test .left))
+
+pub grow-spec : {M : Type 1} → statement M
+grow-spec =
+    tie.close
+    (tie.spec
+    Inv-loop
+    μ-loop
+    depth-requires
+    loop-holds
+    sub-left
+    up-by-requires
+    child-word-requires
+    sub-child
+    child-requires
+    same-length
+    returns
+    loop-less
+    loop-again
+    same-length-2
+    returns-2)

@@ -1,0 +1,2 @@
+-- What planting a start asks and leaves.
+pub mod Plants
