@@ -1,7 +1,7 @@
 -- Refusals and verdicts as the numbers of RULES 1.6 and 6.1, and the first of several refusals. Assumes nothing.
 use Rattle.lists.specs.Lists.{Bool, true, false, List, [], _∷_, ℕ}
 use Rattle.answer.specs.declared.{Refusal.Refusal, Judged.Judged, Judged.the-variants.Good, Judged.the-variants.Refused, Verdict.Verdict}
-use Rattle.answer.specs.declared.Refusal.the-variants.{TooMany, Table, ResultRoom, BadDigit, NothingToTake, TooLong, NoRoom, HullRoom, BadLine, StartRange, NotRoom, PolygonRoom}
+use Rattle.answer.specs.declared.Refusal.the-variants.{TooMany, Table, ResultRoom, BadDigit, NothingToTake, TooLong, NoRoom, HullRoom, BadLine, StartRange, OutlineRoom, NotRoom, PolygonRoom, FileLength, FileKind, BadCoordinate, BadRing, ChainRoom, RetiredKind, SpanRoom}
 use Rattle.answer.specs.declared.Verdict.the-variants.{Nowhere, Open, Room, OpenMeeting, ClosedMeeting, ThereAndBack}
 
 -- the number of a refusal
@@ -16,8 +16,16 @@ refusalNumber (NoRoom i) = 7
 refusalNumber HullRoom = 8
 refusalNumber BadLine = 9
 refusalNumber StartRange = 10
+refusalNumber OutlineRoom = 11
 refusalNumber NotRoom = 12
 refusalNumber PolygonRoom = 13
+refusalNumber FileLength = 14
+refusalNumber FileKind = 15
+refusalNumber BadCoordinate = 16
+refusalNumber BadRing = 17
+refusalNumber ChainRoom = 18
+refusalNumber RetiredKind = 19
+refusalNumber SpanRoom = 21
 
 -- refusals without a place give 0
 abbrev pub refusalPlace : Refusal → ℕ
@@ -31,8 +39,16 @@ refusalPlace (NoRoom i) = i
 refusalPlace HullRoom = 0
 refusalPlace BadLine = 0
 refusalPlace StartRange = 0
+refusalPlace OutlineRoom = 0
 refusalPlace NotRoom = 0
 refusalPlace PolygonRoom = 0
+refusalPlace FileLength = 0
+refusalPlace FileKind = 0
+refusalPlace BadCoordinate = 0
+refusalPlace BadRing = 0
+refusalPlace ChainRoom = 0
+refusalPlace RetiredKind = 0
+refusalPlace SpanRoom = 0
 
 -- the number and the place of a judgement: 0 for both where nothing is refused
 abbrev pub judgedNumber : Judged → ℕ

@@ -20,8 +20,16 @@ pub enum Refusal {
     HullRoom,
     BadLine,
     StartRange,
+    OutlineRoom,
     NotRoom,
     PolygonRoom,
+    FileLength,
+    FileKind,
+    BadCoordinate,
+    BadRing,
+    ChainRoom,
+    RetiredKind,
+    SpanRoom,
 }
 
 // Whether there is a refusal.
@@ -79,8 +87,16 @@ pub fn refusal_number(r: Refusal) -> usize
         Refusal::HullRoom => 8,
         Refusal::BadLine => 9,
         Refusal::StartRange => 10,
+        Refusal::OutlineRoom => 11,
         Refusal::NotRoom => 12,
         Refusal::PolygonRoom => 13,
+        Refusal::FileLength => 14,
+        Refusal::FileKind => 15,
+        Refusal::BadCoordinate => 16,
+        Refusal::BadRing => 17,
+        Refusal::ChainRoom => 18,
+        Refusal::RetiredKind => 19,
+        Refusal::SpanRoom => 21,
     }
 }
 
@@ -99,8 +115,16 @@ pub fn refusal_place(r: Refusal) -> usize
         Refusal::HullRoom => 0,
         Refusal::BadLine => 0,
         Refusal::StartRange => 0,
+        Refusal::OutlineRoom => 0,
         Refusal::NotRoom => 0,
         Refusal::PolygonRoom => 0,
+        Refusal::FileLength => 0,
+        Refusal::FileKind => 0,
+        Refusal::BadCoordinate => 0,
+        Refusal::BadRing => 0,
+        Refusal::ChainRoom => 0,
+        Refusal::RetiredKind => 0,
+        Refusal::SpanRoom => 0,
     }
 }
 

@@ -69,10 +69,26 @@ pub enum Refusal {
     BadLine,
     /// A coordinate of the start is farther than [`MOST_START`] from 0.
     StartRange,
+    /// The buffer is shorter than the outline.
+    OutlineRoom,
     /// The walk is no room.
     NotRoom,
     /// The buffer is shorter than the polygon.
     PolygonRoom,
+    /// A file shorter than a polygon's head, or of another length than its points ask.
+    FileLength,
+    /// A file's byte order, type or ring count.
+    FileKind,
+    /// A coordinate of a file is no whole corner within the range.
+    BadCoordinate,
+    /// A slant, a repeated point, fewer than four points, or a ring that is not closed.
+    BadRing,
+    /// The buffer is shorter than the chain.
+    ChainRoom,
+    /// A frame of a kind that is walked no more.
+    RetiredKind,
+    /// The buffer is shorter than three numbers a span.
+    SpanRoom,
 }
 
 impl Refusal {
@@ -89,13 +105,21 @@ impl Refusal {
             8 => Refusal::HullRoom,
             9 => Refusal::BadLine,
             10 => Refusal::StartRange,
+            11 => Refusal::OutlineRoom,
             12 => Refusal::NotRoom,
             13 => Refusal::PolygonRoom,
+            14 => Refusal::FileLength,
+            15 => Refusal::FileKind,
+            16 => Refusal::BadCoordinate,
+            17 => Refusal::BadRing,
+            18 => Refusal::ChainRoom,
+            19 => Refusal::RetiredKind,
+            21 => Refusal::SpanRoom,
             _ => return None,
         })
     }
 
-    /// The number, 1 to 13.
+    /// The number.
     pub fn number(self) -> u32 {
         match self {
             Refusal::TooMany => 1,
@@ -108,8 +132,16 @@ impl Refusal {
             Refusal::HullRoom => 8,
             Refusal::BadLine => 9,
             Refusal::StartRange => 10,
+            Refusal::OutlineRoom => 11,
             Refusal::NotRoom => 12,
             Refusal::PolygonRoom => 13,
+            Refusal::FileLength => 14,
+            Refusal::FileKind => 15,
+            Refusal::BadCoordinate => 16,
+            Refusal::BadRing => 17,
+            Refusal::ChainRoom => 18,
+            Refusal::RetiredKind => 19,
+            Refusal::SpanRoom => 21,
         }
     }
 
