@@ -54,7 +54,7 @@ extern "C" {
 #define UNDRWYTH_LINE_BYTES 8240           /* bytes of a buffer that holds the answer to any line */
 
 /* Bytes of stack that a call needs, rounded up from what include/stack.c measured on x86-64 and on 64-bit ARM. */
-#define UNDRWYTH_WALK_STACK_BYTES 2048     /* 1,648 measured */
+#define UNDRWYTH_WALK_STACK_BYTES 1024     /* 424 measured on x86-64 */
 #define UNDRWYTH_HULL_STACK_BYTES 132096   /* 131,480 measured; 131,080 are its working store */
 #define UNDRWYTH_POLYGON_STACK_BYTES 132096 /* 131,216 measured; 131,080 are its working store */
 #define UNDRWYTH_TURNS_STACK_BYTES 256     /* 48 measured */

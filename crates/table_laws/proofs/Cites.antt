@@ -90,7 +90,7 @@ module _ (t : List ℕ) (n u : ℕ) (c : Corner) (d s : ℕ) (S : State) (h : Ho
       (ap₂ (λ (x : List ℕ) (m : ℕ). neighbourIn f x m u c d s) (sym (h .table)) (sym (h .count)) ∙ q)
       (neighbour-made (length t) S (h .sound) s d pos small room f c u k r)
 
-  -- `neighbour`: linked already
+  -- the neighbour is linked already
   pub near-known : (k : ℕ) → k ≡ getD t (wordAt u (neighbourWord d)) 0 → (k ≡ 0 → ⊥) → Reaches t k n
   near-known zero e f = absurd (f refl)
   near-known (suc k) e f = near-holds (suc (sizeOf c)) (omega arith) (out t (suc k) n) (rw (sym e, neighbourIn))
@@ -116,13 +116,7 @@ module _ (t : List ℕ) (n u : ℕ) (c : Corner) (d s : ℕ) (S : State) (h : Ho
       let w : suc k - 1 ≡ k = omega arith in
       rw w (join-made (length t) S (h .sound) s d pos small room c u r g (not-linked e) (out t₂ (suc k) n₂) m)
 
-  -- `above`
-  up : isRoot c ≡ false → getD t (wordAt u parentWord) 0 ≡ refOf (S .nodes) (parentOf c)
-  up g = ap (λ (x : List ℕ). getD x (wordAt u parentWord) 0) (h .table) ∙ read-parent (length t) S c u r ∙ rw g
-
-  pub parent-ref : isRoot c ≡ false → (k : ℕ) → k ≡ getD t (wordAt u parentWord) 0 → refOf (S .nodes) (parentOf c) ≡ suc (k - 1)
-  parent-ref g k e = omega (arith, up g, ref-pos (S .nodes) (parentOf c) (h .sound .good .closed c (mem-of-ref (S .nodes) c u r) g))
-
+  -- the parent of the neighbour
   raise : (call : ℕ → Corner → Out) → isRoot (stepped d c) ≡ false
       → ((v : ℕ) → isRoot c ≡ false → refOf (S .nodes) (parentOf c) ≡ suc v → Made (length t) (reached S s (parentOf c) (stepped d (parentOf c))) (stepped d (parentOf c)) (call v (parentOf c) .table) (call v (parentOf c) .at) (call v (parentOf c) .nodes))
       → (o : Out) → aboveIn call t n u c (stepped d c) ≡ o → Raises (o .table) (o .at) (o .nodes)
@@ -132,7 +126,7 @@ module _ (t : List ℕ) (n u : ℕ) (c : Corner) (d s : ℕ) (S : State) (h : Ho
   looked : ℕ → Corner → Out
   looked v p = neighbourIn (suc (sizeOf p)) (tableBy (length t) S) (length (S .nodes)) v p d s
 
-  -- c is the root; one parent; or the call on the parent
+  -- c is the root; one parent; or the lookup one level up
   pub above-root : isRoot (stepped d c) ≡ false → isRoot c ≡ true → Raises t (u + 1) n
   above-root g i = raise (λ v p. out t 0 n) g (λ v k q. absurd (true≢false (sym i ∙ k))) (out t (u + 1) n) (rw (i, aboveIn))
 
@@ -144,7 +138,7 @@ module _ (t : List ℕ) (n u : ℕ) (c : Corner) (d s : ℕ) (S : State) (h : Ho
       → Made (length t) (reached S s (parentOf c) (stepped d (parentOf c))) (stepped d (parentOf c)) t₁ a₁ n₁ → Raises t₁ a₁ n₁
   above-call g i j t₁ a₁ n₁ m = raise (λ v p. out t₁ a₁ n₁) g (λ v k q. m) (out t₁ a₁ n₁) (rw (i, aboveIn) (rw j))
 
-  -- after `above`: the state of the parents, and the parent of the neighbour in it
+  -- the state of the parents, and the parent of the neighbour in it
   pub over-holds : isRoot (stepped d c) ≡ false → (t₁ : List ℕ) (a₁ n₁ : ℕ) → Raises t₁ a₁ n₁ → (a₁ ≡ 0 → ⊥)
       → Holds t₁ n₁ (raised S s c (stepped d c)) × (refOf (raised S s c (stepped d c) .nodes) (parentOf (stepped d c)) ≡ suc (a₁ - 1)) × (length t₁ ≡ length t)
   over-holds g t₁ a₁ n₁ m f =

@@ -1,6 +1,5 @@
 -- A node that a lookup makes is the last one, so that the nodes in use are the greater of those before and its ref.
 -- Assumes nothing.
-use mathlib.Core.Bool.{Bool, true, false}
 use mathlib.Core.List.{List, [], _∷_, _++_, append-nil, append-assoc, List·Memᴰ, List·Memᴰ·head}
 use mathlib.Core.Logic.{_⊎_, inl, inr}
 use mathlib.Core.Path.{_≡_, refl, ap, sym, _∙_, subst}
@@ -9,13 +8,13 @@ use native.Mathlib.Omega.{arith}
 use lib.ListN.{length, length-append}
 use Rattle.grid.specs.declared.Corner.{Corner}
 use Rattle.grid.specs.Grid.{same}
-use Rattle.grid.specs.Tree.{root, parentOf, isRoot, pathOf}
+use Rattle.grid.specs.Tree.{root, pathOf}
 use Rattle.grid.proofs.CornerLaws.{same-sound, same-refl}
 use Rattle.lists.specs.Lists.{gather, Distinct}
 use Rattle.lists.proofs.FindLaws.{find-le, distinct-split}
 use Rattle.lists.proofs.GatherLaws.{distinct-gather}
 use Rattle.tree.specs.Nodes.{refOf}
-use Rattle.tree_laws.specs.State.{State, Sound, grown, raised, reached, Made, Holds}
+use Rattle.tree_laws.specs.State.{State, Sound, grown, reached, Made, Holds}
 use Rattle.tree_laws.proofs.AddLaws.{ref-snoc, Fresh, fresh}
 use Rattle.table_laws.proofs.StateLaws.{by-mem, grown-known, grown-new}
 
@@ -50,14 +49,6 @@ path-last S sound e = subst (λ (ns : List Corner). Last (length (S .nodes)) ns 
         let q : S .nodes ++ f .new ≡ (S .nodes ++ p .0) ++ (e ∷ []) = ap (λ (l : List Corner). S .nodes ++ l) (p .1) ∙ sym (append-assoc (S .nodes) (p .0) (e ∷ [])) in
         subst (λ (ns : List Corner). Last (length (S .nodes)) ns e) (sym q) (snoc-last (S .nodes) (p .0) e (distinct-split (S .nodes ++ p .0) [] e (subst Distinct q apart)))
 
-raised-last : (S : State) → Sound S → (s : ℕ) (a e : Corner) → Last (length (S .nodes)) (raised S s a e .nodes) (parentOf e)
-raised-last S sound s a e = go (isRoot a) refl (same (parentOf a) (parentOf e)) refl
-  where
-    go : (b : Bool) → isRoot a ≡ b → (q : Bool) → same (parentOf a) (parentOf e) ≡ q → Last (length (S .nodes)) (raised S s a e .nodes) (parentOf e)
-    go true p q k = rw (p, raised) (same-last (S .nodes) (parentOf e))
-    go false p true k = rw (p, k, raised) (same-last (S .nodes) (parentOf e))
-    go false p false k = rw (p, k, raised) (path-last S sound (parentOf e))
-
 made-last : (words n : ℕ) (T : State) (e : Corner) (t : List ℕ) (a m : ℕ) → Last n (T .nodes) e → Made words T e t a m → Made words T e t a (max n a)
 made-last words n T e t a m l made = record {
   fits = λ h. let g = made .fits h in (g .0, g .1, ap (max n) (g .1) ∙ sym l);
@@ -71,6 +62,3 @@ module _ (t : List ℕ) (n : ℕ) (S : State) (h : Holds t n S) (words s : ℕ) 
 
   pub near-last : (c e : Corner) → Made words (reached S s c e) e t′ a m → Made words (reached S s c e) e t′ a (max n a)
   near-last c e = made-last words n (reached S s c e) e t′ a m (rw (h .count) (path-last S (h .sound) e))
-
-  pub above-last : (c e : Corner) → Made words (raised S s c e) (parentOf e) t′ a m → Made words (raised S s c e) (parentOf e) t′ a (max n a)
-  above-last c e = made-last words n (raised S s c e) (parentOf e) t′ a m (rw (h .count) (raised-last S (h .sound) s c e))

@@ -1,5 +1,6 @@
--- The code's stores on a table, as functions on lists: the lookup, the visit, and the take-back.
--- A recursion's first argument bounds how often it goes up; more than the node's size is enough.
+-- The code's stores on a table, as functions on lists: the lookup, the visit, and the take-back. The lookup is a recursion from each
+-- level to the one above it, which the code does by a loop up and a loop down; its first argument bounds how often it goes up, and more
+-- than the node's size is enough.
 -- Assumes nothing.
 use mathlib.Core.Bool.{true, false}
 use mathlib.Core.List.{List}
@@ -40,7 +41,7 @@ joinIn v u d s = elim (v .at) [ zero ↦ v | suc k ↦ out (linkIn (v .table) u 
 abbrev pub finishIn : Out → ℕ → Corner → ℕ → ℕ → Out
 finishIn o u e d s = elim (o .at) [ zero ↦ o | suc p ↦ joinIn (childIn (o .table) (o .nodes) p (childWord e) s) u d s ]
 
--- `above`, with the call of `neighbour` on the parent as its argument
+-- the parent of e, the neighbour of c, which is node u; the lookup of the parent's neighbour is its first argument
 abbrev pub aboveIn : (ℕ → Corner → Out) → List ℕ → ℕ → ℕ → Corner → Corner → Out
 aboveIn call t n u c e =
     elim (isRoot c) [

@@ -46,6 +46,11 @@ impl Corner {
         }
     }
 
+    /// The i-th parent, where the root is its own.
+    fn up_by(self, i: u32) -> Corner {
+        (0..i).fold(self, |c, _| c.parent())
+    }
+
     /// The word of the parent's record that holds this corner's ref.
     fn child_word(self) -> usize {
         let side = |v: i32| match v {
@@ -78,11 +83,12 @@ impl<'a> Tree<'a> {
 
     /// The node of the corner, made with its ancestors where they are not there.
     fn planted(&mut self, c: Corner) -> Option<usize> {
-        if c == ROOT {
-            return Some(0);
+        let depth = (0..).find(|&i| c.up_by(i) == ROOT)?;
+        let mut node = 0;
+        for i in (0..depth).rev() {
+            node = self.child(node, c.up_by(i).child_word(), 0)?;
         }
-        let up = self.planted(c.parent())?;
-        self.child(up, c.child_word(), 0)
+        Some(node)
     }
 
     fn word(&self, node: usize, word: usize) -> u32 {
@@ -135,8 +141,37 @@ impl<'a> Tree<'a> {
         Some(node)
     }
 
-    /// The neighbour of the node `u` of corner `c`, found or made by the step; none where there is no room.
+    /// The neighbour of the node `u` of corner `c`, found or made by the step; none where there is no room. It climbs to the level
+    /// of a link, the root or a shared parent, and makes the link of each level on the way down.
     pub fn neighbour(&mut self, u: usize, c: Corner, way: u8, step: u32) -> Option<usize> {
+        if let Some(known) = self.linked(u, way) {
+            return Some(known);
+        }
+        let (mut node, mut at, mut level) = (u, c, 0);
+        while self.goes_up(node, at, way) {
+            node = self.node(node, PARENT).expect("it is no root");
+            at = at.parent();
+            level += 1;
+        }
+        let mut to = self.top(node, at, way, step)?;
+        for left in (0..level).rev() {
+            let at = c.up_by(left);
+            let down = self.node(node, at.child_word());
+            node = down.expect("the climb came this way");
+            to = self.child(to, at.stepped(way).child_word(), step)?;
+            self.set_link(node, to, way, step);
+        }
+        Some(to)
+    }
+
+    /// Whether the neighbour is looked up by its parents: there is no link, neither is the root, and the parents differ.
+    fn goes_up(&self, u: usize, c: Corner, way: u8) -> bool {
+        let e = c.stepped(way);
+        self.linked(u, way).is_none() && e != ROOT && c != ROOT && c.parent() != e.parent()
+    }
+
+    /// The neighbour at the level where a climb stopped.
+    fn top(&mut self, u: usize, c: Corner, way: u8, step: u32) -> Option<usize> {
         if let Some(known) = self.linked(u, way) {
             return Some(known);
         }
@@ -144,23 +179,11 @@ impl<'a> Tree<'a> {
         let v = if e == ROOT {
             0
         } else {
-            let above = self.above(u, c, e, way, step)?;
-            self.child(above, e.child_word(), step)?
+            let over = self.node(u, PARENT).unwrap_or(u);
+            self.child(over, e.child_word(), step)?
         };
         self.set_link(u, v, way, step);
         Some(v)
-    }
-
-    /// The parent of the neighbour `e` of `c`: `c` itself where it is the root, the shared parent, or the parent's neighbour.
-    fn above(&mut self, u: usize, c: Corner, e: Corner, way: u8, step: u32) -> Option<usize> {
-        let Some(up) = self.node(u, PARENT) else {
-            return Some(u);
-        };
-        let parent = c.parent();
-        if parent == e.parent() {
-            return Some(up);
-        }
-        self.neighbour(up, parent, way, step)
     }
 
     /// Counts a visit as corner k of the walk, and answers the k of the first visit here if there was one.
