@@ -91,6 +91,19 @@ static void room_as_polygon(void) {
     CHECK(memcmp(out + 13, start, sizeof start) == 0 && memcmp(out + 77, start, sizeof start) == 0);
 }
 
+static void room_by_rows(void) {
+    const uint8_t u[] = {0, 0, 0, 1, 1, 2, 3, 2, 1, 2, 3, 3}, back[] = {0, 2};
+    const int32_t spans[] = {5, -3, -1, 6, -3, -3, 6, -1, -1, 7}, kept[] = {7, 7, 7, 7, 7, 7, 7, 7, 7, 7};
+    int32_t out[] = {7, 7, 7, 7, 7, 7, 7, 7, 7, 7};
+    uint32_t answer[UNDRWYTH_ROWS_ANSWER_WORDS];
+    CHECK(undrwyth_rows(0, 0, back, 2, out, 0, answer) == UNDRWYTH_REFUSAL_NOT_ROOM);
+    CHECK(undrwyth_rows(16385, 0, u, LENGTH(u), out, LENGTH(out), answer) == UNDRWYTH_REFUSAL_START_RANGE);
+    CHECK(undrwyth_rows(-3, 5, u, LENGTH(u), out, 8, answer) == UNDRWYTH_REFUSAL_SPAN_ROOM);
+    CHECK(SAME(out, kept) && answer[UNDRWYTH_ROWS_SPANS] == 0);
+    CHECK(undrwyth_rows(-3, 5, u, LENGTH(u), out, LENGTH(out), answer) == UNDRWYTH_ACCEPTED);
+    CHECK(SAME(out, spans) && answer[UNDRWYTH_ROWS_SPANS] == 3);
+}
+
 static void starts(void) {
     const uint8_t ops[] = {0, 4};
     uint32_t table[17 * UNDRWYTH_RECORD_WORDS], marks[4], answer[UNDRWYTH_WALK_ANSWER_WORDS];
@@ -139,6 +152,7 @@ int main(void) {
     walks_refused();
     hull_of_a_crossing();
     room_as_polygon();
+    room_by_rows();
     starts();
     turns_and_back();
     lines();

@@ -38,6 +38,8 @@ static void hull(void) { undrwyth_hull(-16384, 16384, digits, count, numbers, si
 
 static void polygon(void) { undrwyth_polygon_of_room(-7, 5, digits, count, file, sizeof file, answer); }
 
+static void rows(void) { undrwyth_rows(-7, 5, digits, count, numbers, sizeof numbers / sizeof numbers[0], answer); }
+
 static void turns(void) {
     undrwyth_turns_of_steps(digits, count, chain, count, answer);
     undrwyth_steps_of_turns(digits, count, chain, count, answer);
@@ -107,6 +109,7 @@ int main(void) {
         {"undrwyth_walk", walk, UNDRWYTH_WALK_STACK_BYTES},
         {"undrwyth_hull", hull, UNDRWYTH_HULL_STACK_BYTES},
         {"undrwyth_polygon_of_room", polygon, UNDRWYTH_POLYGON_STACK_BYTES},
+        {"undrwyth_rows", rows, UNDRWYTH_ROWS_STACK_BYTES},
         {"undrwyth_turns_of_steps, undrwyth_steps_of_turns", turns, UNDRWYTH_TURNS_STACK_BYTES},
         {"undrwyth_line", line, UNDRWYTH_LINE_STACK_BYTES},
     };

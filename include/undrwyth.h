@@ -51,17 +51,19 @@ extern "C" {
 #define UNDRWYTH_CORNER_NUMBERS 2          /* numbers a hull corner: x, y */
 #define UNDRWYTH_POLYGON_HEADER_BYTES 13   /* bytes of a polygon before its points */
 #define UNDRWYTH_POINT_BYTES 16            /* bytes of a point: x, y */
+#define UNDRWYTH_SPAN_NUMBERS 3            /* numbers a span of panels: row, first panel, last panel */
 #define UNDRWYTH_LINE_BYTES 8240           /* bytes of a buffer that holds the answer to any line */
 
 /* Bytes of stack that a call needs, rounded up from what include/stack.c measured on x86-64 and on 64-bit ARM. */
 #define UNDRWYTH_WALK_STACK_BYTES 1024     /* 424 measured on x86-64 */
 #define UNDRWYTH_HULL_STACK_BYTES 132096   /* 131,480 measured; 131,080 are its working store */
 #define UNDRWYTH_POLYGON_STACK_BYTES 132096 /* 131,216 measured; 131,080 are its working store */
+#define UNDRWYTH_ROWS_STACK_BYTES 263168   /* 262,376 measured: the working stores of the judgement and of the rows */
 #define UNDRWYTH_TURNS_STACK_BYTES 256     /* 48 measured */
 #define UNDRWYTH_LINE_STACK_BYTES 184320   /* 183,992 measured: a table, marks, hull numbers, and the hull's store */
 
 /* Refusals, in the order in which they are looked for: 1, 2, 3, 10; then 4, 5, 6 at the first faulty place; then 7, at
- * its first place; then 12; 8 and 13 last. */
+ * its first place; then 12; 8, 13 and 21 last. */
 #define UNDRWYTH_ACCEPTED 0
 #define UNDRWYTH_REFUSAL_TOO_MANY 1        /* more than UNDRWYTH_MOST_INPUT_BYTES input bytes */
 #define UNDRWYTH_REFUSAL_TABLE 2           /* words not UNDRWYTH_RECORD_WORDS times 1 to UNDRWYTH_MOST_RECORDS */
@@ -76,6 +78,7 @@ extern "C" {
 #define UNDRWYTH_REFUSAL_START_RANGE 10    /* a coordinate of the start beyond UNDRWYTH_MOST_START */
 #define UNDRWYTH_REFUSAL_NOT_ROOM 12       /* the walk is no room */
 #define UNDRWYTH_REFUSAL_POLYGON_ROOM 13   /* a buffer shorter than the polygon */
+#define UNDRWYTH_REFUSAL_SPAN_ROOM 21      /* a buffer shorter than three numbers a span */
 
 /* Words of the answer to a walk. The first meeting is the j < k with pj = pk and the least k. */
 #define UNDRWYTH_WALK_ANSWER_WORDS 11
@@ -112,6 +115,12 @@ extern "C" {
 #define UNDRWYTH_POLYGON_NUMBER 0          /* the refusal's number */
 #define UNDRWYTH_POLYGON_PLACE 1           /* the refusal's place */
 #define UNDRWYTH_POLYGON_BYTES 2           /* how many bytes the polygon has */
+
+/* Words of the answer to a room that is listed by rows. */
+#define UNDRWYTH_ROWS_ANSWER_WORDS 3
+#define UNDRWYTH_ROWS_NUMBER 0             /* the refusal's number */
+#define UNDRWYTH_ROWS_PLACE 1              /* the refusal's place */
+#define UNDRWYTH_ROWS_SPANS 2              /* how many spans */
 
 /* Words of the answer to a conversion between steps and turns. */
 #define UNDRWYTH_TURNS_ANSWER_WORDS 2
@@ -204,6 +213,24 @@ uint32_t undrwyth_polygon_of_room(int32_t start_x, int32_t start_y,
                                   const uint8_t *chain, size_t n,
                                   uint8_t *out, size_t out_bytes,
                                   uint32_t answer[UNDRWYTH_POLYGON_ANSWER_WORDS]);
+
+/* Lists the panels inside a room by rows, as spans of panels: three numbers each, row, first panel and last panel.
+ *
+ * The room is the walk of the n steps in chain from the corner (start_x, start_y). The panel (x,y) is the one between
+ * the corners (x,y) and (x+1,y+1), and y is its row. It is inside where an odd number of the room's vertical edges in
+ * its row have x above the panel's.
+ *
+ * out_numbers is at least three a span. There are half as many spans as steps north and south; any length is taken,
+ * 3 * n / 2 is always enough.
+ *
+ * Accepted: out begins with the spans, rows from south to north and in each row from west to east. Each is as long as
+ * possible, and none touch. Their lengths add up to the magnitude of the room's area. The numbers after them are as
+ * they were.
+ * Refused with 1, 10, 4, 6, 12 or 21, in this order: out is as it was. */
+uint32_t undrwyth_rows(int32_t start_x, int32_t start_y,
+                       const uint8_t *chain, size_t n,
+                       int32_t *out, size_t out_numbers,
+                       uint32_t answer[UNDRWYTH_ROWS_ANSWER_WORDS]);
 
 /* Turns n steps into turns: the first is the first step, each later one that step minus the one before, modulo 4.
  *

@@ -22,7 +22,7 @@ pub record InRow (b a : ℤ) (n : ℕ) (p : Panel) : Type 0 where
   pub west : a ≤ℤ p .0
   pub east : p .0 <ℤ (a +ℤ pos n)
 
-row-mem : (b a : ℤ) (n : ℕ) (p : Panel) → List·Memᴰ p (panelRow b a n) → InRow b a n p
+pub row-mem : (b a : ℤ) (n : ℕ) (p : Panel) → List·Memᴰ p (panelRow b a n) → InRow b a n p
 row-mem b a zero p m = absurd (List·Memᴰ·not-nil m)
 row-mem b a (suc n) p m = ⊎-elim here (λ k. next (row-mem b (sucℤ a) n p k)) (List·Memᴰ·cases-cons m)
   where
@@ -32,7 +32,7 @@ row-mem b a (suc n) p m = ⊎-elim here (λ k. next (row-mem b (sucℤ a) n p k)
     next : InRow b (sucℤ a) n p → InRow b a (suc n) p
     next h = record { row = h .row; west = omega (zarith, h .west, bal-suc a); east = omega (zarith, h .east, bal-suc a, bal+ (sucℤ a) (pos n), bal+ a (pos (suc n))) }
 
-mem-row : (b a : ℤ) (n : ℕ) (p : Panel) → InRow b a n p → List·Memᴰ p (panelRow b a n)
+pub mem-row : (b a : ℤ) (n : ℕ) (p : Panel) → InRow b a n p → List·Memᴰ p (panelRow b a n)
 mem-row b a zero p h = absurd (omega (zarith, h .west, h .east, bal+ a (pos 0)))
 mem-row b a (suc n) p h =
     ⊎-elim
@@ -40,7 +40,7 @@ mem-row b a (suc n) p h =
     (λ k. List·Memᴰ·head (ap₂ (λ (x y : ℤ). panelAt (corner x y)) (omega (zarith, h .west, k, bal-suc a)) (h .row)))
     (le-or-lt (sucℤ a) (p .0))
 
-row-once : (b a : ℤ) (n : ℕ) → Distinct (panelRow b a n)
+pub row-once : (b a : ℤ) (n : ℕ) → Distinct (panelRow b a n)
 row-once b a zero = tt
 row-once b a (suc n) = ((λ m. omega (zarith, row-mem b (sucℤ a) n (panelAt (corner a b)) m .west, bal-suc a)), row-once b (sucℤ a) n)
 

@@ -9,6 +9,8 @@ pub mod AloneLaws
 pub mod CallLaws
 pub mod DigitLaws
 pub mod RoomCallLaws
+pub mod RowCallLaws
 pub mod Area
 pub mod Polygon
+pub mod Rows
 pub mod Demand

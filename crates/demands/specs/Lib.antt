@@ -4,5 +4,6 @@ pub mod Given
 pub mod GivenTurns
 pub mod GivenHull
 pub mod GivenRoom
+pub mod GivenRows
 pub mod Record
 pub mod Alone

@@ -91,14 +91,14 @@ far-y (suc zero) p = one-on (p .1)
 far-y (suc (suc zero)) p = none-on (p .1)
 far-y (suc (suc (suc d))) p = one-back (p .1)
 
-move-x : (d x : ℕ) (p : Corner) (o : ℤ) → 0 < x → p .0 ≡ o +ℤ pos x → stepped d p .0 ≡ o +ℤ pos (colAfter x d)
+pub move-x : (d x : ℕ) (p : Corner) (o : ℤ) → 0 < x → p .0 ≡ o +ℤ pos x → stepped d p .0 ≡ o +ℤ pos (colAfter x d)
 unfolding colAfter
 move-x zero x p o l e = up-one (p .0) o x e
 move-x (suc zero) x p o l e = e
 move-x (suc (suc zero)) x p o l e = down-one (p .0) o x l e
 move-x (suc (suc (suc d))) x p o l e = e
 
-move-y : (d y : ℕ) (p : Corner) (o : ℤ) → 0 < y → p .1 ≡ o +ℤ pos y → stepped d p .1 ≡ o +ℤ pos (rowAfter y d)
+pub move-y : (d y : ℕ) (p : Corner) (o : ℤ) → 0 < y → p .1 ≡ o +ℤ pos y → stepped d p .1 ≡ o +ℤ pos (rowAfter y d)
 unfolding rowAfter
 move-y zero y p o l e = e
 move-y (suc zero) y p o l e = up-one (p .1) o y e

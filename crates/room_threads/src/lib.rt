@@ -9,7 +9,8 @@ ghost use Rattle.hull_laws.specs.Columns.{middle};
 ghost use lib.ListN.{length, getD};
 ghost use Rattle.room_thread_laws.specs.Threads.{Leads, Followed, Parted, Stays, Laid, Store, Scattered, Closes, Told};
 
-fn wide(c: u16) -> usize
+// A number of 16 bits, to count with.
+pub fn wide(c: u16) -> usize
     ensures { λ r. ⌜ (r ≡ c) × (r < 65536) ⌝ }
 {
     c as usize
@@ -103,7 +104,7 @@ fn closes(chain: &[u8]) -> bool
 }
 
 // Where the walk starts in the working store: a closed walk stays within half its steps of it.
-fn start(n: usize) -> u16
+pub fn start(n: usize) -> u16
     requires { ⌜ n ≤ middle ⌝ }
     ensures { λ r. ⌜ (n < 2 * r) × (2 * r ≤ n + 2) ⌝ }
 {

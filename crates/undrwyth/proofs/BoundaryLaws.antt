@@ -13,7 +13,7 @@ use Rattle.answer.specs.declared.Answer.{Answer}
 use Rattle.answer.specs.declared.Counted.{Counted}
 use Rattle.answer.specs.declared.Judged.{Judged}
 use Rattle.answer.specs.declared.Judged.the-variants.{Good, Refused}
-use Rattle.answer.specs.declared.Refusal.the-variants.{TooMany, ResultRoom, BadDigit, TooLong, HullRoom, StartRange, NotRoom, PolygonRoom}
+use Rattle.answer.specs.declared.Refusal.the-variants.{TooMany, ResultRoom, BadDigit, TooLong, HullRoom, StartRange, NotRoom, PolygonRoom, SpanRoom}
 use Rattle.answer.specs.Limits.{startFits}
 use Rattle.answer.specs.Refusal.{when, orElse, judgedPlace}
 use Rattle.walk_call.specs.Walk.{walkJudged, factsOf, answerBy, WalkIs}
@@ -24,7 +24,9 @@ use Rattle.steps.specs.Turns.{digitsJudged, turnsJudged}
 use Rattle.room.specs.Room.{isRoom, asRoomJudged}
 use Rattle.polygon.specs.Polygon.{polygonOf, polygonJudged, PolygonCall}
 use Rattle.polygon_laws.proofs.WriteLaws.{polygon-few}
-use Rattle.answer.proofs.RefusalLaws.{refused-not-good}
+use Rattle.row_call.specs.Call.{rowsJudged, RowsCall}
+use Rattle.row_laws.proofs.CallLaws.{rows-few}
+use Rattle.answer.proofs.RefusalLaws.{refused-not-good, orElse-good}
 use Rattle.walk_call.proofs.SmallLaws.{Placed, placed-when, placed-or, walk-placed, walk-few}
 use Rattle.hull_laws.proofs.HullLaws.{hull-count-steps}
 use Rattle.undrwyth.specs.Words.{AnswerFits, CountedFits}
@@ -114,3 +116,17 @@ polygon-fits s ds before r after w = subst CountedFits (sym (w .answer)) (go (po
     go : (j : Judged) → polygonJudged s ds (length before) ≡ j → CountedFits (countedOf (polygonJudged s ds (length before)) (length (polygonOf s ds)))
     go Good e = let k = polygon-few s ds (length before) e in rw e (omega (arith, k .0, k .1))
     go (Refused x) e = rw e (omega (arith, subst (Placed 32768) e (polygon-placed s ds (length before))))
+
+rows-placed : (s : Corner) (ds : List ℕ) (room n : ℕ) → Placed 32768 (rowsJudged s ds room n)
+rows-placed s ds room n =
+    let p = ltb room (3 * n) in
+    placed-or 32768 (asRoomJudged s ds) (orElse (when p SpanRoom) Good) (room-placed s ds) (placed-or 32768 (when p SpanRoom) Good (placed-when 32768 p SpanRoom (omega arith)) tt)
+
+pub rows-fit : (s : Corner) (ds : List ℕ) (before : List ℤ) (r : Counted) (after : List ℤ) → RowsCall s ds before r after → CountedFits r
+rows-fit s ds before r after w = subst CountedFits (sym (w .answer)) (go (rowsJudged s ds (length before) (length (w .list))) refl)
+  where
+    go : (j : Judged) → rowsJudged s ds (length before) (length (w .list)) ≡ j → CountedFits (countedOf (rowsJudged s ds (length before) (length (w .list))) (length (w .list)))
+    go Good e =
+        let g = orElse-good (asRoomJudged s ds) (orElse (when (ltb (length before) (3 * length (w .list))) SpanRoom) Good) e .0 in
+        rw e (omega (arith, rows-few s ds g (w .list) (w .rows g)))
+    go (Refused x) e = rw e (omega (arith, subst (Placed 32768) e (rows-placed s ds (length before) (length (w .list)))))

@@ -11,7 +11,8 @@ use Rattle.line_reply.specs.Reply.{LineIs}
 use Rattle.line_reply.proofs.ReplyLaws as replyLaws
 use Rattle.demands.proofs.Demand.{walkIs-one, hullCall-one, turns-one}
 use Rattle.demands.proofs.Polygon.{polygonCall-one}
-use Rattle.undrwyth.specs.Boundary.{WalkGives, HullGives, TurnsGive, PolygonGives}
+use Rattle.demands.proofs.Rows.{rowsCall-one}
+use Rattle.undrwyth.specs.Boundary.{WalkGives, HullGives, TurnsGive, PolygonGives, RowsGives}
 
 pub walkGives-one : {c : Corner} {os t ms ch t₁ ms₁ ch₁ w₁ t₂ ms₂ ch₂ w₂ : List ℕ} {n₁ n₂ : ℕ} → WalkGives c os t ms ch n₁ t₁ ms₁ ch₁ w₁ → WalkGives c os t ms ch n₂ t₂ ms₂ ch₂ w₂
     → (n₁ ≡ n₂) × (t₁ ≡ t₂) × (ms₁ ≡ ms₂) × (ch₁ ≡ ch₂) × (w₁ ≡ w₂)
@@ -29,6 +30,12 @@ pub polygonGives-one : {s : Corner} {chain before after₁ after₂ w₁ w₂ : 
     → (n₁ ≡ n₂) × (after₁ ≡ after₂) × (w₁ ≡ w₂)
 polygonGives-one g h =
     let e = polygonCall-one (g .written) (h .written) in
+    (g .result ∙ ap countedNumber (e .0) ∙ sym (h .result), e .1, g .words-are ∙ ap countedWords (e .0) ∙ sym (h .words-are))
+
+pub rowsGives-one : {s : Corner} {chain : List ℕ} {before after₁ after₂ : List ℤ} {w₁ w₂ : List ℕ} {n₁ n₂ : ℕ} → RowsGives s chain before n₁ after₁ w₁ → RowsGives s chain before n₂ after₂ w₂
+    → (n₁ ≡ n₂) × (after₁ ≡ after₂) × (w₁ ≡ w₂)
+rowsGives-one {s} {chain} {before} g h =
+    let e = rowsCall-one s chain before (g .listed) (h .listed) in
     (g .result ∙ ap countedNumber (e .0) ∙ sym (h .result), e .1, g .words-are ∙ ap countedWords (e .0) ∙ sym (h .words-are))
 
 pub turnsGive-one : (convert : List ℕ → List ℕ) {ds out out₁ out₂ w₁ w₂ : List ℕ} {n₁ n₂ : ℕ} → TurnsGive convert ds out n₁ out₁ w₁ → TurnsGive convert ds out n₂ out₂ w₂

@@ -13,6 +13,7 @@ use Rattle.grid.specs.declared.Corner.{Corner}
 use Rattle.hull.specs.Call.{HullCall}
 use Rattle.steps.specs.Turns.{ConvertedBy}
 use Rattle.polygon.specs.Polygon.{PolygonCall}
+use Rattle.row_call.specs.Call.{RowsCall}
 use Rattle.answer.specs.Words.{answerWords, answerNumber, countedWords, countedNumber, judgedWords}
 
 -- the walk's promise, with its answer as numbers
@@ -33,6 +34,13 @@ pub record HullGives (c : Corner) (chain : List ℕ) (before : List ℤ) (n : �
 pub record PolygonGives (s : Corner) (chain before : List ℕ) (n : ℕ) (after words : List ℕ) : Type 0 where
   pub answer : Counted
   pub written : PolygonCall s chain before answer after
+  pub words-are : words ≡ countedWords answer
+  pub result : n ≡ countedNumber answer
+
+-- that of a room that is listed by rows
+pub record RowsGives (s : Corner) (chain : List ℕ) (before : List ℤ) (n : ℕ) (after : List ℤ) (words : List ℕ) : Type 0 where
+  pub answer : Counted
+  pub listed : RowsCall s chain before answer after
   pub words-are : words ≡ countedWords answer
   pub result : n ≡ countedNumber answer
 

@@ -15,7 +15,7 @@ ghost use Rattle.turns.specs.Way.{convertOf};
 ghost use Rattle.undrwyth.specs.Words.{AnswerFits, CountedFits};
 ghost use Rattle.line_reply.specs.Reply.{LineIs};
 ghost use Rattle.steps.specs.Turns.{turnsOf, stepsOf};
-ghost use Rattle.undrwyth.specs.Boundary.{WalkGives, HullGives, TurnsGive, PolygonGives};
+ghost use Rattle.undrwyth.specs.Boundary.{WalkGives, HullGives, TurnsGive, PolygonGives, RowsGives};
 
 // The numbers of an accepted walk.
 fn facts_words(f: Facts) -> [u32; 11]
@@ -136,6 +136,23 @@ pub extern "C" fn undrwyth_polygon_of_room(
     ensures { λ n. ⌜ PolygonGives (corner «start_x» «start_y») (now (chain .entry)) (now (out .entry)) n (now (out .exit)) (now (answer .exit)) ⌝ }
 {
     let c = polygon_out::write(Corner(start_x, start_y), chain, out);
+    let words = counted_words(c);
+    *answer = words;
+    words[0]
+}
+
+// Lists the panels of a room by rows.
+#[no_mangle]
+pub extern "C" fn undrwyth_rows(
+    start_x: i32,
+    start_y: i32,
+    chain: &[u8],
+    out: &mut [i32],
+    answer: &mut [u32; 3],
+) -> u32
+    ensures { λ n. ⌜ RowsGives (corner «start_x» «start_y») (now (chain .entry)) (now (out .entry)) n (now (out .exit)) (now (answer .exit)) ⌝ }
+{
+    let c = row_list::list(Corner(start_x, start_y), chain, out);
     let words = counted_words(c);
     *answer = words;
     words[0]

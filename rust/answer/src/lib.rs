@@ -25,6 +25,8 @@ pub const WALK_ANSWER_WORDS: usize = 11;
 pub const HULL_ANSWER_WORDS: usize = 3;
 /// Words of the answer to a room that is written as a polygon: number, place, bytes.
 pub const POLYGON_ANSWER_WORDS: usize = 3;
+/// Words of the answer to a room that is listed by rows: number, place, spans.
+pub const ROWS_ANSWER_WORDS: usize = 3;
 /// Words of the answer to a conversion between steps and turns: number, place.
 pub const TURNS_ANSWER_WORDS: usize = 2;
 

@@ -92,6 +92,48 @@ pub fn polygon(
     })
 }
 
+/// Each room by rows, in a buffer that is always large enough.
+pub fn rows(
+    rows: impl Fn((i32, i32), &[u8], &mut [i32]) -> Result<usize, Refusal> + 'static,
+    inputs: &[Vec<u8>],
+) -> Call<'_> {
+    let mut out = vec![0; 3 * inputs[0].len()];
+    Box::new(move || {
+        for chain in inputs {
+            let answer = rows((-7, 5), black_box(chain), &mut out);
+            black_box(answer.expect("it is a room"));
+        }
+    })
+}
+
+/// The same from sorted keys, after the same judgement in plain Rust.
+pub fn sorted_rows(inputs: &[Vec<u8>]) -> Call<'_> {
+    let mut out = vec![0; 3 * inputs[0].len()];
+    Box::new(move || {
+        for chain in inputs {
+            twin::judge_room((-7, 5), black_box(chain)).expect("it is a room");
+            black_box(sort_edges((-7, 5), chain, &mut out));
+        }
+    })
+}
+
+fn sort_edges(start: (i32, i32), chain: &[u8], out: &mut [i32]) -> usize {
+    let mut edges = Vec::with_capacity(chain.len());
+    let mut at = start;
+    for &step in chain {
+        let next = stepped(at, step);
+        if step % 2 == 1 {
+            edges.push((at.1.min(next.1), at.0));
+        }
+        at = next;
+    }
+    edges.sort_unstable();
+    for (two, span) in edges.chunks_exact(2).zip(out.chunks_exact_mut(3)) {
+        span.copy_from_slice(&[two[0].0, two[0].1, two[1].1 - 1]);
+    }
+    edges.len() / 2
+}
+
 /// Each conversion between steps and turns.
 pub fn convert(
     convert: impl Fn(&[u8], &mut [u8]) -> Result<(), Refusal> + 'static,

@@ -4,7 +4,7 @@ mod calls;
 mod programs;
 mod race;
 
-use calls::{convert, count_visits, hull, polygon, walk};
+use calls::{convert, count_visits, hull, polygon, rows, sorted_rows, walk};
 use compare::inputs::{self, Random};
 use race::race;
 
@@ -45,6 +45,8 @@ fn main() {
     hulls();
     println!("\nrooms as polygons, ns a step");
     polygons();
+    println!("\nrooms by rows, ns a step");
+    rows_of_rooms();
     println!("\nturns, ns a digit");
     turns();
     println!("\nline program, MB/s of input");
@@ -105,6 +107,19 @@ fn polygons() {
     }
 }
 
+fn rows_of_rooms() {
+    for n in SIZES {
+        for (shape, inputs) in rooms(n) {
+            race(vec![
+                ("proved", rows(undrwyth::rows, &inputs)),
+                ("twin", rows(twin::rows, &inputs)),
+                ("sort", sorted_rows(&inputs)),
+            ])
+            .print(&format!("rows/{shape}/{n}"), ns);
+        }
+    }
+}
+
 fn turns() {
     for n in SIZES {
         let inputs = several(n, |random| inputs::wander(n, random));
@@ -140,5 +155,10 @@ fn growth() {
             ("8192", polygon(undrwyth::polygon_of_room, &short)),
         ])
         .print(&format!("growth-polygon/{shape}"), ns);
+        race(vec![
+            ("16384", rows(undrwyth::rows, &long)),
+            ("8192", rows(undrwyth::rows, &short)),
+        ])
+        .print(&format!("growth-rows/{shape}"), ns);
     }
 }

@@ -3,7 +3,10 @@
 use std::fmt::Debug;
 use std::sync::atomic::{AtomicU64, Ordering};
 
-use answer::{HULL_ANSWER_WORDS, POLYGON_ANSWER_WORDS, TURNS_ANSWER_WORDS, WALK_ANSWER_WORDS};
+use answer::{
+    HULL_ANSWER_WORDS, POLYGON_ANSWER_WORDS, ROWS_ANSWER_WORDS, TURNS_ANSWER_WORDS,
+    WALK_ANSWER_WORDS,
+};
 
 use crate::{Convert, Library, PLAIN};
 
@@ -124,6 +127,25 @@ pub fn polygon(
     same("polygon's number", chain, &ours.0, &plain.0);
     same("polygon's answer", chain, &ours.1, &plain.1);
     same("polygon's buffer", chain, &ours.2, &plain.2);
+    plain.1
+}
+
+/// Compares the rows of a room in a buffer of this length, and gives the answer.
+pub fn rows(
+    library: &Library,
+    start: (i32, i32),
+    chain: &[u8],
+    out: usize,
+) -> [u32; ROWS_ANSWER_WORDS] {
+    let run = |library: &Library| {
+        let (mut out, mut answer) = (Lent::numbers(out), [u32::MAX; ROWS_ANSWER_WORDS]);
+        let number = (library.rows)(start, chain, out.part(), &mut answer);
+        ([number], answer, out.0)
+    };
+    let (ours, plain) = (run(library), run(&PLAIN));
+    same("rows' number", chain, &ours.0, &plain.0);
+    same("rows' answer", chain, &ours.1, &plain.1);
+    same("rows' buffer", chain, &ours.2, &plain.2);
     plain.1
 }
 

@@ -5,8 +5,8 @@ pub mod inputs;
 pub mod suite;
 
 use answer::{
-    Facts, HULL_ANSWER_WORDS, NO_MEETING, POLYGON_ANSWER_WORDS, Refusal, TURNS_ANSWER_WORDS,
-    WALK_ANSWER_WORDS,
+    Facts, HULL_ANSWER_WORDS, NO_MEETING, POLYGON_ANSWER_WORDS, ROWS_ANSWER_WORDS, Refusal,
+    TURNS_ANSWER_WORDS, WALK_ANSWER_WORDS,
 };
 
 /// The calls of an implementation, with the answers of the C boundary.
@@ -14,6 +14,7 @@ pub struct Library {
     pub walk: Walk,
     pub hull: Hull,
     pub polygon_of_room: Polygon,
+    pub rows: Rows,
     pub turns_of_steps: Convert,
     pub steps_of_turns: Convert,
     pub line: fn(&[u8], &mut [u8]) -> usize,
@@ -29,6 +30,9 @@ pub type Hull = fn((i32, i32), &[u8], &mut [i32], &mut [u32; HULL_ANSWER_WORDS])
 /// A room, by its start and chain, as a polygon.
 pub type Polygon = fn((i32, i32), &[u8], &mut [u8], &mut [u32; POLYGON_ANSWER_WORDS]) -> u32;
 
+/// The panels of a room, by its start and chain, by rows.
+pub type Rows = fn((i32, i32), &[u8], &mut [i32], &mut [u32; ROWS_ANSWER_WORDS]) -> u32;
+
 /// A conversion between steps and turns.
 pub type Convert = fn(&[u8], &mut [u8], &mut [u32; TURNS_ANSWER_WORDS]) -> u32;
 
@@ -38,6 +42,7 @@ pub const PROVED: Library = Library {
     walk: undrwyth::raw::walk,
     hull: undrwyth::raw::hull,
     polygon_of_room: undrwyth::raw::polygon_of_room,
+    rows: undrwyth::raw::rows,
     turns_of_steps: undrwyth::raw::turns_of_steps,
     steps_of_turns: undrwyth::raw::steps_of_turns,
     line: undrwyth::raw::line,
@@ -62,6 +67,10 @@ macro_rules! library {
             polygon_of_room: |start, chain, out, answer| {
                 let bytes = $of::polygon_of_room(start, chain, out);
                 tell(answer, bytes.map(|bytes| [bytes as u32]))
+            },
+            rows: |start, chain, out, answer| {
+                let spans = $of::rows(start, chain, out);
+                tell(answer, spans.map(|spans| [spans as u32]))
             },
             turns_of_steps: |steps, out, answer| {
                 tell(answer, $of::turns_of_steps(steps, out).map(|()| []))

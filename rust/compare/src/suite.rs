@@ -51,6 +51,23 @@ fn polygon_near(library: &Library, start: (i32, i32), chain: &[u8]) {
     }
 }
 
+/// A room by rows in the least buffer that has room, in one number less and in one more.
+fn rows_near(library: &Library, start: (i32, i32), chain: &[u8]) {
+    let [number, _, spans] = calls::rows(library, start, chain, 3 * chain.len());
+    if number == 0 {
+        let right = 3 * spans as usize;
+        for out in [0, right - 1, right, right + 1] {
+            calls::rows(library, start, chain, out);
+        }
+    }
+}
+
+/// A start and a chain in every call on a room.
+fn room_near(library: &Library, start: (i32, i32), chain: &[u8]) {
+    polygon_near(library, start, chain);
+    rows_near(library, start, chain);
+}
+
 /// Both conversions in a buffer of the right length, of one less and of one more.
 fn turns_near(library: &Library, digits: &[u8]) {
     for out in digits.len().saturating_sub(1)..=digits.len() + 1 {
@@ -72,7 +89,7 @@ pub fn short_walks(library: &Library, longest: u32) {
 pub fn short_chains(library: &Library, longest: u32) {
     for chain in (0..=longest).flat_map(|length| strings(length, 5)) {
         hull_near(library, ORIGIN, &chain);
-        polygon_near(library, (1, -1), &chain);
+        room_near(library, (1, -1), &chain);
         turns_near(library, &chain);
     }
 }
@@ -87,6 +104,7 @@ pub fn every_byte(library: &Library) {
                 walk(library, ORIGIN, &ops, RECORD_WORDS * 9);
                 calls::hull(library, ORIGIN, &ops, 12);
                 calls::polygon(library, (0, 0), &ops, 93);
+                calls::rows(library, (0, 0), &ops, 3);
                 calls::turns(library, &ops, ops.len());
             }
             ops[place] = kept;
@@ -108,6 +126,7 @@ pub fn sizes(library: &Library) {
             calls::hull(library, ORIGIN, ops, out);
             calls::turns(library, ops, out);
             calls::polygon(library, (0, 0), &[0, 1, 2, 3], 87 + out);
+            calls::rows(library, (0, 0), &[0, 0, 1, 2, 1, 2, 3, 3], out);
             calls::line(library, &inputs::frame(0, ops), LINE_BYTES - 6 + out);
         }
     }
@@ -156,8 +175,8 @@ fn limits_of(library: &Library, ops: &[u8]) {
     );
     calls::walk(library, ORIGIN, ops, words, 2 * ops.len(), ops.len() - 1);
     hull_near(library, ORIGIN, ops);
-    polygon_near(library, (0, 0), ops);
-    polygon_near(library, (MOST_START + 1, 0), ops);
+    room_near(library, (0, 0), ops);
+    room_near(library, (MOST_START + 1, 0), ops);
     turns_near(library, ops);
 }
 
@@ -178,7 +197,7 @@ pub fn rooms(library: &Library) {
     for x in ends {
         for y in ends {
             for chain in [&[0, 1, 2, 3][..], &[3, 2, 1, 0], &[0, 2], &[0, 1, 2], &[4]] {
-                polygon_near(library, (x, y), chain);
+                room_near(library, (x, y), chain);
             }
         }
     }
@@ -198,12 +217,12 @@ pub fn rooms(library: &Library) {
 fn rooms_of(library: &Library, room: &[u8], random: &mut Random) {
     let mut chain = room.to_vec();
     for _ in 0..room.len().min(40) {
-        polygon_near(library, inputs::start(random), &chain);
+        room_near(library, inputs::start(random), &chain);
         chain.rotate_left(1 + random.below(3));
     }
     chain.reverse();
     chain.iter_mut().for_each(|step| *step = (*step + 2) % 4);
-    polygon_near(library, inputs::start(random), &chain);
+    room_near(library, inputs::start(random), &chain);
     let twice = [&chain[..], &chain[..]].concat();
     for near in [
         &chain[1..],
@@ -211,13 +230,13 @@ fn rooms_of(library: &Library, room: &[u8], random: &mut Random) {
         &twice[..chain.len() + 1],
         &twice,
     ] {
-        polygon_near(library, (0, 0), near);
+        room_near(library, (0, 0), near);
     }
     let place = random.below(chain.len());
     for inserted in [[0, 2], [1, 3], [2, 0], [3, 1]] {
         let mut crossed = chain.clone();
         crossed.splice(place..place, inserted);
-        polygon_near(library, (0, 0), &crossed);
+        room_near(library, (0, 0), &crossed);
     }
 }
 
@@ -332,5 +351,5 @@ fn random_chain(library: &Library, random: &mut Random) {
     }
     hull_near(library, inputs::start(random), &chain);
     turns_near(library, &chain);
-    polygon_near(library, inputs::start(random), &chain);
+    room_near(library, inputs::start(random), &chain);
 }

@@ -6,11 +6,13 @@ mod hull;
 mod line;
 mod polygon;
 mod record;
+mod rows;
 mod turns;
 mod walk;
 
 pub use hull::hull;
 pub use line::{line, program};
 pub use polygon::polygon_of_room;
+pub use rows::rows;
 pub use turns::{steps_of_turns, turns_of_steps};
 pub use walk::walk;

@@ -17,7 +17,7 @@ pub fn polygon_of_room(start: Corner, chain: &[u8], out: &mut [u8]) -> Result<us
 }
 
 /// Refusals 1, 10, 4, 6 and 12.
-fn judge(start: Corner, chain: &[u8]) -> Result<(), Refusal> {
+pub fn judge(start: Corner, chain: &[u8]) -> Result<(), Refusal> {
     hull::judge(start, chain)?;
     let corners = corners(start, chain);
     let different: HashSet<_> = corners.iter().collect();

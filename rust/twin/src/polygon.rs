@@ -7,12 +7,18 @@ use crate::tree::Corner;
 
 /// Writes the room with this start and chain to the start of `out`, and answers how many bytes its polygon has.
 pub fn polygon_of_room(start: (i32, i32), chain: &[u8], out: &mut [u8]) -> Result<usize, Refusal> {
-    let start = Corner::from(start);
-    hull::judge(start, chain)?;
-    if !is_room(chain) {
-        return Err(Refusal::NotRoom);
+    judge_room(start, chain)?;
+    write(start.into(), chain, out).ok_or(Refusal::PolygonRoom)
+}
+
+/// Refusals 1, 10, 4, 6 and 12.
+pub fn judge_room(start: (i32, i32), chain: &[u8]) -> Result<(), Refusal> {
+    hull::judge(start.into(), chain)?;
+    if is_room(chain) {
+        Ok(())
+    } else {
+        Err(Refusal::NotRoom)
     }
-    write(start, chain, out).ok_or(Refusal::PolygonRoom)
 }
 
 /// Whether the walk is closed, of four steps or more, and at no corner twice before its end.

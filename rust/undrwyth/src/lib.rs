@@ -88,6 +88,23 @@ pub fn polygon_of_room(start: (i32, i32), chain: &[u8], out: &mut [u8]) -> Resul
     Ok(answer[2] as usize)
 }
 
+/// Writes row, first and last panel of each span of the panels inside the room with this start and chain to the start of `out`,
+/// rows from south to north and in a row from west to east, and answers how many spans there are: half as many as steps north
+/// and south. The numbers after them are unchanged.
+///
+/// ```
+/// let mut out = [7; 7];
+/// assert_eq!(undrwyth::rows((-1, 4), &[0, 0, 1, 2, 1, 2, 3, 3], &mut out), Ok(2));
+/// assert_eq!(out, [4, -1, 0, 5, -1, -1, 7]);
+/// assert_eq!(undrwyth::rows((0, 0), &[0, 1, 2, 3], &mut [0; 2]), Err(undrwyth::Refusal::SpanRoom));
+/// ```
+pub fn rows(start: (i32, i32), chain: &[u8], out: &mut [i32]) -> Result<usize, Refusal> {
+    let mut answer = [0; ROWS_ANSWER_WORDS];
+    let number = raw::rows(start, chain, out, &mut answer);
+    accepted(number, answer[1])?;
+    Ok(answer[2] as usize)
+}
+
 /// Writes the turns of `steps` to `out`, which has the same length: the first step, then each step minus the one before,
 /// modulo 4.
 ///

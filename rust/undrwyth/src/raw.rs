@@ -1,6 +1,9 @@
 //! The calls of the C boundary as they are, on slices: include/undrwyth.h says what each does.
 
-use answer::{HULL_ANSWER_WORDS, POLYGON_ANSWER_WORDS, TURNS_ANSWER_WORDS, WALK_ANSWER_WORDS};
+use answer::{
+    HULL_ANSWER_WORDS, POLYGON_ANSWER_WORDS, ROWS_ANSWER_WORDS, TURNS_ANSWER_WORDS,
+    WALK_ANSWER_WORDS,
+};
 
 mod c {
     unsafe extern "C" {
@@ -33,6 +36,15 @@ mod c {
             n: usize,
             out: *mut u8,
             out_bytes: usize,
+            answer: *mut u32,
+        ) -> u32;
+        pub fn undrwyth_rows(
+            start_x: i32,
+            start_y: i32,
+            chain: *const u8,
+            n: usize,
+            out: *mut i32,
+            out_numbers: usize,
             answer: *mut u32,
         ) -> u32;
         pub fn undrwyth_turns_of_steps(
@@ -111,6 +123,27 @@ pub fn polygon_of_room(
     // SAFETY: as for walk.
     unsafe {
         c::undrwyth_polygon_of_room(
+            start.0,
+            start.1,
+            chain.as_ptr(),
+            chain.len(),
+            out.as_mut_ptr(),
+            out.len(),
+            answer.as_mut_ptr(),
+        )
+    }
+}
+
+/// `undrwyth_rows`: the refusal's number, 0 for none.
+pub fn rows(
+    start: (i32, i32),
+    chain: &[u8],
+    out: &mut [i32],
+    answer: &mut [u32; ROWS_ANSWER_WORDS],
+) -> u32 {
+    // SAFETY: as for walk.
+    unsafe {
+        c::undrwyth_rows(
             start.0,
             start.1,
             chain.as_ptr(),

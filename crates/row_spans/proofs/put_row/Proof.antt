@@ -1,0 +1,164 @@
+-- `row_spans::put_row` meets its contract.
+-- Assumes nothing.
+use borrow.Author.Needs.{needs}
+use native.Mathlib.Omega.{arith}
+use mathlib.Core.Path.{_≡_, refl, sym, _∙_, subst}
+use mathlib.Core.List.{List}
+use Prim.Native.Nat.{ℕ, _-_, _%_, _<_}
+use lib.ListN.{length}
+use Rattle.row_bucket_laws.specs.Buckets.{Strung, LineAt}
+use Rattle.row_bucket_laws.proofs.WriteLaws.{line-start, line-two, line-step, line-end}
+use Rattle.row_spans.proofs.put_row.Statement.{statement}
+use Rattle.row_spans.proofs.put_row.Tie as tie
+
+abbrev Inv-loop : tie.InvT-loop
+Inv-loop out₀ o base first next at p₀ to₀ out p to = (p < 65536) × (length out ≡ length out₀) × ((l : List ℕ) → Strung next first l → length l % 2 ≡ 0 → LineAt next at base l out₀ o p to out)
+
+abbrev μ-loop : tie.MeasureT-loop
+μ-loop out₀ o base first next at p₀ to₀ out p to = length out - to
+
+wide-requires : tie.Need-wide-requires Inv-loop μ-loop
+wide-requires c κs = search needs
+
+loop-holds : tie.Need-loop-holds Inv-loop μ-loop
+loop-holds c =
+    let a = c .before .before .before .args in
+    (c .wide .ensures .1, refl, λ l s e. subst (λ (k : ℕ). LineAt (a .next .now) (a .at .now) (a .base) l (a .out .now) (a .o) k (a .o) (a .out .now)) (sym (c .wide .ensures .0)) (line-start (a .next .now) (a .at .now) (a .base) l (a .out .now) (a .o) (a .first) s e))
+
+sub-wide : tie.Need-sub-wide Inv-loop μ-loop
+sub-wide c = search needs
+
+mul-wide : tie.Need-mul-wide Inv-loop μ-loop
+mul-wide c = record { fits = omega (arith, c .before .loop .inv .0) }
+
+shared-slice-read-wide : tie.Need-shared-slice-read-wide Inv-loop μ-loop
+shared-slice-read-wide c =
+    let l = c .before .before .loop in
+    let z = c .before .before .before .before .before .before in
+    let r = z .pre .0 in
+    let w = line-two (l .inv .2 (r .list) (r .thread) (r .even)) (length (z .args .out .now)) (r .fits) (omega arith) in
+    w .first
+
+wide-requires-2 : tie.Need-wide-requires-2 Inv-loop μ-loop
+wide-requires-2 c κs = search needs
+
+sub-put-span : tie.Need-sub-put-span Inv-loop μ-loop
+sub-put-span c = omega arith
+
+mul-put-span : tie.Need-mul-put-span Inv-loop μ-loop
+mul-put-span c = record { fits = omega (arith, c .before .before .before .before .loop .inv .0) }
+
+shared-slice-read-put-span : tie.Need-shared-slice-read-put-span Inv-loop μ-loop
+shared-slice-read-put-span c =
+    let l = c .before .before .before .before .before .loop in
+    let z = c .before .before .before .before .before .before .before .before .before in
+    let r = z .pre .0 in
+    let w = line-two (l .inv .2 (r .list) (r .thread) (r .even)) (length (z .args .out .now)) (r .fits) (omega arith) in
+    omega (arith, w .first, r .store)
+
+sub-put-span-2 : tie.Need-sub-put-span-2 Inv-loop μ-loop
+sub-put-span-2 c =
+    let l = c .before .before .before .before .before .loop in
+    let z = c .before .before .before .before .before .before .before .before .before in
+    let r = z .pre .0 in
+    let w = line-two (l .inv .2 (r .list) (r .thread) (r .even)) (length (z .args .out .now)) (r .fits) (omega arith) in
+    omega (arith, w .there, c .before .before .wide2 .ensures .0)
+
+mul-put-span-2 : tie.Need-mul-put-span-2 Inv-loop μ-loop
+mul-put-span-2 c = record { fits = omega (arith, c .before .before .wide2 .ensures .1) }
+
+shared-slice-read-put-span-2 : tie.Need-shared-slice-read-put-span-2 Inv-loop μ-loop
+shared-slice-read-put-span-2 c =
+    let l = c .before .before .before .before .before .before .loop in
+    let z = c .before .before .before .before .before .before .before .before .before .before in
+    let r = z .pre .0 in
+    let w = line-two (l .inv .2 (r .list) (r .thread) (r .even)) (length (z .args .out .now)) (r .fits) (omega arith) in
+    omega (arith, w .second, c .before .before .before .wide2 .ensures .0, r .store)
+
+put-span-requires : tie.Need-put-span-requires Inv-loop μ-loop
+put-span-requires c κs =
+    let l = c .before .before .before .before .before .before .loop in
+    let z = c .before .before .before .before .before .before .before .before .before .before in
+    let r = z .pre .0 in
+    let w = line-two (l .inv .2 (r .list) (r .thread) (r .even)) (length (z .args .out .now)) (r .fits) (omega arith) in
+    (omega (arith, w .free, l .inv .1), z .pre .1)
+
+add-to : tie.Need-add-to Inv-loop μ-loop
+add-to c =
+    let l = c .before .before .before .before .before .before .before .before .loop in
+    let z = c .before .before .before .before .before .before .before .before .before .before .before .before in
+    let r = z .pre .0 in
+    let w = line-two (l .inv .2 (r .list) (r .thread) (r .even)) (length (z .args .out .now)) (r .fits) (omega arith) in
+    omega (arith, w .free)
+
+sub-wide-2 : tie.Need-sub-wide-2 Inv-loop μ-loop
+sub-wide-2 c =
+    let l = c .before .before .before .before .before .before .before .before .loop in
+    let z = c .before .before .before .before .before .before .before .before .before .before .before .before in
+    let r = z .pre .0 in
+    let w = line-two (l .inv .2 (r .list) (r .thread) (r .even)) (length (z .args .out .now)) (r .fits) (omega arith) in
+    omega (arith, w .there, c .before .before .before .before .before .wide2 .ensures .0)
+
+mul-wide-2 : tie.Need-mul-wide-2 Inv-loop μ-loop
+mul-wide-2 c = record { fits = omega (arith, c .before .before .before .before .before .wide2 .ensures .1) }
+
+shared-slice-read-wide-2 : tie.Need-shared-slice-read-wide-2 Inv-loop μ-loop
+shared-slice-read-wide-2 c =
+    let l = c .before .before .before .before .before .before .before .before .before .loop in
+    let z = c .before .before .before .before .before .before .before .before .before .before .before .before .before in
+    let r = z .pre .0 in
+    let w = line-two (l .inv .2 (r .list) (r .thread) (r .even)) (length (z .args .out .now)) (r .fits) (omega arith) in
+    omega (arith, w .second, c .before .before .before .before .before .before .wide2 .ensures .0)
+
+wide-requires-3 : tie.Need-wide-requires-3 Inv-loop μ-loop
+wide-requires-3 c κs = search needs
+
+loop-less : tie.Need-loop-less Inv-loop μ-loop
+loop-less c =
+    let l = c .before .before .before .before .before .before .before .before .before .before .loop in
+    let z = c .before .before .before .before .before .before .before .before .before .before .before .before .before .before in
+    let r = z .pre .0 in
+    let w = line-two (l .inv .2 (r .list) (r .thread) (r .even)) (length (z .args .out .now)) (r .fits) (omega arith) in
+    omega (arith, w .free, l .inv .1, c .before .before .before .put-span .kept .0)
+
+loop-again : tie.Need-loop-again Inv-loop μ-loop
+loop-again c =
+    let l = c .before .before .before .before .before .before .before .before .before .before .loop in
+    let a = c .before .before .before .before .before .before .before .before .before .before .before .before .before .before .args in
+    let u = c .before .before .before .put-span in
+    (c .wide3 .ensures .1, u .kept .0 ∙ l .inv .1, λ k s e. line-step (l .inv .2 k s e) (c .before .before .before .before .before .before .before .wide2 .result) (c .wide3 .result) (u .last .0) (omega arith) (c .before .before .before .before .before .before .before .wide2 .ensures .0) (c .wide3 .ensures .0) (u .ensures))
+
+same-length : tie.Need-same-length Inv-loop μ-loop
+same-length c = c .before .loop .inv .1
+
+returns : tie.Need-returns Inv-loop μ-loop
+returns c = λ l s e. line-end (c .before .loop .inv .2 l s e) (omega arith)
+
+pub put-row-spec : {M : Type 1} → statement M
+put-row-spec =
+    tie.close
+    (tie.spec
+    Inv-loop
+    μ-loop
+    wide-requires
+    loop-holds
+    sub-wide
+    mul-wide
+    shared-slice-read-wide
+    wide-requires-2
+    sub-put-span
+    mul-put-span
+    shared-slice-read-put-span
+    sub-put-span-2
+    mul-put-span-2
+    shared-slice-read-put-span-2
+    put-span-requires
+    add-to
+    sub-wide-2
+    mul-wide-2
+    shared-slice-read-wide-2
+    wide-requires-3
+    loop-less
+    loop-again
+    same-length
+    returns)
