@@ -73,6 +73,25 @@ static void hull_of_a_crossing(void) {
     CHECK(SAME(out, corners) && answer[UNDRWYTH_HULL_COUNT] == 6);
 }
 
+static void outline_of_a_crossed_walk(void) {
+    const uint8_t crossed[] = {0, 0, 1, 1, 0, 0, 3, 2, 2, 2, 2, 3}, sides[] = {1, 0, 3}, bad[] = {1, 4};
+    const uint8_t around[] = {0, 0, 1, 0, 0, 1, 2, 2, 3, 2, 2, 3, 7}, there[] = {1, 0, 3, 1, 2, 3};
+    uint8_t out[13], kept[13];
+    uint32_t answer[UNDRWYTH_OUTLINE_ANSWER_WORDS];
+    memset(out, 7, sizeof out);
+    memset(kept, 7, sizeof kept);
+    CHECK(undrwyth_outline(0, 16385, bad, 2, out, 0, answer) == UNDRWYTH_REFUSAL_START_RANGE);
+    CHECK(undrwyth_outline(0, 0, bad, 2, out, 0, answer) == UNDRWYTH_REFUSAL_BAD_DIGIT);
+    CHECK(answer[UNDRWYTH_OUTLINE_PLACE] == 1);
+    CHECK(undrwyth_outline(0, 0, crossed, 12, out, 11, answer) == UNDRWYTH_REFUSAL_OUTLINE_ROOM);
+    CHECK(SAME(out, kept) && answer[UNDRWYTH_OUTLINE_STEPS] == 0);
+    CHECK(undrwyth_outline(-16384, 16384, crossed, 12, out, 13, answer) == UNDRWYTH_ACCEPTED);
+    CHECK(answer[UNDRWYTH_OUTLINE_STEPS] == 12 && SAME(out, around));
+    CHECK(undrwyth_outline(0, 0, sides, 3, out, 13, answer) == UNDRWYTH_ACCEPTED);
+    CHECK(answer[UNDRWYTH_OUTLINE_STEPS] == 6 && memcmp(out, there, sizeof there) == 0);
+    CHECK(undrwyth_outline(0, 0, 0, 0, 0, 0, answer) == UNDRWYTH_ACCEPTED && answer[UNDRWYTH_OUTLINE_STEPS] == 0);
+}
+
 static void room_as_polygon(void) {
     const uint8_t room[] = {0, 1, 2, 3}, back[] = {0, 2};
     const uint8_t header[UNDRWYTH_POLYGON_HEADER_BYTES] = {1, 3, 0, 0, 0, 1, 0, 0, 0, 5};
@@ -151,6 +170,7 @@ int main(void) {
     walk_of_a_room();
     walks_refused();
     hull_of_a_crossing();
+    outline_of_a_crossed_walk();
     room_as_polygon();
     room_by_rows();
     starts();

@@ -17,7 +17,7 @@ static uint8_t digits[MOST], bytes[UNDRWYTH_LINE_BYTES], file[UNDRWYTH_POINT_BYT
 static size_t count, records;
 static uint32_t table[(4 * MOST + 68) * UNDRWYTH_RECORD_WORDS], marks[UNDRWYTH_MARK_WORDS * MOST];
 static int32_t numbers[UNDRWYTH_CORNER_NUMBERS * (MOST + 1)];
-static uint8_t chain[MOST];
+static uint8_t chain[MOST], round[2 * MOST];
 static uint32_t answer[UNDRWYTH_WALK_ANSWER_WORDS];
 
 static void nothing(void) {}
@@ -35,6 +35,8 @@ static void walk(void) {
 }
 
 static void hull(void) { undrwyth_hull(-16384, 16384, digits, count, numbers, sizeof numbers / sizeof numbers[0], answer); }
+
+static void outline(void) { undrwyth_outline(16384, -16384, digits, count, round, sizeof round, answer); }
 
 static void polygon(void) { undrwyth_polygon_of_room(-7, 5, digits, count, file, sizeof file, answer); }
 
@@ -108,6 +110,7 @@ int main(void) {
     } calls[] = {
         {"undrwyth_walk", walk, UNDRWYTH_WALK_STACK_BYTES},
         {"undrwyth_hull", hull, UNDRWYTH_HULL_STACK_BYTES},
+        {"undrwyth_outline", outline, UNDRWYTH_OUTLINE_STACK_BYTES},
         {"undrwyth_polygon_of_room", polygon, UNDRWYTH_POLYGON_STACK_BYTES},
         {"undrwyth_rows", rows, UNDRWYTH_ROWS_STACK_BYTES},
         {"undrwyth_turns_of_steps, undrwyth_steps_of_turns", turns, UNDRWYTH_TURNS_STACK_BYTES},

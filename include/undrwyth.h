@@ -57,18 +57,19 @@ extern "C" {
 /* Bytes of stack that a call needs, rounded up from what include/stack.c measured on x86-64 and on 64-bit ARM. */
 #define UNDRWYTH_WALK_STACK_BYTES 1024     /* 424 measured on x86-64 */
 #define UNDRWYTH_HULL_STACK_BYTES 132096   /* 131,480 measured; 131,080 are its working store */
+#define UNDRWYTH_OUTLINE_STACK_BYTES 263168 /* 262,376 measured; 262,160 are its working store */
 #define UNDRWYTH_POLYGON_STACK_BYTES 132096 /* 131,216 measured; 131,080 are its working store */
 #define UNDRWYTH_ROWS_STACK_BYTES 263168   /* 262,376 measured: the working stores of the judgement and of the rows */
 #define UNDRWYTH_TURNS_STACK_BYTES 256     /* 48 measured */
 #define UNDRWYTH_LINE_STACK_BYTES 184320   /* 183,992 measured: a table, marks, hull numbers, and the hull's store */
 
 /* Refusals, in the order in which they are looked for: 1, 2, 3, 10; then 4, 5, 6 at the first faulty place; then 7, at
- * its first place; then 12; 8, 13 and 21 last. */
+ * its first place; then 12; 8, 11, 13 and 21 last. */
 #define UNDRWYTH_ACCEPTED 0
 #define UNDRWYTH_REFUSAL_TOO_MANY 1        /* more than UNDRWYTH_MOST_INPUT_BYTES input bytes */
 #define UNDRWYTH_REFUSAL_TABLE 2           /* words not UNDRWYTH_RECORD_WORDS times 1 to UNDRWYTH_MOST_RECORDS */
 #define UNDRWYTH_REFUSAL_RESULT_ROOM 3     /* a result buffer has not the length that the input asks */
-#define UNDRWYTH_REFUSAL_BAD_DIGIT 4       /* a byte above 4; in hull and turns, above 3. Has a place */
+#define UNDRWYTH_REFUSAL_BAD_DIGIT 4       /* a byte above 4; but for walks, above 3. Has a place */
 #define UNDRWYTH_REFUSAL_NOTHING_TO_TAKE 5 /* operation 4 with no surviving step. Has a place */
 #define UNDRWYTH_REFUSAL_TOO_LONG 6        /* a step beyond UNDRWYTH_MOST_STEPS surviving. Has a place */
 #define UNDRWYTH_REFUSAL_NO_ROOM 7         /* after this operation the nodes needed exceed the records. Has a place:
@@ -76,6 +77,7 @@ extern "C" {
 #define UNDRWYTH_REFUSAL_HULL_ROOM 8       /* a buffer shorter than twice the hull corners */
 #define UNDRWYTH_REFUSAL_BAD_LINE 9        /* no frame; in answers of undrwyth_line alone */
 #define UNDRWYTH_REFUSAL_START_RANGE 10    /* a coordinate of the start beyond UNDRWYTH_MOST_START */
+#define UNDRWYTH_REFUSAL_OUTLINE_ROOM 11   /* a buffer shorter than the outline */
 #define UNDRWYTH_REFUSAL_NOT_ROOM 12       /* the walk is no room */
 #define UNDRWYTH_REFUSAL_POLYGON_ROOM 13   /* a buffer shorter than the polygon */
 #define UNDRWYTH_REFUSAL_SPAN_ROOM 21      /* a buffer shorter than three numbers a span */
@@ -109,6 +111,12 @@ extern "C" {
 #define UNDRWYTH_HULL_NUMBER 0             /* the refusal's number */
 #define UNDRWYTH_HULL_PLACE 1              /* the refusal's place */
 #define UNDRWYTH_HULL_COUNT 2              /* how many hull corners */
+
+/* Words of the answer to an outline. */
+#define UNDRWYTH_OUTLINE_ANSWER_WORDS 3
+#define UNDRWYTH_OUTLINE_NUMBER 0          /* the refusal's number */
+#define UNDRWYTH_OUTLINE_PLACE 1           /* the refusal's place */
+#define UNDRWYTH_OUTLINE_STEPS 2           /* how many steps the outline has */
 
 /* Words of the answer to a room that is written as a polygon. */
 #define UNDRWYTH_POLYGON_ANSWER_WORDS 3
@@ -197,6 +205,27 @@ uint32_t undrwyth_hull(int32_t start_x, int32_t start_y,
                        const uint8_t *chain, size_t n,
                        int32_t *out, size_t out_numbers,
                        uint32_t answer[UNDRWYTH_HULL_ANSWER_WORDS]);
+
+/* Writes the outer outline of the walk of the n steps in chain from (start_x,start_y), as steps.
+ *
+ * It starts at the lowest of the leftmost corners, first east if that edge was walked and otherwise north. At each corner
+ * it takes the first walked edge of right turn, straight on, left turn, back, until it is back at its start with each
+ * walked edge of that corner used, one way or the other. An edge is walked where a step went along it, either way: that
+ * both its ends were visited is not enough. The outline may stand on a corner more than once, so it need not be a room.
+ *
+ * out_bytes is at least the steps of the outline; any length is taken, 2 * n is always enough.
+ *
+ * Accepted: out begins with the outline, a step a byte; the bytes after it are as they were. A walk without steps has
+ * the empty outline.
+ * Refused with 1, 10, 4, 6 or 11, in this order: out is as it was. A step at place UNDRWYTH_MOST_STEPS is 6 (a bad byte
+ * there is 4).
+ *
+ * No table is lent: the walked edges are found in a store on the stack, 262,160 bytes for more than 2,048 steps, 32,784
+ * for more than 256, else 4,112. */
+uint32_t undrwyth_outline(int32_t start_x, int32_t start_y,
+                          const uint8_t *chain, size_t n,
+                          uint8_t *out, size_t out_bytes,
+                          uint32_t answer[UNDRWYTH_OUTLINE_ANSWER_WORDS]);
 
 /* Writes a room as a polygon of one ring, in Well-Known Binary of the OGC Simple Features standard, little-endian: byte
  * order 1, type 3, ring count 1 and the point count, then x and y of each point as 64-bit floats.

@@ -121,7 +121,7 @@ module _ (c : Corner) (chain : List ℕ) (room corners : ℕ) where
       hulls.judged-room c chain room corners (h .few) (near-fits c (h .start))
       (none-from faultAt chainJudged (λ p. refl) (λ p d l. refl) 0 chain (λ i p k g. step-none p (getD chain i 0) (f i k .0) (omega (arith, f i k .1))))
 
-  given-hull : (j : Judged) → GivenHull c chain room corners j → hullJudged c chain room corners ≡ j
+  pub given-hull : (j : Judged) → GivenHull c chain room corners j → hullJudged c chain room corners ≡ j
   given-hull _ (hull.tooMany h) = hulls.judged-many c chain room corners h
   given-hull _ (hull.startRange h f) = hulls.judged-start c chain room corners h (unfit (startFits c) (fits-near c) f)
   given-hull _ (hull.badDigit i h f) = hull-fault (AboveThreeAt chain) i (BadDigit i) h f (step-above i (getD chain i 0) (f .here))
@@ -146,7 +146,7 @@ module _ (c : Corner) (chain : List ℕ) (room corners : ℕ) where
   by-room : ChainSized c chain → ((i : ℕ) → i < length chain → StepAt chain i) → (j : Judged) × GivenHull c chain room corners j
   by-room l f = elim (decLt room (2 * corners)) [ yes h ↦ (Refused HullRoom, hull.hullRoom l f h) | no h ↦ (Good, hull.accepted l f (omega arith)) ]
 
-  some-hull : (j : Judged) × GivenHull c chain room corners j
+  pub some-hull : (j : Judged) × GivenHull c chain room corners j
   some-hull =
       elim (decLt mostInput (length chain)) [
         | yes h ↦ (Refused TooMany, hull.tooMany h)

@@ -10,7 +10,9 @@ pub mod CallLaws
 pub mod DigitLaws
 pub mod RoomCallLaws
 pub mod RowCallLaws
+pub mod OutlineCallLaws
 pub mod Area
 pub mod Polygon
 pub mod Rows
+pub mod Outline
 pub mod Demand

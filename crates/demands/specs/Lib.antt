@@ -5,5 +5,6 @@ pub mod GivenTurns
 pub mod GivenHull
 pub mod GivenRoom
 pub mod GivenRows
+pub mod GivenOutline
 pub mod Record
 pub mod Alone

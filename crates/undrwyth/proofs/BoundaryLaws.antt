@@ -2,7 +2,7 @@
 -- Assumes nothing.
 use mathlib.Core.Bool.{Bool, true, false, not}
 use mathlib.Core.List.{List, [], _∷_}
-use mathlib.Core.Path.{_≡_, refl, sym, subst}
+use mathlib.Core.Path.{_≡_, refl, sym, _∙_, subst}
 use Prim.Native.Nat.{ℕ, suc, _+_, _*_, _^_, _<_, _≤_}
 use native.Mathlib.Omega.{arith}
 use borrow.Author.Tests.{ltb-false}
@@ -13,12 +13,16 @@ use Rattle.answer.specs.declared.Answer.{Answer}
 use Rattle.answer.specs.declared.Counted.{Counted}
 use Rattle.answer.specs.declared.Judged.{Judged}
 use Rattle.answer.specs.declared.Judged.the-variants.{Good, Refused}
-use Rattle.answer.specs.declared.Refusal.the-variants.{TooMany, ResultRoom, BadDigit, TooLong, HullRoom, StartRange, NotRoom, PolygonRoom, SpanRoom}
+use Rattle.answer.specs.declared.Refusal.the-variants.{TooMany, ResultRoom, BadDigit, TooLong, HullRoom, StartRange, OutlineRoom, NotRoom, PolygonRoom, SpanRoom}
 use Rattle.answer.specs.Limits.{startFits}
 use Rattle.answer.specs.Refusal.{when, orElse, judgedPlace}
 use Rattle.walk_call.specs.Walk.{walkJudged, factsOf, answerBy, WalkIs}
 use Rattle.grid.specs.declared.Corner.{Corner}
 use Rattle.hull.specs.Call.{chainJudged, roomJudged, hullJudged, countedOf, HullCall}
+use Rattle.outline.specs.Call as outlines
+use Rattle.outline.specs.Call.{outlineJudged, OutlineCall}
+use Rattle.outline_laws.proofs.CallLaws.{judged-split}
+use Rattle.outline_laws.proofs.OutlineLaws.{outline-short}
 use Rattle.steps.specs.Operations.{survivors}
 use Rattle.steps.specs.Turns.{digitsJudged, turnsJudged}
 use Rattle.room.specs.Room.{isRoom, asRoomJudged}
@@ -95,6 +99,19 @@ counted-fits c chain before r after h = subst CountedFits (sym (h .answer)) (go 
     go : (j : Judged) → hullJudged c chain (length before) (length (h .list)) ≡ j → CountedFits (countedOf (hullJudged c chain (length before) (length (h .list))) (length (h .list)))
     go Good e = rw e (omega (arith, hull-count-steps c chain (h .list) (h .hull), hull-short c chain (length before) (length (h .list)) e))
     go (Refused x) e = rw e (omega (arith, subst (Placed 32768) e (hull-placed c chain (length before) (length (h .list)))))
+
+outline-placed : (s : Corner) (ds : List ℕ) (room n : ℕ) → Placed 32768 (outlineJudged s ds room n)
+outline-placed s ds room n = subst (Placed 32768) (sym (judged-split s ds room n)) (placed-or 32768 (hullJudged s ds 0 0) (outlines.roomJudged room n) (hull-placed s ds 0 0) (placed-when 32768 (ltb room n) OutlineRoom (omega arith)))
+
+pub outline-fits : (s : Corner) (ds before : List ℕ) (r : Counted) (after : List ℕ) → OutlineCall s ds before r after → CountedFits r
+outline-fits s ds before r after w = subst CountedFits (sym (w .answer)) (go (outlineJudged s ds (length before) n) refl)
+  where
+    n : ℕ
+    n = length (w .steps)
+
+    go : (j : Judged) → outlineJudged s ds (length before) n ≡ j → CountedFits (countedOf (outlineJudged s ds (length before) n) n)
+    go Good e = rw e (omega (arith, outline-short (w .outline), hull-short s ds 0 0 (orElse-good (hullJudged s ds 0 0) (outlines.roomJudged (length before) n) (sym (judged-split s ds (length before) n) ∙ e) .0)))
+    go (Refused x) e = rw e (omega (arith, subst (Placed 32768) e (outline-placed s ds (length before) n)))
 
 room-placed : (s : Corner) (ds : List ℕ) → Placed 32768 (asRoomJudged s ds)
 room-placed s ds =

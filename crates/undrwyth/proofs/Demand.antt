@@ -10,9 +10,10 @@ use Rattle.grid.specs.declared.Corner.{Corner}
 use Rattle.line_reply.specs.Reply.{LineIs}
 use Rattle.line_reply.proofs.ReplyLaws as replyLaws
 use Rattle.demands.proofs.Demand.{walkIs-one, hullCall-one, turns-one}
+use Rattle.demands.proofs.Outline.{outlineCall-one}
 use Rattle.demands.proofs.Polygon.{polygonCall-one}
 use Rattle.demands.proofs.Rows.{rowsCall-one}
-use Rattle.undrwyth.specs.Boundary.{WalkGives, HullGives, TurnsGive, PolygonGives, RowsGives}
+use Rattle.undrwyth.specs.Boundary.{WalkGives, HullGives, OutlineGives, TurnsGive, PolygonGives, RowsGives}
 
 pub walkGives-one : {c : Corner} {os t ms ch t₁ ms₁ ch₁ w₁ t₂ ms₂ ch₂ w₂ : List ℕ} {n₁ n₂ : ℕ} → WalkGives c os t ms ch n₁ t₁ ms₁ ch₁ w₁ → WalkGives c os t ms ch n₂ t₂ ms₂ ch₂ w₂
     → (n₁ ≡ n₂) × (t₁ ≡ t₂) × (ms₁ ≡ ms₂) × (ch₁ ≡ ch₂) × (w₁ ≡ w₂)
@@ -24,6 +25,12 @@ pub hullGives-one : {c : Corner} {chain : List ℕ} {before after₁ after₂ : 
     → (n₁ ≡ n₂) × (after₁ ≡ after₂) × (w₁ ≡ w₂)
 hullGives-one g h =
     let e = hullCall-one (g .listed) (h .listed) in
+    (g .result ∙ ap countedNumber (e .0) ∙ sym (h .result), e .1, g .words-are ∙ ap countedWords (e .0) ∙ sym (h .words-are))
+
+pub outlineGives-one : {s : Corner} {chain before after₁ after₂ w₁ w₂ : List ℕ} {n₁ n₂ : ℕ} → OutlineGives s chain before n₁ after₁ w₁ → OutlineGives s chain before n₂ after₂ w₂
+    → (n₁ ≡ n₂) × (after₁ ≡ after₂) × (w₁ ≡ w₂)
+outlineGives-one g h =
+    let e = outlineCall-one (g .written) (h .written) in
     (g .result ∙ ap countedNumber (e .0) ∙ sym (h .result), e .1, g .words-are ∙ ap countedWords (e .0) ∙ sym (h .words-are))
 
 pub polygonGives-one : {s : Corner} {chain before after₁ after₂ w₁ w₂ : List ℕ} {n₁ n₂ : ℕ} → PolygonGives s chain before n₁ after₁ w₁ → PolygonGives s chain before n₂ after₂ w₂

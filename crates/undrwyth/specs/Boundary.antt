@@ -11,6 +11,7 @@ use Rattle.answer.specs.Refusal.{judgedNumber}
 use Rattle.walk_call.specs.Walk.{WalkIs}
 use Rattle.grid.specs.declared.Corner.{Corner}
 use Rattle.hull.specs.Call.{HullCall}
+use Rattle.outline.specs.Call.{OutlineCall}
 use Rattle.steps.specs.Turns.{ConvertedBy}
 use Rattle.polygon.specs.Polygon.{PolygonCall}
 use Rattle.row_call.specs.Call.{RowsCall}
@@ -27,6 +28,13 @@ pub record WalkGives (c : Corner) (os t ms ch : List ℕ) (n : ℕ) (t′ ms′ 
 pub record HullGives (c : Corner) (chain : List ℕ) (before : List ℤ) (n : ℕ) (after : List ℤ) (words : List ℕ) : Type 0 where
   pub answer : Counted
   pub listed : HullCall c chain before answer after
+  pub words-are : words ≡ countedWords answer
+  pub result : n ≡ countedNumber answer
+
+-- the outline's
+pub record OutlineGives (s : Corner) (chain before : List ℕ) (n : ℕ) (after words : List ℕ) : Type 0 where
+  pub answer : Counted
+  pub written : OutlineCall s chain before answer after
   pub words-are : words ≡ countedWords answer
   pub result : n ≡ countedNumber answer
 

@@ -15,7 +15,7 @@ ghost use Rattle.turns.specs.Way.{convertOf};
 ghost use Rattle.undrwyth.specs.Words.{AnswerFits, CountedFits};
 ghost use Rattle.line_reply.specs.Reply.{LineIs};
 ghost use Rattle.steps.specs.Turns.{turnsOf, stepsOf};
-ghost use Rattle.undrwyth.specs.Boundary.{WalkGives, HullGives, TurnsGive, PolygonGives, RowsGives};
+ghost use Rattle.undrwyth.specs.Boundary.{WalkGives, HullGives, OutlineGives, TurnsGive, PolygonGives, RowsGives};
 
 // The numbers of an accepted walk.
 fn facts_words(f: Facts) -> [u32; 11]
@@ -119,6 +119,23 @@ pub extern "C" fn undrwyth_hull(
     ensures { λ n. ⌜ HullGives (corner «start_x» «start_y») (now (chain .entry)) (now (out .entry)) n (now (out .exit)) (now (answer .exit)) ⌝ }
 {
     let c = hull_scan::list(Corner(start_x, start_y), chain, out);
+    let words = counted_words(c);
+    *answer = words;
+    words[0]
+}
+
+// Writes the outer outline.
+#[no_mangle]
+pub extern "C" fn undrwyth_outline(
+    start_x: i32,
+    start_y: i32,
+    chain: &[u8],
+    out: &mut [u8],
+    answer: &mut [u32; 3],
+) -> u32
+    ensures { λ n. ⌜ OutlineGives (corner «start_x» «start_y») (now (chain .entry)) (now (out .entry)) n (now (out .exit)) (now (answer .exit)) ⌝ }
+{
+    let c = outline_scan::write(Corner(start_x, start_y), chain, out);
     let words = counted_words(c);
     *answer = words;
     words[0]

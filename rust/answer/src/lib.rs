@@ -23,6 +23,8 @@ pub const LINE_BYTES: usize = 8_240;
 pub const WALK_ANSWER_WORDS: usize = 11;
 /// Words of the answer to a hull: number, place, count.
 pub const HULL_ANSWER_WORDS: usize = 3;
+/// Words of the answer to an outline: number, place, steps.
+pub const OUTLINE_ANSWER_WORDS: usize = 3;
 /// Words of the answer to a room that is written as a polygon: number, place, bytes.
 pub const POLYGON_ANSWER_WORDS: usize = 3;
 /// Words of the answer to a room that is listed by rows: number, place, spans.

@@ -78,6 +78,20 @@ pub fn hull(
     })
 }
 
+/// Each outline, in a buffer that is always large enough.
+pub fn outline(
+    outline: impl Fn((i32, i32), &[u8], &mut [u8]) -> Result<usize, Refusal> + 'static,
+    inputs: &[Vec<u8>],
+) -> Call<'_> {
+    let mut out = vec![0; 2 * inputs[0].len()];
+    Box::new(move || {
+        for chain in inputs {
+            let answer = outline(START, black_box(chain), &mut out);
+            black_box(answer.expect("there is room"));
+        }
+    })
+}
+
 /// Each room as a polygon, in a buffer that is always large enough.
 pub fn polygon(
     polygon: impl Fn((i32, i32), &[u8], &mut [u8]) -> Result<usize, Refusal> + 'static,

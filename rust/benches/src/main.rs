@@ -4,7 +4,7 @@ mod calls;
 mod programs;
 mod race;
 
-use calls::{convert, count_visits, hull, polygon, rows, sorted_rows, walk};
+use calls::{convert, count_visits, hull, outline, polygon, rows, sorted_rows, walk};
 use compare::inputs::{self, Random};
 use race::race;
 
@@ -43,6 +43,8 @@ fn main() {
     walks();
     println!("\nhull, ns a step");
     hulls();
+    println!("\noutline, ns a step of the walk");
+    outlines();
     println!("\nrooms as polygons, ns a step");
     polygons();
     println!("\nrooms by rows, ns a step");
@@ -82,6 +84,19 @@ fn hulls() {
                 ("sort", hull(plain::hull, &inputs)),
             ])
             .print(&format!("hull/{shape}/{n}"), ns);
+        }
+    }
+}
+
+fn outlines() {
+    for n in SIZES {
+        for (shape, inputs) in chains(n) {
+            race(vec![
+                ("proved", outline(undrwyth::outline, &inputs)),
+                ("twin", outline(twin::outline, &inputs)),
+                ("set", outline(plain::outline, &inputs)),
+            ])
+            .print(&format!("outline/{shape}/{n}"), ns);
         }
     }
 }
@@ -148,6 +163,11 @@ fn growth() {
             ("8192", hull(undrwyth::hull, &short)),
         ])
         .print(&format!("growth-hull/{shape}"), ns);
+        race(vec![
+            ("16384", outline(undrwyth::outline, &long)),
+            ("8192", outline(undrwyth::outline, &short)),
+        ])
+        .print(&format!("growth-outline/{shape}"), ns);
     }
     for ((shape, long), (_, short)) in rooms(16_384).zip(rooms(8_192)) {
         race(vec![

@@ -4,8 +4,8 @@ use std::fmt::Debug;
 use std::sync::atomic::{AtomicU64, Ordering};
 
 use answer::{
-    HULL_ANSWER_WORDS, POLYGON_ANSWER_WORDS, ROWS_ANSWER_WORDS, TURNS_ANSWER_WORDS,
-    WALK_ANSWER_WORDS,
+    HULL_ANSWER_WORDS, OUTLINE_ANSWER_WORDS, POLYGON_ANSWER_WORDS, ROWS_ANSWER_WORDS,
+    TURNS_ANSWER_WORDS, WALK_ANSWER_WORDS,
 };
 
 use crate::{Convert, Library, PLAIN};
@@ -108,6 +108,25 @@ pub fn hull(
     same("hull's number", chain, &ours.0, &plain.0);
     same("hull's answer", chain, &ours.1, &plain.1);
     same("hull's buffer", chain, &ours.2, &plain.2);
+    plain.1
+}
+
+/// Compares an outline in a buffer of this length, and gives the answer.
+pub fn outline(
+    library: &Library,
+    start: (i32, i32),
+    chain: &[u8],
+    out: usize,
+) -> [u32; OUTLINE_ANSWER_WORDS] {
+    let run = |library: &Library| {
+        let (mut out, mut answer) = (Lent::bytes(out), [u32::MAX; OUTLINE_ANSWER_WORDS]);
+        let number = (library.outline)(start, chain, out.part(), &mut answer);
+        ([number], answer, out.0)
+    };
+    let (ours, plain) = (run(library), run(&PLAIN));
+    same("outline's number", chain, &ours.0, &plain.0);
+    same("outline's answer", chain, &ours.1, &plain.1);
+    same("outline's buffer", chain, &ours.2, &plain.2);
     plain.1
 }
 

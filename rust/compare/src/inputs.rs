@@ -58,6 +58,35 @@ pub fn comb(n: usize, height: usize) -> Vec<u8> {
     tooth.into_iter().cycle().take(n).collect()
 }
 
+/// n steps out along a tree: a stem with twigs of this length on both sides, each walked there and back.
+pub fn brush(n: usize, length: usize) -> Vec<u8> {
+    let twig = |out: u8| [vec![out; length], vec![(out + 2) % 4; length]].concat();
+    let part = [vec![0], twig(1), twig(3)].concat();
+    part.into_iter().cycle().take(n).collect()
+}
+
+/// n steps round figures of eight with loops of this side, each one further on.
+pub fn eights(n: usize, side: usize) -> Vec<u8> {
+    let loops = [0, 1, 2, 3, 2, 3, 0, 1].map(|way| vec![way; side]).concat();
+    let part = [loops, vec![0]].concat();
+    part.into_iter().cycle().take(n).collect()
+}
+
+/// n steps to and fro along rows of this width and then along columns, so that they make a lattice.
+pub fn lattice(n: usize, width: usize) -> Vec<u8> {
+    let snake = |ahead: u8, aside: u8| {
+        let two = [
+            vec![ahead; width],
+            vec![aside],
+            vec![(ahead + 2) % 4; width],
+            vec![aside],
+        ];
+        two.concat().repeat(width / 2 + 1)
+    };
+    let part = [snake(0, 1), snake(3, 0), snake(2, 1), snake(3, 2)].concat();
+    part.into_iter().cycle().take(n).collect()
+}
+
 /// The outline of the first panels of so many that it has n steps, n even and at least 4: counterclockwise from (0,0), the
 /// lower left corner of the first panel. Each panel has one side in common with those before it, and touches no other.
 fn outline(n: usize, panels: impl Iterator<Item = (i32, i32)>) -> Vec<u8> {

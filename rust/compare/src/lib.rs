@@ -5,14 +5,15 @@ pub mod inputs;
 pub mod suite;
 
 use answer::{
-    Facts, HULL_ANSWER_WORDS, NO_MEETING, POLYGON_ANSWER_WORDS, ROWS_ANSWER_WORDS, Refusal,
-    TURNS_ANSWER_WORDS, WALK_ANSWER_WORDS,
+    Facts, HULL_ANSWER_WORDS, NO_MEETING, OUTLINE_ANSWER_WORDS, POLYGON_ANSWER_WORDS,
+    ROWS_ANSWER_WORDS, Refusal, TURNS_ANSWER_WORDS, WALK_ANSWER_WORDS,
 };
 
 /// The calls of an implementation, with the answers of the C boundary.
 pub struct Library {
     pub walk: Walk,
     pub hull: Hull,
+    pub outline: Outline,
     pub polygon_of_room: Polygon,
     pub rows: Rows,
     pub turns_of_steps: Convert,
@@ -26,6 +27,9 @@ pub type Walk =
 
 /// The hull of the walk of a chain from a start.
 pub type Hull = fn((i32, i32), &[u8], &mut [i32], &mut [u32; HULL_ANSWER_WORDS]) -> u32;
+
+/// The outer outline of the walk of a chain from a start.
+pub type Outline = fn((i32, i32), &[u8], &mut [u8], &mut [u32; OUTLINE_ANSWER_WORDS]) -> u32;
 
 /// A room, by its start and chain, as a polygon.
 pub type Polygon = fn((i32, i32), &[u8], &mut [u8], &mut [u32; POLYGON_ANSWER_WORDS]) -> u32;
@@ -41,6 +45,7 @@ pub type Convert = fn(&[u8], &mut [u8], &mut [u32; TURNS_ANSWER_WORDS]) -> u32;
 pub const PROVED: Library = Library {
     walk: undrwyth::raw::walk,
     hull: undrwyth::raw::hull,
+    outline: undrwyth::raw::outline,
     polygon_of_room: undrwyth::raw::polygon_of_room,
     rows: undrwyth::raw::rows,
     turns_of_steps: undrwyth::raw::turns_of_steps,
@@ -63,6 +68,10 @@ macro_rules! library {
                     answer,
                     $of::hull(start, chain, out).map(|count| [count as u32]),
                 )
+            },
+            outline: |start, chain, out, answer| {
+                let steps = $of::outline(start, chain, out);
+                tell(answer, steps.map(|steps| [steps as u32]))
             },
             polygon_of_room: |start, chain, out, answer| {
                 let bytes = $of::polygon_of_room(start, chain, out);

@@ -40,6 +40,16 @@ fn hull_near(library: &Library, start: (i32, i32), chain: &[u8]) {
     }
 }
 
+/// An outline in the least buffer that has room, in none, in one byte less and in one more; gives its steps.
+fn outline_near(library: &Library, start: (i32, i32), chain: &[u8]) -> u32 {
+    let [number, _, steps] = calls::outline(library, start, chain, 2 * chain.len());
+    let right = steps as usize;
+    for out in [0, right.saturating_sub(1), right, right + 1] {
+        calls::outline(library, start, chain, out);
+    }
+    if number == 0 { steps } else { 0 }
+}
+
 /// A room as a polygon in the least buffer that has room, in one byte less and in one more.
 fn polygon_near(library: &Library, start: (i32, i32), chain: &[u8]) {
     let [number, _, bytes] = calls::polygon(library, start, chain, 16 * chain.len() + 29);
@@ -85,10 +95,11 @@ pub fn short_walks(library: &Library, longest: u32) {
     }
 }
 
-/// Every chain of up to `longest` digits 0 to 4, as steps to a hull, as a room and both ways between steps and turns.
+/// Every chain of up to `longest` digits 0 to 4, as steps to a hull and to an outline, as a room and both ways between steps and turns.
 pub fn short_chains(library: &Library, longest: u32) {
     for chain in (0..=longest).flat_map(|length| strings(length, 5)) {
         hull_near(library, ORIGIN, &chain);
+        outline_near(library, ORIGIN, &chain);
         room_near(library, (1, -1), &chain);
         turns_near(library, &chain);
     }
@@ -103,6 +114,7 @@ pub fn every_byte(library: &Library) {
                 ops[place] = byte;
                 walk(library, ORIGIN, &ops, RECORD_WORDS * 9);
                 calls::hull(library, ORIGIN, &ops, 12);
+                calls::outline(library, ORIGIN, &ops, 8);
                 calls::polygon(library, (0, 0), &ops, 93);
                 calls::rows(library, (0, 0), &ops, 3);
                 calls::turns(library, &ops, ops.len());
@@ -124,6 +136,7 @@ pub fn sizes(library: &Library) {
         }
         for out in 0..=12 {
             calls::hull(library, ORIGIN, ops, out);
+            calls::outline(library, ORIGIN, ops, out);
             calls::turns(library, ops, out);
             calls::polygon(library, (0, 0), &[0, 1, 2, 3], 87 + out);
             calls::rows(library, (0, 0), &[0, 0, 1, 2, 1, 2, 3, 3], out);
@@ -175,6 +188,8 @@ fn limits_of(library: &Library, ops: &[u8]) {
     );
     calls::walk(library, ORIGIN, ops, words, 2 * ops.len(), ops.len() - 1);
     hull_near(library, ORIGIN, ops);
+    outline_near(library, ORIGIN, ops);
+    outline_near(library, (0, -MOST_START - 1), ops);
     room_near(library, (0, 0), ops);
     room_near(library, (MOST_START + 1, 0), ops);
     turns_near(library, ops);
@@ -218,6 +233,7 @@ fn rooms_of(library: &Library, room: &[u8], random: &mut Random) {
     let mut chain = room.to_vec();
     for _ in 0..room.len().min(40) {
         room_near(library, inputs::start(random), &chain);
+        outline_near(library, inputs::start(random), &chain);
         chain.rotate_left(1 + random.below(3));
     }
     chain.reverse();
@@ -237,7 +253,48 @@ fn rooms_of(library: &Library, room: &[u8], random: &mut Random) {
         let mut crossed = chain.clone();
         crossed.splice(place..place, inserted);
         room_near(library, (0, 0), &crossed);
+        outline_near(library, (0, 0), &crossed);
     }
+}
+
+/// Outlines of trees, spirals, figures of eight, walks along one line, of one step and of none, crossed and lattice walks, from every start at
+/// the ends of the range, of every size of the working store and one beyond; 32,768 steps are the most.
+pub fn outlines(library: &Library) {
+    for start in AXES.iter().flat_map(|&x| AXES.map(|y| (x, y))) {
+        for chain in [
+            &[][..],
+            &[0],
+            &[1],
+            &[2],
+            &[3],
+            &[1, 0, 3],
+            &[0, 2, 1],
+            &[4],
+        ] {
+            outline_near(library, start, chain);
+        }
+    }
+    let mut random = Random(11);
+    let mut longest = 0;
+    for n in [5, 64, 255, 256, 257, 2_047, 2_048, 2_049, MOST_STEPS] {
+        for chain in [
+            inputs::straight(n, 1),
+            inputs::stairs(n),
+            inputs::spiral(n),
+            inputs::comb(n, 9),
+            inputs::brush(n, 3),
+            inputs::eights(n, 5),
+            inputs::lattice(n, 17),
+            inputs::wander(n, &mut random),
+            inputs::hesitant(n, 0, 60, &mut random),
+        ] {
+            for turned in 0..4 {
+                let chain: Vec<u8> = chain.iter().map(|step| (step + turned) % 4).collect();
+                longest = longest.max(outline_near(library, inputs::start(&mut random), &chain));
+            }
+        }
+    }
+    assert_eq!(longest as usize, 2 * MOST_STEPS);
 }
 
 /// Every header byte by byte, every count with fitting and unfitting digits, every byte in a short frame.
@@ -290,6 +347,7 @@ pub fn starts(library: &Library, longest: u32) {
         for ops in (0..=longest).flat_map(|length| strings(length, 6)) {
             walk_near(library, start, &ops);
             hull_near(library, start, &ops);
+            outline_near(library, start, &ops);
         }
         for records in 1..=18 {
             walk(library, start, &[], RECORD_WORDS * records);
@@ -342,7 +400,7 @@ fn random_walk(library: &Library, most: usize, random: &mut Random) {
     walk(library, start, &ops, words);
 }
 
-/// A chain for the hull and for both conversions, half the time a good one.
+/// A chain for the hull, the outline and both conversions, half the time a good one.
 fn random_chain(library: &Library, random: &mut Random) {
     let mut chain = inputs::walk(MOST_INPUT, random);
     if random.once_in(2) {
@@ -350,6 +408,7 @@ fn random_chain(library: &Library, random: &mut Random) {
         chain.truncate(MOST_STEPS);
     }
     hull_near(library, inputs::start(random), &chain);
+    outline_near(library, inputs::start(random), &chain);
     turns_near(library, &chain);
     room_near(library, inputs::start(random), &chain);
 }

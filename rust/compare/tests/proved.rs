@@ -36,6 +36,9 @@ fn wrapper() {
         assert_eq!(walked(undrwyth::walk), walked(plain::walk));
         let listed = |hull: fn((i32, i32), &[u8], &mut [i32]) -> _| hull(start, &ops, &mut [0; 20]);
         assert_eq!(listed(undrwyth::hull), listed(plain::hull));
+        let outlined =
+            |outline: fn((i32, i32), &[u8], &mut [u8]) -> _| outline(start, &ops, &mut [0; 100]);
+        assert_eq!(outlined(undrwyth::outline), outlined(plain::outline));
         let drawn = |polygon: fn((i32, i32), &[u8], &mut [u8]) -> _| {
             polygon((n as i32, -1), &ops, &mut [0; 300])
         };

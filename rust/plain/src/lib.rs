@@ -4,6 +4,7 @@
 mod grid;
 mod hull;
 mod line;
+mod outline;
 mod polygon;
 mod record;
 mod rows;
@@ -12,6 +13,7 @@ mod walk;
 
 pub use hull::hull;
 pub use line::{line, program};
+pub use outline::outline;
 pub use polygon::polygon_of_room;
 pub use rows::rows;
 pub use turns::{steps_of_turns, turns_of_steps};

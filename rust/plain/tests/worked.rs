@@ -71,6 +71,13 @@ fn hull(digits: &str) -> Vec<i32> {
     out
 }
 
+fn outline(digits: &str) -> Vec<u8> {
+    let mut out = vec![0; 2 * digits.len()];
+    let steps = plain::outline((-7, 5), &ops(digits), &mut out).unwrap();
+    out.truncate(steps);
+    out
+}
+
 fn line(line: &str) -> String {
     let mut out = [0; answer::LINE_BYTES];
     let length = plain::line(line.as_bytes(), &mut out);
@@ -164,6 +171,28 @@ fn p11_a_crossing() {
     assert_eq!(turns, ops("001030330001"));
     plain::steps_of_turns(&turns, &mut back).unwrap();
     assert_eq!(back, ops(steps));
+}
+
+#[test]
+fn outlines() {
+    for (steps, around) in [
+        ("", ""),
+        ("0", "02"),
+        ("2", "02"),
+        ("111", "111333"),
+        ("103", "103123"),
+        ("021", "0213"),
+        ("3210", "0123"),
+        ("001233", "03101232"),
+        ("001100322223", "001001223223"),
+        ("001122331000", "0010212233"),
+    ] {
+        assert_eq!(outline(steps), ops(around), "{steps}");
+    }
+    assert_eq!(
+        plain::outline((0, 0), &[0], &mut [7]),
+        Err(Refusal::OutlineRoom)
+    );
 }
 
 #[test]

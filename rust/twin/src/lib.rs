@@ -3,6 +3,7 @@
 
 mod hull;
 mod line;
+mod outline;
 mod polygon;
 mod rows;
 mod tree;
@@ -11,6 +12,7 @@ mod walk;
 
 pub use hull::hull;
 pub use line::{line, program};
+pub use outline::outline;
 pub use polygon::{judge_room, polygon_of_room};
 pub use rows::rows;
 pub use turns::{steps_of_turns, turns_of_steps};

@@ -67,6 +67,26 @@ pub fn hull(start: (i32, i32), chain: &[u8], out: &mut [i32]) -> Result<usize, R
     Ok(answer[2] as usize)
 }
 
+/// Writes the steps of the outer outline of the walk of `chain` from `start` to the start of `out`: from the lowest of the leftmost
+/// corners along walked edges, keeping to the right, until each walked edge of that corner is used. Answers how many steps
+/// there are, at most two for each of the walk's; the bytes after them are unchanged.
+///
+/// ```
+/// let mut out = [7; 8];
+/// assert_eq!(undrwyth::outline((0, 0), &[1, 0, 3], &mut out), Ok(6));
+/// assert_eq!(out, [1, 0, 3, 1, 2, 3, 7, 7]);
+/// assert_eq!(
+///     undrwyth::outline((0, 0), &[1, 0, 3], &mut out[..5]),
+///     Err(undrwyth::Refusal::OutlineRoom)
+/// );
+/// ```
+pub fn outline(start: (i32, i32), chain: &[u8], out: &mut [u8]) -> Result<usize, Refusal> {
+    let mut answer = [0; OUTLINE_ANSWER_WORDS];
+    let number = raw::outline(start, chain, out, &mut answer);
+    accepted(number, answer[1])?;
+    Ok(answer[2] as usize)
+}
+
 /// Writes the room with this start and chain as a polygon to the start of `out`, in Well-Known Binary of little-endian order:
 /// the start, each later corner where the turn is not 0, and the start again, in millimetres of panels of 600. Answers how
 /// many bytes it has, at most 16 for each step and 29; the bytes after them are unchanged.

@@ -1,8 +1,8 @@
 //! The calls of the C boundary as they are, on slices: include/undrwyth.h says what each does.
 
 use answer::{
-    HULL_ANSWER_WORDS, POLYGON_ANSWER_WORDS, ROWS_ANSWER_WORDS, TURNS_ANSWER_WORDS,
-    WALK_ANSWER_WORDS,
+    HULL_ANSWER_WORDS, OUTLINE_ANSWER_WORDS, POLYGON_ANSWER_WORDS, ROWS_ANSWER_WORDS,
+    TURNS_ANSWER_WORDS, WALK_ANSWER_WORDS,
 };
 
 mod c {
@@ -27,6 +27,15 @@ mod c {
             n: usize,
             out: *mut i32,
             out_numbers: usize,
+            answer: *mut u32,
+        ) -> u32;
+        pub fn undrwyth_outline(
+            start_x: i32,
+            start_y: i32,
+            chain: *const u8,
+            n: usize,
+            out: *mut u8,
+            out_bytes: usize,
             answer: *mut u32,
         ) -> u32;
         pub fn undrwyth_polygon_of_room(
@@ -102,6 +111,27 @@ pub fn hull(
     // SAFETY: as for walk.
     unsafe {
         c::undrwyth_hull(
+            start.0,
+            start.1,
+            chain.as_ptr(),
+            chain.len(),
+            out.as_mut_ptr(),
+            out.len(),
+            answer.as_mut_ptr(),
+        )
+    }
+}
+
+/// `undrwyth_outline`: the refusal's number, 0 for none.
+pub fn outline(
+    start: (i32, i32),
+    chain: &[u8],
+    out: &mut [u8],
+    answer: &mut [u32; OUTLINE_ANSWER_WORDS],
+) -> u32 {
+    // SAFETY: as for walk.
+    unsafe {
+        c::undrwyth_outline(
             start.0,
             start.1,
             chain.as_ptr(),

@@ -36,6 +36,11 @@ fn rooms() {
 }
 
 #[test]
+fn outlines() {
+    suite::outlines(&LIBRARY);
+}
+
+#[test]
 fn starts() {
     suite::starts(&LIBRARY, LONGEST / 3);
 }

@@ -1,0 +1,3 @@
+-- The outer outline, and what its call promises.
+pub mod Outline
+pub mod Call

@@ -1,0 +1,81 @@
+-- `outline_links::build` meets its contract.
+-- Assumes nothing.
+use borrow.Author.Needs.{needs}
+use mathlib.Core.Path.{_≡_, refl, _∙_}
+use Prim.Native.Nat.{_-_}
+use native.Mathlib.Omega.{arith}
+use lib.ListN.{length, length-set}
+use Rattle.grid.specs.declared.Corner.{Corner}
+use Rattle.grid.specs.Grid.{origin}
+use Rattle.outline_links.proofs.BuildLaws.{Building, building-start, building-key, building-ready, building-next, building-sizes, building-end}
+use Rattle.outline_links.proofs.build.Statement.{statement}
+use Rattle.outline_links.proofs.build.Tie as tie
+
+abbrev Inv-loop : tie.InvT-loop
+Inv-loop chain keys₀ kids₀ links₀ k₀ least₀ home₀ used₀ node₀ i₀ keys kids links k least home used node i = ((c : Corner) → Building c chain keys kids links k least home used node i) × (length keys ≡ length keys₀)
+
+abbrev μ-loop : tie.MeasureT-loop
+μ-loop chain keys₀ kids₀ links₀ k₀ least₀ home₀ used₀ node₀ i₀ keys kids links k least home used node i = length chain - i
+
+slice-write-keys : tie.Need-slice-write-keys Inv-loop μ-loop
+slice-write-keys c = search needs
+
+loop-holds : tie.Need-loop-holds Inv-loop μ-loop
+loop-holds c = ((λ a. building-start a (c .before .before .before .before .args .chain .now) (c .before .before .before .before .args .keys .now) (c .before .before .before .before .args .kids .now) (c .before .before .before .before .args .links .now) (c .before .before .before .before .pre)), refl)
+
+shared-slice-read-d : tie.Need-shared-slice-read-d Inv-loop μ-loop
+shared-slice-read-d c = search needs
+
+key-after-requires : tie.Need-key-after-requires Inv-loop μ-loop
+key-after-requires c κs = let l = c .before .before .loop in building-key origin (c .before .before .before .before .before .before .before .args .chain .now) (l .keys) (l .kids) (l .links) (l .k) (l .least) (l .home) (l .used) (l .node) (l .i) (l .inv .0 origin) (c .before .loop-test .taken)
+
+advance-requires : tie.Need-advance-requires Inv-loop μ-loop
+advance-requires c κs = let l = c .before .before .before .before .before .before .loop in (building-ready origin (c .before .before .before .before .before .before .before .before .before .before .before .args .chain .now) (l .keys) (l .kids) (l .links) (l .k) (l .least) (l .home) (l .used) (l .node) (l .i) (l .inv .0 origin) (c .before .before .before .before .before .loop-test .taken), l .inv .0 origin .sized .digits (l .i))
+
+lower-requires : tie.Need-lower-requires Inv-loop μ-loop
+lower-requires c κs = search needs
+
+lesser-requires : tie.Need-lesser-requires Inv-loop μ-loop
+lesser-requires c κs = search needs
+
+add-i : tie.Need-add-i Inv-loop μ-loop
+add-i c = search needs
+
+loop-less : tie.Need-loop-less Inv-loop μ-loop
+loop-less c = omega (arith, c .before .before .before .before .before .before .before .before .before .before .before .before .before .before .loop-test .taken)
+
+loop-again : tie.Need-loop-again Inv-loop μ-loop
+loop-again c = let l = c .before .before .before .before .before .before .before .before .before .before .before .before .before .before .before .loop in ((λ a. building-next a (c .before .before .before .before .before .before .before .before .before .before .before .before .before .before .before .before .before .before .before .before .args .chain .now) (l .keys) (l .kids) (l .links) (l .k) (l .least) (l .home) (l .used) (l .node) (l .i) (l .inv .0 a) (c .before .before .before .before .before .before .before .before .before .before .before .before .before .before .loop-test .taken) (c .before .before .before .before .before .before .before .before .before .before .before .before .key-after .ensures) (c .before .before .before .before .before .before .before .before .advance .ensures) (c .lesser .ensures) (c .before .lower .ensures) .0), building-next origin (c .before .before .before .before .before .before .before .before .before .before .before .before .before .before .before .before .before .before .before .before .args .chain .now) (l .keys) (l .kids) (l .links) (l .k) (l .least) (l .home) (l .used) (l .node) (l .i) (l .inv .0 origin) (c .before .before .before .before .before .before .before .before .before .before .before .before .before .before .loop-test .taken) (c .before .before .before .before .before .before .before .before .before .before .before .before .key-after .ensures) (c .before .before .before .before .before .before .before .before .advance .ensures) (c .lesser .ensures) (c .before .lower .ensures) .1 ∙ l .inv .1)
+
+same-length : tie.Need-same-length Inv-loop μ-loop
+same-length c = let l = c .before .loop in let z = building-sizes origin (c .before .before .before .before .before .before .args .chain .now) (l .keys) (l .kids) (l .links) (l .k) (l .least) (l .home) (l .used) (l .node) (l .i) (l .inv .0 origin) in let e : length (l .keys) ≡ length (c .before .before .before .before .before .before .args .keys .now) = l .inv .1 ∙ length-set (c .before .before .before .before .before .before .args .keys .now) 0 536903680 in e
+
+same-length-2 : tie.Need-same-length-2 Inv-loop μ-loop
+same-length-2 c = let l = c .before .loop in let z = building-sizes origin (c .before .before .before .before .before .before .args .chain .now) (l .keys) (l .kids) (l .links) (l .k) (l .least) (l .home) (l .used) (l .node) (l .i) (l .inv .0 origin) in let e : length (l .keys) ≡ length (c .before .before .before .before .before .before .args .keys .now) = l .inv .1 ∙ length-set (c .before .before .before .before .before .before .args .keys .now) 0 536903680 in omega (arith, z .0, e, c .before .before .before .before .before .before .pre .pairs)
+
+same-length-3 : tie.Need-same-length-3 Inv-loop μ-loop
+same-length-3 c = let l = c .before .loop in let z = building-sizes origin (c .before .before .before .before .before .before .args .chain .now) (l .keys) (l .kids) (l .links) (l .k) (l .least) (l .home) (l .used) (l .node) (l .i) (l .inv .0 origin) in let e : length (l .keys) ≡ length (c .before .before .before .before .before .before .args .keys .now) = l .inv .1 ∙ length-set (c .before .before .before .before .before .before .args .keys .now) 0 536903680 in omega (arith, z .1, e, c .before .before .before .before .before .before .pre .words)
+
+returns : tie.Need-returns Inv-loop μ-loop
+returns c = λ a. let l = c .before .loop in building-end a (c .before .before .before .before .before .before .args .chain .now) (l .keys) (l .kids) (l .links) (l .k) (l .least) (l .home) (l .used) (l .node) (l .i) (l .inv .0 a) (c .loop-test .left)
+
+pub build-spec : {M : Type 1} → statement M
+build-spec =
+    tie.close
+    (tie.spec
+    Inv-loop
+    μ-loop
+    slice-write-keys
+    loop-holds
+    shared-slice-read-d
+    key-after-requires
+    advance-requires
+    lower-requires
+    lesser-requires
+    add-i
+    loop-less
+    loop-again
+    same-length
+    same-length-2
+    same-length-3
+    returns)

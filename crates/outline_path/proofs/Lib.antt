@@ -1,0 +1,2 @@
+-- Laws of the passes along the outline.
+pub mod RingLaws

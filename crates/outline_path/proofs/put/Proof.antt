@@ -1,0 +1,58 @@
+-- `outline_path::put` meets its contract.
+-- Assumes nothing.
+use borrow.Author.Needs.{needs}
+use Prim.Native.Nat.{_-_, _≤_}
+use native.Mathlib.Omega.{arith}
+use Rattle.grid.specs.Grid.{origin}
+use Rattle.outline_path.proofs.RingLaws.{Writing, at-link, at-to, writing-start, writing-length, writing-next, writing-end}
+use Rattle.outline_path.proofs.put.Statement.{statement}
+use Rattle.outline_path.proofs.put.Tie as tie
+
+abbrev Inv-loop : tie.InvT-loop
+Inv-loop chain links home first n out₀ i₀ d₀ k₀ out i d k = Writing chain out₀ out k i d × (k ≤ n)
+
+abbrev μ-loop : tie.MeasureT-loop
+μ-loop chain links home first n out₀ i₀ d₀ k₀ out i d k = n - k
+
+loop-holds : tie.Need-loop-holds Inv-loop μ-loop
+loop-holds c = (writing-start (c .before .before .before .args .chain .now) (c .before .before .before .args .links .now) (c .before .before .before .args .home) (c .before .before .before .args .first) (c .before .before .before .pre .0) (c .before .before .before .args .out .now), omega arith)
+
+slice-write-out : tie.Need-slice-write-out Inv-loop μ-loop
+slice-write-out c = let l = c .before .loop in let z = writing-length (c .before .before .before .before .before .args .chain .now) (c .before .before .before .before .before .args .links .now) (c .before .before .before .before .before .args .home) (c .before .before .before .before .before .args .first) (c .before .before .before .before .before .pre .0) (c .before .before .before .before .before .args .out .now) (l .out) (l .k) (l .i) (l .d) (l .inv .0) (omega (arith, l .inv .1, c .before .before .before .before .before .pre .2)) in omega (arith, z, c .before .before .before .before .before .pre .2, c .loop-test .taken)
+
+follow-requires : tie.Need-follow-requires Inv-loop μ-loop
+follow-requires c κs = let l = c .before .loop in at-link origin (c .before .before .before .before .before .args .chain .now) (c .before .before .before .before .before .args .links .now) (c .before .before .before .before .before .args .home) (c .before .before .before .before .before .args .first) (c .before .before .before .before .before .pre .0) (l .k) (l .i) (l .d) (l .inv .0 .at origin)
+
+turn-requires : tie.Need-turn-requires Inv-loop μ-loop
+turn-requires c κs = let l = c .before .before .loop in at-to origin (c .before .before .before .before .before .before .args .chain .now) (c .before .before .before .before .before .before .args .links .now) (c .before .before .before .before .before .before .args .home) (c .before .before .before .before .before .before .args .first) (c .before .before .before .before .before .before .pre .0) (l .k) (l .i) (l .d) (l .inv .0 .at origin) (c .follow .result) (c .follow .ensures)
+
+add-k : tie.Need-add-k Inv-loop μ-loop
+add-k c = search needs
+
+loop-less : tie.Need-loop-less Inv-loop μ-loop
+loop-less c = omega (arith, c .before .before .loop-test .taken)
+
+loop-again : tie.Need-loop-again Inv-loop μ-loop
+loop-again c = let l = c .before .before .before .loop in (writing-next (c .before .before .before .before .before .before .before .args .chain .now) (c .before .before .before .before .before .before .before .args .links .now) (c .before .before .before .before .before .before .before .args .home) (c .before .before .before .before .before .before .before .args .first) (c .before .before .before .before .before .before .before .pre .0) (c .before .before .before .before .before .before .before .args .out .now) (l .out) (l .k) (l .i) (l .d) (l .inv .0) (omega (arith, c .before .before .loop-test .taken, c .before .before .before .before .before .before .before .pre .2)) (c .before .follow .result) (c .turn .result) (c .before .follow .ensures) (c .turn .ensures), omega (arith, c .before .before .loop-test .taken))
+
+same-length : tie.Need-same-length Inv-loop μ-loop
+same-length c = let l = c .before .loop in writing-length (c .before .before .before .before .before .args .chain .now) (c .before .before .before .before .before .args .links .now) (c .before .before .before .before .before .args .home) (c .before .before .before .before .before .args .first) (c .before .before .before .before .before .pre .0) (c .before .before .before .before .before .args .out .now) (l .out) (l .k) (l .i) (l .d) (l .inv .0) (omega (arith, l .inv .1, c .before .before .before .before .before .pre .2))
+
+returns : tie.Need-returns Inv-loop μ-loop
+returns c = let l = c .before .loop in writing-end (c .before .before .before .before .before .args .chain .now) (c .before .before .before .before .before .args .links .now) (c .before .before .before .before .before .args .home) (c .before .before .before .before .before .args .first) (c .before .before .before .before .before .pre .0) (c .before .before .before .before .before .args .out .now) (l .out) (l .k) (l .i) (l .d) (l .inv .0) (c .before .before .before .before .before .args .n) (c .before .before .before .before .before .pre .1) (omega (arith, l .inv .1, c .loop-test .left))
+
+pub put-spec : {M : Type 1} → statement M
+put-spec =
+    tie.close
+    (tie.spec
+    Inv-loop
+    μ-loop
+    loop-holds
+    slice-write-out
+    follow-requires
+    turn-requires
+    add-k
+    loop-less
+    loop-again
+    same-length
+    returns)

@@ -1,0 +1,2 @@
+-- What the passes along the outline ask and promise.
+pub mod Ring

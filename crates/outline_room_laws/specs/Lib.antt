@@ -1,0 +1,2 @@
+-- What lies outside a walk.
+pub mod Outside

@@ -1,0 +1,2 @@
+-- From the parts of the outline's call to the whole.
+pub mod ScanLaws

@@ -1,0 +1,84 @@
+-- From the parts of the outline's call to the whole.
+-- Assumes nothing.
+use mathlib.Core.Bool.{true}
+use mathlib.Core.List.{List, [], _∷_, _++_}
+use mathlib.Core.Path.{_≡_, refl, ap, sym, _∙_}
+use Prim.Native.Nat.{ℕ, zero, suc, _*_, _<_, _≤_}
+use native.Mathlib.Omega.{arith}
+use borrow.Author.Tests.{lt-ltb, le-ltb}
+use lib.ListN.{length, getD, drop, replicate, length-replicate}
+use Rattle.answer.specs.declared.{Judged.Judged, Judged.the-variants.Good, Judged.the-variants.Refused, Refusal.the-variants.OutlineRoom, Counted.Counted}
+use Rattle.answer.specs.Limits.{mostInput, startFits}
+use Rattle.answer.specs.Refusal.{when}
+use Rattle.grid.specs.declared.Corner.{Corner}
+use Rattle.steps.specs.Turns.{writtenIf}
+use Rattle.hull.specs.Call.{chainJudged, countedOf}
+use Rattle.hull_laws.proofs.CallLaws as hulls
+use Rattle.hull_laws.proofs.SurveyLaws.{good-digits, good-short}
+use Rattle.outline.specs.Call.{roomJudged, outlineJudged, OutlineCall}
+use Rattle.outline.proofs.Computed.{outlineOf}
+use Rattle.outline_laws.proofs.OutlineLaws.{outlineOf-is}
+use Rattle.outline_laws.proofs.CallLaws.{judged-last}
+use Rattle.outline_links.specs.Built.{Blank}
+use Rattle.outline_path.specs.Ring.{Long, Written}
+use Rattle.outline_scan.specs.Traced.{Steady, Traced}
+
+-- ---- the store
+
+zeros : (n l : ℕ) → _≡_ {A = ℕ} (getD (replicate n 0) l 0) 0
+zeros zero l = refl
+zeros (suc n) zero = refl
+zeros (suc n) (suc l) = zeros n l
+
+-- a store of zeros is blank
+pub blank-of : (chain : List ℕ) (n k l : ℕ) → Steady chain → length chain < n → n ≤ 16385 → k ≡ 2 * n → l ≡ 4 * n → Blank chain (replicate n 0) (replicate k 0) (replicate l 0)
+blank-of chain n k l s h m ek el = record {
+  digits = s .digits;
+  room = omega (arith, h, length-replicate {A = ℕ} n 0);
+  small = omega (arith, m, length-replicate {A = ℕ} n 0);
+  pairs = omega (arith, ek, length-replicate {A = ℕ} n 0, length-replicate {A = ℕ} k 0);
+  words = omega (arith, el, length-replicate {A = ℕ} n 0, length-replicate {A = ℕ} l 0);
+  childless = zeros k;
+  linkless = zeros l;
+}
+
+-- ---- too little room, or all of it written
+
+module _ (chain before : List ℕ) where
+  abbrev whole : Corner → List ℕ
+  whole c = outlineOf c chain ++ drop (length (outlineOf c chain)) before
+
+  by-room : (c : Corner) (j : Judged) (r : Counted) (after : List ℕ) → roomJudged (length before) (length (outlineOf c chain)) ≡ j → r ≡ countedOf j (length (outlineOf c chain)) → after ≡ writtenIf j (whole c) before → Traced c chain before r after
+  by-room c j r after e a b = record {
+    answer = a ∙ sym (ap (λ (k : Judged). countedOf k (length (outlineOf c chain))) e);
+    buffer = b ∙ sym (ap (λ (k : Judged). writtenIf k (whole c) before) e);
+  }
+
+  pub traced-short : (n : ℕ) → Long chain n → length before < n → (c : Corner) → Traced c chain before (Counted.Refused OutlineRoom) before
+  traced-short n l h c =
+      by-room c (Refused OutlineRoom) (Counted.Refused OutlineRoom) before (ap (λ b. when b OutlineRoom) (lt-ltb (length before) (length (outlineOf c chain)) (omega (arith, l c)))) refl refl
+
+  pub traced-written : (after : List ℕ) (n : ℕ) → Long chain n → n ≤ length before → Written chain before after → (c : Corner) → Traced c chain before (Counted.Many n) after
+  traced-written after n l h w c =
+      by-room c Good (Counted.Many n) after (ap (λ b. when b OutlineRoom) (le-ltb (length before) (length (outlineOf c chain)) (omega (arith, l c)))) (ap Counted.Many (l c)) (w c)
+
+pub traced-empty : (chain before : List ℕ) → length chain ≡ 0 → (c : Corner) → Traced c chain before (Counted.Many 0) before
+traced-empty [] before e c = traced-written [] before before 0 (λ a. refl) (omega arith) (λ a. refl) c
+traced-empty (d ∷ chain) before e c = absurd (omega arith)
+
+-- ---- the call
+
+-- a chain without a fault
+pub steady : (chain : List ℕ) → chainJudged 0 chain ≡ Good → Steady chain
+steady chain g = record { digits = good-digits 0 chain g; short = omega (arith, good-short 0 chain (omega arith) g) }
+
+pub call-traced : (s : Corner) (ds before : List ℕ) (r : Counted) (after : List ℕ) → length ds ≤ mostInput → startFits s ≡ true → chainJudged 0 ds ≡ Good → Traced s ds before r after → OutlineCall s ds before r after
+call-traced s ds before r after h f g t =
+    let es = outlineOf s ds in
+    let j : outlineJudged s ds (length before) (length es) ≡ roomJudged (length before) (length es) = judged-last s ds (length before) (length es) (hulls.judged-room s ds 0 0 h f g) in
+    record {
+      steps = es;
+      outline = outlineOf-is s ds;
+      answer = t .answer ∙ sym (ap (λ (k : Judged). countedOf k (length es)) j);
+      buffer = t .buffer ∙ sym (ap (λ (k : Judged). writtenIf k (es ++ drop (length es) before) before) j);
+    }

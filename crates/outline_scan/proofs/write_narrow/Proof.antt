@@ -1,0 +1,37 @@
+-- `outline_scan::write_narrow` meets its contract.
+-- Assumes nothing.
+use borrow.Author.Needs.{needs}
+use mathlib.Core.Path.{refl}
+use native.Mathlib.Omega.{arith}
+use Rattle.outline_scan.proofs.ScanLaws.{blank-of}
+use Rattle.outline_scan.proofs.write_narrow.Statement.{statement}
+use Rattle.outline_scan.proofs.write_narrow.Tie as tie
+
+slice-aggregate-write-in : tie.Need-slice-aggregate-write-in
+slice-aggregate-write-in c = search needs
+
+slice-aggregate-write-in-2 : tie.Need-slice-aggregate-write-in-2
+slice-aggregate-write-in-2 c = search needs
+
+slice-aggregate-write-in-3 : tie.Need-slice-aggregate-write-in-3
+slice-aggregate-write-in-3 c = search needs
+
+write-in-requires : tie.Need-write-in-requires
+write-in-requires c κs = let s = c .before .before .before .before .before .before in (blank-of (s .args .chain .now) 257 514 1028 (s .pre .0) (s .pre .2) (omega arith) refl refl, s .pre .1)
+
+same-length : tie.Need-same-length
+same-length c = search needs
+
+returns : tie.Need-returns
+returns c = search needs
+
+pub write-narrow-spec : {M : Type 1} → statement M
+write-narrow-spec =
+    tie.close
+    (tie.spec
+    slice-aggregate-write-in
+    slice-aggregate-write-in-2
+    slice-aggregate-write-in-3
+    write-in-requires
+    same-length
+    returns)

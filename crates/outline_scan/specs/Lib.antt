@@ -1,0 +1,2 @@
+-- What is done with a chain that is not refused.
+pub mod Traced

@@ -1,0 +1,40 @@
+-- `undrwyth::undrwyth_outline` meets its contract.
+-- Assumes nothing.
+use borrow.Author.Needs.{needs}
+use mathlib.Core.Path.{ap₂, subst}
+use mir.Syntax.{w32}
+use mir.ValLaws.{toZ-ofZ}
+use Rattle.grid.specs.declared.Corner.{Corner}
+use Rattle.grid.specs.Grid.{corner}
+use Rattle.outline.specs.Call.{OutlineCall}
+use Rattle.undrwyth.proofs.WordLaws.{counted-first}
+use Rattle.undrwyth.proofs.BoundaryLaws.{outline-fits}
+use Rattle.undrwyth.proofs.undrwyth_outline.Statement.{statement}
+use Rattle.undrwyth.proofs.undrwyth_outline.Tie as tie
+
+write-requires : tie.Need-write-requires
+write-requires c κs = search needs
+
+counted-words-requires : tie.Need-counted-words-requires
+counted-words-requires c κs = let a = c .before .before .before .before .before .before .args in let w = c .before .before .write in outline-fits _ (a .chain .now) (a .out .now) (w .result) (w .last .1 .1 .0) (w .ensures)
+
+array-read-result : tie.Need-array-read-result
+array-read-result c = search needs
+
+same-length : tie.Need-same-length
+same-length c = search needs
+
+returns : tie.Need-returns
+returns c =
+    let a = c .before .before .before .before .before .before .before .args in
+    let w = c .before .before .before .write in
+    record {
+      answer = w .result;
+      written = subst (λ (s : Corner). OutlineCall s (a .chain .now) (a .out .now) (w .result) (w .last .1 .1 .0)) (ap₂ corner (toZ-ofZ w32 (a .start-x) (c .before .before .before .before .before .before .before .fits .start-x)) (toZ-ofZ w32 (a .start-y) (c .before .before .before .before .before .before .before .fits .start-y))) (w .ensures);
+      words-are = c .counted-words .ensures;
+      result = counted-first (w .result) (c .counted-words .result) (c .counted-words .ensures);
+    }
+
+pub undrwyth-outline-spec : {M : Type 1} → statement M
+undrwyth-outline-spec =
+    tie.close (tie.spec write-requires counted-words-requires array-read-result same-length returns)
