@@ -43,10 +43,10 @@ extern "C" {
 #define UNDRWYTH_MOST_START 16384          /* magnitude of a start's coordinates */
 #define UNDRWYTH_MOST_RECORDS 131148       /* records in a table */
 #define UNDRWYTH_MOST_LINE_DIGITS 1024     /* operations or turns in a frame of the line program */
-#define UNDRWYTH_LINE_RECORDS 390          /* records of the table in which a frame is walked */
+#define UNDRWYTH_LINE_RECORDS 320          /* records of the table in which a frame is walked */
 
 /* Lengths of buffers. */
-#define UNDRWYTH_RECORD_WORDS 21           /* table words a record */
+#define UNDRWYTH_RECORD_WORDS 25           /* table words a record */
 #define UNDRWYTH_MARK_WORDS 2              /* marks words an operation */
 #define UNDRWYTH_CORNER_NUMBERS 2          /* numbers a hull corner: x, y */
 #define UNDRWYTH_POLYGON_HEADER_BYTES 13   /* bytes of a polygon before its points */

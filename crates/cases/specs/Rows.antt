@@ -96,7 +96,7 @@ rows =
     ∷ row (0 ∷ 0 ∷ 1 ∷ 1 ∷ [])
     (cornersAre 5 ∷ nodesAre 6 ∷ marksAre (2 ∷ 1 ∷ 3 ∷ 1 ∷ 4 ∷ 1 ∷ 6 ∷ 1 ∷ [])
     ∷ nodeIs 4 (at 1 1) ∷ visitsAre (at 1 1) 0 ∷ linkIs (at 1 0) 1 4
-    ∷ recordIs 6 4 (1 ∷ 0 ∷ 0 ∷ 0 ∷ 0 ∷ 6 ∷ 0 ∷ 0 ∷ 0 ∷ 0 ∷ 0 ∷ 0 ∷ 0 ∷ 2 ∷ 0 ∷ 0 ∷ 0 ∷ 4 ∷ 0 ∷ 4 ∷ 0 ∷ [])
+    ∷ recordIs 6 4 (1 ∷ 0 ∷ 0 ∷ 0 ∷ 0 ∷ 6 ∷ 0 ∷ 0 ∷ 0 ∷ 0 ∷ 0 ∷ 0 ∷ 0 ∷ 2 ∷ 0 ∷ 0 ∷ 0 ∷ 4 ∷ 0 ∷ 4 ∷ 0 ∷ 0 ∷ 0 ∷ 0 ∷ 0 ∷ [])
     ∷ judgedAs 5 7 3 ∷ judgedAs 6 0 0 ∷ [])
     ∷ row (0 ∷ 0 ∷ 4 ∷ 1 ∷ 2 ∷ 3 ∷ []) (marksAre (2 ∷ 1 ∷ 3 ∷ 1 ∷ 2 ∷ 1 ∷ 3 ∷ 1 ∷ 4 ∷ 1 ∷ 4 ∷ 2 ∷ []) ∷ [])
     ∷ row (0 ∷ 2 ∷ 0 ∷ 4 ∷ []) (marksAre (2 ∷ 1 ∷ 2 ∷ 2 ∷ 2 ∷ 2 ∷ 2 ∷ 2 ∷ []) ∷ survive (0 ∷ 2 ∷ []) ∷ verdictIs 5 ∷ linkIs origin 0 1 ∷ [])

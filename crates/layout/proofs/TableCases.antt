@@ -18,23 +18,23 @@ recordAfter ds a = recordOf (cornersFrom origin ds) (nodesOf (cornersFrom origin
 
 -- the unvisited (1,1) of 0011: a child in word 5, a link south to (1,0), needed by step 4, never visited
 unvisited-record : recordAfter (0 ∷ 0 ∷ 1 ∷ 1 ∷ []) (corner (pos 1) (pos 1))
-    ≡ 1 ∷ 0 ∷ 0 ∷ 0 ∷ 0 ∷ 6 ∷ 0 ∷ 0 ∷ 0 ∷ 0 ∷ 0 ∷ 0 ∷ 0 ∷ 2 ∷ 0 ∷ 0 ∷ 0 ∷ 4 ∷ 0 ∷ 4 ∷ 0 ∷ []
+    ≡ 1 ∷ 0 ∷ 0 ∷ 0 ∷ 0 ∷ 6 ∷ 0 ∷ 0 ∷ 0 ∷ 0 ∷ 0 ∷ 0 ∷ 0 ∷ 2 ∷ 0 ∷ 0 ∷ 0 ∷ 4 ∷ 0 ∷ 4 ∷ 0 ∷ 0 ∷ 0 ∷ 0 ∷ 0 ∷ []
 unfolding recordAfter
 unvisited-record = refl
 
 -- visited later, it has one visit, was needed by step 4 and first visited at p6
-visited-later : drop 18 (recordAfter (0 ∷ 0 ∷ 1 ∷ 1 ∷ 2 ∷ 3 ∷ []) (corner (pos 1) (pos 1))) ≡ 1 ∷ 4 ∷ 7 ∷ []
+visited-later : drop 18 (recordAfter (0 ∷ 0 ∷ 1 ∷ 1 ∷ 2 ∷ 3 ∷ []) (corner (pos 1) (pos 1))) ≡ 1 ∷ 4 ∷ 7 ∷ 0 ∷ 0 ∷ 0 ∷ 0 ∷ []
 unfolding recordAfter
 visited-later = refl
 
 -- the root of 01223: five children in five words, and a link to the east alone, though the corners north and west are nodes
 root-record : recordAfter (0 ∷ 1 ∷ 2 ∷ 2 ∷ 3 ∷ []) root
-    ≡ 0 ∷ 0 ∷ 6 ∷ 5 ∷ 0 ∷ 0 ∷ 4 ∷ 0 ∷ 2 ∷ 3 ∷ 2 ∷ 0 ∷ 0 ∷ 0 ∷ 1 ∷ 0 ∷ 0 ∷ 0 ∷ 1 ∷ 0 ∷ 1 ∷ []
+    ≡ 0 ∷ 0 ∷ 6 ∷ 5 ∷ 0 ∷ 0 ∷ 4 ∷ 0 ∷ 2 ∷ 3 ∷ 2 ∷ 0 ∷ 0 ∷ 0 ∷ 1 ∷ 0 ∷ 0 ∷ 0 ∷ 1 ∷ 0 ∷ 1 ∷ 0 ∷ 0 ∷ 0 ∷ 0 ∷ []
 unfolding recordAfter
 root-record = refl
 
--- a record is 21 words
-record-width : width ≡ 21
+-- a record is 25 words
+record-width : width ≡ 25
 record-width = refl
 
 -- one record in use, and zeros after it

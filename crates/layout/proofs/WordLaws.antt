@@ -99,4 +99,4 @@ pub words-cong : (r q : Fields) → r .parent ≡ q .parent → ((k : ℕ) → 0
 words-cong r q a b c d x y z =
     ap₂ (λ (l m : List ℕ). l ++ m)
     (ap₂ (λ (w : ℕ) (l : List ℕ). w ∷ l) a (ap₂ (λ (l m : List ℕ). l ++ m) (tab-cong 1 9 (r .child) (q .child) (λ k i j. b k i j)) (tab-cong 0 4 (r .neighbour) (q .neighbour) (λ k i j. c k j))))
-    (ap₂ (λ (l m : List ℕ). l ++ m) (tab-cong 0 4 (r .link) (q .link) (λ k i j. d k j)) (ap₂ (λ (w : ℕ) (l : List ℕ). w ∷ l) x (ap₂ (λ (w u : ℕ). w ∷ u ∷ []) y z)))
+    (ap₂ (λ (l m : List ℕ). l ++ m) (tab-cong 0 4 (r .link) (q .link) (λ k i j. d k j)) (ap₂ (λ (w : ℕ) (l : List ℕ). w ∷ l) x (ap₂ (λ (w u : ℕ). w ∷ u ∷ 0 ∷ 0 ∷ 0 ∷ 0 ∷ []) y z)))

@@ -3,9 +3,9 @@ use Rattle.lists.specs.Lists.{cond, not, _&&_, List, [], _∷_, _++_, length, r
 use Rattle.grid.specs.{declared.Corner.Corner, Grid.same, Grid.stepped, Grid.cornersFrom, Tree.parentOf, Tree.isRoot, Tree.childWord}
 use Rattle.tree.specs.Nodes.{nodesOf, refOf, needOf, linkStepOf}
 
--- words of a record: 14 that all walks in a table share, and 7 of each of m walks
+-- words of a record: 14 that all walks in a table share, and 11 of each of m walks
 abbrev pub recordWords : ℕ → ℕ
-recordWords m = 14 + m * 7
+recordWords m = 14 + m * 11
 
 -- words of a record in the table of one walk
 abbrev pub width : ℕ
@@ -63,7 +63,7 @@ abbrev pub sharedWords : Fields → List ℕ
 sharedWords r = r .parent ∷ tab 1 9 (r .child) ++ tab 0 4 (r .neighbour)
 
 abbrev pub ownWords : Fields → List ℕ
-ownWords r = tab 0 4 (r .link) ++ (r .visits ∷ r .need ∷ r .first ∷ [])
+ownWords r = tab 0 4 (r .link) ++ (r .visits ∷ r .need ∷ r .first ∷ 0 ∷ 0 ∷ 0 ∷ 0 ∷ [])
 
 abbrev pub wordsOf : Fields → List ℕ
 wordsOf r = sharedWords r ++ ownWords r

@@ -20,7 +20,7 @@ mostHeld = suc mostLine
 
 -- records of the table in which a frame is walked, and the words that they take
 abbrev pub frameRecords : ℕ
-frameRecords = 390
+frameRecords = 320
 
 abbrev pub tableWords : ℕ
 tableWords = frameRecords * width

@@ -35,7 +35,7 @@ pub struct Desk;
 
 impl Desk {
     // records of the table
-    pub const RECORDS: usize = 390;
+    pub const RECORDS: usize = 320;
 
     // its words
     pub const TABLE: usize = Desk::RECORDS * Record::WORDS;

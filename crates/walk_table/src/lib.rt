@@ -11,7 +11,7 @@ ghost use Rattle.layout.specs.Table.{width, wordAt, HasRecord, neighbourWord, l
 pub struct Record(pub usize);
 
 impl Record {
-    pub const WORDS: usize = 21;
+    pub const WORDS: usize = 25;
 
     pub const PARENT: usize = 0;
 

@@ -7,7 +7,7 @@ pub const MOST_STEPS: usize = 16_384;
 /// How far from 0 a coordinate of a start may be.
 pub const MOST_START: i32 = 16_384;
 /// Words in a record.
-pub const RECORD_WORDS: usize = 21;
+pub const RECORD_WORDS: usize = 25;
 /// Records in a table at most.
 pub const MOST_RECORDS: usize = 131_148;
 /// j and k where there is no meeting.
@@ -15,7 +15,7 @@ pub const NO_MEETING: u32 = 65_535;
 /// Operations or turns in a line at most.
 pub const MOST_LINE_DIGITS: usize = 1_024;
 /// Records of the table in which a line is walked.
-pub const LINE_RECORDS: usize = 390;
+pub const LINE_RECORDS: usize = 320;
 /// Bytes of a buffer that holds the answer to any line.
 pub const LINE_BYTES: usize = 8_240;
 /// Words of the answer to a walk at the C boundary: number, place, verdict, n, nodes, different corners, j, k, area, last x,

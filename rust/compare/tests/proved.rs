@@ -28,7 +28,7 @@ fn wrapper() {
             walk(
                 start,
                 &ops,
-                &mut [0; 21 * 60],
+                &mut [0; 25 * 60],
                 &mut vec![0; 2 * n],
                 &mut vec![0; n],
             )

@@ -288,7 +288,7 @@ fn order_of_refusals() {
         Err(Refusal::Table)
     );
     assert_eq!(
-        plain::walk((0, 0), &many[..1], &mut [0; 21], &mut [0; 2], &mut []),
+        plain::walk((0, 0), &many[..1], &mut [0; 25], &mut [0; 2], &mut []),
         Err(Refusal::ResultRoom)
     );
 }
@@ -372,7 +372,7 @@ fn lines() {
     assert_eq!(line("0000010F"), "8900000000");
     assert_eq!(line("02000000"), "8900000000");
     assert_eq!(line(&format!("000401{}", "0".repeat(0x401))), "8900000000");
-    assert_eq!(&line(&format!("000185{}", "0".repeat(389)))[..2], "01");
-    assert_eq!(line(&format!("000186{}", "0".repeat(390))), "8700000185");
+    assert_eq!(&line(&format!("00013f{}", "0".repeat(319)))[..2], "01");
+    assert_eq!(line(&format!("000140{}", "0".repeat(320))), "870000013f");
     assert_eq!(plain::line(b"", &mut [0; answer::LINE_BYTES - 1]), 0);
 }
