@@ -61,7 +61,7 @@ extern "C" {
 #define UNDRWYTH_POLYGON_STACK_BYTES 132096 /* 131,216 measured; 131,080 are its working store */
 #define UNDRWYTH_ROWS_STACK_BYTES 263168   /* 262,376 measured: the working stores of the judgement and of the rows */
 #define UNDRWYTH_TURNS_STACK_BYTES 256     /* 48 measured */
-#define UNDRWYTH_LINE_STACK_BYTES 184320   /* 183,992 measured: a table, marks, hull numbers, and the hull's store */
+#define UNDRWYTH_LINE_STACK_BYTES 184320   /* 183,272 measured: a table, marks, hull numbers, and the hull's store */
 
 /* Refusals, in the order in which they are looked for: 1, 2, 3, 10; then 4, 5, 6 at the first faulty place; then 7, at
  * its first place; then 12; 8, 11, 13 and 21 last. */
@@ -145,7 +145,9 @@ extern "C" {
  * magnitude of its x modulo 2: 0 (even) or 1 (odd). j is likewise from y, -1 being south.
  *
  * Two nodes are linked where for some surviving step and some i they are the i-th parents of its two ends, and differ;
- * the 0-th are the ends themselves. So a link need not be a walked edge. Its step is the least such step, from 1 on. */
+ * the 0-th are the ends themselves. So a link need not be a walked edge. Its step is the least such step, from 1 on.
+ *
+ * An edge is real, and a wall is drawn there, where its count is above 0. Both its ends hold the same count. */
 #define UNDRWYTH_WORD_PARENT 0             /* ref of the parent */
 #define UNDRWYTH_WORD_CHILD_WEST_SOUTH 1   /* ref of child (-1,-1) */
 #define UNDRWYTH_WORD_CHILD_WEST_EVEN 2    /* ref of child (-1,0) */
@@ -167,6 +169,10 @@ extern "C" {
 #define UNDRWYTH_WORD_VISITS 18            /* how many of p0 to pn are here; 0 where only the tree needs the node */
 #define UNDRWYTH_WORD_NEED 19              /* the step that first needed the node, 0 for the start and its ancestors */
 #define UNDRWYTH_WORD_FIRST 20             /* 1 + the least k with pk here, 0 if unvisited */
+#define UNDRWYTH_WORD_EDGE_EAST 21         /* how often surviving steps used the edge east, in either sense */
+#define UNDRWYTH_WORD_EDGE_NORTH 22        /* the same of the edge north */
+#define UNDRWYTH_WORD_EDGE_WEST 23         /* the same of the edge west */
+#define UNDRWYTH_WORD_EDGE_SOUTH 24        /* the same of the edge south */
 
 /* Judges the walk of the n operations in ops from (start_x,start_y), of which neither is beyond UNDRWYTH_MOST_START in
  * magnitude. The start and its ancestors are nodes from the beginning, numbered from the root down.

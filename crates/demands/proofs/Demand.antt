@@ -18,7 +18,7 @@ use Rattle.answer.specs.declared.Verdict.{Verdict, the-variants.ThereAndBack}
 use Rattle.answer.specs.Limits.{noMeeting}
 use Rattle.answer.specs.Refusal.{refusalNumber, refusalPlace}
 use Rattle.answer.specs.Words.{factsWords, answerWords, countedWords, judgedWords}
-use Rattle.lists.specs.Lists.{Distinct, Below}
+use Rattle.lists.specs.Lists.{sumOf, Distinct, Below}
 use Rattle.grid.specs.declared.{Corner.Corner, Panel.Panel}
 use Rattle.grid.specs.Grid.{origin, cornersFrom, endFrom, stepped}
 use Rattle.grid.specs.Tree.{AncestorAt, root, WithinLevels, pathOf}
@@ -28,7 +28,7 @@ use Rattle.trace.specs.Meeting.{Meets, FirstMeets, visitedOf}
 use Rattle.trace.specs.Verdict.{VerdictSays, IsRoom, sweepFrom, areaOf}
 use Rattle.tree.specs.Nodes.{nodesOf, refOf, needOf, InUse, LinkedBy}
 use Rattle.layout.specs.Marks.{markWords}
-use Rattle.layout.specs.Table.{width, recordsIn, wordAt}
+use Rattle.layout.specs.Table.{width, recordsIn, wordAt, edgesOf}
 use Rattle.walk_call.specs.Walk.{factsOf, WalkIs}
 use Rattle.hull.specs.Hull.{Exposed, HullIs, Encloses}
 use Rattle.hull.specs.Call.{numbers, HullCall}
@@ -37,6 +37,7 @@ use Rattle.hull_laws.proofs.CallLaws as hullCallLaws
 use Rattle.hull_laws.proofs.HullLaws as hullLaws
 use Rattle.hull_laws.proofs.OneLaws as oneLaws
 use Rattle.grid.proofs.ColourLaws as colourLaws
+use Rattle.grid.proofs.StepLaws.{back}
 use Rattle.room_laws.proofs.RoomLaws as roomLaws
 use Rattle.trace.proofs.MeetingLaws as meetingLaws
 use Rattle.trace.proofs.VerdictLaws as verdictLaws
@@ -47,6 +48,7 @@ use Rattle.tree.proofs.NodeLaws as nodeLaws
 use Rattle.tree.proofs.StartLaws as startLaws
 use Rattle.tree.proofs.OrderLaws as orderLaws
 use Rattle.tree_laws.proofs.CountLaws as countLaws
+use Rattle.tree_laws.proofs.EdgeLaws as edgeLaws
 use Rattle.steps.proofs.TurnLaws as turnLaws
 use Rattle.steps.proofs.TurnPromiseLaws as promiseLaws
 use Rattle.demands.specs.Moments.{nodesAfter, cornersAfter, visitsAfter, AtMostEight, FourAndStart, FourLessThree, Exceeds}
@@ -258,6 +260,13 @@ nodes-by-level = orderLaws.ref-ancestor
 -- every link is to one of the four neighbours
 pub links-to-neighbours : (c : Corner) (ds : List ℕ) → Below 4 ds → (a b : Corner) (k : ℕ) → LinkedBy (cornersFrom c ds) a b k → (d : ℕ) × (d < 4) × (b ≡ stepped d a)
 links-to-neighbours = linkStepLaws.link-next
+
+-- both ends of an edge hold one count, and the words of the edges east and north of all nodes add up to the steps: none is lost
+pub edge-both-ends : (ps : List Corner) (a : Corner) (d : ℕ) → edgesOf ps a d ≡ edgesOf ps (stepped d a) (back d)
+edge-both-ends = edgeLaws.edge-both-ends
+
+pub edges-all : (c : Corner) (ds : List ℕ) → Below 4 ds → sumOf (λ a. pos (edgesOf (cornersFrom c ds) a 0 + edgesOf (cornersFrom c ds) a 1)) (nodesOf (cornersFrom c ds)) ≡ pos (length ds)
+edges-all = edgeLaws.edges-all
 
 -- the different corners are the visited ones, each once
 pub corners-visited : (ps : List Corner) (a : Corner) → List·Memᴰ a (visitedOf ps) ↔ List·Memᴰ a ps

@@ -2,30 +2,32 @@
 -- Assumes nothing.
 use mathlib.Core.Bool.{Bool, true, cond}
 use mathlib.Core.List.{List}
-use mathlib.Core.Logic.{_↔_}
-use mathlib.Core.Path.{_≡_, refl, ap, sym, _∙_, subst}
+use mathlib.Core.Logic.{_↔_, ⊎-elim}
+use mathlib.Core.Path.{_≡_, refl, ap, ap₂, sym, _∙_, subst}
 use Prim.Native.Nat.{ℕ, zero, suc, _+_, _<_, _≤_}
 use native.Mathlib.Decide.{decLt}
 use native.Mathlib.Omega.{arith}
 use lib.ListN.{length, getD}
-use Rattle.lists.specs.Lists.{find}
+use Rattle.lists.specs.Lists.{find, count}
 use Rattle.grid.specs.declared.Corner.{Corner}
 use Rattle.grid.specs.Grid.{origin, same, stepped}
 use Rattle.grid.specs.Tree.{parentOf, childWord, AncestorAt}
-use Rattle.tree.specs.Nodes.{nodesOf, refOf, linkStepOf, needOf, InUse, LinkedBy}
-use Rattle.layout.specs.Table.{width, fieldsOf, recordOf, childRefOf, neighbourRefOf}
+use Rattle.tree.specs.Nodes.{nodesOf, refOf, legsOf, joins, linkStepOf, needOf, InUse, LinkedBy}
+use Rattle.layout.specs.Table.{width, fieldsOf, recordOf, childRefOf, neighbourRefOf, edgesOf}
 use Rattle.grid.proofs.CornerLaws.{same-refl, same-sound}
 use Rattle.lists.proofs.DistinctLaws.{mem-getD}
 use Rattle.lists.proofs.FindLaws.{find-get, find-none}
 use Rattle.lists.proofs.ZipLaws.{find-least}
 use Rattle.tree.proofs.InUseLaws.{node-inUse, inUse-ref, parent-inUse}
+use Rattle.tree.proofs.JoinLaws.{joins-cases, joins-here, joins-there}
 use Rattle.tree.proofs.LinkStepLaws.{link-made, link-least}
 use Rattle.tree.proofs.OrderLaws.{need-there, need-least}
 use Rattle.tree.proofs.RefLaws.{not-any}
 use Rattle.layout.proofs.ChildLaws.{child-ref, child-there, childWord-range}
 use Rattle.layout.proofs.NeighbourLaws.{neighbour-linked, neighbour-none}
-use Rattle.layout.proofs.WordLaws.{child-of, neighbour-of, link-of}
-use Rattle.demands.specs.Record.{IsRef, IsChild, FirstIn, RecordSays}
+use Rattle.layout.proofs.WordLaws.{child-of, neighbour-of, link-of, edge-of}
+use Rattle.tree_laws.proofs.EdgeLaws.{edge-some, edge-there}
+use Rattle.demands.specs.Record.{IsRef, IsChild, FirstIn, StepBetween, RecordSays}
 use Rattle.demands.proofs.DemandCases as cases
 
 -- ---- first places
@@ -92,6 +94,22 @@ module _ (ps : List Corner) where
     start-need : (i : ℕ) → AncestorAt i (getD ps 0 origin) a → InUse ps a → needOf ps a ≡ 0
     start-need i h u = omega (arith, need-least ps a 0 i (omega (arith, need-there ps a u .0)) h)
 
+    -- an edge that was walked has a step along it
+    edge-steps : (b : Corner) → 0 < count (joins a b) (legsOf ps) ↔ ((k : ℕ) × StepBetween ps a b k)
+    edge-steps b = (
+      λ h. let s = edge-some ps a b h in (suc (s .0), (omega arith, s .1, joins-cases a b (getD ps (s .0) origin) (getD ps (suc (s .0)) origin) (s .2))),
+      λ s. step (s .0) (s .1),
+    )
+      where
+        step : (k : ℕ) → StepBetween ps a b k → 0 < count (joins a b) (legsOf ps)
+        step zero s = absurd (omega (arith, s .0))
+        step (suc k) s =
+            edge-there ps a b k (s .1)
+            (⊎-elim
+            (λ q. ap₂ (λ (x y : Corner). joins a b (x, y)) (q .0) (q .1) ∙ joins-here a b)
+            (λ q. ap₂ (λ (x y : Corner). joins a b (x, y)) (q .0) (q .1) ∙ joins-there b a)
+            (s .2))
+
     -- the record of a node in use, word by word
     pub record-says : (word : ℕ → ℕ) → InUse ps a → ((w : ℕ) → w < width → word w ≡ getD (recordOf ps ns a) w 0) → RecordSays ps a word
     record-says word u e = record {
@@ -111,6 +129,8 @@ module _ (ps : List Corner) where
       planted = λ i h. e 19 (omega arith) ∙ start-need i h u;
       first = λ k. (λ h. find-first ps a k .0 (sym (e 20 (omega arith)) ∙ h), λ f. e 20 (omega arith) ∙ find-first ps a k .1 f);
       unvisited = λ f. e 20 (omega arith) ∙ find-none (same a) ps (not-any a ps f);
+      edges = edge;
+      walked = λ d h. subst (λ (n : ℕ). 0 < n ↔ ((k : ℕ) × StepBetween ps a (stepped d a) k)) (sym (edge d h)) (edge-steps (stepped d a));
     }
       where
         near : (d : ℕ) → d < 4 → word (10 + d) ≡ neighbourRefOf ps ns a d
@@ -118,3 +138,6 @@ module _ (ps : List Corner) where
 
         link : (d : ℕ) → d < 4 → word (14 + d) ≡ linkStepOf ps a d
         link d h = e (14 + d) (omega arith) ∙ link-of (fieldsOf ps ns a) d h
+
+        edge : (d : ℕ) → d < 4 → word (21 + d) ≡ edgesOf ps a d
+        edge d h = e (21 + d) (omega arith) ∙ edge-of (fieldsOf ps ns a) d h

@@ -2,15 +2,15 @@
 -- Assumes nothing.
 use mathlib.Core.Bool.{true, false}
 use mathlib.Core.List.{List, List·Memᴰ}
-use mathlib.Core.Logic.{_↔_}
+use mathlib.Core.Logic.{_⊎_, _↔_}
 use mathlib.Core.Path.{_≡_}
-use Prim.Native.Nat.{ℕ, suc, _+_, _<_, _≤_}
+use Prim.Native.Nat.{ℕ, suc, _+_, _<_, _≤_, pred}
 use lib.ListN.{length, getD}
 use Rattle.lists.specs.Lists.{count}
 use Rattle.grid.specs.declared.Corner.{Corner}
 use Rattle.grid.specs.Grid.{origin, same, stepped}
 use Rattle.grid.specs.Tree.{parentOf, isRoot, childWord, AncestorAt}
-use Rattle.tree.specs.Nodes.{nodesOf, InUse, LinkedBy}
+use Rattle.tree.specs.Nodes.{nodesOf, legsOf, joins, InUse, LinkedBy}
 use Rattle.demands.specs.Given.{First}
 
 -- n is the ref of b: its node number plus 1
@@ -30,6 +30,10 @@ pub record IsChild (ps : List Corner) (a : Corner) (w : ℕ) (b : Corner) : Type
 -- p_k is a, and no corner before it is
 abbrev pub FirstIn : List Corner → Corner → ℕ → Type 0
 FirstIn ps a k = First (length ps) (λ h. getD ps h origin ≡ a → ⊥) (λ h. getD ps h origin ≡ a) k
+
+-- step k, counted from 1, has the two ends a and b, in either sense
+abbrev pub StepBetween : List Corner → Corner → Corner → ℕ → Type 0
+StepBetween ps a b k = (0 < k) × (k < length ps) × (((getD ps (pred k) origin ≡ a) × (getD ps k origin ≡ b)) ⊎ ((getD ps (pred k) origin ≡ b) × (getD ps k origin ≡ a)))
 
 -- the words of the record of node a
 pub record RecordSays (ps : List Corner) (a : Corner) (word : ℕ → ℕ) : Type 0 where
@@ -54,3 +58,6 @@ pub record RecordSays (ps : List Corner) (a : Corner) (word : ℕ → ℕ) : Typ
   -- 20: 1 + the least k with p_k here, 0 if unvisited
   pub first : (k : ℕ) → word 20 ≡ suc k ↔ FirstIn ps a k
   pub unvisited : (List·Memᴰ a ps → ⊥) → word 20 ≡ 0
+  -- 21 to 24: how many steps went along the edge east, north, west, south; above 0 exactly when one did
+  pub edges : (d : ℕ) → d < 4 → word (21 + d) ≡ count (joins a (stepped d a)) (legsOf ps)
+  pub walked : (d : ℕ) → d < 4 → 0 < word (21 + d) ↔ ((k : ℕ) × StepBetween ps a (stepped d a) k)

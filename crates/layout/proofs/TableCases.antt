@@ -9,29 +9,36 @@ use Rattle.grid.specs.declared.Corner.{Corner}
 use Rattle.grid.specs.Grid.{corner, origin, cornersFrom}
 use Rattle.grid.specs.Tree.{root}
 use Rattle.tree.specs.Nodes.{nodesOf}
-use Rattle.layout.specs.Table.{width, recordOf, tableOf}
+use Rattle.layout.specs.Table.{width, recordOf, edgesOf, tableOf}
 use Rattle.layout.specs.Marks.{marksOf, chainOf}
 
 -- the record of a node after a walk from the origin
 recordAfter : List ℕ → Corner → List ℕ
 recordAfter ds a = recordOf (cornersFrom origin ds) (nodesOf (cornersFrom origin ds)) a
 
--- the unvisited (1,1) of 0011: a child in word 5, a link south to (1,0), needed by step 4, never visited
+-- the unvisited (1,1) of 0011: a child in word 5, a link south to (1,0), needed by step 4, never visited, and none of its edges walked
 unvisited-record : recordAfter (0 ∷ 0 ∷ 1 ∷ 1 ∷ []) (corner (pos 1) (pos 1))
     ≡ 1 ∷ 0 ∷ 0 ∷ 0 ∷ 0 ∷ 6 ∷ 0 ∷ 0 ∷ 0 ∷ 0 ∷ 0 ∷ 0 ∷ 0 ∷ 2 ∷ 0 ∷ 0 ∷ 0 ∷ 4 ∷ 0 ∷ 4 ∷ 0 ∷ 0 ∷ 0 ∷ 0 ∷ 0 ∷ []
 unfolding recordAfter
 unvisited-record = refl
 
--- visited later, it has one visit, was needed by step 4 and first visited at p6
-visited-later : drop 18 (recordAfter (0 ∷ 0 ∷ 1 ∷ 1 ∷ 2 ∷ 3 ∷ []) (corner (pos 1) (pos 1))) ≡ 1 ∷ 4 ∷ 7 ∷ 0 ∷ 0 ∷ 0 ∷ 0 ∷ []
+-- visited later, it has one visit, was needed by step 4 and first visited at p6; of its edges that to the north was walked
+visited-later : drop 18 (recordAfter (0 ∷ 0 ∷ 1 ∷ 1 ∷ 2 ∷ 3 ∷ []) (corner (pos 1) (pos 1))) ≡ 1 ∷ 4 ∷ 7 ∷ 0 ∷ 1 ∷ 0 ∷ 0 ∷ []
 unfolding recordAfter
 visited-later = refl
 
 -- the root of 01223: five children in five words, and a link to the east alone, though the corners north and west are nodes
 root-record : recordAfter (0 ∷ 1 ∷ 2 ∷ 2 ∷ 3 ∷ []) root
-    ≡ 0 ∷ 0 ∷ 6 ∷ 5 ∷ 0 ∷ 0 ∷ 4 ∷ 0 ∷ 2 ∷ 3 ∷ 2 ∷ 0 ∷ 0 ∷ 0 ∷ 1 ∷ 0 ∷ 0 ∷ 0 ∷ 1 ∷ 0 ∷ 1 ∷ 0 ∷ 0 ∷ 0 ∷ 0 ∷ []
+    ≡ 0 ∷ 0 ∷ 6 ∷ 5 ∷ 0 ∷ 0 ∷ 4 ∷ 0 ∷ 2 ∷ 3 ∷ 2 ∷ 0 ∷ 0 ∷ 0 ∷ 1 ∷ 0 ∷ 0 ∷ 0 ∷ 1 ∷ 0 ∷ 1 ∷ 1 ∷ 0 ∷ 0 ∷ 0 ∷ []
 unfolding recordAfter
 root-record = refl
+
+-- three steps over one edge, two of them east: both its ends hold 3
+walked-thrice : edgesOf (cornersFrom origin (0 ∷ 2 ∷ 0 ∷ [])) root 0 ≡ 3
+walked-thrice = refl
+
+the-other-end : edgesOf (cornersFrom origin (0 ∷ 2 ∷ 0 ∷ [])) (corner (pos 1) (pos 0)) 2 ≡ 3
+the-other-end = refl
 
 -- a record is 25 words
 record-width : width ≡ 25

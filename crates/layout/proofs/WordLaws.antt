@@ -9,7 +9,7 @@ use borrow.Author.Tests.{ne-eqb, eq-eqb}
 use lib.Dec.{eqb}
 use lib.ListN.{length, getD, set, drop, List·getD-append}
 use lib.Seq.{set-append-left, getD-append-add}
-use Rattle.layout.specs.Table.{neighbourWord, linkWord, Fields, tab, sharedWords, ownWords, wordsOf}
+use Rattle.layout.specs.Table.{neighbourWord, linkWord, edgeWord, Fields, tab, sharedWords, ownWords, wordsOf}
 
 -- f with the value x at w
 abbrev pub bump : (ℕ → ℕ) → ℕ → ℕ → ℕ → ℕ
@@ -47,11 +47,15 @@ set-append-add (x ∷ xs) ys i v =
 
 -- a child word set
 abbrev pub withChild : Fields → ℕ → ℕ → Fields
-withChild r w x = record { parent = r .parent; child = bump (r .child) w x; neighbour = r .neighbour; link = r .link; visits = r .visits; need = r .need; first = r .first }
+withChild r w x = record { parent = r .parent; child = bump (r .child) w x; neighbour = r .neighbour; link = r .link; visits = r .visits; need = r .need; first = r .first; edge = r .edge }
 
 -- a neighbour's ref and its step set
 abbrev pub withSide : Fields → ℕ → ℕ → ℕ → Fields
-withSide r d y s = record { parent = r .parent; child = r .child; neighbour = bump (r .neighbour) d y; link = bump (r .link) d s; visits = r .visits; need = r .need; first = r .first }
+withSide r d y s = record { parent = r .parent; child = r .child; neighbour = bump (r .neighbour) d y; link = bump (r .link) d s; visits = r .visits; need = r .need; first = r .first; edge = r .edge }
+
+-- an edge's count set
+abbrev pub withEdge : Fields → ℕ → ℕ → Fields
+withEdge r d x = record { parent = r .parent; child = r .child; neighbour = r .neighbour; link = r .link; visits = r .visits; need = r .need; first = r .first; edge = bump (r .edge) d x }
 
 -- four values, and a store into the one at d
 set-four : (f : ℕ → ℕ) (l : List ℕ) (d x : ℕ) → d < 4 → set (tab 0 4 f ++ l) d x ≡ tab 0 4 (bump f d x) ++ l
@@ -80,6 +84,18 @@ module _ (r : Fields) where
       ∙ set-append-add more (ownWords r) d s
       ∙ ap (λ (l : List ℕ). more ++ l) (set-four (r .link) (drop 4 (ownWords r)) d s h)
 
+  -- the words before the edges' counts
+  fore : List ℕ
+  fore = sharedWords r ++ tab 0 4 (r .link) ++ (r .visits ∷ r .need ∷ r .first ∷ [])
+
+  pub words-edge : (d x : ℕ) → d < 4 → set (wordsOf r) (edgeWord d) x ≡ wordsOf (withEdge r d x)
+  unfolding fore
+  words-edge d x h = set-append-add fore (tab 0 4 (r .edge)) d x ∙ ap (λ (l : List ℕ). fore ++ l) (set-four (r .edge) [] d x h)
+
+  pub edge-of : (d : ℕ) → d < 4 → getD (wordsOf r) (edgeWord d) 0 ≡ r .edge d
+  unfolding fore
+  edge-of d h = getD-append-add fore (tab 0 4 (r .edge)) d 0 ∙ get-four (r .edge) [] d h
+
   pub child-of : (w : ℕ) → 0 < w → w < 10 → getD (wordsOf r) w 0 ≡ r .child w
   child-of zero a b = absurd (omega arith)
   child-of (suc j) a b =
@@ -95,8 +111,9 @@ module _ (r : Fields) where
 
 -- records that hold the same have the same words
 pub words-cong : (r q : Fields) → r .parent ≡ q .parent → ((k : ℕ) → 0 < k → k < 10 → r .child k ≡ q .child k) → ((k : ℕ) → k < 4 → r .neighbour k ≡ q .neighbour k) → ((k : ℕ) → k < 4 → r .link k ≡ q .link k)
-    → r .visits ≡ q .visits → r .need ≡ q .need → r .first ≡ q .first → wordsOf r ≡ wordsOf q
-words-cong r q a b c d x y z =
+    → r .visits ≡ q .visits → r .need ≡ q .need → r .first ≡ q .first → ((k : ℕ) → k < 4 → r .edge k ≡ q .edge k) → wordsOf r ≡ wordsOf q
+words-cong r q a b c d x y z e =
     ap₂ (λ (l m : List ℕ). l ++ m)
     (ap₂ (λ (w : ℕ) (l : List ℕ). w ∷ l) a (ap₂ (λ (l m : List ℕ). l ++ m) (tab-cong 1 9 (r .child) (q .child) (λ k i j. b k i j)) (tab-cong 0 4 (r .neighbour) (q .neighbour) (λ k i j. c k j))))
-    (ap₂ (λ (l m : List ℕ). l ++ m) (tab-cong 0 4 (r .link) (q .link) (λ k i j. d k j)) (ap₂ (λ (w : ℕ) (l : List ℕ). w ∷ l) x (ap₂ (λ (w u : ℕ). w ∷ u ∷ 0 ∷ 0 ∷ 0 ∷ 0 ∷ []) y z)))
+    (ap₂ (λ (l m : List ℕ). l ++ m) (tab-cong 0 4 (r .link) (q .link) (λ k i j. d k j))
+    (ap₂ (λ (w : ℕ) (l : List ℕ). w ∷ l) x (ap₂ (λ (w : ℕ) (l : List ℕ). w ∷ l) y (ap₂ (λ (w : ℕ) (l : List ℕ). w ∷ l) z (tab-cong 0 4 (r .edge) (q .edge) (λ k i j. e k j))))))

@@ -1,7 +1,7 @@
 -- The words of a record, and the table (RULES 4.1 to 4.3). Assumes nothing.
 use Rattle.lists.specs.Lists.{cond, not, _&&_, List, [], _∷_, _++_, length, replicate, ℕ, zero, suc, _+_, _-_, _*_, _/_, _≤_, eqb, find, count}
 use Rattle.grid.specs.{declared.Corner.Corner, Grid.same, Grid.stepped, Grid.cornersFrom, Tree.parentOf, Tree.isRoot, Tree.childWord}
-use Rattle.tree.specs.Nodes.{nodesOf, refOf, needOf, linkStepOf}
+use Rattle.tree.specs.Nodes.{nodesOf, refOf, needOf, legsOf, joins, linkStepOf}
 
 -- words of a record: 14 that all walks in a table share, and 11 of each of m walks
 abbrev pub recordWords : ℕ → ℕ
@@ -42,8 +42,11 @@ needWord = 19
 abbrev pub firstWord : ℕ
 firstWord = 20
 
+abbrev pub edgeWord : ℕ → ℕ
+edgeWord d = 21 + d
+
 -- what a record holds: the parent; the child in word w; the neighbour in direction d, and that link's step; the visits; the step that
--- first needed the node; 1 + the least k with pk here
+-- first needed the node; 1 + the least k with pk here; how often the edge in direction d was walked
 pub record Fields : Type 0 where
   pub parent : ℕ
   pub child : ℕ → ℕ
@@ -52,6 +55,7 @@ pub record Fields : Type 0 where
   pub visits : ℕ
   pub need : ℕ
   pub first : ℕ
+  pub edge : ℕ → ℕ
 
 -- the values of f at n numbers, from i on
 abbrev pub tab : ℕ → ℕ → (ℕ → ℕ) → List ℕ
@@ -63,7 +67,7 @@ abbrev pub sharedWords : Fields → List ℕ
 sharedWords r = r .parent ∷ tab 1 9 (r .child) ++ tab 0 4 (r .neighbour)
 
 abbrev pub ownWords : Fields → List ℕ
-ownWords r = tab 0 4 (r .link) ++ (r .visits ∷ r .need ∷ r .first ∷ 0 ∷ 0 ∷ 0 ∷ 0 ∷ [])
+ownWords r = tab 0 4 (r .link) ++ (r .visits ∷ r .need ∷ r .first ∷ tab 0 4 (r .edge))
 
 abbrev pub wordsOf : Fields → List ℕ
 wordsOf r = sharedWords r ++ ownWords r
@@ -76,6 +80,10 @@ childRefOf ns a w = find (λ c. not (isRoot c) && same (parentOf c) a && eqb (ch
 abbrev pub neighbourRefOf : List Corner → List Corner → Corner → ℕ → ℕ
 neighbourRefOf ps ns a d = elim (linkStepOf ps a d) [ zero ↦ 0 | suc k ↦ refOf ns (stepped d a) ]
 
+-- how often the edge from a in direction d was walked: the steps whose two ends are a and its neighbour there, in either sense
+abbrev pub edgesOf : List Corner → Corner → ℕ → ℕ
+edgesOf ps a d = count (joins a (stepped d a)) (legsOf ps)
+
 -- what the record of node a holds, in a walk with corners ps and nodes ns, and its words
 abbrev pub fieldsOf : List Corner → List Corner → Corner → Fields
 fieldsOf ps ns a = record {
@@ -86,6 +94,7 @@ fieldsOf ps ns a = record {
   visits = count (same a) ps;
   need = needOf ps a;
   first = find (same a) ps;
+  edge = edgesOf ps a;
 }
 
 abbrev pub recordOf : List Corner → List Corner → Corner → List ℕ

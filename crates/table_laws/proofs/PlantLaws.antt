@@ -24,7 +24,7 @@ use Rattle.table_laws.proofs.StoreLaws.{alike-table}
 
 -- the path of a corner, with nothing on it
 abbrev pub plantedOf : Corner → State
-plantedOf c = record { nodes = pathOf c; step = λ x y. 0; visits = λ x. 0; need = λ x. 0; first = λ x. 0 }
+plantedOf c = record { nodes = pathOf c; step = λ x y. 0; visits = λ x. 0; need = λ x. 0; first = λ x. 0; edges = λ x y. 0 }
 
 -- one node more, as `child` makes it for step 0
 pub planted-next : (c : Corner) → isRoot c ≡ false → Alike (grown (plantedOf (parentOf c)) c 0) (plantedOf c)
@@ -34,6 +34,7 @@ planted-next c e = rw (grown-new (plantedOf (parentOf c)) c 0 (path-below c e)) 
   visits = λ x. refl;
   need = λ x. go (same x c);
   first = λ x. refl;
+  edges = λ x y. refl;
 })
   where
     go : (b : Bool) → let z : ℕ = 0 in cond b z z ≡ z
@@ -54,6 +55,8 @@ planted-sound c = record {
   unseen = λ x f. refl;
   fewer = λ x h. refl;
   more = λ x h. refl;
+  paired = λ x y. refl;
+  unwalked = λ x y f. refl;
 }
 
 -- and the visit: the walk with no step
@@ -64,6 +67,7 @@ planted-visit words c = sym (table-state words c [] ∙ alike-table words (state
   visits = λ x. one (same x c);
   need = λ x. none (any (same x) (pathOf c));
   first = λ x. two (same x c);
+  edges = λ x y. refl;
 }))
   where
     one : (b : Bool) → tally b + 0 ≡ 0 + tally b

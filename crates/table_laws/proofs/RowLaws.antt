@@ -211,6 +211,18 @@ pub sets-snoc : (f : ℕ) (l : List ℕ) (i : ℕ) → sets l i (replicate (suc 
 sets-snoc zero l i = let z : i ≡ i + 0 = omega arith in ap (λ (k : ℕ). set l k 0) z
 sets-snoc (suc f) l i = let z : suc i + f ≡ i + suc f = omega arith in sets-snoc f (set l i 0) (suc i) ∙ ap (λ (k : ℕ). set (sets (set l i 0) (suc i) (replicate f 0)) k 0) z
 
+-- a store in each of two rows
+pub one-each : (R : Corner → List ℕ) → ((a : Corner) → length (R a) ≡ width) → (words : ℕ) (ns : List Corner) (a e : Corner) (u v w₁ x₁ w₂ x₂ : ℕ)
+    → Distinct ns → refOf ns a ≡ suc u → refOf ns e ≡ suc v → (e ≡ a → ⊥) → w₁ < width → w₂ < width
+    → set (set (filled words (rowsOf R ns)) (wordAt u w₁) x₁) (wordAt v w₂) x₂ ≡ filled words (rowsOf (upd (upd R a (set (R a) w₁ x₁)) e (set (R e) w₂ x₂)) ns)
+one-each R wide words ns a e u v w₁ x₁ w₂ x₂ d h k f i₁ i₂ =
+    ap (λ (t : List ℕ). set t (wordAt v w₂) x₂) (row-set R wide words ns a u w₁ x₁ d h i₁)
+    ∙ row-set Q (wide-upd R wide a (set (R a) w₁ x₁) (length-set (R a) w₁ x₁ ∙ wide a)) words ns e v w₂ x₂ d k i₂
+    ∙ ap (λ (l : List ℕ). filled words (rowsOf (upd Q e (set l w₂ x₂)) ns)) (upd-off R a (set (R a) w₁ x₁) e f)
+  where
+    Q : Corner → List ℕ
+    Q = upd R a (set (R a) w₁ x₁)
+
 -- two stores in each of two rows
 pub two-rows : (R : Corner → List ℕ) → ((a : Corner) → length (R a) ≡ width) → (words : ℕ) (ns : List Corner) (a e : Corner) (u v w₁ x₁ w₂ x₂ w₃ x₃ w₄ x₄ : ℕ)
     → Distinct ns → refOf ns a ≡ suc u → refOf ns e ≡ suc v → (e ≡ a → ⊥) → w₁ < width → w₂ < width → w₃ < width → w₄ < width

@@ -14,7 +14,7 @@ use Rattle.grid.specs.Tree.{parentOf, isRoot, pathOf, childWord, root}
 use Rattle.layout.specs.Table.{width, wordAt, childRefOf, tableOf}
 use Rattle.lists.specs.Lists.{any, add, gather}
 use Rattle.tree.specs.Nodes.{links, refOf}
-use Rattle.tree_laws.specs.State.{later, linked, put, WellLinked, State, stateOf, needed, reached, visitedBy, withNode, withLink, grown, raised, unlinking, Alike, Sound, tableBy, Agree}
+use Rattle.tree_laws.specs.State.{later, linked, put, WellLinked, State, stateOf, needed, reached, visitedBy, walkedBy, withNode, withLink, grown, raised, unlinking, Alike, Sound, tableBy, Agree}
 use Rattle.grid.proofs.CornerLaws.{same-refl, same-sound}
 use Rattle.layout.proofs.ChildLaws.{child-ref}
 use Rattle.lists.proofs.GatherLaws.{gather-more, add-cases, any→mem, mem→any, not-mem, distinct-gather, mem-gather-left, mem-gather-right, mem-gather-cases}
@@ -62,6 +62,7 @@ module _ (S : State) (sound : Sound S) (s : ℕ) (a e : Corner) where
     visits = λ x. refl;
     need = needed-known (S .nodes) (S .need) s e (sound .good .closed) (sound .good .ends a e h .1);
     first = λ x. refl;
+    edges = λ x y. refl;
   }
 
   -- 2. e is the root
@@ -72,30 +73,31 @@ module _ (S : State) (sound : Sound S) (s : ℕ) (a e : Corner) where
     visits = λ x. refl;
     need = needed-known (S .nodes) (S .need) s e (sound .good .closed) (Memᴰ·cast (same-sound e root h) (rw (sound .good .root .1) (List·Memᴰ·head refl)));
     first = λ x. refl;
+    edges = λ x y. refl;
   }
 
   -- a lookup's last two stores, over the state T in which the parent of e is
   over : (T : State) → gather same (S .nodes) (pathOf e) ≡ add same (T .nodes) e → Agree (linked (S .step) s a e) (put (T .step) s a e)
       → (List·Memᴰ e (T .nodes) → (x : Corner) → needed (S .nodes) (S .need) s e x ≡ T .need x)
       → ((List·Memᴰ e (T .nodes) → ⊥) → (x : Corner) → needed (S .nodes) (S .need) s e x ≡ cond (same x e) s (T .need x))
-      → ((x : Corner) → S .visits x ≡ T .visits x) → ((x : Corner) → S .first x ≡ T .first x)
+      → ((x : Corner) → S .visits x ≡ T .visits x) → ((x : Corner) → S .first x ≡ T .first x) → ((x y : Corner) → S .edges x y ≡ T .edges x y)
       → Alike (reached S s a e) (withLink (grown T e s) a e s)
-  over T n l k f v q =
+  over T n l k f v q w =
       by-mem e (T .nodes) (Alike (reached S s a e) (withLink (grown T e s) a e s))
-      (λ m. rw (grown-known T e s m) (record { nodes = n ∙ add-known (T .nodes) e m; step = l; visits = v; need = k m; first = q }))
-      (λ g. rw (grown-new T e s g) (record { nodes = n ∙ add-new (T .nodes) e g; step = l; visits = v; need = f g; first = q }))
+      (λ m. rw (grown-known T e s m) (record { nodes = n ∙ add-known (T .nodes) e m; step = l; visits = v; need = k m; first = q; edges = w }))
+      (λ g. rw (grown-new T e s g) (record { nodes = n ∙ add-new (T .nodes) e g; step = l; visits = v; need = f g; first = q; edges = w }))
 
   -- 3. a is the root, and so the parent of e; 4. a and e have one parent
   pub reach-left : S .step a e ≡ 0 → isRoot a ≡ true → isRoot e ≡ false → List·Memᴰ (parentOf e) (S .nodes) → Alike (reached S s a e) (withLink (grown S e s) a e s)
   reach-left z h i m =
       over S (child-nodes (S .nodes) (S .step) (sound .good) s a e i m) (λ x y f. left-links (S .nodes) (S .step) (sound .good) s a e z h x y)
-      (needed-known (S .nodes) (S .need) s e (sound .good .closed)) (needed-child (S .nodes) (sound .good .closed) (S .need) s e i m) (λ x. refl) (λ x. refl)
+      (needed-known (S .nodes) (S .need) s e (sound .good .closed)) (needed-child (S .nodes) (sound .good .closed) (S .need) s e i m) (λ x. refl) (λ x. refl) (λ x y. refl)
 
   pub reach-sibling : S .step a e ≡ 0 → List·Memᴰ a (S .nodes) → isRoot a ≡ false → isRoot e ≡ false → parentOf a ≡ parentOf e → Alike (reached S s a e) (withLink (grown S e s) a e s)
   reach-sibling z n h i p =
       let m : List·Memᴰ (parentOf e) (S .nodes) = Memᴰ·cast (sym p) (sound .good .closed a n h) in
       over S (child-nodes (S .nodes) (S .step) (sound .good) s a e i m) (sibling-links (S .nodes) (S .step) (sound .good) s a e z h i p)
-      (needed-known (S .nodes) (S .need) s e (sound .good .closed)) (needed-child (S .nodes) (sound .good .closed) (S .need) s e i m) (λ x. refl) (λ x. refl)
+      (needed-known (S .nodes) (S .need) s e (sound .good .closed)) (needed-child (S .nodes) (sound .good .closed) (S .need) s e i m) (λ x. refl) (λ x. refl) (λ x y. refl)
 
   -- 5. first the parents
   pub reach-above : S .step a e ≡ 0 → isRoot a ≡ false → isRoot e ≡ false → Alike (reached S s a e) (withLink (grown (reached S s (parentOf a) (parentOf e)) e s) a e s)
@@ -103,7 +105,7 @@ module _ (S : State) (sound : Sound S) (s : ℕ) (a e : Corner) where
       over (reached S s (parentOf a) (parentOf e)) (nodes-step (S .nodes) e i) (λ x y f. above-links (S .nodes) (S .step) (sound .good) s a e z h i x y)
       (λ m x. let k = old m in needed-known (S .nodes) (S .need) s e (sound .good .closed) k x ∙ sym (needed-known (S .nodes) (S .need) s (parentOf e) (sound .good .closed) (sound .good .closed e k i) x))
       (λ f x. needed-step (S .nodes) (S .need) s e i (λ m. f (mem-gather-left same same-sound same-refl (S .nodes) (pathOf (parentOf e)) m)) x)
-      (λ x. refl) (λ x. refl)
+      (λ x. refl) (λ x. refl) (λ x y. refl)
     where
       old : List·Memᴰ e (gather same (S .nodes) (pathOf (parentOf e))) → List·Memᴰ e (S .nodes)
       old m = ⊎-elim (λ k. k) (λ k. absurd (path-below e i k)) (mem-gather-cases same same-sound same-refl (S .nodes) (pathOf (parentOf e)) m)
@@ -127,6 +129,8 @@ module _ (S : State) (sound : Sound S) (s : ℕ) (h : Corner) where
     unseen = λ x f. sound .unseen x (outside x f);
     fewer = sound .fewer;
     more = sound .more;
+    paired = sound .paired;
+    unwalked = λ x y f. sound .unwalked x y (outside x f);
   }
     where
       outside : (x : Corner) → (List·Memᴰ x (gather same (S .nodes) (pathOf h)) → ⊥) → List·Memᴰ x (S .nodes) → ⊥
@@ -149,7 +153,7 @@ module _ (S : State) (sound : Sound S) (s : ℕ) (h : Corner) where
 
   -- the end of the loop that clears the links
   pub unlinked-all : (M : Corner → Corner → ℕ) → Agree M (S .step) → Alike (unlinking S s h M) (unlinking S s h (S .step))
-  unlinked-all M g = record { nodes = refl; step = g; visits = λ x. refl; need = λ x. refl; first = λ x. refl }
+  unlinked-all M g = record { nodes = refl; step = g; visits = λ x. refl; need = λ x. refl; first = λ x. refl; edges = λ x y. refl }
 
   -- the loop that drops the nodes: one more, or all
   module _ (small : (x : Corner) → S .need x < s) where
@@ -159,7 +163,7 @@ module _ (S : State) (sound : Sound S) (s : ℕ) (h : Corner) where
     pub dropping-stop : (needed (S .nodes) (S .need) s h h ≡ s → ⊥) → Alike (unlinking S s h (S .step)) S
     dropping-stop f =
         let k = drop-stop (S .nodes) (sound .good .closed) top (S .need) s small h f in
-        record { nodes = k .0; step = λ x y g. refl; visits = λ x. refl; need = k .1; first = λ x. refl }
+        record { nodes = k .0; step = λ x y g. refl; visits = λ x. refl; need = k .1; first = λ x. refl; edges = λ x y. refl }
 
     pub dropping-next : needed (S .nodes) (S .need) s h h ≡ s → Alike (unlinking S s h (S .step)) (withNode (unlinking S s (parentOf h) (S .step)) h s)
     dropping-next n = record {
@@ -168,6 +172,7 @@ module _ (S : State) (sound : Sound S) (s : ℕ) (h : Corner) where
       visits = λ x. refl;
       need = drop-needs (S .nodes) (sound .good .closed) top (S .need) s small h n;
       first = λ x. refl;
+      edges = λ x y. refl;
     }
 
 -- one round of that loop, on the table
@@ -188,11 +193,12 @@ dropping-table S sound s h small k words u n r l room =
 
 -- ---- the tables of the walk
 module _ (words : ℕ) (c : Corner) (ds : List ℕ) (d : ℕ) where
-  -- after the lookup and the visit the table is that of the walk with the step
-  pub step-table : tableBy words (visitedBy (reached (stateOf (cornersFrom c ds)) (suc (length ds)) (endFrom c ds) (stepped d (endFrom c ds))) (stepped d (endFrom c ds)) (suc (length ds))) ≡ tableOf words c (ds ++ (d ∷ []))
+  -- after the lookup, the visit and the edge the table is that of the walk with the step
+  pub step-table : tableBy words (walkedBy (visitedBy (reached (stateOf (cornersFrom c ds)) (suc (length ds)) (endFrom c ds) (stepped d (endFrom c ds))) (stepped d (endFrom c ds)) (suc (length ds))) (endFrom c ds) (stepped d (endFrom c ds)))
+      ≡ tableOf words c (ds ++ (d ∷ []))
   step-table =
       sym (alike-table words (stateOf (cornersFrom c (ds ++ (d ∷ []))))
-      (visitedBy (reached (stateOf (cornersFrom c ds)) (suc (length ds)) (endFrom c ds) (stepped d (endFrom c ds))) (stepped d (endFrom c ds)) (suc (length ds))) (push-state c ds d))
+      (walkedBy (visitedBy (reached (stateOf (cornersFrom c ds)) (suc (length ds)) (endFrom c ds) (stepped d (endFrom c ds))) (stepped d (endFrom c ds)) (suc (length ds))) (endFrom c ds) (stepped d (endFrom c ds))) (push-state c ds d))
       ∙ sym (table-state words c (ds ++ (d ∷ [])))
 
   pub sound-step : Sound (reached (stateOf (cornersFrom c ds)) (suc (length ds)) (endFrom c ds) (stepped d (endFrom c ds)))

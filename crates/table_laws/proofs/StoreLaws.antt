@@ -13,20 +13,20 @@ use lib.Seq.{sets, set-set, set-getD, getD-set-other}
 use Rattle.grid.specs.declared.Corner.{Corner}
 use Rattle.grid.specs.Grid.{same, stepped}
 use Rattle.grid.specs.Tree.{parentOf, isRoot, childWord}
-use Rattle.layout.specs.Table.{width, wordAt, parentWord, neighbourWord, linkWord, visitsWord, needWord, firstWord, childRefOf}
+use Rattle.layout.specs.Table.{width, wordAt, parentWord, neighbourWord, linkWord, visitsWord, needWord, firstWord, edgeWord, childRefOf}
 use Rattle.lists.specs.Lists.{tally, Distinct}
 use Rattle.tree.specs.Nodes.{joins, refOf}
-use Rattle.tree_laws.specs.State.{put, State, withLink, withNode, visitedBy, Alike, Sound, neighbourBy, fieldsBy, recordBy, rowsOf, filled, tableBy}
+use Rattle.tree_laws.specs.State.{put, State, withLink, withNode, visitedBy, walkedBy, Alike, Sound, neighbourBy, fieldsBy, recordBy, rowsOf, filled, tableBy}
 use Rattle.grid.proofs.ChildLaws.{slot-small}
 use Rattle.grid.proofs.CornerLaws.{same-refl, same-sound}
 use Rattle.grid.proofs.StepLaws.{back, back-mod, back-small, stepped-back, stepped-ne}
-use Rattle.layout.proofs.WordLaws.{bump, words-cong, withChild, words-child, withSide, words-side, child-of, neighbour-of, link-of}
+use Rattle.layout.proofs.WordLaws.{bump, words-cong, withChild, words-child, withSide, words-side, withEdge, words-edge, child-of, neighbour-of, link-of, edge-of}
 use Rattle.tree_laws.proofs.LaterLaws.{later-none}
 use Rattle.lists.proofs.GatherLaws.{distinct-snoc}
-use Rattle.tree.proofs.JoinLaws.{joins-here, joins-there, joins-stepped}
+use Rattle.tree.proofs.JoinLaws.{joins-cases, joins-here, joins-there, joins-stepped}
 use Rattle.tree_laws.proofs.AddLaws.{ref-append, ref-snoc, child-other, child-before, child-snoc, child-new, parent-ne}
 use Rattle.tree_laws.proofs.PopLaws.{visit-first, visit-again, unvisit-last, unvisit-more}
-use Rattle.table_laws.proofs.RowLaws.{upd, upd-at, upd-off, rows-cong, row-read, row-set, row-set-again, row-more, row-clear, two-rows, wide-upd}
+use Rattle.table_laws.proofs.RowLaws.{upd, upd-at, upd-off, rows-cong, row-read, row-set, row-set-again, row-more, row-clear, two-rows, one-each, wide-upd}
 
 pub wide : (S : State) (a : Corner) → length (recordBy S a) ≡ width
 wide S a = refl
@@ -57,6 +57,7 @@ alike-table words S T h =
         (h .visits x)
         (h .need x)
         (h .first x)
+        (λ k b. h .edges x (stepped k x))
 
 -- reading: the words of the node a with ref 1 + u
 module _ (words : ℕ) (S : State) (a : Corner) (u : ℕ) (e : refOf (S .nodes) a ≡ suc u) where
@@ -87,6 +88,11 @@ module _ (words : ℕ) (S : State) (a : Corner) (u : ℕ) (e : refOf (S .nodes) 
   pub read-first : getD (tableBy words S) (wordAt u firstWord) 0 ≡ S .first a
   read-first = row-read (recordBy S) (wide S) words (S .nodes) a u firstWord e (omega arith)
 
+  pub read-edge : (d : ℕ) → d < 4 → getD (tableBy words S) (wordAt u (edgeWord d)) 0 ≡ S .edges a (stepped d a)
+  read-edge d k =
+      row-read (recordBy S) (wide S) words (S .nodes) a u (edgeWord d) e (omega arith)
+      ∙ edge-of (fieldsBy S a) d k
+
 by-same : (x a : Corner) (P : Type 0) → (x ≡ a → P) → ((x ≡ a → ⊥) → P) → P
 by-same x a P f g = go (same x a) refl
   where
@@ -106,6 +112,26 @@ far-bump H r d s k = go (eqb k d) refl
     go true p = rw p (ap (λ (i : ℕ). far s (r i)) (eqb-true k d p))
     go false p = rw p
 
+-- ---- what is set for a pair of neighbours, in the four words of each of them
+module _ (F G : Corner → Corner → ℕ) (a : Corner) (d s : ℕ) (small : d < 4)
+    (yes : (x y : Corner) → joins x y (a, stepped d a) ≡ true → G x y ≡ s) (no : (x y : Corner) → (joins x y (a, stepped d a) ≡ true → ⊥) → G x y ≡ F x y) where
+  at-a : (k : ℕ) → k < 4 → G a (stepped k a) ≡ bump (λ i. F a (stepped i a)) d s k
+  at-a k h = go (eqb k d) refl
+    where
+      go : (b : Bool) → eqb k d ≡ b → G a (stepped k a) ≡ bump (λ i. F a (stepped i a)) d s k
+      go true p = yes a (stepped k a) (ap (λ (i : ℕ). joins a (stepped i a) (a, stepped d a)) (eqb-true k d p) ∙ joins-here a (stepped d a)) ∙ sym (rw p)
+      go false p = no a (stepped k a) (λ j. ⊎-elim (λ z. eqb-false k d p (z .1)) (λ z. stepped-ne d a (sym (z .0))) (joins-stepped k d a a h small j)) ∙ sym (rw p)
+
+  at-e : (k : ℕ) → k < 4 → G (stepped d a) (stepped k (stepped d a)) ≡ bump (λ i. F (stepped d a) (stepped i (stepped d a))) (back d) s k
+  at-e k h = go (eqb k (back d)) refl
+    where
+      go : (b : Bool) → eqb k (back d) ≡ b → G (stepped d a) (stepped k (stepped d a)) ≡ bump (λ i. F (stepped d a) (stepped i (stepped d a))) (back d) s k
+      go true p = yes (stepped d a) (stepped k (stepped d a)) (ap (λ (y : Corner). joins (stepped d a) y (a, stepped d a)) (ap (λ (i : ℕ). stepped i (stepped d a)) (eqb-true k (back d) p) ∙ stepped-back d a) ∙ joins-there a (stepped d a)) ∙ sym (rw p)
+      go false p = no (stepped d a) (stepped k (stepped d a)) (λ j. ⊎-elim (λ z. stepped-ne d a (z .0)) (λ z. eqb-false k (back d) p (z .1)) (joins-stepped k d (stepped d a) a h small j)) ∙ sym (rw p)
+
+  at-x : (x : Corner) → (x ≡ a → ⊥) → (x ≡ stepped d a → ⊥) → (k : ℕ) → k < 4 → G x (stepped k x) ≡ F x (stepped k x)
+  at-x x f g k h = no x (stepped k x) (λ j. ⊎-elim (λ z. f (z .0)) (λ z. g (z .0)) (joins-stepped k d x a h small j))
+
 -- ---- a link set both ways (s above 0), or cleared (s = 0)
 module _ (S : State) (a : Corner) (d s : ℕ) (small : d < 4) where
   put-yes : (x y : Corner) → joins x y (a, stepped d a) ≡ true → put (S .step) s a (stepped d a) x y ≡ s
@@ -114,38 +140,30 @@ module _ (S : State) (a : Corner) (d s : ℕ) (small : d < 4) where
   put-no : (x y : Corner) → (joins x y (a, stepped d a) ≡ true → ⊥) → put (S .step) s a (stepped d a) x y ≡ S .step x y
   put-no x y f = rw (is-false (joins x y (a, stepped d a)) f)
 
-  at-a : (k : ℕ) → k < 4 → put (S .step) s a (stepped d a) a (stepped k a) ≡ bump (λ i. S .step a (stepped i a)) d s k
-  at-a k h = go (eqb k d) refl
-    where
-      go : (b : Bool) → eqb k d ≡ b → put (S .step) s a (stepped d a) a (stepped k a) ≡ bump (λ i. S .step a (stepped i a)) d s k
-      go true p = put-yes a (stepped k a) (ap (λ (i : ℕ). joins a (stepped i a) (a, stepped d a)) (eqb-true k d p) ∙ joins-here a (stepped d a)) ∙ sym (rw p)
-      go false p = put-no a (stepped k a) (λ j. ⊎-elim (λ z. eqb-false k d p (z .1)) (λ z. stepped-ne d a (sym (z .0))) (joins-stepped k d a a h small j)) ∙ sym (rw p)
+  link-a : (k : ℕ) → k < 4 → put (S .step) s a (stepped d a) a (stepped k a) ≡ bump (λ i. S .step a (stepped i a)) d s k
+  link-a = at-a (S .step) (put (S .step) s a (stepped d a)) a d s small put-yes put-no
 
-  at-e : (k : ℕ) → k < 4 → put (S .step) s a (stepped d a) (stepped d a) (stepped k (stepped d a)) ≡ bump (λ i. S .step (stepped d a) (stepped i (stepped d a))) (back d) s k
-  at-e k h = go (eqb k (back d)) refl
-    where
-      go : (b : Bool) → eqb k (back d) ≡ b → put (S .step) s a (stepped d a) (stepped d a) (stepped k (stepped d a)) ≡ bump (λ i. S .step (stepped d a) (stepped i (stepped d a))) (back d) s k
-      go true p = put-yes (stepped d a) (stepped k (stepped d a)) (ap (λ (y : Corner). joins (stepped d a) y (a, stepped d a)) (ap (λ (i : ℕ). stepped i (stepped d a)) (eqb-true k (back d) p) ∙ stepped-back d a) ∙ joins-there a (stepped d a)) ∙ sym (rw p)
-      go false p = put-no (stepped d a) (stepped k (stepped d a)) (λ j. ⊎-elim (λ z. stepped-ne d a (z .0)) (λ z. eqb-false k (back d) p (z .1)) (joins-stepped k d (stepped d a) a h small j)) ∙ sym (rw p)
+  link-e : (k : ℕ) → k < 4 → put (S .step) s a (stepped d a) (stepped d a) (stepped k (stepped d a)) ≡ bump (λ i. S .step (stepped d a) (stepped i (stepped d a))) (back d) s k
+  link-e = at-e (S .step) (put (S .step) s a (stepped d a)) a d s small put-yes put-no
 
-  at-x : (x : Corner) → (x ≡ a → ⊥) → (x ≡ stepped d a → ⊥) → (k : ℕ) → k < 4 → put (S .step) s a (stepped d a) x (stepped k x) ≡ S .step x (stepped k x)
-  at-x x f g k h = put-no x (stepped k x) (λ j. ⊎-elim (λ z. f (z .0)) (λ z. g (z .0)) (joins-stepped k d x a h small j))
+  link-x : (x : Corner) → (x ≡ a → ⊥) → (x ≡ stepped d a → ⊥) → (k : ℕ) → k < 4 → put (S .step) s a (stepped d a) x (stepped k x) ≡ S .step x (stepped k x)
+  link-x = at-x (S .step) (put (S .step) s a (stepped d a)) a d s small put-yes put-no
 
   link-row-a : recordBy (withLink S a (stepped d a) s) a ≡ set (set (recordBy S a) (neighbourWord d) (far s (refOf (S .nodes) (stepped d a)))) (linkWord d) s
   link-row-a =
-      words-cong (fieldsBy (withLink S a (stepped d a) s) a) (withSide (fieldsBy S a) d (far s (refOf (S .nodes) (stepped d a))) s) refl (λ k i j. refl) (λ k h. ap (λ (n : ℕ). far n (refOf (S .nodes) (stepped k a))) (at-a k h) ∙ far-bump (λ i. S .step a (stepped i a)) (λ i. refOf (S .nodes) (stepped i a)) d s k) at-a refl refl refl
+      words-cong (fieldsBy (withLink S a (stepped d a) s) a) (withSide (fieldsBy S a) d (far s (refOf (S .nodes) (stepped d a))) s) refl (λ k i j. refl) (λ k h. ap (λ (n : ℕ). far n (refOf (S .nodes) (stepped k a))) (link-a k h) ∙ far-bump (λ i. S .step a (stepped i a)) (λ i. refOf (S .nodes) (stepped i a)) d s k) link-a refl refl refl (λ k h. refl)
       ∙ sym (words-side (fieldsBy S a) d (far s (refOf (S .nodes) (stepped d a))) s small)
 
   link-row-e : recordBy (withLink S a (stepped d a) s) (stepped d a) ≡ set (set (recordBy S (stepped d a)) (neighbourWord (back d)) (far s (refOf (S .nodes) a))) (linkWord (back d)) s
   link-row-e =
       words-cong (fieldsBy (withLink S a (stepped d a) s) (stepped d a)) (withSide (fieldsBy S (stepped d a)) (back d) (far s (refOf (S .nodes) a)) s) refl (λ k i j. refl)
-      (λ k h. ap (λ (n : ℕ). far n (refOf (S .nodes) (stepped k (stepped d a)))) (at-e k h) ∙ far-bump (λ i. S .step (stepped d a) (stepped i (stepped d a))) (λ i. refOf (S .nodes) (stepped i (stepped d a))) (back d) s k
+      (λ k h. ap (λ (n : ℕ). far n (refOf (S .nodes) (stepped k (stepped d a)))) (link-e k h) ∙ far-bump (λ i. S .step (stepped d a) (stepped i (stepped d a))) (λ i. refOf (S .nodes) (stepped i (stepped d a))) (back d) s k
       ∙ ap (λ (y : Corner). bump (neighbourBy (S .nodes) (S .step) (stepped d a)) (back d) (far s (refOf (S .nodes) y)) k) (stepped-back d a))
-      at-e refl refl refl
+      link-e refl refl refl (λ k h. refl)
       ∙ sym (words-side (fieldsBy S (stepped d a)) (back d) (far s (refOf (S .nodes) a)) s (back-small d))
 
   link-row-x : (x : Corner) → (x ≡ a → ⊥) → (x ≡ stepped d a → ⊥) → recordBy (withLink S a (stepped d a) s) x ≡ recordBy S x
-  link-row-x x f g = words-cong (fieldsBy (withLink S a (stepped d a) s) x) (fieldsBy S x) refl (λ k i j. refl) (λ k h. ap (λ (n : ℕ). far n (refOf (S .nodes) (stepped k x))) (at-x x f g k h)) (at-x x f g) refl refl refl
+  link-row-x x f g = words-cong (fieldsBy (withLink S a (stepped d a) s) x) (fieldsBy S x) refl (λ k i j. refl) (λ k h. ap (λ (n : ℕ). far n (refOf (S .nodes) (stepped k x))) (link-x x f g k h)) (link-x x f g) refl refl refl (λ k h. refl)
 
   -- the four stores of a link
   pub link-stores : (words u v : ℕ) → Distinct (S .nodes) → refOf (S .nodes) a ≡ suc u → refOf (S .nodes) (stepped d a) ≡ suc v
@@ -221,12 +239,12 @@ module _ (S : State) (sound : Sound S) (e : Corner) (s : ℕ) (deep : isRoot e �
 
   node-row-x : (x : Corner) → List·Memᴰ x (S .nodes) → (x ≡ parentOf e → ⊥) → recordBy (withNode S e s) x ≡ recordBy S x
   node-row-x x m f =
-      words-cong (fieldsBy (withNode S e s) x) (fieldsBy S x) (up-kept x m) (λ k i j. child-other (S .nodes) e x k (λ p q. f p)) (λ k h. side-kept x k) (λ k h. refl) refl (need-kept x (old-ne x m)) refl
+      words-cong (fieldsBy (withNode S e s) x) (fieldsBy S x) (up-kept x m) (λ k i j. child-other (S .nodes) e x k (λ p q. f p)) (λ k h. side-kept x k) (λ k h. refl) refl (need-kept x (old-ne x m)) refl (λ k h. refl)
 
   node-row-parent : recordBy (withNode S e s) (parentOf e) ≡ set (recordBy S (parentOf e)) (childWord e) (suc (length (S .nodes)))
   node-row-parent =
       words-cong (fieldsBy (withNode S e s) (parentOf e)) (withChild (fieldsBy S (parentOf e)) (childWord e) (suc (length (S .nodes)))) (up-kept (parentOf e) under) (λ k i j. kid k) (λ k h. side-kept (parentOf e) k) (λ k h. refl) refl
-      (need-kept (parentOf e) (old-ne (parentOf e) under)) refl
+      (need-kept (parentOf e) (old-ne (parentOf e) under)) refl (λ k h. refl)
       ∙ sym (words-child (fieldsBy S (parentOf e)) (childWord e) (suc (length (S .nodes))) (child-word-small e .0) (child-word-small e .1))
     where
       kid : (k : ℕ) → childRefOf (S .nodes ++ (e ∷ [])) (parentOf e) k ≡ bump (childRefOf (S .nodes) (parentOf e)) (childWord e) (suc (length (S .nodes))) k
@@ -245,7 +263,7 @@ module _ (S : State) (sound : Sound S) (e : Corner) (s : ℕ) (deep : isRoot e �
 
   node-row-e : (u : ℕ) → refOf (S .nodes) (parentOf e) ≡ suc u → recordBy (withNode S e s) e ≡ set (set (replicate width 0) parentWord (suc u)) needWord s
   node-row-e u h =
-      words-cong (fieldsBy (withNode S e s) e) (record { parent = suc u; child = λ k. 0; neighbour = λ k. 0; link = λ k. 0; visits = 0; need = s; first = 0 })
+      words-cong (fieldsBy (withNode S e s) e) (record { parent = suc u; child = λ k. 0; neighbour = λ k. 0; link = λ k. 0; visits = 0; need = s; first = 0; edge = λ k. 0 })
       (rw deep (ref-append (S .nodes) (e ∷ []) (parentOf e) under ∙ h))
       (λ k i j. child-new (S .nodes) (sound .good .closed) e deep fresh k)
       (λ k i. ap (λ (n : ℕ). far n (refOf (S .nodes ++ (e ∷ [])) (stepped k e))) (unlinked k))
@@ -253,6 +271,7 @@ module _ (S : State) (sound : Sound S) (e : Corner) (s : ℕ) (deep : isRoot e �
       (sound .unvisited e fresh)
       (rw (same-refl e))
       (sound .unseen e fresh)
+      (λ k i. sound .unwalked e (stepped k e) fresh)
 
   grown-distinct : Distinct (S .nodes ++ (e ∷ []))
   grown-distinct = distinct-snoc (S .nodes) e (sound .good .distinct) fresh
@@ -375,10 +394,10 @@ module _ (S : State) (sound : Sound S) (e : Corner) (s : ℕ) (deep : isRoot e �
           z = replicate width 0
 
 -- ---- a visit counted, and taken back: words 18 and 20 of one row
-pub two-words : (S T : State) (e : Corner) (words r x y : ℕ) → Distinct (S .nodes) → refOf (S .nodes) e ≡ suc r → T .nodes ≡ S .nodes → ((p q : Corner) → T .step p q ≡ S .step p q) → ((p : Corner) → T .need p ≡ S .need p)
+pub two-words : (S T : State) (e : Corner) (words r x y : ℕ) → Distinct (S .nodes) → refOf (S .nodes) e ≡ suc r → T .nodes ≡ S .nodes → ((p q : Corner) → T .step p q ≡ S .step p q) → ((p : Corner) → T .need p ≡ S .need p) → ((p q : Corner) → T .edges p q ≡ S .edges p q)
     → ((p : Corner) → (p ≡ e → ⊥) → (T .visits p ≡ S .visits p) × (T .first p ≡ S .first p)) → T .visits e ≡ x → T .first e ≡ y
     → set (set (tableBy words S) (wordAt r visitsWord) x) (wordAt r firstWord) y ≡ tableBy words T
-two-words S T e words r x y d h n l m f p q =
+two-words S T e words r x y d h n l m g f p q =
     ap (λ (t : List ℕ). set t (wordAt r firstWord) y) (row-set (recordBy S) (wide S) words (S .nodes) e r visitsWord x d h (omega arith))
     ∙ row-set-again (recordBy S) (wide S) words (S .nodes) e (set (recordBy S e) visitsWord x) r firstWord y (length-set (recordBy S e) visitsWord x) d h (omega arith)
     ∙ ap (filled words) (rows-cong (upd (recordBy S) e (set (set (recordBy S e) visitsWord x) firstWord y)) (recordBy T) (S .nodes) (λ z k. row z) ∙ ap (rowsOf (recordBy T)) (sym n))
@@ -397,19 +416,19 @@ two-words S T e words r x y d h n l m f p q =
         by-same z e (upd (recordBy S) e (set (set (recordBy S e) visitsWord x) firstWord y) z ≡ recordBy T z)
         (λ i. subst (λ j. upd (recordBy S) e (set (set (recordBy S e) visitsWord x) firstWord y) j ≡ recordBy T j) (sym i)
         (upd-at (recordBy S) e (set (set (recordBy S e) visitsWord x) firstWord y)
-        ∙ words-cong (record { parent = cond (isRoot e) 0 (refOf (S .nodes) (parentOf e)); child = childRefOf (S .nodes) e; neighbour = neighbourBy (S .nodes) (S .step) e; link = λ k. S .step e (stepped k e); visits = x; need = S .need e; first = y }) (fieldsBy T e)
-        (up e) (λ k i j. kid e k) (λ k i. side e k) (λ k i. sym (l e (stepped k e))) (sym p) (sym (m e)) (sym q)))
-        (λ g. upd-off (recordBy S) e (set (set (recordBy S e) visitsWord x) firstWord y) z g
-        ∙ words-cong (fieldsBy S z) (fieldsBy T z) (up z) (λ k i j. kid z k) (λ k i. side z k) (λ k i. sym (l z (stepped k z))) (sym (f z g .0)) (sym (m z)) (sym (f z g .1)))
+        ∙ words-cong (record { parent = cond (isRoot e) 0 (refOf (S .nodes) (parentOf e)); child = childRefOf (S .nodes) e; neighbour = neighbourBy (S .nodes) (S .step) e; link = λ k. S .step e (stepped k e); visits = x; need = S .need e; first = y; edge = λ k. S .edges e (stepped k e) }) (fieldsBy T e)
+        (up e) (λ k i j. kid e k) (λ k i. side e k) (λ k i. sym (l e (stepped k e))) (sym p) (sym (m e)) (sym q) (λ k i. sym (g e (stepped k e)))))
+        (λ o. upd-off (recordBy S) e (set (set (recordBy S e) visitsWord x) firstWord y) z o
+        ∙ words-cong (fieldsBy S z) (fieldsBy T z) (up z) (λ k i j. kid z k) (λ k i. side z k) (λ k i. sym (l z (stepped k z))) (sym (f z o .0)) (sym (m z)) (sym (f z o .1)) (λ k i. sym (g z (stepped k z))))
 
 -- the second of the two stores changes nothing where the word is there already
-pub one-word : (S T : State) (e : Corner) (words r x : ℕ) → Distinct (S .nodes) → refOf (S .nodes) e ≡ suc r → T .nodes ≡ S .nodes → ((p q : Corner) → T .step p q ≡ S .step p q) → ((p : Corner) → T .need p ≡ S .need p)
+pub one-word : (S T : State) (e : Corner) (words r x : ℕ) → Distinct (S .nodes) → refOf (S .nodes) e ≡ suc r → T .nodes ≡ S .nodes → ((p q : Corner) → T .step p q ≡ S .step p q) → ((p : Corner) → T .need p ≡ S .need p) → ((p q : Corner) → T .edges p q ≡ S .edges p q)
     → ((p : Corner) → (p ≡ e → ⊥) → (T .visits p ≡ S .visits p) × (T .first p ≡ S .first p)) → T .visits e ≡ x → T .first e ≡ S .first e
     → set (tableBy words S) (wordAt r visitsWord) x ≡ tableBy words T
-one-word S T e words r x d h n l m f p q =
+one-word S T e words r x d h n l m g f p q =
     sym (set-getD (set (tableBy words S) (wordAt r visitsWord) x) (wordAt r firstWord) 0)
     ∙ ap (set (set (tableBy words S) (wordAt r visitsWord) x) (wordAt r firstWord)) (getD-set-other (tableBy words S) (wordAt r visitsWord) (wordAt r firstWord) x 0 (omega arith) ∙ read-first words S e r h)
-    ∙ two-words S T e words r x (S .first e) d h n l m f p q
+    ∙ two-words S T e words r x (S .first e) d h n l m g f p q
 
 module _ (S : State) (sound : Sound S) (e : Corner) (k words r : ℕ) (h : refOf (S .nodes) e ≡ suc r) where
   off : (p : Corner) → (p ≡ e → ⊥) → (visitedBy S e k .visits p ≡ S .visits p) × (visitedBy S e k .first p ≡ S .first p)
@@ -422,11 +441,11 @@ module _ (S : State) (sound : Sound S) (e : Corner) (k words r : ℕ) (h : refOf
 
   pub visit-table-first : S .visits e ≡ 0 → set (set (tableBy words S) (wordAt r visitsWord) (S .visits e + 1)) (wordAt r firstWord) (k + 1) ≡ tableBy words (visitedBy S e k)
   visit-table-first z =
-      two-words S (visitedBy S e k) e words r (S .visits e + 1) (k + 1) (sound .good .distinct) h refl (λ p q. refl) (λ p. refl) off (ap (λ (n : ℕ). S .visits e + n) one)
+      two-words S (visitedBy S e k) e words r (S .visits e + 1) (k + 1) (sound .good .distinct) h refl (λ p q. refl) (λ p. refl) (λ p q. refl) off (ap (λ (n : ℕ). S .visits e + n) one)
       (visit-first S sound e k z e ∙ rw (same-refl e) (omega arith))
 
   pub visit-table-again : (S .visits e ≡ 0 → ⊥) → set (tableBy words S) (wordAt r visitsWord) (S .visits e + 1) ≡ tableBy words (visitedBy S e k)
-  visit-table-again f = one-word S (visitedBy S e k) e words r (S .visits e + 1) (sound .good .distinct) h refl (λ p q. refl) (λ p. refl) off (ap (λ (n : ℕ). S .visits e + n) one) (visit-again S sound e k f e)
+  visit-table-again f = one-word S (visitedBy S e k) e words r (S .visits e + 1) (sound .good .distinct) h refl (λ p q. refl) (λ p. refl) (λ p q. refl) off (ap (λ (n : ℕ). S .visits e + n) one) (visit-again S sound e k f e)
 
   back-off : (p : Corner) → (p ≡ e → ⊥) → (S .visits p ≡ visitedBy S e k .visits p) × (S .first p ≡ visitedBy S e k .first p)
   back-off p f = let z = off p f in (sym (z .0), sym (z .1))
@@ -436,7 +455,77 @@ module _ (S : State) (sound : Sound S) (e : Corner) (k words r : ℕ) (h : refOf
 
   pub unvisit-table-last : visitedBy S e k .visits e ≡ 1 → set (set (tableBy words (visitedBy S e k)) (wordAt r visitsWord) (visitedBy S e k .visits e - 1)) (wordAt r firstWord) 0 ≡ tableBy words S
   unvisit-table-last z =
-      two-words (visitedBy S e k) S e words r (visitedBy S e k .visits e - 1) 0 (sound .good .distinct) h refl (λ p q. refl) (λ p. refl) back-off less (unvisit-last S sound e k z e ∙ rw (same-refl e))
+      two-words (visitedBy S e k) S e words r (visitedBy S e k .visits e - 1) 0 (sound .good .distinct) h refl (λ p q. refl) (λ p. refl) (λ p q. refl) back-off less (unvisit-last S sound e k z e ∙ rw (same-refl e))
 
   pub unvisit-table-more : (visitedBy S e k .visits e ≡ 1 → ⊥) → set (tableBy words (visitedBy S e k)) (wordAt r visitsWord) (visitedBy S e k .visits e - 1) ≡ tableBy words S
-  unvisit-table-more f = one-word (visitedBy S e k) S e words r (visitedBy S e k .visits e - 1) (sound .good .distinct) h refl (λ p q. refl) (λ p. refl) back-off less (unvisit-more S sound e k f e)
+  unvisit-table-more f = one-word (visitedBy S e k) S e words r (visitedBy S e k .visits e - 1) (sound .good .distinct) h refl (λ p q. refl) (λ p. refl) (λ p q. refl) back-off less (unvisit-more S sound e k f e)
+
+-- ---- an edge's count set at both its ends, all else as it was
+module _ (S : State) (E : Corner → Corner → ℕ) (a : Corner) (d x : ℕ) (small : d < 4)
+    (yes : (p q : Corner) → joins p q (a, stepped d a) ≡ true → E p q ≡ x) (no : (p q : Corner) → (joins p q (a, stepped d a) ≡ true → ⊥) → E p q ≡ S .edges p q) where
+  abbrev T : State
+  T = record { nodes = S .nodes; step = S .step; visits = S .visits; need = S .need; first = S .first; edges = E }
+
+  edge-row-a : recordBy T a ≡ set (recordBy S a) (edgeWord d) x
+  edge-row-a =
+      words-cong (fieldsBy T a) (withEdge (fieldsBy S a) d x) refl (λ k i j. refl) (λ k i. refl) (λ k i. refl) refl refl refl (at-a (S .edges) E a d x small yes no)
+      ∙ sym (words-edge (fieldsBy S a) d x small)
+
+  edge-row-e : recordBy T (stepped d a) ≡ set (recordBy S (stepped d a)) (edgeWord (back d)) x
+  edge-row-e =
+      words-cong (fieldsBy T (stepped d a)) (withEdge (fieldsBy S (stepped d a)) (back d) x) refl (λ k i j. refl) (λ k i. refl) (λ k i. refl) refl refl refl (at-e (S .edges) E a d x small yes no)
+      ∙ sym (words-edge (fieldsBy S (stepped d a)) (back d) x (back-small d))
+
+  edge-row-x : (z : Corner) → (z ≡ a → ⊥) → (z ≡ stepped d a → ⊥) → recordBy T z ≡ recordBy S z
+  edge-row-x z f g = words-cong (fieldsBy T z) (fieldsBy S z) refl (λ k i j. refl) (λ k i. refl) (λ k i. refl) refl refl refl (at-x (S .edges) E a d x small yes no z f g)
+
+  edge-stores : (words u v : ℕ) → Distinct (S .nodes) → refOf (S .nodes) a ≡ suc u → refOf (S .nodes) (stepped d a) ≡ suc v
+      → set (set (tableBy words S) (wordAt u (edgeWord d)) x) (wordAt v (edgeWord (back d))) x ≡ tableBy words T
+  edge-stores words u v dis h k =
+      let b = back-small d in
+      one-each (recordBy S) (wide S) words (S .nodes) a (stepped d a) u v (edgeWord d) x (edgeWord (back d)) x dis h k (stepped-ne d a) (omega arith) (omega arith)
+      ∙ ap (filled words) (rows-cong Q (recordBy T) (S .nodes) (λ z m. row z))
+    where
+      row-a : List ℕ
+      row-a = set (recordBy S a) (edgeWord d) x
+
+      row-e : List ℕ
+      row-e = set (recordBy S (stepped d a)) (edgeWord (back d)) x
+
+      Q : Corner → List ℕ
+      Q = upd (upd (recordBy S) a row-a) (stepped d a) row-e
+
+      row : (z : Corner) → Q z ≡ recordBy T z
+      row z =
+          by-same z (stepped d a) (Q z ≡ recordBy T z)
+          (λ p. subst (λ y. Q y ≡ recordBy T y) (sym p) (upd-at (upd (recordBy S) a row-a) (stepped d a) row-e ∙ sym edge-row-e))
+          (λ f. by-same z a (Q z ≡ recordBy T z)
+          (λ p. subst (λ y. Q y ≡ recordBy T y) (sym p) (upd-off (upd (recordBy S) a row-a) (stepped d a) row-e a (λ q. stepped-ne d a (sym q)) ∙ upd-at (recordBy S) a row-a ∙ sym edge-row-a))
+          (λ g. upd-off (upd (recordBy S) a row-a) (stepped d a) row-e z f ∙ upd-off (recordBy S) a row-a z g ∙ sym (edge-row-x z g f)))
+
+-- the edge from a in direction d walked once more, and once less
+module _ (S : State) (dis : Distinct (S .nodes)) (paired : (x y : Corner) → S .edges x y ≡ S .edges y x) (a : Corner) (d : ℕ) (small : d < 4) (words u v : ℕ)
+    (h : refOf (S .nodes) a ≡ suc u) (k : refOf (S .nodes) (stepped d a) ≡ suc v) where
+  -- one count for the pair
+  pair : (p q : Corner) → joins p q (a, stepped d a) ≡ true → S .edges p q ≡ S .edges a (stepped d a)
+  pair p q j = ⊎-elim (λ z. ap₂ (S .edges) (sym (z .0)) (sym (z .1))) (λ z. ap₂ (S .edges) (sym (z .1)) (sym (z .0)) ∙ paired (stepped d a) a) (joins-cases p q a (stepped d a) j)
+
+  more : (p q : Corner) → joins p q (a, stepped d a) ≡ true → S .edges p q + tally (joins p q (a, stepped d a)) ≡ S .edges a (stepped d a) + 1
+  more p q j = rw j (ap (λ (n : ℕ). n + 1) (pair p q j))
+
+  as-before : (p q : Corner) → (joins p q (a, stepped d a) ≡ true → ⊥) → S .edges p q + tally (joins p q (a, stepped d a)) ≡ S .edges p q
+  as-before p q f = rw (is-false (joins p q (a, stepped d a)) f) (omega arith)
+
+  -- the count that is read on the way back
+  pub walked-more : walkedBy S a (stepped d a) .edges a (stepped d a) ≡ S .edges a (stepped d a) + 1
+  walked-more = more a (stepped d a) (joins-here a (stepped d a))
+
+  pub tread-table : set (set (tableBy words S) (wordAt u (edgeWord d)) (S .edges a (stepped d a) + 1)) (wordAt v (edgeWord ((d + 2) % 4))) (S .edges a (stepped d a) + 1) ≡ tableBy words (walkedBy S a (stepped d a))
+  tread-table =
+      rw (← (back-mod d small))
+      (edge-stores S (λ p q. S .edges p q + tally (joins p q (a, stepped d a))) a d (S .edges a (stepped d a) + 1) small more as-before words u v dis h k)
+
+  pub untread-table : set (set (tableBy words (walkedBy S a (stepped d a))) (wordAt u (edgeWord d)) (S .edges a (stepped d a))) (wordAt v (edgeWord ((d + 2) % 4))) (S .edges a (stepped d a)) ≡ tableBy words S
+  untread-table =
+      rw (← (back-mod d small))
+      (edge-stores (walkedBy S a (stepped d a)) (S .edges) a d (S .edges a (stepped d a)) small pair (λ p q f. sym (as-before p q f)) words u v dis h k)

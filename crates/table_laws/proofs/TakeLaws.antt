@@ -3,7 +3,8 @@
 use mathlib.Core.Bool.{Bool, true, false}
 use mathlib.Core.List.{List, [], _∷_, _++_}
 use mathlib.Core.Path.{_≡_, refl, ap, ap₂, sym, _∙_}
-use Prim.Native.Nat.{ℕ, suc, _-_, _*_, _<_, _≤_}
+use Prim.Native.Nat.{ℕ, suc, _+_, _-_, _*_, _<_, _≤_}
+use native.Mathlib.Omega.{arith}
 use borrow.Author.Tests.{eqb-true, eqb-false}
 use lib.Dec.{eqb}
 use lib.ListN.{length, getD}
@@ -11,16 +12,16 @@ use Rattle.grid.specs.declared.Corner.{Corner}
 use Rattle.grid.specs.Grid.{same, stepped, cornersFrom, endFrom}
 use Rattle.grid.specs.Tree.{pathOf}
 use Rattle.layout.specs.Table.{width, wordAt, neighbourWord, visitsWord, tableOf}
-use Rattle.lists.specs.Lists.{gather}
+use Rattle.lists.specs.Lists.{gather, Distinct}
 use Rattle.tree.specs.Nodes.{nodesOf, refOf}
-use Rattle.tree_laws.specs.State.{linked, State, stateOf, reached, visitedBy, Sound, tableBy}
+use Rattle.tree_laws.specs.State.{linked, State, stateOf, reached, visitedBy, walkedBy, Sound, tableBy}
 use Rattle.grid.proofs.StepLaws.{back, stepped-back, back-small, endFrom-snoc}
 use Rattle.lists.proofs.GatherLaws.{gather-more}
 use Rattle.tree_laws.proofs.AddLaws.{ref-append}
 use Rattle.tree_laws.proofs.PushLaws.{push-nodes, finish-node}
-use Rattle.table_laws.specs.Model.{visitIn, unvisitIn}
+use Rattle.table_laws.specs.Model.{edgeIn, visitIn, unvisitIn, treadIn, untreadIn}
 use Rattle.table_laws.proofs.StateLaws.{step-table, step-back}
-use Rattle.table_laws.proofs.StoreLaws.{far, far-pos, read-neighbour, read-visits, visit-table-first, visit-table-again, unvisit-table-last, unvisit-table-more}
+use Rattle.table_laws.proofs.StoreLaws.{far, far-pos, read-neighbour, read-visits, read-edge, walked-more, tread-table, untread-table, visit-table-first, visit-table-again, unvisit-table-last, unvisit-table-more}
 
 module _ (words : ℕ) (S : State) (sound : Sound S) (e : Corner) (k r : ℕ) (h : refOf (S .nodes) e ≡ suc r) where
   pub visit-made : visitIn (tableBy words S) r k ≡ tableBy words (visitedBy S e k)
@@ -43,6 +44,19 @@ module _ (words : ℕ) (S : State) (sound : Sound S) (e : Corner) (k r : ℕ) (h
       go true p = rw (ap (λ (n : ℕ). eqb n 1) w ∙ p, unvisitIn) (rw w (unvisit-table-last S sound e k words r h (eqb-true (visitedBy S e k .visits e) 1 p)))
       go false p = rw (ap (λ (n : ℕ). eqb n 1) w ∙ p, unvisitIn) (rw w (unvisit-table-more S sound e k words r h (eqb-false (visitedBy S e k .visits e) 1 p)))
 
+module _ (words : ℕ) (S : State) (dis : Distinct (S .nodes)) (paired : (x y : Corner) → S .edges x y ≡ S .edges y x) (a : Corner) (d : ℕ) (small : d < 4) (u v : ℕ)
+    (h : refOf (S .nodes) a ≡ suc u) (k : refOf (S .nodes) (stepped d a) ≡ suc v) where
+  pub tread-made : treadIn (tableBy words S) u v d ≡ tableBy words (walkedBy S a (stepped d a))
+  tread-made = ap (λ (n : ℕ). edgeIn (tableBy words S) u v d (n + 1)) (read-edge words S a u h d small) ∙ tread-table S dis paired a d small words u v h k
+
+  pub untread-made : untreadIn (tableBy words (walkedBy S a (stepped d a))) u v d ≡ tableBy words S
+  untread-made =
+      let W : State = walkedBy S a (stepped d a) in
+      let m : (n : ℕ) → n + 1 - 1 ≡ n = λ n. omega arith in
+      ap (λ (n : ℕ). edgeIn (tableBy words W) u v d (n - 1)) (read-edge words W a u h d small ∙ walked-more S dis paired a d small words u v h k)
+      ∙ ap (edgeIn (tableBy words W) u v d) (m (S .edges a (stepped d a)))
+      ∙ untread-table S dis paired a d small words u v h k
+
 -- `take_back`: from the table of ds ++ (d ∷ []), at the node of its last corner, to that of ds, at the node of its last corner
 module _ (words : ℕ) (c : Corner) (ds : List ℕ) (d : ℕ) (dir : d < 4) (room : width * length (nodesOf (cornersFrom c (ds ++ (d ∷ [])))) ≤ words) where
   abbrev S : State
@@ -58,7 +72,7 @@ module _ (words : ℕ) (c : Corner) (ds : List ℕ) (d : ℕ) (dir : d < 4) (roo
   e = stepped d a
 
   abbrev W : State
-  W = visitedBy (reached S s a e) e s
+  W = walkedBy (visitedBy (reached S s a e) e s) a e
 
   abbrev all : List Corner
   all = gather same (S .nodes) (pathOf e)

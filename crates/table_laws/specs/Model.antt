@@ -1,4 +1,4 @@
--- The code's stores on a table, as functions on lists: the lookup, the visit, and the take-back. The lookup is a recursion from each
+-- The code's stores on a table, as functions on lists: the lookup, the visit, the edge, and the take-back. The lookup is a recursion from each
 -- level to the one above it, which the code does by a loop up and a loop down; its first argument bounds how often it goes up, and more
 -- than the node's size is enough.
 -- Assumes nothing.
@@ -10,7 +10,7 @@ use lib.ListN.{length, getD, set}
 use Rattle.grid.specs.declared.Corner.{Corner}
 use Rattle.grid.specs.Grid.{same, stepped}
 use Rattle.grid.specs.Tree.{parentOf, isRoot, childWord}
-use Rattle.layout.specs.Table.{recordsIn, wordAt, parentWord, neighbourWord, linkWord, visitsWord, needWord, firstWord}
+use Rattle.layout.specs.Table.{recordsIn, wordAt, parentWord, neighbourWord, linkWord, visitsWord, needWord, firstWord, edgeWord}
 
 -- the answer: the table, a ref, the number of nodes
 pub record Out : Type 0 where
@@ -73,6 +73,17 @@ unvisitIn t r =
       | true ↦ set (set t (wordAt r visitsWord) (getD t (wordAt r visitsWord) 0 - 1)) (wordAt r firstWord) 0
       | false ↦ set t (wordAt r visitsWord) (getD t (wordAt r visitsWord) 0 - 1)
     ]
+
+-- ---- the edge between u and v, which lies in the direction d of u: its count at both ends
+abbrev pub edgeIn : List ℕ → ℕ → ℕ → ℕ → ℕ → List ℕ
+edgeIn t u v d x = set (set t (wordAt u (edgeWord d)) x) (wordAt v (edgeWord ((d + 2) % 4))) x
+
+-- walked once more, and once less
+abbrev pub treadIn : List ℕ → ℕ → ℕ → ℕ → List ℕ
+treadIn t u v d = edgeIn t u v d (getD t (wordAt u (edgeWord d)) 0 + 1)
+
+abbrev pub untreadIn : List ℕ → ℕ → ℕ → ℕ → List ℕ
+untreadIn t u v d = edgeIn t u v d (getD t (wordAt u (edgeWord d)) 0 - 1)
 
 -- ---- the take-back: the links, and then the nodes
 abbrev pub unsetIn : List ℕ → ℕ → ℕ → ℕ → List ℕ

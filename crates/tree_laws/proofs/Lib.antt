@@ -4,6 +4,7 @@ pub mod LineageLaws
 pub mod LevelLaws
 pub mod AddLaws
 pub mod PushLaws
+pub mod EdgeLaws
 pub mod PopLaws
 pub mod ClassLaws
 pub mod CountLaws

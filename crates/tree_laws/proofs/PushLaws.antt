@@ -1,10 +1,10 @@
 -- How every word of the table changes with one step more.
 -- Assumes nothing.
 use mathlib.Core.Bool.{Bool, true, false, true≢false}
-use mathlib.Core.List.{List, [], _∷_, _++_, List·Memᴰ, List·Memᴰ·head, List·Memᴰ·tail, List·Memᴰ·not-nil, List·Memᴰ·cases-cons}
+use mathlib.Core.List.{List, [], _∷_, _++_, List·Memᴰ, List·Memᴰ·head, List·Memᴰ·tail, List·Memᴰ·not-nil, List·Memᴰ·cases-cons, Memᴰ·cast}
 use mathlib.Core.Logic.{_⊎_, ⊎-elim}
 use mathlib.Core.Path.{_≡_, refl, ap, sym, _∙_}
-use Prim.Native.Nat.{ℕ, zero, suc, _+_, _≤_, pred}
+use Prim.Native.Nat.{ℕ, zero, suc, _+_, _<_, _≤_, pred}
 use native.Mathlib.Omega.{arith}
 use borrow.Author.Tests.{ne-eqb, eq-eqb}
 use lib.Dec.{eqb}
@@ -12,18 +12,20 @@ use lib.ListN.{length, length-append}
 use Rattle.grid.specs.declared.Corner.{Corner}
 use Rattle.grid.specs.Grid.{same, stepped, cornersFrom, endFrom}
 use Rattle.grid.specs.Tree.{root, parentOf, pathOf}
-use Rattle.lists.specs.Lists.{any, find, count, gather, zip, tally}
+use Rattle.lists.specs.Lists.{any, find, count, gather, zip, tally, Below}
 use Rattle.trace.specs.Meeting.{visitedOf}
-use Rattle.tree.specs.Nodes.{pathsOf, nodesOf, legsOf, links}
+use Rattle.tree.specs.Nodes.{pathsOf, nodesOf, legsOf, joins, links}
 use Rattle.grid.proofs.CornerLaws.{same-refl, same-sound}
 use Rattle.grid.proofs.PathLaws.{pathOf-root, pathOf-snoc, tree-ind}
 use Rattle.grid.proofs.StepLaws.{length-cornersFrom, endFrom-mem, cornersFrom-snoc}
+use Rattle.lists.proofs.CountLaws.{count-cong}
 use Rattle.lists.proofs.FindLaws.{find-cong, bool-agree, find-le, find-pos, count-snoc, count-none, count-any, not-found, find-none, find-any, any-mem, any-some}
 use Rattle.lists.proofs.GatherLaws.{gather-more, gather-append, add-cases, any→mem, mem→any, not-mem, mem-gather-right, mem-gather-cases}
+use Rattle.tree.proofs.JoinLaws.{joins-cases, joins-flip}
 use Rattle.tree.proofs.NodeLaws.{mem-path, nodesOf-snoc, nodesOf-distinct, mem-paths, mem-paths-cases}
 use Rattle.tree.proofs.RefLaws.{not-any, ref-parent}
 use Rattle.tree_laws.proofs.LaterLaws.{later-old, later-new, later-none, find-snoc}
-use Rattle.tree_laws.specs.State.{later, linked, WellLinked, stateOf, needed, reached, visitedBy, Alike, Sound}
+use Rattle.tree_laws.specs.State.{later, linked, WellLinked, stateOf, needed, reached, visitedBy, walkedBy, Alike, Sound}
 use Rattle.tree_laws.proofs.LevelLaws.{path-parent}
 use Rattle.tree_laws.proofs.LineageLaws.{links-up, links-flip, links-ends}
 
@@ -32,7 +34,7 @@ legs-push c [] d = refl
 legs-push c (x ∷ []) d = refl
 legs-push c (x ∷ y ∷ ds) d = ap (λ (l : List (Corner × Corner)). (c, stepped x c) ∷ l) (legs-push (stepped x c) (y ∷ ds) d)
 
-length-legs : (c : Corner) (ds : List ℕ) → length (legsOf (cornersFrom c ds)) ≡ length ds
+pub length-legs : (c : Corner) (ds : List ℕ) → length (legsOf (cornersFrom c ds)) ≡ length ds
 length-legs c [] = refl
 length-legs c (x ∷ []) = refl
 length-legs c (x ∷ y ∷ ds) = ap suc (length-legs (stepped x c) (y ∷ ds))
@@ -55,6 +57,18 @@ mem-nodes ps p x m k = mem-gather-right same same-sound same-refl [] (pathsOf ps
 
 mem-nodes-cases : (ps : List Corner) (x : Corner) → List·Memᴰ x (nodesOf ps) → (p : Corner) × List·Memᴰ p ps × List·Memᴰ x (pathOf p)
 mem-nodes-cases ps x m = mem-paths-cases ps (⊎-elim (λ k. absurd (List·Memᴰ·not-nil k)) (λ k. k) (mem-gather-cases same same-sound same-refl [] (pathsOf ps) m))
+
+-- a step goes from a node to its neighbour, which is a node too
+pub leg-nodes : (c : Corner) (ds : List ℕ) (l : Corner × Corner) → List·Memᴰ l (legsOf (cornersFrom c ds)) → List·Memᴰ (l .0) (nodesOf (cornersFrom c ds)) × List·Memᴰ (l .1) (nodesOf (cornersFrom c ds))
+leg-nodes c ds l m =
+    let ps = cornersFrom c ds in
+    let k = mem-legs ps m in
+    (mem-nodes ps (l .0) (l .0) (k .0) (mem-path (l .0)), mem-nodes ps (l .1) (l .1) (k .1) (mem-path (l .1)))
+
+pub leg-step : (c : Corner) (ds : List ℕ) → Below 4 ds → (l : Corner × Corner) → List·Memᴰ l (legsOf (cornersFrom c ds)) → (d : ℕ) × (d < 4) × (l .1 ≡ stepped d (l .0))
+leg-step c [] b l m = absurd (List·Memᴰ·not-nil m)
+leg-step c (x ∷ []) b l m = ⊎-elim (λ e. (x, b .0, ap (λ (k : Corner × Corner). k .1) e ∙ sym (ap (λ (k : Corner × Corner). stepped x (k .0)) e))) (λ k. absurd (List·Memᴰ·not-nil k)) (List·Memᴰ·cases-cons m)
+leg-step c (x ∷ y ∷ ds) b l m = ⊎-elim (λ e. (x, b .0, ap (λ (k : Corner × Corner). k .1) e ∙ sym (ap (λ (k : Corner × Corner). stepped x (k .0)) e))) (λ k. leg-step (stepped x c) (y ∷ ds) (b .1) l k) (List·Memᴰ·cases-cons m)
 
 -- a path begins at the root
 pub path-first : (c : Corner) → (r : List Corner) × (pathOf c ≡ root ∷ r)
@@ -110,6 +124,9 @@ module _ (c : Corner) (ds : List ℕ) (d : ℕ) where
       ∙ find-snoc (same a) (cornersFrom c ds) (stepped d (endFrom c ds))
       ∙ ap (λ (n : ℕ). later (find (same a) (cornersFrom c ds)) (same a (stepped d (endFrom c ds))) (suc n)) (length-cornersFrom c ds)
 
+  pub push-edges : (x y : Corner) → stateOf (cornersFrom c (ds ++ (d ∷ []))) .edges x y ≡ stateOf (cornersFrom c ds) .edges x y + tally (joins x y (endFrom c ds, stepped d (endFrom c ds)))
+  push-edges x y = ap (count (joins x y)) (legs-push c ds d) ∙ count-snoc (joins x y) (legsOf (cornersFrom c ds)) (endFrom c ds, stepped d (endFrom c ds))
+
 -- the step that first needs a node: a node in use keeps it, and a node that the path adds has the new step's number
 needs : Corner → Corner → Bool
 needs a p = any (same a) (pathOf p)
@@ -129,6 +146,20 @@ need-bound c ds a =
 
 pub step-bound : (c : Corner) (ds : List ℕ) (x y : Corner) → stateOf (cornersFrom c ds) .step x y ≤ length ds
 step-bound c ds x y = omega (arith, find-le (links x y) (legsOf (cornersFrom c ds)), length-legs c ds)
+
+count-le : {A : Type 0} (f : A → Bool) (l : List A) → count f l ≤ length l
+count-le f [] = omega arith
+count-le f (x ∷ l) = go (f x) (count-le f l)
+  where
+    go : (b : Bool) → count f l ≤ length l → tally b + count f l ≤ suc (length l)
+    go true h = omega arith
+    go false h = omega arith
+
+pub visits-bound : (c : Corner) (ds : List ℕ) (x : Corner) → stateOf (cornersFrom c ds) .visits x ≤ suc (length ds)
+visits-bound c ds x = omega (arith, count-le (same x) (cornersFrom c ds), length-cornersFrom c ds)
+
+pub edges-bound : (c : Corner) (ds : List ℕ) (x y : Corner) → stateOf (cornersFrom c ds) .edges x y ≤ length ds
+edges-bound c ds x y = omega (arith, count-le (joins x y) (legsOf (cornersFrom c ds)), length-legs c ds)
 
 push-need : (c : Corner) (ds : List ℕ) (d : ℕ) (a : Corner)
     → stateOf (cornersFrom c (ds ++ (d ∷ []))) .need a ≡ needed (nodesOf (cornersFrom c ds)) (stateOf (cornersFrom c ds) .need) (suc (length ds)) (stepped d (endFrom c ds)) a
@@ -150,15 +181,17 @@ push-need c ds d a =
     go false p true q = ap pred (later-new (find (needs a) ps) (needs a e) (suc (suc (length ds))) (find-none (needs a) ps (needs-any ps a ∙ p)) q) ∙ sym (rw (p, q))
     go false p false q = ap pred (later-none (find (needs a) ps) (needs a e) (suc (suc (length ds))) q) ∙ sym (rw (p, q))
 
--- all of it: a lookup and then a visit
+-- all of it: a lookup, a visit, and the edge walked
 pub push-state : (c : Corner) (ds : List ℕ) (d : ℕ)
-    → Alike (stateOf (cornersFrom c (ds ++ (d ∷ [])))) (visitedBy (reached (stateOf (cornersFrom c ds)) (suc (length ds)) (endFrom c ds) (stepped d (endFrom c ds))) (stepped d (endFrom c ds)) (suc (length ds)))
+    → Alike (stateOf (cornersFrom c (ds ++ (d ∷ []))))
+    (walkedBy (visitedBy (reached (stateOf (cornersFrom c ds)) (suc (length ds)) (endFrom c ds) (stepped d (endFrom c ds))) (stepped d (endFrom c ds)) (suc (length ds))) (endFrom c ds) (stepped d (endFrom c ds)))
 push-state c ds d = record {
   nodes = push-nodes c ds d;
   step = λ x y f. push-links c ds d x y;
   visits = push-visits c ds d;
   need = push-need c ds d;
   first = push-first c ds d;
+  edges = push-edges c ds d;
 }
 
 -- the state after a walk is sound
@@ -171,6 +204,8 @@ sound-walk c ds = record {
   unseen = λ x f. find-none (same x) ps (not-here x f);
   fewer = λ x h. find-none (same x) ps (count-any (same x) ps h);
   more = λ x h. count-none (same x) ps (not-found (same x) ps h);
+  paired = λ x y. count-cong (joins x y) (joins y x) (legsOf ps) (λ l m. joins-flip x y l);
+  unwalked = λ x y f. count-none (joins x y) (legsOf ps) (no-leg x y f (any (joins x y) (legsOf ps)) refl);
 }
   where
     ps : List Corner
@@ -178,6 +213,16 @@ sound-walk c ds = record {
 
     not-here : (x : Corner) → (List·Memᴰ x (nodesOf ps) → ⊥) → any (same x) ps ≡ false
     not-here x f = not-any x ps (λ m. f (mem-nodes ps x x m (mem-path x)))
+
+    no-leg : (x y : Corner) → (List·Memᴰ x (nodesOf ps) → ⊥) → (b : Bool) → any (joins x y) (legsOf ps) ≡ b → any (joins x y) (legsOf ps) ≡ false
+    no-leg x y f false p = p
+    no-leg x y f true p =
+        let k = any-some (joins x y) (legsOf ps) p in
+        let m = mem-legs ps (k .1) in
+        absurd (⊎-elim
+        (λ q. f (mem-nodes ps x x (Memᴰ·cast (sym (q .0)) (m .0)) (mem-path x)))
+        (λ q. f (mem-nodes ps x x (Memᴰ·cast (sym (q .1)) (m .1)) (mem-path x)))
+        (joins-cases x y (k .0 .0) (k .0 .1) (k .2)))
 
 -- the corner stood on is a node
 pub finish-node : (c : Corner) (ds : List ℕ) → List·Memᴰ (endFrom c ds) (nodesOf (cornersFrom c ds))

@@ -38,13 +38,15 @@ pub record WellLinked (ns : List Corner) (L : Corner → Corner → ℕ) : Type 
   pub both : (x y : Corner) → L x y ≡ L y x
   pub up : (x y : Corner) → 0 < L x y → isRoot x ≡ false → isRoot y ≡ false → (parentOf x ≡ parentOf y → ⊥) → 0 < L (parentOf x) (parentOf y)
 
--- the nodes in their order; the step of the link of two nodes; the visits, the needing step and 1 + the first visit of a node
+-- the nodes in their order; the step of the link of two nodes; the visits, the needing step and 1 + the first visit of a node;
+-- how often the edge between two nodes was walked
 pub record State : Type 0 where
   pub nodes : List Corner
   pub step : Corner → Corner → ℕ
   pub visits : Corner → ℕ
   pub need : Corner → ℕ
   pub first : Corner → ℕ
+  pub edges : Corner → Corner → ℕ
 
 -- a node that the path of e adds to the nodes
 abbrev pub isNew : List Corner → Corner → Corner → Bool
@@ -62,6 +64,7 @@ reached S s a e = record {
   visits = S .visits;
   need = needed (S .nodes) (S .need) s e;
   first = S .first;
+  edges = S .edges;
 }
 
 -- the state after a visit of the node e at corner number k
@@ -72,6 +75,18 @@ visitedBy S e k = record {
   visits = λ x. S .visits x + tally (same x e);
   need = S .need;
   first = λ x. later (S .first x) (same x e) (suc k);
+  edges = S .edges;
+}
+
+-- the state after the edge between a and e was walked once more
+abbrev pub walkedBy : State → Corner → Corner → State
+walkedBy S a e = record {
+  nodes = S .nodes;
+  step = S .step;
+  visits = S .visits;
+  need = S .need;
+  first = S .first;
+  edges = λ x y. S .edges x y + tally (joins x y (a, e));
 }
 
 -- the state with the node e more, which step s needs
@@ -82,6 +97,7 @@ withNode S e s = record {
   visits = S .visits;
   need = λ x. cond (same x e) s (S .need x);
   first = S .first;
+  edges = S .edges;
 }
 
 -- the state with the link of a and e set to s (0: cleared)
@@ -92,6 +108,7 @@ withLink S a e s = record {
   visits = S .visits;
   need = S .need;
   first = S .first;
+  edges = S .edges;
 }
 
 -- with the node e, which is made if it is not there
@@ -110,6 +127,7 @@ unlinking S s e M = record {
   visits = S .visits;
   need = needed (S .nodes) (S .need) s e;
   first = S .first;
+  edges = S .edges;
 }
 
 -- link steps that agree on different nodes
@@ -127,9 +145,10 @@ pub record Alike (S T : State) : Type 0 where
   pub visits : (x : Corner) → S .visits x ≡ T .visits x
   pub need : (x : Corner) → S .need x ≡ T .need x
   pub first : (x : Corner) → S .first x ≡ T .first x
+  pub edges : (x y : Corner) → S .edges x y ≡ T .edges x y
 
--- a state that may stand in the table: its links are good, what is no node has no visits and no step needs it, and the
--- visited nodes are those with a first visit
+-- a state that may stand in the table: its links are good, what is no node has no visits, no step needs it and no edge of it
+-- was walked, the visited nodes are those with a first visit, and an edge has one count at both its ends
 pub record Sound (S : State) : Type 0 where
   pub good : WellLinked (S .nodes) (S .step)
   pub unvisited : (x : Corner) → (List·Memᴰ x (S .nodes) → ⊥) → S .visits x ≡ 0
@@ -137,6 +156,8 @@ pub record Sound (S : State) : Type 0 where
   pub unseen : (x : Corner) → (List·Memᴰ x (S .nodes) → ⊥) → S .first x ≡ 0
   pub fewer : (x : Corner) → S .visits x ≡ 0 → S .first x ≡ 0
   pub more : (x : Corner) → S .first x ≡ 0 → S .visits x ≡ 0
+  pub paired : (x y : Corner) → S .edges x y ≡ S .edges y x
+  pub unwalked : (x y : Corner) → (List·Memᴰ x (S .nodes) → ⊥) → S .edges x y ≡ 0
 
 -- the state after the walk with corners ps
 abbrev pub stateOf : List Corner → State
@@ -146,6 +167,7 @@ stateOf ps = record {
   visits = λ a. count (same a) ps;
   need = λ a. pred (find (λ p. any (same a) (pathOf p)) ps);
   first = λ a. find (same a) ps;
+  edges = λ x y. count (joins x y) (legsOf ps);
 }
 
 -- the ref of the neighbour in direction d, if there is a link
@@ -162,6 +184,7 @@ fieldsBy S a = record {
   visits = S .visits a;
   need = S .need a;
   first = S .first a;
+  edge = λ d. S .edges a (stepped d a);
 }
 
 abbrev pub recordBy : State → Corner → List ℕ

@@ -97,6 +97,7 @@ fn go(t: &mut [u32], w: Spot, d: u8) -> Gone
         return Gone::Full;
     }
     walk_table::visit(t, at - 1, n);
+    walk_table::tread(t, w.node, at - 1, d as usize);
     let there = walk_corner::moved(here, d);
     Gone::To(Spot {
         node: at - 1,
@@ -118,6 +119,7 @@ fn take_back(t: &mut [u32], w: Spot, d: u8) -> Spot
     let way = d as usize;
     let b = (way + 2) % 4;
     let from = word(t, node, Record::NEIGHBOUR + b) as usize - 1;
+    walk_table::untread(t, from, node, way);
     walk_table::unvisit(t, node);
     walk_back::unlink_up(t, from, way, n as u32);
     let left = walk_back::drop_up(t, w.nodes, node, here, n as u32);

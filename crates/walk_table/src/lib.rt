@@ -2,10 +2,10 @@
 ghost use mathlib.Core.Path.{_≡_};
 ghost use Prim.Native.Nat.{_+_, _*_, _^_, _<_, _-_, _≤_};
 ghost use lib.ListN.{length, getD, set, take, replicate};
-ghost use Rattle.table_laws.specs.Model.{linkIn, visitIn, unvisitIn, unsetIn};
+ghost use Rattle.table_laws.specs.Model.{linkIn, visitIn, unvisitIn, edgeIn, treadIn, untreadIn, unsetIn};
 ghost use mathlib.Core.List.{_++_};
 ghost use lib.Seq.{sets};
-ghost use Rattle.layout.specs.Table.{width, wordAt, HasRecord, neighbourWord, linkWord, visitsWord};
+ghost use Rattle.layout.specs.Table.{width, wordAt, HasRecord, neighbourWord, linkWord, visitsWord, edgeWord};
 
 // The record of a node, by its number, and the places of its words.
 pub struct Record(pub usize);
@@ -24,6 +24,8 @@ impl Record {
     pub const NEED: usize = 19;
 
     pub const FIRST: usize = 20;
+
+    pub const EDGE: usize = 21;
 }
 
 // Word f of record r.
@@ -86,6 +88,34 @@ pub fn unvisit(t: &mut [u32], r: usize)
         put(t, r, Record::FIRST, 0);
         return;
     }
+}
+
+// Sets the count of the edge between u and v at both its ends: v lies in the direction d of u.
+fn put_edge(t: &mut [u32], u: usize, v: usize, d: usize, count: u32)
+    requires { ⌜ HasRecord (now t) u × HasRecord (now t) v × (d < 4) ⌝ }
+    ensures { λ _. ⌜ now (t .exit) ≡ edgeIn (now (t .entry)) u v d count ⌝ }
+{
+    let b = (d + 2) % 4;
+    put(t, u, Record::EDGE + d, count);
+    put(t, v, Record::EDGE + b, count);
+}
+
+// Counts a step along the edge between u and v.
+pub fn tread(t: &mut [u32], u: usize, v: usize, d: usize)
+    requires { ⌜ HasRecord (now t) u × HasRecord (now t) v × (d < 4) × (getD (now t) (wordAt u (edgeWord d)) 0 + 1 < 2 ^ 32) ⌝ }
+    ensures { λ _. ⌜ now (t .exit) ≡ treadIn (now (t .entry)) u v d ⌝ }
+{
+    let n = word(t, u, Record::EDGE + d);
+    put_edge(t, u, v, d, n + 1);
+}
+
+// Takes a step along the edge between u and v back.
+pub fn untread(t: &mut [u32], u: usize, v: usize, d: usize)
+    requires { ⌜ HasRecord (now t) u × HasRecord (now t) v × (d < 4) × (0 < getD (now t) (wordAt u (edgeWord d)) 0) ⌝ }
+    ensures { λ _. ⌜ now (t .exit) ≡ untreadIn (now (t .entry)) u v d ⌝ }
+{
+    let n = word(t, u, Record::EDGE + d);
+    put_edge(t, u, v, d, n - 1);
 }
 
 // Takes the link between u and v away.

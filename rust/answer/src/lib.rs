@@ -44,10 +44,12 @@ pub mod word {
     pub const LINK_STEP: usize = 14;
     /// Visits.
     pub const VISITS: usize = 18;
-    /// The step that first needed the node, 0 for the root.
+    /// The step that first needed the node, 0 for the start and its ancestors.
     pub const NEED: usize = 19;
     /// 1 + the least k with pk here, 0 if unvisited.
     pub const FIRST: usize = 20;
+    /// How often surviving steps used the edge east, north, west, south, in either sense.
+    pub const EDGE: usize = 21;
 }
 
 /// Why a call is refused; a place counts from 0 in the input.

@@ -3,7 +3,7 @@
 use std::collections::HashMap;
 
 use answer::RECORD_WORDS;
-use answer::word::{CHILD, FIRST, LINK_STEP, NEED, NEIGHBOUR, PARENT, VISITS};
+use answer::word::{CHILD, EDGE, FIRST, LINK_STEP, NEED, NEIGHBOUR, PARENT, VISITS};
 
 use crate::grid::{Corner, corners, lineage, parent};
 
@@ -42,6 +42,10 @@ pub fn records(start: Corner, steps: &[u8]) -> Vec<Record> {
         let (number, way) = (numbers[&a], direction(a, b));
         records[number][NEIGHBOUR + way] = numbers[&b] as u32 + 1;
         records[number][LINK_STEP + way] = step;
+    }
+    for ends in corners.windows(2) {
+        records[numbers[&ends[0]]][EDGE + direction(ends[0], ends[1])] += 1;
+        records[numbers[&ends[1]]][EDGE + direction(ends[1], ends[0])] += 1;
     }
     for (k, corner) in corners.iter().enumerate() {
         let record = &mut records[numbers[corner]];

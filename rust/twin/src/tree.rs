@@ -1,6 +1,6 @@
 //! The linked quadtree, in a lent table of words.
 
-use answer::word::{CHILD, FIRST, LINK_STEP, NEED, NEIGHBOUR, PARENT, VISITS};
+use answer::word::{CHILD, EDGE, FIRST, LINK_STEP, NEED, NEIGHBOUR, PARENT, VISITS};
 use answer::{MOST_START, RECORD_WORDS, Refusal};
 
 #[derive(Clone, Copy, PartialEq, Eq)]
@@ -205,6 +205,23 @@ impl<'a> Tree<'a> {
             self.put(node, FIRST, 0);
         }
         visits == 1
+    }
+
+    /// Counts a step along the edge between `u` and `v`, which lies in the direction `way` of `u`.
+    pub fn tread(&mut self, u: usize, v: usize, way: u8) {
+        let count = self.word(u, EDGE + way as usize) + 1;
+        self.put_edge(u, v, way, count);
+    }
+
+    /// Takes a step along the edge back.
+    pub fn untread(&mut self, u: usize, v: usize, way: u8) {
+        let count = self.word(u, EDGE + way as usize) - 1;
+        self.put_edge(u, v, way, count);
+    }
+
+    fn put_edge(&mut self, u: usize, v: usize, way: u8, count: u32) {
+        self.put(u, EDGE + way as usize, count);
+        self.put(v, EDGE + back(way) as usize, count);
     }
 
     pub fn visits(&self, node: usize) -> u32 {

@@ -112,6 +112,7 @@ impl<'a> Walk<'a> {
             Some(first) if self.meeting.is_none() => self.meeting = Some((first, step)),
             Some(_) => {}
         }
+        self.tree.tread(self.node, node, way);
         chain[self.steps as usize] = way;
         self.node = node;
         self.at = self.at.stepped(way);
@@ -125,6 +126,7 @@ impl<'a> Walk<'a> {
         let way = chain[step as usize - 1];
         let from = self.tree.linked(self.node, back(way));
         let from = from.expect("the ends of a step are linked");
+        self.tree.untread(from, self.node, way);
         if self.tree.unvisit(self.node) {
             self.corners -= 1;
         }

@@ -1,13 +1,14 @@
 -- `walk_step::take_back` meets its contract.
 -- Assumes nothing.
-use mathlib.Core.Path.{refl}
-use Prim.Native.Nat.{_+_, _-_, _%_}
+use mathlib.Core.Path.{refl, sym, subst}
+use Prim.Native.Nat.{ℕ, suc, _+_, _-_, _*_, _%_, _≤_}
 use native.Mathlib.Omega.{arith}
 use borrow.Author.Needs.{needs}
 use Rattle.grid.specs.Grid.{stepped, cornersFrom, endFrom}
+use Rattle.layout.specs.Table.{width}
 use Rattle.tree_laws.specs.State.{stateOf}
 use Rattle.walk_step.specs.declared.Spot.{Spot}
-use Rattle.walk_step.proofs.SpotLaws.{back-steps, back-bound, back-linked, back-visits, back-unlinks, back-drops, back-to}
+use Rattle.walk_step.proofs.SpotLaws.{back-steps, back-bound, back-linked, back-treads, back-visits, back-unlinks, back-drops, back-to}
 use Rattle.walk_step.proofs.take_back.Statement.{statement}
 use Rattle.walk_step.proofs.take_back.Tie as tie
 
@@ -42,21 +43,21 @@ sub-from c =
     let l = back-linked T (k .start) (k .chain) (a .d) (a .w) (k .walked) dir (e .result) (e .ensures) in
     omega (arith, l .0)
 
-unvisit-requires : tie.Need-unvisit-requires
-unvisit-requires c κs =
+untread-requires : tie.Need-untread-requires
+untread-requires c κs =
     let s = c .before .before .before .before .before in
     let a = s .args in
     let k = s .pre .0 in
     let q = s .pre .1 in
     let dir = q .2 in
     let T = a .t .now in
-    (back-bound T (k .start) (k .chain) (a .d) (a .w) (k .walked) dir, back-visits T (k .start) (k .chain) (a .d) (a .w) (k .walked) dir)
+    let e = c .before .word in
+    let l = back-linked T (k .start) (k .chain) (a .d) (a .w) (k .walked) dir (e .result) (e .ensures) in
+    let y = back-treads T (k .start) (k .chain) (a .d) (a .w) (k .walked) dir (e .result - 1) (l .1) in
+    (y .0, back-bound T (k .start) (k .chain) (a .d) (a .w) (k .walked) dir, dir, y .1)
 
-cast-unlink-up : tie.Need-cast-unlink-up
-cast-unlink-up c = search needs
-
-unlink-up-requires : tie.Need-unlink-up-requires
-unlink-up-requires c κs =
+unvisit-requires : tie.Need-unvisit-requires
+unvisit-requires c κs =
     let s = c .before .before .before .before .before .before .before .before .before in
     let a = s .args in
     let k = s .pre .0 in
@@ -65,15 +66,14 @@ unlink-up-requires c κs =
     let T = a .t .now in
     let e = c .before .before .before .before .before .word in
     let l = back-linked T (k .start) (k .chain) (a .d) (a .w) (k .walked) dir (e .result) (e .ensures) in
-    let v = c .before .before .before .unvisit in
-    let u = back-unlinks T (k .start) (k .chain) (a .d) (a .w) (k .walked) dir (v .last .0) (v .ensures) (e .result - 1) (l .1) in
-    record { state = stateOf (cornersFrom (k .start) (k .chain)); end = stepped (a .d) (endFrom (k .start) (k .chain)); holds = u .0 }
+    let o = c .before .before .before .untread in
+    (subst (λ (n : ℕ). suc (a .w .node) * width ≤ n) (sym (o .kept .0)) (back-bound T (k .start) (k .chain) (a .d) (a .w) (k .walked) dir), back-visits T (k .start) (k .chain) (a .d) (a .w) (k .walked) dir (o .last .0) (e .result - 1) (o .ensures))
 
-cast-drop-up : tie.Need-cast-drop-up
-cast-drop-up c = search needs
+cast-unlink-up : tie.Need-cast-unlink-up
+cast-unlink-up c = search needs
 
-drop-up-requires : tie.Need-drop-up-requires
-drop-up-requires c κs =
+unlink-up-requires : tie.Need-unlink-up-requires
+unlink-up-requires c κs =
     let s = c .before .before .before .before .before .before .before .before .before .before .before .before .before in
     let a = s .args in
     let k = s .pre .0 in
@@ -82,10 +82,29 @@ drop-up-requires c κs =
     let T = a .t .now in
     let e = c .before .before .before .before .before .before .before .before .before .word in
     let l = back-linked T (k .start) (k .chain) (a .d) (a .w) (k .walked) dir (e .result) (e .ensures) in
+    let o = c .before .before .before .before .before .before .before .untread in
+    let v = c .before .before .before .unvisit in
+    let u = back-unlinks T (k .start) (k .chain) (a .d) (a .w) (k .walked) dir (o .last .0) (v .last .0) (e .result - 1) (l .1) (o .ensures) (v .ensures) in
+    record { state = stateOf (cornersFrom (k .start) (k .chain)); end = stepped (a .d) (endFrom (k .start) (k .chain)); holds = u .0 }
+
+cast-drop-up : tie.Need-cast-drop-up
+cast-drop-up c = search needs
+
+drop-up-requires : tie.Need-drop-up-requires
+drop-up-requires c κs =
+    let s = c .before .before .before .before .before .before .before .before .before .before .before .before .before .before .before .before .before in
+    let a = s .args in
+    let k = s .pre .0 in
+    let q = s .pre .1 in
+    let dir = q .2 in
+    let T = a .t .now in
+    let e = c .before .before .before .before .before .before .before .before .before .before .before .before .before .word in
+    let l = back-linked T (k .start) (k .chain) (a .d) (a .w) (k .walked) dir (e .result) (e .ensures) in
+    let o = c .before .before .before .before .before .before .before .before .before .before .before .untread in
     let v = c .before .before .before .before .before .before .before .unvisit in
     let n = c .before .before .before .unlink-up in
     let S = stateOf (cornersFrom (k .start) (k .chain)) in
-    let u = back-unlinks T (k .start) (k .chain) (a .d) (a .w) (k .walked) dir (v .last .0) (v .ensures) (e .result - 1) (l .1) in
+    let u = back-unlinks T (k .start) (k .chain) (a .d) (a .w) (k .walked) dir (o .last .0) (v .last .0) (e .result - 1) (l .1) (o .ensures) (v .ensures) in
     record { state = S; holds = back-drops T (k .start) (k .chain) (a .d) (a .w) (k .walked) dir (v .last .0) (n .last .0) (u .1) (n .ensures S (stepped (a .d) (endFrom (k .start) (k .chain))) (u .0)) .0 }
 
 cast-moved : tie.Need-cast-moved
@@ -96,7 +115,7 @@ moved-requires c κs = search needs
 
 sub-t16 : tie.Need-sub-t16
 sub-t16 c =
-    let s = c .before .before .before .before .before .before .before .before .before .before .before .before .before .before .before .before .before in
+    let s = c .before .before .before .before .before .before .before .before .before .before .before .before .before .before .before .before .before .before .before .before .before in
     let a = s .args in
     let k = s .pre .0 in
     let q = s .pre .1 in
@@ -109,13 +128,12 @@ same-length c = search needs
 
 returns : tie.Need-returns
 returns c =
-    let s = c .before .before .before .before .before .before .before .before .before .before .before .before .before .before .before .before .before in
+    let s = c .before .before .before .before .before .before .before .before .before .before .before .before .before .before .before .before .before .before .before .before .before in
     let a = s .args in
-    let k = s .pre .0 in
-    let q = s .pre .1 in
-    let dir = q .2 in
+    let dir = s .pre .1 .2 in
     let T = a .t .now in
-    let e = c .before .before .before .before .before .before .before .before .before .before .before .before .before .word in
+    let e = c .before .before .before .before .before .before .before .before .before .before .before .before .before .before .before .before .before .word in
+    let o = c .before .before .before .before .before .before .before .before .before .before .before .before .before .before .before .untread in
     let v = c .before .before .before .before .before .before .before .before .before .before .before .unvisit in
     let n = c .before .before .before .before .before .before .before .unlink-up in
     let m = c .before .before .before .drop-up in
@@ -123,7 +141,7 @@ returns c =
     λ x ds h.
     let S = stateOf (cornersFrom x ds) in
     let l = back-linked T x ds (a .d) (a .w) h dir (e .result) (e .ensures) in
-    let u = back-unlinks T x ds (a .d) (a .w) h dir (v .last .0) (v .ensures) (e .result - 1) (l .1) in
+    let u = back-unlinks T x ds (a .d) (a .w) h dir (o .last .0) (v .last .0) (e .result - 1) (l .1) (o .ensures) (v .ensures) in
     let g = back-drops T x ds (a .d) (a .w) h dir (v .last .0) (n .last .0) (u .1) (n .ensures S (stepped (a .d) (endFrom x ds)) (u .0)) in
     back-to T x ds (a .d) (a .w) h dir (n .last .0) (m .last .0) (m .result) (g .1) (m .ensures S (g .0)) r ((a .d + 2) % 4) (e .result - 1) refl (l .1) refl (c .moved .ensures) refl refl
 
@@ -136,6 +154,7 @@ take-back-spec =
     word-requires
     cast-from
     sub-from
+    untread-requires
     unvisit-requires
     cast-unlink-up
     unlink-up-requires
