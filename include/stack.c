@@ -1,20 +1,25 @@
 /* Measures the stack that each call of undrwyth.h needs: runs it on a painted stack and looks how far down the paint is
- * gone. Prints what it found, and fails where a call needs more than the header says. */
+ * gone. Prints what it found, and fails where a call needs more than the header says. Then runs it on a stack of just
+ * the size that the header says, above a page that cannot be touched. */
+#define _DEFAULT_SOURCE
 #define _XOPEN_SOURCE 700
+#include <signal.h>
 #include <stdio.h>
 #include <string.h>
+#include <sys/mman.h>
 #include <ucontext.h>
+#include <unistd.h>
 
 #include "undrwyth.h"
 
-enum { STACK_BYTES = 1 << 20, PAINT = 0xa5, MOST = UNDRWYTH_MOST_STEPS };
+enum { STACK_BYTES = 1 << 20, GUARD_BYTES = 1 << 16, PAINT = 0xa5, MOST = UNDRWYTH_MOST_STEPS };
 
-static unsigned char stack[STACK_BYTES];
+static unsigned char *stack; /* its lowest byte; what lies below cannot be touched */
 static ucontext_t here, there;
 
 /* What the call takes. */
 static uint8_t digits[MOST], bytes[UNDRWYTH_LINE_BYTES], file[UNDRWYTH_POINT_BYTES * MOST + 29];
-static size_t count, records;
+static size_t count;
 static uint32_t table[(4 * MOST + 68) * UNDRWYTH_RECORD_WORDS], marks[UNDRWYTH_MARK_WORDS * MOST];
 static int32_t numbers[UNDRWYTH_CORNER_NUMBERS * (MOST + 1)];
 static uint8_t chain[MOST], round[2 * MOST];
@@ -22,16 +27,18 @@ static uint32_t answer[UNDRWYTH_WALK_ANSWER_WORDS];
 
 static void nothing(void) {}
 
-static void walk_from(int32_t x, int32_t y) {
+static void walk_from(int32_t x, int32_t y, size_t records) {
     undrwyth_walk(x, y, digits, count, table, records * UNDRWYTH_RECORD_WORDS, marks, UNDRWYTH_MARK_WORDS * count, chain,
                   count, answer);
 }
 
-/* From (0,0), and from two starts that are as far out as they may be. */
+/* From (0,0), and from two starts that are as far out as they may be; in one record, and in as many as a walk needs. */
 static void walk(void) {
-    walk_from(0, 0);
-    walk_from(16384, 16384);
-    walk_from(-16384, -16384);
+    for (size_t records = 1; records <= 4 * MOST + 68; records += 4 * MOST + 67) {
+        walk_from(0, 0, records);
+        walk_from(16384, 16384, records);
+        walk_from(-16384, -16384, records);
+    }
 }
 
 static void hull(void) { undrwyth_hull(-16384, 16384, digits, count, numbers, sizeof numbers / sizeof numbers[0], answer); }
@@ -59,20 +66,66 @@ static void line(void) {
         undrwyth_line(frame, 6 + most, bytes, UNDRWYTH_LINE_BYTES);
 }
 
-/* The bytes of the stack that are not painted any more after the call. */
-static size_t used(void (*call)(void)) {
-    memset(stack, PAINT, sizeof stack);
+/* Runs the call on a stack of so many bytes. */
+static void run(void (*call)(void), size_t stack_bytes) {
     getcontext(&there);
     there.uc_stack.ss_sp = stack;
-    there.uc_stack.ss_size = sizeof stack;
+    there.uc_stack.ss_size = stack_bytes;
     there.uc_link = &here;
     makecontext(&there, call, 0);
     swapcontext(&here, &there);
-    size_t low = 0;
-    while (low < sizeof stack && stack[low] == PAINT)
-        low++;
-    return sizeof stack - low;
 }
+
+/* The bytes of the stack that are not painted any more after the call. */
+static size_t used(void (*call)(void)) {
+    memset(stack, PAINT, STACK_BYTES);
+    run(call, STACK_BYTES);
+    size_t low = 0;
+    while (low < STACK_BYTES && stack[low] == PAINT)
+        low++;
+    return STACK_BYTES - low;
+}
+
+/* Says on a stack of its own that a call went below its stack. */
+static void below(int signal_number) {
+    static const char message[] = "stack: a call touched the page below a stack of the size that the header says\n";
+    (void)signal_number;
+    if (write(STDERR_FILENO, message, sizeof message - 1) > 0)
+        _exit(1);
+    _exit(2);
+}
+
+static int make_stack(void) {
+    static unsigned char other[1 << 16];
+    stack_t handler_stack = {.ss_sp = other, .ss_size = sizeof other};
+    struct sigaction action = {.sa_handler = below, .sa_flags = SA_ONSTACK};
+    unsigned char *all =
+        mmap(NULL, GUARD_BYTES + STACK_BYTES, PROT_READ | PROT_WRITE, MAP_PRIVATE | MAP_ANONYMOUS, -1, 0);
+    stack = all + GUARD_BYTES;
+    return all != MAP_FAILED && mprotect(all, GUARD_BYTES, PROT_NONE) == 0 && sigaltstack(&handler_stack, NULL) == 0 &&
+           sigaction(SIGSEGV, &action, NULL) == 0 && sigaction(SIGBUS, &action, NULL) == 0;
+}
+
+/* How many columns the walk of the digits goes through. */
+static size_t columns(void) {
+    long x = 0, west = 0, east = 0;
+    for (size_t i = 0; i < count; i++) {
+        x += (digits[i] == 0) - (digits[i] == 2);
+        west = x < west ? x : west;
+        east = x > east ? x : east;
+    }
+    return (size_t)(east - west) + 1;
+}
+
+/* The calls whose working store is chosen by the columns of the walk, or by the steps of the chain. */
+static void hull_256(void) { columns() <= 256 ? hull() : nothing(); }
+static void hull_2048(void) { columns() <= 2048 ? hull() : nothing(); }
+static void outline_256(void) { count <= 256 ? outline() : nothing(); }
+static void outline_2048(void) { count <= 2048 ? outline() : nothing(); }
+static void polygon_256(void) { count <= 256 ? polygon() : nothing(); }
+static void polygon_2048(void) { count <= 2048 ? polygon() : nothing(); }
+static void rows_256(void) { count <= 256 ? rows() : nothing(); }
+static void rows_2048(void) { count <= 2048 ? rows() : nothing(); }
 
 /* n digits of a kind: out along one axis and then along the other, so that a step crosses a border of the tree at every
  * level; a staircase; a spiral; steps at random, with and without take-backs; round a rectangle. */
@@ -110,28 +163,47 @@ int main(void) {
     } calls[] = {
         {"undrwyth_walk", walk, UNDRWYTH_WALK_STACK_BYTES},
         {"undrwyth_hull", hull, UNDRWYTH_HULL_STACK_BYTES},
+        {"undrwyth_hull, at most 2,048 columns", hull_2048, UNDRWYTH_HULL_2048_STACK_BYTES},
+        {"undrwyth_hull, at most 256 columns", hull_256, UNDRWYTH_HULL_256_STACK_BYTES},
         {"undrwyth_outline", outline, UNDRWYTH_OUTLINE_STACK_BYTES},
+        {"undrwyth_outline, at most 2,048 steps", outline_2048, UNDRWYTH_OUTLINE_2048_STACK_BYTES},
+        {"undrwyth_outline, at most 256 steps", outline_256, UNDRWYTH_OUTLINE_256_STACK_BYTES},
         {"undrwyth_polygon_of_room", polygon, UNDRWYTH_POLYGON_STACK_BYTES},
+        {"undrwyth_polygon_of_room, at most 2,048 steps", polygon_2048, UNDRWYTH_POLYGON_2048_STACK_BYTES},
+        {"undrwyth_polygon_of_room, at most 256 steps", polygon_256, UNDRWYTH_POLYGON_256_STACK_BYTES},
         {"undrwyth_rows", rows, UNDRWYTH_ROWS_STACK_BYTES},
+        {"undrwyth_rows, at most 2,048 steps", rows_2048, UNDRWYTH_ROWS_2048_STACK_BYTES},
+        {"undrwyth_rows, at most 256 steps", rows_256, UNDRWYTH_ROWS_256_STACK_BYTES},
         {"undrwyth_turns_of_steps, undrwyth_steps_of_turns", turns, UNDRWYTH_TURNS_STACK_BYTES},
         {"undrwyth_line", line, UNDRWYTH_LINE_STACK_BYTES},
     };
-    static const size_t lengths[] = {0, 1, 64, 1000, 1024, 4096, 16383, 16384};
-    size_t most[sizeof calls / sizeof calls[0]] = {0};
+    static const size_t lengths[] = {0, 1, 64, 255, 256, 1000, 1024, 2047, 2048, 4096, 16383, 16384};
+    enum { CALLS = sizeof calls / sizeof calls[0], LENGTHS = sizeof lengths / sizeof lengths[0], KINDS = 13 };
+    size_t most[CALLS] = {0};
     int failures = 0;
-    for (size_t l = 0; l < sizeof lengths / sizeof lengths[0]; l++)
-        for (int kind = 0; kind < 13; kind++) {
-            fill(kind, lengths[l]);
-            for (size_t c = 0; c < sizeof calls / sizeof calls[0]; c++)
-                for (records = 1; records <= 4 * MOST + 68; records += 4 * MOST + 67) {
-                    size_t now = used(calls[c].call);
+    if (!make_stack()) {
+        perror("stack");
+        return 2;
+    }
+    size_t around = used(nothing); /* what the call's surroundings take of the stack */
+    for (int guarded = 0; guarded < 2 && failures == 0; guarded++) {
+        for (size_t l = 0; l < LENGTHS; l++)
+            for (int kind = 0; kind < KINDS; kind++) {
+                fill(kind, lengths[l]);
+                for (size_t c = 0; c < CALLS; c++) {
+                    if (guarded) {
+                        run(calls[c].call, (calls[c].told + around + 15) / 16 * 16);
+                        continue;
+                    }
+                    size_t now = used(calls[c].call) - around;
                     most[c] = now > most[c] ? now : most[c];
                 }
+            }
+        for (size_t c = 0; c < CALLS && !guarded; c++) {
+            printf("%s: %zu bytes of stack, %zu in the header\n", calls[c].name, most[c], calls[c].told);
+            failures += most[c] > calls[c].told;
         }
-    size_t around = used(nothing); /* what the call's surroundings take of the stack */
-    for (size_t c = 0; c < sizeof calls / sizeof calls[0]; c++) {
-        printf("%s: %zu bytes of stack, %zu in the header\n", calls[c].name, most[c] - around, calls[c].told);
-        failures += most[c] - around > calls[c].told;
+        fflush(stdout);
     }
     return failures != 0;
 }

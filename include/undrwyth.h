@@ -54,14 +54,25 @@ extern "C" {
 #define UNDRWYTH_SPAN_NUMBERS 3            /* numbers a span of panels: row, first panel, last panel */
 #define UNDRWYTH_LINE_BYTES 8240           /* bytes of a buffer that holds the answer to any line */
 
-/* Bytes of stack that a call needs, rounded up from what include/stack.c measured on x86-64 and on 64-bit ARM. */
-#define UNDRWYTH_WALK_STACK_BYTES 1024     /* 424 measured on x86-64 */
-#define UNDRWYTH_HULL_STACK_BYTES 132096   /* 131,480 measured; 131,080 are its working store */
-#define UNDRWYTH_OUTLINE_STACK_BYTES 263168 /* 262,376 measured; 262,160 are its working store */
-#define UNDRWYTH_POLYGON_STACK_BYTES 132096 /* 131,216 measured; 131,080 are its working store */
-#define UNDRWYTH_ROWS_STACK_BYTES 263168   /* 262,376 measured: the working stores of the judgement and of the rows */
-#define UNDRWYTH_TURNS_STACK_BYTES 256     /* 48 measured */
-#define UNDRWYTH_LINE_STACK_BYTES 184320   /* 183,272 measured: a table, marks, hull numbers, and the hull's store */
+/* Bytes of stack that a call needs, rounded up from what include/stack.c measured of the library that ./library writes
+ * for x86-64; the gate runs each call on a stack of this size, above a page that cannot be touched. A hull's working
+ * store is chosen by how many columns the walk goes through, that of an outline or of a call on a room by how many steps
+ * the chain has: 256 at most, 2,048 at most, or more. */
+#define UNDRWYTH_WALK_STACK_BYTES 1024          /* 440 measured */
+#define UNDRWYTH_HULL_256_STACK_BYTES 3072      /* 2,488 measured */
+#define UNDRWYTH_HULL_2048_STACK_BYTES 17408    /* 16,824 measured */
+#define UNDRWYTH_HULL_STACK_BYTES 132096        /* 131,512 measured */
+#define UNDRWYTH_OUTLINE_256_STACK_BYTES 5120   /* 4,408 measured */
+#define UNDRWYTH_OUTLINE_2048_STACK_BYTES 33792 /* 33,080 measured */
+#define UNDRWYTH_OUTLINE_STACK_BYTES 263168     /* 262,440 measured */
+#define UNDRWYTH_POLYGON_256_STACK_BYTES 3072   /* 2,264 measured */
+#define UNDRWYTH_POLYGON_2048_STACK_BYTES 17408 /* 16,600 measured */
+#define UNDRWYTH_POLYGON_STACK_BYTES 132096     /* 131,272 measured */
+#define UNDRWYTH_ROWS_256_STACK_BYTES 3072      /* 2,344 measured */
+#define UNDRWYTH_ROWS_2048_STACK_BYTES 17408    /* 16,680 measured */
+#define UNDRWYTH_ROWS_STACK_BYTES 132096        /* 131,352 measured */
+#define UNDRWYTH_TURNS_STACK_BYTES 256          /* 16 measured */
+#define UNDRWYTH_LINE_STACK_BYTES 65536         /* 60,616 measured */
 
 /* Refusals, in the order in which they are looked for: 1, 2, 3, 10; then 4, 5, 6 at the first faulty place; then 7, at
  * its first place; then 12; 8, 11, 13 and 21 last. */

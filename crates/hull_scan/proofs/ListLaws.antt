@@ -59,8 +59,12 @@ walked-order {chain} {w} {e} h = omega (arith, h .west, h .east, west-le middle 
 pub walked-top : {chain : List ℕ} {w e : ℕ} → Spans chain w e → e ≤ top
 walked-top {chain} {w} {e} h = omega (arith, h .east, h .short, east-le middle chain (h .short))
 
+-- it goes through one column more than it has steps, at most
+pub walked-across : {chain : List ℕ} {w e : ℕ} → Spans chain w e → e - w ≤ length chain
+walked-across {chain} {w} {e} h = omega (arith, h .west, h .east, width-le middle chain (h .short))
+
 pub walked-width : {chain : List ℕ} {w e : ℕ} → Spans chain w e → e - w ≤ mostSteps
-walked-width {chain} {w} {e} h = omega (arith, h .west, h .east, h .short, width-le middle chain (h .short))
+walked-width h = omega (arith, h .short, walked-across h)
 
 -- a store of one length
 pub stored : {w e : ℕ} (n : ℕ) → e - w < n → n ≤ suc blank → Store w e (replicate n blank) (replicate n blank) (replicate n 0) (replicate n 0)

@@ -11,10 +11,13 @@ use hull_columns::fill;
 use hull_columns::survey;
 use hull_corners::ends;
 use hull_corners::finish;
-ghost use Prim.Native.Nat.{_-_, _<_};
+ghost use mathlib.Core.Path.{_≡_};
+ghost use mathlib.Core.Bool.{true};
+ghost use Prim.Native.Nat.{_-_, _<_, _≤_};
+ghost use lib.ListN.{length};
 ghost use Rattle.hull.specs.Call.{HullCall};
 ghost use Rattle.hull_columns.specs.Extent.{Spans};
-ghost use Rattle.answer.specs.Limits.{Near};
+ghost use Rattle.answer.specs.Limits.{Near, startFits};
 ghost use Rattle.hull_scan.specs.Store.{Store, Hulled};
 
 // The hull of the walk from start through the columns west to east. The working store is lent; lo and hi hold no height yet.
@@ -48,6 +51,28 @@ fn list_narrow(chain: &[u8], start: Corner, west: usize, east: usize, out: &mut 
     let mut hi = [Columns::BLANK; 256];
     let mut s = [0u16; 256];
     let mut t = [0u16; 256];
+    list_in(
+        chain,
+        start,
+        west,
+        east,
+        &mut lo,
+        &mut hi,
+        &mut s,
+        &mut t,
+        out,
+    )
+}
+
+// The same with a store for 1,025 columns, as many as 1,024 steps go through.
+fn list_medium(chain: &[u8], start: Corner, west: usize, east: usize, out: &mut [i32]) -> Counted
+    requires { ⌜ Spans (now chain) west east × Near start × (east - west < 1025) ⌝ }
+    ensures { λ r. ⌜ Hulled start (now (chain .entry)) (now (out .entry)) r (now (out .exit)) ⌝ }
+{
+    let mut lo = [Columns::BLANK; 1025];
+    let mut hi = [Columns::BLANK; 1025];
+    let mut s = [0u16; 1025];
+    let mut t = [0u16; 1025];
     list_in(
         chain,
         start,
@@ -138,6 +163,34 @@ pub fn list(start: Corner, chain: &[u8], out: &mut [i32]) -> Counted
     }
     match survey(chain) {
         Extent::Within(west, east) => list_from(chain, start, west, east, out),
+        Extent::Refused(r) => Counted::Refused(r),
+    }
+}
+
+// The hull of a walk from start through at most 1,025 columns.
+fn list_short_from(
+    chain: &[u8],
+    start: Corner,
+    west: usize,
+    east: usize,
+    out: &mut [i32],
+) -> Counted
+    requires { ⌜ Spans (now chain) west east × Near start × (east - west < 1025) ⌝ }
+    ensures { λ r. ⌜ Hulled start (now (chain .entry)) (now (out .entry)) r (now (out .exit)) ⌝ }
+{
+    if east - west >= 256 {
+        return list_medium(chain, start, west, east, out);
+    }
+    list_narrow(chain, start, west, east, out)
+}
+
+// What `list` does, for at most 1,024 bytes and a start in range: no larger store is in its frame.
+pub fn list_short(start: Corner, chain: &[u8], out: &mut [i32]) -> Counted
+    requires { ⌜ (startFits start ≡ true) × (length (now chain) ≤ 1024) ⌝ }
+    ensures { λ r. ⌜ HullCall start (now (chain .entry)) (now (out .entry)) r (now (out .exit)) ⌝ }
+{
+    match survey(chain) {
+        Extent::Within(west, east) => list_short_from(chain, start, west, east, out),
         Extent::Refused(r) => Counted::Refused(r),
     }
 }

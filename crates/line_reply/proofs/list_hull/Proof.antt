@@ -5,8 +5,8 @@ use Rattle.line_reply.proofs.ListedLaws.{hull-listed, hull-not-refused}
 use Rattle.line_reply.proofs.list_hull.Statement.{statement}
 use Rattle.line_reply.proofs.list_hull.Tie as tie
 
-list-requires : tie.Need-list-requires
-list-requires c κs = search needs
+list-short-requires : tie.Need-list-short-requires
+list-short-requires c κs = search needs
 
 enum-known-n : tie.Need-enum-known-n
 enum-known-n c = search needs
@@ -20,7 +20,7 @@ same-length c = search needs
 returns : tie.Need-returns
 returns c =
     let s = c .before .before .before .before .before .before .before in
-    hull-listed (c .before .before .before .before .list .ensures) (s .pre .0 .0) (s .pre .0 .1) (s .pre .1) (c .before .n .given .0 .0) (c .before .n .given .1)
+    hull-listed (c .before .before .before .before .list-short .ensures) (s .pre .0 .0) (s .pre .0 .1) (s .pre .1) (c .before .n .given .0 .0) (c .before .n .given .1)
 
 same-length-2 : tie.Need-same-length-2
 same-length-2 c = search needs
@@ -29,9 +29,9 @@ returns-2 : tie.Need-returns-2
 returns-2 c =
     let s = c .before .before .before .before .before .before in
     let g = c .enum-told .given in
-    absurd (hull-not-refused (c .before .before .before .list .ensures) (s .pre .0 .0) (s .pre .0 .1) (s .pre .1) (g .0 .0) (g .1))
+    absurd (hull-not-refused (c .before .before .before .list-short .ensures) (s .pre .0 .0) (s .pre .0 .1) (s .pre .1) (g .0 .0) (g .1))
 
 pub list-hull-spec : {M : Type 1} → statement M
 list-hull-spec =
     tie.close
-    (tie.spec list-requires enum-known-n enum-told same-length returns same-length-2 returns-2)
+    (tie.spec list-short-requires enum-known-n enum-told same-length returns same-length-2 returns-2)
