@@ -164,7 +164,24 @@ static void lines(void) {
     CHECK(answers("0000040123", "0200040000000400040000000400000001000400000000000100000001000100000001"));
     CHECK(answers("0000015", "8400000000"));
     CHECK(answers("", "8900000000"));
+    CHECK(answers("0100014", "9300000000"));
     CHECK(undrwyth_line(NULL, 0, out, UNDRWYTH_LINE_BYTES - 1) == 0 && out[0] == 7);
+}
+
+static int converts(const char *line, const char *converted) {
+    uint8_t out[32] = {0};
+    size_t bytes = undrwyth_convert_line((const uint8_t *)line, strlen(line), out, sizeof out);
+    return bytes == strlen(line) && strlen(converted) == bytes && memcmp(out, converted, bytes) == 0 && out[bytes] == 0;
+}
+
+static void lines_converted(void) {
+    uint8_t out[9] = {7};
+    CHECK(converts("0100040111", "0000040123"));
+    CHECK(converts("0100014", "0100014"));
+    CHECK(converts("0000040123", "0000040123"));
+    CHECK(converts("no frame", "no frame"));
+    CHECK(converts("", ""));
+    CHECK(undrwyth_convert_line((const uint8_t *)"0100040111", 10, out, sizeof out) == 0 && out[0] == 7);
 }
 
 int main(void) {
@@ -177,5 +194,6 @@ int main(void) {
     starts();
     turns_and_back();
     lines();
+    lines_converted();
     return failures != 0;
 }

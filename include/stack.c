@@ -54,16 +54,27 @@ static void turns(void) {
     undrwyth_steps_of_turns(digits, count, chain, count, answer);
 }
 
-static void line(void) {
-    uint8_t *frame = chain; /* the digits of a frame, as many as it may have */
+/* The digits as a frame of kind 00, as many as it may have; answers its length. */
+static size_t framed(uint8_t *frame) {
     size_t most = count < UNDRWYTH_MOST_LINE_DIGITS ? count : UNDRWYTH_MOST_LINE_DIGITS;
     for (size_t i = 0; i < most; i++)
         frame[6 + i] = '0' + digits[i];
     for (size_t i = 0; i < 4; i++)
         frame[2 + i] = "0123456789abcdef"[most >> (12 - 4 * i) & 15];
-    frame[0] = '0';
-    for (frame[1] = '0'; frame[1] < '3'; frame[1]++)
-        undrwyth_line(frame, 6 + most, bytes, UNDRWYTH_LINE_BYTES);
+    frame[0] = frame[1] = '0';
+    return 6 + most;
+}
+
+static void line(void) {
+    size_t n = framed(chain);
+    for (; chain[1] < '3'; chain[1]++)
+        undrwyth_line(chain, n, bytes, UNDRWYTH_LINE_BYTES);
+}
+
+static void convert_line(void) {
+    size_t n = framed(chain);
+    for (; chain[1] < '3'; chain[1]++)
+        undrwyth_convert_line(chain, n, bytes, UNDRWYTH_LINE_BYTES);
 }
 
 /* Runs the call on a stack of so many bytes. */
@@ -176,6 +187,7 @@ int main(void) {
         {"undrwyth_rows, at most 256 steps", rows_256, UNDRWYTH_ROWS_256_STACK_BYTES},
         {"undrwyth_turns_of_steps, undrwyth_steps_of_turns", turns, UNDRWYTH_TURNS_STACK_BYTES},
         {"undrwyth_line", line, UNDRWYTH_LINE_STACK_BYTES},
+        {"undrwyth_convert_line", convert_line, UNDRWYTH_CONVERT_LINE_STACK_BYTES},
     };
     static const size_t lengths[] = {0, 1, 64, 255, 256, 1000, 1024, 2047, 2048, 4096, 16383, 16384};
     enum { CALLS = sizeof calls / sizeof calls[0], LENGTHS = sizeof lengths / sizeof lengths[0], KINDS = 13 };

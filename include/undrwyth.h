@@ -42,7 +42,7 @@ extern "C" {
 #define UNDRWYTH_MOST_STEPS 16384          /* surviving steps, at any moment */
 #define UNDRWYTH_MOST_START 16384          /* magnitude of a start's coordinates */
 #define UNDRWYTH_MOST_RECORDS 131148       /* records in a table */
-#define UNDRWYTH_MOST_LINE_DIGITS 1024     /* operations or turns in a frame of the line program */
+#define UNDRWYTH_MOST_LINE_DIGITS 1024     /* operations or turns in a frame */
 #define UNDRWYTH_LINE_RECORDS 320          /* records of the table in which a frame is walked */
 
 /* Lengths of buffers. */
@@ -72,7 +72,8 @@ extern "C" {
 #define UNDRWYTH_ROWS_2048_STACK_BYTES 17408    /* 16,680 measured */
 #define UNDRWYTH_ROWS_STACK_BYTES 132096        /* 131,352 measured */
 #define UNDRWYTH_TURNS_STACK_BYTES 256          /* 16 measured */
-#define UNDRWYTH_LINE_STACK_BYTES 65536         /* 60,616 measured */
+#define UNDRWYTH_CONVERT_LINE_STACK_BYTES 2560  /* 2,200 measured */
+#define UNDRWYTH_LINE_STACK_BYTES 65536         /* 53,336 measured */
 
 /* Refusals, in the order in which they are looked for: 1, 2, 3, 10; then 4, 5, 6 at the first faulty place; then 7, at
  * its first place; then 12; 8, 11, 13 and 21 last. */
@@ -91,6 +92,7 @@ extern "C" {
 #define UNDRWYTH_REFUSAL_OUTLINE_ROOM 11   /* a buffer shorter than the outline */
 #define UNDRWYTH_REFUSAL_NOT_ROOM 12       /* the walk is no room */
 #define UNDRWYTH_REFUSAL_POLYGON_ROOM 13   /* a buffer shorter than the polygon */
+#define UNDRWYTH_REFUSAL_RETIRED_KIND 19   /* a frame with turns; in answers of undrwyth_line alone */
 #define UNDRWYTH_REFUSAL_SPAN_ROOM 21      /* a buffer shorter than three numbers a span */
 
 /* Words of the answer to a walk. The first meeting is the j < k with pj = pk and the least k. */
@@ -295,7 +297,9 @@ uint32_t undrwyth_steps_of_turns(const uint8_t *turns, size_t n,
 /* Answers one line of the line program; neither the line nor its answer has a line feed.
  *
  * A frame is lower-case hexadecimal: kind (2 digits: 00 operations, 01 turns), count (4 digits, at most 0400), then
- * one digit an operation or turn. Any n bytes are taken. out_bytes is at least UNDRWYTH_LINE_BYTES.
+ * one digit an operation or turn. Operations are walked; a frame with turns is refused, whatever its digits are, with
+ * UNDRWYTH_REFUSAL_RETIRED_KIND (undrwyth_convert_line makes a frame with operations of it). Any n bytes are taken.
+ * out_bytes is at least UNDRWYTH_LINE_BYTES.
  *
  * The result is the length of the answer, which begins out; the bytes after it are as they were. An accepted frame
  * gives, in lower-case hexadecimal, verdict (2 digits), n (4), nodes (8), different corners (4), j (4), k (4), area
@@ -304,6 +308,16 @@ uint32_t undrwyth_steps_of_turns(const uint8_t *turns, size_t n,
  *
  * If out_bytes is less than UNDRWYTH_LINE_BYTES, the result is 0 and out is as it was. */
 size_t undrwyth_line(const uint8_t *line, size_t n, uint8_t *out, size_t out_bytes);
+
+/* Converts one line; neither the line nor what is written has a line feed.
+ *
+ * A frame of kind 01 whose digits are all at most 3 becomes the frame of kind 00 with the steps of these turns. Any
+ * other line stays as it is, of whatever bytes and length: other frames, and lines that are no frames.
+ *
+ * Any n bytes are taken. out_bytes is at least n. The result is n: out begins with that many bytes, the line
+ * converted, and the bytes after them are as they were. If out_bytes is less than n, whether the line is a frame or
+ * not, the result is 0 and out is as it was. */
+size_t undrwyth_convert_line(const uint8_t *line, size_t n, uint8_t *out, size_t out_bytes);
 
 #ifdef __cplusplus
 }

@@ -15,4 +15,5 @@ pub mod Area
 pub mod Polygon
 pub mod Rows
 pub mod Outline
+pub mod Lines
 pub mod Demand

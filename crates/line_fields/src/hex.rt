@@ -38,7 +38,7 @@ pub fn value(b: u8) -> u8
 }
 
 // The digit that is worth d.
-fn letter(d: u8) -> u8
+pub fn letter(d: u8) -> u8
     requires { ⌜ d < 16 ⌝ }
     ensures { λ r. ⌜ r ≡ letterOf d ⌝ }
 {

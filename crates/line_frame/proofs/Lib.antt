@@ -1,7 +1,10 @@
--- The laws of the line program.
+-- The laws of the line program and of the converter.
 pub mod HexLaws
 pub mod SpelledLaws
 pub mod LineLaws
 pub mod Bytes
 pub mod LineCases
 pub mod AnswerCases
+pub mod ConvertedCases
+pub mod OutputLaws
+pub mod ConvertedLaws

@@ -8,7 +8,7 @@ use native.Mathlib.Omega.{arith}
 use borrow.Author.Tests.{leb-true, eqb-true, ne-eqb, le-ltb, lt-leb, lt-ltb, le-leb, eq-eqb}
 use lib.ListN.{length, drop, length-drop}
 use lib.Dec.{leb, ltb, eqb}
-use Rattle.answer.specs.declared.Refusal.the-variants.{BadLine}
+use Rattle.answer.specs.declared.Refusal.the-variants.{BadLine, RetiredKind}
 use Rattle.line_frame.specs.declared.Kind.{Kind}
 use Rattle.line_frame.specs.declared.Kind.the-variants.{Operations, Turns}
 use Rattle.line_frame.specs.declared.Frame.{Frame}
@@ -18,7 +18,7 @@ use Rattle.line_frame.specs.Hex.{allHex, pairAt, numberFrom}
 use Rattle.line_frame.specs.Line.{frameOf, kindNamed, isFrame, kindOf, countOf, digitsOf, digitsAnswer, answerOf, lineAnswer}
 use Rattle.line_frame.specs.Spelled.{refusedLine}
 use Rattle.line_frame.proofs.HexLaws.{length-valuesOf}
-use Rattle.line_frame.proofs.SpelledLaws.{length-refusedLine, walkedLine-most, turnedLine-most}
+use Rattle.line_frame.proofs.SpelledLaws.{length-refusedLine, walkedLine-most}
 
 -- of four tests that pass, the last two
 last-two : (a b c d : Bool) → a && b && c && d ≡ true → (c ≡ true) × (d ≡ true)
@@ -133,13 +133,17 @@ pub lineAnswer-by : (s : List ℕ) (f : Frame) → frameOf s ≡ f → answerOf 
 unfolding lineAnswer
 lineAnswer-by s f e = sym (ap (λ (g : Frame). answerOf g (digitsOf s)) e)
 
+-- a frame of kind 01 is retired, whatever its digits are
+pub lineAnswer-turns : (s : List ℕ) (n : ℕ) → frameOf s ≡ Of Turns n → lineAnswer s ≡ refusedLine RetiredKind
+lineAnswer-turns s n e = sym (lineAnswer-by s (Of Turns n) e)
+
 pub length-digitsOf : (s : List ℕ) (n : ℕ) → length s ≡ headDigits + n → n ≡ length (digitsOf s)
 length-digitsOf s n e = omega (arith, length-valuesOf (drop headDigits s), length-drop headDigits s)
 
 -- an answer, with its line feed, is not longer than the limit
 digitsAnswer-most : (k : Kind) (ds : List ℕ) → length ds ≤ mostDigits → length (digitsAnswer k ds) + 1 ≤ mostAnswer
-digitsAnswer-most Operations = walkedLine-most
-digitsAnswer-most Turns = turnedLine-most
+digitsAnswer-most Operations ds h = walkedLine-most ds h
+digitsAnswer-most Turns ds h = omega (arith, length-refusedLine RetiredKind)
 
 answerOf-most : (s : List ℕ) (f : Frame) → frameOf s ≡ f → length (answerOf f (digitsOf s)) + 1 ≤ mostAnswer
 answerOf-most s (Of k n) e =

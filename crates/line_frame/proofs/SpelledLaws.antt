@@ -7,25 +7,21 @@ use native.Mathlib.Omega.{arith}
 use lib.IntN.{ℤ}
 use lib.ListN.{length, length-append}
 use Rattle.answer.specs.declared.Refusal.{Refusal}
-use Rattle.answer.specs.declared.Judged.{Judged}
 use Rattle.answer.specs.declared.Facts.{Facts}
 use Rattle.answer.specs.declared.Answer.{Answer}
 use Rattle.grid.specs.declared.Corner.{Corner}
 use Rattle.grid.specs.Grid.{origin}
 use Rattle.steps.specs.Operations.{survivors}
-use Rattle.steps.specs.Turns.{stepsOf, turnsJudged}
 use Rattle.steps.proofs.SurvivorLaws.{length-survivors}
-use Rattle.steps.proofs.TurnLaws.{length-stepsOf}
 use Rattle.layout.specs.Marks.{markWords}
 use Rattle.walk_call.specs.Walk.{walkAnswer}
 use Rattle.hull.specs.Call.{numbers}
 use Rattle.hull_laws.specs.Outline.{hullOf}
 use Rattle.hull_laws.proofs.HullLaws.{length-hullOf}
-use Rattle.answer.specs.declared.Judged.the-variants as judged
 use Rattle.answer.specs.declared.Answer.the-variants as walked
 use Rattle.line_frame.specs.Sizes.{mostDigits, tableWords, refusedDigits, factsDigits, mostAnswer}
 use Rattle.line_frame.specs.Hex.{hexOf}
-use Rattle.line_frame.specs.Spelled.{refusedLine, factsLine, numbersLine, hullLine, answerLine, walkedLine, turnedBy, turnedLine}
+use Rattle.line_frame.specs.Spelled.{refusedLine, factsLine, numbersLine, hullLine, answerLine, walkedLine}
 use Rattle.line_frame.proofs.HexLaws.{length-hexOf}
 
 pub length-refusedLine : (r : Refusal) → length (refusedLine r) ≡ refusedDigits
@@ -59,11 +55,3 @@ pub walkedLine-most : (os : List ℕ) → length os ≤ mostDigits → length (w
 unfolding walkedLine
 walkedLine-most os h =
     answerLine-most (walkAnswer origin os tableWords (markWords * length os) (length os)) (survivors os) (omega (arith, length-survivors [] os))
-
-turnedBy-most : (j : Judged) (ts : List ℕ) → length ts ≤ mostDigits → length (turnedBy j ts) + 1 ≤ mostAnswer
-turnedBy-most judged.Good ts h = walkedLine-most (stepsOf ts) (omega (arith, length-stepsOf ts))
-turnedBy-most (judged.Refused r) ts h = omega (arith, length-refusedLine r)
-
-pub turnedLine-most : (ts : List ℕ) → length ts ≤ mostDigits → length (turnedLine ts) + 1 ≤ mostAnswer
-unfolding turnedLine
-turnedLine-most ts h = turnedBy-most (turnsJudged ts (length ts)) ts h

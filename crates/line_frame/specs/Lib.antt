@@ -4,3 +4,4 @@ pub mod Hex
 pub mod Spelled
 pub mod Line
 pub mod Program
+pub mod Converted

@@ -1,8 +1,8 @@
 -- One line: the frame that it is, and its answer without the line feed (RULES 7.2, 7.5). Assumes nothing.
 use Rattle.lists.specs.Lists.{Bool, cond, _&&_, List, length, take, drop, ℕ, zero, suc, _+_, eqb, ltb, leb}
-use Rattle.answer.specs.declared.Refusal.the-variants.{BadLine}
+use Rattle.answer.specs.declared.Refusal.the-variants.{BadLine, RetiredKind}
 use Rattle.line_frame.specs.declared.{Kind.Kind, Kind.the-variants.Operations, Kind.the-variants.Turns, Frame.Frame, Frame.the-variants.Of, Frame.the-variants.Bad}
-use Rattle.line_frame.specs.{Sizes.headDigits, Sizes.mostDigits, Hex.allHex, Hex.valuesOf, Hex.numberFrom, Spelled.walkedLine, Spelled.turnedLine, Spelled.refusedLine}
+use Rattle.line_frame.specs.{Sizes.headDigits, Sizes.mostDigits, Hex.allHex, Hex.valuesOf, Hex.numberFrom, Spelled.walkedLine, Spelled.refusedLine}
 
 -- the first two digits
 abbrev pub kindOf : List ℕ → ℕ
@@ -29,10 +29,10 @@ frameOf s = cond (isFrame s) (Of (kindNamed (kindOf s)) (countOf s)) Bad
 abbrev pub digitsOf : List ℕ → List ℕ
 digitsOf s = valuesOf (drop headDigits s)
 
--- the answer to operations, and to turns
+-- operations are walked; turns are retired, whatever their digits are: refusal 19
 abbrev pub digitsAnswer : Kind → List ℕ → List ℕ
 digitsAnswer Operations ds = walkedLine ds
-digitsAnswer Turns ds = turnedLine ds
+digitsAnswer Turns ds = refusedLine RetiredKind
 
 -- the answer to a frame with these digits; to anything else, refusal 9
 abbrev pub answerOf : Frame → List ℕ → List ℕ

@@ -1,9 +1,9 @@
 -- The answer to a good frame, without the line feed (RULES 7.3 to 7.5). Assumes nothing.
 use Rattle.lists.specs.Lists.{List, [], _∷_, _++_, length, ℕ, _+_, _*_, ℤ}
-use Rattle.answer.specs.declared.{Refusal.Refusal, Judged.Judged, Judged.the-variants.Good, Judged.the-variants.Refused, Facts.Facts, Answer.Answer}
+use Rattle.answer.specs.declared.{Refusal.Refusal, Facts.Facts, Answer.Answer}
 use Rattle.answer.specs.{Refusal.refusalNumber, Refusal.refusalPlace, Refusal.verdictNumber, Words.bitsOf}
 use Rattle.grid.specs.{declared.Corner.Corner, Grid.origin}
-use Rattle.steps.specs.{Operations.survivors, Turns.turnsJudged, Turns.stepsOf}
+use Rattle.steps.specs.Operations.{survivors}
 use Rattle.layout.specs.Marks.{markWords}
 use Rattle.walk_call.specs.Walk.{walkAnswer}
 use Rattle.hull.specs.Call.{numbers}
@@ -42,12 +42,3 @@ answerLine (Answer.Refused r) w = refusedLine r
 -- operations are walked in the program's table, with marks and a chain of the lengths that the walk asks for
 unfoldable pub walkedLine : List ℕ → List ℕ
 walkedLine os = answerLine (walkAnswer origin os tableWords (markWords * length os) (length os)) (survivors os)
-
--- turns that may be converted are walked as steps
-abbrev pub turnedBy : Judged → List ℕ → List ℕ
-turnedBy Good ts = walkedLine (stepsOf ts)
-turnedBy (Refused r) ts = refusedLine r
-
--- turns are turned into steps first, in a buffer of their length
-unfoldable pub turnedLine : List ℕ → List ℕ
-turnedLine ts = turnedBy (turnsJudged ts (length ts)) ts

@@ -8,6 +8,7 @@ use native.Mathlib.Decide.{decLt}
 use lib.ListN.{length, take, length-take}
 use Rattle.line_frame.specs.Sizes.{mostHeld}
 use Rattle.line_stream.specs.{declared.Progress.Progress, Stream.Job}
+use Rattle.lines.specs.{declared.Task.Task, declared.Task.the-variants.Answer, declared.Task.the-variants.Convert, Tasks.mostTold}
 use Rattle.line_io.specs.declared.Round.{Round, the-variants.More, the-variants.Over}
 use Rattle.line_io.specs.Round.{ReadOn, PassedOn, RoundIs}
 
@@ -38,3 +39,8 @@ module _ {J : Job} {line : List ℕ} {p : Progress} {buf : List ℕ} {n : ℕ} {
         | yes l ↦ absurd (g .on l .0)
         | no b ↦ omega (arith, g .next (omega (arith, b)) .0)
       ]
+
+-- the programs' output has room for the last line
+pub last-small : (t : Task) → mostTold t ≤ 131072
+last-small Answer = omega arith
+last-small Convert = omega arith

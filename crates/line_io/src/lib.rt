@@ -1,12 +1,20 @@
-// What the programs on lines share: the rounds that they go, reading on, and saying how they ended.
+// The programs on lines: the rounds that they go, reading and writing, and saying how they ended.
 use libc::STDIN_FILENO;
+use libc::STDOUT_FILENO;
 use line_stream::Progress;
-ghost use lib.ListN.{length};
-ghost use Rattle.line_io.specs.Round.{ReadOn};
+use lines::Task;
+ghost use mathlib.Core.Path.{_≡_};
+ghost use Prim.Native.Nat.{_≤_};
+ghost use lib.ListN.{length, take};
+ghost use Rattle.line_frame.specs.Sizes.{mostHeld};
+ghost use Rattle.line_fields.specs.Put.{put};
+ghost use Rattle.line_stream.specs.Stream.{mostPart};
+ghost use Rattle.lines.specs.Tasks.{mostTold, jobOf};
+ghost use Rattle.line_io.specs.Round.{ReadOn, PassedOn, RoundIs};
 
 // After a round: how far the chunk was passed, and how many bytes it has; or the input is over with so many bytes of a line held; or a
 // read or a write failed.
-pub enum Round {
+enum Round {
     More(Progress, usize),
     Over(usize),
     Unread,
@@ -14,7 +22,7 @@ pub enum Round {
 }
 
 // How a program ended: all was read and written, or a read or a write failed.
-pub enum Ended {
+enum Ended {
     Whole,
     Unread,
     Unwritten,
@@ -24,7 +32,7 @@ pub enum Ended {
 const WORD_FILENO: i32 = 3;
 
 // Reads the next chunk, with so many bytes of a line held.
-pub fn read_on(held: usize, buf: &mut [u8]) -> Round
+fn read_on(held: usize, buf: &mut [u8]) -> Round
     ensures { λ r. ⌜ ReadOn held (length (now (buf .exit))) r ⌝ }
 {
     let got = libc::read(STDIN_FILENO, buf);
@@ -43,12 +51,95 @@ pub fn read_on(held: usize, buf: &mut [u8]) -> Round
     Round::More(begun, n)
 }
 
+// Passes lines of the chunk from at on, as far as the output has room, and writes what is written of them.
+fn pass(task: Task, line: &mut [u8], held: usize, s: &[u8], at: usize, out: &mut [u8]) -> Round
+    requires { ⌜ (held ≤ mostHeld) × (length (now line) ≡ mostHeld) ⌝ }
+    requires { ⌜ (at ≤ length (now s)) × (length (now s) ≤ mostPart) ⌝ }
+    ensures { λ r. ⌜ PassedOn (jobOf task) (now (line .entry)) held (now (s .entry)) at (now (out .entry)) r (now (line .exit)) (now (out .exit)) ⌝ }
+{
+    let p = lines::fill(task, line, held, s, at, out);
+    let used = p.used;
+    if !io::write_all(STDOUT_FILENO, &out[..used]) {
+        return Round::Unwritten;
+    }
+    Round::More(p, s.len())
+}
+
+// Passes lines of the chunk, the first n bytes of buf, or reads the next one if it is passed.
+fn go_round(
+    task: Task,
+    line: &mut [u8],
+    p: Progress,
+    buf: &mut [u8],
+    n: usize,
+    out: &mut [u8],
+) -> Round
+    requires { ⌜ (p .held ≤ mostHeld) × (length (now line) ≡ mostHeld) ⌝ }
+    requires { ⌜ (n ≤ length (now buf)) × (length (now buf) ≤ mostPart) ⌝ }
+    ensures { λ r. ⌜ RoundIs (jobOf task) (now (line .entry)) p (now (buf .entry)) n (now (out .entry)) r (now (line .exit)) (now (buf .exit)) (now (out .exit)) ⌝ }
+{
+    if p.at < n {
+        return pass(task, line, p.held, &buf[..n], p.at, out);
+    }
+    read_on(p.held, buf)
+}
+
+// Writes what is written of the line that the input ended in, if there is one. Answers whether it could.
+fn close(task: Task, line: &[u8], held: usize, out: &mut [u8]) -> bool
+    requires { ⌜ (held ≤ mostHeld) × (length (now line) ≡ mostHeld) ⌝ }
+    requires { ⌜ mostTold task ≤ length (now out) ⌝ }
+    ensures { λ _. ⌜ now (out .exit) ≡ put (jobOf task .last (take held (now (line .entry)))) 0 (now (out .entry)) ⌝ }
+{
+    let used = lines::finish(task, line, held, out);
+    io::write_all(STDOUT_FILENO, &out[..used])
+}
+
+// A proved loop has to end, and nothing says that the input does. So it counts its rounds down, from a number that no run uses up.
+fn run(task: Task, line: &mut [u8], buf: &mut [u8], out: &mut [u8]) -> Ended
+    requires { ⌜ (length (now line) ≡ mostHeld) × (length (now buf) ≤ mostPart) ⌝ }
+    requires { ⌜ mostTold task ≤ length (now out) ⌝ }
+{
+    let mut p = Progress {
+        held: 0,
+        at: 0,
+        used: 0,
+    };
+    let mut n: usize = 0;
+    let mut rounds = u64::MAX;
+    while 0 < rounds {
+        match go_round(task, line, p, buf, n, out) {
+            Round::More(q, m) => {
+                p = q;
+                n = m;
+            }
+            Round::Over(held) => {
+                if close(task, line, held, out) {
+                    return Ended::Whole;
+                }
+                return Ended::Unwritten;
+            }
+            Round::Unread => return Ended::Unread,
+            Round::Unwritten => return Ended::Unwritten,
+        }
+        rounds -= 1;
+    }
+    Ended::Unread
+}
+
 // Says how the program ended.
-pub fn say(e: Ended) {
+fn say(e: Ended) {
     match e {
         Ended::Whole => io::write_all(WORD_FILENO, b"end\n"),
         Ended::Unread => io::write_all(WORD_FILENO, b"read\n"),
         Ended::Unwritten => io::write_all(WORD_FILENO, b"write\n"),
     }
     ;
+}
+
+// A program on lines: standard input to standard output.
+pub fn start(task: Task) {
+    let mut line = [0u8; Progress::MOST_HELD];
+    let mut buf = [0u8; Progress::MOST_PART];
+    let mut out = [0u8; 131072];
+    say(run(task, &mut line, &mut buf, &mut out));
 }

@@ -1,4 +1,4 @@
--- One line, answered: the call, a walk that is accepted or refused, and turns.
+-- One line, answered: the call, and a walk that is accepted or refused.
 -- Assumes nothing.
 use mathlib.Core.Path.{_≡_, refl, sym, ap, ap₂, _∙_}
 use mathlib.Core.List.{List, [], _++_}
@@ -16,12 +16,11 @@ use Rattle.answer.specs.declared.Facts.{Facts}
 use Rattle.answer.specs.declared.Answer.{Answer}
 use Rattle.steps.specs.Operations.{survivors, Walkable}
 use Rattle.walk_call.proofs.JudgedLaws.{walk-fits}
-use Rattle.steps.specs.Turns.{stepsOf, turnsJudged, writtenIf, ConvertedBy}
 use Rattle.steps.proofs.SurvivorLaws.{walkable-survivors, length-survivors}
 use Rattle.layout.specs.Marks.{chainOf}
 use Rattle.walk_call.specs.Walk.{walkJudged, factsOf, answerBy, walkAnswer, bufferBy, WalkIs}
 use Rattle.hull_laws.specs.Outline.{hullOf}
-use Rattle.line_frame.specs.Spelled.{refusedLine, factsLine, hullLine, answerLine, walkedLine, turnedBy, turnedLine}
+use Rattle.line_frame.specs.Spelled.{refusedLine, factsLine, hullLine, answerLine, walkedLine}
 use Rattle.line_frame.specs.Line.{lineAnswer}
 use Rattle.line_frame.specs.Sizes.{tableWords, mostAnswer}
 use Rattle.line_fields.specs.Put.{Wrote}
@@ -97,15 +96,3 @@ module _ {os t ms ch : List ℕ} {h : List ℤ} {r : Answer} {t′ ms′ ch′ :
           chain = ap (take (f .steps)) chain-is ∙ take-at (survivors os) zeros (f .steps) (sym count);
           within = omega (arith, count, ap length chain-is ∙ length-append (survivors os) zeros);
         }
-
--- turns that may be converted leave their steps, and are answered as these; others are refused
-module _ {ts out : List ℕ} {r : Judged} {out′ : List ℕ} (w : ConvertedBy stepsOf ts out r out′) (l : length out ≡ length ts) where
-  turned-is : turnedBy r ts ≡ turnedLine ts
-  unfolding turnedLine
-  turned-is = ap (λ (j : Judged). turnedBy j ts) (w .answer) ∙ ap (λ (n : ℕ). turnedBy (turnsJudged ts n) ts) l
-
-  pub turned-refused : (x : Refusal) → r ≡ judged.Refused x → refusedLine x ≡ turnedLine ts
-  turned-refused x e = ap (λ (j : Judged). turnedBy j ts) (sym e) ∙ turned-is
-
-  pub turned-good : r ≡ judged.Good → walkedLine out′ ≡ turnedLine ts
-  turned-good e = ap walkedLine (w .buffer ∙ ap (λ (j : Judged). writtenIf j (stepsOf ts) out) (sym (w .answer) ∙ e)) ∙ ap (λ (j : Judged). turnedBy j ts) (sym e) ∙ turned-is

@@ -2,7 +2,6 @@
 use answer::Answer;
 use answer::Counted;
 use answer::Facts;
-use answer::Judged;
 use answer::Refusal;
 use grid::Corner;
 use line_fields::hex::spell;
@@ -25,7 +24,7 @@ ghost use Rattle.grid.specs.Grid.{origin};
 ghost use Rattle.hull_laws.specs.Outline.{hullOf};
 ghost use Rattle.line_frame.specs.Sizes.{headDigits, mostDigits, hullNumbers, mostAnswer};
 ghost use Rattle.line_frame.specs.Hex.{allHex};
-ghost use Rattle.line_frame.specs.Spelled.{factsLine, hullLine, walkedLine, turnedLine};
+ghost use Rattle.line_frame.specs.Spelled.{factsLine, hullLine, walkedLine};
 ghost use Rattle.line_frame.specs.Line.{digitsOf, digitsAnswer, lineAnswer};
 ghost use Rattle.line_fields.specs.Put.{Wrote};
 ghost use Rattle.line_reply.specs.Reply.{Lent, LentExactly, Listed, LineIs};
@@ -129,65 +128,25 @@ fn answer_operations(
     )
 }
 
-// Turns the turns into the steps of the lent buffer, walks these and writes the answer.
-fn answer_converted(
-    turns: &[u8],
-    steps: &mut [u8],
-    table: &mut [u32],
-    marks: &mut [u32],
-    hull: &mut [i32],
-    out: &mut [u8],
-    at: usize,
-) -> usize
-    requires { ⌜ (length (now turns) ≤ mostDigits) × (length (now steps) ≡ length (now turns)) ⌝ }
-    requires { ⌜ Lent (now table) (now marks) (now hull) ⌝ }
-    requires { ⌜ at + mostAnswer ≤ length (now out) ⌝ }
-    ensures { λ e. ⌜ Wrote (turnedLine (now (turns .entry))) at (now (out .entry)) e (now (out .exit)) ⌝ }
-{
-    match turns::steps_of(turns, steps) {
-        Judged::Good => answer_operations(steps, table, marks, hull, out, at),
-        Judged::Refused(r) => spell_refusal(out, at, r),
-    }
-}
-
-// Turns the turns into steps, walks these and writes the answer.
-fn answer_turns(
-    turns: &[u8],
-    table: &mut [u32],
-    marks: &mut [u32],
-    hull: &mut [i32],
-    out: &mut [u8],
-    at: usize,
-) -> usize
-    requires { ⌜ length (now turns) ≤ mostDigits ⌝ }
-    requires { ⌜ Lent (now table) (now marks) (now hull) ⌝ }
-    requires { ⌜ at + mostAnswer ≤ length (now out) ⌝ }
-    ensures { λ e. ⌜ Wrote (turnedLine (now (turns .entry))) at (now (out .entry)) e (now (out .exit)) ⌝ }
-{
-    let n = turns.len();
-    let mut steps = [0u8; Frame::MOST_DIGITS];
-    answer_converted(turns, &mut steps[..n], table, marks, hull, out, at)
-}
-
-// Writes the answer to the digits of a frame of this kind.
+// Walks the n operations of a frame and writes the answer.
 fn answer_digits(
-    kind: Kind,
-    digits: &[u8],
+    s: &[u8],
+    n: usize,
     table: &mut [u32],
     marks: &mut [u32],
     hull: &mut [i32],
     out: &mut [u8],
     at: usize,
 ) -> usize
-    requires { ⌜ length (now digits) ≤ mostDigits ⌝ }
+    requires { ⌜ allHex (now s) ≡ true ⌝ }
+    requires { ⌜ (n ≤ mostDigits) × (length (now s) ≡ headDigits + n) ⌝ }
     requires { ⌜ Lent (now table) (now marks) (now hull) ⌝ }
     requires { ⌜ at + mostAnswer ≤ length (now out) ⌝ }
-    ensures { λ e. ⌜ Wrote (digitsAnswer kind (now (digits .entry))) at (now (out .entry)) e (now (out .exit)) ⌝ }
+    ensures { λ e. ⌜ Wrote (walkedLine (digitsOf (now (s .entry)))) at (now (out .entry)) e (now (out .exit)) ⌝ }
 {
-    match kind {
-        Kind::Operations => answer_operations(digits, table, marks, hull, out, at),
-        Kind::Turns => answer_turns(digits, table, marks, hull, out, at),
-    }
+    let mut digits = [0u8; Frame::MOST_DIGITS];
+    copy_digits(s, &mut digits);
+    answer_operations(&digits[..n], table, marks, hull, out, at)
 }
 
 // Writes the answer to a frame of this kind with n digits.
@@ -207,9 +166,10 @@ fn answer_frame(
     requires { ⌜ at + mostAnswer ≤ length (now out) ⌝ }
     ensures { λ e. ⌜ Wrote (digitsAnswer kind (digitsOf (now (s .entry)))) at (now (out .entry)) e (now (out .exit)) ⌝ }
 {
-    let mut digits = [0u8; Frame::MOST_DIGITS];
-    copy_digits(s, &mut digits);
-    answer_digits(kind, &digits[..n], table, marks, hull, out, at)
+    match kind {
+        Kind::Operations => answer_digits(s, n, table, marks, hull, out, at),
+        Kind::Turns => spell_refusal(out, at, Refusal::RetiredKind),
+    }
 }
 
 // Writes the answer to the line s from the place at on, without its line feed. Answers the place after it.

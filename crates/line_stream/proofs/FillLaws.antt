@@ -2,11 +2,11 @@
 -- Assumes nothing.
 use mathlib.Core.Path.{_≡_, refl, sym, ap, _∙_, subst}
 use mathlib.Core.Bool.{Bool, true, false, cond, _&&_}
-use mathlib.Core.List.{List, [], _++_}
+use mathlib.Core.List.{List, [], _++_, append-nil}
 use mathlib.Core.Logic.{_⊎_, inl, inr}
 use Prim.Native.Nat.{ℕ, zero, suc, _+_, _-_, _<_, _≤_}
 use native.Mathlib.Omega.{arith}
-use lib.ListN.{length, take, drop, length-drop, length-take}
+use lib.ListN.{length, take, drop, length-drop, length-take, length-append}
 use lib.Seq.{take-all, take-add, drop-drop, length-take-le}
 use lib.Dec.{ltb, leb}
 use borrow.Author.Tests.{le-ltb, lt-ltb, le-leb, lt-leb, eq-eqb, ne-eqb}
@@ -15,7 +15,7 @@ use Rattle.line_fields.specs.Put.{put, Wrote}
 use Rattle.line_stream.specs.Stream.{lineLength, hasFeed, keptOf, passedOf, toldOf, heldOf, Job, Does, Fed}
 use Rattle.line_stream.specs.Fill.{FedLine, Filled, Block, goesOn, fillOf, lineAfter}
 use Rattle.line_stream.specs.declared.Progress.{Progress}
-use Rattle.line_fields.proofs.PutLaws.{take-put-start, take-put, drop-put, length-put}
+use Rattle.line_fields.proofs.PutLaws.{take-put-start, take-put, drop-put, length-put, wrote-append}
 use Rattle.line_stream.proofs.StreamLaws.{lineLength-most, fed-passed, fed-nil, fed-append, passedOf-most, passedOf-some}
 
 pub length-keptOf : (l : List ℕ) → length (keptOf l) ≤ mostHeld
@@ -23,10 +23,10 @@ length-keptOf l = omega (arith, length-take mostHeld l)
 
 -- one line, or the rest of the chunk: e is the place of its line feed, or the chunk's length
 module _ (J : Job) (line s out : List ℕ) (held at used e : ℕ) (he : e ≡ at + lineLength (drop at s)) (ha : at ≤ length s) where
-  -- no line feed: the rest of the chunk is held
+  -- no line feed: what is written early, and the rest of the chunk is held
   pub fed-held : (k u : ℕ) (line′ out′ : List ℕ) → length line ≡ mostHeld → length s ≤ e
       → Wrote (keptOf (take held line ++ take (e - at) (drop at s))) 0 line k line′
-      → Wrote (J .early (take held line) (drop at s)) used out u out′
+      → Wrote (J .early (take held line) (take (e - at) (drop at s))) used out u out′
       → FedLine J line held (drop at s) at out used (record { held = k; at = e; used = u }) line′ out′
   fed-held k u line′ out′ hl h w o =
       let q : List ℕ = drop at s in
@@ -38,50 +38,60 @@ module _ (J : Job) (line s out : List ℕ) (held at used e : ℕ) (he : e ≡ at
       let g : keptOf (take held line ++ take (e - at) q) ≡ keptOf (take held line ++ q) = ap (λ (l : List ℕ). keptOf (take held line ++ l)) a in
       let k1 : k ≡ length (keptOf (take held line ++ take (e - at) q)) = omega (arith, w .end) in
       record {
-        output = rw f o;
+        output = rw f (subst (λ (l : List ℕ). Wrote (J .early (take held line) l) used out u out′) a o);
         passed = rw f (omega arith);
         count = rw f (k1 ∙ ap length g);
         holds = rw f (ap (take k) (w .buffer) ∙ take-put-start (keptOf (take held line ++ take (e - at) q)) line k k1 (omega (arith, length-keptOf (take held line ++ take (e - at) q))) ∙ g);
         buffer = rw f (w .buffer ∙ ap (λ (l : List ℕ). put l 0 line) (g ∙ ap (λ (l : List ℕ). keptOf (take held line ++ l)) (sym b)));
       }
 
-  -- a line that ends there, wherever its bytes were read from
-  fed-ended : (u : ℕ) (line′ out′ : List ℕ) → e < length s → line′ ≡ lineAfter line held (drop at s)
-      → Wrote (J .told (take held line) (take (e - at) (drop at s))) used out u out′
-      → FedLine J line held (drop at s) at out used (record { held = 0; at = e + 1; used = u }) line′ out′
-  fed-ended u line′ out′ h b w =
-      let q : List ℕ = drop at s in
-      let n : length q ≡ length s - at = length-drop at s in
-      let f : hasFeed q ≡ true = lt-ltb (lineLength q) (length q) (omega arith) in
-      let d : e - at ≡ lineLength q = omega arith in
-      record {
-        output = rw f (subst (λ (i : ℕ). Wrote (J .told (take held line) (take i q)) used out u out′) d w);
-        passed = rw f (omega arith);
-        count = rw f refl;
-        holds = rw f refl;
-        buffer = b;
-      }
+  -- a line that ends there: what is written early, and then what is told of the bytes that are kept, wherever these were read from
+  module _ {told last : List ℕ → List ℕ} (does : Does J told last) (h : e < length s) (room : used + length (toldOf J (take held line) (drop at s)) ≤ length out)
+      (v u : ℕ) (line′ mid out′ : List ℕ) (o : Wrote (J .early (take held line) (take (e - at) (drop at s))) used out v mid)
+      (w : Wrote (J .told (keptOf (take held line ++ take (e - at) (drop at s))) []) v mid u out′) where
+    fed-told : Wrote (toldOf J (take held line) (drop at s)) used out u out′
+    fed-told =
+        let q : List ℕ = drop at s in
+        let n : length q ≡ length s - at = length-drop at s in
+        let f : hasFeed q ≡ true = lt-ltb (lineLength q) (length q) (omega arith) in
+        let d : e - at ≡ lineLength q = omega arith in
+        let x : List ℕ = take held line in
+        let r : List ℕ = take (e - at) q in
+        let m : J .early x r ++ J .told (keptOf (x ++ r)) [] ≡ toldOf J x q =
+        does .more x r [] ∙ ap (J .told x) (append-nil r ∙ ap (λ (i : ℕ). take i q) d) ∙ sym (ap (λ (c : Bool). cond c (J .told x (take (lineLength q) q)) (J .early x q)) f)
+        in
+        subst (λ (l : List ℕ). Wrote l used out u out′) m (wrote-append o w (omega (arith, room, ap length m, length-append (J .early x r) (J .told (keptOf (x ++ r)) []))))
 
-  -- a whole line of the chunk
-  pub fed-here : (u : ℕ) (out′ : List ℕ) → e < length s → held ≡ 0 → Wrote (J .told [] (take (e - at) (drop at s))) used out u out′
-      → FedLine J line held (drop at s) at out used (record { held = 0; at = e + 1; used = u }) line out′
-  fed-here u out′ h z w =
-      let q : List ℕ = drop at s in
-      let n : length q ≡ length s - at = length-drop at s in
-      let f : hasFeed q ≡ true = lt-ltb (lineLength q) (length q) (omega arith) in
-      fed-ended u line out′ h (rw (f, eq-eqb held 0 z) refl)
-      (subst (λ (i : ℕ). Wrote (J .told (take i line) (take (e - at) (drop at s))) used out u out′) (sym z) w)
+    fed-ended : line′ ≡ lineAfter line held (drop at s) → FedLine J line held (drop at s) at out used (record { held = 0; at = e + 1; used = u }) line′ out′
+    fed-ended b =
+        let q : List ℕ = drop at s in
+        let n : length q ≡ length s - at = length-drop at s in
+        let f : hasFeed q ≡ true = lt-ltb (lineLength q) (length q) (omega arith) in
+        record {
+          output = fed-told;
+          passed = rw f (omega arith);
+          count = rw f refl;
+          holds = rw f refl;
+          buffer = b;
+        }
 
-  -- a line whose first bytes were held
-  pub fed-kept : (k u : ℕ) (line′ out′ : List ℕ) → e < length s → (held ≡ 0 → ⊥) → Wrote (keptOf (take held line ++ take (e - at) (drop at s))) 0 line k line′
-      → Wrote (J .told (take held line) (take (e - at) (drop at s))) used out u out′
-      → FedLine J line held (drop at s) at out used (record { held = 0; at = e + 1; used = u }) line′ out′
-  fed-kept k u line′ out′ h z v w =
-      let q : List ℕ = drop at s in
-      let n : length q ≡ length s - at = length-drop at s in
-      let f : hasFeed q ≡ true = lt-ltb (lineLength q) (length q) (omega arith) in
-      let d : e - at ≡ lineLength q = omega arith in
-      fed-ended u line′ out′ h (rw (f, ne-eqb held 0 z) (v .buffer ∙ ap (λ (i : ℕ). put (keptOf (take held line ++ take i q)) 0 line) d)) w
+    -- a whole line of the chunk
+    pub fed-here : held ≡ 0 → line′ ≡ line → FedLine J line held (drop at s) at out used (record { held = 0; at = e + 1; used = u }) line′ out′
+    fed-here z b =
+        let q : List ℕ = drop at s in
+        let n : length q ≡ length s - at = length-drop at s in
+        let f : hasFeed q ≡ true = lt-ltb (lineLength q) (length q) (omega arith) in
+        fed-ended (rw (f, eq-eqb held 0 z) b)
+
+    -- a line whose first bytes were held
+    pub fed-kept : (k : ℕ) → (held ≡ 0 → ⊥) → Wrote (keptOf (take held line ++ take (e - at) (drop at s))) 0 line k line′
+        → FedLine J line held (drop at s) at out used (record { held = 0; at = e + 1; used = u }) line′ out′
+    fed-kept k z g =
+        let q : List ℕ = drop at s in
+        let n : length q ≡ length s - at = length-drop at s in
+        let f : hasFeed q ≡ true = lt-ltb (lineLength q) (length q) (omega arith) in
+        let d : e - at ≡ lineLength q = omega arith in
+        fed-ended (rw (f, ne-eqb held 0 z) (g .buffer ∙ ap (λ (i : ℕ). put (keptOf (take held line ++ take i q)) 0 line) d))
 
 -- the bytes that were put together
 pub kept-bytes : (line : List ℕ) (k : ℕ) (line′ : List ℕ) (l : List ℕ) → length line ≡ mostHeld → Wrote (keptOf l) 0 line k line′ → take k line′ ≡ keptOf l

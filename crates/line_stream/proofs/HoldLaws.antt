@@ -56,6 +56,10 @@ module _ (line s : List ℕ) (held at end m : ℕ) (hh : held ≤ mostHeld) (hl 
           let e : mostHeld - held ≡ m = omega (arith, f, hm) in
           take-take (mostHeld - held) (end - at) (drop at s) (omega (arith, f)) ∙ ap (λ (n : ℕ). take n (drop at s)) e
 
+  -- where none are held, those of the piece
+  pub kept-here : held ≡ 0 → take m (drop at s) ≡ keptOf (take held line ++ take (end - at) (drop at s))
+  kept-here z = ap (λ (n : ℕ). take n line ++ take m (drop at s)) (sym z) ∙ sym kept-piece
+
   pub hold-kept : Wrote (keptOf (take held line ++ take (end - at) (drop at s))) 0 line (held + m) (paste line held (drop at s) m)
   unfolding put
   hold-kept =

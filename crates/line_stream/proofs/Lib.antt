@@ -1,8 +1,8 @@
 -- The laws of input that comes in parts.
 pub mod StreamCases
 pub mod StreamLaws
-pub mod OutputLaws
 pub mod JobLaws
+pub mod PassLaws
 pub mod HoldLaws
 pub mod FillLaws
 pub mod Demand

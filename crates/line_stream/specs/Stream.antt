@@ -1,7 +1,7 @@
 -- Input that comes in parts: how far one call goes, what it writes and what it keeps of a line begun, whatever a program writes for a line.
 -- Assumes nothing.
 use Rattle.lists.specs.Lists.{_≡_, Bool, true, false, cond, List, [], _∷_, _++_, length, take, ℕ, suc, eqb, ltb}
-use Rattle.line_frame.specs.{Sizes.mostHeld, Program.lastOf}
+use Rattle.line_frame.specs.{Sizes.mostLine, Sizes.mostHeld, Program.lastOf}
 
 -- how many bytes stand before the first line feed
 unfoldable pub lineLength : List ℕ → ℕ
@@ -68,3 +68,20 @@ joined (s ∷ ss) = s ++ joined ss
 -- a job that writes f of each line where it ends, of the last line too, and for no line more than n bytes
 abbrev pub tellsEach : (List ℕ → List ℕ) → ℕ → Job
 tellsEach f n = record { told = λ h r. f (h ++ r); early = λ h r. []; last = lastOf f; most = n }
+
+-- more bytes than a frame has
+abbrev pub isLong : List ℕ → Bool
+isLong h = ltb mostLine (length h)
+
+-- a job that writes f of each line and its line feed, and of a last line that lacks it f alone; a line that is longer than a frame is passed on as it comes
+abbrev pub passesOn : (List ℕ → List ℕ) → ℕ → Job
+passesOn f n = record {
+  told = λ h r. cond (isLong h) r (f (h ++ r)) ++ (10 ∷ []);
+  early = λ h r. cond (isLong h) r (cond (isLong (h ++ r)) (h ++ r) []);
+  last = λ h. cond (isLong h) [] (f h);
+  most = n;
+}
+
+-- bytes of a part of the input at most
+abbrev pub mostPart : ℕ
+mostPart = 65536

@@ -18,7 +18,10 @@ pub struct Progress {
 
 impl Progress {
     // the bytes that are held of a line at most: one more than a frame has
-    pub const MOST_HELD: usize = Frame::HEAD + Frame::MOST_DIGITS + 1;
+    pub const MOST_HELD: usize = Frame::MOST_LINE + 1;
+
+    // bytes of a part of the input at most
+    pub const MOST_PART: usize = 65_536;
 }
 
 // The place of the first line feed from at on, or the length.

@@ -1,3 +1,3 @@
 -- The laws that the proofs of lines cite.
-pub mod AnsweringLaws
+pub mod TaskLaws
 pub mod Demand

@@ -1,21 +1,106 @@
-// The line program's work on a part of its input. These functions are the program's own, with a requires on the buffers that it makes;
-// the library's call for a line is line_reply::reply.
+// The work of the programs on a part of their input: what is done with its lines is a task. These functions are the programs' own, with a
+// requires on the buffers that they make; the library's calls for a line are line_reply::reply and line_convert::convert.
+use line_convert::end_fed_line;
+use line_convert::end_line;
+use line_convert::pass_on;
 use line_reply::Desk;
-use line_reply::tell;
 use line_stream::Progress;
 use line_stream::hold;
 use line_stream::line_end;
+use order::lesser;
 ghost use mathlib.Core.Path.{_≡_};
-ghost use Prim.Native.Nat.{_+_, _≤_};
+ghost use mathlib.Core.List.{[]};
+ghost use Prim.Native.Nat.{_+_, _-_, _<_, _≤_};
 ghost use lib.ListN.{length, take, drop};
-ghost use Rattle.line_frame.specs.Sizes.{mostHeld, mostAnswer};
+ghost use Rattle.line_frame.specs.Sizes.{mostHeld};
 ghost use Rattle.line_fields.specs.Put.{Wrote};
+ghost use Rattle.line_stream.specs.Stream.{mostPart};
 ghost use Rattle.line_stream.specs.Fill.{FedLine, Filled};
 ghost use Rattle.line_reply.specs.Reply.{Lent};
-ghost use Rattle.lines.specs.Answering.{answering};
+ghost use Rattle.lines.specs.Tasks.{mostEarly, mostTold, jobOf};
 
-// Passes one line of the chunk, or what is left of it, and answers the line if it ends there.
+// What a program does with the lines of its input.
+pub enum Task {
+    Answer,
+    Convert,
+}
+
+// The bytes for which the output has room where a line is passed.
+fn most(task: Task) -> usize
+    ensures { λ r. ⌜ r ≡ jobOf task .most ⌝ }
+{
+    match task {
+        Task::Answer => Desk::MOST_ANSWER,
+        Task::Convert => Progress::MOST_HELD + Progress::MOST_PART + Progress::MOST_HELD,
+    }
+}
+
+// Writes what a task writes early, where the bytes of the chunk from at up to end come to those that are held.
+fn tell_early(
+    task: Task,
+    line: &[u8],
+    held: usize,
+    s: &[u8],
+    at: usize,
+    end: usize,
+    out: &mut [u8],
+    used: usize,
+) -> usize
+    requires { ⌜ (held ≤ mostHeld) × (length (now line) ≡ mostHeld) ⌝ }
+    requires { ⌜ (at ≤ end) × (end ≤ length (now s)) × (length (now s) ≤ mostPart) ⌝ }
+    requires { ⌜ used + mostEarly task ≤ length (now out) ⌝ }
+    ensures { λ e. ⌜ Wrote (jobOf task .early (take held (now (line .entry))) (take (end - at) (drop at (now (s .entry))))) used (now (out .entry)) e (now (out .exit)) ⌝ }
+{
+    match task {
+        Task::Answer => used,
+        Task::Convert => pass_on(&line[..held], &s[at..end], out, used),
+    }
+}
+
+// Writes what a task writes where a line ends of which s was kept.
+fn tell(
+    task: Task,
+    s: &[u8],
+    table: &mut [u32],
+    marks: &mut [u32],
+    hull: &mut [i32],
+    out: &mut [u8],
+    at: usize,
+) -> usize
+    requires { ⌜ length (now s) ≤ mostHeld ⌝ }
+    requires { ⌜ Lent (now table) (now marks) (now hull) ⌝ }
+    requires { ⌜ at + mostTold task ≤ length (now out) ⌝ }
+    ensures { λ e. ⌜ Wrote (jobOf task .told (now (s .entry)) []) at (now (out .entry)) e (now (out .exit)) ⌝ }
+{
+    match task {
+        Task::Answer => line_reply::tell(s, table, marks, hull, out, at),
+        Task::Convert => end_fed_line(s, out, at),
+    }
+}
+
+// Writes what a task writes where the input ends in a line of which s was kept.
+fn tell_last(
+    task: Task,
+    s: &[u8],
+    table: &mut [u32],
+    marks: &mut [u32],
+    hull: &mut [i32],
+    out: &mut [u8],
+) -> usize
+    requires { ⌜ (0 < length (now s)) × (length (now s) ≤ mostHeld) ⌝ }
+    requires { ⌜ Lent (now table) (now marks) (now hull) ⌝ }
+    requires { ⌜ mostTold task ≤ length (now out) ⌝ }
+    ensures { λ e. ⌜ Wrote (jobOf task .last (now (s .entry))) 0 (now (out .entry)) e (now (out .exit)) ⌝ }
+{
+    match task {
+        Task::Answer => line_reply::tell(s, table, marks, hull, out, 0),
+        Task::Convert => end_line(s, out, 0),
+    }
+}
+
+// Passes one line of the chunk, or what is left of it.
 fn feed_line(
+    task: Task,
     line: &mut [u8],
     held: usize,
     s: &[u8],
@@ -27,53 +112,64 @@ fn feed_line(
     used: usize,
 ) -> Progress
     requires { ⌜ (held ≤ mostHeld) × (length (now line) ≡ mostHeld) ⌝ }
-    requires { ⌜ at ≤ length (now s) ⌝ }
+    requires { ⌜ (at ≤ length (now s)) × (length (now s) ≤ mostPart) ⌝ }
     requires { ⌜ Lent (now table) (now marks) (now hull) ⌝ }
-    requires { ⌜ used + mostAnswer ≤ length (now out) ⌝ }
-    ensures { λ r. ⌜ FedLine answering (now (line .entry)) held (drop at (now (s .entry))) at (now (out .entry)) used r (now (line .exit)) (now (out .exit)) ⌝ }
+    requires { ⌜ used + jobOf task .most ≤ length (now out) ⌝ }
+    ensures { λ r. ⌜ FedLine (jobOf task) (now (line .entry)) held (drop at (now (s .entry))) at (now (out .entry)) used r (now (line .exit)) (now (out .exit)) ⌝ }
 {
     let end = line_end(s, at);
+    let next = tell_early(task, line, held, s, at, end, out, used);
     if s.len() <= end {
         let kept = hold(line, held, s, at, end);
         return Progress {
             held: kept,
             at: end,
-            used,
-        };
-    }
-    if held == 0 {
-        let next = tell(&s[at..end], table, marks, hull, out, used);
-        return Progress {
-            held: 0,
-            at: end + 1,
             used: next,
         };
     }
+    if held == 0 {
+        let stop = at + lesser(end - at, Progress::MOST_HELD);
+        let last = tell(task, &s[at..stop], table, marks, hull, out, next);
+        return Progress {
+            held: 0,
+            at: end + 1,
+            used: last,
+        };
+    }
     let kept = hold(line, held, s, at, end);
-    let next = tell(&line[..kept], table, marks, hull, out, used);
+    let last = tell(task, &line[..kept], table, marks, hull, out, next);
     Progress {
         held: 0,
         at: end + 1,
-        used: next,
+        used: last,
     }
 }
 
-// Passes lines of the chunk from at on while the output, which is written from its start, has room for one more answer.
-pub fn fill(line: &mut [u8], held: usize, s: &[u8], at: usize, out: &mut [u8]) -> Progress
+// Passes lines of the chunk from at on while the output, which is written from its start, has room for one more.
+pub fn fill(
+    task: Task,
+    line: &mut [u8],
+    held: usize,
+    s: &[u8],
+    at: usize,
+    out: &mut [u8],
+) -> Progress
     requires { ⌜ (held ≤ mostHeld) × (length (now line) ≡ mostHeld) ⌝ }
-    requires { ⌜ at ≤ length (now s) ⌝ }
-    ensures { λ r. ⌜ Filled answering (now (line .entry)) held (now (s .entry)) at (now (out .entry)) r (now (line .exit)) (now (out .exit)) ⌝ }
+    requires { ⌜ (at ≤ length (now s)) × (length (now s) ≤ mostPart) ⌝ }
+    ensures { λ r. ⌜ Filled (jobOf task) (now (line .entry)) held (now (s .entry)) at (now (out .entry)) r (now (line .exit)) (now (out .exit)) ⌝ }
 {
     let mut table = [0u32; Desk::TABLE];
     let mut marks = [0u32; Desk::MARKS];
     let mut hull = [0i32; Desk::HULL];
+    let room = most(task);
     let mut p = Progress { held, at, used: 0 };
     while p.at < s.len() {
         let used = p.used;
-        if out.len() - used < Desk::MOST_ANSWER {
+        if out.len() - used < room {
             return p;
         }
         p = feed_line(
+            task,
             line,
             p.held,
             s,
@@ -88,11 +184,11 @@ pub fn fill(line: &mut [u8], held: usize, s: &[u8], at: usize, out: &mut [u8]) -
     p
 }
 
-// Answers the last line, if one was begun.
-pub fn finish(line: &[u8], held: usize, out: &mut [u8]) -> usize
+// Writes what is written of the last line, if one was begun.
+pub fn finish(task: Task, line: &[u8], held: usize, out: &mut [u8]) -> usize
     requires { ⌜ (held ≤ mostHeld) × (length (now line) ≡ mostHeld) ⌝ }
-    requires { ⌜ mostAnswer ≤ length (now out) ⌝ }
-    ensures { λ r. ⌜ Wrote (answering .last (take held (now (line .entry)))) 0 (now (out .entry)) r (now (out .exit)) ⌝ }
+    requires { ⌜ mostTold task ≤ length (now out) ⌝ }
+    ensures { λ r. ⌜ Wrote (jobOf task .last (take held (now (line .entry)))) 0 (now (out .entry)) r (now (out .exit)) ⌝ }
 {
     if held < 1 {
         return 0;
@@ -100,5 +196,5 @@ pub fn finish(line: &[u8], held: usize, out: &mut [u8]) -> usize
     let mut table = [0u32; Desk::TABLE];
     let mut marks = [0u32; Desk::MARKS];
     let mut hull = [0i32; Desk::HULL];
-    tell(&line[..held], &mut table, &mut marks, &mut hull, out, 0)
+    tell_last(task, &line[..held], &mut table, &mut marks, &mut hull, out)
 }

@@ -9,6 +9,8 @@ use Rattle.answer.specs.Words.{answerWords, answerNumber, countedWords, counted
 use Rattle.grid.specs.declared.Corner.{Corner}
 use Rattle.line_reply.specs.Reply.{LineIs}
 use Rattle.line_reply.proofs.ReplyLaws as replyLaws
+use Rattle.line_convert.specs.Convert.{ConvertedIs}
+use Rattle.line_convert.proofs.ConvertLaws as convertLaws
 use Rattle.demands.proofs.Demand.{walkIs-one, hullCall-one, turns-one}
 use Rattle.demands.proofs.Outline.{outlineCall-one}
 use Rattle.demands.proofs.Polygon.{polygonCall-one}
@@ -53,3 +55,6 @@ turnsGive-one convert g h =
 
 pub lineIs-one : {s before after₁ after₂ : List ℕ} {n₁ n₂ : ℕ} → LineIs s before n₁ after₁ → LineIs s before n₂ after₂ → (n₁ ≡ n₂) × (after₁ ≡ after₂)
 lineIs-one = replyLaws.lineIs-one
+
+pub convertedIs-one : {s before after₁ after₂ : List ℕ} {n₁ n₂ : ℕ} → ConvertedIs s before n₁ after₁ → ConvertedIs s before n₂ after₂ → (n₁ ≡ n₂) × (after₁ ≡ after₂)
+convertedIs-one = convertLaws.convertedIs-one

@@ -14,6 +14,7 @@ ghost use Rattle.grid.specs.Grid.{corner};
 ghost use Rattle.turns.specs.Way.{convertOf};
 ghost use Rattle.undrwyth.specs.Words.{AnswerFits, CountedFits};
 ghost use Rattle.line_reply.specs.Reply.{LineIs};
+ghost use Rattle.line_convert.specs.Convert.{ConvertedIs};
 ghost use Rattle.steps.specs.Turns.{turnsOf, stepsOf};
 ghost use Rattle.undrwyth.specs.Boundary.{WalkGives, HullGives, OutlineGives, TurnsGive, PolygonGives, RowsGives};
 
@@ -215,4 +216,12 @@ pub extern "C" fn undrwyth_line(line: &[u8], out: &mut [u8]) -> usize
     ensures { λ n. ⌜ LineIs (now (line .entry)) (now (out .entry)) n (now (out .exit)) ⌝ }
 {
     line_reply::reply(line, out)
+}
+
+// Converts one line, which has no line feed; what is written has none either.
+#[no_mangle]
+pub extern "C" fn undrwyth_convert_line(line: &[u8], out: &mut [u8]) -> usize
+    ensures { λ n. ⌜ ConvertedIs (now (line .entry)) (now (out .entry)) n (now (out .exit)) ⌝ }
+{
+    line_convert::convert(line, out)
 }

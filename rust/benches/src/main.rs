@@ -51,7 +51,7 @@ fn main() {
     rows_of_rooms();
     println!("\nturns, ns a digit");
     turns();
-    println!("\nline program, MB/s of input");
+    println!("\nprograms on lines, MB/s of input");
     if cfg!(target_arch = "x86_64") {
         programs::print();
     } else {

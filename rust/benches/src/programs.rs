@@ -1,4 +1,4 @@
-//! The line program as a process: its start, its reading from a file and its writing are timed.
+//! The programs on lines as processes: their start, their reading from a file and their writing are timed.
 
 use std::fs::{self, File};
 use std::path::{Path, PathBuf};
@@ -9,8 +9,8 @@ use compare::inputs::{self, Random};
 
 use crate::race::{Call, race};
 
-/// Frames of n digits: rooms, random walks and walks with take-backs as operations, and random turns.
-fn frames(count: usize, n: usize) -> Vec<u8> {
+/// Frames of n digits: rooms, random walks and walks with take-backs as operations, and as many random frames of the kind given.
+fn frames(count: usize, n: usize, turns: u8) -> Vec<u8> {
     let mut random = Random(5);
     let mut input = Vec::new();
     for i in 0..count {
@@ -18,7 +18,7 @@ fn frames(count: usize, n: usize) -> Vec<u8> {
             0 => (0, inputs::room(n, &mut random)),
             1 => (0, inputs::wander(n, &mut random)),
             2 => (0, inputs::hesitant(n, 30, 0, &mut random)),
-            _ => (1, inputs::wander(n, &mut random)),
+            _ => (turns, inputs::wander(n, &mut random)),
         };
         input.extend(inputs::frame(kind, &digits));
         input.push(b'\n');
@@ -45,25 +45,29 @@ fn output(program: &Path, input: &Path) -> Vec<u8> {
     output.expect("the program is there").stdout
 }
 
-/// Prints the rows of the line program.
-pub fn print() {
-    let judge = PathBuf::from(concat!(
-        env!("CARGO_MANIFEST_DIR"),
-        "/../../target/bin/judge"
-    ));
+/// Prints the rows of a program beside its twin, on frames of which every fourth is of the kind given.
+fn print_one(name: &str, row: &str, turns: u8) {
+    let bin = concat!(env!("CARGO_MANIFEST_DIR"), "/../../target/bin/");
+    let program = PathBuf::from(bin).join(name);
     let twin = env::current_exe()
         .expect("it is running")
-        .with_file_name("judge_twin");
+        .with_file_name(format!("{name}_twin"));
     let file = env::temp_dir().join(format!("undrwyth-frames-{}", process::id()));
     for (count, n) in [(20_000, 64), (5_000, 256)] {
-        let input = frames(count, n);
+        let input = frames(count, n, turns);
         fs::write(&file, &input).expect("the temporary folder takes a file");
-        assert!(output(&judge, &file) == output(&twin, &file));
+        assert!(output(&program, &file) == output(&twin, &file));
         race(vec![
-            ("proved", run(&judge, &file)),
+            ("proved", run(&program, &file)),
             ("twin", run(&twin, &file)),
         ])
-        .print(&format!("line/{n}"), |s| input.len() as f64 / 1e6 / s);
+        .print(&format!("{row}/{n}"), |s| input.len() as f64 / 1e6 / s);
     }
     fs::remove_file(&file).expect("it was written");
+}
+
+/// Prints the rows of the line program and of the converter.
+pub fn print() {
+    print_one("judge", "line", 0);
+    print_one("convert", "convert", 1);
 }

@@ -8,7 +8,7 @@ use answer::{
     TURNS_ANSWER_WORDS, WALK_ANSWER_WORDS,
 };
 
-use crate::{Convert, Library, PLAIN};
+use crate::{Convert, Library, Line, PLAIN};
 
 /// Words before and after a lent buffer that no call may touch.
 const MARGIN: usize = 5;
@@ -185,14 +185,19 @@ pub fn turns(library: &Library, digits: &[u8], out: usize) {
     }
 }
 
-/// Compares the answer to a line in a buffer of this length.
+/// Compares the answer to a line in a buffer of this length, and the line converted.
 pub fn line(library: &Library, line: &[u8], out: usize) {
-    let run = |library: &Library| {
+    let run = |write: Line, out: usize| {
         let mut out = Lent::bytes(out);
-        let length = (library.line)(line, out.part());
+        let length = write(line, out.part());
         ([length], out.0)
     };
-    let (ours, plain) = (run(library), run(&PLAIN));
+    let (ours, plain) = (run(library.line, out), run(PLAIN.line, out));
     same("line's length", line, &ours.0, &plain.0);
     same("line's answer", line, &ours.1, &plain.1);
+    for out in [line.len().saturating_sub(1), line.len(), out] {
+        let (ours, plain) = (run(library.convert_line, out), run(PLAIN.convert_line, out));
+        same("converted line's length", line, &ours.0, &plain.0);
+        same("converted line", line, &ours.1, &plain.1);
+    }
 }

@@ -18,7 +18,8 @@ pub struct Library {
     pub rows: Rows,
     pub turns_of_steps: Convert,
     pub steps_of_turns: Convert,
-    pub line: fn(&[u8], &mut [u8]) -> usize,
+    pub line: Line,
+    pub convert_line: Line,
 }
 
 /// The walk of operations from a start in table, marks and chain.
@@ -37,6 +38,9 @@ pub type Polygon = fn((i32, i32), &[u8], &mut [u8], &mut [u32; POLYGON_ANSWER_WO
 /// The panels of a room, by its start and chain, by rows.
 pub type Rows = fn((i32, i32), &[u8], &mut [i32], &mut [u32; ROWS_ANSWER_WORDS]) -> u32;
 
+/// Something written of a line, and how many bytes that is.
+pub type Line = fn(&[u8], &mut [u8]) -> usize;
+
 /// A conversion between steps and turns.
 pub type Convert = fn(&[u8], &mut [u8], &mut [u32; TURNS_ANSWER_WORDS]) -> u32;
 
@@ -51,6 +55,7 @@ pub const PROVED: Library = Library {
     turns_of_steps: undrwyth::raw::turns_of_steps,
     steps_of_turns: undrwyth::raw::steps_of_turns,
     line: undrwyth::raw::line,
+    convert_line: undrwyth::raw::convert_line,
 };
 
 /// A crate of this workspace as a library.
@@ -88,6 +93,7 @@ macro_rules! library {
                 tell(answer, $of::steps_of_turns(turns, out).map(|()| []))
             },
             line: $of::line,
+            convert_line: $of::convert_line,
         }
     };
 }

@@ -371,14 +371,22 @@ pub fn starts(library: &Library, longest: u32) {
     }
 }
 
-/// The whole program on random inputs: `run` gives its output.
-pub fn program(run: impl Fn(&[u8]) -> Vec<u8>, inputs: usize, random: &mut Random) {
+/// A whole program on random inputs: `run` gives its output, and `plain` what it has to be.
+pub fn program(
+    run: impl Fn(&[u8]) -> Vec<u8>,
+    plain: fn(&[u8]) -> Vec<u8>,
+    inputs: usize,
+    random: &mut Random,
+) {
     assert_eq!(run(b""), b"");
     for _ in 0..inputs {
         let count = random.length(400);
         let input = inputs::lines(count, random);
-        let (ours, plain) = (run(&input), plain::program(&input));
-        assert!(ours == plain, "the program, on {} bytes", input.len());
+        assert!(
+            run(&input) == plain(&input),
+            "the program, on {} bytes",
+            input.len()
+        );
     }
 }
 

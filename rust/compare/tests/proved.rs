@@ -63,21 +63,36 @@ fn wrapper() {
 
 #[test]
 fn program() {
-    suite::program(judge, 100, &mut Random(5));
+    suite::program(
+        |input| run("judge", input),
+        plain::program,
+        100,
+        &mut Random(5),
+    );
 }
 
-/// The output of the program for this input.
-fn judge(input: &[u8]) -> Vec<u8> {
-    let path = concat!(env!("CARGO_MANIFEST_DIR"), "/../../judge");
-    let mut judge = Command::new(path)
+#[test]
+fn converter() {
+    suite::program(
+        |input| run("convert", input),
+        plain::converter,
+        100,
+        &mut Random(6),
+    );
+}
+
+/// The output of a program for this input.
+fn run(name: &str, input: &[u8]) -> Vec<u8> {
+    let path = concat!(env!("CARGO_MANIFEST_DIR"), "/../../").to_owned() + name;
+    let mut program = Command::new(path)
         .stdin(Stdio::piped())
         .stdout(Stdio::piped())
         .spawn()
         .expect("the script is there");
-    let mut stdin = judge.stdin.take().unwrap();
+    let mut stdin = program.stdin.take().unwrap();
     std::thread::scope(|scope| {
         scope.spawn(move || stdin.write_all(input).unwrap());
-        let output = judge.wait_with_output().unwrap();
+        let output = program.wait_with_output().unwrap();
         assert!(output.status.success());
         output.stdout
     })

@@ -17,7 +17,17 @@ fn program() {
         twin::program(input, &mut output).unwrap();
         output
     };
-    compare::suite::program(run, 40, &mut compare::inputs::Random(5));
+    compare::suite::program(run, plain::program, 40, &mut compare::inputs::Random(5));
+}
+
+#[test]
+fn converter() {
+    let run = |input: &[u8]| {
+        let mut output = Vec::new();
+        twin::converter(input, &mut output).unwrap();
+        output
+    };
+    compare::suite::program(run, plain::converter, 40, &mut compare::inputs::Random(6));
 }
 
 /// The rooms of the benchmarks are rooms of the length asked.

@@ -1,4 +1,4 @@
-//! The line program.
+//! The line program and the converter.
 
 use answer::{
     Facts, LINE_BYTES, LINE_RECORDS, MOST_LINE_DIGITS, NO_MEETING, RECORD_WORDS, Refusal,
@@ -31,6 +31,36 @@ pub fn program(input: &[u8]) -> Vec<u8> {
     output
 }
 
+/// Writes the line, converted, both without line feed, and answers its length; writes nothing where `out` is shorter.
+pub fn convert_line(line: &[u8], out: &mut [u8]) -> usize {
+    if out.len() < line.len() {
+        return 0;
+    }
+    out[..line.len()].copy_from_slice(&converted(line));
+    line.len()
+}
+
+/// The whole output of the converter for the whole input: each line converted, and every line feed where it was.
+pub fn converter(input: &[u8]) -> Vec<u8> {
+    let lines: Vec<_> = input.split(|&byte| byte == b'\n').map(converted).collect();
+    lines.join(&b'\n')
+}
+
+/// The frame of kind 00 with the steps of a frame of kind 01, and any other line as it is.
+fn converted(line: &[u8]) -> Vec<u8> {
+    let Some((1, turns)) = frame(line) else {
+        return line.to_vec();
+    };
+    let mut steps = vec![0; turns.len()];
+    if steps_of_turns(&turns, &mut steps).is_err() {
+        return line.to_vec();
+    }
+    let digits = steps.iter().map(|step| char::from(b'0' + step));
+    let mut frame = format!("00{:04x}", steps.len());
+    frame.extend(digits);
+    frame.into_bytes()
+}
+
 /// The answer to one line.
 fn answer(line: &[u8]) -> String {
     match judge(line) {
@@ -42,10 +72,10 @@ fn answer(line: &[u8]) -> String {
 /// The facts and the hull of the frame in this line.
 fn judge(line: &[u8]) -> Result<(Facts, Vec<Corner>), Refusal> {
     let (kind, digits) = frame(line).ok_or(Refusal::BadLine)?;
-    let mut ops = digits.clone();
     if kind == 1 {
-        steps_of_turns(&digits, &mut ops)?;
+        return Err(Refusal::RetiredKind);
     }
+    let ops = digits;
     let mut table = [0; RECORD_WORDS * LINE_RECORDS];
     let mut marks = vec![0; 2 * ops.len()];
     let mut chain = vec![0; ops.len()];

@@ -1,24 +1,30 @@
-//! The stored input of the line program and the output that its run is held to.
+//! The stored inputs of the programs on lines and the outputs that their runs are held to.
 
 use answer::LINE_BYTES;
 
 const INPUT: &[u8] = include_bytes!("../../../crates/judge/stdin");
 const OUTPUT: &[u8] = include_bytes!("../../../crates/judge/stdout");
-/// Bytes that the program asks of one read.
+const OLD: &[u8] = include_bytes!("../../../crates/convert/stdin");
+const CONVERTED: &[u8] = include_bytes!("../../../crates/convert/stdout");
+/// Bytes that a program asks of one read.
 const CHUNK: usize = 65_536;
 
-/// The stored output is what the rules give.
+/// The stored outputs are what the rules give.
 #[test]
-fn output() {
+fn outputs() {
     assert!(plain::program(INPUT) == OUTPUT);
+    assert!(plain::converter(OLD) == CONVERTED);
 }
 
-/// The program reads the input in three parts at least and writes its output in several; every cut is within a line.
+/// The programs read their inputs in three parts at least, and the line program writes its output in several; every cut is within a line.
 #[test]
 fn cuts() {
-    assert!(INPUT.len() > 2 * CHUNK && OUTPUT.len() > 2 * LINE_BYTES);
-    for cut in (CHUNK..INPUT.len()).step_by(CHUNK) {
-        assert!(!INPUT[cut - 1..=cut].contains(&b'\n'));
+    assert!(OUTPUT.len() > 2 * LINE_BYTES);
+    for input in [INPUT, OLD] {
+        assert!(input.len() > 2 * CHUNK);
+        for cut in (CHUNK..input.len()).step_by(CHUNK) {
+            assert!(!input[cut - 1..=cut].contains(&b'\n'));
+        }
+        assert!(!input.ends_with(b"\n"));
     }
-    assert!(!INPUT.ends_with(b"\n"));
 }

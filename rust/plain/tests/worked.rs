@@ -365,14 +365,25 @@ fn lines() {
     assert_eq!(plain::program(&sample[..31]), output.as_bytes());
     assert_eq!(plain::program(b""), b"");
     assert_eq!(plain::program(b"\n"), b"8900000000\n");
-    assert_eq!(line("0100040111"), room);
+    assert_eq!(line("0100040111"), "9300000000");
     assert_eq!(line("0100020114"), "8900000000");
-    assert_eq!(line("0100020f"), "8400000001");
-    assert_eq!(line("01000204"), "8400000001");
+    assert_eq!(line("0100014"), "9300000000");
     assert_eq!(line("0000010F"), "8900000000");
     assert_eq!(line("02000000"), "8900000000");
     assert_eq!(line(&format!("000401{}", "0".repeat(0x401))), "8900000000");
     assert_eq!(&line(&format!("00013f{}", "0".repeat(319)))[..2], "01");
     assert_eq!(line(&format!("000140{}", "0".repeat(320))), "870000013f");
     assert_eq!(plain::line(b"", &mut [0; answer::LINE_BYTES - 1]), 0);
+}
+
+/// Lines with turns, converted: what stays, and where line feeds stand.
+#[test]
+fn converted() {
+    let input = b"01000c001030330001\n0100014\n\n0000040123\n0100040111\r\n01000213";
+    let output = b"00000c001100322223\n0100014\n\n0000040123\n0100040111\r\n00000210";
+    assert_eq!(plain::converter(input), output);
+    assert_eq!(plain::converter(output), output);
+    assert_eq!(plain::converter(b"\n"), b"\n");
+    assert_eq!(plain::converter(b""), b"");
+    assert_eq!(plain::convert_line(b"0100013", &mut [0; 6]), 0);
 }

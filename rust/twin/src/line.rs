@@ -1,4 +1,4 @@
-//! The line program.
+//! The line program and the converter.
 
 use std::io::{self, BufRead, Write};
 
@@ -40,7 +40,6 @@ pub fn program(mut input: impl BufRead, mut output: impl Write) -> io::Result<()
 /// The buffers in which lines are judged.
 struct Judge {
     digits: [u8; MOST_LINE_DIGITS],
-    steps: [u8; MOST_LINE_DIGITS],
     table: [u32; RECORD_WORDS * LINE_RECORDS],
     marks: [u32; 2 * MOST_LINE_DIGITS],
     chain: [u8; MOST_LINE_DIGITS],
@@ -50,7 +49,6 @@ impl Judge {
     fn new() -> Judge {
         Judge {
             digits: [0; MOST_LINE_DIGITS],
-            steps: [0; MOST_LINE_DIGITS],
             table: [0; RECORD_WORDS * LINE_RECORDS],
             marks: [0; 2 * MOST_LINE_DIGITS],
             chain: [0; MOST_LINE_DIGITS],
@@ -69,14 +67,11 @@ impl Judge {
     }
 
     fn judge(&mut self, line: &[u8]) -> Result<(Facts, Vec<Corner>), Refusal> {
-        let (kind, n) = self.read(line).ok_or(Refusal::BadLine)?;
-        let digits = &self.digits[..n];
-        let ops = if kind == 0 {
-            digits
-        } else {
-            steps_of_turns(digits, &mut self.steps[..n])?;
-            &self.steps[..n]
-        };
+        let (kind, n) = read(line, &mut self.digits).ok_or(Refusal::BadLine)?;
+        if kind == 1 {
+            return Err(Refusal::RetiredKind);
+        }
+        let ops = &self.digits[..n];
         let chain = &mut self.chain[..n];
         let facts = walk(
             (0, 0),
@@ -87,19 +82,55 @@ impl Judge {
         )?;
         Ok((facts, hull_list(ROOT, &chain[..facts.steps as usize])))
     }
+}
 
-    /// Reads the kind, the count and the digits of a frame.
-    fn read(&mut self, line: &[u8]) -> Option<(usize, usize)> {
-        let (kind, rest) = line.split_at_checked(2)?;
-        let (count, digits) = rest.split_at_checked(4)?;
-        let (kind, count) = (number(kind)?, number(count)?);
-        if kind > 1 || count > MOST_LINE_DIGITS || count != digits.len() {
-            return None;
+/// Reads the kind, the count and the digits of a frame.
+fn read(line: &[u8], to: &mut [u8; MOST_LINE_DIGITS]) -> Option<(usize, usize)> {
+    let (kind, rest) = line.split_at_checked(2)?;
+    let (count, digits) = rest.split_at_checked(4)?;
+    let (kind, count) = (number(kind)?, number(count)?);
+    if kind > 1 || count > MOST_LINE_DIGITS || count != digits.len() {
+        return None;
+    }
+    for (to, &from) in to.iter_mut().zip(digits) {
+        *to = digit(from)?;
+    }
+    Some((kind, count))
+}
+
+/// Writes the line, converted, both without line feed, and answers its length; writes nothing where `out` is shorter.
+pub fn convert_line(line: &[u8], out: &mut [u8]) -> usize {
+    if out.len() < line.len() {
+        return 0;
+    }
+    out[..line.len()].copy_from_slice(line);
+    convert(&mut out[..line.len()]);
+    line.len()
+}
+
+/// Converts every line of the input.
+pub fn converter(mut input: impl BufRead, mut output: impl Write) -> io::Result<()> {
+    let mut line = Vec::new();
+    while input.read_until(b'\n', &mut line)? > 0 {
+        let end = line.len() - usize::from(line.ends_with(b"\n"));
+        convert(&mut line[..end]);
+        output.write_all(&line)?;
+        line.clear();
+    }
+    output.flush()
+}
+
+/// Turns a frame of kind 01 into the frame of kind 00 with its steps, and leaves any other line as it is.
+fn convert(line: &mut [u8]) {
+    let (mut turns, mut steps) = ([0; MOST_LINE_DIGITS], [0; MOST_LINE_DIGITS]);
+    let Some((1, n)) = read(line, &mut turns) else {
+        return;
+    };
+    if steps_of_turns(&turns[..n], &mut steps[..n]).is_ok() {
+        line[1] = b'0';
+        for (to, step) in line[6..].iter_mut().zip(&steps[..n]) {
+            *to = b'0' + step;
         }
-        for (to, &from) in self.digits.iter_mut().zip(digits) {
-            *to = digit(from)?;
-        }
-        Some((kind, count))
     }
 }
 

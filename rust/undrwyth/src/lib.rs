@@ -165,6 +165,20 @@ pub fn line<'a>(line: &[u8], out: &'a mut [u8; LINE_BYTES]) -> &'a [u8] {
     &out[..bytes]
 }
 
+/// Converts one line, without its line feed: a frame of kind 01 becomes the frame of kind 00 with the same steps, and any other
+/// line stays. It stands at the start of `out` then; `None` if `out` is shorter than the line, and it is unchanged.
+///
+/// ```
+/// let mut out = [0; 16];
+/// assert_eq!(undrwyth::convert_line(b"0100040111", &mut out), Some(&b"0000040123"[..]));
+/// assert_eq!(undrwyth::convert_line(b"0100014", &mut out), Some(&b"0100014"[..]));
+/// assert_eq!(undrwyth::convert_line(b"0100040111", &mut out[..9]), None);
+/// ```
+pub fn convert_line<'a>(line: &[u8], out: &'a mut [u8]) -> Option<&'a [u8]> {
+    let bytes = raw::convert_line(line, out);
+    (bytes == line.len()).then(|| &out[..bytes])
+}
+
 /// The refusal with this number and place, if the number is not 0.
 fn accepted(number: u32, place: u32) -> Result<(), Refusal> {
     match number {

@@ -71,6 +71,12 @@ mod c {
             answer: *mut u32,
         ) -> u32;
         pub fn undrwyth_line(line: *const u8, n: usize, out: *mut u8, out_bytes: usize) -> usize;
+        pub fn undrwyth_convert_line(
+            line: *const u8,
+            n: usize,
+            out: *mut u8,
+            out_bytes: usize,
+        ) -> usize;
     }
 }
 
@@ -217,4 +223,10 @@ pub fn steps_of_turns(turns: &[u8], out: &mut [u8], answer: &mut [u32; TURNS_ANS
 pub fn line(line: &[u8], out: &mut [u8]) -> usize {
     // SAFETY: as for walk.
     unsafe { c::undrwyth_line(line.as_ptr(), line.len(), out.as_mut_ptr(), out.len()) }
+}
+
+/// `undrwyth_convert_line`: the bytes written, 0 where out is shorter than the line.
+pub fn convert_line(line: &[u8], out: &mut [u8]) -> usize {
+    // SAFETY: as for walk.
+    unsafe { c::undrwyth_convert_line(line.as_ptr(), line.len(), out.as_mut_ptr(), out.len()) }
 }

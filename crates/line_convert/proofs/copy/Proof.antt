@@ -1,0 +1,72 @@
+-- `line_convert::copy` meets its contract: with the bytes before place i written, what is left to write gives the whole.
+-- Assumes nothing.
+use mathlib.Core.Path.{_≡_, refl}
+use Prim.Native.Nat.{_+_, _-_, _≤_}
+use native.Mathlib.Omega.{arith}
+use borrow.Author.Needs.{needs}
+use lib.ListN.{length, drop}
+use Rattle.line_fields.specs.Put.{put}
+use Rattle.line_convert.proofs.ConvertLaws.{put-begun, put-next, put-done}
+use Rattle.line_convert.proofs.copy.Statement.{statement}
+use Rattle.line_convert.proofs.copy.Tie as tie
+
+abbrev Inv-loop : tie.InvT-loop
+Inv-loop s out₀ at i₀ out i = (i ≤ length s) × (at + length s ≤ length out) × (length out ≡ length out₀) × (put (drop i s) (at + i) out ≡ put s at out₀)
+
+abbrev μ-loop : tie.MeasureT-loop
+μ-loop s out₀ at i₀ out i = length s - i
+
+loop-holds : tie.Need-loop-holds Inv-loop μ-loop
+loop-holds c =
+    let a = c .args in
+    (omega arith, omega arith, refl, put-begun (a .s .now) (a .out .now) (a .at))
+
+shared-slice-read-out : tie.Need-shared-slice-read-out Inv-loop μ-loop
+shared-slice-read-out c = search needs
+
+add-out : tie.Need-add-out Inv-loop μ-loop
+add-out c = search needs
+
+slice-write-out : tie.Need-slice-write-out Inv-loop μ-loop
+slice-write-out c = search needs
+
+add-i : tie.Need-add-i Inv-loop μ-loop
+add-i c = search needs
+
+loop-less : tie.Need-loop-less Inv-loop μ-loop
+loop-less c = search needs
+
+loop-again : tie.Need-loop-again Inv-loop μ-loop
+loop-again c =
+    let l = c .before .before in
+    let a = l .before .args in
+    (search needs, search needs, search needs, put-next (a .s .now) (l .loop .out) _ (a .at) (l .loop .i) _ (omega arith) (omega arith) refl (l .loop .inv .3))
+
+add-result : tie.Need-add-result Inv-loop μ-loop
+add-result c = search needs
+
+same-length : tie.Need-same-length Inv-loop μ-loop
+same-length c = search needs
+
+returns : tie.Need-returns Inv-loop μ-loop
+returns c =
+    let l = c .before in
+    let a = l .before .args in
+    put-done (a .s .now) (l .loop .out) (a .out .now) (a .at) (l .loop .i) (omega arith) (l .loop .inv .3)
+
+pub copy-spec : {M : Type 1} → statement M
+copy-spec =
+    tie.close
+    (tie.spec
+    Inv-loop
+    μ-loop
+    loop-holds
+    shared-slice-read-out
+    add-out
+    slice-write-out
+    add-i
+    loop-less
+    loop-again
+    add-result
+    same-length
+    returns)

@@ -1,0 +1,42 @@
+-- `line_convert::end_fed_line` meets its contract: there is room for the line feed.
+-- Assumes nothing.
+use mathlib.Core.Path.{refl}
+use mathlib.Core.List.{[], _∷_}
+use Prim.Native.Nat.{_+_}
+use native.Mathlib.Omega.{arith}
+use borrow.Author.Needs.{needs}
+use Rattle.line_fields.specs.Put.{Wrote}
+use Rattle.line_fields.proofs.PutLaws.{wrote-append, put-one}
+use Rattle.line_convert.proofs.ConvertLaws.{ended-most}
+use Rattle.line_convert.proofs.end_fed_line.Statement.{statement}
+use Rattle.line_convert.proofs.end_fed_line.Tie as tie
+
+slice-write-out : tie.Need-slice-write-out
+slice-write-out c =
+    let r = c .before .before .end-line in
+    let s = c .before .before .before .before .before .before in
+    omega (arith, ended-most (s .args .h .now), r .ensures .end, r .kept .1 .0, s .pre)
+
+add-result : tie.Need-add-result
+add-result c =
+    let r = c .before .before .end-line in
+    let s = c .before .before .before .before .before .before in
+    omega (arith, ended-most (s .args .h .now), r .ensures .end)
+
+returns : tie.Need-returns
+returns c =
+    let r = c .before .before .end-line in
+    let s = c .before .before .before .before .before .before in
+    let m = ended-most (s .args .h .now) in
+    let w : Wrote (10 ∷ []) (r .result) (r .last .1 .0) (r .result + 1) _ = record { end = refl; buffer = put-one 10 (r .result) (r .last .1 .0) (omega (arith, m, r .ensures .end, r .kept .1 .0, s .pre)) } in
+    wrote-append (r .ensures) w (omega (arith, m, s .pre))
+
+pub end-fed-line-spec : {M : Type 1} → statement M
+end-fed-line-spec =
+    tie.close
+    (tie.spec
+    (λ c κs. search needs)
+    slice-write-out
+    add-result
+    (λ c. search needs)
+    returns)

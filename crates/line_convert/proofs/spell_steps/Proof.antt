@@ -1,0 +1,82 @@
+-- `line_convert::spell_steps` meets its contract: with the digits before place i written, what is left to write gives the whole.
+-- Assumes nothing.
+use mathlib.Core.Path.{_≡_, refl, _∙_}
+use Prim.Native.Nat.{_+_, _-_, _≤_}
+use native.Mathlib.Omega.{arith}
+use borrow.Author.Needs.{needs}
+use lib.ListN.{length, drop}
+use Rattle.line_frame.specs.Converted.{lettersOf}
+use Rattle.line_frame.proofs.ConvertedLaws.{length-lettersOf}
+use Rattle.line_fields.specs.Put.{put}
+use Rattle.line_convert.proofs.ConvertLaws.{put-begun, put-next, put-done, letter-at, below-at}
+use Rattle.line_convert.proofs.spell_steps.Statement.{statement}
+use Rattle.line_convert.proofs.spell_steps.Tie as tie
+
+abbrev Inv-loop : tie.InvT-loop
+Inv-loop steps out₀ at i₀ out i = (i ≤ length steps) × (at + length steps ≤ length out) × (length out ≡ length out₀) × (put (drop i (lettersOf steps)) (at + i) out ≡ put (lettersOf steps) at out₀)
+
+abbrev μ-loop : tie.MeasureT-loop
+μ-loop steps out₀ at i₀ out i = length steps - i
+
+loop-holds : tie.Need-loop-holds Inv-loop μ-loop
+loop-holds c =
+    let a = c .before .before .args in
+    (omega arith, omega arith, refl, put-begun (lettersOf (a .steps .now)) (a .out .now) (a .at))
+
+shared-slice-read-letter : tie.Need-shared-slice-read-letter Inv-loop μ-loop
+shared-slice-read-letter c = search needs
+
+letter-requires : tie.Need-letter-requires Inv-loop μ-loop
+letter-requires c κs =
+    let l = c .before .before in
+    let s = l .before .before .before in
+    below-at (s .args .steps .now) (l .loop .i) (s .pre .0) (omega arith)
+
+add-out : tie.Need-add-out Inv-loop μ-loop
+add-out c = search needs
+
+slice-write-out : tie.Need-slice-write-out Inv-loop μ-loop
+slice-write-out c = search needs
+
+add-i : tie.Need-add-i Inv-loop μ-loop
+add-i c = search needs
+
+loop-less : tie.Need-loop-less Inv-loop μ-loop
+loop-less c = search needs
+
+loop-again : tie.Need-loop-again Inv-loop μ-loop
+loop-again c =
+    let l = c .before .before .before in
+    let a = l .before .before .before .args in
+    let n = length-lettersOf (a .steps .now) in
+    (search needs, search needs, search needs, put-next (lettersOf (a .steps .now)) (l .loop .out) _ (a .at) (l .loop .i) _ (omega arith) (omega arith) (c .letter .ensures ∙ letter-at (a .steps .now) (l .loop .i) (omega arith)) (l .loop .inv .3))
+
+add-result : tie.Need-add-result Inv-loop μ-loop
+add-result c = search needs
+
+same-length : tie.Need-same-length Inv-loop μ-loop
+same-length c = search needs
+
+returns : tie.Need-returns Inv-loop μ-loop
+returns c =
+    let l = c .before in
+    let a = l .before .before .before .args in
+    put-done (lettersOf (a .steps .now)) (l .loop .out) (a .out .now) (a .at) (l .loop .i) (omega (arith, length-lettersOf (a .steps .now))) (l .loop .inv .3)
+
+pub spell-steps-spec : {M : Type 1} → statement M
+spell-steps-spec =
+    tie.close
+    (tie.spec
+    Inv-loop
+    μ-loop
+    loop-holds
+    shared-slice-read-letter
+    letter-requires
+    add-out
+    slice-write-out
+    add-i
+    loop-less
+    loop-again
+    add-result
+    same-length
+    returns)

@@ -1,0 +1,2 @@
+-- The contract of the call for one line.
+pub mod Convert

@@ -1,0 +1,51 @@
+-- `lines::tell` meets its contract: each task writes what it writes where a line ends.
+-- Assumes nothing.
+use mathlib.Core.Path.{sym, ap, _∙_, subst}
+use mathlib.Core.List.{List, []}
+use Prim.Native.Nat.{ℕ}
+use native.Mathlib.Omega.{arith}
+use borrow.Author.Needs.{needs}
+use Rattle.line_fields.specs.Put.{Wrote}
+use Rattle.lines.specs.declared.Task.{Task}
+use Rattle.lines.specs.Tasks.{mostTold, jobOf}
+use Rattle.lines.proofs.TaskLaws.{answer-told, convert-told}
+use Rattle.lines.proofs.tell.Statement.{statement}
+use Rattle.lines.proofs.tell.Tie as tie
+
+tell-requires : tie.Need-tell-requires
+tell-requires c κs =
+    let s = c .before .before .before .before .before .before .before .before .before .before in
+    (s .pre .1 .0, omega (arith, s .pre .1 .1, ap mostTold (c .before .before .before .before .enum-told .given .1)))
+
+end-fed-line-requires : tie.Need-end-fed-line-requires
+end-fed-line-requires c κs =
+    let s = c .before .before .before .before .before .before .before in
+    (s .pre .0, omega (arith, s .pre .1 .1, ap mostTold (c .before .enum-told2 .given .1)))
+
+returns : tie.Need-returns
+returns c =
+    let r = c .before .before .before .before .before .before .before .tell in
+    let a = c .before .before .before .before .before .before .before .before .before .before .before .before .before .before .before .before .before .before .args in
+    subst (λ (l : List ℕ). Wrote l (a .at) (a .out .now) (r .result) (r .last .1 .1 .1 .1 .0)) (answer-told (a .s .now) ∙ ap (λ (t : Task). jobOf t .told (a .s .now) []) (sym (c .before .before .before .before .before .before .before .before .before .before .before .before .enum-told .given .1))) (r .ensures)
+
+returns-2 : tie.Need-returns-2
+returns-2 c =
+    let r = c .before .before .end-fed-line in
+    let a = c .before .before .before .before .before .before .before .before .before .before .args in
+    subst (λ (l : List ℕ). Wrote l (a .at) (a .out .now) (r .result) (r .last .1 .0)) (convert-told (a .s .now) ∙ ap (λ (t : Task). jobOf t .told (a .s .now) []) (sym (c .before .before .before .before .enum-told2 .given .1))) (r .ensures)
+
+pub tell-spec : {M : Type 1} → statement M
+tell-spec =
+    tie.close
+    (tie.spec
+    (λ c. search needs)
+    tell-requires
+    (λ c. search needs)
+    end-fed-line-requires
+    (λ c. search needs)
+    (λ c. search needs)
+    (λ c. search needs)
+    (λ c. search needs)
+    returns
+    (λ c. search needs)
+    returns-2)

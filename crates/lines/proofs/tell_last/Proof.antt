@@ -1,0 +1,52 @@
+-- `lines::tell_last` meets its contract: each task writes what it writes where the input ends.
+-- Assumes nothing.
+use mathlib.Core.Path.{sym, ap, _∙_, subst}
+use mathlib.Core.List.{List}
+use Prim.Native.Nat.{ℕ}
+use native.Mathlib.Omega.{arith}
+use borrow.Author.Needs.{needs}
+use Rattle.line_fields.specs.Put.{Wrote}
+use Rattle.lines.specs.declared.Task.{Task}
+use Rattle.lines.specs.Tasks.{mostTold, jobOf}
+use Rattle.lines.proofs.TaskLaws.{answer-last}
+use Rattle.lines.proofs.tell_last.Statement.{statement}
+use Rattle.lines.proofs.tell_last.Tie as tie
+
+tell-requires : tie.Need-tell-requires
+tell-requires c κs =
+    let s = c .before .before .before .before .before .before .before .before .before .before in
+    (s .pre .1 .0, omega (arith, s .pre .1 .1, ap mostTold (c .before .before .before .before .enum-told .given .1)))
+
+end-line-requires : tie.Need-end-line-requires
+end-line-requires c κs =
+    let s = c .before .before .before .before .before .before .before in
+    (s .pre .0 .1, omega (arith, s .pre .1 .1, ap mostTold (c .before .enum-told2 .given .1)))
+
+returns : tie.Need-returns
+returns c =
+    let r = c .before .before .before .before .before .before .before .tell in
+    let s = c .before .before .before .before .before .before .before .before .before .before .before .before .before .before .before .before .before .before in
+    let a = s .args in
+    subst (λ (l : List ℕ). Wrote l 0 (a .out .now) (r .result) (r .last .1 .1 .1 .1 .0)) (answer-last (a .s .now) (s .pre .0 .0) ∙ ap (λ (t : Task). jobOf t .last (a .s .now)) (sym (c .before .before .before .before .before .before .before .before .before .before .before .before .enum-told .given .1))) (r .ensures)
+
+returns-2 : tie.Need-returns-2
+returns-2 c =
+    let r = c .before .before .end-line in
+    let a = c .before .before .before .before .before .before .before .before .before .before .args in
+    subst (λ (t : Task). Wrote (jobOf t .last (a .s .now)) 0 (a .out .now) (r .result) (r .last .1 .0)) (sym (c .before .before .before .before .enum-told2 .given .1)) (r .ensures)
+
+pub tell-last-spec : {M : Type 1} → statement M
+tell-last-spec =
+    tie.close
+    (tie.spec
+    (λ c. search needs)
+    tell-requires
+    (λ c. search needs)
+    end-line-requires
+    (λ c. search needs)
+    (λ c. search needs)
+    (λ c. search needs)
+    (λ c. search needs)
+    returns
+    (λ c. search needs)
+    returns-2)
