@@ -16,4 +16,5 @@ pub mod Polygon
 pub mod Rows
 pub mod Outline
 pub mod Lines
+pub mod Overlay
 pub mod Demand

@@ -40,7 +40,7 @@ rows-later b lo (q ∷ qs) h g =
     omega (arith, ap tally (eqZ-not (q .1) b (λ e. omega (zarith, e, k))), rows-later b q qs k (g .1))
 
 -- an even number in the first's row: so the second is in it
-pair-row : (p q : Corner) (qs : List Corner) → Climbs UpTo p (q ∷ qs) → EvenRows (p ∷ q ∷ qs) → p .1 ≡ q .1
+pub pair-row : (p q : Corner) (qs : List Corner) → Climbs UpTo p (q ∷ qs) → EvenRows (p ∷ q ∷ qs) → p .1 ≡ q .1
 pair-row p q qs g even = ⊎-elim (λ h. absurd (alone h)) (λ h. h .0) (g .0)
   where
     alone : p .1 <ℤ q .1 → ⊥
@@ -87,7 +87,7 @@ pair-cover x y qs p C r h ih even = by (eqZ (x .1) (p .1)) refl (le-or-lt (x .0)
         let f = eqZ-sound (x .1) (p .1) e in
         none 1 (ap tally (beside-row p x f ∙ true-lt (p .0) (x .0) k)) (ap tally (beside-row p y (sym r ∙ f) ∙ true-lt (p .0) (y .0) l)) (λ o. omega (zarith, o .after, k))
 
-pairs-even : (x y : Corner) (qs : List Corner) → x .1 ≡ y .1 → EvenRows (x ∷ y ∷ qs) → EvenRows qs
+pub pairs-even : (x y : Corner) (qs : List Corner) → x .1 ≡ y .1 → EvenRows (x ∷ y ∷ qs) → EvenRows qs
 pairs-even x y qs r even b = omega (arith, even b, ap (λ (z : ℤ). tally (eqZ z b)) r)
 
 pub pairs-cover : (qs : List Corner) (p : Panel) → InTurn UpTo qs → EvenRows qs → Covers (pairsOf qs) p ↔ (count (beside p) qs % 2 ≡ 1)

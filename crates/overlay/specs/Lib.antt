@@ -1,0 +1,2 @@
+-- Two rooms laid over each other.
+pub mod Overlay

@@ -1,0 +1,5 @@
+-- Laws of two rooms laid over each other.
+pub mod JoinLaws
+pub mod ChangeLaws
+pub mod PartLaws
+pub mod OverlayLaws
