@@ -124,6 +124,17 @@ static void room_by_rows(void) {
     CHECK(SAME(out, spans) && answer[UNDRWYTH_ROWS_SPANS] == 3);
 }
 
+static void convex_rooms(void) {
+    const uint8_t one[] = {0, 1, 2, 3}, back[] = {3, 0, 1, 2, 2, 3, 0, 1}, bent[] = {0, 0, 0, 1, 2, 2, 1, 1, 2, 3, 3, 3};
+    uint32_t answer[UNDRWYTH_CONVEX_ANSWER_WORDS];
+    const uint32_t yes[] = {0, 0, 1}, no[] = {0, 0, 0}, not_room[] = {UNDRWYTH_REFUSAL_NOT_ROOM, 0, 0};
+    CHECK(undrwyth_convex(-16384, 16384, one, 4, answer) == UNDRWYTH_ACCEPTED && SAME(answer, yes));
+    CHECK(undrwyth_convex(5, -9, bent, LENGTH(bent), answer) == UNDRWYTH_ACCEPTED && SAME(answer, no));
+    CHECK(undrwyth_convex(0, 0, back, LENGTH(back), answer) == UNDRWYTH_REFUSAL_NOT_ROOM && SAME(answer, not_room));
+    CHECK(undrwyth_convex(16385, 0, one, 4, answer) == UNDRWYTH_REFUSAL_START_RANGE);
+    CHECK(undrwyth_convex(0, 0, one, 0, answer) == UNDRWYTH_REFUSAL_NOT_ROOM);
+}
+
 static void starts(void) {
     const uint8_t ops[] = {0, 4};
     uint32_t table[17 * UNDRWYTH_RECORD_WORDS], marks[4], answer[UNDRWYTH_WALK_ANSWER_WORDS];
@@ -191,6 +202,7 @@ int main(void) {
     outline_of_a_crossed_walk();
     room_as_polygon();
     room_by_rows();
+    convex_rooms();
     starts();
     turns_and_back();
     lines();

@@ -49,6 +49,8 @@ static void polygon(void) { undrwyth_polygon_of_room(-7, 5, digits, count, file,
 
 static void rows(void) { undrwyth_rows(-7, 5, digits, count, numbers, sizeof numbers / sizeof numbers[0], answer); }
 
+static void convex(void) { undrwyth_convex(-7, 5, digits, count, answer); }
+
 static void turns(void) {
     undrwyth_turns_of_steps(digits, count, chain, count, answer);
     undrwyth_steps_of_turns(digits, count, chain, count, answer);
@@ -137,6 +139,8 @@ static void polygon_256(void) { count <= 256 ? polygon() : nothing(); }
 static void polygon_2048(void) { count <= 2048 ? polygon() : nothing(); }
 static void rows_256(void) { count <= 256 ? rows() : nothing(); }
 static void rows_2048(void) { count <= 2048 ? rows() : nothing(); }
+static void convex_256(void) { count <= 256 ? convex() : nothing(); }
+static void convex_2048(void) { count <= 2048 ? convex() : nothing(); }
 
 /* n digits of a kind: out along one axis and then along the other, so that a step crosses a border of the tree at every
  * level; a staircase; a spiral; steps at random, with and without take-backs; round a rectangle. */
@@ -185,6 +189,9 @@ int main(void) {
         {"undrwyth_rows", rows, UNDRWYTH_ROWS_STACK_BYTES},
         {"undrwyth_rows, at most 2,048 steps", rows_2048, UNDRWYTH_ROWS_2048_STACK_BYTES},
         {"undrwyth_rows, at most 256 steps", rows_256, UNDRWYTH_ROWS_256_STACK_BYTES},
+        {"undrwyth_convex", convex, UNDRWYTH_CONVEX_STACK_BYTES},
+        {"undrwyth_convex, at most 2,048 steps", convex_2048, UNDRWYTH_CONVEX_2048_STACK_BYTES},
+        {"undrwyth_convex, at most 256 steps", convex_256, UNDRWYTH_CONVEX_256_STACK_BYTES},
         {"undrwyth_turns_of_steps, undrwyth_steps_of_turns", turns, UNDRWYTH_TURNS_STACK_BYTES},
         {"undrwyth_line", line, UNDRWYTH_LINE_STACK_BYTES},
         {"undrwyth_convert_line", convert_line, UNDRWYTH_CONVERT_LINE_STACK_BYTES},

@@ -71,6 +71,9 @@ extern "C" {
 #define UNDRWYTH_ROWS_256_STACK_BYTES 3072      /* 2,344 measured */
 #define UNDRWYTH_ROWS_2048_STACK_BYTES 17408    /* 16,680 measured */
 #define UNDRWYTH_ROWS_STACK_BYTES 132096        /* 131,352 measured */
+#define UNDRWYTH_CONVEX_256_STACK_BYTES 3072    /* 2,248 measured */
+#define UNDRWYTH_CONVEX_2048_STACK_BYTES 17408  /* 16,584 measured */
+#define UNDRWYTH_CONVEX_STACK_BYTES 132096      /* 131,256 measured */
 #define UNDRWYTH_TURNS_STACK_BYTES 256          /* 16 measured */
 #define UNDRWYTH_CONVERT_LINE_STACK_BYTES 2560  /* 2,200 measured */
 #define UNDRWYTH_LINE_STACK_BYTES 65536         /* 53,336 measured */
@@ -142,6 +145,12 @@ extern "C" {
 #define UNDRWYTH_ROWS_NUMBER 0             /* the refusal's number */
 #define UNDRWYTH_ROWS_PLACE 1              /* the refusal's place */
 #define UNDRWYTH_ROWS_SPANS 2              /* how many spans */
+
+/* Words of the answer to the question whether a room is convex. */
+#define UNDRWYTH_CONVEX_ANSWER_WORDS 3
+#define UNDRWYTH_CONVEX_NUMBER 0           /* the refusal's number */
+#define UNDRWYTH_CONVEX_PLACE 1            /* the refusal's place */
+#define UNDRWYTH_CONVEX_YES 2              /* 1 for yes, 0 for no */
 
 /* Words of the answer to a conversion between steps and turns. */
 #define UNDRWYTH_TURNS_ANSWER_WORDS 2
@@ -279,6 +288,20 @@ uint32_t undrwyth_rows(int32_t start_x, int32_t start_y,
                        const uint8_t *chain, size_t n,
                        int32_t *out, size_t out_numbers,
                        uint32_t answer[UNDRWYTH_ROWS_ANSWER_WORDS]);
+
+/* Tells whether a room is convex.
+ *
+ * The room is the walk of the n steps in chain from the corner (start_x, start_y). It is travelled clockwise and cut into
+ * four parts at the lowest of its leftmost corners, the leftmost of its highest, the highest of its rightmost and the
+ * rightmost of its lowest. It is convex where each part, turned back to the first, goes east and north only, and no
+ * other grid point lies between the part and its upper convex hull, the hull line included. On every room of up to 16
+ * steps this was compared with another rule: a panel whose centre lies in the convex hull of the centres of the panels
+ * inside is inside too.
+ *
+ * Accepted: the answer's last word is 1 for yes and 0 for no. Refused with 1, 10, 4, 6 or 12, in this order. */
+uint32_t undrwyth_convex(int32_t start_x, int32_t start_y,
+                         const uint8_t *chain, size_t n,
+                         uint32_t answer[UNDRWYTH_CONVEX_ANSWER_WORDS]);
 
 /* Turns n steps into turns: the first is the first step, each later one that step minus the one before, modulo 4.
  *

@@ -18,7 +18,7 @@ pub record Image (f : Corner → Corner) (t : ℕ → ℕ) (s : ℤ) (P : Corner
   pub shares : (d : ℕ) (c : Corner) → f c .0 *ℤ (f (stepped d c) .1 -ℤ f c .1) ≡ (s *ℤ (c .0 *ℤ (stepped d c .1 -ℤ c .1))) +ℤ (P (stepped d c) -ℤ P c)
 
 module _ {f : Corner → Corner} {t : ℕ → ℕ} {s : ℤ} {P : Corner → ℤ} (i : Image f t s P) where
-  end-image : (c : Corner) (ds : List ℕ) → endFrom (f c) (map t ds) ≡ f (endFrom c ds)
+  pub end-image : (c : Corner) (ds : List ℕ) → endFrom (f c) (map t ds) ≡ f (endFrom c ds)
   end-image c [] = refl
   end-image c (d ∷ ds) = ap (λ (p : Corner). endFrom p (map t ds)) (i .carries d c) ∙ end-image (stepped d c) ds
 
@@ -45,7 +45,7 @@ minus-one z = ring 1 (z ∷ []) (k (negsuc 0) ⊗ v 0) (⊝ (v 0)) tt
 
 -- moved by (x,y)
 module _ (x y : ℤ) where
-  abbrev moved : Corner → Corner
+  abbrev pub moved : Corner → Corner
   moved p = corner (p .0 +ℤ x) (p .1 +ℤ y)
 
   carries : (d : ℕ) (c : Corner) → stepped d (moved c) ≡ moved (stepped d c)
@@ -54,7 +54,7 @@ module _ (x y : ℤ) where
   carries (suc (suc zero)) c = ap (λ (z : ℤ). corner z (c .1 +ℤ y)) (sym (predℤ-+ℤ (c .0) x))
   carries (suc (suc (suc d))) c = ap (corner (c .0 +ℤ x)) (sym (predℤ-+ℤ (c .1) y))
 
-  move : Image moved (λ d. d) (pos 1) (λ p. x *ℤ p .1)
+  pub move : Image moved (λ d. d) (pos 1) (λ p. x *ℤ p .1)
   move =
       record {
         carries = carries;
@@ -80,7 +80,7 @@ sweep-carried : {f : Corner → Corner} {t : ℕ → ℕ} {s : ℤ} {P : Corner 
 sweep-carried {f} {t} i c e ds h = sweep-moved (f c) e (map t ds) (end-image i c ds ∙ ap f h) ∙ sweep-closed i c ds h
 
 -- a quarter turn takes (x,y) to (-y,x), and x times the change of y to -y times the change of x: the two differ by the change of -xy
-turn : Image (λ p. corner (negℤ (p .1)) (p .0)) turned (pos 1) (λ p. negℤ (p .0 *ℤ p .1))
+pub turn : Image (λ p. corner (negℤ (p .1)) (p .0)) turned (pos 1) (λ p. negℤ (p .0 *ℤ p .1))
 turn = record { carries = carried; shares = shared }
   where
     carried : (d : ℕ) (c : Corner) → stepped (turned d) (corner (negℤ (c .1)) (c .0)) ≡ corner (negℤ (stepped d c .1)) (stepped d c .0)

@@ -26,7 +26,7 @@ pub sweep-started : (c : Corner) (ds : List ℕ) (j : ℕ) → endFrom c ds ≡ 
 sweep-started c ds j h = sweep-rotated c (take j ds) (drop j ds) (ap (endFrom c) (take-append-drop j ds) ∙ h) ∙ ap (sweepFrom c) (take-append-drop j ds)
 
 -- backwards, the walk ends where it started
-end-backward : (c : Corner) (ds : List ℕ) → endFrom (endFrom c ds) (backward ds) ≡ c
+pub end-backward : (c : Corner) (ds : List ℕ) → endFrom (endFrom c ds) (backward ds) ≡ c
 end-backward c [] = refl
 end-backward c (d ∷ ds) =
     endFrom-append (endFrom (stepped d c) ds) (backward ds) (back d ∷ []) ∙ ap (stepped (back d)) (end-backward (stepped d c) ds) ∙ stepped-back d c

@@ -13,6 +13,8 @@ pub mod RowCallLaws
 pub mod OutlineCallLaws
 pub mod Area
 pub mod Polygon
+pub mod ConvexLaws
+pub mod Convex
 pub mod Rows
 pub mod Outline
 pub mod Lines

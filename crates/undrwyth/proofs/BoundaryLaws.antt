@@ -25,7 +25,9 @@ use Rattle.outline_laws.proofs.CallLaws.{judged-split}
 use Rattle.outline_laws.proofs.OutlineLaws.{outline-short}
 use Rattle.steps.specs.Operations.{survivors}
 use Rattle.steps.specs.Turns.{digitsJudged, turnsJudged}
+use Rattle.lists.specs.Lists.{tally}
 use Rattle.room.specs.Room.{isRoom, asRoomJudged}
+use Rattle.convex.specs.Convex.{ConvexCall}
 use Rattle.polygon.specs.Polygon.{polygonOf, polygonJudged, PolygonCall}
 use Rattle.polygon_laws.proofs.WriteLaws.{polygon-few}
 use Rattle.row_call.specs.Call.{rowsJudged, RowsCall}
@@ -147,3 +149,11 @@ rows-fit s ds before r after w = subst CountedFits (sym (w .answer)) (go (rowsJu
         let g = orElse-good (asRoomJudged s ds) (orElse (when (ltb (length before) (3 * length (w .list))) SpanRoom) Good) e .0 in
         rw e (omega (arith, rows-few s ds g (w .list) (w .rows g)))
     go (Refused x) e = rw e (omega (arith, subst (Placed 32768) e (rows-placed s ds (length before) (length (w .list)))))
+
+pub convex-fits : (s : Corner) (ds : List ℕ) (r : Counted) → ConvexCall s ds r → CountedFits r
+convex-fits s ds r w = subst CountedFits (sym (w .answer)) (go (asRoomJudged s ds) (room-placed s ds) (w .says))
+  where
+    go : (j : Judged) → Placed 32768 j → (b : Bool) → CountedFits (countedOf j (tally b))
+    go Good p true = omega arith
+    go Good p false = omega arith
+    go (Refused x) p b = omega (arith, p)

@@ -14,8 +14,9 @@ use Rattle.line_convert.proofs.ConvertLaws as convertLaws
 use Rattle.demands.proofs.Demand.{walkIs-one, hullCall-one, turns-one}
 use Rattle.demands.proofs.Outline.{outlineCall-one}
 use Rattle.demands.proofs.Polygon.{polygonCall-one}
+use Rattle.demands.proofs.Convex.{convexCall-one}
 use Rattle.demands.proofs.Rows.{rowsCall-one}
-use Rattle.undrwyth.specs.Boundary.{WalkGives, HullGives, OutlineGives, TurnsGive, PolygonGives, RowsGives}
+use Rattle.undrwyth.specs.Boundary.{WalkGives, HullGives, OutlineGives, TurnsGive, PolygonGives, ConvexGives, RowsGives}
 
 pub walkGives-one : {c : Corner} {os t ms ch t₁ ms₁ ch₁ w₁ t₂ ms₂ ch₂ w₂ : List ℕ} {n₁ n₂ : ℕ} → WalkGives c os t ms ch n₁ t₁ ms₁ ch₁ w₁ → WalkGives c os t ms ch n₂ t₂ ms₂ ch₂ w₂
     → (n₁ ≡ n₂) × (t₁ ≡ t₂) × (ms₁ ≡ ms₂) × (ch₁ ≡ ch₂) × (w₁ ≡ w₂)
@@ -46,6 +47,11 @@ pub rowsGives-one : {s : Corner} {chain : List ℕ} {before after₁ after₂ : 
 rowsGives-one {s} {chain} {before} g h =
     let e = rowsCall-one s chain before (g .listed) (h .listed) in
     (g .result ∙ ap countedNumber (e .0) ∙ sym (h .result), e .1, g .words-are ∙ ap countedWords (e .0) ∙ sym (h .words-are))
+
+pub convexGives-one : {s : Corner} {chain w₁ w₂ : List ℕ} {n₁ n₂ : ℕ} → ConvexGives s chain n₁ w₁ → ConvexGives s chain n₂ w₂ → (n₁ ≡ n₂) × (w₁ ≡ w₂)
+convexGives-one g h =
+    let e = convexCall-one (g .told) (h .told) in
+    (g .result ∙ ap countedNumber e ∙ sym (h .result), g .words-are ∙ ap countedWords e ∙ sym (h .words-are))
 
 pub turnsGive-one : (convert : List ℕ → List ℕ) {ds out out₁ out₂ w₁ w₂ : List ℕ} {n₁ n₂ : ℕ} → TurnsGive convert ds out n₁ out₁ w₁ → TurnsGive convert ds out n₂ out₂ w₂
     → (n₁ ≡ n₂) × (out₁ ≡ out₂) × (w₁ ≡ w₂)

@@ -14,6 +14,7 @@ use Rattle.hull.specs.Call.{HullCall}
 use Rattle.outline.specs.Call.{OutlineCall}
 use Rattle.steps.specs.Turns.{ConvertedBy}
 use Rattle.polygon.specs.Polygon.{PolygonCall}
+use Rattle.convex.specs.Convex.{ConvexCall}
 use Rattle.row_call.specs.Call.{RowsCall}
 use Rattle.answer.specs.Words.{answerWords, answerNumber, countedWords, countedNumber, judgedWords}
 
@@ -49,6 +50,13 @@ pub record PolygonGives (s : Corner) (chain before : List ℕ) (n : ℕ) (after 
 pub record RowsGives (s : Corner) (chain : List ℕ) (before : List ℤ) (n : ℕ) (after : List ℤ) (words : List ℕ) : Type 0 where
   pub answer : Counted
   pub listed : RowsCall s chain before answer after
+  pub words-are : words ≡ countedWords answer
+  pub result : n ≡ countedNumber answer
+
+-- that of the question whether a room is convex
+pub record ConvexGives (s : Corner) (chain : List ℕ) (n : ℕ) (words : List ℕ) : Type 0 where
+  pub answer : Counted
+  pub told : ConvexCall s chain answer
   pub words-are : words ≡ countedWords answer
   pub result : n ≡ countedNumber answer
 

@@ -16,7 +16,7 @@ ghost use Rattle.undrwyth.specs.Words.{AnswerFits, CountedFits};
 ghost use Rattle.line_reply.specs.Reply.{LineIs};
 ghost use Rattle.line_convert.specs.Convert.{ConvertedIs};
 ghost use Rattle.steps.specs.Turns.{turnsOf, stepsOf};
-ghost use Rattle.undrwyth.specs.Boundary.{WalkGives, HullGives, OutlineGives, TurnsGive, PolygonGives, RowsGives};
+ghost use Rattle.undrwyth.specs.Boundary.{WalkGives, HullGives, OutlineGives, TurnsGive, PolygonGives, ConvexGives, RowsGives};
 
 // The numbers of an accepted walk.
 fn facts_words(f: Facts) -> [u32; 11]
@@ -171,6 +171,22 @@ pub extern "C" fn undrwyth_rows(
     ensures { λ n. ⌜ RowsGives (corner «start_x» «start_y») (now (chain .entry)) (now (out .entry)) n (now (out .exit)) (now (answer .exit)) ⌝ }
 {
     let c = row_list::list(Corner(start_x, start_y), chain, out);
+    let words = counted_words(c);
+    *answer = words;
+    words[0]
+}
+
+// Tells whether a room is convex.
+#[no_mangle]
+pub extern "C" fn undrwyth_convex(
+    start_x: i32,
+    start_y: i32,
+    chain: &[u8],
+    answer: &mut [u32; 3],
+) -> u32
+    ensures { λ n. ⌜ ConvexGives (corner «start_x» «start_y») (now (chain .entry)) n (now (answer .exit)) ⌝ }
+{
+    let c = convex_room::tell(Corner(start_x, start_y), chain);
     let words = counted_words(c);
     *answer = words;
     words[0]

@@ -148,6 +148,18 @@ fn sort_edges(start: (i32, i32), chain: &[u8], out: &mut [i32]) -> usize {
     edges.len() / 2
 }
 
+/// Whether each room is convex.
+pub fn convex(
+    convex: impl Fn((i32, i32), &[u8]) -> Result<bool, Refusal> + 'static,
+    inputs: &[Vec<u8>],
+) -> Call<'_> {
+    Box::new(move || {
+        for chain in inputs {
+            black_box(convex((-7, 5), black_box(chain)).expect("it is a room"));
+        }
+    })
+}
+
 /// Each conversion between steps and turns.
 pub fn convert(
     convert: impl Fn(&[u8], &mut [u8]) -> Result<(), Refusal> + 'static,

@@ -4,7 +4,7 @@ mod calls;
 mod programs;
 mod race;
 
-use calls::{convert, count_visits, hull, outline, polygon, rows, sorted_rows, walk};
+use calls::{convert, convex, count_visits, hull, outline, polygon, rows, sorted_rows, walk};
 use compare::inputs::{self, Random};
 use race::race;
 
@@ -49,6 +49,8 @@ fn main() {
     polygons();
     println!("\nrooms by rows, ns a step");
     rows_of_rooms();
+    println!("\nconvex rooms, ns a step");
+    convexes();
     println!("\nturns, ns a digit");
     turns();
     println!("\nprograms on lines, MB/s of input");
@@ -135,6 +137,21 @@ fn rows_of_rooms() {
     }
 }
 
+/// Rooms that are convex, so that every part is gone through to its end, and rooms that are not.
+fn convexes() {
+    for n in SIZES {
+        let ovals = several(n, |_| inputs::oval(n, n / 4));
+        for (shape, inputs) in [("oval", ovals)].into_iter().chain(rooms(n)) {
+            race(vec![
+                ("proved", convex(undrwyth::convex, &inputs)),
+                ("twin", convex(twin::convex, &inputs)),
+                ("centres", convex(plain::convex, &inputs)),
+            ])
+            .print(&format!("convex/{shape}/{n}"), ns);
+        }
+    }
+}
+
 fn turns() {
     for n in SIZES {
         let inputs = several(n, |random| inputs::wander(n, random));
@@ -181,4 +198,11 @@ fn growth() {
         ])
         .print(&format!("growth-rows/{shape}"), ns);
     }
+    let ovals = |n: usize| several(n, |_| inputs::oval(n, n / 4));
+    let (long, short) = (ovals(16_384), ovals(8_192));
+    race(vec![
+        ("16384", convex(undrwyth::convex, &long)),
+        ("8192", convex(undrwyth::convex, &short)),
+    ])
+    .print("growth-convex/oval", ns);
 }

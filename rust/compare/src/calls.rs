@@ -4,8 +4,8 @@ use std::fmt::Debug;
 use std::sync::atomic::{AtomicU64, Ordering};
 
 use answer::{
-    HULL_ANSWER_WORDS, OUTLINE_ANSWER_WORDS, POLYGON_ANSWER_WORDS, ROWS_ANSWER_WORDS,
-    TURNS_ANSWER_WORDS, WALK_ANSWER_WORDS,
+    CONVEX_ANSWER_WORDS, HULL_ANSWER_WORDS, OUTLINE_ANSWER_WORDS, POLYGON_ANSWER_WORDS,
+    ROWS_ANSWER_WORDS, TURNS_ANSWER_WORDS, WALK_ANSWER_WORDS,
 };
 
 use crate::{Convert, Library, Line, PLAIN};
@@ -165,6 +165,19 @@ pub fn rows(
     same("rows' number", chain, &ours.0, &plain.0);
     same("rows' answer", chain, &ours.1, &plain.1);
     same("rows' buffer", chain, &ours.2, &plain.2);
+    plain.1
+}
+
+/// Compares whether a room is convex, and gives the answer.
+pub fn convex(library: &Library, start: (i32, i32), chain: &[u8]) -> [u32; CONVEX_ANSWER_WORDS] {
+    let run = |library: &Library| {
+        let mut answer = [u32::MAX; CONVEX_ANSWER_WORDS];
+        let number = (library.convex)(start, chain, &mut answer);
+        ([number], answer)
+    };
+    let (ours, plain) = (run(library), run(&PLAIN));
+    same("convex's number", chain, &ours.0, &plain.0);
+    same("convex's answer", chain, &ours.1, &plain.1);
     plain.1
 }
 

@@ -137,6 +137,82 @@ pub fn closed_comb(n: usize, height: i32) -> Vec<u8> {
     outline(n, (0..).flat_map(tooth))
 }
 
+/// The outline of rows of panels one above the other, each from its first panel to before its last; neighbours overlap.
+fn stacked(rows: &[(i32, i32)]) -> Vec<u8> {
+    let along =
+        |from: i32, to: i32| vec![if from < to { 0 } else { 2 }; from.abs_diff(to) as usize];
+    let (bottom, top) = (rows[0], rows[rows.len() - 1]);
+    let mut steps = along(bottom.0, bottom.1);
+    for (k, row) in rows.iter().enumerate() {
+        steps.push(1);
+        steps.extend(along(row.1, rows.get(k + 1).map_or(row.1, |next| next.1)));
+    }
+    steps.extend(along(top.1, top.0));
+    for (k, row) in rows.iter().enumerate().rev() {
+        steps.push(3);
+        steps.extend(along(row.0, rows[k.saturating_sub(1)].0));
+    }
+    steps
+}
+
+/// The rows of the panels whose centres lie in an oval, which is this wide and has n / 2 less that many rows.
+fn oval_rows(n: usize, width: usize) -> Vec<(i32, i32)> {
+    let (w, h) = (width as i64, (n / 2 - width) as i64);
+    let within = |x: i64, y: i64| (x * h).pow(2) + (y * w).pow(2) <= (w * h).pow(2);
+    let row = |k: i64| {
+        let held = |x: &i64| within(2 * x + 1 - w, 2 * k + 1 - h);
+        let left = (0..=(w - 1) / 2).find(held).unwrap_or((w - 1) / 2);
+        (left as i32, (w - left) as i32)
+    };
+    (0..h).map(row).collect()
+}
+
+/// A convex room of n steps, n even, unless it is very flat or narrow: an oval of this width.
+pub fn oval(n: usize, width: usize) -> Vec<u8> {
+    stacked(&oval_rows(n, width))
+}
+
+/// The same with a panel more or less in one row.
+pub fn dented(n: usize, width: usize, random: &mut Random) -> Vec<u8> {
+    let mut rows = oval_rows(n, width);
+    let k = random.below(rows.len());
+    let (left, right) = &mut rows[k];
+    match random.below(4) {
+        0 => *left -= 1,
+        1 => *right += 1,
+        2 if *left + 1 < *right => *left += 1,
+        3 if *left + 1 < *right => *right -= 1,
+        _ => {}
+    }
+    stacked(&rows)
+}
+
+/// Calls `each` with every room of up to `longest` steps, from each of its corners, both ways round.
+pub fn every_room(longest: usize, each: &mut impl FnMut(&[u8])) {
+    fn go(
+        path: &mut Vec<(i32, i32)>,
+        steps: &mut Vec<u8>,
+        most: usize,
+        each: &mut impl FnMut(&[u8]),
+    ) {
+        let (x, y) = path[path.len() - 1];
+        for way in 0..4 {
+            let next = stepped((x, y), way);
+            let far = (next.0.unsigned_abs() + next.1.unsigned_abs()) as usize;
+            steps.push(way);
+            if next == (0, 0) && steps.len() >= 4 {
+                each(steps);
+            } else if steps.len() + far <= most && !path.contains(&next) {
+                path.push(next);
+                go(path, steps, most, each);
+                path.pop();
+            }
+            steps.pop();
+        }
+    }
+    go(&mut vec![(0, 0)], &mut Vec::new(), longest, each);
+}
+
 /// n steps, each in a random direction.
 pub fn wander(n: usize, random: &mut Random) -> Vec<u8> {
     (0..n).map(|_| random.step()).collect()

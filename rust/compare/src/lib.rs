@@ -5,8 +5,8 @@ pub mod inputs;
 pub mod suite;
 
 use answer::{
-    Facts, HULL_ANSWER_WORDS, NO_MEETING, OUTLINE_ANSWER_WORDS, POLYGON_ANSWER_WORDS,
-    ROWS_ANSWER_WORDS, Refusal, TURNS_ANSWER_WORDS, WALK_ANSWER_WORDS,
+    CONVEX_ANSWER_WORDS, Facts, HULL_ANSWER_WORDS, NO_MEETING, OUTLINE_ANSWER_WORDS,
+    POLYGON_ANSWER_WORDS, ROWS_ANSWER_WORDS, Refusal, TURNS_ANSWER_WORDS, WALK_ANSWER_WORDS,
 };
 
 /// The calls of an implementation, with the answers of the C boundary.
@@ -16,6 +16,7 @@ pub struct Library {
     pub outline: Outline,
     pub polygon_of_room: Polygon,
     pub rows: Rows,
+    pub convex: Convex,
     pub turns_of_steps: Convert,
     pub steps_of_turns: Convert,
     pub line: Line,
@@ -41,6 +42,9 @@ pub type Rows = fn((i32, i32), &[u8], &mut [i32], &mut [u32; ROWS_ANSWER_WORDS])
 /// Something written of a line, and how many bytes that is.
 pub type Line = fn(&[u8], &mut [u8]) -> usize;
 
+/// Whether a room, by its start and chain, is convex.
+pub type Convex = fn((i32, i32), &[u8], &mut [u32; CONVEX_ANSWER_WORDS]) -> u32;
+
 /// A conversion between steps and turns.
 pub type Convert = fn(&[u8], &mut [u8], &mut [u32; TURNS_ANSWER_WORDS]) -> u32;
 
@@ -52,6 +56,7 @@ pub const PROVED: Library = Library {
     outline: undrwyth::raw::outline,
     polygon_of_room: undrwyth::raw::polygon_of_room,
     rows: undrwyth::raw::rows,
+    convex: undrwyth::raw::convex,
     turns_of_steps: undrwyth::raw::turns_of_steps,
     steps_of_turns: undrwyth::raw::steps_of_turns,
     line: undrwyth::raw::line,
@@ -85,6 +90,12 @@ macro_rules! library {
             rows: |start, chain, out, answer| {
                 let spans = $of::rows(start, chain, out);
                 tell(answer, spans.map(|spans| [spans as u32]))
+            },
+            convex: |start, chain, answer| {
+                tell(
+                    answer,
+                    $of::convex(start, chain).map(|yes| [u32::from(yes)]),
+                )
             },
             turns_of_steps: |steps, out, answer| {
                 tell(answer, $of::turns_of_steps(steps, out).map(|()| []))

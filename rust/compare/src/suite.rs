@@ -76,6 +76,7 @@ fn rows_near(library: &Library, start: (i32, i32), chain: &[u8]) {
 fn room_near(library: &Library, start: (i32, i32), chain: &[u8]) {
     polygon_near(library, start, chain);
     rows_near(library, start, chain);
+    calls::convex(library, start, chain);
 }
 
 /// Both conversions in a buffer of the right length, of one less and of one more.
@@ -117,6 +118,7 @@ pub fn every_byte(library: &Library) {
                 calls::outline(library, ORIGIN, &ops, 8);
                 calls::polygon(library, (0, 0), &ops, 93);
                 calls::rows(library, (0, 0), &ops, 3);
+                calls::convex(library, (0, 0), &ops);
                 calls::turns(library, &ops, ops.len());
             }
             ops[place] = kept;
@@ -295,6 +297,50 @@ pub fn outlines(library: &Library) {
         }
     }
     assert_eq!(longest as usize, 2 * MOST_STEPS);
+}
+
+/// Every room of up to `longest` steps, and long ones that are convex or nearly so, from far starts and each from several of its
+/// corners, both ways round and after each quarter turn.
+pub fn convex_rooms(library: &Library, longest: usize) {
+    let mut told = [0; 2];
+    inputs::every_room(longest, &mut |room| {
+        told[calls::convex(library, (16_384, -16_384), room)[2] as usize] += 1;
+    });
+    assert!(told.iter().all(|&count| count > 100));
+    let mut random = Random(8);
+    for n in [8, 24, 64, 254, 256, 258, 1_000, 2_048, 2_050, MOST_STEPS] {
+        for width in [1, 2, n / 8, n / 5, n / 4] {
+            let oval = inputs::oval(n, width.max(1));
+            let sided = |room: &[u8]| calls::convex(library, (0, 0), room)[2] == 1;
+            assert!(sided(&oval) || width < n / 8);
+            convex_of(library, &oval, &mut random);
+            for _ in 0..8 {
+                convex_of(
+                    library,
+                    &inputs::dented(n, width.max(1), &mut random),
+                    &mut random,
+                );
+            }
+        }
+        for room in [inputs::room(n, &mut random), inputs::closed_spiral(n)] {
+            convex_of(library, &room, &mut random);
+        }
+    }
+}
+
+/// One room from several of its corners, backwards and turned.
+fn convex_of(library: &Library, room: &[u8], random: &mut Random) {
+    let mut chain = room.to_vec();
+    for turn in 0..4 {
+        chain.rotate_left(random.below(room.len()));
+        calls::convex(library, inputs::start(random), &chain);
+        chain.iter_mut().for_each(|step| *step = (*step + 1) % 4);
+        if turn == 1 {
+            chain.reverse();
+            chain.iter_mut().for_each(|step| *step = (*step + 2) % 4);
+        }
+    }
+    calls::convex(library, (0, 0), &chain[1..]);
 }
 
 /// Every header byte by byte, every count with fitting and unfitting digits, every byte in a short frame.

@@ -49,6 +49,10 @@ fn wrapper() {
         let laid =
             |rows: fn((i32, i32), &[u8], &mut [i32]) -> _| rows((n as i32, -1), &ops, &mut [0; 90]);
         assert_eq!(laid(undrwyth::rows), laid(plain::rows));
+        assert_eq!(
+            undrwyth::convex((n as i32, -1), &ops),
+            plain::convex((n as i32, -1), &ops)
+        );
         let turned = |convert: fn(&[u8], &mut [u8]) -> _| convert(&ops, &mut vec![0; n]);
         assert_eq!(
             turned(undrwyth::turns_of_steps),

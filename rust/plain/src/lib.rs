@@ -1,6 +1,7 @@
 //! The rules of the walk, the hull, the turns and the line program, said again with sets, maps and sorting. It shares no
 //! idea with the proved library but the rules, so that a slip in one shows in a comparison with the other.
 
+mod convex;
 mod grid;
 mod hull;
 mod line;
@@ -11,6 +12,7 @@ mod rows;
 mod turns;
 mod walk;
 
+pub use convex::convex;
 pub use hull::hull;
 pub use line::{convert_line, converter, line, program};
 pub use outline::outline;

@@ -1,6 +1,7 @@
 //! The proved library's own design in plain Rust: the linked quadtree in a lent table, the hull by columns, the line program
 //! over both. It is what the benchmarks measure the proved library against.
 
+mod convex;
 mod hull;
 mod line;
 mod outline;
@@ -10,6 +11,7 @@ mod tree;
 mod turns;
 mod walk;
 
+pub use convex::convex;
 pub use hull::hull;
 pub use line::{convert_line, converter, line, program};
 pub use outline::outline;

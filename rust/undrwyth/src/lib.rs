@@ -125,6 +125,23 @@ pub fn rows(start: (i32, i32), chain: &[u8], out: &mut [i32]) -> Result<usize, R
     Ok(answer[2] as usize)
 }
 
+/// Whether the room with this start and chain is convex: travelled clockwise and cut at its four extremal corners, each part
+/// goes in two directions only, and between it and its convex hull, the hull line included, there is no other grid point.
+///
+/// ```
+/// let l_of_three = [0, 0, 1, 2, 1, 2, 3, 3];
+/// assert_eq!(undrwyth::convex((0, 0), &l_of_three), Ok(true));
+/// let l_of_five = [0, 0, 0, 1, 2, 2, 1, 1, 2, 3, 3, 3];
+/// assert_eq!(undrwyth::convex((-7, 5), &l_of_five), Ok(false));
+/// assert_eq!(undrwyth::convex((0, 0), &[0, 2]), Err(undrwyth::Refusal::NotRoom));
+/// ```
+pub fn convex(start: (i32, i32), chain: &[u8]) -> Result<bool, Refusal> {
+    let mut answer = [0; CONVEX_ANSWER_WORDS];
+    let number = raw::convex(start, chain, &mut answer);
+    accepted(number, answer[1])?;
+    Ok(answer[2] == 1)
+}
+
 /// Writes the turns of `steps` to `out`, which has the same length: the first step, then each step minus the one before,
 /// modulo 4.
 ///

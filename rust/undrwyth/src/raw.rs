@@ -1,8 +1,8 @@
 //! The calls of the C boundary as they are, on slices: include/undrwyth.h says what each does.
 
 use answer::{
-    HULL_ANSWER_WORDS, OUTLINE_ANSWER_WORDS, POLYGON_ANSWER_WORDS, ROWS_ANSWER_WORDS,
-    TURNS_ANSWER_WORDS, WALK_ANSWER_WORDS,
+    CONVEX_ANSWER_WORDS, HULL_ANSWER_WORDS, OUTLINE_ANSWER_WORDS, POLYGON_ANSWER_WORDS,
+    ROWS_ANSWER_WORDS, TURNS_ANSWER_WORDS, WALK_ANSWER_WORDS,
 };
 
 mod c {
@@ -54,6 +54,13 @@ mod c {
             n: usize,
             out: *mut i32,
             out_numbers: usize,
+            answer: *mut u32,
+        ) -> u32;
+        pub fn undrwyth_convex(
+            start_x: i32,
+            start_y: i32,
+            chain: *const u8,
+            n: usize,
             answer: *mut u32,
         ) -> u32;
         pub fn undrwyth_turns_of_steps(
@@ -186,6 +193,20 @@ pub fn rows(
             chain.len(),
             out.as_mut_ptr(),
             out.len(),
+            answer.as_mut_ptr(),
+        )
+    }
+}
+
+/// `undrwyth_convex`: the refusal's number, 0 for none.
+pub fn convex(start: (i32, i32), chain: &[u8], answer: &mut [u32; CONVEX_ANSWER_WORDS]) -> u32 {
+    // SAFETY: as for walk.
+    unsafe {
+        c::undrwyth_convex(
+            start.0,
+            start.1,
+            chain.as_ptr(),
+            chain.len(),
             answer.as_mut_ptr(),
         )
     }

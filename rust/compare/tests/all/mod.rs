@@ -41,6 +41,11 @@ fn outlines() {
 }
 
 #[test]
+fn convex_rooms() {
+    suite::convex_rooms(&LIBRARY, 2 * LONGEST as usize);
+}
+
+#[test]
 fn starts() {
     suite::starts(&LIBRARY, LONGEST / 3);
 }

@@ -1,0 +1,65 @@
+-- Small parts and rooms.
+-- Assumes nothing.
+use mathlib.Core.List.{List, [], _∷_, List·Memᴰ, List·Memᴰ·head, List·Memᴰ·tail, List·Memᴰ·not-nil, List·Memᴰ·cases-cons}
+use mathlib.Core.Logic.{inl, inr, ⊎-elim}
+use mathlib.Core.Path.{_≡_, refl, sym, ap, subst}
+use native.Mathlib.Omega.{arith}
+use lib.IntN.{ℤ, pos, natAbs}
+use lib.Signed.{_<ℤ_}
+use Rattle.grid.specs.declared.Corner.{Corner}
+use Rattle.grid.specs.Grid.{corner, origin, cornersFrom}
+use Rattle.hull.specs.Hull.{cross}
+use Rattle.convex.specs.Parts.{turnedBy, clockwise, LowestLeft, LeftmostTop, HighestRight, RightmostBottom, Split}
+use Rattle.convex.specs.Convex.{Between}
+
+-- one panel, travelled both ways: clockwise it goes north first
+pub clockwise-back : clockwise origin (0 ∷ 1 ∷ 2 ∷ 3 ∷ []) ≡ 1 ∷ 0 ∷ 3 ∷ 2 ∷ []
+clockwise-back = refl
+
+pub clockwise-kept : clockwise origin (1 ∷ 0 ∷ 3 ∷ 2 ∷ []) ≡ 1 ∷ 0 ∷ 3 ∷ 2 ∷ []
+clockwise-kept = refl
+
+-- the letters of the second part, 0 and 3, become 1 and 0
+pub second-turned : turnedBy 1 (0 ∷ 3 ∷ []) ≡ 1 ∷ 0 ∷ []
+second-turned = refl
+
+-- a statement on each corner of a list
+each : (P : Corner → Type 0) (l : List Corner) → Type 0
+each P [] = Unit {0}
+each P (c ∷ l) = P c × each P l
+
+all-in : (P : Corner → Type 0) (l : List Corner) → each P l → (p : Corner) → List·Memᴰ p l → P p
+unfolding each
+all-in P [] h p m = absurd (List·Memᴰ·not-nil m)
+all-in P (c ∷ l) h p m = ⊎-elim (λ e. subst P (sym e) (h .0)) (λ k. all-in P l (h .1) p k) (List·Memᴰ·cases-cons m)
+
+-- clockwise from its lowest corner on the left, one panel has a part for each wall
+pub one-panel : Split origin (1 ∷ 0 ∷ 3 ∷ 2 ∷ []) (1 ∷ []) (0 ∷ []) (3 ∷ []) (2 ∷ [])
+unfolding each
+one-panel = record {
+  before = [];
+  after = 1 ∷ 0 ∷ 3 ∷ 2 ∷ [];
+  whole = refl;
+  round = refl;
+  west = all-in (LowestLeft origin) (cornersFrom origin (1 ∷ 0 ∷ 3 ∷ 2 ∷ [])) (inr (refl, record { le = tt }), (inr (refl, record { le = tt }), (inl (record { lt = tt }), (inl (record { lt = tt }), (inr (refl, record { le = tt }), tt)))));
+  north = all-in (LeftmostTop (corner (pos 0) (pos 1))) (cornersFrom origin (1 ∷ 0 ∷ 3 ∷ 2 ∷ [])) (inl (record { lt = tt }), (inr (refl, record { le = tt }), (inr (refl, record { le = tt }), (inl (record { lt = tt }), (inl (record { lt = tt }), tt)))));
+  east = all-in (HighestRight (corner (pos 1) (pos 1))) (cornersFrom origin (1 ∷ 0 ∷ 3 ∷ 2 ∷ [])) (inl (record { lt = tt }), (inl (record { lt = tt }), (inr (refl, record { le = tt }), (inr (refl, record { le = tt }), (inl (record { lt = tt }), tt)))));
+  south = all-in (RightmostBottom (corner (pos 1) (pos 0))) (cornersFrom origin (1 ∷ 0 ∷ 3 ∷ 2 ∷ [])) (inr (refl, record { le = tt }), (inl (record { lt = tt }), (inl (record { lt = tt }), (inr (refl, record { le = tt }), (inr (refl, record { le = tt }), tt)))));
+}
+
+-- the part 10011: the grid point (1,2) lies off it, on the hull line from (0,1) to (2,3)
+pub on-the-line : Between (cornersFrom origin (1 ∷ 0 ∷ 0 ∷ 1 ∷ 1 ∷ [])) (corner (pos 1) (pos 2))
+unfolding cross each
+on-the-line = record {
+  a = corner (pos 0) (pos 1);
+  b = corner (pos 2) (pos 3);
+  from = List·Memᴰ·tail (List·Memᴰ·head refl);
+  to = List·Memᴰ·tail (List·Memᴰ·tail (List·Memᴰ·tail (List·Memᴰ·tail (List·Memᴰ·tail (List·Memᴰ·head refl)))));
+  left = record { lt = tt };
+  right = record { lt = tt };
+  under = record { le = tt };
+  above = all-in (λ (p : Corner). p .0 ≡ pos 1 → p .1 <ℤ pos 2) (cornersFrom origin (1 ∷ 0 ∷ 0 ∷ 1 ∷ 1 ∷ [])) ((λ e. record { lt = tt }), ((λ e. record { lt = tt }), ((λ e. record { lt = tt }), ((λ e. record { lt = tt }), (apart (pos 2), (apart (pos 3), tt))))));
+}
+  where
+    apart : (z : ℤ) → pos 2 ≡ pos 1 → z <ℤ pos 2
+    apart z e = let n : ⊥ = omega (arith, ap natAbs e) in absurd n

@@ -1,0 +1,3 @@
+-- Laws and cases of convex rooms.
+pub mod ConvexCases
+pub mod ConvexLaws

@@ -1,0 +1,103 @@
+-- `convex_part::along` meets its contract.
+-- Assumes nothing.
+use borrow.Author.Needs.{needs}
+use native.Mathlib.Omega.{arith}
+use mathlib.Core.Path.{_≡_, refl, sym, _∙_}
+use Prim.Native.Nat.{_+_, _-_, _≤_}
+use lib.ListN.{length, drop}
+use Rattle.convex_laws.specs.Level.{levelAlong}
+use Rattle.convex_part.proofs.PassLaws.{not-true, not-false, along-here, along-next, along-none}
+use Rattle.convex_part.proofs.along.Statement.{statement}
+use Rattle.convex_part.proofs.along.Tie as tie
+
+abbrev Inv-loop : tie.InvT-loop
+Inv-loop ys s a q₀ q = (a ≤ q) × (q ≤ length s) × (levelAlong ys (drop q s) ≡ levelAlong ys (drop a s))
+
+abbrev μ-loop : tie.MeasureT-loop
+μ-loop ys s a q₀ q = length s - q
+
+loop-holds : tie.Need-loop-holds Inv-loop μ-loop
+loop-holds c = (omega arith, c .before .before .pre .0 .begins, refl)
+
+add-loop : tie.Need-add-loop Inv-loop μ-loop
+add-loop c = search needs
+
+mul-wide : tie.Need-mul-wide Inv-loop μ-loop
+mul-wide c = search needs
+
+shared-slice-read-wide : tie.Need-shared-slice-read-wide Inv-loop μ-loop
+shared-slice-read-wide c = search needs
+
+wide-requires : tie.Need-wide-requires Inv-loop μ-loop
+wide-requires c κs = search needs
+
+add-wide : tie.Need-add-wide Inv-loop μ-loop
+add-wide c = search needs
+
+mul-wide-2 : tie.Need-mul-wide-2 Inv-loop μ-loop
+mul-wide-2 c = search needs
+
+shared-slice-read-wide-2 : tie.Need-shared-slice-read-wide-2 Inv-loop μ-loop
+shared-slice-read-wide-2 c = search needs
+
+wide-requires-2 : tie.Need-wide-requires-2 Inv-loop μ-loop
+wide-requires-2 c κs = search needs
+
+edge-requires : tie.Need-edge-requires Inv-loop μ-loop
+edge-requires c κs =
+    let l = c .before .before .before .before .before .loop in
+    let r = c .before .before .before .before .before .before .before .before .pre .0 in
+    let p = c .before .before .wide .ensures in
+    let b = c .wide2 .ensures in
+    (omega (arith, p, b, r .rises (l .q) (l .inv .0) (omega arith)), omega (arith, b, r .columns (l .q + 1) (omega (arith, l .inv .0)) (omega arith)), omega arith)
+
+returns : tie.Need-returns Inv-loop μ-loop
+returns c =
+    let l = c .before .before .before .before .before .before .before .loop in
+    let a = c .before .before .before .before .before .before .before .before .before .before .args in
+    along-here (a .ys .now) (a .s .now) (l .q) (c .before .before .before .before .wide .result) (c .before .before .wide2 .result) (omega arith) (c .before .before .before .before .wide .ensures) (c .before .before .wide2 .ensures)
+    (sym (c .before .edge .ensures) ∙ not-true (c .before .edge .result) (c .if1 .taken)) ∙ l .inv .2
+
+add-q : tie.Need-add-q Inv-loop μ-loop
+add-q c = search needs
+
+loop-less : tie.Need-loop-less Inv-loop μ-loop
+loop-less c = search needs
+
+loop-again : tie.Need-loop-again Inv-loop μ-loop
+loop-again c =
+    let l = c .before .before .before .before .before .before .before .loop in
+    let a = c .before .before .before .before .before .before .before .before .before .before .args in (
+      omega (arith, l .inv .0),
+      omega arith,
+      along-next (a .ys .now) (a .s .now) (l .q) (c .before .before .before .before .wide .result) (c .before .before .wide2 .result) (omega arith) (c .before .before .before .before .wide .ensures) (c .before .before .wide2 .ensures)
+          (sym (c .before .edge .ensures) ∙ not-false (c .before .edge .result) (c .if1 .left)) ∙ l .inv .2,
+    )
+
+returns-2 : tie.Need-returns-2 Inv-loop μ-loop
+returns-2 c =
+    let l = c .before .loop in
+    let a = c .before .before .before .before .args in
+    along-none (a .ys .now) (a .s .now) (l .q) (omega arith) ∙ l .inv .2
+
+pub along-spec : {M : Type 1} → statement M
+along-spec =
+    tie.close
+    (tie.spec
+    Inv-loop
+    μ-loop
+    loop-holds
+    add-loop
+    mul-wide
+    shared-slice-read-wide
+    wide-requires
+    add-wide
+    mul-wide-2
+    shared-slice-read-wide-2
+    wide-requires-2
+    edge-requires
+    returns
+    add-q
+    loop-less
+    loop-again
+    returns-2)

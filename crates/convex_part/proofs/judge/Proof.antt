@@ -1,0 +1,65 @@
+-- `convex_part::judge` meets its contract.
+-- Assumes nothing.
+use borrow.Author.Needs.{needs}
+use native.Mathlib.Omega.{arith}
+use mathlib.Core.Path.{sym, _∙_}
+use lib.ListN.{length, take}
+use lib.Seq.{length-take-le}
+use Rattle.convex.specs.Parts.{turnedBy}
+use Rattle.convex_part.proofs.PassLaws.{not-true, not-false, length-turned, judge-letters, judge-columns}
+use Rattle.convex_part.proofs.judge.Statement.{statement}
+use Rattle.convex_part.proofs.judge.Tie as tie
+
+plain-requires : tie.Need-plain-requires
+plain-requires c κs = search needs
+
+returns : tie.Need-returns
+returns c =
+    let a = c .before .before .before .before .before .args in
+    judge-letters (turnedBy (a .turn) (a .part .now)) (sym (c .before .plain .ensures) ∙ not-true (c .before .plain .result) (c .if1 .taken))
+
+dig-requires : tie.Need-dig-requires
+dig-requires c κs = search needs
+
+slice-reshare-prefix-columns : tie.Need-slice-reshare-prefix-columns
+slice-reshare-prefix-columns c = search needs
+
+slice-aggregate-columns : tie.Need-slice-aggregate-columns
+slice-aggregate-columns c =
+    let d = c .before .before .before .dig in
+    sym (length-take-le (d .result) (d .last .1 .1 .0) (omega (arith, d .ensures .1, d .kept .1 .1 .0)))
+
+columns-requires : tie.Need-columns-requires
+columns-requires c κs =
+    let d = c .before .before .before .before .dig in
+    let l = length-take-le (d .result) (d .last .1 .1 .0) (omega (arith, d .ensures .1, d .kept .1 .1 .0)) in
+    (omega (arith, l, d .ensures .1), omega (arith, l, d .ensures .1))
+
+same-length : tie.Need-same-length
+same-length c = search needs
+
+same-length-2 : tie.Need-same-length-2
+same-length-2 c = search needs
+
+returns-2 : tie.Need-returns-2
+returns-2 c =
+    let d = c .before .before .before .before .before .before .before .dig in
+    let p = c .before .before .before .before .before .before .before .before .before .before .plain in
+    let i = c .before .before .before .before .before .before .before .before .before .if1 in
+    let a = c .before .before .before .before .before .before .before .before .before .before .before .before .before .before .args in
+    let e = c .before .before .columns .ensures in
+    e ∙ judge-columns (turnedBy (a .turn) (a .part .now)) (take (d .result) (d .last .1 .1 .0)) (length (a .part .now)) (sym (p .ensures) ∙ not-false (p .result) (i .left)) (sym (length-turned (a .turn) (a .part .now))) (d .ensures .0)
+
+pub judge-spec : {M : Type 1} → statement M
+judge-spec =
+    tie.close
+    (tie.spec
+    plain-requires
+    returns
+    dig-requires
+    slice-reshare-prefix-columns
+    slice-aggregate-columns
+    columns-requires
+    same-length
+    same-length-2
+    returns-2)

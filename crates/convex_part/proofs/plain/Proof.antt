@@ -1,0 +1,66 @@
+-- `convex_part::plain` meets its contract.
+-- Assumes nothing.
+use borrow.Author.Needs.{needs}
+use native.Mathlib.Omega.{arith}
+use mathlib.Core.Path.{_≡_, refl, _∙_}
+use Prim.Native.Nat.{_-_}
+use lib.ListN.{length, drop}
+use Rattle.convex.specs.Parts.{turnedBy}
+use Rattle.convex_laws.specs.Level.{lettersOf}
+use Rattle.convex_part.proofs.PassLaws.{letters-here, letters-next, letters-none}
+use Rattle.convex_part.proofs.plain.Statement.{statement}
+use Rattle.convex_part.proofs.plain.Tie as tie
+
+abbrev Inv-loop : tie.InvT-loop
+Inv-loop part turn i₀ i = lettersOf (drop i (turnedBy turn part)) ≡ lettersOf (turnedBy turn part)
+
+abbrev μ-loop : tie.MeasureT-loop
+μ-loop part turn i₀ i = length part - i
+
+loop-holds : tie.Need-loop-holds Inv-loop μ-loop
+loop-holds c = refl
+
+shared-slice-read-letter : tie.Need-shared-slice-read-letter Inv-loop μ-loop
+shared-slice-read-letter c = search needs
+
+letter-requires : tie.Need-letter-requires Inv-loop μ-loop
+letter-requires c κs = (c .before .before .before .before .pre .0 .digits (c .before .before .loop .i), c .before .before .before .before .pre .1)
+
+returns : tie.Need-returns Inv-loop μ-loop
+returns c =
+    let l = c .before .before .before .before .loop in
+    let a = c .before .before .before .before .before .before .args in
+    letters-here (a .part .now) (a .turn) (l .i) (c .before .letter .result) (omega arith) (c .before .letter .ensures) (omega arith) ∙ l .inv
+
+add-i : tie.Need-add-i Inv-loop μ-loop
+add-i c = search needs
+
+loop-less : tie.Need-loop-less Inv-loop μ-loop
+loop-less c = search needs
+
+loop-again : tie.Need-loop-again Inv-loop μ-loop
+loop-again c =
+    let l = c .before .before .before .before .loop in
+    let a = c .before .before .before .before .before .before .args in
+    letters-next (a .part .now) (a .turn) (l .i) (c .before .letter .result) (omega arith) (c .before .letter .ensures) (omega arith) ∙ l .inv
+
+returns-2 : tie.Need-returns-2 Inv-loop μ-loop
+returns-2 c =
+    let l = c .before .loop in
+    let a = c .before .before .before .args in
+    letters-none (a .part .now) (a .turn) (l .i) (omega arith) ∙ l .inv
+
+pub plain-spec : {M : Type 1} → statement M
+plain-spec =
+    tie.close
+    (tie.spec
+    Inv-loop
+    μ-loop
+    loop-holds
+    shared-slice-read-letter
+    letter-requires
+    returns
+    add-i
+    loop-less
+    loop-again
+    returns-2)

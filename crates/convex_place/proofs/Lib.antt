@@ -1,0 +1,3 @@
+-- Laws on the search for a corner and on the sums of columns.
+mod FindLaws
+mod SumLaws

@@ -1,0 +1,78 @@
+-- `convex_place::number` meets its contract.
+-- Assumes nothing.
+use borrow.Author.Needs.{needs}
+use mathlib.Core.Path.{sym, ap}
+use Prim.Native.Nat.{ℕ}
+use Rattle.convex_laws.specs.Place.{rank}
+use Rattle.convex_place.proofs.FindLaws.{rank-last}
+use Rattle.convex_place.proofs.number.Statement.{statement}
+use Rattle.convex_place.proofs.number.Tie as tie
+
+mul-result : tie.Need-mul-result
+mul-result c = search needs
+
+add-result : tie.Need-add-result
+add-result c = search needs
+
+sub-result : tie.Need-sub-result
+sub-result c = search needs
+
+mul-result-2 : tie.Need-mul-result-2
+mul-result-2 c = search needs
+
+add-result-2 : tie.Need-add-result-2
+add-result-2 c = search needs
+
+sub-result-2 : tie.Need-sub-result-2
+sub-result-2 c = search needs
+
+mul-result-3 : tie.Need-mul-result-3
+mul-result-3 c = search needs
+
+sub-result-3 : tie.Need-sub-result-3
+sub-result-3 c = search needs
+
+add-result-3 : tie.Need-add-result-3
+add-result-3 c = search needs
+
+mul-result-4 : tie.Need-mul-result-4
+mul-result-4 c = search needs
+
+sub-result-4 : tie.Need-sub-result-4
+sub-result-4 c = search needs
+
+add-result-4 : tie.Need-add-result-4
+add-result-4 c = search needs
+
+returns : tie.Need-returns
+returns c = let a = c .before .args in ap (λ (t : ℕ). rank t (a .x) (a .y)) (sym (c .match .keys1))
+
+returns-2 : tie.Need-returns-2
+returns-2 c = let a = c .before .args in ap (λ (t : ℕ). rank t (a .x) (a .y)) (sym (c .match .keys2))
+
+returns-3 : tie.Need-returns-3
+returns-3 c = let a = c .before .args in ap (λ (t : ℕ). rank t (a .x) (a .y)) (sym (c .match .keys3))
+
+returns-4 : tie.Need-returns-4
+returns-4 c = let a = c .before .args in rank-last (a .turn) (a .x) (a .y) (c .match .rest .0 .0 .1) (c .match .rest .0 .1) (c .match .rest .1)
+
+pub number-spec : {M : Type 1} → statement M
+number-spec =
+    tie.close
+    (tie.spec
+    mul-result
+    add-result
+    sub-result
+    mul-result-2
+    add-result-2
+    sub-result-2
+    mul-result-3
+    sub-result-3
+    add-result-3
+    mul-result-4
+    sub-result-4
+    add-result-4
+    returns
+    returns-2
+    returns-3
+    returns-4)

@@ -1,0 +1,80 @@
+-- `convex_place::place` meets its contract.
+-- Assumes nothing.
+use borrow.Author.Needs.{needs}
+use native.Mathlib.Omega.{arith}
+use Prim.Native.Nat.{_-_}
+use lib.ListN.{length}
+use Rattle.convex_place.proofs.FindLaws.{Seeks, seeks-start, seeks-near, seeks-step, seeks-end}
+use Rattle.convex_place.proofs.place.Statement.{statement}
+use Rattle.convex_place.proofs.place.Tie as tie
+
+abbrev Inv-loop : tie.InvT-loop
+Inv-loop chain turn x₀ y₀ least₀ i₀ x y least i = Seeks chain turn x y least i
+
+abbrev μ-loop : tie.MeasureT-loop
+μ-loop chain turn x₀ y₀ least₀ i₀ x y least i = length chain - i
+
+number-at-requires : tie.Need-number-at-requires Inv-loop μ-loop
+number-at-requires c κs = search needs
+
+loop-holds : tie.Need-loop-holds Inv-loop μ-loop
+loop-holds c =
+    let a = c .before .before .args in
+    seeks-start (a .chain .now) (a .turn) (c .number-at .result) (c .number-at .ensures)
+
+shared-slice-read-d : tie.Need-shared-slice-read-d Inv-loop μ-loop
+shared-slice-read-d c = search needs
+
+column-requires : tie.Need-column-requires Inv-loop μ-loop
+column-requires c κs = let w = c .before .before .loop .inv in (omega (arith, w .west), omega (arith, w .east))
+
+height-requires : tie.Need-height-requires Inv-loop μ-loop
+height-requires c κs = let w = c .before .before .before .loop .inv in (omega (arith, w .south), omega (arith, w .north))
+
+add-i : tie.Need-add-i Inv-loop μ-loop
+add-i c = search needs
+
+number-at-requires-2 : tie.Need-number-at-requires-2 Inv-loop μ-loop
+number-at-requires-2 c κs =
+    let l = c .before .before .before .before .loop in
+    let a = c .before .before .before .before .before .before .before .args in
+    seeks-near (a .chain .now) (a .turn) (l .x) (l .y) (l .least) (l .i) (l .inv) (c .before .column .result) (c .height .result) (omega arith) (omega arith) (c .before .column .ensures) (c .height .ensures)
+
+lesser-requires : tie.Need-lesser-requires Inv-loop μ-loop
+lesser-requires c κs = search needs
+
+loop-less : tie.Need-loop-less Inv-loop μ-loop
+loop-less c = search needs
+
+loop-again : tie.Need-loop-again Inv-loop μ-loop
+loop-again c =
+    let l = c .before .before .before .before .before .before .loop in
+    let a = c .before .before .before .before .before .before .before .before .before .args in
+    let x = c .before .before .before .column in
+    let y = c .before .before .height in
+    let n = c .before .number-at2 in
+    seeks-step (a .chain .now) (a .turn) (l .x) (l .y) (l .least) (l .i) (l .inv) (x .result) (y .result) (n .result) (c .lesser .result) (omega arith) (omega arith) (x .ensures) (y .ensures) (n .ensures) (c .lesser .ensures)
+
+returns : tie.Need-returns Inv-loop μ-loop
+returns c =
+    let l = c .before .loop in
+    let a = c .before .before .before .before .args in
+    seeks-end (a .chain .now) (a .turn) (l .x) (l .y) (l .least) (l .i) (l .inv) (omega arith)
+
+pub place-spec : {M : Type 1} → statement M
+place-spec =
+    tie.close
+    (tie.spec
+    Inv-loop
+    μ-loop
+    number-at-requires
+    loop-holds
+    shared-slice-read-d
+    column-requires
+    height-requires
+    add-i
+    number-at-requires-2
+    lesser-requires
+    loop-less
+    loop-again
+    returns)

@@ -1,0 +1,46 @@
+-- `convex_room::from_west` meets its contract.
+-- Assumes nothing.
+use borrow.Author.Needs.{needs}
+use Rattle.convex_room.proofs.PartLaws.{west-told}
+use Rattle.convex_room.proofs.RoundLaws.{place-within}
+use native.Mathlib.Omega.{arith}
+use Rattle.convex_room.proofs.from_west.Statement.{statement}
+use Rattle.convex_room.proofs.from_west.Tie as tie
+
+place-requires : tie.Need-place-requires
+place-requires c κs = search needs
+
+place-requires-2 : tie.Need-place-requires-2
+place-requires-2 c κs = search needs
+
+place-requires-3 : tie.Need-place-requires-3
+place-requires-3 c κs = search needs
+
+by-parts-requires : tie.Need-by-parts-requires
+by-parts-requires c κs =
+    let z = c .before .before .before .before .before .before .before .before in
+    (z .pre .0, omega (arith, c .before .before .place3 .ensures, place-within 3 (z .args .room .now) (z .pre .1)), z .pre .2, z .pre .3, z .pre .4)
+
+same-length : tie.Need-same-length
+same-length c = search needs
+
+same-length-2 : tie.Need-same-length-2
+same-length-2 c = search needs
+
+returns : tie.Need-returns
+returns c =
+    let a = c .before .before .before .before .before .before .before .before .before .before .before .before .before .args in
+    let p = c .before .before .before .before .by-parts in
+    west-told (a .room .now) (c .before .before .before .before .before .before .before .before .before .place .result) (c .before .before .before .before .before .before .before .before .place2 .result) (c .before .before .before .before .before .before .before .place3 .result) (p .result) (c .before .before .before .before .before .before .before .before .before .place .ensures) (c .before .before .before .before .before .before .before .before .place2 .ensures) (c .before .before .before .before .before .before .before .place3 .ensures) (p .ensures)
+
+pub from-west-spec : {M : Type 1} → statement M
+from-west-spec =
+    tie.close
+    (tie.spec
+    place-requires
+    place-requires-2
+    place-requires-3
+    by-parts-requires
+    same-length
+    same-length-2
+    returns)

@@ -1,0 +1,44 @@
+-- `convex_room::step_at` meets its contract.
+-- Assumes nothing.
+use borrow.Author.Needs.{needs}
+use Rattle.convex_room.proofs.RoundLaws.{step-back, step-on}
+use lib.ListN.{length}
+use Prim.Native.Nat.{_-_}
+use native.Mathlib.Omega.{arith}
+use Rattle.convex_room.proofs.step_at.Statement.{statement}
+use Rattle.convex_room.proofs.step_at.Tie as tie
+
+sub-result : tie.Need-sub-result
+sub-result c = search needs
+
+sub-result-2 : tie.Need-sub-result-2
+sub-result-2 c = search needs
+
+shared-slice-read-result : tie.Need-shared-slice-read-result
+shared-slice-read-result c = search needs
+
+add-result : tie.Need-add-result
+add-result c =
+    let z = c .before .before in
+    omega (arith, z .pre .0 .digits (length (z .args .chain .now) - 1 - z .args .i))
+
+returns : tie.Need-returns
+returns c = let z = c .before .before in step-back (z .args .chain .now) (z .args .i) (z .pre .0) (z .pre .1) (z .args .back) (c .before .if1 .taken)
+
+shared-slice-read-result-2 : tie.Need-shared-slice-read-result-2
+shared-slice-read-result-2 c = search needs
+
+returns-2 : tie.Need-returns-2
+returns-2 c = let z = c .before .before in step-on (z .args .chain .now) (z .args .i) (z .args .back) (c .before .if1 .left)
+
+pub step-at-spec : {M : Type 1} → statement M
+step-at-spec =
+    tie.close
+    (tie.spec
+    sub-result
+    sub-result-2
+    shared-slice-read-result
+    add-result
+    returns
+    shared-slice-read-result-2
+    returns-2)

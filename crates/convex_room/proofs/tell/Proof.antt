@@ -1,0 +1,49 @@
+-- `convex_room::tell` meets its contract.
+-- Assumes nothing.
+use borrow.Author.Needs.{needs}
+use Rattle.convex_room.proofs.CallLaws.{call-short, call-digits, call-good, call-refused}
+use Rattle.convex_room.proofs.tell.Statement.{statement}
+use Rattle.convex_room.proofs.tell.Tie as tie
+
+judge-requires : tie.Need-judge-requires
+judge-requires c κs = search needs
+
+enum-told : tie.Need-enum-told
+enum-told c = search needs
+
+is-convex-requires : tie.Need-is-convex-requires
+is-convex-requires c κs =
+    let a = c .before .before .before .before .args in
+    let j = c .before .before .judge in
+    (call-digits (a .start) (a .chain .now) (j .result) (j .ensures) (c .enum-told .given .1), call-short (a .start) (a .chain .now) (j .result) (j .ensures) (c .enum-told .given .1))
+
+counted-requires : tie.Need-counted-requires
+counted-requires c κs = search needs
+
+enum-known-r : tie.Need-enum-known-r
+enum-known-r c = search needs
+
+returns : tie.Need-returns
+returns c =
+    let a = c .before .before .before .before .before .before .args in
+    let j = c .before .before .before .before .judge in
+    let v = c .before .is-convex in
+    call-good (a .start) (a .chain .now) (j .result) (j .ensures) (c .before .before .enum-told .given .1) (v .result) (v .ensures) (c .counted .result) (c .counted .ensures)
+
+returns-2 : tie.Need-returns-2
+returns-2 c =
+    let a = c .before .before .before .before .before .args in
+    let j = c .before .before .before .judge in
+    call-refused (a .start) (a .chain .now) (j .result) (j .ensures) _ (c .before .r .given .1)
+
+pub tell-spec : {M : Type 1} → statement M
+tell-spec =
+    tie.close
+    (tie.spec
+    judge-requires
+    enum-told
+    is-convex-requires
+    counted-requires
+    enum-known-r
+    returns
+    returns-2)

@@ -1,0 +1,2 @@
+-- What a room is laid down as.
+pub mod Laid

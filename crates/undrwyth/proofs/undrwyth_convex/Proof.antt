@@ -1,0 +1,36 @@
+-- `undrwyth::undrwyth_convex` meets its contract.
+-- Assumes nothing.
+use borrow.Author.Needs.{needs}
+use mathlib.Core.Path.{ap₂, subst}
+use mir.Syntax.{w32}
+use mir.ValLaws.{toZ-ofZ}
+use Rattle.grid.specs.declared.Corner.{Corner}
+use Rattle.grid.specs.Grid.{corner}
+use Rattle.convex.specs.Convex.{ConvexCall}
+use Rattle.undrwyth.proofs.WordLaws.{counted-first}
+use Rattle.undrwyth.proofs.BoundaryLaws.{convex-fits}
+use Rattle.undrwyth.proofs.undrwyth_convex.Statement.{statement}
+use Rattle.undrwyth.proofs.undrwyth_convex.Tie as tie
+
+tell-requires : tie.Need-tell-requires
+tell-requires c κs = search needs
+
+counted-words-requires : tie.Need-counted-words-requires
+counted-words-requires c κs = convex-fits _ (c .before .before .args .chain .now) (c .tell .result) (c .tell .ensures)
+
+array-read-result : tie.Need-array-read-result
+array-read-result c = search needs
+
+returns : tie.Need-returns
+returns c =
+    let z = c .before .before .before in
+    let w = c .before .tell in
+    record {
+      answer = w .result;
+      told = subst (λ (s : Corner). ConvexCall s (z .args .chain .now) (w .result)) (ap₂ corner (toZ-ofZ w32 (z .args .start-x) (z .fits .start-x)) (toZ-ofZ w32 (z .args .start-y) (z .fits .start-y))) (w .ensures);
+      words-are = c .counted-words .ensures;
+      result = counted-first (w .result) (c .counted-words .result) (c .counted-words .ensures);
+    }
+
+pub undrwyth-convex-spec : {M : Type 1} → statement M
+undrwyth-convex-spec = tie.close (tie.spec tell-requires counted-words-requires array-read-result returns)
