@@ -213,6 +213,12 @@ pub fn every_room(longest: usize, each: &mut impl FnMut(&[u8])) {
     go(&mut vec![(0, 0)], &mut Vec::new(), longest, each);
 }
 
+/// A room of n steps, n even: one panel wide and as high as can be, so that every row is a span.
+pub fn tower(n: usize) -> Vec<u8> {
+    let side = n / 2 - 1;
+    [vec![0], vec![1; side], vec![2], vec![3; side]].concat()
+}
+
 /// n steps, each in a random direction.
 pub fn wander(n: usize, random: &mut Random) -> Vec<u8> {
     (0..n).map(|_| random.step()).collect()

@@ -224,6 +224,7 @@ pub fn rooms(library: &Library) {
             inputs::room(n, &mut random),
             inputs::closed_spiral(n),
             inputs::closed_comb(n, 7),
+            inputs::tower(n),
         ] {
             rooms_of(library, &chain, &mut random);
         }
