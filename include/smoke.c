@@ -135,6 +135,35 @@ static void convex_rooms(void) {
     CHECK(undrwyth_convex(0, 0, one, 0, answer) == UNDRWYTH_REFUSAL_NOT_ROOM);
 }
 
+static void polygon_as_chain(void) {
+    const uint8_t room[] = {0, 1, 2, 3}, kept[] = {7, 7, 7, 7, 7}, read[] = {0, 1, 2, 3, 7};
+    const uint32_t found[] = {0, 0, 4, 16384, (uint32_t)-16384};
+    const uint32_t refused[] = {UNDRWYTH_REFUSAL_FILE_LENGTH, 0, 0, 0, 0};
+    uint8_t file[93], big[93], chain[] = {7, 7, 7, 7, 7};
+    uint32_t written[UNDRWYTH_POLYGON_ANSWER_WORDS], answer[UNDRWYTH_CHAIN_ANSWER_WORDS];
+    CHECK(undrwyth_polygon_of_room(16384, -16384, room, 4, file, 93, written) == UNDRWYTH_ACCEPTED);
+    CHECK(undrwyth_chain_of_polygon(NULL, 0, NULL, 0, answer) == UNDRWYTH_REFUSAL_FILE_LENGTH);
+    CHECK(undrwyth_chain_of_polygon(file, 92, chain, 5, answer) == UNDRWYTH_REFUSAL_FILE_LENGTH && SAME(answer, refused));
+    CHECK(undrwyth_chain_of_polygon(file, 93, chain, 3, answer) == UNDRWYTH_REFUSAL_CHAIN_ROOM && SAME(chain, kept));
+    CHECK(undrwyth_chain_of_polygon(file, 93, chain, 5, answer) == UNDRWYTH_ACCEPTED);
+    CHECK(SAME(answer, found) && SAME(chain, read));
+    big[0] = 0; /* the other byte order: three numbers of four bytes, then ten of eight */
+    for (size_t i = 1; i < sizeof file; i++) {
+        size_t from = i < 13 ? 1 + (i - 1) / 4 * 4 : 13 + (i - 13) / 8 * 8, bytes = i < 13 ? 4 : 8;
+        big[i] = file[2 * from + bytes - 1 - i];
+    }
+    memset(chain, 7, sizeof chain);
+    CHECK(undrwyth_chain_of_polygon(big, 93, chain, 5, answer) == UNDRWYTH_ACCEPTED);
+    CHECK(SAME(answer, found) && SAME(chain, read));
+    file[0] = 2;
+    CHECK(undrwyth_chain_of_polygon(file, 93, chain, 5, answer) == UNDRWYTH_REFUSAL_FILE_KIND);
+    big[13] ^= 1; /* the first x */
+    CHECK(undrwyth_chain_of_polygon(big, 93, chain, 5, answer) == UNDRWYTH_REFUSAL_BAD_COORDINATE);
+    big[13] ^= 1;
+    memcpy(big + 77, big + 61, 16); /* the last point is the one before it */
+    CHECK(undrwyth_chain_of_polygon(big, 93, chain, 5, answer) == UNDRWYTH_REFUSAL_BAD_RING && SAME(chain, read));
+}
+
 static void starts(void) {
     const uint8_t ops[] = {0, 4};
     uint32_t table[17 * UNDRWYTH_RECORD_WORDS], marks[4], answer[UNDRWYTH_WALK_ANSWER_WORDS];
@@ -203,6 +232,7 @@ int main(void) {
     room_as_polygon();
     room_by_rows();
     convex_rooms();
+    polygon_as_chain();
     starts();
     turns_and_back();
     lines();

@@ -24,6 +24,7 @@ static uint32_t table[(4 * MOST + 68) * UNDRWYTH_RECORD_WORDS], marks[UNDRWYTH_M
 static int32_t numbers[UNDRWYTH_CORNER_NUMBERS * (MOST + 1)];
 static uint8_t chain[MOST], round[2 * MOST];
 static uint32_t answer[UNDRWYTH_WALK_ANSWER_WORDS];
+static uint8_t rings[2][UNDRWYTH_POLYGON_HEADER_BYTES + 5 * UNDRWYTH_POINT_BYTES]; /* the highest byte first, the lowest */
 
 static void nothing(void) {}
 
@@ -50,6 +51,11 @@ static void polygon(void) { undrwyth_polygon_of_room(-7, 5, digits, count, file,
 static void rows(void) { undrwyth_rows(-7, 5, digits, count, numbers, sizeof numbers / sizeof numbers[0], answer); }
 
 static void convex(void) { undrwyth_convex(-7, 5, digits, count, answer); }
+
+static void chain_of(void) {
+    undrwyth_chain_of_polygon(rings[0], sizeof rings[0], chain, sizeof chain, answer);
+    undrwyth_chain_of_polygon(rings[1], sizeof rings[1], chain, sizeof chain, answer);
+}
 
 static void turns(void) {
     undrwyth_turns_of_steps(digits, count, chain, count, answer);
@@ -170,6 +176,23 @@ static void fill(int kind, size_t n) {
     count = n;
 }
 
+/* A ring of five points with n steps, n even, there and back twice, in both byte orders. */
+static void draw(size_t n) {
+    static const uint8_t heads[2][9] = {{0, 0, 0, 0, 3, 0, 0, 0, 1}, {1, 3, 0, 0, 0, 1, 0, 0, 0}};
+    for (int little = 0; little < 2; little++) {
+        uint8_t *to = rings[little] + UNDRWYTH_POLYGON_HEADER_BYTES;
+        memcpy(rings[little], heads[little], 9);
+        rings[little][little ? 9 : 12] = 5;
+        for (int i = 0; i < 10; i++) {
+            double x = i == 2 || i == 6 ? 600.0 * (double)(n / 4) : 0;
+            uint64_t bits;
+            memcpy(&bits, &x, 8);
+            for (int byte = 0; byte < 8; byte++)
+                *to++ = (uint8_t)(bits >> (little ? 8 * byte : 56 - 8 * byte));
+        }
+    }
+}
+
 int main(void) {
     static const struct {
         const char *name;
@@ -192,6 +215,7 @@ int main(void) {
         {"undrwyth_convex", convex, UNDRWYTH_CONVEX_STACK_BYTES},
         {"undrwyth_convex, at most 2,048 steps", convex_2048, UNDRWYTH_CONVEX_2048_STACK_BYTES},
         {"undrwyth_convex, at most 256 steps", convex_256, UNDRWYTH_CONVEX_256_STACK_BYTES},
+        {"undrwyth_chain_of_polygon", chain_of, UNDRWYTH_CHAIN_STACK_BYTES},
         {"undrwyth_turns_of_steps, undrwyth_steps_of_turns", turns, UNDRWYTH_TURNS_STACK_BYTES},
         {"undrwyth_line", line, UNDRWYTH_LINE_STACK_BYTES},
         {"undrwyth_convert_line", convert_line, UNDRWYTH_CONVERT_LINE_STACK_BYTES},
@@ -209,6 +233,7 @@ int main(void) {
         for (size_t l = 0; l < LENGTHS; l++)
             for (int kind = 0; kind < KINDS; kind++) {
                 fill(kind, lengths[l]);
+                draw(lengths[l]);
                 for (size_t c = 0; c < CALLS; c++) {
                     if (guarded) {
                         run(calls[c].call, (calls[c].told + around + 15) / 16 * 16);

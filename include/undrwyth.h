@@ -42,6 +42,7 @@ extern "C" {
 #define UNDRWYTH_MOST_STEPS 16384          /* surviving steps, at any moment */
 #define UNDRWYTH_MOST_START 16384          /* magnitude of a start's coordinates */
 #define UNDRWYTH_MOST_RECORDS 131148       /* records in a table */
+#define UNDRWYTH_MOST_CORNER 32768         /* magnitude of the coordinates of a polygon's corners */
 #define UNDRWYTH_MOST_LINE_DIGITS 1024     /* operations or turns in a frame */
 #define UNDRWYTH_LINE_RECORDS 320          /* records of the table in which a frame is walked */
 
@@ -74,12 +75,14 @@ extern "C" {
 #define UNDRWYTH_CONVEX_256_STACK_BYTES 3072    /* 2,248 measured */
 #define UNDRWYTH_CONVEX_2048_STACK_BYTES 17408  /* 16,584 measured */
 #define UNDRWYTH_CONVEX_STACK_BYTES 132096      /* 131,256 measured */
+#define UNDRWYTH_CHAIN_STACK_BYTES 512          /* 248 measured */
 #define UNDRWYTH_TURNS_STACK_BYTES 256          /* 16 measured */
 #define UNDRWYTH_CONVERT_LINE_STACK_BYTES 2560  /* 2,200 measured */
 #define UNDRWYTH_LINE_STACK_BYTES 65536         /* 53,336 measured */
 
 /* Refusals, in the order in which they are looked for: 1, 2, 3, 10; then 4, 5, 6 at the first faulty place; then 7, at
- * its first place; then 12; 8, 11, 13 and 21 last. */
+ * its first place; then 12; 8, 11, 13 and 21 last. A polygon that is read is refused 14, 15, 14 again, 16, 17, 6, 18, in
+ * this order. */
 #define UNDRWYTH_ACCEPTED 0
 #define UNDRWYTH_REFUSAL_TOO_MANY 1        /* more than UNDRWYTH_MOST_INPUT_BYTES input bytes */
 #define UNDRWYTH_REFUSAL_TABLE 2           /* words not UNDRWYTH_RECORD_WORDS times 1 to UNDRWYTH_MOST_RECORDS */
@@ -95,6 +98,11 @@ extern "C" {
 #define UNDRWYTH_REFUSAL_OUTLINE_ROOM 11   /* a buffer shorter than the outline */
 #define UNDRWYTH_REFUSAL_NOT_ROOM 12       /* the walk is no room */
 #define UNDRWYTH_REFUSAL_POLYGON_ROOM 13   /* a buffer shorter than the polygon */
+#define UNDRWYTH_REFUSAL_FILE_LENGTH 14    /* a file of fewer than 13 bytes, or not of 13 and 16 for each point */
+#define UNDRWYTH_REFUSAL_FILE_KIND 15      /* byte order, type or ring count */
+#define UNDRWYTH_REFUSAL_BAD_COORDINATE 16 /* a coordinate of a point is no whole multiple of 600, or too far out */
+#define UNDRWYTH_REFUSAL_BAD_RING 17       /* a slant, a repeated point, fewer than four points, or not closed */
+#define UNDRWYTH_REFUSAL_CHAIN_ROOM 18     /* a buffer shorter than the chain */
 #define UNDRWYTH_REFUSAL_RETIRED_KIND 19   /* a frame with turns; in answers of undrwyth_line alone */
 #define UNDRWYTH_REFUSAL_SPAN_ROOM 21      /* a buffer shorter than three numbers a span */
 
@@ -151,6 +159,14 @@ extern "C" {
 #define UNDRWYTH_CONVEX_NUMBER 0           /* the refusal's number */
 #define UNDRWYTH_CONVEX_PLACE 1            /* the refusal's place */
 #define UNDRWYTH_CONVEX_YES 2              /* 1 for yes, 0 for no */
+
+/* Words of the answer to a polygon that is read. */
+#define UNDRWYTH_CHAIN_ANSWER_WORDS 5
+#define UNDRWYTH_CHAIN_NUMBER 0            /* the refusal's number */
+#define UNDRWYTH_CHAIN_PLACE 1             /* the refusal's place */
+#define UNDRWYTH_CHAIN_STEPS 2             /* how many steps the chain has */
+#define UNDRWYTH_CHAIN_START_X 3           /* signed: x of the corner at which it starts */
+#define UNDRWYTH_CHAIN_START_Y 4           /* signed: y of it */
 
 /* Words of the answer to a conversion between steps and turns. */
 #define UNDRWYTH_TURNS_ANSWER_WORDS 2
@@ -302,6 +318,21 @@ uint32_t undrwyth_rows(int32_t start_x, int32_t start_y,
 uint32_t undrwyth_convex(int32_t start_x, int32_t start_y,
                          const uint8_t *chain, size_t n,
                          uint32_t answer[UNDRWYTH_CONVEX_ANSWER_WORDS]);
+
+/* Reads a polygon of one ring in Well-Known Binary, of either byte order, as a start corner and a chain of steps.
+ *
+ * Each coordinate is a whole multiple of 600 of magnitude at most 600 * UNDRWYTH_MOST_CORNER, those of the first point at
+ * most 600 * UNDRWYTH_MOST_START; minus zero is zero. Neighbouring points differ along exactly one axis, and the last is the
+ * first. A point on a straight wall is fine, and the ring may cross itself: it need not be a room.
+ *
+ * Any file_bytes and any chain_bytes are taken; UNDRWYTH_MOST_STEPS bytes of chain are always enough.
+ *
+ * Accepted: chain begins with the steps from point to point; the bytes after them are as they were. What
+ * undrwyth_polygon_of_room wrote gives back its start and its chain.
+ * Refused with 14, 15, 14 again, 16, 17, 6 (at place UNDRWYTH_MOST_STEPS) or 18, in this order: chain is as it was. */
+uint32_t undrwyth_chain_of_polygon(const uint8_t *file, size_t file_bytes,
+                                   uint8_t *chain, size_t chain_bytes,
+                                   uint32_t answer[UNDRWYTH_CHAIN_ANSWER_WORDS]);
 
 /* Turns n steps into turns: the first is the first step, each later one that step minus the one before, modulo 4.
  *

@@ -11,6 +11,7 @@ pub mod DigitLaws
 pub mod RoomCallLaws
 pub mod RowCallLaws
 pub mod OutlineCallLaws
+pub mod FileCallLaws
 pub mod Area
 pub mod Polygon
 pub mod ConvexLaws
@@ -19,4 +20,5 @@ pub mod Rows
 pub mod Outline
 pub mod Lines
 pub mod Overlay
+pub mod PolygonIn
 pub mod Demand

@@ -6,5 +6,6 @@ pub mod GivenHull
 pub mod GivenRoom
 pub mod GivenRows
 pub mod GivenOutline
+pub mod GivenFile
 pub mod Record
 pub mod Alone

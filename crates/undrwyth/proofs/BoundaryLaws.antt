@@ -13,9 +13,9 @@ use Rattle.answer.specs.declared.Answer.{Answer}
 use Rattle.answer.specs.declared.Counted.{Counted}
 use Rattle.answer.specs.declared.Judged.{Judged}
 use Rattle.answer.specs.declared.Judged.the-variants.{Good, Refused}
-use Rattle.answer.specs.declared.Refusal.the-variants.{TooMany, ResultRoom, BadDigit, TooLong, HullRoom, StartRange, OutlineRoom, NotRoom, PolygonRoom, SpanRoom}
-use Rattle.answer.specs.Limits.{startFits}
-use Rattle.answer.specs.Refusal.{when, orElse, judgedPlace}
+use Rattle.answer.specs.declared.Refusal.the-variants.{TooMany, ResultRoom, BadDigit, TooLong, HullRoom, StartRange, OutlineRoom, NotRoom, PolygonRoom, FileLength, FileKind, BadCoordinate, BadRing, ChainRoom, SpanRoom}
+use Rattle.answer.specs.Limits.{mostSteps, startFits}
+use Rattle.answer.specs.Refusal.{when, orElse, firstOf, judgedPlace}
 use Rattle.walk_call.specs.Walk.{walkJudged, factsOf, answerBy, WalkIs}
 use Rattle.grid.specs.declared.Corner.{Corner}
 use Rattle.hull.specs.Call.{chainJudged, roomJudged, hullJudged, countedOf, HullCall}
@@ -23,19 +23,23 @@ use Rattle.outline.specs.Call as outlines
 use Rattle.outline.specs.Call.{outlineJudged, OutlineCall}
 use Rattle.outline_laws.proofs.CallLaws.{judged-split}
 use Rattle.outline_laws.proofs.OutlineLaws.{outline-short}
+use Rattle.lists.specs.Lists.{any}
 use Rattle.steps.specs.Operations.{survivors}
 use Rattle.steps.specs.Turns.{digitsJudged, turnsJudged}
 use Rattle.lists.specs.Lists.{tally}
 use Rattle.room.specs.Room.{isRoom, asRoomJudged}
 use Rattle.convex.specs.Convex.{ConvexCall}
 use Rattle.polygon.specs.Polygon.{polygonOf, polygonJudged, PolygonCall}
+use Rattle.polygon_ring.specs.declared.Given.{Given}
+use Rattle.polygon_ring.specs.Ring.{orderOf, isNeither, isFaulty, isRing, lengthOf, countOf, pointsGiven, ringOf, readJudged, givenOf, ReadCall}
 use Rattle.polygon_laws.proofs.WriteLaws.{polygon-few}
+use Rattle.polygon_ring_laws.proofs.TripLaws.{read-few}
 use Rattle.row_call.specs.Call.{rowsJudged, RowsCall}
 use Rattle.row_laws.proofs.CallLaws.{rows-few}
 use Rattle.answer.proofs.RefusalLaws.{refused-not-good, orElse-good}
 use Rattle.walk_call.proofs.SmallLaws.{Placed, placed-when, placed-or, walk-placed, walk-few}
 use Rattle.hull_laws.proofs.HullLaws.{hull-count-steps}
-use Rattle.undrwyth.specs.Words.{AnswerFits, CountedFits}
+use Rattle.undrwyth.specs.Words.{AnswerFits, CountedFits, GivenFits}
 
 place-fits : (j : Judged) → Placed 32768 j → judgedPlace j < 2 ^ 32
 place-fits Good p = omega arith
@@ -157,3 +161,26 @@ convex-fits s ds r w = subst CountedFits (sym (w .answer)) (go (asRoomJudged s d
     go Good p true = omega arith
     go Good p false = omega arith
     go (Refused x) p b = omega (arith, p)
+
+placed-tests : (a b c d e f g : Bool)
+    → Placed 32768 (firstOf (when a FileLength ∷ when b FileKind ∷ when c FileLength ∷ when d BadCoordinate ∷ when e BadRing ∷ when f (TooLong mostSteps) ∷ when g ChainRoom ∷ []))
+placed-tests true b c d e f g = omega arith
+placed-tests false true c d e f g = omega arith
+placed-tests false false true d e f g = omega arith
+placed-tests false false false true e f g = omega arith
+placed-tests false false false false true f g = omega arith
+placed-tests false false false false false true g = omega arith
+placed-tests false false false false false false true = omega arith
+placed-tests false false false false false false false = tt
+
+read-placed : (file : List ℕ) (room : ℕ) → Placed 32768 (readJudged file room)
+read-placed file room =
+    placed-tests (ltb (length file) 13) (isNeither (orderOf file)) (not (eqb (length file) (13 + 16 * countOf file))) (any isFaulty (pointsGiven file)) (not (isRing (ringOf file)))
+    (ltb mostSteps (lengthOf (ringOf file))) (ltb room (lengthOf (ringOf file)))
+
+pub given-fits : (file before : List ℕ) (r : Given) (after : List ℕ) → ReadCall file before r after → GivenFits r
+given-fits file before r after w = subst GivenFits (sym (w .answer)) (go (readJudged file (length before)) refl)
+  where
+    go : (j : Judged) → readJudged file (length before) ≡ j → GivenFits (givenOf j (ringOf file))
+    go Good e = omega (arith, read-few file (length before) e)
+    go (Refused x) e = omega (arith, subst (Placed 32768) e (read-placed file (length before)))

@@ -11,12 +11,14 @@ use Rattle.line_reply.specs.Reply.{LineIs}
 use Rattle.line_reply.proofs.ReplyLaws as replyLaws
 use Rattle.line_convert.specs.Convert.{ConvertedIs}
 use Rattle.line_convert.proofs.ConvertLaws as convertLaws
+use Rattle.polygon_ring.specs.Words.{givenWords, givenNumber}
 use Rattle.demands.proofs.Demand.{walkIs-one, hullCall-one, turns-one}
 use Rattle.demands.proofs.Outline.{outlineCall-one}
 use Rattle.demands.proofs.Polygon.{polygonCall-one}
 use Rattle.demands.proofs.Convex.{convexCall-one}
+use Rattle.demands.proofs.PolygonIn.{readCall-one}
 use Rattle.demands.proofs.Rows.{rowsCall-one}
-use Rattle.undrwyth.specs.Boundary.{WalkGives, HullGives, OutlineGives, TurnsGive, PolygonGives, ConvexGives, RowsGives}
+use Rattle.undrwyth.specs.Boundary.{WalkGives, HullGives, OutlineGives, TurnsGive, PolygonGives, ChainGives, ConvexGives, RowsGives}
 
 pub walkGives-one : {c : Corner} {os t ms ch t₁ ms₁ ch₁ w₁ t₂ ms₂ ch₂ w₂ : List ℕ} {n₁ n₂ : ℕ} → WalkGives c os t ms ch n₁ t₁ ms₁ ch₁ w₁ → WalkGives c os t ms ch n₂ t₂ ms₂ ch₂ w₂
     → (n₁ ≡ n₂) × (t₁ ≡ t₂) × (ms₁ ≡ ms₂) × (ch₁ ≡ ch₂) × (w₁ ≡ w₂)
@@ -52,6 +54,12 @@ pub convexGives-one : {s : Corner} {chain w₁ w₂ : List ℕ} {n₁ n₂ : ℕ
 convexGives-one g h =
     let e = convexCall-one (g .told) (h .told) in
     (g .result ∙ ap countedNumber e ∙ sym (h .result), g .words-are ∙ ap countedWords e ∙ sym (h .words-are))
+
+pub chainGives-one : {file before after₁ after₂ w₁ w₂ : List ℕ} {n₁ n₂ : ℕ} → ChainGives file before n₁ after₁ w₁ → ChainGives file before n₂ after₂ w₂
+    → (n₁ ≡ n₂) × (after₁ ≡ after₂) × (w₁ ≡ w₂)
+chainGives-one g h =
+    let e = readCall-one (g .read) (h .read) in
+    (g .result ∙ ap givenNumber (e .0) ∙ sym (h .result), e .1, g .words-are ∙ ap givenWords (e .0) ∙ sym (h .words-are))
 
 pub turnsGive-one : (convert : List ℕ → List ℕ) {ds out out₁ out₂ w₁ w₂ : List ℕ} {n₁ n₂ : ℕ} → TurnsGive convert ds out n₁ out₁ w₁ → TurnsGive convert ds out n₂ out₂ w₂
     → (n₁ ≡ n₂) × (out₁ ≡ out₂) × (w₁ ≡ w₂)

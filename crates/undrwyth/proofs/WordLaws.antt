@@ -14,6 +14,8 @@ use Rattle.answer.specs.declared.Refusal.{Refusal}
 use Rattle.answer.specs.declared.Verdict.{Verdict}
 use Rattle.answer.specs.declared.Verdict.the-variants.{Nowhere, Open, Room, OpenMeeting, ClosedMeeting, ThereAndBack}
 use Rattle.answer.specs.Refusal.{refusalNumber, refusalPlace, verdictNumber}
+use Rattle.polygon_ring.specs.declared.{Given.Given, Found.Found}
+use Rattle.polygon_ring.specs.Words.{givenWords, givenNumber}
 use Rattle.answer.specs.Words.{bitsOf, factsWords, answerWords, countedWords, judgedWords, answerNumber, countedNumber}
 
 -- ---- the words of a refusal
@@ -26,6 +28,9 @@ refused-counted c r n p e h k = ap₂ (λ (x y : ℕ). x ∷ y ∷ 0 ∷ []) h k
 pub refused-judged : (j : Judged) (r : Refusal) (n p : ℕ) → j ≡ Refused r → n ≡ refusalNumber r → p ≡ refusalPlace r → n ∷ p ∷ [] ≡ judgedWords j
 refused-judged j r n p e h k = ap₂ (λ (x y : ℕ). x ∷ y ∷ []) h k ∙ sym (ap judgedWords e)
 
+pub refused-given : (g : Given) (r : Refusal) (n p : ℕ) → g ≡ Given.Refused r → n ≡ refusalNumber r → p ≡ refusalPlace r → n ∷ p ∷ 0 ∷ 0 ∷ 0 ∷ [] ≡ givenWords g
+refused-given g r n p e h k = ap₂ (λ (x y : ℕ). x ∷ y ∷ 0 ∷ 0 ∷ 0 ∷ []) h k ∙ sym (ap givenWords e)
+
 -- the first word is the result
 pub answer-first : (a : Answer) (w : List ℕ) → w ≡ answerWords a → getD w 0 0 ≡ answerNumber a
 answer-first (Answer.Accepted f) w e = ap (λ (l : List ℕ). getD l 0 0) e
@@ -34,6 +39,10 @@ answer-first (Answer.Refused r) w e = ap (λ (l : List ℕ). getD l 0 0) e
 pub counted-first : (c : Counted) (w : List ℕ) → w ≡ countedWords c → getD w 0 0 ≡ countedNumber c
 counted-first (Counted.Many n) w e = ap (λ (l : List ℕ). getD l 0 0) e
 counted-first (Counted.Refused r) w e = ap (λ (l : List ℕ). getD l 0 0) e
+
+pub given-first : (g : Given) (w : List ℕ) → w ≡ givenWords g → getD w 0 0 ≡ givenNumber g
+given-first (Given.Chain f) w e = ap (λ (l : List ℕ). getD l 0 0) e
+given-first (Given.Refused r) w e = ap (λ (l : List ℕ). getD l 0 0) e
 
 -- ---- the words of an accepted walk
 pub verdict-small : (v : Verdict) (n : ℕ) → n ≡ verdictNumber v → n < 6
@@ -49,3 +58,7 @@ pub accepted-words : (f : Facts) (v a x y : ℕ) → v ≡ verdictNumber (f .ver
 accepted-words f v a x y e₁ e₂ e₃ e₄ =
     ap₂ (λ (p q : ℕ). 0 ∷ 0 ∷ p ∷ f .steps ∷ f .nodes ∷ f .corners ∷ f .j ∷ f .k ∷ q ∷ x ∷ y ∷ []) e₁ e₂
     ∙ ap₂ (λ (p q : ℕ). 0 ∷ 0 ∷ verdictNumber (f .verdict) ∷ f .steps ∷ f .nodes ∷ f .corners ∷ f .j ∷ f .k ∷ bitsOf (f .area) ∷ p ∷ q ∷ []) e₃ e₄
+
+-- ---- those of a polygon that is accepted
+pub found-words : (f : Found) (x y : ℕ) → x ≡ bitsOf (f .start .0) → y ≡ bitsOf (f .start .1) → 0 ∷ 0 ∷ f .steps ∷ x ∷ y ∷ [] ≡ givenWords (Given.Chain f)
+found-words f x y e h = ap₂ (λ (p q : ℕ). 0 ∷ 0 ∷ f .steps ∷ p ∷ q ∷ []) e h

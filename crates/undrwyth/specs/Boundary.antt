@@ -16,6 +16,9 @@ use Rattle.steps.specs.Turns.{ConvertedBy}
 use Rattle.polygon.specs.Polygon.{PolygonCall}
 use Rattle.convex.specs.Convex.{ConvexCall}
 use Rattle.row_call.specs.Call.{RowsCall}
+use Rattle.polygon_ring.specs.declared.Given.{Given}
+use Rattle.polygon_ring.specs.Ring.{ReadCall}
+use Rattle.polygon_ring.specs.Words.{givenWords, givenNumber}
 use Rattle.answer.specs.Words.{answerWords, answerNumber, countedWords, countedNumber, judgedWords}
 
 -- the walk's promise, with its answer as numbers
@@ -59,6 +62,13 @@ pub record ConvexGives (s : Corner) (chain : List ℕ) (n : ℕ) (words : List �
   pub told : ConvexCall s chain answer
   pub words-are : words ≡ countedWords answer
   pub result : n ≡ countedNumber answer
+
+-- that of a polygon that is read
+pub record ChainGives (file before : List ℕ) (n : ℕ) (after words : List ℕ) : Type 0 where
+  pub answer : Given
+  pub read : ReadCall file before answer after
+  pub words-are : words ≡ givenWords answer
+  pub result : n ≡ givenNumber answer
 
 -- those of the two conversions
 pub record TurnsGive (convert : List ℕ → List ℕ) (ds out : List ℕ) (n : ℕ) (out′ words : List ℕ) : Type 0 where

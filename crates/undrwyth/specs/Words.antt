@@ -2,6 +2,7 @@
 use Rattle.lists.specs.Lists.{_^_, _<_}
 use Rattle.answer.specs.declared.{Answer.Answer, Counted.Counted}
 use Rattle.answer.specs.Refusal.{refusalPlace}
+use Rattle.polygon_ring.specs.declared.{Given.Given}
 
 -- of a walk
 abbrev pub AnswerFits : Answer → Type 0
@@ -12,3 +13,8 @@ AnswerFits (Answer.Refused r) = refusalPlace r < 2 ^ 32
 abbrev pub CountedFits : Counted → Type 0
 CountedFits (Counted.Many n) = n < 2 ^ 32
 CountedFits (Counted.Refused r) = refusalPlace r < 2 ^ 32
+
+-- of a polygon that is read
+abbrev pub GivenFits : Given → Type 0
+GivenFits (Given.Chain f) = f .steps < 2 ^ 32
+GivenFits (Given.Refused r) = refusalPlace r < 2 ^ 32

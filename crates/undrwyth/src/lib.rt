@@ -5,18 +5,22 @@ use answer::Facts;
 use answer::Judged;
 use grid::Corner;
 use line_fields::hex::bits;
+use polygon_ring::Found;
+use polygon_ring::Given;
 use turns::Way;
 ghost use mathlib.Core.Path.{_≡_};
 ghost use Prim.Native.Nat.{_^_, _<_};
 ghost use Rattle.answer.specs.Refusal.{judgedPlace};
 ghost use Rattle.answer.specs.Words.{factsWords, answerWords, countedWords, judgedWords};
 ghost use Rattle.grid.specs.Grid.{corner};
+ghost use Rattle.polygon_ring.specs.declared.Given.{Given};
+ghost use Rattle.polygon_ring.specs.Words.{givenWords};
 ghost use Rattle.turns.specs.Way.{convertOf};
-ghost use Rattle.undrwyth.specs.Words.{AnswerFits, CountedFits};
+ghost use Rattle.undrwyth.specs.Words.{AnswerFits, CountedFits, GivenFits};
 ghost use Rattle.line_reply.specs.Reply.{LineIs};
 ghost use Rattle.line_convert.specs.Convert.{ConvertedIs};
 ghost use Rattle.steps.specs.Turns.{turnsOf, stepsOf};
-ghost use Rattle.undrwyth.specs.Boundary.{WalkGives, HullGives, OutlineGives, TurnsGive, PolygonGives, ConvexGives, RowsGives};
+ghost use Rattle.undrwyth.specs.Boundary.{WalkGives, HullGives, OutlineGives, TurnsGive, PolygonGives, ChainGives, ConvexGives, RowsGives};
 
 // The numbers of an accepted walk.
 fn facts_words(f: Facts) -> [u32; 11]
@@ -70,6 +74,32 @@ fn counted_words(c: Counted) -> [u32; 3]
             let number = answer::refusal_number(r) as u32;
             let place = answer::refusal_place(r) as u32;
             [number, place, 0]
+        }
+    }
+}
+
+// The numbers of a polygon that is accepted.
+fn found_words(f: Found) -> [u32; 5]
+    requires { ⌜ f .steps < 2 ^ 32 ⌝ }
+    ensures { λ w. ⌜ w ≡ givenWords (Given.Chain f) ⌝ }
+{
+    let start = f.start;
+    let x = bits(start.0);
+    let y = bits(start.1);
+    [0, 0, f.steps as u32, x, y]
+}
+
+// The numbers of the answer to a polygon that is read.
+fn given_words(g: Given) -> [u32; 5]
+    requires { ⌜ GivenFits g ⌝ }
+    ensures { λ w. ⌜ w ≡ givenWords g ⌝ }
+{
+    match g {
+        Given::Chain(f) => found_words(f),
+        Given::Refused(r) => {
+            let number = answer::refusal_number(r) as u32;
+            let place = answer::refusal_place(r) as u32;
+            [number, place, 0, 0, 0]
         }
     }
 }
@@ -188,6 +218,21 @@ pub extern "C" fn undrwyth_convex(
 {
     let c = convex_room::tell(Corner(start_x, start_y), chain);
     let words = counted_words(c);
+    *answer = words;
+    words[0]
+}
+
+// Reads a polygon as a start and a chain.
+#[no_mangle]
+pub extern "C" fn undrwyth_chain_of_polygon(
+    file: &[u8],
+    chain: &mut [u8],
+    answer: &mut [u32; 5],
+) -> u32
+    ensures { λ n. ⌜ ChainGives (now (file .entry)) (now (chain .entry)) n (now (chain .exit)) (now (answer .exit)) ⌝ }
+{
+    let g = polygon_in::read(file, chain);
+    let words = given_words(g);
     *answer = words;
     words[0]
 }

@@ -31,6 +31,8 @@ pub const POLYGON_ANSWER_WORDS: usize = 3;
 pub const ROWS_ANSWER_WORDS: usize = 3;
 /// Words of the answer to the question whether a room is convex: number, place, 1 for yes or 0 for no.
 pub const CONVEX_ANSWER_WORDS: usize = 3;
+/// Words of the answer to a polygon that is read: number, place, steps, start x, start y.
+pub const CHAIN_ANSWER_WORDS: usize = 5;
 /// Words of the answer to a conversion between steps and turns: number, place.
 pub const TURNS_ANSWER_WORDS: usize = 2;
 

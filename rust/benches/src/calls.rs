@@ -4,7 +4,7 @@
 use std::collections::HashMap;
 use std::hint::black_box;
 
-use answer::{Facts, RECORD_WORDS, Refusal};
+use answer::{Facts, MOST_STEPS, RECORD_WORDS, Refusal};
 use compare::inputs::most_nodes;
 
 use crate::race::Call;
@@ -156,6 +156,20 @@ pub fn convex(
     Box::new(move || {
         for chain in inputs {
             black_box(convex((-7, 5), black_box(chain)).expect("it is a room"));
+        }
+    })
+}
+
+/// Each polygon as a start and a chain.
+pub fn chain(
+    chain: impl Fn(&[u8], &mut [u8]) -> Result<((i32, i32), usize), Refusal> + 'static,
+    files: &[Vec<u8>],
+) -> Call<'_> {
+    let mut out = vec![0; MOST_STEPS];
+    Box::new(move || {
+        for file in files {
+            let answer = chain(black_box(file), &mut out);
+            black_box(answer.expect("it is a ring"));
         }
     })
 }

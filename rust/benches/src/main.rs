@@ -4,7 +4,9 @@ mod calls;
 mod programs;
 mod race;
 
-use calls::{convert, convex, count_visits, hull, outline, polygon, rows, sorted_rows, walk};
+use calls::{
+    chain, convert, convex, count_visits, hull, outline, polygon, rows, sorted_rows, walk,
+};
 use compare::inputs::{self, Random};
 use race::race;
 
@@ -51,6 +53,8 @@ fn main() {
     rows_of_rooms();
     println!("\nconvex rooms, ns a step");
     convexes();
+    println!("\npolygons as chains, MB/s of the file");
+    files();
     println!("\nturns, ns a digit");
     turns();
     println!("\nprograms on lines, MB/s of input");
@@ -152,6 +156,37 @@ fn convexes() {
     }
 }
 
+/// The polygons of these rooms, in either byte order.
+fn polygons_of(rooms: &[Vec<u8>], little: bool) -> Vec<Vec<u8>> {
+    let points = |room| inputs::points((-7, 5), room, usize::MAX, &mut Random(1));
+    rooms
+        .iter()
+        .map(|room| inputs::polygon(&points(room), little))
+        .collect()
+}
+
+/// Seconds of a call on these files as megabytes a second.
+fn megabytes(files: &[Vec<u8>]) -> impl Fn(f64) -> f64 {
+    let bytes = files.iter().map(Vec::len).sum::<usize>();
+    move |seconds| bytes as f64 / 1e6 / seconds
+}
+
+fn files() {
+    for n in SIZES {
+        for (shape, rooms) in rooms(n) {
+            for (order, little) in [("little", true), ("big", false)] {
+                let files = polygons_of(&rooms, little);
+                race(vec![
+                    ("proved", chain(undrwyth::chain_of_polygon, &files)),
+                    ("twin", chain(twin::chain_of_polygon, &files)),
+                    ("lists", chain(plain::chain_of_polygon, &files)),
+                ])
+                .print(&format!("chain/{shape}-{order}/{n}"), megabytes(&files));
+            }
+        }
+    }
+}
+
 fn turns() {
     for n in SIZES {
         let inputs = several(n, |random| inputs::wander(n, random));
@@ -197,6 +232,12 @@ fn growth() {
             ("8192", rows(undrwyth::rows, &short)),
         ])
         .print(&format!("growth-rows/{shape}"), ns);
+        let (long, short) = (polygons_of(&long, true), polygons_of(&short, true));
+        race(vec![
+            ("16384", chain(undrwyth::chain_of_polygon, &long)),
+            ("8192", chain(undrwyth::chain_of_polygon, &short)),
+        ])
+        .print(&format!("growth-chain/{shape}"), ns);
     }
     let ovals = |n: usize| several(n, |_| inputs::oval(n, n / 4));
     let (long, short) = (ovals(16_384), ovals(8_192));

@@ -4,8 +4,8 @@ use std::fmt::Debug;
 use std::sync::atomic::{AtomicU64, Ordering};
 
 use answer::{
-    CONVEX_ANSWER_WORDS, HULL_ANSWER_WORDS, OUTLINE_ANSWER_WORDS, POLYGON_ANSWER_WORDS,
-    ROWS_ANSWER_WORDS, TURNS_ANSWER_WORDS, WALK_ANSWER_WORDS,
+    CHAIN_ANSWER_WORDS, CONVEX_ANSWER_WORDS, HULL_ANSWER_WORDS, OUTLINE_ANSWER_WORDS,
+    POLYGON_ANSWER_WORDS, ROWS_ANSWER_WORDS, TURNS_ANSWER_WORDS, WALK_ANSWER_WORDS,
 };
 
 use crate::{Convert, Library, Line, PLAIN};
@@ -178,6 +178,20 @@ pub fn convex(library: &Library, start: (i32, i32), chain: &[u8]) -> [u32; CONVE
     let (ours, plain) = (run(library), run(&PLAIN));
     same("convex's number", chain, &ours.0, &plain.0);
     same("convex's answer", chain, &ours.1, &plain.1);
+    plain.1
+}
+
+/// Compares a polygon that is read, with a chain buffer of this length, and gives the answer.
+pub fn chain(library: &Library, file: &[u8], chain: usize) -> [u32; CHAIN_ANSWER_WORDS] {
+    let run = |library: &Library| {
+        let (mut chain, mut answer) = (Lent::bytes(chain), [u32::MAX; CHAIN_ANSWER_WORDS]);
+        let number = (library.chain_of_polygon)(file, chain.part(), &mut answer);
+        ([number], answer, chain.0)
+    };
+    let (ours, plain) = (run(library), run(&PLAIN));
+    same("chain's number", file, &ours.0, &plain.0);
+    same("chain's answer", file, &ours.1, &plain.1);
+    same("chain's buffer", file, &ours.2, &plain.2);
     plain.1
 }
 

@@ -362,6 +362,119 @@ pub fn walk(most: usize, random: &mut Random) -> Vec<u8> {
     ops
 }
 
+/// A polygon of one ring with these points, x and y each, in either byte order.
+pub fn polygon(points: &[(f64, f64)], little: bool) -> Vec<u8> {
+    let order = |bytes: &[u8]| match little {
+        true => bytes.to_vec(),
+        false => bytes.iter().rev().copied().collect(),
+    };
+    let mut file = vec![u8::from(little)];
+    for number in [3, 1, points.len() as u32] {
+        file.extend(order(&number.to_le_bytes()));
+    }
+    for (x, y) in points {
+        file.extend(order(&x.to_le_bytes()));
+        file.extend(order(&y.to_le_bytes()));
+    }
+    file
+}
+
+/// The points of the walk of `chain` from `start`: its ends, each corner where it turns, and now and then one on a straight wall.
+pub fn points(
+    start: (i32, i32),
+    chain: &[u8],
+    between: usize,
+    random: &mut Random,
+) -> Vec<(f64, f64)> {
+    let mut at = start;
+    let mut corners = vec![at];
+    for (k, &step) in chain.iter().enumerate() {
+        at = stepped(at, step % 4);
+        if chain.get(k + 1) != Some(&step) || random.once_in(between) {
+            corners.push(at);
+        }
+    }
+    let millimetres = |v: i32| 600.0 * f64::from(v);
+    corners
+        .into_iter()
+        .map(|(x, y)| (millimetres(x), millimetres(y)))
+        .collect()
+}
+
+/// Floats at which a coordinate is tried: zeros, the ends of both ranges and one step or one panel past each, fractions, the least and the
+/// largest numbers, and what is none.
+pub fn special() -> Vec<f64> {
+    let mut floats = vec![
+        0.0, 0.1, 300.0, 599.9, 600.0, 600.1, 601.0, 1_200.0, 1e9, 1e300,
+    ];
+    for end in [600.0, 9_830_400.0, 19_660_800.0_f64] {
+        floats.extend([
+            end,
+            end.next_up(),
+            end.next_down(),
+            end + 600.0,
+            end - 600.0,
+            end + 0.1,
+        ]);
+    }
+    floats.extend([
+        f64::from_bits(1),
+        f64::MIN_POSITIVE,
+        f64::MAX,
+        f64::INFINITY,
+    ]);
+    floats.extend([
+        f64::from_bits(1 << 52 | 1),
+        2_f64.powi(32),
+        600.0 * 2_f64.powi(40),
+    ]);
+    for nan in [
+        0x7ff0_0000_0000_0001,
+        0x7ff8_0000_0000_0000,
+        0x7fff_ffff_ffff_ffff,
+    ] {
+        floats.push(f64::from_bits(nan));
+    }
+    let negative: Vec<f64> = floats
+        .iter()
+        .map(|float| f64::from_bits(float.to_bits() | 1 << 63))
+        .collect();
+    [floats, negative].concat()
+}
+
+/// A file: mostly a ring of up to `most` steps, in either byte order, now and then damaged.
+pub fn file(most: usize, random: &mut Random) -> Vec<u8> {
+    let mut chain = walk(most, random);
+    chain.retain(|&step| step < 4);
+    if random.once_in(3) {
+        let back: Vec<u8> = chain.iter().rev().map(|step| (step + 2) % 4).collect();
+        chain.extend(back);
+    }
+    let between = [1, 2, 5, usize::MAX][random.below(4)];
+    let mut points = points(start(random), &chain, between, random);
+    let place = random.below(points.len());
+    match random.below(12) {
+        0 => points[place].0 = special()[random.below(special().len())],
+        1 => points[place].1 = f64::from_bits(random.number()),
+        2 => points.insert(place, points[place]),
+        3 => points[place].1 += 600.0 * random.below(9) as f64,
+        4 => {
+            points.remove(place);
+        }
+        _ => {}
+    }
+    let mut file = polygon(&points, random.once_in(2));
+    let place = random.below(file.len());
+    match random.below(12) {
+        0 => file[place] = random.number() as u8,
+        1 => file.truncate(place),
+        2 => file.push(0),
+        3 => file[random.below(13)] ^= 1 << random.below(8),
+        _ => {}
+    }
+    file
+}
+
 /// The frame of these digits.
 pub fn frame(kind: u8, digits: &[u8]) -> Vec<u8> {
     let mut line = format!("{kind:02x}{:04x}", digits.len());

@@ -5,8 +5,9 @@ pub mod inputs;
 pub mod suite;
 
 use answer::{
-    CONVEX_ANSWER_WORDS, Facts, HULL_ANSWER_WORDS, NO_MEETING, OUTLINE_ANSWER_WORDS,
-    POLYGON_ANSWER_WORDS, ROWS_ANSWER_WORDS, Refusal, TURNS_ANSWER_WORDS, WALK_ANSWER_WORDS,
+    CHAIN_ANSWER_WORDS, CONVEX_ANSWER_WORDS, Facts, HULL_ANSWER_WORDS, NO_MEETING,
+    OUTLINE_ANSWER_WORDS, POLYGON_ANSWER_WORDS, ROWS_ANSWER_WORDS, Refusal, TURNS_ANSWER_WORDS,
+    WALK_ANSWER_WORDS,
 };
 
 /// The calls of an implementation, with the answers of the C boundary.
@@ -17,6 +18,7 @@ pub struct Library {
     pub polygon_of_room: Polygon,
     pub rows: Rows,
     pub convex: Convex,
+    pub chain_of_polygon: Chain,
     pub turns_of_steps: Convert,
     pub steps_of_turns: Convert,
     pub line: Line,
@@ -45,6 +47,9 @@ pub type Line = fn(&[u8], &mut [u8]) -> usize;
 /// Whether a room, by its start and chain, is convex.
 pub type Convex = fn((i32, i32), &[u8], &mut [u32; CONVEX_ANSWER_WORDS]) -> u32;
 
+/// A polygon as a start and a chain.
+pub type Chain = fn(&[u8], &mut [u8], &mut [u32; CHAIN_ANSWER_WORDS]) -> u32;
+
 /// A conversion between steps and turns.
 pub type Convert = fn(&[u8], &mut [u8], &mut [u32; TURNS_ANSWER_WORDS]) -> u32;
 
@@ -57,6 +62,7 @@ pub const PROVED: Library = Library {
     polygon_of_room: undrwyth::raw::polygon_of_room,
     rows: undrwyth::raw::rows,
     convex: undrwyth::raw::convex,
+    chain_of_polygon: undrwyth::raw::chain_of_polygon,
     turns_of_steps: undrwyth::raw::turns_of_steps,
     steps_of_turns: undrwyth::raw::steps_of_turns,
     line: undrwyth::raw::line,
@@ -95,6 +101,15 @@ macro_rules! library {
                 tell(
                     answer,
                     $of::convex(start, chain).map(|yes| [u32::from(yes)]),
+                )
+            },
+            chain_of_polygon: |file, chain, answer| {
+                let found = $of::chain_of_polygon(file, chain);
+                tell(
+                    answer,
+                    found.map(|((x, y), steps)| {
+                        [steps as u32, x.cast_unsigned(), y.cast_unsigned()]
+                    }),
                 )
             },
             turns_of_steps: |steps, out, answer| {

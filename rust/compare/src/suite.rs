@@ -1,7 +1,8 @@
 //! What is compared: all short inputs, every limit and one past it, random and damaged inputs of all lengths.
 
 use answer::{
-    LINE_BYTES, MOST_INPUT, MOST_LINE_DIGITS, MOST_RECORDS, MOST_START, MOST_STEPS, RECORD_WORDS,
+    CHAIN_ANSWER_WORDS, LINE_BYTES, MOST_INPUT, MOST_LINE_DIGITS, MOST_RECORDS, MOST_START,
+    MOST_STEPS, POLYGON_ANSWER_WORDS, RECORD_WORDS,
 };
 
 use crate::inputs::{self, Random};
@@ -57,6 +58,30 @@ fn polygon_near(library: &Library, start: (i32, i32), chain: &[u8]) {
         let right = bytes as usize;
         for out in [0, right - 1, right, right + 1] {
             calls::polygon(library, start, chain, out);
+        }
+        back(library, start, chain, right);
+    }
+}
+
+/// Reading the polygon of a room gives back start and chain.
+fn back(library: &Library, start: (i32, i32), chain: &[u8], bytes: usize) {
+    let (mut file, mut steps) = (vec![0; bytes], vec![9; chain.len()]);
+    let (mut written, mut answer) = ([0; POLYGON_ANSWER_WORDS], [0; CHAIN_ANSWER_WORDS]);
+    (library.polygon_of_room)(start, chain, &mut file, &mut written);
+    (library.chain_of_polygon)(&file, &mut steps, &mut answer);
+    let (x, y) = (start.0.cast_unsigned(), start.1.cast_unsigned());
+    assert_eq!(answer, [0, 0, chain.len() as u32, x, y]);
+    assert!(steps == chain);
+}
+
+/// A file with the least chain buffer that has room, with one byte less and with one more.
+fn chain_near(library: &Library, file: &[u8]) {
+    let [number, _, steps, _, _] = calls::chain(library, file, MOST_STEPS + 1);
+    calls::chain(library, file, 0);
+    if number == 0 {
+        let right = steps as usize;
+        for out in [right - 1, right, right + 1] {
+            calls::chain(library, file, out);
         }
     }
 }
@@ -344,6 +369,111 @@ fn convex_of(library: &Library, room: &[u8], random: &mut Random) {
     calls::convex(library, (0, 0), &chain[1..]);
 }
 
+/// Polygons that are read, in both byte orders: rooms that were written, rings with every byte in each place, of every length, with every
+/// special float in each coordinate; long edges, rings of as many steps as may be and one panel more, files that count far more points than
+/// they have.
+pub fn files(library: &Library) {
+    let mut random = Random(11);
+    for little in [true, false] {
+        let ring = |start, chain: &[u8], between, random: &mut Random| {
+            inputs::polygon(&inputs::points(start, chain, between, random), little)
+        };
+        let room = ring((3, -2), &[0, 1, 2, 3], 1, &mut random);
+        for place in 0..room.len() {
+            let mut damaged = room.clone();
+            for byte in 0..=u8::MAX {
+                damaged[place] = byte;
+                calls::chain(library, &damaged, 4);
+            }
+            calls::chain(library, &room[..place], 4);
+            calls::chain(library, &[&room[..], &room[..place]].concat(), 4);
+        }
+        for (start, chain) in [
+            ((0, 0), &[0, 1, 2, 3][..]),
+            ((MOST_START, -MOST_START), &[0, 0, 1, 2, 2, 3]),
+            ((-MOST_START, MOST_START), &[2, 1, 0, 3]),
+        ] {
+            let points = inputs::points(start, chain, usize::MAX, &mut random);
+            for place in 0..points.len() {
+                for float in inputs::special() {
+                    for (x, y) in [
+                        (float, points[place].1),
+                        (points[place].0, float),
+                        (float, float),
+                    ] {
+                        let mut tried = points.clone();
+                        tried[place] = (x, y);
+                        chain_near(library, &inputs::polygon(&tried, little));
+                    }
+                }
+            }
+        }
+        for n in [
+            4_094,
+            MOST_STEPS / 2 - 1,
+            MOST_STEPS / 2,
+            MOST_STEPS / 2 + 1,
+        ] {
+            for way in 0..4 {
+                let there_and_back = [vec![way; n], vec![(way + 2) % 4; n]].concat();
+                for between in [1, 2, 1_000, usize::MAX] {
+                    for start in [(0, 0), (MOST_START, MOST_START), (-MOST_START, -MOST_START)] {
+                        chain_near(library, &ring(start, &there_and_back, between, &mut random));
+                    }
+                }
+            }
+        }
+        for edge in [16_383, 16_384, 16_385, 32_768] {
+            let far = 600.0 * f64::from(edge);
+            let slot = [
+                (0.0, 0.0),
+                (far, 0.0),
+                (far, 600.0),
+                (0.0, 600.0),
+                (0.0, 0.0),
+            ];
+            chain_near(library, &inputs::polygon(&slot, little));
+            chain_near(library, &inputs::polygon(&slot[..4], little));
+            chain_near(
+                library,
+                &inputs::polygon(&[slot[0], slot[1], slot[1], slot[0]], little),
+            );
+        }
+        for count in [
+            5 + 0x1000_0000,
+            5 + 0x2000_0000,
+            u32::MAX,
+            268_435_455,
+            0,
+            4,
+            6,
+        ] {
+            let mut counted = room.clone();
+            let bytes = if little {
+                count.to_le_bytes()
+            } else {
+                count.to_be_bytes()
+            };
+            counted[9..13].copy_from_slice(&bytes);
+            calls::chain(library, &counted, 4);
+        }
+        for n in [8, 64, 1_024, MOST_STEPS] {
+            for chain in [
+                inputs::room(n, &mut random),
+                inputs::closed_spiral(n),
+                inputs::closed_comb(n, 7),
+            ] {
+                for between in [1, 3, usize::MAX] {
+                    chain_near(
+                        library,
+                        &ring(inputs::start(&mut random), &chain, between, &mut random),
+                    );
+                }
+            }
+        }
+    }
+}
+
 /// Every header byte by byte, every count with fitting and unfitting digits, every byte in a short frame.
 pub fn lines(library: &Library) {
     let line = |line: &[u8]| calls::line(library, line, LINE_BYTES);
@@ -444,7 +574,9 @@ pub fn random_calls(library: &Library, random: &mut Random) {
         random_walk(library, 1_024, random);
         random_chain(library, random);
         calls::line(library, &inputs::line(random), LINE_BYTES + random.below(2));
+        chain_near(library, &inputs::file(400, random));
     }
+    chain_near(library, &inputs::file(MOST_STEPS, random));
 }
 
 /// A walk of up to `most` operations, in tables that have room and that have none.

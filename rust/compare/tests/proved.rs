@@ -53,6 +53,12 @@ fn wrapper() {
             undrwyth::convex((n as i32, -1), &ops),
             plain::convex((n as i32, -1), &ops)
         );
+        let file = inputs::file(100, &mut random);
+        let read = |chain: fn(&[u8], &mut [u8]) -> _| chain(&file, &mut [0; 90]);
+        assert_eq!(
+            read(undrwyth::chain_of_polygon),
+            read(plain::chain_of_polygon)
+        );
         let turned = |convert: fn(&[u8], &mut [u8]) -> _| convert(&ops, &mut vec![0; n]);
         assert_eq!(
             turned(undrwyth::turns_of_steps),

@@ -1,8 +1,9 @@
-//! Rooms as polygons in Well-Known Binary, with floats put together bit by bit.
+//! Rooms as polygons in Well-Known Binary, with floats put together bit by bit; and polygons as chains, with the floats of the
+//! machine.
 
 use std::collections::HashSet;
 
-use answer::Refusal;
+use answer::{MOST_STEPS, Refusal};
 
 use crate::grid::{Corner, corners};
 use crate::hull;
@@ -67,6 +68,79 @@ fn float(whole: i64) -> u64 {
     };
     let digits = (magnitude << (52 - highest)) - (1 << 52);
     u64::from(whole < 0) << 63 | u64::from(1_023 + highest) << 52 | digits
+}
+
+/// Reads a polygon of either byte order, writes its steps to the start of `chain`, and answers its start and how many there are.
+pub fn chain_of_polygon(file: &[u8], chain: &mut [u8]) -> Result<(Corner, usize), Refusal> {
+    let corners = ring(&floats(file)?)?;
+    let steps: Vec<u8> = corners
+        .windows(2)
+        .flat_map(|two| run(two[0], two[1]))
+        .take(MOST_STEPS + 1)
+        .collect();
+    if steps.len() > MOST_STEPS {
+        return Err(Refusal::TooLong(MOST_STEPS as u32));
+    }
+    let part = chain.get_mut(..steps.len()).ok_or(Refusal::ChainRoom)?;
+    part.copy_from_slice(&steps);
+    Ok((corners[0], steps.len()))
+}
+
+/// The coordinates of all points, x and y in turn.
+fn floats(file: &[u8]) -> Result<Vec<f64>, Refusal> {
+    let (header, points) = file.split_at_checked(13).ok_or(Refusal::FileLength)?;
+    let little = match header[0] {
+        0 => false,
+        1 => true,
+        _ => return Err(Refusal::FileKind),
+    };
+    let number = |at: usize| {
+        let bytes = header[at..at + 4].try_into().expect("four bytes");
+        let number = [u32::from_be_bytes, u32::from_le_bytes][usize::from(little)];
+        number(bytes)
+    };
+    if number(1) != 3 || number(5) != 1 {
+        return Err(Refusal::FileKind);
+    }
+    if file.len() as u64 != 13 + 16 * u64::from(number(9)) {
+        return Err(Refusal::FileLength);
+    }
+    let float = [f64::from_be_bytes, f64::from_le_bytes][usize::from(little)];
+    Ok(points.as_chunks().0.iter().copied().map(float).collect())
+}
+
+/// The corners of the points, if they are a ring.
+fn ring(floats: &[f64]) -> Result<Vec<Corner>, Refusal> {
+    let mut corners = Vec::new();
+    for (i, point) in floats.chunks(2).enumerate() {
+        let most = if i == 0 { 9_830_400.0 } else { 19_660_800.0 };
+        if point
+            .iter()
+            .any(|float| float % 600.0 != 0.0 || float.abs() > most)
+        {
+            return Err(Refusal::BadCoordinate);
+        }
+        corners.push(((point[0] / 600.0) as i32, (point[1] / 600.0) as i32));
+    }
+    let straight = |two: &[Corner]| (two[0].0 == two[1].0) != (two[0].1 == two[1].1);
+    let closed = corners.len() >= 4 && corners.first() == corners.last();
+    if closed && corners.windows(2).all(straight) {
+        Ok(corners)
+    } else {
+        Err(Refusal::BadRing)
+    }
+}
+
+/// The steps from one corner straight to another.
+fn run(from: Corner, to: Corner) -> impl Iterator<Item = u8> {
+    let (east, north) = (to.0 - from.0, to.1 - from.1);
+    let step = match (east.signum(), north.signum()) {
+        (1, _) => 0,
+        (-1, _) => 2,
+        (_, 1) => 1,
+        _ => 3,
+    };
+    std::iter::repeat_n(step, (east.abs() + north.abs()) as usize)
 }
 
 #[cfg(test)]

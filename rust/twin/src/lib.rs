@@ -15,7 +15,7 @@ pub use convex::convex;
 pub use hull::hull;
 pub use line::{convert_line, converter, line, program};
 pub use outline::outline;
-pub use polygon::{judge_room, polygon_of_room};
+pub use polygon::{chain_of_polygon, judge_room, polygon_of_room};
 pub use rows::rows;
 pub use turns::{steps_of_turns, turns_of_steps};
 pub use walk::walk;

@@ -1,6 +1,7 @@
-//! Rooms as polygons: whether a walk is a room by threads through its columns, and the points written one after the other.
+//! Rooms as polygons: whether a walk is a room by threads through its columns, and the points written one after the other. And
+//! polygons as chains: one pass over the points judges them, one writes the steps.
 
-use answer::Refusal;
+use answer::{MOST_STEPS, Refusal};
 
 use crate::hull;
 use crate::tree::Corner;
@@ -98,4 +99,92 @@ fn write(start: Corner, chain: &[u8], out: &mut [u8]) -> Option<usize> {
     }
     put(start);
     Some(bytes)
+}
+
+/// Reads a polygon of either byte order, writes its steps to the start of `chain`, and answers its start and how many there are.
+pub fn chain_of_polygon(file: &[u8], chain: &mut [u8]) -> Result<((i32, i32), usize), Refusal> {
+    let (header, points) = file.split_at_checked(13).ok_or(Refusal::FileLength)?;
+    match &header[..9] {
+        b"\x01\x03\x00\x00\x00\x01\x00\x00\x00" => read(
+            header,
+            points,
+            u32::from_le_bytes,
+            f64::from_le_bytes,
+            chain,
+        ),
+        b"\x00\x00\x00\x00\x03\x00\x00\x00\x01" => read(
+            header,
+            points,
+            u32::from_be_bytes,
+            f64::from_be_bytes,
+            chain,
+        ),
+        _ => Err(Refusal::FileKind),
+    }
+}
+
+/// The same where the byte order is known.
+#[inline]
+fn read(
+    header: &[u8],
+    points: &[u8],
+    number: impl Fn([u8; 4]) -> u32,
+    float: impl Fn([u8; 8]) -> f64,
+    chain: &mut [u8],
+) -> Result<((i32, i32), usize), Refusal> {
+    let count = number(header[9..].try_into().expect("four bytes"));
+    if points.len() as u64 != 16 * u64::from(count) {
+        return Err(Refusal::FileLength);
+    }
+    let (points, _) = points.as_chunks::<16>();
+    let corner = |point: &[u8; 16], most: f64| {
+        let whole = |at: usize| {
+            let x = float(point[at..at + 8].try_into().expect("eight bytes"));
+            let k = x / 600.0;
+            (k.trunc() == k && k * 600.0 == x && k.abs() <= most).then_some(k as i32)
+        };
+        let (x, y) = (whole(0)?, whole(8)?);
+        Some(Corner { x, y })
+    };
+    let (first, later) = points.split_first().ok_or(Refusal::BadRing)?;
+    let first = corner(first, 16_384.0).ok_or(Refusal::BadCoordinate)?;
+    let (mut at, mut straight, mut steps) = (first, true, 0);
+    for point in later {
+        let next = corner(point, 32_768.0).ok_or(Refusal::BadCoordinate)?;
+        straight &= (at.x == next.x) != (at.y == next.y);
+        steps = (steps + distance(at, next)).min(MOST_STEPS + 1);
+        at = next;
+    }
+    if later.len() < 3 || !straight || at != first {
+        return Err(Refusal::BadRing);
+    }
+    if steps > MOST_STEPS {
+        return Err(Refusal::TooLong(MOST_STEPS as u32));
+    }
+    let mut rest = chain.get_mut(..steps).ok_or(Refusal::ChainRoom)?;
+    for point in later {
+        let next = corner(point, 32_768.0).expect("it was judged");
+        let run;
+        (run, rest) = rest.split_at_mut(distance(at, next));
+        run.fill(direction(at, next));
+        at = next;
+    }
+    Ok(((first.x, first.y), steps))
+}
+
+fn distance(a: Corner, b: Corner) -> usize {
+    (a.x.abs_diff(b.x) + a.y.abs_diff(b.y)) as usize
+}
+
+/// The direction from one corner straight to another.
+fn direction(a: Corner, b: Corner) -> u8 {
+    if a.x < b.x {
+        0
+    } else if b.x < a.x {
+        2
+    } else if a.y < b.y {
+        1
+    } else {
+        3
+    }
 }

@@ -142,6 +142,29 @@ pub fn convex(start: (i32, i32), chain: &[u8]) -> Result<bool, Refusal> {
     Ok(answer[2] == 1)
 }
 
+/// Reads a polygon of one ring in Well-Known Binary, of either byte order: writes the steps along its points to the start of
+/// `chain`, and answers the corner at which they start and how many there are. The bytes after them are unchanged.
+///
+/// ```
+/// let mut file = [0; 93];
+/// undrwyth::polygon_of_room((5, -7), &[0, 1, 2, 3], &mut file)?;
+/// let mut chain = [9; 5];
+/// assert_eq!(undrwyth::chain_of_polygon(&file, &mut chain), Ok(((5, -7), 4)));
+/// assert_eq!(chain, [0, 1, 2, 3, 9]);
+/// assert_eq!(
+///     undrwyth::chain_of_polygon(&file[..92], &mut chain),
+///     Err(undrwyth::Refusal::FileLength)
+/// );
+/// # Ok::<(), undrwyth::Refusal>(())
+/// ```
+pub fn chain_of_polygon(file: &[u8], chain: &mut [u8]) -> Result<((i32, i32), usize), Refusal> {
+    let mut answer = [0; CHAIN_ANSWER_WORDS];
+    let number = raw::chain_of_polygon(file, chain, &mut answer);
+    accepted(number, answer[1])?;
+    let [_, _, steps, x, y] = answer;
+    Ok(((x.cast_signed(), y.cast_signed()), steps as usize))
+}
+
 /// Writes the turns of `steps` to `out`, which has the same length: the first step, then each step minus the one before,
 /// modulo 4.
 ///

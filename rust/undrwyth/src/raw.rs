@@ -1,8 +1,8 @@
 //! The calls of the C boundary as they are, on slices: include/undrwyth.h says what each does.
 
 use answer::{
-    CONVEX_ANSWER_WORDS, HULL_ANSWER_WORDS, OUTLINE_ANSWER_WORDS, POLYGON_ANSWER_WORDS,
-    ROWS_ANSWER_WORDS, TURNS_ANSWER_WORDS, WALK_ANSWER_WORDS,
+    CHAIN_ANSWER_WORDS, CONVEX_ANSWER_WORDS, HULL_ANSWER_WORDS, OUTLINE_ANSWER_WORDS,
+    POLYGON_ANSWER_WORDS, ROWS_ANSWER_WORDS, TURNS_ANSWER_WORDS, WALK_ANSWER_WORDS,
 };
 
 mod c {
@@ -61,6 +61,13 @@ mod c {
             start_y: i32,
             chain: *const u8,
             n: usize,
+            answer: *mut u32,
+        ) -> u32;
+        pub fn undrwyth_chain_of_polygon(
+            file: *const u8,
+            file_bytes: usize,
+            chain: *mut u8,
+            chain_bytes: usize,
             answer: *mut u32,
         ) -> u32;
         pub fn undrwyth_turns_of_steps(
@@ -206,6 +213,24 @@ pub fn convex(start: (i32, i32), chain: &[u8], answer: &mut [u32; CONVEX_ANSWER_
             start.0,
             start.1,
             chain.as_ptr(),
+            chain.len(),
+            answer.as_mut_ptr(),
+        )
+    }
+}
+
+/// `undrwyth_chain_of_polygon`: the refusal's number, 0 for none.
+pub fn chain_of_polygon(
+    file: &[u8],
+    chain: &mut [u8],
+    answer: &mut [u32; CHAIN_ANSWER_WORDS],
+) -> u32 {
+    // SAFETY: as for walk.
+    unsafe {
+        c::undrwyth_chain_of_polygon(
+            file.as_ptr(),
+            file.len(),
+            chain.as_mut_ptr(),
             chain.len(),
             answer.as_mut_ptr(),
         )

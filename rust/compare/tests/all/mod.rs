@@ -46,6 +46,11 @@ fn convex_rooms() {
 }
 
 #[test]
+fn files() {
+    suite::files(&LIBRARY);
+}
+
+#[test]
 fn starts() {
     suite::starts(&LIBRARY, LONGEST / 3);
 }

@@ -1,0 +1,51 @@
+-- `polygon_in::fill` meets its contract.
+-- Assumes nothing.
+use borrow.Author.Needs.{needs}
+use Rattle.polygon_ring_laws.proofs.RingLaws.{fill-more, fill-last}
+use Rattle.polygon_laws.proofs.BytesLaws.{Laid, laid-first}
+use lib.ListN.{replicate}
+use native.Mathlib.Omega.{arith}
+use Prim.Native.Nat.{_-_}
+use Rattle.polygon_in.proofs.fill.Statement.{statement}
+use Rattle.polygon_in.proofs.fill.Tie as tie
+
+abbrev Inv-loop : tie.InvT-loop
+Inv-loop buf₀ d n i₀ buf i = Laid buf₀ (replicate n d) buf i
+
+abbrev μ-loop : tie.MeasureT-loop
+μ-loop buf₀ d n i₀ buf i = n - i
+
+loop-holds : tie.Need-loop-holds Inv-loop μ-loop
+loop-holds c = laid-first
+
+slice-write-buf : tie.Need-slice-write-buf Inv-loop μ-loop
+slice-write-buf c = search needs
+
+add-i : tie.Need-add-i Inv-loop μ-loop
+add-i c = search needs
+
+loop-less : tie.Need-loop-less Inv-loop μ-loop
+loop-less c = search needs
+
+loop-again : tie.Need-loop-again Inv-loop μ-loop
+loop-again c = let s = c .before .before in fill-more (s .args .buf .now) (c .before .loop .buf) (s .args .d) (s .args .n) (c .before .loop .i) (s .pre) (c .loop-test .taken) (c .before .loop .inv)
+
+same-length : tie.Need-same-length Inv-loop μ-loop
+same-length c = search needs
+
+returns : tie.Need-returns Inv-loop μ-loop
+returns c = let s = c .before .before in fill-last (s .args .buf .now) (c .before .loop .buf) (s .args .d) (s .args .n) (c .before .loop .i) (omega arith) (c .before .loop .inv)
+
+pub fill-spec : {M : Type 1} → statement M
+fill-spec =
+    tie.close
+    (tie.spec
+    Inv-loop
+    μ-loop
+    loop-holds
+    slice-write-buf
+    add-i
+    loop-less
+    loop-again
+    same-length
+    returns)

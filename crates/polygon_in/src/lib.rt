@@ -1,0 +1,316 @@
+// Rings in, in two passes over the points: the first judges them and their neighbours, the second writes the chain. No pass keeps more than
+// three corners.
+use answer::Refusal;
+use grid::Corner;
+use polygon_ring::Found;
+use polygon_ring::Given;
+use polygon_ring::Order;
+use polygon_ring::Point;
+use polygon_ring::Spot;
+use polygon_take::big_point;
+use polygon_take::judge;
+use polygon_take::little_point;
+use polygon_take::number;
+use polygon_take::order;
+use walk_corner::alike;
+ghost use mathlib.Core.Path.{_≡_};
+ghost use mathlib.Core.Bool.{_&&_, false};
+ghost use mathlib.Core.List.{_++_};
+ghost use Prim.Native.Nat.{_+_, _-_, _*_, _≤_, _<_};
+ghost use lib.Dec.{eqb, leb};
+ghost use lib.IntN.{natAbs, _-ℤ_};
+ghost use lib.ListN.{length, drop, replicate};
+ghost use lib.Signed.{ltZ};
+ghost use Rattle.grid.specs.Grid.{corner, eqZ, same};
+ghost use Rattle.polygon_ring.specs.Ring.{mostAt, pointAt, pointsFrom, isFaulty, cornerIn, straight, apart, directionOf, lengthOf, chainOfPoints, countIn, givenOf, ReadCall};
+ghost use Rattle.polygon_ring_laws.specs.Reading.{Near, ringFrom, capped, ringJudged, ReadIn};
+ghost use Rattle.polygon_in.specs.Measure.{measuredBy, measuredOf};
+
+// What the first pass finds: a point that is no corner, points that are no ring, or how many steps a ring has. MANY stands for
+// any number above 16,384.
+pub enum Measured {
+    Faulty,
+    Broken,
+    Steps(usize),
+}
+
+impl Measured {
+    pub const MANY: usize = 16_385;
+}
+
+// How far from 0 a coordinate of point i may lie, in panels.
+fn most_at(i: usize) -> u64
+    ensures { λ r. ⌜ r ≡ mostAt i ⌝ }
+{
+    if i == 0 {
+        Point::MOST_FIRST
+    } else {
+        Point::MOST
+    }
+}
+
+// What point i is as a corner.
+fn point_at(points: &[u8], little: bool, i: usize) -> Spot
+    requires { ⌜ 16 * (i + 1) ≤ length (now points) ⌝ }
+    ensures { λ r. ⌜ r ≡ pointAt little (now (points .entry)) i ⌝ }
+{
+    let most = most_at(i);
+    if little {
+        judge(little_point(&points[16 * i..]), most)
+    } else {
+        judge(big_point(&points[16 * i..]), most)
+    }
+}
+
+fn is_faulty(j: Spot) -> bool
+    ensures { λ r. ⌜ r ≡ isFaulty j ⌝ }
+{
+    match j {
+        Spot::At(_, _) => false,
+        Spot::Faulty => true,
+    }
+}
+
+fn corner_of(x: i32, y: i32) -> Corner
+    ensures { λ r. ⌜ r ≡ corner x y ⌝ }
+{
+    Corner(x, y)
+}
+
+fn corner_in(j: Spot) -> Corner
+    ensures { λ r. ⌜ r ≡ cornerIn j ⌝ }
+{
+    match j {
+        Spot::At(x, y) => corner_of(x, y),
+        Spot::Faulty => Corner(0, 0),
+    }
+}
+
+// The corner that point i is.
+fn corner_at(points: &[u8], little: bool, i: usize) -> Corner
+    requires { ⌜ 16 * (i + 1) ≤ length (now points) ⌝ }
+    ensures { λ r. ⌜ r ≡ cornerIn (pointAt little (now (points .entry)) i) ⌝ }
+{
+    match point_at(points, little, i) {
+        Spot::At(x, y) => corner_of(x, y),
+        Spot::Faulty => Corner(0, 0),
+    }
+}
+
+fn equal(x: i32, y: i32) -> bool
+    ensures { λ r. ⌜ r ≡ eqZ x y ⌝ }
+{
+    x == y
+}
+
+fn less(x: i32, y: i32) -> bool
+    ensures { λ r. ⌜ r ≡ ltZ x y ⌝ }
+{
+    x < y
+}
+
+fn gap(x: i32, y: i32) -> usize
+    requires { ⌜ (natAbs x ≤ 32768) × (natAbs y ≤ 32768) ⌝ }
+    ensures { λ r. ⌜ r ≡ natAbs (y -ℤ x) ⌝ }
+{
+    if less(x, y) {
+        (y - x) as usize
+    } else {
+        (x - y) as usize
+    }
+}
+
+// Whether a and b differ along exactly one axis.
+fn is_straight(a: Corner, b: Corner) -> bool
+    requires { ⌜ Near a × Near b ⌝ }
+    ensures { λ r. ⌜ r ≡ straight a b ⌝ }
+{
+    let level = equal(a.1, b.1);
+    if equal(a.0, b.0) { !level } else { level }
+}
+
+// How far apart a and b are.
+fn distance(a: Corner, b: Corner) -> usize
+    requires { ⌜ Near a × Near b ⌝ }
+    ensures { λ r. ⌜ r ≡ apart a b ⌝ }
+{
+    gap(a.0, b.0) + gap(a.1, b.1)
+}
+
+// The direction of the way from a to b along one axis.
+fn direction(a: Corner, b: Corner) -> u8
+    requires { ⌜ Near a × Near b ⌝ }
+    ensures { λ r. ⌜ r ≡ directionOf a b ⌝ }
+{
+    if less(a.0, b.0) {
+        return 0;
+    }
+    if less(b.0, a.0) {
+        return 2;
+    }
+    if less(a.1, b.1) {
+        return 1;
+    }
+    3
+}
+
+fn cap(n: usize) -> usize
+    ensures { λ r. ⌜ r ≡ capped n ⌝ }
+{
+    if n > Found::MOST_STEPS {
+        Measured::MANY
+    } else {
+        n
+    }
+}
+
+// Whether a and b differ along exactly one axis, and so it was before.
+fn goes_on(line: bool, a: Corner, b: Corner) -> bool
+    requires { ⌜ Near a × Near b ⌝ }
+    ensures { λ r. ⌜ r ≡ («line» && straight a b) ⌝ }
+{
+    if line { is_straight(a, b) } else { false }
+}
+
+// What n points on one line after the other are, where the ring begins at first, ends at last and has so many steps.
+fn closed(n: usize, line: bool, first: Corner, last: Corner, steps: usize) -> Measured
+    ensures { λ r. ⌜ r ≡ measuredBy false (leb 4 n && same last first && «line») steps ⌝ }
+{
+    if n < 4 {
+        return Measured::Broken;
+    }
+    if !alike(last, first) {
+        return Measured::Broken;
+    }
+    if line {
+        Measured::Steps(steps)
+    } else {
+        Measured::Broken
+    }
+}
+
+// Judges the n points and their neighbours, and adds up how far apart they are.
+fn measure(points: &[u8], little: bool, n: usize) -> Measured
+    requires { ⌜ 16 * n ≤ length (now points) ⌝ }
+    ensures { λ r. ⌜ r ≡ measuredOf (pointsFrom little (now (points .entry)) 0 n) ⌝ }
+{
+    if n == 0 {
+        return Measured::Broken;
+    }
+    let p = point_at(points, little, 0);
+    if is_faulty(p) {
+        return Measured::Faulty;
+    }
+    let first = corner_in(p);
+    let mut a = first;
+    let mut line = true;
+    let mut steps = 0;
+    let mut i = 1;
+    while i < n {
+        match point_at(points, little, i) {
+            Spot::Faulty => return Measured::Faulty,
+            Spot::At(x, y) => {
+                let b = corner_of(x, y);
+                line = goes_on(line, a, b);
+                steps = cap(steps + distance(a, b));
+                a = b;
+            }
+        }
+        i += 1;
+    }
+    closed(n, line, first, a, steps)
+}
+
+// Writes n times d at the start of buf.
+fn fill(buf: &mut [u8], d: u8, n: usize)
+    requires { ⌜ n ≤ length (now buf) ⌝ }
+    ensures { λ _. ⌜ now (buf .exit) ≡ replicate n d ++ drop n (now (buf .entry)) ⌝ }
+{
+    let mut i = 0;
+    while i < n {
+        buf[i] = d;
+        i += 1;
+    }
+}
+
+// Writes the steps along the n points at the start of out: the part that is left is lent for each pair of neighbours.
+fn put_chain(points: &[u8], little: bool, n: usize, out: &mut [u8])
+    requires { ⌜ (16 * n ≤ length (now points)) × (0 < n) × (lengthOf (ringFrom little (now points) 0 n) ≤ length (now out)) ⌝ }
+    ensures { λ _. ⌜ now (out .exit) ≡ chainOfPoints (ringFrom little (now (points .entry)) 0 n) ++ drop (lengthOf (ringFrom little (now (points .entry)) 0 n)) (now (out .entry)) ⌝ }
+{
+    let mut a = corner_at(points, little, 0);
+    let mut at = 0;
+    let mut i = 1;
+    while i < n {
+        let b = corner_at(points, little, i);
+        let k = distance(a, b);
+        fill(&mut out[at..], direction(a, b), k);
+        at += k;
+        a = b;
+        i += 1;
+    }
+}
+
+// Judges the n points, and answers start and number of steps. Refuses 16, 17, 6 and 18.
+fn survey(points: &[u8], little: bool, n: usize, room: usize) -> Given
+    requires { ⌜ 16 * n ≤ length (now points) ⌝ }
+    ensures { λ r. ⌜ r ≡ givenOf (ringJudged (pointsFrom little (now (points .entry)) 0 n) room) (ringFrom little (now (points .entry)) 0 n) ⌝ }
+{
+    match measure(points, little, n) {
+        Measured::Faulty => Given::Refused(Refusal::BadCoordinate),
+        Measured::Broken => Given::Refused(Refusal::BadRing),
+        Measured::Steps(steps) => {
+            if steps > Found::MOST_STEPS {
+                return Given::Refused(Refusal::TooLong(Found::MOST_STEPS));
+            }
+            if room < steps {
+                return Given::Refused(Refusal::ChainRoom);
+            }
+            let start = corner_at(points, little, 0);
+            Given::Chain(Found { start, steps })
+        }
+    }
+}
+
+// Whether the file has thirteen bytes and sixteen for each point counted. The product is not taken: it might not fit.
+fn is_whole(file: &[u8], little: bool) -> bool
+    requires { ⌜ 13 ≤ length (now file) ⌝ }
+    ensures { λ r. ⌜ r ≡ eqb (length (now (file .entry))) (13 + 16 * countIn little (now (file .entry))) ⌝ }
+{
+    let count = number(&file[9..13], little);
+    let rest = file.len() - 13;
+    if rest % 16 != 0 {
+        return false;
+    }
+    count == (rest / 16) as u64
+}
+
+// Reads a file in this byte order. Refuses 14 by the length, and then what the survey refuses.
+fn read_in(file: &[u8], little: bool, chain: &mut [u8]) -> Given
+    requires { ⌜ 13 ≤ length (now file) ⌝ }
+    ensures { λ r. ⌜ ReadIn little (now (file .entry)) (now (chain .entry)) r (now (chain .exit)) ⌝ }
+{
+    if !is_whole(file, little) {
+        return Given::Refused(Refusal::FileLength);
+    }
+    let n = (file.len() - 13) / 16;
+    let given = survey(&file[13..], little, n, chain.len());
+    if let Given::Chain(_) = given {
+        put_chain(&file[13..], little, n, chain);
+    }
+    given
+}
+
+// Reads a polygon of one ring: its start and number of steps are answered, its steps written at the start of chain.
+pub fn read(file: &[u8], chain: &mut [u8]) -> Given
+    ensures { λ r. ⌜ ReadCall (now (file .entry)) (now (chain .entry)) r (now (chain .exit)) ⌝ }
+{
+    if file.len() < 13 {
+        return Given::Refused(Refusal::FileLength);
+    }
+    match order(file) {
+        Order::Little => read_in(file, true, chain),
+        Order::Big => read_in(file, false, chain),
+        Order::Neither => Given::Refused(Refusal::FileKind),
+    }
+}

@@ -1,0 +1,4 @@
+-- Cases of polygons that are read.
+pub mod CoordinateCases
+pub mod RingCases
+pub mod CallLaws

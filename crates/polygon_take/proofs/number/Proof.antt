@@ -1,0 +1,23 @@
+-- `polygon_take::number` meets its contract.
+-- Assumes nothing.
+use borrow.Author.Needs.{needs}
+use mathlib.Core.Path.{sym, ap, _∙_}
+use mathlib.Core.Bool.{Bool}
+use Rattle.polygon_ring.specs.Bytes.{numberIn}
+use Rattle.polygon_take.proofs.number.Statement.{statement}
+use Rattle.polygon_take.proofs.number.Tie as tie
+
+little-requires : tie.Need-little-requires
+little-requires c κs = search needs
+
+big-requires : tie.Need-big-requires
+big-requires c κs = search needs
+
+returns : tie.Need-returns
+returns c = c .little .ensures ∙ ap (λ (b : Bool). numberIn b (c .before .before .before .args .s .now)) (sym (c .before .if1 .taken))
+
+returns-2 : tie.Need-returns-2
+returns-2 c = c .big .ensures ∙ ap (λ (b : Bool). numberIn b (c .before .before .before .args .s .now)) (sym (c .before .if1 .left))
+
+pub number-spec : {M : Type 1} → statement M
+number-spec = tie.close (tie.spec little-requires big-requires returns returns-2)
