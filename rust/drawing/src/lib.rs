@@ -1,11 +1,13 @@
-//! What the proved library answers, for people who draw: pictures of records, and a sheet with the polygons of rooms.
-//! Nothing is judged here.
+//! What the proved library answers, for people who draw: pictures of records, a sheet with the polygons of rooms, and polygons read
+//! back. Nothing is judged here.
 
+mod chain;
 mod picture;
 mod sheet;
 
 use undrwyth::{Facts, LINE_BYTES, RECORD_WORDS, Refusal};
 
+pub use chain::chain;
 pub use picture::svg;
 pub use sheet::{Ended, sheet};
 

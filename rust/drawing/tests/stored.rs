@@ -111,3 +111,19 @@ fn lines() {
         [format!("1,{bad}"), "2,0,0,5,2,2,2,0,2,0,".to_owned()]
     );
 }
+
+/// A room's polygon from the sheet, read back; in upper case too; and what is no polygon.
+#[test]
+fn back() {
+    let rows = sheet(b"00001c0000000000111122222222223333\n");
+    let polygon = rows
+        .trim_end()
+        .rsplit(',')
+        .next()
+        .expect("a row has columns");
+    let chain = Ok("0 0 0000000000111122222222223333".to_owned());
+    assert_eq!(drawing::chain(polygon.as_bytes()), chain);
+    assert_eq!(drawing::chain(polygon.to_uppercase().as_bytes()), chain);
+    assert_eq!(drawing::chain(b"0103").map_err(|r| r.number()), Err(14));
+    assert_eq!(drawing::chain(b"01x").map_err(|r| r.number()), Err(14));
+}
