@@ -21,12 +21,12 @@ static void check(int holds, const char *what) {
 
 static void walk_of_a_room(void) {
     const uint8_t ops[] = {0, 1, 2, 3};
-    uint32_t table[4 * UNDRWYTH_RECORD_WORDS], marks[8], answer[UNDRWYTH_WALK_ANSWER_WORDS];
+    uint32_t table[4 * UNDRWYTH_RECORD_WORDS], marks[12], answer[UNDRWYTH_WALK_ANSWER_WORDS];
     uint8_t chain[4];
     memset(table, 255, sizeof table);
-    CHECK(undrwyth_walk(0, 0, ops, 4, table, LENGTH(table), marks, 8, chain, 4, answer) == UNDRWYTH_ACCEPTED);
+    CHECK(undrwyth_walk(0, 0, ops, 4, table, LENGTH(table), marks, 12, chain, 4, answer) == UNDRWYTH_ACCEPTED);
     const uint32_t facts[] = {0, 0, UNDRWYTH_VERDICT_ROOM, 4, 4, 4, 0, 4, 1, 0, 0};
-    const uint32_t pairs[] = {2, 1, 3, 1, 4, 1, 4, 2};
+    const uint32_t pairs[] = {2, 1, 2, 3, 1, 3, 4, 1, 3, 4, 2, 2};
     const uint32_t root[UNDRWYTH_RECORD_WORDS] = {
         [UNDRWYTH_WORD_CHILD_ODD_EVEN] = 2,  [UNDRWYTH_WORD_CHILD_ODD_ODD] = 3,  [UNDRWYTH_WORD_CHILD_EVEN_ODD] = 4,
         [UNDRWYTH_WORD_NEIGHBOUR_EAST] = 2,  [UNDRWYTH_WORD_LINK_STEP_EAST] = 1, [UNDRWYTH_WORD_NEIGHBOUR_NORTH] = 4,
@@ -42,20 +42,20 @@ static void walk_of_a_room(void) {
 static void walks_refused(void) {
     uint8_t ops[] = {0, 0, 1, 1}, chain[] = {7, 7, 7, 7};
     const uint8_t no_steps[4] = {0}, kept[] = {7, 7, 7, 7};
-    const uint32_t no_records[5 * UNDRWYTH_RECORD_WORDS] = {0}, no_marks[8] = {0};
-    uint32_t table[5 * UNDRWYTH_RECORD_WORDS] = {7}, marks[8] = {7}, answer[UNDRWYTH_WALK_ANSWER_WORDS];
-    CHECK(undrwyth_walk(0, 0, ops, 4, table, LENGTH(table) - 1, marks, 8, chain, 4, answer) == UNDRWYTH_REFUSAL_TABLE);
-    CHECK(undrwyth_walk(0, 0, ops, 4, table, LENGTH(table), marks, 8, chain, 3, answer) == UNDRWYTH_REFUSAL_RESULT_ROOM);
+    const uint32_t no_records[5 * UNDRWYTH_RECORD_WORDS] = {0}, no_marks[12] = {0};
+    uint32_t table[5 * UNDRWYTH_RECORD_WORDS] = {7}, marks[12] = {7}, answer[UNDRWYTH_WALK_ANSWER_WORDS];
+    CHECK(undrwyth_walk(0, 0, ops, 4, table, LENGTH(table) - 1, marks, 12, chain, 4, answer) == UNDRWYTH_REFUSAL_TABLE);
+    CHECK(undrwyth_walk(0, 0, ops, 4, table, LENGTH(table), marks, 12, chain, 3, answer) == UNDRWYTH_REFUSAL_RESULT_ROOM);
     CHECK(SAME(chain, kept) && table[0] == 7 && marks[0] == 7);
-    CHECK(undrwyth_walk(0, 0, ops, 4, table, LENGTH(table), marks, 8, chain, 4, answer) == UNDRWYTH_REFUSAL_NO_ROOM);
+    CHECK(undrwyth_walk(0, 0, ops, 4, table, LENGTH(table), marks, 12, chain, 4, answer) == UNDRWYTH_REFUSAL_NO_ROOM);
     const uint32_t no_room[UNDRWYTH_WALK_ANSWER_WORDS] = {UNDRWYTH_REFUSAL_NO_ROOM, 3};
     CHECK(SAME(answer, no_room));
     CHECK(SAME(table, no_records) && SAME(marks, no_marks) && SAME(chain, no_steps));
     ops[1] = 5;
-    CHECK(undrwyth_walk(0, 0, ops, 2, table, LENGTH(table), marks, 4, chain, 2, answer) == UNDRWYTH_REFUSAL_BAD_DIGIT);
+    CHECK(undrwyth_walk(0, 0, ops, 2, table, LENGTH(table), marks, 6, chain, 2, answer) == UNDRWYTH_REFUSAL_BAD_DIGIT);
     CHECK(answer[UNDRWYTH_WALK_PLACE] == 1);
     ops[0] = 4;
-    CHECK(undrwyth_walk(0, 0, ops, 1, table, LENGTH(table), marks, 2, chain, 1, answer) == UNDRWYTH_REFUSAL_NOTHING_TO_TAKE);
+    CHECK(undrwyth_walk(0, 0, ops, 1, table, LENGTH(table), marks, 3, chain, 1, answer) == UNDRWYTH_REFUSAL_NOTHING_TO_TAKE);
     CHECK(undrwyth_walk(0, 0, NULL, 0, NULL, 0, NULL, 0, NULL, 0, answer) == UNDRWYTH_REFUSAL_TABLE);
     CHECK(undrwyth_walk(0, 0, NULL, 0, table, UNDRWYTH_RECORD_WORDS, NULL, 0, NULL, 0, answer) == UNDRWYTH_ACCEPTED);
     CHECK(answer[UNDRWYTH_WALK_VERDICT] == UNDRWYTH_VERDICT_NOWHERE && answer[UNDRWYTH_WALK_J] == UNDRWYTH_NO_MEETING);
@@ -166,15 +166,15 @@ static void polygon_as_chain(void) {
 
 static void starts(void) {
     const uint8_t ops[] = {0, 4};
-    uint32_t table[17 * UNDRWYTH_RECORD_WORDS], marks[4], answer[UNDRWYTH_WALK_ANSWER_WORDS];
+    uint32_t table[17 * UNDRWYTH_RECORD_WORDS], marks[6], answer[UNDRWYTH_WALK_ANSWER_WORDS];
     uint32_t counted[UNDRWYTH_HULL_ANSWER_WORDS];
     uint8_t chain[2];
     int32_t out[2] = {7, 7};
-    CHECK(undrwyth_walk(16384, -16384, ops, 2, table, LENGTH(table), marks, 4, chain, 2, answer) == UNDRWYTH_ACCEPTED);
+    CHECK(undrwyth_walk(16384, -16384, ops, 2, table, LENGTH(table), marks, 6, chain, 2, answer) == UNDRWYTH_ACCEPTED);
     CHECK(answer[UNDRWYTH_WALK_NODES] == 16 && answer[UNDRWYTH_WALK_LAST_X] == 16384);
     CHECK((int32_t)answer[UNDRWYTH_WALK_LAST_Y] == -16384 && table[UNDRWYTH_WORD_VISITS] == 0);
     CHECK(undrwyth_walk(3, -2, NULL, 0, table, 2 * UNDRWYTH_RECORD_WORDS, NULL, 0, NULL, 0, answer) == UNDRWYTH_REFUSAL_NO_ROOM);
-    CHECK(undrwyth_walk(0, 16385, ops, 2, table, LENGTH(table), marks, 4, chain, 2, answer) == UNDRWYTH_REFUSAL_START_RANGE);
+    CHECK(undrwyth_walk(0, 16385, ops, 2, table, LENGTH(table), marks, 6, chain, 2, answer) == UNDRWYTH_REFUSAL_START_RANGE);
     CHECK(undrwyth_hull(INT32_MIN, 0, NULL, 0, out, 2, counted) == UNDRWYTH_REFUSAL_START_RANGE && out[0] == 7);
     CHECK(undrwyth_hull(-5, 9, NULL, 0, out, 2, counted) == UNDRWYTH_ACCEPTED && out[0] == -5 && out[1] == 9);
 }

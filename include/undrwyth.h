@@ -15,9 +15,9 @@
  * complement.
  *
  *     const uint8_t ops[4] = {0, 1, 2, 3};
- *     uint32_t table[17 * UNDRWYTH_RECORD_WORDS], marks[8], answer[UNDRWYTH_WALK_ANSWER_WORDS];
+ *     uint32_t table[17 * UNDRWYTH_RECORD_WORDS], marks[12], answer[UNDRWYTH_WALK_ANSWER_WORDS];
  *     uint8_t chain[4];
- *     if (undrwyth_walk(0, 0, ops, 4, table, 17 * UNDRWYTH_RECORD_WORDS, marks, 8, chain, 4, answer) != 0)
+ *     if (undrwyth_walk(0, 0, ops, 4, table, 17 * UNDRWYTH_RECORD_WORDS, marks, 12, chain, 4, answer) != 0)
  *         printf("refusal %u at %u\n", (unsigned)answer[UNDRWYTH_WALK_NUMBER], (unsigned)answer[UNDRWYTH_WALK_PLACE]);
  *     else if (answer[UNDRWYTH_WALK_VERDICT] == UNDRWYTH_VERDICT_ROOM)
  *         printf("a room of area %d\n", (int)answer[UNDRWYTH_WALK_AREA]);
@@ -48,7 +48,7 @@ extern "C" {
 
 /* Lengths of buffers. */
 #define UNDRWYTH_RECORD_WORDS 25           /* table words a record */
-#define UNDRWYTH_MARK_WORDS 2              /* marks words an operation */
+#define UNDRWYTH_MARK_WORDS 3              /* marks words an operation: nodes, visits, records changed */
 #define UNDRWYTH_CORNER_NUMBERS 2          /* numbers a hull corner: x, y */
 #define UNDRWYTH_POLYGON_HEADER_BYTES 13   /* bytes of a polygon before its points */
 #define UNDRWYTH_POINT_BYTES 16            /* bytes of a point: x, y */
@@ -215,7 +215,7 @@ extern "C" {
 /* Judges the walk of the n operations in ops from (start_x,start_y), of which neither is beyond UNDRWYTH_MOST_START in
  * magnitude. The start and its ancestors are nodes from the beginning, numbered from the root down.
  *
- * table_words is UNDRWYTH_RECORD_WORDS times the number of records, 1 to UNDRWYTH_MOST_RECORDS. marks_words is 2 * n.
+ * table_words is UNDRWYTH_RECORD_WORDS times the number of records, 1 to UNDRWYTH_MOST_RECORDS. marks_words is 3 * n.
  * chain_bytes is n. The contents of the three buffers before the call do not matter.
  *
  * 4 * c + 64 records are enough where the walk has at most c different corners at any moment, so 4 * n + 68 always
@@ -224,7 +224,8 @@ extern "C" {
  * took 24 ns a step in a table of 65 records and 1,489 ns in one of 65,537 (ARM Neoverse-N1).
  *
  * Accepted: table holds the records of the nodes in use, and then zeros. marks holds for each operation, at its place,
- * the nodes in use after it and then the visits at the corner then stood on. chain holds the surviving steps, and then
+ * the nodes in use after it, the visits at the corner then stood on, and the number of records that differ before and
+ * after it, at most 33. chain holds the surviving steps, and then
  * zeros; as 0 is also a step east, cut it at n surviving steps before handing it on. All is as if the surviving steps
  * alone had been walked, but for marks.
  *

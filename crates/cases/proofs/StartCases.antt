@@ -46,5 +46,5 @@ needed-by-step-one : needOf (cornersFrom (corner (pos 3) (negsuc 1)) (2 ∷ []))
 needed-by-step-one = refl
 
 -- what is there from the beginning stays when the step is taken back
-marks-there : marksOf (corner (pos 3) (negsuc 1)) (2 ∷ 4 ∷ []) ≡ 4 ∷ 1 ∷ 3 ∷ 1 ∷ []
+marks-there : marksOf (corner (pos 3) (negsuc 1)) (2 ∷ 4 ∷ []) ≡ 4 ∷ 1 ∷ 3 ∷ 3 ∷ 1 ∷ 3 ∷ []
 marks-there = refl

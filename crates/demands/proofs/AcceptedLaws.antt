@@ -27,7 +27,7 @@ use Rattle.lists.proofs.DistinctLaws.{mem-getD}
 use Rattle.trace.proofs.MeetingLaws.{meetingOf-meets, meetingOf-none}
 use Rattle.trace.proofs.VerdictLaws.{verdict-says, area-room, area-other}
 use Rattle.tree.proofs.InUseLaws.{node-inUse}
-use Rattle.demands.specs.Moments.{nodesAfter, visitsAfter}
+use Rattle.demands.specs.Moments.{nodesAfter, visitsAfter, changesAt}
 use Rattle.demands.specs.Given.{Given}
 use Rattle.demands.specs.Given as given
 use Rattle.demands.specs.Record.{RecordSays}
@@ -80,10 +80,10 @@ module _ {c : Corner} {os t ms ch t′ ms′ ch′ : List ℕ} {f : Facts} (w : 
       ap (λ (l : List ℕ). getD l n 0) (its-table w)
       ∙ table-unused (length t) c ds n (omega (arith, ap (λ (g : Facts). g .nodes) (its-facts w)))
 
-  pub its-mark : (k : ℕ) → k < length os → (getD ms′ (markWords * k) 0 ≡ nodesAfter c os (suc k)) × (getD ms′ (markWords * k + 1) 0 ≡ visitsAfter c os (suc k))
+  pub its-mark : (k : ℕ) → k < length os → (getD ms′ (markWords * k) 0 ≡ nodesAfter c os (suc k)) × (getD ms′ (markWords * k + 1) 0 ≡ visitsAfter c os (suc k)) × (getD ms′ (markWords * k + 2) 0 ≡ changesAt c os k)
   its-mark k h =
       let x = marks-from c [] os k h in
-      (ap (λ (l : List ℕ). getD l (markWords * k) 0) (its-marks w) ∙ x .0, ap (λ (l : List ℕ). getD l (markWords * k + 1) 0) (its-marks w) ∙ x .1)
+      (ap (λ (l : List ℕ). getD l (markWords * k) 0) (its-marks w) ∙ x .0, ap (λ (l : List ℕ). getD l (markWords * k + 1) 0) (its-marks w) ∙ x .1, ap (λ (l : List ℕ). getD l (markWords * k + 2) 0) (its-marks w) ∙ x .2)
 
   -- no buffer changes its length
   pub its-lengths : (length t′ ≡ length t) × (length ms′ ≡ length ms) × (length ch′ ≡ length ch)

@@ -16,7 +16,7 @@ use Rattle.answer.specs.Limits.{Near}
 use Rattle.grid.specs.declared.Corner.{Corner}
 use Rattle.grid.specs.Grid.{origin, cornersFrom, endFrom}
 use Rattle.grid.specs.Tree.{WithinLevels}
-use Rattle.steps.specs.Operations.{survivors, Fine}
+use Rattle.steps.specs.Operations.{survivors, Fine, Walkable}
 use Rattle.layout.specs.Marks.{chainOf}
 use Rattle.layout.specs.Table.{recordsIn, tableOf}
 use Rattle.walk_call.specs.Walk.{walkJudged, factsOf, answerBy, bufferBy, WalkIs}
@@ -77,18 +77,18 @@ module _ {c : Corner} {os t ms ch t′ ms′ ch′ t₁ ms₁ ch₁ t₂ ms₂ c
 pub four-less-three : (os : List ℕ) (k : ℕ) → FourLessThree (nodesAfter origin os k) (cornersAfter origin os k)
 four-less-three os k = few-nodes (stepsAfter os k)
 
--- no more steps survive than a walk may have
-few-steps : (os : List ℕ) → ((i : ℕ) → i < length os → Fine (length (stepsAfter os i)) (getD os i 0)) → (k : ℕ) → k ≤ length os → length (stepsAfter os k) ≤ 16384
-few-steps os f k h =
+-- the steps that survive at any moment are digits, and no more than a walk may have
+pub walkable-after : (os : List ℕ) → ((i : ℕ) → i < length os → Fine (length (stepsAfter os i)) (getD os i 0)) → (k : ℕ) → k ≤ length os → Walkable (stepsAfter os k)
+walkable-after os f k h =
     let l : length (take k os) ≡ k = length-take-le k os h in
     let g : (i : ℕ) → i < length (take k os) → Fine (length (stepsAfter (take k os) i)) (getD (take k os) i 0) =
     λ i b.
     let p : i < k = omega (arith, b) in
     subst (λ (o : ℕ). Fine (length (stepsAfter (take k os) i)) o) (sym (getD-take k os i 0 p)) (subst (λ (s : List ℕ). Fine (length (survivors s)) (getD os i 0)) (sym (take-take i k os (omega arith))) (f i (omega arith))) in
-    walkable-survivors 0 [] (take k os) (record { digits = tt; few = omega arith }) (faults-none 0 [] (take k os) g) .few
+    walkable-survivors 0 [] (take k os) (record { digits = tt; few = omega arith }) (faults-none 0 [] (take k os) g)
 
 -- every corner of a walk that may start there is within 16 levels
-corners-within : (c : Corner) (ds : List ℕ) → Near c → length ds ≤ 16384 → (q : Corner) → List·Memᴰ q (cornersFrom c ds) → WithinLevels 16 q
+pub corners-within : (c : Corner) (ds : List ℕ) → Near c → length ds ≤ 16384 → (q : Corner) → List·Memᴰ q (cornersFrom c ds) → WithinLevels 16 q
 corners-within c ds n l q m =
     let k = getD-mem (cornersFrom c ds) c m in
     let i : k .0 ≤ length ds = omega (arith, k .1, length-cornersFrom c ds) in
@@ -102,7 +102,7 @@ corners-within c ds n l q m =
 
 module _ {c : Corner} {os : List ℕ} {words marks chain : ℕ} (f : Faultless c os words marks chain) (k : ℕ) (h : k ≤ length os) where
   few : length (stepsAfter os k) ≤ 16384
-  few = few-steps os (f .fine) k h
+  few = walkable-after os (f .fine) k h .few
 
   pub four-and-start : FourAndStart (nodesAfter c os k) (cornersAfter c os k)
   four-and-start = few-nodes-from 16 c (stepsAfter os k) (corners-within c (stepsAfter os k) (f .sized .start) few)

@@ -13,7 +13,7 @@ use Rattle.grid.specs.Grid.{origin, same, cornersFrom, endFrom}
 use Rattle.steps.specs.Operations.{operate, survivorsFrom, survivors}
 use Rattle.steps.specs.Turns.{turnOf, turnsFrom, turnsOf, stepAfter, stepsFrom, stepsOf}
 use Rattle.tree.specs.Nodes.{nodesOf}
-use Rattle.layout.specs.Marks.{markWords, marksFrom, chainOf, markOf}
+use Rattle.layout.specs.Marks.{markWords, changesOf, marksFrom, chainOf, markOf}
 use Rattle.layout.specs.Table.{width, wordAt, recordOf, recordsOf, tableOf}
 use Rattle.steps.proofs.SurvivorLaws.{length-survivors}
 use Rattle.layout.proofs.IndexLaws.{length-records, word-at}
@@ -54,19 +54,20 @@ module _ (c : Corner) where
   stood ds = count (same (endFrom c ds)) (cornersFrom c ds)
 
   -- word w of mark k
-  marks-word : (s os : List ℕ) (k w : ℕ) → k < length os → w < markWords → getD (marksFrom c s os) (markWords * k + w) 0 ≡ getD (markOf c (survivorsFrom s (take (suc k) os))) w 0
+  marks-word : (s os : List ℕ) (k w : ℕ) → k < length os → w < markWords → getD (marksFrom c s os) (markWords * k + w) 0 ≡ getD (markOf c (survivorsFrom s (take k os)) (survivorsFrom s (take (suc k) os))) w 0
   marks-word s [] k w h l = absurd (omega arith)
   marks-word s (o ∷ os) zero w h l =
       let e : markWords * 0 + w ≡ w = omega arith in
-      ap (λ (n : ℕ). getD (marksFrom c s (o ∷ os)) n 0) e ∙ List·getD-append (markOf c (operate s o)) (marksFrom c (operate s o) os) 0 w l
+      ap (λ (n : ℕ). getD (marksFrom c s (o ∷ os)) n 0) e ∙ List·getD-append (markOf c s (operate s o)) (marksFrom c (operate s o) os) 0 w l
   marks-word s (o ∷ os) (suc k) w h l =
       let e : markWords * suc k + w ≡ markWords + (markWords * k + w) = omega arith in
-      ap (λ (n : ℕ). getD (marksFrom c s (o ∷ os)) n 0) e ∙ getD-append-add (markOf c (operate s o)) (marksFrom c (operate s o) os) (markWords * k + w) 0 ∙ marks-word (operate s o) os k w (omega arith) l
+      ap (λ (n : ℕ). getD (marksFrom c s (o ∷ os)) n 0) e ∙ getD-append-add (markOf c s (operate s o)) (marksFrom c (operate s o) os) (markWords * k + w) 0 ∙ marks-word (operate s o) os k w (omega arith) l
 
   pub marks-from : (s os : List ℕ) (k : ℕ) → k < length os → (getD (marksFrom c s os) (markWords * k) 0 ≡ length (nodesOf (cornersFrom c (survivorsFrom s (take (suc k) os))))) × (getD (marksFrom c s os) (markWords * k + 1) 0 ≡ stood (survivorsFrom s (take (suc k) os)))
+      × (getD (marksFrom c s os) (markWords * k + 2) 0 ≡ changesOf c (survivorsFrom s (take k os)) (survivorsFrom s (take (suc k) os)))
   marks-from s os k h =
       let e : markWords * k ≡ markWords * k + 0 = omega arith in
-      (ap (λ (n : ℕ). getD (marksFrom c s os) n 0) e ∙ marks-word s os k 0 h (omega arith), marks-word s os k 1 h (omega arith))
+      (ap (λ (n : ℕ). getD (marksFrom c s os) n 0) e ∙ marks-word s os k 0 h (omega arith), marks-word s os k 1 h (omega arith), marks-word s os k 2 h (omega arith))
 
   pub marks-length : (s os : List ℕ) → length (marksFrom c s os) ≡ markWords * length os
   marks-length s [] = refl

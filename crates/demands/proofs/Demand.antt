@@ -27,8 +27,8 @@ use Rattle.steps.specs.Turns.{turnOf, turnsOf, stepAfter, stepsOf, ConvertedBy}
 use Rattle.trace.specs.Meeting.{Meets, FirstMeets, visitedOf}
 use Rattle.trace.specs.Verdict.{VerdictSays, IsRoom, sweepFrom, areaOf}
 use Rattle.tree.specs.Nodes.{nodesOf, refOf, needOf, InUse, LinkedBy}
-use Rattle.layout.specs.Marks.{markWords}
-use Rattle.layout.specs.Table.{width, recordsIn, wordAt, edgesOf}
+use Rattle.layout.specs.Marks.{markWords, changesIn, changesOf}
+use Rattle.layout.specs.Table.{width, recordsIn, wordAt, edgesOf, tableOf}
 use Rattle.walk_call.specs.Walk.{factsOf, WalkIs}
 use Rattle.hull.specs.Hull.{Exposed, HullIs, Encloses}
 use Rattle.hull.specs.Call.{numbers, HullCall}
@@ -49,9 +49,10 @@ use Rattle.tree.proofs.StartLaws as startLaws
 use Rattle.tree.proofs.OrderLaws as orderLaws
 use Rattle.tree_laws.proofs.CountLaws as countLaws
 use Rattle.tree_laws.proofs.EdgeLaws as edgeLaws
+use Rattle.table_laws.proofs.DiffLaws as diffLaws
 use Rattle.steps.proofs.TurnLaws as turnLaws
 use Rattle.steps.proofs.TurnPromiseLaws as promiseLaws
-use Rattle.demands.specs.Moments.{nodesAfter, cornersAfter, visitsAfter, AtMostEight, FourAndStart, FourLessThree, Exceeds}
+use Rattle.demands.specs.Moments.{nodesAfter, cornersAfter, visitsAfter, changesAt, AtMostEight, FourAndStart, FourLessThree, Exceeds}
 use Rattle.demands.specs.Given.{Faultless, NoRoomAfter, Given}
 use Rattle.demands.specs.GivenTurns.{GivenTurns}
 use Rattle.demands.specs.GivenHull.{GivenHull}
@@ -62,6 +63,7 @@ use Rattle.demands.proofs.WalkLaws as walkLaws
 use Rattle.demands.proofs.AcceptedLaws as acceptedLaws
 use Rattle.demands.proofs.BufferLaws as bufferLaws
 use Rattle.demands.proofs.AloneLaws as aloneLaws
+use Rattle.demands.proofs.ChangedLaws as changedLaws
 use Rattle.demands.proofs.CallLaws as callLaws
 use Rattle.demands.proofs.DigitLaws as digitLaws
 
@@ -179,9 +181,13 @@ module _ {c : Corner} {os t ms ch t′ ms′ ch′ : List ℕ} {f : Facts} (w : 
   pub unused-words : (n : ℕ) → width * f .nodes ≤ n → getD t′ n 0 ≡ 0
   unused-words = acceptedLaws.its-unused w
 
-  -- after each operation, the nodes in use and then the visits at the corner now stood on
-  pub marks-words : (k : ℕ) → k < length os → (getD ms′ (markWords * k) 0 ≡ nodesAfter c os (suc k)) × (getD ms′ (markWords * k + 1) 0 ≡ visitsAfter c os (suc k))
+  -- after each operation the nodes in use, the visits at the corner now stood on, and the records that differ before and after it
+  pub marks-words : (k : ℕ) → k < length os → (getD ms′ (markWords * k) 0 ≡ nodesAfter c os (suc k)) × (getD ms′ (markWords * k + 1) 0 ≡ visitsAfter c os (suc k)) × (getD ms′ (markWords * k + 2) 0 ≡ changesAt c os k)
   marks-words = acceptedLaws.its-mark w
+
+  -- "it is at most 33"
+  pub changed-at-most : (k : ℕ) → k < length os → getD ms′ (markWords * k + 2) 0 ≤ 33
+  changed-at-most = changedLaws.its-few w
 
   -- the surviving steps, then zeros
   pub chain-bytes : ch′ ≡ survivors os ++ replicate (length os - length (survivors os)) 0
@@ -267,6 +273,13 @@ edge-both-ends = edgeLaws.edge-both-ends
 
 pub edges-all : (c : Corner) (ds : List ℕ) → Below 4 ds → sumOf (λ a. pos (edgesOf (cornersFrom c ds) a 0 + edgesOf (cornersFrom c ds) a 1)) (nodesOf (cornersFrom c ds)) ≡ pos (length ds)
 edges-all = edgeLaws.edges-all
+
+-- a step changes as many records as taking it back, and tables of any more records differ in as many
+pub changed-back : (c : Corner) (ds es : List ℕ) → changesOf c es ds ≡ changesOf c ds es
+changed-back = diffLaws.changes-back
+
+pub changed-larger : (c : Corner) (ds es : List ℕ) (n : ℕ) → length (nodesOf (cornersFrom c ds)) ≤ n → length (nodesOf (cornersFrom c es)) ≤ n → changesIn n (tableOf (n * width) c ds) (tableOf (n * width) c es) ≡ changesOf c ds es
+changed-larger = diffLaws.changes-larger
 
 -- the different corners are the visited ones, each once
 pub corners-visited : (ps : List Corner) (a : Corner) → List·Memᴰ a (visitedOf ps) ↔ List·Memᴰ a ps

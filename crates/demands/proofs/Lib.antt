@@ -6,6 +6,7 @@ pub mod BufferLaws
 pub mod RecordLaws
 pub mod AcceptedLaws
 pub mod AloneLaws
+pub mod ChangedLaws
 pub mod CallLaws
 pub mod DigitLaws
 pub mod RoomCallLaws

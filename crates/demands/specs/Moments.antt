@@ -1,11 +1,12 @@
 -- The moments of a walk: what survives after its first k operations, and the nodes and corners that it then has.
 -- Assumes nothing.
 use mathlib.Core.List.{List}
-use Prim.Native.Nat.{ℕ, _+_, _*_, _<_, _≤_}
+use Prim.Native.Nat.{ℕ, suc, _+_, _*_, _<_, _≤_}
 use lib.ListN.{length, take}
 use Rattle.lists.specs.Lists.{count}
 use Rattle.grid.specs.declared.Corner.{Corner}
 use Rattle.grid.specs.Grid.{same, cornersFrom, endFrom}
+use Rattle.layout.specs.Marks.{changesOf}
 use Rattle.steps.specs.Operations.{survivors}
 use Rattle.trace.specs.Meeting.{visitedOf}
 use Rattle.tree.specs.Nodes.{nodesOf}
@@ -25,6 +26,10 @@ cornersAfter c os k = length (visitedOf (cornersFrom c (stepsAfter os k)))
 -- the visits at the corner then stood on
 abbrev pub visitsAfter : Corner → List ℕ → ℕ → ℕ
 visitsAfter c os k = count (same (endFrom c (stepsAfter os k))) (cornersFrom c (stepsAfter os k))
+
+-- the records that differ before and after operation k, counted from 0
+abbrev pub changesAt : Corner → List ℕ → ℕ → ℕ
+changesAt c os k = changesOf c (stepsAfter os k) (stepsAfter os (suc k))
 
 -- at most eight nodes for each corner and 68, as it was demanded
 abbrev pub AtMostEight : ℕ → ℕ → Type 0

@@ -10,7 +10,7 @@ use Rattle.grid.specs.Grid.{corner, origin, cornersFrom}
 use Rattle.grid.specs.Tree.{root}
 use Rattle.tree.specs.Nodes.{nodesOf}
 use Rattle.layout.specs.Table.{width, recordOf, edgesOf, tableOf}
-use Rattle.layout.specs.Marks.{marksOf, chainOf}
+use Rattle.layout.specs.Marks.{changesOf, marksOf, chainOf}
 
 -- the record of a node after a walk from the origin
 recordAfter : List ℕ → Corner → List ℕ
@@ -48,9 +48,17 @@ record-width = refl
 zeros-after : drop width (tableOf (width + 4) origin []) ≡ 0 ∷ 0 ∷ 0 ∷ 0 ∷ []
 zeros-after = refl
 
--- after 0, 2, 0 and a take-back: nodes, then visits at the corner now stood on
-marks-of-a-take-back : marksOf origin (0 ∷ 2 ∷ 0 ∷ 4 ∷ []) ≡ 2 ∷ 1 ∷ 2 ∷ 2 ∷ 2 ∷ 2 ∷ 2 ∷ 2 ∷ []
+-- after 0, 2, 0 and a take-back: nodes, visits at the corner now stood on, and the two ends of the step, whose records alone differ
+marks-of-a-take-back : marksOf origin (0 ∷ 2 ∷ 0 ∷ 4 ∷ []) ≡ 2 ∷ 1 ∷ 2 ∷ 2 ∷ 2 ∷ 2 ∷ 2 ∷ 2 ∷ 2 ∷ 2 ∷ 2 ∷ 2 ∷ []
 marks-of-a-take-back = refl
+
+-- the last step of 0011 makes (1,1) and (2,2): they differ, and so do (2,1) below, (1,0) beside the one, and the root above it
+five-records-differ : changesOf origin (0 ∷ 0 ∷ 1 ∷ []) (0 ∷ 0 ∷ 1 ∷ 1 ∷ []) ≡ 5
+five-records-differ = refl
+
+-- a walk that is not changed changes no record
+none-differs : changesOf origin (0 ∷ 1 ∷ []) (0 ∷ 1 ∷ []) ≡ 0
+none-differs = refl
 
 chain-of-a-take-back : chainOf (0 ∷ 2 ∷ 1 ∷ 4 ∷ []) ≡ 0 ∷ 2 ∷ 0 ∷ 0 ∷ []
 chain-of-a-take-back = refl

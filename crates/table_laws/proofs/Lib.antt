@@ -8,3 +8,6 @@ pub mod Cites
 pub mod UndoLaws
 pub mod WalkLaws
 pub mod PlantLaws
+pub mod ChangeLaws
+pub mod DiffLaws
+pub mod ReadLaws

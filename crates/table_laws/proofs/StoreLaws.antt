@@ -38,26 +38,24 @@ pub far-pos : (n r : ℕ) → 0 < n → far n r ≡ r
 far-pos zero r h = absurd (omega arith)
 far-pos (suc n) r h = refl
 
--- states that are alike have one table
-pub alike-table : (words : ℕ) (S T : State) → Alike S T → tableBy words S ≡ tableBy words T
-alike-table words S T h =
-    ap (filled words)
-    (rows-cong (recordBy S) (recordBy T) (S .nodes) (λ x m. row x) ∙ ap (rowsOf (recordBy T)) (h .nodes))
+-- states that are alike have one row for each node, and one table
+pub alike-row : (S T : State) → Alike S T → (x : Corner) → recordBy S x ≡ recordBy T x
+alike-row S T h x =
+    words-cong (fieldsBy S x) (fieldsBy T x)
+    (ap (λ (l : List Corner). cond (isRoot x) 0 (refOf l (parentOf x))) (h .nodes))
+    (λ k a b. ap (λ (l : List Corner). childRefOf l x k) (h .nodes))
+    (λ k b. ap₂ far (h .step x (stepped k x) (away k x)) (ap (λ (l : List Corner). refOf l (stepped k x)) (h .nodes)))
+    (λ k b. h .step x (stepped k x) (away k x))
+    (h .visits x)
+    (h .need x)
+    (h .first x)
+    (λ k b. h .edges x (stepped k x))
   where
     away : (k : ℕ) (x : Corner) → x ≡ stepped k x → ⊥
     away k x e = stepped-ne k x (sym e)
 
-    row : (x : Corner) → recordBy S x ≡ recordBy T x
-    row x =
-        words-cong (fieldsBy S x) (fieldsBy T x)
-        (ap (λ (l : List Corner). cond (isRoot x) 0 (refOf l (parentOf x))) (h .nodes))
-        (λ k a b. ap (λ (l : List Corner). childRefOf l x k) (h .nodes))
-        (λ k b. ap₂ far (h .step x (stepped k x) (away k x)) (ap (λ (l : List Corner). refOf l (stepped k x)) (h .nodes)))
-        (λ k b. h .step x (stepped k x) (away k x))
-        (h .visits x)
-        (h .need x)
-        (h .first x)
-        (λ k b. h .edges x (stepped k x))
+pub alike-table : (words : ℕ) (S T : State) → Alike S T → tableBy words S ≡ tableBy words T
+alike-table words S T h = ap (filled words) (rows-cong (recordBy S) (recordBy T) (S .nodes) (λ x m. alike-row S T h x) ∙ ap (rowsOf (recordBy T)) (h .nodes))
 
 -- reading: the words of the node a with ref 1 + u
 module _ (words : ℕ) (S : State) (a : Corner) (u : ℕ) (e : refOf (S .nodes) a ≡ suc u) where
@@ -162,7 +160,7 @@ module _ (S : State) (a : Corner) (d s : ℕ) (small : d < 4) where
       link-e refl refl refl (λ k h. refl)
       ∙ sym (words-side (fieldsBy S (stepped d a)) (back d) (far s (refOf (S .nodes) a)) s (back-small d))
 
-  link-row-x : (x : Corner) → (x ≡ a → ⊥) → (x ≡ stepped d a → ⊥) → recordBy (withLink S a (stepped d a) s) x ≡ recordBy S x
+  pub link-row-x : (x : Corner) → (x ≡ a → ⊥) → (x ≡ stepped d a → ⊥) → recordBy (withLink S a (stepped d a) s) x ≡ recordBy S x
   link-row-x x f g = words-cong (fieldsBy (withLink S a (stepped d a) s) x) (fieldsBy S x) refl (λ k i j. refl) (λ k h. ap (λ (n : ℕ). far n (refOf (S .nodes) (stepped k x))) (link-x x f g k h)) (link-x x f g) refl refl refl (λ k h. refl)
 
   -- the four stores of a link
@@ -237,7 +235,7 @@ module _ (S : State) (sound : Sound S) (e : Corner) (s : ℕ) (deep : isRoot e �
   old-ne : (x : Corner) → List·Memᴰ x (S .nodes) → x ≡ e → ⊥
   old-ne x m p = fresh (Memᴰ·cast (sym p) m)
 
-  node-row-x : (x : Corner) → List·Memᴰ x (S .nodes) → (x ≡ parentOf e → ⊥) → recordBy (withNode S e s) x ≡ recordBy S x
+  pub node-row-x : (x : Corner) → List·Memᴰ x (S .nodes) → (x ≡ parentOf e → ⊥) → recordBy (withNode S e s) x ≡ recordBy S x
   node-row-x x m f =
       words-cong (fieldsBy (withNode S e s) x) (fieldsBy S x) (up-kept x m) (λ k i j. child-other (S .nodes) e x k (λ p q. f p)) (λ k h. side-kept x k) (λ k h. refl) refl (need-kept x (old-ne x m)) refl (λ k h. refl)
 

@@ -231,7 +231,7 @@ shrink-at c qs t =
     let h = count-trail c qs (c ∷ []) (parentOf c ∷ []) (class c ∷ []) (start-at c) t in
     omega (arith, h .1 .few, corners-classes (gather same (c ∷ []) qs) (gather same (class c ∷ []) (map class qs)) (distinct-gather same same-sound same-refl (c ∷ []) qs (distinct-one c)) (h .1 .classes))
 
-within-parent : (n : ℕ) (c : Corner) → WithinLevels (suc n) c → WithinLevels n (parentOf c)
+pub within-parent : (n : ℕ) (c : Corner) → WithinLevels (suc n) c → WithinLevels n (parentOf c)
 within-parent n c w = record {
   x = omega (arith, natAbs-halfOf (c .0), w .x, pow-suc 2 n);
   y = omega (arith, natAbs-halfOf (c .1), w .y, pow-suc 2 n);

@@ -5,6 +5,7 @@ pub mod LevelLaws
 pub mod AddLaws
 pub mod PushLaws
 pub mod EdgeLaws
+pub mod RiseLaws
 pub mod PopLaws
 pub mod ClassLaws
 pub mod CountLaws

@@ -5,6 +5,7 @@ use mathlib.Core.List.{List, [], _∷_, _++_, List·Memᴰ}
 use mathlib.Core.Logic.{_⊎_}
 use mathlib.Core.Path.{_≡_}
 use Prim.Native.Nat.{ℕ, zero, suc, _+_, _-_, _*_, _<_, _≤_, pred}
+use lib.Dec.{eqb}
 use lib.ListN.{length, replicate}
 use Rattle.grid.specs.declared.Corner.{Corner}
 use Rattle.grid.specs.Grid.{same, stepped}
@@ -137,6 +138,25 @@ Agree M K = (x y : Corner) → (x ≡ y → ⊥) → M x y ≡ K x y
 -- the links M while those of a step to z are cleared, from the node at in direction d up: they are L again, or those that the step made from here up are left
 abbrev pub Unlinking : (Corner → Corner → ℕ) → ℕ → Corner → ℕ → (Corner → Corner → ℕ) → Corner → Type 0
 Unlinking L s z d M at = Agree M L ⊎ (Agree M (linked L s at (stepped d at)) × List·Memᴰ (stepped d at) (pathOf z))
+
+-- ---- what a step from a to its neighbour e changes, where the nodes are ns and the link steps L before it
+-- the link of the parents is made too: neither is the root, the parents differ, and they had no link
+abbrev pub linksUp : (Corner → Corner → ℕ) → Corner → Corner → Bool
+linksUp L a e = not (isRoot a) && not (isRoot e) && not (same (parentOf a) (parentOf e)) && eqb (L (parentOf a) (parentOf e)) 0
+
+-- the node is made
+abbrev pub isFresh : List Corner → Corner → Bool
+isFresh ns e = not (any (same e) ns)
+
+-- x, unless it is y
+abbrev pub but : Corner → Corner → List Corner
+but x y = cond (same x y) [] (x ∷ [])
+
+-- the nodes above a and e whose records change, in at most k levels: the ends of the links that are made there, each left out where it is the
+-- other end of the level below, and the parent of the topmost node that is made
+abbrev pub risenBy : (Corner → Corner → ℕ) → List Corner → ℕ → Corner → Corner → List Corner
+risenBy L ns zero a e = []
+risenBy L ns (suc k) a e = cond (linksUp L a e) (but (parentOf a) e ++ (but (parentOf e) a ++ risenBy L ns k (parentOf a) (parentOf e))) (cond (isFresh ns e) (but (parentOf e) a) [])
 
 -- two states with the same table
 pub record Alike (S T : State) : Type 0 where

@@ -81,27 +81,27 @@ module _ (words : ℕ) (c : Corner) (ops t ms ch : List ℕ) (w : Walk) (i : ℕ
   went = k .room ∙ ap (λ (l : List ℕ). roomFrom (recordsIn words) c i (k .steps) l) left ∙ room-fits (recordsIn words) c i (k .steps) (getD ops i 0) (drop (suc i) ops) (k .fits)
 
   -- no room
-  pub running-full : (t′ ms′ ch′ : List ℕ) (r : Moved) → ((ds : List ℕ) → Chained c t ch ds w → Performed words ms i c t′ ms′ ch′ (operate ds (getD ops i 0)) r) → r ≡ Moved.Full → PerformedAll words c ops t′ ms′ ch′ (Ran.Full i)
+  pub running-full : (t′ ms′ ch′ : List ℕ) (r : Moved) → ((ds : List ℕ) → Chained c t ch ds w → Performed words ms i c t′ ms′ ch′ ds (operate ds (getD ops i 0)) r) → r ≡ Moved.Full → PerformedAll words c ops t′ ms′ ch′ (Ran.Full i)
   running-full t′ ms′ ch′ r f e =
-      let h : (words < width * length (nodesOf (cornersFrom c (operate (k .steps) (getD ops i 0))))) × (t′ ≡ replicate words 0) = subst (λ y. Performed words ms i c t′ ms′ ch′ (operate (k .steps) (getD ops i 0)) y) e (f (k .steps) (k .chained)) in
+      let h : (words < width * length (nodesOf (cornersFrom c (operate (k .steps) (getD ops i 0))))) × (t′ ≡ replicate words 0) = subst (λ y. Performed words ms i c t′ ms′ ch′ (k .steps) (operate (k .steps) (getD ops i 0)) y) e (f (k .steps) (k .chained)) in
       (went ∙ room-full (recordsIn words) c (suc i) (operate (k .steps) (getD ops i 0)) (drop (suc i) ops) (over words (length (nodesOf (cornersFrom c (operate (k .steps) (getD ops i 0))))) (h .0)), h .1)
     where
       over : (a n : ℕ) → a < width * n → recordsIn a < n
       over a n p = omega arith
 
   -- the walk goes on, and is marked
-  pub running-next : (t′ ms′ ch′ : List ℕ) (r : Moved) → ((ds : List ℕ) → Chained c t ch ds w → Performed words ms i c t′ ms′ ch′ (operate ds (getD ops i 0)) r) → (v : Walk) → r ≡ Moved.To v → markWords * suc i ≤ length ms → (length t′ ≡ words) × (length ms′ ≡ length ms) × Running words c ops t′ ms′ ch′ v (i + 1)
+  pub running-next : (t′ ms′ ch′ : List ℕ) (r : Moved) → ((ds : List ℕ) → Chained c t ch ds w → Performed words ms i c t′ ms′ ch′ ds (operate ds (getD ops i 0)) r) → (v : Walk) → r ≡ Moved.To v → markWords * suc i ≤ length ms → (length t′ ≡ words) × (length ms′ ≡ length ms) × Running words c ops t′ ms′ ch′ v (i + 1)
   running-next t′ ms′ ch′ r f v e l =
       let o = getD ops i 0 in
       let ds = operate (k .steps) o in
-      let g : Chained c t′ ch′ ds v × (length t′ ≡ words) × (ms′ ≡ sets ms (markWords * i) (markOf c ds)) = subst (λ y. Performed words ms i c t′ ms′ ch′ ds y) e (f (k .steps) (k .chained)) in
+      let g : Chained c t′ ch′ ds v × (length t′ ≡ words) × (ms′ ≡ sets ms (markWords * i) (markOf c (k .steps) ds)) = subst (λ y. Performed words ms i c t′ ms′ ch′ (k .steps) ds y) e (f (k .steps) (k .chained)) in
       let h = g .0 .known .walked in
-      let n₁ : length (markOf c ds) ≡ markWords = refl in
+      let n₁ : length (markOf c (k .steps) ds) ≡ markWords = refl in
       let n₃ : suc i ≡ i + 1 = omega arith in
       let a = length (nodesOf (cornersFrom c ds)) in
-      let two : take (markWords * (i + 1)) ms′ ≡ take (markWords * i) ms ++ markOf c ds = ap (take (markWords * (i + 1))) (g .2) ∙ take-sets ms (markOf c ds) (markWords * i) (markWords * (i + 1)) (omega arith) (omega arith) in (
+      let two : take (markWords * (i + 1)) ms′ ≡ take (markWords * i) ms ++ markOf c (k .steps) ds = ap (take (markWords * (i + 1))) (g .2) ∙ take-sets ms (markOf c (k .steps) ds) (markWords * i) (markWords * (i + 1)) (omega arith) (omega arith) in (
         g .1,
-        ap length (g .2) ∙ length-sets ms (markWords * i) (markOf c ds),
+        ap length (g .2) ∙ length-sets ms (markWords * i) (markOf c (k .steps) ds),
         record {
           steps = ds;
           chained = g .0;
@@ -111,7 +111,7 @@ module _ (words : ℕ) (c : Corner) (ops t ms ch : List ℕ) (w : Walk) (i : ℕ
           room = went ∙ ap (λ (j : ℕ). roomFrom (recordsIn words) c j ds (drop j ops)) n₃;
           marked =
               k .marked ∙ ap (λ (x : List ℕ). take (markWords * i) ms ++ marksFrom c (k .steps) x) left
-              ∙ sym (append-assoc (take (markWords * i) ms) (markOf c ds) (marksFrom c ds (drop (suc i) ops)))
+              ∙ sym (append-assoc (take (markWords * i) ms) (markOf c (k .steps) ds) (marksFrom c ds (drop (suc i) ops)))
               ∙ ap₂ (λ (x : List ℕ) (j : ℕ). x ++ marksFrom c ds (drop j ops)) (sym two) n₃;
           few = omega (arith, length-operate (k .steps) o, k .few);
         },

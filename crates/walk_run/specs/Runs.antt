@@ -1,6 +1,6 @@
 -- A walk that follows its operations: its steps in the chain, and what the run answers.
 -- Assumes nothing.
-use mathlib.Core.List.{List, []}
+use mathlib.Core.List.{List, [], _∷_, _++_}
 use mathlib.Core.Path.{_≡_}
 use Prim.Native.Nat.{ℕ, _*_, _<_, _≤_}
 use lib.ListN.{length, take, replicate}
@@ -12,9 +12,11 @@ use Rattle.walk_call.specs.Walk.{roomFrom}
 use Rattle.grid.specs.declared.Corner.{Corner}
 use Rattle.grid.specs.Grid.{cornersFrom}
 use Rattle.layout.specs.Table.{width, recordsIn}
-use Rattle.layout.specs.Marks.{markWords, markOf, marksOf, chainOf}
+use Rattle.layout.specs.Marks.{markWords, changesOf, markOf, marksOf, chainOf}
 use Rattle.walk_step.specs.declared.Moved.{Moved}
 use Rattle.walk_step.specs.declared.Walk.{Walk}
+use Rattle.walk_step.specs.declared.Spot.{Spot}
+use Rattle.walk_step.specs.Spots.{Walked, Stepped}
 use Rattle.walk_step.specs.Walks.{Known}
 use Rattle.tree.specs.Nodes.{nodesOf}
 use Rattle.steps.specs.Operations.{survivors, Fine, Walkable}
@@ -41,10 +43,18 @@ abbrev pub Applied : ℕ → Corner → List ℕ → List ℕ → List ℕ → M
 Applied words c t chain ds (Moved.To w) = Chained c t chain ds w × (length t ≡ words)
 Applied words c t chain ds Moved.Full = (words < width * length (nodesOf (cornersFrom c ds))) × (t ≡ replicate words 0)
 
--- the same with its mark, at place i of the marks ms₀
-abbrev pub Performed : ℕ → List ℕ → ℕ → Corner → List ℕ → List ℕ → List ℕ → List ℕ → Moved → Type 0
-Performed words ms₀ i c t ms chain ds (Moved.To w) = Chained c t chain ds w × (length t ≡ words) × (ms ≡ sets ms₀ (markWords * i) (markOf c ds))
-Performed words ms₀ i c t ms chain ds Moved.Full = (words < width * length (nodesOf (cornersFrom c ds))) × (t ≡ replicate words 0)
+-- where the operation o was a step, the walk stands at the end of it
+abbrev pub StepDone : List ℕ → Spot → ℕ → Type 0
+StepDone t w o = (o ≡ 4 → ⊥) → Stepped t w o × (o < 4) × (w .steps < 65537)
+
+-- how many records the operation o changed: so many as were told before a take-back, and as the step did otherwise
+abbrev pub Tells : List ℕ → Spot → ℕ → ℕ → ℕ → Type 0
+Tells t w o before r = (o ≡ 4 → r ≡ before) × ((o ≡ 4 → ⊥) → (c : Corner) (ds : List ℕ) → Walked t c (ds ++ (o ∷ [])) w → r ≡ changesOf c ds (ds ++ (o ∷ [])))
+
+-- the same with its mark, at place i of the marks ms₀; the steps were ds, and are es
+abbrev pub Performed : ℕ → List ℕ → ℕ → Corner → List ℕ → List ℕ → List ℕ → List ℕ → List ℕ → Moved → Type 0
+Performed words ms₀ i c t ms chain ds es (Moved.To w) = Chained c t chain es w × (length t ≡ words) × (ms ≡ sets ms₀ (markWords * i) (markOf c ds es))
+Performed words ms₀ i c t ms chain ds es Moved.Full = (words < width * length (nodesOf (cornersFrom c es))) × (t ≡ replicate words 0)
 
 -- the answer to all of them, with the chain as it then stands
 abbrev pub PerformedAll : ℕ → Corner → List ℕ → List ℕ → List ℕ → List ℕ → Ran → Type 0

@@ -8,10 +8,10 @@ ghost use Rattle.grid.specs.declared.Corner.{Corner as Node};
 ghost use Rattle.answer.specs.Limits.{Near};
 ghost use Rattle.walk_step.specs.Spots.{Walked};
 ghost use Rattle.walk_step.specs.Walks.{fresh};
-ghost use Rattle.layout.specs.Marks.{markWords};
+ghost use Rattle.layout.specs.Marks.{markWords, changesOf};
 ghost use Rattle.layout.specs.Table.{wordAt, visitsWord};
 ghost use Rattle.steps.specs.Operations.{operate, operationsJudged};
-ghost use Rattle.walk_run.specs.Runs.{Chained, Ready, Applied, Performed, PerformedAll, Ended};
+ghost use Rattle.walk_run.specs.Runs.{Chained, Ready, Applied, StepDone, Tells, Performed, PerformedAll, Ended};
 use grid::Corner;
 use walk_step::Moved;
 use walk_step::Spot;
@@ -42,26 +42,55 @@ fn apply(t: &mut [u32], chain: &mut [u8], w: Walk, op: u8) -> Moved
     walk_step::advance(t, w, op)
 }
 
-// The mark at place i: the nodes in use, and the visits at the corner stood on.
-fn mark(t: &[u32], marks: &mut [u32], w: Spot, i: usize)
-    requires { ⌜ (wordAt (w .node) visitsWord < length (now t)) × (markWords * i + 1 < length (now marks)) × (w .nodes < 2 ^ 32) × (i < 2 ^ 32) ⌝ }
-    ensures { λ _. ⌜ now (marks .exit) ≡ set (set (now (marks .entry)) (markWords * i) (w .nodes)) (markWords * i + 1) (getD (now (t .entry)) (wordAt (w .node) visitsWord) 0) ⌝ }
+// How many records a take-back is about to change: as many as its step did. Asked before it, while the step's words are there; 0 for a step.
+fn taken(t: &[u32], chain: &[u8], w: Walk, op: u8) -> u32
+    requires { ⌜ Ready (now t) (now chain) w op ⌝ }
+    requires { ⌜ length (now t) < 2 ^ 32 ⌝ }
+    ensures { λ r. ⌜ ((c : Node) (ds : List ℕ) → Chained c (now (t .entry)) (now (chain .entry)) ds w → op ≡ 4 → r ≡ changesOf c ds (operate ds op)) ⌝ }
+{
+    if op == 4 {
+        let spot = w.spot;
+        let last = spot.steps - 1;
+        let d = chain[last];
+        return walk_change::changed(t, spot, d);
+    }
+    0
+}
+
+// How many records the operation changed: so many as were told before a take-back; a step is asked now.
+fn told(t: &[u32], w: Spot, op: u8, before: u32) -> u32
+    requires { ⌜ StepDone (now t) w op × (length (now t) < 2 ^ 32) ⌝ }
+    ensures { λ r. ⌜ Tells (now (t .entry)) w op before r ⌝ }
+{
+    if op == 4 {
+        return before;
+    }
+    walk_change::changed(t, w, op)
+}
+
+// The mark at place i: the nodes in use, the visits at the corner stood on, and the records that changed.
+fn mark(t: &[u32], marks: &mut [u32], w: Spot, i: usize, changed: u32)
+    requires { ⌜ (wordAt (w .node) visitsWord < length (now t)) × (markWords * i + 2 < length (now marks)) × (w .nodes < 2 ^ 32) × (i < 2 ^ 32) ⌝ }
+    ensures { λ _. ⌜ now (marks .exit) ≡ set (set (set (now (marks .entry)) (markWords * i) (w .nodes)) (markWords * i + 1) (getD (now (t .entry)) (wordAt (w .node) visitsWord) 0)) (markWords * i + 2) changed ⌝ }
 {
     let r = w.node;
     marks[Walk::MARK_WORDS * i] = w.nodes as u32;
     marks[Walk::MARK_WORDS * i + 1] = walk_table::word(t, r, Record::VISITS);
+    marks[Walk::MARK_WORDS * i + 2] = changed;
 }
 
 // One operation, at place i: applied, and then marked.
 fn perform(t: &mut [u32], marks: &mut [u32], chain: &mut [u8], w: Walk, op: u8, i: usize) -> Moved
     requires { ⌜ Ready (now t) (now chain) w op ⌝ }
     requires { ⌜ (length (now t) < 2 ^ 32) × (markWords * suc i ≤ length (now marks)) × (i < 2 ^ 32) ⌝ }
-    ensures { λ r. ⌜ ((c : Node) (ds : List ℕ) → Chained c (now (t .entry)) (now (chain .entry)) ds w → Performed (length (now (t .entry))) (now (marks .entry)) i c (now (t .exit)) (now (marks .exit)) (now (chain .exit)) (operate ds op) r) ⌝ }
+    ensures { λ r. ⌜ ((c : Node) (ds : List ℕ) → Chained c (now (t .entry)) (now (chain .entry)) ds w → Performed (length (now (t .entry))) (now (marks .entry)) i c (now (t .exit)) (now (marks .exit)) (now (chain .exit)) ds (operate ds op) r) ⌝ }
 {
+    let before = taken(t, chain, w, op);
     match apply(t, chain, w, op) {
         Moved::To(next) => {
             let spot = next.spot;
-            mark(t, marks, spot, i);
+            let n = told(t, spot, op, before);
+            mark(t, marks, spot, i, n);
             Moved::To(next)
         }
         Moved::Full => Moved::Full,

@@ -52,7 +52,7 @@ impl Walk {
     pub const MOST_STEPS: usize = 16384;
 
     // Words of the mark of an operation.
-    pub const MARK_WORDS: usize = 2;
+    pub const MARK_WORDS: usize = 3;
 
     // Records of the table at most.
     pub const MOST_RECORDS: usize = 131148;

@@ -8,6 +8,8 @@ pub const MOST_STEPS: usize = 16_384;
 pub const MOST_START: i32 = 16_384;
 /// Words in a record.
 pub const RECORD_WORDS: usize = 25;
+/// Words of the marks an operation: nodes in use, visits at the corner stood on, records that changed.
+pub const MARK_WORDS: usize = 3;
 /// Records in a table at most.
 pub const MOST_RECORDS: usize = 131_148;
 /// j and k where there is no meeting.

@@ -4,7 +4,7 @@
 use std::collections::HashMap;
 use std::hint::black_box;
 
-use answer::{Facts, MOST_STEPS, RECORD_WORDS, Refusal};
+use answer::{Facts, MARK_WORDS, MOST_STEPS, RECORD_WORDS, Refusal};
 use compare::inputs::most_nodes;
 
 use crate::race::Call;
@@ -20,7 +20,7 @@ pub fn walk(
 ) -> Call<'_> {
     let lent = |ops: &Vec<u8>| {
         let table = vec![0; RECORD_WORDS * most_nodes(START, ops)];
-        (table, vec![0; 2 * ops.len()], vec![0; ops.len()])
+        (table, vec![0; MARK_WORDS * ops.len()], vec![0; ops.len()])
     };
     let mut buffers: Vec<_> = inputs.iter().map(lent).collect();
     Box::new(move || {

@@ -2,7 +2,7 @@
 
 use std::collections::HashMap;
 
-use answer::{MOST_LINE_DIGITS, MOST_STEPS, RECORD_WORDS};
+use answer::{MARK_WORDS, MOST_LINE_DIGITS, MOST_STEPS, RECORD_WORDS};
 
 /// A stream of numbers from a seed (splitmix64).
 pub struct Random(pub u64);
@@ -259,8 +259,8 @@ pub fn room(n: usize, random: &mut Random) -> Vec<u8> {
 /// The number of nodes that the walk from `start` needs at most at a moment, 1 where it has a fault.
 pub fn most_nodes(start: (i32, i32), ops: &[u8]) -> usize {
     let mut table = vec![0; RECORD_WORDS * (4 * (ops.len() + 1) + 64)];
-    let (mut marks, mut chain) = (vec![0; 2 * ops.len()], vec![0; ops.len()]);
-    let most = |marks: &[u32]| marks.iter().step_by(2).copied().max().unwrap_or(0);
+    let (mut marks, mut chain) = (vec![0; MARK_WORDS * ops.len()], vec![0; ops.len()]);
+    let most = |marks: &[u32]| marks.iter().step_by(MARK_WORDS).copied().max().unwrap_or(0);
     match twin::walk(start, ops, &mut table, &mut marks, &mut chain) {
         Ok(facts) if ops.is_empty() => facts.nodes as usize,
         // A step taken back may leave fewer nodes than the start has alone, never fewer than one.

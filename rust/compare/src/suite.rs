@@ -1,8 +1,8 @@
 //! What is compared: all short inputs, every limit and one past it, random and damaged inputs of all lengths.
 
 use answer::{
-    CHAIN_ANSWER_WORDS, LINE_BYTES, MOST_INPUT, MOST_LINE_DIGITS, MOST_RECORDS, MOST_START,
-    MOST_STEPS, POLYGON_ANSWER_WORDS, RECORD_WORDS,
+    CHAIN_ANSWER_WORDS, LINE_BYTES, MARK_WORDS, MOST_INPUT, MOST_LINE_DIGITS, MOST_RECORDS,
+    MOST_START, MOST_STEPS, POLYGON_ANSWER_WORDS, RECORD_WORDS,
 };
 
 use crate::inputs::{self, Random};
@@ -19,7 +19,14 @@ const ORIGIN: (i32, i32) = (0, 0);
 
 /// A walk in buffers of the lengths that it asks, and a table of so many words.
 fn walk(library: &Library, start: (i32, i32), ops: &[u8], words: usize) {
-    calls::walk(library, start, ops, words, 2 * ops.len(), ops.len());
+    calls::walk(
+        library,
+        start,
+        ops,
+        words,
+        MARK_WORDS * ops.len(),
+        ops.len(),
+    );
 }
 
 /// A walk in the least table that has room, in one record less and in one more.
@@ -155,7 +162,7 @@ pub fn every_byte(library: &Library) {
 pub fn sizes(library: &Library) {
     for ops in [&[][..], &[0], &[4], &[5], &[1, 4, 1], &[0, 0, 1, 1]] {
         for table in 0..=RECORD_WORDS * 7 + 1 {
-            for marks in 0..=2 * ops.len() + 3 {
+            for marks in 0..=MARK_WORDS * ops.len() + 3 {
                 for chain in 0..=ops.len() + 2 {
                     calls::walk(library, ORIGIN, ops, table, marks, chain);
                 }
@@ -210,10 +217,17 @@ fn limits_of(library: &Library, ops: &[u8]) {
         ORIGIN,
         ops,
         words - 1,
-        2 * ops.len() - 1,
+        MARK_WORDS * ops.len() - 1,
         ops.len(),
     );
-    calls::walk(library, ORIGIN, ops, words, 2 * ops.len(), ops.len() - 1);
+    calls::walk(
+        library,
+        ORIGIN,
+        ops,
+        words,
+        MARK_WORDS * ops.len(),
+        ops.len() - 1,
+    );
     hull_near(library, ORIGIN, ops);
     outline_near(library, ORIGIN, ops);
     outline_near(library, (0, -MOST_START - 1), ops);
@@ -530,9 +544,9 @@ pub fn starts(library: &Library, longest: u32) {
             walk(library, start, &[], RECORD_WORDS * records);
             walk(library, start, &[2, 4], RECORD_WORDS * records);
         }
-        calls::walk(library, start, &[0, 5], RECORD_WORDS, 4, 2);
-        calls::walk(library, start, &[0, 1], RECORD_WORDS, 4, 1);
-        calls::walk(library, start, &[0, 1], RECORD_WORDS - 1, 4, 2);
+        calls::walk(library, start, &[0, 5], RECORD_WORDS, 6, 2);
+        calls::walk(library, start, &[0, 1], RECORD_WORDS, 6, 1);
+        calls::walk(library, start, &[0, 1], RECORD_WORDS - 1, 6, 2);
     }
     for way in 0..4 {
         let ops = inputs::straight(MOST_STEPS, way);

@@ -29,7 +29,7 @@ fn wrapper() {
                 start,
                 &ops,
                 &mut [0; 25 * 60],
-                &mut vec![0; 2 * n],
+                &mut vec![0; 3 * n],
                 &mut vec![0; n],
             )
         };

@@ -40,7 +40,7 @@ fn benched_rooms() {
             compare::inputs::closed_spiral(n),
             compare::inputs::closed_comb(n, 30),
         ] {
-            let (mut marks, mut chain) = (vec![0; 2 * n], vec![0; n]);
+            let (mut marks, mut chain) = (vec![0; 3 * n], vec![0; n]);
             let mut table = vec![0; answer::RECORD_WORDS * 4 * n];
             let facts = twin::walk((0, 0), &steps, &mut table, &mut marks, &mut chain).unwrap();
             assert_eq!(facts.verdict, answer::Verdict::Room);

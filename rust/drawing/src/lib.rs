@@ -5,7 +5,7 @@ mod chain;
 mod picture;
 mod sheet;
 
-use undrwyth::{Facts, LINE_BYTES, RECORD_WORDS, Refusal};
+use undrwyth::{Facts, LINE_BYTES, MARK_WORDS, RECORD_WORDS, Refusal};
 
 pub use chain::chain;
 pub use picture::svg;
@@ -41,7 +41,7 @@ fn number(digits: &[u8]) -> u32 {
 fn walked(operations: &[u8]) -> Result<(Facts, Vec<u8>), Refusal> {
     let n = operations.len();
     let mut table = vec![0; (4 * n + 1) * RECORD_WORDS];
-    let mut marks = vec![0; 2 * n];
+    let mut marks = vec![0; MARK_WORDS * n];
     let mut steps = vec![0; n];
     let facts = undrwyth::walk((0, 0), operations, &mut table, &mut marks, &mut steps)?;
     steps.truncate(facts.steps as usize);

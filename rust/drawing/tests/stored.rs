@@ -70,7 +70,10 @@ fn entry(record: &[u8]) -> String {
     }
     let ops: Vec<u8> = record[6..].iter().map(|digit| digit - b'0').collect();
     let mut table = vec![0; LINE_RECORDS * RECORD_WORDS];
-    let (mut marks, mut chain) = (vec![0; 2 * ops.len()], vec![0; ops.len()]);
+    let (mut marks, mut chain) = (
+        vec![0; undrwyth::MARK_WORDS * ops.len()],
+        vec![0; ops.len()],
+    );
     let facts =
         plain::walk((0, 0), &ops, &mut table, &mut marks, &mut chain).expect("it is accepted");
     let (j, k) = facts.meeting.unwrap_or((NO_MEETING, NO_MEETING));

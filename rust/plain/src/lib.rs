@@ -4,6 +4,7 @@
 mod convex;
 mod grid;
 mod hull;
+mod journal;
 mod line;
 mod outline;
 mod polygon;

@@ -1,7 +1,8 @@
 //! The line program and the converter.
 
 use answer::{
-    Facts, LINE_BYTES, LINE_RECORDS, MOST_LINE_DIGITS, NO_MEETING, RECORD_WORDS, Refusal,
+    Facts, LINE_BYTES, LINE_RECORDS, MARK_WORDS, MOST_LINE_DIGITS, NO_MEETING, RECORD_WORDS,
+    Refusal,
 };
 
 use crate::grid::{Corner, ROOT, corners};
@@ -77,7 +78,7 @@ fn judge(line: &[u8]) -> Result<(Facts, Vec<Corner>), Refusal> {
     }
     let ops = digits;
     let mut table = [0; RECORD_WORDS * LINE_RECORDS];
-    let mut marks = vec![0; 2 * ops.len()];
+    let mut marks = vec![0; MARK_WORDS * ops.len()];
     let mut chain = vec![0; ops.len()];
     let facts = walk(ROOT, &ops, &mut table, &mut marks, &mut chain)?;
     Ok((

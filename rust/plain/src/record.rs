@@ -10,13 +10,13 @@ use crate::grid::{Corner, corners, lineage, parent};
 pub type Record = [u32; RECORD_WORDS];
 
 /// The word of the parent's record that holds the ref of this child.
-fn child_word((x, y): Corner) -> usize {
+pub fn child_word((x, y): Corner) -> usize {
     let index = |v: i32| if v == -1 { -1 } else { v.abs() % 2 };
     CHILD + (3 * (index(x) + 1) + (index(y) + 1)) as usize
 }
 
 /// The direction from one corner to a neighbour.
-fn direction((ax, ay): Corner, (bx, by): Corner) -> usize {
+pub fn direction((ax, ay): Corner, (bx, by): Corner) -> usize {
     match (bx - ax, by - ay) {
         (1, 0) => 0,
         (0, 1) => 1,

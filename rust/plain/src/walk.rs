@@ -2,9 +2,12 @@
 
 use std::collections::HashMap;
 
-use answer::{Facts, MOST_INPUT, MOST_RECORDS, MOST_STEPS, RECORD_WORDS, Refusal, Verdict};
+use answer::{
+    Facts, MARK_WORDS, MOST_INPUT, MOST_RECORDS, MOST_STEPS, RECORD_WORDS, Refusal, Verdict,
+};
 
 use crate::grid::{Corner, corners, judge_start, lineage, stepped};
+use crate::journal::Journal;
 use crate::record::records;
 
 /// Judges the walk of `ops` from `start` and fills the three buffers.
@@ -43,7 +46,7 @@ fn judge_sizes(ops: usize, table: usize, marks: usize, chain: usize) -> Result<(
         || !(1..=MOST_RECORDS).contains(&(table / RECORD_WORDS))
     {
         Err(Refusal::Table)
-    } else if marks != 2 * ops || chain != ops {
+    } else if marks != MARK_WORDS * ops || chain != ops {
         Err(Refusal::ResultRoom)
     } else {
         Ok(())
@@ -65,56 +68,28 @@ fn judge_operations(ops: &[u8]) -> Result<(), Refusal> {
     Ok(())
 }
 
-/// Corners, each as often as it was added and not removed.
-#[derive(Default)]
-struct Bag(HashMap<Corner, u32>);
-
-impl Bag {
-    fn add(&mut self, corner: Corner) {
-        *self.0.entry(corner).or_insert(0) += 1;
-    }
-
-    fn remove(&mut self, corner: Corner) {
-        let count = self.0.get_mut(&corner).expect("it was added");
-        *count -= 1;
-        if *count == 0 {
-            self.0.remove(&corner);
-        }
-    }
-
-    fn count(&self, corner: Corner) -> u32 {
-        self.0.get(&corner).copied().unwrap_or(0)
-    }
-
-    fn different(&self) -> u32 {
-        self.0.len() as u32
-    }
-}
-
-/// The surviving steps, and after each operation the nodes in use and the visits at the corner then stood on.
-fn run(start: Corner, ops: &[u8]) -> (Vec<u8>, Vec<[u32; 2]>) {
+/// The surviving steps, and after each operation its mark: the nodes in use, the visits at the corner then stood on, and
+/// the records that differ from what they were before it.
+fn run(start: Corner, ops: &[u8]) -> (Vec<u8>, Vec<[u32; MARK_WORDS]>) {
     let (mut steps, mut trail) = (Vec::new(), vec![start]);
-    let (mut visits, mut nodes) = (Bag::default(), Bag::default());
-    visits.add(start);
-    lineage(start).for_each(|node| nodes.add(node));
-    let mut moments = Vec::new();
+    let mut journal = Journal::new(start);
+    let mut marks = Vec::new();
     for &op in ops {
         let at = *trail.last().unwrap();
         if op == 4 {
-            visits.remove(at);
-            lineage(at).for_each(|node| nodes.remove(node));
             trail.pop();
+            journal.back(*trail.last().unwrap(), at, steps.len() as u32);
             steps.pop();
         } else {
             let next = stepped(at, op);
-            visits.add(next);
-            lineage(next).for_each(|node| nodes.add(node));
             trail.push(next);
             steps.push(op);
+            journal.step(at, next, steps.len() as u32);
         }
-        moments.push([nodes.different(), visits.count(*trail.last().unwrap())]);
+        let visits = journal.visits(*trail.last().unwrap());
+        marks.push([journal.nodes(), visits, journal.changed()]);
     }
-    (steps, moments)
+    (steps, marks)
 }
 
 /// The meeting with the least k.

@@ -1,6 +1,6 @@
 //! The worked walks and the settled readings of the rules.
 
-use answer::{Facts, RECORD_WORDS, Refusal, Verdict};
+use answer::{Facts, MARK_WORDS, RECORD_WORDS, Refusal, Verdict};
 
 /// Room enough for all walks here but those that ask for more.
 const RECORDS: usize = 400;
@@ -14,7 +14,7 @@ fn ops(digits: &str) -> Vec<u8> {
 struct Walked {
     answer: Result<Facts, Refusal>,
     table: Vec<u32>,
-    marks: Vec<(u32, u32)>,
+    marks: Vec<[u32; MARK_WORDS]>,
     chain: Vec<u8>,
 }
 
@@ -44,10 +44,11 @@ fn walk_in(ops: &[u8], records: usize) -> Walked {
 /// Walks from a start in dirty buffers.
 fn walk_from(start: (i32, i32), ops: &[u8], records: usize) -> Walked {
     let mut table = vec![7; RECORD_WORDS * records];
-    let mut marks = vec![7; 2 * ops.len()];
+    let mut marks = vec![7; MARK_WORDS * ops.len()];
     let mut chain = vec![7; ops.len()];
     let answer = plain::walk(start, ops, &mut table, &mut marks, &mut chain);
-    let marks = marks.chunks(2).map(|pair| (pair[0], pair[1])).collect();
+    let (marks, _) = marks.as_chunks();
+    let marks = marks.to_vec();
     Walked {
         answer,
         table,
@@ -128,7 +129,7 @@ fn p5_p6_p7_west_is_not_east() {
 fn p8_a_node_that_nobody_visited() {
     let walked = walk("0011");
     assert_eq!((walked.facts().corners, walked.facts().nodes), (5, 6));
-    assert_eq!(walked.marks, [(2, 1), (3, 1), (4, 1), (6, 1)]);
+    assert_eq!(walked.marks, [[2, 1, 2], [3, 1, 2], [4, 1, 3], [6, 1, 5]]);
     assert_eq!(walked.words(4), [(0, 1), (5, 6), (13, 2), (17, 4), (19, 4)]);
     assert!(
         walked.table[6 * RECORD_WORDS..]
@@ -142,7 +143,7 @@ fn p8_no_room() {
     let walked = walk_in(&ops("0011"), 5);
     assert_eq!(walked.answer, Err(Refusal::NoRoom(3)));
     assert!(walked.table.iter().all(|&word| word == 0));
-    assert_eq!(walked.marks, [(0, 0); 4]);
+    assert_eq!(walked.marks, [[0; 3]; 4]);
     assert_eq!(walked.chain, [0; 4]);
     assert!(walk_in(&ops("0011"), 6).answer.is_ok());
 }
@@ -150,11 +151,18 @@ fn p8_no_room() {
 #[test]
 fn p9_p10_taken_back() {
     let walked = walk("004123");
-    let marks = [(2, 1), (3, 1), (2, 1), (3, 1), (4, 1), (4, 2)];
+    let marks = [
+        [2, 1, 2],
+        [3, 1, 2],
+        [2, 1, 2],
+        [3, 1, 3],
+        [4, 1, 3],
+        [4, 2, 2],
+    ];
     assert_eq!(walked.marks, marks);
     assert_eq!(walked.chain, ops("012300"));
     let walked = walk("0204");
-    assert_eq!(walked.marks, [(2, 1), (2, 2), (2, 2), (2, 2)]);
+    assert_eq!(walked.marks, [[2, 1, 2], [2, 2, 2], [2, 2, 2], [2, 2, 2]]);
     assert_eq!(walked.chain, ops("0200"));
     assert_eq!(walk("024").facts().verdict, Verdict::Open);
 }
@@ -241,7 +249,7 @@ fn no_room_for_the_start() {
     );
     let walked = walk_from(start, &ops("0"), 2);
     assert!(walked.table.iter().all(|&word| word == 0));
-    assert_eq!((walked.marks, walked.chain), (vec![(0, 0)], vec![0]));
+    assert_eq!((walked.marks, walked.chain), (vec![[0; 3]], vec![0]));
 }
 
 #[test]
@@ -277,7 +285,7 @@ fn order_of_refusals() {
     assert_eq!(walked.answer, Err(Refusal::BadDigit(5)));
     assert!(walked.table.iter().all(|&word| word == 7));
     assert_eq!(walked.chain, [7; 6]);
-    assert_eq!(walked.marks, [(7, 7); 6]);
+    assert_eq!(walked.marks, [[7; 3]; 6]);
     let many = vec![9; 32_769];
     assert_eq!(
         plain::walk((0, 0), &many, &mut [], &mut [], &mut []),
@@ -288,7 +296,7 @@ fn order_of_refusals() {
         Err(Refusal::Table)
     );
     assert_eq!(
-        plain::walk((0, 0), &many[..1], &mut [0; 25], &mut [0; 2], &mut []),
+        plain::walk((0, 0), &many[..1], &mut [0; 25], &mut [0; 3], &mut []),
         Err(Refusal::ResultRoom)
     );
 }
@@ -350,7 +358,7 @@ fn every_mark_is_that_of_the_survivors() {
             let alone = walk_in(&walked.chain[..facts.steps as usize], 30);
             assert_eq!(alone.answer, walked.answer);
             assert_eq!(alone.table, walked.table);
-            let last = walked.marks.last().map_or(1, |mark| mark.0);
+            let last = walked.marks.last().map_or(1, |mark| mark[0]);
             assert_eq!(last, facts.nodes);
         }
     }

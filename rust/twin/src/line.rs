@@ -3,7 +3,8 @@
 use std::io::{self, BufRead, Write};
 
 use answer::{
-    Facts, LINE_BYTES, LINE_RECORDS, MOST_LINE_DIGITS, NO_MEETING, RECORD_WORDS, Refusal,
+    Facts, LINE_BYTES, LINE_RECORDS, MARK_WORDS, MOST_LINE_DIGITS, NO_MEETING, RECORD_WORDS,
+    Refusal,
 };
 
 use crate::hull::hull_list;
@@ -41,7 +42,7 @@ pub fn program(mut input: impl BufRead, mut output: impl Write) -> io::Result<()
 struct Judge {
     digits: [u8; MOST_LINE_DIGITS],
     table: [u32; RECORD_WORDS * LINE_RECORDS],
-    marks: [u32; 2 * MOST_LINE_DIGITS],
+    marks: [u32; MARK_WORDS * MOST_LINE_DIGITS],
     chain: [u8; MOST_LINE_DIGITS],
 }
 
@@ -50,7 +51,7 @@ impl Judge {
         Judge {
             digits: [0; MOST_LINE_DIGITS],
             table: [0; RECORD_WORDS * LINE_RECORDS],
-            marks: [0; 2 * MOST_LINE_DIGITS],
+            marks: [0; MARK_WORDS * MOST_LINE_DIGITS],
             chain: [0; MOST_LINE_DIGITS],
         }
     }
@@ -77,7 +78,7 @@ impl Judge {
             (0, 0),
             ops,
             &mut self.table,
-            &mut self.marks[..2 * n],
+            &mut self.marks[..MARK_WORDS * n],
             chain,
         )?;
         Ok((facts, hull_list(ROOT, &chain[..facts.steps as usize])))

@@ -224,6 +224,20 @@ impl<'a> Tree<'a> {
         self.put(v, EDGE + back(way) as usize, count);
     }
 
+    /// How many records the last step changed, which led from `u` to `v` in the direction `way`.
+    pub fn changed(&self, mut u: usize, mut v: usize, way: u8, step: u32) -> u32 {
+        let mut sum = 2;
+        while let Some(above) = self.node(u, PARENT)
+            && self.word(above, LINK_STEP + way as usize) == step
+        {
+            let beside = self.linked(above, way).expect("a link's step has a link");
+            sum += u32::from(above != v) + u32::from(beside != u);
+            (u, v) = (above, beside);
+        }
+        let made = self.word(v, NEED) == step && self.node(v, PARENT) != Some(u);
+        sum + u32::from(made)
+    }
+
     pub fn visits(&self, node: usize) -> u32 {
         self.word(node, VISITS)
     }

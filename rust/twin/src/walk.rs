@@ -1,6 +1,8 @@
 //! The whole call of the walk.
 
-use answer::{Facts, MOST_INPUT, MOST_RECORDS, MOST_STEPS, RECORD_WORDS, Refusal, Verdict};
+use answer::{
+    Facts, MARK_WORDS, MOST_INPUT, MOST_RECORDS, MOST_STEPS, RECORD_WORDS, Refusal, Verdict,
+};
 
 use crate::tree::{Corner, STEPS, Tree, back, judge_start};
 
@@ -20,7 +22,11 @@ pub fn walk(
         chain.fill(0);
         return Err(Refusal::NoRoom(0));
     };
-    for (i, (&op, mark)) in ops.iter().zip(marks.chunks_exact_mut(2)).enumerate() {
+    for (i, (&op, mark)) in ops
+        .iter()
+        .zip(marks.chunks_exact_mut(MARK_WORDS))
+        .enumerate()
+    {
         if op == 4 {
             walk.take_back(chain);
         } else if !walk.step(chain, op) {
@@ -31,6 +37,7 @@ pub fn walk(
         }
         mark[0] = walk.tree.nodes as u32;
         mark[1] = walk.tree.visits(walk.node);
+        mark[2] = walk.changed;
     }
     let (steps, rest) = chain.split_at_mut(walk.steps as usize);
     rest.fill(0);
@@ -51,7 +58,7 @@ fn judge(
     if words == 0 || !words.is_multiple_of(RECORD_WORDS) || words / RECORD_WORDS > MOST_RECORDS {
         return Err(Refusal::Table);
     }
-    if marks != 2 * ops.len() || chain != ops.len() {
+    if marks != MARK_WORDS * ops.len() || chain != ops.len() {
         return Err(Refusal::ResultRoom);
     }
     judge_start(start)?;
@@ -84,6 +91,8 @@ struct Walk<'a> {
     steps: u32,
     corners: u32,
     meeting: Option<(u32, u32)>,
+    /// The records that the last operation changed.
+    changed: u32,
 }
 
 impl<'a> Walk<'a> {
@@ -98,6 +107,7 @@ impl<'a> Walk<'a> {
             steps: 0,
             corners: 1,
             meeting: None,
+            changed: 0,
         })
     }
 
@@ -113,6 +123,7 @@ impl<'a> Walk<'a> {
             Some(_) => {}
         }
         self.tree.tread(self.node, node, way);
+        self.changed = self.tree.changed(self.node, node, way, step);
         chain[self.steps as usize] = way;
         self.node = node;
         self.at = self.at.stepped(way);
@@ -126,6 +137,7 @@ impl<'a> Walk<'a> {
         let way = chain[step as usize - 1];
         let from = self.tree.linked(self.node, back(way));
         let from = from.expect("the ends of a step are linked");
+        self.changed = self.tree.changed(from, self.node, way, step);
         self.tree.untread(from, self.node, way);
         if self.tree.unvisit(self.node) {
             self.corners -= 1;

@@ -7,11 +7,11 @@ pub mod raw;
 
 pub use answer::*;
 
-/// Judges the walk of `ops` from the corner `start`, whose coordinates are at most [`MOST_START`] from 0, in a lent table of [`RECORD_WORDS`] words a record; `marks` has two words an operation and
-/// `chain` one byte.
+/// Judges the walk of `ops` from the corner `start`, whose coordinates are at most [`MOST_START`] from 0, in a lent table of [`RECORD_WORDS`] words a record; `marks` has [`MARK_WORDS`] words an
+/// operation and `chain` one byte.
 ///
 /// After an accepted walk the table holds the linked quadtree of the surviving steps, `marks` the nodes in use and the
-/// visits at the corner stood on after each operation, and `chain` the surviving steps and then zeros. [`word`] names the
+/// visits at the corner stood on after each operation and the number of records that it changed, and `chain` the surviving steps and then zeros. [`word`] names the
 /// words of a record.
 ///
 /// A table of 4 c + 64 records is never refused for room where the walk has at most c different corners at any moment, nor
@@ -21,11 +21,11 @@ pub use answer::*;
 /// ```
 /// let ops = [0, 1, 2, 3];
 /// let mut table = [0; 4 * undrwyth::RECORD_WORDS];
-/// let (mut marks, mut chain) = ([0; 8], [0; 4]);
+/// let (mut marks, mut chain) = ([0; 12], [0; 4]);
 /// let facts = undrwyth::walk((0, 0), &ops, &mut table, &mut marks, &mut chain)?;
 /// assert_eq!(facts.verdict, undrwyth::Verdict::Room);
 /// assert_eq!((facts.meeting, facts.area, facts.last), (Some((0, 4)), 1, (0, 0)));
-/// assert_eq!(marks, [2, 1, 3, 1, 4, 1, 4, 2]);
+/// assert_eq!(marks, [2, 1, 2, 3, 1, 3, 4, 1, 3, 4, 2, 2]);
 /// assert_eq!(chain, ops);
 /// # Ok::<(), undrwyth::Refusal>(())
 /// ```

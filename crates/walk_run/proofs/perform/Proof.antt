@@ -1,12 +1,17 @@
 -- `walk_run::perform` meets its contract.
 -- Assumes nothing.
+use mathlib.Core.Path.{_≡_, refl, subst}
+use Prim.Native.Nat.{ℕ}
 use native.Mathlib.Omega.{arith}
 use borrow.Author.Needs.{needs}
 use lib.ListN.{length}
-use Rattle.steps.specs.Operations.{operate}
-use Rattle.walk_run.proofs.ApplyLaws.{applied-bounds, performed-to, performed-full}
+use Rattle.steps.specs.Operations.{operate, Fine}
+use Rattle.walk_run.proofs.ApplyLaws.{applied-step, applied-tells, applied-bounds, performed-to, performed-full}
 use Rattle.walk_run.proofs.perform.Statement.{statement}
 use Rattle.walk_run.proofs.perform.Tie as tie
+
+taken-requires : tie.Need-taken-requires
+taken-requires c κs = search needs
 
 apply-requires : tie.Need-apply-requires
 apply-requires c κs = search needs
@@ -14,14 +19,25 @@ apply-requires c κs = search needs
 enum-known-next : tie.Need-enum-known-next
 enum-known-next c = search needs
 
-mark-requires : tie.Need-mark-requires
-mark-requires c κs =
-    let s = c .before .before .before .before .before .before .before .before .before .before .before .before .before .before .before .before in
+told-requires : tie.Need-told-requires
+told-requires c κs =
+    let s = c .before .before .before .before .before .before .before .before .before .before .before .before .before .before .before .before .before .before in
     let a = s .args in
     let k = s .pre .0 in
-    let b = c .before .before .before .before .before .before .before .before .before .before .apply in
-    let v = c .before .before .before .before .next .given in
-    let g = applied-bounds (length (a .t .now)) (a .marks .now) (a .i) (k .start) (b .last .0) (b .last .1 .0) (operate (k .steps) (a .op)) (b .result) (v .0 .0) (v .1) (b .ensures (k .start) (k .steps) (k .chained)) in
+    let b = c .before .before .before .before .before .before .before .before .before .apply in
+    let v = c .before .before .before .next .given in
+    let l : length (b .last .0) ≡ length (a .t .now) = search needs in
+    let f = subst (λ (m : ℕ). Fine m (a .op)) (k .chained .known .walked .steps) (k .fine) in
+    (applied-step (length (a .t .now)) (a .marks .now) (a .i) (k .start) (b .last .0) (b .last .1 .0) (k .steps) (operate (k .steps) (a .op)) (b .result) (v .0 .0) (v .1) (b .ensures (k .start) (k .steps) (k .chained)) (a .op) f refl, omega (arith, l, s .pre .1 .0))
+
+mark-requires : tie.Need-mark-requires
+mark-requires c κs =
+    let s = c .before .before .before .before .before .before .before .before .before .before .before .before .before .before .before .before .before .before .before .before .before in
+    let a = s .args in
+    let k = s .pre .0 in
+    let b = c .before .before .before .before .before .before .before .before .before .before .before .before .apply in
+    let v = c .before .before .before .before .before .before .next .given in
+    let g = applied-bounds (length (a .t .now)) (a .marks .now) (a .i) (k .start) (b .last .0) (b .last .1 .0) (k .steps) (operate (k .steps) (a .op)) (b .result) (v .0 .0) (v .1) (b .ensures (k .start) (k .steps) (k .chained)) in
     (g .0, omega (arith, s .pre .1 .1), omega (arith, g .1, s .pre .1 .0), omega (arith, s .pre .1 .2))
 
 enum-told : tie.Need-enum-told
@@ -38,11 +54,21 @@ same-length-3 c = search needs
 
 returns : tie.Need-returns
 returns c =
-    let a = c .before .before .before .before .before .before .before .before .before .before .before .before .before .before .before .before .before .before .before .args in
-    let b = c .before .before .before .before .before .before .before .before .before .before .before .before .before .apply in
-    let v = c .before .before .before .before .before .before .before .next .given in
-    let n = c .before .before .mark in
-    λ x ds h. performed-to (length (a .t .now)) (a .marks .now) (a .i) x (b .last .0) (b .last .1 .0) (operate ds (a .op)) (b .result) (v .0 .0) (v .1) (b .ensures x ds h) (n .last .1 .0) (n .ensures)
+    let s = c .before .before .before .before .before .before .before .before .before .before .before .before .before .before .before .before .before .before .before .before .before .before .before .before in
+    let a = s .args in
+    let k = s .pre .0 in
+    let b = c .before .before .before .before .before .before .before .before .before .before .before .before .before .before .before .apply in
+    let v = c .before .before .before .before .before .before .before .before .before .next .given in
+    let o = c .before .before .before .before .before .before .before .before .before .before .before .before .before .before .before .before .before .before .taken in
+    let n = c .before .before .before .before .before .told in
+    let m = c .before .before .mark in
+    λ x ds h.
+    let p = b .ensures x ds h in
+    let f = subst (λ (z : ℕ). Fine z (a .op)) (h .known .walked .steps) (k .fine) in
+    let W = length (a .t .now) in
+    performed-to W (a .marks .now) (a .i) x (b .last .0) (b .last .1 .0) ds (operate ds (a .op)) (b .result) (v .0 .0) (v .1) p (m .last .1 .0) (n .result)
+    (applied-tells W (a .marks .now) (a .i) x (b .last .0) (b .last .1 .0) ds (operate ds (a .op)) (b .result) (v .0 .0) (v .1) p (a .op) (o .result) (n .result) f refl (λ e. o .ensures x ds h e) (n .ensures))
+    (m .ensures)
 
 same-length-4 : tie.Need-same-length-4
 same-length-4 c = search needs
@@ -52,16 +78,18 @@ same-length-5 c = search needs
 
 returns-2 : tie.Need-returns-2
 returns-2 c =
-    let a = c .before .before .before .before .before .before .before .before .before .before .before .before .args in
+    let a = c .before .before .before .before .before .before .before .before .before .before .before .before .before .before .before .args in
     let b = c .before .before .before .before .before .before .apply in
-    λ x ds h. performed-full (length (a .t .now)) (a .marks .now) (a .i) x (b .last .0) (b .last .1 .0) (operate ds (a .op)) (b .result) (c .enum-told .given .1) (b .ensures x ds h) (a .marks .now)
+    λ x ds h. performed-full (length (a .t .now)) (a .marks .now) (a .i) x (b .last .0) (b .last .1 .0) ds (operate ds (a .op)) (b .result) (c .enum-told .given .1) (b .ensures x ds h) (a .marks .now)
 
 pub perform-spec : {M : Type 1} → statement M
 perform-spec =
     tie.close
     (tie.spec
+    taken-requires
     apply-requires
     enum-known-next
+    told-requires
     mark-requires
     enum-told
     same-length

@@ -1,0 +1,44 @@
+-- `walk_change::above_made` meets its contract.
+-- Assumes nothing.
+use Prim.Native.Nat.{_+_}
+use borrow.Author.Needs.{needs}
+use Rattle.walk_change.proofs.CountLaws.{made-above, made-none}
+use Rattle.walk_change.proofs.above_made.Statement.{statement}
+use Rattle.walk_change.proofs.above_made.Tie as tie
+
+word-requires : tie.Need-word-requires
+word-requires c κs = search needs
+
+word-requires-2 : tie.Need-word-requires-2
+word-requires-2 c κs = search needs
+
+cast-up : tie.Need-cast-up
+cast-up c = search needs
+
+add-one-unless : tie.Need-add-one-unless
+add-one-unless c = search needs
+
+one-unless-requires : tie.Need-one-unless-requires
+one-unless-requires c κs = search needs
+
+returns : tie.Need-returns
+returns c =
+    let a = c .before .before .before .before .before .args in
+    made-above (a .step) (a .u + 1) (c .before .before .before .word .ensures) (c .before .word2 .ensures) (c .before .before .if1 .taken) (c .one-unless .ensures)
+
+returns-2 : tie.Need-returns-2
+returns-2 c =
+    let a = c .before .before .before .args in
+    made-none (a .t .now) (a .u) (a .v) (a .step) (c .before .word .result) (c .before .word .ensures) (c .if1 .left)
+
+pub above-made-spec : {M : Type 1} → statement M
+above-made-spec =
+    tie.close
+    (tie.spec
+    word-requires
+    word-requires-2
+    cast-up
+    add-one-unless
+    one-unless-requires
+    returns
+    returns-2)

@@ -1,0 +1,2 @@
+-- What the count of changed records reads.
+pub mod Above
