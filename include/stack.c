@@ -149,7 +149,7 @@ static void convex_256(void) { count <= 256 ? convex() : nothing(); }
 static void convex_2048(void) { count <= 2048 ? convex() : nothing(); }
 
 /* n digits of a kind: out along one axis and then along the other, so that a step crosses a border of the tree at every
- * level; a staircase; a spiral; steps at random, with and without take-backs; round a rectangle. */
+ * level; a staircase; a spiral; steps at random, with and without take-backs; round a rectangle; east. */
 static void fill(int kind, size_t n) {
     unsigned long random = n + 1;
     size_t surviving = 0;
@@ -166,6 +166,7 @@ static void fill(int kind, size_t n) {
                 left = ++side / 2 + 1;
             break;
         case 12: way = i / ((n + 3) / 4); break;
+        case 13: way = 0; break;
         default: break;
         }
         digits[i] = way % 4;
@@ -220,8 +221,8 @@ int main(void) {
         {"undrwyth_line", line, UNDRWYTH_LINE_STACK_BYTES},
         {"undrwyth_convert_line", convert_line, UNDRWYTH_CONVERT_LINE_STACK_BYTES},
     };
-    static const size_t lengths[] = {0, 1, 64, 255, 256, 1000, 1024, 2047, 2048, 4096, 16383, 16384};
-    enum { CALLS = sizeof calls / sizeof calls[0], LENGTHS = sizeof lengths / sizeof lengths[0], KINDS = 13 };
+    static const size_t lengths[] = {0, 1, 64, 255, 256, 319, 1000, 1024, 2047, 2048, 4096, 16383, 16384};
+    enum { CALLS = sizeof calls / sizeof calls[0], LENGTHS = sizeof lengths / sizeof lengths[0], KINDS = 14 };
     size_t most[CALLS] = {0};
     int failures = 0;
     if (!make_stack()) {

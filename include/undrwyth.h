@@ -78,7 +78,7 @@ extern "C" {
 #define UNDRWYTH_CHAIN_STACK_BYTES 512          /* 248 measured */
 #define UNDRWYTH_TURNS_STACK_BYTES 256          /* 16 measured */
 #define UNDRWYTH_CONVERT_LINE_STACK_BYTES 2560  /* 2,200 measured */
-#define UNDRWYTH_LINE_STACK_BYTES 65536         /* 53,336 measured */
+#define UNDRWYTH_LINE_STACK_BYTES 65536         /* 63,592 measured */
 
 /* Refusals, in the order in which they are looked for: 1, 2, 3, 10; then 4, 5, 6 at the first faulty place; then 7, at
  * its first place; then 12; 8, 11, 13 and 21 last. A polygon that is read is refused 14, 15, 14 again, 16, 17, 6, 18, in
