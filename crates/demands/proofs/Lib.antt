@@ -19,6 +19,7 @@ pub mod ConvexLaws
 pub mod Convex
 pub mod Rows
 pub mod Outline
+pub mod ShareLaws
 pub mod Lines
 pub mod Overlay
 pub mod PolygonIn

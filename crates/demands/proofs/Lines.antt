@@ -14,6 +14,8 @@ use Rattle.line_frame.specs.Converted.{Turned, convertedLine, converter}
 use Rattle.line_frame.proofs.LineLaws as lineLaws
 use Rattle.line_frame.proofs.ConvertedLaws as convertedLaws
 use Rattle.line_frame.proofs.OutputLaws as outputLaws
+use Rattle.demands.specs.Shares.{endedParts, outputsOf}
+use Rattle.demands.proofs.ShareLaws as shareLaws
 
 -- "19, retired kind, for any well-formed 01 frame, before its digits are judged"
 pub retired : (s : List ℕ) (n : ℕ) → frameOf s ≡ Of Turns n → lineAnswer s ≡ refusedLine RetiredKind
@@ -52,3 +54,7 @@ converted-length = convertedLaws.converter-length
 -- of every program that writes line by line: where the first part of an input ends in a line feed, the output is that of the first part and then that of the second
 pub output-in-parts : (told last : List ℕ → List ℕ) (s t : List ℕ) → outputFrom told last [] (s ++ (10 ∷ t)) ≡ outputFrom told last [] (s ++ (10 ∷ [])) ++ outputFrom told last [] t
 output-in-parts = outputLaws.output-parts
+
+-- and so in any number of parts: each may be answered by a run of its own, anywhere, and the outputs put together in order are the output of the whole
+pub output-shared : (told last : List ℕ → List ℕ) (ss : List (List ℕ)) (t : List ℕ) → outputFrom told last [] (endedParts ss ++ t) ≡ outputsOf (outputFrom told last []) ss ++ outputFrom told last [] t
+output-shared = shareLaws.outputs-shared

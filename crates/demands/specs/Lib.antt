@@ -1,4 +1,4 @@
--- The moments of a walk, when each answer of the calls is given, what a record says, and what is lent for the surviving steps alone.
+-- The moments of a walk, when each answer of the calls is given, what a record says, what is lent for the surviving steps alone, and an input in parts.
 pub mod Moments
 pub mod Given
 pub mod GivenTurns
@@ -9,3 +9,4 @@ pub mod GivenOutline
 pub mod GivenFile
 pub mod Record
 pub mod Alone
+pub mod Shares
