@@ -3,13 +3,13 @@
 use mathlib.Core.Bool.{true, false}
 use mathlib.Core.List.{List, []}
 use mathlib.Core.Path.{_≡_, refl, ap, sym, subst, _∙_}
-use Prim.Native.Nat.{ℕ, suc, _+_, _-_, _*_, _<_, _≤_}
+use Prim.Native.Nat.{ℕ, suc, _+_, _-_, _*_, _<_, _≤_, max}
 use native.Mathlib.Decide.{ℕ-discrete, decLt}
 use native.Mathlib.Omega.{arith}
 use lib.ListN.{length, getD, replicate}
 use Rattle.grid.specs.declared.Corner.{Corner}
 use Rattle.grid.specs.Grid.{cornersFrom}
-use Rattle.grid.specs.Tree.{root, parentOf, isRoot, sizeOf, upBy, pathOf}
+use Rattle.grid.specs.Tree.{root, parentOf, isRoot, sizeOf, upBy, pathOf, childWord}
 use Rattle.layout.specs.Table.{width, HasRecord, wordAt, visitsWord}
 use Rattle.tree.specs.Nodes.{nodesOf, refOf}
 use Rattle.tree_laws.specs.State.{State, grown, Holds, Made, tableBy}
@@ -77,15 +77,19 @@ module _ (words : ℕ) (c : Corner) (t : List ℕ) (left nodes : ℕ) (k : Growi
     room = omega (arith, k .room);
   }
 
-  pub growing-ref : refOf (pathOf (upBy (left + 1) c)) (parentOf e) ≡ suc (nodes - 1)
+  growing-ref : refOf (pathOf (upBy (left + 1) c)) (parentOf e) ≡ suc (nodes - 1)
   growing-ref =
       let s : nodes ≡ suc (nodes - 1) = omega (arith, k .some) in
       ap (refOf (pathOf (upBy (left + 1) c))) (sym up) ∙ ref-path (upBy (left + 1) c) ∙ sym (k .count) ∙ s
 
   -- what `child` makes of it
-  module _ (deep : isRoot e ≡ false) (t′ : List ℕ) (r m : ℕ) (made : Made words (grown (plantedOf (upBy (left + 1) c)) e 0) e t′ r m) where
+  module _ (l : length t ≡ words) (deep : isRoot e ≡ false) (place r : ℕ) (p : place ≡ childWord e) (t′ : List ℕ)
+      (child : (S : State) (x : Corner) → Holds t nodes S → isRoot x ≡ false → refOf (S .nodes) (parentOf x) ≡ suc (nodes - 1) → place ≡ childWord x → Made (length t) (grown S x 0) x t′ r (max nodes r)) where
     abbrev T : State
     T = grown (plantedOf (upBy (left + 1) c)) e 0
+
+    made : Made words T e t′ r (max nodes r)
+    made = subst (λ (n : ℕ). Made n T e t′ r (max nodes r)) l (child (plantedOf (upBy (left + 1) c)) e (growing-holds l) deep growing-ref p)
 
     alike : T ≡ grown (plantedOf (parentOf e)) e 0
     alike = ap (λ (x : Corner). grown (plantedOf x) e 0) up

@@ -2,17 +2,16 @@
 -- Assumes nothing.
 use mathlib.Core.List.{List}
 use mathlib.Core.Path.{_≡_, refl, ap, subst, _∙_}
-use Prim.Native.Nat.{ℕ, _+_, _-_, _<_, _≤_, max}
+use Prim.Native.Nat.{ℕ, _+_, _-_, _<_, _≤_}
 use native.Mathlib.Omega.{arith}
 use borrow.Author.Needs.{needs}
 use lib.ListN.{length}
 use Rattle.grid.specs.declared.Corner.{Corner}
 use Rattle.grid.specs.Tree.{upBy, childWord}
-use Rattle.tree_laws.specs.State.{grown, Made}
 use Rattle.layout.proofs.ChildLaws.{childWord-range}
 use Rattle.table_laws.proofs.PlantLaws.{plantedOf}
 use Rattle.walk_plant.specs.Plants.{Deep}
-use Rattle.walk_plant.proofs.GrowLaws.{Growing, growing-start, growing-holds, growing-ref, growing-full, growing-next, growing-end, growing-none}
+use Rattle.walk_plant.proofs.GrowLaws.{Growing, growing-start, growing-holds, growing-full, growing-next, growing-end, growing-none}
 use Rattle.walk_plant.proofs.grow.Statement.{statement}
 use Rattle.walk_plant.proofs.grow.Tie as tie
 
@@ -68,16 +67,12 @@ returns c =
     let W = length (s .args .t .now) in
     let C = s .args .c in
     let l = c .before .before .before .before .before .before .before .before .loop in
-    let n = l .left - 1 in
-    let m : 0 < l .left = omega (arith, c .before .before .before .before .before .before .before .loop-test .taken) in
-    let k = down (l .left) (l .nodes) m (l .inv .3) in
+    let k = down (l .left) (l .nodes) (omega (arith, c .before .before .before .before .before .before .before .loop-test .taken)) (l .inv .3) in
     let b = c .before .before .before .child in
-    let p = c .before .before .before .before .before .child-word .ensures ∙ ap childWord (c .before .before .before .before .before .before .up-by .ensures) in
-    let deep = l .inv .1 .below n (omega (arith, l .inv .2)) in
-    let made : Made W (grown (plantedOf (upBy (n + 1) C)) (upBy n C) 0) (upBy n C) (b .last .0) (b .result) (max (l .nodes) (b .result)) =
-    subst (λ (x : ℕ). Made x (grown (plantedOf (upBy (n + 1) C)) (upBy n C) 0) (upBy n C) (b .last .0) (b .result) (max (l .nodes) (b .result))) (l .inv .0)
-    (b .ensures .0 (plantedOf (upBy (n + 1) C)) (upBy n C) (growing-holds W C (l .t) n (l .nodes) k (l .inv .0)) deep (growing-ref W C (l .t) n (l .nodes) k) p) in
-    growing-none W C (b .last .0) (growing-full W C (l .t) n (l .nodes) k deep (b .last .0) (b .result) (max (l .nodes) (b .result)) made (c .if1 .taken))
+    let w = c .before .before .before .before .before .child-word in
+    let p = w .ensures ∙ ap childWord (c .before .before .before .before .before .before .up-by .ensures) in
+    let deep = l .inv .1 .below (l .left - 1) (omega (arith, l .inv .2)) in
+    growing-none W C (b .last .0) (growing-full W C (l .t) (l .left - 1) (l .nodes) k (l .inv .0) deep (w .result) (b .result) p (b .last .0) (b .ensures .0) (c .if1 .taken))
 
 loop-less : tie.Need-loop-less Inv-loop μ-loop
 loop-less c = search needs
@@ -88,17 +83,13 @@ loop-again c =
     let W = length (s .args .t .now) in
     let C = s .args .c in
     let l = c .before .before .before .before .before .before .before .before .loop in
-    let n = l .left - 1 in
-    let m : 0 < l .left = omega (arith, c .before .before .before .before .before .before .before .loop-test .taken) in
-    let k = down (l .left) (l .nodes) m (l .inv .3) in
+    let k = down (l .left) (l .nodes) (omega (arith, c .before .before .before .before .before .before .before .loop-test .taken)) (l .inv .3) in
     let b = c .before .before .before .child in
-    let p = c .before .before .before .before .before .child-word .ensures ∙ ap childWord (c .before .before .before .before .before .before .up-by .ensures) in
-    let deep = l .inv .1 .below n (omega (arith, l .inv .2)) in
-    let made : Made W (grown (plantedOf (upBy (n + 1) C)) (upBy n C) 0) (upBy n C) (b .last .0) (b .result) (max (l .nodes) (b .result)) =
-    subst (λ (x : ℕ). Made x (grown (plantedOf (upBy (n + 1) C)) (upBy n C) 0) (upBy n C) (b .last .0) (b .result) (max (l .nodes) (b .result))) (l .inv .0)
-    (b .ensures .0 (plantedOf (upBy (n + 1) C)) (upBy n C) (growing-holds W C (l .t) n (l .nodes) k (l .inv .0)) deep (growing-ref W C (l .t) n (l .nodes) k) p) in
+    let w = c .before .before .before .before .before .child-word in
+    let p = w .ensures ∙ ap childWord (c .before .before .before .before .before .before .up-by .ensures) in
+    let deep = l .inv .1 .below (l .left - 1) (omega (arith, l .inv .2)) in
     let same : length (b .last .0) ≡ length (l .t) = search needs in
-    (same ∙ l .inv .0, l .inv .1, omega (arith, l .inv .2), growing-next W C (l .t) n (l .nodes) k deep (b .last .0) (b .result) (max (l .nodes) (b .result)) made (c .if1 .left))
+    (same ∙ l .inv .0, l .inv .1, omega (arith, l .inv .2), growing-next W C (l .t) (l .left - 1) (l .nodes) k (l .inv .0) deep (w .result) (b .result) p (b .last .0) (b .ensures .0) (c .if1 .left))
 
 same-length-2 : tie.Need-same-length-2 Inv-loop μ-loop
 same-length-2 c = search needs
