@@ -144,21 +144,15 @@ pub fn survey(chain: &[u8]) -> Extent
     }
 }
 
-fn lower(a: u16, b: u16) -> u16
-    ensures { λ r. ⌜ r ≡ min a b ⌝ }
-{
-    if a < b {
-        return a;
-    }
-    b
-}
-
 // Column c keeps the height y if it is lower.
 fn keep(ys: &mut [u16], c: usize, y: u16)
     requires { ⌜ c < length (now ys) ⌝ }
     ensures { λ _. ⌜ now (ys .exit) ≡ sink (now (ys .entry)) (c, y) ⌝ }
 {
-    ys[c] = lower(ys[c], y);
+    if ys[c] <= y {
+        return;
+    }
+    ys[c] = y;
 }
 
 // Keeps the lowest corner of each column in lo, counted from west, and in hi that of the walk turned by half a turn, from east.
