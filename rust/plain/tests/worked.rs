@@ -395,3 +395,50 @@ fn converted() {
     assert_eq!(plain::converter(b""), b"");
     assert_eq!(plain::convert_line(b"0100013", &mut [0; 6]), 0);
 }
+
+/// The records that differ before and after each operation, counted in whole tables of the walk's beginnings.
+#[test]
+fn changes_are_those_of_whole_tables() {
+    let walks = [
+        "00112233",
+        "0123",
+        "0242",
+        "01230123",
+        "00004444",
+        "0101014140",
+        "000111222333",
+        "0123441230444",
+    ];
+    for start in [
+        (0, 0),
+        (-1, 0),
+        (7, 8),
+        (16_383, 16_383),
+        (-16_384, 16_384),
+        (-9, -4_097),
+    ] {
+        for ops in walks.map(ops) {
+            let whole = walk_from(start, &ops, RECORDS);
+            for k in 1..=ops.len() {
+                let before = walk_from(start, &ops[..k - 1], RECORDS).table;
+                let after = walk_from(start, &ops[..k], RECORDS).table;
+                let records = |table: &[u32]| {
+                    table
+                        .chunks(RECORD_WORDS)
+                        .map(<[u32]>::to_vec)
+                        .collect::<Vec<_>>()
+                };
+                let differ = records(&before)
+                    .iter()
+                    .zip(&records(&after))
+                    .filter(|(b, a)| b != a)
+                    .count();
+                assert_eq!(
+                    whole.marks[k - 1][2] as usize,
+                    differ,
+                    "{ops:?} from {start:?}, operation {k}"
+                );
+            }
+        }
+    }
+}
