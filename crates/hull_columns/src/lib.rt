@@ -5,7 +5,7 @@ use order::greater;
 use order::lesser;
 ghost use mathlib.Core.Path.{_≡_};
 ghost use mathlib.Core.List.{map};
-ghost use Prim.Native.Nat.{ℕ, _-_, _<_, _≤_, min, max};
+ghost use Prim.Native.Nat.{ℕ, _-_, _<_, _≤_, max};
 ghost use lib.ListN.{length, getD};
 ghost use Rattle.answer.specs.declared.Judged.the-variants.{Good};
 ghost use Rattle.hull.specs.Call.{chainJudged};
