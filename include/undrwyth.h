@@ -221,7 +221,8 @@ extern "C" {
  * 4 * c + 64 records are enough where the walk has at most c different corners at any moment, so 4 * n + 68 always
  * are; from (0,0), 4 * c - 3 and 4 * n + 1.
  * Lend what the walk can need and no more: the whole table is cleared, whatever the walk uses of it. A walk of 64 steps
- * took 24 ns a step in a table of 65 records and 1,489 ns in one of 65,537 (ARM Neoverse-N1).
+ * took 24 ns a step in a table of 65 records and 1,489 ns in one of 65,537 (ARM Neoverse-N1, with
+ * records of 21 words; longer ones cost more).
  *
  * Accepted: table holds the records of the nodes in use, and then zeros. marks holds for each operation, at its place,
  * the nodes in use after it, the visits at the corner then stood on, and the number of records that differ before and
