@@ -1,7 +1,7 @@
 -- How many records differ in two tables, row by row, and in the tables before and after a step.
 -- Assumes nothing.
 use mathlib.Core.Bool.{Bool, true, false, not, _&&_}
-use mathlib.Core.List.{List, [], _∷_, _++_, append-assoc, List·Memᴰ, List·Memᴰ·head, List·Memᴰ·tail}
+use mathlib.Core.List.{List, [], _∷_, _++_, append-assoc, List·Memᴰ}
 use mathlib.Core.Path.{_≡_, refl, ap, ap₂, sym, _∙_}
 use Prim.Native.Nat.{ℕ, zero, suc, _+_, _-_, _*_, _<_, _≤_, max}
 use native.Mathlib.Omega.{arith}
@@ -24,7 +24,7 @@ use Rattle.tree_laws.proofs.PushLaws.{push-nodes, sound-walk, finish-node}
 use Rattle.tree_laws.proofs.RiseLaws.{risen-few}
 use Rattle.table_laws.proofs.ChangeLaws.{same-self, rooted, changed, after, before, before-old, before-new, count-changed}
 use Rattle.table_laws.proofs.LookupLaws.{length-table}
-use Rattle.table_laws.proofs.RowLaws.{table-state, rows-append, rows-cong, length-rows}
+use Rattle.table_laws.proofs.RowLaws.{table-state, rows-append, rows-cong, rows-zero, length-rows}
 use Rattle.table_laws.proofs.StateLaws.{step-table, room-old}
 use Rattle.table_laws.proofs.StoreLaws.{wide}
 
@@ -63,15 +63,6 @@ changes-flip : (n : ℕ) (t u : List ℕ) → changesIn n t u ≡ changesIn n u 
 changes-flip zero t u = refl
 changes-flip (suc n) t u = ap₂ _+_ (ap (λ (b : Bool). tally (not b)) (same-flip (take width t) (take width u))) (changes-flip n (drop width t) (drop width u))
 
--- rows of zeros
-rows-zero : (R : Corner → List ℕ) (l : List Corner) → ((x : Corner) → List·Memᴰ x l → R x ≡ replicate width 0) → rowsOf R l ≡ replicate (width * length l) 0
-rows-zero R [] h = refl
-rows-zero R (x ∷ l) h =
-    let e : width + width * length l ≡ width * suc (length l) = omega arith in
-    ap₂ (λ (a b : List ℕ). a ++ b) (h x (List·Memᴰ·head refl)) (rows-zero R l (λ y m. h y (List·Memᴰ·tail m)))
-    ∙ replicate-append-replicate width (width * length l) 0
-    ∙ ap (λ (n : ℕ). replicate n 0) e
-
 module _ (S : State) (sound : Sound S) (s d : ℕ) (pos : 0 < s) (small : d < 4) (a : Corner) (from : List·Memᴰ a (S .nodes)) where
   abbrev all : List Corner
   all = gather same (S .nodes) (pathOf (stepped d a))
@@ -95,11 +86,11 @@ module _ (S : State) (sound : Sound S) (s d : ℕ) (pos : 0 < s) (small : d < 4)
       let n = length ns in
       let k = length (f .new) in
       let size : length all ≡ n + k = ap length (f .nodes) ∙ length-append ns (f .new) in
-      let rows : rowsOf old all ≡ rs ++ replicate (width * k) 0 = ap (rowsOf old) (f .nodes) ∙ rows-append old ns (f .new) ∙ ap₂ (λ (x y : List ℕ). x ++ y) (rows-cong old (recordBy S) ns (before-old S sound s d pos small a from)) (rows-zero old (f .new) (λ x m. before-new S sound s d pos small a from x (f .unknown x m))) in
-      let left : words - length rs ≡ width * k + (words - width * length all) = omega (arith, length-rows (recordBy S) (wide S) ns) in
+      let rows : rowsOf old all ≡ rs ++ replicate (k * width) 0 = ap (rowsOf old) (f .nodes) ∙ rows-append old ns (f .new) ∙ ap₂ (λ (x y : List ℕ). x ++ y) (rows-cong old (recordBy S) ns (before-old S sound s d pos small a from)) (rows-zero width old (f .new) (λ x m. before-new S sound s d pos small a from x (f .unknown x m))) in
+      let left : words - length rs ≡ k * width + (words - width * length all) = omega (arith, length-rows (recordBy S) (wide S) ns) in
       ap (λ (m : ℕ). rs ++ replicate m 0) left
-      ∙ ap (λ (l : List ℕ). rs ++ l) (sym (replicate-append-replicate (width * k) (words - width * length all) 0))
-      ∙ sym (append-assoc rs (replicate (width * k) 0) (replicate (words - width * length all) 0))
+      ∙ ap (λ (l : List ℕ). rs ++ l) (sym (replicate-append-replicate (k * width) (words - width * length all) 0))
+      ∙ sym (append-assoc rs (replicate (k * width) 0) (replicate (words - width * length all) 0))
       ∙ ap (λ (l : List ℕ). l ++ replicate (words - width * length all) 0) (sym rows)
 
   -- how many records the step changes, in a table of any size that has room for it
@@ -107,7 +98,7 @@ module _ (S : State) (sound : Sound S) (s d : ℕ) (pos : 0 < s) (small : d < 4)
   step-changes k words n h room more =
       let T : State = after S sound s d pos small a in
       let z : List ℕ = replicate (words - width * length all) 0 in
-      let new : tableBy words T ≡ rowsOf (recordBy T) all ++ z = ap (λ (m : ℕ). rowsOf (recordBy T) all ++ replicate (words - m) 0) (length-rows (recordBy T) (wide T) all) in
+      let new : tableBy words T ≡ rowsOf (recordBy T) all ++ z = ap (λ (m : ℕ). rowsOf (recordBy T) all ++ replicate (words - m) 0) (length-rows (recordBy T) (wide T) all ∙ (omega arith)) in
       ap₂ (changesIn n) (table-before words room) new
       ∙ rows-differ old (recordBy T) old-wide (wide T) all (n - length all) n z z (omega arith)
       ∙ omega (arith, changes-self (n - length all) z, count-changed S sound s d pos small a from k h)

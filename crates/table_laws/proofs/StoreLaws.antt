@@ -26,7 +26,7 @@ use Rattle.lists.proofs.GatherLaws.{distinct-snoc}
 use Rattle.tree.proofs.JoinLaws.{joins-cases, joins-here, joins-there, joins-stepped}
 use Rattle.tree_laws.proofs.AddLaws.{ref-append, ref-snoc, child-other, child-before, child-snoc, child-new, parent-ne}
 use Rattle.tree_laws.proofs.PopLaws.{visit-first, visit-again, unvisit-last, unvisit-more}
-use Rattle.table_laws.proofs.RowLaws.{upd, upd-at, upd-off, rows-cong, row-read, row-set, row-set-again, row-more, row-clear, two-rows, one-each, wide-upd}
+use Rattle.table_laws.proofs.RowLaws.{Once, once, corners, upd, upd-at, upd-off, rows-cong, row-read, row-set, row-set-again, row-more, row-clear, two-rows, one-each, wide-upd}
 
 pub wide : (S : State) (a : Corner) → length (recordBy S a) ≡ width
 wide S a = refl
@@ -60,35 +60,35 @@ alike-table words S T h = ap (filled words) (rows-cong (recordBy S) (recordBy T)
 -- reading: the words of the node a with ref 1 + u
 module _ (words : ℕ) (S : State) (a : Corner) (u : ℕ) (e : refOf (S .nodes) a ≡ suc u) where
   pub read-parent : getD (tableBy words S) (wordAt u parentWord) 0 ≡ cond (isRoot a) 0 (refOf (S .nodes) (parentOf a))
-  read-parent = row-read (recordBy S) (wide S) words (S .nodes) a u parentWord e (omega arith)
+  read-parent = row-read corners (recordBy S) (wide S) words (S .nodes) a u parentWord e (omega arith)
 
   pub read-child : (w : ℕ) → 0 < w → w < 10 → getD (tableBy words S) (wordAt u w) 0 ≡ childRefOf (S .nodes) a w
   read-child w h k =
-      row-read (recordBy S) (wide S) words (S .nodes) a u w e (omega arith)
+      row-read corners (recordBy S) (wide S) words (S .nodes) a u w e (omega arith)
       ∙ child-of (fieldsBy S a) w h k
 
   pub read-neighbour : (d : ℕ) → d < 4 → getD (tableBy words S) (wordAt u (neighbourWord d)) 0 ≡ neighbourBy (S .nodes) (S .step) a d
   read-neighbour d k =
-      row-read (recordBy S) (wide S) words (S .nodes) a u (neighbourWord d) e (omega arith)
+      row-read corners (recordBy S) (wide S) words (S .nodes) a u (neighbourWord d) e (omega arith)
       ∙ neighbour-of (fieldsBy S a) d k
 
   pub read-step : (d : ℕ) → d < 4 → getD (tableBy words S) (wordAt u (linkWord d)) 0 ≡ S .step a (stepped d a)
   read-step d k =
-      row-read (recordBy S) (wide S) words (S .nodes) a u (linkWord d) e (omega arith)
+      row-read corners (recordBy S) (wide S) words (S .nodes) a u (linkWord d) e (omega arith)
       ∙ link-of (fieldsBy S a) d k
 
   pub read-visits : getD (tableBy words S) (wordAt u visitsWord) 0 ≡ S .visits a
-  read-visits = row-read (recordBy S) (wide S) words (S .nodes) a u visitsWord e (omega arith)
+  read-visits = row-read corners (recordBy S) (wide S) words (S .nodes) a u visitsWord e (omega arith)
 
   pub read-need : getD (tableBy words S) (wordAt u needWord) 0 ≡ S .need a
-  read-need = row-read (recordBy S) (wide S) words (S .nodes) a u needWord e (omega arith)
+  read-need = row-read corners (recordBy S) (wide S) words (S .nodes) a u needWord e (omega arith)
 
   pub read-first : getD (tableBy words S) (wordAt u firstWord) 0 ≡ S .first a
-  read-first = row-read (recordBy S) (wide S) words (S .nodes) a u firstWord e (omega arith)
+  read-first = row-read corners (recordBy S) (wide S) words (S .nodes) a u firstWord e (omega arith)
 
   pub read-edge : (d : ℕ) → d < 4 → getD (tableBy words S) (wordAt u (edgeWord d)) 0 ≡ S .edges a (stepped d a)
   read-edge d k =
-      row-read (recordBy S) (wide S) words (S .nodes) a u (edgeWord d) e (omega arith)
+      row-read corners (recordBy S) (wide S) words (S .nodes) a u (edgeWord d) e (omega arith)
       ∙ edge-of (fieldsBy S a) d k
 
 by-same : (x a : Corner) (P : Type 0) → (x ≡ a → P) → ((x ≡ a → ⊥) → P) → P
@@ -168,7 +168,7 @@ module _ (S : State) (a : Corner) (d s : ℕ) (small : d < 4) where
       → set (set (set (set (tableBy words S) (wordAt u (neighbourWord d)) (far s (suc v))) (wordAt u (linkWord d)) s) (wordAt v (neighbourWord (back d))) (far s (suc u))) (wordAt v (linkWord (back d))) s ≡ tableBy words (withLink S a (stepped d a) s)
   link-stores words u v dis h k =
       let b = back-small d in
-      two-rows (recordBy S) (wide S) words (S .nodes) a (stepped d a) u v (neighbourWord d) (far s (suc v)) (linkWord d) s (neighbourWord (back d)) (far s (suc u)) (linkWord (back d)) s dis h k (stepped-ne d a) (omega arith) (omega arith) (omega arith) (omega arith)
+      two-rows corners (recordBy S) (wide S) words (S .nodes) a (stepped d a) u v (neighbourWord d) (far s (suc v)) (linkWord d) s (neighbourWord (back d)) (far s (suc u)) (linkWord (back d)) s (once (S .nodes) dis a) (once (S .nodes) dis (stepped d a)) h k (stepped-ne d a) (omega arith) (omega arith) (omega arith) (omega arith)
       ∙ ap (filled words) (rows-cong Q (recordBy (withLink S a (stepped d a) s)) (S .nodes) (λ x m. row x))
     where
       row-a : List ℕ
@@ -178,15 +178,15 @@ module _ (S : State) (a : Corner) (d s : ℕ) (small : d < 4) where
       row-e = set (set (recordBy S (stepped d a)) (neighbourWord (back d)) (far s (suc u))) (linkWord (back d)) s
 
       Q : Corner → List ℕ
-      Q = upd (upd (recordBy S) a row-a) (stepped d a) row-e
+      Q = upd corners (upd corners (recordBy S) a row-a) (stepped d a) row-e
 
       here : Q (stepped d a) ≡ recordBy (withLink S a (stepped d a) s) (stepped d a)
-      here = upd-at (upd (recordBy S) a row-a) (stepped d a) row-e ∙ ap (λ (r : ℕ). set (set (recordBy S (stepped d a)) (neighbourWord (back d)) (far s r)) (linkWord (back d)) s) (sym h) ∙ sym link-row-e
+      here = upd-at corners (upd corners (recordBy S) a row-a) (stepped d a) row-e ∙ ap (λ (r : ℕ). set (set (recordBy S (stepped d a)) (neighbourWord (back d)) (far s r)) (linkWord (back d)) s) (sym h) ∙ sym link-row-e
 
       from : Q a ≡ recordBy (withLink S a (stepped d a) s) a
       from =
-          upd-off (upd (recordBy S) a row-a) (stepped d a) row-e a (λ p. stepped-ne d a (sym p))
-          ∙ upd-at (recordBy S) a row-a
+          upd-off corners (upd corners (recordBy S) a row-a) (stepped d a) row-e a (λ p. stepped-ne d a (sym p))
+          ∙ upd-at corners (recordBy S) a row-a
           ∙ ap (λ (r : ℕ). set (set (recordBy S a) (neighbourWord d) (far s r)) (linkWord d) s) (sym k)
           ∙ sym link-row-a
 
@@ -196,7 +196,7 @@ module _ (S : State) (a : Corner) (d s : ℕ) (small : d < 4) where
           (λ p. subst (λ y. Q y ≡ recordBy (withLink S a (stepped d a) s) y) (sym p) here)
           (λ f. by-same x a (Q x ≡ recordBy (withLink S a (stepped d a) s) x)
           (λ p. subst (λ y. Q y ≡ recordBy (withLink S a (stepped d a) s) y) (sym p) from)
-          (λ g. upd-off (upd (recordBy S) a row-a) (stepped d a) row-e x f ∙ upd-off (recordBy S) a row-a x g ∙ sym (link-row-x x g f)))
+          (λ g. upd-off corners (upd corners (recordBy S) a row-a) (stepped d a) row-e x f ∙ upd-off corners (recordBy S) a row-a x g ∙ sym (link-row-x x g f)))
 
 -- the same as the code has it
 pub link-table : (S : State) (a : Corner) (d s words u v : ℕ) → d < 4 → 0 < s → Distinct (S .nodes) → refOf (S .nodes) a ≡ suc u → refOf (S .nodes) (stepped d a) ≡ suc v
@@ -271,19 +271,19 @@ module _ (S : State) (sound : Sound S) (e : Corner) (s : ℕ) (deep : isRoot e �
       (sound .unseen e fresh)
       (λ k i. sound .unwalked e (stepped k e) fresh)
 
-  grown-distinct : Distinct (S .nodes ++ (e ∷ []))
-  grown-distinct = distinct-snoc (S .nodes) e (sound .good .distinct) fresh
+  grown-once : (x : Corner) → Once x (S .nodes ++ (e ∷ []))
+  grown-once = once (S .nodes ++ (e ∷ [])) (distinct-snoc (S .nodes) e (sound .good .distinct) fresh)
 
   -- the rows of the nodes with the new one, from those before
   node-rows : (u : ℕ) → refOf (S .nodes) (parentOf e) ≡ suc u → (x : Corner) → List·Memᴰ x (S .nodes ++ (e ∷ []))
-      → upd (upd (recordBy S) (parentOf e) (set (recordBy S (parentOf e)) (childWord e) (suc (length (S .nodes))))) e (set (set (replicate width 0) parentWord (suc u)) needWord s) x ≡ recordBy (withNode S e s) x
+      → upd corners (upd corners (recordBy S) (parentOf e) (set (recordBy S (parentOf e)) (childWord e) (suc (length (S .nodes))))) e (set (set (replicate width 0) parentWord (suc u)) needWord s) x ≡ recordBy (withNode S e s) x
   node-rows u h x m =
       by-same x e (Q x ≡ recordBy (withNode S e s) x)
-      (λ p. subst (λ y. Q y ≡ recordBy (withNode S e s) y) (sym p) (upd-at (upd (recordBy S) (parentOf e) row) e new ∙ sym (node-row-e u h)))
-      (λ f. upd-off (upd (recordBy S) (parentOf e) row) e new x f
-      ∙ by-same x (parentOf e) (upd (recordBy S) (parentOf e) row x ≡ recordBy (withNode S e s) x)
-      (λ p. subst (λ y. upd (recordBy S) (parentOf e) row y ≡ recordBy (withNode S e s) y) (sym p) (upd-at (recordBy S) (parentOf e) row ∙ sym node-row-parent))
-      (λ g. upd-off (recordBy S) (parentOf e) row x g ∙ sym (node-row-x x (⊎-elim (λ k. k) (λ k. absurd (f (List·Memᴰ·eq-of-singleton k))) (List·Memᴰ·append-cases (S .nodes) m)) g)))
+      (λ p. subst (λ y. Q y ≡ recordBy (withNode S e s) y) (sym p) (upd-at corners (upd corners (recordBy S) (parentOf e) row) e new ∙ sym (node-row-e u h)))
+      (λ f. upd-off corners (upd corners (recordBy S) (parentOf e) row) e new x f
+      ∙ by-same x (parentOf e) (upd corners (recordBy S) (parentOf e) row x ≡ recordBy (withNode S e s) x)
+      (λ p. subst (λ y. upd corners (recordBy S) (parentOf e) row y ≡ recordBy (withNode S e s) y) (sym p) (upd-at corners (recordBy S) (parentOf e) row ∙ sym node-row-parent))
+      (λ g. upd-off corners (recordBy S) (parentOf e) row x g ∙ sym (node-row-x x (⊎-elim (λ k. k) (λ k. absurd (f (List·Memᴰ·eq-of-singleton k))) (List·Memᴰ·append-cases (S .nodes) m)) g)))
     where
       row : List ℕ
       row = set (recordBy S (parentOf e)) (childWord e) (suc (length (S .nodes)))
@@ -292,7 +292,7 @@ module _ (S : State) (sound : Sound S) (e : Corner) (s : ℕ) (deep : isRoot e �
       new = set (set (replicate width 0) parentWord (suc u)) needWord s
 
       Q : Corner → List ℕ
-      Q = upd (upd (recordBy S) (parentOf e) row) e new
+      Q = upd corners (upd corners (recordBy S) (parentOf e) row) e new
 
   -- the three stores of a new node
   pub node-table : (words u : ℕ) → refOf (S .nodes) (parentOf e) ≡ suc u → width * suc (length (S .nodes)) ≤ words
@@ -302,44 +302,44 @@ module _ (S : State) (sound : Sound S) (e : Corner) (s : ℕ) (deep : isRoot e �
       let n : length (S .nodes) + 1 ≡ suc (length (S .nodes)) = omega arith in
       let i : u + 1 ≡ suc u = omega arith in
       rw (n, i)
-      (ap (λ (t : List ℕ). set (set (set t (wordAt u (childWord e)) (suc (length (S .nodes)))) (wordAt (length (S .nodes)) parentWord) (suc u)) (wordAt (length (S .nodes)) needWord) s) (row-more (recordBy S) (wide S) words (S .nodes) e fresh room)
+      (ap (λ (t : List ℕ). set (set (set t (wordAt u (childWord e)) (suc (length (S .nodes)))) (wordAt (length (S .nodes)) parentWord) (suc u)) (wordAt (length (S .nodes)) needWord) s) (row-more corners (recordBy S) (wide S) words (S .nodes) e fresh (omega (arith, room)))
       ∙ ap (λ (t : List ℕ). set (set t (wordAt (length (S .nodes)) parentWord) (suc u)) (wordAt (length (S .nodes)) needWord) s)
-      (row-set A wide-A words all (parentOf e) u (childWord e) (suc (length (S .nodes))) grown-distinct (ref-append (S .nodes) (e ∷ []) (parentOf e) under ∙ h) (omega (arith, w .1)))
-      ∙ ap (λ (t : List ℕ). set t (wordAt (length (S .nodes)) needWord) s) (row-set B wide-B words all e (length (S .nodes)) parentWord (suc u) grown-distinct (ref-snoc (S .nodes) e fresh) (omega arith))
-      ∙ row-set-again B wide-B words all e (set (B e) parentWord (suc u)) (length (S .nodes)) needWord s (length-set (B e) parentWord (suc u) ∙ wide-B e) grown-distinct (ref-snoc (S .nodes) e fresh) (omega arith)
-      ∙ ap (filled words) (rows-cong (upd B e (set (set (B e) parentWord (suc u)) needWord s)) (recordBy (withNode S e s)) all (λ x m. row x ∙ node-rows u h x m)))
+      (row-set corners A wide-A words all (parentOf e) u (childWord e) (suc (length (S .nodes))) (grown-once (parentOf e)) (ref-append (S .nodes) (e ∷ []) (parentOf e) under ∙ h) (omega (arith, w .1)))
+      ∙ ap (λ (t : List ℕ). set t (wordAt (length (S .nodes)) needWord) s) (row-set corners B wide-B words all e (length (S .nodes)) parentWord (suc u) (grown-once e) (ref-snoc (S .nodes) e fresh) (omega arith))
+      ∙ row-set-again corners B wide-B words all e (set (B e) parentWord (suc u)) (length (S .nodes)) needWord s (length-set (B e) parentWord (suc u) ∙ wide-B e) (grown-once e) (ref-snoc (S .nodes) e fresh) (omega arith)
+      ∙ ap (filled words) (rows-cong (upd corners B e (set (set (B e) parentWord (suc u)) needWord s)) (recordBy (withNode S e s)) all (λ x m. row x ∙ node-rows u h x m)))
     where
       all : List Corner
       all = S .nodes ++ (e ∷ [])
 
       A : Corner → List ℕ
-      A = upd (recordBy S) e (replicate width 0)
+      A = upd corners (recordBy S) e (replicate width 0)
 
       wide-A : (x : Corner) → length (A x) ≡ width
-      wide-A = wide-upd (recordBy S) (wide S) e (replicate width 0) refl
+      wide-A = wide-upd corners (recordBy S) (wide S) e (replicate width 0) refl
 
       B : Corner → List ℕ
-      B = upd A (parentOf e) (set (A (parentOf e)) (childWord e) (suc (length (S .nodes))))
+      B = upd corners A (parentOf e) (set (A (parentOf e)) (childWord e) (suc (length (S .nodes))))
 
       wide-B : (x : Corner) → length (B x) ≡ width
-      wide-B = wide-upd A wide-A (parentOf e) (set (A (parentOf e)) (childWord e) (suc (length (S .nodes)))) (length-set (A (parentOf e)) (childWord e) (suc (length (S .nodes))) ∙ wide-A (parentOf e))
+      wide-B = wide-upd corners A wide-A (parentOf e) (set (A (parentOf e)) (childWord e) (suc (length (S .nodes)))) (length-set (A (parentOf e)) (childWord e) (suc (length (S .nodes))) ∙ wide-A (parentOf e))
 
       B-e : B e ≡ replicate width 0
-      B-e = upd-off A (parentOf e) (set (A (parentOf e)) (childWord e) (suc (length (S .nodes)))) e (parent-ne e deep) ∙ upd-at (recordBy S) e (replicate width 0)
+      B-e = upd-off corners A (parentOf e) (set (A (parentOf e)) (childWord e) (suc (length (S .nodes)))) e (parent-ne e deep) ∙ upd-at corners (recordBy S) e (replicate width 0)
 
       A-parent : A (parentOf e) ≡ recordBy S (parentOf e)
-      A-parent = upd-off (recordBy S) e (replicate width 0) (parentOf e) (old-ne (parentOf e) under)
+      A-parent = upd-off corners (recordBy S) e (replicate width 0) (parentOf e) (old-ne (parentOf e) under)
 
-      row : (x : Corner) → upd B e (set (set (B e) parentWord (suc u)) needWord s) x
-          ≡ upd (upd (recordBy S) (parentOf e) (set (recordBy S (parentOf e)) (childWord e) (suc (length (S .nodes))))) e (set (set (replicate width 0) parentWord (suc u)) needWord s) x
+      row : (x : Corner) → upd corners B e (set (set (B e) parentWord (suc u)) needWord s) x
+          ≡ upd corners (upd corners (recordBy S) (parentOf e) (set (recordBy S (parentOf e)) (childWord e) (suc (length (S .nodes))))) e (set (set (replicate width 0) parentWord (suc u)) needWord s) x
       row x =
-          ap (λ (l : List ℕ). upd B e (set (set l parentWord (suc u)) needWord s) x) B-e
-          ∙ by-same x e (upd B e new x ≡ upd (upd (recordBy S) (parentOf e) was) e new x)
-          (λ p. subst (λ y. upd B e new y ≡ upd (upd (recordBy S) (parentOf e) was) e new y) (sym p) (upd-at B e new ∙ sym (upd-at (upd (recordBy S) (parentOf e) was) e new)))
-          (λ f. upd-off B e new x f
-          ∙ ap (λ (l : List ℕ). upd A (parentOf e) (set l (childWord e) (suc (length (S .nodes)))) x) A-parent
-          ∙ ap (λ (l : List ℕ). cond (same x (parentOf e)) was l) (upd-off (recordBy S) e (replicate width 0) x f)
-          ∙ sym (upd-off (upd (recordBy S) (parentOf e) was) e new x f))
+          ap (λ (l : List ℕ). upd corners B e (set (set l parentWord (suc u)) needWord s) x) B-e
+          ∙ by-same x e (upd corners B e new x ≡ upd corners (upd corners (recordBy S) (parentOf e) was) e new x)
+          (λ p. subst (λ y. upd corners B e new y ≡ upd corners (upd corners (recordBy S) (parentOf e) was) e new y) (sym p) (upd-at corners B e new ∙ sym (upd-at corners (upd corners (recordBy S) (parentOf e) was) e new)))
+          (λ f. upd-off corners B e new x f
+          ∙ ap (λ (l : List ℕ). upd corners A (parentOf e) (set l (childWord e) (suc (length (S .nodes)))) x) A-parent
+          ∙ ap (λ (l : List ℕ). cond (same x (parentOf e)) was l) (upd-off corners (recordBy S) e (replicate width 0) x f)
+          ∙ sym (upd-off corners (upd corners (recordBy S) (parentOf e) was) e new x f))
         where
           new : List ℕ
           new = set (set (replicate width 0) parentWord (suc u)) needWord s
@@ -353,10 +353,10 @@ module _ (S : State) (sound : Sound S) (e : Corner) (s : ℕ) (deep : isRoot e �
   drop-table words u h room =
       let w = child-word-small e in
       let z : List ℕ = replicate width 0 in
-      ap (λ (t : List ℕ). sets t (length (S .nodes) * width) z) (row-set T (wide (withNode S e s)) words all (parentOf e) u (childWord e) 0 grown-distinct (ref-append (S .nodes) (e ∷ []) (parentOf e) under ∙ h) (omega (arith, w .1)))
-      ∙ row-clear B wide-B words all e (length (S .nodes)) grown-distinct (ref-snoc (S .nodes) e fresh)
-      ∙ ap (filled words) (rows-cong (upd B e z) (upd (recordBy S) e z) all row)
-      ∙ sym (row-more (recordBy S) (wide S) words (S .nodes) e fresh room)
+      ap (λ (t : List ℕ). sets t (length (S .nodes) * width) z) (row-set corners T (wide (withNode S e s)) words all (parentOf e) u (childWord e) 0 (grown-once (parentOf e)) (ref-append (S .nodes) (e ∷ []) (parentOf e) under ∙ h) (omega (arith, w .1)))
+      ∙ row-clear corners B wide-B words all e (length (S .nodes)) (grown-once e) (ref-snoc (S .nodes) e fresh)
+      ∙ ap (filled words) (rows-cong (upd corners B e z) (upd corners (recordBy S) e z) all row)
+      ∙ sym (row-more corners (recordBy S) (wide S) words (S .nodes) e fresh (omega (arith, room)))
     where
       all : List Corner
       all = S .nodes ++ (e ∷ [])
@@ -365,10 +365,10 @@ module _ (S : State) (sound : Sound S) (e : Corner) (s : ℕ) (deep : isRoot e �
       T = recordBy (withNode S e s)
 
       B : Corner → List ℕ
-      B = upd T (parentOf e) (set (T (parentOf e)) (childWord e) 0)
+      B = upd corners T (parentOf e) (set (T (parentOf e)) (childWord e) 0)
 
       wide-B : (x : Corner) → length (B x) ≡ width
-      wide-B = wide-upd T (wide (withNode S e s)) (parentOf e) (set (T (parentOf e)) (childWord e) 0) (length-set (T (parentOf e)) (childWord e) 0)
+      wide-B = wide-upd corners T (wide (withNode S e s)) (parentOf e) (set (T (parentOf e)) (childWord e) 0) (length-set (T (parentOf e)) (childWord e) 0)
 
       back-parent : set (T (parentOf e)) (childWord e) 0 ≡ recordBy S (parentOf e)
       back-parent =
@@ -378,15 +378,15 @@ module _ (S : State) (sound : Sound S) (e : Corner) (s : ℕ) (deep : isRoot e �
           ∙ ap (set (recordBy S (parentOf e)) (childWord e)) (sym (child-of (fieldsBy S (parentOf e)) (childWord e) (w .0) (w .1) ∙ child-before (S .nodes) e deep fresh))
           ∙ set-getD (recordBy S (parentOf e)) (childWord e) 0
 
-      row : (x : Corner) → List·Memᴰ x all → upd B e (replicate width 0) x ≡ upd (recordBy S) e (replicate width 0) x
+      row : (x : Corner) → List·Memᴰ x all → upd corners B e (replicate width 0) x ≡ upd corners (recordBy S) e (replicate width 0) x
       row x m =
-          by-same x e (upd B e z x ≡ upd (recordBy S) e z x)
-          (λ p. subst (λ y. upd B e z y ≡ upd (recordBy S) e z y) (sym p) (upd-at B e z ∙ sym (upd-at (recordBy S) e z)))
-          (λ f. upd-off B e z x f
+          by-same x e (upd corners B e z x ≡ upd corners (recordBy S) e z x)
+          (λ p. subst (λ y. upd corners B e z y ≡ upd corners (recordBy S) e z y) (sym p) (upd-at corners B e z ∙ sym (upd-at corners (recordBy S) e z)))
+          (λ f. upd-off corners B e z x f
           ∙ by-same x (parentOf e) (B x ≡ recordBy S x)
-          (λ p. subst (λ y. B y ≡ recordBy S y) (sym p) (upd-at T (parentOf e) (set (T (parentOf e)) (childWord e) 0) ∙ back-parent))
-          (λ g. upd-off T (parentOf e) (set (T (parentOf e)) (childWord e) 0) x g ∙ node-row-x x (⊎-elim (λ k. k) (λ k. absurd (f (List·Memᴰ·eq-of-singleton k))) (List·Memᴰ·append-cases (S .nodes) m)) g)
-          ∙ sym (upd-off (recordBy S) e z x f))
+          (λ p. subst (λ y. B y ≡ recordBy S y) (sym p) (upd-at corners T (parentOf e) (set (T (parentOf e)) (childWord e) 0) ∙ back-parent))
+          (λ g. upd-off corners T (parentOf e) (set (T (parentOf e)) (childWord e) 0) x g ∙ node-row-x x (⊎-elim (λ k. k) (λ k. absurd (f (List·Memᴰ·eq-of-singleton k))) (List·Memᴰ·append-cases (S .nodes) m)) g)
+          ∙ sym (upd-off corners (recordBy S) e z x f))
         where
           z : List ℕ
           z = replicate width 0
@@ -396,9 +396,9 @@ pub two-words : (S T : State) (e : Corner) (words r x y : ℕ) → Distinct (S .
     → ((p : Corner) → (p ≡ e → ⊥) → (T .visits p ≡ S .visits p) × (T .first p ≡ S .first p)) → T .visits e ≡ x → T .first e ≡ y
     → set (set (tableBy words S) (wordAt r visitsWord) x) (wordAt r firstWord) y ≡ tableBy words T
 two-words S T e words r x y d h n l m g f p q =
-    ap (λ (t : List ℕ). set t (wordAt r firstWord) y) (row-set (recordBy S) (wide S) words (S .nodes) e r visitsWord x d h (omega arith))
-    ∙ row-set-again (recordBy S) (wide S) words (S .nodes) e (set (recordBy S e) visitsWord x) r firstWord y (length-set (recordBy S e) visitsWord x) d h (omega arith)
-    ∙ ap (filled words) (rows-cong (upd (recordBy S) e (set (set (recordBy S e) visitsWord x) firstWord y)) (recordBy T) (S .nodes) (λ z k. row z) ∙ ap (rowsOf (recordBy T)) (sym n))
+    ap (λ (t : List ℕ). set t (wordAt r firstWord) y) (row-set corners (recordBy S) (wide S) words (S .nodes) e r visitsWord x (once (S .nodes) d e) h (omega arith))
+    ∙ row-set-again corners (recordBy S) (wide S) words (S .nodes) e (set (recordBy S e) visitsWord x) r firstWord y (length-set (recordBy S e) visitsWord x) (once (S .nodes) d e) h (omega arith)
+    ∙ ap (filled words) (rows-cong (upd corners (recordBy S) e (set (set (recordBy S e) visitsWord x) firstWord y)) (recordBy T) (S .nodes) (λ z k. row z) ∙ ap (rowsOf (recordBy T)) (sym n))
   where
     up : (z : Corner) → cond (isRoot z) 0 (refOf (S .nodes) (parentOf z)) ≡ cond (isRoot z) 0 (refOf (T .nodes) (parentOf z))
     up z = ap (λ (k : List Corner). cond (isRoot z) 0 (refOf k (parentOf z))) (sym n)
@@ -409,14 +409,14 @@ two-words S T e words r x y d h n l m g f p q =
     side : (z : Corner) (k : ℕ) → neighbourBy (S .nodes) (S .step) z k ≡ neighbourBy (T .nodes) (T .step) z k
     side z k = ap₂ far (sym (l z (stepped k z))) (ap (λ (j : List Corner). refOf j (stepped k z)) (sym n))
 
-    row : (z : Corner) → upd (recordBy S) e (set (set (recordBy S e) visitsWord x) firstWord y) z ≡ recordBy T z
+    row : (z : Corner) → upd corners (recordBy S) e (set (set (recordBy S e) visitsWord x) firstWord y) z ≡ recordBy T z
     row z =
-        by-same z e (upd (recordBy S) e (set (set (recordBy S e) visitsWord x) firstWord y) z ≡ recordBy T z)
-        (λ i. subst (λ j. upd (recordBy S) e (set (set (recordBy S e) visitsWord x) firstWord y) j ≡ recordBy T j) (sym i)
-        (upd-at (recordBy S) e (set (set (recordBy S e) visitsWord x) firstWord y)
+        by-same z e (upd corners (recordBy S) e (set (set (recordBy S e) visitsWord x) firstWord y) z ≡ recordBy T z)
+        (λ i. subst (λ j. upd corners (recordBy S) e (set (set (recordBy S e) visitsWord x) firstWord y) j ≡ recordBy T j) (sym i)
+        (upd-at corners (recordBy S) e (set (set (recordBy S e) visitsWord x) firstWord y)
         ∙ words-cong (record { parent = cond (isRoot e) 0 (refOf (S .nodes) (parentOf e)); child = childRefOf (S .nodes) e; neighbour = neighbourBy (S .nodes) (S .step) e; link = λ k. S .step e (stepped k e); visits = x; need = S .need e; first = y; edge = λ k. S .edges e (stepped k e) }) (fieldsBy T e)
         (up e) (λ k i j. kid e k) (λ k i. side e k) (λ k i. sym (l e (stepped k e))) (sym p) (sym (m e)) (sym q) (λ k i. sym (g e (stepped k e)))))
-        (λ o. upd-off (recordBy S) e (set (set (recordBy S e) visitsWord x) firstWord y) z o
+        (λ o. upd-off corners (recordBy S) e (set (set (recordBy S e) visitsWord x) firstWord y) z o
         ∙ words-cong (fieldsBy S z) (fieldsBy T z) (up z) (λ k i j. kid z k) (λ k i. side z k) (λ k i. sym (l z (stepped k z))) (sym (f z o .0)) (sym (m z)) (sym (f z o .1)) (λ k i. sym (g z (stepped k z))))
 
 -- the second of the two stores changes nothing where the word is there already
@@ -481,7 +481,7 @@ module _ (S : State) (E : Corner → Corner → ℕ) (a : Corner) (d x : ℕ) (s
       → set (set (tableBy words S) (wordAt u (edgeWord d)) x) (wordAt v (edgeWord (back d))) x ≡ tableBy words T
   edge-stores words u v dis h k =
       let b = back-small d in
-      one-each (recordBy S) (wide S) words (S .nodes) a (stepped d a) u v (edgeWord d) x (edgeWord (back d)) x dis h k (stepped-ne d a) (omega arith) (omega arith)
+      one-each corners (recordBy S) (wide S) words (S .nodes) a (stepped d a) u v (edgeWord d) x (edgeWord (back d)) x (once (S .nodes) dis a) (once (S .nodes) dis (stepped d a)) h k (stepped-ne d a) (omega arith) (omega arith)
       ∙ ap (filled words) (rows-cong Q (recordBy T) (S .nodes) (λ z m. row z))
     where
       row-a : List ℕ
@@ -491,15 +491,15 @@ module _ (S : State) (E : Corner → Corner → ℕ) (a : Corner) (d x : ℕ) (s
       row-e = set (recordBy S (stepped d a)) (edgeWord (back d)) x
 
       Q : Corner → List ℕ
-      Q = upd (upd (recordBy S) a row-a) (stepped d a) row-e
+      Q = upd corners (upd corners (recordBy S) a row-a) (stepped d a) row-e
 
       row : (z : Corner) → Q z ≡ recordBy T z
       row z =
           by-same z (stepped d a) (Q z ≡ recordBy T z)
-          (λ p. subst (λ y. Q y ≡ recordBy T y) (sym p) (upd-at (upd (recordBy S) a row-a) (stepped d a) row-e ∙ sym edge-row-e))
+          (λ p. subst (λ y. Q y ≡ recordBy T y) (sym p) (upd-at corners (upd corners (recordBy S) a row-a) (stepped d a) row-e ∙ sym edge-row-e))
           (λ f. by-same z a (Q z ≡ recordBy T z)
-          (λ p. subst (λ y. Q y ≡ recordBy T y) (sym p) (upd-off (upd (recordBy S) a row-a) (stepped d a) row-e a (λ q. stepped-ne d a (sym q)) ∙ upd-at (recordBy S) a row-a ∙ sym edge-row-a))
-          (λ g. upd-off (upd (recordBy S) a row-a) (stepped d a) row-e z f ∙ upd-off (recordBy S) a row-a z g ∙ sym (edge-row-x z g f)))
+          (λ p. subst (λ y. Q y ≡ recordBy T y) (sym p) (upd-off corners (upd corners (recordBy S) a row-a) (stepped d a) row-e a (λ q. stepped-ne d a (sym q)) ∙ upd-at corners (recordBy S) a row-a ∙ sym edge-row-a))
+          (λ g. upd-off corners (upd corners (recordBy S) a row-a) (stepped d a) row-e z f ∙ upd-off corners (recordBy S) a row-a z g ∙ sym (edge-row-x z g f)))
 
 -- the edge from a in direction d walked once more, and once less
 module _ (S : State) (dis : Distinct (S .nodes)) (paired : (x y : Corner) → S .edges x y ≡ S .edges y x) (a : Corner) (d : ℕ) (small : d < 4) (words u v : ℕ)

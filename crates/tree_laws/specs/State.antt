@@ -210,8 +210,8 @@ fieldsBy S a = record {
 abbrev pub recordBy : State → Corner → List ℕ
 recordBy S a = wordsOf (fieldsBy S a)
 
--- a table by its rows
-abbrev pub rowsOf : (Corner → List ℕ) → List Corner → List ℕ
+-- a table by its rows, each the row of a key
+abbrev pub rowsOf : {A : Type 0} → (A → List ℕ) → List A → List ℕ
 rowsOf R [] = []
 rowsOf R (a ∷ l) = R a ++ rowsOf R l
 
