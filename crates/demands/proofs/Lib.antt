@@ -11,6 +11,7 @@ pub mod CallLaws
 pub mod DigitLaws
 pub mod RoomCallLaws
 pub mod RowCallLaws
+pub mod OverlayCallLaws
 pub mod OutlineCallLaws
 pub mod FileCallLaws
 pub mod Area

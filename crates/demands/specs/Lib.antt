@@ -5,6 +5,7 @@ pub mod GivenTurns
 pub mod GivenHull
 pub mod GivenRoom
 pub mod GivenRows
+pub mod GivenOverlay
 pub mod GivenOutline
 pub mod GivenFile
 pub mod Record

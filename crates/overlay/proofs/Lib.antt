@@ -1,1 +1,2 @@
 pub mod OverlayCases
+pub mod CallCases

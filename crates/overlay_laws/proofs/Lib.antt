@@ -3,3 +3,4 @@ pub mod JoinLaws
 pub mod ChangeLaws
 pub mod PartLaws
 pub mod OverlayLaws
+pub mod CallLaws
