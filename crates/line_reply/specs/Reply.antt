@@ -1,7 +1,6 @@
 -- What the calls for one line take and leave. Assumes nothing.
 use Rattle.lists.specs.Lists.{_≡_, cond, List, length, take, ℕ, _*_, leb, ℤ}
 use Rattle.grid.specs.declared.Corner.{Corner}
-use Rattle.layout.specs.Marks.{markWords}
 use Rattle.hull.specs.Call.{numbers}
 use Rattle.line_frame.specs.{Sizes.tableWords, Sizes.marksWords, Sizes.hullNumbers, Sizes.mostAnswer, Line.lineAnswer}
 use Rattle.line_fields.specs.Put.{put}
@@ -10,13 +9,6 @@ use Rattle.line_fields.specs.Put.{put}
 pub record Lent (t ms : List ℕ) (h : List ℤ) : Type 0 where
   pub table : length t ≡ tableWords
   pub marks : length ms ≡ marksWords
-  pub hull : length h ≡ hullNumbers
-
--- buffers for walking these operations
-pub record LentExactly (os t ms ch : List ℕ) (h : List ℤ) : Type 0 where
-  pub table : length t ≡ tableWords
-  pub marks : length ms ≡ markWords * length os
-  pub chain : length ch ≡ length os
   pub hull : length h ≡ hullNumbers
 
 -- a list of corners stands at the start of the buffer, and n is how many

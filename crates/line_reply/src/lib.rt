@@ -2,32 +2,27 @@
 use answer::Answer;
 use answer::Counted;
 use answer::Facts;
-use answer::Refusal;
 use grid::Corner;
 use line_fields::hex::spell;
 use line_frame::Frame;
-use line_frame::Kind;
-use line_parts::copy_digits;
-use line_parts::read;
 use line_parts::spell_facts;
 use line_parts::spell_numbers;
 use line_parts::spell_refusal;
+use line_walk::walk_line;
 use walk_step::Walk;
 use walk_table::Record;
 ghost use mathlib.Core.Path.{_≡_};
-ghost use mathlib.Core.Bool.{true};
 ghost use mathlib.Core.List.{_++_, _∷_, []};
 ghost use Prim.Native.Nat.{_+_, _≤_};
 ghost use lib.ListN.{length};
 ghost use Rattle.lists.specs.Lists.{Below};
 ghost use Rattle.grid.specs.Grid.{origin};
 ghost use Rattle.hull_laws.specs.Outline.{hullOf};
-ghost use Rattle.line_frame.specs.Sizes.{headDigits, mostDigits, hullNumbers, mostAnswer};
-ghost use Rattle.line_frame.specs.Hex.{allHex};
-ghost use Rattle.line_frame.specs.Spelled.{factsLine, hullLine, walkedLine};
-ghost use Rattle.line_frame.specs.Line.{digitsOf, digitsAnswer, lineAnswer};
+ghost use Rattle.line_frame.specs.Sizes.{mostDigits, hullNumbers, mostAnswer};
+ghost use Rattle.line_frame.specs.Spelled.{factsLine, hullLine};
+ghost use Rattle.line_frame.specs.Line.{lineAnswer};
 ghost use Rattle.line_fields.specs.Put.{Wrote};
-ghost use Rattle.line_reply.specs.Reply.{Lent, LentExactly, Listed, LineIs};
+ghost use Rattle.line_reply.specs.Reply.{Lent, Listed, LineIs};
 
 // The buffers in which lines are judged.
 pub struct Desk;
@@ -77,101 +72,6 @@ fn write_accepted(f: Facts, steps: &[u8], hull: &mut [i32], out: &mut [u8], at: 
     spell_numbers(out, b, hull, 2 * n)
 }
 
-// Walks the operations in the lent table, marks and chain, and writes the answer.
-fn answer_walk(
-    ops: &[u8],
-    table: &mut [u32],
-    marks: &mut [u32],
-    chain: &mut [u8],
-    hull: &mut [i32],
-    out: &mut [u8],
-    at: usize,
-) -> usize
-    requires { ⌜ length (now ops) ≤ mostDigits ⌝ }
-    requires { ⌜ LentExactly (now ops) (now table) (now marks) (now chain) (now hull) ⌝ }
-    requires { ⌜ at + mostAnswer ≤ length (now out) ⌝ }
-    ensures { λ e. ⌜ Wrote (walkedLine (now (ops .entry))) at (now (out .entry)) e (now (out .exit)) ⌝ }
-{
-    match walk::follow(Corner(0, 0), ops, table, marks, chain) {
-        Answer::Accepted(f) => {
-            let steps = f.steps;
-            write_accepted(f, &chain[..steps], hull, out, at)
-        }
-        Answer::Refused(r) => spell_refusal(out, at, r),
-    }
-}
-
-// Walks the operations and writes the answer.
-fn answer_operations(
-    ops: &[u8],
-    table: &mut [u32],
-    marks: &mut [u32],
-    hull: &mut [i32],
-    out: &mut [u8],
-    at: usize,
-) -> usize
-    requires { ⌜ length (now ops) ≤ mostDigits ⌝ }
-    requires { ⌜ Lent (now table) (now marks) (now hull) ⌝ }
-    requires { ⌜ at + mostAnswer ≤ length (now out) ⌝ }
-    ensures { λ e. ⌜ Wrote (walkedLine (now (ops .entry))) at (now (out .entry)) e (now (out .exit)) ⌝ }
-{
-    let n = ops.len();
-    let mut chain = [0u8; Frame::MOST_DIGITS];
-    answer_walk(
-        ops,
-        table,
-        &mut marks[..Walk::MARK_WORDS * n],
-        &mut chain[..n],
-        hull,
-        out,
-        at,
-    )
-}
-
-// Walks the n operations of a frame and writes the answer.
-fn answer_digits(
-    s: &[u8],
-    n: usize,
-    table: &mut [u32],
-    marks: &mut [u32],
-    hull: &mut [i32],
-    out: &mut [u8],
-    at: usize,
-) -> usize
-    requires { ⌜ allHex (now s) ≡ true ⌝ }
-    requires { ⌜ (n ≤ mostDigits) × (length (now s) ≡ headDigits + n) ⌝ }
-    requires { ⌜ Lent (now table) (now marks) (now hull) ⌝ }
-    requires { ⌜ at + mostAnswer ≤ length (now out) ⌝ }
-    ensures { λ e. ⌜ Wrote (walkedLine (digitsOf (now (s .entry)))) at (now (out .entry)) e (now (out .exit)) ⌝ }
-{
-    let mut digits = [0u8; Frame::MOST_DIGITS];
-    copy_digits(s, &mut digits);
-    answer_operations(&digits[..n], table, marks, hull, out, at)
-}
-
-// Writes the answer to a frame of this kind with n digits.
-fn answer_frame(
-    s: &[u8],
-    kind: Kind,
-    n: usize,
-    table: &mut [u32],
-    marks: &mut [u32],
-    hull: &mut [i32],
-    out: &mut [u8],
-    at: usize,
-) -> usize
-    requires { ⌜ allHex (now s) ≡ true ⌝ }
-    requires { ⌜ (n ≤ mostDigits) × (length (now s) ≡ headDigits + n) ⌝ }
-    requires { ⌜ Lent (now table) (now marks) (now hull) ⌝ }
-    requires { ⌜ at + mostAnswer ≤ length (now out) ⌝ }
-    ensures { λ e. ⌜ Wrote (digitsAnswer kind (digitsOf (now (s .entry)))) at (now (out .entry)) e (now (out .exit)) ⌝ }
-{
-    match kind {
-        Kind::Operations => answer_digits(s, n, table, marks, hull, out, at),
-        Kind::Turns => spell_refusal(out, at, Refusal::RetiredKind),
-    }
-}
-
 // Writes the answer to the line s from the place at on, without its line feed. Answers the place after it.
 fn answer_line(
     s: &[u8],
@@ -185,9 +85,13 @@ fn answer_line(
     requires { ⌜ at + mostAnswer ≤ length (now out) ⌝ }
     ensures { λ e. ⌜ Wrote (lineAnswer (now (s .entry))) at (now (out .entry)) e (now (out .exit)) ⌝ }
 {
-    match read(s) {
-        Frame::Of(kind, n) => answer_frame(s, kind, n, table, marks, hull, out, at),
-        Frame::Bad => spell_refusal(out, at, Refusal::BadLine),
+    let mut chain = [0u8; Frame::MOST_DIGITS];
+    match walk_line(s, table, marks, &mut chain) {
+        Answer::Accepted(f) => {
+            let steps = f.steps;
+            write_accepted(f, &chain[..steps], hull, out, at)
+        }
+        Answer::Refused(r) => spell_refusal(out, at, r),
     }
 }
 

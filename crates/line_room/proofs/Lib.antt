@@ -1,0 +1,2 @@
+-- The laws of the walk of a line.
+pub mod WalkedLaws

@@ -1,0 +1,2 @@
+-- The definitions of the walk of a line.
+pub mod Walked

@@ -1,0 +1,1 @@
+// What the walk of a line answers: definitions and laws.

@@ -1,0 +1,2 @@
+-- The contract of the walk of a line.
+pub mod Walk

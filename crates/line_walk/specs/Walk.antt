@@ -1,0 +1,24 @@
+-- What the walk of a line takes and leaves. Assumes nothing.
+use Rattle.lists.specs.Lists.{_≡_, List, length, take, ℕ, _≤_, Below}
+use Rattle.answer.specs.declared.{Facts.Facts, Answer.Answer}
+use Rattle.steps.specs.Operations.{survivors}
+use Rattle.line_frame.specs.Sizes.{mostDigits, tableWords, marksWords}
+
+-- buffers for the walk of any line
+pub record Ready (t ms ch : List ℕ) : Type 0 where
+  pub table : length t ≡ tableWords
+  pub marks : length ms ≡ marksWords
+  pub chain : length ch ≡ mostDigits
+
+-- the chain begins with the surviving steps of these operations, and the facts say how many they are
+pub record Survived (os : List ℕ) (f : Facts) (ch : List ℕ) : Type 0 where
+  pub steps : f .steps ≡ length (survivors os)
+  pub digits : Below 4 (survivors os)
+  pub few : length (survivors os) ≤ mostDigits
+  pub chain : take (f .steps) ch ≡ survivors os
+  pub within : f .steps ≤ length ch
+
+-- the walk is answered by a, and if that accepts it, its surviving steps are handed on
+pub record WalkedBy (a : Answer) (os : List ℕ) (r : Answer) (ch : List ℕ) : Type 0 where
+  pub answer : r ≡ a
+  pub survived : (f : Facts) → r ≡ Answer.Accepted f → Survived os f ch

@@ -1,0 +1,68 @@
+// The walk of a line, in lent buffers.
+use answer::Answer;
+use answer::Refusal;
+use grid::Corner;
+use line_frame::Frame;
+use line_frame::Kind;
+use line_parts::copy_digits;
+use line_parts::read;
+use walk_step::Walk;
+ghost use mathlib.Core.Path.{_≡_};
+ghost use mathlib.Core.Bool.{true};
+ghost use Prim.Native.Nat.{_+_, _≤_};
+ghost use lib.ListN.{length};
+ghost use Rattle.line_frame.specs.Sizes.{headDigits, mostDigits};
+ghost use Rattle.line_frame.specs.Hex.{allHex};
+ghost use Rattle.line_frame.specs.Line.{digitsOf};
+ghost use Rattle.line_frame.specs.declared.Kind.the-variants as kinds;
+ghost use Rattle.line_room.specs.Walked.{kindWalked, lineWalked};
+ghost use Rattle.line_walk.specs.Walk.{Ready, WalkedBy};
+
+// Walks the n operations of a frame.
+fn walk_digits(s: &[u8], n: usize, table: &mut [u32], marks: &mut [u32], chain: &mut [u8]) -> Answer
+    requires { ⌜ allHex (now s) ≡ true ⌝ }
+    requires { ⌜ (n ≤ mostDigits) × (length (now s) ≡ headDigits + n) ⌝ }
+    requires { ⌜ Ready (now table) (now marks) (now chain) ⌝ }
+    ensures { λ r. ⌜ WalkedBy (kindWalked kinds.Operations (digitsOf (now (s .entry)))) (digitsOf (now (s .entry))) r (now (chain .exit)) ⌝ }
+{
+    let mut digits = [0u8; Frame::MOST_DIGITS];
+    copy_digits(s, &mut digits);
+    walk::follow(
+        Corner(0, 0),
+        &digits[..n],
+        table,
+        &mut marks[..Walk::MARK_WORDS * n],
+        &mut chain[..n],
+    )
+}
+
+// Walks a frame of this kind with n digits.
+fn walk_frame(
+    s: &[u8],
+    kind: Kind,
+    n: usize,
+    table: &mut [u32],
+    marks: &mut [u32],
+    chain: &mut [u8],
+) -> Answer
+    requires { ⌜ allHex (now s) ≡ true ⌝ }
+    requires { ⌜ (n ≤ mostDigits) × (length (now s) ≡ headDigits + n) ⌝ }
+    requires { ⌜ Ready (now table) (now marks) (now chain) ⌝ }
+    ensures { λ r. ⌜ WalkedBy (kindWalked kind (digitsOf (now (s .entry)))) (digitsOf (now (s .entry))) r (now (chain .exit)) ⌝ }
+{
+    match kind {
+        Kind::Operations => walk_digits(s, n, table, marks, chain),
+        Kind::Turns => Answer::Refused(Refusal::RetiredKind),
+    }
+}
+
+// Walks the line s. The chain of an accepted walk begins with its surviving steps.
+pub fn walk_line(s: &[u8], table: &mut [u32], marks: &mut [u32], chain: &mut [u8]) -> Answer
+    requires { ⌜ Ready (now table) (now marks) (now chain) ⌝ }
+    ensures { λ r. ⌜ WalkedBy (lineWalked (now (s .entry))) (digitsOf (now (s .entry))) r (now (chain .exit)) ⌝ }
+{
+    match read(s) {
+        Frame::Of(kind, n) => walk_frame(s, kind, n, table, marks, chain),
+        Frame::Bad => Answer::Refused(Refusal::BadLine),
+    }
+}
