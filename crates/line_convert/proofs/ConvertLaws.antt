@@ -1,15 +1,17 @@
 -- One line, converted: bytes written one after the other, and the call.
 -- Assumes nothing.
 use mathlib.Core.Path.{_≡_, refl, sym, ap, _∙_, subst}
-use mathlib.Core.Bool.{Bool, true, false, cond}
+use mathlib.Core.Bool.{Bool, true, false, cond, _&&_, true≢false}
 use mathlib.Core.List.{List, [], _∷_, _++_}
-use Prim.Native.Nat.{ℕ, zero, suc, _+_, _<_, _≤_}
+use Prim.Native.Nat.{ℕ, zero, suc, _+_, _-_, _<_, _≤_}
 use native.Mathlib.Omega.{arith}
 use native.Mathlib.Nat.{add-zero}
 use native.Mathlib.Numerals.{add-one}
-use borrow.Author.Tests.{le-leb, lt-leb, le-ltb, lt-ltb, ltb-false}
+use native.Mathlib.Decide.{decLt}
+use borrow.Author.Tests.{le-leb, lt-leb, le-ltb, lt-ltb, ltb-false, leb-false, eq-eqb, ne-eqb}
 use lib.ListN.{length, drop, getD, set, length-drop, drop-of-length-le, length-append}
 use lib.Seq.{drop-cons}
+use lib.Dec.{leb, eqb}
 use Rattle.lists.specs.Lists.{Below}
 use Rattle.answer.specs.declared.Judged.{Judged}
 use Rattle.answer.specs.declared.Judged.the-variants.{Good, Refused}
@@ -18,13 +20,18 @@ use Rattle.steps.specs.Turns.{stepsOf, turnsJudged, writtenIf, ConvertedBy}
 use Rattle.steps.proofs.TurnLaws.{stepsOf-below, length-stepsOf}
 use Rattle.steps.proofs.TurnPromiseLaws.{turnsJudged-good}
 use Rattle.line_frame.specs.Sizes.{mostLine}
-use Rattle.line_frame.specs.Hex.{letterOf}
-use Rattle.line_frame.specs.Converted.{lettersOf, stepsFrame, convertedLine}
-use Rattle.line_frame.proofs.ConvertedLaws.{converted-length}
+use Rattle.line_frame.specs.declared.Kind.the-variants.{Turns}
+use Rattle.line_frame.specs.declared.Frame.the-variants.{Of, Bad}
+use Rattle.line_frame.specs.Hex.{isHex, valueOf, pairAt, letterOf}
+use Rattle.line_frame.specs.Line.{kindOf, countOf, kindNamed, isFrame, frameOf}
+use Rattle.line_frame.specs.Converted.{lettersOf, stepsFrame, Turned, convertedLine}
+use Rattle.line_frame.proofs.HexLaws.{allHex-at, isHex-range}
+use Rattle.line_frame.proofs.LineLaws.{kindOf-six, frameOf-kind, frame-good}
+use Rattle.line_frame.proofs.ConvertedLaws.{converted-length, converted-other}
 use Rattle.line_fields.specs.Put.{put, Wrote}
 use Rattle.line_fields.proofs.PutLaws.{put-first, put-nil, wrote-nil, wrote-append}
 use Rattle.line_stream.specs.Stream.{isLong}
-use Rattle.line_convert.specs.Convert.{ConvertedIs}
+use Rattle.line_convert.specs.Convert.{ConvertedIs, namesTurns}
 
 -- nothing of f is written yet
 pub put-begun : (f out : List ℕ) (at : ℕ) → put (drop 0 f) (at + 0) out ≡ put f at out
@@ -57,6 +64,57 @@ pub below-at : (ds : List ℕ) (i : ℕ) → Below 4 ds → i < length ds → ge
 below-at [] i b h = absurd (omega arith)
 below-at (d ∷ ds) zero b h = omega (arith, b .0)
 below-at (d ∷ ds) (suc i) b h = below-at ds i (b .1) (omega arith)
+
+-- a line that does not begin with 01 stays: the first digit of a frame of kind 01 is worth 0, the second 1
+value-below : (b d : ℕ) → isHex b ≡ true → valueOf b ≡ d → d < 10 → b ≡ d + 48
+value-below b d h v l = go (leb b 57) refl v
+  where
+    go : (c : Bool) → leb b 57 ≡ c → cond c (b - 48) (b - 87) ≡ d → b ≡ d + 48
+    go true e w = omega (arith, isHex-range b h .0, w)
+    go false e w = absurd (omega (arith, isHex-range b h .2 (leb-false b 57 e), w))
+
+one-named : (s : List ℕ) (n : ℕ) → frameOf s ≡ Of Turns n → kindOf s ≡ 1
+unfolding frameOf
+one-named s n e =
+    elim (decLt 1 (kindOf s)) [
+      | yes l ↦ absurd (bad (frameOf-kind s l ∙ e))
+      | no f ↦ omega (arith, f, some (isFrame s) (kindOf s) (countOf s) e)
+    ]
+  where
+    bad : Bad ≡ Of Turns n → ⊥
+    bad z = let y : _≡_ {A = ℕ} 0 1 = cc in omega arith
+
+    some : (b : Bool) (k m : ℕ) → cond b (Of (kindNamed k) m) Bad ≡ Of Turns n → 0 < k
+    some false k m z = absurd (bad z)
+    some true zero m z = let y : _≡_ {A = ℕ} 0 1 = cc in absurd (omega arith)
+    some true (suc k) m z = omega arith
+
+turned-names : (s : List ℕ) → Turned s → namesTurns s ≡ true
+turned-names s t =
+    let g = frame-good s Turns (t .count) (t .frame) in
+    let k : pairAt s 0 ≡ 1 = sym (kindOf-six s (omega (arith, g .size))) ∙ one-named s (t .count) (t .frame) in
+    let a = value-below (getD s 0 0) 0 (allHex-at s 0 (g .digits) (omega (arith, g .size))) (omega (arith, k)) (omega arith) in
+    let b = value-below (getD s 1 0) 1 (allHex-at s 1 (g .digits) (omega (arith, g .size))) (omega (arith, k)) (omega arith) in
+    rw (eq-eqb (getD s 0 0) 48 a, eq-eqb (getD s 1 0) 49 b) refl
+
+pub other-stays : (s : List ℕ) {r : Bool} → r ≡ namesTurns s → r ≡ false → s ≡ convertedLine s
+other-stays s e f = sym (converted-other s (λ t. true≢false (sym (turned-names s t) ∙ sym e ∙ f)))
+
+-- how that is told
+pub names-short : (s : List ℕ) → length s < 2 → false ≡ namesTurns s
+names-short [] h = refl
+names-short (a ∷ []) h = go (eqb a 48)
+  where
+    go : (b : Bool) → false ≡ b && false
+    go true = refl
+    go false = refl
+names-short (a ∷ b ∷ s) h = absurd (omega arith)
+
+pub names-other : (s : List ℕ) → (getD s 0 0 ≡ 48 → ⊥) → false ≡ namesTurns s
+names-other s f = rw (ne-eqb (getD s 0 0) 48 f) refl
+
+pub names-first : (s : List ℕ) → getD s 0 0 ≡ 48 → eqb (getD s 1 0) 49 ≡ namesTurns s
+names-first s e = rw (eq-eqb (getD s 0 0) 48 e) refl
 
 -- the call, where the buffer is too short, and where it is not
 pub convert-short : (s out : List ℕ) → length out < length s → ConvertedIs s out 0 out

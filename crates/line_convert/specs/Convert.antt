@@ -1,5 +1,5 @@
 -- What the call for one line takes and leaves. Assumes nothing.
-use Rattle.lists.specs.Lists.{_≡_, cond, List, length, ℕ, leb}
+use Rattle.lists.specs.Lists.{_≡_, Bool, cond, _&&_, List, length, getD, ℕ, eqb, leb}
 use Rattle.line_frame.specs.Converted.{convertedLine}
 use Rattle.line_fields.specs.Put.{put}
 
@@ -7,3 +7,7 @@ use Rattle.line_fields.specs.Put.{put}
 pub record ConvertedIs (s before : List ℕ) (n : ℕ) (after : List ℕ) : Type 0 where
   pub answer : n ≡ cond (leb (length s) (length before)) (length s) 0
   pub buffer : after ≡ cond (leb (length s) (length before)) (put (convertedLine s) 0 before) before
+
+-- the line begins with the digits 01 (RULES 7.2)
+abbrev pub namesTurns : List ℕ → Bool
+namesTurns s = eqb (getD s 0 0) 48 && eqb (getD s 1 0) 49

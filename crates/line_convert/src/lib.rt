@@ -19,7 +19,7 @@ ghost use Rattle.line_frame.specs.Converted.{lettersOf, stepsFrame, kindConvert
 ghost use Rattle.line_frame.specs.declared.Kind.the-variants as kinds;
 ghost use Rattle.line_fields.specs.Put.{Wrote};
 ghost use Rattle.line_stream.specs.Stream.{isLong};
-ghost use Rattle.line_convert.specs.Convert.{ConvertedIs};
+ghost use Rattle.line_convert.specs.Convert.{ConvertedIs, namesTurns};
 
 // Writes the bytes s from the place at on. Answers the place after them.
 fn copy(s: &[u8], out: &mut [u8], at: usize) -> usize
@@ -97,11 +97,27 @@ fn convert_kind(s: &[u8], kind: Kind, n: usize, out: &mut [u8], at: usize) -> us
     }
 }
 
-// Writes the line s, converted, from the place at on. Answers the place after it.
+// Whether the line begins with the digits of kind 01.
+fn names_turns(s: &[u8]) -> bool
+    ensures { λ r. ⌜ r ≡ namesTurns (now (s .entry)) ⌝ }
+{
+    if s.len() < 2 {
+        return false;
+    }
+    if s[0] != 48 {
+        return false;
+    }
+    s[1] == 49
+}
+
+// Writes the line s, converted, from the place at on. Answers the place after it. A line of another kind stays, so it need not be read.
 fn convert_line(s: &[u8], out: &mut [u8], at: usize) -> usize
     requires { ⌜ at + length (now s) ≤ length (now out) ⌝ }
     ensures { λ e. ⌜ Wrote (convertedLine (now (s .entry))) at (now (out .entry)) e (now (out .exit)) ⌝ }
 {
+    if !names_turns(s) {
+        return copy(s, out, at);
+    }
     match read(s) {
         Frame::Of(kind, n) => convert_kind(s, kind, n, out, at),
         Frame::Bad => copy(s, out, at),

@@ -1,6 +1,6 @@
 -- One turn of each loop over digits.
 -- Assumes nothing.
-use mathlib.Core.Path.{_≡_, sym, ap, _∙_}
+use mathlib.Core.Path.{_≡_, refl, sym, ap, _∙_}
 use mathlib.Core.Bool.{Bool, true, false, _&&_}
 use mathlib.Core.List.{List, _∷_}
 use Prim.Native.Nat.{ℕ, zero, suc, _+_, _-_, _/_, _%_, _<_, _≤_}
@@ -13,17 +13,25 @@ use Rattle.line_frame.proofs.HexLaws.{length-hexOf, allHex-here, allHex-end, va
 use Rattle.line_fields.specs.Put.{put, Wrote}
 use Rattle.line_fields.proofs.PutLaws.{put-first, put-last, put-nil}
 
-pub allHex-stop : (s : List ℕ) (i : ℕ) (r : Bool) → allHex (drop i s) ≡ allHex s → i < length s → r ≡ isHex (getD s i 0) → r ≡ false → false ≡ allHex s
-allHex-stop s i r h l e f = sym (sym h ∙ allHex-here s i l ∙ ap (λ (b : Bool). b && allHex (drop (suc i) s)) (sym e ∙ f))
-
-pub allHex-next : (s : List ℕ) (i : ℕ) (r : Bool) → allHex (drop i s) ≡ allHex s → i < length s → r ≡ isHex (getD s i 0) → r ≡ true → allHex (drop (i + 1) s) ≡ allHex s
-allHex-next s i r h l e f =
-    ap (λ (n : ℕ). allHex (drop n s)) (add-one i)
-    ∙ sym (allHex-here s i l ∙ ap (λ (b : Bool). b && allHex (drop (suc i) s)) (sym e ∙ f))
+-- one byte more is looked at, and then all are
+pub allHex-next : (s : List ℕ) (i : ℕ) (all r : Bool) → all && allHex (drop i s) ≡ allHex s → i < length s → r ≡ isHex (getD s i 0) → (all && r) && allHex (drop (i + 1) s) ≡ allHex s
+allHex-next s i all r h l e =
+    ap (λ (n : ℕ). (all && r) && allHex (drop n s)) (add-one i)
+    ∙ ap (λ (b : Bool). (all && b) && allHex (drop (suc i) s)) e
+    ∙ both all
+    ∙ ap (λ (b : Bool). all && b) (sym (allHex-here s i l))
     ∙ h
+  where
+    both : (b : Bool) → (b && isHex (getD s i 0)) && allHex (drop (suc i) s) ≡ b && (isHex (getD s i 0) && allHex (drop (suc i) s))
+    both true = refl
+    both false = refl
 
-pub allHex-all : (s : List ℕ) (i : ℕ) → allHex (drop i s) ≡ allHex s → length s ≤ i → true ≡ allHex s
-allHex-all s i h l = sym (allHex-end s i l) ∙ h
+pub allHex-all : (s : List ℕ) (i : ℕ) (all : Bool) → all && allHex (drop i s) ≡ allHex s → length s ≤ i → all ≡ allHex s
+allHex-all s i all h l = alone all ∙ ap (λ (b : Bool). all && b) (sym (allHex-end s i l)) ∙ h
+  where
+    alone : (b : Bool) → b ≡ b && true
+    alone true = refl
+    alone false = refl
 
 -- one digit less is left to write
 put-hexOf : (n v at : ℕ) (buf : List ℕ) → at + n < length buf → put (hexOf n (v / 16)) at (set buf (at + n) (letterOf (v % 16))) ≡ put (hexOf (suc n) v) at buf

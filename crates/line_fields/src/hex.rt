@@ -11,19 +11,7 @@ ghost use Rattle.line_fields.specs.Put.{Wrote};
 pub fn is_hex(b: u8) -> bool
     ensures { λ r. ⌜ r ≡ isHex b ⌝ }
 {
-    if b < 48 {
-        return false;
-    }
-    if b <= 57 {
-        return true;
-    }
-    if b < 97 {
-        return false;
-    }
-    if b <= 102 {
-        return true;
-    }
-    false
+    ((48 <= b) & (b <= 57)) | ((97 <= b) & (b <= 102))
 }
 
 // What the digit is worth.

@@ -18,18 +18,17 @@ ghost use Rattle.line_frame.specs.Line.{kindOf, countOf, kindNamed, frameOf, di
 ghost use Rattle.line_frame.specs.Spelled.{refusedLine, factsLine, numbersLine};
 ghost use Rattle.line_fields.specs.Put.{put, Wrote};
 
-// Whether every byte is a digit.
+// Whether every byte is a digit: all are looked at, so that many can be looked at together.
 fn all_hex(s: &[u8]) -> bool
     ensures { λ r. ⌜ r ≡ allHex (now (s .entry)) ⌝ }
 {
+    let mut all = true;
     let mut i = 0;
     while i < s.len() {
-        if !is_hex(s[i]) {
-            return false;
-        }
+        all = all & is_hex(s[i]);
         i += 1;
     }
-    true
+    all
 }
 
 // The number that the digits at i and after it spell.
@@ -73,6 +72,9 @@ pub fn read(s: &[u8]) -> Frame
     if s.len() < Frame::HEAD {
         return Frame::Bad;
     }
+    if Frame::MOST_LINE < s.len() {
+        return Frame::Bad;
+    }
     if !all_hex(s) {
         return Frame::Bad;
     }
@@ -81,10 +83,7 @@ pub fn read(s: &[u8]) -> Frame
         return Frame::Bad;
     }
     let n = count(s);
-    if Frame::MOST_DIGITS < n {
-        return Frame::Bad;
-    }
-    if s.len() != Frame::HEAD + n {
+    if s.len() - Frame::HEAD != n {
         return Frame::Bad;
     }
     Frame::Of(named(k), n)

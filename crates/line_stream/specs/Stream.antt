@@ -85,3 +85,7 @@ passesOn f n = record {
 -- bytes of a part of the input at most
 abbrev pub mostPart : ℕ
 mostPart = 65536
+
+-- bytes in which a line feed is looked for together
+abbrev pub near : ℕ
+near = 32

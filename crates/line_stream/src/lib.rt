@@ -4,8 +4,9 @@ use order::lesser;
 ghost use mathlib.Core.Path.{_≡_};
 ghost use Prim.Native.Nat.{_+_, _-_, _≤_};
 ghost use lib.ListN.{length, take, drop};
+ghost use lib.Dec.{ltb};
 ghost use mathlib.Core.List.{_++_};
-ghost use Rattle.line_stream.specs.Stream.{lineLength, keptOf};
+ghost use Rattle.line_stream.specs.Stream.{lineLength, keptOf, near};
 ghost use Rattle.line_frame.specs.Sizes.{mostHeld};
 ghost use Rattle.line_fields.specs.Put.{Wrote};
 
@@ -22,6 +23,38 @@ impl Progress {
 
     // bytes of a part of the input at most
     pub const MOST_PART: usize = 65_536;
+
+    // bytes in which a line feed is looked for together
+    const NEAR: usize = 32;
+}
+
+// Whether there is a line feed among the next bytes, of which all are looked at, so that they can be looked at together.
+fn is_near(s: &[u8], at: usize) -> bool
+    requires { ⌜ at + near ≤ length (now s) ⌝ }
+    ensures { λ r. ⌜ r ≡ ltb (lineLength (drop at (now (s .entry)))) near ⌝ }
+{
+    let mut found = false;
+    let mut k = 0;
+    while k < Progress::NEAR {
+        found = found | (s[at + k] == 10);
+        k += 1;
+    }
+    found
+}
+
+// A place from at on that no line feed stands before: near the first one, or near the end.
+fn skip(s: &[u8], at: usize) -> usize
+    requires { ⌜ at ≤ length (now s) ⌝ }
+    ensures { λ r. ⌜ (r ≤ length (now (s .entry))) × (r + lineLength (drop r (now (s .entry))) ≡ at + lineLength (drop at (now (s .entry)))) ⌝ }
+{
+    let mut i = at;
+    while Progress::NEAR <= s.len() - i {
+        if is_near(s, i) {
+            return i;
+        }
+        i += Progress::NEAR;
+    }
+    i
 }
 
 // The place of the first line feed from at on, or the length.
@@ -29,7 +62,7 @@ pub fn line_end(s: &[u8], at: usize) -> usize
     requires { ⌜ at ≤ length (now s) ⌝ }
     ensures { λ r. ⌜ r ≡ at + lineLength (drop at (now (s .entry))) ⌝ }
 {
-    let mut i = at;
+    let mut i = skip(s, at);
     while i < s.len() {
         if s[i] == 10 {
             return i;

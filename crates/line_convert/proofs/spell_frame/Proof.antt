@@ -21,7 +21,7 @@ spell-steps-requires c κs =
     let v = c .before .before .before .spell2 in
     let w = c .before .before .before .before .before .before .before .spell in
     let s = c .before .before .before .before .before .before .before .before .before .before .before in
-    (s .pre .0, omega (arith, length-hexOf 2 0, length-hexOf 4 (length (s .args .steps .now)), w .ensures .end, w .kept .0, v .ensures .end, v .kept .0, s .pre .1))
+    (s .pre .0, omega (arith, length-hexOf 2 0, w .ensures .end, w .kept .0, simp length-hexOf at (v .ensures .end), v .kept .0, s .pre .1))
 
 returns : tie.Need-returns
 returns c =

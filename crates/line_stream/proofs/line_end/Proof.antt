@@ -11,7 +11,7 @@ use Rattle.line_stream.proofs.line_end.Statement.{statement}
 use Rattle.line_stream.proofs.line_end.Tie as tie
 
 abbrev Inv-loop : tie.InvT-loop
-Inv-loop s at i₀ i = (at ≤ i) × (i ≤ length s) × (at + lineLength (drop at s) ≡ i + lineLength (drop i s))
+Inv-loop s at i₀ i = (i ≤ length s) × (at + lineLength (drop at s) ≡ i + lineLength (drop i s))
 
 abbrev μ-loop : tie.MeasureT-loop
 μ-loop s at i₀ i = length s - i
@@ -25,7 +25,7 @@ shared-slice-read-if1 c = search needs
 returns : tie.Need-returns Inv-loop μ-loop
 returns c =
     let l = c .before .before .before in
-    omega (arith, lineLength-here (l .before .args .s .now) (l .loop .i) (omega arith) (c .if1 .taken))
+    omega (arith, lineLength-here (l .before .before .before .args .s .now) (l .loop .i) (omega arith) (c .if1 .taken))
 
 add-i : tie.Need-add-i Inv-loop μ-loop
 add-i c = search needs
@@ -36,12 +36,12 @@ loop-less c = search needs
 loop-again : tie.Need-loop-again Inv-loop μ-loop
 loop-again c =
     let l = c .before .before .before in
-    (search needs, search needs, omega (arith, lineLength-next (l .before .args .s .now) (l .loop .i) (omega arith) (c .if1 .left)))
+    (search needs, omega (arith, lineLength-next (l .before .before .before .args .s .now) (l .loop .i) (omega arith) (c .if1 .left)))
 
 returns-2 : tie.Need-returns-2 Inv-loop μ-loop
 returns-2 c =
     let l = c .before in
-    omega (arith, lineLength-end (l .before .args .s .now) (l .loop .i) (c .loop-test .left))
+    omega (arith, lineLength-end (l .before .before .before .args .s .now) (l .loop .i) (c .loop-test .left))
 
 pub line-end-spec : {M : Type 1} → statement M
 line-end-spec =
@@ -49,6 +49,7 @@ line-end-spec =
     (tie.spec
     Inv-loop
     μ-loop
+    (λ c κs. search needs)
     loop-holds
     shared-slice-read-if1
     returns
