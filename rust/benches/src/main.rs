@@ -58,11 +58,7 @@ fn main() {
     println!("\nturns, ns a digit");
     turns();
     println!("\nprograms on lines, MB/s of input");
-    if cfg!(target_arch = "x86_64") {
-        programs::print();
-    } else {
-        println!("measured on x86-64 alone, for which the program is compiled");
-    }
+    programs::print();
     println!("\ngrowth: one walk of 16384 steps and two of 8192, ns a step");
     growth();
 }

@@ -9,6 +9,13 @@ use compare::inputs::{self, Random};
 
 use crate::race::{Call, race};
 
+/// Where the scripts of the programs have them compiled for the processor at hand.
+const FOLDER: &str = if cfg!(target_arch = "x86_64") {
+    "bin"
+} else {
+    "native"
+};
+
 /// Frames of n digits: rooms, random walks and walks with take-backs as operations, and as many random frames of the kind given.
 fn frames(count: usize, n: usize, turns: u8) -> Vec<u8> {
     let mut random = Random(5);
@@ -47,8 +54,8 @@ fn output(program: &Path, input: &Path) -> Vec<u8> {
 
 /// Prints the rows of a program beside its twin, on frames of which every fourth is of the kind given.
 fn print_one(name: &str, row: &str, turns: u8) {
-    let bin = concat!(env!("CARGO_MANIFEST_DIR"), "/../../target/bin/");
-    let program = PathBuf::from(bin).join(name);
+    let target = concat!(env!("CARGO_MANIFEST_DIR"), "/../../target");
+    let program = PathBuf::from(target).join(FOLDER).join(name);
     let twin = env::current_exe()
         .expect("it is running")
         .with_file_name(format!("{name}_twin"));
