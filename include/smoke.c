@@ -124,6 +124,25 @@ static void room_by_rows(void) {
     CHECK(SAME(out, spans) && answer[UNDRWYTH_ROWS_SPANS] == 3);
 }
 
+static void rooms_laid_over(void) {
+    const uint8_t u[] = {0, 0, 0, 1, 1, 2, 3, 2, 1, 2, 3, 3}, one[] = {0, 1, 2, 3}, back[] = {0, 2}, bad[] = {0, 4};
+    const int32_t in_u[] = {5, -3, -1, 6, -3, -3, 6, -1, -1, 7}, in_one[] = {6, -2, -2}, kept[] = {7, 7, 7};
+    int32_t first[] = {7, 7, 7, 7, 7, 7, 7, 7, 7, 7}, second[] = {7, 7, 7};
+    uint32_t answer[UNDRWYTH_OVERLAY_ANSWER_WORDS];
+    const uint32_t parts[] = {0, 0, 5, 1, 0, 3, 1, 0}, digit[UNDRWYTH_OVERLAY_ANSWER_WORDS] = {UNDRWYTH_REFUSAL_BAD_DIGIT, 1};
+    CHECK(undrwyth_overlay(0, 0, back, 2, 16385, 0, bad, 2, first, 0, second, 0, NULL, 0, answer) == UNDRWYTH_REFUSAL_NOT_ROOM);
+    CHECK(undrwyth_overlay(0, 0, one, 4, 0, 0, bad, 2, first, 0, second, 0, NULL, 0, answer) == UNDRWYTH_REFUSAL_BAD_DIGIT);
+    CHECK(SAME(answer, digit));
+    CHECK(undrwyth_overlay(-3, 5, u, LENGTH(u), -2, 6, one, 4, first, LENGTH(first), second, 2, NULL, 0, answer) ==
+          UNDRWYTH_REFUSAL_SPAN_ROOM);
+    CHECK(SAME(second, kept) && memcmp(first, kept, sizeof kept) == 0);
+    CHECK(undrwyth_overlay(-3, 5, u, LENGTH(u), -2, 6, one, 4, first, LENGTH(first), second, 3, NULL, 0, answer) ==
+          UNDRWYTH_ACCEPTED);
+    CHECK(SAME(answer, parts) && SAME(first, in_u) && SAME(second, in_one));
+    CHECK(undrwyth_overlay(9, 9, one, 4, 9, 9, one, 4, NULL, 0, NULL, 0, second, 3, answer) == UNDRWYTH_ACCEPTED);
+    CHECK(answer[UNDRWYTH_OVERLAY_BOTH_PANELS] == 1 && second[0] == 9 && second[1] == 9 && second[2] == 9);
+}
+
 static void convex_rooms(void) {
     const uint8_t one[] = {0, 1, 2, 3}, back[] = {3, 0, 1, 2, 2, 3, 0, 1}, bent[] = {0, 0, 0, 1, 2, 2, 1, 1, 2, 3, 3, 3};
     uint32_t answer[UNDRWYTH_CONVEX_ANSWER_WORDS];
@@ -231,6 +250,7 @@ int main(void) {
     outline_of_a_crossed_walk();
     room_as_polygon();
     room_by_rows();
+    rooms_laid_over();
     convex_rooms();
     polygon_as_chain();
     starts();

@@ -21,7 +21,7 @@ static ucontext_t here, there;
 static uint8_t digits[MOST], bytes[UNDRWYTH_LINE_BYTES], file[UNDRWYTH_POINT_BYTES * MOST + 29];
 static size_t count;
 static uint32_t table[(4 * MOST + 68) * UNDRWYTH_RECORD_WORDS], marks[UNDRWYTH_MARK_WORDS * MOST];
-static int32_t numbers[UNDRWYTH_CORNER_NUMBERS * (MOST + 1)];
+static int32_t numbers[UNDRWYTH_CORNER_NUMBERS * (MOST + 1)], others[2][3 * MOST];
 static uint8_t chain[MOST], round[2 * MOST];
 static uint32_t answer[UNDRWYTH_WALK_ANSWER_WORDS];
 static uint8_t rings[2][UNDRWYTH_POLYGON_HEADER_BYTES + 5 * UNDRWYTH_POINT_BYTES]; /* the highest byte first, the lowest */
@@ -49,6 +49,11 @@ static void outline(void) { undrwyth_outline(16384, -16384, digits, count, round
 static void polygon(void) { undrwyth_polygon_of_room(-7, 5, digits, count, file, sizeof file, answer); }
 
 static void rows(void) { undrwyth_rows(-7, 5, digits, count, numbers, sizeof numbers / sizeof numbers[0], answer); }
+
+static void overlay(void) {
+    undrwyth_overlay(-7, 5, digits, count, -6, 6, digits, count, numbers, sizeof numbers / sizeof numbers[0], others[0], 3 * MOST,
+                     others[1], 3 * MOST, answer);
+}
 
 static void convex(void) { undrwyth_convex(-7, 5, digits, count, answer); }
 
@@ -145,6 +150,8 @@ static void polygon_256(void) { count <= 256 ? polygon() : nothing(); }
 static void polygon_2048(void) { count <= 2048 ? polygon() : nothing(); }
 static void rows_256(void) { count <= 256 ? rows() : nothing(); }
 static void rows_2048(void) { count <= 2048 ? rows() : nothing(); }
+static void overlay_256(void) { count <= 256 ? overlay() : nothing(); }
+static void overlay_2048(void) { count <= 2048 ? overlay() : nothing(); }
 static void convex_256(void) { count <= 256 ? convex() : nothing(); }
 static void convex_2048(void) { count <= 2048 ? convex() : nothing(); }
 
@@ -213,6 +220,9 @@ int main(void) {
         {"undrwyth_rows", rows, UNDRWYTH_ROWS_STACK_BYTES},
         {"undrwyth_rows, at most 2,048 steps", rows_2048, UNDRWYTH_ROWS_2048_STACK_BYTES},
         {"undrwyth_rows, at most 256 steps", rows_256, UNDRWYTH_ROWS_256_STACK_BYTES},
+        {"undrwyth_overlay", overlay, UNDRWYTH_OVERLAY_STACK_BYTES},
+        {"undrwyth_overlay, at most 2,048 steps", overlay_2048, UNDRWYTH_OVERLAY_2048_STACK_BYTES},
+        {"undrwyth_overlay, at most 256 steps", overlay_256, UNDRWYTH_OVERLAY_256_STACK_BYTES},
         {"undrwyth_convex", convex, UNDRWYTH_CONVEX_STACK_BYTES},
         {"undrwyth_convex, at most 2,048 steps", convex_2048, UNDRWYTH_CONVEX_2048_STACK_BYTES},
         {"undrwyth_convex, at most 256 steps", convex_256, UNDRWYTH_CONVEX_256_STACK_BYTES},

@@ -58,7 +58,7 @@ extern "C" {
 /* Bytes of stack that a call needs, rounded up from what include/stack.c measured of the library that ./library writes
  * for x86-64; the gate runs each call on a stack of this size, above a page that cannot be touched. A hull's working
  * store is chosen by how many columns the walk goes through, that of an outline or of a call on a room by how many steps
- * the chain has: 256 at most, 2,048 at most, or more. */
+ * the chain has, and of a call on two rooms the longer chain: 256 at most, 2,048 at most, or more. */
 #define UNDRWYTH_WALK_STACK_BYTES 1024          /* 440 measured */
 #define UNDRWYTH_HULL_256_STACK_BYTES 3072      /* 2,488 measured */
 #define UNDRWYTH_HULL_2048_STACK_BYTES 17408    /* 16,824 measured */
@@ -72,6 +72,9 @@ extern "C" {
 #define UNDRWYTH_ROWS_256_STACK_BYTES 3072      /* 2,344 measured */
 #define UNDRWYTH_ROWS_2048_STACK_BYTES 17408    /* 16,680 measured */
 #define UNDRWYTH_ROWS_STACK_BYTES 132096        /* 131,352 measured */
+#define UNDRWYTH_OVERLAY_256_STACK_BYTES 5632   /* 5,240 measured */
+#define UNDRWYTH_OVERLAY_2048_STACK_BYTES 36864 /* 35,704 measured */
+#define UNDRWYTH_OVERLAY_STACK_BYTES 280576     /* 279,416 measured */
 #define UNDRWYTH_CONVEX_256_STACK_BYTES 3072    /* 2,248 measured */
 #define UNDRWYTH_CONVEX_2048_STACK_BYTES 17408  /* 16,584 measured */
 #define UNDRWYTH_CONVEX_STACK_BYTES 132096      /* 131,256 measured */
@@ -82,7 +85,7 @@ extern "C" {
 
 /* Refusals, in the order in which they are looked for: 1, 2, 3, 10; then 4, 5, 6 at the first faulty place; then 7, at
  * its first place; then 12; 8, 11, 13 and 21 last. A polygon that is read is refused 14, 15, 14 again, 16, 17, 6, 18, in
- * this order. */
+ * this order; of two rooms all refusals of the first come before those of the second, and 21 after both. */
 #define UNDRWYTH_ACCEPTED 0
 #define UNDRWYTH_REFUSAL_TOO_MANY 1        /* more than UNDRWYTH_MOST_INPUT_BYTES input bytes */
 #define UNDRWYTH_REFUSAL_TABLE 2           /* words not UNDRWYTH_RECORD_WORDS times 1 to UNDRWYTH_MOST_RECORDS */
@@ -153,6 +156,17 @@ extern "C" {
 #define UNDRWYTH_ROWS_NUMBER 0             /* the refusal's number */
 #define UNDRWYTH_ROWS_PLACE 1              /* the refusal's place */
 #define UNDRWYTH_ROWS_SPANS 2              /* how many spans */
+
+/* Words of the answer to two rooms that are laid over each other. */
+#define UNDRWYTH_OVERLAY_ANSWER_WORDS 8
+#define UNDRWYTH_OVERLAY_NUMBER 0          /* the refusal's number */
+#define UNDRWYTH_OVERLAY_PLACE 1           /* the refusal's place */
+#define UNDRWYTH_OVERLAY_FIRST_PANELS 2    /* how many panels are in the first room only */
+#define UNDRWYTH_OVERLAY_SECOND_PANELS 3   /* how many are in the second only */
+#define UNDRWYTH_OVERLAY_BOTH_PANELS 4     /* how many are in both */
+#define UNDRWYTH_OVERLAY_FIRST_SPANS 5     /* how many spans each of the three lists has, in the same order */
+#define UNDRWYTH_OVERLAY_SECOND_SPANS 6
+#define UNDRWYTH_OVERLAY_BOTH_SPANS 7
 
 /* Words of the answer to the question whether a room is convex. */
 #define UNDRWYTH_CONVEX_ANSWER_WORDS 3
@@ -306,6 +320,27 @@ uint32_t undrwyth_rows(int32_t start_x, int32_t start_y,
                        const uint8_t *chain, size_t n,
                        int32_t *out, size_t out_numbers,
                        uint32_t answer[UNDRWYTH_ROWS_ANSWER_WORDS]);
+
+/* Lays two rooms over each other, and lists the panels that are in the first only, in the second only, and in both.
+ *
+ * The first room is the walk of the n1 steps in chain1 from the corner (start1_x, start1_y), the second that of the n2
+ * steps in chain2 from (start2_x, start2_y). Which panels are inside a room, and how spans list them, is said above
+ * undrwyth_rows. Each list has a buffer of at least three numbers a span; any length is taken, an empty list needs none,
+ * and 3 * (n1 + n2) / 2 numbers are always enough.
+ *
+ * Accepted: each buffer begins with the spans of its list; the numbers after them are as they were. The panels in the
+ * first only and those in both are as many as the first room's area, without its sign, says, and likewise for the second.
+ * Refused with 1, 10, 4, 6 or 12 for the first room, then in the same order for the second, then with 21 where any of the
+ * three lists has no room in its buffer: all three buffers are as they were. The place of 4 and 6 is one in the chain of the
+ * room that is refused; the answer does not say which that is. */
+uint32_t undrwyth_overlay(int32_t start1_x, int32_t start1_y,
+                          const uint8_t *chain1, size_t n1,
+                          int32_t start2_x, int32_t start2_y,
+                          const uint8_t *chain2, size_t n2,
+                          int32_t *first, size_t first_numbers,
+                          int32_t *second, size_t second_numbers,
+                          int32_t *both, size_t both_numbers,
+                          uint32_t answer[UNDRWYTH_OVERLAY_ANSWER_WORDS]);
 
 /* Tells whether a room is convex.
  *

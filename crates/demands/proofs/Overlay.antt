@@ -1,23 +1,26 @@
--- What holds of two rooms laid over each other (RULES 16), as theorems about the parts and about the promise of a call that lists them, `OverlayCall`. A room is a start and steps.
+-- What holds of two rooms laid over each other (RULES 16), as theorems about the parts and about the promise of the call that lists them, `OverlayCall`. A room is a start and steps.
 -- Assumes nothing.
 use mathlib.Core.List.{List, [], _++_, List·Memᴰ}
 use mathlib.Core.Logic.{_↔_}
 use mathlib.Core.Path.{_≡_, ap, sym, _∙_}
-use Prim.Native.Nat.{ℕ, _+_, _*_}
+use Prim.Native.Nat.{ℕ, _+_, _*_, _^_, _≤_}
+use native.Mathlib.Omega.{arith}
 use lib.IntN.{ℤ, natAbs}
 use lib.ListN.{length, drop}
 use Rattle.lists.specs.Lists.{Distinct}
 use Rattle.answer.specs.declared.Refusal.{Refusal}
 use Rattle.grid.specs.declared.{Corner.Corner, Panel.Panel}
 use Rattle.trace.specs.Verdict.{IsRoom, areaOf}
+use Rattle.room.proofs.RoomLaws.{good-room}
 use Rattle.panels.specs.Inside.{Inside}
 use Rattle.row_call.specs.Rows.{Span, RowsIs, lengthsOf, spanNumbers}
-use Rattle.row_laws.proofs.OneLaws.{rowsIs-one}
+use Rattle.row_laws.proofs.{OneLaws.rowsIs-one, RowLaws.rowsIs-rowsOf}
 use Rattle.room_laws.proofs.RoomLaws.{room-panels}
-use Rattle.overlay.specs.declared.{Part.Part, Part.the-variants.First, Part.the-variants.Second, Part.the-variants.Both, Measures.Measures, Overlaid.Overlaid}
+use Rattle.overlay.specs.declared.{Part.Part, Part.the-variants.First, Part.the-variants.Second, Part.the-variants.Both, Measure.Measure, Measures.Measures, Overlaid.Overlaid}
 use Rattle.overlay.specs.{Overlay.InPart, Call.ofParts, Call.measureOf, Call.measuresOf, Call.OverlayCall}
 use Rattle.overlay_laws.specs.Sweep.{listsOf}
 use Rattle.overlay_laws.proofs.OverlayLaws.{lists-rows, parts-listed, length-parts, none-listed}
+use Rattle.overlay_laws.proofs.FewLaws.{spans-few, part-few}
 use Rattle.overlay_laws.proofs.CallLaws as callLaws
 use Rattle.demands.specs.GivenOverlay.{PartsAre, GivenOverlay}
 use Rattle.demands.proofs.RowCallLaws.{rows-area}
@@ -30,6 +33,13 @@ parts-some s ds t es r q k = (listsOf s ds t es k, lists-rows s ds t es (r .clos
 -- the third part is that of the rooms exchanged
 both-exchanged : (s : Corner) (ds : List ℕ) (t : Corner) (es : List ℕ) (L : List Span) → RowsIs (InPart Both s ds t es) L → RowsIs (InPart Both t es s ds) L
 both-exchanged s ds t es L k = record { order = k .order; panels = λ p. ((λ n. let b = k .panels p .0 n in (b .1, b .0)), (λ n. k .panels p .1 (n .1, n .0))) }
+
+-- and no part has more spans than the two rooms have together
+pub parts-few : (s : Corner) (ds : List ℕ) (t : Corner) (es : List ℕ) → IsRoom s ds → IsRoom t es → (A B : List Span) → RowsIs (Inside s ds) A → RowsIs (Inside t es) B
+    → (k : Part) (L : List Span) → RowsIs (InPart k s ds t es) L → length L ≤ length A + length B
+parts-few s ds t es r q A B a b k L l =
+    let e = rowsIs-one (InPart k s ds t es) L (listsOf s ds t es k) l (lists-rows s ds t es (r .closed) (q .closed) k) in
+    omega (arith, ap length e, ap length (rowsIs-rowsOf s ds A (r .closed) a), ap length (rowsIs-rowsOf t es B (q .closed) b), part-few s ds t es (r .closed) (q .closed) k)
 
 module _ (s : Corner) (ds : List ℕ) (t : Corner) (es : List ℕ) where
   -- what is in the first only and what is in both are together the first room's panels, so their numbers add up to the magnitude of its area
@@ -58,7 +68,7 @@ module _ (s : Corner) (ds : List ℕ) (L : List Span) where
   pub itself-second : RowsIs (InPart Second s ds s ds) L → L ≡ []
   itself-second k = none-listed (InPart Second s ds s ds) L k (λ p h. h .1 (h .0))
 
--- ---- a call that lists the parts
+-- ---- the call
 
 -- every two starts, two chains and three buffers have an answer and a state of each buffer
 pub overlay-answers : (s : Corner) (ds : List ℕ) (t : Corner) (es : List ℕ) (before : Part → List ℤ) → (r : Overlaid) × (after : Part → List ℤ) × OverlayCall s ds t es before r after
@@ -87,16 +97,31 @@ module _ (s : Corner) (ds : List ℕ) (t : Corner) (es : List ℕ) (before : Par
       pub overlay-counts : (k : Part) (ps : List Panel) → Distinct ps → ((p : Panel) → List·Memᴰ p ps ↔ InPart k s ds t es p) → ofParts (m .first) (m .second) (m .both) k .panels ≡ length ps
       overlay-counts k ps once in-ps =
           let d = overlayCallLaws.overlay-laid s ds t es before m w in
-          ap (λ (n : Measures). ofParts (n .first) (n .second) (n .both) k .panels) (d .measures) ∙ overlayCallLaws.measures-at (d .lists) k ∙ overlayCallLaws.panels-counted (InPart k s ds t es) (d .lists k) (d .rows k) ps once in-ps
+          ap (λ (n : Measures). ofParts (n .first) (n .second) (n .both) k .panels) (d .measures) ∙ ap (λ (n : Measure). n .panels) (overlayCallLaws.measures-at (d .lists) k) ∙ overlayCallLaws.panels-counted (InPart k s ds t es) (d .lists k) (d .rows k) ps once in-ps
 
       -- they add up to the magnitudes of the two areas
       pub overlay-areas : (natAbs (areaOf s ds) ≡ m .first .panels + m .both .panels) × (natAbs (areaOf t es) ≡ m .second .panels + m .both .panels)
       overlay-areas =
           let d = overlayCallLaws.overlay-laid s ds t es before m w in
           let L = d .lists in (
-            first-area s ds t es (d .first-room) (L First) (L Both) (d .rows First) (d .rows Both) ∙ ap (λ (n : Measures). n .first .panels + n .both .panels) (sym (d .measures)),
-            second-area s ds t es (d .second-room) (L Second) (L Both) (d .rows Second) (d .rows Both) ∙ ap (λ (n : Measures). n .second .panels + n .both .panels) (sym (d .measures)),
+            first-area s ds t es (good-room s ds (d .first-good) .room) (L First) (L Both) (d .rows First) (d .rows Both) ∙ ap (λ (n : Measures). n .first .panels + n .both .panels) (sym (d .measures)),
+            second-area s ds t es (good-room t es (d .second-good) .room) (L Second) (L Both) (d .rows Second) (d .rows Both) ∙ ap (λ (n : Measures). n .second .panels + n .both .panels) (sym (d .measures)),
           )
+
+      -- no part has more spans than panels, nor more panels than a room of 16,384 steps can have
+      pub overlay-few : (k : Part) → (ofParts (m .first) (m .second) (m .both) k .spans ≤ ofParts (m .first) (m .second) (m .both) k .panels) × (ofParts (m .first) (m .second) (m .both) k .panels ≤ 2 ^ 29)
+      overlay-few k =
+          let d = overlayCallLaws.overlay-laid s ds t es before m w in
+          let e : ofParts (m .first) (m .second) (m .both) k ≡ measureOf (d .lists k) = ap (λ (n : Measures). ofParts (n .first) (n .second) (n .both) k) (d .measures) ∙ overlayCallLaws.measures-at (d .lists) k in
+          (omega (arith, ap (λ (n : Measure). n .spans) e, ap (λ (n : Measure). n .panels) e, spans-few (d .lists k) (d .rows k .order)), by k)
+        where
+          few : (natAbs (areaOf s ds) ≤ 2 ^ 29) × (natAbs (areaOf t es) ≤ 2 ^ 29)
+          few = let d = overlayCallLaws.overlay-laid s ds t es before m w in (overlayCallLaws.area-few s ds (d .first-good), overlayCallLaws.area-few t es (d .second-good))
+
+          by : (k : Part) → ofParts (m .first) (m .second) (m .both) k .panels ≤ 2 ^ 29
+          by First = omega (arith, overlay-areas .0, few .0)
+          by Second = omega (arith, overlay-areas .1, few .1)
+          by Both = omega (arith, overlay-areas .0, few .0)
 
       -- rooms apart have nothing in both
       pub overlay-apart : ((p : Panel) → Inside s ds p → Inside t es p → ⊥) → m .both ≡ measureOf []
@@ -132,5 +157,5 @@ overlay-itself s ds {before} m w =
     let L = d .lists in (
       ap (λ (z : Measures). z .first) (d .measures) ∙ ap measureOf (itself-first s ds (L First) (d .rows First)),
       ap (λ (z : Measures). z .second) (d .measures) ∙ ap measureOf (itself-second s ds (L Second) (d .rows Second)),
-      ap (λ (z : Measures). z .both .panels) (d .measures) ∙ rows-area s ds (d .first-room) (L Both) (itself-both s ds (L Both) (d .rows Both)),
+      ap (λ (z : Measures). z .both .panels) (d .measures) ∙ rows-area s ds (good-room s ds (d .first-good) .room) (L Both) (itself-both s ds (L Both) (d .rows Both)),
     )

@@ -1,25 +1,26 @@
--- The answers of a call on two rooms are given on their occasions and on no other; its promise taken apart; how many panels a list has.
+-- The answers of the call on two rooms are given on their occasions and on no other; its promise taken apart; how many panels a list has.
 -- Assumes nothing.
 use mathlib.Core.List.{List, _++_, List·Memᴰ}
 use mathlib.Core.Logic.{_↔_, ⊎-elim}
 use mathlib.Core.Path.{_≡_, refl, ap, sym, _∙_, subst}
-use Prim.Native.Nat.{ℕ, _*_, _<_, _≤_}
+use Prim.Native.Nat.{ℕ, _*_, _^_, _<_, _≤_}
 use native.Mathlib.Omega.{arith}
-use lib.IntN.{ℤ}
+use lib.IntN.{ℤ, natAbs}
 use lib.ListN.{length, drop}
 use Rattle.lists.specs.Lists.{Distinct}
 use Rattle.lists.proofs.PigeonLaws.{pigeon}
 use Rattle.answer.specs.declared.{Judged.Judged, Judged.the-variants.Good, Judged.the-variants.Refused, Refusal.Refusal, Refusal.the-variants.SpanRoom}
 use Rattle.grid.specs.declared.{Corner.Corner, Panel.Panel}
-use Rattle.trace.specs.Verdict.{IsRoom}
+use Rattle.trace.specs.Verdict.{areaOf}
+use Rattle.trace.proofs.VerdictLaws.{area-room}
 use Rattle.room.specs.Room.{asRoomJudged}
 use Rattle.room.proofs.RoomLaws.{good-room}
 use Rattle.row_call.specs.{Rows.Span, Rows.RowsIs, Rows.lengthsOf, Rows.spanNumbers, Call.spansIn}
-use Rattle.row_laws.proofs.{OneLaws.rowsIs-one, SpanLaws.panelsOf, SpanLaws.length-panels, SpanLaws.spans-panels}
+use Rattle.row_laws.proofs.{OneLaws.rowsIs-one, CallLaws.good-steps, SpanLaws.panelsOf, SpanLaws.length-panels, SpanLaws.spans-panels}
 use Rattle.overlay.specs.declared.{Part.Part, Part.the-variants.First, Part.the-variants.Second, Part.the-variants.Both, Measures.Measures, Overlaid.Overlaid}
 use Rattle.overlay.specs.{Overlay.InPart, Call.ofParts, Call.overlayJudged, Call.measureOf, Call.measuresOf, Call.overlaidOf, Call.OverlayCall}
 use Rattle.overlay_laws.specs.Sweep.{listsOf}
-use Rattle.overlay_laws.proofs.{OverlayLaws.lists-rows, CallLaws.first-refused, CallLaws.second-refused, CallLaws.both-rooms, CallLaws.any-short, CallLaws.all-enough, CallLaws.short-or-enough}
+use Rattle.overlay_laws.proofs.{OverlayLaws.lists-rows, FewLaws.sweep-bound, CallLaws.first-refused, CallLaws.second-refused, CallLaws.both-rooms, CallLaws.any-short, CallLaws.all-enough, CallLaws.short-or-enough}
 use Rattle.demands.specs.GivenOverlay.{PartsAre, GivenOverlay}
 use Rattle.demands.specs.GivenOverlay as given
 use Rattle.demands.proofs.RoomCallLaws.{room-when}
@@ -32,7 +33,14 @@ panels-counted M L k ps once in-ps =
     let b = pigeon ps (panelsOf L) once (λ p m. x .1 p .1 (in-ps p .0 m)) in
     omega (arith, a, b, length-panels L)
 
-pub measures-at : (L : Part → List Span) (k : Part) → ofParts (measureOf (L First)) (measureOf (L Second)) (measureOf (L Both)) k .panels ≡ lengthsOf (L k)
+-- the magnitude of a room's area
+pub area-few : (c : Corner) (ds : List ℕ) → asRoomJudged c ds ≡ Good → natAbs (areaOf c ds) ≤ 2 ^ 29
+area-few c ds e =
+    let r = good-room c ds e in
+    let n = good-steps c ds e .1 in
+    omega (arith, ap natAbs (area-room c ds (r .room)), sweep-bound c ds 32768 (omega (arith, r .near .0, n)), n)
+
+pub measures-at : (L : Part → List Span) (k : Part) → ofParts (measureOf (L First)) (measureOf (L Second)) (measureOf (L Both)) k ≡ measureOf (L k)
 measures-at L First = refl
 measures-at L Second = refl
 measures-at L Both = refl
@@ -99,8 +107,8 @@ module _ (s : Corner) (ds : List ℕ) (t : Corner) (es : List ℕ) (before : Par
   -- an accepted call: two rooms, three lists
   pub record Laid (after : Part → List ℤ) (m : Measures) : Type 0 where
     pub lists : Part → List Span
-    pub first-room : IsRoom s ds
-    pub second-room : IsRoom t es
+    pub first-good : asRoomJudged s ds ≡ Good
+    pub second-good : asRoomJudged t es ≡ Good
     pub rows : PartsAre s ds t es lists
     pub measures : m ≡ measuresOf lists
     pub buffers : (k : Part) → after k ≡ spanNumbers (lists k) ++ drop (3 * length (lists k)) (before k)
@@ -125,8 +133,8 @@ module _ (s : Corner) (ds : List ℕ) (t : Corner) (es : List ℕ) (before : Par
         by Good Good (Refused q) e f g = absurd (no q g)
         by Good Good Good e f g = record {
           lists = w .lists;
-          first-room = good-room s ds e .room;
-          second-room = good-room t es f .room;
+          first-good = e;
+          second-good = f;
           rows = w .rows e f;
           measures = same-measures m (measuresOf (w .lists)) (at-judged w Good g .0);
           buffers = at-judged w Good g .1;

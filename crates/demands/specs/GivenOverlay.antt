@@ -1,4 +1,4 @@
--- When each answer of a call on two rooms is given (RULES 16).
+-- When each answer of the call on two rooms is given (RULES 16.5).
 -- Assumes nothing.
 use mathlib.Core.List.{List}
 use Prim.Native.Nat.{ℕ, _*_, _<_, _≤_}

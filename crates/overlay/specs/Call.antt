@@ -1,4 +1,4 @@
--- What a call that lists the parts of two rooms answers, and what it leaves in the three buffers (RULES 16). Assumes nothing.
+-- What the call that lists the parts of two rooms answers, and what it leaves in the three buffers (RULES 16.3 to 16.6). Assumes nothing.
 use Rattle.lists.specs.Lists.{_≡_, List, [], _∷_, length, ℕ, _*_, ltb, ℤ}
 use Rattle.grid.specs.declared.Corner.{Corner}
 use Rattle.answer.specs.declared.{Judged.Judged, Judged.the-variants.Good, Judged.the-variants.Refused, Refusal.the-variants.SpanRoom}

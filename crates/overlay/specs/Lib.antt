@@ -1,3 +1,3 @@
--- Two rooms laid over each other, and what a call that lists their parts promises.
+-- Two rooms laid over each other, and what the call that lists their parts promises.
 pub mod Overlay
 pub mod Call

@@ -1,4 +1,4 @@
-// The parts of the panels of two rooms that are laid over each other, and what a call that lists them answers.
+// The parts of the panels of two rooms that are laid over each other, and what the call that lists them answers.
 use answer::Refusal;
 
 // In the first room only, in the second only, in both.

@@ -1,4 +1,4 @@
--- The promise of a call on two rooms: which judgement it is where a room is refused and where both are good, and that there is one answer and one state of each buffer.
+-- The promise of the call on two rooms: which judgement it is where a room is refused and where both are good, and that there is one answer and one state of each buffer.
 -- Assumes nothing.
 use mathlib.Core.Bool.{Bool, true, false}
 use mathlib.Core.List.{List, [], _∷_}

@@ -85,7 +85,7 @@ module _ (T : Corner → Bool) where
   length-first (p ∷ P) Q e = refl
 
   -- where none leads there is none
-  none-left : (P Q : List Corner) → leads P Q ≡ false → leads Q P ≡ false → (count T P ≡ 0) × (count T Q ≡ 0)
+  pub none-left : (P Q : List Corner) → leads P Q ≡ false → leads Q P ≡ false → (count T P ≡ 0) × (count T Q ≡ 0)
   none-left [] [] e f = (refl, refl)
   none-left [] (q ∷ Q) e f = absurd (true≢false f)
   none-left (p ∷ P) [] e f = absurd (true≢false e)

@@ -4,3 +4,6 @@ pub mod ChangeLaws
 pub mod PartLaws
 pub mod OverlayLaws
 pub mod CallLaws
+pub mod SweepLaws
+pub mod ReadLaws
+pub mod FewLaws

@@ -24,12 +24,12 @@ use Rattle.overlay.specs.Overlay.{InPart}
 use Rattle.overlay_laws.specs.Sweep.{partHas, endsOfWalk, listsOf}
 use Rattle.overlay_laws.proofs.PartLaws.{within, Ends, part-rows}
 
-none-none : (k : Part) → partHas k false false ≡ false
+pub none-none : (k : Part) → partHas k false false ≡ false
 none-none First = refl
 none-none Second = refl
 none-none Both = refl
 
-walk-ends : (s : Corner) (ds : List ℕ) → endFrom s ds ≡ s → Ends (endsOfWalk s ds)
+pub walk-ends : (s : Corner) (ds : List ℕ) → endFrom s ds ≡ s → Ends (endsOfWalk s ds)
 walk-ends s ds e = record { sorted = feet-in-turn (edgesFrom s ds); even = λ b. feet-parity (onRow b) (edgesFrom s ds) ∙ row-even b s ds e }
 
 within-inside : (s : Corner) (ds : List ℕ) (p : Panel) → within (endsOfWalk s ds) p ≡ inside s ds p

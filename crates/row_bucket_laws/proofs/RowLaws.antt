@@ -13,14 +13,16 @@ use lib.ListN.{length, getD}
 use lib.IntN.{ℤ, pos, _+ℤ_, _-ℤ_}
 use Rattle.int_laws.proofs.LinearLaws.{zarith, bal+, bal-}
 use Rattle.lists.specs.Lists.{tally, count, Below}
+use Rattle.lists.proofs.CountLaws.{count-never}
 use Rattle.lists.proofs.FindLaws.{count-append}
 use Rattle.grid.specs.declared.Corner.{Corner}
 use Rattle.grid.specs.Grid.{corner, eqZ, stepped}
 use Rattle.grid.proofs.CornerLaws.{eqZ-refl, eqZ-not}
 use Rattle.trace.specs.Verdict.{IsRoom}
-use Rattle.row_laws.specs.Feet.{pairsOf, rowsOf}
+use Rattle.panels.specs.Edges.{edgesFrom}
+use Rattle.row_laws.specs.Feet.{feetOf, pairsOf, rowsOf}
 use Rattle.area_laws.proofs.EvenLaws.{row-even}
-use Rattle.row_laws.proofs.{FootLaws.UpTo, FootLaws.Climbs, FootLaws.InTurn, RoomLaws.feetFrom, RoomLaws.footOf, RoomLaws.count-feet, SortedLaws.room-rows, SortedLaws.room-count, RowLaws.rowsIs-rowsOf}
+use Rattle.row_laws.proofs.{FootLaws.UpTo, FootLaws.Climbs, FootLaws.InTurn, RoomLaws.feetFrom, RoomLaws.footOf, RoomLaws.count-feet, SortedLaws.room-all, SortedLaws.room-rows, SortedLaws.room-count, RowLaws.rowsIs-rowsOf}
 use Rattle.hull_laws.specs.Columns.{top, colAfter, rowAfter}
 use Rattle.room_thread_laws.specs.Threads.{Stays, alongFrom, columnsFrom, rowsFrom}
 use Rattle.room_thread_laws.proofs.RoomLaws.{move-x, move-y, closed-stays}
@@ -188,3 +190,7 @@ module _ (c : Corner) (ds : List ℕ) (m : ℕ) (room : IsRoom c ds) (digits : B
       length-map : (f : ℕ → Corner) (l : List ℕ) → length (map f l) ≡ length l
       length-map f [] = refl
       length-map f (p ∷ l) = ap suc (length-map f l)
+
+  -- what holds of no place holds of no lower end
+  pub feet-none : (t : Corner → Bool) → ((q : ℕ) → keyOf ds m q < 2 * m → lowOf ds m q < 2 * m → t (spotAt c m (keyOf ds m) (lowOf ds m) q) ≡ false) → count t (feetOf (edgesFrom c ds)) ≡ 0
+  feet-none t f = room-all t c ds room ∙ sym (poured-count t) ∙ count-never (λ p. t (spotAt c m (keyOf ds m) (lowOf ds m) p)) (pouredOf ds m) (λ q k. let h = poured-mem q k in f q (omega (arith, key-below q h)) (low-below q h))

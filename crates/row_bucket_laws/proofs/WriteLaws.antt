@@ -15,7 +15,7 @@ use Rattle.row_laws.specs.Feet.{pairsOf}
 use Rattle.row_bucket_laws.specs.Buckets.{Strung, picked, rowsUp, Poured, spotAt, numbersOf, inRow, Line, LineDone, LineAt, SheetAt}
 use Rattle.row_bucket_laws.proofs.BucketLaws.{picked-mem}
 
-sets-append : (l : List ℤ) (i : ℕ) (a b : List ℤ) → sets l i (a ++ b) ≡ sets (sets l i a) (i + length a) b
+pub sets-append : (l : List ℤ) (i : ℕ) (a b : List ℤ) → sets l i (a ++ b) ≡ sets (sets l i a) (i + length a) b
 sets-append l i [] b = ap (λ (n : ℕ). sets l n b) none
   where
     none : i ≡ i + 0

@@ -100,6 +100,17 @@ good-walled c ds g =
     let k = good-steps c ds g in
     record { room = r .room; few = k .1; digits = k .0; near = r .near }
 
+-- what the numbers of a list leave of what stood there before
+pub length-numbers : (L : List Span) → length (spanNumbers L) ≡ 3 * length L
+length-numbers [] = refl
+length-numbers (s ∷ L) = omega (arith, length-numbers L)
+
+pub written : (before : List ℤ) (L : List Span) → 3 * length L ≤ length before → sets before 0 (spanNumbers L) ≡ spanNumbers L ++ drop (3 * length L) before
+written before L h = sets-eq (spanNumbers L) before 0 (omega (arith, length-numbers L)) ∙ ap (λ (k : ℕ). spanNumbers L ++ drop k before) all
+  where
+    all : 0 + length (spanNumbers L) ≡ 3 * length L
+    all = omega (arith, length-numbers L)
+
 -- the answer, from how many steps are vertical
 module _ (c : Corner) (ds : List ℕ) (g : asRoomJudged c ds ≡ Good) (v : ℕ) (e : v ≡ count (λ d. eqb (d % 2) 1) ds) where
   w : Walled c ds
@@ -128,15 +139,5 @@ module _ (c : Corner) (ds : List ℕ) (g : asRoomJudged c ds ≡ Good) (v : ℕ)
         list = rowsOf c ds;
         rows = λ _. rowsOf-rows c ds (w .room .closed);
         answer = ap Counted.Many (sym spans-half) ∙ sym (ap (λ (j : Judged). countedOf j (length (rowsOf c ds))) t);
-        buffer = u ∙ written (rowsOf c ds) (omega (arith, spans-half)) ∙ sym (ap (λ (j : Judged). spansIn j (rowsOf c ds) before) t);
+        buffer = u ∙ written before (rowsOf c ds) (omega (arith, spans-half)) ∙ sym (ap (λ (j : Judged). spansIn j (rowsOf c ds) before) t);
       }
-    where
-      length-numbers : (L : List Span) → length (spanNumbers L) ≡ 3 * length L
-      length-numbers [] = refl
-      length-numbers (s ∷ L) = omega (arith, length-numbers L)
-
-      written : (L : List Span) → 3 * length L ≤ length before → sets before 0 (spanNumbers L) ≡ spanNumbers L ++ drop (3 * length L) before
-      written L h = sets-eq (spanNumbers L) before 0 (omega (arith, length-numbers L)) ∙ ap (λ (k : ℕ). spanNumbers L ++ drop k before) all
-        where
-          all : 0 + length (spanNumbers L) ≡ 3 * length L
-          all = omega (arith, length-numbers L)

@@ -106,7 +106,7 @@ fn list_widest(start: Corner, chain: &[u8], out: &mut [i32])
 }
 
 // The same with a store that is not much larger than it needs: to clear it takes time.
-fn write(start: Corner, chain: &[u8], out: &mut [i32])
+pub fn write(start: Corner, chain: &[u8], out: &mut [i32])
     requires { ⌜ Walled start (now chain) × (3 * length (rowsOf start (now chain)) ≤ length (now out)) ⌝ }
     ensures { λ _. ⌜ now (out .exit) ≡ sets (now (out .entry)) 0 (spanNumbers (rowsOf start (now (chain .entry)))) ⌝ }
 {

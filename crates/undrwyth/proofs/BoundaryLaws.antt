@@ -2,7 +2,7 @@
 -- Assumes nothing.
 use mathlib.Core.Bool.{Bool, true, false, not}
 use mathlib.Core.List.{List, [], _∷_}
-use mathlib.Core.Path.{_≡_, refl, sym, _∙_, subst}
+use mathlib.Core.Path.{_≡_, refl, ap, sym, _∙_, subst}
 use Prim.Native.Nat.{ℕ, suc, _+_, _*_, _^_, _<_, _≤_}
 use native.Mathlib.Omega.{arith}
 use borrow.Author.Tests.{ltb-false}
@@ -34,12 +34,17 @@ use Rattle.polygon_ring.specs.declared.Given.{Given}
 use Rattle.polygon_ring.specs.Ring.{orderOf, isNeither, isFaulty, isRing, lengthOf, countOf, pointsGiven, ringOf, readJudged, givenOf, ReadCall}
 use Rattle.polygon_laws.proofs.WriteLaws.{polygon-few}
 use Rattle.polygon_ring_laws.proofs.TripLaws.{read-few}
+use Rattle.row_call.specs.Rows.{Span}
 use Rattle.row_call.specs.Call.{rowsJudged, RowsCall}
+use Rattle.overlay.specs.declared.{Part.Part, Part.the-variants.First, Part.the-variants.Second, Part.the-variants.Both, Measures.Measures, Overlaid.Overlaid}
+use Rattle.overlay.specs.Call.{ofParts, shortJudged, overlayJudged, measuresOf, overlaidOf, OverlayCall}
+use Rattle.overlay_laws.proofs.CallLaws.{buffersJudged}
+use Rattle.demands.proofs.Overlay.{overlay-few}
 use Rattle.row_laws.proofs.CallLaws.{rows-few}
 use Rattle.answer.proofs.RefusalLaws.{refused-not-good, orElse-good}
 use Rattle.walk_call.proofs.SmallLaws.{Placed, placed-when, placed-or, walk-placed, walk-few}
 use Rattle.hull_laws.proofs.HullLaws.{hull-count-steps}
-use Rattle.undrwyth.specs.Words.{AnswerFits, CountedFits, GivenFits}
+use Rattle.undrwyth.specs.Words.{AnswerFits, CountedFits, GivenFits, MeasureFits, MeasuresFit, OverlaidFits}
 
 place-fits : (j : Judged) → Placed 32768 j → judgedPlace j < 2 ^ 32
 place-fits Good p = omega arith
@@ -153,6 +158,35 @@ rows-fit s ds before r after w = subst CountedFits (sym (w .answer)) (go (rowsJu
         let g = orElse-good (asRoomJudged s ds) (orElse (when (ltb (length before) (3 * length (w .list))) SpanRoom) Good) e .0 in
         rw e (omega (arith, rows-few s ds g (w .list) (w .rows g)))
     go (Refused x) e = rw e (omega (arith, subst (Placed 32768) e (rows-placed s ds (length before) (length (w .list)))))
+
+-- two rooms: the first's refusals, then the second's, then 21
+overlay-placed : (s : Corner) (ds : List ℕ) (t : Corner) (es : List ℕ) (before : Part → List ℤ) (L : Part → List Span) → Placed 32768 (overlayJudged s ds t es before L)
+overlay-placed s ds t es before L =
+    placed-or 32768 (asRoomJudged s ds) (orElse (asRoomJudged t es) (buffersJudged before L)) (room-placed s ds)
+    (placed-or 32768 (asRoomJudged t es) (buffersJudged before L) (room-placed t es) (short First (orElse (judged Second) (orElse (judged Both) Good)) (short Second (orElse (judged Both) Good) (short Both Good tt))))
+  where
+    judged : Part → Judged
+    judged k = shortJudged before L k
+
+    short : (k : Part) (j : Judged) → Placed 32768 j → Placed 32768 (orElse (shortJudged before L k) j)
+    short k j p = placed-or 32768 (shortJudged before L k) j (placed-when 32768 (ltb (length (before k)) (3 * length (L k))) SpanRoom (omega arith)) p
+
+pub overlay-fit : (s : Corner) (ds : List ℕ) (t : Corner) (es : List ℕ) (before : Part → List ℤ) (r : Overlaid) (after : Part → List ℤ) → OverlayCall s ds t es before r after → OverlaidFits r
+overlay-fit s ds t es before r after w = go (overlayJudged s ds t es before (w .lists)) refl
+  where
+    few : (m : Measures) → OverlayCall s ds t es before (Overlaid.Listed m) after → MeasuresFit m
+    few m v =
+        let k = overlay-few s ds t es before m v in
+        let at : (p : Part) → MeasureFits (ofParts (m .first) (m .second) (m .both) p) = λ p. (omega (arith, k p .1), omega (arith, k p .0, k p .1)) in
+        (at First, at Second, at Both)
+
+    go : (j : Judged) → overlayJudged s ds t es before (w .lists) ≡ j → OverlaidFits r
+    go Good e =
+        let f = w .answer ∙ ap (λ (i : Judged). overlaidOf i (w .lists)) e in
+        subst OverlaidFits (sym f) (few (measuresOf (w .lists)) (subst (λ (x : Overlaid). OverlayCall s ds t es before x after) f w))
+    go (Refused x) e =
+        let f = w .answer ∙ ap (λ (i : Judged). overlaidOf i (w .lists)) e in
+        subst OverlaidFits (sym f) (omega (arith, subst (Placed 32768) e (overlay-placed s ds t es before (w .lists))))
 
 pub convex-fits : (s : Corner) (ds : List ℕ) (r : Counted) → ConvexCall s ds r → CountedFits r
 convex-fits s ds r w = subst CountedFits (sym (w .answer)) (go (asRoomJudged s ds) (room-placed s ds) (w .says))

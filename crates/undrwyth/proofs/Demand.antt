@@ -18,7 +18,10 @@ use Rattle.demands.proofs.Polygon.{polygonCall-one}
 use Rattle.demands.proofs.Convex.{convexCall-one}
 use Rattle.demands.proofs.PolygonIn.{readCall-one}
 use Rattle.demands.proofs.Rows.{rowsCall-one}
-use Rattle.undrwyth.specs.Boundary.{WalkGives, HullGives, OutlineGives, TurnsGive, PolygonGives, ChainGives, ConvexGives, RowsGives}
+use Rattle.demands.proofs.Overlay.{overlayCall-one}
+use Rattle.overlay.specs.declared.Part.{Part}
+use Rattle.overlay.specs.Call.{overlaidWords, overlaidNumber}
+use Rattle.undrwyth.specs.Boundary.{WalkGives, HullGives, OutlineGives, TurnsGive, PolygonGives, ChainGives, ConvexGives, RowsGives, OverlayGives}
 
 pub walkGives-one : {c : Corner} {os t ms ch t₁ ms₁ ch₁ w₁ t₂ ms₂ ch₂ w₂ : List ℕ} {n₁ n₂ : ℕ} → WalkGives c os t ms ch n₁ t₁ ms₁ ch₁ w₁ → WalkGives c os t ms ch n₂ t₂ ms₂ ch₂ w₂
     → (n₁ ≡ n₂) × (t₁ ≡ t₂) × (ms₁ ≡ ms₂) × (ch₁ ≡ ch₂) × (w₁ ≡ w₂)
@@ -49,6 +52,12 @@ pub rowsGives-one : {s : Corner} {chain : List ℕ} {before after₁ after₂ : 
 rowsGives-one {s} {chain} {before} g h =
     let e = rowsCall-one s chain before (g .listed) (h .listed) in
     (g .result ∙ ap countedNumber (e .0) ∙ sym (h .result), e .1, g .words-are ∙ ap countedWords (e .0) ∙ sym (h .words-are))
+
+pub overlayGives-one : {s t : Corner} {chain steps : List ℕ} {before after₁ after₂ : Part → List ℤ} {w₁ w₂ : List ℕ} {n₁ n₂ : ℕ} → OverlayGives s chain t steps before n₁ after₁ w₁ → OverlayGives s chain t steps before n₂ after₂ w₂
+    → (n₁ ≡ n₂) × ((k : Part) → after₁ k ≡ after₂ k) × (w₁ ≡ w₂)
+overlayGives-one {s} {t} {chain} {steps} {before} g h =
+    let e = overlayCall-one s chain t steps before (g .laid) (h .laid) in
+    (g .result ∙ ap overlaidNumber (e .0) ∙ sym (h .result), e .1, g .words-are ∙ ap overlaidWords (e .0) ∙ sym (h .words-are))
 
 pub convexGives-one : {s : Corner} {chain w₁ w₂ : List ℕ} {n₁ n₂ : ℕ} → ConvexGives s chain n₁ w₁ → ConvexGives s chain n₂ w₂ → (n₁ ≡ n₂) × (w₁ ≡ w₂)
 convexGives-one g h =

@@ -16,6 +16,8 @@ use Rattle.answer.specs.declared.Verdict.the-variants.{Nowhere, Open, Room, Ope
 use Rattle.answer.specs.Refusal.{refusalNumber, refusalPlace, verdictNumber}
 use Rattle.polygon_ring.specs.declared.{Given.Given, Found.Found}
 use Rattle.polygon_ring.specs.Words.{givenWords, givenNumber}
+use Rattle.overlay.specs.declared.{Overlaid.Overlaid}
+use Rattle.overlay.specs.Call.{overlaidWords, overlaidNumber}
 use Rattle.answer.specs.Words.{bitsOf, factsWords, answerWords, countedWords, judgedWords, answerNumber, countedNumber}
 
 -- ---- the words of a refusal
@@ -31,6 +33,9 @@ refused-judged j r n p e h k = ap₂ (λ (x y : ℕ). x ∷ y ∷ []) h k ∙ sy
 pub refused-given : (g : Given) (r : Refusal) (n p : ℕ) → g ≡ Given.Refused r → n ≡ refusalNumber r → p ≡ refusalPlace r → n ∷ p ∷ 0 ∷ 0 ∷ 0 ∷ [] ≡ givenWords g
 refused-given g r n p e h k = ap₂ (λ (x y : ℕ). x ∷ y ∷ 0 ∷ 0 ∷ 0 ∷ []) h k ∙ sym (ap givenWords e)
 
+pub refused-overlaid : (o : Overlaid) (r : Refusal) (n p : ℕ) → o ≡ Overlaid.Refused r → n ≡ refusalNumber r → p ≡ refusalPlace r → n ∷ p ∷ 0 ∷ 0 ∷ 0 ∷ 0 ∷ 0 ∷ 0 ∷ [] ≡ overlaidWords o
+refused-overlaid o r n p e h k = ap₂ (λ (x y : ℕ). x ∷ y ∷ 0 ∷ 0 ∷ 0 ∷ 0 ∷ 0 ∷ 0 ∷ []) h k ∙ sym (ap overlaidWords e)
+
 -- the first word is the result
 pub answer-first : (a : Answer) (w : List ℕ) → w ≡ answerWords a → getD w 0 0 ≡ answerNumber a
 answer-first (Answer.Accepted f) w e = ap (λ (l : List ℕ). getD l 0 0) e
@@ -43,6 +48,10 @@ counted-first (Counted.Refused r) w e = ap (λ (l : List ℕ). getD l 0 0) e
 pub given-first : (g : Given) (w : List ℕ) → w ≡ givenWords g → getD w 0 0 ≡ givenNumber g
 given-first (Given.Chain f) w e = ap (λ (l : List ℕ). getD l 0 0) e
 given-first (Given.Refused r) w e = ap (λ (l : List ℕ). getD l 0 0) e
+
+pub overlaid-first : (o : Overlaid) (w : List ℕ) → w ≡ overlaidWords o → getD w 0 0 ≡ overlaidNumber o
+overlaid-first (Overlaid.Listed m) w e = ap (λ (l : List ℕ). getD l 0 0) e
+overlaid-first (Overlaid.Refused r) w e = ap (λ (l : List ℕ). getD l 0 0) e
 
 -- ---- the words of an accepted walk
 pub verdict-small : (v : Verdict) (n : ℕ) → n ≡ verdictNumber v → n < 6

@@ -15,6 +15,8 @@ use Rattle.outline.specs.Call.{OutlineCall}
 use Rattle.steps.specs.Turns.{ConvertedBy}
 use Rattle.polygon.specs.Polygon.{PolygonCall}
 use Rattle.convex.specs.Convex.{ConvexCall}
+use Rattle.overlay.specs.declared.{Part.Part, Overlaid.Overlaid}
+use Rattle.overlay.specs.Call.{OverlayCall, overlaidWords, overlaidNumber}
 use Rattle.row_call.specs.Call.{RowsCall}
 use Rattle.polygon_ring.specs.declared.Given.{Given}
 use Rattle.polygon_ring.specs.Ring.{ReadCall}
@@ -55,6 +57,13 @@ pub record RowsGives (s : Corner) (chain : List ℕ) (before : List ℤ) (n : �
   pub listed : RowsCall s chain before answer after
   pub words-are : words ≡ countedWords answer
   pub result : n ≡ countedNumber answer
+
+-- that of two rooms that are laid over each other
+pub record OverlayGives (s : Corner) (chain : List ℕ) (t : Corner) (steps : List ℕ) (before : Part → List ℤ) (n : ℕ) (after : Part → List ℤ) (words : List ℕ) : Type 0 where
+  pub answer : Overlaid
+  pub laid : OverlayCall s chain t steps before answer after
+  pub words-are : words ≡ overlaidWords answer
+  pub result : n ≡ overlaidNumber answer
 
 -- that of the question whether a room is convex
 pub record ConvexGives (s : Corner) (chain : List ℕ) (n : ℕ) (words : List ℕ) : Type 0 where

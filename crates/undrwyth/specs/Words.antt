@@ -3,6 +3,7 @@ use Rattle.lists.specs.Lists.{_^_, _<_}
 use Rattle.answer.specs.declared.{Answer.Answer, Counted.Counted}
 use Rattle.answer.specs.Refusal.{refusalPlace}
 use Rattle.polygon_ring.specs.declared.{Given.Given}
+use Rattle.overlay.specs.declared.{Measure.Measure, Measures.Measures, Overlaid.Overlaid}
 
 -- of a walk
 abbrev pub AnswerFits : Answer → Type 0
@@ -18,3 +19,14 @@ CountedFits (Counted.Refused r) = refusalPlace r < 2 ^ 32
 abbrev pub GivenFits : Given → Type 0
 GivenFits (Given.Chain f) = f .steps < 2 ^ 32
 GivenFits (Given.Refused r) = refusalPlace r < 2 ^ 32
+
+-- of two rooms that are laid over each other
+abbrev pub MeasureFits : Measure → Type 0
+MeasureFits m = (m .panels < 2 ^ 32) × (m .spans < 2 ^ 32)
+
+abbrev pub MeasuresFit : Measures → Type 0
+MeasuresFit m = MeasureFits (m .first) × MeasureFits (m .second) × MeasureFits (m .both)
+
+abbrev pub OverlaidFits : Overlaid → Type 0
+OverlaidFits (Overlaid.Listed m) = MeasuresFit m
+OverlaidFits (Overlaid.Refused r) = refusalPlace r < 2 ^ 32

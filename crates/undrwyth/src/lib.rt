@@ -5,6 +5,8 @@ use answer::Facts;
 use answer::Judged;
 use grid::Corner;
 use line_fields::hex::bits;
+use overlay::Measures;
+use overlay::Overlaid;
 use polygon_ring::Found;
 use polygon_ring::Given;
 use turns::Way;
@@ -16,11 +18,13 @@ ghost use Rattle.grid.specs.Grid.{corner};
 ghost use Rattle.polygon_ring.specs.declared.Given.{Given};
 ghost use Rattle.polygon_ring.specs.Words.{givenWords};
 ghost use Rattle.turns.specs.Way.{convertOf};
-ghost use Rattle.undrwyth.specs.Words.{AnswerFits, CountedFits, GivenFits};
+ghost use Rattle.overlay.specs.declared.Overlaid.{Overlaid};
+ghost use Rattle.overlay.specs.Call.{ofParts, overlaidWords};
+ghost use Rattle.undrwyth.specs.Words.{AnswerFits, CountedFits, GivenFits, MeasuresFit, OverlaidFits};
 ghost use Rattle.line_reply.specs.Reply.{LineIs};
 ghost use Rattle.line_convert.specs.Convert.{ConvertedIs};
 ghost use Rattle.steps.specs.Turns.{turnsOf, stepsOf};
-ghost use Rattle.undrwyth.specs.Boundary.{WalkGives, HullGives, OutlineGives, TurnsGive, PolygonGives, ChainGives, ConvexGives, RowsGives};
+ghost use Rattle.undrwyth.specs.Boundary.{WalkGives, HullGives, OutlineGives, TurnsGive, PolygonGives, ChainGives, ConvexGives, RowsGives, OverlayGives};
 
 // The numbers of an accepted walk.
 fn facts_words(f: Facts) -> [u32; 11]
@@ -100,6 +104,41 @@ fn given_words(g: Given) -> [u32; 5]
             let number = answer::refusal_number(r) as u32;
             let place = answer::refusal_place(r) as u32;
             [number, place, 0, 0, 0]
+        }
+    }
+}
+
+// The numbers of three lists.
+fn measures_words(m: Measures) -> [u32; 8]
+    requires { ⌜ MeasuresFit m ⌝ }
+    ensures { λ w. ⌜ w ≡ overlaidWords (Overlaid.Listed m) ⌝ }
+{
+    let f = m.first;
+    let g = m.second;
+    let h = m.both;
+    [
+        0,
+        0,
+        f.panels as u32,
+        g.panels as u32,
+        h.panels as u32,
+        f.spans as u32,
+        g.spans as u32,
+        h.spans as u32,
+    ]
+}
+
+// The numbers of the answer to two rooms.
+fn overlaid_words(o: Overlaid) -> [u32; 8]
+    requires { ⌜ OverlaidFits o ⌝ }
+    ensures { λ w. ⌜ w ≡ overlaidWords o ⌝ }
+{
+    match o {
+        Overlaid::Listed(m) => measures_words(m),
+        Overlaid::Refused(r) => {
+            let number = answer::refusal_number(r) as u32;
+            let place = answer::refusal_place(r) as u32;
+            [number, place, 0, 0, 0, 0, 0, 0]
         }
     }
 }
@@ -202,6 +241,30 @@ pub extern "C" fn undrwyth_rows(
 {
     let c = row_list::list(Corner(start_x, start_y), chain, out);
     let words = counted_words(c);
+    *answer = words;
+    words[0]
+}
+
+// Lists the panels of two rooms by parts: in the first only, in the second only, in both.
+#[no_mangle]
+pub extern "C" fn undrwyth_overlay(
+    start1_x: i32,
+    start1_y: i32,
+    chain1: &[u8],
+    start2_x: i32,
+    start2_y: i32,
+    chain2: &[u8],
+    first: &mut [i32],
+    second: &mut [i32],
+    both: &mut [i32],
+    answer: &mut [u32; 8],
+) -> u32
+    ensures { λ n. ⌜ OverlayGives (corner «start1_x» «start1_y») (now (chain1 .entry)) (corner «start2_x» «start2_y») (now (chain2 .entry)) (ofParts (now (first .entry)) (now (second .entry)) (now (both .entry))) n (ofParts (now (first .exit)) (now (second .exit)) (now (both .exit))) (now (answer .exit)) ⌝ }
+{
+    let one = Corner(start1_x, start1_y);
+    let other = Corner(start2_x, start2_y);
+    let o = overlay_list::list(one, chain1, other, chain2, first, second, both);
+    let words = overlaid_words(o);
     *answer = words;
     words[0]
 }

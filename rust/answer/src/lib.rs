@@ -31,6 +31,9 @@ pub const OUTLINE_ANSWER_WORDS: usize = 3;
 pub const POLYGON_ANSWER_WORDS: usize = 3;
 /// Words of the answer to a room that is listed by rows: number, place, spans.
 pub const ROWS_ANSWER_WORDS: usize = 3;
+/// Words of the answer to two rooms laid over each other: number, place, the panels in the first only, in the second only and in both, and
+/// the spans of each.
+pub const OVERLAY_ANSWER_WORDS: usize = 8;
 /// Words of the answer to the question whether a room is convex: number, place, 1 for yes or 0 for no.
 pub const CONVEX_ANSWER_WORDS: usize = 3;
 /// Words of the answer to a polygon that is read: number, place, steps, start x, start y.
@@ -221,4 +224,22 @@ pub struct Facts {
     pub area: i32,
     /// x and y of pn.
     pub last: (i32, i32),
+}
+
+/// How many panels and how many spans a part of two rooms has.
+#[derive(Clone, Copy, Debug, PartialEq, Eq)]
+pub struct Measure {
+    pub panels: usize,
+    pub spans: usize,
+}
+
+/// The parts of two rooms that are laid over each other.
+#[derive(Clone, Copy, Debug, PartialEq, Eq)]
+pub struct Overlaid {
+    /// In the first room only.
+    pub first: Measure,
+    /// In the second room only.
+    pub second: Measure,
+    /// In both.
+    pub both: Measure,
 }

@@ -4,7 +4,8 @@
 use std::collections::HashMap;
 use std::hint::black_box;
 
-use answer::{Facts, MARK_WORDS, MOST_STEPS, RECORD_WORDS, Refusal};
+use answer::{Facts, MARK_WORDS, MOST_STEPS, Overlaid, RECORD_WORDS, Refusal};
+use compare::Room;
 use compare::inputs::most_nodes;
 
 use crate::race::Call;
@@ -146,6 +147,22 @@ fn sort_edges(start: (i32, i32), chain: &[u8], out: &mut [i32]) -> usize {
         span.copy_from_slice(&[two[0].0, two[0].1, two[1].1 - 1]);
     }
     edges.len() / 2
+}
+
+/// Each room over itself, moved aside a little, in buffers that are always large enough.
+pub fn overlay(
+    overlay: impl Fn(Room, Room, [&mut [i32]; 3]) -> Result<Overlaid, Refusal> + 'static,
+    inputs: &[Vec<u8>],
+) -> Call<'_> {
+    let [mut first, mut second, mut both] = [(); 3].map(|()| vec![0; 3 * inputs[0].len()]);
+    Box::new(move || {
+        for chain in inputs {
+            let chain = black_box(&chain[..]);
+            let out = [&mut first[..], &mut second, &mut both];
+            let answer = overlay(((-7, 5), chain), ((-6, 7), chain), out);
+            black_box(answer.expect("they are rooms"));
+        }
+    })
 }
 
 /// Whether each room is convex.

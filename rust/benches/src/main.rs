@@ -5,7 +5,7 @@ mod programs;
 mod race;
 
 use calls::{
-    chain, convert, convex, count_visits, hull, outline, polygon, rows, sorted_rows, walk,
+    chain, convert, convex, count_visits, hull, outline, overlay, polygon, rows, sorted_rows, walk,
 };
 use compare::inputs::{self, Random};
 use race::race;
@@ -51,6 +51,8 @@ fn main() {
     polygons();
     println!("\nrooms by rows, ns a step");
     rows_of_rooms();
+    println!("\ntwo rooms laid over each other, ns a step of one");
+    overlays();
     println!("\nconvex rooms, ns a step");
     convexes();
     println!("\npolygons as chains, MB/s of the file");
@@ -133,6 +135,19 @@ fn rows_of_rooms() {
                 ("sort", sorted_rows(&inputs)),
             ])
             .print(&format!("rows/{shape}/{n}"), ns);
+        }
+    }
+}
+
+/// Each room over itself, so that one call goes over twice as many steps as are counted.
+fn overlays() {
+    for n in SIZES {
+        for (shape, inputs) in rooms(n) {
+            race(vec![
+                ("proved", overlay(undrwyth::overlay, &inputs)),
+                ("twin", overlay(twin::overlay, &inputs)),
+            ])
+            .print(&format!("overlay/{shape}/{n}"), ns);
         }
     }
 }
@@ -228,6 +243,11 @@ fn growth() {
             ("8192", rows(undrwyth::rows, &short)),
         ])
         .print(&format!("growth-rows/{shape}"), ns);
+        race(vec![
+            ("16384", overlay(undrwyth::overlay, &long)),
+            ("8192", overlay(undrwyth::overlay, &short)),
+        ])
+        .print(&format!("growth-overlay/{shape}"), ns);
         let (long, short) = (polygons_of(&long, true), polygons_of(&short, true));
         race(vec![
             ("16384", chain(undrwyth::chain_of_polygon, &long)),

@@ -5,10 +5,11 @@ use std::sync::atomic::{AtomicU64, Ordering};
 
 use answer::{
     CHAIN_ANSWER_WORDS, CONVEX_ANSWER_WORDS, HULL_ANSWER_WORDS, OUTLINE_ANSWER_WORDS,
-    POLYGON_ANSWER_WORDS, ROWS_ANSWER_WORDS, TURNS_ANSWER_WORDS, WALK_ANSWER_WORDS,
+    OVERLAY_ANSWER_WORDS, POLYGON_ANSWER_WORDS, ROWS_ANSWER_WORDS, TURNS_ANSWER_WORDS,
+    WALK_ANSWER_WORDS,
 };
 
-use crate::{Convert, Library, Line, PLAIN};
+use crate::{Convert, Library, Line, PLAIN, Room};
 
 /// Words before and after a lent buffer that no call may touch.
 const MARGIN: usize = 5;
@@ -178,6 +179,29 @@ pub fn convex(library: &Library, start: (i32, i32), chain: &[u8]) -> [u32; CONVE
     let (ours, plain) = (run(library), run(&PLAIN));
     same("convex's number", chain, &ours.0, &plain.0);
     same("convex's answer", chain, &ours.1, &plain.1);
+    plain.1
+}
+
+/// Compares two rooms laid over each other, with buffers of these lengths, and gives the answer.
+pub fn overlay(
+    library: &Library,
+    one: Room,
+    other: Room,
+    out: [usize; 3],
+) -> [u32; OVERLAY_ANSWER_WORDS] {
+    let run = |library: &Library| {
+        let (mut out, mut answer) = (out.map(Lent::numbers), [u32::MAX; OVERLAY_ANSWER_WORDS]);
+        let parts = out.each_mut().map(Lent::part);
+        let number = (library.overlay)(one, other, parts, &mut answer);
+        ([number], answer, out.map(|lent| lent.0))
+    };
+    let (ours, plain) = (run(library), run(&PLAIN));
+    let chains = [one.1, other.1].concat();
+    same("overlay's number", &chains, &ours.0, &plain.0);
+    same("overlay's answer", &chains, &ours.1, &plain.1);
+    for (ours, plain) in ours.2.iter().zip(&plain.2) {
+        same("a buffer of overlay", &chains, ours, plain);
+    }
     plain.1
 }
 

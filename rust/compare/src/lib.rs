@@ -6,8 +6,8 @@ pub mod suite;
 
 use answer::{
     CHAIN_ANSWER_WORDS, CONVEX_ANSWER_WORDS, Facts, HULL_ANSWER_WORDS, NO_MEETING,
-    OUTLINE_ANSWER_WORDS, POLYGON_ANSWER_WORDS, ROWS_ANSWER_WORDS, Refusal, TURNS_ANSWER_WORDS,
-    WALK_ANSWER_WORDS,
+    OUTLINE_ANSWER_WORDS, OVERLAY_ANSWER_WORDS, Overlaid, POLYGON_ANSWER_WORDS, ROWS_ANSWER_WORDS,
+    Refusal, TURNS_ANSWER_WORDS, WALK_ANSWER_WORDS,
 };
 
 /// The calls of an implementation, with the answers of the C boundary.
@@ -18,6 +18,7 @@ pub struct Library {
     pub polygon_of_room: Polygon,
     pub rows: Rows,
     pub convex: Convex,
+    pub overlay: Overlay,
     pub chain_of_polygon: Chain,
     pub turns_of_steps: Convert,
     pub steps_of_turns: Convert,
@@ -47,6 +48,12 @@ pub type Line = fn(&[u8], &mut [u8]) -> usize;
 /// Whether a room, by its start and chain, is convex.
 pub type Convex = fn((i32, i32), &[u8], &mut [u32; CONVEX_ANSWER_WORDS]) -> u32;
 
+/// A start and a chain.
+pub type Room<'a> = ((i32, i32), &'a [u8]);
+
+/// The parts of two rooms that are laid over each other: in the first only, in the second only, in both.
+pub type Overlay = fn(Room, Room, [&mut [i32]; 3], &mut [u32; OVERLAY_ANSWER_WORDS]) -> u32;
+
 /// A polygon as a start and a chain.
 pub type Chain = fn(&[u8], &mut [u8], &mut [u32; CHAIN_ANSWER_WORDS]) -> u32;
 
@@ -62,6 +69,7 @@ pub const PROVED: Library = Library {
     polygon_of_room: undrwyth::raw::polygon_of_room,
     rows: undrwyth::raw::rows,
     convex: undrwyth::raw::convex,
+    overlay: undrwyth::raw::overlay,
     chain_of_polygon: undrwyth::raw::chain_of_polygon,
     turns_of_steps: undrwyth::raw::turns_of_steps,
     steps_of_turns: undrwyth::raw::steps_of_turns,
@@ -103,6 +111,9 @@ macro_rules! library {
                     $of::convex(start, chain).map(|yes| [u32::from(yes)]),
                 )
             },
+            overlay: |one, other, out, answer| {
+                tell(answer, $of::overlay(one, other, out).map(measures))
+            },
             chain_of_polygon: |file, chain, answer| {
                 let found = $of::chain_of_polygon(file, chain);
                 tell(
@@ -138,6 +149,14 @@ fn tell<const FACTS: usize>(answer: &mut [u32], result: Result<[u32; FACTS], Ref
         Err(refusal) => answer[..2].copy_from_slice(&[refusal.number(), refusal.place()]),
     }
     answer[0]
+}
+
+/// The panels of the three parts, and then their spans.
+fn measures(parts: Overlaid) -> [u32; OVERLAY_ANSWER_WORDS - 2] {
+    let parts = [parts.first, parts.second, parts.both];
+    let [a, b, c] = parts.map(|part| part.panels as u32);
+    let [d, e, f] = parts.map(|part| part.spans as u32);
+    [a, b, c, d, e, f]
 }
 
 /// The facts of a walk as words.

@@ -2,11 +2,11 @@
 
 use answer::{
     CHAIN_ANSWER_WORDS, LINE_BYTES, MARK_WORDS, MOST_INPUT, MOST_LINE_DIGITS, MOST_RECORDS,
-    MOST_START, MOST_STEPS, POLYGON_ANSWER_WORDS, RECORD_WORDS,
+    MOST_START, MOST_STEPS, OVERLAY_ANSWER_WORDS, POLYGON_ANSWER_WORDS, RECORD_WORDS,
 };
 
 use crate::inputs::{self, Random};
-use crate::{Library, calls};
+use crate::{Library, Room, calls};
 
 /// Every string of exactly this length over the digits below `digits`.
 fn strings(length: u32, digits: u32) -> impl Iterator<Item = Vec<u8>> {
@@ -102,6 +102,26 @@ fn rows_near(library: &Library, start: (i32, i32), chain: &[u8]) {
             calls::rows(library, start, chain, out);
         }
     }
+}
+
+/// Two rooms in the least buffers that have room, in those with one number more or less in one of them, and with none at all; gives the answer.
+fn overlay_near(library: &Library, one: Room, other: Room) -> [u32; OVERLAY_ANSWER_WORDS] {
+    let most = 3 * (one.1.len() + other.1.len()) / 2;
+    let answer = calls::overlay(library, one, other, [most; 3]);
+    let [number, _, _, _, _, spans @ ..] = answer;
+    let right = spans.map(|spans| 3 * spans as usize);
+    calls::overlay(library, one, other, [0; 3]);
+    if number == 0 {
+        calls::overlay(library, one, other, right);
+        for part in 0..3 {
+            let mut out = right;
+            out[part] += 1;
+            calls::overlay(library, one, other, out);
+            out[part] = right[part].saturating_sub(1);
+            calls::overlay(library, one, other, out);
+        }
+    }
+    answer
 }
 
 /// A start and a chain in every call on a room.
@@ -383,6 +403,109 @@ fn convex_of(library: &Library, room: &[u8], random: &mut Random) {
     calls::convex(library, (0, 0), &chain[1..]);
 }
 
+/// Every pair of rooms of up to `longest` steps at every distance at which they can touch, pairs of long ones, and walks that are no rooms in every
+/// order.
+pub fn overlays(library: &Library, longest: usize) {
+    let mut small = Vec::new();
+    inputs::every_room(longest, &mut |room| small.push(room.to_vec()));
+    let reach = longest as i32 / 2 + 1;
+    for (one, other) in small
+        .iter()
+        .flat_map(|one| small.iter().map(move |other| (one, other)))
+    {
+        for start in (-reach..=reach).flat_map(|x| (-reach..=reach).map(move |y| (x, y))) {
+            calls::overlay(library, ((0, 0), one), (start, other), [longest; 3]);
+        }
+    }
+    laid_over(library);
+    refused_over(library);
+    let mut random = Random(13);
+    for n in [8, 20, 254, 256, 258, 2_046, 2_048, 2_050, MOST_STEPS] {
+        let rooms = |n: usize, random: &mut Random| {
+            [
+                inputs::room(n, random),
+                inputs::closed_spiral(n),
+                inputs::closed_comb(n, 7),
+                inputs::tower(n),
+            ]
+        };
+        for one in rooms(n, &mut random) {
+            for other in [rooms(n, &mut random), rooms(12, &mut random)].concat() {
+                let start = inputs::start(&mut random);
+                let near =
+                    |v: i32, random: &mut Random| v.saturating_add(random.below(9) as i32 - 4);
+                let beside = (near(start.0, &mut random), near(start.1, &mut random));
+                overlay_near(library, (start, &one), (beside, &other));
+                overlay_near(library, (beside, &other), (start, &one));
+            }
+        }
+    }
+}
+
+/// Pairs whose parts are known.
+fn laid_over(library: &Library) {
+    let parts = |one: Room, other: Room| {
+        let [number, place, facts @ ..] = overlay_near(library, one, other);
+        assert_eq!((number, place), (0, 0));
+        facts
+    };
+    let (panel, u) = (&[0, 1, 2, 3][..], &[0, 0, 0, 1, 1, 2, 3, 2, 1, 2, 3, 3][..]);
+    for far in [-MOST_START, -1, 0, 3, MOST_START - 1] {
+        let (here, mouth) = ((far, far), (far + 1, far + 1));
+        assert_eq!(parts((here, u), (mouth, panel)), [5, 1, 0, 3, 1, 0]);
+        assert_eq!(parts((mouth, panel), (here, u)), [1, 5, 0, 1, 3, 0]);
+        assert_eq!(parts((here, u), (here, panel)), [4, 0, 1, 3, 0, 1]);
+        assert_eq!(parts((here, u), (here, u)), [0, 0, 5, 0, 0, 3]);
+        assert_eq!(
+            parts((here, panel), ((far + 1, far), panel)),
+            [1, 1, 0, 1, 1, 0]
+        );
+        assert_eq!(
+            parts((here, panel), ((far, far + 1), panel)),
+            [1, 1, 0, 1, 1, 0]
+        );
+    }
+    for n in [64, 1_024, MOST_STEPS] {
+        let comb = inputs::closed_comb(n, 7);
+        let count = n as u32 / 2 - 1;
+        let [_, _, both, _, _, _] = parts(((5, 5), &comb), ((5, 5), &comb));
+        assert_eq!(both, count);
+        for aside in [1, 2, 9] {
+            let [first, second, both, ..] = parts(((0, 0), &comb), ((aside, 1), &comb));
+            assert_eq!([first + both, second + both], [count; 2]);
+        }
+        let apart = parts(((-MOST_START, 0), &comb), ((MOST_START, 0), &comb));
+        assert_eq!(apart[..3], [count, count, 0]);
+    }
+}
+
+/// Every refusal of either room beside every refusal of the other, with buffers of every length.
+fn refused_over(library: &Library) {
+    let (panel, l) = (vec![0, 1, 2, 3], vec![0, 0, 1, 2, 1, 2, 3, 3]);
+    let long = [inputs::straight(MOST_STEPS + 1, 0), vec![9]].concat();
+    let faults: Vec<((i32, i32), Vec<u8>)> = vec![
+        ((0, 0), vec![0; MOST_INPUT + 1]),
+        ((MOST_START + 1, 0), vec![0, 1, 2, 9]),
+        ((0, i32::MIN), vec![4]),
+        ((0, 0), vec![0, 1, 4, 9]),
+        ((0, 0), long),
+        ((0, 0), vec![0, 2]),
+        ((0, 0), vec![]),
+        ((1, -1), panel),
+        ((0, 0), l),
+    ];
+    for (one, other) in faults
+        .iter()
+        .flat_map(|one| faults.iter().map(move |other| (one, other)))
+    {
+        let (one, other) = ((one.0, &one.1[..]), (other.0, &other.1[..]));
+        for lengths in 0..7 * 7 * 7 {
+            let out = [lengths % 7, lengths / 7 % 7, lengths / 49];
+            calls::overlay(library, one, other, out);
+        }
+    }
+}
+
 /// Polygons that are read, in both byte orders: rooms that were written, rings with every byte in each place, of every length, with every
 /// special float in each coordinate; long edges, rings of as many steps as may be and one panel more, files that count far more points than
 /// they have.
@@ -612,4 +735,7 @@ fn random_chain(library: &Library, random: &mut Random) {
     outline_near(library, inputs::start(random), &chain);
     turns_near(library, &chain);
     room_near(library, inputs::start(random), &chain);
+    let (start, other) = (inputs::start(random), inputs::walk(400, random));
+    overlay_near(library, (start, &chain), (start, &other));
+    overlay_near(library, (start, &other), (start, &chain));
 }

@@ -3,7 +3,7 @@
 use std::io::Write;
 use std::process::{Command, Stdio};
 
-use answer::{Facts, Refusal};
+use answer::{Facts, Overlaid, Refusal};
 use compare::PROVED as LIBRARY;
 use compare::inputs::{self, Random};
 use compare::suite;
@@ -53,6 +53,16 @@ fn wrapper() {
             undrwyth::convex((n as i32, -1), &ops),
             plain::convex((n as i32, -1), &ops)
         );
+        type Overlay =
+            fn(compare::Room, compare::Room, [&mut [i32]; 3]) -> Result<Overlaid, Refusal>;
+        let over = |overlay: Overlay| {
+            let (one, other) = (
+                ((n as i32, -1), &ops[..]),
+                ((n as i32, 0), &[0, 1, 2, 3][..]),
+            );
+            overlay(one, other, [&mut [0; 90], &mut [0; 3], &mut [0; 3]])
+        };
+        assert_eq!(over(undrwyth::overlay), over(plain::overlay));
         let file = inputs::file(100, &mut random);
         let read = |chain: fn(&[u8], &mut [u8]) -> _| chain(&file, &mut [0; 90]);
         assert_eq!(

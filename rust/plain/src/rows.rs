@@ -66,11 +66,11 @@ pub fn write(spans: &[[i32; 3]], out: &mut [i32]) -> Result<usize, Refusal> {
 }
 
 #[cfg(test)]
-mod tests {
+pub mod tests {
     use super::*;
 
     /// The rule word for word, for each panel around a walk.
-    fn inside(start: Corner, chain: &[u8], (row, x): Panel) -> bool {
+    pub fn inside(start: Corner, chain: &[u8], (row, x): Panel) -> bool {
         let beside =
             |two: &&[Corner]| two[0].1 != two[1].1 && two[0].1.min(two[1].1) == row && two[0].0 > x;
         corners(start, chain).windows(2).filter(beside).count() % 2 == 1

@@ -142,6 +142,43 @@ pub fn convex(start: (i32, i32), chain: &[u8]) -> Result<bool, Refusal> {
     Ok(answer[2] == 1)
 }
 
+/// Writes the spans of the panels that are in the first room only, in the second only and in both, each to the start of its buffer and as
+/// [`rows`] does, and answers how many panels and spans each of them has. A room is its start and its chain. The numbers after the spans are
+/// unchanged; unless all three lists have room, nothing is written.
+///
+/// ```
+/// let u = ((0, 0), &[0, 0, 0, 1, 1, 2, 3, 2, 1, 2, 3, 3][..]);
+/// let panel = ((2, 1), &[0, 1, 2, 3][..]);
+/// let (mut first, mut second, mut both) = ([7; 7], [], [0; 3]);
+/// let parts = undrwyth::overlay(u, panel, [&mut first, &mut second, &mut both])?;
+/// assert_eq!((parts.first.panels, parts.second.panels, parts.both.panels), (4, 0, 1));
+/// assert_eq!(first, [0, 0, 2, 1, 0, 0, 7]);
+/// assert_eq!(both, [1, 2, 2]);
+/// assert_eq!(
+///     undrwyth::overlay(u, panel, [&mut first, &mut second, &mut []]),
+///     Err(undrwyth::Refusal::SpanRoom)
+/// );
+/// # Ok::<(), undrwyth::Refusal>(())
+/// ```
+pub fn overlay(
+    one: ((i32, i32), &[u8]),
+    other: ((i32, i32), &[u8]),
+    out: [&mut [i32]; 3],
+) -> Result<Overlaid, Refusal> {
+    let mut answer = [0; OVERLAY_ANSWER_WORDS];
+    let number = raw::overlay(one, other, out, &mut answer);
+    accepted(number, answer[1])?;
+    let measure = |part: usize| Measure {
+        panels: answer[2 + part] as usize,
+        spans: answer[5 + part] as usize,
+    };
+    Ok(Overlaid {
+        first: measure(0),
+        second: measure(1),
+        both: measure(2),
+    })
+}
+
 /// Reads a polygon of one ring in Well-Known Binary, of either byte order: writes the steps along its points to the start of
 /// `chain`, and answers the corner at which they start and how many there are. The bytes after them are unchanged.
 ///

@@ -2,7 +2,8 @@
 
 use answer::{
     CHAIN_ANSWER_WORDS, CONVEX_ANSWER_WORDS, HULL_ANSWER_WORDS, OUTLINE_ANSWER_WORDS,
-    POLYGON_ANSWER_WORDS, ROWS_ANSWER_WORDS, TURNS_ANSWER_WORDS, WALK_ANSWER_WORDS,
+    OVERLAY_ANSWER_WORDS, POLYGON_ANSWER_WORDS, ROWS_ANSWER_WORDS, TURNS_ANSWER_WORDS,
+    WALK_ANSWER_WORDS,
 };
 
 mod c {
@@ -61,6 +62,23 @@ mod c {
             start_y: i32,
             chain: *const u8,
             n: usize,
+            answer: *mut u32,
+        ) -> u32;
+        pub fn undrwyth_overlay(
+            start1_x: i32,
+            start1_y: i32,
+            chain1: *const u8,
+            n1: usize,
+            start2_x: i32,
+            start2_y: i32,
+            chain2: *const u8,
+            n2: usize,
+            first: *mut i32,
+            first_numbers: usize,
+            second: *mut i32,
+            second_numbers: usize,
+            both: *mut i32,
+            both_numbers: usize,
             answer: *mut u32,
         ) -> u32;
         pub fn undrwyth_chain_of_polygon(
@@ -214,6 +232,35 @@ pub fn convex(start: (i32, i32), chain: &[u8], answer: &mut [u32; CONVEX_ANSWER_
             start.1,
             chain.as_ptr(),
             chain.len(),
+            answer.as_mut_ptr(),
+        )
+    }
+}
+
+/// `undrwyth_overlay` of two rooms, each a start and a chain: the refusal's number, 0 for none.
+pub fn overlay(
+    one: ((i32, i32), &[u8]),
+    other: ((i32, i32), &[u8]),
+    [first, second, both]: [&mut [i32]; 3],
+    answer: &mut [u32; OVERLAY_ANSWER_WORDS],
+) -> u32 {
+    // SAFETY: as for walk.
+    unsafe {
+        c::undrwyth_overlay(
+            one.0.0,
+            one.0.1,
+            one.1.as_ptr(),
+            one.1.len(),
+            other.0.0,
+            other.0.1,
+            other.1.as_ptr(),
+            other.1.len(),
+            first.as_mut_ptr(),
+            first.len(),
+            second.as_mut_ptr(),
+            second.len(),
+            both.as_mut_ptr(),
+            both.len(),
             answer.as_mut_ptr(),
         )
     }

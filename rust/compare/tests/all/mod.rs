@@ -46,6 +46,11 @@ fn convex_rooms() {
 }
 
 #[test]
+fn overlays() {
+    suite::overlays(&LIBRARY, LONGEST as usize);
+}
+
+#[test]
 fn files() {
     suite::files(&LIBRARY);
 }

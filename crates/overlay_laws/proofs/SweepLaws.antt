@@ -1,0 +1,242 @@
+-- What the sweep over two lists of spans does at each stop.
+-- Assumes nothing.
+use mathlib.Core.Bool.{Bool, true, false, cond, not, true≢false}
+use mathlib.Core.List.{List, [], _∷_, _++_}
+use mathlib.Core.Path.{_≡_, refl, ap, ap₂, sym, _∙_}
+use Prim.Native.Nat.{ℕ, zero, suc, _+_, _-_, _%_, _<_, _≤_}
+use native.Mathlib.Omega.{arith}
+use lib.Dec.{eqb}
+use lib.IntN.{ℤ}
+use lib.ListN.{length, length-append}
+use lib.Seq.{sets}
+use Rattle.lists.specs.Lists.{tally, count}
+use Rattle.grid.specs.declared.Corner.{Corner}
+use Rattle.row_laws.specs.Feet.{ahead}
+use Rattle.overlay.specs.declared.Part.{Part}
+use Rattle.overlay_laws.specs.Join.{Stop, leads, stopsBy, join, differ, changes, edgeNumbers}
+use Rattle.overlay_laws.specs.Sweep.{partHas, partEnds, endAt, endsFrom, odd, leftOf, edgeBy, partNumbers, Writing}
+use Rattle.row_bucket_laws.proofs.WriteLaws.{sets-append}
+use Rattle.overlay_laws.proofs.JoinLaws.{none-left}
+use Rattle.overlay_laws.proofs.OverlayLaws.{none-none}
+
+-- ---- which list leads
+
+one-more : (n i : ℕ) → i < n → n - i ≡ suc (n - suc i)
+one-more n i h = omega arith
+
+none-more : (n i : ℕ) → n ≤ i → n - i ≡ 0
+none-more n i h = omega arith
+
+ends-one : (a : List ℤ) (n i : ℕ) → i < n → endsFrom a i (n - i) ≡ endAt a i ∷ endsFrom a (suc i) (n - suc i)
+ends-one a n i h = ap (endsFrom a i) (one-more n i h)
+
+ends-none : (a : List ℤ) (n i : ℕ) → n ≤ i → endsFrom a i (n - i) ≡ []
+ends-none a n i h = ap (endsFrom a i) (none-more n i h)
+
+module _ (a : List ℤ) (i na : ℕ) (b : List ℤ) (j nb : ℕ) where
+  pub lead-none : na ≤ i → leads (endsFrom a i (na - i)) (endsFrom b j (nb - j)) ≡ false
+  lead-none h = ap (λ (P : List Corner). leads P (endsFrom b j (nb - j))) (ends-none a na i h)
+
+  pub lead-alone : i < na → nb ≤ j → leads (endsFrom a i (na - i)) (endsFrom b j (nb - j)) ≡ true
+  lead-alone h g = ap₂ leads (ends-one a na i h) (ends-none b nb j g)
+
+  pub lead-both : i < na → j < nb → leads (endsFrom a i (na - i)) (endsFrom b j (nb - j)) ≡ not (ahead (endAt b j) (endAt a i))
+  lead-both h g = ap₂ leads (ends-one a na i h) (ends-one b nb j g)
+
+  -- a list that leads is not at its end
+  pub lead-there : leads (endsFrom a i (na - i)) (endsFrom b j (nb - j)) ≡ true → i < na
+  lead-there e = by (na - i) refl e
+    where
+      by : (k : ℕ) → na - i ≡ k → leads (endsFrom a i k) (endsFrom b j (nb - j)) ≡ true → i < na
+      by zero f g = absurd (true≢false (sym g))
+      by (suc k) f g = omega (arith, f)
+
+-- ---- the next stop
+
+odd-step : (i : ℕ) (b : Bool) → differ (odd i) b ≡ odd (i + tally b)
+odd-step i true = by (i % 2) (i + 1) (omega arith) (omega arith)
+  where
+    by : (m n : ℕ) → m < 2 → (m + n) % 2 ≡ 1 → differ (eqb m 1) true ≡ eqb (n % 2) 1
+    by zero n h e = ap (λ (k : ℕ). eqb k 1) (sym (low n e))
+      where
+        low : (n : ℕ) → (0 + n) % 2 ≡ 1 → n % 2 ≡ 1
+        low n e = omega (arith, e)
+    by (suc zero) n h e = ap (λ (k : ℕ). eqb k 1) (sym (high n e))
+      where
+        high : (n : ℕ) → (1 + n) % 2 ≡ 1 → n % 2 ≡ 0
+        high n e = omega (arith, e)
+    by (suc (suc m)) n h e = absurd (omega (arith, h))
+odd-step i false = same (odd i) ∙ ap odd none
+  where
+    same : (c : Bool) → differ c false ≡ c
+    same true = refl
+    same false = refl
+
+    none : i ≡ i + 0
+    none = omega arith
+
+length-ends : (a : List ℤ) (i k : ℕ) → count (λ q. true) (endsFrom a i k) ≡ k
+length-ends a i zero = refl
+length-ends a i (suc k) = omega (arith, length-ends a (suc i) k)
+
+module _ (k : Part) (a : List ℤ) (i na : ℕ) (b : List ℤ) (j nb f : ℕ) (one two : Bool)
+    (e : leads (endsFrom a i (na - i)) (endsFrom b j (nb - j)) ≡ one) (g : leads (endsFrom b j (nb - j)) (endsFrom a i (na - i)) ≡ two) (more : i + j < na + nb) (first : i ≤ na) (second : j ≤ nb) where
+  abbrev rest : List Corner
+  rest = leftOf k a (i + tally one) na b (j + tally two) nb f
+
+  abbrev was : Bool
+  was = partHas k (odd i) (odd j)
+
+  abbrev is : Bool
+  is = partHas k (odd (i + tally one)) (odd (j + tally two))
+
+  abbrev stop : Corner
+  stop = cond one (endAt a i) (endAt b j)
+
+  pub stop-left : leftOf k a i na b j nb (suc f) ≡ cond (differ was is) (stop ∷ rest) rest
+  stop-left = by one two e g refl refl
+    where
+      step : (x y : Bool) (J : List Stop) (c : Corner) → changes (partHas k) (odd i) (odd j) (record { at = c; one = x; two = y } ∷ J)
+          ≡ cond (differ (partHas k (odd i) (odd j)) (partHas k (odd (i + tally x)) (odd (j + tally y)))) (c ∷ changes (partHas k) (odd (i + tally x)) (odd (j + tally y)) J) (changes (partHas k) (odd (i + tally x)) (odd (j + tally y)) J)
+      step x y J c = ap₂ (λ (u v : Bool). cond (differ (partHas k (odd i) (odd j)) (partHas k u v)) (c ∷ changes (partHas k) u v J) (changes (partHas k) u v J)) (odd-step i x) (odd-step j y)
+
+      open-left : (x y : Bool) → leads (endsFrom a i (na - i)) (endsFrom b j (nb - j)) ≡ x → leads (endsFrom b j (nb - j)) (endsFrom a i (na - i)) ≡ y
+          → leftOf k a i na b j nb (suc f) ≡ changes (partHas k) (odd i) (odd j) (stopsBy (λ (X Y : List Corner). join f X Y) (endsFrom a i (na - i)) (endsFrom b j (nb - j)) x y)
+      open-left x y p q = ap₂ (λ (u v : Bool). changes (partHas k) (odd i) (odd j) (stopsBy (λ (X Y : List Corner). join f X Y) (endsFrom a i (na - i)) (endsFrom b j (nb - j)) u v)) p q
+
+      next : (l : List ℤ) (n m : ℕ) → m < n → endsFrom l (suc m) (n - suc m) ≡ endsFrom l (m + 1) (n - (m + 1))
+      next l n m h = ap (λ (z : ℕ). endsFrom l z (n - z)) up
+        where
+          up : suc m ≡ m + 1
+          up = omega arith
+
+      stay : (l : List ℤ) (n m : ℕ) → endsFrom l m (n - m) ≡ endsFrom l (m + 0) (n - (m + 0))
+      stay l n m = ap (λ (z : ℕ). endsFrom l z (n - z)) same
+        where
+          same : m ≡ m + 0
+          same = omega arith
+
+      by : (x y : Bool) → leads (endsFrom a i (na - i)) (endsFrom b j (nb - j)) ≡ x → leads (endsFrom b j (nb - j)) (endsFrom a i (na - i)) ≡ y → x ≡ one → y ≡ two
+          → leftOf k a i na b j nb (suc f) ≡ cond (differ (partHas k (odd i) (odd j)) (partHas k (odd (i + tally x)) (odd (j + tally y)))) (cond x (endAt a i) (endAt b j) ∷ leftOf k a (i + tally x) na b (j + tally y) nb f) (leftOf k a (i + tally x) na b (j + tally y) nb f)
+      by true true p q u v =
+          open-left true true p q
+          ∙ ap₂ (λ (X Y : List Corner). changes (partHas k) (odd i) (odd j) (stopsBy (λ (X Y : List Corner). join f X Y) X Y true true)) (ends-one a na i (lead-there a i na b j nb p)) (ends-one b nb j (lead-there b j nb a i na q))
+          ∙ step true true (join f (endsFrom a (suc i) (na - suc i)) (endsFrom b (suc j) (nb - suc j))) (endAt a i)
+          ∙ ap₂ (λ (X Y : List Corner). cond (differ (partHas k (odd i) (odd j)) (partHas k (odd (i + 1)) (odd (j + 1)))) (endAt a i ∷ changes (partHas k) (odd (i + 1)) (odd (j + 1)) (join f X Y)) (changes (partHas k) (odd (i + 1)) (odd (j + 1)) (join f X Y))) (next a na i (lead-there a i na b j nb p)) (next b nb j (lead-there b j nb a i na q))
+      by true false p q u v =
+          open-left true false p q
+          ∙ ap (λ (X : List Corner). changes (partHas k) (odd i) (odd j) (stopsBy (λ (X Y : List Corner). join f X Y) X (endsFrom b j (nb - j)) true false)) (ends-one a na i (lead-there a i na b j nb p))
+          ∙ step true false (join f (endsFrom a (suc i) (na - suc i)) (endsFrom b j (nb - j))) (endAt a i)
+          ∙ ap₂ (λ (X Y : List Corner). cond (differ (partHas k (odd i) (odd j)) (partHas k (odd (i + 1)) (odd (j + 0)))) (endAt a i ∷ changes (partHas k) (odd (i + 1)) (odd (j + 0)) (join f X Y)) (changes (partHas k) (odd (i + 1)) (odd (j + 0)) (join f X Y))) (next a na i (lead-there a i na b j nb p)) (stay b nb j)
+      by false true p q u v =
+          open-left false true p q
+          ∙ ap (λ (Y : List Corner). changes (partHas k) (odd i) (odd j) (stopsBy (λ (X Y : List Corner). join f X Y) (endsFrom a i (na - i)) Y false true)) (ends-one b nb j (lead-there b j nb a i na q))
+          ∙ step false true (join f (endsFrom a i (na - i)) (endsFrom b (suc j) (nb - suc j))) (endAt b j)
+          ∙ ap₂ (λ (X Y : List Corner). cond (differ (partHas k (odd i) (odd j)) (partHas k (odd (i + 0)) (odd (j + 1)))) (endAt b j ∷ changes (partHas k) (odd (i + 0)) (odd (j + 1)) (join f X Y)) (changes (partHas k) (odd (i + 0)) (odd (j + 1)) (join f X Y))) (stay a na i) (next b nb j (lead-there b j nb a i na q))
+      by false false p q u v =
+          let n = none-left (λ c. true) (endsFrom a i (na - i)) (endsFrom b j (nb - j)) p q in
+          absurd (omega (arith, n .0, n .1, length-ends a i (na - i), length-ends b j (nb - j)))
+
+-- ---- writing
+
+pub length-endsFrom : (a : List ℤ) (i k : ℕ) → length (endsFrom a i k) ≡ k
+length-endsFrom a i zero = refl
+length-endsFrom a i (suc k) = ap suc (length-endsFrom a (suc i) k)
+
+-- where there is a stop there is fuel
+some-fuel : (n f : ℕ) → 0 < n → n ≤ f → (m : ℕ) × (f ≡ suc m)
+some-fuel n zero h g = absurd (omega arith)
+some-fuel n (suc f) h g = (f, refl)
+
+module _ (k : Part) (a : List ℤ) (i na : ℕ) (b : List ℤ) (j nb : ℕ) (one two : Bool)
+    (e : leads (endsFrom a i (na - i)) (endsFrom b j (nb - j)) ≡ one) (g : leads (endsFrom b j (nb - j)) (endsFrom a i (na - i)) ≡ two) (more : i + j < na + nb) where
+  stepped-first : i ≤ na → i + tally one ≤ na
+  stepped-first h = by one e
+    where
+      by : (x : Bool) → leads (endsFrom a i (na - i)) (endsFrom b j (nb - j)) ≡ x → i + tally x ≤ na
+      by true p = omega (arith, lead-there a i na b j nb p)
+      by false p = omega arith
+
+  stepped-second : j ≤ nb → j + tally two ≤ nb
+  stepped-second h = by two g
+    where
+      by : (x : Bool) → leads (endsFrom b j (nb - j)) (endsFrom a i (na - i)) ≡ x → j + tally x ≤ nb
+      by true p = omega (arith, lead-there b j nb a i na p)
+      by false p = omega arith
+
+  -- one of the two goes on
+  some-step : 0 < tally one + tally two
+  some-step = by one two e g
+    where
+      by : (x y : Bool) → leads (endsFrom a i (na - i)) (endsFrom b j (nb - j)) ≡ x → leads (endsFrom b j (nb - j)) (endsFrom a i (na - i)) ≡ y → 0 < tally x + tally y
+      by true y p q = omega arith
+      by false true p q = omega arith
+      by false false p q = let n = none-left (λ c. true) (endsFrom a i (na - i)) (endsFrom b j (nb - j)) p q in absurd (omega (arith, n .0, n .1, length-ends a i (na - i), length-ends b j (nb - j), more))
+
+  numbers-cond : (x y : Bool) (c : Corner) (l : List Corner) → edgeNumbers x (cond (differ x y) (c ∷ l) l) ≡ edgeBy x y c ++ edgeNumbers y l
+  numbers-cond true true c l = refl
+  numbers-cond true false c l = refl
+  numbers-cond false true c l = refl
+  numbers-cond false false c l = refl
+
+  -- a stop has one number or two, or none
+  few-edge : (x y : Bool) (c : Corner) → length (edgeBy x y c) ≤ 2
+  few-edge true true c = omega arith
+  few-edge true false c = omega arith
+  few-edge false true c = omega arith
+  few-edge false false c = omega arith
+
+  pub write-step : (o : ℕ) (before now now′ : List ℤ) → Writing k a na b nb i j o before now
+      → now′ ≡ sets now o (edgeBy (partHas k (odd i) (odd j)) (partHas k (odd (i + tally one)) (odd (j + tally two))) (cond one (endAt a i) (endAt b j)))
+      → Writing k a na b nb (i + tally one) (j + tally two) (o + length (edgeBy (partHas k (odd i) (odd j)) (partHas k (odd (i + tally one)) (odd (j + tally two))) (cond one (endAt a i) (endAt b j)))) before now′
+  write-step o before now now′ w h =
+      let s = some-fuel ((na - i) + (nb - j)) (w .fuel) (omega (arith, more, w .first, w .second)) (w .enough) in
+      let x = partHas k (odd i) (odd j) in
+      let y = partHas k (odd (i + tally one)) (odd (j + tally two)) in
+      let l = leftOf k a (i + tally one) na b (j + tally two) nb (s .0) in
+      let c = cond one (endAt a i) (endAt b j) in
+      let u : edgeNumbers x (leftOf k a i na b j nb (w .fuel)) ≡ edgeBy x y c ++ edgeNumbers y l =
+      ap (λ (m : ℕ). edgeNumbers x (leftOf k a i na b j nb m)) (s .1) ∙ ap (edgeNumbers x) (stop-left k a i na b j nb (s .0) one two e g more (w .first) (w .second)) ∙ numbers-cond x y c l in
+      record {
+        fuel = s .0;
+        enough = omega (arith, w .enough, s .1, some-step, stepped-first (w .first), stepped-second (w .second));
+        first = stepped-first (w .first);
+        second = stepped-second (w .second);
+        few = omega (arith, w .few, few-edge x y c, some-step);
+        numbers = omega (arith, w .numbers, ap length u, length-append (edgeBy x y c) (edgeNumbers y l));
+        left = ap (λ (z : List ℤ). sets z (o + length (edgeBy x y c)) (edgeNumbers y l)) h ∙ sym (sets-append now o (edgeBy x y c) (edgeNumbers y l)) ∙ ap (sets now o) (sym u) ∙ w .left;
+      }
+
+  -- it comes nearer to the end
+  pub step-nearer : i ≤ na → j ≤ nb → (i + tally one ≤ na) × (j + tally two ≤ nb) × (i + j < (i + tally one) + (j + tally two))
+  step-nearer h l = (stepped-first h, stepped-second l, omega (arith, some-step))
+
+-- nothing is left
+left-none : (k : Part) (a : List ℤ) (i na : ℕ) (b : List ℤ) (j nb fuel : ℕ) → na ≤ i → nb ≤ j → leftOf k a i na b j nb fuel ≡ []
+left-none k a i na b j nb zero h g = refl
+left-none k a i na b j nb (suc f) h g =
+    ap₂ (λ (X Y : List Corner). changes (partHas k) (odd i) (odd j) (join (suc f) X Y)) (ends-none a na i h) (ends-none b nb j g)
+
+pub write-start : (k : Part) (a : List ℤ) (na : ℕ) (b : List ℤ) (nb : ℕ) (before : List ℤ) → Writing k a na b nb 0 0 0 before before
+write-start k a na b nb before = record {
+  fuel = length (endsFrom a 0 na) + length (endsFrom b 0 nb);
+  enough = omega (arith, length-endsFrom a 0 na, length-endsFrom b 0 nb);
+  first = omega arith;
+  second = omega arith;
+  few = omega arith;
+  numbers = omega (arith, ap length whole);
+  left = ap (sets before 0) whole;
+}
+  where
+    less : (n : ℕ) → n - 0 ≡ n
+    less n = omega arith
+
+    whole : edgeNumbers (partHas k (odd 0) (odd 0)) (leftOf k a 0 na b 0 nb (length (endsFrom a 0 na) + length (endsFrom b 0 nb))) ≡ edgeNumbers false (partEnds k (endsFrom a 0 na) (endsFrom b 0 nb))
+    whole =
+        ap (λ (v : Bool). edgeNumbers v (leftOf k a 0 na b 0 nb (length (endsFrom a 0 na) + length (endsFrom b 0 nb)))) (none-none k)
+        ∙ ap₂ (λ (m n : ℕ). edgeNumbers false (changes (partHas k) false false (join (length (endsFrom a 0 na) + length (endsFrom b 0 nb)) (endsFrom a 0 m) (endsFrom b 0 n)))) (less na) (less nb)
+
+pub write-end : (k : Part) (a : List ℤ) (na : ℕ) (b : List ℤ) (nb i j o : ℕ) (before now : List ℤ) → Writing k a na b nb i j o before now → (i + j < na + nb → ⊥) → (o ≡ length (partNumbers k a na b nb)) × (now ≡ sets before 0 (partNumbers k a na b nb))
+write-end k a na b nb i j o before now w h =
+    let none = left-none k a i na b j nb (w .fuel) (omega (arith, w .first, w .second)) (omega (arith, w .first, w .second)) in
+    (omega (arith, w .numbers, ap (λ (R : List Corner). length (edgeNumbers (partHas k (odd i) (odd j)) R)) none), sym (ap (λ (R : List Corner). sets now o (edgeNumbers (partHas k (odd i) (odd j)) R)) none) ∙ w .left)

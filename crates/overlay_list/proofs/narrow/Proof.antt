@@ -1,0 +1,84 @@
+-- `overlay_list::narrow` meets its contract.
+-- Assumes nothing.
+use borrow.Author.Needs.{sfits-of, needs}
+use native.Mathlib.Omega.{arith}
+use mathlib.Core.Path.{_≡_, refl, sym, _∙_, subst}
+use Prim.Native.Nat.{ℕ, _*_, _/_, _-_, _<_, _≤_}
+use lib.ListN.{length, getD, length-set}
+use lib.IntN.{ℤ, pos, natAbs}
+use mir.Facts.{toZ-ofZ}
+use mir.Syntax.{w16}
+use Rattle.overlay_sweep.proofs.EndLaws.{long-back}
+use Rattle.overlay_list.proofs.ListLaws.{copied-step}
+use Rattle.overlay_list.proofs.narrow.Statement.{statement}
+use Rattle.overlay_list.proofs.narrow.Tie as tie
+
+abbrev Inv-loop : tie.InvT-loop
+Inv-loop list n out₀ end k₀ out k = (k ≤ 3 * (n / 2)) × (length out ≡ length out₀) × ((j : ℕ) → j < k → getD out j (pos 0) ≡ getD list j (pos 0))
+
+abbrev μ-loop : tie.MeasureT-loop
+μ-loop list n out₀ end k₀ out k = 3 * (n / 2) - k
+
+mul-end : tie.Need-mul-end Inv-loop μ-loop
+mul-end c = search needs
+
+loop-holds : tie.Need-loop-holds Inv-loop μ-loop
+loop-holds c = (omega arith, refl, λ j h. absurd (omega arith))
+
+mul-short : tie.Need-mul-short Inv-loop μ-loop
+mul-short c = search needs
+
+shared-slice-copy-out-short : tie.Need-shared-slice-copy-out-short Inv-loop μ-loop
+shared-slice-copy-out-short c = search needs
+
+short-requires : tie.Need-short-requires Inv-loop μ-loop
+short-requires c κs =
+    let z = c .before .before .before in
+    let k = c .before .before .loop .k in
+    let s = z .pre .0 .small k (omega arith) in
+    subst (λ (v : ℤ). natAbs v ≤ 32767) (sym (long-back (getD (z .args .list .now) k (pos 0)) (omega (arith, s)))) s
+
+mul-t12 : tie.Need-mul-t12 Inv-loop μ-loop
+mul-t12 c = search needs
+
+slice-set-from-out : tie.Need-slice-set-from-out Inv-loop μ-loop
+slice-set-from-out c = let z = c .before .before .before .before in omega (arith, c .before .before .before .loop .inv .1, z .pre .1)
+
+add-k : tie.Need-add-k Inv-loop μ-loop
+add-k c = search needs
+
+loop-less : tie.Need-loop-less Inv-loop μ-loop
+loop-less c = omega arith
+
+loop-again : tie.Need-loop-again Inv-loop μ-loop
+loop-again c =
+    let z = c .before .before .before .before in
+    let l = c .before .before .before .loop in
+    let s = z .pre .0 .small (l .k) (omega arith) in
+    let v = c .short in
+    (omega arith, length-set (l .out) (l .k) _ ∙ l .inv .1, copied-step (z .args .list .now) (l .out) (l .k) _ (omega (arith, l .inv .1, z .pre .1)) (toZ-ofZ (sfits-of {w = w16} {z = v .result} (v .ok)) ∙ v .ensures ∙ long-back (getD (z .args .list .now) (l .k) (pos 0)) (omega (arith, s))) (l .inv .2))
+
+same-length : tie.Need-same-length Inv-loop μ-loop
+same-length c = c .before .loop .inv .1
+
+returns : tie.Need-returns Inv-loop μ-loop
+returns c = λ j h. c .before .loop .inv .2 j (omega arith)
+
+pub narrow-spec : {M : Type 1} → statement M
+narrow-spec =
+    tie.close
+    (tie.spec
+    Inv-loop
+    μ-loop
+    mul-end
+    loop-holds
+    mul-short
+    shared-slice-copy-out-short
+    short-requires
+    mul-t12
+    slice-set-from-out
+    add-k
+    loop-less
+    loop-again
+    same-length
+    returns)

@@ -1,0 +1,106 @@
+-- `overlay_list::panels` meets its contract.
+-- Assumes nothing.
+use borrow.Author.Needs.{sfits-of, needs}
+use native.Mathlib.Omega.{arith}
+use mathlib.Core.List.{List}
+use mathlib.Core.Path.{_≡_, ap₂, sym, _∙_, subst₂}
+use Prim.Native.Nat.{_+_, _*_, _-_, _≤_}
+use lib.Signed.{_≤ℤ_}
+use lib.ListN.{length, getD, drop}
+use lib.IntN.{ℤ, pos, sucℤ, natAbs, _-ℤ_}
+use mir.Facts.{toZ-ofZ}
+use mir.Syntax.{w32}
+use Rattle.row_call.specs.Rows.{Span, lengthsOf}
+use Rattle.overlay_list.proofs.SumLaws.{begins-at, sum-step, sum-end}
+use Rattle.overlay_list.specs.Parts.{Begins}
+use Rattle.overlay_list.proofs.panels.Statement.{statement}
+use Rattle.overlay_list.proofs.panels.Tie as tie
+
+abbrev Inv-loop : tie.InvT-loop
+Inv-loop list n k₀ sum₀ k sum = (k ≤ n) × (sum ≤ k * 4294967297) × ((L : List Span) → Begins list L → length L ≡ n → sum + lengthsOf (drop k L) ≡ lengthsOf L)
+
+abbrev μ-loop : tie.MeasureT-loop
+μ-loop list n k₀ sum₀ k sum = n - k
+
+loop-holds : tie.Need-loop-holds Inv-loop μ-loop
+loop-holds c = (omega arith, omega arith, λ L b e. omega arith)
+
+mul-long : tie.Need-mul-long Inv-loop μ-loop
+mul-long c = record { fits = omega (arith, c .before .before .pre .few) }
+
+add-long : tie.Need-add-long Inv-loop μ-loop
+add-long c = search needs
+
+mul-long-2 : tie.Need-mul-long-2 Inv-loop μ-loop
+mul-long-2 c = search needs
+
+shared-slice-copy-out-long : tie.Need-shared-slice-copy-out-long Inv-loop μ-loop
+shared-slice-copy-out-long c =
+    let z = c .before .before in
+    let l = c .before .loop in
+    let w = begins-at (z .args .list .now) (z .pre .spans) (l .k) (z .pre .begins) (omega (arith, z .pre .many)) in
+    omega (arith, w .room)
+
+mul-long-3 : tie.Need-mul-long-3 Inv-loop μ-loop
+mul-long-3 c = search needs
+
+add-long-2 : tie.Need-add-long-2 Inv-loop μ-loop
+add-long-2 c = search needs
+
+mul-long-4 : tie.Need-mul-long-4 Inv-loop μ-loop
+mul-long-4 c = search needs
+
+shared-slice-copy-out-long-2 : tie.Need-shared-slice-copy-out-long-2 Inv-loop μ-loop
+shared-slice-copy-out-long-2 c =
+    let z = c .before .before .before in
+    let l = c .before .before .loop in
+    let w = begins-at (z .args .list .now) (z .pre .spans) (l .k) (z .pre .begins) (omega (arith, z .pre .many)) in
+    omega (arith, w .room)
+
+long-requires : tie.Need-long-requires Inv-loop μ-loop
+long-requires c κs =
+    let z = c .before .before .before .before in
+    let l = c .before .before .before .loop in
+    let w = begins-at (z .args .list .now) (z .pre .spans) (l .k) (z .pre .begins) (omega (arith, z .pre .many)) in
+    subst₂ _≤ℤ_ (sym (toZ-ofZ (sfits-of {w = w32} {z = getD (z .args .list .now) (3 * l .k + 1) (pos 0)} (c .before .long-arg .given)) ∙ w .first)) (sym (toZ-ofZ (sfits-of {w = w32} {z = getD (z .args .list .now) (3 * l .k + 2) (pos 0)} (c .long-arg2 .given)) ∙ w .last)) (w .order (z .pre .order))
+
+add-sum : tie.Need-add-sum Inv-loop μ-loop
+add-sum c = record { fits = omega (arith, c .long .ensures .1, c .before .before .before .before .loop .inv .1, c .before .before .before .before .before .pre .few) }
+
+add-k : tie.Need-add-k Inv-loop μ-loop
+add-k c = search needs
+
+loop-less : tie.Need-loop-less Inv-loop μ-loop
+loop-less c = omega arith
+
+loop-again : tie.Need-loop-again Inv-loop μ-loop
+loop-again c =
+    let z = c .before .before .before .before .before in
+    let l = c .before .before .before .before .loop in
+    let f = c .long .ensures .0 ∙ ap₂ (λ (x y : ℤ). natAbs (sucℤ y -ℤ x)) (toZ-ofZ (sfits-of {w = w32} {z = getD (z .args .list .now) (3 * l .k + 1) (pos 0)} (c .before .before .long-arg .given))) (toZ-ofZ (sfits-of {w = w32} {z = getD (z .args .list .now) (3 * l .k + 2) (pos 0)} (c .before .long-arg2 .given))) in
+    (omega arith, omega (arith, l .inv .1, c .long .ensures .1), λ L b e. sum-step (z .args .list .now) L (l .k) (l .sum) (c .long .result) (begins-at (z .args .list .now) L (l .k) b (omega (arith, e))) (l .inv .2 L b e) f)
+
+returns : tie.Need-returns Inv-loop μ-loop
+returns c = λ L b e. sum-end L (c .before .before .args .n) (c .before .loop .k) (c .before .loop .sum) e (omega arith) (c .before .loop .inv .2 L b e)
+
+pub panels-spec : {M : Type 1} → statement M
+panels-spec =
+    tie.close
+    (tie.spec
+    Inv-loop
+    μ-loop
+    loop-holds
+    mul-long
+    add-long
+    mul-long-2
+    shared-slice-copy-out-long
+    mul-long-3
+    add-long-2
+    mul-long-4
+    shared-slice-copy-out-long-2
+    long-requires
+    add-sum
+    add-k
+    loop-less
+    loop-again
+    returns)

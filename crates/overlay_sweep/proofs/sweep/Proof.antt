@@ -1,0 +1,111 @@
+-- `overlay_sweep::sweep` meets its contract.
+-- Assumes nothing.
+use borrow.Author.Needs.{needs}
+use native.Mathlib.Omega.{arith}
+use mathlib.Core.Path.{_≡_, refl, sym, _∙_, subst}
+use Prim.Native.Nat.{_+_, _-_, _≤_}
+use lib.ListN.{length}
+use lib.IntN.{natAbs}
+use Rattle.overlay_laws.proofs.SweepLaws.{write-start, write-end}
+use Rattle.overlay_laws.specs.Sweep.{Writing}
+use Rattle.grid.specs.declared.Corner.{Corner}
+use Rattle.overlay_sweep.proofs.EndLaws.{swept, swept-nearer, stop-small}
+use Rattle.overlay_sweep.proofs.sweep.Statement.{statement}
+use Rattle.overlay_sweep.proofs.sweep.Tie as tie
+
+abbrev Inv-loop : tie.InvT-loop
+Inv-loop part a na b nb out₀ i₀ j₀ o₀ out i j o = Writing part a na b nb i j o out₀ out × (length out ≡ length out₀)
+
+abbrev μ-loop : tie.MeasureT-loop
+μ-loop part a na b nb out₀ i₀ j₀ o₀ out i j o = (na + nb) - (i + j)
+
+loop-holds : tie.Need-loop-holds Inv-loop μ-loop
+loop-holds c = (write-start (c .args .part) (c .args .a .now) (c .args .na) (c .args .b .now) (c .args .nb) (c .args .out .now), refl)
+
+add-loop : tie.Need-add-loop Inv-loop μ-loop
+add-loop c = omega (arith, c .loop .inv .0 .first, c .loop .inv .0 .second, c .before .pre .0 .few, c .before .pre .1 .few)
+
+add-loop-2 : tie.Need-add-loop-2 Inv-loop μ-loop
+add-loop-2 c = omega (arith, c .before .pre .0 .few, c .before .pre .1 .few)
+
+first-end-requires : tie.Need-first-end-requires Inv-loop μ-loop
+first-end-requires c κs = search needs
+
+second-end-requires : tie.Need-second-end-requires Inv-loop μ-loop
+second-end-requires c κs = search needs
+
+comes-requires : tie.Need-comes-requires Inv-loop μ-loop
+comes-requires c κs = search needs
+
+comes-requires-2 : tie.Need-comes-requires-2 Inv-loop μ-loop
+comes-requires-2 c κs = search needs
+
+has-requires : tie.Need-has-requires Inv-loop μ-loop
+has-requires c κs = search needs
+
+further-requires : tie.Need-further-requires Inv-loop μ-loop
+further-requires c κs = omega (arith, c .before .before .before .before .before .before .loop .inv .0 .first, c .before .before .before .before .before .before .before .pre .0 .few)
+
+further-requires-2 : tie.Need-further-requires-2 Inv-loop μ-loop
+further-requires-2 c κs = omega (arith, c .before .before .before .before .before .before .before .loop .inv .0 .second, c .before .before .before .before .before .before .before .before .pre .1 .few)
+
+has-requires-2 : tie.Need-has-requires-2 Inv-loop μ-loop
+has-requires-2 c κs = search needs
+
+next-end-requires : tie.Need-next-end-requires Inv-loop μ-loop
+next-end-requires c κs = search needs
+
+put-end-requires : tie.Need-put-end-requires Inv-loop μ-loop
+put-end-requires c κs =
+    let z = c .before .before .before .before .before .before .before .before .before .before .before .before in
+    let w = c .before .before .before .before .before .before .before .before .before .before .before .loop .inv .0 in
+    let l = c .before .before .before .before .before .before .before .before .before .before .before .loop in
+    let s = stop-small (z .args .part) (z .args .a .now) (l .i) (z .args .na) (z .args .b .now) (l .j) (z .args .nb) (c .before .before .before .before .before .before .before .before .before .first-end .result) (c .before .before .before .before .before .before .before .before .second-end .result) (c .before .before .before .before .before .before .before .comes .result) (c .before .before .before .before .before .before .comes2 .result) (c .before .before .before .before .before .before .before .before .before .first-end .ensures) (c .before .before .before .before .before .before .before .before .second-end .ensures) (c .before .before .before .before .before .before .before .comes .ensures) (c .before .before .before .before .before .before .comes2 .ensures) (omega arith) (z .pre .0) (z .pre .1) (w .first) (w .second) in
+    (omega (arith, w .few, w .first, w .second, z .pre .0 .few, z .pre .1 .few), subst (λ (v : Corner). natAbs (v .0) ≤ 32768) (sym (c .next-end .ensures)) s)
+
+loop-less : tie.Need-loop-less Inv-loop μ-loop
+loop-less c =
+    let z = c .before .before .before .before .before .before .before .before .before .before .before .before .before .before in
+    let l = c .before .before .before .before .before .before .before .before .before .before .before .before .before .loop in
+    let s = swept-nearer (z .args .part) (z .args .a .now) (l .i) (z .args .na) (z .args .b .now) (l .j) (z .args .nb) (c .before .before .before .before .before .before .before .before .before .before .before .first-end .result) (c .before .before .before .before .before .before .before .before .before .before .second-end .result) (c .before .before .before .before .before .before .before .before .before .comes .result) (c .before .before .before .before .before .before .before .before .comes2 .result) (c .before .before .before .before .before .before .before .before .before .before .before .first-end .ensures) (c .before .before .before .before .before .before .before .before .before .before .second-end .ensures) (c .before .before .before .before .before .before .before .before .before .comes .ensures) (c .before .before .before .before .before .before .before .before .comes2 .ensures) (omega arith) (l .inv .0 .first) (l .inv .0 .second) in
+    omega (arith, s .0, s .1, s .2, c .before .before .before .before .before .before .further .ensures, c .before .before .before .before .before .further2 .ensures)
+
+loop-again : tie.Need-loop-again Inv-loop μ-loop
+loop-again c =
+    let z = c .before .before .before .before .before .before .before .before .before .before .before .before .before .before in
+    let l = c .before .before .before .before .before .before .before .before .before .before .before .before .before .loop in
+    (swept (z .args .part) (z .args .a .now) (l .i) (z .args .na) (z .args .b .now) (l .j) (z .args .nb) (c .before .before .before .before .before .before .before .before .before .before .before .first-end .result) (c .before .before .before .before .before .before .before .before .before .before .second-end .result) (c .before .before .before .before .before .before .before .before .before .comes .result) (c .before .before .before .before .before .before .before .before .comes2 .result) (c .before .before .before .before .before .before .before .before .before .before .before .first-end .ensures) (c .before .before .before .before .before .before .before .before .before .before .second-end .ensures) (c .before .before .before .before .before .before .before .before .before .comes .ensures) (c .before .before .before .before .before .before .before .before .comes2 .ensures) (omega arith) (l .o) (z .args .out .now) (l .out) (l .inv .0) (c .before .before .before .before .before .before .further .result) (c .before .before .before .before .before .further2 .result) (c .before .put-end .result) (c .before .before .before .before .before .before .before .has .result) (c .before .before .before .has2 .result) (c .before .before .next-end .result) (c .before .put-end .last .0) (c .before .before .before .before .before .before .further .ensures) (c .before .before .before .before .before .further2 .ensures) (c .before .before .before .before .before .before .before .has .ensures) (c .before .before .before .has2 .ensures) (c .before .before .next-end .ensures) (c .before .put-end .ensures .0) (c .before .put-end .ensures .1), c .before .put-end .kept .0 ∙ l .inv .1)
+
+same-length : tie.Need-same-length Inv-loop μ-loop
+same-length c = c .before .loop .inv .1
+
+returns : tie.Need-returns Inv-loop μ-loop
+returns c =
+    let z = c .before .before in
+    let l = c .before .loop in
+    let w = write-end (z .args .part) (z .args .a .now) (z .args .na) (z .args .b .now) (z .args .nb) (l .i) (l .j) (l .o) (z .args .out .now) (l .out) (l .inv .0) (λ h. omega arith) in
+    (w .0, omega (arith, l .inv .0 .few, l .inv .0 .first, l .inv .0 .second, z .pre .0 .few, z .pre .1 .few), w .1)
+
+pub sweep-spec : {M : Type 1} → statement M
+sweep-spec =
+    tie.close
+    (tie.spec
+    Inv-loop
+    μ-loop
+    loop-holds
+    add-loop
+    add-loop-2
+    first-end-requires
+    second-end-requires
+    comes-requires
+    comes-requires-2
+    has-requires
+    further-requires
+    further-requires-2
+    has-requires-2
+    next-end-requires
+    put-end-requires
+    loop-less
+    loop-again
+    same-length
+    returns)

@@ -1,0 +1,61 @@
+-- `undrwyth::undrwyth_overlay` meets its contract.
+-- Assumes nothing.
+use borrow.Author.Needs.{needs}
+use mathlib.Core.Path.{ap₂, subst₂}
+use mir.Syntax.{w32}
+use mir.ValLaws.{toZ-ofZ}
+use Rattle.grid.specs.declared.Corner.{Corner}
+use Rattle.grid.specs.Grid.{corner}
+use Rattle.overlay.specs.Call.{ofParts, OverlayCall}
+use Rattle.undrwyth.proofs.WordLaws.{overlaid-first}
+use Rattle.undrwyth.proofs.BoundaryLaws.{overlay-fit}
+use Rattle.undrwyth.proofs.undrwyth_overlay.Statement.{statement}
+use Rattle.undrwyth.proofs.undrwyth_overlay.Tie as tie
+
+list-requires : tie.Need-list-requires
+list-requires c κs = search needs
+
+overlaid-words-requires : tie.Need-overlaid-words-requires
+overlaid-words-requires c κs =
+    let a = c .before .before .before .before .before .before .before .before .before .args in
+    let w = c .before .before .before .list in
+    overlay-fit _ (a .chain1 .now) _ (a .chain2 .now) (ofParts (a .first .now) (a .second .now) (a .both .now)) (w .result) (ofParts (w .last .1 .1 .1 .1 .0) (w .last .1 .1 .1 .1 .1 .0) (w .last .1 .1 .1 .1 .1 .1 .0)) (w .ensures)
+
+array-read-result : tie.Need-array-read-result
+array-read-result c = search needs
+
+same-length : tie.Need-same-length
+same-length c = search needs
+
+same-length-2 : tie.Need-same-length-2
+same-length-2 c = search needs
+
+same-length-3 : tie.Need-same-length-3
+same-length-3 c = search needs
+
+returns : tie.Need-returns
+returns c =
+    let s = c .before .before .before .before .before .before .before .before .before .before in
+    let a = s .args in
+    let w = c .before .before .before .before .list in
+    record {
+      answer = w .result;
+      laid = subst₂ (λ (x y : Corner). OverlayCall x (a .chain1 .now) y (a .chain2 .now) (ofParts (a .first .now) (a .second .now) (a .both .now)) (w .result) (ofParts (w .last .1 .1 .1 .1 .0) (w .last .1 .1 .1 .1 .1 .0) (w .last .1 .1 .1 .1 .1 .1 .0)))
+          (ap₂ corner (toZ-ofZ w32 (a .start1-x) (s .fits .start1-x)) (toZ-ofZ w32 (a .start1-y) (s .fits .start1-y)))
+          (ap₂ corner (toZ-ofZ w32 (a .start2-x) (s .fits .start2-x)) (toZ-ofZ w32 (a .start2-y) (s .fits .start2-y)))
+          (w .ensures);
+      words-are = c .overlaid-words .ensures;
+      result = overlaid-first (w .result) (c .overlaid-words .result) (c .overlaid-words .ensures);
+    }
+
+pub undrwyth-overlay-spec : {M : Type 1} → statement M
+undrwyth-overlay-spec =
+    tie.close
+    (tie.spec
+    list-requires
+    overlaid-words-requires
+    array-read-result
+    same-length
+    same-length-2
+    same-length-3
+    returns)
