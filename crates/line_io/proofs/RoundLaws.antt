@@ -8,7 +8,7 @@ use native.Mathlib.Decide.{decLt}
 use lib.ListN.{length, take, length-take}
 use Rattle.line_frame.specs.Sizes.{mostHeld}
 use Rattle.line_stream.specs.{declared.Progress.Progress, Stream.Job}
-use Rattle.lines.specs.{declared.Task.Task, declared.Task.the-variants.Answer, declared.Task.the-variants.Convert, Tasks.mostTold}
+use Rattle.lines.specs.{declared.Task.Task, declared.Task.the-variants.Answer, declared.Task.the-variants.Convert, declared.Task.the-variants.Rows, Tasks.mostTold}
 use Rattle.line_io.specs.declared.Round.{Round, the-variants.More, the-variants.Over}
 use Rattle.line_io.specs.Round.{ReadOn, PassedOn, RoundIs}
 
@@ -44,3 +44,4 @@ module _ {J : Job} {line : List ℕ} {p : Progress} {buf : List ℕ} {n : ℕ} {
 pub last-small : (t : Task) → mostTold t ≤ 131072
 last-small Answer = omega arith
 last-small Convert = omega arith
+last-small Rows = omega arith

@@ -1,2 +1,4 @@
--- The laws of the walk of a line.
+-- Laws and cases.
 pub mod WalkedLaws
+pub mod ToldLaws
+pub mod ToldCases

@@ -1,2 +1,3 @@
--- The definitions of the walk of a line.
+-- The definitions of the programs that take lines as rooms.
 pub mod Walked
+pub mod Told

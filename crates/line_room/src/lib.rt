@@ -1,1 +1,1 @@
-// What the walk of a line answers: definitions and laws.
+// What the walk of a line answers, and what the rows program writes for it: definitions, laws and cases.

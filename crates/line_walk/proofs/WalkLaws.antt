@@ -11,22 +11,16 @@ use Rattle.answer.specs.declared.Judged.{Judged}
 use Rattle.answer.specs.declared.Refusal.{Refusal}
 use Rattle.answer.specs.declared.Facts.{Facts}
 use Rattle.answer.specs.declared.Answer.{Answer}
-use Rattle.steps.specs.Operations.{survivors, Walkable}
-use Rattle.steps.proofs.SurvivorLaws.{walkable-survivors, length-survivors}
+use Rattle.steps.specs.Operations.{survivors}
+use Rattle.steps.proofs.SurvivorLaws.{length-survivors}
 use Rattle.layout.specs.Marks.{markWords, chainOf}
-use Rattle.walk_call.specs.Walk.{walkJudged, factsOf, answerBy, walkAnswer, bufferBy, WalkIs}
-use Rattle.walk_call.proofs.JudgedLaws.{walk-fits}
+use Rattle.walk_call.specs.Walk.{walkAnswer, bufferBy, WalkIs}
 use Rattle.line_frame.specs.declared.Kind.the-variants.{Operations}
 use Rattle.line_frame.specs.Sizes.{mostDigits, tableWords}
 use Rattle.line_room.specs.Walked.{kindWalked}
-use Rattle.answer.specs.declared.Judged.the-variants as judged
+use Rattle.line_room.proofs.WalkedLaws.{accepted-good, accepted-steps, accepted-sound}
 use Rattle.answer.specs.declared.Answer.the-variants as walked
 use Rattle.line_walk.specs.Walk.{Survived, WalkedBy}
-
--- an answer that is accepted was judged good
-by-good : (j : Judged) (f g : Facts) → answerBy j g ≡ walked.Accepted f → (j ≡ judged.Good) × (g ≡ f)
-by-good judged.Good f g e = (refl, cc)
-by-good (judged.Refused r) f g e = let z : _≡_ {A = ℕ} 0 1 = cc in absurd (omega arith)
 
 module _ {os t ms ch : List ℕ} {r : Answer} {t′ ms′ ch′ : List ℕ} (w : WalkIs origin os t ms ch r t′ ms′ ch′) (table : length t ≡ tableWords) (marks : length ms ≡ markWords * length os) (chain : length ch ≡ length os) (most : length os ≤ mostDigits) (rest : List ℕ) where
   answer-is : r ≡ kindWalked Operations os
@@ -36,29 +30,24 @@ module _ {os t ms ch : List ℕ} {r : Answer} {t′ ms′ ch′ : List ℕ} (w :
       ∙ ap₂ (λ (m n : ℕ). walkAnswer origin os tableWords m n) marks chain
 
   module _ (f : Facts) (e : r ≡ walked.Accepted f) where
-    both : (walkJudged origin os (length t) (length ms) (length ch) ≡ judged.Good) × (factsOf origin (survivors os) ≡ f)
-    both = by-good (walkJudged origin os (length t) (length ms) (length ch)) f (factsOf origin (survivors os)) (sym (w .answer) ∙ e)
-
-    sound : Walkable (survivors os)
-    sound =
-        let k = walk-fits origin os (length t) (length ms) (length ch) (both .0) in
-        walkable-survivors 0 [] os (record { digits = tt; few = omega arith }) (k .0 .fine)
+    accepted : walkAnswer origin os (length t) (length ms) (length ch) ≡ walked.Accepted f
+    accepted = sym (w .answer) ∙ e
 
     count : f .steps ≡ length (survivors os)
-    count = sym (ap (λ (g : Facts). g .steps) (both .1))
+    count = accepted-steps os (length t) (length ms) (length ch) f accepted
 
     abbrev behind : List ℕ
     behind = replicate (length os - length (survivors os)) 0 ++ rest
 
     chain-is : ch′ ++ rest ≡ survivors os ++ behind
     chain-is =
-        ap (λ (l : List ℕ). l ++ rest) (w .chain ∙ ap (λ (j : Judged). bufferBy j (chainOf os) ch) (both .0))
+        ap (λ (l : List ℕ). l ++ rest) (w .chain ∙ ap (λ (j : Judged). bufferBy j (chainOf os) ch) (accepted-good os (length t) (length ms) (length ch) f accepted))
         ∙ append-assoc (survivors os) (replicate (length os - length (survivors os)) 0) rest
 
     survived : Survived os f (ch′ ++ rest)
     survived = record {
       steps = count;
-      digits = sound .digits;
+      digits = accepted-sound os (length t) (length ms) (length ch) f accepted .digits;
       few = omega (arith, length-survivors [] os);
       chain = ap (take (f .steps)) chain-is ∙ take-at (survivors os) behind (f .steps) (sym count);
       within = omega (arith, count, ap length chain-is ∙ length-append (survivors os) behind);

@@ -7,21 +7,25 @@ use lib.ListN.{length}
 use Rattle.line_frame.specs.Program.{outputFrom, feedsIn, program}
 use Rattle.line_frame.specs.Converted.{converter}
 use Rattle.line_frame.proofs.OutputLaws.{output-line, output-last}
+use Rattle.line_room.specs.Told.{rowsProgram}
 use Rattle.line_stream.specs.Stream.{Run, joined}
 use Rattle.line_stream.proofs.Demand as stream
-use Rattle.lines.specs.declared.Task.{Task, the-variants.Answer, the-variants.Convert}
+use Rattle.lines.specs.declared.Task.{Task, the-variants.Answer, the-variants.Convert, the-variants.Rows}
 use Rattle.lines.specs.Tasks.{jobOf, fedLineOf, lastLineOf, outputOf}
 use Rattle.lines.proofs.TaskLaws.{job-does}
 
 pub run-task : (t : Task) {o : List ℕ} {ss : List (List ℕ)} → Run (jobOf t) [] ss o → o ≡ outputOf t (joined ss)
 run-task t = stream.run-output (job-does t)
 
--- of the line program that is its answers, of the converter its lines
+-- of the line program that is its answers, of the converter its lines, of the rows program the spans of its rooms
 pub run-program : {o : List ℕ} {ss : List (List ℕ)} → Run (jobOf Answer) [] ss o → o ≡ program (joined ss)
 run-program = run-task Answer
 
 pub run-converter : {o : List ℕ} {ss : List (List ℕ)} → Run (jobOf Convert) [] ss o → o ≡ converter (joined ss)
 run-converter = run-task Convert
+
+pub run-rows : {o : List ℕ} {ss : List (List ℕ)} → Run (jobOf Rows) [] ss o → o ≡ rowsProgram (joined ss)
+run-rows = run-task Rows
 
 -- a line without a line feed in it, ended by one, is told, and then comes the output for the rest
 pub output-of-line : (t : Task) (l s : List ℕ) → feedsIn l ≡ 0 → outputOf t (l ++ (10 ∷ s)) ≡ fedLineOf t l ++ outputOf t s

@@ -23,6 +23,7 @@ ghost use Rattle.lines.specs.Tasks.{mostEarly, mostTold, jobOf};
 pub enum Task {
     Answer,
     Convert,
+    Rows,
 }
 
 // The bytes for which the output has room where a line is passed.
@@ -32,6 +33,7 @@ fn most(task: Task) -> usize
     match task {
         Task::Answer => Desk::MOST_ANSWER,
         Task::Convert => Progress::MOST_HELD + Progress::MOST_PART + Progress::MOST_HELD,
+        Task::Rows => line_rows::MOST_ROWS,
     }
 }
 
@@ -54,6 +56,7 @@ fn tell_early(
     match task {
         Task::Answer => used,
         Task::Convert => pass_on(&line[..held], &s[at..end], out, used),
+        Task::Rows => used,
     }
 }
 
@@ -75,6 +78,7 @@ fn tell(
     match task {
         Task::Answer => line_reply::tell(s, table, marks, hull, out, at),
         Task::Convert => end_fed_line(s, out, at),
+        Task::Rows => line_rows::tell(s, table, marks, hull, out, at),
     }
 }
 
@@ -95,6 +99,7 @@ fn tell_last(
     match task {
         Task::Answer => line_reply::tell(s, table, marks, hull, out, 0),
         Task::Convert => end_line(s, out, 0),
+        Task::Rows => line_rows::tell(s, table, marks, hull, out, 0),
     }
 }
 

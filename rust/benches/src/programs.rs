@@ -73,8 +73,9 @@ fn print_one(name: &str, row: &str, turns: u8) {
     fs::remove_file(&file).expect("it was written");
 }
 
-/// Prints the rows of the line program and of the converter.
+/// Prints the rows of each program.
 pub fn print() {
     print_one("judge", "line", 0);
     print_one("convert", "convert", 1);
+    print_one("rows", "list", 0);
 }

@@ -1,4 +1,4 @@
-//! The proved library, and the proved program, against `plain`.
+//! The proved library, and the proved programs, against `plain`.
 
 use std::io::Write;
 use std::process::{Command, Stdio};
@@ -98,6 +98,16 @@ fn converter() {
         plain::converter,
         100,
         &mut Random(6),
+    );
+}
+
+#[test]
+fn rows() {
+    suite::program(
+        |input| run("rows", input),
+        plain::rows_program,
+        100,
+        &mut Random(7),
     );
 }
 

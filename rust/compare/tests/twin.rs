@@ -30,6 +30,21 @@ fn converter() {
     compare::suite::program(run, plain::converter, 40, &mut compare::inputs::Random(6));
 }
 
+#[test]
+fn rows() {
+    let run = |input: &[u8]| {
+        let mut output = Vec::new();
+        twin::rows_program(input, &mut output).unwrap();
+        output
+    };
+    compare::suite::program(
+        run,
+        plain::rows_program,
+        40,
+        &mut compare::inputs::Random(7),
+    );
+}
+
 /// The rooms of the benchmarks are rooms of the length asked.
 #[test]
 fn benched_rooms() {

@@ -1,4 +1,4 @@
-//! The line program and the converter.
+//! The programs on lines: the line program, the converter and the rows program.
 
 use answer::{
     Facts, LINE_BYTES, LINE_RECORDS, MARK_WORDS, MOST_LINE_DIGITS, NO_MEETING, RECORD_WORDS,
@@ -7,6 +7,8 @@ use answer::{
 
 use crate::grid::{Corner, ROOT, corners};
 use crate::hull::hull_list;
+use crate::polygon;
+use crate::rows::{panels, spans};
 use crate::turns::steps_of_turns;
 use crate::walk::walk;
 
@@ -23,13 +25,31 @@ pub fn line(line: &[u8], out: &mut [u8]) -> usize {
 
 /// The whole output for the whole input: a line for each line, the last with or without its line feed.
 pub fn program(input: &[u8]) -> Vec<u8> {
-    let mut output = Vec::new();
-    for line in input.split_inclusive(|&byte| byte == b'\n') {
-        let line = line.strip_suffix(b"\n").unwrap_or(line);
-        output.extend(answer(line).as_bytes());
-        output.push(b'\n');
+    let answers = lines(input).map(|line| answer(line) + "\n");
+    answers.collect::<String>().into_bytes()
+}
+
+/// The whole output of the rows program for the whole input: for each line the spans of its room, one a line, or its refusal.
+pub fn rows_program(input: &[u8]) -> Vec<u8> {
+    let mut output = String::new();
+    for line in lines(input) {
+        match room_spans(line) {
+            Ok(spans) => {
+                for span in spans {
+                    let [row, first, last] = span.map(|number| number as i16);
+                    output += &format!("{row:04x}{first:04x}{last:04x}\n");
+                }
+            }
+            Err(refusal) => output += &(refused(refusal) + "\n"),
+        }
     }
-    output
+    output.into_bytes()
+}
+
+/// The lines of an input, the last with or without its line feed.
+fn lines(input: &[u8]) -> impl Iterator<Item = &[u8]> {
+    let lines = input.split_inclusive(|&byte| byte == b'\n');
+    lines.map(|line| line.strip_suffix(b"\n").unwrap_or(line))
 }
 
 /// Writes the line, converted, both without line feed, and answers its length; writes nothing where `out` is shorter.
@@ -65,13 +85,25 @@ fn converted(line: &[u8]) -> Vec<u8> {
 /// The answer to one line.
 fn answer(line: &[u8]) -> String {
     match judge(line) {
-        Ok((facts, hull)) => accepted(facts, &hull),
-        Err(refusal) => format!("{:02x}{:08x}", 0x80 + refusal.number(), refusal.place()),
+        Ok((facts, chain)) => accepted(facts, &hull_list(corners(ROOT, &chain))),
+        Err(refusal) => refused(refusal),
     }
 }
 
-/// The facts and the hull of the frame in this line.
-fn judge(line: &[u8]) -> Result<(Facts, Vec<Corner>), Refusal> {
+/// The line of a refusal.
+fn refused(refusal: Refusal) -> String {
+    format!("{:02x}{:08x}", 0x80 + refusal.number(), refusal.place())
+}
+
+/// The spans of the room that the frame in this line walks.
+fn room_spans(line: &[u8]) -> Result<Vec<[i32; 3]>, Refusal> {
+    let (_, chain) = judge(line)?;
+    polygon::judge(ROOT, &chain)?;
+    Ok(spans(&panels(ROOT, &chain)))
+}
+
+/// The facts and the surviving steps of the frame in this line.
+fn judge(line: &[u8]) -> Result<(Facts, Vec<u8>), Refusal> {
     let (kind, digits) = frame(line).ok_or(Refusal::BadLine)?;
     if kind == 1 {
         return Err(Refusal::RetiredKind);
@@ -81,10 +113,8 @@ fn judge(line: &[u8]) -> Result<(Facts, Vec<Corner>), Refusal> {
     let mut marks = vec![0; MARK_WORDS * ops.len()];
     let mut chain = vec![0; ops.len()];
     let facts = walk(ROOT, &ops, &mut table, &mut marks, &mut chain)?;
-    Ok((
-        facts,
-        hull_list(corners(ROOT, &chain[..facts.steps as usize])),
-    ))
+    chain.truncate(facts.steps as usize);
+    Ok((facts, chain))
 }
 
 /// The kind and the digits of a frame.

@@ -6,6 +6,8 @@ const INPUT: &[u8] = include_bytes!("../../../crates/judge/stdin");
 const OUTPUT: &[u8] = include_bytes!("../../../crates/judge/stdout");
 const OLD: &[u8] = include_bytes!("../../../crates/convert/stdin");
 const CONVERTED: &[u8] = include_bytes!("../../../crates/convert/stdout");
+const RECORDS: &[u8] = include_bytes!("../../../crates/rows/stdin");
+const ROWS: &[u8] = include_bytes!("../../../crates/rows/stdout");
 /// Bytes that a program asks of one read.
 const CHUNK: usize = 65_536;
 
@@ -14,13 +16,16 @@ const CHUNK: usize = 65_536;
 fn outputs() {
     assert!(plain::program(INPUT) == OUTPUT);
     assert!(plain::converter(OLD) == CONVERTED);
+    assert!(plain::rows_program(RECORDS) == ROWS);
 }
 
-/// The programs read their inputs in three parts at least, and the line program writes its output in several; every cut is within a line.
+/// The programs read their inputs in three parts at least, and the line program and the rows program write their outputs in several; every cut is
+/// within a line.
 #[test]
 fn cuts() {
     assert!(OUTPUT.len() > 2 * LINE_BYTES);
-    for input in [INPUT, OLD] {
+    assert!(ROWS.len() > 2 * LINE_BYTES);
+    for input in [INPUT, OLD, RECORDS] {
         assert!(input.len() > 2 * CHUNK);
         for cut in (CHUNK..input.len()).step_by(CHUNK) {
             assert!(!input[cut - 1..=cut].contains(&b'\n'));

@@ -1,4 +1,4 @@
-//! The line program and the converter.
+//! The programs on lines: the line program, the converter and the rows program.
 
 use std::io::{self, BufRead, Write};
 
@@ -8,6 +8,7 @@ use answer::{
 };
 
 use crate::hull::hull_list;
+use crate::rows::rows;
 use crate::tree::{Corner, ROOT};
 use crate::turns::steps_of_turns;
 use crate::walk::walk;
@@ -38,6 +39,24 @@ pub fn program(mut input: impl BufRead, mut output: impl Write) -> io::Result<()
     output.flush()
 }
 
+/// Numbers of the spans of a frame at most: three for every two steps.
+const SPAN_NUMBERS: usize = 3 * (MOST_LINE_DIGITS / 2);
+
+/// Lists the rows of every line of the input.
+pub fn rows_program(mut input: impl BufRead, mut output: impl Write) -> io::Result<()> {
+    let mut judge = Judge::new();
+    let mut numbers = [0; SPAN_NUMBERS];
+    let (mut line, mut told) = (Vec::new(), Vec::new());
+    while input.read_until(b'\n', &mut line)? > 0 {
+        let frame = line.strip_suffix(b"\n").unwrap_or(&line);
+        judge.list(frame, &mut numbers, &mut told);
+        output.write_all(&told)?;
+        line.clear();
+        told.clear();
+    }
+    output.flush()
+}
+
 /// The buffers in which lines are judged.
 struct Judge {
     digits: [u8; MOST_LINE_DIGITS],
@@ -59,29 +78,48 @@ impl Judge {
     /// Appends the answer to the line.
     fn answer(&mut self, line: &[u8], out: &mut Vec<u8>) {
         match self.judge(line) {
-            Ok((facts, hull)) => spell_accepted(out, facts, &hull),
+            Ok(facts) => {
+                let steps = &self.chain[..facts.steps as usize];
+                spell_accepted(out, facts, &hull_list(ROOT, steps));
+            }
+            Err(refusal) => spell_refused(out, refusal),
+        }
+    }
+
+    /// Appends the spans of the line's room, one a line, or the line of its refusal.
+    fn list(&mut self, line: &[u8], numbers: &mut [i32; SPAN_NUMBERS], out: &mut Vec<u8>) {
+        let walked = self.judge(line);
+        match walked.and_then(|facts| rows((0, 0), &self.chain[..facts.steps as usize], numbers)) {
+            Ok(spans) => {
+                for span in numbers[..3 * spans].chunks_exact(3) {
+                    for number in span {
+                        spell(out, number.cast_unsigned(), 4);
+                    }
+                    out.push(b'\n');
+                }
+            }
             Err(refusal) => {
-                spell(out, 0x80 + refusal.number(), 2);
-                spell(out, refusal.place(), 8);
+                spell_refused(out, refusal);
+                out.push(b'\n');
             }
         }
     }
 
-    fn judge(&mut self, line: &[u8]) -> Result<(Facts, Vec<Corner>), Refusal> {
+    /// Walks the frame in this line: the chain begins with its surviving steps.
+    fn judge(&mut self, line: &[u8]) -> Result<Facts, Refusal> {
         let (kind, n) = read(line, &mut self.digits).ok_or(Refusal::BadLine)?;
         if kind == 1 {
             return Err(Refusal::RetiredKind);
         }
         let ops = &self.digits[..n];
         let chain = &mut self.chain[..n];
-        let facts = walk(
+        walk(
             (0, 0),
             ops,
             &mut self.table,
             &mut self.marks[..MARK_WORDS * n],
             chain,
-        )?;
-        Ok((facts, hull_list(ROOT, &chain[..facts.steps as usize])))
+        )
     }
 }
 
@@ -153,6 +191,11 @@ fn number(digits: &[u8]) -> Option<usize> {
 fn spell(out: &mut Vec<u8>, value: u32, n: u32) {
     let digit = |i: u32| b"0123456789abcdef"[(value >> (4 * i) & 15) as usize];
     out.extend((0..n).rev().map(digit));
+}
+
+fn spell_refused(out: &mut Vec<u8>, refusal: Refusal) {
+    spell(out, 0x80 + refusal.number(), 2);
+    spell(out, refusal.place(), 8);
 }
 
 fn spell_accepted(out: &mut Vec<u8>, facts: Facts, hull: &[Corner]) {

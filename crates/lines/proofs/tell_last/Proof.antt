@@ -5,10 +5,13 @@ use mathlib.Core.List.{List}
 use Prim.Native.Nat.{ℕ}
 use native.Mathlib.Omega.{arith}
 use borrow.Author.Needs.{needs}
+use Rattle.line_frame.specs.Program.{answered}
+use Rattle.line_frame.specs.Sizes.{mostAnswer}
+use Rattle.line_room.specs.Told.{rowsTold, mostRows}
 use Rattle.line_fields.specs.Put.{Wrote}
 use Rattle.lines.specs.declared.Task.{Task}
 use Rattle.lines.specs.Tasks.{mostTold, jobOf}
-use Rattle.lines.proofs.TaskLaws.{answer-last}
+use Rattle.lines.proofs.TaskLaws.{each-last}
 use Rattle.lines.proofs.tell_last.Statement.{statement}
 use Rattle.lines.proofs.tell_last.Tie as tie
 
@@ -22,18 +25,31 @@ end-line-requires c κs =
     let s = c .before .before .before .before .before .before .before in
     (s .pre .0 .1, omega (arith, s .pre .1 .1, ap mostTold (c .before .enum-told2 .given .1)))
 
+tell-requires-2 : tie.Need-tell-requires-2
+tell-requires-2 c κs =
+    let s = c .before .before .before .before .before .before .before .before .before .before in
+    let l = s .pre .1 .0 in
+    ((l .table, l .marks, l .hull), omega (arith, s .pre .1 .1, ap mostTold (c .before .before .before .before .enum-told3 .given .1)))
+
 returns : tie.Need-returns
 returns c =
     let r = c .before .before .before .before .before .before .before .tell in
     let s = c .before .before .before .before .before .before .before .before .before .before .before .before .before .before .before .before .before .before in
     let a = s .args in
-    subst (λ (l : List ℕ). Wrote l 0 (a .out .now) (r .result) (r .last .1 .1 .1 .1 .0)) (answer-last (a .s .now) (s .pre .0 .0) ∙ ap (λ (t : Task). jobOf t .last (a .s .now)) (sym (c .before .before .before .before .before .before .before .before .before .before .before .before .enum-told .given .1))) (r .ensures)
+    subst (λ (l : List ℕ). Wrote l 0 (a .out .now) (r .result) (r .last .1 .1 .1 .1 .0)) (each-last answered mostAnswer (a .s .now) (s .pre .0 .0) ∙ ap (λ (t : Task). jobOf t .last (a .s .now)) (sym (c .before .before .before .before .before .before .before .before .before .before .before .before .enum-told .given .1))) (r .ensures)
 
 returns-2 : tie.Need-returns-2
 returns-2 c =
     let r = c .before .before .end-line in
     let a = c .before .before .before .before .before .before .before .before .before .before .args in
     subst (λ (t : Task). Wrote (jobOf t .last (a .s .now)) 0 (a .out .now) (r .result) (r .last .1 .0)) (sym (c .before .before .before .before .enum-told2 .given .1)) (r .ensures)
+
+returns-3 : tie.Need-returns-3
+returns-3 c =
+    let r = c .before .before .before .before .before .before .before .tell2 in
+    let s = c .before .before .before .before .before .before .before .before .before .before .before .before .before .before .before .before .before .before in
+    let a = s .args in
+    subst (λ (l : List ℕ). Wrote l 0 (a .out .now) (r .result) (r .last .1 .1 .1 .1 .0)) (each-last rowsTold mostRows (a .s .now) (s .pre .0 .0) ∙ ap (λ (t : Task). jobOf t .last (a .s .now)) (sym (c .before .before .before .before .before .before .before .before .before .before .before .before .enum-told3 .given .1))) (r .ensures)
 
 pub tell-last-spec : {M : Type 1} → statement M
 tell-last-spec =
@@ -44,9 +60,16 @@ tell-last-spec =
     (λ c. search needs)
     end-line-requires
     (λ c. search needs)
+    tell-requires-2
+    (λ c. search needs)
     (λ c. search needs)
     (λ c. search needs)
     (λ c. search needs)
     returns
     (λ c. search needs)
-    returns-2)
+    returns-2
+    (λ c. search needs)
+    (λ c. search needs)
+    (λ c. search needs)
+    (λ c. search needs)
+    returns-3)

@@ -1,0 +1,2 @@
+-- Numbers in lines of three.
+pub mod Numbers
