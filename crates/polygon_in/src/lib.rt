@@ -7,14 +7,14 @@ use polygon_ring::Given;
 use polygon_ring::Order;
 use polygon_ring::Point;
 use polygon_ring::Spot;
-use polygon_take::big_point;
+use polygon_take::corner;
 use polygon_take::judge;
-use polygon_take::little_point;
 use polygon_take::number;
 use polygon_take::order;
+use polygon_take::point;
 use walk_corner::alike;
 ghost use mathlib.Core.Path.{_≡_};
-ghost use mathlib.Core.Bool.{_&&_, false};
+ghost use mathlib.Core.Bool.{_&&_, false, cond};
 ghost use mathlib.Core.List.{_++_};
 ghost use Prim.Native.Nat.{_+_, _-_, _*_, _≤_, _<_};
 ghost use lib.Dec.{eqb, leb};
@@ -22,44 +22,37 @@ ghost use lib.IntN.{natAbs, _-ℤ_};
 ghost use lib.ListN.{length, drop, replicate};
 ghost use lib.Signed.{ltZ};
 ghost use Rattle.grid.specs.Grid.{corner, eqZ, same};
-ghost use Rattle.polygon_ring.specs.Ring.{mostAt, pointAt, pointsFrom, isFaulty, cornerIn, straight, apart, directionOf, lengthOf, chainOfPoints, countIn, givenOf, ReadCall};
+ghost use Rattle.lists.specs.Lists.{any};
+ghost use Rattle.polygon_ring.specs.Ring.{isNeither, isLittle, pointAt, pointsFrom, isFaulty, cornerIn, straight, apart, directionOf, lengthOf, chainOfPoints, countIn, givenOf, ReadCall};
 ghost use Rattle.polygon_ring_laws.specs.Reading.{Near, ringFrom, capped, ringJudged, ReadIn};
 ghost use Rattle.polygon_in.specs.Measure.{measuredBy, measuredOf};
 
-// What the first pass finds: a point that is no corner, points that are no ring, or how many steps a ring has. MANY stands for
-// any number above 16,384.
+// What the first pass finds: a point that is no corner, points that are no ring, or the start of a ring and how many steps it has. MANY
+// stands for any number above 16,384.
 pub enum Measured {
     Faulty,
     Broken,
-    Steps(usize),
+    Ring(Found),
 }
 
 impl Measured {
     pub const MANY: usize = 16_385;
 }
 
-// How far from 0 a coordinate of point i may lie, in panels.
-fn most_at(i: usize) -> u64
-    ensures { λ r. ⌜ r ≡ mostAt i ⌝ }
+// What the first point is as a corner.
+fn first_at(points: &[u8], little: bool) -> Spot
+    requires { ⌜ 16 ≤ length (now points) ⌝ }
+    ensures { λ r. ⌜ r ≡ pointAt little (now (points .entry)) 0 ⌝ }
 {
-    if i == 0 {
-        Point::MOST_FIRST
-    } else {
-        Point::MOST
-    }
+    judge(point(points, little), Point::MOST_FIRST)
 }
 
-// What point i is as a corner.
-fn point_at(points: &[u8], little: bool, i: usize) -> Spot
-    requires { ⌜ 16 * (i + 1) ≤ length (now points) ⌝ }
+// What point i is as a corner, where it is not the first.
+fn later_at(points: &[u8], little: bool, i: usize) -> Spot
+    requires { ⌜ (0 < i) × (16 * (i + 1) ≤ length (now points)) ⌝ }
     ensures { λ r. ⌜ r ≡ pointAt little (now (points .entry)) i ⌝ }
 {
-    let most = most_at(i);
-    if little {
-        judge(little_point(&points[16 * i..]), most)
-    } else {
-        judge(big_point(&points[16 * i..]), most)
-    }
+    judge(point(&points[16 * i..], little), Point::MOST)
 }
 
 fn is_faulty(j: Spot) -> bool
@@ -86,15 +79,12 @@ fn corner_in(j: Spot) -> Corner
     }
 }
 
-// The corner that point i is.
+// The corner that point i is, where it was accepted before.
 fn corner_at(points: &[u8], little: bool, i: usize) -> Corner
-    requires { ⌜ 16 * (i + 1) ≤ length (now points) ⌝ }
+    requires { ⌜ (0 < i) × (16 * (i + 1) ≤ length (now points)) × (isFaulty (pointAt «little» (now points) i) ≡ false) ⌝ }
     ensures { λ r. ⌜ r ≡ cornerIn (pointAt little (now (points .entry)) i) ⌝ }
 {
-    match point_at(points, little, i) {
-        Spot::At(x, y) => corner_of(x, y),
-        Spot::Faulty => Corner(0, 0),
-    }
+    corner(&points[16 * i..], little)
 }
 
 fn equal(x: i32, y: i32) -> bool
@@ -137,21 +127,22 @@ fn distance(a: Corner, b: Corner) -> usize
     gap(a.0, b.0) + gap(a.1, b.1)
 }
 
-// The direction of the way from a to b along one axis.
+// The direction of the way from x to y along an axis, where d is that of a way up.
+fn along(x: i32, y: i32, d: u8) -> u8
+    requires { ⌜ d < 2 ⌝ }
+    ensures { λ r. ⌜ r ≡ cond (ltZ x y) d (d + 2) ⌝ }
+{
+    if less(x, y) { d } else { d + 2 }
+}
+
+// The direction of the way from a to b along one axis. Both axes are judged, so that nothing branches.
 fn direction(a: Corner, b: Corner) -> u8
     requires { ⌜ Near a × Near b ⌝ }
     ensures { λ r. ⌜ r ≡ directionOf a b ⌝ }
 {
-    if less(a.0, b.0) {
-        return 0;
-    }
-    if less(b.0, a.0) {
-        return 2;
-    }
-    if less(a.1, b.1) {
-        return 1;
-    }
-    3
+    let level = along(a.0, b.0, 0);
+    let upright = along(a.1, b.1, 1);
+    if equal(a.0, b.0) { upright } else { level }
 }
 
 fn cap(n: usize) -> usize
@@ -169,12 +160,13 @@ fn goes_on(line: bool, a: Corner, b: Corner) -> bool
     requires { ⌜ Near a × Near b ⌝ }
     ensures { λ r. ⌜ r ≡ («line» && straight a b) ⌝ }
 {
-    if line { is_straight(a, b) } else { false }
+    let straight = is_straight(a, b);
+    if line { straight } else { false }
 }
 
 // What n points on one line after the other are, where the ring begins at first, ends at last and has so many steps.
 fn closed(n: usize, line: bool, first: Corner, last: Corner, steps: usize) -> Measured
-    ensures { λ r. ⌜ r ≡ measuredBy false (leb 4 n && same last first && «line») steps ⌝ }
+    ensures { λ r. ⌜ r ≡ measuredBy false (leb 4 n && same last first && «line») first steps ⌝ }
 {
     if n < 4 {
         return Measured::Broken;
@@ -183,7 +175,10 @@ fn closed(n: usize, line: bool, first: Corner, last: Corner, steps: usize) -> Me
         return Measured::Broken;
     }
     if line {
-        Measured::Steps(steps)
+        Measured::Ring(Found {
+            start: first,
+            steps,
+        })
     } else {
         Measured::Broken
     }
@@ -197,7 +192,7 @@ fn measure(points: &[u8], little: bool, n: usize) -> Measured
     if n == 0 {
         return Measured::Broken;
     }
-    let p = point_at(points, little, 0);
+    let p = first_at(points, little);
     if is_faulty(p) {
         return Measured::Faulty;
     }
@@ -207,7 +202,7 @@ fn measure(points: &[u8], little: bool, n: usize) -> Measured
     let mut steps = 0;
     let mut i = 1;
     while i < n {
-        match point_at(points, little, i) {
+        match later_at(points, little, i) {
             Spot::Faulty => return Measured::Faulty,
             Spot::At(x, y) => {
                 let b = corner_of(x, y);
@@ -233,12 +228,13 @@ fn fill(buf: &mut [u8], d: u8, n: usize)
     }
 }
 
-// Writes the steps along the n points at the start of out: the part that is left is lent for each pair of neighbours.
-fn put_chain(points: &[u8], little: bool, n: usize, out: &mut [u8])
-    requires { ⌜ (16 * n ≤ length (now points)) × (0 < n) × (lengthOf (ringFrom little (now points) 0 n) ≤ length (now out)) ⌝ }
+// Writes the steps along the n points, which were accepted before, at the start of out: the part that is left is lent for each pair of
+// neighbours.
+fn put_chain(points: &[u8], little: bool, n: usize, start: Corner, out: &mut [u8])
+    requires { ⌜ (16 * n ≤ length (now points)) × (0 < n) × (lengthOf (ringFrom little (now points) 0 n) ≤ length (now out)) × (any isFaulty (pointsFrom little (now points) 0 n) ≡ false) × (start ≡ cornerIn (pointAt little (now points) 0)) ⌝ }
     ensures { λ _. ⌜ now (out .exit) ≡ chainOfPoints (ringFrom little (now (points .entry)) 0 n) ++ drop (lengthOf (ringFrom little (now (points .entry)) 0 n)) (now (out .entry)) ⌝ }
 {
-    let mut a = corner_at(points, little, 0);
+    let mut a = start;
     let mut at = 0;
     let mut i = 1;
     while i < n {
@@ -259,15 +255,14 @@ fn survey(points: &[u8], little: bool, n: usize, room: usize) -> Given
     match measure(points, little, n) {
         Measured::Faulty => Given::Refused(Refusal::BadCoordinate),
         Measured::Broken => Given::Refused(Refusal::BadRing),
-        Measured::Steps(steps) => {
-            if steps > Found::MOST_STEPS {
+        Measured::Ring(found) => {
+            if found.steps > Found::MOST_STEPS {
                 return Given::Refused(Refusal::TooLong(Found::MOST_STEPS));
             }
-            if room < steps {
+            if room < found.steps {
                 return Given::Refused(Refusal::ChainRoom);
             }
-            let start = corner_at(points, little, 0);
-            Given::Chain(Found { start, steps })
+            Given::Chain(found)
         }
     }
 }
@@ -295,10 +290,31 @@ fn read_in(file: &[u8], little: bool, chain: &mut [u8]) -> Given
     }
     let n = (file.len() - 13) / 16;
     let given = survey(&file[13..], little, n, chain.len());
-    if let Given::Chain(_) = given {
-        put_chain(&file[13..], little, n, chain);
+    if let Given::Chain(found) = given {
+        let start = found.start;
+        put_chain(&file[13..], little, n, start, chain);
     }
     given
+}
+
+fn is_neither(o: Order) -> bool
+    ensures { λ r. ⌜ r ≡ isNeither o ⌝ }
+{
+    match o {
+        Order::Little => false,
+        Order::Big => false,
+        Order::Neither => true,
+    }
+}
+
+fn is_little(o: Order) -> bool
+    ensures { λ r. ⌜ r ≡ isLittle o ⌝ }
+{
+    match o {
+        Order::Little => true,
+        Order::Big => false,
+        Order::Neither => false,
+    }
 }
 
 // Reads a polygon of one ring: its start and number of steps are answered, its steps written at the start of chain.
@@ -308,9 +324,9 @@ pub fn read(file: &[u8], chain: &mut [u8]) -> Given
     if file.len() < 13 {
         return Given::Refused(Refusal::FileLength);
     }
-    match order(file) {
-        Order::Little => read_in(file, true, chain),
-        Order::Big => read_in(file, false, chain),
-        Order::Neither => Given::Refused(Refusal::FileKind),
+    let o = order(file);
+    if is_neither(o) {
+        return Given::Refused(Refusal::FileKind);
     }
+    read_in(file, is_little(o), chain)
 }

@@ -7,7 +7,7 @@ use native.Mathlib.Omega.{arith}
 use borrow.Author.Tests.{eq-eqb, ne-eqb}
 use lib.Dec.{T, eqb}
 use lib.IntN.{ℤ, pos, negℤ, natAbs, _-ℤ_}
-use lib.Signed.{_≤ℤ_, ltZ, nonNeg, yes-nonNeg}
+use lib.Signed.{_≤ℤ_, _<ℤ_, ltZ, nonNeg, yes-nonNeg}
 use mir.Syntax.{w32, w64}
 use mir.Val.{SFits, Fits, toZ, ofZ}
 use mir.Facts.{toZ-ofZ}
@@ -62,6 +62,43 @@ equal-bits x y h k = go (eqZ x y) refl
     go false e =
         ne-eqb (ofZ w32 x) (ofZ w32 y) (λ p. false≢true (sym e ∙ ap (eqZ x) (sym (sym (toZ-ofZ h) ∙ ap (toZ w32) p ∙ toZ-ofZ k)) ∙ eqZ-refl x)) ∙ sym e
 
+-- ---- the direction, by whether the first coordinates are equal
+
+pub self-no : (x : ℤ) → ltZ x x ≡ false
+self-no x = go (ltZ x x) refl
+  where
+    go : (t : Bool) → ltZ x x ≡ t → ltZ x x ≡ false
+    go true e = absurd (bad (lt-true {a = x} {b = x} e))
+      where
+        bad : x <ℤ x → ⊥
+        bad l = omega (zarith, l)
+    go false e = e
+
+by-axes : (a b : Corner) → cond (eqZ (a .0) (b .0)) (cond (ltZ (a .1) (b .1)) 1 3) (cond (ltZ (a .0) (b .0)) 0 2) ≡ directionOf a b
+by-axes a b = go (eqZ x y) (ltZ x y) (ltZ y x) refl refl refl
+  where
+    x : ℤ
+    x = a .0
+
+    y : ℤ
+    y = b .0
+
+    u : ℕ
+    u = cond (ltZ (a .1) (b .1)) 1 3
+
+    out : (p q r p′ q′ r′ : Bool) → p ≡ p′ → q ≡ q′ → r ≡ r′ → cond p′ u (cond q′ 0 2) ≡ cond q′ 0 (cond r′ 2 u) → cond p u (cond q 0 2) ≡ cond q 0 (cond r 2 u)
+    out p q r p′ q′ r′ e f g h = ap₂ (λ (i j : Bool). cond i u (cond j 0 2)) e f ∙ h ∙ sym (ap₂ (λ (i j : Bool). cond i 0 (cond j 2 u)) f g)
+
+    go : (p q r : Bool) → eqZ x y ≡ p → ltZ x y ≡ q → ltZ y x ≡ r → cond (eqZ x y) u (cond (ltZ x y) 0 2) ≡ cond (ltZ x y) 0 (cond (ltZ y x) 2 u)
+    go true q r e f g =
+        let same : x ≡ y = eqZ-sound x y e in
+        out (eqZ x y) (ltZ x y) (ltZ y x) true false false e (ap (λ (z : ℤ). ltZ z y) same ∙ self-no y) (ap (ltZ y) same ∙ self-no y) refl
+    go false true r e f g = out (eqZ x y) (ltZ x y) (ltZ y x) false true r e f g refl
+    go false false true e f g = out (eqZ x y) (ltZ x y) (ltZ y x) false false true e f g refl
+    go false false false e f g =
+        let same : x ≡ y = nat-eq x y (omega (zarith, lt-false {a = x} {b = y} f, lt-false {a = y} {b = x} g)) in
+        absurd (false≢true (sym e ∙ ap (λ (z : ℤ). eqZ z y) same ∙ eqZ-refl y))
+
 -- ---- corners
 
 module _ (a b : Corner) (p : Near a) (q : Near b) where
@@ -77,26 +114,10 @@ module _ (a b : Corner) (p : Near a) (q : Near b) where
   pub apart-le : apart a b ≤ 131072
   apart-le = omega (arith, abs- (b .0) (a .0), abs- (b .1) (a .1), p .x, p .y, q .x, q .y)
 
-  -- what the three tests find
-  east-is : (l : Bool) → l ≡ ltZ (read (a .0)) (read (b .0)) → ltZ (a .0) (b .0) ≡ l
-  east-is l e = sym (e ∙ ap₂ ltZ (back (a .0) (p .x)) (back (b .0) (q .x)))
-
-  west-is : (l : Bool) → l ≡ ltZ (read (b .0)) (read (a .0)) → ltZ (b .0) (a .0) ≡ l
-  west-is l e = sym (e ∙ ap₂ ltZ (back (b .0) (q .x)) (back (a .0) (p .x)))
-
-  north-is : (l : Bool) → l ≡ ltZ (read (a .1)) (read (b .1)) → ltZ (a .1) (b .1) ≡ l
-  north-is l e = sym (e ∙ ap₂ ltZ (back (a .1) (p .y)) (back (b .1) (q .y)))
-
-  pub goes-east : (l : Bool) → l ≡ ltZ (read (a .0)) (read (b .0)) → l ≡ true → 0 ≡ directionOf a b
-  goes-east l e f = sym (ap (λ (t : Bool). cond t 0 (cond (ltZ (b .0) (a .0)) 2 (cond (ltZ (a .1) (b .1)) 1 3))) (east-is l e ∙ f))
-
-  not-east : (l : Bool) → l ≡ ltZ (read (a .0)) (read (b .0)) → l ≡ false → cond (ltZ (b .0) (a .0)) 2 (cond (ltZ (a .1) (b .1)) 1 3) ≡ directionOf a b
-  not-east l e f = sym (ap (λ (t : Bool). cond t 0 (cond (ltZ (b .0) (a .0)) 2 (cond (ltZ (a .1) (b .1)) 1 3))) (east-is l e ∙ f))
-
-  pub goes-west : (l m : Bool) → l ≡ ltZ (read (a .0)) (read (b .0)) → l ≡ false → m ≡ ltZ (read (b .0)) (read (a .0)) → m ≡ true → 2 ≡ directionOf a b
-  goes-west l m e f g h = sym (ap (λ (t : Bool). cond t 2 (cond (ltZ (a .1) (b .1)) 1 3)) (west-is m g ∙ h)) ∙ not-east l e f
-
-  pub goes-along : (l m n : Bool) → l ≡ ltZ (read (a .0)) (read (b .0)) → l ≡ false → m ≡ ltZ (read (b .0)) (read (a .0)) → m ≡ false → n ≡ ltZ (read (a .1)) (read (b .1))
-      → cond n 1 3 ≡ directionOf a b
-  goes-along l m n e f g h i =
-      ap (λ (t : Bool). cond t 1 3) (sym (north-is n i)) ∙ sym (ap (λ (t : Bool). cond t 2 (cond (ltZ (a .1) (b .1)) 1 3)) (west-is m g ∙ h)) ∙ not-east l e f
+  pub goes : (l : Bool) (i j : ℕ) → l ≡ eqZ (read (a .0)) (read (b .0)) → i ≡ cond (ltZ (read (a .0)) (read (b .0))) 0 2 → j ≡ cond (ltZ (read (a .1)) (read (b .1))) 1 3
+      → cond l j i ≡ directionOf a b
+  goes l i j e f g =
+      ap (λ (m : Bool). cond m j i) (e ∙ ap₂ eqZ (back (a .0) (p .x)) (back (b .0) (q .x)))
+      ∙ ap₂ (λ (m n : ℕ). cond (eqZ (a .0) (b .0)) m n) (g ∙ ap (λ (m : Bool). cond m 1 3) (ap₂ ltZ (back (a .1) (p .y)) (back (b .1) (q .y))))
+      (f ∙ ap (λ (m : Bool). cond m 0 2) (ap₂ ltZ (back (a .0) (p .x)) (back (b .0) (q .x))))
+      ∙ by-axes a b

@@ -4,6 +4,7 @@ pub mod WholeLaws
 pub mod BitsLaws
 pub mod SignLaws
 pub mod TakeLaws
+pub mod NearestLaws
 pub mod AxisLaws
 pub mod RingLaws
 pub mod ReadLaws

@@ -1,6 +1,6 @@
 -- Numbers out of bytes, and lists that begin with another.
 -- Assumes nothing.
-use mathlib.Core.Path.{_≡_, refl, sym, ap, _∙_}
+use mathlib.Core.Path.{_≡_, refl, sym, ap, ap₂, _∙_}
 use mathlib.Core.Bool.{Bool, true, false, _&&_}
 use mathlib.Core.List.{List, [], _∷_, _++_, reverse, reverse-cons}
 use Prim.Native.Nat.{ℕ, zero, suc, _+_, _-_, _*_, _/_, _%_, _^_, _≤_, _<_}
@@ -8,11 +8,12 @@ use native.Mathlib.Nat.{pow-succ', le-trans, lt-of-lt-of-le, pow-le-pow-right}
 use native.Mathlib.Omega.{arith}
 use native.Mathlib.Numerals.{add-one}
 use lib.ListN.{length, take, drop, getD, drop-of-length-le}
-use lib.Seq.{drop-length, take-suc, drop-cons}
+use lib.Seq.{drop-length, take-suc, take-all, drop-cons}
 use borrow.Author.Tests.{ne-eqb, eq-eqb}
 use lib.Dec.{eqb}
 use Rattle.polygon.specs.Bytes.{bytesOf}
-use Rattle.polygon_ring.specs.Bytes.{numberOf, startsWith}
+use Rattle.polygon_ring.specs.Bytes.{numberOf, numberIn, startsWith}
+use Rattle.polygon_laws.proofs.BytesLaws.{length-bytesOf}
 
 pub numberOf-bytesOf : (n b : ℕ) → b < 256 ^ n → numberOf (bytesOf n b) ≡ b
 unfolding bytesOf numberOf
@@ -59,6 +60,64 @@ big-more s i v h e =
 -- a number of at most eight bytes fits 64 bits
 pub fits-eight : (v n : ℕ) → n ≤ 8 → v < 256 ^ n → v < 2 ^ 64
 fits-eight v n h p = lt-of-lt-of-le p (le-trans (pow-le-pow-right (omega arith) h) (omega arith))
+
+-- ---- a number's bytes in the other order
+
+-- the bytes of a number that has the bytes of s are those
+bytesOf-numberOf : (s : List ℕ) → ((i : ℕ) → getD s i 0 < 256) → bytesOf (length s) (numberOf s) ≡ s
+unfolding bytesOf numberOf
+bytesOf-numberOf [] h = refl
+bytesOf-numberOf (d ∷ s) h =
+    ap₂ _∷_ (first d (numberOf s) (h 0)) (ap (bytesOf (length s)) (later d (numberOf s) (h 0)) ∙ bytesOf-numberOf s (λ i. h (suc i)))
+  where
+    first : (d n : ℕ) → d < 256 → (d + 256 * n) % 256 ≡ d
+    first d n l = omega arith
+
+    later : (d n : ℕ) → d < 256 → (d + 256 * n) / 256 ≡ n
+    later d n l = omega arith
+
+pub eight-swapped : (s : List ℕ) (v : ℕ) → length s ≡ 8 → ((i : ℕ) → getD s i 0 < 256) → v ≡ numberIn true s → numberIn false (bytesOf 8 v) ≡ numberIn false s
+unfolding numberIn
+eight-swapped s v l h e = ap (numberIn false) (ap₂ bytesOf (sym l) e ∙ bytesOf-numberOf s h)
+
+-- r is the number of the first i bytes of s, the highest first, and rest the number of those left
+pub record Swapping (s : List ℕ) (r rest i : ℕ) : Type 0 where
+  pub within : i ≤ length s
+  pub small : r < 256 ^ i
+  pub is : r ≡ numberOf (reverse (take i s))
+  pub left : bytesOf (length s - i) rest ≡ drop i s
+
+pub swapping-first : (v : ℕ) → Swapping (bytesOf 8 v) 0 v 0
+unfolding numberOf bytesOf
+swapping-first v = record { within = omega arith; small = omega arith; is = refl; left = ap (λ (n : ℕ). bytesOf n v) (length-bytesOf 8 v) }
+
+pub swapping-more : (s : List ℕ) (r rest i : ℕ) → i < length s → Swapping s r rest i → Swapping s (r * 256 + rest % 256) (rest / 256) (i + 1)
+unfolding bytesOf
+swapping-more s r rest i h p =
+    let n = length s - (i + 1) in
+    let e : length s - i ≡ suc n = omega arith in
+    let c : rest % 256 ∷ bytesOf n (rest / 256) ≡ getD s i 0 ∷ drop (suc i) s = ap (λ (k : ℕ). bytesOf k rest) (sym e) ∙ p .left ∙ drop-cons s i 0 h in
+    let d : rest % 256 ≡ getD s i 0 = ap head c in record {
+      within = omega arith;
+      small = grows r (rest % 256) i (p .small) (omega arith);
+      is = ap (λ (k : ℕ). r * 256 + k) d ∙ big-more s i r h (p .is);
+      left = ap tail c ∙ ap (λ (k : ℕ). drop k s) (sym (add-one i));
+    }
+  where
+    head : List ℕ → ℕ
+    head [] = 0
+    head (a ∷ l) = a
+
+    tail : List ℕ → List ℕ
+    tail [] = []
+    tail (a ∷ l) = l
+
+pub swapping-room : (s : List ℕ) (r rest i d : ℕ) → length s ≡ 8 → i < 8 → d < 256 → Swapping s r rest i → r * 256 + d < 2 ^ 64
+swapping-room s r rest i d l h e p = fits-eight (r * 256 + d) (i + 1) (omega arith) (grows r d i (p .small) e)
+
+pub swapping-last : (s : List ℕ) (r rest i : ℕ) → length s ≤ i → Swapping s r rest i → r ≡ numberIn false s
+unfolding numberIn
+swapping-last s r rest i h p = p .is ∙ ap (λ (l : List ℕ). numberOf (reverse l)) (take-all i s h)
 
 -- ---- a list that begins with another
 

@@ -7,7 +7,7 @@ use Prim.Native.Nat.{ℕ, suc, _+_, _-_, _≤_, _<_}
 use native.Mathlib.Omega.{arith}
 use lib.IntN.{ℤ, pos, natAbs, _+ℤ_, _-ℤ_}
 use lib.ListN.{length, replicate, getD}
-use lib.Signed.{_≤ℤ_, _<ℤ_, ltZ, yes-nonNeg, pos-natAbs}
+use lib.Signed.{_≤ℤ_, ltZ, yes-nonNeg, pos-natAbs}
 use Rattle.int_laws.proofs.LinearLaws.{nat-le, nat-eq, bal+, bal-, zarith}
 use Rattle.int_laws.proofs.RangeLaws.{lt-true, lt-false}
 use Rattle.lists.proofs.GatherLaws.{and-left, and-right}
@@ -17,7 +17,7 @@ use Rattle.grid.specs.Grid.{corner, origin, eqZ, endFrom}
 use Rattle.grid.proofs.CornerLaws.{eqZ-sound, eqZ-refl}
 use Rattle.polygon_ring.specs.Ring.{straight, straightFrom, apart, directionOf, chainFrom}
 use Rattle.polygon_ring_laws.specs.Passing.{PassesFrom}
-use Rattle.polygon_ring_laws.proofs.AxisLaws.{diff-swap}
+use Rattle.polygon_ring_laws.proofs.AxisLaws.{diff-swap, self-no}
 use Rattle.polygon_ring_laws.proofs.RunLaws.{ahead, ahead-end, run-ahead, direction-by, self-less}
 
 -- ---- one axis
@@ -52,16 +52,6 @@ apart-some x y e = positive (natAbs (y -ℤ x)) (λ z. go (ltZ x y) refl z)
     go : (t : Bool) → ltZ x y ≡ t → natAbs (y -ℤ x) ≡ 0 → ⊥
     go true f z = false≢true (sym e ∙ ap (eqZ x) (sym (apart-zero x y z (nat-le x y (omega (zarith, lt-true {a = x} {b = y} f))))) ∙ eqZ-refl x)
     go false f z = false≢true (sym e ∙ ap (λ (w : ℤ). eqZ w y) (sym (apart-zero y x (diff-swap x y ∙ z) (lt-false {a = x} {b = y} f))) ∙ eqZ-refl y)
-
-self-no : (x : ℤ) → ltZ x x ≡ false
-self-no x = go (ltZ x x) refl
-  where
-    go : (t : Bool) → ltZ x x ≡ t → ltZ x x ≡ false
-    go true e = absurd (bad (lt-true {a = x} {b = x} e))
-      where
-        bad : x <ℤ x → ⊥
-        bad l = omega (zarith, l)
-    go false e = e
 
 module _ (a b : Corner) where
   -- the same x: north or south

@@ -6,14 +6,23 @@ use mathlib.Core.Bool.{Bool, false, _||_, false≢true}
 use mathlib.Core.List.{List}
 use Prim.Native.Nat.{ℕ, zero, suc, _+_, _<_}
 use native.Mathlib.Omega.{arith}
+use lib.IntN.{ℤ}
+use lib.ListN.{take, drop}
+use lib.Ieee.{binary64, ofBits}
+use mir.Syntax.{w32}
+use mir.Val.{toZ, ofZ}
 use Rattle.lists.specs.Lists.{any}
 use Rattle.lists.proofs.FindLaws.{or-false}
 use Rattle.grid.specs.declared.Corner.{Corner}
+use Rattle.grid.specs.Grid.{corner}
+use Rattle.polygon_ring.specs.Bytes.{numberIn}
 use Rattle.polygon_ring.specs.Coordinate.{wholeOf}
 use Rattle.polygon_ring.specs.Ring.{both, mostAt, pointIn, pointAt, pointsFrom, isFaulty, cornerIn}
+use Rattle.polygon_laws.proofs.SignedLaws.{back}
 use Rattle.polygon_ring_laws.specs.Reading.{spotAt}
 use Rattle.polygon_ring_laws.specs.Files.{xAt, yAt, IsPoint}
-use Rattle.polygon_ring_laws.proofs.TakeLaws.{accepted, accepts}
+use Rattle.polygon_ring_laws.specs.Nearest.{IsAccepted}
+use Rattle.polygon_ring_laws.proofs.TakeLaws.{accepted, accepted-value, accepts}
 use Rattle.polygon_ring.specs.declared.{Spot.Spot, Spot.the-variants.At, Spot.the-variants.Faulty, Whole.Whole, Whole.the-variants.Of, Whole.the-variants.Refused}
 
 clash : _≡_ {A = ℕ} 0 1 → ⊥
@@ -24,6 +33,24 @@ both-good (Of a) (Of b) c e =
     (ap (λ (s : Spot). Of (cornerIn s .0)) e, ap (λ (s : Spot). Of (cornerIn s .1)) e)
 both-good (Of a) Refused c e = let z : _≡_ {A = ℕ} 0 1 = cc in absurd (clash z)
 both-good Refused w c e = let z : _≡_ {A = ℕ} 0 1 = cc in absurd (clash z)
+
+-- a point that was accepted before: its floats are, and its corner is theirs
+both-parts : (v w : Whole) → isFaulty (both v w) ≡ false → ((a : ℤ) × (v ≡ Of a)) × ((b : ℤ) × (w ≡ Of b))
+both-parts (Of a) (Of b) e = ((a, refl), (b, refl))
+both-parts (Of a) Refused e = absurd (false≢true (sym e))
+both-parts Refused w e = absurd (false≢true (sym e))
+
+pub point-parts : (little : Bool) (s : List ℕ) → isFaulty (pointIn 32768 little s) ≡ false
+    → IsAccepted (ofBits binary64 (numberIn little (take 8 s))) × IsAccepted (ofBits binary64 (numberIn little (take 8 (drop 8 s))))
+unfolding pointIn
+point-parts little s e = both-parts (wholeOf 32768 (ofBits binary64 (numberIn little (take 8 s)))) (wholeOf 32768 (ofBits binary64 (numberIn little (take 8 (drop 8 s))))) e
+
+pub point-corner : (little : Bool) (s : List ℕ) (x y : ℤ) → Of x ≡ wholeOf 32768 (ofBits binary64 (numberIn little (take 8 s)))
+    → Of y ≡ wholeOf 32768 (ofBits binary64 (numberIn little (take 8 (drop 8 s)))) → corner (toZ w32 (ofZ w32 x)) (toZ w32 (ofZ w32 y)) ≡ cornerIn (pointIn 32768 little s)
+unfolding pointIn
+point-corner little s x y e f =
+    ap₂ corner (back x (accepted-value 32768 (ofBits binary64 (numberIn little (take 8 s))) x (sym e) .3)) (back y (accepted-value 32768 (ofBits binary64 (numberIn little (take 8 (drop 8 s)))) y (sym f) .3))
+    ∙ ap cornerIn (ap₂ both e f)
 
 pub point-good : (little : Bool) (s : List ℕ) (i : ℕ) (c : Corner) → (pointAt little s i ≡ spotAt c) ↔ IsPoint little s i c
 unfolding pointAt pointIn
@@ -56,6 +83,12 @@ good-all little s i (suc n) e (suc k) h =
   where
     next : (i k : ℕ) → i + suc k ≡ suc i + k
     next i k = omega arith
+
+pub good-at : (little : Bool) (s : List ℕ) (n i : ℕ) → any isFaulty (pointsFrom little s 0 n) ≡ false → i < n → isFaulty (pointAt little s i) ≡ false
+good-at little s n i e h = ap (λ (m : ℕ). isFaulty (pointAt little s m)) (plain i) ∙ ap isFaulty (good-all little s 0 n e i h)
+  where
+    plain : (i : ℕ) → i ≡ 0 + i
+    plain i = omega arith
 
 all-good : (little : Bool) (s : List ℕ) (i n : ℕ) → ((k : ℕ) → k < n → isFaulty (pointAt little s (i + k)) ≡ false) → any isFaulty (pointsFrom little s i n) ≡ false
 unfolding pointsFrom

@@ -9,17 +9,16 @@ use borrow.Author.Tests.{lt-ltb, le-ltb, ltb-false}
 use lib.Dec.{eqb, ltb}
 use lib.ListN.{length, take, drop}
 use Rattle.lists.specs.Lists.{any}
-use Rattle.lists.proofs.GatherLaws.{and-left}
 use Rattle.answer.specs.Limits.{mostSteps}
 use Rattle.grid.specs.declared.Corner.{Corner}
 use Rattle.answer.specs.Refusal.{when, orElse, firstOf}
 use Rattle.polygon_ring_laws.specs.Reading.{laidIf}
-use Rattle.polygon_ring.specs.Ring.{orderOf, isLittle, isNeither, pointsFrom, isFaulty, cornerIn, startOf, laterOf, straightFrom, lengthOf, chainOfPoints, isRing, countIn, pointsIn, ringOf, readJudged, givenOf, ReadCall}
+use Rattle.polygon_ring.specs.Ring.{orderOf, isLittle, isNeither, pointAt, pointsFrom, isFaulty, cornerIn, startOf, laterOf, lengthOf, chainOfPoints, isRing, countIn, pointsIn, ringOf, readJudged, givenOf, ReadCall}
 use Rattle.polygon_ring_laws.specs.Reading.{ringFrom, ringJudged, pointsJudged, ReadIn}
 use Rattle.polygon_laws.proofs.BytesLaws.{part}
-use Rattle.polygon_ring_laws.proofs.RingLaws.{closedAt, closed-some, ring-is, not-true, not-false, length-stepsFrom}
+use Rattle.polygon_ring_laws.proofs.RingLaws.{ring-first, ring-some, not-true, not-false, length-stepsFrom}
 use Rattle.answer.specs.declared.{Judged.Judged, Judged.the-variants.Good, Judged.the-variants.Refused, Refusal.Refusal, Refusal.the-variants.FileLength, Refusal.the-variants.FileKind, Refusal.the-variants.BadCoordinate, Refusal.the-variants.BadRing, Refusal.the-variants.TooLong, Refusal.the-variants.ChainRoom}
-use Rattle.polygon_ring.specs.declared.{Spot.Spot, Order.the-variants.Neither, Found.Found, Given.Given}
+use Rattle.polygon_ring.specs.declared.{Spot.Spot, Found.Found, Given.Given}
 
 clash : _≡_ {A = ℕ} 0 1 → ⊥
 clash z = omega arith
@@ -80,14 +79,15 @@ module _ (little : Bool) (file : List ℕ) (r : Bool) (e : r ≡ eqb (length fil
       -- what the writing of the chain asks
       pub ready : (x : Found) → g ≡ Given.Chain x
           → (0 < (length file - 13) / 16) × (lengthOf (ringFrom little (take (length file - 13) (drop 13 file)) 0 ((length file - 13) / 16)) ≤ room)
+          × (any isFaulty (pointsFrom little (take (length file - 13) (drop 13 file)) 0 ((length file - 13) / 16)) ≡ false) × (x .start ≡ cornerIn (pointAt little (take (length file - 13) (drop 13 file)) 0))
       ready x h =
           let P = take (length file - 13) (drop 13 file) in
           let n = (length file - 13) / 16 in
           let ps = pointsFrom little P 0 n in
-          let fine = given-fine (ringJudged ps room) (map cornerIn ps) x (sym p ∙ h) .0 in
-          let w = fine-by (any isFaulty ps) (isRing (map cornerIn ps)) (ltb mostSteps (lengthOf (map cornerIn ps))) (ltb room (lengthOf (map cornerIn ps))) fine in
-          let c = and-left (closedAt little P n) (straightFrom (startOf (map cornerIn ps)) (laterOf (map cornerIn ps))) (sym (ring-is little P n) ∙ w .1) in
-          (closed-some little P n (closedAt little P n) refl c, ltb-false room (lengthOf (map cornerIn ps)) (w .3))
+          let fine = given-fine (ringJudged ps room) (map cornerIn ps) x (sym p ∙ h) in
+          let w = fine-by (any isFaulty ps) (isRing (map cornerIn ps)) (ltb mostSteps (lengthOf (map cornerIn ps))) (ltb room (lengthOf (map cornerIn ps))) (fine .0) in
+          let c = ring-some little P n (w .1) in
+          (c, ltb-false room (lengthOf (map cornerIn ps)) (w .3), w .0, ap (λ (f : Found). f .start) (fine .1) ∙ ap startOf (ring-first little P n c))
 
       pub read-written : (out out′ : List ℕ) (x : Found) → room ≡ length out → g ≡ Given.Chain x
           → out′ ≡ chainOfPoints (ringFrom little (take (length file - 13) (drop 13 file)) 0 ((length file - 13) / 16)) ++ drop (lengthOf (ringFrom little (take (length file - 13) (drop 13 file)) 0 ((length file - 13) / 16))) out
@@ -133,8 +133,8 @@ judged-neither file room h e = after-length file room h ∙ ap (λ (b : Bool). o
 pub read-short : (file out : List ℕ) → length file < 13 → ReadCall file out (Given.Refused FileLength) out
 read-short file out h = kept file out FileLength (judged-short file (length out) h)
 
-pub read-neither : (file out : List ℕ) → 13 ≤ length file → orderOf file ≡ Neither → ReadCall file out (Given.Refused FileKind) out
-read-neither file out h e = kept file out FileKind (judged-neither file (length out) h (ap isNeither e))
+pub read-neither : (file out : List ℕ) → 13 ≤ length file → isNeither (orderOf file) ≡ true → ReadCall file out (Given.Refused FileKind) out
+read-neither file out h e = kept file out FileKind (judged-neither file (length out) h e)
 
 module _ (little : Bool) (file : List ℕ) (h : 13 ≤ length file) (e : isNeither (orderOf file) ≡ false) (f : isLittle (orderOf file) ≡ little) where
   -- the refusals that are left, by this byte order

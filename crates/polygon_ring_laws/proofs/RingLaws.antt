@@ -25,22 +25,25 @@ use Rattle.polygon_ring.specs.declared.{Point.Point, Spot.Spot, Whole.Whole, Wh
 
 -- ---- one point
 
-pub place-is : (s : List ℕ) (little order : Bool) (i most : ℕ) (j : Spot) (p : Point) → little ≡ order → most ≡ mostAt i → PointIs order (take (length s - 16 * i) (drop (16 * i) s)) p
-    → j ≡ both (wholeOf most (p .x)) (wholeOf most (p .y)) → j ≡ pointAt little s i
-unfolding pointAt pointIn
-place-is s little order i most j p o m q e =
-    e
-    ∙ ap₂ (λ (x y : Float). both (wholeOf most x) (wholeOf most y)) (q .x) (q .y)
-    ∙ ap₂ (λ (m : ℕ) (z : List ℕ). both (wholeOf m (ofBits binary64 (numberIn order (take 8 z)))) (wholeOf m (ofBits binary64 (numberIn order (take 8 (drop 8 z)))))) m (part s (16 * i))
-    ∙ ap (λ (b : Bool). pointAt b s i) (sym o)
+pub point-is : (most : ℕ) (little : Bool) (s : List ℕ) (j : Spot) (p : Point) → PointIs little s p → j ≡ both (wholeOf most (p .x)) (wholeOf most (p .y)) → j ≡ pointIn most little s
+unfolding pointIn
+point-is most little s j p q e = e ∙ ap₂ (λ (x y : Float). both (wholeOf most x) (wholeOf most y)) (q .x) (q .y)
+
+pub first-is : (little : Bool) (s : List ℕ) → pointIn 16384 little s ≡ pointAt little s 0
+unfolding pointAt
+first-is little s = refl
+
+pub later-is : (little : Bool) (s : List ℕ) (i : ℕ) → 0 < i → pointIn 32768 little (take (length s - 16 * i) (drop (16 * i) s)) ≡ pointAt little s i
+unfolding pointAt
+later-is little s i h = ap₂ (λ (m : ℕ) (z : List ℕ). pointIn m little z) (most i h) (part s (16 * i))
+  where
+    most : (i : ℕ) → 0 < i → 32768 ≡ mostAt i
+    most zero h = absurd (omega arith)
+    most (suc i) h = refl
 
 pub mostAt-le : (i : ℕ) → mostAt i ≤ 32768
 mostAt-le zero = omega arith
 mostAt-le (suc i) = omega arith
-
-pub most-later : (i : ℕ) → (i ≡ 0 → ⊥) → 32768 ≡ mostAt i
-most-later zero f = absurd (f refl)
-most-later (suc i) f = refl
 
 within : (most : ℕ) (x y : Float) (v w : Whole) → most ≤ 32768 → wholeOf most x ≡ v → wholeOf most y ≡ w → Near (cornerIn (both v w))
 within most x y (Of a) (Of b) h e f = record { x = omega (arith, accepted most x a e .1); y = omega (arith, accepted most y b f .1) }

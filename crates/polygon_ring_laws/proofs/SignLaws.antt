@@ -1,32 +1,29 @@
--- A magnitude in 32 bits, and negated.
+-- Coordinates in 32 bits.
 -- Assumes nothing.
-use mathlib.Core.Path.{_≡_, sym, ap, _∙_, subst}
-use mathlib.Core.Bool.{true, false}
-use Prim.Native.Nat.{ℕ, zero, suc, _≤_}
+use mathlib.Core.Path.{_≡_, sym, ap₂, _∙_, subst}
+use Prim.Native.Nat.{ℕ, _≤_, _<_}
 use native.Mathlib.Omega.{arith}
-use lib.IntN.{ℤ, pos, negℤ, natAbs, _-ℤ_, +ℤ-idl}
+use lib.IntN.{ℤ, pos, negsuc, natAbs, _-ℤ_}
 use mir.Syntax.{w32}
 use mir.Val.{SFits, toZ, ofZ}
 use mir.ValLaws.{toZ-pos}
 use mir.Facts.{toZ-ofZ}
+use Rattle.int_laws.proofs.LinearLaws.{eq-nat, bal-}
 use Rattle.polygon_laws.proofs.SignedLaws.{back}
-use Rattle.polygon.specs.Coordinate.{signed}
 
-pub as-pos : (k : ℕ) → k ≤ 32768 → toZ w32 k ≡ signed false k
-as-pos k h = toZ-pos w32 k (omega arith)
+-- counted from -32,768 and then from 0
+fits : (z : ℤ) (u : ℕ) → z ≡ pos u -ℤ pos 32768 → u < 131072 → SFits w32 z
+fits (pos n) u e h = record { sfits = omega (arith, eq-nat e, bal- (pos u) (pos 32768)) }
+fits (negsuc n) u e h = record { sfits = omega (arith, eq-nat e, bal- (pos u) (pos 32768)) }
 
-minus : (k : ℕ) → pos 0 -ℤ pos k ≡ negℤ (pos k)
-minus k = +ℤ-idl (negℤ (pos k))
+read : (u : ℕ) → u < 131072 → toZ w32 u ≡ pos u
+read u h = toZ-pos w32 u (omega arith)
 
-fits : (k : ℕ) → k ≤ 32768 → SFits w32 (negℤ (pos k))
-fits zero h = record { sfits = omega arith }
-fits (suc k) h = record { sfits = omega arith }
+pub centred-fits : (u : ℕ) → u < 131072 → SFits w32 (toZ w32 u -ℤ toZ w32 32768)
+centred-fits u h = fits (toZ w32 u -ℤ toZ w32 32768) u (ap₂ _-ℤ_ (read u h) (read 32768 (omega arith))) h
 
-pub neg-fits : (k : ℕ) → k ≤ 32768 → SFits w32 (pos 0 -ℤ toZ w32 k)
-neg-fits k h = subst (λ (z : ℤ). SFits w32 (pos 0 -ℤ z)) (sym (as-pos k h)) (subst (SFits w32) (sym (minus k)) (fits k h))
-
-pub as-neg : (k : ℕ) → k ≤ 32768 → toZ w32 (ofZ w32 (pos 0 -ℤ toZ w32 k)) ≡ signed true k
-as-neg k h = toZ-ofZ (neg-fits k h) ∙ ap (λ (z : ℤ). pos 0 -ℤ z) (as-pos k h) ∙ minus k
+pub centred-is : (u : ℕ) → u < 131072 → toZ w32 (ofZ w32 (toZ w32 u -ℤ toZ w32 32768)) ≡ pos u -ℤ pos 32768
+centred-is u h = toZ-ofZ (centred-fits u h) ∙ ap₂ _-ℤ_ (read u h) (read 32768 (omega arith))
 
 -- a number in range, written and read back, is in range
 pub back-le : (z : ℤ) → natAbs z ≤ 32768 → natAbs (toZ w32 (ofZ w32 z)) ≤ 32768

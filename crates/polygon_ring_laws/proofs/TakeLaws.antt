@@ -4,7 +4,7 @@ use mathlib.Core.Path.{_≡_, refl, sym, ap, ap₂, _∙_, subst}
 use mathlib.Core.Bool.{Bool, true, false, _&&_}
 use mathlib.Core.List.{List, _++_, append-assoc}
 use Prim.Native.Nat.{ℕ, zero, suc, _+_, _*_, _/_, _%_, _≤_, _<_}
-use native.Mathlib.Nat.{mul-assoc, zero-lt-suc, lt-irrefl, div-add-mod', add-zero, mul-left-comm, lt-of-lt-of-le}
+use native.Mathlib.Nat.{mul-assoc, mul-one, zero-lt-suc, lt-irrefl, div-add-mod', add-zero, mul-left-comm, lt-of-lt-of-le}
 use native.Mathlib.Omega.{arith}
 use borrow.Author.Tests.{eqb-true, leb-true}
 use lib.Dec.{eqb, leb, lit≤}
@@ -14,6 +14,7 @@ use lib.IntN.{ℤ, pos, negsuc, negℤ, natAbs, _*ℤ_, pos-*ℤ-pos, pos-*ℤ-n
 use lib.Ieee.{Float, nan, inf, fin, binary64, up, down, ofInt, toBits, ofBits}
 use lib.Ieee.Bits.{ofBits-toBits, toBits-lt}
 use lib.Ieee.Fits.{down-pos, ofInt-fits}
+use lib.Ieee.Exact.{HasValue}
 use Rattle.polygon_ring.specs.Bytes.{numberIn}
 use Rattle.polygon.specs.Coordinate.{scale, signed, coordinateOf, IsWhole}
 use Rattle.polygon_ring.specs.Coordinate.{pick, wholeAt, wholeOf}
@@ -84,6 +85,18 @@ unscaled s n (negsuc j) e = go s n (ap (λ (i : ℕ). negℤ (pos i)) (more j) �
     go false n e = absurd (pos-ne-negsuc n (599 + 600 * j) (sym e))
     go true zero e = absurd (pos-ne-negsuc 0 (599 + 600 * j) (sym e))
     go true (suc n) e = let z : 599 + 600 * j ≡ n = cc in (omega arith, refl)
+
+-- the value of an accepted float: 600 times the magnitude, with a sign of the coordinate
+pub accepted-value : (most : ℕ) (x : Float) (k : ℤ) → wholeOf most x ≡ Of k → (s : Bool) × HasValue x s (scale * natAbs k) 1 × (signed s (natAbs k) ≡ k) × (natAbs k ≤ most)
+unfolding IsWhole
+accepted-value most x k e = go x (accepted most x k e)
+  where
+    go : (x : Float) → IsCoordinate most x k → (s : Bool) × HasValue x s (scale * natAbs k) 1 × (signed s (natAbs k) ≡ k) × (natAbs k ≤ most)
+    go nan p = absurd (p .0)
+    go (inf s) p = absurd (p .0)
+    go (fin s m e) p =
+        let r = unscaled s (p .0 .0) k (p .0 .2) in
+        (s, (refl, mul-one (m * up e) ∙ p .0 .1 ∙ ap (λ (n : ℕ). n * down e) (r .0)), r .1, p .1)
 
 pub accepts : (most : ℕ) (x : Float) (k : ℤ) → IsCoordinate most x k → wholeOf most x ≡ Of k
 unfolding wholeOf IsWhole

@@ -66,7 +66,7 @@ wholeAt-multiple most s k c C h =
     ∙ ap (λ (n : ℕ). pick (leb n most) (Of (signed s n)) Refused) (mul-div-cancel k B)
     ∙ ap (λ (t : Bool). pick t (Of (signed s k)) Refused) (le-leb k most h)
 
-same-sign : (z : ℤ) → signed (isNeg (pos scale *ℤ z)) (natAbs z) ≡ z
+pub same-sign : (z : ℤ) → signed (isNeg (pos scale *ℤ z)) (natAbs z) ≡ z
 same-sign (pos n) = ap (λ (y : ℤ). signed (isNeg y) n) (pos-*ℤ-pos scale n)
 same-sign (negsuc n) = ap (λ (y : ℤ). signed (isNeg y) (suc n)) (pos-*ℤ-negsuc scale n ∙ ap (λ (k : ℕ). negℤ (pos k)) (more n))
   where

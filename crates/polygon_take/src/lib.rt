@@ -1,14 +1,21 @@
 // Polygons in, of either byte order.
 
 ghost use mathlib.Core.Path.{_≡_};
-ghost use mathlib.Core.Bool.{true, false};
+ghost use mathlib.Core.Bool.{true, false, not};
 ghost use Prim.Native.Nat.{_+_, _*_, _≤_, _<_};
+ghost use lib.Dec.{T};
+ghost use lib.IntN.{pos, _-ℤ_};
 ghost use lib.ListN.{length};
-ghost use lib.Ieee.{binary64, ofBits};
+ghost use lib.Ieee.{binary64, ofBits, isNan};
 ghost use Rattle.polygon_ring.specs.Bytes.{numberIn, startsWith};
+ghost use Rattle.polygon.specs.Bytes.{bytesOf};
 ghost use Rattle.polygon_ring.specs.Coordinate.{wholeOf};
-ghost use Rattle.polygon_ring.specs.Ring.{both, orderOf};
+ghost use Rattle.polygon_ring.specs.Ring.{both, orderOf, pointIn, cornerIn, isFaulty};
 ghost use Rattle.polygon_ring_laws.specs.Reading.{PointIs};
+ghost use Rattle.polygon_ring_laws.specs.Nearest.{NearestIs, IsAccepted};
+ghost use Rattle.polygon_ring.specs.declared.Whole.{Whole};
+use grid::Corner;
+use polygon_put::millimetres;
 use polygon_ring::Order;
 use polygon_ring::Point;
 use polygon_ring::Spot;
@@ -80,6 +87,30 @@ pub fn number(s: &[u8], first_lowest: bool) -> u64
     if first_lowest { little(s) } else { big(s) }
 }
 
+// The number with the eight bytes of v in the other order.
+fn swapped(v: u64) -> u64
+    ensures { λ r. ⌜ r ≡ numberIn false (bytesOf 8 v) ⌝ }
+{
+    let mut r = 0u64;
+    let mut rest = v;
+    let mut i = 0usize;
+    while i < 8 {
+        r = r * 256 + rest % 256;
+        rest = rest / 256;
+        i += 1;
+    }
+    r
+}
+
+// The number with the eight bytes of s, in their order: they are read the lowest first, and swapped where that is the other order.
+fn eight(s: &[u8], first_lowest: bool) -> u64
+    requires { ⌜ length (now s) ≡ 8 ⌝ }
+    ensures { λ r. ⌜ r ≡ numberIn «first_lowest» (now (s .entry)) ⌝ }
+{
+    let v = little(s);
+    if first_lowest { v } else { swapped(v) }
+}
+
 // The float with these bits, a NaN for each NaN's pattern.
 pub fn float_of(bits: u64) -> f64
     ensures { λ r. ⌜ r ≡ ofBits binary64 bits ⌝ }
@@ -91,47 +122,43 @@ pub fn float_of(bits: u64) -> f64
     }
 }
 
-// The coordinate that the float with these bits is.
-pub fn whole_of_bits(bits: u64, most: u64) -> Whole
-    requires { ⌜ most ≤ 32768 ⌝ }
-    ensures { λ r. ⌜ r ≡ wholeOf most (ofBits binary64 bits) ⌝ }
+// The only coordinate that x can be, counted from -32,768: the sum with 2^52 + 600 * 32,768 has its whole part in its lowest bits.
+fn nearest(x: f64) -> u64
+    requires { ⌜ T (not (isNan x)) ⌝ }
+    ensures { λ r. ⌜ NearestIs x r ⌝ }
 {
-    let size = bits % 0x8000_0000_0000_0000;
-    if size == 0 {
-        return Whole::Of(0);
-    }
-    let field = size / 0x10_0000_0000_0000;
-    if field < 1023 {
-        return Whole::Refused;
-    }
-    if 1047 < field {
-        return Whole::Refused;
-    }
-    let unit = 600 * (1u64 << (1075 - field));
-    let digits = 0x10_0000_0000_0000 + bits % 0x10_0000_0000_0000;
-    if digits % unit != 0 {
-        return Whole::Refused;
-    }
-    let k = digits / unit;
-    if most < k {
-        return Whole::Refused;
-    }
-    if bits < 0x8000_0000_0000_0000 {
-        Whole::Of(k as i32)
-    } else {
-        Whole::Of(0 - (k as i32))
-    }
+    f64::to_bits(x + 4_503_599_647_031_296.0) % 0x400_0000 / 600
+}
+
+// The coordinate u, counted from 0.
+fn centred(u: u64) -> i32
+    requires { ⌜ u < 131072 ⌝ }
+    ensures { λ r. ⌜ r ≡ pos u -ℤ pos 32768 ⌝ }
+{
+    (u as i32) - 32768
 }
 
 // The coordinate that x is.
-pub fn whole_of(x: f64, most: u64) -> Whole
+fn whole_of(x: f64, most: u64) -> Whole
     requires { ⌜ most ≤ 32768 ⌝ }
     ensures { λ r. ⌜ r ≡ wholeOf most x ⌝ }
 {
     if x != x {
         return Whole::Refused;
     }
-    whole_of_bits(f64::to_bits(x), most)
+    let u = nearest(x);
+    if u + most < 32768 {
+        return Whole::Refused;
+    }
+    if 32768 + most < u {
+        return Whole::Refused;
+    }
+    let k = centred(u);
+    if millimetres(k) == x {
+        Whole::Of(k)
+    } else {
+        Whole::Refused
+    }
 }
 
 // What the point p is as a corner.
@@ -148,22 +175,30 @@ pub fn judge(p: Point, most: u64) -> Spot
     }
 }
 
-// The point at the start of s, the lowest byte of each number first.
-pub fn little_point(s: &[u8]) -> Point
+// The point at the start of s.
+pub fn point(s: &[u8], little: bool) -> Point
     requires { ⌜ 16 ≤ length (now s) ⌝ }
-    ensures { λ r. ⌜ PointIs true (now (s .entry)) r ⌝ }
+    ensures { λ r. ⌜ PointIs «little» (now (s .entry)) r ⌝ }
 {
-    let x = float_of(little(&s[0..8]));
-    let y = float_of(little(&s[8..16]));
+    let x = float_of(eight(&s[0..8], little));
+    let y = float_of(eight(&s[8..16], little));
     Point { x, y }
 }
 
-// The point at the start of s, the highest byte of each number first.
-pub fn big_point(s: &[u8]) -> Point
-    requires { ⌜ 16 ≤ length (now s) ⌝ }
-    ensures { λ r. ⌜ PointIs false (now (s .entry)) r ⌝ }
+// The coordinate that the eight bytes of s are, where they were accepted before.
+fn known(s: &[u8], little: bool) -> i32
+    requires { ⌜ (length (now s) ≡ 8) × IsAccepted (ofBits binary64 (numberIn «little» (now s))) ⌝ }
+    ensures { λ r. ⌜ Whole.Of r ≡ wholeOf 32768 (ofBits binary64 (numberIn «little» (now (s .entry)))) ⌝ }
 {
-    let x = float_of(big(&s[0..8]));
-    let y = float_of(big(&s[8..16]));
-    Point { x, y }
+    centred(nearest(f64::from_bits(eight(s, little))))
+}
+
+// The corner that the point at the start of s is, where it was accepted before.
+pub fn corner(s: &[u8], little: bool) -> Corner
+    requires { ⌜ (16 ≤ length (now s)) × (isFaulty (pointIn 32768 «little» (now s)) ≡ false) ⌝ }
+    ensures { λ r. ⌜ r ≡ cornerIn (pointIn 32768 «little» (now (s .entry))) ⌝ }
+{
+    let x = known(&s[0..8], little);
+    let y = known(&s[8..16], little);
+    Corner(x, y)
 }

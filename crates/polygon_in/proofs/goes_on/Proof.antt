@@ -11,10 +11,10 @@ is-straight-requires : tie.Need-is-straight-requires
 is-straight-requires c κs = search needs
 
 returns : tie.Need-returns
-returns c = let s = c .before .before in c .is-straight .ensures ∙ sym (ap (λ (b : Bool). b && straight (s .args .a) (s .args .b)) (c .before .if1 .taken))
+returns c = let s = c .before .before in c .before .is-straight .ensures ∙ sym (ap (λ (b : Bool). b && straight (s .args .a) (s .args .b)) (c .if1 .taken))
 
 returns-2 : tie.Need-returns-2
-returns-2 c = let s = c .before in sym (ap (λ (b : Bool). b && straight (s .args .a) (s .args .b)) (c .if1 .left))
+returns-2 c = let s = c .before .before in sym (ap (λ (b : Bool). b && straight (s .args .a) (s .args .b)) (c .if1 .left))
 
 pub goes-on-spec : {M : Type 1} → statement M
 goes-on-spec = tie.close (tie.spec is-straight-requires returns returns-2)

@@ -23,8 +23,8 @@ abbrev μ-loop : tie.MeasureT-loop
 returns : tie.Need-returns Inv-loop μ-loop
 returns c = let s = c .before .before in measured-none (s .args .little) (s .args .points .now) (s .args .n) (c .if1 .taken)
 
-point-at-requires : tie.Need-point-at-requires Inv-loop μ-loop
-point-at-requires c κs = search needs
+first-at-requires : tie.Need-first-at-requires Inv-loop μ-loop
+first-at-requires c κs = search needs
 
 is-faulty-requires : tie.Need-is-faulty-requires Inv-loop μ-loop
 is-faulty-requires c κs = search needs
@@ -34,7 +34,7 @@ returns-2 c =
     let s = c .before .before .before .before .before in
     let b = c .before .is-faulty in
     measured-faulty (pointsFrom (s .args .little) (s .args .points .now) 0 (s .args .n))
-    (faulty-found (s .args .little) (s .args .points .now) 0 (s .args .n) (b .result) (omega (arith, c .before .before .before .if1 .left)) (b .ensures ∙ ap isFaulty (c .before .before .point-at .ensures)) (c .if2 .taken) (faulty-first (s .args .little) (s .args .points .now) (s .args .n)))
+    (faulty-found (s .args .little) (s .args .points .now) 0 (s .args .n) (b .result) (omega (arith, c .before .before .before .if1 .left)) (b .ensures ∙ ap isFaulty (c .before .before .first-at .ensures)) (c .if2 .taken) (faulty-first (s .args .little) (s .args .points .now) (s .args .n)))
 
 corner-in-requires : tie.Need-corner-in-requires Inv-loop μ-loop
 corner-in-requires c κs = search needs
@@ -42,12 +42,12 @@ corner-in-requires c κs = search needs
 loop-holds : tie.Need-loop-holds Inv-loop μ-loop
 loop-holds c =
     let s = c .before .before .before .before .before .before in
-    let p = c .before .before .before .point-at in
+    let p = c .before .before .before .first-at in
     let b = c .before .before .is-faulty in
     measuring-first (s .args .little) (s .args .points .now) (s .args .n) (b .result) (c .corner-in .result) (omega (arith, c .before .before .before .before .if1 .left)) (b .ensures ∙ ap isFaulty (p .ensures)) (c .before .if2 .left) (c .corner-in .ensures ∙ ap cornerIn (p .ensures))
 
-point-at-requires-2 : tie.Need-point-at-requires-2 Inv-loop μ-loop
-point-at-requires-2 c κs = search needs
+later-at-requires : tie.Need-later-at-requires Inv-loop μ-loop
+later-at-requires c κs = (omega (arith, c .before .loop .inv .some), omega arith)
 
 enum-told : tie.Need-enum-told Inv-loop μ-loop
 enum-told c = search needs
@@ -57,7 +57,7 @@ returns-3 c =
     let s = c .before .before .before .before .before .before .before .before .before .before .before in
     let at = c .before .before .before .before .loop in
     measured-faulty (pointsFrom (s .args .little) (s .args .points .now) 0 (s .args .n))
-    (faulty-found (s .args .little) (s .args .points .now) (at .i) (s .args .n) true (c .before .before .before .loop-test .taken) (ap isFaulty (sym (c .enum-told .given .1) ∙ c .before .before .point-at2 .ensures)) refl (at .inv .sound))
+    (faulty-found (s .args .little) (s .args .points .now) (at .i) (s .args .n) true (c .before .before .before .loop-test .taken) (ap isFaulty (sym (c .enum-told .given .1) ∙ c .before .before .later-at .ensures)) refl (at .inv .sound))
 
 enum-known-x : tie.Need-enum-known-x Inv-loop μ-loop
 enum-known-x c = search needs
@@ -70,7 +70,7 @@ goes-on-requires c κs =
     let s = c .before .before .before .before .before .before .before .before .before .before .before .before .before in
     let at = c .before .before .before .before .before .before .loop in
     let x = c .before .before .x .given in
-    let e = c .corner-of .ensures ∙ ap₂ corner (back (x .0 .0) (c .before .known-told .given .0 .1)) (back (x .0 .1 .0) (c .before .known-told .given .1 .0 .1)) ∙ ap cornerIn (sym (x .1) ∙ c .before .before .before .before .point-at2 .ensures) in
+    let e = c .corner-of .ensures ∙ ap₂ corner (back (x .0 .0) (c .before .known-told .given .0 .1)) (back (x .0 .1 .0) (c .before .known-told .given .1 .0 .1)) ∙ ap cornerIn (sym (x .1) ∙ c .before .before .before .before .later-at .ensures) in
     (measuring-near (at .inv), near-of (s .args .little) (s .args .points .now) (at .i) (c .corner-of .result) e)
 
 distance-requires : tie.Need-distance-requires Inv-loop μ-loop
@@ -78,7 +78,7 @@ distance-requires c κs =
     let s = c .before .before .before .before .before .before .before .before .before .before .before .before .before .before in
     let at = c .before .before .before .before .before .before .before .loop in
     let x = c .before .before .before .x .given in
-    let e = c .before .corner-of .ensures ∙ ap₂ corner (back (x .0 .0) (c .before .before .known-told .given .0 .1)) (back (x .0 .1 .0) (c .before .before .known-told .given .1 .0 .1)) ∙ ap cornerIn (sym (x .1) ∙ c .before .before .before .before .before .point-at2 .ensures) in
+    let e = c .before .corner-of .ensures ∙ ap₂ corner (back (x .0 .0) (c .before .before .known-told .given .0 .1)) (back (x .0 .1 .0) (c .before .before .known-told .given .1 .0 .1)) ∙ ap cornerIn (sym (x .1) ∙ c .before .before .before .before .before .later-at .ensures) in
     (measuring-near (at .inv), near-of (s .args .little) (s .args .points .now) (at .i) (c .before .corner-of .result) e)
 
 add-cap : tie.Need-add-cap Inv-loop μ-loop
@@ -86,7 +86,7 @@ add-cap c =
     let s = c .before .before .before .before .before .before .before .before .before .before .before .before .before .before .before in
     let at = c .before .before .before .before .before .before .before .before .loop in
     let x = c .before .before .before .before .x .given in
-    let e = c .before .before .corner-of .ensures ∙ ap₂ corner (back (x .0 .0) (c .before .before .before .known-told .given .0 .1)) (back (x .0 .1 .0) (c .before .before .before .known-told .given .1 .0 .1)) ∙ ap cornerIn (sym (x .1) ∙ c .before .before .before .before .before .before .point-at2 .ensures) in
+    let e = c .before .before .corner-of .ensures ∙ ap₂ corner (back (x .0 .0) (c .before .before .before .known-told .given .0 .1)) (back (x .0 .1 .0) (c .before .before .before .known-told .given .1 .0 .1)) ∙ ap cornerIn (sym (x .1) ∙ c .before .before .before .before .before .before .later-at .ensures) in
     record { fits = omega (arith, at .inv .small, c .distance .ensures, apart-le (at .a) (c .before .before .corner-of .result) (measuring-near (at .inv)) (near-of (s .args .little) (s .args .points .now) (at .i) (c .before .before .corner-of .result) e)) }
 
 cap-requires : tie.Need-cap-requires Inv-loop μ-loop
@@ -103,9 +103,9 @@ loop-again c =
     let s = c .before .before .before .before .before .before .before .before .before .before .before .before .before .before .before .before in
     let at = c .before .before .before .before .before .before .before .before .before .loop in
     let x = c .before .before .before .before .before .x .given in
-    let e = c .before .before .before .corner-of .ensures ∙ ap₂ corner (back (x .0 .0) (c .before .before .before .before .known-told .given .0 .1)) (back (x .0 .1 .0) (c .before .before .before .before .known-told .given .1 .0 .1)) ∙ ap cornerIn (sym (x .1) ∙ c .before .before .before .before .before .before .before .point-at2 .ensures) in
+    let e = c .before .before .before .corner-of .ensures ∙ ap₂ corner (back (x .0 .0) (c .before .before .before .before .known-told .given .0 .1)) (back (x .0 .1 .0) (c .before .before .before .before .known-told .given .1 .0 .1)) ∙ ap cornerIn (sym (x .1) ∙ c .before .before .before .before .before .before .before .later-at .ensures) in
     measuring-more (s .args .little) (s .args .points .now) (s .args .n) (at .a) (c .before .before .before .corner-of .result) (at .line) (at .steps) (at .i) (c .before .before .before .before .before .before .before .before .loop-test .taken) e (at .inv)
-    false (c .before .before .goes-on .result) (c .before .distance .result) (c .cap .result) (ap isFaulty (sym (x .1) ∙ c .before .before .before .before .before .before .before .point-at2 .ensures)) refl (c .before .before .goes-on .ensures) (c .before .distance .ensures) (c .cap .ensures)
+    false (c .before .before .goes-on .result) (c .before .distance .result) (c .cap .result) (ap isFaulty (sym (x .1) ∙ c .before .before .before .before .before .before .before .later-at .ensures)) refl (c .before .before .goes-on .ensures) (c .before .distance .ensures) (c .cap .ensures)
 
 closed-requires : tie.Need-closed-requires Inv-loop μ-loop
 closed-requires c κs = search needs
@@ -115,8 +115,8 @@ returns-4 c =
     let s = c .before .before .before .before .before .before .before .before .before in
     let at = c .before .before .loop in
     let f = c .before .before .before .corner-in in
-    measured-whole (s .args .little) (s .args .points .now) (s .args .n) (f .result) (at .a) (at .line) (at .steps) (c .closed .result)
-    (measuring-last (s .args .little) (s .args .points .now) (s .args .n) (f .result) (at .a) (at .line) (at .steps) (at .i) (omega (arith, c .before .loop-test .left)) (f .ensures ∙ ap cornerIn (c .before .before .before .before .before .before .point-at .ensures)) (at .inv))
+    measured-whole (s .args .little) (s .args .points .now) (s .args .n) (f .result) (at .a) (at .line) (at .steps) (c .closed .result) (omega (arith, at .inv .some, at .inv .within)) (f .ensures ∙ ap cornerIn (c .before .before .before .before .before .before .first-at .ensures))
+    (measuring-last (s .args .little) (s .args .points .now) (s .args .n) (f .result) (at .a) (at .line) (at .steps) (at .i) (omega (arith, c .before .loop-test .left)) (f .ensures ∙ ap cornerIn (c .before .before .before .before .before .before .first-at .ensures)) (at .inv))
     (c .closed .ensures)
 
 pub measure-spec : {M : Type 1} → statement M
@@ -126,12 +126,12 @@ measure-spec =
     Inv-loop
     μ-loop
     returns
-    point-at-requires
+    first-at-requires
     is-faulty-requires
     returns-2
     corner-in-requires
     loop-holds
-    point-at-requires-2
+    later-at-requires
     enum-told
     returns-3
     enum-known-x

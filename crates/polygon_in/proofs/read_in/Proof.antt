@@ -1,12 +1,13 @@
 -- `polygon_in::read_in` meets its contract.
 -- Assumes nothing.
 use borrow.Author.Needs.{needs}
-use Rattle.polygon_ring_laws.proofs.RingLaws.{part-room}
-use Rattle.polygon_ring_laws.proofs.ReadLaws.{read-uneven, ready, read-written, read-kept}
 use native.Mathlib.Omega.{arith}
 use Prim.Native.Nat.{_-_, _*_, _/_}
 use lib.ListN.{length}
-use mathlib.Core.Path.{refl}
+use mathlib.Core.Path.{refl, sym, _∙_}
+use Rattle.polygon_ring.specs.declared.Given.{Given}
+use Rattle.polygon_ring_laws.proofs.RingLaws.{part-room}
+use Rattle.polygon_ring_laws.proofs.ReadLaws.{read-uneven, ready, read-written, read-kept}
 use Rattle.polygon_in.proofs.read_in.Statement.{statement}
 use Rattle.polygon_in.proofs.read_in.Tie as tie
 
@@ -14,7 +15,10 @@ is-whole-requires : tie.Need-is-whole-requires
 is-whole-requires c κs = search needs
 
 returns : tie.Need-returns
-returns c = let s = c .before .before .before .before in read-uneven (s .args .little) (s .args .file .now) (c .before .is-whole .result) (c .before .is-whole .ensures) (s .args .chain .now) (c .if1 .taken)
+returns c =
+    let s = c .before .before .before .before in
+    let w = c .before .is-whole in
+    read-uneven (s .args .little) (s .args .file .now) (w .result) (w .ensures) (s .args .chain .now) (c .if1 .taken)
 
 sub-n : tie.Need-sub-n
 sub-n c = search needs
@@ -31,8 +35,8 @@ part-survey-end c = search needs
 survey-requires : tie.Need-survey-requires
 survey-requires c κs = search needs
 
-enum-told : tie.Need-enum-told
-enum-told c = search needs
+enum-known-given : tie.Need-enum-known-given
+enum-known-given c = search needs
 
 sub-put-chain : tie.Need-sub-put-chain
 sub-put-chain c = search needs
@@ -44,26 +48,34 @@ part-put-chain-end : tie.Need-part-put-chain-end
 part-put-chain-end c = search needs
 
 put-chain-requires : tie.Need-put-chain-requires
-put-chain-requires c κs = let s = c .before .before .before .before .before .before .before .before .before .before in
-    let v = c .before .before .before .before .survey in
-    let w = ready (s .args .little) (s .args .file .now) (c .before .before .before .before .before .before .before .is-whole .result) (c .before .before .before .before .before .before .before .is-whole .ensures) (c .before .before .before .before .before .before .if1 .left) (length (s .args .chain .now)) (v .result) (v .ensures) _ (c .before .before .enum-told .given .1) in
-    (part-room (s .args .file .now) 13 (16 * ((length (s .args .file .now) - 13) / 16)) (omega (arith, s .pre)), w .0, w .1)
+put-chain-requires c κs =
+    let s = c .before .before .before .before .before .before .before .before .before .before .before .before in
+    let v = c .before .before .before .before .before .before .survey in
+    let w = c .before .before .before .before .before .before .before .before .before .is-whole in
+    let x = c .before .before .before .before .given .given in
+    let r = ready (s .args .little) (s .args .file .now) (w .result) (w .ensures) (c .before .before .before .before .before .before .before .before .if1 .left) (length (s .args .chain .now)) (v .result) (v .ensures) (x .0 .0) (x .1) in
+    (part-room (s .args .file .now) 13 (16 * ((length (s .args .file .now) - 13) / 16)) (omega (arith, s .pre)), r .0, r .1, r .2, r .3)
 
-enum-told-2 : tie.Need-enum-told-2
-enum-told-2 c = search needs
+enum-told : tie.Need-enum-told
+enum-told c = search needs
 
 same-length : tie.Need-same-length
 same-length c = search needs
 
 returns-2 : tie.Need-returns-2
-returns-2 c = let s = c .before .before .before .before .before .before .before .before .before .before .before .before .before in
-    let v = c .before .before .before .before .before .before .before .survey in
-    read-written (s .args .little) (s .args .file .now) (c .before .before .before .before .before .before .before .before .before .before .is-whole .result) (c .before .before .before .before .before .before .before .before .before .before .is-whole .ensures) (c .before .before .before .before .before .before .before .before .before .if1 .left) (length (s .args .chain .now)) (v .result) (v .ensures) (s .args .chain .now) (c .before .before .put-chain .last .1 .1 .1 .0) _ refl (c .before .before .before .before .before .enum-told .given .1) (c .before .before .put-chain .ensures)
+returns-2 c =
+    let s = c .before .before .before .before .before .before .before .before .before .before .before .before .before .before .before in
+    let v = c .before .before .before .before .before .before .before .before .before .survey in
+    let w = c .before .before .before .before .before .before .before .before .before .before .before .before .is-whole in
+    let x = c .before .before .before .before .before .before .before .given .given in
+    read-written (s .args .little) (s .args .file .now) (w .result) (w .ensures) (c .before .before .before .before .before .before .before .before .before .before .before .if1 .left) (length (s .args .chain .now)) (Given.Chain (x .0 .0)) (sym (x .1) ∙ v .ensures) (s .args .chain .now) (c .before .before .put-chain .last .1 .1 .1 .1 .0) (x .0 .0) refl refl (c .before .before .put-chain .ensures)
 
 returns-3 : tie.Need-returns-3
-returns-3 c = let s = c .before .before .before .before .before .before .before .before in
+returns-3 c =
+    let s = c .before .before .before .before .before .before .before .before in
     let v = c .before .before .survey in
-    read-kept (s .args .little) (s .args .file .now) (c .before .before .before .before .before .is-whole .result) (c .before .before .before .before .before .is-whole .ensures) (c .before .before .before .before .if1 .left) (length (s .args .chain .now)) (v .result) (v .ensures) (s .args .chain .now) (c .enum-told2 .given .0 .0) refl (c .enum-told2 .given .1)
+    let w = c .before .before .before .before .before .is-whole in
+    read-kept (s .args .little) (s .args .file .now) (w .result) (w .ensures) (c .before .before .before .before .if1 .left) (length (s .args .chain .now)) (v .result) (v .ensures) (s .args .chain .now) (c .enum-told .given .0 .0) refl (c .enum-told .given .1)
 
 pub read-in-spec : {M : Type 1} → statement M
 read-in-spec =
@@ -76,12 +88,12 @@ read-in-spec =
     part-survey-start
     part-survey-end
     survey-requires
-    enum-told
+    enum-known-given
     sub-put-chain
     part-put-chain-start
     part-put-chain-end
     put-chain-requires
-    enum-told-2
+    enum-told
     same-length
     returns-2
     returns-3)

@@ -2,26 +2,84 @@
 -- Assumes nothing.
 use borrow.Author.Needs.{needs}
 use mathlib.Core.Path.{sym, ap, _∙_, subst}
+use native.Mathlib.Omega.{arith}
+use mathlib.Core.Logic.{inl, inr}
 use lib.Dec.{T}
-use lib.Ieee.{binary64}
-use lib.Ieee.Bits.{ofBits-toBits}
+use lib.Ieee.{Float, eq}
 use lib.Ieee.Compare.{differs-from-itself}
+use Rattle.polygon.specs.Coordinate.{coordinateOf}
+use Rattle.polygon_laws.proofs.SignedLaws.{back}
+use Rattle.polygon_ring.specs.declared.Whole.the-variants.{Of}
+use Rattle.polygon_ring_laws.proofs.SignLaws.{back-le}
 use Rattle.polygon_ring.specs.Coordinate.{wholeOf}
 use Rattle.polygon_ring_laws.proofs.WholeLaws.{not-nan, wholeOf-nan}
+use Rattle.polygon_ring_laws.proofs.NearestLaws.{centred-le, refused-far, refused-other, accepted-same}
 use Rattle.polygon_take.proofs.whole_of.Statement.{statement}
 use Rattle.polygon_take.proofs.whole_of.Tie as tie
 
 returns : tie.Need-returns
 returns c = sym (ap (wholeOf (c .before .args .most)) (differs-from-itself (c .before .args .x) (subst T (sym (c .if1 .taken)) tt)) ∙ wholeOf-nan (c .before .args .most))
 
-float-to-bits-whole-of-bits : tie.Need-float-to-bits-whole-of-bits
-float-to-bits-whole-of-bits c = not-nan (c .before .args .x) (c .if1 .left)
+nearest-requires : tie.Need-nearest-requires
+nearest-requires c κs = not-nan (c .before .args .x) (c .if1 .left)
 
-whole-of-bits-requires : tie.Need-whole-of-bits-requires
-whole-of-bits-requires c κs = search needs
+add-if2 : tie.Need-add-if2
+add-if2 c = search needs
 
 returns-2 : tie.Need-returns-2
-returns-2 c = c .whole-of-bits .ensures ∙ ap (wholeOf (c .before .before .args .most)) (ofBits-toBits binary64 (c .before .before .args .x) (subst T (sym (c .before .before .good .0 .1)) tt))
+returns-2 c =
+    let s = c .before .before .before in
+    let u = c .before .nearest in
+    refused-far (s .args .most) (s .pre) (s .args .x) (u .result) (u .ensures) (inl (omega (arith, c .if2 .taken)))
+
+add-if3 : tie.Need-add-if3
+add-if3 c = search needs
+
+returns-3 : tie.Need-returns-3
+returns-3 c =
+    let s = c .before .before .before .before in
+    let u = c .before .before .nearest in
+    refused-far (s .args .most) (s .pre) (s .args .x) (u .result) (u .ensures) (inr (omega (arith, c .if3 .taken)))
+
+centred-requires : tie.Need-centred-requires
+centred-requires c κs = search needs
+
+millimetres-requires : tie.Need-millimetres-requires
+millimetres-requires c κs =
+    let s = c .before .before .before .before .before in
+    let u = c .before .before .before .nearest in
+    back-le (c .centred .result) (centred-le (c .centred .result) (u .result) 32768 (c .centred .ensures) (omega (arith, s .pre)) (omega (arith, s .pre)))
+
+returns-4 : tie.Need-returns-4
+returns-4 c =
+    let s = c .before .before .before .before .before .before .before in
+    let u = c .before .before .before .before .before .nearest in
+    let k = c .before .before .centred in
+    let l = centred-le (k .result) (u .result) (s .args .most) (k .ensures) (omega arith) (omega arith) in
+    ap Of (back (k .result) (omega (arith, l, s .pre)))
+    ∙ accepted-same (s .args .most) (s .pre) (s .args .x) (u .result) (u .ensures) (k .result) l
+    (ap (λ (y : Float). eq y (s .args .x)) (sym (c .before .millimetres .ensures ∙ ap coordinateOf (back (k .result) (omega (arith, l, s .pre))))) ∙ c .if4 .taken)
+
+returns-5 : tie.Need-returns-5
+returns-5 c =
+    let s = c .before .before .before .before .before .before .before in
+    let u = c .before .before .before .before .before .nearest in
+    let k = c .before .before .centred in
+    let l = centred-le (k .result) (u .result) (s .args .most) (k .ensures) (omega arith) (omega arith) in
+    refused-other (s .args .most) (s .pre) (s .args .x) (u .result) (u .ensures) (k .result) (k .ensures)
+    (ap (λ (y : Float). eq y (s .args .x)) (sym (c .before .millimetres .ensures ∙ ap coordinateOf (back (k .result) (omega (arith, l, s .pre))))) ∙ c .if4 .left)
 
 pub whole-of-spec : {M : Type 1} → statement M
-whole-of-spec = tie.close (tie.spec returns float-to-bits-whole-of-bits whole-of-bits-requires returns-2)
+whole-of-spec =
+    tie.close
+    (tie.spec
+    returns
+    nearest-requires
+    add-if2
+    returns-2
+    add-if3
+    returns-3
+    centred-requires
+    millimetres-requires
+    returns-4
+    returns-5)

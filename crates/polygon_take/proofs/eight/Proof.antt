@@ -1,0 +1,28 @@
+-- `polygon_take::eight` meets its contract.
+-- Assumes nothing.
+use borrow.Author.Needs.{needs}
+use mathlib.Core.Path.{sym, ap, _∙_}
+use mathlib.Core.Bool.{Bool}
+use Rattle.polygon_ring.specs.Bytes.{numberIn}
+use Rattle.polygon_ring_laws.proofs.NumberLaws.{eight-swapped}
+use Rattle.polygon_take.proofs.eight.Statement.{statement}
+use Rattle.polygon_take.proofs.eight.Tie as tie
+
+little-requires : tie.Need-little-requires
+little-requires c κs = search needs
+
+swapped-requires : tie.Need-swapped-requires
+swapped-requires c κs = search needs
+
+returns : tie.Need-returns
+returns c = c .before .little .ensures ∙ ap (λ (b : Bool). numberIn b (c .before .before .before .args .s .now)) (sym (c .if1 .taken))
+
+returns-2 : tie.Need-returns-2
+returns-2 c =
+    let s = c .before .before .before .before in
+    c .swapped .ensures
+    ∙ eight-swapped (s .args .s .now) (c .before .before .little .result) (s .pre) (λ i. c .before .before .before .shared-slice-known .given i .fits) (c .before .before .little .ensures)
+    ∙ ap (λ (b : Bool). numberIn b (s .args .s .now)) (sym (c .before .if1 .left))
+
+pub eight-spec : {M : Type 1} → statement M
+eight-spec = tie.close (tie.spec little-requires swapped-requires returns returns-2)
