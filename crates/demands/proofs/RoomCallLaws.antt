@@ -1,22 +1,21 @@
 -- The judgements of the calls on a room are given on their occasions and on no other; the promise of the polygon's call taken apart.
 -- Assumes nothing.
-use mathlib.Core.Bool.{Bool, true, false, not, _&&_, false≢true}
+use mathlib.Core.Bool.{Bool, true, false, not, false≢true}
 use mathlib.Core.List.{List, _++_, List·Memᴰ}
 use mathlib.Core.Logic.{_⊎_, _↔_, ⊎-elim}
-use mathlib.Core.Path.{_≡_, refl, ap, ap₂, sym, _∙_, subst}
+use mathlib.Core.Path.{_≡_, refl, ap, sym, _∙_, subst}
 use Prim.Native.Nat.{ℕ, _+_, _*_, _≤_}
 use native.Mathlib.Decide.{decLt}
 use native.Mathlib.Omega.{arith}
-use borrow.Author.Tests.{lt-ltb, le-ltb, le-leb}
+use borrow.Author.Tests.{lt-ltb, le-ltb}
 use lib.Dec.{ltb}
-use lib.IntN.{natAbs}
 use lib.ListN.{length, getD, drop}
 use Rattle.answer.specs.declared.Counted.{Counted}
 use Rattle.answer.specs.declared.Judged.{Judged}
 use Rattle.answer.specs.declared.Judged.the-variants.{Good, Refused}
 use Rattle.answer.specs.declared.Refusal.{Refusal}
 use Rattle.answer.specs.declared.Refusal.the-variants.{TooMany, StartRange, BadDigit, TooLong, NotRoom, PolygonRoom}
-use Rattle.answer.specs.Limits.{mostInput, mostStart, Near, startFits}
+use Rattle.answer.specs.Limits.{mostInput, Near, startFits}
 use Rattle.answer.specs.Refusal.{when, orElse}
 use Rattle.grid.specs.declared.Corner.{Corner}
 use Rattle.steps.specs.Turns.{writtenIf}
@@ -28,6 +27,7 @@ use Rattle.polygon.specs.Polygon.{pointsOf, polygonOf, polygonJudged, PolygonCa
 use Rattle.polygon_laws.proofs.PointLaws.{Exact, points-exact}
 use Rattle.polygon_laws.proofs.WriteLaws.{room-drawable, polygon-few}
 use Rattle.answer.proofs.RefusalLaws.{orElse-good, orElse-right}
+use Rattle.answer.proofs.StartLaws.{near-fits}
 use Rattle.demands.specs.Given.{First}
 use Rattle.demands.specs.GivenTurns.{AboveThreeAt}
 use Rattle.demands.specs.GivenHull.{StepAt, StepTooManyAt}
@@ -37,9 +37,6 @@ use Rattle.demands.proofs.FirstLaws.{all-or-first}
 use Rattle.demands.proofs.DigitLaws.{none-from, first-from, step-none, step-above, step-long, at-most, step-or-fault, count-refused, count-good}
 
 -- ---- a start and a chain as a room
-
-in-range : (s : Corner) → Near s → startFits s ≡ true
-in-range s h = ap₂ _&&_ (le-leb (natAbs (s .0)) mostStart (h .0)) (le-leb (natAbs (s .1)) mostStart (h .1))
 
 not-in-range : (s : Corner) → (Near s → ⊥) → startFits s ≡ false
 not-in-range s f = go (startFits s) refl
@@ -62,19 +59,19 @@ module _ (s : Corner) (ds : List ℕ) where
   given-room : (j : Judged) → GivenRoom s ds j → asRoomJudged s ds ≡ j
   given-room _ (given.tooMany h) = judged-many s ds h
   given-room _ (given.startRange h f) = judged-range s ds h (not-in-range s f)
-  given-room _ (given.badDigit i h n f) = judged-fault s ds h (in-range s n) (BadDigit i) (fault-first (AboveThreeAt ds) i (BadDigit i) f (step-above s ds 0 0 i (getD ds i 0) (f .here)))
+  given-room _ (given.badDigit i h n f) = judged-fault s ds h (near-fits s n) (BadDigit i) (fault-first (AboveThreeAt ds) i (BadDigit i) f (step-above s ds 0 0 i (getD ds i 0) (f .here)))
   given-room _ (given.tooLong i h n f) =
-      judged-fault s ds h (in-range s n) (TooLong i)
+      judged-fault s ds h (near-fits s n) (TooLong i)
       (fault-first (StepTooManyAt ds) i (TooLong i) f (step-long s ds 0 0 i (getD ds i 0) (f .here .0) (at-most s ds 0 0 i (f .before) (f .here .1))))
-  given-room _ (given.notRoom h n f r) = judged-room s ds h (in-range s n) (no-fault f) ∙ no-room (isRoom s ds) refl r
-  given-room _ (given.isRoom h n f r) = judged-room s ds h (in-range s n) (no-fault f) ∙ ap (λ (b : Bool). when (not b) NotRoom) (isRoom-exactly s ds .1 r)
+  given-room _ (given.notRoom h n f r) = judged-room s ds h (near-fits s n) (no-fault f) ∙ no-room (isRoom s ds) refl r
+  given-room _ (given.isRoom h n f r) = judged-room s ds h (near-fits s n) (no-fault f) ∙ ap (λ (b : Bool). when (not b) NotRoom) (isRoom-exactly s ds .1 r)
 
   by-steps : length ds ≤ mostInput → Near s → AllSteps ds → (b : Bool) → isRoom s ds ≡ b → (j : Judged) × GivenRoom s ds j
   by-steps h n f true e = (Good, given.isRoom h n f (isRoom-exactly s ds .0 e))
   by-steps h n f false e = (Refused NotRoom, given.notRoom h n f (λ r. false≢true (sym e ∙ isRoom-exactly s ds .1 r)))
 
   by-start : length ds ≤ mostInput → (b : Bool) → startFits s ≡ b → (j : Judged) × GivenRoom s ds j
-  by-start h false e = (Refused StartRange, given.startRange h (λ n. false≢true (sym e ∙ in-range s n)))
+  by-start h false e = (Refused StartRange, given.startRange h (λ n. false≢true (sym e ∙ near-fits s n)))
   by-start h true e =
       let n = start-near s e in
       ⊎-elim
