@@ -22,7 +22,7 @@ ghost use Rattle.line_stream.specs.Stream.{isLong};
 ghost use Rattle.line_convert.specs.Convert.{ConvertedIs, namesTurns};
 
 // Writes the bytes s from the place at on. Answers the place after them.
-fn copy(s: &[u8], out: &mut [u8], at: usize) -> usize
+pub fn copy(s: &[u8], out: &mut [u8], at: usize) -> usize
     requires { ⌜ at + length (now s) ≤ length (now out) ⌝ }
     ensures { λ e. ⌜ Wrote (now (s .entry)) at (now (out .entry)) e (now (out .exit)) ⌝ }
 {

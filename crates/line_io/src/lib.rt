@@ -1,21 +1,25 @@
 // The programs on lines: the rounds that they go, reading and writing, and saying how they ended.
 use libc::STDIN_FILENO;
-use libc::STDOUT_FILENO;
+use line_send::Sent;
+use line_send::send;
 use line_stream::Progress;
 use lines::Task;
+use sheet::Margin;
+use sheet_number::Numbered;
 ghost use mathlib.Core.Path.{_≡_};
 ghost use Prim.Native.Nat.{_≤_};
 ghost use lib.ListN.{length, take};
 ghost use Rattle.line_frame.specs.Sizes.{mostHeld};
 ghost use Rattle.line_fields.specs.Put.{put};
 ghost use Rattle.line_stream.specs.Stream.{mostPart};
+ghost use Rattle.sheet_number.specs.Numbered.{mostPage};
 ghost use Rattle.lines.specs.Tasks.{mostTold, jobOf};
 ghost use Rattle.line_io.specs.Round.{ReadOn, PassedOn, RoundIs};
 
-// After a round: how far the chunk was passed, and how many bytes it has; or the input is over with so many bytes of a line held; or a
-// read or a write failed.
+// After a round: how far the chunk was passed, how many bytes it has, and where the sheet stands; or the input is over with so many bytes
+// of a line held; or a read or a write failed.
 enum Round {
-    More(Progress, usize),
+    More(Progress, usize, Margin),
     Over(usize),
     Unread,
     Unwritten,
@@ -31,9 +35,9 @@ enum Ended {
 // A program has no exit status, so it says on this descriptor how it ended.
 const WORD_FILENO: i32 = 3;
 
-// Reads the next chunk, with so many bytes of a line held.
-fn read_on(held: usize, buf: &mut [u8]) -> Round
-    ensures { λ r. ⌜ ReadOn held (length (now (buf .exit))) r ⌝ }
+// Reads the next chunk, with so many bytes of a line held, where the sheet stands at m.
+fn read_on(held: usize, buf: &mut [u8], m: Margin) -> Round
+    ensures { λ r. ⌜ ReadOn held (length (now (buf .exit))) m r ⌝ }
 {
     let got = libc::read(STDIN_FILENO, buf);
     if got < 0 {
@@ -48,21 +52,31 @@ fn read_on(held: usize, buf: &mut [u8]) -> Round
         at: 0,
         used: 0,
     };
-    Round::More(begun, n)
+    Round::More(begun, n, m)
 }
 
-// Passes lines of the chunk from at on, as far as the output has room, and writes what is written of them.
-fn pass(task: Task, line: &mut [u8], held: usize, s: &[u8], at: usize, out: &mut [u8]) -> Round
+// Passes lines of the chunk from at on, as far as the output has room, and hands on what is written of them.
+fn pass(
+    task: Task,
+    line: &mut [u8],
+    held: usize,
+    s: &[u8],
+    at: usize,
+    out: &mut [u8],
+    m: Margin,
+    page: &mut [u8],
+) -> Round
     requires { ⌜ (held ≤ mostHeld) × (length (now line) ≡ mostHeld) ⌝ }
     requires { ⌜ (at ≤ length (now s)) × (length (now s) ≤ mostPart) ⌝ }
-    ensures { λ r. ⌜ PassedOn (jobOf task) (now (line .entry)) held (now (s .entry)) at (now (out .entry)) r (now (line .exit)) (now (out .exit)) ⌝ }
+    requires { ⌜ length (now page) ≡ mostPage ⌝ }
+    ensures { λ r. ⌜ PassedOn task (now (line .entry)) held (now (s .entry)) at (now (out .entry)) m r (now (line .exit)) (now (out .exit)) ⌝ }
 {
     let p = lines::fill(task, line, held, s, at, out);
     let used = p.used;
-    if !io::write_all(STDOUT_FILENO, &out[..used]) {
-        return Round::Unwritten;
+    match send(task, m, &out[..used], page) {
+        Sent::At(q) => Round::More(p, s.len(), q),
+        Sent::Unwritten => Round::Unwritten,
     }
-    Round::More(p, s.len())
 }
 
 // Passes lines of the chunk, the first n bytes of buf, or reads the next one if it is passed.
@@ -73,32 +87,40 @@ fn go_round(
     buf: &mut [u8],
     n: usize,
     out: &mut [u8],
+    m: Margin,
+    page: &mut [u8],
 ) -> Round
     requires { ⌜ (p .held ≤ mostHeld) × (length (now line) ≡ mostHeld) ⌝ }
     requires { ⌜ (n ≤ length (now buf)) × (length (now buf) ≤ mostPart) ⌝ }
-    ensures { λ r. ⌜ RoundIs (jobOf task) (now (line .entry)) p (now (buf .entry)) n (now (out .entry)) r (now (line .exit)) (now (buf .exit)) (now (out .exit)) ⌝ }
+    requires { ⌜ length (now page) ≡ mostPage ⌝ }
+    ensures { λ r. ⌜ RoundIs task (now (line .entry)) p (now (buf .entry)) n (now (out .entry)) m r (now (line .exit)) (now (buf .exit)) (now (out .exit)) ⌝ }
 {
     if p.at < n {
-        return pass(task, line, p.held, &buf[..n], p.at, out);
+        return pass(task, line, p.held, &buf[..n], p.at, out, m, page);
     }
-    read_on(p.held, buf)
+    read_on(p.held, buf, m)
 }
 
 // Writes what is written of the line that the input ended in, if there is one. Answers whether it could.
-fn close(task: Task, line: &[u8], held: usize, out: &mut [u8]) -> bool
+fn close(task: Task, line: &[u8], held: usize, out: &mut [u8], m: Margin, page: &mut [u8]) -> bool
     requires { ⌜ (held ≤ mostHeld) × (length (now line) ≡ mostHeld) ⌝ }
     requires { ⌜ mostTold task ≤ length (now out) ⌝ }
+    requires { ⌜ length (now page) ≡ mostPage ⌝ }
     ensures { λ _. ⌜ now (out .exit) ≡ put (jobOf task .last (take held (now (line .entry)))) 0 (now (out .entry)) ⌝ }
 {
     let used = lines::finish(task, line, held, out);
-    io::write_all(STDOUT_FILENO, &out[..used])
+    match send(task, m, &out[..used], page) {
+        Sent::At(_) => true,
+        Sent::Unwritten => false,
+    }
 }
 
 // A proved loop has to end, and nothing says that the input does. So it counts its rounds down, from a number that no run uses up.
-fn run(task: Task, line: &mut [u8], buf: &mut [u8], out: &mut [u8]) -> Ended
+fn run(task: Task, line: &mut [u8], buf: &mut [u8], out: &mut [u8], page: &mut [u8]) -> Ended
     requires { ⌜ (length (now line) ≡ mostHeld) × (length (now buf) ≤ mostPart) ⌝ }
-    requires { ⌜ mostTold task ≤ length (now out) ⌝ }
+    requires { ⌜ (mostTold task ≤ length (now out)) × (length (now page) ≡ mostPage) ⌝ }
 {
+    let mut m = Numbered::top();
     let mut p = Progress {
         held: 0,
         at: 0,
@@ -107,13 +129,14 @@ fn run(task: Task, line: &mut [u8], buf: &mut [u8], out: &mut [u8]) -> Ended
     let mut n: usize = 0;
     let mut rounds = u64::MAX;
     while 0 < rounds {
-        match go_round(task, line, p, buf, n, out) {
-            Round::More(q, m) => {
+        match go_round(task, line, p, buf, n, out, m, page) {
+            Round::More(q, k, l) => {
                 p = q;
-                n = m;
+                n = k;
+                m = l;
             }
             Round::Over(held) => {
-                if close(task, line, held, out) {
+                if close(task, line, held, out, m, page) {
                     return Ended::Whole;
                 }
                 return Ended::Unwritten;
@@ -141,5 +164,6 @@ pub fn start(task: Task) {
     let mut line = [0u8; Progress::MOST_HELD];
     let mut buf = [0u8; Progress::MOST_PART];
     let mut out = [0u8; 131072];
-    say(run(task, &mut line, &mut buf, &mut out));
+    let mut page = [0u8; Numbered::MOST_PAGE];
+    say(run(task, &mut line, &mut buf, &mut out, &mut page));
 }

@@ -1,6 +1,6 @@
 -- Whatever the parts in which an input comes, what a program writes is its output for the whole; and what that output is.
 -- Assumes nothing.
-use mathlib.Core.Path.{_≡_, refl}
+use mathlib.Core.Path.{_≡_, refl, sym, ap, _∙_}
 use mathlib.Core.List.{List, [], _∷_, _++_}
 use Prim.Native.Nat.{ℕ, _<_}
 use lib.ListN.{length}
@@ -8,10 +8,12 @@ use Rattle.line_frame.specs.Program.{outputFrom, feedsIn, program}
 use Rattle.line_frame.specs.Converted.{converter}
 use Rattle.line_frame.proofs.OutputLaws.{output-line, output-last}
 use Rattle.line_room.specs.Told.{rowsProgram}
-use Rattle.line_stream.specs.Stream.{Run, joined}
+use Rattle.line_stream.specs.Stream.{Run, ended, fed, joined}
 use Rattle.line_stream.proofs.Demand as stream
-use Rattle.lines.specs.declared.Task.{Task, the-variants.Answer, the-variants.Convert, the-variants.Rows}
-use Rattle.lines.specs.Tasks.{jobOf, fedLineOf, lastLineOf, outputOf}
+use Rattle.sheet.specs.{declared.Margin.Margin, Sheet.sheet, Sheet.top}
+use Rattle.sheet.proofs.NumberLaws.{page-append}
+use Rattle.lines.specs.declared.Task.{Task, the-variants.Answer, the-variants.Convert, the-variants.Rows, the-variants.Enter}
+use Rattle.lines.specs.Tasks.{jobOf, fedLineOf, lastLineOf, outputOf, handedOf, marginOf, Handed, closed, passed, wholeOf}
 use Rattle.lines.proofs.TaskLaws.{job-does}
 
 pub run-task : (t : Task) {o : List ℕ} {ss : List (List ℕ)} → Run (jobOf t) [] ss o → o ≡ outputOf t (joined ss)
@@ -39,3 +41,27 @@ output-of-last t = output-last (fedLineOf t) (lastLineOf t)
 pub output-of-nil : (t : Task) → outputOf t [] ≡ []
 unfolding outputFrom
 output-of-nil t = refl
+
+-- what is handed on of two parts, one after the other
+handed-append : (t : Task) (m : Margin) (r s : List ℕ) → handedOf t m (r ++ s) ≡ handedOf t m r ++ handedOf t (marginOf t m r) s
+handed-append Answer m r s = refl
+handed-append Convert m r s = refl
+handed-append Rows m r s = refl
+handed-append Enter m r s = page-append m r s
+
+-- the parts are those of a run, and what is handed on is what is handed on of its output
+handed-run : (t : Task) {m : Margin} {h o : List ℕ} {ss : List (List ℕ)} → Handed t m h ss o → (w : List ℕ) × (Run (jobOf t) h ss w × (o ≡ handedOf t m w))
+handed-run t {m} {h} closed = (jobOf t .last h, (ended, refl))
+handed-run t {m} {h} (passed {ss = ss} s w h′ f r) =
+    let k = handed-run t r in
+    (w ++ k .0, (fed s w h′ f (k .1 .0), ap (λ (l : List ℕ). handedOf t m w ++ l) (k .1 .1) ∙ sym (handed-append t m w (k .0))))
+
+-- whatever the parts in which an input comes, what is handed on, one after the other, is the whole
+pub handed-whole : (t : Task) {o : List ℕ} {ss : List (List ℕ)} → Handed t top [] ss o → o ≡ wholeOf t (joined ss)
+handed-whole t h =
+    let k = handed-run t h in
+    k .1 .1 ∙ ap (handedOf t top) (run-task t (k .1 .0))
+
+-- of the table of polygons that is the sheet: its header once, and then a row for each line, numbered from 1 on
+pub handed-sheet : {o : List ℕ} {ss : List (List ℕ)} → Handed Enter top [] ss o → o ≡ sheet (joined ss)
+handed-sheet = handed-whole Enter

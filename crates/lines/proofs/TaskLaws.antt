@@ -9,6 +9,7 @@ use native.Mathlib.Decide.{decLe}
 use lib.ListN.{length, take, drop, length-append, length-take, length-drop}
 use lib.Seq.{length-take-le, take-all}
 use Rattle.answer.specs.declared.Refusal.the-variants.{BadLine}
+use Rattle.answer.specs.declared.Answer.the-variants as walked
 use Rattle.line_frame.specs.Sizes.{mostLine, mostHeld, mostAnswer}
 use Rattle.line_frame.specs.Program.{answered}
 use Rattle.line_frame.specs.Converted.{convertedLine}
@@ -22,7 +23,11 @@ use Rattle.line_stream.specs.Stream.{keptOf, toldOf, Does, tellsEach, isLong, m
 use Rattle.line_stream.proofs.JobLaws.{each-does, each-most}
 use Rattle.line_stream.proofs.JobLaws as jobLaws
 use Rattle.line_stream.proofs.PassLaws as passLaws
-use Rattle.lines.specs.declared.Task.{Task, the-variants.Answer, the-variants.Convert, the-variants.Rows}
+use Rattle.sheet.specs.Sizes.{mostEntry}
+use Rattle.sheet.specs.Entry.{entryBy}
+use Rattle.sheet.specs.Sheet.{entered}
+use Rattle.sheet.proofs.EntryLaws.{entryOf-long, entered-most}
+use Rattle.lines.specs.declared.Task.{Task, the-variants.Answer, the-variants.Convert, the-variants.Rows, the-variants.Enter}
 use Rattle.lines.specs.Tasks.{mostEarly, mostTold, jobOf, fedLineOf, lastLineOf}
 
 -- what is kept of a line gives the same, where all lines that are longer than a frame do
@@ -36,6 +41,9 @@ kept-same f b long s =
 answered-long : (s : List ℕ) → mostLine < length s → answered s ≡ refusedTold BadLine
 answered-long s h = ap (λ (l : List ℕ). l ++ (10 ∷ [])) (lineAnswer-long s h)
 
+entered-long : (s : List ℕ) → mostLine < length s → entered s ≡ entryBy (walked.Refused BadLine) [] ++ (10 ∷ [])
+entered-long s h = ap (λ (l : List ℕ). l ++ (10 ∷ [])) (entryOf-long s h)
+
 answered-most : (s : List ℕ) → length (answered s) ≤ mostAnswer
 answered-most s = simp length-append (omega (arith, lineAnswer-most s))
 
@@ -44,27 +52,32 @@ pub job-does : (t : Task) → Does (jobOf t) (fedLineOf t) (lastLineOf t)
 job-does Answer = each-does answered mostAnswer (kept-same answered (refusedTold BadLine) answered-long)
 job-does Convert = passLaws.passes-does convertedLine (mostEarly Convert + mostTold Convert) converted-long converted-nil
 job-does Rows = each-does rowsTold mostRows (kept-same rowsTold (refusedTold BadLine) rowsTold-long)
+job-does Enter = each-does entered mostEntry (kept-same entered (entryBy (walked.Refused BadLine) [] ++ (10 ∷ [])) entered-long)
 
 -- how much is written
 pub job-most : (t : Task) → jobOf t .most ≡ mostEarly t + mostTold t
 job-most Answer = refl
 job-most Convert = refl
 job-most Rows = refl
+job-most Enter = refl
 
 pub early-most : (t : Task) (h r : List ℕ) → length h ≤ mostHeld → length r ≤ mostPart → length (jobOf t .early h r) ≤ mostEarly t
 early-most Answer h r a b = omega arith
 early-most Convert h r a b = omega (arith, passLaws.early-most convertedLine (mostEarly Convert + mostTold Convert) converted-length h r)
 early-most Rows h r a b = omega arith
+early-most Enter h r a b = omega arith
 
 pub told-most : (t : Task) (h s : List ℕ) → length h ≤ mostHeld → length s ≤ mostPart → length (toldOf (jobOf t) h s) ≤ jobOf t .most
 told-most Answer h s a b = each-most answered mostAnswer answered-most h s
 told-most Convert h s a b = omega (arith, passLaws.passes-most convertedLine (mostEarly Convert + mostTold Convert) converted-length h s)
 told-most Rows h s a b = each-most rowsTold mostRows rowsTold-most h s
+told-most Enter h s a b = each-most entered mostEntry entered-most h s
 
 pub last-most : (t : Task) (h : List ℕ) → length h ≤ mostHeld → length (jobOf t .last h) ≤ mostTold t
 last-most Answer h a = jobLaws.last-most answered mostAnswer answered-most h
 last-most Convert h a = omega (arith, passLaws.passes-last convertedLine (mostEarly Convert + mostTold Convert) converted-length h)
 last-most Rows h a = jobLaws.last-most rowsTold mostRows rowsTold-most h
+last-most Enter h a = jobLaws.last-most entered mostEntry entered-most h
 
 -- room for all of it is room for each part
 pub room-early : (t : Task) (used : ℕ) {n : ℕ} → used + jobOf t .most ≤ n → used + mostEarly t ≤ n
@@ -97,6 +110,7 @@ last-nil : (t : Task) → jobOf t .last [] ≡ []
 last-nil Answer = refl
 last-nil Convert = converted-nil
 last-nil Rows = refl
+last-nil Enter = refl
 
 pub last-none : (t : Task) (line out : List ℕ) (held : ℕ) → held < 1 → Wrote (jobOf t .last (take held line)) 0 out 0 out
 last-none t line out held h =

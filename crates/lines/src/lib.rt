@@ -8,6 +8,8 @@ use line_stream::Progress;
 use line_stream::hold;
 use line_stream::line_end;
 use order::lesser;
+use sheet_entry::Entry;
+use sheet_entry::enter;
 ghost use mathlib.Core.Path.{_≡_};
 ghost use mathlib.Core.List.{[]};
 ghost use Prim.Native.Nat.{_+_, _-_, _<_, _≤_};
@@ -24,6 +26,7 @@ pub enum Task {
     Answer,
     Convert,
     Rows,
+    Enter,
 }
 
 // The bytes for which the output has room where a line is passed.
@@ -34,6 +37,7 @@ fn most(task: Task) -> usize
         Task::Answer => Desk::MOST_ANSWER,
         Task::Convert => Progress::MOST_HELD + Progress::MOST_PART + Progress::MOST_HELD,
         Task::Rows => line_rows::MOST_ROWS,
+        Task::Enter => Entry::MOST,
     }
 }
 
@@ -57,6 +61,7 @@ fn tell_early(
         Task::Answer => used,
         Task::Convert => pass_on(&line[..held], &s[at..end], out, used),
         Task::Rows => used,
+        Task::Enter => used,
     }
 }
 
@@ -79,6 +84,7 @@ fn tell(
         Task::Answer => line_reply::tell(s, table, marks, hull, out, at),
         Task::Convert => end_fed_line(s, out, at),
         Task::Rows => line_rows::tell(s, table, marks, hull, out, at),
+        Task::Enter => enter(s, table, marks, out, at),
     }
 }
 
@@ -100,6 +106,7 @@ fn tell_last(
         Task::Answer => line_reply::tell(s, table, marks, hull, out, 0),
         Task::Convert => end_line(s, out, 0),
         Task::Rows => line_rows::tell(s, table, marks, hull, out, 0),
+        Task::Enter => enter(s, table, marks, out, 0),
     }
 }
 

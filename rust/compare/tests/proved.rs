@@ -111,6 +111,24 @@ fn rows() {
     );
 }
 
+#[test]
+fn polygons() {
+    let header = plain::sheet(b"");
+    assert_eq!(run("polygons", b""), header);
+    let rows = |sheet: Vec<u8>| {
+        sheet
+            .strip_prefix(&header[..])
+            .expect("the names come first")
+            .to_vec()
+    };
+    suite::program(
+        |input| rows(run("polygons", input)),
+        |input| plain::sheet(input)[plain::sheet(b"").len()..].to_vec(),
+        100,
+        &mut Random(8),
+    );
+}
+
 /// The output of a program for this input.
 fn run(name: &str, input: &[u8]) -> Vec<u8> {
     let path = concat!(env!("CARGO_MANIFEST_DIR"), "/../../").to_owned() + name;

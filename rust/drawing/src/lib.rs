@@ -1,15 +1,12 @@
-//! What the proved library answers, for people who draw: pictures of records, a sheet with the polygons of rooms, and polygons read
-//! back. Nothing is judged here.
+//! What the proved library answers, for people who draw: pictures of records, and polygons read back. Nothing is judged here.
 
 mod chain;
 mod picture;
-mod sheet;
 
 use undrwyth::{Facts, LINE_BYTES, MARK_WORDS, RECORD_WORDS, Refusal};
 
 pub use chain::chain;
 pub use picture::svg;
-pub use sheet::{Ended, sheet};
 
 /// The operations of a record that the line program takes for one of kind 00.
 fn operations(record: &[u8]) -> Vec<u8> {

@@ -1,14 +1,4 @@
-//! What the programs write is what is stored and what the independent implementation gives.
-
-use answer::{LINE_BYTES, LINE_RECORDS, NO_MEETING, RECORD_WORDS};
-
-const RECORDS: &[u8] = include_bytes!("../../../samples/records.txt");
-
-fn sheet(input: &[u8]) -> String {
-    let mut out = Vec::new();
-    drawing::sheet(input, &mut out).expect("a list takes every byte");
-    String::from_utf8(out).expect("a sheet is plain text")
-}
+//! What the programs draw is what is stored, and polygons are read back.
 
 /// The walk on README's first page.
 #[test]
@@ -33,93 +23,12 @@ fn refused() {
     assert_eq!(number(b"000003044"), Err((5, 2)));
 }
 
-/// The sheet of the sample.
-#[test]
-fn sample() {
-    let stored = include_str!("../../../samples/sheet.csv");
-    assert_eq!(sheet(RECORDS), stored);
-    assert_eq!(
-        stored.lines().count(),
-        1 + RECORDS.split(|&b| b == b'\n').count() - 1
-    );
-}
-
-/// Every record of the sample, by the independent implementation.
-#[test]
-fn by_the_rules() {
-    let records = RECORDS.strip_suffix(b"\n").unwrap_or(RECORDS);
-    for (row, record) in sheet(RECORDS)
-        .lines()
-        .skip(1)
-        .zip(records.split(|&b| b == b'\n'))
-    {
-        let (_, row) = row.split_once(',').expect("a row begins with its id");
-        assert_eq!(row, entry(record), "{}", String::from_utf8_lossy(record));
-    }
-}
-
-/// What the sheet says of a line, by the independent implementation.
-fn entry(record: &[u8]) -> String {
-    let mut out = [0; LINE_BYTES];
-    let length = plain::line(record, &mut out);
-    let answer = std::str::from_utf8(&out[..length]).expect("an answer is plain text");
-    let number =
-        |from: usize, to: usize| u32::from_str_radix(&answer[from..to], 16).expect("hexadecimal");
-    if number(0, 2) >= 0x80 {
-        return format!("{},{},0,0,0,0,0,0,0,", number(0, 2) - 0x80, number(2, 10));
-    }
-    let ops: Vec<u8> = record[6..].iter().map(|digit| digit - b'0').collect();
-    let mut table = vec![0; LINE_RECORDS * RECORD_WORDS];
-    let (mut marks, mut chain) = (
-        vec![0; undrwyth::MARK_WORDS * ops.len()],
-        vec![0; ops.len()],
-    );
-    let facts =
-        plain::walk((0, 0), &ops, &mut table, &mut marks, &mut chain).expect("it is accepted");
-    let (j, k) = facts.meeting.unwrap_or((NO_MEETING, NO_MEETING));
-    let mut polygon = vec![0; 16 * ops.len() + 29];
-    let bytes =
-        plain::polygon_of_room((0, 0), &chain[..facts.steps as usize], &mut polygon).unwrap_or(0);
-    let digits: String = polygon[..bytes]
-        .iter()
-        .map(|byte| format!("{byte:02x}"))
-        .collect();
-    format!(
-        "0,0,{},{},{},{},{j},{k},{},{digits}",
-        facts.verdict as u32, facts.steps, facts.nodes, facts.corners, facts.area
-    )
-}
-
-/// No line is lost: an empty input, empty lines, a last line without its line feed, and a line that is too long.
-#[test]
-fn lines() {
-    let bad = "9,0,0,0,0,0,0,0,0,";
-    let rows = |input: &[u8]| {
-        sheet(input)
-            .lines()
-            .skip(1)
-            .map(str::to_owned)
-            .collect::<Vec<_>>()
-    };
-    assert_eq!(rows(b""), [""; 0]);
-    assert_eq!(rows(b"\n\n"), [format!("1,{bad}"), format!("2,{bad}")]);
-    assert_eq!(
-        rows(b"x\n00000202"),
-        [format!("1,{bad}"), "2,0,0,5,2,2,2,0,2,0,".to_owned()]
-    );
-    let mut long = vec![b'0'; 100_000];
-    long.extend(b"\n00000202\n");
-    assert_eq!(
-        rows(&long),
-        [format!("1,{bad}"), "2,0,0,5,2,2,2,0,2,0,".to_owned()]
-    );
-}
-
 /// A room's polygon from the sheet, read back; in upper case too; and what is no polygon.
 #[test]
 fn back() {
-    let rows = sheet(b"00001c0000000000111122222222223333\n");
-    let polygon = rows
+    let sheet = plain::sheet(b"00001c0000000000111122222222223333\n");
+    let sheet = String::from_utf8(sheet).expect("a sheet is plain text");
+    let polygon = sheet
         .trim_end()
         .rsplit(',')
         .next()

@@ -16,7 +16,7 @@ mod walk;
 
 pub use convex::convex;
 pub use hull::hull;
-pub use line::{convert_line, converter, line, program, rows_program};
+pub use line::{convert_line, converter, line, program, rows_program, sheet};
 pub use outline::outline;
 pub use overlay::overlay;
 pub use polygon::{chain_of_polygon, polygon_of_room};

@@ -1,4 +1,4 @@
-//! The programs on lines: the line program, the converter and the rows program.
+//! The programs on lines: the line program, the converter, the rows program and the table of polygons.
 
 use answer::{
     Facts, LINE_BYTES, LINE_RECORDS, MARK_WORDS, MOST_LINE_DIGITS, NO_MEETING, RECORD_WORDS,
@@ -44,6 +44,38 @@ pub fn rows_program(input: &[u8]) -> Vec<u8> {
         }
     }
     output.into_bytes()
+}
+
+/// The whole table of polygons for the whole input: the names of the columns, and a row for each line, numbered from 1 on.
+pub fn sheet(input: &[u8]) -> Vec<u8> {
+    let mut output = "id,refusal,place,verdict,steps,nodes,corners,j,k,area,wkb\n".to_owned();
+    for (id, line) in (1..).zip(lines(input)) {
+        output += &format!("{id},{}\n", entry(line));
+    }
+    output.into_bytes()
+}
+
+/// What the table says of one line.
+fn entry(line: &[u8]) -> String {
+    let (facts, chain) = match judge(line) {
+        Ok(accepted) => accepted,
+        Err(refusal) => {
+            return format!("{},{},0,0,0,0,0,0,0,", refusal.number(), refusal.place());
+        }
+    };
+    let (j, k) = facts.meeting.unwrap_or((NO_MEETING, NO_MEETING));
+    let mut polygon = vec![0; 29 + 16 * chain.len()];
+    let bytes = polygon::polygon_of_room(ROOT, &chain, &mut polygon).unwrap_or(0);
+    let digits = polygon[..bytes].iter().map(|byte| format!("{byte:02x}"));
+    format!(
+        "0,0,{},{},{},{},{j},{k},{},{}",
+        facts.verdict as u32,
+        facts.steps,
+        facts.nodes,
+        facts.corners,
+        facts.area,
+        digits.collect::<String>(),
+    )
 }
 
 /// The lines of an input, the last with or without its line feed.

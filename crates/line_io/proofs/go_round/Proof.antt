@@ -10,17 +10,17 @@ use Rattle.line_io.proofs.go_round.Tie as tie
 
 slice-aggregate-pass : tie.Need-slice-aggregate-pass
 slice-aggregate-pass c =
-    let s = c .before .before .before .before .before .before .before in
-    sym (length-take-le (s .args .n) (s .args .buf .now) (s .pre .1 .0))
+    let s = c .before .before .before .before .before .before .before .before in
+    sym (length-take-le (s .args .n) (s .args .buf .now) (s .pre .1 .0 .0))
 
 pass-requires : tie.Need-pass-requires
 pass-requires c κs =
-    let s = c .before .before .before .before .before .before .before .before in
-    let n = length-take-le (s .args .n) (s .args .buf .now) (s .pre .1 .0) in
-    (s .pre .0, (omega (arith, c .before .before .before .if1 .taken, n), omega (arith, n, s .pre .1)))
+    let s = c .before .before .before .before .before .before .before .before .before .before in
+    let n = length-take-le (s .args .n) (s .args .buf .now) (s .pre .1 .0 .0) in
+    (s .pre .0, ((omega (arith, c .before .before .before .before .if1 .taken, n), omega (arith, n, s .pre .1 .0)), s .pre .1 .1))
 
 returns : tie.Need-returns
-returns c = round-passed (c .before .before .before .before .before .before .before .before .if1 .taken) (c .before .before .before .before .pass .ensures)
+returns c = round-passed (c .before .before .before .before .before .before .before .before .before .before .before .if1 .taken) (c .before .before .before .before .before .before .pass .ensures)
 
 returns-2 : tie.Need-returns-2
 returns-2 c =
@@ -34,6 +34,7 @@ go-round-spec =
     (λ c. search needs)
     slice-aggregate-pass
     pass-requires
+    (λ c. search needs)
     (λ c. search needs)
     (λ c. search needs)
     (λ c. search needs)

@@ -1,19 +1,25 @@
 -- `line_io::pass` meets its contract.
 -- Assumes nothing.
-use mathlib.Core.Path.{sym}
+use mathlib.Core.Path.{refl, sym}
 use native.Mathlib.Omega.{arith}
 use borrow.Author.Needs.{needs}
+use lib.ListN.{take}
 use lib.Seq.{length-take-le}
+use Rattle.line_io.proofs.RoundLaws.{passed-sent}
 use Rattle.line_io.proofs.pass.Statement.{statement}
 use Rattle.line_io.proofs.pass.Tie as tie
 
-slice-aggregate-write-all : tie.Need-slice-aggregate-write-all
-slice-aggregate-write-all c =
+slice-aggregate-send : tie.Need-slice-aggregate-send
+slice-aggregate-send c =
     let f = c .before .before .before .before .before .fill in
     sym (length-take-le (f .result .used) (f .last .1 .1 .1 .1 .1 .0) (omega (arith, f .ensures .room, f .kept .1 .1 .1 .1 .1 .0)))
 
-returns-2 : tie.Need-returns-2
-returns-2 c = search needs
+returns : tie.Need-returns
+returns c =
+    let f = c .before .before .before .before .before .before .before .before .before .before .before .before .fill in
+    let a = c .before .before .before .before .before .before .before .before .before .before .before .before .before .before .before .before .before .before .before .args in
+    let q = c .before .q .given in
+    (f .ensures, refl, passed-sent (a .task) (a .m) (q .0 .0) (take (f .result .used) (f .last .1 .1 .1 .1 .1 .0)) (c .before .before .before .before .before .send .ensures) (q .1))
 
 pub pass-spec : {M : Type 1} → statement M
 pass-spec =
@@ -21,11 +27,15 @@ pass-spec =
     (tie.spec
     (λ c κs. search needs)
     (λ c. search needs)
-    slice-aggregate-write-all
+    slice-aggregate-send
     (λ c κs. search needs)
     (λ c. search needs)
     (λ c. search needs)
     (λ c. search needs)
     (λ c. search needs)
     (λ c. search needs)
-    returns-2)
+    returns
+    (λ c. search needs)
+    (λ c. search needs)
+    (λ c. search needs)
+    (λ c. search needs))

@@ -7,30 +7,31 @@ use borrow.Author.Needs.{needs}
 use lib.ListN.{length}
 use Rattle.line_frame.specs.Sizes.{mostHeld}
 use Rattle.line_stream.specs.Stream.{mostPart}
+use Rattle.sheet_number.specs.Numbered.{mostPage}
 use Rattle.lines.specs.Tasks.{mostTold}
 use Rattle.line_io.proofs.RoundLaws.{round-more, round-over}
 use Rattle.line_io.proofs.run.Statement.{statement}
 use Rattle.line_io.proofs.run.Tie as tie
 
 abbrev Inv-loop : tie.InvT-loop
-Inv-loop task line₀ buf₀ out₀ p₀ n₀ rounds₀ line buf out p n rounds =
-    (p .held ≤ mostHeld) × (n ≤ length buf) × (length line ≡ mostHeld) × (length buf ≡ length buf₀) × (length out ≡ length out₀) × (mostTold task ≤ length out₀) × (length line₀ ≡ mostHeld) × (length buf₀ ≤ mostPart)
+Inv-loop task line₀ buf₀ out₀ page₀ m₀ p₀ n₀ rounds₀ line buf out page m p n rounds =
+    (p .held ≤ mostHeld) × (n ≤ length buf) × (length line ≡ mostHeld) × (length buf ≡ length buf₀) × (length out ≡ length out₀) × (mostTold task ≤ length out₀) × (length line₀ ≡ mostHeld) × (length buf₀ ≤ mostPart) × (length page ≡ mostPage) × (length page₀ ≡ mostPage)
 
 abbrev μ-loop : tie.MeasureT-loop
-μ-loop task line₀ buf₀ out₀ p₀ n₀ rounds₀ line buf out p n rounds = rounds
+μ-loop task line₀ buf₀ out₀ page₀ m₀ p₀ n₀ rounds₀ line buf out page m p n rounds = rounds
 
 close-requires : tie.Need-close-requires Inv-loop μ-loop
 close-requires c κs =
-    let g = c .before .before .before .before .before .before .before .before .before .before .before in
-    let l = g .before .before .before .before .before .loop .inv in
-    ((round-over (g .go-round .ensures) (l .0) (c .before .before .before .held .given .1), search needs), search needs)
+    let g = c .before .before .before .before .before .before .before .before .before .before .before .before .before .before in
+    let l = g .before .before .before .before .before .before .loop .inv in
+    ((round-over (g .go-round .ensures) (l .0) (c .before .before .before .before .held .given .1), search needs), (search needs, search needs))
 
 loop-again : tie.Need-loop-again Inv-loop μ-loop
 loop-again c =
-    let g = c .before .before .before .before .before .before .before .before .before in
-    let l = g .before .before .before .before .before .loop .inv in
+    let g = c .before .before .before .before .before .before .before .before .before .before .before in
+    let l = g .before .before .before .before .before .before .loop .inv in
     let m = round-more (g .go-round .ensures) (l .0) (c .before .q .given .1) (l .1) in
-    (m .0, omega (arith, m .1, g .go-round .kept .1 .1 .1 .0), search needs, search needs, search needs, search needs, search needs, search needs)
+    (m .0, omega (arith, m .1, g .go-round .kept .1 .1 .1 .0), search needs, search needs, search needs, search needs, search needs, search needs, search needs, search needs)
 
 pub run-spec : {M : Type 1} → statement M
 run-spec =
@@ -38,6 +39,7 @@ run-spec =
     (tie.spec
     Inv-loop
     μ-loop
+    (λ c κs. search needs)
     (λ c. search needs)
     (λ c κs. search needs)
     (λ c. search needs)
@@ -63,7 +65,12 @@ run-spec =
     (λ c. search needs)
     (λ c. search needs)
     (λ c. search needs)
+    (λ c. search needs)
+    (λ c. search needs)
+    (λ c. search needs)
+    (λ c. search needs)
     loop-again
+    (λ c. search needs)
     (λ c. search needs)
     (λ c. search needs)
     (λ c. search needs)

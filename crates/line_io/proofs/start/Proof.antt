@@ -6,12 +6,13 @@ use Rattle.line_io.proofs.start.Statement.{statement}
 use Rattle.line_io.proofs.start.Tie as tie
 
 run-requires : tie.Need-run-requires
-run-requires c κs = (search needs, last-small (c .before .before .before .args .task))
+run-requires c κs = (search needs, (last-small (c .before .before .before .before .args .task), search needs))
 
 pub start-spec : {M : Type 1} → statement M
 start-spec =
     tie.close
     (tie.spec
+    (λ c. search needs)
     (λ c. search needs)
     (λ c. search needs)
     (λ c. search needs)

@@ -42,6 +42,11 @@ returns-3 c =
     let a = c .before .before .before .before .before .args in
     subst (λ (t : Task). Wrote (jobOf t .early (take (a .held) (a .line .now)) (take (a .end - a .at) (drop (a .at) (a .s .now)))) (a .used) (a .out .now) (a .used) (a .out .now)) (sym (c .enum-told3 .given .1)) (wrote-nil (a .used) (a .out .now))
 
+returns-4 : tie.Need-returns-4
+returns-4 c =
+    let a = c .before .before .before .before .before .args in
+    subst (λ (t : Task). Wrote (jobOf t .early (take (a .held) (a .line .now)) (take (a .end - a .at) (drop (a .at) (a .s .now)))) (a .used) (a .out .now) (a .used) (a .out .now)) (sym (c .enum-told4 .given .1)) (wrote-nil (a .used) (a .out .now))
+
 pub tell-early-spec : {M : Type 1} → statement M
 tell-early-spec =
     tie.close
@@ -54,7 +59,9 @@ tell-early-spec =
     (λ c. search needs)
     pass-on-requires
     (λ c. search needs)
+    (λ c. search needs)
     returns
     (λ c. search needs)
     returns-2
-    returns-3)
+    returns-3
+    returns-4)

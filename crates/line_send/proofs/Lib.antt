@@ -1,0 +1,2 @@
+-- The laws of pages handed on.
+pub mod SendLaws

@@ -1,0 +1,2 @@
+-- What the functions that hand bytes on promise.
+pub mod Send

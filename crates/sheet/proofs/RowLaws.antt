@@ -1,0 +1,152 @@
+-- Every line of the input has one row of the sheet, with its number.
+-- Assumes nothing.
+use mathlib.Core.Path.{_≡_, refl, sym, ap, _∙_}
+use mathlib.Core.Bool.{Bool, true, false, not, cond}
+use mathlib.Core.List.{List, [], _∷_, _++_, append-assoc}
+use Prim.Native.Nat.{ℕ, zero, suc, _+_, _/_, _%_, _<_}
+use native.Mathlib.Omega.{arith}
+use borrow.Author.Tests.{ne-eqb}
+use lib.IntN.{ℤ, pos, negsuc}
+use lib.Dec.{eqb, ltb}
+use lib.ListN.{length}
+use Rattle.lists.specs.Lists.{tally}
+use Rattle.grid.specs.Grid.{origin}
+use Rattle.answer.specs.declared.Facts.{Facts}
+use Rattle.answer.specs.declared.Answer.{Answer}
+use Rattle.answer.specs.declared.Answer.the-variants as walked
+use Rattle.answer.specs.Refusal.{verdictNumber, refusalNumber, refusalPlace}
+use Rattle.polygon.specs.Polygon.{polygonOf}
+use Rattle.room.specs.Room.{isRoom}
+use Rattle.steps.specs.Operations.{survivors}
+use Rattle.line_frame.specs.Hex.{letterOf, hexOf}
+use Rattle.line_frame.specs.Line.{digitsOf}
+use Rattle.line_frame.specs.Program.{outputFrom, feedsIn}
+use Rattle.line_frame.proofs.OutputLaws.{feedsIn-append, feedsIn-feed, feedsIn-more, output-line, output-last}
+use Rattle.line_room.specs.Walked.{lineWalked}
+use Rattle.sheet.specs.Decimal.{decimalOf, signedOf}
+use Rattle.sheet.specs.Sizes.{mostDecimals}
+use Rattle.sheet.specs.Entry.{cellOf, cellsOf, noFacts, hexBytes, polygonCell, entryBy, entryOf}
+use Rattle.sheet.specs.Sheet.{entered, entries, numberedFrom, rowsFrom, beginsAfter, linesIn, header, sheet}
+use Rattle.sheet.proofs.NumberLaws.{decimal-feeds, cell-feeds, numbered-feeds}
+
+-- no line feed in either
+none-append : (r s : List ℕ) → feedsIn r ≡ 0 → feedsIn s ≡ 0 → feedsIn (r ++ s) ≡ 0
+none-append r s g h = omega (arith, feedsIn-append r s)
+
+signed-feeds : (k : ℕ) (z : ℤ) → feedsIn (signedOf k z) ≡ 0
+signed-feeds k (pos n) = decimal-feeds k n
+signed-feeds k (negsuc n) = feedsIn-more 45 (decimalOf k (suc n)) refl ∙ decimal-feeds k (suc n)
+
+cells-feeds : (number place : ℕ) (f : Facts) → feedsIn (cellsOf number place f) ≡ 0
+cells-feeds number place f =
+    let more : (l : List ℕ) (n : ℕ) → feedsIn l ≡ 0 → feedsIn (l ++ cellOf n) ≡ 0 = λ l n h. none-append l (cellOf n) h (cell-feeds n) in
+    let l2 : List ℕ = cellOf number ++ cellOf place in
+    let l3 : List ℕ = l2 ++ cellOf (verdictNumber (f .verdict)) in
+    let l4 : List ℕ = l3 ++ cellOf (f .steps) in
+    let l5 : List ℕ = l4 ++ cellOf (f .nodes) in
+    let l6 : List ℕ = l5 ++ cellOf (f .corners) in
+    let l7 : List ℕ = l6 ++ cellOf (f .j) in
+    let l8 : List ℕ = l7 ++ cellOf (f .k) in
+    let h2 = more (cellOf number) place (cell-feeds number) in
+    let h5 = more l4 (f .nodes) (more l3 (f .steps) (more l2 (verdictNumber (f .verdict)) h2)) in
+    let h8 = more l7 (f .k) (more l6 (f .j) (more l5 (f .corners) h5)) in
+    none-append (l8 ++ signedOf mostDecimals (f .area)) (44 ∷ []) (none-append l8 (signedOf mostDecimals (f .area)) h8 (signed-feeds mostDecimals (f .area))) refl
+
+letter-feeds : (d : ℕ) → feedsIn (letterOf d ∷ []) ≡ 0
+letter-feeds d = go (ltb d 10)
+  where
+    go : (b : Bool) → feedsIn (cond b (d + 48) (d + 87) ∷ []) ≡ 0
+    go true = feedsIn-more (d + 48) [] (ne-eqb (d + 48) 10 (λ e. omega arith))
+    go false = feedsIn-more (d + 87) [] (ne-eqb (d + 87) 10 (λ e. omega arith))
+
+hex-feeds : (n v : ℕ) → feedsIn (hexOf n v) ≡ 0
+unfolding hexOf
+hex-feeds zero v = refl
+hex-feeds (suc n) v = none-append (hexOf n (v / 16)) (letterOf (v % 16) ∷ []) (hex-feeds n (v / 16)) (letter-feeds (v % 16))
+
+bytes-feeds : (s : List ℕ) → feedsIn (hexBytes s) ≡ 0
+unfolding hexBytes
+bytes-feeds [] = refl
+bytes-feeds (b ∷ s) = none-append (hexOf 2 b) (hexBytes s) (hex-feeds 2 b) (bytes-feeds s)
+
+polygon-feeds : (w : List ℕ) → feedsIn (polygonCell w) ≡ 0
+polygon-feeds w = go (isRoom origin w)
+  where
+    go : (t : Bool) → feedsIn (cond t (hexBytes (polygonOf origin w)) []) ≡ 0
+    go true = bytes-feeds (polygonOf origin w)
+    go false = refl
+
+by-feeds : (a : Answer) (w : List ℕ) → feedsIn (entryBy a w) ≡ 0
+by-feeds (walked.Accepted f) w = none-append (cellsOf 0 0 f) (polygonCell w) (cells-feeds 0 0 f) (polygon-feeds w)
+by-feeds (walked.Refused r) w = cells-feeds (refusalNumber r) (refusalPlace r) noFacts
+
+-- what is said of a line is one line
+entry-feeds : (s : List ℕ) → feedsIn (entryOf s) ≡ 0
+unfolding entryOf
+entry-feeds s = by-feeds (lineWalked s) (survivors (digitsOf s))
+
+entered-feeds : (s : List ℕ) → feedsIn (entered s) ≡ 1
+entered-feeds s = omega (arith, feedsIn-append (entryOf s) (10 ∷ []), entry-feeds s)
+
+-- the rest of a line, and a line from its number on
+numbered-rest : (n : ℕ) (e t : List ℕ) → feedsIn e ≡ 0 → numberedFrom false n (e ++ (10 ∷ t)) ≡ e ++ (10 ∷ numberedFrom true (suc n) t)
+unfolding numberedFrom
+numbered-rest n [] t h = refl
+numbered-rest n (b ∷ e) t h = go (eqb b 10) refl (λ k. numbered-rest n e t k)
+  where
+    go : (c : Bool) → eqb b 10 ≡ c → (feedsIn e ≡ 0 → numberedFrom false n (e ++ (10 ∷ t)) ≡ e ++ (10 ∷ numberedFrom true (suc n) t))
+        → b ∷ numberedFrom c (cond c (suc n) n) (e ++ (10 ∷ t)) ≡ b ∷ (e ++ (10 ∷ numberedFrom true (suc n) t))
+    go true p f = absurd (omega (arith, feedsIn-feed b e p))
+    go false p f = ap (λ (l : List ℕ). b ∷ l) (f (omega (arith, feedsIn-more b e p)))
+
+numbered-line : (n : ℕ) (e t : List ℕ) → feedsIn e ≡ 0 → numberedFrom true n (e ++ (10 ∷ t)) ≡ cellOf n ++ (e ++ (10 ∷ numberedFrom true (suc n) t))
+unfolding numberedFrom
+numbered-line n [] t h = refl
+numbered-line n (b ∷ e) t h = go (eqb b 10) refl
+  where
+    go : (c : Bool) → eqb b 10 ≡ c → cellOf n ++ (b ∷ numberedFrom c (cond c (suc n) n) (e ++ (10 ∷ t))) ≡ cellOf n ++ (b ∷ (e ++ (10 ∷ numberedFrom true (suc n) t)))
+    go true p = absurd (omega (arith, feedsIn-feed b e p))
+    go false p = ap (λ (l : List ℕ). cellOf n ++ (b ∷ l)) (numbered-rest n e t (omega (arith, feedsIn-more b e p)))
+
+-- a line that a line feed ends has its number and what is said of it, and then come the rows of the rest
+pub rows-line : (n : ℕ) (l s : List ℕ) → feedsIn l ≡ 0 → rowsFrom n (l ++ (10 ∷ s)) ≡ (cellOf n ++ entered l) ++ rowsFrom (suc n) s
+rows-line n l s h =
+    ap (numberedFrom true n) (output-line entered entered l s h ∙ append-assoc (entryOf l) (10 ∷ []) (entries s))
+    ∙ numbered-line n (entryOf l) (entries s) (entry-feeds l)
+    ∙ ap (λ (x : List ℕ). cellOf n ++ x) (sym (append-assoc (entryOf l) (10 ∷ []) (rowsFrom (suc n) s)))
+    ∙ sym (append-assoc (cellOf n) (entered l) (rowsFrom (suc n) s))
+
+-- so has a last line that lacks it
+pub rows-last : (n : ℕ) (l : List ℕ) → feedsIn l ≡ 0 → 0 < length l → rowsFrom n l ≡ cellOf n ++ entered l
+unfolding numberedFrom
+rows-last n l h p = ap (numberedFrom true n) (output-last entered entered l h p) ∙ numbered-line n (entryOf l) [] (entry-feeds l)
+
+-- and there is nothing else
+pub rows-none : (n : ℕ) → rowsFrom n [] ≡ []
+unfolding numberedFrom outputFrom
+rows-none n = refl
+
+-- nothing was read of a line
+abbrev isNone : List ℕ → Bool
+isNone [] = true
+isNone (b ∷ r) = false
+
+none-snoc : (r : List ℕ) (b : ℕ) → isNone (r ++ (b ∷ [])) ≡ false
+none-snoc [] b = refl
+none-snoc (a ∷ r) b = refl
+
+entries-feeds : (r s : List ℕ) → feedsIn (outputFrom entered entered r s) ≡ feedsIn s + tally (not (beginsAfter (isNone r) s))
+unfolding outputFrom beginsAfter
+entries-feeds [] [] = refl
+entries-feeds (b ∷ r) [] = entered-feeds (b ∷ r)
+entries-feeds r (b ∷ s) = go (eqb b 10) refl (entries-feeds [] s) (entries-feeds (r ++ (b ∷ [])) s)
+  where
+    go : (c : Bool) → eqb b 10 ≡ c → feedsIn (outputFrom entered entered [] s) ≡ feedsIn s + tally (not (beginsAfter true s))
+        → feedsIn (outputFrom entered entered (r ++ (b ∷ [])) s) ≡ feedsIn s + tally (not (beginsAfter (isNone (r ++ (b ∷ []))) s))
+        → feedsIn (elim c [ true ↦ entered r ++ outputFrom entered entered [] s | false ↦ outputFrom entered entered (r ++ (b ∷ [])) s ]) ≡ feedsIn (b ∷ s) + tally (not (beginsAfter c s))
+    go true e f g = omega (arith, feedsIn-append (entered r) (outputFrom entered entered [] s), entered-feeds r, f, feedsIn-feed b s e)
+    go false e f g = omega (arith, g, feedsIn-more b s e, ap (λ (t : Bool). tally (not (beginsAfter t s))) (none-snoc r b))
+
+-- as many rows as lines, after the header
+pub sheet-rows : (s : List ℕ) → feedsIn (sheet s) ≡ suc (linesIn s)
+sheet-rows s = omega (arith, feedsIn-append header (rowsFrom 1 s), numbered-feeds true 1 (entries s), entries-feeds [] s)

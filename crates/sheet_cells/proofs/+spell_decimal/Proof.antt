@@ -1,0 +1,173 @@
+-- `sheet_cells::spell_decimal` meets its contract. The measure is the number of digits.
+-- Assumes nothing.
+use Prim.Native.Nat.{ℕ, _-_, _/_, _<_}
+use native.Mathlib.Omega.{arith}
+use borrow.Author.Needs.{needs}
+use borrow.Fn.Kinds.{In}
+use borrow.Fn.PlainCycle.{Measures, is, falls, and}
+use Rattle.sheet.proofs.SizeLaws.{length-decimalOf}
+use Rattle.sheet_cells.proofs.CellLaws.{decimal-none, decimal-one, decimal-more}
+use Rattle.sheet_cells.proofs.spell_decimal.Reads as spell-decimal
+use Rattle.sheet_cells.proofs.spell_decimal.Kinds as spell-decimal-kinds
+use Rattle.sheet_cells.proofs.+spell_decimal.Lts-spell_decimal as spell-decimal-lts
+use Rattle.sheet_cells.proofs.+spell_decimal.{statement}
+use Rattle.sheet_cells.proofs.+spell_decimal.Tie.{close}
+
+abbrev μ-spell-decimal : Measures 1 spell-decimal-kinds.ps ℕ
+μ-spell-decimal κs a = a .1 .1 .0
+
+abbrev spell-decimal-at : ℕ → In 1 spell-decimal-kinds.ps
+spell-decimal-at t =
+    and 1 spell-decimal-kinds.ps (is 1 spell-decimal-kinds.ps μ-spell-decimal t) spell-decimal.Pre
+
+abbrev spell-decimal-below : ℕ → In 1 spell-decimal-kinds.ps
+spell-decimal-below t =
+    and
+    1
+    spell-decimal-kinds.ps
+    (falls 1 spell-decimal-kinds.ps _<_ μ-spell-decimal t)
+    spell-decimal.Pre
+
+-- src/lib.rt:30:9
+spell-decimal-returns : (t : ℕ) → spell-decimal-lts.Need-returns (
+  spell-decimal-below t,
+  spell-decimal.Post,
+) (spell-decimal-at t) spell-decimal.Post
+spell-decimal-returns t c =
+    let a = c .before .before .args in
+    decimal-none (a .k) (a .n) (a .at) (a .out .now) (c .if1 .taken)
+
+-- src/lib.rt:33:24
+spell-decimal-cast-out : (t : ℕ) → spell-decimal-lts.Need-cast-out (
+  spell-decimal-below t,
+  spell-decimal.Post,
+) (spell-decimal-at t) spell-decimal.Post
+spell-decimal-cast-out t c = search needs
+
+-- src/lib.rt:33:19
+spell-decimal-add-out : (t : ℕ) → spell-decimal-lts.Need-add-out (
+  spell-decimal-below t,
+  spell-decimal.Post,
+) (spell-decimal-at t) spell-decimal.Post
+spell-decimal-add-out t c = search needs
+
+-- src/lib.rt:33:9
+spell-decimal-slice-write-out : (t : ℕ) → spell-decimal-lts.Need-slice-write-out (
+  spell-decimal-below t,
+  spell-decimal.Post,
+) (spell-decimal-at t) spell-decimal.Post
+spell-decimal-slice-write-out t c = search needs
+
+-- src/lib.rt:34:16
+spell-decimal-add-result : (t : ℕ) → spell-decimal-lts.Need-add-result (
+  spell-decimal-below t,
+  spell-decimal.Post,
+) (spell-decimal-at t) spell-decimal.Post
+spell-decimal-add-result t c = search needs
+
+-- src/lib.rt:34:9
+spell-decimal-same-length : (t : ℕ) → spell-decimal-lts.Need-same-length (
+  spell-decimal-below t,
+  spell-decimal.Post,
+) (spell-decimal-at t) spell-decimal.Post
+spell-decimal-same-length t c = search needs
+
+-- src/lib.rt:34:9
+spell-decimal-returns-2 : (t : ℕ) → spell-decimal-lts.Need-returns-2 (
+  spell-decimal-below t,
+  spell-decimal.Post,
+) (spell-decimal-at t) spell-decimal.Post
+spell-decimal-returns-2 t c =
+    let s = c .before .before .before in
+    let a = s .args in
+    decimal-one (a .k) (a .n) (a .at) (a .out .now) (c .before .if1 .left) (c .if2 .taken) (omega (arith, s .pre .1, c .before .if1 .left))
+
+-- src/lib.rt:36:39
+spell-decimal-sub-spell-decimal : (t : ℕ) → spell-decimal-lts.Need-sub-spell-decimal (
+  spell-decimal-below t,
+  spell-decimal.Post,
+) (spell-decimal-at t) spell-decimal.Post
+spell-decimal-sub-spell-decimal t c = search needs
+
+-- src/lib.rt:36:9
+spell-decimal-spell-decimal-requires : (t : ℕ) → spell-decimal-lts.Need-spell-decimal-requires (
+  spell-decimal-below t,
+  spell-decimal.Post,
+) (spell-decimal-at t) spell-decimal.Post
+spell-decimal-spell-decimal-requires t c κs = search needs
+
+-- src/lib.rt:37:22
+spell-decimal-cast-out-2 : (t : ℕ) → spell-decimal-lts.Need-cast-out-2 (
+  spell-decimal-below t,
+  spell-decimal.Post,
+) (spell-decimal-at t) spell-decimal.Post
+spell-decimal-cast-out-2 t c = search needs
+
+-- src/lib.rt:37:17
+spell-decimal-add-out-2 : (t : ℕ) → spell-decimal-lts.Need-add-out-2 (
+  spell-decimal-below t,
+  spell-decimal.Post,
+) (spell-decimal-at t) spell-decimal.Post
+spell-decimal-add-out-2 t c = search needs
+
+-- src/lib.rt:37:5
+spell-decimal-slice-write-out-2 : (t : ℕ) → spell-decimal-lts.Need-slice-write-out-2 (
+  spell-decimal-below t,
+  spell-decimal.Post,
+) (spell-decimal-at t) spell-decimal.Post
+spell-decimal-slice-write-out-2 t c =
+    let r = c .before .before .spell-decimal in
+    let s = c .before .before .before .before .before .before .before in
+    let a = s .args in
+    omega (arith, r .ensures .end, r .kept .0, s .pre .1, c .before .before .before .before .before .if1 .left, length-decimalOf (a .k - 1) (a .n / 10))
+
+-- src/lib.rt:38:5
+spell-decimal-add-result-2 : (t : ℕ) → spell-decimal-lts.Need-add-result-2 (
+  spell-decimal-below t,
+  spell-decimal.Post,
+) (spell-decimal-at t) spell-decimal.Post
+spell-decimal-add-result-2 t c =
+    let r = c .before .before .spell-decimal in
+    let s = c .before .before .before .before .before .before .before in
+    let a = s .args in
+    search (needs, r .ensures .end, r .kept .0, s .pre .1, c .before .before .before .before .before .if1 .left, length-decimalOf (a .k - 1) (a .n / 10))
+
+-- src/lib.rt:25:1
+spell-decimal-same-length-2 : (t : ℕ) → spell-decimal-lts.Need-same-length-2 (
+  spell-decimal-below t,
+  spell-decimal.Post,
+) (spell-decimal-at t) spell-decimal.Post
+spell-decimal-same-length-2 t c = search needs
+
+-- src/lib.rt:25:1
+spell-decimal-returns-3 : (t : ℕ) → spell-decimal-lts.Need-returns-3 (
+  spell-decimal-below t,
+  spell-decimal.Post,
+) (spell-decimal-at t) spell-decimal.Post
+spell-decimal-returns-3 t c =
+    let s = c .before .before .before .before .before .before .before in
+    let a = s .args in
+    decimal-more (a .k) (a .n) (a .at) (c .before .before .before .before .before .if1 .left) (c .before .before .before .before .if2 .left) (s .pre .1) (c .before .before .spell-decimal .ensures)
+
+pub +spell-decimal-spec : {M : Type 1} → statement M
++spell-decimal-spec = close μ-spell-decimal λ t. spell-decimal-lts.spec (
+  spell-decimal-below t,
+  spell-decimal.Post,
+)
+    (spell-decimal-at t)
+    spell-decimal.Post
+    (spell-decimal-returns t)
+    (spell-decimal-cast-out t)
+    (spell-decimal-add-out t)
+    (spell-decimal-slice-write-out t)
+    (spell-decimal-add-result t)
+    (spell-decimal-same-length t)
+    (spell-decimal-returns-2 t)
+    (spell-decimal-sub-spell-decimal t)
+    (spell-decimal-spell-decimal-requires t)
+    (spell-decimal-cast-out-2 t)
+    (spell-decimal-add-out-2 t)
+    (spell-decimal-slice-write-out-2 t)
+    (spell-decimal-add-result-2 t)
+    (spell-decimal-same-length-2 t)
+    (spell-decimal-returns-3 t)

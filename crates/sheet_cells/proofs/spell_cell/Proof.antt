@@ -1,0 +1,43 @@
+-- `sheet_cells::spell_cell` meets its contract.
+-- Assumes nothing.
+use native.Mathlib.Omega.{arith}
+use Rattle.sheet.specs.Decimal.{decimalOf}
+use Rattle.sheet.specs.Sizes.{mostDecimals}
+use Rattle.sheet.proofs.SizeLaws.{length-decimalOf}
+use Rattle.sheet_cells.proofs.CellLaws.{wrote-then}
+use borrow.Author.Needs.{needs}
+use Rattle.sheet_cells.proofs.spell_cell.Statement.{statement}
+use Rattle.sheet_cells.proofs.spell_cell.Tie as tie
+use Rattle.sheet_cells.proofs.spell_cell.Reads as reads
+use Rattle.sheet_cells.proofs.spell_cell.Lts as lts
+use Rattle.sheet_cells.proofs.spell_decimal.Reads as spell-decimal-reads
+
+-- src/lib.rt:48:9
+spell-decimal-requires : tie.Need-spell-decimal-requires
+spell-decimal-requires c κs = search needs
+
+-- src/lib.rt:49:5
+slice-write-out : tie.Need-slice-write-out
+slice-write-out c =
+    let a = c .before .before .before .before .before .args in
+    omega (arith, length-decimalOf mostDecimals (a .n), c .before .before .spell-decimal .ensures .end, c .before .before .spell-decimal .kept .0)
+
+-- src/lib.rt:50:5
+add-result : tie.Need-add-result
+add-result c =
+    let a = c .before .before .before .before .before .args in
+    search (needs, length-decimalOf mostDecimals (a .n), c .before .before .spell-decimal .ensures .end, c .before .before .spell-decimal .kept .0)
+
+-- src/lib.rt:44:1
+same-length : tie.Need-same-length
+same-length c = search needs
+
+-- src/lib.rt:44:1
+returns : tie.Need-returns
+returns c =
+    let a = c .before .before .before .before .before .args in
+    wrote-then (decimalOf mostDecimals (a .n)) 44 (a .at) (c .before .before .spell-decimal .ensures) (omega (arith, length-decimalOf mostDecimals (a .n)))
+
+pub spell-cell-spec : {M : Type 1} → statement M
+spell-cell-spec =
+    tie.close (tie.spec spell-decimal-requires slice-write-out add-result same-length returns)

@@ -1,0 +1,98 @@
+-- `sheet_cells::spell_cells` meets its contract: four pairs of cells, the area and a comma, one after the other.
+-- Assumes nothing.
+use native.Mathlib.Omega.{arith}
+use lib.ListN.{length-set}
+use mir.Val.{toZ, ofZ}
+use mir.Syntax.{w32}
+use mir.ValLaws.{toZ-ofZ}
+use Rattle.sheet.specs.Sizes.{mostDecimals}
+use Rattle.sheet.proofs.SizeLaws.{length-signedOf}
+use Rattle.sheet_cells.proofs.CellLaws.{length-two, wrote-cells}
+use borrow.Author.Needs.{needs}
+use Rattle.sheet_cells.proofs.spell_cells.Statement.{statement}
+use Rattle.sheet_cells.proofs.spell_cells.Tie as tie
+use Rattle.sheet_cells.proofs.spell_cells.Reads as reads
+use Rattle.sheet_cells.proofs.spell_cells.Lts as lts
+use Rattle.answer.proofs.verdict_number.Reads as verdict-number-reads
+use Rattle.sheet_cells.proofs.spell_signed.Reads as spell-signed-reads
+use Rattle.sheet_cells.proofs.spell_two.Reads as spell-two-reads
+
+-- src/lib.rt:81:9
+spell-two-requires : tie.Need-spell-two-requires
+spell-two-requires c κs = search needs
+
+-- src/lib.rt:82:31
+verdict-number-requires : tie.Need-verdict-number-requires
+verdict-number-requires c κs = search needs
+
+-- src/lib.rt:82:9
+spell-two-requires-2 : tie.Need-spell-two-requires-2
+spell-two-requires-2 c κs =
+    let s = c .before .before .before .before .before .before .before in
+    let a = s .args in
+    omega (arith, s .pre, length-two (a .number) (a .place))
+
+-- src/lib.rt:83:9
+spell-two-requires-3 : tie.Need-spell-two-requires-3
+spell-two-requires-3 c κs =
+    let s = c .before .before .before .before .before .before .before .before .before .before .before in
+    let a = s .args in
+    omega (arith, s .pre, length-two (a .number) (a .place), length-two (c .before .before .before .before .verdict-number .result) (a .f .steps))
+
+-- src/lib.rt:84:9
+spell-two-requires-4 : tie.Need-spell-two-requires-4
+spell-two-requires-4 c κs =
+    let s = c .before .before .before .before .before .before .before .before .before .before .before .before .before .before .before in
+    let a = s .args in
+    omega (arith, s .pre, length-two (a .number) (a .place), length-two (c .before .before .before .before .before .before .before .before .verdict-number .result) (a .f .steps), length-two (a .f .nodes) (a .f .corners))
+
+-- src/lib.rt:85:9
+spell-signed-requires : tie.Need-spell-signed-requires
+spell-signed-requires c κs =
+    let s = c .before .before .before .before .before .before .before .before .before .before .before .before .before .before .before .before .before .before .before .before in
+    let a = s .args in
+    omega (arith, s .pre, length-two (a .number) (a .place), length-two (c .before .before .before .before .before .before .before .before .before .before .before .before .before .verdict-number .result) (a .f .steps), length-two (a .f .nodes) (a .f .corners), length-two (a .f .j) (a .f .k), c .before .before .before .before .spell-two4 .ensures .end, c .before .before .before .before .spell-two4 .kept .0, c .before .before .before .before .before .before .before .before .spell-two3 .ensures .end, c .before .before .before .before .before .before .before .before .spell-two3 .kept .0, c .before .before .before .before .before .before .before .before .before .before .before .before .spell-two2 .ensures .end, c .before .before .before .before .before .before .before .before .before .before .before .before .spell-two2 .kept .0, c .before .before .before .before .before .before .before .before .before .before .before .before .before .before .before .before .before .spell-two .ensures .end, c .before .before .before .before .before .before .before .before .before .before .before .before .before .before .before .before .before .spell-two .kept .0)
+
+-- src/lib.rt:86:5
+slice-write-out : tie.Need-slice-write-out
+slice-write-out c =
+    let s = c .before .before .before .before .before .before .before .before .before .before .before .before .before .before .before .before .before .before .before .before .before .before .before in
+    let a = s .args in
+    omega (arith, s .pre, length-two (a .number) (a .place), length-two (c .before .before .before .before .before .before .before .before .before .before .before .before .before .before .before .before .verdict-number .result) (a .f .steps), length-two (a .f .nodes) (a .f .corners), length-two (a .f .j) (a .f .k), length-signedOf mostDecimals (toZ w32 (ofZ w32 (a .f .area))), c .before .before .spell-signed .ensures .end, c .before .before .spell-signed .kept .0, c .before .before .before .before .before .before .before .spell-two4 .ensures .end, c .before .before .before .before .before .before .before .spell-two4 .kept .0, c .before .before .before .before .before .before .before .before .before .before .before .spell-two3 .ensures .end, c .before .before .before .before .before .before .before .before .before .before .before .spell-two3 .kept .0, c .before .before .before .before .before .before .before .before .before .before .before .before .before .before .before .spell-two2 .ensures .end, c .before .before .before .before .before .before .before .before .before .before .before .before .before .before .before .spell-two2 .kept .0, c .before .before .before .before .before .before .before .before .before .before .before .before .before .before .before .before .before .before .before .before .spell-two .ensures .end, c .before .before .before .before .before .before .before .before .before .before .before .before .before .before .before .before .before .before .before .before .spell-two .kept .0)
+
+-- src/lib.rt:87:5
+add-result : tie.Need-add-result
+add-result c =
+    let s = c .before .before .before .before .before .before .before .before .before .before .before .before .before .before .before .before .before .before .before .before .before .before .before in
+    let a = s .args in
+    record { fits = omega (arith, s .fits, s .pre, length-two (a .number) (a .place), length-two (c .before .before .before .before .before .before .before .before .before .before .before .before .before .before .before .before .verdict-number .result) (a .f .steps), length-two (a .f .nodes) (a .f .corners), length-two (a .f .j) (a .f .k), length-signedOf mostDecimals (toZ w32 (ofZ w32 (a .f .area))), c .before .before .spell-signed .ensures .end, c .before .before .spell-signed .kept .0, c .before .before .before .before .before .before .before .spell-two4 .ensures .end, c .before .before .before .before .before .before .before .spell-two4 .kept .0, c .before .before .before .before .before .before .before .before .before .before .before .spell-two3 .ensures .end, c .before .before .before .before .before .before .before .before .before .before .before .spell-two3 .kept .0, c .before .before .before .before .before .before .before .before .before .before .before .before .before .before .before .spell-two2 .ensures .end, c .before .before .before .before .before .before .before .before .before .before .before .before .before .before .before .spell-two2 .kept .0, c .before .before .before .before .before .before .before .before .before .before .before .before .before .before .before .before .before .before .before .before .spell-two .ensures .end, c .before .before .before .before .before .before .before .before .before .before .before .before .before .before .before .before .before .before .before .before .spell-two .kept .0) }
+
+-- src/lib.rt:76:1
+same-length : tie.Need-same-length
+same-length c =
+    omega (arith, c .before .before .spell-signed .kept .0, c .before .before .before .before .before .before .before .spell-two4 .kept .0, c .before .before .before .before .before .before .before .before .before .before .before .spell-two3 .kept .0, c .before .before .before .before .before .before .before .before .before .before .before .before .before .before .before .spell-two2 .kept .0, c .before .before .before .before .before .before .before .before .before .before .before .before .before .before .before .before .before .before .before .before .spell-two .kept .0, length-set (c .before .before .spell-signed .last .0) (c .before .before .spell-signed .result) 44)
+
+-- src/lib.rt:76:1
+returns : tie.Need-returns
+returns c =
+    let s = c .before .before .before .before .before .before .before .before .before .before .before .before .before .before .before .before .before .before .before .before .before .before .before in
+    let a = s .args in
+    let z = a .f .area in
+    wrote-cells (a .number) (a .place) (c .before .before .before .before .before .before .before .before .before .before .before .before .before .before .before .before .verdict-number .result) (a .at) (a .f) (toZ w32 (ofZ w32 z)) (s .pre) (c .before .before .before .before .before .before .before .before .before .before .before .before .before .before .before .before .verdict-number .ensures)
+    (toZ-ofZ w32 z (record { sfits = c .before .before .before .struct-told .given .1 .1 .1 .1 .1 .1 .0 .1 }))
+    (c .before .before .before .before .before .before .before .before .before .before .before .before .before .before .before .before .before .before .before .before .spell-two .ensures) (c .before .before .before .before .before .before .before .before .before .before .before .before .before .before .before .spell-two2 .ensures) (c .before .before .before .before .before .before .before .before .before .before .before .spell-two3 .ensures) (c .before .before .before .before .before .before .before .spell-two4 .ensures) (c .before .before .spell-signed .ensures)
+
+pub spell-cells-spec : {M : Type 1} → statement M
+spell-cells-spec =
+    tie.close
+    (tie.spec
+    spell-two-requires
+    verdict-number-requires
+    spell-two-requires-2
+    spell-two-requires-3
+    spell-two-requires-4
+    spell-signed-requires
+    slice-write-out
+    add-result
+    same-length
+    returns)

@@ -1,0 +1,97 @@
+-- `sheet_cells::spell_signed` meets its contract: the bits tell whether there is a sign.
+-- Assumes nothing.
+use mathlib.Core.Path.{ap, _∙_, subst}
+use mathlib.Core.List.{List}
+use Prim.Native.Nat.{ℕ, _-_}
+use native.Mathlib.Omega.{arith}
+use lib.ListN.{length-set}
+use mir.ValLaws.{toZ-ofZ}
+use mir.Syntax.{w32}
+use Rattle.answer.specs.Words.{bitsOf}
+use Rattle.line_fields.specs.Put.{Wrote}
+use Rattle.sheet.specs.Decimal.{decimalOf}
+use Rattle.sheet.specs.Sizes.{mostDecimals}
+use Rattle.sheet.proofs.SizeLaws.{length-decimalOf}
+use Rattle.sheet_cells.proofs.CellLaws.{signed-above, signed-below, wrote-after}
+use borrow.Author.Needs.{needs}
+use Rattle.sheet_cells.proofs.spell_signed.Statement.{statement}
+use Rattle.sheet_cells.proofs.spell_signed.Tie as tie
+use Rattle.sheet_cells.proofs.spell_signed.Reads as reads
+use Rattle.sheet_cells.proofs.spell_signed.Lts as lts
+use Rattle.line_fields.proofs.hex.bits.Reads as bits-reads
+use Rattle.sheet_cells.proofs.spell_decimal.Reads as spell-decimal-reads
+
+-- src/lib.rt:58:13
+bits-requires : tie.Need-bits-requires
+bits-requires c κs = search needs
+
+-- src/lib.rt:58:13
+cast-b : tie.Need-cast-b
+cast-b c = search needs
+
+-- src/lib.rt:60:9
+spell-decimal-requires : tie.Need-spell-decimal-requires
+spell-decimal-requires c κs = search needs
+
+-- src/lib.rt:60:9
+same-length : tie.Need-same-length
+same-length c = search needs
+
+-- src/lib.rt:60:9
+returns : tie.Need-returns
+returns c =
+    let s = c .before .before .before .before .before .before .before in
+    let a = s .args in
+    let b = c .before .before .before .before .before .bits in
+    let r = c .before .before .spell-decimal in
+    subst (λ (l : List ℕ). Wrote l (a .at) (a .out .now) (r .result) (r .last .0)) (signed-above mostDecimals (a .x) (b .result) (s .fits .x) (b .ensures ∙ ap bitsOf (toZ-ofZ w32 (a .x) (s .fits .x))) (c .before .before .before .before .if1 .taken)) (r .ensures)
+
+-- src/lib.rt:62:5
+slice-write-out : tie.Need-slice-write-out
+slice-write-out c = search needs
+
+-- src/lib.rt:63:24
+add-spell-decimal : tie.Need-add-spell-decimal
+add-spell-decimal c = search needs
+
+-- src/lib.rt:63:53
+sub-spell-decimal : tie.Need-sub-spell-decimal
+sub-spell-decimal c = search needs
+
+-- src/lib.rt:63:5
+spell-decimal-requires-2 : tie.Need-spell-decimal-requires-2
+spell-decimal-requires-2 c κs =
+    let s = c .before .before .before .before in
+    omega (arith, length-set (s .args .out .now) (s .args .at) 45, s .pre)
+
+-- src/lib.rt:54:1
+same-length-2 : tie.Need-same-length-2
+same-length-2 c =
+    let a = c .before .before .before .before .before .before .before .args in
+    omega (arith, length-set (a .out .now) (a .at) 45, c .before .before .spell-decimal2 .kept .0)
+
+-- src/lib.rt:54:1
+returns-2 : tie.Need-returns-2
+returns-2 c =
+    let s = c .before .before .before .before .before .before .before in
+    let a = s .args in
+    let b = c .before .before .before .before .before .bits in
+    let r = c .before .before .spell-decimal2 in
+    subst (λ (l : List ℕ). Wrote l (a .at) (a .out .now) (r .result) (r .last .0)) (signed-below mostDecimals (a .x) (b .result) (s .fits .x) (b .ensures ∙ ap bitsOf (toZ-ofZ w32 (a .x) (s .fits .x))) (c .before .before .before .before .if1 .left))
+    (wrote-after 45 (a .at) (decimalOf mostDecimals (4294967296 - b .result)) (omega (arith, length-decimalOf mostDecimals (4294967296 - b .result), s .pre)) (r .ensures))
+
+pub spell-signed-spec : {M : Type 1} → statement M
+spell-signed-spec =
+    tie.close
+    (tie.spec
+    bits-requires
+    cast-b
+    spell-decimal-requires
+    same-length
+    returns
+    slice-write-out
+    add-spell-decimal
+    sub-spell-decimal
+    spell-decimal-requires-2
+    same-length-2
+    returns-2)

@@ -1,0 +1,35 @@
+-- `sheet_cells::spell_two` meets its contract.
+-- Assumes nothing.
+use native.Mathlib.Omega.{arith}
+use Rattle.sheet.proofs.SizeLaws.{length-cellOf}
+use Rattle.sheet_cells.proofs.CellLaws.{wrote-two}
+use borrow.Author.Needs.{needs}
+use Rattle.sheet_cells.proofs.spell_two.Statement.{statement}
+use Rattle.sheet_cells.proofs.spell_two.Tie as tie
+use Rattle.sheet_cells.proofs.spell_two.Reads as reads
+use Rattle.sheet_cells.proofs.spell_two.Lts as lts
+use Rattle.sheet_cells.proofs.spell_cell.Reads as spell-cell-reads
+
+-- src/lib.rt:71:9
+spell-cell-requires : tie.Need-spell-cell-requires
+spell-cell-requires c κs = search needs
+
+-- src/lib.rt:72:5
+spell-cell-requires-2 : tie.Need-spell-cell-requires-2
+spell-cell-requires-2 c κs =
+    let a = c .before .before .before .before .before .before .args in
+    omega (arith, length-cellOf (a .v))
+
+-- src/lib.rt:67:1
+same-length : tie.Need-same-length
+same-length c = search needs
+
+-- src/lib.rt:67:1
+returns : tie.Need-returns
+returns c =
+    let s = c .before .before .before .before .before .before .before .before .before in
+    let a = s .args in
+    wrote-two (a .v) (a .w) (a .at) (s .pre) (c .before .before .before .before .before .before .spell-cell .ensures) (c .before .before .spell-cell2 .ensures)
+
+pub spell-two-spec : {M : Type 1} → statement M
+spell-two-spec = tie.close (tie.spec spell-cell-requires spell-cell-requires-2 same-length returns)

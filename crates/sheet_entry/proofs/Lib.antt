@@ -1,0 +1,2 @@
+-- The laws that the proofs of sheet_entry cite.
+pub mod EnterLaws

@@ -1,0 +1,56 @@
+-- `sheet_entry::enter` meets its contract: what is said leaves room for its line feed.
+-- Assumes nothing.
+use native.Mathlib.Omega.{arith}
+use mathlib.Core.List.{[], _∷_}
+use lib.ListN.{length-append}
+use Rattle.sheet.specs.Entry.{entryOf}
+use Rattle.sheet.proofs.EntryLaws.{entered-most}
+use Rattle.sheet_cells.proofs.CellLaws.{wrote-then}
+use borrow.Author.Needs.{needs}
+use Rattle.sheet_entry.proofs.enter.Statement.{statement}
+use Rattle.sheet_entry.proofs.enter.Tie as tie
+use Rattle.sheet_entry.proofs.enter.Reads as reads
+use Rattle.sheet_entry.proofs.enter.Lts as lts
+use Rattle.sheet_entry.proofs.enter_line.Reads as enter-line-reads
+
+enter-line-requires : tie.Need-enter-line-requires
+enter-line-requires c κs = search needs
+
+slice-write-out : tie.Need-slice-write-out
+slice-write-out c =
+    let r = c .before .before .before .before .before .before .enter-line in
+    let s = c .before .before .before .before .before .before .before .before .before .before .before .before .before .before in
+    omega (arith, s .pre .1, entered-most (s .args .s .now), length-append (entryOf (s .args .s .now)) (10 ∷ []), r .ensures .end, r .kept .1 .1 .1 .0)
+
+add-result : tie.Need-add-result
+add-result c =
+    let r = c .before .before .before .before .before .before .enter-line in
+    let s = c .before .before .before .before .before .before .before .before .before .before .before .before .before .before in
+    search (needs, s .pre .1, entered-most (s .args .s .now), length-append (entryOf (s .args .s .now)) (10 ∷ []), r .ensures .end, r .kept .1 .1 .1 .0)
+
+same-length : tie.Need-same-length
+same-length c = search needs
+
+same-length-2 : tie.Need-same-length-2
+same-length-2 c = search needs
+
+same-length-3 : tie.Need-same-length-3
+same-length-3 c = search needs
+
+returns : tie.Need-returns
+returns c =
+    let r = c .before .before .before .before .before .before .enter-line in
+    let s = c .before .before .before .before .before .before .before .before .before .before .before .before .before .before in
+    wrote-then (entryOf (s .args .s .now)) 10 (s .args .at) (r .ensures) (omega (arith, s .pre .1, entered-most (s .args .s .now), length-append (entryOf (s .args .s .now)) (10 ∷ [])))
+
+pub enter-spec : {M : Type 1} → statement M
+enter-spec =
+    tie.close
+    (tie.spec
+    enter-line-requires
+    slice-write-out
+    add-result
+    same-length
+    same-length-2
+    same-length-3
+    returns)

@@ -1,0 +1,73 @@
+-- `sheet_entry::enter_polygon` meets its contract: a room has its polygon in the buffer, and any other walk has none.
+-- Assumes nothing.
+use mathlib.Core.Path.{refl, sym, subst}
+use mathlib.Core.List.{List}
+use Prim.Native.Nat.{ℕ}
+use native.Mathlib.Omega.{arith}
+use lib.Seq.{length-take-le}
+use Rattle.line_fields.specs.Put.{Wrote}
+use Rattle.line_fields.proofs.PutLaws.{wrote-nil}
+use Rattle.sheet_entry.proofs.EnterLaws.{polygon-many, polygon-none}
+use borrow.Author.Needs.{needs}
+use Rattle.sheet_entry.proofs.enter_polygon.Statement.{statement}
+use Rattle.sheet_entry.proofs.enter_polygon.Tie as tie
+use Rattle.sheet_entry.proofs.enter_polygon.Reads as reads
+use Rattle.sheet_entry.proofs.enter_polygon.Lts as lts
+use Rattle.polygon_out.proofs.write.Reads as write-reads
+use Rattle.sheet_cells.proofs.spell_bytes.Reads as spell-bytes-reads
+
+slice-aggregate-write : tie.Need-slice-aggregate-write
+slice-aggregate-write c = search needs
+
+write-requires : tie.Need-write-requires
+write-requires c κs = search needs
+
+enum-known-n : tie.Need-enum-known-n
+enum-known-n c = search needs
+
+array-share-prefix-polygon : tie.Need-array-share-prefix-polygon
+array-share-prefix-polygon c =
+    omega (arith, polygon-many (c .before .before .before .before .before .before .before .before .before .args .steps .now) (c .before .before .before .before .before .before .before .before .before .pre .0 .0) (c .before .before .before .before .before .before .before .before .before .pre .0 .1) (c .before .before .before .before .before .write .ensures) refl (c .before .before .n .given .0 .0) (c .before .before .n .given .1) .0, c .before .before .before .before .before .write .kept .1 .1 .0)
+
+slice-aggregate-spell-bytes : tie.Need-slice-aggregate-spell-bytes
+slice-aggregate-spell-bytes c =
+    sym (length-take-le (c .before .before .before .n .given .0 .0) (c .before .before .before .before .before .before .write .last .1 .1 .0) (omega (arith, polygon-many (c .before .before .before .before .before .before .before .before .before .before .args .steps .now) (c .before .before .before .before .before .before .before .before .before .before .pre .0 .0) (c .before .before .before .before .before .before .before .before .before .before .pre .0 .1) (c .before .before .before .before .before .before .write .ensures) refl (c .before .before .before .n .given .0 .0) (c .before .before .before .n .given .1) .0, c .before .before .before .before .before .before .write .kept .1 .1 .0)))
+
+spell-bytes-requires : tie.Need-spell-bytes-requires
+spell-bytes-requires c κs =
+    let n = c .before .before .before .n .given .0 .0 in
+    let m = polygon-many (c .before .before .before .before .before .before .before .before .before .before .args .steps .now) (c .before .before .before .before .before .before .before .before .before .before .pre .0 .0) (c .before .before .before .before .before .before .before .before .before .before .pre .0 .1) (c .before .before .before .before .before .before .write .ensures) refl (c .before .before .before .n .given .0 .0) (c .before .before .before .n .given .1) .0 in
+    omega (arith, m, c .before .before .before .before .before .before .before .before .before .before .pre .1, length-take-le n (c .before .before .before .before .before .before .write .last .1 .1 .0) (omega (arith, m, c .before .before .before .before .before .before .write .kept .1 .1 .0)))
+
+enum-told : tie.Need-enum-told
+enum-told c = search needs
+
+same-length : tie.Need-same-length
+same-length c = search needs
+
+returns : tie.Need-returns
+returns c =
+    let r = c .before .before .spell-bytes in
+    let a = c .before .before .before .before .before .before .before .before .before .before .before .before .before .args in
+    subst (λ (l : List ℕ). Wrote l (a .at) (a .out .now) (r .result) (r .last .0)) (polygon-many (c .before .before .before .before .before .before .before .before .before .before .before .before .before .args .steps .now) (c .before .before .before .before .before .before .before .before .before .before .before .before .before .pre .0 .0) (c .before .before .before .before .before .before .before .before .before .before .before .before .before .pre .0 .1) (c .before .before .before .before .before .before .before .before .before .write .ensures) refl (c .before .before .before .before .before .before .n .given .0 .0) (c .before .before .before .before .before .before .n .given .1) .1) (r .ensures)
+
+returns-2 : tie.Need-returns-2
+returns-2 c =
+    let s = c .before .before .before .before .before .before .before in
+    let a = s .args in
+    subst (λ (l : List ℕ). Wrote l (a .at) (a .out .now) (a .at) (a .out .now)) (polygon-none (a .steps .now) (s .pre .0 .0) (s .pre .0 .1) (c .before .before .before .write .ensures) refl _ (c .enum-told .given .1)) (wrote-nil (a .at) (a .out .now))
+
+pub enter-polygon-spec : {M : Type 1} → statement M
+enter-polygon-spec =
+    tie.close
+    (tie.spec
+    slice-aggregate-write
+    write-requires
+    enum-known-n
+    array-share-prefix-polygon
+    slice-aggregate-spell-bytes
+    spell-bytes-requires
+    enum-told
+    same-length
+    returns
+    returns-2)

@@ -1,0 +1,42 @@
+-- `sheet_entry::enter_refused` meets its contract.
+-- Assumes nothing.
+use mathlib.Core.Path.{subst₂}
+use Prim.Native.Nat.{ℕ}
+use Rattle.line_fields.specs.Put.{Wrote}
+use Rattle.sheet.specs.Entry.{cellsOf, noFacts}
+use borrow.Author.Needs.{needs}
+use Rattle.sheet_entry.proofs.enter_refused.Statement.{statement}
+use Rattle.sheet_entry.proofs.enter_refused.Tie as tie
+use Rattle.sheet_entry.proofs.enter_refused.Reads as reads
+use Rattle.sheet_entry.proofs.enter_refused.Lts as lts
+use Rattle.answer.proofs.refusal_number.Reads as refusal-number-reads
+use Rattle.answer.proofs.refusal_place.Reads as refusal-place-reads
+use Rattle.sheet_cells.proofs.spell_cells.Reads as spell-cells-reads
+
+refusal-number-requires : tie.Need-refusal-number-requires
+refusal-number-requires c κs = search needs
+
+refusal-place-requires : tie.Need-refusal-place-requires
+refusal-place-requires c κs = search needs
+
+spell-cells-requires : tie.Need-spell-cells-requires
+spell-cells-requires c κs = search needs
+
+same-length : tie.Need-same-length
+same-length c = search needs
+
+returns : tie.Need-returns
+returns c =
+    let a = c .before .before .before .before .before .before .before .args in
+    let r = c .before .before .spell-cells in
+    subst₂ (λ (m n : ℕ). Wrote (cellsOf m n noFacts) (a .at) (a .out .now) (r .result) (r .last .0)) (c .before .before .before .before .before .refusal-number .ensures .0) (c .before .before .before .before .refusal-place .ensures) (r .ensures)
+
+pub enter-refused-spec : {M : Type 1} → statement M
+enter-refused-spec =
+    tie.close
+    (tie.spec
+    refusal-number-requires
+    refusal-place-requires
+    spell-cells-requires
+    same-length
+    returns)

@@ -1,0 +1,2 @@
+-- What the function that numbers lines promises.
+pub mod Numbered
