@@ -1,5 +1,6 @@
 // The neighbour of a node, found or made: a loop climbs to the parents until a link, the root or a shared parent is found, and a loop
-// comes down again. Nothing here calls itself. A node is answered by its ref, 0 if there was no room.
+// comes down again. Nothing here calls itself. A node is answered by its ref, 0 if there was no room; so many nodes are in use then as
+// the greater of how many there were and that ref, since a node that is made is the last one.
 ghost use mathlib.Core.Path.{_≡_};
 ghost use mathlib.Core.Bool.{false, cond};
 ghost use Prim.Native.Nat.{suc, _+_, _^_, _<_, max};
@@ -19,16 +20,6 @@ use walk_table::link;
 use walk_table::put;
 use walk_table::word;
 use walk_table::zero;
-
-// How many nodes are in use after a lookup that answered `at`: a node that is made is the last one.
-pub fn in_use(nodes: usize, at: usize) -> usize
-    ensures { λ r. ⌜ r ≡ max nodes at ⌝ }
-{
-    if nodes < at {
-        return at;
-    }
-    nodes
-}
 
 // The child of u that stands in this word of its record: found, or made for the step.
 pub fn child(t: &mut [u32], nodes: usize, u: usize, place: usize, step: u32) -> usize
@@ -161,7 +152,7 @@ fn come_down(
         let e = walk_corner::moved(a, d);
         to = child(
             t,
-            in_use(nodes, to),
+            order::greater(nodes, to),
             to - 1,
             walk_corner::child_word(e),
             step,

@@ -103,7 +103,7 @@ fn go(t: &mut [u32], w: Spot, d: u8) -> Gone
         node: at - 1,
         at: there,
         steps: n,
-        nodes: walk_lookup::in_use(nodes, at),
+        nodes: order::greater(nodes, at),
     })
 }
 

@@ -75,8 +75,8 @@ moved-requires c κs =
     let h = up-small (l .left - 1) (a .c) in
     (omega (arith, ap (λ (y : Corner). natAbs (y .0)) p, h .0, q .0), omega (arith, ap (λ (y : Corner). natAbs (y .1)) p, h .1, q .1))
 
-in-use-requires : tie.Need-in-use-requires Inv-loop μ-loop
-in-use-requires c κs = search needs
+greater-requires : tie.Need-greater-requires Inv-loop μ-loop
+greater-requires c κs = search needs
 
 sub-child : tie.Need-sub-child Inv-loop μ-loop
 sub-child c =
@@ -94,7 +94,7 @@ child-requires c κs =
     let k = s .pre .0 in
     let more : 0 < l .left = omega (arith, c .before .before .before .before .before .before .before .before .loop-test .taken) in
     let h = step-held (l .t) (a .nodes) (l .at) (l .to) (a .c) (a .d) (a .step) (l .left) (k .state) (l .inv .2 (k .state) (k .descends)) more (q .2) (q .3) (l .inv .1) in
-    let n = c .before .in-use .ensures in
+    let n = c .before .greater .ensures in
     let w = child-word-small (c .before .before .before .moved .result) in
     let z = c .child-word2 .ensures in (
       record { state = raised (k .state) (a .step) (upBy (l .left - 1) (a .c)) (stepped (a .d) (upBy (l .left - 1) (a .c))); holds = subst (λ (x : ℕ). Holds (l .t) x (raised (k .state) (a .step) (upBy (l .left - 1) (a .c)) (stepped (a .d) (upBy (l .left - 1) (a .c))))) (sym n) (h .0) },
@@ -112,7 +112,7 @@ returns c =
     let q = s .pre .1 in
     let more : 0 < l .left = omega (arith, c .before .before .before .before .before .before .before .before .before .before .before .before .loop-test .taken) in
     λ S x.
-    let g = step-grew (l .t) (a .nodes) (l .at) (l .to) (a .c) (a .d) (a .step) (l .left) S (l .inv .2 S x) more (q .2) (q .3) (l .inv .1) (c .before .before .before .before .before .in-use .result) (c .before .before .before .before .child-word2 .result) (c .before .before .before .before .before .in-use .ensures) (c .before .before .before .before .child-word2 .ensures ∙ ap childWord (c .before .before .before .before .before .before .before .moved .ensures ∙ ap (stepped (a .d)) (c .before .before .before .before .before .before .before .before .before .before .before .up-by .ensures))) (c .before .before .before .child .last .0) (c .before .before .before .child .result) (c .before .before .before .child .ensures .0) in
+    let g = step-grew (l .t) (a .nodes) (l .at) (l .to) (a .c) (a .d) (a .step) (l .left) S (l .inv .2 S x) more (q .2) (q .3) (l .inv .1) (c .before .before .before .before .before .greater .result) (c .before .before .before .before .child-word2 .result) (c .before .before .before .before .before .greater .ensures) (c .before .before .before .before .child-word2 .ensures ∙ ap childWord (c .before .before .before .before .before .before .before .moved .ensures ∙ ap (stepped (a .d)) (c .before .before .before .before .before .before .before .before .before .before .before .up-by .ensures))) (c .before .before .before .child .last .0) (c .before .before .before .child .result) (c .before .before .before .child .ensures .0) in
     subst (λ (w : ℕ). Made w (reached S (a .step) (a .c) (stepped (a .d) (a .c))) (stepped (a .d) (a .c)) (c .before .before .before .child .last .0) (c .before .before .before .child .result) (max (a .nodes) (c .before .before .before .child .result))) (l .inv .0)
     (step-none (l .t) (a .nodes) (l .at) (l .to) (a .c) (a .d) (a .step) (l .left) S (l .inv .2 S x) more (q .2) (q .3) (l .inv .1) (c .before .before .before .child .last .0) (c .before .before .before .child .result) g (c .if1 .taken))
 
@@ -128,7 +128,7 @@ link-requires c κs =
     let k = s .pre .0 in
     let more : 0 < l .left = omega (arith, c .before .before .before .before .before .before .before .before .before .before .before .before .before .loop-test .taken) in
     let v = c .before .before .before .before .child in
-    let g = step-grew (l .t) (a .nodes) (l .at) (l .to) (a .c) (a .d) (a .step) (l .left) (k .state) (l .inv .2 (k .state) (k .descends)) more (q .2) (q .3) (l .inv .1) (c .before .before .before .before .before .before .in-use .result) (c .before .before .before .before .before .child-word2 .result) (c .before .before .before .before .before .before .in-use .ensures) (c .before .before .before .before .before .child-word2 .ensures ∙ ap childWord (c .before .before .before .before .before .before .before .before .moved .ensures ∙ ap (stepped (a .d)) (c .before .before .before .before .before .before .before .before .before .before .before .before .up-by .ensures))) (c .before .before .before .before .child .last .0) (c .before .before .before .before .child .result) (c .before .before .before .before .child .ensures .0) in
+    let g = step-grew (l .t) (a .nodes) (l .at) (l .to) (a .c) (a .d) (a .step) (l .left) (k .state) (l .inv .2 (k .state) (k .descends)) more (q .2) (q .3) (l .inv .1) (c .before .before .before .before .before .before .greater .result) (c .before .before .before .before .before .child-word2 .result) (c .before .before .before .before .before .before .greater .ensures) (c .before .before .before .before .before .child-word2 .ensures ∙ ap childWord (c .before .before .before .before .before .before .before .before .moved .ensures ∙ ap (stepped (a .d)) (c .before .before .before .before .before .before .before .before .before .before .before .before .up-by .ensures))) (c .before .before .before .before .child .last .0) (c .before .before .before .before .child .result) (c .before .before .before .before .child .ensures .0) in
     let f : v .result ≡ 0 → ⊥ = λ z. c .before .if1 .left z in
     let h = step-bounds (l .t) (a .nodes) (l .at) (l .to) (a .c) (a .d) (a .step) (l .left) (k .state) (l .inv .2 (k .state) (k .descends)) more (q .2) (q .3) (l .inv .1) (v .last .0) (v .result) g f in
     let w : c .before .before .before .before .before .before .before .before .before .before .child-word .result ≡ childWord (upBy (l .left - 1) (a .c)) = c .before .before .before .before .before .before .before .before .before .before .child-word .ensures ∙ ap childWord (c .before .before .before .before .before .before .before .before .before .before .before .before .up-by .ensures) in
@@ -152,7 +152,7 @@ loop-again c =
     let f : v .result ≡ 0 → ⊥ = λ z. c .before .before .before .before .if1 .left z in
     let w : c .before .before .before .before .before .before .before .before .before .before .before .before .before .child-word .result ≡ childWord (upBy (l .left - 1) (a .c)) = c .before .before .before .before .before .before .before .before .before .before .before .before .before .child-word .ensures ∙ ap childWord (c .before .before .before .before .before .before .before .before .before .before .before .before .before .before .before .up-by .ensures) in
     let r = c .before .before .before .before .before .before .before .before .before .before .before .before .word .ensures ∙ ap (λ (x : ℕ). getD (l .t) (wordAt (l .at) x) 0) w in
-    let next : (S : State) → Descends (a .t .now) (a .nodes) (a .u) (a .v) (a .c) (a .d) (a .step) (a .level) S → Descends (c .before .before .link .last .0) (a .nodes) (c .before .before .before .before .before .before .before .before .before .before .before .before .word .result - 1) (v .result) (a .c) (a .d) (a .step) (l .left - 1) S × (length (c .before .before .link .last .0) ≡ length (l .t)) = λ S x. step-next (l .t) (a .nodes) (l .at) (l .to) (a .c) (a .d) (a .step) (l .left) S (l .inv .2 S x) more (q .2) (q .3) (l .inv .1) (v .last .0) (v .result) (step-grew (l .t) (a .nodes) (l .at) (l .to) (a .c) (a .d) (a .step) (l .left) S (l .inv .2 S x) more (q .2) (q .3) (l .inv .1) (c .before .before .before .before .before .before .before .before .before .in-use .result) (c .before .before .before .before .before .before .before .before .child-word2 .result) (c .before .before .before .before .before .before .before .before .before .in-use .ensures) (c .before .before .before .before .before .before .before .before .child-word2 .ensures ∙ ap childWord (c .before .before .before .before .before .before .before .before .before .before .before .moved .ensures ∙ ap (stepped (a .d)) (c .before .before .before .before .before .before .before .before .before .before .before .before .before .before .before .up-by .ensures))) (c .before .before .before .before .before .before .before .child .last .0) (c .before .before .before .before .before .before .before .child .result) (c .before .before .before .before .before .before .before .child .ensures .0)) f (c .before .before .before .before .before .before .before .before .before .before .before .before .word .result - 1) (step-number (l .t) (a .nodes) (l .at) (l .to) (a .c) (a .d) (a .step) (l .left) S (l .inv .2 S x) more (q .2) (q .3) (l .inv .1) (c .before .before .before .before .before .before .before .before .before .before .before .before .word .result) r .1) (c .before .before .link .last .0) (c .before .before .link .ensures) in
+    let next : (S : State) → Descends (a .t .now) (a .nodes) (a .u) (a .v) (a .c) (a .d) (a .step) (a .level) S → Descends (c .before .before .link .last .0) (a .nodes) (c .before .before .before .before .before .before .before .before .before .before .before .before .word .result - 1) (v .result) (a .c) (a .d) (a .step) (l .left - 1) S × (length (c .before .before .link .last .0) ≡ length (l .t)) = λ S x. step-next (l .t) (a .nodes) (l .at) (l .to) (a .c) (a .d) (a .step) (l .left) S (l .inv .2 S x) more (q .2) (q .3) (l .inv .1) (v .last .0) (v .result) (step-grew (l .t) (a .nodes) (l .at) (l .to) (a .c) (a .d) (a .step) (l .left) S (l .inv .2 S x) more (q .2) (q .3) (l .inv .1) (c .before .before .before .before .before .before .before .before .before .greater .result) (c .before .before .before .before .before .before .before .before .child-word2 .result) (c .before .before .before .before .before .before .before .before .before .greater .ensures) (c .before .before .before .before .before .before .before .before .child-word2 .ensures ∙ ap childWord (c .before .before .before .before .before .before .before .before .before .before .before .moved .ensures ∙ ap (stepped (a .d)) (c .before .before .before .before .before .before .before .before .before .before .before .before .before .before .before .up-by .ensures))) (c .before .before .before .before .before .before .before .child .last .0) (c .before .before .before .before .before .before .before .child .result) (c .before .before .before .before .before .before .before .child .ensures .0)) f (c .before .before .before .before .before .before .before .before .before .before .before .before .word .result - 1) (step-number (l .t) (a .nodes) (l .at) (l .to) (a .c) (a .d) (a .step) (l .left) S (l .inv .2 S x) more (q .2) (q .3) (l .inv .1) (c .before .before .before .before .before .before .before .before .before .before .before .before .word .result) r .1) (c .before .before .link .last .0) (c .before .before .link .ensures) in
     (next (k .state) (k .descends) .1 ∙ l .inv .0, omega (arith, f), λ S x. next S x .0)
 
 same-length-2 : tie.Need-same-length-2 Inv-loop μ-loop
@@ -182,7 +182,7 @@ come-down-spec =
     cast-at
     sub-at
     moved-requires
-    in-use-requires
+    greater-requires
     sub-child
     child-word-requires-2
     child-requires

@@ -68,8 +68,8 @@ moved-requires c κs = search needs
 sub-t16 : tie.Need-sub-t16
 sub-t16 c = search needs
 
-in-use-requires : tie.Need-in-use-requires
-in-use-requires c κs = search needs
+greater-requires : tie.Need-greater-requires
+greater-requires c κs = search needs
 
 same-length-2 : tie.Need-same-length-2
 same-length-2 c = search needs
@@ -83,9 +83,9 @@ returns-2 c =
     let v = c .before .before .before .before .before .before .before .before .visit in
     let e = c .before .before .before .before .tread in
     let m = c .before .moved in
-    let r : Spot = record { node = o .result - 1; at = m .result; steps = a .w .steps + 1; nodes = c .in-use .result } in
+    let r : Spot = record { node = o .result - 1; at = m .result; steps = a .w .steps + 1; nodes = c .greater .result } in
     λ x ds h.
-    step-to (a .t .now) x ds (a .w) h (a .d) (q .2) (o .last .0) (o .result) (max (a .w .nodes) (o .result)) (o .ensures .0) (c .before .before .before .before .before .before .before .before .before .before .if1 .left) (v .last .0) (e .last .0) (v .ensures) (e .ensures) r refl (m .ensures) refl (c .in-use .ensures)
+    step-to (a .t .now) x ds (a .w) h (a .d) (q .2) (o .last .0) (o .result) (max (a .w .nodes) (o .result)) (o .ensures .0) (c .before .before .before .before .before .before .before .before .before .before .if1 .left) (v .last .0) (e .last .0) (v .ensures) (e .ensures) r refl (m .ensures) refl (c .greater .ensures)
 
 pub go-spec : {M : Type 1} → statement M
 go-spec =
@@ -102,6 +102,6 @@ go-spec =
     tread-requires
     moved-requires
     sub-t16
-    in-use-requires
+    greater-requires
     same-length-2
     returns-2)
