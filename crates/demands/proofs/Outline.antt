@@ -10,12 +10,12 @@ use Rattle.lists.specs.Lists.{Distinct, Below}
 use Rattle.answer.specs.declared.{Counted.Counted, Judged.the-variants.Good, Judged.the-variants.Refused, Refusal.Refusal}
 use Rattle.answer.specs.Limits.{mostSteps}
 use Rattle.grid.specs.declared.{Corner.Corner, Panel.Panel}
-use Rattle.grid.specs.Grid.{cornersFrom, endFrom, cornerAt}
+use Rattle.grid.specs.Grid.{cornersFrom, endFrom, cornerAt, legsFrom}
 use Rattle.trace.specs.Verdict.{IsRoom}
 use Rattle.hull.specs.Hull.{Begins}
 use Rattle.panels.specs.Inside.{Inside, leftOf, rightOf, EachStep}
 use Rattle.panels.specs.Outline.{startedAt, backward}
-use Rattle.outline.specs.Outline.{edgesOf, walked, homeOf, OutlineIs}
+use Rattle.outline.specs.Outline.{walked, homeOf, OutlineIs}
 use Rattle.outline.specs.Call.{OutlineCall}
 use Rattle.outline.proofs.CallLaws as callLaws
 use Rattle.outline.proofs.Computed.{outlineOf}
@@ -61,11 +61,11 @@ module _ {s : Corner} {ds es : List ℕ} (o : OutlineIs s ds es) where
   outline-digits = outlineLaws.outline-below o
 
   -- each of its steps goes along an edge that was walked, in that sense or in the other
-  pub outline-walked : (p q : Corner) → List·Memᴰ (p, q) (edgesOf (homeOf s ds) es) → List·Memᴰ (p, q) (edgesOf s ds) ⊎ List·Memᴰ (q, p) (edgesOf s ds)
+  pub outline-walked : (p q : Corner) → List·Memᴰ (p, q) (legsFrom (homeOf s ds) es) → List·Memᴰ (p, q) (legsFrom s ds) ⊎ List·Memᴰ (q, p) (legsFrom s ds)
   outline-walked = fewLaws.outline-walked o
 
   -- no edge is used twice in one sense
-  pub outline-once : Distinct (edgesOf (homeOf s ds) es)
+  pub outline-once : Distinct (legsFrom (homeOf s ds) es)
   outline-once = fewLaws.outline-once o
 
   -- so it has at most twice as many steps as the walk has different edges

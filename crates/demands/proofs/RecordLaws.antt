@@ -10,16 +10,16 @@ use native.Mathlib.Omega.{arith}
 use lib.ListN.{length, getD}
 use Rattle.lists.specs.Lists.{find, count}
 use Rattle.grid.specs.declared.Corner.{Corner}
-use Rattle.grid.specs.Grid.{origin, same, stepped}
+use Rattle.grid.specs.Grid.{origin, same, stepped, legsOf, joins}
 use Rattle.grid.specs.Tree.{parentOf, childWord, AncestorAt}
-use Rattle.tree.specs.Nodes.{nodesOf, refOf, legsOf, joins, linkStepOf, needOf, InUse, LinkedBy}
+use Rattle.tree.specs.Nodes.{nodesOf, refOf, linkStepOf, needOf, InUse, LinkedBy}
 use Rattle.layout.specs.Table.{width, fieldsOf, recordOf, childRefOf, neighbourRefOf, edgesOf}
 use Rattle.grid.proofs.CornerLaws.{same-refl, same-sound}
 use Rattle.lists.proofs.DistinctLaws.{mem-getD}
 use Rattle.lists.proofs.FindLaws.{find-get, find-none}
 use Rattle.lists.proofs.ZipLaws.{find-least}
 use Rattle.tree.proofs.InUseLaws.{node-inUse, inUse-ref, parent-inUse}
-use Rattle.tree.proofs.JoinLaws.{joins-cases, joins-here, joins-there}
+use Rattle.grid.proofs.JoinLaws.{joins-cases, joins-here, joins-there}
 use Rattle.tree.proofs.LinkStepLaws.{link-made, link-least}
 use Rattle.tree.proofs.OrderLaws.{need-there, need-least}
 use Rattle.tree.proofs.RefLaws.{not-any}

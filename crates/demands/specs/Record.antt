@@ -8,9 +8,9 @@ use Prim.Native.Nat.{ℕ, suc, _+_, _<_, _≤_, pred}
 use lib.ListN.{length, getD}
 use Rattle.lists.specs.Lists.{count}
 use Rattle.grid.specs.declared.Corner.{Corner}
-use Rattle.grid.specs.Grid.{origin, same, stepped}
+use Rattle.grid.specs.Grid.{origin, same, stepped, legsOf, joins}
 use Rattle.grid.specs.Tree.{parentOf, isRoot, childWord, AncestorAt}
-use Rattle.tree.specs.Nodes.{nodesOf, legsOf, joins, InUse, LinkedBy}
+use Rattle.tree.specs.Nodes.{nodesOf, InUse, LinkedBy}
 use Rattle.demands.specs.Given.{First}
 
 -- n is the ref of b: its node number plus 1

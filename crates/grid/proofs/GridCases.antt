@@ -1,9 +1,10 @@
 -- Steps, parents and child words, computed.
 -- Assumes nothing.
 use mathlib.Core.List.{[], _∷_}
+use mathlib.Core.Bool.{true, false}
 use mathlib.Core.Path.{_≡_, refl}
 use lib.IntN.{pos, negsuc}
-use Rattle.grid.specs.Grid.{corner, origin, cornersFrom, cornerAt}
+use Rattle.grid.specs.Grid.{corner, origin, cornersFrom, cornerAt, legsFrom, joins}
 use Rattle.grid.specs.Tree.{root, halfOf, lineageOf, pathOf, slotOf, childWord}
 
 -- -1 is a child of 0
@@ -55,3 +56,13 @@ corners-of-a-walk = refl
 
 corner-at-four : cornerAt origin (0 ∷ 1 ∷ 2 ∷ 2 ∷ 3 ∷ []) 4 ≡ corner (negsuc 0) (pos 1)
 corner-at-four = refl
+
+-- a step has its two ends in either sense, and no other corner
+legs-of-a-walk : legsFrom origin (0 ∷ 2 ∷ []) ≡ (origin, corner (pos 1) (pos 0)) ∷ (corner (pos 1) (pos 0), origin) ∷ []
+legs-of-a-walk = refl
+
+joined-the-other-way : joins (corner (pos 1) (pos 0)) origin (origin, corner (pos 1) (pos 0)) ≡ true
+joined-the-other-way = refl
+
+joined-to-another : joins origin (corner (pos 0) (pos 1)) (origin, corner (pos 1) (pos 0)) ≡ false
+joined-to-another = refl

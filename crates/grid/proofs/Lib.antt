@@ -7,3 +7,4 @@ pub mod ColourLaws
 pub mod ChildLaws
 pub mod BoundLaws
 pub mod AncestorLaws
+pub mod JoinLaws

@@ -1,5 +1,5 @@
 -- Corners, panels and steps (RULES 1.1, 1.2, 1.4). A step is a digit: 0 east, 1 north, 2 west, 3 south. Assumes nothing.
-use Rattle.lists.specs.Lists.{Bool, false, _&&_, List, [], _∷_, take, ℕ, zero, suc, eqb, ℤ, pos, negsuc, sucℤ, predℤ}
+use Rattle.lists.specs.Lists.{Bool, false, _&&_, _||_, List, [], _∷_, take, ℕ, zero, suc, eqb, ℤ, pos, negsuc, sucℤ, predℤ, zip}
 use Rattle.grid.specs.declared.{Corner.Corner, Panel.Panel}
 
 -- the corner with these coordinates
@@ -39,10 +39,13 @@ eastOf d = stepped d origin .0
 abbrev pub northOf : ℕ → ℤ
 northOf d = stepped d origin .1
 
--- the corners p0 to pn of the walk of these steps from c
+-- the corners p1 to pn of the walk of these steps from c, which is p0; and p0 to pn
+abbrev pub laterFrom : Corner → List ℕ → List Corner
+laterFrom c [] = []
+laterFrom c (d ∷ ds) = stepped d c ∷ laterFrom (stepped d c) ds
+
 abbrev pub cornersFrom : Corner → List ℕ → List Corner
-cornersFrom c [] = c ∷ []
-cornersFrom c (d ∷ ds) = c ∷ cornersFrom (stepped d c) ds
+cornersFrom c ds = c ∷ laterFrom c ds
 
 -- its last corner pn
 abbrev pub endFrom : Corner → List ℕ → Corner
@@ -52,3 +55,15 @@ endFrom c (d ∷ ds) = endFrom (stepped d c) ds
 -- its corner pk: the last of its first k steps
 abbrev pub cornerAt : Corner → List ℕ → ℕ → Corner
 cornerAt c ds k = endFrom c (take k ds)
+
+-- the steps of a walk with the corners ps, each as its two ends, where it begins first; and those of the walk of these steps from c
+abbrev pub legsOf : List Corner → List (Corner × Corner)
+legsOf [] = []
+legsOf (p ∷ ps) = zip (p ∷ ps) ps
+
+abbrev pub legsFrom : Corner → List ℕ → List (Corner × Corner)
+legsFrom c ds = legsOf (cornersFrom c ds)
+
+-- a pair is a and b, in either order
+abbrev pub joins : Corner → Corner → Corner × Corner → Bool
+joins a b l = same (l .0) a && same (l .1) b || same (l .0) b && same (l .1) a

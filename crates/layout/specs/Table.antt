@@ -1,7 +1,7 @@
 -- The words of a record, and the table (RULES 4.1 to 4.3). Assumes nothing.
 use Rattle.lists.specs.Lists.{cond, not, _&&_, List, [], _∷_, _++_, length, replicate, ℕ, zero, suc, _+_, _-_, _*_, _/_, _≤_, eqb, find, count}
-use Rattle.grid.specs.{declared.Corner.Corner, Grid.same, Grid.stepped, Grid.cornersFrom, Tree.parentOf, Tree.isRoot, Tree.childWord}
-use Rattle.tree.specs.Nodes.{nodesOf, refOf, needOf, legsOf, joins, linkStepOf}
+use Rattle.grid.specs.{declared.Corner.Corner, Grid.same, Grid.stepped, Grid.cornersFrom, Grid.legsOf, Grid.joins, Tree.parentOf, Tree.isRoot, Tree.childWord}
+use Rattle.tree.specs.Nodes.{nodesOf, refOf, needOf, linkStepOf}
 
 -- words of a record: 14 that all walks in a table share, and 11 of each of m walks
 abbrev pub recordWords : ℕ → ℕ

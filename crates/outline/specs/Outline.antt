@@ -1,21 +1,12 @@
 -- The outer outline of a walk (RULES 15.1 to 15.4): the path along walked edges that keeps to the right, from the lowest of the leftmost corners until it is back there
 -- with each of that corner's walked edges used. A walk without steps is no case apart: it has no walked edge, so that its path is done at once. Assumes nothing.
 use Rattle.lists.specs.Lists.{_≡_, Bool, true, false, cond, not, _&&_, _||_, List, [], _∷_, length, ℕ, zero, suc, _<_, ltZ, any}
-use Rattle.grid.specs.{declared.Corner.Corner, Grid.eqZ, Grid.same, Grid.stepped, Grid.endFrom}
+use Rattle.grid.specs.{declared.Corner.Corner, Grid.eqZ, Grid.same, Grid.stepped, Grid.endFrom, Grid.legsFrom, Grid.joins}
 use Rattle.steps.specs.Turns.{stepAfter}
 
--- the edges of the steps, each as the corner that its step leaves and the corner that it leads to
-abbrev pub edgesOf : Corner → List ℕ → List (Corner × Corner)
-edgesOf c [] = []
-edgesOf c (d ∷ ds) = (c, stepped d c) ∷ edgesOf (stepped d c) ds
-
--- the ends are p and q, in either sense
-abbrev pub joins : Corner → Corner → Corner × Corner → Bool
-joins p q e = same p (e .0) && same q (e .1) || same q (e .0) && same p (e .1)
-
--- the edge from p in direction d was walked, in either sense
+-- the edge from p in direction d was walked: some step has its two ends, in either sense
 abbrev pub walked : Corner → List ℕ → Corner → ℕ → Bool
-walked c ds p d = any (joins p (stepped d p)) (edgesOf c ds)
+walked c ds p d = any (joins p (stepped d p)) (legsFrom c ds)
 
 -- a is left of b, or straight below it
 abbrev pub ahead : Corner → Corner → Bool

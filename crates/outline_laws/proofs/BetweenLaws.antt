@@ -11,9 +11,9 @@ use native.Mathlib.Omega.{arith}
 use lib.ListN.{length}
 use Rattle.lists.specs.Lists.{Distinct}
 use Rattle.grid.specs.declared.Corner.{Corner}
-use Rattle.grid.specs.Grid.{stepped, cornersFrom}
+use Rattle.grid.specs.Grid.{stepped, cornersFrom, legsFrom}
 use Rattle.hull.specs.Hull.{Begins}
-use Rattle.outline.specs.Outline.{edgesOf, walked, homeOf, firstWay, pathOf, OutlineIs}
+use Rattle.outline.specs.Outline.{walked, homeOf, firstWay, pathOf, OutlineIs}
 use Rattle.outline_laws.proofs.OrbitLaws.{after, orbit, after-suc, after-mem, orbit-on, no-sooner, after-agree, orbit-agree}
 use Rattle.outline_laws.proofs.TurnLaws.{onward-fewer}
 use Rattle.outline_laws.proofs.EdgeLaws.{Way, Edge, walked-edge, edge-walked, walked-visited}
@@ -120,9 +120,9 @@ outline-along {c} {ds} {es} o l p d w =
     turn (inl m) = inr m
     turn (inr m) = inl m
 
-    met : (e : Corner × Corner) → List·Memᴰ e (edgesOf (homeOf c ds) es) → (y : Way) × (e ≡ (y .0, stepped (y .1) (y .0))) × Edge c ds (y .0) (stepped (y .1) (y .0))
+    met : (e : Corner × Corner) → List·Memᴰ e (legsFrom (homeOf c ds) es) → (y : Way) × (e ≡ (y .0, stepped (y .1) (y .0))) × Edge c ds (y .0) (stepped (y .1) (y .0))
     met e m =
-        let k = edge-way c ds (length es) (homeOf c ds) (firstWay c ds) e (subst (λ (s : List ℕ). List·Memᴰ e (edgesOf (homeOf c ds) s)) (o .path) m) in
+        let k = edge-way c ds (length es) (homeOf c ds) (firstWay c ds) e (subst (λ (s : List ℕ). List·Memᴰ e (legsFrom (homeOf c ds) s)) (o .path) m) in
         let r = outline-round o l in
         (k .0, k .2, walked-edge c ds (k .0 .0) (k .0 .1) (orbit-on (next c ds) (On c ds) (next-on c ds) (length es) (start c ds) (r .on) (k .1) .1))
 

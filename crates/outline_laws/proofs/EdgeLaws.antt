@@ -9,43 +9,31 @@ use native.Mathlib.Omega.{arith}
 use borrow.Author.Tests.{eqb-true, eq-eqb}
 use lib.Dec.{eqb}
 use lib.ListN.{length}
-use Rattle.lists.proofs.GatherLaws.{and-left, and-right, or-cases, or-right}
+use Rattle.lists.proofs.GatherLaws.{and-left, and-right}
 use Rattle.lists.proofs.FindLaws.{any-mem, any-some}
 use Rattle.grid.specs.declared.Corner.{Corner}
-use Rattle.grid.specs.Grid.{same, stepped, cornersFrom}
+use Rattle.grid.specs.Grid.{same, stepped, cornersFrom, legsFrom, joins}
 use Rattle.grid.proofs.CornerLaws.{same-refl, same-sound}
+use Rattle.grid.proofs.JoinLaws.{joins-pair, joins-here, joins-there}
 use Rattle.grid.proofs.StepLaws.{back, back-small, stepped-back, stepped-inj}
-use Rattle.outline.specs.Outline.{edgesOf, joins, walked}
-
-pub joins-cases : (p q : Corner) (e : Corner × Corner) → joins p q e ≡ true → (e ≡ (p, q)) ⊎ (e ≡ (q, p))
-joins-cases p q e h = ⊎-map (both p q) (both q p) (or-cases (same p (e .0) && same q (e .1)) (same q (e .0) && same p (e .1)) h)
-  where
-    both : (a b : Corner) → (same a (e .0) && same b (e .1)) ≡ true → e ≡ (a, b)
-    both a b k =
-        sym (ap₂ (λ (x y : Corner). (x, y)) (same-sound a (e .0) (and-left (same a (e .0)) (same b (e .1)) k)) (same-sound b (e .1) (and-right (same a (e .0)) (same b (e .1)) k)))
-
-pub joins-same : (p q : Corner) → joins p q (p, q) ≡ true
-joins-same p q = rw (same-refl p, same-refl q)
-
-joins-turned : (p q : Corner) → joins p q (q, p) ≡ true
-joins-turned p q = or-right (same p q && same q p) (rw (same-refl p, same-refl q))
+use Rattle.outline.specs.Outline.{walked}
 
 -- some step leads from p to q or from q to p
 abbrev pub Edge : Corner → List ℕ → Corner → Corner → Type 0
-Edge c ds p q = List·Memᴰ (p, q) (edgesOf c ds) ⊎ List·Memᴰ (q, p) (edgesOf c ds)
+Edge c ds p q = List·Memᴰ (p, q) (legsFrom c ds) ⊎ List·Memᴰ (q, p) (legsFrom c ds)
 
 module _ (c : Corner) (ds : List ℕ) where
   pub walked-edge : (p : Corner) (d : ℕ) → walked c ds p d ≡ true → Edge c ds p (stepped d p)
   walked-edge p d h =
-      let s = any-some (joins p (stepped d p)) (edgesOf c ds) h in
+      let s = any-some (joins p (stepped d p)) (legsFrom c ds) h in
       ⊎-map
-      (λ e. subst (λ (x : Corner × Corner). List·Memᴰ x (edgesOf c ds)) e (s .1))
-      (λ e. subst (λ (x : Corner × Corner). List·Memᴰ x (edgesOf c ds)) e (s .1))
-      (joins-cases p (stepped d p) (s .0) (s .2))
+      (λ e. subst (λ (x : Corner × Corner). List·Memᴰ x (legsFrom c ds)) e (s .1))
+      (λ e. subst (λ (x : Corner × Corner). List·Memᴰ x (legsFrom c ds)) e (s .1))
+      (joins-pair p (stepped d p) (s .0) (s .2))
 
   pub edge-walked : (p : Corner) (d : ℕ) → Edge c ds p (stepped d p) → walked c ds p d ≡ true
-  edge-walked p d (inl m) = any-mem (joins p (stepped d p)) (p, stepped d p) (edgesOf c ds) m (joins-same p (stepped d p))
-  edge-walked p d (inr m) = any-mem (joins p (stepped d p)) (stepped d p, p) (edgesOf c ds) m (joins-turned p (stepped d p))
+  edge-walked p d (inl m) = any-mem (joins p (stepped d p)) (p, stepped d p) (legsFrom c ds) m (joins-here p (stepped d p))
+  edge-walked p d (inr m) = any-mem (joins p (stepped d p)) (stepped d p, p) (legsFrom c ds) m (joins-there (stepped d p) p)
 
   pub edge-turned : (p q : Corner) → Edge c ds p q → Edge c ds q p
   edge-turned p q (inl m) = inr m
@@ -57,7 +45,7 @@ module _ (c : Corner) (ds : List ℕ) where
       edge-walked (stepped d p) (back d) (subst (Edge c ds (stepped d p)) (sym (stepped-back d p)) (edge-turned p (stepped d p) (walked-edge p d h)))
 
 -- both ends of a step are corners of the walk
-edge-ends : (c : Corner) (ds : List ℕ) (p q : Corner) → List·Memᴰ (p, q) (edgesOf c ds) → List·Memᴰ p (cornersFrom c ds) × List·Memᴰ q (cornersFrom c ds)
+edge-ends : (c : Corner) (ds : List ℕ) (p q : Corner) → List·Memᴰ (p, q) (legsFrom c ds) → List·Memᴰ p (cornersFrom c ds) × List·Memᴰ q (cornersFrom c ds)
 edge-ends c [] p q m = absurd (List·Memᴰ·not-nil m)
 edge-ends c (d ∷ ds) p q m =
     ⊎-elim
@@ -103,7 +91,7 @@ along (suc (suc zero)) c = refl
 along (suc (suc (suc d))) c = refl
 
 -- a way along a step, or against it
-ways-mem : (c : Corner) (ds : List ℕ) (p q : Corner) (d : ℕ) → d < 4 → List·Memᴰ (p, q) (edgesOf c ds)
+ways-mem : (c : Corner) (ds : List ℕ) (p q : Corner) (d : ℕ) → d < 4 → List·Memᴰ (p, q) (legsFrom c ds)
     → (stepped d p ≡ q → List·Memᴰ (p, d) (waysFrom c ds)) × (stepped d q ≡ p → List·Memᴰ (q, d) (waysFrom c ds))
 ways-mem c [] p q d h m = absurd (List·Memᴰ·not-nil m)
 ways-mem c (x ∷ ds) p q d h m =

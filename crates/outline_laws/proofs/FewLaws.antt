@@ -12,15 +12,16 @@ use Rattle.lists.proofs.FindLaws.{any-append, any-mem, any-some}
 use Rattle.lists.proofs.GatherLaws.{add-cases, or-right}
 use Rattle.lists.proofs.PigeonLaws.{pigeon}
 use Rattle.grid.specs.declared.Corner.{Corner}
-use Rattle.grid.specs.Grid.{stepped}
+use Rattle.grid.specs.Grid.{stepped, legsFrom}
+use Rattle.grid.proofs.JoinLaws.{joins-pair, joins-here}
 use Rattle.grid.proofs.StepLaws.{stepped-inj}
-use Rattle.outline.specs.Outline.{edgesOf, homeOf, OutlineIs}
+use Rattle.outline.specs.Outline.{homeOf, OutlineIs}
 use Rattle.outline_laws.specs.Different.{sameEdge, different}
-use Rattle.outline_laws.proofs.EdgeLaws.{Way, Edge, joins-cases, joins-same, walked-edge}
+use Rattle.outline_laws.proofs.EdgeLaws.{Way, Edge, walked-edge}
 use Rattle.outline_laws.proofs.OutlineLaws.{waysOf, outline-ways, outline-once-way, outline-below}
 
 -- an edge of a list of steps belongs to one of its ways
-pub edge-of : (p : Corner) (es : List ℕ) (e : Corner × Corner) → List·Memᴰ e (edgesOf p es) → (y : Way) × List·Memᴰ y (waysOf p es) × (e ≡ (y .0, stepped (y .1) (y .0)))
+pub edge-of : (p : Corner) (es : List ℕ) (e : Corner × Corner) → List·Memᴰ e (legsFrom p es) → (y : Way) × List·Memᴰ y (waysOf p es) × (e ≡ (y .0, stepped (y .1) (y .0)))
 edge-of p [] e m = absurd (List·Memᴰ·not-nil m)
 edge-of p (d ∷ es) e m =
     ⊎-elim
@@ -32,11 +33,11 @@ pub ways-below : (p : Corner) (es : List ℕ) → Below 4 es → (y : Way) → L
 ways-below p [] b y m = absurd (List·Memᴰ·not-nil m)
 ways-below p (d ∷ es) b y m = ⊎-elim (λ e. omega (arith, ap (λ (z : Way). z .1) e, b .0)) (λ t. ways-below (stepped d p) es (b .1) y t) (List·Memᴰ·cases-cons m)
 
-edges-once : (p : Corner) (es : List ℕ) → Below 4 es → Distinct (waysOf p es) → Distinct (edgesOf p es)
+edges-once : (p : Corner) (es : List ℕ) → Below 4 es → Distinct (waysOf p es) → Distinct (legsFrom p es)
 edges-once p [] b u = tt
 edges-once p (d ∷ es) b u = (new, edges-once (stepped d p) es (b .1) (u .1))
   where
-    new : List·Memᴰ (p, stepped d p) (edgesOf (stepped d p) es) → ⊥
+    new : List·Memᴰ (p, stepped d p) (legsFrom (stepped d p) es) → ⊥
     new m =
         let h = edge-of (stepped d p) es (p, stepped d p) m in
         let q : h .0 .0 ≡ p = sym (ap (λ (e : Corner × Corner). e .0) (h .2)) in
@@ -44,13 +45,13 @@ edges-once p (d ∷ es) b u = (new, edges-once (stepped d p) es (b .1) (u .1))
         u .0 (subst (λ (y : Way). List·Memᴰ y (waysOf (stepped d p) es)) (ap₂ (λ (a : Corner) (x : ℕ). (a, x)) q k) (h .1))
 
 -- each step of the outline goes along an edge that was walked, in some sense
-pub outline-walked : {c : Corner} {ds es : List ℕ} → OutlineIs c ds es → (p q : Corner) → List·Memᴰ (p, q) (edgesOf (homeOf c ds) es) → Edge c ds p q
+pub outline-walked : {c : Corner} {ds es : List ℕ} → OutlineIs c ds es → (p q : Corner) → List·Memᴰ (p, q) (legsFrom (homeOf c ds) es) → Edge c ds p q
 outline-walked {c} {ds} {es} o p q m =
     let h = edge-of (homeOf c ds) es (p, q) m in
     subst (λ (e : Corner × Corner). Edge c ds (e .0) (e .1)) (sym (h .2)) (walked-edge c ds (h .0 .0) (h .0 .1) (outline-ways o (h .0) (h .1) .1))
 
 -- none is taken twice in one sense
-pub outline-once : {c : Corner} {ds es : List ℕ} → OutlineIs c ds es → Distinct (edgesOf (homeOf c ds) es)
+pub outline-once : {c : Corner} {ds es : List ℕ} → OutlineIs c ds es → Distinct (legsFrom (homeOf c ds) es)
 outline-once {c} {ds} {es} o = edges-once (homeOf c ds) es (outline-below o) (outline-once-way o)
 
 -- ---- the different edges
@@ -101,23 +102,23 @@ module _ {A : Type 0} (eq : A → A → Bool) (equal : (x : A) → eq x x ≡ tr
       (List·Memᴰ·cases-cons m)
 
 module _ (c : Corner) (ds : List ℕ) where
-  listed : (p q : Corner) → List·Memᴰ (p, q) (edgesOf c ds) → List·Memᴰ (p, q) (bothWays (different c ds)) × List·Memᴰ (q, p) (bothWays (different c ds))
+  listed : (p q : Corner) → List·Memᴰ (p, q) (legsFrom c ds) → List·Memᴰ (p, q) (bothWays (different c ds)) × List·Memᴰ (q, p) (bothWays (different c ds))
   listed p q m =
-      let s = any-some (sameEdge (p, q)) (different c ds) (gather-has sameEdge (λ e. joins-same (e .0) (e .1)) [] (edgesOf c ds) (p, q) m) in
+      let s = any-some (sameEdge (p, q)) (different c ds) (gather-has sameEdge (λ e. joins-here (e .0) (e .1)) [] (legsFrom c ds) (p, q) m) in
       ⊎-elim
       (λ e. both-there (different c ds) p q (subst (λ (x : Corner × Corner). List·Memᴰ x (different c ds)) e (s .1)))
       (λ e. let k = both-there (different c ds) q p (subst (λ (x : Corner × Corner). List·Memᴰ x (different c ds)) e (s .1)) in (k .1, k .0))
-      (joins-cases p q (s .0) (s .2))
+      (joins-pair p q (s .0) (s .2))
 
   all-listed : (p q : Corner) → Edge c ds p q → List·Memᴰ (p, q) (bothWays (different c ds))
   all-listed p q (inl m) = listed p q m .0
   all-listed p q (inr m) = listed q p m .1
 
-length-edges : (p : Corner) (es : List ℕ) → length (edgesOf p es) ≡ length es
+length-edges : (p : Corner) (es : List ℕ) → length (legsFrom p es) ≡ length es
 length-edges p [] = refl
 length-edges p (d ∷ es) = ap suc (length-edges (stepped d p) es)
 
 -- at most two steps for each different edge of the walk
 pub outline-few : {c : Corner} {ds es : List ℕ} → OutlineIs c ds es → length es ≤ 2 * length (different c ds)
 outline-few {c} {ds} {es} o =
-    omega (arith, length-edges (homeOf c ds) es, length-both (different c ds), pigeon (edgesOf (homeOf c ds) es) (bothWays (different c ds)) (outline-once o) (λ e m. all-listed c ds (e .0) (e .1) (outline-walked o (e .0) (e .1) m)))
+    omega (arith, length-edges (homeOf c ds) es, length-both (different c ds), pigeon (legsFrom (homeOf c ds) es) (bothWays (different c ds)) (outline-once o) (λ e m. all-listed c ds (e .0) (e .1) (outline-walked o (e .0) (e .1) m)))

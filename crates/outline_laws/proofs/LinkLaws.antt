@@ -14,16 +14,17 @@ use Rattle.lists.proofs.DistinctLaws.{mem-getD, getD-mem, distinct-getD}
 use Rattle.lists.proofs.FindLaws.{any-append, find-left, find-get, find-pos, bool-agree}
 use Rattle.lists.proofs.GatherLaws.{or-cases, add-cases, add-more, mem→any, distinct-add, gather-append}
 use Rattle.grid.specs.declared.Corner.{Corner}
-use Rattle.grid.specs.Grid.{origin, same, stepped, cornersFrom, endFrom}
+use Rattle.grid.specs.Grid.{origin, same, stepped, cornersFrom, endFrom, legsFrom, joins}
 use Rattle.grid.proofs.CornerLaws.{same-refl, same-sound}
+use Rattle.grid.proofs.JoinLaws.{joins-pair}
 use Rattle.grid.proofs.StepLaws.{back, back-small, stepped-back, stepped-inj, stepped-ne, cornersFrom-snoc}
 use Rattle.trace.specs.Meeting.{visitedOf}
 use Rattle.trace.proofs.VisitLaws.{visited-distinct, mem-visited}
-use Rattle.outline.specs.Outline.{edgesOf, joins, walked}
+use Rattle.outline.specs.Outline.{walked}
 use Rattle.outline_laws.specs.Links.{linkOf, LinkedBy, Linked}
-use Rattle.outline_laws.proofs.EdgeLaws.{Edge, joins-cases, walked-edge, edge-walked, edge-turned, walked-visited}
+use Rattle.outline_laws.proofs.EdgeLaws.{Edge, walked-edge, edge-walked, edge-turned, walked-visited}
 
-edges-snoc : (c : Corner) (ds : List ℕ) (d : ℕ) → edgesOf c (ds ++ (d ∷ [])) ≡ edgesOf c ds ++ ((endFrom c ds, stepped d (endFrom c ds)) ∷ [])
+edges-snoc : (c : Corner) (ds : List ℕ) (d : ℕ) → legsFrom c (ds ++ (d ∷ [])) ≡ legsFrom c ds ++ ((endFrom c ds, stepped d (endFrom c ds)) ∷ [])
 edges-snoc c [] d = refl
 edges-snoc c (x ∷ ds) d = ap (λ (l : List (Corner × Corner)). (c, stepped x c) ∷ l) (edges-snoc (stepped x c) ds d)
 
@@ -53,10 +54,10 @@ module _ (c : Corner) (ds : List ℕ) (d : ℕ) where
 
   -- an edge was walked before, or it is that of the last step
   walked-more : (x : Corner) (e : ℕ) → walked c ds x e ≡ true → walked c (ds ++ (d ∷ [])) x e ≡ true
-  walked-more x e w = subst (λ (l : List (Corner × Corner)). any (joins x (stepped e x)) l ≡ true) (sym (edges-snoc c ds d)) (any-append (joins x (stepped e x)) (edgesOf c ds) ((p, q) ∷ []) ∙ ap (λ (b : Bool). b || any (joins x (stepped e x)) ((p, q) ∷ [])) w)
+  walked-more x e w = subst (λ (l : List (Corner × Corner)). any (joins x (stepped e x)) l ≡ true) (sym (edges-snoc c ds d)) (any-append (joins x (stepped e x)) (legsFrom c ds) ((p, q) ∷ []) ∙ ap (λ (b : Bool). b || any (joins x (stepped e x)) ((p, q) ∷ [])) w)
 
   walked-last : walked c (ds ++ (d ∷ [])) p d ≡ true
-  walked-last = edge-walked c (ds ++ (d ∷ [])) p d (inl (subst (List·Memᴰ (p, q)) (sym (edges-snoc c ds d)) (Memᴰ·append-right (edgesOf c ds) (List·Memᴰ·head refl))))
+  walked-last = edge-walked c (ds ++ (d ∷ [])) p d (inl (subst (List·Memᴰ (p, q)) (sym (edges-snoc c ds d)) (Memᴰ·append-right (legsFrom c ds) (List·Memᴰ·head refl))))
 
   walked-last-back : walked c (ds ++ (d ∷ [])) q (back d) ≡ true
   walked-last-back =
@@ -66,8 +67,8 @@ module _ (c : Corner) (ds : List ℕ) (d : ℕ) where
   walked-cases x e w =
       ⊎-elim
       (λ k. inl k)
-      (λ k. ⊎-elim (λ j. inr (joins-cases x (stepped e x) (p, q) j)) (λ f. absurd (false≢true f)) (or-cases (joins x (stepped e x) (p, q)) false k))
-      (or-cases (any (joins x (stepped e x)) (edgesOf c ds)) (any (joins x (stepped e x)) ((p, q) ∷ [])) (sym (any-append (joins x (stepped e x)) (edgesOf c ds) ((p, q) ∷ [])) ∙ subst (λ (l : List (Corner × Corner)). any (joins x (stepped e x)) l ≡ true) (edges-snoc c ds d) w))
+      (λ k. ⊎-elim (λ j. inr (joins-pair x (stepped e x) (p, q) j)) (λ f. absurd (false≢true f)) (or-cases (joins x (stepped e x) (p, q)) false k))
+      (or-cases (any (joins x (stepped e x)) (legsFrom c ds)) (any (joins x (stepped e x)) ((p, q) ∷ [])) (sym (any-append (joins x (stepped e x)) (legsFrom c ds) ((p, q) ∷ [])) ∙ subst (λ (l : List (Corner × Corner)). any (joins x (stepped e x)) l ≡ true) (edges-snoc c ds d) w))
 
   -- where the step's edge was walked before, nothing is new
   walked-same : walked c ds p d ≡ true → (x : Corner) (e : ℕ) → walked c (ds ++ (d ∷ [])) x e ≡ walked c ds x e

@@ -9,9 +9,9 @@ use native.Mathlib.Omega.{arith}
 use lib.ListN.{length}
 use Rattle.lists.specs.Lists.{Distinct, zip}
 use Rattle.grid.specs.declared.Corner.{Corner}
-use Rattle.grid.specs.Grid.{stepped, cornersFrom, endFrom}
+use Rattle.grid.specs.Grid.{stepped, cornersFrom, endFrom, legsFrom}
 use Rattle.grid.proofs.StepLaws.{back, stepped-back}
-use Rattle.outline.specs.Outline.{edgesOf, walked, onward, pathFrom}
+use Rattle.outline.specs.Outline.{walked, onward, pathFrom}
 use Rattle.outline_laws.proofs.OrbitLaws.{after, orbit, returns}
 use Rattle.outline_laws.proofs.TurnLaws.{onward-small, cameBy, turned}
 use Rattle.outline_laws.proofs.EdgeLaws.{Way, sameWay, sameWay-sound, sameWay-refl, walked-back, waysFrom, length-waysFrom, walked-way}
@@ -66,7 +66,7 @@ module _ (c : Corner) (ds : List ℕ) where
   path-ways (suc n) p d = ap (λ (l : List Way). (p, d) ∷ l) (path-ways n (stepped d p) (onward (walked c ds (stepped d p)) d))
 
   -- its edges are those of the ways met
-  pub way-edge : (n : ℕ) (p : Corner) (d : ℕ) (y : Way) → List·Memᴰ y (orbit (next c ds) n (p, d)) → List·Memᴰ (y .0, stepped (y .1) (y .0)) (edgesOf p (pathFrom c ds n p d))
+  pub way-edge : (n : ℕ) (p : Corner) (d : ℕ) (y : Way) → List·Memᴰ y (orbit (next c ds) n (p, d)) → List·Memᴰ (y .0, stepped (y .1) (y .0)) (legsFrom p (pathFrom c ds n p d))
   way-edge zero p d y m = absurd (List·Memᴰ·not-nil m)
   way-edge (suc n) p d y m =
       ⊎-elim
@@ -74,7 +74,7 @@ module _ (c : Corner) (ds : List ℕ) where
       (λ t. List·Memᴰ·tail (way-edge n (stepped d p) (onward (walked c ds (stepped d p)) d) y t))
       (List·Memᴰ·cases-cons m)
 
-  pub edge-way : (n : ℕ) (p : Corner) (d : ℕ) (e : Corner × Corner) → List·Memᴰ e (edgesOf p (pathFrom c ds n p d)) → (y : Way) × List·Memᴰ y (orbit (next c ds) n (p, d)) × (e ≡ (y .0, stepped (y .1) (y .0)))
+  pub edge-way : (n : ℕ) (p : Corner) (d : ℕ) (e : Corner × Corner) → List·Memᴰ e (legsFrom p (pathFrom c ds n p d)) → (y : Way) × List·Memᴰ y (orbit (next c ds) n (p, d)) × (e ≡ (y .0, stepped (y .1) (y .0)))
   edge-way zero p d e m = absurd (List·Memᴰ·not-nil m)
   edge-way (suc n) p d e m =
       ⊎-elim

@@ -11,10 +11,10 @@ use Rattle.lists.specs.Lists.{Distinct}
 use Rattle.lists.proofs.GatherLaws.{and-left, and-right}
 use Rattle.lists.proofs.FindLaws.{any-mem, any-some, bool-agree}
 use Rattle.grid.specs.declared.Corner.{Corner}
-use Rattle.grid.specs.Grid.{same, stepped, cornersFrom, endFrom}
+use Rattle.grid.specs.Grid.{same, stepped, cornersFrom, endFrom, legsFrom}
 use Rattle.grid.proofs.CornerLaws.{same-refl, same-sound}
 use Rattle.grid.proofs.StepLaws.{back, back-small, stepped-back, stepped-inj}
-use Rattle.outline.specs.Outline.{edgesOf, walked, homeOf, firstWay, onward, pathOf, lacks, isDone}
+use Rattle.outline.specs.Outline.{walked, homeOf, firstWay, onward, pathOf, lacks, isDone}
 use Rattle.outline_laws.proofs.OrbitLaws.{after, orbit, after-suc, after-mem, mem-after, after-on, no-sooner, no-twice}
 use Rattle.outline_laws.proofs.EdgeLaws.{Way, Edge, along, walked-edge, edge-walked}
 use Rattle.outline_laws.proofs.HomeLaws.{home-visited, home-ways}
@@ -85,7 +85,7 @@ module _ (c : Corner) (ds : List ℕ) where
 
   uses-back : (n d : ℕ) (y : Way) → List·Memᴰ y (orbit (next c ds) n (start c ds)) → y .0 ≡ stepped d h → stepped (y .1) (y .0) ≡ h → walked h (pathOf c ds n) h d ≡ true
   uses-back n d y m e f =
-      edge-walked h (pathOf c ds n) h d (inr (subst (λ (x : Corner × Corner). List·Memᴰ x (edgesOf h (pathOf c ds n))) (ap₂ (λ (a b : Corner). (a, b)) e f) (way-edge c ds n h (firstWay c ds) y m)))
+      edge-walked h (pathOf c ds n) h d (inr (subst (λ (x : Corner × Corner). List·Memᴰ x (legsFrom h (pathOf c ds n))) (ap₂ (λ (a b : Corner). (a, b)) e f) (way-edge c ds n h (firstWay c ds) y m)))
 
   module _ (on : On c ds (start c ds)) where
     -- where both edges are walked, the way before the first comes from the north
@@ -149,7 +149,7 @@ module _ (c : Corner) (ds : List ℕ) where
     met-on m = after-on (next c ds) (On c ds) (next-on c ds) m (start c ds) on
 
     -- along the edge to the north: the way is met again
-    northward : (m : ℕ) → m < n → at m ≡ (h, 1) → List·Memᴰ (h, stepped 1 h) (edgesOf h (pathOf c ds m)) → ⊥
+    northward : (m : ℕ) → m < n → at m ≡ (h, 1) → List·Memᴰ (h, stepped 1 h) (legsFrom h (pathOf c ds m)) → ⊥
     northward m l y t =
         let z = edge-way c ds m h (firstWay c ds) (h, stepped 1 h) t in
         let j = mem-after (next c ds) m (start c ds) (z .1) in
@@ -159,7 +159,7 @@ module _ (c : Corner) (ds : List ℕ) where
         no-twice (next c ds) n (j .0) m (start c ds) once (j .1) l (y ∙ sym (ap₂ (λ (a : Corner) (b : ℕ). (a, b)) p q) ∙ j .2)
 
     -- against it: the path went on by its first way
-    southward : (m : ℕ) → m < n → walked c ds h 0 ≡ true → firstWay c ds ≡ 0 → List·Memᴰ (stepped 1 h, h) (edgesOf h (pathOf c ds m)) → ⊥
+    southward : (m : ℕ) → m < n → walked c ds h 0 ≡ true → firstWay c ds ≡ 0 → List·Memᴰ (stepped 1 h, h) (legsFrom h (pathOf c ds m)) → ⊥
     southward m l w f t =
         let z = edge-way c ds m h (firstWay c ds) (stepped 1 h, h) t in
         let j = mem-after (next c ds) m (start c ds) (z .1) in

@@ -13,7 +13,7 @@ use Rattle.lists.specs.Lists.{tally}
 use Rattle.int_laws.proofs.LinearLaws.{zarith, bal+}
 use Rattle.int_laws.proofs.NextLaws.{bal-pred}
 use Rattle.grid.specs.declared.{Corner.Corner, Panel.Panel}
-use Rattle.grid.specs.Grid.{same, stepped, endFrom}
+use Rattle.grid.specs.Grid.{same, stepped, endFrom, legsFrom}
 use Rattle.grid.proofs.CornerLaws.{same-sound}
 use Rattle.grid.proofs.StepLaws.{back, stepped-back}
 use Rattle.steps.specs.Turns.{stepAfter}
@@ -25,7 +25,7 @@ use Rattle.area_laws.proofs.BoxLaws.{box-met}
 use Rattle.room_laws.proofs.AcrossLaws.{along, walks, across}
 use Rattle.room_laws.proofs.CornerLaws.{along-one, right-back}
 use Rattle.room_laws.proofs.InsideLaws.{inside-held}
-use Rattle.outline.specs.Outline.{edgesOf, walked, homeOf, firstWay, onward, pathFrom, OutlineIs}
+use Rattle.outline.specs.Outline.{walked, homeOf, firstWay, onward, pathFrom, OutlineIs}
 use Rattle.outline_laws.proofs.EdgeLaws.{edge-walked}
 use Rattle.outline_laws.proofs.TurnLaws.{onward-small}
 use Rattle.outline_laws.proofs.HomeLaws.{home-least, home-ways}
@@ -110,7 +110,7 @@ never true true f = absurd (f refl refl)
 never true false f = refl
 never false y f = refl
 
-not-taken : (c : Corner) (ds : List ℕ) (d : ℕ) (v : Corner) → (List·Memᴰ (v, stepped d v) (edgesOf c ds) → ⊥) → walks c ds d v ≡ 0
+not-taken : (c : Corner) (ds : List ℕ) (d : ℕ) (v : Corner) → (List·Memᴰ (v, stepped d v) (legsFrom c ds) → ⊥) → walks c ds d v ≡ 0
 not-taken c [] d v f = refl
 not-taken c (e ∷ ds) d v f = omega (arith, never (along e d) (same c v) here, not-taken (stepped e c) ds d v (λ m. f (List·Memᴰ·tail m)))
   where
@@ -124,7 +124,7 @@ module _ (c : Corner) (ds : List ℕ) (closed : endFrom c ds ≡ c) where
   surplus-across : (d : ℕ) (q : Corner) → walked c ds q d ≡ false → surplusOf c ds (leftOf d q) ≡ surplusOf c ds (rightOf d q)
   surplus-across d q w =
       let a = not-taken c ds d q (λ m. true≢false (sym (edge-walked c ds q d (inl m)) ∙ w)) in
-      let b = not-taken c ds (back d) (stepped d q) (λ m. true≢false (sym (edge-walked c ds q d (inr (subst (λ (x : Corner). List·Memᴰ (stepped d q, x) (edgesOf c ds)) (stepped-back d q) m))) ∙ w)) in
+      let b = not-taken c ds (back d) (stepped d q) (λ m. true≢false (sym (edge-walked c ds q d (inr (subst (λ (x : Corner). List·Memᴰ (stepped d q, x) (legsFrom c ds)) (stepped-back d q) m))) ∙ w)) in
       let t : surplusOf c ds (leftOf d q) +ℤ pos 0 ≡ surplusOf c ds (rightOf d q) +ℤ pos 0 = sym (ap (λ (n : ℕ). surplusOf c ds (leftOf d q) +ℤ pos n) b) ∙ across c ds closed d q ∙ ap (λ (n : ℕ). surplusOf c ds (rightOf d q) +ℤ pos n) a in
       omega (zarith, t, bal+ (surplusOf c ds (leftOf d q)) (pos 0), bal+ (surplusOf c ds (rightOf d q)) (pos 0))
 

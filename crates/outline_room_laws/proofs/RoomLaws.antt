@@ -12,12 +12,12 @@ use Rattle.lists.specs.Lists.{Below}
 use Rattle.lists.proofs.BelowLaws.{below-getD}
 use Rattle.lists.proofs.DistinctLaws.{getD-mem}
 use Rattle.grid.specs.declared.Corner.{Corner}
-use Rattle.grid.specs.Grid.{stepped, cornersFrom, cornerAt}
+use Rattle.grid.specs.Grid.{stepped, cornersFrom, cornerAt, legsFrom}
 use Rattle.grid.proofs.StepLaws.{back, back-mod, back-small, stepped-back, stepped-inj, cornersFrom-at, length-cornersFrom, cornerAt-end}
 use Rattle.steps.specs.Turns.{turnOf, stepAfter}
 use Rattle.trace.specs.Verdict.{IsRoom}
 use Rattle.panels.specs.Outline.{startedAt, backward}
-use Rattle.outline.specs.Outline.{edgesOf, walked, homeOf, firstWay, onward, OutlineIs}
+use Rattle.outline.specs.Outline.{walked, homeOf, firstWay, onward, OutlineIs}
 use Rattle.outline_laws.proofs.TurnLaws.{stepAfter-lt}
 use Rattle.outline_laws.proofs.EdgeLaws.{walked-edge, edge-walked, walked-back}
 use Rattle.outline_laws.proofs.HomeLaws.{home-visited, home-ways}
@@ -70,12 +70,12 @@ back-back (suc (suc (suc zero))) h = refl
 back-back (suc (suc (suc (suc d)))) h = absurd (omega arith)
 
 -- a step of a walk stands at a place of it
-edge-place : (c : Corner) (ds : List ℕ) (e : Corner × Corner) → List·Memᴰ e (edgesOf c ds) → (i : ℕ) × (i < length ds) × (e ≡ (cornerAt c ds i, stepped (getD ds i 0) (cornerAt c ds i)))
+edge-place : (c : Corner) (ds : List ℕ) (e : Corner × Corner) → List·Memᴰ e (legsFrom c ds) → (i : ℕ) × (i < length ds) × (e ≡ (cornerAt c ds i, stepped (getD ds i 0) (cornerAt c ds i)))
 edge-place c [] e m = absurd (List·Memᴰ·not-nil m)
 edge-place c (d ∷ ds) e m =
     ⊎-elim (λ z. (0, omega arith, z)) (λ t. let k = edge-place (stepped d c) ds e t in (suc (k .0), omega (arith, k .1), k .2)) (List·Memᴰ·cases-cons m)
 
-place-edge : (c : Corner) (ds : List ℕ) (i : ℕ) → i < length ds → List·Memᴰ (cornerAt c ds i, stepped (getD ds i 0) (cornerAt c ds i)) (edgesOf c ds)
+place-edge : (c : Corner) (ds : List ℕ) (i : ℕ) → i < length ds → List·Memᴰ (cornerAt c ds i, stepped (getD ds i 0) (cornerAt c ds i)) (legsFrom c ds)
 place-edge c [] i h = absurd (omega arith)
 place-edge c (d ∷ ds) zero h = List·Memᴰ·head refl
 place-edge c (d ∷ ds) (suc i) h = List·Memᴰ·tail (place-edge (stepped d c) ds i (omega arith))
@@ -131,13 +131,13 @@ module _ (c : Corner) (ds : List ℕ) (r : IsRoom c ds) (b : Below 4 ds) (long :
     only-two : (x : ℕ) → x < 4 → walked c ds (p m) x ≡ true → (x ≡ d m) ⊎ (x ≡ back (d k))
     only-two x hx w = ⊎-elim forth against (walked-edge c ds (p m) x w)
       where
-        forth : List·Memᴰ (p m, stepped x (p m)) (edgesOf c ds) → (x ≡ d m) ⊎ (x ≡ back (d k))
+        forth : List·Memᴰ (p m, stepped x (p m)) (legsFrom c ds) → (x ≡ d m) ⊎ (x ≡ back (d k))
         forth t =
             let g = edge-place c ds (p m, stepped x (p m)) t in
             let z : m ≡ g .0 = same-early m (g .0) hm (g .1) (ap (λ (y : Corner × Corner). y .0) (g .2)) in
             inl (stepped-inj x (d m) (p m) hx (small m hm) (ap (λ (y : Corner × Corner). y .1) (g .2) ∙ ap (λ (y : ℕ). stepped (d y) (p y)) (sym z)))
 
-        against : List·Memᴰ (stepped x (p m), p m) (edgesOf c ds) → (x ≡ d m) ⊎ (x ≡ back (d k))
+        against : List·Memᴰ (stepped x (p m), p m) (legsFrom c ds) → (x ≡ d m) ⊎ (x ≡ back (d k))
         against t =
             let g = edge-place c ds (stepped x (p m), p m) t in
             let z : suc k ≡ suc (g .0) = same-late (suc k) (suc (g .0)) (omega arith) (omega arith) (omega arith) (omega (arith, g .1)) (sym em ∙ ap (λ (y : Corner × Corner). y .1) (g .2) ∙ sym (corner-next c ds (g .0) (g .1))) in

@@ -7,13 +7,13 @@ use mathlib.Core.Path.{_≡_, refl, ap, ap₂, sym, _∙_, subst}
 use Prim.Native.Nat.{ℕ, _<_}
 use Rattle.lists.specs.Lists.{Below}
 use Rattle.grid.specs.declared.{Corner.Corner, Panel.Panel}
-use Rattle.grid.specs.Grid.{stepped}
+use Rattle.grid.specs.Grid.{stepped, legsFrom}
 use Rattle.grid.proofs.StepLaws.{back, back-small, stepped-back, stepped-inj}
 use Rattle.trace.specs.Verdict.{IsRoom}
 use Rattle.panels.specs.Inside.{Inside, leftOf, rightOf, EachStep}
 use Rattle.room_laws.proofs.CornerLaws.{left-back, right-back}
 use Rattle.room_laws.proofs.RoomLaws.{room-counts}
-use Rattle.outline.specs.Outline.{edgesOf, walked, homeOf, OutlineIs}
+use Rattle.outline.specs.Outline.{walked, homeOf, OutlineIs}
 use Rattle.outline_laws.proofs.EdgeLaws.{Way, walked-edge}
 use Rattle.outline_laws.proofs.OutlineLaws.{waysOf, outline-ways}
 use Rattle.outline_laws.proofs.FewLaws.{edge-of, ways-below}
@@ -31,7 +31,7 @@ module _ (P : ℕ → Corner → Type 0) where
   way-each p (d ∷ es) f = (f (p, d) (List·Memᴰ·head refl), way-each (stepped d p) es (λ y m. f y (List·Memᴰ·tail m)))
 
   -- of the step along an edge
-  each-edge : (c : Corner) (ds : List ℕ) → Below 4 ds → EachStep P c ds → (v : Corner) (d : ℕ) → d < 4 → List·Memᴰ (v, stepped d v) (edgesOf c ds) → P d v
+  each-edge : (c : Corner) (ds : List ℕ) → Below 4 ds → EachStep P c ds → (v : Corner) (d : ℕ) → d < 4 → List·Memᴰ (v, stepped d v) (legsFrom c ds) → P d v
   each-edge c ds b f v d h m =
       let k = edge-of c ds (v, stepped d v) m in
       let q : k .0 .0 ≡ v = sym (ap (λ (e : Corner × Corner). e .0) (k .2)) in
@@ -50,12 +50,12 @@ module _ (c : Corner) (ds : List ℕ) (r : IsRoom c ds) (b : Below 4 ds) where
   beside : (v : Corner) (d : ℕ) → d < 4 → walked c ds v d ≡ true → Parts (leftOf d v) (rightOf d v) ⊎ Parts (rightOf d v) (leftOf d v)
   beside v d h w = ⊎-elim forth against (walked-edge c ds v d w)
     where
-      forth : List·Memᴰ (v, stepped d v) (edgesOf c ds) → Parts (leftOf d v) (rightOf d v) ⊎ Parts (rightOf d v) (leftOf d v)
+      forth : List·Memᴰ (v, stepped d v) (legsFrom c ds) → Parts (leftOf d v) (rightOf d v) ⊎ Parts (rightOf d v) (leftOf d v)
       forth m = ⊎-elim (λ f. inl (each-edge (λ d v. Parts (leftOf d v) (rightOf d v)) c ds b f v d h m)) (λ f. inr (each-edge (λ d v. Parts (rightOf d v) (leftOf d v)) c ds b f v d h m)) parted
 
-      against : List·Memᴰ (stepped d v, v) (edgesOf c ds) → Parts (leftOf d v) (rightOf d v) ⊎ Parts (rightOf d v) (leftOf d v)
+      against : List·Memᴰ (stepped d v, v) (legsFrom c ds) → Parts (leftOf d v) (rightOf d v) ⊎ Parts (rightOf d v) (leftOf d v)
       against m =
-          let n : List·Memᴰ (stepped d v, stepped (back d) (stepped d v)) (edgesOf c ds) = subst (λ (x : Corner). List·Memᴰ (stepped d v, x) (edgesOf c ds)) (sym (stepped-back d v)) m in
+          let n : List·Memᴰ (stepped d v, stepped (back d) (stepped d v)) (legsFrom c ds) = subst (λ (x : Corner). List·Memᴰ (stepped d v, x) (legsFrom c ds)) (sym (stepped-back d v)) m in
           ⊎-elim
           (λ f. inr (turn (λ p q. Parts p q) (right-back d v) (left-back d v) (each-edge (λ d v. Parts (leftOf d v) (rightOf d v)) c ds b f (stepped d v) (back d) (back-small d) n)))
           (λ f. inl (turn (λ p q. Parts p q) (left-back d v) (right-back d v) (each-edge (λ d v. Parts (rightOf d v) (leftOf d v)) c ds b f (stepped d v) (back d) (back-small d) n)))

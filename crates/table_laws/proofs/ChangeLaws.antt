@@ -10,12 +10,12 @@ use borrow.Author.Tests.{eqb-true, eq-eqb}
 use lib.Dec.{eqb}
 use lib.ListN.{length, getD, replicate}
 use Rattle.grid.specs.declared.Corner.{Corner}
-use Rattle.grid.specs.Grid.{same, stepped}
+use Rattle.grid.specs.Grid.{same, stepped, joins}
 use Rattle.grid.specs.Tree.{parentOf, isRoot, sizeOf, pathOf, childWord}
 use Rattle.layout.specs.Marks.{sameWords}
 use Rattle.layout.specs.Table.{width, linkWord, needWord, edgeWord, childRefOf}
 use Rattle.lists.specs.Lists.{any, count, gather, tally}
-use Rattle.tree.specs.Nodes.{joins, links}
+use Rattle.tree.specs.Nodes.{links}
 use Rattle.tree_laws.specs.State.{State, Sound, linked, needed, reached, raised, grown, withLink, visitedBy, walkedBy, recordBy, fieldsBy, linksUp, isFresh, but, risenBy}
 use Rattle.grid.proofs.CornerLaws.{same-refl, same-sound}
 use Rattle.grid.proofs.ParentLaws.{parentOf-stepped}
@@ -25,7 +25,7 @@ use Rattle.layout.proofs.ChildLaws.{child-ref}
 use Rattle.layout.proofs.WordLaws.{words-cong, child-of, link-of, edge-of}
 use Rattle.lists.proofs.CountLaws.{count-listed}
 use Rattle.lists.proofs.GatherLaws.{and-left, and-right, mem→any, distinct-gather, mem-gather-left, mem-gather-right, mem-gather-cases}
-use Rattle.tree.proofs.JoinLaws.{joins-here, joins-there, joins-stepped}
+use Rattle.grid.proofs.JoinLaws.{joins-here, joins-there, joins-stepped}
 use Rattle.tree.proofs.NodeLaws.{mem-path}
 use Rattle.tree.proofs.RefLaws.{not-any}
 use Rattle.tree_laws.proofs.AddLaws.{ref-none, ref-pos}

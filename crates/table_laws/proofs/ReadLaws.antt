@@ -10,11 +10,11 @@ use borrow.Author.Tests.{eqb-true, eq-eqb, ne-eqb}
 use lib.Dec.{eqb}
 use lib.ListN.{length, length-append, getD}
 use Rattle.grid.specs.declared.Corner.{Corner}
-use Rattle.grid.specs.Grid.{origin, same, stepped}
+use Rattle.grid.specs.Grid.{origin, same, stepped, joins}
 use Rattle.grid.specs.Tree.{parentOf, isRoot, sizeOf, pathOf}
 use Rattle.layout.specs.Table.{wordAt, parentWord, neighbourWord, linkWord, needWord}
 use Rattle.lists.specs.Lists.{any, gather, tally}
-use Rattle.tree.specs.Nodes.{joins, links, refOf}
+use Rattle.tree.specs.Nodes.{links, refOf}
 use Rattle.tree_laws.specs.State.{State, Sound, WellLinked, linked, needed, put, tableBy, linksUp, isFresh, but, risenBy}
 use Rattle.grid.proofs.CornerLaws.{same-refl, same-sound}
 use Rattle.grid.proofs.ParentLaws.{parentOf-stepped}
@@ -22,7 +22,7 @@ use Rattle.grid.proofs.PathLaws.{sizeOf-parentOf}
 use Rattle.grid.proofs.StepLaws.{back, stepped-ne}
 use Rattle.lists.proofs.FindLaws.{bool-agree, find-get}
 use Rattle.lists.proofs.GatherLaws.{mem→any, mem-gather-left, mem-gather-right}
-use Rattle.tree.proofs.JoinLaws.{joins-stepped}
+use Rattle.grid.proofs.JoinLaws.{joins-stepped}
 use Rattle.tree.proofs.NodeLaws.{mem-path}
 use Rattle.tree.proofs.RefLaws.{not-any}
 use Rattle.tree_laws.proofs.AddLaws.{ref-pos}

@@ -11,11 +11,11 @@ use lib.Dec.{eqb}
 use lib.ListN.{length, length-set, getD, set, replicate}
 use lib.Seq.{sets, set-set, set-getD, getD-set-other}
 use Rattle.grid.specs.declared.Corner.{Corner}
-use Rattle.grid.specs.Grid.{same, stepped}
+use Rattle.grid.specs.Grid.{same, stepped, joins}
 use Rattle.grid.specs.Tree.{parentOf, isRoot, childWord}
 use Rattle.layout.specs.Table.{width, wordAt, parentWord, neighbourWord, linkWord, visitsWord, needWord, firstWord, edgeWord, childRefOf}
 use Rattle.lists.specs.Lists.{tally, Distinct}
-use Rattle.tree.specs.Nodes.{joins, refOf}
+use Rattle.tree.specs.Nodes.{refOf}
 use Rattle.tree_laws.specs.State.{put, State, withLink, withNode, visitedBy, walkedBy, Alike, Sound, neighbourBy, fieldsBy, recordBy, rowsOf, filled, tableBy}
 use Rattle.grid.proofs.ChildLaws.{slot-small}
 use Rattle.grid.proofs.CornerLaws.{same-refl, same-sound}
@@ -23,7 +23,7 @@ use Rattle.grid.proofs.StepLaws.{back, back-mod, back-small, stepped-back, step
 use Rattle.layout.proofs.WordLaws.{bump, words-cong, withChild, words-child, withSide, words-side, withEdge, words-edge, child-of, neighbour-of, link-of, edge-of}
 use Rattle.tree_laws.proofs.LaterLaws.{later-none}
 use Rattle.lists.proofs.GatherLaws.{distinct-snoc}
-use Rattle.tree.proofs.JoinLaws.{joins-cases, joins-here, joins-there, joins-stepped}
+use Rattle.grid.proofs.JoinLaws.{joins-cases, joins-here, joins-there, joins-stepped}
 use Rattle.tree_laws.proofs.AddLaws.{ref-append, ref-snoc, child-other, child-before, child-snoc, child-new, parent-ne}
 use Rattle.tree_laws.proofs.PopLaws.{visit-first, visit-again, unvisit-last, unvisit-more}
 use Rattle.table_laws.proofs.RowLaws.{Once, once, corners, upd, upd-at, upd-off, rows-cong, row-read, row-set, row-set-again, row-more, row-clear, two-rows, one-each, wide-upd}

@@ -6,13 +6,13 @@ use mathlib.Core.Logic.{_⊎_, inl, inr, ⊎-map, ⊎-elim}
 use mathlib.Core.Path.{_≡_, refl, ap, sym, _∙_, subst₂}
 use Prim.Native.Nat.{ℕ, zero, suc}
 use Rattle.grid.specs.declared.Corner.{Corner}
-use Rattle.grid.specs.Grid.{same, stepped}
+use Rattle.grid.specs.Grid.{same, stepped, joins}
 use Rattle.grid.specs.Tree.{parentOf, isRoot, sizeOf, ancestorsBy}
 use Rattle.lists.specs.Lists.{any, zip}
 use Rattle.grid.proofs.CornerLaws.{same-sound}
 use Rattle.grid.proofs.ParentLaws.{parentOf-stepped}
 use Rattle.lists.proofs.GatherLaws.{and-left, and-right, or-cases}
-use Rattle.tree.specs.Nodes.{joins, links}
+use Rattle.tree.specs.Nodes.{links}
 
 -- q is p, or its neighbour in direction d
 abbrev pub Near : ℕ → Corner → Corner → Type 0

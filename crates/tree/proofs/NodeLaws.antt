@@ -79,5 +79,5 @@ nodes-grow c s d =
     omega (arith, ap (λ (l : List Corner). length (nodesOf l)) (cornersFrom-snoc c s d), ap length (h .1), length-append (nodesOf (cornersFrom c s)) (h .0))
 
 pub nodes-mono : (c : Corner) (s ds : List ℕ) → length (nodesOf (cornersFrom c s)) ≤ length (nodesOf (cornersFrom c (s ++ ds)))
-nodes-mono c s [] = rw append-nil (omega arith)
+nodes-mono c s [] = omega (arith, ap (λ (l : List ℕ). length (nodesOf (cornersFrom c l))) (append-nil s))
 nodes-mono c s (d ∷ ds) = omega (arith, nodes-grow c s d, nodes-mono c (s ++ (d ∷ [])) ds, ap (λ (l : List ℕ). length (nodesOf (cornersFrom c l))) (append-assoc s (d ∷ []) ds))

@@ -1,6 +1,6 @@
 -- The nodes in use in their order, and the links between them (RULES 3.3 to 3.6). ps are the corners p0 to pn. Assumes nothing.
-use Rattle.lists.specs.Lists.{_≡_, Bool, _&&_, _||_, List, [], _∷_, _++_, List·Memᴰ, length, getD, _⊎_, ℕ, pred, _<_, any, find, gather, zip}
-use Rattle.grid.specs.{declared.Corner.Corner, Grid.origin, Grid.same, Grid.stepped, Tree.AncestorAt, Tree.lineageOf, Tree.pathOf}
+use Rattle.lists.specs.Lists.{_≡_, Bool, List, [], _∷_, _++_, List·Memᴰ, length, getD, _⊎_, ℕ, pred, _<_, any, find, gather, zip}
+use Rattle.grid.specs.{declared.Corner.Corner, Grid.origin, Grid.same, Grid.stepped, Grid.legsOf, Grid.joins, Tree.AncestorAt, Tree.lineageOf, Tree.pathOf}
 
 -- the paths of a list of corners, each from the root, one after the other
 abbrev pub pathsOf : List Corner → List Corner
@@ -22,15 +22,6 @@ refOf ns a = find (same a) ns
 -- the step that first needed a node: the least k with the node on the path of pk; 0 for the root
 abbrev pub needOf : List Corner → Corner → ℕ
 needOf ps a = pred (find (λ p. any (same a) (pathOf p)) ps)
-
--- the steps, each as its two ends
-abbrev pub legsOf : List Corner → List (Corner × Corner)
-legsOf [] = []
-legsOf (p ∷ ps) = zip (p ∷ ps) ps
-
--- a pair is a and b, in either order
-abbrev pub joins : Corner → Corner → Corner × Corner → Bool
-joins a b l = same (l .0) a && same (l .1) b || same (l .0) b && same (l .1) a
 
 -- a step links a and b: at some level that both its ends have, their parents are a and b
 abbrev pub links : Corner → Corner → Corner × Corner → Bool

@@ -11,7 +11,7 @@ use native.Mathlib.Nat.{pow-suc}
 use native.Mathlib.Omega.{arith}
 use lib.ListN.{length, length-append}
 use Rattle.grid.specs.declared.Corner.{Corner}
-use Rattle.grid.specs.Grid.{origin, same, stepped, cornersFrom}
+use Rattle.grid.specs.Grid.{origin, same, stepped, laterFrom, cornersFrom}
 use Rattle.grid.specs.Tree.{root, parentOf, isRoot, sizeOf, pathOf, WithinLevels}
 use Rattle.lists.specs.Lists.{add, gather}
 use Rattle.trace.specs.Meeting.{visitedOf}
@@ -196,11 +196,9 @@ bound (p ∷ qs) =
     let h = bound qs in
     (sizeOf p + h .0, λ q m. ⊎-elim (λ e. subst (λ x. sizeOf x ≤ sizeOf p + h .0) (sym e) (omega arith)) (λ k. omega (arith, h .1 q k)) (List·Memᴰ·cases-cons m))
 
-trail-corners : (c : Corner) (ds : List ℕ) → (r : List Corner) × (cornersFrom c ds ≡ c ∷ r) × Trail c r
-trail-corners c [] = ([], refl, tt)
-trail-corners c (d ∷ ds) =
-    let h = trail-corners (stepped d c) ds in
-    (stepped d c ∷ h .0, ap (λ (l : List Corner). c ∷ l) (h .1), ((d, inr refl), h .2))
+trail-later : (c : Corner) (ds : List ℕ) → Trail c (laterFrom c ds)
+trail-later c [] = tt
+trail-later c (d ∷ ds) = ((d, inr refl), trail-later (stepped d c) ds)
 
 trail-few : (qs : List Corner) → Trail origin qs → length (nodesOf (origin ∷ qs)) + 3 ≤ 4 * length (visitedOf (origin ∷ qs))
 trail-few qs t =
@@ -215,7 +213,7 @@ trail-few qs t =
 
 -- the nodes of a walk from the origin
 pub few-nodes : (ds : List ℕ) → length (nodesOf (cornersFrom origin ds)) + 3 ≤ 4 * length (visitedOf (cornersFrom origin ds))
-few-nodes ds = let h = trail-corners origin ds in rw (h .1) (trail-few (h .0) (h .2))
+few-nodes ds = trail-few (laterFrom origin ds) (trail-later origin ds)
 
 -- Any start: with coordinates below 2 ^ n in magnitude, the nodes are at most 4 V + 4 n.
 start-at : (c : Corner) → Count c (c ∷ []) (parentOf c ∷ []) (class c ∷ [])
@@ -280,12 +278,10 @@ cover-at (suc n) c qs t b =
 
 pub few-nodes-from : (n : ℕ) (c : Corner) (ds : List ℕ) → ((q : Corner) → List·Memᴰ q (cornersFrom c ds) → WithinLevels n q) → length (nodesOf (cornersFrom c ds)) ≤ 4 * length (visitedOf (cornersFrom c ds)) + 4 * n
 few-nodes-from n c ds b =
-    let h = trail-corners c ds in
-    let k : CoverAt n c (h .0) = cover-at n c (h .0) (h .2) (λ q m. b q (subst (λ l. List·Memᴰ q l) (sym (h .1)) m)) in
-    rw (h .1)
-    (omega (
+    let k : CoverAt n c (laterFrom c ds) = cover-at n c (laterFrom c ds) (trail-later c ds) b in
+    omega (
       arith,
       k .short,
-      pigeon (nodesOf (c ∷ h .0)) (k .list) (distinct-gather same same-sound same-refl [] (pathsOf (c ∷ h .0)) tt)
-          (λ a m. k .holds a (⊎-elim (λ u. absurd (List·Memᴰ·not-nil u)) (λ u. u) (mem-gather-cases same same-sound same-refl [] (pathsOf (c ∷ h .0)) m))),
-    ))
+      pigeon (nodesOf (cornersFrom c ds)) (k .list) (distinct-gather same same-sound same-refl [] (pathsOf (cornersFrom c ds)) tt)
+          (λ a m. k .holds a (⊎-elim (λ u. absurd (List·Memᴰ·not-nil u)) (λ u. u) (mem-gather-cases same same-sound same-refl [] (pathsOf (cornersFrom c ds)) m))),
+    )

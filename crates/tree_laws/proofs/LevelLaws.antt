@@ -8,15 +8,15 @@ use Prim.Native.Nat.{ℕ, zero, suc, _+_, _<_}
 use native.Mathlib.Omega.{arith}
 use lib.ListN.{length}
 use Rattle.grid.specs.declared.Corner.{Corner}
-use Rattle.grid.specs.Grid.{same}
+use Rattle.grid.specs.Grid.{same, joins}
 use Rattle.grid.specs.Tree.{root, parentOf, isRoot, pathOf}
 use Rattle.lists.specs.Lists.{any, find, add, gather}
-use Rattle.tree.specs.Nodes.{joins, links}
+use Rattle.tree.specs.Nodes.{links}
 use Rattle.grid.proofs.CornerLaws.{same-refl, same-sound}
 use Rattle.grid.proofs.PathLaws.{sizeOf-parentOf, pathOf-root, pathOf-snoc, tree-ind}
 use Rattle.lists.proofs.FindLaws.{find-none, find-left, find-le}
 use Rattle.lists.proofs.GatherLaws.{or-cases, gather-append, gather-more, add-cases, distinct-gather, mem→any, mem-gather-left, mem-gather-right, mem-gather-cases}
-use Rattle.tree.proofs.JoinLaws.{joins-cases}
+use Rattle.grid.proofs.JoinLaws.{joins-cases}
 use Rattle.tree.proofs.NodeLaws.{mem-path}
 use Rattle.tree_laws.proofs.LaterLaws.{later-old, later-new, later-none, later-pos, later-or, find-snoc}
 use Rattle.tree_laws.specs.State.{later, linked, put, WellLinked}

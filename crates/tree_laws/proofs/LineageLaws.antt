@@ -7,14 +7,15 @@ use mathlib.Core.Path.{_≡_, refl, ap, ap₂, sym, _∙_}
 use Prim.Native.Nat.{_+_, _≤_}
 use native.Mathlib.Omega.{arith}
 use Rattle.grid.specs.declared.Corner.{Corner}
+use Rattle.grid.specs.Grid.{joins}
 use Rattle.grid.specs.Tree.{parentOf, isRoot, sizeOf, ancestorsBy, lineageOf, pathOf}
 use Rattle.lists.specs.Lists.{any, zip}
-use Rattle.tree.specs.Nodes.{joins, links}
+use Rattle.tree.specs.Nodes.{links}
 use Rattle.grid.proofs.AncestorLaws.{lineageOf-root, lineageOf-cons, mem-path}
 use Rattle.grid.proofs.PathLaws.{sizeOf-parentOf, pathOf-snoc, tree-ind}
 use Rattle.lists.proofs.FindLaws.{bool-agree}
 use Rattle.lists.proofs.GatherLaws.{or-cases, or-right}
-use Rattle.tree.proofs.JoinLaws.{joins-cases, joins-here, joins-there, joins-flip}
+use Rattle.grid.proofs.JoinLaws.{joins-cases, joins-here, joins-there, joins-flip}
 use Rattle.tree.proofs.LinkLaws.{zip-nil}
 
 or-nothing : (b : Bool) → (b || false) ≡ b

@@ -7,16 +7,16 @@ use mathlib.Core.Path.{_≡_, refl, ap, ap₂, sym, _∙_, subst}
 use Prim.Native.Nat.{ℕ, zero, suc, _+_, _-_, _<_}
 use native.Mathlib.Omega.{arith}
 use Rattle.grid.specs.declared.Corner.{Corner}
-use Rattle.grid.specs.Grid.{same, stepped}
+use Rattle.grid.specs.Grid.{same, stepped, joins}
 use Rattle.grid.specs.Tree.{root, parentOf, isRoot, pathOf}
 use Rattle.lists.specs.Lists.{any, gather, tally}
-use Rattle.tree.specs.Nodes.{joins, links}
+use Rattle.tree.specs.Nodes.{links}
 use Rattle.grid.proofs.CornerLaws.{same-refl, same-sound}
 use Rattle.grid.proofs.ParentLaws.{parentOf-stepped}
 use Rattle.grid.proofs.StepLaws.{stepped-ne}
 use Rattle.tree_laws.proofs.LaterLaws.{later-old, later-new, later-none}
 use Rattle.lists.proofs.GatherLaws.{add-cases, any→mem, mem→any, mem-gather-cases}
-use Rattle.tree.proofs.JoinLaws.{joins-cases}
+use Rattle.grid.proofs.JoinLaws.{joins-cases}
 use Rattle.tree.proofs.NodeLaws.{mem-path}
 use Rattle.tree_laws.specs.State.{later, linked, put, WellLinked, State, needed, visitedBy, Sound, Agree, Unlinking}
 use Rattle.tree_laws.proofs.AddLaws.{path-below, needed-known, needed-step}

@@ -10,18 +10,18 @@ use borrow.Author.Tests.{ne-eqb, eq-eqb}
 use lib.Dec.{eqb}
 use lib.ListN.{length, length-append}
 use Rattle.grid.specs.declared.Corner.{Corner}
-use Rattle.grid.specs.Grid.{same, stepped, cornersFrom, endFrom}
+use Rattle.grid.specs.Grid.{same, stepped, cornersFrom, endFrom, legsOf, joins}
 use Rattle.grid.specs.Tree.{root, parentOf, pathOf}
 use Rattle.lists.specs.Lists.{any, find, count, gather, zip, tally, Below}
 use Rattle.trace.specs.Meeting.{visitedOf}
-use Rattle.tree.specs.Nodes.{pathsOf, nodesOf, legsOf, joins, links}
+use Rattle.tree.specs.Nodes.{pathsOf, nodesOf, links}
 use Rattle.grid.proofs.CornerLaws.{same-refl, same-sound}
 use Rattle.grid.proofs.PathLaws.{pathOf-root, pathOf-snoc, tree-ind}
 use Rattle.grid.proofs.StepLaws.{length-cornersFrom, endFrom-mem, cornersFrom-snoc}
 use Rattle.lists.proofs.CountLaws.{count-cong}
 use Rattle.lists.proofs.FindLaws.{find-cong, bool-agree, find-le, find-pos, count-snoc, count-none, count-any, not-found, find-none, find-any, any-mem, any-some}
 use Rattle.lists.proofs.GatherLaws.{gather-more, gather-append, add-cases, any→mem, mem→any, not-mem, mem-gather-right, mem-gather-cases}
-use Rattle.tree.proofs.JoinLaws.{joins-cases, joins-flip}
+use Rattle.grid.proofs.JoinLaws.{joins-cases, joins-flip}
 use Rattle.tree.proofs.NodeLaws.{mem-path, nodesOf-snoc, nodesOf-distinct, mem-paths, mem-paths-cases}
 use Rattle.tree.proofs.RefLaws.{not-any, ref-parent}
 use Rattle.tree_laws.proofs.LaterLaws.{later-old, later-new, later-none, find-snoc}

@@ -8,11 +8,11 @@ use Prim.Native.Nat.{ℕ, zero, suc, _+_, _-_, _*_, _<_, _≤_, pred}
 use lib.Dec.{eqb}
 use lib.ListN.{length, replicate}
 use Rattle.grid.specs.declared.Corner.{Corner}
-use Rattle.grid.specs.Grid.{same, stepped}
+use Rattle.grid.specs.Grid.{same, stepped, legsOf, joins}
 use Rattle.grid.specs.Tree.{root, parentOf, isRoot, pathOf}
 use Rattle.layout.specs.Table.{width, Fields, wordsOf, childRefOf}
 use Rattle.lists.specs.Lists.{any, find, count, gather, tally, Distinct}
-use Rattle.tree.specs.Nodes.{nodesOf, joins, links, legsOf, refOf}
+use Rattle.tree.specs.Nodes.{nodesOf, links, refOf}
 
 -- a number that is set once: what it was, or else s if the test passes
 abbrev pub later : ℕ → Bool → ℕ → ℕ

@@ -2,15 +2,14 @@
 -- Assumes nothing.
 use mathlib.Core.Bool.{Bool, true, false, _&&_, _||_}
 use mathlib.Core.Logic.{_⊎_, ⊎-map}
-use mathlib.Core.Path.{_≡_, refl, ap, sym, _∙_}
+use mathlib.Core.Path.{_≡_, refl, ap, ap₂, sym, _∙_}
 use Prim.Native.Nat.{ℕ, _<_}
 use Rattle.grid.specs.declared.Corner.{Corner}
-use Rattle.grid.specs.Grid.{same, stepped}
+use Rattle.grid.specs.Grid.{same, stepped, joins}
 use Rattle.grid.proofs.CornerLaws.{same-refl, same-sound}
 use Rattle.grid.proofs.StepLaws.{back, back-small, stepped-inj, stepped-back}
 use Rattle.lists.proofs.GatherLaws.{and-left, and-right, or-cases}
-use Rattle.tree.specs.Nodes.{joins}
-use Rattle.tree.proofs.TreeCases as cases
+use Rattle.grid.proofs.GridCases as cases
 
 -- a pair is x and y: the two ways round
 pub joins-cases : (x y a e : Corner) → joins x y (a, e) ≡ true → ((a ≡ x) × (e ≡ y)) ⊎ ((a ≡ y) × (e ≡ x))
@@ -19,6 +18,9 @@ joins-cases x y a e h =
     (λ k. (same-sound a x (and-left (same a x) (same e y) k), same-sound e y (and-right (same a x) (same e y) k)))
     (λ k. (same-sound a y (and-left (same a y) (same e x) k), same-sound e x (and-right (same a y) (same e x) k)))
     (or-cases (same a x && same e y) (same a y && same e x) h)
+
+pub joins-pair : (x y : Corner) (l : Corner × Corner) → joins x y l ≡ true → (l ≡ (x, y)) ⊎ (l ≡ (y, x))
+joins-pair x y l h = ⊎-map (λ k. ap₂ (λ (a b : Corner). (a, b)) (k .0) (k .1)) (λ k. ap₂ (λ (a b : Corner). (a, b)) (k .0) (k .1)) (joins-cases x y (l .0) (l .1) h)
 
 pub joins-here : (a e : Corner) → joins a e (a, e) ≡ true
 joins-here a e = rw (same-refl a, same-refl e)
