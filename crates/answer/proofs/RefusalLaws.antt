@@ -39,7 +39,7 @@ pub orElse-right : (a : Judged) → orElse a Good ≡ a
 orElse-right Good = refl
 orElse-right (Refused r) = refl
 
-pub orElse-assoc : (a b c : Judged) → orElse (orElse a b) c ≡ orElse a (orElse b c)
+orElse-assoc : (a b c : Judged) → orElse (orElse a b) c ≡ orElse a (orElse b c)
 orElse-assoc Good b c = refl
 orElse-assoc (Refused r) b c = refl
 

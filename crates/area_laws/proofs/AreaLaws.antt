@@ -22,7 +22,7 @@ use Rattle.panels.specs.Edges.{Edge, edgeOf, edgesFrom, beside, surplusOf}
 use Rattle.panels.specs.Inside.{Inside}
 use Rattle.panels.specs.Box.{Box, boxOf, panelsIn, panelSum}
 use Rattle.area_laws.proofs.SumLaws.{signOf, sum-exchange}
-use Rattle.area_laws.proofs.BoxLaws.{Holds, HoldsFoot, box-holds, edges-held}
+use Rattle.area_laws.proofs.BoxLaws.{HoldsCorner, HoldsFoot, box-holds, edges-held}
 use Rattle.area_laws.proofs.CountLaws.{box-count}
 
 abbrev shareOf : Edge → ℤ
@@ -69,7 +69,7 @@ sum-counts b (e ∷ es) h =
     ∙ ring 5 (signOf e ∷ e .foot .0 ∷ b .west ∷ sumOf shareOf es ∷ sumOf signOf es ∷ []) (v 0 ⊗ (v 1 ⊖ v 2) ⊕ (v 3 ⊖ v 2 ⊗ v 4)) (v 0 ⊗ v 1 ⊕ v 3 ⊖ v 2 ⊗ (v 0 ⊕ v 4)) tt
 
 -- for any box that holds the corners
-sweep-box : (b : Box) (c : Corner) (ds : List ℕ) → ((p : Corner) → List·Memᴰ p (cornersFrom c ds) → Holds b p) → endFrom c ds ≡ c → sweepFrom c ds ≡ sumOf (surplusOf c ds) (panelsIn b)
+sweep-box : (b : Box) (c : Corner) (ds : List ℕ) → ((p : Corner) → List·Memᴰ p (cornersFrom c ds) → HoldsCorner b p) → endFrom c ds ≡ c → sweepFrom c ds ≡ sumOf (surplusOf c ds) (panelsIn b)
 sweep-box b c ds h e =
     sweep-edges c ds
     ∙ ring 2 (sumOf shareOf (edgesFrom c ds) ∷ b .west ∷ []) (v 0) (v 0 ⊖ v 1 ⊗ k (pos 0)) tt

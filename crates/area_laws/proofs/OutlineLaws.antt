@@ -3,8 +3,9 @@
 use mathlib.Core.List.{List, [], _∷_, _++_}
 use mathlib.Core.Path.{_≡_, refl, ap, ap₂, sym, _∙_}
 use Prim.Native.Nat.{ℕ}
+use native.Mathlib.Omega.{arith}
 use lib.IntN.{ℤ, pos, negℤ, _+ℤ_, _-ℤ_, _*ℤ_, +ℤ-comm, +ℤ-idr}
-use lib.ListN.{take, drop, take-append-drop}
+use lib.ListN.{length, take, drop, take-append-drop, length-append}
 use Rattle.int_laws.proofs.RingLaws.{ring, v, k, _⊕_, _⊖_, _⊗_, ⊝}
 use Rattle.grid.specs.declared.Corner.{Corner}
 use Rattle.grid.specs.Grid.{stepped, endFrom, cornerAt}
@@ -25,7 +26,11 @@ sweep-rotated c ss ts h =
 pub sweep-started : (c : Corner) (ds : List ℕ) (j : ℕ) → endFrom c ds ≡ c → sweepFrom (cornerAt c ds j) (startedAt j ds) ≡ sweepFrom c ds
 sweep-started c ds j h = sweep-rotated c (take j ds) (drop j ds) (ap (endFrom c) (take-append-drop j ds) ∙ h) ∙ ap (sweepFrom c) (take-append-drop j ds)
 
--- backwards, the walk ends where it started
+-- backwards, the walk has as many steps, and it ends where it started
+pub length-backward : (ds : List ℕ) → length (backward ds) ≡ length ds
+length-backward [] = refl
+length-backward (d ∷ ds) = length-append (backward ds) (back d ∷ []) ∙ omega (arith, length-backward ds)
+
 pub end-backward : (c : Corner) (ds : List ℕ) → endFrom (endFrom c ds) (backward ds) ≡ c
 end-backward c [] = refl
 end-backward c (d ∷ ds) =

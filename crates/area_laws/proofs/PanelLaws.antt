@@ -45,7 +45,7 @@ row-once b a zero = tt
 row-once b a (suc n) = ((λ m. omega (zarith, row-mem b (sucℤ a) n (panelAt (corner a b)) m .west, bal-suc a)), row-once b (sucℤ a) n)
 
 -- p is in m such rows from b northwards
-pub record InRows (b a : ℤ) (n m : ℕ) (p : Panel) : Type 0 where
+record InRows (b a : ℤ) (n m : ℕ) (p : Panel) : Type 0 where
   pub south : b ≤ℤ p .1
   pub north : p .1 <ℤ (b +ℤ pos m)
   pub west : a ≤ℤ p .0

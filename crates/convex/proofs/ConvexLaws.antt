@@ -12,7 +12,7 @@ use Rattle.room.specs.Room.{asRoomJudged}
 use Rattle.convex.specs.Convex.{ConvexIs, ConvexCall}
 use Rattle.convex.proofs.ConvexCases as cases
 
-pub convexIs-one : (c : Corner) (ds : List ℕ) (r s : Bool) → ConvexIs c ds r → ConvexIs c ds s → r ≡ s
+convexIs-one : (c : Corner) (ds : List ℕ) (r s : Bool) → ConvexIs c ds r → ConvexIs c ds s → r ≡ s
 convexIs-one c ds r s h g = same r s (λ e. g .1 (h .0 e)) (λ e. h .1 (g .0 e))
   where
     same : (r s : Bool) → (r ≡ true → s ≡ true) → (s ≡ true → r ≡ true) → r ≡ s

@@ -14,7 +14,7 @@ use Rattle.grid.proofs.StepLaws.{back, endFrom-append, cornerAt-end}
 use Rattle.trace.specs.Meeting.{Meets}
 use Rattle.trace.specs.Verdict.{IsRoom}
 use Rattle.panels.specs.Outline.{backward}
-use Rattle.area_laws.proofs.OutlineLaws.{end-backward}
+use Rattle.area_laws.proofs.OutlineLaws.{end-backward, length-backward}
 
 -- the corners are those at the places
 pub in-place : (c : Corner) (ds : List ℕ) (p : Corner) → List·Memᴰ p (cornersFrom c ds) → (i : ℕ) × (i ≤ length ds) × (p ≡ cornerAt c ds i)
@@ -107,13 +107,6 @@ pub in-cycle : (c : Corner) (u v : List ℕ) → endFrom c (u ++ v) ≡ c → (p
 in-cycle c u v closed p m = cycle-in (endFrom c u) v u (cycle-closed c u v closed) p (subst (λ (z : Corner). List·Memᴰ p (cornersFrom z (u ++ v))) (sym (turn c u v closed)) m)
 
 -- the way back
-pub length-backward : (ds : List ℕ) → length (backward ds) ≡ length ds
-length-backward [] = refl
-length-backward (d ∷ ds) = length-append (backward ds) (back d ∷ []) ∙ one (length (backward ds)) (length ds) (length-backward ds)
-  where
-    one : (m n : ℕ) → m ≡ n → m + 1 ≡ suc n
-    one m n e = omega arith
-
 take-backward : (ds : List ℕ) (i : ℕ) → i ≤ length ds → take i (backward ds) ≡ backward (drop (length ds - i) ds)
 take-backward [] zero h = refl
 take-backward [] (suc i) h = let z : ⊥ = omega arith in absurd z

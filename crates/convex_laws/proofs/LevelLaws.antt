@@ -1,8 +1,8 @@
 -- The columns' test on the chain says that it passes for any two columns: all corners lie on or left of each edge of the chain.
 -- Assumes nothing.
-use mathlib.Core.Path.{_≡_, refl, sym, ap, ap₂, _∙_, subst}
+use mathlib.Core.Path.{_≡_, refl, sym, ap₂, _∙_, subst}
 use mathlib.Core.Bool.{Bool, true, false, _&&_}
-use mathlib.Core.List.{List, [], _∷_, map, List·Memᴰ, List·Memᴰ·head, List·Memᴰ·tail, List·Memᴰ·not-nil, Memᴰ·map, Memᴰ·of-map}
+use mathlib.Core.List.{List, [], _∷_, map, List·Memᴰ, List·Memᴰ·head, List·Memᴰ·tail, Memᴰ·map}
 use mathlib.Core.Logic.{_⊎_, ⊎-elim, _↔_}
 use Prim.Native.Nat.{ℕ, zero, suc, _+_, _*_, _-_, _≤_, _<_}
 use native.Mathlib.Omega.{arith}
@@ -20,11 +20,11 @@ use Rattle.grid.specs.Grid.{corner}
 use Rattle.hull.specs.Hull.{OnLeft, AllLeft, cross}
 use Rattle.hull.specs.Call.{numbers}
 use Rattle.hull_laws.specs.Outline.{chainFrom, cutAt, spot}
-use Rattle.hull_laws.proofs.ChainLaws.{Chain, Sorted, chain-ok}
+use Rattle.hull_laws.proofs.ChainLaws.{Chain, chain-ok}
 use Rattle.hull_laws.proofs.CornerLaws.{X, cr, O}
 use Rattle.hull_laws.proofs.ScanLaws.{chain-cols, chain-in, chain-last}
 use Rattle.hull_laws.proofs.RoundLaws.{lastOf}
-use Rattle.hull_laws.proofs.SinkLaws.{upFrom, at}
+use Rattle.hull_laws.proofs.SinkLaws.{upFrom, at, upFrom-in, cols-sorted}
 use Rattle.convex_laws.specs.Level.{level, levels, levelAlong, levelOf}
 
 -- what lies right of the way from p to b, both of which a and z lie on or left of, lies right of the way from a to z when it stands between them
@@ -145,39 +145,17 @@ module _ (ys : List ℕ) (Q : List Corner) where
 abbrev pub Level : List ℕ → Type 0
 Level ys = (a c b : ℕ) → a < c → c < b → b < length ys → level ys a b c ≡ true
 
--- the columns from i on, and their corners from left to right
-in-columns : (i n c : ℕ) → List·Memᴰ c (upFrom i n) → i ≤ c
-unfolding upFrom
-in-columns i zero c m = absurd (List·Memᴰ·not-nil m)
-in-columns i (suc n) c (List·Memᴰ·head e) = omega arith
-in-columns i (suc n) c (List·Memᴰ·tail m) = omega (arith, in-columns (suc i) n c m)
-
-columns-in : (i n c : ℕ) → i ≤ c → c < i + n → List·Memᴰ c (upFrom i n)
-unfolding upFrom
-columns-in i zero c h g = absurd (omega arith)
-columns-in i (suc n) c h g = ⊎-elim (λ e. List·Memᴰ·head (sym e)) (λ l. List·Memᴰ·tail (columns-in (suc i) n c l (omega arith))) (eq-or-lt-of-le h)
-
-columns-sorted : (ys : List ℕ) (i n : ℕ) → Sorted (map (at (pos 0) (pos 0) ys) (upFrom i n))
-unfolding upFrom
-columns-sorted ys i zero = tt
-columns-sorted ys i (suc n) = (right, columns-sorted ys (suc i) n)
-  where
-    right : (q : Corner) → List·Memᴰ q (map (at (pos 0) (pos 0) ys) (upFrom (suc i) n)) → (pos 0 +ℤ pos i) <ℤ q .0
-    right q m =
-        let r = Memᴰ·of-map (at (pos 0) (pos 0) ys) (upFrom (suc i) n) m in
-        omega (zarith, in-columns (suc i) n (r .0) (r .1), bal+ (pos 0) (pos i), bal+ (pos 0) (pos (r .0)), ap (λ (z : Corner). z .0) (r .2))
-
 module _ (ys : List ℕ) where
   Q : ℕ → List Corner
   Q n = map (at (pos 0) (pos 0) ys) (upFrom 0 n)
 
   in-Q : (n c : ℕ) → c < n → List·Memᴰ (at (pos 0) (pos 0) ys c) (Q n)
   unfolding Q
-  in-Q n c h = Memᴰ·map (at (pos 0) (pos 0) ys) (columns-in 0 n c (omega arith) (omega arith))
+  in-Q n c h = Memᴰ·map (at (pos 0) (pos 0) ys) (upFrom-in 0 n c (omega arith) (omega arith))
 
   chained : (n : ℕ) → Chain (Q n) (map (at (pos 0) (pos 0) ys) (chainFrom ys 0 n))
   unfolding Q
-  chained n = subst (Chain (Q n)) (chain-cols (pos 0) (pos 0) ys 0 n) (chain-ok (Q n) (columns-sorted ys 0 n))
+  chained n = subst (Chain (Q n)) (chain-cols (pos 0) (pos 0) ys 0 n) (chain-ok (Q n) (cols-sorted (pos 0) (pos 0) ys 0 n))
 
   over-level : (n a c b : ℕ) → a < c → c < b → b < n → Over ys (Q n) c → level ys a b c ≡ true
   over-level n a c b h g l o =

@@ -14,6 +14,7 @@ use lib.Signed.{_≤ℤ_, _<ℤ_}
 use Rattle.int_laws.proofs.LinearLaws.{zarith, bal+, bal-}
 use Rattle.int_laws.proofs.RingLaws.{E, v, k, _⊕_, _⊖_, _⊗_, ring}
 use Rattle.int_laws.proofs.SignLaws.{h≤, hw, _⊞_, _⊠_, by≤}
+use Rattle.int_laws.proofs.NextLaws.{plus-suc}
 use Rattle.lists.specs.Lists.{Below}
 use Rattle.grid.specs.declared.Corner.{Corner}
 use Rattle.grid.specs.Grid.{corner, origin, stepped, cornersFrom}
@@ -33,9 +34,6 @@ first-top c h y e = corner-eq (corner (c .0 +ℤ pos 0) (h -ℤ pos y)) c (here 
     here : (x : ℤ) → x +ℤ pos 0 ≡ x
     here x = omega (zarith, bal+ x (pos 0))
 
-east-top : (x : ℤ) (j : ℕ) → sucℤ x +ℤ pos j ≡ x +ℤ pos (suc j)
-east-top x j = omega (zarith, +ℤ-one x, bal+ x (pos 1), bal+ (sucℤ x) (pos j), bal+ x (pos (suc j)))
-
 north-top : (z h : ℤ) (y : ℕ) → 0 < y → z ≡ h -ℤ pos y → sucℤ z ≡ h -ℤ pos (y - 1)
 north-top z h y l e = omega (zarith, +ℤ-one z, bal+ z (pos 1), bal- h (pos y), bal- h (pos (y - 1)))
 
@@ -46,7 +44,7 @@ tops-in h [] b c y l e zero g = List·Memᴰ·head (first-top c h y e)
 tops-in h [] b c y l e (suc j) g = let z : ⊥ = omega arith in absurd z
 tops-in h (zero ∷ w) b c y l e zero g = List·Memᴰ·head (first-top c h y e)
 tops-in h (zero ∷ w) b c y l e (suc j) g =
-    List·Memᴰ·tail (subst (λ (x : ℤ). List·Memᴰ (corner x (h -ℤ pos (getD (depthsFrom y w) j 0))) (cornersFrom (stepped 0 c) w)) (east-top (c .0) j)
+    List·Memᴰ·tail (subst (λ (x : ℤ). List·Memᴰ (corner x (h -ℤ pos (getD (depthsFrom y w) j 0))) (cornersFrom (stepped 0 c) w)) (plus-suc (c .0) j)
     (tops-in h w (b .1) (stepped 0 c) y (omega arith) e j (omega arith)))
 tops-in h (suc zero ∷ w) b c y l e j g = List·Memᴰ·tail (tops-in h w (b .1) (stepped 1 c) (y - 1) (omega arith) (north-top (c .1) h y (omega arith) e) j g)
 tops-in h (suc (suc d) ∷ w) b c y l e j g = let z : ⊥ = omega (arith, b .0) in absurd z
@@ -67,7 +65,7 @@ under-tops h (zero ∷ w) b c y l e p (List·Memᴰ·head m) = record { col = 0;
 under-tops h (zero ∷ w) b c y l e p (List·Memᴰ·tail m) = more (under-tops h w (b .1) (stepped 0 c) y (omega arith) e p m)
   where
     more : Under (sucℤ (c .0)) h (depthsFrom y w) p → Under (c .0) h (y ∷ depthsFrom y w) p
-    more u = record { col = suc (u .col); within = omega (arith, u .within); stands = u .stands ∙ east-top (c .0) (u .col); lower = u .lower }
+    more u = record { col = suc (u .col); within = omega (arith, u .within); stands = u .stands ∙ plus-suc (c .0) (u .col); lower = u .lower }
 under-tops h (suc zero ∷ w) b c y l e p (List·Memᴰ·head m) = less (under-tops h w (b .1) (stepped 1 c) (y - 1) (omega arith) (north-top (c .1) h y (omega arith) e) (stepped 1 c) (first w))
   where
     first : (w : List ℕ) → List·Memᴰ (stepped 1 c) (cornersFrom (stepped 1 c) w)

@@ -12,6 +12,7 @@ use lib.IntN.{pos}
 use lib.Signed.{ltZ}
 use lib.ListN.{length, take, drop, length-append, take-append-drop}
 use lib.Seq.{take-at, drop-at, take-length, drop-length, take-add, drop-drop}
+use Rattle.area_laws.proofs.OutlineLaws.{length-backward}
 use Rattle.grid.specs.declared.Corner.{Corner}
 use Rattle.grid.specs.Grid.{cornersFrom, endFrom, cornerAt}
 use Rattle.grid.proofs.StepLaws.{endFrom-append}
@@ -25,7 +26,7 @@ use Rattle.convex_laws.specs.Place.{placeOf}
 use Rattle.convex_laws.specs.Decide.{convexAt, convexFrom, convexRound, convexOf}
 use Rattle.convex_laws.proofs.LevelLaws.{both, two}
 use Rattle.convex_laws.proofs.PartLaws.{convexPart-exactly}
-use Rattle.convex_laws.proofs.CycleLaws.{place-in, room-places, cycle-in, in-cycle, cycle-room, backward-room, length-backward}
+use Rattle.convex_laws.proofs.CycleLaws.{place-in, room-places, cycle-in, in-cycle, cycle-room, backward-room}
 use Rattle.convex_laws.proofs.PlaceLaws.{Found, west-anti, north-anti, east-anti, south-anti, placeOf-found}
 use Rattle.convex_laws.proofs.WestLaws.{north-other, east-other, south-other, one-place}
 

@@ -14,7 +14,7 @@ use Rattle.int_laws.proofs.NextLaws.{true-lt, false-lt}
 use Rattle.lists.specs.Lists.{Below}
 use Rattle.grid.specs.declared.Corner.{Corner}
 use Rattle.grid.specs.Grid.{endFrom, cornerAt}
-use Rattle.grid.proofs.StepLaws.{back, endFrom-append}
+use Rattle.grid.proofs.StepLaws.{back, endFrom-append, back-back}
 use Rattle.trace.specs.Verdict.{IsRoom, sweepFrom}
 use Rattle.trace.proofs.VerdictLaws.{area-room}
 use Rattle.panels.specs.Outline.{startedAt, backward}
@@ -182,13 +182,6 @@ convex-started c ds j closed = (there, back′)
     back′ x = subst (λ (p : Corner). ConvexRoom p ds) ends (subst (ConvexRoom (endFrom (endFrom c u) v)) whole (cycle-convex (endFrom c u) v u (cycle-closed c u v round) x (ap (λ (p : Corner). sweepFrom p (u ++ v)) ends ∙ sym same)))
 
 -- ---- both ways round
-
-back-back : (d : ℕ) → d < 4 → back (back d) ≡ d
-back-back zero h = refl
-back-back (suc zero) h = refl
-back-back (suc (suc zero)) h = refl
-back-back (suc (suc (suc zero))) h = refl
-back-back (suc (suc (suc (suc d)))) h = absurd (omega arith)
 
 backward-backward : (ds : List ℕ) → Below 4 ds → backward (backward ds) ≡ ds
 backward-backward [] b = refl

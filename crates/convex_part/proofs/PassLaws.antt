@@ -30,15 +30,6 @@ pub depth-by : (y d : ℕ) → y - boolByte (not (eqb d 0)) ≡ under y d
 depth-by y zero = omega arith
 depth-by y (suc d) = omega (arith, ap (λ (x : Bool). boolByte (not x)) (ne-eqb (suc d) 0 (λ e. omega arith)))
 
--- a test that is turned round
-pub not-true : (b : Bool) → not b ≡ true → b ≡ false
-not-true true e = sym e
-not-true false e = refl
-
-pub not-false : (b : Bool) → not b ≡ false → b ≡ true
-not-false true e = refl
-not-false false e = sym e
-
 -- `and` with a test that is known
 and-true : (s t : Bool) → s ≡ true → (s && t) ≡ t
 and-true s t e = ap (λ (x : Bool). x && t) e

@@ -10,7 +10,7 @@ use borrow.Author.Tests.{le-leb, lt-leb}
 use lib.Dec.{leb}
 use lib.ListN.{length, getD, take, drop, length-take, length-drop, List·getD-eq-default}
 use lib.Seq.{take-all, getD-take, getD-drop}
-use Rattle.room_thread_laws.proofs.ThreadLaws.{not-true, not-false}
+use Rattle.lists.proofs.BoolLaws.{not-true, not-false}
 use Rattle.convex.specs.Parts.{turnedBy}
 use Rattle.convex_laws.specs.Level.{convexPart}
 use Rattle.convex_laws.specs.Place.{placeOf}

@@ -8,6 +8,7 @@ use native.Mathlib.Decide.{decLt, ℕ-discrete}
 use native.Mathlib.Omega.{arith}
 use lib.ListN.{length, getD, take, drop, set, replicate, length-replicate, length-take, length-drop, length-set, List·getD-append, List·getD-eq-default}
 use lib.Seq.{getD-take, getD-drop, getD-append-seam, getD-append-add, getD-set-same, getD-set-other, ext-getD}
+use Rattle.area_laws.proofs.OutlineLaws.{length-backward}
 use Rattle.grid.specs.declared.Corner.{Corner}
 use Rattle.grid.specs.Grid.{origin, endFrom}
 use Rattle.grid.proofs.StepLaws.{back, back-mod, back-small}
@@ -16,7 +17,6 @@ use Rattle.panels.specs.Outline.{startedAt, backward}
 use Rattle.convex_laws.specs.Place.{placeOf}
 use Rattle.convex_laws.specs.Way.{Leftward, travelled}
 use Rattle.convex_laws.specs.Decide.{convexFrom, convexRound, convexOf}
-use Rattle.convex_laws.proofs.CycleLaws.{length-backward}
 use Rattle.convex_laws.proofs.PlaceLaws.{placeOf-found}
 use Rattle.convex_laws.proofs.RoomLaws.{length-started}
 use Rattle.convex_part.specs.Steps.{Digits}

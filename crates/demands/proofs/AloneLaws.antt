@@ -110,7 +110,7 @@ module _ {c : Corner} {os : List ℕ} {words marks chain : ℕ} (f : Faultless c
   pub at-most-eight : AtMostEight (nodesAfter c os k) (cornersAfter c os k)
   at-most-eight = omega (arith, four-and-start)
 
-  pub most-corners : cornersAfter c os k ≤ 16385
+  most-corners : cornersAfter c os k ≤ 16385
   most-corners = omega (arith, few, length-visited-le (cornersFrom c (stepsAfter os k)), length-cornersFrom c (stepsAfter os k))
 
 -- ---- tables that are large enough at every moment

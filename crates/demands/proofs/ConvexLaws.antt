@@ -7,6 +7,7 @@ use mathlib.Core.Path.{_≡_, refl, ap, ap₂, sym, _∙_}
 use Prim.Native.Nat.{ℕ}
 use native.Mathlib.Omega.{arith}
 use Rattle.lists.specs.Lists.{tally}
+use Rattle.lists.proofs.BoolLaws.{is-false}
 use Rattle.answer.specs.declared.Counted.{Counted}
 use Rattle.answer.specs.declared.Judged.{Judged}
 use Rattle.answer.specs.declared.Judged.the-variants.{Good, Refused}
@@ -42,10 +43,6 @@ tally-no : (b : Bool) → 0 ≡ tally b → b ≡ false
 tally-no false e = refl
 tally-no true e = absurd (omega arith)
 
-not-true : (b : Bool) → (b ≡ true → ⊥) → b ≡ false
-not-true true f = absurd (f refl)
-not-true false f = refl
-
 module _ {s : Corner} {ds : List ℕ} {r : Counted} (w : ConvexCall s ds r) where
   abbrev judged : Judged
   judged = asRoomJudged s ds
@@ -69,5 +66,5 @@ module _ {s : Corner} {ds : List ℕ} {r : Counted} (w : ConvexCall s ds r) wher
   pub convex-no-when : r ≡ Counted.Many 0 ↔ (GivenRoom s ds Good × (ConvexRoom s ds → ⊥))
   convex-no-when = (
     λ e. (let g = counted-good judged (tally (w .says)) 0 (sym e ∙ w .answer) in (room-when s ds Good .0 (g .0), λ x. true≢false (sym (w .convex (g .0) .1 x) ∙ tally-no (w .says) (g .1)))),
-    λ g. told false (not-true (w .says) (λ e. g .1 (w .convex (room-when s ds Good .1 (g .0)) .0 e))) (g .0),
+    λ g. told false (is-false (w .says) (λ e. g .1 (w .convex (room-when s ds Good .1 (g .0)) .0 e))) (g .0),
   )

@@ -11,6 +11,7 @@ use borrow.Author.Tests.{lt-ltb, le-ltb, eq-eqb, ne-eqb}
 use lib.Dec.{ltb}
 use lib.IntN.{ℤ}
 use lib.ListN.{length, getD}
+use Rattle.lists.proofs.BoolLaws.{unfit}
 use Rattle.answer.specs.declared.Counted.{Counted}
 use Rattle.answer.specs.declared.Judged.{Judged}
 use Rattle.answer.specs.declared.Judged.the-variants.{Good, Refused}
@@ -90,11 +91,6 @@ turns-when {ds = ds} {out = out} {r = r} w j =
     let x = some-turns ds (length out) in
     let e : turnsJudged ds (length out) ≡ x .0 = given-turns ds (length out) (x .0) (x .1) in
     (λ q. subst (GivenTurns ds (length out)) (sym e ∙ sym (w .answer) ∙ q) (x .1), λ g. w .answer ∙ given-turns ds (length out) j g)
-
--- a test that fails where what it tells does not hold
-unfit : {P : Type 0} (b : Bool) → (b ≡ true → P) → (P → ⊥) → b ≡ false
-unfit true f n = absurd (n (f refl))
-unfit false f n = refl
 
 -- ---- hulls
 module _ (c : Corner) (chain : List ℕ) (room corners : ℕ) where

@@ -24,6 +24,7 @@ use Rattle.walk_call.specs.Walk.{tableFits, roomFrom, walkJudged}
 use Rattle.answer.proofs.RefusalLaws.{orElse-right}
 use Rattle.answer.proofs.StartLaws.{fits-near, near-fits}
 use Rattle.lists.proofs.GatherLaws.{and-left, and-right}
+use Rattle.lists.proofs.BoolLaws.{unfit}
 use Rattle.demands.specs.Moments.{stepsAfter, nodesAfter}
 use Rattle.demands.specs.Given.{HasRecords, HasRoom, FineAt, BadDigitAt, NothingAt, TooLongAt, First, Sized, Faultless, NoRoomAfter, Given}
 use Rattle.demands.specs.Given as given
@@ -51,10 +52,6 @@ records-fit w x =
 decided : {P : Type 0} (b : Bool) → (b ≡ true → P) → (P → b ≡ true) → P ⊎ ((P → ⊥) × (b ≡ false))
 decided true f g = inl (f refl)
 decided false f g = inr (λ p. let z : _≡_ {A = ℕ} 0 1 = cc (g p) in omega arith, refl)
-
-fails : {P : Type 0} (b : Bool) → (b ≡ true → P) → (P → ⊥) → b ≡ false
-fails true f n = absurd (n (f refl))
-fails false f n = refl
 
 module _ (os : List ℕ) (m k : ℕ) where
   abbrev roomFits : Bool
@@ -94,9 +91,9 @@ module _ (c : Corner) (os : List ℕ) (w m k : ℕ) where
   -- on each occasion, that judgement
   pub given-judged : (j : Judged) → Given c os w m k j → walkJudged c os w m k ≡ j
   given-judged _ (given.tooMany h) = rw (lt-ltb mostInput (length os) h)
-  given-judged _ (given.table h f) = rw (le-ltb mostInput (length os) h, fails (tableFits w) (fits-records w) f)
-  given-judged _ (given.resultRoom h t f) = rw (le-ltb mostInput (length os) h, records-fit w t, fails (roomFits os m k) (fits-room os m k) f)
-  given-judged _ (given.startRange h t r f) = rw (le-ltb mostInput (length os) h, records-fit w t, room-fit os m k r, fails (startFits c) (fits-near c) f)
+  given-judged _ (given.table h f) = rw (le-ltb mostInput (length os) h, unfit (tableFits w) (fits-records w) f)
+  given-judged _ (given.resultRoom h t f) = rw (le-ltb mostInput (length os) h, records-fit w t, unfit (roomFits os m k) (fits-room os m k) f)
+  given-judged _ (given.startRange h t r f) = rw (le-ltb mostInput (length os) h, records-fit w t, room-fit os m k r, unfit (startFits c) (fits-near c) f)
   given-judged _ (given.badDigit i s f) = judged-fault (BadDigitAt os) i (BadDigit i) s f (fault-digit i (length (stepsAfter os i)) (getD os i 0))
   given-judged _ (given.nothingToTake i s f) = judged-fault (NothingAt os) i (NothingToTake i) s f (fault-nothing i (length (stepsAfter os i)) (getD os i 0))
   given-judged _ (given.tooLong i s f) = judged-fault (TooLongAt os) i (TooLong i) s f (fault-long i (length (stepsAfter os i)) (getD os i 0))

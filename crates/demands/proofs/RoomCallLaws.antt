@@ -22,12 +22,12 @@ use Rattle.steps.specs.Turns.{writtenIf}
 use Rattle.trace.specs.Verdict.{IsRoom}
 use Rattle.hull.specs.Call.{faultAt, chainJudged, countedOf}
 use Rattle.room.specs.Room.{isRoom, asRoomJudged}
-use Rattle.room.proofs.RoomLaws.{isRoom-exactly, start-near, judged-many, judged-range, judged-fault, judged-room}
+use Rattle.room.proofs.RoomLaws.{isRoom-exactly, judged-many, judged-range, judged-fault, judged-room}
 use Rattle.polygon.specs.Polygon.{pointsOf, polygonOf, polygonJudged, PolygonCall}
 use Rattle.polygon_laws.proofs.PointLaws.{Exact, points-exact}
 use Rattle.polygon_laws.proofs.WriteLaws.{room-drawable, polygon-few}
 use Rattle.answer.proofs.RefusalLaws.{orElse-good, orElse-right}
-use Rattle.answer.proofs.StartLaws.{near-fits}
+use Rattle.answer.proofs.StartLaws.{fits-near, near-fits}
 use Rattle.demands.specs.Given.{First}
 use Rattle.demands.specs.GivenTurns.{AboveThreeAt}
 use Rattle.demands.specs.GivenHull.{StepAt, StepTooManyAt}
@@ -42,7 +42,7 @@ not-in-range : (s : Corner) → (Near s → ⊥) → startFits s ≡ false
 not-in-range s f = go (startFits s) refl
   where
     go : (b : Bool) → startFits s ≡ b → startFits s ≡ false
-    go true e = absurd (f (start-near s e))
+    go true e = absurd (f (fits-near s e))
     go false e = e
 
 module _ (s : Corner) (ds : List ℕ) where
@@ -73,7 +73,7 @@ module _ (s : Corner) (ds : List ℕ) where
   by-start : length ds ≤ mostInput → (b : Bool) → startFits s ≡ b → (j : Judged) × GivenRoom s ds j
   by-start h false e = (Refused StartRange, given.startRange h (λ n. false≢true (sym e ∙ near-fits s n)))
   by-start h true e =
-      let n = start-near s e in
+      let n = fits-near s e in
       ⊎-elim
       (λ f. by-steps h n f (isRoom s ds) refl)
       (λ x. ⊎-elim
@@ -111,7 +111,7 @@ module _ (s : Corner) (ds : List ℕ) where
     some-polygon : (j : Judged) × GivenPolygon s ds room bytes j
     some-polygon = let x = some-room in by-room (x .0) (x .1)
 
-    pub polygon-when : (j : Judged) → polygonJudged s ds room ≡ j ↔ GivenPolygon s ds room bytes j
+    polygon-when : (j : Judged) → polygonJudged s ds room ≡ j ↔ GivenPolygon s ds room bytes j
     polygon-when j = let x = some-polygon in (λ e. subst (GivenPolygon s ds room bytes) (sym (given-polygon (x .0) (x .1)) ∙ e) (x .1), given-polygon j)
 
 -- ---- the call

@@ -28,7 +28,7 @@ neg-slot zero (suc n) e f = absurd (omega arith)
 neg-slot (suc m) zero e f = absurd (omega arith)
 neg-slot (suc m) (suc n) e f = omega arith
 
-pub child-axis : (z w : ℤ) → halfOf z ≡ halfOf w → slotOf z ≡ slotOf w → z ≡ w
+child-axis : (z w : ℤ) → halfOf z ≡ halfOf w → slotOf z ≡ slotOf w → z ≡ w
 child-axis (pos m) (pos n) e f = ap pos (omega (arith, ap natAbs e))
 child-axis (pos m) (negsuc n) e f = absurd (mixed m n e f)
 child-axis (negsuc m) (pos n) e f = absurd (mixed n m (sym e) (sym f))

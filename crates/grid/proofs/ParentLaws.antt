@@ -18,12 +18,12 @@ suc-neg : (k : ℕ) → sucℤ (negsuc k) ≡ negℤ (pos k)
 suc-neg zero = refl
 suc-neg (suc k) = refl
 
-pub halfOf-suc : (z : ℤ) → (halfOf (sucℤ z) ≡ halfOf z) ⊎ (halfOf (sucℤ z) ≡ sucℤ (halfOf z))
+halfOf-suc : (z : ℤ) → (halfOf (sucℤ z) ≡ halfOf z) ⊎ (halfOf (sucℤ z) ≡ sucℤ (halfOf z))
 halfOf-suc (pos n) = ⊎-map (λ e. ap pos e) (λ e. ap pos e) (parity n)
 halfOf-suc (negsuc zero) = inl refl
 halfOf-suc (negsuc (suc n)) = ⊎-map (λ e. ap (λ (k : ℕ). negℤ (pos k)) (sym e)) (λ e. rw e (sym (suc-neg (suc n / 2)))) (parity (suc n))
 
-pub halfOf-pred : (z : ℤ) → (halfOf (predℤ z) ≡ halfOf z) ⊎ (halfOf (predℤ z) ≡ predℤ (halfOf z))
+halfOf-pred : (z : ℤ) → (halfOf (predℤ z) ≡ halfOf z) ⊎ (halfOf (predℤ z) ≡ predℤ (halfOf z))
 halfOf-pred z =
     let f : halfOf z ≡ halfOf (sucℤ (predℤ z)) = ap halfOf (sym (suc-pred z)) in
     ⊎-map (λ e. sym (f ∙ e)) (λ e. sym (pred-suc (halfOf (predℤ z))) ∙ ap predℤ (sym (f ∙ e))) (halfOf-suc (predℤ z))

@@ -28,7 +28,7 @@ root-of-size c e =
     let h : c ≡ root = ap₂ corner (natAbs-zero (c .0) (omega arith)) (natAbs-zero (c .1) (omega arith)) in
     rw h refl
 
-pub size-pos : (c : Corner) → isRoot c ≡ false → 0 < sizeOf c
+size-pos : (c : Corner) → isRoot c ≡ false → 0 < sizeOf c
 size-pos c e = go (sizeOf c) refl
   where
     go : (n : ℕ) → sizeOf c ≡ n → 0 < sizeOf c

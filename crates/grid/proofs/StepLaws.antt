@@ -30,6 +30,13 @@ back-small (suc zero) = omega arith
 back-small (suc (suc zero)) = omega arith
 back-small (suc (suc (suc d))) = omega arith
 
+pub back-back : (d : ℕ) → d < 4 → back (back d) ≡ d
+back-back zero h = refl
+back-back (suc zero) h = refl
+back-back (suc (suc zero)) h = refl
+back-back (suc (suc (suc zero))) h = refl
+back-back (suc (suc (suc (suc d)))) h = absurd (omega arith)
+
 pub stepped-back : (d : ℕ) (c : Corner) → stepped (back d) (stepped d c) ≡ c
 stepped-back zero c = ap (λ (x : ℤ). corner x (c .1)) (pred-suc (c .0))
 stepped-back (suc zero) c = ap (corner (c .0)) (pred-suc (c .1))
@@ -50,10 +57,10 @@ suc-pred-ne (pos (suc n)) e = omega (arith, ap natAbs e)
 suc-pred-ne (negsuc zero) e = pos-ne-negsuc 0 1 e
 suc-pred-ne (negsuc (suc n)) e = omega (arith, ap natAbs e)
 
-x-of : {a b : Corner} → a ≡ b → a .0 ≡ b .0
+pub x-of : {a b : Corner} → a ≡ b → a .0 ≡ b .0
 x-of e = ap (λ (c : Corner). c .0) e
 
-y-of : {a b : Corner} → a ≡ b → a .1 ≡ b .1
+pub y-of : {a b : Corner} → a ≡ b → a .1 ≡ b .1
 y-of e = ap (λ (c : Corner). c .1) e
 
 pub stepped-ne : (d : ℕ) (c : Corner) → stepped d c ≡ c → ⊥

@@ -38,7 +38,7 @@ far-flat p q b a i j l h g =
     by≤÷ (X 2 ⊖ X 1) (cr 0 2 3) O (h< 8 ρ (X 1) (X 2) j) (hw 8 ρ (X 2) (X 3) l ⊠ h≤ 8 ρ (cr 0 1 2) O h ⊞ (hw 8 ρ (X 0) (X 1) i ⊞ hw 8 ρ (X 1) (X 2) j) ⊠ h≤ 8 ρ (cr 1 2 3) O g) tt
 
 -- columns from left to right, right of q
-abbrev pub Rising : ℕ → List ℕ → Type 0
+abbrev Rising : ℕ → List ℕ → Type 0
 Rising q [] = Unit {0}
 Rising q (b ∷ s) = (q < b) × Rising b s
 

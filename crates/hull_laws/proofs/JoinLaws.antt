@@ -14,6 +14,7 @@ use lib.ListN.{length, getD, set, drop, take, length-append, length-drop, length
 use lib.Seq.{sets, slice, slice-cons, slice-empty, length-slice, take-length, drop-drop}
 use Rattle.int_laws.proofs.LinearLaws.{zarith, bal+}
 use Rattle.lists.specs.Lists.{tally, front}
+use Rattle.lists.proofs.BoolLaws.{tally-le}
 use Rattle.grid.specs.declared.Corner.{Corner}
 use Rattle.hull.specs.Call.{numbers}
 use Rattle.hull_laws.specs.Outline.{chainFrom, spot, spotBack, spotBy, colAt, skip, stop, upper, outlineOf}
@@ -94,7 +95,7 @@ pub length-numbers : (l : List Corner) → length (numbers l) ≡ 2 * length l
 length-numbers [] = refl
 length-numbers (c ∷ l) = omega (arith, length-numbers l)
 
-sets-append : (l : List ℤ) (i : ℕ) (a b : List ℤ) → sets l i (a ++ b) ≡ sets (sets l i a) (i + length a) b
+pub sets-append : (l : List ℤ) (i : ℕ) (a b : List ℤ) → sets l i (a ++ b) ≡ sets (sets l i a) (i + length a) b
 sets-append l i [] b = ap (λ (k : ℕ). sets l k b) zero-right
   where
     zero-right : i ≡ i + 0
@@ -142,10 +143,6 @@ module _ (x0 y0 : ℤ) (w e h : ℕ) (lo hi s t : List ℕ) (a f g : ℕ) where
   length-both m n = omega (arith, length-append (map (λ i. spot (x0 +ℤ pos w) y0 (colAt lo i)) (drop a s)) (map (λ i. spotBack (x0 +ℤ pos e) (y0 +ℤ pos h) (colAt hi i)) (slice f g t)), length-map (drop a s) (λ i. spot (x0 +ℤ pos w) y0 (colAt lo i)), length-map (slice f g t) (λ i. spotBack (x0 +ℤ pos e) (y0 +ℤ pos h) (colAt hi i)), length-drop a s, length-slice f g t n)
 
 -- what is left of the upper chain is a part of its array
-tally-le : (b : Bool) → tally b ≤ 1
-tally-le true = omega arith
-tally-le false = omega arith
-
 chain-some : (ys t : List ℕ) (b k : ℕ) → drop b t ≡ chainFrom ys 0 (suc k) → b < length t
 unfolding chainFrom
 chain-some ys t b k e = omega (arith, length-drop b t, ap length e)

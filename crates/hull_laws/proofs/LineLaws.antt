@@ -25,13 +25,13 @@ begins-total a b = go (le-or-lt (b .0) (a .0)) (le-or-lt (a .0) (b .0)) (le-or-l
     go (inl h) (inl g) (inl k) = inl (inr (omega zarith, k))
     go (inl h) (inl g) (inr k) = inr (inr (omega zarith, omega zarith))
 
-begins-trans : (a b c : Corner) → Begins a b → Begins b c → Begins a c
+pub begins-trans : (a b c : Corner) → Begins a b → Begins b c → Begins a c
 begins-trans a b c (inl h) (inl g) = inl (omega zarith)
 begins-trans a b c (inl h) (inr g) = inl (omega (zarith, g .0))
 begins-trans a b c (inr h) (inl g) = inl (omega (zarith, h .0))
 begins-trans a b c (inr h) (inr g) = inr (h .0 ∙ g .0, omega (zarith, h .1, g .1))
 
-begins-self : (a : Corner) → Begins a a
+pub begins-self : (a : Corner) → Begins a a
 begins-self a = inr (refl, ≤ℤ-refl (a .1))
 
 -- the highest of the rightmost

@@ -26,7 +26,7 @@ flat-left a b h = by⊥ (hp 4 (numbers (a ∷ b ∷ [])) (cr 0 1 1) (h .left)) t
 left-ne : {a b c : Corner} → Left a b c → ¬ (b ≡ c)
 left-ne {a} {b} {c} h e = flat-left a c (subst (λ (z : Corner). Left a z c) e h)
 
-begins-x : (o a : Corner) → Begins o a → o .0 ≤ℤ a .0
+pub begins-x : (o a : Corner) → Begins o a → o .0 ≤ℤ a .0
 begins-x o a (inl h) = omega zarith
 begins-x o a (inr h) = omega (zarith, h .0)
 

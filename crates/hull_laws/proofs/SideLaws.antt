@@ -16,7 +16,7 @@ use Rattle.hull_laws.proofs.ChainLaws.{Chain, Ends, chain, chain-ok, ch
 use Rattle.hull_laws.proofs.CornerLaws.{on-same, O, X, Y, cr, corner-dec}
 use Rattle.hull_laws.proofs.ExposedLaws.{chain-exposed, cover}
 use Rattle.hull_laws.proofs.TurnedLaws.{Lows, chain-all, lows-begin, neg, neg-neg, negs, cross-neg, in-negs, negs-in, negs-negs, exposed-neg, neg-exposed}
-use Rattle.hull_laws.proofs.OrderLaws.{Edges, edges-tail, ordered}
+use Rattle.hull_laws.proofs.OrderLaws.{Edges, edges-tail, ordered, begins-x}
 use Rattle.hull_laws.proofs.RoundLaws.{lastOf, behead, trim, round, Off, in-last, in-behead, behead-in, in-trim, trim-in, off-trim, off-append, off-behead, edges-join, edges-trim, edges-behead}
 
 pub ne-x : (a b : Corner) → a .0 <ℤ b .0 → ¬ (a ≡ b)
@@ -24,10 +24,6 @@ ne-x a b h e = clash (ap (λ (z : Corner). z .0) e)
   where
     clash : a .0 ≡ b .0 → ⊥
     clash e = omega zarith
-
-begins-x : (o a : Corner) → Begins o a → o .0 ≤ℤ a .0
-begins-x o a (inl h) = omega zarith
-begins-x o a (inr h) = omega (zarith, h .0)
 
 neg-lt : (a b : ℤ) → negℤ a <ℤ negℤ b → b <ℤ a
 neg-lt a b h = omega (zarith, up-neg a, dn-neg a, up-neg b, dn-neg b)

@@ -94,7 +94,7 @@ in-upFrom i zero c m = absurd (List·Memᴰ·not-nil m)
 in-upFrom i (suc k) c (List·Memᴰ·head e) = (omega arith, omega arith)
 in-upFrom i (suc k) c (List·Memᴰ·tail m) = let r = in-upFrom (suc i) k c m in (omega (arith, r .0), omega (arith, r .1))
 
-upFrom-in : (i k c : ℕ) → i ≤ c → c < i + k → List·Memᴰ c (upFrom i k)
+pub upFrom-in : (i k c : ℕ) → i ≤ c → c < i + k → List·Memᴰ c (upFrom i k)
 unfolding upFrom
 upFrom-in i zero c h g = let z : ⊥ = omega arith in absurd z
 upFrom-in i (suc k) c h g = ⊎-elim (λ e. List·Memᴰ·head (sym e)) (λ l. List·Memᴰ·tail (upFrom-in (suc i) k c l (omega arith))) (eq-or-lt-of-le h)
@@ -104,7 +104,7 @@ module _ (x0 y0 : ℤ) (ys : List ℕ) where
   abbrev pub at : ℕ → Corner
   at c = spot x0 y0 (colAt ys c)
 
-  cols-sorted : (i k : ℕ) → Sorted (map at (upFrom i k))
+  pub cols-sorted : (i k : ℕ) → Sorted (map at (upFrom i k))
   unfolding upFrom
   cols-sorted i zero = tt
   cols-sorted i (suc k) = (right, cols-sorted (suc i) k)

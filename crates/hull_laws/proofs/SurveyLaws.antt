@@ -1,7 +1,7 @@
 -- The pass that judges a chain and finds how far its walk goes.
 -- Assumes nothing.
 use mathlib.Core.Path.{_≡_, refl, sym, ap, ap₂, _∙_, subst}
-use mathlib.Core.Bool.{Bool, true, false}
+use mathlib.Core.Bool.{Bool}
 use mathlib.Core.List.{List, [], _∷_}
 use Prim.Native.Nat.{ℕ, zero, suc, _+_, _*_, _-_, _≤_, _<_, min, max}
 use native.Mathlib.Omega.{arith}
@@ -13,10 +13,10 @@ use lib.ListN.{length, getD, drop, drop-of-length-le, List·getD-eq-default}
 use lib.Seq.{drop-cons}
 use Rattle.answer.specs.declared.Judged.{Judged}
 use Rattle.answer.specs.declared.Judged.the-variants.{Good, Refused}
-use Rattle.answer.specs.declared.Refusal.{Refusal}
 use Rattle.answer.specs.declared.Refusal.the-variants.{BadDigit, TooLong}
 use Rattle.answer.specs.Limits.{mostSteps}
 use Rattle.answer.specs.Refusal.{when, orElse}
+use Rattle.answer.proofs.RefusalLaws.{orElse-good, when-good}
 use Rattle.hull.specs.Call.{faultAt, chainJudged}
 use Rattle.hull_laws.specs.Columns.{colAfter, westFrom, eastFrom}
 use Rattle.hull_laws.proofs.TrailLaws.{near, west-le, east-ge}
@@ -160,36 +160,22 @@ module _ (chain : List ℕ) (x w e i : ℕ) (s : Surveyed chain x w e i) where
   surveyed-east h = omega (arith, s .east, s .here2, ap (eastFrom x) (none-left chain i h))
 
 -- a chain that is not refused has digits below 4, and not too many
-good-or : (j k : Judged) → orElse j k ≡ Good → (j ≡ Good) × (k ≡ Good)
-good-or Good k e = (refl, e)
-good-or (Refused r) k e = let z : _≡_ {A = ℕ} 0 1 = cc in absurd (bad z)
-  where
-    bad : _≡_ {A = ℕ} 0 1 → ⊥
-    bad z = omega arith
-
-good-when : (b : Bool) (r : Refusal) → when b r ≡ Good → b ≡ false
-good-when false r e = refl
-good-when true r e = let z : _≡_ {A = ℕ} 0 1 = cc in absurd (bad z)
-  where
-    bad : _≡_ {A = ℕ} 0 1 → ⊥
-    bad z = omega arith
-
 good-at : (i d : ℕ) → faultAt i d ≡ Good → (d ≤ 3) × (¬ (i ≡ mostSteps))
 good-at i d e =
-    let t = good-or (when (ltb 3 d) (BadDigit i)) (when (eqb i mostSteps) (TooLong i)) e in
-    (ltb-false 3 d (good-when (ltb 3 d) (BadDigit i) (t .0)), eqb-false i mostSteps (good-when (eqb i mostSteps) (TooLong i) (t .1)))
+    let t = orElse-good (when (ltb 3 d) (BadDigit i)) (when (eqb i mostSteps) (TooLong i)) e in
+    (ltb-false 3 d (when-good (ltb 3 d) (BadDigit i) (t .0)), eqb-false i mostSteps (when-good (eqb i mostSteps) (TooLong i) (t .1)))
 
 pub good-digits : (i : ℕ) (chain : List ℕ) → chainJudged i chain ≡ Good → (k : ℕ) → getD chain k 0 < 4
 good-digits i [] e k = omega arith
-good-digits i (d ∷ ds) e zero = let t = good-at i d (good-or (faultAt i d) (chainJudged (suc i) ds) e .0) in omega (arith, t .0)
-good-digits i (d ∷ ds) e (suc k) = good-digits (suc i) ds (good-or (faultAt i d) (chainJudged (suc i) ds) e .1) k
+good-digits i (d ∷ ds) e zero = let t = good-at i d (orElse-good (faultAt i d) (chainJudged (suc i) ds) e .0) in omega (arith, t .0)
+good-digits i (d ∷ ds) e (suc k) = good-digits (suc i) ds (orElse-good (faultAt i d) (chainJudged (suc i) ds) e .1) k
 
 pub good-short : (i : ℕ) (chain : List ℕ) → i ≤ mostSteps → chainJudged i chain ≡ Good → i + length chain ≤ mostSteps
 good-short i [] h e = omega arith
 good-short i (d ∷ ds) h e = omega (arith, good-short (suc i) ds (below (good-at i d (t .0) .1)) (t .1))
   where
     t : (faultAt i d ≡ Good) × (chainJudged (suc i) ds ≡ Good)
-    t = good-or (faultAt i d) (chainJudged (suc i) ds) e
+    t = orElse-good (faultAt i d) (chainJudged (suc i) ds) e
 
     below : ¬ (i ≡ mostSteps) → suc i ≤ mostSteps
     below n = omega arith

@@ -89,7 +89,7 @@ cond-ind : (c : Bool) (x y : ℤ) (Q : ℤ → Type 0) → (T c → Q x) → (T 
 cond-ind true x y Q f g = f tt
 cond-ind false x y Q f g = g tt
 
-pub bal-subℕ : (a b : ℕ) → up (subℕ a b) + b ≡ dn (subℕ a b) + a
+bal-subℕ : (a b : ℕ) → up (subℕ a b) + b ≡ dn (subℕ a b) + a
 bal-subℕ a b = cond-ind (ltb a b) (negsuc (b - suc a)) (pos (a - b)) (λ z. up z + b ≡ dn z + a)
     (λ t. below a b (ltb→lt a b t)) (λ t. above a b (nltb→le a b t))
   where

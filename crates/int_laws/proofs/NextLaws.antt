@@ -3,7 +3,7 @@
 use mathlib.Core.Bool.{Bool, true, false}
 use mathlib.Core.Logic.{⊎-elim}
 use mathlib.Core.Path.{_≡_, refl, ap, sym, _∙_, subst}
-use Prim.Native.Nat.{zero, suc, _+_}
+use Prim.Native.Nat.{ℕ, zero, suc, _+_}
 use native.Mathlib.Omega.{arith}
 use lib.Dec.{T}
 use lib.IntN.{ℤ, pos, negsuc, sucℤ, predℤ, negℤ, natAbs, _+ℤ_, _-ℤ_, pred-suc, sucℤ-+ℤ, predℤ-+ℤ, +ℤ-invr}
@@ -20,6 +20,9 @@ pub bal-pred : (z : ℤ) → suc (up (predℤ z) + dn z) ≡ dn (predℤ z) + up
 bal-pred (pos zero) = omega arith
 bal-pred (pos (suc n)) = omega arith
 bal-pred (negsuc n) = omega arith
+
+pub plus-suc : (x : ℤ) (k : ℕ) → sucℤ x +ℤ pos k ≡ x +ℤ pos (suc k)
+plus-suc x k = omega (zarith, bal+ (sucℤ x) (pos k), bal+ x (pos (suc k)), bal-suc x)
 
 -- the change by one
 pub suc-sub : (z : ℤ) → sucℤ z -ℤ z ≡ pos 1

@@ -31,7 +31,7 @@ abs+ x y = omega (arith, abs-either (x +ℤ y) (dn x + dn y) (up x + up y) (bal+
 pub abs- : (x y : ℤ) → natAbs (x -ℤ y) ≤ natAbs x + natAbs y
 abs- x y = omega (arith, abs+ x (negℤ y), abs-neg y)
 
-pub abs* : (x y : ℤ) → natAbs (x *ℤ y) ≡ natAbs x * natAbs y
+abs* : (x y : ℤ) → natAbs (x *ℤ y) ≡ natAbs x * natAbs y
 abs* (pos a) (pos b) = refl
 abs* (pos a) (negsuc b) = abs-neg (pos (a * suc b))
 abs* (negsuc a) (pos b) = abs-neg (pos (suc a * b))
@@ -56,3 +56,8 @@ lt-false {a} {b} e = ltZ-no (subst (λ (x : Bool). T (not x)) (sym e) tt)
 
 pub le-true : {a b : ℤ} → leZ a b ≡ true → a ≤ℤ b
 le-true {a} {b} e = leZ-yes (subst (λ (x : Bool). T x) (sym e) tt)
+
+-- the magnitude of an i32 that is not above 0
+pub mag-neg : (k n : ℕ) → k ≤ suc n → mag (negℤ (pos k)) ≤ n
+mag-neg zero n h = omega arith
+mag-neg (suc k) n h = omega arith

@@ -14,7 +14,7 @@ use Rattle.int_laws.proofs.LinearLaws.{bal+, up-neg, dn-neg, zarith}
 swap4 : (a b c d : ℤ) → (a +ℤ b) +ℤ (c +ℤ d) ≡ (a +ℤ c) +ℤ (b +ℤ d)
 swap4 a b c d = omega (zarith, bal+ (a +ℤ b) (c +ℤ d), bal+ (a +ℤ c) (b +ℤ d), bal+ a b, bal+ c d, bal+ a c, bal+ b d)
 
-pub add-*ℤ : (a b c : ℤ) → (a +ℤ b) *ℤ c ≡ (a *ℤ c) +ℤ (b *ℤ c)
+add-*ℤ : (a b c : ℤ) → (a +ℤ b) *ℤ c ≡ (a *ℤ c) +ℤ (b *ℤ c)
 add-*ℤ (pos zero) b c = ap (λ x. x *ℤ c) (+ℤ-idl b) ∙ sym (ap (λ x. x +ℤ (b *ℤ c)) (zero-*ℤ c) ∙ +ℤ-idl (b *ℤ c))
 add-*ℤ (pos (suc n)) b c = ap (λ x. x *ℤ c) (sucℤ-+ℤ (pos n) b) ∙ sucℤ-*ℤ (pos n +ℤ b) c ∙ ap (λ x. x +ℤ c) (add-*ℤ (pos n) b c) ∙ swap (pos n *ℤ c) (b *ℤ c) c ∙ sym (ap (λ x. x +ℤ (b *ℤ c)) (sucℤ-*ℤ (pos n) c))
   where
@@ -32,13 +32,13 @@ add-*ℤ (negsuc (suc n)) b c = ap (λ x. x *ℤ c) (predℤ-+ℤ (negsuc n) b) 
 pub *ℤ-add : (c a b : ℤ) → c *ℤ (a +ℤ b) ≡ (c *ℤ a) +ℤ (c *ℤ b)
 *ℤ-add c a b = *ℤ-comm c (a +ℤ b) ∙ add-*ℤ a b c ∙ ap₂ _+ℤ_ (*ℤ-comm a c) (*ℤ-comm b c)
 
-pub neg-*ℤ : (a c : ℤ) → negℤ a *ℤ c ≡ negℤ (a *ℤ c)
+neg-*ℤ : (a c : ℤ) → negℤ a *ℤ c ≡ negℤ (a *ℤ c)
 neg-*ℤ a c = uniq (a *ℤ c) (negℤ a *ℤ c) (sym (add-*ℤ a (negℤ a) c) ∙ ap (λ x. x *ℤ c) (+ℤ-invr a) ∙ zero-*ℤ c)
   where
     uniq : (x y : ℤ) → x +ℤ y ≡ pos 0 → y ≡ negℤ x
     uniq x y e = omega (zarith, bal+ x y, up-neg x, dn-neg x)
 
-pub *ℤ-assoc : (a b c : ℤ) → (a *ℤ b) *ℤ c ≡ a *ℤ (b *ℤ c)
+*ℤ-assoc : (a b c : ℤ) → (a *ℤ b) *ℤ c ≡ a *ℤ (b *ℤ c)
 *ℤ-assoc (pos zero) b c = ap (λ x. x *ℤ c) (zero-*ℤ b) ∙ zero-*ℤ c ∙ sym (zero-*ℤ (b *ℤ c))
 *ℤ-assoc (pos (suc n)) b c = ap (λ x. x *ℤ c) (sucℤ-*ℤ (pos n) b) ∙ add-*ℤ (pos n *ℤ b) b c ∙ ap (λ x. x +ℤ (b *ℤ c)) (*ℤ-assoc (pos n) b c) ∙ sym (sucℤ-*ℤ (pos n) (b *ℤ c))
 *ℤ-assoc (negsuc zero) b c = ap (λ x. x *ℤ c) (minus b) ∙ neg-*ℤ b c ∙ sym (minus (b *ℤ c))

@@ -13,10 +13,10 @@ use native.Mathlib.Omega.{arith}
 use Rattle.int_laws.proofs.LinearLaws.{zarith, bal+, bal-, nat-le, up-neg, dn-neg}
 use Rattle.int_laws.proofs.RingLaws.{E, k, _⊕_, _⊖_, _⊗_, den, norm, norm-ev, Poly, evP, zeroP, allL, hd, tl, zeroP-ev, and-l, and-r, _&_}
 
-pub nn-add : (x y : ℤ) → pos 0 ≤ℤ x → pos 0 ≤ℤ y → pos 0 ≤ℤ (x +ℤ y)
+nn-add : (x y : ℤ) → pos 0 ≤ℤ x → pos 0 ≤ℤ y → pos 0 ≤ℤ (x +ℤ y)
 nn-add x y h g = omega (zarith, bal+ x y)
 
-pub nn-mul : (x y : ℤ) → pos 0 ≤ℤ x → pos 0 ≤ℤ y → pos 0 ≤ℤ (x *ℤ y)
+nn-mul : (x y : ℤ) → pos 0 ≤ℤ x → pos 0 ≤ℤ y → pos 0 ≤ℤ (x *ℤ y)
 nn-mul (pos a) (pos b) h g = omega zarith
 nn-mul (pos a) (negsuc b) h g = absurd (g .le)
 nn-mul (negsuc a) (pos b) h g = absurd (h .le)
@@ -126,7 +126,7 @@ ncP-ev zero ρ a t = nc-zero a t
 ncP-ev (suc n) ρ [] t = nat-le (pos 0) (pos 0) (omega arith)
 ncP-ev (suc n) ρ (a ∷ p) t = subst (λ (x : ℤ). pos 0 ≤ℤ x) (sym (ap (λ y. evP n (tl ρ) a +ℤ (hd ρ *ℤ y)) (zeroP-ev (suc n) ρ p (and-r (ncP n a) (allL (zeroP n) p) t)) ∙ ap (λ y. evP n (tl ρ) a +ℤ y) (*ℤ-zero (hd ρ)) ∙ +ℤ-idr (evP n (tl ρ) a))) (ncP-ev n (tl ρ) a (and-l (ncP n a) (allL (zeroP n) p) t))
 
-pub nc-den : (n : ℕ) (ρ : List ℤ) (e : E) → T (ncP n (norm n e)) → pos 0 ≤ℤ den n ρ e
+nc-den : (n : ℕ) (ρ : List ℤ) (e : E) → T (ncP n (norm n e)) → pos 0 ≤ℤ den n ρ e
 nc-den n ρ e t = subst (λ (x : ℤ). pos 0 ≤ℤ x) (norm-ev n ρ e) (ncP-ev n ρ (norm n e) t)
 
 module _ {n : ℕ} {ρ : List ℤ} {c : E} where
@@ -148,7 +148,7 @@ module _ {n : ℕ} {ρ : List ℤ} {c : E} where
       go : (z : ℤ) → pos 0 ≤ℤ z → pos 0 ≤ℤ (negsuc 0 -ℤ z) → ⊥
       go z h g = omega (zarith, bal- (negsuc 0) z)
 
-  pub by0 : (a : E) → Nn n ρ c → T (ncP n (norm n (a ⊖ c))) → Nn n ρ a
+  by0 : (a : E) → Nn n ρ c → T (ncP n (norm n (a ⊖ c))) → Nn n ρ a
   by0 a h t = record { nn = go (den n ρ a) (den n ρ c) (h .nn) (nc-den n ρ (a ⊖ c) t) }
     where
       go : (y z : ℤ) → pos 0 ≤ℤ z → pos 0 ≤ℤ (y -ℤ z) → pos 0 ≤ℤ y
@@ -178,7 +178,7 @@ cancel< (pos (suc m)) (negsuc t) h g = omega (zarith, up-neg (pos (suc m * suc t
 cancel< (negsuc m) (negsuc t) h g = absurd (h .le)
 
 module _ {n : ℕ} {ρ : List ℤ} {c : E} where
-  pub cut : (m t : E) → Nn n ρ (m ⊖ k (pos 1)) → Nn n ρ c → T (ncP n (norm n (m ⊗ t ⊖ c))) → Nn n ρ t
+  cut : (m t : E) → Nn n ρ (m ⊖ k (pos 1)) → Nn n ρ c → T (ncP n (norm n (m ⊗ t ⊖ c))) → Nn n ρ t
   cut m t hm h w = record { nn = cancel (den n ρ m) (den n ρ t) (one (den n ρ m) (hm .nn)) (by0 {n = n} {ρ = ρ} {c = c} (m ⊗ t) h w .nn) }
     where
       one : (x : ℤ) → pos 0 ≤ℤ (x -ℤ pos 1) → pos 1 ≤ℤ x

@@ -1,6 +1,6 @@
 -- A child stands in one child word of its parent, and what stands there is that child.
 -- Assumes nothing.
-use mathlib.Core.Bool.{Bool, true, false, not, _&&_, false≢true}
+use mathlib.Core.Bool.{Bool, true, false, not, _&&_}
 use mathlib.Core.List.{List}
 use mathlib.Core.Path.{_≡_, refl, sym, _∙_, subst}
 use Prim.Native.Nat.{ℕ, zero, suc, _<_, _≤_}
@@ -16,6 +16,7 @@ use Rattle.grid.proofs.ChildLaws.{child-one, slot-small}
 use Rattle.grid.proofs.CornerLaws.{same-refl, same-sound}
 use Rattle.lists.proofs.FindLaws.{find-cong, find-get, bool-agree}
 use Rattle.lists.proofs.GatherLaws.{and-left, and-right}
+use Rattle.lists.proofs.BoolLaws.{not-true}
 use Rattle.layout.specs.Table.{childRefOf}
 use Rattle.layout.proofs.TableCases as cases
 
@@ -45,10 +46,6 @@ pub record ChildIn (a : Corner) (w : ℕ) (c : Corner) : Type 0 where
   pub below : isRoot c ≡ false
   pub parent : parentOf c ≡ a
   pub word : childWord c ≡ w
-
-not-true : (b : Bool) → not b ≡ true → b ≡ false
-not-true true e = absurd (false≢true e)
-not-true false e = refl
 
 -- what stands in word w of the record of a is a node, and the child of a that has word w
 pub child-there : (ns : List Corner) (a : Corner) (w r : ℕ) → childRefOf ns a w ≡ suc r → (r < length ns) × ChildIn a w (getD ns r origin)

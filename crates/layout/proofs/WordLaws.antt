@@ -15,17 +15,17 @@ use Rattle.layout.specs.Table.{neighbourWord, linkWord, edgeWord, Fields
 abbrev pub bump : (ℕ → ℕ) → ℕ → ℕ → ℕ → ℕ
 bump f w x k = cond (eqb k w) x (f k)
 
-pub bump-at : (f : ℕ → ℕ) (w x : ℕ) → bump f w x w ≡ x
+bump-at : (f : ℕ → ℕ) (w x : ℕ) → bump f w x w ≡ x
 bump-at f w x = rw (eq-eqb w w refl)
 
-pub bump-off : (f : ℕ → ℕ) (w x k : ℕ) → (k ≡ w → ⊥) → bump f w x k ≡ f k
+bump-off : (f : ℕ → ℕ) (w x k : ℕ) → (k ≡ w → ⊥) → bump f w x k ≡ f k
 bump-off f w x k h = rw (ne-eqb k w h)
 
-pub tab-cong : (i n : ℕ) (f g : ℕ → ℕ) → ((k : ℕ) → i ≤ k → k < i + n → f k ≡ g k) → tab i n f ≡ tab i n g
+tab-cong : (i n : ℕ) (f g : ℕ → ℕ) → ((k : ℕ) → i ≤ k → k < i + n → f k ≡ g k) → tab i n f ≡ tab i n g
 tab-cong i zero f g h = refl
 tab-cong i (suc n) f g h = ap₂ (λ (x : ℕ) (l : List ℕ). x ∷ l) (h i (omega arith) (omega arith)) (tab-cong (suc i) n f g (λ k p q. h k (omega arith) (omega arith)))
 
-pub set-tab : (i n j : ℕ) (f : ℕ → ℕ) (x : ℕ) → j < n → set (tab i n f) j x ≡ tab i n (bump f (i + j) x)
+set-tab : (i n j : ℕ) (f : ℕ → ℕ) (x : ℕ) → j < n → set (tab i n f) j x ≡ tab i n (bump f (i + j) x)
 set-tab i zero j f x h = absurd (omega arith)
 set-tab i (suc n) zero f x h =
     let e : i + 0 ≡ i = omega arith in
@@ -34,7 +34,7 @@ set-tab i (suc n) (suc j) f x h =
     let e : i + suc j ≡ suc i + j = omega arith in
     rw e (ap₂ (λ (y : ℕ) (l : List ℕ). y ∷ l) (sym (bump-off f (suc i + j) x i (λ z. omega arith))) (set-tab (suc i) n j f x (omega arith)))
 
-pub getD-tab : (i n j : ℕ) (f : ℕ → ℕ) → j < n → getD (tab i n f) j 0 ≡ f (i + j)
+getD-tab : (i n j : ℕ) (f : ℕ → ℕ) → j < n → getD (tab i n f) j 0 ≡ f (i + j)
 getD-tab i zero j f h = absurd (omega arith)
 getD-tab i (suc n) zero f h = ap f (omega arith)
 getD-tab i (suc n) (suc j) f h = getD-tab (suc i) n j f (omega arith) ∙ ap f (omega arith)

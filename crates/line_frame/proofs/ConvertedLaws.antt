@@ -62,7 +62,7 @@ hex-feeds (b ∷ s) e = go (isHex b) refl e (λ k. hex-feeds s k)
 
 -- the frame of kind 00 with some steps
 module _ (ds : List ℕ) (b : Below 4 ds) where
-  pub length-stepsFrame : length (stepsFrame ds) ≡ headDigits + length ds
+  length-stepsFrame : length (stepsFrame ds) ≡ headDigits + length ds
   length-stepsFrame =
       omega (arith, length-append (hexOf 2 0 ++ hexOf 4 (length ds)) (lettersOf ds), length-append (hexOf 2 0) (hexOf 4 (length ds)), length-hexOf 2 0, length-hexOf 4 (length ds), length-lettersOf ds)
 
@@ -82,7 +82,7 @@ module _ (ds : List ℕ) (b : Below 4 ds) where
       let n : ℕ = length ds in
       omega (arith, letter-value (n / 16 / 16 / 16 % 16) (omega arith) .1, letter-value (n / 16 / 16 % 16) (omega arith) .1, letter-value (n / 16 % 16) (omega arith) .1, letter-value (n % 16) (omega arith) .1)
 
-  pub frameOf-stepsFrame : length ds ≤ mostDigits → frameOf (stepsFrame ds) ≡ Of Operations (length ds)
+  frameOf-stepsFrame : length ds ≤ mostDigits → frameOf (stepsFrame ds) ≡ Of Operations (length ds)
   frameOf-stepsFrame h =
       sym (frameOf-frame (stepsFrame ds) Operations (length ds) frame-hex (omega (arith, frame-kind)) h length-stepsFrame (rw frame-kind refl) (frame-count h))
 
@@ -102,7 +102,7 @@ turned-good : (s : List ℕ) → Turned s → turnsJudged (digitsOf s) (length (
 turned-good s t = good-turnsJudged (digitsOf s) (length (digitsOf s)) (record { few = omega (arith, few-turns s t); long = refl; digits = t .turns })
 
 -- which lines change
-pub decTurned : (s : List ℕ) → Dec (Turned s)
+decTurned : (s : List ℕ) → Dec (Turned s)
 decTurned s = go (frameOf s) (turnsJudged (digitsOf s) (length (digitsOf s))) refl refl
   where
     go : (f : Frame) (j : Judged) → frameOf s ≡ f → turnsJudged (digitsOf s) (length (digitsOf s)) ≡ j → Dec (Turned s)
@@ -117,7 +117,7 @@ unfolding convertedLine
 convertedLine-by s f e = sym (ap (λ (g : Frame). convertedBy g s) e)
 
 -- what they become
-pub converted-turned : (s : List ℕ) → Turned s → convertedLine s ≡ stepsFrame (stepsOf (digitsOf s))
+converted-turned : (s : List ℕ) → Turned s → convertedLine s ≡ stepsFrame (stepsOf (digitsOf s))
 unfolding convertedLine
 converted-turned s t =
     ap (λ (f : Frame). convertedBy f s) (t .frame)

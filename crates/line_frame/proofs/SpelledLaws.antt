@@ -18,6 +18,7 @@ use Rattle.walk_call.specs.Walk.{walkAnswer}
 use Rattle.hull.specs.Call.{numbers}
 use Rattle.hull_laws.specs.Outline.{hullOf}
 use Rattle.hull_laws.proofs.HullLaws.{length-hullOf}
+use Rattle.hull_laws.proofs.JoinLaws.{length-numbers}
 use Rattle.answer.specs.declared.Answer.the-variants as walked
 use Rattle.line_frame.specs.Sizes.{mostDigits, tableWords, refusedDigits, factsDigits, mostAnswer}
 use Rattle.line_frame.specs.Hex.{hexOf}
@@ -35,11 +36,7 @@ unfolding numbersLine
 length-numbersLine [] = refl
 length-numbersLine (z ∷ zs) = simp (length-append, length-hexOf, length-numbersLine zs) (omega arith)
 
-pub length-numbers : (cs : List Corner) → length (numbers cs) ≡ 2 * length cs
-length-numbers [] = refl
-length-numbers (c ∷ cs) = omega (arith, length-numbers cs)
-
-pub length-hullLine : (cs : List Corner) → length (hullLine cs) ≡ 4 + 8 * length cs
+length-hullLine : (cs : List Corner) → length (hullLine cs) ≡ 4 + 8 * length cs
 length-hullLine cs =
     omega (arith, length-append (hexOf 4 (length cs)) (numbersLine (numbers cs)), length-hexOf 4 (length cs), length-numbersLine (numbers cs), length-numbers cs)
 

@@ -18,13 +18,14 @@ use Rattle.hull.specs.Call.{chainJudged, hullJudged, countedOf, numbers, buffer
 use Rattle.hull_laws.specs.Outline.{hullOf}
 use Rattle.hull_laws.proofs.OneLaws.{hullIs-one}
 use Rattle.hull_laws.proofs.HullLaws.{hullOf-hull, length-hullOf}
+use Rattle.hull_laws.proofs.JoinLaws.{length-numbers}
 use Rattle.line_frame.specs.Sizes.{mostDigits, mostCorners, hullNumbers, factsDigits, mostAnswer}
 use Rattle.line_frame.specs.Hex.{hexOf}
 use Rattle.line_frame.specs.Spelled.{numbersLine, hullLine}
 use Rattle.line_fields.specs.Put.{Wrote}
 use Rattle.line_frame.proofs.HexLaws.{length-hexOf}
 use Rattle.line_fields.proofs.PutLaws.{wrote-append}
-use Rattle.line_frame.proofs.SpelledLaws.{length-numbersLine, length-numbers}
+use Rattle.line_frame.proofs.SpelledLaws.{length-numbersLine}
 use Rattle.answer.specs.declared.Judged.the-variants as judged
 use Rattle.answer.specs.declared.Counted.the-variants as counted
 use Rattle.line_reply.specs.Reply.{Listed}

@@ -99,7 +99,7 @@ kept-bytes line k line′ l h v =
     let e : k ≡ length (keptOf l) = omega (arith, v .end) in
     ap (take k) (v .buffer) ∙ take-put-start (keptOf l) line k e (omega (arith, length-keptOf l))
 
-pub heldOf-most : (h s : List ℕ) → length (heldOf h s) ≤ mostHeld
+heldOf-most : (h s : List ℕ) → length (heldOf h s) ≤ mostHeld
 heldOf-most h s = go (hasFeed s)
   where
     go : (c : Bool) → length (cond c [] (keptOf (h ++ s))) ≤ mostHeld

@@ -54,17 +54,17 @@ passedOf-some s h = go (hasFeed s)
 
 module _ (J : Job) where
   -- a line feed ends the line
-  pub owed-feed : (h r s : List ℕ) (b : ℕ) → eqb b 10 ≡ true → owedFrom J h r (b ∷ s) ≡ J .told h r ++ owedFrom J [] [] s
+  owed-feed : (h r s : List ℕ) (b : ℕ) → eqb b 10 ≡ true → owedFrom J h r (b ∷ s) ≡ J .told h r ++ owedFrom J [] [] s
   unfolding owedFrom
   owed-feed h r s b e = ap (λ (c : Bool). elim c [ true ↦ J .told h r ++ owedFrom J [] [] s | false ↦ owedFrom J h (r ++ (b ∷ [])) s ]) e
 
   -- any other byte belongs to it
-  pub owed-more : (h r s : List ℕ) (b : ℕ) → eqb b 10 ≡ false → owedFrom J h r (b ∷ s) ≡ owedFrom J h (r ++ (b ∷ [])) s
+  owed-more : (h r s : List ℕ) (b : ℕ) → eqb b 10 ≡ false → owedFrom J h r (b ∷ s) ≡ owedFrom J h (r ++ (b ∷ [])) s
   unfolding owedFrom
   owed-more h r s b e = ap (λ (c : Bool). elim c [ true ↦ J .told h r ++ owedFrom J [] [] s | false ↦ owedFrom J h (r ++ (b ∷ [])) s ]) e
 
   -- so does a part without one
-  pub owed-part : (h r s t : List ℕ) → length s ≤ lineLength s → owedFrom J h r (s ++ t) ≡ owedFrom J h (r ++ s) t
+  owed-part : (h r s t : List ℕ) → length s ≤ lineLength s → owedFrom J h r (s ++ t) ≡ owedFrom J h (r ++ s) t
   owed-part h r [] t l = ap (λ (x : List ℕ). owedFrom J h x t) (sym (append-nil r))
   owed-part h r (b ∷ s) t l = go (eqb b 10) refl (λ r l. owed-part h r s t l)
     where
@@ -76,7 +76,7 @@ module _ (J : Job) where
           ∙ ap (λ (x : List ℕ). owedFrom J h x t) (append-assoc r (b ∷ []) s)
 
   -- a line with its line feed, and whatever comes after it
-  pub owed-line : (h r s t : List ℕ) → lineLength s < length s → owedFrom J h r (take (suc (lineLength s)) s ++ t) ≡ J .told h (r ++ take (lineLength s) s) ++ owedFrom J [] [] t
+  owed-line : (h r s t : List ℕ) → lineLength s < length s → owedFrom J h r (take (suc (lineLength s)) s ++ t) ≡ J .told h (r ++ take (lineLength s) s) ++ owedFrom J [] [] t
   owed-line h r [] t l = absurd (omega arith)
   owed-line h r (b ∷ s) t l = go (eqb b 10) refl (λ r l. owed-line h r s t l)
     where
@@ -105,7 +105,7 @@ module _ (J : Job) where
 -- what a job that does what it should leaves to be written
 module _ (J : Job) (told last : List ℕ → List ℕ) (d : Does J told last) where
   -- of a line begun, the bytes that are kept decide
-  pub owed-early : (h r x s : List ℕ) → J .early h r ++ owedFrom J (keptOf (h ++ r)) x s ≡ owedFrom J h (r ++ x) s
+  owed-early : (h r x s : List ℕ) → J .early h r ++ owedFrom J (keptOf (h ++ r)) x s ≡ owedFrom J h (r ++ x) s
   unfolding owedFrom
   owed-early h r x [] =
       sym (append-assoc (J .early h r) (J .early (keptOf (h ++ r)) x) (J .last (keptOf (keptOf (h ++ r) ++ x))))
@@ -140,7 +140,7 @@ module _ (J : Job) (told last : List ℕ → List ℕ) (d : Does J told last) wh
           ∙ ap (λ (l : List ℕ). owedFrom J h [] (l ++ t)) (sym (take-length s))
 
   -- at the end, what is written is what is owed
-  pub run-owed : {h o : List ℕ} {ss : List (List ℕ)} → Run J h ss o → o ≡ owedFrom J h [] (joined ss)
+  run-owed : {h o : List ℕ} {ss : List (List ℕ)} → Run J h ss o → o ≡ owedFrom J h [] (joined ss)
   unfolding owedFrom
   run-owed {h} ended = sym (d .rest h) ∙ ap (λ (l : List ℕ). J .early h [] ++ J .last (keptOf l)) (sym (append-nil h))
   run-owed {h} (fed {ss = ss} s w h′ f r) = ap (λ (l : List ℕ). w ++ l) (run-owed r) ∙ f (joined ss)

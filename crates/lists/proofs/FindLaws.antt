@@ -21,7 +21,7 @@ place-pos false zero (inl e) = absurd (false≢true e)
 place-pos false zero (inr h) = h
 place-pos false (suc n) h = omega arith
 
-pub place-more : (n : ℕ) → 0 < n → place false n ≡ suc n
+place-more : (n : ℕ) → 0 < n → place false n ≡ suc n
 place-more zero h = absurd (omega arith)
 place-more (suc n) h = refl
 

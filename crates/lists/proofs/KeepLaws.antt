@@ -14,7 +14,7 @@ keep f [] = []
 keep f (x ∷ xs) = elim (f x) [ true ↦ x ∷ keep f xs | false ↦ keep f xs ]
 
 -- two tests that agree on the elements keep the same
-pub keep-cong : {A : Type 0} (f g : A → Bool) (l : List A) → ((x : A) → List·Memᴰ x l → f x ≡ g x) → keep f l ≡ keep g l
+keep-cong : {A : Type 0} (f g : A → Bool) (l : List A) → ((x : A) → List·Memᴰ x l → f x ≡ g x) → keep f l ≡ keep g l
 keep-cong f g [] h = refl
 keep-cong f g (x ∷ l) h = by (g x) (h x (List·Memᴰ·head refl)) refl (keep-cong f g l (λ y m. h y (List·Memᴰ·tail m)))
   where

@@ -7,3 +7,4 @@ pub mod DistinctLaws
 pub mod ZipLaws
 pub mod KeepLaws
 pub mod CountLaws
+pub mod BoolLaws

@@ -3,11 +3,11 @@
 use mathlib.Core.Bool.{Bool, true, false, _&&_, true≢false}
 use mathlib.Core.List.{List, [], _∷_, List·Memᴰ, List·Memᴰ·head, List·Memᴰ·tail, List·Memᴰ·cases-cons, List·Memᴰ·eq-of-singleton}
 use mathlib.Core.Logic.{_⊎_, inl, inr, ⊎-elim}
-use mathlib.Core.Path.{_≡_, refl, sym, _∙_, subst}
+use mathlib.Core.Path.{_≡_, refl, sym, subst}
 use Prim.Native.Nat.{ℕ, zero, suc, _<_}
 use native.Mathlib.Omega.{arith}
 use lib.IntN.{ℤ, pos, negsuc, predℤ}
-use lib.Signed.{_≤ℤ_, _<ℤ_, ltZ, ≤ℤ-refl}
+use lib.Signed.{_≤ℤ_, _<ℤ_, ltZ}
 use Rattle.lists.proofs.GatherLaws.{and-left, and-right, or-cases}
 use Rattle.lists.proofs.FindLaws.{or-false, bool-agree}
 use Rattle.int_laws.proofs.LinearLaws.{zarith, le-or-lt}
@@ -17,17 +17,9 @@ use Rattle.grid.specs.Grid.{eqZ, stepped, cornersFrom}
 use Rattle.grid.proofs.CornerLaws.{eqZ-sound, eqZ-refl}
 use Rattle.hull.specs.Hull.{Begins}
 use Rattle.hull_laws.proofs.OneLaws.{begins-both}
+use Rattle.hull_laws.proofs.LineLaws.{begins-trans, begins-self}
 use Rattle.outline.specs.Outline.{ahead, homeOf, walked}
 use Rattle.outline_laws.proofs.EdgeLaws.{walked-visited}
-
-begins-trans : (a b c : Corner) → Begins a b → Begins b c → Begins a c
-begins-trans a b c (inl h) (inl g) = inl (omega zarith)
-begins-trans a b c (inl h) (inr g) = inl (omega (zarith, g .0))
-begins-trans a b c (inr h) (inl g) = inl (omega (zarith, h .0))
-begins-trans a b c (inr h) (inr g) = inr (h .0 ∙ g .0, omega (zarith, h .1, g .1))
-
-begins-self : (a : Corner) → Begins a a
-begins-self a = inr (refl, ≤ℤ-refl (a .1))
 
 ahead-begins : (a b : Corner) → ahead a b ≡ true → Begins a b
 ahead-begins a b h =

@@ -104,7 +104,7 @@ module _ (c : Corner) (chain links : List ℕ) (home first : ℕ) (r : Ring chai
       link-to c chain links home (r .built c) i d (a .number) (at-on .0) (at-on .1) .0,
     )
 
-    pub at-next : (j e : ℕ) → j ≡ getD links (4 * i + d) 0 - 1 → e ≡ onward (waysAt links j) d → At c chain (suc n) j e
+    at-next : (j e : ℕ) → j ≡ getD links (4 * i + d) 0 - 1 → e ≡ onward (waysAt links j) d → At c chain (suc n) j e
     at-next j e ej ee =
         let l = link-to c chain links home (r .built c) i d (a .number) (at-on .0) (at-on .1) in
         let h : j < length ws = omega (arith, ej, l .1) in
@@ -129,7 +129,7 @@ module _ (c : Corner) (chain links : List ℕ) (home first : ℕ) (r : Ring chai
           | no l ↦ elim (decLt y x) [ yes m ↦ absurd (distinct-getD ws y x origin (visited-distinct (cornersFrom c chain)) m h (sym e)) | no m ↦ omega arith ]
         ]
 
-    pub at-end : 0 < n → n ≤ length (outlineOf c chain) → i ≡ home → d ≡ first → n ≡ length (outlineOf c chain)
+    at-end : 0 < n → n ≤ length (outlineOf c chain) → i ≡ home → d ≡ first → n ≡ length (outlineOf c chain)
     at-end s l ei ed =
         elim (decLt n (length (outlineOf c chain))) [
           | yes h ↦ absurd (no-sooner (next c chain) (length (outlineOf c chain)) n (start c chain) (round .once) s h (back-again ei ed))

@@ -1,6 +1,6 @@
 -- The panel on the right of every step of an outline lies outside the walk. What lies outside a closed walk is not inside it.
 -- Assumes nothing.
-use mathlib.Core.Bool.{Bool, true, false, _&&_, true≢false}
+use mathlib.Core.Bool.{Bool, true, false, true≢false}
 use mathlib.Core.List.{List, [], _∷_, List·Memᴰ, List·Memᴰ·head, List·Memᴰ·tail}
 use mathlib.Core.Logic.{inl, inr, ⊎-elim}
 use mathlib.Core.Path.{_≡_, refl, ap, ap₂, sym, _∙_, subst}
@@ -9,7 +9,6 @@ use native.Mathlib.Omega.{arith}
 use lib.IntN.{ℤ, pos, natAbs, predℤ, _+ℤ_}
 use lib.ListN.{length}
 use lib.Signed.{_≤ℤ_, _<ℤ_}
-use Rattle.lists.specs.Lists.{tally}
 use Rattle.int_laws.proofs.LinearLaws.{zarith, bal+}
 use Rattle.int_laws.proofs.NextLaws.{bal-pred}
 use Rattle.grid.specs.declared.{Corner.Corner, Panel.Panel}
@@ -23,7 +22,7 @@ use Rattle.panels.specs.Inside.{Inside, leftOf, rightOf, EachStep}
 use Rattle.area_laws.proofs.AreaLaws.{surplus-inside}
 use Rattle.area_laws.proofs.BoxLaws.{box-met}
 use Rattle.room_laws.proofs.AcrossLaws.{along, walks, across}
-use Rattle.room_laws.proofs.CornerLaws.{along-one, right-back}
+use Rattle.room_laws.proofs.CornerLaws.{along-one, right-back, never}
 use Rattle.room_laws.proofs.InsideLaws.{inside-held}
 use Rattle.outline.specs.Outline.{walked, homeOf, firstWay, onward, pathFrom, OutlineIs}
 use Rattle.outline_laws.proofs.EdgeLaws.{edge-walked}
@@ -105,11 +104,6 @@ outline-outside {c} {ds} {es} o =
 -- ---- closed walks
 
 -- an edge that was not walked is not taken
-never : (x y : Bool) → (x ≡ true → y ≡ true → ⊥) → tally (x && y) ≡ 0
-never true true f = absurd (f refl refl)
-never true false f = refl
-never false y f = refl
-
 not-taken : (c : Corner) (ds : List ℕ) (d : ℕ) (v : Corner) → (List·Memᴰ (v, stepped d v) (legsFrom c ds) → ⊥) → walks c ds d v ≡ 0
 not-taken c [] d v f = refl
 not-taken c (e ∷ ds) d v f = omega (arith, never (along e d) (same c v) here, not-taken (stepped e c) ds d v (λ m. f (List·Memᴰ·tail m)))

@@ -11,6 +11,7 @@ use borrow.Author.Tests.{ltb-true, ltb-false}
 use lib.Dec.{ltb}
 use lib.ListN.{length, getD, take, drop, length-append, length-drop, List·getD-append}
 use lib.Seq.{ext-getD, length-take-le, getD-take, getD-drop, getD-append-add, getD-append-seam}
+use Rattle.area_laws.proofs.OutlineLaws.{length-backward}
 use Rattle.grid.specs.declared.Corner.{Corner}
 use Rattle.grid.proofs.StepLaws.{back}
 use Rattle.panels.specs.Outline.{startedAt, backward}
@@ -104,10 +105,6 @@ module _ (ds : List ℕ) (k : ℕ) (h : k < length ds) where
           let i = onRing (length ds) k n in
           let e : n ≡ length (drop k ds) + i = omega (arith, length-drop k ds, z .0) in
           ap (λ (j : ℕ). getD (startedAt k ds) j 0) e ∙ getD-append-add (drop k ds) (take k ds) i 0 ∙ getD-take k ds i 0 (omega (arith, z .0, l))
-
-pub length-backward : (es : List ℕ) → length (backward es) ≡ length es
-length-backward [] = refl
-length-backward (e ∷ es) = length-append (backward es) (back e ∷ []) ∙ omega (arith, length-backward es)
 
 pub backward-at : (es : List ℕ) (n m : ℕ) → suc (n + m) ≡ length es → getD (backward es) n 0 ≡ back (getD es m 0)
 backward-at [] n m h = absurd (omega arith)

@@ -13,10 +13,11 @@ use Rattle.lists.proofs.BelowLaws.{below-getD}
 use Rattle.lists.proofs.DistinctLaws.{getD-mem}
 use Rattle.grid.specs.declared.Corner.{Corner}
 use Rattle.grid.specs.Grid.{stepped, cornersFrom, cornerAt, legsFrom}
-use Rattle.grid.proofs.StepLaws.{back, back-mod, back-small, stepped-back, stepped-inj, cornersFrom-at, length-cornersFrom, cornerAt-end}
+use Rattle.grid.proofs.StepLaws.{back, back-mod, back-small, stepped-back, stepped-inj, cornersFrom-at, length-cornersFrom, cornerAt-end, back-back}
 use Rattle.steps.specs.Turns.{turnOf, stepAfter}
 use Rattle.trace.specs.Verdict.{IsRoom}
 use Rattle.panels.specs.Outline.{startedAt, backward}
+use Rattle.area_laws.proofs.OutlineLaws.{length-backward}
 use Rattle.outline.specs.Outline.{walked, homeOf, firstWay, onward, OutlineIs}
 use Rattle.outline_laws.proofs.TurnLaws.{stepAfter-lt}
 use Rattle.outline_laws.proofs.EdgeLaws.{walked-edge, edge-walked, walked-back}
@@ -24,7 +25,7 @@ use Rattle.outline_laws.proofs.HomeLaws.{home-visited, home-ways}
 use Rattle.outline_laws.proofs.PathLaws.{next}
 use Rattle.outline_laws.proofs.RoundLaws.{ways}
 use Rattle.outline_laws.proofs.OutlineLaws.{outlineIs-one}
-use Rattle.outline_room_laws.proofs.RingLaws.{ring-outline, onRing, onRing-cases, length-started, started-at, length-backward, backward-at}
+use Rattle.outline_room_laws.proofs.RingLaws.{ring-outline, onRing, onRing-cases, length-started, started-at, backward-at}
 
 turn-small : (d e : ℕ) → turnOf d e < 4
 turn-small d e = omega arith
@@ -61,13 +62,6 @@ module _ (w : ℕ → Bool) (d e : ℕ) (hd : d < 4) (he : e < 4) (there : w e �
         where
           none : (stepAfter d 3 ≡ e → ⊥) → (stepAfter d 0 ≡ e → ⊥) → (stepAfter d 1 ≡ e → ⊥) → ⊥
           none a b c = other (sym (last-turn d e hd he a b c) ∙ sym (back-mod d hd))
-
-back-back : (d : ℕ) → d < 4 → back (back d) ≡ d
-back-back zero h = refl
-back-back (suc zero) h = refl
-back-back (suc (suc zero)) h = refl
-back-back (suc (suc (suc zero))) h = refl
-back-back (suc (suc (suc (suc d)))) h = absurd (omega arith)
 
 -- a step of a walk stands at a place of it
 edge-place : (c : Corner) (ds : List ℕ) (e : Corner × Corner) → List·Memᴰ e (legsFrom c ds) → (i : ℕ) × (i < length ds) × (e ≡ (cornerAt c ds i, stepped (getD ds i 0) (cornerAt c ds i)))

@@ -31,7 +31,7 @@ fn digit(r: u32) -> usize
 }
 
 // The way down to the key k among `used` nodes.
-pub fn seek(keys: &[u32], kids: &[u16], used: usize, k: u32) -> Spot
+fn seek(keys: &[u32], kids: &[u16], used: usize, k: u32) -> Spot
     requires { ⌜ Tree (now keys) (now kids) used ⌝ }
     ensures { λ r. ⌜ r ≡ seekFrom used (now (keys .entry)) (now (kids .entry)) k 0 k ⌝ }
 {

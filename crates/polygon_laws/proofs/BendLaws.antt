@@ -14,6 +14,7 @@ use lib.ListN.{length, take, drop, getD, length-append, length-drop, length-take
 use lib.Seq.{drop-cons}
 use Rattle.lists.specs.Lists.{tally, Below}
 use Rattle.lists.proofs.BelowLaws.{below-getD}
+use Rattle.lists.proofs.BoolLaws.{tally-le}
 use Rattle.steps.specs.Turns.{turnOf}
 use Rattle.grid.specs.declared.Corner.{Corner}
 use Rattle.grid.specs.Grid.{stepped}
@@ -43,7 +44,7 @@ bends-differ a d h g = elim (ℕ-discrete a d) [
     other : (a d : ℕ) → a < 4 → d < 4 → (d + (4 - a)) % 4 ≡ 0 → a ≡ d
     other a d h g z = omega arith
 
-pub bendsOf-from : (s : Corner) (ds : List ℕ) → Below 4 ds → bendsFrom (getD ds 0 0) s ds ≡ bendsOf s ds
+bendsOf-from : (s : Corner) (ds : List ℕ) → Below 4 ds → bendsFrom (getD ds 0 0) s ds ≡ bendsOf s ds
 bendsOf-from s [] b = refl
 bendsOf-from s (d ∷ ds) b = ap (λ (t : Bool). cond t (s ∷ []) [] ++ bendsFrom d (stepped d s) ds) (straight-on d (b .0))
 
@@ -81,7 +82,7 @@ pub turning-less : (ds : List ℕ) → Below 4 ds → 0 < length ds → turning 
 turning-less [] b h = omega arith
 turning-less (d ∷ ds) b h = omega (arith, ap (λ (t : Bool). tally t + turningFrom d ds) (straight-on d (b .0)), turningFrom-le d ds)
 
-pub turning-next : (a i : ℕ) (ds : List ℕ) → i < length ds → turningFrom a (drop i ds) ≡ tally (bends a (getD ds i 0)) + turningFrom (getD ds i 0) (drop (i + 1) ds)
+turning-next : (a i : ℕ) (ds : List ℕ) → i < length ds → turningFrom a (drop i ds) ≡ tally (bends a (getD ds i 0)) + turningFrom (getD ds i 0) (drop (i + 1) ds)
 turning-next a i ds h = rw add-one (ap (turningFrom a) (drop-cons ds i 0 h))
 
 -- ---- one after the other: what is laid down, and what is left, give the whole
@@ -208,10 +209,6 @@ count-first ds last b e = record {
   where
     plain : (n : ℕ) → n ≡ 0 + n
     plain n = omega arith
-
-pub tally-le : (b : Bool) → tally b ≤ 1
-tally-le true = omega arith
-tally-le false = omega arith
 
 pub count-more : (ds : List ℕ) (last k t i : ℕ) → Below 4 ds → i < length ds → t ≡ tally (bends last (getD ds i 0)) → Counting ds last k i → Counting ds (getD ds i 0) (k + t) (i + 1)
 count-more ds last k t i b h e p = record {

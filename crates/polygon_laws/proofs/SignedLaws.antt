@@ -1,7 +1,7 @@
 -- Coordinates in 32 bits: 600 times one fits, one is read back from its bits, and a magnitude is negated.
 -- Assumes nothing.
 use mathlib.Core.Path.{_≡_, sym, ap, _∙_, subst}
-use Prim.Native.Nat.{ℕ, zero, suc, _*_, _≤_}
+use Prim.Native.Nat.{suc, _*_, _≤_}
 use native.Mathlib.Omega.{arith}
 use lib.IntN.{ℤ, pos, negsuc, negℤ, natAbs, _*ℤ_, pos-*ℤ-pos, pos-*ℤ-negsuc}
 use lib.Signed.{mag}
@@ -9,13 +9,10 @@ use lib.Ieee.{Float}
 use mir.Syntax.{w32}
 use mir.Val.{SFits, toZ, ofZ}
 use mir.Facts.{toZ-ofZ}
+use Rattle.int_laws.proofs.RangeLaws.{mag-neg}
 use Rattle.polygon.specs.Coordinate.{coordinateOf}
 
 -- ---- a coordinate
-
-mag-neg : (k a : ℕ) → k ≤ suc a → mag (negℤ (pos k)) ≤ a
-mag-neg zero a h = omega arith
-mag-neg (suc k) a h = omega arith
 
 pub scaled-fits : (z : ℤ) → natAbs z ≤ 32768 → SFits w32 (pos 600 *ℤ z)
 scaled-fits (pos n) h = subst (SFits w32) (sym (pos-*ℤ-pos 600 n)) (record { sfits = omega arith })

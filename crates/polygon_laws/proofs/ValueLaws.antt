@@ -30,7 +30,7 @@ has-value nan s a c v = absurd v
 has-value (inf t) s a c v = tt
 has-value (fin t m e) s a c v = tt
 
-pub ofInt-no-nan : (z : ℤ) → natAbs z ≤ 2 ^ 53 → T (not (isNan (ofInt binary64 z)))
+ofInt-no-nan : (z : ℤ) → natAbs z ≤ 2 ^ 53 → T (not (isNan (ofInt binary64 z)))
 ofInt-no-nan z h = has-value (ofInt binary64 z) (isNeg z) (natAbs z) 1 (ofInt-value z h)
 
 -- ---- 600 times a coordinate

@@ -3,11 +3,12 @@
 use mathlib.Core.Path.{_≡_, refl, sym, ap, ap₂, _∙_}
 use mathlib.Core.Bool.{Bool}
 use mathlib.Core.List.{List, [], _∷_, _++_, append-assoc}
-use Prim.Native.Nat.{ℕ, suc, _+_, _-_, _*_, _≤_, _<_}
+use Prim.Native.Nat.{ℕ, _+_, _-_, _*_, _≤_, _<_}
 use native.Mathlib.Omega.{arith}
 use borrow.Author.Tests.{lt-ltb, le-ltb}
-use lib.ListN.{length, getD, take, drop, length-append}
+use lib.ListN.{length, take, drop, length-append}
 use Rattle.lists.specs.Lists.{Below}
+use Rattle.lists.proofs.BelowLaws.{below-all}
 use Rattle.grid.specs.declared.Corner.{Corner}
 use Rattle.polygon.specs.Bytes.{bytesOf}
 use Rattle.answer.specs.Limits.{mostSteps}
@@ -70,7 +71,7 @@ polygon-laid l cur ys zs s ds n b e p q w =
 
 -- ---- the call
 
-pub length-polygonOf : (s : Corner) (ds : List ℕ) → Below 4 ds → length (polygonOf s ds) ≡ 13 + 16 * (turning ds + 2)
+length-polygonOf : (s : Corner) (ds : List ℕ) → Below 4 ds → length (polygonOf s ds) ≡ 13 + 16 * (turning ds + 2)
 length-polygonOf s ds b = length-polygonBytes (pointsOf s ds) ∙ ap (λ (m : ℕ). 13 + 16 * m) (length-pointsOf s ds b)
 
 pub draw-short : (s : Corner) (ds out : List ℕ) (n : ℕ) → Below 4 ds → n ≡ turning ds + 2 → length out < 13 + 16 * n → Drawn s ds out (Counted.Refused PolygonRoom) out
@@ -88,15 +89,11 @@ draw-done s ds out after n b e h w =
       buffer = w ∙ ap (λ (c : Judged). writtenIf c (polygonOf s ds ++ drop (length (polygonOf s ds)) out) out) (sym j);
     }
 
-below-all : (ds : List ℕ) → ((k : ℕ) → getD ds k 0 < 4) → Below 4 ds
-below-all [] f = tt
-below-all (d ∷ ds) f = (f 0, below-all ds (λ k. f (suc k)))
-
 -- a start and a chain that nothing is wrong with can be drawn
 pub room-drawable : (s : Corner) (ds : List ℕ) (j : Judged) → j ≡ asRoomJudged s ds → j ≡ Good → Drawable s ds
 room-drawable s ds j e g =
     let r = good-room s ds (sym e ∙ g) in
-    record { near-x = r .near .0; near-y = r .near .1; digits = below-all ds (good-digits 0 ds (r .steps)); few = omega (arith, good-short 0 ds (omega arith) (r .steps)) }
+    record { near-x = r .near .0; near-y = r .near .1; digits = below-all 4 ds (good-digits 0 ds (r .steps)); few = omega (arith, good-short 0 ds (omega arith) (r .steps)) }
 
 module _ (s : Corner) (ds out : List ℕ) (j : Judged) (e : j ≡ asRoomJudged s ds) where
   pub call-good : (r : Counted) (after : List ℕ) → j ≡ Good → Drawn s ds out r after → PolygonCall s ds out r after

@@ -3,22 +3,22 @@
 use mathlib.Core.Bool.{Bool, true, false, not}
 use mathlib.Core.List.{List, _∷_, []}
 use mathlib.Core.Logic.{_↔_}
-use mathlib.Core.Path.{_≡_, refl, ap, sym, _∙_}
+use mathlib.Core.Path.{_≡_, refl, ap, _∙_}
 use Prim.Native.Nat.{ℕ, _<_, _≤_}
 use native.Mathlib.Omega.{arith}
-use borrow.Author.Tests.{leb-true, eqb-true, lt-ltb, le-ltb}
-use lib.Dec.{eqb, leb, ltb}
-use lib.IntN.{natAbs}
+use borrow.Author.Tests.{eqb-true, lt-ltb, le-ltb}
+use lib.Dec.{eqb, ltb}
 use lib.ListN.{length}
-use Rattle.lists.proofs.GatherLaws.{and-left, and-right}
+use Rattle.lists.proofs.BoolLaws.{not-false}
 use Rattle.answer.specs.declared.{Judged.Judged, Refusal.Refusal}
 use Rattle.answer.specs.declared.Judged.the-variants.{Good, Refused}
 use Rattle.answer.specs.declared.Verdict.{Verdict}
 use Rattle.answer.specs.declared.Verdict.the-variants.{Nowhere, Open, Room, OpenMeeting, ClosedMeeting, ThereAndBack}
 use Rattle.answer.specs.declared.Refusal.the-variants.{TooMany, StartRange, NotRoom}
-use Rattle.answer.specs.Limits.{mostInput, mostStart, Near, startFits}
+use Rattle.answer.specs.Limits.{mostInput, Near, startFits}
 use Rattle.answer.specs.Refusal.{verdictNumber, when, orElse}
 use Rattle.answer.proofs.RefusalLaws.{clear, when-good, orElse-right}
+use Rattle.answer.proofs.StartLaws.{fits-near}
 use Rattle.grid.specs.declared.Corner.{Corner}
 use Rattle.trace.specs.Verdict.{verdictOf, IsRoom}
 use Rattle.trace.proofs.VerdictLaws.{verdict-room, says-verdict}
@@ -41,18 +41,11 @@ isRoom-exactly c ds = (
   (λ r. ap (λ (v : Verdict). eqb (verdictNumber v) 2) (says-verdict c ds Room r)),
 )
 
--- a start in range
-pub start-near : (c : Corner) → startFits c ≡ true → Near c
-start-near c e =
-    let a = leb (natAbs (c .0)) mostStart in
-    let b = leb (natAbs (c .1)) mostStart in
-    (leb-true (natAbs (c .0)) mostStart (and-left a b e), leb-true (natAbs (c .1)) mostStart (and-right a b e))
-
 -- ---- the refusals in their order
 
 module _ (c : Corner) (ds : List ℕ) where
   -- 4, 6 and 12, after the start
-  abbrev pub restJudged : Judged
+  abbrev restJudged : Judged
   restJudged = orElse (chainJudged 0 ds) (orElse (when (not (isRoom c ds)) NotRoom) Good)
 
   pub judged-many : mostInput < length ds → asRoomJudged c ds ≡ Refused TooMany
@@ -77,15 +70,11 @@ pub record AsRoom (c : Corner) (ds : List ℕ) : Type 0 where
   pub steps : chainJudged 0 ds ≡ Good
   pub room : IsRoom c ds
 
-pub not-false : (b : Bool) → not b ≡ false → b ≡ true
-not-false true e = refl
-not-false false e = sym e
-
 pub good-room : (c : Corner) (ds : List ℕ) → asRoomJudged c ds ≡ Good → AsRoom c ds
 good-room c ds e =
     let h = clear (when (ltb mostInput (length ds)) TooMany ∷ when (not (startFits c)) StartRange ∷ chainJudged 0 ds ∷ when (not (isRoom c ds)) NotRoom ∷ []) e in
     record {
-      near = start-near c (not-false (startFits c) (when-good (not (startFits c)) StartRange (h .1 .0)));
+      near = fits-near c (not-false (startFits c) (when-good (not (startFits c)) StartRange (h .1 .0)));
       steps = h .1 .1 .0;
       room = isRoom-exactly c ds .0 (not-false (isRoom c ds) (when-good (not (isRoom c ds)) NotRoom (h .1 .1 .1 .0)));
     }

@@ -11,6 +11,7 @@ use lib.IntN.{ℤ, pos, negsuc, natAbs}
 use lib.ListN.{length}
 use lib.Signed.{leZ, ltZ}
 use Rattle.lists.proofs.FindLaws.{bool-agree}
+use Rattle.lists.proofs.BoolLaws.{not-true, not-false}
 use Rattle.answer.specs.declared.Judged.{Judged}
 use Rattle.answer.specs.declared.Judged.the-variants.{Good, Refused}
 use Rattle.answer.specs.declared.Refusal.{Refusal}
@@ -21,7 +22,7 @@ use Rattle.grid.specs.declared.Corner.{Corner}
 use Rattle.hull.specs.Call.{chainJudged}
 use Rattle.hull_laws.proofs.SurveyLaws.{good-short}
 use Rattle.room.specs.Room.{isRoom, asRoomJudged}
-use Rattle.room.proofs.RoomLaws.{isRoom-exactly, not-false, judged-many, judged-range, judged-fault, judged-room}
+use Rattle.room.proofs.RoomLaws.{isRoom-exactly, judged-many, judged-range, judged-fault, judged-room}
 use Rattle.room_thread_laws.specs.Threads.{Told}
 
 -- ---- the range of starts
@@ -47,10 +48,6 @@ module _ (c : Corner) (b : Bool) (e : b ≡ leb (natAbs (c .0)) mostStart) where
 
 pub not-room : (b : Bool) → b ≡ false → Refused NotRoom ≡ when (not b) NotRoom
 not-room b e = rw e
-
-not-true : (b : Bool) → not b ≡ true → b ≡ false
-not-true true e = sym e
-not-true false e = refl
 
 module _ (c : Corner) (ds : List ℕ) where
   pub told-many : mostInput < length ds → Refused TooMany ≡ asRoomJudged c ds

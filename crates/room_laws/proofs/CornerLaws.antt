@@ -37,7 +37,7 @@ along-stepped : (e d : ℕ) (c : Corner) → along e d ≡ true → stepped e c 
 along-stepped e d c = along-one (λ n. stepped n c) (λ n. refl) e d
 
 -- a test of a way and a corner that is never both
-never : (x y : Bool) → (x ≡ true → y ≡ true → ⊥) → tally (x && y) ≡ 0
+pub never : (x y : Bool) → (x ≡ true → y ≡ true → ⊥) → tally (x && y) ≡ 0
 never true true f = absurd (f refl refl)
 never true false f = refl
 never false y f = refl

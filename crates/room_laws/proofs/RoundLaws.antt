@@ -43,7 +43,7 @@ abbrev pub Sided : (Panel → ℤ) → ℤ → Corner → List ℕ → Type 0
 Sided W z c ds = EachStep (λ d q. (W (rightOf d q) ≡ z) × (W (leftOf d q) ≡ sucℤ z)) c ds
 
 -- W is the surplus of a walk of more than two steps
-pub record Runs (W : Panel → ℤ) (c : Corner) (a : ℕ) (ds : List ℕ) : Type 0 where
+record Runs (W : Panel → ℤ) (c : Corner) (a : ℕ) (ds : List ℕ) : Type 0 where
   pub round : Round c a ds
   pub long : 1 < length ds
   pub surplus : (p : Panel) → surplusOf c (a ∷ ds) p ≡ W p

@@ -34,10 +34,10 @@ module _ (chain : List ℕ) (m x y i : ℕ) (head next hs : List ℕ) (w : Layin
   unfolding alongFrom
   rows-here = w .rows ∙ ap (rowsFrom y) (drop-cons chain i 0 l)
 
-  pub lay-column : getD (columnsFrom m chain) i 0 ≡ x
+  lay-column : getD (columnsFrom m chain) i 0 ≡ x
   lay-column = first (columnsFrom m chain) i x (columnsFrom (colAfter x (getD chain i 0)) (drop (suc i) chain)) columns-here
 
-  pub lay-row : getD (rowsFrom m chain) i 0 ≡ y
+  lay-row : getD (rowsFrom m chain) i 0 ≡ y
   lay-row = first (rowsFrom m chain) i y (rowsFrom (rowAfter y (getD chain i 0)) (drop (suc i) chain)) rows-here
 
   step : x < length head → i < length next → i < length hs → Laying chain m (colAfter x (getD chain i 0)) (rowAfter y (getD chain i 0)) (suc i) (set head x (suc i)) (set next i (getD head x 0)) (set hs i y)

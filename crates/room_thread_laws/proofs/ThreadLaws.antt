@@ -1,7 +1,7 @@
 -- Threading place after place, and following a column back.
 -- Assumes nothing.
 use mathlib.Core.Path.{_≡_, refl, sym, ap, _∙_, subst}
-use mathlib.Core.Bool.{Bool, true, false, not, true≢false, false≢true}
+use mathlib.Core.Bool.{Bool, true, false, true≢false, false≢true}
 use mathlib.Core.List.{List}
 use mathlib.Core.Logic.{_⊎_, inl, inr, ⊎-elim}
 use Prim.Native.Nat.{ℕ, zero, suc, _+_, _-_, _<_, _≤_}
@@ -14,22 +14,13 @@ use lib.ListN.{length, getD, set, length-set}
 use lib.Seq.{getD-set-same, getD-set-other}
 use Rattle.room_thread_laws.specs.Threads.{lastIn, Threaded, Double, Single, Stamped, Outcome, Followed, Following, Parted, Parting}
 
--- a test that is turned round
-pub not-true : (b : Bool) → not b ≡ true → b ≡ false
-not-true true e = sym e
-not-true false e = refl
-
-pub not-false : (b : Bool) → not b ≡ false → b ≡ true
-not-false true e = refl
-not-false false e = sym e
-
 -- the last place in a column
 module _ (xs : List ℕ) (c : ℕ) where
-  pub last-here : (i : ℕ) → getD xs i 0 ≡ c → lastIn xs c (suc i) ≡ suc i
+  last-here : (i : ℕ) → getD xs i 0 ≡ c → lastIn xs c (suc i) ≡ suc i
   unfolding lastIn
   last-here i e = ap (λ (t : Bool). elim t as (λ x. ℕ) [ true ↦ suc i | false ↦ lastIn xs c i ]) (eq-eqb (getD xs i 0) c e)
 
-  pub last-other : (i : ℕ) → (getD xs i 0 ≡ c → ⊥) → lastIn xs c (suc i) ≡ lastIn xs c i
+  last-other : (i : ℕ) → (getD xs i 0 ≡ c → ⊥) → lastIn xs c (suc i) ≡ lastIn xs c i
   unfolding lastIn
   last-other i n = ap (λ (t : Bool). elim t as (λ x. ℕ) [ true ↦ suc i | false ↦ lastIn xs c i ]) (ne-eqb (getD xs i 0) c n)
 
@@ -43,7 +34,7 @@ module _ (xs : List ℕ) (c : ℕ) where
       go false h = omega arith
 
   -- no place of the column from the last one on
-  pub last-none : (i j : ℕ) → lastIn xs c i ≤ j → j < i → getD xs j 0 ≡ c → ⊥
+  last-none : (i j : ℕ) → lastIn xs c i ≤ j → j < i → getD xs j 0 ≡ c → ⊥
   unfolding lastIn
   last-none zero j h g e = omega arith
   last-none (suc i) j h g e = go (ℕ-discrete (getD xs i 0) c) (λ l m. last-none i j l m e)
@@ -56,7 +47,7 @@ module _ (xs : List ℕ) (c : ℕ) where
           less-or-same j i g = eq-or-lt-of-le (omega arith)
 
   -- the last place is one of the column
-  pub last-at : (i p : ℕ) → lastIn xs c i ≡ suc p → (p < i) × (getD xs p 0 ≡ c)
+  last-at : (i p : ℕ) → lastIn xs c i ≡ suc p → (p < i) × (getD xs p 0 ≡ c)
   unfolding lastIn
   last-at zero p e = let z : ⊥ = omega arith in absurd z
   last-at (suc i) p e = go (ℕ-discrete (getD xs i 0) c) (last-at i p)
@@ -89,7 +80,7 @@ unfolding lastIn
 thread-none xs head next z = record { heads = λ c l. z c; nexts = λ j l. let n : ⊥ = omega arith in absurd n }
 
 -- a column, before it is followed
-pub stamp-none : (xs hs stamps : List ℕ) (n c t : ℕ) → ((h : ℕ) → getD stamps h 0 < t) → Stamped xs hs stamps n c t n
+stamp-none : (xs hs stamps : List ℕ) (n c t : ℕ) → ((h : ℕ) → getD stamps h 0 < t) → Stamped xs hs stamps n c t n
 stamp-none xs hs stamps n c t f = record { seen = seen; marked = λ j l r e. let z : ⊥ = omega arith in absurd z; most = λ h. omega (arith, f h); single = λ j k l m r. let z : ⊥ = omega arith in absurd z }
   where
     seen : (h : ℕ) → getD stamps h 0 ≡ t → (j : ℕ) × (n ≤ j) × (j < n) × (getD xs j 0 ≡ c) × (getD hs j 0 ≡ h)
@@ -115,14 +106,14 @@ module _ (xs hs stamps : List ℕ) (n c t b p : ℕ) (s : Stamped xs hs stamps n
           go (no r) = omega arith
 
   -- its height bears the stamp: two places have one height
-  pub stamp-double : getD stamps (getD hs p 0) 0 ≡ t → Double xs hs n
+  stamp-double : getD stamps (getD hs p 0) 0 ≡ t → Double xs hs n
   stamp-double e = go (s .seen (getD hs p 0) e)
     where
       go : (j : ℕ) × (b ≤ j) × (j < n) × (getD xs j 0 ≡ c) × (getD hs j 0 ≡ getD hs p 0) → Double xs hs n
       go (j, a, q, f, g) = record { j = p; k = j; earlier = omega (arith, inside); within = q; column = here ∙ sym f; height = sym g }
 
   -- it does not: it is stamped
-  pub stamp-step : (getD stamps (getD hs p 0) 0 ≡ t → ⊥) → getD hs p 0 < length stamps → Stamped xs hs (set stamps (getD hs p 0) t) n c t p
+  stamp-step : (getD stamps (getD hs p 0) 0 ≡ t → ⊥) → getD hs p 0 < length stamps → Stamped xs hs (set stamps (getD hs p 0) t) n c t p
   stamp-step new fits = record { seen = seen; marked = marked; most = most; single = single }
     where
       same : getD (set stamps (getD hs p 0) t) (getD hs p 0) 0 ≡ t
@@ -160,7 +151,7 @@ module _ (xs hs stamps : List ℕ) (n c t b p : ℕ) (s : Stamped xs hs stamps n
           go (inr a) (inr d) = s .single j k a q r e f g
 
 -- followed to its end
-pub stamp-end : (xs hs stamps : List ℕ) (n c t b : ℕ) → Stamped xs hs stamps n c t b → b ≤ n → lastIn xs c b ≡ 0 → Single xs hs n c
+stamp-end : (xs hs stamps : List ℕ) (n c t b : ℕ) → Stamped xs hs stamps n c t b → b ≤ n → lastIn xs c b ≡ 0 → Single xs hs n c
 stamp-end xs hs stamps n c t b s le l j k h r e f g = go (decLt j b)
   where
     go : Dec (j < b) → ⊥

@@ -16,7 +16,7 @@ use Rattle.row_bucket_laws.proofs.BucketLaws.{picked-here, picked-other
 
 -- counting
 module _ (f : ℕ → Bool) where
-  pub count-pour : (l acc : List ℕ) → count f (pour l acc) ≡ count f l + count f acc
+  count-pour : (l acc : List ℕ) → count f (pour l acc) ≡ count f l + count f acc
   count-pour [] acc = omega arith
   count-pour (p ∷ l) acc = omega (arith, count-pour l (p ∷ acc))
 
@@ -81,7 +81,7 @@ module _ (f : ℕ → Bool) where
 
 -- order
 module _ (key : ℕ → ℕ) where
-  pub pour-mem : (l acc : List ℕ) (q : ℕ) → List·Memᴰ q (pour l acc) → List·Memᴰ q l ⊎ List·Memᴰ q acc
+  pour-mem : (l acc : List ℕ) (q : ℕ) → List·Memᴰ q (pour l acc) → List·Memᴰ q l ⊎ List·Memᴰ q acc
   pour-mem [] acc q m = inr m
   pour-mem (p ∷ l) acc q m = ⊎-elim (λ k. inl (List·Memᴰ·tail k)) (λ k. ⊎-elim (λ e. inl (List·Memᴰ·head e)) (λ n. inr n) (List·Memᴰ·cases-cons k)) (pour-mem l (p ∷ acc) q m)
 
@@ -111,7 +111,7 @@ module _ (key : ℕ → ℕ) where
       by true ih = ((λ q m. r .0 q (picked-mem key c l q m .0)), ih)
       by false ih = ih
 
-  pub rows-mem : (h k : ℕ) (l : List ℕ) (q : ℕ) → List·Memᴰ q (rowsUp key h k l) → List·Memᴰ q l × (h ≤ key q)
+  rows-mem : (h k : ℕ) (l : List ℕ) (q : ℕ) → List·Memᴰ q (rowsUp key h k l) → List·Memᴰ q l × (h ≤ key q)
   rows-mem h zero l q m = absurd (List·Memᴰ·not-nil m)
   rows-mem h (suc k) l q m = ⊎-elim (λ n. let r = picked-mem key h l q n in (r .0, omega (arith, r .1))) (λ n. let r = rows-mem (suc h) k l q n in (r .0, omega (arith, r .1))) (List·Memᴰ·append-cases (picked key h l) m)
 

@@ -3,12 +3,13 @@
 use mathlib.Core.Bool.{Bool, true, false}
 use mathlib.Core.List.{List, _∷_, []}
 use mathlib.Core.Path.{_≡_, refl, ap, sym, _∙_}
-use Prim.Native.Nat.{ℕ, suc, _+_, _*_, _%_, _<_, _≤_}
+use Prim.Native.Nat.{ℕ, suc, _+_, _*_, _%_, _≤_}
 use native.Mathlib.Omega.{arith}
 use lib.Dec.{eqb, ltb}
 use lib.IntN.{ℤ}
-use lib.ListN.{length, getD}
+use lib.ListN.{length}
 use Rattle.lists.specs.Lists.{tally, count, Below}
+use Rattle.lists.proofs.BelowLaws.{below-all}
 use Rattle.answer.specs.declared.{Counted.Counted, Judged.Judged, Judged.the-variants.Good, Judged.the-variants.Refused, Refusal.Refusal, Refusal.the-variants.SpanRoom}
 use Rattle.answer.specs.Limits.{mostSteps}
 use Rattle.answer.specs.Refusal.{when, orElse}
@@ -22,10 +23,6 @@ use Rattle.panels.specs.Inside.{Inside}
 use Rattle.row_call.specs.{Rows.Span, Rows.RowsIs, Call.rowsJudged, Call.spansIn, Call.RowsCall}
 use Rattle.row_laws.proofs.{OneLaws.rowsIs-one, RowLaws.rowsIs-rowsOf, SortedLaws.room-half}
 
-below-all : (ds : List ℕ) → ((k : ℕ) → getD ds k 0 < 4) → Below 4 ds
-below-all [] f = tt
-below-all (d ∷ ds) f = (f 0, below-all ds (λ k. f (suc k)))
-
 count-le : (t : ℕ → Bool) (l : List ℕ) → count t l ≤ length l
 count-le t [] = omega arith
 count-le t (x ∷ l) = by (t x) (count-le t l)
@@ -37,7 +34,7 @@ count-le t (x ∷ l) = by (t x) (count-le t l)
 -- what is judged to be a room has few steps, and half as many spans at most
 module _ (c : Corner) (ds : List ℕ) (g : asRoomJudged c ds ≡ Good) where
   pub good-steps : Below 4 ds × (length ds ≤ mostSteps)
-  good-steps = let r = good-room c ds g in (below-all ds (good-digits 0 ds (r .steps)), omega (arith, good-short 0 ds (omega arith) (r .steps)))
+  good-steps = let r = good-room c ds g in (below-all 4 ds (good-digits 0 ds (r .steps)), omega (arith, good-short 0 ds (omega arith) (r .steps)))
 
   pub rows-few : (L : List Span) → RowsIs (Inside c ds) L → 2 * length L ≤ mostSteps
   rows-few L k =

@@ -23,7 +23,7 @@ past-span : (s t : Span) (p : Panel) → Before s t → OnSpan t p → From (s .
 past-span s t p (inl h) o = inl (omega (zarith, o .row))
 past-span s t p (inr h) o = inr (omega (zarith, h .0, o .row), omega (zarith, h .1, o .after, bal-suc (sucℤ (s .last))))
 
-pub past-spans : (s : Span) (l : List Span) (p : Panel) → Every (Before s) l → Covers l p → From (s .row) (sucℤ (sucℤ (s .last))) p
+past-spans : (s : Span) (l : List Span) (p : Panel) → Every (Before s) l → Covers l p → From (s .row) (sucℤ (sucℤ (s .last))) p
 past-spans s [] p h n = absurd n
 past-spans s (t ∷ l) p h n = ⊎-elim (past-span s t p (h .0)) (past-spans s l p (h .1)) n
 
@@ -47,7 +47,7 @@ next-before t s q (inl h) x o = omega (zarith, h, x .row, o .row)
 next-before t s q (inr h) x o = omega (zarith, h .1, x .west, o .before, bal-suc (t .last), bal-suc (q .0))
 
 -- spans are as long as possible: no panel next to one is in any
-pub spans-maximal : (l : List Span) (s : Span) (q : Panel) → InOrder l → List·Memᴰ s l → NextTo s q → Covers l q → ⊥
+spans-maximal : (l : List Span) (s : Span) (q : Panel) → InOrder l → List·Memᴰ s l → NextTo s q → Covers l q → ⊥
 spans-maximal [] s q h m x n = n
 spans-maximal (t ∷ l) s q h m x n =
     ⊎-elim
@@ -85,7 +85,7 @@ tails s l m h f p n = ⊎-elim (λ o. absurd (apart o)) (λ k. k) (f p (inr n))
     apart o = ⊎-elim (λ g. omega (zarith, g, o .row)) (λ g. omega (zarith, g .1, o .before, bal-suc (s .last), bal-suc (sucℤ (s .last)))) (past-spans s l p (h .1) n)
 
 -- two lists in order that cover the same panels are one
-pub covers-one : (l m : List Span) → InOrder l → InOrder m → ((p : Panel) → Covers l p → Covers m p) → ((p : Panel) → Covers m p → Covers l p) → l ≡ m
+covers-one : (l m : List Span) → InOrder l → InOrder m → ((p : Panel) → Covers l p → Covers m p) → ((p : Panel) → Covers m p → Covers l p) → l ≡ m
 covers-one [] [] h g f b = refl
 covers-one [] (t ∷ m) h g f b = absurd (b (panel (t .first) (t .row)) (inl (starts t (g .0))))
 covers-one (s ∷ l) [] h g f b = absurd (f (panel (s .first) (s .row)) (inl (starts s (h .0))))

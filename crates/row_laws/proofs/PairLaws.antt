@@ -120,7 +120,7 @@ pairs-after s [] g = tt
 pairs-after s (x ∷ []) g = tt
 pairs-after s (x ∷ y ∷ qs) g = (g .0, pairs-after s qs (climbs-lower (endOf s) y qs (ahead-trans (endOf s) x y (g .0) (g .1 .0)) (g .1 .1)))
 
-pub pairs-order : (qs : List Corner) → InTurn Ahead qs → EvenRows qs → InOrder (pairsOf qs)
+pairs-order : (qs : List Corner) → InTurn Ahead qs → EvenRows qs → InOrder (pairsOf qs)
 pairs-order [] g even = tt
 pairs-order (x ∷ []) g even = tt
 pairs-order (x ∷ y ∷ qs) g even =

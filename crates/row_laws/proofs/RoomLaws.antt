@@ -73,7 +73,7 @@ distinct-foot (suc (suc zero)) c l h g = g
 distinct-foot (suc (suc (suc d))) c l h g = (h (stepped 3 c) (List·Memᴰ·head refl), g)
 
 -- a walk that meets no corner twice walks no edge twice
-pub feet-distinct : (c : Corner) (ds : List ℕ) → Distinct (cornersFrom c ds) → Distinct (feetFrom c ds)
+feet-distinct : (c : Corner) (ds : List ℕ) → Distinct (cornersFrom c ds) → Distinct (feetFrom c ds)
 feet-distinct c [] h = tt
 feet-distinct c (d ∷ ds) h =
     distinct-foot d c (feetFrom (stepped d c) ds) (λ q m n. h .0 (in-both c (stepped d c) q (foot-ends d c q m) (feet-corners (stepped d c) ds q n) .0)) (feet-distinct (stepped d c) ds (h .1))

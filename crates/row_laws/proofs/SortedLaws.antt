@@ -117,7 +117,7 @@ room-count c ds r =
     length-count (x ∷ l) = omega (arith, length-count l)
 
 -- as many edges as steps north and south
-pub length-feet : (c : Corner) (ds : List ℕ) → Below 4 ds → length (feetFrom c ds) ≡ count (λ d. eqb (d % 2) 1) ds
+length-feet : (c : Corner) (ds : List ℕ) → Below 4 ds → length (feetFrom c ds) ≡ count (λ d. eqb (d % 2) 1) ds
 length-feet c [] b = refl
 length-feet c (zero ∷ ds) b = omega (arith, length-feet (stepped 0 c) ds (b .1))
 length-feet c (suc zero ∷ ds) b = omega (arith, length-feet (stepped 1 c) ds (b .1))

@@ -1,6 +1,6 @@
 -- What the promise of a conversion gives: when it is accepted, that there is one answer and one buffer, and both round trips.
 -- Assumes nothing.
-use mathlib.Core.Bool.{Bool, true, false, not, true≢false}
+use mathlib.Core.Bool.{not}
 use mathlib.Core.List.{List, [], _∷_}
 use mathlib.Core.Path.{_≡_, refl, ap, sym, _∙_, subst}
 use Prim.Native.Nat.{ℕ, suc, _<_, _≤_}
@@ -9,6 +9,7 @@ use borrow.Author.Tests.{ltb-false, lt-ltb, le-ltb, eqb-true, eq-eqb, ne-eqb}
 use lib.Dec.{eqb, ltb}
 use lib.ListN.{length}
 use Rattle.lists.specs.Lists.{Below}
+use Rattle.lists.proofs.BoolLaws.{not-false}
 use Rattle.answer.specs.declared.Judged.{Judged}
 use Rattle.answer.specs.declared.Judged.the-variants.{Good, Refused}
 use Rattle.answer.specs.declared.Refusal.the-variants.{TooMany, ResultRoom, BadDigit}
@@ -49,10 +50,6 @@ pub record Convertible (ds : List ℕ) (room : ℕ) : Type 0 where
   pub long : room ≡ length ds
   pub digits : Below 4 ds
 
-not-false : (b : Bool) → not b ≡ false → b ≡ true
-not-false true e = refl
-not-false false e = absurd (true≢false e)
-
 pub turnsJudged-good : (ds : List ℕ) (room : ℕ) → turnsJudged ds room ≡ Good → Convertible ds room
 turnsJudged-good ds room e =
     let h = clear (when (ltb mostInput (length ds)) TooMany ∷ when (not (eqb room (length ds))) ResultRoom ∷ digitsJudged 0 ds ∷ []) e in
@@ -74,7 +71,7 @@ convertedBy-one f p q = (p .answer ∙ sym (q .answer), p .buffer ∙ sym (q .bu
 record Undoes (f g : List ℕ → List ℕ) : Type 0 where
   pub below : (ds : List ℕ) → Below 4 ds → Below 4 (f ds)
   pub long : (ds : List ℕ) → length (f ds) ≡ length ds
-  pub undone : (ds : List ℕ) → Below 4 ds → g (f ds) ≡ ds
+  undone : (ds : List ℕ) → Below 4 ds → g (f ds) ≡ ds
 
 -- an accepted conversion leaves its result
 accepted : (f : List ℕ → List ℕ) (ds out out′ : List ℕ) → ConvertedBy f ds out Good out′ → (out′ ≡ f ds) × Convertible ds (length out)

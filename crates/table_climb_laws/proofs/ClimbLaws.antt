@@ -19,6 +19,7 @@ use Rattle.tree_laws.specs.State.{State, Sound, tableBy, grown, raised, reached
 use Rattle.grid.proofs.PathLaws.{natAbs-halfOf}
 use Rattle.layout.proofs.ChildLaws.{child-ref}
 use Rattle.lists.proofs.GatherLaws.{and-left, and-right}
+use Rattle.lists.proofs.BoolLaws.{not-true}
 use Rattle.tree_laws.proofs.AddLaws.{ref-pos, ref-append}
 use Rattle.table_laws.specs.Model.{linkIn}
 use Rattle.table_laws.proofs.Cites.{made-holds, ref-below, not-linked, above-root, above-same, above-call, over-holds, near-no-parent, near-no-child, near-linked, link-bounds, parent-word}
@@ -27,10 +28,6 @@ use Rattle.table_laws.proofs.LookupLaws.{mem-of-ref, length-table, Raised, rais
 use Rattle.table_laws.proofs.StateLaws.{sound-reached}
 use Rattle.table_laws.proofs.StoreLaws.{far, read-neighbour, read-child, child-word-small}
 use Rattle.table_climb_laws.specs.Climb.{goesUp, Apart, Climbed, Descends}
-
-is-false : (b : Bool) → not b ≡ true → b ≡ false
-is-false true e = absurd (true≢false (sym e))
-is-false false e = refl
 
 -- a link keeps the length
 length-link : (t : List ℕ) (u v d s : ℕ) → length (linkIn t u v d s) ≡ length t
@@ -64,9 +61,9 @@ goes-apart t n u c d s S h r small pos g =
     let l = and-right b (e && f) k in
     record {
       none = not-linked t n u c d s S h r small pos (sym (eqb-true w 0 (and-left a (b && (e && f)) g)));
-      inner = is-false (isRoot c) (and-left e f l);
-      outer = is-false (isRoot (stepped d c)) (and-left b (e && f) k);
-      parents = is-false (same (parentOf c) (parentOf (stepped d c))) (and-right e f l);
+      inner = not-true (isRoot c) (and-left e f l);
+      outer = not-true (isRoot (stepped d c)) (and-left b (e && f) k);
+      parents = not-true (same (parentOf c) (parentOf (stepped d c))) (and-right e f l);
     }
 
 pub climb-next : (S : State) (d : ℕ) (c : Corner) (level : ℕ) (a : Corner) → Climbed S d c level a → Apart S d a → Climbed S d c (suc level) (parentOf a)

@@ -25,6 +25,7 @@ use Rattle.layout.proofs.ChildLaws.{child-ref}
 use Rattle.layout.proofs.WordLaws.{words-cong, child-of, link-of, edge-of}
 use Rattle.lists.proofs.CountLaws.{count-listed}
 use Rattle.lists.proofs.GatherLaws.{and-left, and-right, mem→any, distinct-gather, mem-gather-left, mem-gather-right, mem-gather-cases}
+use Rattle.lists.proofs.BoolLaws.{is-false}
 use Rattle.grid.proofs.JoinLaws.{joins-here, joins-there, joins-stepped}
 use Rattle.tree.proofs.NodeLaws.{mem-path}
 use Rattle.tree.proofs.RefLaws.{not-any}
@@ -36,10 +37,6 @@ use Rattle.tree_laws.proofs.RiseLaws.{goes-up, up-goes, up-near, risen-up, rise
 use Rattle.table_laws.proofs.LookupLaws.{Raised, raised-is, root-parent}
 use Rattle.table_laws.proofs.StateLaws.{by-mem, grown-known, grown-new, reach-known, reach-root, reach-over}
 use Rattle.table_laws.proofs.StoreLaws.{alike-row, link-row-x, node-row-x, child-word-small}
-
-is-false : (b : Bool) → (b ≡ true → ⊥) → b ≡ false
-is-false true f = absurd (f refl)
-is-false false f = refl
 
 -- rows that are the same word by word are one row
 same-words : (l m : List ℕ) → sameWords l m ≡ true → l ≡ m

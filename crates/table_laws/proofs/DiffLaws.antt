@@ -94,7 +94,7 @@ module _ (S : State) (sound : Sound S) (s d : ℕ) (pos : 0 < s) (small : d < 4)
       ∙ ap (λ (l : List ℕ). l ++ replicate (words - width * length all) 0) (sym rows)
 
   -- how many records the step changes, in a table of any size that has room for it
-  pub step-changes : (k words n : ℕ) → sizeOf a < k → width * length all ≤ words → length all ≤ n → changesIn n (tableBy words S) (tableBy words (after S sound s d pos small a)) ≡ length (changed S sound s d pos small k a)
+  step-changes : (k words n : ℕ) → sizeOf a < k → width * length all ≤ words → length all ≤ n → changesIn n (tableBy words S) (tableBy words (after S sound s d pos small a)) ≡ length (changed S sound s d pos small k a)
   step-changes k words n h room more =
       let T : State = after S sound s d pos small a in
       let z : List ℕ = replicate (words - width * length all) 0 in

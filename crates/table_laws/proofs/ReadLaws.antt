@@ -22,6 +22,7 @@ use Rattle.grid.proofs.PathLaws.{sizeOf-parentOf}
 use Rattle.grid.proofs.StepLaws.{back, stepped-ne}
 use Rattle.lists.proofs.FindLaws.{bool-agree, find-get}
 use Rattle.lists.proofs.GatherLaws.{mem→any, mem-gather-left, mem-gather-right}
+use Rattle.lists.proofs.BoolLaws.{is-false}
 use Rattle.grid.proofs.JoinLaws.{joins-stepped}
 use Rattle.tree.proofs.NodeLaws.{mem-path}
 use Rattle.tree.proofs.RefLaws.{not-any}
@@ -33,10 +34,6 @@ use Rattle.tree_laws.proofs.RiseLaws.{goes-up, up-goes, up-near, risen-up, rise
 use Rattle.table_laws.proofs.ChangeLaws.{rooted, after}
 use Rattle.table_laws.proofs.StateLaws.{by-mem}
 use Rattle.table_laws.proofs.StoreLaws.{far-pos, read-parent, read-neighbour, read-step, read-need}
-
-is-false : (b : Bool) → (b ≡ true → ⊥) → b ≡ false
-is-false true f = absurd (f refl)
-is-false false f = refl
 
 back-ne : (d : ℕ) → d < 4 → d ≡ back d → ⊥
 back-ne zero h e = omega arith
@@ -169,7 +166,7 @@ module _ (S : State) (sound : Sound S) (s d : ℕ) (pos : 0 < s) (small : d < 4)
       mem-g = mem-gather-right same same-sound same-refl ns (pathOf e) (k .path)
 
       -- the word of the parent: 0 in the root, otherwise a ref below u
-      pub up-root : getD t (wordAt u parentWord) 0 ≡ 0 → isRoot b ≡ true
+      up-root : getD t (wordAt u parentWord) 0 ≡ 0 → isRoot b ≡ true
       up-root z = go (isRoot b) refl
         where
           go : (r : Bool) → isRoot b ≡ r → isRoot b ≡ true
@@ -178,7 +175,7 @@ module _ (S : State) (sound : Sound S) (s d : ℕ) (pos : 0 < s) (small : d < 4)
               let w : 0 ≡ refOf all (parentOf b) = sym z ∙ at-parent b u (k .here) ∙ rw p in
               absurd (omega (arith, ref-pos all (parentOf b) (closed b mem-b p)))
 
-      pub up-low : 0 < getD t (wordAt u parentWord) 0 → isRoot b ≡ false
+      up-low : 0 < getD t (wordAt u parentWord) 0 → isRoot b ≡ false
       up-low h = go (isRoot b) refl
         where
           go : (r : Bool) → isRoot b ≡ r → isRoot b ≡ false
@@ -197,7 +194,7 @@ module _ (S : State) (sound : Sound S) (s d : ℕ) (pos : 0 < s) (small : d < 4)
           let z : 0 < getD t (wordAt u parentWord) 0 = omega arith in
           at-link (parentOf b) p (up-ref z .0 ∙ h) ∙ k .above (parentOf b) (sizeOf-parentOf b (up-low z))
 
-      pub climbs : (p : ℕ) → getD t (wordAt u parentWord) 0 ≡ suc p → getD t (wordAt p (linkWord d)) 0 ≡ s → linksUp L b g ≡ true
+      climbs : (p : ℕ) → getD t (wordAt u parentWord) 0 ≡ suc p → getD t (wordAt p (linkWord d)) 0 ≡ s → linksUp L b g ≡ true
       climbs p h w = go (linksUp L b g) refl
         where
           go : (r : Bool) → linksUp L b g ≡ r → linksUp L b g ≡ true

@@ -46,7 +46,7 @@ by-mem e ns P f g = go (any (same e) ns) refl
     go false p = g (not-mem same same-sound same-refl e ns p)
 
 -- the child word of the parent says whether a node is there, and which it is
-pub child-there : (ns : List Corner) (e : Corner) → isRoot e ≡ false → (childRefOf ns (parentOf e) (childWord e) ≡ 0 → ⊥) → List·Memᴰ e ns
+child-there : (ns : List Corner) (e : Corner) → isRoot e ≡ false → (childRefOf ns (parentOf e) (childWord e) ≡ 0 → ⊥) → List·Memᴰ e ns
 child-there ns e h f = by-mem e ns (List·Memᴰ e ns) (λ m. m) (λ g. absurd (f (child-ref ns e h ∙ ref-none ns e g)))
 
 -- ---- the cases of the lookup, as states
@@ -88,19 +88,19 @@ module _ (S : State) (sound : Sound S) (s : ℕ) (a e : Corner) where
       (λ g. rw (grown-new T e s g) (record { nodes = n ∙ add-new (T .nodes) e g; step = l; visits = v; need = f g; first = q; edges = w }))
 
   -- 3. a is the root, and so the parent of e; 4. a and e have one parent
-  pub reach-left : S .step a e ≡ 0 → isRoot a ≡ true → isRoot e ≡ false → List·Memᴰ (parentOf e) (S .nodes) → Alike (reached S s a e) (withLink (grown S e s) a e s)
+  reach-left : S .step a e ≡ 0 → isRoot a ≡ true → isRoot e ≡ false → List·Memᴰ (parentOf e) (S .nodes) → Alike (reached S s a e) (withLink (grown S e s) a e s)
   reach-left z h i m =
       over S (child-nodes (S .nodes) (S .step) (sound .good) s a e i m) (λ x y f. left-links (S .nodes) (S .step) (sound .good) s a e z h x y)
       (needed-known (S .nodes) (S .need) s e (sound .good .closed)) (needed-child (S .nodes) (sound .good .closed) (S .need) s e i m) (λ x. refl) (λ x. refl) (λ x y. refl)
 
-  pub reach-sibling : S .step a e ≡ 0 → List·Memᴰ a (S .nodes) → isRoot a ≡ false → isRoot e ≡ false → parentOf a ≡ parentOf e → Alike (reached S s a e) (withLink (grown S e s) a e s)
+  reach-sibling : S .step a e ≡ 0 → List·Memᴰ a (S .nodes) → isRoot a ≡ false → isRoot e ≡ false → parentOf a ≡ parentOf e → Alike (reached S s a e) (withLink (grown S e s) a e s)
   reach-sibling z n h i p =
       let m : List·Memᴰ (parentOf e) (S .nodes) = Memᴰ·cast (sym p) (sound .good .closed a n h) in
       over S (child-nodes (S .nodes) (S .step) (sound .good) s a e i m) (sibling-links (S .nodes) (S .step) (sound .good) s a e z h i p)
       (needed-known (S .nodes) (S .need) s e (sound .good .closed)) (needed-child (S .nodes) (sound .good .closed) (S .need) s e i m) (λ x. refl) (λ x. refl) (λ x y. refl)
 
   -- 5. first the parents
-  pub reach-above : S .step a e ≡ 0 → isRoot a ≡ false → isRoot e ≡ false → Alike (reached S s a e) (withLink (grown (reached S s (parentOf a) (parentOf e)) e s) a e s)
+  reach-above : S .step a e ≡ 0 → isRoot a ≡ false → isRoot e ≡ false → Alike (reached S s a e) (withLink (grown (reached S s (parentOf a) (parentOf e)) e s) a e s)
   reach-above z h i =
       over (reached S s (parentOf a) (parentOf e)) (nodes-step (S .nodes) e i) (λ x y f. above-links (S .nodes) (S .step) (sound .good) s a e z h i x y)
       (λ m x. let k = old m in needed-known (S .nodes) (S .need) s e (sound .good .closed) k x ∙ sym (needed-known (S .nodes) (S .need) s (parentOf e) (sound .good .closed) (sound .good .closed e k i) x))
@@ -121,7 +121,7 @@ reach-over S sound s a e z m i r = go (isRoot a) refl (same (parentOf a) (parent
 
 -- ---- the states on the way are sound
 module _ (S : State) (sound : Sound S) (s : ℕ) (h : Corner) where
-  pub sound-unlinking : (M : Corner → Corner → ℕ) → WellLinked (gather same (S .nodes) (pathOf h)) M → Sound (unlinking S s h M)
+  sound-unlinking : (M : Corner → Corner → ℕ) → WellLinked (gather same (S .nodes) (pathOf h)) M → Sound (unlinking S s h M)
   sound-unlinking M g = record {
     good = g;
     unvisited = λ x f. sound .unvisited x (outside x f);
@@ -140,7 +140,7 @@ module _ (S : State) (sound : Sound S) (s : ℕ) (h : Corner) where
   sound-reached a m = sound-unlinking (linked (S .step) s a h) (good-linked (S .nodes) (S .step) (sound .good) s a h m)
 
   -- the old links among more nodes
-  pub sound-dropping : Sound (unlinking S s h (S .step))
+  sound-dropping : Sound (unlinking S s h (S .step))
   sound-dropping = sound-unlinking (S .step) (record {
     root = let g = gather-more same (S .nodes) (pathOf h) in (sound .good .root .0 ++ g .0, g .1 ∙ ap (λ (l : List Corner). l ++ g .0) (sound .good .root .1));
     closed = gather-closed (S .nodes) (sound .good .closed) h;
@@ -165,7 +165,7 @@ module _ (S : State) (sound : Sound S) (s : ℕ) (h : Corner) where
         let k = drop-stop (S .nodes) (sound .good .closed) top (S .need) s small h f in
         record { nodes = k .0; step = λ x y g. refl; visits = λ x. refl; need = k .1; first = λ x. refl; edges = λ x y. refl }
 
-    pub dropping-next : needed (S .nodes) (S .need) s h h ≡ s → Alike (unlinking S s h (S .step)) (withNode (unlinking S s (parentOf h) (S .step)) h s)
+    dropping-next : needed (S .nodes) (S .need) s h h ≡ s → Alike (unlinking S s h (S .step)) (withNode (unlinking S s (parentOf h) (S .step)) h s)
     dropping-next n = record {
       nodes = drop-next (S .nodes) (sound .good .closed) top (S .need) s small h n;
       step = λ x y g. refl;

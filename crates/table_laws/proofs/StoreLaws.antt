@@ -23,6 +23,7 @@ use Rattle.grid.proofs.StepLaws.{back, back-mod, back-small, stepped-back, step
 use Rattle.layout.proofs.WordLaws.{bump, words-cong, withChild, words-child, withSide, words-side, withEdge, words-edge, child-of, neighbour-of, link-of, edge-of}
 use Rattle.tree_laws.proofs.LaterLaws.{later-none}
 use Rattle.lists.proofs.GatherLaws.{distinct-snoc}
+use Rattle.lists.proofs.BoolLaws.{is-false}
 use Rattle.grid.proofs.JoinLaws.{joins-cases, joins-here, joins-there, joins-stepped}
 use Rattle.tree_laws.proofs.AddLaws.{ref-append, ref-snoc, child-other, child-before, child-snoc, child-new, parent-ne}
 use Rattle.tree_laws.proofs.PopLaws.{visit-first, visit-again, unvisit-last, unvisit-more}
@@ -98,10 +99,6 @@ by-same x a P f g = go (same x a) refl
     go true p = f (same-sound x a p)
     go false p = g (λ e. true≢false (sym (same-refl a) ∙ ap (λ (y : Corner). same y a) (sym e) ∙ p))
 
-is-false : (b : Bool) → (b ≡ true → ⊥) → b ≡ false
-is-false true f = absurd (f refl)
-is-false false f = refl
-
 -- a neighbour's ref stands where its step does
 far-bump : (H r : ℕ → ℕ) (d s k : ℕ) → far (bump H d s k) (r k) ≡ bump (λ i. far (H i) (r i)) d (far s (r d)) k
 far-bump H r d s k = go (eqb k d) refl
@@ -164,7 +161,7 @@ module _ (S : State) (a : Corner) (d s : ℕ) (small : d < 4) where
   link-row-x x f g = words-cong (fieldsBy (withLink S a (stepped d a) s) x) (fieldsBy S x) refl (λ k i j. refl) (λ k h. ap (λ (n : ℕ). far n (refOf (S .nodes) (stepped k x))) (link-x x f g k h)) (link-x x f g) refl refl refl (λ k h. refl)
 
   -- the four stores of a link
-  pub link-stores : (words u v : ℕ) → Distinct (S .nodes) → refOf (S .nodes) a ≡ suc u → refOf (S .nodes) (stepped d a) ≡ suc v
+  link-stores : (words u v : ℕ) → Distinct (S .nodes) → refOf (S .nodes) a ≡ suc u → refOf (S .nodes) (stepped d a) ≡ suc v
       → set (set (set (set (tableBy words S) (wordAt u (neighbourWord d)) (far s (suc v))) (wordAt u (linkWord d)) s) (wordAt v (neighbourWord (back d))) (far s (suc u))) (wordAt v (linkWord (back d))) s ≡ tableBy words (withLink S a (stepped d a) s)
   link-stores words u v dis h k =
       let b = back-small d in
@@ -392,7 +389,7 @@ module _ (S : State) (sound : Sound S) (e : Corner) (s : ℕ) (deep : isRoot e �
           z = replicate width 0
 
 -- ---- a visit counted, and taken back: words 18 and 20 of one row
-pub two-words : (S T : State) (e : Corner) (words r x y : ℕ) → Distinct (S .nodes) → refOf (S .nodes) e ≡ suc r → T .nodes ≡ S .nodes → ((p q : Corner) → T .step p q ≡ S .step p q) → ((p : Corner) → T .need p ≡ S .need p) → ((p q : Corner) → T .edges p q ≡ S .edges p q)
+two-words : (S T : State) (e : Corner) (words r x y : ℕ) → Distinct (S .nodes) → refOf (S .nodes) e ≡ suc r → T .nodes ≡ S .nodes → ((p q : Corner) → T .step p q ≡ S .step p q) → ((p : Corner) → T .need p ≡ S .need p) → ((p q : Corner) → T .edges p q ≡ S .edges p q)
     → ((p : Corner) → (p ≡ e → ⊥) → (T .visits p ≡ S .visits p) × (T .first p ≡ S .first p)) → T .visits e ≡ x → T .first e ≡ y
     → set (set (tableBy words S) (wordAt r visitsWord) x) (wordAt r firstWord) y ≡ tableBy words T
 two-words S T e words r x y d h n l m g f p q =
@@ -420,7 +417,7 @@ two-words S T e words r x y d h n l m g f p q =
         ∙ words-cong (fieldsBy S z) (fieldsBy T z) (up z) (λ k i j. kid z k) (λ k i. side z k) (λ k i. sym (l z (stepped k z))) (sym (f z o .0)) (sym (m z)) (sym (f z o .1)) (λ k i. sym (g z (stepped k z))))
 
 -- the second of the two stores changes nothing where the word is there already
-pub one-word : (S T : State) (e : Corner) (words r x : ℕ) → Distinct (S .nodes) → refOf (S .nodes) e ≡ suc r → T .nodes ≡ S .nodes → ((p q : Corner) → T .step p q ≡ S .step p q) → ((p : Corner) → T .need p ≡ S .need p) → ((p q : Corner) → T .edges p q ≡ S .edges p q)
+one-word : (S T : State) (e : Corner) (words r x : ℕ) → Distinct (S .nodes) → refOf (S .nodes) e ≡ suc r → T .nodes ≡ S .nodes → ((p q : Corner) → T .step p q ≡ S .step p q) → ((p : Corner) → T .need p ≡ S .need p) → ((p q : Corner) → T .edges p q ≡ S .edges p q)
     → ((p : Corner) → (p ≡ e → ⊥) → (T .visits p ≡ S .visits p) × (T .first p ≡ S .first p)) → T .visits e ≡ x → T .first e ≡ S .first e
     → set (tableBy words S) (wordAt r visitsWord) x ≡ tableBy words T
 one-word S T e words r x d h n l m g f p q =

@@ -31,7 +31,7 @@ use Rattle.table_laws.proofs.StoreLaws.{far-pos, alike-table, unlink-ta
 module _ (words : ℕ) (S : State) (sound : Sound S) (s : ℕ) (pos : 0 < s) where
   module _ (z : Corner) (d : ℕ) (dir : d < 4) (small : (x y : Corner) → S .step x y < s) where
     module _ (t : List ℕ) (u : ℕ) (k : UnlinkAt words S s z d t u) where
-      pub unlink-reads : getD t (wordAt u (linkWord d)) 0 ≡ k .links (k .at) (stepped d (k .at))
+      unlink-reads : getD t (wordAt u (linkWord d)) 0 ≡ k .links (k .at) (stepped d (k .at))
       unlink-reads = ap (λ (x : List ℕ). getD x (wordAt u (linkWord d)) 0) (k .table) ∙ read-step words (unlinking S s z (k .links)) (k .at) u (k .here) d dir
 
       -- the test fails: all is done
@@ -56,7 +56,7 @@ module _ (words : ℕ) (S : State) (sound : Sound S) (s : ℕ) (pos : 0 < s) whe
           (omega (arith, w, g), omega (arith, w, g))
 
       -- the link cleared
-      pub unlink-clears : getD t (wordAt u (linkWord d)) 0 ≡ s → unsetIn t u (getD t (wordAt u (neighbourWord d)) 0 - 1) d ≡ tableBy words (unlinking S s z (put (k .links) 0 (k .at) (stepped d (k .at))))
+      unlink-clears : getD t (wordAt u (linkWord d)) 0 ≡ s → unsetIn t u (getD t (wordAt u (neighbourWord d)) 0 - 1) d ≡ tableBy words (unlinking S s z (put (k .links) 0 (k .at) (stepped d (k .at))))
       unlink-clears e =
           ap (λ (x : List ℕ). unsetIn x u (getD t (wordAt u (neighbourWord d)) 0 - 1) d) (k .table)
           ∙ unlink-table (unlinking S s z (k .links)) (k .at) d words u (getD t (wordAt u (neighbourWord d)) 0 - 1) dir (distinct-gather same same-sound same-refl (S .nodes) (pathOf z) (sound .good .distinct)) (k .here) (unlink-to (omega (arith, e, pos)) .1)
@@ -126,7 +126,7 @@ module _ (words : ℕ) (S : State) (sound : Sound S) (s : ℕ) (pos : 0 < s) whe
         has : List·Memᴰ (parentOf h) (gather same (S .nodes) (pathOf (parentOf h)))
         has = mem-gather-right same same-sound same-refl (S .nodes) (pathOf (parentOf h)) (mem-path (parentOf h))
 
-        pub drop-last : length (gather same (S .nodes) (pathOf (parentOf h))) ≡ u
+        drop-last : length (gather same (S .nodes) (pathOf (parentOf h))) ≡ u
         drop-last =
             let w : suc (length (gather same (S .nodes) (pathOf (parentOf h)))) ≡ suc u = sym (ref-snoc (gather same (S .nodes) (pathOf (parentOf h))) h (drop-fresh (S .nodes) (sound .good .closed) top (S .need) s small h new)) ∙ ap (λ (l : List Corner). refOf l h) (sym grew) ∙ k .here in
             omega arith
@@ -134,7 +134,7 @@ module _ (words : ℕ) (S : State) (sound : Sound S) (s : ℕ) (pos : 0 < s) whe
         pub drop-left : left ≡ suc u
         drop-left = omega (arith, k .count, ap length grew, length-append (gather same (S .nodes) (pathOf (parentOf h))) (h ∷ []), drop-last)
 
-        pub drop-parent : refOf (gather same (S .nodes) (pathOf (parentOf h))) (parentOf h) ≡ suc (getD t (wordAt u parentWord) 0 - 1)
+        drop-parent : refOf (gather same (S .nodes) (pathOf (parentOf h))) (parentOf h) ≡ suc (getD t (wordAt u parentWord) 0 - 1)
         drop-parent =
             let w : getD t (wordAt u parentWord) 0 ≡ refOf (gather same (S .nodes) (pathOf (parentOf h))) (parentOf h) = ap (λ (x : List ℕ). getD x (wordAt u parentWord) 0) (k .table) ∙ read-parent words (unlinking S s h (S .step)) h u (k .here) ∙ rw deep (ap (λ (l : List Corner). refOf l (parentOf h)) grew ∙ ref-append (gather same (S .nodes) (pathOf (parentOf h))) (h ∷ []) (parentOf h) has) in
             omega (arith, ref-pos (gather same (S .nodes) (pathOf (parentOf h))) (parentOf h) has)

@@ -20,10 +20,10 @@ use Rattle.trace.proofs.TraceCases as cases
 
 -- place k of a list is the first that equals an earlier one, which is place j
 record FirstIn (ps : List Corner) (j k : ℕ) : Type 0 where
-  pub earlier : j < k
+  earlier : j < k
   pub inside : k < length ps
-  pub equal : getD ps j origin ≡ getD ps k origin
-  pub fresh : Distinct (take k ps)
+  equal : getD ps j origin ≡ getD ps k origin
+  fresh : Distinct (take k ps)
 
 abbrev SaysIn : List Corner → Meeting → Type 0
 SaysIn ps none = Distinct ps
@@ -71,7 +71,7 @@ module _ (c : Corner) (ds : List ℕ) where
           (t i (omega (arith, x .earlier)) ∙ places i m x ∙ sym (t m h))
 
 -- what is said by the first meeting, or by there being none
-abbrev pub MeetingSays : Corner → List ℕ → Meeting → Type 0
+abbrev MeetingSays : Corner → List ℕ → Meeting → Type 0
 MeetingSays c ds none = (j k : ℕ) → Meets c ds j k → ⊥
 MeetingSays c ds (meet j k) = FirstMeets c ds j k
 

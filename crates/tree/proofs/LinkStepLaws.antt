@@ -26,7 +26,7 @@ nowhere = (origin, origin)
 
 module _ (p q a b : Corner) where
   -- a step links two nodes exactly at a level where its ends' parents are these
-  pub links-level : links a b (p, q) ≡ true → (i : ℕ) × JoinedAt i p q a b
+  links-level : links a b (p, q) ≡ true → (i : ℕ) × JoinedAt i p q a b
   links-level e =
       let h = any-at (joins a b) (zip (lineageOf p) (lineageOf q)) nowhere e in
       let i = h .0 in
@@ -44,7 +44,7 @@ module _ (p q a b : Corner) where
             (joins-cases a b x y j),
       )
 
-  pub level-links : (i : ℕ) → JoinedAt i p q a b → links a b (p, q) ≡ true
+  level-links : (i : ℕ) → JoinedAt i p q a b → links a b (p, q) ≡ true
   level-links i j = ⊎-elim (λ k. by a b (k .0) (k .1) (joins-here a b)) (λ k. by b a (k .0) (k .1) (joins-there b a)) j
     where
       by : (x y : Corner) → AncestorAt i p x → AncestorAt i q y → joins a b (x, y) ≡ true → links a b (p, q) ≡ true
@@ -93,7 +93,7 @@ link-inUse ps a b k l = ⊎-elim (λ j. (ends (pred k) a (omega (arith, l .count
     ends m x h u = (getD ps m origin, mem-getD ps m origin h, (l .level, u))
 
 -- a link goes both ways, with one step
-links-over : (x y p q : Corner) → links x y (p, q) ≡ true → links y x (p, q) ≡ true
+pub links-over : (x y p q : Corner) → links x y (p, q) ≡ true → links y x (p, q) ≡ true
 links-over x y p q e = let h = links-level p q x y e in level-links p q y x (h .0) (⊎-elim (λ k. inr k) (λ k. inl k) (h .1))
 
 pub link-both-ways : (ps : List Corner) (a : Corner) (d : ℕ) → linkStepOf ps a d ≡ linkStepOf ps (stepped d a) (back d)

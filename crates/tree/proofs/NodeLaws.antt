@@ -29,7 +29,7 @@ nodesOf-snoc ps p =
     ap (gather same []) (pathsOf-append ps (p ∷ []) ∙ ap (λ (l : List Corner). pathsOf ps ++ l) (append-nil (pathOf p)))
     ∙ gather-append same [] (pathsOf ps) (pathOf p)
 
-pub nodesOf-extend : (ps : List Corner) (p : Corner) → (r : List Corner) × (nodesOf (ps ++ (p ∷ [])) ≡ nodesOf ps ++ r)
+nodesOf-extend : (ps : List Corner) (p : Corner) → (r : List Corner) × (nodesOf (ps ++ (p ∷ [])) ≡ nodesOf ps ++ r)
 nodesOf-extend ps p = let h = gather-more same (nodesOf ps) (pathOf p) in (h .0, nodesOf-snoc ps p ∙ h .1)
 
 pub nodesOf-distinct : (ps : List Corner) → Distinct (nodesOf ps)
@@ -73,7 +73,7 @@ mem-paths-cases (p ∷ ps) {a} m =
     (λ k. let h = mem-paths-cases ps k in (h .0, List·Memᴰ·tail (h .1), h .2))
     (List·Memᴰ·append-cases (pathOf p) m)
 
-pub nodes-grow : (c : Corner) (s : List ℕ) (d : ℕ) → length (nodesOf (cornersFrom c s)) ≤ length (nodesOf (cornersFrom c (s ++ (d ∷ []))))
+nodes-grow : (c : Corner) (s : List ℕ) (d : ℕ) → length (nodesOf (cornersFrom c s)) ≤ length (nodesOf (cornersFrom c (s ++ (d ∷ []))))
 nodes-grow c s d =
     let h = nodesOf-extend (cornersFrom c s) (stepped d (endFrom c s)) in
     omega (arith, ap (λ (l : List Corner). length (nodesOf l)) (cornersFrom-snoc c s d), ap length (h .1), length-append (nodesOf (cornersFrom c s)) (h .0))

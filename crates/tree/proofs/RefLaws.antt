@@ -36,7 +36,7 @@ not-any x s f = go (any (same x) s) refl
     go false e = e
 
 -- the place of an element of a list with no repeats
-pub find-at : (s t : List Corner) (c : Corner) → Distinct (s ++ (c ∷ t)) → find (same c) (s ++ (c ∷ t)) ≡ length s + 1
+find-at : (s t : List Corner) (c : Corner) → Distinct (s ++ (c ∷ t)) → find (same c) (s ++ (c ∷ t)) ≡ length s + 1
 find-at s t c d =
     let one : find (same c) (c ∷ t) ≡ 1 = rw (same-refl c, find) in
     find-right (same c) s (c ∷ t) (not-any c s (distinct-split s t c d)) (omega (arith, one)) ∙ ap (λ (n : ℕ). length s + n) one

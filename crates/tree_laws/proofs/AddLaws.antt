@@ -1,6 +1,6 @@
 -- One node more: refs and child words.
 -- Assumes nothing.
-use mathlib.Core.Bool.{Bool, true, false, cond, not, _&&_, _||_, false≢true}
+use mathlib.Core.Bool.{Bool, true, false, cond, not, _&&_, _||_}
 use mathlib.Core.List.{List, [], _∷_, _++_, append-nil, append-assoc, List·Memᴰ, List·Memᴰ·not-nil, List·Memᴰ·eq-of-singleton, Memᴰ·append-right, List·Memᴰ·append-cases, Memᴰ·cast}
 use mathlib.Core.Logic.{_⊎_, inl, inr, ⊎-elim}
 use mathlib.Core.Path.{_≡_, refl, ap, sym, _∙_, subst}
@@ -20,6 +20,7 @@ use Rattle.grid.proofs.PathLaws.{sizeOf-parentOf, pathOf-root, pathOf-snoc, tre
 use Rattle.layout.proofs.ChildLaws.{child-ref}
 use Rattle.lists.proofs.FindLaws.{find-pos, find-left, find-none, any-append, any-some}
 use Rattle.lists.proofs.GatherLaws.{and-left, and-right, add-cases, any→mem, mem→any, not-mem}
+use Rattle.lists.proofs.BoolLaws.{not-true, is-false}
 use Rattle.tree.proofs.NodeLaws.{mem-path}
 use Rattle.tree.proofs.RefLaws.{not-any}
 use Rattle.tree_laws.proofs.LaterLaws.{later-new, later-none, find-snoc}
@@ -43,10 +44,6 @@ ref-snoc ns e f = find-snoc (same e) ns e ∙ later-new (refOf ns e) (same e e) 
 child-test : Corner → ℕ → Corner → Bool
 child-test a w x = not (isRoot x) && same (parentOf x) a && eqb (childWord x) w
 
-not-true : (b : Bool) → not b ≡ true → b ≡ false
-not-true true e = absurd (false≢true e)
-not-true false e = refl
-
 child-test-is : (a : Corner) (w : ℕ) (x : Corner) → child-test a w x ≡ true → (isRoot x ≡ false) × (parentOf x ≡ a) × (childWord x ≡ w)
 unfolding child-test
 child-test-is a w x e =
@@ -55,10 +52,6 @@ child-test-is a w x e =
     let v = eqb (childWord x) w in
     let h = and-left (n && p) v e in
     (not-true (isRoot x) (and-left n p h), same-sound (parentOf x) a (and-right n p h), eqb-true (childWord x) w (and-right (n && p) v e))
-
-is-false : (b : Bool) → (b ≡ true → ⊥) → b ≡ false
-is-false true f = absurd (f refl)
-is-false false f = refl
 
 -- no word but its own changes for a new node
 pub child-other : (ns : List Corner) (e a : Corner) (w : ℕ) → (a ≡ parentOf e → w ≡ childWord e → ⊥) → childRefOf (ns ++ (e ∷ [])) a w ≡ childRefOf ns a w

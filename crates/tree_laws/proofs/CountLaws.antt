@@ -18,11 +18,12 @@ use Rattle.trace.specs.Meeting.{visitedOf}
 use Rattle.tree.specs.Nodes.{pathsOf, nodesOf}
 use Rattle.grid.proofs.CornerLaws.{same-refl, same-sound}
 use Rattle.grid.proofs.PathLaws.{pathOf-root, pathOf-snoc, natAbs-halfOf, root-of-size}
-use Rattle.lists.proofs.GatherLaws.{Distinct, gather-more, add-cases, distinct-gather, mem-add, mem-add-cases, mem-gather-left, mem-gather-right, mem-gather-cases, mem→any, any→mem}
+use Rattle.lists.proofs.GatherLaws.{Distinct, gather-more, add-cases, distinct-gather, mem-add, mem-add-cases, mem-gather-left, mem-gather-right, mem-gather-cases, any→mem}
 use Rattle.lists.proofs.PigeonLaws.{pigeon}
 use Rattle.tree.proofs.LinkLaws.{Near, near-parent}
 use Rattle.tree.proofs.NodeLaws.{mem-paths, mem-paths-cases}
 use Rattle.tree_laws.proofs.ClassLaws.{class, step-class, members, in-members}
+use Rattle.tree_laws.proofs.LevelLaws.{root-is, add-known}
 
 -- each corner is at, or one step from, the one before it
 abbrev Trail : Corner → List Corner → Type 0
@@ -38,9 +39,6 @@ near-class d p q (inl e) = inl (ap parentOf e)
 near-class d p q (inr e) = ⊎-map (λ h. ap parentOf e ∙ h) (λ h. ap class e ∙ h) (step-class d p)
 
 -- adding what is there changes nothing; adding anything adds at most one
-add-known : (s : List Corner) (x : Corner) → List·Memᴰ x s → add same s x ≡ s
-add-known s x m = ⊎-elim (λ h. h .1) (λ h. absurd (true≢false (sym (mem→any same same-sound same-refl m) ∙ h .0))) (add-cases same s x)
-
 add-length : (s : List Corner) (x : Corner) → length (add same s x) ≤ length s + 1
 add-length s x = ⊎-elim (λ h. rw (h .1) (omega arith)) (λ h. rw (h .1) (omega (arith, length-append s (x ∷ [])))) (add-cases same s x)
 
@@ -144,9 +142,6 @@ record Cover (qs : List Corner) : Type 0 where
   list : List Corner
   holds : (a : Corner) → List·Memᴰ a (pathsOf (origin ∷ qs)) → List·Memᴰ a list
   short : length list + 3 ≤ 4 * length (gather same (origin ∷ []) qs)
-
-root-is : (c : Corner) → isRoot c ≡ true → c ≡ root
-root-is c e = same-sound c root e
 
 path-root : (p a : Corner) → isRoot p ≡ true → List·Memᴰ a (pathOf p) → a ≡ root
 path-root p a e m = List·Memᴰ·eq-of-singleton (subst (λ l. List·Memᴰ a l) (pathOf-root p e) m) ∙ root-is p e

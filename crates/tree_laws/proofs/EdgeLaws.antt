@@ -98,10 +98,10 @@ share-one p (suc (suc (suc zero))) h = (stepped 3 p, inr refl, omega (arith, the
 share-one p (suc (suc (suc (suc d)))) h = absurd (omega arith)
 
 -- steps, each from some corner in some direction, with their ends among the nodes
-abbrev Walked : List Corner → Corner × Corner → Type 0
-Walked ns l = (d : ℕ) × (d < 4) × (l .1 ≡ stepped d (l .0)) × List·Memᴰ (l .0) ns × List·Memᴰ (l .1) ns
+abbrev IsLeg : List Corner → Corner × Corner → Type 0
+IsLeg ns l = (d : ℕ) × (d < 4) × (l .1 ≡ stepped d (l .0)) × List·Memᴰ (l .0) ns × List·Memᴰ (l .1) ns
 
-all-counted : (ns : List Corner) → Distinct ns → (ls : List (Corner × Corner)) → ((l : Corner × Corner) → List·Memᴰ l ls → Walked ns l)
+all-counted : (ns : List Corner) → Distinct ns → (ls : List (Corner × Corner)) → ((l : Corner × Corner) → List·Memᴰ l ls → IsLeg ns l)
     → total (λ a. count (joins a (stepped 0 a)) ls + count (joins a (stepped 1 a)) ls) ns ≡ length ls
 all-counted ns d [] h = total-zero (λ a. 0) ns (λ a m. refl)
 all-counted ns d (l ∷ ls) h =

@@ -15,8 +15,9 @@ use Rattle.grid.proofs.AncestorLaws.{lineageOf-root, lineageOf-cons, mem-path}
 use Rattle.grid.proofs.PathLaws.{sizeOf-parentOf, pathOf-snoc, tree-ind}
 use Rattle.lists.proofs.FindLaws.{bool-agree}
 use Rattle.lists.proofs.GatherLaws.{or-cases, or-right}
-use Rattle.grid.proofs.JoinLaws.{joins-cases, joins-here, joins-there, joins-flip}
+use Rattle.grid.proofs.JoinLaws.{joins-cases, joins-here, joins-there}
 use Rattle.tree.proofs.LinkLaws.{zip-nil}
+use Rattle.tree.proofs.LinkStepLaws.{links-over}
 
 or-nothing : (b : Bool) → (b || false) ≡ b
 or-nothing true = refl
@@ -56,13 +57,6 @@ links-ind P x y here up =
     (λ a e h k. here a e (sym (links-left x y a e h) ∙ k))
     (λ a e h k. here a e (sym (links-right x y a e h) ∙ k))
     (λ a e h i ih k. ⊎-elim (here a e) (λ m. up a e h i (ih m)) (or-cases (joins x y (a, e)) (links x y (parentOf a, parentOf e)) (sym (links-step x y a e h i) ∙ k)))
-
--- a leg that goes one way links both ways
-links-over : (x y a e : Corner) → links x y (a, e) ≡ true → links y x (a, e) ≡ true
-links-over x y =
-    links-ind (λ a e. links y x (a, e) ≡ true) x y
-    (λ a e h. rw (sym (joins-flip x y (a, e)) ∙ h))
-    (λ a e h i k. links-step y x a e h i ∙ or-right (joins y x (a, e)) k)
 
 pub links-flip : (x y a e : Corner) → links x y (a, e) ≡ links y x (a, e)
 links-flip x y a e = bool-agree (links x y (a, e)) (links y x (a, e)) (links-over x y a e) (links-over y x a e)

@@ -16,12 +16,12 @@ use Rattle.lists.specs.Lists.{any, find, count, gather, zip, tally, Below}
 use Rattle.trace.specs.Meeting.{visitedOf}
 use Rattle.tree.specs.Nodes.{pathsOf, nodesOf, links}
 use Rattle.grid.proofs.CornerLaws.{same-refl, same-sound}
-use Rattle.grid.proofs.PathLaws.{pathOf-root, pathOf-snoc, tree-ind}
 use Rattle.grid.proofs.StepLaws.{length-cornersFrom, endFrom-mem, cornersFrom-snoc}
 use Rattle.lists.proofs.CountLaws.{count-cong}
 use Rattle.lists.proofs.FindLaws.{find-cong, bool-agree, find-le, find-pos, count-snoc, count-none, count-any, not-found, find-none, find-any, any-mem, any-some}
 use Rattle.lists.proofs.GatherLaws.{gather-more, gather-append, add-cases, any→mem, mem→any, not-mem, mem-gather-right, mem-gather-cases}
 use Rattle.grid.proofs.JoinLaws.{joins-cases, joins-flip}
+use Rattle.grid.proofs.AncestorLaws.{pathOf-first}
 use Rattle.tree.proofs.NodeLaws.{mem-path, nodesOf-snoc, nodesOf-distinct, mem-paths, mem-paths-cases}
 use Rattle.tree.proofs.RefLaws.{not-any, ref-parent}
 use Rattle.tree_laws.proofs.LaterLaws.{later-old, later-new, later-none, find-snoc}
@@ -70,16 +70,9 @@ leg-step c [] b l m = absurd (List·Memᴰ·not-nil m)
 leg-step c (x ∷ []) b l m = ⊎-elim (λ e. (x, b .0, ap (λ (k : Corner × Corner). k .1) e ∙ sym (ap (λ (k : Corner × Corner). stepped x (k .0)) e))) (λ k. absurd (List·Memᴰ·not-nil k)) (List·Memᴰ·cases-cons m)
 leg-step c (x ∷ y ∷ ds) b l m = ⊎-elim (λ e. (x, b .0, ap (λ (k : Corner × Corner). k .1) e ∙ sym (ap (λ (k : Corner × Corner). stepped x (k .0)) e))) (λ k. leg-step (stepped x c) (y ∷ ds) (b .1) l k) (List·Memᴰ·cases-cons m)
 
--- a path begins at the root
-pub path-first : (c : Corner) → (r : List Corner) × (pathOf c ≡ root ∷ r)
-path-first =
-    tree-ind (λ c. (r : List Corner) × (pathOf c ≡ root ∷ r))
-    (λ c e. ([], pathOf-root c e ∙ ap (λ (x : Corner). x ∷ []) (same-sound c root e)))
-    (λ c e ih. (ih .0 ++ (c ∷ []), pathOf-snoc c e ∙ ap (λ (l : List Corner). l ++ (c ∷ [])) (ih .1)))
-
 paths-first : (c : Corner) (ds : List ℕ) → (r : List Corner) × (pathsOf (cornersFrom c ds) ≡ root ∷ r)
-paths-first c [] = let h = path-first c in (h .0 ++ [], ap (λ (l : List Corner). l ++ []) (h .1))
-paths-first c (d ∷ ds) = let h = path-first c in (h .0 ++ pathsOf (cornersFrom (stepped d c) ds), ap (λ (l : List Corner). l ++ pathsOf (cornersFrom (stepped d c) ds)) (h .1))
+paths-first c [] = let h = pathOf-first c in (h .0 ++ [], ap (λ (l : List Corner). l ++ []) (h .1))
+paths-first c (d ∷ ds) = let h = pathOf-first c in (h .0 ++ pathsOf (cornersFrom (stepped d c) ds), ap (λ (l : List Corner). l ++ pathsOf (cornersFrom (stepped d c) ds)) (h .1))
 
 -- the invariant holds after every walk
 pub good-walk : (c : Corner) (ds : List ℕ) → WellLinked (nodesOf (cornersFrom c ds)) (stateOf (cornersFrom c ds) .step)

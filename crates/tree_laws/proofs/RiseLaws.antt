@@ -1,7 +1,7 @@
 -- The nodes whose records a step changes: its two ends, above them the ends of the links that it makes, and the parent of the topmost node
 -- that it makes. Each stands once.
 -- Assumes nothing.
-use mathlib.Core.Bool.{Bool, true, false, cond, not, _&&_, true≢false, false≢true}
+use mathlib.Core.Bool.{Bool, true, false, cond, not, _&&_, true≢false}
 use mathlib.Core.List.{List, [], _∷_, _++_, List·Memᴰ, List·Memᴰ·head, List·Memᴰ·tail, List·Memᴰ·not-nil, List·Memᴰ·cases-cons, List·Memᴰ·append-cases, List·Memᴰ·eq-of-singleton, Memᴰ·append-right, Memᴰ·cast}
 use mathlib.Core.Logic.{_⊎_, inl, inr, ⊎-elim}
 use mathlib.Core.Path.{_≡_, refl, ap, sym, _∙_, subst}
@@ -20,14 +20,11 @@ use Rattle.grid.proofs.ParentLaws.{parentOf-stepped}
 use Rattle.grid.proofs.PathLaws.{sizeOf-parentOf, root-of-size}
 use Rattle.grid.proofs.StepLaws.{back, stepped-back, stepped-ne}
 use Rattle.lists.proofs.GatherLaws.{and-left, and-right, any→mem, not-mem, mem-add-cases}
+use Rattle.lists.proofs.BoolLaws.{not-true}
 use Rattle.tree.proofs.RefLaws.{not-any}
 use Rattle.tree_laws.specs.State.{WellLinked, linksUp, isFresh, but, risenBy}
 use Rattle.tree_laws.proofs.CountLaws.{within-parent}
 use Rattle.tree_laws.proofs.LevelLaws.{root-is, root-known, nodes-known, nodes-step}
-
-not-true : (b : Bool) → not b ≡ true → b ≡ false
-not-true true e = absurd (false≢true e)
-not-true false e = refl
 
 differ : (a e : Corner) → same a e ≡ false → a ≡ e → ⊥
 differ a e p q = true≢false (sym (same-refl e) ∙ ap (λ (x : Corner). same x e) (sym q) ∙ p)

@@ -42,7 +42,7 @@ room-fits r c k s o os h = rw (le-ltb r (needs c s) h)
 pub room-end : (r : ℕ) (c : Corner) (k : ℕ) (s : List ℕ) → needs c s ≤ r → roomFrom r c k s [] ≡ Good
 room-end r c k s h = rw (le-ltb r (needs c s) h)
 
-pub room-steps : (r : ℕ) (c : Corner) (k : ℕ) (s ds : List ℕ) → Below 4 ds → needs c (s ++ ds) ≤ r → roomFrom r c k s ds ≡ Good
+room-steps : (r : ℕ) (c : Corner) (k : ℕ) (s ds : List ℕ) → Below 4 ds → needs c (s ++ ds) ≤ r → roomFrom r c k s ds ≡ Good
 room-steps r c k s [] b h = room-end r c k s (rw (append-nil s) at h)
 room-steps r c k s (d ∷ ds) b h =
     let e : operate s d ≡ s ++ (d ∷ []) = operate-step s d (b .0) in

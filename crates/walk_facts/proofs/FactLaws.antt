@@ -43,7 +43,7 @@ change (suc (suc (suc d))) c = pred-sub (c .1)
 times-gain : (d : ℕ) (c : Corner) → c .0 *ℤ (stepped d c .1 -ℤ c .1) ≡ gain d (c .0)
 times-gain d c = ap (λ (z : ℤ). c .0 *ℤ z) (change d c)
 
-pub sweep-next : (w : ℤ) (sum : ℤ) (c : Corner) (ds : List ℕ) (i : ℕ) → i < length ds → w ≡ sum +ℤ sweepFrom c (drop i ds)
+sweep-next : (w : ℤ) (sum : ℤ) (c : Corner) (ds : List ℕ) (i : ℕ) → i < length ds → w ≡ sum +ℤ sweepFrom c (drop i ds)
     → w ≡ (sum +ℤ gain (getD ds i 0) (c .0)) +ℤ sweepFrom (stepped (getD ds i 0) c) (drop (i + 1) ds)
 sweep-next w sum c ds i h e =
     let d = getD ds i 0 in
@@ -60,7 +60,7 @@ gain-bound (suc zero) x = omega (arith, ap natAbs (times-one x))
 gain-bound (suc (suc zero)) x = omega (arith, ap natAbs (*ℤ-zero x))
 gain-bound (suc (suc (suc d))) x = omega (arith, ap natAbs (*ℤ-negsuc x 0 ∙ ap negℤ (times-one x)), abs-neg x)
 
-pub sum-bound : (sum x : ℤ) (d i : ℕ) → natAbs sum ≤ i * 32768 → natAbs x ≤ 32768 → natAbs (sum +ℤ gain d x) ≤ (i + 1) * 32768
+sum-bound : (sum x : ℤ) (d i : ℕ) → natAbs sum ≤ i * 32768 → natAbs x ≤ 32768 → natAbs (sum +ℤ gain d x) ≤ (i + 1) * 32768
 sum-bound sum x d i h k = omega (arith, abs+ sum (gain d x), gain-bound d x)
 
 -- one step more of the sum over the first n steps

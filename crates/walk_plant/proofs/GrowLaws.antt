@@ -136,7 +136,7 @@ module _ (words : ℕ) (c : Corner) (t : List ℕ) (r : ℕ) (k : Grown words c 
   nodes : length (nodesOf (cornersFrom c [])) ≡ length (pathOf c)
   nodes = ap length (nodes-start c)
 
-  pub grown-fits : (r ≡ 0 → ⊥) → width * length (pathOf c) ≤ words
+  grown-fits : (r ≡ 0 → ⊥) → width * length (pathOf c) ≤ words
   grown-fits f = elim (decLt words (width * length (pathOf c))) [ yes h ↦ absurd (f (k .full h)) | no h ↦ omega arith ]
 
   pub planted-none : (t′ : List ℕ) → r ≡ 0 → t′ ≡ replicate words 0 → Planted words c t′ 0

@@ -100,7 +100,7 @@ module _ (c : Corner) (t ch ds : List ℕ) (w : Walk) (k : Chained c t ch ds w) 
 
   -- its mark
   module _ (words : ℕ) (l : length t ≡ words) where
-    pub chained-bounds : (wordAt (w .spot .node) visitsWord < length t) × (width * w .spot .nodes ≤ words)
+    chained-bounds : (wordAt (w .spot .node) visitsWord < length t) × (width * w .spot .nodes ≤ words)
     chained-bounds =
         let h = k .known .walked in
         (bound (w .spot .node) (length (nodesOf (cornersFrom c ds))) (w .spot .nodes) (length t) (ref-below (nodesOf (cornersFrom c ds)) (endFrom c ds) (w .spot .node) (h .here)) (h .count) (h .room), subst (λ (n : ℕ). width * w .spot .nodes ≤ n) l (h .room))
@@ -108,7 +108,7 @@ module _ (c : Corner) (t ch ds : List ℕ) (w : Walk) (k : Chained c t ch ds w) 
         bound : (a n m l : ℕ) → a < n → m ≡ n → width * m ≤ l → wordAt a visitsWord < l
         bound a n m l p q s = omega arith
 
-  pub chained-mark : (cs ms ms′ : List ℕ) (i n : ℕ) → n ≡ changesOf c cs ds → ms′ ≡ set (set (set ms (markWords * i) (w .spot .nodes)) (markWords * i + 1) (getD t (wordAt (w .spot .node) visitsWord) 0)) (markWords * i + 2) n → ms′ ≡ sets ms (markWords * i) (markOf c cs ds)
+  chained-mark : (cs ms ms′ : List ℕ) (i n : ℕ) → n ≡ changesOf c cs ds → ms′ ≡ set (set (set ms (markWords * i) (w .spot .nodes)) (markWords * i + 1) (getD t (wordAt (w .spot .node) visitsWord) 0)) (markWords * i + 2) n → ms′ ≡ sets ms (markWords * i) (markOf c cs ds)
   chained-mark cs ms ms′ i n z q =
       let h = k .known .walked in
       let j₁ : markWords * i + 1 ≡ suc (markWords * i) = omega arith in

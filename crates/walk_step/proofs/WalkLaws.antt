@@ -30,7 +30,7 @@ visited-few c ds = omega (arith, gather-le same [] (cornersFrom c ds), length-co
 pub corners-some : (t : List ℕ) (c : Corner) (ds : List ℕ) (w : Walk) → Known t c ds w → 0 < w .tally .corners
 corners-some t c ds w k = subst (λ (n : ℕ). 0 < n) (sym (k .counted .seen)) (visited-some c ds)
 
-pub corners-few : (t : List ℕ) (c : Corner) (ds : List ℕ) (w : Walk) → Known t c ds w → w .tally .corners ≤ w .spot .steps + 1
+corners-few : (t : List ℕ) (c : Corner) (ds : List ℕ) (w : Walk) → Known t c ds w → w .tally .corners ≤ w .spot .steps + 1
 corners-few t c ds w k = less (w .tally .corners) (length (visitedOf (cornersFrom c ds))) (length ds) (w .spot .steps) (k .counted .seen) (visited-few c ds) (k .walked .steps)
   where
     less : (a b n s : ℕ) → a ≡ b → b ≤ n + 1 → s ≡ n → a ≤ s + 1

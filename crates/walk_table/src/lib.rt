@@ -45,7 +45,7 @@ pub fn put(t: &mut [u32], r: usize, f: usize, v: u32)
 }
 
 // Sets the ref of the neighbour in the direction d and that link's step, in the record u.
-pub fn put_link(t: &mut [u32], u: usize, d: usize, to: u32, step: u32)
+fn put_link(t: &mut [u32], u: usize, d: usize, to: u32, step: u32)
     requires { ⌜ HasRecord (now t) u × (d < 4) ⌝ }
     ensures { λ _. ⌜ now (t .exit) ≡ set (set (now (t .entry)) (wordAt u (neighbourWord d)) to) (wordAt u (linkWord d)) step ⌝ }
 {

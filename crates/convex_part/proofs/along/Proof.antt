@@ -5,8 +5,9 @@ use native.Mathlib.Omega.{arith}
 use mathlib.Core.Path.{_≡_, refl, sym, _∙_}
 use Prim.Native.Nat.{_+_, _-_, _≤_}
 use lib.ListN.{length, drop}
+use Rattle.lists.proofs.BoolLaws.{not-true, not-false}
 use Rattle.convex_laws.specs.Level.{levelAlong}
-use Rattle.convex_part.proofs.PassLaws.{not-true, not-false, along-here, along-next, along-none}
+use Rattle.convex_part.proofs.PassLaws.{along-here, along-next, along-none}
 use Rattle.convex_part.proofs.along.Statement.{statement}
 use Rattle.convex_part.proofs.along.Tie as tie
 

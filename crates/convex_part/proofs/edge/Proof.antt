@@ -4,8 +4,9 @@ use borrow.Author.Needs.{needs}
 use native.Mathlib.Omega.{arith}
 use mathlib.Core.Path.{_≡_, refl, sym, _∙_}
 use Prim.Native.Nat.{_+_, _-_, _≤_}
+use Rattle.lists.proofs.BoolLaws.{not-true, not-false}
 use Rattle.convex_laws.specs.Level.{levels}
-use Rattle.convex_part.proofs.PassLaws.{not-true, not-false, levels-here, levels-next, levels-none}
+use Rattle.convex_part.proofs.PassLaws.{levels-here, levels-next, levels-none}
 use Rattle.convex_part.proofs.edge.Statement.{statement}
 use Rattle.convex_part.proofs.edge.Tie as tie
 

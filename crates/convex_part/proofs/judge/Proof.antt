@@ -5,8 +5,9 @@ use native.Mathlib.Omega.{arith}
 use mathlib.Core.Path.{sym, _∙_}
 use lib.ListN.{length, take}
 use lib.Seq.{length-take-le}
+use Rattle.lists.proofs.BoolLaws.{not-true, not-false}
 use Rattle.convex.specs.Parts.{turnedBy}
-use Rattle.convex_part.proofs.PassLaws.{not-true, not-false, length-turned, judge-letters, judge-columns}
+use Rattle.convex_part.proofs.PassLaws.{length-turned, judge-letters, judge-columns}
 use Rattle.convex_part.proofs.judge.Statement.{statement}
 use Rattle.convex_part.proofs.judge.Tie as tie
 

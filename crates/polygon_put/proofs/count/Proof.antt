@@ -7,7 +7,8 @@ use native.Mathlib.Omega.{arith}
 use lib.ListN.{length}
 use Rattle.lists.specs.Lists.{tally}
 use Rattle.lists.proofs.BelowLaws.{below-getD}
-use Rattle.polygon_laws.proofs.BendLaws.{Counting, count-first, count-more, count-last, tally-le}
+use Rattle.lists.proofs.BoolLaws.{tally-le}
+use Rattle.polygon_laws.proofs.BendLaws.{Counting, count-first, count-more, count-last}
 use Rattle.polygon_put.proofs.count.Statement.{statement}
 use Rattle.polygon_put.proofs.count.Tie as tie
 

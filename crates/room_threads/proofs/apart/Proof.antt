@@ -6,8 +6,9 @@ use mathlib.Core.Path.{_≡_, refl, sym, _∙_, subst}
 use mathlib.Core.Bool.{Bool}
 use Prim.Native.Nat.{_+_, _-_, _≤_}
 use lib.ListN.{length, getD}
+use Rattle.lists.proofs.BoolLaws.{not-true, not-false}
 use Rattle.room_thread_laws.specs.Threads.{Leads, Followed, Parting}
-use Rattle.room_thread_laws.proofs.ThreadLaws.{not-true, not-false, part-start, part-step, part-twice, part-end}
+use Rattle.room_thread_laws.proofs.ThreadLaws.{part-start, part-step, part-twice, part-end}
 use Rattle.room_threads.proofs.apart.Statement.{statement}
 use Rattle.room_threads.proofs.apart.Tie as tie
 

@@ -3,8 +3,8 @@
 use borrow.Author.Needs.{needs}
 use native.Mathlib.Omega.{arith}
 use mathlib.Core.Path.{subst}
+use Rattle.lists.proofs.BoolLaws.{not-true, not-false}
 use Rattle.room_thread_laws.specs.Threads.{Closes}
-use Rattle.room_thread_laws.proofs.ThreadLaws.{not-true, not-false}
 use Rattle.room_thread_laws.proofs.RoomLaws.{told-short, told-open}
 use Rattle.room_threads.proofs.is_room.Statement.{statement}
 use Rattle.room_threads.proofs.is_room.Tie as tie
