@@ -1,6 +1,6 @@
 -- The laws of the way up from a walk's last step, as the proof of the code cites them.
 -- Assumes nothing.
-use mathlib.Core.Bool.{Bool, true, false, not, _&&_, true≢false, false≢true}
+use mathlib.Core.Bool.{true, false, not, _&&_, true≢false}
 use mathlib.Core.List.{List, [], _∷_, _++_}
 use mathlib.Core.Path.{_≡_, refl, ap, ap₂, sym, _∙_, subst}
 use Prim.Native.Nat.{ℕ, zero, suc, _+_, _-_, _*_, _%_, _<_, _≤_}
@@ -17,6 +17,7 @@ use Rattle.lists.specs.Lists.{gather, tally}
 use Rattle.tree.specs.Nodes.{nodesOf, refOf}
 use Rattle.tree_laws.specs.State.{State, stateOf, tableBy, linksUp}
 use Rattle.grid.proofs.StepLaws.{endFrom-snoc}
+use Rattle.lists.proofs.BoolLaws.{not-true}
 use Rattle.lists.proofs.GatherLaws.{and-left, and-right}
 use Rattle.tree_laws.proofs.PushLaws.{push-nodes, sound-walk, finish-node}
 use Rattle.table_laws.proofs.ChangeLaws.{after}
@@ -28,7 +29,7 @@ use Rattle.table_laws.proofs.WalkLaws.{from-kept}
 use Rattle.walk_step.proofs.SpotLaws.{back-linked}
 use Rattle.walk_step.specs.declared.Spot.{Spot}
 use Rattle.walk_step.specs.Spots.{Walked}
-use Rattle.walk_change.specs.Above.{ParentHeld}
+use Rattle.walk_change.specs.Above.{ParentHeld, LinkedAbove}
 
 module _ (c : Corner) (ds : List ℕ) (d : ℕ) (small : d < 4) where
   abbrev S : State
@@ -94,30 +95,37 @@ module _ (c : Corner) (ds : List ℕ) (d : ℕ) (small : d < 4) where
           whole = omega (arith, r .adds, changes-few c ds (ds ++ (d ∷ [])), ap length (push-nodes c ds d), room-old (nodesOf (cornersFrom c ds)) (pathOf (stepped d (endFrom c ds))), room)
 
       -- one level up
-      pub up-next : (x : ℕ) → x ≡ getD t (wordAt u parentWord) 0 → (not (eqb (getD t (wordAt u parentWord) 0) 0) && eqb (getD t (wordAt (getD t (wordAt u parentWord) 0 - 1) (linkWord d)) 0) (w .steps)) ≡ true
-          → (y : ℕ) → y ≡ getD t (wordAt (x - 1) (neighbourWord d)) 0 → (0 < x) × (0 < y) × (x - 1 < u) × Up (x - 1) (y - 1) (sum + (tally (not (eqb (x - 1) v)) + tally (not (eqb (y - 1) u))))
-      unfolding Up
-      up-next x e h y i =
-          let n = not (eqb (getD t (wordAt u parentWord) 0) 0) in
-          let l = eqb (getD t (wordAt (getD t (wordAt u parentWord) 0 - 1) (linkWord d)) 0) (w .steps) in
-          let pos-x : 0 < x = some x (getD t (wordAt u parentWord) 0) e (not-true (eqb (getD t (wordAt u parentWord) 0) 0) (and-left n l h)) in
-          let p : getD t (wordAt u parentWord) 0 ≡ suc (x - 1) = omega arith in
-          let steps : w .steps ≡ s = k .steps ∙ length-snoc in
-          let q : getD t (wordAt (x - 1) (linkWord d)) 0 ≡ s = ap (λ (m : ℕ). getD t (wordAt (m - 1) (linkWord d)) 0) e ∙ eqb-true (getD t (wordAt (getD t (wordAt u parentWord) 0 - 1) (linkWord d)) 0) (w .steps) (and-right n l h) ∙ steps in
-          let z = near-pos S (sound-walk c ds) s d pos small (links-small 0 c ds d) (needs-small 0 c ds d) (endFrom c ds) (finish-node c ds) (length t) t is (changesOf c ds (ds ++ (d ∷ []))) u v sum r (x - 1) p q in
-          let pos-y : 0 < y = omega arith in
-          let g = rising-next S (sound-walk c ds) s d pos small (links-small 0 c ds d) (needs-small 0 c ds d) (endFrom c ds) (finish-node c ds) (length t) t is (changesOf c ds (ds ++ (d ∷ []))) u v sum r (x - 1) (y - 1) p q (omega arith) in
-          (pos-x, pos-y, g .0, g .1)
-        where
-          not-true : (b : Bool) → not b ≡ true → b ≡ false
-          not-true true z = absurd (false≢true z)
-          not-true false z = refl
+      module _ (h : (not (eqb (getD t (wordAt u parentWord) 0) 0) && eqb (getD t (wordAt (getD t (wordAt u parentWord) 0 - 1) (linkWord d)) 0) (w .steps)) ≡ true) where
+        parent : 0 < getD t (wordAt u parentWord) 0
+        parent = some (getD t (wordAt u parentWord) 0) (not-true (eqb (getD t (wordAt u parentWord) 0) 0) (and-left (not (eqb (getD t (wordAt u parentWord) 0) 0)) (eqb (getD t (wordAt (getD t (wordAt u parentWord) 0 - 1) (linkWord d)) 0) (w .steps)) h))
+          where
+            some : (x : ℕ) → eqb x 0 ≡ false → 0 < x
+            some x q = omega (arith, eqb-false x 0 q)
 
-          some : (x y : ℕ) → x ≡ y → eqb y 0 ≡ false → 0 < x
-          some x y p q = omega (arith, eqb-false y 0 q)
+        is-parent : getD t (wordAt u parentWord) 0 ≡ suc (getD t (wordAt u parentWord) 0 - 1)
+        is-parent = omega (arith, parent)
 
-          length-snoc : length (ds ++ (d ∷ [])) ≡ s
-          length-snoc = omega (arith, length-append ds (d ∷ []))
+        linked : getD t (wordAt (getD t (wordAt u parentWord) 0 - 1) (linkWord d)) 0 ≡ s
+        linked =
+            eqb-true (getD t (wordAt (getD t (wordAt u parentWord) 0 - 1) (linkWord d)) 0) (w .steps) (and-right (not (eqb (getD t (wordAt u parentWord) 0) 0)) (eqb (getD t (wordAt (getD t (wordAt u parentWord) 0 - 1) (linkWord d)) 0) (w .steps)) h)
+            ∙ k .steps
+            ∙ omega (arith, length-append ds (d ∷ []))
+
+        beside : 0 < getD t (wordAt (getD t (wordAt u parentWord) 0 - 1) (neighbourWord d)) 0
+        unfolding Up
+        beside = near-pos S (sound-walk c ds) s d pos small (links-small 0 c ds d) (needs-small 0 c ds d) (endFrom c ds) (finish-node c ds) (length t) t is (changesOf c ds (ds ++ (d ∷ []))) u v sum r (getD t (wordAt u parentWord) 0 - 1) is-parent linked
+
+        pub up-linked : LinkedAbove t u d
+        up-linked = (parent, up-held .2 parent, beside)
+
+        pub up-next : (u′ v′ n : ℕ) → u′ ≡ getD t (wordAt u parentWord) 0 - 1 → v′ ≡ getD t (wordAt (getD t (wordAt u parentWord) 0 - 1) (neighbourWord d)) 0 - 1 → n ≡ tally (not (eqb u′ v)) + tally (not (eqb v′ u)) → (u′ < u) × Up u′ v′ (sum + n)
+        unfolding Up
+        up-next u′ v′ n e f g =
+            let p : getD t (wordAt u parentWord) 0 ≡ suc u′ = omega (arith, parent) in
+            let q : getD t (wordAt u′ (linkWord d)) 0 ≡ s = ap (λ (m : ℕ). getD t (wordAt m (linkWord d)) 0) e ∙ linked in
+            let i : getD t (wordAt u′ (neighbourWord d)) 0 ≡ suc v′ = ap (λ (m : ℕ). getD t (wordAt m (neighbourWord d)) 0) e ∙ omega (arith, beside) in
+            let k = rising-next S (sound-walk c ds) s d pos small (links-small 0 c ds d) (needs-small 0 c ds d) (endFrom c ds) (finish-node c ds) (length t) t is (changesOf c ds (ds ++ (d ∷ []))) u v sum r u′ v′ p q i in
+            (k .0, subst (λ (m : ℕ). Rising S (sound-walk c ds) s d pos small (links-small 0 c ds d) (needs-small 0 c ds d) (endFrom c ds) (finish-node c ds) (changesOf c ds (ds ++ (d ∷ []))) u′ v′ (sum + m)) (sym g) (k .1))
 
       -- at the top
       pub up-end : (not (eqb (getD t (wordAt u parentWord) 0) 0) && eqb (getD t (wordAt (getD t (wordAt u parentWord) 0 - 1) (linkWord d)) 0) (w .steps)) ≡ false

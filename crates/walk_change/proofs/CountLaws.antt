@@ -1,14 +1,14 @@
 -- Counts of 1 or 0, and the two words that are read for them.
 -- Assumes nothing.
-use mathlib.Core.Bool.{Bool, true, false, not, _&&_}
+use mathlib.Core.Bool.{false, not, _&&_}
 use mathlib.Core.List.{List}
 use mathlib.Core.Path.{_≡_, ap, sym, _∙_}
-use Prim.Native.Nat.{ℕ, _+_, _-_, _<_, _≤_}
+use Prim.Native.Nat.{ℕ, _+_, _-_, _<_}
 use native.Mathlib.Omega.{arith}
 use borrow.Author.Tests.{eq-eqb, ne-eqb}
 use lib.Dec.{eqb}
 use lib.ListN.{length, getD}
-use Rattle.layout.specs.Table.{wordAt, parentWord, neighbourWord, linkWord, needWord}
+use Rattle.layout.specs.Table.{wordAt, parentWord, linkWord, needWord}
 use Rattle.lists.specs.Lists.{tally}
 use Rattle.walk_change.specs.Above.{ParentHeld}
 
@@ -17,10 +17,6 @@ one-same x y e = rw (eq-eqb x y e)
 
 pub one-other : (x y : ℕ) → (x ≡ y → ⊥) → 1 ≡ tally (not (eqb x y))
 one-other x y f = rw (ne-eqb x y f)
-
-pub tally-few : (b : Bool) → tally b ≤ 1
-tally-few true = omega arith
-tally-few false = omega arith
 
 pub made-above : {n p x y r : ℕ} (step u : ℕ) → x ≡ n → y ≡ p → x ≡ step → r ≡ tally (not (eqb y u)) → r ≡ tally (eqb n step && not (eqb p u))
 made-above {n} {p} step u e f i g = g ∙ ap (λ (z : ℕ). tally (not (eqb z u))) f ∙ sym (rw (eq-eqb n step (sym e ∙ i)))
@@ -35,11 +31,6 @@ link-root t u d step x e i = rw (eq-eqb (getD t (wordAt u parentWord) 0) 0 (sym 
 pub held-word : (t : List ℕ) (u d x : ℕ) → x ≡ getD t (wordAt u parentWord) 0 → ParentHeld t u → d < 4 → (x ≡ 0 → ⊥) → wordAt (x - 1) (linkWord d) < length t
 held-word t u d x e h k f =
     let z : 0 < getD t (wordAt u parentWord) 0 = let g : x ≡ 0 → ⊥ = f in omega arith in
-    omega (arith, h z)
-
-pub held-near : (t : List ℕ) (u d x : ℕ) → x ≡ getD t (wordAt u parentWord) 0 → ParentHeld t u → d < 4 → 0 < x → wordAt (x - 1) (neighbourWord d) < length t
-held-near t u d x e h k f =
-    let z : 0 < getD t (wordAt u parentWord) 0 = omega arith in
     omega (arith, h z)
 
 pub link-word : (t : List ℕ) (u d step x : ℕ) → x ≡ getD t (wordAt u parentWord) 0 → (x ≡ 0 → ⊥) → (y : ℕ) → y ≡ getD t (wordAt (x - 1) (linkWord d)) 0

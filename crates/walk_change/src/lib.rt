@@ -8,9 +8,9 @@ ghost use lib.ListN.{length, getD};
 ghost use Rattle.lists.specs.Lists.{tally};
 ghost use Rattle.grid.specs.declared.Corner.{Corner as Node};
 ghost use Rattle.layout.specs.Marks.{changesOf};
-ghost use Rattle.layout.specs.Table.{wordAt, HasRecord, parentWord, linkWord, needWord};
+ghost use Rattle.layout.specs.Table.{wordAt, HasRecord, parentWord, neighbourWord, linkWord, needWord};
 ghost use Rattle.walk_step.specs.Spots.{Walked, Stepped};
-ghost use Rattle.walk_change.specs.Above.{ParentHeld};
+ghost use Rattle.walk_change.specs.Above.{ParentHeld, LinkedAbove};
 use walk_step::Spot;
 use walk_table::Record;
 use walk_table::word;
@@ -35,6 +35,28 @@ fn links_up(t: &[u32], u: usize, d: usize, step: u32) -> bool
         return false;
     }
     word(t, up - 1, Record::LINK_STEP + d) == step
+}
+
+// The two nodes of one level, and how many of them are no end of the level below.
+struct Level {
+    u: usize,
+    v: usize,
+    count: u32,
+}
+
+// The level above u and v: the parent of u, and its neighbour in the direction d.
+fn rise(t: &[u32], u: usize, v: usize, d: usize) -> Level
+    requires { ⌜ HasRecord (now t) u × (d < 4) × LinkedAbove (now t) u d ⌝ }
+    ensures { λ r. ⌜ (r .u ≡ getD (now (t .entry)) (wordAt u parentWord) 0 - 1) × (r .v ≡ getD (now (t .entry)) (wordAt (getD (now (t .entry)) (wordAt u parentWord) 0 - 1) (neighbourWord d)) 0 - 1) × (r .count ≡ tally (not (eqb (r .u) v)) + tally (not (eqb (r .v) u))) ⌝ }
+{
+    let above = word(t, u, Record::PARENT) as usize - 1;
+    let beside = word(t, above, Record::NEIGHBOUR + d) as usize - 1;
+    let count = one_unless(above, v) + one_unless(beside, u);
+    Level {
+        u: above,
+        v: beside,
+        count,
+    }
 }
 
 // 1 where the step made the node v, and the parent of v is not u.
@@ -63,11 +85,10 @@ pub fn changed(t: &[u32], w: Spot, d: u8) -> u32
     let mut u = word(t, v, Record::NEIGHBOUR + b) as usize - 1;
     let mut sum: u32 = 2;
     while links_up(t, u, way, step) {
-        let above = word(t, u, Record::PARENT) as usize - 1;
-        let beside = word(t, above, Record::NEIGHBOUR + way) as usize - 1;
-        sum += one_unless(above, v) + one_unless(beside, u);
-        u = above;
-        v = beside;
+        let level = rise(t, u, v, way);
+        sum += level.count;
+        u = level.u;
+        v = level.v;
     }
     sum + above_made(t, u, v, step)
 }

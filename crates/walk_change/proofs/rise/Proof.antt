@@ -1,0 +1,60 @@
+-- `walk_change::rise` meets its contract.
+-- Assumes nothing.
+use mathlib.Core.Bool.{not}
+use mathlib.Core.Path.{ap, ap₂, _∙_}
+use Prim.Native.Nat.{ℕ, _+_, _-_}
+use native.Mathlib.Omega.{arith}
+use borrow.Author.Needs.{needs}
+use lib.Dec.{eqb}
+use lib.ListN.{getD}
+use Rattle.layout.specs.Table.{wordAt, neighbourWord}
+use Rattle.lists.proofs.BoolLaws.{tally-le}
+use Rattle.walk_change.proofs.rise.Statement.{statement}
+use Rattle.walk_change.proofs.rise.Tie as tie
+
+word-requires : tie.Need-word-requires
+word-requires c κs = search needs
+
+cast-above : tie.Need-cast-above
+cast-above c = search needs
+
+sub-above : tie.Need-sub-above
+sub-above c = search needs
+
+add-word : tie.Need-add-word
+add-word c = search needs
+
+word-requires-2 : tie.Need-word-requires-2
+word-requires-2 c κs = search needs
+
+cast-beside : tie.Need-cast-beside
+cast-beside c = search needs
+
+sub-beside : tie.Need-sub-beside
+sub-beside c =
+    let s = c .before .before .before in
+    omega (arith, c .word2 .ensures, ap (λ (n : ℕ). getD (s .args .t .now) (wordAt (n - 1) (neighbourWord (s .args .d))) 0) (c .before .word .ensures), s .pre .2 .2)
+
+one-unless-requires : tie.Need-one-unless-requires
+one-unless-requires c κs = search needs
+
+one-unless-requires-2 : tie.Need-one-unless-requires-2
+one-unless-requires-2 c κs = search needs
+
+add-count : tie.Need-add-count
+add-count c =
+    let a = c .before .before .before .before .before .args in
+    omega (arith, c .before .one-unless .ensures, c .one-unless2 .ensures, tally-le (not (eqb (c .before .before .before .word .result - 1) (a .v))), tally-le (not (eqb (c .before .before .word2 .result - 1) (a .u))))
+
+returns : tie.Need-returns
+returns c =
+    let a = c .before .before .before .before .before .args in
+    let x = c .before .before .before .word in
+    let y = c .before .before .word2 in (
+      ap (λ (n : ℕ). n - 1) (x .ensures),
+      ap (λ (n : ℕ). n - 1) (y .ensures ∙ ap (λ (n : ℕ). getD (a .t .now) (wordAt (n - 1) (neighbourWord (a .d))) 0) (x .ensures)),
+      ap₂ _+_ (c .before .one-unless .ensures) (c .one-unless2 .ensures),
+    )
+
+pub rise-spec : {M : Type 1} → statement M
+rise-spec = tie.close (tie.spec word-requires cast-above sub-above add-word word-requires-2 cast-beside sub-beside one-unless-requires one-unless-requires-2 add-count returns)
