@@ -28,7 +28,6 @@ spell-decimal-below t =
     (falls 1 spell-decimal-kinds.ps _<_ μ-spell-decimal t)
     spell-decimal.Pre
 
--- src/lib.rt:30:9
 spell-decimal-returns : (t : ℕ) → spell-decimal-lts.Need-returns (
   spell-decimal-below t,
   spell-decimal.Post,
@@ -37,42 +36,36 @@ spell-decimal-returns t c =
     let a = c .before .before .args in
     decimal-none (a .k) (a .n) (a .at) (a .out .now) (c .if1 .taken)
 
--- src/lib.rt:33:24
 spell-decimal-cast-out : (t : ℕ) → spell-decimal-lts.Need-cast-out (
   spell-decimal-below t,
   spell-decimal.Post,
 ) (spell-decimal-at t) spell-decimal.Post
 spell-decimal-cast-out t c = search needs
 
--- src/lib.rt:33:19
 spell-decimal-add-out : (t : ℕ) → spell-decimal-lts.Need-add-out (
   spell-decimal-below t,
   spell-decimal.Post,
 ) (spell-decimal-at t) spell-decimal.Post
 spell-decimal-add-out t c = search needs
 
--- src/lib.rt:33:9
 spell-decimal-slice-write-out : (t : ℕ) → spell-decimal-lts.Need-slice-write-out (
   spell-decimal-below t,
   spell-decimal.Post,
 ) (spell-decimal-at t) spell-decimal.Post
 spell-decimal-slice-write-out t c = search needs
 
--- src/lib.rt:34:16
 spell-decimal-add-result : (t : ℕ) → spell-decimal-lts.Need-add-result (
   spell-decimal-below t,
   spell-decimal.Post,
 ) (spell-decimal-at t) spell-decimal.Post
 spell-decimal-add-result t c = search needs
 
--- src/lib.rt:34:9
 spell-decimal-same-length : (t : ℕ) → spell-decimal-lts.Need-same-length (
   spell-decimal-below t,
   spell-decimal.Post,
 ) (spell-decimal-at t) spell-decimal.Post
 spell-decimal-same-length t c = search needs
 
--- src/lib.rt:34:9
 spell-decimal-returns-2 : (t : ℕ) → spell-decimal-lts.Need-returns-2 (
   spell-decimal-below t,
   spell-decimal.Post,
@@ -82,35 +75,30 @@ spell-decimal-returns-2 t c =
     let a = s .args in
     decimal-one (a .k) (a .n) (a .at) (a .out .now) (c .before .if1 .left) (c .if2 .taken) (omega (arith, s .pre .1, c .before .if1 .left))
 
--- src/lib.rt:36:39
 spell-decimal-sub-spell-decimal : (t : ℕ) → spell-decimal-lts.Need-sub-spell-decimal (
   spell-decimal-below t,
   spell-decimal.Post,
 ) (spell-decimal-at t) spell-decimal.Post
 spell-decimal-sub-spell-decimal t c = search needs
 
--- src/lib.rt:36:9
 spell-decimal-spell-decimal-requires : (t : ℕ) → spell-decimal-lts.Need-spell-decimal-requires (
   spell-decimal-below t,
   spell-decimal.Post,
 ) (spell-decimal-at t) spell-decimal.Post
 spell-decimal-spell-decimal-requires t c κs = search needs
 
--- src/lib.rt:37:22
 spell-decimal-cast-out-2 : (t : ℕ) → spell-decimal-lts.Need-cast-out-2 (
   spell-decimal-below t,
   spell-decimal.Post,
 ) (spell-decimal-at t) spell-decimal.Post
 spell-decimal-cast-out-2 t c = search needs
 
--- src/lib.rt:37:17
 spell-decimal-add-out-2 : (t : ℕ) → spell-decimal-lts.Need-add-out-2 (
   spell-decimal-below t,
   spell-decimal.Post,
 ) (spell-decimal-at t) spell-decimal.Post
 spell-decimal-add-out-2 t c = search needs
 
--- src/lib.rt:37:5
 spell-decimal-slice-write-out-2 : (t : ℕ) → spell-decimal-lts.Need-slice-write-out-2 (
   spell-decimal-below t,
   spell-decimal.Post,
@@ -121,7 +109,6 @@ spell-decimal-slice-write-out-2 t c =
     let a = s .args in
     omega (arith, r .ensures .end, r .kept .0, s .pre .1, c .before .before .before .before .before .if1 .left, length-decimalOf (a .k - 1) (a .n / 10))
 
--- src/lib.rt:38:5
 spell-decimal-add-result-2 : (t : ℕ) → spell-decimal-lts.Need-add-result-2 (
   spell-decimal-below t,
   spell-decimal.Post,
@@ -132,14 +119,12 @@ spell-decimal-add-result-2 t c =
     let a = s .args in
     search (needs, r .ensures .end, r .kept .0, s .pre .1, c .before .before .before .before .before .if1 .left, length-decimalOf (a .k - 1) (a .n / 10))
 
--- src/lib.rt:25:1
 spell-decimal-same-length-2 : (t : ℕ) → spell-decimal-lts.Need-same-length-2 (
   spell-decimal-below t,
   spell-decimal.Post,
 ) (spell-decimal-at t) spell-decimal.Post
 spell-decimal-same-length-2 t c = search needs
 
--- src/lib.rt:25:1
 spell-decimal-returns-3 : (t : ℕ) → spell-decimal-lts.Need-returns-3 (
   spell-decimal-below t,
   spell-decimal.Post,

@@ -21,29 +21,23 @@ Inv-loop out₀ at s i₀ next₀ out i next = (i ≤ length s) × (at + 2 * len
 abbrev μ-loop : tie.MeasureT-loop
 μ-loop out₀ at s i₀ next₀ out i next = length s - i
 
--- src/lib.rt:95:5
 loop-holds : tie.Need-loop-holds Inv-loop μ-loop
 loop-holds c =
     let a = c .before .before .args in
     (omega arith, c .before .before .pre, refl, omega arith, bytes-none (a .s .now) (a .at) (a .out .now))
 
--- src/lib.rt:96:33
 shared-slice-read-spell-byte : tie.Need-shared-slice-read-spell-byte Inv-loop μ-loop
 shared-slice-read-spell-byte c = search needs
 
--- src/lib.rt:96:9
 spell-byte-requires : tie.Need-spell-byte-requires Inv-loop μ-loop
 spell-byte-requires c κs = search needs
 
--- src/lib.rt:97:9
 add-i : tie.Need-add-i Inv-loop μ-loop
 add-i c = search needs
 
--- src/lib.rt:95:5
 loop-less : tie.Need-loop-less Inv-loop μ-loop
 loop-less c = search needs
 
--- src/lib.rt:95:5
 loop-again : tie.Need-loop-again Inv-loop μ-loop
 loop-again c =
     let l = c .before .before .before .before .before .before in
@@ -51,11 +45,9 @@ loop-again c =
     let r = c .before .before .spell-byte in
     (search needs, search needs, omega (arith, r .kept .0, l .loop .inv .2), omega (arith, r .ensures .end, length-hexOf 2 (getD (a .s .now) (l .loop .i) 0), l .loop .inv .3), bytes-next (a .s .now) (l .loop .i) (a .at) (omega arith) (l .loop .inv .1) (l .loop .inv .4) (r .ensures))
 
--- src/lib.rt:89:1
 same-length : tie.Need-same-length Inv-loop μ-loop
 same-length c = search needs
 
--- src/lib.rt:89:1
 returns : tie.Need-returns Inv-loop μ-loop
 returns c =
     let l = c .before .loop in

@@ -12,27 +12,22 @@ use Rattle.sheet_cells.proofs.spell_cell.Reads as reads
 use Rattle.sheet_cells.proofs.spell_cell.Lts as lts
 use Rattle.sheet_cells.proofs.spell_decimal.Reads as spell-decimal-reads
 
--- src/lib.rt:48:9
 spell-decimal-requires : tie.Need-spell-decimal-requires
 spell-decimal-requires c κs = search needs
 
--- src/lib.rt:49:5
 slice-write-out : tie.Need-slice-write-out
 slice-write-out c =
     let a = c .before .before .before .before .before .args in
     omega (arith, length-decimalOf mostDecimals (a .n), c .before .before .spell-decimal .ensures .end, c .before .before .spell-decimal .kept .0)
 
--- src/lib.rt:50:5
 add-result : tie.Need-add-result
 add-result c =
     let a = c .before .before .before .before .before .args in
     search (needs, length-decimalOf mostDecimals (a .n), c .before .before .spell-decimal .ensures .end, c .before .before .spell-decimal .kept .0)
 
--- src/lib.rt:44:1
 same-length : tie.Need-same-length
 same-length c = search needs
 
--- src/lib.rt:44:1
 returns : tie.Need-returns
 returns c =
     let a = c .before .before .before .before .before .args in

@@ -17,62 +17,52 @@ use Rattle.answer.proofs.verdict_number.Reads as verdict-number-reads
 use Rattle.sheet_cells.proofs.spell_signed.Reads as spell-signed-reads
 use Rattle.sheet_cells.proofs.spell_two.Reads as spell-two-reads
 
--- src/lib.rt:81:9
 spell-two-requires : tie.Need-spell-two-requires
 spell-two-requires c κs = search needs
 
--- src/lib.rt:82:31
 verdict-number-requires : tie.Need-verdict-number-requires
 verdict-number-requires c κs = search needs
 
--- src/lib.rt:82:9
 spell-two-requires-2 : tie.Need-spell-two-requires-2
 spell-two-requires-2 c κs =
     let s = c .before .before .before .before .before .before .before in
     let a = s .args in
     omega (arith, s .pre, length-two (a .number) (a .place))
 
--- src/lib.rt:83:9
 spell-two-requires-3 : tie.Need-spell-two-requires-3
 spell-two-requires-3 c κs =
     let s = c .before .before .before .before .before .before .before .before .before .before .before in
     let a = s .args in
     omega (arith, s .pre, length-two (a .number) (a .place), length-two (c .before .before .before .before .verdict-number .result) (a .f .steps))
 
--- src/lib.rt:84:9
 spell-two-requires-4 : tie.Need-spell-two-requires-4
 spell-two-requires-4 c κs =
     let s = c .before .before .before .before .before .before .before .before .before .before .before .before .before .before .before in
     let a = s .args in
     omega (arith, s .pre, length-two (a .number) (a .place), length-two (c .before .before .before .before .before .before .before .before .verdict-number .result) (a .f .steps), length-two (a .f .nodes) (a .f .corners))
 
--- src/lib.rt:85:9
 spell-signed-requires : tie.Need-spell-signed-requires
 spell-signed-requires c κs =
     let s = c .before .before .before .before .before .before .before .before .before .before .before .before .before .before .before .before .before .before .before .before in
     let a = s .args in
     omega (arith, s .pre, length-two (a .number) (a .place), length-two (c .before .before .before .before .before .before .before .before .before .before .before .before .before .verdict-number .result) (a .f .steps), length-two (a .f .nodes) (a .f .corners), length-two (a .f .j) (a .f .k), c .before .before .before .before .spell-two4 .ensures .end, c .before .before .before .before .spell-two4 .kept .0, c .before .before .before .before .before .before .before .before .spell-two3 .ensures .end, c .before .before .before .before .before .before .before .before .spell-two3 .kept .0, c .before .before .before .before .before .before .before .before .before .before .before .before .spell-two2 .ensures .end, c .before .before .before .before .before .before .before .before .before .before .before .before .spell-two2 .kept .0, c .before .before .before .before .before .before .before .before .before .before .before .before .before .before .before .before .before .spell-two .ensures .end, c .before .before .before .before .before .before .before .before .before .before .before .before .before .before .before .before .before .spell-two .kept .0)
 
--- src/lib.rt:86:5
 slice-write-out : tie.Need-slice-write-out
 slice-write-out c =
     let s = c .before .before .before .before .before .before .before .before .before .before .before .before .before .before .before .before .before .before .before .before .before .before .before in
     let a = s .args in
     omega (arith, s .pre, length-two (a .number) (a .place), length-two (c .before .before .before .before .before .before .before .before .before .before .before .before .before .before .before .before .verdict-number .result) (a .f .steps), length-two (a .f .nodes) (a .f .corners), length-two (a .f .j) (a .f .k), length-signedOf mostDecimals (toZ w32 (ofZ w32 (a .f .area))), c .before .before .spell-signed .ensures .end, c .before .before .spell-signed .kept .0, c .before .before .before .before .before .before .before .spell-two4 .ensures .end, c .before .before .before .before .before .before .before .spell-two4 .kept .0, c .before .before .before .before .before .before .before .before .before .before .before .spell-two3 .ensures .end, c .before .before .before .before .before .before .before .before .before .before .before .spell-two3 .kept .0, c .before .before .before .before .before .before .before .before .before .before .before .before .before .before .before .spell-two2 .ensures .end, c .before .before .before .before .before .before .before .before .before .before .before .before .before .before .before .spell-two2 .kept .0, c .before .before .before .before .before .before .before .before .before .before .before .before .before .before .before .before .before .before .before .before .spell-two .ensures .end, c .before .before .before .before .before .before .before .before .before .before .before .before .before .before .before .before .before .before .before .before .spell-two .kept .0)
 
--- src/lib.rt:87:5
 add-result : tie.Need-add-result
 add-result c =
     let s = c .before .before .before .before .before .before .before .before .before .before .before .before .before .before .before .before .before .before .before .before .before .before .before in
     let a = s .args in
     record { fits = omega (arith, s .fits, s .pre, length-two (a .number) (a .place), length-two (c .before .before .before .before .before .before .before .before .before .before .before .before .before .before .before .before .verdict-number .result) (a .f .steps), length-two (a .f .nodes) (a .f .corners), length-two (a .f .j) (a .f .k), length-signedOf mostDecimals (toZ w32 (ofZ w32 (a .f .area))), c .before .before .spell-signed .ensures .end, c .before .before .spell-signed .kept .0, c .before .before .before .before .before .before .before .spell-two4 .ensures .end, c .before .before .before .before .before .before .before .spell-two4 .kept .0, c .before .before .before .before .before .before .before .before .before .before .before .spell-two3 .ensures .end, c .before .before .before .before .before .before .before .before .before .before .before .spell-two3 .kept .0, c .before .before .before .before .before .before .before .before .before .before .before .before .before .before .before .spell-two2 .ensures .end, c .before .before .before .before .before .before .before .before .before .before .before .before .before .before .before .spell-two2 .kept .0, c .before .before .before .before .before .before .before .before .before .before .before .before .before .before .before .before .before .before .before .before .spell-two .ensures .end, c .before .before .before .before .before .before .before .before .before .before .before .before .before .before .before .before .before .before .before .before .spell-two .kept .0) }
 
--- src/lib.rt:76:1
 same-length : tie.Need-same-length
 same-length c =
     omega (arith, c .before .before .spell-signed .kept .0, c .before .before .before .before .before .before .before .spell-two4 .kept .0, c .before .before .before .before .before .before .before .before .before .before .before .spell-two3 .kept .0, c .before .before .before .before .before .before .before .before .before .before .before .before .before .before .before .spell-two2 .kept .0, c .before .before .before .before .before .before .before .before .before .before .before .before .before .before .before .before .before .before .before .before .spell-two .kept .0, length-set (c .before .before .spell-signed .last .0) (c .before .before .spell-signed .result) 44)
 
--- src/lib.rt:76:1
 returns : tie.Need-returns
 returns c =
     let s = c .before .before .before .before .before .before .before .before .before .before .before .before .before .before .before .before .before .before .before .before .before .before .before in

@@ -21,23 +21,18 @@ use Rattle.sheet_cells.proofs.spell_signed.Lts as lts
 use Rattle.line_fields.proofs.hex.bits.Reads as bits-reads
 use Rattle.sheet_cells.proofs.spell_decimal.Reads as spell-decimal-reads
 
--- src/lib.rt:58:13
 bits-requires : tie.Need-bits-requires
 bits-requires c κs = search needs
 
--- src/lib.rt:58:13
 cast-b : tie.Need-cast-b
 cast-b c = search needs
 
--- src/lib.rt:60:9
 spell-decimal-requires : tie.Need-spell-decimal-requires
 spell-decimal-requires c κs = search needs
 
--- src/lib.rt:60:9
 same-length : tie.Need-same-length
 same-length c = search needs
 
--- src/lib.rt:60:9
 returns : tie.Need-returns
 returns c =
     let s = c .before .before .before .before .before .before .before in
@@ -46,31 +41,25 @@ returns c =
     let r = c .before .before .spell-decimal in
     subst (λ (l : List ℕ). Wrote l (a .at) (a .out .now) (r .result) (r .last .0)) (signed-above mostDecimals (a .x) (b .result) (s .fits .x) (b .ensures ∙ ap bitsOf (toZ-ofZ w32 (a .x) (s .fits .x))) (c .before .before .before .before .if1 .taken)) (r .ensures)
 
--- src/lib.rt:62:5
 slice-write-out : tie.Need-slice-write-out
 slice-write-out c = search needs
 
--- src/lib.rt:63:24
 add-spell-decimal : tie.Need-add-spell-decimal
 add-spell-decimal c = search needs
 
--- src/lib.rt:63:53
 sub-spell-decimal : tie.Need-sub-spell-decimal
 sub-spell-decimal c = search needs
 
--- src/lib.rt:63:5
 spell-decimal-requires-2 : tie.Need-spell-decimal-requires-2
 spell-decimal-requires-2 c κs =
     let s = c .before .before .before .before in
     omega (arith, length-set (s .args .out .now) (s .args .at) 45, s .pre)
 
--- src/lib.rt:54:1
 same-length-2 : tie.Need-same-length-2
 same-length-2 c =
     let a = c .before .before .before .before .before .before .before .args in
     omega (arith, length-set (a .out .now) (a .at) 45, c .before .before .spell-decimal2 .kept .0)
 
--- src/lib.rt:54:1
 returns-2 : tie.Need-returns-2
 returns-2 c =
     let s = c .before .before .before .before .before .before .before in

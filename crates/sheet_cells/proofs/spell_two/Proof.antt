@@ -10,21 +10,17 @@ use Rattle.sheet_cells.proofs.spell_two.Reads as reads
 use Rattle.sheet_cells.proofs.spell_two.Lts as lts
 use Rattle.sheet_cells.proofs.spell_cell.Reads as spell-cell-reads
 
--- src/lib.rt:71:9
 spell-cell-requires : tie.Need-spell-cell-requires
 spell-cell-requires c κs = search needs
 
--- src/lib.rt:72:5
 spell-cell-requires-2 : tie.Need-spell-cell-requires-2
 spell-cell-requires-2 c κs =
     let a = c .before .before .before .before .before .before .args in
     omega (arith, length-cellOf (a .v))
 
--- src/lib.rt:67:1
 same-length : tie.Need-same-length
 same-length c = search needs
 
--- src/lib.rt:67:1
 returns : tie.Need-returns
 returns c =
     let s = c .before .before .before .before .before .before .before .before .before in

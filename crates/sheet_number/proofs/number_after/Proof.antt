@@ -10,15 +10,12 @@ use Rattle.sheet_number.proofs.number_after.Tie as tie
 use Rattle.sheet_number.proofs.number_after.Reads as reads
 use Rattle.sheet_number.proofs.number_after.Lts as lts
 
--- src/lib.rt:41:16
 add-result : tie.Need-add-result
 add-result c = search needs
 
--- src/lib.rt:41:9
 returns : tie.Need-returns
 returns c = omega (arith, ap tally (eq-eqb (c .before .args .b) 10 (c .if1 .taken)))
 
--- src/lib.rt:36:1
 returns-2 : tie.Need-returns-2
 returns-2 c = omega (arith, ap tally (ne-eqb (c .before .args .b) 10 (c .if1 .left)))
 

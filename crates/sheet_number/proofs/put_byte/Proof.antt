@@ -17,27 +17,22 @@ use Rattle.sheet_number.proofs.put_byte.Reads as reads
 use Rattle.sheet_number.proofs.put_byte.Lts as lts
 use Rattle.sheet_cells.proofs.spell_cell.Reads as spell-cell-reads
 
--- src/lib.rt:27:13
 spell-cell-requires : tie.Need-spell-cell-requires
 spell-cell-requires c κs = search needs
 
--- src/lib.rt:28:9
 slice-write-out : tie.Need-slice-write-out
 slice-write-out c =
     let s = c .before .before .before .before .before .before in
     omega (arith, s .pre, length-cellOf (s .args .n), c .before .before .spell-cell .ensures .end, c .before .before .spell-cell .kept .0)
 
--- src/lib.rt:29:16
 add-result : tie.Need-add-result
 add-result c =
     let s = c .before .before .before .before .before .before in
     search (needs, s .pre, length-cellOf (s .args .n), c .before .before .spell-cell .ensures .end, c .before .before .spell-cell .kept .0)
 
--- src/lib.rt:29:9
 same-length : tie.Need-same-length
 same-length c = search needs
 
--- src/lib.rt:29:9
 returns : tie.Need-returns
 returns c =
     let s = c .before .before .before .before .before .before in
@@ -46,19 +41,15 @@ returns c =
     subst (λ (t : Bool). Wrote (cond t (cellOf (a .n)) [] ++ (a .b ∷ [])) (a .at) (a .out .now) (r .result + 1) (set (r .last .0) (r .result) (a .b))) (sym (c .before .before .before .before .if1 .taken))
     (wrote-then (cellOf (a .n)) (a .b) (a .at) (r .ensures) (omega (arith, s .pre, length-cellOf (a .n))))
 
--- src/lib.rt:31:5
 slice-write-out-2 : tie.Need-slice-write-out-2
 slice-write-out-2 c = search needs
 
--- src/lib.rt:32:5
 add-result-2 : tie.Need-add-result-2
 add-result-2 c = search needs
 
--- src/lib.rt:22:1
 same-length-2 : tie.Need-same-length-2
 same-length-2 c = search needs
 
--- src/lib.rt:22:1
 returns-2 : tie.Need-returns-2
 returns-2 c =
     let s = c .before .before in
