@@ -56,13 +56,14 @@ extern "C" {
 #define UNDRWYTH_LINE_BYTES 8240           /* bytes of a buffer that holds the answer to any line */
 
 /* Bytes of stack that a call needs, rounded up from what include/stack.c measured of the library that ./library writes
- * for x86-64; the gate runs each call on a stack of this size, above a page that cannot be touched. A hull's working
- * store is chosen by how many columns the walk goes through, that of an outline or of a call on a room by how many steps
- * the chain has, and of a call on two rooms the longer chain: 256 at most, 2,048 at most, or more. */
-#define UNDRWYTH_WALK_STACK_BYTES 1024          /* 440 measured */
-#define UNDRWYTH_HULL_256_STACK_BYTES 3072      /* 2,488 measured */
-#define UNDRWYTH_HULL_2048_STACK_BYTES 17408    /* 16,824 measured */
-#define UNDRWYTH_HULL_STACK_BYTES 132096        /* 131,512 measured */
+ * for x86-64, run in the Rattle kit's emulator; for 64-bit ARM it measured at most 200 bytes more or less. The gate runs
+ * each call on a stack of this size, above a page that cannot be touched. A hull's working store is chosen by how many
+ * columns the walk goes through, that of an outline or of a call on a room by how many steps the chain has, and of a call
+ * on two rooms the longer chain: 256 at most, 2,048 at most, or more. */
+#define UNDRWYTH_WALK_STACK_BYTES 1024          /* 456 measured */
+#define UNDRWYTH_HULL_256_STACK_BYTES 3072      /* 2,496 measured */
+#define UNDRWYTH_HULL_2048_STACK_BYTES 17408    /* 16,832 measured */
+#define UNDRWYTH_HULL_STACK_BYTES 132096        /* 131,520 measured */
 #define UNDRWYTH_OUTLINE_256_STACK_BYTES 5120   /* 4,408 measured */
 #define UNDRWYTH_OUTLINE_2048_STACK_BYTES 33792 /* 33,080 measured */
 #define UNDRWYTH_OUTLINE_STACK_BYTES 263168     /* 262,440 measured */
@@ -72,25 +73,26 @@ extern "C" {
 #define UNDRWYTH_ROWS_256_STACK_BYTES 3072      /* 2,344 measured */
 #define UNDRWYTH_ROWS_2048_STACK_BYTES 17408    /* 16,680 measured */
 #define UNDRWYTH_ROWS_STACK_BYTES 132096        /* 131,352 measured */
-#define UNDRWYTH_OVERLAY_256_STACK_BYTES 5632   /* 5,240 measured */
-#define UNDRWYTH_OVERLAY_2048_STACK_BYTES 36864 /* 35,704 measured */
-#define UNDRWYTH_OVERLAY_STACK_BYTES 280576     /* 279,416 measured */
+#define UNDRWYTH_OVERLAY_256_STACK_BYTES 5632   /* 5,272 measured */
+#define UNDRWYTH_OVERLAY_2048_STACK_BYTES 36864 /* 35,736 measured */
+#define UNDRWYTH_OVERLAY_STACK_BYTES 280576     /* 279,432 measured */
 #define UNDRWYTH_CONVEX_256_STACK_BYTES 3072    /* 2,248 measured */
 #define UNDRWYTH_CONVEX_2048_STACK_BYTES 17408  /* 16,584 measured */
 #define UNDRWYTH_CONVEX_STACK_BYTES 132096      /* 131,256 measured */
-#define UNDRWYTH_CHAIN_STACK_BYTES 512          /* 248 measured */
+#define UNDRWYTH_CHAIN_STACK_BYTES 512          /* 136 measured */
 #define UNDRWYTH_TURNS_STACK_BYTES 256          /* 16 measured */
 #define UNDRWYTH_CONVERT_LINE_STACK_BYTES 2560  /* 2,200 measured */
-#define UNDRWYTH_LINE_STACK_BYTES 65536         /* 63,592 measured */
+#define UNDRWYTH_LINE_STACK_BYTES 65536         /* 62,416 measured */
 
 /* Refusals, in the order in which they are looked for: 1, 2, 3, 10; then 4, 5, 6 at the first faulty place; then 7, at
  * its first place; then 12; 8, 11, 13 and 21 last. A polygon that is read is refused 14, 15, 14 again, 16, 17, 6, 18, in
- * this order; of two rooms all refusals of the first come before those of the second, and 21 after both. */
+ * this order; of two rooms all refusals of the first come before those of the second, and 21 after both; of a line 9 and
+ * then 19 come before those of its walk. 20 is not given. */
 #define UNDRWYTH_ACCEPTED 0
 #define UNDRWYTH_REFUSAL_TOO_MANY 1        /* more than UNDRWYTH_MOST_INPUT_BYTES input bytes */
 #define UNDRWYTH_REFUSAL_TABLE 2           /* words not UNDRWYTH_RECORD_WORDS times 1 to UNDRWYTH_MOST_RECORDS */
 #define UNDRWYTH_REFUSAL_RESULT_ROOM 3     /* a result buffer has not the length that the input asks */
-#define UNDRWYTH_REFUSAL_BAD_DIGIT 4       /* a byte above 4; but for walks, above 3. Has a place */
+#define UNDRWYTH_REFUSAL_BAD_DIGIT 4       /* a byte above 4 in a walk, above 3 elsewhere. Has a place */
 #define UNDRWYTH_REFUSAL_NOTHING_TO_TAKE 5 /* operation 4 with no surviving step. Has a place */
 #define UNDRWYTH_REFUSAL_TOO_LONG 6        /* a step beyond UNDRWYTH_MOST_STEPS surviving. Has a place */
 #define UNDRWYTH_REFUSAL_NO_ROOM 7         /* after this operation the nodes needed exceed the records. Has a place:
@@ -235,17 +237,17 @@ extern "C" {
  * 4 * c + 64 records are enough where the walk has at most c different corners at any moment, so 4 * n + 68 always
  * are; from (0,0), 4 * c - 3 and 4 * n + 1.
  * Lend what the walk can need and no more: the whole table is cleared, whatever the walk uses of it. A walk of 64 steps
- * took 24 ns a step in a table of 65 records and 1,489 ns in one of 65,537 (ARM Neoverse-N1, with
- * records of 21 words; longer ones cost more).
+ * took 16 ns a step in a table of 65 records and 1,640 ns in one of 65,537 (ARM Neoverse-V1).
  *
  * Accepted: table holds the records of the nodes in use, and then zeros. marks holds for each operation, at its place,
  * the nodes in use after it, the visits at the corner then stood on, and the number of records that differ before and
- * after it, at most 33. chain holds the surviving steps, and then
- * zeros; as 0 is also a step east, cut it at n surviving steps before handing it on. All is as if the surviving steps
- * alone had been walked, but for marks.
+ * after it, at most 33. chain holds the surviving steps, and then zeros; as 0 is also a step east, cut it at n surviving
+ * steps before handing it on. All is as if the surviving steps alone had been walked, but for marks.
  *
- * Refused with 1 to 6 or 10: table, marks and chain are as they were.
- * Refused with UNDRWYTH_REFUSAL_NO_ROOM: table, marks and chain are wholly zero. */
+ * Refused with 1, 2, 3, 10, or 4, 5 or 6 at the first faulty place, in this order: table, marks and chain are as they
+ * were. Refused with UNDRWYTH_REFUSAL_NO_ROOM, where nothing else is wrong: table, marks and chain are wholly zero.
+ *
+ * Stack: UNDRWYTH_WALK_STACK_BYTES, whatever the walk. */
 uint32_t undrwyth_walk(int32_t start_x, int32_t start_y,
                        const uint8_t *ops, size_t n,
                        uint32_t *table, size_t table_words,
@@ -260,7 +262,10 @@ uint32_t undrwyth_walk(int32_t start_x, int32_t start_y,
  * Accepted: out begins with x, y of each hull corner, counterclockwise from the lowest of the leftmost, no three in a
  * line (one corner gives one, a walk along one line its two ends); the numbers after them are as they were.
  *
- * Refused with 1, 10, 4, 6 or 8: out is as it was. A step at place UNDRWYTH_MOST_STEPS is 6 (a bad byte there is 4). */
+ * Refused with 1, 10, 4, 6 or 8, in this order: out is as it was. A step at place UNDRWYTH_MOST_STEPS is 6 (a bad byte
+ * there is 4).
+ *
+ * Stack: UNDRWYTH_HULL_256_STACK_BYTES where the walk goes through at most 256 columns, and so on. */
 uint32_t undrwyth_hull(int32_t start_x, int32_t start_y,
                        const uint8_t *chain, size_t n,
                        int32_t *out, size_t out_numbers,
@@ -280,8 +285,8 @@ uint32_t undrwyth_hull(int32_t start_x, int32_t start_y,
  * Refused with 1, 10, 4, 6 or 11, in this order: out is as it was. A step at place UNDRWYTH_MOST_STEPS is 6 (a bad byte
  * there is 4).
  *
- * No table is lent: the walked edges are found in a store on the stack, 262,160 bytes for more than 2,048 steps, 32,784
- * for more than 256, else 4,112. */
+ * Stack: UNDRWYTH_OUTLINE_256_STACK_BYTES for at most 256 steps, and so on. No table is lent: the walked edges are found
+ * in a store there, 262,160 bytes for more than 2,048 steps, 32,784 for more than 256, else 4,112. */
 uint32_t undrwyth_outline(int32_t start_x, int32_t start_y,
                           const uint8_t *chain, size_t n,
                           uint8_t *out, size_t out_bytes,
@@ -297,7 +302,9 @@ uint32_t undrwyth_outline(int32_t start_x, int32_t start_y,
  * out_bytes is at least 13 + 16 for each point; any length is taken, 16 * n + 29 is always enough.
  *
  * Accepted: out begins with the polygon; the bytes after it are as they were.
- * Refused with 1, 10, 4, 6, 12 or 13, in this order: out is as it was. */
+ * Refused with 1, 10, 4, 6, 12 or 13, in this order: out is as it was.
+ *
+ * Stack: UNDRWYTH_POLYGON_256_STACK_BYTES for at most 256 steps, and so on. */
 uint32_t undrwyth_polygon_of_room(int32_t start_x, int32_t start_y,
                                   const uint8_t *chain, size_t n,
                                   uint8_t *out, size_t out_bytes,
@@ -315,7 +322,9 @@ uint32_t undrwyth_polygon_of_room(int32_t start_x, int32_t start_y,
  * Accepted: out begins with the spans, rows from south to north and in each row from west to east. Each is as long as
  * possible, and none touch. Their lengths add up to the magnitude of the room's area. The numbers after them are as
  * they were.
- * Refused with 1, 10, 4, 6, 12 or 21, in this order: out is as it was. */
+ * Refused with 1, 10, 4, 6, 12 or 21, in this order: out is as it was.
+ *
+ * Stack: UNDRWYTH_ROWS_256_STACK_BYTES for at most 256 steps, and so on. */
 uint32_t undrwyth_rows(int32_t start_x, int32_t start_y,
                        const uint8_t *chain, size_t n,
                        int32_t *out, size_t out_numbers,
@@ -332,7 +341,9 @@ uint32_t undrwyth_rows(int32_t start_x, int32_t start_y,
  * first only and those in both are as many as the first room's area, without its sign, says, and likewise for the second.
  * Refused with 1, 10, 4, 6 or 12 for the first room, then in the same order for the second, then with 21 where any of the
  * three lists has no room in its buffer: all three buffers are as they were. The place of 4 and 6 is one in the chain of the
- * room that is refused; the answer does not say which that is. */
+ * room that is refused; the answer does not say which that is.
+ *
+ * Stack: UNDRWYTH_OVERLAY_256_STACK_BYTES where each chain has at most 256 steps, and so on. */
 uint32_t undrwyth_overlay(int32_t start1_x, int32_t start1_y,
                           const uint8_t *chain1, size_t n1,
                           int32_t start2_x, int32_t start2_y,
@@ -351,7 +362,9 @@ uint32_t undrwyth_overlay(int32_t start1_x, int32_t start1_y,
  * steps this was compared with another rule: a panel whose centre lies in the convex hull of the centres of the panels
  * inside is inside too.
  *
- * Accepted: the answer's last word is 1 for yes and 0 for no. Refused with 1, 10, 4, 6 or 12, in this order. */
+ * Accepted: the answer's last word is 1 for yes and 0 for no. Refused with 1, 10, 4, 6 or 12, in this order.
+ *
+ * Stack: UNDRWYTH_CONVEX_256_STACK_BYTES for at most 256 steps, and so on. */
 uint32_t undrwyth_convex(int32_t start_x, int32_t start_y,
                          const uint8_t *chain, size_t n,
                          uint32_t answer[UNDRWYTH_CONVEX_ANSWER_WORDS]);
@@ -366,7 +379,9 @@ uint32_t undrwyth_convex(int32_t start_x, int32_t start_y,
  *
  * Accepted: chain begins with the steps from point to point; the bytes after them are as they were. What
  * undrwyth_polygon_of_room wrote gives back its start and its chain.
- * Refused with 14, 15, 14 again, 16, 17, 6 (at place UNDRWYTH_MOST_STEPS) or 18, in this order: chain is as it was. */
+ * Refused with 14, 15, 14 again, 16, 17, 6 (at place UNDRWYTH_MOST_STEPS) or 18, in this order: chain is as it was.
+ *
+ * Stack: UNDRWYTH_CHAIN_STACK_BYTES, whatever the file. */
 uint32_t undrwyth_chain_of_polygon(const uint8_t *file, size_t file_bytes,
                                    uint8_t *chain, size_t chain_bytes,
                                    uint32_t answer[UNDRWYTH_CHAIN_ANSWER_WORDS]);
@@ -375,12 +390,14 @@ uint32_t undrwyth_chain_of_polygon(const uint8_t *file, size_t file_bytes,
  *
  * out_bytes is n. n may be up to UNDRWYTH_MOST_INPUT_BYTES.
  *
- * Accepted: out holds the turns. Refused with 1, 3 or 4: out is as it was. */
+ * Accepted: out holds the turns. Refused with 1, 3 or 4, in this order: out is as it was.
+ *
+ * Stack: UNDRWYTH_TURNS_STACK_BYTES. */
 uint32_t undrwyth_turns_of_steps(const uint8_t *steps, size_t n,
                                  uint8_t *out, size_t out_bytes,
                                  uint32_t answer[UNDRWYTH_TURNS_ANSWER_WORDS]);
 
-/* Turns n turns into steps: the inverse of undrwyth_turns_of_steps, with the same lengths, refusals and buffers. */
+/* Turns n turns into steps: the inverse of undrwyth_turns_of_steps, with the same lengths, refusals, buffers and stack. */
 uint32_t undrwyth_steps_of_turns(const uint8_t *turns, size_t n,
                                  uint8_t *out, size_t out_bytes,
                                  uint32_t answer[UNDRWYTH_TURNS_ANSWER_WORDS]);
@@ -395,9 +412,12 @@ uint32_t undrwyth_steps_of_turns(const uint8_t *turns, size_t n,
  * The result is the length of the answer, which begins out; the bytes after it are as they were. An accepted frame
  * gives, in lower-case hexadecimal, verdict (2 digits), n (4), nodes (8), different corners (4), j (4), k (4), area
  * (8), hull count (4) and then x and y of each hull corner (4 each), negatives in two's complement. A refused one
- * gives 80 plus the refusal's number (2) and the place (8); what is no frame is UNDRWYTH_REFUSAL_BAD_LINE.
+ * gives 80 plus the refusal's number (2) and the place (8): what is no frame is 9, then turns are 19, then the walk may be
+ * refused with 4, 5 or 7.
  *
- * If out_bytes is less than UNDRWYTH_LINE_BYTES, the result is 0 and out is as it was. */
+ * If out_bytes is less than UNDRWYTH_LINE_BYTES, the result is 0 and out is as it was.
+ *
+ * Stack: UNDRWYTH_LINE_STACK_BYTES. */
 size_t undrwyth_line(const uint8_t *line, size_t n, uint8_t *out, size_t out_bytes);
 
 /* Converts one line; neither the line nor what is written has a line feed.
@@ -407,7 +427,9 @@ size_t undrwyth_line(const uint8_t *line, size_t n, uint8_t *out, size_t out_byt
  *
  * Any n bytes are taken. out_bytes is at least n. The result is n: out begins with that many bytes, the line
  * converted, and the bytes after them are as they were. If out_bytes is less than n, whether the line is a frame or
- * not, the result is 0 and out is as it was. */
+ * not, the result is 0 and out is as it was.
+ *
+ * Stack: UNDRWYTH_CONVERT_LINE_STACK_BYTES. */
 size_t undrwyth_convert_line(const uint8_t *line, size_t n, uint8_t *out, size_t out_bytes);
 
 #ifdef __cplusplus

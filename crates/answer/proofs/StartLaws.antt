@@ -2,11 +2,11 @@
 -- Assumes nothing.
 use mathlib.Core.Bool.{Bool, true, false, not}
 use mathlib.Core.Path.{_≡_, refl, sym, ap, _∙_, subst}
-use Prim.Native.Nat.{ℕ, suc, _<_, _^_}
+use Prim.Native.Nat.{ℕ, suc, _-_, _<_, _^_}
 use native.Mathlib.Omega.{arith}
 use borrow.Author.Tests.{ltb-true, ltb-false, leb-true, le-leb, lt-leb, not-true, not-false}
 use lib.Dec.{leb}
-use lib.IntN.{ℤ, pos, negsuc, natAbs}
+use lib.IntN.{ℤ, pos, negsuc, negℤ, natAbs}
 use lib.Signed.{ltZ, leZ, mag}
 use mir.Syntax.{w32}
 use mir.Val.{SFits, toZ, ofZ}
@@ -25,21 +25,21 @@ pub near-fits : (c : Corner) → Near c → startFits c ≡ true
 near-fits c n = rw (le-leb (natAbs (c .0)) mostStart (n .0), le-leb (natAbs (c .1)) mostStart (n .1))
 
 -- ---- the two comparisons of the code, of what the machine reads back from an i32
-below : (z : ℤ) → ltZ z (negsuc 16383) ≡ true → false ≡ leb (natAbs z) mostStart
+below : (z : ℤ) → ltZ z (negℤ (pos mostStart)) ≡ true → false ≡ leb (natAbs z) mostStart
 below (pos n) e = absurd (let q : _≡_ {A = ℕ} 0 1 = cc in omega arith)
-below (negsuc n) e = sym (lt-leb (suc n) mostStart (omega (arith, ltb-true 16383 n e)))
+below (negsuc n) e = sym (lt-leb (suc n) mostStart (omega (arith, ltb-true (mostStart - 1) n e)))
 
-above : (z : ℤ) → ltZ z (negsuc 16383) ≡ false → leZ z (pos 16384) ≡ leb (natAbs z) mostStart
+above : (z : ℤ) → ltZ z (negℤ (pos mostStart)) ≡ false → leZ z (pos mostStart) ≡ leb (natAbs z) mostStart
 above (pos n) e = refl
-above (negsuc n) e = sym (le-leb (suc n) mostStart (omega (arith, ltb-false 16383 n e)))
+above (negsuc n) e = sym (le-leb (suc n) mostStart (omega (arith, ltb-false (mostStart - 1) n e)))
 
-pub range-below : (z : ℤ) → SFits w32 z → ltZ (toZ w32 (ofZ w32 z)) (negsuc 16383) ≡ true → false ≡ leb (natAbs z) mostStart
-range-below z f e = below z (subst (λ (x : ℤ). ltZ x (negsuc 16383) ≡ true) (toZ-ofZ w32 z f) e)
+pub range-below : (z : ℤ) → SFits w32 z → ltZ (toZ w32 (ofZ w32 z)) (negℤ (pos mostStart)) ≡ true → false ≡ leb (natAbs z) mostStart
+range-below z f e = below z (subst (λ (x : ℤ). ltZ x (negℤ (pos mostStart)) ≡ true) (toZ-ofZ w32 z f) e)
 
-pub range-above : (z : ℤ) → SFits w32 z → ltZ (toZ w32 (ofZ w32 z)) (negsuc 16383) ≡ false → leZ (toZ w32 (ofZ w32 z)) (pos 16384) ≡ leb (natAbs z) mostStart
+pub range-above : (z : ℤ) → SFits w32 z → ltZ (toZ w32 (ofZ w32 z)) (negℤ (pos mostStart)) ≡ false → leZ (toZ w32 (ofZ w32 z)) (pos mostStart) ≡ leb (natAbs z) mostStart
 range-above z f e =
-    ap (λ (x : ℤ). leZ x (pos 16384)) (toZ-ofZ w32 z f)
-    ∙ above z (subst (λ (x : ℤ). ltZ x (negsuc 16383) ≡ false) (toZ-ofZ w32 z f) e)
+    ap (λ (x : ℤ). leZ x (pos mostStart)) (toZ-ofZ w32 z f)
+    ∙ above z (subst (λ (x : ℤ). ltZ x (negℤ (pos mostStart)) ≡ false) (toZ-ofZ w32 z f) e)
 
 -- ---- one axis after the other, each read back from its bits
 axis : (z : ℤ) (b : Bool) → mag z < 2 ^ 31 → b ≡ leb (natAbs (toZ w32 (ofZ w32 z))) mostStart → b ≡ leb (natAbs z) mostStart

@@ -22,6 +22,10 @@ noMeeting = 65535
 abbrev pub mostStart : ℕ
 mostStart = 16384
 
+-- how far from 0 a coordinate of a walk's corner can be (RULES 12.1): as far as a start's, and one farther with each step
+abbrev pub farthest : ℕ
+farthest = mostStart + mostSteps
+
 -- a corner at which a walk may start
 abbrev pub Near : Corner → Type 0
 Near c = (natAbs (c .0) ≤ mostStart) × (natAbs (c .1) ≤ mostStart)

@@ -142,14 +142,28 @@ pub fn verdict_number(v: Verdict) -> usize
     }
 }
 
+// The limits of the calls.
+pub struct Limits;
+
+impl Limits {
+    // Input bytes at most.
+    pub const MOST_INPUT: usize = 32768;
+
+    // Surviving steps at most, at any moment.
+    pub const MOST_STEPS: usize = 16384;
+
+    // Records of a table at most: eight for each corner of the longest walk, and 68 for its start.
+    pub const MOST_RECORDS: usize = 8 * (Limits::MOST_STEPS + 1) + 68;
+}
+
 // The start of a walk.
 pub struct Start;
 
 impl Start {
-    // Its coordinates at least and at most.
-    pub const LEAST: i32 = -16384;
-
+    // Its coordinates at most and at least.
     pub const MOST: i32 = 16384;
+
+    const LEAST: i32 = -Start::MOST;
 }
 
 // Whether x may be a coordinate of a start. Both ends are compared: the least number has no magnitude of its type.

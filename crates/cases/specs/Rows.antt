@@ -41,7 +41,7 @@ pub data Fact : Type 0 where
   judgedAs : ℕ → ℕ → ℕ → Fact
 
 -- the corners p0 to pn of the surviving steps
-abbrev pub cornersOf : List ℕ → List Corner
+abbrev cornersOf : List ℕ → List Corner
 cornersOf os = cornersFrom origin (survivors os)
 
 abbrev pub FactHolds : List ℕ → Fact → Type 0
@@ -63,7 +63,7 @@ FactHolds os (judgedAs r n p) =
     × (judgedPlace (walkJudged origin os (r * width) (markWords * length os) (length os)) ≡ p)
 
 -- all of them hold
-abbrev pub HoldAll : List ℕ → List Fact → Type 0
+abbrev HoldAll : List ℕ → List Fact → Type 0
 HoldAll os [] = Unit {0}
 HoldAll os (f ∷ fs) = FactHolds os f × HoldAll os fs
 
@@ -71,7 +71,7 @@ pub record WorkedRow : Type 0 where
   pub operations : List ℕ
   pub facts : List Fact
 
-abbrev pub row : List ℕ → List Fact → WorkedRow
+abbrev row : List ℕ → List Fact → WorkedRow
 row os fs = record { operations = os; facts = fs }
 
 -- every fact of every row holds
@@ -80,7 +80,7 @@ Worked [] = Unit {0}
 Worked (r ∷ rs) = HoldAll (r .operations) (r .facts) × Worked rs
 
 -- a corner with no coordinate below zero
-abbrev pub at : ℕ → ℕ → Corner
+abbrev at : ℕ → ℕ → Corner
 at x y = corner (pos x) (pos y)
 
 -- P1 to P12, the two refusals of P12 as a row each

@@ -21,7 +21,7 @@ use Rattle.grid.specs.Grid.{corner, origin, stepped, cornersFrom}
 use Rattle.hull.specs.Hull.{cross}
 use Rattle.hull_laws.proofs.CornerLaws.{corner-eq}
 use Rattle.convex.specs.Convex.{Between, ConvexPart}
-use Rattle.convex_laws.specs.Level.{depthsFrom, lettersOf, level, levelOf, convexPart}
+use Rattle.convex_laws.specs.Level.{depthsFrom, areLetters, level, levelOf, convexPart}
 use Rattle.convex_laws.proofs.LevelLaws.{Level, both, two, levelOf-exactly}
 
 -- the highest corner of column j, where column 0 stands at x and depths are counted down from h
@@ -212,13 +212,13 @@ module _ (w : List ℕ) (letters : Below 2 w) where
       go false e = absurd (f (next (pos 0) h ys c) (record { a = top (pos 0) h ys a; b = top (pos 0) h ys b; from = top-in a (omega arith); to = top-in b m; left = order-col (pos 0) a c l; right = order-col (pos 0) c b r; under = level-under (pos 0) h ys a c b l r e; above = above }))
 
 -- the letters
-letters-below : (w : List ℕ) → lettersOf w ≡ true → Below 2 w
-unfolding lettersOf
+letters-below : (w : List ℕ) → areLetters w ≡ true → Below 2 w
+unfolding areLetters
 letters-below [] t = tt
-letters-below (d ∷ w) t = (ltb-true d 2 (both (ltb d 2) (lettersOf w) t .0), letters-below w (both (ltb d 2) (lettersOf w) t .1))
+letters-below (d ∷ w) t = (ltb-true d 2 (both (ltb d 2) (areLetters w) t .0), letters-below w (both (ltb d 2) (areLetters w) t .1))
 
-below-letters : (w : List ℕ) → Below 2 w → lettersOf w ≡ true
-unfolding lettersOf
+below-letters : (w : List ℕ) → Below 2 w → areLetters w ≡ true
+unfolding areLetters
 below-letters [] b = refl
 below-letters (d ∷ w) b = two (lt-ltb d 2 (b .0)) (below-letters w (b .1))
 
@@ -227,11 +227,11 @@ pub convexPart-exactly : (w : List ℕ) → (convexPart w ≡ true) ↔ ConvexPa
 unfolding convexPart ys
 convexPart-exactly w = (there, back)
   where
-    there : (lettersOf w && levelOf (depthsFrom (length w) w)) ≡ true → ConvexPart w
+    there : (areLetters w && levelOf (depthsFrom (length w) w)) ≡ true → ConvexPart w
     there t =
-        let e = both (lettersOf w) (levelOf (depthsFrom (length w) w)) t in
+        let e = both (areLetters w) (levelOf (depthsFrom (length w) w)) t in
         let b : Below 2 w = letters-below w (e .0) in
         record { letters = b; none = level-none w b (levelOf-exactly (depthsFrom (length w) w) .0 (e .1)) }
 
-    back : ConvexPart w → (lettersOf w && levelOf (depthsFrom (length w) w)) ≡ true
+    back : ConvexPart w → (areLetters w && levelOf (depthsFrom (length w) w)) ≡ true
     back p = two (below-letters w (p .letters)) (levelOf-exactly (depthsFrom (length w) w) .1 (none-level w (p .letters) (p .none)))

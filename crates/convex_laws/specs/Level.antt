@@ -15,9 +15,9 @@ depthsFrom y (zero ∷ w) = y ∷ depthsFrom y w
 depthsFrom y (suc d ∷ w) = depthsFrom (y - 1) w
 
 -- all letters are 0 or 1
-unfoldable pub lettersOf : List ℕ → Bool
-lettersOf [] = true
-lettersOf (d ∷ w) = ltb d 2 && lettersOf w
+unfoldable pub areLetters : List ℕ → Bool
+areLetters [] = true
+areLetters (d ∷ w) = ltb d 2 && areLetters w
 
 -- the grid point next above column c lies above the straight line from column p to column b
 unfoldable pub level : List ℕ → ℕ → ℕ → ℕ → Bool
@@ -40,4 +40,4 @@ levelOf ys = levelAlong ys (chainFrom ys 0 (length ys))
 
 -- the decision on a part that is turned back to the first
 unfoldable pub convexPart : List ℕ → Bool
-convexPart w = lettersOf w && levelOf (depthsFrom (length w) w)
+convexPart w = areLetters w && levelOf (depthsFrom (length w) w)

@@ -14,7 +14,7 @@ use mir.Val.{boolByte}
 use Rattle.hull_laws.specs.Outline.{chainFrom}
 use Rattle.hull_laws.proofs.StackLaws.{stack-in}
 use Rattle.convex.specs.Parts.{turnedBy}
-use Rattle.convex_laws.specs.Level.{depthsFrom, lettersOf, level, levels, levelAlong, levelOf, convexPart}
+use Rattle.convex_laws.specs.Level.{depthsFrom, areLetters, level, levels, levelAlong, levelOf, convexPart}
 use Rattle.convex_laws.proofs.LevelLaws.{chain-rises}
 use Rattle.convex_part.specs.Steps.{over, under, Rises}
 
@@ -104,17 +104,17 @@ module _ (ds : List ℕ) (t : ℕ) where
   none-left : (i : ℕ) → length ds ≤ i → drop i (turnedBy t ds) ≡ []
   none-left i h = drop-of-length-le (turnedBy t ds) {i = i} (omega (arith, length-turned t ds))
 
-  pub letters-here : (i d : ℕ) → i < length ds → d ≡ (getD ds i 0 + t) % 4 → 1 < d → false ≡ lettersOf (drop i (turnedBy t ds))
-  unfolding lettersOf
-  letters-here i d h e l = sym (ap lettersOf (left i d h e) ∙ and-false (ltb d 2) (lettersOf (drop (i + 1) (turnedBy t ds))) (le-ltb d 2 (omega arith)))
+  pub letters-here : (i d : ℕ) → i < length ds → d ≡ (getD ds i 0 + t) % 4 → 1 < d → false ≡ areLetters (drop i (turnedBy t ds))
+  unfolding areLetters
+  letters-here i d h e l = sym (ap areLetters (left i d h e) ∙ and-false (ltb d 2) (areLetters (drop (i + 1) (turnedBy t ds))) (le-ltb d 2 (omega arith)))
 
-  pub letters-next : (i d : ℕ) → i < length ds → d ≡ (getD ds i 0 + t) % 4 → d ≤ 1 → lettersOf (drop (i + 1) (turnedBy t ds)) ≡ lettersOf (drop i (turnedBy t ds))
-  unfolding lettersOf
-  letters-next i d h e l = sym (ap lettersOf (left i d h e) ∙ and-true (ltb d 2) (lettersOf (drop (i + 1) (turnedBy t ds))) (lt-ltb d 2 (omega arith)))
+  pub letters-next : (i d : ℕ) → i < length ds → d ≡ (getD ds i 0 + t) % 4 → d ≤ 1 → areLetters (drop (i + 1) (turnedBy t ds)) ≡ areLetters (drop i (turnedBy t ds))
+  unfolding areLetters
+  letters-next i d h e l = sym (ap areLetters (left i d h e) ∙ and-true (ltb d 2) (areLetters (drop (i + 1) (turnedBy t ds))) (lt-ltb d 2 (omega arith)))
 
-  pub letters-none : (i : ℕ) → length ds ≤ i → true ≡ lettersOf (drop i (turnedBy t ds))
-  unfolding lettersOf
-  letters-none i h = sym (ap lettersOf (none-left i h))
+  pub letters-none : (i : ℕ) → length ds ≤ i → true ≡ areLetters (drop i (turnedBy t ds))
+  unfolding areLetters
+  letters-none i h = sym (ap areLetters (none-left i h))
 
   -- the depths: k columns stand in ys, and the rest of the letters gives the rest
   pub dig-step : (ys : List ℕ) (k y i d : ℕ) (D : List ℕ) → i < length ds → d ≡ (getD ds i 0 + t) % 4 → k < length ys → take k ys ++ depthsFrom y (drop i (turnedBy t ds)) ≡ D → take (over k d) (set ys k y) ++ depthsFrom (under y d) (drop (i + 1) (turnedBy t ds)) ≡ D
@@ -151,13 +151,13 @@ scan-rises ys s a n e h g = record { begins = h; rises = up; columns = λ j l r.
     up j l r = omega (arith, chain-rises ys n (j - a) (omega (arith, ap length e, length-drop a s)), at (j - a) j (omega arith), at (j - a + 1) (j + 1) (omega arith))
 
 -- a part is judged by its letters and by its columns
-pub judge-letters : (w : List ℕ) → lettersOf w ≡ false → false ≡ convexPart w
+pub judge-letters : (w : List ℕ) → areLetters w ≡ false → false ≡ convexPart w
 unfolding convexPart
-judge-letters w e = sym (and-false (lettersOf w) (levelOf (depthsFrom (length w) w)) e)
+judge-letters w e = sym (and-false (areLetters w) (levelOf (depthsFrom (length w) w)) e)
 
-pub judge-columns : (w ys : List ℕ) (m : ℕ) → lettersOf w ≡ true → m ≡ length w → ys ≡ depthsFrom m w → levelOf ys ≡ convexPart w
+pub judge-columns : (w ys : List ℕ) (m : ℕ) → areLetters w ≡ true → m ≡ length w → ys ≡ depthsFrom m w → levelOf ys ≡ convexPart w
 unfolding convexPart
-judge-columns w ys m e g f = ap levelOf (f ∙ ap (λ (n : ℕ). depthsFrom n w) g) ∙ sym (and-true (lettersOf w) (levelOf (depthsFrom (length w) w)) e)
+judge-columns w ys m e g f = ap levelOf (f ∙ ap (λ (n : ℕ). depthsFrom n w) g) ∙ sym (and-true (areLetters w) (levelOf (depthsFrom (length w) w)) e)
 
 pub columns-level : (ys s : List ℕ) → s ≡ chainFrom ys 0 (length ys) → levelAlong ys s ≡ levelOf ys
 unfolding levelOf

@@ -1,11 +1,12 @@
 // Whether a part of a room is convex: the depths of its columns, the chain over them, and a test for each column.
 use hull_chains::scan;
+use order::wide;
 ghost use mathlib.Core.Path.{_≡_};
 ghost use Prim.Native.Nat.{_+_, _*_, _-_, _%_, _<_, _≤_};
 ghost use lib.Dec.{ltb};
 ghost use lib.ListN.{length, take, drop};
 ghost use Rattle.convex.specs.Parts.{turnedBy};
-ghost use Rattle.convex_laws.specs.Level.{depthsFrom, lettersOf, level, levels, levelAlong, levelOf, convexPart};
+ghost use Rattle.convex_laws.specs.Level.{depthsFrom, areLetters, level, levels, levelAlong, levelOf, convexPart};
 ghost use Rattle.convex_part.specs.Steps.{over, under, Rises, Digits};
 
 // Whether one step above depth c, w columns right of p, lies above the straight line from depth p to depth b, u columns right of it.
@@ -40,12 +41,6 @@ fn edge(ys: &[u16], p: usize, b: usize) -> bool
     true
 }
 
-fn wide(c: u16) -> usize
-    ensures { λ r. ⌜ r ≡ c ⌝ }
-{
-    c as usize
-}
-
 // The same for all neighbours of the chain that stands in s from place a on.
 fn along(ys: &[u16], s: &[u16], a: usize) -> bool
     requires { ⌜ Rises (length (now ys)) (now s) a × (length (now ys) ≤ 65536) ⌝ }
@@ -74,7 +69,7 @@ fn letter(d: u8, turn: u8) -> u8
 // Whether a part, turned, has only the letters 0 and 1.
 fn plain(part: &[u8], turn: u8) -> bool
     requires { ⌜ Digits (now part) × (turn < 4) ⌝ }
-    ensures { λ r. ⌜ r ≡ lettersOf (turnedBy turn (now (part .entry))) ⌝ }
+    ensures { λ r. ⌜ r ≡ areLetters (turnedBy turn (now (part .entry))) ⌝ }
 {
     let mut i = 0;
     while i < part.len() {

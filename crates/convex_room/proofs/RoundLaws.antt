@@ -21,7 +21,7 @@ use Rattle.convex_laws.proofs.PlaceLaws.{placeOf-found}
 use Rattle.convex_laws.proofs.RoomLaws.{length-started}
 use Rattle.convex_part.specs.Steps.{Digits}
 use Rattle.convex_room.proofs.PartLaws.{digits-slice}
-use Rattle.convex_room.specs.Laid.{Laid, Roomy}
+use Rattle.convex_room.specs.Laid.{LaidTwice, Roomy}
 
 -- ---- the chain backwards
 
@@ -62,10 +62,10 @@ digits-travelled true ds d = record { digits = λ k. go k (decLt k (length ds)) 
 
 -- ---- laid down twice
 
-pub laid-none : (w : List ℕ) (n : ℕ) (out : List ℕ) → Laid w n out 0
+pub laid-none : (w : List ℕ) (n : ℕ) (out : List ℕ) → LaidTwice w n out 0
 laid-none w n out = record { once = λ j h. absurd (omega arith); again = λ j h. absurd (omega arith) }
 
-pub laid-step : (w : List ℕ) (n : ℕ) (out : List ℕ) (i d : ℕ) → Laid w n out i → i < n → 2 * n ≤ length out → d ≡ getD w i 0 → Laid w n (set (set out i d) (n + i) d) (i + 1)
+pub laid-step : (w : List ℕ) (n : ℕ) (out : List ℕ) (i d : ℕ) → LaidTwice w n out i → i < n → 2 * n ≤ length out → d ≡ getD w i 0 → LaidTwice w n (set (set out i d) (n + i) d) (i + 1)
 laid-step w n out i d t h g e = record { once = λ j l. once j l (ℕ-discrete j i); again = λ j l. again j l (ℕ-discrete j i) }
   where
     here : (j : ℕ) → j ≡ i → d ≡ getD w j 0
@@ -79,7 +79,7 @@ laid-step w n out i d t h g e = record { once = λ j l. once j l (ℕ-discrete j
     again j l (yes f) = ap (λ (m : ℕ). getD (set (set out i d) (n + i) d) (n + m) 0) f ∙ getD-set-same (set out i d) (n + i) d 0 (omega (arith, length-set out i d)) ∙ here j f
     again j l (no f) = getD-set-other (set out i d) (n + i) (n + j) d 0 (λ k. f (omega arith)) ∙ getD-set-other out i (n + j) d 0 (λ k. omega arith) ∙ t .again j (omega arith)
 
-module _ (w out : List ℕ) (n : ℕ) (t : Laid w n out n) (e : length w ≡ n) (room : 2 * n ≤ length out) where
+module _ (w out : List ℕ) (n : ℕ) (t : LaidTwice w n out n) (e : length w ≡ n) (room : 2 * n ≤ length out) where
   laid-once : take n out ≡ w
   laid-once = ext-getD 0 (take n out) w (length-take n out ∙ omega arith) (λ i h. getD-take n out i 0 (omega (arith, length-take n out)) ∙ t .once i (omega (arith, length-take n out)))
 
@@ -121,7 +121,7 @@ digits-started m w d = record { digits = λ k. go k (decLt k (length (drop m w))
         over = omega arith
 
 -- the room laid down as far as its first extremal corner, found at place m
-module _ (ds out : List ℕ) (b : Bool) (d : Digits ds) (short : length ds ≤ middle) (room : 2 * length ds ≤ length out) (t : Laid (travelled b ds) (length ds) out (length ds)) (m : ℕ) (e : m ≡ placeOf 0 (take (length ds) out)) where
+module _ (ds out : List ℕ) (b : Bool) (d : Digits ds) (short : length ds ≤ middle) (room : 2 * length ds ≤ length out) (t : LaidTwice (travelled b ds) (length ds) out (length ds)) (m : ℕ) (e : m ≡ placeOf 0 (take (length ds) out)) where
   once : take (length ds) out ≡ travelled b ds
   once = laid-once (travelled b ds) out (length ds) t (length-travelled b ds) room
 

@@ -8,7 +8,7 @@ use Rattle.hull_laws.specs.Columns.{middle}
 use Rattle.convex_part.specs.Steps.{Digits}
 
 -- the first i steps of w stand at the start of out and from place n on
-pub record Laid (w : List ℕ) (n : ℕ) (out : List ℕ) (i : ℕ) : Type 0 where
+pub record LaidTwice (w : List ℕ) (n : ℕ) (out : List ℕ) (i : ℕ) : Type 0 where
   pub once : (j : ℕ) → j < i → getD out j 0 ≡ getD w j 0
   pub again : (j : ℕ) → j < i → getD out (n + j) 0 ≡ getD w j 0
 

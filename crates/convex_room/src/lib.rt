@@ -2,10 +2,12 @@
 // each part is judged.
 use answer::Counted;
 use answer::Judged;
+use answer::Limits;
 use convex_part::judge;
 use convex_place::leftward;
 use convex_place::place;
 use grid::Corner;
+use hull_columns::Columns;
 ghost use mathlib.Core.Path.{_≡_};
 ghost use mathlib.Core.Bool.{_&&_};
 ghost use Prim.Native.Nat.{_+_, _*_, _-_, _<_, _≤_};
@@ -14,14 +16,14 @@ ghost use Rattle.lists.specs.Lists.{tally};
 ghost use Rattle.answer.specs.declared.Counted.{Counted};
 ghost use Rattle.grid.specs.declared.Corner.{Corner};
 ghost use Rattle.grid.specs.Grid.{endFrom};
-ghost use Rattle.hull_laws.specs.Columns.{middle};
+ghost use Rattle.hull_laws.specs.Columns.{middle, narrowSize, widerSize};
 ghost use Rattle.convex.specs.Parts.{turnedBy};
 ghost use Rattle.convex.specs.Convex.{ConvexCall};
 ghost use Rattle.convex_laws.specs.Way.{travelled};
 ghost use Rattle.convex_laws.specs.Level.{convexPart};
 ghost use Rattle.convex_laws.specs.Decide.{convexAt, convexFrom, convexOf};
 ghost use Rattle.convex_part.specs.Steps.{Digits};
-ghost use Rattle.convex_room.specs.Laid.{Laid, Roomy};
+ghost use Rattle.convex_room.specs.Laid.{LaidTwice, Roomy};
 
 // Step i of a chain, or of the chain backwards.
 fn step_at(chain: &[u8], back: bool, i: usize) -> u8
@@ -37,7 +39,7 @@ fn step_at(chain: &[u8], back: bool, i: usize) -> u8
 // Lays the chain, or the chain backwards, down twice.
 fn lay(chain: &[u8], back: bool, out: &mut [u8])
     requires { ⌜ Digits (now chain) × (2 * length (now chain) ≤ length (now out)) ⌝ }
-    ensures { λ _. ⌜ Laid (travelled back (now (chain .entry))) (length (now (chain .entry))) (now (out .exit)) (length (now (chain .entry))) ⌝ }
+    ensures { λ _. ⌜ LaidTwice (travelled back (now (chain .entry))) (length (now (chain .entry))) (now (out .exit)) (length (now (chain .entry))) ⌝ }
 {
     let n = chain.len();
     let mut i = 0;
@@ -109,34 +111,34 @@ fn in_store(chain: &[u8], out: &mut [u8], ys: &mut [u16], s: &mut [u16]) -> bool
 
 // Whether a room of at most 256 steps is convex.
 fn narrow(chain: &[u8]) -> bool
-    requires { ⌜ Digits (now chain) × (length (now chain) ≤ 256) ⌝ }
+    requires { ⌜ Digits (now chain) × (length (now chain) ≤ narrowSize) ⌝ }
     ensures { λ r. ⌜ ((c : Corner) → endFrom c (now (chain .entry)) ≡ c → r ≡ convexOf c (now (chain .entry))) ⌝ }
 {
-    let mut out = [0u8; 512];
-    let mut ys = [0u16; 257];
-    let mut s = [0u16; 257];
+    let mut out = [0u8; 2 * Columns::NARROW];
+    let mut ys = [0u16; Columns::NARROW + 1];
+    let mut s = [0u16; Columns::NARROW + 1];
     in_store(chain, &mut out, &mut ys, &mut s)
 }
 
 // Whether a room of at most 2,048 steps is convex.
 fn wider(chain: &[u8]) -> bool
-    requires { ⌜ Digits (now chain) × (length (now chain) ≤ 2048) ⌝ }
+    requires { ⌜ Digits (now chain) × (length (now chain) ≤ widerSize) ⌝ }
     ensures { λ r. ⌜ ((c : Corner) → endFrom c (now (chain .entry)) ≡ c → r ≡ convexOf c (now (chain .entry))) ⌝ }
 {
-    let mut out = [0u8; 4096];
-    let mut ys = [0u16; 2049];
-    let mut s = [0u16; 2049];
+    let mut out = [0u8; 2 * Columns::WIDER];
+    let mut ys = [0u16; Columns::WIDER + 1];
+    let mut s = [0u16; Columns::WIDER + 1];
     in_store(chain, &mut out, &mut ys, &mut s)
 }
 
 // Whether a room of at most 16,384 steps is convex.
 fn widest(chain: &[u8]) -> bool
-    requires { ⌜ Digits (now chain) × (length (now chain) ≤ 16384) ⌝ }
+    requires { ⌜ Digits (now chain) × (length (now chain) ≤ middle) ⌝ }
     ensures { λ r. ⌜ ((c : Corner) → endFrom c (now (chain .entry)) ≡ c → r ≡ convexOf c (now (chain .entry))) ⌝ }
 {
-    let mut out = [0u8; 32768];
-    let mut ys = [0u16; 16385];
-    let mut s = [0u16; 16385];
+    let mut out = [0u8; 2 * Limits::MOST_STEPS];
+    let mut ys = [0u16; Limits::MOST_STEPS + 1];
+    let mut s = [0u16; Limits::MOST_STEPS + 1];
     in_store(chain, &mut out, &mut ys, &mut s)
 }
 
@@ -145,10 +147,10 @@ fn is_convex(chain: &[u8]) -> bool
     requires { ⌜ Digits (now chain) × (length (now chain) ≤ middle) ⌝ }
     ensures { λ r. ⌜ ((c : Corner) → endFrom c (now (chain .entry)) ≡ c → r ≡ convexOf c (now (chain .entry))) ⌝ }
 {
-    if chain.len() <= 256 {
+    if chain.len() <= Columns::NARROW {
         return narrow(chain);
     }
-    if chain.len() <= 2048 {
+    if chain.len() <= Columns::WIDER {
         return wider(chain);
     }
     widest(chain)

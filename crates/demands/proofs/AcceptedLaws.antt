@@ -28,7 +28,7 @@ use Rattle.trace.proofs.MeetingLaws.{meetingOf-meets, meetingOf-none}
 use Rattle.trace.proofs.VerdictLaws.{verdict-says, area-room, area-other}
 use Rattle.tree.proofs.InUseLaws.{node-inUse}
 use Rattle.demands.specs.Moments.{nodesAfter, visitsAfter, changesAt}
-use Rattle.demands.specs.Given.{Given}
+use Rattle.demands.specs.Given.{GivenWalk}
 use Rattle.demands.specs.Given as given
 use Rattle.demands.specs.Record.{RecordSays}
 use Rattle.demands.proofs.BufferLaws.{table-word, table-unused, table-length, marks-from, marks-length, chain-length}
@@ -89,7 +89,7 @@ module _ {c : Corner} {os t ms ch t′ ms′ ch′ : List ℕ} {f : Facts} (w : 
   pub its-lengths : (length t′ ≡ length t) × (length ms′ ≡ length ms) × (length ch′ ≡ length ch)
   its-lengths = by (its-occasion w)
     where
-      by : Given c os (length t) (length ms) (length ch) Good → (length t′ ≡ length t) × (length ms′ ≡ length ms) × (length ch′ ≡ length ch)
+      by : GivenWalk c os (length t) (length ms) (length ch) Good → (length t′ ≡ length t) × (length ms′ ≡ length ms) × (length ch′ ≡ length ch)
       by (given.accepted h a) =
           let n : length (nodesOf (cornersFrom c (survivors os))) ≤ recordsIn (length t) =
           subst (λ (l : List ℕ). length (nodesOf (cornersFrom c (survivors l))) ≤ recordsIn (length t)) (take-length os) (a (length os) (omega arith)) in

@@ -2,7 +2,7 @@
 -- Assumes nothing.
 use mathlib.Core.List.{List, [], _++_, append-nil, List·Memᴰ}
 use mathlib.Core.Path.{_≡_, refl, ap, ap₂, sym, _∙_, subst}
-use Prim.Native.Nat.{ℕ, _+_, _-_, _*_, _^_, _<_, _≤_}
+use Prim.Native.Nat.{ℕ, suc, _+_, _-_, _*_, _^_, _<_, _≤_}
 use native.Mathlib.Omega.{arith}
 use lib.IntN.{natAbs}
 use lib.ListN.{length, getD, take, replicate}
@@ -12,7 +12,7 @@ use Rattle.answer.specs.declared.Facts.{Facts}
 use Rattle.answer.specs.declared.Judged.{Judged}
 use Rattle.answer.specs.declared.Judged.the-variants.{Good}
 use Rattle.answer.specs.declared.Refusal.the-variants.{NoRoom}
-use Rattle.answer.specs.Limits.{Near}
+use Rattle.answer.specs.Limits.{mostSteps, Near}
 use Rattle.grid.specs.declared.Corner.{Corner}
 use Rattle.grid.specs.Grid.{origin, cornersFrom, endFrom}
 use Rattle.grid.specs.Tree.{WithinLevels}
@@ -88,7 +88,7 @@ walkable-after os f k h =
     walkable-survivors 0 [] (take k os) (record { digits = tt; few = omega arith }) (faults-none 0 [] (take k os) g)
 
 -- every corner of a walk that may start there is within 16 levels
-pub corners-within : (c : Corner) (ds : List ℕ) → Near c → length ds ≤ 16384 → (q : Corner) → List·Memᴰ q (cornersFrom c ds) → WithinLevels 16 q
+pub corners-within : (c : Corner) (ds : List ℕ) → Near c → length ds ≤ mostSteps → (q : Corner) → List·Memᴰ q (cornersFrom c ds) → WithinLevels 16 q
 corners-within c ds n l q m =
     let k = getD-mem (cornersFrom c ds) c m in
     let i : k .0 ≤ length ds = omega (arith, k .1, length-cornersFrom c ds) in
@@ -101,7 +101,7 @@ corners-within c ds n l q m =
     }
 
 module _ {c : Corner} {os : List ℕ} {words marks chain : ℕ} (f : Faultless c os words marks chain) (k : ℕ) (h : k ≤ length os) where
-  few : length (stepsAfter os k) ≤ 16384
+  few : length (stepsAfter os k) ≤ mostSteps
   few = walkable-after os (f .fine) k h .few
 
   pub four-and-start : FourAndStart (nodesAfter c os k) (cornersAfter c os k)
@@ -110,7 +110,7 @@ module _ {c : Corner} {os : List ℕ} {words marks chain : ℕ} (f : Faultless c
   pub at-most-eight : AtMostEight (nodesAfter c os k) (cornersAfter c os k)
   at-most-eight = omega (arith, four-and-start)
 
-  most-corners : cornersAfter c os k ≤ 16385
+  most-corners : cornersAfter c os k ≤ suc mostSteps
   most-corners = omega (arith, few, length-visited-le (cornersFrom c (stepsAfter os k)), length-cornersFrom c (stepsAfter os k))
 
 -- ---- tables that are large enough at every moment

@@ -19,7 +19,7 @@ use Rattle.grid.proofs.StepLaws.{cornersFrom-snoc, endFrom-mem}
 use Rattle.steps.proofs.SurvivorLaws.{operate-step, operate-back, below-last}
 use Rattle.table_laws.proofs.DiffLaws.{walk-few, changes-back}
 use Rattle.demands.specs.Moments.{stepsAfter}
-use Rattle.demands.specs.Given.{Given}
+use Rattle.demands.specs.Given.{GivenWalk}
 use Rattle.demands.specs.Given as given
 use Rattle.demands.proofs.AcceptedLaws.{its-mark}
 use Rattle.demands.proofs.AloneLaws.{walkable-after, corners-within}
@@ -61,7 +61,7 @@ one-operation c ds es o n v w f e =
 pub its-few : {c : Corner} {os t ms ch t′ ms′ ch′ : List ℕ} {f : Facts} → WalkIs c os t ms ch (Answer.Accepted f) t′ ms′ ch′ → (k : ℕ) → k < length os → getD ms′ (markWords * k + 2) 0 ≤ 33
 its-few {c} {os} {t} {ms} {ch} {ms′ = ms′} w k h = by (its-occasion w)
   where
-    by : Given c os (length t) (length ms) (length ch) Good → getD ms′ (markWords * k + 2) 0 ≤ 33
+    by : GivenWalk c os (length t) (length ms) (length ch) Good → getD ms′ (markWords * k + 2) 0 ≤ 33
     by (given.accepted g a) =
         subst (λ (n : ℕ). n ≤ 33) (sym (its-mark w k h .2))
         (one-operation c (stepsAfter os k) (stepsAfter os (suc k)) (getD os k 0) (g .sized .start) (walkable-after os (g .fine) k (omega arith)) (walkable-after os (g .fine) (suc k) h) (g .fine k h) (steps-next [] os k h))

@@ -53,7 +53,7 @@ use Rattle.table_laws.proofs.DiffLaws as diffLaws
 use Rattle.steps.proofs.TurnLaws as turnLaws
 use Rattle.steps.proofs.TurnPromiseLaws as promiseLaws
 use Rattle.demands.specs.Moments.{nodesAfter, cornersAfter, visitsAfter, changesAt, AtMostEight, FourAndStart, FourLessThree, Exceeds}
-use Rattle.demands.specs.Given.{Faultless, NoRoomAfter, Given}
+use Rattle.demands.specs.Given.{Faultless, NoRoomAfter, GivenWalk}
 use Rattle.demands.specs.GivenTurns.{GivenTurns}
 use Rattle.demands.specs.GivenHull.{GivenHull}
 use Rattle.demands.specs.Record.{RecordSays}
@@ -78,19 +78,19 @@ pub walkIs-one : {c : Corner} {os t ms ch t₁ ms₁ ch₁ t₂ ms₂ ch₂ : Li
 walkIs-one = walkLaws.walkIs-one
 
 module _ {c : Corner} {os t ms ch t′ ms′ ch′ : List ℕ} {r : Answer} (w : WalkIs c os t ms ch r t′ ms′ ch′) where
-  -- "an answer or a numbered refusal": each refusal exactly on its occasion, 1, 2, 3, then 4, 5, 6 at the first faulty place, then 7
-  pub refused-exactly : (q : Refusal) → r ≡ Answer.Refused q ↔ Given c os (length t) (length ms) (length ch) (Refused q)
+  -- "an answer or a numbered refusal": each refusal exactly on its occasion, 1, 2, 3, 10, then 4, 5, 6 at the first faulty place, then 7
+  pub refused-exactly : (q : Refusal) → r ≡ Answer.Refused q ↔ GivenWalk c os (length t) (length ms) (length ch) (Refused q)
   refused-exactly = walkLaws.refused-when w
 
   -- and acceptance exactly on its own, with the facts of the surviving steps
-  pub accepted-exactly : r ≡ Answer.Accepted (factsOf c (survivors os)) ↔ Given c os (length t) (length ms) (length ch) Good
+  pub accepted-exactly : r ≡ Answer.Accepted (factsOf c (survivors os)) ↔ GivenWalk c os (length t) (length ms) (length ch) Good
   accepted-exactly = walkLaws.accepted-when w
 
   -- the numbers of each: a refused answer holds number and place, all else 0; an accepted one 0 for both, and the facts
-  pub refused-words : (q : Refusal) → Given c os (length t) (length ms) (length ch) (Refused q) → answerWords r ≡ refusalNumber q ∷ refusalPlace q ∷ replicate 9 0
+  pub refused-words : (q : Refusal) → GivenWalk c os (length t) (length ms) (length ch) (Refused q) → answerWords r ≡ refusalNumber q ∷ refusalPlace q ∷ replicate 9 0
   refused-words q g = ap answerWords (refused-exactly q .1 g)
 
-  pub accepted-words : Given c os (length t) (length ms) (length ch) Good → answerWords r ≡ factsWords (factsOf c (survivors os))
+  pub accepted-words : GivenWalk c os (length t) (length ms) (length ch) Good → answerWords r ≡ factsWords (factsOf c (survivors os))
   accepted-words g = ap answerWords (accepted-exactly .1 g)
 
 module _ {c : Corner} {os t ms ch t′ ms′ ch′ : List ℕ} where

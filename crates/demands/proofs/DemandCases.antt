@@ -15,7 +15,7 @@ use Rattle.tree.specs.Nodes.{InUse, LinkedBy}
 use Rattle.layout.specs.Table.{width}
 use Rattle.steps.specs.Operations.{Fine}
 use Rattle.demands.specs.Moments.{nodesAfter, cornersAfter, visitsAfter, AtMostEight, FourLessThree, Exceeds}
-use Rattle.demands.specs.Given.{HasRecords, FineAt, BadDigitAt, First, NoRoomAfter}
+use Rattle.demands.specs.Given.{HasRecords, FineAt, BadDigitAt, FirstAt, NoRoomAfter}
 
 -- 0011 needs six nodes for its five corners at its last moment, so five records are too few and six are enough
 one-record-short : Exceeds (nodesAfter origin (0 ∷ 0 ∷ 1 ∷ 1 ∷ []) 4) 5
@@ -55,7 +55,7 @@ one-to-take : Fine 1 4
 one-to-take = inl (refl, omega arith)
 
 -- of two bad digits the second is not the first faulty place
-second-of-two : First 2 (FineAt (5 ∷ 5 ∷ [])) (BadDigitAt (5 ∷ 5 ∷ [])) 1 → ⊥
+second-of-two : FirstAt 2 (FineAt (5 ∷ 5 ∷ [])) (BadDigitAt (5 ∷ 5 ∷ [])) 1 → ⊥
 second-of-two f = ⊎-elim (λ h. omega (arith, h .0)) (λ h. omega (arith, h .0)) (f .before 0 (omega arith))
 
 -- the words of two records, and one word less

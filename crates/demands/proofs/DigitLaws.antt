@@ -23,9 +23,9 @@ use Rattle.answer.specs.Refusal.{when, orElse}
 use Rattle.grid.specs.declared.Corner.{Corner}
 use Rattle.steps.specs.Turns.{digitsJudged, turnsJudged, ConvertedBy}
 use Rattle.steps.proofs.TurnPromiseLaws as turns
-use Rattle.hull.specs.Call.{faultAt, chainJudged, roomJudged, hullJudged, countedOf, HullCall}
+use Rattle.hull.specs.Call.{faultAt, chainJudged, hullRoomJudged, hullJudged, countedOf, HullCall}
 use Rattle.hull_laws.proofs.CallLaws as hulls
-use Rattle.demands.specs.Given.{First}
+use Rattle.demands.specs.Given.{FirstAt}
 use Rattle.demands.specs.GivenTurns.{DigitAt, AboveThreeAt, GivenTurns}
 use Rattle.demands.specs.GivenTurns as turn
 use Rattle.demands.specs.GivenHull.{StepAt, StepTooManyAt, ChainSized, GivenHull}
@@ -107,12 +107,12 @@ module _ (c : Corner) (chain : List ℕ) (room corners : ℕ) where
   pub at-most : (i : ℕ) → ((h : ℕ) → h < i → StepAt chain h) → mostSteps ≤ i → i ≡ mostSteps
   at-most i f h = elim (ℕ-discrete i mostSteps) [ yes e ↦ e | no g ↦ absurd (omega (arith, f mostSteps (omega arith) .1)) ]
 
-  hull-fault : (bad : ℕ → Type 0) (i : ℕ) (r : Refusal) → ChainSized c chain → First (length chain) (StepAt chain) bad i → faultAt i (getD chain i 0) ≡ Refused r → hullJudged c chain room corners ≡ Refused r
+  hull-fault : (bad : ℕ → Type 0) (i : ℕ) (r : Refusal) → ChainSized c chain → FirstAt (length chain) (StepAt chain) bad i → faultAt i (getD chain i 0) ≡ Refused r → hullJudged c chain room corners ≡ Refused r
   hull-fault bad i r h f e =
       hulls.judged-fault c chain room corners (h .few) (near-fits c (h .start)) r
       (first-from faultAt chainJudged (λ p. refl) (λ p d l. refl) 0 chain i i r (f .inside) (λ k q m g. step-none q (getD chain k 0) (f .before k m .0) (omega (arith, f .before k m .1))) (omega arith) e)
 
-  hull-faultless : ChainSized c chain → ((i : ℕ) → i < length chain → StepAt chain i) → hullJudged c chain room corners ≡ roomJudged room corners
+  hull-faultless : ChainSized c chain → ((i : ℕ) → i < length chain → StepAt chain i) → hullJudged c chain room corners ≡ hullRoomJudged room corners
   hull-faultless h f =
       hulls.judged-room c chain room corners (h .few) (near-fits c (h .start))
       (none-from faultAt chainJudged (λ p. refl) (λ p d l. refl) 0 chain (λ i p k g. step-none p (getD chain i 0) (f i k .0) (omega (arith, f i k .1))))
@@ -132,7 +132,7 @@ module _ (c : Corner) (chain : List ℕ) (room corners : ℕ) where
       (λ h. inr (inl h))
       (digit-or-above (getD chain i 0))
 
-  by-kind : ChainSized c chain → (i : ℕ) → First (length chain) (StepAt chain) (λ h. AboveThreeAt chain h ⊎ StepTooManyAt chain h) i → (j : Judged) × GivenHull c chain room corners j
+  by-kind : ChainSized c chain → (i : ℕ) → FirstAt (length chain) (StepAt chain) (λ h. AboveThreeAt chain h ⊎ StepTooManyAt chain h) i → (j : Judged) × GivenHull c chain room corners j
   by-kind l i f =
       ⊎-elim
       (λ h. (Refused (BadDigit i), hull.badDigit i l (record { inside = f .inside; before = f .before; here = h })))

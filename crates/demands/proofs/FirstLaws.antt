@@ -21,11 +21,11 @@ use Rattle.steps.specs.Operations.{operate, survivorsFrom, faultOf, Fine, opera
 use Rattle.steps.proofs.SurvivorLaws.{after-length}
 use Rattle.walk_call.specs.Walk.{roomFrom}
 use Rattle.walk_call.proofs.RoomLaws.{room-full, room-fits, room-end}
-use Rattle.demands.specs.Given.{First}
+use Rattle.demands.specs.Given.{FirstAt}
 use Rattle.demands.proofs.DemandCases as cases
 
 -- where each place is fine or bad, all are fine or one is the first that is bad
-pub all-or-first : (n : ℕ) (fine bad : ℕ → Type 0) → ((i : ℕ) → fine i ⊎ bad i) → ((i : ℕ) → i < n → fine i) ⊎ ((i : ℕ) × First n fine bad i)
+pub all-or-first : (n : ℕ) (fine bad : ℕ → Type 0) → ((i : ℕ) → fine i ⊎ bad i) → ((i : ℕ) → i < n → fine i) ⊎ ((i : ℕ) × FirstAt n fine bad i)
 all-or-first zero fine bad f = inl (λ i h. absurd (omega arith))
 all-or-first (suc n) fine bad f =
     ⊎-elim
@@ -50,7 +50,7 @@ fine-or-fault s o =
 
 fine-fault : (i : ℕ) (s : List ℕ) (o : ℕ) → Fine (length s) o → faultOf i (length s) o ≡ Good
 fine-fault i s o (inl k) = rw (k .0, ne-eqb (length s) 0 (λ e. omega (arith, k .1)))
-fine-fault i s o (inr k) = rw (le-ltb 4 o (omega (arith, k .0)), ne-eqb o 4 (λ e. omega (arith, k .0)), lt-ltb (length s) 16384 (k .1))
+fine-fault i s o (inr k) = rw (le-ltb 4 o (omega (arith, k .0)), ne-eqb o 4 (λ e. omega (arith, k .0)), lt-ltb (length s) mostSteps (k .1))
 
 pub fault-digit : (i n o : ℕ) → 4 < o → faultOf i n o ≡ Refused (BadDigit i)
 fault-digit i n o h = rw (lt-ltb 4 o h)
@@ -59,7 +59,7 @@ pub fault-nothing : (i n o : ℕ) → (o ≡ 4) × (n ≡ 0) → faultOf i n o �
 fault-nothing i n o h = rw (h .0, h .1)
 
 pub fault-long : (i n o : ℕ) → (o < 4) × (mostSteps ≤ n) → faultOf i n o ≡ Refused (TooLong i)
-fault-long i n o h = rw (le-ltb 4 o (omega (arith, h .0)), ne-eqb o 4 (λ e. omega (arith, h .0)), le-ltb n 16384 (h .1))
+fault-long i n o h = rw (le-ltb 4 o (omega (arith, h .0)), ne-eqb o 4 (λ e. omega (arith, h .0)), le-ltb n mostSteps (h .1))
 
 -- what is left of the operations after a fine one
 faults-next : (b : ℕ) (s : List ℕ) (o : ℕ) (os : List ℕ) → Fine (length s) o → operationsJudged b (length s) (o ∷ os) ≡ operationsJudged (suc b) (length (operate s o)) os

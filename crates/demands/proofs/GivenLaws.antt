@@ -26,7 +26,7 @@ use Rattle.answer.proofs.StartLaws.{fits-near, near-fits}
 use Rattle.lists.proofs.GatherLaws.{and-left, and-right}
 use Rattle.lists.proofs.BoolLaws.{unfit}
 use Rattle.demands.specs.Moments.{stepsAfter, nodesAfter}
-use Rattle.demands.specs.Given.{HasRecords, HasRoom, FineAt, BadDigitAt, NothingAt, TooLongAt, First, Sized, Faultless, NoRoomAfter, Given}
+use Rattle.demands.specs.Given.{HasRecords, HasRoom, FineAt, BadDigitAt, NothingAt, TooLongAt, FirstAt, WalkSized, Faultless, NoRoomAfter, GivenWalk}
 use Rattle.demands.specs.Given as given
 use Rattle.demands.proofs.FirstLaws.{all-or-first, fine-or-fault, fault-digit, fault-nothing, fault-long, faults-none, faults-first, room-none, room-first}
 
@@ -70,7 +70,7 @@ module _ (c : Corner) (os : List ℕ) (w m k : ℕ) where
       → walkJudged c os w m k ≡ orElse a (orElse b (orElse d (orElse e (orElse f (orElse g Good)))))
   judged-by a b d e f g p q r o s t = rw (p, q, r, o, s, t)
 
-  judged-sized : Sized c os w m k → walkJudged c os w m k ≡ orElse (operationsJudged 0 0 os) (roomFrom (recordsIn w) c 0 [] os)
+  judged-sized : WalkSized c os w m k → walkJudged c os w m k ≡ orElse (operationsJudged 0 0 os) (roomFrom (recordsIn w) c 0 [] os)
   judged-sized s =
       judged-by Good Good Good Good (operationsJudged 0 0 os) (roomFrom (recordsIn w) c 0 [] os)
       (ap (λ (b : Bool). when b TooMany) (le-ltb mostInput (length os) (s .few)))
@@ -81,7 +81,7 @@ module _ (c : Corner) (os : List ℕ) (w m k : ℕ) where
       refl
       ∙ ap (orElse (operationsJudged 0 0 os)) (orElse-right (roomFrom (recordsIn w) c 0 [] os))
 
-  judged-fault : (bad : ℕ → Type 0) (i : ℕ) (r : Refusal) → Sized c os w m k → First (length os) (FineAt os) bad i → (bad i → faultOf i (length (stepsAfter os i)) (getD os i 0) ≡ Refused r) → walkJudged c os w m k ≡ Refused r
+  judged-fault : (bad : ℕ → Type 0) (i : ℕ) (r : Refusal) → WalkSized c os w m k → FirstAt (length os) (FineAt os) bad i → (bad i → faultOf i (length (stepsAfter os i)) (getD os i 0) ≡ Refused r) → walkJudged c os w m k ≡ Refused r
   judged-fault bad i r s f e =
       judged-sized s ∙ ap (λ (j : Judged). orElse j (roomFrom (recordsIn w) c 0 [] os)) (faults-first 0 [] os i i r (f .inside) (f .before) (omega arith) (e (f .here)))
 
@@ -89,7 +89,7 @@ module _ (c : Corner) (os : List ℕ) (w m k : ℕ) where
   judged-faultless h = judged-sized (h .sized) ∙ ap (λ (j : Judged). orElse j (roomFrom (recordsIn w) c 0 [] os)) (faults-none 0 [] os (h .fine))
 
   -- on each occasion, that judgement
-  pub given-judged : (j : Judged) → Given c os w m k j → walkJudged c os w m k ≡ j
+  pub given-judged : (j : Judged) → GivenWalk c os w m k j → walkJudged c os w m k ≡ j
   given-judged _ (given.tooMany h) = rw (lt-ltb mostInput (length os) h)
   given-judged _ (given.table h f) = rw (le-ltb mostInput (length os) h, unfit (tableFits w) (fits-records w) f)
   given-judged _ (given.resultRoom h t f) = rw (le-ltb mostInput (length os) h, records-fit w t, unfit (roomFits os m k) (fits-room os m k) f)
@@ -104,7 +104,7 @@ module _ (c : Corner) (os : List ℕ) (w m k : ℕ) where
   given-judged _ (given.accepted h f) = judged-faultless h ∙ room-none (recordsIn w) c 0 [] os f
 
   -- the place of a fault, by its kind
-  by-fault : Sized c os w m k → (i : ℕ) → First (length os) (FineAt os) (λ h. BadDigitAt os h ⊎ (NothingAt os h ⊎ TooLongAt os h)) i → (j : Judged) × Given c os w m k j
+  by-fault : WalkSized c os w m k → (i : ℕ) → FirstAt (length os) (FineAt os) (λ h. BadDigitAt os h ⊎ (NothingAt os h ⊎ TooLongAt os h)) i → (j : Judged) × GivenWalk c os w m k j
   by-fault s i f =
       ⊎-elim
       (λ h. (Refused (BadDigit i), given.badDigit i s (record { inside = f .inside; before = f .before; here = h })))
@@ -124,21 +124,21 @@ module _ (c : Corner) (os : List ℕ) (w m k : ℕ) where
       (λ x. x)
       (all-or-first (suc (length os)) (λ k. nodesAfter c os k ≤ recordsIn w) (λ k. recordsIn w < nodesAfter c os k) roomy)
 
-  by-room : Faultless c os w m k → (j : Judged) × Given c os w m k j
+  by-room : Faultless c os w m k → (j : Judged) × GivenWalk c os w m k j
   by-room h =
       ⊎-elim
       (λ f. (Good, given.accepted h f))
       (λ x. (Refused (NoRoom (pred (x .0))), given.noRoom (pred (x .0)) (x .0) h (x .1) refl))
       room-or-not
 
-  by-size : Sized c os w m k → (j : Judged) × Given c os w m k j
+  by-size : WalkSized c os w m k → (j : Judged) × GivenWalk c os w m k j
   by-size s =
       ⊎-elim
       (λ f. by-room (record { sized = s; fine = f }))
       (λ x. by-fault s (x .0) (x .1))
       (all-or-first (length os) (FineAt os) (λ h. BadDigitAt os h ⊎ (NothingAt os h ⊎ TooLongAt os h)) (λ i. fine-or-fault (stepsAfter os i) (getD os i 0)))
 
-  some-occasion : (j : Judged) × Given c os w m k j
+  some-occasion : (j : Judged) × GivenWalk c os w m k j
   some-occasion =
       elim (decLt mostInput (length os)) [
         | yes h ↦ (Refused TooMany, given.tooMany h)
@@ -155,5 +155,5 @@ module _ (c : Corner) (os : List ℕ) (w m k : ℕ) where
       ]
 
   -- and the judgement on no other
-  pub judged-given : Given c os w m k (walkJudged c os w m k)
-  judged-given = let x = some-occasion in subst (Given c os w m k) (sym (given-judged (x .0) (x .1))) (x .1)
+  pub judged-given : GivenWalk c os w m k (walkJudged c os w m k)
+  judged-given = let x = some-occasion in subst (GivenWalk c os w m k) (sym (given-judged (x .0) (x .1))) (x .1)

@@ -19,7 +19,7 @@ use Rattle.grid.specs.declared.Corner.{Corner}
 use Rattle.steps.specs.Turns.{writtenIf}
 use Rattle.hull.specs.Call.{chainJudged, countedOf}
 use Rattle.hull_laws.proofs.SurveyLaws.{good-short}
-use Rattle.outline.specs.Call.{roomJudged, outlineJudged, OutlineCall}
+use Rattle.outline.specs.Call.{outlineRoomJudged, outlineJudged, OutlineCall}
 use Rattle.outline_laws.proofs.OutlineLaws.{outline-short}
 use Rattle.outline_laws.proofs.CallLaws.{judged-refused, judged-last}
 use Rattle.demands.specs.GivenHull.{GivenHull}
@@ -32,7 +32,7 @@ module _ (s : Corner) (ds : List ℕ) (room steps : ℕ) where
   refused : (q : Refusal) → GivenHull s ds 0 0 (Refused q) → outlineJudged s ds room steps ≡ Refused q
   refused q g = judged-refused s ds room steps q (given-hull s ds 0 0 (Refused q) g)
 
-  last : GivenHull s ds 0 0 Good → outlineJudged s ds room steps ≡ roomJudged room steps
+  last : GivenHull s ds 0 0 Good → outlineJudged s ds room steps ≡ outlineRoomJudged room steps
   last g = judged-last s ds room steps (given-hull s ds 0 0 Good g)
 
   given-outline : (j : Judged) → GivenOutline s ds room steps j → outlineJudged s ds room steps ≡ j
@@ -92,5 +92,5 @@ module _ (s : Corner) (ds before : List ℕ) {after : List ℕ} (n : ℕ) (w : O
   pub call-most : n ≤ 2 * mostSteps
   call-most =
       let g = call-good in
-      let h = clear (when (ltb mostInput (length ds)) TooMany ∷ when (not (startFits s)) StartRange ∷ chainJudged 0 ds ∷ roomJudged (length before) (length (w .steps)) ∷ []) (g .0) in
+      let h = clear (when (ltb mostInput (length ds)) TooMany ∷ when (not (startFits s)) StartRange ∷ chainJudged 0 ds ∷ outlineRoomJudged (length before) (length (w .steps)) ∷ []) (g .0) in
       omega (arith, g .1, outline-short (w .outline), good-short 0 ds (omega arith) (h .1 .1 .0))

@@ -10,6 +10,7 @@ use lib.ListN.{length, drop}
 use Rattle.lists.specs.Lists.{Distinct}
 use Rattle.lists.proofs.PigeonLaws.{pigeon}
 use Rattle.answer.specs.declared.{Judged.Judged, Judged.the-variants.Good, Judged.the-variants.Refused, Refusal.Refusal, Refusal.the-variants.SpanRoom}
+use Rattle.answer.specs.Limits.{farthest}
 use Rattle.grid.specs.declared.{Corner.Corner, Panel.Panel}
 use Rattle.trace.specs.Verdict.{areaOf}
 use Rattle.trace.proofs.VerdictLaws.{area-room}
@@ -38,7 +39,7 @@ pub area-few : (c : Corner) (ds : List ℕ) → asRoomJudged c ds ≡ Good → n
 area-few c ds e =
     let r = good-room c ds e in
     let n = good-steps c ds e .1 in
-    omega (arith, ap natAbs (area-room c ds (r .room)), sweep-bound c ds 32768 (omega (arith, r .near .0, n)), n)
+    omega (arith, ap natAbs (area-room c ds (r .room)), sweep-bound c ds farthest (omega (arith, r .near .0, n)), n)
 
 pub measures-at : (L : Part → List Span) (k : Part) → ofParts (measureOf (L First)) (measureOf (L Second)) (measureOf (L Both)) k ≡ measureOf (L k)
 measures-at L First = refl

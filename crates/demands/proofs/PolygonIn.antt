@@ -13,7 +13,7 @@ use Rattle.polygon_ring.specs.declared.{Found.Found, Given.Given}
 use Rattle.polygon_ring.specs.Ring.{startOf, lengthOf, ringOf, readJudged, ReadCall}
 use Rattle.polygon_ring.proofs.CallLaws as callLaws
 use Rattle.polygon_ring_laws.specs.Files.{Headed, HasCorners, IsRing, twinOf}
-use Rattle.polygon_ring_laws.specs.Passing.{Followed}
+use Rattle.polygon_ring_laws.specs.Passing.{RingPassed}
 use Rattle.polygon_ring_laws.proofs.TripLaws as tripLaws
 use Rattle.polygon_ring_laws.proofs.TwinLaws as twinLaws
 use Rattle.demands.specs.GivenFile.{GivenFile}
@@ -50,7 +50,7 @@ module _ (file before after : List ℕ) where
   chain-corners f = fileCallLaws.chain-corners
 
   -- the chain's walk from the start passes exactly these points in their order and ends where it began; "bytes after the chain are unchanged"
-  pub chain-follows : (f : Found) → ReadCall file before (Given.Chain f) after → Followed file before f after
+  pub chain-follows : (f : Found) → ReadCall file before (Given.Chain f) after → RingPassed file before f after
   chain-follows f = tripLaws.read-follows file before f after
 
   -- the file in the other byte order gives the same answer and the same chain

@@ -10,6 +10,7 @@ use native.Mathlib.Omega.{arith}
 use borrow.Author.Tests.{lt-ltb, le-ltb}
 use lib.Dec.{ltb}
 use lib.ListN.{length, getD, drop}
+use Rattle.lists.proofs.BoolLaws.{unfit}
 use Rattle.answer.specs.declared.Counted.{Counted}
 use Rattle.answer.specs.declared.Judged.{Judged}
 use Rattle.answer.specs.declared.Judged.the-variants.{Good, Refused}
@@ -28,7 +29,7 @@ use Rattle.polygon_laws.proofs.PointLaws.{Exact, points-exact}
 use Rattle.polygon_laws.proofs.WriteLaws.{room-drawable, polygon-few}
 use Rattle.answer.proofs.RefusalLaws.{orElse-good, orElse-right}
 use Rattle.answer.proofs.StartLaws.{fits-near, near-fits}
-use Rattle.demands.specs.Given.{First}
+use Rattle.demands.specs.Given.{FirstAt}
 use Rattle.demands.specs.GivenTurns.{AboveThreeAt}
 use Rattle.demands.specs.GivenHull.{StepAt, StepTooManyAt}
 use Rattle.demands.specs.GivenRoom.{AllSteps, GivenRoom, GivenPolygon}
@@ -38,15 +39,8 @@ use Rattle.demands.proofs.DigitLaws.{none-from, first-from, step-none, 
 
 -- ---- a start and a chain as a room
 
-not-in-range : (s : Corner) → (Near s → ⊥) → startFits s ≡ false
-not-in-range s f = go (startFits s) refl
-  where
-    go : (b : Bool) → startFits s ≡ b → startFits s ≡ false
-    go true e = absurd (f (fits-near s e))
-    go false e = e
-
 module _ (s : Corner) (ds : List ℕ) where
-  fault-first : (bad : ℕ → Type 0) (i : ℕ) (r : Refusal) → First (length ds) (StepAt ds) bad i → faultAt i (getD ds i 0) ≡ Refused r → chainJudged 0 ds ≡ Refused r
+  fault-first : (bad : ℕ → Type 0) (i : ℕ) (r : Refusal) → FirstAt (length ds) (StepAt ds) bad i → faultAt i (getD ds i 0) ≡ Refused r → chainJudged 0 ds ≡ Refused r
   fault-first bad i r f e = first-from faultAt chainJudged (λ p. refl) (λ p d l. refl) 0 ds i i r (f .inside) (λ k q m g. step-none s ds 0 0 q (getD ds k 0) (f .before k m .0) (omega (arith, f .before k m .1))) (omega arith) e
 
   no-fault : AllSteps ds → chainJudged 0 ds ≡ Good
@@ -58,7 +52,7 @@ module _ (s : Corner) (ds : List ℕ) where
 
   given-room : (j : Judged) → GivenRoom s ds j → asRoomJudged s ds ≡ j
   given-room _ (given.tooMany h) = judged-many s ds h
-  given-room _ (given.startRange h f) = judged-range s ds h (not-in-range s f)
+  given-room _ (given.startRange h f) = judged-range s ds h (unfit (startFits s) (fits-near s) f)
   given-room _ (given.badDigit i h n f) = judged-fault s ds h (near-fits s n) (BadDigit i) (fault-first (AboveThreeAt ds) i (BadDigit i) f (step-above s ds 0 0 i (getD ds i 0) (f .here)))
   given-room _ (given.tooLong i h n f) =
       judged-fault s ds h (near-fits s n) (TooLong i)

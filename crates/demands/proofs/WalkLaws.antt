@@ -21,7 +21,7 @@ use Rattle.layout.specs.Table.{recordsIn, tableOf}
 use Rattle.steps.specs.Operations.{survivors}
 use Rattle.walk_call.specs.Walk.{walkJudged, walkAnswer, factsOf, answerBy, bufferBy, WalkIs}
 use Rattle.demands.specs.Moments.{nodesAfter, Exceeds}
-use Rattle.demands.specs.Given.{Faultless, NoRoomAfter, Given}
+use Rattle.demands.specs.Given.{Faultless, NoRoomAfter, GivenWalk}
 use Rattle.demands.specs.Given as given
 use Rattle.demands.proofs.GivenLaws.{room-or-not, given-judged, judged-given}
 
@@ -51,16 +51,16 @@ answer-accepted (Refused r) f g e = absurd (let z : _≡_ {A = ℕ} 0 1 = cc in 
 
 module _ {c : Corner} {os t ms ch t′ ms′ ch′ : List ℕ} {r : Answer} (w : WalkIs c os t ms ch r t′ ms′ ch′) where
   -- each refusal is given exactly on its occasion
-  pub refused-when : (q : Refusal) → r ≡ Answer.Refused q ↔ Given c os (length t) (length ms) (length ch) (Refused q)
+  pub refused-when : (q : Refusal) → r ≡ Answer.Refused q ↔ GivenWalk c os (length t) (length ms) (length ch) (Refused q)
   refused-when q = (
-    λ e. subst (Given c os (length t) (length ms) (length ch)) (answer-refused (walkJudged c os (length t) (length ms) (length ch)) (factsOf c (survivors os)) q (sym e ∙ w .answer)) (judged-given c os (length t) (length ms) (length ch)),
+    λ e. subst (GivenWalk c os (length t) (length ms) (length ch)) (answer-refused (walkJudged c os (length t) (length ms) (length ch)) (factsOf c (survivors os)) q (sym e ∙ w .answer)) (judged-given c os (length t) (length ms) (length ch)),
     λ g. w .answer ∙ ap (λ (j : Judged). answerBy j (factsOf c (survivors os))) (given-judged c os (length t) (length ms) (length ch) (Refused q) g),
   )
 
   -- and so is acceptance, with the facts of the surviving steps
-  pub accepted-when : r ≡ Answer.Accepted (factsOf c (survivors os)) ↔ Given c os (length t) (length ms) (length ch) Good
+  pub accepted-when : r ≡ Answer.Accepted (factsOf c (survivors os)) ↔ GivenWalk c os (length t) (length ms) (length ch) Good
   accepted-when = (
-    λ e. subst (Given c os (length t) (length ms) (length ch)) (answer-accepted (walkJudged c os (length t) (length ms) (length ch)) (factsOf c (survivors os)) (factsOf c (survivors os)) (sym e ∙ w .answer) .0) (judged-given c os (length t) (length ms) (length ch)),
+    λ e. subst (GivenWalk c os (length t) (length ms) (length ch)) (answer-accepted (walkJudged c os (length t) (length ms) (length ch)) (factsOf c (survivors os)) (factsOf c (survivors os)) (sym e ∙ w .answer) .0) (judged-given c os (length t) (length ms) (length ch)),
     λ g. w .answer ∙ ap (λ (j : Judged). answerBy j (factsOf c (survivors os))) (given-judged c os (length t) (length ms) (length ch) Good g),
   )
 
@@ -68,7 +68,7 @@ module _ {c : Corner} {os t ms ch t′ ms′ ch′ : List ℕ} {r : Answer} (w :
   pub no-room-at : (i : ℕ) → r ≡ Answer.Refused (NoRoom i) ↔ Faultless c os (length t) (length ms) (length ch) × ((k : ℕ) × NoRoomAfter c os (recordsIn (length t)) k × (i ≡ pred k))
   no-room-at i = (λ e. parts (refused-when (NoRoom i) .0 e), λ g. refused-when (NoRoom i) .1 (given.noRoom i (g .1 .0) (g .0) (g .1 .1) (g .1 .2)))
     where
-      parts : Given c os (length t) (length ms) (length ch) (Refused (NoRoom i)) → Faultless c os (length t) (length ms) (length ch) × ((k : ℕ) × NoRoomAfter c os (recordsIn (length t)) k × (i ≡ pred k))
+      parts : GivenWalk c os (length t) (length ms) (length ch) (Refused (NoRoom i)) → Faultless c os (length t) (length ms) (length ch) × ((k : ℕ) × NoRoomAfter c os (recordsIn (length t)) k × (i ≡ pred k))
       parts (given.noRoom _ k f n e) = (f, (k, n, e))
 
   pub no-room-when : ((i : ℕ) × (r ≡ Answer.Refused (NoRoom i))) ↔ Faultless c os (length t) (length ms) (length ch) × ((k : ℕ) × (k ≤ length os) × Exceeds (nodesAfter c os k) (recordsIn (length t)))
@@ -112,8 +112,8 @@ module _ {c : Corner} {os t ms ch t′ ms′ ch′ : List ℕ} where
   pub its-facts : {f : Facts} → WalkIs c os t ms ch (Answer.Accepted f) t′ ms′ ch′ → f ≡ factsOf c (survivors os)
   its-facts {f} w = answer-accepted (walkJudged c os (length t) (length ms) (length ch)) (factsOf c (survivors os)) f (w .answer) .1
 
-  pub its-occasion : {f : Facts} → WalkIs c os t ms ch (Answer.Accepted f) t′ ms′ ch′ → Given c os (length t) (length ms) (length ch) Good
-  its-occasion w = subst (Given c os (length t) (length ms) (length ch)) (judged-good w) (judged-given c os (length t) (length ms) (length ch))
+  pub its-occasion : {f : Facts} → WalkIs c os t ms ch (Answer.Accepted f) t′ ms′ ch′ → GivenWalk c os (length t) (length ms) (length ch) Good
+  its-occasion w = subst (GivenWalk c os (length t) (length ms) (length ch)) (judged-good w) (judged-given c os (length t) (length ms) (length ch))
 
   pub its-table : {f : Facts} → WalkIs c os t ms ch (Answer.Accepted f) t′ ms′ ch′ → t′ ≡ tableOf (length t) c (survivors os)
   its-table w = w .table ∙ ap (λ (j : Judged). bufferBy j (tableOf (length t) c (survivors os)) t) (judged-good w)

@@ -37,13 +37,13 @@ abbrev pub TooLongAt : List ℕ → ℕ → Type 0
 TooLongAt os i = (getD os i 0 < 4) × (mostSteps ≤ length (stepsAfter os i))
 
 -- place i of n is bad, and all places before it are fine
-pub record First (n : ℕ) (fine bad : ℕ → Type 0) (i : ℕ) : Type 0 where
+pub record FirstAt (n : ℕ) (fine bad : ℕ → Type 0) (i : ℕ) : Type 0 where
   pub inside : i < n
   pub before : (h : ℕ) → h < i → fine h
   pub here : bad i
 
 -- 1, 2, 3 and 10 are out of the question
-pub record Sized (c : Corner) (os : List ℕ) (words marks chain : ℕ) : Type 0 where
+pub record WalkSized (c : Corner) (os : List ℕ) (words marks chain : ℕ) : Type 0 where
   pub few : length os ≤ mostInput
   pub table : HasRecords words
   pub room : HasRoom os marks chain
@@ -51,21 +51,21 @@ pub record Sized (c : Corner) (os : List ℕ) (words marks chain : ℕ) : Type 0
 
 -- and so are 4, 5 and 6: nothing is wrong with the call, but for room in the table
 pub record Faultless (c : Corner) (os : List ℕ) (words marks chain : ℕ) : Type 0 where
-  pub sized : Sized c os words marks chain
+  pub sized : WalkSized c os words marks chain
   pub fine : (i : ℕ) → i < length os → FineAt os i
 
 -- k operations are the fewest after which the nodes needed exceed the records
 abbrev pub NoRoomAfter : Corner → List ℕ → ℕ → ℕ → Type 0
-NoRoomAfter c os records k = First (suc (length os)) (λ h. nodesAfter c os h ≤ records) (λ h. Exceeds (nodesAfter c os h) records) k
+NoRoomAfter c os records k = FirstAt (suc (length os)) (λ h. nodesAfter c os h ≤ records) (λ h. Exceeds (nodesAfter c os h) records) k
 
 -- the occasion of each judgement; the place of "no room" is k - 1, and 0 before the first operation
-pub data Given (c : Corner) (os : List ℕ) (words marks chain : ℕ) : Judged → Type 0 where
-  tooMany : mostInput < length os → Given c os words marks chain (Refused TooMany)
-  table : length os ≤ mostInput → (HasRecords words → ⊥) → Given c os words marks chain (Refused Table)
-  resultRoom : length os ≤ mostInput → HasRecords words → (HasRoom os marks chain → ⊥) → Given c os words marks chain (Refused ResultRoom)
-  startRange : length os ≤ mostInput → HasRecords words → HasRoom os marks chain → (Near c → ⊥) → Given c os words marks chain (Refused StartRange)
-  badDigit : (i : ℕ) → Sized c os words marks chain → First (length os) (FineAt os) (BadDigitAt os) i → Given c os words marks chain (Refused (BadDigit i))
-  nothingToTake : (i : ℕ) → Sized c os words marks chain → First (length os) (FineAt os) (NothingAt os) i → Given c os words marks chain (Refused (NothingToTake i))
-  tooLong : (i : ℕ) → Sized c os words marks chain → First (length os) (FineAt os) (TooLongAt os) i → Given c os words marks chain (Refused (TooLong i))
-  noRoom : (i k : ℕ) → Faultless c os words marks chain → NoRoomAfter c os (recordsIn words) k → i ≡ pred k → Given c os words marks chain (Refused (NoRoom i))
-  accepted : Faultless c os words marks chain → ((k : ℕ) → k ≤ length os → nodesAfter c os k ≤ recordsIn words) → Given c os words marks chain Good
+pub data GivenWalk (c : Corner) (os : List ℕ) (words marks chain : ℕ) : Judged → Type 0 where
+  tooMany : mostInput < length os → GivenWalk c os words marks chain (Refused TooMany)
+  table : length os ≤ mostInput → (HasRecords words → ⊥) → GivenWalk c os words marks chain (Refused Table)
+  resultRoom : length os ≤ mostInput → HasRecords words → (HasRoom os marks chain → ⊥) → GivenWalk c os words marks chain (Refused ResultRoom)
+  startRange : length os ≤ mostInput → HasRecords words → HasRoom os marks chain → (Near c → ⊥) → GivenWalk c os words marks chain (Refused StartRange)
+  badDigit : (i : ℕ) → WalkSized c os words marks chain → FirstAt (length os) (FineAt os) (BadDigitAt os) i → GivenWalk c os words marks chain (Refused (BadDigit i))
+  nothingToTake : (i : ℕ) → WalkSized c os words marks chain → FirstAt (length os) (FineAt os) (NothingAt os) i → GivenWalk c os words marks chain (Refused (NothingToTake i))
+  tooLong : (i : ℕ) → WalkSized c os words marks chain → FirstAt (length os) (FineAt os) (TooLongAt os) i → GivenWalk c os words marks chain (Refused (TooLong i))
+  noRoom : (i k : ℕ) → Faultless c os words marks chain → NoRoomAfter c os (recordsIn words) k → i ≡ pred k → GivenWalk c os words marks chain (Refused (NoRoom i))
+  accepted : Faultless c os words marks chain → ((k : ℕ) → k ≤ length os → nodesAfter c os k ≤ recordsIn words) → GivenWalk c os words marks chain Good

@@ -10,7 +10,7 @@ use Rattle.answer.specs.declared.Refusal.the-variants.{TooMany, StartRange, Bad
 use Rattle.answer.specs.Limits.{mostInput, Near}
 use Rattle.grid.specs.declared.Corner.{Corner}
 use Rattle.trace.specs.Verdict.{IsRoom}
-use Rattle.demands.specs.Given.{First}
+use Rattle.demands.specs.Given.{FirstAt}
 use Rattle.demands.specs.GivenTurns.{AboveThreeAt}
 use Rattle.demands.specs.GivenHull.{StepAt, StepTooManyAt}
 
@@ -22,8 +22,8 @@ AllSteps ds = (i : ℕ) → i < length ds → StepAt ds i
 pub data GivenRoom (s : Corner) (ds : List ℕ) : Judged → Type 0 where
   tooMany : mostInput < length ds → GivenRoom s ds (Refused TooMany)
   startRange : length ds ≤ mostInput → (Near s → ⊥) → GivenRoom s ds (Refused StartRange)
-  badDigit : (i : ℕ) → length ds ≤ mostInput → Near s → First (length ds) (StepAt ds) (AboveThreeAt ds) i → GivenRoom s ds (Refused (BadDigit i))
-  tooLong : (i : ℕ) → length ds ≤ mostInput → Near s → First (length ds) (StepAt ds) (StepTooManyAt ds) i → GivenRoom s ds (Refused (TooLong i))
+  badDigit : (i : ℕ) → length ds ≤ mostInput → Near s → FirstAt (length ds) (StepAt ds) (AboveThreeAt ds) i → GivenRoom s ds (Refused (BadDigit i))
+  tooLong : (i : ℕ) → length ds ≤ mostInput → Near s → FirstAt (length ds) (StepAt ds) (StepTooManyAt ds) i → GivenRoom s ds (Refused (TooLong i))
   notRoom : length ds ≤ mostInput → Near s → AllSteps ds → (IsRoom s ds → ⊥) → GivenRoom s ds (Refused NotRoom)
   isRoom : length ds ≤ mostInput → Near s → AllSteps ds → IsRoom s ds → GivenRoom s ds Good
 

@@ -8,7 +8,7 @@ use Rattle.answer.specs.declared.Judged.{Judged}
 use Rattle.answer.specs.declared.Judged.the-variants.{Good, Refused}
 use Rattle.answer.specs.declared.Refusal.the-variants.{TooMany, ResultRoom, BadDigit}
 use Rattle.answer.specs.Limits.{mostInput}
-use Rattle.demands.specs.Given.{First}
+use Rattle.demands.specs.Given.{FirstAt}
 
 -- the digit at place i is a direction, or above 3
 abbrev pub DigitAt : List ℕ → ℕ → Type 0
@@ -21,5 +21,5 @@ AboveThreeAt ds i = 3 < getD ds i 0
 pub data GivenTurns (ds : List ℕ) (room : ℕ) : Judged → Type 0 where
   tooMany : mostInput < length ds → GivenTurns ds room (Refused TooMany)
   resultRoom : length ds ≤ mostInput → (room ≡ length ds → ⊥) → GivenTurns ds room (Refused ResultRoom)
-  badDigit : (i : ℕ) → length ds ≤ mostInput → room ≡ length ds → First (length ds) (DigitAt ds) (AboveThreeAt ds) i → GivenTurns ds room (Refused (BadDigit i))
+  badDigit : (i : ℕ) → length ds ≤ mostInput → room ≡ length ds → FirstAt (length ds) (DigitAt ds) (AboveThreeAt ds) i → GivenTurns ds room (Refused (BadDigit i))
   accepted : length ds ≤ mostInput → room ≡ length ds → ((i : ℕ) → i < length ds → DigitAt ds i) → GivenTurns ds room Good

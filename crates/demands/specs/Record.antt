@@ -11,7 +11,7 @@ use Rattle.grid.specs.declared.Corner.{Corner}
 use Rattle.grid.specs.Grid.{origin, same, stepped, legsOf, joins}
 use Rattle.grid.specs.Tree.{parentOf, isRoot, childWord, AncestorAt}
 use Rattle.tree.specs.Nodes.{nodesOf, InUse, LinkedBy}
-use Rattle.demands.specs.Given.{First}
+use Rattle.demands.specs.Given.{FirstAt}
 
 -- n is the ref of b: its node number plus 1
 pub record IsRef (ps : List Corner) (b : Corner) (n : ℕ) : Type 0 where
@@ -29,7 +29,7 @@ pub record IsChild (ps : List Corner) (a : Corner) (w : ℕ) (b : Corner) : Type
 
 -- p_k is a, and no corner before it is
 abbrev pub FirstIn : List Corner → Corner → ℕ → Type 0
-FirstIn ps a k = First (length ps) (λ h. getD ps h origin ≡ a → ⊥) (λ h. getD ps h origin ≡ a) k
+FirstIn ps a k = FirstAt (length ps) (λ h. getD ps h origin ≡ a → ⊥) (λ h. getD ps h origin ≡ a) k
 
 -- step k, counted from 1, has the two ends a and b, in either sense
 abbrev pub StepBetween : List Corner → Corner → Corner → ℕ → Type 0

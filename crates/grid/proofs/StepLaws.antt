@@ -57,10 +57,10 @@ suc-pred-ne (pos (suc n)) e = omega (arith, ap natAbs e)
 suc-pred-ne (negsuc zero) e = pos-ne-negsuc 0 1 e
 suc-pred-ne (negsuc (suc n)) e = omega (arith, ap natAbs e)
 
-pub x-of : {a b : Corner} → a ≡ b → a .0 ≡ b .0
+x-of : {a b : Corner} → a ≡ b → a .0 ≡ b .0
 x-of e = ap (λ (c : Corner). c .0) e
 
-pub y-of : {a b : Corner} → a ≡ b → a .1 ≡ b .1
+y-of : {a b : Corner} → a ≡ b → a .1 ≡ b .1
 y-of e = ap (λ (c : Corner). c .1) e
 
 pub stepped-ne : (d : ℕ) (c : Corner) → stepped d c ≡ c → ⊥

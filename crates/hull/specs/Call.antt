@@ -15,12 +15,12 @@ chainJudged i [] = Good
 chainJudged i (d ∷ ds) = orElse (faultAt i d) (chainJudged (suc i) ds)
 
 -- 8 where the room is shorter than twice the hull corners
-abbrev pub roomJudged : ℕ → ℕ → Judged
-roomJudged room corners = when (ltb room (2 * corners)) HullRoom
+abbrev pub hullRoomJudged : ℕ → ℕ → Judged
+hullRoomJudged room corners = when (ltb room (2 * corners)) HullRoom
 
 -- refusal 1, then 10, then 4 and 6 at the first faulty place, 8 last
 abbrev pub hullJudged : Corner → List ℕ → ℕ → ℕ → Judged
-hullJudged s chain room corners = firstOf (when (ltb mostInput (length chain)) TooMany ∷ when (not (startFits s)) StartRange ∷ chainJudged 0 chain ∷ roomJudged room corners ∷ [])
+hullJudged s chain room corners = firstOf (when (ltb mostInput (length chain)) TooMany ∷ when (not (startFits s)) StartRange ∷ chainJudged 0 chain ∷ hullRoomJudged room corners ∷ [])
 
 -- how many corners there are, unless there is a refusal
 abbrev pub countedOf : Judged → ℕ → Counted

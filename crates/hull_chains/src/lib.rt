@@ -1,5 +1,6 @@
 // The chain over columns: from the last column to the first, each is put in front of those that still make a left turn, unless
 // it makes none between its own neighbours. The chain stands at the end of its array.
+use order::wide;
 ghost use mathlib.Core.Path.{_≡_};
 ghost use mathlib.Core.List.{_∷_};
 ghost use Prim.Native.Nat.{_+_, _*_, _-_, _<_, _≤_};
@@ -23,12 +24,6 @@ fn turns(ys: &[u16], p: usize, b: usize, a: usize) -> bool
     ensures { λ r. ⌜ r ≡ turnsAt (now (ys .entry)) p b a ⌝ }
 {
     bends(b - p, a - p, ys[p], ys[b], ys[a])
-}
-
-fn wide(c: u16) -> usize
-    ensures { λ r. ⌜ r ≡ c ⌝ }
-{
-    c as usize
 }
 
 // Whether the first of the chain from q on makes no left turn after p.

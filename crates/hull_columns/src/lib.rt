@@ -1,15 +1,17 @@
 // The columns of a walk, counted so that its start stands in the middle one, and the lowest corner of each.
 use answer::Judged;
+use answer::Limits;
 use answer::Refusal;
 use order::greater;
+use order::highest;
 use order::lesser;
 ghost use mathlib.Core.Path.{_≡_};
 ghost use mathlib.Core.List.{map};
-ghost use Prim.Native.Nat.{ℕ, _-_, _<_, _≤_, max};
-ghost use lib.ListN.{length, getD};
+ghost use Prim.Native.Nat.{_-_, _<_, _≤_};
+ghost use lib.ListN.{length};
 ghost use Rattle.answer.specs.declared.Judged.the-variants.{Good};
 ghost use Rattle.hull.specs.Call.{chainJudged};
-ghost use Rattle.hull_laws.specs.Columns.{colAfter, rowAfter, trail, westFrom, eastFrom, sink, sinks, countedFrom, turned};
+ghost use Rattle.hull_laws.specs.Columns.{colAfter, rowAfter, trail, westFrom, eastFrom, sink, sinks, countedFrom, halfTurned};
 ghost use Rattle.hull_laws.specs.Columns.{middle, top};
 ghost use Rattle.hull_columns.specs.Extent.{extentBy, Spans};
 
@@ -17,29 +19,28 @@ ghost use Rattle.hull_columns.specs.Extent.{extentBy, Spans};
 pub struct Columns;
 
 impl Columns {
-    // input bytes at most
-    pub const MOST_INPUT: usize = 32768;
-
-    // steps at most
-    pub const MOST_STEPS: usize = 16384;
-
     // the column of the start
-    pub const MIDDLE: usize = 16384;
+    pub const MIDDLE: usize = Limits::MOST_STEPS;
 
-    // the column farthest from it, on either side
-    pub const LAST: usize = 32768;
+    // the last column
+    pub const LAST: usize = 2 * Columns::MIDDLE;
 
     // the height of the start
-    pub const LEVEL: u16 = 16384;
+    pub const LEVEL: u16 = Columns::MIDDLE as u16;
 
     // the greatest height, from which the walk turned by half a turn counts
-    pub const TOP: u16 = 32768;
+    pub const TOP: u16 = 2 * Columns::LEVEL;
+
+    // the sizes of the two lesser working stores, in steps or in columns
+    pub const NARROW: usize = 256;
+
+    pub const WIDER: usize = 2048;
 
     // the height of a column that has none yet
     pub const BLANK: u16 = 65535;
 
     // how far the start lies from column 0 and from height 0
-    pub const SHIFT: i32 = 16384;
+    pub const SHIFT: i32 = Columns::MIDDLE as i32;
 }
 
 // The westmost and the eastmost column of a walk, or why it is refused.
@@ -62,28 +63,6 @@ pub fn height(y: u16, d: u8) -> u16
     ensures { λ r. ⌜ r ≡ rowAfter y d ⌝ }
 {
     y + (d == 1) as u16 - (d > 2) as u16
-}
-
-fn higher(a: u8, b: u8) -> u8
-    ensures { λ r. ⌜ r ≡ max a b ⌝ }
-{
-    if a < b {
-        return b;
-    }
-    a
-}
-
-// The greatest byte of a chain, or 0.
-fn highest(chain: &[u8]) -> u8
-    ensures { λ r. ⌜ ((k : ℕ) → getD (now (chain .entry)) k 0 ≤ r) ⌝ }
-{
-    let mut most = 0;
-    let mut i = 0;
-    while i < chain.len() {
-        most = higher(most, chain[i]);
-        i += 1;
-    }
-    most
 }
 
 // How far a walk without a fault goes.
@@ -113,7 +92,7 @@ fn fault(chain: &[u8]) -> Judged
         if chain[i] > 3 {
             return Judged::Refused(Refusal::BadDigit(i));
         }
-        if i == Columns::MOST_STEPS {
+        if i == Limits::MOST_STEPS {
             return Judged::Refused(Refusal::TooLong(i));
         }
         i += 1;
@@ -125,7 +104,7 @@ fn fault(chain: &[u8]) -> Judged
 pub fn judge(chain: &[u8]) -> Judged
     ensures { λ r. ⌜ r ≡ chainJudged 0 (now (chain .entry)) ⌝ }
 {
-    if chain.len() > Columns::MOST_STEPS {
+    if chain.len() > Limits::MOST_STEPS {
         return fault(chain);
     }
     if highest(chain) > 3 {
@@ -158,7 +137,7 @@ fn keep(ys: &mut [u16], c: usize, y: u16)
 // Keeps the lowest corner of each column in lo, counted from west, and in hi that of the walk turned by half a turn, from east.
 pub fn fill(chain: &[u8], west: usize, east: usize, lo: &mut [u16], hi: &mut [u16])
     requires { ⌜ Spans (now chain) west east × (east - west < length (now lo)) × (east - west < length (now hi)) ⌝ }
-    ensures { λ _. ⌜ (now (lo .exit) ≡ sinks (now (lo .entry)) (map (countedFrom west) (trail middle middle (now (chain .entry))))) × (now (hi .exit) ≡ sinks (now (hi .entry)) (map (turned east top) (trail middle middle (now (chain .entry))))) ⌝ }
+    ensures { λ _. ⌜ (now (lo .exit) ≡ sinks (now (lo .entry)) (map (countedFrom west) (trail middle middle (now (chain .entry))))) × (now (hi .exit) ≡ sinks (now (hi .entry)) (map (halfTurned east top) (trail middle middle (now (chain .entry))))) ⌝ }
 {
     let mut x = Columns::MIDDLE;
     let mut y = Columns::LEVEL;

@@ -18,13 +18,13 @@ use Rattle.answer.specs.declared.Judged.the-variants as judged
 use Rattle.answer.specs.declared.Refusal.the-variants.{HullRoom}
 use Rattle.answer.specs.declared.Counted.{Counted}
 use Rattle.answer.specs.Limits.{mostSteps}
-use Rattle.hull.specs.Call.{roomJudged, countedOf, numbers, bufferOf}
-use Rattle.hull_laws.specs.Outline.{spot, spotBy, outlineOf}
+use Rattle.hull.specs.Call.{hullRoomJudged, countedOf, numbers, bufferOf}
+use Rattle.hull_laws.specs.Outline.{spot, spotBy, hullBy}
 use Rattle.hull_laws.proofs.StackLaws.{stack-in}
-use Rattle.hull_laws.proofs.JoinLaws.{seam-room, close-room, length-both, parts-outline, spot-by}
+use Rattle.hull_laws.proofs.JoinLaws.{seam-room, close-room, length-both, parts-hull, spot-by}
 use Rattle.hull_laws.proofs.CallLaws.{room-short, room-enough, written}
 use Rattle.answer.specs.Limits.{Near}
-use Rattle.hull_corners.specs.Parts.{joined, twoAt, ListGiven, Puts, Parts, TwoChains}
+use Rattle.hull_corners.specs.Parts.{bothSides, twoAt, ListGiven, Puts, Parts, TwoChains}
 use Rattle.hull_laws.specs.Columns.{middle, top, blank}
 
 -- a corner of the columns fits the numbers of the buffer
@@ -79,29 +79,29 @@ module _ {w e : ℕ} {lo hi s t : List ℕ} {a b : ℕ} (h : TwoChains w e lo hi
   }
 
   module _ (c : Corner) where
-    is : joined c w e lo hi s t a f g ≡ outlineOf (c .0 -ℤ pos middle) (c .1 -ℤ pos middle) w e top lo hi
-    is = parts-outline (c .0 -ℤ pos middle) (c .1 -ℤ pos middle) w e top lo hi s t a b f g (h .lower .chain) (h .upper .chain) ef eg
+    is : bothSides c w e lo hi s t a f g ≡ hullBy (c .0 -ℤ pos middle) (c .1 -ℤ pos middle) w e top lo hi
+    is = parts-hull (c .0 -ℤ pos middle) (c .1 -ℤ pos middle) w e top lo hi s t a b f g (h .lower .chain) (h .upper .chain) ef eg
 
-    count : length (outlineOf (c .0 -ℤ pos middle) (c .1 -ℤ pos middle) w e top lo hi) ≡ (length s - a) + (g - f)
+    count : length (hullBy (c .0 -ℤ pos middle) (c .1 -ℤ pos middle) w e top lo hi) ≡ (length s - a) + (g - f)
     count = ap length (sym is) ∙ length-both (c .0 -ℤ pos middle) (c .1 -ℤ pos middle) w e top lo hi s t a f g close-ge close-le
 
-    pub listed-short : (before : List ℤ) → length before < 2 * ((length s - a) + (g - f)) → ListGiven (outlineOf (c .0 -ℤ pos middle) (c .1 -ℤ pos middle) w e top lo hi) before (Counted.Refused HullRoom) before
+    pub listed-short : (before : List ℤ) → length before < 2 * ((length s - a) + (g - f)) → ListGiven (hullBy (c .0 -ℤ pos middle) (c .1 -ℤ pos middle) w e top lo hi) before (Counted.Refused HullRoom) before
     listed-short before k = record {
-      answer = sym (ap (λ (j : Judged). countedOf j (length (outlineOf (c .0 -ℤ pos middle) (c .1 -ℤ pos middle) w e top lo hi))) short);
-      buffer = sym (ap (λ (j : Judged). bufferOf j (outlineOf (c .0 -ℤ pos middle) (c .1 -ℤ pos middle) w e top lo hi) before) short);
+      answer = sym (ap (λ (j : Judged). countedOf j (length (hullBy (c .0 -ℤ pos middle) (c .1 -ℤ pos middle) w e top lo hi))) short);
+      buffer = sym (ap (λ (j : Judged). bufferOf j (hullBy (c .0 -ℤ pos middle) (c .1 -ℤ pos middle) w e top lo hi) before) short);
     }
       where
-        short : roomJudged (length before) (length (outlineOf (c .0 -ℤ pos middle) (c .1 -ℤ pos middle) w e top lo hi)) ≡ judged.Refused HullRoom
-        short = room-short (length before) (length (outlineOf (c .0 -ℤ pos middle) (c .1 -ℤ pos middle) w e top lo hi)) (omega (arith, count))
+        short : hullRoomJudged (length before) (length (hullBy (c .0 -ℤ pos middle) (c .1 -ℤ pos middle) w e top lo hi)) ≡ judged.Refused HullRoom
+        short = room-short (length before) (length (hullBy (c .0 -ℤ pos middle) (c .1 -ℤ pos middle) w e top lo hi)) (omega (arith, count))
 
-    pub listed-enough : (before after : List ℤ) → 2 * ((length s - a) + (g - f)) ≤ length before → after ≡ sets before 0 (numbers (joined c w e lo hi s t a f g)) → ListGiven (outlineOf (c .0 -ℤ pos middle) (c .1 -ℤ pos middle) w e top lo hi) before (Counted.Many ((length s - a) + (g - f))) after
+    pub listed-enough : (before after : List ℤ) → 2 * ((length s - a) + (g - f)) ≤ length before → after ≡ sets before 0 (numbers (bothSides c w e lo hi s t a f g)) → ListGiven (hullBy (c .0 -ℤ pos middle) (c .1 -ℤ pos middle) w e top lo hi) before (Counted.Many ((length s - a) + (g - f))) after
     listed-enough before after k z = record {
-      answer = ap Counted.Many (sym count) ∙ sym (ap (λ (j : Judged). countedOf j (length (outlineOf (c .0 -ℤ pos middle) (c .1 -ℤ pos middle) w e top lo hi))) enough);
-      buffer = z ∙ ap (λ (l : List Corner). sets before 0 (numbers l)) is ∙ written (outlineOf (c .0 -ℤ pos middle) (c .1 -ℤ pos middle) w e top lo hi) before (omega (arith, count)) ∙ sym (ap (λ (j : Judged). bufferOf j (outlineOf (c .0 -ℤ pos middle) (c .1 -ℤ pos middle) w e top lo hi) before) enough);
+      answer = ap Counted.Many (sym count) ∙ sym (ap (λ (j : Judged). countedOf j (length (hullBy (c .0 -ℤ pos middle) (c .1 -ℤ pos middle) w e top lo hi))) enough);
+      buffer = z ∙ ap (λ (l : List Corner). sets before 0 (numbers l)) is ∙ written (hullBy (c .0 -ℤ pos middle) (c .1 -ℤ pos middle) w e top lo hi) before (omega (arith, count)) ∙ sym (ap (λ (j : Judged). bufferOf j (hullBy (c .0 -ℤ pos middle) (c .1 -ℤ pos middle) w e top lo hi) before) enough);
     }
       where
-        enough : roomJudged (length before) (length (outlineOf (c .0 -ℤ pos middle) (c .1 -ℤ pos middle) w e top lo hi)) ≡ judged.Good
-        enough = room-enough (length before) (length (outlineOf (c .0 -ℤ pos middle) (c .1 -ℤ pos middle) w e top lo hi)) (omega (arith, count))
+        enough : hullRoomJudged (length before) (length (hullBy (c .0 -ℤ pos middle) (c .1 -ℤ pos middle) w e top lo hi)) ≡ judged.Good
+        enough = room-enough (length before) (length (hullBy (c .0 -ℤ pos middle) (c .1 -ℤ pos middle) w e top lo hi)) (omega (arith, count))
 
 -- two corners in the buffer
 pub ends-base : (c base : Corner) → base ≡ spot (c .0 -ℤ pos middle) (c .1 -ℤ pos middle) (0, 0) → Near c → (natAbs (base .0) ≤ suc blank) × (natAbs (base .1) ≤ suc blank)
@@ -115,7 +115,7 @@ module _ (c : Corner) (w e : ℕ) where
     buffer = sym (ap (λ (j : Judged). bufferOf j (twoAt c w e) before) short);
   }
     where
-      short : roomJudged (length before) 2 ≡ judged.Refused HullRoom
+      short : hullRoomJudged (length before) 2 ≡ judged.Refused HullRoom
       short = room-short (length before) 2 k
 
   from-base : (base : Corner) → base ≡ spot (c .0 -ℤ pos middle) (c .1 -ℤ pos middle) (0, 0) → (v : ℕ × ℕ) → spotBy base (pos 1) v ≡ spot (c .0 -ℤ pos middle) (c .1 -ℤ pos middle) v
@@ -138,5 +138,5 @@ module _ (c : Corner) (w e : ℕ) where
         ∙ written (twoAt c w e) before k ∙ sym (ap (λ (j : Judged). bufferOf j (twoAt c w e) before) enough);
   }
     where
-      enough : roomJudged (length before) 2 ≡ judged.Good
+      enough : hullRoomJudged (length before) 2 ≡ judged.Good
       enough = room-enough (length before) 2 k

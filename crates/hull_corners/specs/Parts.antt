@@ -8,29 +8,30 @@ use lib.ListN.{length, getD, drop}
 use lib.Seq.{slice}
 use Rattle.grid.specs.declared.Corner.{Corner}
 use Rattle.answer.specs.declared.Counted.{Counted}
-use Rattle.hull.specs.Call.{roomJudged, countedOf, bufferOf}
+use Rattle.answer.specs.Limits.{farthest}
+use Rattle.hull.specs.Call.{hullRoomJudged, countedOf, bufferOf}
 use Rattle.hull_laws.specs.Columns.{middle, top, blank}
 use Rattle.hull_laws.specs.Outline.{spot, spotBack, colAt}
 use Rattle.hull_chains.specs.Stack.{Scanned}
 
 -- the list L is counted, and written where there is room
 pub record ListGiven (L : List Corner) (before : List ℤ) (r : Counted) (after : List ℤ) : Type 0 where
-  pub answer : r ≡ countedOf (roomJudged (length before) (length L)) (length L)
-  pub buffer : after ≡ bufferOf (roomJudged (length before) (length L)) L before
+  pub answer : r ≡ countedOf (hullRoomJudged (length before) (length L)) (length L)
+  pub buffer : after ≡ bufferOf (hullRoomJudged (length before) (length L)) L before
 
 -- the columns s[from] up to s[to] can be written from place o on, counted from base
 pub record Puts (room o : ℕ) (base : Corner) (way : ℤ) (ys s : List ℕ) (from to : ℕ) : Type 0 where
   pub ordered : from ≤ to
   pub inside : to ≤ length s
   pub fits : o + 2 * (to - from) ≤ room
-  pub x : natAbs (base .0) ≤ suc blank
-  pub y : natAbs (base .1) ≤ suc blank
+  pub x : natAbs (base .0) ≤ 2 * farthest
+  pub y : natAbs (base .1) ≤ 2 * farthest
   pub one : natAbs way ≤ 1
   pub columns : (j : ℕ) → from ≤ j → j < to → getD s j 0 < length ys
 
 -- the corners of s from place a on, and then of t from f up to g
-abbrev pub joined : Corner → ℕ → ℕ → List ℕ → List ℕ → List ℕ → List ℕ → ℕ → ℕ → ℕ → List Corner
-joined c w e lo hi s t a f g =
+abbrev pub bothSides : Corner → ℕ → ℕ → List ℕ → List ℕ → List ℕ → List ℕ → ℕ → ℕ → ℕ → List Corner
+bothSides c w e lo hi s t a f g =
     map (λ i. spot ((c .0 -ℤ pos middle) +ℤ pos w) (c .1 -ℤ pos middle) (colAt lo i)) (drop a s)
     ++ map (λ i. spotBack ((c .0 -ℤ pos middle) +ℤ pos e) ((c .1 -ℤ pos middle) +ℤ pos top) (colAt hi i)) (slice f g t)
 

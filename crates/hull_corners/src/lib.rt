@@ -13,14 +13,14 @@ ghost use lib.IntN.{pos, natAbs, _+ℤ_, _-ℤ_, _*ℤ_};
 ghost use lib.ListN.{length, set};
 ghost use lib.Seq.{sets, slice};
 ghost use Rattle.hull.specs.Call.{numbers};
-ghost use Rattle.hull_laws.specs.Outline.{outlineOf, spot, spotBy, colAt};
+ghost use Rattle.hull_laws.specs.Outline.{hullBy, spot, spotBy, colAt};
 ghost use Rattle.hull_laws.specs.Columns.{middle, top};
-ghost use Rattle.answer.specs.Limits.{Near};
-ghost use Rattle.hull_corners.specs.Parts.{joined, twoAt, Puts, Parts, TwoChains, ListGiven};
+ghost use Rattle.answer.specs.Limits.{mostStart, farthest, Near};
+ghost use Rattle.hull_corners.specs.Parts.{bothSides, twoAt, Puts, Parts, TwoChains, ListGiven};
 
 // A coordinate: n steps of `way`, which is 1 or -1, from `base`.
 fn coordinate(base: i32, way: i32, n: u16) -> i32
-    requires { ⌜ (natAbs base ≤ 65536) × (natAbs way ≤ 1) ⌝ }
+    requires { ⌜ (natAbs base ≤ 2 * farthest) × (natAbs way ≤ 1) ⌝ }
     ensures { λ r. ⌜ r ≡ base +ℤ (way *ℤ pos n) ⌝ }
 {
     base + way * (n as i32)
@@ -28,7 +28,7 @@ fn coordinate(base: i32, way: i32, n: u16) -> i32
 
 // Writes x and y of the corner at column c and height y to place o.
 fn put_corner(out: &mut [i32], o: usize, base: Corner, way: i32, c: u16, y: u16)
-    requires { ⌜ (o + 1 < length (now out)) × (natAbs (base .0) ≤ 65536) × (natAbs (base .1) ≤ 65536) × (natAbs way ≤ 1) ⌝ }
+    requires { ⌜ (o + 1 < length (now out)) × (natAbs (base .0) ≤ 2 * farthest) × (natAbs (base .1) ≤ 2 * farthest) × (natAbs way ≤ 1) ⌝ }
     ensures { λ _. ⌜ now (out .exit) ≡ set (set (now (out .entry)) o (spotBy base way (c, y) .0)) (o + 1) (spotBy base way (c, y) .1) ⌝ }
 {
     out[o] = coordinate(base.0, way, c);
@@ -84,7 +84,7 @@ fn close(lo: u16, hi: u16, f: usize, n: usize) -> usize
 
 // The coordinate at place n, where z stands in the middle.
 fn shifted(z: i32, n: usize) -> i32
-    requires { ⌜ (natAbs z ≤ middle) × (n ≤ top) ⌝ }
+    requires { ⌜ (natAbs z ≤ mostStart) × (n ≤ top) ⌝ }
     ensures { λ r. ⌜ r ≡ (z -ℤ pos middle) +ℤ pos n ⌝ }
 {
     z - Columns::SHIFT + n as i32
@@ -115,7 +115,7 @@ fn write(
     out: &mut [i32],
 )
     requires { ⌜ Near start × Parts west east (now lo) (now hi) (now s) (now t) a f g (length (now out)) ⌝ }
-    ensures { λ _. ⌜ now (out .exit) ≡ sets (now (out .entry)) 0 (numbers (joined start west east (now (lo .entry)) (now (hi .entry)) (now (s .entry)) (now (t .entry)) a f g)) ⌝ }
+    ensures { λ _. ⌜ now (out .exit) ≡ sets (now (out .entry)) 0 (numbers (bothSides start west east (now (lo .entry)) (now (hi .entry)) (now (s .entry)) (now (t .entry)) a f g)) ⌝ }
 {
     let first = placed(start, west, 0);
     let last = placed(start, east, Columns::LAST);
@@ -138,7 +138,7 @@ pub fn finish(
     out: &mut [i32],
 ) -> Counted
     requires { ⌜ Near start × TwoChains west east (now lo) (now hi) (now s) (now t) a b ⌝ }
-    ensures { λ r. ⌜ ListGiven (outlineOf (start .0 -ℤ pos middle) (start .1 -ℤ pos middle) west east top (now (lo .entry)) (now (hi .entry))) (now (out .entry)) r (now (out .exit)) ⌝ }
+    ensures { λ r. ⌜ ListGiven (hullBy (start .0 -ℤ pos middle) (start .1 -ℤ pos middle) west east top (now (lo .entry)) (now (hi .entry))) (now (out .entry)) r (now (out .exit)) ⌝ }
 {
     let k = east - west;
     let f = seam(lo[k], hi[0], b);

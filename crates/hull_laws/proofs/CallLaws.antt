@@ -20,16 +20,16 @@ use Rattle.answer.specs.declared.Counted.{Counted}
 use Rattle.answer.specs.Limits.{mostInput, startFits}
 use Rattle.answer.specs.Refusal.{when, orElse}
 use Rattle.answer.proofs.RefusalLaws.{orElse-right}
-use Rattle.hull.specs.Call.{chainJudged, roomJudged, hullJudged, countedOf, numbers, bufferOf, HullCall}
+use Rattle.hull.specs.Call.{chainJudged, hullRoomJudged, hullJudged, countedOf, numbers, bufferOf, HullCall}
 use Rattle.hull_laws.specs.Outline.{hullOf}
 use Rattle.hull_laws.proofs.OneLaws.{hullIs-one}
 use Rattle.hull_laws.proofs.HullLaws.{hullOf-hull}
 use Rattle.hull_laws.proofs.JoinLaws.{length-numbers}
 
-pub room-short : (room n : ℕ) → room < 2 * n → roomJudged room n ≡ Refused HullRoom
+pub room-short : (room n : ℕ) → room < 2 * n → hullRoomJudged room n ≡ Refused HullRoom
 room-short room n h = ap (λ (b : Bool). when b HullRoom) (lt-ltb room (2 * n) h)
 
-pub room-enough : (room n : ℕ) → 2 * n ≤ room → roomJudged room n ≡ Good
+pub room-enough : (room n : ℕ) → 2 * n ≤ room → hullRoomJudged room n ≡ Good
 room-enough room n h = ap (λ (b : Bool). when b HullRoom) (le-ltb room (2 * n) h)
 
 -- stores from the first place on
@@ -42,7 +42,7 @@ written L before h = sets-eq (numbers L) before 0 (omega (arith, length-numbers 
 module _ (s : Corner) (chain : List ℕ) (room n : ℕ) where
   -- the four judgements one after the other
   judged-by : (a b j : Judged) → when (ltb mostInput (length chain)) TooMany ≡ a → when (not (startFits s)) StartRange ≡ b → chainJudged 0 chain ≡ j
-      → hullJudged s chain room n ≡ orElse a (orElse b (orElse j (orElse (roomJudged room n) Good)))
+      → hullJudged s chain room n ≡ orElse a (orElse b (orElse j (orElse (hullRoomJudged room n) Good)))
   judged-by a b j p q r = rw (p, q, r)
 
   pub judged-many : mostInput < length chain → hullJudged s chain room n ≡ Refused TooMany
@@ -62,8 +62,8 @@ module _ (s : Corner) (chain : List ℕ) (room n : ℕ) where
       pub judged-fault : (r : Refusal) → chainJudged 0 chain ≡ Refused r → hullJudged s chain room n ≡ Refused r
       judged-fault r e = judged-by Good Good (Refused r) few fits e
 
-      pub judged-room : chainJudged 0 chain ≡ Good → hullJudged s chain room n ≡ roomJudged room n
-      judged-room e = judged-by Good Good Good few fits e ∙ orElse-right (roomJudged room n)
+      pub judged-room : chainJudged 0 chain ≡ Good → hullJudged s chain room n ≡ hullRoomJudged room n
+      judged-room e = judged-by Good Good Good few fits e ∙ orElse-right (hullRoomJudged room n)
 
 -- a refused call leaves the buffer as it was
 pub call-refused : (s : Corner) (chain : List ℕ) (before : List ℤ) (r : Refusal) → ((n : ℕ) → hullJudged s chain (length before) n ≡ Refused r) → HullCall s chain before (Counted.Refused r) before

@@ -34,7 +34,7 @@ unfoldable pub chain : List Corner → List Corner
 chain [] = []
 chain (m ∷ ms) = m ∷ cut m (chain ms)
 
-abbrev pub TurnsLeft : Corner → Corner → List Corner → Type 0
+abbrev TurnsLeft : Corner → Corner → List Corner → Type 0
 TurnsLeft b a [] = Unit {0}
 TurnsLeft b a (z ∷ s) = Left b a z
 

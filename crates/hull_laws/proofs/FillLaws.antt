@@ -8,7 +8,7 @@ use native.Mathlib.Numerals.{add-one}
 use lib.ListN.{length, getD, drop, drop-of-length-le}
 use lib.Seq.{drop-cons}
 use Rattle.answer.specs.Limits.{mostSteps}
-use Rattle.hull_laws.specs.Columns.{colAfter, rowAfter, trail, westFrom, eastFrom, sink, sinks, countedFrom, turned}
+use Rattle.hull_laws.specs.Columns.{colAfter, rowAfter, trail, westFrom, eastFrom, sink, sinks, countedFrom, halfTurned}
 use Rattle.hull_laws.proofs.TrailLaws.{near, near-row, west-le, east-ge}
 use Rattle.hull_laws.proofs.SinkLaws.{length-sink}
 
@@ -24,7 +24,7 @@ pub record Filling (chain : List ℕ) (w e : ℕ) (lo₀ hi₀ lo hi : List ℕ)
   pub size : length lo ≡ length lo₀
   pub size2 : length hi ≡ length hi₀
   pub lows : sinks lo (map (countedFrom w) (trail x y (drop i chain))) ≡ sinks lo₀ (map (countedFrom w) (trail mostSteps mostSteps chain))
-  pub highs : sinks hi (map (turned e (2 * mostSteps)) (trail x y (drop i chain))) ≡ sinks hi₀ (map (turned e (2 * mostSteps)) (trail mostSteps mostSteps chain))
+  pub highs : sinks hi (map (halfTurned e (2 * mostSteps)) (trail x y (drop i chain))) ≡ sinks hi₀ (map (halfTurned e (2 * mostSteps)) (trail mostSteps mostSteps chain))
 
 pub filling-start : (chain : List ℕ) (w e : ℕ) (lo hi : List ℕ) → length chain ≤ mostSteps → w ≡ westFrom mostSteps chain → e ≡ eastFrom mostSteps chain → Filling chain w e lo hi lo hi mostSteps mostSteps 0
 filling-start chain w e lo hi h a b = record {
@@ -107,7 +107,7 @@ module _ {chain : List ℕ} {w e : ℕ} {lo₀ hi₀ lo hi : List ℕ} {x y i : 
         size = ap length el ∙ length-sink lo (x - w, y) ∙ f .size;
         size2 = ap length eh ∙ length-sink hi (e - x, 2 * mostSteps - y) ∙ f .size2;
         lows = sinks-here (countedFrom w) lo lo′ (sinks lo₀ (map (countedFrom w) (trail mostSteps mostSteps chain))) h el (f .lows);
-        highs = sinks-here (turned e (2 * mostSteps)) hi hi′ (sinks hi₀ (map (turned e (2 * mostSteps)) (trail mostSteps mostSteps chain))) h eh (f .highs);
+        highs = sinks-here (halfTurned e (2 * mostSteps)) hi hi′ (sinks hi₀ (map (halfTurned e (2 * mostSteps)) (trail mostSteps mostSteps chain))) h eh (f .highs);
       }
 
   last-here : (g : ℕ × ℕ → ℕ × ℕ) (a a′ G : List ℕ) → length chain ≤ i → a′ ≡ sink a (g (x, y)) → sinks a (map g (trail x y (drop i chain))) ≡ G → a′ ≡ G
@@ -117,5 +117,5 @@ module _ {chain : List ℕ} {w e : ℕ} {lo₀ hi₀ lo hi : List ℕ} {x y i : 
   pub filling-low : (lo′ : List ℕ) → length chain ≤ i → lo′ ≡ sink lo (x - w, y) → lo′ ≡ sinks lo₀ (map (countedFrom w) (trail mostSteps mostSteps chain))
   filling-low lo′ h s = last-here (countedFrom w) lo lo′ (sinks lo₀ (map (countedFrom w) (trail mostSteps mostSteps chain))) h s (f .lows)
 
-  pub filling-high : (hi′ : List ℕ) → length chain ≤ i → hi′ ≡ sink hi (e - x, 2 * mostSteps - y) → hi′ ≡ sinks hi₀ (map (turned e (2 * mostSteps)) (trail mostSteps mostSteps chain))
-  filling-high hi′ h s = last-here (turned e (2 * mostSteps)) hi hi′ (sinks hi₀ (map (turned e (2 * mostSteps)) (trail mostSteps mostSteps chain))) h s (f .highs)
+  pub filling-high : (hi′ : List ℕ) → length chain ≤ i → hi′ ≡ sink hi (e - x, 2 * mostSteps - y) → hi′ ≡ sinks hi₀ (map (halfTurned e (2 * mostSteps)) (trail mostSteps mostSteps chain))
+  filling-high hi′ h s = last-here (halfTurned e (2 * mostSteps)) hi hi′ (sinks hi₀ (map (halfTurned e (2 * mostSteps)) (trail mostSteps mostSteps chain))) h s (f .highs)

@@ -17,7 +17,7 @@ use Rattle.lists.specs.Lists.{tally, front}
 use Rattle.lists.proofs.BoolLaws.{tally-le}
 use Rattle.grid.specs.declared.Corner.{Corner}
 use Rattle.hull.specs.Call.{numbers}
-use Rattle.hull_laws.specs.Outline.{chainFrom, spot, spotBack, spotBy, colAt, skip, stop, upper, outlineOf}
+use Rattle.hull_laws.specs.Outline.{chainFrom, spot, spotBack, spotBy, colAt, skip, stop, upper, hullBy}
 use Rattle.hull_laws.proofs.CornerLaws.{corner-eq}
 
 -- where the upper chain begins and ends
@@ -95,7 +95,7 @@ pub length-numbers : (l : List Corner) → length (numbers l) ≡ 2 * length l
 length-numbers [] = refl
 length-numbers (c ∷ l) = omega (arith, length-numbers l)
 
-pub sets-append : (l : List ℤ) (i : ℕ) (a b : List ℤ) → sets l i (a ++ b) ≡ sets (sets l i a) (i + length a) b
+sets-append : (l : List ℤ) (i : ℕ) (a b : List ℤ) → sets l i (a ++ b) ≡ sets (sets l i a) (i + length a) b
 sets-append l i [] b = ap (λ (k : ℕ). sets l k b) zero-right
   where
     zero-right : i ≡ i + 0
@@ -207,10 +207,10 @@ upper-part h lo hi t k b f g e p q =
     ∙ sym (stop-is (eqb (getD lo 0 0 + getD hi k 0) h) f t)
     ∙ ap (stop (eqb (getD lo 0 0 + getD hi k 0) h)) (ap (λ (j : ℕ). drop j t) p ∙ sym (skip-is (eqb (getD lo k 0 + getD hi 0 0) h) b t) ∙ ap (skip (eqb (getD lo k 0 + getD hi 0 0) h)) e)
 
--- so both parts are the outline
-pub parts-outline : (x0 y0 : ℤ) (w e h : ℕ) (lo hi s t : List ℕ) (a b f g : ℕ) → drop a s ≡ chainFrom lo 0 (suc (e - w)) → drop b t ≡ chainFrom hi 0 (suc (e - w))
+-- so both parts are the hull
+pub parts-hull : (x0 y0 : ℤ) (w e h : ℕ) (lo hi s t : List ℕ) (a b f g : ℕ) → drop a s ≡ chainFrom lo 0 (suc (e - w)) → drop b t ≡ chainFrom hi 0 (suc (e - w))
     → f ≡ b + tally (eqb (getD lo (e - w) 0 + getD hi 0 0) h) → g ≡ length t - tally (ltb f (length t) && eqb (getD lo 0 0 + getD hi (e - w) 0) h)
-    → map (λ i. spot (x0 +ℤ pos w) y0 (colAt lo i)) (drop a s) ++ map (λ i. spotBack (x0 +ℤ pos e) (y0 +ℤ pos h) (colAt hi i)) (slice f g t) ≡ outlineOf x0 y0 w e h lo hi
-unfolding outlineOf
-parts-outline x0 y0 w e h lo hi s t a b f g p q r z =
+    → map (λ i. spot (x0 +ℤ pos w) y0 (colAt lo i)) (drop a s) ++ map (λ i. spotBack (x0 +ℤ pos e) (y0 +ℤ pos h) (colAt hi i)) (slice f g t) ≡ hullBy x0 y0 w e h lo hi
+unfolding hullBy
+parts-hull x0 y0 w e h lo hi s t a b f g p q r z =
     ap₂ (λ (l m : List ℕ). map (λ i. spot (x0 +ℤ pos w) y0 (colAt lo i)) l ++ map (λ i. spotBack (x0 +ℤ pos e) (y0 +ℤ pos h) (colAt hi i)) m) p (upper-part h lo hi t (e - w) b f g q r z)

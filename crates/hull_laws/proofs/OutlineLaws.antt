@@ -1,4 +1,4 @@
--- The two chains over columns, joined, are the outline.
+-- The two chains over columns, joined, are the hull.
 -- Assumes nothing.
 use mathlib.Core.Path.{_≡_, refl, sym, ap, _∙_}
 use mathlib.Core.Bool.{Bool, true, false}

@@ -6,10 +6,9 @@ use mathlib.Core.List.{List, [], _∷_}
 use Prim.Native.Nat.{ℕ, zero, suc, _+_, _*_, _-_, _≤_, _<_, min, max}
 use native.Mathlib.Omega.{arith}
 use native.Mathlib.Numerals.{add-one}
-use native.Mathlib.Decide.{decLt}
 use lib.Dec.{ltb, eqb}
 use borrow.Author.Tests.{lt-ltb, le-ltb, eq-eqb, ne-eqb, ltb-false, eqb-false}
-use lib.ListN.{length, getD, drop, drop-of-length-le, List·getD-eq-default}
+use lib.ListN.{length, getD, drop, drop-of-length-le}
 use lib.Seq.{drop-cons}
 use Rattle.answer.specs.declared.Judged.{Judged}
 use Rattle.answer.specs.declared.Judged.the-variants.{Good, Refused}
@@ -24,24 +23,6 @@ use Rattle.hull_laws.proofs.TrailLaws.{near, west-le, east-ge}
 -- what is left of a pass
 pub falls : (n i : ℕ) → i < n → n - (i + 1) < n - i
 falls n i h = omega arith
-
--- the greatest of what was seen
-pub most-next : (chain : List ℕ) (i m m′ : ℕ) → ((k : ℕ) → k < i → getD chain k 0 ≤ m) → m′ ≡ max m (getD chain i 0) → (k : ℕ) → k < i + 1 → getD chain k 0 ≤ m′
-most-next chain i m m′ f e k h = go (decLt k i)
-  where
-    go : Dec (k < i) → getD chain k 0 ≤ m′
-    go (yes l) = omega (arith, f k l)
-    go (no l) = omega (arith, ap (λ (j : ℕ). getD chain j 0) same)
-      where
-        same : k ≡ i
-        same = omega arith
-
-pub most-all : (chain : List ℕ) (i m : ℕ) → length chain ≤ i → ((k : ℕ) → k < i → getD chain k 0 ≤ m) → (k : ℕ) → getD chain k 0 ≤ m
-most-all chain i m h f k = go (decLt k i)
-  where
-    go : Dec (k < i) → getD chain k 0 ≤ m
-    go (yes l) = f k l
-    go (no l) = omega (arith, List·getD-eq-default chain 0 {n = k} (omega arith))
 
 -- what a byte at place i gives
 at-bad : (i d : ℕ) → 3 < d → faultAt i d ≡ Refused (BadDigit i)

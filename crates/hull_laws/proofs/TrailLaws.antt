@@ -11,7 +11,7 @@ use Rattle.int_laws.proofs.LinearLaws.{zarith, bal+, up-neg, dn-neg}
 use Rattle.int_laws.proofs.NextLaws.{bal-suc, bal-pred}
 use Rattle.grid.specs.declared.Corner.{Corner}
 use Rattle.grid.specs.Grid.{stepped, cornersFrom}
-use Rattle.hull_laws.specs.Columns.{colAfter, rowAfter, trail, westFrom, eastFrom, countedFrom, turned}
+use Rattle.hull_laws.specs.Columns.{colAfter, rowAfter, trail, westFrom, eastFrom, countedFrom, halfTurned}
 use Rattle.hull_laws.specs.Outline.{spot}
 use Rattle.hull_laws.proofs.CornerLaws.{corner-eq}
 use Rattle.hull_laws.proofs.TurnedLaws.{neg, negs}
@@ -141,8 +141,8 @@ negs-map f [] = refl
 negs-map f (v ∷ vs) = ap (λ (l : List Corner). neg (f v) ∷ l) (negs-map f vs)
 
 -- and turned by half a turn, from the column e and the height k
-pub spots-turned : (x0 y0 : ℤ) (e k : ℕ) (vs : List (ℕ × ℕ)) → ((v : ℕ × ℕ) → List·Memᴰ v vs → (v .0 ≤ e) × (v .1 ≤ k)) → negs (map (spot x0 y0) vs) ≡ map (spot (negℤ (x0 +ℤ pos e)) (negℤ (y0 +ℤ pos k))) (map (turned e k) vs)
-spots-turned x0 y0 e k vs h = negs-map (spot x0 y0) vs ∙ map-ext (λ v. neg (spot x0 y0 v)) (λ v. spot x1 y1 (turned e k v)) vs each ∙ sym (map-spot x1 y1 (turned e k) vs)
+pub spots-halfTurned : (x0 y0 : ℤ) (e k : ℕ) (vs : List (ℕ × ℕ)) → ((v : ℕ × ℕ) → List·Memᴰ v vs → (v .0 ≤ e) × (v .1 ≤ k)) → negs (map (spot x0 y0) vs) ≡ map (spot (negℤ (x0 +ℤ pos e)) (negℤ (y0 +ℤ pos k))) (map (halfTurned e k) vs)
+spots-halfTurned x0 y0 e k vs h = negs-map (spot x0 y0) vs ∙ map-ext (λ v. neg (spot x0 y0 v)) (λ v. spot x1 y1 (halfTurned e k v)) vs each ∙ sym (map-spot x1 y1 (halfTurned e k) vs)
   where
     x1 : ℤ
     x1 = negℤ (x0 +ℤ pos e)
@@ -154,5 +154,5 @@ spots-turned x0 y0 e k vs h = negs-map (spot x0 y0) vs ∙ map-ext (λ v. neg (s
     flip z m n l =
         omega (zarith, bal+ z (pos n), bal+ z (pos m), bal+ (negℤ (z +ℤ pos m)) (pos (m - n)), up-neg (z +ℤ pos n), dn-neg (z +ℤ pos n), up-neg (z +ℤ pos m), dn-neg (z +ℤ pos m))
 
-    each : (v : ℕ × ℕ) → List·Memᴰ v vs → neg (spot x0 y0 v) ≡ spot x1 y1 (turned e k v)
-    each v m = corner-eq (neg (spot x0 y0 v)) (spot x1 y1 (turned e k v)) (flip x0 e (v .0) (h v m .0)) (flip y0 k (v .1) (h v m .1))
+    each : (v : ℕ × ℕ) → List·Memᴰ v vs → neg (spot x0 y0 v) ≡ spot x1 y1 (halfTurned e k v)
+    each v m = corner-eq (neg (spot x0 y0 v)) (spot x1 y1 (halfTurned e k v)) (flip x0 e (v .0) (h v m .0)) (flip y0 k (v .1) (h v m .1))

@@ -10,14 +10,14 @@ use Rattle.int_laws.proofs.LinearLaws.{zarith, bal+, bal-, up-neg, dn-neg}
 use Rattle.grid.specs.declared.Corner.{Corner}
 use Rattle.grid.specs.Grid.{cornersFrom}
 use Rattle.hull.specs.Hull.{HullIs, Encloses}
-use Rattle.hull_laws.specs.Columns.{trail, westFrom, eastFrom, sinks, countedFrom, turned}
-use Rattle.hull_laws.specs.Outline.{chainFrom, spot, spotBack, colAt, upper, outlineOf}
+use Rattle.hull_laws.specs.Columns.{trail, westFrom, eastFrom, sinks, countedFrom, halfTurned}
+use Rattle.hull_laws.specs.Outline.{chainFrom, spot, spotBack, colAt, upper, hullBy}
 use Rattle.hull_laws.proofs.CornerLaws.{corner-eq}
 use Rattle.hull_laws.proofs.ChainLaws.{chain}
 use Rattle.hull_laws.proofs.TurnedLaws.{Lows, neg, negs}
 use Rattle.hull_laws.proofs.RoundLaws.{round}
 use Rattle.hull_laws.proofs.SideLaws.{hull-ok}
-use Rattle.hull_laws.proofs.TrailLaws.{trail-corners, trail-reaches, trail-column, Reaches, west-le, east-ge, spots-east, spots-turned}
+use Rattle.hull_laws.proofs.TrailLaws.{trail-corners, trail-reaches, trail-column, Reaches, west-le, east-ge, spots-east, spots-halfTurned}
 use Rattle.hull_laws.proofs.SinkLaws.{at, upFrom, cols-lows}
 use Rattle.hull_laws.proofs.ScanLaws.{chain-cols}
 use Rattle.hull_laws.proofs.OutlineLaws.{round-cols}
@@ -86,22 +86,22 @@ module _ (x0 y0 : ℤ) (x y : ℕ) (ds : List ℕ) (h top : ℕ) (a b : List ℕ
           less : (w + c) - w ≡ c
           less = omega arith
 
-  turnedLows : Lows (negs P) (map (at (negℤ (x0 +ℤ pos e)) (negℤ (y0 +ℤ pos h)) (sinks b (map (turned e h) vs))) (upFrom 0 (suc (e - w))))
+  turnedLows : Lows (negs P) (map (at (negℤ (x0 +ℤ pos e)) (negℤ (y0 +ℤ pos h)) (sinks b (map (halfTurned e h) vs))) (upFrom 0 (suc (e - w))))
   unfolding w e vs
-  turnedLows = subst (λ (l : List Corner). Lows l (map (at (negℤ (x0 +ℤ pos e)) (negℤ (y0 +ℤ pos h)) (sinks b (map (turned e h) vs))) (upFrom 0 (suc (e - w)))))
-      (sym (ap negs spots ∙ spots-turned x0 y0 e h vs (λ v m. (reaches v m .east, omega (arith, reaches v m .below, r .high)))))
-      (cols-lows (negℤ (x0 +ℤ pos e)) (negℤ (y0 +ℤ pos h)) (map (turned e h) vs) b (suc (e - w)) top (r .second) (λ c l. r .blank2 c (omega arith)) inside every)
+  turnedLows = subst (λ (l : List Corner). Lows l (map (at (negℤ (x0 +ℤ pos e)) (negℤ (y0 +ℤ pos h)) (sinks b (map (halfTurned e h) vs))) (upFrom 0 (suc (e - w)))))
+      (sym (ap negs spots ∙ spots-halfTurned x0 y0 e h vs (λ v m. (reaches v m .east, omega (arith, reaches v m .below, r .high)))))
+      (cols-lows (negℤ (x0 +ℤ pos e)) (negℤ (y0 +ℤ pos h)) (map (halfTurned e h) vs) b (suc (e - w)) top (r .second) (λ c l. r .blank2 c (omega arith)) inside every)
     where
-      inside : (v : ℕ × ℕ) → List·Memᴰ v (map (turned e h) vs) → (v .0 < suc (e - w)) × (v .1 < top)
+      inside : (v : ℕ × ℕ) → List·Memᴰ v (map (halfTurned e h) vs) → (v .0 < suc (e - w)) × (v .1 < top)
       inside v m =
-          let t = Memᴰ·of-map (turned e h) vs m in
+          let t = Memᴰ·of-map (halfTurned e h) vs m in
           let u = reaches (t .0) (t .1) in
           subst (λ (v : ℕ × ℕ). (v .0 < suc (e - w)) × (v .1 < top)) (t .2) (omega (arith, u .west, u .east), omega (arith, r .over))
 
-      every : (c : ℕ) → c < suc (e - w) → (k : ℕ) × List·Memᴰ (c, k) (map (turned e h) vs)
+      every : (c : ℕ) → c < suc (e - w) → (k : ℕ) × List·Memᴰ (c, k) (map (halfTurned e h) vs)
       every c l =
           let t = trail-column x y ds (r .across) (e - c) (omega (arith, west-le x ds, east-ge x ds)) (omega arith) in
-          (h - t .0, subst (λ (n : ℕ). List·Memᴰ (n, h - t .0) (map (turned e h) vs)) less (Memᴰ·map (turned e h) {a = (e - c, t .0)} (t .1)))
+          (h - t .0, subst (λ (n : ℕ). List·Memᴰ (n, h - t .0) (map (halfTurned e h) vs)) less (Memᴰ·map (halfTurned e h) {a = (e - c, t .0)} (t .1)))
         where
           less : e - (e - c) ≡ c
           less = omega (arith, west-le x ds, east-ge x ds)
@@ -114,15 +114,15 @@ module _ (x0 y0 : ℤ) (x y : ℕ) (ds : List ℕ) (h top : ℕ) (a b : List ℕ
       sum m n l = omega (zarith, bal+ x0 (pos m), bal+ x0 (pos n), bal+ (x0 +ℤ pos m) (pos (n - m)))
 
   -- the columns of the walk give its hull, with all corners on or left of each edge
-  pub columns-both : HullIs (cornersFrom (spot x0 y0 (x, y)) ds) (outlineOf x0 y0 (westFrom x ds) (eastFrom x ds) h (sinks a (map (countedFrom (westFrom x ds)) (trail x y ds))) (sinks b (map (turned (eastFrom x ds) h) (trail x y ds)))) × Encloses (cornersFrom (spot x0 y0 (x, y)) ds) (outlineOf x0 y0 (westFrom x ds) (eastFrom x ds) h (sinks a (map (countedFrom (westFrom x ds)) (trail x y ds))) (sinks b (map (turned (eastFrom x ds) h) (trail x y ds))))
-  unfolding outlineOf w e vs P
+  pub columns-both : HullIs (cornersFrom (spot x0 y0 (x, y)) ds) (hullBy x0 y0 (westFrom x ds) (eastFrom x ds) h (sinks a (map (countedFrom (westFrom x ds)) (trail x y ds))) (sinks b (map (halfTurned (eastFrom x ds) h) (trail x y ds)))) × Encloses (cornersFrom (spot x0 y0 (x, y)) ds) (hullBy x0 y0 (westFrom x ds) (eastFrom x ds) h (sinks a (map (countedFrom (westFrom x ds)) (trail x y ds))) (sinks b (map (halfTurned (eastFrom x ds) h) (trail x y ds))))
+  unfolding hullBy w e vs P
   columns-both = subst (λ (L : List Corner). HullIs P L × Encloses P L) joined (hull-ok P (spot x0 y0 (x, y)) here lowers uppers lows turnedLows)
     where
       lo : List ℕ
       lo = sinks a (map (countedFrom w) vs)
 
       hi : List ℕ
-      hi = sinks b (map (turned e h) vs)
+      hi = sinks b (map (halfTurned e h) vs)
 
       lowers : List Corner
       lowers = map (at (x0 +ℤ pos w) y0 lo) (upFrom 0 (suc (e - w)))
@@ -143,5 +143,5 @@ module _ (x0 y0 : ℤ) (x y : ℕ) (ds : List ℕ) (h top : ℕ) (a b : List ℕ
           ∙ ap (round (map (λ c. spot (x0 +ℤ pos w) y0 (colAt lo c)) (chainFrom lo 0 (suc (e - w))))) (turned-back (x0 +ℤ pos e) (y0 +ℤ pos h) hi (chainFrom hi 0 (suc (e - w))))
           ∙ subst (λ (z : ℤ). round (map (λ c. spot (x0 +ℤ pos w) y0 (colAt lo c)) (chainFrom lo 0 (suc (e - w)))) (map (λ c. spotBack z (y0 +ℤ pos h) (colAt hi c)) (chainFrom hi 0 (suc (e - w)))) ≡ map (λ c. spot (x0 +ℤ pos w) y0 (colAt lo c)) (chainFrom lo 0 (suc (e - w))) ++ map (λ c. spotBack z (y0 +ℤ pos h) (colAt hi c)) (upper h lo hi (e - w))) east-is (round-cols (x0 +ℤ pos w) y0 (e - w) h lo hi)
 
-  pub columns-hull : HullIs (cornersFrom (spot x0 y0 (x, y)) ds) (outlineOf x0 y0 (westFrom x ds) (eastFrom x ds) h (sinks a (map (countedFrom (westFrom x ds)) (trail x y ds))) (sinks b (map (turned (eastFrom x ds) h) (trail x y ds))))
+  pub columns-hull : HullIs (cornersFrom (spot x0 y0 (x, y)) ds) (hullBy x0 y0 (westFrom x ds) (eastFrom x ds) h (sinks a (map (countedFrom (westFrom x ds)) (trail x y ds))) (sinks b (map (halfTurned (eastFrom x ds) h) (trail x y ds))))
   columns-hull = columns-both .0

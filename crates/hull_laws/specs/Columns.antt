@@ -16,12 +16,19 @@ middle = mostSteps
 abbrev pub top : ℕ
 top = 2 * middle
 
+-- the sizes of the two lesser working stores, in steps or in columns: the largest takes long to clear
+abbrev pub narrowSize : ℕ
+narrowSize = 256
+
+abbrev pub widerSize : ℕ
+widerSize = 2048
+
 -- the height of a column that has none yet
 abbrev pub blank : ℕ
 blank = 65535
 
 -- a column or a height with a whole number added
-abbrev pub plus : ℕ → ℤ → ℕ
+abbrev plus : ℕ → ℤ → ℕ
 plus x (pos zero) = x
 plus x (pos (suc n)) = x + suc n
 plus x (negsuc n) = x - suc n
@@ -63,5 +70,5 @@ abbrev pub countedFrom : ℕ → ℕ × ℕ → ℕ × ℕ
 countedFrom w v = (v .0 - w, v .1)
 
 -- turned by half a turn: counted westward from the column e, and downward from the height h
-abbrev pub turned : ℕ → ℕ → ℕ × ℕ → ℕ × ℕ
-turned e h v = (e - v .0, h - v .1)
+abbrev pub halfTurned : ℕ → ℕ → ℕ × ℕ → ℕ × ℕ
+halfTurned e h v = (e - v .0, h - v .1)

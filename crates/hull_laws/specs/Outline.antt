@@ -9,7 +9,7 @@ use lib.ListN.{length, getD, drop, replicate}
 use Rattle.lists.specs.Lists.{front}
 use Rattle.grid.specs.declared.Corner.{Corner}
 use Rattle.grid.specs.Grid.{corner}
-use Rattle.hull_laws.specs.Columns.{trail, westFrom, eastFrom, sinks, countedFrom, turned}
+use Rattle.hull_laws.specs.Columns.{trail, westFrom, eastFrom, sinks, countedFrom, halfTurned}
 
 -- columns p, b and a, from left to right, turn left at b
 unfoldable pub turnsAt : List ℕ → ℕ → ℕ → ℕ → Bool
@@ -69,18 +69,18 @@ upper h lo hi k =
     (skip (eqb (getD lo k 0 + getD hi 0 0) h) (chainFrom hi 0 (suc k)))
 
 -- the corners of columns w to e with the lowest heights lo and, turned, hi: the lower chain and then the rest of the upper
-unfoldable pub outlineOf : ℤ → ℤ → ℕ → ℕ → ℕ → List ℕ → List ℕ → List Corner
-outlineOf x0 y0 w e h lo hi =
+unfoldable pub hullBy : ℤ → ℤ → ℕ → ℕ → ℕ → List ℕ → List ℕ → List Corner
+hullBy x0 y0 w e h lo hi =
     map (λ c. spot (x0 +ℤ pos w) y0 (colAt lo c)) (chainFrom lo 0 (suc (e - w)))
     ++ map (λ c. spotBack (x0 +ℤ pos e) (y0 +ℤ pos h) (colAt hi c)) (upper h lo hi (e - w))
 
--- the outline of a walk of n steps, in columns that reach n corners to every side of its start
-abbrev pub outlineAt : Corner → List ℕ → ℕ → ℕ → ℕ → List Corner
-outlineAt s ds n w e =
-    outlineOf (s .0 -ℤ pos n) (s .1 -ℤ pos n) w e (2 * n)
+-- the hull of a walk of n steps, in columns that reach n corners to every side of its start
+abbrev hullAt : Corner → List ℕ → ℕ → ℕ → ℕ → List Corner
+hullAt s ds n w e =
+    hullBy (s .0 -ℤ pos n) (s .1 -ℤ pos n) w e (2 * n)
     (sinks (replicate (suc (e - w)) (suc (2 * n))) (map (countedFrom w) (trail n n ds)))
-    (sinks (replicate (suc (e - w)) (suc (2 * n))) (map (turned e (2 * n)) (trail n n ds)))
+    (sinks (replicate (suc (e - w)) (suc (2 * n))) (map (halfTurned e (2 * n)) (trail n n ds)))
 
 -- the hull of the walk ds from s: `hullOf-hull` says that it is
 unfoldable pub hullOf : Corner → List ℕ → List Corner
-hullOf s ds = outlineAt s ds (length ds) (westFrom (length ds) ds) (eastFrom (length ds) ds)
+hullOf s ds = hullAt s ds (length ds) (westFrom (length ds) ds) (eastFrom (length ds) ds)

@@ -17,9 +17,9 @@ use Rattle.answer.specs.declared.Refusal.{Refusal}
 use Rattle.answer.specs.declared.Counted.{Counted}
 use Rattle.answer.specs.Limits.{mostInput, mostSteps, startFits}
 use Rattle.hull.specs.Hull.{HullIs}
-use Rattle.hull.specs.Call.{chainJudged, roomJudged, hullJudged, countedOf, bufferOf, HullCall}
-use Rattle.hull_laws.specs.Columns.{westFrom, eastFrom, trail, sinks, countedFrom, turned}
-use Rattle.hull_laws.specs.Outline.{spot, outlineOf}
+use Rattle.hull.specs.Call.{chainJudged, hullRoomJudged, hullJudged, countedOf, bufferOf, HullCall}
+use Rattle.hull_laws.specs.Columns.{westFrom, eastFrom, trail, sinks, countedFrom, halfTurned}
+use Rattle.hull_laws.specs.Outline.{spot, hullBy}
 use Rattle.hull_laws.proofs.CornerLaws.{corner-eq}
 use Rattle.hull_laws.proofs.TrailLaws.{width-le, east-le, west-le, east-ge}
 use Rattle.hull_laws.proofs.SinkLaws.{length-sinks}
@@ -32,7 +32,7 @@ use Rattle.hull_chains.specs.Stack.{Scanned}
 use Rattle.hull_columns.specs.Extent.{extentBy, Spans}
 use Rattle.hull_corners.specs.Parts.{ListGiven, TwoChains, twoAt}
 use Rattle.hull_laws.specs.Columns.{middle, top, blank}
-use Rattle.hull_scan.specs.Store.{Store, Hulled}
+use Rattle.hull_scan.specs.Store.{HullStore, Hulled}
 
 -- what the survey tells
 pub extent-good : (j : Judged) (w e x y : ℕ) → extentBy j w e ≡ Extent.Within x y → (j ≡ judged.Good) × (x ≡ w) × (y ≡ e)
@@ -67,7 +67,7 @@ pub walked-width : {chain : List ℕ} {w e : ℕ} → Spans chain w e → e - w 
 walked-width h = omega (arith, h .short, walked-across h)
 
 -- a store of one length
-pub stored : {w e : ℕ} (n : ℕ) → e - w < n → n ≤ suc blank → Store w e (replicate n blank) (replicate n blank) (replicate n 0) (replicate n 0)
+pub stored : {w e : ℕ} (n : ℕ) → e - w < n → n ≤ suc blank → HullStore w e (replicate n blank) (replicate n blank) (replicate n 0) (replicate n 0)
 stored {w} {e} n h g = record {
   low = omega (arith, size blank);
   high = omega (arith, size blank);
@@ -104,7 +104,7 @@ row-hulled {c} {chain} {w} {e} k h g l = record { list = twoAt c w e; hull = who
         (subst (HullIs (cornersFrom (spot (c .0 -ℤ pos middle) (c .1 -ℤ pos middle) (middle, middle)) chain)) (ap₂ (twoAt c) (sym (k .west)) (sym (k .east))) (row-hull (c .0 -ℤ pos middle) (c .1 -ℤ pos middle) middle middle chain (k .short) (k .short) (omega arith) (omega (arith, k .west, k .east))))
 
 -- the columns filled, from a store that is clear
-module _ {chain : List ℕ} {w e : ℕ} {lo hi s t : List ℕ} (k : Spans chain w e) (m : Store w e lo hi s t) where
+module _ {chain : List ℕ} {w e : ℕ} {lo hi s t : List ℕ} (k : Spans chain w e) (m : HullStore w e lo hi s t) where
   cleared : (l : List ℕ) → l ≡ replicate (length l) blank → (i : ℕ) → i < length l → getD l i 0 ≡ blank
   cleared l r i h = ap (λ (l : List ℕ). getD l i 0) r ∙ getD-replicate (length l) i blank 0 h
 
@@ -121,32 +121,32 @@ module _ {chain : List ℕ} {w e : ℕ} {lo hi s t : List ℕ} (k : Spans chain 
   }
 
   -- what the scans leave
-  pub chained : (lo′ hi′ s′ t′ : List ℕ) (a b : ℕ) → lo′ ≡ sinks lo (map (countedFrom w) (trail middle middle chain)) → hi′ ≡ sinks hi (map (turned e top) (trail middle middle chain)) → length s′ ≡ length s → length t′ ≡ length t → Scanned lo′ s′ a ((e - w) + 1) → Scanned hi′ t′ b ((e - w) + 1) → TwoChains w e lo′ hi′ s′ t′ a b
+  pub chained : (lo′ hi′ s′ t′ : List ℕ) (a b : ℕ) → lo′ ≡ sinks lo (map (countedFrom w) (trail middle middle chain)) → hi′ ≡ sinks hi (map (halfTurned e top) (trail middle middle chain)) → length s′ ≡ length s → length t′ ≡ length t → Scanned lo′ s′ a ((e - w) + 1) → Scanned hi′ t′ b ((e - w) + 1) → TwoChains w e lo′ hi′ s′ t′ a b
   chained lo′ hi′ s′ t′ a b p q i j x y = record {
     ordered = walked-order k;
     within = walked-top k;
     low = omega (arith, m .low, ap length p, length-sinks lo (map (countedFrom w) (trail middle middle chain)));
-    high = omega (arith, m .high, ap length q, length-sinks hi (map (turned e top) (trail middle middle chain)));
+    high = omega (arith, m .high, ap length q, length-sinks hi (map (halfTurned e top) (trail middle middle chain)));
     lower = subst (Scanned lo′ s′ a) (add-one (e - w)) x;
     upper = subst (Scanned hi′ t′ b) (add-one (e - w)) y;
     short = omega (arith, m .short);
     short2 = omega (arith, m .short2);
   }
 
-  pub hulled : (c : Corner) (lo′ hi′ : List ℕ) (before after : List ℤ) (r : Counted) → lo′ ≡ sinks lo (map (countedFrom w) (trail middle middle chain)) → hi′ ≡ sinks hi (map (turned e top) (trail middle middle chain)) → ListGiven (outlineOf (c .0 -ℤ pos middle) (c .1 -ℤ pos middle) w e top lo′ hi′) before r after → Hulled c chain before r after
+  pub hulled : (c : Corner) (lo′ hi′ : List ℕ) (before after : List ℤ) (r : Counted) → lo′ ≡ sinks lo (map (countedFrom w) (trail middle middle chain)) → hi′ ≡ sinks hi (map (halfTurned e top) (trail middle middle chain)) → ListGiven (hullBy (c .0 -ℤ pos middle) (c .1 -ℤ pos middle) w e top lo′ hi′) before r after → Hulled c chain before r after
   hulled c lo′ hi′ before after r p q l = record {
-    list = outlineOf (c .0 -ℤ pos middle) (c .1 -ℤ pos middle) w e top lo′ hi′;
+    list = hullBy (c .0 -ℤ pos middle) (c .1 -ℤ pos middle) w e top lo′ hi′;
     hull = whole;
     listed = l;
   }
     where
-      at : HullIs (cornersFrom c chain) (outlineOf (c .0 -ℤ pos middle) (c .1 -ℤ pos middle) (westFrom middle chain) (eastFrom middle chain) top (sinks lo (map (countedFrom (westFrom middle chain)) (trail middle middle chain))) (sinks hi (map (turned (eastFrom middle chain) top) (trail middle middle chain))))
-      at = subst (λ (z : Corner). HullIs (cornersFrom z chain) (outlineOf (c .0 -ℤ pos middle) (c .1 -ℤ pos middle) (westFrom middle chain) (eastFrom middle chain) top (sinks lo (map (countedFrom (westFrom middle chain)) (trail middle middle chain))) (sinks hi (map (turned (eastFrom middle chain) top) (trail middle middle chain))))) (start-is c) (columns-hull (c .0 -ℤ pos middle) (c .1 -ℤ pos middle) middle middle chain top blank lo hi store-room)
+      at : HullIs (cornersFrom c chain) (hullBy (c .0 -ℤ pos middle) (c .1 -ℤ pos middle) (westFrom middle chain) (eastFrom middle chain) top (sinks lo (map (countedFrom (westFrom middle chain)) (trail middle middle chain))) (sinks hi (map (halfTurned (eastFrom middle chain) top) (trail middle middle chain))))
+      at = subst (λ (z : Corner). HullIs (cornersFrom z chain) (hullBy (c .0 -ℤ pos middle) (c .1 -ℤ pos middle) (westFrom middle chain) (eastFrom middle chain) top (sinks lo (map (countedFrom (westFrom middle chain)) (trail middle middle chain))) (sinks hi (map (halfTurned (eastFrom middle chain) top) (trail middle middle chain))))) (start-is c) (columns-hull (c .0 -ℤ pos middle) (c .1 -ℤ pos middle) middle middle chain top blank lo hi store-room)
 
-      same : outlineOf (c .0 -ℤ pos middle) (c .1 -ℤ pos middle) (westFrom middle chain) (eastFrom middle chain) top (sinks lo (map (countedFrom (westFrom middle chain)) (trail middle middle chain))) (sinks hi (map (turned (eastFrom middle chain) top) (trail middle middle chain))) ≡ outlineOf (c .0 -ℤ pos middle) (c .1 -ℤ pos middle) w e top lo′ hi′
-      same = ap₂ (λ (u v : ℕ). outlineOf (c .0 -ℤ pos middle) (c .1 -ℤ pos middle) u v top (sinks lo (map (countedFrom u) (trail middle middle chain))) (sinks hi (map (turned v top) (trail middle middle chain)))) (sym (k .west)) (sym (k .east)) ∙ ap₂ (outlineOf (c .0 -ℤ pos middle) (c .1 -ℤ pos middle) w e top) (sym p) (sym q)
+      same : hullBy (c .0 -ℤ pos middle) (c .1 -ℤ pos middle) (westFrom middle chain) (eastFrom middle chain) top (sinks lo (map (countedFrom (westFrom middle chain)) (trail middle middle chain))) (sinks hi (map (halfTurned (eastFrom middle chain) top) (trail middle middle chain))) ≡ hullBy (c .0 -ℤ pos middle) (c .1 -ℤ pos middle) w e top lo′ hi′
+      same = ap₂ (λ (u v : ℕ). hullBy (c .0 -ℤ pos middle) (c .1 -ℤ pos middle) u v top (sinks lo (map (countedFrom u) (trail middle middle chain))) (sinks hi (map (halfTurned v top) (trail middle middle chain)))) (sym (k .west)) (sym (k .east)) ∙ ap₂ (hullBy (c .0 -ℤ pos middle) (c .1 -ℤ pos middle) w e top) (sym p) (sym q)
 
-      whole : HullIs (cornersFrom c chain) (outlineOf (c .0 -ℤ pos middle) (c .1 -ℤ pos middle) w e top lo′ hi′)
+      whole : HullIs (cornersFrom c chain) (hullBy (c .0 -ℤ pos middle) (c .1 -ℤ pos middle) w e top lo′ hi′)
       whole = subst (HullIs (cornersFrom c chain)) same at
 
 -- and where nothing else is refused that is the call
@@ -158,5 +158,5 @@ call-listed {s} {chain} {before} h f g k = record {
   buffer = k .listed .buffer ∙ sym (ap (λ (j : Judged). bufferOf j (k .list) before) same);
 }
   where
-    same : hullJudged s chain (length before) (length (k .list)) ≡ roomJudged (length before) (length (k .list))
+    same : hullJudged s chain (length before) (length (k .list)) ≡ hullRoomJudged (length before) (length (k .list))
     same = judged-room s chain (length before) (length (k .list)) h f g

@@ -12,8 +12,12 @@ use Rattle.hull.specs.Hull.{HullIs}
 use Rattle.hull_laws.specs.Columns.{blank}
 use Rattle.hull_corners.specs.Parts.{ListGiven}
 
+-- the columns for which the medium store has room: as many as 1,024 steps go through
+abbrev pub mediumSize : ℕ
+mediumSize = 1025
+
 -- working store for the columns w to e
-pub record Store (w e : ℕ) (lo hi s t : List ℕ) : Type 0 where
+pub record HullStore (w e : ℕ) (lo hi s t : List ℕ) : Type 0 where
   pub low : e - w < length lo
   pub high : e - w < length hi
   pub stack : e - w < length s

@@ -1,6 +1,7 @@
 // Lists the convex hull of a walk's corners: the lowest and the highest corner of each column, a chain over each, and both as one
 // list. The upper chain is the lower one of the walk turned by half a turn.
 use answer::Counted;
+use answer::Limits;
 use answer::Refusal;
 use answer::start_fits;
 use grid::Corner;
@@ -13,12 +14,16 @@ use hull_corners::ends;
 use hull_corners::finish;
 ghost use mathlib.Core.Path.{_≡_};
 ghost use mathlib.Core.Bool.{true};
-ghost use Prim.Native.Nat.{_-_, _<_, _≤_};
+ghost use Prim.Native.Nat.{_-_, _<_};
 ghost use lib.ListN.{length};
 ghost use Rattle.hull.specs.Call.{HullCall};
 ghost use Rattle.hull_columns.specs.Extent.{Spans};
 ghost use Rattle.answer.specs.Limits.{Near, startFits};
-ghost use Rattle.hull_scan.specs.Store.{Store, Hulled};
+ghost use Rattle.hull_laws.specs.Columns.{narrowSize, widerSize};
+ghost use Rattle.hull_scan.specs.Store.{mediumSize, HullStore, Hulled};
+
+// The columns for which the medium store has room.
+const MEDIUM: usize = 1025;
 
 // The hull of the walk from start through the columns west to east. The working store is lent; lo and hi hold no height yet.
 fn list_in(
@@ -32,7 +37,7 @@ fn list_in(
     t: &mut [u16],
     out: &mut [i32],
 ) -> Counted
-    requires { ⌜ Spans (now chain) west east × Near start × Store west east (now lo) (now hi) (now s) (now t) ⌝ }
+    requires { ⌜ Spans (now chain) west east × Near start × HullStore west east (now lo) (now hi) (now s) (now t) ⌝ }
     ensures { λ r. ⌜ Hulled start (now (chain .entry)) (now (out .entry)) r (now (out .exit)) ⌝ }
 {
     fill(chain, west, east, lo, hi);
@@ -44,13 +49,13 @@ fn list_in(
 
 // The same with a store for 256 columns.
 fn list_narrow(chain: &[u8], start: Corner, west: usize, east: usize, out: &mut [i32]) -> Counted
-    requires { ⌜ Spans (now chain) west east × Near start × (east - west < 256) ⌝ }
+    requires { ⌜ Spans (now chain) west east × Near start × (east - west < narrowSize) ⌝ }
     ensures { λ r. ⌜ Hulled start (now (chain .entry)) (now (out .entry)) r (now (out .exit)) ⌝ }
 {
-    let mut lo = [Columns::BLANK; 256];
-    let mut hi = [Columns::BLANK; 256];
-    let mut s = [0u16; 256];
-    let mut t = [0u16; 256];
+    let mut lo = [Columns::BLANK; Columns::NARROW];
+    let mut hi = [Columns::BLANK; Columns::NARROW];
+    let mut s = [0u16; Columns::NARROW];
+    let mut t = [0u16; Columns::NARROW];
     list_in(
         chain,
         start,
@@ -66,13 +71,13 @@ fn list_narrow(chain: &[u8], start: Corner, west: usize, east: usize, out: &mut 
 
 // The same with a store for 1,025 columns, as many as 1,024 steps go through.
 fn list_medium(chain: &[u8], start: Corner, west: usize, east: usize, out: &mut [i32]) -> Counted
-    requires { ⌜ Spans (now chain) west east × Near start × (east - west < 1025) ⌝ }
+    requires { ⌜ Spans (now chain) west east × Near start × (east - west < mediumSize) ⌝ }
     ensures { λ r. ⌜ Hulled start (now (chain .entry)) (now (out .entry)) r (now (out .exit)) ⌝ }
 {
-    let mut lo = [Columns::BLANK; 1025];
-    let mut hi = [Columns::BLANK; 1025];
-    let mut s = [0u16; 1025];
-    let mut t = [0u16; 1025];
+    let mut lo = [Columns::BLANK; MEDIUM];
+    let mut hi = [Columns::BLANK; MEDIUM];
+    let mut s = [0u16; MEDIUM];
+    let mut t = [0u16; MEDIUM];
     list_in(
         chain,
         start,
@@ -88,13 +93,13 @@ fn list_medium(chain: &[u8], start: Corner, west: usize, east: usize, out: &mut 
 
 // The same with a store for 2,048 columns.
 fn list_wider(chain: &[u8], start: Corner, west: usize, east: usize, out: &mut [i32]) -> Counted
-    requires { ⌜ Spans (now chain) west east × Near start × (east - west < 2048) ⌝ }
+    requires { ⌜ Spans (now chain) west east × Near start × (east - west < widerSize) ⌝ }
     ensures { λ r. ⌜ Hulled start (now (chain .entry)) (now (out .entry)) r (now (out .exit)) ⌝ }
 {
-    let mut lo = [Columns::BLANK; 2048];
-    let mut hi = [Columns::BLANK; 2048];
-    let mut s = [0u16; 2048];
-    let mut t = [0u16; 2048];
+    let mut lo = [Columns::BLANK; Columns::WIDER];
+    let mut hi = [Columns::BLANK; Columns::WIDER];
+    let mut s = [0u16; Columns::WIDER];
+    let mut t = [0u16; Columns::WIDER];
     list_in(
         chain,
         start,
@@ -113,10 +118,10 @@ fn list_widest(chain: &[u8], start: Corner, west: usize, east: usize, out: &mut 
     requires { ⌜ Spans (now chain) west east × Near start ⌝ }
     ensures { λ r. ⌜ Hulled start (now (chain .entry)) (now (out .entry)) r (now (out .exit)) ⌝ }
 {
-    let mut lo = [Columns::BLANK; 16385];
-    let mut hi = [Columns::BLANK; 16385];
-    let mut s = [0u16; 16385];
-    let mut t = [0u16; 16385];
+    let mut lo = [Columns::BLANK; Limits::MOST_STEPS + 1];
+    let mut hi = [Columns::BLANK; Limits::MOST_STEPS + 1];
+    let mut s = [0u16; Limits::MOST_STEPS + 1];
+    let mut t = [0u16; Limits::MOST_STEPS + 1];
     list_in(
         chain,
         start,
@@ -141,10 +146,10 @@ fn list_from(chain: &[u8], start: Corner, west: usize, east: usize, out: &mut [i
             return ends(start, west, east, out);
         }
     }
-    if east - west < 256 {
+    if east - west < Columns::NARROW {
         return list_narrow(chain, start, west, east, out);
     }
-    if east - west < 2048 {
+    if east - west < Columns::WIDER {
         return list_wider(chain, start, west, east, out);
     }
     list_widest(chain, start, west, east, out)
@@ -155,7 +160,7 @@ fn list_from(chain: &[u8], start: Corner, west: usize, east: usize, out: &mut [i
 pub fn list(start: Corner, chain: &[u8], out: &mut [i32]) -> Counted
     ensures { λ r. ⌜ HullCall start (now (chain .entry)) (now (out .entry)) r (now (out .exit)) ⌝ }
 {
-    if chain.len() > Columns::MOST_INPUT {
+    if chain.len() > Limits::MOST_INPUT {
         return Counted::Refused(Refusal::TooMany);
     }
     if !start_fits(start) {
@@ -175,10 +180,10 @@ fn list_short_from(
     east: usize,
     out: &mut [i32],
 ) -> Counted
-    requires { ⌜ Spans (now chain) west east × Near start × (east - west < 1025) ⌝ }
+    requires { ⌜ Spans (now chain) west east × Near start × (east - west < mediumSize) ⌝ }
     ensures { λ r. ⌜ Hulled start (now (chain .entry)) (now (out .entry)) r (now (out .exit)) ⌝ }
 {
-    if east - west >= 256 {
+    if east - west >= Columns::NARROW {
         return list_medium(chain, start, west, east, out);
     }
     list_narrow(chain, start, west, east, out)
@@ -186,7 +191,7 @@ fn list_short_from(
 
 // What `list` does, for at most 1,024 bytes and a start in range: no larger store is in its frame.
 pub fn list_short(start: Corner, chain: &[u8], out: &mut [i32]) -> Counted
-    requires { ⌜ (startFits start ≡ true) × (length (now chain) ≤ 1024) ⌝ }
+    requires { ⌜ (startFits start ≡ true) × (length (now chain) < mediumSize) ⌝ }
     ensures { λ r. ⌜ HullCall start (now (chain .entry)) (now (out .entry)) r (now (out .exit)) ⌝ }
 {
     match survey(chain) {

@@ -66,7 +66,7 @@ abbrev pub tl : List ℤ → List ℤ
 tl [] = []
 tl (x ∷ ρ) = ρ
 
-abbrev pub nth : ℕ → List ℤ → ℕ → ℤ
+abbrev nth : ℕ → List ℤ → ℕ → ℤ
 nth zero ρ i = pos 0
 nth (suc n) ρ zero = hd ρ
 nth (suc n) ρ (suc i) = nth n (tl ρ) i
@@ -80,20 +80,20 @@ den n ρ (a ⊗ b) = den n ρ a *ℤ den n ρ b
 den n ρ (⊝ a) = negℤ (den n ρ a)
 
 -- polynomials in one variable over coefficients that are known through their values
-abbrev pub addL : {A : Type 0} → (A → A → A) → List A → List A → List A
+abbrev addL : {A : Type 0} → (A → A → A) → List A → List A → List A
 addL f [] q = q
 addL f (a ∷ p) [] = a ∷ p
 addL f (a ∷ p) (b ∷ q) = f a b ∷ addL f p q
 
-abbrev pub mapL : {A : Type 0} → (A → A) → List A → List A
+abbrev mapL : {A : Type 0} → (A → A) → List A → List A
 mapL f [] = []
 mapL f (a ∷ p) = f a ∷ mapL f p
 
-abbrev pub mulL : {A : Type 0} → A → (A → A → A) → (A → A → A) → List A → List A → List A
+abbrev mulL : {A : Type 0} → A → (A → A → A) → (A → A → A) → List A → List A → List A
 mulL z f g [] q = []
 mulL z f g (a ∷ p) q = addL f (mapL (g a) q) (z ∷ mulL z f g p q)
 
-abbrev pub evL : {A : Type 0} → (A → ℤ) → ℤ → List A → ℤ
+abbrev evL : {A : Type 0} → (A → ℤ) → ℤ → List A → ℤ
 evL ev x [] = pos 0
 evL ev x (a ∷ p) = ev a +ℤ (x *ℤ evL ev x p)
 
@@ -143,28 +143,28 @@ abbrev pub Poly : ℕ → Type 0
 Poly zero = ℤ
 Poly (suc n) = List (Poly n)
 
-abbrev pub con : (n : ℕ) → ℤ → Poly n
+abbrev con : (n : ℕ) → ℤ → Poly n
 con zero c = c
 con (suc n) c = con n c ∷ []
 
-abbrev pub var : (n : ℕ) → ℕ → Poly n
+abbrev var : (n : ℕ) → ℕ → Poly n
 var zero i = pos 0
 var (suc n) zero = con n (pos 0) ∷ con n (pos 1) ∷ []
 var (suc n) (suc i) = var n i ∷ []
 
-abbrev pub addP : (n : ℕ) → Poly n → Poly n → Poly n
+abbrev addP : (n : ℕ) → Poly n → Poly n → Poly n
 addP zero = λ a b. a +ℤ b
 addP (suc n) = addL (addP n)
 
-abbrev pub negP : (n : ℕ) → Poly n → Poly n
+abbrev negP : (n : ℕ) → Poly n → Poly n
 negP zero = λ a. negℤ a
 negP (suc n) = mapL (negP n)
 
-abbrev pub mulP : (n : ℕ) → Poly n → Poly n → Poly n
+abbrev mulP : (n : ℕ) → Poly n → Poly n → Poly n
 mulP zero = λ a b. a *ℤ b
 mulP (suc n) = mulL (con n (pos 0)) (addP n) (mulP n)
 
-abbrev pub isZ : ℤ → Bool
+abbrev isZ : ℤ → Bool
 isZ (pos zero) = true
 isZ (pos (suc n)) = false
 isZ (negsuc n) = false

@@ -109,7 +109,7 @@ pub _⊡_ : {n : ℕ} {ρ : List ℤ} {a b : E} → Nn n ρ (a ⊖ k (pos 1)) �
 _⊡_ {n} {ρ} {a} {b} h g = record { nn = one-mul (den n ρ a) (den n ρ b) (h .nn) (g .nn) }
 
 -- the polynomial is a constant that is not negative
-abbrev pub ncL : {A : Type 0} → (A → Bool) → (A → Bool) → List A → Bool
+abbrev ncL : {A : Type 0} → (A → Bool) → (A → Bool) → List A → Bool
 ncL z c [] = true
 ncL z c (a ∷ p) = _&_ (c a) (allL z p)
 

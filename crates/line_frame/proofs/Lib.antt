@@ -5,6 +5,7 @@ pub mod LineLaws
 pub mod Bytes
 pub mod LineCases
 pub mod AnswerCases
+pub mod BegunCases
 pub mod ConvertedCases
 pub mod OutputLaws
 pub mod ConvertedLaws

@@ -4,4 +4,5 @@ pub mod Hex
 pub mod Spelled
 pub mod Line
 pub mod Program
+pub mod Begun
 pub mod Converted

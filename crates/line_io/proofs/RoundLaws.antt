@@ -2,10 +2,11 @@
 -- Assumes nothing.
 use mathlib.Core.Path.{_≡_, refl, ap, subst}
 use mathlib.Core.List.{List}
-use Prim.Native.Nat.{ℕ, _<_, _≤_}
+use Prim.Native.Nat.{ℕ, _*_, _<_, _≤_}
 use native.Mathlib.Omega.{arith}
 use native.Mathlib.Decide.{decLt}
 use lib.ListN.{length, take, length-take}
+use Rattle.line_stream.specs.Stream.{mostPart}
 use Rattle.line_frame.specs.Sizes.{mostHeld}
 use Rattle.line_stream.specs.declared.Progress.{Progress}
 use Rattle.sheet.specs.declared.Margin.{Margin}
@@ -47,7 +48,7 @@ pub passed-sent : (t : Task) (m q : Margin) (w : List ℕ) {r : Sent} → SentIs
 passed-sent t m q w h e = subst (SentIs (marginOf t m w)) e h
 
 -- the programs' output has room for the last line
-pub last-small : (t : Task) → mostTold t ≤ 131072
+pub last-small : (t : Task) → mostTold t ≤ 2 * mostPart
 last-small Answer = omega arith
 last-small Convert = omega arith
 last-small Rows = omega arith

@@ -26,7 +26,7 @@ enum Round {
 }
 
 // How a program ended: all was read and written, or a read or a write failed.
-enum Ended {
+enum Ending {
     Whole,
     Unread,
     Unwritten,
@@ -116,7 +116,7 @@ fn close(task: Task, line: &[u8], held: usize, out: &mut [u8], m: Margin, page: 
 }
 
 // A proved loop has to end, and nothing says that the input does. So it counts its rounds down, from a number that no run uses up.
-fn run(task: Task, line: &mut [u8], buf: &mut [u8], out: &mut [u8], page: &mut [u8]) -> Ended
+fn run(task: Task, line: &mut [u8], buf: &mut [u8], out: &mut [u8], page: &mut [u8]) -> Ending
     requires { ⌜ (length (now line) ≡ mostHeld) × (length (now buf) ≤ mostPart) ⌝ }
     requires { ⌜ (mostTold task ≤ length (now out)) × (length (now page) ≡ mostPage) ⌝ }
 {
@@ -137,24 +137,24 @@ fn run(task: Task, line: &mut [u8], buf: &mut [u8], out: &mut [u8], page: &mut [
             }
             Round::Over(held) => {
                 if close(task, line, held, out, m, page) {
-                    return Ended::Whole;
+                    return Ending::Whole;
                 }
-                return Ended::Unwritten;
+                return Ending::Unwritten;
             }
-            Round::Unread => return Ended::Unread,
-            Round::Unwritten => return Ended::Unwritten,
+            Round::Unread => return Ending::Unread,
+            Round::Unwritten => return Ending::Unwritten,
         }
         rounds -= 1;
     }
-    Ended::Unread
+    Ending::Unread
 }
 
 // Says how the program ended.
-fn say(e: Ended) {
+fn say(e: Ending) {
     match e {
-        Ended::Whole => io::write_all(WORD_FILENO, b"end\n"),
-        Ended::Unread => io::write_all(WORD_FILENO, b"read\n"),
-        Ended::Unwritten => io::write_all(WORD_FILENO, b"write\n"),
+        Ending::Whole => io::write_all(WORD_FILENO, b"end\n"),
+        Ending::Unread => io::write_all(WORD_FILENO, b"read\n"),
+        Ending::Unwritten => io::write_all(WORD_FILENO, b"write\n"),
     }
     ;
 }
@@ -163,7 +163,7 @@ fn say(e: Ended) {
 pub fn start(task: Task) {
     let mut line = [0u8; Progress::MOST_HELD];
     let mut buf = [0u8; Progress::MOST_PART];
-    let mut out = [0u8; 131072];
+    let mut out = [0u8; 2 * Progress::MOST_PART];
     let mut page = [0u8; Numbered::MOST_PAGE];
     say(run(task, &mut line, &mut buf, &mut out, &mut page));
 }

@@ -28,16 +28,17 @@ use Rattle.line_fields.proofs.PutLaws.{wrote-append}
 use Rattle.line_frame.proofs.SpelledLaws.{length-numbersLine}
 use Rattle.answer.specs.declared.Judged.the-variants as judged
 use Rattle.answer.specs.declared.Counted.the-variants as counted
-use Rattle.line_reply.specs.Reply.{Listed}
+use Rattle.answer.specs.Limits.{mostInput, mostSteps}
+use Rattle.line_reply.specs.Reply.{HoldsCorners}
 
-steps-none : (i : ℕ) (w : List ℕ) → Below 4 w → i + length w ≤ 16384 → chainJudged i w ≡ judged.Good
+steps-none : (i : ℕ) (w : List ℕ) → Below 4 w → i + length w ≤ mostSteps → chainJudged i w ≡ judged.Good
 steps-none i [] b h = refl
 steps-none i (d ∷ w) b h =
-    rw (le-ltb 3 d (omega (arith, b .0)), ne-eqb i 16384 (λ e. omega arith)) (steps-none (suc i) w (b .1) (omega arith))
+    rw (le-ltb 3 d (omega (arith, b .0)), ne-eqb i mostSteps (λ e. omega arith)) (steps-none (suc i) w (b .1) (omega arith))
 
 hull-good : (w : List ℕ) (room n : ℕ) → Below 4 w → length w ≤ mostDigits → 2 * n ≤ room → hullJudged origin w room n ≡ judged.Good
 hull-good w room n b h r =
-    rw (le-ltb 32768 (length w) (omega arith), steps-none 0 w b (omega arith), le-ltb room (2 * n) r)
+    rw (le-ltb mostInput (length w) (omega arith), steps-none 0 w b (omega arith), le-ltb room (2 * n) r)
 
 module _ {w : List ℕ} {before after : List ℤ} {r : Counted} (h : HullCall origin w before r after) (b : Below 4 w) (m : length w ≤ mostDigits) (room : length before ≡ hullNumbers) where
   one : h .list ≡ hullOf origin w
@@ -52,7 +53,7 @@ module _ {w : List ℕ} {before after : List ℤ} {r : Counted} (h : HullCall or
   count : r ≡ counted.Many (length (h .list))
   count = h .answer ∙ ap (λ (j : Judged). countedOf j (length (h .list))) good
 
-  pub hull-listed : (n : ℕ) → r ≡ counted.Many n → Listed (hullOf origin w) n after
+  pub hull-listed : (n : ℕ) → r ≡ counted.Many n → HoldsCorners (hullOf origin w) n after
   hull-listed n e =
       let k : n ≡ length (h .list) = cc count in
       record {
@@ -68,7 +69,7 @@ module _ {w : List ℕ} {before after : List ℤ} {r : Counted} (h : HullCall or
 
 -- facts, count and corners, one after the other
 pub wrote-accepted : (f : List ℕ) (cs : List Corner) (at n : ℕ) (buf : List ℤ) {i j e : ℕ} {a b c d : List ℕ}
-    → Listed cs n buf → length cs ≤ mostCorners → length f ≡ factsDigits → at + mostAnswer ≤ length a
+    → HoldsCorners cs n buf → length cs ≤ mostCorners → length f ≡ factsDigits → at + mostAnswer ≤ length a
     → Wrote f at a i b → Wrote (hexOf 4 n) i b j c → Wrote (numbersLine (take (2 * n) buf)) j c e d
     → Wrote (f ++ hullLine cs) at a e d
 wrote-accepted f cs at n buf {i} {j} {e} {a} {b} {c} {d} l m k h p q r =

@@ -12,7 +12,7 @@ pub record Lent (t ms : List ℕ) (h : List ℤ) : Type 0 where
   pub hull : length h ≡ hullNumbers
 
 -- a list of corners stands at the start of the buffer, and n is how many
-pub record Listed (cs : List Corner) (n : ℕ) (after : List ℤ) : Type 0 where
+pub record HoldsCorners (cs : List Corner) (n : ℕ) (after : List ℤ) : Type 0 where
   pub count : n ≡ length cs
   pub buffer : take (2 * n) after ≡ numbers cs
 

@@ -22,14 +22,14 @@ ghost use Rattle.line_frame.specs.Sizes.{mostDigits, hullNumbers, mostAnswer};
 ghost use Rattle.line_frame.specs.Spelled.{factsLine, hullLine};
 ghost use Rattle.line_frame.specs.Line.{lineAnswer};
 ghost use Rattle.line_fields.specs.Put.{Wrote};
-ghost use Rattle.line_reply.specs.Reply.{Lent, Listed, LineIs};
+ghost use Rattle.line_reply.specs.Reply.{Lent, HoldsCorners, LineIs};
 
 // The buffers in which lines are judged.
 pub struct Desk;
 
 impl Desk {
     // records of the table
-    pub const RECORDS: usize = 320;
+    const RECORDS: usize = 320;
 
     // its words
     pub const TABLE: usize = Desk::RECORDS * Record::WORDS;
@@ -38,7 +38,7 @@ impl Desk {
     pub const MARKS: usize = Walk::MARK_WORDS * Frame::MOST_DIGITS;
 
     // hull corners at most, one more than the steps
-    pub const CORNERS: usize = Frame::MOST_DIGITS + 1;
+    const CORNERS: usize = Frame::MOST_DIGITS + 1;
 
     // the numbers that list them
     pub const HULL: usize = 2 * Desk::CORNERS;
@@ -51,7 +51,7 @@ impl Desk {
 fn list_hull(steps: &[u8], hull: &mut [i32]) -> usize
     requires { ⌜ Below 4 (now steps) × (length (now steps) ≤ mostDigits) ⌝ }
     requires { ⌜ length (now hull) ≡ hullNumbers ⌝ }
-    ensures { λ n. ⌜ Listed (hullOf origin (now (steps .entry))) n (now (hull .exit)) ⌝ }
+    ensures { λ n. ⌜ HoldsCorners (hullOf origin (now (steps .entry))) n (now (hull .exit)) ⌝ }
 {
     match hull_scan::list_short(Corner(0, 0), steps, hull) {
         Counted::Many(n) => n,

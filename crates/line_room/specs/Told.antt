@@ -10,7 +10,7 @@ use Rattle.line_frame.specs.{Sizes.mostDigits, Spelled.refusedLine, Spelled.num
 use Rattle.line_room.specs.Walked.{lineWalked}
 
 -- row, first and last panel of a span, 4 digits each, and a line feed
-abbrev pub spanTold : Span → List ℕ
+abbrev spanTold : Span → List ℕ
 spanTold s = numbersLine (s .row ∷ s .first ∷ s .last ∷ []) ++ (10 ∷ [])
 
 -- one span after the other

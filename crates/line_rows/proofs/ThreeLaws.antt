@@ -16,7 +16,7 @@ use Rattle.line_fields.proofs.PutLaws.{wrote-append, wrote-nil, length-put}
 use Rattle.line_room.specs.Told.{spansTold}
 use Rattle.line_rows.specs.Numbers.{threeTold, threesTold}
 
-pub length-three : (zs : List ℤ) → 3 ≤ length zs → length (threeTold zs) ≡ 13
+length-three : (zs : List ℤ) → 3 ≤ length zs → length (threeTold zs) ≡ 13
 length-three zs h = omega (arith, length-append (numbersLine (take 3 zs)) (10 ∷ []), length-numbersLine (take 3 zs), length-take-le 3 zs h)
 
 length-threes : (n : ℕ) (zs : List ℤ) → 3 * n ≤ length zs → length (threesTold n zs) ≡ 13 * n

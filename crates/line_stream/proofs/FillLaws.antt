@@ -12,8 +12,9 @@ use lib.Dec.{ltb, leb}
 use borrow.Author.Tests.{le-ltb, lt-ltb, le-leb, lt-leb, eq-eqb, ne-eqb}
 use Rattle.line_frame.specs.Sizes.{mostHeld}
 use Rattle.line_fields.specs.Put.{put, Wrote}
-use Rattle.line_stream.specs.Stream.{lineLength, hasFeed, keptOf, passedOf, toldOf, heldOf, Job, Does, Fed}
-use Rattle.line_stream.specs.Fill.{FedLine, Filled, Block, goesOn, fillOf, lineAfter}
+use Rattle.line_frame.specs.Begun.{lineLength, hasFeed, keptOf, passedOf, heldOf}
+use Rattle.line_stream.specs.Stream.{toldOf, Job, Does, Fed}
+use Rattle.line_stream.specs.Fill.{FedLine, Filled, Block, goesOn, fillOf, lineEnded, lineAfter}
 use Rattle.line_stream.specs.declared.Progress.{Progress}
 use Rattle.line_fields.proofs.PutLaws.{take-put-start, take-put, drop-put, length-put, wrote-append}
 use Rattle.line_stream.proofs.StreamLaws.{lineLength-most, fed-passed, fed-nil, fed-append, passedOf-most, passedOf-some}
@@ -34,7 +35,6 @@ module _ (J : Job) (line s out : List ℕ) (held at used e : ℕ) (he : e ≡ at
       let m = lineLength-most (drop at s) in
       let f : hasFeed q ≡ false = le-ltb (lineLength q) (length q) (omega arith) in
       let a : take (e - at) q ≡ q = take-all (e - at) q (omega arith) in
-      let b : take (lineLength q) q ≡ q = take-all (lineLength q) q (omega arith) in
       let g : keptOf (take held line ++ take (e - at) q) ≡ keptOf (take held line ++ q) = ap (λ (l : List ℕ). keptOf (take held line ++ l)) a in
       let k1 : k ≡ length (keptOf (take held line ++ take (e - at) q)) = omega (arith, w .end) in
       record {
@@ -42,7 +42,7 @@ module _ (J : Job) (line s out : List ℕ) (held at used e : ℕ) (he : e ≡ at
         passed = rw f (omega arith);
         count = rw f (k1 ∙ ap length g);
         holds = rw f (ap (take k) (w .buffer) ∙ take-put-start (keptOf (take held line ++ take (e - at) q)) line k k1 (omega (arith, length-keptOf (take held line ++ take (e - at) q))) ∙ g);
-        buffer = rw f (w .buffer ∙ ap (λ (l : List ℕ). put l 0 line) (g ∙ ap (λ (l : List ℕ). keptOf (take held line ++ l)) (sym b)));
+        buffer = rw f (w .buffer ∙ ap (λ (l : List ℕ). put l 0 line) g);
       }
 
   -- a line that ends there: what is written early, and then what is told of the bytes that are kept, wherever these were read from
@@ -62,36 +62,26 @@ module _ (J : Job) (line s out : List ℕ) (held at used e : ℕ) (he : e ≡ at
         in
         subst (λ (l : List ℕ). Wrote l used out u out′) m (wrote-append o w (omega (arith, room, ap length m, length-append (J .early x r) (J .told (keptOf (x ++ r)) []))))
 
-    fed-ended : line′ ≡ lineAfter line held (drop at s) → FedLine J line held (drop at s) at out used (record { held = 0; at = e + 1; used = u }) line′ out′
+    pub fed-ended : line′ ≡ lineEnded line held (take (e - at) (drop at s)) → FedLine J line held (drop at s) at out used (record { held = 0; at = e + 1; used = u }) line′ out′
     fed-ended b =
         let q : List ℕ = drop at s in
         let n : length q ≡ length s - at = length-drop at s in
         let f : hasFeed q ≡ true = lt-ltb (lineLength q) (length q) (omega arith) in
+        let d : e - at ≡ lineLength q = omega arith in
         record {
           output = fed-told;
           passed = rw f (omega arith);
           count = rw f refl;
           holds = rw f refl;
-          buffer = b;
+          buffer = rw f (b ∙ ap (λ (i : ℕ). lineEnded line held (take i q)) d);
         }
 
-    -- a whole line of the chunk
-    pub fed-here : held ≡ 0 → line′ ≡ line → FedLine J line held (drop at s) at out used (record { held = 0; at = e + 1; used = u }) line′ out′
-    fed-here z b =
-        let q : List ℕ = drop at s in
-        let n : length q ≡ length s - at = length-drop at s in
-        let f : hasFeed q ≡ true = lt-ltb (lineLength q) (length q) (omega arith) in
-        fed-ended (rw (f, eq-eqb held 0 z) b)
+-- what a line that ends leaves in the buffer: nothing of it, where none was held, and else the bytes that were put together
+pub ended-here : (line r : List ℕ) (held : ℕ) → held ≡ 0 → line ≡ lineEnded line held r
+ended-here line r held z = rw (eq-eqb held 0 z)
 
-    -- a line whose first bytes were held
-    pub fed-kept : (k : ℕ) → (held ≡ 0 → ⊥) → Wrote (keptOf (take held line ++ take (e - at) (drop at s))) 0 line k line′
-        → FedLine J line held (drop at s) at out used (record { held = 0; at = e + 1; used = u }) line′ out′
-    fed-kept k z g =
-        let q : List ℕ = drop at s in
-        let n : length q ≡ length s - at = length-drop at s in
-        let f : hasFeed q ≡ true = lt-ltb (lineLength q) (length q) (omega arith) in
-        let d : e - at ≡ lineLength q = omega arith in
-        fed-ended (rw (f, ne-eqb held 0 z) (g .buffer ∙ ap (λ (i : ℕ). put (keptOf (take held line ++ take i q)) 0 line) d))
+pub ended-kept : (line r line′ : List ℕ) (held k : ℕ) → (held ≡ 0 → ⊥) → Wrote (keptOf (take held line ++ r)) 0 line k line′ → line′ ≡ lineEnded line held r
+ended-kept line r line′ held k z w = rw (ne-eqb held 0 z) (w .buffer)
 
 -- the bytes that were put together
 pub kept-bytes : (line : List ℕ) (k : ℕ) (line′ : List ℕ) (l : List ℕ) → length line ≡ mostHeld → Wrote (keptOf l) 0 line k line′ → take k line′ ≡ keptOf l

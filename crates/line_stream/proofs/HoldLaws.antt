@@ -13,7 +13,7 @@ use lib.Dec.{ltb, eqb}
 use borrow.Author.Tests.{eq-eqb, ne-eqb, ltb-true, ltb-false, lt-ltb, le-ltb}
 use Rattle.line_frame.specs.Sizes.{mostHeld}
 use Rattle.line_fields.specs.Put.{put, Wrote}
-use Rattle.line_stream.specs.Stream.{lineLength, keptOf}
+use Rattle.line_frame.specs.Begun.{lineLength, keptOf}
 use Rattle.line_stream.proofs.StreamLaws.{lineLength-feed, lineLength-more, lineLength-most}
 
 pub lineLength-here : (s : List ℕ) (i : ℕ) → i < length s → getD s i 0 ≡ 10 → lineLength (drop i s) ≡ 0

@@ -8,7 +8,8 @@ use native.Mathlib.Omega.{arith}
 use lib.ListN.{length, take}
 use Rattle.line_frame.specs.Sizes.{mostHeld}
 use Rattle.line_frame.specs.Program.{lastOf}
-use Rattle.line_stream.specs.Stream.{lineLength, hasFeed, keptOf, toldOf, Does, tellsEach}
+use Rattle.line_frame.specs.Begun.{lineLength, hasFeed, keptOf}
+use Rattle.line_stream.specs.Stream.{toldOf, Does, tellsEach}
 use Rattle.line_stream.proofs.StreamLaws.{take-take-append}
 
 module _ (f : List ℕ → List ℕ) (n : ℕ) (kept : (l : List ℕ) → f (keptOf l) ≡ f l) where

@@ -1,5 +1,4 @@
 -- The laws of input that comes in parts.
-pub mod StreamCases
 pub mod StreamLaws
 pub mod JobLaws
 pub mod PassLaws

@@ -10,7 +10,8 @@ use lib.Seq.{take-all, length-take-le}
 use borrow.Author.Tests.{lt-ltb, le-ltb, ltb-true, ltb-false}
 use Rattle.line_frame.specs.Sizes.{mostLine, mostHeld}
 use Rattle.line_frame.specs.Program.{lastOf}
-use Rattle.line_stream.specs.Stream.{lineLength, hasFeed, keptOf, toldOf, Does, isLong, passesOn}
+use Rattle.line_frame.specs.Begun.{lineLength, hasFeed, keptOf}
+use Rattle.line_stream.specs.Stream.{toldOf, Does, isLong, passesOn}
 
 module _ (f : List ℕ → List ℕ) (n : ℕ) (long : (l : List ℕ) → mostLine < length l → f l ≡ l) (none : f [] ≡ []) where
   kept-long : (l : List ℕ) → isLong (keptOf l) ≡ isLong l

@@ -11,8 +11,8 @@ use lib.Dec.{eqb}
 use borrow.Author.Tests.{ltb-true, ltb-false}
 use Rattle.line_frame.specs.Sizes.{mostHeld}
 use Rattle.line_frame.specs.Program.{outputFrom}
-use Rattle.line_stream.specs.Stream.{lineLength, hasFeed, keptOf, passedOf, toldOf, heldOf, Job, Does, owedFrom, Fed, Run, ended, fed, joined}
-use Rattle.line_stream.proofs.StreamCases as cases
+use Rattle.line_frame.specs.Begun.{lineLength, hasFeed, keptOf, passedOf, heldOf}
+use Rattle.line_stream.specs.Stream.{toldOf, Job, Does, owedFrom, Fed, Run, ended, fed, joined}
 
 pub lineLength-feed : (s : List ℕ) (b : ℕ) → eqb b 10 ≡ true → lineLength (b ∷ s) ≡ 0
 unfolding lineLength

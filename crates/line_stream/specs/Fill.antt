@@ -2,13 +2,17 @@
 use Rattle.lists.specs.Lists.{_≡_, Bool, true, false, cond, _&&_, _⊎_, List, [], _++_, length, take, drop, ℕ, zero, suc, _+_, _-_, _<_, _≤_, eqb, ltb, leb}
 use Rattle.line_frame.specs.Sizes.{mostHeld}
 use Rattle.line_fields.specs.Put.{put, Wrote}
-use Rattle.line_stream.specs.Stream.{lineLength, hasFeed, keptOf, passedOf, heldOf, toldOf, Job, Fed}
+use Rattle.line_frame.specs.Begun.{lineLength, hasFeed, keptOf, passedOf, heldOf}
+use Rattle.line_stream.specs.Stream.{toldOf, Job, Fed}
 use Rattle.line_stream.specs.declared.Progress.{Progress}
 
--- a whole line of the chunk is read where it stands; any other is put together in the buffer
+-- what a line that ends after the bytes r leaves in the buffer: where none of it is held it is read where it stands, any other is put together there
+abbrev pub lineEnded : List ℕ → ℕ → List ℕ → List ℕ
+lineEnded line held r = cond (eqb held 0) line (put (keptOf (take held line ++ r)) 0 line)
+
+-- a line that does not end in the chunk is put together there too
 abbrev pub lineAfter : List ℕ → ℕ → List ℕ → List ℕ
-lineAfter line held s =
-    cond (hasFeed s && eqb held 0) line (put (keptOf (take held line ++ take (lineLength s) s)) 0 line)
+lineAfter line held s = cond (hasFeed s) (lineEnded line held (take (lineLength s) s)) (put (keptOf (take held line ++ s)) 0 line)
 
 -- one line, or the rest of a chunk that has no more line feed
 pub record FedLine (J : Job) (line : List ℕ) (held : ℕ) (s : List ℕ) (at : ℕ) (out : List ℕ) (used : ℕ) (r : Progress) (line′ out′ : List ℕ) : Type 0 where

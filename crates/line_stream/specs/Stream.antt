@@ -1,20 +1,7 @@
--- Input that comes in parts: how far one call goes, what it writes and what it keeps of a line begun, whatever a program writes for a line.
+-- Input that comes in parts: what one call writes, whatever a program writes for a line.
 -- Assumes nothing.
-use Rattle.lists.specs.Lists.{_≡_, Bool, true, false, cond, List, [], _∷_, _++_, length, take, ℕ, suc, eqb, ltb}
-use Rattle.line_frame.specs.{Sizes.mostLine, Sizes.mostHeld, Program.lastOf}
-
--- how many bytes stand before the first line feed
-unfoldable pub lineLength : List ℕ → ℕ
-lineLength [] = 0
-lineLength (b ∷ s) = elim (eqb b 10) [ true ↦ 0 | false ↦ suc (lineLength s) ]
-
--- there is a line feed
-abbrev pub hasFeed : List ℕ → Bool
-hasFeed s = ltb (lineLength s) (length s)
-
--- what is held of the bytes of a line begun
-abbrev pub keptOf : List ℕ → List ℕ
-keptOf h = take mostHeld h
+use Rattle.lists.specs.Lists.{_≡_, Bool, true, false, cond, List, [], _∷_, _++_, length, take, ℕ, eqb, ltb}
+use Rattle.line_frame.specs.{Sizes.mostLine, Program.lastOf, Begun.lineLength, Begun.hasFeed, Begun.keptOf}
 
 -- what a program writes for a line of which the bytes h are held: where the line ends after the bytes r; where a part of the input ends there, and
 -- the line goes on; and where the input ends
@@ -34,15 +21,7 @@ pub record Does (J : Job) (told last : List ℕ → List ℕ) : Type 0 where
   pub on : (h s r : List ℕ) → J .early h s ++ J .early (keptOf (h ++ s)) r ≡ J .early h (s ++ r)
   pub rest : (h : List ℕ) → J .early h [] ++ J .last (keptOf h) ≡ J .last h
 
--- the bytes that one call passes: a line with its line feed, or all
-abbrev pub passedOf : List ℕ → ℕ
-passedOf s = cond (hasFeed s) (suc (lineLength s)) (length s)
-
--- what is held after it
-abbrev pub heldOf : List ℕ → List ℕ → List ℕ
-heldOf h s = cond (hasFeed s) [] (keptOf (h ++ s))
-
--- what it writes
+-- what one call writes
 abbrev pub toldOf : Job → List ℕ → List ℕ → List ℕ
 toldOf J h s = cond (hasFeed s) (J .told h (take (lineLength s) s)) (J .early h s)
 

@@ -6,7 +6,8 @@ ghost use Prim.Native.Nat.{_+_, _-_, _≤_};
 ghost use lib.ListN.{length, take, drop};
 ghost use lib.Dec.{ltb};
 ghost use mathlib.Core.List.{_++_};
-ghost use Rattle.line_stream.specs.Stream.{lineLength, keptOf, near};
+ghost use Rattle.line_frame.specs.Begun.{lineLength, keptOf};
+ghost use Rattle.line_stream.specs.Stream.{near};
 ghost use Rattle.line_frame.specs.Sizes.{mostHeld};
 ghost use Rattle.line_fields.specs.Put.{Wrote};
 

@@ -5,7 +5,7 @@ use Rattle.steps.specs.Operations.{survivors}
 use Rattle.line_frame.specs.Sizes.{mostDigits, tableWords, marksWords}
 
 -- buffers for the walk of any line
-pub record Ready (t ms ch : List ℕ) : Type 0 where
+pub record WalkBuffers (t ms ch : List ℕ) : Type 0 where
   pub table : length t ≡ tableWords
   pub marks : length ms ≡ marksWords
   pub chain : length ch ≡ mostDigits

@@ -16,13 +16,13 @@ ghost use Rattle.line_frame.specs.Hex.{allHex};
 ghost use Rattle.line_frame.specs.Line.{digitsOf};
 ghost use Rattle.line_frame.specs.declared.Kind.the-variants as kinds;
 ghost use Rattle.line_room.specs.Walked.{kindWalked, lineWalked};
-ghost use Rattle.line_walk.specs.Walk.{Ready, WalkedBy};
+ghost use Rattle.line_walk.specs.Walk.{WalkBuffers, WalkedBy};
 
 // Walks the n operations of a frame.
 fn walk_digits(s: &[u8], n: usize, table: &mut [u32], marks: &mut [u32], chain: &mut [u8]) -> Answer
     requires { ⌜ allHex (now s) ≡ true ⌝ }
     requires { ⌜ (n ≤ mostDigits) × (length (now s) ≡ headDigits + n) ⌝ }
-    requires { ⌜ Ready (now table) (now marks) (now chain) ⌝ }
+    requires { ⌜ WalkBuffers (now table) (now marks) (now chain) ⌝ }
     ensures { λ r. ⌜ WalkedBy (kindWalked kinds.Operations (digitsOf (now (s .entry)))) (digitsOf (now (s .entry))) r (now (chain .exit)) ⌝ }
 {
     let mut digits = [0u8; Frame::MOST_DIGITS];
@@ -47,7 +47,7 @@ fn walk_frame(
 ) -> Answer
     requires { ⌜ allHex (now s) ≡ true ⌝ }
     requires { ⌜ (n ≤ mostDigits) × (length (now s) ≡ headDigits + n) ⌝ }
-    requires { ⌜ Ready (now table) (now marks) (now chain) ⌝ }
+    requires { ⌜ WalkBuffers (now table) (now marks) (now chain) ⌝ }
     ensures { λ r. ⌜ WalkedBy (kindWalked kind (digitsOf (now (s .entry)))) (digitsOf (now (s .entry))) r (now (chain .exit)) ⌝ }
 {
     match kind {
@@ -58,7 +58,7 @@ fn walk_frame(
 
 // Walks the line s. The chain of an accepted walk begins with its surviving steps.
 pub fn walk_line(s: &[u8], table: &mut [u32], marks: &mut [u32], chain: &mut [u8]) -> Answer
-    requires { ⌜ Ready (now table) (now marks) (now chain) ⌝ }
+    requires { ⌜ WalkBuffers (now table) (now marks) (now chain) ⌝ }
     ensures { λ r. ⌜ WalkedBy (lineWalked (now (s .entry))) (digitsOf (now (s .entry))) r (now (chain .exit)) ⌝ }
 {
     match read(s) {

@@ -10,10 +10,10 @@ use Rattle.line_frame.proofs.OutputLaws.{output-line, output-last}
 use Rattle.line_room.specs.Told.{rowsProgram}
 use Rattle.line_stream.specs.Stream.{Run, ended, fed, joined}
 use Rattle.line_stream.proofs.Demand as stream
-use Rattle.sheet.specs.{declared.Margin.Margin, Sheet.sheet, Sheet.top}
+use Rattle.sheet.specs.{declared.Margin.Margin, Sheet.sheet, Sheet.atTop}
 use Rattle.sheet.proofs.NumberLaws.{page-append}
 use Rattle.lines.specs.declared.Task.{Task, the-variants.Answer, the-variants.Convert, the-variants.Rows, the-variants.Enter}
-use Rattle.lines.specs.Tasks.{jobOf, fedLineOf, lastLineOf, outputOf, handedOf, marginOf, Handed, closed, passed, wholeOf}
+use Rattle.lines.specs.Tasks.{jobOf, fedLineOf, lastLineOf, outputOf, handedOf, marginOf, Handed, closed, passed, allHanded}
 use Rattle.lines.proofs.TaskLaws.{job-does}
 
 pub run-task : (t : Task) {o : List ℕ} {ss : List (List ℕ)} → Run (jobOf t) [] ss o → o ≡ outputOf t (joined ss)
@@ -57,11 +57,11 @@ handed-run t {m} {h} (passed {ss = ss} s w h′ f r) =
     (w ++ k .0, (fed s w h′ f (k .1 .0), ap (λ (l : List ℕ). handedOf t m w ++ l) (k .1 .1) ∙ sym (handed-append t m w (k .0))))
 
 -- whatever the parts in which an input comes, what is handed on, one after the other, is the whole
-pub handed-whole : (t : Task) {o : List ℕ} {ss : List (List ℕ)} → Handed t top [] ss o → o ≡ wholeOf t (joined ss)
+pub handed-whole : (t : Task) {o : List ℕ} {ss : List (List ℕ)} → Handed t atTop [] ss o → o ≡ allHanded t (joined ss)
 handed-whole t h =
     let k = handed-run t h in
-    k .1 .1 ∙ ap (handedOf t top) (run-task t (k .1 .0))
+    k .1 .1 ∙ ap (handedOf t atTop) (run-task t (k .1 .0))
 
 -- of the table of polygons that is the sheet: its header once, and then a row for each line, numbered from 1 on
-pub handed-sheet : {o : List ℕ} {ss : List (List ℕ)} → Handed Enter top [] ss o → o ≡ sheet (joined ss)
+pub handed-sheet : {o : List ℕ} {ss : List (List ℕ)} → Handed Enter atTop [] ss o → o ≡ sheet (joined ss)
 handed-sheet = handed-whole Enter

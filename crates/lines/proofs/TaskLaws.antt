@@ -19,7 +19,8 @@ use Rattle.line_room.specs.Told.{refusedTold, rowsTold, mostRows}
 use Rattle.line_room.proofs.ToldLaws.{rowsTold-long, rowsTold-most}
 use Rattle.line_fields.specs.Put.{Wrote}
 use Rattle.line_fields.proofs.PutLaws.{wrote-nil}
-use Rattle.line_stream.specs.Stream.{keptOf, toldOf, Does, tellsEach, isLong, mostPart}
+use Rattle.line_frame.specs.Begun.{keptOf}
+use Rattle.line_stream.specs.Stream.{toldOf, Does, tellsEach, isLong, mostPart}
 use Rattle.line_stream.proofs.JobLaws.{each-does, each-most}
 use Rattle.line_stream.proofs.JobLaws as jobLaws
 use Rattle.line_stream.proofs.PassLaws as passLaws
@@ -55,19 +56,19 @@ job-does Rows = each-does rowsTold mostRows (kept-same rowsTold (refusedTold Bad
 job-does Enter = each-does entered mostEntry (kept-same entered (entryBy (walked.Refused BadLine) [] ++ (10 ∷ [])) entered-long)
 
 -- how much is written
-pub job-most : (t : Task) → jobOf t .most ≡ mostEarly t + mostTold t
+job-most : (t : Task) → jobOf t .most ≡ mostEarly t + mostTold t
 job-most Answer = refl
 job-most Convert = refl
 job-most Rows = refl
 job-most Enter = refl
 
-pub early-most : (t : Task) (h r : List ℕ) → length h ≤ mostHeld → length r ≤ mostPart → length (jobOf t .early h r) ≤ mostEarly t
+early-most : (t : Task) (h r : List ℕ) → length h ≤ mostHeld → length r ≤ mostPart → length (jobOf t .early h r) ≤ mostEarly t
 early-most Answer h r a b = omega arith
 early-most Convert h r a b = omega (arith, passLaws.early-most convertedLine (mostEarly Convert + mostTold Convert) converted-length h r)
 early-most Rows h r a b = omega arith
 early-most Enter h r a b = omega arith
 
-pub told-most : (t : Task) (h s : List ℕ) → length h ≤ mostHeld → length s ≤ mostPart → length (toldOf (jobOf t) h s) ≤ jobOf t .most
+told-most : (t : Task) (h s : List ℕ) → length h ≤ mostHeld → length s ≤ mostPart → length (toldOf (jobOf t) h s) ≤ jobOf t .most
 told-most Answer h s a b = each-most answered mostAnswer answered-most h s
 told-most Convert h s a b = omega (arith, passLaws.passes-most convertedLine (mostEarly Convert + mostTold Convert) converted-length h s)
 told-most Rows h s a b = each-most rowsTold mostRows rowsTold-most h s

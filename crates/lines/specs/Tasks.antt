@@ -3,7 +3,7 @@ use Rattle.lists.specs.Lists.{List, [], _∷_, _++_, ℕ, _+_}
 use Rattle.line_frame.specs.{Sizes.mostHeld, Sizes.mostAnswer, Program.outputFrom, Program.answered, Converted.convertedLine, Converted.converted}
 use Rattle.line_stream.specs.Stream.{Job, tellsEach, passesOn, Fed, mostPart}
 use Rattle.line_room.specs.Told.{rowsTold, mostRows}
-use Rattle.sheet.specs.{declared.Margin.Margin, Sizes.mostEntry, Sheet.entered, Sheet.top, Sheet.pageOf, Sheet.marginAfter}
+use Rattle.sheet.specs.{declared.Margin.Margin, Sizes.mostEntry, Sheet.entered, Sheet.atTop, Sheet.pageOf, Sheet.marginAfter}
 use Rattle.lines.specs.declared.Task.{Task, the-variants.Answer, the-variants.Convert, the-variants.Rows, the-variants.Enter}
 
 -- bytes that are written of a line before it ends, and where it ends, at most
@@ -63,5 +63,5 @@ pub data Handed (t : Task) : Margin → List ℕ → List (List ℕ) → List �
   passed : {m : Margin} {h o : List ℕ} {ss : List (List ℕ)} (s w h′ : List ℕ) → Fed (jobOf t) h s w h′ → Handed t (marginOf t m w) h′ ss o → Handed t m h (s ∷ ss) (handedOf t m w ++ o)
 
 -- the whole of it for an input
-abbrev pub wholeOf : Task → List ℕ → List ℕ
-wholeOf t s = handedOf t top (outputOf t s)
+abbrev pub allHanded : Task → List ℕ → List ℕ
+allHanded t s = handedOf t atTop (outputOf t s)

@@ -11,13 +11,14 @@ use order::lesser;
 use sheet_entry::Entry;
 use sheet_entry::enter;
 ghost use mathlib.Core.Path.{_≡_};
-ghost use mathlib.Core.List.{[]};
+ghost use mathlib.Core.List.{[], _++_};
 ghost use Prim.Native.Nat.{_+_, _-_, _<_, _≤_};
 ghost use lib.ListN.{length, take, drop};
 ghost use Rattle.line_frame.specs.Sizes.{mostHeld};
+ghost use Rattle.line_frame.specs.Begun.{keptOf};
 ghost use Rattle.line_fields.specs.Put.{Wrote};
 ghost use Rattle.line_stream.specs.Stream.{mostPart};
-ghost use Rattle.line_stream.specs.Fill.{FedLine, Filled};
+ghost use Rattle.line_stream.specs.Fill.{lineEnded, FedLine, Filled};
 ghost use Rattle.line_reply.specs.Reply.{Lent};
 ghost use Rattle.lines.specs.Tasks.{mostEarly, mostTold, jobOf};
 
@@ -110,6 +111,36 @@ fn tell_last(
     }
 }
 
+// Writes what a task writes where a line ends, of which the bytes of the chunk from at up to end come to those that are held. A line of
+// which none are held is read where it stands.
+fn tell_end(
+    task: Task,
+    line: &mut [u8],
+    held: usize,
+    s: &[u8],
+    at: usize,
+    end: usize,
+    table: &mut [u32],
+    marks: &mut [u32],
+    hull: &mut [i32],
+    out: &mut [u8],
+    used: usize,
+) -> usize
+    requires { ⌜ (held ≤ mostHeld) × (length (now line) ≡ mostHeld) ⌝ }
+    requires { ⌜ (at ≤ end) × (end ≤ length (now s)) ⌝ }
+    requires { ⌜ Lent (now table) (now marks) (now hull) ⌝ }
+    requires { ⌜ used + mostTold task ≤ length (now out) ⌝ }
+    ensures { λ e. ⌜ Wrote (jobOf task .told (keptOf (take held (now (line .entry)) ++ take (end - at) (drop at (now (s .entry))))) []) used (now (out .entry)) e (now (out .exit)) ⌝ }
+    ensures { λ e. ⌜ now (line .exit) ≡ lineEnded (now (line .entry)) held (take (end - at) (drop at (now (s .entry)))) ⌝ }
+{
+    if held == 0 {
+        let stop = at + lesser(end - at, Progress::MOST_HELD);
+        return tell(task, &s[at..stop], table, marks, hull, out, used);
+    }
+    let kept = hold(line, held, s, at, end);
+    tell(task, &line[..kept], table, marks, hull, out, used)
+}
+
 // Passes one line of the chunk, or what is left of it.
 fn feed_line(
     task: Task,
@@ -139,17 +170,7 @@ fn feed_line(
             used: next,
         };
     }
-    if held == 0 {
-        let stop = at + lesser(end - at, Progress::MOST_HELD);
-        let last = tell(task, &s[at..stop], table, marks, hull, out, next);
-        return Progress {
-            held: 0,
-            at: end + 1,
-            used: last,
-        };
-    }
-    let kept = hold(line, held, s, at, end);
-    let last = tell(task, &line[..kept], table, marks, hull, out, next);
+    let last = tell_end(task, line, held, s, at, end, table, marks, hull, out, next);
     Progress {
         held: 0,
         at: end + 1,

@@ -43,7 +43,7 @@ module _ {A : Type 0} where
   sumOf f (x ∷ xs) = f x +ℤ sumOf f xs
 
   -- the list, with x at its end unless the test says that it is there already
-  abbrev pub unless : Bool → List A → A → List A
+  abbrev unless : Bool → List A → A → List A
   unless true seen x = seen
   unless false seen x = seen ++ (x ∷ [])
 

@@ -1,6 +1,7 @@
-// The lesser and the greater of two numbers.
+// The lesser and the greater of two numbers, a bound on bytes, and a number of 16 bits as a usize.
 ghost use mathlib.Core.Path.{_≡_};
-ghost use Prim.Native.Nat.{min, max};
+ghost use Prim.Native.Nat.{ℕ, _≤_, _<_, min, max};
+ghost use lib.ListN.{getD};
 
 pub fn lesser(a: usize, b: usize) -> usize
     ensures { λ r. ⌜ r ≡ min a b ⌝ }
@@ -18,4 +19,33 @@ pub fn greater(a: usize, b: usize) -> usize
         return b;
     }
     a
+}
+
+fn higher(x: u8, y: u8) -> u8
+    ensures { λ r. ⌜ r ≡ max x y ⌝ }
+{
+    if x < y {
+        return y;
+    }
+    x
+}
+
+// The greatest of the bytes, or 0: no byte is above it.
+pub fn highest(bytes: &[u8]) -> u8
+    ensures { λ r. ⌜ ((k : ℕ) → getD (now (bytes .entry)) k 0 ≤ r) ⌝ }
+{
+    let mut most = 0;
+    let mut i = 0;
+    while i < bytes.len() {
+        most = higher(most, bytes[i]);
+        i += 1;
+    }
+    most
+}
+
+// A number of 16 bits, to count with.
+pub fn wide(n: u16) -> usize
+    ensures { λ r. ⌜ (r ≡ n) × (r < 65536) ⌝ }
+{
+    n as usize
 }

@@ -5,13 +5,13 @@ use mathlib.Core.List.{List}
 use Prim.Native.Nat.{ℕ, zero, suc, _*_}
 use lib.ListN.{length}
 use Rattle.grid.specs.declared.Corner.{Corner}
-use Rattle.outline.specs.Outline.{pathOf, isDone}
+use Rattle.outline.specs.Outline.{pathFromHome, isDone}
 
 -- the first of at most f moments from k on at which the path is done
 abbrev pub momentFrom : Corner → List ℕ → ℕ → ℕ → ℕ
 momentFrom c ds zero k = k
-momentFrom c ds (suc f) k = elim (isDone c ds (pathOf c ds k)) [ true ↦ k | false ↦ momentFrom c ds f (suc k) ]
+momentFrom c ds (suc f) k = elim (isDone c ds (pathFromHome c ds k)) [ true ↦ k | false ↦ momentFrom c ds f (suc k) ]
 
 -- it has at most two steps for each of the walk's
 abbrev pub outlineOf : Corner → List ℕ → List ℕ
-outlineOf c ds = pathOf c ds (momentFrom c ds (2 * length ds) 0)
+outlineOf c ds = pathFromHome c ds (momentFrom c ds (2 * length ds) 0)

@@ -9,13 +9,13 @@ abbrev pub walked : Corner → List ℕ → Corner → ℕ → Bool
 walked c ds p d = any (joins p (stepped d p)) (legsFrom c ds)
 
 -- a is left of b, or straight below it
-abbrev pub ahead : Corner → Corner → Bool
-ahead a b = ltZ (a .0) (b .0) || eqZ (a .0) (b .0) && ltZ (a .1) (b .1)
+abbrev pub beginsBefore : Corner → Corner → Bool
+beginsBefore a b = ltZ (a .0) (b .0) || eqZ (a .0) (b .0) && ltZ (a .1) (b .1)
 
 -- the lowest of the leftmost corners
 abbrev pub homeOf : Corner → List ℕ → Corner
 homeOf c [] = c
-homeOf c (d ∷ ds) = cond (ahead (homeOf (stepped d c) ds) c) (homeOf (stepped d c) ds) c
+homeOf c (d ∷ ds) = cond (beginsBefore (homeOf (stepped d c) ds) c) (homeOf (stepped d c) ds) c
 
 -- first east if that edge was walked and otherwise north
 abbrev pub firstWay : Corner → List ℕ → ℕ
@@ -31,8 +31,8 @@ pathFrom c ds zero p d = []
 pathFrom c ds (suc n) p d = d ∷ pathFrom c ds n (stepped d p) (onward (walked c ds (stepped d p)) d)
 
 -- the first n steps of the path from the lowest of the leftmost corners
-abbrev pub pathOf : Corner → List ℕ → ℕ → List ℕ
-pathOf c ds n = pathFrom c ds n (homeOf c ds) (firstWay c ds)
+abbrev pub pathFromHome : Corner → List ℕ → ℕ → List ℕ
+pathFromHome c ds n = pathFrom c ds n (homeOf c ds) (firstWay c ds)
 
 -- some walked edge of h is not used, in some sense, by the steps es from h
 abbrev pub lacks : Corner → List ℕ → Corner → List ℕ → Bool
@@ -44,6 +44,6 @@ isDone c ds es = same (endFrom (homeOf c ds) es) (homeOf c ds) && not (lacks c d
 
 -- es is the outline of the walk of ds from c: the path, until it is done for the first time
 pub record OutlineIs (c : Corner) (ds es : List ℕ) : Type 0 where
-  pub path : es ≡ pathOf c ds (length es)
+  pub path : es ≡ pathFromHome c ds (length es)
   pub done : isDone c ds es ≡ true
-  pub first : (k : ℕ) → k < length es → isDone c ds (pathOf c ds k) ≡ false
+  pub first : (k : ℕ) → k < length es → isDone c ds (pathFromHome c ds k) ≡ false

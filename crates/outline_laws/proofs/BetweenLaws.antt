@@ -13,7 +13,7 @@ use Rattle.lists.specs.Lists.{Distinct}
 use Rattle.grid.specs.declared.Corner.{Corner}
 use Rattle.grid.specs.Grid.{stepped, cornersFrom, legsFrom}
 use Rattle.hull.specs.Hull.{Begins}
-use Rattle.outline.specs.Outline.{walked, homeOf, firstWay, pathOf, OutlineIs}
+use Rattle.outline.specs.Outline.{walked, homeOf, firstWay, pathFromHome, OutlineIs}
 use Rattle.outline_laws.proofs.OrbitLaws.{after, orbit, after-suc, after-mem, orbit-on, no-sooner, after-agree, orbit-agree}
 use Rattle.outline_laws.proofs.TurnLaws.{onward-fewer}
 use Rattle.outline_laws.proofs.EdgeLaws.{Way, Edge, walked-edge, edge-walked, walked-visited}
@@ -43,10 +43,10 @@ some-edge : (c : Corner) (ds : List ℕ) → 0 < length ds → (q : Corner) → 
 some-edge c [] l q m = absurd (omega arith)
 some-edge c (d ∷ ds) l q m = edge-at c d ds q m
 
-module _ (c : Corner) (ds : List ℕ) (c′ : Corner) (ds′ : List ℕ) (n : ℕ) (r : Round c ds n) (all : Along (homeOf c ds) (pathOf c ds n) c′ ds′) (no-more : Along c′ ds′ c ds) where
+module _ (c : Corner) (ds : List ℕ) (c′ : Corner) (ds′ : List ℕ) (n : ℕ) (r : Round c ds n) (all : Along (homeOf c ds) (pathFromHome c ds n) c′ ds′) (no-more : Along c′ ds′ c ds) where
   -- the ways met are walked
   kept : (y : Way) → List·Memᴰ y (orbit (next c ds) n (start c ds)) → walked c′ ds′ (y .0) (y .1) ≡ true
-  kept y m = all (y .0) (y .1) (edge-walked (homeOf c ds) (pathOf c ds n) (y .0) (y .1) (inl (way-edge c ds n (homeOf c ds) (firstWay c ds) y m)))
+  kept y m = all (y .0) (y .1) (edge-walked (homeOf c ds) (pathFromHome c ds n) (y .0) (y .1) (inl (way-edge c ds n (homeOf c ds) (firstWay c ds) y m)))
 
   kept-start : walked c′ ds′ (homeOf c ds) (firstWay c ds) ≡ true
   kept-start = kept (start c ds) (after-mem (next c ds) n 0 (start c ds) (r .some))
@@ -88,21 +88,21 @@ module _ (c : Corner) (ds : List ℕ) (c′ : Corner) (ds′ : List ℕ) (n : �
           (λ k. ⊎-elim (λ m. absurd (true≢false (sym (no-more (homeOf c ds) 0 (sym (at-home 0) ∙ m .0)) ∙ k .0))) (λ m. m .1 ∙ sym (k .1)) (ways c′ ds′))
           (ways c ds)
 
-  same-path : pathOf c′ ds′ n ≡ pathOf c ds n
+  same-path : pathFromHome c′ ds′ n ≡ pathFromHome c ds n
   same-path =
       path-dirs c′ ds′ n (start c′ ds′)
       ∙ ap (λ (x : Way). dirs (orbit (next c′ ds′) n x)) same-start
       ∙ ap dirs (orbit-agree (next c ds) (next c′ ds′) n (start c ds) agree)
       ∙ sym (path-dirs c ds n (start c ds))
 
-  between-is : OutlineIs c′ ds′ (pathOf c ds n)
+  between-is : OutlineIs c′ ds′ (pathFromHome c ds n)
   between-is =
       let r′ = round-of c′ ds′ (some-step c′ ds′ (homeOf c ds) (firstWay c ds) kept-start) in
       let again : after (next c′ ds′) n (start c′ ds′) ≡ start c′ ds′ = ap (after (next c′ ds′) n) same-start ∙ after-agree (next c ds) (next c′ ds′) n (start c ds) agree ∙ r .again ∙ sym same-start in
       let once : Distinct (orbit (next c′ ds′) n (start c′ ds′)) = subst Distinct (sym (ap (orbit (next c′ ds′) n) same-start ∙ orbit-agree (next c ds) (next c′ ds′) n (start c ds) agree)) (r .once) in
       let e : r′ .0 ≡ n = round-one c′ ds′ (r′ .0) n (r .some) again once (r′ .1) in
-      let o : OutlineIs c′ ds′ (pathOf c′ ds′ (r′ .0)) = path-is c′ ds′ (r′ .0) (done-round c′ ds′ (r′ .0) (r′ .1)) (not-before c′ ds′ (r′ .0) (r′ .1)) in
-      subst (OutlineIs c′ ds′) (ap (pathOf c′ ds′) e ∙ same-path) o
+      let o : OutlineIs c′ ds′ (pathFromHome c′ ds′ (r′ .0)) = path-is c′ ds′ (r′ .0) (done-round c′ ds′ (r′ .0) (r′ .1)) (not-before c′ ds′ (r′ .0) (r′ .1)) in
+      subst (OutlineIs c′ ds′) (ap (pathFromHome c′ ds′) e ∙ same-path) o
 
 pub outline-between : {c : Corner} {ds es : List ℕ} (c′ : Corner) (ds′ : List ℕ) → OutlineIs c ds es → 0 < length ds → Along (homeOf c ds) es c′ ds′ → Along c′ ds′ c ds → OutlineIs c′ ds′ es
 outline-between {c} {ds} {es} c′ ds′ o l all no-more =

@@ -13,7 +13,7 @@ use Rattle.answer.proofs.RefusalLaws.{orElse-right}
 use Rattle.grid.specs.declared.Corner.{Corner}
 use Rattle.steps.specs.Turns.{writtenIf}
 use Rattle.hull.specs.Call.{chainJudged, hullJudged, countedOf}
-use Rattle.outline.specs.Call.{roomJudged, outlineJudged, OutlineCall}
+use Rattle.outline.specs.Call.{outlineRoomJudged, outlineJudged, OutlineCall}
 use Rattle.outline.proofs.Computed.{outlineOf}
 use Rattle.outline_laws.proofs.OutlineLaws.{outlineOf-is, outlineIs-one}
 
@@ -25,14 +25,14 @@ split (Refused r) b c d = refl
 
 module _ (s : Corner) (ds : List ℕ) (room n : ℕ) where
   -- those of a hull that needs no room, then 11
-  pub judged-split : outlineJudged s ds room n ≡ orElse (hullJudged s ds 0 0) (roomJudged room n)
-  judged-split = split (when (ltb mostInput (length ds)) TooMany) (when (not (startFits s)) StartRange) (chainJudged 0 ds) (roomJudged room n)
+  pub judged-split : outlineJudged s ds room n ≡ orElse (hullJudged s ds 0 0) (outlineRoomJudged room n)
+  judged-split = split (when (ltb mostInput (length ds)) TooMany) (when (not (startFits s)) StartRange) (chainJudged 0 ds) (outlineRoomJudged room n)
 
   pub judged-refused : (r : Refusal) → hullJudged s ds 0 0 ≡ Refused r → outlineJudged s ds room n ≡ Refused r
-  judged-refused r e = judged-split ∙ ap (λ (j : Judged). orElse j (roomJudged room n)) e
+  judged-refused r e = judged-split ∙ ap (λ (j : Judged). orElse j (outlineRoomJudged room n)) e
 
-  pub judged-last : hullJudged s ds 0 0 ≡ Good → outlineJudged s ds room n ≡ roomJudged room n
-  judged-last e = judged-split ∙ ap (λ (j : Judged). orElse j (roomJudged room n)) e
+  pub judged-last : hullJudged s ds 0 0 ≡ Good → outlineJudged s ds room n ≡ outlineRoomJudged room n
+  judged-last e = judged-split ∙ ap (λ (j : Judged). orElse j (outlineRoomJudged room n)) e
 
 -- every call has an answer
 pub outlineCall-some : (s : Corner) (ds before : List ℕ) → (r : Counted) × (after : List ℕ) × OutlineCall s ds before r after

@@ -18,11 +18,11 @@ use Rattle.grid.proofs.CornerLaws.{eqZ-sound, eqZ-refl}
 use Rattle.hull.specs.Hull.{Begins}
 use Rattle.hull_laws.proofs.OneLaws.{begins-both}
 use Rattle.hull_laws.proofs.LineLaws.{begins-trans, begins-self}
-use Rattle.outline.specs.Outline.{ahead, homeOf, walked}
+use Rattle.outline.specs.Outline.{beginsBefore, homeOf, walked}
 use Rattle.outline_laws.proofs.EdgeLaws.{walked-visited}
 
-ahead-begins : (a b : Corner) → ahead a b ≡ true → Begins a b
-ahead-begins a b h =
+beginsBefore-begins : (a b : Corner) → beginsBefore a b ≡ true → Begins a b
+beginsBefore-begins a b h =
     ⊎-elim
     (λ l. inl (lt-true l))
     (λ k. inr (eqZ-sound (a .0) (b .0) (and-left (eqZ (a .0) (b .0)) (ltZ (a .1) (b .1)) k), below (lt-true (and-right (eqZ (a .0) (b .0)) (ltZ (a .1) (b .1)) k))))
@@ -31,7 +31,7 @@ ahead-begins a b h =
     below : a .1 <ℤ b .1 → a .1 ≤ℤ b .1
     below l = omega zarith
 
-behind-begins : (a b : Corner) → ahead a b ≡ false → Begins b a
+behind-begins : (a b : Corner) → beginsBefore a b ≡ false → Begins b a
 behind-begins a b h =
     let k = or-false (ltZ (a .0) (b .0)) (eqZ (a .0) (b .0) && ltZ (a .1) (b .1)) h in
     go (lt-false (k .0)) (le-or-lt (a .0) (b .0)) (k .1)
@@ -46,11 +46,11 @@ behind-begins a b h =
 -- of the first corner and the home of the rest, the home
 lower : (c : Corner) (d : ℕ) (ds : List ℕ)
     → ((homeOf c (d ∷ ds) ≡ homeOf (stepped d c) ds) × Begins (homeOf (stepped d c) ds) c) ⊎ ((homeOf c (d ∷ ds) ≡ c) × Begins c (homeOf (stepped d c) ds))
-lower c d ds = go (ahead (homeOf (stepped d c) ds) c) refl
+lower c d ds = go (beginsBefore (homeOf (stepped d c) ds) c) refl
   where
-    go : (b : Bool) → ahead (homeOf (stepped d c) ds) c ≡ b
+    go : (b : Bool) → beginsBefore (homeOf (stepped d c) ds) c ≡ b
         → ((homeOf c (d ∷ ds) ≡ homeOf (stepped d c) ds) × Begins (homeOf (stepped d c) ds) c) ⊎ ((homeOf c (d ∷ ds) ≡ c) × Begins c (homeOf (stepped d c) ds))
-    go true e = inl (rw (e, homeOf), ahead-begins (homeOf (stepped d c) ds) c e)
+    go true e = inl (rw (e, homeOf), beginsBefore-begins (homeOf (stepped d c) ds) c e)
     go false e = inr (rw (e, homeOf), behind-begins (homeOf (stepped d c) ds) c e)
 
 pub home-visited : (c : Corner) (ds : List ℕ) → List·Memᴰ (homeOf c ds) (cornersFrom c ds)

@@ -3,19 +3,20 @@
 use mathlib.Core.List.{List, [], _∷_, List·Memᴰ, List·Memᴰ·cases-cons, List·Memᴰ·eq-of-singleton}
 use mathlib.Core.Logic.{inl, inr, ⊎-elim}
 use mathlib.Core.Path.{_≡_, ap, sym, _∙_, subst}
-use Prim.Native.Nat.{ℕ, zero, suc, _+_, _-_, _<_, _≤_}
+use Prim.Native.Nat.{ℕ, zero, suc, _+_, _-_, _*_, _<_, _≤_}
 use native.Mathlib.Decide.{decLt}
 use native.Mathlib.Omega.{arith}
 use lib.IntN.{ℤ, pos, negsuc, sucℤ, predℤ, suc-pred, _-ℤ_}
 use lib.ListN.{length}
 use lib.Signed.{_≤ℤ_, _<ℤ_}
+use Rattle.answer.specs.Limits.{mostSteps}
 use Rattle.int_laws.proofs.LinearLaws.{up, dn, nat-eq, nat-lt, nat-le, bal-}
 use Rattle.grid.specs.declared.Corner.{Corner}
 use Rattle.grid.specs.Grid.{stepped, cornersFrom, endFrom}
 use Rattle.grid.proofs.StepLaws.{endFrom-mem}
 use Rattle.hull.specs.Hull.{Begins}
 use Rattle.hull_laws.proofs.CornerLaws.{corner-eq}
-use Rattle.outline_laws.specs.Keys.{offset, keyOf, keyAfter}
+use Rattle.outline_laws.specs.Keys.{offset, keyOf, keyAfter, columnRows}
 
 -- z lies at most n from a, on either side
 pub record Near (n : ℕ) (a z : ℤ) : Type 0 where
@@ -51,31 +52,31 @@ near-west n a z h = let k = subst (λ (w : ℤ). More n w (predℤ z -ℤ a)) (p
 near-more : (n : ℕ) (a z : ℤ) → Near n a z → Near (suc n) a z
 near-more n a z h = record { after = omega (arith, h .after); before = omega (arith, h .before) }
 
-offset-east : (n : ℕ) (a z : ℤ) → n ≤ 16384 → Near n a z → offset a (sucℤ z) ≡ offset a z + 1
+offset-east : (n : ℕ) (a z : ℤ) → n ≤ mostSteps → Near n a z → offset a (sucℤ z) ≡ offset a z + 1
 offset-east n a z l h = rw (suc-sub z a) (go (z -ℤ a) (h .before))
   where
-    go : (w : ℤ) → dn w ≤ n → (16384 + up (sucℤ w)) - dn (sucℤ w) ≡ (16384 + up w) - dn w + 1
+    go : (w : ℤ) → dn w ≤ n → (mostSteps + up (sucℤ w)) - dn (sucℤ w) ≡ (mostSteps + up w) - dn w + 1
     go (pos m) k = omega arith
     go (negsuc zero) k = omega arith
     go (negsuc (suc m)) k = omega arith
 
-offset-west : (n : ℕ) (a z : ℤ) → n < 16384 → Near n a z → offset a (predℤ z) ≡ offset a z - 1
+offset-west : (n : ℕ) (a z : ℤ) → n < mostSteps → Near n a z → offset a (predℤ z) ≡ offset a z - 1
 offset-west n a z l h =
     let k : offset a (sucℤ (predℤ z)) ≡ offset a (predℤ z) + 1 = offset-east (suc n) a (predℤ z) (omega arith) (near-west n a z h) in
     omega (arith, subst (λ (y : ℤ). offset a y ≡ offset a (predℤ z) + 1) (suc-pred z) k)
 
 -- near enough, the offset tells the place, and more of one is more of the other
-offset-exact : (a z : ℤ) → Near 16384 a z → (offset a z + dn (z -ℤ a) ≡ 16384 + up (z -ℤ a)) × (offset a z ≤ 32768)
+offset-exact : (a z : ℤ) → Near mostSteps a z → (offset a z + dn (z -ℤ a) ≡ mostSteps + up (z -ℤ a)) × (offset a z < columnRows)
 offset-exact a z h = (omega (arith, h .before), omega (arith, h .after))
 
-offset-inj : (a y z : ℤ) → Near 16384 a y → Near 16384 a z → offset a y ≡ offset a z → y ≡ z
+offset-inj : (a y z : ℤ) → Near mostSteps a y → Near mostSteps a z → offset a y ≡ offset a z → y ≡ z
 offset-inj a y z h k e =
     nat-eq y z (omega (arith, offset-exact a y h .0, offset-exact a z k .0, bal- y a, bal- z a))
 
-offset-lt : (a y z : ℤ) → Near 16384 a y → Near 16384 a z → offset a y < offset a z → y <ℤ z
+offset-lt : (a y z : ℤ) → Near mostSteps a y → Near mostSteps a z → offset a y < offset a z → y <ℤ z
 offset-lt a y z h k e = nat-lt y z (omega (arith, offset-exact a y h .0, offset-exact a z k .0, bal- y a, bal- z a))
 
-offset-le : (a y z : ℤ) → Near 16384 a y → Near 16384 a z → offset a y ≤ offset a z → y ≤ℤ z
+offset-le : (a y z : ℤ) → Near mostSteps a y → Near mostSteps a z → offset a y ≤ offset a z → y ≤ℤ z
 offset-le a y z h k e = nat-le y z (omega (arith, offset-exact a y h .0, offset-exact a z k .0, bal- y a, bal- z a))
 
 -- both coordinates
@@ -103,20 +104,20 @@ key-start c =
     let b = near-self (c .1) in
     omega (arith, a .after, a .before, b .after, b .before)
 
-pub key-step : (n d : ℕ) (c p : Corner) → n < 16384 → Close n c p → keyOf c (stepped d p) ≡ keyAfter (keyOf c p) d
+pub key-step : (n d : ℕ) (c p : Corner) → n < mostSteps → Close n c p → keyOf c (stepped d p) ≡ keyAfter (keyOf c p) d
 key-step n zero c p l h = omega (arith, offset-east n (c .0) (p .0) (omega arith) (h .x))
 key-step n (suc zero) c p l h = omega (arith, offset-east n (c .1) (p .1) (omega arith) (h .y))
 key-step n (suc (suc zero)) c p l h = omega (arith, offset-west n (c .0) (p .0) l (h .x), h .x .before)
 key-step n (suc (suc (suc d))) c p l h = omega (arith, offset-west n (c .1) (p .1) l (h .y), h .y .before)
 
-pub key-inj : (c p q : Corner) → Close 16384 c p → Close 16384 c q → keyOf c p ≡ keyOf c q → p ≡ q
+pub key-inj : (c p q : Corner) → Close mostSteps c p → Close mostSteps c q → keyOf c p ≡ keyOf c q → p ≡ q
 key-inj c p q h k e =
     let a = offset-exact (c .1) (p .1) (h .y) .1 in
     let b = offset-exact (c .1) (q .1) (k .y) .1 in
     corner-eq p q (offset-inj (c .0) (p .0) (q .0) (h .x) (k .x) (omega (arith, a, b, e))) (offset-inj (c .1) (p .1) (q .1) (h .y) (k .y) (omega (arith, a, b, e)))
 
 -- the least key is that of the lowest of the leftmost
-pub key-begins : (c p q : Corner) → Close 16384 c p → Close 16384 c q → keyOf c p ≤ keyOf c q → Begins p q
+pub key-begins : (c p q : Corner) → Close mostSteps c p → Close mostSteps c q → keyOf c p ≤ keyOf c q → Begins p q
 key-begins c p q h k e =
     let a = offset-exact (c .1) (p .1) (h .y) .1 in
     let b = offset-exact (c .1) (q .1) (k .y) .1 in
@@ -125,7 +126,7 @@ key-begins c p q h k e =
       | no l ↦ inr (offset-inj (c .0) (p .0) (q .0) (h .x) (k .x) (omega (arith, a, b, e)), offset-le (c .1) (p .1) (q .1) (h .y) (k .y) (omega (arith, a, b, e)))
     ]
 
-pub key-small : (c p : Corner) → Close 16384 c p → keyOf c p < 1073807361
+pub key-small : (c p : Corner) → Close mostSteps c p → keyOf c p < columnRows * columnRows
 key-small c p h = omega (arith, offset-exact (c .0) (p .0) (h .x) .1, offset-exact (c .1) (p .1) (h .y) .1)
 
 close-more : (n m : ℕ) (c p : Corner) → n ≤ m → Close n c p → Close m c p
@@ -140,11 +141,11 @@ walk-close c a (d ∷ ds) n p h m =
     (λ t. subst (λ (k : ℕ). Close k c p) (omega arith) (walk-close c (stepped d a) ds (suc n) p (close-step n d c a h) t))
     (List·Memᴰ·cases-cons m)
 
-pub corner-close : (c : Corner) (ds : List ℕ) (p : Corner) → length ds ≤ 16384 → List·Memᴰ p (cornersFrom c ds) → Close 16384 c p
-corner-close c ds p l m = close-more (0 + length ds) 16384 c p (omega arith) (walk-close c c ds 0 p (close-self c) m)
+pub corner-close : (c : Corner) (ds : List ℕ) (p : Corner) → length ds ≤ mostSteps → List·Memᴰ p (cornersFrom c ds) → Close mostSteps c p
+corner-close c ds p l m = close-more (0 + length ds) mostSteps c p (omega arith) (walk-close c c ds 0 p (close-self c) m)
 
 -- one step from the farthest key there is room on every side
-pub key-large : (n : ℕ) (c p : Corner) → n < 16384 → Close n c p → 32769 ≤ keyOf c p
+pub key-large : (n : ℕ) (c p : Corner) → n < mostSteps → Close n c p → columnRows ≤ keyOf c p
 key-large n c p l h = omega (arith, h .x .before)
 
 pub end-close : (c : Corner) (ds : List ℕ) → Close (0 + length ds) c (endFrom c ds)

@@ -21,7 +21,7 @@ use Rattle.grid.proofs.StepLaws.{back, back-small, stepped-back, stepped-inj, s
 use Rattle.trace.specs.Meeting.{visitedOf}
 use Rattle.trace.proofs.VisitLaws.{visited-distinct, mem-visited}
 use Rattle.outline.specs.Outline.{walked}
-use Rattle.outline_laws.specs.Links.{linkOf, LinkedBy, Linked}
+use Rattle.outline_laws.specs.Links.{linkOf, LinkedAmong, Linked}
 use Rattle.outline_laws.proofs.EdgeLaws.{Edge, walked-edge, edge-walked, edge-turned, walked-visited}
 
 edges-snoc : (c : Corner) (ds : List ℕ) (d : ℕ) → legsFrom c (ds ++ (d ∷ [])) ≡ legsFrom c ds ++ ((endFrom c ds, stepped d (endFrom c ds)) ∷ [])
@@ -139,7 +139,7 @@ module _ (c : Corner) (ds : List ℕ) (d : ℕ) (hd : d < 4) where
 
   -- the step's edge was walked before: no word changes
   pub linked-again : (links : List ℕ) → walked c ds (endFrom c ds) d ≡ true → Linked c ds links → Linked c (ds ++ (d ∷ [])) links
-  linked-again links w k = subst (λ (l : List Corner). LinkedBy c (ds ++ (d ∷ [])) l links) (sym ws-visited) (record {
+  linked-again links w k = subst (λ (l : List Corner). LinkedAmong c (ds ++ (d ∷ [])) l links) (sym ws-visited) (record {
     link = λ m e h g. k .link m e (omega (arith, ap length old)) g ∙ sym (link-same m e (omega (arith, ap length old)) (walked-same c ds d w (getD ws m origin) e));
     blank = λ l h. k .blank l (omega (arith, ap length old));
   })
@@ -179,7 +179,7 @@ module _ (c : Corner) (ds : List ℕ) (d : ℕ) (hd : d < 4) where
             seen a = let z : m ≡ a .0 = one-place m (a .0) h (omega (arith, a .1, ws-more)) (sym (a .2) ∙ sym (ws-old (a .0) (a .1))) in omega (arith, z, a .1)
 
     pub linked-new : Linked c (ds ++ (d ∷ [])) links′
-    linked-new = subst (λ (l : List Corner). LinkedBy c (ds ++ (d ∷ [])) l links′) (sym ws-visited) (record { link = all; blank = rest })
+    linked-new = subst (λ (l : List Corner). LinkedAmong c (ds ++ (d ∷ [])) l links′) (sym ws-visited) (record { link = all; blank = rest })
       where
         forth : getD links′ (4 * i + d) 0 ≡ linkOf c (ds ++ (d ∷ [])) ws i d
         forth =

@@ -13,7 +13,7 @@ use Rattle.lists.proofs.GatherLaws.{and-left}
 use Rattle.grid.specs.declared.Corner.{Corner}
 use Rattle.grid.specs.Grid.{same, stepped, cornersFrom, endFrom}
 use Rattle.grid.proofs.CornerLaws.{same-refl, same-sound}
-use Rattle.outline.specs.Outline.{homeOf, firstWay, pathOf, lacks, isDone, OutlineIs}
+use Rattle.outline.specs.Outline.{homeOf, firstWay, pathFromHome, lacks, isDone, OutlineIs}
 use Rattle.outline.proofs.Computed.{momentFrom, outlineOf}
 use Rattle.outline_laws.proofs.OrbitLaws.{orbit, orbit-on}
 use Rattle.outline_laws.proofs.EdgeLaws.{Way}
@@ -25,7 +25,7 @@ no-later : (c : Corner) (ds es fs : List ℕ) → OutlineIs c ds es → OutlineI
 no-later c ds es fs a b l = true≢false (sym (ap (isDone c ds) (sym (a .path)) ∙ a .done) ∙ b .first (length es) l)
 
 pub outlineIs-one : {c : Corner} {ds es fs : List ℕ} → OutlineIs c ds es → OutlineIs c ds fs → es ≡ fs
-outlineIs-one {c} {ds} {es} {fs} a b = a .path ∙ ap (pathOf c ds) long ∙ sym (b .path)
+outlineIs-one {c} {ds} {es} {fs} a b = a .path ∙ ap (pathFromHome c ds) long ∙ sym (b .path)
   where
     long : length es ≡ length fs
     long =
@@ -36,24 +36,24 @@ outlineIs-one {c} {ds} {es} {fs} a b = a .path ∙ ap (pathOf c ds) long ∙ sym
 
 module _ (c : Corner) (ds : List ℕ) where
   -- the path up to the first moment at which it is done
-  pub path-is : (n : ℕ) → isDone c ds (pathOf c ds n) ≡ true → ((k : ℕ) → k < n → isDone c ds (pathOf c ds k) ≡ false) → OutlineIs c ds (pathOf c ds n)
+  pub path-is : (n : ℕ) → isDone c ds (pathFromHome c ds n) ≡ true → ((k : ℕ) → k < n → isDone c ds (pathFromHome c ds k) ≡ false) → OutlineIs c ds (pathFromHome c ds n)
   path-is n e f =
-      let l : length (pathOf c ds n) ≡ n = length-path c ds n (homeOf c ds) (firstWay c ds) in
-      record { path = ap (pathOf c ds) (sym l); done = e; first = λ k h. f k (omega (arith, l, h)) }
+      let l : length (pathFromHome c ds n) ≡ n = length-path c ds n (homeOf c ds) (firstWay c ds) in
+      record { path = ap (pathFromHome c ds) (sym l); done = e; first = λ k h. f k (omega (arith, l, h)) }
 
-  moment-first : (f k n : ℕ) → k ≤ n → n ≤ k + f → isDone c ds (pathOf c ds n) ≡ true → ((i : ℕ) → i < n → isDone c ds (pathOf c ds i) ≡ false) → momentFrom c ds f k ≡ n
+  moment-first : (f k n : ℕ) → k ≤ n → n ≤ k + f → isDone c ds (pathFromHome c ds n) ≡ true → ((i : ℕ) → i < n → isDone c ds (pathFromHome c ds i) ≡ false) → momentFrom c ds f k ≡ n
   moment-first zero k n h l e s = omega arith
   moment-first (suc f) k n h l e s =
       elim (ℕ-discrete k n) [
-        | yes z ↦ rw (ap (λ (x : ℕ). isDone c ds (pathOf c ds x)) z ∙ e, momentFrom) z
+        | yes z ↦ rw (ap (λ (x : ℕ). isDone c ds (pathFromHome c ds x)) z ∙ e, momentFrom) z
         | no z ↦ rw (s k (omega arith), momentFrom) (moment-first f (suc k) n (omega arith) (omega arith) e s)
       ]
 
   abbrev First : ℕ → Type 0
-  First n = (n ≤ 2 * length ds) × (isDone c ds (pathOf c ds n) ≡ true) × ((k : ℕ) → k < n → isDone c ds (pathOf c ds k) ≡ false)
+  First n = (n ≤ 2 * length ds) × (isDone c ds (pathFromHome c ds n) ≡ true) × ((k : ℕ) → k < n → isDone c ds (pathFromHome c ds k) ≡ false)
 
   outlineOf-path : (n : ℕ) → First n → OutlineIs c ds (outlineOf c ds)
-  outlineOf-path n m = subst (λ (k : ℕ). OutlineIs c ds (pathOf c ds k)) (sym (moment-first (2 * length ds) 0 n (omega arith) (omega (arith, m .0)) (m .1) (m .2))) (path-is n (m .1) (m .2))
+  outlineOf-path n m = subst (λ (k : ℕ). OutlineIs c ds (pathFromHome c ds k)) (sym (moment-first (2 * length ds) 0 n (omega arith) (omega (arith, m .0)) (m .1) (m .2))) (path-is n (m .1) (m .2))
 
 -- a walk without steps
 pub empty-is : (c : Corner) → OutlineIs c [] []
@@ -70,7 +70,7 @@ outlineOf-is c (d ∷ ds) =
 pub outline-round : {c : Corner} {ds es : List ℕ} → OutlineIs c ds es → 0 < length ds → Round c ds (length es)
 outline-round {c} {ds} {es} o l =
     let r = round-of c ds l in
-    let e : es ≡ pathOf c ds (r .0) = outlineIs-one o (path-is c ds (r .0) (done-round c ds (r .0) (r .1)) (not-before c ds (r .0) (r .1))) in
+    let e : es ≡ pathFromHome c ds (r .0) = outlineIs-one o (path-is c ds (r .0) (done-round c ds (r .0) (r .1)) (not-before c ds (r .0) (r .1))) in
     subst (Round c ds) (sym (ap length e ∙ length-path c ds (r .0) (homeOf c ds) (firstWay c ds))) (r .1)
 
 pub outline-closed : {c : Corner} {ds es : List ℕ} → OutlineIs c ds es → endFrom (homeOf c ds) es ≡ homeOf c ds

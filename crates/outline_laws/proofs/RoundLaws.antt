@@ -14,7 +14,7 @@ use Rattle.grid.specs.declared.Corner.{Corner}
 use Rattle.grid.specs.Grid.{same, stepped, cornersFrom, endFrom, legsFrom}
 use Rattle.grid.proofs.CornerLaws.{same-refl, same-sound}
 use Rattle.grid.proofs.StepLaws.{back, back-small, stepped-back, stepped-inj}
-use Rattle.outline.specs.Outline.{walked, homeOf, firstWay, onward, pathOf, lacks, isDone}
+use Rattle.outline.specs.Outline.{walked, homeOf, firstWay, onward, pathFromHome, lacks, isDone}
 use Rattle.outline_laws.proofs.OrbitLaws.{after, orbit, after-suc, after-mem, mem-after, after-on, no-sooner, no-twice}
 use Rattle.outline_laws.proofs.EdgeLaws.{Way, Edge, along, walked-edge, edge-walked}
 use Rattle.outline_laws.proofs.HomeLaws.{home-visited, home-ways}
@@ -80,12 +80,12 @@ module _ (c : Corner) (ds : List ℕ) where
   two (suc (suc d)) w = absurd (true≢false (sym w ∙ home-ways c ds (suc (suc d)) (omega arith)))
 
   -- a way met, in either sense, uses its edge
-  uses : (n d : ℕ) → List·Memᴰ (h, d) (orbit (next c ds) n (start c ds)) → walked h (pathOf c ds n) h d ≡ true
-  uses n d m = edge-walked h (pathOf c ds n) h d (inl (way-edge c ds n h (firstWay c ds) (h, d) m))
+  uses : (n d : ℕ) → List·Memᴰ (h, d) (orbit (next c ds) n (start c ds)) → walked h (pathFromHome c ds n) h d ≡ true
+  uses n d m = edge-walked h (pathFromHome c ds n) h d (inl (way-edge c ds n h (firstWay c ds) (h, d) m))
 
-  uses-back : (n d : ℕ) (y : Way) → List·Memᴰ y (orbit (next c ds) n (start c ds)) → y .0 ≡ stepped d h → stepped (y .1) (y .0) ≡ h → walked h (pathOf c ds n) h d ≡ true
+  uses-back : (n d : ℕ) (y : Way) → List·Memᴰ y (orbit (next c ds) n (start c ds)) → y .0 ≡ stepped d h → stepped (y .1) (y .0) ≡ h → walked h (pathFromHome c ds n) h d ≡ true
   uses-back n d y m e f =
-      edge-walked h (pathOf c ds n) h d (inr (subst (λ (x : Corner × Corner). List·Memᴰ x (legsFrom h (pathOf c ds n))) (ap₂ (λ (a b : Corner). (a, b)) e f) (way-edge c ds n h (firstWay c ds) y m)))
+      edge-walked h (pathFromHome c ds n) h d (inr (subst (λ (x : Corner × Corner). List·Memᴰ x (legsFrom h (pathFromHome c ds n))) (ap₂ (λ (a b : Corner). (a, b)) e f) (way-edge c ds n h (firstWay c ds) y m)))
 
   module _ (on : On c ds (start c ds)) where
     -- where both edges are walked, the way before the first comes from the north
@@ -96,16 +96,16 @@ module _ (c : Corner) (ds : List ℕ) where
         (d, k .1 ∙ ap (λ (x : ℕ). stepped (back x) h) d)
 
     -- back at the first way, every edge of the home is used
-    round-used : (n : ℕ) → after (next c ds) (suc n) (start c ds) ≡ start c ds → (d : ℕ) → walked c ds h d ≡ true → walked h (pathOf c ds (suc n)) h d ≡ true
-    round-used n e d w = ⊎-elim (λ z. subst (λ (x : ℕ). walked h (pathOf c ds (suc n)) h x ≡ true) (sym z) (east (subst (λ (x : ℕ). walked c ds h x ≡ true) z w))) (λ z. subst (λ (x : ℕ). walked h (pathOf c ds (suc n)) h x ≡ true) (sym z) (north (subst (λ (x : ℕ). walked c ds h x ≡ true) z w))) (two d w)
+    round-used : (n : ℕ) → after (next c ds) (suc n) (start c ds) ≡ start c ds → (d : ℕ) → walked c ds h d ≡ true → walked h (pathFromHome c ds (suc n)) h d ≡ true
+    round-used n e d w = ⊎-elim (λ z. subst (λ (x : ℕ). walked h (pathFromHome c ds (suc n)) h x ≡ true) (sym z) (east (subst (λ (x : ℕ). walked c ds h x ≡ true) z w))) (λ z. subst (λ (x : ℕ). walked h (pathFromHome c ds (suc n)) h x ≡ true) (sym z) (north (subst (λ (x : ℕ). walked c ds h x ≡ true) z w))) (two d w)
       where
-        first : (d : ℕ) → firstWay c ds ≡ d → walked h (pathOf c ds (suc n)) h d ≡ true
+        first : (d : ℕ) → firstWay c ds ≡ d → walked h (pathFromHome c ds (suc n)) h d ≡ true
         first d f = uses (suc n) d (List·Memᴰ·head (ap (λ (x : ℕ). (h, x)) (sym f)))
 
-        east : walked c ds h 0 ≡ true → walked h (pathOf c ds (suc n)) h 0 ≡ true
+        east : walked c ds h 0 ≡ true → walked h (pathFromHome c ds (suc n)) h 0 ≡ true
         east v = ⊎-elim (λ k. first 0 (k .1)) (λ k. absurd (true≢false (sym v ∙ k .0))) ways
 
-        north : walked c ds h 1 ≡ true → walked h (pathOf c ds (suc n)) h 1 ≡ true
+        north : walked c ds h 1 ≡ true → walked h (pathFromHome c ds (suc n)) h 1 ≡ true
         north v =
             ⊎-elim
             (λ k.
@@ -116,13 +116,13 @@ module _ (c : Corner) (ds : List ℕ) where
             (λ k. first 1 (k .1))
             ways
 
-    round-done : (n : ℕ) → 0 < n → after (next c ds) n (start c ds) ≡ start c ds → isDone c ds (pathOf c ds n) ≡ true
+    round-done : (n : ℕ) → 0 < n → after (next c ds) n (start c ds) ≡ start c ds → isDone c ds (pathFromHome c ds n) ≡ true
     round-done zero l e = absurd (omega arith)
     round-done (suc n) l e =
         ap₂
         (λ (a b : Bool). a && b)
         (ap (λ (x : Corner). same x h) (path-end c ds (suc n) h (firstWay c ds) ∙ ap (λ (x : Way). x .0) e) ∙ same-refl h)
-        (ap not (used-lacks (pathOf c ds (suc n)) (round-used n e)))
+        (ap not (used-lacks (pathFromHome c ds (suc n)) (round-used n e)))
 
   -- a walk with steps starts its outline along a walked edge
   start-on : 0 < length ds → On c ds (start c ds)
@@ -149,7 +149,7 @@ module _ (c : Corner) (ds : List ℕ) where
     met-on m = after-on (next c ds) (On c ds) (next-on c ds) m (start c ds) on
 
     -- along the edge to the north: the way is met again
-    northward : (m : ℕ) → m < n → at m ≡ (h, 1) → List·Memᴰ (h, stepped 1 h) (legsFrom h (pathOf c ds m)) → ⊥
+    northward : (m : ℕ) → m < n → at m ≡ (h, 1) → List·Memᴰ (h, stepped 1 h) (legsFrom h (pathFromHome c ds m)) → ⊥
     northward m l y t =
         let z = edge-way c ds m h (firstWay c ds) (h, stepped 1 h) t in
         let j = mem-after (next c ds) m (start c ds) (z .1) in
@@ -159,7 +159,7 @@ module _ (c : Corner) (ds : List ℕ) where
         no-twice (next c ds) n (j .0) m (start c ds) once (j .1) l (y ∙ sym (ap₂ (λ (a : Corner) (b : ℕ). (a, b)) p q) ∙ j .2)
 
     -- against it: the path went on by its first way
-    southward : (m : ℕ) → m < n → walked c ds h 0 ≡ true → firstWay c ds ≡ 0 → List·Memᴰ (stepped 1 h, h) (legsFrom h (pathOf c ds m)) → ⊥
+    southward : (m : ℕ) → m < n → walked c ds h 0 ≡ true → firstWay c ds ≡ 0 → List·Memᴰ (stepped 1 h, h) (legsFrom h (pathFromHome c ds m)) → ⊥
     southward m l w f t =
         let z = edge-way c ds m h (firstWay c ds) (stepped 1 h, h) t in
         let j = mem-after (next c ds) m (start c ds) (z .1) in
@@ -172,18 +172,18 @@ module _ (c : Corner) (ds : List ℕ) where
         no-sooner (next c ds) n (suc (j .0)) (start c ds) once (omega arith) (omega (arith, j .1)) (after-suc (next c ds) (j .0) (start c ds) ∙ ap (next c ds) (sym (j .2)) ∙ g)
 
     -- the path is not done before it is back at its first way
-    not-sooner : (m : ℕ) → m < n → isDone c ds (pathOf c ds m) ≡ true → ⊥
+    not-sooner : (m : ℕ) → m < n → isDone c ds (pathFromHome c ds m) ≡ true → ⊥
     not-sooner zero l e = ⊎-elim (λ k. false≢true (done-used [] 0 (List·Memᴰ·head refl) e (k .0))) (λ k. false≢true (done-used [] 1 (List·Memᴰ·tail (List·Memᴰ·head refl)) e (rw (k .1) at (on .1)))) ways
     not-sooner (suc m) l e =
         ⊎-elim
         (λ z. ⊎-elim (λ k. first (z ∙ sym (k .1))) (λ k. true≢false (sym w ∙ ap (walked c ds h) z ∙ k .0)) ways)
-        (λ z. ⊎-elim (λ k. ⊎-elim (northward (suc m) l (way z)) (southward (suc m) l (k .0) (k .1)) (walked-edge h (pathOf c ds (suc m)) h 1 (done-used (pathOf c ds (suc m)) 1 (List·Memᴰ·tail (List·Memᴰ·head refl)) e (ap (walked c ds h) (sym z) ∙ w)))) (λ k. first (z ∙ sym (k .1))) ways)
+        (λ z. ⊎-elim (λ k. ⊎-elim (northward (suc m) l (way z)) (southward (suc m) l (k .0) (k .1)) (walked-edge h (pathFromHome c ds (suc m)) h 1 (done-used (pathFromHome c ds (suc m)) 1 (List·Memᴰ·tail (List·Memᴰ·head refl)) e (ap (walked c ds h) (sym z) ∙ w)))) (λ k. first (z ∙ sym (k .1))) ways)
         (two (at (suc m) .1) w)
       where
         there : at (suc m) .0 ≡ h
         there =
             sym (path-end c ds (suc m) h (firstWay c ds))
-            ∙ same-sound (endFrom h (pathOf c ds (suc m))) h (and-left (same (endFrom h (pathOf c ds (suc m))) h) (not (lacks c ds h (pathOf c ds (suc m)))) e)
+            ∙ same-sound (endFrom h (pathFromHome c ds (suc m))) h (and-left (same (endFrom h (pathFromHome c ds (suc m))) h) (not (lacks c ds h (pathFromHome c ds (suc m)))) e)
 
         w : walked c ds h (at (suc m) .1) ≡ true
         w = ap (λ (x : Corner). walked c ds x (at (suc m) .1)) (sym there) ∙ met-on (suc m) .1
@@ -210,8 +210,8 @@ round-of c ds l =
     (b .0, record { some = b .1; few = b .2; on = o; again = b .3; once = b .4 })
 
 -- at its end the path is done, and not before
-pub done-round : (c : Corner) (ds : List ℕ) (n : ℕ) → Round c ds n → isDone c ds (pathOf c ds n) ≡ true
+pub done-round : (c : Corner) (ds : List ℕ) (n : ℕ) → Round c ds n → isDone c ds (pathFromHome c ds n) ≡ true
 done-round c ds n r = round-done c ds (r .on) n (r .some) (r .again)
 
-pub not-before : (c : Corner) (ds : List ℕ) (n : ℕ) → Round c ds n → (k : ℕ) → k < n → isDone c ds (pathOf c ds k) ≡ false
-not-before c ds n r k l = bool-agree (isDone c ds (pathOf c ds k)) false (λ e. absurd (not-sooner c ds (r .on) n (r .once) k l e)) (λ e. absurd (false≢true e))
+pub not-before : (c : Corner) (ds : List ℕ) (n : ℕ) → Round c ds n → (k : ℕ) → k < n → isDone c ds (pathFromHome c ds k) ≡ false
+not-before c ds n r k l = bool-agree (isDone c ds (pathFromHome c ds k)) false (λ e. absurd (not-sooner c ds (r .on) n (r .once) k l e)) (λ e. absurd (false≢true e))

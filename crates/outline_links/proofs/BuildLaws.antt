@@ -11,40 +11,41 @@ use borrow.Author.Tests.{eq-eqb, ltb-true, ltb-false}
 use lib.Dec.{ltb}
 use lib.ListN.{length, getD, set, take, length-map, length-set}
 use lib.Seq.{take-suc, take-suc-set, take-length, length-take-le}
+use Rattle.answer.specs.Limits.{mostSteps}
 use Rattle.lists.proofs.DistinctLaws.{mem-getD}
 use Rattle.grid.specs.declared.Corner.{Corner}
 use Rattle.grid.specs.Grid.{origin, same, stepped, cornersFrom, endFrom}
 use Rattle.grid.proofs.StepLaws.{endFrom-snoc, endFrom-mem, cornersFrom-snoc, length-cornersFrom}
 use Rattle.trace.specs.Meeting.{visitedOf}
 use Rattle.trace.proofs.VisitLaws.{visited-mem, length-visited-le}
-use Rattle.outline_laws.specs.Keys.{keyOf, keyAfter}
+use Rattle.outline_laws.specs.Keys.{keyOf, keyAfter, columnRows}
 use Rattle.outline_laws.specs.Links.{Linked}
 use Rattle.outline_laws.proofs.HomeLaws.{home-one}
 use Rattle.outline_laws.proofs.KeyLaws.{Close, corner-close, key-start, key-step, key-begins, key-small, key-large, end-close}
 use Rattle.outline_laws.proofs.LinkLaws.{ws-visited, ws-old, ws-more}
-use Rattle.outline_roster.specs.declared.Spot.the-variants.{Node}
+use Rattle.outline_roster.specs.declared.Sought.the-variants.{Node}
 use Rattle.outline_roster.specs.Tree.{seekFrom}
-use Rattle.outline_links.specs.Store.{Ready, Advanced}
-use Rattle.outline_links.specs.Built.{Blank, Store, Least, Built}
+use Rattle.outline_links.specs.Store.{RoomForMore, StepLinked}
+use Rattle.outline_links.specs.Built.{Blank, WalkStored, Least, Built}
 use Rattle.outline_links.proofs.StoreLaws.{store-step}
 
 -- what stays true of the store's sizes
 pub record Sized (chain keys links : List ℕ) : Type 0 where
   pub digits : (i : ℕ) → getD chain i 0 < 4
   pub room : length chain < length keys
-  pub small : length keys ≤ 16385
+  pub small : length keys ≤ suc mostSteps
   pub words : length links ≡ 4 * length keys
 
 -- the first i steps are in the store
 pub record Building (c : Corner) (chain keys kids links : List ℕ) (k least home used node i : ℕ) : Type 0 where
   pub sized : Sized chain keys links
   pub within : i ≤ length chain
-  pub store : Store c (take i chain) keys kids links used node
+  pub store : WalkStored c (take i chain) keys kids links used node
   pub key : k ≡ keyOf c (endFrom c (take i chain))
   pub low : Least c (take i chain) home least
 
 module _ (c : Corner) (chain keys kids links : List ℕ) (b : Blank chain keys kids links) where
-  store-start : Store c [] (set keys 0 536903680) kids links 1 0
+  store-start : WalkStored c [] (set keys 0 536903680) kids links 1 0
   store-start = record {
     tree = record {
       some = omega arith;
@@ -76,7 +77,7 @@ module _ (c : Corner) (chain keys kids links : List ℕ) (b : Blank chain keys k
   }
 
 -- the least key, with one corner more
-module _ (c : Corner) (ds : List ℕ) (d : ℕ) (hd : d < 4) (keys kids links : List ℕ) (used node : ℕ) (s : Store c (ds ++ (d ∷ [])) keys kids links used node) (home least k : ℕ) (ek : k ≡ keyOf c (stepped d (endFrom c ds))) (w : Least c ds home least) where
+module _ (c : Corner) (ds : List ℕ) (d : ℕ) (hd : d < 4) (keys kids links : List ℕ) (used node : ℕ) (s : WalkStored c (ds ++ (d ∷ [])) keys kids links used node) (home least k : ℕ) (ek : k ≡ keyOf c (stepped d (endFrom c ds))) (w : Least c ds home least) where
   abbrev vs′ : List Corner
   vs′ = visitedOf (cornersFrom c (ds ++ (d ∷ [])))
 
@@ -118,18 +119,18 @@ module _ (c : Corner) (chain keys kids links : List ℕ) (k least home used node
   length-ds : length ds ≡ i
   length-ds = length-take-le i chain (omega arith)
 
-  short : i < 16384
+  short : i < mostSteps
   short = omega (arith, b .sized .room, b .sized .small)
 
   -- the key has room on every side
-  pub building-key : (32769 ≤ k) × (k < 1073807361)
+  pub building-key : (columnRows ≤ k) × (k < columnRows * columnRows)
   building-key = (
     omega (arith, b .key, key-large (0 + length ds) c (endFrom c ds) (omega (arith, length-ds, short)) (end-close c ds)),
     omega (arith, b .key, key-small c (endFrom c ds) (corner-close c ds (endFrom c ds) (omega (arith, length-ds, short)) (endFrom-mem c ds))),
   )
 
   -- the store has room for one corner more
-  pub building-ready : Ready keys kids links used node
+  pub building-ready : RoomForMore keys kids links used node
   building-ready = record {
     tree = b .store .tree;
     room = omega (arith, count, length-visited-le (cornersFrom c ds), length-cornersFrom c ds, length-ds, b .sized .room);
@@ -141,32 +142,32 @@ module _ (c : Corner) (chain keys kids links : List ℕ) (k least home used node
       count : used ≡ length (visitedOf (cornersFrom c ds))
       count = sym (length-take-le used keys (b .store .tree .room)) ∙ ap length (b .store .keyed) ∙ length-map (visitedOf (cornersFrom c ds)) (keyOf c)
 
-  module _ (k′ : ℕ) (ek : k′ ≡ keyAfter k d) (keys′ kids′ links′ : List ℕ) (node′ used′ : ℕ) (a : Advanced keys kids links used node k′ d keys′ kids′ links′ node′ used′) where
+  module _ (k′ : ℕ) (ek : k′ ≡ keyAfter k d) (keys′ kids′ links′ : List ℕ) (node′ used′ : ℕ) (a : StepLinked keys kids links used node k′ d keys′ kids′ links′ node′ used′) where
     ek′ : k′ ≡ keyOf c (stepped d (endFrom c ds))
     ek′ = ek ∙ ap (λ (x : ℕ). keyAfter x d) (b .key) ∙ sym (key-step (0 + length ds) d c (endFrom c ds) (omega (arith, length-ds, short)) (end-close c ds))
 
     sizes : (length keys′ ≡ length keys) × (length links′ ≡ length links)
     sizes = by a
       where
-        by : Advanced keys kids links used node k′ d keys′ kids′ links′ node′ used′ → (length keys′ ≡ length keys) × (length links′ ≡ length links)
+        by : StepLinked keys kids links used node k′ d keys′ kids′ links′ node′ used′ → (length keys′ ≡ length keys) × (length links′ ≡ length links)
         by (inl x) = (ap length (x .same .0), ap length (x .same .2))
         by (inr x) = (x .seated .same, ap length (x .words) ∙ simp length-set)
 
-    stored : Store c (ds ++ (d ∷ [])) keys′ kids′ links′ used′ node′
+    stored : WalkStored c (ds ++ (d ∷ [])) keys′ kids′ links′ used′ node′
     stored = store-step c ds d (b .sized .digits i) (omega (arith, length-ds, short)) keys kids links used node (b .store) (b .sized .words) k′ ek′ keys′ kids′ links′ node′ used′ a
 
     building-step : Building c chain keys′ kids′ links′ k′ (cond (ltb k′ least) k′ least) (cond (ltb k′ least) node′ home) used′ node′ (suc i)
     building-step = record {
       sized = record { digits = b .sized .digits; room = omega (arith, sizes .0, b .sized .room); small = omega (arith, sizes .0, b .sized .small); words = omega (arith, sizes .0, sizes .1, b .sized .words) };
       within = omega arith;
-      store = subst (λ (l : List ℕ). Store c l keys′ kids′ links′ used′ node′) (sym next-take) stored;
+      store = subst (λ (l : List ℕ). WalkStored c l keys′ kids′ links′ used′ node′) (sym next-take) stored;
       key = ek′ ∙ ap (keyOf c) (sym (ap (endFrom c) next-take ∙ endFrom-snoc c ds d));
       low = subst (λ (l : List ℕ). Least c l (cond (ltb k′ least) node′ home) (cond (ltb k′ least) k′ least)) (sym next-take) (least-step c ds d (b .sized .digits i) keys′ kids′ links′ used′ node′ stored home least k′ ek′ (b .low));
     }
 
 -- the same with what the code has at the end of a turn
 pub building-next : (c : Corner) (chain keys kids links : List ℕ) (k least home used node i : ℕ) → Building c chain keys kids links k least home used node i → i < length chain → {k′ : ℕ} → k′ ≡ keyAfter k (getD chain i 0)
-    → {keys′ kids′ links′ : List ℕ} {node′ used′ : ℕ} → Advanced keys kids links used node k′ (getD chain i 0) keys′ kids′ links′ node′ used′ → {least′ home′ : ℕ} → least′ ≡ cond (ltb k′ least) k′ least → home′ ≡ cond (ltb k′ least) node′ home
+    → {keys′ kids′ links′ : List ℕ} {node′ used′ : ℕ} → StepLinked keys kids links used node k′ (getD chain i 0) keys′ kids′ links′ node′ used′ → {least′ home′ : ℕ} → least′ ≡ cond (ltb k′ least) k′ least → home′ ≡ cond (ltb k′ least) node′ home
     → Building c chain keys′ kids′ links′ k′ least′ home′ used′ node′ (i + 1) × (length keys′ ≡ length keys)
 building-next c chain keys kids links k least home used node i b h {k′} ek {keys′} {kids′} {links′} {node′} {used′} a {least′} {home′} el eh =
     let t = building-step c chain keys kids links k least home used node i b h k′ ek keys′ kids′ links′ node′ used′ a in
@@ -193,5 +194,5 @@ building-end c chain keys kids links k least home used node i b h = record {
     vs : List Corner
     vs = visitedOf (cornersFrom c chain)
 
-    near : (q : Corner) → List·Memᴰ q (cornersFrom c chain) → Close 16384 c q
+    near : (q : Corner) → List·Memᴰ q (cornersFrom c chain) → Close mostSteps c q
     near q m = corner-close c chain q (omega (arith, b .sized .room, b .sized .small)) m

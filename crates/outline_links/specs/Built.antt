@@ -1,5 +1,6 @@
 -- What the store holds of a walk: its different corners as keys, and their links. Assumes nothing.
-use Rattle.lists.specs.Lists.{_≡_, List, List·Memᴰ, ℕ, _*_, _<_, _≤_, length, take, getD}
+use Rattle.answer.specs.Limits.{mostSteps}
+use Rattle.lists.specs.Lists.{_≡_, List, List·Memᴰ, ℕ, suc, _*_, _<_, _≤_, length, take, getD}
 use mathlib.Core.List.{map}
 use Rattle.grid.specs.{declared.Corner.Corner, Grid.origin, Grid.cornersFrom, Grid.endFrom}
 use Rattle.trace.specs.Meeting.{visitedOf}
@@ -12,14 +13,14 @@ use Rattle.outline_roster.specs.Tree.{Tree}
 pub record Blank (chain keys kids links : List ℕ) : Type 0 where
   pub digits : (i : ℕ) → getD chain i 0 < 4
   pub room : length chain < length keys
-  pub small : length keys ≤ 16385
+  pub small : length keys ≤ suc mostSteps
   pub pairs : length kids ≡ 2 * length keys
   pub words : length links ≡ 4 * length keys
   pub childless : (l : ℕ) → getD kids l 0 ≡ 0
   pub linkless : (l : ℕ) → getD links l 0 ≡ 0
 
 -- the walk of ds from c, which stands at corner `node`
-pub record Store (c : Corner) (ds keys kids links : List ℕ) (used node : ℕ) : Type 0 where
+pub record WalkStored (c : Corner) (ds keys kids links : List ℕ) (used node : ℕ) : Type 0 where
   pub tree : Tree keys kids used
   pub keyed : take used keys ≡ map (keyOf c) (visitedOf (cornersFrom c ds))
   pub linked : Linked c ds links

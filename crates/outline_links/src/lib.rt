@@ -1,5 +1,7 @@
 // The different corners of a walk and the walked edges between them: corner i has the words 4 * i to 4 * i + 3 of links, one a direction,
 // each 1 + the number of the corner that a walked edge leads to, or 0.
+use answer::Limits;
+use order::wide;
 use outline_roster::Seat;
 use outline_roster::enter;
 ghost use mathlib.Core.Path.{_≡_};
@@ -8,9 +10,12 @@ ghost use Prim.Native.Nat.{_+_, _*_, _<_, _≤_};
 ghost use lib.Dec.{ltb};
 ghost use Rattle.grid.specs.declared.Corner.{Corner};
 ghost use Rattle.grid.proofs.StepLaws.{back};
-ghost use Rattle.outline_laws.specs.Keys.{keyAfter};
-ghost use Rattle.outline_links.specs.Store.{Advanced, Ready};
+ghost use Rattle.outline_laws.specs.Keys.{columnRows, keyAfter};
+ghost use Rattle.outline_links.specs.Store.{StepLinked, RoomForMore};
 ghost use Rattle.outline_links.specs.Built.{Blank, Built};
+
+// The rows of a column: the start's, and as many before and after it as a walk has steps.
+const ROWS: u32 = 2 * Limits::MOST_STEPS as u32 + 1;
 
 // The direction back.
 fn opposite(d: u8) -> u8
@@ -22,25 +27,19 @@ fn opposite(d: u8) -> u8
 
 // The key one step on.
 fn key_after(k: u32, d: u8) -> u32
-    requires { ⌜ (32769 ≤ k) × (k < 1073807361) ⌝ }
+    requires { ⌜ (columnRows ≤ k) × (k < columnRows * columnRows) ⌝ }
     ensures { λ r. ⌜ r ≡ keyAfter k d ⌝ }
 {
     if d == 0 {
-        return k + 32769;
+        return k + ROWS;
     }
     if d == 1 {
         return k + 1;
     }
     if d == 2 {
-        return k - 32769;
+        return k - ROWS;
     }
     k - 1
-}
-
-fn wide(l: u16) -> usize
-    ensures { λ r. ⌜ r ≡ l ⌝ }
-{
-    l as usize
 }
 
 // One step in direction d, from corner `node` to the corner with the key k: along a link, or with the two words of a new one.
@@ -53,8 +52,8 @@ fn advance(
     k: u32,
     d: u8,
 ) -> Seat
-    requires { ⌜ Ready (now keys) (now kids) (now links) used node × (d < 4) ⌝ }
-    ensures { λ r. ⌜ Advanced (now (keys .entry)) (now (kids .entry)) (now (links .entry)) used node k d (now (keys .exit)) (now (kids .exit)) (now (links .exit)) (r .node) (r .used) ⌝ }
+    requires { ⌜ RoomForMore (now keys) (now kids) (now links) used node × (d < 4) ⌝ }
+    ensures { λ r. ⌜ StepLinked (now (keys .entry)) (now (kids .entry)) (now (links .entry)) used node k d (now (keys .exit)) (now (kids .exit)) (now (links .exit)) (r .node) (r .used) ⌝ }
 {
     let at = 4 * node + d as usize;
     let l = wide(links[at]);

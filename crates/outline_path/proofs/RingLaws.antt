@@ -11,6 +11,7 @@ use borrow.Author.Tests.{lt-ltb, le-ltb, eqb-true, eq-eqb}
 use lib.Dec.{eqb}
 use lib.ListN.{length, getD, set, drop, length-append, length-drop}
 use lib.Seq.{drop-cons, set-at}
+use Rattle.answer.specs.Limits.{mostSteps}
 use Rattle.lists.specs.Lists.{find}
 use Rattle.lists.proofs.DistinctLaws.{distinct-getD}
 use Rattle.lists.proofs.GatherLaws.{mem→any, and-left, and-right}
@@ -23,7 +24,7 @@ use Rattle.steps.specs.Turns.{stepAfter}
 use Rattle.outline_laws.proofs.TurnLaws.{stepAfter-lt}
 use Rattle.trace.specs.Meeting.{visitedOf}
 use Rattle.trace.proofs.VisitLaws.{mem-visited, visited-distinct, length-visited-le}
-use Rattle.outline.specs.Outline.{walked, homeOf, firstWay, onward, pathOf}
+use Rattle.outline.specs.Outline.{walked, homeOf, firstWay, onward, pathFromHome}
 use Rattle.outline.proofs.Computed.{outlineOf}
 use Rattle.outline_laws.proofs.EdgeLaws.{Way, walked-visited}
 use Rattle.outline_laws.proofs.OrbitLaws.{after, orbit, after-suc, orbit-snoc, after-on, no-sooner}
@@ -31,7 +32,7 @@ use Rattle.outline_laws.proofs.PathLaws.{next, On, next-on, length-path, dirs, 
 use Rattle.outline_laws.proofs.RoundLaws.{start, Round}
 use Rattle.outline_laws.proofs.OutlineLaws.{outlineOf-is, outline-round}
 use Rattle.outline_links.specs.Built.{Built}
-use Rattle.outline_path.specs.Ring.{waysAt, Ring, Long, Written}
+use Rattle.outline_path.specs.Ring.{waysAt, RingStore, Long, Written}
 
 -- the choice depends on the four tests alone
 onward-same : (w v : ℕ → Bool) (d : ℕ) → ((e : ℕ) → e < 4 → w e ≡ v e) → onward w d ≡ onward v d
@@ -78,7 +79,7 @@ module _ (c : Corner) (chain links : List ℕ) (home : ℕ) (b : Built c chain l
           let m : getD links (4 * i + e) 0 - 1 ≡ j = omega (arith, z) in
           (omega (arith, z), omega (arith, m, f .0), ap (λ (y : ℕ). getD vs y origin) m ∙ sym (same-sound (stepped e (getD vs i origin)) (getD vs j origin) (f .1)))
 
-module _ (c : Corner) (chain links : List ℕ) (home first : ℕ) (r : Ring chain links home first) where
+module _ (c : Corner) (chain links : List ℕ) (home first : ℕ) (r : RingStore chain links home first) where
   abbrev ws : List Corner
   ws = visitedOf (cornersFrom c chain)
 
@@ -96,7 +97,7 @@ module _ (c : Corner) (chain links : List ℕ) (home first : ℕ) (r : Ring chai
     at-on = subst (On c chain) (sym (a .way)) (on n)
 
     -- what the next step asks
-    pub at-link : (4 * i + 3 < length links) × (d < 4) × (i < 16385) × (0 < getD links (4 * i + d) 0)
+    pub at-link : (4 * i + 3 < length links) × (d < 4) × (i ≤ mostSteps) × (0 < getD links (4 * i + d) 0)
     at-link = (
       omega (arith, a .number, length-visited-le (cornersFrom c chain), length-cornersFrom c chain, r .words),
       at-on .0,
@@ -113,7 +114,7 @@ module _ (c : Corner) (chain links : List ℕ) (home first : ℕ) (r : Ring chai
         record { number = h; way = ap₂ (λ (y : Corner) (x : ℕ). (y, x)) p f ∙ ap (next c chain) (a .way) ∙ sym (after-suc (next c chain) n (start c chain)) }
 
     -- the corner that it leads to stands in the store
-    pub at-to : (j : ℕ) → j ≡ getD links (4 * i + d) 0 - 1 → (4 * j + 3 < length links) × (d < 4) × (j < 16385)
+    pub at-to : (j : ℕ) → j ≡ getD links (4 * i + d) 0 - 1 → (4 * j + 3 < length links) × (d < 4) × (j ≤ mostSteps)
     at-to j ej =
         let l = link-to c chain links home (r .built c) i d (a .number) (at-on .0) (at-on .1) in
         (omega (arith, ej, l .1, length-visited-le (cornersFrom c chain), length-cornersFrom c chain, r .words), at-on .0, omega (arith, ej, l .1, length-visited-le (cornersFrom c chain), length-cornersFrom c chain, r .short))
@@ -152,7 +153,7 @@ pub record Going (c : Corner) (chain : List ℕ) (n i d : ℕ) : Type 0 where
   pub some : 0 < n
   pub within : n ≤ length (outlineOf c chain)
 
-module _ (chain links : List ℕ) (home first : ℕ) (r : Ring chain links home first) where
+module _ (chain links : List ℕ) (home first : ℕ) (r : RingStore chain links home first) where
   not-first : (i d : ℕ) → not (eqb i home && eqb d first) ≡ true → (i ≡ home) × (d ≡ first) → ⊥
   not-first i d e z = true≢false (sym e ∙ ap₂ (λ (a b : Bool). not (a && b)) (eq-eqb i home (z .0)) (eq-eqb d first (z .1)))
 
@@ -182,41 +183,41 @@ module _ (chain links : List ℕ) (home first : ℕ) (r : Ring chain links home 
 -- the first k steps are written
 pub record Writing (chain before out : List ℕ) (k i d : ℕ) : Type 0 where
   pub at : (c : Corner) → At c chain k i d
-  pub written : (c : Corner) → out ≡ pathOf c chain k ++ drop k before
+  pub written : (c : Corner) → out ≡ pathFromHome c chain k ++ drop k before
 
 dirs-snoc : (l : List Way) (y : Way) → dirs (l ++ (y ∷ [])) ≡ dirs l ++ (y .1 ∷ [])
 dirs-snoc [] y = refl
 dirs-snoc (x ∷ l) y = ap (λ (m : List ℕ). x .1 ∷ m) (dirs-snoc l y)
 
-path-snoc : (c : Corner) (chain : List ℕ) (k : ℕ) → pathOf c chain (suc k) ≡ pathOf c chain k ++ (after (next c chain) k (start c chain) .1 ∷ [])
+path-snoc : (c : Corner) (chain : List ℕ) (k : ℕ) → pathFromHome c chain (suc k) ≡ pathFromHome c chain k ++ (after (next c chain) k (start c chain) .1 ∷ [])
 path-snoc c chain k =
     path-dirs c chain (suc k) (start c chain)
     ∙ ap dirs (orbit-snoc (next c chain) k (start c chain))
     ∙ dirs-snoc (orbit (next c chain) k (start c chain)) (after (next c chain) k (start c chain))
     ∙ ap (λ (l : List ℕ). l ++ (after (next c chain) k (start c chain) .1 ∷ [])) (sym (path-dirs c chain k (start c chain)))
 
-module _ (chain links : List ℕ) (home first : ℕ) (r : Ring chain links home first) (before : List ℕ) where
+module _ (chain links : List ℕ) (home first : ℕ) (r : RingStore chain links home first) (before : List ℕ) where
   pub writing-start : Writing chain before before 0 home first
   writing-start = record { at = λ c. at-start c chain links home first r; written = λ c. refl }
 
   module _ (out : List ℕ) (k i d : ℕ) (w : Writing chain before out k i d) where
     pub writing-length : k ≤ length before → length out ≡ length before
-    writing-length h = ap length (w .written origin) ∙ length-append (pathOf origin chain k) (drop k before) ∙ omega (arith, length-path origin chain k (homeOf origin chain) (firstWay origin chain), length-drop k before)
+    writing-length h = ap length (w .written origin) ∙ length-append (pathFromHome origin chain k) (drop k before) ∙ omega (arith, length-path origin chain k (homeOf origin chain) (firstWay origin chain), length-drop k before)
 
     pub writing-next : k < length before → (j e : ℕ) → j ≡ getD links (4 * i + d) 0 - 1 → e ≡ onward (waysAt links j) d → Writing chain before (set out k d) (k + 1) j e
     writing-next h j e ej ee = rw (add-one k) (record { at = λ c. at-next c chain links home first r k i d (w .at c) j e ej ee; written = one })
       where
-        one : (c : Corner) → set out k d ≡ pathOf c chain (suc k) ++ drop (suc k) before
+        one : (c : Corner) → set out k d ≡ pathFromHome c chain (suc k) ++ drop (suc k) before
         one c =
-            ap (λ (l : List ℕ). set l k d) (w .written c ∙ ap (λ (l : List ℕ). pathOf c chain k ++ l) (drop-cons before k 0 h))
-            ∙ set-at (pathOf c chain k) (getD before k 0) (drop (suc k) before) d k (length-path c chain k (homeOf c chain) (firstWay c chain))
-            ∙ sym (append-assoc (pathOf c chain k) (d ∷ []) (drop (suc k) before))
-            ∙ ap (λ (l : List ℕ). l ++ drop (suc k) before) (ap (λ (x : ℕ). pathOf c chain k ++ (x ∷ [])) (ap (λ (y : Way). y .1) (w .at c .way)) ∙ sym (path-snoc c chain k))
+            ap (λ (l : List ℕ). set l k d) (w .written c ∙ ap (λ (l : List ℕ). pathFromHome c chain k ++ l) (drop-cons before k 0 h))
+            ∙ set-at (pathFromHome c chain k) (getD before k 0) (drop (suc k) before) d k (length-path c chain k (homeOf c chain) (firstWay c chain))
+            ∙ sym (append-assoc (pathFromHome c chain k) (d ∷ []) (drop (suc k) before))
+            ∙ ap (λ (l : List ℕ). l ++ drop (suc k) before) (ap (λ (x : ℕ). pathFromHome c chain k ++ (x ∷ [])) (ap (λ (y : Way). y .1) (w .at c .way)) ∙ sym (path-snoc c chain k))
 
     pub writing-end : (n : ℕ) → Long chain n → k ≡ n → Written chain before out
     writing-end n l e c =
         let z : k ≡ length (outlineOf c chain) = e ∙ l c in
-        w .written c ∙ ap (λ (m : ℕ). pathOf c chain m ++ drop m before) z ∙ ap (λ (p : List ℕ). p ++ drop (length (outlineOf c chain)) before) (sym (outlineOf-is c chain .path))
+        w .written c ∙ ap (λ (m : ℕ). pathFromHome c chain m ++ drop m before) z ∙ ap (λ (p : List ℕ). p ++ drop (length (outlineOf c chain)) before) (sym (outlineOf-is c chain .path))
 
 -- the choice, test by test
 module _ (w : ℕ → Bool) (d : ℕ) (hd : d < 4) where
@@ -236,7 +237,7 @@ module _ (w : ℕ → Bool) (d : ℕ) (hd : d < 4) where
   turn-back p q r = let z : w (stepAfter d 0) ≡ false = ap w straight ∙ q in sym (rw (p, z, r))
 
 -- the links of a walk with steps make a ring
-pub ring-of : (chain links : List ℕ) (home first : ℕ) → 0 < length chain → length chain ≤ 16384 → 4 * suc (length chain) ≤ length links → ((c : Corner) → Built c chain links home) → first ≡ cond (waysAt links home 0) 0 1 → Ring chain links home first
+pub ring-of : (chain links : List ℕ) (home first : ℕ) → 0 < length chain → length chain ≤ mostSteps → 4 * suc (length chain) ≤ length links → ((c : Corner) → Built c chain links home) → first ≡ cond (waysAt links home 0) 0 1 → RingStore chain links home first
 ring-of chain links home first s l w b f = record {
   some = s;
   short = l;
@@ -246,6 +247,6 @@ ring-of chain links home first s l w b f = record {
 }
 
 -- where its first corner stands
-pub home-small : (chain links : List ℕ) (home : ℕ) → length chain ≤ 16384 → 4 * suc (length chain) ≤ length links → ((c : Corner) → Built c chain links home) → (4 * home + 3 < length links) × (home < 16385)
+pub home-small : (chain links : List ℕ) (home : ℕ) → length chain ≤ mostSteps → 4 * suc (length chain) ≤ length links → ((c : Corner) → Built c chain links home) → (4 * home + 3 < length links) × (home ≤ mostSteps)
 home-small chain links home l w b =
     (omega (arith, b origin .number, length-visited-le (cornersFrom origin chain), length-cornersFrom origin chain), omega (arith, b origin .number, length-visited-le (cornersFrom origin chain), length-cornersFrom origin chain))

@@ -15,7 +15,7 @@ use Rattle.area_laws.proofs.OutlineLaws.{length-backward}
 use Rattle.grid.specs.declared.Corner.{Corner}
 use Rattle.grid.proofs.StepLaws.{back}
 use Rattle.panels.specs.Outline.{startedAt, backward}
-use Rattle.outline.specs.Outline.{homeOf, pathOf, OutlineIs}
+use Rattle.outline.specs.Outline.{homeOf, pathFromHome, OutlineIs}
 use Rattle.outline.proofs.Computed.{outlineOf}
 use Rattle.outline_laws.proofs.OrbitLaws.{after, orbit, after-suc, no-sooner}
 use Rattle.outline_laws.proofs.EdgeLaws.{Way}
@@ -66,8 +66,8 @@ module _ (c : Corner) (ds es : List ℕ) (walks : 0 < length ds) (h : ℕ → Wa
       let l : length (outlineOf c ds) ≡ length es = ring-length (length (outlineOf c ds)) (outline-round o walks) in
       let f = next c ds in
       let s = start c ds in
-      let e : pathOf c ds (length es) ≡ es = path-dirs c ds (length es) s ∙ ext-getD 0 (dirs (orbit f (length es) s)) es (length-dirs f (length es) s) (λ k g. each k (omega (arith, g, length-dirs f (length es) s))) in
-      subst (OutlineIs c ds) (o .path ∙ ap (pathOf c ds) l ∙ e) o
+      let e : pathFromHome c ds (length es) ≡ es = path-dirs c ds (length es) s ∙ ext-getD 0 (dirs (orbit f (length es) s)) es (length-dirs f (length es) s) (λ k g. each k (omega (arith, g, length-dirs f (length es) s))) in
+      subst (OutlineIs c ds) (o .path ∙ ap (pathFromHome c ds) l ∙ e) o
     where
       each : (k : ℕ) → k < length es → getD (dirs (orbit (next c ds) (length es) (start c ds))) k 0 ≡ getD es k 0
       each k g = dirs-at (next c ds) (length es) k (start c ds) g ∙ ap (λ (y : Way). y .1) (ring-after k g) ∙ sym (r .steps k g)

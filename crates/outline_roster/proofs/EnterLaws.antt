@@ -15,8 +15,8 @@ use Rattle.lists.proofs.DistinctLaws.{getD-mem}
 use Rattle.lists.proofs.FindLaws.{bool-agree, find-right, find-pos, find-get}
 use Rattle.lists.proofs.GatherLaws.{any→mem}
 use Rattle.lists.proofs.ZipLaws.{at-any}
-use Rattle.outline_roster.specs.declared.Spot.{Spot}
-use Rattle.outline_roster.specs.declared.Spot.the-variants.{Node, Free}
+use Rattle.outline_roster.specs.declared.Sought.{Sought}
+use Rattle.outline_roster.specs.declared.Sought.the-variants.{Node, Free}
 use Rattle.outline_roster.specs.Tree.{seekFrom, Tree, Seated}
 use Rattle.outline_roster.proofs.TreeLaws.{Step, here, none, down, step, node-key, free-child, free-new}
 
@@ -145,7 +145,7 @@ module _ (keys kids : List ℕ) (used : ℕ) (t : Tree keys kids used) (k : ℕ)
           let z : m ≡ j = same-node-number a b in
           v ∙ ap suc z
         where
-          same-node-number : {x : Spot} {a b : ℕ} → x ≡ Node a → x ≡ Node b → a ≡ b
+          same-node-number : {x : Sought} {a b : ℕ} → x ≡ Node a → x ≡ Node b → a ≡ b
           same-node-number p q = cc
 
   absent : (l : ℕ) → seekFrom used keys kids k 0 k ≡ Free l → any (eqb k) (take used keys) ≡ false

@@ -8,7 +8,7 @@ use native.Mathlib.Omega.{arith}
 use borrow.Author.Tests.{eqb-true, eqb-false}
 use lib.Dec.{eqb}
 use lib.ListN.{getD}
-use Rattle.outline_roster.specs.declared.Spot.the-variants.{Node, Free}
+use Rattle.outline_roster.specs.declared.Sought.the-variants.{Node, Free}
 use Rattle.outline_roster.specs.Tree.{seekFrom, Tree}
 
 -- one step of the way down: at the node, at a child that is not there, or on to a child

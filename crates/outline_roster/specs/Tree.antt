@@ -1,10 +1,10 @@
 -- The way down a digital tree, and what is kept of the tree while keys are added. Assumes nothing.
 use Rattle.lists.specs.Lists.{_≡_, true, false, List, ℕ, zero, suc, _+_, _*_, _/_, _%_, _<_, _≤_, eqb, length, take, getD, find, add}
-use Rattle.outline_roster.specs.declared.Spot.{Spot}
-use Rattle.outline_roster.specs.declared.Spot.the-variants.{Node, Free}
+use Rattle.outline_roster.specs.declared.Sought.{Sought}
+use Rattle.outline_roster.specs.declared.Sought.the-variants.{Node, Free}
 
 -- the way down to the key k from node i, where r holds the digits that are left; the first argument bounds how long it is
-abbrev pub seekFrom : ℕ → List ℕ → List ℕ → ℕ → ℕ → ℕ → Spot
+abbrev pub seekFrom : ℕ → List ℕ → List ℕ → ℕ → ℕ → ℕ → Sought
 seekFrom zero keys kids k i r = Free 0
 seekFrom (suc f) keys kids k i r =
     elim (eqb (getD keys i 0) k) [

@@ -8,14 +8,14 @@ use native.Mathlib.Omega.{arith}
 use borrow.Author.Tests.{lt-ltb, le-ltb}
 use lib.ListN.{length, getD, drop, replicate, length-replicate}
 use Rattle.answer.specs.declared.{Judged.Judged, Judged.the-variants.Good, Judged.the-variants.Refused, Refusal.the-variants.OutlineRoom, Counted.Counted}
-use Rattle.answer.specs.Limits.{mostInput, startFits}
+use Rattle.answer.specs.Limits.{mostInput, mostSteps, startFits}
 use Rattle.answer.specs.Refusal.{when}
 use Rattle.grid.specs.declared.Corner.{Corner}
 use Rattle.steps.specs.Turns.{writtenIf}
 use Rattle.hull.specs.Call.{chainJudged, countedOf}
 use Rattle.hull_laws.proofs.CallLaws as hulls
 use Rattle.hull_laws.proofs.SurveyLaws.{good-digits, good-short}
-use Rattle.outline.specs.Call.{roomJudged, outlineJudged, OutlineCall}
+use Rattle.outline.specs.Call.{outlineRoomJudged, outlineJudged, OutlineCall}
 use Rattle.outline.proofs.Computed.{outlineOf}
 use Rattle.outline_laws.proofs.OutlineLaws.{outlineOf-is}
 use Rattle.outline_laws.proofs.CallLaws.{judged-last}
@@ -31,7 +31,7 @@ zeros (suc n) zero = refl
 zeros (suc n) (suc l) = zeros n l
 
 -- a store of zeros is blank
-pub blank-of : (chain : List ℕ) (n k l : ℕ) → Steady chain → length chain < n → n ≤ 16385 → k ≡ 2 * n → l ≡ 4 * n → Blank chain (replicate n 0) (replicate k 0) (replicate l 0)
+pub blank-of : (chain : List ℕ) (n k l : ℕ) → Steady chain → length chain < n → n ≤ suc mostSteps → k ≡ 2 * n → l ≡ 4 * n → Blank chain (replicate n 0) (replicate k 0) (replicate l 0)
 blank-of chain n k l s h m ek el = record {
   digits = s .digits;
   room = omega (arith, h, length-replicate {A = ℕ} n 0);
@@ -48,7 +48,7 @@ module _ (chain before : List ℕ) where
   abbrev whole : Corner → List ℕ
   whole c = outlineOf c chain ++ drop (length (outlineOf c chain)) before
 
-  by-room : (c : Corner) (j : Judged) (r : Counted) (after : List ℕ) → roomJudged (length before) (length (outlineOf c chain)) ≡ j → r ≡ countedOf j (length (outlineOf c chain)) → after ≡ writtenIf j (whole c) before → Traced c chain before r after
+  by-room : (c : Corner) (j : Judged) (r : Counted) (after : List ℕ) → outlineRoomJudged (length before) (length (outlineOf c chain)) ≡ j → r ≡ countedOf j (length (outlineOf c chain)) → after ≡ writtenIf j (whole c) before → Traced c chain before r after
   by-room c j r after e a b = record {
     answer = a ∙ sym (ap (λ (k : Judged). countedOf k (length (outlineOf c chain))) e);
     buffer = b ∙ sym (ap (λ (k : Judged). writtenIf k (whole c) before) e);
@@ -75,7 +75,7 @@ steady chain g = record { digits = good-digits 0 chain g; short = omega (arith, 
 pub call-traced : (s : Corner) (ds before : List ℕ) (r : Counted) (after : List ℕ) → length ds ≤ mostInput → startFits s ≡ true → chainJudged 0 ds ≡ Good → Traced s ds before r after → OutlineCall s ds before r after
 call-traced s ds before r after h f g t =
     let es = outlineOf s ds in
-    let j : outlineJudged s ds (length before) (length es) ≡ roomJudged (length before) (length es) = judged-last s ds (length before) (length es) (hulls.judged-room s ds 0 0 h f g) in
+    let j : outlineJudged s ds (length before) (length es) ≡ outlineRoomJudged (length before) (length es) = judged-last s ds (length before) (length es) (hulls.judged-room s ds 0 0 h f g) in
     record {
       steps = es;
       outline = outlineOf-is s ds;

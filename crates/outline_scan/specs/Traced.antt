@@ -5,7 +5,7 @@ use Rattle.answer.specs.declared.Counted.{Counted}
 use Rattle.answer.specs.Limits.{mostSteps}
 use Rattle.steps.specs.Turns.{writtenIf}
 use Rattle.hull.specs.Call.{countedOf}
-use Rattle.outline.specs.Call.{roomJudged}
+use Rattle.outline.specs.Call.{outlineRoomJudged}
 use Rattle.outline.proofs.Computed.{outlineOf}
 
 -- steps that are not refused
@@ -15,5 +15,5 @@ pub record Steady (chain : List ℕ) : Type 0 where
 
 -- the outline of the walk from c is counted and written, unless the room is shorter
 pub record Traced (c : Corner) (chain before : List ℕ) (r : Counted) (after : List ℕ) : Type 0 where
-  pub answer : r ≡ countedOf (roomJudged (length before) (length (outlineOf c chain))) (length (outlineOf c chain))
-  pub buffer : after ≡ writtenIf (roomJudged (length before) (length (outlineOf c chain))) (outlineOf c chain ++ drop (length (outlineOf c chain)) before) before
+  pub answer : r ≡ countedOf (outlineRoomJudged (length before) (length (outlineOf c chain))) (length (outlineOf c chain))
+  pub buffer : after ≡ writtenIf (outlineRoomJudged (length before) (length (outlineOf c chain))) (outlineOf c chain ++ drop (length (outlineOf c chain)) before) before

@@ -1,6 +1,7 @@
 // The outer outline of a walk: the call.
 use answer::Counted;
 use answer::Judged;
+use answer::Limits;
 use answer::Refusal;
 use answer::start_fits;
 use grid::Corner;
@@ -10,8 +11,9 @@ use outline_links::build;
 use outline_path::count;
 use outline_path::first_way;
 use outline_path::put;
-ghost use Prim.Native.Nat.{_<_};
+ghost use Prim.Native.Nat.{_<_, _≤_};
 ghost use lib.ListN.{length};
+ghost use Rattle.hull_laws.specs.Columns.{narrowSize, widerSize};
 ghost use Rattle.grid.specs.declared.Corner.{Corner};
 ghost use Rattle.outline.specs.Call.{OutlineCall};
 ghost use Rattle.outline_links.specs.Built.{Blank};
@@ -38,25 +40,25 @@ fn write_in(
     Counted::Many(n)
 }
 
-// The same with a store for 257 corners.
+// The same with a store for the corners of 256 steps.
 fn write_narrow(chain: &[u8], out: &mut [u8]) -> Counted
-    requires { ⌜ Steady (now chain) × (0 < length (now chain)) × (length (now chain) < 257) ⌝ }
+    requires { ⌜ Steady (now chain) × (0 < length (now chain)) × (length (now chain) ≤ narrowSize) ⌝ }
     ensures { λ r. ⌜ ((c : Corner) → Traced c (now (chain .entry)) (now (out .entry)) r (now (out .exit))) ⌝ }
 {
-    let mut keys = [0u32; 257];
-    let mut kids = [0u16; 514];
-    let mut links = [0u16; 1028];
+    let mut keys = [0u32; Columns::NARROW + 1];
+    let mut kids = [0u16; 2 * (Columns::NARROW + 1)];
+    let mut links = [0u16; 4 * (Columns::NARROW + 1)];
     write_in(chain, &mut keys, &mut kids, &mut links, out)
 }
 
-// The same with a store for 2,049 corners.
+// The same with a store for the corners of 2,048 steps.
 fn write_wider(chain: &[u8], out: &mut [u8]) -> Counted
-    requires { ⌜ Steady (now chain) × (0 < length (now chain)) × (length (now chain) < 2049) ⌝ }
+    requires { ⌜ Steady (now chain) × (0 < length (now chain)) × (length (now chain) ≤ widerSize) ⌝ }
     ensures { λ r. ⌜ ((c : Corner) → Traced c (now (chain .entry)) (now (out .entry)) r (now (out .exit))) ⌝ }
 {
-    let mut keys = [0u32; 2049];
-    let mut kids = [0u16; 4098];
-    let mut links = [0u16; 8196];
+    let mut keys = [0u32; Columns::WIDER + 1];
+    let mut kids = [0u16; 2 * (Columns::WIDER + 1)];
+    let mut links = [0u16; 4 * (Columns::WIDER + 1)];
     write_in(chain, &mut keys, &mut kids, &mut links, out)
 }
 
@@ -65,9 +67,9 @@ fn write_widest(chain: &[u8], out: &mut [u8]) -> Counted
     requires { ⌜ Steady (now chain) × (0 < length (now chain)) ⌝ }
     ensures { λ r. ⌜ ((c : Corner) → Traced c (now (chain .entry)) (now (out .entry)) r (now (out .exit))) ⌝ }
 {
-    let mut keys = [0u32; 16385];
-    let mut kids = [0u16; 32770];
-    let mut links = [0u16; 65540];
+    let mut keys = [0u32; Limits::MOST_STEPS + 1];
+    let mut kids = [0u16; 2 * (Limits::MOST_STEPS + 1)];
+    let mut links = [0u16; 4 * (Limits::MOST_STEPS + 1)];
     write_in(chain, &mut keys, &mut kids, &mut links, out)
 }
 
@@ -79,10 +81,10 @@ fn write_from(chain: &[u8], out: &mut [u8]) -> Counted
     if chain.len() == 0 {
         return Counted::Many(0);
     }
-    if chain.len() < 257 {
+    if chain.len() <= Columns::NARROW {
         return write_narrow(chain, out);
     }
-    if chain.len() < 2049 {
+    if chain.len() <= Columns::WIDER {
         return write_wider(chain, out);
     }
     write_widest(chain, out)
@@ -93,7 +95,7 @@ fn write_from(chain: &[u8], out: &mut [u8]) -> Counted
 pub fn write(start: Corner, chain: &[u8], out: &mut [u8]) -> Counted
     ensures { λ r. ⌜ OutlineCall start (now (chain .entry)) (now (out .entry)) r (now (out .exit)) ⌝ }
 {
-    if chain.len() > Columns::MOST_INPUT {
+    if chain.len() > Limits::MOST_INPUT {
         return Counted::Refused(Refusal::TooMany);
     }
     if !start_fits(start) {

@@ -1,10 +1,10 @@
 -- What the call that lists the parts of two rooms answers, and what it leaves in the three buffers (RULES 16.3 to 16.6). Assumes nothing.
-use Rattle.lists.specs.Lists.{_≡_, List, [], _∷_, length, ℕ, _*_, ltb, ℤ}
+use Rattle.lists.specs.Lists.{_≡_, List, [], _∷_, length, ℕ, ℤ}
 use Rattle.grid.specs.declared.Corner.{Corner}
-use Rattle.answer.specs.declared.{Judged.Judged, Judged.the-variants.Good, Judged.the-variants.Refused, Refusal.the-variants.SpanRoom}
-use Rattle.answer.specs.{Refusal.when, Refusal.firstOf, Refusal.refusalNumber, Refusal.refusalPlace}
+use Rattle.answer.specs.declared.{Judged.Judged, Judged.the-variants.Good, Judged.the-variants.Refused}
+use Rattle.answer.specs.{Refusal.firstOf, Refusal.refusalNumber, Refusal.refusalPlace}
 use Rattle.room.specs.Room.{asRoomJudged}
-use Rattle.row_call.specs.{Rows.Span, Rows.RowsIs, Rows.lengthsOf, Call.spansIn}
+use Rattle.row_call.specs.{Rows.Span, Rows.RowsIs, Rows.lengthsOf, Call.spanRoomJudged, Call.spansIn}
 use Rattle.overlay.specs.declared.{Part.Part, Part.the-variants.First, Part.the-variants.Second, Part.the-variants.Both, Measure.Measure, Measures.Measures, Overlaid.Overlaid}
 use Rattle.overlay.specs.Overlay.{InPart}
 
@@ -14,14 +14,14 @@ ofParts a b c First = a
 ofParts a b c Second = b
 ofParts a b c Both = c
 
--- 21 where the buffer of a part has fewer than three numbers a span
-abbrev pub shortJudged : (Part → List ℤ) → (Part → List Span) → Part → Judged
-shortJudged before lists k = when (ltb (length (before k)) (3 * length (lists k))) SpanRoom
+-- 21 where the buffer of a part has too little room for its spans
+abbrev pub partRoomJudged : (Part → List ℤ) → (Part → List Span) → Part → Judged
+partRoomJudged before lists k = spanRoomJudged (length (before k)) (length (lists k))
 
 -- the refusals of the first room, then those of the second, then 21 for any of the three lists
 abbrev pub overlayJudged : Corner → List ℕ → Corner → List ℕ → (Part → List ℤ) → (Part → List Span) → Judged
 overlayJudged s ds t es before lists =
-    firstOf (asRoomJudged s ds ∷ asRoomJudged t es ∷ shortJudged before lists First ∷ shortJudged before lists Second ∷ shortJudged before lists Both ∷ [])
+    firstOf (asRoomJudged s ds ∷ asRoomJudged t es ∷ partRoomJudged before lists First ∷ partRoomJudged before lists Second ∷ partRoomJudged before lists Both ∷ [])
 
 -- how many panels and how many spans a list has, and each of three lists
 abbrev pub measureOf : List Span → Measure

@@ -19,11 +19,11 @@ use Rattle.room.specs.Room.{asRoomJudged}
 use Rattle.row_call.specs.{Rows.Span, Call.spansIn}
 use Rattle.row_laws.proofs.OneLaws.{rowsIs-one}
 use Rattle.overlay.specs.declared.{Part.Part, Part.the-variants.First, Part.the-variants.Second, Part.the-variants.Both, Overlaid.Overlaid}
-use Rattle.overlay.specs.{Overlay.InPart, Call.shortJudged, Call.overlayJudged, Call.overlaidOf, Call.OverlayCall}
+use Rattle.overlay.specs.{Overlay.InPart, Call.partRoomJudged, Call.overlayJudged, Call.overlaidOf, Call.OverlayCall}
 
 -- whether any of the three lists is too long for its buffer
 abbrev pub buffersJudged : (Part → List ℤ) → (Part → List Span) → Judged
-buffersJudged before L = firstOf (shortJudged before L First ∷ shortJudged before L Second ∷ shortJudged before L Both ∷ [])
+buffersJudged before L = firstOf (partRoomJudged before L First ∷ partRoomJudged before L Second ∷ partRoomJudged before L Both ∷ [])
 
 module _ (before : Part → List ℤ) (L : Part → List Span) where
   abbrev Short : Part → Type 0
@@ -46,15 +46,15 @@ module _ (before : Part → List ℤ) (L : Part → List Span) where
       test : Part → Bool
       test k = ltb (length (before k)) (3 * length (L k))
 
-      by : (k : Part) → shortJudged before L k ≡ Refused SpanRoom → buffersJudged before L ≡ Refused SpanRoom
-      by First e = at-once (shortJudged before L First) (firstOf (shortJudged before L Second ∷ shortJudged before L Both ∷ [])) e
-      by Second e = later (test First) (firstOf (shortJudged before L Second ∷ shortJudged before L Both ∷ [])) (at-once (shortJudged before L Second) (firstOf (shortJudged before L Both ∷ [])) e)
-      by Both e = later (test First) (firstOf (shortJudged before L Second ∷ shortJudged before L Both ∷ [])) (later (test Second) (firstOf (shortJudged before L Both ∷ [])) (at-once (shortJudged before L Both) Good e))
+      by : (k : Part) → partRoomJudged before L k ≡ Refused SpanRoom → buffersJudged before L ≡ Refused SpanRoom
+      by First e = at-once (partRoomJudged before L First) (firstOf (partRoomJudged before L Second ∷ partRoomJudged before L Both ∷ [])) e
+      by Second e = later (test First) (firstOf (partRoomJudged before L Second ∷ partRoomJudged before L Both ∷ [])) (at-once (partRoomJudged before L Second) (firstOf (partRoomJudged before L Both ∷ [])) e)
+      by Both e = later (test First) (firstOf (partRoomJudged before L Second ∷ partRoomJudged before L Both ∷ [])) (later (test Second) (firstOf (partRoomJudged before L Both ∷ [])) (at-once (partRoomJudged before L Both) Good e))
 
   pub all-enough : ((k : Part) → Enough k) → buffersJudged before L ≡ Good
-  all-enough f = clear-first (shortJudged before L First ∷ shortJudged before L Second ∷ shortJudged before L Both ∷ []) (good First, (good Second, (good Both, tt)))
+  all-enough f = clear-first (partRoomJudged before L First ∷ partRoomJudged before L Second ∷ partRoomJudged before L Both ∷ []) (good First, (good Second, (good Both, tt)))
     where
-      good : (k : Part) → shortJudged before L k ≡ Good
+      good : (k : Part) → partRoomJudged before L k ≡ Good
       good k = ap (λ (b : Bool). when b SpanRoom) (le-ltb (length (before k)) (3 * length (L k)) (f k))
 
   pub short-or-enough : ((k : Part) × Short k) ⊎ ((k : Part) → Enough k)
@@ -77,7 +77,7 @@ module _ (s : Corner) (ds : List ℕ) (t : Corner) (es : List ℕ) (before : Par
   judgedBy L = overlayJudged s ds t es before L
 
   module _ (L : Part → List Span) where
-    pub by-rooms : (i j : Judged) → asRoomJudged s ds ≡ i → asRoomJudged t es ≡ j → judgedBy L ≡ orElse i (orElse j (buffersJudged before L))
+    by-rooms : (i j : Judged) → asRoomJudged s ds ≡ i → asRoomJudged t es ≡ j → judgedBy L ≡ orElse i (orElse j (buffersJudged before L))
     by-rooms i j e f = ap₂ (λ (x y : Judged). orElse x (orElse y (buffersJudged before L))) e f
 
     pub first-refused : (q : Refusal) → asRoomJudged s ds ≡ Refused q → judgedBy L ≡ Refused q

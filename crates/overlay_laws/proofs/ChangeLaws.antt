@@ -105,7 +105,7 @@ module _ (part : Bool → Bool → Bool) (none : part false false ≡ false) whe
             gone false q = omega arith
 
 -- the changes are in order
-pub changes-climbs : (part : Bool → Bool → Bool) (lo : Corner) (J : List Stop) (a b : Bool) → Climbs Ahead lo (ats J) → Climbs Ahead lo (changes part a b J)
+changes-climbs : (part : Bool → Bool → Bool) (lo : Corner) (J : List Stop) (a b : Bool) → Climbs Ahead lo (ats J) → Climbs Ahead lo (changes part a b J)
 changes-climbs part lo [] a b g = tt
 changes-climbs part lo (t ∷ J) a b g = by (differ (part a b) (part (differ a (t .one)) (differ b (t .two)))) (changes-climbs part (t .at) J (differ a (t .one)) (differ b (t .two)) (g .1))
   where

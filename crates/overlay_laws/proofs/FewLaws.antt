@@ -15,7 +15,7 @@ use Rattle.grid.specs.declared.Corner.{Corner}
 use Rattle.grid.specs.Grid.{stepped, endFrom}
 use Rattle.grid.proofs.BoundLaws.{stepped-bound}
 use Rattle.trace.specs.Verdict.{sweepFrom}
-use Rattle.row_call.specs.Rows.{Span, InOrder, lengthOf, lengthsOf}
+use Rattle.row_call.specs.Rows.{Span, InOrder, spanLength, lengthsOf}
 use Rattle.row_laws.specs.Feet.{pairsOf, rowsOf}
 use Rattle.row_laws.proofs.PairLaws.{pairs-length, turn-up-to}
 use Rattle.overlay.specs.declared.Part.{Part}
@@ -38,10 +38,10 @@ sweep-bound c (d ∷ ds) b h =
     let g = sweep-bound (stepped d c) ds b (omega (arith, stepped-bound d c .0)) in
     omega (arith, e, f, g)
 
-one-panel : (s : Span) → s .first ≤ℤ s .last → 1 ≤ lengthOf s
-one-panel s h = by (lengthOf s) refl
+one-panel : (s : Span) → s .first ≤ℤ s .last → 1 ≤ spanLength s
+one-panel s h = by (spanLength s) refl
   where
-    by : (n : ℕ) → lengthOf s ≡ n → 1 ≤ lengthOf s
+    by : (n : ℕ) → spanLength s ≡ n → 1 ≤ spanLength s
     by zero e =
         let a = above (s .first) (sucℤ (s .last)) (omega (zarith, bal-suc (s .last))) in
         let b : sucℤ (s .last) ≡ s .first = a ∙ ap (λ (n : ℕ). s .first +ℤ pos n) e ∙ +ℤ-idr (s .first) in

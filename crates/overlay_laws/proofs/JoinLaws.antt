@@ -53,7 +53,7 @@ lead-same (p ∷ P) (q ∷ Q) e f = ⊎-elim (λ h. absurd (no p q f h)) (⊎-el
     no : (x y : Corner) → not (ahead x y) ≡ true → Ahead x y → ⊥
     no x y g h = true≢false (sym g ∙ ap not (ahead-yes x y h))
 
-pub join-climbs : (n : ℕ) (lo : Corner) (P Q : List Corner) → Climbs Ahead lo P → Climbs Ahead lo Q → Climbs Ahead lo (ats (join n P Q))
+join-climbs : (n : ℕ) (lo : Corner) (P Q : List Corner) → Climbs Ahead lo P → Climbs Ahead lo Q → Climbs Ahead lo (ats (join n P Q))
 join-climbs zero lo P Q g h = tt
 join-climbs (suc n) lo P Q g h = by (leads P Q) (leads Q P) refl refl (join-climbs n (first P) (drop 1 P)) (join-climbs n (first Q) P (drop 1 Q))
   where

@@ -119,13 +119,13 @@ pub record Ends (P : List Corner) : Type 0 where
   pub even : EvenRows P
 
 module _ (P Q : List Corner) (eP : Ends P) (eQ : Ends Q) where
-  abbrev pub stopsOf : List Stop
+  abbrev stopsOf : List Stop
   stopsOf = join (length P + length Q) P Q
 
   whole-even : (S : List Corner) → Ends S → length S % 2 ≡ 0
   whole-even S s = omega (arith, pairs-length S (turn-up-to S (s .sorted)) (s .even))
 
-  pub stops-even : (ones stopsOf % 2 ≡ 0) × (twos stopsOf % 2 ≡ 0)
+  stops-even : (ones stopsOf % 2 ≡ 0) × (twos stopsOf % 2 ≡ 0)
   stops-even =
       let r = join-all (λ q. true) (length P + length Q) P Q (omega arith) in
       let u = all-ones stopsOf in

@@ -13,7 +13,7 @@ use Rattle.int_laws.proofs.LinearLaws.{zarith, up, dn, bal+, bal-}
 use Rattle.int_laws.proofs.NextLaws.{bal-pred}
 use Rattle.int_laws.proofs.RangeLaws.{abs-nat}
 use Rattle.lists.specs.Lists.{tally, count, Below}
-use Rattle.answer.specs.Limits.{mostSteps, Near}
+use Rattle.answer.specs.Limits.{mostSteps, mostStart, Near}
 use Rattle.grid.specs.declared.Corner.{Corner}
 use Rattle.grid.specs.Grid.{corner}
 use Rattle.grid.proofs.CornerLaws.{eqZ-refl}
@@ -23,7 +23,7 @@ use Rattle.row_call.specs.Rows.{spanNumbers}
 use Rattle.row_laws.specs.Feet.{feetOf, pairsOf, rowsOf}
 use Rattle.row_laws.proofs.FootLaws.{UpTo, InTurn, climbs-in-turn}
 use Rattle.row_laws.proofs.PairLaws.{EvenRows, pair-row, pairs-even, turn-up-to}
-use Rattle.row_bucket_laws.specs.Buckets.{keyOf, lowOf}
+use Rattle.row_bucket_laws.specs.Buckets.{bucketOf, lowOf}
 use Rattle.row_bucket_laws.proofs.RowLaws.{feet-none}
 use Rattle.overlay_laws.specs.Join.{edgeNumbers}
 use Rattle.overlay_laws.specs.Sweep.{endAt, endsFrom}
@@ -124,5 +124,5 @@ room-small c ds room digits few near =
     let m = length ds / 2 + 1 in
     let none = feet-none c ds m room digits (omega arith) (omega (arith, few)) in
     numbers-small (feetOf (edgesFrom c ds))
-    (none (λ q. far (q .0)) (λ q h k. le-ltb 24577 (natAbs ((c .0 -ℤ pos m) +ℤ pos (keyOf ds m q))) (omega (arith, few, near-by (c .0) m (keyOf ds m q) 16384 (near .0) h))))
-    (none (λ q. far (q .1)) (λ q h k. le-ltb 24577 (natAbs ((c .1 -ℤ pos m) +ℤ pos (lowOf ds m q))) (omega (arith, few, near-by (c .1) m (lowOf ds m q) 16384 (near .1) k))))
+    (none (λ q. far (q .0)) (λ q h k. le-ltb 24577 (natAbs ((c .0 -ℤ pos m) +ℤ pos (bucketOf ds m q))) (omega (arith, few, near-by (c .0) m (bucketOf ds m q) mostStart (near .0) h))))
+    (none (λ q. far (q .1)) (λ q h k. le-ltb 24577 (natAbs ((c .1 -ℤ pos m) +ℤ pos (lowOf ds m q))) (omega (arith, few, near-by (c .1) m (lowOf ds m q) mostStart (near .1) k))))

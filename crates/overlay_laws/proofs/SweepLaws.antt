@@ -14,7 +14,7 @@ use Rattle.grid.specs.declared.Corner.{Corner}
 use Rattle.row_laws.specs.Feet.{ahead}
 use Rattle.overlay.specs.declared.Part.{Part}
 use Rattle.overlay_laws.specs.Join.{Stop, leads, stopsBy, join, differ, changes, edgeNumbers}
-use Rattle.overlay_laws.specs.Sweep.{partHas, partEnds, endAt, endsFrom, odd, leftOf, edgeBy, partNumbers, Writing}
+use Rattle.overlay_laws.specs.Sweep.{partHas, partEnds, endAt, endsFrom, odd, partRest, edgeBy, partNumbers, Writing}
 use Rattle.row_bucket_laws.proofs.WriteLaws.{sets-append}
 use Rattle.overlay_laws.proofs.JoinLaws.{none-left}
 use Rattle.overlay_laws.proofs.OverlayLaws.{none-none}
@@ -82,7 +82,7 @@ length-ends a i (suc k) = omega (arith, length-ends a (suc i) k)
 module _ (k : Part) (a : List ℤ) (i na : ℕ) (b : List ℤ) (j nb f : ℕ) (one two : Bool)
     (e : leads (endsFrom a i (na - i)) (endsFrom b j (nb - j)) ≡ one) (g : leads (endsFrom b j (nb - j)) (endsFrom a i (na - i)) ≡ two) (more : i + j < na + nb) (first : i ≤ na) (second : j ≤ nb) where
   abbrev rest : List Corner
-  rest = leftOf k a (i + tally one) na b (j + tally two) nb f
+  rest = partRest k a (i + tally one) na b (j + tally two) nb f
 
   abbrev was : Bool
   was = partHas k (odd i) (odd j)
@@ -93,7 +93,7 @@ module _ (k : Part) (a : List ℤ) (i na : ℕ) (b : List ℤ) (j nb f : ℕ) (o
   abbrev stop : Corner
   stop = cond one (endAt a i) (endAt b j)
 
-  pub stop-left : leftOf k a i na b j nb (suc f) ≡ cond (differ was is) (stop ∷ rest) rest
+  stop-left : partRest k a i na b j nb (suc f) ≡ cond (differ was is) (stop ∷ rest) rest
   stop-left = by one two e g refl refl
     where
       step : (x y : Bool) (J : List Stop) (c : Corner) → changes (partHas k) (odd i) (odd j) (record { at = c; one = x; two = y } ∷ J)
@@ -101,7 +101,7 @@ module _ (k : Part) (a : List ℤ) (i na : ℕ) (b : List ℤ) (j nb f : ℕ) (o
       step x y J c = ap₂ (λ (u v : Bool). cond (differ (partHas k (odd i) (odd j)) (partHas k u v)) (c ∷ changes (partHas k) u v J) (changes (partHas k) u v J)) (odd-step i x) (odd-step j y)
 
       open-left : (x y : Bool) → leads (endsFrom a i (na - i)) (endsFrom b j (nb - j)) ≡ x → leads (endsFrom b j (nb - j)) (endsFrom a i (na - i)) ≡ y
-          → leftOf k a i na b j nb (suc f) ≡ changes (partHas k) (odd i) (odd j) (stopsBy (λ (X Y : List Corner). join f X Y) (endsFrom a i (na - i)) (endsFrom b j (nb - j)) x y)
+          → partRest k a i na b j nb (suc f) ≡ changes (partHas k) (odd i) (odd j) (stopsBy (λ (X Y : List Corner). join f X Y) (endsFrom a i (na - i)) (endsFrom b j (nb - j)) x y)
       open-left x y p q = ap₂ (λ (u v : Bool). changes (partHas k) (odd i) (odd j) (stopsBy (λ (X Y : List Corner). join f X Y) (endsFrom a i (na - i)) (endsFrom b j (nb - j)) u v)) p q
 
       next : (l : List ℤ) (n m : ℕ) → m < n → endsFrom l (suc m) (n - suc m) ≡ endsFrom l (m + 1) (n - (m + 1))
@@ -117,7 +117,7 @@ module _ (k : Part) (a : List ℤ) (i na : ℕ) (b : List ℤ) (j nb f : ℕ) (o
           same = omega arith
 
       by : (x y : Bool) → leads (endsFrom a i (na - i)) (endsFrom b j (nb - j)) ≡ x → leads (endsFrom b j (nb - j)) (endsFrom a i (na - i)) ≡ y → x ≡ one → y ≡ two
-          → leftOf k a i na b j nb (suc f) ≡ cond (differ (partHas k (odd i) (odd j)) (partHas k (odd (i + tally x)) (odd (j + tally y)))) (cond x (endAt a i) (endAt b j) ∷ leftOf k a (i + tally x) na b (j + tally y) nb f) (leftOf k a (i + tally x) na b (j + tally y) nb f)
+          → partRest k a i na b j nb (suc f) ≡ cond (differ (partHas k (odd i) (odd j)) (partHas k (odd (i + tally x)) (odd (j + tally y)))) (cond x (endAt a i) (endAt b j) ∷ partRest k a (i + tally x) na b (j + tally y) nb f) (partRest k a (i + tally x) na b (j + tally y) nb f)
       by true true p q u v =
           open-left true true p q
           ∙ ap₂ (λ (X Y : List Corner). changes (partHas k) (odd i) (odd j) (stopsBy (λ (X Y : List Corner). join f X Y) X Y true true)) (ends-one a na i (lead-there a i na b j nb p)) (ends-one b nb j (lead-there b j nb a i na q))
@@ -139,7 +139,7 @@ module _ (k : Part) (a : List ℤ) (i na : ℕ) (b : List ℤ) (j nb f : ℕ) (o
 
 -- ---- writing
 
-pub length-endsFrom : (a : List ℤ) (i k : ℕ) → length (endsFrom a i k) ≡ k
+length-endsFrom : (a : List ℤ) (i k : ℕ) → length (endsFrom a i k) ≡ k
 length-endsFrom a i zero = refl
 length-endsFrom a i (suc k) = ap suc (length-endsFrom a (suc i) k)
 
@@ -193,10 +193,10 @@ module _ (k : Part) (a : List ℤ) (i na : ℕ) (b : List ℤ) (j nb : ℕ) (one
       let s = some-fuel ((na - i) + (nb - j)) (w .fuel) (omega (arith, more, w .first, w .second)) (w .enough) in
       let x = partHas k (odd i) (odd j) in
       let y = partHas k (odd (i + tally one)) (odd (j + tally two)) in
-      let l = leftOf k a (i + tally one) na b (j + tally two) nb (s .0) in
+      let l = partRest k a (i + tally one) na b (j + tally two) nb (s .0) in
       let c = cond one (endAt a i) (endAt b j) in
-      let u : edgeNumbers x (leftOf k a i na b j nb (w .fuel)) ≡ edgeBy x y c ++ edgeNumbers y l =
-      ap (λ (m : ℕ). edgeNumbers x (leftOf k a i na b j nb m)) (s .1) ∙ ap (edgeNumbers x) (stop-left k a i na b j nb (s .0) one two e g more (w .first) (w .second)) ∙ numbers-cond x y c l in
+      let u : edgeNumbers x (partRest k a i na b j nb (w .fuel)) ≡ edgeBy x y c ++ edgeNumbers y l =
+      ap (λ (m : ℕ). edgeNumbers x (partRest k a i na b j nb m)) (s .1) ∙ ap (edgeNumbers x) (stop-left k a i na b j nb (s .0) one two e g more (w .first) (w .second)) ∙ numbers-cond x y c l in
       record {
         fuel = s .0;
         enough = omega (arith, w .enough, s .1, some-step, stepped-first (w .first), stepped-second (w .second));
@@ -212,7 +212,7 @@ module _ (k : Part) (a : List ℤ) (i na : ℕ) (b : List ℤ) (j nb : ℕ) (one
   step-nearer h l = (stepped-first h, stepped-second l, omega (arith, some-step))
 
 -- nothing is left
-left-none : (k : Part) (a : List ℤ) (i na : ℕ) (b : List ℤ) (j nb fuel : ℕ) → na ≤ i → nb ≤ j → leftOf k a i na b j nb fuel ≡ []
+left-none : (k : Part) (a : List ℤ) (i na : ℕ) (b : List ℤ) (j nb fuel : ℕ) → na ≤ i → nb ≤ j → partRest k a i na b j nb fuel ≡ []
 left-none k a i na b j nb zero h g = refl
 left-none k a i na b j nb (suc f) h g =
     ap₂ (λ (X Y : List Corner). changes (partHas k) (odd i) (odd j) (join (suc f) X Y)) (ends-none a na i h) (ends-none b nb j g)
@@ -231,9 +231,9 @@ write-start k a na b nb before = record {
     less : (n : ℕ) → n - 0 ≡ n
     less n = omega arith
 
-    whole : edgeNumbers (partHas k (odd 0) (odd 0)) (leftOf k a 0 na b 0 nb (length (endsFrom a 0 na) + length (endsFrom b 0 nb))) ≡ edgeNumbers false (partEnds k (endsFrom a 0 na) (endsFrom b 0 nb))
+    whole : edgeNumbers (partHas k (odd 0) (odd 0)) (partRest k a 0 na b 0 nb (length (endsFrom a 0 na) + length (endsFrom b 0 nb))) ≡ edgeNumbers false (partEnds k (endsFrom a 0 na) (endsFrom b 0 nb))
     whole =
-        ap (λ (v : Bool). edgeNumbers v (leftOf k a 0 na b 0 nb (length (endsFrom a 0 na) + length (endsFrom b 0 nb)))) (none-none k)
+        ap (λ (v : Bool). edgeNumbers v (partRest k a 0 na b 0 nb (length (endsFrom a 0 na) + length (endsFrom b 0 nb)))) (none-none k)
         ∙ ap₂ (λ (m n : ℕ). edgeNumbers false (changes (partHas k) false false (join (length (endsFrom a 0 na) + length (endsFrom b 0 nb)) (endsFrom a 0 m) (endsFrom b 0 n)))) (less na) (less nb)
 
 pub write-end : (k : Part) (a : List ℤ) (na : ℕ) (b : List ℤ) (nb i j o : ℕ) (before now : List ℤ) → Writing k a na b nb i j o before now → (i + j < na + nb → ⊥) → (o ≡ length (partNumbers k a na b nb)) × (now ≡ sets before 0 (partNumbers k a na b nb))

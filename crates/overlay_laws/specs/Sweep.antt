@@ -8,6 +8,7 @@ use lib.Dec.{eqb}
 use lib.IntN.{ℤ, pos, predℤ, _+ℤ_, natAbs}
 use lib.ListN.{length, getD}
 use lib.Seq.{sets}
+use Rattle.answer.specs.Limits.{mostSteps}
 use Rattle.grid.specs.declared.Corner.{Corner}
 use Rattle.grid.specs.Grid.{corner}
 use Rattle.panels.specs.Edges.{edgesFrom}
@@ -48,7 +49,7 @@ pub record Numbers (list : List ℤ) (n : ℕ) : Type 0 where
   pub even : n % 2 ≡ 0
   pub room : 3 * (n / 2) ≤ length list
   pub small : (k : ℕ) → k < 3 * (n / 2) → natAbs (getD list k (pos 0)) ≤ 32767
-  pub few : n ≤ 16384
+  pub few : n ≤ mostSteps
 
 abbrev pub odd : ℕ → Bool
 odd i = eqb (i % 2) 1
@@ -58,8 +59,8 @@ abbrev pub Comes : Corner → ℕ → ℕ → Corner → ℕ → ℕ → Bool �
 Comes p i na q j nb r = (a b : List ℤ) → (i < na → p ≡ endAt a i) → (j < nb → q ≡ endAt b j) → r ≡ leads (endsFrom a i (na - i)) (endsFrom b j (nb - j))
 
 -- what is left of a part's ends at the places i and j
-abbrev pub leftOf : Part → List ℤ → ℕ → ℕ → List ℤ → ℕ → ℕ → ℕ → List Corner
-leftOf k a i na b j nb fuel = changes (partHas k) (odd i) (odd j) (join fuel (endsFrom a i (na - i)) (endsFrom b j (nb - j)))
+abbrev pub partRest : Part → List ℤ → ℕ → ℕ → List ℤ → ℕ → ℕ → ℕ → List Corner
+partRest k a i na b j nb fuel = changes (partHas k) (odd i) (odd j) (join fuel (endsFrom a i (na - i)) (endsFrom b j (nb - j)))
 
 -- what is written at a stop where a part ends or begins, or does neither
 abbrev pub edgeBy : Bool → Bool → Corner → List ℤ
@@ -79,5 +80,5 @@ pub record Writing (k : Part) (a : List ℤ) (na : ℕ) (b : List ℤ) (nb i j o
   pub first : i ≤ na
   pub second : j ≤ nb
   pub few : o ≤ 2 * (i + j)
-  pub numbers : o + length (edgeNumbers (partHas k (odd i) (odd j)) (leftOf k a i na b j nb fuel)) ≡ length (partNumbers k a na b nb)
-  pub left : sets now o (edgeNumbers (partHas k (odd i) (odd j)) (leftOf k a i na b j nb fuel)) ≡ sets before 0 (partNumbers k a na b nb)
+  pub numbers : o + length (edgeNumbers (partHas k (odd i) (odd j)) (partRest k a i na b j nb fuel)) ≡ length (partNumbers k a na b nb)
+  pub left : sets now o (edgeNumbers (partHas k (odd i) (odd j)) (partRest k a i na b j nb fuel)) ≡ sets before 0 (partNumbers k a na b nb)

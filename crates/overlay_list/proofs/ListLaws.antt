@@ -11,6 +11,7 @@ use lib.ListN.{length, getD, set, drop, List·getD-append}
 use lib.Seq.{sets, getD-set-same, getD-set-other}
 use Rattle.lists.specs.Lists.{count}
 use Rattle.answer.specs.declared.{Judged.Judged, Judged.the-variants.Good, Judged.the-variants.Refused, Refusal.Refusal, Refusal.the-variants.SpanRoom}
+use Rattle.answer.specs.Limits.{mostSteps}
 use Rattle.grid.specs.declared.Corner.{Corner}
 use Rattle.room.specs.Room.{asRoomJudged}
 use Rattle.row_call.specs.{Rows.Span, Rows.InOrder, Rows.spanNumbers, Call.spansIn}
@@ -23,7 +24,7 @@ use Rattle.overlay.specs.Call.{ofParts, measureOf, overlayJudged, overlaidOf, O
 use Rattle.overlay_laws.specs.Sweep.{partHas, partEnds, endsFrom, endsOfWalk, partNumbers, listsOf}
 use Rattle.overlay_laws.proofs.{PartLaws.Ends, PartLaws.part-rows, PartLaws.ends-ends, OverlayLaws.none-none, OverlayLaws.walk-ends, OverlayLaws.lists-rows, ReadLaws.ends-read, ReadLaws.ends-same, ReadLaws.edge-pairs, ReadLaws.room-small}
 use Rattle.overlay_laws.proofs.CallLaws.{any-short, all-enough, first-refused, second-refused, both-rooms}
-use Rattle.overlay_list.specs.Parts.{Holds, Spanned, Copied, partSpans, Begins, Ordered, Summed, PartDone, partsJudged, PartsCall}
+use Rattle.overlay_list.specs.Parts.{HoldsSpans, Spanned, Copied, partSpans, BeginsWith, Ordered, Summed, PartDone, partsJudged, PartsCall}
 
 -- ---- copies
 
@@ -37,7 +38,7 @@ copied-step list out k v h e f j l = go (ℕ-discrete j k)
         below : (j ≡ k → ⊥) → j < k
         below u = omega (arith, l, u)
 
-pub copied-holds : (s : Corner) (ds : List ℕ) (list out : List ℤ) (n : ℕ) → Holds s ds list n → Copied list n out → 3 * (n / 2) ≤ length out → Holds s ds out n
+pub copied-holds : (s : Corner) (ds : List ℕ) (list out : List ℤ) (n : ℕ) → HoldsSpans s ds list n → Copied list n out → 3 * (n / 2) ≤ length out → HoldsSpans s ds out n
 copied-holds s ds list out n h c r =
     let m = h .numbers in
     record {
@@ -59,7 +60,7 @@ module _ (s : Corner) (ds : List ℕ) (g : asRoomJudged s ds ≡ Good) (v : ℕ)
   pub room-spans : v ≡ 2 * length (rowsOf s ds)
   room-spans = let w = good-walled s ds g in e ∙ sym (room-half s ds (w .room) (w .digits))
 
-  pub room-holds : (before after : List ℤ) → 3 * (length ds / 2) ≤ length before → after ≡ sets before 0 (spanNumbers (rowsOf s ds)) → length after ≡ length before → Holds s ds after v
+  pub room-holds : (before after : List ℤ) → 3 * (length ds / 2) ≤ length before → after ≡ sets before 0 (spanNumbers (rowsOf s ds)) → length after ≡ length before → HoldsSpans s ds after v
   room-holds before after h u k =
       let w = good-walled s ds g in
       let f = u ∙ written before (rowsOf s ds) (omega (arith, room-spans, l, h)) in
@@ -90,7 +91,7 @@ module _ (a : List ℤ) (na : ℕ) (b : List ℤ) (nb : ℕ) (x : Spanned a na) 
     abbrev spans : List Span
     spans = partSpans a na b nb k
 
-    pub part-numbers : partNumbers k a na b nb ≡ spanNumbers spans
+    part-numbers : partNumbers k a na b nb ≡ spanNumbers spans
     part-numbers =
         let E = partEnds k (endsFrom a 0 na) (endsFrom b 0 nb) in
         edge-pairs E (omega (arith, pairs-length E (turn-up-to E (ends-part .sorted)) (ends-part .even)))
@@ -105,10 +106,10 @@ module _ (a : List ℤ) (na : ℕ) (b : List ℤ) (nb : ℕ) (x : Spanned a na) 
       part-written : after ≡ spanNumbers spans ++ drop (3 * length spans) before
       part-written = u ∙ ap (sets before 0) part-numbers ∙ written before spans h
 
-      part-begins : Begins after spans
+      part-begins : BeginsWith after spans
       part-begins = record { tail = drop (3 * length spans) before; whole = part-written }
 
-      pub part-ordered : (n : ℕ) → n ≡ 3 * length spans → n ≤ 65536 → Ordered after (n / 3)
+      pub part-ordered : (n : ℕ) → n ≡ 3 * length spans → n ≤ 4 * mostSteps → Ordered after (n / 3)
       part-ordered n e f = record { spans = spans; begins = part-begins; many = omega (arith, e); few = omega (arith, f); order = part-order }
 
       pub part-done : (n p : ℕ) → n ≡ 3 * length spans → Summed after (n / 3) p → PartDone spans before (record { panels = p; spans = n / 3 }) after
@@ -147,7 +148,7 @@ module _ (L : Part → List Span) (f g h : List ℤ) where
 -- ---- the call
 
 module _ (s : Corner) (ds : List ℕ) (t : Corner) (es : List ℕ) (before : Part → List ℤ) where
-  pub call-listed : asRoomJudged s ds ≡ Good → asRoomJudged t es ≡ Good → (a : List ℤ) (na : ℕ) (b : List ℤ) (nb : ℕ) (r : Overlaid) (after : Part → List ℤ) → Holds s ds a na → Holds t es b nb → PartsCall (partSpans a na b nb) before r after → OverlayCall s ds t es before r after
+  pub call-listed : asRoomJudged s ds ≡ Good → asRoomJudged t es ≡ Good → (a : List ℤ) (na : ℕ) (b : List ℤ) (nb : ℕ) (r : Overlaid) (after : Part → List ℤ) → HoldsSpans s ds a na → HoldsSpans t es b nb → PartsCall (partSpans a na b nb) before r after → OverlayCall s ds t es before r after
   call-listed e f a na b nb r after x y c =
       let w : partSpans a na b nb ≡ listsOf s ds t es = ap₂ {C = Part → List Span} (λ (P Q : List Corner) (k : Part). pairsOf (partEnds k P Q)) (x .ends) (y .ends) in
       let j = both-rooms s ds t es before (listsOf s ds t es) e f in
@@ -164,7 +165,7 @@ module _ (s : Corner) (ds : List ℕ) (t : Corner) (es : List ℕ) (before : Par
   good-refused : (q : Refusal) → Good ≡ Refused q → ⊥
   good-refused q f = let z : _≡_ {A = ℕ} 0 1 = cc in omega arith
 
-  pub call-refused : (q : Refusal) → overlayJudged s ds t es before none ≡ Refused q → (asRoomJudged s ds ≡ Good → asRoomJudged t es ≡ Good → ⊥) → OverlayCall s ds t es before (Overlaid.Refused q) before
+  call-refused : (q : Refusal) → overlayJudged s ds t es before none ≡ Refused q → (asRoomJudged s ds ≡ Good → asRoomJudged t es ≡ Good → ⊥) → OverlayCall s ds t es before (Overlaid.Refused q) before
   call-refused q e f = record {
     lists = none;
     rows = λ g h. absurd (f g h);

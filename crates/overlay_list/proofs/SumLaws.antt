@@ -16,7 +16,7 @@ use Rattle.int_laws.proofs.LinearLaws.{zarith, up, dn, bal-, nat-le}
 use Rattle.int_laws.proofs.NextLaws.{bal-suc}
 use Rattle.int_laws.proofs.RangeLaws.{abs-nat, abs-, sfits-abs}
 use Rattle.row_call.specs.Rows.{Span, InOrder, spanNumbers, lengthsOf}
-use Rattle.overlay_list.specs.Parts.{Begins}
+use Rattle.overlay_list.specs.Parts.{BeginsWith}
 
 -- ---- one span
 
@@ -98,7 +98,7 @@ span-at (s ∷ L) tail (suc k) h =
     two : 3 * suc k + 2 ≡ suc (suc (suc (3 * k + 2)))
     two = omega arith
 
-pub begins-at : (list : List ℤ) (L : List Span) (k : ℕ) → Begins list L → k < length L → SpanAt list L k
+pub begins-at : (list : List ℤ) (L : List Span) (k : ℕ) → BeginsWith list L → k < length L → SpanAt list L k
 begins-at list L k b h = subst (λ (l : List ℤ). SpanAt l L k) (sym (b .whole)) (span-at L (b .tail) k h)
 
 -- the sum is one span further

@@ -1,5 +1,6 @@
 // Lists the panels of two rooms that are in the first only, in the second only and in both: the call.
 use answer::Judged;
+use answer::Limits;
 use answer::Refusal;
 use grid::Corner;
 use overlay::Measure;
@@ -15,11 +16,17 @@ ghost use lib.IntN.{natAbs, sucℤ, _-ℤ_};
 ghost use lib.ListN.{length};
 ghost use lib.Signed.{_≤ℤ_};
 ghost use Rattle.answer.specs.declared.Judged.the-variants.{Good};
+ghost use Rattle.hull_laws.specs.Columns.{narrowSize, widerSize};
 ghost use Rattle.room.specs.Room.{asRoomJudged};
 ghost use Rattle.overlay.specs.declared.Part.the-variants.{First, Second, Both};
 ghost use Rattle.overlay.specs.Call.{ofParts, OverlayCall};
 ghost use Rattle.overlay_laws.specs.Sweep.{Numbers};
-ghost use Rattle.overlay_list.specs.Parts.{Holds, Spanned, Copied, partSpans, Ordered, Summed, PartDone, PartsCall};
+ghost use Rattle.overlay_list.specs.Parts.{HoldsSpans, Spanned, Copied, partSpans, Ordered, Summed, PartDone, PartsCall};
+
+// The steps for which the two lesser stores have room.
+const NARROW: usize = 256;
+
+const WIDER: usize = 2048;
 
 // The same number in 16 bits.
 fn short(x: i32) -> i16
@@ -45,7 +52,7 @@ fn narrow(list: &[i32], n: usize, out: &mut [i16])
 // Writes the spans of a room, and answers how many ends they have.
 fn fill(start: Corner, chain: &[u8], list: &mut [i32]) -> usize
     requires { ⌜ (asRoomJudged start (now chain) ≡ Good) × (3 * (length (now chain) / 2) ≤ length (now list)) ⌝ }
-    ensures { λ n. ⌜ Holds start (now (chain .entry)) (now (list .exit)) n ⌝ }
+    ensures { λ n. ⌜ HoldsSpans start (now (chain .entry)) (now (list .exit)) n ⌝ }
 {
     let n = vertical(chain);
     row_list::write(start, chain, list);
@@ -55,7 +62,7 @@ fn fill(start: Corner, chain: &[u8], list: &mut [i32]) -> usize
 // The same in 16 bits, by way of the other list.
 fn fill_short(start: Corner, chain: &[u8], out: &mut [i16], list: &mut [i32]) -> usize
     requires { ⌜ (asRoomJudged start (now chain) ≡ Good) × (3 * (length (now chain) / 2) ≤ length (now out)) × (3 * (length (now chain) / 2) ≤ length (now list)) ⌝ }
-    ensures { λ n. ⌜ Holds start (now (chain .entry)) (now (out .exit)) n ⌝ }
+    ensures { λ n. ⌜ HoldsSpans start (now (chain .entry)) (now (out .exit)) n ⌝ }
 {
     let n = fill(start, chain, list);
     narrow(list, n, out);
@@ -148,11 +155,11 @@ fn list_narrow(
     second: &mut [i32],
     both: &mut [i32],
 ) -> Overlaid
-    requires { ⌜ (asRoomJudged s (now ds) ≡ Good) × (asRoomJudged t (now es) ≡ Good) × (length (now ds) ≤ 256) × (length (now es) ≤ 256) ⌝ }
+    requires { ⌜ (asRoomJudged s (now ds) ≡ Good) × (asRoomJudged t (now es) ≡ Good) × (length (now ds) ≤ narrowSize) × (length (now es) ≤ narrowSize) ⌝ }
     ensures { λ r. ⌜ OverlayCall s (now (ds .entry)) t (now (es .entry)) (ofParts (now (first .entry)) (now (second .entry)) (now (both .entry))) r (ofParts (now (first .exit)) (now (second .exit)) (now (both .exit))) ⌝ }
 {
-    let mut a = [0i16; 384];
-    let mut b = [0i32; 384];
+    let mut a = [0i16; 3 * (NARROW / 2)];
+    let mut b = [0i32; 3 * (NARROW / 2)];
     list_in(&mut a, &mut b, s, ds, t, es, first, second, both)
 }
 
@@ -186,11 +193,11 @@ fn list_wider(
     second: &mut [i32],
     both: &mut [i32],
 ) -> Overlaid
-    requires { ⌜ (asRoomJudged s (now ds) ≡ Good) × (asRoomJudged t (now es) ≡ Good) × (length (now ds) ≤ 2048) × (length (now es) ≤ 2048) ⌝ }
+    requires { ⌜ (asRoomJudged s (now ds) ≡ Good) × (asRoomJudged t (now es) ≡ Good) × (length (now ds) ≤ widerSize) × (length (now es) ≤ widerSize) ⌝ }
     ensures { λ r. ⌜ OverlayCall s (now (ds .entry)) t (now (es .entry)) (ofParts (now (first .entry)) (now (second .entry)) (now (both .entry))) r (ofParts (now (first .exit)) (now (second .exit)) (now (both .exit))) ⌝ }
 {
-    let mut a = [0i16; 3072];
-    let mut b = [0i32; 3072];
+    let mut a = [0i16; 3 * (WIDER / 2)];
+    let mut b = [0i32; 3 * (WIDER / 2)];
     list_in(&mut a, &mut b, s, ds, t, es, first, second, both)
 }
 
@@ -208,10 +215,10 @@ fn list_rooms(
     ensures { λ r. ⌜ OverlayCall s (now (ds .entry)) t (now (es .entry)) (ofParts (now (first .entry)) (now (second .entry)) (now (both .entry))) r (ofParts (now (first .exit)) (now (second .exit)) (now (both .exit))) ⌝ }
 {
     let longer = order::greater(ds.len(), es.len());
-    if longer <= 256 {
+    if longer <= NARROW {
         return list_narrow(s, ds, t, es, first, second, both);
     }
-    if longer <= 2048 {
+    if longer <= WIDER {
         return list_wider(s, ds, t, es, first, second, both);
     }
     list_widest(s, ds, t, es, first, second, both)
@@ -230,8 +237,8 @@ fn list_widest(
     requires { ⌜ (asRoomJudged s (now ds) ≡ Good) × (asRoomJudged t (now es) ≡ Good) ⌝ }
     ensures { λ r. ⌜ OverlayCall s (now (ds .entry)) t (now (es .entry)) (ofParts (now (first .entry)) (now (second .entry)) (now (both .entry))) r (ofParts (now (first .exit)) (now (second .exit)) (now (both .exit))) ⌝ }
 {
-    let mut a = [0i16; 24576];
-    let mut b = [0i32; 24576];
+    let mut a = [0i16; 3 * (Limits::MOST_STEPS / 2)];
+    let mut b = [0i32; 3 * (Limits::MOST_STEPS / 2)];
     list_in(&mut a, &mut b, s, ds, t, es, first, second, both)
 }
 

@@ -12,6 +12,7 @@ use lib.Signed.{ltZ, _<ℤ_}
 use mir.Syntax.{w16, w32}
 use mir.Val.{toZ, ofZ}
 use mir.Facts.{toZ-ofZ}
+use Rattle.answer.specs.Limits.{farthest}
 use Rattle.int_laws.proofs.LinearLaws.{zarith}
 use Rattle.int_laws.proofs.NextLaws.{false-lt}
 use Rattle.int_laws.proofs.RangeLaws.{abs+, sfits-abs, lt-true, lt-false}
@@ -36,7 +37,7 @@ long-back z h = toZ-ofZ (sfits-abs w32 z (omega (arith, h)))
 pub end-is : (list : List ℤ) (i : ℕ) (x y : ℤ) → x ≡ getD list (3 * (i / 2) + 1 + i % 2) (pos 0) +ℤ pos (i % 2) → y ≡ getD list (3 * (i / 2)) (pos 0) → corner x y ≡ endAt list i
 end-is list i x y e f = ap₂ corner e f
 
-end-small : (list : List ℤ) (n i : ℕ) → Numbers list n → i < n → natAbs (endAt list i .0) ≤ 32768
+end-small : (list : List ℤ) (n i : ℕ) → Numbers list n → i < n → natAbs (endAt list i .0) ≤ farthest
 end-small list n i h l = omega (arith, abs+ (getD list (3 * (i / 2) + 1 + i % 2) (pos 0)) (pos (i % 2)), h .small (3 * (i / 2) + 1 + i % 2) (omega (arith, h .even)))
 
 -- the order of two corners by comparisons
@@ -88,10 +89,10 @@ module _ (k : Part) (a : List ℤ) (i na : ℕ) (b : List ℤ) (j nb : ℕ) (p q
       by false true e f l = second (lead-there b j nb a i na f)
       by false false e f l = absurd (omega arith)
 
-  pub stop-small : Numbers a na → Numbers b nb → i ≤ na → j ≤ nb → natAbs (cond one p q .0) ≤ 32768
-  stop-small m n h g = subst (λ (c : Corner). natAbs (c .0) ≤ 32768) (sym (stop-is h g)) (by one two leads-one leads-two (swept-nearer h g .2))
+  pub stop-small : Numbers a na → Numbers b nb → i ≤ na → j ≤ nb → natAbs (cond one p q .0) ≤ farthest
+  stop-small m n h g = subst (λ (c : Corner). natAbs (c .0) ≤ farthest) (sym (stop-is h g)) (by one two leads-one leads-two (swept-nearer h g .2))
     where
-      by : (u v : Bool) → leads (endsFrom a i (na - i)) (endsFrom b j (nb - j)) ≡ u → leads (endsFrom b j (nb - j)) (endsFrom a i (na - i)) ≡ v → i + j < (i + tally u) + (j + tally v) → natAbs (cond u (endAt a i) (endAt b j) .0) ≤ 32768
+      by : (u v : Bool) → leads (endsFrom a i (na - i)) (endsFrom b j (nb - j)) ≡ u → leads (endsFrom b j (nb - j)) (endsFrom a i (na - i)) ≡ v → i + j < (i + tally u) + (j + tally v) → natAbs (cond u (endAt a i) (endAt b j) .0) ≤ farthest
       by true v e f l = end-small a na i m (lead-there a i na b j nb e)
       by false true e f l = end-small b nb j n (lead-there b j nb a i na f)
       by false false e f l = absurd (omega arith)

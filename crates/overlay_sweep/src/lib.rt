@@ -3,10 +3,11 @@ use grid::Corner;
 use overlay::Part;
 ghost use mathlib.Core.Path.{_≡_};
 ghost use mathlib.Core.Bool.{cond};
-ghost use Prim.Native.Nat.{_+_, _%_, _<_, _≤_};
+ghost use Prim.Native.Nat.{_+_, _*_, _%_, _<_, _≤_};
 ghost use lib.IntN.{pos, natAbs, _+ℤ_, predℤ};
 ghost use lib.ListN.{length, set};
 ghost use lib.Seq.{sets};
+ghost use Rattle.answer.specs.Limits.{mostSteps, farthest};
 ghost use Rattle.lists.specs.Lists.{tally};
 ghost use Rattle.row_laws.specs.Feet.{ahead};
 ghost use Rattle.overlay_laws.specs.Sweep.{partHas, endAt, odd, edgeBy, partNumbers, Numbers, Comes};
@@ -106,7 +107,7 @@ fn has(part: Part, i: usize, j: usize) -> bool
 
 // One further, if it goes on.
 fn further(i: usize, on: bool) -> usize
-    requires { ⌜ i < 65536 ⌝ }
+    requires { ⌜ i ≤ mostSteps ⌝ }
     ensures { λ r. ⌜ r ≡ i + tally on ⌝ }
 {
     if on {
@@ -126,7 +127,7 @@ fn put(out: &mut [i32], o: usize, v: i32)
 
 // The panel before x.
 fn less(x: i32) -> i32
-    requires { ⌜ natAbs x ≤ 32768 ⌝ }
+    requires { ⌜ natAbs x ≤ farthest ⌝ }
     ensures { λ r. ⌜ r ≡ predℤ x ⌝ }
 {
     x - 1
@@ -134,7 +135,7 @@ fn less(x: i32) -> i32
 
 // Writes the end of a part as number o where the part begins or ends, as far as there is room, and answers which number comes next.
 fn put_end(out: &mut [i32], o: usize, was: bool, is: bool, at: Corner) -> usize
-    requires { ⌜ (o < 131072) × (natAbs (at .0) ≤ 32768) ⌝ }
+    requires { ⌜ (o ≤ 4 * mostSteps) × (natAbs (at .0) ≤ farthest) ⌝ }
     ensures { λ r. ⌜ (r ≡ o + length (edgeBy was is at)) × (now (out .exit) ≡ sets (now (out .entry)) o (edgeBy was is at)) ⌝ }
 {
     if was {
@@ -155,7 +156,7 @@ fn put_end(out: &mut [i32], o: usize, was: bool, is: bool, at: Corner) -> usize
 // Writes the numbers of the spans of a part, as far as there is room, and answers how many there are. The lists have na and nb ends.
 pub fn sweep(part: Part, a: &[i16], na: usize, b: &[i32], nb: usize, out: &mut [i32]) -> usize
     requires { ⌜ Numbers (now a) na × Numbers (now b) nb ⌝ }
-    ensures { λ r. ⌜ (r ≡ length (partNumbers part (now (a .entry)) na (now (b .entry)) nb)) × (r ≤ 65536) × (now (out .exit) ≡ sets (now (out .entry)) 0 (partNumbers part (now (a .entry)) na (now (b .entry)) nb)) ⌝ }
+    ensures { λ r. ⌜ (r ≡ length (partNumbers part (now (a .entry)) na (now (b .entry)) nb)) × (r ≤ 4 * mostSteps) × (now (out .exit) ≡ sets (now (out .entry)) 0 (partNumbers part (now (a .entry)) na (now (b .entry)) nb)) ⌝ }
 {
     let mut i = 0;
     let mut j = 0;

@@ -55,9 +55,13 @@ pointsOf s ds = s ∷ bendsOf s ds ++ (s ∷ [])
 abbrev pub polygonOf : Corner → List ℕ → List ℕ
 polygonOf s ds = polygonBytes (pointsOf s ds)
 
--- the refusals of a room, then 13 where the buffer has fewer bytes than the polygon
+-- 13 where the buffer has fewer bytes than the polygon
+abbrev pub polygonRoomJudged : Corner → List ℕ → ℕ → Judged
+polygonRoomJudged s ds room = when (ltb room (length (polygonOf s ds))) PolygonRoom
+
+-- the refusals of a room, then 13
 abbrev pub polygonJudged : Corner → List ℕ → ℕ → Judged
-polygonJudged s ds room = firstOf (asRoomJudged s ds ∷ when (ltb room (length (polygonOf s ds))) PolygonRoom ∷ [])
+polygonJudged s ds room = firstOf (asRoomJudged s ds ∷ polygonRoomJudged s ds room ∷ [])
 
 -- the promise of the call: how many bytes there are, and a buffer that holds them and then what stood after them, unless there is a refusal
 pub record PolygonCall (s : Corner) (ds before : List ℕ) (r : Counted) (after : List ℕ) : Type 0 where

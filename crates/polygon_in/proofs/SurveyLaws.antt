@@ -12,7 +12,7 @@ use Rattle.answer.specs.declared.{Judged.Judged, Refusal.the-variants.BadCoordi
 use Rattle.grid.specs.declared.Corner.{Corner}
 use Rattle.grid.specs.Grid.{same}
 use Rattle.polygon_ring.specs.Ring.{pointAt, pointsFrom, isFaulty, cornerIn, startOf, lengthOf, isRing, givenOf}
-use Rattle.polygon_ring.specs.declared.{Found.Found, Given.Given, Spot.Spot}
+use Rattle.polygon_ring.specs.declared.{Found.Found, Given.Given, GridPoint.GridPoint}
 use Rattle.polygon_ring_laws.specs.Reading.{ringFrom, capped, ringJudged}
 use Rattle.polygon_ring_laws.proofs.ReadLaws.{judgedBy, ring-tests}
 use Rattle.polygon_ring_laws.proofs.RingLaws as ringLaws
@@ -28,7 +28,7 @@ clash z = omega arith
 pub measured-none : (little : Bool) (s : List ℕ) (n : ℕ) → n ≡ 0 → Broken ≡ measuredOf (pointsFrom little s 0 n)
 measured-none little s n e = ap measuredOf (no-points little s n e)
 
-pub measured-faulty : (ps : List Spot) → true ≡ any isFaulty ps → Faulty ≡ measuredOf ps
+pub measured-faulty : (ps : List GridPoint) → true ≡ any isFaulty ps → Faulty ≡ measuredOf ps
 measured-faulty ps e = ap (λ (b : Bool). measuredBy b (isRing (map cornerIn ps)) (startOf (map cornerIn ps)) (capped (lengthOf (map cornerIn ps)))) e
 
 pub measured-whole : (little : Bool) (s : List ℕ) (n : ℕ) (first last : Corner) (line : Bool) (steps : ℕ) (m : Measured) → 0 < n → first ≡ cornerIn (pointAt little s 0)
@@ -81,7 +81,7 @@ capped-below n k e h = go (ltb mostSteps n) refl
 
 -- ---- the answer, by four tests
 
-module _ (ps : List Spot) (room : ℕ) (m : Measured) (g : m ≡ measuredOf ps) where
+module _ (ps : List GridPoint) (room : ℕ) (m : Measured) (g : m ≡ measuredOf ps) where
   abbrev ring : List Corner
   ring = map cornerIn ps
 

@@ -1,12 +1,13 @@
 // Rings in, in two passes over the points: the first judges them and their neighbours, the second writes the chain. No pass keeps more than
 // three corners.
+use answer::Limits;
 use answer::Refusal;
 use grid::Corner;
 use polygon_ring::Found;
 use polygon_ring::Given;
+use polygon_ring::GridPoint;
 use polygon_ring::Order;
 use polygon_ring::Point;
-use polygon_ring::Spot;
 use polygon_take::corner;
 use polygon_take::judge;
 use polygon_take::number;
@@ -21,26 +22,27 @@ ghost use lib.Dec.{eqb, leb};
 ghost use lib.IntN.{natAbs, _-ℤ_};
 ghost use lib.ListN.{length, drop, replicate};
 ghost use lib.Signed.{ltZ};
+ghost use Rattle.answer.specs.Limits.{farthest};
 ghost use Rattle.grid.specs.Grid.{corner, eqZ, same};
 ghost use Rattle.lists.specs.Lists.{any};
 ghost use Rattle.polygon_ring.specs.Ring.{isNeither, isLittle, pointAt, pointsFrom, isFaulty, cornerIn, straight, apart, directionOf, lengthOf, chainOfPoints, countIn, givenOf, ReadCall};
-ghost use Rattle.polygon_ring_laws.specs.Reading.{Near, ringFrom, capped, ringJudged, ReadIn};
+ghost use Rattle.polygon_ring_laws.specs.Reading.{PointFits, ringFrom, capped, ringJudged, ReadIn};
 ghost use Rattle.polygon_in.specs.Measure.{measuredBy, measuredOf};
 
 // What the first pass finds: a point that is no corner, points that are no ring, or the start of a ring and how many steps it has. MANY
 // stands for any number above 16,384.
-pub enum Measured {
+enum Measured {
     Faulty,
     Broken,
     Ring(Found),
 }
 
 impl Measured {
-    pub const MANY: usize = 16_385;
+    const MANY: usize = Limits::MOST_STEPS + 1;
 }
 
 // What the first point is as a corner.
-fn first_at(points: &[u8], little: bool) -> Spot
+fn first_at(points: &[u8], little: bool) -> GridPoint
     requires { ⌜ 16 ≤ length (now points) ⌝ }
     ensures { λ r. ⌜ r ≡ pointAt little (now (points .entry)) 0 ⌝ }
 {
@@ -48,19 +50,19 @@ fn first_at(points: &[u8], little: bool) -> Spot
 }
 
 // What point i is as a corner, where it is not the first.
-fn later_at(points: &[u8], little: bool, i: usize) -> Spot
+fn later_at(points: &[u8], little: bool, i: usize) -> GridPoint
     requires { ⌜ (0 < i) × (16 * (i + 1) ≤ length (now points)) ⌝ }
     ensures { λ r. ⌜ r ≡ pointAt little (now (points .entry)) i ⌝ }
 {
     judge(point(&points[16 * i..], little), Point::MOST)
 }
 
-fn is_faulty(j: Spot) -> bool
+fn is_faulty(j: GridPoint) -> bool
     ensures { λ r. ⌜ r ≡ isFaulty j ⌝ }
 {
     match j {
-        Spot::At(_, _) => false,
-        Spot::Faulty => true,
+        GridPoint::At(_, _) => false,
+        GridPoint::Faulty => true,
     }
 }
 
@@ -70,12 +72,12 @@ fn corner_of(x: i32, y: i32) -> Corner
     Corner(x, y)
 }
 
-fn corner_in(j: Spot) -> Corner
+fn corner_in(j: GridPoint) -> Corner
     ensures { λ r. ⌜ r ≡ cornerIn j ⌝ }
 {
     match j {
-        Spot::At(x, y) => corner_of(x, y),
-        Spot::Faulty => Corner(0, 0),
+        GridPoint::At(x, y) => corner_of(x, y),
+        GridPoint::Faulty => Corner(0, 0),
     }
 }
 
@@ -100,7 +102,7 @@ fn less(x: i32, y: i32) -> bool
 }
 
 fn gap(x: i32, y: i32) -> usize
-    requires { ⌜ (natAbs x ≤ 32768) × (natAbs y ≤ 32768) ⌝ }
+    requires { ⌜ (natAbs x ≤ farthest) × (natAbs y ≤ farthest) ⌝ }
     ensures { λ r. ⌜ r ≡ natAbs (y -ℤ x) ⌝ }
 {
     if less(x, y) {
@@ -112,7 +114,7 @@ fn gap(x: i32, y: i32) -> usize
 
 // Whether a and b differ along exactly one axis.
 fn is_straight(a: Corner, b: Corner) -> bool
-    requires { ⌜ Near a × Near b ⌝ }
+    requires { ⌜ PointFits a × PointFits b ⌝ }
     ensures { λ r. ⌜ r ≡ straight a b ⌝ }
 {
     let level = equal(a.1, b.1);
@@ -121,7 +123,7 @@ fn is_straight(a: Corner, b: Corner) -> bool
 
 // How far apart a and b are.
 fn distance(a: Corner, b: Corner) -> usize
-    requires { ⌜ Near a × Near b ⌝ }
+    requires { ⌜ PointFits a × PointFits b ⌝ }
     ensures { λ r. ⌜ r ≡ apart a b ⌝ }
 {
     gap(a.0, b.0) + gap(a.1, b.1)
@@ -137,7 +139,7 @@ fn along(x: i32, y: i32, d: u8) -> u8
 
 // The direction of the way from a to b along one axis. Both axes are judged, so that nothing branches.
 fn direction(a: Corner, b: Corner) -> u8
-    requires { ⌜ Near a × Near b ⌝ }
+    requires { ⌜ PointFits a × PointFits b ⌝ }
     ensures { λ r. ⌜ r ≡ directionOf a b ⌝ }
 {
     let level = along(a.0, b.0, 0);
@@ -148,7 +150,7 @@ fn direction(a: Corner, b: Corner) -> u8
 fn cap(n: usize) -> usize
     ensures { λ r. ⌜ r ≡ capped n ⌝ }
 {
-    if n > Found::MOST_STEPS {
+    if n > Limits::MOST_STEPS {
         Measured::MANY
     } else {
         n
@@ -157,7 +159,7 @@ fn cap(n: usize) -> usize
 
 // Whether a and b differ along exactly one axis, and so it was before.
 fn goes_on(line: bool, a: Corner, b: Corner) -> bool
-    requires { ⌜ Near a × Near b ⌝ }
+    requires { ⌜ PointFits a × PointFits b ⌝ }
     ensures { λ r. ⌜ r ≡ («line» && straight a b) ⌝ }
 {
     let straight = is_straight(a, b);
@@ -203,8 +205,8 @@ fn measure(points: &[u8], little: bool, n: usize) -> Measured
     let mut i = 1;
     while i < n {
         match later_at(points, little, i) {
-            Spot::Faulty => return Measured::Faulty,
-            Spot::At(x, y) => {
+            GridPoint::Faulty => return Measured::Faulty,
+            GridPoint::At(x, y) => {
                 let b = corner_of(x, y);
                 line = goes_on(line, a, b);
                 steps = cap(steps + distance(a, b));
@@ -256,8 +258,8 @@ fn survey(points: &[u8], little: bool, n: usize, room: usize) -> Given
         Measured::Faulty => Given::Refused(Refusal::BadCoordinate),
         Measured::Broken => Given::Refused(Refusal::BadRing),
         Measured::Ring(found) => {
-            if found.steps > Found::MOST_STEPS {
-                return Given::Refused(Refusal::TooLong(Found::MOST_STEPS));
+            if found.steps > Limits::MOST_STEPS {
+                return Given::Refused(Refusal::TooLong(Limits::MOST_STEPS));
             }
             if room < found.steps {
                 return Given::Refused(Refusal::ChainRoom);

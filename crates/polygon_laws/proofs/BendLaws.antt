@@ -12,6 +12,7 @@ use lib.Dec.{eqb}
 use lib.IntN.{natAbs}
 use lib.ListN.{length, take, drop, getD, length-append, length-drop, length-take, take-append-drop, drop-of-length-le}
 use lib.Seq.{drop-cons}
+use Rattle.answer.specs.Limits.{mostStart}
 use Rattle.lists.specs.Lists.{tally, Below}
 use Rattle.lists.proofs.BelowLaws.{below-getD}
 use Rattle.lists.proofs.BoolLaws.{tally-le}
@@ -102,8 +103,8 @@ place k t n e = omega arith
 pub record Bent (l : List ℕ) (s : Corner) (ds out : List ℕ) (at : Corner) (last k i : ℕ) : Type 0 where
   pub laid : Laying l (pointsBytes (bendsFrom (getD ds 0 0) s ds)) (pointsBytes (bendsFrom last at (drop i ds))) out (16 * k)
   pub number : turning ds ≡ k + turningFrom last (drop i ds)
-  pub near-x : natAbs (at .0) ≤ 16384 + i
-  pub near-y : natAbs (at .1) ≤ 16384 + i
+  pub near-x : natAbs (at .0) ≤ mostStart + i
+  pub near-y : natAbs (at .1) ≤ mostStart + i
   pub small : last < 4
   pub within : i ≤ length ds
 

@@ -9,6 +9,7 @@ use native.Mathlib.Omega.{arith}
 use borrow.Author.Tests.{eq-eqb, ne-eqb}
 use lib.IntN.{pos, natAbs, _*ℤ_}
 use lib.ListN.{length, take, getD, length-take}
+use Rattle.answer.specs.Limits.{farthest}
 use Rattle.grid.specs.declared.Corner.{Corner}
 use Rattle.grid.specs.Grid.{stepped, cornerAt}
 use Rattle.grid.proofs.BoundLaws.{endFrom-bound}
@@ -80,7 +81,7 @@ near-at s ds k = let h = endFrom-bound (take k ds) s in (omega (arith, h .0, len
 abbrev pub Exact : Corner → Type 0
 Exact p = IsWhole (coordinateOf (p .0)) (pos scale *ℤ p .0) × IsWhole (coordinateOf (p .1)) (pos scale *ℤ p .1)
 
-near-exact : (p : Corner) → natAbs (p .0) ≤ 32768 → natAbs (p .1) ≤ 32768 → Exact p
+near-exact : (p : Corner) → natAbs (p .0) ≤ farthest → natAbs (p .1) ≤ farthest → Exact p
 near-exact p h k = (exact (p .0) h, exact (p .1) k)
 
 pub points-exact : (s : Corner) (ds : List ℕ) → Drawable s ds → (p : Corner) → List·Memᴰ p (pointsOf s ds) → Exact p

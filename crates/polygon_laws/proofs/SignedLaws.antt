@@ -9,24 +9,25 @@ use lib.Ieee.{Float}
 use mir.Syntax.{w32}
 use mir.Val.{SFits, toZ, ofZ}
 use mir.Facts.{toZ-ofZ}
+use Rattle.answer.specs.Limits.{farthest}
 use Rattle.int_laws.proofs.RangeLaws.{mag-neg}
 use Rattle.polygon.specs.Coordinate.{coordinateOf}
 
 -- ---- a coordinate
 
-pub scaled-fits : (z : ℤ) → natAbs z ≤ 32768 → SFits w32 (pos 600 *ℤ z)
+pub scaled-fits : (z : ℤ) → natAbs z ≤ farthest → SFits w32 (pos 600 *ℤ z)
 scaled-fits (pos n) h = subst (SFits w32) (sym (pos-*ℤ-pos 600 n)) (record { sfits = omega arith })
 scaled-fits (negsuc n) h =
     let m : mag (negℤ (pos (600 * suc n))) ≤ 19660800 = mag-neg (600 * suc n) 19660800 (omega arith) in
     subst (SFits w32) (sym (pos-*ℤ-negsuc 600 n)) (record { sfits = omega arith })
 
-small-fits : (z : ℤ) → natAbs z ≤ 32768 → SFits w32 z
+small-fits : (z : ℤ) → natAbs z ≤ farthest → SFits w32 z
 small-fits (pos n) h = record { sfits = omega arith }
 small-fits (negsuc n) h = record { sfits = omega arith }
 
 -- a number in range, written and read back
-pub back : (z : ℤ) → natAbs z ≤ 32768 → toZ w32 (ofZ w32 z) ≡ z
+pub back : (z : ℤ) → natAbs z ≤ farthest → toZ w32 (ofZ w32 z) ≡ z
 back z h = toZ-ofZ (small-fits z h)
 
-pub sent : {x : Float} (z : ℤ) → natAbs z ≤ 32768 → x ≡ coordinateOf (toZ w32 (ofZ w32 z)) → x ≡ coordinateOf z
+pub sent : {x : Float} (z : ℤ) → natAbs z ≤ farthest → x ≡ coordinateOf (toZ w32 (ofZ w32 z)) → x ≡ coordinateOf z
 sent z h e = e ∙ ap coordinateOf (back z h)

@@ -11,6 +11,7 @@ use lib.Ieee.{Float, nan, inf, fin, binary64, up, down, ofInt, isNan}
 use lib.Ieee.Back.{round-whole}
 use lib.Ieee.Exact.{HasValue}
 use lib.Ieee.Fits.{down-pos}
+use Rattle.answer.specs.Limits.{farthest}
 use Rattle.polygon.specs.Coordinate.{scale, signed, coordinateOf, IsWhole}
 
 -- ---- the float of a whole number
@@ -43,13 +44,13 @@ natAbs-scaled (negsuc n) = ap natAbs (pos-*ℤ-negsuc scale n) ∙ natAbs-neg (s
     natAbs-neg zero = refl
     natAbs-neg (suc n) = refl
 
-bound : (n : ℕ) → n ≤ 32768 → 600 * n ≤ 2 ^ 53
+bound : (n : ℕ) → n ≤ farthest → 600 * n ≤ 2 ^ 53
 bound n h = omega arith
 
-pub scaled-le : (z : ℤ) → natAbs z ≤ 32768 → natAbs (pos scale *ℤ z) ≤ 2 ^ 53
+pub scaled-le : (z : ℤ) → natAbs z ≤ farthest → natAbs (pos scale *ℤ z) ≤ 2 ^ 53
 scaled-le z h = subst (λ (n : ℕ). n ≤ 2 ^ 53) (sym (natAbs-scaled z)) (bound (natAbs z) h)
 
-pub coordinate-no-nan : (z : ℤ) → natAbs z ≤ 32768 → T (not (isNan (coordinateOf z)))
+pub coordinate-no-nan : (z : ℤ) → natAbs z ≤ farthest → T (not (isNan (coordinateOf z)))
 unfolding coordinateOf
 coordinate-no-nan z h = ofInt-no-nan (pos scale *ℤ z) (scaled-le z h)
 
@@ -62,7 +63,7 @@ value-whole (inf s) z v = absurd v
 value-whole (fin s m e) (pos n) v = (n, sym (mul-one (m * up e)) ∙ v .1, ap (λ (b : Bool). signed b n) (sym (v .0)))
 value-whole (fin s m e) (negsuc n) v = (suc n, sym (mul-one (m * up e)) ∙ v .1, ap (λ (b : Bool). signed b (suc n)) (sym (v .0)))
 
-pub exact : (z : ℤ) → natAbs z ≤ 32768 → IsWhole (coordinateOf z) (pos scale *ℤ z)
+pub exact : (z : ℤ) → natAbs z ≤ farthest → IsWhole (coordinateOf z) (pos scale *ℤ z)
 unfolding coordinateOf
 exact z h = value-whole (ofInt binary64 (pos scale *ℤ z)) (pos scale *ℤ z) (ofInt-value (pos scale *ℤ z) (scaled-le z h))
 

@@ -19,9 +19,9 @@ use Rattle.hull.specs.Call.{countedOf}
 use Rattle.hull_laws.proofs.SurveyLaws.{good-digits, good-short}
 use Rattle.room.specs.Room.{asRoomJudged}
 use Rattle.room.proofs.RoomLaws.{good-room}
-use Rattle.polygon.specs.Polygon.{prefix, pointBytes, pointsBytes, polygonBytes, bendsOf, pointsOf, polygonOf, polygonJudged, PolygonCall}
+use Rattle.polygon.specs.Polygon.{prefix, pointBytes, pointsBytes, polygonBytes, bendsOf, pointsOf, polygonOf, polygonRoomJudged, polygonJudged, PolygonCall}
 use Rattle.answer.specs.declared.{Judged.Judged, Judged.the-variants.Good, Judged.the-variants.Refused, Refusal.Refusal, Refusal.the-variants.PolygonRoom, Counted.Counted}
-use Rattle.polygon_laws.specs.Bends.{Drawable, turning, shortJudged, Drawn}
+use Rattle.polygon_laws.specs.Bends.{Drawable, turning, Drawn}
 use Rattle.polygon_laws.proofs.BytesLaws.{lent-more, length-bytesOf, length-pointBytes, length-pointsBytes, pointsBytes-append, pointsBytes-one, length-polygonBytes}
 use Rattle.polygon_laws.proofs.BendLaws.{turning-less, length-bendsOf, length-pointsOf}
 
@@ -76,7 +76,7 @@ length-polygonOf s ds b = length-polygonBytes (pointsOf s ds) ∙ ap (λ (m : �
 
 pub draw-short : (s : Corner) (ds out : List ℕ) (n : ℕ) → Below 4 ds → n ≡ turning ds + 2 → length out < 13 + 16 * n → Drawn s ds out (Counted.Refused PolygonRoom) out
 draw-short s ds out n b e h =
-    let j : shortJudged s ds (length out) ≡ Refused PolygonRoom = ap (λ (t : Bool). when t PolygonRoom) (lt-ltb (length out) (length (polygonOf s ds)) (omega (arith, length-polygonOf s ds b))) in record {
+    let j : polygonRoomJudged s ds (length out) ≡ Refused PolygonRoom = ap (λ (t : Bool). when t PolygonRoom) (lt-ltb (length out) (length (polygonOf s ds)) (omega (arith, length-polygonOf s ds b))) in record {
       answer = ap (λ (c : Judged). countedOf c (length (polygonOf s ds))) (sym j);
       buffer = ap (λ (c : Judged). writtenIf c (polygonOf s ds ++ drop (length (polygonOf s ds)) out) out) (sym j);
     }
@@ -84,7 +84,7 @@ draw-short s ds out n b e h =
 pub draw-done : (s : Corner) (ds out after : List ℕ) (n : ℕ) → Below 4 ds → n ≡ turning ds + 2 → (length out < 13 + 16 * n → ⊥) → after ≡ polygonOf s ds ++ drop (length (polygonOf s ds)) out
     → Drawn s ds out (Counted.Many (13 + 16 * n)) after
 draw-done s ds out after n b e h w =
-    let j : shortJudged s ds (length out) ≡ Good = ap (λ (t : Bool). when t PolygonRoom) (le-ltb (length out) (length (polygonOf s ds)) (omega (arith, length-polygonOf s ds b))) in record {
+    let j : polygonRoomJudged s ds (length out) ≡ Good = ap (λ (t : Bool). when t PolygonRoom) (le-ltb (length out) (length (polygonOf s ds)) (omega (arith, length-polygonOf s ds b))) in record {
       answer = ap Counted.Many (ap (λ (m : ℕ). 13 + 16 * m) e ∙ sym (length-polygonOf s ds b)) ∙ ap (λ (c : Judged). countedOf c (length (polygonOf s ds))) (sym j);
       buffer = w ∙ ap (λ (c : Judged). writtenIf c (polygonOf s ds ++ drop (length (polygonOf s ds)) out) out) (sym j);
     }
@@ -98,15 +98,15 @@ room-drawable s ds j e g =
 module _ (s : Corner) (ds out : List ℕ) (j : Judged) (e : j ≡ asRoomJudged s ds) where
   pub call-good : (r : Counted) (after : List ℕ) → j ≡ Good → Drawn s ds out r after → PolygonCall s ds out r after
   call-good r after g d =
-      let k : shortJudged s ds (length out) ≡ polygonJudged s ds (length out) =
-      sym (ap (λ (c : Judged). orElse c (orElse (shortJudged s ds (length out)) Good)) (sym e ∙ g) ∙ orElse-right (shortJudged s ds (length out))) in record {
+      let k : polygonRoomJudged s ds (length out) ≡ polygonJudged s ds (length out) =
+      sym (ap (λ (c : Judged). orElse c (orElse (polygonRoomJudged s ds (length out)) Good)) (sym e ∙ g) ∙ orElse-right (polygonRoomJudged s ds (length out))) in record {
         answer = d .answer ∙ ap (λ (c : Judged). countedOf c (length (polygonOf s ds))) k;
         buffer = d .buffer ∙ ap (λ (c : Judged). writtenIf c (polygonOf s ds ++ drop (length (polygonOf s ds)) out) out) k;
       }
 
   pub call-refused : (r : Refusal) → j ≡ Refused r → PolygonCall s ds out (Counted.Refused r) out
   call-refused r q =
-      let k : Refused r ≡ polygonJudged s ds (length out) = sym (ap (λ (c : Judged). orElse c (orElse (shortJudged s ds (length out)) Good)) (sym e ∙ q)) in record {
+      let k : Refused r ≡ polygonJudged s ds (length out) = sym (ap (λ (c : Judged). orElse c (orElse (polygonRoomJudged s ds (length out)) Good)) (sym e ∙ q)) in record {
         answer = ap (λ (c : Judged). countedOf c (length (polygonOf s ds))) k;
         buffer = ap (λ (c : Judged). writtenIf c (polygonOf s ds ++ drop (length (polygonOf s ds)) out) out) k;
       }
@@ -114,7 +114,7 @@ module _ (s : Corner) (ds out : List ℕ) (j : Judged) (e : j ≡ asRoomJudged s
 -- the polygon of an accepted call has sixteen bytes for each step at most, and 29
 pub polygon-few : (s : Corner) (ds : List ℕ) (room : ℕ) → polygonJudged s ds room ≡ Good → (length (polygonOf s ds) ≤ 16 * length ds + 29) × (length ds ≤ mostSteps)
 polygon-few s ds room e =
-    let g = orElse-good (asRoomJudged s ds) (orElse (shortJudged s ds room) Good) e in
+    let g = orElse-good (asRoomJudged s ds) (orElse (polygonRoomJudged s ds room) Good) e in
     let w = room-drawable s ds (asRoomJudged s ds) refl (g .0) in
     let r = good-room s ds (g .0) in
     (omega (arith, length-polygonOf s ds (w .digits), turning-less ds (w .digits) (omega (arith, r .room .four))), w .few)

@@ -1,13 +1,12 @@
 -- The walks that can be drawn, and how many bends they have.
 -- Assumes nothing.
-use Rattle.lists.specs.Lists.{_≡_, List, [], _∷_, _++_, length, take, drop, getD, ℕ, _+_, _*_, _≤_, Bool, true, false, natAbs, ltb, tally, Below}
+use Rattle.lists.specs.Lists.{_≡_, List, [], _∷_, _++_, length, take, drop, getD, ℕ, _+_, _*_, _≤_, Bool, true, false, natAbs, tally, Below}
 use Rattle.answer.specs.Limits.{mostSteps, mostStart}
 use Rattle.grid.specs.declared.Corner.{Corner}
-use Rattle.answer.specs.declared.{Judged.Judged, Counted.Counted, Refusal.the-variants.PolygonRoom}
-use Rattle.answer.specs.Refusal.{when}
+use Rattle.answer.specs.declared.{Counted.Counted}
 use Rattle.steps.specs.Turns.{writtenIf}
 use Rattle.hull.specs.Call.{countedOf}
-use Rattle.polygon.specs.Polygon.{bends, pointBytes, polygonOf}
+use Rattle.polygon.specs.Polygon.{bends, pointBytes, polygonOf, polygonRoomJudged}
 
 -- a start in range, and a chain of steps that is not too long: refusals 10, 4 and 6 leave nothing else
 pub record Drawable (s : Corner) (ds : List ℕ) : Type 0 where
@@ -33,11 +32,7 @@ bytesIf false c = []
 abbrev pub pointLaid : List ℕ → ℕ → Bool → Corner → List ℕ
 pointLaid l k b c = take (16 * k) l ++ bytesIf b c ++ drop (16 * (k + tally b)) l
 
--- 13 alone
-abbrev pub shortJudged : Corner → List ℕ → ℕ → Judged
-shortJudged s ds room = when (ltb room (length (polygonOf s ds))) PolygonRoom
-
 -- the promise of the call for a walk that can be drawn
 pub record Drawn (s : Corner) (ds before : List ℕ) (r : Counted) (after : List ℕ) : Type 0 where
-  pub answer : r ≡ countedOf (shortJudged s ds (length before)) (length (polygonOf s ds))
-  pub buffer : after ≡ writtenIf (shortJudged s ds (length before)) (polygonOf s ds ++ drop (length (polygonOf s ds)) before) before
+  pub answer : r ≡ countedOf (polygonRoomJudged s ds (length before)) (length (polygonOf s ds))
+  pub buffer : after ≡ writtenIf (polygonRoomJudged s ds (length before)) (polygonOf s ds ++ drop (length (polygonOf s ds)) before) before

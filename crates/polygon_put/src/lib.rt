@@ -10,7 +10,7 @@ ghost use lib.IntN.{natAbs};
 ghost use lib.ListN.{length, drop, getD};
 ghost use lib.Ieee.{isNan, binary64, toBits};
 ghost use Rattle.lists.specs.Lists.{tally, Below};
-ghost use Rattle.answer.specs.Limits.{mostSteps};
+ghost use Rattle.answer.specs.Limits.{mostSteps, farthest};
 ghost use Rattle.polygon.specs.Bytes.{bytesOf};
 ghost use Rattle.polygon.specs.Coordinate.{coordinateOf};
 ghost use Rattle.polygon.specs.Polygon.{pointBytes, pointsBytes, prefix, bends, bendsOf, pointsOf};
@@ -18,7 +18,7 @@ ghost use Rattle.polygon_laws.specs.Bends.{Drawable, turning, pointLaid};
 
 // 600 times x, exactly.
 pub fn millimetres(x: i32) -> f64
-    requires { ⌜ natAbs x ≤ 32768 ⌝ }
+    requires { ⌜ natAbs x ≤ farthest ⌝ }
     ensures { λ r. ⌜ r ≡ coordinateOf x ⌝ }
 {
     (600 * x) as f64
@@ -48,7 +48,7 @@ fn put_float(buf: &mut [u8], x: f64)
 
 // Writes the sixteen bytes of the corner c at the start of buf.
 fn put_point(buf: &mut [u8], c: Corner)
-    requires { ⌜ (16 ≤ length (now buf)) × (natAbs (c .0) ≤ 32768) × (natAbs (c .1) ≤ 32768) ⌝ }
+    requires { ⌜ (16 ≤ length (now buf)) × (natAbs (c .0) ≤ farthest) × (natAbs (c .1) ≤ farthest) ⌝ }
     ensures { λ _. ⌜ now (buf .exit) ≡ pointBytes c ++ drop 16 (now (buf .entry)) ⌝ }
 {
     put_float(buf, millimetres(c.0));
@@ -111,7 +111,7 @@ pub fn count(chain: &[u8]) -> usize
 
 // Writes c as point k of buf if it is a bend, and answers how many points there are then.
 fn put_bend(buf: &mut [u8], k: usize, bend: bool, c: Corner) -> usize
-    requires { ⌜ (16 * (k + tally bend) ≤ length (now buf)) × (natAbs (c .0) ≤ 32768) × (natAbs (c .1) ≤ 32768) ⌝ }
+    requires { ⌜ (16 * (k + tally bend) ≤ length (now buf)) × (natAbs (c .0) ≤ farthest) × (natAbs (c .1) ≤ farthest) ⌝ }
     ensures { λ r. ⌜ (r ≡ k + tally bend) × (now (buf .exit) ≡ pointLaid (now (buf .entry)) k bend c) ⌝ }
 {
     if bend {

@@ -4,11 +4,11 @@ use mathlib.Core.List.{map}
 use lib.Ieee.{binary64, ofBits}
 use Rattle.grid.specs.{declared.Corner.Corner, Grid.origin, Grid.corner, Grid.eqZ, Grid.same}
 use Rattle.answer.specs.declared.{Judged.Judged, Judged.the-variants.Good, Refusal.the-variants.FileLength, Refusal.the-variants.FileKind, Refusal.the-variants.BadCoordinate, Refusal.the-variants.BadRing, Refusal.the-variants.TooLong, Refusal.the-variants.ChainRoom}
-use Rattle.answer.specs.{Limits.mostSteps, Refusal.when, Refusal.firstOf}
+use Rattle.answer.specs.{Limits.mostSteps, Limits.mostStart, Limits.farthest, Refusal.when, Refusal.firstOf}
 use Rattle.steps.specs.Turns.{writtenIf}
 use Rattle.polygon.specs.Polygon.{prefix}
 use Rattle.polygon_ring.specs.{Bytes.startsWith, Bytes.numberIn, Coordinate.wholeOf}
-use Rattle.polygon_ring.specs.declared.{Spot.Spot, Spot.the-variants.At, Spot.the-variants.Faulty, Whole.Whole, Whole.the-variants.Of, Whole.the-variants.Refused, Order.Order, Order.the-variants.Little, Order.the-variants.Big, Order.the-variants.Neither, Given.Given}
+use Rattle.polygon_ring.specs.declared.{GridPoint.GridPoint, GridPoint.the-variants.At, GridPoint.the-variants.Faulty, Whole.Whole, Whole.the-variants.Of, Whole.the-variants.Refused, Order.Order, Order.the-variants.Little, Order.the-variants.Big, Order.the-variants.Neither, Given.Given}
 
 -- byte order 0, then type 3 and ring count 1, the highest byte first
 abbrev pub bigPrefix : List ℕ
@@ -35,35 +35,35 @@ isNeither Big = false
 isNeither Neither = true
 
 -- a point is a corner where both of its floats are coordinates
-abbrev pub both : Whole → Whole → Spot
+abbrev pub both : Whole → Whole → GridPoint
 both (Of a) (Of b) = At a b
 both (Of a) Refused = Faulty
 both Refused y = Faulty
 
 -- how far a coordinate may lie from 0, in panels: that of the first point, and that of any other
 abbrev pub mostAt : ℕ → ℕ
-mostAt zero = 16384
-mostAt (suc i) = 32768
+mostAt zero = mostStart
+mostAt (suc i) = farthest
 
 -- the point at the start of these bytes
-unfoldable pub pointIn : ℕ → Bool → List ℕ → Spot
+unfoldable pub pointIn : ℕ → Bool → List ℕ → GridPoint
 pointIn most little s = both (wholeOf most (ofBits binary64 (numberIn little (take 8 s)))) (wholeOf most (ofBits binary64 (numberIn little (take 8 (drop 8 s)))))
 
 -- point i of a list of points
-unfoldable pub pointAt : Bool → List ℕ → ℕ → Spot
+unfoldable pub pointAt : Bool → List ℕ → ℕ → GridPoint
 pointAt little s i = pointIn (mostAt i) little (drop (16 * i) s)
 
 -- n points, from point i on
-unfoldable pub pointsFrom : Bool → List ℕ → ℕ → ℕ → List Spot
+unfoldable pub pointsFrom : Bool → List ℕ → ℕ → ℕ → List GridPoint
 pointsFrom little s i zero = []
 pointsFrom little s i (suc n) = pointAt little s i ∷ pointsFrom little s (suc i) n
 
-abbrev pub isFaulty : Spot → Bool
+abbrev pub isFaulty : GridPoint → Bool
 isFaulty (At x y) = false
 isFaulty Faulty = true
 
 -- the corner that a point is; a faulty one is refused, whatever its corner
-abbrev pub cornerIn : Spot → Corner
+abbrev pub cornerIn : GridPoint → Corner
 cornerIn (At x y) = corner x y
 cornerIn Faulty = origin
 
@@ -90,9 +90,9 @@ abbrev pub directionOf : Corner → Corner → ℕ
 directionOf a b = cond (ltZ (a .0) (b .0)) 0 (cond (ltZ (b .0) (a .0)) 2 (cond (ltZ (a .1) (b .1)) 1 3))
 
 -- the steps along the corners of the list, from a on
-abbrev pub chainFrom : Corner → List Corner → List ℕ
-chainFrom a [] = []
-chainFrom a (b ∷ cs) = replicate (apart a b) (directionOf a b) ++ chainFrom b cs
+abbrev pub stepsAlong : Corner → List Corner → List ℕ
+stepsAlong a [] = []
+stepsAlong a (b ∷ cs) = replicate (apart a b) (directionOf a b) ++ stepsAlong b cs
 
 -- the first point of a ring, and those after it
 abbrev pub startOf : List Corner → Corner
@@ -108,7 +108,7 @@ abbrev pub lengthOf : List Corner → ℕ
 lengthOf ps = lengthFrom (startOf ps) (laterOf ps)
 
 abbrev pub chainOfPoints : List Corner → List ℕ
-chainOfPoints ps = chainFrom (startOf ps) (laterOf ps)
+chainOfPoints ps = stepsAlong (startOf ps) (laterOf ps)
 
 -- at least four points, the last equal to the first, and neighbours differ along exactly one axis
 abbrev pub isRing : List Corner → Bool
@@ -119,14 +119,14 @@ unfoldable pub countIn : Bool → List ℕ → ℕ
 countIn little file = numberIn little (take 4 (drop 9 file))
 
 -- its points, as many as there are sixteen bytes after the thirteen header bytes: a file that counts another number of them is refused
-abbrev pub pointsIn : Bool → List ℕ → List Spot
+abbrev pub pointsIn : Bool → List ℕ → List GridPoint
 pointsIn little file = pointsFrom little (drop 13 file) 0 ((length file - 13) / 16)
 
 -- the same in the byte order that the header shows
-abbrev pub countOf : List ℕ → ℕ
-countOf file = countIn (isLittle (orderOf file)) file
+abbrev pub countGiven : List ℕ → ℕ
+countGiven file = countIn (isLittle (orderOf file)) file
 
-abbrev pub pointsGiven : List ℕ → List Spot
+abbrev pub pointsGiven : List ℕ → List GridPoint
 pointsGiven file = pointsIn (isLittle (orderOf file)) file
 
 -- the corners of the ring of a file
@@ -138,7 +138,7 @@ abbrev pub readJudged : List ℕ → ℕ → Judged
 readJudged file room =
     firstOf (when (ltb (length file) 13) FileLength
     ∷ when (isNeither (orderOf file)) FileKind
-    ∷ when (not (eqb (length file) (13 + 16 * countOf file))) FileLength
+    ∷ when (not (eqb (length file) (13 + 16 * countGiven file))) FileLength
     ∷ when (any isFaulty (pointsGiven file)) BadCoordinate
     ∷ when (not (isRing (ringOf file))) BadRing
     ∷ when (ltb mostSteps (lengthOf (ringOf file))) (TooLong mostSteps)

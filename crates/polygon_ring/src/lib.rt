@@ -1,5 +1,7 @@
 // What a polygon that is read is kept as until it is judged, and what is answered of it.
+use answer::Limits;
 use answer::Refusal;
+use answer::Start;
 use grid::Corner;
 
 // What a polygon of one ring begins with where the highest byte comes first: byte order 0, type 3 and ring count 1.
@@ -13,9 +15,9 @@ pub struct Point {
 
 impl Point {
     // How far from 0 a coordinate may lie, in panels: that of the first point, and that of any other.
-    pub const MOST_FIRST: u64 = 16_384;
+    pub const MOST_FIRST: u64 = Start::MOST as u64;
 
-    pub const MOST: u64 = 32_768;
+    pub const MOST: u64 = Point::MOST_FIRST + Limits::MOST_STEPS as u64;
 }
 
 // What a float is as a corner's coordinate.
@@ -25,7 +27,7 @@ pub enum Whole {
 }
 
 // What a point is as a corner: its x and y.
-pub enum Spot {
+pub enum GridPoint {
     At(i32, i32),
     Faulty,
 }
@@ -41,10 +43,6 @@ pub enum Order {
 pub struct Found {
     pub start: Corner,
     pub steps: usize,
-}
-
-impl Found {
-    pub const MOST_STEPS: usize = 16_384;
 }
 
 // The answer to a polygon that is read.

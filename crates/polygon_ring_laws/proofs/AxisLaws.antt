@@ -2,7 +2,7 @@
 -- Assumes nothing.
 use mathlib.Core.Path.{_≡_, refl, sym, ap, ap₂, _∙_, subst}
 use mathlib.Core.Bool.{Bool, true, false, not, cond, false≢true}
-use Prim.Native.Nat.{ℕ, _+_, _≤_}
+use Prim.Native.Nat.{ℕ, _+_, _*_, _≤_}
 use native.Mathlib.Omega.{arith}
 use borrow.Author.Tests.{eq-eqb, ne-eqb}
 use lib.Dec.{T, eqb}
@@ -11,13 +11,14 @@ use lib.Signed.{_≤ℤ_, _<ℤ_, ltZ, nonNeg, yes-nonNeg}
 use mir.Syntax.{w32, w64}
 use mir.Val.{SFits, Fits, toZ, ofZ}
 use mir.Facts.{toZ-ofZ}
+use Rattle.answer.specs.Limits.{farthest}
 use Rattle.int_laws.proofs.LinearLaws.{nat-le, nat-eq, bal-, up-neg, dn-neg, zarith}
 use Rattle.int_laws.proofs.RangeLaws.{abs-, abs-neg, sfits-abs, lt-true, lt-false}
 use Rattle.grid.specs.declared.Corner.{Corner}
 use Rattle.grid.specs.Grid.{eqZ}
 use Rattle.grid.proofs.CornerLaws.{eqZ-sound, eqZ-refl}
 use Rattle.polygon_ring.specs.Ring.{straight, apart, directionOf}
-use Rattle.polygon_ring_laws.specs.Reading.{Near}
+use Rattle.polygon_ring_laws.specs.Reading.{PointFits}
 use Rattle.polygon_laws.proofs.SignedLaws.{back}
 
 -- a number as the code reads it back from its bits
@@ -26,7 +27,7 @@ read z = toZ w32 (ofZ w32 z)
 
 -- ---- a difference
 
-module _ (x y : ℤ) (h : natAbs x ≤ 32768) (k : natAbs y ≤ 32768) where
+module _ (x y : ℤ) (h : natAbs x ≤ farthest) (k : natAbs y ≤ farthest) where
   pub diff-fits : SFits w32 (read y -ℤ read x)
   diff-fits = subst (SFits w32) (sym (ap₂ _-ℤ_ (back y k) (back x h))) (sfits-abs w32 (y -ℤ x) (omega (arith, abs- y x)))
 
@@ -101,7 +102,7 @@ by-axes a b = go (eqZ x y) (ltZ x y) (ltZ y x) refl refl refl
 
 -- ---- corners
 
-module _ (a b : Corner) (p : Near a) (q : Near b) where
+module _ (a b : Corner) (p : PointFits a) (q : PointFits b) where
   pub straight-is : (l m : Bool) → l ≡ eqZ (read (a .1)) (read (b .1)) → m ≡ eqZ (read (a .0)) (read (b .0)) → cond m (not l) l ≡ straight a b
   straight-is l m e f =
       ap₂ (λ (m l : Bool). cond m (not l) l) (f ∙ ap₂ eqZ (back (a .0) (p .x)) (back (b .0) (q .x))) (e ∙ ap₂ eqZ (back (a .1) (p .y)) (back (b .1) (q .y)))
@@ -111,7 +112,7 @@ module _ (a b : Corner) (p : Near a) (q : Near b) where
       ap₂ _+_ (e ∙ ap₂ (λ (y x : ℤ). natAbs (y -ℤ x)) (back (b .0) (q .x)) (back (a .0) (p .x)))
       (f ∙ ap₂ (λ (y x : ℤ). natAbs (y -ℤ x)) (back (b .1) (q .y)) (back (a .1) (p .y)))
 
-  pub apart-le : apart a b ≤ 131072
+  pub apart-le : apart a b ≤ 4 * farthest
   apart-le = omega (arith, abs- (b .0) (a .0), abs- (b .1) (a .1), p .x, p .y, q .x, q .y)
 
   pub goes : (l : Bool) (i j : ℕ) → l ≡ eqZ (read (a .0)) (read (b .0)) → i ≡ cond (ltZ (read (a .0)) (read (b .0))) 0 2 → j ≡ cond (ltZ (read (a .1)) (read (b .1))) 1 3

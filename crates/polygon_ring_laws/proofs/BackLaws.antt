@@ -11,7 +11,7 @@ use lib.IntN.{natAbs}
 use lib.ListN.{length, take, drop, replicate, getD, length-append}
 use lib.Seq.{take-at, drop-at, drop-drop, getD-at}
 use Rattle.lists.specs.Lists.{any, Below}
-use Rattle.answer.specs.Limits.{mostSteps}
+use Rattle.answer.specs.Limits.{mostSteps, farthest}
 use Rattle.steps.specs.Turns.{turnOf}
 use Rattle.grid.specs.declared.Corner.{Corner}
 use Rattle.grid.specs.Grid.{origin, same, stepped, endFrom}
@@ -20,7 +20,7 @@ use Rattle.grid.proofs.BoundLaws.{stepped-bound}
 use Rattle.polygon.specs.Bytes.{bytesOf}
 use Rattle.polygon_ring.specs.Bytes.{numberOf, numberIn, startsWith}
 use Rattle.polygon.specs.Polygon.{prefix, pointBytes, pointsBytes, polygonBytes, bends, bendsFrom, bendsOf, pointsOf, polygonOf}
-use Rattle.polygon_ring.specs.Ring.{orderOf, isLittle, isNeither, mostAt, pointIn, pointAt, pointsFrom, isFaulty, cornerIn, straightFrom, chainFrom, lengthOf, chainOfPoints, isRing, countIn, countOf, pointsGiven, ringOf, readJudged, givenOf, ReadCall}
+use Rattle.polygon_ring.specs.Ring.{orderOf, isLittle, isNeither, mostAt, pointIn, pointAt, pointsFrom, isFaulty, cornerIn, straightFrom, stepsAlong, lengthOf, chainOfPoints, isRing, countIn, countGiven, pointsGiven, ringOf, readJudged, givenOf, ReadCall}
 use Rattle.polygon_laws.specs.Bends.{Drawable, turning}
 use Rattle.polygon_laws.proofs.BytesLaws.{length-bytesOf, length-pointBytes, length-polygonBytes}
 use Rattle.polygon_ring_laws.proofs.NumberLaws.{numberOf-bytesOf}
@@ -29,9 +29,9 @@ use Rattle.polygon_ring_laws.proofs.RingLaws.{mostAt-le, length-stepsFr
 use Rattle.polygon_ring_laws.proofs.RunLaws.{ahead, ahead-one, ahead-more, Run, run-ahead}
 use Rattle.polygon_ring_laws.proofs.TakeLaws.{point-back}
 use Rattle.answer.specs.Refusal.{when, orElse, firstOf}
-use Rattle.polygon_ring_laws.specs.Reading.{spotAt, laidIf}
+use Rattle.polygon_ring_laws.specs.Reading.{gridPointOf, laidIf}
 use Rattle.answer.specs.declared.{Judged.Judged, Judged.the-variants.Good, Judged.the-variants.Refused, Refusal.the-variants.FileLength, Refusal.the-variants.FileKind, Refusal.the-variants.BadCoordinate, Refusal.the-variants.BadRing, Refusal.the-variants.TooLong, Refusal.the-variants.ChainRoom}
-use Rattle.polygon_ring.specs.declared.{Spot.Spot, Order.Order, Order.the-variants.Little, Given.Given}
+use Rattle.polygon_ring.specs.declared.{GridPoint.GridPoint, Order.Order, Order.the-variants.Little, Given.Given}
 
 -- ---- the header
 
@@ -54,33 +54,33 @@ points-back ps = drop-at (prefix ++ bytesOf 4 (length ps)) (pointsBytes ps) 13 (
 -- ---- the points
 
 -- each of the points from point i on may be where it is
-abbrev pub Within : ℕ → List Corner → Type 0
+abbrev Within : ℕ → List Corner → Type 0
 Within i [] = Unit {0}
 Within i (c ∷ ps) = (natAbs (c .0) ≤ mostAt i) × (natAbs (c .1) ≤ mostAt i) × Within (suc i) ps
 
-places-back : (s : List ℕ) (i : ℕ) (ps : List Corner) → drop (16 * i) s ≡ pointsBytes ps → Within i ps → pointsFrom true s i (length ps) ≡ map spotAt ps
+places-back : (s : List ℕ) (i : ℕ) (ps : List Corner) → drop (16 * i) s ≡ pointsBytes ps → Within i ps → pointsFrom true s i (length ps) ≡ map gridPointOf ps
 unfolding pointsFrom pointAt pointIn pointsBytes
 places-back s i [] e w = refl
 places-back s i (c ∷ ps) e w =
-    let here : pointAt true s i ≡ spotAt c =
+    let here : pointAt true s i ≡ gridPointOf c =
     ap (pointIn (mostAt i) true) e ∙ point-back (mostAt i) c (pointsBytes ps) (w .0) (w .1) (mostAt-le i) in
     let more : drop (16 * suc i) s ≡ pointsBytes ps =
     ap (λ (n : ℕ). drop n s) (next i) ∙ sym (drop-drop 16 (16 * i) s) ∙ ap (drop 16) e ∙ drop-at (pointBytes c) (pointsBytes ps) 16 (length-pointBytes c) in
-    ap₂ (λ (j : Spot) (js : List Spot). j ∷ js) here (places-back s (suc i) ps more (w .2))
+    ap₂ (λ (j : GridPoint) (js : List GridPoint). j ∷ js) here (places-back s (suc i) ps more (w .2))
   where
     next : (i : ℕ) → 16 * suc i ≡ 16 * i + 16
     next i = omega arith
 
-none-faulty : (ps : List Corner) → any isFaulty (map spotAt ps) ≡ false
+none-faulty : (ps : List Corner) → any isFaulty (map gridPointOf ps) ≡ false
 none-faulty [] = refl
 none-faulty (c ∷ ps) = none-faulty ps
 
-corners-back : (ps : List Corner) → map cornerIn (map spotAt ps) ≡ ps
+corners-back : (ps : List Corner) → map cornerIn (map gridPointOf ps) ≡ ps
 corners-back [] = refl
 corners-back (c ∷ ps) = ap (λ (cs : List Corner). c ∷ cs) (corners-back ps)
 
 -- the bends of a walk that gets no farther than this
-within-bends : (i a : ℕ) (c : Corner) (ds : List ℕ) (e : Corner) → natAbs (c .0) + length ds ≤ 32768 → natAbs (c .1) + length ds ≤ 32768 → natAbs (e .0) ≤ 32768 → natAbs (e .1) ≤ 32768
+within-bends : (i a : ℕ) (c : Corner) (ds : List ℕ) (e : Corner) → natAbs (c .0) + length ds ≤ farthest → natAbs (c .1) + length ds ≤ farthest → natAbs (e .0) ≤ farthest → natAbs (e .1) ≤ farthest
     → Within (suc i) (bendsFrom a c ds ++ (e ∷ []))
 within-bends i a c [] e p q f g = (f, g, tt)
 within-bends i a c (d ∷ ds) e p q f g =
@@ -91,7 +91,7 @@ within-bends i a c (d ∷ ds) e p q f g =
     go i true r = (omega arith, omega arith, r (suc i))
     go i false r = r i
 
-pub within-points : (s : Corner) (ds : List ℕ) → Drawable s ds → Within 0 (pointsOf s ds)
+within-points : (s : Corner) (ds : List ℕ) → Drawable s ds → Within 0 (pointsOf s ds)
 within-points s [] p = (p .near-x, p .near-y, (omega (arith, p .near-x), omega (arith, p .near-y), tt))
 within-points s (d ∷ ds) p =
     let m = stepped-bound d s in
@@ -115,11 +115,11 @@ replicate-shift (suc k) a ds = ap (λ (l : List ℕ). a ∷ l) (replicate-shift 
 
 -- the steps along these corners, and whether neighbours differ along one axis
 abbrev Walks : Corner → List Corner → List ℕ → Type 0
-Walks s ps ds = (chainFrom s ps ≡ ds) × (straightFrom s ps ≡ true)
+Walks s ps ds = (stepsAlong s ps ≡ ds) × (straightFrom s ps ≡ true)
 
 run-on : (s c : Corner) (ps : List Corner) (k a : ℕ) (ds : List ℕ) → Run k a s c → Walks c ps ds → Walks s (c ∷ ps) (replicate k a ++ ds)
 run-on s c ps k a ds r w = (
-  ap₂ (λ (n d : ℕ). replicate n d ++ chainFrom c ps) (r .far) (r .way) ∙ ap (λ (z : List ℕ). replicate k a ++ z) (w .0),
+  ap₂ (λ (n d : ℕ). replicate n d ++ stepsAlong c ps) (r .far) (r .way) ∙ ap (λ (z : List ℕ). replicate k a ++ z) (w .0),
   ap₂ _&&_ (r .line) (w .1),
 )
 
@@ -140,7 +140,7 @@ walk-back a k s c e (d ∷ ds) h i b p q =
         subst (λ (u : Bool). Walks s (cond u (c ∷ []) [] ++ bendsFrom d (stepped d c) ds ++ (e ∷ [])) (replicate k a ++ (d ∷ ds))) (sym t)
         (w .0 ∙ replicate-shift k d ds ∙ ap (λ (x : ℕ). replicate k x ++ (d ∷ ds)) g, w .1)
 
-pub chain-back : (s : Corner) (ds : List ℕ) → Below 4 ds → 0 < length ds → endFrom s ds ≡ s → (chainOfPoints (pointsOf s ds) ≡ ds) × (straightFrom s (bendsOf s ds ++ (s ∷ [])) ≡ true)
+chain-back : (s : Corner) (ds : List ℕ) → Below 4 ds → 0 < length ds → endFrom s ds ≡ s → (chainOfPoints (pointsOf s ds) ≡ ds) × (straightFrom s (bendsOf s ds ++ (s ∷ [])) ≡ true)
 chain-back s [] b h e = absurd (none h)
   where
     none : 0 < 0 → ⊥
@@ -163,12 +163,12 @@ length-back : (s : Corner) (ds : List ℕ) → chainOfPoints (pointsOf s ds) ≡
 length-back s ds e = sym (length-stepsFrom s (bendsOf s ds ++ (s ∷ []))) ∙ ap length e
 
 module _ (s : Corner) (ds : List ℕ) (p : Drawable s ds) where
-  count-is : countOf (polygonOf s ds) ≡ length (pointsOf s ds)
+  count-is : countGiven (polygonOf s ds) ≡ length (pointsOf s ds)
   count-is =
       ap (λ (o : Order). countIn (isLittle o) (polygonOf s ds)) (order-back (pointsOf s ds))
       ∙ count-back (pointsOf s ds) (few (length (pointsOf s ds)) (turning ds) (length ds) (length-pointsOf s ds (p .digits)) (turning-le ds) (p .few))
     where
-      few : (n t l : ℕ) → n ≡ t + 2 → t ≤ l → l ≤ 16384 → n < 256 ^ 4
+      few : (n t l : ℕ) → n ≡ t + 2 → t ≤ l → l ≤ mostSteps → n < 256 ^ 4
       few n t l e f g = omega arith
 
   many-are : (length (polygonOf s ds) - 13) / 16 ≡ length (pointsOf s ds)
@@ -177,13 +177,13 @@ module _ (s : Corner) (ds : List ℕ) (p : Drawable s ds) where
       num : (l n : ℕ) → l ≡ 13 + 16 * n → (l - 13) / 16 ≡ n
       num l n e = omega arith
 
-  places-are : pointsGiven (polygonOf s ds) ≡ map spotAt (pointsOf s ds)
+  places-are : pointsGiven (polygonOf s ds) ≡ map gridPointOf (pointsOf s ds)
   places-are =
       ap₂ (λ (o : Order) (n : ℕ). pointsFrom (isLittle o) (drop 13 (polygonOf s ds)) 0 n) (order-back (pointsOf s ds)) many-are
       ∙ ap (λ (l : List ℕ). pointsFrom true l 0 (length (pointsOf s ds))) (points-back (pointsOf s ds))
       ∙ places-back (pointsBytes (pointsOf s ds)) 0 (pointsOf s ds) refl (within-points s ds p)
 
-  pub ring-written : ringOf (polygonOf s ds) ≡ pointsOf s ds
+  ring-written : ringOf (polygonOf s ds) ≡ pointsOf s ds
   ring-written = ap (map cornerIn) places-are ∙ corners-back (pointsOf s ds)
 
   -- the judgement of what was written, by what is left to judge
@@ -195,9 +195,9 @@ module _ (s : Corner) (ds : List ℕ) (p : Drawable s ds) where
       let size : length file ≡ 13 + 16 * n = length-polygonBytes (pointsOf s ds) in
       let rest : List Corner → Judged = λ ps. orElse (when (not (isRing ps)) BadRing) (orElse (when (ltb mostSteps (lengthOf ps)) (TooLong mostSteps)) (orElse (when (ltb room (lengthOf ps)) ChainRoom) Good)) in
       let long : ltb (length file) 13 ≡ false = le-ltb (length file) 13 (omega arith) in
-      let even : eqb (length file) (13 + 16 * countOf file) ≡ true = eq-eqb (length file) (13 + 16 * countOf file) (size ∙ ap (λ (k : ℕ). 13 + 16 * k) (sym count-is)) in
+      let even : eqb (length file) (13 + 16 * countGiven file) ≡ true = eq-eqb (length file) (13 + 16 * countGiven file) (size ∙ ap (λ (k : ℕ). 13 + 16 * k) (sym count-is)) in
       let good : any isFaulty (pointsGiven file) ≡ false = ap (any isFaulty) places-are ∙ none-faulty (pointsOf s ds) in
-      ap₂ (λ (b c : Bool). orElse (when b FileLength) (orElse (when c FileKind) (orElse (when (not (eqb (length file) (13 + 16 * countOf file))) FileLength) (orElse (when (any isFaulty (pointsGiven file)) BadCoordinate) (rest (ringOf file)))))) long (ap isNeither (order-back (pointsOf s ds)))
+      ap₂ (λ (b c : Bool). orElse (when b FileLength) (orElse (when c FileKind) (orElse (when (not (eqb (length file) (13 + 16 * countGiven file))) FileLength) (orElse (when (any isFaulty (pointsGiven file)) BadCoordinate) (rest (ringOf file)))))) long (ap isNeither (order-back (pointsOf s ds)))
       ∙ ap₂ (λ (b c : Bool). orElse (when (not b) FileLength) (orElse (when c BadCoordinate) (rest (ringOf file)))) even good
       ∙ ap rest ring-written
 

@@ -166,7 +166,7 @@ straight-by a b false false e f x =
     (λ y. false≢true (sym e ∙ ap (eqZ (a .0)) (sym (y .0)) ∙ eqZ-refl (a .0)))
     (λ y. false≢true (sym f ∙ ap (eqZ (a .1)) (sym (y .1)) ∙ eqZ-refl (a .1))) x)
 
-pub straight-exactly : (a b : Corner) → (straight a b ≡ true) ↔ OneAxis a b
+straight-exactly : (a b : Corner) → (straight a b ≡ true) ↔ OneAxis a b
 straight-exactly a b = (axis-by a b (eqZ (a .0) (b .0)) (eqZ (a .1) (b .1)) refl refl, straight-by a b (eqZ (a .0) (b .0)) (eqZ (a .1) (b .1)) refl refl)
 
 line-sound : (a : Corner) (cs : List Corner) → straightFrom a cs ≡ true → (i : ℕ) → suc i < length (a ∷ cs) → OneAxis (getD (a ∷ cs) i origin) (getD (a ∷ cs) (suc i) origin)

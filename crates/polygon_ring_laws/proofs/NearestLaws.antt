@@ -17,6 +17,7 @@ use lib.Ieee.Back.{whole-unique}
 use lib.Ieee.Bits.{ofBits-fits, toBits-ofBits, nanBits-is}
 use lib.Ieee.Exact.{HasValue, round-exact}
 use lib.Ieee.Fits.{down-pos, add-fits}
+use Rattle.answer.specs.Limits.{farthest}
 use Rattle.lists.proofs.GatherLaws.{and-left, and-right}
 use Rattle.int_laws.proofs.LinearLaws.{nat-eq, eq-nat, bal-, neg-nat}
 use Rattle.polygon.specs.Coordinate.{scale, signed, coordinateOf}
@@ -120,7 +121,7 @@ bits-are x t h f v =
 abbrev pub shown : Float → ℕ
 shown x = toBits binary64 (add binary64 x (ofBits binary64 shift)) % 0x400_0000 / 600
 
-shown-is : (x : Float) (s : Bool) (q : ℕ) → q ≤ 32768 → HasValue x s (600 * q) 1 → shown x ≡ cond s (32768 - q) (32768 + q)
+shown-is : (x : Float) (s : Bool) (q : ℕ) → q ≤ farthest → HasValue x s (600 * q) 1 → shown x ≡ cond s (farthest - q) (farthest + q)
 shown-is x s q h v =
     let b : ℕ = 2 ^ 52 + 19660800 in
     let w : HasValue (add binary64 x (ofBits binary64 shift)) false (cond s (b - 600 * q) (b + 600 * q)) 1 =
@@ -136,14 +137,14 @@ shown-is x s q h v =
         last : (t : ℕ) → t < 0x400_0000 → beyond t % 0x400_0000 ≡ t
         last t l = omega arith
 
-    go : (s : Bool) → HasValue y false (cond s (2 ^ 52 + 19660800 - 600 * q) (2 ^ 52 + 19660800 + 600 * q)) 1 → shown x ≡ cond s (32768 - q) (32768 + q)
+    go : (s : Bool) → HasValue y false (cond s (2 ^ 52 + 19660800 - 600 * q) (2 ^ 52 + 19660800 + 600 * q)) 1 → shown x ≡ cond s (farthest - q) (farthest + q)
     go true w =
         cut (19660800 - 600 * q) (omega arith) (subst (λ (n : ℕ). HasValue y false n 1) (less q h) w) ∙ part q h
       where
-        less : (q : ℕ) → q ≤ 32768 → 2 ^ 52 + 19660800 - 600 * q ≡ 2 ^ 52 + (19660800 - 600 * q)
+        less : (q : ℕ) → q ≤ farthest → 2 ^ 52 + 19660800 - 600 * q ≡ 2 ^ 52 + (19660800 - 600 * q)
         less q h = omega arith
 
-        part : (q : ℕ) → q ≤ 32768 → (19660800 - 600 * q) / 600 ≡ 32768 - q
+        part : (q : ℕ) → q ≤ farthest → (19660800 - 600 * q) / 600 ≡ farthest - q
         part q h = omega arith
     go false w =
         cut (19660800 + 600 * q) (omega arith) (subst (λ (n : ℕ). HasValue y false n 1) (more q) w) ∙ part q
@@ -151,19 +152,19 @@ shown-is x s q h v =
         more : (q : ℕ) → 2 ^ 52 + 19660800 + 600 * q ≡ 2 ^ 52 + (19660800 + 600 * q)
         more q = omega arith
 
-        part : (q : ℕ) → (19660800 + 600 * q) / 600 ≡ 32768 + q
+        part : (q : ℕ) → (19660800 + 600 * q) / 600 ≡ farthest + q
         part q = omega arith
 
-centre : (s : Bool) (q : ℕ) → q ≤ 32768 → signed s q ≡ pos (cond s (32768 - q) (32768 + q)) -ℤ pos 32768
-centre false q h = nat-eq (pos q) (pos (32768 + q) -ℤ pos 32768) (omega (arith, bal- (pos (32768 + q)) (pos 32768)))
-centre true q h = nat-eq (negℤ (pos q)) (pos (32768 - q) -ℤ pos 32768) (omega (arith, bal- (pos (32768 - q)) (pos 32768), neg-nat (pos q)))
+centre : (s : Bool) (q : ℕ) → q ≤ farthest → signed s q ≡ pos (cond s (farthest - q) (farthest + q)) -ℤ pos farthest
+centre false q h = nat-eq (pos q) (pos (farthest + q) -ℤ pos farthest) (omega (arith, bal- (pos (farthest + q)) (pos farthest)))
+centre true q h = nat-eq (negℤ (pos q)) (pos (farthest - q) -ℤ pos farthest) (omega (arith, bal- (pos (farthest - q)) (pos farthest), neg-nat (pos q)))
 
 pub nearest-is : (x : Float) → NearestIs x (shown x)
 nearest-is x = record {
   small = cut (toBits binary64 (add binary64 x (ofBits binary64 shift)));
   only = λ most z m e.
       let w = accepted-value most x z e in
-      sym (w .2) ∙ centre (w .0) (natAbs z) (omega (arith, w .3)) ∙ ap (λ (n : ℕ). pos n -ℤ pos 32768) (sym (shown-is x (w .0) (natAbs z) (omega (arith, w .3)) (w .1)));
+      sym (w .2) ∙ centre (w .0) (natAbs z) (omega (arith, w .3)) ∙ ap (λ (n : ℕ). pos n -ℤ pos farthest) (sym (shown-is x (w .0) (natAbs z) (omega (arith, w .3)) (w .1)));
 }
   where
     cut : (n : ℕ) → n % 0x400_0000 / 600 < 131072
@@ -248,7 +249,7 @@ equal-values (fin g m e) (fin j k d) s t n h v w =
         or true q g h = refl
         or false q g h = eq-eqb (n * c) 0 (ap (λ (k : ℕ). k * c) (eqb-true n 0 (g ∙ h)) ∙ zero-mul c)
 
-float-equal : (most : ℕ) (x : Float) (z : ℤ) → most ≤ 32768 → wholeOf most x ≡ Of z → eq (coordinateOf z) x ≡ true
+float-equal : (most : ℕ) (x : Float) (z : ℤ) → most ≤ farthest → wholeOf most x ≡ Of z → eq (coordinateOf z) x ≡ true
 unfolding coordinateOf
 float-equal most x z m e =
     let w = accepted-value most x z e in
@@ -266,25 +267,25 @@ float-equal most x z m e =
 
 -- ---- what the tests of the code say, where x can be u alone, counted from -32,768
 
-pub centred-le : (z : ℤ) (u most : ℕ) → z ≡ pos u -ℤ pos 32768 → 32768 ≤ u + most → u ≤ 32768 + most → natAbs z ≤ most
-centred-le (pos n) u most e h l = omega (arith, eq-nat e, bal- (pos u) (pos 32768))
-centred-le (negsuc n) u most e h l = omega (arith, eq-nat e, bal- (pos u) (pos 32768))
+pub centred-le : (z : ℤ) (u most : ℕ) → z ≡ pos u -ℤ pos farthest → farthest ≤ u + most → u ≤ farthest + most → natAbs z ≤ most
+centred-le (pos n) u most e h l = omega (arith, eq-nat e, bal- (pos u) (pos farthest))
+centred-le (negsuc n) u most e h l = omega (arith, eq-nat e, bal- (pos u) (pos farthest))
 
-beyond-most : (z : ℤ) (u most : ℕ) → z ≡ pos u -ℤ pos 32768 → (u + most < 32768) ⊎ (32768 + most < u) → natAbs z ≤ most → ⊥
-beyond-most (pos n) u most e (inl h) l = omega (arith, eq-nat e, bal- (pos u) (pos 32768))
-beyond-most (pos n) u most e (inr h) l = omega (arith, eq-nat e, bal- (pos u) (pos 32768))
-beyond-most (negsuc n) u most e (inl h) l = omega (arith, eq-nat e, bal- (pos u) (pos 32768))
-beyond-most (negsuc n) u most e (inr h) l = omega (arith, eq-nat e, bal- (pos u) (pos 32768))
+beyond-most : (z : ℤ) (u most : ℕ) → z ≡ pos u -ℤ pos farthest → (u + most < farthest) ⊎ (farthest + most < u) → natAbs z ≤ most → ⊥
+beyond-most (pos n) u most e (inl h) l = omega (arith, eq-nat e, bal- (pos u) (pos farthest))
+beyond-most (pos n) u most e (inr h) l = omega (arith, eq-nat e, bal- (pos u) (pos farthest))
+beyond-most (negsuc n) u most e (inl h) l = omega (arith, eq-nat e, bal- (pos u) (pos farthest))
+beyond-most (negsuc n) u most e (inr h) l = omega (arith, eq-nat e, bal- (pos u) (pos farthest))
 
-module _ (most : ℕ) (m : most ≤ 32768) (x : Float) (u : ℕ) (p : NearestIs x u) where
-  pub refused-far : (u + most < 32768) ⊎ (32768 + most < u) → Refused ≡ wholeOf most x
+module _ (most : ℕ) (m : most ≤ farthest) (x : Float) (u : ℕ) (p : NearestIs x u) where
+  pub refused-far : (u + most < farthest) ⊎ (farthest + most < u) → Refused ≡ wholeOf most x
   refused-far h = go (wholeOf most x) refl
     where
       go : (w : Whole) → wholeOf most x ≡ w → Refused ≡ w
       go Refused e = refl
       go (Of z) e = absurd (beyond-most z u most (p .only most z m e) h (accepted-value most x z e .3))
 
-  pub refused-other : (k : ℤ) → k ≡ pos u -ℤ pos 32768 → eq (coordinateOf k) x ≡ false → Refused ≡ wholeOf most x
+  pub refused-other : (k : ℤ) → k ≡ pos u -ℤ pos farthest → eq (coordinateOf k) x ≡ false → Refused ≡ wholeOf most x
   refused-other k i h = go (wholeOf most x) refl
     where
       go : (w : Whole) → wholeOf most x ≡ w → Refused ≡ w
@@ -311,8 +312,8 @@ known-bits b p = subst (λ (t : Bool). T (not t)) (sym (nanBits-is binary64 b)) 
 pub known-float : (b n : ℕ) → b ≡ n → IsAccepted (ofBits binary64 n) → T (not (isNan (ofBits binary64 b)))
 known-float b n e p = subst (λ (k : ℕ). T (not (isNan (ofBits binary64 k)))) (sym e) (accepted-no-nan (ofBits binary64 n) p)
 
-pub known-is : (x : Float) (u : ℕ) (k : ℤ) → NearestIs x u → k ≡ pos u -ℤ pos 32768 → IsAccepted x → Of (toZ w32 (ofZ w32 k)) ≡ wholeOf 32768 x
+pub known-is : (x : Float) (u : ℕ) (k : ℤ) → NearestIs x u → k ≡ pos u -ℤ pos farthest → IsAccepted x → Of (toZ w32 (ofZ w32 k)) ≡ wholeOf farthest x
 known-is x u k p e a =
-    let f : k ≡ a .0 = e ∙ sym (p .only 32768 (a .0) (omega arith) (a .1)) in
-    let l : natAbs k ≤ 32768 = subst (λ (z : ℤ). natAbs z ≤ 32768) (sym f) (accepted-value 32768 x (a .0) (a .1) .3) in
+    let f : k ≡ a .0 = e ∙ sym (p .only farthest (a .0) (omega arith) (a .1)) in
+    let l : natAbs k ≤ farthest = subst (λ (z : ℤ). natAbs z ≤ farthest) (sym f) (accepted-value farthest x (a .0) (a .1) .3) in
     ap Of (back k l ∙ f) ∙ sym (a .1)

@@ -15,7 +15,7 @@ use Rattle.grid.proofs.StepLaws.{endFrom-append}
 use Rattle.grid.specs.declared.Corner.{Corner}
 use Rattle.grid.specs.Grid.{corner, origin, eqZ, endFrom}
 use Rattle.grid.proofs.CornerLaws.{eqZ-sound, eqZ-refl}
-use Rattle.polygon_ring.specs.Ring.{straight, straightFrom, apart, directionOf, chainFrom}
+use Rattle.polygon_ring.specs.Ring.{straight, straightFrom, apart, directionOf, stepsAlong}
 use Rattle.polygon_ring_laws.specs.Passing.{PassesFrom}
 use Rattle.polygon_ring_laws.proofs.AxisLaws.{diff-swap, self-no}
 use Rattle.polygon_ring_laws.proofs.RunLaws.{ahead, ahead-end, run-ahead, direction-by, self-less}
@@ -35,10 +35,10 @@ fall x y h =
 
 -- ---- two corners in a line are the ends of a run
 
-pub record Joined (a b : Corner) : Type 0 where
-  pub some : 0 < apart a b
-  pub small : directionOf a b < 4
-  pub leads : ahead (apart a b) (directionOf a b) a ≡ b
+record Joined (a b : Corner) : Type 0 where
+  some : 0 < apart a b
+  small : directionOf a b < 4
+  leads : ahead (apart a b) (directionOf a b) a ≡ b
 
 apart-zero : (x y : ℤ) → natAbs (y -ℤ x) ≡ 0 → x ≤ℤ y → x ≡ y
 apart-zero x y e h = sym (nat-eq (x +ℤ pos 0) x (omega (arith, bal+ x (pos 0)))) ∙ ap (λ (n : ℕ). x +ℤ pos n) (sym e) ∙ climb x y h
@@ -115,7 +115,7 @@ module _ (a b : Corner) where
           let p : a .0 ≡ b .0 = nat-eq (a .0) (b .0) (omega (zarith, lt-false {a = a .0} {b = b .0} g, lt-false {a = b .0} {b = a .0} h)) in
           absurd (false≢true (sym f ∙ ap (λ (x : ℤ). eqZ x (b .0)) p ∙ eqZ-refl (b .0)))
 
-  pub joined : straight a b ≡ true → Joined a b
+  joined : straight a b ≡ true → Joined a b
   joined h = go (eqZ (a .0) (b .0)) (eqZ (a .1) (b .1)) refl refl h
     where
       go : (p q : Bool) → eqZ (a .0) (b .0) ≡ p → eqZ (a .1) (b .1) ≡ q → cond p (not q) q ≡ true → Joined a b
@@ -126,13 +126,13 @@ module _ (a b : Corner) where
 
 -- ---- along a whole ring
 
-pub passes : (a : Corner) (cs : List Corner) → straightFrom a cs ≡ true → PassesFrom a cs (chainFrom a cs)
+pub passes : (a : Corner) (cs : List Corner) → straightFrom a cs ≡ true → PassesFrom a cs (stepsAlong a cs)
 passes a [] e = refl
 passes a (b ∷ cs) e =
     let j = joined a b (and-left (straight a b) (straightFrom b cs) e) in
-    (apart a b, directionOf a b, chainFrom b cs, j .some, j .small, refl, ahead-end (apart a b) (directionOf a b) a ∙ j .leads, passes b cs (and-right (straight a b) (straightFrom b cs) e))
+    (apart a b, directionOf a b, stepsAlong b cs, j .some, j .small, refl, ahead-end (apart a b) (directionOf a b) a ∙ j .leads, passes b cs (and-right (straight a b) (straightFrom b cs) e))
 
-pub passes-one : (a : Corner) (cs : List Corner) (ds : List ℕ) → PassesFrom a cs ds → ds ≡ chainFrom a cs
+pub passes-one : (a : Corner) (cs : List Corner) (ds : List ℕ) → PassesFrom a cs ds → ds ≡ stepsAlong a cs
 passes-one a [] ds p = p
 passes-one a (b ∷ cs) ds (k, d, rest, some, small, e, leads, p) =
     let r = run-ahead k d a some small in
@@ -147,19 +147,19 @@ abbrev lastFrom : Corner → List Corner → Corner
 lastFrom a [] = a
 lastFrom a (b ∷ cs) = lastFrom b cs
 
-passes-end : (a : Corner) (cs : List Corner) → straightFrom a cs ≡ true → endFrom a (chainFrom a cs) ≡ lastFrom a cs
+passes-end : (a : Corner) (cs : List Corner) → straightFrom a cs ≡ true → endFrom a (stepsAlong a cs) ≡ lastFrom a cs
 passes-end a [] e = refl
 passes-end a (b ∷ cs) e =
     let j = joined a b (and-left (straight a b) (straightFrom b cs) e) in
-    endFrom-append a (replicate (apart a b) (directionOf a b)) (chainFrom b cs)
-    ∙ ap (λ (c : Corner). endFrom c (chainFrom b cs)) (ahead-end (apart a b) (directionOf a b) a ∙ j .leads)
+    endFrom-append a (replicate (apart a b) (directionOf a b)) (stepsAlong b cs)
+    ∙ ap (λ (c : Corner). endFrom c (stepsAlong b cs)) (ahead-end (apart a b) (directionOf a b) a ∙ j .leads)
     ∙ passes-end b cs (and-right (straight a b) (straightFrom b cs) e)
 
 last-at : (a : Corner) (cs : List Corner) → getD (a ∷ cs) (length cs) origin ≡ lastFrom a cs
 last-at a [] = refl
 last-at a (b ∷ cs) = last-at b cs
 
-pub ends-at : (a : Corner) (cs : List Corner) → straightFrom a cs ≡ true → endFrom a (chainFrom a cs) ≡ getD (a ∷ cs) (length (a ∷ cs) - 1) origin
+pub ends-at : (a : Corner) (cs : List Corner) → straightFrom a cs ≡ true → endFrom a (stepsAlong a cs) ≡ getD (a ∷ cs) (length (a ∷ cs) - 1) origin
 ends-at a cs e = passes-end a cs e ∙ sym (last-at a cs) ∙ ap (λ (n : ℕ). getD (a ∷ cs) n origin) (one (length cs))
   where
     one : (n : ℕ) → n ≡ suc n - 1

@@ -11,6 +11,7 @@ use lib.ListN.{take, drop}
 use lib.Ieee.{binary64, ofBits}
 use mir.Syntax.{w32}
 use mir.Val.{toZ, ofZ}
+use Rattle.answer.specs.Limits.{farthest}
 use Rattle.lists.specs.Lists.{any}
 use Rattle.lists.proofs.FindLaws.{or-false}
 use Rattle.grid.specs.declared.Corner.{Corner}
@@ -19,18 +20,18 @@ use Rattle.polygon_ring.specs.Bytes.{numberIn}
 use Rattle.polygon_ring.specs.Coordinate.{wholeOf}
 use Rattle.polygon_ring.specs.Ring.{both, mostAt, pointIn, pointAt, pointsFrom, isFaulty, cornerIn}
 use Rattle.polygon_laws.proofs.SignedLaws.{back}
-use Rattle.polygon_ring_laws.specs.Reading.{spotAt}
+use Rattle.polygon_ring_laws.specs.Reading.{gridPointOf}
 use Rattle.polygon_ring_laws.specs.Files.{xAt, yAt, IsPoint}
 use Rattle.polygon_ring_laws.specs.Nearest.{IsAccepted}
 use Rattle.polygon_ring_laws.proofs.TakeLaws.{accepted, accepted-value, accepts}
-use Rattle.polygon_ring.specs.declared.{Spot.Spot, Spot.the-variants.At, Spot.the-variants.Faulty, Whole.Whole, Whole.the-variants.Of, Whole.the-variants.Refused}
+use Rattle.polygon_ring.specs.declared.{GridPoint.GridPoint, GridPoint.the-variants.At, GridPoint.the-variants.Faulty, Whole.Whole, Whole.the-variants.Of, Whole.the-variants.Refused}
 
 clash : _≡_ {A = ℕ} 0 1 → ⊥
 clash z = omega arith
 
-both-good : (v w : Whole) (c : Corner) → both v w ≡ spotAt c → (v ≡ Of (c .0)) × (w ≡ Of (c .1))
+both-good : (v w : Whole) (c : Corner) → both v w ≡ gridPointOf c → (v ≡ Of (c .0)) × (w ≡ Of (c .1))
 both-good (Of a) (Of b) c e =
-    (ap (λ (s : Spot). Of (cornerIn s .0)) e, ap (λ (s : Spot). Of (cornerIn s .1)) e)
+    (ap (λ (s : GridPoint). Of (cornerIn s .0)) e, ap (λ (s : GridPoint). Of (cornerIn s .1)) e)
 both-good (Of a) Refused c e = let z : _≡_ {A = ℕ} 0 1 = cc in absurd (clash z)
 both-good Refused w c e = let z : _≡_ {A = ℕ} 0 1 = cc in absurd (clash z)
 
@@ -40,19 +41,19 @@ both-parts (Of a) (Of b) e = ((a, refl), (b, refl))
 both-parts (Of a) Refused e = absurd (false≢true (sym e))
 both-parts Refused w e = absurd (false≢true (sym e))
 
-pub point-parts : (little : Bool) (s : List ℕ) → isFaulty (pointIn 32768 little s) ≡ false
+pub point-parts : (little : Bool) (s : List ℕ) → isFaulty (pointIn farthest little s) ≡ false
     → IsAccepted (ofBits binary64 (numberIn little (take 8 s))) × IsAccepted (ofBits binary64 (numberIn little (take 8 (drop 8 s))))
 unfolding pointIn
-point-parts little s e = both-parts (wholeOf 32768 (ofBits binary64 (numberIn little (take 8 s)))) (wholeOf 32768 (ofBits binary64 (numberIn little (take 8 (drop 8 s))))) e
+point-parts little s e = both-parts (wholeOf farthest (ofBits binary64 (numberIn little (take 8 s)))) (wholeOf farthest (ofBits binary64 (numberIn little (take 8 (drop 8 s))))) e
 
-pub point-corner : (little : Bool) (s : List ℕ) (x y : ℤ) → Of x ≡ wholeOf 32768 (ofBits binary64 (numberIn little (take 8 s)))
-    → Of y ≡ wholeOf 32768 (ofBits binary64 (numberIn little (take 8 (drop 8 s)))) → corner (toZ w32 (ofZ w32 x)) (toZ w32 (ofZ w32 y)) ≡ cornerIn (pointIn 32768 little s)
+pub point-corner : (little : Bool) (s : List ℕ) (x y : ℤ) → Of x ≡ wholeOf farthest (ofBits binary64 (numberIn little (take 8 s)))
+    → Of y ≡ wholeOf farthest (ofBits binary64 (numberIn little (take 8 (drop 8 s)))) → corner (toZ w32 (ofZ w32 x)) (toZ w32 (ofZ w32 y)) ≡ cornerIn (pointIn farthest little s)
 unfolding pointIn
 point-corner little s x y e f =
-    ap₂ corner (back x (accepted-value 32768 (ofBits binary64 (numberIn little (take 8 s))) x (sym e) .3)) (back y (accepted-value 32768 (ofBits binary64 (numberIn little (take 8 (drop 8 s)))) y (sym f) .3))
+    ap₂ corner (back x (accepted-value farthest (ofBits binary64 (numberIn little (take 8 s))) x (sym e) .3)) (back y (accepted-value farthest (ofBits binary64 (numberIn little (take 8 (drop 8 s)))) y (sym f) .3))
     ∙ ap cornerIn (ap₂ both e f)
 
-pub point-good : (little : Bool) (s : List ℕ) (i : ℕ) (c : Corner) → (pointAt little s i ≡ spotAt c) ↔ IsPoint little s i c
+pub point-good : (little : Bool) (s : List ℕ) (i : ℕ) (c : Corner) → (pointAt little s i ≡ gridPointOf c) ↔ IsPoint little s i c
 unfolding pointAt pointIn
 point-good little s i c = (
   (λ e.
@@ -61,11 +62,11 @@ point-good little s i c = (
   (λ p. ap₂ both (accepts (mostAt i) (xAt little s i) (c .0) (p .0)) (accepts (mostAt i) (yAt little s i) (c .1) (p .1))),
 )
 
-sound-good : (j : Spot) → isFaulty j ≡ false → j ≡ spotAt (cornerIn j)
+sound-good : (j : GridPoint) → isFaulty j ≡ false → j ≡ gridPointOf (cornerIn j)
 sound-good (At x y) e = refl
 sound-good Faulty e = absurd (false≢true (sym e))
 
-good-all : (little : Bool) (s : List ℕ) (i n : ℕ) → any isFaulty (pointsFrom little s i n) ≡ false → (k : ℕ) → k < n → pointAt little s (i + k) ≡ spotAt (cornerIn (pointAt little s (i + k)))
+good-all : (little : Bool) (s : List ℕ) (i n : ℕ) → any isFaulty (pointsFrom little s i n) ≡ false → (k : ℕ) → k < n → pointAt little s (i + k) ≡ gridPointOf (cornerIn (pointAt little s (i + k)))
 unfolding pointsFrom
 good-all little s i zero e k h = absurd (none k h)
   where
@@ -79,7 +80,7 @@ good-all little s i (suc n) e zero h =
 good-all little s i (suc n) e (suc k) h =
     ap (pointAt little s) (next i k)
     ∙ good-all little s (suc i) n (or-false (isFaulty (pointAt little s i)) (any isFaulty (pointsFrom little s (suc i) n)) e .1) k (omega arith)
-    ∙ ap (λ (m : ℕ). spotAt (cornerIn (pointAt little s m))) (sym (next i k))
+    ∙ ap (λ (m : ℕ). gridPointOf (cornerIn (pointAt little s m))) (sym (next i k))
   where
     next : (i k : ℕ) → i + suc k ≡ suc i + k
     next i k = omega arith
@@ -105,7 +106,7 @@ all-good little s i (suc n) f =
 -- no point is refused exactly where each is 600 times a corner in range
 pub sixteen-exactly : (little : Bool) (s : List ℕ) (n : ℕ) → (any isFaulty (pointsFrom little s 0 n) ≡ false) ↔ ((i : ℕ) → i < n → (c : Corner) × IsPoint little s i c)
 sixteen-exactly little s n = (
-  (λ e i h. (cornerIn (pointAt little s i), point-good little s i (cornerIn (pointAt little s i)) .0 (at i ∙ good-all little s 0 n e i h ∙ ap (λ (m : ℕ). spotAt (cornerIn (pointAt little s m))) (zero-plus i)))),
+  (λ e i h. (cornerIn (pointAt little s i), point-good little s i (cornerIn (pointAt little s i)) .0 (at i ∙ good-all little s 0 n e i h ∙ ap (λ (m : ℕ). gridPointOf (cornerIn (pointAt little s m))) (zero-plus i)))),
   (λ f. all-good little s 0 n (λ i h. ap (λ (m : ℕ). isFaulty (pointAt little s m)) (zero-plus i) ∙ ap isFaulty (point-good little s i (f i h .0) .1 (f i h .1)))),
 )
   where

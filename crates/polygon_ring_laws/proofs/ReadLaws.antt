@@ -18,7 +18,7 @@ use Rattle.polygon_ring_laws.specs.Reading.{ringFrom, ringJudged, points
 use Rattle.polygon_laws.proofs.BytesLaws.{part}
 use Rattle.polygon_ring_laws.proofs.RingLaws.{ring-first, ring-some, not-true, not-false, length-stepsFrom}
 use Rattle.answer.specs.declared.{Judged.Judged, Judged.the-variants.Good, Judged.the-variants.Refused, Refusal.Refusal, Refusal.the-variants.FileLength, Refusal.the-variants.FileKind, Refusal.the-variants.BadCoordinate, Refusal.the-variants.BadRing, Refusal.the-variants.TooLong, Refusal.the-variants.ChainRoom}
-use Rattle.polygon_ring.specs.declared.{Spot.Spot, Found.Found, Given.Given}
+use Rattle.polygon_ring.specs.declared.{GridPoint.GridPoint, Found.Found, Given.Given}
 
 clash : _≡_ {A = ℕ} 0 1 → ⊥
 clash z = omega arith
@@ -37,7 +37,7 @@ given-refused (Refused r) ps x e = let z : r ≡ x = cc in ap Refused z
 abbrev pub judgedBy : Bool → Bool → Bool → Bool → Judged
 judgedBy bad ring long short = firstOf (when bad BadCoordinate ∷ when (not ring) BadRing ∷ when long (TooLong mostSteps) ∷ when short ChainRoom ∷ [])
 
-pub ring-tests : (ps : List Spot) (room : ℕ) (bad ring long short : Bool) → any isFaulty ps ≡ bad → isRing (map cornerIn ps) ≡ ring → ltb mostSteps (lengthOf (map cornerIn ps)) ≡ long
+pub ring-tests : (ps : List GridPoint) (room : ℕ) (bad ring long short : Bool) → any isFaulty ps ≡ bad → isRing (map cornerIn ps) ≡ ring → ltb mostSteps (lengthOf (map cornerIn ps)) ≡ long
     → ltb room (lengthOf (map cornerIn ps)) ≡ short → ringJudged ps room ≡ judgedBy bad ring long short
 ring-tests ps room bad ring long short e f u v =
     let n = lengthOf (map cornerIn ps) in
@@ -74,7 +74,7 @@ module _ (little : Bool) (file : List ℕ) (r : Bool) (e : r ≡ eqb (length fil
 
     module _ (room : ℕ) (g : Given) (p : g ≡ givenOf (ringJudged (pointsFrom little (take (length file - 13) (drop 13 file)) 0 ((length file - 13) / 16)) room) (ringFrom little (take (length file - 13) (drop 13 file)) 0 ((length file - 13) / 16))) where
       given : g ≡ givenOf (ringJudged (pointsIn little file) room) (map cornerIn (pointsIn little file))
-      given = p ∙ ap (λ (ps : List Spot). givenOf (ringJudged ps room) (map cornerIn ps)) there
+      given = p ∙ ap (λ (ps : List GridPoint). givenOf (ringJudged ps room) (map cornerIn ps)) there
 
       -- what the writing of the chain asks
       pub ready : (x : Found) → g ≡ Given.Chain x
@@ -98,7 +98,7 @@ module _ (little : Bool) (file : List ℕ) (r : Bool) (e : r ≡ eqb (length fil
             answer = given ∙ ap (λ (c : Judged). givenOf c ring) (ap (ringJudged (pointsIn little file)) q ∙ sym (judged (length out)));
             buffer =
                 w
-                ∙ ap (λ (ps : List Spot). chainOfPoints (map cornerIn ps) ++ drop (lengthOf (map cornerIn ps)) out) there
+                ∙ ap (λ (ps : List GridPoint). chainOfPoints (map cornerIn ps) ++ drop (lengthOf (map cornerIn ps)) out) there
                 ∙ ap (λ (k : ℕ). chainOfPoints ring ++ drop k out) (sym (length-stepsFrom (startOf ring) (laterOf ring)))
                 ∙ ap (λ (c : Judged). laidIf c (chainOfPoints ring) out) (sym j);
           }

@@ -12,45 +12,45 @@ use lib.Ieee.{Float, binary64, ofBits}
 use lib.ListN.{length, take, drop, replicate, set, getD, length-append, length-drop, length-take, length-replicate}
 use Rattle.lists.specs.Lists.{any}
 use Rattle.lists.proofs.GatherLaws.{and-left}
-use Rattle.answer.specs.Limits.{mostSteps}
+use Rattle.answer.specs.Limits.{mostSteps, mostStart, farthest}
 use Rattle.grid.specs.declared.Corner.{Corner}
 use Rattle.grid.specs.Grid.{origin, same}
 use Rattle.polygon_ring.specs.Bytes.{numberIn}
 use Rattle.polygon_ring.specs.Coordinate.{wholeOf}
-use Rattle.polygon_ring.specs.Ring.{both, mostAt, pointIn, pointAt, pointsFrom, isFaulty, cornerIn, straight, straightFrom, apart, lengthFrom, directionOf, chainFrom, startOf, laterOf, lengthOf, chainOfPoints, isRing}
-use Rattle.polygon_ring_laws.specs.Reading.{Near, PointIs, ringFrom, capped}
+use Rattle.polygon_ring.specs.Ring.{both, mostAt, pointIn, pointAt, pointsFrom, isFaulty, cornerIn, straight, straightFrom, apart, lengthFrom, directionOf, stepsAlong, startOf, laterOf, lengthOf, chainOfPoints, isRing}
+use Rattle.polygon_ring_laws.specs.Reading.{PointFits, PointIs, ringFrom, capped}
 use Rattle.polygon_laws.proofs.BytesLaws.{Laid, laid-more, laid-last, Laying, laying-first, laying-more, laying-last, over-lent, part}
 use Rattle.polygon_ring_laws.proofs.TakeLaws.{accepted}
-use Rattle.polygon_ring.specs.declared.{Point.Point, Spot.Spot, Whole.Whole, Whole.the-variants.Of, Whole.the-variants.Refused}
+use Rattle.polygon_ring.specs.declared.{Point.Point, GridPoint.GridPoint, Whole.Whole, Whole.the-variants.Of, Whole.the-variants.Refused}
 
 -- ---- one point
 
-pub point-is : (most : ℕ) (little : Bool) (s : List ℕ) (j : Spot) (p : Point) → PointIs little s p → j ≡ both (wholeOf most (p .x)) (wholeOf most (p .y)) → j ≡ pointIn most little s
+pub point-is : (most : ℕ) (little : Bool) (s : List ℕ) (j : GridPoint) (p : Point) → PointIs little s p → j ≡ both (wholeOf most (p .x)) (wholeOf most (p .y)) → j ≡ pointIn most little s
 unfolding pointIn
 point-is most little s j p q e = e ∙ ap₂ (λ (x y : Float). both (wholeOf most x) (wholeOf most y)) (q .x) (q .y)
 
-pub first-is : (little : Bool) (s : List ℕ) → pointIn 16384 little s ≡ pointAt little s 0
+pub first-is : (little : Bool) (s : List ℕ) → pointIn mostStart little s ≡ pointAt little s 0
 unfolding pointAt
 first-is little s = refl
 
-pub later-is : (little : Bool) (s : List ℕ) (i : ℕ) → 0 < i → pointIn 32768 little (take (length s - 16 * i) (drop (16 * i) s)) ≡ pointAt little s i
+pub later-is : (little : Bool) (s : List ℕ) (i : ℕ) → 0 < i → pointIn farthest little (take (length s - 16 * i) (drop (16 * i) s)) ≡ pointAt little s i
 unfolding pointAt
 later-is little s i h = ap₂ (λ (m : ℕ) (z : List ℕ). pointIn m little z) (most i h) (part s (16 * i))
   where
-    most : (i : ℕ) → 0 < i → 32768 ≡ mostAt i
+    most : (i : ℕ) → 0 < i → farthest ≡ mostAt i
     most zero h = absurd (omega arith)
     most (suc i) h = refl
 
-pub mostAt-le : (i : ℕ) → mostAt i ≤ 32768
+pub mostAt-le : (i : ℕ) → mostAt i ≤ farthest
 mostAt-le zero = omega arith
 mostAt-le (suc i) = omega arith
 
-within : (most : ℕ) (x y : Float) (v w : Whole) → most ≤ 32768 → wholeOf most x ≡ v → wholeOf most y ≡ w → Near (cornerIn (both v w))
+within : (most : ℕ) (x y : Float) (v w : Whole) → most ≤ farthest → wholeOf most x ≡ v → wholeOf most y ≡ w → PointFits (cornerIn (both v w))
 within most x y (Of a) (Of b) h e f = record { x = omega (arith, accepted most x a e .1); y = omega (arith, accepted most y b f .1) }
 within most x y (Of a) Refused h e f = record { x = omega arith; y = omega arith }
 within most x y Refused w h e f = record { x = omega arith; y = omega arith }
 
-pub near-at : (little : Bool) (s : List ℕ) (i : ℕ) → Near (cornerIn (pointAt little s i))
+pub near-at : (little : Bool) (s : List ℕ) (i : ℕ) → PointFits (cornerIn (pointAt little s i))
 unfolding pointAt pointIn
 near-at little s i =
     let z = drop (16 * i) s in
@@ -60,13 +60,13 @@ near-at little s i =
 
 -- ---- the points that are left
 
-pub places-next : (little : Bool) (s : List ℕ) (i n : ℕ) → i < n → pointsFrom little s i (n - i) ≡ pointAt little s i ∷ pointsFrom little s (i + 1) (n - (i + 1))
+places-next : (little : Bool) (s : List ℕ) (i n : ℕ) → i < n → pointsFrom little s i (n - i) ≡ pointAt little s i ∷ pointsFrom little s (i + 1) (n - (i + 1))
 unfolding pointsFrom
 places-next little s i n h =
     let e : n - i ≡ suc (n - (i + 1)) = omega arith in
     ap (pointsFrom little s i) e ∙ ap (λ (m : ℕ). pointAt little s i ∷ pointsFrom little s m (n - (i + 1))) (sym (add-one i))
 
-pub places-none : (little : Bool) (s : List ℕ) (i n : ℕ) → n ≤ i → pointsFrom little s i (n - i) ≡ []
+places-none : (little : Bool) (s : List ℕ) (i n : ℕ) → n ≤ i → pointsFrom little s i (n - i) ≡ []
 unfolding pointsFrom
 places-none little s i n h = let e : n - i ≡ 0 = omega arith in ap (pointsFrom little s i) e
 
@@ -87,7 +87,7 @@ ring-first little s n h = ap (map cornerIn) (places-all little s n) ∙ corners-
 pub faulty-first : (little : Bool) (s : List ℕ) (n : ℕ) → any isFaulty (pointsFrom little s 0 n) ≡ any isFaulty (pointsFrom little s 0 (n - 0))
 faulty-first little s n = ap (any isFaulty) (places-all little s n)
 
-pub faulty-next : (little : Bool) (s : List ℕ) (i n : ℕ) (b : Bool) → i < n → b ≡ isFaulty (pointAt little s i)
+faulty-next : (little : Bool) (s : List ℕ) (i n : ℕ) (b : Bool) → i < n → b ≡ isFaulty (pointAt little s i)
     → any isFaulty (pointsFrom little s i (n - i)) ≡ (b || any isFaulty (pointsFrom little s (i + 1) (n - (i + 1))))
 faulty-next little s i n b h e = ap (any isFaulty) (places-next little s i n h) ∙ ap (λ (t : Bool). t || any isFaulty (pointsFrom little s (i + 1) (n - (i + 1)))) (sym e)
 
@@ -95,7 +95,7 @@ pub faulty-found : (little : Bool) (s : List ℕ) (i n : ℕ) (b : Bool) → i <
     → any isFaulty (pointsFrom little s 0 n) ≡ any isFaulty (pointsFrom little s i (n - i)) → true ≡ any isFaulty (pointsFrom little s 0 n)
 faulty-found little s i n b h e f p = sym (p ∙ faulty-next little s i n b h e ∙ ap (λ (t : Bool). t || any isFaulty (pointsFrom little s (i + 1) (n - (i + 1)))) f)
 
-pub faulty-more : (little : Bool) (s : List ℕ) (i n : ℕ) (b : Bool) → i < n → b ≡ isFaulty (pointAt little s i) → b ≡ false
+faulty-more : (little : Bool) (s : List ℕ) (i n : ℕ) (b : Bool) → i < n → b ≡ isFaulty (pointAt little s i) → b ≡ false
     → any isFaulty (pointsFrom little s 0 n) ≡ any isFaulty (pointsFrom little s i (n - i)) → any isFaulty (pointsFrom little s 0 n) ≡ any isFaulty (pointsFrom little s (i + 1) (n - (i + 1)))
 faulty-more little s i n b h e f p = p ∙ faulty-next little s i n b h e ∙ ap (λ (t : Bool). t || any isFaulty (pointsFrom little s (i + 1) (n - (i + 1)))) f
 
@@ -109,13 +109,13 @@ pub record Measuring (little : Bool) (s : List ℕ) (n : ℕ) (a : Corner) (line
   pub sound : any isFaulty (pointsFrom little s 0 n) ≡ any isFaulty (pointsFrom little s i (n - i))
   pub straight : straightFrom (cornerIn (pointAt little s 0)) (rest little s n 1) ≡ (line && straightFrom a (rest little s n i))
   pub total : capped (lengthFrom (cornerIn (pointAt little s 0)) (rest little s n 1)) ≡ capped (steps + lengthFrom a (rest little s n i))
-  pub small : steps ≤ 16385
+  pub small : steps ≤ suc mostSteps
   pub under : capped steps ≡ steps
   pub some : 0 < i
   pub within : i ≤ n
 
-pub near-of : (little : Bool) (s : List ℕ) (i : ℕ) (a : Corner) → a ≡ cornerIn (pointAt little s i) → Near a
-near-of little s i a e = subst Near (sym e) (near-at little s i)
+pub near-of : (little : Bool) (s : List ℕ) (i : ℕ) (a : Corner) → a ≡ cornerIn (pointAt little s i) → PointFits a
+near-of little s i a e = subst PointFits (sym e) (near-at little s i)
 
 pub measuring-first : (little : Bool) (s : List ℕ) (n : ℕ) (b : Bool) (a : Corner) → 0 < n → b ≡ isFaulty (pointAt little s 0) → b ≡ false → a ≡ cornerIn (pointAt little s 0) → Measuring little s n a true 0 1
 measuring-first little s n b a h f g e = record {
@@ -132,27 +132,27 @@ measuring-first little s n b a h f g e = record {
     plain : (n : ℕ) → n ≡ 0 + n
     plain n = omega arith
 
-pub measuring-near : {little : Bool} {s : List ℕ} {n : ℕ} {a : Corner} {line : Bool} {steps i : ℕ} → Measuring little s n a line steps i → Near a
+pub measuring-near : {little : Bool} {s : List ℕ} {n : ℕ} {a : Corner} {line : Bool} {steps i : ℕ} → Measuring little s n a line steps i → PointFits a
 measuring-near {little = little} {s = s} {a = a} {i = i} p = near-of little s (i - 1) a (p .here)
 
-pub capped-le : (n : ℕ) → capped n ≤ 16385
+capped-le : (n : ℕ) → capped n ≤ suc mostSteps
 capped-le n = go (ltb mostSteps n) refl
   where
-    go : (b : Bool) → ltb mostSteps n ≡ b → cond b 16385 n ≤ 16385
+    go : (b : Bool) → ltb mostSteps n ≡ b → cond b (suc mostSteps) n ≤ suc mostSteps
     go true e = omega arith
     go false e = omega (arith, ltb-false mostSteps n e)
 
-capped-many : (n : ℕ) → mostSteps < n → capped n ≡ 16385
-capped-many n h = ap (λ (b : Bool). cond b 16385 n) (lt-ltb mostSteps n h)
+capped-many : (n : ℕ) → mostSteps < n → capped n ≡ suc mostSteps
+capped-many n h = ap (λ (b : Bool). cond b (suc mostSteps) n) (lt-ltb mostSteps n h)
 
 capped-few : (n : ℕ) → n ≤ mostSteps → capped n ≡ n
-capped-few n h = ap (λ (b : Bool). cond b 16385 n) (le-ltb mostSteps n h)
+capped-few n h = ap (λ (b : Bool). cond b (suc mostSteps) n) (le-ltb mostSteps n h)
 
 capped-twice : (n : ℕ) → capped (capped n) ≡ capped n
 capped-twice n = go (ltb mostSteps n) refl
   where
     go : (b : Bool) → ltb mostSteps n ≡ b → capped (capped n) ≡ capped n
-    go true e = let p : capped n ≡ 16385 = capped-many n (ltb-true mostSteps n e) in ap capped p ∙ sym p
+    go true e = let p : capped n ≡ suc mostSteps = capped-many n (ltb-true mostSteps n e) in ap capped p ∙ sym p
     go false e = let p : capped n ≡ n = capped-few n (ltb-false mostSteps n e) in ap capped p
 
 capped-sum : (m n : ℕ) → capped (m + n) ≡ capped (capped m + n)
@@ -160,7 +160,7 @@ capped-sum m n = go (ltb mostSteps m) refl
   where
     go : (b : Bool) → ltb mostSteps m ≡ b → capped (m + n) ≡ capped (capped m + n)
     go true e =
-        let p : capped m ≡ 16385 = capped-many m (ltb-true mostSteps m e) in
+        let p : capped m ≡ suc mostSteps = capped-many m (ltb-true mostSteps m e) in
         capped-many (m + n) (omega (arith, ltb-true mostSteps m e)) ∙ sym (capped-many (capped m + n) (omega arith))
     go false e = ap (λ (k : ℕ). capped (k + n)) (sym (capped-few m (ltb-false mostSteps m e)))
 
@@ -228,7 +228,7 @@ whole-is len k n h z e = go (eqb k ((len - 13) / 16)) refl
 
 -- ---- n times the same step
 
-pub getD-replicate : (n d i : ℕ) → i < n → getD (replicate n d) i 0 ≡ d
+getD-replicate : (n d i : ℕ) → i < n → getD (replicate n d) i 0 ≡ d
 getD-replicate zero d i h = absurd (omega arith)
 getD-replicate (suc n) d zero h = refl
 getD-replicate (suc n) d (suc i) h = getD-replicate n d i (omega arith)
@@ -242,14 +242,14 @@ fill-last l out d n i h p = laid-last (subst (λ (k : ℕ). k ≤ i) (sym (lengt
 
 -- ---- the pass that writes the chain
 
-pub length-stepsFrom : (a : Corner) (cs : List Corner) → length (chainFrom a cs) ≡ lengthFrom a cs
+pub length-stepsFrom : (a : Corner) (cs : List Corner) → length (stepsAlong a cs) ≡ lengthFrom a cs
 length-stepsFrom a [] = refl
 length-stepsFrom a (b ∷ cs) =
-    length-append (replicate (apart a b) (directionOf a b)) (chainFrom b cs) ∙ ap₂ _+_ (length-replicate (apart a b) (directionOf a b)) (length-stepsFrom b cs)
+    length-append (replicate (apart a b) (directionOf a b)) (stepsAlong b cs) ∙ ap₂ _+_ (length-replicate (apart a b) (directionOf a b)) (length-stepsFrom b cs)
 
 pub record Chaining (little : Bool) (s : List ℕ) (n : ℕ) (l out : List ℕ) (a : Corner) (at i : ℕ) : Type 0 where
-  pub near : Near a
-  pub laid : Laying l (chainFrom (cornerIn (pointAt little s 0)) (rest little s n 1)) (chainFrom a (rest little s n i)) out at
+  pub near : PointFits a
+  pub laid : Laying l (stepsAlong (cornerIn (pointAt little s 0)) (rest little s n 1)) (stepsAlong a (rest little s n i)) out at
   pub total : lengthFrom (cornerIn (pointAt little s 0)) (rest little s n 1) ≡ at + lengthFrom a (rest little s n i)
   pub some : 0 < i
   pub within : i ≤ n
@@ -257,7 +257,7 @@ pub record Chaining (little : Bool) (s : List ℕ) (n : ℕ) (l out : List ℕ) 
 pub chaining-first : (little : Bool) (s : List ℕ) (n : ℕ) (l : List ℕ) (a : Corner) → 0 < n → a ≡ cornerIn (pointAt little s 0) → Chaining little s n l l a 0 1
 chaining-first little s n l a h e = record {
   near = near-of little s 0 a e;
-  laid = laying-first (chainFrom a (rest little s n 1)) (ap (λ (c : Corner). chainFrom c (rest little s n 1)) (sym e));
+  laid = laying-first (stepsAlong a (rest little s n 1)) (ap (λ (c : Corner). stepsAlong c (rest little s n 1)) (sym e));
   total = ap (λ (c : Corner). lengthFrom c (rest little s n 1)) (sym e) ∙ plain (lengthFrom a (rest little s n 1));
   some = omega arith;
   within = omega arith;
@@ -271,8 +271,8 @@ module _ (little : Bool) (s : List ℕ) (n : ℕ) (l out : List ℕ) (a b : Corn
   gone : lengthFrom a (rest little s n i) ≡ apart a b + lengthFrom b (rest little s n (i + 1))
   gone = ap (lengthFrom a) (corners-next little s i n h) ∙ ap (λ (d : Corner). apart a d + lengthFrom d (rest little s n (i + 1))) (sym e)
 
-  going : chainFrom a (rest little s n i) ≡ replicate (apart a b) (directionOf a b) ++ chainFrom b (rest little s n (i + 1))
-  going = ap (chainFrom a) (corners-next little s i n h) ∙ ap (λ (d : Corner). replicate (apart a d) (directionOf a d) ++ chainFrom d (rest little s n (i + 1))) (sym e)
+  going : stepsAlong a (rest little s n i) ≡ replicate (apart a b) (directionOf a b) ++ stepsAlong b (rest little s n (i + 1))
+  going = ap (stepsAlong a) (corners-next little s i n h) ∙ ap (λ (d : Corner). replicate (apart a d) (directionOf a d) ++ stepsAlong d (rest little s n (i + 1))) (sym e)
 
   pub chaining-room : at + apart a b ≤ length out
   chaining-room =
@@ -288,7 +288,7 @@ module _ (little : Bool) (s : List ℕ) (n : ℕ) (l out : List ℕ) (a b : Corn
       let room : at + apart a b ≤ length out = chaining-room in
       let B = replicate k d in
       let size : k ≡ length B = sym (length-replicate k d) in
-      let more = chainFrom b (rest little s n (i + 1)) in
+      let more = stepsAlong b (rest little s n (i + 1)) in
       record {
         near = near-of little s i b e;
         laid =
@@ -307,7 +307,7 @@ pub chaining-last : (little : Bool) (s : List ℕ) (n : ℕ) (l out : List ℕ) 
 chaining-last little s n l out a at i m h p =
     let none : rest little s n i ≡ [] = ap (map cornerIn) (places-none little s i n h) in
     let e : lengthOf (ringFrom little s 0 n) ≡ at = ap lengthOf (ring-first little s n m) ∙ p .total ∙ ap (λ (c : List Corner). at + lengthFrom a c) none ∙ plain at in
-    laying-last (ap (chainFrom a) none) (p .laid)
+    laying-last (ap (stepsAlong a) none) (p .laid)
     ∙ ap₂ (λ (c : List Corner) (k : ℕ). chainOfPoints c ++ drop k l) (sym (ring-first little s n m)) (sym e)
   where
     plain : (k : ℕ) → k + 0 ≡ k
@@ -333,17 +333,17 @@ getD-places little s i (suc n) (suc k) h = getD-places little s (suc i) n k (ome
     over-one i k = omega arith
 
 -- the ends, by the points
-abbrev pub closedAt : Bool → List ℕ → ℕ → Bool
+abbrev closedAt : Bool → List ℕ → ℕ → Bool
 closedAt little s n = leb 4 n && same (cornerIn (pointAt little s (n - 1))) (cornerIn (pointAt little s 0))
 
-pub closed-some : (little : Bool) (s : List ℕ) (n : ℕ) (r : Bool) → r ≡ closedAt little s n → r ≡ true → 0 < n
+closed-some : (little : Bool) (s : List ℕ) (n : ℕ) (r : Bool) → r ≡ closedAt little s n → r ≡ true → 0 < n
 closed-some little s n r e f = go (leb 4 n) refl
   where
     go : (b : Bool) → leb 4 n ≡ b → 0 < n
     go true p = omega (arith, leb-true 4 n p)
     go false p = absurd (false≢true (sym (ap (λ (t : Bool). t && same (cornerIn (pointAt little s (n - 1))) (cornerIn (pointAt little s 0))) p) ∙ sym e ∙ f))
 
-pub ring-is : (little : Bool) (s : List ℕ) (n : ℕ) → isRing (ringFrom little s 0 n) ≡ (closedAt little s n && straightFrom (startOf (ringFrom little s 0 n)) (laterOf (ringFrom little s 0 n)))
+ring-is : (little : Bool) (s : List ℕ) (n : ℕ) → isRing (ringFrom little s 0 n) ≡ (closedAt little s n && straightFrom (startOf (ringFrom little s 0 n)) (laterOf (ringFrom little s 0 n)))
 ring-is little s zero = ap (λ (k : ℕ). leb 4 k && same (getD (ringFrom little s 0 zero) (k - 1) origin) (startOf (ringFrom little s 0 zero)) && straightFrom (startOf (ringFrom little s 0 zero)) (laterOf (ringFrom little s 0 zero))) (length-places little s 0 zero)
 ring-is little s (suc n) =
     let ps = ringFrom little s 0 (suc n) in

@@ -74,7 +74,7 @@ pred-minus x k = nat-eq (predℤ (x -ℤ pos k)) (x -ℤ pos (suc k)) (omega (ar
 minus-pred : (x : ℤ) (k : ℕ) → predℤ x -ℤ pos k ≡ x -ℤ pos (suc k)
 minus-pred x k = nat-eq (predℤ x -ℤ pos k) (x -ℤ pos (suc k)) (omega (arith, bal- (predℤ x) (pos k), bal- x (pos (suc k)), bal-pred x))
 
-pub ahead-zero : (d : ℕ) (s : Corner) → ahead 0 d s ≡ s
+ahead-zero : (d : ℕ) (s : Corner) → ahead 0 d s ≡ s
 ahead-zero zero s = ap₂ corner (plus-zero (s .0)) refl
 ahead-zero (suc zero) s = ap₂ corner refl (plus-zero (s .1))
 ahead-zero (suc (suc zero)) s = ap₂ corner (minus-zero (s .0)) refl

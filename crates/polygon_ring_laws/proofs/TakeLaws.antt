@@ -15,12 +15,13 @@ use lib.Ieee.{Float, nan, inf, fin, binary64, up, down, ofInt, toBits, ofBits}
 use lib.Ieee.Bits.{ofBits-toBits, toBits-lt}
 use lib.Ieee.Fits.{down-pos, ofInt-fits}
 use lib.Ieee.Exact.{HasValue}
+use Rattle.answer.specs.Limits.{farthest}
 use Rattle.polygon_ring.specs.Bytes.{numberIn}
 use Rattle.polygon.specs.Coordinate.{scale, signed, coordinateOf, IsWhole}
 use Rattle.polygon_ring.specs.Coordinate.{pick, wholeAt, wholeOf}
 use Rattle.polygon.specs.Polygon.{coordinateBytes, pointBytes}
 use Rattle.polygon_ring.specs.Ring.{both}
-use Rattle.polygon_ring_laws.specs.Reading.{spotAt}
+use Rattle.polygon_ring_laws.specs.Reading.{gridPointOf}
 use Rattle.polygon_ring_laws.specs.Files.{IsCoordinate}
 use Rattle.polygon_ring_laws.proofs.NumberLaws.{numberOf-bytesOf}
 use Rattle.polygon_laws.proofs.BytesLaws.{length-bytesOf}
@@ -119,7 +120,7 @@ float-back : (z : ℤ) → ofBits binary64 (toBits binary64 (coordinateOf z)) �
 unfolding coordinateOf
 float-back z = ofBits-toBits binary64 (ofInt binary64 (pos scale *ℤ z)) (ofInt-fits binary64 (pos scale *ℤ z))
 
-pub round-trip : (most : ℕ) (z : ℤ) → natAbs z ≤ most → most ≤ 32768 → wholeOf most (ofBits binary64 (numberIn true (coordinateBytes z))) ≡ Of z
+round-trip : (most : ℕ) (z : ℤ) → natAbs z ≤ most → most ≤ farthest → wholeOf most (ofBits binary64 (numberIn true (coordinateBytes z))) ≡ Of z
 round-trip most z h m = ap (λ (b : ℕ). wholeOf most (ofBits binary64 b)) (bits-back z) ∙ ap (wholeOf most) (float-back z) ∙ wholeOf-coordinateOf most z h m
 
 -- ---- points and rings
@@ -129,8 +130,8 @@ unfolding coordinateBytes
 length-coordinateBytes z = length-bytesOf 8 (toBits binary64 (coordinateOf z))
 
 -- the bytes of a point, with anything after them, are read as its corner
-pub point-back : (most : ℕ) (c : Corner) (rest : List ℕ) → natAbs (c .0) ≤ most → natAbs (c .1) ≤ most → most ≤ 32768
-    → both (wholeOf most (ofBits binary64 (numberIn true (take 8 (pointBytes c ++ rest))))) (wholeOf most (ofBits binary64 (numberIn true (take 8 (drop 8 (pointBytes c ++ rest)))))) ≡ spotAt c
+pub point-back : (most : ℕ) (c : Corner) (rest : List ℕ) → natAbs (c .0) ≤ most → natAbs (c .1) ≤ most → most ≤ farthest
+    → both (wholeOf most (ofBits binary64 (numberIn true (take 8 (pointBytes c ++ rest))))) (wholeOf most (ofBits binary64 (numberIn true (take 8 (drop 8 (pointBytes c ++ rest)))))) ≡ gridPointOf c
 unfolding pointBytes
 point-back most c rest h k m =
     let a = coordinateBytes (c .0) in

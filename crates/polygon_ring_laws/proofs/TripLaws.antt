@@ -22,11 +22,11 @@ use Rattle.hull.specs.Call.{countedOf}
 use Rattle.room.specs.Room.{asRoomJudged}
 use Rattle.room.proofs.RoomLaws.{good-room}
 use Rattle.answer.proofs.RefusalLaws.{orElse-good}
-use Rattle.polygon.specs.Polygon.{polygonOf, polygonJudged, PolygonCall}
+use Rattle.polygon.specs.Polygon.{polygonOf, polygonRoomJudged, polygonJudged, PolygonCall}
 use Rattle.polygon_laws.proofs.WriteLaws.{room-drawable}
-use Rattle.polygon_ring.specs.Ring.{orderOf, isNeither, isFaulty, startOf, laterOf, straightFrom, lengthOf, chainOfPoints, isRing, countOf, pointsGiven, ringOf, readJudged, ReadCall}
-use Rattle.polygon_laws.specs.Bends.{Drawable, turning, shortJudged}
-use Rattle.polygon_ring_laws.specs.Passing.{PassesFrom, Followed}
+use Rattle.polygon_ring.specs.Ring.{orderOf, isNeither, isFaulty, startOf, laterOf, straightFrom, lengthOf, chainOfPoints, isRing, countGiven, pointsGiven, ringOf, readJudged, ReadCall}
+use Rattle.polygon_laws.specs.Bends.{Drawable, turning}
+use Rattle.polygon_ring_laws.specs.Passing.{PassesFrom, RingPassed}
 use Rattle.polygon_ring_laws.proofs.RingLaws.{length-stepsFrom}
 use Rattle.polygon_ring_laws.proofs.ReadLaws.{given-fine, judgedBy, fine-by}
 use Rattle.polygon_ring_laws.proofs.BackLaws.{back-read, back-short}
@@ -44,7 +44,7 @@ clash z = omega arith
 after-header : (file : List ℕ) (room : ℕ) → readJudged file room ≡ Good → (any isFaulty (pointsGiven file) ≡ false) × (isRing (ringOf file) ≡ true) × (ltb mostSteps (lengthOf (ringOf file)) ≡ false) × (ltb room (lengthOf (ringOf file)) ≡ false)
 after-header file room j =
     let points = judgedBy (any isFaulty (pointsGiven file)) (isRing (ringOf file)) (ltb mostSteps (lengthOf (ringOf file))) (ltb room (lengthOf (ringOf file))) in
-    let size = when (not (eqb (length file) (13 + 16 * countOf file))) FileLength in
+    let size = when (not (eqb (length file) (13 + 16 * countGiven file))) FileLength in
     let kind = when (isNeither (orderOf file)) FileKind in
     let k : orElse kind (orElse size points) ≡ Good = orElse-good (when (ltb (length file) 13) FileLength) (orElse kind (orElse size points)) j .1 in
     fine-by (any isFaulty (pointsGiven file)) (isRing (ringOf file)) (ltb mostSteps (lengthOf (ringOf file))) (ltb room (lengthOf (ringOf file))) (orElse-good size points (orElse-good kind (orElse size points) k .1) .1)
@@ -65,7 +65,7 @@ ring-home (a ∷ cs) e =
     ∙ same-sound (getD (a ∷ cs) (length (a ∷ cs) - 1) origin) a
     (and-right (leb 4 (length (a ∷ cs))) (same (getD (a ∷ cs) (length (a ∷ cs) - 1) origin) a) (and-left (leb 4 (length (a ∷ cs)) && same (getD (a ∷ cs) (length (a ∷ cs) - 1) origin) a) (straightFrom a cs) e))
 
-pub read-follows : (file out : List ℕ) (f : Found) (out′ : List ℕ) → ReadCall file out (Given.Chain f) out′ → Followed file out f out′
+pub read-follows : (file out : List ℕ) (f : Found) (out′ : List ℕ) → ReadCall file out (Given.Chain f) out′ → RingPassed file out f out′
 read-follows file out f out′ c =
     let ps = ringOf file in
     let w = given-fine (readJudged file (length out)) ps f (sym (c .answer)) in
@@ -97,7 +97,7 @@ record Wrote (s : Corner) (ds : List ℕ) (n : ℕ) (out′ : List ℕ) : Type 0
 wrote : (s : Corner) (ds out : List ℕ) (n : ℕ) (out′ : List ℕ) → PolygonCall s ds out (Counted.Many n) out′ → Wrote s ds n out′
 wrote s ds out n out′ c =
     let w = count-many (polygonJudged s ds (length out)) (length (polygonOf s ds)) n (c .answer) in
-    let g = orElse-good (asRoomJudged s ds) (orElse (shortJudged s ds (length out)) Good) (w .0) .0 in
+    let g = orElse-good (asRoomJudged s ds) (orElse (polygonRoomJudged s ds (length out)) Good) (w .0) .0 in
     let b : out′ ≡ polygonOf s ds ++ drop n out =
     c .buffer ∙ ap (λ (j : Judged). laidIf j (polygonOf s ds) out) (w .0) ∙ ap (λ (k : ℕ). polygonOf s ds ++ drop k out) (sym (w .1)) in
     record {

@@ -14,9 +14,9 @@ use Rattle.answer.specs.Refusal.{when, orElse}
 use Rattle.polygon_ring.specs.Bytes.{numberOf, numberIn}
 use Rattle.polygon_ring.specs.Coordinate.{wholeOf}
 use Rattle.polygon_ring.specs.Ring.{both, mostAt, pointIn, pointAt, pointsFrom, cornerIn, chainOfPoints, countIn, pointsIn, givenOf, ReadCall}
-use Rattle.polygon_ring.specs.declared.{Spot.Spot, Given.Given}
+use Rattle.polygon_ring.specs.declared.{GridPoint.GridPoint, Given.Given}
 use Rattle.polygon_ring_laws.specs.Reading.{laidIf, ringJudged, pointsJudged, ReadIn}
-use Rattle.polygon_ring_laws.specs.Files.{headerIn, Headed, turned, twinOf}
+use Rattle.polygon_ring_laws.specs.Files.{headerIn, Headed, eightsReversed, twinOf}
 use Rattle.polygon_ring_laws.proofs.ReadLaws.{read-ordered, ordered-read}
 use Rattle.polygon_ring_laws.proofs.FileLaws.{headed-order}
 
@@ -35,25 +35,25 @@ full s n h = length-reverse (take n s) ∙ length-take n s ∙ least n (length s
 
 -- ---- numbers in a row
 
-length-turned : (n : ℕ) (s : List ℕ) → length (turned n s) ≡ length s
-length-turned zero s = refl
-length-turned (suc n) s =
-    length-append (reverse (take 8 s)) (turned n (drop 8 s))
-    ∙ ap₂ _+_ (length-reverse (take 8 s) ∙ length-take 8 s) (length-turned n (drop 8 s) ∙ length-drop 8 s)
+length-eightsReversed : (n : ℕ) (s : List ℕ) → length (eightsReversed n s) ≡ length s
+length-eightsReversed zero s = refl
+length-eightsReversed (suc n) s =
+    length-append (reverse (take 8 s)) (eightsReversed n (drop 8 s))
+    ∙ ap₂ _+_ (length-reverse (take 8 s) ∙ length-take 8 s) (length-eightsReversed n (drop 8 s) ∙ length-drop 8 s)
     ∙ both-parts (length s)
   where
     both-parts : (n : ℕ) → min 8 n + (n - 8) ≡ n
     both-parts n = omega arith
 
-turned-at : (m : ℕ) (s : List ℕ) (k : ℕ) → k < m → 8 * m ≤ length s → take 8 (drop (8 * k) (turned m s)) ≡ reverse (take 8 (drop (8 * k) s))
-turned-at zero s k h w = absurd (omega arith)
-turned-at (suc m) s zero h w = take-at (reverse (take 8 s)) (turned m (drop 8 s)) 8 (full s 8 (omega arith))
-turned-at (suc m) s (suc k) h w =
+eightsReversed-at : (m : ℕ) (s : List ℕ) (k : ℕ) → k < m → 8 * m ≤ length s → take 8 (drop (8 * k) (eightsReversed m s)) ≡ reverse (take 8 (drop (8 * k) s))
+eightsReversed-at zero s k h w = absurd (omega arith)
+eightsReversed-at (suc m) s zero h w = take-at (reverse (take 8 s)) (eightsReversed m (drop 8 s)) 8 (full s 8 (omega arith))
+eightsReversed-at (suc m) s (suc k) h w =
     let A = reverse (take 8 s) in
     let size : length A ≡ 8 = full s 8 (omega arith) in
-    ap (λ (n : ℕ). take 8 (drop n (A ++ turned m (drop 8 s)))) (next k ∙ ap (λ (n : ℕ). n + 8 * k) (sym size))
-    ∙ ap (take 8) (drop-append-add A (turned m (drop 8 s)) (8 * k))
-    ∙ turned-at m (drop 8 s) k (omega arith) (omega (arith, length-drop 8 s))
+    ap (λ (n : ℕ). take 8 (drop n (A ++ eightsReversed m (drop 8 s)))) (next k ∙ ap (λ (n : ℕ). n + 8 * k) (sym size))
+    ∙ ap (take 8) (drop-append-add A (eightsReversed m (drop 8 s)) (8 * k))
+    ∙ eightsReversed-at m (drop 8 s) k (omega arith) (omega (arith, length-drop 8 s))
     ∙ ap (λ (l : List ℕ). reverse (take 8 l)) (drop-drop (8 * k) 8 s ∙ ap (λ (n : ℕ). drop n s) (sym (next k)))
   where
     next : (k : ℕ) → 8 * suc k ≡ 8 + 8 * k
@@ -62,31 +62,31 @@ turned-at (suc m) s (suc k) h w =
 -- ---- the points
 
 module _ (little : Bool) (m : ℕ) (s : List ℕ) (w : 8 * m ≤ length s) where
-  coordinate-twin : (k j : ℕ) → 8 * k ≡ j → k < m → numberIn (not little) (take 8 (drop j (turned m s))) ≡ numberIn little (take 8 (drop j s))
+  coordinate-twin : (k j : ℕ) → 8 * k ≡ j → k < m → numberIn (not little) (take 8 (drop j (eightsReversed m s))) ≡ numberIn little (take 8 (drop j s))
   coordinate-twin k j e h =
-      ap (λ (n : ℕ). numberIn (not little) (take 8 (drop n (turned m s)))) (sym e)
-      ∙ ap (numberIn (not little)) (turned-at m s k h w)
+      ap (λ (n : ℕ). numberIn (not little) (take 8 (drop n (eightsReversed m s)))) (sym e)
+      ∙ ap (numberIn (not little)) (eightsReversed-at m s k h w)
       ∙ number-twin little (take 8 (drop (8 * k) s))
       ∙ ap (λ (n : ℕ). numberIn little (take 8 (drop n s))) e
 
-  point-twin : (i : ℕ) → 2 * i + 1 < m → pointAt (not little) (turned m s) i ≡ pointAt little s i
+  point-twin : (i : ℕ) → 2 * i + 1 < m → pointAt (not little) (eightsReversed m s) i ≡ pointAt little s i
   unfolding pointAt pointIn
   point-twin i h =
       ap₂ (λ (x y : ℕ). both (wholeOf (mostAt i) (ofBits binary64 x)) (wholeOf (mostAt i) (ofBits binary64 y)))
       (coordinate-twin (2 * i) (16 * i) (omega arith) (omega arith))
-      (ap (λ (l : List ℕ). numberIn (not little) (take 8 l)) (drop-drop 8 (16 * i) (turned m s))
+      (ap (λ (l : List ℕ). numberIn (not little) (take 8 l)) (drop-drop 8 (16 * i) (eightsReversed m s))
       ∙ coordinate-twin (2 * i + 1) (16 * i + 8) (omega arith) h
       ∙ ap (λ (l : List ℕ). numberIn little (take 8 l)) (sym (drop-drop 8 (16 * i) s)))
 
-  points-twin : (i n : ℕ) → 2 * (i + n) ≤ m → pointsFrom (not little) (turned m s) i n ≡ pointsFrom little s i n
+  points-twin : (i n : ℕ) → 2 * (i + n) ≤ m → pointsFrom (not little) (eightsReversed m s) i n ≡ pointsFrom little s i n
   unfolding pointsFrom
   points-twin i zero h = refl
-  points-twin i (suc n) h = ap₂ (λ (p : Spot) (ps : List Spot). p ∷ ps) (point-twin i (omega arith)) (points-twin (suc i) n (omega arith))
+  points-twin i (suc n) h = ap₂ (λ (p : GridPoint) (ps : List GridPoint). p ∷ ps) (point-twin i (omega arith)) (points-twin (suc i) n (omega arith))
 
 -- ---- the header
 
 abbrev tailOf : ℕ → List ℕ → List ℕ
-tailOf m rest = reverse (take 4 rest) ++ turned m (drop 4 rest)
+tailOf m rest = reverse (take 4 rest) ++ eightsReversed m (drop 4 rest)
 
 twin-is : (little : Bool) (rest : List ℕ) → twinOf (headerIn little ++ rest) ≡ headerIn (not little) ++ tailOf ((length (headerIn little ++ rest) - 13) / 8) rest
 twin-is true rest = refl
@@ -121,7 +121,7 @@ module _ (little : Bool) (rest : List ℕ) (h : 4 ≤ length rest) where
   twin-length : length twin ≡ length file
   twin-length =
       length-headed (not little) (tailOf eights rest)
-      ∙ ap (λ (n : ℕ). 9 + n) (length-append (reverse (take 4 rest)) (turned eights (drop 4 rest)) ∙ ap₂ _+_ count-there (length-turned eights (drop 4 rest) ∙ length-drop 4 rest) ∙ whole (length rest) h)
+      ∙ ap (λ (n : ℕ). 9 + n) (length-append (reverse (take 4 rest)) (eightsReversed eights (drop 4 rest)) ∙ ap₂ _+_ count-there (length-eightsReversed eights (drop 4 rest) ∙ length-drop 4 rest) ∙ whole (length rest) h)
       ∙ sym (length-headed little rest)
     where
       whole : (n : ℕ) → 4 ≤ n → 4 + (n - 4) ≡ n
@@ -130,7 +130,7 @@ module _ (little : Bool) (rest : List ℕ) (h : 4 ≤ length rest) where
   twin-count : countIn (not little) twin ≡ countIn little file
   twin-count =
       count-headed (not little) (tailOf eights rest)
-      ∙ ap (numberIn (not little)) (take-at (reverse (take 4 rest)) (turned eights (drop 4 rest)) 4 count-there)
+      ∙ ap (numberIn (not little)) (take-at (reverse (take 4 rest)) (eightsReversed eights (drop 4 rest)) 4 count-there)
       ∙ number-twin little (take 4 rest)
       ∙ sym (count-headed little rest)
 
@@ -138,7 +138,7 @@ module _ (little : Bool) (rest : List ℕ) (h : 4 ≤ length rest) where
   twin-points =
       let k = (length file - 13) / 16 in
       ap₂ (λ (s : List ℕ) (n : ℕ). pointsFrom (not little) s 0 n)
-      (points-headed (not little) (tailOf eights rest) ∙ drop-at (reverse (take 4 rest)) (turned eights (drop 4 rest)) 4 count-there) (ap (λ (n : ℕ). (n - 13) / 16) twin-length)
+      (points-headed (not little) (tailOf eights rest) ∙ drop-at (reverse (take 4 rest)) (eightsReversed eights (drop 4 rest)) 4 count-there) (ap (λ (n : ℕ). (n - 13) / 16) twin-length)
       ∙ points-twin little eights (drop 4 rest) (enough (length file) (length rest) (length (drop 4 rest)) (length-headed little rest) (length-drop 4 rest)) 0 k (pairs (length file))
       ∙ ap (λ (s : List ℕ). pointsFrom little s 0 k) (sym (points-headed little rest))
     where
@@ -150,12 +150,12 @@ module _ (little : Bool) (rest : List ℕ) (h : 4 ≤ length rest) where
 
   twin-judged : (room : ℕ) → pointsJudged (not little) twin room ≡ pointsJudged little file room
   twin-judged room =
-      ap₂ (λ (b : Bool) (ps : List Spot). orElse (when (not b) FileLength) (ringJudged ps room)) (ap₂ (λ (l n : ℕ). eqb l (13 + 16 * n)) twin-length twin-count) twin-points
+      ap₂ (λ (b : Bool) (ps : List GridPoint). orElse (when (not b) FileLength) (ringJudged ps room)) (ap₂ (λ (l n : ℕ). eqb l (13 + 16 * n)) twin-length twin-count) twin-points
 
   twin-in : (out : List ℕ) (g : Given) (out′ : List ℕ) → ReadIn little file out g out′ → ReadIn (not little) twin out g out′
   twin-in out g out′ p = record {
-    answer = p .answer ∙ sym (ap₂ (λ (c : Judged) (ps : List Spot). givenOf c (map cornerIn ps)) (twin-judged (length out)) twin-points);
-    buffer = p .buffer ∙ sym (ap₂ (λ (c : Judged) (ps : List Spot). laidIf c (chainOfPoints (map cornerIn ps)) out) (twin-judged (length out)) twin-points);
+    answer = p .answer ∙ sym (ap₂ (λ (c : Judged) (ps : List GridPoint). givenOf c (map cornerIn ps)) (twin-judged (length out)) twin-points);
+    buffer = p .buffer ∙ sym (ap₂ (λ (c : Judged) (ps : List GridPoint). laidIf c (chainOfPoints (map cornerIn ps)) out) (twin-judged (length out)) twin-points);
   }
 
   twin-call : (out : List ℕ) (g : Given) (out′ : List ℕ) → ReadCall file out g out′ → ReadCall twin out g out′

@@ -12,6 +12,7 @@ use lib.Ieee.{Float, nan, inf, fin, binary64, up, down, ofInt, isNan, ne}
 use lib.Ieee.Exact.{HasValue}
 use lib.Ieee.Fits.{down-pos}
 use lib.Ieee.Nearest.{div-same}
+use Rattle.answer.specs.Limits.{farthest}
 use Rattle.polygon.specs.Coordinate.{scale, signed, coordinateOf}
 use Rattle.polygon_ring.specs.Coordinate.{pick, wholeAt, wholeOf}
 use Rattle.polygon_laws.proofs.ValueLaws.{isNeg, ofInt-value, natAbs-scaled, scaled-le}
@@ -49,7 +50,7 @@ wholeAt-same most s a c a′ c′ C C′ h =
     ap (λ (t : Bool). pick (t && leb (a / b) most) (Of (signed s (a / b))) Refused) z
     ∙ ap (λ (n : ℕ). pick (eqb (a′ % d) 0 && leb n most) (Of (signed s n)) Refused) q
 
-pub wholeOf-value : (most : ℕ) (x : Float) (s : Bool) (a c : ℕ) → 0 < c → HasValue x s a c → wholeOf most x ≡ wholeAt most s a c
+wholeOf-value : (most : ℕ) (x : Float) (s : Bool) (a c : ℕ) → 0 < c → HasValue x s a c → wholeOf most x ≡ wholeAt most s a c
 unfolding wholeOf
 wholeOf-value most nan s a c C v = absurd v
 wholeOf-value most (inf t) s a c C v = absurd v
@@ -74,7 +75,7 @@ same-sign (negsuc n) = ap (λ (y : ℤ). signed (isNeg y) (suc n)) (pos-*ℤ-neg
     more n = omega arith
 
 -- the coordinate of the float of a coordinate
-pub wholeOf-coordinateOf : (most : ℕ) (z : ℤ) → natAbs z ≤ most → most ≤ 32768 → wholeOf most (coordinateOf z) ≡ Of z
+pub wholeOf-coordinateOf : (most : ℕ) (z : ℤ) → natAbs z ≤ most → most ≤ farthest → wholeOf most (coordinateOf z) ≡ Of z
 unfolding coordinateOf
 wholeOf-coordinateOf most z h m =
     let y = pos scale *ℤ z in

@@ -3,27 +3,27 @@
 use Rattle.lists.specs.Lists.{_≡_, Bool, cond, not, List, [], _∷_, _++_, length, take, drop, ℕ, suc, _+_, _*_, _≤_, eqb, ltb, any, natAbs}
 use mathlib.Core.List.{map}
 use lib.Ieee.{binary64, ofBits}
-use Rattle.answer.specs.Limits.{mostSteps}
+use Rattle.answer.specs.Limits.{mostSteps, farthest}
 use Rattle.answer.specs.Refusal.{when, orElse, firstOf}
 use Rattle.steps.specs.Turns.{writtenIf}
 use Rattle.grid.specs.declared.Corner.{Corner}
 use Rattle.polygon_ring.specs.Bytes.{numberIn}
 use Rattle.polygon_ring.specs.Ring.{pointsFrom, isFaulty, cornerIn, isRing, lengthOf, chainOfPoints, countIn, pointsIn, givenOf}
 use Rattle.answer.specs.declared.{Judged.Judged, Refusal.the-variants.FileLength, Refusal.the-variants.BadCoordinate, Refusal.the-variants.BadRing, Refusal.the-variants.TooLong, Refusal.the-variants.ChainRoom}
-use Rattle.polygon_ring.specs.declared.{Point.Point, Spot.Spot, Spot.the-variants.At, Given.Given}
+use Rattle.polygon_ring.specs.declared.{Point.Point, GridPoint.GridPoint, GridPoint.the-variants.At, Given.Given}
 
 -- a buffer with a list laid down at its start, unless there is a refusal
 abbrev pub laidIf : Judged → List ℕ → List ℕ → List ℕ
 laidIf j new old = writtenIf j (new ++ drop (length new) old) old
 
 -- a corner that a point can be
-pub record Near (c : Corner) : Type 0 where
-  pub x : natAbs (c .0) ≤ 32768
-  pub y : natAbs (c .1) ≤ 32768
+pub record PointFits (c : Corner) : Type 0 where
+  pub x : natAbs (c .0) ≤ farthest
+  pub y : natAbs (c .1) ≤ farthest
 
 -- the point that is the corner c
-abbrev pub spotAt : Corner → Spot
-spotAt c = At (c .0) (c .1)
+abbrev pub gridPointOf : Corner → GridPoint
+gridPointOf c = At (c .0) (c .1)
 
 -- the floats of the point at the start of these bytes
 pub record PointIs (little : Bool) (s : List ℕ) (p : Point) : Type 0 where
@@ -39,7 +39,7 @@ abbrev pub capped : ℕ → ℕ
 capped n = cond (ltb mostSteps n) (suc mostSteps) n
 
 -- 16, 17, 6 and 18
-abbrev pub ringJudged : List Spot → ℕ → Judged
+abbrev pub ringJudged : List GridPoint → ℕ → Judged
 ringJudged ps room =
     firstOf (when (any isFaulty ps) BadCoordinate
     ∷ when (not (isRing (map cornerIn ps))) BadRing

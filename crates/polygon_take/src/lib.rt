@@ -7,6 +7,7 @@ ghost use lib.Dec.{T};
 ghost use lib.IntN.{pos, _-ℤ_};
 ghost use lib.ListN.{length};
 ghost use lib.Ieee.{binary64, ofBits, isNan};
+ghost use Rattle.answer.specs.Limits.{farthest};
 ghost use Rattle.polygon_ring.specs.Bytes.{numberIn, startsWith};
 ghost use Rattle.polygon.specs.Bytes.{bytesOf};
 ghost use Rattle.polygon_ring.specs.Coordinate.{wholeOf};
@@ -16,13 +17,13 @@ ghost use Rattle.polygon_ring_laws.specs.Nearest.{NearestIs, IsAccepted};
 ghost use Rattle.polygon_ring.specs.declared.Whole.{Whole};
 use grid::Corner;
 use polygon_put::millimetres;
+use polygon_ring::GridPoint;
 use polygon_ring::Order;
 use polygon_ring::Point;
-use polygon_ring::Spot;
 use polygon_ring::Whole;
 
 // Whether s begins with p.
-pub fn starts(s: &[u8], p: &[u8]) -> bool
+fn starts(s: &[u8], p: &[u8]) -> bool
     ensures { λ r. ⌜ r ≡ startsWith (now (p .entry)) (now (s .entry)) ⌝ }
 {
     let mut i = 0;
@@ -52,7 +53,7 @@ pub fn order(s: &[u8]) -> Order
 }
 
 // The number with the bytes of s, the lowest first.
-pub fn little(s: &[u8]) -> u64
+fn little(s: &[u8]) -> u64
     requires { ⌜ length (now s) ≤ 8 ⌝ }
     ensures { λ r. ⌜ r ≡ numberIn true (now (s .entry)) ⌝ }
 {
@@ -66,7 +67,7 @@ pub fn little(s: &[u8]) -> u64
 }
 
 // The number with the bytes of s, the highest first.
-pub fn big(s: &[u8]) -> u64
+fn big(s: &[u8]) -> u64
     requires { ⌜ length (now s) ≤ 8 ⌝ }
     ensures { λ r. ⌜ r ≡ numberIn false (now (s .entry)) ⌝ }
 {
@@ -112,7 +113,7 @@ fn eight(s: &[u8], first_lowest: bool) -> u64
 }
 
 // The float with these bits, a NaN for each NaN's pattern.
-pub fn float_of(bits: u64) -> f64
+fn float_of(bits: u64) -> f64
     ensures { λ r. ⌜ r ≡ ofBits binary64 bits ⌝ }
 {
     if 0x7ff0_0000_0000_0000 < bits % 0x8000_0000_0000_0000 {
@@ -130,27 +131,30 @@ fn nearest(x: f64) -> u64
     f64::to_bits(x + 4_503_599_647_031_296.0) % 0x400_0000 / 600
 }
 
+// How far the place that `nearest` counts from lies before 0.
+const SHIFT: i32 = Point::MOST as i32;
+
 // The coordinate u, counted from 0.
 fn centred(u: u64) -> i32
     requires { ⌜ u < 131072 ⌝ }
-    ensures { λ r. ⌜ r ≡ pos u -ℤ pos 32768 ⌝ }
+    ensures { λ r. ⌜ r ≡ pos u -ℤ pos farthest ⌝ }
 {
-    (u as i32) - 32768
+    (u as i32) - SHIFT
 }
 
 // The coordinate that x is.
 fn whole_of(x: f64, most: u64) -> Whole
-    requires { ⌜ most ≤ 32768 ⌝ }
+    requires { ⌜ most ≤ farthest ⌝ }
     ensures { λ r. ⌜ r ≡ wholeOf most x ⌝ }
 {
     if x != x {
         return Whole::Refused;
     }
     let u = nearest(x);
-    if u + most < 32768 {
+    if u + most < Point::MOST {
         return Whole::Refused;
     }
-    if 32768 + most < u {
+    if Point::MOST + most < u {
         return Whole::Refused;
     }
     let k = centred(u);
@@ -162,16 +166,16 @@ fn whole_of(x: f64, most: u64) -> Whole
 }
 
 // What the point p is as a corner.
-pub fn judge(p: Point, most: u64) -> Spot
-    requires { ⌜ most ≤ 32768 ⌝ }
+pub fn judge(p: Point, most: u64) -> GridPoint
+    requires { ⌜ most ≤ farthest ⌝ }
     ensures { λ r. ⌜ r ≡ both (wholeOf most (p .x)) (wholeOf most (p .y)) ⌝ }
 {
     match whole_of(p.x, most) {
         Whole::Of(x) => match whole_of(p.y, most) {
-            Whole::Of(y) => Spot::At(x, y),
-            Whole::Refused => Spot::Faulty,
+            Whole::Of(y) => GridPoint::At(x, y),
+            Whole::Refused => GridPoint::Faulty,
         },
-        Whole::Refused => Spot::Faulty,
+        Whole::Refused => GridPoint::Faulty,
     }
 }
 
@@ -188,15 +192,15 @@ pub fn point(s: &[u8], little: bool) -> Point
 // The coordinate that the eight bytes of s are, where they were accepted before.
 fn known(s: &[u8], little: bool) -> i32
     requires { ⌜ (length (now s) ≡ 8) × IsAccepted (ofBits binary64 (numberIn «little» (now s))) ⌝ }
-    ensures { λ r. ⌜ Whole.Of r ≡ wholeOf 32768 (ofBits binary64 (numberIn «little» (now (s .entry)))) ⌝ }
+    ensures { λ r. ⌜ Whole.Of r ≡ wholeOf farthest (ofBits binary64 (numberIn «little» (now (s .entry)))) ⌝ }
 {
     centred(nearest(f64::from_bits(eight(s, little))))
 }
 
 // The corner that the point at the start of s is, where it was accepted before.
 pub fn corner(s: &[u8], little: bool) -> Corner
-    requires { ⌜ (16 ≤ length (now s)) × (isFaulty (pointIn 32768 «little» (now s)) ≡ false) ⌝ }
-    ensures { λ r. ⌜ r ≡ cornerIn (pointIn 32768 «little» (now (s .entry))) ⌝ }
+    requires { ⌜ (16 ≤ length (now s)) × (isFaulty (pointIn farthest «little» (now s)) ≡ false) ⌝ }
+    ensures { λ r. ⌜ r ≡ cornerIn (pointIn farthest «little» (now (s .entry))) ⌝ }
 {
     let x = known(&s[0..8], little);
     let y = known(&s[8..16], little);

@@ -26,7 +26,7 @@ use Rattle.hull.specs.Call.{chainJudged}
 use Rattle.room.specs.Room.{isRoom, asRoomJudged}
 use Rattle.room.proofs.RoomCases as cases
 
-number-room : (v : Verdict) → verdictNumber v ≡ 2 → v ≡ Room
+number-room : (v : Verdict) → verdictNumber v ≡ verdictNumber Room → v ≡ Room
 number-room Nowhere e = absurd (omega arith)
 number-room Open e = absurd (omega arith)
 number-room Room e = refl
@@ -34,11 +34,11 @@ number-room OpenMeeting e = absurd (omega arith)
 number-room ClosedMeeting e = absurd (omega arith)
 number-room ThereAndBack e = absurd (omega arith)
 
--- verdict 2 is given exactly to a room
+-- a room's verdict is given exactly to a room
 pub isRoom-exactly : (c : Corner) (ds : List ℕ) → (isRoom c ds ≡ true) ↔ IsRoom c ds
 isRoom-exactly c ds = (
-  (λ e. verdict-room c ds (number-room (verdictOf c ds) (eqb-true (verdictNumber (verdictOf c ds)) 2 e))),
-  (λ r. ap (λ (v : Verdict). eqb (verdictNumber v) 2) (says-verdict c ds Room r)),
+  (λ e. verdict-room c ds (number-room (verdictOf c ds) (eqb-true (verdictNumber (verdictOf c ds)) (verdictNumber Room) e))),
+  (λ r. ap (λ (v : Verdict). eqb (verdictNumber v) (verdictNumber Room)) (says-verdict c ds Room r)),
 )
 
 -- ---- the refusals in their order

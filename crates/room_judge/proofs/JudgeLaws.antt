@@ -1,22 +1,18 @@
--- The refusals of a room in their order, and the range of starts.
+-- The refusals of a room in their order.
 -- Assumes nothing.
-use mathlib.Core.Bool.{Bool, true, false, not, false≢true}
+use mathlib.Core.Bool.{Bool, true, false, not}
 use mathlib.Core.List.{List}
-use mathlib.Core.Path.{_≡_, refl, ap, sym, _∙_}
+use mathlib.Core.Path.{_≡_, ap, sym, _∙_}
 use Prim.Native.Nat.{ℕ, _<_, _≤_}
 use native.Mathlib.Omega.{arith}
-use borrow.Author.Tests.{ltb-true, ltb-false, le-leb, lt-leb}
-use lib.Dec.{leb, leb·suc-suc}
-use lib.IntN.{ℤ, pos, negsuc, natAbs}
 use lib.ListN.{length}
-use lib.Signed.{leZ, ltZ}
 use Rattle.lists.proofs.FindLaws.{bool-agree}
 use Rattle.lists.proofs.BoolLaws.{not-true, not-false}
 use Rattle.answer.specs.declared.Judged.{Judged}
 use Rattle.answer.specs.declared.Judged.the-variants.{Good, Refused}
 use Rattle.answer.specs.declared.Refusal.{Refusal}
 use Rattle.answer.specs.declared.Refusal.the-variants.{TooMany, StartRange, NotRoom}
-use Rattle.answer.specs.Limits.{mostInput, mostSteps, mostStart, startFits}
+use Rattle.answer.specs.Limits.{mostInput, mostSteps, startFits}
 use Rattle.answer.specs.Refusal.{when}
 use Rattle.grid.specs.declared.Corner.{Corner}
 use Rattle.hull.specs.Call.{chainJudged}
@@ -24,27 +20,6 @@ use Rattle.hull_laws.proofs.SurveyLaws.{good-short}
 use Rattle.room.specs.Room.{isRoom, asRoomJudged}
 use Rattle.room.proofs.RoomLaws.{isRoom-exactly, judged-many, judged-range, judged-fault, judged-room}
 use Rattle.room_thread_laws.specs.Threads.{Told}
-
--- ---- the range of starts
-
--- a coordinate too far to the east or north, and then one that is not
-pub near-not : (x : ℤ) → ltZ (pos mostStart) x ≡ true → false ≡ leb (natAbs x) mostStart
-near-not (pos n) e = sym (lt-leb n mostStart (ltb-true mostStart n e))
-near-not (negsuc n) e = absurd (false≢true e)
-
-pub near-or-not : (x : ℤ) → ltZ (pos mostStart) x ≡ false → leZ (negsuc 16383) x ≡ leb (natAbs x) mostStart
-near-or-not (pos n) e = sym (le-leb n mostStart (ltb-false mostStart n e))
-near-or-not (negsuc n) e = sym (leb·suc-suc n 16383)
-
--- one coordinate and then the other
-module _ (c : Corner) (b : Bool) (e : b ≡ leb (natAbs (c .0)) mostStart) where
-  pub range-second : (r : Bool) → b ≡ true → r ≡ leb (natAbs (c .1)) mostStart → r ≡ startFits c
-  range-second r x q = let o : leb (natAbs (c .0)) mostStart ≡ true = sym e ∙ x in rw o q
-
-  pub range-first : b ≡ false → false ≡ startFits c
-  range-first x = let o : leb (natAbs (c .0)) mostStart ≡ false = sym e ∙ x in rw o refl
-
--- ---- the refusals
 
 pub not-room : (b : Bool) → b ≡ false → Refused NotRoom ≡ when (not b) NotRoom
 not-room b e = rw e

@@ -23,7 +23,7 @@ use Rattle.trace.specs.Verdict.{IsRoom}
 use Rattle.hull_laws.specs.Columns.{top, colAfter, rowAfter}
 use Rattle.hull_laws.proofs.CornerLaws.{corner-eq}
 use Rattle.hull_laws.proofs.TrailLaws.{near, near-row}
-use Rattle.room_thread_laws.specs.Threads.{Double, Stays, Scattered, Goes, Closes, Told, Store, alongFrom, columnsFrom, rowsFrom}
+use Rattle.room_thread_laws.specs.Threads.{Double, Stays, Scattered, Goes, Closes, Told, ThreadStore, alongFrom, columnsFrom, rowsFrom}
 
 -- a step leads one on, one back, or nowhere along an axis
 suc-is : (z : ℤ) → sucℤ z ≡ z +ℤ pos 1
@@ -236,7 +236,7 @@ module _ (chain : List ℕ) (m x y i : ℕ) (w : Goes chain m x y i) where
   )
 
 -- a store that is new
-pub fresh : (chain : List ℕ) (m room places : ℕ) → Stays chain m room → 0 < room → length chain ≤ places → Store chain m (replicate room 0) (replicate places 0) (replicate places 0) (replicate room 0)
+pub fresh : (chain : List ℕ) (m room places : ℕ) → Stays chain m room → 0 < room → length chain ≤ places → ThreadStore chain m (replicate room 0) (replicate places 0) (replicate places 0) (replicate room 0)
 fresh chain m room places s h g = record {
   stays = subst (Stays chain m) (sym (length-replicate {A = ℕ} room 0)) s;
   some = omega (arith, length-replicate {A = ℕ} room 0);

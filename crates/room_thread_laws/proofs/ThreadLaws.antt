@@ -12,7 +12,7 @@ use borrow.Author.Tests.{eq-eqb, ne-eqb}
 use lib.Dec.{eqb}
 use lib.ListN.{length, getD, set, length-set}
 use lib.Seq.{getD-set-same, getD-set-other}
-use Rattle.room_thread_laws.specs.Threads.{lastIn, Threaded, Double, Single, Stamped, Outcome, Followed, Following, Parted, Parting}
+use Rattle.room_thread_laws.specs.Threads.{lastIn, Threaded, Double, Single, Stamped, Outcome, ThreadFollowed, Following, Parted, Parting}
 
 -- the last place in a column
 module _ (xs : List ℕ) (c : ℕ) where
@@ -164,10 +164,10 @@ module _ (next hs before : List ℕ) (t last : ℕ) where
   follow-start xs n c f e g = (n, omega arith, e, stamp-none xs hs before n c t g)
 
   module _ (p : ℕ) (stamps : List ℕ) (w : Following next hs before t last p stamps) where
-    pub follow-end : p ≡ 0 → Followed next hs before t last true stamps
+    pub follow-end : p ≡ 0 → ThreadFollowed next hs before t last true stamps
     follow-end z xs n c f e g = let s = w xs n c f e g in record { alone = λ q. stamp-end xs hs stamps n c t (s .0) (s .3) (s .1) (sym (s .2) ∙ z); twice = λ q. absurd (true≢false q); most = s .3 .most }
 
-    pub follow-twice : (q : ℕ) → p ≡ suc q → getD stamps (getD hs q 0) 0 ≡ t → Followed next hs before t last false stamps
+    pub follow-twice : (q : ℕ) → p ≡ suc q → getD stamps (getD hs q 0) 0 ≡ t → ThreadFollowed next hs before t last false stamps
     follow-twice q z h xs n c f e g = let s = w xs n c f e g in record { alone = λ q. absurd (false≢true q); twice = λ r. stamp-double xs hs stamps n c t (s .0) q (s .3) (s .1) (sym (s .2) ∙ z) h; most = s .3 .most }
 
     pub follow-step : (q : ℕ) → p ≡ suc q → (getD stamps (getD hs q 0) 0 ≡ t → ⊥) → getD hs q 0 < length stamps → Following next hs before t last (getD next q 0) (set stamps (getD hs q 0) t)
@@ -183,7 +183,7 @@ module _ (head next hs : List ℕ) where
   part-start stamps z xs n t = ((λ h. omega (arith, z h)), (λ k l. let n : ⊥ = omega arith in absurd n))
 
   module _ (c : ℕ) (stamps after : List ℕ) (p : Parting head next hs c stamps) (l : c < length head) where
-    pub part-step : Followed next hs stamps (c + 1) (getD head c 0) true after → Parting head next hs (c + 1) after
+    pub part-step : ThreadFollowed next hs stamps (c + 1) (getD head c 0) true after → Parting head next hs (c + 1) after
     part-step f xs n t = ((λ h. omega (arith, o .most h)), singles)
       where
         o : Outcome xs hs n c (c + 1) true after
@@ -196,7 +196,7 @@ module _ (head next hs : List ℕ) where
             go (yes e) = subst (Single xs hs n) (sym e) (o .alone refl)
             go (no e) = p xs n t .1 k (omega arith)
 
-    pub part-twice : Followed next hs stamps (c + 1) (getD head c 0) false after → Parted head next hs false
+    pub part-twice : ThreadFollowed next hs stamps (c + 1) (getD head c 0) false after → Parted head next hs false
     part-twice f xs n t b = ((λ e. absurd (false≢true e)), (λ e. f xs n c (t .nexts) (t .heads c l) (p xs n t .0) .twice refl))
 
   pub part-end : (c : ℕ) (stamps : List ℕ) → Parting head next hs c stamps → length head ≤ c → Parted head next hs true

@@ -50,8 +50,8 @@ pub record Outcome (xs hs : List ℕ) (n c t : ℕ) (r : Bool) (stamps : List �
   pub most : (h : ℕ) → getD stamps h 0 ≤ t
 
 -- the answer for whatever walk has these threads
-abbrev pub Followed : List ℕ → List ℕ → List ℕ → ℕ → ℕ → Bool → List ℕ → Type 0
-Followed next hs before t last r after = (xs : List ℕ) (n c : ℕ) → ((j : ℕ) → j < n → getD next j 0 ≡ lastIn xs (getD xs j 0) j) → last ≡ lastIn xs c n → ((h : ℕ) → getD before h 0 < t) → Outcome xs hs n c t r after
+abbrev pub ThreadFollowed : List ℕ → List ℕ → List ℕ → ℕ → ℕ → Bool → List ℕ → Type 0
+ThreadFollowed next hs before t last r after = (xs : List ℕ) (n c : ℕ) → ((j : ℕ) → j < n → getD next j 0 ≡ lastIn xs (getD xs j 0) j) → last ≡ lastIn xs c n → ((h : ℕ) → getD before h 0 < t) → Outcome xs hs n c t r after
 
 -- the threads lead back, and the heights are below the number of stamps
 pub record Leads (next hs : List ℕ) (room : ℕ) : Type 0 where
@@ -112,7 +112,7 @@ pub record Scattered (chain : List ℕ) (m : ℕ) (r : Bool) : Type 0 where
   pub no : r ≡ false → Double (columnsFrom m chain) (rowsFrom m chain) (length chain)
 
 -- the working store has room for the walk, and holds nothing yet
-pub record Store (chain : List ℕ) (m : ℕ) (head next hs stamps : List ℕ) : Type 0 where
+pub record ThreadStore (chain : List ℕ) (m : ℕ) (head next hs stamps : List ℕ) : Type 0 where
   pub stays : Stays chain m (length head)
   pub some : 0 < length head
   pub places : length chain ≤ length next

@@ -2,24 +2,18 @@
 use hull_columns::Columns;
 use hull_columns::column;
 use hull_columns::height;
+use order::wide;
 ghost use mathlib.Core.Path.{_≡_};
 ghost use mathlib.Core.Bool.{true};
 ghost use Prim.Native.Nat.{ℕ, _+_, _*_, _≤_, _<_};
-ghost use Rattle.hull_laws.specs.Columns.{middle};
+ghost use Rattle.hull_laws.specs.Columns.{middle, narrowSize, widerSize};
 ghost use lib.ListN.{length, getD};
-ghost use Rattle.room_thread_laws.specs.Threads.{Leads, Followed, Parted, Stays, Laid, Store, Scattered, Closes, Told};
-
-// A number of 16 bits, to count with.
-pub fn wide(c: u16) -> usize
-    ensures { λ r. ⌜ (r ≡ c) × (r < 65536) ⌝ }
-{
-    c as usize
-}
+ghost use Rattle.room_thread_laws.specs.Threads.{Leads, ThreadFollowed, Parted, Stays, Laid, ThreadStore, Scattered, Closes, Told};
 
 // Follows the thread that ends at place `last`, counted from 1, and answers whether no height on it comes twice. Each gets the stamp.
 fn follow(tag: u16, last: u16, next: &[u16], hs: &[u16], stamps: &mut [u16]) -> bool
     requires { ⌜ Leads (now next) (now hs) (length (now stamps)) × (last ≤ length (now next)) ⌝ }
-    ensures { λ r. ⌜ Followed (now (next .entry)) (now (hs .entry)) (now (stamps .entry)) tag last r (now (stamps .exit)) ⌝ }
+    ensures { λ r. ⌜ ThreadFollowed (now (next .entry)) (now (hs .entry)) (now (stamps .entry)) tag last r (now (stamps .exit)) ⌝ }
 {
     let mut p = wide(last);
     while p > 0 {
@@ -76,7 +70,7 @@ fn scattered(
     hs: &mut [u16],
     stamps: &mut [u16],
 ) -> bool
-    requires { ⌜ Store (now chain) m (now head) (now next) (now hs) (now stamps) × (length (now chain) < 65536) ⌝ }
+    requires { ⌜ ThreadStore (now chain) m (now head) (now next) (now hs) (now stamps) × (length (now chain) < 65536) ⌝ }
     ensures { λ r. ⌜ Scattered (now (chain .entry)) m r ⌝ }
 {
     lay(chain, m, head, next, hs);
@@ -113,39 +107,39 @@ pub fn start(n: usize) -> u16
 
 // Whether a closed walk of at most 256 steps is a room.
 fn told_narrow(chain: &[u8]) -> bool
-    requires { ⌜ (4 ≤ length (now chain)) × (length (now chain) ≤ 256) × Closes (now chain) true ⌝ }
+    requires { ⌜ (4 ≤ length (now chain)) × (length (now chain) ≤ narrowSize) × Closes (now chain) true ⌝ }
     ensures { λ r. ⌜ Told (now (chain .entry)) r ⌝ }
 {
-    let mut head = [0u16; 258];
-    let mut next = [0u16; 256];
-    let mut hs = [0u16; 256];
-    let mut stamps = [0u16; 258];
+    let mut head = [0u16; Columns::NARROW + 2];
+    let mut next = [0u16; Columns::NARROW];
+    let mut hs = [0u16; Columns::NARROW];
+    let mut stamps = [0u16; Columns::NARROW + 2];
     let m = start(chain.len());
     scattered(chain, m, &mut head, &mut next, &mut hs, &mut stamps)
 }
 
 // Whether a closed walk of at most 2,048 steps is a room.
 fn told_wider(chain: &[u8]) -> bool
-    requires { ⌜ (4 ≤ length (now chain)) × (length (now chain) ≤ 2048) × Closes (now chain) true ⌝ }
+    requires { ⌜ (4 ≤ length (now chain)) × (length (now chain) ≤ widerSize) × Closes (now chain) true ⌝ }
     ensures { λ r. ⌜ Told (now (chain .entry)) r ⌝ }
 {
-    let mut head = [0u16; 2050];
-    let mut next = [0u16; 2048];
-    let mut hs = [0u16; 2048];
-    let mut stamps = [0u16; 2050];
+    let mut head = [0u16; Columns::WIDER + 2];
+    let mut next = [0u16; Columns::WIDER];
+    let mut hs = [0u16; Columns::WIDER];
+    let mut stamps = [0u16; Columns::WIDER + 2];
     let m = start(chain.len());
     scattered(chain, m, &mut head, &mut next, &mut hs, &mut stamps)
 }
 
 // Whether a closed walk of at most 16,384 steps is a room.
 fn told_widest(chain: &[u8]) -> bool
-    requires { ⌜ (4 ≤ length (now chain)) × (length (now chain) ≤ 16384) × Closes (now chain) true ⌝ }
+    requires { ⌜ (4 ≤ length (now chain)) × (length (now chain) ≤ middle) × Closes (now chain) true ⌝ }
     ensures { λ r. ⌜ Told (now (chain .entry)) r ⌝ }
 {
-    let mut head = [0u16; 16386];
-    let mut next = [0u16; 16384];
-    let mut hs = [0u16; 16384];
-    let mut stamps = [0u16; 16386];
+    let mut head = [0u16; Columns::MIDDLE + 2];
+    let mut next = [0u16; Columns::MIDDLE];
+    let mut hs = [0u16; Columns::MIDDLE];
+    let mut stamps = [0u16; Columns::MIDDLE + 2];
     let m = start(chain.len());
     scattered(chain, m, &mut head, &mut next, &mut hs, &mut stamps)
 }
@@ -161,10 +155,10 @@ pub fn is_room(chain: &[u8]) -> bool
     if !closes(chain) {
         return false;
     }
-    if chain.len() <= 256 {
+    if chain.len() <= Columns::NARROW {
         return told_narrow(chain);
     }
-    if chain.len() <= 2048 {
+    if chain.len() <= Columns::WIDER {
         return told_wider(chain);
     }
     told_widest(chain)

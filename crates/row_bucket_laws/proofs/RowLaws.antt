@@ -26,7 +26,7 @@ use Rattle.row_laws.proofs.{FootLaws.UpTo, FootLaws.Climbs, FootLaws.InTurn, Ro
 use Rattle.hull_laws.specs.Columns.{top, colAfter, rowAfter}
 use Rattle.room_thread_laws.specs.Threads.{Stays, alongFrom, columnsFrom, rowsFrom}
 use Rattle.room_thread_laws.proofs.RoomLaws.{move-x, move-y, closed-stays}
-use Rattle.row_bucket_laws.specs.Buckets.{picked, downFrom, Ranked, keyOf, lowOf, spotAt, pouredOf, orderOf}
+use Rattle.row_bucket_laws.specs.Buckets.{picked, downFrom, Ranked, bucketOf, lowOf, spotAt, pouredOf, rowOrderOf}
 use Rattle.row_bucket_laws.proofs.BucketLaws.{down-mem}
 use Rattle.row_bucket_laws.proofs.SpreadLaws.{rows-all, spread-all, spread-mem, spread-ranked, rows-ranked, Upward}
 
@@ -144,7 +144,7 @@ module _ (c : Corner) (ds : List ℕ) (m : ℕ) (room : IsRoom c ds) (digits : B
   pub low-below : (q : ℕ) → q < length ds → lowOf ds m q < 2 * m
   low-below q h = omega (arith, stays .rows q h .1)
 
-  key-below : (q : ℕ) → q < length ds → keyOf ds m q ≤ 2 * m - 1
+  key-below : (q : ℕ) → q < length ds → bucketOf ds m q ≤ 2 * m - 1
   key-below q h = omega (arith, stays .columns q h .1, once (getD (columnsFrom m ds) q 0) (getD ds q 0 % 2) (omega arith))
     where
       once : (x v : ℕ) → v < 2 → x * v ≤ x
@@ -153,17 +153,17 @@ module _ (c : Corner) (ds : List ℕ) (m : ℕ) (room : IsRoom c ds) (digits : B
       once x (suc (suc v)) h = absurd (omega arith)
 
   poured-mem : (q : ℕ) → List·Memᴰ q (pouredOf ds m) → q < length ds
-  poured-mem q k = ⊎-elim (down-mem (length ds) q) (λ n. absurd (List·Memᴰ·not-nil n)) (spread-mem (keyOf ds m) (2 * m - 1) (downFrom (length ds)) [] q k)
+  poured-mem q k = ⊎-elim (down-mem (length ds) q) (λ n. absurd (List·Memᴰ·not-nil n)) (spread-mem (bucketOf ds m) (2 * m - 1) (downFrom (length ds)) [] q k)
 
-  poured-count : (t : Corner → Bool) → count (λ p. t (spotAt c m (keyOf ds m) (lowOf ds m) p)) (pouredOf ds m) ≡ count t (feetFrom c ds)
+  poured-count : (t : Corner → Bool) → count (λ p. t (spotAt c m (bucketOf ds m) (lowOf ds m) p)) (pouredOf ds m) ≡ count t (feetFrom c ds)
   poured-count t =
-      spread-all (λ p. t (spotAt c m (keyOf ds m) (lowOf ds m) p)) (keyOf ds m) (2 * m - 1) (downFrom (length ds)) (λ q k. key-below q (down-mem (length ds) q k))
+      spread-all (λ p. t (spotAt c m (bucketOf ds m) (lowOf ds m) p)) (bucketOf ds m) (2 * m - 1) (downFrom (length ds)) (λ q k. key-below q (down-mem (length ds) q k))
       ∙ feet-count t (c .0 -ℤ pos m) (c .1 -ℤ pos m) c ds m m (at-m (c .0)) (at-m (c .1)) (λ j h. stays .columns j h .0) (λ j h. stays .rows j h .0) digits
 
-  order-count : (t : Corner → Bool) → count t (map (spotAt c m (keyOf ds m) (lowOf ds m)) (orderOf ds m)) ≡ count t (feetFrom c ds)
+  order-count : (t : Corner → Bool) → count t (map (spotAt c m (bucketOf ds m) (lowOf ds m)) (rowOrderOf ds m)) ≡ count t (feetFrom c ds)
   order-count t =
-      count-map t (spotAt c m (keyOf ds m) (lowOf ds m)) (orderOf ds m)
-      ∙ rows-all (λ p. t (spotAt c m (keyOf ds m) (lowOf ds m) p)) (lowOf ds m) (2 * m) (pouredOf ds m) (λ q k. low-below q (poured-mem q k))
+      count-map t (spotAt c m (bucketOf ds m) (lowOf ds m)) (rowOrderOf ds m)
+      ∙ rows-all (λ p. t (spotAt c m (bucketOf ds m) (lowOf ds m) p)) (lowOf ds m) (2 * m) (pouredOf ds m) (λ q k. low-below q (poured-mem q k))
       ∙ poured-count t
 
   -- each row has an even number
@@ -177,20 +177,20 @@ module _ (c : Corner) (ds : List ℕ) (m : ℕ) (room : IsRoom c ds) (digits : B
       ∙ row-even ((c .1 -ℤ pos m) +ℤ pos h) c ds (room .closed)
 
   -- in pairs they are the rows
-  pub order-rows : pairsOf (map (spotAt c m (keyOf ds m) (lowOf ds m)) (orderOf ds m)) ≡ rowsOf c ds
+  pub order-rows : pairsOf (map (spotAt c m (bucketOf ds m) (lowOf ds m)) (rowOrderOf ds m)) ≡ rowsOf c ds
   order-rows =
-      rowsIs-rowsOf c ds (pairsOf (map (spotAt c m (keyOf ds m) (lowOf ds m)) (orderOf ds m))) (room .closed)
-      (room-rows c ds (map (spotAt c m (keyOf ds m) (lowOf ds m)) (orderOf ds m)) room
-      (in-turn c m (keyOf ds m) (lowOf ds m) (orderOf ds m) (rows-ranked (keyOf ds m) (lowOf ds m) 0 (2 * m) (pouredOf ds m) (spread-ranked (keyOf ds m) (2 * m - 1) (downFrom (length ds)) [] (λ q k. absurd (List·Memᴰ·not-nil k)) tt)))
+      rowsIs-rowsOf c ds (pairsOf (map (spotAt c m (bucketOf ds m) (lowOf ds m)) (rowOrderOf ds m))) (room .closed)
+      (room-rows c ds (map (spotAt c m (bucketOf ds m) (lowOf ds m)) (rowOrderOf ds m)) room
+      (in-turn c m (bucketOf ds m) (lowOf ds m) (rowOrderOf ds m) (rows-ranked (bucketOf ds m) (lowOf ds m) 0 (2 * m) (pouredOf ds m) (spread-ranked (bucketOf ds m) (2 * m - 1) (downFrom (length ds)) [] (λ q k. absurd (List·Memᴰ·not-nil k)) tt)))
       order-count)
 
-  pub order-length : length (orderOf ds m) ≡ 2 * length (rowsOf c ds)
-  order-length = sym (length-map (spotAt c m (keyOf ds m) (lowOf ds m)) (orderOf ds m)) ∙ sym (length-count (map (spotAt c m (keyOf ds m) (lowOf ds m)) (orderOf ds m))) ∙ order-count (λ q. true) ∙ length-count (feetFrom c ds) ∙ sym (room-count c ds room)
+  pub order-length : length (rowOrderOf ds m) ≡ 2 * length (rowsOf c ds)
+  order-length = sym (length-map (spotAt c m (bucketOf ds m) (lowOf ds m)) (rowOrderOf ds m)) ∙ sym (length-count (map (spotAt c m (bucketOf ds m) (lowOf ds m)) (rowOrderOf ds m))) ∙ order-count (λ q. true) ∙ length-count (feetFrom c ds) ∙ sym (room-count c ds room)
     where
       length-map : (f : ℕ → Corner) (l : List ℕ) → length (map f l) ≡ length l
       length-map f [] = refl
       length-map f (p ∷ l) = ap suc (length-map f l)
 
   -- what holds of no place holds of no lower end
-  pub feet-none : (t : Corner → Bool) → ((q : ℕ) → keyOf ds m q < 2 * m → lowOf ds m q < 2 * m → t (spotAt c m (keyOf ds m) (lowOf ds m) q) ≡ false) → count t (feetOf (edgesFrom c ds)) ≡ 0
-  feet-none t f = room-all t c ds room ∙ sym (poured-count t) ∙ count-never (λ p. t (spotAt c m (keyOf ds m) (lowOf ds m) p)) (pouredOf ds m) (λ q k. let h = poured-mem q k in f q (omega (arith, key-below q h)) (low-below q h))
+  pub feet-none : (t : Corner → Bool) → ((q : ℕ) → bucketOf ds m q < 2 * m → lowOf ds m q < 2 * m → t (spotAt c m (bucketOf ds m) (lowOf ds m) q) ≡ false) → count t (feetOf (edgesFrom c ds)) ≡ 0
+  feet-none t f = room-all t c ds room ∙ sym (poured-count t) ∙ count-never (λ p. t (spotAt c m (bucketOf ds m) (lowOf ds m) p)) (pouredOf ds m) (λ q k. let h = poured-mem q k in f q (omega (arith, key-below q h)) (low-below q h))

@@ -31,7 +31,7 @@ numbers-append f [] b h = refl
 numbers-append f (p ∷ []) b h = absurd (omega (arith, h))
 numbers-append f (p ∷ q ∷ a) b h = ap (λ (l : List ℤ). f p .1 ∷ f p .0 ∷ predℤ (f q .0) ∷ l) (numbers-append f a b (omega (arith, h)))
 
-pub length-numbers : (f : ℕ → Corner) (a : List ℕ) → length a % 2 ≡ 0 → 2 * length (numbersOf f a) ≡ 3 * length a
+length-numbers : (f : ℕ → Corner) (a : List ℕ) → length a % 2 ≡ 0 → 2 * length (numbersOf f a) ≡ 3 * length a
 length-numbers f [] h = refl
 length-numbers f (p ∷ []) h = absurd (omega (arith, h))
 length-numbers f (p ∷ q ∷ a) h = omega (arith, length-numbers f a (omega (arith, h)))

@@ -8,9 +8,13 @@ use Rattle.room.specs.Room.{asRoomJudged}
 use Rattle.panels.specs.Inside.{Inside}
 use Rattle.row_call.specs.Rows.{Span, RowsIs, spanNumbers}
 
--- the refusals of a room, then 21 where the buffer has fewer than three numbers a span
+-- 21 where the buffer has fewer than three numbers a span
+abbrev pub spanRoomJudged : ℕ → ℕ → Judged
+spanRoomJudged room spans = when (ltb room (3 * spans)) SpanRoom
+
+-- the refusals of a room, then 21
 abbrev pub rowsJudged : Corner → List ℕ → ℕ → ℕ → Judged
-rowsJudged s ds room spans = firstOf (asRoomJudged s ds ∷ when (ltb room (3 * spans)) SpanRoom ∷ [])
+rowsJudged s ds room spans = firstOf (asRoomJudged s ds ∷ spanRoomJudged room spans ∷ [])
 
 -- the numbers of the list and then what stood after them, unless there is a refusal
 abbrev pub spansIn : Judged → List Span → List ℤ → List ℤ

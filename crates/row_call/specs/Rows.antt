@@ -45,12 +45,12 @@ pub record NextTo (s : Span) (q : Panel) : Type 0 where
   pub off : OnSpan s q → ⊥
 
 -- how many panels a span has, and how many those of a list have together
-abbrev pub lengthOf : Span → ℕ
-lengthOf s = natAbs (sucℤ (s .last) -ℤ s .first)
+abbrev pub spanLength : Span → ℕ
+spanLength s = natAbs (sucℤ (s .last) -ℤ s .first)
 
 abbrev pub lengthsOf : List Span → ℕ
 lengthsOf [] = 0
-lengthsOf (s ∷ l) = lengthOf s + lengthsOf l
+lengthsOf (s ∷ l) = spanLength s + lengthsOf l
 
 -- row, first and last panel of each span
 abbrev pub spanNumbers : List Span → List ℤ

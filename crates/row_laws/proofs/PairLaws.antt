@@ -90,7 +90,7 @@ pair-cover x y qs p C r h ih even = by (eqZ (x .1) (p .1)) refl (le-or-lt (x .0)
 pub pairs-even : (x y : Corner) (qs : List Corner) → x .1 ≡ y .1 → EvenRows (x ∷ y ∷ qs) → EvenRows qs
 pairs-even x y qs r even b = omega (arith, even b, ap (λ (z : ℤ). tally (eqZ z b)) r)
 
-pub pairs-cover : (qs : List Corner) (p : Panel) → InTurn UpTo qs → EvenRows qs → Covers (pairsOf qs) p ↔ (count (beside p) qs % 2 ≡ 1)
+pairs-cover : (qs : List Corner) (p : Panel) → InTurn UpTo qs → EvenRows qs → Covers (pairsOf qs) p ↔ (count (beside p) qs % 2 ≡ 1)
 pairs-cover [] p g even = (λ n. absurd n, λ n. absurd (omega (arith, n)))
 pairs-cover (x ∷ []) p g even = absurd (omega (arith, even (x .1), ap tally (eqZ-refl (x .1))))
 pairs-cover (x ∷ y ∷ qs) p g even =

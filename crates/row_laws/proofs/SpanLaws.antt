@@ -15,12 +15,12 @@ use Rattle.lists.proofs.DistinctLaws.{distinct-append}
 use Rattle.grid.specs.declared.{Corner.Corner, Panel.Panel}
 use Rattle.panels.specs.Inside.{Inside, ListsInside}
 use Rattle.panels.specs.Box.{panelRow}
-use Rattle.row_call.specs.Rows.{Span, OnSpan, Covers, Before, Every, InOrder, RowsIs, lengthOf, lengthsOf}
+use Rattle.row_call.specs.Rows.{Span, OnSpan, Covers, Before, Every, InOrder, RowsIs, spanLength, lengthsOf}
 use Rattle.area_laws.proofs.PanelLaws.{row-mem, mem-row, row-once}
 
 -- the panels of a span, and of a list of spans
 abbrev panelsOn : Span → List Panel
-panelsOn s = panelRow (s .row) (s .first) (lengthOf s)
+panelsOn s = panelRow (s .row) (s .first) (spanLength s)
 
 abbrev pub panelsOf : List Span → List Panel
 panelsOf [] = []
@@ -32,16 +32,16 @@ length-row b a (suc n) = ap suc (length-row b (sucℤ a) n)
 
 pub length-panels : (l : List Span) → length (panelsOf l) ≡ lengthsOf l
 length-panels [] = refl
-length-panels (s ∷ l) = omega (arith, length-append (panelsOn s) (panelsOf l), length-row (s .row) (s .first) (lengthOf s), length-panels l)
+length-panels (s ∷ l) = omega (arith, length-append (panelsOn s) (panelsOf l), length-row (s .row) (s .first) (spanLength s), length-panels l)
 
 -- the end of a span is its length further
-span-end : (s : Span) → s .first ≤ℤ s .last → sucℤ (s .last) ≡ s .first +ℤ pos (lengthOf s)
+span-end : (s : Span) → s .first ≤ℤ s .last → sucℤ (s .last) ≡ s .first +ℤ pos (spanLength s)
 span-end s h = above (s .first) (sucℤ (s .last)) (omega (zarith, bal-suc (s .last)))
 
 on-mem : (s : Span) (p : Panel) → s .first ≤ℤ s .last → List·Memᴰ p (panelsOn s) ↔ OnSpan s p
 on-mem s p h = (
-  λ m. let g = row-mem (s .row) (s .first) (lengthOf s) p m in record { row = g .row; after = g .west; before = omega (zarith, g .east, span-end s h, bal-suc (s .last)) },
-  λ g. mem-row (s .row) (s .first) (lengthOf s) p (record { row = g .row; west = g .after; east = omega (zarith, g .before, span-end s h, bal-suc (s .last)) }),
+  λ m. let g = row-mem (s .row) (s .first) (spanLength s) p m in record { row = g .row; after = g .west; before = omega (zarith, g .east, span-end s h, bal-suc (s .last)) },
+  λ g. mem-row (s .row) (s .first) (spanLength s) p (record { row = g .row; west = g .after; east = omega (zarith, g .before, span-end s h, bal-suc (s .last)) }),
 )
 
 covers-mem : (l : List Span) → InOrder l → (p : Panel) → List·Memᴰ p (panelsOf l) ↔ Covers l p
@@ -59,7 +59,7 @@ apart s (t ∷ l) p e g k = ⊎-elim (λ h. ⊎-elim (λ b. omega (zarith, b, g 
 panels-distinct : (l : List Span) → InOrder l → Distinct (panelsOf l)
 panels-distinct [] o = tt
 panels-distinct (s ∷ l) o =
-    distinct-append (panelsOn s) (panelsOf l) (row-once (s .row) (s .first) (lengthOf s)) (panels-distinct l (o .2))
+    distinct-append (panelsOn s) (panelsOf l) (row-once (s .row) (s .first) (spanLength s)) (panels-distinct l (o .2))
     (λ p m n. apart s l p (o .1) (on-mem s p (o .0) .0 m) (covers-mem l (o .2) p .0 n))
 
 -- the panels of the spans are those of the set, each once

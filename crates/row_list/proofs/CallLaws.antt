@@ -15,6 +15,7 @@ use Rattle.lists.specs.Lists.{count}
 use Rattle.grid.specs.declared.Corner.{Corner}
 use Rattle.answer.specs.declared.{Counted.Counted, Judged.Judged, Judged.the-variants.Good, Refusal.the-variants.SpanRoom}
 use Rattle.answer.specs.Refusal.{when}
+use Rattle.answer.specs.Limits.{mostSteps}
 use Rattle.hull.specs.Call.{countedOf}
 use Rattle.room.specs.Room.{asRoomJudged}
 use Rattle.room.proofs.RoomLaws.{good-room}
@@ -24,11 +25,11 @@ use Rattle.row_laws.proofs.{RowLaws.rowsOf-rows, SortedLaws.room-half, CallLaws
 use Rattle.hull_laws.specs.Columns.{top}
 use Rattle.room_thread_laws.specs.Threads.{Stays}
 use Rattle.room_thread_laws.proofs.RoomLaws.{closed-stays}
-use Rattle.row_bucket_laws.specs.Buckets.{keyOf, lowOf, pouredOf, Filed, Columns, ColumnsDone, Sheet, SheetDone, Poured}
+use Rattle.row_bucket_laws.specs.Buckets.{bucketOf, lowOf, pouredOf, Filed, ColumnsReady, ColumnsDone, Sheet, SheetDone, Poured}
 use Rattle.row_bucket_laws.proofs.RowLaws.{low-below, row-pairs, order-rows, order-length}
-use Rattle.row_list.specs.Store.{Walled, Store}
+use Rattle.row_list.specs.Store.{Walled, RowStore}
 
-module _ {c : Corner} {ds : List ℕ} {m : ℕ} {head row next at : List ℕ} (w : Walled c ds) (s : Store (length ds) m head row next at) where
+module _ {c : Corner} {ds : List ℕ} {m : ℕ} {head row next at : List ℕ} (w : Walled c ds) (s : RowStore (length ds) m head row next at) where
   narrow : 2 * m ≤ suc top
   narrow = omega (arith, s .columns, s .narrow)
 
@@ -38,10 +39,10 @@ module _ {c : Corner} {ds : List ℕ} {m : ℕ} {head row next at : List ℕ} (w
   feet : (k : ℕ) → 2 * m ≤ k → (q : ℕ) → q < length ds → lowOf ds m q < k
   feet k h q b = omega (arith, low-below c ds m (w .room) (w .digits) (s .wide) narrow q b)
 
-  module _ (end : ℕ) (e : end ≡ 2 * m) {head′ next′ at′ : List ℕ} (eh : length head′ ≡ length head) (en : length next′ ≡ length next) (ea : length at′ ≡ length at) (f : Filed (keyOf ds m) (lowOf ds m) (length ds) head′ next′ at′) where
-    pub store-columns : Columns end head′ next′ at′ row
+  module _ (end : ℕ) (e : end ≡ 2 * m) {head′ next′ at′ : List ℕ} (eh : length head′ ≡ length head) (en : length next′ ≡ length next) (ea : length at′ ≡ length at) (f : Filed (bucketOf ds m) (lowOf ds m) (length ds) head′ next′ at′) where
+    pub store-columns : ColumnsReady end head′ next′ at′ row
     store-columns = record {
-      key = keyOf ds m;
+      key = bucketOf ds m;
       foot = lowOf ds m;
       n = length ds;
       filed = f;
@@ -54,12 +55,12 @@ module _ {c : Corner} {ds : List ℕ} {m : ℕ} {head row next at : List ℕ} (w
     }
 
     module _ {next″ at″ row″ : List ℕ} (fn : length next″ ≡ length next′) (fa : length at″ ≡ length at′) (fr : length row″ ≡ length row) (g : ColumnsDone end head′ next′ at′ row next″ at″ row″) where
-      poured : Poured (keyOf ds m) (lowOf ds m) (pouredOf ds m) next″ at″ row″
-      poured = subst (λ (k : ℕ). ColumnsDone k head′ next′ at′ row next″ at″ row″) e g (keyOf ds m) (lowOf ds m) (length ds) f (feet (length row) (s .rows)) (omega (arith, s .links, s .values))
+      poured : Poured (bucketOf ds m) (lowOf ds m) (pouredOf ds m) next″ at″ row″
+      poured = subst (λ (k : ℕ). ColumnsDone k head′ next′ at′ row next″ at″ row″) e g (bucketOf ds m) (lowOf ds m) (length ds) f (feet (length row) (s .rows)) (omega (arith, s .links, s .values))
 
       pub store-sheet : (room : ℕ) → 3 * length (rowsOf c ds) ≤ room → Sheet end next″ at″ row″ room
       store-sheet room h = subst (λ (k : ℕ). Sheet k next″ at″ row″ room) (sym e) (record {
-        key = keyOf ds m;
+        key = bucketOf ds m;
         foot = lowOf ds m;
         done = pouredOf ds m;
         poured = poured;
@@ -71,11 +72,11 @@ module _ {c : Corner} {ds : List ℕ} {m : ℕ} {head row next at : List ℕ} (w
 
       pub store-rows : (before after : List ℤ) → SheetDone c m end next″ at″ row″ before after → after ≡ sets before 0 (spanNumbers (rowsOf c ds))
       store-rows before after d =
-          subst (λ (k : ℕ). SheetDone c m k next″ at″ row″ before after) e d (keyOf ds m) (lowOf ds m) (pouredOf ds m) poured (row-pairs c ds m (w .room) (w .digits) (s .wide) narrow)
+          subst (λ (k : ℕ). SheetDone c m k next″ at″ row″ before after) e d (bucketOf ds m) (lowOf ds m) (pouredOf ds m) poured (row-pairs c ds m (w .room) (w .digits) (s .wide) narrow)
           ∙ ap (λ (l : List Span). sets before 0 (spanNumbers l)) (order-rows c ds m (w .room) (w .digits) (s .wide) narrow)
 
 -- a store that is new
-pub fresh : (steps m room places : ℕ) → steps < 2 * m → 2 * m ≤ room → room ≤ 16386 → steps ≤ places → Store steps m (replicate room 0) (replicate room 0) (replicate places 0) (replicate places 0)
+pub fresh : (steps m room places : ℕ) → steps < 2 * m → 2 * m ≤ room → room ≤ mostSteps + 2 → steps ≤ places → RowStore steps m (replicate room 0) (replicate room 0) (replicate places 0) (replicate places 0)
 fresh steps m room places a b d g = record {
   wide = a;
   columns = omega (arith, length-replicate {A = ℕ} room 0);

@@ -1,7 +1,7 @@
 -- A room that can be listed, and the working store for it.
 -- Assumes nothing.
 use mathlib.Core.List.{List}
-use Prim.Native.Nat.{ℕ, _*_, _<_, _≤_}
+use Prim.Native.Nat.{ℕ, _+_, _*_, _<_, _≤_}
 use lib.ListN.{length}
 use Rattle.lists.specs.Lists.{Below}
 use Rattle.answer.specs.Limits.{mostSteps, Near}
@@ -17,11 +17,11 @@ pub record Walled (c : Corner) (ds : List ℕ) : Type 0 where
   pub near : Near c
 
 -- room for a walk of so many steps that starts in column and height m; the buckets are empty
-pub record Store (steps m : ℕ) (head row next at : List ℕ) : Type 0 where
+pub record RowStore (steps m : ℕ) (head row next at : List ℕ) : Type 0 where
   pub wide : steps < 2 * m
   pub columns : 2 * m ≤ length head
   pub rows : 2 * m ≤ length row
-  pub narrow : length head ≤ 16386
+  pub narrow : length head ≤ mostSteps + 2
   pub links : steps ≤ length next
   pub values : length next ≤ length at
   pub empty : Zero head × Zero row

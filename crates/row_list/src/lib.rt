@@ -1,9 +1,10 @@
 // Lists the rows of a room: the call. The vertical edges of a row, from west to east and two by two, are its spans.
 use answer::Counted;
 use answer::Judged;
+use answer::Limits;
 use answer::Refusal;
 use grid::Corner;
-use room_threads::wide;
+use order::wide;
 use row_buckets::gather;
 use row_buckets::lay;
 use row_buckets::vertical;
@@ -13,11 +14,17 @@ ghost use Prim.Native.Nat.{_*_, _≤_};
 ghost use lib.ListN.{length};
 ghost use lib.Seq.{sets};
 ghost use Rattle.answer.specs.declared.Judged.the-variants.{Good};
+ghost use Rattle.hull_laws.specs.Columns.{narrowSize, widerSize};
 ghost use Rattle.room.specs.Room.{asRoomJudged};
 ghost use Rattle.row_call.specs.Rows.{spanNumbers};
 ghost use Rattle.row_call.specs.Call.{RowsCall};
 ghost use Rattle.row_laws.specs.Feet.{rowsOf};
-ghost use Rattle.row_list.specs.Store.{Walled, Store};
+ghost use Rattle.row_list.specs.Store.{Walled, RowStore};
+
+// The steps for which the two lesser stores have room.
+const NARROW: usize = 256;
+
+const WIDER: usize = 2048;
 
 // Writes the rows of a room. The working store is lent.
 fn list_in(
@@ -30,7 +37,7 @@ fn list_in(
     at: &mut [u16],
     out: &mut [i32],
 )
-    requires { ⌜ Walled start (now chain) × Store (length (now chain)) m (now head) (now row) (now next) (now at) × (3 * length (rowsOf start (now chain)) ≤ length (now out)) ⌝ }
+    requires { ⌜ Walled start (now chain) × RowStore (length (now chain)) m (now head) (now row) (now next) (now at) × (3 * length (rowsOf start (now chain)) ≤ length (now out)) ⌝ }
     ensures { λ _. ⌜ now (out .exit) ≡ sets (now (out .entry)) 0 (spanNumbers (rowsOf start (now (chain .entry)))) ⌝ }
 {
     lay(chain, m, head, next, at);
@@ -41,13 +48,13 @@ fn list_in(
 
 // Writes the rows of a room of at most 256 steps.
 fn list_narrow(start: Corner, chain: &[u8], out: &mut [i32])
-    requires { ⌜ Walled start (now chain) × (length (now chain) ≤ 256) × (3 * length (rowsOf start (now chain)) ≤ length (now out)) ⌝ }
+    requires { ⌜ Walled start (now chain) × (length (now chain) ≤ narrowSize) × (3 * length (rowsOf start (now chain)) ≤ length (now out)) ⌝ }
     ensures { λ _. ⌜ now (out .exit) ≡ sets (now (out .entry)) 0 (spanNumbers (rowsOf start (now (chain .entry)))) ⌝ }
 {
-    let mut head = [0u16; 258];
-    let mut row = [0u16; 258];
-    let mut next = [0u16; 256];
-    let mut at = [0u16; 256];
+    let mut head = [0u16; NARROW + 2];
+    let mut row = [0u16; NARROW + 2];
+    let mut next = [0u16; NARROW];
+    let mut at = [0u16; NARROW];
     let m = room_threads::start(chain.len());
     list_in(
         start,
@@ -63,13 +70,13 @@ fn list_narrow(start: Corner, chain: &[u8], out: &mut [i32])
 
 // Writes the rows of a room of at most 2,048 steps.
 fn list_wider(start: Corner, chain: &[u8], out: &mut [i32])
-    requires { ⌜ Walled start (now chain) × (length (now chain) ≤ 2048) × (3 * length (rowsOf start (now chain)) ≤ length (now out)) ⌝ }
+    requires { ⌜ Walled start (now chain) × (length (now chain) ≤ widerSize) × (3 * length (rowsOf start (now chain)) ≤ length (now out)) ⌝ }
     ensures { λ _. ⌜ now (out .exit) ≡ sets (now (out .entry)) 0 (spanNumbers (rowsOf start (now (chain .entry)))) ⌝ }
 {
-    let mut head = [0u16; 2050];
-    let mut row = [0u16; 2050];
-    let mut next = [0u16; 2048];
-    let mut at = [0u16; 2048];
+    let mut head = [0u16; WIDER + 2];
+    let mut row = [0u16; WIDER + 2];
+    let mut next = [0u16; WIDER];
+    let mut at = [0u16; WIDER];
     let m = room_threads::start(chain.len());
     list_in(
         start,
@@ -88,10 +95,10 @@ fn list_widest(start: Corner, chain: &[u8], out: &mut [i32])
     requires { ⌜ Walled start (now chain) × (3 * length (rowsOf start (now chain)) ≤ length (now out)) ⌝ }
     ensures { λ _. ⌜ now (out .exit) ≡ sets (now (out .entry)) 0 (spanNumbers (rowsOf start (now (chain .entry)))) ⌝ }
 {
-    let mut head = [0u16; 16386];
-    let mut row = [0u16; 16386];
-    let mut next = [0u16; 16384];
-    let mut at = [0u16; 16384];
+    let mut head = [0u16; Limits::MOST_STEPS + 2];
+    let mut row = [0u16; Limits::MOST_STEPS + 2];
+    let mut next = [0u16; Limits::MOST_STEPS];
+    let mut at = [0u16; Limits::MOST_STEPS];
     let m = room_threads::start(chain.len());
     list_in(
         start,
@@ -110,11 +117,11 @@ pub fn write(start: Corner, chain: &[u8], out: &mut [i32])
     requires { ⌜ Walled start (now chain) × (3 * length (rowsOf start (now chain)) ≤ length (now out)) ⌝ }
     ensures { λ _. ⌜ now (out .exit) ≡ sets (now (out .entry)) 0 (spanNumbers (rowsOf start (now (chain .entry)))) ⌝ }
 {
-    if chain.len() <= 256 {
+    if chain.len() <= NARROW {
         list_narrow(start, chain, out);
         return;
     }
-    if chain.len() <= 2048 {
+    if chain.len() <= WIDER {
         list_wider(start, chain, out);
         return;
     }

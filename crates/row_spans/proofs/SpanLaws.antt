@@ -10,7 +10,7 @@ use Rattle.int_laws.proofs.LinearLaws.{zarith, bal+}
 use Rattle.int_laws.proofs.RangeLaws.{abs+, abs-}
 use Rattle.grid.specs.declared.Corner.{Corner}
 use Rattle.grid.specs.Grid.{corner}
-use Rattle.answer.specs.Limits.{mostSteps}
+use Rattle.answer.specs.Limits.{mostStart}
 use lib.Seq.{sets}
 
 -- three numbers in a row
@@ -33,5 +33,5 @@ base-is c b m h e = e ∙ ap (λ (z : ℤ). corner z ((c .1 -ℤ pos m) +ℤ pos
     none : (c .0 -ℤ pos m) +ℤ pos 0 ≡ c .0 -ℤ pos m
     none = omega (zarith, bal+ (c .0 -ℤ pos m) (pos 0))
 
-pub base-fits : (c b : Corner) (m : ℕ) {y : ℤ} → natAbs (c .0) ≤ mostSteps → m < 65536 → b ≡ corner ((c .0 -ℤ pos m) +ℤ pos 0) y → natAbs (b .0) ≤ 131072
-base-fits c b m l g e = subst (λ (z : Corner). natAbs (z .0) ≤ 131072) (sym e) (omega (arith, abs+ (c .0 -ℤ pos m) (pos 0), abs- (c .0) (pos m)))
+pub base-fits : (c b : Corner) (m : ℕ) {y : ℤ} → natAbs (c .0) ≤ mostStart → m < 65536 → b ≡ corner ((c .0 -ℤ pos m) +ℤ pos 0) y → natAbs (b .0) ≤ mostStart + 65535
+base-fits c b m l g e = subst (λ (z : Corner). natAbs (z .0) ≤ mostStart + 65535) (sym e) (omega (arith, abs+ (c .0 -ℤ pos m) (pos 0), abs- (c .0) (pos m)))

@@ -1,19 +1,20 @@
 // Writes spans of panels, row by row, from buckets by row.
 use grid::Corner;
-use room_threads::wide;
+use order::wide;
 ghost use mathlib.Core.Path.{_≡_};
 ghost use mathlib.Core.List.{[], _∷_};
 ghost use Prim.Native.Nat.{_+_, _<_, _≤_};
 ghost use lib.IntN.{pos, predℤ, natAbs, _+ℤ_, _-ℤ_};
 ghost use lib.ListN.{length};
 ghost use lib.Seq.{sets};
+ghost use Rattle.answer.specs.Limits.{mostStart};
 ghost use Rattle.grid.specs.Grid.{corner};
-ghost use Rattle.hull_laws.specs.Columns.{middle, top};
+ghost use Rattle.hull_laws.specs.Columns.{top};
 ghost use Rattle.row_bucket_laws.specs.Buckets.{Line, LineDone, Sheet, SheetDone};
 
 // The panel n steps east of `west`.
 fn first_panel(west: i32, n: u16) -> i32
-    requires { ⌜ natAbs west ≤ 131072 ⌝ }
+    requires { ⌜ natAbs west ≤ mostStart + 65535 ⌝ }
     ensures { λ r. ⌜ r ≡ west +ℤ pos n ⌝ }
 {
     west + n as i32
@@ -21,7 +22,7 @@ fn first_panel(west: i32, n: u16) -> i32
 
 // The panel before that.
 fn last_panel(west: i32, n: u16) -> i32
-    requires { ⌜ natAbs west ≤ 131072 ⌝ }
+    requires { ⌜ natAbs west ≤ mostStart + 65535 ⌝ }
     ensures { λ r. ⌜ r ≡ (west +ℤ pos n) -ℤ pos 1 ⌝ }
 {
     west + n as i32 - 1
@@ -29,7 +30,7 @@ fn last_panel(west: i32, n: u16) -> i32
 
 // Writes the span between the columns a and b of the row that begins at base.
 fn put_span(out: &mut [i32], o: usize, base: Corner, a: u16, b: u16)
-    requires { ⌜ (o + 2 < length (now out)) × (natAbs (base .0) ≤ 131072) ⌝ }
+    requires { ⌜ (o + 2 < length (now out)) × (natAbs (base .0) ≤ mostStart + 65535) ⌝ }
     ensures { λ _. ⌜ now (out .exit) ≡ sets (now (out .entry)) o (base .1 ∷ (base .0 +ℤ pos a) ∷ predℤ (base .0 +ℤ pos b) ∷ []) ⌝ }
 {
     let y = base.1;
@@ -40,7 +41,7 @@ fn put_span(out: &mut [i32], o: usize, base: Corner, a: u16, b: u16)
 
 // Writes the spans of the row that begins at base from number o on, and answers where they end.
 fn put_row(out: &mut [i32], o: usize, base: Corner, first: u16, next: &[u16], at: &[u16]) -> usize
-    requires { ⌜ Line (now next) (now at) o (length (now out)) first × (natAbs (base .0) ≤ 131072) ⌝ }
+    requires { ⌜ Line (now next) (now at) o (length (now out)) first × (natAbs (base .0) ≤ mostStart + 65535) ⌝ }
     ensures { λ r. ⌜ LineDone (now (next .entry)) (now (at .entry)) base first (now (out .entry)) o r (now (out .exit)) ⌝ }
 {
     let mut p = wide(first);
@@ -56,7 +57,7 @@ fn put_row(out: &mut [i32], o: usize, base: Corner, first: u16, next: &[u16], at
 
 // The coordinate at place n, where z stands at m.
 fn shifted(z: i32, m: u16, n: usize) -> i32
-    requires { ⌜ (natAbs z ≤ middle) × (n ≤ top) ⌝ }
+    requires { ⌜ (natAbs z ≤ mostStart) × (n ≤ top) ⌝ }
     ensures { λ r. ⌜ r ≡ (z -ℤ pos m) +ℤ pos n ⌝ }
 {
     z - m as i32 + n as i32
@@ -64,7 +65,7 @@ fn shifted(z: i32, m: u16, n: usize) -> i32
 
 // Where row h begins, where start stands at m.
 fn row_base(start: Corner, m: u16, h: usize) -> Corner
-    requires { ⌜ (natAbs (start .0) ≤ middle) × (natAbs (start .1) ≤ middle) × (h ≤ top) ⌝ }
+    requires { ⌜ (natAbs (start .0) ≤ mostStart) × (natAbs (start .1) ≤ mostStart) × (h ≤ top) ⌝ }
     ensures { λ r. ⌜ r ≡ corner ((start .0 -ℤ pos m) +ℤ pos 0) ((start .1 -ℤ pos m) +ℤ pos h) ⌝ }
 {
     let x = shifted(start.0, m, 0);
@@ -82,7 +83,7 @@ pub fn put_rows(
     at: &[u16],
     out: &mut [i32],
 )
-    requires { ⌜ Sheet end (now next) (now at) (now row) (length (now out)) × (natAbs (start .0) ≤ middle) × (natAbs (start .1) ≤ middle) × (end ≤ top) ⌝ }
+    requires { ⌜ Sheet end (now next) (now at) (now row) (length (now out)) × (natAbs (start .0) ≤ mostStart) × (natAbs (start .1) ≤ mostStart) × (end ≤ top) ⌝ }
     ensures { λ _. ⌜ SheetDone start m end (now (next .entry)) (now (at .entry)) (now (row .entry)) (now (out .entry)) (now (out .exit)) ⌝ }
 {
     let mut h = 0;

@@ -26,7 +26,7 @@ use Rattle.line_room.specs.Walked.{lineWalked}
 use Rattle.sheet.specs.Decimal.{decimalOf, signedOf}
 use Rattle.sheet.specs.Sizes.{mostDecimals}
 use Rattle.sheet.specs.Entry.{cellOf, cellsOf, noFacts, hexBytes, polygonCell, entryBy, entryOf}
-use Rattle.sheet.specs.Sheet.{entered, entries, numberedFrom, rowsFrom, beginsAfter, linesIn, header, sheet}
+use Rattle.sheet.specs.Sheet.{entered, entries, numberedFrom, entriesFrom, beginsAfter, linesIn, header, sheet}
 use Rattle.sheet.proofs.NumberLaws.{decimal-feeds, cell-feeds, numbered-feeds}
 
 -- no line feed in either
@@ -109,20 +109,20 @@ numbered-line n (b ∷ e) t h = go (eqb b 10) refl
     go false p = ap (λ (l : List ℕ). cellOf n ++ (b ∷ l)) (numbered-rest n e t (omega (arith, feedsIn-more b e p)))
 
 -- a line that a line feed ends has its number and what is said of it, and then come the rows of the rest
-pub rows-line : (n : ℕ) (l s : List ℕ) → feedsIn l ≡ 0 → rowsFrom n (l ++ (10 ∷ s)) ≡ (cellOf n ++ entered l) ++ rowsFrom (suc n) s
+pub rows-line : (n : ℕ) (l s : List ℕ) → feedsIn l ≡ 0 → entriesFrom n (l ++ (10 ∷ s)) ≡ (cellOf n ++ entered l) ++ entriesFrom (suc n) s
 rows-line n l s h =
     ap (numberedFrom true n) (output-line entered entered l s h ∙ append-assoc (entryOf l) (10 ∷ []) (entries s))
     ∙ numbered-line n (entryOf l) (entries s) (entry-feeds l)
-    ∙ ap (λ (x : List ℕ). cellOf n ++ x) (sym (append-assoc (entryOf l) (10 ∷ []) (rowsFrom (suc n) s)))
-    ∙ sym (append-assoc (cellOf n) (entered l) (rowsFrom (suc n) s))
+    ∙ ap (λ (x : List ℕ). cellOf n ++ x) (sym (append-assoc (entryOf l) (10 ∷ []) (entriesFrom (suc n) s)))
+    ∙ sym (append-assoc (cellOf n) (entered l) (entriesFrom (suc n) s))
 
 -- so has a last line that lacks it
-pub rows-last : (n : ℕ) (l : List ℕ) → feedsIn l ≡ 0 → 0 < length l → rowsFrom n l ≡ cellOf n ++ entered l
+pub rows-last : (n : ℕ) (l : List ℕ) → feedsIn l ≡ 0 → 0 < length l → entriesFrom n l ≡ cellOf n ++ entered l
 unfolding numberedFrom
 rows-last n l h p = ap (numberedFrom true n) (output-last entered entered l h p) ∙ numbered-line n (entryOf l) [] (entry-feeds l)
 
 -- and there is nothing else
-pub rows-none : (n : ℕ) → rowsFrom n [] ≡ []
+pub rows-none : (n : ℕ) → entriesFrom n [] ≡ []
 unfolding numberedFrom outputFrom
 rows-none n = refl
 
@@ -149,4 +149,4 @@ entries-feeds r (b ∷ s) = go (eqb b 10) refl (entries-feeds [] s) (entries-fee
 
 -- as many rows as lines, after the header
 pub sheet-rows : (s : List ℕ) → feedsIn (sheet s) ≡ suc (linesIn s)
-sheet-rows s = omega (arith, feedsIn-append header (rowsFrom 1 s), numbered-feeds true 1 (entries s), entries-feeds [] s)
+sheet-rows s = omega (arith, feedsIn-append header (entriesFrom 1 s), numbered-feeds true 1 (entries s), entries-feeds [] s)

@@ -42,16 +42,16 @@ header =
     ∷ 119 ∷ 107 ∷ 98 ∷ 10 ∷ []
 
 -- what is said of each line of the input, numbered from n on
-abbrev pub rowsFrom : ℕ → List ℕ → List ℕ
-rowsFrom n s = numberedFrom true n (entries s)
+abbrev pub entriesFrom : ℕ → List ℕ → List ℕ
+entriesFrom n s = numberedFrom true n (entries s)
 
 -- the sheet: the header, then a row for each line, numbered from 1 on
 abbrev pub sheet : List ℕ → List ℕ
-sheet s = header ++ rowsFrom 1 s
+sheet s = header ++ entriesFrom 1 s
 
 -- where the sheet stands before anything is written
-abbrev pub top : Margin
-top = record { line = 0; begins = true }
+abbrev pub atTop : Margin
+atTop = record { line = 0; begins = true }
 
 -- what is written before all else: the header, unless it is there
 abbrev pub headOf : ℕ → List ℕ

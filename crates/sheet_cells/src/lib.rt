@@ -16,14 +16,14 @@ pub struct Cell;
 
 impl Cell {
     // digits of a number of 64 bits at most
-    pub const MOST_DECIMALS: usize = 20;
+    const MOST_DECIMALS: usize = 20;
 
     // bytes of a cell at most: such a number and a comma
     pub const MOST: usize = Cell::MOST_DECIMALS + 1;
 }
 
 // Writes n in decimal, with at most k digits, from the place at on. Answers the place after it.
-pub fn spell_decimal(out: &mut [u8], at: usize, k: usize, n: usize) -> usize
+fn spell_decimal(out: &mut [u8], at: usize, k: usize, n: usize) -> usize
     requires { ⌜ at + k ≤ length (now out) ⌝ }
     ensures { λ e. ⌜ Wrote (decimalOf k n) at (now (out .entry)) e (now (out .exit)) ⌝ }
 {

@@ -13,7 +13,7 @@ ghost use Rattle.lists.specs.Lists.{tally};
 ghost use Rattle.line_fields.specs.Put.{Wrote};
 ghost use Rattle.sheet.specs.Sizes.{mostCell};
 ghost use Rattle.sheet.specs.Entry.{cellOf};
-ghost use Rattle.sheet.specs.Sheet.{top, headOf, lineOf};
+ghost use Rattle.sheet.specs.Sheet.{atTop, headOf, lineOf};
 ghost use Rattle.sheet_number.specs.Numbered.{mostPiece, mostPage, mostNumber, NumberedFrom, NumberedIs};
 
 // How many bytes were written, and where the sheet stands then.
@@ -34,7 +34,7 @@ impl Numbered {
 
     // Where a sheet stands before anything is written.
     pub fn top() -> Margin
-        ensures { λ r. ⌜ r ≡ top ⌝ }
+        ensures { λ r. ⌜ r ≡ atTop ⌝ }
     {
         Margin {
             line: 0,

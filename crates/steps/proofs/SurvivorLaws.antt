@@ -13,6 +13,7 @@ use Rattle.answer.specs.declared.Judged.the-variants.{Good}
 use Rattle.answer.specs.declared.Refusal.the-variants.{BadDigit, NothingToTake, TooLong}
 use Rattle.lists.specs.Lists.{front, Below}
 use Rattle.answer.proofs.RefusalLaws.{refused-not-good, orElse-good}
+use Rattle.answer.specs.Limits.{mostSteps}
 use Rattle.steps.specs.Operations.{operate, survivorsFrom, faultOf, after, Fine, Walkable, operationsJudged}
 use Rattle.steps.proofs.OperationCases as cases
 
@@ -50,13 +51,13 @@ below-last [] d b = b .0
 below-last (x ∷ s) d b = below-last s d (b .1)
 
 pub fault-none : (i n o : ℕ) → faultOf i n o ≡ Good → Fine n o
-fault-none i n o e = go (ltb 4 o) refl (eqb o 4) refl (eqb n 0) refl (ltb n 16384) refl
+fault-none i n o e = go (ltb 4 o) refl (eqb o 4) refl (eqb n 0) refl (ltb n mostSteps) refl
   where
-    go : (a : Bool) → ltb 4 o ≡ a → (b : Bool) → eqb o 4 ≡ b → (c : Bool) → eqb n 0 ≡ c → (d : Bool) → ltb n 16384 ≡ d → Fine n o
+    go : (a : Bool) → ltb 4 o ≡ a → (b : Bool) → eqb o 4 ≡ b → (c : Bool) → eqb n 0 ≡ c → (d : Bool) → ltb n mostSteps ≡ d → Fine n o
     go true p b q c r d s = absurd (refused-not-good (BadDigit i) (rw p at e))
     go false p true q true r d s = absurd (refused-not-good (NothingToTake i) (rw (p, q, r) at e))
     go false p true q false r d s = inl (eqb-true o 4 q, omega (arith, eqb-false n 0 r))
-    go false p false q c r true s = inr (omega (arith, ltb-false 4 o p, eqb-false o 4 q), ltb-true n 16384 s)
+    go false p false q c r true s = inr (omega (arith, ltb-false 4 o p, eqb-false o 4 q), ltb-true n mostSteps s)
     go false p false q c r false s = absurd (refused-not-good (TooLong i) (rw (p, q, s) at e))
 
 pub fault-step : (i n o : ℕ) (os : List ℕ) → operationsJudged i n (o ∷ os) ≡ Good → (faultOf i n o ≡ Good) × (operationsJudged (suc i) (after n o) os ≡ Good)
@@ -72,7 +73,7 @@ after-length s o = go (eqb o 4) refl
 pub fine-back : (n o : ℕ) → Fine n o → o ≡ 4 → 0 < n
 fine-back n o f p = ⊎-elim (λ k. k .1) (λ k. absurd (let z = k .0 in omega arith)) f
 
-pub fine-step : (n o : ℕ) → Fine n o → (o ≡ 4 → ⊥) → (o < 4) × (n < 16384)
+pub fine-step : (n o : ℕ) → Fine n o → (o ≡ 4 → ⊥) → (o < 4) × (n < mostSteps)
 fine-step n o f g = ⊎-elim (λ k. absurd (g (k .0))) (λ k. k) f
 
 -- what survives of a record with no fault
@@ -90,10 +91,10 @@ walkable-survivors i s (o ∷ os) h e =
     walkable-survivors (suc i) (operate s o) os (walkable-operate s o h (fault-none i (length s) o (k .0))) (subst (λ n. operationsJudged (suc i) n os ≡ Good) (after-length s o) (k .1))
 
 -- steps alone have no fault
-step-fault : (i n d : ℕ) → d < 4 → n < 16384 → faultOf i n d ≡ Good
-step-fault i n d h k = rw (le-ltb 4 d (omega arith), ne-eqb d 4 (λ e. omega arith), lt-ltb n 16384 k, faultOf)
+step-fault : (i n d : ℕ) → d < 4 → n < mostSteps → faultOf i n d ≡ Good
+step-fault i n d h k = rw (le-ltb 4 d (omega arith), ne-eqb d 4 (λ e. omega arith), lt-ltb n mostSteps k, faultOf)
 
-pub steps-accepted : (i n : ℕ) (ds : List ℕ) → Below 4 ds → n + length ds ≤ 16384 → operationsJudged i n ds ≡ Good
+pub steps-accepted : (i n : ℕ) (ds : List ℕ) → Below 4 ds → n + length ds ≤ mostSteps → operationsJudged i n ds ≡ Good
 steps-accepted i n [] b h = refl
 steps-accepted i n (d ∷ ds) b h =
     let a : after n d ≡ n + 1 = rw (ne-eqb d 4 (λ e. omega (arith, b .0)), after) in

@@ -16,7 +16,7 @@ use Rattle.layout.specs.Marks.{sameWords, changesIn, changesOf}
 use Rattle.layout.specs.Table.{width, tableOf}
 use Rattle.lists.specs.Lists.{any, count, gather, tally}
 use Rattle.tree.specs.Nodes.{nodesOf}
-use Rattle.tree_laws.specs.State.{State, Sound, stateOf, recordBy, rowsOf, risenBy, tableBy}
+use Rattle.tree_laws.specs.State.{State, Sound, stateOf, recordBy, rowsBy, risenBy, tableBy}
 use Rattle.lists.proofs.FindLaws.{bool-agree}
 use Rattle.tree_laws.proofs.AddLaws.{Fresh, fresh}
 use Rattle.tree_laws.proofs.LevelLaws.{root-known}
@@ -40,12 +40,12 @@ row-differs n l m t u e f =
     ap₂ _+_ (ap₂ (λ (x y : List ℕ). tally (not (sameWords x y))) (take-row l t e) (take-row m u f)) (ap₂ (changesIn n) (drop-row l t e) (drop-row m u f))
 
 rows-differ : (R Q : Corner → List ℕ) → ((a : Corner) → length (R a) ≡ width) → ((a : Corner) → length (Q a) ≡ width) → (l : List Corner) (n m : ℕ) (r q : List ℕ) → m ≡ length l + n
-    → changesIn m (rowsOf R l ++ r) (rowsOf Q l ++ q) ≡ count (λ x. not (sameWords (R x) (Q x))) l + changesIn n r q
+    → changesIn m (rowsBy R l ++ r) (rowsBy Q l ++ q) ≡ count (λ x. not (sameWords (R x) (Q x))) l + changesIn n r q
 rows-differ R Q i j [] n m r q e = let z : m ≡ n = omega arith in ap (λ (k : ℕ). changesIn k r q) z ∙ omega arith
 rows-differ R Q i j (x ∷ l) n zero r q e = absurd (omega arith)
 rows-differ R Q i j (x ∷ l) n (suc m) r q e =
-    ap₂ (changesIn (suc m)) (append-assoc (R x) (rowsOf R l) r) (append-assoc (Q x) (rowsOf Q l) q)
-    ∙ row-differs m (R x) (Q x) (rowsOf R l ++ r) (rowsOf Q l ++ q) (i x) (j x)
+    ap₂ (changesIn (suc m)) (append-assoc (R x) (rowsBy R l) r) (append-assoc (Q x) (rowsBy Q l) q)
+    ∙ row-differs m (R x) (Q x) (rowsBy R l ++ r) (rowsBy Q l ++ q) (i x) (j x)
     ∙ omega (arith, rows-differ R Q i j l n m r q (omega arith))
 
 -- a table does not differ from itself, and it does not matter which of two comes first
@@ -78,15 +78,15 @@ module _ (S : State) (sound : Sound S) (s d : ℕ) (pos : 0 < s) (small : d < 4)
       go false p = rw p refl
 
   -- the table before the step, as rows of the nodes after it
-  table-before : (words : ℕ) → width * length all ≤ words → tableBy words S ≡ rowsOf old all ++ replicate (words - width * length all) 0
+  table-before : (words : ℕ) → width * length all ≤ words → tableBy words S ≡ rowsBy old all ++ replicate (words - width * length all) 0
   table-before words h =
       let ns = S .nodes in
       let f : Fresh ns (stepped d a) = fresh ns (sound .good .closed) (root-known ns (S .step) (sound .good)) (stepped d a) in
-      let rs = rowsOf (recordBy S) ns in
+      let rs = rowsBy (recordBy S) ns in
       let n = length ns in
       let k = length (f .new) in
       let size : length all ≡ n + k = ap length (f .nodes) ∙ length-append ns (f .new) in
-      let rows : rowsOf old all ≡ rs ++ replicate (k * width) 0 = ap (rowsOf old) (f .nodes) ∙ rows-append old ns (f .new) ∙ ap₂ (λ (x y : List ℕ). x ++ y) (rows-cong old (recordBy S) ns (before-old S sound s d pos small a from)) (rows-zero width old (f .new) (λ x m. before-new S sound s d pos small a from x (f .unknown x m))) in
+      let rows : rowsBy old all ≡ rs ++ replicate (k * width) 0 = ap (rowsBy old) (f .nodes) ∙ rows-append old ns (f .new) ∙ ap₂ (λ (x y : List ℕ). x ++ y) (rows-cong old (recordBy S) ns (before-old S sound s d pos small a from)) (rows-zero width old (f .new) (λ x m. before-new S sound s d pos small a from x (f .unknown x m))) in
       let left : words - length rs ≡ k * width + (words - width * length all) = omega (arith, length-rows (recordBy S) (wide S) ns) in
       ap (λ (m : ℕ). rs ++ replicate m 0) left
       ∙ ap (λ (l : List ℕ). rs ++ l) (sym (replicate-append-replicate (k * width) (words - width * length all) 0))
@@ -98,7 +98,7 @@ module _ (S : State) (sound : Sound S) (s d : ℕ) (pos : 0 < s) (small : d < 4)
   step-changes k words n h room more =
       let T : State = after S sound s d pos small a in
       let z : List ℕ = replicate (words - width * length all) 0 in
-      let new : tableBy words T ≡ rowsOf (recordBy T) all ++ z = ap (λ (m : ℕ). rowsOf (recordBy T) all ++ replicate (words - m) 0) (length-rows (recordBy T) (wide T) all ∙ (omega arith)) in
+      let new : tableBy words T ≡ rowsBy (recordBy T) all ++ z = ap (λ (m : ℕ). rowsBy (recordBy T) all ++ replicate (words - m) 0) (length-rows (recordBy T) (wide T) all ∙ (omega arith)) in
       ap₂ (changesIn n) (table-before words room) new
       ∙ rows-differ old (recordBy T) old-wide (wide T) all (n - length all) n z z (omega arith)
       ∙ omega (arith, changes-self (n - length all) z, count-changed S sound s d pos small a from k h)
@@ -176,7 +176,7 @@ split-rows (suc n) t u r q e f j (suc m) i =
 table-more : (c : Corner) (ds : List ℕ) (n m : ℕ) → length (nodesOf (cornersFrom c ds)) ≤ n → n ≤ m → tableOf (m * width) c ds ≡ tableOf (n * width) c ds ++ replicate ((m - n) * width) 0
 table-more c ds n m h i =
     let S : State = stateOf (cornersFrom c ds) in
-    let rs = rowsOf (recordBy S) (nodesOf (cornersFrom c ds)) in
+    let rs = rowsBy (recordBy S) (nodesOf (cornersFrom c ds)) in
     let k = n * width - length rs in
     let e : m * width - length rs ≡ k + (m - n) * width = omega (arith, length-rows (recordBy S) (wide S) (nodesOf (cornersFrom c ds))) in
     table-state (m * width) c ds

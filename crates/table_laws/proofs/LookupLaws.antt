@@ -15,7 +15,7 @@ use Rattle.grid.specs.Tree.{root, parentOf, isRoot, sizeOf, pathOf, childWord}
 use Rattle.lists.specs.Lists.{add, gather}
 use Rattle.tree.specs.Nodes.{refOf}
 use Rattle.layout.specs.Table.{width, recordsIn, wordAt, parentWord, neighbourWord, needWord}
-use Rattle.tree_laws.specs.State.{State, reached, withNode, withLink, grown, raised, Alike, Sound, recordBy, rowsOf, tableBy, Made}
+use Rattle.tree_laws.specs.State.{State, reached, withNode, withLink, grown, raised, Alike, Sound, recordBy, rowsBy, tableBy, Made}
 use Rattle.grid.proofs.CornerLaws.{same-refl, same-sound}
 use Rattle.grid.proofs.ParentLaws.{parentOf-stepped}
 use Rattle.grid.proofs.PathLaws.{sizeOf-parentOf}
@@ -32,7 +32,7 @@ use Rattle.table_laws.proofs.StoreLaws.{wide, far, alike-table, node-ta
 
 pub length-table : (words : ℕ) (S : State) → width * length (S .nodes) ≤ words → length (tableBy words S) ≡ words
 length-table words S h =
-    let rs = rowsOf (recordBy S) (S .nodes) in
+    let rs = rowsBy (recordBy S) (S .nodes) in
     let z : ℕ = 0 in
     omega (arith, length-append rs (replicate (words - length rs) z), length-replicate (words - length rs) z, length-rows (recordBy S) (wide S) (S .nodes))
 

@@ -15,7 +15,7 @@ use Rattle.grid.specs.Tree.{parentOf, isRoot, sizeOf, pathOf}
 use Rattle.layout.specs.Table.{wordAt, parentWord, neighbourWord, linkWord, needWord}
 use Rattle.lists.specs.Lists.{any, gather, tally}
 use Rattle.tree.specs.Nodes.{links, refOf}
-use Rattle.tree_laws.specs.State.{State, Sound, WellLinked, linked, needed, put, tableBy, linksUp, isFresh, but, risenBy}
+use Rattle.tree_laws.specs.State.{State, Sound, WellLinked, linked, needed, linkPut, tableBy, linksUp, isFresh, but, risenBy}
 use Rattle.grid.proofs.CornerLaws.{same-refl, same-sound}
 use Rattle.grid.proofs.ParentLaws.{parentOf-stepped}
 use Rattle.grid.proofs.PathLaws.{sizeOf-parentOf}
@@ -57,8 +57,8 @@ module _ (S : State) (sound : Sound S) (s d : ℕ) (pos : 0 < s) (small : d < 4)
   apart : (x b : Corner) → sizeOf x < sizeOf b → joins x (stepped d x) (b, stepped d b) ≡ false
   apart x b h = is-false (joins x (stepped d x) (b, stepped d b)) (λ j. ⊎-elim (λ q. omega (arith, ap sizeOf (q .0))) (λ q. back-ne d small (q .1)) (joins-stepped d d x b small small j))
 
-  put-apart : (M : Corner → Corner → ℕ) (x b : Corner) → sizeOf x < sizeOf b → put M s b (stepped d b) x (stepped d x) ≡ M x (stepped d x)
-  put-apart M x b h = rw (apart x b h)
+  linkPut-apart : (M : Corner → Corner → ℕ) (x b : Corner) → sizeOf x < sizeOf b → linkPut M s b (stepped d b) x (stepped d x) ≡ M x (stepped d x)
+  linkPut-apart M x b h = rw (apart x b h)
 
   unlinked : (b : Corner) → linksUp L b (stepped d b) ≡ true → L b (stepped d b) ≡ 0
   unlinked b r = go (L b (stepped d b)) refl
@@ -72,7 +72,7 @@ module _ (S : State) (sound : Sound S) (s d : ℕ) (pos : 0 < s) (small : d < 4)
   link-above b r x h =
       let g = goes-up L b (stepped d b) r in
       above-links ns L (sound .good) s b (stepped d b) (unlinked b r) (g .0) (g .1) x (stepped d x)
-      ∙ put-apart (linked L s (parentOf b) (parentOf (stepped d b))) x b h
+      ∙ linkPut-apart (linked L s (parentOf b) (parentOf (stepped d b))) x b h
       ∙ ap (λ (y : Corner). linked L s (parentOf b) y x (stepped d x)) (up-near L ns (rooted S sound s d pos small) d b (stepped d b) refl r)
 
   -- the link of the parents has the step's number exactly where the pair goes up
@@ -103,8 +103,8 @@ module _ (S : State) (sound : Sound S) (s d : ℕ) (pos : 0 < s) (small : d < 4)
 
       go : (n : ℕ) → L b g ≡ n → (k : Bool) → isRoot g ≡ k → (m : Bool) → same p (parentOf g) ≡ m → ⊥
       go (suc n) z k i m j = old (known-links ns L (sound .good) s b g (omega arith) p q (λ e. stepped-ne d p (sym e)))
-      go zero z true i m j = old (right-links ns L (sound .good) s b g z i p q ∙ put-apart L p b less)
-      go zero z false i true j = old (sibling-links ns L (sound .good) s b g z low i (same-sound p (parentOf g) j) p q (λ e. stepped-ne d p (sym e)) ∙ put-apart L p b less)
+      go zero z true i m j = old (right-links ns L (sound .good) s b g z i p q ∙ linkPut-apart L p b less)
+      go zero z false i true j = old (sibling-links ns L (sound .good) s b g z low i (same-sound p (parentOf g) j) p q (λ e. stepped-ne d p (sym e)) ∙ linkPut-apart L p b less)
       go zero z false i false j = up (L p (parentOf g)) refl
         where
           near : parentOf g ≡ q
@@ -113,7 +113,7 @@ module _ (S : State) (sound : Sound S) (s d : ℕ) (pos : 0 < s) (small : d < 4)
           up : (n : ℕ) → L p (parentOf g) ≡ n → ⊥
           up zero y = true≢false (sym (up-goes L b g low i j y) ∙ r)
           up (suc n) y =
-              old (above-links ns L (sound .good) s b g z low i p q ∙ put-apart (linked L s p (parentOf g)) p b less
+              old (above-links ns L (sound .good) s b g z low i p q ∙ linkPut-apart (linked L s p (parentOf g)) p b less
               ∙ later-old (L p q) (links p q (p, parentOf g)) s (subst (λ (x : Corner). 0 < L p x) near (omega arith)))
 
   -- the step from a

@@ -13,12 +13,12 @@ use Rattle.grid.specs.Grid.{same, cornersFrom}
 use Rattle.layout.specs.Table.{recordOf, recordsOf, tableOf}
 use Rattle.lists.specs.Lists.{find, place, Distinct}
 use Rattle.tree.specs.Nodes.{nodesOf}
-use Rattle.tree_laws.specs.State.{stateOf, recordBy, rowsOf, filled, tableBy}
+use Rattle.tree_laws.specs.State.{stateOf, recordBy, rowsBy, filled, tableBy}
 use Rattle.grid.proofs.CornerLaws.{same-refl, same-sound}
 use Rattle.layout.proofs.WordLaws.{set-append-add}
 
 -- the table of a walk is that of its state
-records-rows : (ps l : List Corner) → recordsOf ps (nodesOf ps) l ≡ rowsOf (recordBy (stateOf ps)) l
+records-rows : (ps l : List Corner) → recordsOf ps (nodesOf ps) l ≡ rowsBy (recordBy (stateOf ps)) l
 records-rows ps [] = refl
 records-rows ps (a ∷ l) = ap (λ (m : List ℕ). recordOf ps (nodesOf ps) a ++ m) (records-rows ps l)
 
@@ -26,20 +26,20 @@ pub table-state : (words : ℕ) (c : Corner) (ds : List ℕ) → tableOf words c
 table-state words c ds = ap (filled words) (records-rows (cornersFrom c ds) (nodesOf (cornersFrom c ds)))
 
 module _ {A : Type 0} where
-  pub rows-append : (R : A → List ℕ) (l m : List A) → rowsOf R (l ++ m) ≡ rowsOf R l ++ rowsOf R m
+  pub rows-append : (R : A → List ℕ) (l m : List A) → rowsBy R (l ++ m) ≡ rowsBy R l ++ rowsBy R m
   rows-append R [] m = refl
-  rows-append R (a ∷ l) m = ap (λ (x : List ℕ). R a ++ x) (rows-append R l m) ∙ sym (append-assoc (R a) (rowsOf R l) (rowsOf R m))
+  rows-append R (a ∷ l) m = ap (λ (x : List ℕ). R a ++ x) (rows-append R l m) ∙ sym (append-assoc (R a) (rowsBy R l) (rowsBy R m))
 
-  pub rows-cong : (R Q : A → List ℕ) (l : List A) → ((a : A) → List·Memᴰ a l → R a ≡ Q a) → rowsOf R l ≡ rowsOf Q l
+  pub rows-cong : (R Q : A → List ℕ) (l : List A) → ((a : A) → List·Memᴰ a l → R a ≡ Q a) → rowsBy R l ≡ rowsBy Q l
   rows-cong R Q [] h = refl
   rows-cong R Q (a ∷ l) h = ap₂ (λ (x y : List ℕ). x ++ y) (h a (List·Memᴰ·head refl)) (rows-cong R Q l (λ b m. h b (List·Memᴰ·tail m)))
 
-  pub length-rows : {width : ℕ} (R : A → List ℕ) → ((a : A) → length (R a) ≡ width) → (l : List A) → length (rowsOf R l) ≡ length l * width
+  pub length-rows : {width : ℕ} (R : A → List ℕ) → ((a : A) → length (R a) ≡ width) → (l : List A) → length (rowsBy R l) ≡ length l * width
   length-rows R wide [] = omega arith
-  length-rows {width} R wide (a ∷ l) = omega (arith, length-append (R a) (rowsOf R l), wide a, length-rows R wide l)
+  length-rows {width} R wide (a ∷ l) = omega (arith, length-append (R a) (rowsBy R l), wide a, length-rows R wide l)
 
   -- rows of zeros
-  pub rows-zero : (width : ℕ) (R : A → List ℕ) (l : List A) → ((x : A) → List·Memᴰ x l → R x ≡ replicate width 0) → rowsOf R l ≡ replicate (length l * width) 0
+  pub rows-zero : (width : ℕ) (R : A → List ℕ) (l : List A) → ((x : A) → List·Memᴰ x l → R x ≡ replicate width 0) → rowsBy R l ≡ replicate (length l * width) 0
   rows-zero width R [] h = let e : 0 ≡ 0 * width = omega arith in ap (λ (n : ℕ). replicate n 0) e
   rows-zero width R (x ∷ l) h =
       let e : width + length l * width ≡ suc (length l) * width = omega arith in
@@ -127,28 +127,28 @@ module _ {A : Type 0} (K : Keys A) where
           )
 
   module _ {width : ℕ} (R : A → List ℕ) (wide : (a : A) → length (R a) ≡ width) where
-    rows-split : (ns l r : List A) (a : A) → ns ≡ l ++ (a ∷ r) → rowsOf R ns ≡ rowsOf R l ++ (R a ++ rowsOf R r)
-    rows-split ns l r a e = ap (rowsOf R) e ∙ rows-append R l (a ∷ r)
+    rows-split : (ns l r : List A) (a : A) → ns ≡ l ++ (a ∷ r) → rowsBy R ns ≡ rowsBy R l ++ (R a ++ rowsBy R r)
+    rows-split ns l r a e = ap (rowsBy R) e ∙ rows-append R l (a ∷ r)
 
     -- word w of the row before which so many stand
-    word-place : (l : List A) (u w : ℕ) → length l ≡ u → u * width + w ≡ length (rowsOf R l) + w
+    word-place : (l : List A) (u w : ℕ) → length l ≡ u → u * width + w ≡ length (rowsBy R l) + w
     word-place l u w e = let m : length l * width ≡ u * width = ap (λ (n : ℕ). n * width) e in omega (arith, length-rows R wide l)
 
     -- word w of the row of the key a
-    pub row-read : (words : ℕ) (ns : List A) (a : A) (u w : ℕ) → find (K .test a) ns ≡ suc u → w < width → getD (filled words (rowsOf R ns)) (u * width + w) 0 ≡ getD (R a) w 0
+    pub row-read : (words : ℕ) (ns : List A) (a : A) (u w : ℕ) → find (K .test a) ns ≡ suc u → w < width → getD (filled words (rowsBy R ns)) (u * width + w) 0 ≡ getD (R a) w 0
     row-read words ns a u w e h =
         let k = key-split ns a u e in
-        let z : List ℕ = replicate (words - length (rowsOf R ns)) 0 in
-        ap (λ (j : ℕ). getD (filled words (rowsOf R ns)) j 0) (word-place (k .0) u w (k .3))
-        ∙ ap (λ (l : List ℕ). getD (l ++ z) (length (rowsOf R (k .0)) + w) 0) (rows-split ns (k .0) (k .1) a (k .2))
-        ∙ ap (λ (l : List ℕ). getD l (length (rowsOf R (k .0)) + w) 0) (append-assoc (rowsOf R (k .0)) (R a ++ rowsOf R (k .1)) z ∙ ap (λ (l : List ℕ). rowsOf R (k .0) ++ l) (append-assoc (R a) (rowsOf R (k .1)) z))
-        ∙ getD-append-add (rowsOf R (k .0)) (R a ++ (rowsOf R (k .1) ++ z)) w 0
-        ∙ List·getD-append (R a) (rowsOf R (k .1) ++ z) 0 w (omega (arith, wide a))
+        let z : List ℕ = replicate (words - length (rowsBy R ns)) 0 in
+        ap (λ (j : ℕ). getD (filled words (rowsBy R ns)) j 0) (word-place (k .0) u w (k .3))
+        ∙ ap (λ (l : List ℕ). getD (l ++ z) (length (rowsBy R (k .0)) + w) 0) (rows-split ns (k .0) (k .1) a (k .2))
+        ∙ ap (λ (l : List ℕ). getD l (length (rowsBy R (k .0)) + w) 0) (append-assoc (rowsBy R (k .0)) (R a ++ rowsBy R (k .1)) z ∙ ap (λ (l : List ℕ). rowsBy R (k .0) ++ l) (append-assoc (R a) (rowsBy R (k .1)) z))
+        ∙ getD-append-add (rowsBy R (k .0)) (R a ++ (rowsBy R (k .1) ++ z)) w 0
+        ∙ List·getD-append (R a) (rowsBy R (k .1) ++ z) 0 w (omega (arith, wide a))
 
     -- a row replaced, in the middle of the rows
-    upd-rows : (ns l r : List A) (a : A) (row : List ℕ) → Once a ns → ns ≡ l ++ (a ∷ r) → (List·Memᴰ a l → ⊥) → rowsOf (upd R a row) ns ≡ rowsOf R l ++ (row ++ rowsOf R r)
+    upd-rows : (ns l r : List A) (a : A) (row : List ℕ) → Once a ns → ns ≡ l ++ (a ∷ r) → (List·Memᴰ a l → ⊥) → rowsBy (upd R a row) ns ≡ rowsBy R l ++ (row ++ rowsBy R r)
     upd-rows ns l r a row d e f =
-        ap (rowsOf (upd R a row)) e
+        ap (rowsBy (upd R a row)) e
         ∙ rows-append (upd R a row) l (a ∷ r)
         ∙ ap₂ (λ (x y : List ℕ). x ++ y)
         (rows-cong (upd R a row) R l (λ b m. upd-off R a row b (λ p. f (Memᴰ·cast (sym p) m))))
@@ -156,30 +156,30 @@ module _ {A : Type 0} (K : Keys A) where
 
     -- word w of the row of the key a is set
     pub row-set : (words : ℕ) (ns : List A) (a : A) (u w v : ℕ) → Once a ns → find (K .test a) ns ≡ suc u → w < width
-        → set (filled words (rowsOf R ns)) (u * width + w) v ≡ filled words (rowsOf (upd R a (set (R a) w v)) ns)
+        → set (filled words (rowsBy R ns)) (u * width + w) v ≡ filled words (rowsBy (upd R a (set (R a) w v)) ns)
     row-set words ns a u w v d e h =
         let k = key-split ns a u e in
-        let l = rowsOf R (k .0) in
-        let r = rowsOf R (k .1) in
-        let z : List ℕ = replicate (words - length (rowsOf R ns)) 0 in
+        let l = rowsBy R (k .0) in
+        let r = rowsBy R (k .1) in
+        let z : List ℕ = replicate (words - length (rowsBy R ns)) 0 in
         let s = rows-split ns (k .0) (k .1) a (k .2) in
         let q = upd-rows ns (k .0) (k .1) a (set (R a) w v) d (k .2) (k .4) in
-        let n : length (rowsOf (upd R a (set (R a) w v)) ns) ≡ length (rowsOf R ns) = ap length q ∙ length-append l (set (R a) w v ++ r) ∙ ap (λ (m : ℕ). length l + m) (length-append (set (R a) w v) r ∙ ap (λ (m : ℕ). m + length r) (length-set (R a) w v) ∙ sym (length-append (R a) r)) ∙ sym (length-append l (R a ++ r)) ∙ ap length (sym s) in
-        ap (λ (j : ℕ). set (rowsOf R ns ++ z) j v) (word-place (k .0) u w (k .3))
+        let n : length (rowsBy (upd R a (set (R a) w v)) ns) ≡ length (rowsBy R ns) = ap length q ∙ length-append l (set (R a) w v ++ r) ∙ ap (λ (m : ℕ). length l + m) (length-append (set (R a) w v) r ∙ ap (λ (m : ℕ). m + length r) (length-set (R a) w v) ∙ sym (length-append (R a) r)) ∙ sym (length-append l (R a ++ r)) ∙ ap length (sym s) in
+        ap (λ (j : ℕ). set (rowsBy R ns ++ z) j v) (word-place (k .0) u w (k .3))
         ∙ ap (λ (x : List ℕ). set x (length l + w) v) (ap (λ (x : List ℕ). x ++ z) s ∙ append-assoc l (R a ++ r) z ∙ ap (λ (x : List ℕ). l ++ x) (append-assoc (R a) r z))
         ∙ set-append-add l (R a ++ (r ++ z)) w v
         ∙ ap (λ (x : List ℕ). l ++ x) (set-append-left (R a) (r ++ z) w v (omega (arith, wide a)) ∙ sym (append-assoc (set (R a) w v) r z))
         ∙ sym (append-assoc l (set (R a) w v ++ r) z)
         ∙ ap (λ (x : List ℕ). x ++ z) (sym q)
-        ∙ ap (λ (m : ℕ). rowsOf (upd R a (set (R a) w v)) ns ++ replicate (words - m) 0) (sym n)
+        ∙ ap (λ (m : ℕ). rowsBy (upd R a (set (R a) w v)) ns ++ replicate (words - m) 0) (sym n)
 
     -- a row of zeros more is in the table already
     pub row-more : (words : ℕ) (ns : List A) (e : A) → (List·Memᴰ e ns → ⊥) → suc (length ns) * width ≤ words
-        → filled words (rowsOf R ns) ≡ filled words (rowsOf (upd R e (replicate width 0)) (ns ++ (e ∷ [])))
+        → filled words (rowsBy R ns) ≡ filled words (rowsBy (upd R e (replicate width 0)) (ns ++ (e ∷ [])))
     row-more words ns e f h =
-        let rs = rowsOf R ns in
+        let rs = rowsBy R ns in
         let z : List ℕ = replicate width 0 in
-        let q : rowsOf (upd R e z) (ns ++ (e ∷ [])) ≡ rs ++ z = rows-append (upd R e z) ns (e ∷ []) ∙ ap₂ (λ (x y : List ℕ). x ++ (y ++ [])) (rows-cong (upd R e z) R ns (λ b m. upd-off R e z b (λ p. f (Memᴰ·cast (sym p) m)))) (upd-at R e z) ∙ ap (λ (l : List ℕ). rs ++ l) (append-nil z) in
+        let q : rowsBy (upd R e z) (ns ++ (e ∷ [])) ≡ rs ++ z = rows-append (upd R e z) ns (e ∷ []) ∙ ap₂ (λ (x y : List ℕ). x ++ (y ++ [])) (rows-cong (upd R e z) R ns (λ b m. upd-off R e z b (λ p. f (Memᴰ·cast (sym p) m)))) (upd-at R e z) ∙ ap (λ (l : List ℕ). rs ++ l) (append-nil z) in
         let x : ℕ = 0 in
         let n : length (rs ++ z) ≡ length rs + width = length-append rs z ∙ ap (λ (m : ℕ). length rs + m) (length-replicate width x) in
         let t : words - length rs ≡ width + (words - (length rs + width)) = omega (arith, length-rows R wide ns) in
@@ -190,7 +190,7 @@ module _ {A : Type 0} (K : Keys A) where
         ∙ ap (filled words) (sym q)
 
   pub row-set-again : {width : ℕ} (R : A → List ℕ) → ((a : A) → length (R a) ≡ width) → (words : ℕ) (ns : List A) (a : A) (row : List ℕ) (u w v : ℕ) → length row ≡ width → Once a ns → find (K .test a) ns ≡ suc u → w < width
-      → set (filled words (rowsOf (upd R a row) ns)) (u * width + w) v ≡ filled words (rowsOf (upd R a (set row w v)) ns)
+      → set (filled words (rowsBy (upd R a row) ns)) (u * width + w) v ≡ filled words (rowsBy (upd R a (set row w v)) ns)
   row-set-again R wide words ns a row u w v k d e h =
       row-set (upd R a row) (wide-upd R wide a row k) words ns a u w v d e h
       ∙ ap (filled words) (rows-cong (upd (upd R a row) a (set (upd R a row a) w v)) (upd R a (set row w v)) ns (λ x m. upd-upd R a row (set (upd R a row a) w v) x ∙ ap (λ (l : List ℕ). upd R a (set l w v) x) (upd-at R a row)))
@@ -214,38 +214,38 @@ cleared-all {width} row h = ap (λ (l : List ℕ). replicate width 0 ++ l) (drop
 module _ {A : Type 0} (K : Keys A) {width : ℕ} where
   -- a whole row cleared word by word
   sets-row : (R : A → List ℕ) → ((a : A) → length (R a) ≡ width) → (words : ℕ) (ns : List A) (a : A) (u : ℕ) → Once a ns → find (K .test a) ns ≡ suc u → (m f : ℕ) → f + m ≤ width
-      → sets (filled words (rowsOf (upd K R a (cleared f (R a))) ns)) (u * width + f) (replicate m 0) ≡ filled words (rowsOf (upd K R a (cleared (f + m) (R a))) ns)
-  sets-row R wide words ns a u d e zero f h = let z : f ≡ f + 0 = omega arith in ap (λ (k : ℕ). filled words (rowsOf (upd K R a (cleared k (R a))) ns)) z
+      → sets (filled words (rowsBy (upd K R a (cleared f (R a))) ns)) (u * width + f) (replicate m 0) ≡ filled words (rowsBy (upd K R a (cleared (f + m) (R a))) ns)
+  sets-row R wide words ns a u d e zero f h = let z : f ≡ f + 0 = omega arith in ap (λ (k : ℕ). filled words (rowsBy (upd K R a (cleared k (R a))) ns)) z
   sets-row R wide words ns a u d e (suc m) f h =
       let i : suc (u * width + f) ≡ u * width + suc f = omega arith in
       let j : suc f + m ≡ f + suc m = omega arith in
       let z : List ℕ = replicate m 0 in
       ap (λ (t : List ℕ). sets t (suc (u * width + f)) z)
       (row-set-again K R wide words ns a (cleared f (R a)) u f 0 (cleared-length f (R a) (omega (arith, wide a)) ∙ wide a) d e (omega arith)
-      ∙ ap (λ (l : List ℕ). filled words (rowsOf (upd K R a l) ns)) (cleared-next f (R a) (omega (arith, wide a))))
-      ∙ ap (λ (k : ℕ). sets (filled words (rowsOf (upd K R a (cleared (suc f) (R a))) ns)) k z) i
+      ∙ ap (λ (l : List ℕ). filled words (rowsBy (upd K R a l) ns)) (cleared-next f (R a) (omega (arith, wide a))))
+      ∙ ap (λ (k : ℕ). sets (filled words (rowsBy (upd K R a (cleared (suc f) (R a))) ns)) k z) i
       ∙ sets-row R wide words ns a u d e m (suc f) (omega arith)
-      ∙ ap (λ (k : ℕ). filled words (rowsOf (upd K R a (cleared k (R a))) ns)) j
+      ∙ ap (λ (k : ℕ). filled words (rowsBy (upd K R a (cleared k (R a))) ns)) j
 
   pub row-clear : (R : A → List ℕ) → ((a : A) → length (R a) ≡ width) → (words : ℕ) (ns : List A) (a : A) (u : ℕ) → Once a ns → find (K .test a) ns ≡ suc u
-      → sets (filled words (rowsOf R ns)) (u * width) (replicate width 0) ≡ filled words (rowsOf (upd K R a (replicate width 0)) ns)
+      → sets (filled words (rowsBy R ns)) (u * width) (replicate width 0) ≡ filled words (rowsBy (upd K R a (replicate width 0)) ns)
   row-clear R wide words ns a u d e =
       let z : List ℕ = replicate width 0 in
       let i : u * width ≡ u * width + 0 = omega arith in
       let j : 0 + width ≡ width = omega arith in
-      ap (λ (k : ℕ). sets (filled words (rowsOf R ns)) k z) i
+      ap (λ (k : ℕ). sets (filled words (rowsBy R ns)) k z) i
       ∙ ap (λ (t : List ℕ). sets (filled words t) (u * width + 0) z) (rows-cong R (upd K R a (R a)) ns (λ x m. upd-self K R a x))
       ∙ sets-row R wide words ns a u d e width 0 (omega arith)
-      ∙ ap (λ (l : List ℕ). filled words (rowsOf (upd K R a l) ns)) (ap (λ (k : ℕ). cleared k (R a)) j ∙ cleared-all (R a) (wide a))
+      ∙ ap (λ (l : List ℕ). filled words (rowsBy (upd K R a l) ns)) (ap (λ (k : ℕ). cleared k (R a)) j ∙ cleared-all (R a) (wide a))
 
   -- a store in each of two rows
   pub one-each : (R : A → List ℕ) → ((a : A) → length (R a) ≡ width) → (words : ℕ) (ns : List A) (a e : A) (u v w₁ x₁ w₂ x₂ : ℕ)
       → Once a ns → Once e ns → find (K .test a) ns ≡ suc u → find (K .test e) ns ≡ suc v → (e ≡ a → ⊥) → w₁ < width → w₂ < width
-      → set (set (filled words (rowsOf R ns)) (u * width + w₁) x₁) (v * width + w₂) x₂ ≡ filled words (rowsOf (upd K (upd K R a (set (R a) w₁ x₁)) e (set (R e) w₂ x₂)) ns)
+      → set (set (filled words (rowsBy R ns)) (u * width + w₁) x₁) (v * width + w₂) x₂ ≡ filled words (rowsBy (upd K (upd K R a (set (R a) w₁ x₁)) e (set (R e) w₂ x₂)) ns)
   one-each R wide words ns a e u v w₁ x₁ w₂ x₂ c d h k f i₁ i₂ =
       ap (λ (t : List ℕ). set t (v * width + w₂) x₂) (row-set K R wide words ns a u w₁ x₁ c h i₁)
       ∙ row-set K Q (wide-upd K R wide a (set (R a) w₁ x₁) (length-set (R a) w₁ x₁ ∙ wide a)) words ns e v w₂ x₂ d k i₂
-      ∙ ap (λ (l : List ℕ). filled words (rowsOf (upd K Q e (set l w₂ x₂)) ns)) (upd-off K R a (set (R a) w₁ x₁) e f)
+      ∙ ap (λ (l : List ℕ). filled words (rowsBy (upd K Q e (set l w₂ x₂)) ns)) (upd-off K R a (set (R a) w₁ x₁) e f)
     where
       Q : A → List ℕ
       Q = upd K R a (set (R a) w₁ x₁)
@@ -253,14 +253,14 @@ module _ {A : Type 0} (K : Keys A) {width : ℕ} where
   -- two stores in each of two rows
   pub two-rows : (R : A → List ℕ) → ((a : A) → length (R a) ≡ width) → (words : ℕ) (ns : List A) (a e : A) (u v w₁ x₁ w₂ x₂ w₃ x₃ w₄ x₄ : ℕ)
       → Once a ns → Once e ns → find (K .test a) ns ≡ suc u → find (K .test e) ns ≡ suc v → (e ≡ a → ⊥) → w₁ < width → w₂ < width → w₃ < width → w₄ < width
-      → set (set (set (set (filled words (rowsOf R ns)) (u * width + w₁) x₁) (u * width + w₂) x₂) (v * width + w₃) x₃) (v * width + w₄) x₄
-      ≡ filled words (rowsOf (upd K (upd K R a (set (set (R a) w₁ x₁) w₂ x₂)) e (set (set (R e) w₃ x₃) w₄ x₄)) ns)
+      → set (set (set (set (filled words (rowsBy R ns)) (u * width + w₁) x₁) (u * width + w₂) x₂) (v * width + w₃) x₃) (v * width + w₄) x₄
+      ≡ filled words (rowsBy (upd K (upd K R a (set (set (R a) w₁ x₁) w₂ x₂)) e (set (set (R e) w₃ x₃) w₄ x₄)) ns)
   two-rows R wide words ns a e u v w₁ x₁ w₂ x₂ w₃ x₃ w₄ x₄ c d h k f i₁ i₂ i₃ i₄ =
       ap (λ (t : List ℕ). set (set (set t (u * width + w₂) x₂) (v * width + w₃) x₃) (v * width + w₄) x₄) (row-set K R wide words ns a u w₁ x₁ c h i₁)
       ∙ ap (λ (t : List ℕ). set (set t (v * width + w₃) x₃) (v * width + w₄) x₄) (row-set-again K R wide words ns a (set (R a) w₁ x₁) u w₂ x₂ (length-set (R a) w₁ x₁ ∙ wide a) c h i₂)
       ∙ ap (λ (t : List ℕ). set t (v * width + w₄) x₄) (row-set K Q wide-Q words ns e v w₃ x₃ d k i₃)
       ∙ row-set-again K Q wide-Q words ns e (set (Q e) w₃ x₃) v w₄ x₄ (length-set (Q e) w₃ x₃ ∙ wide-Q e) d k i₄
-      ∙ ap (λ (l : List ℕ). filled words (rowsOf (upd K Q e (set (set l w₃ x₃) w₄ x₄)) ns)) (upd-off K R a (set (set (R a) w₁ x₁) w₂ x₂) e f)
+      ∙ ap (λ (l : List ℕ). filled words (rowsBy (upd K Q e (set (set l w₃ x₃) w₄ x₄)) ns)) (upd-off K R a (set (set (R a) w₁ x₁) w₂ x₂) e f)
     where
       Q : A → List ℕ
       Q = upd K R a (set (set (R a) w₁ x₁) w₂ x₂)

@@ -11,16 +11,15 @@ use lib.Seq.{sets}
 use Rattle.grid.specs.declared.Corner.{Corner}
 use Rattle.grid.specs.Grid.{same, stepped, cornersFrom, endFrom}
 use Rattle.grid.specs.Tree.{parentOf, isRoot, pathOf, childWord, root}
-use Rattle.layout.specs.Table.{width, wordAt, childRefOf, tableOf}
+use Rattle.layout.specs.Table.{width, wordAt, tableOf}
 use Rattle.lists.specs.Lists.{any, add, gather}
 use Rattle.tree.specs.Nodes.{links, refOf}
-use Rattle.tree_laws.specs.State.{later, linked, put, WellLinked, State, stateOf, needed, reached, visitedBy, walkedBy, withNode, withLink, grown, raised, unlinking, Alike, Sound, tableBy, Agree}
+use Rattle.tree_laws.specs.State.{later, linked, linkPut, WellLinked, State, stateOf, needed, reached, visitedBy, walkedBy, withNode, withLink, grown, raised, unlinking, Alike, Sound, tableBy, Agree}
 use Rattle.grid.proofs.CornerLaws.{same-refl, same-sound}
-use Rattle.layout.proofs.ChildLaws.{child-ref}
 use Rattle.lists.proofs.GatherLaws.{gather-more, add-cases, any→mem, mem→any, not-mem, distinct-gather, mem-gather-left, mem-gather-right, mem-gather-cases}
 use Rattle.tree.proofs.NodeLaws.{mem-path}
 use Rattle.tree.proofs.RefLaws.{not-any}
-use Rattle.tree_laws.proofs.AddLaws.{ref-none, needed-known, needed-step, needed-child, path-below}
+use Rattle.tree_laws.proofs.AddLaws.{needed-known, needed-step, needed-child, path-below}
 use Rattle.tree_laws.proofs.LevelLaws.{add-known, order-gather, gather-closed, known-nodes, known-links, left-links, right-nodes, right-links, child-nodes, sibling-links, above-links, nodes-step, good-linked}
 use Rattle.tree_laws.proofs.LineageLaws.{links-there}
 use Rattle.tree_laws.proofs.PopLaws.{drop-stop, drop-root, drop-fresh, drop-next, drop-needs}
@@ -44,10 +43,6 @@ by-mem e ns P f g = go (any (same e) ns) refl
     go : (b : Bool) → any (same e) ns ≡ b → P
     go true p = f (any→mem same same-sound same-refl e ns p)
     go false p = g (not-mem same same-sound same-refl e ns p)
-
--- the child word of the parent says whether a node is there, and which it is
-child-there : (ns : List Corner) (e : Corner) → isRoot e ≡ false → (childRefOf ns (parentOf e) (childWord e) ≡ 0 → ⊥) → List·Memᴰ e ns
-child-there ns e h f = by-mem e ns (List·Memᴰ e ns) (λ m. m) (λ g. absurd (f (child-ref ns e h ∙ ref-none ns e g)))
 
 -- ---- the cases of the lookup, as states
 module _ (S : State) (sound : Sound S) (s : ℕ) (a e : Corner) where
@@ -77,7 +72,7 @@ module _ (S : State) (sound : Sound S) (s : ℕ) (a e : Corner) where
   }
 
   -- a lookup's last two stores, over the state T in which the parent of e is
-  over : (T : State) → gather same (S .nodes) (pathOf e) ≡ add same (T .nodes) e → Agree (linked (S .step) s a e) (put (T .step) s a e)
+  over : (T : State) → gather same (S .nodes) (pathOf e) ≡ add same (T .nodes) e → Agree (linked (S .step) s a e) (linkPut (T .step) s a e)
       → (List·Memᴰ e (T .nodes) → (x : Corner) → needed (S .nodes) (S .need) s e x ≡ T .need x)
       → ((List·Memᴰ e (T .nodes) → ⊥) → (x : Corner) → needed (S .nodes) (S .need) s e x ≡ cond (same x e) s (T .need x))
       → ((x : Corner) → S .visits x ≡ T .visits x) → ((x : Corner) → S .first x ≡ T .first x) → ((x y : Corner) → S .edges x y ≡ T .edges x y)

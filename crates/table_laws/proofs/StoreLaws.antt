@@ -16,7 +16,7 @@ use Rattle.grid.specs.Tree.{parentOf, isRoot, childWord}
 use Rattle.layout.specs.Table.{width, wordAt, parentWord, neighbourWord, linkWord, visitsWord, needWord, firstWord, edgeWord, childRefOf}
 use Rattle.lists.specs.Lists.{tally, Distinct}
 use Rattle.tree.specs.Nodes.{refOf}
-use Rattle.tree_laws.specs.State.{put, State, withLink, withNode, visitedBy, walkedBy, Alike, Sound, neighbourBy, fieldsBy, recordBy, rowsOf, filled, tableBy}
+use Rattle.tree_laws.specs.State.{linkPut, State, withLink, withNode, visitedBy, walkedBy, Alike, Sound, neighbourBy, fieldsBy, recordBy, rowsBy, filled, tableBy}
 use Rattle.grid.proofs.ChildLaws.{slot-small}
 use Rattle.grid.proofs.CornerLaws.{same-refl, same-sound}
 use Rattle.grid.proofs.StepLaws.{back, back-mod, back-small, stepped-back, stepped-ne}
@@ -56,7 +56,7 @@ alike-row S T h x =
     away k x e = stepped-ne k x (sym e)
 
 pub alike-table : (words : ℕ) (S T : State) → Alike S T → tableBy words S ≡ tableBy words T
-alike-table words S T h = ap (filled words) (rows-cong (recordBy S) (recordBy T) (S .nodes) (λ x m. alike-row S T h x) ∙ ap (rowsOf (recordBy T)) (h .nodes))
+alike-table words S T h = ap (filled words) (rows-cong (recordBy S) (recordBy T) (S .nodes) (λ x m. alike-row S T h x) ∙ ap (rowsBy (recordBy T)) (h .nodes))
 
 -- reading: the words of the node a with ref 1 + u
 module _ (words : ℕ) (S : State) (a : Corner) (u : ℕ) (e : refOf (S .nodes) a ≡ suc u) where
@@ -129,20 +129,20 @@ module _ (F G : Corner → Corner → ℕ) (a : Corner) (d s : ℕ) (small : d <
 
 -- ---- a link set both ways (s above 0), or cleared (s = 0)
 module _ (S : State) (a : Corner) (d s : ℕ) (small : d < 4) where
-  put-yes : (x y : Corner) → joins x y (a, stepped d a) ≡ true → put (S .step) s a (stepped d a) x y ≡ s
-  put-yes x y e = rw e
+  linkPut-yes : (x y : Corner) → joins x y (a, stepped d a) ≡ true → linkPut (S .step) s a (stepped d a) x y ≡ s
+  linkPut-yes x y e = rw e
 
-  put-no : (x y : Corner) → (joins x y (a, stepped d a) ≡ true → ⊥) → put (S .step) s a (stepped d a) x y ≡ S .step x y
-  put-no x y f = rw (is-false (joins x y (a, stepped d a)) f)
+  linkPut-no : (x y : Corner) → (joins x y (a, stepped d a) ≡ true → ⊥) → linkPut (S .step) s a (stepped d a) x y ≡ S .step x y
+  linkPut-no x y f = rw (is-false (joins x y (a, stepped d a)) f)
 
-  link-a : (k : ℕ) → k < 4 → put (S .step) s a (stepped d a) a (stepped k a) ≡ bump (λ i. S .step a (stepped i a)) d s k
-  link-a = at-a (S .step) (put (S .step) s a (stepped d a)) a d s small put-yes put-no
+  link-a : (k : ℕ) → k < 4 → linkPut (S .step) s a (stepped d a) a (stepped k a) ≡ bump (λ i. S .step a (stepped i a)) d s k
+  link-a = at-a (S .step) (linkPut (S .step) s a (stepped d a)) a d s small linkPut-yes linkPut-no
 
-  link-e : (k : ℕ) → k < 4 → put (S .step) s a (stepped d a) (stepped d a) (stepped k (stepped d a)) ≡ bump (λ i. S .step (stepped d a) (stepped i (stepped d a))) (back d) s k
-  link-e = at-e (S .step) (put (S .step) s a (stepped d a)) a d s small put-yes put-no
+  link-e : (k : ℕ) → k < 4 → linkPut (S .step) s a (stepped d a) (stepped d a) (stepped k (stepped d a)) ≡ bump (λ i. S .step (stepped d a) (stepped i (stepped d a))) (back d) s k
+  link-e = at-e (S .step) (linkPut (S .step) s a (stepped d a)) a d s small linkPut-yes linkPut-no
 
-  link-x : (x : Corner) → (x ≡ a → ⊥) → (x ≡ stepped d a → ⊥) → (k : ℕ) → k < 4 → put (S .step) s a (stepped d a) x (stepped k x) ≡ S .step x (stepped k x)
-  link-x = at-x (S .step) (put (S .step) s a (stepped d a)) a d s small put-yes put-no
+  link-x : (x : Corner) → (x ≡ a → ⊥) → (x ≡ stepped d a → ⊥) → (k : ℕ) → k < 4 → linkPut (S .step) s a (stepped d a) x (stepped k x) ≡ S .step x (stepped k x)
+  link-x = at-x (S .step) (linkPut (S .step) s a (stepped d a)) a d s small linkPut-yes linkPut-no
 
   link-row-a : recordBy (withLink S a (stepped d a) s) a ≡ set (set (recordBy S a) (neighbourWord d) (far s (refOf (S .nodes) (stepped d a)))) (linkWord d) s
   link-row-a =
@@ -395,7 +395,7 @@ two-words : (S T : State) (e : Corner) (words r x y : ℕ) → Distinct (S .node
 two-words S T e words r x y d h n l m g f p q =
     ap (λ (t : List ℕ). set t (wordAt r firstWord) y) (row-set corners (recordBy S) (wide S) words (S .nodes) e r visitsWord x (once (S .nodes) d e) h (omega arith))
     ∙ row-set-again corners (recordBy S) (wide S) words (S .nodes) e (set (recordBy S e) visitsWord x) r firstWord y (length-set (recordBy S e) visitsWord x) (once (S .nodes) d e) h (omega arith)
-    ∙ ap (filled words) (rows-cong (upd corners (recordBy S) e (set (set (recordBy S e) visitsWord x) firstWord y)) (recordBy T) (S .nodes) (λ z k. row z) ∙ ap (rowsOf (recordBy T)) (sym n))
+    ∙ ap (filled words) (rows-cong (upd corners (recordBy S) e (set (set (recordBy S e) visitsWord x) firstWord y)) (recordBy T) (S .nodes) (λ z k. row z) ∙ ap (rowsBy (recordBy T)) (sym n))
   where
     up : (z : Corner) → cond (isRoot z) 0 (refOf (S .nodes) (parentOf z)) ≡ cond (isRoot z) 0 (refOf (T .nodes) (parentOf z))
     up z = ap (λ (k : List Corner). cond (isRoot z) 0 (refOf k (parentOf z))) (sym n)

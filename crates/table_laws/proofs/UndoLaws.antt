@@ -14,7 +14,7 @@ use Rattle.grid.specs.Tree.{root, parentOf, isRoot, pathOf, childWord}
 use Rattle.lists.specs.Lists.{gather}
 use Rattle.tree.specs.Nodes.{refOf}
 use Rattle.layout.specs.Table.{width, wordAt, parentWord, neighbourWord, linkWord, needWord}
-use Rattle.tree_laws.specs.State.{put, State, needed, unlinking, Alike, Sound, tableBy, UnlinkAt, DropAt}
+use Rattle.tree_laws.specs.State.{linkPut, State, needed, unlinking, Alike, Sound, tableBy, UnlinkAt, DropAt}
 use Rattle.grid.proofs.CornerLaws.{same-refl, same-sound}
 use Rattle.grid.proofs.StepLaws.{stepped-ne}
 use Rattle.lists.proofs.FindLaws.{find-le}
@@ -56,7 +56,7 @@ module _ (words : ℕ) (S : State) (sound : Sound S) (s : ℕ) (pos : 0 < s) whe
           (omega (arith, w, g), omega (arith, w, g))
 
       -- the link cleared
-      unlink-clears : getD t (wordAt u (linkWord d)) 0 ≡ s → unsetIn t u (getD t (wordAt u (neighbourWord d)) 0 - 1) d ≡ tableBy words (unlinking S s z (put (k .links) 0 (k .at) (stepped d (k .at))))
+      unlink-clears : getD t (wordAt u (linkWord d)) 0 ≡ s → unsetIn t u (getD t (wordAt u (neighbourWord d)) 0 - 1) d ≡ tableBy words (unlinking S s z (linkPut (k .links) 0 (k .at) (stepped d (k .at))))
       unlink-clears e =
           ap (λ (x : List ℕ). unsetIn x u (getD t (wordAt u (neighbourWord d)) 0 - 1) d) (k .table)
           ∙ unlink-table (unlinking S s z (k .links)) (k .at) d words u (getD t (wordAt u (neighbourWord d)) 0 - 1) dir (distinct-gather same same-sound same-refl (S .nodes) (pathOf z) (sound .good .distinct)) (k .here) (unlink-to (omega (arith, e, pos)) .1)
@@ -64,7 +64,7 @@ module _ (words : ℕ) (S : State) (sound : Sound S) (s : ℕ) (pos : 0 < s) whe
       -- no parent: all is done; a parent: the next round, at a node of a lower number
       module _ (t′ : List ℕ) (e : getD t (wordAt u (linkWord d)) 0 ≡ s) (q : t′ ≡ unsetIn t u (getD t (wordAt u (neighbourWord d)) 0 - 1) d) where
         up-reads : getD t′ (wordAt u parentWord) 0 ≡ cond (isRoot (k .at)) 0 (refOf (gather same (S .nodes) (pathOf z)) (parentOf (k .at)))
-        up-reads = ap (λ (x : List ℕ). getD x (wordAt u parentWord) 0) (q ∙ unlink-clears e) ∙ read-parent words (unlinking S s z (put (k .links) 0 (k .at) (stepped d (k .at)))) (k .at) u (k .here)
+        up-reads = ap (λ (x : List ℕ). getD x (wordAt u parentWord) 0) (q ∙ unlink-clears e) ∙ read-parent words (unlinking S s z (linkPut (k .links) 0 (k .at) (stepped d (k .at)))) (k .at) u (k .here)
 
         has-parent : isRoot (k .at) ≡ false → List·Memᴰ (parentOf (k .at)) (gather same (S .nodes) (pathOf z))
         has-parent r = gather-closed (S .nodes) (sound .good .closed) z (k .at) (mem-of-ref (gather same (S .nodes) (pathOf z)) (k .at) u (k .here)) r
@@ -75,8 +75,8 @@ module _ (words : ℕ) (S : State) (sound : Sound S) (s : ℕ) (pos : 0 < s) whe
             go : (b : Bool) → isRoot (k .at) ≡ b → t′ ≡ tableBy words (unlinking S s z (S .step))
             go true r =
                 q ∙ unlink-clears e
-                ∙ alike-table words (unlinking S s z (put (k .links) 0 (k .at) (stepped d (k .at)))) (unlinking S s z (S .step))
-                (unlinked-all S sound s z (put (k .links) 0 (k .at) (stepped d (k .at))) (unlink-last (S .nodes) (S .step) (sound .good) s small z d (k .links) (k .at) (k .inv) (sym unlink-reads ∙ e) r))
+                ∙ alike-table words (unlinking S s z (linkPut (k .links) 0 (k .at) (stepped d (k .at)))) (unlinking S s z (S .step))
+                (unlinked-all S sound s z (linkPut (k .links) 0 (k .at) (stepped d (k .at))) (unlink-last (S .nodes) (S .step) (sound .good) s small z d (k .links) (k .at) (k .inv) (sym unlink-reads ∙ e) r))
             go false r =
                 let w : 0 ≡ refOf (gather same (S .nodes) (pathOf z)) (parentOf (k .at)) = sym n ∙ up-reads ∙ rw r in
                 absurd (omega (arith, ref-pos (gather same (S .nodes) (pathOf z)) (parentOf (k .at)) (has-parent r)))
@@ -90,7 +90,7 @@ module _ (words : ℕ) (S : State) (sound : Sound S) (s : ℕ) (pos : 0 < s) whe
                 let w : refOf (gather same (S .nodes) (pathOf z)) (parentOf (k .at)) ≡ suc v = sym (up-reads ∙ rw r) ∙ n in (
                   record {
                     at = parentOf (k .at);
-                    links = put (k .links) 0 (k .at) (stepped d (k .at));
+                    links = linkPut (k .links) 0 (k .at) (stepped d (k .at));
                     table = q ∙ unlink-clears e;
                     here = w;
                     inv = unlink-next (S .nodes) (S .step) (sound .good) s small z d (k .links) (k .at) (k .inv) (sym unlink-reads ∙ e) r;

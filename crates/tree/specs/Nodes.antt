@@ -19,7 +19,7 @@ InUse ps a = (p : Corner) × List·Memᴰ p ps × ((i : ℕ) × AncestorAt i p a
 abbrev pub refOf : List Corner → Corner → ℕ
 refOf ns a = find (same a) ns
 
--- the step that first needed a node: the least k with the node on the path of pk; 0 for the root
+-- the step that first needed a node: the least k with the node on the path of pk; 0 for the start and its ancestors
 abbrev pub needOf : List Corner → Corner → ℕ
 needOf ps a = pred (find (λ p. any (same a) (pathOf p)) ps)
 

@@ -12,7 +12,7 @@ use Rattle.grid.specs.Grid.{corner, stepped}
 use Rattle.grid.specs.Tree.{halfOf, parentOf}
 
 -- half the magnitude, rounded up, with the sign kept
-abbrev pub cls : ℤ → ℤ
+abbrev cls : ℤ → ℤ
 cls (pos n) = pos (suc n / 2)
 cls (negsuc n) = negsuc (n / 2)
 
@@ -36,12 +36,12 @@ step-class (suc (suc zero)) c = ⊎-map (ap (λ (x : ℤ). corner x (halfOf (c .
 step-class (suc (suc (suc d))) c = ⊎-map (ap (corner (halfOf (c .0)))) (ap (corner (cls (c .0)))) (cls-pred (c .1))
 
 -- the coordinates of a class: one or two
-abbrev pub low : ℤ → ℤ
+abbrev low : ℤ → ℤ
 low (pos zero) = pos 0
 low (pos (suc k)) = pos (2 * k + 1)
 low (negsuc k) = negsuc (2 * k)
 
-abbrev pub high : ℤ → ℤ
+abbrev high : ℤ → ℤ
 high (pos k) = pos (2 * k)
 high (negsuc k) = negsuc (2 * k + 1)
 

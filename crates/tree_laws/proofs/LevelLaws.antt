@@ -19,7 +19,7 @@ use Rattle.lists.proofs.GatherLaws.{or-cases, gather-append, gather-more, add-c
 use Rattle.grid.proofs.JoinLaws.{joins-cases}
 use Rattle.tree.proofs.NodeLaws.{mem-path}
 use Rattle.tree_laws.proofs.LaterLaws.{later-old, later-new, later-none, later-pos, later-or, find-snoc}
-use Rattle.tree_laws.specs.State.{later, linked, put, WellLinked}
+use Rattle.tree_laws.specs.State.{later, linked, linkPut, WellLinked}
 use Rattle.tree_laws.proofs.LineageLaws.{links-left, links-right, links-step, links-same, links-size, links-flip, links-up, links-ends, pair-ind, path-up}
 
 pub root-is : (c : Corner) → isRoot c ≡ true → c ≡ root
@@ -137,26 +137,26 @@ module _ (ns : List Corner) (L : Corner → Corner → ℕ) (good : WellLinked n
         go false p = later-none (L x y) (links x y (a, e)) s p
 
     -- the pair alone
-    later-put : (M : Corner → Corner → ℕ) → ((x y : Corner) → M x y ≡ M y x) → M a e ≡ 0 → (x y : Corner) → later (M x y) (joins x y (a, e)) s ≡ put M s a e x y
-    later-put M both z x y = go (joins x y (a, e)) refl
+    later-linkPut : (M : Corner → Corner → ℕ) → ((x y : Corner) → M x y ≡ M y x) → M a e ≡ 0 → (x y : Corner) → later (M x y) (joins x y (a, e)) s ≡ linkPut M s a e x y
+    later-linkPut M both z x y = go (joins x y (a, e)) refl
       where
         at : joins x y (a, e) ≡ true → M x y ≡ 0
         at j = ⊎-elim (λ p. ap₂ M (sym (p .0)) (sym (p .1)) ∙ z) (λ p. both x y ∙ ap₂ M (sym (p .0)) (sym (p .1)) ∙ z) (joins-cases x y a e j)
 
-        go : (b : Bool) → joins x y (a, e) ≡ b → later (M x y) (joins x y (a, e)) s ≡ put M s a e x y
-        go true p = later-new (M x y) (joins x y (a, e)) s (at p) p ∙ sym (rw (p, put))
-        go false p = later-none (M x y) (joins x y (a, e)) s p ∙ sym (rw (p, put))
+        go : (b : Bool) → joins x y (a, e) ≡ b → later (M x y) (joins x y (a, e)) s ≡ linkPut M s a e x y
+        go true p = later-new (M x y) (joins x y (a, e)) s (at p) p ∙ sym (rw (p, linkPut))
+        go false p = later-none (M x y) (joins x y (a, e)) s p ∙ sym (rw (p, linkPut))
 
     -- 2. a is the root: its neighbour is its child
-    pub left-links : L a e ≡ 0 → isRoot a ≡ true → (x y : Corner) → linked L s a e x y ≡ put L s a e x y
-    left-links z h x y = ap (λ (b : Bool). later (L x y) b s) (links-left x y a e h) ∙ later-put L (good .both) z x y
+    pub left-links : L a e ≡ 0 → isRoot a ≡ true → (x y : Corner) → linked L s a e x y ≡ linkPut L s a e x y
+    left-links z h x y = ap (λ (b : Bool). later (L x y) b s) (links-left x y a e h) ∙ later-linkPut L (good .both) z x y
 
     -- 3. e is the root
     pub right-nodes : isRoot e ≡ true → gather same ns (pathOf e) ≡ ns
     right-nodes h = nodes-known ns (good .closed) e (Memᴰ·cast (root-is e h) root-known)
 
-    pub right-links : L a e ≡ 0 → isRoot e ≡ true → (x y : Corner) → linked L s a e x y ≡ put L s a e x y
-    right-links z h x y = ap (λ (b : Bool). later (L x y) b s) (links-right x y a e h) ∙ later-put L (good .both) z x y
+    pub right-links : L a e ≡ 0 → isRoot e ≡ true → (x y : Corner) → linked L s a e x y ≡ linkPut L s a e x y
+    right-links z h x y = ap (λ (b : Bool). later (L x y) b s) (links-right x y a e h) ∙ later-linkPut L (good .both) z x y
 
     -- 2. and 4. the parent of e is in use
     pub child-nodes : isRoot e ≡ false → List·Memᴰ (parentOf e) ns → gather same ns (pathOf e) ≡ add same ns e
@@ -176,17 +176,17 @@ module _ (ns : List Corner) (L : Corner → Corner → ℕ) (good : WellLinked n
 
 module _ (ns : List Corner) (L : Corner → Corner → ℕ) (good : WellLinked ns L) (s : ℕ) (a e : Corner) where
   -- 5. first the parents, then the pair
-  pub above-links : L a e ≡ 0 → isRoot a ≡ false → isRoot e ≡ false → (x y : Corner) → linked L s a e x y ≡ put (linked L s (parentOf a) (parentOf e)) s a e x y
+  pub above-links : L a e ≡ 0 → isRoot a ≡ false → isRoot e ≡ false → (x y : Corner) → linked L s a e x y ≡ linkPut (linked L s (parentOf a) (parentOf e)) s a e x y
   above-links z h k x y =
       ap (λ (b : Bool). later (L x y) b s) (links-step x y a e h k)
       ∙ later-or (L x y) (joins x y (a, e)) (links x y (parentOf a, parentOf e)) s
-      ∙ later-put ns L good s a e (linked L s (parentOf a) (parentOf e)) (linked-both ns L good s (parentOf a) (parentOf e)) (above-none ns L good s a e z h k) x y
+      ∙ later-linkPut ns L good s a e (linked L s (parentOf a) (parentOf e)) (linked-both ns L good s (parentOf a) (parentOf e)) (above-none ns L good s a e z h k) x y
 
   -- 4. one parent: nothing above
-  pub sibling-links : L a e ≡ 0 → isRoot a ≡ false → isRoot e ≡ false → parentOf a ≡ parentOf e → (x y : Corner) → (x ≡ y → ⊥) → linked L s a e x y ≡ put L s a e x y
+  pub sibling-links : L a e ≡ 0 → isRoot a ≡ false → isRoot e ≡ false → parentOf a ≡ parentOf e → (x y : Corner) → (x ≡ y → ⊥) → linked L s a e x y ≡ linkPut L s a e x y
   sibling-links z h k p x y f =
       ap (λ (b : Bool). later (L x y) b s) (links-step x y a e h k ∙ ap (λ (b : Bool). joins x y (a, e) || b) none ∙ or-nothing (joins x y (a, e)))
-      ∙ later-put ns L good s a e L (good .both) z x y
+      ∙ later-linkPut ns L good s a e L (good .both) z x y
     where
       none : links x y (parentOf a, parentOf e) ≡ false
       none = ap (λ (c : Corner). links x y (c, parentOf e)) p ∙ links-same x y (parentOf e) f

@@ -18,24 +18,24 @@ use Rattle.tree_laws.proofs.LaterLaws.{later-old, later-new, later-none
 use Rattle.lists.proofs.GatherLaws.{add-cases, any→mem, mem→any, mem-gather-cases}
 use Rattle.grid.proofs.JoinLaws.{joins-cases}
 use Rattle.tree.proofs.NodeLaws.{mem-path}
-use Rattle.tree_laws.specs.State.{later, linked, put, WellLinked, State, needed, visitedBy, Sound, Agree, Unlinking}
+use Rattle.tree_laws.specs.State.{later, linked, linkPut, WellLinked, State, needed, visitedBy, Sound, Agree, Unlinking}
 use Rattle.tree_laws.proofs.AddLaws.{path-below, needed-known, needed-step}
 use Rattle.tree_laws.proofs.LevelLaws.{root-is, nodes-known, nodes-step, known-links, left-links, right-links, sibling-links, above-links, linked-both, above-none, path-parent}
 use Rattle.tree_laws.proofs.LineageLaws.{links-here}
 
 -- a pair that was set and is cleared
-put-clear : (M : Corner → Corner → ℕ) → ((x y : Corner) → M x y ≡ M y x) → (s : ℕ) (a e : Corner) → M a e ≡ 0 → (x y : Corner) → put (put M s a e) 0 a e x y ≡ M x y
-put-clear M both s a e z x y = go (joins x y (a, e)) refl
+linkPut-clear : (M : Corner → Corner → ℕ) → ((x y : Corner) → M x y ≡ M y x) → (s : ℕ) (a e : Corner) → M a e ≡ 0 → (x y : Corner) → linkPut (linkPut M s a e) 0 a e x y ≡ M x y
+linkPut-clear M both s a e z x y = go (joins x y (a, e)) refl
   where
     at : joins x y (a, e) ≡ true → M x y ≡ 0
     at j = ⊎-elim (λ p. ap₂ M (sym (p .0)) (sym (p .1)) ∙ z) (λ p. both x y ∙ ap₂ M (sym (p .0)) (sym (p .1)) ∙ z) (joins-cases x y a e j)
 
-    go : (b : Bool) → joins x y (a, e) ≡ b → put (put M s a e) 0 a e x y ≡ M x y
+    go : (b : Bool) → joins x y (a, e) ≡ b → linkPut (linkPut M s a e) 0 a e x y ≡ M x y
     go true p = rw p (sym (at p))
     go false p = rw p
 
-put-cong : (M K : Corner → Corner → ℕ) (s : ℕ) (a e x y : Corner) → M x y ≡ K x y → put M s a e x y ≡ put K s a e x y
-put-cong M K s a e x y h = ap (λ (n : ℕ). cond (joins x y (a, e)) s n) h
+linkPut-cong : (M K : Corner → Corner → ℕ) (s : ℕ) (a e x y : Corner) → M x y ≡ K x y → linkPut M s a e x y ≡ linkPut K s a e x y
+linkPut-cong M K s a e x y h = ap (λ (n : ℕ). cond (joins x y (a, e)) s n) h
 
 -- two link-step functions that agree at nodes that differ
 module _ (ns : List Corner) (L : Corner → Corner → ℕ) (good : WellLinked ns L) (s : ℕ) (small : (x y : Corner) → L x y < s) where
@@ -57,26 +57,26 @@ module _ (ns : List Corner) (L : Corner → Corner → ℕ) (good : WellLinked n
       go (suc n) p = known-links ns L good s a e (omega arith) x y g
 
   -- one level cleared
-  unlink-left : (a e : Corner) → linked L s a e a e ≡ s → isRoot a ≡ true → Agree (put (linked L s a e) 0 a e) L
+  unlink-left : (a e : Corner) → linked L s a e a e ≡ s → isRoot a ≡ true → Agree (linkPut (linked L s a e) 0 a e) L
   unlink-left a e h i x y g =
       let z = last-links a e a e h .0 in
-      put-cong (linked L s a e) (put L s a e) 0 a e x y (left-links ns L good s a e z i x y) ∙ put-clear L (good .both) s a e z x y
+      linkPut-cong (linked L s a e) (linkPut L s a e) 0 a e x y (left-links ns L good s a e z i x y) ∙ linkPut-clear L (good .both) s a e z x y
 
-  unlink-right : (a e : Corner) → linked L s a e a e ≡ s → isRoot e ≡ true → Agree (put (linked L s a e) 0 a e) L
+  unlink-right : (a e : Corner) → linked L s a e a e ≡ s → isRoot e ≡ true → Agree (linkPut (linked L s a e) 0 a e) L
   unlink-right a e h i x y g =
       let z = last-links a e a e h .0 in
-      put-cong (linked L s a e) (put L s a e) 0 a e x y (right-links ns L good s a e z i x y) ∙ put-clear L (good .both) s a e z x y
+      linkPut-cong (linked L s a e) (linkPut L s a e) 0 a e x y (right-links ns L good s a e z i x y) ∙ linkPut-clear L (good .both) s a e z x y
 
-  unlink-sibling : (a e : Corner) → linked L s a e a e ≡ s → isRoot a ≡ false → isRoot e ≡ false → parentOf a ≡ parentOf e → Agree (put (linked L s a e) 0 a e) L
+  unlink-sibling : (a e : Corner) → linked L s a e a e ≡ s → isRoot a ≡ false → isRoot e ≡ false → parentOf a ≡ parentOf e → Agree (linkPut (linked L s a e) 0 a e) L
   unlink-sibling a e h i j p x y g =
       let z = last-links a e a e h .0 in
-      put-cong (linked L s a e) (put L s a e) 0 a e x y (sibling-links ns L good s a e z i j p x y g) ∙ put-clear L (good .both) s a e z x y
+      linkPut-cong (linked L s a e) (linkPut L s a e) 0 a e x y (sibling-links ns L good s a e z i j p x y g) ∙ linkPut-clear L (good .both) s a e z x y
 
-  unlink-above : (a e : Corner) → linked L s a e a e ≡ s → isRoot a ≡ false → isRoot e ≡ false → Agree (put (linked L s a e) 0 a e) (linked L s (parentOf a) (parentOf e))
+  unlink-above : (a e : Corner) → linked L s a e a e ≡ s → isRoot a ≡ false → isRoot e ≡ false → Agree (linkPut (linked L s a e) 0 a e) (linked L s (parentOf a) (parentOf e))
   unlink-above a e h i j x y g =
       let z = last-links a e a e h .0 in
-      put-cong (linked L s a e) (put (linked L s (parentOf a) (parentOf e)) s a e) 0 a e x y (above-links ns L good s a e z i j x y)
-      ∙ put-clear (linked L s (parentOf a) (parentOf e)) (linked-both ns L good s (parentOf a) (parentOf e)) s a e (above-none ns L good s a e z i j) x y
+      linkPut-cong (linked L s a e) (linkPut (linked L s (parentOf a) (parentOf e)) s a e) 0 a e x y (above-links ns L good s a e z i j x y)
+      ∙ linkPut-clear (linked L s (parentOf a) (parentOf e)) (linked-both ns L good s (parentOf a) (parentOf e)) s a e (above-none ns L good s a e z i j) x y
 
   away : (d : ℕ) (at : Corner) → at ≡ stepped d at → ⊥
   away d at e = stepped-ne d at (sym e)
@@ -92,23 +92,23 @@ module _ (ns : List Corner) (L : Corner → Corner → ℕ) (good : WellLinked n
   last-here : (d : ℕ) (M : Corner → Corner → ℕ) (at : Corner) → Agree M (linked L s at (stepped d at)) → M at (stepped d at) ≡ s → linked L s at (stepped d at) at (stepped d at) ≡ s
   last-here d M at h k = sym (h at (stepped d at) (away d at)) ∙ k
 
-  cleared : (d : ℕ) (M K : Corner → Corner → ℕ) (at : Corner) → Agree M (linked L s at (stepped d at)) → Agree (put (linked L s at (stepped d at)) 0 at (stepped d at)) K → Agree (put M 0 at (stepped d at)) K
-  cleared d M K at h k x y g = put-cong M (linked L s at (stepped d at)) 0 at (stepped d at) x y (h x y g) ∙ k x y g
+  cleared : (d : ℕ) (M K : Corner → Corner → ℕ) (at : Corner) → Agree M (linked L s at (stepped d at)) → Agree (linkPut (linked L s at (stepped d at)) 0 at (stepped d at)) K → Agree (linkPut M 0 at (stepped d at)) K
+  cleared d M K at h k x y g = linkPut-cong M (linked L s at (stepped d at)) 0 at (stepped d at) x y (h x y g) ∙ k x y g
 
-  pub unlink-last : (z : Corner) (d : ℕ) (M : Corner → Corner → ℕ) (at : Corner) → Unlinking L s z d M at → M at (stepped d at) ≡ s → isRoot at ≡ true → Agree (put M 0 at (stepped d at)) L
+  pub unlink-last : (z : Corner) (d : ℕ) (M : Corner → Corner → ℕ) (at : Corner) → Unlinking L s z d M at → M at (stepped d at) ≡ s → isRoot at ≡ true → Agree (linkPut M 0 at (stepped d at)) L
   unlink-last z d M at (inl h) k r = absurd (omega (arith, h at (stepped d at) (away d at), small at (stepped d at)))
   unlink-last z d M at (inr h) k r = cleared d M L at (h .0) (unlink-left at (stepped d at) (last-here d M at (h .0) k) r)
 
-  pub unlink-next : (z : Corner) (d : ℕ) (M : Corner → Corner → ℕ) (at : Corner) → Unlinking L s z d M at → M at (stepped d at) ≡ s → isRoot at ≡ false → Unlinking L s z d (put M 0 at (stepped d at)) (parentOf at)
+  pub unlink-next : (z : Corner) (d : ℕ) (M : Corner → Corner → ℕ) (at : Corner) → Unlinking L s z d M at → M at (stepped d at) ≡ s → isRoot at ≡ false → Unlinking L s z d (linkPut M 0 at (stepped d at)) (parentOf at)
   unlink-next z d M at (inl h) k r = absurd (omega (arith, h at (stepped d at) (away d at), small at (stepped d at)))
   unlink-next z d M at (inr h) k r = go (isRoot (stepped d at)) refl (parentOf-stepped d at)
     where
-      go : (b : Bool) → isRoot (stepped d at) ≡ b → (parentOf (stepped d at) ≡ parentOf at) ⊎ (parentOf (stepped d at) ≡ stepped d (parentOf at)) → Unlinking L s z d (put M 0 at (stepped d at)) (parentOf at)
+      go : (b : Bool) → isRoot (stepped d at) ≡ b → (parentOf (stepped d at) ≡ parentOf at) ⊎ (parentOf (stepped d at) ≡ stepped d (parentOf at)) → Unlinking L s z d (linkPut M 0 at (stepped d at)) (parentOf at)
       go true i p = inl (cleared d M L at (h .0) (unlink-right at (stepped d at) (last-here d M at (h .0) k) i))
       go false i (inl p) = inl (cleared d M L at (h .0) (unlink-sibling at (stepped d at) (last-here d M at (h .0) k) r i (sym p)))
       go false i (inr p) =
           inr (
-            cleared d M (linked L s (parentOf at) (stepped d (parentOf at))) at (h .0) (subst (λ q. Agree (put (linked L s at (stepped d at)) 0 at (stepped d at)) (linked L s (parentOf at) q)) p (unlink-above at (stepped d at) (last-here d M at (h .0) k) r i)),
+            cleared d M (linked L s (parentOf at) (stepped d (parentOf at))) at (h .0) (subst (λ q. Agree (linkPut (linked L s at (stepped d at)) 0 at (stepped d at)) (linked L s (parentOf at) q)) p (unlink-above at (stepped d at) (last-here d M at (h .0) k) r i)),
             Memᴰ·cast (sym p) (path-parent (stepped d at) z i (h .1)),
           )
 

@@ -4,7 +4,7 @@ use mathlib.Core.Bool.{Bool, true, false, true≢false}
 use mathlib.Core.List.{List, [], _∷_, _++_, List·Memᴰ, List·Memᴰ·head, List·Memᴰ·tail, List·Memᴰ·not-nil, List·Memᴰ·cases-cons, Memᴰ·cast}
 use mathlib.Core.Logic.{_⊎_, ⊎-elim}
 use mathlib.Core.Path.{_≡_, refl, ap, sym, _∙_}
-use Prim.Native.Nat.{ℕ, zero, suc, _+_, _<_, _≤_, pred}
+use Prim.Native.Nat.{ℕ, suc, _+_, _<_, _≤_, pred}
 use native.Mathlib.Omega.{arith}
 use borrow.Author.Tests.{ne-eqb, eq-eqb}
 use lib.Dec.{eqb}
@@ -220,9 +220,6 @@ sound-walk c ds = record {
 -- the corner stood on is a node
 pub finish-node : (c : Corner) (ds : List ℕ) → List·Memᴰ (endFrom c ds) (nodesOf (cornersFrom c ds))
 finish-node c ds = mem-nodes (cornersFrom c ds) (endFrom c ds) (endFrom c ds) (endFrom-mem c ds) (mem-path (endFrom c ds))
-
-abbrev far : ℕ → ℕ → ℕ
-far n r = elim n [ zero ↦ 0 | suc j ↦ r ]
 
 -- the different corners
 pub push-visited : (c : Corner) (ds : List ℕ) (d : ℕ) → length (visitedOf (cornersFrom c (ds ++ (d ∷ [])))) ≡ length (visitedOf (cornersFrom c ds)) + tally (eqb (count (same (stepped d (endFrom c ds))) (cornersFrom c ds)) 0)

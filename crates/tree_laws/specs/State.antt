@@ -25,8 +25,8 @@ abbrev pub linked : (Corner → Corner → ℕ) → ℕ → Corner → Corner �
 linked L s a e x y = later (L x y) (links x y (a, e)) s
 
 -- the link between a and e alone, both ways
-abbrev pub put : (Corner → Corner → ℕ) → ℕ → Corner → Corner → Corner → Corner → ℕ
-put L s a e x y = cond (joins x y (a, e)) s (L x y)
+abbrev pub linkPut : (Corner → Corner → ℕ) → ℕ → Corner → Corner → Corner → Corner → ℕ
+linkPut L s a e x y = cond (joins x y (a, e)) s (L x y)
 
 -- what holds of the nodes and the link steps at every moment: the root is first, the parents are there and come before, no
 -- node stands twice, a link's ends are nodes, it stands both ways, and the parents, where they differ, are linked too
@@ -50,7 +50,7 @@ pub record State : Type 0 where
   pub edges : Corner → Corner → ℕ
 
 -- a node that the path of e adds to the nodes
-abbrev pub isNew : List Corner → Corner → Corner → Bool
+abbrev isNew : List Corner → Corner → Corner → Bool
 isNew ns e x = not (any (same x) ns) && any (same x) (pathOf e)
 
 -- the needing steps after a lookup of e by step s
@@ -105,7 +105,7 @@ withNode S e s = record {
 abbrev pub withLink : State → Corner → Corner → ℕ → State
 withLink S a e s = record {
   nodes = S .nodes;
-  step = put (S .step) s a e;
+  step = linkPut (S .step) s a e;
   visits = S .visits;
   need = S .need;
   first = S .first;
@@ -211,9 +211,9 @@ abbrev pub recordBy : State → Corner → List ℕ
 recordBy S a = wordsOf (fieldsBy S a)
 
 -- a table by its rows, each the row of a key
-abbrev pub rowsOf : {A : Type 0} → (A → List ℕ) → List A → List ℕ
-rowsOf R [] = []
-rowsOf R (a ∷ l) = R a ++ rowsOf R l
+abbrev pub rowsBy : {A : Type 0} → (A → List ℕ) → List A → List ℕ
+rowsBy R [] = []
+rowsBy R (a ∷ l) = R a ++ rowsBy R l
 
 -- so many words: these, then zeros
 abbrev pub filled : ℕ → List ℕ → List ℕ
@@ -221,7 +221,7 @@ filled words rs = rs ++ replicate (words - length rs) 0
 
 -- the table of a state
 abbrev pub tableBy : ℕ → State → List ℕ
-tableBy words S = filled words (rowsOf (recordBy S) (S .nodes))
+tableBy words S = filled words (rowsBy (recordBy S) (S .nodes))
 
 -- a table whose links of step s to z are being cleared, on the way to S; next is the node u, in direction d
 pub record UnlinkAt (words : ℕ) (S : State) (s : ℕ) (z : Corner) (d : ℕ) (t : List ℕ) (u : ℕ) : Type 0 where

@@ -1,6 +1,8 @@
 // Steps to turns and back. Each call takes digits and a buffer of the same length, and leaves the buffer as it was if it refuses.
 use answer::Judged;
+use answer::Limits;
 use answer::Refusal;
+use order::highest;
 ghost use mathlib.Core.Path.{_≡_};
 ghost use Prim.Native.Nat.{_<_};
 ghost use lib.ListN.{length};
@@ -15,11 +17,9 @@ pub enum Way {
 }
 
 // The step before a digit.
-pub struct Heading(pub u8);
+struct Heading(u8);
 
 impl Heading {
-    pub const MOST_DIGITS: usize = 32_768;
-
     // What is written for the digit x after this step: the turn to the step x, or the step that the turn x leads to.
     fn digit(self, way: Way, x: u8) -> u8
         requires { ⌜ (self .0 < 4) × (x < 4) ⌝ }
@@ -42,8 +42,8 @@ fn step_at(way: Way, x: u8, y: u8) -> u8
     }
 }
 
-// Refuses the first digit above 3.
-fn judge_digits(digits: &[u8]) -> Judged
+// Refuses the first digit above 3, by a test of each.
+fn fault(digits: &[u8]) -> Judged
     ensures { λ r. ⌜ r ≡ digitsJudged 0 (now (digits .entry)) ⌝ }
 {
     let mut i = 0;
@@ -56,11 +56,21 @@ fn judge_digits(digits: &[u8]) -> Judged
     Judged::Good
 }
 
+// The same, in one pass without a test where there is none.
+fn judge_digits(digits: &[u8]) -> Judged
+    ensures { λ r. ⌜ r ≡ digitsJudged 0 (now (digits .entry)) ⌝ }
+{
+    if highest(digits) > 3 {
+        return fault(digits);
+    }
+    Judged::Good
+}
+
 // Refuses too many digits, then a buffer of another length, then the first digit above 3.
 fn judge(digits: &[u8], room: usize) -> Judged
     ensures { λ r. ⌜ r ≡ turnsJudged (now (digits .entry)) room ⌝ }
 {
-    if digits.len() > Heading::MOST_DIGITS {
+    if digits.len() > Limits::MOST_INPUT {
         return Judged::Refused(Refusal::TooMany);
     }
     if room != digits.len() {

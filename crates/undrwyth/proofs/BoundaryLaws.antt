@@ -14,13 +14,12 @@ use Rattle.answer.specs.declared.Counted.{Counted}
 use Rattle.answer.specs.declared.Judged.{Judged}
 use Rattle.answer.specs.declared.Judged.the-variants.{Good, Refused}
 use Rattle.answer.specs.declared.Refusal.the-variants.{TooMany, ResultRoom, BadDigit, TooLong, HullRoom, StartRange, OutlineRoom, NotRoom, PolygonRoom, FileLength, FileKind, BadCoordinate, BadRing, ChainRoom, SpanRoom}
-use Rattle.answer.specs.Limits.{mostSteps, startFits}
+use Rattle.answer.specs.Limits.{mostInput, mostSteps, startFits}
 use Rattle.answer.specs.Refusal.{when, orElse, firstOf, judgedPlace}
 use Rattle.walk_call.specs.Walk.{walkJudged, factsOf, answerBy, WalkIs}
 use Rattle.grid.specs.declared.Corner.{Corner}
-use Rattle.hull.specs.Call.{chainJudged, roomJudged, hullJudged, countedOf, HullCall}
-use Rattle.outline.specs.Call as outlines
-use Rattle.outline.specs.Call.{outlineJudged, OutlineCall}
+use Rattle.hull.specs.Call.{chainJudged, hullRoomJudged, hullJudged, countedOf, HullCall}
+use Rattle.outline.specs.Call.{outlineRoomJudged, outlineJudged, OutlineCall}
 use Rattle.outline_laws.proofs.CallLaws.{judged-split}
 use Rattle.outline_laws.proofs.OutlineLaws.{outline-short}
 use Rattle.lists.specs.Lists.{any}
@@ -31,13 +30,13 @@ use Rattle.room.specs.Room.{isRoom, asRoomJudged}
 use Rattle.convex.specs.Convex.{ConvexCall}
 use Rattle.polygon.specs.Polygon.{polygonOf, polygonJudged, PolygonCall}
 use Rattle.polygon_ring.specs.declared.Given.{Given}
-use Rattle.polygon_ring.specs.Ring.{orderOf, isNeither, isFaulty, isRing, lengthOf, countOf, pointsGiven, ringOf, readJudged, givenOf, ReadCall}
+use Rattle.polygon_ring.specs.Ring.{orderOf, isNeither, isFaulty, isRing, lengthOf, countGiven, pointsGiven, ringOf, readJudged, givenOf, ReadCall}
 use Rattle.polygon_laws.proofs.WriteLaws.{polygon-few}
 use Rattle.polygon_ring_laws.proofs.TripLaws.{read-few}
 use Rattle.row_call.specs.Rows.{Span}
 use Rattle.row_call.specs.Call.{rowsJudged, RowsCall}
 use Rattle.overlay.specs.declared.{Part.Part, Part.the-variants.First, Part.the-variants.Second, Part.the-variants.Both, Measures.Measures, Overlaid.Overlaid}
-use Rattle.overlay.specs.Call.{ofParts, shortJudged, overlayJudged, measuresOf, overlaidOf, OverlayCall}
+use Rattle.overlay.specs.Call.{ofParts, partRoomJudged, overlayJudged, measuresOf, overlaidOf, OverlayCall}
 use Rattle.overlay_laws.proofs.CallLaws.{buffersJudged}
 use Rattle.demands.proofs.Overlay.{overlay-few}
 use Rattle.row_laws.proofs.CallLaws.{rows-few}
@@ -46,7 +45,7 @@ use Rattle.walk_call.proofs.SmallLaws.{Placed, placed-when, placed-or, walk-pla
 use Rattle.hull_laws.proofs.HullLaws.{hull-count-steps}
 use Rattle.undrwyth.specs.Words.{AnswerFits, CountedFits, GivenFits, MeasureFits, MeasuresFit, OverlaidFits}
 
-place-fits : (j : Judged) → Placed 32768 j → judgedPlace j < 2 ^ 32
+place-fits : (j : Judged) → Placed mostInput j → judgedPlace j < 2 ^ 32
 place-fits Good p = omega arith
 place-fits (Refused r) p = omega (arith, p)
 
@@ -57,16 +56,16 @@ answer-fits c os t ms ch r t′ ms′ ch′ w = subst AnswerFits (sym (w .answer
     go Good e =
         let k = walk-few c os (length t) (length ms) (length ch) e in
         rw e (omega (arith, k .steps), omega (arith, k .nodes), omega (arith, k .corners), omega (arith, k .j), omega (arith, k .k))
-    go (Refused x) e = rw e (omega (arith, subst (Placed 32768) e (walk-placed c os (length t) (length ms) (length ch))))
+    go (Refused x) e = rw e (omega (arith, subst (Placed mostInput) e (walk-placed c os (length t) (length ms) (length ch))))
 
 -- a refusal of digits stands at one of them
 placed-hull : (i : ℕ) (ds : List ℕ) (b : ℕ) → i + length ds ≤ b → Placed b (chainJudged i ds)
 placed-hull i [] b h = tt
 placed-hull i (d ∷ ds) b h =
     let x = when (ltb 3 d) (BadDigit i) in
-    let y = when (eqb i 16384) (TooLong i) in
+    let y = when (eqb i mostSteps) (TooLong i) in
     placed-or b (orElse x y) (chainJudged (suc i) ds)
-    (placed-or b x y (placed-when b (ltb 3 d) (BadDigit i) (omega arith)) (placed-when b (eqb i 16384) (TooLong i) (omega arith)))
+    (placed-or b x y (placed-when b (ltb 3 d) (BadDigit i) (omega arith)) (placed-when b (eqb i mostSteps) (TooLong i) (omega arith)))
     (placed-hull (suc i) ds b (omega arith))
 
 placed-digits : (i : ℕ) (ds : List ℕ) (b : ℕ) → i + length ds ≤ b → Placed b (digitsJudged i ds)
@@ -74,45 +73,45 @@ placed-digits i [] b h = tt
 placed-digits i (d ∷ ds) b h = placed-or b (when (ltb 3 d) (BadDigit i)) (digitsJudged (suc i) ds) (placed-when b (ltb 3 d) (BadDigit i) (omega arith)) (placed-digits (suc i) ds b (omega arith))
 
 -- 1 comes first, so that what comes after it is judged of an input of 32,768 bytes at most
-placed-after : (n : ℕ) (rest : Judged) → (n ≤ 32768 → Placed 32768 rest) → Placed 32768 (orElse (when (ltb 32768 n) TooMany) rest)
-placed-after n rest f = go (ltb 32768 n) refl
+placed-after : (n : ℕ) (rest : Judged) → (n ≤ mostInput → Placed mostInput rest) → Placed mostInput (orElse (when (ltb mostInput n) TooMany) rest)
+placed-after n rest f = go (ltb mostInput n) refl
   where
-    go : (b : Bool) → ltb 32768 n ≡ b → Placed 32768 (orElse (when (ltb 32768 n) TooMany) rest)
+    go : (b : Bool) → ltb mostInput n ≡ b → Placed mostInput (orElse (when (ltb mostInput n) TooMany) rest)
     go true e = rw e (omega arith)
-    go false e = rw e (f (ltb-false 32768 n e))
+    go false e = rw e (f (ltb-false mostInput n e))
 
 pub turns-fit : (ds : List ℕ) (room : ℕ) (j : Judged) → j ≡ turnsJudged ds room → judgedPlace j < 2 ^ 32
 turns-fit ds room j e =
     let x = not (eqb room (length ds)) in
     let f = digitsJudged 0 ds in
-    place-fits j (subst (Placed 32768) (sym e) (placed-after (length ds) (orElse (when x ResultRoom) (orElse f Good)) (λ h.
-    placed-or 32768 (when x ResultRoom) (orElse f Good) (placed-when 32768 x ResultRoom (omega arith)) (placed-or 32768 f Good (placed-digits 0 ds 32768 (omega arith)) tt))))
+    place-fits j (subst (Placed mostInput) (sym e) (placed-after (length ds) (orElse (when x ResultRoom) (orElse f Good)) (λ h.
+    placed-or mostInput (when x ResultRoom) (orElse f Good) (placed-when mostInput x ResultRoom (omega arith)) (placed-or mostInput f Good (placed-digits 0 ds mostInput (omega arith)) tt))))
 
-hull-placed : (c : Corner) (chain : List ℕ) (room n : ℕ) → Placed 32768 (hullJudged c chain room n)
+hull-placed : (c : Corner) (chain : List ℕ) (room n : ℕ) → Placed mostInput (hullJudged c chain room n)
 hull-placed c chain room n =
     let q = when (not (startFits c)) StartRange in
     let f = chainJudged 0 chain in
-    let r = roomJudged room n in
+    let r = hullRoomJudged room n in
     placed-after (length chain) (orElse q (orElse f (orElse r Good))) (λ h.
-    placed-or 32768 q (orElse f (orElse r Good)) (placed-when 32768 (not (startFits c)) StartRange (omega arith))
-    (placed-or 32768 f (orElse r Good) (placed-hull 0 chain 32768 (omega arith)) (placed-or 32768 r Good (placed-when 32768 (ltb room (2 * n)) HullRoom (omega arith)) tt)))
+    placed-or mostInput q (orElse f (orElse r Good)) (placed-when mostInput (not (startFits c)) StartRange (omega arith))
+    (placed-or mostInput f (orElse r Good) (placed-hull 0 chain mostInput (omega arith)) (placed-or mostInput r Good (placed-when mostInput (ltb room (2 * n)) HullRoom (omega arith)) tt)))
 
-hull-short : (c : Corner) (chain : List ℕ) (room n : ℕ) → hullJudged c chain room n ≡ Good → length chain ≤ 32768
-hull-short c chain room n e = go (ltb 32768 (length chain)) refl
+hull-short : (c : Corner) (chain : List ℕ) (room n : ℕ) → hullJudged c chain room n ≡ Good → length chain ≤ mostInput
+hull-short c chain room n e = go (ltb mostInput (length chain)) refl
   where
-    go : (b : Bool) → ltb 32768 (length chain) ≡ b → length chain ≤ 32768
+    go : (b : Bool) → ltb mostInput (length chain) ≡ b → length chain ≤ mostInput
     go true p = absurd (refused-not-good TooMany (rw p at e))
-    go false p = ltb-false 32768 (length chain) p
+    go false p = ltb-false mostInput (length chain) p
 
 pub counted-fits : (c : Corner) (chain : List ℕ) (before : List ℤ) (r : Counted) (after : List ℤ) → HullCall c chain before r after → CountedFits r
 counted-fits c chain before r after h = subst CountedFits (sym (h .answer)) (go (hullJudged c chain (length before) (length (h .list))) refl)
   where
     go : (j : Judged) → hullJudged c chain (length before) (length (h .list)) ≡ j → CountedFits (countedOf (hullJudged c chain (length before) (length (h .list))) (length (h .list)))
     go Good e = rw e (omega (arith, hull-count-steps c chain (h .list) (h .hull), hull-short c chain (length before) (length (h .list)) e))
-    go (Refused x) e = rw e (omega (arith, subst (Placed 32768) e (hull-placed c chain (length before) (length (h .list)))))
+    go (Refused x) e = rw e (omega (arith, subst (Placed mostInput) e (hull-placed c chain (length before) (length (h .list)))))
 
-outline-placed : (s : Corner) (ds : List ℕ) (room n : ℕ) → Placed 32768 (outlineJudged s ds room n)
-outline-placed s ds room n = subst (Placed 32768) (sym (judged-split s ds room n)) (placed-or 32768 (hullJudged s ds 0 0) (outlines.roomJudged room n) (hull-placed s ds 0 0) (placed-when 32768 (ltb room n) OutlineRoom (omega arith)))
+outline-placed : (s : Corner) (ds : List ℕ) (room n : ℕ) → Placed mostInput (outlineJudged s ds room n)
+outline-placed s ds room n = subst (Placed mostInput) (sym (judged-split s ds room n)) (placed-or mostInput (hullJudged s ds 0 0) (outlineRoomJudged room n) (hull-placed s ds 0 0) (placed-when mostInput (ltb room n) OutlineRoom (omega arith)))
 
 pub outline-fits : (s : Corner) (ds before : List ℕ) (r : Counted) (after : List ℕ) → OutlineCall s ds before r after → CountedFits r
 outline-fits s ds before r after w = subst CountedFits (sym (w .answer)) (go (outlineJudged s ds (length before) n) refl)
@@ -121,34 +120,34 @@ outline-fits s ds before r after w = subst CountedFits (sym (w .answer)) (go (ou
     n = length (w .steps)
 
     go : (j : Judged) → outlineJudged s ds (length before) n ≡ j → CountedFits (countedOf (outlineJudged s ds (length before) n) n)
-    go Good e = rw e (omega (arith, outline-short (w .outline), hull-short s ds 0 0 (orElse-good (hullJudged s ds 0 0) (outlines.roomJudged (length before) n) (sym (judged-split s ds (length before) n) ∙ e) .0)))
-    go (Refused x) e = rw e (omega (arith, subst (Placed 32768) e (outline-placed s ds (length before) n)))
+    go Good e = rw e (omega (arith, outline-short (w .outline), hull-short s ds 0 0 (orElse-good (hullJudged s ds 0 0) (outlineRoomJudged (length before) n) (sym (judged-split s ds (length before) n) ∙ e) .0)))
+    go (Refused x) e = rw e (omega (arith, subst (Placed mostInput) e (outline-placed s ds (length before) n)))
 
-room-placed : (s : Corner) (ds : List ℕ) → Placed 32768 (asRoomJudged s ds)
+room-placed : (s : Corner) (ds : List ℕ) → Placed mostInput (asRoomJudged s ds)
 room-placed s ds =
     let a = when (not (startFits s)) StartRange in
     let f = chainJudged 0 ds in
     let r = when (not (isRoom s ds)) NotRoom in
     placed-after (length ds) (orElse a (orElse f (orElse r Good))) (λ h.
-    placed-or 32768 a (orElse f (orElse r Good)) (placed-when 32768 (not (startFits s)) StartRange (omega arith))
-    (placed-or 32768 f (orElse r Good) (placed-hull 0 ds 32768 (omega arith)) (placed-or 32768 r Good (placed-when 32768 (not (isRoom s ds)) NotRoom (omega arith)) tt)))
+    placed-or mostInput a (orElse f (orElse r Good)) (placed-when mostInput (not (startFits s)) StartRange (omega arith))
+    (placed-or mostInput f (orElse r Good) (placed-hull 0 ds mostInput (omega arith)) (placed-or mostInput r Good (placed-when mostInput (not (isRoom s ds)) NotRoom (omega arith)) tt)))
 
-polygon-placed : (s : Corner) (ds : List ℕ) (room : ℕ) → Placed 32768 (polygonJudged s ds room)
+polygon-placed : (s : Corner) (ds : List ℕ) (room : ℕ) → Placed mostInput (polygonJudged s ds room)
 polygon-placed s ds room =
     let p = ltb room (length (polygonOf s ds)) in
-    placed-or 32768 (asRoomJudged s ds) (orElse (when p PolygonRoom) Good) (room-placed s ds) (placed-or 32768 (when p PolygonRoom) Good (placed-when 32768 p PolygonRoom (omega arith)) tt)
+    placed-or mostInput (asRoomJudged s ds) (orElse (when p PolygonRoom) Good) (room-placed s ds) (placed-or mostInput (when p PolygonRoom) Good (placed-when mostInput p PolygonRoom (omega arith)) tt)
 
 pub polygon-fits : (s : Corner) (ds before : List ℕ) (r : Counted) (after : List ℕ) → PolygonCall s ds before r after → CountedFits r
 polygon-fits s ds before r after w = subst CountedFits (sym (w .answer)) (go (polygonJudged s ds (length before)) refl)
   where
     go : (j : Judged) → polygonJudged s ds (length before) ≡ j → CountedFits (countedOf (polygonJudged s ds (length before)) (length (polygonOf s ds)))
     go Good e = let k = polygon-few s ds (length before) e in rw e (omega (arith, k .0, k .1))
-    go (Refused x) e = rw e (omega (arith, subst (Placed 32768) e (polygon-placed s ds (length before))))
+    go (Refused x) e = rw e (omega (arith, subst (Placed mostInput) e (polygon-placed s ds (length before))))
 
-rows-placed : (s : Corner) (ds : List ℕ) (room n : ℕ) → Placed 32768 (rowsJudged s ds room n)
+rows-placed : (s : Corner) (ds : List ℕ) (room n : ℕ) → Placed mostInput (rowsJudged s ds room n)
 rows-placed s ds room n =
     let p = ltb room (3 * n) in
-    placed-or 32768 (asRoomJudged s ds) (orElse (when p SpanRoom) Good) (room-placed s ds) (placed-or 32768 (when p SpanRoom) Good (placed-when 32768 p SpanRoom (omega arith)) tt)
+    placed-or mostInput (asRoomJudged s ds) (orElse (when p SpanRoom) Good) (room-placed s ds) (placed-or mostInput (when p SpanRoom) Good (placed-when mostInput p SpanRoom (omega arith)) tt)
 
 pub rows-fit : (s : Corner) (ds : List ℕ) (before : List ℤ) (r : Counted) (after : List ℤ) → RowsCall s ds before r after → CountedFits r
 rows-fit s ds before r after w = subst CountedFits (sym (w .answer)) (go (rowsJudged s ds (length before) (length (w .list))) refl)
@@ -157,19 +156,19 @@ rows-fit s ds before r after w = subst CountedFits (sym (w .answer)) (go (rowsJu
     go Good e =
         let g = orElse-good (asRoomJudged s ds) (orElse (when (ltb (length before) (3 * length (w .list))) SpanRoom) Good) e .0 in
         rw e (omega (arith, rows-few s ds g (w .list) (w .rows g)))
-    go (Refused x) e = rw e (omega (arith, subst (Placed 32768) e (rows-placed s ds (length before) (length (w .list)))))
+    go (Refused x) e = rw e (omega (arith, subst (Placed mostInput) e (rows-placed s ds (length before) (length (w .list)))))
 
 -- two rooms: the first's refusals, then the second's, then 21
-overlay-placed : (s : Corner) (ds : List ℕ) (t : Corner) (es : List ℕ) (before : Part → List ℤ) (L : Part → List Span) → Placed 32768 (overlayJudged s ds t es before L)
+overlay-placed : (s : Corner) (ds : List ℕ) (t : Corner) (es : List ℕ) (before : Part → List ℤ) (L : Part → List Span) → Placed mostInput (overlayJudged s ds t es before L)
 overlay-placed s ds t es before L =
-    placed-or 32768 (asRoomJudged s ds) (orElse (asRoomJudged t es) (buffersJudged before L)) (room-placed s ds)
-    (placed-or 32768 (asRoomJudged t es) (buffersJudged before L) (room-placed t es) (short First (orElse (judged Second) (orElse (judged Both) Good)) (short Second (orElse (judged Both) Good) (short Both Good tt))))
+    placed-or mostInput (asRoomJudged s ds) (orElse (asRoomJudged t es) (buffersJudged before L)) (room-placed s ds)
+    (placed-or mostInput (asRoomJudged t es) (buffersJudged before L) (room-placed t es) (short First (orElse (judged Second) (orElse (judged Both) Good)) (short Second (orElse (judged Both) Good) (short Both Good tt))))
   where
     judged : Part → Judged
-    judged k = shortJudged before L k
+    judged k = partRoomJudged before L k
 
-    short : (k : Part) (j : Judged) → Placed 32768 j → Placed 32768 (orElse (shortJudged before L k) j)
-    short k j p = placed-or 32768 (shortJudged before L k) j (placed-when 32768 (ltb (length (before k)) (3 * length (L k))) SpanRoom (omega arith)) p
+    short : (k : Part) (j : Judged) → Placed mostInput j → Placed mostInput (orElse (partRoomJudged before L k) j)
+    short k j p = placed-or mostInput (partRoomJudged before L k) j (placed-when mostInput (ltb (length (before k)) (3 * length (L k))) SpanRoom (omega arith)) p
 
 pub overlay-fit : (s : Corner) (ds : List ℕ) (t : Corner) (es : List ℕ) (before : Part → List ℤ) (r : Overlaid) (after : Part → List ℤ) → OverlayCall s ds t es before r after → OverlaidFits r
 overlay-fit s ds t es before r after w = go (overlayJudged s ds t es before (w .lists)) refl
@@ -186,18 +185,18 @@ overlay-fit s ds t es before r after w = go (overlayJudged s ds t es before (w .
         subst OverlaidFits (sym f) (few (measuresOf (w .lists)) (subst (λ (x : Overlaid). OverlayCall s ds t es before x after) f w))
     go (Refused x) e =
         let f = w .answer ∙ ap (λ (i : Judged). overlaidOf i (w .lists)) e in
-        subst OverlaidFits (sym f) (omega (arith, subst (Placed 32768) e (overlay-placed s ds t es before (w .lists))))
+        subst OverlaidFits (sym f) (omega (arith, subst (Placed mostInput) e (overlay-placed s ds t es before (w .lists))))
 
 pub convex-fits : (s : Corner) (ds : List ℕ) (r : Counted) → ConvexCall s ds r → CountedFits r
 convex-fits s ds r w = subst CountedFits (sym (w .answer)) (go (asRoomJudged s ds) (room-placed s ds) (w .says))
   where
-    go : (j : Judged) → Placed 32768 j → (b : Bool) → CountedFits (countedOf j (tally b))
+    go : (j : Judged) → Placed mostInput j → (b : Bool) → CountedFits (countedOf j (tally b))
     go Good p true = omega arith
     go Good p false = omega arith
     go (Refused x) p b = omega (arith, p)
 
 placed-tests : (a b c d e f g : Bool)
-    → Placed 32768 (firstOf (when a FileLength ∷ when b FileKind ∷ when c FileLength ∷ when d BadCoordinate ∷ when e BadRing ∷ when f (TooLong mostSteps) ∷ when g ChainRoom ∷ []))
+    → Placed mostInput (firstOf (when a FileLength ∷ when b FileKind ∷ when c FileLength ∷ when d BadCoordinate ∷ when e BadRing ∷ when f (TooLong mostSteps) ∷ when g ChainRoom ∷ []))
 placed-tests true b c d e f g = omega arith
 placed-tests false true c d e f g = omega arith
 placed-tests false false true d e f g = omega arith
@@ -207,9 +206,9 @@ placed-tests false false false false false true g = omega arith
 placed-tests false false false false false false true = omega arith
 placed-tests false false false false false false false = tt
 
-read-placed : (file : List ℕ) (room : ℕ) → Placed 32768 (readJudged file room)
+read-placed : (file : List ℕ) (room : ℕ) → Placed mostInput (readJudged file room)
 read-placed file room =
-    placed-tests (ltb (length file) 13) (isNeither (orderOf file)) (not (eqb (length file) (13 + 16 * countOf file))) (any isFaulty (pointsGiven file)) (not (isRing (ringOf file)))
+    placed-tests (ltb (length file) 13) (isNeither (orderOf file)) (not (eqb (length file) (13 + 16 * countGiven file))) (any isFaulty (pointsGiven file)) (not (isRing (ringOf file)))
     (ltb mostSteps (lengthOf (ringOf file))) (ltb room (lengthOf (ringOf file)))
 
 pub given-fits : (file before : List ℕ) (r : Given) (after : List ℕ) → ReadCall file before r after → GivenFits r
@@ -217,4 +216,4 @@ given-fits file before r after w = subst GivenFits (sym (w .answer)) (go (readJu
   where
     go : (j : Judged) → readJudged file (length before) ≡ j → GivenFits (givenOf j (ringOf file))
     go Good e = omega (arith, read-few file (length before) e)
-    go (Refused x) e = omega (arith, subst (Placed 32768) e (read-placed file (length before)))
+    go (Refused x) e = omega (arith, subst (Placed mostInput) e (read-placed file (length before)))

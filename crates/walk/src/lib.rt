@@ -10,7 +10,7 @@ ghost use Prim.Native.Nat.{_*_, _^_, _<_, _≤_};
 ghost use lib.ListN.{length, replicate};
 ghost use Rattle.answer.specs.declared.Judged.the-variants.{Good};
 ghost use Rattle.walk_call.specs.Walk.{WalkIs};
-ghost use Rattle.answer.specs.Limits.{Near};
+ghost use Rattle.answer.specs.Limits.{mostInput, Near};
 ghost use Rattle.layout.specs.Marks.{markWords};
 ghost use Rattle.walk_step.specs.Spots.{Walked};
 ghost use Rattle.walk_step.specs.Walks.{fresh};
@@ -36,7 +36,7 @@ fn go_on(
     chain: &mut [u8],
 ) -> Answer
     requires { ⌜ Near start × Walked (now t) start [] (fresh start node .spot) × (length (now t) < 2 ^ 32) ⌝ }
-    requires { ⌜ (length (now marks) ≡ markWords * length (now ops)) × (length (now chain) ≡ length (now ops)) × (length (now ops) ≤ 32768) ⌝ }
+    requires { ⌜ (length (now marks) ≡ markWords * length (now ops)) × (length (now chain) ≡ length (now ops)) × (length (now ops) ≤ mostInput) ⌝ }
     requires { ⌜ operationsJudged 0 0 (now ops) ≡ Good ⌝ }
     ensures { λ r. ⌜ Followed start (now (ops .entry)) (now (t .entry)) (now (marks .entry)) (now (chain .entry)) r (now (t .exit)) (now (marks .exit)) (now (chain .exit)) ⌝ }
 {
@@ -47,8 +47,8 @@ fn go_on(
 }
 
 // Follows the operations from start. If they are refused, the buffers are untouched, but all zero where there is no room. Else the
-// table t holds the records of the nodes in use, then zeros; the marks, two words an operation, hold the nodes in use and the visits
-// at the corner stood on after it; and the chain holds the surviving steps, then zeros.
+// table t holds the records of the nodes in use, then zeros; the marks, three words an operation, hold the nodes in use and the visits
+// at the corner stood on after it, and how many records it changed; and the chain holds the surviving steps, then zeros.
 pub fn follow(
     start: Corner,
     ops: &[u8],

@@ -22,6 +22,7 @@ use Rattle.answer.proofs.RefusalLaws.{clear-first, when-good, orElse-good}
 use Rattle.tree.proofs.NodeLaws.{nodes-mono}
 use Rattle.steps.proofs.SurvivorLaws.{operate-step, survivors-steps, walkable-survivors, steps-accepted, length-survivors}
 use Rattle.answer.proofs.StartLaws.{near-fits}
+use Rattle.answer.specs.Limits.{mostInput}
 use Rattle.walk_call.specs.Walk.{roomFrom, walkJudgements, walkJudged, roomAt}
 use Rattle.walk_call.proofs.JudgedLaws.{walk-fits}
 use Rattle.walk_call.proofs.CallCases as cases
@@ -62,7 +63,7 @@ alone c os words m k e =
     let ds = survivors os in
     let h = walk-fits c os words m k e in
     let s : Walkable ds = walkable-survivors 0 [] os (record { digits = tt; few = omega arith }) (h .0 .fine) in
-    let b : ltb 32768 (length ds) ≡ false = le-ltb 32768 (length ds) (omega (arith, h .0 .few, length-survivors [] os)) in
+    let b : ltb mostInput (length ds) ≡ false = le-ltb mostInput (length ds) (omega (arith, h .0 .few, length-survivors [] os)) in
     let r : roomFrom (recordsIn words) c 0 [] ds ≡ Good = room-steps (recordsIn words) c 0 [] ds (s .digits) (room-last (recordsIn words) c 0 [] os (h .1)) in (
       survivors-steps [] ds (s .digits),
       clear-first (walkJudgements c ds words (markWords * length ds) (length ds)) (

@@ -13,7 +13,7 @@ use Rattle.answer.specs.declared.Judged.the-variants.{Good, Refused}
 use Rattle.answer.specs.declared.Refusal.{Refusal}
 use Rattle.answer.specs.declared.Refusal.the-variants.{Table, ResultRoom, BadDigit, NothingToTake, TooLong, NoRoom, StartRange}
 use Rattle.answer.specs.Refusal.{when, orElse, refusalPlace}
-use Rattle.answer.specs.Limits.{mostRecords, startFits}
+use Rattle.answer.specs.Limits.{mostInput, mostSteps, mostRecords, noMeeting, startFits}
 use Rattle.grid.specs.declared.Corner.{Corner}
 use Rattle.grid.specs.Grid.{same, cornersFrom}
 use Rattle.trace.specs.Meeting.{Meeting, none, meet, meetingOf, meetingJ, meetingK, visitedOf}
@@ -50,10 +50,10 @@ placed-fault : (i n o : ℕ) → Placed i (faultOf i n o)
 placed-fault i n o =
     let a = when (ltb 4 o) (BadDigit i) in
     let b = when (eqb o 4 && eqb n 0) (NothingToTake i) in
-    let d = when (not (eqb o 4) && not (ltb n 16384)) (TooLong i) in
+    let d = when (not (eqb o 4) && not (ltb n mostSteps)) (TooLong i) in
     placed-or i a (orElse b (orElse d Good)) (placed-when i (ltb 4 o) (BadDigit i) (omega arith))
     (placed-or i b (orElse d Good) (placed-when i (eqb o 4 && eqb n 0) (NothingToTake i) (omega arith))
-    (placed-or i d Good (placed-when i (not (eqb o 4) && not (ltb n 16384)) (TooLong i) (omega arith)) tt))
+    (placed-or i d Good (placed-when i (not (eqb o 4) && not (ltb n mostSteps)) (TooLong i) (omega arith)) tt))
 
 placed-faults : (i n : ℕ) (os : List ℕ) → Placed (i + length os) (operationsJudged i n os)
 placed-faults i n [] = tt
@@ -74,8 +74,8 @@ placed-room r c k ds (o ∷ os) =
     placed-or b (roomAt r c k ds) j (placed-at b r c k ds (omega arith)) (placed-more (suc k + length os) b j (omega arith) (placed-room r c (suc k) (operate ds o) os))
 
 -- the place of a walk's refusal
-pub walk-placed : (c : Corner) (os : List ℕ) (w m k : ℕ) → Placed 32768 (walkJudged c os w m k)
-walk-placed c os w m k = go (ltb 32768 (length os)) refl
+pub walk-placed : (c : Corner) (os : List ℕ) (w m k : ℕ) → Placed mostInput (walkJudged c os w m k)
+walk-placed c os w m k = go (ltb mostInput (length os)) refl
   where
     b : Judged
     b = when (not (tableFits w)) Table
@@ -86,32 +86,32 @@ walk-placed c os w m k = go (ltb 32768 (length os)) refl
     s : Judged
     s = when (not (startFits c)) StartRange
 
-    rest : length os ≤ 32768 → Placed 32768 (orElse b (orElse d (orElse s (orElse (operationsJudged 0 0 os) (orElse (roomFrom (recordsIn w) c 0 [] os) Good)))))
+    rest : length os ≤ mostInput → Placed mostInput (orElse b (orElse d (orElse s (orElse (operationsJudged 0 0 os) (orElse (roomFrom (recordsIn w) c 0 [] os) Good)))))
     rest h =
         let f = operationsJudged 0 0 os in
         let r = roomFrom (recordsIn w) c 0 [] os in
-        placed-or 32768 b (orElse d (orElse s (orElse f (orElse r Good)))) (placed-when 32768 (not (tableFits w)) Table (omega arith))
-        (placed-or 32768 d (orElse s (orElse f (orElse r Good))) (placed-when 32768 (not (eqb m (markWords * length os) && eqb k (length os))) ResultRoom (omega arith))
-        (placed-or 32768 s (orElse f (orElse r Good)) (placed-when 32768 (not (startFits c)) StartRange (omega arith))
-        (placed-or 32768 f (orElse r Good) (placed-more (0 + length os) 32768 f (omega arith) (placed-faults 0 0 os))
-        (placed-or 32768 r Good (placed-more (0 + length os) 32768 r (omega arith) (placed-room (recordsIn w) c 0 [] os)) tt))))
+        placed-or mostInput b (orElse d (orElse s (orElse f (orElse r Good)))) (placed-when mostInput (not (tableFits w)) Table (omega arith))
+        (placed-or mostInput d (orElse s (orElse f (orElse r Good))) (placed-when mostInput (not (eqb m (markWords * length os) && eqb k (length os))) ResultRoom (omega arith))
+        (placed-or mostInput s (orElse f (orElse r Good)) (placed-when mostInput (not (startFits c)) StartRange (omega arith))
+        (placed-or mostInput f (orElse r Good) (placed-more (0 + length os) mostInput f (omega arith) (placed-faults 0 0 os))
+        (placed-or mostInput r Good (placed-more (0 + length os) mostInput r (omega arith) (placed-room (recordsIn w) c 0 [] os)) tt))))
 
-    go : (t : Bool) → ltb 32768 (length os) ≡ t → Placed 32768 (walkJudged c os w m k)
+    go : (t : Bool) → ltb mostInput (length os) ≡ t → Placed mostInput (walkJudged c os w m k)
     go true e = rw e (omega arith)
-    go false e = rw e (rest (ltb-false 32768 (length os) e))
+    go false e = rw e (rest (ltb-false mostInput (length os) e))
 
 -- the facts of an accepted walk
 pub record Few (c : Corner) (ds : List ℕ) : Type 0 where
-  pub steps : length ds ≤ 16384
+  pub steps : length ds ≤ mostSteps
   pub nodes : length (nodesOf (cornersFrom c ds)) ≤ mostRecords
-  pub corners : length (visitedOf (cornersFrom c ds)) ≤ 16385
-  pub j : meetingJ (meetingOf c ds) ≤ 65535
-  pub k : meetingK (meetingOf c ds) ≤ 65535
+  pub corners : length (visitedOf (cornersFrom c ds)) ≤ suc mostSteps
+  pub j : meetingJ (meetingOf c ds) ≤ noMeeting
+  pub k : meetingK (meetingOf c ds) ≤ noMeeting
 
-meeting-few : (c : Corner) (ds : List ℕ) → length ds ≤ 16384 → (meetingJ (meetingOf c ds) ≤ 65535) × (meetingK (meetingOf c ds) ≤ 65535)
+meeting-few : (c : Corner) (ds : List ℕ) → length ds ≤ mostSteps → (meetingJ (meetingOf c ds) ≤ noMeeting) × (meetingK (meetingOf c ds) ≤ noMeeting)
 meeting-few c ds h = go (meetingOf c ds) refl
   where
-    go : (m : Meeting) → meetingOf c ds ≡ m → (meetingJ (meetingOf c ds) ≤ 65535) × (meetingK (meetingOf c ds) ≤ 65535)
+    go : (m : Meeting) → meetingOf c ds ≡ m → (meetingJ (meetingOf c ds) ≤ noMeeting) × (meetingK (meetingOf c ds) ≤ noMeeting)
     go none e = (rw e (omega arith), rw e (omega arith))
     go (meet j k) e =
         let f = meetingOf-meets c ds j k e .meets in

@@ -21,6 +21,7 @@ use Rattle.grid.proofs.BoundLaws.{stepped-bound}
 use Rattle.int_laws.proofs.NextLaws.{suc-sub, pred-sub}
 use Rattle.int_laws.proofs.RangeLaws.{abs+, abs-neg}
 use Rattle.answer.specs.declared.Facts.{Facts}
+use Rattle.answer.specs.Limits.{mostSteps, noMeeting, mostStart, farthest}
 use Rattle.walk_call.specs.Walk.{factsOf}
 use Rattle.walk_step.specs.declared.Walk.{Walk}
 use Rattle.walk_facts.specs.Settled.{gain, Settled}
@@ -60,22 +61,22 @@ gain-bound (suc zero) x = omega (arith, ap natAbs (times-one x))
 gain-bound (suc (suc zero)) x = omega (arith, ap natAbs (*ℤ-zero x))
 gain-bound (suc (suc (suc d))) x = omega (arith, ap natAbs (*ℤ-negsuc x 0 ∙ ap negℤ (times-one x)), abs-neg x)
 
-sum-bound : (sum x : ℤ) (d i : ℕ) → natAbs sum ≤ i * 32768 → natAbs x ≤ 32768 → natAbs (sum +ℤ gain d x) ≤ (i + 1) * 32768
+sum-bound : (sum x : ℤ) (d i : ℕ) → natAbs sum ≤ i * farthest → natAbs x ≤ farthest → natAbs (sum +ℤ gain d x) ≤ (i + 1) * farthest
 sum-bound sum x d i h k = omega (arith, abs+ sum (gain d x), gain-bound d x)
 
 -- one step more of the sum over the first n steps
-pub sweep-again : (chain : List ℕ) (n i : ℕ) (at at′ : Corner) (sum sum′ w : ℤ) → n ≤ length chain → n ≤ 16384 → i < n → natAbs (at .0) ≤ 16384 + i → natAbs (at .1) ≤ 16384 + i → natAbs sum ≤ i * 32768
+pub sweep-again : (chain : List ℕ) (n i : ℕ) (at at′ : Corner) (sum sum′ w : ℤ) → n ≤ length chain → n ≤ mostSteps → i < n → natAbs (at .0) ≤ mostStart + i → natAbs (at .1) ≤ mostStart + i → natAbs sum ≤ i * farthest
     → w ≡ sum +ℤ sweepFrom at (drop i (take n chain)) → at′ ≡ stepped (getD chain i 0) at → sum′ ≡ sum +ℤ gain (getD chain i 0) (at .0)
-    → (natAbs (at′ .0) ≤ 16384 + (i + 1)) × (natAbs (at′ .1) ≤ 16384 + (i + 1)) × (natAbs sum′ ≤ (i + 1) * 32768) × (w ≡ sum′ +ℤ sweepFrom at′ (drop (i + 1) (take n chain)))
+    → (natAbs (at′ .0) ≤ mostStart + (i + 1)) × (natAbs (at′ .1) ≤ mostStart + (i + 1)) × (natAbs sum′ ≤ (i + 1) * farthest) × (w ≡ sum′ +ℤ sweepFrom at′ (drop (i + 1) (take n chain)))
 sweep-again chain n i at at′ sum sum′ w long few more x y z e p q =
     let d = getD chain i 0 in
     let h = stepped-bound d at in
     let l : i < length (take n chain) = omega (arith, length-take-le n chain long) in
     let g : getD (take n chain) i 0 ≡ d = getD-take n chain i 0 more in
     let f = sweep-next w sum at (take n chain) i l e in (
-      subst (λ (a : Corner). natAbs (a .0) ≤ 16384 + (i + 1)) (sym p) (omega (arith, h .0)),
-      subst (λ (a : Corner). natAbs (a .1) ≤ 16384 + (i + 1)) (sym p) (omega (arith, h .1)),
-      subst (λ (a : ℤ). natAbs a ≤ (i + 1) * 32768) (sym q) (sum-bound sum (at .0) d i z (omega arith)),
+      subst (λ (a : Corner). natAbs (a .0) ≤ mostStart + (i + 1)) (sym p) (omega (arith, h .0)),
+      subst (λ (a : Corner). natAbs (a .1) ≤ mostStart + (i + 1)) (sym p) (omega (arith, h .1)),
+      subst (λ (a : ℤ). natAbs a ≤ (i + 1) * farthest) (sym q) (sum-bound sum (at .0) d i z (omega arith)),
       f
           ∙ ap (λ (k : ℕ). (sum +ℤ gain k (at .0)) +ℤ sweepFrom (stepped k at) (drop (i + 1) (take n chain))) g
           ∙ ap₂ (λ (a : ℤ) (b : Corner). a +ℤ sweepFrom b (drop (i + 1) (take n chain))) (sym q) (sym p),
@@ -92,7 +93,7 @@ module _ (m : Meeting) (j k n : ℕ) (s : Says m j k) where
   verdict-nowhere b e = ap (λ (l : ℕ). verdictBy l b m) (sym e)
 
   module _ (some : n ≡ 0 → ⊥) where
-    pub verdict-open : (b : Bool) → b ≡ false → k ≡ 65535 → Open ≡ verdictBy n b m
+    pub verdict-open : (b : Bool) → b ≡ false → k ≡ noMeeting → Open ≡ verdictBy n b m
     verdict-open b e q = go n some m s
       where
         go : (n : ℕ) → (n ≡ 0 → ⊥) → (m : Meeting) → Says m j k → Open ≡ verdictBy n b m
@@ -100,7 +101,7 @@ module _ (m : Meeting) (j k n : ℕ) (s : Says m j k) where
         go (suc n) f none s = rw (e, verdictBy)
         go (suc n) f (meet a c) s = absurd (omega (arith, s .1, s .2, q))
 
-    pub verdict-meets : (b : Bool) → b ≡ false → (k ≡ 65535 → ⊥) → OpenMeeting ≡ verdictBy n b m
+    pub verdict-meets : (b : Bool) → b ≡ false → (k ≡ noMeeting → ⊥) → OpenMeeting ≡ verdictBy n b m
     verdict-meets b e q = go n some m s
       where
         go : (n : ℕ) → (n ≡ 0 → ⊥) → (m : Meeting) → Says m j k → OpenMeeting ≡ verdictBy n b m

@@ -5,7 +5,7 @@ use mathlib.Core.Path.{_≡_}
 use Prim.Native.Nat.{ℕ, _≤_}
 use lib.IntN.{ℤ, _*ℤ_}
 use lib.ListN.{length, take}
-use Rattle.answer.specs.Limits.{Near}
+use Rattle.answer.specs.Limits.{mostSteps, Near}
 use Rattle.grid.specs.declared.Corner.{Corner}
 use Rattle.grid.specs.Grid.{cornersFrom, endFrom, northOf}
 use Rattle.walk_step.specs.declared.Walk.{Walk}
@@ -20,7 +20,7 @@ gain d x = x *ℤ northOf d
 pub record Settled (c : Corner) (chain ds : List ℕ) (w : Walk) : Type 0 where
   pub near : Near c
   pub steps : w .spot .steps ≡ length ds
-  pub few : length ds ≤ 16384
+  pub few : length ds ≤ mostSteps
   pub corner : w .spot .at ≡ endFrom c ds
   pub nodes : w .spot .nodes ≡ length (nodesOf (cornersFrom c ds))
   pub counted : TallyIs c ds (w .tally)

@@ -6,11 +6,11 @@ use walk_step::Tally;
 use walk_step::Walk;
 ghost use mathlib.Core.List.{List};
 ghost use mathlib.Core.Path.{_≡_};
-ghost use Prim.Native.Nat.{ℕ, _<_, _≤_};
+ghost use Prim.Native.Nat.{ℕ, _*_, _<_, _≤_};
 ghost use lib.IntN.{natAbs, _+ℤ_};
 ghost use lib.ListN.{length, take};
 ghost use Rattle.walk_call.specs.Walk.{factsOf};
-ghost use Rattle.answer.specs.Limits.{Near};
+ghost use Rattle.answer.specs.Limits.{mostSteps, noMeeting, farthest, Near};
 ghost use Rattle.walk_step.specs.Tallies.{Says};
 ghost use Rattle.trace.specs.Meeting.{Meeting};
 ghost use Rattle.trace.specs.Verdict.{verdictBy, sweepFrom, areaBy};
@@ -18,7 +18,7 @@ ghost use Rattle.walk_facts.specs.Settled.{gain, Settled, Settling};
 
 // The sum with x times the change of y that the step d makes.
 fn gained(sum: i32, x: i32, d: u8) -> i32
-    requires { ⌜ (natAbs sum ≤ 536870912) × (natAbs x ≤ 32768) ⌝ }
+    requires { ⌜ (natAbs sum ≤ mostSteps * farthest) × (natAbs x ≤ farthest) ⌝ }
     ensures { λ r. ⌜ r ≡ sum +ℤ gain d x ⌝ }
 {
     sum + x * walk_corner::north(d)
@@ -26,7 +26,7 @@ fn gained(sum: i32, x: i32, d: u8) -> i32
 
 // The sum over the first n steps of x times the change of y.
 fn sweep(start: Corner, chain: &[u8], n: usize) -> i32
-    requires { ⌜ Near start × (n ≤ length (now chain)) × (n ≤ 16384) ⌝ }
+    requires { ⌜ Near start × (n ≤ length (now chain)) × (n ≤ mostSteps) ⌝ }
     ensures { λ r. ⌜ r ≡ sweepFrom start (take n (now (chain .entry))) ⌝ }
 {
     let mut at = start;
@@ -43,7 +43,7 @@ fn sweep(start: Corner, chain: &[u8], n: usize) -> i32
 
 // The signed area of the first n steps: 0 where they are no room.
 fn area(start: Corner, chain: &[u8], n: usize, v: Verdict) -> i32
-    requires { ⌜ Near start × (n ≤ length (now chain)) × (n ≤ 16384) ⌝ }
+    requires { ⌜ Near start × (n ≤ length (now chain)) × (n ≤ mostSteps) ⌝ }
     ensures { λ r. ⌜ r ≡ areaBy v (sweepFrom start (take n (now (chain .entry)))) ⌝ }
 {
     if let Verdict::Room = v {
@@ -54,7 +54,7 @@ fn area(start: Corner, chain: &[u8], n: usize, v: Verdict) -> i32
 
 // The verdict on n steps with the first meeting (j, k).
 fn verdict(n: usize, closed: bool, j: usize, k: usize) -> Verdict
-    requires { ⌜ n < 65535 ⌝ }
+    requires { ⌜ n < noMeeting ⌝ }
     ensures { λ r. ⌜ ((m : Meeting) → Says m j k → r ≡ verdictBy n closed m) ⌝ }
 {
     if n == 0 {

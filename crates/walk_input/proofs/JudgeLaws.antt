@@ -14,7 +14,7 @@ use Rattle.answer.specs.declared.Judged.the-variants.{Good, Refused}
 use Rattle.answer.specs.declared.Refusal.{Refusal}
 use Rattle.answer.specs.declared.Refusal.the-variants.{TooMany, Table, ResultRoom, BadDigit, NothingToTake, TooLong, StartRange}
 use Rattle.answer.specs.Refusal.{orElse, when, refusalNumber}
-use Rattle.answer.specs.Limits.{mostRecords, Near, startFits}
+use Rattle.answer.specs.Limits.{mostInput, mostSteps, mostRecords, Near, startFits}
 use Rattle.grid.specs.declared.Corner.{Corner}
 use Rattle.walk_call.specs.Walk.{tableFits}
 use Rattle.steps.specs.Operations.{faultOf, operationsJudged, after}
@@ -34,11 +34,11 @@ fault-nothing i n o e z = rw (e, z)
 pub fault-take : (i n o : ℕ) → o ≡ 4 → (n ≡ 0 → ⊥) → Good ≡ faultOf i n o
 fault-take i n o e z = rw (e, ne-eqb n 0 z)
 
-pub fault-fits : (i n o : ℕ) → o ≤ 4 → (o ≡ 4 → ⊥) → n < 16384 → Good ≡ faultOf i n o
-fault-fits i n o h e l = rw (le-ltb 4 o h, ne-eqb o 4 e, lt-ltb n 16384 l)
+pub fault-fits : (i n o : ℕ) → o ≤ 4 → (o ≡ 4 → ⊥) → n < mostSteps → Good ≡ faultOf i n o
+fault-fits i n o h e l = rw (le-ltb 4 o h, ne-eqb o 4 e, lt-ltb n mostSteps l)
 
-pub fault-long : (i n o : ℕ) → o ≤ 4 → (o ≡ 4 → ⊥) → 16384 ≤ n → Refused (TooLong i) ≡ faultOf i n o
-fault-long i n o h e l = rw (le-ltb 4 o h, ne-eqb o 4 e, le-ltb n 16384 l)
+pub fault-long : (i n o : ℕ) → o ≤ 4 → (o ≡ 4 → ⊥) → mostSteps ≤ n → Refused (TooLong i) ≡ faultOf i n o
+fault-long i n o h e l = rw (le-ltb 4 o h, ne-eqb o 4 e, le-ltb n mostSteps l)
 
 pub after-take : (n o : ℕ) → o ≡ 4 → n - 1 ≡ after n o
 after-take n o e = rw e
@@ -79,26 +79,26 @@ fits-most w h l = go (recordsIn w) refl l
     go (suc n) e k = rw (eq-eqb (w % width) 0 h, e) (rw (le-leb 1 (suc n) k))
 
 module _ (c : Corner) (os : List ℕ) (w m k : ℕ) where
-  pub input-many : 32768 < length os → Refused TooMany ≡ inputJudged c os w m k
-  input-many h = rw (lt-ltb 32768 (length os) h)
+  pub input-many : mostInput < length os → Refused TooMany ≡ inputJudged c os w m k
+  input-many h = rw (lt-ltb mostInput (length os) h)
 
-  module _ (few : length os ≤ 32768) where
+  module _ (few : length os ≤ mostInput) where
     pub input-table : tableFits w ≡ false → Refused Table ≡ inputJudged c os w m k
-    input-table e = rw (le-ltb 32768 (length os) few, e)
+    input-table e = rw (le-ltb mostInput (length os) few, e)
 
     module _ (fits : tableFits w ≡ true) where
       pub input-marks : (m ≡ markWords * length os → ⊥) → Refused ResultRoom ≡ inputJudged c os w m k
-      input-marks e = rw (le-ltb 32768 (length os) few, fits, ne-eqb m (markWords * length os) e)
+      input-marks e = rw (le-ltb mostInput (length os) few, fits, ne-eqb m (markWords * length os) e)
 
       pub input-chain : m ≡ markWords * length os → (k ≡ length os → ⊥) → Refused ResultRoom ≡ inputJudged c os w m k
-      input-chain p e = rw (le-ltb 32768 (length os) few, fits, eq-eqb m (markWords * length os) p, ne-eqb k (length os) e)
+      input-chain p e = rw (le-ltb mostInput (length os) few, fits, eq-eqb m (markWords * length os) p, ne-eqb k (length os) e)
 
       module _ (p : m ≡ markWords * length os) (q : k ≡ length os) where
         pub input-start : startFits c ≡ false → Refused StartRange ≡ inputJudged c os w m k
-        input-start e = rw (le-ltb 32768 (length os) few, fits, eq-eqb m (markWords * length os) p, eq-eqb k (length os) q, e)
+        input-start e = rw (le-ltb mostInput (length os) few, fits, eq-eqb m (markWords * length os) p, eq-eqb k (length os) q, e)
 
         pub input-rest : startFits c ≡ true → operationsJudged 0 0 os ≡ inputJudged c os w m k
-        input-rest e = rw (le-ltb 32768 (length os) few, fits, eq-eqb m (markWords * length os) p, eq-eqb k (length os) q, e) (sym (orElse-right (operationsJudged 0 0 os)))
+        input-rest e = rw (le-ltb mostInput (length os) few, fits, eq-eqb m (markWords * length os) p, eq-eqb k (length os) q, e) (sym (orElse-right (operationsJudged 0 0 os)))
 
 -- ---- an input with no fault
 fits-words : (w : ℕ) → tableFits w ≡ true → (width ≤ w) × (w < 2 ^ 32)
@@ -112,7 +112,7 @@ fits-words w e =
     (omega arith, omega arith)
 
 pub record Sized (c : Corner) (os : List ℕ) (w m k : ℕ) : Type 0 where
-  pub few : length os ≤ 32768
+  pub few : length os ≤ mostInput
   pub least : width ≤ w
   pub most : w < 2 ^ 32
   pub marks : m ≡ markWords * length os
@@ -143,10 +143,10 @@ early-fault : (i n o : ℕ) → Early (faultOf i n o)
 early-fault i n o =
     let a = when (ltb 4 o) (BadDigit i) in
     let b = when (eqb o 4 && eqb n 0) (NothingToTake i) in
-    let d = when (not (eqb o 4) && not (ltb n 16384)) (TooLong i) in
+    let d = when (not (eqb o 4) && not (ltb n mostSteps)) (TooLong i) in
     early-or a (orElse b (orElse d Good)) (early-when (ltb 4 o) (BadDigit i) refl)
     (early-or b (orElse d Good) (early-when (eqb o 4 && eqb n 0) (NothingToTake i) refl)
-    (early-or d Good (early-when (not (eqb o 4) && not (ltb n 16384)) (TooLong i) refl) tt))
+    (early-or d Good (early-when (not (eqb o 4) && not (ltb n mostSteps)) (TooLong i) refl) tt))
 
 early-faults : (i n : ℕ) (os : List ℕ) → Early (operationsJudged i n os)
 early-faults i n [] = tt
@@ -154,13 +154,13 @@ early-faults i n (o ∷ os) = early-or (faultOf i n o) (operationsJudged (suc i)
 
 pub early-input : (c : Corner) (os : List ℕ) (w m k : ℕ) → Early (inputJudged c os w m k)
 early-input c os w m k =
-    let a = when (ltb 32768 (length os)) TooMany in
+    let a = when (ltb mostInput (length os)) TooMany in
     let b = when (not (tableFits w)) Table in
     let x = not (eqb m (markWords * length os) && eqb k (length os)) in
     let d = when x ResultRoom in
     let s = when (not (startFits c)) StartRange in
     let f = operationsJudged 0 0 os in
-    early-or a (orElse b (orElse d (orElse s (orElse f Good)))) (early-when (ltb 32768 (length os)) TooMany refl)
+    early-or a (orElse b (orElse d (orElse s (orElse f Good)))) (early-when (ltb mostInput (length os)) TooMany refl)
     (early-or b (orElse d (orElse s (orElse f Good))) (early-when (not (tableFits w)) Table refl)
     (early-or d (orElse s (orElse f Good)) (early-when x ResultRoom refl)
     (early-or s (orElse f Good) (early-when (not (startFits c)) StartRange refl)

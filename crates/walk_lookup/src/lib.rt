@@ -42,10 +42,10 @@ pub fn child(t: &mut [u32], nodes: usize, u: usize, place: usize, step: u32) -> 
 }
 
 // Where a climb stops: a node, its corner, and how many levels up it is.
-pub struct Perch {
-    pub node: usize,
-    pub at: Corner,
-    pub level: usize,
+struct Perch {
+    node: usize,
+    at: Corner,
+    level: usize,
 }
 
 // Whether the neighbour of c is looked up by its parents: there is no link, neither is the root, and the parents differ.

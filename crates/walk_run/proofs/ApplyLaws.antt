@@ -10,6 +10,7 @@ use lib.Dec.{eqb}
 use lib.IntN.{natAbs}
 use lib.ListN.{length, length-append, length-set, take, getD, set}
 use lib.Seq.{sets, take-suc, take-suc-set, length-take-le}
+use Rattle.answer.specs.Limits.{mostSteps, mostStart}
 use Rattle.grid.specs.declared.Corner.{Corner}
 use Rattle.grid.specs.Grid.{same, cornersFrom, endFrom}
 use Rattle.lists.specs.Lists.{Below, count}
@@ -31,7 +32,7 @@ use Rattle.steps.proofs.SurvivorLaws.{walkable-operate, operate-step, operate-b
 use Rattle.walk_run.specs.Runs.{Chained, Applied, StepDone, Tells, Performed}
 
 module _ (c : Corner) (t ch ds : List ℕ) (w : Walk) (k : Chained c t ch ds w) where
-  pub chained-few : w .spot .steps ≤ 16384
+  pub chained-few : w .spot .steps ≤ mostSteps
   chained-few = omega (arith, k .known .walked .steps, k .sound .few)
 
   pub chained-near : (natAbs (w .spot .at .0) < 65536) × (natAbs (w .spot .at .1) < 65536)
@@ -41,7 +42,7 @@ module _ (c : Corner) (t ch ds : List ℕ) (w : Walk) (k : Chained c t ch ds w) 
       let y : natAbs (w .spot .at .1) ≡ natAbs (endFrom c ds .1) = ap (λ (x : Corner). natAbs (x .1)) (k .known .walked .corner) in
       (less (natAbs (w .spot .at .0)) (natAbs (endFrom c ds .0)) (natAbs (c .0)) (length ds) x (h .0) (k .near .0) (k .sound .few), less (natAbs (w .spot .at .1)) (natAbs (endFrom c ds .1)) (natAbs (c .1)) (length ds) y (h .1) (k .near .1) (k .sound .few))
     where
-      less : (a b m n : ℕ) → a ≡ b → b ≤ m + n → m ≤ 16384 → n ≤ 16384 → a < 65536
+      less : (a b m n : ℕ) → a ≡ b → b ≤ m + n → m ≤ mostStart → n ≤ mostSteps → a < 65536
       less a b m n p q r s = omega arith
 
   -- the last step, from the chain

@@ -5,7 +5,7 @@ ghost use Prim.Native.Nat.{ℕ, suc, _+_, _*_, _^_, _<_, _≤_};
 ghost use lib.ListN.{length, set, getD};
 ghost use Rattle.answer.specs.declared.Judged.the-variants.{Good};
 ghost use Rattle.grid.specs.declared.Corner.{Corner as Node};
-ghost use Rattle.answer.specs.Limits.{Near};
+ghost use Rattle.answer.specs.Limits.{mostInput, Near};
 ghost use Rattle.walk_step.specs.Spots.{Walked};
 ghost use Rattle.walk_step.specs.Walks.{fresh};
 ghost use Rattle.layout.specs.Marks.{markWords, changesOf};
@@ -107,7 +107,7 @@ fn perform_all(
     chain: &mut [u8],
 ) -> Ran
     requires { ⌜ Near start × Walked (now t) start [] (fresh start node .spot) × (length (now t) < 2 ^ 32) ⌝ }
-    requires { ⌜ (length (now marks) ≡ markWords * length (now ops)) × (length (now chain) ≡ length (now ops)) × (length (now ops) ≤ 32768) ⌝ }
+    requires { ⌜ (length (now marks) ≡ markWords * length (now ops)) × (length (now chain) ≡ length (now ops)) × (length (now ops) ≤ mostInput) ⌝ }
     requires { ⌜ operationsJudged 0 0 (now ops) ≡ Good ⌝ }
     ensures { λ r. ⌜ PerformedAll (length (now (t .entry))) start (now (ops .entry)) (now (t .exit)) (now (marks .exit)) (now (chain .exit)) r ⌝ }
 {
@@ -138,7 +138,7 @@ pub fn run(
     chain: &mut [u8],
 ) -> Ran
     requires { ⌜ Near start × Walked (now t) start [] (fresh start node .spot) × (length (now t) < 2 ^ 32) ⌝ }
-    requires { ⌜ (length (now marks) ≡ markWords * length (now ops)) × (length (now chain) ≡ length (now ops)) × (length (now ops) ≤ 32768) ⌝ }
+    requires { ⌜ (length (now marks) ≡ markWords * length (now ops)) × (length (now chain) ≡ length (now ops)) × (length (now ops) ≤ mostInput) ⌝ }
     requires { ⌜ operationsJudged 0 0 (now ops) ≡ Good ⌝ }
     ensures { λ r. ⌜ Ended (length (now (t .entry))) start (now (ops .entry)) (now (t .exit)) (now (marks .exit)) (now (chain .exit)) r ⌝ }
 {

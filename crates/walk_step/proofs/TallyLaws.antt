@@ -8,6 +8,7 @@ use native.Mathlib.Omega.{arith}
 use borrow.Author.Tests.{eq-eqb, ne-eqb}
 use lib.Dec.{eqb}
 use lib.ListN.{length, length-append, getD}
+use Rattle.answer.specs.Limits.{noMeeting}
 use Rattle.grid.specs.declared.Corner.{Corner}
 use Rattle.grid.specs.Grid.{same, stepped, cornersFrom, endFrom}
 use Rattle.lists.specs.Lists.{find, count, tally}
@@ -31,11 +32,11 @@ met-zero : (n : ℕ) (m : Meeting) → met 0 n m ≡ m
 met-zero n none = refl
 met-zero n (meet a b) = refl
 
-says-none : (m : Meeting) (j k : ℕ) → Says m j k → k ≡ 65535 → m ≡ none
+says-none : (m : Meeting) (j k : ℕ) → Says m j k → k ≡ noMeeting → m ≡ none
 says-none none j k h e = refl
 says-none (meet a b) j k h e = absurd (omega (arith, h .1, h .2))
 
-says-some : (m : Meeting) (j k : ℕ) → Says m j k → (k ≡ 65535 → ⊥) → (f n : ℕ) → met f n m ≡ m
+says-some : (m : Meeting) (j k : ℕ) → Says m j k → (k ≡ noMeeting → ⊥) → (f n : ℕ) → met f n m ≡ m
 says-some none j k h g f n = absurd (g (h .1))
 says-some (meet a b) j k h g f n = refl
 
@@ -100,12 +101,12 @@ module _ (t : List ℕ) (c : Corner) (ds : List ℕ) (d : ℕ) (w : Spot) (k : W
           let z : length (visitedOf (cornersFrom c ds)) + 0 ≡ length (visitedOf (cornersFrom c ds)) = omega arith in
           push-visited c ds d ∙ ap (λ (b : Bool). length (visitedOf (cornersFrom c ds)) + tally b) (ne-eqb (count (same p) (cornersFrom c ds)) 0 some) ∙ z
 
-      pub tally-same : (m .k ≡ 65535 → ⊥) → TallyIs c (ds ++ (d ∷ [])) m
+      pub tally-same : (m .k ≡ noMeeting → ⊥) → TallyIs c (ds ++ (d ∷ [])) m
       tally-same x =
           let s : meetingOf c (ds ++ (d ∷ [])) ≡ meetingOf c ds = push-meeting c ds d ∙ says-some (meetingOf c ds) (m .j) (m .k) (h .met) x (find (same (stepped d (endFrom c ds))) (cornersFrom c ds)) (suc (length ds)) in
           record { seen = h .seen ∙ sym same-seen; met = subst (λ (y : Meeting). Says y (m .j) (m .k)) (sym s) (h .met) }
 
-      pub tally-meets : m .k ≡ 65535 → w .steps < 65535 → (f : ℕ) → f ≡ getD t (wordAt (w .node) firstWord) 0 → (r : Tally) → r .corners ≡ m .corners → r .j ≡ f - 1 → r .k ≡ w .steps → TallyIs c (ds ++ (d ∷ [])) r
+      pub tally-meets : m .k ≡ noMeeting → w .steps < noMeeting → (f : ℕ) → f ≡ getD t (wordAt (w .node) firstWord) 0 → (r : Tally) → r .corners ≡ m .corners → r .j ≡ f - 1 → r .k ≡ w .steps → TallyIs c (ds ++ (d ∷ [])) r
       tally-meets x few f q r p₁ p₂ p₃ = record { seen = p₁ ∙ h .seen ∙ sym same-seen; met = subst (λ (y : Meeting). Says y (r .j) (r .k)) (sym s) (go (find (same (stepped d (endFrom c ds))) (cornersFrom c ds)) refl (q ∙ first)) }
         where
           s : meetingOf c (ds ++ (d ∷ [])) ≡ met (find (same (stepped d (endFrom c ds))) (cornersFrom c ds)) (suc (length ds)) none
@@ -113,13 +114,13 @@ module _ (t : List ℕ) (c : Corner) (ds : List ℕ) (d : ℕ) (w : Spot) (k : W
 
           go : (n : ℕ) → find (same (stepped d (endFrom c ds))) (cornersFrom c ds) ≡ n → f ≡ later n true (suc (suc (length ds))) → Says (met n (suc (length ds)) none) (r .j) (r .k)
           go zero y a = absurd (some (sound-walk c ds .more (stepped d (endFrom c ds)) y))
-          go (suc n) y a = (p₂ ∙ less f n a, p₃ ∙ steps-here, subst (λ (b : ℕ). b < 65535) steps-here few)
+          go (suc n) y a = (p₂ ∙ less f n a, p₃ ∙ steps-here, subst (λ (b : ℕ). b < noMeeting) steps-here few)
             where
               less : (a b : ℕ) → a ≡ suc b → a - 1 ≡ b
               less a b z = omega arith
 
 -- ---- and back
-unsays-here : (m : Meeting) (j k n : ℕ) → Says m j k → k ≡ n → n < 65535 → unmet n m ≡ none
+unsays-here : (m : Meeting) (j k n : ℕ) → Says m j k → k ≡ n → n < noMeeting → unmet n m ≡ none
 unsays-here none j k n h e l = absurd (omega (arith, h .1))
 unsays-here (meet a b) j k n h e l = rw (eq-eqb b n (sym (h .1) ∙ e), unmet)
 
@@ -160,8 +161,8 @@ module _ (t : List ℕ) (c : Corner) (ds : List ℕ) (d : ℕ) (w : Spot) (k : W
         let s : meetingOf c (ds ++ (d ∷ [])) ≡ meetingOf c ds = sym (unsays-not (meetingOf c (ds ++ (d ∷ []))) (m .j) (m .k) (suc (length ds)) (h .met) (λ y. x (y ∙ sym (steps-here t c ds d w k)))) ∙ pop-meeting c ds d in
         record { seen = h .seen ∙ still; met = subst (λ (y : Meeting). Says y (m .j) (m .k)) s (h .met) }
 
-    pub untally-meets : m .k ≡ w .steps → w .steps < 65535 → (r : Tally) → r .corners ≡ m .corners → r .j ≡ 65535 → r .k ≡ 65535 → TallyIs c ds r
+    pub untally-meets : m .k ≡ w .steps → w .steps < noMeeting → (r : Tally) → r .corners ≡ m .corners → r .j ≡ noMeeting → r .k ≡ noMeeting → TallyIs c ds r
     untally-meets x few r p₁ p₂ p₃ =
         let n = steps-here t c ds d w k in
-        let s : none ≡ meetingOf c ds = sym (unsays-here (meetingOf c (ds ++ (d ∷ []))) (m .j) (m .k) (suc (length ds)) (h .met) (x ∙ n) (subst (λ (b : ℕ). b < 65535) n few)) ∙ pop-meeting c ds d in
+        let s : none ≡ meetingOf c ds = sym (unsays-here (meetingOf c (ds ++ (d ∷ []))) (m .j) (m .k) (suc (length ds)) (h .met) (x ∙ n) (subst (λ (b : ℕ). b < noMeeting) n few)) ∙ pop-meeting c ds d in
         record { seen = p₁ ∙ h .seen ∙ still; met = subst (λ (y : Meeting). Says y (r .j) (r .k)) s (p₂, p₃) }

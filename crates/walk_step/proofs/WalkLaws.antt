@@ -5,6 +5,7 @@ use mathlib.Core.Path.{_≡_, sym, subst}
 use Prim.Native.Nat.{ℕ, suc, _+_, _<_, _≤_}
 use native.Mathlib.Omega.{arith}
 use lib.ListN.{length, length-append}
+use Rattle.answer.specs.Limits.{noMeeting}
 use Rattle.grid.specs.declared.Corner.{Corner}
 use Rattle.grid.specs.Grid.{same, stepped, cornersFrom}
 use Rattle.trace.specs.Meeting.{visitedOf}
@@ -41,7 +42,7 @@ module _ (t t′ : List ℕ) (w : Walk) (d : ℕ) (r : Gone) (next : Spot) (f : 
   went : (c : Corner) (ds : List ℕ) → Walked t c ds (w .spot) → Walked t′ c (ds ++ (d ∷ [])) next × (length t′ ≡ length t)
   went c ds k = subst (λ (g : Gone). Went (length t) t′ c (ds ++ (d ∷ [])) g) e (f c ds k)
 
-  pub advance-stepped : Knowing t w → w .spot .steps < 65534 → Stepped t′ next d × (next .steps < 65535) × (w .tally .corners < 65536)
+  pub advance-stepped : Knowing t w → w .spot .steps + 1 < noMeeting → Stepped t′ next d × (next .steps < noMeeting) × (w .tally .corners < 65536)
   advance-stepped k small =
       let h = went (k .start) (k .chain) (k .known .walked) .0 in
       let n : next .steps ≡ suc (w .spot .steps) = one (next .steps) (length (k .chain ++ (d ∷ []))) (length (k .chain)) (w .spot .steps) (h .steps) (length-append (k .chain) (d ∷ [])) (k .known .walked .steps) in

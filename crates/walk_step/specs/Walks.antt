@@ -4,6 +4,7 @@ use mathlib.Core.List.{List, [], _∷_, _++_}
 use mathlib.Core.Path.{_≡_}
 use Prim.Native.Nat.{ℕ, _+_, _*_, _<_}
 use lib.ListN.{length, replicate}
+use Rattle.answer.specs.Limits.{noMeeting}
 use Rattle.grid.specs.declared.Corner.{Corner}
 use Rattle.grid.specs.Grid.{cornersFrom}
 use Rattle.tree.specs.Nodes.{nodesOf}
@@ -15,7 +16,7 @@ use Rattle.walk_step.specs.Tallies.{TallyIs}
 
 -- the walk with no step, at its start, which is the last of the nodes
 abbrev pub fresh : Corner → ℕ → Walk
-fresh c node = record { spot = record { node = node; at = c; steps = 0; nodes = node + 1 }; tally = record { corners = 1; j = 65535; k = 65535 } }
+fresh c node = record { spot = record { node = node; at = c; steps = 0; nodes = node + 1 }; tally = record { corners = 1; j = noMeeting; k = noMeeting } }
 
 -- the table is that of the walk from c with the steps ds, and w is where it stands, with its tally
 pub record Known (t : List ℕ) (c : Corner) (ds : List ℕ) (w : Walk) : Type 0 where

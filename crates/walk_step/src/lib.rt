@@ -1,13 +1,15 @@
 // A walk goes a step, or takes its last step back.
 ghost use mathlib.Core.Path.{_≡_};
 ghost use mathlib.Core.List.{List, [], _∷_, _++_};
-ghost use Prim.Native.Nat.{ℕ, _^_, _<_};
+ghost use Prim.Native.Nat.{ℕ, _+_, _^_, _<_};
 ghost use lib.IntN.{natAbs};
 ghost use lib.ListN.{length};
+ghost use Rattle.answer.specs.Limits.{noMeeting};
 ghost use Rattle.grid.specs.declared.Corner.{Corner as Node};
 ghost use Rattle.walk_step.specs.Spots.{Walked, Standing, Stepped, Went};
 ghost use Rattle.walk_step.specs.Tallies.{TallyIs};
 ghost use Rattle.walk_step.specs.Walks.{fresh, Known, Knowing, Withdrawable, Advanced};
+use answer::Limits;
 use grid::Corner;
 use walk_table::Record;
 use walk_table::word;
@@ -46,16 +48,16 @@ pub struct Walk {
 
 impl Walk {
     // Input bytes at most.
-    pub const MOST_INPUT: usize = 32768;
+    pub const MOST_INPUT: usize = Limits::MOST_INPUT;
 
     // Surviving steps at most, at any moment.
-    pub const MOST_STEPS: usize = 16384;
+    pub const MOST_STEPS: usize = Limits::MOST_STEPS;
+
+    // Records of the table at most.
+    pub const MOST_RECORDS: usize = Limits::MOST_RECORDS;
 
     // Words of the mark of an operation.
     pub const MARK_WORDS: usize = 3;
-
-    // Records of the table at most.
-    pub const MOST_RECORDS: usize = 131148;
 
     // A walk with no step, at its start, which is the last of the nodes.
     pub fn new(start: Corner, node: usize) -> Walk
@@ -135,7 +137,7 @@ fn take_back(t: &mut [u32], w: Spot, d: u8) -> Spot
 // The tally after the step d that led to w.
 fn tallied(t: &[u32], w: Spot, m: Tally, d: u8) -> Tally
     requires { ⌜ Stepped (now t) w d ⌝ }
-    requires { ⌜ (w .steps < 65535) × (m .corners < 65536) ⌝ }
+    requires { ⌜ (w .steps < noMeeting) × (m .corners < 65536) ⌝ }
     ensures { λ r. ⌜ ((c : Node) (ds : List ℕ) → Walked (now (t .entry)) c (ds ++ (d ∷ [])) w → TallyIs c ds m → TallyIs c (ds ++ (d ∷ [])) r) ⌝ }
 {
     let node = w.node;
@@ -162,7 +164,7 @@ fn tallied(t: &[u32], w: Spot, m: Tally, d: u8) -> Tally
 // The tally before the step d that led to w: asked before the step is taken back.
 fn untallied(t: &[u32], w: Spot, m: Tally, d: u8) -> Tally
     requires { ⌜ Stepped (now t) w d ⌝ }
-    requires { ⌜ (w .steps < 65535) × (0 < m .corners) ⌝ }
+    requires { ⌜ (w .steps < noMeeting) × (0 < m .corners) ⌝ }
     ensures { λ r. ⌜ ((c : Node) (ds : List ℕ) → Walked (now (t .entry)) c (ds ++ (d ∷ [])) w → TallyIs c (ds ++ (d ∷ [])) m → TallyIs c ds r) ⌝ }
 {
     let node = w.node;
@@ -188,7 +190,7 @@ fn untallied(t: &[u32], w: Spot, m: Tally, d: u8) -> Tally
 // One step of the walk in the direction d.
 pub fn advance(t: &mut [u32], w: Walk, d: u8) -> Moved
     requires { ⌜ Knowing (now t) w ⌝ }
-    requires { ⌜ (natAbs (w .spot .at .0) < 65536) × (natAbs (w .spot .at .1) < 65536) × (d < 4) × (w .spot .steps < 65534) × (length (now t) < 2 ^ 32) ⌝ }
+    requires { ⌜ (natAbs (w .spot .at .0) < 65536) × (natAbs (w .spot .at .1) < 65536) × (d < 4) × (w .spot .steps + 1 < noMeeting) × (length (now t) < 2 ^ 32) ⌝ }
     ensures { λ r. ⌜ ((c : Node) (ds : List ℕ) → Known (now (t .entry)) c ds w → Advanced (length (now (t .entry))) (now (t .exit)) c (ds ++ (d ∷ [])) r) ⌝ }
 {
     let spot = w.spot;
@@ -208,7 +210,7 @@ pub fn advance(t: &mut [u32], w: Walk, d: u8) -> Moved
 // The walk before its last step, which went in the direction d.
 pub fn withdraw(t: &mut [u32], w: Walk, d: u8) -> Walk
     requires { ⌜ Withdrawable (now t) w d ⌝ }
-    requires { ⌜ (natAbs (w .spot .at .0) < 65536) × (natAbs (w .spot .at .1) < 65536) × (d < 4) × (w .spot .steps < 65535) ⌝ }
+    requires { ⌜ (natAbs (w .spot .at .0) < 65536) × (natAbs (w .spot .at .1) < 65536) × (d < 4) × (w .spot .steps < noMeeting) ⌝ }
     ensures { λ r. ⌜ ((c : Node) (ds : List ℕ) → Known (now (t .entry)) c (ds ++ (d ∷ [])) w → Known (now (t .exit)) c ds r) ⌝ }
 {
     let spot = w.spot;

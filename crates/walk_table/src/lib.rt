@@ -25,7 +25,7 @@ impl Record {
 
     pub const FIRST: usize = 20;
 
-    pub const EDGE: usize = 21;
+    const EDGE: usize = 21;
 }
 
 // Word f of record r.

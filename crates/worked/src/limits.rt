@@ -1,12 +1,19 @@
 // Steps east, to every limit and past it.
 use crate::show;
 use crate::walks;
+use answer::Limits;
 use grid::Corner;
 use walk_step::Walk;
 use walk_table::Record;
-ghost use Prim.Native.Nat.{_*_, _≤_};
+ghost use Prim.Native.Nat.{suc, _*_, _≤_};
+ghost use Rattle.answer.specs.Limits.{mostInput, mostSteps};
 ghost use Rattle.layout.specs.Marks.{markWords};
 ghost use Rattle.layout.specs.Table.{width};
+
+// The corners of the longest walk, and one byte more than an input may have.
+const CORNERS: usize = Limits::MOST_STEPS + 1;
+
+const BYTES: usize = Limits::MOST_INPUT + 1;
 
 // The last record of a table, or all of it.
 fn last(table: &[u32]) {
@@ -43,16 +50,16 @@ fn walked(ops: &[u8], table: &mut [u32], marks: &mut [u32], chain: &mut [u8]) {
 
 // n steps east, with buffers of these lengths that held 7 everywhere.
 fn east(n: usize, words: usize, marks: usize, chain: usize)
-    requires { ⌜ (n ≤ 32769) × (words ≤ 16385 * width) ⌝ }
-    requires { ⌜ (marks ≤ 16385 * markWords) × (chain ≤ 16385) ⌝ }
+    requires { ⌜ (n ≤ suc mostInput) × (words ≤ suc mostSteps * width) ⌝ }
+    requires { ⌜ (marks ≤ suc mostSteps * markWords) × (chain ≤ suc mostSteps) ⌝ }
 {
     show::text(b"east");
     show::number(n as u64);
     show::text(b"\n");
-    let ops = [0u8; 32769];
-    let mut t = [7u32; 16385 * Record::WORDS];
-    let mut m = [7u32; 16385 * Walk::MARK_WORDS];
-    let mut c = [7u8; 16385];
+    let ops = [0u8; BYTES];
+    let mut t = [7u32; CORNERS * Record::WORDS];
+    let mut m = [7u32; CORNERS * Walk::MARK_WORDS];
+    let mut c = [7u8; CORNERS];
     walked(&ops[..n], &mut t[..words], &mut m[..marks], &mut c[..chain]);
 }
 
@@ -65,11 +72,11 @@ pub(crate) fn all() {
     east(3, 2 * Record::WORDS, 3 * Walk::MARK_WORDS, 4);
     east(3, 2 * Record::WORDS, 3 * Walk::MARK_WORDS, 3);
     east(
-        16384,
-        16385 * Record::WORDS,
-        16384 * Walk::MARK_WORDS,
-        16384,
+        Limits::MOST_STEPS,
+        CORNERS * Record::WORDS,
+        Limits::MOST_STEPS * Walk::MARK_WORDS,
+        Limits::MOST_STEPS,
     );
-    east(16385, Record::WORDS, 16385 * Walk::MARK_WORDS, 16385);
-    east(32769, Record::WORDS, Walk::MARK_WORDS, 1);
+    east(CORNERS, Record::WORDS, CORNERS * Walk::MARK_WORDS, CORNERS);
+    east(BYTES, Record::WORDS, Walk::MARK_WORDS, 1);
 }

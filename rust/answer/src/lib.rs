@@ -1,5 +1,10 @@
 //! What the calls answer, and their limits: the types that every implementation shares.
 
+#![warn(missing_docs)]
+
+use std::error::Error;
+use std::fmt::{self, Display, Formatter};
+
 /// Input bytes at most.
 pub const MOST_INPUT: usize = 32_768;
 /// Surviving steps at most, at any moment.
@@ -31,8 +36,8 @@ pub const OUTLINE_ANSWER_WORDS: usize = 3;
 pub const POLYGON_ANSWER_WORDS: usize = 3;
 /// Words of the answer to a room that is listed by rows: number, place, spans.
 pub const ROWS_ANSWER_WORDS: usize = 3;
-/// Words of the answer to two rooms laid over each other: number, place, the panels in the first only, in the second only and in both, and
-/// the spans of each.
+/// Words of the answer to two rooms laid over each other: number, place, the panels in the first only, in the second only and
+/// in both, and the spans of each.
 pub const OVERLAY_ANSWER_WORDS: usize = 8;
 /// Words of the answer to the question whether a room is convex: number, place, 1 for yes or 0 for no.
 pub const CONVEX_ANSWER_WORDS: usize = 3;
@@ -70,7 +75,7 @@ pub enum Refusal {
     Table,
     /// A result buffer has not the length that the input asks.
     ResultRoom,
-    /// A byte above 4; in hull and turns, above 3.
+    /// A byte above 4 in a walk, above 3 elsewhere.
     BadDigit(u32),
     /// Operation 4 with no surviving step.
     NothingToTake(u32),
@@ -94,13 +99,13 @@ pub enum Refusal {
     FileLength,
     /// A file's byte order, type or ring count.
     FileKind,
-    /// A coordinate of a file is no whole corner within the range.
+    /// A coordinate of a file is no whole multiple of 600, or too far out.
     BadCoordinate,
     /// A slant, a repeated point, fewer than four points, or a ring that is not closed.
     BadRing,
     /// The buffer is shorter than the chain.
     ChainRoom,
-    /// A frame of a kind that is walked no more.
+    /// A frame of kind 01, which is retired.
     RetiredKind,
     /// The buffer is shorter than three numbers a span.
     SpanRoom,
@@ -172,6 +177,14 @@ impl Refusal {
     }
 }
 
+impl Display for Refusal {
+    fn fmt(&self, f: &mut Formatter) -> fmt::Result {
+        write!(f, "refusal {} at place {}", self.number(), self.place())
+    }
+}
+
+impl Error for Refusal {}
+
 /// What the surviving steps make of the walk: it is closed if it ends where it began, and crossed if it has a meeting other
 /// than that of its start and end.
 #[derive(Clone, Copy, Debug, PartialEq, Eq)]
@@ -211,6 +224,7 @@ impl Verdict {
 /// The facts of an accepted walk.
 #[derive(Clone, Copy, Debug, PartialEq, Eq)]
 pub struct Facts {
+    /// What the surviving steps make of the walk.
     pub verdict: Verdict,
     /// n, the number of surviving steps.
     pub steps: u32,
@@ -229,7 +243,9 @@ pub struct Facts {
 /// How many panels and how many spans a part of two rooms has.
 #[derive(Clone, Copy, Debug, PartialEq, Eq)]
 pub struct Measure {
+    /// Panels.
     pub panels: usize,
+    /// Spans of panels.
     pub spans: usize,
 }
 

@@ -1,4 +1,4 @@
-//! The proved library and program beside plain Rust: docs/BENCHMARKS.md says what is measured and what the figures mean.
+//! The proved library and programs beside plain Rust: docs/BENCHMARKS.md says what is measured and what the figures mean.
 
 mod calls;
 mod programs;
@@ -59,7 +59,7 @@ fn main() {
     files();
     println!("\nturns, ns a digit");
     turns();
-    println!("\nprograms on lines, MB/s of input");
+    println!("\nprograms on lines, MB/s of input and lines a second");
     programs::print();
     println!("\ngrowth: one walk of 16384 steps and two of 8192, ns a step");
     growth();

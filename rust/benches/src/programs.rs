@@ -17,7 +17,7 @@ const FOLDER: &str = if cfg!(target_arch = "x86_64") {
 };
 
 /// Frames of n digits: rooms, random walks and walks with take-backs as operations, and as many random frames of the kind given.
-fn frames(count: usize, n: usize, turns: u8) -> Vec<u8> {
+fn frames(count: u32, n: usize, turns: u8) -> Vec<u8> {
     let mut random = Random(5);
     let mut input = Vec::new();
     for i in 0..count {
@@ -64,11 +64,14 @@ fn print_one(name: &str, row: &str, turns: u8) {
         let input = frames(count, n, turns);
         fs::write(&file, &input).expect("the temporary folder takes a file");
         assert!(output(&program, &file) == output(&twin, &file));
-        race(vec![
+        let times = race(vec![
             ("proved", run(&program, &file)),
             ("twin", run(&twin, &file)),
-        ])
-        .print(&format!("{row}/{n}"), |s| input.len() as f64 / 1e6 / s);
+        ]);
+        times.print(&format!("{row}/{n}"), |s| input.len() as f64 / 1e6 / s);
+        times.print_row(&format!("{row}/{n} in 1,000 lines/s"), |s| {
+            f64::from(count) / 1e3 / s
+        });
     }
     fs::remove_file(&file).expect("it was written");
 }
@@ -78,4 +81,5 @@ pub fn print() {
     print_one("judge", "line", 0);
     print_one("convert", "convert", 1);
     print_one("rows", "list", 0);
+    print_one("polygons", "sheet", 0);
 }

@@ -42,15 +42,20 @@ impl Race {
     /// Prints a row of the table, where `unit` turns each median of seconds into the figure shown, and then for each but the
     /// first contestant the median, over the rounds, of the first's time divided by its time.
     pub fn print(&self, name: &str, unit: impl Fn(f64) -> f64) {
+        self.print_row(name, unit);
         let (_, first) = &self.0[0];
+        for (contestant, times) in &self.0[1..] {
+            let ratios = first.iter().zip(times).map(|(ours, theirs)| ours / theirs);
+            println!("ratio {name}/{contestant} {:.3}", median(ratios));
+        }
+    }
+
+    /// Prints the row alone.
+    pub fn print_row(&self, name: &str, unit: impl Fn(f64) -> f64) {
         print!("{name:28}");
         for (contestant, times) in &self.0 {
             print!("  {contestant} {:8.2}", unit(median(times.iter().copied())));
         }
         println!();
-        for (contestant, times) in &self.0[1..] {
-            let ratios = first.iter().zip(times).map(|(ours, theirs)| ours / theirs);
-            println!("ratio {name}/{contestant} {:.3}", median(ratios));
-        }
     }
 }

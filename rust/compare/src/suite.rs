@@ -692,7 +692,7 @@ pub fn program(
     inputs: usize,
     random: &mut Random,
 ) {
-    assert_eq!(run(b""), b"");
+    assert_eq!(run(b""), plain(b""));
     for _ in 0..inputs {
         let count = random.length(400);
         let input = inputs::lines(count, random);

@@ -45,6 +45,16 @@ fn rows() {
     );
 }
 
+#[test]
+fn polygons() {
+    let run = |input: &[u8]| {
+        let mut output = Vec::new();
+        twin::sheet(input, &mut output).unwrap();
+        output
+    };
+    compare::suite::program(run, plain::sheet, 40, &mut compare::inputs::Random(8));
+}
+
 /// The rooms of the benchmarks are rooms of the length asked.
 #[test]
 fn benched_rooms() {

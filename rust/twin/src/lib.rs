@@ -1,5 +1,5 @@
-//! The proved library's own design in plain Rust: the linked quadtree in a lent table, the hull by columns, the line program
-//! over both. It is what the benchmarks measure the proved library against.
+//! The proved library's own design in plain Rust: the linked quadtree in a lent table, the hull by columns, the programs on
+//! lines over them. It is what the benchmarks measure the proved library against.
 
 mod convex;
 mod hull;
@@ -14,7 +14,7 @@ mod walk;
 
 pub use convex::convex;
 pub use hull::hull;
-pub use line::{convert_line, converter, line, program, rows_program};
+pub use line::{convert_line, converter, line, program, rows_program, sheet};
 pub use outline::outline;
 pub use overlay::overlay;
 pub use polygon::{chain_of_polygon, judge_room, polygon_of_room};

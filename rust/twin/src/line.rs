@@ -1,4 +1,4 @@
-//! The programs on lines: the line program, the converter and the rows program.
+//! The programs on lines: the line program, the converter, the rows program and the table of polygons.
 
 use std::io::{self, BufRead, Write};
 
@@ -8,6 +8,7 @@ use answer::{
 };
 
 use crate::hull::hull_list;
+use crate::polygon::polygon_of_room;
 use crate::rows::rows;
 use crate::tree::{Corner, ROOT};
 use crate::turns::steps_of_turns;
@@ -26,30 +27,50 @@ pub fn line(line: &[u8], out: &mut [u8]) -> usize {
 }
 
 /// Answers every line of the input.
-pub fn program(mut input: impl BufRead, mut output: impl Write) -> io::Result<()> {
+pub fn program(input: impl BufRead, output: impl Write) -> io::Result<()> {
     let mut judge = Judge::new();
-    let (mut line, mut answer) = (Vec::new(), Vec::new());
-    while input.read_until(b'\n', &mut line)? > 0 {
-        judge.answer(line.strip_suffix(b"\n").unwrap_or(&line), &mut answer);
-        answer.push(b'\n');
-        output.write_all(&answer)?;
-        line.clear();
-        answer.clear();
-    }
-    output.flush()
+    each_line(input, output, |line, out| {
+        judge.answer(line, out);
+        out.push(b'\n');
+    })
 }
 
 /// Numbers of the spans of a frame at most: three for every two steps.
 const SPAN_NUMBERS: usize = 3 * (MOST_LINE_DIGITS / 2);
 
 /// Lists the rows of every line of the input.
-pub fn rows_program(mut input: impl BufRead, mut output: impl Write) -> io::Result<()> {
+pub fn rows_program(input: impl BufRead, output: impl Write) -> io::Result<()> {
     let mut judge = Judge::new();
     let mut numbers = [0; SPAN_NUMBERS];
+    each_line(input, output, |line, out| {
+        judge.list(line, &mut numbers, out)
+    })
+}
+
+/// Bytes of the polygon of a frame at most: its header, and a point more than steps.
+const POLYGON_BYTES: usize = 13 + 16 * (MOST_LINE_DIGITS + 1);
+
+/// Writes the table of polygons: the names of the columns, and a row for each line of the input, numbered from 1 on.
+pub fn sheet(input: impl BufRead, mut output: impl Write) -> io::Result<()> {
+    let mut judge = Judge::new();
+    let mut polygon = [0; POLYGON_BYTES];
+    let mut id = 0_u64;
+    output.write_all(b"id,refusal,place,verdict,steps,nodes,corners,j,k,area,wkb\n")?;
+    each_line(input, output, |line, out| {
+        id += 1;
+        judge.enter(id, line, &mut polygon, out);
+    })
+}
+
+/// Writes what `tell` appends for each line of the input, which it is given without its line feed.
+fn each_line(
+    mut input: impl BufRead,
+    mut output: impl Write,
+    mut tell: impl FnMut(&[u8], &mut Vec<u8>),
+) -> io::Result<()> {
     let (mut line, mut told) = (Vec::new(), Vec::new());
     while input.read_until(b'\n', &mut line)? > 0 {
-        let frame = line.strip_suffix(b"\n").unwrap_or(&line);
-        judge.list(frame, &mut numbers, &mut told);
+        tell(line.strip_suffix(b"\n").unwrap_or(&line), &mut told);
         output.write_all(&told)?;
         line.clear();
         told.clear();
@@ -103,6 +124,34 @@ impl Judge {
                 out.push(b'\n');
             }
         }
+    }
+
+    /// Appends the row of the line with this number.
+    fn enter(
+        &mut self,
+        id: u64,
+        line: &[u8],
+        polygon: &mut [u8; POLYGON_BYTES],
+        out: &mut Vec<u8>,
+    ) {
+        spell_cell(out, id);
+        match self.judge(line) {
+            Ok(facts) => {
+                spell_facts(out, facts);
+                let steps = &self.chain[..facts.steps as usize];
+                if let Ok(bytes) = polygon_of_room((0, 0), steps, polygon) {
+                    let digit = |half: u8| b"0123456789abcdef"[usize::from(half)];
+                    let digits = polygon[..bytes].iter();
+                    out.extend(digits.flat_map(|byte| [digit(byte >> 4), digit(byte & 15)]));
+                }
+            }
+            Err(refusal) => {
+                spell_cell(out, refusal.number().into());
+                spell_cell(out, refusal.place().into());
+                out.extend(b"0,0,0,0,0,0,0,");
+            }
+        }
+        out.push(b'\n');
     }
 
     /// Walks the frame in this line: the chain begins with its surviving steps.
@@ -212,4 +261,39 @@ fn spell_accepted(out: &mut Vec<u8>, facts: Facts, hull: &[Corner]) {
         spell(out, corner.x.cast_unsigned(), 4);
         spell(out, corner.y.cast_unsigned(), 4);
     }
+}
+
+/// Appends the number in decimal, and a comma.
+fn spell_cell(out: &mut Vec<u8>, number: u64) {
+    let mut digits = [b','; 21];
+    let (mut at, mut rest) = (20, number);
+    loop {
+        at -= 1;
+        digits[at] = b'0' + (rest % 10) as u8;
+        rest /= 10;
+        if rest == 0 {
+            break;
+        }
+    }
+    out.extend(&digits[at..]);
+}
+
+/// Appends the cells of an accepted walk.
+fn spell_facts(out: &mut Vec<u8>, facts: Facts) {
+    let (j, k) = facts.meeting.unwrap_or((NO_MEETING, NO_MEETING));
+    out.extend(b"0,0,");
+    for number in [
+        facts.verdict as u32,
+        facts.steps,
+        facts.nodes,
+        facts.corners,
+        j,
+        k,
+    ] {
+        spell_cell(out, number.into());
+    }
+    if facts.area < 0 {
+        out.push(b'-');
+    }
+    spell_cell(out, facts.area.unsigned_abs().into());
 }

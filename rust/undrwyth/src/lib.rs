@@ -1,22 +1,34 @@
 //! The proved judge of a surveyor's walk, for Rust.
 //!
 //! A walk is a byte string of operations: 0 east, 1 north, 2 west, 3 south, 4 takes the last surviving step back. The caller
-//! lends every buffer; a refusal leaves the buffers as they were, but [`Refusal::NoRoom`] leaves them wholly zero.
+//! lends every buffer; a refusal leaves the buffers as they were, but [`Refusal::NoRoom`] leaves them wholly zero. No call
+//! allocates. Each names the numbers ([`Refusal::number`]) of its refusals in the order in which they are looked for.
+//! include/undrwyth.h has the stack that each call needs. A refusal is an error for `?`, with its number and place as its words:
+//!
+//! ```
+//! let refusal = undrwyth::convex((0, 0), &[0, 1, 4]).unwrap_err();
+//! assert_eq!(refusal, undrwyth::Refusal::BadDigit(2));
+//! assert_eq!(refusal.to_string(), "refusal 4 at place 2");
+//! ```
+
+#![warn(missing_docs)]
 
 pub mod raw;
 
 pub use answer::*;
 
-/// Judges the walk of `ops` from the corner `start`, whose coordinates are at most [`MOST_START`] from 0, in a lent table of [`RECORD_WORDS`] words a record; `marks` has [`MARK_WORDS`] words an
-/// operation and `chain` one byte.
+/// Judges the walk of `ops` from the corner `start`, whose coordinates are at most [`MOST_START`] from 0, in a lent table of
+/// [`RECORD_WORDS`] words a record; `marks` has [`MARK_WORDS`] words an operation and `chain` one byte.
 ///
-/// After an accepted walk the table holds the linked quadtree of the surviving steps, `marks` the nodes in use and the
-/// visits at the corner stood on after each operation and the number of records that it changed, and `chain` the surviving steps and then zeros. [`word`] names the
-/// words of a record.
+/// After an accepted walk the table holds the linked quadtree of the surviving steps, whose words [`word`] names. `marks` holds,
+/// for each operation, the nodes in use after it, the visits at the corner then stood on, and how many records it changed;
+/// `chain` holds the surviving steps and then zeros.
 ///
 /// A table of 4 c + 64 records is never refused for room where the walk has at most c different corners at any moment, nor
-/// one of 4 c - 3 where it starts at (0, 0). The
-/// whole table is cleared, whatever the walk uses of it: lend what it can need, and no more.
+/// one of 4 c - 3 where it starts at (0, 0). The whole table is cleared, whatever the walk uses of it: lend what it can
+/// need, and no more.
+///
+/// Refused with 1, 2, 3, 10; then 4, 5 or 6 at the first faulty place; then 7, which leaves the three buffers zero.
 ///
 /// ```
 /// let ops = [0, 1, 2, 3];
@@ -51,8 +63,9 @@ pub fn walk(
     })
 }
 
-/// Writes x and y of the hull corners of the walk of `chain` from `start` to the start of `out`, counterclockwise from the lowest of the
-/// leftmost, no three in a line, and answers how many corners there are. The numbers after them are unchanged.
+/// Writes x and y of the hull corners of the walk of `chain` from `start` to the start of `out`, counterclockwise from the
+/// lowest of the leftmost, no three in a line, and answers how many corners there are. The numbers after them are unchanged.
+/// Refused with 1, 10, 4, 6 or 8.
 ///
 /// ```
 /// let mut out = [0; 5];
@@ -67,9 +80,9 @@ pub fn hull(start: (i32, i32), chain: &[u8], out: &mut [i32]) -> Result<usize, R
     Ok(answer[2] as usize)
 }
 
-/// Writes the steps of the outer outline of the walk of `chain` from `start` to the start of `out`: from the lowest of the leftmost
-/// corners along walked edges, keeping to the right, until each walked edge of that corner is used. Answers how many steps
-/// there are, at most two for each of the walk's; the bytes after them are unchanged.
+/// Writes the steps of the outer outline of the walk of `chain` from `start` to the start of `out`: from the lowest of the
+/// leftmost corners along walked edges, keeping to the right, until each walked edge of that corner is used. Answers how many
+/// steps there are, at most two for each of the walk's; the bytes after them are unchanged. Refused with 1, 10, 4, 6 or 11.
 ///
 /// ```
 /// let mut out = [7; 8];
@@ -89,7 +102,7 @@ pub fn outline(start: (i32, i32), chain: &[u8], out: &mut [u8]) -> Result<usize,
 
 /// Writes the room with this start and chain as a polygon to the start of `out`, in Well-Known Binary of little-endian order:
 /// the start, each later corner where the turn is not 0, and the start again, in millimetres of panels of 600. Answers how
-/// many bytes it has, at most 16 for each step and 29; the bytes after them are unchanged.
+/// many bytes it has, at most 16 for each step and 29; the bytes after them are unchanged. Refused with 1, 10, 4, 6, 12 or 13.
 ///
 /// ```
 /// let mut out = [0; 93];
@@ -108,9 +121,9 @@ pub fn polygon_of_room(start: (i32, i32), chain: &[u8], out: &mut [u8]) -> Resul
     Ok(answer[2] as usize)
 }
 
-/// Writes row, first and last panel of each span of the panels inside the room with this start and chain to the start of `out`,
-/// rows from south to north and in a row from west to east, and answers how many spans there are: half as many as steps north
-/// and south. The numbers after them are unchanged.
+/// Writes row, first and last panel of each span of the panels inside the room with this start and chain to the start of
+/// `out`, rows from south to north and in a row from west to east, and answers how many spans there are: half as many as
+/// steps north and south. The numbers after them are unchanged. Refused with 1, 10, 4, 6, 12 or 21.
 ///
 /// ```
 /// let mut out = [7; 7];
@@ -127,6 +140,7 @@ pub fn rows(start: (i32, i32), chain: &[u8], out: &mut [i32]) -> Result<usize, R
 
 /// Whether the room with this start and chain is convex: travelled clockwise and cut at its four extremal corners, each part
 /// goes in two directions only, and between it and its convex hull, the hull line included, there is no other grid point.
+/// Refused with 1, 10, 4, 6 or 12.
 ///
 /// ```
 /// let l_of_three = [0, 0, 1, 2, 1, 2, 3, 3];
@@ -142,9 +156,10 @@ pub fn convex(start: (i32, i32), chain: &[u8]) -> Result<bool, Refusal> {
     Ok(answer[2] == 1)
 }
 
-/// Writes the spans of the panels that are in the first room only, in the second only and in both, each to the start of its buffer and as
-/// [`rows`] does, and answers how many panels and spans each of them has. A room is its start and its chain. The numbers after the spans are
-/// unchanged; unless all three lists have room, nothing is written.
+/// Writes the spans of the panels that are in the first room only, in the second only and in both, each to the start of its
+/// buffer and as [`rows`] does, and answers how many panels and spans each of them has. A room is its start and its chain. The
+/// numbers after the spans are unchanged; unless all three lists have room, nothing is written. Refused with 1, 10, 4, 6 or 12
+/// for the first room, then for the second, and then with 21.
 ///
 /// ```
 /// let u = ((0, 0), &[0, 0, 0, 1, 1, 2, 3, 2, 1, 2, 3, 3][..]);
@@ -180,7 +195,8 @@ pub fn overlay(
 }
 
 /// Reads a polygon of one ring in Well-Known Binary, of either byte order: writes the steps along its points to the start of
-/// `chain`, and answers the corner at which they start and how many there are. The bytes after them are unchanged.
+/// `chain`, and answers the corner at which they start and how many there are. The bytes after them are unchanged. Refused with
+/// 14, 15, 14 again, 16, 17, 6 or 18.
 ///
 /// ```
 /// let mut file = [0; 93];
@@ -203,7 +219,7 @@ pub fn chain_of_polygon(file: &[u8], chain: &mut [u8]) -> Result<((i32, i32), us
 }
 
 /// Writes the turns of `steps` to `out`, which has the same length: the first step, then each step minus the one before,
-/// modulo 4.
+/// modulo 4. Refused with 1, 3 or 4.
 ///
 /// ```
 /// let mut turns = [0; 4];
@@ -217,7 +233,7 @@ pub fn turns_of_steps(steps: &[u8], out: &mut [u8]) -> Result<(), Refusal> {
     accepted(number, answer[1])
 }
 
-/// Writes the steps of `turns` to `out`, which has the same length: the inverse of [`turns_of_steps`].
+/// Writes the steps of `turns` to `out`, which has the same length: the inverse of [`turns_of_steps`], with its refusals.
 ///
 /// ```
 /// let mut steps = [0; 4];
@@ -231,7 +247,8 @@ pub fn steps_of_turns(turns: &[u8], out: &mut [u8]) -> Result<(), Refusal> {
     accepted(number, answer[1])
 }
 
-/// The answer of the line program to one line, both without line feed; it stands at the start of `out`.
+/// The answer of the line program to one line, both without line feed; it stands at the start of `out`. A refusal is a line
+/// too: 9, then 19, then 4, 5 or 7.
 ///
 /// ```
 /// let mut out = [0; undrwyth::LINE_BYTES];

@@ -112,6 +112,48 @@ mod c {
     }
 }
 
+/// A call on a start and a chain that writes numbers or bytes.
+type OnChain<T> = unsafe extern "C" fn(i32, i32, *const u8, usize, *mut T, usize, *mut u32) -> u32;
+/// A call on bytes that writes bytes.
+type OnBytes = unsafe extern "C" fn(*const u8, usize, *mut u8, usize, *mut u32) -> u32;
+/// A call on a line that writes a line.
+type OnLine = unsafe extern "C" fn(*const u8, usize, *mut u8, usize) -> usize;
+
+/// Safe where the answer has as many words as the call's answer: each other pointer is of a slice of the length beside it, and none
+/// overlaps another.
+unsafe fn on_chain<T>(
+    call: OnChain<T>,
+    start: (i32, i32),
+    chain: &[u8],
+    out: &mut [T],
+    answer: &mut [u32],
+) -> u32 {
+    let (x, y) = start;
+    let (to, room) = (out.as_mut_ptr(), out.len());
+    unsafe {
+        call(
+            x,
+            y,
+            chain.as_ptr(),
+            chain.len(),
+            to,
+            room,
+            answer.as_mut_ptr(),
+        )
+    }
+}
+
+/// Safe as `on_chain` is.
+unsafe fn on_bytes(call: OnBytes, bytes: &[u8], out: &mut [u8], answer: &mut [u32]) -> u32 {
+    let (to, room) = (out.as_mut_ptr(), out.len());
+    unsafe { call(bytes.as_ptr(), bytes.len(), to, room, answer.as_mut_ptr()) }
+}
+
+/// Safe, as nothing else is lent.
+fn on_line(call: OnLine, line: &[u8], out: &mut [u8]) -> usize {
+    unsafe { call(line.as_ptr(), line.len(), out.as_mut_ptr(), out.len()) }
+}
+
 /// `undrwyth_walk`: the refusal's number, 0 for none.
 pub fn walk(
     start: (i32, i32),
@@ -147,17 +189,7 @@ pub fn hull(
     answer: &mut [u32; HULL_ANSWER_WORDS],
 ) -> u32 {
     // SAFETY: as for walk.
-    unsafe {
-        c::undrwyth_hull(
-            start.0,
-            start.1,
-            chain.as_ptr(),
-            chain.len(),
-            out.as_mut_ptr(),
-            out.len(),
-            answer.as_mut_ptr(),
-        )
-    }
+    unsafe { on_chain(c::undrwyth_hull, start, chain, out, answer) }
 }
 
 /// `undrwyth_outline`: the refusal's number, 0 for none.
@@ -168,17 +200,7 @@ pub fn outline(
     answer: &mut [u32; OUTLINE_ANSWER_WORDS],
 ) -> u32 {
     // SAFETY: as for walk.
-    unsafe {
-        c::undrwyth_outline(
-            start.0,
-            start.1,
-            chain.as_ptr(),
-            chain.len(),
-            out.as_mut_ptr(),
-            out.len(),
-            answer.as_mut_ptr(),
-        )
-    }
+    unsafe { on_chain(c::undrwyth_outline, start, chain, out, answer) }
 }
 
 /// `undrwyth_polygon_of_room`: the refusal's number, 0 for none.
@@ -189,17 +211,7 @@ pub fn polygon_of_room(
     answer: &mut [u32; POLYGON_ANSWER_WORDS],
 ) -> u32 {
     // SAFETY: as for walk.
-    unsafe {
-        c::undrwyth_polygon_of_room(
-            start.0,
-            start.1,
-            chain.as_ptr(),
-            chain.len(),
-            out.as_mut_ptr(),
-            out.len(),
-            answer.as_mut_ptr(),
-        )
-    }
+    unsafe { on_chain(c::undrwyth_polygon_of_room, start, chain, out, answer) }
 }
 
 /// `undrwyth_rows`: the refusal's number, 0 for none.
@@ -210,17 +222,7 @@ pub fn rows(
     answer: &mut [u32; ROWS_ANSWER_WORDS],
 ) -> u32 {
     // SAFETY: as for walk.
-    unsafe {
-        c::undrwyth_rows(
-            start.0,
-            start.1,
-            chain.as_ptr(),
-            chain.len(),
-            out.as_mut_ptr(),
-            out.len(),
-            answer.as_mut_ptr(),
-        )
-    }
+    unsafe { on_chain(c::undrwyth_rows, start, chain, out, answer) }
 }
 
 /// `undrwyth_convex`: the refusal's number, 0 for none.
@@ -273,53 +275,27 @@ pub fn chain_of_polygon(
     answer: &mut [u32; CHAIN_ANSWER_WORDS],
 ) -> u32 {
     // SAFETY: as for walk.
-    unsafe {
-        c::undrwyth_chain_of_polygon(
-            file.as_ptr(),
-            file.len(),
-            chain.as_mut_ptr(),
-            chain.len(),
-            answer.as_mut_ptr(),
-        )
-    }
+    unsafe { on_bytes(c::undrwyth_chain_of_polygon, file, chain, answer) }
 }
 
 /// `undrwyth_turns_of_steps`: the refusal's number, 0 for none.
 pub fn turns_of_steps(steps: &[u8], out: &mut [u8], answer: &mut [u32; TURNS_ANSWER_WORDS]) -> u32 {
     // SAFETY: as for walk.
-    unsafe {
-        c::undrwyth_turns_of_steps(
-            steps.as_ptr(),
-            steps.len(),
-            out.as_mut_ptr(),
-            out.len(),
-            answer.as_mut_ptr(),
-        )
-    }
+    unsafe { on_bytes(c::undrwyth_turns_of_steps, steps, out, answer) }
 }
 
 /// `undrwyth_steps_of_turns`: the refusal's number, 0 for none.
 pub fn steps_of_turns(turns: &[u8], out: &mut [u8], answer: &mut [u32; TURNS_ANSWER_WORDS]) -> u32 {
     // SAFETY: as for walk.
-    unsafe {
-        c::undrwyth_steps_of_turns(
-            turns.as_ptr(),
-            turns.len(),
-            out.as_mut_ptr(),
-            out.len(),
-            answer.as_mut_ptr(),
-        )
-    }
+    unsafe { on_bytes(c::undrwyth_steps_of_turns, turns, out, answer) }
 }
 
 /// `undrwyth_line`: the bytes written, 0 where out is shorter than `UNDRWYTH_LINE_BYTES`.
 pub fn line(line: &[u8], out: &mut [u8]) -> usize {
-    // SAFETY: as for walk.
-    unsafe { c::undrwyth_line(line.as_ptr(), line.len(), out.as_mut_ptr(), out.len()) }
+    on_line(c::undrwyth_line, line, out)
 }
 
 /// `undrwyth_convert_line`: the bytes written, 0 where out is shorter than the line.
 pub fn convert_line(line: &[u8], out: &mut [u8]) -> usize {
-    // SAFETY: as for walk.
-    unsafe { c::undrwyth_convert_line(line.as_ptr(), line.len(), out.as_mut_ptr(), out.len()) }
+    on_line(c::undrwyth_convert_line, line, out)
 }

@@ -48,15 +48,15 @@ edge-requires : tie.Need-edge-requires Inv-loop μ-loop
 edge-requires c κs =
     let l = c .before .before .before .before .before .loop in
     let r = c .before .before .before .before .before .before .before .before .pre .0 in
-    let p = c .before .before .wide .ensures in
-    let b = c .wide2 .ensures in
+    let p = c .before .before .wide .ensures .0 in
+    let b = c .wide2 .ensures .0 in
     (omega (arith, p, b, r .rises (l .q) (l .inv .0) (omega arith)), omega (arith, b, r .columns (l .q + 1) (omega (arith, l .inv .0)) (omega arith)), omega arith)
 
 returns : tie.Need-returns Inv-loop μ-loop
 returns c =
     let l = c .before .before .before .before .before .before .before .loop in
     let a = c .before .before .before .before .before .before .before .before .before .before .args in
-    along-here (a .ys .now) (a .s .now) (l .q) (c .before .before .before .before .wide .result) (c .before .before .wide2 .result) (omega arith) (c .before .before .before .before .wide .ensures) (c .before .before .wide2 .ensures)
+    along-here (a .ys .now) (a .s .now) (l .q) (c .before .before .before .before .wide .result) (c .before .before .wide2 .result) (omega arith) (c .before .before .before .before .wide .ensures .0) (c .before .before .wide2 .ensures .0)
     (sym (c .before .edge .ensures) ∙ not-true (c .before .edge .result) (c .if1 .taken)) ∙ l .inv .2
 
 add-q : tie.Need-add-q Inv-loop μ-loop
@@ -71,7 +71,7 @@ loop-again c =
     let a = c .before .before .before .before .before .before .before .before .before .before .args in (
       omega (arith, l .inv .0),
       omega arith,
-      along-next (a .ys .now) (a .s .now) (l .q) (c .before .before .before .before .wide .result) (c .before .before .wide2 .result) (omega arith) (c .before .before .before .before .wide .ensures) (c .before .before .wide2 .ensures)
+      along-next (a .ys .now) (a .s .now) (l .q) (c .before .before .before .before .wide .result) (c .before .before .wide2 .result) (omega arith) (c .before .before .before .before .wide .ensures .0) (c .before .before .wide2 .ensures .0)
           (sym (c .before .edge .ensures) ∙ not-false (c .before .edge .result) (c .if1 .left)) ∙ l .inv .2,
     )
 

@@ -6,13 +6,13 @@ use mathlib.Core.Path.{_≡_, refl, _∙_}
 use Prim.Native.Nat.{_-_}
 use lib.ListN.{length, drop}
 use Rattle.convex.specs.Parts.{turnedBy}
-use Rattle.convex_laws.specs.Level.{lettersOf}
+use Rattle.convex_laws.specs.Level.{areLetters}
 use Rattle.convex_part.proofs.PassLaws.{letters-here, letters-next, letters-none}
 use Rattle.convex_part.proofs.plain.Statement.{statement}
 use Rattle.convex_part.proofs.plain.Tie as tie
 
 abbrev Inv-loop : tie.InvT-loop
-Inv-loop part turn i₀ i = lettersOf (drop i (turnedBy turn part)) ≡ lettersOf (turnedBy turn part)
+Inv-loop part turn i₀ i = areLetters (drop i (turnedBy turn part)) ≡ areLetters (turnedBy turn part)
 
 abbrev μ-loop : tie.MeasureT-loop
 μ-loop part turn i₀ i = length part - i

@@ -2,7 +2,7 @@
 -- Assumes nothing.
 use borrow.Author.Needs.{needs}
 use Rattle.convex_room.proofs.RoundLaws.{laid-none, laid-step}
-use Rattle.convex_room.specs.Laid.{Laid}
+use Rattle.convex_room.specs.Laid.{LaidTwice}
 use Rattle.convex_laws.specs.Way.{travelled}
 use lib.ListN.{length, set, length-set}
 use Prim.Native.Nat.{ℕ, _+_, _-_, _≤_}
@@ -12,7 +12,7 @@ use Rattle.convex_room.proofs.lay.Statement.{statement}
 use Rattle.convex_room.proofs.lay.Tie as tie
 
 abbrev Inv-loop : tie.InvT-loop
-Inv-loop chain back out₀ n i₀ out i = (i ≤ length chain) × (length out ≡ length out₀) × Laid (travelled back chain) (length chain) out i
+Inv-loop chain back out₀ n i₀ out i = (i ≤ length chain) × (length out ≡ length out₀) × LaidTwice (travelled back chain) (length chain) out i
 
 abbrev μ-loop : tie.MeasureT-loop
 μ-loop chain back out₀ n i₀ out i = length chain - i
@@ -59,7 +59,7 @@ returns : tie.Need-returns Inv-loop μ-loop
 returns c =
     let l = c .before .loop in
     let a = c .before .before .before .before .args in
-    subst (Laid (travelled (a .back) (a .chain .now)) (length (a .chain .now)) (l .out)) (all (l .i) (length (a .chain .now)) (l .inv .0) (omega arith)) (l .inv .2)
+    subst (LaidTwice (travelled (a .back) (a .chain .now)) (length (a .chain .now)) (l .out)) (all (l .i) (length (a .chain .now)) (l .inv .0) (omega arith)) (l .inv .2)
   where
     all : (i n : ℕ) → i ≤ n → n ≤ i → i ≡ n
     all i n h g = omega arith

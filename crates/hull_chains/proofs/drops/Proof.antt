@@ -43,12 +43,12 @@ turns-requires c κs =
     let q = s .args .q in
     let b = s .pre .columns q (omega arith) (omega arith) in
     let a = s .pre .columns (q + 1) (omega arith) (omega arith) in
-    (omega (arith, b, c .before .before .wide .ensures), omega (arith, a, c .wide2 .ensures), omega (arith, b, c .before .before .wide .ensures), omega (arith, a, c .wide2 .ensures), s .pre .short)
+    (omega (arith, b, c .before .before .wide .ensures .0), omega (arith, a, c .wide2 .ensures .0), omega (arith, b, c .before .before .wide .ensures .0), omega (arith, a, c .wide2 .ensures .0), s .pre .short)
 
 returns-2 : tie.Need-returns-2
 returns-2 c =
     let s = c .before .before .before .before .before .before .before .before in
-    ap not (c .turns .ensures ∙ ap₂ (turnsAt (s .args .ys .now) (s .args .p)) (c .before .before .before .wide .ensures) (c .before .wide2 .ensures))
+    ap not (c .turns .ensures ∙ ap₂ (turnsAt (s .args .ys .now) (s .args .p)) (c .before .before .before .wide .ensures .0) (c .before .wide2 .ensures .0))
     ∙ drops-long (s .args .ys .now) (s .args .p) (s .args .s .now) (s .args .q) (omega arith)
 
 pub drops-spec : {M : Type 1} → statement M

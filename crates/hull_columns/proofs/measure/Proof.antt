@@ -6,7 +6,7 @@ use mathlib.Core.Path.{sym, ap, ap₂, _∙_}
 use Prim.Native.Nat.{_-_}
 use lib.ListN.{length}
 use Rattle.answer.specs.declared.Judged.{Judged}
-use Rattle.hull_laws.specs.Columns.{westFrom, eastFrom}
+use Rattle.hull_laws.specs.Columns.{westFrom, eastFrom, middle}
 use Rattle.hull_laws.proofs.SurveyLaws.{Surveyed, falls, surveyed-start, surveyed-room, surveyed-step, surveyed-good, surveyed-west, surveyed-east, good-digits, good-short}
 use Rattle.hull_columns.specs.Extent.{extentBy}
 use Rattle.hull_columns.specs.declared.Extent.{Extent}
@@ -55,7 +55,7 @@ returns c =
     let l = c .before .loop in
     let n = c .loop-test .left in
     ap₂ Extent.Within (surveyed-west (s .args .chain .now) (l .x) (l .west) (l .east) (l .i) (l .inv) n) (surveyed-east (s .args .chain .now) (l .x) (l .west) (l .east) (l .i) (l .inv) n)
-    ∙ ap (λ (j : Judged). extentBy j (westFrom 16384 (s .args .chain .now)) (eastFrom 16384 (s .args .chain .now))) (sym (surveyed-good (s .args .chain .now) (l .x) (l .west) (l .east) (l .i) (l .inv) n))
+    ∙ ap (λ (j : Judged). extentBy j (westFrom middle (s .args .chain .now)) (eastFrom middle (s .args .chain .now))) (sym (surveyed-good (s .args .chain .now) (l .x) (l .west) (l .east) (l .i) (l .inv) n))
 
 pub measure-spec : {M : Type 1} → statement M
 measure-spec =

@@ -7,6 +7,7 @@ use lib.IntN.{pos, _-ℤ_}
 use mir.Syntax.{w32}
 use mir.Val.{toZ, ofZ}
 use mir.Facts.{toZ-ofZ}
+use Rattle.hull_laws.specs.Columns.{middle}
 use Rattle.grid.specs.Grid.{corner}
 use Rattle.hull_laws.specs.Outline.{spot}
 use Rattle.hull_laws.proofs.CornerLaws.{corner-eq}
@@ -24,7 +25,7 @@ returns c =
     let s = c .before .before .before .before in
     let x = simp (toZ-ofZ (sfits-of {w = w32} {z = s .args .start .0} (c .before .before .before .struct-told .given .0 .1))) at (c .before .before .shifted .ensures) in
     let y = simp (toZ-ofZ (sfits-of {w = w32} {z = s .args .start .1} (c .before .struct-told2 .given .1 .0 .1))) at (c .shifted2 .ensures) in
-    corner-eq (corner (toZ w32 (ofZ w32 (c .before .before .shifted .result))) (toZ w32 (ofZ w32 (c .shifted2 .result)))) (spot (s .args .start .0 -ℤ pos 16384) (s .args .start .1 -ℤ pos 16384) (s .args .column, s .args .height))
+    corner-eq (corner (toZ w32 (ofZ w32 (c .before .before .shifted .result))) (toZ w32 (ofZ w32 (c .shifted2 .result)))) (spot (s .args .start .0 -ℤ pos middle) (s .args .start .1 -ℤ pos middle) (s .args .column, s .args .height))
     (toZ-ofZ (sfits-of {w = w32} {z = c .before .before .shifted .result} (c .before .before .shifted .ok)) ∙ x) (toZ-ofZ (sfits-of {w = w32} {z = c .shifted2 .result} (c .shifted2 .ok)) ∙ y)
 
 pub placed-spec : {M : Type 1} → statement M

@@ -2,6 +2,7 @@
 -- Assumes nothing.
 use borrow.Author.Needs.{needs}
 use Prim.Native.Nat.{_+_}
+use Rattle.hull_laws.specs.Columns.{top}
 use Rattle.hull_laws.proofs.JoinLaws.{one-more, no-more}
 use Rattle.hull_corners.proofs.seam.Statement.{statement}
 use Rattle.hull_corners.proofs.seam.Tie as tie
@@ -16,10 +17,10 @@ add-result : tie.Need-add-result
 add-result c = search needs
 
 returns : tie.Need-returns
-returns c = one-more (c .before .args .b) (c .before .args .lo + c .before .args .hi) 32768 (c .if1 .taken)
+returns c = one-more (c .before .args .b) (c .before .args .lo + c .before .args .hi) top (c .if1 .taken)
 
 returns-2 : tie.Need-returns-2
-returns-2 c = no-more (c .before .args .b) (c .before .args .lo + c .before .args .hi) 32768 (c .if1 .left)
+returns-2 c = no-more (c .before .args .b) (c .before .args .lo + c .before .args .hi) top (c .if1 .left)
 
 pub seam-spec : {M : Type 1} → statement M
 seam-spec = tie.close (tie.spec add-if1 cast-if1 add-result returns returns-2)

@@ -7,6 +7,7 @@ use lib.IntN.{pos, _+ℤ_, _-ℤ_}
 use mir.Syntax.{w32}
 use mir.Val.{SFits, toZ}
 use mir.Facts.{toZ-ofZ, toZ-pos}
+use Rattle.hull_laws.specs.Columns.{middle}
 use Rattle.int_laws.proofs.RangeLaws.{abs+, abs-, sfits-abs}
 use Rattle.hull_corners.proofs.shifted.Statement.{statement}
 use Rattle.hull_corners.proofs.shifted.Tie as tie
@@ -16,11 +17,11 @@ use Rattle.hull_corners.proofs.shifted.Lts as lts
 steps : (c : lts.Start reads.Pre reads.Post) → toZ w32 (c .args .n) ≡ pos (c .args .n)
 steps c = toZ-pos w32 (omega arith)
 
-less : (c : lts.Start reads.Pre reads.Post) → SFits w32 (c .args .z -ℤ pos 16384)
-less c = sfits-abs w32 (c .args .z -ℤ pos 16384) (omega (arith, abs- (c .args .z) (pos 16384)))
+less : (c : lts.Start reads.Pre reads.Post) → SFits w32 (c .args .z -ℤ pos middle)
+less c = sfits-abs w32 (c .args .z -ℤ pos middle) (omega (arith, abs- (c .args .z) (pos middle)))
 
-sum : (c : lts.Start reads.Pre reads.Post) → SFits w32 ((c .args .z -ℤ pos 16384) +ℤ pos (c .args .n))
-sum c = sfits-abs w32 ((c .args .z -ℤ pos 16384) +ℤ pos (c .args .n)) (omega (arith, abs+ (c .args .z -ℤ pos 16384) (pos (c .args .n)), abs- (c .args .z) (pos 16384)))
+sum : (c : lts.Start reads.Pre reads.Post) → SFits w32 ((c .args .z -ℤ pos middle) +ℤ pos (c .args .n))
+sum c = sfits-abs w32 ((c .args .z -ℤ pos middle) +ℤ pos (c .args .n)) (omega (arith, abs+ (c .args .z -ℤ pos middle) (pos (c .args .n)), abs- (c .args .z) (pos middle)))
 
 sub-result : tie.Need-sub-result
 sub-result c = simp (toZ-ofZ (c .fits .z)) (less c)

@@ -3,6 +3,7 @@
 use borrow.Author.Needs.{needs}
 use lib.IntN.{pos, _-ℤ_}
 use lib.ListN.{length}
+use Rattle.hull_laws.specs.Columns.{middle, top}
 use Rattle.hull_laws.proofs.JoinLaws.{write-both}
 use Rattle.hull_corners.proofs.PartsLaws.{puts-lower, puts-upper}
 use Rattle.hull_corners.proofs.write.Statement.{statement}
@@ -32,7 +33,7 @@ same-length c = search needs
 returns : tie.Need-returns
 returns c =
     let s = c .before .before .before .before .before .before .before .before .before .before .before .before in
-    write-both (s .args .start .0 -ℤ pos 16384) (s .args .start .1 -ℤ pos 16384) (s .args .west) (s .args .east) 32768 (s .args .lo .now) (s .args .hi .now) (s .args .s .now) (s .args .t .now) (s .args .a) (s .args .f) (s .args .g)
+    write-both (s .args .start .0 -ℤ pos middle) (s .args .start .1 -ℤ pos middle) (s .args .west) (s .args .east) top (s .args .lo .now) (s .args .hi .now) (s .args .s .now) (s .args .t .now) (s .args .a) (s .args .f) (s .args .g)
     (c .before .before .before .before .before .before .before .placed .result) (c .before .before .before .before .before .before .placed2 .result) (s .args .out .now) (c .before .before .before .before .put .last .0) (c .before .put2 .last .0) (c .before .before .before .before .before .before .before .placed .ensures) (c .before .before .before .before .before .before .placed2 .ensures) (c .before .before .before .before .put .ensures) (c .before .put2 .ensures)
 
 pub write-spec : {M : Type 1} → statement M

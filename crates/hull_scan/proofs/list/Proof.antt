@@ -7,7 +7,7 @@ use lib.ListN.{length}
 use Rattle.answer.specs.declared.Refusal.the-variants.{TooMany, StartRange}
 use Rattle.answer.proofs.StartLaws.{fits-near}
 use Rattle.hull.specs.Call.{chainJudged}
-use Rattle.hull_laws.specs.Columns.{westFrom, eastFrom}
+use Rattle.hull_laws.specs.Columns.{westFrom, eastFrom, middle}
 use Rattle.hull_laws.proofs.CallLaws.{judged-many, judged-start, judged-fault, call-refused}
 use Rattle.hull_scan.proofs.ListLaws.{extent-good, extent-refused, walked, call-listed}
 use Rattle.hull_scan.proofs.list.Statement.{statement}
@@ -36,7 +36,7 @@ list-from-requires c κs =
     let a = c .before .before .before .before .before .before .before .before .before .args in
     let f = c .before .before .before .before .before .before .start-fits in
     let w = c .before .before .west .given in
-    let t = extent-good (chainJudged 0 (a .chain .now)) (westFrom 16384 (a .chain .now)) (eastFrom 16384 (a .chain .now)) (w .0 .0) (w .0 .1 .0) (sym (c .before .before .before .before .survey .ensures) ∙ w .1) in
+    let t = extent-good (chainJudged 0 (a .chain .now)) (westFrom middle (a .chain .now)) (eastFrom middle (a .chain .now)) (w .0 .0) (w .0 .1 .0) (sym (c .before .before .before .before .survey .ensures) ∙ w .1) in
     (walked (a .chain .now) (w .0 .0) (w .0 .1 .0) (t .0) (t .1) (t .2), fits-near (a .start) (sym (f .ensures) ∙ not-false (f .result) (c .before .before .before .before .before .if2 .left)))
 
 enum-known-r : tie.Need-enum-known-r
@@ -50,7 +50,7 @@ returns-3 c =
     let a = c .before .before .before .before .before .before .before .before .before .before .before .args in
     let f = c .before .before .before .before .before .before .before .before .start-fits in
     let w = c .before .before .before .before .west .given in
-    let t = extent-good (chainJudged 0 (a .chain .now)) (westFrom 16384 (a .chain .now)) (eastFrom 16384 (a .chain .now)) (w .0 .0) (w .0 .1 .0) (sym (c .before .before .before .before .before .before .survey .ensures) ∙ w .1) in
+    let t = extent-good (chainJudged 0 (a .chain .now)) (westFrom middle (a .chain .now)) (eastFrom middle (a .chain .now)) (w .0 .0) (w .0 .1 .0) (sym (c .before .before .before .before .before .before .survey .ensures) ∙ w .1) in
     call-listed (c .before .before .before .before .before .before .before .before .before .if1 .left) (sym (f .ensures) ∙ not-false (f .result) (c .before .before .before .before .before .before .before .if2 .left)) (t .0) (c .before .list-from .ensures)
 
 returns-4 : tie.Need-returns-4
@@ -58,7 +58,7 @@ returns-4 c =
     let a = c .before .before .before .before .before .before .before .before .args in
     let f = c .before .before .before .before .before .start-fits in
     let r = c .before .r .given in
-    let e = extent-refused (chainJudged 0 (a .chain .now)) (westFrom 16384 (a .chain .now)) (eastFrom 16384 (a .chain .now)) (r .0 .0) (sym (c .before .before .before .survey .ensures) ∙ r .1) in
+    let e = extent-refused (chainJudged 0 (a .chain .now)) (westFrom middle (a .chain .now)) (eastFrom middle (a .chain .now)) (r .0 .0) (sym (c .before .before .before .survey .ensures) ∙ r .1) in
     call-refused (a .start) (a .chain .now) (a .out .now) (r .0 .0) (λ n. judged-fault (a .start) (a .chain .now) (length (a .out .now)) n (c .before .before .before .before .before .before .if1 .left) (sym (f .ensures) ∙ not-false (f .result) (c .before .before .before .before .if2 .left)) (r .0 .0) e)
 
 pub list-spec : {M : Type 1} → statement M

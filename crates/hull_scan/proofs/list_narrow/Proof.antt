@@ -2,6 +2,7 @@
 -- Assumes nothing.
 use borrow.Author.Needs.{needs}
 use native.Mathlib.Omega.{arith}
+use Rattle.hull_laws.specs.Columns.{narrowSize}
 use Rattle.hull_scan.proofs.ListLaws.{stored}
 use Rattle.hull_scan.proofs.list_narrow.Statement.{statement}
 use Rattle.hull_scan.proofs.list_narrow.Tie as tie
@@ -19,7 +20,7 @@ slice-aggregate-list-in-4 : tie.Need-slice-aggregate-list-in-4
 slice-aggregate-list-in-4 c = search needs
 
 list-in-requires : tie.Need-list-in-requires
-list-in-requires c κs = let s = c .before .before .before .before .before .before in (s .pre .0, s .pre .1, stored 256 (s .pre .2) (omega arith))
+list-in-requires c κs = let s = c .before .before .before .before .before .before in (s .pre .0, s .pre .1, stored narrowSize (s .pre .2) (omega arith))
 
 same-length : tie.Need-same-length
 same-length c = search needs

@@ -6,7 +6,7 @@ use mathlib.Core.Path.{sym, _∙_}
 use lib.ListN.{length}
 use Rattle.answer.proofs.StartLaws.{fits-near}
 use Rattle.hull.specs.Call.{chainJudged}
-use Rattle.hull_laws.specs.Columns.{westFrom, eastFrom}
+use Rattle.hull_laws.specs.Columns.{westFrom, eastFrom, middle}
 use Rattle.hull_laws.proofs.CallLaws.{judged-fault, call-refused}
 use Rattle.hull_scan.proofs.ListLaws.{extent-good, extent-refused, walked, walked-across, call-listed}
 use Rattle.hull_scan.proofs.list_short.Statement.{statement}
@@ -24,7 +24,7 @@ list-short-from-requires c κs =
     let s = c .before .before .before .before .before .before in
     let a = s .args in
     let w = c .before .before .west .given in
-    let t = extent-good (chainJudged 0 (a .chain .now)) (westFrom 16384 (a .chain .now)) (eastFrom 16384 (a .chain .now)) (w .0 .0) (w .0 .1 .0) (sym (c .before .before .before .before .survey .ensures) ∙ w .1) in
+    let t = extent-good (chainJudged 0 (a .chain .now)) (westFrom middle (a .chain .now)) (eastFrom middle (a .chain .now)) (w .0 .0) (w .0 .1 .0) (sym (c .before .before .before .before .survey .ensures) ∙ w .1) in
     let k = walked (a .chain .now) (w .0 .0) (w .0 .1 .0) (t .0) (t .1) (t .2) in
     (k, fits-near (a .start) (s .pre .0), omega (arith, walked-across k, s .pre .1))
 
@@ -39,7 +39,7 @@ returns c =
     let s = c .before .before .before .before .before .before .before .before in
     let a = s .args in
     let w = c .before .before .before .before .west .given in
-    let t = extent-good (chainJudged 0 (a .chain .now)) (westFrom 16384 (a .chain .now)) (eastFrom 16384 (a .chain .now)) (w .0 .0) (w .0 .1 .0) (sym (c .before .before .before .before .before .before .survey .ensures) ∙ w .1) in
+    let t = extent-good (chainJudged 0 (a .chain .now)) (westFrom middle (a .chain .now)) (eastFrom middle (a .chain .now)) (w .0 .0) (w .0 .1 .0) (sym (c .before .before .before .before .before .before .survey .ensures) ∙ w .1) in
     call-listed (omega (arith, s .pre .1)) (s .pre .0) (t .0) (c .before .list-short-from .ensures)
 
 returns-2 : tie.Need-returns-2
@@ -47,7 +47,7 @@ returns-2 c =
     let s = c .before .before .before .before .before in
     let a = s .args in
     let r = c .before .r .given in
-    let e = extent-refused (chainJudged 0 (a .chain .now)) (westFrom 16384 (a .chain .now)) (eastFrom 16384 (a .chain .now)) (r .0 .0) (sym (c .before .before .before .survey .ensures) ∙ r .1) in
+    let e = extent-refused (chainJudged 0 (a .chain .now)) (westFrom middle (a .chain .now)) (eastFrom middle (a .chain .now)) (r .0 .0) (sym (c .before .before .before .survey .ensures) ∙ r .1) in
     call-refused (a .start) (a .chain .now) (a .out .now) (r .0 .0) (λ n. judged-fault (a .start) (a .chain .now) (length (a .out .now)) n (omega (arith, s .pre .1)) (s .pre .0) (r .0 .0) e)
 
 pub list-short-spec : {M : Type 1} → statement M

@@ -2,6 +2,8 @@
 -- Assumes nothing.
 use borrow.Author.Needs.{needs}
 use native.Mathlib.Omega.{arith}
+use Rattle.answer.specs.Limits.{mostSteps}
+use Prim.Native.Nat.{_+_}
 use Rattle.hull_scan.proofs.ListLaws.{walked-width, stored}
 use Rattle.hull_scan.proofs.list_widest.Statement.{statement}
 use Rattle.hull_scan.proofs.list_widest.Tie as tie
@@ -19,7 +21,7 @@ slice-aggregate-list-in-4 : tie.Need-slice-aggregate-list-in-4
 slice-aggregate-list-in-4 c = search needs
 
 list-in-requires : tie.Need-list-in-requires
-list-in-requires c κs = let s = c .before .before .before .before .before .before in (s .pre .0, s .pre .1, stored 16385 (omega (arith, walked-width (s .pre .0))) (omega arith))
+list-in-requires c κs = let s = c .before .before .before .before .before .before in (s .pre .0, s .pre .1, stored (mostSteps + 1) (omega (arith, walked-width (s .pre .0))) (omega arith))
 
 same-length : tie.Need-same-length
 same-length c = search needs

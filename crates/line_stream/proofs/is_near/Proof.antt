@@ -6,7 +6,8 @@ use native.Mathlib.Omega.{arith}
 use borrow.Author.Needs.{needs}
 use lib.ListN.{drop}
 use lib.Dec.{ltb}
-use Rattle.line_stream.specs.Stream.{lineLength, near}
+use Rattle.line_frame.specs.Begun.{lineLength}
+use Rattle.line_stream.specs.Stream.{near}
 use Rattle.line_stream.proofs.HoldLaws.{near-none, near-next}
 use Rattle.line_stream.proofs.is_near.Statement.{statement}
 use Rattle.line_stream.proofs.is_near.Tie as tie

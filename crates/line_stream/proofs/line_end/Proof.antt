@@ -2,7 +2,7 @@
 -- Assumes nothing.
 use Rattle.line_stream.proofs.HoldLaws.{lineLength-here, lineLength-next, lineLength-end}
 use borrow.Author.Needs.{needs}
-use Rattle.line_stream.specs.Stream.{lineLength}
+use Rattle.line_frame.specs.Begun.{lineLength}
 use lib.ListN.{length, drop}
 use native.Mathlib.Omega.{arith}
 use mathlib.Core.Path.{_≡_}

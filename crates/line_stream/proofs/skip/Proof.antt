@@ -4,7 +4,8 @@ use mathlib.Core.Path.{_≡_, _∙_}
 use Prim.Native.Nat.{_+_, _-_, _≤_}
 use borrow.Author.Needs.{needs}
 use lib.ListN.{length, drop}
-use Rattle.line_stream.specs.Stream.{lineLength, near}
+use Rattle.line_frame.specs.Begun.{lineLength}
+use Rattle.line_stream.specs.Stream.{near}
 use Rattle.line_stream.proofs.HoldLaws.{skip-next}
 use Rattle.line_stream.proofs.skip.Statement.{statement}
 use Rattle.line_stream.proofs.skip.Tie as tie

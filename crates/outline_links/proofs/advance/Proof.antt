@@ -28,7 +28,7 @@ sub-t17 : tie.Need-sub-t17
 sub-t17 c = search needs
 
 returns : tie.Need-returns
-returns c = along-link (c .before .before .before .before .before .before .args .keys .now) (c .before .before .before .before .before .before .args .kids .now) (c .before .before .before .before .before .before .args .links .now) (c .before .before .before .before .before .before .args .used) (c .before .before .before .before .before .before .args .node) (c .before .before .before .before .before .before .args .k) (c .before .before .before .before .before .before .args .d) (c .before .wide .result) (c .before .wide .ensures) (c .if1 .taken)
+returns c = along-link (c .before .before .before .before .before .before .args .keys .now) (c .before .before .before .before .before .before .args .kids .now) (c .before .before .before .before .before .before .args .links .now) (c .before .before .before .before .before .before .args .used) (c .before .before .before .before .before .before .args .node) (c .before .before .before .before .before .before .args .k) (c .before .before .before .before .before .before .args .d) (c .before .wide .result) (c .before .wide .ensures .0) (c .if1 .taken)
 
 enter-requires : tie.Need-enter-requires
 enter-requires c κs = search needs
@@ -79,7 +79,7 @@ same-length-3 : tie.Need-same-length-3
 same-length-3 c = search needs
 
 returns-2 : tie.Need-returns-2
-returns-2 c = joined-new (c .before .before .before .before .before .before .before .before .before .before .before .before .before .before .before .before .args .keys .now) (c .before .before .before .before .before .before .before .before .before .before .before .before .before .before .before .before .args .kids .now) (c .before .before .before .before .before .before .before .before .before .before .before .before .before .before .before .before .args .links .now) (c .before .before .before .before .before .before .before .before .before .before .before .before .before .before .before .before .args .used) (c .before .before .before .before .before .before .before .before .before .before .before .before .before .before .before .before .args .node) (c .before .before .before .before .before .before .before .before .before .before .before .before .before .before .before .before .args .k) (c .before .before .before .before .before .before .before .before .before .before .before .before .before .before .before .before .args .d) (c .before .before .before .before .before .before .before .before .before .before .before .wide .result) (c .before .before .before .before .before .before .before .before .before .before .before .wide .ensures) (c .before .opposite .result) (c .before .before .before .before .before .before .before .before .before .before .if1 .left) (c .before .opposite .ensures) (c .before .before .before .before .before .before .before .enter .ensures)
+returns-2 c = joined-new (c .before .before .before .before .before .before .before .before .before .before .before .before .before .before .before .before .args .keys .now) (c .before .before .before .before .before .before .before .before .before .before .before .before .before .before .before .before .args .kids .now) (c .before .before .before .before .before .before .before .before .before .before .before .before .before .before .before .before .args .links .now) (c .before .before .before .before .before .before .before .before .before .before .before .before .before .before .before .before .args .used) (c .before .before .before .before .before .before .before .before .before .before .before .before .before .before .before .before .args .node) (c .before .before .before .before .before .before .before .before .before .before .before .before .before .before .before .before .args .k) (c .before .before .before .before .before .before .before .before .before .before .before .before .before .before .before .before .args .d) (c .before .before .before .before .before .before .before .before .before .before .before .wide .result) (c .before .before .before .before .before .before .before .before .before .before .before .wide .ensures .0) (c .before .opposite .result) (c .before .before .before .before .before .before .before .before .before .before .if1 .left) (c .before .opposite .ensures) (c .before .before .before .before .before .before .before .enter .ensures)
 
 pub advance-spec : {M : Type 1} → statement M
 advance-spec =

@@ -42,13 +42,13 @@ wide-requires : tie.Need-wide-requires Inv-loop μ-loop
 wide-requires c κs = search needs
 
 returns : tie.Need-returns Inv-loop μ-loop
-returns c = let l = c .before .before .before .before .before .before .loop in seeking-stop (c .before .before .before .before .before .before .before .before .before .args .keys .now) (c .before .before .before .before .before .before .before .before .before .args .kids .now) (c .before .before .before .before .before .before .before .before .before .args .used) (c .before .before .before .before .before .before .before .before .before .pre) (c .before .before .before .before .before .before .before .before .before .args .k) (l .i) (l .r) (l .inv) (c .before .before .before .digit .result) (c .before .wide .result) (c .before .before .before .digit .ensures) (c .before .wide .ensures) (c .before .before .before .before .if1 .taken) (c .if2 .taken)
+returns c = let l = c .before .before .before .before .before .before .loop in seeking-stop (c .before .before .before .before .before .before .before .before .before .args .keys .now) (c .before .before .before .before .before .before .before .before .before .args .kids .now) (c .before .before .before .before .before .before .before .before .before .args .used) (c .before .before .before .before .before .before .before .before .before .pre) (c .before .before .before .before .before .before .before .before .before .args .k) (l .i) (l .r) (l .inv) (c .before .before .before .digit .result) (c .before .wide .result) (c .before .before .before .digit .ensures) (c .before .wide .ensures .0) (c .before .before .before .before .if1 .taken) (c .if2 .taken)
 
 loop-less : tie.Need-loop-less Inv-loop μ-loop
-loop-less c = let l = c .before .before .before .before .before .before .loop in let d = seeking-less (c .before .before .before .before .before .before .before .before .before .args .keys .now) (c .before .before .before .before .before .before .before .before .before .args .kids .now) (c .before .before .before .before .before .before .before .before .before .args .used) (c .before .before .before .before .before .before .before .before .before .pre) (c .before .before .before .before .before .before .before .before .before .args .k) (l .i) (l .r) (l .inv) (c .before .before .before .digit .result) (c .before .wide .result) (c .before .before .before .digit .ensures) (c .before .wide .ensures) (c .before .before .before .before .if1 .taken) (c .if2 .left) in omega (arith, d .0, d .1)
+loop-less c = let l = c .before .before .before .before .before .before .loop in let d = seeking-less (c .before .before .before .before .before .before .before .before .before .args .keys .now) (c .before .before .before .before .before .before .before .before .before .args .kids .now) (c .before .before .before .before .before .before .before .before .before .args .used) (c .before .before .before .before .before .before .before .before .before .pre) (c .before .before .before .before .before .before .before .before .before .args .k) (l .i) (l .r) (l .inv) (c .before .before .before .digit .result) (c .before .wide .result) (c .before .before .before .digit .ensures) (c .before .wide .ensures .0) (c .before .before .before .before .if1 .taken) (c .if2 .left) in omega (arith, d .0, d .1)
 
 loop-again : tie.Need-loop-again Inv-loop μ-loop
-loop-again c = let l = c .before .before .before .before .before .before .loop in seeking-on (c .before .before .before .before .before .before .before .before .before .args .keys .now) (c .before .before .before .before .before .before .before .before .before .args .kids .now) (c .before .before .before .before .before .before .before .before .before .args .used) (c .before .before .before .before .before .before .before .before .before .pre) (c .before .before .before .before .before .before .before .before .before .args .k) (l .i) (l .r) (l .inv) (c .before .before .before .digit .result) (c .before .wide .result) (c .before .before .before .digit .ensures) (c .before .wide .ensures) (c .before .before .before .before .if1 .taken) (c .if2 .left)
+loop-again c = let l = c .before .before .before .before .before .before .loop in seeking-on (c .before .before .before .before .before .before .before .before .before .args .keys .now) (c .before .before .before .before .before .before .before .before .before .args .kids .now) (c .before .before .before .before .before .before .before .before .before .args .used) (c .before .before .before .before .before .before .before .before .before .pre) (c .before .before .before .before .before .before .before .before .before .args .k) (l .i) (l .r) (l .inv) (c .before .before .before .digit .result) (c .before .wide .result) (c .before .before .before .digit .ensures) (c .before .wide .ensures .0) (c .before .before .before .before .if1 .taken) (c .if2 .left)
 
 returns-2 : tie.Need-returns-2 Inv-loop μ-loop
 returns-2 c = let l = c .before .before .loop in sym (seeking-node (c .before .before .before .before .before .args .keys .now) (c .before .before .before .before .before .args .kids .now) (c .before .before .before .before .before .args .used) (c .before .before .before .before .before .pre) (c .before .before .before .before .before .args .k) (l .i) (l .r) (l .inv) (c .if1 .left))

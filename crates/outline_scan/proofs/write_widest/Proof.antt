@@ -3,6 +3,8 @@
 use borrow.Author.Needs.{needs}
 use mathlib.Core.Path.{refl}
 use native.Mathlib.Omega.{arith}
+use Rattle.answer.specs.Limits.{mostSteps}
+use Prim.Native.Nat.{_+_, _*_}
 use Rattle.outline_scan.proofs.ScanLaws.{blank-of}
 use Rattle.outline_scan.proofs.write_widest.Statement.{statement}
 use Rattle.outline_scan.proofs.write_widest.Tie as tie
@@ -17,7 +19,7 @@ slice-aggregate-write-in-3 : tie.Need-slice-aggregate-write-in-3
 slice-aggregate-write-in-3 c = search needs
 
 write-in-requires : tie.Need-write-in-requires
-write-in-requires c κs = let s = c .before .before .before .before .before .before in (blank-of (s .args .chain .now) 16385 32770 65540 (s .pre .0) (omega (arith, s .pre .0 .short)) (omega arith) refl refl, s .pre .1)
+write-in-requires c κs = let s = c .before .before .before .before .before .before in (blank-of (s .args .chain .now) (mostSteps + 1) (2 * (mostSteps + 1)) (4 * (mostSteps + 1)) (s .pre .0) (omega (arith, s .pre .0 .short)) (omega arith) refl refl, s .pre .1)
 
 same-length : tie.Need-same-length
 same-length c = search needs

@@ -12,12 +12,12 @@ use mir.Facts.{toZ-ofZ}
 use mir.Syntax.{w32}
 use Rattle.row_call.specs.Rows.{Span, lengthsOf}
 use Rattle.overlay_list.proofs.SumLaws.{begins-at, sum-step, sum-end}
-use Rattle.overlay_list.specs.Parts.{Begins}
+use Rattle.overlay_list.specs.Parts.{BeginsWith}
 use Rattle.overlay_list.proofs.panels.Statement.{statement}
 use Rattle.overlay_list.proofs.panels.Tie as tie
 
 abbrev Inv-loop : tie.InvT-loop
-Inv-loop list n k₀ sum₀ k sum = (k ≤ n) × (sum ≤ k * 4294967297) × ((L : List Span) → Begins list L → length L ≡ n → sum + lengthsOf (drop k L) ≡ lengthsOf L)
+Inv-loop list n k₀ sum₀ k sum = (k ≤ n) × (sum ≤ k * 4294967297) × ((L : List Span) → BeginsWith list L → length L ≡ n → sum + lengthsOf (drop k L) ≡ lengthsOf L)
 
 abbrev μ-loop : tie.MeasureT-loop
 μ-loop list n k₀ sum₀ k sum = n - k

@@ -6,6 +6,7 @@ use mathlib.Core.Path.{_≡_, refl, sym, _∙_, subst}
 use Prim.Native.Nat.{_+_, _-_, _≤_}
 use lib.ListN.{length}
 use lib.IntN.{natAbs}
+use Rattle.answer.specs.Limits.{farthest}
 use Rattle.overlay_laws.proofs.SweepLaws.{write-start, write-end}
 use Rattle.overlay_laws.specs.Sweep.{Writing}
 use Rattle.grid.specs.declared.Corner.{Corner}
@@ -61,7 +62,7 @@ put-end-requires c κs =
     let w = c .before .before .before .before .before .before .before .before .before .before .before .loop .inv .0 in
     let l = c .before .before .before .before .before .before .before .before .before .before .before .loop in
     let s = stop-small (z .args .part) (z .args .a .now) (l .i) (z .args .na) (z .args .b .now) (l .j) (z .args .nb) (c .before .before .before .before .before .before .before .before .before .first-end .result) (c .before .before .before .before .before .before .before .before .second-end .result) (c .before .before .before .before .before .before .before .comes .result) (c .before .before .before .before .before .before .comes2 .result) (c .before .before .before .before .before .before .before .before .before .first-end .ensures) (c .before .before .before .before .before .before .before .before .second-end .ensures) (c .before .before .before .before .before .before .before .comes .ensures) (c .before .before .before .before .before .before .comes2 .ensures) (omega arith) (z .pre .0) (z .pre .1) (w .first) (w .second) in
-    (omega (arith, w .few, w .first, w .second, z .pre .0 .few, z .pre .1 .few), subst (λ (v : Corner). natAbs (v .0) ≤ 32768) (sym (c .next-end .ensures)) s)
+    (omega (arith, w .few, w .first, w .second, z .pre .0 .few, z .pre .1 .few), subst (λ (v : Corner). natAbs (v .0) ≤ farthest) (sym (c .next-end .ensures)) s)
 
 loop-less : tie.Need-loop-less Inv-loop μ-loop
 loop-less c =

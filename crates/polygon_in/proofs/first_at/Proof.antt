@@ -2,6 +2,7 @@
 -- Assumes nothing.
 use borrow.Author.Needs.{needs}
 use mathlib.Core.Path.{_∙_}
+use Rattle.answer.specs.Limits.{mostStart}
 use Rattle.polygon_ring_laws.proofs.RingLaws.{point-is, first-is}
 use Rattle.polygon_in.proofs.first_at.Statement.{statement}
 use Rattle.polygon_in.proofs.first_at.Tie as tie
@@ -15,7 +16,7 @@ judge-requires c κs = search needs
 returns : tie.Need-returns
 returns c =
     let s = c .before .before .before in
-    point-is 16384 (s .args .little) (s .args .points .now) (c .judge .result) (c .before .point .result) (c .before .point .ensures) (c .judge .ensures) ∙ first-is (s .args .little) (s .args .points .now)
+    point-is mostStart (s .args .little) (s .args .points .now) (c .judge .result) (c .before .point .result) (c .before .point .ensures) (c .judge .ensures) ∙ first-is (s .args .little) (s .args .points .now)
 
 pub first-at-spec : {M : Type 1} → statement M
 first-at-spec = tie.close (tie.spec point-requires judge-requires returns)

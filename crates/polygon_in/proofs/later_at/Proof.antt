@@ -2,6 +2,7 @@
 -- Assumes nothing.
 use borrow.Author.Needs.{needs}
 use mathlib.Core.Path.{_∙_}
+use Rattle.answer.specs.Limits.{farthest}
 use Rattle.polygon_ring_laws.proofs.RingLaws.{point-is, later-is}
 use Rattle.polygon_in.proofs.later_at.Statement.{statement}
 use Rattle.polygon_in.proofs.later_at.Tie as tie
@@ -27,7 +28,7 @@ judge-requires c κs = search needs
 returns : tie.Need-returns
 returns c =
     let s = c .before .before .before .before in
-    point-is 32768 (s .args .little) _ (c .judge .result) (c .before .point .result) (c .before .point .ensures) (c .judge .ensures) ∙ later-is (s .args .little) (s .args .points .now) (s .args .i) (s .pre .0)
+    point-is farthest (s .args .little) _ (c .judge .result) (c .before .point .result) (c .before .point .ensures) (c .judge .ensures) ∙ later-is (s .args .little) (s .args .points .now) (s .args .i) (s .pre .0)
 
 pub later-at-spec : {M : Type 1} → statement M
 later-at-spec =

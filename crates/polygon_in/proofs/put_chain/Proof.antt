@@ -3,7 +3,7 @@
 use borrow.Author.Needs.{needs}
 use Rattle.polygon_ring_laws.proofs.RingLaws.{part-room, Chaining, chaining-first, chaining-room, chaining-more, chaining-last, near-at}
 use Rattle.polygon_ring_laws.proofs.PointLaws.{good-at}
-use Rattle.polygon_ring_laws.specs.Reading.{Near}
+use Rattle.polygon_ring_laws.specs.Reading.{PointFits}
 use Prim.Native.Nat.{ℕ}
 use lib.ListN.{length}
 use native.Mathlib.Omega.{arith}
@@ -30,7 +30,7 @@ corner-at-requires c κs =
 distance-requires : tie.Need-distance-requires Inv-loop μ-loop
 distance-requires c κs =
     let s = c .before .before .before .before .before in
-    (c .before .before .loop .inv .near, subst Near (sym (c .corner-at .ensures)) (near-at (s .args .little) (s .args .points .now) (c .before .before .loop .i)))
+    (c .before .before .loop .inv .near, subst PointFits (sym (c .corner-at .ensures)) (near-at (s .args .little) (s .args .points .now) (c .before .before .loop .i)))
 
 sub-fill : tie.Need-sub-fill Inv-loop μ-loop
 sub-fill c =
@@ -59,7 +59,7 @@ part-fill-end c =
 direction-requires : tie.Need-direction-requires Inv-loop μ-loop
 direction-requires c κs =
     let s = c .before .before .before .before .before .before .before in
-    (c .before .before .before .before .loop .inv .near, subst Near (sym (c .before .before .corner-at .ensures)) (near-at (s .args .little) (s .args .points .now) (c .before .before .before .before .loop .i)))
+    (c .before .before .before .before .loop .inv .near, subst PointFits (sym (c .before .before .corner-at .ensures)) (near-at (s .args .little) (s .args .points .now) (c .before .before .before .before .loop .i)))
 
 fill-requires : tie.Need-fill-requires Inv-loop μ-loop
 fill-requires c κs =

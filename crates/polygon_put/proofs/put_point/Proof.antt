@@ -5,6 +5,7 @@ use mathlib.Core.Path.{_≡_, sym, ap, ap₂, _∙_, subst}
 use mathlib.Core.Bool.{not}
 use mir.Syntax.{w32}
 use mir.Val.{toZ, ofZ}
+use Rattle.answer.specs.Limits.{farthest}
 use Rattle.polygon_laws.proofs.SignedLaws.{sent}
 use mathlib.Core.List.{List, _++_}
 use Prim.Native.Nat.{ℕ, _+_, _-_, _≤_}
@@ -22,17 +23,17 @@ use Rattle.polygon_laws.proofs.ValueLaws.{coordinate-no-nan}
 use Rattle.polygon_put.proofs.put_point.Statement.{statement}
 use Rattle.polygon_put.proofs.put_point.Tie as tie
 
-no-nan : (x : Float) (z : ℤ) → natAbs z ≤ 32768 → x ≡ coordinateOf (toZ w32 (ofZ w32 z)) → T (not (isNan x))
+no-nan : (x : Float) (z : ℤ) → natAbs z ≤ farthest → x ≡ coordinateOf (toZ w32 (ofZ w32 z)) → T (not (isNan x))
 no-nan x z h e = subst (λ (y : Float). T (not (isNan y))) (sym (sent z h e)) (coordinate-no-nan z h)
 
-bytes : (x : Float) (z : ℤ) → natAbs z ≤ 32768 → x ≡ coordinateOf (toZ w32 (ofZ w32 z)) → bytesOf 8 (toBits binary64 x) ≡ coordinateBytes z
+bytes : (x : Float) (z : ℤ) → natAbs z ≤ farthest → x ≡ coordinateOf (toZ w32 (ofZ w32 z)) → bytesOf 8 (toBits binary64 x) ≡ coordinateBytes z
 unfolding coordinateBytes
 bytes x z h e = ap (λ (y : Float). bytesOf 8 (toBits binary64 y)) (sent z h e)
 
 room : (cur : List ℕ) → 16 ≤ length cur → 8 ≤ length (take (length cur - 8) (drop 8 cur))
 room cur h = simp (length-take, length-drop) (omega arith)
 
-two : (l cur ys : List ℕ) (x y : Float) (c : Corner) → natAbs (c .0) ≤ 32768 → natAbs (c .1) ≤ 32768
+two : (l cur ys : List ℕ) (x y : Float) (c : Corner) → natAbs (c .0) ≤ farthest → natAbs (c .1) ≤ farthest
     → x ≡ coordinateOf (toZ w32 (ofZ w32 (c .0))) → y ≡ coordinateOf (toZ w32 (ofZ w32 (c .1)))
     → cur ≡ bytesOf 8 (toBits binary64 x) ++ drop 8 l → ys ≡ bytesOf 8 (toBits binary64 y) ++ drop 8 (take (length cur - 8) (drop 8 cur))
     → take 8 cur ++ (ys ++ drop (length cur - 8) (drop 8 cur)) ≡ pointBytes c ++ drop 16 l

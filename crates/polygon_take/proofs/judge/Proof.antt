@@ -10,22 +10,22 @@ use mir.Val.{SFits, toZ, ofZ}
 use mir.Facts.{toZ-ofZ}
 use Rattle.polygon_ring.specs.Coordinate.{wholeOf}
 use Rattle.polygon_ring.specs.Ring.{both}
-use Rattle.polygon_ring.specs.declared.Spot.{Spot}
-use Rattle.polygon_ring.specs.declared.Spot.the-variants.{At, Faulty}
+use Rattle.polygon_ring.specs.declared.GridPoint.{GridPoint}
+use Rattle.polygon_ring.specs.declared.GridPoint.the-variants.{At, Faulty}
 use Rattle.polygon_ring.specs.declared.Whole.{Whole}
 use Rattle.polygon_ring.specs.declared.Whole.the-variants.{Of, Refused}
 use Rattle.polygon_take.proofs.judge.Statement.{statement}
 use Rattle.polygon_take.proofs.judge.Tie as tie
 
 good : (m : ℕ) (x y : Float) (u v : Whole) (i j : ℤ) → u ≡ wholeOf m x → v ≡ wholeOf m y → u ≡ Of i → v ≡ Of j → SFits w32 i → SFits w32 j
-    → _≡_ {A = Spot} (At (toZ w32 (ofZ w32 i)) (toZ w32 (ofZ w32 j))) (both (wholeOf m x) (wholeOf m y))
+    → _≡_ {A = GridPoint} (At (toZ w32 (ofZ w32 i)) (toZ w32 (ofZ w32 j))) (both (wholeOf m x) (wholeOf m y))
 good m x y u v i j e f g h p q =
     (λ t. At (toZ-ofZ p t) (toZ-ofZ q t)) ∙ sym (ap₂ both (sym e ∙ g) (sym f ∙ h))
 
-first : (m : ℕ) (x y : Float) (u : Whole) → u ≡ wholeOf m x → u ≡ Refused → _≡_ {A = Spot} Faulty (both (wholeOf m x) (wholeOf m y))
+first : (m : ℕ) (x y : Float) (u : Whole) → u ≡ wholeOf m x → u ≡ Refused → _≡_ {A = GridPoint} Faulty (both (wholeOf m x) (wholeOf m y))
 first m x y u e g = sym (ap (λ (w : Whole). both w (wholeOf m y)) (sym e ∙ g))
 
-second : (m : ℕ) (x y : Float) (v : Whole) → v ≡ wholeOf m y → v ≡ Refused → _≡_ {A = Spot} Faulty (both (wholeOf m x) (wholeOf m y))
+second : (m : ℕ) (x y : Float) (v : Whole) → v ≡ wholeOf m y → v ≡ Refused → _≡_ {A = GridPoint} Faulty (both (wholeOf m x) (wholeOf m y))
 second m x y v e g = sym (ap (both (wholeOf m x)) (sym e ∙ g) ∙ any (wholeOf m x))
   where
     any : (w : Whole) → both w Refused ≡ Faulty

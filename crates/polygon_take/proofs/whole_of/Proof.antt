@@ -7,6 +7,7 @@ use mathlib.Core.Logic.{inl, inr}
 use lib.Dec.{T}
 use lib.Ieee.{Float, eq}
 use lib.Ieee.Compare.{differs-from-itself}
+use Rattle.answer.specs.Limits.{farthest}
 use Rattle.polygon.specs.Coordinate.{coordinateOf}
 use Rattle.polygon_laws.proofs.SignedLaws.{back}
 use Rattle.polygon_ring.specs.declared.Whole.the-variants.{Of}
@@ -48,7 +49,7 @@ millimetres-requires : tie.Need-millimetres-requires
 millimetres-requires c κs =
     let s = c .before .before .before .before .before in
     let u = c .before .before .before .nearest in
-    back-le (c .centred .result) (centred-le (c .centred .result) (u .result) 32768 (c .centred .ensures) (omega (arith, s .pre)) (omega (arith, s .pre)))
+    back-le (c .centred .result) (centred-le (c .centred .result) (u .result) farthest (c .centred .ensures) (omega (arith, s .pre)) (omega (arith, s .pre)))
 
 returns-4 : tie.Need-returns-4
 returns-4 c =

@@ -9,11 +9,11 @@ use Rattle.room_judge.proofs.judge.Tie as tie
 returns : tie.Need-returns
 returns c = let a = c .before .before .args in told-many (a .start) (a .chain .now) (c .if1 .taken)
 
-in-range-requires : tie.Need-in-range-requires
-in-range-requires c κs = search needs
+start-fits-requires : tie.Need-start-fits-requires
+start-fits-requires c κs = search needs
 
 returns-2 : tie.Need-returns-2
-returns-2 c = let a = c .before .before .before .before .args in told-range (a .start) (a .chain .now) (c .before .in-range .result) (omega (arith, c .before .before .if1 .left)) (c .before .in-range .ensures) (c .if2 .taken)
+returns-2 c = let a = c .before .before .before .before .args in told-range (a .start) (a .chain .now) (c .before .start-fits .result) (omega (arith, c .before .before .if1 .left)) (c .before .start-fits .ensures) (c .if2 .taken)
 
 judge-requires : tie.Need-judge-requires
 judge-requires c κs = search needs
@@ -33,13 +33,13 @@ enum-known-r c = search needs
 returns-3 : tie.Need-returns-3
 returns-3 c =
     let a = c .before .before .before .before .before .before .before .before .before .args in
-    told-room (a .start) (a .chain .now) (c .before .before .before .before .before .before .in-range .result) (omega (arith, c .before .before .before .before .before .before .before .if1 .left)) (c .before .before .before .before .before .before .in-range .ensures) (c .before .before .before .before .before .if2 .left)
+    told-room (a .start) (a .chain .now) (c .before .before .before .before .before .before .start-fits .result) (omega (arith, c .before .before .before .before .before .before .before .if1 .left)) (c .before .before .before .before .before .before .start-fits .ensures) (c .before .before .before .before .before .if2 .left)
     (c .before .before .before .before .judge .result) (c .before .before .before .before .judge .ensures) (c .before .is-room .result) (c .told .result) (c .before .before .enum-told .given .1) (c .before .is-room .ensures) (c .told .ensures)
 
 returns-4 : tie.Need-returns-4
 returns-4 c =
     let a = c .before .before .before .before .before .before .before .before .args in
-    told-fault (a .start) (a .chain .now) (c .before .before .before .before .before .in-range .result) (omega (arith, c .before .before .before .before .before .before .if1 .left)) (c .before .before .before .before .before .in-range .ensures) (c .before .before .before .before .if2 .left)
+    told-fault (a .start) (a .chain .now) (c .before .before .before .before .before .start-fits .result) (omega (arith, c .before .before .before .before .before .before .if1 .left)) (c .before .before .before .before .before .start-fits .ensures) (c .before .before .before .before .if2 .left)
     (c .before .before .before .judge .result) (c .before .before .before .judge .ensures) _ (c .before .r .given .1)
 
 pub judge-spec : {M : Type 1} → statement M
@@ -47,7 +47,7 @@ judge-spec =
     tie.close
     (tie.spec
     returns
-    in-range-requires
+    start-fits-requires
     returns-2
     judge-requires
     enum-told

@@ -7,7 +7,7 @@ use mathlib.Core.Bool.{Bool}
 use Prim.Native.Nat.{_+_, _-_, _≤_}
 use lib.ListN.{length, getD}
 use Rattle.lists.proofs.BoolLaws.{not-true, not-false}
-use Rattle.room_thread_laws.specs.Threads.{Leads, Followed, Parting}
+use Rattle.room_thread_laws.specs.Threads.{Leads, ThreadFollowed, Parting}
 use Rattle.room_thread_laws.proofs.ThreadLaws.{part-start, part-step, part-twice, part-end}
 use Rattle.room_threads.proofs.apart.Statement.{statement}
 use Rattle.room_threads.proofs.apart.Tie as tie
@@ -50,7 +50,7 @@ returns c =
     let a = c .before .before .before .before .before .before .before .before .before .before .before .before .args in
     let f = c .before .before .before .follow in
     part-twice (a .head .now) (a .next .now) (a .hs .now) (l .c) (l .stamps) (f .last .1 .1 .1 .1 .0) (l .inv .2) (omega arith)
-    (subst (λ (b : Bool). Followed (a .next .now) (a .hs .now) (l .stamps) (l .c + 1) (getD (a .head .now) (l .c) 0) b (f .last .1 .1 .1 .1 .0)) (not-true (f .result) (c .if1 .taken)) (f .ensures))
+    (subst (λ (b : Bool). ThreadFollowed (a .next .now) (a .hs .now) (l .stamps) (l .c + 1) (getD (a .head .now) (l .c) 0) b (f .last .1 .1 .1 .1 .0)) (not-true (f .result) (c .if1 .taken)) (f .ensures))
 
 add-c : tie.Need-add-c Inv-loop μ-loop
 add-c c = search needs
@@ -66,7 +66,7 @@ loop-again c =
       omega arith,
       f .kept .1 .1 .1 .1 .0 ∙ l .inv .1,
       part-step (a .head .now) (a .next .now) (a .hs .now) (l .c) (l .stamps) (f .last .1 .1 .1 .1 .0) (l .inv .2) (omega arith)
-          (subst (λ (b : Bool). Followed (a .next .now) (a .hs .now) (l .stamps) (l .c + 1) (getD (a .head .now) (l .c) 0) b (f .last .1 .1 .1 .1 .0)) (not-false (f .result) (c .if1 .left)) (f .ensures)),
+          (subst (λ (b : Bool). ThreadFollowed (a .next .now) (a .hs .now) (l .stamps) (l .c + 1) (getD (a .head .now) (l .c) 0) b (f .last .1 .1 .1 .1 .0)) (not-false (f .result) (c .if1 .left)) (f .ensures)),
     )
 
 same-length-2 : tie.Need-same-length-2 Inv-loop μ-loop

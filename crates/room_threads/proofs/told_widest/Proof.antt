@@ -3,6 +3,8 @@
 use borrow.Author.Needs.{needs}
 use native.Mathlib.Omega.{arith}
 use mathlib.Core.Path.{refl}
+use Prim.Native.Nat.{_+_}
+use Rattle.hull_laws.specs.Columns.{middle}
 use Rattle.grid.specs.Grid.{origin}
 use Rattle.room_thread_laws.proofs.RoomLaws.{closed-stays, fresh, told-closed}
 use Rattle.room_threads.proofs.told_widest.Statement.{statement}
@@ -13,7 +15,7 @@ scattered-requires c κs =
     let z = c .before .before .before .before .before .before in
     let a = z .args in
     let m = c .before .before .before .before .start in
-    (fresh (a .chain .now) (m .result) 16386 16384 (closed-stays origin (a .chain .now) (m .result) (z .pre .2 origin .0 refl) (m .ensures .0) 16386 (omega (arith, m .ensures .1)) (omega arith)) (omega arith) (omega arith), omega arith)
+    (fresh (a .chain .now) (m .result) (middle + 2) middle (closed-stays origin (a .chain .now) (m .result) (z .pre .2 origin .0 refl) (m .ensures .0) (middle + 2) (omega (arith, m .ensures .1)) (omega arith)) (omega arith) (omega arith), omega arith)
 
 returns : tie.Need-returns
 returns c =

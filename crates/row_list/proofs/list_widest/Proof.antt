@@ -3,6 +3,8 @@
 use borrow.Author.Needs.{needs}
 use native.Mathlib.Omega.{arith}
 use lib.ListN.{length}
+use Rattle.answer.specs.Limits.{mostSteps}
+use Prim.Native.Nat.{_+_}
 use Rattle.row_list.proofs.CallLaws.{fresh}
 use Rattle.row_list.proofs.list_widest.Statement.{statement}
 use Rattle.row_list.proofs.list_widest.Tie as tie
@@ -26,7 +28,7 @@ list-in-requires : tie.Need-list-in-requires
 list-in-requires c κs =
     let z = c .before .before .before .before .before .before .before in
     let m = c .before .before .before .before .before .start in
-    (z .pre .0, fresh (length (z .args .chain .now)) (m .result) 16386 16384 (m .ensures .0) (omega (arith, m .ensures .1, z .pre .0 .few)) (omega arith) (omega (arith, z .pre .0 .few)), z .pre .1)
+    (z .pre .0, fresh (length (z .args .chain .now)) (m .result) (mostSteps + 2) mostSteps (m .ensures .0) (omega (arith, m .ensures .1, z .pre .0 .few)) (omega arith) (omega (arith, z .pre .0 .few)), z .pre .1)
 
 same-length : tie.Need-same-length
 same-length c = search needs

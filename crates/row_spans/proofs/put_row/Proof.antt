@@ -17,16 +17,10 @@ Inv-loop out₀ o base first next at p₀ to₀ out p to = (p < 65536) × (lengt
 abbrev μ-loop : tie.MeasureT-loop
 μ-loop out₀ o base first next at p₀ to₀ out p to = length out - to
 
-wide-requires : tie.Need-wide-requires Inv-loop μ-loop
-wide-requires c κs = search needs
-
 loop-holds : tie.Need-loop-holds Inv-loop μ-loop
 loop-holds c =
     let a = c .before .before .before .args in
     (c .wide .ensures .1, refl, λ l s e. subst (λ (k : ℕ). LineAt (a .next .now) (a .at .now) (a .base) l (a .out .now) (a .o) k (a .o) (a .out .now)) (sym (c .wide .ensures .0)) (line-start (a .next .now) (a .at .now) (a .base) l (a .out .now) (a .o) (a .first) s e))
-
-sub-wide : tie.Need-sub-wide Inv-loop μ-loop
-sub-wide c = search needs
 
 mul-wide : tie.Need-mul-wide Inv-loop μ-loop
 mul-wide c = record { fits = omega (arith, c .before .loop .inv .0) }
@@ -38,12 +32,6 @@ shared-slice-read-wide c =
     let r = z .pre .0 in
     let w = line-two (l .inv .2 (r .list) (r .thread) (r .even)) (length (z .args .out .now)) (r .fits) (omega arith) in
     w .first
-
-wide-requires-2 : tie.Need-wide-requires-2 Inv-loop μ-loop
-wide-requires-2 c κs = search needs
-
-sub-put-span : tie.Need-sub-put-span Inv-loop μ-loop
-sub-put-span c = omega arith
 
 mul-put-span : tie.Need-mul-put-span Inv-loop μ-loop
 mul-put-span c = record { fits = omega (arith, c .before .before .before .before .loop .inv .0) }
@@ -110,9 +98,6 @@ shared-slice-read-wide-2 c =
     let w = line-two (l .inv .2 (r .list) (r .thread) (r .even)) (length (z .args .out .now)) (r .fits) (omega arith) in
     omega (arith, w .second, c .before .before .before .before .before .before .wide2 .ensures .0)
 
-wide-requires-3 : tie.Need-wide-requires-3 Inv-loop μ-loop
-wide-requires-3 c κs = search needs
-
 loop-less : tie.Need-loop-less Inv-loop μ-loop
 loop-less c =
     let l = c .before .before .before .before .before .before .before .before .before .before .loop in
@@ -140,13 +125,13 @@ put-row-spec =
     (tie.spec
     Inv-loop
     μ-loop
-    wide-requires
+    (λ c κs. search needs)
     loop-holds
-    sub-wide
+    (λ c. search needs)
     mul-wide
     shared-slice-read-wide
-    wide-requires-2
-    sub-put-span
+    (λ c κs. search needs)
+    (λ c. omega arith)
     mul-put-span
     shared-slice-read-put-span
     sub-put-span-2
@@ -157,7 +142,7 @@ put-row-spec =
     sub-wide-2
     mul-wide-2
     shared-slice-read-wide-2
-    wide-requires-3
+    (λ c κs. search needs)
     loop-less
     loop-again
     same-length

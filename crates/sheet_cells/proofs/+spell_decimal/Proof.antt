@@ -36,36 +36,6 @@ spell-decimal-returns t c =
     let a = c .before .before .args in
     decimal-none (a .k) (a .n) (a .at) (a .out .now) (c .if1 .taken)
 
-spell-decimal-cast-out : (t : ℕ) → spell-decimal-lts.Need-cast-out (
-  spell-decimal-below t,
-  spell-decimal.Post,
-) (spell-decimal-at t) spell-decimal.Post
-spell-decimal-cast-out t c = search needs
-
-spell-decimal-add-out : (t : ℕ) → spell-decimal-lts.Need-add-out (
-  spell-decimal-below t,
-  spell-decimal.Post,
-) (spell-decimal-at t) spell-decimal.Post
-spell-decimal-add-out t c = search needs
-
-spell-decimal-slice-write-out : (t : ℕ) → spell-decimal-lts.Need-slice-write-out (
-  spell-decimal-below t,
-  spell-decimal.Post,
-) (spell-decimal-at t) spell-decimal.Post
-spell-decimal-slice-write-out t c = search needs
-
-spell-decimal-add-result : (t : ℕ) → spell-decimal-lts.Need-add-result (
-  spell-decimal-below t,
-  spell-decimal.Post,
-) (spell-decimal-at t) spell-decimal.Post
-spell-decimal-add-result t c = search needs
-
-spell-decimal-same-length : (t : ℕ) → spell-decimal-lts.Need-same-length (
-  spell-decimal-below t,
-  spell-decimal.Post,
-) (spell-decimal-at t) spell-decimal.Post
-spell-decimal-same-length t c = search needs
-
 spell-decimal-returns-2 : (t : ℕ) → spell-decimal-lts.Need-returns-2 (
   spell-decimal-below t,
   spell-decimal.Post,
@@ -74,30 +44,6 @@ spell-decimal-returns-2 t c =
     let s = c .before .before .before in
     let a = s .args in
     decimal-one (a .k) (a .n) (a .at) (a .out .now) (c .before .if1 .left) (c .if2 .taken) (omega (arith, s .pre .1, c .before .if1 .left))
-
-spell-decimal-sub-spell-decimal : (t : ℕ) → spell-decimal-lts.Need-sub-spell-decimal (
-  spell-decimal-below t,
-  spell-decimal.Post,
-) (spell-decimal-at t) spell-decimal.Post
-spell-decimal-sub-spell-decimal t c = search needs
-
-spell-decimal-spell-decimal-requires : (t : ℕ) → spell-decimal-lts.Need-spell-decimal-requires (
-  spell-decimal-below t,
-  spell-decimal.Post,
-) (spell-decimal-at t) spell-decimal.Post
-spell-decimal-spell-decimal-requires t c κs = search needs
-
-spell-decimal-cast-out-2 : (t : ℕ) → spell-decimal-lts.Need-cast-out-2 (
-  spell-decimal-below t,
-  spell-decimal.Post,
-) (spell-decimal-at t) spell-decimal.Post
-spell-decimal-cast-out-2 t c = search needs
-
-spell-decimal-add-out-2 : (t : ℕ) → spell-decimal-lts.Need-add-out-2 (
-  spell-decimal-below t,
-  spell-decimal.Post,
-) (spell-decimal-at t) spell-decimal.Post
-spell-decimal-add-out-2 t c = search needs
 
 spell-decimal-slice-write-out-2 : (t : ℕ) → spell-decimal-lts.Need-slice-write-out-2 (
   spell-decimal-below t,
@@ -119,12 +65,6 @@ spell-decimal-add-result-2 t c =
     let a = s .args in
     search (needs, r .ensures .end, r .kept .0, s .pre .1, c .before .before .before .before .before .if1 .left, length-decimalOf (a .k - 1) (a .n / 10))
 
-spell-decimal-same-length-2 : (t : ℕ) → spell-decimal-lts.Need-same-length-2 (
-  spell-decimal-below t,
-  spell-decimal.Post,
-) (spell-decimal-at t) spell-decimal.Post
-spell-decimal-same-length-2 t c = search needs
-
 spell-decimal-returns-3 : (t : ℕ) → spell-decimal-lts.Need-returns-3 (
   spell-decimal-below t,
   spell-decimal.Post,
@@ -142,17 +82,17 @@ pub +spell-decimal-spec : {M : Type 1} → statement M
     (spell-decimal-at t)
     spell-decimal.Post
     (spell-decimal-returns t)
-    (spell-decimal-cast-out t)
-    (spell-decimal-add-out t)
-    (spell-decimal-slice-write-out t)
-    (spell-decimal-add-result t)
-    (spell-decimal-same-length t)
+    (λ c. search needs)
+    (λ c. search needs)
+    (λ c. search needs)
+    (λ c. search needs)
+    (λ c. search needs)
     (spell-decimal-returns-2 t)
-    (spell-decimal-sub-spell-decimal t)
-    (spell-decimal-spell-decimal-requires t)
-    (spell-decimal-cast-out-2 t)
-    (spell-decimal-add-out-2 t)
+    (λ c. search needs)
+    (λ c κs. search needs)
+    (λ c. search needs)
+    (λ c. search needs)
     (spell-decimal-slice-write-out-2 t)
     (spell-decimal-add-result-2 t)
-    (spell-decimal-same-length-2 t)
+    (λ c. search needs)
     (spell-decimal-returns-3 t)

@@ -11,9 +11,6 @@ use Rattle.sheet_cells.proofs.CellLaws.{bytes-none, bytes-next, bytes-a
 use borrow.Author.Needs.{needs}
 use Rattle.sheet_cells.proofs.spell_bytes.Statement.{statement}
 use Rattle.sheet_cells.proofs.spell_bytes.Tie as tie
-use Rattle.sheet_cells.proofs.spell_bytes.Reads as reads
-use Rattle.sheet_cells.proofs.spell_bytes.Lts as lts
-use Rattle.sheet_cells.proofs.spell_byte.Reads as spell-byte-reads
 
 abbrev Inv-loop : tie.InvT-loop
 Inv-loop out₀ at s i₀ next₀ out i next = (i ≤ length s) × (at + 2 * length s ≤ length out₀) × (length out ≡ length out₀) × (next ≡ at + 2 * i) × Wrote (hexBytes (take i s)) at out₀ next out

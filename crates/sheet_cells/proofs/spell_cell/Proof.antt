@@ -8,9 +8,6 @@ use Rattle.sheet_cells.proofs.CellLaws.{wrote-then}
 use borrow.Author.Needs.{needs}
 use Rattle.sheet_cells.proofs.spell_cell.Statement.{statement}
 use Rattle.sheet_cells.proofs.spell_cell.Tie as tie
-use Rattle.sheet_cells.proofs.spell_cell.Reads as reads
-use Rattle.sheet_cells.proofs.spell_cell.Lts as lts
-use Rattle.sheet_cells.proofs.spell_decimal.Reads as spell-decimal-reads
 
 spell-decimal-requires : tie.Need-spell-decimal-requires
 spell-decimal-requires c κs = search needs

@@ -11,11 +11,6 @@ use Rattle.sheet_cells.proofs.CellLaws.{length-two, wrote-cells}
 use borrow.Author.Needs.{needs}
 use Rattle.sheet_cells.proofs.spell_cells.Statement.{statement}
 use Rattle.sheet_cells.proofs.spell_cells.Tie as tie
-use Rattle.sheet_cells.proofs.spell_cells.Reads as reads
-use Rattle.sheet_cells.proofs.spell_cells.Lts as lts
-use Rattle.answer.proofs.verdict_number.Reads as verdict-number-reads
-use Rattle.sheet_cells.proofs.spell_signed.Reads as spell-signed-reads
-use Rattle.sheet_cells.proofs.spell_two.Reads as spell-two-reads
 
 spell-two-requires : tie.Need-spell-two-requires
 spell-two-requires c κs = search needs

@@ -16,10 +16,6 @@ use Rattle.sheet_cells.proofs.CellLaws.{signed-above, signed-below, wro
 use borrow.Author.Needs.{needs}
 use Rattle.sheet_cells.proofs.spell_signed.Statement.{statement}
 use Rattle.sheet_cells.proofs.spell_signed.Tie as tie
-use Rattle.sheet_cells.proofs.spell_signed.Reads as reads
-use Rattle.sheet_cells.proofs.spell_signed.Lts as lts
-use Rattle.line_fields.proofs.hex.bits.Reads as bits-reads
-use Rattle.sheet_cells.proofs.spell_decimal.Reads as spell-decimal-reads
 
 bits-requires : tie.Need-bits-requires
 bits-requires c κs = search needs

@@ -6,9 +6,6 @@ use Rattle.sheet_cells.proofs.CellLaws.{wrote-two}
 use borrow.Author.Needs.{needs}
 use Rattle.sheet_cells.proofs.spell_two.Statement.{statement}
 use Rattle.sheet_cells.proofs.spell_two.Tie as tie
-use Rattle.sheet_cells.proofs.spell_two.Reads as reads
-use Rattle.sheet_cells.proofs.spell_two.Lts as lts
-use Rattle.sheet_cells.proofs.spell_cell.Reads as spell-cell-reads
 
 spell-cell-requires : tie.Need-spell-cell-requires
 spell-cell-requires c κs = search needs

@@ -9,9 +9,6 @@ use Rattle.sheet_cells.proofs.CellLaws.{wrote-then}
 use borrow.Author.Needs.{needs}
 use Rattle.sheet_entry.proofs.enter.Statement.{statement}
 use Rattle.sheet_entry.proofs.enter.Tie as tie
-use Rattle.sheet_entry.proofs.enter.Reads as reads
-use Rattle.sheet_entry.proofs.enter.Lts as lts
-use Rattle.sheet_entry.proofs.enter_line.Reads as enter-line-reads
 
 enter-line-requires : tie.Need-enter-line-requires
 enter-line-requires c κs = search needs

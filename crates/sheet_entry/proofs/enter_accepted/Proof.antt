@@ -6,10 +6,6 @@ use Rattle.sheet_entry.proofs.EnterLaws.{wrote-accepted}
 use borrow.Author.Needs.{needs}
 use Rattle.sheet_entry.proofs.enter_accepted.Statement.{statement}
 use Rattle.sheet_entry.proofs.enter_accepted.Tie as tie
-use Rattle.sheet_entry.proofs.enter_accepted.Reads as reads
-use Rattle.sheet_entry.proofs.enter_accepted.Lts as lts
-use Rattle.sheet_cells.proofs.spell_cells.Reads as spell-cells-reads
-use Rattle.sheet_entry.proofs.enter_polygon.Reads as enter-polygon-reads
 
 spell-cells-requires : tie.Need-spell-cells-requires
 spell-cells-requires c κs = search needs

@@ -11,10 +11,6 @@ use Rattle.sheet_entry.proofs.EnterLaws.{polygon-many, polygon-none}
 use borrow.Author.Needs.{needs}
 use Rattle.sheet_entry.proofs.enter_polygon.Statement.{statement}
 use Rattle.sheet_entry.proofs.enter_polygon.Tie as tie
-use Rattle.sheet_entry.proofs.enter_polygon.Reads as reads
-use Rattle.sheet_entry.proofs.enter_polygon.Lts as lts
-use Rattle.polygon_out.proofs.write.Reads as write-reads
-use Rattle.sheet_cells.proofs.spell_bytes.Reads as spell-bytes-reads
 
 slice-aggregate-write : tie.Need-slice-aggregate-write
 slice-aggregate-write c = search needs

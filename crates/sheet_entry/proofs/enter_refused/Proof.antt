@@ -7,11 +7,6 @@ use Rattle.sheet.specs.Entry.{cellsOf, noFacts}
 use borrow.Author.Needs.{needs}
 use Rattle.sheet_entry.proofs.enter_refused.Statement.{statement}
 use Rattle.sheet_entry.proofs.enter_refused.Tie as tie
-use Rattle.sheet_entry.proofs.enter_refused.Reads as reads
-use Rattle.sheet_entry.proofs.enter_refused.Lts as lts
-use Rattle.answer.proofs.refusal_number.Reads as refusal-number-reads
-use Rattle.answer.proofs.refusal_place.Reads as refusal-place-reads
-use Rattle.sheet_cells.proofs.spell_cells.Reads as spell-cells-reads
 
 refusal-number-requires : tie.Need-refusal-number-requires
 refusal-number-requires c κs = search needs

@@ -7,8 +7,6 @@ use Rattle.lists.specs.Lists.{tally}
 use borrow.Author.Needs.{needs}
 use Rattle.sheet_number.proofs.number_after.Statement.{statement}
 use Rattle.sheet_number.proofs.number_after.Tie as tie
-use Rattle.sheet_number.proofs.number_after.Reads as reads
-use Rattle.sheet_number.proofs.number_after.Lts as lts
 
 add-result : tie.Need-add-result
 add-result c = search needs

@@ -13,9 +13,6 @@ use Rattle.sheet_cells.proofs.CellLaws.{wrote-byte, wrote-then}
 use borrow.Author.Needs.{needs}
 use Rattle.sheet_number.proofs.put_byte.Statement.{statement}
 use Rattle.sheet_number.proofs.put_byte.Tie as tie
-use Rattle.sheet_number.proofs.put_byte.Reads as reads
-use Rattle.sheet_number.proofs.put_byte.Lts as lts
-use Rattle.sheet_cells.proofs.spell_cell.Reads as spell-cell-reads
 
 spell-cell-requires : tie.Need-spell-cell-requires
 spell-cell-requires c κs = search needs

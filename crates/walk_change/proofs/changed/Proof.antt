@@ -25,19 +25,15 @@ abbrev μ-loop : tie.MeasureT-loop
 
 word-requires : tie.Need-word-requires Inv-loop μ-loop
 word-requires c κs =
-    let s = c .before .before in
-    let a = s .args in
-    let k = s .pre .0 in
-    let q = s .pre .1 in
-    omega (arith, back-bound (a .t .now) (k .start) (k .chain) (a .d) (a .w) (k .walked) (q .0))
+    let a = c .before .before .args in
+    let p = c .before .before .pre in
+    omega (arith, back-bound (a .t .now) (p .0 .start) (p .0 .chain) (a .d) (a .w) (p .0 .walked) (p .1 .0))
 
 sub-u : tie.Need-sub-u Inv-loop μ-loop
 sub-u c =
-    let s = c .before .before .before in
-    let a = s .args in
-    let k = s .pre .0 in
-    let q = s .pre .1 in
-    omega (arith, up-start (k .start) (k .chain) (a .d) (q .0) (a .t .now) (a .w) (k .walked) (c .word .result) (c .word .ensures) .0)
+    let a = c .before .before .before .args in
+    let p = c .before .before .before .pre in
+    omega (arith, up-start (p .0 .start) (p .0 .chain) (a .d) (p .1 .0) (a .t .now) (a .w) (p .0 .walked) (c .word .result) (c .word .ensures) .0)
 
 loop-holds : tie.Need-loop-holds Inv-loop μ-loop
 loop-holds c =
@@ -53,8 +49,7 @@ links-up-requires c κs =
     let k = s .pre .0 in
     let q = s .pre .1 in
     let l = c .loop in
-    let r = l .inv (a .w) refl refl (k .start) (k .chain) (q .0) (k .walked) in
-    let g = up-held (k .start) (k .chain) (a .d) (q .0) (a .t .now) (a .w) (k .walked) (l .u) (l .v) (l .sum) r in
+    let g = up-held (k .start) (k .chain) (a .d) (q .0) (a .t .now) (a .w) (k .walked) (l .u) (l .v) (l .sum) (l .inv (a .w) refl refl (k .start) (k .chain) (q .0) (k .walked)) in
     (g .0, q .0, g .2)
 
 rise-requires : tie.Need-rise-requires Inv-loop μ-loop
@@ -90,9 +85,7 @@ loop-less c =
     let q = s .pre .1 in
     let l = c .before .before .before .before .loop in
     let x = c .before .rise in
-    let r = l .inv (a .w) refl refl (k .start) (k .chain) (q .0) (k .walked) in
-    let h = sym (c .before .before .before .links-up .ensures) ∙ c .before .before .if1 .taken in
-    up-next (k .start) (k .chain) (a .d) (q .0) (a .t .now) (a .w) (k .walked) (l .u) (l .v) (l .sum) r h (x .result .u) (x .result .v) (x .result .count) (x .ensures .0) (x .ensures .1) (x .ensures .2) .0
+    up-next (k .start) (k .chain) (a .d) (q .0) (a .t .now) (a .w) (k .walked) (l .u) (l .v) (l .sum) (l .inv (a .w) refl refl (k .start) (k .chain) (q .0) (k .walked)) (sym (c .before .before .before .links-up .ensures) ∙ c .before .before .if1 .taken) (x .result .u) (x .result .v) (x .result .count) (x .ensures .0) (x .ensures .1) (x .ensures .2) .0
 
 loop-again : tie.Need-loop-again Inv-loop μ-loop
 loop-again c =
@@ -111,8 +104,7 @@ above-made-requires c κs =
     let k = s .pre .0 in
     let q = s .pre .1 in
     let l = c .before .before .loop in
-    let r = l .inv (a .w) refl refl (k .start) (k .chain) (q .0) (k .walked) in
-    let g = up-held (k .start) (k .chain) (a .d) (q .0) (a .t .now) (a .w) (k .walked) (l .u) (l .v) (l .sum) r in
+    let g = up-held (k .start) (k .chain) (a .d) (q .0) (a .t .now) (a .w) (k .walked) (l .u) (l .v) (l .sum) (l .inv (a .w) refl refl (k .start) (k .chain) (q .0) (k .walked)) in
     (g .1, omega (arith, g .0, q .2))
 
 add-result : tie.Need-add-result Inv-loop μ-loop
@@ -123,10 +115,8 @@ add-result c =
     let q = s .pre .1 in
     let l = c .before .before .before .loop in
     let r = l .inv (a .w) refl refl (k .start) (k .chain) (q .0) (k .walked) in
-    let h = sym (c .before .before .links-up .ensures) ∙ c .before .if1 .left in
-    let e = up-end (k .start) (k .chain) (a .d) (q .0) (a .t .now) (a .w) (k .walked) (l .u) (l .v) (l .sum) r h in
     let f = up-few (k .start) (k .chain) (a .d) (q .0) (a .t .now) (a .w) (k .walked) (l .u) (l .v) (l .sum) r in
-    omega (arith, c .above-made .ensures, e, f .1, q .2)
+    omega (arith, c .above-made .ensures, up-end (k .start) (k .chain) (a .d) (q .0) (a .t .now) (a .w) (k .walked) (l .u) (l .v) (l .sum) r (sym (c .before .before .links-up .ensures) ∙ c .before .if1 .left), f .1, q .2)
 
 returns : tie.Need-returns Inv-loop μ-loop
 returns c =

@@ -7,6 +7,7 @@ use lib.IntN.{ℤ, natAbs, _+ℤ_, +ℤ-idl}
 use lib.ListN.{take, drop, getD}
 use mir.Syntax.{w32}
 use mir.Val.{toZ, ofZ}
+use Rattle.answer.specs.Limits.{mostStart, farthest}
 use Rattle.trace.specs.Verdict.{sweepFrom}
 use Rattle.walk_corner.proofs.SignedLaws.{back}
 use Rattle.walk_facts.specs.Settled.{gain}
@@ -16,7 +17,7 @@ use Rattle.walk_facts.proofs.sweep.Tie as tie
 
 abbrev Inv-loop : tie.InvT-loop
 Inv-loop chain n at₀ sum₀ i₀ at sum i =
-    (i ≤ n) × (natAbs (at .0) ≤ 16384 + i) × (natAbs (at .1) ≤ 16384 + i) × (natAbs (toZ w32 sum) ≤ i * 32768) × (sweepFrom at₀ (take n chain) ≡ toZ w32 sum +ℤ sweepFrom at (drop i (take n chain)))
+    (i ≤ n) × (natAbs (at .0) ≤ mostStart + i) × (natAbs (at .1) ≤ mostStart + i) × (natAbs (toZ w32 sum) ≤ i * farthest) × (sweepFrom at₀ (take n chain) ≡ toZ w32 sum +ℤ sweepFrom at (drop i (take n chain)))
 
 abbrev μ-loop : tie.MeasureT-loop
 μ-loop chain n at₀ sum₀ i₀ at sum i = n - i
@@ -32,7 +33,7 @@ shared-slice-read-d c = omega (arith, c .before .before .before .before .pre .1)
 gained-requires : tie.Need-gained-requires Inv-loop μ-loop
 gained-requires c κs =
     let l = c .before .before .before .loop in
-    (omega (arith, l .inv .3, l .inv .0, c .before .before .before .before .before .pre .2), subst (λ (z : ℤ). natAbs z ≤ 32768) (sym (back (l .at .0) (c .struct-told .given .0 .1))) (omega (arith, l .inv .1, l .inv .0, c .before .before .before .before .before .pre .2)))
+    (omega (arith, l .inv .3, l .inv .0, c .before .before .before .before .before .pre .2), subst (λ (z : ℤ). natAbs z ≤ farthest) (sym (back (l .at .0) (c .struct-told .given .0 .1))) (omega (arith, l .inv .1, l .inv .0, c .before .before .before .before .before .pre .2)))
 
 moved-requires : tie.Need-moved-requires Inv-loop μ-loop
 moved-requires c κs = let l = c .before .before .before .before .loop in (omega (arith, l .inv .1, l .inv .0, c .before .before .before .before .before .before .pre .2), omega (arith, l .inv .2, l .inv .0, c .before .before .before .before .before .before .pre .2))

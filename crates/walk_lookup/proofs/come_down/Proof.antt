@@ -33,12 +33,6 @@ loop-holds c =
 sub-left : tie.Need-sub-left Inv-loop μ-loop
 sub-left c = omega (arith, c .loop-test .taken)
 
-up-by-requires : tie.Need-up-by-requires Inv-loop μ-loop
-up-by-requires c κs = search needs
-
-child-word-requires : tie.Need-child-word-requires Inv-loop μ-loop
-child-word-requires c κs = search needs
-
 word-requires : tie.Need-word-requires Inv-loop μ-loop
 word-requires c κs =
     let s = c .before .before .before .before .before .before in
@@ -49,9 +43,6 @@ word-requires c κs =
     let more : 0 < l .left = omega (arith, c .before .before .before .loop-test .taken) in
     let w : c .child-word .result ≡ childWord (upBy (l .left - 1) (a .c)) = c .child-word .ensures ∙ ap childWord (c .before .before .up-by .ensures) in
     omega (arith, step-word (l .t) (a .nodes) (l .at) (l .to) (a .c) (a .d) (a .step) (l .left) (k .state) (l .inv .2 (k .state) (k .descends)) more (q .2) (q .3) (l .inv .1), w)
-
-cast-at : tie.Need-cast-at Inv-loop μ-loop
-cast-at c = search needs
 
 sub-at : tie.Need-sub-at Inv-loop μ-loop
 sub-at c =
@@ -75,15 +66,9 @@ moved-requires c κs =
     let h = up-small (l .left - 1) (a .c) in
     (omega (arith, ap (λ (y : Corner). natAbs (y .0)) p, h .0, q .0), omega (arith, ap (λ (y : Corner). natAbs (y .1)) p, h .1, q .1))
 
-greater-requires : tie.Need-greater-requires Inv-loop μ-loop
-greater-requires c κs = search needs
-
 sub-child : tie.Need-sub-child Inv-loop μ-loop
 sub-child c =
     omega (arith, c .before .before .before .before .before .before .before .before .loop .inv .1)
-
-child-word-requires-2 : tie.Need-child-word-requires-2 Inv-loop μ-loop
-child-word-requires-2 c κs = search needs
 
 child-requires : tie.Need-child-requires Inv-loop μ-loop
 child-requires c κs =
@@ -100,9 +85,6 @@ child-requires c κs =
       record { state = raised (k .state) (a .step) (upBy (l .left - 1) (a .c)) (stepped (a .d) (upBy (l .left - 1) (a .c))); holds = subst (λ (x : ℕ). Holds (l .t) x (raised (k .state) (a .step) (upBy (l .left - 1) (a .c)) (stepped (a .d) (upBy (l .left - 1) (a .c))))) (sym n) (h .0) },
       (omega (arith, ref-below (raised (k .state) (a .step) (upBy (l .left - 1) (a .c)) (stepped (a .d) (upBy (l .left - 1) (a .c))) .nodes) (parentOf (stepped (a .d) (upBy (l .left - 1) (a .c)))) (l .to - 1) (h .1), h .0 .count, n), omega (arith, z, w .0), omega (arith, z, w .1), omega (arith, l .inv .0, q .4)),
     )
-
-same-length : tie.Need-same-length Inv-loop μ-loop
-same-length c = search needs
 
 returns : tie.Need-returns Inv-loop μ-loop
 returns c =
@@ -155,9 +137,6 @@ loop-again c =
     let next : (S : State) → Descends (a .t .now) (a .nodes) (a .u) (a .v) (a .c) (a .d) (a .step) (a .level) S → Descends (c .before .before .link .last .0) (a .nodes) (c .before .before .before .before .before .before .before .before .before .before .before .before .word .result - 1) (v .result) (a .c) (a .d) (a .step) (l .left - 1) S × (length (c .before .before .link .last .0) ≡ length (l .t)) = λ S x. step-next (l .t) (a .nodes) (l .at) (l .to) (a .c) (a .d) (a .step) (l .left) S (l .inv .2 S x) more (q .2) (q .3) (l .inv .1) (v .last .0) (v .result) (step-grew (l .t) (a .nodes) (l .at) (l .to) (a .c) (a .d) (a .step) (l .left) S (l .inv .2 S x) more (q .2) (q .3) (l .inv .1) (c .before .before .before .before .before .before .before .before .before .greater .result) (c .before .before .before .before .before .before .before .before .child-word2 .result) (c .before .before .before .before .before .before .before .before .before .greater .ensures) (c .before .before .before .before .before .before .before .before .child-word2 .ensures ∙ ap childWord (c .before .before .before .before .before .before .before .before .before .before .before .moved .ensures ∙ ap (stepped (a .d)) (c .before .before .before .before .before .before .before .before .before .before .before .before .before .before .before .up-by .ensures))) (c .before .before .before .before .before .before .before .child .last .0) (c .before .before .before .before .before .before .before .child .result) (c .before .before .before .before .before .before .before .child .ensures .0)) f (c .before .before .before .before .before .before .before .before .before .before .before .before .word .result - 1) (step-number (l .t) (a .nodes) (l .at) (l .to) (a .c) (a .d) (a .step) (l .left) S (l .inv .2 S x) more (q .2) (q .3) (l .inv .1) (c .before .before .before .before .before .before .before .before .before .before .before .before .word .result) r .1) (c .before .before .link .last .0) (c .before .before .link .ensures) in
     (next (k .state) (k .descends) .1 ∙ l .inv .0, omega (arith, f), λ S x. next S x .0)
 
-same-length-2 : tie.Need-same-length-2 Inv-loop μ-loop
-same-length-2 c = search needs
-
 returns-2 : tie.Need-returns-2 Inv-loop μ-loop
 returns-2 c =
     let s = c .before .before .before in
@@ -176,21 +155,21 @@ come-down-spec =
     μ-loop
     loop-holds
     sub-left
-    up-by-requires
-    child-word-requires
+    (λ c κs. search needs)
+    (λ c κs. search needs)
     word-requires
-    cast-at
+    (λ c. search needs)
     sub-at
     moved-requires
-    greater-requires
+    (λ c κs. search needs)
     sub-child
-    child-word-requires-2
+    (λ c κs. search needs)
     child-requires
-    same-length
+    (λ c. search needs)
     returns
     sub-link
     link-requires
     loop-less
     loop-again
-    same-length-2
+    (λ c. search needs)
     returns-2)

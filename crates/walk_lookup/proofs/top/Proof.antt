@@ -16,18 +16,6 @@ use Rattle.table_climb_laws.proofs.ClimbLaws.{top-raises, top-held, top-none, t
 use Rattle.walk_lookup.proofs.top.Statement.{statement}
 use Rattle.walk_lookup.proofs.top.Tie as tie
 
-add-word : tie.Need-add-word
-add-word c = search needs
-
-word-requires : tie.Need-word-requires
-word-requires c κs = search needs
-
-cast-known : tie.Need-cast-known
-cast-known c = search needs
-
-same-length : tie.Need-same-length
-same-length c = search needs
-
 returns : tie.Need-returns
 returns c =
     let s = c .before .before .before .before in
@@ -35,18 +23,6 @@ returns c =
     let q = s .pre .1 .0 in
     let w = c .before .word in
     λ S h r. near-last (a .t .now) (a .nodes) S h (length (a .t .now)) (a .step) (a .t .now) (w .result) (a .nodes) (a .c) (stepped (a .d) (a .c)) (near-known (a .t .now) (a .nodes) (a .u) (a .c) (a .d) (a .step) S h r (q .2) (q .3) (w .result) (w .ensures) (c .if1 .taken))
-
-moved-requires : tie.Need-moved-requires
-moved-requires c κs = search needs
-
-is-root-requires : tie.Need-is-root-requires
-is-root-requires c κs = search needs
-
-link-requires : tie.Need-link-requires
-link-requires c κs = search needs
-
-same-length-2 : tie.Need-same-length-2
-same-length-2 c = search needs
 
 returns-2 : tie.Need-returns-2
 returns-2 c =
@@ -61,9 +37,6 @@ returns-2 c =
     λ S h r. subst (λ (l : List ℕ). Made (length (a .t .now)) (reached S (a .step) (a .c) (stepped (a .d) (a .c))) (stepped (a .d) (a .c)) l 1 (max (a .nodes) 1)) (sym (c .before .before .link .ensures))
     (near-last (a .t .now) (a .nodes) S h (length (a .t .now)) (a .step) _ 1 (a .nodes) (a .c) (stepped (a .d) (a .c)) (near-root (a .t .now) (a .nodes) (a .u) (a .c) (a .d) (a .step) S h r (q .2) (q .3) none g))
 
-parent-or-self-requires : tie.Need-parent-or-self-requires
-parent-or-self-requires c κs = search needs
-
 sub-child : tie.Need-sub-child
 sub-child c =
     let s = c .before .before .before .before .before .before .before .before .before .before in
@@ -76,9 +49,6 @@ sub-child c =
     let m = c .before .before .before .before .before .moved .ensures in
     let g = ap isRoot (sym m) ∙ sym (c .before .before .before .before .is-root .ensures) ∙ c .before .before .before .if2 .left in
     omega (arith, top-raises (a .t .now) (a .nodes) (a .u) (a .c) (a .d) (a .step) (k .state) (k .holds) (k .here) (q .2) (q .3) (s .pre .1 .1) none g (c .before .parent-or-self .result) (c .before .parent-or-self .ensures) .0)
-
-child-word-requires : tie.Need-child-word-requires
-child-word-requires c κs = search needs
 
 child-requires : tie.Need-child-requires
 child-requires c κs =
@@ -96,9 +66,6 @@ child-requires c κs =
     let y = c .child-word .ensures in
     (record { state = raised (k .state) (a .step) (a .c) (stepped (a .d) (a .c)); holds = h .0 }, (omega (arith, ref-below (raised (k .state) (a .step) (a .c) (stepped (a .d) (a .c)) .nodes) (parentOf (stepped (a .d) (a .c))) (c .before .before .parent-or-self .result - 1) (h .1), h .0 .count), omega (arith, y, x .0), omega (arith, y, x .1), q .4))
 
-same-length-3 : tie.Need-same-length-3
-same-length-3 c = search needs
-
 returns-3 : tie.Need-returns-3
 returns-3 c =
     let s = c .before .before .before .before .before .before .before .before .before .before .before .before .before .before .before in
@@ -110,9 +77,6 @@ returns-3 c =
     let m = c .before .before .before .before .before .before .before .before .before .before .moved .ensures in
     let g = ap isRoot (sym m) ∙ sym (c .before .before .before .before .before .before .before .before .before .is-root .ensures) ∙ c .before .before .before .before .before .before .before .before .if2 .left in
     λ S h r. top-none (a .t .now) (a .nodes) (a .u) (a .c) (a .d) (a .step) S h r (q .2) (q .3) (s .pre .1 .1) none g (c .before .before .before .before .before .before .parent-or-self .result) (c .before .before .before .before .before .before .parent-or-self .ensures) (c .before .before .before .child .last .0) (c .before .before .before .child .result) (c .before .before .before .before .child-word .result) (c .before .before .before .before .child-word .ensures ∙ ap childWord m) (c .before .before .before .child .ensures .0) (c .if3 .taken)
-
-sub-link : tie.Need-sub-link
-sub-link c = search needs
 
 link-requires-2 : tie.Need-link-requires-2
 link-requires-2 c κs =
@@ -128,9 +92,6 @@ link-requires-2 c κs =
     let f : c .before .before .before .before .child .result ≡ 0 → ⊥ = λ y. c .before .if3 .left y in
     let l = top-bounds (a .t .now) (a .nodes) (a .u) (a .c) (a .d) (a .step) (k .state) (k .holds) (k .here) (q .2) (q .3) (s .pre .1 .1) none g (c .before .before .before .before .before .before .before .parent-or-self .result) (c .before .before .before .before .before .before .before .parent-or-self .ensures) (c .before .before .before .before .child .last .0) (c .before .before .before .before .child .result) (c .before .before .before .before .before .child-word .result) (c .before .before .before .before .before .child-word .ensures ∙ ap childWord m) (c .before .before .before .before .child .ensures .0) f in
     ((l .0, l .1), (q .2, omega (arith, l .2, q .4)))
-
-same-length-4 : tie.Need-same-length-4
-same-length-4 c = search needs
 
 returns-4 : tie.Need-returns-4
 returns-4 c =
@@ -149,23 +110,23 @@ pub top-spec : {M : Type 1} → statement M
 top-spec =
     tie.close
     (tie.spec
-    add-word
-    word-requires
-    cast-known
-    same-length
+    (λ c. search needs)
+    (λ c κs. search needs)
+    (λ c. search needs)
+    (λ c. search needs)
     returns
-    moved-requires
-    is-root-requires
-    link-requires
-    same-length-2
+    (λ c κs. search needs)
+    (λ c κs. search needs)
+    (λ c κs. search needs)
+    (λ c. search needs)
     returns-2
-    parent-or-self-requires
+    (λ c κs. search needs)
     sub-child
-    child-word-requires
+    (λ c κs. search needs)
     child-requires
-    same-length-3
+    (λ c. search needs)
     returns-3
-    sub-link
+    (λ c. search needs)
     link-requires-2
-    same-length-4
+    (λ c. search needs)
     returns-4)

@@ -12,12 +12,6 @@ use Rattle.walk_step.proofs.SpotLaws.{back-steps, back-bound, back-link
 use Rattle.walk_step.proofs.take_back.Statement.{statement}
 use Rattle.walk_step.proofs.take_back.Tie as tie
 
-add-b : tie.Need-add-b
-add-b c = search needs
-
-add-word : tie.Need-add-word
-add-word c = search needs
-
 word-requires : tie.Need-word-requires
 word-requires c κs =
     let s = c .before .before .before in
@@ -27,9 +21,6 @@ word-requires c κs =
     let dir = q .2 in
     let T = a .t .now in
     omega (arith, back-bound T (k .start) (k .chain) (a .d) (a .w) (k .walked) dir)
-
-cast-from : tie.Need-cast-from
-cast-from c = search needs
 
 sub-from : tie.Need-sub-from
 sub-from c =
@@ -69,9 +60,6 @@ unvisit-requires c κs =
     let o = c .before .before .before .untread in
     (subst (λ (n : ℕ). suc (a .w .node) * width ≤ n) (sym (o .kept .0)) (back-bound T (k .start) (k .chain) (a .d) (a .w) (k .walked) dir), back-visits T (k .start) (k .chain) (a .d) (a .w) (k .walked) dir (o .last .0) (e .result - 1) (o .ensures))
 
-cast-unlink-up : tie.Need-cast-unlink-up
-cast-unlink-up c = search needs
-
 unlink-up-requires : tie.Need-unlink-up-requires
 unlink-up-requires c κs =
     let s = c .before .before .before .before .before .before .before .before .before .before .before .before .before in
@@ -86,9 +74,6 @@ unlink-up-requires c κs =
     let v = c .before .before .before .unvisit in
     let u = back-unlinks T (k .start) (k .chain) (a .d) (a .w) (k .walked) dir (o .last .0) (v .last .0) (e .result - 1) (l .1) (o .ensures) (v .ensures) in
     record { state = stateOf (cornersFrom (k .start) (k .chain)); end = stepped (a .d) (endFrom (k .start) (k .chain)); holds = u .0 }
-
-cast-drop-up : tie.Need-cast-drop-up
-cast-drop-up c = search needs
 
 drop-up-requires : tie.Need-drop-up-requires
 drop-up-requires c κs =
@@ -107,12 +92,6 @@ drop-up-requires c κs =
     let u = back-unlinks T (k .start) (k .chain) (a .d) (a .w) (k .walked) dir (o .last .0) (v .last .0) (e .result - 1) (l .1) (o .ensures) (v .ensures) in
     record { state = S; holds = back-drops T (k .start) (k .chain) (a .d) (a .w) (k .walked) dir (v .last .0) (n .last .0) (u .1) (n .ensures S (stepped (a .d) (endFrom (k .start) (k .chain))) (u .0)) .0 }
 
-cast-moved : tie.Need-cast-moved
-cast-moved c = search needs
-
-moved-requires : tie.Need-moved-requires
-moved-requires c κs = search needs
-
 sub-t16 : tie.Need-sub-t16
 sub-t16 c =
     let s = c .before .before .before .before .before .before .before .before .before .before .before .before .before .before .before .before .before .before .before .before .before in
@@ -122,9 +101,6 @@ sub-t16 c =
     let dir = q .2 in
     let T = a .t .now in
     omega (arith, back-steps T (k .start) (k .chain) (a .d) (a .w) (k .walked) dir)
-
-same-length : tie.Need-same-length
-same-length c = search needs
 
 returns : tie.Need-returns
 returns c =
@@ -149,19 +125,19 @@ pub take-back-spec : {M : Type 1} → statement M
 take-back-spec =
     tie.close
     (tie.spec
-    add-b
-    add-word
+    (λ c. search needs)
+    (λ c. search needs)
     word-requires
-    cast-from
+    (λ c. search needs)
     sub-from
     untread-requires
     unvisit-requires
-    cast-unlink-up
+    (λ c. search needs)
     unlink-up-requires
-    cast-drop-up
+    (λ c. search needs)
     drop-up-requires
-    cast-moved
-    moved-requires
+    (λ c. search needs)
+    (λ c κs. search needs)
     sub-t16
-    same-length
+    (λ c. search needs)
     returns)

@@ -4,6 +4,7 @@ use mathlib.Core.Path.{refl}
 use Prim.Native.Nat.{_-_}
 use native.Mathlib.Omega.{arith}
 use borrow.Author.Needs.{needs}
+use Rattle.answer.specs.Limits.{noMeeting}
 use Rattle.walk_step.specs.declared.Tally.{Tally}
 use Rattle.walk_step.proofs.TallyLaws.{tally-bound, untally-new, untally-same, untally-meets}
 use Rattle.walk_step.proofs.untallied.Statement.{statement}
@@ -37,7 +38,7 @@ returns-2 c =
     let k = s .pre .0 in
     let T = a .t .now in
     let v = c .before .before .word in
-    let r : Tally = record { corners = a .m .corners; j = 65535; k = 65535 } in
+    let r : Tally = record { corners = a .m .corners; j = noMeeting; k = noMeeting } in
     λ x ds h n. untally-meets T x ds (a .d) (a .w) h (a .m) n (v .result) (v .ensures) (c .before .if1 .left) (c .if2 .taken) (s .pre .1 .0) r refl refl refl
 
 returns-3 : tie.Need-returns-3

@@ -1,7 +1,8 @@
 -- `worked::limits::east` ends and stays within its buffers.
 -- Assumes nothing.
 use mathlib.Core.Path.{refl, sym}
-use Prim.Native.Nat.{_*_}
+use Prim.Native.Nat.{suc, _*_}
+use Rattle.answer.specs.Limits.{mostInput, mostSteps}
 use Rattle.layout.specs.Marks.{markWords}
 use Rattle.layout.specs.Table.{width}
 use Rattle.worked.proofs.Parts.{taken, within}
@@ -9,28 +10,28 @@ use Rattle.worked.proofs.limits.east.Statement.{statement}
 use Rattle.worked.proofs.limits.east.Tie as tie
 
 array-share-prefix-ops : tie.Need-array-share-prefix-ops
-array-share-prefix-ops c = within 32769 0 (c .before .before .before .before .before .args .n) (c .before .before .before .before .before .pre .0 .0)
+array-share-prefix-ops c = within (suc mostInput) 0 (c .before .before .before .before .before .args .n) (c .before .before .before .before .before .pre .0 .0)
 
 slice-aggregate-walked : tie.Need-slice-aggregate-walked
-slice-aggregate-walked c = sym (taken 32769 0 (c .before .before .before .before .before .before .args .n) (c .before .before .before .before .before .before .pre .0 .0))
+slice-aggregate-walked c = sym (taken (suc mostInput) 0 (c .before .before .before .before .before .before .args .n) (c .before .before .before .before .before .before .pre .0 .0))
 
 array-borrow-prefix-t : tie.Need-array-borrow-prefix-t
-array-borrow-prefix-t c = within (16385 * width) 7 (c .before .before .before .before .before .before .args .words) (c .before .before .before .before .before .before .pre .0 .1)
+array-borrow-prefix-t c = within (suc mostSteps * width) 7 (c .before .before .before .before .before .before .args .words) (c .before .before .before .before .before .before .pre .0 .1)
 
 slice-aggregate-walked-2 : tie.Need-slice-aggregate-walked-2
-slice-aggregate-walked-2 c = sym (taken (16385 * width) 7 (c .before .before .before .before .before .before .before .args .words) (c .before .before .before .before .before .before .before .pre .0 .1))
+slice-aggregate-walked-2 c = sym (taken (suc mostSteps * width) 7 (c .before .before .before .before .before .before .before .args .words) (c .before .before .before .before .before .before .before .pre .0 .1))
 
 array-borrow-prefix-m : tie.Need-array-borrow-prefix-m
-array-borrow-prefix-m c = within (16385 * markWords) 7 (c .before .before .before .before .before .before .before .args .marks) (c .before .before .before .before .before .before .before .pre .1 .0)
+array-borrow-prefix-m c = within (suc mostSteps * markWords) 7 (c .before .before .before .before .before .before .before .args .marks) (c .before .before .before .before .before .before .before .pre .1 .0)
 
 slice-aggregate-walked-3 : tie.Need-slice-aggregate-walked-3
-slice-aggregate-walked-3 c = sym (taken (16385 * markWords) 7 (c .before .before .before .before .before .before .before .before .args .marks) (c .before .before .before .before .before .before .before .before .pre .1 .0))
+slice-aggregate-walked-3 c = sym (taken (suc mostSteps * markWords) 7 (c .before .before .before .before .before .before .before .before .args .marks) (c .before .before .before .before .before .before .before .before .pre .1 .0))
 
 array-borrow-prefix-c : tie.Need-array-borrow-prefix-c
-array-borrow-prefix-c c = within 16385 7 (c .before .before .before .before .before .before .before .before .args .chain) (c .before .before .before .before .before .before .before .before .pre .1 .1)
+array-borrow-prefix-c c = within (suc mostSteps) 7 (c .before .before .before .before .before .before .before .before .args .chain) (c .before .before .before .before .before .before .before .before .pre .1 .1)
 
 slice-aggregate-walked-4 : tie.Need-slice-aggregate-walked-4
-slice-aggregate-walked-4 c = sym (taken 16385 7 (c .before .before .before .before .before .before .before .before .before .args .chain) (c .before .before .before .before .before .before .before .before .before .pre .1 .1))
+slice-aggregate-walked-4 c = sym (taken (suc mostSteps) 7 (c .before .before .before .before .before .before .before .before .before .args .chain) (c .before .before .before .before .before .before .before .before .before .pre .1 .1))
 
 pub east-spec : {M : Type 1} → statement M
 east-spec =

@@ -3,7 +3,7 @@
 use mathlib.Core.List.{[], _∷_}
 use mathlib.Core.Path.{_≡_, refl}
 use lib.ListN.{length, replicate}
-use Rattle.line_stream.specs.Stream.{lineLength, keptOf, passedOf, heldOf}
+use Rattle.line_frame.specs.Begun.{lineLength, keptOf, passedOf, heldOf}
 
 -- a line with its line feed, and not what comes after it
 line-passed : passedOf (48 ∷ 10 ∷ 49 ∷ []) ≡ 2

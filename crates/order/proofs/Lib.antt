@@ -1,0 +1,2 @@
+-- The law of the greatest byte.
+pub mod MostLaws
