@@ -5,17 +5,11 @@ use Rattle.answer.proofs.StartLaws.{start-out, start-in}
 use Rattle.answer.proofs.start_fits.Statement.{statement}
 use Rattle.answer.proofs.start_fits.Tie as tie
 
-in-range-requires : tie.Need-in-range-requires
-in-range-requires c κs = search needs
-
 returns : tie.Need-returns
 returns c =
     let s = c .before .before .before in
     let r = c .before .in-range in
     start-out (s .before .args .c) (r .result) (s .struct-told .given .0 .1) (r .ensures) (c .if1 .taken)
-
-in-range-requires-2 : tie.Need-in-range-requires-2
-in-range-requires-2 c κs = search needs
 
 returns-2 : tie.Need-returns-2
 returns-2 c =
@@ -24,4 +18,4 @@ returns-2 c =
     start-in (s .before .args .c) (r .result) (c .in-range2 .result) (s .struct-told .given .0 .1) (r .ensures) (c .before .if1 .left) (s .struct-told .given .1 .0 .1) (c .in-range2 .ensures)
 
 pub start-fits-spec : {M : Type 1} → statement M
-start-fits-spec = tie.close (tie.spec in-range-requires returns in-range-requires-2 returns-2)
+start-fits-spec = tie.close (tie.spec (λ c κs. search needs) returns (λ c κs. search needs) returns-2)

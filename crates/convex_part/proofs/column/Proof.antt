@@ -7,9 +7,6 @@ use borrow.Author.Needs.{needs}
 use Rattle.convex_part.proofs.column.Statement.{statement}
 use Rattle.convex_part.proofs.column.Tie as tie
 
-cast-result : tie.Need-cast-result
-cast-result c = search needs
-
 add-result : tie.Need-add-result
 add-result c = omega (arith, test-le (eqb (c .args .d) 0))
 
@@ -17,4 +14,4 @@ returns : tie.Need-returns
 returns c = column-by (c .args .k) (c .args .d)
 
 pub column-spec : {M : Type 1} → statement M
-column-spec = tie.close (tie.spec cast-result add-result returns)
+column-spec = tie.close (tie.spec (λ c. search needs) add-result returns)

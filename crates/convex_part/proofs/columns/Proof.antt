@@ -8,17 +8,11 @@ use Rattle.convex_part.proofs.PassLaws.{scan-rises, columns-level}
 use Rattle.convex_part.proofs.columns.Statement.{statement}
 use Rattle.convex_part.proofs.columns.Tie as tie
 
-scan-requires : tie.Need-scan-requires
-scan-requires c κs = search needs
-
 along-requires : tie.Need-along-requires
 along-requires c κs =
     let s = c .before .before .before .scan in
     let a = c .before .before .before .before .before .before .before .args in
     (scan-rises (a .ys .now) (s .last .1 .1 .0) (s .result) (length (a .ys .now)) (s .ensures .chain) (s .ensures .begins) (omega arith), omega arith)
-
-same-length : tie.Need-same-length
-same-length c = search needs
 
 returns : tie.Need-returns
 returns c =
@@ -27,4 +21,4 @@ returns c =
     c .along .ensures ∙ columns-level (a .ys .now) (drop (s .result) (s .last .1 .1 .0)) (s .ensures .chain)
 
 pub columns-spec : {M : Type 1} → statement M
-columns-spec = tie.close (tie.spec scan-requires along-requires same-length returns)
+columns-spec = tie.close (tie.spec (λ c κs. search needs) along-requires (λ c. search needs) returns)

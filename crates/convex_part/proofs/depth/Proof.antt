@@ -8,9 +8,6 @@ use borrow.Author.Needs.{needs}
 use Rattle.convex_part.proofs.depth.Statement.{statement}
 use Rattle.convex_part.proofs.depth.Tie as tie
 
-cast-result : tie.Need-cast-result
-cast-result c = search needs
-
 sub-result : tie.Need-sub-result
 sub-result c = omega (arith, test-le (not (eqb (c .args .d) 0)))
 
@@ -18,4 +15,4 @@ returns : tie.Need-returns
 returns c = depth-by (c .args .y) (c .args .d)
 
 pub depth-spec : {M : Type 1} → statement M
-depth-spec = tie.close (tie.spec cast-result sub-result returns)
+depth-spec = tie.close (tie.spec (λ c. search needs) sub-result returns)

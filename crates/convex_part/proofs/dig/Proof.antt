@@ -18,20 +18,11 @@ Inv-loop part turn ys₀ y₀ k₀ i₀ ys y k i = (k ≤ i) × (i ≤ length pa
 abbrev μ-loop : tie.MeasureT-loop
 μ-loop part turn ys₀ y₀ k₀ i₀ ys y k i = length part - i
 
-cast-y : tie.Need-cast-y Inv-loop μ-loop
-cast-y c = search needs
-
 loop-holds : tie.Need-loop-holds Inv-loop μ-loop
 loop-holds c = (omega arith, omega arith, omega arith, refl, refl)
 
-mul-ys : tie.Need-mul-ys Inv-loop μ-loop
-mul-ys c = search needs
-
 slice-write-ys : tie.Need-slice-write-ys Inv-loop μ-loop
 slice-write-ys c = let l = c .before .loop in omega (arith, l .inv .0, l .inv .3)
-
-shared-slice-read-letter : tie.Need-shared-slice-read-letter Inv-loop μ-loop
-shared-slice-read-letter c = search needs
 
 letter-requires : tie.Need-letter-requires Inv-loop μ-loop
 letter-requires c κs = (c .before .before .before .before .before .pre .0 .digits (c .before .before .loop .i), c .before .before .before .before .before .pre .1)
@@ -41,12 +32,6 @@ column-requires c κs = let l = c .before .before .before .loop in omega (arith,
 
 depth-requires : tie.Need-depth-requires Inv-loop μ-loop
 depth-requires c κs = let l = c .before .before .before .before .loop in omega (arith, l .inv .2)
-
-add-i : tie.Need-add-i Inv-loop μ-loop
-add-i c = search needs
-
-loop-less : tie.Need-loop-less Inv-loop μ-loop
-loop-less c = search needs
 
 loop-again : tie.Need-loop-again Inv-loop μ-loop
 loop-again c =
@@ -63,17 +48,11 @@ loop-again c =
           ∙ dig-step (a .part .now) (a .turn) (l .ys) (l .k) (l .y) (l .i) d (depthsFrom (length (a .part .now)) (turnedBy (a .turn) (a .part .now))) (omega arith) (c .before .before .letter .ensures) (omega (arith, l .inv .0, l .inv .3)) (l .inv .4),
     )
 
-mul-ys-2 : tie.Need-mul-ys-2 Inv-loop μ-loop
-mul-ys-2 c = search needs
-
 slice-write-ys-2 : tie.Need-slice-write-ys-2 Inv-loop μ-loop
 slice-write-ys-2 c = let l = c .before .loop in omega (arith, l .inv .0, l .inv .3)
 
 add-result : tie.Need-add-result Inv-loop μ-loop
 add-result c = let l = c .before .loop in omega (arith, l .inv .0)
-
-same-length : tie.Need-same-length Inv-loop μ-loop
-same-length c = search needs
 
 returns : tie.Need-returns Inv-loop μ-loop
 returns c =
@@ -87,19 +66,19 @@ dig-spec =
     (tie.spec
     Inv-loop
     μ-loop
-    cast-y
+    (λ c. search needs)
     loop-holds
-    mul-ys
+    (λ c. search needs)
     slice-write-ys
-    shared-slice-read-letter
+    (λ c. search needs)
     letter-requires
     column-requires
     depth-requires
-    add-i
-    loop-less
+    (λ c. search needs)
+    (λ c. search needs)
     loop-again
-    mul-ys-2
+    (λ c. search needs)
     slice-write-ys-2
     add-result
-    same-length
+    (λ c. search needs)
     returns)

@@ -16,9 +16,6 @@ Inv-loop ys p b c₀ c = (p + 1 ≤ c) × (c ≤ b) × (levels ys p b c (b - c) 
 abbrev μ-loop : tie.MeasureT-loop
 μ-loop ys p b c₀ c = b - c
 
-add-c : tie.Need-add-c Inv-loop μ-loop
-add-c c = search needs
-
 loop-holds : tie.Need-loop-holds Inv-loop μ-loop
 loop-holds c = (omega arith, omega arith, refl)
 
@@ -30,12 +27,6 @@ returns c =
     let l = c .before .before .before .loop in
     let a = c .before .before .before .before .before .args in
     sym (levels-here (a .ys .now) (a .p) (a .b) (l .c) (omega arith) (sym (c .before .stands .ensures) ∙ not-true (c .before .stands .result) (c .if1 .taken))) ∙ l .inv .2
-
-add-c-2 : tie.Need-add-c-2 Inv-loop μ-loop
-add-c-2 c = search needs
-
-loop-less : tie.Need-loop-less Inv-loop μ-loop
-loop-less c = search needs
 
 loop-again : tie.Need-loop-again Inv-loop μ-loop
 loop-again c =
@@ -55,11 +46,11 @@ edge-spec =
     (tie.spec
     Inv-loop
     μ-loop
-    add-c
+    (λ c. search needs)
     loop-holds
     stands-requires
     returns
-    add-c-2
-    loop-less
+    (λ c. search needs)
+    (λ c. search needs)
     loop-again
     returns-2)

@@ -11,19 +11,10 @@ use Rattle.convex_part.proofs.PassLaws.{length-turned, judge-letters, j
 use Rattle.convex_part.proofs.judge.Statement.{statement}
 use Rattle.convex_part.proofs.judge.Tie as tie
 
-plain-requires : tie.Need-plain-requires
-plain-requires c κs = search needs
-
 returns : tie.Need-returns
 returns c =
     let a = c .before .before .before .before .before .args in
     judge-letters (turnedBy (a .turn) (a .part .now)) (sym (c .before .plain .ensures) ∙ not-true (c .before .plain .result) (c .if1 .taken))
-
-dig-requires : tie.Need-dig-requires
-dig-requires c κs = search needs
-
-slice-reshare-prefix-columns : tie.Need-slice-reshare-prefix-columns
-slice-reshare-prefix-columns c = search needs
 
 slice-aggregate-columns : tie.Need-slice-aggregate-columns
 slice-aggregate-columns c =
@@ -35,12 +26,6 @@ columns-requires c κs =
     let d = c .before .before .before .before .dig in
     let l = length-take-le (d .result) (d .last .1 .1 .0) (omega (arith, d .ensures .1, d .kept .1 .1 .0)) in
     (omega (arith, l, d .ensures .1), omega (arith, l, d .ensures .1))
-
-same-length : tie.Need-same-length
-same-length c = search needs
-
-same-length-2 : tie.Need-same-length-2
-same-length-2 c = search needs
 
 returns-2 : tie.Need-returns-2
 returns-2 c =
@@ -55,12 +40,12 @@ pub judge-spec : {M : Type 1} → statement M
 judge-spec =
     tie.close
     (tie.spec
-    plain-requires
+    (λ c κs. search needs)
     returns
-    dig-requires
-    slice-reshare-prefix-columns
+    (λ c κs. search needs)
+    (λ c. search needs)
     slice-aggregate-columns
     columns-requires
-    same-length
-    same-length-2
+    (λ c. search needs)
+    (λ c. search needs)
     returns-2)

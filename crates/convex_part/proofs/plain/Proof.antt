@@ -20,9 +20,6 @@ abbrev μ-loop : tie.MeasureT-loop
 loop-holds : tie.Need-loop-holds Inv-loop μ-loop
 loop-holds c = refl
 
-shared-slice-read-letter : tie.Need-shared-slice-read-letter Inv-loop μ-loop
-shared-slice-read-letter c = search needs
-
 letter-requires : tie.Need-letter-requires Inv-loop μ-loop
 letter-requires c κs = (c .before .before .before .before .pre .0 .digits (c .before .before .loop .i), c .before .before .before .before .pre .1)
 
@@ -31,12 +28,6 @@ returns c =
     let l = c .before .before .before .before .loop in
     let a = c .before .before .before .before .before .before .args in
     letters-here (a .part .now) (a .turn) (l .i) (c .before .letter .result) (omega arith) (c .before .letter .ensures) (omega arith) ∙ l .inv
-
-add-i : tie.Need-add-i Inv-loop μ-loop
-add-i c = search needs
-
-loop-less : tie.Need-loop-less Inv-loop μ-loop
-loop-less c = search needs
 
 loop-again : tie.Need-loop-again Inv-loop μ-loop
 loop-again c =
@@ -57,10 +48,10 @@ plain-spec =
     Inv-loop
     μ-loop
     loop-holds
-    shared-slice-read-letter
+    (λ c. search needs)
     letter-requires
     returns
-    add-i
-    loop-less
+    (λ c. search needs)
+    (λ c. search needs)
     loop-again
     returns-2)

@@ -17,9 +17,6 @@ abbrev μ-loop : tie.MeasureT-loop
 loop-holds : tie.Need-loop-holds Inv-loop μ-loop
 loop-holds c = sums-start (c .before .args .chain .now)
 
-shared-slice-read-d : tie.Need-shared-slice-read-d Inv-loop μ-loop
-shared-slice-read-d c = search needs
-
 north-requires : tie.Need-north-requires Inv-loop μ-loop
 north-requires c κs = let w = c .before .before .loop .inv in omega (arith, w .east)
 
@@ -41,12 +38,6 @@ add-down c =
 column-requires : tie.Need-column-requires Inv-loop μ-loop
 column-requires c κs = let w = c .before .before .before .before .loop .inv in (omega (arith, w .west), omega (arith, w .east))
 
-add-i : tie.Need-add-i Inv-loop μ-loop
-add-i c = search needs
-
-loop-less : tie.Need-loop-less Inv-loop μ-loop
-loop-less c = search needs
-
 loop-again : tie.Need-loop-again Inv-loop μ-loop
 loop-again c =
     let l = c .before .before .before .before .before .loop in
@@ -65,13 +56,13 @@ leftward-spec =
     Inv-loop
     μ-loop
     loop-holds
-    shared-slice-read-d
+    (λ c. search needs)
     north-requires
     add-up
     south-requires
     add-down
     column-requires
-    add-i
-    loop-less
+    (λ c. search needs)
+    (λ c. search needs)
     loop-again
     returns)

@@ -7,9 +7,6 @@ use Rattle.convex_place.proofs.SumLaws.{times-le, north-by}
 use Rattle.convex_place.proofs.north.Statement.{statement}
 use Rattle.convex_place.proofs.north.Tie as tie
 
-cast-result : tie.Need-cast-result
-cast-result c = search needs
-
 mul-result : tie.Need-mul-result
 mul-result c = omega (arith, c .pre, times-le (c .args .x) (eqb (c .args .d) 1))
 
@@ -17,4 +14,4 @@ returns : tie.Need-returns
 returns c = north-by (c .args .x) (c .args .d)
 
 pub north-spec : {M : Type 1} → statement M
-north-spec = tie.close (tie.spec cast-result mul-result returns)
+north-spec = tie.close (tie.spec (λ c. search needs) mul-result returns)

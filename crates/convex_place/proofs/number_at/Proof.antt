@@ -8,9 +8,6 @@ use Rattle.convex_place.proofs.FindLaws.{rank-le}
 use Rattle.convex_place.proofs.number_at.Statement.{statement}
 use Rattle.convex_place.proofs.number_at.Tie as tie
 
-number-requires : tie.Need-number-requires
-number-requires c κs = search needs
-
 mul-result : tie.Need-mul-result
 mul-result c = let a = c .before .args in omega (arith, c .number .ensures, rank-le (a .turn) (a .x) (a .y) (c .before .pre .0) (c .before .pre .1))
 
@@ -21,4 +18,4 @@ returns : tie.Need-returns
 returns c = ap (λ (n : ℕ). n * 32768 + c .before .args .i) (c .number .ensures)
 
 pub number-at-spec : {M : Type 1} → statement M
-number-at-spec = tie.close (tie.spec number-requires mul-result add-result returns)
+number-at-spec = tie.close (tie.spec (λ c κs. search needs) mul-result add-result returns)

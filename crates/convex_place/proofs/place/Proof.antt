@@ -14,16 +14,10 @@ Inv-loop chain turn x₀ y₀ least₀ i₀ x y least i = Seeks chain turn x y l
 abbrev μ-loop : tie.MeasureT-loop
 μ-loop chain turn x₀ y₀ least₀ i₀ x y least i = length chain - i
 
-number-at-requires : tie.Need-number-at-requires Inv-loop μ-loop
-number-at-requires c κs = search needs
-
 loop-holds : tie.Need-loop-holds Inv-loop μ-loop
 loop-holds c =
     let a = c .before .before .args in
     seeks-start (a .chain .now) (a .turn) (c .number-at .result) (c .number-at .ensures)
-
-shared-slice-read-d : tie.Need-shared-slice-read-d Inv-loop μ-loop
-shared-slice-read-d c = search needs
 
 column-requires : tie.Need-column-requires Inv-loop μ-loop
 column-requires c κs = let w = c .before .before .loop .inv in (omega (arith, w .west), omega (arith, w .east))
@@ -31,20 +25,11 @@ column-requires c κs = let w = c .before .before .loop .inv in (omega (arith, w
 height-requires : tie.Need-height-requires Inv-loop μ-loop
 height-requires c κs = let w = c .before .before .before .loop .inv in (omega (arith, w .south), omega (arith, w .north))
 
-add-i : tie.Need-add-i Inv-loop μ-loop
-add-i c = search needs
-
 number-at-requires-2 : tie.Need-number-at-requires-2 Inv-loop μ-loop
 number-at-requires-2 c κs =
     let l = c .before .before .before .before .loop in
     let a = c .before .before .before .before .before .before .before .args in
     seeks-near (a .chain .now) (a .turn) (l .x) (l .y) (l .least) (l .i) (l .inv) (c .before .column .result) (c .height .result) (omega arith) (omega arith) (c .before .column .ensures) (c .height .ensures)
-
-lesser-requires : tie.Need-lesser-requires Inv-loop μ-loop
-lesser-requires c κs = search needs
-
-loop-less : tie.Need-loop-less Inv-loop μ-loop
-loop-less c = search needs
 
 loop-again : tie.Need-loop-again Inv-loop μ-loop
 loop-again c =
@@ -67,14 +52,14 @@ place-spec =
     (tie.spec
     Inv-loop
     μ-loop
-    number-at-requires
+    (λ c κs. search needs)
     loop-holds
-    shared-slice-read-d
+    (λ c. search needs)
     column-requires
     height-requires
-    add-i
+    (λ c. search needs)
     number-at-requires-2
-    lesser-requires
-    loop-less
+    (λ c κs. search needs)
+    (λ c. search needs)
     loop-again
     returns)

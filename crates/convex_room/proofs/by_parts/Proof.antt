@@ -12,15 +12,6 @@ returns c = let a = c .before .before .before .before .args in late-second (a .r
 returns-2 : tie.Need-returns-2
 returns-2 c = let a = c .before .before .before .before .before .args in late-third (a .room .now) (a .j) (a .k) (a .l) (omega arith) (c .if2 .taken)
 
-half-requires : tie.Need-half-requires
-half-requires c κs = search needs
-
-same-length : tie.Need-same-length
-same-length c = search needs
-
-same-length-2 : tie.Need-same-length-2
-same-length-2 c = search needs
-
 returns-3 : tie.Need-returns-3
 returns-3 c =
     let z = c .before .before .before .before .before .before .before .before .before .before .before .before .before in
@@ -30,12 +21,6 @@ returns-3 c =
 
 half-requires-2 : tie.Need-half-requires-2
 half-requires-2 c κs = let z = c .before .before .before .before .before .before .before .before .before .before .before .before .before .before .before in (z .pre .0, omega arith, omega arith, omega arith, omega arith, omega arith, omega arith, omega arith)
-
-same-length-3 : tie.Need-same-length-3
-same-length-3 c = search needs
-
-same-length-4 : tie.Need-same-length-4
-same-length-4 c = search needs
 
 returns-4 : tie.Need-returns-4
 returns-4 c =
@@ -51,11 +36,11 @@ by-parts-spec =
     (tie.spec
     returns
     returns-2
-    half-requires
-    same-length
-    same-length-2
+    (λ c κs. search needs)
+    (λ c. search needs)
+    (λ c. search needs)
     returns-3
     half-requires-2
-    same-length-3
-    same-length-4
+    (λ c. search needs)
+    (λ c. search needs)
     returns-4)

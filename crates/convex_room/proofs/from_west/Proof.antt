@@ -7,25 +7,10 @@ use native.Mathlib.Omega.{arith}
 use Rattle.convex_room.proofs.from_west.Statement.{statement}
 use Rattle.convex_room.proofs.from_west.Tie as tie
 
-place-requires : tie.Need-place-requires
-place-requires c κs = search needs
-
-place-requires-2 : tie.Need-place-requires-2
-place-requires-2 c κs = search needs
-
-place-requires-3 : tie.Need-place-requires-3
-place-requires-3 c κs = search needs
-
 by-parts-requires : tie.Need-by-parts-requires
 by-parts-requires c κs =
     let z = c .before .before .before .before .before .before .before .before in
     (z .pre .0, omega (arith, c .before .before .place3 .ensures, place-within 3 (z .args .room .now) (z .pre .1)), z .pre .2, z .pre .3, z .pre .4)
-
-same-length : tie.Need-same-length
-same-length c = search needs
-
-same-length-2 : tie.Need-same-length-2
-same-length-2 c = search needs
 
 returns : tie.Need-returns
 returns c =
@@ -37,10 +22,10 @@ pub from-west-spec : {M : Type 1} → statement M
 from-west-spec =
     tie.close
     (tie.spec
-    place-requires
-    place-requires-2
-    place-requires-3
+    (λ c κs. search needs)
+    (λ c κs. search needs)
+    (λ c κs. search needs)
     by-parts-requires
-    same-length
-    same-length-2
+    (λ c. search needs)
+    (λ c. search needs)
     returns)

@@ -9,15 +9,6 @@ use native.Mathlib.Omega.{arith}
 use Rattle.convex_room.proofs.in_store.Statement.{statement}
 use Rattle.convex_room.proofs.in_store.Tie as tie
 
-leftward-requires : tie.Need-leftward-requires
-leftward-requires c κs = search needs
-
-lay-requires : tie.Need-lay-requires
-lay-requires c κs = search needs
-
-slice-reshare-prefix-place : tie.Need-slice-reshare-prefix-place
-slice-reshare-prefix-place c = search needs
-
 slice-aggregate-place : tie.Need-slice-aggregate-place
 slice-aggregate-place c =
     let z = c .before .before .before .before .before .before .before .before .before .before in
@@ -43,12 +34,6 @@ add-from-west c =
     let p = c .place in
     omega (arith, z .pre .short, store-near (a .chain .now) o (c .before .before .before .before .before .before .leftward .result) (z .pre .digits) (z .pre .short) (omega (arith, z .pre .out-room, y .kept .1 .1 .0)) (y .ensures) (p .result) (p .ensures))
 
-sub-from-west : tie.Need-sub-from-west
-sub-from-west c = search needs
-
-part-from-west-start : tie.Need-part-from-west-start
-part-from-west-start c = search needs
-
 part-from-west-end : tie.Need-part-from-west-end
 part-from-west-end c =
     let z = c .before .before .before .before .before .before .before .before .before .before .before .before in
@@ -69,15 +54,6 @@ from-west-requires c κs =
     let n = store-length (a .chain .now) o b (z .pre .digits) (z .pre .short) (omega (arith, z .pre .out-room, y .kept .1 .1 .0)) (y .ensures) (p .result) (p .ensures) in
     (store-digits (a .chain .now) o b (z .pre .digits) (z .pre .short) (omega (arith, z .pre .out-room, y .kept .1 .1 .0)) (y .ensures) (p .result) (p .ensures), omega (arith, n, z .pre .short), omega (arith, n, z .pre .depths), omega (arith, n, z .pre .stack), z .pre .narrow)
 
-same-length : tie.Need-same-length
-same-length c = search needs
-
-same-length-2 : tie.Need-same-length-2
-same-length-2 c = search needs
-
-same-length-3 : tie.Need-same-length-3
-same-length-3 c = search needs
-
 returns : tie.Need-returns
 returns c =
     let z = c .before .before .before .before .before .before .before .before .before .before .before .before .before .before .before .before .before .before .before .before in
@@ -92,17 +68,17 @@ pub in-store-spec : {M : Type 1} → statement M
 in-store-spec =
     tie.close
     (tie.spec
-    leftward-requires
-    lay-requires
-    slice-reshare-prefix-place
+    (λ c κs. search needs)
+    (λ c κs. search needs)
+    (λ c. search needs)
     slice-aggregate-place
     place-requires
     add-from-west
-    sub-from-west
-    part-from-west-start
+    (λ c. search needs)
+    (λ c. search needs)
     part-from-west-end
     from-west-requires
-    same-length
-    same-length-2
-    same-length-3
+    (λ c. search needs)
+    (λ c. search needs)
+    (λ c. search needs)
     returns)

@@ -20,26 +20,14 @@ abbrev μ-loop : tie.MeasureT-loop
 loop-holds : tie.Need-loop-holds Inv-loop μ-loop
 loop-holds c = let a = c .before .before .args in (omega arith, refl, laid-none (travelled (a .back) (a .chain .now)) (length (a .chain .now)) (a .out .now))
 
-step-at-requires : tie.Need-step-at-requires Inv-loop μ-loop
-step-at-requires c κs = search needs
-
 slice-write-out : tie.Need-slice-write-out Inv-loop μ-loop
 slice-write-out c = let z = c .before .before .before .before .before in omega (arith, c .before .before .loop .inv .1, z .pre .1)
-
-add-out : tie.Need-add-out Inv-loop μ-loop
-add-out c = search needs
 
 slice-write-out-2 : tie.Need-slice-write-out-2 Inv-loop μ-loop
 slice-write-out-2 c =
     let z = c .before .before .before .before .before in
     let l = c .before .before .loop in
     omega (arith, l .inv .1, z .pre .1, length-set (l .out) (l .i) (c .step-at .result))
-
-add-i : tie.Need-add-i Inv-loop μ-loop
-add-i c = search needs
-
-loop-less : tie.Need-loop-less Inv-loop μ-loop
-loop-less c = search needs
 
 loop-again : tie.Need-loop-again Inv-loop μ-loop
 loop-again c =
@@ -71,12 +59,12 @@ lay-spec =
     Inv-loop
     μ-loop
     loop-holds
-    step-at-requires
+    (λ c κs. search needs)
     slice-write-out
-    add-out
+    (λ c. search needs)
     slice-write-out-2
-    add-i
-    loop-less
+    (λ c. search needs)
+    (λ c. search needs)
     loop-again
     same-length
     returns)

@@ -8,15 +8,6 @@ use native.Mathlib.Omega.{arith}
 use Rattle.convex_room.proofs.part.Statement.{statement}
 use Rattle.convex_room.proofs.part.Tie as tie
 
-sub-judge : tie.Need-sub-judge
-sub-judge c = search needs
-
-part-judge-start : tie.Need-part-judge-start
-part-judge-start c = search needs
-
-part-judge-end : tie.Need-part-judge-end
-part-judge-end c = search needs
-
 judge-requires : tie.Need-judge-requires
 judge-requires c κs =
     let z = c .before .before .before .before .before .before in
@@ -25,23 +16,14 @@ judge-requires c κs =
     let r = a .room .now in
     (digits-slice r n (a .j) (z .pre .0), z .pre .3, omega (arith, length-take n (drop (a .j) r), length-drop (a .j) r), omega (arith, length-take n (drop (a .j) r), length-drop (a .j) r), z .pre .6)
 
-same-length : tie.Need-same-length
-same-length c = search needs
-
-same-length-2 : tie.Need-same-length-2
-same-length-2 c = search needs
-
-returns : tie.Need-returns
-returns c = search needs
-
 pub part-spec : {M : Type 1} → statement M
 part-spec =
     tie.close
     (tie.spec
-    sub-judge
-    part-judge-start
-    part-judge-end
+    (λ c. search needs)
+    (λ c. search needs)
+    (λ c. search needs)
     judge-requires
-    same-length
-    same-length-2
-    returns)
+    (λ c. search needs)
+    (λ c. search needs)
+    (λ c. search needs))

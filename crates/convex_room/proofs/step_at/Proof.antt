@@ -8,15 +8,6 @@ use native.Mathlib.Omega.{arith}
 use Rattle.convex_room.proofs.step_at.Statement.{statement}
 use Rattle.convex_room.proofs.step_at.Tie as tie
 
-sub-result : tie.Need-sub-result
-sub-result c = search needs
-
-sub-result-2 : tie.Need-sub-result-2
-sub-result-2 c = search needs
-
-shared-slice-read-result : tie.Need-shared-slice-read-result
-shared-slice-read-result c = search needs
-
 add-result : tie.Need-add-result
 add-result c =
     let z = c .before .before in
@@ -25,9 +16,6 @@ add-result c =
 returns : tie.Need-returns
 returns c = let z = c .before .before in step-back (z .args .chain .now) (z .args .i) (z .pre .0) (z .pre .1) (z .args .back) (c .before .if1 .taken)
 
-shared-slice-read-result-2 : tie.Need-shared-slice-read-result-2
-shared-slice-read-result-2 c = search needs
-
 returns-2 : tie.Need-returns-2
 returns-2 c = let z = c .before .before in step-on (z .args .chain .now) (z .args .i) (z .args .back) (c .before .if1 .left)
 
@@ -35,10 +23,10 @@ pub step-at-spec : {M : Type 1} → statement M
 step-at-spec =
     tie.close
     (tie.spec
-    sub-result
-    sub-result-2
-    shared-slice-read-result
+    (λ c. search needs)
+    (λ c. search needs)
+    (λ c. search needs)
     add-result
     returns
-    shared-slice-read-result-2
+    (λ c. search needs)
     returns-2)

@@ -5,23 +5,11 @@ use Rattle.convex_room.proofs.CallLaws.{call-short, call-digits, call-g
 use Rattle.convex_room.proofs.tell.Statement.{statement}
 use Rattle.convex_room.proofs.tell.Tie as tie
 
-judge-requires : tie.Need-judge-requires
-judge-requires c κs = search needs
-
-enum-told : tie.Need-enum-told
-enum-told c = search needs
-
 is-convex-requires : tie.Need-is-convex-requires
 is-convex-requires c κs =
     let a = c .before .before .before .before .args in
     let j = c .before .before .judge in
     (call-digits (a .start) (a .chain .now) (j .result) (j .ensures) (c .enum-told .given .1), call-short (a .start) (a .chain .now) (j .result) (j .ensures) (c .enum-told .given .1))
-
-counted-requires : tie.Need-counted-requires
-counted-requires c κs = search needs
-
-enum-known-r : tie.Need-enum-known-r
-enum-known-r c = search needs
 
 returns : tie.Need-returns
 returns c =
@@ -40,10 +28,10 @@ pub tell-spec : {M : Type 1} → statement M
 tell-spec =
     tie.close
     (tie.spec
-    judge-requires
-    enum-told
+    (λ c κs. search needs)
+    (λ c. search needs)
     is-convex-requires
-    counted-requires
-    enum-known-r
+    (λ c κs. search needs)
+    (λ c. search needs)
     returns
     returns-2)

@@ -18,23 +18,8 @@ abbrev μ-loop : tie.MeasureT-loop
 loop-holds : tie.Need-loop-holds Inv-loop μ-loop
 loop-holds c = (omega arith, refl)
 
-sub-turns : tie.Need-sub-turns Inv-loop μ-loop
-sub-turns c = search needs
-
-add-turns : tie.Need-add-turns Inv-loop μ-loop
-add-turns c = search needs
-
-turns-requires : tie.Need-turns-requires Inv-loop μ-loop
-turns-requires c κs = search needs
-
 returns : tie.Need-returns Inv-loop μ-loop
 returns c = let l = c .before .before .before .loop in turn-here (c .before .before .before .before .before .args .ys .now) (l .j) (omega arith) (sym (c .before .turns .ensures) ∙ c .if1 .taken) ∙ l .inv .1
-
-sub-j : tie.Need-sub-j Inv-loop μ-loop
-sub-j c = search needs
-
-loop-less : tie.Need-loop-less Inv-loop μ-loop
-loop-less c = search needs
 
 loop-again : tie.Need-loop-again Inv-loop μ-loop
 loop-again c = let l = c .before .before .before .loop in (omega arith, turn-next (c .before .before .before .before .before .args .ys .now) (l .j) (omega arith) (sym (c .before .turns .ensures) ∙ c .if1 .left) ∙ l .inv .1)
@@ -49,11 +34,11 @@ pass-spec =
     Inv-loop
     μ-loop
     loop-holds
-    sub-turns
-    add-turns
-    turns-requires
+    (λ c. search needs)
+    (λ c. search needs)
+    (λ c κs. search needs)
     returns
-    sub-j
-    loop-less
+    (λ c. search needs)
+    (λ c. search needs)
     loop-again
     returns-2)

@@ -25,9 +25,6 @@ drops-requires c κs =
     let i = c .before .loop .inv in
     record { begins = i .1; columns = λ j h g. s .pre .0 .columns j (omega (arith, h, i .0)) g; short = s .pre .0 .short }
 
-add-f : tie.Need-add-f Inv-loop μ-loop
-add-f c = search needs
-
 loop-less : tie.Need-loop-less Inv-loop μ-loop
 loop-less c =
     let s = c .before .before .before .before .before .before in
@@ -39,21 +36,6 @@ loop-again c =
     let f = c .before .before .before .loop .f in
     let t = sym (c .before .drops .ensures) ∙ c .if1 .taken in
     (omega arith, omega (arith, drops-room (s .args .ys .now) (s .args .p) (s .args .s .now) f t), drops-next (s .args .ys .now) (s .args .p) (s .args .s .now) f t ∙ c .before .before .before .loop .inv .2)
-
-sub-f : tie.Need-sub-f Inv-loop μ-loop
-sub-f c = search needs
-
-cast-s : tie.Need-cast-s Inv-loop μ-loop
-cast-s c = search needs
-
-mul-s : tie.Need-mul-s Inv-loop μ-loop
-mul-s c = search needs
-
-slice-write-s : tie.Need-slice-write-s Inv-loop μ-loop
-slice-write-s c = search needs
-
-same-length : tie.Need-same-length Inv-loop μ-loop
-same-length c = search needs
 
 returns : tie.Need-returns Inv-loop μ-loop
 returns c =
@@ -69,12 +51,12 @@ push-spec =
     μ-loop
     loop-holds
     drops-requires
-    add-f
+    (λ c. search needs)
     loop-less
     loop-again
-    sub-f
-    cast-s
-    mul-s
-    slice-write-s
-    same-length
+    (λ c. search needs)
+    (λ c. search needs)
+    (λ c. search needs)
+    (λ c. search needs)
+    (λ c. search needs)
     returns)

@@ -22,9 +22,6 @@ loop-holds c =
     let s = c .before .before in
     (omega arith, omega arith, refl, omega arith, scan-none (s .args .ys .now) (s .args .s .now) (s .args .n))
 
-next-requires : tie.Need-next-requires Inv-loop μ-loop
-next-requires c κs = search needs
-
 push-requires : tie.Need-push-requires Inv-loop μ-loop
 push-requires c κs =
     let s = c .before .before .before .before .before .before in
@@ -50,9 +47,6 @@ loop-again c =
     let r = next-lt (s .args .ys .now) (s .args .n) (l .i) (c .before .before .before .before .next .result) (omega arith) (l .inv .0) (n .0) (n .1) in
     (omega (arith, r), omega (arith, e .2, k), k ∙ l .inv .2, omega (arith, r, e .1, k), scan-next (s .args .ys .now) (s .args .n) (l .i) (c .before .before .before .before .next .result) (omega arith) (l .inv .0) (n .0) (n .1) (drop (l .q) (l .s)) (drop (c .before .before .push .result) (c .before .before .push .last .1 .0)) (l .inv .4) (e .0))
 
-same-length : tie.Need-same-length Inv-loop μ-loop
-same-length c = search needs
-
 returns : tie.Need-returns Inv-loop μ-loop
 returns c =
     let s = c .before .before .before .before in
@@ -66,9 +60,9 @@ scan-spec =
     Inv-loop
     μ-loop
     loop-holds
-    next-requires
+    (λ c κs. search needs)
     push-requires
     loop-less
     loop-again
-    same-length
+    (λ c. search needs)
     returns)

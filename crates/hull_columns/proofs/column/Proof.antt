@@ -7,14 +7,8 @@ use Rattle.hull_columns.proofs.StepLaws.{test-le, column-by}
 use Rattle.hull_columns.proofs.column.Statement.{statement}
 use Rattle.hull_columns.proofs.column.Tie as tie
 
-cast-result : tie.Need-cast-result
-cast-result c = search needs
-
 add-result : tie.Need-add-result
 add-result c = omega (arith, test-le (eqb (c .args .d) 0))
-
-cast-result-2 : tie.Need-cast-result-2
-cast-result-2 c = search needs
 
 sub-result : tie.Need-sub-result
 sub-result c = omega (arith, test-le (eqb (c .args .d) 2))
@@ -23,4 +17,4 @@ returns : tie.Need-returns
 returns c = column-by (c .args .x) (c .args .d) (c .pre .0)
 
 pub column-spec : {M : Type 1} → statement M
-column-spec = tie.close (tie.spec cast-result add-result cast-result-2 sub-result returns)
+column-spec = tie.close (tie.spec (λ c. search needs) add-result (λ c. search needs) sub-result returns)

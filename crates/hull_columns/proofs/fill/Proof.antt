@@ -41,9 +41,6 @@ column-requires c κs = filling-column (c .before .before .before .before .befor
 height-requires : tie.Need-height-requires Inv-loop μ-loop
 height-requires c κs = filling-row (c .before .before .before .before .before .before .before .before .before .before .before .loop .inv) (c .before .before .before .before .before .before .before .before .before .before .loop-test .taken)
 
-add-i : tie.Need-add-i Inv-loop μ-loop
-add-i c = search needs
-
 loop-less : tie.Need-loop-less Inv-loop μ-loop
 loop-less c = falls (length (c .before .before .before .before .before .before .before .before .before .before .before .before .before .before .before .before .args .chain .now)) (c .before .before .before .before .before .before .before .before .before .before .before .before .loop .i) (c .before .before .before .before .before .before .before .before .before .before .before .loop-test .taken)
 
@@ -65,12 +62,6 @@ sub-keep-6 c = filling-top (c .before .before .before .before .before .before .l
 keep-requires-4 : tie.Need-keep-requires-4 Inv-loop μ-loop
 keep-requires-4 c κs = filling-in-hi (c .before .before .before .before .before .before .loop .inv) (c .before .before .before .before .before .before .before .before .before .before .pre .2)
 
-same-length : tie.Need-same-length Inv-loop μ-loop
-same-length c = search needs
-
-same-length-2 : tie.Need-same-length-2 Inv-loop μ-loop
-same-length-2 c = search needs
-
 returns : tie.Need-returns Inv-loop μ-loop
 returns c = (filling-low (c .before .before .before .before .before .before .before .before .before .loop .inv) (c .before .before .before .before .before .before .keep3 .last .0) (c .before .before .before .before .before .before .before .before .loop-test .left) (c .before .before .before .before .before .before .keep3 .ensures), filling-high (c .before .before .before .before .before .before .before .before .before .loop .inv) (c .before .before .keep4 .last .0) (c .before .before .before .before .before .before .before .before .loop-test .left) (c .before .before .keep4 .ensures))
 
@@ -89,7 +80,7 @@ fill-spec =
     shared-slice-read-d
     column-requires
     height-requires
-    add-i
+    (λ c. search needs)
     loop-less
     loop-again
     sub-keep-4
@@ -97,6 +88,6 @@ fill-spec =
     sub-keep-5
     sub-keep-6
     keep-requires-4
-    same-length
-    same-length-2
+    (λ c. search needs)
+    (λ c. search needs)
     returns)

@@ -7,14 +7,8 @@ use Rattle.hull_columns.proofs.StepLaws.{test-le, row-by}
 use Rattle.hull_columns.proofs.height.Statement.{statement}
 use Rattle.hull_columns.proofs.height.Tie as tie
 
-cast-result : tie.Need-cast-result
-cast-result c = search needs
-
 add-result : tie.Need-add-result
 add-result c = omega (arith, test-le (eqb (c .args .d) 1))
-
-cast-result-2 : tie.Need-cast-result-2
-cast-result-2 c = search needs
 
 sub-result : tie.Need-sub-result
 sub-result c = omega (arith, test-le (ltb 2 (c .args .d)))
@@ -23,4 +17,4 @@ returns : tie.Need-returns
 returns c = row-by (c .args .y) (c .args .d) (c .pre .0)
 
 pub height-spec : {M : Type 1} → statement M
-height-spec = tie.close (tie.spec cast-result add-result cast-result-2 sub-result returns)
+height-spec = tie.close (tie.spec (λ c. search needs) add-result (λ c. search needs) sub-result returns)

@@ -22,23 +22,11 @@ abbrev μ-loop : tie.MeasureT-loop
 loop-holds : tie.Need-loop-holds Inv-loop μ-loop
 loop-holds c = surveyed-start (c .before .args .chain .now)
 
-shared-slice-read-column : tie.Need-shared-slice-read-column Inv-loop μ-loop
-shared-slice-read-column c = search needs
-
 column-requires : tie.Need-column-requires Inv-loop μ-loop
 column-requires c κs =
     let s = c .before .before .before .before in
     let l = c .before .before .loop in
     surveyed-room (s .args .chain .now) (l .x) (l .west) (l .east) (l .i) (l .inv) (λ e. omega (arith, e, good-short 0 (s .args .chain .now) (omega arith) (s .pre)))
-
-lesser-requires : tie.Need-lesser-requires Inv-loop μ-loop
-lesser-requires c κs = search needs
-
-greater-requires : tie.Need-greater-requires Inv-loop μ-loop
-greater-requires c κs = search needs
-
-add-i : tie.Need-add-i Inv-loop μ-loop
-add-i c = search needs
 
 loop-less : tie.Need-loop-less Inv-loop μ-loop
 loop-less c = falls (length (c .before .before .before .before .before .before .before .args .chain .now)) (c .before .before .before .before .before .loop .i) (c .before .before .before .before .loop-test .taken)
@@ -64,11 +52,11 @@ measure-spec =
     Inv-loop
     μ-loop
     loop-holds
-    shared-slice-read-column
+    (λ c. search needs)
     column-requires
-    lesser-requires
-    greater-requires
-    add-i
+    (λ c κs. search needs)
+    (λ c κs. search needs)
+    (λ c. search needs)
     loop-less
     loop-again
     returns)

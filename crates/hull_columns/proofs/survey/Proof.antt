@@ -8,21 +8,6 @@ use Rattle.hull_columns.specs.Extent.{extentBy}
 use Rattle.hull_columns.proofs.survey.Statement.{statement}
 use Rattle.hull_columns.proofs.survey.Tie as tie
 
-judge-requires : tie.Need-judge-requires
-judge-requires c κs = search needs
-
-enum-told : tie.Need-enum-told
-enum-told c = search needs
-
-measure-requires : tie.Need-measure-requires
-measure-requires c κs = search needs
-
-enum-known-r : tie.Need-enum-known-r
-enum-known-r c = search needs
-
-returns : tie.Need-returns
-returns c = search needs
-
 returns-2 : tie.Need-returns-2
 returns-2 c =
     let chain = c .before .before .before .before .before .args .chain .now in
@@ -30,4 +15,4 @@ returns-2 c =
 
 pub survey-spec : {M : Type 1} → statement M
 survey-spec =
-    tie.close (tie.spec judge-requires enum-told measure-requires enum-known-r returns returns-2)
+    tie.close (tie.spec (λ c κs. search needs) (λ c. search needs) (λ c κs. search needs) (λ c. search needs) (λ c. search needs) returns-2)

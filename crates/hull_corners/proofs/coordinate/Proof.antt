@@ -22,9 +22,6 @@ product c = sfits-abs w32 (c .args .way *ℤ pos (c .args .n)) (omega (arith, ab
 sum : (c : lts.Start reads.Pre reads.Post) → SFits w32 (c .args .base +ℤ (c .args .way *ℤ pos (c .args .n)))
 sum c = sfits-abs w32 (c .args .base +ℤ (c .args .way *ℤ pos (c .args .n))) (omega (arith, abs+ (c .args .base) (c .args .way *ℤ pos (c .args .n)), abs*≤ (c .args .way) (pos (c .args .n)) 1 65535 (c .pre .1) (omega arith)))
 
-cast-result : tie.Need-cast-result
-cast-result c = search needs
-
 mul-result : tie.Need-mul-result
 mul-result c = simp (toZ-ofZ (c .fits .way), steps c) (product c)
 
@@ -35,4 +32,4 @@ returns : tie.Need-returns
 returns c = simp (toZ-ofZ (c .fits .way), toZ-ofZ (c .fits .base), steps c, toZ-ofZ (product c), toZ-ofZ (sum c))
 
 pub coordinate-spec : {M : Type 1} → statement M
-coordinate-spec = tie.close (tie.spec cast-result mul-result add-result returns)
+coordinate-spec = tie.close (tie.spec (λ c. search needs) mul-result add-result returns)

@@ -9,29 +9,17 @@ use Rattle.hull_corners.proofs.ends.Tie as tie
 returns : tie.Need-returns
 returns c = let s = c .before in ends-short (s .args .start) (s .args .west) (s .args .east) (s .args .out .now) (omega arith)
 
-placed-requires : tie.Need-placed-requires
-placed-requires c κs = search needs
-
-cast-put-corner : tie.Need-cast-put-corner
-cast-put-corner c = search needs
-
 put-corner-requires : tie.Need-put-corner-requires
 put-corner-requires c κs =
     let s = c .before .before .before in
     let k = ends-base (s .args .start) (c .before .placed .result) (c .before .placed .ensures) (s .pre .0) in
     (omega arith, k .0, k .1, omega arith)
 
-cast-put-corner-2 : tie.Need-cast-put-corner-2
-cast-put-corner-2 c = search needs
-
 put-corner-requires-2 : tie.Need-put-corner-requires-2
 put-corner-requires-2 c κs =
     let s = c .before .before .before .before .before .before in
     let k = ends-base (s .args .start) (c .before .before .before .before .placed .result) (c .before .before .before .before .placed .ensures) (s .pre .0) in
     (omega (arith, c .before .before .put-corner .kept .0), k .0, k .1, omega arith)
-
-same-length : tie.Need-same-length
-same-length c = search needs
 
 returns-2 : tie.Need-returns-2
 returns-2 c =
@@ -43,10 +31,10 @@ ends-spec =
     tie.close
     (tie.spec
     returns
-    placed-requires
-    cast-put-corner
+    (λ c κs. search needs)
+    (λ c. search needs)
     put-corner-requires
-    cast-put-corner-2
+    (λ c. search needs)
     put-corner-requires-2
-    same-length
+    (λ c. search needs)
     returns-2)

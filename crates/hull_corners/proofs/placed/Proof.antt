@@ -14,12 +14,6 @@ use Rattle.hull_laws.proofs.CornerLaws.{corner-eq}
 use Rattle.hull_corners.proofs.placed.Statement.{statement}
 use Rattle.hull_corners.proofs.placed.Tie as tie
 
-shifted-requires : tie.Need-shifted-requires
-shifted-requires c κs = search needs
-
-shifted-requires-2 : tie.Need-shifted-requires-2
-shifted-requires-2 c κs = search needs
-
 returns : tie.Need-returns
 returns c =
     let s = c .before .before .before .before in
@@ -29,4 +23,4 @@ returns c =
     (toZ-ofZ (sfits-of {w = w32} {z = c .before .before .shifted .result} (c .before .before .shifted .ok)) ∙ x) (toZ-ofZ (sfits-of {w = w32} {z = c .shifted2 .result} (c .shifted2 .ok)) ∙ y)
 
 pub placed-spec : {M : Type 1} → statement M
-placed-spec = tie.close (tie.spec shifted-requires shifted-requires-2 returns)
+placed-spec = tie.close (tie.spec (λ c κs. search needs) (λ c κs. search needs) returns)

@@ -33,12 +33,6 @@ abbrev μ-loop : tie.MeasureT-loop
 loop-holds : tie.Need-loop-holds Inv-loop μ-loop
 loop-holds c = (omega arith, c .before .before .pre .ordered, omega arith, refl, refl)
 
-mul-c : tie.Need-mul-c Inv-loop μ-loop
-mul-c c = search needs
-
-shared-slice-read-c : tie.Need-shared-slice-read-c Inv-loop μ-loop
-shared-slice-read-c c = search needs
-
 cast-put-corner : tie.Need-cast-put-corner Inv-loop μ-loop
 cast-put-corner c = omega (arith, c .before .shared-slice-known3 .given (c .before .before .before .loop .i))
 
@@ -55,23 +49,11 @@ put-corner-requires c κs =
     let s = c .before .before .before .before .before .before .before in
     (omega arith, s .pre .x, s .pre .y, simp (toZ-ofZ (s .fits .way)) (s .pre .one))
 
-add-o : tie.Need-add-o Inv-loop μ-loop
-add-o c = search needs
-
-add-i : tie.Need-add-i Inv-loop μ-loop
-add-i c = search needs
-
-loop-less : tie.Need-loop-less Inv-loop μ-loop
-loop-less c = search needs
-
 loop-again : tie.Need-loop-again Inv-loop μ-loop
 loop-again c =
     let s = c .before .before .before .before .before .before .before .before .before in
     let l = c .before .before .before .before .before .before .loop in
     (omega arith, omega arith, omega arith, c .before .put-corner .kept .0 ∙ l .inv .3, put-turn (corner (s .args .base) (toZ w32 (ofZ w32 (s .args .way))) (s .args .ys .now)) (s .args .s .now) (s .args .to) (l .i) (l .o) (l .out) (c .before .put-corner .last .0) (sets (s .args .out .now) (s .args .at) (numbers (map (corner (s .args .base) (toZ w32 (ofZ w32 (s .args .way))) (s .args .ys .now)) (slice (s .args .from) (s .args .to) (s .args .s .now))))) (omega arith) (s .pre .inside) (c .before .put-corner .ensures) (l .inv .4))
-
-same-length : tie.Need-same-length Inv-loop μ-loop
-same-length c = search needs
 
 returns : tie.Need-returns Inv-loop μ-loop
 returns c =
@@ -87,15 +69,15 @@ put-spec =
     Inv-loop
     μ-loop
     loop-holds
-    mul-c
-    shared-slice-read-c
+    (λ c. search needs)
+    (λ c. search needs)
     cast-put-corner
     mul-put-corner
     shared-slice-read-put-corner
     put-corner-requires
-    add-o
-    add-i
-    loop-less
+    (λ c. search needs)
+    (λ c. search needs)
+    (λ c. search needs)
     loop-again
-    same-length
+    (λ c. search needs)
     returns)

@@ -16,28 +16,13 @@ coordinate-requires c κs =
     let s = c .before in
     simp (toZ-ofZ (sfits-of {w = w32} {z = s .args .base .0} (c .struct-told .given .0 .1)), toZ-ofZ (s .fits .way)) (s .pre .1, s .pre .3)
 
-mul-out : tie.Need-mul-out
-mul-out c = search needs
-
-slice-set-from-out : tie.Need-slice-set-from-out
-slice-set-from-out c = search needs
-
 coordinate-requires-2 : tie.Need-coordinate-requires-2
 coordinate-requires-2 c κs =
     let s = c .before .before .before in
     simp (toZ-ofZ (sfits-of {w = w32} {z = s .args .base .1} (c .struct-told2 .given .1 .0 .1)), toZ-ofZ (s .fits .way)) (s .pre .2, s .pre .3)
 
-add-t8 : tie.Need-add-t8
-add-t8 c = search needs
-
-mul-t10 : tie.Need-mul-t10
-mul-t10 c = search needs
-
 slice-set-from-out-2 : tie.Need-slice-set-from-out-2
 slice-set-from-out-2 c = simp length-set (omega arith)
-
-same-length : tie.Need-same-length
-same-length c = search needs
 
 returns : tie.Need-returns
 returns c =
@@ -51,11 +36,11 @@ put-corner-spec =
     tie.close
     (tie.spec
     coordinate-requires
-    mul-out
-    slice-set-from-out
+    (λ c. search needs)
+    (λ c. search needs)
     coordinate-requires-2
-    add-t8
-    mul-t10
+    (λ c. search needs)
+    (λ c. search needs)
     slice-set-from-out-2
-    same-length
+    (λ c. search needs)
     returns)

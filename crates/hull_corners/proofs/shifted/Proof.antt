@@ -26,9 +26,6 @@ sum c = sfits-abs w32 ((c .args .z -ℤ pos middle) +ℤ pos (c .args .n)) (omeg
 sub-result : tie.Need-sub-result
 sub-result c = simp (toZ-ofZ (c .fits .z)) (less c)
 
-cast-result : tie.Need-cast-result
-cast-result c = search needs
-
 add-result : tie.Need-add-result
 add-result c = simp (toZ-ofZ (c .fits .z), steps c, toZ-ofZ (less c)) (sum c)
 
@@ -36,4 +33,4 @@ returns : tie.Need-returns
 returns c = simp (toZ-ofZ (c .fits .z), steps c, toZ-ofZ (less c), toZ-ofZ (sum c))
 
 pub shifted-spec : {M : Type 1} → statement M
-shifted-spec = tie.close (tie.spec sub-result cast-result add-result returns)
+shifted-spec = tie.close (tie.spec sub-result (λ c. search needs) add-result returns)

@@ -9,26 +9,11 @@ use Rattle.hull_corners.proofs.PartsLaws.{puts-lower, puts-upper}
 use Rattle.hull_corners.proofs.write.Statement.{statement}
 use Rattle.hull_corners.proofs.write.Tie as tie
 
-placed-requires : tie.Need-placed-requires
-placed-requires c κs = search needs
-
-placed-requires-2 : tie.Need-placed-requires-2
-placed-requires-2 c κs = search needs
-
 put-requires : tie.Need-put-requires
 put-requires c κs = puts-lower (c .before .before .before .before .before .before .before .args .start) (c .before .before .before .before .before .before .before .pre .0) (c .before .before .before .before .before .before .before .pre .1) (c .before .before .placed .result) (c .before .before .placed .ensures)
 
-sub-put : tie.Need-sub-put
-sub-put c = search needs
-
-mul-put : tie.Need-mul-put
-mul-put c = search needs
-
 put-requires-2 : tie.Need-put-requires-2
 put-requires-2 c κs = puts-upper (c .before .before .before .before .before .before .before .before .before .before .args .start) (c .before .before .before .before .before .before .before .before .before .before .pre .0) (c .before .before .before .before .before .before .before .before .before .before .pre .1) (c .before .before .before .before .placed2 .result) (length (c .before .before .put .last .0)) (c .before .before .before .before .placed2 .ensures) (c .before .before .put .kept .0)
-
-same-length : tie.Need-same-length
-same-length c = search needs
 
 returns : tie.Need-returns
 returns c =
@@ -40,11 +25,11 @@ pub write-spec : {M : Type 1} → statement M
 write-spec =
     tie.close
     (tie.spec
-    placed-requires
-    placed-requires-2
+    (λ c κs. search needs)
+    (λ c κs. search needs)
     put-requires
-    sub-put
-    mul-put
+    (λ c. search needs)
+    (λ c. search needs)
     put-requires-2
-    same-length
+    (λ c. search needs)
     returns)

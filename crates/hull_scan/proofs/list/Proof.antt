@@ -16,20 +16,11 @@ use Rattle.hull_scan.proofs.list.Tie as tie
 returns : tie.Need-returns
 returns c = let a = c .before .before .args in call-refused (a .start) (a .chain .now) (a .out .now) TooMany (λ n. judged-many (a .start) (a .chain .now) (length (a .out .now)) n (c .if1 .taken))
 
-start-fits-requires : tie.Need-start-fits-requires
-start-fits-requires c κs = search needs
-
 returns-2 : tie.Need-returns-2
 returns-2 c =
     let a = c .before .before .before .before .args in
     let f = c .before .start-fits in
     call-refused (a .start) (a .chain .now) (a .out .now) StartRange (λ n. judged-start (a .start) (a .chain .now) (length (a .out .now)) n (c .before .before .if1 .left) (sym (f .ensures) ∙ not-true (f .result) (c .if2 .taken)))
-
-survey-requires : tie.Need-survey-requires
-survey-requires c κs = search needs
-
-enum-known-west : tie.Need-enum-known-west
-enum-known-west c = search needs
 
 list-from-requires : tie.Need-list-from-requires
 list-from-requires c κs =
@@ -38,12 +29,6 @@ list-from-requires c κs =
     let w = c .before .before .west .given in
     let t = extent-good (chainJudged 0 (a .chain .now)) (westFrom middle (a .chain .now)) (eastFrom middle (a .chain .now)) (w .0 .0) (w .0 .1 .0) (sym (c .before .before .before .before .survey .ensures) ∙ w .1) in
     (walked (a .chain .now) (w .0 .0) (w .0 .1 .0) (t .0) (t .1) (t .2), fits-near (a .start) (sym (f .ensures) ∙ not-false (f .result) (c .before .before .before .before .before .if2 .left)))
-
-enum-known-r : tie.Need-enum-known-r
-enum-known-r c = search needs
-
-same-length : tie.Need-same-length
-same-length c = search needs
 
 returns-3 : tie.Need-returns-3
 returns-3 c =
@@ -64,4 +49,4 @@ returns-4 c =
 pub list-spec : {M : Type 1} → statement M
 list-spec =
     tie.close
-    (tie.spec returns start-fits-requires returns-2 survey-requires enum-known-west list-from-requires enum-known-r same-length returns-3 returns-4)
+    (tie.spec returns (λ c κs. search needs) returns-2 (λ c κs. search needs) (λ c. search needs) list-from-requires (λ c. search needs) (λ c. search needs) returns-3 returns-4)

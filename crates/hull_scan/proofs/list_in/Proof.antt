@@ -5,41 +5,14 @@ use Rattle.hull_scan.proofs.ListLaws.{walked-order, chained, hulled}
 use Rattle.hull_scan.proofs.list_in.Statement.{statement}
 use Rattle.hull_scan.proofs.list_in.Tie as tie
 
-fill-requires : tie.Need-fill-requires
-fill-requires c κs = search needs
-
 sub-n : tie.Need-sub-n
 sub-n c = walked-order (c .before .before .before .before .before .before .before .before .before .before .before .before .pre .0)
-
-add-n : tie.Need-add-n
-add-n c = search needs
-
-scan-requires : tie.Need-scan-requires
-scan-requires c κs = search needs
-
-scan-requires-2 : tie.Need-scan-requires-2
-scan-requires-2 c κs = search needs
 
 finish-requires : tie.Need-finish-requires
 finish-requires c κs =
     let s = c .before .before .before .before .before .before .before .before .before .before .before .before .before .before .before .before .before .before .before .before .before .before .before .before .before .before .before in
     let f = c .before .before .before .before .before .before .before .before .before .before .before .before .before .before .before .before .before .before .before .fill in
     (s .pre .1, chained (s .pre .0) (s .pre .2) (f .last .1 .1 .1 .0) (f .last .1 .1 .1 .1 .0) (c .before .before .before .before .before .before .before .before .before .before .before .before .scan .last .1 .1 .0) (c .before .before .before .before .before .before .before .scan2 .last .1 .1 .0) (c .before .before .before .before .before .before .before .before .before .before .before .before .scan .result) (c .before .before .before .before .before .before .before .scan2 .result) (f .ensures .0) (f .ensures .1) (c .before .before .before .before .before .before .before .before .before .before .before .before .scan .kept .1 .1 .0) (c .before .before .before .before .before .before .before .scan2 .kept .1 .1 .0) (c .before .before .before .before .before .before .before .before .before .before .before .before .scan .ensures) (c .before .before .before .before .before .before .before .scan2 .ensures))
-
-same-length : tie.Need-same-length
-same-length c = search needs
-
-same-length-2 : tie.Need-same-length-2
-same-length-2 c = search needs
-
-same-length-3 : tie.Need-same-length-3
-same-length-3 c = search needs
-
-same-length-4 : tie.Need-same-length-4
-same-length-4 c = search needs
-
-same-length-5 : tie.Need-same-length-5
-same-length-5 c = search needs
 
 returns : tie.Need-returns
 returns c =
@@ -51,15 +24,15 @@ pub list-in-spec : {M : Type 1} → statement M
 list-in-spec =
     tie.close
     (tie.spec
-    fill-requires
+    (λ c κs. search needs)
     sub-n
-    add-n
-    scan-requires
-    scan-requires-2
+    (λ c. search needs)
+    (λ c κs. search needs)
+    (λ c κs. search needs)
     finish-requires
-    same-length
-    same-length-2
-    same-length-3
-    same-length-4
-    same-length-5
+    (λ c. search needs)
+    (λ c. search needs)
+    (λ c. search needs)
+    (λ c. search needs)
+    (λ c. search needs)
     returns)

@@ -12,12 +12,6 @@ use Rattle.hull_scan.proofs.ListLaws.{extent-good, extent-refused, walk
 use Rattle.hull_scan.proofs.list_short.Statement.{statement}
 use Rattle.hull_scan.proofs.list_short.Tie as tie
 
-survey-requires : tie.Need-survey-requires
-survey-requires c κs = search needs
-
-enum-known-west : tie.Need-enum-known-west
-enum-known-west c = search needs
-
 -- so few steps go through so few columns
 list-short-from-requires : tie.Need-list-short-from-requires
 list-short-from-requires c κs =
@@ -27,12 +21,6 @@ list-short-from-requires c κs =
     let t = extent-good (chainJudged 0 (a .chain .now)) (westFrom middle (a .chain .now)) (eastFrom middle (a .chain .now)) (w .0 .0) (w .0 .1 .0) (sym (c .before .before .before .before .survey .ensures) ∙ w .1) in
     let k = walked (a .chain .now) (w .0 .0) (w .0 .1 .0) (t .0) (t .1) (t .2) in
     (k, fits-near (a .start) (s .pre .0), omega (arith, walked-across k, s .pre .1))
-
-enum-known-r : tie.Need-enum-known-r
-enum-known-r c = search needs
-
-same-length : tie.Need-same-length
-same-length c = search needs
 
 returns : tie.Need-returns
 returns c =
@@ -54,10 +42,10 @@ pub list-short-spec : {M : Type 1} → statement M
 list-short-spec =
     tie.close
     (tie.spec
-    survey-requires
-    enum-known-west
+    (λ c κs. search needs)
+    (λ c. search needs)
     list-short-from-requires
-    enum-known-r
-    same-length
+    (λ c. search needs)
+    (λ c. search needs)
     returns
     returns-2)

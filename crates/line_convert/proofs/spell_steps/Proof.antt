@@ -23,26 +23,11 @@ loop-holds c =
     let a = c .before .before .args in
     (omega arith, omega arith, refl, put-begun (lettersOf (a .steps .now)) (a .out .now) (a .at))
 
-shared-slice-read-letter : tie.Need-shared-slice-read-letter Inv-loop μ-loop
-shared-slice-read-letter c = search needs
-
 letter-requires : tie.Need-letter-requires Inv-loop μ-loop
 letter-requires c κs =
     let l = c .before .before in
     let s = l .before .before .before in
     below-at (s .args .steps .now) (l .loop .i) (s .pre .0) (omega arith)
-
-add-out : tie.Need-add-out Inv-loop μ-loop
-add-out c = search needs
-
-slice-write-out : tie.Need-slice-write-out Inv-loop μ-loop
-slice-write-out c = search needs
-
-add-i : tie.Need-add-i Inv-loop μ-loop
-add-i c = search needs
-
-loop-less : tie.Need-loop-less Inv-loop μ-loop
-loop-less c = search needs
 
 loop-again : tie.Need-loop-again Inv-loop μ-loop
 loop-again c =
@@ -50,12 +35,6 @@ loop-again c =
     let a = l .before .before .before .args in
     let n = length-lettersOf (a .steps .now) in
     (search needs, search needs, search needs, put-next (lettersOf (a .steps .now)) (l .loop .out) _ (a .at) (l .loop .i) _ (omega arith) (omega arith) (c .letter .ensures ∙ letter-at (a .steps .now) (l .loop .i) (omega arith)) (l .loop .inv .3))
-
-add-result : tie.Need-add-result Inv-loop μ-loop
-add-result c = search needs
-
-same-length : tie.Need-same-length Inv-loop μ-loop
-same-length c = search needs
 
 returns : tie.Need-returns Inv-loop μ-loop
 returns c =
@@ -70,13 +49,13 @@ spell-steps-spec =
     Inv-loop
     μ-loop
     loop-holds
-    shared-slice-read-letter
+    (λ c. search needs)
     letter-requires
-    add-out
-    slice-write-out
-    add-i
-    loop-less
+    (λ c. search needs)
+    (λ c. search needs)
+    (λ c. search needs)
+    (λ c. search needs)
     loop-again
-    add-result
-    same-length
+    (λ c. search needs)
+    (λ c. search needs)
     returns)

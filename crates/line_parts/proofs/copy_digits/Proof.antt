@@ -19,41 +19,17 @@ Inv-loop s buf₀ n i₀ buf i = (i ≤ n) × (length s ≡ headDigits + n) × (
 abbrev μ-loop : tie.MeasureT-loop
 μ-loop s buf₀ n i₀ buf i = n - i
 
-sub-n : tie.Need-sub-n Inv-loop μ-loop
-sub-n c = search needs
-
-loop-holds : tie.Need-loop-holds Inv-loop μ-loop
-loop-holds c = search needs
-
-add-value : tie.Need-add-value Inv-loop μ-loop
-add-value c = search needs
-
-shared-slice-read-value : tie.Need-shared-slice-read-value Inv-loop μ-loop
-shared-slice-read-value c = search needs
-
 value-requires : tie.Need-value-requires Inv-loop μ-loop
 value-requires c κs =
     let l = c .before .before in
     let s = l .before .before .before in
     allHex-at (s .args .s .now) (headDigits + l .loop .i) (s .pre .0) (omega arith)
 
-slice-write-buf : tie.Need-slice-write-buf Inv-loop μ-loop
-slice-write-buf c = search needs
-
-add-i : tie.Need-add-i Inv-loop μ-loop
-add-i c = search needs
-
-loop-less : tie.Need-loop-less Inv-loop μ-loop
-loop-less c = search needs
-
 loop-again : tie.Need-loop-again Inv-loop μ-loop
 loop-again c =
     let l = c .before .before .before in
     let s = l .before .before .before in
     (search needs, search needs, search needs, values-next (s .args .s .now) (l .loop .buf) _ (l .loop .i) (c .value .result) (omega arith) (omega arith) (c .value .ensures .0) (l .loop .inv .3))
-
-same-length : tie.Need-same-length Inv-loop μ-loop
-same-length c = search needs
 
 returns : tie.Need-returns Inv-loop μ-loop
 returns c =
@@ -67,14 +43,14 @@ copy-digits-spec =
     (tie.spec
     Inv-loop
     μ-loop
-    sub-n
-    loop-holds
-    add-value
-    shared-slice-read-value
+    (λ c. search needs)
+    (λ c. search needs)
+    (λ c. search needs)
+    (λ c. search needs)
     value-requires
-    slice-write-buf
-    add-i
-    loop-less
+    (λ c. search needs)
+    (λ c. search needs)
+    (λ c. search needs)
     loop-again
-    same-length
+    (λ c. search needs)
     returns)

@@ -15,9 +15,6 @@ returns c = frameOf-short (c .before .before .args .s .now) (c .if1 .taken)
 returns-2 : tie.Need-returns-2
 returns-2 c = sym (frameOf-long (c .before .before .before .args .s .now) (omega (arith, c .if2 .taken)))
 
-all-hex-requires : tie.Need-all-hex-requires
-all-hex-requires c κs = search needs
-
 returns-3 : tie.Need-returns-3
 returns-3 c =
     let h = c .before in
@@ -36,16 +33,10 @@ count-requires c κs =
     let h = c .before .before .before in
     (sym (h .all-hex .ensures) ∙ not-false _ (c .before .before .if3 .left), omega arith)
 
-sub-if5 : tie.Need-sub-if5
-sub-if5 c = search needs
-
 returns-5 : tie.Need-returns-5
 returns-5 c =
     let h = c .before .before .before .before .before in
     frameOf-size (h .before .before .before .before .args .s .now) (λ e. c .if5 .taken (omega (arith, c .before .count .ensures)))
-
-named-requires : tie.Need-named-requires
-named-requires c κs = search needs
 
 returns-6 : tie.Need-returns-6
 returns-6 c =
@@ -62,12 +53,12 @@ read-spec =
     (tie.spec
     returns
     returns-2
-    all-hex-requires
+    (λ c κs. search needs)
     returns-3
     kind-requires
     returns-4
     count-requires
-    sub-if5
+    (λ c. search needs)
     returns-5
-    named-requires
+    (λ c κs. search needs)
     returns-6)

@@ -9,12 +9,6 @@ use Rattle.line_parts.proofs.WroteLaws.{length-two, wrote-facts}
 use Rattle.line_parts.proofs.spell_facts.Statement.{statement}
 use Rattle.line_parts.proofs.spell_facts.Tie as tie
 
-verdict-number-requires : tie.Need-verdict-number-requires
-verdict-number-requires c κs = search needs
-
-spell-two-requires : tie.Need-spell-two-requires
-spell-two-requires c κs = search needs
-
 spell-two-requires-2 : tie.Need-spell-two-requires-2
 spell-two-requires-2 c κs =
     let v = c .before .before .before .before in
@@ -33,9 +27,6 @@ spell-signed-requires c κs =
     let f = v .before .before .before .args .f in
     omega (arith, length-two 2 (v .verdict-number .result) 4 (f .steps), length-two 8 (f .nodes) 4 (f .corners), length-two 4 (f .j) 4 (f .k))
 
-same-length : tie.Need-same-length
-same-length c = search needs
-
 returns : tie.Need-returns
 returns c =
     let last = c .before .before in
@@ -53,10 +44,10 @@ pub spell-facts-spec : {M : Type 1} → statement M
 spell-facts-spec =
     tie.close
     (tie.spec
-    verdict-number-requires
-    spell-two-requires
+    (λ c κs. search needs)
+    (λ c κs. search needs)
     spell-two-requires-2
     spell-two-requires-3
     spell-signed-requires
-    same-length
+    (λ c. search needs)
     returns)

@@ -24,24 +24,12 @@ abbrev μ-loop : tie.MeasureT-loop
 loop-holds : tie.Need-loop-holds Inv-loop μ-loop
 loop-holds c = (omega arith, omega arith, omega arith, wrote-none (c .before .args .xs .now) (c .before .args .at) (c .before .args .out .now))
 
-mul-spell-signed : tie.Need-mul-spell-signed Inv-loop μ-loop
-mul-spell-signed c = search needs
-
-shared-slice-copy-out-spell-signed : tie.Need-shared-slice-copy-out-spell-signed Inv-loop μ-loop
-shared-slice-copy-out-spell-signed c = search needs
-
 spell-signed-requires : tie.Need-spell-signed-requires Inv-loop μ-loop
 spell-signed-requires c κs =
     let l = c .before .before .before in
     let a = l .before .before .args in
     let w = wrote-at (a .xs .now) (l .loop .i) (a .at) (omega arith) (omega arith) (l .loop .inv .3) in
     omega (arith, w .0, w .1)
-
-add-i : tie.Need-add-i Inv-loop μ-loop
-add-i c = search needs
-
-loop-less : tie.Need-loop-less Inv-loop μ-loop
-loop-less c = search needs
 
 loop-again : tie.Need-loop-again Inv-loop μ-loop
 loop-again c =
@@ -72,11 +60,11 @@ spell-numbers-spec =
     Inv-loop
     μ-loop
     loop-holds
-    mul-spell-signed
-    shared-slice-copy-out-spell-signed
+    (λ c. search needs)
+    (λ c. search needs)
     spell-signed-requires
-    add-i
-    loop-less
+    (λ c. search needs)
+    (λ c. search needs)
     loop-again
     same-length
     returns)

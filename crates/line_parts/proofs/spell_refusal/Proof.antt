@@ -9,21 +9,6 @@ use Rattle.line_fields.specs.Put.{Wrote}
 use Rattle.line_parts.proofs.spell_refusal.Statement.{statement}
 use Rattle.line_parts.proofs.spell_refusal.Tie as tie
 
-refusal-number-requires : tie.Need-refusal-number-requires
-refusal-number-requires c κs = search needs
-
-refusal-place-requires : tie.Need-refusal-place-requires
-refusal-place-requires c κs = search needs
-
-add-spell-two : tie.Need-add-spell-two
-add-spell-two c = search needs
-
-spell-two-requires : tie.Need-spell-two-requires
-spell-two-requires c κs = search needs
-
-same-length : tie.Need-same-length
-same-length c = search needs
-
 returns : tie.Need-returns
 returns c =
     let w = c .before .before in
@@ -36,4 +21,4 @@ returns c =
 pub spell-refusal-spec : {M : Type 1} → statement M
 spell-refusal-spec =
     tie.close
-    (tie.spec refusal-number-requires refusal-place-requires add-spell-two spell-two-requires same-length returns)
+    (tie.spec (λ c κs. search needs) (λ c κs. search needs) (λ c. search needs) (λ c κs. search needs) (λ c. search needs) returns)

@@ -7,16 +7,10 @@ use Rattle.line_parts.proofs.WroteLaws.{wrote-two}
 use Rattle.line_parts.proofs.spell_two.Statement.{statement}
 use Rattle.line_parts.proofs.spell_two.Tie as tie
 
-spell-requires : tie.Need-spell-requires
-spell-requires c κs = search needs
-
 spell-requires-2 : tie.Need-spell-requires-2
 spell-requires-2 c κs =
     let a = c .before .before .before .before .before .before .args in
     omega (arith, length-hexOf (a .n) (a .v))
-
-same-length : tie.Need-same-length
-same-length c = search needs
 
 returns : tie.Need-returns
 returns c =
@@ -26,4 +20,4 @@ returns c =
     wrote-two (a .n) (a .v) (a .m) (a .w) (a .at) (first .spell .ensures) (second .spell2 .ensures) (omega arith)
 
 pub spell-two-spec : {M : Type 1} → statement M
-spell-two-spec = tie.close (tie.spec spell-requires spell-requires-2 same-length returns)
+spell-two-spec = tie.close (tie.spec (λ c κs. search needs) spell-requires-2 (λ c. search needs) returns)

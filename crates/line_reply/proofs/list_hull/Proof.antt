@@ -5,25 +5,10 @@ use Rattle.line_reply.proofs.ListedLaws.{hull-listed, hull-not-refused}
 use Rattle.line_reply.proofs.list_hull.Statement.{statement}
 use Rattle.line_reply.proofs.list_hull.Tie as tie
 
-list-short-requires : tie.Need-list-short-requires
-list-short-requires c κs = search needs
-
-enum-known-n : tie.Need-enum-known-n
-enum-known-n c = search needs
-
-enum-told : tie.Need-enum-told
-enum-told c = search needs
-
-same-length : tie.Need-same-length
-same-length c = search needs
-
 returns : tie.Need-returns
 returns c =
     let s = c .before .before .before .before .before .before .before in
     hull-listed (c .before .before .before .before .list-short .ensures) (s .pre .0 .0) (s .pre .0 .1) (s .pre .1) (c .before .n .given .0 .0) (c .before .n .given .1)
-
-same-length-2 : tie.Need-same-length-2
-same-length-2 c = search needs
 
 returns-2 : tie.Need-returns-2
 returns-2 c =
@@ -34,4 +19,4 @@ returns-2 c =
 pub list-hull-spec : {M : Type 1} → statement M
 list-hull-spec =
     tie.close
-    (tie.spec list-short-requires enum-known-n enum-told same-length returns same-length-2 returns-2)
+    (tie.spec (λ c κs. search needs) (λ c. search needs) (λ c. search needs) (λ c. search needs) returns (λ c. search needs) returns-2)

@@ -11,20 +11,8 @@ returns c =
     let a = c .before .before .before .args in
     reply-short (a .line .now) (a .out .now) (omega (arith, c .if1 .taken))
 
-slice-aggregate-answer-line : tie.Need-slice-aggregate-answer-line
-slice-aggregate-answer-line c = search needs
-
-slice-aggregate-answer-line-2 : tie.Need-slice-aggregate-answer-line-2
-slice-aggregate-answer-line-2 c = search needs
-
-slice-aggregate-answer-line-3 : tie.Need-slice-aggregate-answer-line-3
-slice-aggregate-answer-line-3 c = search needs
-
 answer-line-requires : tie.Need-answer-line-requires
 answer-line-requires c κs = search needs
-
-same-length : tie.Need-same-length
-same-length c = search needs
 
 returns-2 : tie.Need-returns-2
 returns-2 c =
@@ -36,9 +24,9 @@ reply-spec =
     tie.close
     (tie.spec
     returns
-    slice-aggregate-answer-line
-    slice-aggregate-answer-line-2
-    slice-aggregate-answer-line-3
+    (λ c. search needs)
+    (λ c. search needs)
+    (λ c. search needs)
     answer-line-requires
-    same-length
+    (λ c. search needs)
     returns-2)

@@ -11,9 +11,6 @@ use Rattle.line_fields.proofs.PutLaws.{wrote-append, put-one}
 use Rattle.line_reply.proofs.tell.Statement.{statement}
 use Rattle.line_reply.proofs.tell.Tie as tie
 
-answer-line-requires : tie.Need-answer-line-requires
-answer-line-requires c κs = search needs
-
 slice-write-out : tie.Need-slice-write-out
 slice-write-out c =
     let r = c .before .before .before .before .before .before .before .answer-line in
@@ -22,18 +19,6 @@ slice-write-out c =
 add-result : tie.Need-add-result
 add-result c =
     omega (arith, lineAnswer-most (c .before .before .before .before .before .before .before .before .before .before .before .before .before .before .before .before .args .s .now), c .before .before .before .before .before .before .before .answer-line .ensures .end)
-
-same-length : tie.Need-same-length
-same-length c = search needs
-
-same-length-2 : tie.Need-same-length-2
-same-length-2 c = search needs
-
-same-length-3 : tie.Need-same-length-3
-same-length-3 c = search needs
-
-same-length-4 : tie.Need-same-length-4
-same-length-4 c = search needs
 
 returns : tie.Need-returns
 returns c =
@@ -48,11 +33,11 @@ pub tell-spec : {M : Type 1} → statement M
 tell-spec =
     tie.close
     (tie.spec
-    answer-line-requires
+    (λ c κs. search needs)
     slice-write-out
     add-result
-    same-length
-    same-length-2
-    same-length-3
-    same-length-4
+    (λ c. search needs)
+    (λ c. search needs)
+    (λ c. search needs)
+    (λ c. search needs)
     returns)

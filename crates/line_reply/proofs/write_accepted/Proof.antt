@@ -12,12 +12,6 @@ use Rattle.line_reply.proofs.ListedLaws.{wrote-accepted}
 use Rattle.line_reply.proofs.write_accepted.Statement.{statement}
 use Rattle.line_reply.proofs.write_accepted.Tie as tie
 
-list-hull-requires : tie.Need-list-hull-requires
-list-hull-requires c κs = search needs
-
-spell-facts-requires : tie.Need-spell-facts-requires
-spell-facts-requires c κs = search needs
-
 spell-requires : tie.Need-spell-requires
 spell-requires c κs =
     let w = c .before .before .before .spell-facts in
@@ -39,12 +33,6 @@ spell-numbers-requires c κs =
     let b = length-hexOf 4 (h .result) in
     (omega (arith, h .kept .1 .0, h .ensures .count, s .pre .0, s .pre .1 .0), omega (arith, h .ensures .count, s .pre .0, w .ensures .end, w .kept .0, v .ensures .end, v .kept .0, s .pre .1 .1))
 
-same-length : tie.Need-same-length
-same-length c = search needs
-
-same-length-2 : tie.Need-same-length-2
-same-length-2 c = search needs
-
 returns : tie.Need-returns
 returns c =
     let s = c .before .before .before .before .before .before .before .before .before .before .before .before .before .before .before .before .before .before in
@@ -58,11 +46,11 @@ pub write-accepted-spec : {M : Type 1} → statement M
 write-accepted-spec =
     tie.close
     (tie.spec
-    list-hull-requires
-    spell-facts-requires
+    (λ c κs. search needs)
+    (λ c κs. search needs)
     spell-requires
     mul-spell-numbers
     spell-numbers-requires
-    same-length
-    same-length-2
+    (λ c. search needs)
+    (λ c. search needs)
     returns)

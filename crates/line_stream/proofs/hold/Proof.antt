@@ -17,46 +17,19 @@ Inv-loop line₀ held s at end m i₀ line i = (i ≤ m) × (held + m ≤ length
 abbrev μ-loop : tie.MeasureT-loop
 μ-loop line₀ held s at end m i₀ line i = m - i
 
-sub-lesser : tie.Need-sub-lesser Inv-loop μ-loop
-sub-lesser c = search needs
-
-sub-lesser-2 : tie.Need-sub-lesser-2 Inv-loop μ-loop
-sub-lesser-2 c = search needs
-
-lesser-requires : tie.Need-lesser-requires Inv-loop μ-loop
-lesser-requires c κs = search needs
-
 loop-holds : tie.Need-loop-holds Inv-loop μ-loop
 loop-holds c =
     let a = c .before .before .before .args in
     (omega arith, omega arith, omega arith, paste-zero (a .line .now) (a .held) (drop (a .at) (a .s .now)), refl)
 
-add-line : tie.Need-add-line Inv-loop μ-loop
-add-line c = search needs
-
-shared-slice-read-line : tie.Need-shared-slice-read-line Inv-loop μ-loop
-shared-slice-read-line c = search needs
-
-add-line-2 : tie.Need-add-line-2 Inv-loop μ-loop
-add-line-2 c = search needs
-
 slice-write-line : tie.Need-slice-write-line Inv-loop μ-loop
 slice-write-line c = omega arith
-
-add-i : tie.Need-add-i Inv-loop μ-loop
-add-i c = search needs
-
-loop-less : tie.Need-loop-less Inv-loop μ-loop
-loop-less c = search needs
 
 loop-again : tie.Need-loop-again Inv-loop μ-loop
 loop-again c =
     let l = c .before .before in
     let a = l .before .before .before .before .args in
     (search needs, search needs, search needs, paste-next (a .line .now) (a .s .now) (a .held) (a .at) (l .loop .i) (l .loop .line) (omega arith) (omega arith) (l .loop .inv .3), simp length-set (omega arith))
-
-add-result : tie.Need-add-result Inv-loop μ-loop
-add-result c = search needs
 
 same-length : tie.Need-same-length Inv-loop μ-loop
 same-length c = omega arith
@@ -82,17 +55,17 @@ hold-spec =
     (tie.spec
     Inv-loop
     μ-loop
-    sub-lesser
-    sub-lesser-2
-    lesser-requires
+    (λ c. search needs)
+    (λ c. search needs)
+    (λ c κs. search needs)
     loop-holds
-    add-line
-    shared-slice-read-line
-    add-line-2
+    (λ c. search needs)
+    (λ c. search needs)
+    (λ c. search needs)
     slice-write-line
-    add-i
-    loop-less
+    (λ c. search needs)
+    (λ c. search needs)
     loop-again
-    add-result
+    (λ c. search needs)
     same-length
     returns)

@@ -9,38 +9,11 @@ use Rattle.outline_links.proofs.AdvanceLaws.{along-link, joined-new}
 use Rattle.outline_links.proofs.advance.Statement.{statement}
 use Rattle.outline_links.proofs.advance.Tie as tie
 
-mul-at : tie.Need-mul-at
-mul-at c = search needs
-
-add-at : tie.Need-add-at
-add-at c = search needs
-
-mul-wide : tie.Need-mul-wide
-mul-wide c = search needs
-
-slice-read-wide : tie.Need-slice-read-wide
-slice-read-wide c = search needs
-
-wide-requires : tie.Need-wide-requires
-wide-requires c κs = search needs
-
-sub-t17 : tie.Need-sub-t17
-sub-t17 c = search needs
-
 returns : tie.Need-returns
 returns c = along-link (c .before .before .before .before .before .before .args .keys .now) (c .before .before .before .before .before .before .args .kids .now) (c .before .before .before .before .before .before .args .links .now) (c .before .before .before .before .before .before .args .used) (c .before .before .before .before .before .before .args .node) (c .before .before .before .before .before .before .args .k) (c .before .before .before .before .before .before .args .d) (c .before .wide .result) (c .before .wide .ensures .0) (c .if1 .taken)
 
-enter-requires : tie.Need-enter-requires
-enter-requires c κs = search needs
-
 mul-to : tie.Need-mul-to
 mul-to c = let s = seated-small (c .before .before .before .before .before .enter .ensures) in omega (arith, s .0, s .1, c .before .before .before .before .before .before .before .before .before .before .before .before .before .before .pre .0 .small)
-
-opposite-requires : tie.Need-opposite-requires
-opposite-requires c κs = search needs
-
-cast-to : tie.Need-cast-to
-cast-to c = search needs
 
 add-to : tie.Need-add-to
 add-to c = let s = seated-small (c .before .before .before .before .before .before .enter .ensures) in omega (arith, s .0, s .1, c .before .before .before .before .before .before .before .before .before .before .before .before .before .before .before .pre .0 .small, c .opposite .ensures, back-small (c .before .before .before .before .before .before .before .before .before .before .before .before .before .before .before .args .d))
@@ -51,32 +24,11 @@ add-links c = let s = seated-small (c .before .before .before .before .before .b
 cast-links : tie.Need-cast-links
 cast-links c = let s = seated-small (c .before .before .before .before .before .before .before .enter .ensures) in omega (arith, s .0, s .1, c .before .before .before .before .before .before .before .before .before .before .before .before .before .before .before .before .pre .0 .small)
 
-mul-links : tie.Need-mul-links
-mul-links c = search needs
-
-slice-write-links : tie.Need-slice-write-links
-slice-write-links c = search needs
-
-add-links-2 : tie.Need-add-links-2
-add-links-2 c = search needs
-
-cast-links-2 : tie.Need-cast-links-2
-cast-links-2 c = search needs
-
 mul-links-2 : tie.Need-mul-links-2
 mul-links-2 c = let s = seated-small (c .before .before .before .before .before .before .before .enter .ensures) in omega (arith, s .0, s .1, c .before .before .before .before .before .before .before .before .before .before .before .before .before .before .before .before .pre .0 .small, c .before .opposite .ensures, back-small (c .before .before .before .before .before .before .before .before .before .before .before .before .before .before .before .before .args .d))
 
 slice-write-links-2 : tie.Need-slice-write-links-2
 slice-write-links-2 c = let s = seated-small (c .before .before .before .before .before .before .before .enter .ensures) in simp length-set (omega (arith, s .0, s .1, c .before .before .before .before .before .before .before .before .before .before .before .before .before .before .before .before .pre .0 .words, c .before .opposite .ensures, back-small (c .before .before .before .before .before .before .before .before .before .before .before .before .before .before .before .before .args .d)))
-
-same-length : tie.Need-same-length
-same-length c = search needs
-
-same-length-2 : tie.Need-same-length-2
-same-length-2 c = search needs
-
-same-length-3 : tie.Need-same-length-3
-same-length-3 c = search needs
 
 returns-2 : tie.Need-returns-2
 returns-2 c = joined-new (c .before .before .before .before .before .before .before .before .before .before .before .before .before .before .before .before .args .keys .now) (c .before .before .before .before .before .before .before .before .before .before .before .before .before .before .before .before .args .kids .now) (c .before .before .before .before .before .before .before .before .before .before .before .before .before .before .before .before .args .links .now) (c .before .before .before .before .before .before .before .before .before .before .before .before .before .before .before .before .args .used) (c .before .before .before .before .before .before .before .before .before .before .before .before .before .before .before .before .args .node) (c .before .before .before .before .before .before .before .before .before .before .before .before .before .before .before .before .args .k) (c .before .before .before .before .before .before .before .before .before .before .before .before .before .before .before .before .args .d) (c .before .before .before .before .before .before .before .before .before .before .before .wide .result) (c .before .before .before .before .before .before .before .before .before .before .before .wide .ensures .0) (c .before .opposite .result) (c .before .before .before .before .before .before .before .before .before .before .if1 .left) (c .before .opposite .ensures) (c .before .before .before .before .before .before .before .enter .ensures)
@@ -85,27 +37,27 @@ pub advance-spec : {M : Type 1} → statement M
 advance-spec =
     tie.close
     (tie.spec
-    mul-at
-    add-at
-    mul-wide
-    slice-read-wide
-    wide-requires
-    sub-t17
+    (λ c. search needs)
+    (λ c. search needs)
+    (λ c. search needs)
+    (λ c. search needs)
+    (λ c κs. search needs)
+    (λ c. search needs)
     returns
-    enter-requires
+    (λ c κs. search needs)
     mul-to
-    opposite-requires
-    cast-to
+    (λ c κs. search needs)
+    (λ c. search needs)
     add-to
     add-links
     cast-links
-    mul-links
-    slice-write-links
-    add-links-2
-    cast-links-2
+    (λ c. search needs)
+    (λ c. search needs)
+    (λ c. search needs)
+    (λ c. search needs)
     mul-links-2
     slice-write-links-2
-    same-length
-    same-length-2
-    same-length-3
+    (λ c. search needs)
+    (λ c. search needs)
+    (λ c. search needs)
     returns-2)

@@ -17,29 +17,14 @@ Inv-loop chain keys₀ kids₀ links₀ k₀ least₀ home₀ used₀ node₀ i�
 abbrev μ-loop : tie.MeasureT-loop
 μ-loop chain keys₀ kids₀ links₀ k₀ least₀ home₀ used₀ node₀ i₀ keys kids links k least home used node i = length chain - i
 
-slice-write-keys : tie.Need-slice-write-keys Inv-loop μ-loop
-slice-write-keys c = search needs
-
 loop-holds : tie.Need-loop-holds Inv-loop μ-loop
 loop-holds c = ((λ a. building-start a (c .before .before .before .before .args .chain .now) (c .before .before .before .before .args .keys .now) (c .before .before .before .before .args .kids .now) (c .before .before .before .before .args .links .now) (c .before .before .before .before .pre)), refl)
-
-shared-slice-read-d : tie.Need-shared-slice-read-d Inv-loop μ-loop
-shared-slice-read-d c = search needs
 
 key-after-requires : tie.Need-key-after-requires Inv-loop μ-loop
 key-after-requires c κs = let l = c .before .before .loop in building-key origin (c .before .before .before .before .before .before .before .args .chain .now) (l .keys) (l .kids) (l .links) (l .k) (l .least) (l .home) (l .used) (l .node) (l .i) (l .inv .0 origin) (c .before .loop-test .taken)
 
 advance-requires : tie.Need-advance-requires Inv-loop μ-loop
 advance-requires c κs = let l = c .before .before .before .before .before .before .loop in (building-ready origin (c .before .before .before .before .before .before .before .before .before .before .before .args .chain .now) (l .keys) (l .kids) (l .links) (l .k) (l .least) (l .home) (l .used) (l .node) (l .i) (l .inv .0 origin) (c .before .before .before .before .before .loop-test .taken), l .inv .0 origin .sized .digits (l .i))
-
-lower-requires : tie.Need-lower-requires Inv-loop μ-loop
-lower-requires c κs = search needs
-
-lesser-requires : tie.Need-lesser-requires Inv-loop μ-loop
-lesser-requires c κs = search needs
-
-add-i : tie.Need-add-i Inv-loop μ-loop
-add-i c = search needs
 
 loop-less : tie.Need-loop-less Inv-loop μ-loop
 loop-less c = omega (arith, c .before .before .before .before .before .before .before .before .before .before .before .before .before .before .loop-test .taken)
@@ -65,14 +50,14 @@ build-spec =
     (tie.spec
     Inv-loop
     μ-loop
-    slice-write-keys
+    (λ c. search needs)
     loop-holds
-    shared-slice-read-d
+    (λ c. search needs)
     key-after-requires
     advance-requires
-    lower-requires
-    lesser-requires
-    add-i
+    (λ c κs. search needs)
+    (λ c κs. search needs)
+    (λ c. search needs)
     loop-less
     loop-again
     same-length

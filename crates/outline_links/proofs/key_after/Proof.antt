@@ -7,26 +7,14 @@ use Rattle.outline_links.proofs.AdvanceLaws.{key-south}
 use Rattle.outline_links.proofs.key_after.Statement.{statement}
 use Rattle.outline_links.proofs.key_after.Tie as tie
 
-add-result : tie.Need-add-result
-add-result c = search needs
-
 returns : tie.Need-returns
 returns c = sym (ap (keyAfter (c .before .args .k)) (c .if1 .taken))
-
-add-result-2 : tie.Need-add-result-2
-add-result-2 c = search needs
 
 returns-2 : tie.Need-returns-2
 returns-2 c = sym (ap (keyAfter (c .before .before .args .k)) (c .if2 .taken))
 
-sub-result : tie.Need-sub-result
-sub-result c = search needs
-
 returns-3 : tie.Need-returns-3
 returns-3 c = sym (ap (keyAfter (c .before .before .before .args .k)) (c .if3 .taken))
-
-sub-result-2 : tie.Need-sub-result-2
-sub-result-2 c = search needs
 
 returns-4 : tie.Need-returns-4
 returns-4 c = key-south (c .before .before .before .args .k) (c .before .before .before .args .d) (c .before .before .if1 .left) (c .before .if2 .left) (c .if3 .left)
@@ -35,11 +23,11 @@ pub key-after-spec : {M : Type 1} → statement M
 key-after-spec =
     tie.close
     (tie.spec
-    add-result
+    (λ c. search needs)
     returns
-    add-result-2
+    (λ c. search needs)
     returns-2
-    sub-result
+    (λ c. search needs)
     returns-3
-    sub-result-2
+    (λ c. search needs)
     returns-4)

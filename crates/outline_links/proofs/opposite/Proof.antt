@@ -6,11 +6,8 @@ use Rattle.grid.proofs.StepLaws.{back-mod}
 use Rattle.outline_links.proofs.opposite.Statement.{statement}
 use Rattle.outline_links.proofs.opposite.Tie as tie
 
-add-result : tie.Need-add-result
-add-result c = search needs
-
 returns : tie.Need-returns
 returns c = sym (back-mod (c .args .d) (c .pre))
 
 pub opposite-spec : {M : Type 1} → statement M
-opposite-spec = tie.close (tie.spec add-result returns)
+opposite-spec = tie.close (tie.spec (λ c. search needs) returns)

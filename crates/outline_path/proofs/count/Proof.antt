@@ -26,9 +26,6 @@ turn-requires c κs = at-to origin (c .before .before .before .args .chain .now)
 loop-holds : tie.Need-loop-holds Inv-loop μ-loop
 loop-holds c = going-start (c .before .before .before .before .args .chain .now) (c .before .before .before .before .args .links .now) (c .before .before .before .before .args .home) (c .before .before .before .before .args .first) (c .before .before .before .before .pre) (c .before .follow .result) (c .turn .result) (c .before .follow .ensures) (c .turn .ensures)
 
-away-requires : tie.Need-away-requires Inv-loop μ-loop
-away-requires c κs = search needs
-
 follow-requires-2 : tie.Need-follow-requires-2 Inv-loop μ-loop
 follow-requires-2 c κs = let l = c .before .before .loop in at-link origin (c .before .before .before .before .before .before .before .args .chain .now) (c .before .before .before .before .before .before .before .args .links .now) (c .before .before .before .before .before .before .before .args .home) (c .before .before .before .before .before .before .before .args .first) (c .before .before .before .before .before .before .before .pre) (l .n) (l .i) (l .d) (l .inv origin .at)
 
@@ -56,7 +53,7 @@ count-spec =
     follow-requires
     turn-requires
     loop-holds
-    away-requires
+    (λ c κs. search needs)
     follow-requires-2
     turn-requires-2
     add-n

@@ -6,9 +6,6 @@ use mathlib.Core.Path.{sym, ap, _∙_}
 use Rattle.outline_path.proofs.first_way.Statement.{statement}
 use Rattle.outline_path.proofs.first_way.Tie as tie
 
-leads-requires : tie.Need-leads-requires
-leads-requires c κs = search needs
-
 returns : tie.Need-returns
 returns c = sym (ap (λ (t : Bool). cond t 0 1) (sym (c .before .leads .ensures) ∙ c .if1 .taken))
 
@@ -16,4 +13,4 @@ returns-2 : tie.Need-returns-2
 returns-2 c = sym (ap (λ (t : Bool). cond t 0 1) (sym (c .before .leads .ensures) ∙ c .if1 .left))
 
 pub first-way-spec : {M : Type 1} → statement M
-first-way-spec = tie.close (tie.spec leads-requires returns returns-2)
+first-way-spec = tie.close (tie.spec (λ c κs. search needs) returns returns-2)

@@ -26,9 +26,6 @@ follow-requires c κs = let l = c .before .loop in at-link origin (c .before .be
 turn-requires : tie.Need-turn-requires Inv-loop μ-loop
 turn-requires c κs = let l = c .before .before .loop in at-to origin (c .before .before .before .before .before .before .args .chain .now) (c .before .before .before .before .before .before .args .links .now) (c .before .before .before .before .before .before .args .home) (c .before .before .before .before .before .before .args .first) (c .before .before .before .before .before .before .pre .0) (l .k) (l .i) (l .d) (l .inv .0 .at origin) (c .follow .result) (c .follow .ensures)
 
-add-k : tie.Need-add-k Inv-loop μ-loop
-add-k c = search needs
-
 loop-less : tie.Need-loop-less Inv-loop μ-loop
 loop-less c = omega (arith, c .before .before .loop-test .taken)
 
@@ -51,7 +48,7 @@ put-spec =
     slice-write-out
     follow-requires
     turn-requires
-    add-k
+    (λ c. search needs)
     loop-less
     loop-again
     same-length

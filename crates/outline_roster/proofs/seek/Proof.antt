@@ -26,9 +26,6 @@ shared-slice-read-if1 c = omega (arith, c .before .loop .inv .inside, c .before 
 mul-at : tie.Need-mul-at Inv-loop μ-loop
 mul-at c = omega (arith, c .before .before .loop .inv .inside, c .before .before .before .before .before .pre .room)
 
-digit-requires : tie.Need-digit-requires Inv-loop μ-loop
-digit-requires c κs = search needs
-
 add-at : tie.Need-add-at Inv-loop μ-loop
 add-at c = omega (arith, c .before .before .before .loop .inv .inside, c .before .before .before .before .before .before .pre .room, c .digit .ensures)
 
@@ -37,9 +34,6 @@ mul-wide c = omega (arith, c .before .before .before .loop .inv .inside, c .befo
 
 shared-slice-read-wide : tie.Need-shared-slice-read-wide Inv-loop μ-loop
 shared-slice-read-wide c = omega (arith, c .before .before .before .before .loop .inv .inside, c .before .before .before .before .before .before .before .pre .room, c .before .before .before .before .before .before .before .pre .pairs, c .before .digit .ensures)
-
-wide-requires : tie.Need-wide-requires Inv-loop μ-loop
-wide-requires c κs = search needs
 
 returns : tie.Need-returns Inv-loop μ-loop
 returns c = let l = c .before .before .before .before .before .before .loop in seeking-stop (c .before .before .before .before .before .before .before .before .before .args .keys .now) (c .before .before .before .before .before .before .before .before .before .args .kids .now) (c .before .before .before .before .before .before .before .before .before .args .used) (c .before .before .before .before .before .before .before .before .before .pre) (c .before .before .before .before .before .before .before .before .before .args .k) (l .i) (l .r) (l .inv) (c .before .before .before .digit .result) (c .before .wide .result) (c .before .before .before .digit .ensures) (c .before .wide .ensures .0) (c .before .before .before .before .if1 .taken) (c .if2 .taken)
@@ -63,11 +57,11 @@ seek-spec =
     mul-if1
     shared-slice-read-if1
     mul-at
-    digit-requires
+    (λ c κs. search needs)
     add-at
     mul-wide
     shared-slice-read-wide
-    wide-requires
+    (λ c κs. search needs)
     returns
     loop-less
     loop-again

@@ -13,29 +13,14 @@ use Rattle.outline_scan.proofs.write.Tie as tie
 returns : tie.Need-returns
 returns c = let a = c .before .before .before .args in call-refused (a .start) (a .chain .now) (a .out .now) TooMany (judged-many (a .start) (a .chain .now) 0 0 (c .if1 .taken))
 
-start-fits-requires : tie.Need-start-fits-requires
-start-fits-requires c κs = search needs
-
 returns-2 : tie.Need-returns-2
 returns-2 c =
     let a = c .before .before .before .before .before .args in
     let f = c .before .start-fits in
     call-refused (a .start) (a .chain .now) (a .out .now) StartRange (judged-start (a .start) (a .chain .now) 0 0 (c .before .before .if1 .left) (sym (f .ensures) ∙ not-true (f .result) (c .if2 .taken)))
 
-judge-requires : tie.Need-judge-requires
-judge-requires c κs = search needs
-
-enum-told : tie.Need-enum-told
-enum-told c = search needs
-
 write-from-requires : tie.Need-write-from-requires
 write-from-requires c κs = let j = c .before .before .before .judge in steady (c .before .before .before .before .before .before .before .before .before .args .chain .now) (sym (j .ensures) ∙ c .before .enum-told .given .1)
-
-enum-known-r : tie.Need-enum-known-r
-enum-known-r c = search needs
-
-same-length : tie.Need-same-length
-same-length c = search needs
 
 returns-3 : tie.Need-returns-3
 returns-3 c =
@@ -54,4 +39,4 @@ returns-4 c =
 pub write-spec : {M : Type 1} → statement M
 write-spec =
     tie.close
-    (tie.spec returns start-fits-requires returns-2 judge-requires enum-told write-from-requires enum-known-r same-length returns-3 returns-4)
+    (tie.spec returns (λ c κs. search needs) returns-2 (λ c κs. search needs) (λ c. search needs) write-from-requires (λ c. search needs) (λ c. search needs) returns-3 returns-4)

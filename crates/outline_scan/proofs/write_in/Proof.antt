@@ -7,41 +7,17 @@ use Rattle.outline_scan.proofs.ScanLaws.{traced-short, traced-written}
 use Rattle.outline_scan.proofs.write_in.Statement.{statement}
 use Rattle.outline_scan.proofs.write_in.Tie as tie
 
-build-requires : tie.Need-build-requires
-build-requires c κs = search needs
-
 first-way-requires : tie.Need-first-way-requires
 first-way-requires c κs = let f = c .before .before .before .before .before .before .before .build in let s = c .before .before .before .before .before .before .before .before .before .before .before .before .before .before .before .before in home-small (s .args .chain .now) (f .last .1 .1 .1 .0) (f .result) (omega (arith, s .pre .0 .room, s .pre .0 .small)) (omega (arith, f .kept .1 .1 .1 .0, s .pre .0 .room, s .pre .0 .words)) (f .ensures)
 
 count-requires : tie.Need-count-requires
 count-requires c κs = let f = c .before .before .before .before .before .before .before .before .before .build in let s = c .before .before .before .before .before .before .before .before .before .before .before .before .before .before .before .before .before .before in ring-of (s .args .chain .now) (f .last .1 .1 .1 .0) (f .result) (c .before .first-way .result) (s .pre .1) (omega (arith, s .pre .0 .room, s .pre .0 .small)) (omega (arith, f .kept .1 .1 .1 .0, s .pre .0 .room, s .pre .0 .words)) (f .ensures) (c .before .first-way .ensures)
 
-same-length : tie.Need-same-length
-same-length c = search needs
-
-same-length-2 : tie.Need-same-length-2
-same-length-2 c = search needs
-
-same-length-3 : tie.Need-same-length-3
-same-length-3 c = search needs
-
 returns : tie.Need-returns
 returns c = let s = c .before .before .before .before .before .before .before .before .before .before .before .before .before .before .before .before .before .before .before .before in traced-short (s .args .chain .now) (s .args .out .now) (c .before .count .result) (c .before .count .ensures) (c .if1 .taken)
 
 put-requires : tie.Need-put-requires
 put-requires c κs = let f = c .before .before .before .before .before .before .before .before .before .before .before .before .before .build in let s = c .before .before .before .before .before .before .before .before .before .before .before .before .before .before .before .before .before .before .before .before .before .before in (ring-of (s .args .chain .now) (f .last .1 .1 .1 .0) (f .result) (c .before .before .before .before .before .first-way .result) (s .pre .1) (omega (arith, s .pre .0 .room, s .pre .0 .small)) (omega (arith, f .kept .1 .1 .1 .0, s .pre .0 .room, s .pre .0 .words)) (f .ensures) (c .before .before .before .before .before .first-way .ensures), c .before .before .before .count .ensures, c .before .before .if1 .left)
-
-same-length-4 : tie.Need-same-length-4
-same-length-4 c = search needs
-
-same-length-5 : tie.Need-same-length-5
-same-length-5 c = search needs
-
-same-length-6 : tie.Need-same-length-6
-same-length-6 c = search needs
-
-same-length-7 : tie.Need-same-length-7
-same-length-7 c = search needs
 
 returns-2 : tie.Need-returns-2
 returns-2 c = let s = c .before .before .before .before .before .before .before .before .before .before .before .before .before .before .before .before .before .before .before .before .before .before .before .before .before in traced-written (s .args .chain .now) (s .args .out .now) (c .before .before .put .last .1 .1 .1 .1 .1 .0) (c .before .before .before .before .before .before .count .result) (c .before .before .before .before .before .before .count .ensures) (c .before .before .before .before .before .if1 .left) (c .before .before .put .ensures)
@@ -50,16 +26,16 @@ pub write-in-spec : {M : Type 1} → statement M
 write-in-spec =
     tie.close
     (tie.spec
-    build-requires
+    (λ c κs. search needs)
     first-way-requires
     count-requires
-    same-length
-    same-length-2
-    same-length-3
+    (λ c. search needs)
+    (λ c. search needs)
+    (λ c. search needs)
     returns
     put-requires
-    same-length-4
-    same-length-5
-    same-length-6
-    same-length-7
+    (λ c. search needs)
+    (λ c. search needs)
+    (λ c. search needs)
+    (λ c. search needs)
     returns-2)

@@ -6,18 +6,6 @@ use Rattle.overlay_list.proofs.ListLaws.{copied-holds}
 use Rattle.overlay_list.proofs.fill_short.Statement.{statement}
 use Rattle.overlay_list.proofs.fill_short.Tie as tie
 
-fill-requires : tie.Need-fill-requires
-fill-requires c κs = search needs
-
-narrow-requires : tie.Need-narrow-requires
-narrow-requires c κs = search needs
-
-same-length : tie.Need-same-length
-same-length c = search needs
-
-same-length-2 : tie.Need-same-length-2
-same-length-2 c = search needs
-
 returns : tie.Need-returns
 returns c =
     let z = c .before .before .before .before .before .before .before .before in
@@ -27,4 +15,4 @@ returns c =
 
 pub fill-short-spec : {M : Type 1} → statement M
 fill-short-spec =
-    tie.close (tie.spec fill-requires narrow-requires same-length same-length-2 returns)
+    tie.close (tie.spec (λ c κs. search needs) (λ c κs. search needs) (λ c. search needs) (λ c. search needs) returns)

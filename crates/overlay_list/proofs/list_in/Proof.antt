@@ -9,28 +9,10 @@ use Rattle.overlay_list.proofs.list_in.Tie as tie
 fill-short-requires : tie.Need-fill-short-requires
 fill-short-requires c κs = search needs
 
-fill-requires : tie.Need-fill-requires
-fill-requires c κs = search needs
-
 put-parts-requires : tie.Need-put-parts-requires
 put-parts-requires c κs =
     let z = c .before .before .before .before .before .before .before .before .before .before .before .before .before .before .before .args in
     (record { start = z .s; steps = z .ds .now; held = c .before .before .before .before .before .before .before .before .before .before .fill-short .ensures }, record { start = z .t; steps = z .es .now; held = c .before .before .before .before .before .before .fill .ensures })
-
-same-length : tie.Need-same-length
-same-length c = search needs
-
-same-length-2 : tie.Need-same-length-2
-same-length-2 c = search needs
-
-same-length-3 : tie.Need-same-length-3
-same-length-3 c = search needs
-
-same-length-4 : tie.Need-same-length-4
-same-length-4 c = search needs
-
-same-length-5 : tie.Need-same-length-5
-same-length-5 c = search needs
 
 returns : tie.Need-returns
 returns c =
@@ -45,11 +27,11 @@ list-in-spec =
     tie.close
     (tie.spec
     fill-short-requires
-    fill-requires
+    (λ c κs. search needs)
     put-parts-requires
-    same-length
-    same-length-2
-    same-length-3
-    same-length-4
-    same-length-5
+    (λ c. search needs)
+    (λ c. search needs)
+    (λ c. search needs)
+    (λ c. search needs)
+    (λ c. search needs)
     returns)

@@ -6,12 +6,6 @@ use Rattle.row_list.proofs.CallLaws.{good-walled}
 use Rattle.overlay_list.proofs.list_widest.Statement.{statement}
 use Rattle.overlay_list.proofs.list_widest.Tie as tie
 
-slice-aggregate-list-in : tie.Need-slice-aggregate-list-in
-slice-aggregate-list-in c = search needs
-
-slice-aggregate-list-in-2 : tie.Need-slice-aggregate-list-in-2
-slice-aggregate-list-in-2 c = search needs
-
 list-in-requires : tie.Need-list-in-requires
 list-in-requires c κs =
     let z = c .before .before .before .before .before .before .before in
@@ -19,26 +13,14 @@ list-in-requires c κs =
     let b = good-walled (z .args .t) (z .args .es .now) (z .pre .1) .few in
     (z .pre .0, z .pre .1, omega (arith, a), omega (arith, a), omega (arith, b))
 
-same-length : tie.Need-same-length
-same-length c = search needs
-
-same-length-2 : tie.Need-same-length-2
-same-length-2 c = search needs
-
-same-length-3 : tie.Need-same-length-3
-same-length-3 c = search needs
-
-returns : tie.Need-returns
-returns c = search needs
-
 pub list-widest-spec : {M : Type 1} → statement M
 list-widest-spec =
     tie.close
     (tie.spec
-    slice-aggregate-list-in
-    slice-aggregate-list-in-2
+    (λ c. search needs)
+    (λ c. search needs)
     list-in-requires
-    same-length
-    same-length-2
-    same-length-3
-    returns)
+    (λ c. search needs)
+    (λ c. search needs)
+    (λ c. search needs)
+    (λ c. search needs))

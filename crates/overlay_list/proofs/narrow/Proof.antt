@@ -19,17 +19,8 @@ Inv-loop list n out₀ end k₀ out k = (k ≤ 3 * (n / 2)) × (length out ≡ l
 abbrev μ-loop : tie.MeasureT-loop
 μ-loop list n out₀ end k₀ out k = 3 * (n / 2) - k
 
-mul-end : tie.Need-mul-end Inv-loop μ-loop
-mul-end c = search needs
-
 loop-holds : tie.Need-loop-holds Inv-loop μ-loop
 loop-holds c = (omega arith, refl, λ j h. absurd (omega arith))
-
-mul-short : tie.Need-mul-short Inv-loop μ-loop
-mul-short c = search needs
-
-shared-slice-copy-out-short : tie.Need-shared-slice-copy-out-short Inv-loop μ-loop
-shared-slice-copy-out-short c = search needs
 
 short-requires : tie.Need-short-requires Inv-loop μ-loop
 short-requires c κs =
@@ -38,14 +29,8 @@ short-requires c κs =
     let s = z .pre .0 .small k (omega arith) in
     subst (λ (v : ℤ). natAbs v ≤ 32767) (sym (long-back (getD (z .args .list .now) k (pos 0)) (omega (arith, s)))) s
 
-mul-t12 : tie.Need-mul-t12 Inv-loop μ-loop
-mul-t12 c = search needs
-
 slice-set-from-out : tie.Need-slice-set-from-out Inv-loop μ-loop
 slice-set-from-out c = let z = c .before .before .before .before in omega (arith, c .before .before .before .loop .inv .1, z .pre .1)
-
-add-k : tie.Need-add-k Inv-loop μ-loop
-add-k c = search needs
 
 loop-less : tie.Need-loop-less Inv-loop μ-loop
 loop-less c = omega arith
@@ -70,14 +55,14 @@ narrow-spec =
     (tie.spec
     Inv-loop
     μ-loop
-    mul-end
+    (λ c. search needs)
     loop-holds
-    mul-short
-    shared-slice-copy-out-short
+    (λ c. search needs)
+    (λ c. search needs)
     short-requires
-    mul-t12
+    (λ c. search needs)
     slice-set-from-out
-    add-k
+    (λ c. search needs)
     loop-less
     loop-again
     same-length

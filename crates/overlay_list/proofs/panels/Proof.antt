@@ -28,27 +28,12 @@ loop-holds c = (omega arith, omega arith, λ L b e. omega arith)
 mul-long : tie.Need-mul-long Inv-loop μ-loop
 mul-long c = record { fits = omega (arith, c .before .before .pre .few) }
 
-add-long : tie.Need-add-long Inv-loop μ-loop
-add-long c = search needs
-
-mul-long-2 : tie.Need-mul-long-2 Inv-loop μ-loop
-mul-long-2 c = search needs
-
 shared-slice-copy-out-long : tie.Need-shared-slice-copy-out-long Inv-loop μ-loop
 shared-slice-copy-out-long c =
     let z = c .before .before in
     let l = c .before .loop in
     let w = begins-at (z .args .list .now) (z .pre .spans) (l .k) (z .pre .begins) (omega (arith, z .pre .many)) in
     omega (arith, w .room)
-
-mul-long-3 : tie.Need-mul-long-3 Inv-loop μ-loop
-mul-long-3 c = search needs
-
-add-long-2 : tie.Need-add-long-2 Inv-loop μ-loop
-add-long-2 c = search needs
-
-mul-long-4 : tie.Need-mul-long-4 Inv-loop μ-loop
-mul-long-4 c = search needs
 
 shared-slice-copy-out-long-2 : tie.Need-shared-slice-copy-out-long-2 Inv-loop μ-loop
 shared-slice-copy-out-long-2 c =
@@ -66,9 +51,6 @@ long-requires c κs =
 
 add-sum : tie.Need-add-sum Inv-loop μ-loop
 add-sum c = record { fits = omega (arith, c .long .ensures .1, c .before .before .before .before .loop .inv .1, c .before .before .before .before .before .pre .few) }
-
-add-k : tie.Need-add-k Inv-loop μ-loop
-add-k c = search needs
 
 loop-less : tie.Need-loop-less Inv-loop μ-loop
 loop-less c = omega arith
@@ -91,16 +73,16 @@ panels-spec =
     μ-loop
     loop-holds
     mul-long
-    add-long
-    mul-long-2
+    (λ c. search needs)
+    (λ c. search needs)
     shared-slice-copy-out-long
-    mul-long-3
-    add-long-2
-    mul-long-4
+    (λ c. search needs)
+    (λ c. search needs)
+    (λ c. search needs)
     shared-slice-copy-out-long-2
     long-requires
     add-sum
-    add-k
+    (λ c. search needs)
     loop-less
     loop-again
     returns)

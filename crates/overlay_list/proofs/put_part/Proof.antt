@@ -6,18 +6,12 @@ use Rattle.overlay_list.proofs.ListLaws.{part-size, part-ordered, part-
 use Rattle.overlay_list.proofs.put_part.Statement.{statement}
 use Rattle.overlay_list.proofs.put_part.Tie as tie
 
-sweep-requires : tie.Need-sweep-requires
-sweep-requires c κs = search needs
-
 panels-requires : tie.Need-panels-requires
 panels-requires c κs =
     let z = c .before .before .before .before in
     let s = c .before .before .sweep in
     let e = s .ensures .0 ∙ part-size (z .args .a .now) (z .args .na) (z .args .b .now) (z .args .nb) (z .pre .0) (z .pre .1) (z .args .part) in
     part-ordered (z .args .a .now) (z .args .na) (z .args .b .now) (z .args .nb) (z .pre .0) (z .pre .1) (z .args .part) (z .args .out .now) (s .last .1 .1 .1 .1 .1 .0) (z .pre .2) (s .ensures .2) (s .result) e (s .ensures .1)
-
-same-length : tie.Need-same-length
-same-length c = search needs
 
 returns : tie.Need-returns
 returns c =
@@ -27,4 +21,4 @@ returns c =
     part-done (z .args .a .now) (z .args .na) (z .args .b .now) (z .args .nb) (z .pre .0) (z .pre .1) (z .args .part) (z .args .out .now) (s .last .1 .1 .1 .1 .1 .0) (z .pre .2) (s .ensures .2) (s .result) (c .panels .result) e (c .panels .ensures)
 
 pub put-part-spec : {M : Type 1} → statement M
-put-part-spec = tie.close (tie.spec sweep-requires panels-requires same-length returns)
+put-part-spec = tie.close (tie.spec (λ c κs. search needs) panels-requires (λ c. search needs) returns)

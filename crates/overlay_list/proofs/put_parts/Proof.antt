@@ -8,41 +8,17 @@ use Rattle.overlay_list.specs.Parts.{partSpans}
 use Rattle.overlay_list.proofs.put_parts.Statement.{statement}
 use Rattle.overlay_list.proofs.put_parts.Tie as tie
 
-size-requires : tie.Need-size-requires
-size-requires c κs = search needs
-
 returns : tie.Need-returns
 returns c = let z = c .before .before .args in parts-short (partSpans (z .a .now) (z .na) (z .b .now) (z .nb)) (z .first .now) (z .second .now) (z .both .now) First (omega (arith, c .before .size .ensures, c .if1 .taken))
 
-size-requires-2 : tie.Need-size-requires-2
-size-requires-2 c κs = search needs
-
 returns-2 : tie.Need-returns-2
 returns-2 c = let z = c .before .before .before .before .args in parts-short (partSpans (z .a .now) (z .na) (z .b .now) (z .nb)) (z .first .now) (z .second .now) (z .both .now) Second (omega (arith, c .before .size2 .ensures, c .if2 .taken))
-
-size-requires-3 : tie.Need-size-requires-3
-size-requires-3 c κs = search needs
 
 returns-3 : tie.Need-returns-3
 returns-3 c = let z = c .before .before .before .before .before .before .args in parts-short (partSpans (z .a .now) (z .na) (z .b .now) (z .nb)) (z .first .now) (z .second .now) (z .both .now) Both (omega (arith, c .before .size3 .ensures, c .if3 .taken))
 
 put-part-requires : tie.Need-put-part-requires
 put-part-requires c κs = search needs
-
-put-part-requires-2 : tie.Need-put-part-requires-2
-put-part-requires-2 c κs = search needs
-
-put-part-requires-3 : tie.Need-put-part-requires-3
-put-part-requires-3 c κs = search needs
-
-same-length : tie.Need-same-length
-same-length c = search needs
-
-same-length-2 : tie.Need-same-length-2
-same-length-2 c = search needs
-
-same-length-3 : tie.Need-same-length-3
-same-length-3 c = search needs
 
 returns-4 : tie.Need-returns-4
 returns-4 c =
@@ -57,16 +33,16 @@ pub put-parts-spec : {M : Type 1} → statement M
 put-parts-spec =
     tie.close
     (tie.spec
-    size-requires
+    (λ c κs. search needs)
     returns
-    size-requires-2
+    (λ c κs. search needs)
     returns-2
-    size-requires-3
+    (λ c κs. search needs)
     returns-3
     put-part-requires
-    put-part-requires-2
-    put-part-requires-3
-    same-length
-    same-length-2
-    same-length-3
+    (λ c κs. search needs)
+    (λ c κs. search needs)
+    (λ c. search needs)
+    (λ c. search needs)
+    (λ c. search needs)
     returns-4)

@@ -15,11 +15,8 @@ returns c = λ a b e f. let z = c .before .args in sym (lead-none a (z .i) (z .n
 returns-2 : tie.Need-returns-2
 returns-2 c = λ a b e f. let z = c .before .before .args in sym (lead-alone a (z .i) (z .n) b (z .k) (z .m) (omega arith) (omega arith))
 
-before-requires : tie.Need-before-requires
-before-requires c κs = search needs
-
 returns-3 : tie.Need-returns-3
 returns-3 c = λ a b e f. let z = c .before .before .before .args in ap not (c .before2 .ensures ∙ ap₂ ahead (f (omega arith)) (e (omega arith))) ∙ sym (lead-both a (z .i) (z .n) b (z .k) (z .m) (omega arith) (omega arith))
 
 pub comes-spec : {M : Type 1} → statement M
-comes-spec = tie.close (tie.spec returns returns-2 before-requires returns-3)
+comes-spec = tie.close (tie.spec returns returns-2 (λ c κs. search needs) returns-3)

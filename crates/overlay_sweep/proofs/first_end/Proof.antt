@@ -15,32 +15,11 @@ use Rattle.overlay_sweep.proofs.first_end.Tie as tie
 returns : tie.Need-returns
 returns c = λ h. absurd (omega arith)
 
-mul-row : tie.Need-mul-row
-mul-row c = search needs
-
-mul-wider : tie.Need-mul-wider
-mul-wider c = search needs
-
-shared-slice-copy-out-wider : tie.Need-shared-slice-copy-out-wider
-shared-slice-copy-out-wider c = search needs
-
 wider-requires : tie.Need-wider-requires
 wider-requires c κs =
     let z = c .before .before in
     let s = z .pre .small (3 * (z .args .i / 2)) (omega (arith, z .pre .even)) in
     subst (λ (v : ℤ). natAbs v ≤ 32767) (sym (short-back (getD (z .args .list .now) (3 * (z .args .i / 2)) (pos 0)) s)) s
-
-add-wider : tie.Need-add-wider
-add-wider c = search needs
-
-add-wider-2 : tie.Need-add-wider-2
-add-wider-2 c = search needs
-
-mul-wider-2 : tie.Need-mul-wider-2
-mul-wider-2 c = search needs
-
-shared-slice-copy-out-wider-2 : tie.Need-shared-slice-copy-out-wider-2
-shared-slice-copy-out-wider-2 c = search needs
 
 wider-requires-2 : tie.Need-wider-requires-2
 wider-requires-2 c κs =
@@ -72,14 +51,14 @@ first-end-spec =
     tie.close
     (tie.spec
     returns
-    mul-row
-    mul-wider
-    shared-slice-copy-out-wider
+    (λ c. search needs)
+    (λ c. search needs)
+    (λ c. search needs)
     wider-requires
-    add-wider
-    add-wider-2
-    mul-wider-2
-    shared-slice-copy-out-wider-2
+    (λ c. search needs)
+    (λ c. search needs)
+    (λ c. search needs)
+    (λ c. search needs)
     wider-requires-2
     past-requires
     returns-2)

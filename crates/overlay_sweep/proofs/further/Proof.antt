@@ -7,9 +7,6 @@ use Rattle.lists.specs.Lists.{tally}
 use Rattle.overlay_sweep.proofs.further.Statement.{statement}
 use Rattle.overlay_sweep.proofs.further.Tie as tie
 
-add-result : tie.Need-add-result
-add-result c = search needs
-
 returns : tie.Need-returns
 returns c = omega (arith, ap tally (c .if1 .taken))
 
@@ -17,4 +14,4 @@ returns-2 : tie.Need-returns-2
 returns-2 c = omega (arith, ap tally (c .if1 .left))
 
 pub further-spec : {M : Type 1} → statement M
-further-spec = tie.close (tie.spec add-result returns returns-2)
+further-spec = tie.close (tie.spec (λ c. search needs) returns returns-2)

@@ -10,15 +10,6 @@ use Rattle.overlay_sweep.proofs.EndLaws.{part-by}
 use Rattle.overlay_sweep.proofs.has.Statement.{statement}
 use Rattle.overlay_sweep.proofs.has.Tie as tie
 
-enum-told : tie.Need-enum-told
-enum-told c = search needs
-
-enum-told-2 : tie.Need-enum-told-2
-enum-told-2 c = search needs
-
-enum-told-3 : tie.Need-enum-told-3
-enum-told-3 c = search needs
-
 returns : tie.Need-returns
 returns c = part-by (c .before .before .before .args .part) First (eqb (c .before .before .before .args .i % 2) 1) (eqb (c .before .before .before .args .j % 2) 1) true (eqb (c .before .before .before .args .j % 2) 1) (c .before .enum-told .given .1) (c .if1 .taken) refl
 
@@ -41,9 +32,9 @@ pub has-spec : {M : Type 1} → statement M
 has-spec =
     tie.close
     (tie.spec
-    enum-told
-    enum-told-2
-    enum-told-3
+    (λ c. search needs)
+    (λ c. search needs)
+    (λ c. search needs)
     returns
     returns-2
     returns-3

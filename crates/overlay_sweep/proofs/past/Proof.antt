@@ -16,9 +16,6 @@ use Rattle.overlay_sweep.proofs.past.Lts as lts
 sum : (c : lts.Start reads.Pre reads.Post) → SFits w32 (c .args .x +ℤ pos (c .args .i % 2))
 sum c = sfits-abs w32 (c .args .x +ℤ pos (c .args .i % 2)) (omega (arith, abs+ (c .args .x) (pos (c .args .i % 2)), c .pre))
 
-cast-result : tie.Need-cast-result
-cast-result c = search needs
-
 add-result : tie.Need-add-result
 add-result c = simp (toZ-ofZ (c .fits .x), toZ-pos w32 {n = c .args .i % 2} (omega arith)) (sum c)
 
@@ -26,4 +23,4 @@ returns : tie.Need-returns
 returns c = simp (toZ-ofZ (c .fits .x), toZ-pos w32 {n = c .args .i % 2} (omega arith), toZ-ofZ (sum c))
 
 pub past-spec : {M : Type 1} → statement M
-past-spec = tie.close (tie.spec cast-result add-result returns)
+past-spec = tie.close (tie.spec (λ c. search needs) add-result returns)

@@ -20,39 +20,12 @@ returns c =
     let z = c .before .before in
     edge-put (z .args .was) (z .args .is) true true (z .args .at) (z .args .o) (z .args .o) (z .args .out .now) (z .args .out .now) (c .before .if1 .taken) (c .if2 .taken) (omega arith) refl
 
-less-requires : tie.Need-less-requires
-less-requires c κs = search needs
-
-put-requires : tie.Need-put-requires
-put-requires c κs = search needs
-
-add-result : tie.Need-add-result
-add-result c = search needs
-
-same-length : tie.Need-same-length
-same-length c = search needs
-
 returns-2 : tie.Need-returns-2
 returns-2 c =
     let z = c .before .before .before .before .before .before .before in
     let l = c .before .before .less in
     edge-put (z .args .was) (z .args .is) true false (z .args .at) (z .args .o) (z .args .o + 1) (z .args .out .now) (c .before .put .last .0) (c .before .before .before .before .before .before .if1 .taken) (c .before .before .before .before .before .if2 .left) (omega arith)
     (c .before .put .ensures ∙ ap (set (z .args .out .now) (z .args .o)) (toZ-ofZ (sfits-of {w = w32} {z = l .result} (l .ok)) ∙ l .ensures ∙ ap predℤ (toZ-ofZ (sfits-of {w = w32} {z = z .args .at .0} (c .before .before .before .struct-told .given .0 .1)))))
-
-put-requires-2 : tie.Need-put-requires-2
-put-requires-2 c κs = search needs
-
-add-put : tie.Need-add-put
-add-put c = search needs
-
-put-requires-3 : tie.Need-put-requires-3
-put-requires-3 c κs = search needs
-
-add-result-2 : tie.Need-add-result-2
-add-result-2 c = search needs
-
-same-length-2 : tie.Need-same-length-2
-same-length-2 c = search needs
 
 returns-3 : tie.Need-returns-3
 returns-3 c =
@@ -70,15 +43,15 @@ put-end-spec =
     tie.close
     (tie.spec
     returns
-    less-requires
-    put-requires
-    add-result
-    same-length
+    (λ c κs. search needs)
+    (λ c κs. search needs)
+    (λ c. search needs)
+    (λ c. search needs)
     returns-2
-    put-requires-2
-    add-put
-    put-requires-3
-    add-result-2
-    same-length-2
+    (λ c κs. search needs)
+    (λ c. search needs)
+    (λ c κs. search needs)
+    (λ c. search needs)
+    (λ c. search needs)
     returns-3
     returns-4)

@@ -15,27 +15,6 @@ use Rattle.overlay_sweep.proofs.second_end.Tie as tie
 returns : tie.Need-returns
 returns c = λ h. absurd (omega arith)
 
-mul-row : tie.Need-mul-row
-mul-row c = search needs
-
-mul-y : tie.Need-mul-y
-mul-y c = search needs
-
-shared-slice-copy-out-y : tie.Need-shared-slice-copy-out-y
-shared-slice-copy-out-y c = search needs
-
-add-past : tie.Need-add-past
-add-past c = search needs
-
-add-past-2 : tie.Need-add-past-2
-add-past-2 c = search needs
-
-mul-past : tie.Need-mul-past
-mul-past c = search needs
-
-shared-slice-copy-out-past : tie.Need-shared-slice-copy-out-past
-shared-slice-copy-out-past c = search needs
-
 past-requires : tie.Need-past-requires
 past-requires c κs =
     let z = c .before .before .before in
@@ -57,12 +36,12 @@ second-end-spec =
     tie.close
     (tie.spec
     returns
-    mul-row
-    mul-y
-    shared-slice-copy-out-y
-    add-past
-    add-past-2
-    mul-past
-    shared-slice-copy-out-past
+    (λ c. search needs)
+    (λ c. search needs)
+    (λ c. search needs)
+    (λ c. search needs)
+    (λ c. search needs)
+    (λ c. search needs)
+    (λ c. search needs)
     past-requires
     returns-2)

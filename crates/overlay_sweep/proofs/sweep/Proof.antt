@@ -29,32 +29,11 @@ add-loop c = omega (arith, c .loop .inv .0 .first, c .loop .inv .0 .second, c .b
 add-loop-2 : tie.Need-add-loop-2 Inv-loop μ-loop
 add-loop-2 c = omega (arith, c .before .pre .0 .few, c .before .pre .1 .few)
 
-first-end-requires : tie.Need-first-end-requires Inv-loop μ-loop
-first-end-requires c κs = search needs
-
-second-end-requires : tie.Need-second-end-requires Inv-loop μ-loop
-second-end-requires c κs = search needs
-
-comes-requires : tie.Need-comes-requires Inv-loop μ-loop
-comes-requires c κs = search needs
-
-comes-requires-2 : tie.Need-comes-requires-2 Inv-loop μ-loop
-comes-requires-2 c κs = search needs
-
-has-requires : tie.Need-has-requires Inv-loop μ-loop
-has-requires c κs = search needs
-
 further-requires : tie.Need-further-requires Inv-loop μ-loop
 further-requires c κs = omega (arith, c .before .before .before .before .before .before .loop .inv .0 .first, c .before .before .before .before .before .before .before .pre .0 .few)
 
 further-requires-2 : tie.Need-further-requires-2 Inv-loop μ-loop
 further-requires-2 c κs = omega (arith, c .before .before .before .before .before .before .before .loop .inv .0 .second, c .before .before .before .before .before .before .before .before .pre .1 .few)
-
-has-requires-2 : tie.Need-has-requires-2 Inv-loop μ-loop
-has-requires-2 c κs = search needs
-
-next-end-requires : tie.Need-next-end-requires Inv-loop μ-loop
-next-end-requires c κs = search needs
 
 put-end-requires : tie.Need-put-end-requires Inv-loop μ-loop
 put-end-requires c κs =
@@ -96,15 +75,15 @@ sweep-spec =
     loop-holds
     add-loop
     add-loop-2
-    first-end-requires
-    second-end-requires
-    comes-requires
-    comes-requires-2
-    has-requires
+    (λ c κs. search needs)
+    (λ c κs. search needs)
+    (λ c κs. search needs)
+    (λ c κs. search needs)
+    (λ c κs. search needs)
     further-requires
     further-requires-2
-    has-requires-2
-    next-end-requires
+    (λ c κs. search needs)
+    (λ c κs. search needs)
     put-end-requires
     loop-less
     loop-again

@@ -10,9 +10,6 @@ use Rattle.polygon_in.proofs.closed.Tie as tie
 returns : tie.Need-returns
 returns c = let s = c .before in ends-few (s .args .n) _ (s .args .line) (s .args .first) (s .args .steps) (c .if1 .taken)
 
-alike-requires : tie.Need-alike-requires
-alike-requires c κs = search needs
-
 returns-2 : tie.Need-returns-2
 returns-2 c =
     let s = c .before .before .before in
@@ -32,4 +29,4 @@ returns-4 c =
     ends-are (s .args .n) (r .result) _ (s .args .line) _ _ (s .args .first) (s .args .steps) (c .before .before .before .if1 .left) (r .ensures) (not-false (r .result) (c .before .if2 .left)) (c .if3 .left)
 
 pub closed-spec : {M : Type 1} → statement M
-closed-spec = tie.close (tie.spec returns alike-requires returns-2 returns-3 returns-4)
+closed-spec = tie.close (tie.spec returns (λ c κs. search needs) returns-2 returns-3 returns-4)

@@ -9,18 +9,6 @@ use Rattle.polygon_ring_laws.proofs.RingLaws.{part-room, later-is}
 use Rattle.polygon_in.proofs.corner_at.Statement.{statement}
 use Rattle.polygon_in.proofs.corner_at.Tie as tie
 
-mul-corner : tie.Need-mul-corner
-mul-corner c = search needs
-
-sub-corner : tie.Need-sub-corner
-sub-corner c = search needs
-
-part-corner-start : tie.Need-part-corner-start
-part-corner-start c = search needs
-
-part-corner-end : tie.Need-part-corner-end
-part-corner-end c = search needs
-
 corner-requires : tie.Need-corner-requires
 corner-requires c κs =
     let s = c .before .before in
@@ -34,4 +22,4 @@ returns c =
 pub corner-at-spec : {M : Type 1} → statement M
 corner-at-spec =
     tie.close
-    (tie.spec mul-corner sub-corner part-corner-start part-corner-end corner-requires returns)
+    (tie.spec (λ c. search needs) (λ c. search needs) (λ c. search needs) (λ c. search needs) corner-requires returns)

@@ -8,15 +8,6 @@ use Rattle.walk_corner.proofs.SignedLaws.{back}
 use Rattle.polygon_in.proofs.corner_in.Statement.{statement}
 use Rattle.polygon_in.proofs.corner_in.Tie as tie
 
-enum-known-j : tie.Need-enum-known-j
-enum-known-j c = search needs
-
-corner-of-requires : tie.Need-corner-of-requires
-corner-of-requires c κs = search needs
-
-enum-told : tie.Need-enum-told
-enum-told c = search needs
-
 returns : tie.Need-returns
 returns c =
     let x = c .before .before .j .given in
@@ -26,4 +17,4 @@ returns-2 : tie.Need-returns-2
 returns-2 c = sym (ap cornerIn (c .enum-told .given .1))
 
 pub corner-in-spec : {M : Type 1} → statement M
-corner-in-spec = tie.close (tie.spec enum-known-j corner-of-requires enum-told returns returns-2)
+corner-in-spec = tie.close (tie.spec (λ c. search needs) (λ c κs. search needs) (λ c. search needs) returns returns-2)

@@ -7,15 +7,6 @@ use Rattle.polygon_ring_laws.proofs.AxisLaws.{goes}
 use Rattle.polygon_in.proofs.direction.Statement.{statement}
 use Rattle.polygon_in.proofs.direction.Tie as tie
 
-along-requires : tie.Need-along-requires
-along-requires c κs = search needs
-
-along-requires-2 : tie.Need-along-requires-2
-along-requires-2 c κs = search needs
-
-equal-requires : tie.Need-equal-requires
-equal-requires c κs = search needs
-
 returns : tie.Need-returns
 returns c =
     let s = c .before .before .before .before .before .before .before .before .before .before in
@@ -34,4 +25,4 @@ returns-2 c =
 
 pub direction-spec : {M : Type 1} → statement M
 direction-spec =
-    tie.close (tie.spec along-requires along-requires-2 equal-requires returns returns-2)
+    tie.close (tie.spec (λ c κs. search needs) (λ c κs. search needs) (λ c κs. search needs) returns returns-2)

@@ -18,20 +18,8 @@ abbrev μ-loop : tie.MeasureT-loop
 loop-holds : tie.Need-loop-holds Inv-loop μ-loop
 loop-holds c = laid-first
 
-slice-write-buf : tie.Need-slice-write-buf Inv-loop μ-loop
-slice-write-buf c = search needs
-
-add-i : tie.Need-add-i Inv-loop μ-loop
-add-i c = search needs
-
-loop-less : tie.Need-loop-less Inv-loop μ-loop
-loop-less c = search needs
-
 loop-again : tie.Need-loop-again Inv-loop μ-loop
 loop-again c = let s = c .before .before in fill-more (s .args .buf .now) (c .before .loop .buf) (s .args .d) (s .args .n) (c .before .loop .i) (s .pre) (c .loop-test .taken) (c .before .loop .inv)
-
-same-length : tie.Need-same-length Inv-loop μ-loop
-same-length c = search needs
 
 returns : tie.Need-returns Inv-loop μ-loop
 returns c = let s = c .before .before in fill-last (s .args .buf .now) (c .before .loop .buf) (s .args .d) (s .args .n) (c .before .loop .i) (omega arith) (c .before .loop .inv)
@@ -43,9 +31,9 @@ fill-spec =
     Inv-loop
     μ-loop
     loop-holds
-    slice-write-buf
-    add-i
-    loop-less
+    (λ c. search needs)
+    (λ c. search needs)
+    (λ c. search needs)
     loop-again
-    same-length
+    (λ c. search needs)
     returns)

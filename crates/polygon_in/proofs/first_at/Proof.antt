@@ -7,16 +7,10 @@ use Rattle.polygon_ring_laws.proofs.RingLaws.{point-is, first-is}
 use Rattle.polygon_in.proofs.first_at.Statement.{statement}
 use Rattle.polygon_in.proofs.first_at.Tie as tie
 
-point-requires : tie.Need-point-requires
-point-requires c κs = search needs
-
-judge-requires : tie.Need-judge-requires
-judge-requires c κs = search needs
-
 returns : tie.Need-returns
 returns c =
     let s = c .before .before .before in
     point-is mostStart (s .args .little) (s .args .points .now) (c .judge .result) (c .before .point .result) (c .before .point .ensures) (c .judge .ensures) ∙ first-is (s .args .little) (s .args .points .now)
 
 pub first-at-spec : {M : Type 1} → statement M
-first-at-spec = tie.close (tie.spec point-requires judge-requires returns)
+first-at-spec = tie.close (tie.spec (λ c κs. search needs) (λ c κs. search needs) returns)

@@ -8,9 +8,6 @@ use mathlib.Core.Path.{_∙_, ap₂}
 use Rattle.polygon_in.proofs.gap.Statement.{statement}
 use Rattle.polygon_in.proofs.gap.Tie as tie
 
-less-requires : tie.Need-less-requires
-less-requires c κs = search needs
-
 sub-result : tie.Need-sub-result
 sub-result c = let s = c .before .before in diff-fits (s .args .x) (s .args .y) (s .pre .0) (s .pre .1)
 
@@ -32,4 +29,4 @@ returns-2 c = let s = c .before .before in diff-is (s .args .y) (s .args .x) (s 
 pub gap-spec : {M : Type 1} → statement M
 gap-spec =
     tie.close
-    (tie.spec less-requires sub-result cast-result sub-result-2 cast-result-2 returns returns-2)
+    (tie.spec (λ c κs. search needs) sub-result cast-result sub-result-2 cast-result-2 returns returns-2)

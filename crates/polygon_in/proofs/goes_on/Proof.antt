@@ -7,9 +7,6 @@ use Rattle.polygon_ring.specs.Ring.{straight}
 use Rattle.polygon_in.proofs.goes_on.Statement.{statement}
 use Rattle.polygon_in.proofs.goes_on.Tie as tie
 
-is-straight-requires : tie.Need-is-straight-requires
-is-straight-requires c κs = search needs
-
 returns : tie.Need-returns
 returns c = let s = c .before .before in c .before .is-straight .ensures ∙ sym (ap (λ (b : Bool). b && straight (s .args .a) (s .args .b)) (c .if1 .taken))
 
@@ -17,4 +14,4 @@ returns-2 : tie.Need-returns-2
 returns-2 c = let s = c .before .before in sym (ap (λ (b : Bool). b && straight (s .args .a) (s .args .b)) (c .if1 .left))
 
 pub goes-on-spec : {M : Type 1} → statement M
-goes-on-spec = tie.close (tie.spec is-straight-requires returns returns-2)
+goes-on-spec = tie.close (tie.spec (λ c κs. search needs) returns returns-2)

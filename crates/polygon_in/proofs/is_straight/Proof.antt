@@ -7,12 +7,6 @@ use mathlib.Core.Path.{_∙_, sym, ap}
 use Rattle.polygon_in.proofs.is_straight.Statement.{statement}
 use Rattle.polygon_in.proofs.is_straight.Tie as tie
 
-equal-requires : tie.Need-equal-requires
-equal-requires c κs = search needs
-
-equal-requires-2 : tie.Need-equal-requires-2
-equal-requires-2 c κs = search needs
-
 returns : tie.Need-returns
 returns c = let s = c .before .before .before .before .before .before .before in sym (ap (λ (m : Bool). cond m (not (c .before .before .before .before .equal .result)) (c .before .before .before .before .equal .result)) (c .if1 .taken)) ∙ straight-is (s .args .a) (s .args .b) (s .pre .0) (s .pre .1) (c .before .before .before .before .equal .result) (c .before .equal2 .result) (c .before .before .before .before .equal .ensures) (c .before .equal2 .ensures)
 
@@ -20,4 +14,4 @@ returns-2 : tie.Need-returns-2
 returns-2 c = let s = c .before .before .before .before .before .before .before in sym (ap (λ (m : Bool). cond m (not (c .before .before .before .before .equal .result)) (c .before .before .before .before .equal .result)) (c .if1 .left)) ∙ straight-is (s .args .a) (s .args .b) (s .pre .0) (s .pre .1) (c .before .before .before .before .equal .result) (c .before .equal2 .result) (c .before .before .before .before .equal .ensures) (c .before .equal2 .ensures)
 
 pub is-straight-spec : {M : Type 1} → statement M
-is-straight-spec = tie.close (tie.spec equal-requires equal-requires-2 returns returns-2)
+is-straight-spec = tie.close (tie.spec (λ c κs. search needs) (λ c κs. search needs) returns returns-2)

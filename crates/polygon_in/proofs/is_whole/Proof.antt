@@ -7,21 +7,6 @@ use lib.ListN.{length}
 use Rattle.polygon_in.proofs.is_whole.Statement.{statement}
 use Rattle.polygon_in.proofs.is_whole.Tie as tie
 
-sub-number : tie.Need-sub-number
-sub-number c = search needs
-
-part-number-start : tie.Need-part-number-start
-part-number-start c = search needs
-
-part-number-end : tie.Need-part-number-end
-part-number-end c = search needs
-
-number-requires : tie.Need-number-requires
-number-requires c κs = search needs
-
-sub-rest : tie.Need-sub-rest
-sub-rest c = search needs
-
 returns : tie.Need-returns
 returns c = let s = c .before .before .before .before in whole-no (length (s .args .file .now)) (countIn (s .args .little) (s .args .file .now)) (s .pre) (c .if1 .taken)
 
@@ -33,10 +18,10 @@ pub is-whole-spec : {M : Type 1} → statement M
 is-whole-spec =
     tie.close
     (tie.spec
-    sub-number
-    part-number-start
-    part-number-end
-    number-requires
-    sub-rest
+    (λ c. search needs)
+    (λ c. search needs)
+    (λ c. search needs)
+    (λ c κs. search needs)
+    (λ c. search needs)
     returns
     returns-2)

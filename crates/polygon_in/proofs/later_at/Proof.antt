@@ -7,24 +7,6 @@ use Rattle.polygon_ring_laws.proofs.RingLaws.{point-is, later-is}
 use Rattle.polygon_in.proofs.later_at.Statement.{statement}
 use Rattle.polygon_in.proofs.later_at.Tie as tie
 
-mul-point : tie.Need-mul-point
-mul-point c = search needs
-
-sub-point : tie.Need-sub-point
-sub-point c = search needs
-
-part-point-start : tie.Need-part-point-start
-part-point-start c = search needs
-
-part-point-end : tie.Need-part-point-end
-part-point-end c = search needs
-
-point-requires : tie.Need-point-requires
-point-requires c κs = search needs
-
-judge-requires : tie.Need-judge-requires
-judge-requires c κs = search needs
-
 returns : tie.Need-returns
 returns c =
     let s = c .before .before .before .before in
@@ -34,10 +16,10 @@ pub later-at-spec : {M : Type 1} → statement M
 later-at-spec =
     tie.close
     (tie.spec
-    mul-point
-    sub-point
-    part-point-start
-    part-point-end
-    point-requires
-    judge-requires
+    (λ c. search needs)
+    (λ c. search needs)
+    (λ c. search needs)
+    (λ c. search needs)
+    (λ c κs. search needs)
+    (λ c κs. search needs)
     returns)

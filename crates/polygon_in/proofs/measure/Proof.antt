@@ -23,21 +23,12 @@ abbrev μ-loop : tie.MeasureT-loop
 returns : tie.Need-returns Inv-loop μ-loop
 returns c = let s = c .before .before in measured-none (s .args .little) (s .args .points .now) (s .args .n) (c .if1 .taken)
 
-first-at-requires : tie.Need-first-at-requires Inv-loop μ-loop
-first-at-requires c κs = search needs
-
-is-faulty-requires : tie.Need-is-faulty-requires Inv-loop μ-loop
-is-faulty-requires c κs = search needs
-
 returns-2 : tie.Need-returns-2 Inv-loop μ-loop
 returns-2 c =
     let s = c .before .before .before .before .before in
     let b = c .before .is-faulty in
     measured-faulty (pointsFrom (s .args .little) (s .args .points .now) 0 (s .args .n))
     (faulty-found (s .args .little) (s .args .points .now) 0 (s .args .n) (b .result) (omega (arith, c .before .before .before .if1 .left)) (b .ensures ∙ ap isFaulty (c .before .before .first-at .ensures)) (c .if2 .taken) (faulty-first (s .args .little) (s .args .points .now) (s .args .n)))
-
-corner-in-requires : tie.Need-corner-in-requires Inv-loop μ-loop
-corner-in-requires c κs = search needs
 
 loop-holds : tie.Need-loop-holds Inv-loop μ-loop
 loop-holds c =
@@ -49,21 +40,12 @@ loop-holds c =
 later-at-requires : tie.Need-later-at-requires Inv-loop μ-loop
 later-at-requires c κs = (omega (arith, c .before .loop .inv .some), omega arith)
 
-enum-told : tie.Need-enum-told Inv-loop μ-loop
-enum-told c = search needs
-
 returns-3 : tie.Need-returns-3 Inv-loop μ-loop
 returns-3 c =
     let s = c .before .before .before .before .before .before .before .before .before .before .before in
     let at = c .before .before .before .before .loop in
     measured-faulty (pointsFrom (s .args .little) (s .args .points .now) 0 (s .args .n))
     (faulty-found (s .args .little) (s .args .points .now) (at .i) (s .args .n) true (c .before .before .before .loop-test .taken) (ap isFaulty (sym (c .enum-told .given .1) ∙ c .before .before .later-at .ensures)) refl (at .inv .sound))
-
-enum-known-x : tie.Need-enum-known-x Inv-loop μ-loop
-enum-known-x c = search needs
-
-corner-of-requires : tie.Need-corner-of-requires Inv-loop μ-loop
-corner-of-requires c κs = search needs
 
 goes-on-requires : tie.Need-goes-on-requires Inv-loop μ-loop
 goes-on-requires c κs =
@@ -89,15 +71,6 @@ add-cap c =
     let e = c .before .before .corner-of .ensures ∙ ap₂ corner (back (x .0 .0) (c .before .before .before .known-told .given .0 .1)) (back (x .0 .1 .0) (c .before .before .before .known-told .given .1 .0 .1)) ∙ ap cornerIn (sym (x .1) ∙ c .before .before .before .before .before .before .later-at .ensures) in
     record { fits = omega (arith, at .inv .small, c .distance .ensures, apart-le (at .a) (c .before .before .corner-of .result) (measuring-near (at .inv)) (near-of (s .args .little) (s .args .points .now) (at .i) (c .before .before .corner-of .result) e)) }
 
-cap-requires : tie.Need-cap-requires Inv-loop μ-loop
-cap-requires c κs = search needs
-
-add-i : tie.Need-add-i Inv-loop μ-loop
-add-i c = search needs
-
-loop-less : tie.Need-loop-less Inv-loop μ-loop
-loop-less c = search needs
-
 loop-again : tie.Need-loop-again Inv-loop μ-loop
 loop-again c =
     let s = c .before .before .before .before .before .before .before .before .before .before .before .before .before .before .before .before in
@@ -106,9 +79,6 @@ loop-again c =
     let e = c .before .before .before .corner-of .ensures ∙ ap₂ corner (back (x .0 .0) (c .before .before .before .before .known-told .given .0 .1)) (back (x .0 .1 .0) (c .before .before .before .before .known-told .given .1 .0 .1)) ∙ ap cornerIn (sym (x .1) ∙ c .before .before .before .before .before .before .before .later-at .ensures) in
     measuring-more (s .args .little) (s .args .points .now) (s .args .n) (at .a) (c .before .before .before .corner-of .result) (at .line) (at .steps) (at .i) (c .before .before .before .before .before .before .before .before .loop-test .taken) e (at .inv)
     false (c .before .before .goes-on .result) (c .before .distance .result) (c .cap .result) (ap isFaulty (sym (x .1) ∙ c .before .before .before .before .before .before .before .later-at .ensures)) refl (c .before .before .goes-on .ensures) (c .before .distance .ensures) (c .cap .ensures)
-
-closed-requires : tie.Need-closed-requires Inv-loop μ-loop
-closed-requires c κs = search needs
 
 returns-4 : tie.Need-returns-4 Inv-loop μ-loop
 returns-4 c =
@@ -126,22 +96,22 @@ measure-spec =
     Inv-loop
     μ-loop
     returns
-    first-at-requires
-    is-faulty-requires
+    (λ c κs. search needs)
+    (λ c κs. search needs)
     returns-2
-    corner-in-requires
+    (λ c κs. search needs)
     loop-holds
     later-at-requires
-    enum-told
+    (λ c. search needs)
     returns-3
-    enum-known-x
-    corner-of-requires
+    (λ c. search needs)
+    (λ c κs. search needs)
     goes-on-requires
     distance-requires
     add-cap
-    cap-requires
-    add-i
-    loop-less
+    (λ c κs. search needs)
+    (λ c. search needs)
+    (λ c. search needs)
     loop-again
-    closed-requires
+    (λ c κs. search needs)
     returns-4)

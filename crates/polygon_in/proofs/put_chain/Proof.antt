@@ -77,12 +77,6 @@ add-at c =
     let room = chaining-room (s .args .little) (s .args .points .now) (s .args .n) (s .args .out .now) (at .out) (at .a) (b .result) (at .at) (at .i) (c .before .before .before .before .before .before .before .loop-test .taken) (b .ensures) (s .pre .2) (at .inv) in
     record { fits = omega (arith, room, c .before .before .before .before .before .distance .ensures) }
 
-add-i : tie.Need-add-i Inv-loop μ-loop
-add-i c = search needs
-
-loop-less : tie.Need-loop-less Inv-loop μ-loop
-loop-less c = search needs
-
 loop-again : tie.Need-loop-again Inv-loop μ-loop
 loop-again c =
     let s = c .before .before .before .before .before .before .before .before .before .before .before in
@@ -112,8 +106,8 @@ put-chain-spec =
     direction-requires
     fill-requires
     add-at
-    add-i
-    loop-less
+    (λ c. search needs)
+    (λ c. search needs)
     loop-again
     same-length
     returns)

@@ -10,26 +10,11 @@ use Rattle.polygon_in.proofs.read.Tie as tie
 returns : tie.Need-returns
 returns c = let s = c .before .before .before in read-short (s .args .file .now) (s .args .chain .now) (c .if1 .taken)
 
-order-requires : tie.Need-order-requires
-order-requires c κs = search needs
-
-is-neither-requires : tie.Need-is-neither-requires
-is-neither-requires c κs = search needs
-
 returns-2 : tie.Need-returns-2
 returns-2 c =
     let s = c .before .before .before .before .before .before in
     let n = c .before .is-neither in
     read-neither (s .args .file .now) (s .args .chain .now) (c .before .before .before .if1 .left) (ap isNeither (sym (c .before .before .order .ensures)) ∙ sym (n .ensures) ∙ c .if2 .taken)
-
-is-little-requires : tie.Need-is-little-requires
-is-little-requires c κs = search needs
-
-read-in-requires : tie.Need-read-in-requires
-read-in-requires c κs = search needs
-
-same-length : tie.Need-same-length
-same-length c = search needs
 
 returns-3 : tie.Need-returns-3
 returns-3 c =
@@ -45,10 +30,10 @@ read-spec =
     tie.close
     (tie.spec
     returns
-    order-requires
-    is-neither-requires
+    (λ c κs. search needs)
+    (λ c κs. search needs)
     returns-2
-    is-little-requires
-    read-in-requires
-    same-length
+    (λ c κs. search needs)
+    (λ c κs. search needs)
+    (λ c. search needs)
     returns-3)

@@ -11,41 +11,11 @@ use Rattle.polygon_ring_laws.proofs.ReadLaws.{read-uneven, ready, read-written,
 use Rattle.polygon_in.proofs.read_in.Statement.{statement}
 use Rattle.polygon_in.proofs.read_in.Tie as tie
 
-is-whole-requires : tie.Need-is-whole-requires
-is-whole-requires c κs = search needs
-
 returns : tie.Need-returns
 returns c =
     let s = c .before .before .before .before in
     let w = c .before .is-whole in
     read-uneven (s .args .little) (s .args .file .now) (w .result) (w .ensures) (s .args .chain .now) (c .if1 .taken)
-
-sub-n : tie.Need-sub-n
-sub-n c = search needs
-
-sub-survey : tie.Need-sub-survey
-sub-survey c = search needs
-
-part-survey-start : tie.Need-part-survey-start
-part-survey-start c = search needs
-
-part-survey-end : tie.Need-part-survey-end
-part-survey-end c = search needs
-
-survey-requires : tie.Need-survey-requires
-survey-requires c κs = search needs
-
-enum-known-given : tie.Need-enum-known-given
-enum-known-given c = search needs
-
-sub-put-chain : tie.Need-sub-put-chain
-sub-put-chain c = search needs
-
-part-put-chain-start : tie.Need-part-put-chain-start
-part-put-chain-start c = search needs
-
-part-put-chain-end : tie.Need-part-put-chain-end
-part-put-chain-end c = search needs
 
 put-chain-requires : tie.Need-put-chain-requires
 put-chain-requires c κs =
@@ -55,12 +25,6 @@ put-chain-requires c κs =
     let x = c .before .before .before .before .given .given in
     let r = ready (s .args .little) (s .args .file .now) (w .result) (w .ensures) (c .before .before .before .before .before .before .before .before .if1 .left) (length (s .args .chain .now)) (v .result) (v .ensures) (x .0 .0) (x .1) in
     (part-room (s .args .file .now) 13 (16 * ((length (s .args .file .now) - 13) / 16)) (omega (arith, s .pre)), r .0, r .1, r .2, r .3)
-
-enum-told : tie.Need-enum-told
-enum-told c = search needs
-
-same-length : tie.Need-same-length
-same-length c = search needs
 
 returns-2 : tie.Need-returns-2
 returns-2 c =
@@ -81,19 +45,19 @@ pub read-in-spec : {M : Type 1} → statement M
 read-in-spec =
     tie.close
     (tie.spec
-    is-whole-requires
+    (λ c κs. search needs)
     returns
-    sub-n
-    sub-survey
-    part-survey-start
-    part-survey-end
-    survey-requires
-    enum-known-given
-    sub-put-chain
-    part-put-chain-start
-    part-put-chain-end
+    (λ c. search needs)
+    (λ c. search needs)
+    (λ c. search needs)
+    (λ c. search needs)
+    (λ c κs. search needs)
+    (λ c. search needs)
+    (λ c. search needs)
+    (λ c. search needs)
+    (λ c. search needs)
     put-chain-requires
-    enum-told
-    same-length
+    (λ c. search needs)
+    (λ c. search needs)
     returns-2
     returns-3)

@@ -5,20 +5,8 @@ use Rattle.polygon_laws.proofs.WriteLaws.{room-drawable, call-good, call-refuse
 use Rattle.polygon_out.proofs.write.Statement.{statement}
 use Rattle.polygon_out.proofs.write.Tie as tie
 
-judge-requires : tie.Need-judge-requires
-judge-requires c κs = search needs
-
-enum-told : tie.Need-enum-told
-enum-told c = search needs
-
 draw-requires : tie.Need-draw-requires
 draw-requires c κs = let a = c .before .before .before .before .before .before .args in room-drawable (a .start) (a .chain .now) (c .before .before .before .judge .result) (c .before .before .before .judge .ensures) (c .before .enum-told .given .1)
-
-enum-known-r : tie.Need-enum-known-r
-enum-known-r c = search needs
-
-same-length : tie.Need-same-length
-same-length c = search needs
 
 returns : tie.Need-returns
 returns c =
@@ -33,4 +21,4 @@ returns-2 c =
 pub write-spec : {M : Type 1} → statement M
 write-spec =
     tie.close
-    (tie.spec judge-requires enum-told draw-requires enum-known-r same-length returns returns-2)
+    (tie.spec (λ c κs. search needs) (λ c. search needs) draw-requires (λ c. search needs) (λ c. search needs) returns returns-2)

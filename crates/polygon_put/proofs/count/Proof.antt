@@ -18,34 +18,19 @@ Inv-loop chain last₀ k₀ i₀ last k i = Counting chain last k i
 abbrev μ-loop : tie.MeasureT-loop
 μ-loop chain last₀ k₀ i₀ last k i = length chain - i
 
-first-requires : tie.Need-first-requires Inv-loop μ-loop
-first-requires c κs = search needs
-
 loop-holds : tie.Need-loop-holds Inv-loop μ-loop
 loop-holds c = let s = c .before .before in count-first (s .args .chain .now) (c .first .result) (s .pre .0) (c .first .ensures)
-
-shared-slice-read-d : tie.Need-shared-slice-read-d Inv-loop μ-loop
-shared-slice-read-d c = search needs
 
 bent-requires : tie.Need-bent-requires Inv-loop μ-loop
 bent-requires c κs =
     let s = c .before .before .before .before .before in
     (c .before .before .loop .inv .small, below-getD 4 (s .args .chain .now) (c .before .before .loop .i) (s .pre .0) (c .before .loop-test .taken))
 
-one-if-requires : tie.Need-one-if-requires Inv-loop μ-loop
-one-if-requires c κs = search needs
-
 add-k : tie.Need-add-k Inv-loop μ-loop
 add-k c =
     let p = c .before .before .before .before .loop .inv in
     let s = c .before .before .before .before .before .before .before in
     record { fits = omega (arith, p .few, p .within, s .pre .1, c .one-if .ensures, tally-le (c .before .bent .result)) }
-
-add-i : tie.Need-add-i Inv-loop μ-loop
-add-i c = search needs
-
-loop-less : tie.Need-loop-less Inv-loop μ-loop
-loop-less c = search needs
 
 loop-again : tie.Need-loop-again Inv-loop μ-loop
 loop-again c =
@@ -62,13 +47,13 @@ count-spec =
     (tie.spec
     Inv-loop
     μ-loop
-    first-requires
+    (λ c κs. search needs)
     loop-holds
-    shared-slice-read-d
+    (λ c. search needs)
     bent-requires
-    one-if-requires
+    (λ c κs. search needs)
     add-k
-    add-i
-    loop-less
+    (λ c. search needs)
+    (λ c. search needs)
     loop-again
     returns)

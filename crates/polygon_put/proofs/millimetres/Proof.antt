@@ -14,12 +14,9 @@ use Rattle.polygon_put.proofs.millimetres.Tie as tie
 mul-result : tie.Need-mul-result
 mul-result c = subst (λ (z : ℤ). SFits w32 (pos 600 *ℤ z)) (sym (toZ-ofZ (c .fits .x))) (scaled-fits (c .args .x) (c .pre))
 
-int-to-float-result : tie.Need-int-to-float-result
-int-to-float-result c = search needs
-
 returns : tie.Need-returns
 unfolding coordinateOf
 returns c = rw (toZ-ofZ (c .before .fits .x), toZ-ofZ (scaled-fits (c .before .args .x) (c .before .pre)))
 
 pub millimetres-spec : {M : Type 1} → statement M
-millimetres-spec = tie.close (tie.spec mul-result int-to-float-result returns)
+millimetres-spec = tie.close (tie.spec mul-result (λ c. search needs) returns)

@@ -7,28 +7,10 @@ use Prim.Native.Nat.{_*_}
 use Rattle.polygon_put.proofs.put_bend.Statement.{statement}
 use Rattle.polygon_put.proofs.put_bend.Tie as tie
 
-mul-put-point : tie.Need-mul-put-point
-mul-put-point c = search needs
-
-sub-put-point : tie.Need-sub-put-point
-sub-put-point c = search needs
-
-part-put-point-start : tie.Need-part-put-point-start
-part-put-point-start c = search needs
-
-part-put-point-end : tie.Need-part-put-point-end
-part-put-point-end c = search needs
-
 put-point-requires : tie.Need-put-point-requires
 put-point-requires c κs =
     let s = c .before .before .before in
     (room (s .args .buf .now) (16 * s .args .k) (below-room (s .args .k) (s .args .bend) (length (s .args .buf .now)) (c .before .if1 .taken) (s .pre .0)), s .pre .1, s .pre .2)
-
-add-result : tie.Need-add-result
-add-result c = search needs
-
-same-length : tie.Need-same-length
-same-length c = search needs
 
 returns : tie.Need-returns
 returns c =
@@ -42,12 +24,12 @@ pub put-bend-spec : {M : Type 1} → statement M
 put-bend-spec =
     tie.close
     (tie.spec
-    mul-put-point
-    sub-put-point
-    part-put-point-start
-    part-put-point-end
+    (λ c. search needs)
+    (λ c. search needs)
+    (λ c. search needs)
+    (λ c. search needs)
     put-point-requires
-    add-result
-    same-length
+    (λ c. search needs)
+    (λ c. search needs)
     returns
     returns-2)

@@ -21,14 +21,8 @@ Inv-loop buf₀ chain at₀ last₀ k₀ i₀ buf at last k i = Bent buf₀ at�
 abbrev μ-loop : tie.MeasureT-loop
 μ-loop buf₀ chain at₀ last₀ k₀ i₀ buf at last k i = length chain - i
 
-first-requires : tie.Need-first-requires Inv-loop μ-loop
-first-requires c κs = search needs
-
 loop-holds : tie.Need-loop-holds Inv-loop μ-loop
 loop-holds c = let s = c .before .before .before in bent-first (s .args .buf .now) (s .args .start) (s .args .chain .now) (c .first .result) (s .pre .0) (c .first .ensures)
-
-shared-slice-read-d : tie.Need-shared-slice-read-d Inv-loop μ-loop
-shared-slice-read-d c = search needs
 
 bent-requires : tie.Need-bent-requires Inv-loop μ-loop
 bent-requires c κs =
@@ -50,12 +44,6 @@ moved-requires c κs =
     let p = c .before .before .before .before .before .before .before .loop .inv in
     let h = c .before .before .before .before .before .before .loop-test .taken in
     (omega (arith, p .near-x, h, s .pre .0 .few), omega (arith, p .near-y, h, s .pre .0 .few))
-
-add-i : tie.Need-add-i Inv-loop μ-loop
-add-i c = search needs
-
-loop-less : tie.Need-loop-less Inv-loop μ-loop
-loop-less c = search needs
 
 loop-again : tie.Need-loop-again Inv-loop μ-loop
 loop-again c =
@@ -79,14 +67,14 @@ put-bends-spec =
     (tie.spec
     Inv-loop
     μ-loop
-    first-requires
+    (λ c κs. search needs)
     loop-holds
-    shared-slice-read-d
+    (λ c. search needs)
     bent-requires
     put-bend-requires
     moved-requires
-    add-i
-    loop-less
+    (λ c. search needs)
+    (λ c. search needs)
     loop-again
     same-length
     returns)

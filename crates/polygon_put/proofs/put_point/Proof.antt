@@ -42,33 +42,15 @@ two l cur ys x y c h k p q e w =
     lent-more l cur (bytesOf 8 (toBits binary64 x)) (bytesOf 8 (toBits binary64 y)) ys 8 8 (length-bytesOf 8 (toBits binary64 x)) e w
     ∙ ap₂ (λ (a b : List ℕ). a ++ b ++ drop 16 l) (bytes x (c .0) h p) (bytes y (c .1) k q)
 
-millimetres-requires : tie.Need-millimetres-requires
-millimetres-requires c κs = search needs
-
 put-float-requires : tie.Need-put-float-requires
 put-float-requires c κs =
     let s = c .before .before .before .before in
     (omega arith, no-nan _ (s .args .c .0) (s .pre .1) (c .millimetres .ensures))
 
-sub-put-float : tie.Need-sub-put-float
-sub-put-float c = search needs
-
-part-put-float-start : tie.Need-part-put-float-start
-part-put-float-start c = search needs
-
-part-put-float-end : tie.Need-part-put-float-end
-part-put-float-end c = search needs
-
-millimetres-requires-2 : tie.Need-millimetres-requires-2
-millimetres-requires-2 c κs = search needs
-
 put-float-requires-2 : tie.Need-put-float-requires-2
 put-float-requires-2 c κs =
     let s = c .before .before .before .before .before .before .before .before .before .before in
     (room (c .before .before .before .before .before .put-float .last .0) (omega arith), no-nan _ (s .args .c .1) (s .pre .2) (c .millimetres2 .ensures))
-
-same-length : tie.Need-same-length
-same-length c = search needs
 
 returns : tie.Need-returns
 returns c =
@@ -82,12 +64,12 @@ pub put-point-spec : {M : Type 1} → statement M
 put-point-spec =
     tie.close
     (tie.spec
-    millimetres-requires
+    (λ c κs. search needs)
     put-float-requires
-    sub-put-float
-    part-put-float-start
-    part-put-float-end
-    millimetres-requires-2
+    (λ c. search needs)
+    (λ c. search needs)
+    (λ c. search needs)
+    (λ c κs. search needs)
     put-float-requires-2
-    same-length
+    (λ c. search needs)
     returns)

@@ -5,9 +5,6 @@ use Rattle.polygon_ring_laws.proofs.SignLaws.{centred-fits, centred-is}
 use Rattle.polygon_take.proofs.centred.Statement.{statement}
 use Rattle.polygon_take.proofs.centred.Tie as tie
 
-cast-result : tie.Need-cast-result
-cast-result c = search needs
-
 sub-result : tie.Need-sub-result
 sub-result c = centred-fits (c .args .u) (c .pre)
 
@@ -15,4 +12,4 @@ returns : tie.Need-returns
 returns c = centred-is (c .args .u) (c .pre)
 
 pub centred-spec : {M : Type 1} → statement M
-centred-spec = tie.close (tie.spec cast-result sub-result returns)
+centred-spec = tie.close (tie.spec (λ c. search needs) sub-result returns)

@@ -7,28 +7,10 @@ use Rattle.polygon_ring_laws.proofs.PointLaws.{point-parts, point-corner}
 use Rattle.polygon_take.proofs.corner.Statement.{statement}
 use Rattle.polygon_take.proofs.corner.Tie as tie
 
-sub-known : tie.Need-sub-known
-sub-known c = search needs
-
-part-known-start : tie.Need-part-known-start
-part-known-start c = search needs
-
-part-known-end : tie.Need-part-known-end
-part-known-end c = search needs
-
 known-requires : tie.Need-known-requires
 known-requires c κs =
     let s = c .before .before in
     (simp length-take (omega (arith, s .pre .0)), point-parts (s .args .little) (s .args .s .now) (s .pre .1) .0)
-
-sub-known-2 : tie.Need-sub-known-2
-sub-known-2 c = search needs
-
-part-known-start-2 : tie.Need-part-known-start-2
-part-known-start-2 c = search needs
-
-part-known-end-2 : tie.Need-part-known-end-2
-part-known-end-2 c = search needs
 
 known-requires-2 : tie.Need-known-requires-2
 known-requires-2 c κs =
@@ -44,12 +26,12 @@ pub corner-spec : {M : Type 1} → statement M
 corner-spec =
     tie.close
     (tie.spec
-    sub-known
-    part-known-start
-    part-known-end
+    (λ c. search needs)
+    (λ c. search needs)
+    (λ c. search needs)
     known-requires
-    sub-known-2
-    part-known-start-2
-    part-known-end-2
+    (λ c. search needs)
+    (λ c. search needs)
+    (λ c. search needs)
     known-requires-2
     returns)

@@ -8,12 +8,6 @@ use Rattle.polygon_ring_laws.proofs.NumberLaws.{eight-swapped}
 use Rattle.polygon_take.proofs.eight.Statement.{statement}
 use Rattle.polygon_take.proofs.eight.Tie as tie
 
-little-requires : tie.Need-little-requires
-little-requires c κs = search needs
-
-swapped-requires : tie.Need-swapped-requires
-swapped-requires c κs = search needs
-
 returns : tie.Need-returns
 returns c = c .before .little .ensures ∙ ap (λ (b : Bool). numberIn b (c .before .before .before .args .s .now)) (sym (c .if1 .taken))
 
@@ -25,4 +19,4 @@ returns-2 c =
     ∙ ap (λ (b : Bool). numberIn b (s .args .s .now)) (sym (c .before .if1 .left))
 
 pub eight-spec : {M : Type 1} → statement M
-eight-spec = tie.close (tie.spec little-requires swapped-requires returns returns-2)
+eight-spec = tie.close (tie.spec (λ c κs. search needs) (λ c κs. search needs) returns returns-2)

@@ -32,24 +32,6 @@ second m x y v e g = sym (ap (both (wholeOf m x)) (sym e ∙ g) ∙ any (wholeOf
     any (Of a) = refl
     any Refused = refl
 
-whole-of-requires : tie.Need-whole-of-requires
-whole-of-requires c κs = search needs
-
-enum-known-x : tie.Need-enum-known-x
-enum-known-x c = search needs
-
-whole-of-requires-2 : tie.Need-whole-of-requires-2
-whole-of-requires-2 c κs = search needs
-
-enum-known-y : tie.Need-enum-known-y
-enum-known-y c = search needs
-
-enum-told : tie.Need-enum-told
-enum-told c = search needs
-
-enum-told-2 : tie.Need-enum-told-2
-enum-told-2 c = search needs
-
 returns : tie.Need-returns
 returns c =
     let s = c .before .before .before .before .before .before .before .before in
@@ -69,12 +51,12 @@ pub judge-spec : {M : Type 1} → statement M
 judge-spec =
     tie.close
     (tie.spec
-    whole-of-requires
-    enum-known-x
-    whole-of-requires-2
-    enum-known-y
-    enum-told
-    enum-told-2
+    (λ c κs. search needs)
+    (λ c. search needs)
+    (λ c κs. search needs)
+    (λ c. search needs)
+    (λ c. search needs)
+    (λ c. search needs)
     returns
     returns-2
     returns-3)

@@ -12,9 +12,6 @@ use Rattle.polygon_ring_laws.proofs.NearestLaws.{known-bits, known-float, known
 use Rattle.polygon_take.proofs.known.Statement.{statement}
 use Rattle.polygon_take.proofs.known.Tie as tie
 
-eight-requires : tie.Need-eight-requires
-eight-requires c κs = search needs
-
 float-from-bits-nearest : tie.Need-float-from-bits-nearest
 float-from-bits-nearest c =
     let s = c .before .before in
@@ -24,9 +21,6 @@ nearest-requires : tie.Need-nearest-requires
 nearest-requires c κs =
     let s = c .before .before in
     known-float (c .eight .result) (numberIn (s .args .little) (s .args .s .now)) (c .eight .ensures) (s .pre .1)
-
-centred-requires : tie.Need-centred-requires
-centred-requires c κs = search needs
 
 returns : tie.Need-returns
 returns c =
@@ -39,4 +33,4 @@ returns c =
 pub known-spec : {M : Type 1} → statement M
 known-spec =
     tie.close
-    (tie.spec eight-requires float-from-bits-nearest nearest-requires centred-requires returns)
+    (tie.spec (λ c κs. search needs) float-from-bits-nearest nearest-requires (λ c κs. search needs) returns)

@@ -7,12 +7,6 @@ use Rattle.polygon_ring.specs.Bytes.{numberIn}
 use Rattle.polygon_take.proofs.number.Statement.{statement}
 use Rattle.polygon_take.proofs.number.Tie as tie
 
-little-requires : tie.Need-little-requires
-little-requires c κs = search needs
-
-big-requires : tie.Need-big-requires
-big-requires c κs = search needs
-
 returns : tie.Need-returns
 returns c = c .little .ensures ∙ ap (λ (b : Bool). numberIn b (c .before .before .before .args .s .now)) (sym (c .before .if1 .taken))
 
@@ -20,4 +14,4 @@ returns-2 : tie.Need-returns-2
 returns-2 c = c .big .ensures ∙ ap (λ (b : Bool). numberIn b (c .before .before .before .args .s .now)) (sym (c .before .if1 .left))
 
 pub number-spec : {M : Type 1} → statement M
-number-spec = tie.close (tie.spec little-requires big-requires returns returns-2)
+number-spec = tie.close (tie.spec (λ c κs. search needs) (λ c κs. search needs) returns returns-2)

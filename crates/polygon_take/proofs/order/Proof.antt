@@ -24,20 +24,8 @@ little s a e t = sym (orders s a (startsWith bigPrefix s) e refl ∙ ap (λ (x :
 other : (s : List ℕ) (a b : Bool) → a ≡ startsWith prefix s → b ≡ startsWith bigPrefix s → a ≡ false → pickOrder b Big Neither ≡ orderOf s
 other s a b e f t = sym (orders s a b e f ∙ ap (λ (x : Bool). pickOrder x Little (pickOrder b Big Neither)) t)
 
-slice-aggregate-starts : tie.Need-slice-aggregate-starts
-slice-aggregate-starts c = search needs
-
-starts-requires : tie.Need-starts-requires
-starts-requires c κs = search needs
-
 returns : tie.Need-returns
 returns c = little _ _ (c .before .starts .ensures) (c .if1 .taken)
-
-slice-aggregate-starts-2 : tie.Need-slice-aggregate-starts-2
-slice-aggregate-starts-2 c = search needs
-
-starts-requires-2 : tie.Need-starts-requires-2
-starts-requires-2 c κs = search needs
 
 returns-2 : tie.Need-returns-2
 returns-2 c = ap (λ (x : Bool). pickOrder x Big Neither) (sym (c .if2 .taken)) ∙ other _ _ _ (c .before .before .before .before .starts .ensures) (c .before .starts2 .ensures) (c .before .before .before .if1 .left)
@@ -49,10 +37,10 @@ pub order-spec : {M : Type 1} → statement M
 order-spec =
     tie.close
     (tie.spec
-    slice-aggregate-starts
-    starts-requires
+    (λ c. search needs)
+    (λ c κs. search needs)
     returns
-    slice-aggregate-starts-2
-    starts-requires-2
+    (λ c. search needs)
+    (λ c κs. search needs)
     returns-2
     returns-3)

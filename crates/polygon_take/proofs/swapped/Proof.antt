@@ -28,12 +28,6 @@ add-r c =
     let v = c .before .before .args .v in
     record { fits = swapping-room (bytesOf 8 v) _ _ _ (c .before .loop .rest % 256) (length-bytesOf 8 v) (omega (arith, c .loop-test .taken)) (omega arith) (c .before .loop .inv) }
 
-add-i : tie.Need-add-i Inv-loop μ-loop
-add-i c = search needs
-
-loop-less : tie.Need-loop-less Inv-loop μ-loop
-loop-less c = search needs
-
 loop-again : tie.Need-loop-again Inv-loop μ-loop
 loop-again c =
     let v = c .before .before .args .v in
@@ -46,4 +40,4 @@ returns c =
 
 pub swapped-spec : {M : Type 1} → statement M
 swapped-spec =
-    tie.close (tie.spec Inv-loop μ-loop loop-holds mul-r add-r add-i loop-less loop-again returns)
+    tie.close (tie.spec Inv-loop μ-loop loop-holds mul-r add-r (λ c. search needs) (λ c. search needs) loop-again returns)

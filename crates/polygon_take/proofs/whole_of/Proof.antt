@@ -24,26 +24,17 @@ returns c = sym (ap (wholeOf (c .before .args .most)) (differs-from-itself (c .b
 nearest-requires : tie.Need-nearest-requires
 nearest-requires c κs = not-nan (c .before .args .x) (c .if1 .left)
 
-add-if2 : tie.Need-add-if2
-add-if2 c = search needs
-
 returns-2 : tie.Need-returns-2
 returns-2 c =
     let s = c .before .before .before in
     let u = c .before .nearest in
     refused-far (s .args .most) (s .pre) (s .args .x) (u .result) (u .ensures) (inl (omega (arith, c .if2 .taken)))
 
-add-if3 : tie.Need-add-if3
-add-if3 c = search needs
-
 returns-3 : tie.Need-returns-3
 returns-3 c =
     let s = c .before .before .before .before in
     let u = c .before .before .nearest in
     refused-far (s .args .most) (s .pre) (s .args .x) (u .result) (u .ensures) (inr (omega (arith, c .if3 .taken)))
-
-centred-requires : tie.Need-centred-requires
-centred-requires c κs = search needs
 
 millimetres-requires : tie.Need-millimetres-requires
 millimetres-requires c κs =
@@ -76,11 +67,11 @@ whole-of-spec =
     (tie.spec
     returns
     nearest-requires
-    add-if2
+    (λ c. search needs)
     returns-2
-    add-if3
+    (λ c. search needs)
     returns-3
-    centred-requires
+    (λ c κs. search needs)
     millimetres-requires
     returns-4
     returns-5)

@@ -23,26 +23,11 @@ loop-holds c =
     let z = c .before .before .before .before in
     (omega arith, refl, part-start (z .args .head .now) (z .args .next .now) (z .args .hs .now) (z .args .stamps .now) (z .pre .3))
 
-add-follow : tie.Need-add-follow Inv-loop μ-loop
-add-follow c = search needs
-
-cast-follow : tie.Need-cast-follow Inv-loop μ-loop
-cast-follow c = search needs
-
-mul-follow : tie.Need-mul-follow Inv-loop μ-loop
-mul-follow c = search needs
-
-shared-slice-read-follow : tie.Need-shared-slice-read-follow Inv-loop μ-loop
-shared-slice-read-follow c = search needs
-
 follow-requires : tie.Need-follow-requires Inv-loop μ-loop
 follow-requires c κs =
     let l = c .before .before .before .loop in
     let z = c .before .before .before .before .before .before .before .before in
     (subst (Leads (z .args .next .now) (z .args .hs .now)) (sym (l .inv .1)) (z .pre .0), z .pre .1 (l .c))
-
-same-length : tie.Need-same-length Inv-loop μ-loop
-same-length c = search needs
 
 returns : tie.Need-returns Inv-loop μ-loop
 returns c =
@@ -51,12 +36,6 @@ returns c =
     let f = c .before .before .before .follow in
     part-twice (a .head .now) (a .next .now) (a .hs .now) (l .c) (l .stamps) (f .last .1 .1 .1 .1 .0) (l .inv .2) (omega arith)
     (subst (λ (b : Bool). ThreadFollowed (a .next .now) (a .hs .now) (l .stamps) (l .c + 1) (getD (a .head .now) (l .c) 0) b (f .last .1 .1 .1 .1 .0)) (not-true (f .result) (c .if1 .taken)) (f .ensures))
-
-add-c : tie.Need-add-c Inv-loop μ-loop
-add-c c = search needs
-
-loop-less : tie.Need-loop-less Inv-loop μ-loop
-loop-less c = search needs
 
 loop-again : tie.Need-loop-again Inv-loop μ-loop
 loop-again c =
@@ -68,9 +47,6 @@ loop-again c =
       part-step (a .head .now) (a .next .now) (a .hs .now) (l .c) (l .stamps) (f .last .1 .1 .1 .1 .0) (l .inv .2) (omega arith)
           (subst (λ (b : Bool). ThreadFollowed (a .next .now) (a .hs .now) (l .stamps) (l .c + 1) (getD (a .head .now) (l .c) 0) b (f .last .1 .1 .1 .1 .0)) (not-false (f .result) (c .if1 .left)) (f .ensures)),
     )
-
-same-length-2 : tie.Need-same-length-2 Inv-loop μ-loop
-same-length-2 c = search needs
 
 returns-2 : tie.Need-returns-2 Inv-loop μ-loop
 returns-2 c =
@@ -85,15 +61,15 @@ apart-spec =
     Inv-loop
     μ-loop
     loop-holds
-    add-follow
-    cast-follow
-    mul-follow
-    shared-slice-read-follow
+    (λ c. search needs)
+    (λ c. search needs)
+    (λ c. search needs)
+    (λ c. search needs)
     follow-requires
-    same-length
+    (λ c. search needs)
     returns
-    add-c
-    loop-less
+    (λ c. search needs)
+    (λ c. search needs)
     loop-again
-    same-length-2
+    (λ c. search needs)
     returns-2)

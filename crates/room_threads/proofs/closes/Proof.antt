@@ -19,20 +19,11 @@ abbrev μ-loop : tie.MeasureT-loop
 loop-holds : tie.Need-loop-holds Inv-loop μ-loop
 loop-holds c = (omega arith, goes-start (c .before .args .chain .now) middle)
 
-shared-slice-read-d : tie.Need-shared-slice-read-d Inv-loop μ-loop
-shared-slice-read-d c = search needs
-
 column-requires : tie.Need-column-requires Inv-loop μ-loop
 column-requires c κs = let w = c .before .before .loop .inv .1 in (omega (arith, w .west), omega (arith, w .east))
 
 height-requires : tie.Need-height-requires Inv-loop μ-loop
 height-requires c κs = let w = c .before .before .before .loop .inv .1 in (omega (arith, w .south), omega (arith, w .north))
-
-add-i : tie.Need-add-i Inv-loop μ-loop
-add-i c = search needs
-
-loop-less : tie.Need-loop-less Inv-loop μ-loop
-loop-less c = search needs
 
 loop-again : tie.Need-loop-again Inv-loop μ-loop
 loop-again c =
@@ -59,11 +50,11 @@ closes-spec =
     Inv-loop
     μ-loop
     loop-holds
-    shared-slice-read-d
+    (λ c. search needs)
     column-requires
     height-requires
-    add-i
-    loop-less
+    (λ c. search needs)
+    (λ c. search needs)
     loop-again
     returns
     returns-2)

@@ -16,34 +16,19 @@ Inv-loop tag last next hs stamps₀ p₀ stamps p = (p ≤ length next) × (leng
 abbrev μ-loop : tie.MeasureT-loop
 μ-loop tag last next hs stamps₀ p₀ stamps p = p
 
-wide-requires : tie.Need-wide-requires Inv-loop μ-loop
-wide-requires c κs = search needs
-
 loop-holds : tie.Need-loop-holds Inv-loop μ-loop
 loop-holds c =
     let a = c .before .before .before .before .args in
     (omega (arith, c .wide .ensures .0), refl, subst (λ (m : ℕ). Following (a .next .now) (a .hs .now) (a .stamps .now) (a .tag) (a .last) m (a .stamps .now)) (sym (c .wide .ensures .0)) (follow-start (a .next .now) (a .hs .now) (a .stamps .now) (a .tag) (a .last)))
 
-sub-wide : tie.Need-sub-wide Inv-loop μ-loop
-sub-wide c = search needs
-
-mul-wide : tie.Need-mul-wide Inv-loop μ-loop
-mul-wide c = search needs
-
 shared-slice-read-wide : tie.Need-shared-slice-read-wide Inv-loop μ-loop
 shared-slice-read-wide c = let l = c .before .before .loop in omega (arith, l .inv .0, c .before .before .before .before .before .before .before .pre .0 .both)
-
-wide-requires-2 : tie.Need-wide-requires-2 Inv-loop μ-loop
-wide-requires-2 c κs = search needs
 
 mul-if1 : tie.Need-mul-if1 Inv-loop μ-loop
 mul-if1 c = record { fits = omega (arith, c .wide2 .ensures .1) }
 
 slice-read-if1 : tie.Need-slice-read-if1 Inv-loop μ-loop
 slice-read-if1 c = let l = c .before .before .before .before .loop in omega (arith, c .before .wide2 .ensures .0, l .inv .1, c .before .before .before .before .before .before .before .before .before .pre .0 .heights (l .p - 1))
-
-same-length : tie.Need-same-length Inv-loop μ-loop
-same-length c = search needs
 
 returns : tie.Need-returns Inv-loop μ-loop
 returns c =
@@ -56,18 +41,6 @@ mul-stamps c = record { fits = omega (arith, c .before .before .wide2 .ensures .
 
 slice-write-stamps : tie.Need-slice-write-stamps Inv-loop μ-loop
 slice-write-stamps c = let l = c .before .before .before .before .before .loop in omega (arith, c .before .before .wide2 .ensures .0, l .inv .1, c .before .before .before .before .before .before .before .before .before .before .pre .0 .heights (l .p - 1))
-
-sub-wide-2 : tie.Need-sub-wide-2 Inv-loop μ-loop
-sub-wide-2 c = search needs
-
-mul-wide-2 : tie.Need-mul-wide-2 Inv-loop μ-loop
-mul-wide-2 c = search needs
-
-shared-slice-read-wide-2 : tie.Need-shared-slice-read-wide-2 Inv-loop μ-loop
-shared-slice-read-wide-2 c = search needs
-
-wide-requires-3 : tie.Need-wide-requires-3 Inv-loop μ-loop
-wide-requires-3 c κs = search needs
 
 loop-less : tie.Need-loop-less Inv-loop μ-loop
 loop-less c = let l = c .before .before .before .before .before .before .before .loop in omega (arith, c .wide3 .ensures .0, c .before .before .before .before .before .before .before .before .before .before .before .before .pre .0 .falls (l .p - 1))
@@ -86,9 +59,6 @@ loop-again c =
           (follow-step (a .next .now) (a .hs .now) (a .stamps .now) (a .tag) (a .last) (l .p) (l .stamps) (l .inv .2) (l .p - 1) (omega arith) (λ e. c .before .before .if1 .left (ap (λ (m : ℕ). getD (l .stamps) m 0) h ∙ e)) (omega (arith, l .inv .1, z .pre .0 .heights (l .p - 1))))),
     )
 
-same-length-2 : tie.Need-same-length-2 Inv-loop μ-loop
-same-length-2 c = search needs
-
 returns-2 : tie.Need-returns-2 Inv-loop μ-loop
 returns-2 c =
     let l = c .before .loop in
@@ -101,23 +71,23 @@ follow-spec =
     (tie.spec
     Inv-loop
     μ-loop
-    wide-requires
+    (λ c κs. search needs)
     loop-holds
-    sub-wide
-    mul-wide
+    (λ c. search needs)
+    (λ c. search needs)
     shared-slice-read-wide
-    wide-requires-2
+    (λ c κs. search needs)
     mul-if1
     slice-read-if1
-    same-length
+    (λ c. search needs)
     returns
     mul-stamps
     slice-write-stamps
-    sub-wide-2
-    mul-wide-2
-    shared-slice-read-wide-2
-    wide-requires-3
+    (λ c. search needs)
+    (λ c. search needs)
+    (λ c. search needs)
+    (λ c κs. search needs)
     loop-less
     loop-again
-    same-length-2
+    (λ c. search needs)
     returns-2)

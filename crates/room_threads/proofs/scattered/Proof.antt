@@ -9,9 +9,6 @@ use Rattle.room_thread_laws.proofs.LayLaws.{laid-leads, laid-heads, laid-scatte
 use Rattle.room_threads.proofs.scattered.Statement.{statement}
 use Rattle.room_threads.proofs.scattered.Tie as tie
 
-lay-requires : tie.Need-lay-requires
-lay-requires c κs = search needs
-
 apart-requires : tie.Need-apart-requires
 apart-requires c κs =
     let f = c .before .before .before .before .before .before .before .before .before .before .lay in
@@ -23,18 +20,6 @@ apart-requires c κs =
       omega (arith, s .stays .narrow, f .kept .1 .1 .0),
       s .zeros .3,
     )
-
-same-length : tie.Need-same-length
-same-length c = search needs
-
-same-length-2 : tie.Need-same-length-2
-same-length-2 c = search needs
-
-same-length-3 : tie.Need-same-length-3
-same-length-3 c = search needs
-
-same-length-4 : tie.Need-same-length-4
-same-length-4 c = search needs
 
 returns : tie.Need-returns
 returns c =
@@ -48,10 +33,10 @@ pub scattered-spec : {M : Type 1} → statement M
 scattered-spec =
     tie.close
     (tie.spec
-    lay-requires
+    (λ c κs. search needs)
     apart-requires
-    same-length
-    same-length-2
-    same-length-3
-    same-length-4
+    (λ c. search needs)
+    (λ c. search needs)
+    (λ c. search needs)
+    (λ c. search needs)
     returns)

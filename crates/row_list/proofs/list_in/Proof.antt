@@ -15,12 +15,6 @@ lay-requires c κs =
     let s = z .pre .1 in
     (store-stays (z .pre .0) s, s .links, omega (arith, s .links, s .values), omega (arith, z .pre .0 .few), s .empty .0)
 
-wide-requires : tie.Need-wide-requires
-wide-requires c κs = search needs
-
-mul-end : tie.Need-mul-end
-mul-end c = search needs
-
 gather-requires : tie.Need-gather-requires
 gather-requires c κs =
     let z = c .before .before .before .before .before .before .before .before .before .before .before .before .before .before .before .before .before .before .before .before in
@@ -36,21 +30,6 @@ put-rows-requires c κs =
     let e = c .before .before .before .before .before .before .before .before .before .before .before .before .before .before .before .wide .ensures .0 in
     (store-sheet (z .pre .0) (z .pre .1) (2 * c .before .before .before .before .before .before .before .before .before .before .before .before .before .before .before .wide .result) (ap (λ (k : ℕ). 2 * k) e) (f .kept .1 .1 .0) (f .kept .1 .1 .1 .0) (f .kept .1 .1 .1 .1 .0) (f .ensures) (g .kept .1 .1 .0) (g .kept .1 .1 .1 .0) (g .kept .1 .1 .1 .1 .0) (g .ensures) (length (z .args .out .now)) (z .pre .2), z .pre .0 .near .0, z .pre .0 .near .1, omega (arith, z .pre .1 .columns, z .pre .1 .narrow, e))
 
-same-length : tie.Need-same-length
-same-length c = search needs
-
-same-length-2 : tie.Need-same-length-2
-same-length-2 c = search needs
-
-same-length-3 : tie.Need-same-length-3
-same-length-3 c = search needs
-
-same-length-4 : tie.Need-same-length-4
-same-length-4 c = search needs
-
-same-length-5 : tie.Need-same-length-5
-same-length-5 c = search needs
-
 returns : tie.Need-returns
 returns c =
     let z = c .before .before .before .before .before .before .before .before .before .before .before .before .before .before .before .before .before .before .before .before .before .before .before .before .before .before .before .before .before .before .before .before .before in
@@ -64,13 +43,13 @@ list-in-spec =
     tie.close
     (tie.spec
     lay-requires
-    wide-requires
-    mul-end
+    (λ c κs. search needs)
+    (λ c. search needs)
     gather-requires
     put-rows-requires
-    same-length
-    same-length-2
-    same-length-3
-    same-length-4
-    same-length-5
+    (λ c. search needs)
+    (λ c. search needs)
+    (λ c. search needs)
+    (λ c. search needs)
+    (λ c. search needs)
     returns)

@@ -19,9 +19,6 @@ steps c = toZ-pos w32 (omega arith)
 sum : (c : lts.Start reads.Pre reads.Post) → SFits w32 (c .args .west +ℤ pos (c .args .n))
 sum c = sfits-abs w32 (c .args .west +ℤ pos (c .args .n)) (omega (arith, abs+ (c .args .west) (pos (c .args .n))))
 
-cast-result : tie.Need-cast-result
-cast-result c = search needs
-
 add-result : tie.Need-add-result
 add-result c = simp (toZ-ofZ (c .fits .west), steps c) (sum c)
 
@@ -29,4 +26,4 @@ returns : tie.Need-returns
 returns c = simp (toZ-ofZ (c .fits .west), steps c, toZ-ofZ (sum c))
 
 pub first-panel-spec : {M : Type 1} → statement M
-first-panel-spec = tie.close (tie.spec cast-result add-result returns)
+first-panel-spec = tie.close (tie.spec (λ c. search needs) add-result returns)

@@ -22,9 +22,6 @@ sum c = sfits-abs w32 (c .args .west +ℤ pos (c .args .n)) (omega (arith, abs+ 
 less : (c : lts.Start reads.Pre reads.Post) → SFits w32 ((c .args .west +ℤ pos (c .args .n)) -ℤ pos 1)
 less c = sfits-abs w32 ((c .args .west +ℤ pos (c .args .n)) -ℤ pos 1) (omega (arith, abs+ (c .args .west) (pos (c .args .n)), abs- (c .args .west +ℤ pos (c .args .n)) (pos 1)))
 
-cast-result : tie.Need-cast-result
-cast-result c = search needs
-
 add-result : tie.Need-add-result
 add-result c = simp (toZ-ofZ (c .fits .west), steps c) (sum c)
 
@@ -35,4 +32,4 @@ returns : tie.Need-returns
 returns c = simp (toZ-ofZ (c .fits .west), steps c, toZ-ofZ (sum c), toZ-ofZ (less c))
 
 pub last-panel-spec : {M : Type 1} → statement M
-last-panel-spec = tie.close (tie.spec cast-result add-result sub-result returns)
+last-panel-spec = tie.close (tie.spec (λ c. search needs) add-result sub-result returns)

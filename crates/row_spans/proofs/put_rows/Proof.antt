@@ -41,9 +41,6 @@ put-row-requires c κs =
     let b = c .before .before .row-base in
     (sheet-line (l .inv .2 (r .key) (r .foot) (r .done) (r .poured) (r .even)) (a .next .now) (a .at .now) (a .row .now) (length (l .out)) (omega arith) (r .within) (r .poured) (r .even) (omega (arith, r .fits, l .inv .1)) (r .store), base-fits (a .start) (b .result) (a .m) (z .pre .1) (omega arith) (b .ensures))
 
-add-h : tie.Need-add-h Inv-loop μ-loop
-add-h c = search needs
-
 loop-less : tie.Need-loop-less Inv-loop μ-loop
 loop-less c = omega arith
 
@@ -73,7 +70,7 @@ put-rows-spec =
     mul-put-row
     shared-slice-read-put-row
     put-row-requires
-    add-h
+    (λ c. search needs)
     loop-less
     loop-again
     same-length

@@ -13,20 +13,8 @@ use Rattle.row_spans.proofs.SpanLaws.{three-put}
 use Rattle.row_spans.proofs.put_span.Statement.{statement}
 use Rattle.row_spans.proofs.put_span.Tie as tie
 
-mul-y : tie.Need-mul-y
-mul-y c = search needs
-
-slice-set-from-y : tie.Need-slice-set-from-y
-slice-set-from-y c = search needs
-
 first-panel-requires : tie.Need-first-panel-requires
 first-panel-requires c κs = simp (toZ-ofZ (sfits-of {w = w32} {z = c .before .before .args .base .0} (c .struct-told2 .given .0 .1))) (c .before .before .pre .1)
-
-add-out : tie.Need-add-out
-add-out c = search needs
-
-mul-out : tie.Need-mul-out
-mul-out c = search needs
 
 slice-set-from-out : tie.Need-slice-set-from-out
 slice-set-from-out c = simp length-set (omega arith)
@@ -34,17 +22,8 @@ slice-set-from-out c = simp length-set (omega arith)
 last-panel-requires : tie.Need-last-panel-requires
 last-panel-requires c κs = simp (toZ-ofZ (sfits-of {w = w32} {z = c .before .before .before .before .args .base .0} (c .struct-told3 .given .0 .1))) (c .before .before .before .before .pre .1)
 
-add-t10 : tie.Need-add-t10
-add-t10 c = search needs
-
-mul-t7 : tie.Need-mul-t7
-mul-t7 c = search needs
-
 slice-set-from-out-2 : tie.Need-slice-set-from-out-2
 slice-set-from-out-2 c = simp length-set (omega arith)
-
-same-length : tie.Need-same-length
-same-length c = search needs
 
 returns : tie.Need-returns
 returns c =
@@ -60,15 +39,15 @@ pub put-span-spec : {M : Type 1} → statement M
 put-span-spec =
     tie.close
     (tie.spec
-    mul-y
-    slice-set-from-y
+    (λ c. search needs)
+    (λ c. search needs)
     first-panel-requires
-    add-out
-    mul-out
+    (λ c. search needs)
+    (λ c. search needs)
     slice-set-from-out
     last-panel-requires
-    add-t10
-    mul-t7
+    (λ c. search needs)
+    (λ c. search needs)
     slice-set-from-out-2
-    same-length
+    (λ c. search needs)
     returns)

@@ -11,12 +11,6 @@ use Rattle.hull_laws.proofs.CornerLaws.{corner-eq}
 use Rattle.row_spans.proofs.row_base.Statement.{statement}
 use Rattle.row_spans.proofs.row_base.Tie as tie
 
-shifted-requires : tie.Need-shifted-requires
-shifted-requires c κs = search needs
-
-shifted-requires-2 : tie.Need-shifted-requires-2
-shifted-requires-2 c κs = search needs
-
 returns : tie.Need-returns
 returns c =
     let s = c .before .before .before .before in
@@ -26,4 +20,4 @@ returns c =
     (toZ-ofZ (sfits-of {w = w32} {z = c .before .before .shifted .result} (c .before .before .shifted .ok)) ∙ x) (toZ-ofZ (sfits-of {w = w32} {z = c .shifted2 .result} (c .shifted2 .ok)) ∙ y)
 
 pub row-base-spec : {M : Type 1} → statement M
-row-base-spec = tie.close (tie.spec shifted-requires shifted-requires-2 returns)
+row-base-spec = tie.close (tie.spec (λ c κs. search needs) (λ c κs. search needs) returns)

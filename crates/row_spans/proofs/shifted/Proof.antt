@@ -25,14 +25,8 @@ less c = sfits-abs w32 (c .args .z -ℤ pos (c .args .m)) (omega (arith, abs- (c
 sum : (c : lts.Start reads.Pre reads.Post) → SFits w32 ((c .args .z -ℤ pos (c .args .m)) +ℤ pos (c .args .n))
 sum c = sfits-abs w32 ((c .args .z -ℤ pos (c .args .m)) +ℤ pos (c .args .n)) (omega (arith, abs+ (c .args .z -ℤ pos (c .args .m)) (pos (c .args .n)), abs- (c .args .z) (pos (c .args .m))))
 
-cast-result : tie.Need-cast-result
-cast-result c = search needs
-
 sub-result : tie.Need-sub-result
 sub-result c = simp (toZ-ofZ (c .fits .z), middle-is c) (less c)
-
-cast-result-2 : tie.Need-cast-result-2
-cast-result-2 c = search needs
 
 add-result : tie.Need-add-result
 add-result c = simp (toZ-ofZ (c .fits .z), middle-is c, steps c, toZ-ofZ (less c)) (sum c)
@@ -41,4 +35,4 @@ returns : tie.Need-returns
 returns c = simp (toZ-ofZ (c .fits .z), middle-is c, steps c, toZ-ofZ (less c), toZ-ofZ (sum c))
 
 pub shifted-spec : {M : Type 1} → statement M
-shifted-spec = tie.close (tie.spec cast-result sub-result cast-result-2 add-result returns)
+shifted-spec = tie.close (tie.spec (λ c. search needs) sub-result (λ c. search needs) add-result returns)

@@ -23,27 +23,12 @@ loop-holds c =
     let a = c .before .before .args in
     (omega arith, c .before .before .pre, refl, omega arith, bytes-none (a .s .now) (a .at) (a .out .now))
 
-shared-slice-read-spell-byte : tie.Need-shared-slice-read-spell-byte Inv-loop μ-loop
-shared-slice-read-spell-byte c = search needs
-
-spell-byte-requires : tie.Need-spell-byte-requires Inv-loop μ-loop
-spell-byte-requires c κs = search needs
-
-add-i : tie.Need-add-i Inv-loop μ-loop
-add-i c = search needs
-
-loop-less : tie.Need-loop-less Inv-loop μ-loop
-loop-less c = search needs
-
 loop-again : tie.Need-loop-again Inv-loop μ-loop
 loop-again c =
     let l = c .before .before .before .before .before .before in
     let a = l .before .before .before .args in
     let r = c .before .before .spell-byte in
     (search needs, search needs, omega (arith, r .kept .0, l .loop .inv .2), omega (arith, r .ensures .end, length-hexOf 2 (getD (a .s .now) (l .loop .i) 0), l .loop .inv .3), bytes-next (a .s .now) (l .loop .i) (a .at) (omega arith) (l .loop .inv .1) (l .loop .inv .4) (r .ensures))
-
-same-length : tie.Need-same-length Inv-loop μ-loop
-same-length c = search needs
 
 returns : tie.Need-returns Inv-loop μ-loop
 returns c =
@@ -58,10 +43,10 @@ spell-bytes-spec =
     Inv-loop
     μ-loop
     loop-holds
-    shared-slice-read-spell-byte
-    spell-byte-requires
-    add-i
-    loop-less
+    (λ c. search needs)
+    (λ c κs. search needs)
+    (λ c. search needs)
+    (λ c. search needs)
     loop-again
-    same-length
+    (λ c. search needs)
     returns)

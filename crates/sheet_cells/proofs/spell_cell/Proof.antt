@@ -9,9 +9,6 @@ use borrow.Author.Needs.{needs}
 use Rattle.sheet_cells.proofs.spell_cell.Statement.{statement}
 use Rattle.sheet_cells.proofs.spell_cell.Tie as tie
 
-spell-decimal-requires : tie.Need-spell-decimal-requires
-spell-decimal-requires c κs = search needs
-
 slice-write-out : tie.Need-slice-write-out
 slice-write-out c =
     let a = c .before .before .before .before .before .args in
@@ -22,9 +19,6 @@ add-result c =
     let a = c .before .before .before .before .before .args in
     search (needs, length-decimalOf mostDecimals (a .n), c .before .before .spell-decimal .ensures .end, c .before .before .spell-decimal .kept .0)
 
-same-length : tie.Need-same-length
-same-length c = search needs
-
 returns : tie.Need-returns
 returns c =
     let a = c .before .before .before .before .before .args in
@@ -32,4 +26,4 @@ returns c =
 
 pub spell-cell-spec : {M : Type 1} → statement M
 spell-cell-spec =
-    tie.close (tie.spec spell-decimal-requires slice-write-out add-result same-length returns)
+    tie.close (tie.spec (λ c κs. search needs) slice-write-out add-result (λ c. search needs) returns)

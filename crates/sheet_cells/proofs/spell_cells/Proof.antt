@@ -12,12 +12,6 @@ use borrow.Author.Needs.{needs}
 use Rattle.sheet_cells.proofs.spell_cells.Statement.{statement}
 use Rattle.sheet_cells.proofs.spell_cells.Tie as tie
 
-spell-two-requires : tie.Need-spell-two-requires
-spell-two-requires c κs = search needs
-
-verdict-number-requires : tie.Need-verdict-number-requires
-verdict-number-requires c κs = search needs
-
 spell-two-requires-2 : tie.Need-spell-two-requires-2
 spell-two-requires-2 c κs =
     let s = c .before .before .before .before .before .before .before in
@@ -71,8 +65,8 @@ pub spell-cells-spec : {M : Type 1} → statement M
 spell-cells-spec =
     tie.close
     (tie.spec
-    spell-two-requires
-    verdict-number-requires
+    (λ c κs. search needs)
+    (λ c κs. search needs)
     spell-two-requires-2
     spell-two-requires-3
     spell-two-requires-4

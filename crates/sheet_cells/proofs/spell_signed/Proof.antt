@@ -17,18 +17,6 @@ use borrow.Author.Needs.{needs}
 use Rattle.sheet_cells.proofs.spell_signed.Statement.{statement}
 use Rattle.sheet_cells.proofs.spell_signed.Tie as tie
 
-bits-requires : tie.Need-bits-requires
-bits-requires c κs = search needs
-
-cast-b : tie.Need-cast-b
-cast-b c = search needs
-
-spell-decimal-requires : tie.Need-spell-decimal-requires
-spell-decimal-requires c κs = search needs
-
-same-length : tie.Need-same-length
-same-length c = search needs
-
 returns : tie.Need-returns
 returns c =
     let s = c .before .before .before .before .before .before .before in
@@ -36,15 +24,6 @@ returns c =
     let b = c .before .before .before .before .before .bits in
     let r = c .before .before .spell-decimal in
     subst (λ (l : List ℕ). Wrote l (a .at) (a .out .now) (r .result) (r .last .0)) (signed-above mostDecimals (a .x) (b .result) (s .fits .x) (b .ensures ∙ ap bitsOf (toZ-ofZ w32 (a .x) (s .fits .x))) (c .before .before .before .before .if1 .taken)) (r .ensures)
-
-slice-write-out : tie.Need-slice-write-out
-slice-write-out c = search needs
-
-add-spell-decimal : tie.Need-add-spell-decimal
-add-spell-decimal c = search needs
-
-sub-spell-decimal : tie.Need-sub-spell-decimal
-sub-spell-decimal c = search needs
 
 spell-decimal-requires-2 : tie.Need-spell-decimal-requires-2
 spell-decimal-requires-2 c κs =
@@ -69,14 +48,14 @@ pub spell-signed-spec : {M : Type 1} → statement M
 spell-signed-spec =
     tie.close
     (tie.spec
-    bits-requires
-    cast-b
-    spell-decimal-requires
-    same-length
+    (λ c κs. search needs)
+    (λ c. search needs)
+    (λ c κs. search needs)
+    (λ c. search needs)
     returns
-    slice-write-out
-    add-spell-decimal
-    sub-spell-decimal
+    (λ c. search needs)
+    (λ c. search needs)
+    (λ c. search needs)
     spell-decimal-requires-2
     same-length-2
     returns-2)

@@ -7,16 +7,10 @@ use borrow.Author.Needs.{needs}
 use Rattle.sheet_cells.proofs.spell_two.Statement.{statement}
 use Rattle.sheet_cells.proofs.spell_two.Tie as tie
 
-spell-cell-requires : tie.Need-spell-cell-requires
-spell-cell-requires c κs = search needs
-
 spell-cell-requires-2 : tie.Need-spell-cell-requires-2
 spell-cell-requires-2 c κs =
     let a = c .before .before .before .before .before .before .args in
     omega (arith, length-cellOf (a .v))
-
-same-length : tie.Need-same-length
-same-length c = search needs
 
 returns : tie.Need-returns
 returns c =
@@ -25,4 +19,4 @@ returns c =
     wrote-two (a .v) (a .w) (a .at) (s .pre) (c .before .before .before .before .before .before .spell-cell .ensures) (c .before .before .spell-cell2 .ensures)
 
 pub spell-two-spec : {M : Type 1} → statement M
-spell-two-spec = tie.close (tie.spec spell-cell-requires spell-cell-requires-2 same-length returns)
+spell-two-spec = tie.close (tie.spec (λ c κs. search needs) spell-cell-requires-2 (λ c. search needs) returns)

@@ -10,9 +10,6 @@ use borrow.Author.Needs.{needs}
 use Rattle.sheet_entry.proofs.enter.Statement.{statement}
 use Rattle.sheet_entry.proofs.enter.Tie as tie
 
-enter-line-requires : tie.Need-enter-line-requires
-enter-line-requires c κs = search needs
-
 slice-write-out : tie.Need-slice-write-out
 slice-write-out c =
     let r = c .before .before .before .before .before .before .enter-line in
@@ -25,15 +22,6 @@ add-result c =
     let s = c .before .before .before .before .before .before .before .before .before .before .before .before .before .before in
     search (needs, s .pre .1, entered-most (s .args .s .now), length-append (entryOf (s .args .s .now)) (10 ∷ []), r .ensures .end, r .kept .1 .1 .1 .0)
 
-same-length : tie.Need-same-length
-same-length c = search needs
-
-same-length-2 : tie.Need-same-length-2
-same-length-2 c = search needs
-
-same-length-3 : tie.Need-same-length-3
-same-length-3 c = search needs
-
 returns : tie.Need-returns
 returns c =
     let r = c .before .before .before .before .before .before .enter-line in
@@ -44,10 +32,10 @@ pub enter-spec : {M : Type 1} → statement M
 enter-spec =
     tie.close
     (tie.spec
-    enter-line-requires
+    (λ c κs. search needs)
     slice-write-out
     add-result
-    same-length
-    same-length-2
-    same-length-3
+    (λ c. search needs)
+    (λ c. search needs)
+    (λ c. search needs)
     returns)

@@ -7,16 +7,10 @@ use borrow.Author.Needs.{needs}
 use Rattle.sheet_entry.proofs.enter_accepted.Statement.{statement}
 use Rattle.sheet_entry.proofs.enter_accepted.Tie as tie
 
-spell-cells-requires : tie.Need-spell-cells-requires
-spell-cells-requires c κs = search needs
-
 enter-polygon-requires : tie.Need-enter-polygon-requires
 enter-polygon-requires c κs =
     let s = c .before .before .before .before .before .before .before in
     (s .pre .0, omega (arith, s .pre .1, length-cellsOf 0 0 (s .args .f), c .before .before .before .spell-cells .ensures .end, c .before .before .before .spell-cells .kept .0))
-
-same-length : tie.Need-same-length
-same-length c = search needs
 
 returns : tie.Need-returns
 returns c =
@@ -26,4 +20,4 @@ returns c =
 
 pub enter-accepted-spec : {M : Type 1} → statement M
 enter-accepted-spec =
-    tie.close (tie.spec spell-cells-requires enter-polygon-requires same-length returns)
+    tie.close (tie.spec (λ c κs. search needs) enter-polygon-requires (λ c. search needs) returns)

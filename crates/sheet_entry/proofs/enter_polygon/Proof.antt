@@ -12,15 +12,6 @@ use borrow.Author.Needs.{needs}
 use Rattle.sheet_entry.proofs.enter_polygon.Statement.{statement}
 use Rattle.sheet_entry.proofs.enter_polygon.Tie as tie
 
-slice-aggregate-write : tie.Need-slice-aggregate-write
-slice-aggregate-write c = search needs
-
-write-requires : tie.Need-write-requires
-write-requires c κs = search needs
-
-enum-known-n : tie.Need-enum-known-n
-enum-known-n c = search needs
-
 array-share-prefix-polygon : tie.Need-array-share-prefix-polygon
 array-share-prefix-polygon c =
     omega (arith, polygon-many (c .before .before .before .before .before .before .before .before .before .args .steps .now) (c .before .before .before .before .before .before .before .before .before .pre .0 .0) (c .before .before .before .before .before .before .before .before .before .pre .0 .1) (c .before .before .before .before .before .write .ensures) refl (c .before .before .n .given .0 .0) (c .before .before .n .given .1) .0, c .before .before .before .before .before .write .kept .1 .1 .0)
@@ -34,12 +25,6 @@ spell-bytes-requires c κs =
     let n = c .before .before .before .n .given .0 .0 in
     let m = polygon-many (c .before .before .before .before .before .before .before .before .before .before .args .steps .now) (c .before .before .before .before .before .before .before .before .before .before .pre .0 .0) (c .before .before .before .before .before .before .before .before .before .before .pre .0 .1) (c .before .before .before .before .before .before .write .ensures) refl (c .before .before .before .n .given .0 .0) (c .before .before .before .n .given .1) .0 in
     omega (arith, m, c .before .before .before .before .before .before .before .before .before .before .pre .1, length-take-le n (c .before .before .before .before .before .before .write .last .1 .1 .0) (omega (arith, m, c .before .before .before .before .before .before .write .kept .1 .1 .0)))
-
-enum-told : tie.Need-enum-told
-enum-told c = search needs
-
-same-length : tie.Need-same-length
-same-length c = search needs
 
 returns : tie.Need-returns
 returns c =
@@ -57,13 +42,13 @@ pub enter-polygon-spec : {M : Type 1} → statement M
 enter-polygon-spec =
     tie.close
     (tie.spec
-    slice-aggregate-write
-    write-requires
-    enum-known-n
+    (λ c. search needs)
+    (λ c κs. search needs)
+    (λ c. search needs)
     array-share-prefix-polygon
     slice-aggregate-spell-bytes
     spell-bytes-requires
-    enum-told
-    same-length
+    (λ c. search needs)
+    (λ c. search needs)
     returns
     returns-2)

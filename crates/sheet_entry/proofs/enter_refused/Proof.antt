@@ -8,18 +8,6 @@ use borrow.Author.Needs.{needs}
 use Rattle.sheet_entry.proofs.enter_refused.Statement.{statement}
 use Rattle.sheet_entry.proofs.enter_refused.Tie as tie
 
-refusal-number-requires : tie.Need-refusal-number-requires
-refusal-number-requires c κs = search needs
-
-refusal-place-requires : tie.Need-refusal-place-requires
-refusal-place-requires c κs = search needs
-
-spell-cells-requires : tie.Need-spell-cells-requires
-spell-cells-requires c κs = search needs
-
-same-length : tie.Need-same-length
-same-length c = search needs
-
 returns : tie.Need-returns
 returns c =
     let a = c .before .before .before .before .before .before .before .args in
@@ -30,8 +18,8 @@ pub enter-refused-spec : {M : Type 1} → statement M
 enter-refused-spec =
     tie.close
     (tie.spec
-    refusal-number-requires
-    refusal-place-requires
-    spell-cells-requires
-    same-length
+    (λ c κs. search needs)
+    (λ c κs. search needs)
+    (λ c κs. search needs)
+    (λ c. search needs)
     returns)

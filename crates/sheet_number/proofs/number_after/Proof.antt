@@ -8,9 +8,6 @@ use borrow.Author.Needs.{needs}
 use Rattle.sheet_number.proofs.number_after.Statement.{statement}
 use Rattle.sheet_number.proofs.number_after.Tie as tie
 
-add-result : tie.Need-add-result
-add-result c = search needs
-
 returns : tie.Need-returns
 returns c = omega (arith, ap tally (eq-eqb (c .before .args .b) 10 (c .if1 .taken)))
 
@@ -18,4 +15,4 @@ returns-2 : tie.Need-returns-2
 returns-2 c = omega (arith, ap tally (ne-eqb (c .before .args .b) 10 (c .if1 .left)))
 
 pub number-after-spec : {M : Type 1} → statement M
-number-after-spec = tie.close (tie.spec add-result returns returns-2)
+number-after-spec = tie.close (tie.spec (λ c. search needs) returns returns-2)

@@ -18,9 +18,6 @@ loop-holds c =
     let s = c .before .before in
     numbering-start (s .args .starts) (s .args .first) (s .args .s .now) (s .args .at) (s .args .out .now) (s .pre .0) (s .pre .1)
 
-shared-slice-read-b : tie.Need-shared-slice-read-b Inv-loop μ-loop
-shared-slice-read-b c = search needs
-
 put-byte-requires : tie.Need-put-byte-requires Inv-loop μ-loop
 put-byte-requires c κs =
     let l = c .before .before .before in
@@ -30,12 +27,6 @@ number-after-requires : tie.Need-number-after-requires Inv-loop μ-loop
 number-after-requires c κs =
     let l = c .before .before .before .before .before .before in
     numbering-room (l .loop .inv) (c .before .before .before .before .before .loop-test .taken) .1
-
-add-i : tie.Need-add-i Inv-loop μ-loop
-add-i c = search needs
-
-loop-less : tie.Need-loop-less Inv-loop μ-loop
-loop-less c = search needs
 
 loop-again : tie.Need-loop-again Inv-loop μ-loop
 loop-again c =
@@ -55,11 +46,11 @@ number-from-spec =
     Inv-loop
     μ-loop
     loop-holds
-    shared-slice-read-b
+    (λ c. search needs)
     put-byte-requires
     number-after-requires
-    add-i
-    loop-less
+    (λ c. search needs)
+    (λ c. search needs)
     loop-again
     same-length
     returns)

@@ -14,9 +14,6 @@ use borrow.Author.Needs.{needs}
 use Rattle.sheet_number.proofs.put_byte.Statement.{statement}
 use Rattle.sheet_number.proofs.put_byte.Tie as tie
 
-spell-cell-requires : tie.Need-spell-cell-requires
-spell-cell-requires c κs = search needs
-
 slice-write-out : tie.Need-slice-write-out
 slice-write-out c =
     let s = c .before .before .before .before .before .before in
@@ -27,9 +24,6 @@ add-result c =
     let s = c .before .before .before .before .before .before in
     search (needs, s .pre, length-cellOf (s .args .n), c .before .before .spell-cell .ensures .end, c .before .before .spell-cell .kept .0)
 
-same-length : tie.Need-same-length
-same-length c = search needs
-
 returns : tie.Need-returns
 returns c =
     let s = c .before .before .before .before .before .before in
@@ -37,15 +31,6 @@ returns c =
     let r = c .before .before .spell-cell in
     subst (λ (t : Bool). Wrote (cond t (cellOf (a .n)) [] ++ (a .b ∷ [])) (a .at) (a .out .now) (r .result + 1) (set (r .last .0) (r .result) (a .b))) (sym (c .before .before .before .before .if1 .taken))
     (wrote-then (cellOf (a .n)) (a .b) (a .at) (r .ensures) (omega (arith, s .pre, length-cellOf (a .n))))
-
-slice-write-out-2 : tie.Need-slice-write-out-2
-slice-write-out-2 c = search needs
-
-add-result-2 : tie.Need-add-result-2
-add-result-2 c = search needs
-
-same-length-2 : tie.Need-same-length-2
-same-length-2 c = search needs
 
 returns-2 : tie.Need-returns-2
 returns-2 c =
@@ -58,12 +43,12 @@ pub put-byte-spec : {M : Type 1} → statement M
 put-byte-spec =
     tie.close
     (tie.spec
-    spell-cell-requires
+    (λ c κs. search needs)
     slice-write-out
     add-result
-    same-length
+    (λ c. search needs)
     returns
-    slice-write-out-2
-    add-result-2
-    same-length-2
+    (λ c. search needs)
+    (λ c. search needs)
+    (λ c. search needs)
     returns-2)

@@ -9,23 +9,11 @@ use Rattle.turns.proofs.ConvertLaws.{converted, kept}
 use Rattle.turns.proofs.convert.Statement.{statement}
 use Rattle.turns.proofs.convert.Tie as tie
 
-judge-requires : tie.Need-judge-requires
-judge-requires c κs = search needs
-
-enum-told : tie.Need-enum-told
-enum-told c = search needs
-
 write-requires : tie.Need-write-requires
 write-requires c κs =
     let s = c .before .before .before .before .before .before in
     let good = turnsJudged-good (s .args .digits .now) (length (s .args .out .now)) (sym (c .before .before .before .judge .ensures) ∙ c .before .enum-told .given .1) in
     (good .digits, good .long)
-
-enum-told-2 : tie.Need-enum-told-2
-enum-told-2 c = search needs
-
-same-length : tie.Need-same-length
-same-length c = search needs
 
 returns : tie.Need-returns
 returns c =
@@ -40,4 +28,4 @@ returns-2 c =
     kept (convertOf (s .args .way)) (s .args .digits .now) (s .args .out .now) (j .judge .result) (c .enum-told2 .given .0 .0) (j .judge .ensures) (c .enum-told2 .given .1)
 
 pub convert-spec : {M : Type 1} → statement M
-convert-spec = tie.close (tie.spec judge-requires enum-told write-requires enum-told-2 same-length returns returns-2)
+convert-spec = tie.close (tie.spec (λ c κs. search needs) (λ c. search needs) write-requires (λ c. search needs) (λ c. search needs) returns returns-2)

@@ -16,22 +16,10 @@ Inv-loop digits i₀ i = (i ≤ length digits) × (digitsJudged i (drop i digits
 abbrev μ-loop : tie.MeasureT-loop
 μ-loop digits i₀ i = length digits - i
 
-loop-holds : tie.Need-loop-holds Inv-loop μ-loop
-loop-holds c = search needs
-
-shared-slice-read-if1 : tie.Need-shared-slice-read-if1 Inv-loop μ-loop
-shared-slice-read-if1 c = search needs
-
 returns : tie.Need-returns Inv-loop μ-loop
 returns c =
     let l = c .before .before .before in
     sym (fault-here (l .before .args .digits .now) (l .loop .i) (omega arith) (c .if1 .taken)) ∙ l .loop .inv .1
-
-add-i : tie.Need-add-i Inv-loop μ-loop
-add-i c = search needs
-
-loop-less : tie.Need-loop-less Inv-loop μ-loop
-loop-less c = search needs
 
 loop-again : tie.Need-loop-again Inv-loop μ-loop
 loop-again c =
@@ -44,4 +32,4 @@ returns-2 c =
     sym (fault-none (l .before .args .digits .now) (l .loop .i) (c .loop-test .left)) ∙ l .loop .inv .1
 
 pub fault-spec : {M : Type 1} → statement M
-fault-spec = tie.close (tie.spec Inv-loop μ-loop loop-holds shared-slice-read-if1 returns add-i loop-less loop-again returns-2)
+fault-spec = tie.close (tie.spec Inv-loop μ-loop (λ c. search needs) (λ c. search needs) returns (λ c. search needs) (λ c. search needs) loop-again returns-2)

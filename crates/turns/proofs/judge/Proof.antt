@@ -17,13 +17,10 @@ returns-2 c =
     let s = c .before .before .before in
     sym (judged-room (s .args .digits .now) (s .args .room) (c .before .if1 .left) (c .if2 .taken))
 
-judge-digits-requires : tie.Need-judge-digits-requires
-judge-digits-requires c κs = search needs
-
 returns-3 : tie.Need-returns-3
 returns-3 c =
     let s = c .before .before .before .before in
     c .judge-digits .ensures ∙ sym (judged-digits (s .args .digits .now) (s .args .room) (c .before .before .if1 .left) (omega arith))
 
 pub judge-spec : {M : Type 1} → statement M
-judge-spec = tie.close (tie.spec returns returns-2 judge-digits-requires returns-3)
+judge-spec = tie.close (tie.spec returns returns-2 (λ c κs. search needs) returns-3)

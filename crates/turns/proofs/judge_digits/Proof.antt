@@ -7,17 +7,8 @@ use Rattle.turns.proofs.FaultLaws.{no-fault}
 use Rattle.turns.proofs.judge_digits.Statement.{statement}
 use Rattle.turns.proofs.judge_digits.Tie as tie
 
-highest-requires : tie.Need-highest-requires
-highest-requires c κs = search needs
-
-fault-requires : tie.Need-fault-requires
-fault-requires c κs = search needs
-
-returns : tie.Need-returns
-returns c = search needs
-
 returns-2 : tie.Need-returns-2
 returns-2 c = sym (no-fault 0 (c .before .before .before .args .digits .now) (λ k. omega (arith, c .before .highest .ensures k, c .if1 .left)))
 
 pub judge-digits-spec : {M : Type 1} → statement M
-judge-digits-spec = tie.close (tie.spec highest-requires fault-requires returns returns-2)
+judge-digits-spec = tie.close (tie.spec (λ c κs. search needs) (λ c κs. search needs) (λ c. search needs) returns-2)

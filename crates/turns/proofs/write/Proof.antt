@@ -15,29 +15,11 @@ Inv-loop way digits out₀ last₀ i₀ out last i = SoFar way digits out last i
 abbrev μ-loop : tie.MeasureT-loop
 μ-loop way digits out₀ last₀ i₀ out last i = length digits - i
 
-loop-holds : tie.Need-loop-holds Inv-loop μ-loop
-loop-holds c = search needs
-
-shared-slice-read-x : tie.Need-shared-slice-read-x Inv-loop μ-loop
-shared-slice-read-x c = search needs
-
 digit-requires : tie.Need-digit-requires Inv-loop μ-loop
 digit-requires c κs =
     let l = c .before .before in
     let s = l .before .before .before in
     (omega (arith, l .loop .inv .small), below-getD 4 (s .args .digits .now) (l .loop .i) (s .pre .0) (omega arith))
-
-slice-write-out : tie.Need-slice-write-out Inv-loop μ-loop
-slice-write-out c = search needs
-
-step-at-requires : tie.Need-step-at-requires Inv-loop μ-loop
-step-at-requires c κs = search needs
-
-add-i : tie.Need-add-i Inv-loop μ-loop
-add-i c = search needs
-
-loop-less : tie.Need-loop-less Inv-loop μ-loop
-loop-less c = search needs
 
 loop-again : tie.Need-loop-again Inv-loop μ-loop
 loop-again c =
@@ -48,9 +30,6 @@ loop-again c =
     let b = below-getD 4 ds (l .loop .i) (s .pre .0) (omega arith) in
     one-more (s .args .way) ds (l .loop .out) (l .loop .last) (l .loop .i) (y .result) (c .step-at .result) (omega arith) (y .ensures .0) (c .step-at .ensures) b (y .ensures .1) (l .loop .inv)
 
-same-length : tie.Need-same-length Inv-loop μ-loop
-same-length c = search needs
-
 returns : tie.Need-returns Inv-loop μ-loop
 returns c =
     let l = c .before in
@@ -58,4 +37,4 @@ returns c =
     all-done (s .args .way) (s .args .digits .now) (l .loop .out) (l .loop .last) (l .loop .i) (c .loop-test .left) (s .pre .0) (l .loop .inv)
 
 pub write-spec : {M : Type 1} → statement M
-write-spec = tie.close (tie.spec Inv-loop μ-loop loop-holds shared-slice-read-x digit-requires slice-write-out step-at-requires add-i loop-less loop-again same-length returns)
+write-spec = tie.close (tie.spec Inv-loop μ-loop (λ c. search needs) (λ c. search needs) digit-requires (λ c. search needs) (λ c κs. search needs) (λ c. search needs) (λ c. search needs) loop-again (λ c. search needs) returns)

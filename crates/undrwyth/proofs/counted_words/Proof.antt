@@ -9,23 +9,8 @@ use Rattle.undrwyth.proofs.WordLaws.{refused-counted}
 use Rattle.undrwyth.proofs.counted_words.Statement.{statement}
 use Rattle.undrwyth.proofs.counted_words.Tie as tie
 
-enum-known-c : tie.Need-enum-known-c
-enum-known-c c = search needs
-
 cast-t7 : tie.Need-cast-t7
 cast-t7 c = omega (arith, subst CountedFits (c .before .c .given .1) (c .before .before .before .pre))
-
-enum-known-c-2 : tie.Need-enum-known-c-2
-enum-known-c-2 c = search needs
-
-refusal-number-requires : tie.Need-refusal-number-requires
-refusal-number-requires c κs = search needs
-
-cast-number : tie.Need-cast-number
-cast-number c = search needs
-
-refusal-place-requires : tie.Need-refusal-place-requires
-refusal-place-requires c κs = search needs
 
 cast-place : tie.Need-cast-place
 cast-place c = omega (arith, c .refusal-place .ensures, subst CountedFits (c .before .before .before .c2 .given .1) (c .before .before .before .before .before .pre))
@@ -40,12 +25,12 @@ pub counted-words-spec : {M : Type 1} → statement M
 counted-words-spec =
     tie.close
     (tie.spec
-    enum-known-c
+    (λ c. search needs)
     cast-t7
-    enum-known-c-2
-    refusal-number-requires
-    cast-number
-    refusal-place-requires
+    (λ c. search needs)
+    (λ c κs. search needs)
+    (λ c. search needs)
+    (λ c κs. search needs)
     cast-place
     returns
     returns-2)

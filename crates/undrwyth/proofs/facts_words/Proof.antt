@@ -9,32 +9,8 @@ use Rattle.undrwyth.proofs.WordLaws.{verdict-small, accepted-words}
 use Rattle.undrwyth.proofs.facts_words.Statement.{statement}
 use Rattle.undrwyth.proofs.facts_words.Tie as tie
 
-verdict-number-requires : tie.Need-verdict-number-requires
-verdict-number-requires c κs = search needs
-
 cast-verdict : tie.Need-cast-verdict
 cast-verdict c = omega (arith, verdict-small (c .before .args .f .verdict) (c .verdict-number .result) (c .verdict-number .ensures))
-
-bits-requires : tie.Need-bits-requires
-bits-requires c κs = search needs
-
-bits-requires-2 : tie.Need-bits-requires-2
-bits-requires-2 c κs = search needs
-
-bits-requires-3 : tie.Need-bits-requires-3
-bits-requires-3 c κs = search needs
-
-cast-t9 : tie.Need-cast-t9
-cast-t9 c = search needs
-
-cast-t10 : tie.Need-cast-t10
-cast-t10 c = search needs
-
-cast-t11 : tie.Need-cast-t11
-cast-t11 c = search needs
-
-cast-t12 : tie.Need-cast-t12
-cast-t12 c = search needs
 
 cast-t13 : tie.Need-cast-t13
 cast-t13 c = omega (arith, c .before .before .before .before .before .before .before .before .before .before .before .before .before .pre .4)
@@ -51,14 +27,14 @@ pub facts-words-spec : {M : Type 1} → statement M
 facts-words-spec =
     tie.close
     (tie.spec
-    verdict-number-requires
+    (λ c κs. search needs)
     cast-verdict
-    bits-requires
-    bits-requires-2
-    bits-requires-3
-    cast-t9
-    cast-t10
-    cast-t11
-    cast-t12
+    (λ c κs. search needs)
+    (λ c κs. search needs)
+    (λ c κs. search needs)
+    (λ c. search needs)
+    (λ c. search needs)
+    (λ c. search needs)
+    (λ c. search needs)
     cast-t13
     returns)

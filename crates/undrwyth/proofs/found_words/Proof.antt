@@ -8,15 +8,6 @@ use Rattle.undrwyth.proofs.WordLaws.{found-words}
 use Rattle.undrwyth.proofs.found_words.Statement.{statement}
 use Rattle.undrwyth.proofs.found_words.Tie as tie
 
-bits-requires : tie.Need-bits-requires
-bits-requires c κs = search needs
-
-bits-requires-2 : tie.Need-bits-requires-2
-bits-requires-2 c κs = search needs
-
-cast-t5 : tie.Need-cast-t5
-cast-t5 c = search needs
-
 returns : tie.Need-returns
 returns c =
     let f = c .before .before .before .before .before .before .args .f in
@@ -25,4 +16,4 @@ returns c =
     (c .before .bits2 .ensures ∙ ap bitsOf (back (f .start .1) (c .before .before .struct-told2 .given .1 .0 .1)))
 
 pub found-words-spec : {M : Type 1} → statement M
-found-words-spec = tie.close (tie.spec bits-requires bits-requires-2 cast-t5 returns)
+found-words-spec = tie.close (tie.spec (λ c κs. search needs) (λ c κs. search needs) (λ c. search needs) returns)

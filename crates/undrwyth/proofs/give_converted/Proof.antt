@@ -9,17 +9,8 @@ use Rattle.undrwyth.proofs.BoundaryLaws.{turns-fit}
 use Rattle.undrwyth.proofs.give_converted.Statement.{statement}
 use Rattle.undrwyth.proofs.give_converted.Tie as tie
 
-convert-requires : tie.Need-convert-requires
-convert-requires c κs = search needs
-
 turns-words-requires : tie.Need-turns-words-requires
 turns-words-requires c κs = let a = c .before .before .before .before .before .before .args in turns-fit (a .digits .now) (length (a .out .now)) (c .before .before .convert .result) (c .before .before .convert .ensures .answer)
-
-array-read-result : tie.Need-array-read-result
-array-read-result c = search needs
-
-same-length : tie.Need-same-length
-same-length c = search needs
 
 returns : tie.Need-returns
 returns c = record { answer = c .before .before .before .convert .result; converted = c .before .before .before .convert .ensures; words-are = c .turns-words .ensures; result = ap (λ (l : List ℕ). getD l 0 0) (c .turns-words .ensures) }
@@ -27,4 +18,4 @@ returns c = record { answer = c .before .before .before .convert .result; conver
 pub give-converted-spec : {M : Type 1} → statement M
 give-converted-spec =
     tie.close
-    (tie.spec convert-requires turns-words-requires array-read-result same-length returns)
+    (tie.spec (λ c κs. search needs) turns-words-requires (λ c. search needs) (λ c. search needs) returns)

@@ -21,31 +21,16 @@ cast-place c = omega (arith, c .refusal-place .ensures, subst OverlaidFits (c .b
 returns-2 : tie.Need-returns-2
 returns-2 c = refused-overlaid (c .before .before .before .before .before .args .o) (c .before .before .before .o2 .given .0 .0) (c .before .refusal-number .result) (c .refusal-place .result) (c .before .before .before .o2 .given .1) (c .before .refusal-number .ensures .0) (c .refusal-place .ensures)
 
-enum-known-o : tie.Need-enum-known-o
-enum-known-o c = search needs
-
-enum-known-o-2 : tie.Need-enum-known-o-2
-enum-known-o-2 c = search needs
-
-refusal-number-requires : tie.Need-refusal-number-requires
-refusal-number-requires c κs = search needs
-
-cast-number : tie.Need-cast-number
-cast-number c = search needs
-
-refusal-place-requires : tie.Need-refusal-place-requires
-refusal-place-requires c κs = search needs
-
 pub overlaid-words-spec : {M : Type 1} → statement M
 overlaid-words-spec =
     tie.close
     (tie.spec
-    enum-known-o
+    (λ c. search needs)
     measures-words-requires
-    enum-known-o-2
-    refusal-number-requires
-    cast-number
-    refusal-place-requires
+    (λ c. search needs)
+    (λ c κs. search needs)
+    (λ c. search needs)
+    (λ c κs. search needs)
     cast-place
     returns
     returns-2)

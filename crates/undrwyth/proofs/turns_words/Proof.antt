@@ -11,21 +11,6 @@ use Rattle.undrwyth.proofs.WordLaws.{refused-judged}
 use Rattle.undrwyth.proofs.turns_words.Statement.{statement}
 use Rattle.undrwyth.proofs.turns_words.Tie as tie
 
-enum-told : tie.Need-enum-told
-enum-told c = search needs
-
-enum-known-j : tie.Need-enum-known-j
-enum-known-j c = search needs
-
-refusal-number-requires : tie.Need-refusal-number-requires
-refusal-number-requires c κs = search needs
-
-cast-number : tie.Need-cast-number
-cast-number c = search needs
-
-refusal-place-requires : tie.Need-refusal-place-requires
-refusal-place-requires c κs = search needs
-
 cast-place : tie.Need-cast-place
 cast-place c = omega (arith, c .refusal-place .ensures, subst (λ (j : Judged). judgedPlace j < 2 ^ 32) (c .before .before .before .j .given .1) (c .before .before .before .before .before .pre))
 
@@ -39,11 +24,11 @@ pub turns-words-spec : {M : Type 1} → statement M
 turns-words-spec =
     tie.close
     (tie.spec
-    enum-told
-    enum-known-j
-    refusal-number-requires
-    cast-number
-    refusal-place-requires
+    (λ c. search needs)
+    (λ c. search needs)
+    (λ c κs. search needs)
+    (λ c. search needs)
+    (λ c κs. search needs)
     cast-place
     returns
     returns-2)

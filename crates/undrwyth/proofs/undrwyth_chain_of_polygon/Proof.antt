@@ -6,17 +6,8 @@ use Rattle.undrwyth.proofs.BoundaryLaws.{given-fits}
 use Rattle.undrwyth.proofs.undrwyth_chain_of_polygon.Statement.{statement}
 use Rattle.undrwyth.proofs.undrwyth_chain_of_polygon.Tie as tie
 
-read-requires : tie.Need-read-requires
-read-requires c κs = search needs
-
 given-words-requires : tie.Need-given-words-requires
 given-words-requires c κs = let a = c .before .before .before .before .before .before .args in let w = c .before .before .read in given-fits (a .file .now) (a .chain .now) (w .result) (w .last .1 .0) (w .ensures)
-
-array-read-result : tie.Need-array-read-result
-array-read-result c = search needs
-
-same-length : tie.Need-same-length
-same-length c = search needs
 
 returns : tie.Need-returns
 returns c =
@@ -30,4 +21,4 @@ returns c =
 
 pub undrwyth-chain-of-polygon-spec : {M : Type 1} → statement M
 undrwyth-chain-of-polygon-spec =
-    tie.close (tie.spec read-requires given-words-requires array-read-result same-length returns)
+    tie.close (tie.spec (λ c κs. search needs) given-words-requires (λ c. search needs) (λ c. search needs) returns)

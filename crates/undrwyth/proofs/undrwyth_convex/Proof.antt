@@ -12,14 +12,8 @@ use Rattle.undrwyth.proofs.BoundaryLaws.{convex-fits}
 use Rattle.undrwyth.proofs.undrwyth_convex.Statement.{statement}
 use Rattle.undrwyth.proofs.undrwyth_convex.Tie as tie
 
-tell-requires : tie.Need-tell-requires
-tell-requires c κs = search needs
-
 counted-words-requires : tie.Need-counted-words-requires
 counted-words-requires c κs = convex-fits _ (c .before .before .args .chain .now) (c .tell .result) (c .tell .ensures)
-
-array-read-result : tie.Need-array-read-result
-array-read-result c = search needs
 
 returns : tie.Need-returns
 returns c =
@@ -33,4 +27,4 @@ returns c =
     }
 
 pub undrwyth-convex-spec : {M : Type 1} → statement M
-undrwyth-convex-spec = tie.close (tie.spec tell-requires counted-words-requires array-read-result returns)
+undrwyth-convex-spec = tie.close (tie.spec (λ c κs. search needs) counted-words-requires (λ c. search needs) returns)

@@ -12,26 +12,11 @@ use Rattle.undrwyth.proofs.BoundaryLaws.{overlay-fit}
 use Rattle.undrwyth.proofs.undrwyth_overlay.Statement.{statement}
 use Rattle.undrwyth.proofs.undrwyth_overlay.Tie as tie
 
-list-requires : tie.Need-list-requires
-list-requires c κs = search needs
-
 overlaid-words-requires : tie.Need-overlaid-words-requires
 overlaid-words-requires c κs =
     let a = c .before .before .before .before .before .before .before .before .before .args in
     let w = c .before .before .before .list in
     overlay-fit _ (a .chain1 .now) _ (a .chain2 .now) (ofParts (a .first .now) (a .second .now) (a .both .now)) (w .result) (ofParts (w .last .1 .1 .1 .1 .0) (w .last .1 .1 .1 .1 .1 .0) (w .last .1 .1 .1 .1 .1 .1 .0)) (w .ensures)
-
-array-read-result : tie.Need-array-read-result
-array-read-result c = search needs
-
-same-length : tie.Need-same-length
-same-length c = search needs
-
-same-length-2 : tie.Need-same-length-2
-same-length-2 c = search needs
-
-same-length-3 : tie.Need-same-length-3
-same-length-3 c = search needs
 
 returns : tie.Need-returns
 returns c =
@@ -52,10 +37,10 @@ pub undrwyth-overlay-spec : {M : Type 1} → statement M
 undrwyth-overlay-spec =
     tie.close
     (tie.spec
-    list-requires
+    (λ c κs. search needs)
     overlaid-words-requires
-    array-read-result
-    same-length
-    same-length-2
-    same-length-3
+    (λ c. search needs)
+    (λ c. search needs)
+    (λ c. search needs)
+    (λ c. search needs)
     returns)

@@ -12,23 +12,8 @@ use Rattle.undrwyth.proofs.BoundaryLaws.{answer-fits}
 use Rattle.undrwyth.proofs.undrwyth_walk.Statement.{statement}
 use Rattle.undrwyth.proofs.undrwyth_walk.Tie as tie
 
-follow-requires : tie.Need-follow-requires
-follow-requires c κs = search needs
-
 walk-words-requires : tie.Need-walk-words-requires
 walk-words-requires c κs = let a = c .before .before .before .before .before .before .before .before .before .before .before .before .before .before .args in let w = c .before .before .before .before .before .before .follow in answer-fits _ (a .ops .now) (a .table .now) (a .marks .now) (a .chain .now) (w .result) (w .last .1 .1 .0) (w .last .1 .1 .1 .0) (w .last .1 .1 .1 .1 .0) (w .ensures)
-
-array-read-result : tie.Need-array-read-result
-array-read-result c = search needs
-
-same-length : tie.Need-same-length
-same-length c = search needs
-
-same-length-2 : tie.Need-same-length-2
-same-length-2 c = search needs
-
-same-length-3 : tie.Need-same-length-3
-same-length-3 c = search needs
 
 returns : tie.Need-returns
 returns c =
@@ -46,10 +31,10 @@ pub undrwyth-walk-spec : {M : Type 1} → statement M
 undrwyth-walk-spec =
     tie.close
     (tie.spec
-    follow-requires
+    (λ c κs. search needs)
     walk-words-requires
-    array-read-result
-    same-length
-    same-length-2
-    same-length-3
+    (λ c. search needs)
+    (λ c. search needs)
+    (λ c. search needs)
+    (λ c. search needs)
     returns)

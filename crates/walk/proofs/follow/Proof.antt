@@ -12,35 +12,17 @@ use Rattle.walk.proofs.follow.Tie as tie
 input-requires : tie.Need-input-requires
 input-requires c κs = tt
 
-enum-known-j : tie.Need-enum-known-j
-enum-known-j c = search needs
-
 returns : tie.Need-returns
 returns c =
     let a = c .before .before .before .before .before .before .before .before .args in
     let j = c .before .j .given in
     walk-refused (a .start) (a .ops .now) (a .t .now) (a .marks .now) (a .chain .now) (j .0 .0) (sym (j .1) ∙ c .before .before .before .input .ensures)
 
-enum-told : tie.Need-enum-told
-enum-told c = search needs
-
 plant-requires : tie.Need-plant-requires
 plant-requires c κs =
     let a = c .before .before .before .before .before .before .before .before .args in
     let k = input-good (a .start) (a .ops .now) (length (a .t .now)) (length (a .marks .now)) (length (a .chain .now)) (sym (c .before .before .before .input .ensures) ∙ c .before .enum-told .given .1) in
     (k .start, k .least, k .most)
-
-clear-requires : tie.Need-clear-requires
-clear-requires c κs = search needs
-
-same-length : tie.Need-same-length
-same-length c = search needs
-
-same-length-2 : tie.Need-same-length-2
-same-length-2 c = search needs
-
-same-length-3 : tie.Need-same-length-3
-same-length-3 c = search needs
 
 returns-2 : tie.Need-returns-2
 returns-2 c =
@@ -51,9 +33,6 @@ returns-2 c =
     let f = planted-full (length (a .t .now)) (a .start) (a .ops .now) (p .last .0) (p .result) (p .ensures) (c .before .before .before .before .before .before .before .if1 .taken) in
     walk-followed (a .start) (a .ops .now) (a .t .now) (a .t .now) (a .marks .now) (a .chain .now) _ (p .last .0) (z .last .0) (z .last .1 .0) (sym (c .before .before .before .before .before .before .before .before .before .before .before .before .enum-told .given .1) ∙ c .before .before .before .before .before .before .before .before .before .before .before .before .before .before .input .ensures) refl (followed-full (a .start) (a .ops .now) (a .t .now) (a .marks .now) (a .chain .now) (p .last .0) (z .last .0) (z .last .1 .0) 0 (f .0) (f .1) (z .ensures .0) (z .ensures .1))
 
-sub-go-on : tie.Need-sub-go-on
-sub-go-on c = search needs
-
 go-on-requires : tie.Need-go-on-requires
 go-on-requires c κs =
     let a = c .before .before .before .before .before .before .before .before .before .before .before .before .before .before .before .args in
@@ -61,15 +40,6 @@ go-on-requires c κs =
     let k = input-good (a .start) (a .ops .now) (length (a .t .now)) (length (a .marks .now)) (length (a .chain .now)) (sym (c .before .before .before .before .before .before .before .before .before .before .input .ensures) ∙ c .before .before .before .before .before .before .before .before .enum-told .given .1) in
     let l : length (p .last .0) ≡ length (a .t .now) = search needs in
     ((k .start, planted-walked (a .start) (a .t .now) (p .last .0) (p .result) (p .ensures) l (c .before .before .before .if1 .left), omega (arith, l, k .most)), ((k .marks, k .chain, k .few), k .fine))
-
-same-length-4 : tie.Need-same-length-4
-same-length-4 c = search needs
-
-same-length-5 : tie.Need-same-length-5
-same-length-5 c = search needs
-
-same-length-6 : tie.Need-same-length-6
-same-length-6 c = search needs
 
 returns-3 : tie.Need-returns-3
 returns-3 c =
@@ -84,18 +54,18 @@ follow-spec =
     tie.close
     (tie.spec
     input-requires
-    enum-known-j
+    (λ c. search needs)
     returns
-    enum-told
+    (λ c. search needs)
     plant-requires
-    clear-requires
-    same-length
-    same-length-2
-    same-length-3
+    (λ c κs. search needs)
+    (λ c. search needs)
+    (λ c. search needs)
+    (λ c. search needs)
     returns-2
-    sub-go-on
+    (λ c. search needs)
     go-on-requires
-    same-length-4
-    same-length-5
-    same-length-6
+    (λ c. search needs)
+    (λ c. search needs)
+    (λ c. search needs)
     returns-3)

@@ -14,15 +14,6 @@ use Rattle.walk.proofs.go_on.Tie as tie
 zeros : {m n : ℕ} → m ≡ n → replicate {A = ℕ} m 0 ≡ replicate n 0
 zeros e = ap (λ (k : ℕ). replicate {A = ℕ} k 0) e
 
-run-requires : tie.Need-run-requires
-run-requires c κs = search needs
-
-enum-known-i : tie.Need-enum-known-i
-enum-known-i c = search needs
-
-enum-known-w : tie.Need-enum-known-w
-enum-known-w c = search needs
-
 facts-requires : tie.Need-facts-requires
 facts-requires c κs =
     let a = c .before .before .before .before .before .before .before .before .before .before .before .before .before .before .before .before .before .before .args in
@@ -30,15 +21,6 @@ facts-requires c κs =
     let w = c .before .before .w .given in
     let e = subst (λ (x : Ran). Ended (length (a .t .now)) (a .start) (a .ops .now) (r .last .1 .1 .1 .0) (r .last .1 .1 .1 .1 .0) (r .last .1 .1 .1 .1 .1 .0) x) (w .1) (r .ensures) in
     record { chain-steps = survivors (a .ops .now); settled = settled-of (a .start) (r .last .1 .1 .1 .0) (r .last .1 .1 .1 .1 .1 .0) (survivors (a .ops .now)) (w .0 .0) (e .0) }
-
-same-length : tie.Need-same-length
-same-length c = search needs
-
-same-length-2 : tie.Need-same-length-2
-same-length-2 c = search needs
-
-same-length-3 : tie.Need-same-length-3
-same-length-3 c = search needs
 
 returns : tie.Need-returns
 returns c =
@@ -49,15 +31,6 @@ returns c =
     let q : length (r .last .1 .1 .1 .1 .0) ≡ length (a .marks .now) = search needs in
     let o : length (r .last .1 .1 .1 .1 .1 .0) ≡ length (a .chain .now) = search needs in
     followed-full (a .start) (a .ops .now) (a .t .now) (a .marks .now) (a .chain .now) (r .last .1 .1 .1 .0) (r .last .1 .1 .1 .1 .0) (r .last .1 .1 .1 .1 .1 .0) (w .0 .0) (e .0) (e .1) (e .2 ∙ zeros q) (e .3 ∙ zeros o)
-
-same-length-4 : tie.Need-same-length-4
-same-length-4 c = search needs
-
-same-length-5 : tie.Need-same-length-5
-same-length-5 c = search needs
-
-same-length-6 : tie.Need-same-length-6
-same-length-6 c = search needs
 
 returns-2 : tie.Need-returns-2
 returns-2 c =
@@ -73,15 +46,15 @@ pub go-on-spec : {M : Type 1} → statement M
 go-on-spec =
     tie.close
     (tie.spec
-    run-requires
-    enum-known-i
-    enum-known-w
+    (λ c κs. search needs)
+    (λ c. search needs)
+    (λ c. search needs)
     facts-requires
-    same-length
-    same-length-2
-    same-length-3
+    (λ c. search needs)
+    (λ c. search needs)
+    (λ c. search needs)
     returns
-    same-length-4
-    same-length-5
-    same-length-6
+    (λ c. search needs)
+    (λ c. search needs)
+    (λ c. search needs)
     returns-2)

@@ -16,16 +16,10 @@ use Rattle.walk_back.proofs.drop_node.Tie as tie
 word-requires : tie.Need-word-requires
 word-requires c κs = omega (arith, newest-bounds (c .before .before .args .t .now) (c .before .before .args .u) (c .before .before .args .c) (c .before .before .pre) .0)
 
-cast-up : tie.Need-cast-up
-cast-up c = search needs
-
 sub-up : tie.Need-sub-up
 sub-up c =
     let s = c .before .before .before in
     omega (arith, newest-bounds (s .args .t .now) (s .args .u) (s .args .c) (s .pre) .1, c .word .ensures)
-
-child-word-requires : tie.Need-child-word-requires
-child-word-requires c κs = search needs
 
 put-requires : tie.Need-put-requires
 put-requires c κs =
@@ -37,9 +31,6 @@ clear-record-requires : tie.Need-clear-record-requires
 clear-record-requires c κs =
     let s = c .before .before .before .before .before .before .before .before .before in
     omega (arith, newest-bounds (s .args .t .now) (s .args .u) (s .args .c) (s .pre) .0, ap length (c .before .before .before .put .ensures) ∙ length-set (s .args .t .now) ((c .before .before .before .before .before .before .word .result - 1) * width + c .before .before .before .before .child-word .result) 0)
-
-same-length : tie.Need-same-length
-same-length c = search needs
 
 returns : tie.Need-returns
 returns c =
@@ -53,10 +44,10 @@ drop-node-spec =
     tie.close
     (tie.spec
     word-requires
-    cast-up
+    (λ c. search needs)
     sub-up
-    child-word-requires
+    (λ c κs. search needs)
     put-requires
     clear-record-requires
-    same-length
+    (λ c. search needs)
     returns)

@@ -38,9 +38,6 @@ sub-left c =
     let a = s .args in
     omega (arith, dropped-left (a .t .now) (a .nodes) (a .u) (a .c) (a .step) (l .t) (l .left) (l .at) (l .here) (l .inv .1) (s .pre) (sym (c .before .before .before .before .before .word .ensures) ∙ c .before .before .before .before .if1 .taken))
 
-parent-of-requires : tie.Need-parent-of-requires Inv-loop μ-loop
-parent-of-requires c κs = search needs
-
 loop-less : tie.Need-loop-less Inv-loop μ-loop
 loop-less c =
     let s = c .before .before .before .before .before .before .before .before .before .before in
@@ -57,9 +54,6 @@ loop-again c =
     let n = c .before .before .before .drop-node in
     let q = n .ensures in
     (ap length (q .1) ∙ length-node (l .t) (l .at) (l .here) (n .result) ∙ l .inv .0, dropped-next (a .t .now) (a .nodes) (a .u) (a .c) (a .step) (l .t) (l .left) (l .at) (l .here) (l .inv .1) (sym (c .before .before .before .before .before .before .word .ensures) ∙ c .before .before .before .before .before .if1 .taken) (n .last .0) (n .result) (c .parent-of .result) (q .0) (q .1) (c .parent-of .ensures))
-
-same-length : tie.Need-same-length Inv-loop μ-loop
-same-length c = search needs
 
 returns : tie.Need-returns Inv-loop μ-loop
 returns c =
@@ -78,8 +72,8 @@ drop-up-spec =
     word-requires
     drop-node-requires
     sub-left
-    parent-of-requires
+    (λ c κs. search needs)
     loop-less
     loop-again
-    same-length
+    (λ c. search needs)
     returns)

@@ -11,21 +11,6 @@ use Rattle.table_laws.specs.Model.{unsetIn}
 use Rattle.walk_back.proofs.unlink_level.Statement.{statement}
 use Rattle.walk_back.proofs.unlink_level.Tie as tie
 
-add-word : tie.Need-add-word
-add-word c = search needs
-
-word-requires : tie.Need-word-requires
-word-requires c κs = search needs
-
-add-word-2 : tie.Need-add-word-2
-add-word-2 c = search needs
-
-word-requires-2 : tie.Need-word-requires-2
-word-requires-2 c κs = search needs
-
-cast-to : tie.Need-cast-to
-cast-to c = search needs
-
 sub-unlink : tie.Need-sub-unlink
 sub-unlink c =
     let k = c .before .before .before .before .before .before .before .pre in
@@ -42,12 +27,6 @@ word-requires-3 c κs =
     let a = c .before .before .before .before .before .before .before .before .before .before .before .args in
     omega (arith, c .before .before .before .before .before .before .before .before .before .before .before .pre .0 .here, ap length (c .before .before .before .unlink .ensures) ∙ length-unset (a .t .now) (a .u) (c .before .before .before .before .before .word2 .result - 1) (a .d))
 
-cast-result : tie.Need-cast-result
-cast-result c = search needs
-
-same-length : tie.Need-same-length
-same-length c = search needs
-
 returns : tie.Need-returns
 returns c =
     let a = c .before .before .before .before .before .before .before .before .before .before .before .before .args in
@@ -57,9 +36,6 @@ returns c =
       other = λ f. absurd (f e);
     }
 
-same-length-2 : tie.Need-same-length-2
-same-length-2 c = search needs
-
 returns-2 : tie.Need-returns-2
 returns-2 c =
     record { own = λ p. absurd (c .if1 .left (c .before .word .ensures ∙ p)); other = λ f. (refl, refl) }
@@ -68,16 +44,16 @@ pub unlink-level-spec : {M : Type 1} → statement M
 unlink-level-spec =
     tie.close
     (tie.spec
-    add-word
-    word-requires
-    add-word-2
-    word-requires-2
-    cast-to
+    (λ c. search needs)
+    (λ c κs. search needs)
+    (λ c. search needs)
+    (λ c κs. search needs)
+    (λ c. search needs)
     sub-unlink
     unlink-requires
     word-requires-3
-    cast-result
-    same-length
+    (λ c. search needs)
+    (λ c. search needs)
     returns
-    same-length-2
+    (λ c. search needs)
     returns-2)

@@ -20,9 +20,6 @@ add-at c = let s = c .before in omega (arith, unlinkable-bound (s .args .t .now)
 loop-holds : tie.Need-loop-holds Inv-loop μ-loop
 loop-holds c = let a = c .before .args in (refl, unlinked-start (a .t .now) (a .u) (a .d) (a .step))
 
-sub-unlink-level : tie.Need-sub-unlink-level Inv-loop μ-loop
-sub-unlink-level c = search needs
-
 unlink-level-requires : tie.Need-unlink-level-requires Inv-loop μ-loop
 unlink-level-requires c κs =
     let s = c .before .before .before .before in
@@ -46,9 +43,6 @@ loop-again c =
     let n = c .before .before .unlink-level in
     (n .kept .0 ∙ l .inv .0, unlinked-next (a .t .now) (a .u) (a .d) (a .step) (s .pre) (l .t) (l .at) (l .inv .1) (omega (arith, c .before .before .before .before .loop-test .taken)) (n .last .0) (n .result) (n .ensures) (l .inv .0))
 
-same-length : tie.Need-same-length Inv-loop μ-loop
-same-length c = search needs
-
 returns : tie.Need-returns Inv-loop μ-loop
 returns c = let l = c .before .loop in λ S z h. l .inv .1 S z h .0 (omega (arith, c .loop-test .left))
 
@@ -60,9 +54,9 @@ unlink-up-spec =
     μ-loop
     add-at
     loop-holds
-    sub-unlink-level
+    (λ c. search needs)
     unlink-level-requires
     loop-less
     loop-again
-    same-length
+    (λ c. search needs)
     returns)

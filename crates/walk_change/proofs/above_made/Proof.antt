@@ -6,21 +6,6 @@ use Rattle.walk_change.proofs.CountLaws.{made-above, made-none}
 use Rattle.walk_change.proofs.above_made.Statement.{statement}
 use Rattle.walk_change.proofs.above_made.Tie as tie
 
-word-requires : tie.Need-word-requires
-word-requires c κs = search needs
-
-word-requires-2 : tie.Need-word-requires-2
-word-requires-2 c κs = search needs
-
-cast-up : tie.Need-cast-up
-cast-up c = search needs
-
-add-one-unless : tie.Need-add-one-unless
-add-one-unless c = search needs
-
-one-unless-requires : tie.Need-one-unless-requires
-one-unless-requires c κs = search needs
-
 returns : tie.Need-returns
 returns c =
     let a = c .before .before .before .before .before .args in
@@ -35,10 +20,10 @@ pub above-made-spec : {M : Type 1} → statement M
 above-made-spec =
     tie.close
     (tie.spec
-    word-requires
-    word-requires-2
-    cast-up
-    add-one-unless
-    one-unless-requires
+    (λ c κs. search needs)
+    (λ c κs. search needs)
+    (λ c. search needs)
+    (λ c. search needs)
+    (λ c κs. search needs)
     returns
     returns-2)

@@ -6,22 +6,10 @@ use Rattle.walk_change.proofs.CountLaws.{link-root, link-word, held-wor
 use Rattle.walk_change.proofs.links_up.Statement.{statement}
 use Rattle.walk_change.proofs.links_up.Tie as tie
 
-word-requires : tie.Need-word-requires
-word-requires c κs = search needs
-
-cast-up : tie.Need-cast-up
-cast-up c = search needs
-
 returns : tie.Need-returns
 returns c =
     let a = c .before .before .before .args in
     link-root (a .t .now) (a .u) (a .d) (a .step) (c .before .word .result) (c .before .word .ensures) (c .if1 .taken)
-
-sub-word : tie.Need-sub-word
-sub-word c = search needs
-
-add-word : tie.Need-add-word
-add-word c = search needs
 
 word-requires-2 : tie.Need-word-requires-2
 word-requires-2 c κs =
@@ -36,4 +24,4 @@ returns-2 c =
 
 pub links-up-spec : {M : Type 1} → statement M
 links-up-spec =
-    tie.close (tie.spec word-requires cast-up returns sub-word add-word word-requires-2 returns-2)
+    tie.close (tie.spec (λ c κs. search needs) (λ c. search needs) returns (λ c. search needs) (λ c. search needs) word-requires-2 returns-2)

@@ -12,34 +12,10 @@ use Rattle.lists.proofs.BoolLaws.{tally-le}
 use Rattle.walk_change.proofs.rise.Statement.{statement}
 use Rattle.walk_change.proofs.rise.Tie as tie
 
-word-requires : tie.Need-word-requires
-word-requires c κs = search needs
-
-cast-above : tie.Need-cast-above
-cast-above c = search needs
-
-sub-above : tie.Need-sub-above
-sub-above c = search needs
-
-add-word : tie.Need-add-word
-add-word c = search needs
-
-word-requires-2 : tie.Need-word-requires-2
-word-requires-2 c κs = search needs
-
-cast-beside : tie.Need-cast-beside
-cast-beside c = search needs
-
 sub-beside : tie.Need-sub-beside
 sub-beside c =
     let s = c .before .before .before in
     omega (arith, c .word2 .ensures, ap (λ (n : ℕ). getD (s .args .t .now) (wordAt (n - 1) (neighbourWord (s .args .d))) 0) (c .before .word .ensures), s .pre .2 .2)
-
-one-unless-requires : tie.Need-one-unless-requires
-one-unless-requires c κs = search needs
-
-one-unless-requires-2 : tie.Need-one-unless-requires-2
-one-unless-requires-2 c κs = search needs
 
 add-count : tie.Need-add-count
 add-count c =
@@ -57,4 +33,4 @@ returns c =
     )
 
 pub rise-spec : {M : Type 1} → statement M
-rise-spec = tie.close (tie.spec word-requires cast-above sub-above add-word word-requires-2 cast-beside sub-beside one-unless-requires one-unless-requires-2 add-count returns)
+rise-spec = tie.close (tie.spec (λ c κs. search needs) (λ c. search needs) (λ c. search needs) (λ c. search needs) (λ c κs. search needs) (λ c. search needs) sub-beside (λ c κs. search needs) (λ c κs. search needs) add-count returns)

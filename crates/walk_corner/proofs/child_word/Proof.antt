@@ -8,27 +8,6 @@ use Rattle.walk_corner.proofs.SignedLaws.{back}
 use Rattle.walk_corner.proofs.child_word.Statement.{statement}
 use Rattle.walk_corner.proofs.child_word.Tie as tie
 
-slot-of-requires : tie.Need-slot-of-requires
-slot-of-requires c κs = search needs
-
-cast-x : tie.Need-cast-x
-cast-x c = search needs
-
-slot-of-requires-2 : tie.Need-slot-of-requires-2
-slot-of-requires-2 c κs = search needs
-
-cast-y : tie.Need-cast-y
-cast-y c = search needs
-
-mul-result : tie.Need-mul-result
-mul-result c = search needs
-
-add-result : tie.Need-add-result
-add-result c = search needs
-
-add-result-2 : tie.Need-add-result-2
-add-result-2 c = search needs
-
 returns : tie.Need-returns
 returns c =
     let s = c .before .before .before .before in
@@ -39,11 +18,11 @@ pub child-word-spec : {M : Type 1} → statement M
 child-word-spec =
     tie.close
     (tie.spec
-    slot-of-requires
-    cast-x
-    slot-of-requires-2
-    cast-y
-    mul-result
-    add-result
-    add-result-2
+    (λ c κs. search needs)
+    (λ c. search needs)
+    (λ c κs. search needs)
+    (λ c. search needs)
+    (λ c. search needs)
+    (λ c. search needs)
+    (λ c. search needs)
     returns)

@@ -8,12 +8,6 @@ use Rattle.walk_corner.proofs.MoveLaws.{difference-fits, difference-by}
 use Rattle.walk_corner.proofs.difference.Statement.{statement}
 use Rattle.walk_corner.proofs.difference.Tie as tie
 
-cast-result : tie.Need-cast-result
-cast-result c = search needs
-
-cast-result-2 : tie.Need-cast-result-2
-cast-result-2 c = search needs
-
 sub-result : tie.Need-sub-result
 sub-result c = difference-fits (c .args .a) (c .args .b)
 
@@ -21,4 +15,4 @@ returns : tie.Need-returns
 returns c = toZ-ofZ w32 _ (sub-result c) ∙ difference-by (c .args .a) (c .args .b)
 
 pub difference-spec : {M : Type 1} → statement M
-difference-spec = tie.close (tie.spec cast-result cast-result-2 sub-result returns)
+difference-spec = tie.close (tie.spec (λ c. search needs) (λ c. search needs) sub-result returns)

@@ -7,11 +7,8 @@ use Rattle.walk_corner.proofs.SignedLaws.{back}
 use Rattle.walk_corner.proofs.east.Statement.{statement}
 use Rattle.walk_corner.proofs.east.Tie as tie
 
-difference-requires : tie.Need-difference-requires
-difference-requires c κs = search needs
-
 returns : tie.Need-returns
 returns c = back (c .difference .result) (c .difference .ok) ∙ c .difference .ensures ∙ east-by (c .before .args .d)
 
 pub east-spec : {M : Type 1} → statement M
-east-spec = tie.close (tie.spec difference-requires returns)
+east-spec = tie.close (tie.spec (λ c κs. search needs) returns)

@@ -7,11 +7,8 @@ use Rattle.walk_corner.proofs.SignedLaws.{back}
 use Rattle.walk_corner.proofs.north.Statement.{statement}
 use Rattle.walk_corner.proofs.north.Tie as tie
 
-difference-requires : tie.Need-difference-requires
-difference-requires c κs = search needs
-
 returns : tie.Need-returns
 returns c = back (c .difference .result) (c .difference .ok) ∙ c .difference .ensures ∙ north-by (c .before .args .d)
 
 pub north-spec : {M : Type 1} → statement M
-north-spec = tie.close (tie.spec difference-requires returns)
+north-spec = tie.close (tie.spec (λ c κs. search needs) returns)

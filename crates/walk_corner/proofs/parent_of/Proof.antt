@@ -8,12 +8,6 @@ use Rattle.walk_corner.proofs.SignedLaws.{back}
 use Rattle.walk_corner.proofs.parent_of.Statement.{statement}
 use Rattle.walk_corner.proofs.parent_of.Tie as tie
 
-half-of-requires : tie.Need-half-of-requires
-half-of-requires c κs = search needs
-
-half-of-requires-2 : tie.Need-half-of-requires-2
-half-of-requires-2 c κs = search needs
-
 returns : tie.Need-returns
 returns c =
     let a = c .before .before .before .before .args .c in
@@ -25,4 +19,4 @@ returns c =
     (back (k .result) (k .ok) ∙ k .ensures ∙ ap halfOf (back (a .1) (g .1 .0 .1)))
 
 pub parent-of-spec : {M : Type 1} → statement M
-parent-of-spec = tie.close (tie.spec half-of-requires half-of-requires-2 returns)
+parent-of-spec = tie.close (tie.spec (λ c κs. search needs) (λ c κs. search needs) returns)

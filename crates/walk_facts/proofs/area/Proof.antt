@@ -17,12 +17,6 @@ use Rattle.walk_facts.proofs.FactLaws.{area-none}
 use Rattle.walk_facts.proofs.area.Statement.{statement}
 use Rattle.walk_facts.proofs.area.Tie as tie
 
-enum-told : tie.Need-enum-told
-enum-told c = search needs
-
-sweep-requires : tie.Need-sweep-requires
-sweep-requires c κs = search needs
-
 returns : tie.Need-returns
 returns c = back (c .sweep .result) (c .sweep .ok) ∙ c .sweep .ensures ∙ sym (ap (λ (v : Verdict). areaBy v (sweepFrom (c .before .before .before .before .args .start) (take (c .before .before .before .before .args .n) (c .before .before .before .before .args .chain .now)))) (c .before .enum-told .given .1))
 
@@ -34,4 +28,4 @@ returns-2 : tie.Need-returns-2
 returns-2 c = area-none (c .before .before .args .v) (sweepFrom (c .before .before .args .start) (take (c .before .before .args .n) (c .before .before .args .chain .now))) (λ e. no-room (c .before .before .args .v) e (c .match .keys2))
 
 pub area-spec : {M : Type 1} → statement M
-area-spec = tie.close (tie.spec enum-told sweep-requires returns returns-2)
+area-spec = tie.close (tie.spec (λ c. search needs) (λ c κs. search needs) returns returns-2)

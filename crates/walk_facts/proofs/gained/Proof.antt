@@ -14,9 +14,6 @@ use Rattle.walk_facts.proofs.FactLaws.{gain-bound}
 use Rattle.walk_facts.proofs.gained.Statement.{statement}
 use Rattle.walk_facts.proofs.gained.Tie as tie
 
-north-requires : tie.Need-north-requires
-north-requires c κs = search needs
-
 mul-result : tie.Need-mul-result
 mul-result c =
     let s = c .before in
@@ -39,4 +36,4 @@ returns c =
     ∙ ap₂ _+ℤ_ (toZ-ofZ w32 (s .args .sum) (s .fits .sum)) (toZ-ofZ w32 _ (mul-result c) ∙ ap₂ _*ℤ_ (toZ-ofZ w32 (s .args .x) (s .fits .x)) (back (n .result) (n .ok) ∙ n .ensures))
 
 pub gained-spec : {M : Type 1} → statement M
-gained-spec = tie.close (tie.spec north-requires mul-result add-result returns)
+gained-spec = tie.close (tie.spec (λ c κs. search needs) mul-result add-result returns)

@@ -20,9 +20,6 @@ returns-2 c =
     let t = c .before .table in
     input-table (a .start) (a .ops .now) (a .words) (a .marks) (a .chain) (omega arith) (sym (t .ensures) ∙ not-true (t .result) (c .if2 .taken))
 
-mul-if3 : tie.Need-mul-if3
-mul-if3 c = search needs
-
 returns-3 : tie.Need-returns-3
 returns-3 c =
     let a = c .before .before .before .before .before .args in
@@ -34,9 +31,6 @@ returns-4 c =
     let a = c .before .before .before .before .before .before .args in
     let t = c .before .before .before .table in
     input-chain (a .start) (a .ops .now) (a .words) (a .marks) (a .chain) (omega arith) (sym (t .ensures) ∙ not-false (t .result) (c .before .before .if2 .left)) (c .before .if3 .left) (c .if4 .taken)
-
-start-fits-requires : tie.Need-start-fits-requires
-start-fits-requires c κs = search needs
 
 returns-5 : tie.Need-returns-5
 returns-5 c =
@@ -56,4 +50,4 @@ returns-6 c =
     c .operations .ensures ∙ input-rest (a .start) (a .ops .now) (a .words) (a .marks) (a .chain) (omega arith) (sym (t .ensures) ∙ not-false (t .result) (c .before .before .before .before .before .if2 .left)) (c .before .before .before .before .if3 .left) (c .before .before .before .if4 .left) (sym (f .ensures) ∙ not-false (f .result) (c .before .if5 .left))
 
 pub input-spec : {M : Type 1} → statement M
-input-spec = tie.close (tie.spec returns table-requires returns-2 mul-if3 returns-3 returns-4 start-fits-requires returns-5 operations-requires returns-6)
+input-spec = tie.close (tie.spec returns table-requires returns-2 (λ c. search needs) returns-3 returns-4 (λ c κs. search needs) returns-5 operations-requires returns-6)

@@ -26,9 +26,6 @@ shared-slice-read-op c = omega arith
 fault-requires : tie.Need-fault-requires Inv-loop μ-loop
 fault-requires c κs = tt
 
-enum-told : tie.Need-enum-told Inv-loop μ-loop
-enum-told c = search needs
-
 returns : tie.Need-returns Inv-loop μ-loop
 returns c =
     let f = c .before .before .fault in
@@ -36,20 +33,11 @@ returns c =
     let e = c .enum-told .given in
     faults-here (c .before .before .before .before .before .before .before .args .ops .now) (l .i) (l .steps) (omega (arith, c .before .before .before .before .loop-test .taken)) (l .inv .2) (f .result) (e .0 .0) (f .ensures) (e .1)
 
-enum-told-2 : tie.Need-enum-told-2 Inv-loop μ-loop
-enum-told-2 c = search needs
-
 survive-requires : tie.Need-survive-requires Inv-loop μ-loop
 survive-requires c κs =
     let f = c .before .before .fault in
     let l = c .before .before .before .before .before .loop in
     (fault-none (l .i) (l .steps) (getD (c .before .before .before .before .before .before .before .args .ops .now) (l .i) 0) (sym (f .ensures) ∙ c .enum-told2 .given .1), omega (arith, c .before .before .before .before .loop-test .taken, c .before .before .before .before .before .before .before .good .0 .0))
-
-add-i : tie.Need-add-i Inv-loop μ-loop
-add-i c = search needs
-
-loop-less : tie.Need-loop-less Inv-loop μ-loop
-loop-less c = search needs
 
 loop-again : tie.Need-loop-again Inv-loop μ-loop
 loop-again c =
@@ -68,4 +56,4 @@ returns-2 c =
 pub operations-spec : {M : Type 1} → statement M
 operations-spec =
     tie.close
-    (tie.spec Inv-loop μ-loop loop-holds shared-slice-read-op fault-requires enum-told returns enum-told-2 survive-requires add-i loop-less loop-again returns-2)
+    (tie.spec Inv-loop μ-loop loop-holds shared-slice-read-op fault-requires (λ c. search needs) returns (λ c. search needs) survive-requires (λ c. search needs) (λ c. search needs) loop-again returns-2)

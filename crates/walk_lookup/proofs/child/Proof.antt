@@ -21,15 +21,6 @@ told t n u f s a m t′ e q = (sym (ap (λ (o : Out). o .table) (e ∙ q)), sym 
 three : (t : List ℕ) (n u f s : ℕ) {t₁ t₂ t₃ : List ℕ} → t₁ ≡ set t (wordAt u f) (n + 1) → t₂ ≡ set t₁ (wordAt n parentWord) (u + 1) → t₃ ≡ set t₂ (wordAt n needWord) s → t₃ ≡ set (set (set t (wordAt u f) (n + 1)) (wordAt n parentWord) (u + 1)) (wordAt n needWord) s
 three t n u f s e₁ e₂ e₃ = cc
 
-word-requires : tie.Need-word-requires
-word-requires c κs = search needs
-
-cast-known : tie.Need-cast-known
-cast-known c = search needs
-
-same-length : tie.Need-same-length
-same-length c = search needs
-
 returns : tie.Need-returns
 returns c =
     let s = c .before .before .before .before in
@@ -38,15 +29,6 @@ returns c =
     let n = s .args .nodes in
     let q = child-is t n (s .args .u) (s .args .place) (s .args .step) (w .result) (w .ensures) (λ z. omega arith) in
     ((λ S e h deep r p. child-last t n S h (length t) (s .args .step) t (w .result) n e (child-holds t n (s .args .u) (s .args .place) (s .args .step) S e h deep r p (out t (w .result) n) q)), told t n (s .args .u) (s .args .place) (s .args .step) (w .result) n t q refl)
-
-add-if2 : tie.Need-add-if2
-add-if2 c = search needs
-
-mul-if2 : tie.Need-mul-if2
-mul-if2 c = search needs
-
-same-length-2 : tie.Need-same-length-2
-same-length-2 c = search needs
 
 returns-2 : tie.Need-returns-2
 returns-2 c =
@@ -58,32 +40,8 @@ returns-2 c =
     let q = child-full t n (s .args .u) (s .args .place) (s .args .step) (sym z ∙ w .ensures) (omega arith) in
     ((λ S e h deep r p. child-last t n S h (length t) (s .args .step) t 0 n e (child-holds t n (s .args .u) (s .args .place) (s .args .step) S e h deep r p (out t 0 n) q)), told t n (s .args .u) (s .args .place) (s .args .step) 0 n t q refl)
 
-add-put : tie.Need-add-put
-add-put c = search needs
-
-cast-put : tie.Need-cast-put
-cast-put c = search needs
-
-put-requires : tie.Need-put-requires
-put-requires c κs = search needs
-
-add-put-2 : tie.Need-add-put-2
-add-put-2 c = search needs
-
-cast-put-2 : tie.Need-cast-put-2
-cast-put-2 c = search needs
-
 put-requires-2 : tie.Need-put-requires-2
 put-requires-2 c κs = search needs
-
-put-requires-3 : tie.Need-put-requires-3
-put-requires-3 c κs = search needs
-
-add-result : tie.Need-add-result
-add-result c = search needs
-
-same-length-3 : tie.Need-same-length-3
-same-length-3 c = search needs
 
 returns-3 : tie.Need-returns-3
 returns-3 c =
@@ -104,21 +62,21 @@ pub child-spec : {M : Type 1} → statement M
 child-spec =
     tie.close
     (tie.spec
-    word-requires
-    cast-known
-    same-length
+    (λ c κs. search needs)
+    (λ c. search needs)
+    (λ c. search needs)
     returns
-    add-if2
-    mul-if2
-    same-length-2
+    (λ c. search needs)
+    (λ c. search needs)
+    (λ c. search needs)
     returns-2
-    add-put
-    cast-put
-    put-requires
-    add-put-2
-    cast-put-2
+    (λ c. search needs)
+    (λ c. search needs)
+    (λ c κs. search needs)
+    (λ c. search needs)
+    (λ c. search needs)
     put-requires-2
-    put-requires-3
-    add-result
-    same-length-3
+    (λ c κs. search needs)
+    (λ c. search needs)
+    (λ c. search needs)
     returns-3)

@@ -45,9 +45,6 @@ word-requires c κs =
     let i = l .inv .0 (k .state) (k .holds) (k .here) in
     omega (arith, node-bound (s .args .t .now) (s .args .nodes) (l .node) (l .at) (k .state) (k .holds) (i .1))
 
-cast-up : tie.Need-cast-up Inv-loop μ-loop
-cast-up c = search needs
-
 sub-node : tie.Need-sub-node Inv-loop μ-loop
 sub-node c =
     let s = c .before .before .before .before .before in
@@ -57,9 +54,6 @@ sub-node c =
     let a = s .args in
     let up = goes-apart (a .t .now) (a .nodes) (l .node) (l .at) (a .d) 1 (k .state) (k .holds) (i .1) (s .pre .1 .2) (omega arith) (sym (c .before .before .goes-up .ensures) ∙ c .before .if1 .taken) in
     omega (arith, up-reads (a .t .now) (a .nodes) (l .node) (l .at) (k .state) (k .holds) (i .1) (up .inner) (c .word .result) (c .word .ensures) .0)
-
-parent-of-requires : tie.Need-parent-of-requires Inv-loop μ-loop
-parent-of-requires c κs = search needs
 
 add-level : tie.Need-add-level Inv-loop μ-loop
 add-level c =
@@ -113,9 +107,9 @@ climb-spec =
     loop-holds
     goes-up-requires
     word-requires
-    cast-up
+    (λ c. search needs)
     sub-node
-    parent-of-requires
+    (λ c κs. search needs)
     add-level
     loop-less
     loop-again

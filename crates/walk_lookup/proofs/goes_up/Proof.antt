@@ -31,23 +31,11 @@ fourth a b c d e f g h = rw (e, f, g, h)
 none : (a b c d : Bool) → a ≡ true → b ≡ false → c ≡ false → d ≡ false → true ≡ all a b c d
 none a b c d e f g h = rw (e, f, g, h)
 
-add-word : tie.Need-add-word
-add-word c = search needs
-
-word-requires : tie.Need-word-requires
-word-requires c κs = search needs
-
 returns : tie.Need-returns
 returns c =
     let a = c .before .before .before .args in
     let w = c .before .word in
     first (eqb (getD (a .t .now) (wordAt (a .u) (neighbourWord (a .d))) 0) 0) (isRoot (stepped (a .d) (a .c))) (isRoot (a .c)) (same (parentOf (a .c)) (parentOf (stepped (a .d) (a .c)))) (ne-eqb (getD (a .t .now) (wordAt (a .u) (neighbourWord (a .d))) 0) 0 (λ z. c .if1 .taken (w .ensures ∙ z)))
-
-moved-requires : tie.Need-moved-requires
-moved-requires c κs = search needs
-
-is-root-requires : tie.Need-is-root-requires
-is-root-requires c κs = search needs
 
 returns-2 : tie.Need-returns-2
 returns-2 c =
@@ -59,9 +47,6 @@ returns-2 c =
     let r = ap isRoot (sym m) ∙ sym (c .before .is-root .ensures) ∙ c .if2 .taken in
     second (eqb (getD (a .t .now) (wordAt (a .u) (neighbourWord (a .d))) 0) 0) (isRoot (stepped (a .d) (a .c))) (isRoot (a .c)) (same (parentOf (a .c)) (parentOf (stepped (a .d) (a .c)))) x r
 
-is-root-requires-2 : tie.Need-is-root-requires-2
-is-root-requires-2 c κs = search needs
-
 returns-3 : tie.Need-returns-3
 returns-3 c =
     let a = c .before .before .before .before .before .before .before .before .args in
@@ -72,15 +57,6 @@ returns-3 c =
     let r = ap isRoot (sym m) ∙ sym (c .before .before .before .is-root .ensures) ∙ c .before .before .if2 .left in
     let q = sym (c .before .is-root2 .ensures) ∙ c .if3 .taken in
     third (eqb (getD (a .t .now) (wordAt (a .u) (neighbourWord (a .d))) 0) 0) (isRoot (stepped (a .d) (a .c))) (isRoot (a .c)) (same (parentOf (a .c)) (parentOf (stepped (a .d) (a .c)))) x r q
-
-parent-of-requires : tie.Need-parent-of-requires
-parent-of-requires c κs = search needs
-
-parent-of-requires-2 : tie.Need-parent-of-requires-2
-parent-of-requires-2 c κs = search needs
-
-alike-requires : tie.Need-alike-requires
-alike-requires c κs = search needs
 
 returns-4 : tie.Need-returns-4
 returns-4 c =
@@ -110,16 +86,16 @@ pub goes-up-spec : {M : Type 1} → statement M
 goes-up-spec =
     tie.close
     (tie.spec
-    add-word
-    word-requires
+    (λ c. search needs)
+    (λ c κs. search needs)
     returns
-    moved-requires
-    is-root-requires
+    (λ c κs. search needs)
+    (λ c κs. search needs)
     returns-2
-    is-root-requires-2
+    (λ c κs. search needs)
     returns-3
-    parent-of-requires
-    parent-of-requires-2
-    alike-requires
+    (λ c κs. search needs)
+    (λ c κs. search needs)
+    (λ c κs. search needs)
     returns-4
     returns-5)

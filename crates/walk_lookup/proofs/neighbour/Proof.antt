@@ -13,9 +13,6 @@ use Rattle.table_climb_laws.proofs.ClimbLaws.{up-small, level-none, level-desce
 use Rattle.walk_lookup.proofs.neighbour.Statement.{statement}
 use Rattle.walk_lookup.proofs.neighbour.Tie as tie
 
-climb-requires : tie.Need-climb-requires
-climb-requires c κs = search needs
-
 top-requires : tie.Need-top-requires
 top-requires c κs =
     let s = c .before .before .before .before in
@@ -29,9 +26,6 @@ top-requires c κs =
       stood (a .t .now) (a .nodes) (p .result .node) (p .result .at) (k .state) (k .holds) (j .1),
       ((omega (arith, ap (λ (y : Corner). natAbs (y .0)) e, h .0, q .0), omega (arith, ap (λ (y : Corner). natAbs (y .1)) e, h .1, q .1), q .2, q .3, q .4), p .ensures .1),
     )
-
-same-length : tie.Need-same-length
-same-length c = search needs
 
 returns : tie.Need-returns
 returns c =
@@ -52,9 +46,6 @@ come-down-requires c κs =
     let d = level-descends (a .t .now) (a .nodes) (a .u) (a .c) (a .d) (a .step) (k .state) (k .holds) (k .here) (q .2) (q .3) (p .result .level) (p .result .node) (p .result .at) (p .ensures .0 (k .state) (k .holds) (k .here) .0) (p .ensures .0 (k .state) (k .holds) (k .here) .1) (c .before .before .before .before .top .last .0) (c .before .before .before .before .top .result) (c .before .before .before .before .top .ensures (k .state) (k .holds) (p .ensures .0 (k .state) (k .holds) (k .here) .1)) f in
     (record { state = k .state; descends = d .0 }, (q .0, q .1, q .2, q .3, omega (arith, d .1, q .4), omega (arith, f)))
 
-same-length-2 : tie.Need-same-length-2
-same-length-2 c = search needs
-
 returns-2 : tie.Need-returns-2
 returns-2 c =
     let s = c .before .before .before .before .before .before .before .before .before .before .before .before in
@@ -70,10 +61,10 @@ pub neighbour-spec : {M : Type 1} → statement M
 neighbour-spec =
     tie.close
     (tie.spec
-    climb-requires
+    (λ c κs. search needs)
     top-requires
-    same-length
+    (λ c. search needs)
     returns
     come-down-requires
-    same-length-2
+    (λ c. search needs)
     returns-2)

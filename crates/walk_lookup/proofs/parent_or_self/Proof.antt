@@ -14,24 +14,12 @@ by-true b x y e = rw e
 by-false : (b : Bool) (x y z : ℕ) → b ≡ false → z ≡ y → z ≡ cond b x y
 by-false b x y z e f = rw e f
 
-is-root-requires : tie.Need-is-root-requires
-is-root-requires c κs = search needs
-
-add-result : tie.Need-add-result
-add-result c = search needs
-
 returns : tie.Need-returns
 returns c = by-true (isRoot (c .before .before .before .args .c)) (c .before .before .before .args .u + 1) _ (sym (c .before .is-root .ensures) ∙ c .if1 .taken)
-
-word-requires : tie.Need-word-requires
-word-requires c κs = search needs
-
-cast-result : tie.Need-cast-result
-cast-result c = search needs
 
 returns-2 : tie.Need-returns-2
 returns-2 c = by-false (isRoot (c .before .before .before .before .args .c)) (c .before .before .before .before .args .u + 1) _ _ (sym (c .before .before .is-root .ensures) ∙ c .before .if1 .left) (c .word .ensures)
 
 pub parent-or-self-spec : {M : Type 1} → statement M
 parent-or-self-spec =
-    tie.close (tie.spec is-root-requires add-result returns word-requires cast-result returns-2)
+    tie.close (tie.spec (λ c κs. search needs) (λ c. search needs) returns (λ c κs. search needs) (λ c. search needs) returns-2)

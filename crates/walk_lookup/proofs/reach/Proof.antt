@@ -11,18 +11,6 @@ use Rattle.walk_lookup.proofs.RoomLaws.{none-made}
 use Rattle.walk_lookup.proofs.reach.Statement.{statement}
 use Rattle.walk_lookup.proofs.reach.Tie as tie
 
-add-word : tie.Need-add-word
-add-word c = search needs
-
-word-requires : tie.Need-word-requires
-word-requires c κs = search needs
-
-cast-known : tie.Need-cast-known
-cast-known c = search needs
-
-same-length : tie.Need-same-length
-same-length c = search needs
-
 returns : tie.Need-returns
 returns c =
     let s = c .before .before .before .before in
@@ -32,15 +20,6 @@ returns c =
       (λ S h r. near-last (a .t .now) (a .nodes) S h (length (a .t .now)) (a .step) (a .t .now) (w .result) (a .nodes) (a .c) (stepped (a .d) (a .c)) (near-known (a .t .now) (a .nodes) (a .u) (a .c) (a .d) (a .step) S h r (q .2) (q .3) (w .result) (w .ensures) (c .if1 .taken))),
       (λ z. absurd (c .if1 .taken z)),
     )
-
-neighbour-requires : tie.Need-neighbour-requires
-neighbour-requires c κs = search needs
-
-zero-requires : tie.Need-zero-requires
-zero-requires c κs = search needs
-
-same-length-2 : tie.Need-same-length-2
-same-length-2 c = search needs
 
 returns-2 : tie.Need-returns-2
 returns-2 c =
@@ -52,9 +31,6 @@ returns-2 c =
       (λ e. z .ensures ∙ ap (λ (m : ℕ). replicate {A = ℕ} m 0) l),
     )
 
-same-length-3 : tie.Need-same-length-3
-same-length-3 c = search needs
-
 returns-3 : tie.Need-returns-3
 returns-3 c =
     (c .before .before .before .neighbour .ensures, λ z. absurd (c .if2 .left z))
@@ -63,14 +39,14 @@ pub reach-spec : {M : Type 1} → statement M
 reach-spec =
     tie.close
     (tie.spec
-    add-word
-    word-requires
-    cast-known
-    same-length
+    (λ c. search needs)
+    (λ c κs. search needs)
+    (λ c. search needs)
+    (λ c. search needs)
     returns
-    neighbour-requires
-    zero-requires
-    same-length-2
+    (λ c κs. search needs)
+    (λ c κs. search needs)
+    (λ c. search needs)
     returns-2
-    same-length-3
+    (λ c. search needs)
     returns-3)

@@ -22,12 +22,6 @@ abbrev μ-loop : tie.MeasureT-loop
 loop-holds : tie.Need-loop-holds Inv-loop μ-loop
 loop-holds c = climb-start (c .args .c)
 
-is-root-requires : tie.Need-is-root-requires Inv-loop μ-loop
-is-root-requires c κs = search needs
-
-parent-of-requires : tie.Need-parent-of-requires Inv-loop μ-loop
-parent-of-requires c κs = search needs
-
 add-levels : tie.Need-add-levels Inv-loop μ-loop
 add-levels c =
     let l = c .before .before .before .loop in
@@ -52,4 +46,4 @@ returns c =
 pub depth-spec : {M : Type 1} → statement M
 depth-spec =
     tie.close
-    (tie.spec Inv-loop μ-loop loop-holds is-root-requires parent-of-requires add-levels loop-less loop-again returns)
+    (tie.spec Inv-loop μ-loop loop-holds (λ c κs. search needs) (λ c κs. search needs) add-levels loop-less loop-again returns)

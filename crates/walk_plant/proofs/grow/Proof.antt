@@ -21,23 +21,11 @@ Inv-loop t₀ c left₀ nodes₀ t left nodes = (length t ≡ length t₀) × De
 abbrev μ-loop : tie.MeasureT-loop
 μ-loop t₀ c left₀ nodes₀ t left nodes = left
 
-depth-requires : tie.Need-depth-requires Inv-loop μ-loop
-depth-requires c κs = search needs
-
 loop-holds : tie.Need-loop-holds Inv-loop μ-loop
 loop-holds c =
     let s = c .before .before in
     let d = c .depth in
     (refl, d .ensures, omega arith, growing-start (length (s .args .t .now)) (s .args .c) (s .args .t .now) (d .result) (d .ensures) (s .pre .1) (s .pre .2))
-
-sub-left : tie.Need-sub-left Inv-loop μ-loop
-sub-left c = search needs
-
-up-by-requires : tie.Need-up-by-requires Inv-loop μ-loop
-up-by-requires c κs = search needs
-
-child-word-requires : tie.Need-child-word-requires Inv-loop μ-loop
-child-word-requires c κs = search needs
 
 sub-child : tie.Need-sub-child Inv-loop μ-loop
 sub-child c = let k = c .before .before .before .before .loop .inv .3 in omega (arith, k .some)
@@ -58,9 +46,6 @@ child-requires c κs =
     let w = worded (c .before .child-word .result) (c .before .before .up-by .result) (c .before .child-word .ensures) in
     (record { state = plantedOf (upBy ((l .left - 1) + 1) (s .args .c)); holds = growing-holds (length (s .args .t .now)) (s .args .c) (l .t) (l .left - 1) (l .nodes) k (l .inv .0) }, (omega (arith, k .some), w .0, w .1, omega (arith, l .inv .0, s .pre .3)))
 
-same-length : tie.Need-same-length Inv-loop μ-loop
-same-length c = search needs
-
 returns : tie.Need-returns Inv-loop μ-loop
 returns c =
     let s = c .before .before .before .before .before .before .before .before .before .before .before in
@@ -73,9 +58,6 @@ returns c =
     let p = w .ensures ∙ ap childWord (c .before .before .before .before .before .before .up-by .ensures) in
     let deep = l .inv .1 .below (l .left - 1) (omega (arith, l .inv .2)) in
     growing-none W C (b .last .0) (growing-full W C (l .t) (l .left - 1) (l .nodes) k (l .inv .0) deep (w .result) (b .result) p (b .last .0) (b .ensures .0) (c .if1 .taken))
-
-loop-less : tie.Need-loop-less Inv-loop μ-loop
-loop-less c = search needs
 
 loop-again : tie.Need-loop-again Inv-loop μ-loop
 loop-again c =
@@ -91,9 +73,6 @@ loop-again c =
     let same : length (b .last .0) ≡ length (l .t) = search needs in
     (same ∙ l .inv .0, l .inv .1, omega (arith, l .inv .2), growing-next W C (l .t) (l .left - 1) (l .nodes) k (l .inv .0) deep (w .result) (b .result) p (b .last .0) (b .ensures .0) (c .if1 .left))
 
-same-length-2 : tie.Need-same-length-2 Inv-loop μ-loop
-same-length-2 c = search needs
-
 returns-2 : tie.Need-returns-2 Inv-loop μ-loop
 returns-2 c =
     let s = c .before .before .before .before in
@@ -106,16 +85,16 @@ grow-spec =
     (tie.spec
     Inv-loop
     μ-loop
-    depth-requires
+    (λ c κs. search needs)
     loop-holds
-    sub-left
-    up-by-requires
-    child-word-requires
+    (λ c. search needs)
+    (λ c κs. search needs)
+    (λ c κs. search needs)
     sub-child
     child-requires
-    same-length
+    (λ c. search needs)
     returns
-    loop-less
+    (λ c. search needs)
     loop-again
-    same-length-2
+    (λ c. search needs)
     returns-2)

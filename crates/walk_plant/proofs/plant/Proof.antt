@@ -10,21 +10,12 @@ use Rattle.walk_plant.proofs.GrowLaws.{planted-none, planted-at, grown-
 use Rattle.walk_plant.proofs.plant.Statement.{statement}
 use Rattle.walk_plant.proofs.plant.Tie as tie
 
-zero-requires : tie.Need-zero-requires
-zero-requires c κs = search needs
-
 grow-requires : tie.Need-grow-requires
 grow-requires c κs =
     let s = c .before .before .before .before .before .before in
     let z = c .before .before .before .zero in
     let l : length (z .last .0) ≡ length (s .args .t .now) = search needs in
     (s .pre .0, z .ensures ∙ ap (λ (n : ℕ). replicate n 0) (sym l), omega (arith, l, s .pre .1), omega (arith, l, s .pre .2))
-
-zero-requires-2 : tie.Need-zero-requires-2
-zero-requires-2 c κs = search needs
-
-same-length : tie.Need-same-length
-same-length c = search needs
 
 returns : tie.Need-returns
 returns c =
@@ -36,9 +27,6 @@ returns c =
     let m : length (g .last .0) ≡ length (s .args .t .now) = search needs in
     planted-none (length (s .args .t .now)) (s .args .c) (g .last .0) (g .result) (subst (λ (n : ℕ). Grown n (s .args .c) (g .last .0) (g .result)) l (g .ensures)) (e .last .0) (c .before .before .before .before .if1 .taken) (e .ensures ∙ ap (λ (n : ℕ). replicate n 0) m)
 
-sub-visit : tie.Need-sub-visit
-sub-visit c = search needs
-
 visit-requires : tie.Need-visit-requires
 visit-requires c κs =
     let s = c .before .before .before .before .before .before .before .before .before .before .before in
@@ -48,9 +36,6 @@ visit-requires c κs =
     let m : length (g .last .0) ≡ length (s .args .t .now) = search needs in
     let v = grown-visits (length (s .args .t .now)) (s .args .c) (g .last .0) (g .result) (subst (λ (n : ℕ). Grown n (s .args .c) (g .last .0) (g .result)) l (g .ensures)) (c .before .if1 .left) m in
     (v .0, omega (arith, v .1), omega arith)
-
-same-length-2 : tie.Need-same-length-2
-same-length-2 c = search needs
 
 returns-2 : tie.Need-returns-2
 returns-2 c =
@@ -62,4 +47,4 @@ returns-2 c =
     planted-at (length (s .args .t .now)) (s .args .c) (g .last .0) (g .result) (subst (λ (n : ℕ). Grown n (s .args .c) (g .last .0) (g .result)) l (g .ensures)) (v .last .0) (c .before .before .before .before .if1 .left) (v .ensures)
 
 pub plant-spec : {M : Type 1} → statement M
-plant-spec = tie.close (tie.spec zero-requires grow-requires zero-requires-2 same-length returns sub-visit visit-requires same-length-2 returns-2)
+plant-spec = tie.close (tie.spec (λ c κs. search needs) grow-requires (λ c κs. search needs) (λ c. search needs) returns (λ c. search needs) visit-requires (λ c. search needs) returns-2)

@@ -44,9 +44,6 @@ withdraw-requires c κs =
     let n = chained-near (k .start) T C (k .steps) w (k .chained) in
     (record { start = k .start; chain = take (w .spot .steps - 1) C; known = chained-known (k .start) T C (k .steps) w (k .chained) some }, (n .0, n .1, chained-digit (k .start) T C (k .steps) w (k .chained) some, omega (arith, chained-few (k .start) T C (k .steps) w (k .chained))))
 
-same-length : tie.Need-same-length
-same-length c = search needs
-
 returns : tie.Need-returns
 returns c =
     let s = c .before .before .before .before .before .before .before .before .before in
@@ -82,12 +79,6 @@ advance-requires c κs =
     let g = fine-step (w .spot .steps) (a .op) (k .fine) (c .before .if1 .left) in
     (record { start = k .start; chain = k .steps; known = k .chained .known }, (n .0, n .1, g .0, omega (arith, g .1), s .pre .1))
 
-same-length-2 : tie.Need-same-length-2
-same-length-2 c = search needs
-
-same-length-3 : tie.Need-same-length-3
-same-length-3 c = search needs
-
 returns-2 : tie.Need-returns-2
 returns-2 c =
     let s = c .before .before .before .before .before .before .before in
@@ -108,10 +99,10 @@ apply-spec =
     sub-last
     slice-read-d
     withdraw-requires
-    same-length
+    (λ c. search needs)
     returns
     slice-write-chain
     advance-requires
-    same-length-2
-    same-length-3
+    (λ c. search needs)
+    (λ c. search needs)
     returns-2)

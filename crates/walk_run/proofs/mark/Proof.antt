@@ -9,50 +9,11 @@ use Rattle.layout.specs.Marks.{markWords}
 use Rattle.walk_run.proofs.mark.Statement.{statement}
 use Rattle.walk_run.proofs.mark.Tie as tie
 
-cast-marks : tie.Need-cast-marks
-cast-marks c = search needs
-
-mul-marks : tie.Need-mul-marks
-mul-marks c = search needs
-
-mul-marks-2 : tie.Need-mul-marks-2
-mul-marks-2 c = search needs
-
-slice-write-marks : tie.Need-slice-write-marks
-slice-write-marks c = search needs
-
-word-requires : tie.Need-word-requires
-word-requires c κs = search needs
-
-mul-marks-3 : tie.Need-mul-marks-3
-mul-marks-3 c = search needs
-
-add-marks : tie.Need-add-marks
-add-marks c = search needs
-
-mul-marks-4 : tie.Need-mul-marks-4
-mul-marks-4 c = search needs
-
 slice-write-marks-2 : tie.Need-slice-write-marks-2
 slice-write-marks-2 c =
     let s = c .before .before .before .before in
     let a = s .args in
     omega (arith, length-set (a .marks .now) (markWords * a .i) (a .w .nodes), s .pre .1)
-
-mul-marks-5 : tie.Need-mul-marks-5
-mul-marks-5 c = search needs
-
-add-marks-2 : tie.Need-add-marks-2
-add-marks-2 c = search needs
-
-mul-marks-6 : tie.Need-mul-marks-6
-mul-marks-6 c = search needs
-
-slice-write-marks-3 : tie.Need-slice-write-marks-3
-slice-write-marks-3 c = search needs
-
-same-length : tie.Need-same-length
-same-length c = search needs
 
 returns : tie.Need-returns
 returns c =
@@ -63,18 +24,18 @@ pub mark-spec : {M : Type 1} → statement M
 mark-spec =
     tie.close
     (tie.spec
-    cast-marks
-    mul-marks
-    mul-marks-2
-    slice-write-marks
-    word-requires
-    mul-marks-3
-    add-marks
-    mul-marks-4
+    (λ c. search needs)
+    (λ c. search needs)
+    (λ c. search needs)
+    (λ c. search needs)
+    (λ c κs. search needs)
+    (λ c. search needs)
+    (λ c. search needs)
+    (λ c. search needs)
     slice-write-marks-2
-    mul-marks-5
-    add-marks-2
-    mul-marks-6
-    slice-write-marks-3
-    same-length
+    (λ c. search needs)
+    (λ c. search needs)
+    (λ c. search needs)
+    (λ c. search needs)
+    (λ c. search needs)
     returns)

@@ -10,15 +10,6 @@ use Rattle.walk_run.proofs.ApplyLaws.{applied-step, applied-tells, appl
 use Rattle.walk_run.proofs.perform.Statement.{statement}
 use Rattle.walk_run.proofs.perform.Tie as tie
 
-taken-requires : tie.Need-taken-requires
-taken-requires c κs = search needs
-
-apply-requires : tie.Need-apply-requires
-apply-requires c κs = search needs
-
-enum-known-next : tie.Need-enum-known-next
-enum-known-next c = search needs
-
 told-requires : tie.Need-told-requires
 told-requires c κs =
     let s = c .before .before .before .before .before .before .before .before .before .before .before .before .before .before .before .before .before .before in
@@ -40,18 +31,6 @@ mark-requires c κs =
     let g = applied-bounds (length (a .t .now)) (a .marks .now) (a .i) (k .start) (b .last .0) (b .last .1 .0) (k .steps) (operate (k .steps) (a .op)) (b .result) (v .0 .0) (v .1) (b .ensures (k .start) (k .steps) (k .chained)) in
     (g .0, omega (arith, s .pre .1 .1), omega (arith, g .1, s .pre .1 .0), omega (arith, s .pre .1 .2))
 
-enum-told : tie.Need-enum-told
-enum-told c = search needs
-
-same-length : tie.Need-same-length
-same-length c = search needs
-
-same-length-2 : tie.Need-same-length-2
-same-length-2 c = search needs
-
-same-length-3 : tie.Need-same-length-3
-same-length-3 c = search needs
-
 returns : tie.Need-returns
 returns c =
     let s = c .before .before .before .before .before .before .before .before .before .before .before .before .before .before .before .before .before .before .before .before .before .before .before .before in
@@ -70,12 +49,6 @@ returns c =
     (applied-tells W (a .marks .now) (a .i) x (b .last .0) (b .last .1 .0) ds (operate ds (a .op)) (b .result) (v .0 .0) (v .1) p (a .op) (o .result) (n .result) f refl (λ e. o .ensures x ds h e) (n .ensures))
     (m .ensures)
 
-same-length-4 : tie.Need-same-length-4
-same-length-4 c = search needs
-
-same-length-5 : tie.Need-same-length-5
-same-length-5 c = search needs
-
 returns-2 : tie.Need-returns-2
 returns-2 c =
     let a = c .before .before .before .before .before .before .before .before .before .before .before .before .before .before .before .args in
@@ -86,16 +59,16 @@ pub perform-spec : {M : Type 1} → statement M
 perform-spec =
     tie.close
     (tie.spec
-    taken-requires
-    apply-requires
-    enum-known-next
+    (λ c κs. search needs)
+    (λ c κs. search needs)
+    (λ c. search needs)
     told-requires
     mark-requires
-    enum-told
-    same-length
-    same-length-2
-    same-length-3
+    (λ c. search needs)
+    (λ c. search needs)
+    (λ c. search needs)
+    (λ c. search needs)
     returns
-    same-length-4
-    same-length-5
+    (λ c. search needs)
+    (λ c. search needs)
     returns-2)

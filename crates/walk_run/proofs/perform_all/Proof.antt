@@ -31,17 +31,11 @@ abbrev μ-loop : tie.MeasureT-loop
 from : {c : Corner} {node : ℕ} {w : Walk} → w ≡ fresh c node → w .spot .at ≡ c
 from e = ap (λ (w : Walk). w .spot .at) e
 
-new-requires : tie.Need-new-requires Inv-loop μ-loop
-new-requires c κs = search needs
-
 loop-holds : tie.Need-loop-holds Inv-loop μ-loop
 loop-holds c =
     let s = c .before .before .before .before .before in
     let a = s .args in
     (refl, s .pre .1 .0 .0, s .pre .1 .0 .1, omega arith, subst (λ (x : Corner). Running (length (a .t .now)) x (a .ops .now) (a .t .now) (a .marks .now) (a .chain .now) (c .new .result) 0) (sym (from (c .new .ensures))) (running-start (a .start) (a .node) (a .ops .now) (a .t .now) (a .marks .now) (a .chain .now) (s .pre .0 .0) (s .pre .0 .1) (s .pre .1 .1) (c .new .result) (c .new .ensures)))
-
-shared-slice-read-perform : tie.Need-shared-slice-read-perform Inv-loop μ-loop
-shared-slice-read-perform c = search needs
 
 perform-requires : tie.Need-perform-requires Inv-loop μ-loop
 perform-requires c κs =
@@ -52,21 +46,6 @@ perform-requires c κs =
     let C = c .before .before .before .before .before .before .new .result .spot .at in
     let m : l .i < length (a .ops .now) = omega (arith, c .before .before .before .before .loop-test .taken) in
     (running-ready W C (a .ops .now) (l .t) (l .marks) (l .chain) (l .w) (l .i) (l .inv .4) m (l .inv .2), (omega (arith, l .inv .0, s .pre .0 .2), omega (arith, m, l .inv .1), omega (arith, m, s .pre .1 .0 .2)))
-
-enum-known-next : tie.Need-enum-known-next Inv-loop μ-loop
-enum-known-next c = search needs
-
-enum-told : tie.Need-enum-told Inv-loop μ-loop
-enum-told c = search needs
-
-same-length : tie.Need-same-length Inv-loop μ-loop
-same-length c = search needs
-
-same-length-2 : tie.Need-same-length-2 Inv-loop μ-loop
-same-length-2 c = search needs
-
-same-length-3 : tie.Need-same-length-3 Inv-loop μ-loop
-same-length-3 c = search needs
 
 returns : tie.Need-returns Inv-loop μ-loop
 returns c =
@@ -84,9 +63,6 @@ returns c =
 add-i : tie.Need-add-i Inv-loop μ-loop
 add-i c = omega (arith, c .before .before .before .before .before .before .before .before .before .before .before .before .before .before .loop-test .taken, c .before .before .before .before .before .before .before .before .before .before .before .before .before .before .before .before .before .before .before .before .before .pre .1 .0 .2)
 
-loop-less : tie.Need-loop-less Inv-loop μ-loop
-loop-less c = search needs
-
 loop-again : tie.Need-loop-again Inv-loop μ-loop
 loop-again c =
     let s = c .before .before .before .before .before .before .before .before .before .before .before .before .before .before .before .before .before .before .before .before .before in
@@ -102,15 +78,6 @@ loop-again c =
     let g = running-next W C (a .ops .now) (l .t) (l .marks) (l .chain) (l .w) (l .i) (l .inv .4) m (b .last .0) (b .last .1 .0) (b .last .1 .1 .0) (b .result) (f C) (v .0 .0) (v .1) (omega (arith, m, l .inv .1)) in
     (g .0, g .1 ∙ l .inv .1, search needs, omega (arith, m), g .2)
 
-same-length-4 : tie.Need-same-length-4 Inv-loop μ-loop
-same-length-4 c = search needs
-
-same-length-5 : tie.Need-same-length-5 Inv-loop μ-loop
-same-length-5 c = search needs
-
-same-length-6 : tie.Need-same-length-6 Inv-loop μ-loop
-same-length-6 c = search needs
-
 returns-2 : tie.Need-returns-2 Inv-loop μ-loop
 returns-2 c =
     let a = c .before .before .before .before .before .before .before .args in
@@ -124,20 +91,20 @@ perform-all-spec =
     (tie.spec
     Inv-loop
     μ-loop
-    new-requires
+    (λ c κs. search needs)
     loop-holds
-    shared-slice-read-perform
+    (λ c. search needs)
     perform-requires
-    enum-known-next
-    enum-told
-    same-length
-    same-length-2
-    same-length-3
+    (λ c. search needs)
+    (λ c. search needs)
+    (λ c. search needs)
+    (λ c. search needs)
+    (λ c. search needs)
     returns
     add-i
-    loop-less
+    (λ c. search needs)
     loop-again
-    same-length-4
-    same-length-5
-    same-length-6
+    (λ c. search needs)
+    (λ c. search needs)
+    (λ c. search needs)
     returns-2)

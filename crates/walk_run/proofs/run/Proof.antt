@@ -13,36 +13,12 @@ use Rattle.walk_run.proofs.run.Tie as tie
 zeros : {m n : ℕ} → m ≡ n → replicate {A = ℕ} m 0 ≡ replicate n 0
 zeros e = ap (λ (k : ℕ). replicate {A = ℕ} k 0) e
 
-perform-all-requires : tie.Need-perform-all-requires
-perform-all-requires c κs = search needs
-
-enum-known-w : tie.Need-enum-known-w
-enum-known-w c = search needs
-
 zero-from-requires : tie.Need-zero-from-requires
 zero-from-requires c κs =
     let a = c .before .before .before .before .before .before .before .before .before .before .before .before .before .before .before .before .before .before .args in
     let b = c .before .before .before .before .before .before .before .before .before .before .perform-all in
     let v = c .before .before .w .given in
     ended-steps (length (a .t .now)) (a .start) (a .ops .now) (b .last .1 .1 .1 .0) (b .last .1 .1 .1 .1 .0) (b .last .1 .1 .1 .1 .1 .0) (v .0 .0) (subst (λ (x : Ran). PerformedAll (length (a .t .now)) (a .start) (a .ops .now) (b .last .1 .1 .1 .0) (b .last .1 .1 .1 .1 .0) (b .last .1 .1 .1 .1 .1 .0) x) (v .1) (b .ensures))
-
-enum-known-i : tie.Need-enum-known-i
-enum-known-i c = search needs
-
-zero-requires : tie.Need-zero-requires
-zero-requires c κs = search needs
-
-zero-from-requires-2 : tie.Need-zero-from-requires-2
-zero-from-requires-2 c κs = search needs
-
-same-length : tie.Need-same-length
-same-length c = search needs
-
-same-length-2 : tie.Need-same-length-2
-same-length-2 c = search needs
-
-same-length-3 : tie.Need-same-length-3
-same-length-3 c = search needs
 
 returns : tie.Need-returns
 returns c =
@@ -53,15 +29,6 @@ returns c =
     let z = c .before .before .zero-from in
     let l : length (b .last .1 .1 .1 .1 .1 .0) ≡ length (a .chain .now) = search needs in
     ended-all (length (a .t .now)) (a .start) (a .ops .now) (b .last .1 .1 .1 .0) (b .last .1 .1 .1 .1 .0) (b .last .1 .1 .1 .1 .1 .0) (v .0 .0) (l ∙ s .pre .1 .0 .1) (subst (λ (x : Ran). PerformedAll (length (a .t .now)) (a .start) (a .ops .now) (b .last .1 .1 .1 .0) (b .last .1 .1 .1 .1 .0) (b .last .1 .1 .1 .1 .1 .0) x) (v .1) (b .ensures)) (z .last .0) (z .ensures)
-
-same-length-4 : tie.Need-same-length-4
-same-length-4 c = search needs
-
-same-length-5 : tie.Need-same-length-5
-same-length-5 c = search needs
-
-same-length-6 : tie.Need-same-length-6
-same-length-6 c = search needs
 
 returns-2 : tie.Need-returns-2
 returns-2 c =
@@ -77,17 +44,17 @@ pub run-spec : {M : Type 1} → statement M
 run-spec =
     tie.close
     (tie.spec
-    perform-all-requires
-    enum-known-w
+    (λ c κs. search needs)
+    (λ c. search needs)
     zero-from-requires
-    enum-known-i
-    zero-requires
-    zero-from-requires-2
-    same-length
-    same-length-2
-    same-length-3
+    (λ c. search needs)
+    (λ c κs. search needs)
+    (λ c κs. search needs)
+    (λ c. search needs)
+    (λ c. search needs)
+    (λ c. search needs)
     returns
-    same-length-4
-    same-length-5
-    same-length-6
+    (λ c. search needs)
+    (λ c. search needs)
+    (λ c. search needs)
     returns-2)

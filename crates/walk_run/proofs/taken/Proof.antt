@@ -53,8 +53,5 @@ returns c =
     let some = fine-back (w .spot .steps) (a .op) (k .fine) f in
     λ x ds h e. chained-changes x T C ds w h some (a .op) (c .changed .result) e (c .changed .ensures x (take (w .spot .steps - 1) C) (chained-known x T C ds w h some .walked))
 
-returns-2 : tie.Need-returns-2
-returns-2 c = search needs
-
 pub taken-spec : {M : Type 1} → statement M
-taken-spec = tie.close (tie.spec sub-last shared-slice-read-d changed-requires returns returns-2)
+taken-spec = tie.close (tie.spec sub-last shared-slice-read-d changed-requires returns (λ c. search needs))

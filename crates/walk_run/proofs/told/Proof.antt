@@ -4,17 +4,11 @@ use borrow.Author.Needs.{needs}
 use Rattle.walk_run.proofs.told.Statement.{statement}
 use Rattle.walk_run.proofs.told.Tie as tie
 
-returns : tie.Need-returns
-returns c = search needs
-
 changed-requires : tie.Need-changed-requires
 changed-requires c κs =
     let s = c .before .before in
     let g = s .pre .0 (c .if1 .left) in
     (g .0, (g .1, g .2, s .pre .1))
 
-returns-2 : tie.Need-returns-2
-returns-2 c = search needs
-
 pub told-spec : {M : Type 1} → statement M
-told-spec = tie.close (tie.spec returns changed-requires returns-2)
+told-spec = tie.close (tie.spec (λ c. search needs) changed-requires (λ c. search needs))

@@ -7,12 +7,6 @@ use Rattle.walk_step.proofs.WalkLaws.{advance-stepped, advance-to, adva
 use Rattle.walk_step.proofs.advance.Statement.{statement}
 use Rattle.walk_step.proofs.advance.Tie as tie
 
-go-requires : tie.Need-go-requires
-go-requires c κs = search needs
-
-enum-known-next : tie.Need-enum-known-next
-enum-known-next c = search needs
-
 tallied-requires : tie.Need-tallied-requires
 tallied-requires c κs =
     let s = c .before .before .before .before .before .before .before .before .before .before .before in
@@ -22,12 +16,6 @@ tallied-requires c κs =
     let h = advance-stepped (a .t .now) (g .last .0) (a .w) (a .d) (g .result) (n .0 .0) (g .ensures) (n .1) (s .pre .0) (s .pre .1 .3) in
     (h .0, (h .1, h .2))
 
-enum-told : tie.Need-enum-told
-enum-told c = search needs
-
-same-length : tie.Need-same-length
-same-length c = search needs
-
 returns : tie.Need-returns
 returns c =
     let s = c .before .before .before .before .before .before .before .before .before .before .before .before in
@@ -36,9 +24,6 @@ returns c =
     let n = c .before .before .before .next .given in
     let v : Walk = record { spot = n .0 .0; tally = c .tallied .result } in
     advance-to (a .t .now) (g .last .0) (a .w) (a .d) (g .result) (n .0 .0) (g .ensures) (n .1) (c .tallied .result) (c .tallied .ensures) v refl refl
-
-same-length-2 : tie.Need-same-length-2
-same-length-2 c = search needs
 
 returns-2 : tie.Need-returns-2
 returns-2 c =
@@ -51,11 +36,11 @@ pub advance-spec : {M : Type 1} → statement M
 advance-spec =
     tie.close
     (tie.spec
-    go-requires
-    enum-known-next
+    (λ c κs. search needs)
+    (λ c. search needs)
     tallied-requires
-    enum-told
-    same-length
+    (λ c. search needs)
+    (λ c. search needs)
     returns
-    same-length-2
+    (λ c. search needs)
     returns-2)

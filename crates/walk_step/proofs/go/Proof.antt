@@ -9,12 +9,6 @@ use Rattle.walk_step.proofs.SpotLaws.{step-stood, step-full, step-visit
 use Rattle.walk_step.proofs.go.Statement.{statement}
 use Rattle.walk_step.proofs.go.Tie as tie
 
-add-n : tie.Need-add-n
-add-n c = search needs
-
-cast-reach : tie.Need-cast-reach
-cast-reach c = search needs
-
 reach-requires : tie.Need-reach-requires
 reach-requires c κs =
     let s = c .before .before .before .before in
@@ -22,9 +16,6 @@ reach-requires c κs =
     let k = s .pre .0 in
     let q = s .pre .1 in
     (step-stood (a .t .now) (k .start) (k .chain) (a .w) (k .walked), (q .0, q .1, q .2, omega arith, q .4))
-
-same-length : tie.Need-same-length
-same-length c = search needs
 
 returns : tie.Need-returns
 returns c =
@@ -34,9 +25,6 @@ returns c =
     let q = s .pre .1 in
     let o = c .before .before .before .reach in
     λ x ds h. (step-full (a .t .now) x ds (a .w) h (a .d) (q .2) (o .last .0) (o .result) (max (a .w .nodes) (o .result)) (o .ensures .0) (c .if1 .taken), o .ensures .1 (c .if1 .taken))
-
-sub-visit : tie.Need-sub-visit
-sub-visit c = search needs
 
 visit-requires : tie.Need-visit-requires
 visit-requires c κs =
@@ -48,9 +36,6 @@ visit-requires c κs =
     let v = step-visits (a .t .now) (k .start) (k .chain) (a .w) (k .walked) (a .d) (q .2) (o .last .0) (o .result) (max (a .w .nodes) (o .result)) (o .ensures .0) (c .before .if1 .left) in
     (v .0, omega (arith, v .1, q .3), omega (arith, q .3))
 
-sub-tread : tie.Need-sub-tread
-sub-tread c = search needs
-
 tread-requires : tie.Need-tread-requires
 tread-requires c κs =
     let s = c .before .before .before .before .before .before .before .before .before .before .before .before .before in
@@ -61,18 +46,6 @@ tread-requires c κs =
     let v = c .before .before .before .visit in
     let r = step-treads (a .t .now) (k .start) (k .chain) (a .w) (k .walked) (a .d) (q .2) (o .last .0) (o .result) (max (a .w .nodes) (o .result)) (o .ensures .0) (c .before .before .before .before .before .if1 .left) (v .last .0) (v .kept .0) (v .ensures) in
     (r .0, r .1, q .2, omega (arith, r .2, q .3))
-
-moved-requires : tie.Need-moved-requires
-moved-requires c κs = search needs
-
-sub-t16 : tie.Need-sub-t16
-sub-t16 c = search needs
-
-greater-requires : tie.Need-greater-requires
-greater-requires c κs = search needs
-
-same-length-2 : tie.Need-same-length-2
-same-length-2 c = search needs
 
 returns-2 : tie.Need-returns-2
 returns-2 c =
@@ -91,17 +64,17 @@ pub go-spec : {M : Type 1} → statement M
 go-spec =
     tie.close
     (tie.spec
-    add-n
-    cast-reach
+    (λ c. search needs)
+    (λ c. search needs)
     reach-requires
-    same-length
+    (λ c. search needs)
     returns
-    sub-visit
+    (λ c. search needs)
     visit-requires
-    sub-tread
+    (λ c. search needs)
     tread-requires
-    moved-requires
-    sub-t16
-    greater-requires
-    same-length-2
+    (λ c κs. search needs)
+    (λ c. search needs)
+    (λ c κs. search needs)
+    (λ c. search needs)
     returns-2)

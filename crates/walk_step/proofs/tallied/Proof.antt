@@ -18,9 +18,6 @@ word-requires c κs =
     let b = tally-bound T (k .start) (k .chain) (a .d) (a .w) (k .walked) in
     omega (arith, b)
 
-add-t11 : tie.Need-add-t11
-add-t11 c = search needs
-
 returns : tie.Need-returns
 returns c =
     let s = c .before .before .before .before in
@@ -40,9 +37,6 @@ word-requires-2 c κs =
     let T = a .t .now in
     let b = tally-bound T (k .start) (k .chain) (a .d) (a .w) (k .walked) in
     omega (arith, b)
-
-cast-first : tie.Need-cast-first
-cast-first c = search needs
 
 sub-t13 : tie.Need-sub-t13
 sub-t13 c =
@@ -78,4 +72,4 @@ returns-3 c =
 pub tallied-spec : {M : Type 1} → statement M
 tallied-spec =
     tie.close
-    (tie.spec word-requires add-t11 returns word-requires-2 cast-first sub-t13 returns-2 returns-3)
+    (tie.spec word-requires (λ c. search needs) returns word-requires-2 (λ c. search needs) sub-t13 returns-2 returns-3)

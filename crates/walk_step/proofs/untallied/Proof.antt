@@ -18,9 +18,6 @@ word-requires c κs =
     let T = a .t .now in
     omega (arith, tally-bound T (k .start) (k .chain) (a .d) (a .w) (k .walked))
 
-sub-t10 : tie.Need-sub-t10
-sub-t10 c = search needs
-
 returns : tie.Need-returns
 returns c =
     let s = c .before .before .before .before in
@@ -51,4 +48,4 @@ returns-3 c =
     λ x ds h n. untally-same T x ds (a .d) (a .w) h (a .m) n (v .result) (v .ensures) (c .before .if1 .left) (c .if2 .left)
 
 pub untallied-spec : {M : Type 1} → statement M
-untallied-spec = tie.close (tie.spec word-requires sub-t10 returns returns-2 returns-3)
+untallied-spec = tie.close (tie.spec word-requires (λ c. search needs) returns returns-2 returns-3)

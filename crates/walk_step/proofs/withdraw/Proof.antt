@@ -15,12 +15,6 @@ untallied-requires c κs =
     let k = s .pre .0 in
     (record { start = k .start; chain = k .chain; walked = k .known .walked }, (s .pre .1 .3, corners-some (a .t .now) (k .start) (k .chain ++ (a .d ∷ [])) (a .w) (k .known)))
 
-take-back-requires : tie.Need-take-back-requires
-take-back-requires c κs = search needs
-
-same-length : tie.Need-same-length
-same-length c = search needs
-
 returns : tie.Need-returns
 returns c =
     let s = c .before .before .before .before .before .before .before .before .before in
@@ -31,4 +25,4 @@ returns c =
     withdraw-to (a .t .now) (b .last .0) (a .w) (a .d) (b .result) (u .result) (u .ensures) (b .ensures) v refl refl
 
 pub withdraw-spec : {M : Type 1} → statement M
-withdraw-spec = tie.close (tie.spec untallied-requires take-back-requires same-length returns)
+withdraw-spec = tie.close (tie.spec untallied-requires (λ c κs. search needs) (λ c. search needs) returns)

@@ -7,21 +7,6 @@ use Rattle.table_laws.specs.Model.{edgeIn}
 use Rattle.walk_table.proofs.tread.Statement.{statement}
 use Rattle.walk_table.proofs.tread.Tie as tie
 
-add-word : tie.Need-add-word
-add-word c = search needs
-
-word-requires : tie.Need-word-requires
-word-requires c κs = search needs
-
-add-put-edge : tie.Need-add-put-edge
-add-put-edge c = search needs
-
-put-edge-requires : tie.Need-put-edge-requires
-put-edge-requires c κs = search needs
-
-same-length : tie.Need-same-length
-same-length c = search needs
-
 returns : tie.Need-returns
 returns c =
     let a = c .before .before .before .before .before .before .before .args in
@@ -29,4 +14,4 @@ returns c =
 
 pub tread-spec : {M : Type 1} → statement M
 tread-spec =
-    tie.close (tie.spec add-word word-requires add-put-edge put-edge-requires same-length returns)
+    tie.close (tie.spec (λ c. search needs) (λ c κs. search needs) (λ c. search needs) (λ c κs. search needs) (λ c. search needs) returns)

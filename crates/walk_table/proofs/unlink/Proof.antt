@@ -6,22 +6,10 @@ use Rattle.walk_table.proofs.CellLaws.{store-links}
 use Rattle.walk_table.proofs.unlink.Statement.{statement}
 use Rattle.walk_table.proofs.unlink.Tie as tie
 
-add-b : tie.Need-add-b
-add-b c = search needs
-
-put-link-requires : tie.Need-put-link-requires
-put-link-requires c κs = search needs
-
-put-link-requires-2 : tie.Need-put-link-requires-2
-put-link-requires-2 c κs = search needs
-
-same-length : tie.Need-same-length
-same-length c = search needs
-
 returns : tie.Need-returns
 returns c =
     let a = c .before .before .before .before .before .before .before .before .before .args in
     store-links (a .t .now) (a .u) (a .d) 0 0 (a .v) ((a .d + 2) % 4) 0 0 (c .before .before .before .before .before .before .put-link .ensures) (c .before .before .put-link2 .ensures)
 
 pub unlink-spec : {M : Type 1} → statement M
-unlink-spec = tie.close (tie.spec add-b put-link-requires put-link-requires-2 same-length returns)
+unlink-spec = tie.close (tie.spec (λ c. search needs) (λ c κs. search needs) (λ c κs. search needs) (λ c. search needs) returns)

@@ -5,17 +5,11 @@ use borrow.Author.Needs.{needs}
 use Rattle.line_fields.proofs.hex.letter.Statement.{statement}
 use Rattle.line_fields.proofs.hex.letter.Tie as tie
 
-add-result : tie.Need-add-result
-add-result c = search needs
-
 returns : tie.Need-returns
 returns c = simp (lt-ltb _ 10 (c .if1 .taken))
-
-add-result-2 : tie.Need-add-result-2
-add-result-2 c = search needs
 
 returns-2 : tie.Need-returns-2
 returns-2 c = simp (le-ltb _ 10 (c .if1 .left))
 
 pub letter-spec : {M : Type 1} → statement M
-letter-spec = tie.close (tie.spec add-result returns add-result-2 returns-2)
+letter-spec = tie.close (tie.spec (λ c. search needs) returns (λ c. search needs) returns-2)

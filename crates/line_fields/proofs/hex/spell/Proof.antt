@@ -17,39 +17,12 @@ Inv-loop out₀ at v n left₀ rest₀ out left rest = (left ≤ n) × (length o
 abbrev μ-loop : tie.MeasureT-loop
 μ-loop out₀ at v n left₀ rest₀ out left rest = left
 
-loop-holds : tie.Need-loop-holds Inv-loop μ-loop
-loop-holds c = search needs
-
-sub-left : tie.Need-sub-left Inv-loop μ-loop
-sub-left c = search needs
-
-cast-letter : tie.Need-cast-letter Inv-loop μ-loop
-cast-letter c = search needs
-
-letter-requires : tie.Need-letter-requires Inv-loop μ-loop
-letter-requires c κs = search needs
-
-add-out : tie.Need-add-out Inv-loop μ-loop
-add-out c = search needs
-
-slice-write-out : tie.Need-slice-write-out Inv-loop μ-loop
-slice-write-out c = search needs
-
-loop-less : tie.Need-loop-less Inv-loop μ-loop
-loop-less c = search needs
-
 loop-again : tie.Need-loop-again Inv-loop μ-loop
 loop-again c =
     let l = c .before .before in
     let a = l .before .before .args in
     let step = spell-next (l .loop .left) (l .loop .rest) (a .at) (c .letter .result) (l .loop .out) _ (omega arith) (omega arith) (c .letter .ensures) (l .loop .inv .2) in
     (omega arith, simp length-set (l .loop .inv .1), step)
-
-add-result : tie.Need-add-result Inv-loop μ-loop
-add-result c = search needs
-
-same-length : tie.Need-same-length Inv-loop μ-loop
-same-length c = search needs
 
 returns : tie.Need-returns Inv-loop μ-loop
 returns c =
@@ -63,14 +36,14 @@ spell-spec =
     (tie.spec
     Inv-loop
     μ-loop
-    loop-holds
-    sub-left
-    cast-letter
-    letter-requires
-    add-out
-    slice-write-out
-    loop-less
+    (λ c. search needs)
+    (λ c. search needs)
+    (λ c. search needs)
+    (λ c κs. search needs)
+    (λ c. search needs)
+    (λ c. search needs)
+    (λ c. search needs)
     loop-again
-    add-result
-    same-length
+    (λ c. search needs)
+    (λ c. search needs)
     returns)

@@ -11,18 +11,6 @@ use Rattle.line_fields.specs.Put.{Wrote}
 use Rattle.line_fields.proofs.hex.spell_signed.Statement.{statement}
 use Rattle.line_fields.proofs.hex.spell_signed.Tie as tie
 
-bits-requires : tie.Need-bits-requires
-bits-requires c κs = search needs
-
-cast-spell : tie.Need-cast-spell
-cast-spell c = search needs
-
-spell-requires : tie.Need-spell-requires
-spell-requires c κs = search needs
-
-same-length : tie.Need-same-length
-same-length c = search needs
-
 returns : tie.Need-returns
 returns c =
     let w = c .before .before .spell in
@@ -32,4 +20,4 @@ returns c =
 
 pub spell-signed-spec : {M : Type 1} → statement M
 spell-signed-spec =
-    tie.close (tie.spec bits-requires cast-spell spell-requires same-length returns)
+    tie.close (tie.spec (λ c κs. search needs) (λ c. search needs) (λ c κs. search needs) (λ c. search needs) returns)

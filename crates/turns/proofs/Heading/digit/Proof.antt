@@ -10,18 +10,6 @@ use Rattle.turns.specs.Way.{digitBy}
 use Rattle.turns.proofs.Heading.digit.Statement.{statement}
 use Rattle.turns.proofs.Heading.digit.Tie as tie
 
-enum-told : tie.Need-enum-told
-enum-told c = search needs
-
-wrapping-sub-u8-requires : tie.Need-wrapping-sub-u8-requires
-wrapping-sub-u8-requires c κs = search needs
-
-enum-told-2 : tie.Need-enum-told-2
-enum-told-2 c = search needs
-
-wrapping-add-u8-requires : tie.Need-wrapping-add-u8-requires
-wrapping-add-u8-requires c κs = search needs
-
 returns : tie.Need-returns
 returns c =
     let a = c .before .before .before .args in
@@ -35,4 +23,4 @@ returns-2 c =
     (e ∙ sym (ap (λ (w : Way). digitBy w (a .self .0) (a .x)) (c .before .enum-told2 .given .1)), omega arith)
 
 pub digit-spec : {M : Type 1} → statement M
-digit-spec = tie.close (tie.spec enum-told wrapping-sub-u8-requires enum-told-2 wrapping-add-u8-requires returns returns-2)
+digit-spec = tie.close (tie.spec (λ c. search needs) (λ c κs. search needs) (λ c. search needs) (λ c κs. search needs) returns returns-2)
