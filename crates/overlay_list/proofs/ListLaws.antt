@@ -1,6 +1,6 @@
--- From the lists of two rooms to the lists of their parts, and to the answer.
+-- From rooms to their lists of spans, and from the parts of two lists to the answer.
 -- Assumes nothing.
-use mathlib.Core.List.{List, [], _++_}
+use mathlib.Core.List.{List, []}
 use mathlib.Core.Path.{_≡_, sym, ap, ap₂, _∙_, subst}
 use Prim.Native.Nat.{ℕ, _+_, _*_, _/_, _%_, _<_, _≤_}
 use native.Mathlib.Omega.{arith}
@@ -10,21 +10,20 @@ use lib.IntN.{ℤ, pos, natAbs}
 use lib.ListN.{length, getD, set, drop, List·getD-append}
 use lib.Seq.{sets, getD-set-same, getD-set-other}
 use Rattle.lists.specs.Lists.{count}
-use Rattle.answer.specs.declared.{Judged.Judged, Judged.the-variants.Good, Judged.the-variants.Refused, Refusal.Refusal, Refusal.the-variants.SpanRoom}
-use Rattle.answer.specs.Limits.{mostSteps}
+use Rattle.answer.specs.declared.{Judged.Judged, Judged.the-variants.Good, Judged.the-variants.Refused, Refusal.Refusal}
 use Rattle.grid.specs.declared.Corner.{Corner}
 use Rattle.room.specs.Room.{asRoomJudged}
-use Rattle.row_call.specs.{Rows.Span, Rows.InOrder, Rows.spanNumbers, Call.spansIn}
+use Rattle.row_call.specs.{Rows.Span, Rows.spanNumbers, Call.spansIn}
 use Rattle.row_laws.specs.Feet.{pairsOf, rowsOf}
-use Rattle.row_laws.proofs.PairLaws.{pairs-length, turn-up-to}
-use Rattle.row_laws.proofs.SortedLaws.{room-half}
-use Rattle.row_list.proofs.CallLaws.{good-walled, length-numbers, written}
-use Rattle.overlay.specs.declared.{Part.Part, Part.the-variants.First, Part.the-variants.Second, Part.the-variants.Both, Measure.Measure, Overlaid.Overlaid}
-use Rattle.overlay.specs.Call.{ofParts, measureOf, overlayJudged, overlaidOf, OverlayCall}
-use Rattle.overlay_laws.specs.Sweep.{partHas, partEnds, endsFrom, endsOfWalk, partNumbers, listsOf}
-use Rattle.overlay_laws.proofs.{PartLaws.Ends, PartLaws.part-rows, PartLaws.ends-ends, OverlayLaws.none-none, OverlayLaws.walk-ends, OverlayLaws.lists-rows, ReadLaws.ends-read, ReadLaws.ends-same, ReadLaws.edge-pairs, ReadLaws.room-small}
-use Rattle.overlay_laws.proofs.CallLaws.{any-short, all-enough, first-refused, second-refused, both-rooms}
-use Rattle.overlay_list.specs.Parts.{HoldsSpans, Spanned, Copied, partSpans, BeginsWith, Ordered, Summed, PartDone, partsJudged, PartsCall}
+use Rattle.row_laws.proofs.{PairLaws.pairs-length, PairLaws.turn-up-to, SortedLaws.room-half, NumberLaws.length-numbers, NumberLaws.written}
+use Rattle.row_list.proofs.CallLaws.{good-walled}
+use Rattle.overlay.specs.declared.{Part.Part, Overlaid.Overlaid}
+use Rattle.overlay.specs.Call.{overlayJudged, overlaidOf, OverlayCall}
+use Rattle.overlay_laws.specs.Sweep.{partEnds, endsFrom, endsOfWalk, listsOf}
+use Rattle.overlay_laws.proofs.{PartLaws.Ends, OverlayLaws.walk-ends, OverlayLaws.lists-rows, ReadLaws.ends-read, ReadLaws.ends-same, ReadLaws.room-small}
+use Rattle.overlay_laws.proofs.CallLaws.{first-refused, second-refused, both-rooms}
+use Rattle.overlay_parts.specs.Parts.{HoldsSpans, partSpans, partsJudged, PartsCall}
+use Rattle.overlay_list.specs.Copies.{Copied}
 
 -- ---- copies
 
@@ -77,73 +76,6 @@ module _ (s : Corner) (ds : List ℕ) (g : asRoomJudged s ds ≡ Good) (v : ℕ)
           few = omega (arith, l, w .few);
         };
       }
-
--- ---- the parts
-
-module _ (a : List ℤ) (na : ℕ) (b : List ℤ) (nb : ℕ) (x : Spanned a na) (y : Spanned b nb) where
-  spanned-ends : (l : List ℤ) (n : ℕ) → Spanned l n → Ends (endsFrom l 0 n)
-  spanned-ends l n z = subst Ends (sym (z .held .ends)) (walk-ends (z .start) (z .steps) (z .held .closed))
-
-  module _ (k : Part) where
-    ends-part : Ends (partEnds k (endsFrom a 0 na) (endsFrom b 0 nb))
-    ends-part = ends-ends (endsFrom a 0 na) (endsFrom b 0 nb) (spanned-ends a na x) (spanned-ends b nb y) (partHas k) (none-none k)
-
-    abbrev spans : List Span
-    spans = partSpans a na b nb k
-
-    part-numbers : partNumbers k a na b nb ≡ spanNumbers spans
-    part-numbers =
-        let E = partEnds k (endsFrom a 0 na) (endsFrom b 0 nb) in
-        edge-pairs E (omega (arith, pairs-length E (turn-up-to E (ends-part .sorted)) (ends-part .even)))
-
-    pub part-size : length (partNumbers k a na b nb) ≡ 3 * length spans
-    part-size = ap length part-numbers ∙ length-numbers spans
-
-    part-order : InOrder spans
-    part-order = part-rows (endsFrom a 0 na) (endsFrom b 0 nb) (spanned-ends a na x) (spanned-ends b nb y) (partHas k) (none-none k) .order
-
-    module _ (before after : List ℤ) (h : 3 * length spans ≤ length before) (u : after ≡ sets before 0 (partNumbers k a na b nb)) where
-      part-written : after ≡ spanNumbers spans ++ drop (3 * length spans) before
-      part-written = u ∙ ap (sets before 0) part-numbers ∙ written before spans h
-
-      part-begins : BeginsWith after spans
-      part-begins = record { tail = drop (3 * length spans) before; whole = part-written }
-
-      pub part-ordered : (n : ℕ) → n ≡ 3 * length spans → n ≤ 4 * mostSteps → Ordered after (n / 3)
-      part-ordered n e f = record { spans = spans; begins = part-begins; many = omega (arith, e); few = omega (arith, f); order = part-order }
-
-      pub part-done : (n p : ℕ) → n ≡ 3 * length spans → Summed after (n / 3) p → PartDone spans before (record { panels = p; spans = n / 3 }) after
-      part-done n p e f = record {
-        measure = let m : n / 3 ≡ length spans = omega (arith, e) in ap₂ (λ (i j : ℕ). record { panels = i; spans = j }) (f spans part-begins (sym m)) m;
-        buffer = part-written;
-      }
-
--- ---- the answer
-
-module _ (L : Part → List Span) (f g h : List ℤ) where
-  pub parts-short : (k : Part) → length (ofParts f g h k) < 3 * length (L k) → PartsCall L (ofParts f g h) (Overlaid.Refused SpanRoom) (ofParts f g h)
-  parts-short k l =
-      let e = any-short (ofParts f g h) L k l in
-      record { answer = sym (ap (λ (j : Judged). overlaidOf j L) e); buffers = λ i. sym (ap (λ (j : Judged). spansIn j (L i) (ofParts f g h i)) e) }
-
-  pub parts-listed : (f′ g′ h′ : List ℤ) (p q r : Measure) → 3 * length (L First) ≤ length f → 3 * length (L Second) ≤ length g → 3 * length (L Both) ≤ length h
-      → PartDone (L First) f p f′ → PartDone (L Second) g q g′ → PartDone (L Both) h r h′ → PartsCall L (ofParts f g h) (Overlaid.Listed (record { first = p; second = q; both = r })) (ofParts f′ g′ h′)
-  parts-listed f′ g′ h′ p q r l m n x y z =
-      let e = all-enough (ofParts f g h) L all in
-      record {
-        answer = ap₂ (λ (i j : Measure). Overlaid.Listed (record { first = i; second = j; both = r })) (x .measure) (y .measure) ∙ ap (λ (k : Measure). Overlaid.Listed (record { first = measureOf (L First); second = measureOf (L Second); both = k })) (z .measure) ∙ sym (ap (λ (j : Judged). overlaidOf j L) e);
-        buffers = λ k. done k ∙ sym (ap (λ (j : Judged). spansIn j (L k) (ofParts f g h k)) e);
-      }
-    where
-      all : (k : Part) → 3 * length (L k) ≤ length (ofParts f g h k)
-      all First = l
-      all Second = m
-      all Both = n
-
-      done : (k : Part) → ofParts f′ g′ h′ k ≡ spanNumbers (L k) ++ drop (3 * length (L k)) (ofParts f g h k)
-      done First = x .buffer
-      done Second = y .buffer
-      done Both = z .buffer
 
 -- ---- the call
 

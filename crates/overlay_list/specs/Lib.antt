@@ -1,2 +1,2 @@
--- Lists of spans as the sweep reads them, and the parts of two such lists.
-pub mod Parts
+-- Lists of spans in numbers of two sizes.
+pub mod Copies

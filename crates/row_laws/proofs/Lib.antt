@@ -7,4 +7,5 @@ pub mod RowLaws
 pub mod RoomLaws
 pub mod SortedLaws
 pub mod SpanLaws
+pub mod NumberLaws
 pub mod CallLaws

@@ -1,16 +1,16 @@
 -- From the working store to the list in the buffer, and from a room to the answer.
 -- Assumes nothing.
-use mathlib.Core.Path.{_≡_, refl, sym, ap, _∙_, subst}
+use mathlib.Core.Path.{_≡_, sym, ap, _∙_, subst}
 use mathlib.Core.Bool.{Bool, true, false}
-use mathlib.Core.List.{List, [], _∷_, _++_}
+use mathlib.Core.List.{List}
 use Prim.Native.Nat.{ℕ, suc, _+_, _*_, _-_, _/_, _%_, _<_, _≤_}
 use native.Mathlib.Omega.{arith}
 use native.Mathlib.Decide.{decLt}
 use borrow.Author.Tests.{lt-ltb, le-ltb}
 use lib.Dec.{eqb, ltb}
 use lib.IntN.{ℤ}
-use lib.ListN.{length, getD, drop, replicate, getD-replicate, length-replicate, List·getD-eq-default}
-use lib.Seq.{sets, sets-eq}
+use lib.ListN.{length, getD, replicate, getD-replicate, length-replicate, List·getD-eq-default}
+use lib.Seq.{sets}
 use Rattle.lists.specs.Lists.{count}
 use Rattle.grid.specs.declared.Corner.{Corner}
 use Rattle.answer.specs.declared.{Counted.Counted, Judged.Judged, Judged.the-variants.Good, Refusal.the-variants.SpanRoom}
@@ -21,7 +21,7 @@ use Rattle.room.specs.Room.{asRoomJudged}
 use Rattle.room.proofs.RoomLaws.{good-room}
 use Rattle.row_call.specs.{Rows.Span, Rows.spanNumbers, Call.rowsJudged, Call.spansIn, Call.RowsCall}
 use Rattle.row_laws.specs.Feet.{rowsOf}
-use Rattle.row_laws.proofs.{RowLaws.rowsOf-rows, SortedLaws.room-half, CallLaws.good-steps, CallLaws.rows-room}
+use Rattle.row_laws.proofs.{RowLaws.rowsOf-rows, SortedLaws.room-half, NumberLaws.written, CallLaws.good-steps, CallLaws.rows-room}
 use Rattle.hull_laws.specs.Columns.{top}
 use Rattle.room_thread_laws.specs.Threads.{Stays}
 use Rattle.room_thread_laws.proofs.RoomLaws.{closed-stays}
@@ -100,17 +100,6 @@ good-walled c ds g =
     let r = good-room c ds g in
     let k = good-steps c ds g in
     record { room = r .room; few = k .1; digits = k .0; near = r .near }
-
--- what the numbers of a list leave of what stood there before
-pub length-numbers : (L : List Span) → length (spanNumbers L) ≡ 3 * length L
-length-numbers [] = refl
-length-numbers (s ∷ L) = omega (arith, length-numbers L)
-
-pub written : (before : List ℤ) (L : List Span) → 3 * length L ≤ length before → sets before 0 (spanNumbers L) ≡ spanNumbers L ++ drop (3 * length L) before
-written before L h = sets-eq (spanNumbers L) before 0 (omega (arith, length-numbers L)) ∙ ap (λ (k : ℕ). spanNumbers L ++ drop k before) all
-  where
-    all : 0 + length (spanNumbers L) ≡ 3 * length L
-    all = omega (arith, length-numbers L)
 
 -- the answer, from how many steps are vertical
 module _ (c : Corner) (ds : List ℕ) (g : asRoomJudged c ds ≡ Good) (v : ℕ) (e : v ≡ count (λ d. eqb (d % 2) 1) ds) where

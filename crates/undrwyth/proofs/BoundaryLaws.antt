@@ -43,7 +43,7 @@ use Rattle.row_laws.proofs.CallLaws.{rows-few}
 use Rattle.answer.proofs.RefusalLaws.{refused-not-good, orElse-good}
 use Rattle.walk_call.proofs.SmallLaws.{Placed, placed-when, placed-or, walk-placed, walk-few}
 use Rattle.hull_laws.proofs.HullLaws.{hull-count-steps}
-use Rattle.undrwyth.specs.Words.{AnswerFits, CountedFits, GivenFits, MeasureFits, MeasuresFit, OverlaidFits}
+use Rattle.undrwyth_words.specs.Words.{AnswerFits, CountedFits, GivenFits, MeasureFits, MeasuresFit, OverlaidFits}
 
 place-fits : (j : Judged) → Placed mostInput j → judgedPlace j < 2 ^ 32
 place-fits Good p = omega arith

@@ -1,4 +1,3 @@
 -- The laws of the C boundary.
-pub mod WordLaws
 pub mod BoundaryLaws
 pub mod Demand

@@ -1,3 +1,2 @@
--- The numbers that cross the C boundary.
-pub mod Words
+-- What each function for C gives.
 pub mod Boundary

@@ -1,162 +1,18 @@
 // The C boundary: include/undrwyth.h says what each function does. A slice is a pointer and then a length.
-use answer::Answer;
-use answer::Counted;
-use answer::Facts;
-use answer::Judged;
 use grid::Corner;
-use line_fields::hex::bits;
-use overlay::Measures;
-use overlay::Overlaid;
-use polygon_ring::Found;
-use polygon_ring::Given;
 use turns::Way;
-ghost use mathlib.Core.Path.{_≡_};
-ghost use Prim.Native.Nat.{_^_, _<_};
-ghost use Rattle.answer.specs.Refusal.{judgedPlace};
-ghost use Rattle.answer.specs.Words.{factsWords, answerWords, countedWords, judgedWords};
+use undrwyth_words::counted_words;
+use undrwyth_words::given_words;
+use undrwyth_words::overlaid_words;
+use undrwyth_words::turns_words;
+use undrwyth_words::walk_words;
 ghost use Rattle.grid.specs.Grid.{corner};
-ghost use Rattle.polygon_ring.specs.declared.Given.{Given};
-ghost use Rattle.polygon_ring.specs.Words.{givenWords};
 ghost use Rattle.turns.specs.Way.{convertOf};
-ghost use Rattle.overlay.specs.declared.Overlaid.{Overlaid};
-ghost use Rattle.overlay.specs.Call.{ofParts, overlaidWords};
-ghost use Rattle.undrwyth.specs.Words.{AnswerFits, CountedFits, GivenFits, MeasuresFit, OverlaidFits};
+ghost use Rattle.overlay.specs.Call.{ofParts};
 ghost use Rattle.line_reply.specs.Reply.{LineIs};
 ghost use Rattle.line_convert.specs.Convert.{ConvertedIs};
 ghost use Rattle.steps.specs.Turns.{turnsOf, stepsOf};
 ghost use Rattle.undrwyth.specs.Boundary.{WalkGives, HullGives, OutlineGives, TurnsGive, PolygonGives, ChainGives, ConvexGives, RowsGives, OverlayGives};
-
-// The numbers of an accepted walk.
-fn facts_words(f: Facts) -> [u32; 11]
-    requires { ⌜ (f .steps < 2 ^ 32) × (f .nodes < 2 ^ 32) × (f .corners < 2 ^ 32) × (f .j < 2 ^ 32) × (f .k < 2 ^ 32) ⌝ }
-    ensures { λ w. ⌜ w ≡ factsWords f ⌝ }
-{
-    let v = f.verdict;
-    let verdict = answer::verdict_number(v) as u32;
-    let last = f.last;
-    let area = bits(f.area);
-    let x = bits(last.0);
-    let y = bits(last.1);
-    [
-        0,
-        0,
-        verdict,
-        f.steps as u32,
-        f.nodes as u32,
-        f.corners as u32,
-        f.j as u32,
-        f.k as u32,
-        area,
-        x,
-        y,
-    ]
-}
-
-// The numbers of a walk's answer.
-fn walk_words(a: Answer) -> [u32; 11]
-    requires { ⌜ AnswerFits a ⌝ }
-    ensures { λ w. ⌜ w ≡ answerWords a ⌝ }
-{
-    match a {
-        Answer::Accepted(f) => facts_words(f),
-        Answer::Refused(r) => {
-            let number = answer::refusal_number(r) as u32;
-            let place = answer::refusal_place(r) as u32;
-            [number, place, 0, 0, 0, 0, 0, 0, 0, 0, 0]
-        }
-    }
-}
-
-// The numbers of the answer of a call that lists.
-fn counted_words(c: Counted) -> [u32; 3]
-    requires { ⌜ CountedFits c ⌝ }
-    ensures { λ w. ⌜ w ≡ countedWords c ⌝ }
-{
-    match c {
-        Counted::Many(n) => [0, 0, n as u32],
-        Counted::Refused(r) => {
-            let number = answer::refusal_number(r) as u32;
-            let place = answer::refusal_place(r) as u32;
-            [number, place, 0]
-        }
-    }
-}
-
-// The numbers of a polygon that is accepted.
-fn found_words(f: Found) -> [u32; 5]
-    requires { ⌜ f .steps < 2 ^ 32 ⌝ }
-    ensures { λ w. ⌜ w ≡ givenWords (Given.Chain f) ⌝ }
-{
-    let start = f.start;
-    let x = bits(start.0);
-    let y = bits(start.1);
-    [0, 0, f.steps as u32, x, y]
-}
-
-// The numbers of the answer to a polygon that is read.
-fn given_words(g: Given) -> [u32; 5]
-    requires { ⌜ GivenFits g ⌝ }
-    ensures { λ w. ⌜ w ≡ givenWords g ⌝ }
-{
-    match g {
-        Given::Chain(f) => found_words(f),
-        Given::Refused(r) => {
-            let number = answer::refusal_number(r) as u32;
-            let place = answer::refusal_place(r) as u32;
-            [number, place, 0, 0, 0]
-        }
-    }
-}
-
-// The numbers of three lists.
-fn measures_words(m: Measures) -> [u32; 8]
-    requires { ⌜ MeasuresFit m ⌝ }
-    ensures { λ w. ⌜ w ≡ overlaidWords (Overlaid.Listed m) ⌝ }
-{
-    let f = m.first;
-    let g = m.second;
-    let h = m.both;
-    [
-        0,
-        0,
-        f.panels as u32,
-        g.panels as u32,
-        h.panels as u32,
-        f.spans as u32,
-        g.spans as u32,
-        h.spans as u32,
-    ]
-}
-
-// The numbers of the answer to two rooms.
-fn overlaid_words(o: Overlaid) -> [u32; 8]
-    requires { ⌜ OverlaidFits o ⌝ }
-    ensures { λ w. ⌜ w ≡ overlaidWords o ⌝ }
-{
-    match o {
-        Overlaid::Listed(m) => measures_words(m),
-        Overlaid::Refused(r) => {
-            let number = answer::refusal_number(r) as u32;
-            let place = answer::refusal_place(r) as u32;
-            [number, place, 0, 0, 0, 0, 0, 0]
-        }
-    }
-}
-
-// The numbers of a conversion's answer.
-fn turns_words(j: Judged) -> [u32; 2]
-    requires { ⌜ judgedPlace j < 2 ^ 32 ⌝ }
-    ensures { λ w. ⌜ w ≡ judgedWords j ⌝ }
-{
-    match j {
-        Judged::Good => [0, 0],
-        Judged::Refused(r) => {
-            let number = answer::refusal_number(r) as u32;
-            let place = answer::refusal_place(r) as u32;
-            [number, place]
-        }
-    }
-}
 
 // Follows the operations from a start.
 #[no_mangle]

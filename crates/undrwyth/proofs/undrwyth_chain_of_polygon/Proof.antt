@@ -1,7 +1,7 @@
 -- `undrwyth::undrwyth_chain_of_polygon` meets its contract.
 -- Assumes nothing.
 use borrow.Author.Needs.{needs}
-use Rattle.undrwyth.proofs.WordLaws.{given-first}
+use Rattle.undrwyth_words.proofs.WordLaws.{given-first}
 use Rattle.undrwyth.proofs.BoundaryLaws.{given-fits}
 use Rattle.undrwyth.proofs.undrwyth_chain_of_polygon.Statement.{statement}
 use Rattle.undrwyth.proofs.undrwyth_chain_of_polygon.Tie as tie

@@ -7,7 +7,7 @@ use mir.ValLaws.{toZ-ofZ}
 use Rattle.grid.specs.declared.Corner.{Corner}
 use Rattle.grid.specs.Grid.{corner}
 use Rattle.convex.specs.Convex.{ConvexCall}
-use Rattle.undrwyth.proofs.WordLaws.{counted-first}
+use Rattle.undrwyth_words.proofs.WordLaws.{counted-first}
 use Rattle.undrwyth.proofs.BoundaryLaws.{convex-fits}
 use Rattle.undrwyth.proofs.undrwyth_convex.Statement.{statement}
 use Rattle.undrwyth.proofs.undrwyth_convex.Tie as tie

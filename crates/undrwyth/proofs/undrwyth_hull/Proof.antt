@@ -7,7 +7,7 @@ use mir.ValLaws.{toZ-ofZ}
 use Rattle.grid.specs.declared.Corner.{Corner}
 use Rattle.grid.specs.Grid.{corner}
 use Rattle.hull.specs.Call.{HullCall}
-use Rattle.undrwyth.proofs.WordLaws.{counted-first}
+use Rattle.undrwyth_words.proofs.WordLaws.{counted-first}
 use Rattle.undrwyth.proofs.BoundaryLaws.{counted-fits}
 use Rattle.undrwyth.proofs.undrwyth_hull.Statement.{statement}
 use Rattle.undrwyth.proofs.undrwyth_hull.Tie as tie

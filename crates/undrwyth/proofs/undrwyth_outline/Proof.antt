@@ -7,7 +7,7 @@ use mir.ValLaws.{toZ-ofZ}
 use Rattle.grid.specs.declared.Corner.{Corner}
 use Rattle.grid.specs.Grid.{corner}
 use Rattle.outline.specs.Call.{OutlineCall}
-use Rattle.undrwyth.proofs.WordLaws.{counted-first}
+use Rattle.undrwyth_words.proofs.WordLaws.{counted-first}
 use Rattle.undrwyth.proofs.BoundaryLaws.{outline-fits}
 use Rattle.undrwyth.proofs.undrwyth_outline.Statement.{statement}
 use Rattle.undrwyth.proofs.undrwyth_outline.Tie as tie

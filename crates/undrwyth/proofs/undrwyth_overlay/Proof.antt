@@ -7,7 +7,7 @@ use mir.ValLaws.{toZ-ofZ}
 use Rattle.grid.specs.declared.Corner.{Corner}
 use Rattle.grid.specs.Grid.{corner}
 use Rattle.overlay.specs.Call.{ofParts, OverlayCall}
-use Rattle.undrwyth.proofs.WordLaws.{overlaid-first}
+use Rattle.undrwyth_words.proofs.WordLaws.{overlaid-first}
 use Rattle.undrwyth.proofs.BoundaryLaws.{overlay-fit}
 use Rattle.undrwyth.proofs.undrwyth_overlay.Statement.{statement}
 use Rattle.undrwyth.proofs.undrwyth_overlay.Tie as tie

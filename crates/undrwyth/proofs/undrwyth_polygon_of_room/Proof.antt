@@ -7,7 +7,7 @@ use mir.ValLaws.{toZ-ofZ}
 use Rattle.grid.specs.declared.Corner.{Corner}
 use Rattle.grid.specs.Grid.{corner}
 use Rattle.polygon.specs.Polygon.{PolygonCall}
-use Rattle.undrwyth.proofs.WordLaws.{counted-first}
+use Rattle.undrwyth_words.proofs.WordLaws.{counted-first}
 use Rattle.undrwyth.proofs.BoundaryLaws.{polygon-fits}
 use Rattle.undrwyth.proofs.undrwyth_polygon_of_room.Statement.{statement}
 use Rattle.undrwyth.proofs.undrwyth_polygon_of_room.Tie as tie

@@ -1,0 +1,40 @@
+-- `undrwyth_words::facts_words` meets its contract.
+-- Assumes nothing.
+use mathlib.Core.Path.{ap, _∙_}
+use native.Mathlib.Omega.{arith}
+use borrow.Author.Needs.{needs}
+use Rattle.answer.specs.Words.{bitsOf}
+use Rattle.walk_corner.proofs.SignedLaws.{back}
+use Rattle.undrwyth_words.proofs.WordLaws.{verdict-small, accepted-words}
+use Rattle.undrwyth_words.proofs.facts_words.Statement.{statement}
+use Rattle.undrwyth_words.proofs.facts_words.Tie as tie
+
+cast-verdict : tie.Need-cast-verdict
+cast-verdict c = omega (arith, verdict-small (c .before .args .f .verdict) (c .verdict-number .result) (c .verdict-number .ensures))
+
+cast-t13 : tie.Need-cast-t13
+cast-t13 c = omega (arith, c .before .before .before .before .before .before .before .before .before .before .before .before .before .pre .4)
+
+returns : tie.Need-returns
+returns c =
+    let f = c .before .before .before .before .before .before .before .before .before .before .before .before .before .args .f in
+    accepted-words f (c .before .before .before .before .before .before .before .before .before .before .before .before .verdict-number .result) (c .before .before .before .before .before .before .before .before .before .bits .result) (c .before .before .before .before .before .before .before .bits2 .result) (c .before .before .before .before .before .bits3 .result) (c .before .before .before .before .before .before .before .before .before .before .before .before .verdict-number .ensures)
+    (c .before .before .before .before .before .before .before .before .before .bits .ensures ∙ ap bitsOf (back (f .area) (c .before .before .before .before .before .before .before .before .before .before .struct-told .given .1 .1 .1 .1 .1 .1 .0 .1)))
+    (c .before .before .before .before .before .before .before .bits2 .ensures ∙ ap bitsOf (back (f .last .0) (c .before .before .before .before .before .before .before .before .struct-told2 .given .0 .1)))
+    (c .before .before .before .before .before .bits3 .ensures ∙ ap bitsOf (back (f .last .1) (c .before .before .before .before .before .before .struct-told3 .given .1 .0 .1)))
+
+pub facts-words-spec : {M : Type 1} → statement M
+facts-words-spec =
+    tie.close
+    (tie.spec
+    (λ c κs. search needs)
+    cast-verdict
+    (λ c κs. search needs)
+    (λ c κs. search needs)
+    (λ c κs. search needs)
+    (λ c. search needs)
+    (λ c. search needs)
+    (λ c. search needs)
+    (λ c. search needs)
+    cast-t13
+    returns)

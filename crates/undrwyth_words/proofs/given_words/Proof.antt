@@ -1,0 +1,36 @@
+-- `undrwyth_words::given_words` meets its contract.
+-- Assumes nothing.
+use mathlib.Core.Path.{ap, sym, subst, _∙_}
+use native.Mathlib.Omega.{arith}
+use borrow.Author.Needs.{needs}
+use Rattle.polygon_ring.specs.Words.{givenWords}
+use Rattle.undrwyth_words.specs.Words.{GivenFits}
+use Rattle.undrwyth_words.proofs.WordLaws.{refused-given}
+use Rattle.undrwyth_words.proofs.given_words.Statement.{statement}
+use Rattle.undrwyth_words.proofs.given_words.Tie as tie
+
+found-words-requires : tie.Need-found-words-requires
+found-words-requires c κs = subst GivenFits (c .before .g .given .1) (c .before .before .before .pre)
+
+cast-place : tie.Need-cast-place
+cast-place c = omega (arith, c .refusal-place .ensures, subst GivenFits (c .before .before .before .g2 .given .1) (c .before .before .before .before .before .pre))
+
+returns : tie.Need-returns
+returns c = c .found-words .ensures ∙ sym (ap givenWords (c .before .before .g .given .1))
+
+returns-2 : tie.Need-returns-2
+returns-2 c = refused-given (c .before .before .before .before .before .args .g) (c .before .before .before .g2 .given .0 .0) (c .before .refusal-number .result) (c .refusal-place .result) (c .before .before .before .g2 .given .1) (c .before .refusal-number .ensures .0) (c .refusal-place .ensures)
+
+pub given-words-spec : {M : Type 1} → statement M
+given-words-spec =
+    tie.close
+    (tie.spec
+    (λ c. search needs)
+    found-words-requires
+    (λ c. search needs)
+    (λ c κs. search needs)
+    (λ c. search needs)
+    (λ c κs. search needs)
+    cast-place
+    returns
+    returns-2)

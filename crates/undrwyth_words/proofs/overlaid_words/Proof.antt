@@ -1,0 +1,36 @@
+-- `undrwyth_words::overlaid_words` meets its contract.
+-- Assumes nothing.
+use mathlib.Core.Path.{ap, sym, subst, _∙_}
+use native.Mathlib.Omega.{arith}
+use borrow.Author.Needs.{needs}
+use Rattle.overlay.specs.Call.{overlaidWords}
+use Rattle.undrwyth_words.specs.Words.{OverlaidFits}
+use Rattle.undrwyth_words.proofs.WordLaws.{refused-overlaid}
+use Rattle.undrwyth_words.proofs.overlaid_words.Statement.{statement}
+use Rattle.undrwyth_words.proofs.overlaid_words.Tie as tie
+
+measures-words-requires : tie.Need-measures-words-requires
+measures-words-requires c κs = subst OverlaidFits (c .before .o .given .1) (c .before .before .before .pre)
+
+returns : tie.Need-returns
+returns c = c .measures-words .ensures ∙ sym (ap overlaidWords (c .before .before .o .given .1))
+
+cast-place : tie.Need-cast-place
+cast-place c = omega (arith, c .refusal-place .ensures, subst OverlaidFits (c .before .before .before .o2 .given .1) (c .before .before .before .before .before .pre))
+
+returns-2 : tie.Need-returns-2
+returns-2 c = refused-overlaid (c .before .before .before .before .before .args .o) (c .before .before .before .o2 .given .0 .0) (c .before .refusal-number .result) (c .refusal-place .result) (c .before .before .before .o2 .given .1) (c .before .refusal-number .ensures .0) (c .refusal-place .ensures)
+
+pub overlaid-words-spec : {M : Type 1} → statement M
+overlaid-words-spec =
+    tie.close
+    (tie.spec
+    (λ c. search needs)
+    measures-words-requires
+    (λ c. search needs)
+    (λ c κs. search needs)
+    (λ c. search needs)
+    (λ c κs. search needs)
+    cast-place
+    returns
+    returns-2)

@@ -1,0 +1,36 @@
+-- `undrwyth_words::walk_words` meets its contract.
+-- Assumes nothing.
+use mathlib.Core.Path.{ap, sym, subst, _∙_}
+use native.Mathlib.Omega.{arith}
+use borrow.Author.Needs.{needs}
+use Rattle.answer.specs.Words.{answerWords}
+use Rattle.undrwyth_words.specs.Words.{AnswerFits}
+use Rattle.undrwyth_words.proofs.WordLaws.{refused-answer}
+use Rattle.undrwyth_words.proofs.walk_words.Statement.{statement}
+use Rattle.undrwyth_words.proofs.walk_words.Tie as tie
+
+facts-words-requires : tie.Need-facts-words-requires
+facts-words-requires c κs = subst AnswerFits (c .before .a .given .1) (c .before .before .before .pre)
+
+cast-place : tie.Need-cast-place
+cast-place c = omega (arith, c .refusal-place .ensures, subst AnswerFits (c .before .before .before .a2 .given .1) (c .before .before .before .before .before .pre))
+
+returns : tie.Need-returns
+returns c = c .facts-words .ensures ∙ sym (ap answerWords (c .before .before .a .given .1))
+
+returns-2 : tie.Need-returns-2
+returns-2 c = refused-answer (c .before .before .before .before .before .args .a) (c .before .before .before .a2 .given .0 .0) (c .before .refusal-number .result) (c .refusal-place .result) (c .before .before .before .a2 .given .1) (c .before .refusal-number .ensures .0) (c .refusal-place .ensures)
+
+pub walk-words-spec : {M : Type 1} → statement M
+walk-words-spec =
+    tie.close
+    (tie.spec
+    (λ c. search needs)
+    facts-words-requires
+    (λ c. search needs)
+    (λ c κs. search needs)
+    (λ c. search needs)
+    (λ c κs. search needs)
+    cast-place
+    returns
+    returns-2)

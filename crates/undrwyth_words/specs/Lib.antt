@@ -1,0 +1,2 @@
+-- Answers whose numbers fit 32 bits.
+pub mod Words
