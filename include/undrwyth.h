@@ -55,12 +55,12 @@ extern "C" {
 #define UNDRWYTH_SPAN_NUMBERS 3            /* numbers a span of panels: row, first panel, last panel */
 #define UNDRWYTH_LINE_BYTES 8240           /* bytes of a buffer that holds the answer to any line */
 
-/* Bytes of stack that a call needs, rounded up from what include/stack.c measured of the library that ./library writes
- * for x86-64, run in the Rattle kit's emulator; for 64-bit ARM it measured at most 200 bytes more or less. The gate runs
- * each call on a stack of this size, above a page that cannot be touched. A hull's working store is chosen by how many
- * columns the walk goes through, that of an outline or of a call on a room by how many steps the chain has, and of a call
- * on two rooms the longer chain: 256 at most, 2,048 at most, or more. */
-#define UNDRWYTH_WALK_STACK_BYTES 1024          /* 456 measured */
+/* Bytes of stack that a call needs, rounded up from what include/stack.c measures of the library that ./library writes
+ * on x86-64; on 64-bit ARM it measures at most 200 bytes more or less. The gate runs each call on a stack of this size,
+ * above a page that cannot be touched. A hull's working store is chosen by how many columns the walk goes through, that
+ * of an outline or of a call on a room by how many steps the chain has, and of a call on two rooms the longer chain: 256
+ * at most, 2,048 at most, or more. */
+#define UNDRWYTH_WALK_STACK_BYTES 1024          /* 440 measured */
 #define UNDRWYTH_HULL_256_STACK_BYTES 3072      /* 2,496 measured */
 #define UNDRWYTH_HULL_2048_STACK_BYTES 17408    /* 16,832 measured */
 #define UNDRWYTH_HULL_STACK_BYTES 132096        /* 131,520 measured */
@@ -73,9 +73,9 @@ extern "C" {
 #define UNDRWYTH_ROWS_256_STACK_BYTES 3072      /* 2,344 measured */
 #define UNDRWYTH_ROWS_2048_STACK_BYTES 17408    /* 16,680 measured */
 #define UNDRWYTH_ROWS_STACK_BYTES 132096        /* 131,352 measured */
-#define UNDRWYTH_OVERLAY_256_STACK_BYTES 5632   /* 5,272 measured */
-#define UNDRWYTH_OVERLAY_2048_STACK_BYTES 36864 /* 35,736 measured */
-#define UNDRWYTH_OVERLAY_STACK_BYTES 280576     /* 279,432 measured */
+#define UNDRWYTH_OVERLAY_256_STACK_BYTES 5632   /* 5,256 measured */
+#define UNDRWYTH_OVERLAY_2048_STACK_BYTES 36864 /* 35,720 measured */
+#define UNDRWYTH_OVERLAY_STACK_BYTES 280576     /* 279,416 measured */
 #define UNDRWYTH_CONVEX_256_STACK_BYTES 3072    /* 2,248 measured */
 #define UNDRWYTH_CONVEX_2048_STACK_BYTES 17408  /* 16,584 measured */
 #define UNDRWYTH_CONVEX_STACK_BYTES 132096      /* 131,256 measured */
