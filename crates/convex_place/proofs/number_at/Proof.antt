@@ -12,7 +12,9 @@ mul-result : tie.Need-mul-result
 mul-result c = let a = c .before .args in omega (arith, c .number .ensures, rank-le (a .turn) (a .x) (a .y) (c .before .pre .0) (c .before .pre .1))
 
 add-result : tie.Need-add-result
-add-result c = let a = c .before .args in omega (arith, c .number .ensures, rank-le (a .turn) (a .x) (a .y) (c .before .pre .0) (c .before .pre .1), c .before .pre .2)
+add-result c =
+    let a = c .before .args in
+    omega (arith, c .number .ensures, rank-le (a .turn) (a .x) (a .y) (c .before .pre .0) (c .before .pre .1), c .before .pre .2)
 
 returns : tie.Need-returns
 returns c = ap (λ (n : ℕ). n * 32768 + c .before .args .i) (c .number .ensures)

@@ -20,7 +20,9 @@ returns-3 c =
     first-fails (a .room .now) (a .j) (a .k) (a .l) (z .pre .0) (omega arith) (omega arith) (z .pre .1) (h .result) (c .if3 .taken) (h .ensures)
 
 half-requires-2 : tie.Need-half-requires-2
-half-requires-2 c κs = let z = c .before .before .before .before .before .before .before .before .before .before .before .before .before .before .before in (z .pre .0, omega arith, omega arith, omega arith, omega arith, omega arith, omega arith, omega arith)
+half-requires-2 c κs =
+    let z = c .before .before .before .before .before .before .before .before .before .before .before .before .before .before .before in
+    (z .pre .0, omega arith, omega arith, omega arith, omega arith, omega arith, omega arith, omega arith)
 
 returns-4 : tie.Need-returns-4
 returns-4 c =

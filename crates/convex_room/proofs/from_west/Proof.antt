@@ -14,9 +14,12 @@ by-parts-requires c κs =
 
 returns : tie.Need-returns
 returns c =
+    let b = c .before .before .before .before .before .before .before .before .before .place in
+    let d = c .before .before .before .before .before .before .before .before .place2 in
+    let e = c .before .before .before .before .before .before .before .place3 in
     let a = c .before .before .before .before .before .before .before .before .before .before .before .before .before .args in
     let p = c .before .before .before .before .by-parts in
-    west-told (a .room .now) (c .before .before .before .before .before .before .before .before .before .place .result) (c .before .before .before .before .before .before .before .before .place2 .result) (c .before .before .before .before .before .before .before .place3 .result) (p .result) (c .before .before .before .before .before .before .before .before .before .place .ensures) (c .before .before .before .before .before .before .before .before .place2 .ensures) (c .before .before .before .before .before .before .before .place3 .ensures) (p .ensures)
+    west-told (a .room .now) (b .result) (d .result) (e .result) (p .result) (b .ensures) (d .ensures) (e .ensures) (p .ensures)
 
 pub from-west-spec : {M : Type 1} → statement M
 from-west-spec =

@@ -56,13 +56,14 @@ from-west-requires c κs =
 
 returns : tie.Need-returns
 returns c =
+    let l = c .before .before .before .before .before .before .before .before .before .before .before .before .before .before .before .leftward in
     let z = c .before .before .before .before .before .before .before .before .before .before .before .before .before .before .before .before .before .before .before .before in
     let a = z .args in
     let y = c .before .before .before .before .before .before .before .before .before .before .before .before .before .lay in
     let o = y .last .1 .1 .0 in
     let p = c .before .before .before .before .before .before .before .before .before .place in
     let w = c .before .before .before .before .from-west in
-    store-told (a .chain .now) o (c .before .before .before .before .before .before .before .before .before .before .before .before .before .before .before .leftward .result) (z .pre .digits) (z .pre .short) (omega (arith, z .pre .out-room, y .kept .1 .1 .0)) (y .ensures) (p .result) (p .ensures) (w .result) (c .before .before .before .before .before .before .before .before .before .before .before .before .before .before .before .leftward .ensures) (w .ensures)
+    store-told (a .chain .now) o (l .result) (z .pre .digits) (z .pre .short) (omega (arith, z .pre .out-room, y .kept .1 .1 .0)) (y .ensures) (p .result) (p .ensures) (w .result) (l .ensures) (w .ensures)
 
 pub in-store-spec : {M : Type 1} → statement M
 in-store-spec =

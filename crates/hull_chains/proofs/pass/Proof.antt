@@ -19,10 +19,14 @@ loop-holds : tie.Need-loop-holds Inv-loop μ-loop
 loop-holds c = (omega arith, refl)
 
 returns : tie.Need-returns Inv-loop μ-loop
-returns c = let l = c .before .before .before .loop in turn-here (c .before .before .before .before .before .args .ys .now) (l .j) (omega arith) (sym (c .before .turns .ensures) ∙ c .if1 .taken) ∙ l .inv .1
+returns c =
+    let l = c .before .before .before .loop in
+    turn-here (c .before .before .before .before .before .args .ys .now) (l .j) (omega arith) (sym (c .before .turns .ensures) ∙ c .if1 .taken) ∙ l .inv .1
 
 loop-again : tie.Need-loop-again Inv-loop μ-loop
-loop-again c = let l = c .before .before .before .loop in (omega arith, turn-next (c .before .before .before .before .before .args .ys .now) (l .j) (omega arith) (sym (c .before .turns .ensures) ∙ c .if1 .left) ∙ l .inv .1)
+loop-again c =
+    let l = c .before .before .before .loop in
+    (omega arith, turn-next (c .before .before .before .before .before .args .ys .now) (l .j) (omega arith) (sym (c .before .turns .ensures) ∙ c .if1 .left) ∙ l .inv .1)
 
 returns-2 : tie.Need-returns-2 Inv-loop μ-loop
 returns-2 c = let l = c .before .loop in turn-none (c .before .before .before .args .ys .now) (l .j) (omega arith) ∙ l .inv .1

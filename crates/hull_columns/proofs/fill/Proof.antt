@@ -15,7 +15,9 @@ abbrev μ-loop : tie.MeasureT-loop
 μ-loop chain west east lo₀ hi₀ x₀ y₀ i₀ lo hi x y i = length chain - i
 
 loop-holds : tie.Need-loop-holds Inv-loop μ-loop
-loop-holds c = let s = c .before .before .before in filling-start (s .args .chain .now) (s .args .west) (s .args .east) (s .args .lo .now) (s .args .hi .now) (s .pre .0 .short) (s .pre .0 .west) (s .pre .0 .east)
+loop-holds c =
+    let s = c .before .before .before in
+    filling-start (s .args .chain .now) (s .args .west) (s .args .east) (s .args .lo .now) (s .args .hi .now) (s .pre .0 .short) (s .pre .0 .west) (s .pre .0 .east)
 
 sub-keep : tie.Need-sub-keep Inv-loop μ-loop
 sub-keep c = filling-west (c .before .before .loop .inv)
@@ -45,7 +47,10 @@ loop-less : tie.Need-loop-less Inv-loop μ-loop
 loop-less c = falls (length (c .before .before .before .before .before .before .before .before .before .before .before .before .before .before .before .before .args .chain .now)) (c .before .before .before .before .before .before .before .before .before .before .before .before .loop .i) (c .before .before .before .before .before .before .before .before .before .before .before .loop-test .taken)
 
 loop-again : tie.Need-loop-again Inv-loop μ-loop
-loop-again c = filling-step (c .before .before .before .before .before .before .before .before .before .before .before .before .loop .inv) (c .before .column .result) (c .height .result) (c .before .before .before .before .before .before .before .before .before .keep .last .0) (c .before .before .before .before .before .keep2 .last .0) (c .before .before .before .before .before .before .before .before .before .before .before .loop-test .taken) (c .before .column .ensures) (c .height .ensures) (c .before .before .before .before .before .before .before .before .before .keep .ensures) (c .before .before .before .before .before .keep2 .ensures)
+loop-again c =
+    let k = c .before .before .before .before .before .before .before .before .before .keep in
+    let a = c .before .before .before .before .before .keep2 in
+    filling-step (c .before .before .before .before .before .before .before .before .before .before .before .before .loop .inv) (c .before .column .result) (c .height .result) (k .last .0) (a .last .0) (c .before .before .before .before .before .before .before .before .before .before .before .loop-test .taken) (c .before .column .ensures) (c .height .ensures) (k .ensures) (a .ensures)
 
 sub-keep-4 : tie.Need-sub-keep-4 Inv-loop μ-loop
 sub-keep-4 c = filling-west (c .before .before .loop .inv)
@@ -63,7 +68,11 @@ keep-requires-4 : tie.Need-keep-requires-4 Inv-loop μ-loop
 keep-requires-4 c κs = filling-in-hi (c .before .before .before .before .before .before .loop .inv) (c .before .before .before .before .before .before .before .before .before .before .pre .2)
 
 returns : tie.Need-returns Inv-loop μ-loop
-returns c = (filling-low (c .before .before .before .before .before .before .before .before .before .loop .inv) (c .before .before .before .before .before .before .keep3 .last .0) (c .before .before .before .before .before .before .before .before .loop-test .left) (c .before .before .before .before .before .before .keep3 .ensures), filling-high (c .before .before .before .before .before .before .before .before .before .loop .inv) (c .before .before .keep4 .last .0) (c .before .before .before .before .before .before .before .before .loop-test .left) (c .before .before .keep4 .ensures))
+returns c =
+    let l = c .before .before .before .before .before .before .before .before .before .loop in
+    let a = c .before .before .before .before .before .before .before .before .loop-test in
+    let k = c .before .before .before .before .before .before .keep3 in
+    (filling-low (l .inv) (k .last .0) (a .left) (k .ensures), filling-high (l .inv) (c .before .before .keep4 .last .0) (a .left) (c .before .before .keep4 .ensures))
 
 pub fill-spec : {M : Type 1} → statement M
 fill-spec =

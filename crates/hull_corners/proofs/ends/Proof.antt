@@ -23,8 +23,10 @@ put-corner-requires-2 c κs =
 
 returns-2 : tie.Need-returns-2
 returns-2 c =
+    let p = c .before .before .before .before .before .before .placed in
+    let a = c .before .before .before .before .put-corner in
     let s = c .before .before .before .before .before .before .before .before in
-    ends-enough (s .args .start) (s .args .west) (s .args .east) (c .before .before .before .before .before .before .placed .result) (s .args .out .now) (c .before .before .before .before .put-corner .last .0) (c .before .put-corner2 .last .0) (c .before .before .before .before .before .before .placed .ensures) (omega arith) (c .before .before .before .before .put-corner .ensures) (c .before .put-corner2 .ensures)
+    ends-enough (s .args .start) (s .args .west) (s .args .east) (p .result) (s .args .out .now) (a .last .0) (c .before .put-corner2 .last .0) (p .ensures) (omega arith) (a .ensures) (c .before .put-corner2 .ensures)
 
 pub ends-spec : {M : Type 1} → statement M
 ends-spec =

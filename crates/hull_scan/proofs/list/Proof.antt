@@ -14,7 +14,9 @@ use Rattle.hull_scan.proofs.list.Statement.{statement}
 use Rattle.hull_scan.proofs.list.Tie as tie
 
 returns : tie.Need-returns
-returns c = let a = c .before .before .args in call-refused (a .start) (a .chain .now) (a .out .now) TooMany (λ n. judged-many (a .start) (a .chain .now) (length (a .out .now)) n (c .if1 .taken))
+returns c =
+    let a = c .before .before .args in
+    call-refused (a .start) (a .chain .now) (a .out .now) TooMany (λ n. judged-many (a .start) (a .chain .now) (length (a .out .now)) n (c .if1 .taken))
 
 returns-2 : tie.Need-returns-2
 returns-2 c =

@@ -10,9 +10,11 @@ sub-n c = walked-order (c .before .before .before .before .before .before .befor
 
 finish-requires : tie.Need-finish-requires
 finish-requires c κs =
+    let a = c .before .before .before .before .before .before .before .before .before .before .before .before .scan in
+    let b = c .before .before .before .before .before .before .before .scan2 in
     let s = c .before .before .before .before .before .before .before .before .before .before .before .before .before .before .before .before .before .before .before .before .before .before .before .before .before .before .before in
     let f = c .before .before .before .before .before .before .before .before .before .before .before .before .before .before .before .before .before .before .before .fill in
-    (s .pre .1, chained (s .pre .0) (s .pre .2) (f .last .1 .1 .1 .0) (f .last .1 .1 .1 .1 .0) (c .before .before .before .before .before .before .before .before .before .before .before .before .scan .last .1 .1 .0) (c .before .before .before .before .before .before .before .scan2 .last .1 .1 .0) (c .before .before .before .before .before .before .before .before .before .before .before .before .scan .result) (c .before .before .before .before .before .before .before .scan2 .result) (f .ensures .0) (f .ensures .1) (c .before .before .before .before .before .before .before .before .before .before .before .before .scan .kept .1 .1 .0) (c .before .before .before .before .before .before .before .scan2 .kept .1 .1 .0) (c .before .before .before .before .before .before .before .before .before .before .before .before .scan .ensures) (c .before .before .before .before .before .before .before .scan2 .ensures))
+    (s .pre .1, chained (s .pre .0) (s .pre .2) (f .last .1 .1 .1 .0) (f .last .1 .1 .1 .1 .0) (a .last .1 .1 .0) (b .last .1 .1 .0) (a .result) (b .result) (f .ensures .0) (f .ensures .1) (a .kept .1 .1 .0) (b .kept .1 .1 .0) (a .ensures) (b .ensures))
 
 returns : tie.Need-returns
 returns c =

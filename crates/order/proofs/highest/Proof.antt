@@ -18,7 +18,9 @@ loop-holds : tie.Need-loop-holds Inv-loop μ-loop
 loop-holds c = λ k h. let z : ⊥ = omega arith in absurd z
 
 loop-again : tie.Need-loop-again Inv-loop μ-loop
-loop-again c = let l = c .before .before .before .loop in most-next (c .before .before .before .before .before .args .bytes .now) (l .i) (l .most) (c .higher .result) (l .inv) (c .higher .ensures)
+loop-again c =
+    let l = c .before .before .before .loop in
+    most-next (c .before .before .before .before .before .args .bytes .now) (l .i) (l .most) (c .higher .result) (l .inv) (c .higher .ensures)
 
 returns : tie.Need-returns Inv-loop μ-loop
 returns c = let l = c .before .loop in most-all (c .before .before .before .args .bytes .now) (l .i) (l .most) (omega arith) (l .inv)

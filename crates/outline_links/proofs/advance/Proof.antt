@@ -10,28 +10,45 @@ use Rattle.outline_links.proofs.advance.Statement.{statement}
 use Rattle.outline_links.proofs.advance.Tie as tie
 
 returns : tie.Need-returns
-returns c = along-link (c .before .before .before .before .before .before .args .keys .now) (c .before .before .before .before .before .before .args .kids .now) (c .before .before .before .before .before .before .args .links .now) (c .before .before .before .before .before .before .args .used) (c .before .before .before .before .before .before .args .node) (c .before .before .before .before .before .before .args .k) (c .before .before .before .before .before .before .args .d) (c .before .wide .result) (c .before .wide .ensures .0) (c .if1 .taken)
+returns c =
+    let a = c .before .before .before .before .before .before .args in
+    along-link (a .keys .now) (a .kids .now) (a .links .now) (a .used) (a .node) (a .k) (a .d) (c .before .wide .result) (c .before .wide .ensures .0) (c .if1 .taken)
 
 mul-to : tie.Need-mul-to
-mul-to c = let s = seated-small (c .before .before .before .before .before .enter .ensures) in omega (arith, s .0, s .1, c .before .before .before .before .before .before .before .before .before .before .before .before .before .before .pre .0 .small)
+mul-to c =
+    let s = seated-small (c .before .before .before .before .before .enter .ensures) in
+    omega (arith, s .0, s .1, c .before .before .before .before .before .before .before .before .before .before .before .before .before .before .pre .0 .small)
 
 add-to : tie.Need-add-to
-add-to c = let s = seated-small (c .before .before .before .before .before .before .enter .ensures) in omega (arith, s .0, s .1, c .before .before .before .before .before .before .before .before .before .before .before .before .before .before .before .pre .0 .small, c .opposite .ensures, back-small (c .before .before .before .before .before .before .before .before .before .before .before .before .before .before .before .args .d))
+add-to c =
+    let s = seated-small (c .before .before .before .before .before .before .enter .ensures) in
+    omega (arith, s .0, s .1, c .before .before .before .before .before .before .before .before .before .before .before .before .before .before .before .pre .0 .small, c .opposite .ensures, back-small (c .before .before .before .before .before .before .before .before .before .before .before .before .before .before .before .args .d))
 
 add-links : tie.Need-add-links
-add-links c = let s = seated-small (c .before .before .before .before .before .before .before .enter .ensures) in omega (arith, s .0, s .1, c .before .before .before .before .before .before .before .before .before .before .before .before .before .before .before .before .pre .0 .small)
+add-links c =
+    let s = seated-small (c .before .before .before .before .before .before .before .enter .ensures) in
+    omega (arith, s .0, s .1, c .before .before .before .before .before .before .before .before .before .before .before .before .before .before .before .before .pre .0 .small)
 
 cast-links : tie.Need-cast-links
-cast-links c = let s = seated-small (c .before .before .before .before .before .before .before .enter .ensures) in omega (arith, s .0, s .1, c .before .before .before .before .before .before .before .before .before .before .before .before .before .before .before .before .pre .0 .small)
+cast-links c =
+    let s = seated-small (c .before .before .before .before .before .before .before .enter .ensures) in
+    omega (arith, s .0, s .1, c .before .before .before .before .before .before .before .before .before .before .before .before .before .before .before .before .pre .0 .small)
 
 mul-links-2 : tie.Need-mul-links-2
-mul-links-2 c = let s = seated-small (c .before .before .before .before .before .before .before .enter .ensures) in omega (arith, s .0, s .1, c .before .before .before .before .before .before .before .before .before .before .before .before .before .before .before .before .pre .0 .small, c .before .opposite .ensures, back-small (c .before .before .before .before .before .before .before .before .before .before .before .before .before .before .before .before .args .d))
+mul-links-2 c =
+    let s = seated-small (c .before .before .before .before .before .before .before .enter .ensures) in
+    omega (arith, s .0, s .1, c .before .before .before .before .before .before .before .before .before .before .before .before .before .before .before .before .pre .0 .small, c .before .opposite .ensures, back-small (c .before .before .before .before .before .before .before .before .before .before .before .before .before .before .before .before .args .d))
 
 slice-write-links-2 : tie.Need-slice-write-links-2
-slice-write-links-2 c = let s = seated-small (c .before .before .before .before .before .before .before .enter .ensures) in simp length-set (omega (arith, s .0, s .1, c .before .before .before .before .before .before .before .before .before .before .before .before .before .before .before .before .pre .0 .words, c .before .opposite .ensures, back-small (c .before .before .before .before .before .before .before .before .before .before .before .before .before .before .before .before .args .d)))
+slice-write-links-2 c =
+    let s = seated-small (c .before .before .before .before .before .before .before .enter .ensures) in
+    simp length-set (omega (arith, s .0, s .1, c .before .before .before .before .before .before .before .before .before .before .before .before .before .before .before .before .pre .0 .words, c .before .opposite .ensures, back-small (c .before .before .before .before .before .before .before .before .before .before .before .before .before .before .before .before .args .d)))
 
 returns-2 : tie.Need-returns-2
-returns-2 c = joined-new (c .before .before .before .before .before .before .before .before .before .before .before .before .before .before .before .before .args .keys .now) (c .before .before .before .before .before .before .before .before .before .before .before .before .before .before .before .before .args .kids .now) (c .before .before .before .before .before .before .before .before .before .before .before .before .before .before .before .before .args .links .now) (c .before .before .before .before .before .before .before .before .before .before .before .before .before .before .before .before .args .used) (c .before .before .before .before .before .before .before .before .before .before .before .before .before .before .before .before .args .node) (c .before .before .before .before .before .before .before .before .before .before .before .before .before .before .before .before .args .k) (c .before .before .before .before .before .before .before .before .before .before .before .before .before .before .before .before .args .d) (c .before .before .before .before .before .before .before .before .before .before .before .wide .result) (c .before .before .before .before .before .before .before .before .before .before .before .wide .ensures .0) (c .before .opposite .result) (c .before .before .before .before .before .before .before .before .before .before .if1 .left) (c .before .opposite .ensures) (c .before .before .before .before .before .before .before .enter .ensures)
+returns-2 c =
+    let a = c .before .before .before .before .before .before .before .before .before .before .before .before .before .before .before .before .args in
+    let w = c .before .before .before .before .before .before .before .before .before .before .before .wide in
+    joined-new (a .keys .now) (a .kids .now) (a .links .now) (a .used) (a .node) (a .k) (a .d) (w .result) (w .ensures .0) (c .before .opposite .result) (c .before .before .before .before .before .before .before .before .before .before .if1 .left) (c .before .opposite .ensures) (c .before .before .before .before .before .before .before .enter .ensures)
 
 pub advance-spec : {M : Type 1} → statement M
 advance-spec =

@@ -21,25 +21,45 @@ loop-holds : tie.Need-loop-holds Inv-loop μ-loop
 loop-holds c = ((λ a. building-start a (c .before .before .before .before .args .chain .now) (c .before .before .before .before .args .keys .now) (c .before .before .before .before .args .kids .now) (c .before .before .before .before .args .links .now) (c .before .before .before .before .pre)), refl)
 
 key-after-requires : tie.Need-key-after-requires Inv-loop μ-loop
-key-after-requires c κs = let l = c .before .before .loop in building-key origin (c .before .before .before .before .before .before .before .args .chain .now) (l .keys) (l .kids) (l .links) (l .k) (l .least) (l .home) (l .used) (l .node) (l .i) (l .inv .0 origin) (c .before .loop-test .taken)
+key-after-requires c κs =
+    let l = c .before .before .loop in
+    building-key origin (c .before .before .before .before .before .before .before .args .chain .now) (l .keys) (l .kids) (l .links) (l .k) (l .least) (l .home) (l .used) (l .node) (l .i) (l .inv .0 origin) (c .before .loop-test .taken)
 
 advance-requires : tie.Need-advance-requires Inv-loop μ-loop
-advance-requires c κs = let l = c .before .before .before .before .before .before .loop in (building-ready origin (c .before .before .before .before .before .before .before .before .before .before .before .args .chain .now) (l .keys) (l .kids) (l .links) (l .k) (l .least) (l .home) (l .used) (l .node) (l .i) (l .inv .0 origin) (c .before .before .before .before .before .loop-test .taken), l .inv .0 origin .sized .digits (l .i))
+advance-requires c κs =
+    let l = c .before .before .before .before .before .before .loop in
+    (building-ready origin (c .before .before .before .before .before .before .before .before .before .before .before .args .chain .now) (l .keys) (l .kids) (l .links) (l .k) (l .least) (l .home) (l .used) (l .node) (l .i) (l .inv .0 origin) (c .before .before .before .before .before .loop-test .taken), l .inv .0 origin .sized .digits (l .i))
 
 loop-less : tie.Need-loop-less Inv-loop μ-loop
 loop-less c = omega (arith, c .before .before .before .before .before .before .before .before .before .before .before .before .before .before .loop-test .taken)
 
 loop-again : tie.Need-loop-again Inv-loop μ-loop
-loop-again c = let l = c .before .before .before .before .before .before .before .before .before .before .before .before .before .before .before .loop in ((λ a. building-next a (c .before .before .before .before .before .before .before .before .before .before .before .before .before .before .before .before .before .before .before .before .args .chain .now) (l .keys) (l .kids) (l .links) (l .k) (l .least) (l .home) (l .used) (l .node) (l .i) (l .inv .0 a) (c .before .before .before .before .before .before .before .before .before .before .before .before .before .before .loop-test .taken) (c .before .before .before .before .before .before .before .before .before .before .before .before .key-after .ensures) (c .before .before .before .before .before .before .before .before .advance .ensures) (c .lesser .ensures) (c .before .lower .ensures) .0), building-next origin (c .before .before .before .before .before .before .before .before .before .before .before .before .before .before .before .before .before .before .before .before .args .chain .now) (l .keys) (l .kids) (l .links) (l .k) (l .least) (l .home) (l .used) (l .node) (l .i) (l .inv .0 origin) (c .before .before .before .before .before .before .before .before .before .before .before .before .before .before .loop-test .taken) (c .before .before .before .before .before .before .before .before .before .before .before .before .key-after .ensures) (c .before .before .before .before .before .before .before .before .advance .ensures) (c .lesser .ensures) (c .before .lower .ensures) .1 ∙ l .inv .1)
+loop-again c =
+    let b = c .before .before .before .before .before .before .before .before .before .before .before .before .before .before .before .before .before .before .before .before .args in
+    let d = c .before .before .before .before .before .before .before .before .before .before .before .before .before .before .loop-test in
+    let e = c .before .before .before .before .before .before .before .before .before .before .before .before .key-after in
+    let f = c .before .before .before .before .before .before .before .before .advance in
+    let l = c .before .before .before .before .before .before .before .before .before .before .before .before .before .before .before .loop in
+    ((λ a. building-next a (b .chain .now) (l .keys) (l .kids) (l .links) (l .k) (l .least) (l .home) (l .used) (l .node) (l .i) (l .inv .0 a) (d .taken) (e .ensures) (f .ensures) (c .lesser .ensures) (c .before .lower .ensures) .0), building-next origin (b .chain .now) (l .keys) (l .kids) (l .links) (l .k) (l .least) (l .home) (l .used) (l .node) (l .i) (l .inv .0 origin) (d .taken) (e .ensures) (f .ensures) (c .lesser .ensures) (c .before .lower .ensures) .1 ∙ l .inv .1)
 
 same-length : tie.Need-same-length Inv-loop μ-loop
-same-length c = let l = c .before .loop in let z = building-sizes origin (c .before .before .before .before .before .before .args .chain .now) (l .keys) (l .kids) (l .links) (l .k) (l .least) (l .home) (l .used) (l .node) (l .i) (l .inv .0 origin) in let e : length (l .keys) ≡ length (c .before .before .before .before .before .before .args .keys .now) = l .inv .1 ∙ length-set (c .before .before .before .before .before .before .args .keys .now) 0 536903680 in e
+same-length c = c .before .loop .inv .1 ∙ length-set (c .before .before .before .before .before .before .args .keys .now) 0 536903680
 
 same-length-2 : tie.Need-same-length-2 Inv-loop μ-loop
-same-length-2 c = let l = c .before .loop in let z = building-sizes origin (c .before .before .before .before .before .before .args .chain .now) (l .keys) (l .kids) (l .links) (l .k) (l .least) (l .home) (l .used) (l .node) (l .i) (l .inv .0 origin) in let e : length (l .keys) ≡ length (c .before .before .before .before .before .before .args .keys .now) = l .inv .1 ∙ length-set (c .before .before .before .before .before .before .args .keys .now) 0 536903680 in omega (arith, z .0, e, c .before .before .before .before .before .before .pre .pairs)
+same-length-2 c =
+    let a = c .before .before .before .before .before .before .args in
+    let l = c .before .loop in
+    let z = building-sizes origin (a .chain .now) (l .keys) (l .kids) (l .links) (l .k) (l .least) (l .home) (l .used) (l .node) (l .i) (l .inv .0 origin) in
+    let e : length (l .keys) ≡ length (a .keys .now) = l .inv .1 ∙ length-set (a .keys .now) 0 536903680 in
+    omega (arith, z .0, e, c .before .before .before .before .before .before .pre .pairs)
 
 same-length-3 : tie.Need-same-length-3 Inv-loop μ-loop
-same-length-3 c = let l = c .before .loop in let z = building-sizes origin (c .before .before .before .before .before .before .args .chain .now) (l .keys) (l .kids) (l .links) (l .k) (l .least) (l .home) (l .used) (l .node) (l .i) (l .inv .0 origin) in let e : length (l .keys) ≡ length (c .before .before .before .before .before .before .args .keys .now) = l .inv .1 ∙ length-set (c .before .before .before .before .before .before .args .keys .now) 0 536903680 in omega (arith, z .1, e, c .before .before .before .before .before .before .pre .words)
+same-length-3 c =
+    let a = c .before .before .before .before .before .before .args in
+    let l = c .before .loop in
+    let z = building-sizes origin (a .chain .now) (l .keys) (l .kids) (l .links) (l .k) (l .least) (l .home) (l .used) (l .node) (l .i) (l .inv .0 origin) in
+    let e : length (l .keys) ≡ length (a .keys .now) = l .inv .1 ∙ length-set (a .keys .now) 0 536903680 in
+    omega (arith, z .1, e, c .before .before .before .before .before .before .pre .words)
 
 returns : tie.Need-returns Inv-loop μ-loop
 returns c = λ a. let l = c .before .loop in building-end a (c .before .before .before .before .before .before .args .chain .now) (l .keys) (l .kids) (l .links) (l .k) (l .least) (l .home) (l .used) (l .node) (l .i) (l .inv .0 a) (c .loop-test .left)

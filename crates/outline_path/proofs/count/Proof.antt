@@ -18,31 +18,55 @@ abbrev μ-loop : tie.MeasureT-loop
 μ-loop chain links home first i₀ d₀ n₀ i d n = 2 * length chain - n
 
 follow-requires : tie.Need-follow-requires Inv-loop μ-loop
-follow-requires c κs = at-link origin (c .before .before .args .chain .now) (c .before .before .args .links .now) (c .before .before .args .home) (c .before .before .args .first) (c .before .before .pre) 0 (c .before .before .args .home) (c .before .before .args .first) (at-start origin (c .before .before .args .chain .now) (c .before .before .args .links .now) (c .before .before .args .home) (c .before .before .args .first) (c .before .before .pre))
+follow-requires c κs =
+    let a = c .before .before .args in
+    at-link origin (a .chain .now) (a .links .now) (a .home) (a .first) (c .before .before .pre) 0 (a .home) (a .first) (at-start origin (a .chain .now) (a .links .now) (a .home) (a .first) (c .before .before .pre))
 
 turn-requires : tie.Need-turn-requires Inv-loop μ-loop
-turn-requires c κs = at-to origin (c .before .before .before .args .chain .now) (c .before .before .before .args .links .now) (c .before .before .before .args .home) (c .before .before .before .args .first) (c .before .before .before .pre) 0 (c .before .before .before .args .home) (c .before .before .before .args .first) (at-start origin (c .before .before .before .args .chain .now) (c .before .before .before .args .links .now) (c .before .before .before .args .home) (c .before .before .before .args .first) (c .before .before .before .pre)) (c .follow .result) (c .follow .ensures)
+turn-requires c κs =
+    let a = c .before .before .before .args in
+    let p = c .before .before .before .pre in
+    at-to origin (a .chain .now) (a .links .now) (a .home) (a .first) (p) 0 (a .home) (a .first) (at-start origin (a .chain .now) (a .links .now) (a .home) (a .first) (p)) (c .follow .result) (c .follow .ensures)
 
 loop-holds : tie.Need-loop-holds Inv-loop μ-loop
 loop-holds c = going-start (c .before .before .before .before .args .chain .now) (c .before .before .before .before .args .links .now) (c .before .before .before .before .args .home) (c .before .before .before .before .args .first) (c .before .before .before .before .pre) (c .before .follow .result) (c .turn .result) (c .before .follow .ensures) (c .turn .ensures)
 
 follow-requires-2 : tie.Need-follow-requires-2 Inv-loop μ-loop
-follow-requires-2 c κs = let l = c .before .before .loop in at-link origin (c .before .before .before .before .before .before .before .args .chain .now) (c .before .before .before .before .before .before .before .args .links .now) (c .before .before .before .before .before .before .before .args .home) (c .before .before .before .before .before .before .before .args .first) (c .before .before .before .before .before .before .before .pre) (l .n) (l .i) (l .d) (l .inv origin .at)
+follow-requires-2 c κs =
+    let a = c .before .before .before .before .before .before .before .args in
+    let l = c .before .before .loop in
+    at-link origin (a .chain .now) (a .links .now) (a .home) (a .first) (c .before .before .before .before .before .before .before .pre) (l .n) (l .i) (l .d) (l .inv origin .at)
 
 turn-requires-2 : tie.Need-turn-requires-2 Inv-loop μ-loop
-turn-requires-2 c κs = let l = c .before .before .before .loop in at-to origin (c .before .before .before .before .before .before .before .before .args .chain .now) (c .before .before .before .before .before .before .before .before .args .links .now) (c .before .before .before .before .before .before .before .before .args .home) (c .before .before .before .before .before .before .before .before .args .first) (c .before .before .before .before .before .before .before .before .pre) (l .n) (l .i) (l .d) (l .inv origin .at) (c .follow2 .result) (c .follow2 .ensures)
+turn-requires-2 c κs =
+    let a = c .before .before .before .before .before .before .before .before .args in
+    let l = c .before .before .before .loop in
+    at-to origin (a .chain .now) (a .links .now) (a .home) (a .first) (c .before .before .before .before .before .before .before .before .pre) (l .n) (l .i) (l .d) (l .inv origin .at) (c .follow2 .result) (c .follow2 .ensures)
 
 add-n : tie.Need-add-n Inv-loop μ-loop
-add-n c = let l = c .before .before .before .before .loop in omega (arith, c .before .before .before .before .before .before .before .before .before .pre .short, going-less (c .before .before .before .before .before .before .before .before .before .args .chain .now) (c .before .before .before .before .before .before .before .before .before .args .links .now) (c .before .before .before .before .before .before .before .before .before .args .home) (c .before .before .before .before .before .before .before .before .before .args .first) (c .before .before .before .before .before .before .before .before .before .pre) (l .n) (l .i) (l .d) (l .inv) (sym (c .before .before .before .away .ensures) ∙ c .before .before .if1 .taken))
+add-n c =
+    let a = c .before .before .before .before .before .before .before .before .before .args in
+    let p = c .before .before .before .before .before .before .before .before .before .pre in
+    let l = c .before .before .before .before .loop in
+    omega (arith, p .short, going-less (a .chain .now) (a .links .now) (a .home) (a .first) (p) (l .n) (l .i) (l .d) (l .inv) (sym (c .before .before .before .away .ensures) ∙ c .before .before .if1 .taken))
 
 loop-less : tie.Need-loop-less Inv-loop μ-loop
-loop-less c = let l = c .before .before .before .before .loop in omega (arith, going-less (c .before .before .before .before .before .before .before .before .before .args .chain .now) (c .before .before .before .before .before .before .before .before .before .args .links .now) (c .before .before .before .before .before .before .before .before .before .args .home) (c .before .before .before .before .before .before .before .before .before .args .first) (c .before .before .before .before .before .before .before .before .before .pre) (l .n) (l .i) (l .d) (l .inv) (sym (c .before .before .before .away .ensures) ∙ c .before .before .if1 .taken))
+loop-less c =
+    let a = c .before .before .before .before .before .before .before .before .before .args in
+    let l = c .before .before .before .before .loop in
+    omega (arith, going-less (a .chain .now) (a .links .now) (a .home) (a .first) (c .before .before .before .before .before .before .before .before .before .pre) (l .n) (l .i) (l .d) (l .inv) (sym (c .before .before .before .away .ensures) ∙ c .before .before .if1 .taken))
 
 loop-again : tie.Need-loop-again Inv-loop μ-loop
-loop-again c = let l = c .before .before .before .before .loop in going-next (c .before .before .before .before .before .before .before .before .before .args .chain .now) (c .before .before .before .before .before .before .before .before .before .args .links .now) (c .before .before .before .before .before .before .before .before .before .args .home) (c .before .before .before .before .before .before .before .before .before .args .first) (c .before .before .before .before .before .before .before .before .before .pre) (l .n) (l .i) (l .d) (l .inv) (sym (c .before .before .before .away .ensures) ∙ c .before .before .if1 .taken) (c .before .follow2 .result) (c .turn2 .result) (c .before .follow2 .ensures) (c .turn2 .ensures)
+loop-again c =
+    let a = c .before .before .before .before .before .before .before .before .before .args in
+    let l = c .before .before .before .before .loop in
+    going-next (a .chain .now) (a .links .now) (a .home) (a .first) (c .before .before .before .before .before .before .before .before .before .pre) (l .n) (l .i) (l .d) (l .inv) (sym (c .before .before .before .away .ensures) ∙ c .before .before .if1 .taken) (c .before .follow2 .result) (c .turn2 .result) (c .before .follow2 .ensures) (c .turn2 .ensures)
 
 returns : tie.Need-returns Inv-loop μ-loop
-returns c = let l = c .before .before .loop in going-end (c .before .before .before .before .before .before .before .args .chain .now) (c .before .before .before .before .before .before .before .args .links .now) (c .before .before .before .before .before .before .before .args .home) (c .before .before .before .before .before .before .before .args .first) (c .before .before .before .before .before .before .before .pre) (l .n) (l .i) (l .d) (l .inv) (sym (c .before .away .ensures) ∙ c .if1 .left)
+returns c =
+    let a = c .before .before .before .before .before .before .before .args in
+    let l = c .before .before .loop in
+    going-end (a .chain .now) (a .links .now) (a .home) (a .first) (c .before .before .before .before .before .before .before .pre) (l .n) (l .i) (l .d) (l .inv) (sym (c .before .away .ensures) ∙ c .if1 .left)
 
 pub count-spec : {M : Type 1} → statement M
 count-spec =

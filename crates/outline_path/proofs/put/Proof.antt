@@ -18,25 +18,47 @@ loop-holds : tie.Need-loop-holds Inv-loop μ-loop
 loop-holds c = (writing-start (c .before .before .before .args .chain .now) (c .before .before .before .args .links .now) (c .before .before .before .args .home) (c .before .before .before .args .first) (c .before .before .before .pre .0) (c .before .before .before .args .out .now), omega arith)
 
 slice-write-out : tie.Need-slice-write-out Inv-loop μ-loop
-slice-write-out c = let l = c .before .loop in let z = writing-length (c .before .before .before .before .before .args .chain .now) (c .before .before .before .before .before .args .links .now) (c .before .before .before .before .before .args .home) (c .before .before .before .before .before .args .first) (c .before .before .before .before .before .pre .0) (c .before .before .before .before .before .args .out .now) (l .out) (l .k) (l .i) (l .d) (l .inv .0) (omega (arith, l .inv .1, c .before .before .before .before .before .pre .2)) in omega (arith, z, c .before .before .before .before .before .pre .2, c .loop-test .taken)
+slice-write-out c =
+    let a = c .before .before .before .before .before .args in
+    let p = c .before .before .before .before .before .pre in
+    let l = c .before .loop in
+    let z = writing-length (a .chain .now) (a .links .now) (a .home) (a .first) (p .0) (a .out .now) (l .out) (l .k) (l .i) (l .d) (l .inv .0) (omega (arith, l .inv .1, p .2)) in
+    omega (arith, z, p .2, c .loop-test .taken)
 
 follow-requires : tie.Need-follow-requires Inv-loop μ-loop
-follow-requires c κs = let l = c .before .loop in at-link origin (c .before .before .before .before .before .args .chain .now) (c .before .before .before .before .before .args .links .now) (c .before .before .before .before .before .args .home) (c .before .before .before .before .before .args .first) (c .before .before .before .before .before .pre .0) (l .k) (l .i) (l .d) (l .inv .0 .at origin)
+follow-requires c κs =
+    let l = c .before .loop in
+    at-link origin (c .before .before .before .before .before .args .chain .now) (c .before .before .before .before .before .args .links .now) (c .before .before .before .before .before .args .home) (c .before .before .before .before .before .args .first) (c .before .before .before .before .before .pre .0) (l .k) (l .i) (l .d) (l .inv .0 .at origin)
 
 turn-requires : tie.Need-turn-requires Inv-loop μ-loop
-turn-requires c κs = let l = c .before .before .loop in at-to origin (c .before .before .before .before .before .before .args .chain .now) (c .before .before .before .before .before .before .args .links .now) (c .before .before .before .before .before .before .args .home) (c .before .before .before .before .before .before .args .first) (c .before .before .before .before .before .before .pre .0) (l .k) (l .i) (l .d) (l .inv .0 .at origin) (c .follow .result) (c .follow .ensures)
+turn-requires c κs =
+    let a = c .before .before .before .before .before .before .args in
+    let l = c .before .before .loop in
+    at-to origin (a .chain .now) (a .links .now) (a .home) (a .first) (c .before .before .before .before .before .before .pre .0) (l .k) (l .i) (l .d) (l .inv .0 .at origin) (c .follow .result) (c .follow .ensures)
 
 loop-less : tie.Need-loop-less Inv-loop μ-loop
 loop-less c = omega (arith, c .before .before .loop-test .taken)
 
 loop-again : tie.Need-loop-again Inv-loop μ-loop
-loop-again c = let l = c .before .before .before .loop in (writing-next (c .before .before .before .before .before .before .before .args .chain .now) (c .before .before .before .before .before .before .before .args .links .now) (c .before .before .before .before .before .before .before .args .home) (c .before .before .before .before .before .before .before .args .first) (c .before .before .before .before .before .before .before .pre .0) (c .before .before .before .before .before .before .before .args .out .now) (l .out) (l .k) (l .i) (l .d) (l .inv .0) (omega (arith, c .before .before .loop-test .taken, c .before .before .before .before .before .before .before .pre .2)) (c .before .follow .result) (c .turn .result) (c .before .follow .ensures) (c .turn .ensures), omega (arith, c .before .before .loop-test .taken))
+loop-again c =
+    let a = c .before .before .before .before .before .before .before .args in
+    let p = c .before .before .before .before .before .before .before .pre in
+    let l = c .before .before .before .loop in
+    (writing-next (a .chain .now) (a .links .now) (a .home) (a .first) (p .0) (a .out .now) (l .out) (l .k) (l .i) (l .d) (l .inv .0) (omega (arith, c .before .before .loop-test .taken, p .2)) (c .before .follow .result) (c .turn .result) (c .before .follow .ensures) (c .turn .ensures), omega (arith, c .before .before .loop-test .taken))
 
 same-length : tie.Need-same-length Inv-loop μ-loop
-same-length c = let l = c .before .loop in writing-length (c .before .before .before .before .before .args .chain .now) (c .before .before .before .before .before .args .links .now) (c .before .before .before .before .before .args .home) (c .before .before .before .before .before .args .first) (c .before .before .before .before .before .pre .0) (c .before .before .before .before .before .args .out .now) (l .out) (l .k) (l .i) (l .d) (l .inv .0) (omega (arith, l .inv .1, c .before .before .before .before .before .pre .2))
+same-length c =
+    let a = c .before .before .before .before .before .args in
+    let p = c .before .before .before .before .before .pre in
+    let l = c .before .loop in
+    writing-length (a .chain .now) (a .links .now) (a .home) (a .first) (p .0) (a .out .now) (l .out) (l .k) (l .i) (l .d) (l .inv .0) (omega (arith, l .inv .1, p .2))
 
 returns : tie.Need-returns Inv-loop μ-loop
-returns c = let l = c .before .loop in writing-end (c .before .before .before .before .before .args .chain .now) (c .before .before .before .before .before .args .links .now) (c .before .before .before .before .before .args .home) (c .before .before .before .before .before .args .first) (c .before .before .before .before .before .pre .0) (c .before .before .before .before .before .args .out .now) (l .out) (l .k) (l .i) (l .d) (l .inv .0) (c .before .before .before .before .before .args .n) (c .before .before .before .before .before .pre .1) (omega (arith, l .inv .1, c .loop-test .left))
+returns c =
+    let a = c .before .before .before .before .before .args in
+    let p = c .before .before .before .before .before .pre in
+    let l = c .before .loop in
+    writing-end (a .chain .now) (a .links .now) (a .home) (a .first) (p .0) (a .out .now) (l .out) (l .k) (l .i) (l .d) (l .inv .0) (a .n) (p .1) (omega (arith, l .inv .1, c .loop-test .left))
 
 pub put-spec : {M : Type 1} → statement M
 put-spec =

@@ -14,10 +14,14 @@ returns-2 : tie.Need-returns-2
 returns-2 c = turn-straight (waysAt (c .before .before .before .before .before .args .links .now) (c .before .before .before .before .before .args .i)) (c .before .before .before .before .before .args .d) (c .before .before .before .before .before .pre .1) (sym (c .before .before .before .leads .ensures) ∙ c .before .before .if1 .left) (sym (c .before .leads2 .ensures) ∙ c .if2 .taken)
 
 returns-3 : tie.Need-returns-3
-returns-3 c = turn-left (waysAt (c .before .before .before .before .before .before .before .args .links .now) (c .before .before .before .before .before .before .before .args .i)) (c .before .before .before .before .before .before .before .args .d) (c .before .before .before .before .before .before .before .pre .1) (sym (c .before .before .before .before .before .leads .ensures) ∙ c .before .before .before .before .if1 .left) (sym (c .before .before .before .leads2 .ensures) ∙ c .before .before .if2 .left) (sym (c .before .leads3 .ensures) ∙ c .if3 .taken)
+returns-3 c =
+    let a = c .before .before .before .before .before .before .before .args in
+    turn-left (waysAt (a .links .now) (a .i)) (a .d) (c .before .before .before .before .before .before .before .pre .1) (sym (c .before .before .before .before .before .leads .ensures) ∙ c .before .before .before .before .if1 .left) (sym (c .before .before .before .leads2 .ensures) ∙ c .before .before .if2 .left) (sym (c .before .leads3 .ensures) ∙ c .if3 .taken)
 
 returns-4 : tie.Need-returns-4
-returns-4 c = turn-back (waysAt (c .before .before .before .before .before .before .before .args .links .now) (c .before .before .before .before .before .before .before .args .i)) (c .before .before .before .before .before .before .before .args .d) (c .before .before .before .before .before .before .before .pre .1) (sym (c .before .before .before .before .before .leads .ensures) ∙ c .before .before .before .before .if1 .left) (sym (c .before .before .before .leads2 .ensures) ∙ c .before .before .if2 .left) (sym (c .before .leads3 .ensures) ∙ c .if3 .left)
+returns-4 c =
+    let a = c .before .before .before .before .before .before .before .args in
+    turn-back (waysAt (a .links .now) (a .i)) (a .d) (c .before .before .before .before .before .before .before .pre .1) (sym (c .before .before .before .before .before .leads .ensures) ∙ c .before .before .before .before .if1 .left) (sym (c .before .before .before .leads2 .ensures) ∙ c .before .before .if2 .left) (sym (c .before .leads3 .ensures) ∙ c .if3 .left)
 
 pub turn-spec : {M : Type 1} → statement M
 turn-spec =

@@ -10,16 +10,29 @@ use Rattle.outline_roster.proofs.enter.Statement.{statement}
 use Rattle.outline_roster.proofs.enter.Tie as tie
 
 mul-kids : tie.Need-mul-kids
-mul-kids c = let f = free-child (c .before .before .before .before .before .before .before .before .args .keys .now) (c .before .before .before .before .before .before .before .before .args .kids .now) (c .before .before .before .before .before .before .before .before .args .used) (c .before .before .before .before .before .before .before .before .pre .0) (c .before .before .before .before .before .before .before .before .args .k) (c .before .at .given .0 .0) (sym (c .before .before .before .seek .ensures) ∙ c .before .at .given .1) in omega (arith, f .0, c .before .before .before .before .before .before .before .before .pre .2)
+mul-kids c =
+    let a = c .before .before .before .before .before .before .before .before .args in
+    let p = c .before .before .before .before .before .before .before .before .pre in
+    let f = free-child (a .keys .now) (a .kids .now) (a .used) (p .0) (a .k) (c .before .at .given .0 .0) (sym (c .before .before .before .seek .ensures) ∙ c .before .at .given .1) in
+    omega (arith, f .0, p .2)
 
 slice-write-kids : tie.Need-slice-write-kids
-slice-write-kids c = let f = free-child (c .before .before .before .before .before .before .before .before .args .keys .now) (c .before .before .before .before .before .before .before .before .args .kids .now) (c .before .before .before .before .before .before .before .before .args .used) (c .before .before .before .before .before .before .before .before .pre .0) (c .before .before .before .before .before .before .before .before .args .k) (c .before .at .given .0 .0) (sym (c .before .before .before .seek .ensures) ∙ c .before .at .given .1) in omega (arith, f .0, c .before .before .before .before .before .before .before .before .pre .0 .pairs, c .before .before .before .before .before .before .before .before .pre .1)
+slice-write-kids c =
+    let a = c .before .before .before .before .before .before .before .before .args in
+    let p = c .before .before .before .before .before .before .before .before .pre in
+    let f = free-child (a .keys .now) (a .kids .now) (a .used) (p .0) (a .k) (c .before .at .given .0 .0) (sym (c .before .before .before .seek .ensures) ∙ c .before .at .given .1) in
+    omega (arith, f .0, p .0 .pairs, p .1)
 
 returns : tie.Need-returns
-returns c = seated-there (c .before .before .before .before .before .before .before .before .args .keys .now) (c .before .before .before .before .before .before .before .before .args .kids .now) (c .before .before .before .before .before .before .before .before .args .used) (c .before .before .before .before .before .before .before .before .pre .0) (c .before .before .before .before .before .before .before .before .args .k) (c .before .i .given .0 .0) (sym (c .before .before .before .seek .ensures) ∙ c .before .i .given .1)
+returns c =
+    let a = c .before .before .before .before .before .before .before .before .args in
+    seated-there (a .keys .now) (a .kids .now) (a .used) (c .before .before .before .before .before .before .before .before .pre .0) (a .k) (c .before .i .given .0 .0) (sym (c .before .before .before .seek .ensures) ∙ c .before .i .given .1)
 
 returns-2 : tie.Need-returns-2
-returns-2 c = rw (add-one (c .before .before .before .before .before .before .before .before .args .used)) (seated-new (c .before .before .before .before .before .before .before .before .args .keys .now) (c .before .before .before .before .before .before .before .before .args .kids .now) (c .before .before .before .before .before .before .before .before .args .used) (c .before .before .before .before .before .before .before .before .pre .0) (c .before .before .before .before .before .before .before .before .args .k) (c .before .at .given .0 .0) (sym (c .before .before .before .seek .ensures) ∙ c .before .at .given .1) (c .before .before .before .before .before .before .before .before .pre .1))
+returns-2 c =
+    let a = c .before .before .before .before .before .before .before .before .args in
+    let p = c .before .before .before .before .before .before .before .before .pre in
+    rw (add-one (a .used)) (seated-new (a .keys .now) (a .kids .now) (a .used) (p .0) (a .k) (c .before .at .given .0 .0) (sym (c .before .before .before .seek .ensures) ∙ c .before .at .given .1) (p .1))
 
 pub enter-spec : {M : Type 1} → statement M
 enter-spec =

@@ -36,16 +36,31 @@ shared-slice-read-wide : tie.Need-shared-slice-read-wide Inv-loop μ-loop
 shared-slice-read-wide c = omega (arith, c .before .before .before .before .loop .inv .inside, c .before .before .before .before .before .before .before .pre .room, c .before .before .before .before .before .before .before .pre .pairs, c .before .digit .ensures)
 
 returns : tie.Need-returns Inv-loop μ-loop
-returns c = let l = c .before .before .before .before .before .before .loop in seeking-stop (c .before .before .before .before .before .before .before .before .before .args .keys .now) (c .before .before .before .before .before .before .before .before .before .args .kids .now) (c .before .before .before .before .before .before .before .before .before .args .used) (c .before .before .before .before .before .before .before .before .before .pre) (c .before .before .before .before .before .before .before .before .before .args .k) (l .i) (l .r) (l .inv) (c .before .before .before .digit .result) (c .before .wide .result) (c .before .before .before .digit .ensures) (c .before .wide .ensures .0) (c .before .before .before .before .if1 .taken) (c .if2 .taken)
+returns c =
+    let a = c .before .before .before .before .before .before .before .before .before .args in
+    let d = c .before .before .before .digit in
+    let l = c .before .before .before .before .before .before .loop in
+    seeking-stop (a .keys .now) (a .kids .now) (a .used) (c .before .before .before .before .before .before .before .before .before .pre) (a .k) (l .i) (l .r) (l .inv) (d .result) (c .before .wide .result) (d .ensures) (c .before .wide .ensures .0) (c .before .before .before .before .if1 .taken) (c .if2 .taken)
 
 loop-less : tie.Need-loop-less Inv-loop μ-loop
-loop-less c = let l = c .before .before .before .before .before .before .loop in let d = seeking-less (c .before .before .before .before .before .before .before .before .before .args .keys .now) (c .before .before .before .before .before .before .before .before .before .args .kids .now) (c .before .before .before .before .before .before .before .before .before .args .used) (c .before .before .before .before .before .before .before .before .before .pre) (c .before .before .before .before .before .before .before .before .before .args .k) (l .i) (l .r) (l .inv) (c .before .before .before .digit .result) (c .before .wide .result) (c .before .before .before .digit .ensures) (c .before .wide .ensures .0) (c .before .before .before .before .if1 .taken) (c .if2 .left) in omega (arith, d .0, d .1)
+loop-less c =
+    let a = c .before .before .before .before .before .before .before .before .before .args in
+    let b = c .before .before .before .digit in
+    let l = c .before .before .before .before .before .before .loop in
+    let d = seeking-less (a .keys .now) (a .kids .now) (a .used) (c .before .before .before .before .before .before .before .before .before .pre) (a .k) (l .i) (l .r) (l .inv) (b .result) (c .before .wide .result) (b .ensures) (c .before .wide .ensures .0) (c .before .before .before .before .if1 .taken) (c .if2 .left) in
+    omega (arith, d .0, d .1)
 
 loop-again : tie.Need-loop-again Inv-loop μ-loop
-loop-again c = let l = c .before .before .before .before .before .before .loop in seeking-on (c .before .before .before .before .before .before .before .before .before .args .keys .now) (c .before .before .before .before .before .before .before .before .before .args .kids .now) (c .before .before .before .before .before .before .before .before .before .args .used) (c .before .before .before .before .before .before .before .before .before .pre) (c .before .before .before .before .before .before .before .before .before .args .k) (l .i) (l .r) (l .inv) (c .before .before .before .digit .result) (c .before .wide .result) (c .before .before .before .digit .ensures) (c .before .wide .ensures .0) (c .before .before .before .before .if1 .taken) (c .if2 .left)
+loop-again c =
+    let a = c .before .before .before .before .before .before .before .before .before .args in
+    let d = c .before .before .before .digit in
+    let l = c .before .before .before .before .before .before .loop in
+    seeking-on (a .keys .now) (a .kids .now) (a .used) (c .before .before .before .before .before .before .before .before .before .pre) (a .k) (l .i) (l .r) (l .inv) (d .result) (c .before .wide .result) (d .ensures) (c .before .wide .ensures .0) (c .before .before .before .before .if1 .taken) (c .if2 .left)
 
 returns-2 : tie.Need-returns-2 Inv-loop μ-loop
-returns-2 c = let l = c .before .before .loop in sym (seeking-node (c .before .before .before .before .before .args .keys .now) (c .before .before .before .before .before .args .kids .now) (c .before .before .before .before .before .args .used) (c .before .before .before .before .before .pre) (c .before .before .before .before .before .args .k) (l .i) (l .r) (l .inv) (c .if1 .left))
+returns-2 c =
+    let l = c .before .before .loop in
+    sym (seeking-node (c .before .before .before .before .before .args .keys .now) (c .before .before .before .before .before .args .kids .now) (c .before .before .before .before .before .args .used) (c .before .before .before .before .before .pre) (c .before .before .before .before .before .args .k) (l .i) (l .r) (l .inv) (c .if1 .left))
 
 pub seek-spec : {M : Type 1} → statement M
 seek-spec =

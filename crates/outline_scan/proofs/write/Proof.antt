@@ -11,7 +11,9 @@ use Rattle.outline_scan.proofs.write.Statement.{statement}
 use Rattle.outline_scan.proofs.write.Tie as tie
 
 returns : tie.Need-returns
-returns c = let a = c .before .before .before .args in call-refused (a .start) (a .chain .now) (a .out .now) TooMany (judged-many (a .start) (a .chain .now) 0 0 (c .if1 .taken))
+returns c =
+    let a = c .before .before .before .args in
+    call-refused (a .start) (a .chain .now) (a .out .now) TooMany (judged-many (a .start) (a .chain .now) 0 0 (c .if1 .taken))
 
 returns-2 : tie.Need-returns-2
 returns-2 c =
@@ -20,7 +22,9 @@ returns-2 c =
     call-refused (a .start) (a .chain .now) (a .out .now) StartRange (judged-start (a .start) (a .chain .now) 0 0 (c .before .before .if1 .left) (sym (f .ensures) ∙ not-true (f .result) (c .if2 .taken)))
 
 write-from-requires : tie.Need-write-from-requires
-write-from-requires c κs = let j = c .before .before .before .judge in steady (c .before .before .before .before .before .before .before .before .before .args .chain .now) (sym (j .ensures) ∙ c .before .enum-told .given .1)
+write-from-requires c κs =
+    let j = c .before .before .before .judge in
+    steady (c .before .before .before .before .before .before .before .before .before .args .chain .now) (sym (j .ensures) ∙ c .before .enum-told .given .1)
 
 returns-3 : tie.Need-returns-3
 returns-3 c =

@@ -8,7 +8,9 @@ use Rattle.overlay_list.proofs.list_second.Statement.{statement}
 use Rattle.overlay_list.proofs.list_second.Tie as tie
 
 list-rooms-requires : tie.Need-list-rooms-requires
-list-rooms-requires c κs = let z = c .before .before .before .before .before .before .before .before in (z .pre, sym (c .before .before .before .before .before .judge .ensures) ∙ c .before .before .before .enum-told .given .1)
+list-rooms-requires c κs =
+    let z = c .before .before .before .before .before .before .before .before in
+    (z .pre, sym (c .before .before .before .before .before .judge .ensures) ∙ c .before .before .before .enum-told .given .1)
 
 returns-2 : tie.Need-returns-2
 returns-2 c =

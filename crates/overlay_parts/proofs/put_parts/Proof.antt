@@ -9,13 +9,19 @@ use Rattle.overlay_parts.proofs.put_parts.Statement.{statement}
 use Rattle.overlay_parts.proofs.put_parts.Tie as tie
 
 returns : tie.Need-returns
-returns c = let z = c .before .before .args in parts-short (partSpans (z .a .now) (z .na) (z .b .now) (z .nb)) (z .first .now) (z .second .now) (z .both .now) First (omega (arith, c .before .size .ensures, c .if1 .taken))
+returns c =
+    let z = c .before .before .args in
+    parts-short (partSpans (z .a .now) (z .na) (z .b .now) (z .nb)) (z .first .now) (z .second .now) (z .both .now) First (omega (arith, c .before .size .ensures, c .if1 .taken))
 
 returns-2 : tie.Need-returns-2
-returns-2 c = let z = c .before .before .before .before .args in parts-short (partSpans (z .a .now) (z .na) (z .b .now) (z .nb)) (z .first .now) (z .second .now) (z .both .now) Second (omega (arith, c .before .size2 .ensures, c .if2 .taken))
+returns-2 c =
+    let z = c .before .before .before .before .args in
+    parts-short (partSpans (z .a .now) (z .na) (z .b .now) (z .nb)) (z .first .now) (z .second .now) (z .both .now) Second (omega (arith, c .before .size2 .ensures, c .if2 .taken))
 
 returns-3 : tie.Need-returns-3
-returns-3 c = let z = c .before .before .before .before .before .before .args in parts-short (partSpans (z .a .now) (z .na) (z .b .now) (z .nb)) (z .first .now) (z .second .now) (z .both .now) Both (omega (arith, c .before .size3 .ensures, c .if3 .taken))
+returns-3 c =
+    let z = c .before .before .before .before .before .before .args in
+    parts-short (partSpans (z .a .now) (z .na) (z .b .now) (z .nb)) (z .first .now) (z .second .now) (z .both .now) Both (omega (arith, c .before .size3 .ensures, c .if3 .taken))
 
 put-part-requires : tie.Need-put-part-requires
 put-part-requires c κs = search needs

@@ -19,10 +19,14 @@ loop-holds : tie.Need-loop-holds Inv-loop μ-loop
 loop-holds c = laid-first
 
 loop-again : tie.Need-loop-again Inv-loop μ-loop
-loop-again c = let s = c .before .before in fill-more (s .args .buf .now) (c .before .loop .buf) (s .args .d) (s .args .n) (c .before .loop .i) (s .pre) (c .loop-test .taken) (c .before .loop .inv)
+loop-again c =
+    let s = c .before .before in
+    fill-more (s .args .buf .now) (c .before .loop .buf) (s .args .d) (s .args .n) (c .before .loop .i) (s .pre) (c .loop-test .taken) (c .before .loop .inv)
 
 returns : tie.Need-returns Inv-loop μ-loop
-returns c = let s = c .before .before in fill-last (s .args .buf .now) (c .before .loop .buf) (s .args .d) (s .args .n) (c .before .loop .i) (omega arith) (c .before .loop .inv)
+returns c =
+    let s = c .before .before in
+    fill-last (s .args .buf .now) (c .before .loop .buf) (s .args .d) (s .args .n) (c .before .loop .i) (omega arith) (c .before .loop .inv)
 
 pub fill-spec : {M : Type 1} → statement M
 fill-spec =

@@ -12,13 +12,17 @@ sub-result : tie.Need-sub-result
 sub-result c = let s = c .before .before in diff-fits (s .args .x) (s .args .y) (s .pre .0) (s .pre .1)
 
 cast-result : tie.Need-cast-result
-cast-result c = let s = c .before .before in diff-cast (s .args .x) (s .args .y) (s .pre .0) (s .pre .1) (before-le (s .args .x) (s .args .y) (c .before .less .result) (c .before .less .ensures ∙ ap₂ ltZ (back (s .args .x) (s .pre .0)) (back (s .args .y) (s .pre .1))) (c .if1 .taken))
+cast-result c =
+    let s = c .before .before in
+    diff-cast (s .args .x) (s .args .y) (s .pre .0) (s .pre .1) (before-le (s .args .x) (s .args .y) (c .before .less .result) (c .before .less .ensures ∙ ap₂ ltZ (back (s .args .x) (s .pre .0)) (back (s .args .y) (s .pre .1))) (c .if1 .taken))
 
 sub-result-2 : tie.Need-sub-result-2
 sub-result-2 c = let s = c .before .before in diff-fits (s .args .y) (s .args .x) (s .pre .1) (s .pre .0)
 
 cast-result-2 : tie.Need-cast-result-2
-cast-result-2 c = let s = c .before .before in diff-cast (s .args .y) (s .args .x) (s .pre .1) (s .pre .0) (after-le (s .args .x) (s .args .y) (c .before .less .result) (c .before .less .ensures ∙ ap₂ ltZ (back (s .args .x) (s .pre .0)) (back (s .args .y) (s .pre .1))) (c .if1 .left))
+cast-result-2 c =
+    let s = c .before .before in
+    diff-cast (s .args .y) (s .args .x) (s .pre .1) (s .pre .0) (after-le (s .args .x) (s .args .y) (c .before .less .result) (c .before .less .ensures ∙ ap₂ ltZ (back (s .args .x) (s .pre .0)) (back (s .args .y) (s .pre .1))) (c .if1 .left))
 
 returns : tie.Need-returns
 returns c = let s = c .before .before in diff-is (s .args .x) (s .args .y) (s .pre .0) (s .pre .1)

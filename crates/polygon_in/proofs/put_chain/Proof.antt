@@ -19,7 +19,9 @@ abbrev μ-loop : tie.MeasureT-loop
 μ-loop points little n out₀ a₀ at₀ i₀ out a at i = n - i
 
 loop-holds : tie.Need-loop-holds Inv-loop μ-loop
-loop-holds c = let s = c .before .before in chaining-first (s .args .little) (s .args .points .now) (s .args .n) (s .args .out .now) (s .args .start) (s .pre .1) (s .pre .4)
+loop-holds c =
+    let s = c .before .before in
+    chaining-first (s .args .little) (s .args .points .now) (s .args .n) (s .args .out .now) (s .args .start) (s .pre .1) (s .pre .4)
 
 corner-at-requires : tie.Need-corner-at-requires Inv-loop μ-loop
 corner-at-requires c κs =
@@ -89,7 +91,9 @@ same-length : tie.Need-same-length Inv-loop μ-loop
 same-length c = c .before .loop .inv .laid .same
 
 returns : tie.Need-returns Inv-loop μ-loop
-returns c = let s = c .before .before .before .before in chaining-last (s .args .little) (s .args .points .now) (s .args .n) (s .args .out .now) (c .before .loop .out) (c .before .loop .a) (c .before .loop .at) (c .before .loop .i) (s .pre .1) (omega arith) (c .before .loop .inv)
+returns c =
+    let s = c .before .before .before .before in
+    chaining-last (s .args .little) (s .args .points .now) (s .args .n) (s .args .out .now) (c .before .loop .out) (c .before .loop .a) (c .before .loop .at) (c .before .loop .i) (s .pre .1) (omega arith) (c .before .loop .inv)
 
 pub put-chain-spec : {M : Type 1} → statement M
 put-chain-spec =

@@ -6,7 +6,9 @@ use Rattle.polygon_out.proofs.write.Statement.{statement}
 use Rattle.polygon_out.proofs.write.Tie as tie
 
 draw-requires : tie.Need-draw-requires
-draw-requires c κs = let a = c .before .before .before .before .before .before .args in room-drawable (a .start) (a .chain .now) (c .before .before .before .judge .result) (c .before .before .before .judge .ensures) (c .before .enum-told .given .1)
+draw-requires c κs =
+    let a = c .before .before .before .before .before .before .args in
+    room-drawable (a .start) (a .chain .now) (c .before .before .before .judge .result) (c .before .before .before .judge .ensures) (c .before .enum-told .given .1)
 
 returns : tie.Need-returns
 returns c =

@@ -22,7 +22,9 @@ abbrev μ-loop : tie.MeasureT-loop
 μ-loop buf₀ chain at₀ last₀ k₀ i₀ buf at last k i = length chain - i
 
 loop-holds : tie.Need-loop-holds Inv-loop μ-loop
-loop-holds c = let s = c .before .before .before in bent-first (s .args .buf .now) (s .args .start) (s .args .chain .now) (c .first .result) (s .pre .0) (c .first .ensures)
+loop-holds c =
+    let s = c .before .before .before in
+    bent-first (s .args .buf .now) (s .args .start) (s .args .chain .now) (c .first .result) (s .pre .0) (c .first .ensures)
 
 bent-requires : tie.Need-bent-requires Inv-loop μ-loop
 bent-requires c κs =

@@ -10,10 +10,14 @@ returns : tie.Need-returns
 returns c = let a = c .before .before .args in told-many (a .start) (a .chain .now) (c .if1 .taken)
 
 returns-2 : tie.Need-returns-2
-returns-2 c = let a = c .before .before .before .before .args in told-range (a .start) (a .chain .now) (c .before .start-fits .result) (omega (arith, c .before .before .if1 .left)) (c .before .start-fits .ensures) (c .if2 .taken)
+returns-2 c =
+    let a = c .before .before .before .before .args in
+    told-range (a .start) (a .chain .now) (c .before .start-fits .result) (omega (arith, c .before .before .if1 .left)) (c .before .start-fits .ensures) (c .if2 .taken)
 
 is-room-requires : tie.Need-is-room-requires
-is-room-requires c κs = let a = c .before .before .before .before .before .before .before .args in good-few (a .start) (a .chain .now) (c .before .before .judge .result) (c .before .before .judge .ensures) (c .enum-told .given .1)
+is-room-requires c κs =
+    let a = c .before .before .before .before .before .before .before .args in
+    good-few (a .start) (a .chain .now) (c .before .before .judge .result) (c .before .before .judge .ensures) (c .enum-told .given .1)
 
 returns-3 : tie.Need-returns-3
 returns-3 c =

@@ -28,7 +28,9 @@ mul-if1 : tie.Need-mul-if1 Inv-loop μ-loop
 mul-if1 c = record { fits = omega (arith, c .wide2 .ensures .1) }
 
 slice-read-if1 : tie.Need-slice-read-if1 Inv-loop μ-loop
-slice-read-if1 c = let l = c .before .before .before .before .loop in omega (arith, c .before .wide2 .ensures .0, l .inv .1, c .before .before .before .before .before .before .before .before .before .pre .0 .heights (l .p - 1))
+slice-read-if1 c =
+    let l = c .before .before .before .before .loop in
+    omega (arith, c .before .wide2 .ensures .0, l .inv .1, c .before .before .before .before .before .before .before .before .before .pre .0 .heights (l .p - 1))
 
 returns : tie.Need-returns Inv-loop μ-loop
 returns c =
@@ -40,10 +42,14 @@ mul-stamps : tie.Need-mul-stamps Inv-loop μ-loop
 mul-stamps c = record { fits = omega (arith, c .before .before .wide2 .ensures .1) }
 
 slice-write-stamps : tie.Need-slice-write-stamps Inv-loop μ-loop
-slice-write-stamps c = let l = c .before .before .before .before .before .loop in omega (arith, c .before .before .wide2 .ensures .0, l .inv .1, c .before .before .before .before .before .before .before .before .before .before .pre .0 .heights (l .p - 1))
+slice-write-stamps c =
+    let l = c .before .before .before .before .before .loop in
+    omega (arith, c .before .before .wide2 .ensures .0, l .inv .1, c .before .before .before .before .before .before .before .before .before .before .pre .0 .heights (l .p - 1))
 
 loop-less : tie.Need-loop-less Inv-loop μ-loop
-loop-less c = let l = c .before .before .before .before .before .before .before .loop in omega (arith, c .wide3 .ensures .0, c .before .before .before .before .before .before .before .before .before .before .before .before .pre .0 .falls (l .p - 1))
+loop-less c =
+    let l = c .before .before .before .before .before .before .before .loop in
+    omega (arith, c .wide3 .ensures .0, c .before .before .before .before .before .before .before .before .before .before .before .before .pre .0 .falls (l .p - 1))
 
 loop-again : tie.Need-loop-again Inv-loop μ-loop
 loop-again c =

@@ -24,19 +24,21 @@ gather-requires c κs =
 
 put-rows-requires : tie.Need-put-rows-requires
 put-rows-requires c κs =
+    let w = c .before .before .before .before .before .before .before .before .before .before .before .before .before .before .before .wide in
     let z = c .before .before .before .before .before .before .before .before .before .before .before .before .before .before .before .before .before .before .before .before .before .before .before .before .before .before .before .before .before .before .before in
     let f = c .before .before .before .before .before .before .before .before .before .before .before .before .before .before .before .before .before .before .before .before .before .before .lay in
     let g = c .before .before .before .before .before .before .before .before .before .before .gather in
-    let e = c .before .before .before .before .before .before .before .before .before .before .before .before .before .before .before .wide .ensures .0 in
-    (store-sheet (z .pre .0) (z .pre .1) (2 * c .before .before .before .before .before .before .before .before .before .before .before .before .before .before .before .wide .result) (ap (λ (k : ℕ). 2 * k) e) (f .kept .1 .1 .0) (f .kept .1 .1 .1 .0) (f .kept .1 .1 .1 .1 .0) (f .ensures) (g .kept .1 .1 .0) (g .kept .1 .1 .1 .0) (g .kept .1 .1 .1 .1 .0) (g .ensures) (length (z .args .out .now)) (z .pre .2), z .pre .0 .near .0, z .pre .0 .near .1, omega (arith, z .pre .1 .columns, z .pre .1 .narrow, e))
+    let e = w .ensures .0 in
+    (store-sheet (z .pre .0) (z .pre .1) (2 * w .result) (ap (λ (k : ℕ). 2 * k) e) (f .kept .1 .1 .0) (f .kept .1 .1 .1 .0) (f .kept .1 .1 .1 .1 .0) (f .ensures) (g .kept .1 .1 .0) (g .kept .1 .1 .1 .0) (g .kept .1 .1 .1 .1 .0) (g .ensures) (length (z .args .out .now)) (z .pre .2), z .pre .0 .near .0, z .pre .0 .near .1, omega (arith, z .pre .1 .columns, z .pre .1 .narrow, e))
 
 returns : tie.Need-returns
 returns c =
+    let w = c .before .before .before .before .before .before .before .before .before .before .before .before .before .before .before .before .before .wide in
     let z = c .before .before .before .before .before .before .before .before .before .before .before .before .before .before .before .before .before .before .before .before .before .before .before .before .before .before .before .before .before .before .before .before .before in
     let f = c .before .before .before .before .before .before .before .before .before .before .before .before .before .before .before .before .before .before .before .before .before .before .before .before .lay in
     let g = c .before .before .before .before .before .before .before .before .before .before .before .before .gather in
-    let e = c .before .before .before .before .before .before .before .before .before .before .before .before .before .before .before .before .before .wide .ensures .0 in
-    store-rows (z .pre .0) (z .pre .1) (2 * c .before .before .before .before .before .before .before .before .before .before .before .before .before .before .before .before .before .wide .result) (ap (λ (k : ℕ). 2 * k) e) (f .kept .1 .1 .0) (f .kept .1 .1 .1 .0) (f .kept .1 .1 .1 .1 .0) (f .ensures) (g .kept .1 .1 .0) (g .kept .1 .1 .1 .0) (g .kept .1 .1 .1 .1 .0) (g .ensures) (z .args .out .now) (c .before .put-rows .last .1 .1 .1 .1 .1 .1 .0) (c .before .put-rows .ensures)
+    let e = w .ensures .0 in
+    store-rows (z .pre .0) (z .pre .1) (2 * w .result) (ap (λ (k : ℕ). 2 * k) e) (f .kept .1 .1 .0) (f .kept .1 .1 .1 .0) (f .kept .1 .1 .1 .1 .0) (f .ensures) (g .kept .1 .1 .0) (g .kept .1 .1 .1 .0) (g .kept .1 .1 .1 .1 .0) (g .ensures) (z .args .out .now) (c .before .put-rows .last .1 .1 .1 .1 .1 .1 .0) (c .before .put-rows .ensures)
 
 pub list-in-spec : {M : Type 1} → statement M
 list-in-spec =

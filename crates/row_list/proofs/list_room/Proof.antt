@@ -7,7 +7,9 @@ use Rattle.row_list.proofs.list_room.Statement.{statement}
 use Rattle.row_list.proofs.list_room.Tie as tie
 
 mul-if1 : tie.Need-mul-if1
-mul-if1 c = let z = c .before .before in record { fits = omega (arith, c .vertical .ensures .1, good-walled (z .args .start) (z .args .chain .now) (z .pre) .few) }
+mul-if1 c =
+    let z = c .before .before in
+    record { fits = omega (arith, c .vertical .ensures .1, good-walled (z .args .start) (z .args .chain .now) (z .pre) .few) }
 
 returns : tie.Need-returns
 returns c =

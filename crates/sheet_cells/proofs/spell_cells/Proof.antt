@@ -32,32 +32,46 @@ spell-two-requires-4 c κs =
 
 spell-signed-requires : tie.Need-spell-signed-requires
 spell-signed-requires c κs =
+    let b = c .before .before .before .before .before .before .before .before .before .before .before .before .before .before .before .before .before .spell-two in
+    let d = c .before .before .before .before .before .before .before .before .before .before .before .before .spell-two2 in
+    let e = c .before .before .before .before .before .before .before .before .spell-two3 in
+    let g = c .before .before .before .before .spell-two4 in
     let s = c .before .before .before .before .before .before .before .before .before .before .before .before .before .before .before .before .before .before .before .before in
     let a = s .args in
-    omega (arith, s .pre, length-two (a .number) (a .place), length-two (c .before .before .before .before .before .before .before .before .before .before .before .before .before .verdict-number .result) (a .f .steps), length-two (a .f .nodes) (a .f .corners), length-two (a .f .j) (a .f .k), c .before .before .before .before .spell-two4 .ensures .end, c .before .before .before .before .spell-two4 .kept .0, c .before .before .before .before .before .before .before .before .spell-two3 .ensures .end, c .before .before .before .before .before .before .before .before .spell-two3 .kept .0, c .before .before .before .before .before .before .before .before .before .before .before .before .spell-two2 .ensures .end, c .before .before .before .before .before .before .before .before .before .before .before .before .spell-two2 .kept .0, c .before .before .before .before .before .before .before .before .before .before .before .before .before .before .before .before .before .spell-two .ensures .end, c .before .before .before .before .before .before .before .before .before .before .before .before .before .before .before .before .before .spell-two .kept .0)
+    omega (arith, s .pre, length-two (a .number) (a .place), length-two (c .before .before .before .before .before .before .before .before .before .before .before .before .before .verdict-number .result) (a .f .steps), length-two (a .f .nodes) (a .f .corners), length-two (a .f .j) (a .f .k), g .ensures .end, g .kept .0, e .ensures .end, e .kept .0, d .ensures .end, d .kept .0, b .ensures .end, b .kept .0)
 
 slice-write-out : tie.Need-slice-write-out
 slice-write-out c =
+    let b = c .before .before .before .before .before .before .before .before .before .before .before .before .before .before .before .before .before .before .before .before .spell-two in
+    let d = c .before .before .before .before .before .before .before .before .before .before .before .before .before .before .before .spell-two2 in
+    let e = c .before .before .before .before .before .before .before .before .before .before .before .spell-two3 in
+    let g = c .before .before .before .before .before .before .before .spell-two4 in
     let s = c .before .before .before .before .before .before .before .before .before .before .before .before .before .before .before .before .before .before .before .before .before .before .before in
     let a = s .args in
-    omega (arith, s .pre, length-two (a .number) (a .place), length-two (c .before .before .before .before .before .before .before .before .before .before .before .before .before .before .before .before .verdict-number .result) (a .f .steps), length-two (a .f .nodes) (a .f .corners), length-two (a .f .j) (a .f .k), length-signedOf mostDecimals (toZ w32 (ofZ w32 (a .f .area))), c .before .before .spell-signed .ensures .end, c .before .before .spell-signed .kept .0, c .before .before .before .before .before .before .before .spell-two4 .ensures .end, c .before .before .before .before .before .before .before .spell-two4 .kept .0, c .before .before .before .before .before .before .before .before .before .before .before .spell-two3 .ensures .end, c .before .before .before .before .before .before .before .before .before .before .before .spell-two3 .kept .0, c .before .before .before .before .before .before .before .before .before .before .before .before .before .before .before .spell-two2 .ensures .end, c .before .before .before .before .before .before .before .before .before .before .before .before .before .before .before .spell-two2 .kept .0, c .before .before .before .before .before .before .before .before .before .before .before .before .before .before .before .before .before .before .before .before .spell-two .ensures .end, c .before .before .before .before .before .before .before .before .before .before .before .before .before .before .before .before .before .before .before .before .spell-two .kept .0)
+    omega (arith, s .pre, length-two (a .number) (a .place), length-two (c .before .before .before .before .before .before .before .before .before .before .before .before .before .before .before .before .verdict-number .result) (a .f .steps), length-two (a .f .nodes) (a .f .corners), length-two (a .f .j) (a .f .k), length-signedOf mostDecimals (toZ w32 (ofZ w32 (a .f .area))), c .before .before .spell-signed .ensures .end, c .before .before .spell-signed .kept .0, g .ensures .end, g .kept .0, e .ensures .end, e .kept .0, d .ensures .end, d .kept .0, b .ensures .end, b .kept .0)
 
 add-result : tie.Need-add-result
 add-result c =
+    let b = c .before .before .before .before .before .before .before .before .before .before .before .before .before .before .before .before .before .before .before .before .spell-two in
+    let d = c .before .before .before .before .before .before .before .before .before .before .before .before .before .before .before .spell-two2 in
+    let e = c .before .before .before .before .before .before .before .before .before .before .before .spell-two3 in
+    let g = c .before .before .before .before .before .before .before .spell-two4 in
     let s = c .before .before .before .before .before .before .before .before .before .before .before .before .before .before .before .before .before .before .before .before .before .before .before in
     let a = s .args in
-    record { fits = omega (arith, s .fits, s .pre, length-two (a .number) (a .place), length-two (c .before .before .before .before .before .before .before .before .before .before .before .before .before .before .before .before .verdict-number .result) (a .f .steps), length-two (a .f .nodes) (a .f .corners), length-two (a .f .j) (a .f .k), length-signedOf mostDecimals (toZ w32 (ofZ w32 (a .f .area))), c .before .before .spell-signed .ensures .end, c .before .before .spell-signed .kept .0, c .before .before .before .before .before .before .before .spell-two4 .ensures .end, c .before .before .before .before .before .before .before .spell-two4 .kept .0, c .before .before .before .before .before .before .before .before .before .before .before .spell-two3 .ensures .end, c .before .before .before .before .before .before .before .before .before .before .before .spell-two3 .kept .0, c .before .before .before .before .before .before .before .before .before .before .before .before .before .before .before .spell-two2 .ensures .end, c .before .before .before .before .before .before .before .before .before .before .before .before .before .before .before .spell-two2 .kept .0, c .before .before .before .before .before .before .before .before .before .before .before .before .before .before .before .before .before .before .before .before .spell-two .ensures .end, c .before .before .before .before .before .before .before .before .before .before .before .before .before .before .before .before .before .before .before .before .spell-two .kept .0) }
+    record { fits = omega (arith, s .fits, s .pre, length-two (a .number) (a .place), length-two (c .before .before .before .before .before .before .before .before .before .before .before .before .before .before .before .before .verdict-number .result) (a .f .steps), length-two (a .f .nodes) (a .f .corners), length-two (a .f .j) (a .f .k), length-signedOf mostDecimals (toZ w32 (ofZ w32 (a .f .area))), c .before .before .spell-signed .ensures .end, c .before .before .spell-signed .kept .0, g .ensures .end, g .kept .0, e .ensures .end, e .kept .0, d .ensures .end, d .kept .0, b .ensures .end, b .kept .0) }
 
 same-length : tie.Need-same-length
 same-length c =
-    omega (arith, c .before .before .spell-signed .kept .0, c .before .before .before .before .before .before .before .spell-two4 .kept .0, c .before .before .before .before .before .before .before .before .before .before .before .spell-two3 .kept .0, c .before .before .before .before .before .before .before .before .before .before .before .before .before .before .before .spell-two2 .kept .0, c .before .before .before .before .before .before .before .before .before .before .before .before .before .before .before .before .before .before .before .before .spell-two .kept .0, length-set (c .before .before .spell-signed .last .0) (c .before .before .spell-signed .result) 44)
+    let s = c .before .before .spell-signed in
+    omega (arith, s .kept .0, c .before .before .before .before .before .before .before .spell-two4 .kept .0, c .before .before .before .before .before .before .before .before .before .before .before .spell-two3 .kept .0, c .before .before .before .before .before .before .before .before .before .before .before .before .before .before .before .spell-two2 .kept .0, c .before .before .before .before .before .before .before .before .before .before .before .before .before .before .before .before .before .before .before .before .spell-two .kept .0, length-set (s .last .0) (s .result) 44)
 
 returns : tie.Need-returns
 returns c =
+    let v = c .before .before .before .before .before .before .before .before .before .before .before .before .before .before .before .before .verdict-number in
     let s = c .before .before .before .before .before .before .before .before .before .before .before .before .before .before .before .before .before .before .before .before .before .before .before in
     let a = s .args in
     let z = a .f .area in
-    wrote-cells (a .number) (a .place) (c .before .before .before .before .before .before .before .before .before .before .before .before .before .before .before .before .verdict-number .result) (a .at) (a .f) (toZ w32 (ofZ w32 z)) (s .pre) (c .before .before .before .before .before .before .before .before .before .before .before .before .before .before .before .before .verdict-number .ensures)
+    wrote-cells (a .number) (a .place) (v .result) (a .at) (a .f) (toZ w32 (ofZ w32 z)) (s .pre) (v .ensures)
     (toZ-ofZ w32 z (record { sfits = c .before .before .before .struct-told .given .1 .1 .1 .1 .1 .1 .0 .1 }))
     (c .before .before .before .before .before .before .before .before .before .before .before .before .before .before .before .before .before .before .before .before .spell-two .ensures) (c .before .before .before .before .before .before .before .before .before .before .before .before .before .before .before .spell-two2 .ensures) (c .before .before .before .before .before .before .before .before .before .before .before .spell-two3 .ensures) (c .before .before .before .before .before .before .before .spell-two4 .ensures) (c .before .before .spell-signed .ensures)
 

@@ -14,23 +14,34 @@ use Rattle.sheet_entry.proofs.enter_polygon.Tie as tie
 
 array-share-prefix-polygon : tie.Need-array-share-prefix-polygon
 array-share-prefix-polygon c =
-    omega (arith, polygon-many (c .before .before .before .before .before .before .before .before .before .args .steps .now) (c .before .before .before .before .before .before .before .before .before .pre .0 .0) (c .before .before .before .before .before .before .before .before .before .pre .0 .1) (c .before .before .before .before .before .write .ensures) refl (c .before .before .n .given .0 .0) (c .before .before .n .given .1) .0, c .before .before .before .before .before .write .kept .1 .1 .0)
+    let p = c .before .before .before .before .before .before .before .before .before .pre in
+    let w = c .before .before .before .before .before .write in
+    omega (arith, polygon-many (c .before .before .before .before .before .before .before .before .before .args .steps .now) (p .0 .0) (p .0 .1) (w .ensures) refl (c .before .before .n .given .0 .0) (c .before .before .n .given .1) .0, w .kept .1 .1 .0)
 
 slice-aggregate-spell-bytes : tie.Need-slice-aggregate-spell-bytes
 slice-aggregate-spell-bytes c =
-    sym (length-take-le (c .before .before .before .n .given .0 .0) (c .before .before .before .before .before .before .write .last .1 .1 .0) (omega (arith, polygon-many (c .before .before .before .before .before .before .before .before .before .before .args .steps .now) (c .before .before .before .before .before .before .before .before .before .before .pre .0 .0) (c .before .before .before .before .before .before .before .before .before .before .pre .0 .1) (c .before .before .before .before .before .before .write .ensures) refl (c .before .before .before .n .given .0 .0) (c .before .before .before .n .given .1) .0, c .before .before .before .before .before .before .write .kept .1 .1 .0)))
+    let p = c .before .before .before .before .before .before .before .before .before .before .pre in
+    let w = c .before .before .before .before .before .before .write in
+    let a = c .before .before .before .n in
+    sym (length-take-le (a .given .0 .0) (w .last .1 .1 .0) (omega (arith, polygon-many (c .before .before .before .before .before .before .before .before .before .before .args .steps .now) (p .0 .0) (p .0 .1) (w .ensures) refl (a .given .0 .0) (a .given .1) .0, w .kept .1 .1 .0)))
 
 spell-bytes-requires : tie.Need-spell-bytes-requires
 spell-bytes-requires c κs =
-    let n = c .before .before .before .n .given .0 .0 in
-    let m = polygon-many (c .before .before .before .before .before .before .before .before .before .before .args .steps .now) (c .before .before .before .before .before .before .before .before .before .before .pre .0 .0) (c .before .before .before .before .before .before .before .before .before .before .pre .0 .1) (c .before .before .before .before .before .before .write .ensures) refl (c .before .before .before .n .given .0 .0) (c .before .before .before .n .given .1) .0 in
-    omega (arith, m, c .before .before .before .before .before .before .before .before .before .before .pre .1, length-take-le n (c .before .before .before .before .before .before .write .last .1 .1 .0) (omega (arith, m, c .before .before .before .before .before .before .write .kept .1 .1 .0)))
+    let p = c .before .before .before .before .before .before .before .before .before .before .pre in
+    let w = c .before .before .before .before .before .before .write in
+    let a = c .before .before .before .n in
+    let n = a .given .0 .0 in
+    let m = polygon-many (c .before .before .before .before .before .before .before .before .before .before .args .steps .now) (p .0 .0) (p .0 .1) (w .ensures) refl (a .given .0 .0) (a .given .1) .0 in
+    omega (arith, m, p .1, length-take-le n (w .last .1 .1 .0) (omega (arith, m, w .kept .1 .1 .0)))
 
 returns : tie.Need-returns
 returns c =
+    let b = c .before .before .before .before .before .before .before .before .before .before .before .before .before .args in
+    let p = c .before .before .before .before .before .before .before .before .before .before .before .before .before .pre in
+    let d = c .before .before .before .before .before .before .n in
     let r = c .before .before .spell-bytes in
-    let a = c .before .before .before .before .before .before .before .before .before .before .before .before .before .args in
-    subst (λ (l : List ℕ). Wrote l (a .at) (a .out .now) (r .result) (r .last .0)) (polygon-many (c .before .before .before .before .before .before .before .before .before .before .before .before .before .args .steps .now) (c .before .before .before .before .before .before .before .before .before .before .before .before .before .pre .0 .0) (c .before .before .before .before .before .before .before .before .before .before .before .before .before .pre .0 .1) (c .before .before .before .before .before .before .before .before .before .write .ensures) refl (c .before .before .before .before .before .before .n .given .0 .0) (c .before .before .before .before .before .before .n .given .1) .1) (r .ensures)
+    let a = b in
+    subst (λ (l : List ℕ). Wrote l (a .at) (a .out .now) (r .result) (r .last .0)) (polygon-many (b .steps .now) (p .0 .0) (p .0 .1) (c .before .before .before .before .before .before .before .before .before .write .ensures) refl (d .given .0 .0) (d .given .1) .1) (r .ensures)
 
 returns-2 : tie.Need-returns-2
 returns-2 c =

@@ -10,7 +10,9 @@ use Rattle.undrwyth.proofs.give_converted.Statement.{statement}
 use Rattle.undrwyth.proofs.give_converted.Tie as tie
 
 turns-words-requires : tie.Need-turns-words-requires
-turns-words-requires c κs = let a = c .before .before .before .before .before .before .args in turns-fit (a .digits .now) (length (a .out .now)) (c .before .before .convert .result) (c .before .before .convert .ensures .answer)
+turns-words-requires c κs =
+    let a = c .before .before .before .before .before .before .args in
+    turns-fit (a .digits .now) (length (a .out .now)) (c .before .before .convert .result) (c .before .before .convert .ensures .answer)
 
 returns : tie.Need-returns
 returns c = record { answer = c .before .before .before .convert .result; converted = c .before .before .before .convert .ensures; words-are = c .turns-words .ensures; result = ap (λ (l : List ℕ). getD l 0 0) (c .turns-words .ensures) }

@@ -7,7 +7,10 @@ use Rattle.undrwyth.proofs.undrwyth_chain_of_polygon.Statement.{stateme
 use Rattle.undrwyth.proofs.undrwyth_chain_of_polygon.Tie as tie
 
 given-words-requires : tie.Need-given-words-requires
-given-words-requires c κs = let a = c .before .before .before .before .before .before .args in let w = c .before .before .read in given-fits (a .file .now) (a .chain .now) (w .result) (w .last .1 .0) (w .ensures)
+given-words-requires c κs =
+    let a = c .before .before .before .before .before .before .args in
+    let w = c .before .before .read in
+    given-fits (a .file .now) (a .chain .now) (w .result) (w .last .1 .0) (w .ensures)
 
 returns : tie.Need-returns
 returns c =

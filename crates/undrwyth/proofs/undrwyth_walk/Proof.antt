@@ -13,7 +13,10 @@ use Rattle.undrwyth.proofs.undrwyth_walk.Statement.{statement}
 use Rattle.undrwyth.proofs.undrwyth_walk.Tie as tie
 
 walk-words-requires : tie.Need-walk-words-requires
-walk-words-requires c κs = let a = c .before .before .before .before .before .before .before .before .before .before .before .before .before .before .args in let w = c .before .before .before .before .before .before .follow in answer-fits _ (a .ops .now) (a .table .now) (a .marks .now) (a .chain .now) (w .result) (w .last .1 .1 .0) (w .last .1 .1 .1 .0) (w .last .1 .1 .1 .1 .0) (w .ensures)
+walk-words-requires c κs =
+    let a = c .before .before .before .before .before .before .before .before .before .before .before .before .before .before .args in
+    let w = c .before .before .before .before .before .before .follow in
+    answer-fits _ (a .ops .now) (a .table .now) (a .marks .now) (a .chain .now) (w .result) (w .last .1 .1 .0) (w .last .1 .1 .1 .0) (w .last .1 .1 .1 .1 .0) (w .ensures)
 
 returns : tie.Need-returns
 returns c =

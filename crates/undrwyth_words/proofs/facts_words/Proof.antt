@@ -17,11 +17,15 @@ cast-t13 c = omega (arith, c .before .before .before .before .before .before .be
 
 returns : tie.Need-returns
 returns c =
+    let v = c .before .before .before .before .before .before .before .before .before .before .before .before .verdict-number in
+    let b = c .before .before .before .before .before .before .before .before .before .bits in
+    let a = c .before .before .before .before .before .before .before .bits2 in
+    let d = c .before .before .before .before .before .bits3 in
     let f = c .before .before .before .before .before .before .before .before .before .before .before .before .before .args .f in
-    accepted-words f (c .before .before .before .before .before .before .before .before .before .before .before .before .verdict-number .result) (c .before .before .before .before .before .before .before .before .before .bits .result) (c .before .before .before .before .before .before .before .bits2 .result) (c .before .before .before .before .before .bits3 .result) (c .before .before .before .before .before .before .before .before .before .before .before .before .verdict-number .ensures)
-    (c .before .before .before .before .before .before .before .before .before .bits .ensures ∙ ap bitsOf (back (f .area) (c .before .before .before .before .before .before .before .before .before .before .struct-told .given .1 .1 .1 .1 .1 .1 .0 .1)))
-    (c .before .before .before .before .before .before .before .bits2 .ensures ∙ ap bitsOf (back (f .last .0) (c .before .before .before .before .before .before .before .before .struct-told2 .given .0 .1)))
-    (c .before .before .before .before .before .bits3 .ensures ∙ ap bitsOf (back (f .last .1) (c .before .before .before .before .before .before .struct-told3 .given .1 .0 .1)))
+    accepted-words f (v .result) (b .result) (a .result) (d .result) (v .ensures)
+    (b .ensures ∙ ap bitsOf (back (f .area) (c .before .before .before .before .before .before .before .before .before .before .struct-told .given .1 .1 .1 .1 .1 .1 .0 .1)))
+    (a .ensures ∙ ap bitsOf (back (f .last .0) (c .before .before .before .before .before .before .before .before .struct-told2 .given .0 .1)))
+    (d .ensures ∙ ap bitsOf (back (f .last .1) (c .before .before .before .before .before .before .struct-told3 .given .1 .0 .1)))
 
 pub facts-words-spec : {M : Type 1} → statement M
 facts-words-spec =

@@ -12,7 +12,9 @@ returns : tie.Need-returns
 returns c = let s = c .before .before .before .before .before in differ (s .args .a) (s .args .b) (λ p. c .if1 .taken (ap (λ (x : Corner). ofZ w32 (x .0)) p))
 
 returns-2 : tie.Need-returns-2
-returns-2 c = let s = c .before .before .before .before .before .before .before .before in differ (s .args .a) (s .args .b) (λ p. c .if2 .taken (ap (λ (x : Corner). ofZ w32 (x .1)) p))
+returns-2 c =
+    let s = c .before .before .before .before .before .before .before .before in
+    differ (s .args .a) (s .args .b) (λ p. c .if2 .taken (ap (λ (x : Corner). ofZ w32 (x .1)) p))
 
 returns-3 : tie.Need-returns-3
 returns-3 c =

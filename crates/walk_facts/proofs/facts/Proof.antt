@@ -16,7 +16,9 @@ verdict-requires : tie.Need-verdict-requires
 verdict-requires c κs = let k = c .before .before .before .before .before .pre .settled in omega (arith, k .steps, k .few)
 
 area-requires : tie.Need-area-requires
-area-requires c κs = let k = c .before .before .before .before .before .before .pre .settled in (k .near, omega (arith, k .steps, k .space), omega (arith, k .steps, k .few))
+area-requires c κs =
+    let k = c .before .before .before .before .before .before .pre .settled in
+    (k .near, omega (arith, k .steps, k .space), omega (arith, k .steps, k .few))
 
 returns : tie.Need-returns
 returns c =

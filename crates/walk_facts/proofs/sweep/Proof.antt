@@ -36,7 +36,9 @@ gained-requires c κs =
     (omega (arith, l .inv .3, l .inv .0, c .before .before .before .before .before .pre .2), subst (λ (z : ℤ). natAbs z ≤ farthest) (sym (back (l .at .0) (c .struct-told .given .0 .1))) (omega (arith, l .inv .1, l .inv .0, c .before .before .before .before .before .pre .2)))
 
 moved-requires : tie.Need-moved-requires Inv-loop μ-loop
-moved-requires c κs = let l = c .before .before .before .before .loop in (omega (arith, l .inv .1, l .inv .0, c .before .before .before .before .before .before .pre .2), omega (arith, l .inv .2, l .inv .0, c .before .before .before .before .before .before .pre .2))
+moved-requires c κs =
+    let l = c .before .before .before .before .loop in
+    (omega (arith, l .inv .1, l .inv .0, c .before .before .before .before .before .before .pre .2), omega (arith, l .inv .2, l .inv .0, c .before .before .before .before .before .before .pre .2))
 
 add-i : tie.Need-add-i Inv-loop μ-loop
 add-i c = omega (arith, c .before .before .before .before .before .before .before .pre .2)

@@ -88,34 +88,43 @@ child-requires c κs =
 
 returns : tie.Need-returns Inv-loop μ-loop
 returns c =
+    let b = c .before .before .before .before .before .greater in
+    let e = c .before .before .before .before .child-word2 in
+    let f = c .before .before .before .child in
     let s = c .before .before .before .before .before .before .before .before .before .before .before .before .before .before .before in
     let a = s .args in
     let l = c .before .before .before .before .before .before .before .before .before .before .before .before .before .loop in
     let q = s .pre .1 in
     let more : 0 < l .left = omega (arith, c .before .before .before .before .before .before .before .before .before .before .before .before .loop-test .taken) in
     λ S x.
-    let g = step-grew (l .t) (a .nodes) (l .at) (l .to) (a .c) (a .d) (a .step) (l .left) S (l .inv .2 S x) more (q .2) (q .3) (l .inv .1) (c .before .before .before .before .before .greater .result) (c .before .before .before .before .child-word2 .result) (c .before .before .before .before .before .greater .ensures) (c .before .before .before .before .child-word2 .ensures ∙ ap childWord (c .before .before .before .before .before .before .before .moved .ensures ∙ ap (stepped (a .d)) (c .before .before .before .before .before .before .before .before .before .before .before .up-by .ensures))) (c .before .before .before .child .last .0) (c .before .before .before .child .result) (c .before .before .before .child .ensures .0) in
-    subst (λ (w : ℕ). Made w (reached S (a .step) (a .c) (stepped (a .d) (a .c))) (stepped (a .d) (a .c)) (c .before .before .before .child .last .0) (c .before .before .before .child .result) (max (a .nodes) (c .before .before .before .child .result))) (l .inv .0)
-    (step-none (l .t) (a .nodes) (l .at) (l .to) (a .c) (a .d) (a .step) (l .left) S (l .inv .2 S x) more (q .2) (q .3) (l .inv .1) (c .before .before .before .child .last .0) (c .before .before .before .child .result) g (c .if1 .taken))
+    let g = step-grew (l .t) (a .nodes) (l .at) (l .to) (a .c) (a .d) (a .step) (l .left) S (l .inv .2 S x) more (q .2) (q .3) (l .inv .1) (b .result) (e .result) (b .ensures) (e .ensures ∙ ap childWord (c .before .before .before .before .before .before .before .moved .ensures ∙ ap (stepped (a .d)) (c .before .before .before .before .before .before .before .before .before .before .before .up-by .ensures))) (f .last .0) (f .result) (f .ensures .0) in
+    subst (λ (w : ℕ). Made w (reached S (a .step) (a .c) (stepped (a .d) (a .c))) (stepped (a .d) (a .c)) (f .last .0) (f .result) (max (a .nodes) (f .result))) (l .inv .0)
+    (step-none (l .t) (a .nodes) (l .at) (l .to) (a .c) (a .d) (a .step) (l .left) S (l .inv .2 S x) more (q .2) (q .3) (l .inv .1) (f .last .0) (f .result) g (c .if1 .taken))
 
 sub-link : tie.Need-sub-link Inv-loop μ-loop
 sub-link c = omega (arith, c .before .if1 .left)
 
 link-requires : tie.Need-link-requires Inv-loop μ-loop
 link-requires c κs =
+    let u = c .before .before .before .before .before .before .before .before .before .before .before .before .up-by in
+    let b = c .before .before .before .before .before .before .before .before .before .before .child-word in
+    let e = c .before .before .before .before .before .before .before .before .before .word in
+    let i = c .before .before .before .before .before .before .greater in
+    let j = c .before .before .before .before .before .child-word2 in
+    let n = c .before .before .before .before .child in
     let s = c .before .before .before .before .before .before .before .before .before .before .before .before .before .before .before .before in
     let a = s .args in
     let l = c .before .before .before .before .before .before .before .before .before .before .before .before .before .before .loop in
     let q = s .pre .1 in
     let k = s .pre .0 in
     let more : 0 < l .left = omega (arith, c .before .before .before .before .before .before .before .before .before .before .before .before .before .loop-test .taken) in
-    let v = c .before .before .before .before .child in
-    let g = step-grew (l .t) (a .nodes) (l .at) (l .to) (a .c) (a .d) (a .step) (l .left) (k .state) (l .inv .2 (k .state) (k .descends)) more (q .2) (q .3) (l .inv .1) (c .before .before .before .before .before .before .greater .result) (c .before .before .before .before .before .child-word2 .result) (c .before .before .before .before .before .before .greater .ensures) (c .before .before .before .before .before .child-word2 .ensures ∙ ap childWord (c .before .before .before .before .before .before .before .before .moved .ensures ∙ ap (stepped (a .d)) (c .before .before .before .before .before .before .before .before .before .before .before .before .up-by .ensures))) (c .before .before .before .before .child .last .0) (c .before .before .before .before .child .result) (c .before .before .before .before .child .ensures .0) in
+    let v = n in
+    let g = step-grew (l .t) (a .nodes) (l .at) (l .to) (a .c) (a .d) (a .step) (l .left) (k .state) (l .inv .2 (k .state) (k .descends)) more (q .2) (q .3) (l .inv .1) (i .result) (j .result) (i .ensures) (j .ensures ∙ ap childWord (c .before .before .before .before .before .before .before .before .moved .ensures ∙ ap (stepped (a .d)) (u .ensures))) (n .last .0) (n .result) (n .ensures .0) in
     let f : v .result ≡ 0 → ⊥ = λ z. c .before .if1 .left z in
     let h = step-bounds (l .t) (a .nodes) (l .at) (l .to) (a .c) (a .d) (a .step) (l .left) (k .state) (l .inv .2 (k .state) (k .descends)) more (q .2) (q .3) (l .inv .1) (v .last .0) (v .result) g f in
-    let w : c .before .before .before .before .before .before .before .before .before .before .child-word .result ≡ childWord (upBy (l .left - 1) (a .c)) = c .before .before .before .before .before .before .before .before .before .before .child-word .ensures ∙ ap childWord (c .before .before .before .before .before .before .before .before .before .before .before .before .up-by .ensures) in
-    let r = c .before .before .before .before .before .before .before .before .before .word .ensures ∙ ap (λ (x : ℕ). getD (l .t) (wordAt (l .at) x) 0) w in
-    let m = step-number (l .t) (a .nodes) (l .at) (l .to) (a .c) (a .d) (a .step) (l .left) (k .state) (l .inv .2 (k .state) (k .descends)) more (q .2) (q .3) (l .inv .1) (c .before .before .before .before .before .before .before .before .before .word .result) r in
+    let w : b .result ≡ childWord (upBy (l .left - 1) (a .c)) = b .ensures ∙ ap childWord (u .ensures) in
+    let r = e .ensures ∙ ap (λ (x : ℕ). getD (l .t) (wordAt (l .at) x) 0) w in
+    let m = step-number (l .t) (a .nodes) (l .at) (l .to) (a .c) (a .d) (a .step) (l .left) (k .state) (l .inv .2 (k .state) (k .descends)) more (q .2) (q .3) (l .inv .1) (e .result) r in
     ((omega (arith, m .1, h .0), h .1), (q .2, omega (arith, h .2, l .inv .0, q .4)))
 
 loop-less : tie.Need-loop-less Inv-loop μ-loop
@@ -124,17 +133,24 @@ loop-less c =
 
 loop-again : tie.Need-loop-again Inv-loop μ-loop
 loop-again c =
+    let b = c .before .before .before .before .before .before .before .before .before .before .before .before .before .before .before .up-by in
+    let e = c .before .before .before .before .before .before .before .before .before .before .before .before .before .child-word in
+    let g = c .before .before .before .before .before .before .before .before .before .before .before .before .word in
+    let h = c .before .before .before .before .before .before .before .before .before .greater in
+    let i = c .before .before .before .before .before .before .before .before .child-word2 in
+    let j = c .before .before .before .before .before .before .before .child in
+    let m = c .before .before .link in
     let s = c .before .before .before .before .before .before .before .before .before .before .before .before .before .before .before .before .before .before .before in
     let a = s .args in
     let l = c .before .before .before .before .before .before .before .before .before .before .before .before .before .before .before .before .before .loop in
     let q = s .pre .1 in
     let k = s .pre .0 in
     let more : 0 < l .left = omega (arith, c .before .before .before .before .before .before .before .before .before .before .before .before .before .before .before .before .loop-test .taken) in
-    let v = c .before .before .before .before .before .before .before .child in
+    let v = j in
     let f : v .result ≡ 0 → ⊥ = λ z. c .before .before .before .before .if1 .left z in
-    let w : c .before .before .before .before .before .before .before .before .before .before .before .before .before .child-word .result ≡ childWord (upBy (l .left - 1) (a .c)) = c .before .before .before .before .before .before .before .before .before .before .before .before .before .child-word .ensures ∙ ap childWord (c .before .before .before .before .before .before .before .before .before .before .before .before .before .before .before .up-by .ensures) in
-    let r = c .before .before .before .before .before .before .before .before .before .before .before .before .word .ensures ∙ ap (λ (x : ℕ). getD (l .t) (wordAt (l .at) x) 0) w in
-    let next : (S : State) → Descends (a .t .now) (a .nodes) (a .u) (a .v) (a .c) (a .d) (a .step) (a .level) S → Descends (c .before .before .link .last .0) (a .nodes) (c .before .before .before .before .before .before .before .before .before .before .before .before .word .result - 1) (v .result) (a .c) (a .d) (a .step) (l .left - 1) S × (length (c .before .before .link .last .0) ≡ length (l .t)) = λ S x. step-next (l .t) (a .nodes) (l .at) (l .to) (a .c) (a .d) (a .step) (l .left) S (l .inv .2 S x) more (q .2) (q .3) (l .inv .1) (v .last .0) (v .result) (step-grew (l .t) (a .nodes) (l .at) (l .to) (a .c) (a .d) (a .step) (l .left) S (l .inv .2 S x) more (q .2) (q .3) (l .inv .1) (c .before .before .before .before .before .before .before .before .before .greater .result) (c .before .before .before .before .before .before .before .before .child-word2 .result) (c .before .before .before .before .before .before .before .before .before .greater .ensures) (c .before .before .before .before .before .before .before .before .child-word2 .ensures ∙ ap childWord (c .before .before .before .before .before .before .before .before .before .before .before .moved .ensures ∙ ap (stepped (a .d)) (c .before .before .before .before .before .before .before .before .before .before .before .before .before .before .before .up-by .ensures))) (c .before .before .before .before .before .before .before .child .last .0) (c .before .before .before .before .before .before .before .child .result) (c .before .before .before .before .before .before .before .child .ensures .0)) f (c .before .before .before .before .before .before .before .before .before .before .before .before .word .result - 1) (step-number (l .t) (a .nodes) (l .at) (l .to) (a .c) (a .d) (a .step) (l .left) S (l .inv .2 S x) more (q .2) (q .3) (l .inv .1) (c .before .before .before .before .before .before .before .before .before .before .before .before .word .result) r .1) (c .before .before .link .last .0) (c .before .before .link .ensures) in
+    let w : e .result ≡ childWord (upBy (l .left - 1) (a .c)) = e .ensures ∙ ap childWord (b .ensures) in
+    let r = g .ensures ∙ ap (λ (x : ℕ). getD (l .t) (wordAt (l .at) x) 0) w in
+    let next : (S : State) → Descends (a .t .now) (a .nodes) (a .u) (a .v) (a .c) (a .d) (a .step) (a .level) S → Descends (m .last .0) (a .nodes) (g .result - 1) (v .result) (a .c) (a .d) (a .step) (l .left - 1) S × (length (m .last .0) ≡ length (l .t)) = λ S x. step-next (l .t) (a .nodes) (l .at) (l .to) (a .c) (a .d) (a .step) (l .left) S (l .inv .2 S x) more (q .2) (q .3) (l .inv .1) (v .last .0) (v .result) (step-grew (l .t) (a .nodes) (l .at) (l .to) (a .c) (a .d) (a .step) (l .left) S (l .inv .2 S x) more (q .2) (q .3) (l .inv .1) (h .result) (i .result) (h .ensures) (i .ensures ∙ ap childWord (c .before .before .before .before .before .before .before .before .before .before .before .moved .ensures ∙ ap (stepped (a .d)) (b .ensures))) (j .last .0) (j .result) (j .ensures .0)) f (g .result - 1) (step-number (l .t) (a .nodes) (l .at) (l .to) (a .c) (a .d) (a .step) (l .left) S (l .inv .2 S x) more (q .2) (q .3) (l .inv .1) (g .result) r .1) (m .last .0) (m .ensures) in
     (next (k .state) (k .descends) .1 ∙ l .inv .0, omega (arith, f), λ S x. next S x .0)
 
 returns-2 : tie.Need-returns-2 Inv-loop μ-loop

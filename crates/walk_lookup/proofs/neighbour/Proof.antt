@@ -37,25 +37,28 @@ returns c =
 
 come-down-requires : tie.Need-come-down-requires
 come-down-requires c κs =
+    let b = c .before .before .before .before .top in
     let s = c .before .before .before .before .before .before .before .before .before in
     let a = s .args in
     let k = s .pre .0 in
     let q = s .pre .1 in
     let p = c .before .before .before .before .before .before .climb in
-    let f : c .before .before .before .before .top .result ≡ 0 → ⊥ = λ z. c .before .if1 .left z in
-    let d = level-descends (a .t .now) (a .nodes) (a .u) (a .c) (a .d) (a .step) (k .state) (k .holds) (k .here) (q .2) (q .3) (p .result .level) (p .result .node) (p .result .at) (p .ensures .0 (k .state) (k .holds) (k .here) .0) (p .ensures .0 (k .state) (k .holds) (k .here) .1) (c .before .before .before .before .top .last .0) (c .before .before .before .before .top .result) (c .before .before .before .before .top .ensures (k .state) (k .holds) (p .ensures .0 (k .state) (k .holds) (k .here) .1)) f in
+    let f : b .result ≡ 0 → ⊥ = λ z. c .before .if1 .left z in
+    let d = level-descends (a .t .now) (a .nodes) (a .u) (a .c) (a .d) (a .step) (k .state) (k .holds) (k .here) (q .2) (q .3) (p .result .level) (p .result .node) (p .result .at) (p .ensures .0 (k .state) (k .holds) (k .here) .0) (p .ensures .0 (k .state) (k .holds) (k .here) .1) (b .last .0) (b .result) (b .ensures (k .state) (k .holds) (p .ensures .0 (k .state) (k .holds) (k .here) .1)) f in
     (record { state = k .state; descends = d .0 }, (q .0, q .1, q .2, q .3, omega (arith, d .1, q .4), omega (arith, f)))
 
 returns-2 : tie.Need-returns-2
 returns-2 c =
+    let b = c .before .before .before .before .before .before .before .top in
+    let e = c .before .before .come-down in
     let s = c .before .before .before .before .before .before .before .before .before .before .before .before in
     let a = s .args in
     let q = s .pre .1 in
     let p = c .before .before .before .before .before .before .before .before .before .climb in
-    let f : c .before .before .before .before .before .before .before .top .result ≡ 0 → ⊥ = λ z. c .before .before .before .before .if1 .left z in
+    let f : b .result ≡ 0 → ⊥ = λ z. c .before .before .before .before .if1 .left z in
     λ S h r.
-    let d = level-descends (a .t .now) (a .nodes) (a .u) (a .c) (a .d) (a .step) S h r (q .2) (q .3) (p .result .level) (p .result .node) (p .result .at) (p .ensures .0 S h r .0) (p .ensures .0 S h r .1) (c .before .before .before .before .before .before .before .top .last .0) (c .before .before .before .before .before .before .before .top .result) (c .before .before .before .before .before .before .before .top .ensures S h (p .ensures .0 S h r .1)) f in
-    subst (λ (w : ℕ). Made w (reached S (a .step) (a .c) (stepped (a .d) (a .c))) (stepped (a .d) (a .c)) (c .before .before .come-down .last .0) (c .before .before .come-down .result) (max (a .nodes) (c .before .before .come-down .result))) (d .1) (c .before .before .come-down .ensures S (d .0))
+    let d = level-descends (a .t .now) (a .nodes) (a .u) (a .c) (a .d) (a .step) S h r (q .2) (q .3) (p .result .level) (p .result .node) (p .result .at) (p .ensures .0 S h r .0) (p .ensures .0 S h r .1) (b .last .0) (b .result) (b .ensures S h (p .ensures .0 S h r .1)) f in
+    subst (λ (w : ℕ). Made w (reached S (a .step) (a .c) (stepped (a .d) (a .c))) (stepped (a .d) (a .c)) (e .last .0) (e .result) (max (a .nodes) (e .result))) (d .1) (e .ensures S (d .0))
 
 pub neighbour-spec : {M : Type 1} → statement M
 neighbour-spec =

@@ -68,6 +68,9 @@ child-requires c κs =
 
 returns-3 : tie.Need-returns-3
 returns-3 c =
+    let p = c .before .before .before .before .before .before .parent-or-self in
+    let b = c .before .before .before .before .child-word in
+    let e = c .before .before .before .child in
     let s = c .before .before .before .before .before .before .before .before .before .before .before .before .before .before .before in
     let a = s .args in
     let q = s .pre .1 .0 in
@@ -76,10 +79,13 @@ returns-3 c =
     let none = sym z ∙ w .ensures in
     let m = c .before .before .before .before .before .before .before .before .before .before .moved .ensures in
     let g = ap isRoot (sym m) ∙ sym (c .before .before .before .before .before .before .before .before .before .is-root .ensures) ∙ c .before .before .before .before .before .before .before .before .if2 .left in
-    λ S h r. top-none (a .t .now) (a .nodes) (a .u) (a .c) (a .d) (a .step) S h r (q .2) (q .3) (s .pre .1 .1) none g (c .before .before .before .before .before .before .parent-or-self .result) (c .before .before .before .before .before .before .parent-or-self .ensures) (c .before .before .before .child .last .0) (c .before .before .before .child .result) (c .before .before .before .before .child-word .result) (c .before .before .before .before .child-word .ensures ∙ ap childWord m) (c .before .before .before .child .ensures .0) (c .if3 .taken)
+    λ S h r. top-none (a .t .now) (a .nodes) (a .u) (a .c) (a .d) (a .step) S h r (q .2) (q .3) (s .pre .1 .1) none g (p .result) (p .ensures) (e .last .0) (e .result) (b .result) (b .ensures ∙ ap childWord m) (e .ensures .0) (c .if3 .taken)
 
 link-requires-2 : tie.Need-link-requires-2
 link-requires-2 c κs =
+    let p = c .before .before .before .before .before .before .before .parent-or-self in
+    let b = c .before .before .before .before .before .child-word in
+    let e = c .before .before .before .before .child in
     let s = c .before .before .before .before .before .before .before .before .before .before .before .before .before .before .before .before in
     let a = s .args in
     let k = s .pre .0 in
@@ -89,12 +95,15 @@ link-requires-2 c κs =
     let none = sym z ∙ w .ensures in
     let m = c .before .before .before .before .before .before .before .before .before .before .before .moved .ensures in
     let g = ap isRoot (sym m) ∙ sym (c .before .before .before .before .before .before .before .before .before .before .is-root .ensures) ∙ c .before .before .before .before .before .before .before .before .before .if2 .left in
-    let f : c .before .before .before .before .child .result ≡ 0 → ⊥ = λ y. c .before .if3 .left y in
-    let l = top-bounds (a .t .now) (a .nodes) (a .u) (a .c) (a .d) (a .step) (k .state) (k .holds) (k .here) (q .2) (q .3) (s .pre .1 .1) none g (c .before .before .before .before .before .before .before .parent-or-self .result) (c .before .before .before .before .before .before .before .parent-or-self .ensures) (c .before .before .before .before .child .last .0) (c .before .before .before .before .child .result) (c .before .before .before .before .before .child-word .result) (c .before .before .before .before .before .child-word .ensures ∙ ap childWord m) (c .before .before .before .before .child .ensures .0) f in
+    let f : e .result ≡ 0 → ⊥ = λ y. c .before .if3 .left y in
+    let l = top-bounds (a .t .now) (a .nodes) (a .u) (a .c) (a .d) (a .step) (k .state) (k .holds) (k .here) (q .2) (q .3) (s .pre .1 .1) none g (p .result) (p .ensures) (e .last .0) (e .result) (b .result) (b .ensures ∙ ap childWord m) (e .ensures .0) f in
     ((l .0, l .1), (q .2, omega (arith, l .2, q .4)))
 
 returns-4 : tie.Need-returns-4
 returns-4 c =
+    let p = c .before .before .before .before .before .before .before .before .before .before .parent-or-self in
+    let b = c .before .before .before .before .before .before .before .before .child-word in
+    let e = c .before .before .before .before .before .before .before .child in
     let s = c .before .before .before .before .before .before .before .before .before .before .before .before .before .before .before .before .before .before .before in
     let a = s .args in
     let q = s .pre .1 .0 in
@@ -103,8 +112,8 @@ returns-4 c =
     let none = sym z ∙ w .ensures in
     let m = c .before .before .before .before .before .before .before .before .before .before .before .before .before .before .moved .ensures in
     let g = ap isRoot (sym m) ∙ sym (c .before .before .before .before .before .before .before .before .before .before .before .before .before .is-root .ensures) ∙ c .before .before .before .before .before .before .before .before .before .before .before .before .if2 .left in
-    let f : c .before .before .before .before .before .before .before .child .result ≡ 0 → ⊥ = λ y. c .before .before .before .before .if3 .left y in
-    λ S h r. subst (λ (l : List ℕ). Made (length (a .t .now)) (reached S (a .step) (a .c) (stepped (a .d) (a .c))) (stepped (a .d) (a .c)) l (c .before .before .before .before .before .before .before .child .result) (max (a .nodes) (c .before .before .before .before .before .before .before .child .result))) (sym (c .before .before .link2 .ensures)) (top-linked (a .t .now) (a .nodes) (a .u) (a .c) (a .d) (a .step) S h r (q .2) (q .3) (s .pre .1 .1) none g (c .before .before .before .before .before .before .before .before .before .before .parent-or-self .result) (c .before .before .before .before .before .before .before .before .before .before .parent-or-self .ensures) (c .before .before .before .before .before .before .before .child .last .0) (c .before .before .before .before .before .before .before .child .result) (c .before .before .before .before .before .before .before .before .child-word .result) (c .before .before .before .before .before .before .before .before .child-word .ensures ∙ ap childWord m) (c .before .before .before .before .before .before .before .child .ensures .0) f)
+    let f : e .result ≡ 0 → ⊥ = λ y. c .before .before .before .before .if3 .left y in
+    λ S h r. subst (λ (l : List ℕ). Made (length (a .t .now)) (reached S (a .step) (a .c) (stepped (a .d) (a .c))) (stepped (a .d) (a .c)) l (e .result) (max (a .nodes) (e .result))) (sym (c .before .before .link2 .ensures)) (top-linked (a .t .now) (a .nodes) (a .u) (a .c) (a .d) (a .step) S h r (q .2) (q .3) (s .pre .1 .1) none g (p .result) (p .ensures) (e .last .0) (e .result) (b .result) (b .ensures ∙ ap childWord m) (e .ensures .0) f)
 
 pub top-spec : {M : Type 1} → statement M
 top-spec =

@@ -32,10 +32,14 @@ less : (a b : Corner) → isRoot a ≡ false → b ≡ parentOf a → sizeOf b <
 less a b e q = subst (λ (x : Corner). sizeOf x < sizeOf a) (sym q) (sizeOf-parentOf a e)
 
 loop-less : tie.Need-loop-less Inv-loop μ-loop
-loop-less c = let l = c .before .before .before .loop in less (l .at) (c .parent-of .result) (sym (c .before .before .is-root .ensures) ∙ not-true (c .before .before .is-root .result) (c .before .if1 .taken)) (c .parent-of .ensures)
+loop-less c =
+    let l = c .before .before .before .loop in
+    less (l .at) (c .parent-of .result) (sym (c .before .before .is-root .ensures) ∙ not-true (c .before .before .is-root .result) (c .before .if1 .taken)) (c .parent-of .ensures)
 
 loop-again : tie.Need-loop-again Inv-loop μ-loop
-loop-again c = let l = c .before .before .before .loop in climb-next (c .before .before .before .before .args .c) (l .at) (c .parent-of .result) (l .levels) (l .inv) (sym (c .before .before .is-root .ensures) ∙ not-true (c .before .before .is-root .result) (c .before .if1 .taken)) (c .parent-of .ensures)
+loop-again c =
+    let l = c .before .before .before .loop in
+    climb-next (c .before .before .before .before .args .c) (l .at) (c .parent-of .result) (l .levels) (l .inv) (sym (c .before .before .is-root .ensures) ∙ not-true (c .before .before .is-root .result) (c .before .if1 .taken)) (c .parent-of .ensures)
 
 returns : tie.Need-returns Inv-loop μ-loop
 returns c =

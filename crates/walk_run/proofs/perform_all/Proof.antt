@@ -49,16 +49,17 @@ perform-requires c κs =
 
 returns : tie.Need-returns Inv-loop μ-loop
 returns c =
+    let d = c .before .before .before .before .before .before .before .before .before .before .before .before .before .before .before .new in
     let s = c .before .before .before .before .before .before .before .before .before .before .before .before .before .before .before .before .before .before .before .before in
     let a = s .args in
     let l = c .before .before .before .before .before .before .before .before .before .before .before .before .before .before .loop in
     let W = length (a .t .now) in
-    let C = c .before .before .before .before .before .before .before .before .before .before .before .before .before .before .before .new .result .spot .at in
+    let C = d .result .spot .at in
     let m : l .i < length (a .ops .now) = omega (arith, c .before .before .before .before .before .before .before .before .before .before .before .before .before .loop-test .taken) in
     let b = c .before .before .before .before .before .before .before .before .perform in
     let f : (x : Corner) (ds : List ℕ) → Chained x (l .t) (l .chain) ds (l .w) → Performed W (l .marks) (l .i) x (b .last .0) (b .last .1 .0) (b .last .1 .1 .0) ds (operate ds (getD (a .ops .now) (l .i) 0)) (b .result) =
     λ x ds h. subst (λ (n : ℕ). Performed n (l .marks) (l .i) x (b .last .0) (b .last .1 .0) (b .last .1 .1 .0) ds (operate ds (getD (a .ops .now) (l .i) 0)) (b .result)) (l .inv .0) (b .ensures x ds h) in
-    subst (λ (x : Corner). (roomFrom (recordsIn W) x 0 [] (a .ops .now) ≡ Refused (NoRoom (l .i))) × (b .last .0 ≡ replicate W 0)) (from (c .before .before .before .before .before .before .before .before .before .before .before .before .before .before .before .new .ensures)) (running-full W C (a .ops .now) (l .t) (l .marks) (l .chain) (l .w) (l .i) (l .inv .4) m (b .last .0) (b .last .1 .0) (b .last .1 .1 .0) (b .result) (f C) (c .enum-told .given .1))
+    subst (λ (x : Corner). (roomFrom (recordsIn W) x 0 [] (a .ops .now) ≡ Refused (NoRoom (l .i))) × (b .last .0 ≡ replicate W 0)) (from (d .ensures)) (running-full W C (a .ops .now) (l .t) (l .marks) (l .chain) (l .w) (l .i) (l .inv .4) m (b .last .0) (b .last .1 .0) (b .last .1 .1 .0) (b .result) (f C) (c .enum-told .given .1))
 
 add-i : tie.Need-add-i Inv-loop μ-loop
 add-i c = omega (arith, c .before .before .before .before .before .before .before .before .before .before .before .before .before .before .loop-test .taken, c .before .before .before .before .before .before .before .before .before .before .before .before .before .before .before .before .before .before .before .before .before .pre .1 .0 .2)
