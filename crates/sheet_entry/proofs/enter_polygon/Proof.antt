@@ -36,12 +36,11 @@ spell-bytes-requires c κs =
 
 returns : tie.Need-returns
 returns c =
-    let b = c .before .before .before .before .before .before .before .before .before .before .before .before .before .args in
+    let a = c .before .before .before .before .before .before .before .before .before .before .before .before .before .args in
     let p = c .before .before .before .before .before .before .before .before .before .before .before .before .before .pre in
     let d = c .before .before .before .before .before .before .n in
     let r = c .before .before .spell-bytes in
-    let a = b in
-    subst (λ (l : List ℕ). Wrote l (a .at) (a .out .now) (r .result) (r .last .0)) (polygon-many (b .steps .now) (p .0 .0) (p .0 .1) (c .before .before .before .before .before .before .before .before .before .write .ensures) refl (d .given .0 .0) (d .given .1) .1) (r .ensures)
+    subst (λ (l : List ℕ). Wrote l (a .at) (a .out .now) (r .result) (r .last .0)) (polygon-many (a .steps .now) (p .0 .0) (p .0 .1) (c .before .before .before .before .before .before .before .before .before .write .ensures) refl (d .given .0 .0) (d .given .1) .1) (r .ensures)
 
 returns-2 : tie.Need-returns-2
 returns-2 c =
