@@ -3,7 +3,7 @@
 use borrow.Author.Needs.{needs}
 use native.Mathlib.Omega.{arith}
 use mathlib.Core.Path.{_≡_, refl, sym, _∙_, subst}
-use Prim.Native.Nat.{_+_, _-_, _≤_}
+use Prim.Native.Nat.{_+_, _-_, _<_, _≤_}
 use lib.ListN.{length}
 use lib.IntN.{natAbs}
 use Rattle.answer.specs.Limits.{farthest}
@@ -38,23 +38,43 @@ further-requires-2 c κs = omega (arith, c .before .before .before .before .befo
 put-end-requires : tie.Need-put-end-requires Inv-loop μ-loop
 put-end-requires c κs =
     let z = c .before .before .before .before .before .before .before .before .before .before .before .before in
-    let w = c .before .before .before .before .before .before .before .before .before .before .before .loop .inv .0 in
     let l = c .before .before .before .before .before .before .before .before .before .before .before .loop in
-    let s = stop-small (z .args .part) (z .args .a .now) (l .i) (z .args .na) (z .args .b .now) (l .j) (z .args .nb) (c .before .before .before .before .before .before .before .before .before .first-end .result) (c .before .before .before .before .before .before .before .before .second-end .result) (c .before .before .before .before .before .before .before .comes .result) (c .before .before .before .before .before .before .comes2 .result) (c .before .before .before .before .before .before .before .before .before .first-end .ensures) (c .before .before .before .before .before .before .before .before .second-end .ensures) (c .before .before .before .before .before .before .before .comes .ensures) (c .before .before .before .before .before .before .comes2 .ensures) (omega arith) (z .pre .0) (z .pre .1) (w .first) (w .second) in
+    let more : l .i + l .j < z .args .na + z .args .nb = omega arith in
+    let f = c .before .before .before .before .before .before .before .before .before .first-end in
+    let e = c .before .before .before .before .before .before .before .before .second-end in
+    let g = c .before .before .before .before .before .before .before .comes in
+    let h = c .before .before .before .before .before .before .comes2 in
+    let w = l .inv .0 in
+    let s = stop-small (z .args .part) (z .args .a .now) (l .i) (z .args .na) (z .args .b .now) (l .j) (z .args .nb) (f .result) (e .result) (g .result) (h .result) (f .ensures) (e .ensures) (g .ensures) (h .ensures) more (z .pre .0) (z .pre .1) (w .first) (w .second) in
     (omega (arith, w .few, w .first, w .second, z .pre .0 .few, z .pre .1 .few), subst (λ (v : Corner). natAbs (v .0) ≤ farthest) (sym (c .next-end .ensures)) s)
 
 loop-less : tie.Need-loop-less Inv-loop μ-loop
 loop-less c =
     let z = c .before .before .before .before .before .before .before .before .before .before .before .before .before .before in
     let l = c .before .before .before .before .before .before .before .before .before .before .before .before .before .loop in
-    let s = swept-nearer (z .args .part) (z .args .a .now) (l .i) (z .args .na) (z .args .b .now) (l .j) (z .args .nb) (c .before .before .before .before .before .before .before .before .before .before .before .first-end .result) (c .before .before .before .before .before .before .before .before .before .before .second-end .result) (c .before .before .before .before .before .before .before .before .before .comes .result) (c .before .before .before .before .before .before .before .before .comes2 .result) (c .before .before .before .before .before .before .before .before .before .before .before .first-end .ensures) (c .before .before .before .before .before .before .before .before .before .before .second-end .ensures) (c .before .before .before .before .before .before .before .before .before .comes .ensures) (c .before .before .before .before .before .before .before .before .comes2 .ensures) (omega arith) (l .inv .0 .first) (l .inv .0 .second) in
+    let more : l .i + l .j < z .args .na + z .args .nb = omega arith in
+    let f = c .before .before .before .before .before .before .before .before .before .before .before .first-end in
+    let d = c .before .before .before .before .before .before .before .before .before .before .second-end in
+    let e = c .before .before .before .before .before .before .before .before .before .comes in
+    let g = c .before .before .before .before .before .before .before .before .comes2 in
+    let s = swept-nearer (z .args .part) (z .args .a .now) (l .i) (z .args .na) (z .args .b .now) (l .j) (z .args .nb) (f .result) (d .result) (e .result) (g .result) (f .ensures) (d .ensures) (e .ensures) (g .ensures) more (l .inv .0 .first) (l .inv .0 .second) in
     omega (arith, s .0, s .1, s .2, c .before .before .before .before .before .before .further .ensures, c .before .before .before .before .before .further2 .ensures)
 
 loop-again : tie.Need-loop-again Inv-loop μ-loop
 loop-again c =
     let z = c .before .before .before .before .before .before .before .before .before .before .before .before .before .before in
     let l = c .before .before .before .before .before .before .before .before .before .before .before .before .before .loop in
-    (swept (z .args .part) (z .args .a .now) (l .i) (z .args .na) (z .args .b .now) (l .j) (z .args .nb) (c .before .before .before .before .before .before .before .before .before .before .before .first-end .result) (c .before .before .before .before .before .before .before .before .before .before .second-end .result) (c .before .before .before .before .before .before .before .before .before .comes .result) (c .before .before .before .before .before .before .before .before .comes2 .result) (c .before .before .before .before .before .before .before .before .before .before .before .first-end .ensures) (c .before .before .before .before .before .before .before .before .before .before .second-end .ensures) (c .before .before .before .before .before .before .before .before .before .comes .ensures) (c .before .before .before .before .before .before .before .before .comes2 .ensures) (omega arith) (l .o) (z .args .out .now) (l .out) (l .inv .0) (c .before .before .before .before .before .before .further .result) (c .before .before .before .before .before .further2 .result) (c .before .put-end .result) (c .before .before .before .before .before .before .before .has .result) (c .before .before .before .has2 .result) (c .before .before .next-end .result) (c .before .put-end .last .0) (c .before .before .before .before .before .before .further .ensures) (c .before .before .before .before .before .further2 .ensures) (c .before .before .before .before .before .before .before .has .ensures) (c .before .before .before .has2 .ensures) (c .before .before .next-end .ensures) (c .before .put-end .ensures .0) (c .before .put-end .ensures .1), c .before .put-end .kept .0 ∙ l .inv .1)
+    let more : l .i + l .j < z .args .na + z .args .nb = omega arith in
+    let f = c .before .before .before .before .before .before .before .before .before .before .before .first-end in
+    let s = c .before .before .before .before .before .before .before .before .before .before .second-end in
+    let d = c .before .before .before .before .before .before .before .before .before .comes in
+    let e = c .before .before .before .before .before .before .before .before .comes2 in
+    let h = c .before .before .before .before .before .before .before .has in
+    let g = c .before .before .before .before .before .before .further in
+    let k = c .before .before .before .before .before .further2 in
+    let m = c .before .before .before .has2 in
+    let p = c .before .put-end in
+    (swept (z .args .part) (z .args .a .now) (l .i) (z .args .na) (z .args .b .now) (l .j) (z .args .nb) (f .result) (s .result) (d .result) (e .result) (f .ensures) (s .ensures) (d .ensures) (e .ensures) more (l .o) (z .args .out .now) (l .out) (l .inv .0) (g .result) (k .result) (p .result) (h .result) (m .result) (c .before .before .next-end .result) (p .last .0) (g .ensures) (k .ensures) (h .ensures) (m .ensures) (c .before .before .next-end .ensures) (p .ensures .0) (p .ensures .1), p .kept .0 ∙ l .inv .1)
 
 same-length : tie.Need-same-length Inv-loop μ-loop
 same-length c = c .before .loop .inv .1
