@@ -39,7 +39,7 @@ use Rattle.table_laws.proofs.StateLaws.{by-mem, grown-known, grown-new,
 use Rattle.table_laws.proofs.StoreLaws.{alike-row, link-row-x, node-row-x, child-word-small}
 
 -- rows that are the same word by word are one row
-same-words : (l m : List ℕ) → sameWords l m ≡ true → l ≡ m
+pub same-words : (l m : List ℕ) → sameWords l m ≡ true → l ≡ m
 same-words [] [] e = refl
 same-words [] (y ∷ m) e = absurd (false≢true e)
 same-words (x ∷ l) [] e = absurd (false≢true e)

@@ -60,15 +60,15 @@ planted-sound c = record {
 }
 
 -- and the visit: the walk with no step
-pub planted-visit : (words : ℕ) (c : Corner) → tableBy words (visitedBy (plantedOf c) c 0) ≡ tableOf words c []
-planted-visit words c = sym (table-state words c [] ∙ alike-table words (stateOf (c ∷ [])) (visitedBy (plantedOf c) c 0) (record {
+pub planted-alike : (c : Corner) → Alike (stateOf (c ∷ [])) (visitedBy (plantedOf c) c 0)
+planted-alike c = record {
   nodes = nodes-start c;
   step = λ x y f. refl;
   visits = λ x. one (same x c);
   need = λ x. none (any (same x) (pathOf c));
   first = λ x. two (same x c);
   edges = λ x y. refl;
-}))
+}
   where
     one : (b : Bool) → tally b + 0 ≡ 0 + tally b
     one b = omega arith
@@ -80,6 +80,9 @@ planted-visit words c = sym (table-state words c [] ∙ alike-table words (state
     two : (b : Bool) → place b 0 ≡ later 0 b 1
     two true = refl
     two false = refl
+
+pub planted-visit : (words : ℕ) (c : Corner) → tableBy words (visitedBy (plantedOf c) c 0) ≡ tableOf words c []
+planted-visit words c = sym (table-state words c [] ∙ alike-table words (stateOf (c ∷ [])) (visitedBy (plantedOf c) c 0) (planted-alike c))
 
 -- ---- how long the paths are
 pub length-path : (c : Corner) → isRoot c ≡ false → length (pathOf c) ≡ suc (length (pathOf (parentOf c)))
