@@ -309,8 +309,9 @@ uint32_t undrwyth_walk(int32_t start_x, int32_t start_y,
  * 0x25 is refused 20, though 5 is not an operation. Refused with UNDRWYTH_REFUSAL_NO_ROOM, if nothing else is wrong: the
  * four buffers are wholly zero. Its place is 0 also if the two starts have no room. No answer names a party.
  *
- * A new node looks for its record from the lowest that may be free. That is seldom far; but operations that free a low
- * record and fill it again and again while thousands of records after it are in use go through all these each time.
+ * A new node looks for its record from the lowest that may be free. That is seldom far. But operations that free a low
+ * record, fill it and need one more, again and again, while thousands of records after it are in use, go through all of
+ * these each time: in 8,000 records such an operation took 2.9 microseconds, where others take 0.04 (ARM Neoverse-V1).
  *
  * Stack: UNDRWYTH_WALK_TWO_STACK_BYTES, whatever the walks. */
 uint32_t undrwyth_walk_two(int32_t start0_x, int32_t start0_y,

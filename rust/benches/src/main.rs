@@ -110,6 +110,13 @@ fn pairs() {
             ])
             .print(&format!("pair/{shape}/{n}"), ns);
         }
+        // Each new node looks for its record through all that are in use.
+        let refilled = several(n, |_| inputs::refilled(n));
+        race(vec![
+            ("proved", walk_two(undrwyth::walk_two, &refilled)),
+            ("twin", walk_two(twin::walk_two, &refilled)),
+        ])
+        .print(&format!("pair/refilled/{n}"), ns);
     }
 }
 

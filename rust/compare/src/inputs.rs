@@ -376,6 +376,13 @@ pub fn mixed(first: &[u8], second: &[u8], most: usize, random: &mut Random) -> V
     ops
 }
 
+/// n bytes of two parties, of which one fills the table; the other frees a low record, fills it again and needs one record more, again and again.
+pub fn refilled(n: usize) -> Vec<u8> {
+    let again = [0x14, 0x12, 0x12, 0x14].into_iter().cycle();
+    let filling = std::iter::once(0x12).chain(straight(n / 2, 0));
+    filling.chain(again).take(n).collect()
+}
+
 /// The number of nodes that two parties need at most at a moment, 1 where there is a fault.
 pub fn most_pair_nodes(starts: Starts, ops: &[u8]) -> usize {
     let n = ops.len();

@@ -688,6 +688,7 @@ pub fn lobbies(library: &Library) {
             let ops = inputs::mixed(&there, &there, most, &mut random);
             pair_near(library, [(5, -3), (5, -3)], &ops);
         }
+        pair_near(library, [(0, 0), (2, 1)], &inputs::refilled(n));
     }
 }
 

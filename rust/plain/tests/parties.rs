@@ -71,6 +71,19 @@ fn two_firms_around_a_lobby() {
     let walked = walk_in(LOBBY, &FIRMS, 8);
     let facts = walked.facts();
     assert_eq!(facts.nodes, 8);
+    let alone = |q: u8| {
+        let ops = own(&FIRMS, q);
+        let (mut table, mut chain) = ([0; RECORD_WORDS * 9], vec![0; ops.len()]);
+        let mut marks = vec![0; MARK_WORDS * ops.len()];
+        plain::walk(
+            LOBBY[usize::from(q)],
+            &ops,
+            &mut table,
+            &mut marks,
+            &mut chain,
+        )
+    };
+    assert_eq!([0, 1].map(|q| alone(q).unwrap().nodes), [6, 7]);
     for (party, start) in facts.parties.into_iter().zip(LOBBY) {
         assert_eq!(
             (party.verdict, party.area, party.last),
