@@ -10,8 +10,8 @@ use lib.ListN.{length, getD, take, drop, set, replicate, length-replicate, lengt
 use lib.Seq.{getD-take, getD-drop, getD-append-seam, getD-append-add, getD-set-same, getD-set-other, ext-getD}
 use Rattle.area_laws.proofs.OutlineLaws.{length-backward}
 use Rattle.grid.specs.declared.Corner.{Corner}
-use Rattle.grid.specs.Grid.{origin, endFrom}
-use Rattle.grid.proofs.StepLaws.{back, back-mod, back-small}
+use Rattle.grid.specs.Grid.{origin, endFrom, back}
+use Rattle.grid.proofs.StepLaws.{back-mod, back-small}
 use Rattle.hull_laws.specs.Columns.{middle}
 use Rattle.panels.specs.Outline.{startedAt, backward}
 use Rattle.convex_laws.specs.Place.{placeOf}
