@@ -154,11 +154,11 @@ letters-four (d ∷ l) b = ap₂ (λ (n : ℕ) (m : List ℕ). n ∷ m) (same d 
     same : (d : ℕ) → d < 4 → (d + 4) % 4 ≡ d
     same d h = omega arith
 
-below-join : (u v : List ℕ) → Below 4 u → Below 4 v → Below 4 (u ++ v)
+pub below-join : (u v : List ℕ) → Below 4 u → Below 4 v → Below 4 (u ++ v)
 below-join [] v a b = b
 below-join (d ∷ u) v a b = (a .0, below-join u v (a .1) b)
 
-below-parts : (u v : List ℕ) → Below 4 (u ++ v) → Below 4 u × Below 4 v
+pub below-parts : (u v : List ℕ) → Below 4 (u ++ v) → Below 4 u × Below 4 v
 below-parts [] v b = (tt, b)
 below-parts (d ∷ u) v b = let r = below-parts u v (b .1) in ((b .0, r .0), r .1)
 
@@ -259,7 +259,7 @@ backward-turned : (ds : List ℕ) → backward (map turned ds) ≡ map turned (b
 backward-turned [] = refl
 backward-turned (d ∷ ds) = ap₂ (λ (l : List ℕ) (n : ℕ). l ++ (n ∷ [])) (backward-turned ds) (back-turned d) ∙ sym (map-append turned (backward ds) (back d ∷ []))
 
-below-backward : (ds : List ℕ) → Below 4 (backward ds)
+pub below-backward : (ds : List ℕ) → Below 4 (backward ds)
 below-backward [] = tt
 below-backward (d ∷ ds) = below-join (backward ds) (back d ∷ []) (below-backward ds) (back-small d, tt)
 

@@ -22,7 +22,7 @@ use Rattle.outline_room_laws.proofs.OutsideLaws.{outline-outside, outsi
 
 -- what holds of each step holds of each way, and the other way round
 module _ (P : ℕ → Corner → Type 0) where
-  each-way : (p : Corner) (es : List ℕ) → EachStep P p es → (y : Way) → List·Memᴰ y (waysOf p es) → P (y .1) (y .0)
+  pub each-way : (p : Corner) (es : List ℕ) → EachStep P p es → (y : Way) → List·Memᴰ y (waysOf p es) → P (y .1) (y .0)
   each-way p [] f y m = absurd (List·Memᴰ·not-nil m)
   each-way p (d ∷ es) f y m = ⊎-elim (λ e. subst (λ (z : Way). P (z .1) (z .0)) (sym e) (f .0)) (λ t. each-way (stepped d p) es (f .1) y t) (List·Memᴰ·cases-cons m)
 
