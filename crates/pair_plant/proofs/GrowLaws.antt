@@ -9,19 +9,18 @@ use lib.ListN.{length}
 use Rattle.grid.specs.declared.Corner.{Corner}
 use Rattle.grid.specs.Tree.{root, parentOf, isRoot, upBy, pathOf, childWord}
 use Rattle.layout.specs.Table.{visitsWord}
-use Rattle.tree_laws.specs.State.{State, Alike, stateOf}
+use Rattle.tree_laws.specs.State.{State, Alike, stateOf, plantedOf}
 use Rattle.grid.proofs.CornerLaws.{same-sound}
 use Rattle.grid.proofs.PathLaws.{pathOf-snoc}
-use Rattle.table_laws.proofs.PlantLaws.{plantedOf}
 use Rattle.pair_table.specs.Slots.{Slot, held, placed, placedAll, refIn}
 use Rattle.pair_table.specs.Words.{pairWidth}
 use Rattle.pair_laws.specs.Stand.{At, HeldBelow}
 use Rattle.pair_laws.proofs.SlotLaws.{all-keeps, all-append, placed-known}
 use Rattle.pair_table_laws.specs.Hold.{Both, withParty, ofParty, wordsIn, SettledIn, PairTable}
-use Rattle.pair_table_laws.specs.Stores.{pairVisitIn}
+use Rattle.pair_table_laws.specs.Stores.{pairVisitIn, rootTable}
 use Rattle.pair_table_laws.specs.Look.{Look, NoRoomFor}
 use Rattle.pair_table_laws.proofs.FrameLaws.{at-below, with-this}
-use Rattle.pair_table_laws.proofs.PlantLaws.{rootTable, root-settled, root-holds, plant-settled, plant-next, plant-visit}
+use Rattle.pair_table_laws.proofs.PlantLaws.{root-settled, root-holds, plant-settled, plant-next, plant-visit}
 use Rattle.pair_table_laws.proofs.RefLaws.{at-ref, ref-at}
 use Rattle.pair_table_laws.proofs.SettleLaws.{alike-table, alike-self, alike-sym, alike-back}
 use Rattle.pair_child.specs.declared.Stock.{Stock}

@@ -3,8 +3,8 @@
 use mathlib.Core.List.{List}
 use mathlib.Core.Path.{_≡_}
 use Prim.Native.Nat.{ℕ}
+use Rattle.tree_laws.specs.State.{plantedOf}
 use Rattle.grid.specs.Tree.{root}
-use Rattle.table_laws.proofs.PlantLaws.{plantedOf}
 use Rattle.pair_table.specs.Slots.{Slot}
 use Rattle.pair_laws.specs.Stand.{At}
 use Rattle.pair_table_laws.specs.Hold.{Both, SettledIn, PairTable}

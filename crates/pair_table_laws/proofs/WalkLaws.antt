@@ -7,11 +7,11 @@ use Prim.Native.Nat.{ℕ, zero, suc, _+_, _-_, _<_}
 use native.Mathlib.Omega.{arith}
 use lib.ListN.{length}
 use Rattle.grid.specs.declared.Corner.{Corner}
-use Rattle.grid.specs.Grid.{stepped, cornersFrom, endFrom}
+use Rattle.grid.specs.Grid.{stepped, cornersFrom, endFrom, back}
 use Rattle.grid.specs.Tree.{pathOf}
 use Rattle.layout.specs.Table.{neighbourWord}
 use Rattle.tree_laws.specs.State.{State, Sound, stateOf, linked, reached, visitedBy, walkedBy, unlinking}
-use Rattle.grid.proofs.StepLaws.{back, back-small, stepped-back}
+use Rattle.grid.proofs.StepLaws.{back-small, stepped-back}
 use Rattle.tree_laws.proofs.PopLaws.{unlink-start}
 use Rattle.tree_laws.proofs.PushLaws.{push-state, push-nodes, sound-walk, finish-node, step-bound}
 use Rattle.table_laws.proofs.StateLaws.{sound-reached, sound-dropping, step-back}

@@ -6,12 +6,12 @@ use mathlib.Core.Path.{_≡_, refl, sym, _∙_, subst, subst₂}
 use Prim.Native.Nat.{ℕ, zero, suc, _-_, _<_, _≤_}
 use native.Mathlib.Omega.{arith}
 use lib.ListN.{length}
+use Rattle.pair_table_laws.specs.Stores.{rootTable}
 use Rattle.answer.specs.Limits.{Near}
 use Rattle.grid.specs.declared.Corner.{Corner}
 use Rattle.grid.specs.Tree.{root, pathOf}
-use Rattle.tree_laws.specs.State.{State, stateOf}
+use Rattle.tree_laws.specs.State.{State, stateOf, plantedOf}
 use Rattle.tree.proofs.StartLaws.{nodes-start}
-use Rattle.table_laws.proofs.PlantLaws.{plantedOf}
 use Rattle.pair_table.specs.Slots.{Slot, held, needsOf, placedAll, slotsAtStart}
 use Rattle.pair_table.specs.Words.{pairWidth, pairRecordsIn}
 use Rattle.pair_laws.specs.Stand.{At}
@@ -19,7 +19,7 @@ use Rattle.pair_laws.proofs.SlotLaws.{all-keeps, all-at, held-one, free-not-hel
 use Rattle.pair_laws.proofs.UnionLaws.{union-left, union-right, root-needed}
 use Rattle.pair_table_laws.specs.Hold.{Both, withParty}
 use Rattle.pair_table_laws.proofs.EndLaws.{walked-start}
-use Rattle.pair_table_laws.proofs.PlantLaws.{rootTable, root-settled, start-settled, starts-are}
+use Rattle.pair_table_laws.proofs.PlantLaws.{root-settled, start-settled, starts-are}
 use Rattle.pair_table_laws.proofs.RefLaws.{ref-at}
 use Rattle.pair_child.specs.declared.Located.{Located}
 use Rattle.pair_child.specs.declared.Stock.{Stock}

@@ -6,8 +6,7 @@ use native.Mathlib.Omega.{arith}
 use borrow.Author.Needs.{needs}
 use lib.ListN.{length}
 use Rattle.grid.specs.Tree.{root, pathOf}
-use Rattle.tree_laws.specs.State.{stateOf}
-use Rattle.table_laws.proofs.PlantLaws.{plantedOf}
+use Rattle.tree_laws.specs.State.{stateOf, plantedOf}
 use Rattle.pair_table.specs.Slots.{held, placedAll}
 use Rattle.pair_table_laws.specs.Hold.{withParty}
 use Rattle.pair_walk.proofs.StartLaws.{first-plants, first-full, second-plants, second-full, both-planted}
