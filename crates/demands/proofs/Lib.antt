@@ -21,6 +21,12 @@ pub mod Convex
 pub mod Rows
 pub mod Outline
 pub mod ShareLaws
+pub mod LineCases
+pub mod FieldLaws
+pub mod LineCallLaws
+pub mod LineRoomLaws
+pub mod CellLaws
+pub mod LineRowLaws
 pub mod Lines
 pub mod Overlay
 pub mod PolygonIn
