@@ -12,7 +12,7 @@ use Rattle.answer.specs.declared.Facts.{Facts}
 use Rattle.answer.specs.declared.Judged.{Judged}
 use Rattle.answer.specs.declared.Judged.the-variants.{Good}
 use Rattle.answer.specs.declared.Refusal.the-variants.{NoRoom}
-use Rattle.answer.specs.Limits.{mostSteps, Near}
+use Rattle.answer.specs.Limits.{mostSteps, farthest, Near}
 use Rattle.grid.specs.declared.Corner.{Corner}
 use Rattle.grid.specs.Grid.{origin, cornersFrom, endFrom}
 use Rattle.grid.specs.Tree.{WithinLevels}
@@ -99,22 +99,25 @@ corners-near c ds q m =
       subst (λ (z : Corner). natAbs (z .1) ≤ natAbs (c .1) + length ds) (sym e) (omega (arith, b .1)),
     )
 
+pub corners-far : (c : Corner) (ds : List ℕ) → Near c → length ds ≤ mostSteps → (q : Corner) → List·Memᴰ q (cornersFrom c ds) → (natAbs (q .0) ≤ farthest) × (natAbs (q .1) ≤ farthest)
+corners-far c ds n l q m = let b = corners-near c ds q m in (omega (arith, b .0, n .0), omega (arith, b .1, n .1))
+
 -- every corner of a walk that may start there is within 16 levels
-pub corners-within : (c : Corner) (ds : List ℕ) → Near c → length ds ≤ mostSteps → (q : Corner) → List·Memᴰ q (cornersFrom c ds) → WithinLevels 16 q
-corners-within c ds n l q m = let b = corners-near c ds q m in record { x = omega (arith, b .0, n .0); y = omega (arith, b .1, n .1) }
+corners-within : (c : Corner) (ds : List ℕ) → Near c → length ds ≤ mostSteps → (q : Corner) → List·Memᴰ q (cornersFrom c ds) → WithinLevels 16 q
+corners-within c ds n l q m = let b = corners-far c ds n l q m in record { x = omega (arith, b .0); y = omega (arith, b .1) }
 
 module _ {c : Corner} {os : List ℕ} {words marks chain : ℕ} (f : Faultless c os words marks chain) (k : ℕ) (h : k ≤ length os) where
-  few : length (stepsAfter os k) ≤ mostSteps
-  few = walkable-after os (f .fine) k h .few
+  pub few-steps : length (stepsAfter os k) ≤ mostSteps
+  few-steps = walkable-after os (f .fine) k h .few
 
   pub four-and-start : FourAndStart (nodesAfter c os k) (cornersAfter c os k)
-  four-and-start = few-nodes-from 16 c (stepsAfter os k) (corners-within c (stepsAfter os k) (f .sized .start) few)
+  four-and-start = few-nodes-from 16 c (stepsAfter os k) (corners-within c (stepsAfter os k) (f .sized .start) few-steps)
 
   pub at-most-eight : AtMostEight (nodesAfter c os k) (cornersAfter c os k)
   at-most-eight = omega (arith, four-and-start)
 
   most-corners : cornersAfter c os k ≤ suc mostSteps
-  most-corners = omega (arith, few, length-visited-le (cornersFrom c (stepsAfter os k)), length-cornersFrom c (stepsAfter os k))
+  most-corners = omega (arith, few-steps, length-visited-le (cornersFrom c (stepsAfter os k)), length-cornersFrom c (stepsAfter os k))
 
 -- ---- tables that are large enough at every moment
 module _ {c : Corner} {os t ms ch t′ ms′ ch′ : List ℕ} {r : Answer} (w : WalkIs c os t ms ch r t′ ms′ ch′) where

@@ -7,6 +7,7 @@ pub mod RecordLaws
 pub mod AcceptedLaws
 pub mod AloneLaws
 pub mod ChangedLaws
+pub mod CostLaws
 pub mod CallLaws
 pub mod DigitLaws
 pub mod RoomCallLaws
