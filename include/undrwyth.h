@@ -1,4 +1,5 @@
-/* undrwyth.h: the judge of a surveyor's walk, for C.
+/* SPDX-License-Identifier: MIT
+ * undrwyth.h: the judge of a surveyor's walk, for C.
  *
  * A surveyor walks along the edges of square floor panels, from a start corner. The record is a byte string of
  * operations: bytes 0 to 4, not characters. A step 0 goes east (+1,0), 1 north (0,+1), 2 west (-1,0), 3 south (0,-1);
@@ -22,7 +23,8 @@
  *     else if (answer[UNDRWYTH_WALK_VERDICT] == UNDRWYTH_VERDICT_ROOM)
  *         printf("a room of area %d\n", (int)answer[UNDRWYTH_WALK_AREA]);
  *
- * docs/RULES.md says what all words mean. Link with libundrwyth.a.
+ * docs/RULES.md says what all words mean. Link with libundrwyth.a or libundrwyth.so, which scripts/library writes and the
+ * Debian package has.
  */
 #ifndef UNDRWYTH_H
 #define UNDRWYTH_H
@@ -34,8 +36,20 @@
 extern "C" {
 #endif
 
-/* Raised by one with each release that changes something here that a caller can notice. */
-#define UNDRWYTH_VERSION 1
+/* The version of the library and its programs: its one home. docs/DECISIONS.md says what a change of each number promises. */
+#define UNDRWYTH_VERSION_MAJOR 1
+#define UNDRWYTH_VERSION_MINOR 0
+#define UNDRWYTH_VERSION_PATCH 0
+#define UNDRWYTH_VERSION_JOINED(a, b, c) #a "." #b "." #c
+#define UNDRWYTH_VERSION_TEXT(a, b, c) UNDRWYTH_VERSION_JOINED(a, b, c)
+#define UNDRWYTH_VERSION UNDRWYTH_VERSION_TEXT(UNDRWYTH_VERSION_MAJOR, UNDRWYTH_VERSION_MINOR, UNDRWYTH_VERSION_PATCH)
+
+/* Lengths. The library's have 64 bits on every target; on one of 64 bits that is size_t. */
+#if SIZE_MAX == UINT64_MAX
+typedef size_t undrwyth_size;
+#else
+typedef uint64_t undrwyth_size;
+#endif
 
 /* Limits. */
 #define UNDRWYTH_MOST_INPUT_BYTES 32768    /* operations, steps or turns in a call */
@@ -57,7 +71,7 @@ extern "C" {
 #define UNDRWYTH_SPAN_NUMBERS 3            /* numbers a span of panels: row, first panel, last panel */
 #define UNDRWYTH_LINE_BYTES 8240           /* bytes of a buffer that holds the answer to any line */
 
-/* Bytes of stack that a call needs, rounded up from what include/stack.c measures of the library that ./library writes
+/* Bytes of stack that a call needs, rounded up from what include/stack.c measures of the library that dist/ has
  * on x86-64; on 64-bit ARM it measures at most 200 bytes more or less. The gate runs each call on a stack of this size,
  * above a page that cannot be touched. A hull's working store is chosen by how many columns the walk goes through, that
  * of an outline or of a call on a room by how many steps the chain has, and of a call on two rooms the longer chain: 256
@@ -282,10 +296,10 @@ extern "C" {
  *
  * Stack: UNDRWYTH_WALK_STACK_BYTES, whatever the walk. */
 uint32_t undrwyth_walk(int32_t start_x, int32_t start_y,
-                       const uint8_t *ops, size_t n,
-                       uint32_t *table, size_t table_words,
-                       uint32_t *marks, size_t marks_words,
-                       uint8_t *chain, size_t chain_bytes,
+                       const uint8_t *ops, undrwyth_size n,
+                       uint32_t *table, undrwyth_size table_words,
+                       uint32_t *marks, undrwyth_size marks_words,
+                       uint8_t *chain, undrwyth_size chain_bytes,
                        uint32_t answer[UNDRWYTH_WALK_ANSWER_WORDS]);
 
 /* Judges the walks of two parties, 0 and 1, in one table. A byte of ops is 16 times the party plus the number of an
@@ -335,8 +349,8 @@ uint32_t undrwyth_walk_two(int32_t start0_x, int32_t start0_y,
  *
  * Stack: UNDRWYTH_HULL_256_STACK_BYTES where the walk goes through at most 256 columns, and so on. */
 uint32_t undrwyth_hull(int32_t start_x, int32_t start_y,
-                       const uint8_t *chain, size_t n,
-                       int32_t *out, size_t out_numbers,
+                       const uint8_t *chain, undrwyth_size n,
+                       int32_t *out, undrwyth_size out_numbers,
                        uint32_t answer[UNDRWYTH_HULL_ANSWER_WORDS]);
 
 /* Writes the outer outline of the walk of the n steps in chain from (start_x,start_y), as steps.
@@ -356,8 +370,8 @@ uint32_t undrwyth_hull(int32_t start_x, int32_t start_y,
  * Stack: UNDRWYTH_OUTLINE_256_STACK_BYTES for at most 256 steps, and so on. No table is lent: the walked edges are found
  * in a store there, 262,160 bytes for more than 2,048 steps, 32,784 for more than 256, else 4,112. */
 uint32_t undrwyth_outline(int32_t start_x, int32_t start_y,
-                          const uint8_t *chain, size_t n,
-                          uint8_t *out, size_t out_bytes,
+                          const uint8_t *chain, undrwyth_size n,
+                          uint8_t *out, undrwyth_size out_bytes,
                           uint32_t answer[UNDRWYTH_OUTLINE_ANSWER_WORDS]);
 
 /* Writes a room as a polygon of one ring, in Well-Known Binary of the OGC Simple Features standard, little-endian: byte
@@ -374,8 +388,8 @@ uint32_t undrwyth_outline(int32_t start_x, int32_t start_y,
  *
  * Stack: UNDRWYTH_POLYGON_256_STACK_BYTES for at most 256 steps, and so on. */
 uint32_t undrwyth_polygon_of_room(int32_t start_x, int32_t start_y,
-                                  const uint8_t *chain, size_t n,
-                                  uint8_t *out, size_t out_bytes,
+                                  const uint8_t *chain, undrwyth_size n,
+                                  uint8_t *out, undrwyth_size out_bytes,
                                   uint32_t answer[UNDRWYTH_POLYGON_ANSWER_WORDS]);
 
 /* Lists the panels inside a room by rows, as spans of panels: three numbers each, row, first panel and last panel.
@@ -394,8 +408,8 @@ uint32_t undrwyth_polygon_of_room(int32_t start_x, int32_t start_y,
  *
  * Stack: UNDRWYTH_ROWS_256_STACK_BYTES for at most 256 steps, and so on. */
 uint32_t undrwyth_rows(int32_t start_x, int32_t start_y,
-                       const uint8_t *chain, size_t n,
-                       int32_t *out, size_t out_numbers,
+                       const uint8_t *chain, undrwyth_size n,
+                       int32_t *out, undrwyth_size out_numbers,
                        uint32_t answer[UNDRWYTH_ROWS_ANSWER_WORDS]);
 
 /* Lays two rooms over each other, and lists the panels that are in the first only, in the second only, and in both.
@@ -413,12 +427,12 @@ uint32_t undrwyth_rows(int32_t start_x, int32_t start_y,
  *
  * Stack: UNDRWYTH_OVERLAY_256_STACK_BYTES where each chain has at most 256 steps, and so on. */
 uint32_t undrwyth_overlay(int32_t start1_x, int32_t start1_y,
-                          const uint8_t *chain1, size_t n1,
+                          const uint8_t *chain1, undrwyth_size n1,
                           int32_t start2_x, int32_t start2_y,
-                          const uint8_t *chain2, size_t n2,
-                          int32_t *first, size_t first_numbers,
-                          int32_t *second, size_t second_numbers,
-                          int32_t *both, size_t both_numbers,
+                          const uint8_t *chain2, undrwyth_size n2,
+                          int32_t *first, undrwyth_size first_numbers,
+                          int32_t *second, undrwyth_size second_numbers,
+                          int32_t *both, undrwyth_size both_numbers,
                           uint32_t answer[UNDRWYTH_OVERLAY_ANSWER_WORDS]);
 
 /* Tells whether a room is convex.
@@ -434,7 +448,7 @@ uint32_t undrwyth_overlay(int32_t start1_x, int32_t start1_y,
  *
  * Stack: UNDRWYTH_CONVEX_256_STACK_BYTES for at most 256 steps, and so on. */
 uint32_t undrwyth_convex(int32_t start_x, int32_t start_y,
-                         const uint8_t *chain, size_t n,
+                         const uint8_t *chain, undrwyth_size n,
                          uint32_t answer[UNDRWYTH_CONVEX_ANSWER_WORDS]);
 
 /* Reads a polygon of one ring in Well-Known Binary, of either byte order, as a start corner and a chain of steps.
@@ -450,8 +464,8 @@ uint32_t undrwyth_convex(int32_t start_x, int32_t start_y,
  * Refused with 14, 15, 14 again, 16, 17, 6 (at place UNDRWYTH_MOST_STEPS) or 18, in this order: chain is as it was.
  *
  * Stack: UNDRWYTH_CHAIN_STACK_BYTES, whatever the file. */
-uint32_t undrwyth_chain_of_polygon(const uint8_t *file, size_t file_bytes,
-                                   uint8_t *chain, size_t chain_bytes,
+uint32_t undrwyth_chain_of_polygon(const uint8_t *file, undrwyth_size file_bytes,
+                                   uint8_t *chain, undrwyth_size chain_bytes,
                                    uint32_t answer[UNDRWYTH_CHAIN_ANSWER_WORDS]);
 
 /* Turns n steps into turns: the first is the first step, each later one that step minus the one before, modulo 4.
@@ -461,13 +475,13 @@ uint32_t undrwyth_chain_of_polygon(const uint8_t *file, size_t file_bytes,
  * Accepted: out holds the turns. Refused with 1, 3 or 4, in this order: out is as it was.
  *
  * Stack: UNDRWYTH_TURNS_STACK_BYTES. */
-uint32_t undrwyth_turns_of_steps(const uint8_t *steps, size_t n,
-                                 uint8_t *out, size_t out_bytes,
+uint32_t undrwyth_turns_of_steps(const uint8_t *steps, undrwyth_size n,
+                                 uint8_t *out, undrwyth_size out_bytes,
                                  uint32_t answer[UNDRWYTH_TURNS_ANSWER_WORDS]);
 
 /* Turns n turns into steps: the inverse of undrwyth_turns_of_steps, with the same lengths, refusals, buffers and stack. */
-uint32_t undrwyth_steps_of_turns(const uint8_t *turns, size_t n,
-                                 uint8_t *out, size_t out_bytes,
+uint32_t undrwyth_steps_of_turns(const uint8_t *turns, undrwyth_size n,
+                                 uint8_t *out, undrwyth_size out_bytes,
                                  uint32_t answer[UNDRWYTH_TURNS_ANSWER_WORDS]);
 
 /* Answers one line of the line program; neither the line nor its answer has a line feed.
@@ -486,7 +500,7 @@ uint32_t undrwyth_steps_of_turns(const uint8_t *turns, size_t n,
  * If out_bytes is less than UNDRWYTH_LINE_BYTES, the result is 0 and out is as it was.
  *
  * Stack: UNDRWYTH_LINE_STACK_BYTES. */
-size_t undrwyth_line(const uint8_t *line, size_t n, uint8_t *out, size_t out_bytes);
+undrwyth_size undrwyth_line(const uint8_t *line, undrwyth_size n, uint8_t *out, undrwyth_size out_bytes);
 
 /* Converts one line; neither the line nor what is written has a line feed.
  *
@@ -498,7 +512,7 @@ size_t undrwyth_line(const uint8_t *line, size_t n, uint8_t *out, size_t out_byt
  * not, the result is 0 and out is as it was.
  *
  * Stack: UNDRWYTH_CONVERT_LINE_STACK_BYTES. */
-size_t undrwyth_convert_line(const uint8_t *line, size_t n, uint8_t *out, size_t out_bytes);
+undrwyth_size undrwyth_convert_line(const uint8_t *line, undrwyth_size n, uint8_t *out, undrwyth_size out_bytes);
 
 #ifdef __cplusplus
 }

@@ -1,9 +1,10 @@
 //! What the calls answer, and their limits: the types that every implementation shares.
 
+#![no_std]
 #![warn(missing_docs)]
 
-use std::error::Error;
-use std::fmt::{self, Display, Formatter};
+use core::error::Error;
+use core::fmt::{self, Display, Formatter};
 
 /// Input bytes at most.
 pub const MOST_INPUT: usize = 32_768;

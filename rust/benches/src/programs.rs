@@ -9,13 +9,6 @@ use compare::inputs::{self, Random};
 
 use crate::race::{Call, race};
 
-/// Where the scripts of the programs have them compiled for the processor at hand.
-const FOLDER: &str = if cfg!(target_arch = "x86_64") {
-    "bin"
-} else {
-    "native"
-};
-
 /// Frames of n digits: rooms, random walks and walks with take-backs as operations, and as many random frames of the kind given.
 fn frames(count: u32, n: usize, turns: u8) -> Vec<u8> {
     let mut random = Random(5);
@@ -33,10 +26,11 @@ fn frames(count: u32, n: usize, turns: u8) -> Vec<u8> {
     input
 }
 
-/// A run of the program on the file.
-fn run<'a>(program: &'a Path, input: &'a Path) -> Call<'a> {
+/// A run of the program, with the word that says what it does, on the file.
+fn run<'a>((program, word): (&'a Path, &'a [&'a str]), input: &'a Path) -> Call<'a> {
     Box::new(move || {
         let status = Command::new(program)
+            .args(word)
             .stdin(File::open(input).expect("it was written"))
             .stdout(Stdio::null())
             .status();
@@ -45,8 +39,9 @@ fn run<'a>(program: &'a Path, input: &'a Path) -> Call<'a> {
 }
 
 /// What the program writes for the file.
-fn output(program: &Path, input: &Path) -> Vec<u8> {
+fn output((program, word): (&Path, &[&str]), input: &Path) -> Vec<u8> {
     let output = Command::new(program)
+        .args(word)
         .stdin(File::open(input).expect("it was written"))
         .output();
     output.expect("the program is there").stdout
@@ -55,18 +50,21 @@ fn output(program: &Path, input: &Path) -> Vec<u8> {
 /// Prints the rows of a program beside its twin, on frames of which every fourth is of the kind given.
 fn print_one(name: &str, row: &str, turns: u8) {
     let target = concat!(env!("CARGO_MANIFEST_DIR"), "/../../target");
-    let program = PathBuf::from(target).join(FOLDER).join(name);
+    let program = PathBuf::from(target)
+        .join(env::consts::ARCH)
+        .join("undrwyth");
     let twin = env::current_exe()
         .expect("it is running")
         .with_file_name(format!("{name}_twin"));
+    let (program, twin) = ((&*program, &[name][..]), (&*twin, &[][..]));
     let file = env::temp_dir().join(format!("undrwyth-frames-{}", process::id()));
     for (count, n) in [(20_000, 64), (5_000, 256)] {
         let input = frames(count, n, turns);
         fs::write(&file, &input).expect("the temporary folder takes a file");
-        assert!(output(&program, &file) == output(&twin, &file));
+        assert!(output(program, &file) == output(twin, &file));
         let times = race(vec![
-            ("proved", run(&program, &file)),
-            ("twin", run(&twin, &file)),
+            ("proved", run(program, &file)),
+            ("twin", run(twin, &file)),
         ]);
         times.print(&format!("{row}/{n}"), |s| input.len() as f64 / 1e6 / s);
         times.print_row(&format!("{row}/{n} in 1,000 lines/s"), |s| {

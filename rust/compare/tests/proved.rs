@@ -143,8 +143,8 @@ fn polygons() {
 
 /// The output of a program for this input.
 fn run(name: &str, input: &[u8]) -> Vec<u8> {
-    let path = concat!(env!("CARGO_MANIFEST_DIR"), "/../../").to_owned() + name;
-    let mut program = Command::new(path)
+    let mut program = Command::new(concat!(env!("CARGO_MANIFEST_DIR"), "/../../undrwyth"))
+        .arg(name)
         .stdin(Stdio::piped())
         .stdout(Stdio::piped())
         .spawn()

@@ -11,8 +11,10 @@
 //! assert_eq!(refusal.to_string(), "refusal 4 at place 2");
 //! ```
 
+#![no_std]
 #![warn(missing_docs)]
 
+mod code;
 pub mod raw;
 
 pub use answer::*;

@@ -1,0 +1,163 @@
+/* SPDX-License-Identifier: MIT
+ * The command undrwyth: its words, its help, and how it ends. */
+#define _XOPEN_SOURCE 700
+#include <errno.h>
+#include <fcntl.h>
+#include <signal.h>
+#include <stdarg.h>
+#include <stdio.h>
+#include <string.h>
+#include <unistd.h>
+
+#include "command.h"
+#include "undrwyth.h"
+
+/* The proved programs on lines, whose assembly is in dist/. */
+int judge_main(int, char **), convert_main(int, char **), rows_main(int, char **), polygons_main(int, char **);
+
+#define TEXT(name) extern const unsigned char name[], name##_end[]
+TEXT(all_help);
+TEXT(common_help);
+TEXT(judge_help);
+TEXT(convert_help);
+TEXT(rows_help);
+TEXT(polygons_help);
+TEXT(draw_help);
+TEXT(chains_help);
+TEXT(records_sample);
+TEXT(old_records_sample);
+TEXT(rooms_sample);
+TEXT(picture_sample);
+TEXT(polygons_sample);
+#define OF(name) {name, name##_end}
+
+struct command {
+    const char *name;
+    struct text help, sample;
+    int (*proved)(int, char **); /* a program on lines, */
+    int (*shown)(void);          /* or what shows the answers of proved calls */
+};
+
+static const struct command commands[] = {
+    {"judge", OF(judge_help), OF(records_sample), judge_main, NULL},
+    {"convert", OF(convert_help), OF(old_records_sample), convert_main, NULL},
+    {"rows", OF(rows_help), OF(rooms_sample), rows_main, NULL},
+    {"polygons", OF(polygons_help), OF(records_sample), polygons_main, NULL},
+    {"draw", OF(draw_help), OF(picture_sample), NULL, draw_input},
+    {"chains", OF(chains_help), OF(polygons_sample), NULL, chains},
+};
+
+static const struct text all = OF(all_help), common = OF(common_help);
+static const struct command *chosen;
+
+/* The name that messages begin with: it is made before a signal can come. */
+static char name[32] = "undrwyth";
+
+int fail(const char *format, ...) {
+    char line[4096];
+    int n = snprintf(line, sizeof line, "%s: ", name);
+    va_list words;
+    va_start(words, format);
+    n += vsnprintf(line + n, sizeof line - (size_t)n - 1, format, words);
+    va_end(words);
+    if (n > (int)sizeof line - 2) n = (int)sizeof line - 2;
+    line[n++] = '\n';
+    if (write(2, line, (size_t)n) < 0) return FAILED; /* nobody hears it */
+    return FAILED;
+}
+
+/* A signal that ends the program: it says so, and the status is that of a failure. */
+static void stopped(int signal) {
+    char line[96], digits[8];
+    size_t n = 0, d = 0;
+    int status = 128 + signal, asked = signal == SIGHUP || signal == SIGINT || signal == SIGQUIT || signal == SIGTERM;
+    const char *const words[] = {name, ": the program was stopped", asked ? " by a signal" : "", ", with status "};
+    for (size_t i = 0; i < sizeof words / sizeof *words; i++)
+        for (const char *c = words[i]; *c != 0; c++) line[n++] = *c;
+    for (; status > 0; status /= 10) digits[d++] = (char)('0' + status % 10);
+    while (d > 0) line[n++] = digits[--d];
+    line[n++] = '\n';
+    if (write(2, line, n) < 0) _exit(FAILED);
+    _exit(FAILED);
+}
+
+/* A write that nobody reads, or that grows a file beyond a limit, fails and does not end the program. */
+static void watch_signals(void) {
+    static const int ending[] = {SIGHUP, SIGINT, SIGQUIT, SIGTERM, SIGSEGV, SIGBUS, SIGILL, SIGTRAP, SIGFPE, SIGABRT};
+    static char stack[65536]; /* for a signal that comes since the stack is used up */
+    stack_t other = {.ss_sp = stack, .ss_size = sizeof stack};
+    struct sigaction action = {.sa_handler = stopped, .sa_flags = SA_ONSTACK}, before;
+    sigaltstack(&other, NULL);
+    for (size_t i = 0; i < sizeof ending / sizeof *ending; i++)
+        if (sigaction(ending[i], NULL, &before) == 0 && before.sa_handler != SIG_IGN) sigaction(ending[i], &action, NULL);
+    signal(SIGPIPE, SIG_IGN);
+    signal(SIGXFSZ, SIG_IGN);
+}
+
+/* Writes a text to standard output: the status. */
+static int print(struct text text) {
+    if (write_bytes(text.from, (size_t)(text.to - text.from)) < 0) return fail("a write to standard output failed: %s", strerror(errno));
+    return WHOLE;
+}
+
+static int print_help(void) {
+    int status = print(chosen != NULL ? chosen->help : all);
+    return status == WHOLE && chosen != NULL ? print(common) : status;
+}
+
+/* Wrong usage, with the word that is wrong and the first paragraph of the help. */
+static int misused(const char *word) {
+    struct text help = chosen != NULL ? chosen->help : all;
+    const unsigned char *end = help.from;
+    while (end + 1 < help.to && (end[0] != '\n' || end[1] != '\n')) end++;
+    if (word != NULL) fail("wrong usage: %s", word);
+    else fail("wrong usage");
+    if (write(2, help.from, (size_t)(end + 1 - help.from)) < 0) return MISUSED;
+    return MISUSED;
+}
+
+static int is(const char *word, const char *other) {
+    return strcmp(word, other) == 0;
+}
+
+static int run(char **words, int count) {
+    int sampled = 0, pretty = 0;
+    const char *record = NULL;
+    for (; count > 0 && words[0][0] == '-' && words[0][1] != 0; words++, count--) {
+        if (is(*words, "--")) {
+            words++;
+            count--;
+            break;
+        }
+        if (is(*words, "--sample")) sampled = 1;
+        else if (is(*words, "--pretty") && is(chosen->name, "rows")) pretty = 1;
+        else if (is(*words, "--record") && is(chosen->name, "draw") && count > 1) {
+            record = *++words;
+            count--;
+        } else return misused(*words);
+    }
+    if ((sampled || record != NULL) && count > 0) return misused(*words);
+    if (sampled && record != NULL) return misused("--sample and --record");
+    if (fcntl(1, F_GETFD) < 0) return fail("standard output is closed");
+    if (record != NULL) return draw((const unsigned char *)record, strlen(record));
+    if (sampled) take_sample(chosen->sample);
+    else if (take_files(words, count) != WHOLE) return FAILED;
+    return chosen->proved != NULL ? run_lines(chosen->proved, pretty) : chosen->shown();
+}
+
+int main(int count, char **words) {
+    if (count < 2) return misused(NULL);
+    for (size_t i = 0; i < sizeof commands / sizeof *commands; i++)
+        if (is(words[1], commands[i].name)) chosen = &commands[i];
+    if (chosen != NULL) snprintf(name, sizeof name, "undrwyth %s", chosen->name);
+    watch_signals();
+    const char *only = chosen == NULL ? words[1] : count == 3 ? words[2] : "";
+    int alone = count == (chosen == NULL ? 2 : 3);
+    if (alone && (is(only, "--help") || is(only, "-h"))) return print_help();
+    if (alone && is(only, "--version")) {
+        static const char version[] = "undrwyth " UNDRWYTH_VERSION "\n";
+        return print((struct text){(const unsigned char *)version, (const unsigned char *)version + sizeof version - 1});
+    }
+    if (chosen == NULL) return misused(words[1]);
+    return run(words + 2, count - 2);
+}

@@ -1,0 +1,258 @@
+//! Writes calls that the comparisons make, with every lent buffer before and after the proved library's call: `cases`. Another build of
+//! the library, as the WebAssembly modules of dist/, is then asked the same. One call in so many is written, and more of those with a long
+//! input.
+//!
+//! A call is its name, its arguments, its result and the buffers after it. A text or a buffer has its length before it, 4 bytes, and an
+//! argument begins with a letter: `n` a number of 4 bytes; `i` bytes; `l` how many bytes an element of a lent buffer has, and the
+//! buffer; `a` the buffer of the answer. All numbers are little-endian.
+
+use std::io::{self, BufWriter, Stdout, Write};
+use std::sync::atomic::{AtomicU64, Ordering};
+use std::sync::{LazyLock, Mutex};
+
+use compare::inputs::Random;
+use compare::{Library, PROVED, Room, suite};
+
+/// Operations of the longest walks of which all are asked.
+const LONGEST: u32 = 5;
+/// Steps of the longest rooms of which all are asked whether they are convex.
+const LONGEST_ROOM: usize = 12;
+/// Rounds of random calls.
+const ROUNDS: usize = 300;
+/// One call in so many is written; if the input has as many bytes as `LONG`, one in fewer.
+const ONE_IN: u64 = 23;
+const LONG: usize = 1_000;
+const LONG_ONE_IN: u64 = 5;
+
+static OUTPUT: LazyLock<Mutex<BufWriter<Stdout>>> =
+    LazyLock::new(|| Mutex::new(BufWriter::new(io::stdout())));
+
+/// An element of a lent buffer.
+trait Element: Copy {
+    fn put(self, to: &mut Vec<u8>);
+}
+
+impl Element for u8 {
+    fn put(self, to: &mut Vec<u8>) {
+        to.push(self);
+    }
+}
+
+impl Element for u32 {
+    fn put(self, to: &mut Vec<u8>) {
+        to.extend(self.to_le_bytes());
+    }
+}
+
+impl Element for i32 {
+    fn put(self, to: &mut Vec<u8>) {
+        to.extend(self.to_le_bytes());
+    }
+}
+
+/// A call, as far as it is known, if it is written.
+struct Case(Option<Vec<u8>>);
+
+impl Case {
+    /// The call of this name, with an input of so many bytes.
+    fn of(name: &str, input: usize) -> Case {
+        static CALLS: AtomicU64 = AtomicU64::new(0);
+        let one_in = if input < LONG { ONE_IN } else { LONG_ONE_IN };
+        let kept = CALLS.fetch_add(1, Ordering::Relaxed).is_multiple_of(one_in);
+        Case(kept.then(Vec::new)).bytes(name.as_bytes())
+    }
+
+    fn put(mut self, bytes: &[u8]) -> Case {
+        if let Some(case) = &mut self.0 {
+            case.extend(bytes);
+        }
+        self
+    }
+
+    fn bytes(self, bytes: &[u8]) -> Case {
+        self.put(&(bytes.len() as u32).to_le_bytes()).put(bytes)
+    }
+
+    fn letter(self, letter: u8) -> Case {
+        self.put(&[letter])
+    }
+
+    fn start(self, (x, y): (i32, i32)) -> Case {
+        let case = self.letter(b'n').put(&x.to_le_bytes());
+        case.letter(b'n').put(&y.to_le_bytes())
+    }
+
+    fn input(self, bytes: &[u8]) -> Case {
+        self.letter(b'i').bytes(bytes)
+    }
+
+    fn buffer<T: Element>(self, buffer: &[T]) -> Case {
+        if self.0.is_none() {
+            return self;
+        }
+        let mut bytes = Vec::new();
+        buffer.iter().for_each(|element| element.put(&mut bytes));
+        self.bytes(&bytes)
+    }
+
+    fn lent<T: Element>(self, buffer: &[T]) -> Case {
+        self.letter(b'l')
+            .letter(size_of::<T>() as u8)
+            .buffer(buffer)
+    }
+
+    fn answer(self, answer: &[u32]) -> Case {
+        self.letter(b'a').buffer(answer)
+    }
+
+    /// The arguments are over, and this is the result.
+    fn result(self, result: u64) -> Case {
+        self.letter(b'r').put(&result.to_le_bytes())
+    }
+
+    fn write(self) {
+        if let Some(case) = self.0 {
+            let mut output = OUTPUT.lock().expect("one thread writes");
+            output.write_all(&case).expect("the calls are read");
+        }
+    }
+}
+
+/// The proved library, whose calls are written.
+const WRITTEN: Library = Library {
+    walk: |start, ops, table, marks, chain, answer| {
+        let case = Case::of("walk", ops.len()).start(start).input(ops);
+        let case = case.lent(table).lent(marks).lent(chain).answer(answer);
+        let number = (PROVED.walk)(start, ops, table, marks, chain, answer);
+        let case = case.result(number.into()).buffer(table).buffer(marks);
+        case.buffer(chain).buffer(answer).write();
+        number
+    },
+    hull: |start, chain, out, answer| {
+        let case = Case::of("hull", chain.len()).start(start).input(chain);
+        let case = case.lent(out).answer(answer);
+        let number = (PROVED.hull)(start, chain, out, answer);
+        case.result(number.into())
+            .buffer(out)
+            .buffer(answer)
+            .write();
+        number
+    },
+    outline: |start, chain, out, answer| {
+        let case = Case::of("outline", chain.len()).start(start).input(chain);
+        let case = case.lent(out).answer(answer);
+        let number = (PROVED.outline)(start, chain, out, answer);
+        case.result(number.into())
+            .buffer(out)
+            .buffer(answer)
+            .write();
+        number
+    },
+    polygon_of_room: |start, chain, out, answer| {
+        let case = Case::of("polygon_of_room", chain.len())
+            .start(start)
+            .input(chain);
+        let case = case.lent(out).answer(answer);
+        let number = (PROVED.polygon_of_room)(start, chain, out, answer);
+        case.result(number.into())
+            .buffer(out)
+            .buffer(answer)
+            .write();
+        number
+    },
+    rows: |start, chain, out, answer| {
+        let case = Case::of("rows", chain.len()).start(start).input(chain);
+        let case = case.lent(out).answer(answer);
+        let number = (PROVED.rows)(start, chain, out, answer);
+        case.result(number.into())
+            .buffer(out)
+            .buffer(answer)
+            .write();
+        number
+    },
+    convex: |start, chain, answer| {
+        let case = Case::of("convex", chain.len())
+            .start(start)
+            .input(chain)
+            .answer(answer);
+        let number = (PROVED.convex)(start, chain, answer);
+        case.result(number.into()).buffer(answer).write();
+        number
+    },
+    overlay: |one: Room, other: Room, out, answer| {
+        let [first, second, both] = out;
+        let case = Case::of("overlay", one.1.len() + other.1.len())
+            .start(one.0)
+            .input(one.1);
+        let case = case.start(other.0).input(other.1);
+        let case = case.lent(first).lent(second).lent(both).answer(answer);
+        let lent = [&mut *first, &mut *second, &mut *both];
+        let number = (PROVED.overlay)(one, other, lent, answer);
+        let case = case.result(number.into()).buffer(first).buffer(second);
+        case.buffer(both).buffer(answer).write();
+        number
+    },
+    chain_of_polygon: |file, chain, answer| {
+        let case = Case::of("chain_of_polygon", file.len()).input(file);
+        let case = case.lent(chain).answer(answer);
+        let number = (PROVED.chain_of_polygon)(file, chain, answer);
+        case.result(number.into())
+            .buffer(chain)
+            .buffer(answer)
+            .write();
+        number
+    },
+    turns_of_steps: |steps, out, answer| {
+        let case = Case::of("turns_of_steps", steps.len()).input(steps);
+        let case = case.lent(out).answer(answer);
+        let number = (PROVED.turns_of_steps)(steps, out, answer);
+        case.result(number.into())
+            .buffer(out)
+            .buffer(answer)
+            .write();
+        number
+    },
+    steps_of_turns: |turns, out, answer| {
+        let case = Case::of("steps_of_turns", turns.len()).input(turns);
+        let case = case.lent(out).answer(answer);
+        let number = (PROVED.steps_of_turns)(turns, out, answer);
+        case.result(number.into())
+            .buffer(out)
+            .buffer(answer)
+            .write();
+        number
+    },
+    line: |line, out| {
+        let case = Case::of("line", line.len()).input(line).lent(out);
+        let bytes = (PROVED.line)(line, out);
+        case.result(bytes as u64).buffer(out).write();
+        bytes
+    },
+    convert_line: |line, out| {
+        let case = Case::of("convert_line", line.len()).input(line).lent(out);
+        let bytes = (PROVED.convert_line)(line, out);
+        case.result(bytes as u64).buffer(out).write();
+        bytes
+    },
+};
+
+fn main() {
+    suite::short_walks(&WRITTEN, LONGEST);
+    suite::short_chains(&WRITTEN, LONGEST + 1);
+    suite::every_byte(&WRITTEN);
+    suite::sizes(&WRITTEN);
+    suite::limits(&WRITTEN);
+    suite::rooms(&WRITTEN);
+    suite::outlines(&WRITTEN);
+    suite::convex_rooms(&WRITTEN, LONGEST_ROOM);
+    suite::overlays(&WRITTEN, LONGEST as usize);
+    suite::files(&WRITTEN);
+    suite::starts(&WRITTEN, LONGEST / 3);
+    suite::lines(&WRITTEN);
+    let mut random = Random(1);
+    for _ in 0..ROUNDS {
+        suite::random_calls(&WRITTEN, &mut random);
+    }
+    let mut output = OUTPUT.lock().expect("one thread writes");
+    output.flush().expect("the calls are read");
+}
