@@ -61,6 +61,79 @@ static void walks_refused(void) {
     CHECK(answer[UNDRWYTH_WALK_VERDICT] == UNDRWYTH_VERDICT_NOWHERE && answer[UNDRWYTH_WALK_J] == UNDRWYTH_NO_MEETING);
 }
 
+/* Party 0 walks round the panels (0,0) and (1,0), party 1 round (1,0) and (2,0) with a step taken back. */
+static const uint8_t firms[] = {0x00, 0x12, 0x00, 0x12, 0x11, 0x14, 0x01, 0x13, 0x02, 0x10, 0x02, 0x10, 0x03, 0x11};
+
+static void walks_of_two_parties(void) {
+    const uint8_t first[LENGTH(firms)] = {0, 0, 1, 2, 2, 3}, second[LENGTH(firms)] = {2, 2, 3, 0, 0, 1};
+    const uint32_t facts[] = {0, 0, 8, UNDRWYTH_VERDICT_ROOM, 6, 6, 0, 6, 2, 0, 0, UNDRWYTH_VERDICT_ROOM, 6, 6, 0, 6, 2, 3, 1};
+    const uint32_t threes[] = {3, 1, 2, 4, 1, 3, 5, 1, 2, 6, 1, 4, 8, 1, 4, 6, 1, 4, 6, 1, 2,
+                               6, 1, 2, 6, 1, 2, 6, 1, 2, 7, 1, 3, 8, 1, 3, 8, 2, 2, 8, 2, 2};
+    const uint32_t lobby[UNDRWYTH_PAIR_RECORD_WORDS] = {/* the corner (2,0), in record 4 */
+        [UNDRWYTH_WORD_PARENT] = 2,
+        [UNDRWYTH_WORD_NEIGHBOUR_EAST] = 8,
+        [UNDRWYTH_WORD_NEIGHBOUR_NORTH] = 4,
+        [UNDRWYTH_WORD_NEIGHBOUR_WEST] = 2,
+        [UNDRWYTH_PAIR_WORD_OF(0, UNDRWYTH_WORD_LINK_STEP_NORTH)] = 3,
+        [UNDRWYTH_PAIR_WORD_OF(0, UNDRWYTH_WORD_LINK_STEP_WEST)] = 2,
+        [UNDRWYTH_PAIR_WORD_OF(0, UNDRWYTH_WORD_VISITS)] = 1,
+        [UNDRWYTH_PAIR_WORD_OF(0, UNDRWYTH_WORD_NEED)] = 3,
+        [UNDRWYTH_PAIR_WORD_OF(0, UNDRWYTH_WORD_FIRST)] = 3,
+        [UNDRWYTH_PAIR_WORD_OF(0, UNDRWYTH_WORD_EDGE_NORTH)] = 1,
+        [UNDRWYTH_PAIR_WORD_OF(0, UNDRWYTH_WORD_EDGE_WEST)] = 1,
+        [UNDRWYTH_PAIR_WORD_OF(1, UNDRWYTH_WORD_LINK_STEP_EAST)] = 5,
+        [UNDRWYTH_PAIR_WORD_OF(1, UNDRWYTH_WORD_LINK_STEP_WEST)] = 4,
+        [UNDRWYTH_PAIR_WORD_OF(1, UNDRWYTH_WORD_VISITS)] = 1,
+        [UNDRWYTH_PAIR_WORD_OF(1, UNDRWYTH_WORD_NEED)] = 5,
+        [UNDRWYTH_PAIR_WORD_OF(1, UNDRWYTH_WORD_FIRST)] = 5,
+        [UNDRWYTH_PAIR_WORD_OF(1, UNDRWYTH_WORD_EDGE_EAST)] = 1,
+        [UNDRWYTH_PAIR_WORD_OF(1, UNDRWYTH_WORD_EDGE_WEST)] = 1,
+    };
+    uint32_t table[8 * UNDRWYTH_PAIR_RECORD_WORDS], marks[3 * LENGTH(firms)], answer[UNDRWYTH_WALK_TWO_ANSWER_WORDS];
+    uint8_t chain0[LENGTH(firms)], chain1[LENGTH(firms)];
+    memset(table, 255, sizeof table);
+    memset(chain0, 255, sizeof chain0);
+    memset(chain1, 255, sizeof chain1);
+    CHECK(undrwyth_walk_two(0, 0, 3, 1, firms, LENGTH(firms), table, LENGTH(table), marks, LENGTH(marks), chain0,
+                            LENGTH(chain0), chain1, LENGTH(chain1), answer) == UNDRWYTH_ACCEPTED);
+    CHECK(SAME(answer, facts));
+    CHECK(SAME(marks, threes));
+    CHECK(SAME(chain0, first) && SAME(chain1, second));
+    CHECK(memcmp(table + 4 * UNDRWYTH_PAIR_RECORD_WORDS, lobby, sizeof lobby) == 0);
+    CHECK(answer[UNDRWYTH_WALK_TWO_AREA(0)] == 2 && answer[UNDRWYTH_WALK_TWO_LAST_X(1)] == 3);
+}
+
+static uint32_t two(int32_t x, int32_t y, const uint8_t *ops, size_t n, uint32_t *table, size_t table_words, uint8_t *chains,
+                    uint32_t *answer) {
+    static uint32_t marks[3 * LENGTH(firms)];
+    return undrwyth_walk_two(0, 0, x, y, ops, n, table, table_words, marks, 3 * n, chains, n, chains + n, n, answer);
+}
+
+static void parties_refused(void) {
+    const uint8_t unknown[] = {0x10, 0x25}, digit[] = {0x15}, nothing[] = {0x00, 0x14};
+    const uint8_t no_steps[2 * LENGTH(firms)] = {0};
+    const uint32_t no_records[7 * UNDRWYTH_PAIR_RECORD_WORDS] = {0};
+    const uint32_t no_room[UNDRWYTH_WALK_TWO_ANSWER_WORDS] = {UNDRWYTH_REFUSAL_NO_ROOM, 4};
+    const uint32_t stranger[UNDRWYTH_WALK_TWO_ANSWER_WORDS] = {UNDRWYTH_REFUSAL_UNKNOWN_PARTY, 1};
+    uint32_t table[7 * UNDRWYTH_PAIR_RECORD_WORDS] = {7}, answer[UNDRWYTH_WALK_TWO_ANSWER_WORDS];
+    uint8_t chains[2 * LENGTH(firms)];
+    memset(chains, 7, sizeof chains);
+    CHECK(two(3, 1, firms, LENGTH(firms), table, UNDRWYTH_RECORD_WORDS, chains, answer) == UNDRWYTH_REFUSAL_TABLE);
+    CHECK(two(0, -16385, unknown, 2, table, LENGTH(table), chains, answer) == UNDRWYTH_REFUSAL_START_RANGE);
+    CHECK(two(3, 1, unknown, 2, table, LENGTH(table), chains, answer) == UNDRWYTH_REFUSAL_UNKNOWN_PARTY);
+    CHECK(SAME(answer, stranger));
+    CHECK(two(3, 1, digit, 1, table, LENGTH(table), chains, answer) == UNDRWYTH_REFUSAL_BAD_DIGIT);
+    CHECK(two(3, 1, nothing, 2, table, LENGTH(table), chains, answer) == UNDRWYTH_REFUSAL_NOTHING_TO_TAKE);
+    CHECK(answer[UNDRWYTH_WALK_TWO_PLACE] == 1);
+    CHECK(table[0] == 7 && chains[0] == 7 && chains[2 * LENGTH(firms) - 1] == 7);
+    CHECK(two(3, 1, firms, LENGTH(firms), table, LENGTH(table), chains, answer) == UNDRWYTH_REFUSAL_NO_ROOM);
+    CHECK(SAME(answer, no_room) && SAME(table, no_records) && SAME(chains, no_steps));
+    CHECK(undrwyth_walk_two(0, 0, 0, 0, NULL, 0, NULL, 0, NULL, 0, NULL, 0, NULL, 0, answer) == UNDRWYTH_REFUSAL_TABLE);
+    CHECK(undrwyth_walk_two(0, 0, 0, 0, NULL, 0, table, UNDRWYTH_PAIR_RECORD_WORDS, NULL, 0, NULL, 0, NULL, 0, answer) ==
+          UNDRWYTH_ACCEPTED);
+    CHECK(answer[UNDRWYTH_WALK_TWO_NODES] == 1 && answer[UNDRWYTH_WALK_TWO_K(1)] == UNDRWYTH_NO_MEETING);
+}
+
 static const uint8_t steps[] = {0, 0, 1, 1, 0, 0, 3, 2, 2, 2, 2, 3};
 
 static void hull_of_a_crossing(void) {
@@ -246,6 +319,8 @@ static void lines_converted(void) {
 int main(void) {
     walk_of_a_room();
     walks_refused();
+    walks_of_two_parties();
+    parties_refused();
     hull_of_a_crossing();
     outline_of_a_crossed_walk();
     room_as_polygon();

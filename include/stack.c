@@ -23,7 +23,9 @@ static size_t count;
 static uint32_t table[(4 * MOST + 68) * UNDRWYTH_RECORD_WORDS], marks[UNDRWYTH_MARK_WORDS * MOST];
 static int32_t numbers[UNDRWYTH_CORNER_NUMBERS * (MOST + 1)], others[2][3 * MOST];
 static uint8_t chain[MOST], round[2 * MOST];
-static uint32_t answer[UNDRWYTH_WALK_ANSWER_WORDS];
+static uint8_t both[2 * MOST], chains[2][2 * MOST];
+static uint32_t shared[(8 * MOST + 136) * UNDRWYTH_PAIR_RECORD_WORDS], pair_marks[UNDRWYTH_MARK_WORDS * 2 * MOST];
+static uint32_t answer[UNDRWYTH_WALK_TWO_ANSWER_WORDS];
 static uint8_t rings[2][UNDRWYTH_POLYGON_HEADER_BYTES + 5 * UNDRWYTH_POINT_BYTES]; /* the highest byte first, the lowest */
 
 static void nothing(void) {}
@@ -39,6 +41,22 @@ static void walk(void) {
         walk_from(0, 0, records);
         walk_from(16384, 16384, records);
         walk_from(-16384, -16384, records);
+    }
+}
+
+static void walk_two_from(int32_t x, int32_t y, size_t records) {
+    undrwyth_walk_two(x, y, -x, y, both, 2 * count, shared, records * UNDRWYTH_PAIR_RECORD_WORDS, pair_marks,
+                      UNDRWYTH_MARK_WORDS * 2 * count, chains[0], 2 * count, chains[1], 2 * count, answer);
+}
+
+/* The same for two parties, which walk the digits by turns, from one corner and from two that are far apart. */
+static void walk_two(void) {
+    for (size_t i = 0; i < 2 * count; i++)
+        both[i] = (uint8_t)(16 * (i % 2) + digits[i / 2]);
+    for (size_t all = 8 * count + 136, records = 1; records <= all; records += all - 1) {
+        walk_two_from(0, 0, records);
+        walk_two_from(16384, 16384, records);
+        walk_two_from(-16384, -16384, records);
     }
 }
 
@@ -208,6 +226,7 @@ int main(void) {
         size_t told;
     } calls[] = {
         {"undrwyth_walk", walk, UNDRWYTH_WALK_STACK_BYTES},
+        {"undrwyth_walk_two", walk_two, UNDRWYTH_WALK_TWO_STACK_BYTES},
         {"undrwyth_hull", hull, UNDRWYTH_HULL_STACK_BYTES},
         {"undrwyth_hull, at most 2,048 columns", hull_2048, UNDRWYTH_HULL_2048_STACK_BYTES},
         {"undrwyth_hull, at most 256 columns", hull_256, UNDRWYTH_HULL_256_STACK_BYTES},

@@ -56,12 +56,14 @@ typedef uint64_t undrwyth_size;
 #define UNDRWYTH_MOST_STEPS 16384          /* surviving steps, at any moment */
 #define UNDRWYTH_MOST_START 16384          /* magnitude of a start's coordinates */
 #define UNDRWYTH_MOST_RECORDS 131148       /* records in a table */
+#define UNDRWYTH_MOST_PAIR_RECORDS 262296  /* records in a table that two parties share */
 #define UNDRWYTH_MOST_CORNER 32768         /* magnitude of the coordinates of a polygon's corners */
 #define UNDRWYTH_MOST_LINE_DIGITS 1024     /* operations or turns in a frame */
 #define UNDRWYTH_LINE_RECORDS 320          /* records of the table in which a frame is walked */
 
 /* Lengths of buffers. */
 #define UNDRWYTH_RECORD_WORDS 25           /* table words a record */
+#define UNDRWYTH_PAIR_RECORD_WORDS 36      /* table words a record that two parties share */
 #define UNDRWYTH_MARK_WORDS 3              /* marks words an operation: nodes, visits, records changed */
 #define UNDRWYTH_CORNER_NUMBERS 2          /* numbers a hull corner: x, y */
 #define UNDRWYTH_POLYGON_HEADER_BYTES 13   /* bytes of a polygon before its points */
@@ -75,6 +77,7 @@ typedef uint64_t undrwyth_size;
  * of an outline or of a call on a room by how many steps the chain has, and of a call on two rooms the longer chain: 256
  * at most, 2,048 at most, or more. */
 #define UNDRWYTH_WALK_STACK_BYTES 1024          /* 440 measured */
+#define UNDRWYTH_WALK_TWO_STACK_BYTES 2048
 #define UNDRWYTH_HULL_256_STACK_BYTES 3072      /* 2,496 measured */
 #define UNDRWYTH_HULL_2048_STACK_BYTES 17408    /* 16,832 measured */
 #define UNDRWYTH_HULL_STACK_BYTES 132096        /* 131,520 measured */
@@ -100,13 +103,14 @@ typedef uint64_t undrwyth_size;
 
 /* Refusals, in the order in which they are looked for: 1, 2, 3, 10; then 4, 5, 6 at the first faulty place; then 7, at
  * its first place; then 12; 8, 11, 13 and 21 last. A polygon that is read is refused 14, 15, 14 again, 16, 17, 6, 18, in
- * this order; of two rooms all refusals of the first come before those of the second, and 21 after both; of a line 9 and
- * then 19 come before those of its walk. 20 is not given. */
+ * this order; of two rooms all refusals of the first come before those of the second, and 21 after both; of two parties 20
+ * comes with 4, 5 and 6, and before them on one byte; of a line 9 and then 19 come before those of its walk. */
 #define UNDRWYTH_ACCEPTED 0
 #define UNDRWYTH_REFUSAL_TOO_MANY 1        /* more than UNDRWYTH_MOST_INPUT_BYTES input bytes */
-#define UNDRWYTH_REFUSAL_TABLE 2           /* words not UNDRWYTH_RECORD_WORDS times 1 to UNDRWYTH_MOST_RECORDS */
+#define UNDRWYTH_REFUSAL_TABLE 2           /* words not UNDRWYTH_RECORD_WORDS times 1 to UNDRWYTH_MOST_RECORDS; for two
+                                              parties UNDRWYTH_PAIR_RECORD_WORDS and UNDRWYTH_MOST_PAIR_RECORDS */
 #define UNDRWYTH_REFUSAL_RESULT_ROOM 3     /* a result buffer has not the length that the input asks */
-#define UNDRWYTH_REFUSAL_BAD_DIGIT 4       /* a byte above 4 in a walk, above 3 elsewhere. Has a place */
+#define UNDRWYTH_REFUSAL_BAD_DIGIT 4       /* an operation above 4 in a walk, a byte above 3 elsewhere. Has a place */
 #define UNDRWYTH_REFUSAL_NOTHING_TO_TAKE 5 /* operation 4 with no surviving step. Has a place */
 #define UNDRWYTH_REFUSAL_TOO_LONG 6        /* a step beyond UNDRWYTH_MOST_STEPS surviving. Has a place */
 #define UNDRWYTH_REFUSAL_NO_ROOM 7         /* after this operation the nodes needed exceed the records. Has a place:
@@ -123,6 +127,7 @@ typedef uint64_t undrwyth_size;
 #define UNDRWYTH_REFUSAL_BAD_RING 17       /* a slant, a repeated point, fewer than four points, or not closed */
 #define UNDRWYTH_REFUSAL_CHAIN_ROOM 18     /* a buffer shorter than the chain */
 #define UNDRWYTH_REFUSAL_RETIRED_KIND 19   /* a frame with turns; in answers of undrwyth_line alone */
+#define UNDRWYTH_REFUSAL_UNKNOWN_PARTY 20  /* a byte above 31, in undrwyth_walk_two alone. Has a place */
 #define UNDRWYTH_REFUSAL_SPAN_ROOM 21      /* a buffer shorter than three numbers a span */
 
 /* Words of the answer to a walk. The first meeting is the j < k with pj = pk and the least k. */
@@ -148,6 +153,20 @@ typedef uint64_t undrwyth_size;
 #define UNDRWYTH_VERDICT_OPEN_MEETING 3    /* open, crossed */
 #define UNDRWYTH_VERDICT_CLOSED_MEETING 4  /* closed, crossed */
 #define UNDRWYTH_VERDICT_THERE_AND_BACK 5  /* closed, two steps */
+
+/* Words of the answer to two parties; q is the party, 0 or 1, and its words are as those of the answer to a walk. */
+#define UNDRWYTH_WALK_TWO_ANSWER_WORDS 19
+#define UNDRWYTH_WALK_TWO_NUMBER 0         /* the refusal's number */
+#define UNDRWYTH_WALK_TWO_PLACE 1          /* the refusal's place */
+#define UNDRWYTH_WALK_TWO_NODES 2          /* nodes that either party needs, each counted once */
+#define UNDRWYTH_WALK_TWO_VERDICT(q) (3 + 8 * (q))
+#define UNDRWYTH_WALK_TWO_STEPS(q) (4 + 8 * (q))
+#define UNDRWYTH_WALK_TWO_CORNERS(q) (5 + 8 * (q))
+#define UNDRWYTH_WALK_TWO_J(q) (6 + 8 * (q))
+#define UNDRWYTH_WALK_TWO_K(q) (7 + 8 * (q))
+#define UNDRWYTH_WALK_TWO_AREA(q) (8 + 8 * (q))
+#define UNDRWYTH_WALK_TWO_LAST_X(q) (9 + 8 * (q))
+#define UNDRWYTH_WALK_TWO_LAST_Y(q) (10 + 8 * (q))
 
 /* Words of the answer to a hull. */
 #define UNDRWYTH_HULL_ANSWER_WORDS 3
@@ -242,6 +261,20 @@ typedef uint64_t undrwyth_size;
 #define UNDRWYTH_WORD_EDGE_WEST 23         /* the same of the edge west */
 #define UNDRWYTH_WORD_EDGE_SOUTH 24        /* the same of the edge south */
 
+/* Words of a record that two parties share. Record r has the words from UNDRWYTH_PAIR_RECORD_WORDS * r on of the table.
+ *
+ * Words 0 to 13 are those above, from UNDRWYTH_WORD_PARENT to UNDRWYTH_WORD_NEIGHBOUR_SOUTH: two nodes are linked if
+ * either party links them. Then come eleven words of party 0 and eleven of party 1. For the word of party q that has one
+ * of the names above, from UNDRWYTH_WORD_LINK_STEP_EAST on, write UNDRWYTH_PAIR_WORD_OF(q, name). Each party counts its
+ * own steps. A needing step is stored plus 1, and is 0 if the party does not need the node; so it is 1 in the party's
+ * start and all its ancestors. Both parties always need the root.
+ *
+ * A node stands in one record as long as either party needs it. Before the first operation the ancestors of the start of
+ * party 0 and that start are placed, from the root down, and then those of party 1 that are not there. After that a new
+ * node takes the lowest free record, the nearer to the root first. So a child may have a lower number than its parent. A
+ * record that neither party needs is free, and all its words are 0. */
+#define UNDRWYTH_PAIR_WORD_OF(q, word) (11 * (q) + (word))
+
 /* Judges the walk of the n operations in ops from (start_x,start_y), of which neither is beyond UNDRWYTH_MOST_START in
  * magnitude. The start and its ancestors are nodes from the beginning, numbered from the root down.
  *
@@ -268,6 +301,41 @@ uint32_t undrwyth_walk(int32_t start_x, int32_t start_y,
                        uint32_t *marks, undrwyth_size marks_words,
                        uint8_t *chain, undrwyth_size chain_bytes,
                        uint32_t answer[UNDRWYTH_WALK_ANSWER_WORDS]);
+
+/* Judges the walks of two parties, 0 and 1, in one table. A byte of ops is 16 times the party plus the number of an
+ * operation, and concerns that party alone: 0x03 is a step south of party 0, and 0x14 takes back the last surviving step
+ * of party 1. Party 0 starts at (start0_x,start0_y) and party 1 at (start1_x,start1_y).
+ *
+ * table_words is UNDRWYTH_PAIR_RECORD_WORDS times the number of records, 1 to UNDRWYTH_MOST_PAIR_RECORDS. marks_words is
+ * 3 * n. chain0_bytes and chain1_bytes are n each. The contents of the four buffers before the call do not matter. Both
+ * parties together have at most UNDRWYTH_MOST_INPUT_BYTES operations, and each at most UNDRWYTH_MOST_STEPS surviving steps.
+ *
+ * 4 * c + 128 records are enough if the different corners of party 0 and those of party 1 add up to at most c at any
+ * moment, so 4 * n + 136 always are. Lend what the walks can need and no more: the whole table is cleared.
+ *
+ * Accepted: table holds the records of the nodes that either party needs, and zeros elsewhere. marks holds for each
+ * operation, at its place, the nodes in use after it, the visits of the party that moved at the corner where it then
+ * stands, and the number of records that differ before and after it. chain0 and chain1 hold the surviving steps of their
+ * parties, and then zeros; cut each at its party's number of steps before handing it on. What the answer says of a party,
+ * its chain and its words of each node are those of its own start and operations, whatever the other party does.
+ *
+ * Refused with 1, 2, 3, 10, or 20, 4, 5 or 6 at the first faulty place, in this order: the four buffers are as they were.
+ * 0x25 is refused 20, though 5 is not an operation. Refused with UNDRWYTH_REFUSAL_NO_ROOM, if nothing else is wrong: the
+ * four buffers are wholly zero. Its place is 0 also if the two starts have no room. No answer names a party.
+ *
+ * A new node looks for its record from the lowest that may be free. That is seldom far. But operations that free a low
+ * record, fill it and need one more, again and again, while thousands of records after it are in use, go through all of
+ * these each time: in 8,000 records such an operation took 2.9 microseconds, where others take 0.04 (ARM Neoverse-V1).
+ *
+ * Stack: UNDRWYTH_WALK_TWO_STACK_BYTES, whatever the walks. */
+uint32_t undrwyth_walk_two(int32_t start0_x, int32_t start0_y,
+                           int32_t start1_x, int32_t start1_y,
+                           const uint8_t *ops, undrwyth_size n,
+                           uint32_t *table, undrwyth_size table_words,
+                           uint32_t *marks, undrwyth_size marks_words,
+                           uint8_t *chain0, undrwyth_size chain0_bytes,
+                           uint8_t *chain1, undrwyth_size chain1_bytes,
+                           uint32_t answer[UNDRWYTH_WALK_TWO_ANSWER_WORDS]);
 
 /* Lists the corners of the convex hull of p0 to pn of the walk of the n steps in chain from (start_x,start_y).
  *

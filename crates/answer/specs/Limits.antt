@@ -14,6 +14,10 @@ mostSteps = 16384
 abbrev pub mostRecords : ℕ
 mostRecords = 8 * (mostSteps + 1) + 68
 
+-- records at most in a table that two parties share: as many as each may have alone
+abbrev pub mostPairRecords : ℕ
+mostPairRecords = 2 * mostRecords
+
 -- j and k where there is no meeting
 abbrev pub noMeeting : ℕ
 noMeeting = 65535

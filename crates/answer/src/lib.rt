@@ -29,6 +29,7 @@ pub enum Refusal {
     BadRing,
     ChainRoom,
     RetiredKind,
+    UnknownParty(usize),
     SpanRoom,
 }
 
@@ -72,6 +73,30 @@ pub enum Counted {
     Refused(Refusal),
 }
 
+// The facts of one party's walk in a table that two parties share.
+pub struct PartyFacts {
+    pub verdict: Verdict,
+    pub steps: usize,
+    pub corners: usize,
+    pub j: usize,
+    pub k: usize,
+    pub area: i32,
+    pub last: Corner,
+}
+
+// The facts of an accepted call of two parties: the nodes that either needs, once, and what each party has.
+pub struct PairFacts {
+    pub nodes: usize,
+    pub first: PartyFacts,
+    pub second: PartyFacts,
+}
+
+// The answer to two parties.
+pub enum PairAnswer {
+    Accepted(PairFacts),
+    Refused(Refusal),
+}
+
 // The refusal's number.
 pub fn refusal_number(r: Refusal) -> usize
     ensures { λ n. ⌜ (n ≡ refusalNumber r) × (n < 128) ⌝ }
@@ -96,6 +121,7 @@ pub fn refusal_number(r: Refusal) -> usize
         Refusal::BadRing => 17,
         Refusal::ChainRoom => 18,
         Refusal::RetiredKind => 19,
+        Refusal::UnknownParty(_) => 20,
         Refusal::SpanRoom => 21,
     }
 }
@@ -124,6 +150,7 @@ pub fn refusal_place(r: Refusal) -> usize
         Refusal::BadRing => 0,
         Refusal::ChainRoom => 0,
         Refusal::RetiredKind => 0,
+        Refusal::UnknownParty(i) => i,
         Refusal::SpanRoom => 0,
     }
 }
@@ -154,6 +181,9 @@ impl Limits {
 
     // Records of a table at most: eight for each corner of the longest walk, and 68 for its start.
     pub const MOST_RECORDS: usize = 8 * (Limits::MOST_STEPS + 1) + 68;
+
+    // Records at most of a table that two parties share.
+    pub const MOST_PAIR_RECORDS: usize = 2 * Limits::MOST_RECORDS;
 }
 
 // The start of a walk.

@@ -9,7 +9,7 @@ use lib.Signed.{_<ℤ_}
 use Rattle.grid.specs.declared.Corner.{Corner}
 use Rattle.grid.specs.Grid.{corner, origin, cornersFrom}
 use Rattle.hull.specs.Hull.{cross}
-use Rattle.convex.specs.Parts.{turnedBy, clockwise, LowestLeft, LeftmostTop, HighestRight, RightmostBottom, Split}
+use Rattle.convex.specs.Parts.{turnedBy, clockwise, LowestLeft, LeftmostTop, HighestRight, RightmostBottom, Split, PartIs}
 use Rattle.convex.specs.Convex.{Between}
 
 -- one panel, travelled both ways: clockwise it goes north first
@@ -45,6 +45,34 @@ one-panel = record {
   north = all-in (LeftmostTop (corner (pos 0) (pos 1))) (cornersFrom origin (1 ∷ 0 ∷ 3 ∷ 2 ∷ [])) (inl (record { lt = tt }), (inr (refl, record { le = tt }), (inr (refl, record { le = tt }), (inl (record { lt = tt }), (inl (record { lt = tt }), tt)))));
   east = all-in (HighestRight (corner (pos 1) (pos 1))) (cornersFrom origin (1 ∷ 0 ∷ 3 ∷ 2 ∷ [])) (inl (record { lt = tt }), (inl (record { lt = tt }), (inr (refl, record { le = tt }), (inr (refl, record { le = tt }), (inl (record { lt = tt }), tt)))));
   south = all-in (RightmostBottom (corner (pos 1) (pos 0))) (cornersFrom origin (1 ∷ 0 ∷ 3 ∷ 2 ∷ [])) (inr (refl, record { le = tt }), (inl (record { lt = tt }), (inl (record { lt = tt }), (inr (refl, record { le = tt }), (inr (refl, record { le = tt }), tt)))));
+}
+
+-- two panels side by side, clockwise from the middle of their north wall: the second part, that wall, goes on over the start
+pub second-part : PartIs 1 (corner (pos 1) (pos 1)) (0 ∷ 3 ∷ 2 ∷ 2 ∷ 1 ∷ 0 ∷ []) (0 ∷ 0 ∷ [])
+unfolding each
+second-part = record {
+  before = 0 ∷ 3 ∷ 2 ∷ 2 ∷ 1 ∷ [];
+  after = 0 ∷ [];
+  rest = 3 ∷ 2 ∷ 2 ∷ 1 ∷ [];
+  whole = refl;
+  round = refl;
+  more = omega arith;
+  begins = all-in (LeftmostTop (corner (pos 0) (pos 1))) (cornersFrom (corner (pos 1) (pos 1)) (0 ∷ 3 ∷ 2 ∷ 2 ∷ 1 ∷ 0 ∷ [])) (inr (refl, record { le = tt }), (inr (refl, record { le = tt }), (inl (record { lt = tt }), (inl (record { lt = tt }), (inl (record { lt = tt }), (inr (refl, record { le = tt }), (inr (refl, record { le = tt }), tt)))))));
+  ends = all-in (HighestRight (corner (pos 2) (pos 1))) (cornersFrom (corner (pos 1) (pos 1)) (0 ∷ 3 ∷ 2 ∷ 2 ∷ 1 ∷ 0 ∷ [])) (inl (record { lt = tt }), (inr (refl, record { le = tt }), (inr (refl, record { le = tt }), (inl (record { lt = tt }), (inl (record { lt = tt }), (inl (record { lt = tt }), (inl (record { lt = tt }), tt)))))));
+}
+
+-- the fourth ends where the first begins
+pub fourth-part : PartIs 3 (corner (pos 1) (pos 1)) (0 ∷ 3 ∷ 2 ∷ 2 ∷ 1 ∷ 0 ∷ []) (2 ∷ 2 ∷ [])
+unfolding each
+fourth-part = record {
+  before = 0 ∷ 3 ∷ [];
+  after = 2 ∷ 2 ∷ 1 ∷ 0 ∷ [];
+  rest = 1 ∷ 0 ∷ 0 ∷ 3 ∷ [];
+  whole = refl;
+  round = refl;
+  more = omega arith;
+  begins = all-in (RightmostBottom (corner (pos 2) (pos 0))) (cornersFrom (corner (pos 1) (pos 1)) (0 ∷ 3 ∷ 2 ∷ 2 ∷ 1 ∷ 0 ∷ [])) (inl (record { lt = tt }), (inl (record { lt = tt }), (inr (refl, record { le = tt }), (inr (refl, record { le = tt }), (inr (refl, record { le = tt }), (inl (record { lt = tt }), (inl (record { lt = tt }), tt)))))));
+  ends = all-in (LowestLeft (corner (pos 0) (pos 0))) (cornersFrom (corner (pos 1) (pos 1)) (0 ∷ 3 ∷ 2 ∷ 2 ∷ 1 ∷ 0 ∷ [])) (inl (record { lt = tt }), (inl (record { lt = tt }), (inl (record { lt = tt }), (inl (record { lt = tt }), (inr (refl, record { le = tt }), (inr (refl, record { le = tt }), (inl (record { lt = tt }), tt)))))));
 }
 
 -- the part 10011: the grid point (1,2) lies off it, on the hull line from (0,1) to (2,3)

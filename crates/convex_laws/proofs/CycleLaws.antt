@@ -1,19 +1,19 @@
 -- A closed walk from another of its corners, and the other way round: the same corners, and a room if it is one.
 -- Assumes nothing.
-use mathlib.Core.Path.{_≡_, refl, sym, ap, _∙_, subst}
-use mathlib.Core.List.{List, [], _∷_, _++_, List·Memᴰ, List·Memᴰ·head, List·Memᴰ·tail, List·Memᴰ·not-nil}
+use mathlib.Core.Path.{_≡_, refl, sym, ap, ap₂, _∙_, subst}
+use mathlib.Core.List.{List, [], _∷_, _++_, append-nil, List·Memᴰ, List·Memᴰ·head, List·Memᴰ·tail, List·Memᴰ·not-nil}
 use mathlib.Core.Logic.{_⊎_, inl, inr}
 use Prim.Native.Nat.{ℕ, zero, suc, _+_, _-_, _≤_, _<_}
 use native.Mathlib.Omega.{arith}
 use native.Mathlib.Decide.{decLt}
 use lib.ListN.{length, take, drop, length-append, take-append-drop}
-use lib.Seq.{take-append-le, take-append-add, take-length}
+use lib.Seq.{take-append-le, take-append-add, take-at, drop-at, take-length, drop-length}
 use Rattle.grid.specs.declared.Corner.{Corner}
-use Rattle.grid.specs.Grid.{stepped, cornersFrom, endFrom, cornerAt}
-use Rattle.grid.proofs.StepLaws.{back, endFrom-append, cornerAt-end}
+use Rattle.grid.specs.Grid.{stepped, cornersFrom, endFrom, cornerAt, back}
+use Rattle.grid.proofs.StepLaws.{endFrom-append, cornerAt-end}
 use Rattle.trace.specs.Meeting.{Meets}
 use Rattle.trace.specs.Verdict.{IsRoom}
-use Rattle.panels.specs.Outline.{backward}
+use Rattle.panels.specs.Outline.{startedAt, backward}
 use Rattle.area_laws.proofs.OutlineLaws.{end-backward, length-backward}
 
 -- the corners are those at the places
@@ -37,6 +37,39 @@ room-places c ds r i j h g e = go (decLt i j) (decLt j i)
     go (yes l) s = inr (inl (r .only i j (record { earlier = l; within = g; equal = e })))
     go (no l) (yes s) = let z = r .only j i (record { earlier = s; within = h; equal = sym e }) in inr (inr (z .1, z .0))
     go (no l) (no s) = inl (omega arith)
+
+-- a cut b a of a walk is one at the place where b ends
+module _ (c : Corner) (ds b a : List ℕ) (whole : b ++ a ≡ ds) where
+  pub cut-within : length b ≤ length ds
+  cut-within = omega (arith, ap length whole, length-append b a)
+
+  pub cut-corner : cornerAt c ds (length b) ≡ endFrom c b
+  cut-corner = ap (endFrom c) (ap (take (length b)) (sym whole) ∙ take-at b a (length b) refl)
+
+  pub cut-in : List·Memᴰ (endFrom c b) (cornersFrom c ds)
+  cut-in = subst (λ (p : Corner). List·Memᴰ p (cornersFrom c ds)) cut-corner (place-in c ds (length b) cut-within)
+
+  cut-round : a ++ b ≡ startedAt (length b) ds
+  cut-round = ap₂ (λ (x y : List ℕ). x ++ y) (sym (ap (drop (length b)) (sym whole) ∙ drop-at b a (length b) refl)) (sym (ap (take (length b)) (sym whole) ∙ take-at b a (length b) refl))
+
+-- a room has one way round from each of its corners
+pub way-one : (c : Corner) (ds : List ℕ) → IsRoom c ds → (b a b′ a′ : List ℕ) → b ++ a ≡ ds → b′ ++ a′ ≡ ds → endFrom c b ≡ endFrom c b′ → a ++ b ≡ a′ ++ b′
+way-one c ds r b a b′ a′ w w′ e =
+    cut-round c ds b a w
+    ∙ go (length b) (length b′) (room-places c ds r (length b) (length b′) (cut-within c ds b a w) (cut-within c ds b′ a′ w′) (cut-corner c ds b a w ∙ e ∙ sym (cut-corner c ds b′ a′ w′)))
+    ∙ sym (cut-round c ds b′ a′ w′)
+  where
+    -- at either end it is the walk itself
+    at-start : (i : ℕ) → i ≡ 0 → startedAt i ds ≡ ds
+    at-start i z = ap (λ (n : ℕ). startedAt n ds) z ∙ append-nil ds
+
+    at-end : (i : ℕ) → i ≡ length ds → startedAt i ds ≡ ds
+    at-end i z = ap (λ (n : ℕ). startedAt n ds) z ∙ ap₂ (λ (x y : List ℕ). x ++ y) (drop-length ds) (take-length ds)
+
+    go : (i j : ℕ) → (i ≡ j) ⊎ (((i ≡ 0) × (j ≡ length ds)) ⊎ ((i ≡ length ds) × (j ≡ 0))) → startedAt i ds ≡ startedAt j ds
+    go i j (inl z) = ap (λ (n : ℕ). startedAt n ds) z
+    go i j (inr (inl z)) = at-start i (z .0) ∙ sym (at-end j (z .1))
+    go i j (inr (inr z)) = at-end i (z .0) ∙ sym (at-start j (z .1))
 
 -- the walk u v from c, and v u from where u leads
 module _ (c : Corner) (u v : List ℕ) (closed : endFrom c (u ++ v) ≡ c) where

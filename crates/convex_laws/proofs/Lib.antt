@@ -9,3 +9,4 @@ pub mod RoomLaws
 pub mod WayLaws
 pub mod TravelLaws
 pub mod TurnLaws
+pub mod SplitLaws

@@ -17,7 +17,7 @@ use Rattle.hull_laws.specs.Columns.{middle, top, colAfter, rowAfter}
 use Rattle.hull_laws.proofs.CornerLaws.{corner-eq}
 use Rattle.room_thread_laws.specs.Threads.{Goes}
 use Rattle.room_thread_laws.proofs.RoomLaws.{goes-start, goes-step}
-use Rattle.convex.specs.Parts.{LowestLeft, LeftmostTop, HighestRight, RightmostBottom, Extremal}
+use Rattle.convex.specs.Parts.{LowestLeft, LeftmostTop, HighestRight, RightmostBottom, ComesFirst, Extremal}
 use Rattle.convex_laws.specs.Place.{rank, rankAt, leastFrom, placeOf}
 use Rattle.convex_laws.proofs.CycleLaws.{in-place}
 
@@ -49,12 +49,12 @@ south-anti a b (inl h) (inr g) = absurd (omega (zarith, g .0))
 south-anti a b (inr h) (inl g) = absurd (omega (zarith, h .0))
 south-anti a b (inr h) (inr g) = corner-eq a b (omega (zarith, h .1, g .1)) (h .0)
 
--- the order that a number of quarter turns makes that of the lowest on the left
-abbrev pub orderOf : ℕ → Corner → Corner → Type 0
-orderOf zero a b = LowestLeft a b
-orderOf (suc zero) a b = LeftmostTop a b
-orderOf (suc (suc zero)) a b = HighestRight a b
-orderOf (suc (suc (suc t))) a b = RightmostBottom a b
+-- so it is in the order of each extremal corner
+pub first-anti : (i : ℕ) → Anti (ComesFirst i)
+first-anti zero = west-anti
+first-anti (suc zero) = north-anti
+first-anti (suc (suc zero)) = east-anti
+first-anti (suc (suc (suc i))) = south-anti
 
 -- the place found is one of the walk, and no corner comes before the one there
 pub record Found (R : Corner → Corner → Type 0) (c : Corner) (ds : List ℕ) (m : ℕ) : Type 0 where
@@ -66,7 +66,7 @@ before : (x y x′ y′ : ℕ) → y < 65536 → y′ < 65536 → x * 65536 + y 
 before x y x′ y′ h g l = elim (decLt x x′) [ yes s ↦ inl s | no s ↦ inr (omega arith, omega arith) ]
 
 module _ (X Y : ℤ) (x y x′ y′ : ℕ) (hx : x ≤ top) (hy : y ≤ top) (hx′ : x′ ≤ top) (hy′ : y′ ≤ top) where
-  ordered : (t : ℕ) → rank t x y ≤ rank t x′ y′ → orderOf t (corner (X +ℤ pos x) (Y +ℤ pos y)) (corner (X +ℤ pos x′) (Y +ℤ pos y′))
+  ordered : (t : ℕ) → rank t x y ≤ rank t x′ y′ → ComesFirst t (corner (X +ℤ pos x) (Y +ℤ pos y)) (corner (X +ℤ pos x′) (Y +ℤ pos y′))
   ordered zero l = go (before x y x′ y′ (omega arith) (omega arith) l)
     where
       go : (x < x′) ⊎ ((x ≡ x′) × (y ≤ y′)) → LowestLeft (corner (X +ℤ pos x) (Y +ℤ pos y)) (corner (X +ℤ pos x′) (Y +ℤ pos y′))
@@ -151,25 +151,25 @@ module _ (t : ℕ) (ds : List ℕ) (short : length ds ≤ middle) where
   goes-corner : (c : Corner) (x y i : ℕ) → Goes ds middle x y i → cornerAt c ds i ≡ corner ((c .0 -ℤ pos middle) +ℤ pos x) ((c .1 -ℤ pos middle) +ℤ pos y)
   goes-corner c x y i g = corner-eq (cornerAt c ds i) (corner ((c .0 -ℤ pos middle) +ℤ pos x) ((c .1 -ℤ pos middle) +ℤ pos y)) (g .corner c .0) (g .corner c .1)
 
-  least-found : (n : ℕ) → Least 0 n → (c : Corner) → Found (orderOf t) c ds (n % 32768)
-  least-found n u c = subst (Found (orderOf t) c ds) (omega (arith, a .number, u .within)) (record { within = u .within; first = first })
+  least-found : (n : ℕ) → Least 0 n → (c : Corner) → Found (ComesFirst t) c ds (n % 32768)
+  least-found n u c = subst (Found (ComesFirst t) c ds) (omega (arith, a .number, u .within)) (record { within = u .within; first = first })
     where
       a : Stands n (u .j)
       a = u .stands
 
-      first : Extremal (orderOf t) c ds (cornerAt c ds (u .j))
+      first : Extremal (ComesFirst t) c ds (cornerAt c ds (u .j))
       first p m = go (in-place c ds p m)
         where
-          go : (k : ℕ) × (k ≤ length ds) × (p ≡ cornerAt c ds k) → orderOf t (cornerAt c ds (u .j)) p
+          go : (k : ℕ) × (k ≤ length ds) × (p ≡ cornerAt c ds k) → ComesFirst t (cornerAt c ds (u .j)) p
           go (k, l, e) =
               let s = u .least k (omega arith) l in
               let b : Stands (s .0) k = s .2 in
               let ha = goes-top (a .x) (a .y) (u .j) (u .within) (a .goes) in
               let hb = goes-top (b .x) (b .y) k l (b .goes) in
-              subst (orderOf t (cornerAt c ds (u .j))) (sym (e ∙ goes-corner c (b .x) (b .y) k (b .goes)))
-              (subst (λ (z : Corner). orderOf t z (corner ((c .0 -ℤ pos middle) +ℤ pos (b .x)) ((c .1 -ℤ pos middle) +ℤ pos (b .y)))) (sym (goes-corner c (a .x) (a .y) (u .j) (a .goes)))
+              subst (ComesFirst t (cornerAt c ds (u .j))) (sym (e ∙ goes-corner c (b .x) (b .y) k (b .goes)))
+              (subst (λ (z : Corner). ComesFirst t z (corner ((c .0 -ℤ pos middle) +ℤ pos (b .x)) ((c .1 -ℤ pos middle) +ℤ pos (b .y)))) (sym (goes-corner c (a .x) (a .y) (u .j) (a .goes)))
               (ordered (c .0 -ℤ pos middle) (c .1 -ℤ pos middle) (a .x) (a .y) (b .x) (b .y) (ha .0) (ha .1) (hb .0) (hb .1) t (omega (arith, a .number, b .number, s .1, u .within))))
 
-  pub placeOf-found : (c : Corner) → Found (orderOf t) c ds (placeOf t ds)
+  pub placeOf-found : (c : Corner) → Found (ComesFirst t) c ds (placeOf t ds)
   unfolding placeOf
   placeOf-found = least-found (leastFrom t middle middle 0 ds) (least-from ds middle middle 0 refl (omega arith) (goes-start ds middle))

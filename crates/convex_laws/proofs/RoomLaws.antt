@@ -1,9 +1,9 @@
 -- The decision on a room is right.
 -- Assumes nothing.
-use mathlib.Core.Path.{_≡_, refl, sym, ap, ap₂, _∙_, subst}
+use mathlib.Core.Path.{_≡_, refl, sym, ap, _∙_, subst}
 use mathlib.Core.Bool.{Bool, true, false, cond, _&&_}
-use mathlib.Core.List.{List, _++_, List·Memᴰ, append-nil, append-assoc}
-use mathlib.Core.Logic.{_⊎_, inl, inr, _↔_}
+use mathlib.Core.List.{List, _++_, List·Memᴰ, append-assoc}
+use mathlib.Core.Logic.{_↔_}
 use Prim.Native.Nat.{ℕ, _+_, _-_, _≤_}
 use native.Mathlib.Omega.{arith}
 use borrow.Author.Tests.{leb-true, le-leb}
@@ -11,7 +11,7 @@ use lib.Dec.{leb}
 use lib.IntN.{pos}
 use lib.Signed.{ltZ}
 use lib.ListN.{length, take, drop, length-append, take-append-drop}
-use lib.Seq.{take-at, drop-at, take-length, drop-length, take-add, drop-drop}
+use lib.Seq.{take-at, drop-at, take-add, drop-drop}
 use Rattle.area_laws.proofs.OutlineLaws.{length-backward}
 use Rattle.grid.specs.declared.Corner.{Corner}
 use Rattle.grid.specs.Grid.{cornersFrom, endFrom, cornerAt}
@@ -26,24 +26,24 @@ use Rattle.convex_laws.specs.Place.{placeOf}
 use Rattle.convex_laws.specs.Decide.{convexAt, convexFrom, convexRound, convexOf}
 use Rattle.convex_laws.proofs.LevelLaws.{both, two}
 use Rattle.convex_laws.proofs.PartLaws.{convexPart-exactly}
-use Rattle.convex_laws.proofs.CycleLaws.{place-in, room-places, cycle-in, in-cycle, cycle-room, backward-room}
+use Rattle.convex_laws.proofs.CycleLaws.{cut-in, way-one, cycle-in, in-cycle, cycle-room, backward-room}
 use Rattle.convex_laws.proofs.PlaceLaws.{Found, west-anti, north-anti, east-anti, south-anti, placeOf-found}
 use Rattle.convex_laws.proofs.WestLaws.{north-other, east-other, south-other, one-place}
 
 -- a room that begins at its first extremal corner, cut at the other three, with each part convex
-record Cut (c : Corner) (ds : List ℕ) : Type 0 where
-  one : List ℕ
-  two′ : List ℕ
-  three : List ℕ
-  four : List ℕ
-  whole : ds ≡ one ++ (two′ ++ (three ++ four))
-  north : Extremal LeftmostTop c ds (endFrom c one)
-  east : Extremal HighestRight c ds (endFrom c (one ++ two′))
-  south : Extremal RightmostBottom c ds (endFrom c (one ++ (two′ ++ three)))
-  first : ConvexPart one
-  second : ConvexPart (turnedBy 1 two′)
-  third : ConvexPart (turnedBy 2 three)
-  fourth : ConvexPart (turnedBy 3 four)
+pub record Cut (c : Corner) (ds : List ℕ) : Type 0 where
+  pub one : List ℕ
+  pub two′ : List ℕ
+  pub three : List ℕ
+  pub four : List ℕ
+  pub whole : ds ≡ one ++ (two′ ++ (three ++ four))
+  pub north : Extremal LeftmostTop c ds (endFrom c one)
+  pub east : Extremal HighestRight c ds (endFrom c (one ++ two′))
+  pub south : Extremal RightmostBottom c ds (endFrom c (one ++ (two′ ++ three)))
+  pub first : ConvexPart one
+  pub second : ConvexPart (turnedBy 1 two′)
+  pub third : ConvexPart (turnedBy 2 three)
+  pub fourth : ConvexPart (turnedBy 3 four)
 
 -- four parts by three places
 module _ (ds : List ℕ) (j k l : ℕ) (h : j ≤ k) (g : k ≤ l) where
@@ -92,38 +92,71 @@ module _ (p q r s : List ℕ) (j k l : ℕ) (ej : j ≡ length p) (ek : k ≡ le
   fourth-part : drop l (p ++ (q ++ (r ++ s))) ≡ s
   fourth-part = ap (drop l) (ap (λ (x : List ℕ). p ++ x) (sym (append-assoc q r s)) ∙ sym (append-assoc p (q ++ r) s)) ∙ drop-at (p ++ (q ++ r)) s l (sym el)
 
+-- the places j, k and l are in order, and each part between them is convex
+pub record InOrder (ds : List ℕ) (j k l : ℕ) : Type 0 where
+  pub to-east : j ≤ k
+  pub to-south : k ≤ l
+  pub first : ConvexPart (take j ds)
+  pub second : ConvexPart (turnedBy 1 (take (k - j) (drop j ds)))
+  pub third : ConvexPart (turnedBy 2 (take (l - k) (drop k ds)))
+  pub fourth : ConvexPart (turnedBy 3 (drop l ds))
+
+-- that is what is decided
+order-exactly : (ds : List ℕ) (j k l : ℕ) → (convexAt j k l ds ≡ true) ↔ InOrder ds j k l
+unfolding convexAt
+order-exactly ds j k l = (there, back)
+  where
+    p : List ℕ
+    p = take j ds
+
+    q : List ℕ
+    q = turnedBy 1 (take (k - j) (drop j ds))
+
+    r : List ℕ
+    r = turnedBy 2 (take (l - k) (drop k ds))
+
+    s : List ℕ
+    s = turnedBy 3 (drop l ds)
+
+    there : ((leb j k && leb k l) && ((convexPart p && convexPart q) && (convexPart r && convexPart s))) ≡ true → InOrder ds j k l
+    there t =
+        let a = both (leb j k && leb k l) ((convexPart p && convexPart q) && (convexPart r && convexPart s)) t in
+        let o = both (leb j k) (leb k l) (a .0) in
+        let b = both (convexPart p && convexPart q) (convexPart r && convexPart s) (a .1) in
+        let x = both (convexPart p) (convexPart q) (b .0) in
+        let y = both (convexPart r) (convexPart s) (b .1) in
+        record { to-east = leb-true j k (o .0); to-south = leb-true k l (o .1); first = convexPart-exactly p .0 (x .0); second = convexPart-exactly q .0 (x .1); third = convexPart-exactly r .0 (y .0); fourth = convexPart-exactly s .0 (y .1) }
+
+    back : InOrder ds j k l → ((leb j k && leb k l) && ((convexPart p && convexPart q) && (convexPart r && convexPart s))) ≡ true
+    back o = two (two (le-leb j k (o .to-east)) (le-leb k l (o .to-south))) (two (two (convexPart-exactly p .1 (o .first)) (convexPart-exactly q .1 (o .second))) (two (convexPart-exactly r .1 (o .third)) (convexPart-exactly s .1 (o .fourth))))
+
 module _ (c : Corner) (ds : List ℕ) (j k l : ℕ) (fj : Found LeftmostTop c ds j) (fk : Found HighestRight c ds k) (fl : Found RightmostBottom c ds l) where
-  at-cut : convexAt j k l ds ≡ true → Cut c ds
-  unfolding convexAt
-  at-cut t =
-      let a = both (leb j k && leb k l) ((convexPart (take j ds) && convexPart (turnedBy 1 (take (k - j) (drop j ds)))) && (convexPart (turnedBy 2 (take (l - k) (drop k ds))) && convexPart (turnedBy 3 (drop l ds)))) t in
-      let o = both (leb j k) (leb k l) (a .0) in
-      let b = both (convexPart (take j ds) && convexPart (turnedBy 1 (take (k - j) (drop j ds)))) (convexPart (turnedBy 2 (take (l - k) (drop k ds))) && convexPart (turnedBy 3 (drop l ds))) (a .1) in
-      let x = both (convexPart (take j ds)) (convexPart (turnedBy 1 (take (k - j) (drop j ds)))) (b .0) in
-      let y = both (convexPart (turnedBy 2 (take (l - k) (drop k ds)))) (convexPart (turnedBy 3 (drop l ds))) (b .1) in
-      let h : j ≤ k = leb-true j k (o .0) in
-      let g : k ≤ l = leb-true k l (o .1) in
-      record {
-        one = take j ds;
-        two′ = take (k - j) (drop j ds);
-        three = take (l - k) (drop k ds);
-        four = drop l ds;
-        whole = all-parts ds j k l h g;
-        north = fj .first;
-        east = subst (λ (s : List ℕ). Extremal HighestRight c ds (endFrom c s)) (sym (two-parts ds j k l h g)) (fk .first);
-        south = subst (λ (s : List ℕ). Extremal RightmostBottom c ds (endFrom c s)) (sym (three-parts ds j k l h g)) (fl .first);
-        first = convexPart-exactly (take j ds) .0 (x .0);
-        second = convexPart-exactly (turnedBy 1 (take (k - j) (drop j ds))) .0 (x .1);
-        third = convexPart-exactly (turnedBy 2 (take (l - k) (drop k ds))) .0 (y .0);
-        fourth = convexPart-exactly (turnedBy 3 (drop l ds)) .0 (y .1);
-      }
+  pub order-cut : InOrder ds j k l → Cut c ds
+  order-cut o = record {
+    one = take j ds;
+    two′ = take (k - j) (drop j ds);
+    three = take (l - k) (drop k ds);
+    four = drop l ds;
+    whole = all-parts ds j k l (o .to-east) (o .to-south);
+    north = fj .first;
+    east = subst (λ (s : List ℕ). Extremal HighestRight c ds (endFrom c s)) (sym (two-parts ds j k l (o .to-east) (o .to-south))) (fk .first);
+    south = subst (λ (s : List ℕ). Extremal RightmostBottom c ds (endFrom c s)) (sym (three-parts ds j k l (o .to-east) (o .to-south))) (fl .first);
+    first = o .first;
+    second = o .second;
+    third = o .third;
+    fourth = o .fourth;
+  }
 
   module _ (room : IsRoom c ds) (west : Extremal LowestLeft c ds c) where
-    cut-at : Cut c ds → convexAt j k l ds ≡ true
-    unfolding convexAt
-    cut-at t = two (two (le-leb j k (omega (arith, ej, ek, length-append p q))) (le-leb k l (omega (arith, ek, el, length-append p q, length-append p (q ++ r), length-append q r))))
-        (two (two (by p (take j ds) (ap (take j) w ∙ first-part p q r s j k l ej ek el) (t .first)) (turned 1 q (take (k - j) (drop j ds)) (ap (λ (x : List ℕ). take (k - j) (drop j x)) w ∙ second-part p q r s j k l ej ek el) (t .second)))
-        (two (turned 2 r (take (l - k) (drop k ds)) (ap (λ (x : List ℕ). take (l - k) (drop k x)) w ∙ third-part p q r s j k l ej ek el) (t .third)) (turned 3 s (drop l ds) (ap (drop l) w ∙ fourth-part p q r s j k l ej ek el) (t .fourth))))
+    pub cut-order : Cut c ds → InOrder ds j k l
+    cut-order t = record {
+      to-east = omega (arith, ej, ek, length-append p q);
+      to-south = omega (arith, ek, el, length-append p q, length-append p (q ++ r), length-append q r);
+      first = subst ConvexPart (sym (ap (take j) w ∙ first-part p q r s j k l ej ek el)) (t .first);
+      second = turned 1 q (take (k - j) (drop j ds)) (ap (λ (x : List ℕ). take (k - j) (drop j x)) w ∙ second-part p q r s j k l ej ek el) (t .second);
+      third = turned 2 r (take (l - k) (drop k ds)) (ap (λ (x : List ℕ). take (l - k) (drop k x)) w ∙ third-part p q r s j k l ej ek el) (t .third);
+      fourth = turned 3 s (drop l ds) (ap (drop l) w ∙ fourth-part p q r s j k l ej ek el) (t .fourth);
+    }
       where
         p : List ℕ
         p = t .one
@@ -140,11 +173,8 @@ module _ (c : Corner) (ds : List ℕ) (j k l : ℕ) (fj : Found LeftmostTop c ds
         w : ds ≡ p ++ (q ++ (r ++ s))
         w = t .whole
 
-        by : (x y : List ℕ) → y ≡ x → ConvexPart x → convexPart y ≡ true
-        by x y e h = ap convexPart e ∙ convexPart-exactly x .1 h
-
-        turned : (i : ℕ) (x y : List ℕ) → y ≡ x → ConvexPart (turnedBy i x) → convexPart (turnedBy i y) ≡ true
-        turned i x y e h = by (turnedBy i x) (turnedBy i y) (ap (turnedBy i) e) h
+        turned : (i : ℕ) (x y : List ℕ) → y ≡ x → ConvexPart (turnedBy i x) → ConvexPart (turnedBy i y)
+        turned i x y e h = subst (λ (z : List ℕ). ConvexPart (turnedBy i z)) (sym e) h
 
         -- the place where a first part of the walk ends
         place : (x y : List ℕ) → ds ≡ x ++ y → (R : Corner → Corner → Type 0) → Extremal R c ds (endFrom c x) → (length x ≤ length ds) × Extremal R c ds (cornerAt c ds (length x))
@@ -164,20 +194,19 @@ length-started m ds = omega (arith, length-append (drop m ds) (take m ds), lengt
 
 -- the same cut of the walk from any corner of the room
 module _ (c : Corner) (ds : List ℕ) (room : IsRoom c ds) (m : ℕ) (found : Found LowestLeft c ds m) where
-  u : List ℕ
+  abbrev u : List ℕ
   u = take m ds
 
-  v : List ℕ
+  abbrev v : List ℕ
   v = drop m ds
 
   joined : u ++ v ≡ ds
-  unfolding u v
   joined = take-append-drop m ds
 
   closed : endFrom c (u ++ v) ≡ c
   closed = ap (endFrom c) joined ∙ room .closed
 
-  round-room : IsRoom (endFrom c u) (v ++ u)
+  pub round-room : IsRoom (endFrom c u) (v ++ u)
   round-room = cycle-room c u v closed (subst (IsRoom c) (sym joined) room)
 
   to-round : (R : Corner → Corner → Type 0) (q : Corner) → Extremal R c ds q → Extremal R (endFrom c u) (v ++ u) q
@@ -186,16 +215,14 @@ module _ (c : Corner) (ds : List ℕ) (room : IsRoom c ds) (m : ℕ) (found : Fo
   from-round : (R : Corner → Corner → Type 0) (q : Corner) → Extremal R (endFrom c u) (v ++ u) q → Extremal R c ds q
   from-round R q f p i = f p (in-cycle c u v closed p (subst (λ (s : List ℕ). List·Memᴰ p (cornersFrom c s)) (sym joined) i))
 
-  round-west : Extremal LowestLeft (endFrom c u) (v ++ u) (endFrom c u)
-  unfolding u
+  pub round-west : Extremal LowestLeft (endFrom c u) (v ++ u) (endFrom c u)
   round-west = to-round LowestLeft (endFrom c u) (found .first)
 
   -- along the walk from c
   along : (R : Corner → Corner → Type 0) (s : List ℕ) → Extremal R (endFrom c u) (v ++ u) (endFrom (endFrom c u) s) → Extremal R c ds (endFrom c (u ++ s))
   along R s f = subst (Extremal R c ds) (sym (endFrom-append c u s)) (from-round R (endFrom (endFrom c u) s) f)
 
-  cut-split : (t : Cut (endFrom c u) (v ++ u)) → Split c ds (t .one) (t .two′) (t .three) (t .four)
-  unfolding u
+  pub cut-split : (t : Cut (endFrom c u) (v ++ u)) → Split c ds (t .one) (t .two′) (t .three) (t .four)
   cut-split t = record {
     before = u;
     after = v;
@@ -209,35 +236,12 @@ module _ (c : Corner) (ds : List ℕ) (room : IsRoom c ds) (m : ℕ) (found : Fo
 
   -- there is one way round
   same-way : (b a : List ℕ) → b ++ a ≡ ds → Extremal LowestLeft c ds (endFrom c b) → (endFrom c b ≡ endFrom c u) × (a ++ b ≡ v ++ u)
-  unfolding u v
-  same-way b a w f = (sym start ∙ here, go (room-places c ds room (length b) m (omega (arith, ap length w, length-append b a)) (found .within) here))
+  same-way b a w f = (here, way-one c ds room b a u v w joined here)
     where
-      start : cornerAt c ds (length b) ≡ endFrom c b
-      start = ap (endFrom c) (ap (take (length b)) (sym w) ∙ take-at b a (length b) refl)
+      here : endFrom c b ≡ endFrom c u
+      here = west-anti (endFrom c b) (endFrom c u) (f (endFrom c u) (cut-in c ds u v joined)) (found .first (endFrom c b) (cut-in c ds b a w))
 
-      first : Extremal LowestLeft c ds (cornerAt c ds (length b))
-      first = subst (Extremal LowestLeft c ds) (sym start) f
-
-      here : cornerAt c ds (length b) ≡ cornerAt c ds m
-      here = west-anti (cornerAt c ds (length b)) (cornerAt c ds m) (first (cornerAt c ds m) (place-in c ds m (found .within))) (found .first (cornerAt c ds (length b)) (place-in c ds (length b) (omega (arith, ap length w, length-append b a))))
-
-      -- the cut b a at its place
-      by-place : a ++ b ≡ startedAt (length b) ds
-      by-place = ap₂ (λ (x y : List ℕ). x ++ y) (sym (ap (drop (length b)) (sym w) ∙ drop-at b a (length b) refl)) (sym (ap (take (length b)) (sym w) ∙ take-at b a (length b) refl))
-
-      -- at either end it is the walk itself
-      at-start : (i : ℕ) → i ≡ 0 → startedAt i ds ≡ ds
-      at-start i e = ap (λ (n : ℕ). startedAt n ds) e ∙ append-nil ds
-
-      at-end : (i : ℕ) → i ≡ length ds → startedAt i ds ≡ ds
-      at-end i e = ap (λ (n : ℕ). startedAt n ds) e ∙ ap₂ (λ (x y : List ℕ). x ++ y) (drop-length ds) (take-length ds)
-
-      go : (length b ≡ m) ⊎ (((length b ≡ 0) × (m ≡ length ds)) ⊎ ((length b ≡ length ds) × (m ≡ 0))) → a ++ b ≡ startedAt m ds
-      go (inl e) = by-place ∙ ap (λ (n : ℕ). startedAt n ds) e
-      go (inr (inl e)) = by-place ∙ at-start (length b) (e .0) ∙ sym (at-end m (e .1))
-      go (inr (inr e)) = by-place ∙ at-end (length b) (e .0) ∙ sym (at-start m (e .1))
-
-  split-cut : (p q r s : List ℕ) → Split c ds p q r s → ConvexPart p → ConvexPart (turnedBy 1 q) → ConvexPart (turnedBy 2 r) → ConvexPart (turnedBy 3 s) → Cut (endFrom c u) (v ++ u)
+  pub split-cut : (p q r s : List ℕ) → Split c ds p q r s → ConvexPart p → ConvexPart (turnedBy 1 q) → ConvexPart (turnedBy 2 r) → ConvexPart (turnedBy 3 s) → Cut (endFrom c u) (v ++ u)
   split-cut p q r s t first second third fourth = record {
     one = p;
     two′ = q;
@@ -261,9 +265,11 @@ module _ (c : Corner) (ds : List ℕ) (room : IsRoom c ds) (m : ℕ) (found : Fo
 
   -- the decision on the walk from its first extremal corner
   round-cut : (j k l : ℕ) → Found LeftmostTop (endFrom c u) (v ++ u) j → Found HighestRight (endFrom c u) (v ++ u) k → Found RightmostBottom (endFrom c u) (v ++ u) l → (convexAt j k l (v ++ u) ≡ true) ↔ Cut (endFrom c u) (v ++ u)
-  round-cut j k l fj fk fl = (at-cut (endFrom c u) (v ++ u) j k l fj fk fl, cut-at (endFrom c u) (v ++ u) j k l fj fk fl round-room round-west)
+  round-cut j k l fj fk fl =
+      let o = order-exactly (v ++ u) j k l in
+      (λ e. order-cut (endFrom c u) (v ++ u) j k l fj fk fl (o .0 e), λ t. o .1 (cut-order (endFrom c u) (v ++ u) j k l fj fk fl round-room round-west t))
 
-clockwise-room : (c : Corner) (ds : List ℕ) → IsRoom c ds → IsRoom c (clockwise c ds)
+pub clockwise-room : (c : Corner) (ds : List ℕ) → IsRoom c ds → IsRoom c (clockwise c ds)
 clockwise-room c ds r = go (ltZ (pos 0) (sweepFrom c ds))
   where
     go : (t : Bool) → IsRoom c (cond t (backward ds) ds)
@@ -279,7 +285,7 @@ length-clockwise c ds = go (ltZ (pos 0) (sweepFrom c ds))
 
 -- the decision on a room gives its answer
 pub convexOf-exactly : (c : Corner) (ds : List ℕ) → IsRoom c ds → length ds ≤ middle → ConvexIs c ds (convexOf c ds)
-unfolding convexOf convexRound convexFrom u v
+unfolding convexOf convexRound convexFrom
 convexOf-exactly c ds r short = (there, back)
   where
     t : List ℕ

@@ -13,16 +13,17 @@ use Rattle.int_laws.proofs.LinearLaws.{zarith, neg-nat}
 use Rattle.int_laws.proofs.NextLaws.{true-lt, false-lt}
 use Rattle.lists.specs.Lists.{Below}
 use Rattle.grid.specs.declared.Corner.{Corner}
-use Rattle.grid.specs.Grid.{endFrom, cornerAt}
-use Rattle.grid.proofs.StepLaws.{back, endFrom-append, back-back}
+use Rattle.grid.specs.Grid.{endFrom, cornerAt, back}
+use Rattle.grid.proofs.StepLaws.{endFrom-append, back-back}
 use Rattle.trace.specs.Verdict.{IsRoom, sweepFrom}
 use Rattle.trace.proofs.VerdictLaws.{area-room}
+use Rattle.panels.specs.Inside.{InsideRight}
 use Rattle.panels.specs.Outline.{startedAt, backward}
 use Rattle.area_laws.proofs.OutlineLaws.{sweep-started, sweep-backward, end-backward}
-use Rattle.room_laws.proofs.RoomLaws.{room-magnitude, room-some}
+use Rattle.room_laws.proofs.RoomLaws.{room-magnitude, room-some, room-sign}
 use Rattle.convex.specs.Parts.{turnedBy, clockwise, LowestLeft, LeftmostTop, HighestRight, RightmostBottom, Extremal, Split}
 use Rattle.convex.specs.Convex.{ConvexPart, ConvexRoom}
-use Rattle.convex_laws.proofs.CycleLaws.{cycle-in, cycle-closed}
+use Rattle.convex_laws.proofs.CycleLaws.{cycle-in, cycle-closed, backward-room}
 
 -- ---- a walk that is split into convex parts
 
@@ -78,14 +79,14 @@ module _ (c : Corner) (u v : List ℕ) (closed : endFrom c (u ++ v) ≡ c) where
   extremal-cycle R q f p m = f p (cycle-in c u v closed p m)
 
   -- the place of a cut in the second walk
-  record Place (b a : List ℕ) : Type 0 where
-    b′ : List ℕ
-    a′ : List ℕ
-    whole : b′ ++ a′ ≡ v ++ u
-    round : a′ ++ b′ ≡ a ++ b
-    ends : endFrom (endFrom c u) b′ ≡ endFrom c b
+  pub record Place (b a : List ℕ) : Type 0 where
+    pub b′ : List ℕ
+    pub a′ : List ℕ
+    pub whole : b′ ++ a′ ≡ v ++ u
+    pub round : a′ ++ b′ ≡ a ++ b
+    pub ends : endFrom (endFrom c u) b′ ≡ endFrom c b
 
-  place : (b a : List ℕ) → u ++ v ≡ b ++ a → Place b a
+  pub place : (b a : List ℕ) → u ++ v ≡ b ++ a → Place b a
   place b a e = go (cuts u v b a e)
     where
       go : (x : List ℕ) × (((u ≡ b ++ x) × (a ≡ x ++ v)) ⊎ ((b ≡ u ++ x) × (v ≡ x ++ a))) → Place b a
@@ -192,20 +193,30 @@ either (pos zero) h = absurd (omega arith)
 either (pos (suc n)) h = inl (omega zarith)
 either (negsuc n) h = inr (omega zarith)
 
+room-either : (c : Corner) (ds : List ℕ) → IsRoom c ds → (pos 0 <ℤ sweepFrom c ds) ⊎ (sweepFrom c ds <ℤ pos 0)
+room-either c ds r = either (sweepFrom c ds) some
+  where
+    some : 0 < natAbs (sweepFrom c ds)
+    some = omega (arith, ap natAbs (area-room c ds r), room-magnitude c ds r, room-some c ds r)
+
 clockwise-backward : (c : Corner) (ds : List ℕ) → Below 4 ds → IsRoom c ds → clockwise c (backward ds) ≡ clockwise c ds
 clockwise-backward c ds b r = ⊎-elim
     (λ h. ap (λ (t : Bool). cond t (backward (backward ds)) (backward ds)) (false-lt (pos 0) (sweepFrom c (backward ds)) (omega (zarith, h, other, neg-nat (sweepFrom c ds) .0, neg-nat (sweepFrom c ds) .1))) ∙ sym (ap (λ (t : Bool). cond t (backward ds) ds) (true-lt (pos 0) (sweepFrom c ds) h)))
     (λ h. ap (λ (t : Bool). cond t (backward (backward ds)) (backward ds)) (true-lt (pos 0) (sweepFrom c (backward ds)) (omega (zarith, h, other, neg-nat (sweepFrom c ds) .0, neg-nat (sweepFrom c ds) .1))) ∙ backward-backward ds b ∙ sym (ap (λ (t : Bool). cond t (backward ds) ds) (false-lt (pos 0) (sweepFrom c ds) (omega zarith))))
-    sign
+    (room-either c ds r)
   where
     other : sweepFrom c (backward ds) ≡ negℤ (sweepFrom c ds)
     other = sweep-backward c c ds (r .closed)
 
-    sign : (pos 0 <ℤ sweepFrom c ds) ⊎ (sweepFrom c ds <ℤ pos 0)
-    sign = either (sweepFrom c ds) some
-      where
-        some : 0 < natAbs (sweepFrom c ds)
-        some = omega (arith, ap natAbs (area-room c ds r), room-magnitude c ds r, room-some c ds r)
+-- a room that is travelled clockwise has its inside on the right
+pub clockwise-right : (c : Corner) (ds : List ℕ) → IsRoom c ds → InsideRight c (clockwise c ds)
+clockwise-right c ds r = ⊎-elim
+    (λ h. subst (InsideRight c) (sym (ap (λ (t : Bool). cond t (backward ds) ds) (true-lt (pos 0) (sweepFrom c ds) h))) (right (backward ds) (backward-room c ds r) (omega (zarith, h, sweep-backward c c ds (r .closed), neg-nat (sweepFrom c ds) .0, neg-nat (sweepFrom c ds) .1))))
+    (λ h. subst (InsideRight c) (sym (ap (λ (t : Bool). cond t (backward ds) ds) (false-lt (pos 0) (sweepFrom c ds) (omega zarith)))) (right ds r h))
+    (room-either c ds r)
+  where
+    right : (w : List ℕ) → IsRoom c w → sweepFrom c w <ℤ pos 0 → InsideRight c w
+    right w q h = room-sign c w q .1 .0 (subst (λ (z : ℤ). z <ℤ pos 0) (sym (area-room c w q)) h)
 
 -- the answer is the same for a room walked the other way
 pub convex-backward : (c : Corner) (ds : List ℕ) → Below 4 ds → IsRoom c ds → ConvexRoom c ds ↔ ConvexRoom c (backward ds)

@@ -11,8 +11,8 @@ use lib.Signed.{ltZ, _<ℤ_, _≤ℤ_}
 use Rattle.int_laws.proofs.LinearLaws.{zarith, bal+, bal-, neg-nat}
 use Rattle.lists.specs.Lists.{Below}
 use Rattle.grid.specs.declared.Corner.{Corner}
-use Rattle.grid.specs.Grid.{corner, stepped, cornersFrom, endFrom}
-use Rattle.grid.proofs.StepLaws.{back, back-small, endFrom-append}
+use Rattle.grid.specs.Grid.{corner, stepped, cornersFrom, endFrom, back}
+use Rattle.grid.proofs.StepLaws.{back-small, endFrom-append}
 use Rattle.trace.specs.Verdict.{sweepFrom}
 use Rattle.panels.specs.Outline.{turned, backward}
 use Rattle.area_laws.proofs.ImageLaws.{Image, end-image, moved, move, turn, sweep-moved, sweep-turned}
@@ -154,11 +154,11 @@ letters-four (d ∷ l) b = ap₂ (λ (n : ℕ) (m : List ℕ). n ∷ m) (same d 
     same : (d : ℕ) → d < 4 → (d + 4) % 4 ≡ d
     same d h = omega arith
 
-below-join : (u v : List ℕ) → Below 4 u → Below 4 v → Below 4 (u ++ v)
+pub below-join : (u v : List ℕ) → Below 4 u → Below 4 v → Below 4 (u ++ v)
 below-join [] v a b = b
 below-join (d ∷ u) v a b = (a .0, below-join u v (a .1) b)
 
-below-parts : (u v : List ℕ) → Below 4 (u ++ v) → Below 4 u × Below 4 v
+pub below-parts : (u v : List ℕ) → Below 4 (u ++ v) → Below 4 u × Below 4 v
 below-parts [] v b = (tt, b)
 below-parts (d ∷ u) v b = let r = below-parts u v (b .1) in ((b .0, r .0), r .1)
 
@@ -259,7 +259,7 @@ backward-turned : (ds : List ℕ) → backward (map turned ds) ≡ map turned (b
 backward-turned [] = refl
 backward-turned (d ∷ ds) = ap₂ (λ (l : List ℕ) (n : ℕ). l ++ (n ∷ [])) (backward-turned ds) (back-turned d) ∙ sym (map-append turned (backward ds) (back d ∷ []))
 
-below-backward : (ds : List ℕ) → Below 4 (backward ds)
+pub below-backward : (ds : List ℕ) → Below 4 (backward ds)
 below-backward [] = tt
 below-backward (d ∷ ds) = below-join (backward ds) (back d ∷ []) (below-backward ds) (back-small d, tt)
 

@@ -3,15 +3,19 @@
 use mathlib.Core.List.{List, map}
 use mathlib.Core.Logic.{_↔_}
 use mathlib.Core.Path.{_≡_}
-use Prim.Native.Nat.{ℕ}
+use Prim.Native.Nat.{ℕ, _<_}
 use Rattle.lists.specs.Lists.{Below}
 use Rattle.answer.specs.declared.{Counted.Counted, Judged.the-variants.Good, Judged.the-variants.Refused, Refusal.Refusal}
 use Rattle.grid.specs.declared.Corner.{Corner}
 use Rattle.grid.specs.Grid.{endFrom, cornerAt}
 use Rattle.trace.specs.Verdict.{IsRoom}
+use Rattle.panels.specs.Inside.{InsideRight}
 use Rattle.panels.specs.Outline.{turned, startedAt, backward}
-use Rattle.convex.specs.Convex.{ConvexRoom, ConvexCall}
+use Rattle.convex.specs.Parts.{turnedBy, clockwise, PartIs}
+use Rattle.convex.specs.Convex.{ConvexPart, ConvexRoom, ConvexCall}
 use Rattle.convex.proofs.ConvexLaws as convexLaws
+use Rattle.convex_laws.proofs.RoomLaws as roomLaws
+use Rattle.convex_laws.proofs.SplitLaws as splitLaws
 use Rattle.convex_laws.proofs.TravelLaws as travelLaws
 use Rattle.convex_laws.proofs.TurnLaws as turnLaws
 use Rattle.demands.specs.GivenRoom.{GivenRoom}
@@ -37,6 +41,32 @@ module _ {s : Corner} {ds : List ℕ} {r : Counted} (w : ConvexCall s ds r) wher
   -- no exactly for a room that is not convex
   pub convex-no-exactly : r ≡ Counted.Many 0 ↔ (GivenRoom s ds Good × (ConvexRoom s ds → ⊥))
   convex-no-exactly = convexCallLaws.convex-no-when w
+
+  -- "Yes exactly when each part uses only its two letters and no grid point off the part lies between it and the upper convex hull of its points, the
+  -- hull line included": each of the four
+  pub convex-yes-parts : r ≡ Counted.Many 1 ↔ (GivenRoom s ds Good × ((i : ℕ) → i < 4 → (w : List ℕ) → PartIs i s (clockwise s ds) w → ConvexPart (turnedBy i w)))
+  convex-yes-parts = convexCallLaws.yes-parts-when w
+
+  -- and no exactly when some part is not so
+  pub convex-no-part : r ≡ Counted.Many 0 ↔ (GivenRoom s ds Good × ((i : ℕ) × (i < 4) × (w : List ℕ) × PartIs i s (clockwise s ds) w × (ConvexPart (turnedBy i w) → ⊥)))
+  convex-no-part = convexCallLaws.no-part-when w
+
+module _ (c : Corner) (ds : List ℕ) (r : IsRoom c ds) where
+  -- "travelled clockwise": the inside is on the right of each step
+  pub travelled-clockwise : InsideRight c (clockwise c ds)
+  travelled-clockwise = travelLaws.clockwise-right c ds r
+
+  -- "split it at its four extremal corners": every room has each part, from its extremal corner round to the next
+  pub part-exists : (i : ℕ) → (w : List ℕ) × PartIs i c (clockwise c ds) w
+  part-exists = splitLaws.part-some c (clockwise c ds) (roomLaws.clockwise-room c ds r)
+
+  -- and only one
+  pub partIs-one : (i : ℕ) {w₁ w₂ : List ℕ} → PartIs i c (clockwise c ds) w₁ → PartIs i c (clockwise c ds) w₂ → w₁ ≡ w₂
+  partIs-one = splitLaws.part-one c (clockwise c ds) (roomLaws.clockwise-room c ds r)
+
+  -- the room is convex exactly when each of the four is: so convex parts always follow one another, once round
+  pub convex-parts : Below 4 ds → ConvexRoom c ds ↔ ((i : ℕ) → i < 4 → (w : List ℕ) → PartIs i c (clockwise c ds) w → ConvexPart (turnedBy i w))
+  convex-parts b = splitLaws.convex-parts c ds b r
 
 -- a convex room is convex from each of its corners
 pub convex-started : (c : Corner) (ds : List ℕ) (j : ℕ) → endFrom c ds ≡ c → ConvexRoom c ds ↔ ConvexRoom (cornerAt c ds j) (startedAt j ds)

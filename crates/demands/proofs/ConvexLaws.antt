@@ -4,22 +4,26 @@ use mathlib.Core.Bool.{Bool, true, false, true≢false}
 use mathlib.Core.List.{List}
 use mathlib.Core.Logic.{_↔_}
 use mathlib.Core.Path.{_≡_, refl, ap, ap₂, sym, _∙_}
-use Prim.Native.Nat.{ℕ}
+use Prim.Native.Nat.{ℕ, _<_}
 use native.Mathlib.Omega.{arith}
-use Rattle.lists.specs.Lists.{tally}
+use Rattle.lists.specs.Lists.{tally, Below}
 use Rattle.lists.proofs.BoolLaws.{is-false}
 use Rattle.answer.specs.declared.Counted.{Counted}
 use Rattle.answer.specs.declared.Judged.{Judged}
 use Rattle.answer.specs.declared.Judged.the-variants.{Good, Refused}
 use Rattle.answer.specs.declared.Refusal.{Refusal}
 use Rattle.grid.specs.declared.Corner.{Corner}
+use Rattle.trace.specs.Verdict.{IsRoom}
 use Rattle.hull.specs.Call.{countedOf}
 use Rattle.hull_laws.proofs.SurveyLaws.{good-short}
 use Rattle.room.specs.Room.{asRoomJudged}
 use Rattle.room.proofs.RoomLaws.{good-room}
-use Rattle.convex.specs.Convex.{ConvexRoom, ConvexCall}
+use Rattle.row_laws.proofs.CallLaws.{good-steps}
+use Rattle.convex.specs.Parts.{turnedBy, clockwise, PartIs}
+use Rattle.convex.specs.Convex.{ConvexPart, ConvexRoom, ConvexCall}
 use Rattle.convex_laws.specs.Decide.{convexOf}
 use Rattle.convex_laws.proofs.RoomLaws.{convexOf-exactly}
+use Rattle.convex_laws.proofs.SplitLaws.{convex-parts, some-part}
 use Rattle.demands.specs.GivenRoom.{GivenRoom}
 use Rattle.demands.proofs.DigitLaws.{count-refused}
 use Rattle.demands.proofs.RoomCallLaws.{room-when}
@@ -67,4 +71,24 @@ module _ {s : Corner} {ds : List ℕ} {r : Counted} (w : ConvexCall s ds r) wher
   convex-no-when = (
     λ e. (let g = counted-good judged (tally (w .says)) 0 (sym e ∙ w .answer) in (room-when s ds Good .0 (g .0), λ x. true≢false (sym (w .convex (g .0) .1 x) ∙ tally-no (w .says) (g .1)))),
     λ g. told false (is-false (w .says) (λ e. g .1 (w .convex (room-when s ds Good .1 (g .0)) .0 e))) (g .0),
+  )
+
+  -- the room of a call that is not refused has digits below 4
+  module _ (g : GivenRoom s ds Good) where
+    digits : Below 4 ds
+    digits = good-steps s ds (room-when s ds Good .1 g) .0
+
+    room : IsRoom s ds
+    room = good-room s ds (room-when s ds Good .1 g) .room
+
+  pub yes-parts-when : r ≡ Counted.Many 1 ↔ (GivenRoom s ds Good × ((i : ℕ) → i < 4 → (w : List ℕ) → PartIs i s (clockwise s ds) w → ConvexPart (turnedBy i w)))
+  yes-parts-when = (
+    λ e. (let k = convex-yes-when .0 e in (k .0, convex-parts s ds (digits (k .0)) (room (k .0)) .0 (k .1))),
+    λ k. convex-yes-when .1 (k .0, convex-parts s ds (digits (k .0)) (room (k .0)) .1 (k .1)),
+  )
+
+  pub no-part-when : r ≡ Counted.Many 0 ↔ (GivenRoom s ds Good × ((i : ℕ) × (i < 4) × (w : List ℕ) × PartIs i s (clockwise s ds) w × (ConvexPart (turnedBy i w) → ⊥)))
+  no-part-when = (
+    λ e. (let k = convex-no-when .0 e in (k .0, some-part s ds (digits (k .0)) (room (k .0)) .0 (k .1))),
+    λ k. convex-no-when .1 (k .0, some-part s ds (digits (k .0)) (room (k .0)) .1 (k .1)),
   )

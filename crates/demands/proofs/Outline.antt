@@ -10,7 +10,7 @@ use Rattle.lists.specs.Lists.{Distinct, Below}
 use Rattle.answer.specs.declared.{Counted.Counted, Judged.the-variants.Good, Judged.the-variants.Refused, Refusal.Refusal}
 use Rattle.answer.specs.Limits.{mostSteps}
 use Rattle.grid.specs.declared.{Corner.Corner, Panel.Panel}
-use Rattle.grid.specs.Grid.{cornersFrom, endFrom, cornerAt, legsFrom}
+use Rattle.grid.specs.Grid.{stepped, cornersFrom, endFrom, cornerAt, legsFrom}
 use Rattle.trace.specs.Verdict.{IsRoom}
 use Rattle.hull.specs.Hull.{Begins}
 use Rattle.panels.specs.Inside.{Inside, leftOf, rightOf, EachStep}
@@ -18,7 +18,7 @@ use Rattle.panels.specs.Outline.{startedAt, backward}
 use Rattle.outline.specs.Outline.{walked, homeOf, OutlineIs}
 use Rattle.outline.specs.Call.{OutlineCall}
 use Rattle.outline.proofs.CallLaws as callLaws
-use Rattle.outline.proofs.Computed.{outlineOf}
+use Rattle.outline.specs.Computed.{outlineOf}
 use Rattle.outline_laws.specs.Different.{different}
 use Rattle.outline_laws.proofs.OutlineLaws as outlineLaws
 use Rattle.outline_laws.proofs.FewLaws as fewLaws
@@ -29,6 +29,7 @@ use Rattle.outline_room_laws.specs.Outside.{Outside}
 use Rattle.outline_room_laws.proofs.OutsideLaws as outsideLaws
 use Rattle.outline_room_laws.proofs.RoomLaws as roomLaws
 use Rattle.outline_room_laws.proofs.SideLaws as sideLaws
+use Rattle.outline_room_laws.proofs.WholeLaws as wholeLaws
 use Rattle.demands.specs.GivenOutline.{GivenOutline}
 use Rattle.demands.proofs.OutlineCallLaws as givenLaws
 
@@ -75,6 +76,15 @@ module _ {s : Corner} {ds es : List ℕ} (o : OutlineIs s ds es) where
   -- the panel on the right of each of its steps lies outside the walk
   pub outline-outside : EachStep (λ d q. Outside s ds (rightOf d q)) (homeOf s ds) es
   outline-outside = outsideLaws.outline-outside o
+
+  -- "the outside edge", and the whole of it: the outline passes an edge in a direction exactly if the edge was walked and the panel on its right lies
+  -- outside; by `outline-once` it does so once
+  pub outline-whole : (p : Corner) (d : ℕ) → d < 4 → List·Memᴰ (p, stepped d p) (legsFrom (homeOf s ds) es) ↔ ((walked s ds p d ≡ true) × Outside s ds (rightOf d p))
+  outline-whole = wholeLaws.outline-whole o
+
+  -- a panel lies outside the walk exactly if it is not inside the outline
+  pub outside-exactly : (p : Panel) → Outside s ds p ↔ (Inside (homeOf s ds) es p → ⊥)
+  outside-exactly = wholeLaws.outside-exactly o
 
   -- what lies inside does not count: a walk along all edges of the outline, and along none that the first walk did not have, has the same outline
   pub outline-between : (s′ : Corner) (ds′ : List ℕ) → 0 < length ds → ((p : Corner) (d : ℕ) → walked (homeOf s ds) es p d ≡ true → walked s′ ds′ p d ≡ true) → ((p : Corner) (d : ℕ) → walked s′ ds′ p d ≡ true → walked s ds p d ≡ true) → OutlineIs s′ ds′ es

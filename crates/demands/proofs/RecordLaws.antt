@@ -43,7 +43,7 @@ module _ (l : List Corner) (a : Corner) where
         | no z ↦ omega (arith, h .1)
       ]
 
-  find-first : (k : ℕ) → find (same a) l ≡ suc k ↔ FirstIn l a k
+  pub find-first : (k : ℕ) → find (same a) l ≡ suc k ↔ FirstIn l a k
   find-first k = (
     λ e.
         let g = find-get (same a) l k origin e in

@@ -17,10 +17,14 @@ sameWords [] (y ∷ m) = false
 sameWords (x ∷ l) [] = false
 sameWords (x ∷ l) (y ∷ m) = eqb x y && sameWords l m
 
--- how many of the first n records differ in two tables
+-- how many of the first n records, of w words each, differ in two tables
+abbrev pub changesBy : ℕ → ℕ → List ℕ → List ℕ → ℕ
+changesBy w zero t u = 0
+changesBy w (suc n) t u = tally (not (sameWords (take w t) (take w u))) + changesBy w n (drop w t) (drop w u)
+
+-- in two tables of one walk
 abbrev pub changesIn : ℕ → List ℕ → List ℕ → ℕ
-changesIn zero t u = 0
-changesIn (suc n) t u = tally (not (sameWords (take width t) (take width u))) + changesIn n (drop width t) (drop width u)
+changesIn n t u = changesBy width n t u
 
 -- how many records differ in the tables of the walks with the steps ds and es, both of as many records as either needs
 abbrev pub changesOf : Corner → List ℕ → List ℕ → ℕ

@@ -4,7 +4,7 @@ use Rattle.grid.specs.{declared.Corner.Corner, Grid.same, Grid.stepped, Grid.co
 use Rattle.tree.specs.Nodes.{nodesOf, refOf, needOf, linkStepOf}
 
 -- words of a record: 14 that all walks in a table share, and 11 of each of m walks
-abbrev recordWords : ℕ → ℕ
+abbrev pub recordWords : ℕ → ℕ
 recordWords m = 14 + m * 11
 
 -- words of a record in the table of one walk

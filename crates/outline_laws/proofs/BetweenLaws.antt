@@ -35,7 +35,7 @@ round-one c ds m n l e o r =
     ]
 
 -- a walk with a walked edge has a step, and every corner of it has one
-some-step : (c : Corner) (ds : List ℕ) (p : Corner) (d : ℕ) → walked c ds p d ≡ true → 0 < length ds
+pub some-step : (c : Corner) (ds : List ℕ) (p : Corner) (d : ℕ) → walked c ds p d ≡ true → 0 < length ds
 some-step c [] p d w = absurd (true≢false (sym w))
 some-step c (x ∷ ds) p d w = omega arith
 

@@ -14,7 +14,7 @@ use Rattle.grid.specs.declared.Corner.{Corner}
 use Rattle.grid.specs.Grid.{same, stepped, cornersFrom, endFrom}
 use Rattle.grid.proofs.CornerLaws.{same-refl, same-sound}
 use Rattle.outline.specs.Outline.{homeOf, firstWay, pathFromHome, lacks, isDone, OutlineIs}
-use Rattle.outline.proofs.Computed.{momentFrom, outlineOf}
+use Rattle.outline.specs.Computed.{momentFrom, outlineOf}
 use Rattle.outline_laws.proofs.OrbitLaws.{orbit, orbit-on}
 use Rattle.outline_laws.proofs.EdgeLaws.{Way}
 use Rattle.outline_laws.proofs.PathLaws.{next, On, next-on, length-path, path-ways}
@@ -81,7 +81,7 @@ outline-closed {c} {ds} {es} o =
 abbrev pub waysOf : Corner → List ℕ → List Way
 waysOf p es = zip (cornersFrom p es) es
 
-outline-orbit : {c : Corner} {ds es : List ℕ} → OutlineIs c ds es → waysOf (homeOf c ds) es ≡ orbit (next c ds) (length es) (start c ds)
+pub outline-orbit : {c : Corner} {ds es : List ℕ} → OutlineIs c ds es → waysOf (homeOf c ds) es ≡ orbit (next c ds) (length es) (start c ds)
 outline-orbit {c} {ds} {es} o = ap (waysOf (homeOf c ds)) (o .path) ∙ path-ways c ds (length es) (homeOf c ds) (firstWay c ds)
 
 -- the walk has no step, and so has the outline; or it goes once round

@@ -3,3 +3,4 @@ pub mod OutsideLaws
 pub mod RingLaws
 pub mod RoomLaws
 pub mod SideLaws
+pub mod WholeLaws

@@ -2,7 +2,7 @@
 -- Assumes nothing.
 use mathlib.Core.Bool.{Bool, true, false, true≢false}
 use mathlib.Core.List.{List, [], _∷_, List·Memᴰ, List·Memᴰ·head, List·Memᴰ·tail}
-use mathlib.Core.Logic.{inl, inr, ⊎-elim}
+use mathlib.Core.Logic.{inl, inr, ⊎-elim, _↔_}
 use mathlib.Core.Path.{_≡_, refl, ap, ap₂, sym, _∙_, subst}
 use Prim.Native.Nat.{ℕ, zero, suc, _%_, _<_}
 use native.Mathlib.Omega.{arith}
@@ -12,9 +12,9 @@ use lib.Signed.{_≤ℤ_, _<ℤ_}
 use Rattle.int_laws.proofs.LinearLaws.{zarith, bal+}
 use Rattle.int_laws.proofs.NextLaws.{bal-pred}
 use Rattle.grid.specs.declared.{Corner.Corner, Panel.Panel}
-use Rattle.grid.specs.Grid.{same, stepped, endFrom, legsFrom}
+use Rattle.grid.specs.Grid.{same, stepped, endFrom, legsFrom, back}
 use Rattle.grid.proofs.CornerLaws.{same-sound}
-use Rattle.grid.proofs.StepLaws.{back, stepped-back}
+use Rattle.grid.proofs.StepLaws.{stepped-back}
 use Rattle.steps.specs.Turns.{stepAfter}
 use Rattle.hull.specs.Hull.{Begins}
 use Rattle.panels.specs.Edges.{surplusOf}
@@ -41,41 +41,44 @@ sides (suc (suc zero)) h q = (refl, refl, refl, refl)
 sides (suc (suc (suc zero))) h q = (refl, refl, refl, refl)
 sides (suc (suc (suc (suc d)))) h q = absurd (omega arith)
 
-module _ (c : Corner) (ds : List ℕ) where
+-- what holds of a panel, and of every panel that is reached from it across edges that were not walked
+module _ (c : Corner) (ds : List ℕ) (P : Panel → Type 0) (over : (d : ℕ) (q : Corner) → walked c ds q d ≡ false → P (rightOf d q) → P (leftOf d q)) where
   -- from right to left, as far as no edge was walked
-  by-turns : (d : ℕ) → d < 4 → (q : Corner) → Outside c ds (leftOf (back d) q) → (r s l : Bool) → walked c ds q (stepAfter d 3) ≡ r → walked c ds q (stepAfter d 0) ≡ s → walked c ds q (stepAfter d 1) ≡ l
-      → Outside c ds (rightOf (onward (walked c ds q) d) q)
+  by-turns : (d : ℕ) → d < 4 → (q : Corner) → P (leftOf (back d) q) → (r s l : Bool) → walked c ds q (stepAfter d 3) ≡ r → walked c ds q (stepAfter d 0) ≡ s → walked c ds q (stepAfter d 1) ≡ l
+      → P (rightOf (onward (walked c ds q) d) q)
   by-turns d h q o r s l er es el = go r s er es el
     where
-      first : Outside c ds (rightOf (stepAfter d 3) q)
-      first = subst (Outside c ds) (sides d h q .0) o
+      first : P (rightOf (stepAfter d 3) q)
+      first = subst P (sides d h q .0) o
 
-      second : walked c ds q (stepAfter d 3) ≡ false → Outside c ds (rightOf (stepAfter d 0) q)
-      second e = subst (Outside c ds) (sides d h q .1) (out.across (stepAfter d 3) q e first)
+      second : walked c ds q (stepAfter d 3) ≡ false → P (rightOf (stepAfter d 0) q)
+      second e = subst P (sides d h q .1) (over (stepAfter d 3) q e first)
 
-      third : walked c ds q (stepAfter d 3) ≡ false → walked c ds q (stepAfter d 0) ≡ false → Outside c ds (rightOf (stepAfter d 1) q)
-      third e f = subst (Outside c ds) (sides d h q .2) (out.across (stepAfter d 0) q f (second e))
+      third : walked c ds q (stepAfter d 3) ≡ false → walked c ds q (stepAfter d 0) ≡ false → P (rightOf (stepAfter d 1) q)
+      third e f = subst P (sides d h q .2) (over (stepAfter d 0) q f (second e))
 
-      fourth : walked c ds q (stepAfter d 3) ≡ false → walked c ds q (stepAfter d 0) ≡ false → walked c ds q (stepAfter d 1) ≡ false → Outside c ds (rightOf (stepAfter d 2) q)
-      fourth e f g = subst (Outside c ds) (sides d h q .3) (out.across (stepAfter d 1) q g (third e f))
+      fourth : walked c ds q (stepAfter d 3) ≡ false → walked c ds q (stepAfter d 0) ≡ false → walked c ds q (stepAfter d 1) ≡ false → P (rightOf (stepAfter d 2) q)
+      fourth e f g = subst P (sides d h q .3) (over (stepAfter d 1) q g (third e f))
 
-      go : (r s : Bool) → walked c ds q (stepAfter d 3) ≡ r → walked c ds q (stepAfter d 0) ≡ s → walked c ds q (stepAfter d 1) ≡ l → Outside c ds (rightOf (onward (walked c ds q) d) q)
+      go : (r s : Bool) → walked c ds q (stepAfter d 3) ≡ r → walked c ds q (stepAfter d 0) ≡ s → walked c ds q (stepAfter d 1) ≡ l → P (rightOf (onward (walked c ds q) d) q)
       go true s er es el = rw er first
       go false true er es el = rw (er, es) (second er)
       go false false er es el = last l el
         where
-          last : (l : Bool) → walked c ds q (stepAfter d 1) ≡ l → Outside c ds (rightOf (onward (walked c ds q) d) q)
+          last : (l : Bool) → walked c ds q (stepAfter d 1) ≡ l → P (rightOf (onward (walked c ds q) d) q)
           last true el = rw (er, es, el) (third er es)
           last false el = rw (er, es, el) (fourth er es el)
 
-  onward-outside : (d : ℕ) → d < 4 → (p : Corner) → Outside c ds (rightOf d p) → Outside c ds (rightOf (onward (walked c ds (stepped d p)) d) (stepped d p))
-  onward-outside d h p o =
+  -- it holds on the right of each step that keeps to the right, if it does of the step before
+  pub onward-right : (d : ℕ) → d < 4 → (p : Corner) → P (rightOf d p) → P (rightOf (onward (walked c ds (stepped d p)) d) (stepped d p))
+  onward-right d h p o =
       let q = stepped d p in
-      by-turns d h q (subst (Outside c ds) (sym (right-back d p)) o) (walked c ds q (stepAfter d 3)) (walked c ds q (stepAfter d 0)) (walked c ds q (stepAfter d 1)) refl refl refl
+      by-turns d h q (subst P (sym (right-back d p)) o) (walked c ds q (stepAfter d 3)) (walked c ds q (stepAfter d 0)) (walked c ds q (stepAfter d 1)) refl refl refl
 
+module _ (c : Corner) (ds : List ℕ) where
   path-outside : (n : ℕ) (p : Corner) (d : ℕ) → d < 4 → Outside c ds (rightOf d p) → EachStep (λ e q. Outside c ds (rightOf e q)) p (pathFrom c ds n p d)
   path-outside zero p d h o = tt
-  path-outside (suc n) p d h o = (o, path-outside n (stepped d p) (onward (walked c ds (stepped d p)) d) (onward-small (walked c ds (stepped d p)) d) (onward-outside d h p o))
+  path-outside (suc n) p d h o = (o, path-outside n (stepped d p) (onward (walked c ds (stepped d p)) d) (onward-small (walked c ds (stepped d p)) d) (onward-right c ds (Outside c ds) (λ e q w r. out.across e q w r) d h p o))
 
   -- below and left of the lowest of the leftmost corners
   beyond : Outside c ds (rightOf 3 (homeOf c ds))
@@ -122,6 +125,13 @@ module _ (c : Corner) (ds : List ℕ) (closed : endFrom c ds ≡ c) where
       let t : surplusOf c ds (leftOf d q) +ℤ pos 0 ≡ surplusOf c ds (rightOf d q) +ℤ pos 0 = sym (ap (λ (n : ℕ). surplusOf c ds (leftOf d q) +ℤ pos n) b) ∙ across c ds closed d q ∙ ap (λ (n : ℕ). surplusOf c ds (rightOf d q) +ℤ pos n) a in
       omega (zarith, t, bal+ (surplusOf c ds (leftOf d q)) (pos 0), bal+ (surplusOf c ds (rightOf d q)) (pos 0))
 
+  -- so what lies inside does
+  pub inside-same : (d : ℕ) (q : Corner) → walked c ds q d ≡ false → Inside c ds (rightOf d q) ↔ Inside c ds (leftOf d q)
+  inside-same d q w = (
+    λ i. surplus-inside c ds (leftOf d q) .1 (ap (λ (z : ℤ). natAbs z % 2) (surplus-across d q w) ∙ surplus-inside c ds (rightOf d q) .0 i),
+    λ i. surplus-inside c ds (rightOf d q) .1 (ap (λ (z : ℤ). natAbs z % 2) (sym (surplus-across d q w)) ∙ surplus-inside c ds (leftOf d q) .0 i),
+  )
+
   pub outside-not-inside : (p : Panel) → Outside c ds p → Inside c ds p → ⊥
   outside-not-inside p (out.west _ f) i =
       let h = inside-held c ds closed p i in
@@ -130,5 +140,4 @@ module _ (c : Corner) (ds : List ℕ) (closed : endFrom c ds ≡ c) where
     where
       bad : {a b w : ℤ} → w ≤ℤ a → a <ℤ b → b ≡ w → ⊥
       bad l g e = omega (zarith, l, g, e)
-  outside-not-inside _ (out.across d q w o) i =
-      outside-not-inside (rightOf d q) o (surplus-inside c ds (rightOf d q) .1 (ap (λ (z : ℤ). natAbs z % 2) (sym (surplus-across d q w)) ∙ surplus-inside c ds (leftOf d q) .0 i))
+  outside-not-inside _ (out.across d q w o) i = outside-not-inside (rightOf d q) o (inside-same d q w .1 i)

@@ -7,8 +7,8 @@ use mathlib.Core.Path.{_≡_, refl, ap, ap₂, sym, _∙_, subst}
 use Prim.Native.Nat.{ℕ, _<_}
 use Rattle.lists.specs.Lists.{Below}
 use Rattle.grid.specs.declared.{Corner.Corner, Panel.Panel}
-use Rattle.grid.specs.Grid.{stepped, legsFrom}
-use Rattle.grid.proofs.StepLaws.{back, back-small, stepped-back, stepped-inj}
+use Rattle.grid.specs.Grid.{stepped, legsFrom, back}
+use Rattle.grid.proofs.StepLaws.{back-small, stepped-back, stepped-inj}
 use Rattle.trace.specs.Verdict.{IsRoom}
 use Rattle.panels.specs.Inside.{Inside, leftOf, rightOf, EachStep}
 use Rattle.room_laws.proofs.CornerLaws.{left-back, right-back}
@@ -22,7 +22,7 @@ use Rattle.outline_room_laws.proofs.OutsideLaws.{outline-outside, outsi
 
 -- what holds of each step holds of each way, and the other way round
 module _ (P : ℕ → Corner → Type 0) where
-  each-way : (p : Corner) (es : List ℕ) → EachStep P p es → (y : Way) → List·Memᴰ y (waysOf p es) → P (y .1) (y .0)
+  pub each-way : (p : Corner) (es : List ℕ) → EachStep P p es → (y : Way) → List·Memᴰ y (waysOf p es) → P (y .1) (y .0)
   each-way p [] f y m = absurd (List·Memᴰ·not-nil m)
   each-way p (d ∷ es) f y m = ⊎-elim (λ e. subst (λ (z : Way). P (z .1) (z .0)) (sym e) (f .0)) (λ t. each-way (stepped d p) es (f .1) y t) (List·Memᴰ·cases-cons m)
 

@@ -10,7 +10,7 @@ use borrow.Author.Tests.{eqb-true, eq-eqb}
 use lib.Dec.{eqb}
 use lib.ListN.{length, getD, replicate}
 use Rattle.grid.specs.declared.Corner.{Corner}
-use Rattle.grid.specs.Grid.{same, stepped, joins}
+use Rattle.grid.specs.Grid.{same, stepped, joins, back}
 use Rattle.grid.specs.Tree.{parentOf, isRoot, sizeOf, pathOf, childWord}
 use Rattle.layout.specs.Marks.{sameWords}
 use Rattle.layout.specs.Table.{width, linkWord, needWord, edgeWord, childRefOf}
@@ -20,7 +20,7 @@ use Rattle.tree_laws.specs.State.{State, Sound, linked, needed, reached, raised
 use Rattle.grid.proofs.CornerLaws.{same-refl, same-sound}
 use Rattle.grid.proofs.ParentLaws.{parentOf-stepped}
 use Rattle.grid.proofs.PathLaws.{sizeOf-parentOf}
-use Rattle.grid.proofs.StepLaws.{back, back-small, stepped-back}
+use Rattle.grid.proofs.StepLaws.{back-small, stepped-back}
 use Rattle.layout.proofs.ChildLaws.{child-ref}
 use Rattle.layout.proofs.WordLaws.{words-cong, child-of, link-of, edge-of}
 use Rattle.lists.proofs.CountLaws.{count-listed}
@@ -39,7 +39,7 @@ use Rattle.table_laws.proofs.StateLaws.{by-mem, grown-known, grown-new,
 use Rattle.table_laws.proofs.StoreLaws.{alike-row, link-row-x, node-row-x, child-word-small}
 
 -- rows that are the same word by word are one row
-same-words : (l m : List ℕ) → sameWords l m ≡ true → l ≡ m
+pub same-words : (l m : List ℕ) → sameWords l m ≡ true → l ≡ m
 same-words [] [] e = refl
 same-words [] (y ∷ m) e = absurd (false≢true e)
 same-words (x ∷ l) [] e = absurd (false≢true e)

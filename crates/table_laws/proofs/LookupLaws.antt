@@ -92,7 +92,7 @@ finish-none o u e d s q = ap (λ (n : ℕ). either n) q
     either : ℕ → Out
     either n = elim n [ zero ↦ o | suc p ↦ joinIn (childIn (o .table) (o .nodes) p (childWord e) s) u d s ]
 
-root-child : (d : ℕ) → parentOf (stepped d root) ≡ root
+pub root-child : (d : ℕ) → parentOf (stepped d root) ≡ root
 root-child zero = refl
 root-child (suc zero) = refl
 root-child (suc (suc zero)) = refl

@@ -12,7 +12,7 @@ use Rattle.grid.specs.Tree.{root, parentOf, isRoot, upBy, pathOf}
 use Rattle.lists.specs.Lists.{any, place, tally}
 use Rattle.tree.specs.Nodes.{refOf}
 use Rattle.layout.specs.Table.{width, tableOf}
-use Rattle.tree_laws.specs.State.{later, State, stateOf, grown, visitedBy, Alike, Sound, WellLinked, tableBy}
+use Rattle.tree_laws.specs.State.{later, stateOf, plantedOf, grown, visitedBy, Alike, Sound, WellLinked, tableBy}
 use Rattle.grid.proofs.CornerLaws.{same-refl, same-sound}
 use Rattle.grid.proofs.PathLaws.{pathOf-root, pathOf-snoc}
 use Rattle.tree.proofs.StartLaws.{nodes-start}
@@ -21,10 +21,6 @@ use Rattle.tree_laws.proofs.AddLaws.{ref-snoc, path-below}
 use Rattle.table_laws.proofs.RowLaws.{table-state}
 use Rattle.table_laws.proofs.StateLaws.{grown-new}
 use Rattle.table_laws.proofs.StoreLaws.{alike-table}
-
--- the path of a corner, with nothing on it
-abbrev pub plantedOf : Corner → State
-plantedOf c = record { nodes = pathOf c; step = λ x y. 0; visits = λ x. 0; need = λ x. 0; first = λ x. 0; edges = λ x y. 0 }
 
 -- one node more, as `child` makes it for step 0
 pub planted-next : (c : Corner) → isRoot c ≡ false → Alike (grown (plantedOf (parentOf c)) c 0) (plantedOf c)
@@ -60,15 +56,15 @@ planted-sound c = record {
 }
 
 -- and the visit: the walk with no step
-pub planted-visit : (words : ℕ) (c : Corner) → tableBy words (visitedBy (plantedOf c) c 0) ≡ tableOf words c []
-planted-visit words c = sym (table-state words c [] ∙ alike-table words (stateOf (c ∷ [])) (visitedBy (plantedOf c) c 0) (record {
+pub planted-alike : (c : Corner) → Alike (stateOf (c ∷ [])) (visitedBy (plantedOf c) c 0)
+planted-alike c = record {
   nodes = nodes-start c;
   step = λ x y f. refl;
   visits = λ x. one (same x c);
   need = λ x. none (any (same x) (pathOf c));
   first = λ x. two (same x c);
   edges = λ x y. refl;
-}))
+}
   where
     one : (b : Bool) → tally b + 0 ≡ 0 + tally b
     one b = omega arith
@@ -80,6 +76,9 @@ planted-visit words c = sym (table-state words c [] ∙ alike-table words (state
     two : (b : Bool) → place b 0 ≡ later 0 b 1
     two true = refl
     two false = refl
+
+pub planted-visit : (words : ℕ) (c : Corner) → tableBy words (visitedBy (plantedOf c) c 0) ≡ tableOf words c []
+planted-visit words c = sym (table-state words c [] ∙ alike-table words (stateOf (c ∷ [])) (visitedBy (plantedOf c) c 0) (planted-alike c))
 
 -- ---- how long the paths are
 pub length-path : (c : Corner) → isRoot c ≡ false → length (pathOf c) ≡ suc (length (pathOf (parentOf c)))

@@ -10,7 +10,7 @@ use borrow.Author.Tests.{eqb-true, eq-eqb, ne-eqb}
 use lib.Dec.{eqb}
 use lib.ListN.{length, length-append, getD}
 use Rattle.grid.specs.declared.Corner.{Corner}
-use Rattle.grid.specs.Grid.{origin, same, stepped, joins}
+use Rattle.grid.specs.Grid.{origin, same, stepped, joins, back}
 use Rattle.grid.specs.Tree.{parentOf, isRoot, sizeOf, pathOf}
 use Rattle.layout.specs.Table.{wordAt, parentWord, neighbourWord, linkWord, needWord}
 use Rattle.lists.specs.Lists.{any, gather, tally}
@@ -19,7 +19,7 @@ use Rattle.tree_laws.specs.State.{State, Sound, WellLinked, linked, needed, lin
 use Rattle.grid.proofs.CornerLaws.{same-refl, same-sound}
 use Rattle.grid.proofs.ParentLaws.{parentOf-stepped}
 use Rattle.grid.proofs.PathLaws.{sizeOf-parentOf}
-use Rattle.grid.proofs.StepLaws.{back, stepped-ne}
+use Rattle.grid.proofs.StepLaws.{stepped-ne}
 use Rattle.lists.proofs.FindLaws.{bool-agree, find-get}
 use Rattle.lists.proofs.GatherLaws.{mem→any, mem-gather-left, mem-gather-right}
 use Rattle.lists.proofs.BoolLaws.{is-false}
@@ -68,7 +68,7 @@ module _ (S : State) (sound : Sound S) (s d : ℕ) (pos : 0 < s) (small : d < 4)
       go (suc n) z = let g = goes-up L b (stepped d b) r in absurd (omega (arith, g .3, sound .good .up b (stepped d b) (omega arith) (g .0) (g .1) (g .2)))
 
   -- above a pair that goes up the step's links are those from the parents up
-  link-above : (b : Corner) → linksUp L b (stepped d b) ≡ true → (x : Corner) → sizeOf x < sizeOf b → linked L s b (stepped d b) x (stepped d x) ≡ linked L s (parentOf b) (stepped d (parentOf b)) x (stepped d x)
+  pub link-above : (b : Corner) → linksUp L b (stepped d b) ≡ true → (x : Corner) → sizeOf x < sizeOf b → linked L s b (stepped d b) x (stepped d x) ≡ linked L s (parentOf b) (stepped d (parentOf b)) x (stepped d x)
   link-above b r x h =
       let g = goes-up L b (stepped d b) r in
       above-links ns L (sound .good) s b (stepped d b) (unlinked b r) (g .0) (g .1) x (stepped d x)
@@ -76,14 +76,14 @@ module _ (S : State) (sound : Sound S) (s d : ℕ) (pos : 0 < s) (small : d < 4)
       ∙ ap (λ (y : Corner). linked L s (parentOf b) y x (stepped d x)) (up-near L ns (rooted S sound s d pos small) d b (stepped d b) refl r)
 
   -- the link of the parents has the step's number exactly where the pair goes up
-  goes-word : (b : Corner) → linksUp L b (stepped d b) ≡ true → linked L s b (stepped d b) (parentOf b) (stepped d (parentOf b)) ≡ s
+  pub goes-word : (b : Corner) → linksUp L b (stepped d b) ≡ true → linked L s b (stepped d b) (parentOf b) (stepped d (parentOf b)) ≡ s
   goes-word b r =
       let g = goes-up L b (stepped d b) r in
       let p = parentOf b in
       link-above b r p (sizeOf-parentOf b (g .0))
       ∙ later-new (L p (stepped d p)) (links p (stepped d p) (p, stepped d p)) s (ap (L p) (sym (up-near L ns (rooted S sound s d pos small) d b (stepped d b) refl r)) ∙ g .3) (links-here p (stepped d p))
 
-  stays-word : (b : Corner) → isRoot b ≡ false → linksUp L b (stepped d b) ≡ false → linked L s b (stepped d b) (parentOf b) (stepped d (parentOf b)) ≡ s → ⊥
+  pub stays-word : (b : Corner) → isRoot b ≡ false → linksUp L b (stepped d b) ≡ false → linked L s b (stepped d b) (parentOf b) (stepped d (parentOf b)) ≡ s → ⊥
   stays-word b low r w = go (L b g) refl (isRoot g) refl (same p (parentOf g)) refl
     where
       g : Corner

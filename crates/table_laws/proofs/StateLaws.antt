@@ -135,7 +135,7 @@ module _ (S : State) (sound : Sound S) (s : ℕ) (h : Corner) where
   sound-reached a m = sound-unlinking (linked (S .step) s a h) (good-linked (S .nodes) (S .step) (sound .good) s a h m)
 
   -- the old links among more nodes
-  sound-dropping : Sound (unlinking S s h (S .step))
+  pub sound-dropping : Sound (unlinking S s h (S .step))
   sound-dropping = sound-unlinking (S .step) (record {
     root = let g = gather-more same (S .nodes) (pathOf h) in (sound .good .root .0 ++ g .0, g .1 ∙ ap (λ (l : List Corner). l ++ g .0) (sound .good .root .1));
     closed = gather-closed (S .nodes) (sound .good .closed) h;
@@ -160,7 +160,7 @@ module _ (S : State) (sound : Sound S) (s : ℕ) (h : Corner) where
         let k = drop-stop (S .nodes) (sound .good .closed) top (S .need) s small h f in
         record { nodes = k .0; step = λ x y g. refl; visits = λ x. refl; need = k .1; first = λ x. refl; edges = λ x y. refl }
 
-    dropping-next : needed (S .nodes) (S .need) s h h ≡ s → Alike (unlinking S s h (S .step)) (withNode (unlinking S s (parentOf h) (S .step)) h s)
+    pub dropping-next : needed (S .nodes) (S .need) s h h ≡ s → Alike (unlinking S s h (S .step)) (withNode (unlinking S s (parentOf h) (S .step)) h s)
     dropping-next n = record {
       nodes = drop-next (S .nodes) (sound .good .closed) top (S .need) s small h n;
       step = λ x y g. refl;

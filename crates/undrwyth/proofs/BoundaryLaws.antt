@@ -12,6 +12,7 @@ use lib.ListN.{length}
 use Rattle.answer.specs.declared.Answer.{Answer}
 use Rattle.answer.specs.declared.Counted.{Counted}
 use Rattle.answer.specs.declared.Judged.{Judged}
+use Rattle.answer.specs.declared.PairAnswer.{PairAnswer}
 use Rattle.answer.specs.declared.Judged.the-variants.{Good, Refused}
 use Rattle.answer.specs.declared.Refusal.the-variants.{TooMany, ResultRoom, BadDigit, TooLong, HullRoom, StartRange, OutlineRoom, NotRoom, PolygonRoom, FileLength, FileKind, BadCoordinate, BadRing, ChainRoom, SpanRoom}
 use Rattle.answer.specs.Limits.{mostInput, mostSteps, startFits}
@@ -43,7 +44,10 @@ use Rattle.row_laws.proofs.CallLaws.{rows-few}
 use Rattle.answer.proofs.RefusalLaws.{refused-not-good, orElse-good}
 use Rattle.walk_call.proofs.SmallLaws.{Placed, placed-when, placed-or, walk-placed, walk-few}
 use Rattle.hull_laws.proofs.HullLaws.{hull-count-steps}
-use Rattle.undrwyth_words.specs.Words.{AnswerFits, CountedFits, GivenFits, MeasureFits, MeasuresFit, OverlaidFits}
+use Rattle.pair_steps.specs.Parties.{stepsBy}
+use Rattle.pair_call.specs.Call.{pairFactsOf, pairAnswerBy, PairLent, pairJudgedIn, PairIs}
+use Rattle.pair_laws.proofs.SmallLaws.{pair-placed, pair-few}
+use Rattle.undrwyth_words.specs.Words.{AnswerFits, PairAnswerFits, CountedFits, GivenFits, MeasureFits, MeasuresFit, OverlaidFits}
 
 place-fits : (j : Judged) → Placed mostInput j → judgedPlace j < 2 ^ 32
 place-fits Good p = omega arith
@@ -55,8 +59,19 @@ answer-fits c os t ms ch r t′ ms′ ch′ w = subst AnswerFits (sym (w .answer
     go : (j : Judged) → walkJudged c os (length t) (length ms) (length ch) ≡ j → AnswerFits (answerBy (walkJudged c os (length t) (length ms) (length ch)) (factsOf c (survivors os)))
     go Good e =
         let k = walk-few c os (length t) (length ms) (length ch) e in
-        rw e (omega (arith, k .steps), omega (arith, k .nodes), omega (arith, k .corners), omega (arith, k .j), omega (arith, k .k))
+        rw e (omega (arith, k .seen .steps), omega (arith, k .nodes), omega (arith, k .seen .corners), omega (arith, k .seen .j), omega (arith, k .seen .k))
     go (Refused x) e = rw e (omega (arith, subst (Placed mostInput) e (walk-placed c os (length t) (length ms) (length ch))))
+
+pub pair-fits : (c e : Corner) (os : List ℕ) (b : PairLent) (r : PairAnswer) (b′ : PairLent) → PairIs c e os b r b′ → PairAnswerFits r
+pair-fits c e os b r b′ w = subst PairAnswerFits (sym (w .answer)) (go (pairJudgedIn c e os b) refl)
+  where
+    go : (j : Judged) → pairJudgedIn c e os b ≡ j → PairAnswerFits (pairAnswerBy (pairJudgedIn c e os b) (pairFactsOf c e (stepsBy 0 os) (stepsBy 1 os)))
+    go Good i =
+        let k = pair-few c e os (length (b .table)) (length (b .marks)) (length (b .first)) (length (b .second)) i in
+        let f = k .first in
+        let g = k .second in
+        rw i (omega (arith, k .nodes), (omega (arith, f .steps), omega (arith, f .corners), omega (arith, f .j), omega (arith, f .k)), (omega (arith, g .steps), omega (arith, g .corners), omega (arith, g .j), omega (arith, g .k)))
+    go (Refused x) i = rw i (omega (arith, subst (Placed mostInput) i (pair-placed c e os (length (b .table)) (length (b .marks)) (length (b .first)) (length (b .second)))))
 
 -- a refusal of digits stands at one of them
 placed-hull : (i : ℕ) (ds : List ℕ) (b : ℕ) → i + length ds ≤ b → Placed b (chainJudged i ds)

@@ -12,6 +12,9 @@ use Rattle.line_reply.proofs.ReplyLaws as replyLaws
 use Rattle.line_convert.specs.Convert.{ConvertedIs}
 use Rattle.line_convert.proofs.ConvertLaws as convertLaws
 use Rattle.polygon_ring.specs.Words.{givenWords, givenNumber}
+use Rattle.pair_call.specs.Call.{PairLent}
+use Rattle.pair_call.specs.Words.{pairAnswerWords, pairAnswerNumber}
+use Rattle.pair_demands.proofs.Parties.{pairIs-one}
 use Rattle.demands.proofs.Demand.{walkIs-one, hullCall-one, turns-one}
 use Rattle.demands.proofs.Outline.{outlineCall-one}
 use Rattle.demands.proofs.Polygon.{polygonCall-one}
@@ -21,13 +24,18 @@ use Rattle.demands.proofs.Rows.{rowsCall-one}
 use Rattle.demands.proofs.Overlay.{overlayCall-one}
 use Rattle.overlay.specs.declared.Part.{Part}
 use Rattle.overlay.specs.Call.{overlaidWords, overlaidNumber}
-use Rattle.undrwyth.specs.Boundary.{WalkGives, HullGives, OutlineGives, TurnsGive, PolygonGives, ChainGives, ConvexGives, RowsGives, OverlayGives}
+use Rattle.undrwyth.specs.Boundary.{WalkGives, PairGives, HullGives, OutlineGives, TurnsGive, PolygonGives, ChainGives, ConvexGives, RowsGives, OverlayGives}
 
 pub walkGives-one : {c : Corner} {os t ms ch t₁ ms₁ ch₁ w₁ t₂ ms₂ ch₂ w₂ : List ℕ} {n₁ n₂ : ℕ} → WalkGives c os t ms ch n₁ t₁ ms₁ ch₁ w₁ → WalkGives c os t ms ch n₂ t₂ ms₂ ch₂ w₂
     → (n₁ ≡ n₂) × (t₁ ≡ t₂) × (ms₁ ≡ ms₂) × (ch₁ ≡ ch₂) × (w₁ ≡ w₂)
 walkGives-one g h =
     let e = walkIs-one (g .walked) (h .walked) in
     (g .result ∙ ap answerNumber (e .0) ∙ sym (h .result), e .1, e .2, e .3, g .words-are ∙ ap answerWords (e .0) ∙ sym (h .words-are))
+
+pub pairGives-one : {c e : Corner} {os : List ℕ} {b b₁ b₂ : PairLent} {w₁ w₂ : List ℕ} {n₁ n₂ : ℕ} → PairGives c e os b n₁ b₁ w₁ → PairGives c e os b n₂ b₂ w₂ → (n₁ ≡ n₂) × (b₁ ≡ b₂) × (w₁ ≡ w₂)
+pairGives-one g h =
+    let e = pairIs-one (g .walked) (h .walked) in
+    (g .result ∙ ap pairAnswerNumber (e .0) ∙ sym (h .result), e .1, g .words-are ∙ ap pairAnswerWords (e .0) ∙ sym (h .words-are))
 
 pub hullGives-one : {c : Corner} {chain : List ℕ} {before after₁ after₂ : List ℤ} {w₁ w₂ : List ℕ} {n₁ n₂ : ℕ} → HullGives c chain before n₁ after₁ w₁ → HullGives c chain before n₂ after₂ w₂
     → (n₁ ≡ n₂) × (after₁ ≡ after₂) × (w₁ ≡ w₂)

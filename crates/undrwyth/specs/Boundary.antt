@@ -8,7 +8,10 @@ use Rattle.answer.specs.declared.Answer.{Answer}
 use Rattle.answer.specs.declared.Counted.{Counted}
 use Rattle.answer.specs.declared.Judged.{Judged}
 use Rattle.answer.specs.Refusal.{judgedNumber}
+use Rattle.answer.specs.declared.PairAnswer.{PairAnswer}
 use Rattle.walk_call.specs.Walk.{WalkIs}
+use Rattle.pair_call.specs.Call.{PairLent, PairIs}
+use Rattle.pair_call.specs.Words.{pairAnswerWords, pairAnswerNumber}
 use Rattle.grid.specs.declared.Corner.{Corner}
 use Rattle.hull.specs.Call.{HullCall}
 use Rattle.outline.specs.Call.{OutlineCall}
@@ -29,6 +32,13 @@ pub record WalkGives (c : Corner) (os t ms ch : List ℕ) (n : ℕ) (t′ ms′ 
   pub walked : WalkIs c os t ms ch answer t′ ms′ ch′
   pub words-are : words ≡ answerWords answer
   pub result : n ≡ answerNumber answer
+
+-- that of two parties in one table
+pub record PairGives (c e : Corner) (os : List ℕ) (b : PairLent) (n : ℕ) (b′ : PairLent) (words : List ℕ) : Type 0 where
+  pub answer : PairAnswer
+  pub walked : PairIs c e os b answer b′
+  pub words-are : words ≡ pairAnswerWords answer
+  pub result : n ≡ pairAnswerNumber answer
 
 -- the hull's
 pub record HullGives (c : Corner) (chain : List ℕ) (before : List ℤ) (n : ℕ) (after : List ℤ) (words : List ℕ) : Type 0 where

@@ -4,6 +4,7 @@ use turns::Way;
 use undrwyth_words::counted_words;
 use undrwyth_words::given_words;
 use undrwyth_words::overlaid_words;
+use undrwyth_words::pair_answer_words;
 use undrwyth_words::turns_words;
 use undrwyth_words::walk_words;
 ghost use Rattle.grid.specs.Grid.{corner};
@@ -12,7 +13,7 @@ ghost use Rattle.overlay.specs.Call.{ofParts};
 ghost use Rattle.line_reply.specs.Reply.{LineIs};
 ghost use Rattle.line_convert.specs.Convert.{ConvertedIs};
 ghost use Rattle.steps.specs.Turns.{turnsOf, stepsOf};
-ghost use Rattle.undrwyth.specs.Boundary.{WalkGives, HullGives, OutlineGives, TurnsGive, PolygonGives, ChainGives, ConvexGives, RowsGives, OverlayGives};
+ghost use Rattle.undrwyth.specs.Boundary.{WalkGives, PairGives, HullGives, OutlineGives, TurnsGive, PolygonGives, ChainGives, ConvexGives, RowsGives, OverlayGives};
 
 // Follows the operations from a start.
 #[no_mangle]
@@ -29,6 +30,30 @@ pub extern "C" fn undrwyth_walk(
 {
     let a = walk::follow(Corner(start_x, start_y), ops, table, marks, chain);
     let words = walk_words(a);
+    *answer = words;
+    words[0]
+}
+
+// Follows the operations of two parties from their starts, in one table.
+#[no_mangle]
+pub extern "C" fn undrwyth_walk_two(
+    start0_x: i32,
+    start0_y: i32,
+    start1_x: i32,
+    start1_y: i32,
+    ops: &[u8],
+    table: &mut [u32],
+    marks: &mut [u32],
+    chain0: &mut [u8],
+    chain1: &mut [u8],
+    answer: &mut [u32; 19],
+) -> u32
+    ensures { λ n. ⌜ PairGives (corner «start0_x» «start0_y») (corner «start1_x» «start1_y») (now (ops .entry)) record { table = now (table .entry); marks = now (marks .entry); first = now (chain0 .entry); second = now (chain1 .entry) } n record { table = now (table .exit); marks = now (marks .exit); first = now (chain0 .exit); second = now (chain1 .exit) } (now (answer .exit)) ⌝ }
+{
+    let start = Corner(start0_x, start0_y);
+    let start2 = Corner(start1_x, start1_y);
+    let a = pair_walk::follow(start, start2, ops, table, marks, chain0, chain1);
+    let words = pair_answer_words(a);
     *answer = words;
     words[0]
 }

@@ -1,6 +1,6 @@
 -- Answers whose numbers fit 32 bits. Assumes nothing.
 use Rattle.lists.specs.Lists.{_^_, _<_}
-use Rattle.answer.specs.declared.{Answer.Answer, Counted.Counted}
+use Rattle.answer.specs.declared.{Answer.Answer, Counted.Counted, PartyFacts.PartyFacts, PairFacts.PairFacts, PairAnswer.PairAnswer}
 use Rattle.answer.specs.Refusal.{refusalPlace}
 use Rattle.polygon_ring.specs.declared.{Given.Given}
 use Rattle.overlay.specs.declared.{Measure.Measure, Measures.Measures, Overlaid.Overlaid}
@@ -9,6 +9,17 @@ use Rattle.overlay.specs.declared.{Measure.Measure, Measures.Measures, Overlaid
 abbrev pub AnswerFits : Answer → Type 0
 AnswerFits (Answer.Accepted f) = (f .steps < 2 ^ 32) × (f .nodes < 2 ^ 32) × (f .corners < 2 ^ 32) × (f .j < 2 ^ 32) × (f .k < 2 ^ 32)
 AnswerFits (Answer.Refused r) = refusalPlace r < 2 ^ 32
+
+-- of two parties
+abbrev pub PartyFits : PartyFacts → Type 0
+PartyFits f = (f .steps < 2 ^ 32) × (f .corners < 2 ^ 32) × (f .j < 2 ^ 32) × (f .k < 2 ^ 32)
+
+abbrev pub PairFits : PairFacts → Type 0
+PairFits f = (f .nodes < 2 ^ 32) × PartyFits (f .first) × PartyFits (f .second)
+
+abbrev pub PairAnswerFits : PairAnswer → Type 0
+PairAnswerFits (PairAnswer.Accepted f) = PairFits f
+PairAnswerFits (PairAnswer.Refused r) = refusalPlace r < 2 ^ 32
 
 -- of a call that lists
 abbrev pub CountedFits : Counted → Type 0

@@ -3,6 +3,9 @@ use answer::Answer;
 use answer::Counted;
 use answer::Facts;
 use answer::Judged;
+use answer::PairAnswer;
+use answer::PairFacts;
+use answer::PartyFacts;
 use line_fields::hex::bits;
 use overlay::Measures;
 use overlay::Overlaid;
@@ -16,7 +19,9 @@ ghost use Rattle.polygon_ring.specs.declared.Given.{Given};
 ghost use Rattle.polygon_ring.specs.Words.{givenWords};
 ghost use Rattle.overlay.specs.declared.Overlaid.{Overlaid};
 ghost use Rattle.overlay.specs.Call.{overlaidWords};
-ghost use Rattle.undrwyth_words.specs.Words.{AnswerFits, CountedFits, GivenFits, MeasuresFit, OverlaidFits};
+ghost use Rattle.answer.specs.declared.PairAnswer.{PairAnswer};
+ghost use Rattle.pair_call.specs.Words.{partyWords, pairAnswerWords};
+ghost use Rattle.undrwyth_words.specs.Words.{AnswerFits, PartyFits, PairFits, PairAnswerFits, CountedFits, GivenFits, MeasuresFit, OverlaidFits};
 
 // The numbers of an accepted walk.
 fn facts_words(f: Facts) -> [u32; 11]
@@ -55,6 +60,96 @@ pub fn walk_words(a: Answer) -> [u32; 11]
             let number = answer::refusal_number(r) as u32;
             let place = answer::refusal_place(r) as u32;
             [number, place, 0, 0, 0, 0, 0, 0, 0, 0, 0]
+        }
+    }
+}
+
+// The numbers of one of two parties.
+fn party_words(f: PartyFacts) -> [u32; 8]
+    requires { ⌜ PartyFits f ⌝ }
+    ensures { λ w. ⌜ w ≡ partyWords f ⌝ }
+{
+    let v = f.verdict;
+    let verdict = answer::verdict_number(v) as u32;
+    let last = f.last;
+    let area = bits(f.area);
+    let x = bits(last.0);
+    let y = bits(last.1);
+    [
+        verdict,
+        f.steps as u32,
+        f.corners as u32,
+        f.j as u32,
+        f.k as u32,
+        area,
+        x,
+        y,
+    ]
+}
+
+// The numbers of two parties that are accepted.
+fn pair_facts_words(f: PairFacts) -> [u32; 19]
+    requires { ⌜ PairFits f ⌝ }
+    ensures { λ w. ⌜ w ≡ pairAnswerWords (PairAnswer.Accepted f) ⌝ }
+{
+    let first = f.first;
+    let second = f.second;
+    let a = party_words(first);
+    let b = party_words(second);
+    [
+        0,
+        0,
+        f.nodes as u32,
+        a[0],
+        a[1],
+        a[2],
+        a[3],
+        a[4],
+        a[5],
+        a[6],
+        a[7],
+        b[0],
+        b[1],
+        b[2],
+        b[3],
+        b[4],
+        b[5],
+        b[6],
+        b[7],
+    ]
+}
+
+// The numbers of the answer to two parties.
+pub fn pair_answer_words(a: PairAnswer) -> [u32; 19]
+    requires { ⌜ PairAnswerFits a ⌝ }
+    ensures { λ w. ⌜ w ≡ pairAnswerWords a ⌝ }
+{
+    match a {
+        PairAnswer::Accepted(f) => pair_facts_words(f),
+        PairAnswer::Refused(r) => {
+            let number = answer::refusal_number(r) as u32;
+            let place = answer::refusal_place(r) as u32;
+            [
+                number,
+                place,
+                0,
+                0,
+                0,
+                0,
+                0,
+                0,
+                0,
+                0,
+                0,
+                0,
+                0,
+                0,
+                0,
+                0,
+                0,
+                0,
+                0,
+            ]
         }
     }
 }

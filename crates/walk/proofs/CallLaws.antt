@@ -7,7 +7,7 @@ use mathlib.Core.Path.{_≡_, refl, ap, ap₂, sym, subst, _∙_}
 use Prim.Native.Nat.{ℕ, suc, pred, _-_, _*_, _<_, _≤_}
 use native.Mathlib.Decide.{decLt}
 use native.Mathlib.Omega.{arith}
-use lib.Dec.{eqb, ltb}
+use lib.Dec.{ltb}
 use lib.ListN.{length, replicate, take}
 use Rattle.answer.specs.declared.Answer.{Answer}
 use Rattle.answer.specs.declared.Facts.{Facts}
@@ -15,7 +15,7 @@ use Rattle.answer.specs.declared.Judged.{Judged}
 use Rattle.answer.specs.declared.Judged.the-variants.{Good, Refused}
 use Rattle.answer.specs.declared.Refusal.{Refusal}
 use Rattle.answer.specs.declared.Refusal.the-variants.{NoRoom}
-use Rattle.answer.specs.Refusal.{when, orElse, refusalNumber}
+use Rattle.answer.specs.Refusal.{when, orElse}
 use Rattle.walk_call.specs.Walk.{roomAt, roomFrom, walkJudged, factsOf, answerBy, bufferBy, WalkIs}
 use Rattle.walk_run.specs.Runs.{Chained}
 use Rattle.grid.specs.declared.Corner.{Corner}
@@ -28,7 +28,7 @@ use Rattle.steps.specs.Operations.{operate, survivors}
 use Rattle.walk_call.proofs.JudgedLaws.{judged-split}
 use Rattle.walk_input.specs.Input.{inputJudged}
 use Rattle.walk_facts.specs.Settled.{Settled}
-use Rattle.walk_input.proofs.JudgeLaws.{Early, early-input}
+use Rattle.walk_input.proofs.JudgeLaws.{Early, untouched, early-input}
 use Rattle.tree.proofs.InUseLaws.{nodesOf-first}
 use Rattle.walk_call.proofs.RoomLaws.{room-full}
 use Rattle.walk_plant.specs.Plants.{Planted}
@@ -41,14 +41,11 @@ pub cleared : (ch ch′ : List ℕ) → ch′ ≡ take 0 ch ++ replicate (length
 cleared ch ch′ e = let n : length ch - 0 ≡ length ch = omega arith in e ∙ ap (λ (k : ℕ). replicate k 0) n
 
 -- ---- the input
-untouched : (r : Refusal) (new old : List ℕ) → eqb (refusalNumber r) 7 ≡ false → bufferBy (Refused r) new old ≡ old
-untouched r new old e = rw e
-
 -- a refused input
 pub walk-refused : (c : Corner) (os t ms ch : List ℕ) (r : Refusal) → Refused r ≡ inputJudged c os (length t) (length ms) (length ch) → WalkIs c os t ms ch (Answer.Refused r) t ms ch
 walk-refused c os t ms ch r e =
     let j : walkJudged c os (length t) (length ms) (length ch) ≡ Refused r = judged-split c os (length t) (length ms) (length ch) ∙ ap (λ (x : Judged). orElse x (roomFrom (recordsIn (length t)) c 0 [] os)) (sym e) in
-    let n : eqb (refusalNumber r) 7 ≡ false = subst Early (sym e) (early-input c os (length t) (length ms) (length ch)) in
+    let n : Early (Refused r) = subst Early (sym e) (early-input c os (length t) (length ms) (length ch)) in
     record {
       answer = sym (ap (λ (x : Judged). answerBy x (factsOf c (survivors os))) j);
       table = sym (ap (λ (x : Judged). bufferBy x (tableOf (length t) c (survivors os)) t) j ∙ untouched r (tableOf (length t) c (survivors os)) t n);
@@ -93,14 +90,8 @@ planted-walked c t₀ t r k l f = elim (decLt (length t₀) (width * n)) [ yes h
 -- ---- the walk that is over
 pub settled-of : (c : Corner) (t ch ds : List ℕ) (w : Walk) → Chained c t ch ds w → Settled c ch ds w
 settled-of c t ch ds w k = record {
-  near = k .near;
-  steps = k .known .walked .steps;
-  few = k .sound .few;
-  corner = k .known .walked .corner;
+  over = record { own = k .own; steps = k .known .walked .steps; corner = k .known .walked .corner; counted = k .known .counted };
   nodes = k .known .walked .count;
-  counted = k .known .counted;
-  kept = k .kept;
-  space = k .space;
 }
 
 -- ---- the operations

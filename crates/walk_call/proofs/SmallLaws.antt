@@ -42,11 +42,11 @@ pub placed-or : (b : ℕ) (j k : Judged) → Placed b j → Placed b k → Place
 placed-or b Good k p q = q
 placed-or b (Refused r) k p q = p
 
-placed-more : (a b : ℕ) (j : Judged) → a ≤ b → Placed a j → Placed b j
+pub placed-more : (a b : ℕ) (j : Judged) → a ≤ b → Placed a j → Placed b j
 placed-more a b Good h p = tt
 placed-more a b (Refused r) h p = omega arith
 
-placed-fault : (i n o : ℕ) → Placed i (faultOf i n o)
+pub placed-fault : (i n o : ℕ) → Placed i (faultOf i n o)
 placed-fault i n o =
     let a = when (ltb 4 o) (BadDigit i) in
     let b = when (eqb o 4 && eqb n 0) (NothingToTake i) in
@@ -100,22 +100,31 @@ walk-placed c os w m k = go (ltb mostInput (length os)) refl
     go true e = rw e (omega arith)
     go false e = rw e (rest (ltb-false mostInput (length os) e))
 
--- the facts of an accepted walk
-pub record Few (c : Corner) (ds : List ℕ) : Type 0 where
+-- the facts of a walk of so many steps
+pub record FewSeen (c : Corner) (ds : List ℕ) : Type 0 where
   pub steps : length ds ≤ mostSteps
-  pub nodes : length (nodesOf (cornersFrom c ds)) ≤ mostRecords
   pub corners : length (visitedOf (cornersFrom c ds)) ≤ suc mostSteps
   pub j : meetingJ (meetingOf c ds) ≤ noMeeting
   pub k : meetingK (meetingOf c ds) ≤ noMeeting
 
-meeting-few : (c : Corner) (ds : List ℕ) → length ds ≤ mostSteps → (meetingJ (meetingOf c ds) ≤ noMeeting) × (meetingK (meetingOf c ds) ≤ noMeeting)
-meeting-few c ds h = go (meetingOf c ds) refl
+pub seen-few : (c : Corner) (ds : List ℕ) → length ds ≤ mostSteps → FewSeen c ds
+seen-few c ds h = record {
+  steps = h;
+  corners = omega (arith, gather-le same [] (cornersFrom c ds), length-cornersFrom c ds);
+  j = go (meetingOf c ds) refl .0;
+  k = go (meetingOf c ds) refl .1;
+}
   where
     go : (m : Meeting) → meetingOf c ds ≡ m → (meetingJ (meetingOf c ds) ≤ noMeeting) × (meetingK (meetingOf c ds) ≤ noMeeting)
     go none e = (rw e (omega arith), rw e (omega arith))
     go (meet j k) e =
         let f = meetingOf-meets c ds j k e .meets in
         (rw e (omega (arith, f .earlier, f .within)), rw e (omega (arith, f .within)))
+
+-- and those of an accepted walk
+pub record Few (c : Corner) (ds : List ℕ) : Type 0 where
+  pub seen : FewSeen c ds
+  pub nodes : length (nodesOf (cornersFrom c ds)) ≤ mostRecords
 
 fits-records : (w : ℕ) → tableFits w ≡ true → (1 ≤ recordsIn w) × (recordsIn w ≤ mostRecords)
 fits-records w e =
@@ -129,11 +138,4 @@ walk-few c os w m k e =
     let ds = survivors os in
     let h = walk-fits c os w m k e in
     let s : Walkable ds = walkable-survivors 0 [] os (record { digits = tt; few = omega arith }) (h .0 .fine) in
-    let j = meeting-few c ds (s .few) in
-    record {
-      steps = s .few;
-      nodes = omega (arith, room-last (recordsIn w) c 0 [] os (h .1), fits-records w (h .0 .table) .1);
-      corners = omega (arith, gather-le same [] (cornersFrom c ds), length-cornersFrom c ds, s .few);
-      j = j .0;
-      k = j .1;
-    }
+    record { seen = seen-few c ds (s .few); nodes = omega (arith, room-last (recordsIn w) c 0 [] os (h .1), fits-records w (h .0 .table) .1) }

@@ -13,7 +13,7 @@ use lib.Seq.{drop-cons, getD-take, length-take-le}
 use Rattle.answer.specs.declared.Verdict.{Verdict}
 use Rattle.answer.specs.declared.Verdict.the-variants.{Nowhere, Open, Room, OpenMeeting, ClosedMeeting, ThereAndBack}
 use Rattle.grid.specs.declared.Corner.{Corner}
-use Rattle.grid.specs.Grid.{stepped, same, endFrom, northOf}
+use Rattle.grid.specs.Grid.{stepped, same, cornersFrom, endFrom, northOf}
 use Rattle.walk_step.specs.Tallies.{Says}
 use Rattle.trace.specs.Meeting.{Meeting, none, meet, meetingOf, meetingJ, meetingK}
 use Rattle.trace.specs.Verdict.{onlyEnds, roundBy, verdictBy, sweepFrom, areaBy}
@@ -21,10 +21,13 @@ use Rattle.grid.proofs.BoundLaws.{stepped-bound}
 use Rattle.int_laws.proofs.NextLaws.{suc-sub, pred-sub}
 use Rattle.int_laws.proofs.RangeLaws.{abs+, abs-neg}
 use Rattle.answer.specs.declared.Facts.{Facts}
+use Rattle.answer.specs.declared.PartyFacts.{PartyFacts}
 use Rattle.answer.specs.Limits.{mostSteps, noMeeting, mostStart, farthest}
+use Rattle.tree.specs.Nodes.{nodesOf}
 use Rattle.walk_call.specs.Walk.{factsOf}
-use Rattle.walk_step.specs.declared.Walk.{Walk}
-use Rattle.walk_facts.specs.Settled.{gain, Settled}
+use Rattle.pair_call.specs.Call.{partyFactsOf}
+use Rattle.walk_step.specs.declared.Tally.{Tally}
+use Rattle.walk_facts.specs.Settled.{gain, WalkOver}
 
 -- ---- the area
 sub-self : (y : ℤ) → y -ℤ y ≡ pos 0
@@ -150,13 +153,13 @@ area-none OpenMeeting z f = refl
 area-none ClosedMeeting z f = refl
 area-none ThereAndBack z f = refl
 
--- ---- its facts
-abbrev pub factsWith : Verdict → ℕ → ℕ → ℕ → ℕ → ℕ → ℤ → Corner → Facts
-factsWith v n m s j k a l = record { verdict = v; steps = n; nodes = m; corners = s; j = j; k = k; area = a; last = l }
+-- ---- the facts
+abbrev pub partyFactsWith : Verdict → ℕ → ℕ → ℕ → ℕ → ℤ → Corner → PartyFacts
+partyFactsWith v n s j k a l = record { verdict = v; steps = n; corners = s; j = j; k = k; area = a; last = l }
 
-facts-equal : {v v′ : Verdict} {n n′ m m′ s s′ j j′ k k′ : ℕ} {a a′ : ℤ} {l l′ : Corner}
-    → v ≡ v′ → n ≡ n′ → m ≡ m′ → s ≡ s′ → j ≡ j′ → k ≡ k′ → a ≡ a′ → l ≡ l′ → factsWith v n m s j k a l ≡ factsWith v′ n′ m′ s′ j′ k′ a′ l′
-facts-equal e₁ e₂ e₃ e₄ e₅ e₆ e₇ e₈ = cc
+party-equal : {v v′ : Verdict} {n n′ s s′ j j′ k k′ : ℕ} {a a′ : ℤ} {l l′ : Corner}
+    → v ≡ v′ → n ≡ n′ → s ≡ s′ → j ≡ j′ → k ≡ k′ → a ≡ a′ → l ≡ l′ → partyFactsWith v n s j k a l ≡ partyFactsWith v′ n′ s′ j′ k′ a′ l′
+party-equal e₁ e₂ e₃ e₄ e₅ e₆ e₇ = cc
 
 says-j : (m : Meeting) (j k : ℕ) → Says m j k → j ≡ meetingJ m
 says-j none j k s = s .0
@@ -166,13 +169,21 @@ says-k : (m : Meeting) (j k : ℕ) → Says m j k → k ≡ meetingK m
 says-k none j k s = s .1
 says-k (meet a b) j k s = s .1
 
-pub facts-are : (c : Corner) (ch ds : List ℕ) (w : Walk) → Settled c ch ds w → (v : Verdict) (b : Bool) (a : ℤ)
-    → b ≡ same (w .spot .at) c → ((m : Meeting) → Says m (w .tally .j) (w .tally .k) → v ≡ verdictBy (w .spot .steps) b m) → a ≡ areaBy v (sweepFrom c (take (w .spot .steps) ch))
-    → (f : Facts) → f ≡ factsWith v (w .spot .steps) (w .spot .nodes) (w .tally .corners) (w .tally .j) (w .tally .k) a (w .spot .at) → f ≡ factsOf c ds
-facts-are c ch ds w k v b a p f q g e =
+pub party-are : (c : Corner) (ch ds : List ℕ) (n : ℕ) (last : Corner) (t : Tally) → WalkOver c ch ds n last t → (v : Verdict) (b : Bool) (a : ℤ)
+    → b ≡ same last c → ((m : Meeting) → Says m (t .j) (t .k) → v ≡ verdictBy n b m) → a ≡ areaBy v (sweepFrom c (take n ch))
+    → (f : PartyFacts) → f ≡ partyFactsWith v n (t .corners) (t .j) (t .k) a last → f ≡ partyFactsOf c ds
+party-are c ch ds n last t k v b a p f q g e =
     let m = meetingOf c ds in
     let s = k .counted .met in
     let r : b ≡ same (endFrom c ds) c = p ∙ ap (λ (z : Corner). same z c) (k .corner) in
     let x : v ≡ verdictBy (length ds) (same (endFrom c ds) c) m = f m s ∙ ap₂ (λ (n : ℕ) (y : Bool). verdictBy n y m) (k .steps) r in
-    let z : take (w .spot .steps) ch ≡ ds = ap (λ (n : ℕ). take n ch) (k .steps) ∙ sym (k .kept) in
-    e ∙ facts-equal x (k .steps) (k .nodes) (k .counted .seen) (says-j m (w .tally .j) (w .tally .k) s) (says-k m (w .tally .j) (w .tally .k) s) (q ∙ ap₂ (λ (y : Verdict) (l : List ℕ). areaBy y (sweepFrom c l)) x z) (k .corner)
+    let z : take n ch ≡ ds = ap (λ (n : ℕ). take n ch) (k .steps) ∙ sym (k .own .kept) in
+    e ∙ party-equal x (k .steps) (k .counted .seen) (says-j m (t .j) (t .k) s) (says-k m (t .j) (t .k) s) (q ∙ ap₂ (λ (y : Verdict) (l : List ℕ). areaBy y (sweepFrom c l)) x z) (k .corner)
+
+-- with the nodes
+abbrev factsWith : PartyFacts → ℕ → ℤ → Facts
+factsWith f m a = record { verdict = f .verdict; steps = f .steps; nodes = m; corners = f .corners; j = f .j; k = f .k; area = a; last = f .last }
+
+pub facts-are : (c : Corner) (ds : List ℕ) (f : PartyFacts) (m : ℕ) (a : ℤ) (l : Corner) → f ≡ partyFactsOf c ds → m ≡ length (nodesOf (cornersFrom c ds)) → a ≡ f .area → l ≡ endFrom c ds
+    → record { verdict = f .verdict; steps = f .steps; nodes = m; corners = f .corners; j = f .j; k = f .k; area = a; last = l } ≡ factsOf c ds
+facts-are c ds f m a l e n x y = ap₂ (λ (b : ℤ) (z : Corner). record { verdict = f .verdict; steps = f .steps; nodes = m; corners = f .corners; j = f .j; k = f .k; area = b; last = z }) x (y ∙ ap (λ (g : PartyFacts). g .last) (sym e)) ∙ ap₂ (λ (g : PartyFacts) (b : ℕ). factsWith g b (g .area)) e n

@@ -1,5 +1,6 @@
 // The facts of an accepted walk: its verdict, its area, and what it counted.
 use answer::Facts;
+use answer::PartyFacts;
 use answer::Verdict;
 use grid::Corner;
 use walk_step::Tally;
@@ -10,11 +11,12 @@ ghost use Prim.Native.Nat.{ℕ, _*_, _<_, _≤_};
 ghost use lib.IntN.{natAbs, _+ℤ_};
 ghost use lib.ListN.{length, take};
 ghost use Rattle.walk_call.specs.Walk.{factsOf};
+ghost use Rattle.pair_call.specs.Call.{partyFactsOf};
 ghost use Rattle.answer.specs.Limits.{mostSteps, noMeeting, farthest, Near};
 ghost use Rattle.walk_step.specs.Tallies.{Says};
 ghost use Rattle.trace.specs.Meeting.{Meeting};
 ghost use Rattle.trace.specs.Verdict.{verdictBy, sweepFrom, areaBy};
-ghost use Rattle.walk_facts.specs.Settled.{gain, Settled, Settling};
+ghost use Rattle.walk_facts.specs.Settled.{gain, WalkOver, SomeOver, Settled, Settling};
 
 // The sum with x times the change of y that the step d makes.
 fn gained(sum: i32, x: i32, d: u8) -> i32
@@ -78,25 +80,43 @@ fn verdict(n: usize, closed: bool, j: usize, k: usize) -> Verdict
     Verdict::Room
 }
 
-// The facts of the walk w from start, whose steps stand in the chain. It is closed where it ends at its start.
+// The facts of n steps from start, which stand in the chain and end at the corner last: all but the nodes. They are closed if they end
+// at the start.
+pub fn party_facts(start: Corner, chain: &[u8], n: usize, last: Corner, tally: Tally) -> PartyFacts
+    requires { ⌜ SomeOver start (now chain) n last tally ⌝ }
+    ensures { λ r. ⌜ ((ds : List ℕ) → WalkOver start (now (chain .entry)) ds n last tally → r ≡ partyFactsOf start ds) ⌝ }
+{
+    let v = verdict(n, walk_corner::alike(last, start), tally.j, tally.k);
+    let a = area(start, chain, n, v);
+    PartyFacts {
+        verdict: v,
+        steps: n,
+        corners: tally.corners,
+        j: tally.j,
+        k: tally.k,
+        area: a,
+        last,
+    }
+}
+
+// The facts of the walk w from start, whose steps stand in the chain.
 pub fn facts(start: Corner, chain: &[u8], w: Walk) -> Facts
     requires { ⌜ Settling start (now chain) w ⌝ }
     ensures { λ r. ⌜ ((ds : List ℕ) → Settled start (now (chain .entry)) ds w → r ≡ factsOf start ds) ⌝ }
 {
     let spot = w.spot;
     let tally = w.tally;
-    let n = spot.steps;
     let last = spot.at;
-    let v = verdict(n, walk_corner::alike(last, start), tally.j, tally.k);
-    let a = area(start, chain, n, v);
+    let f = party_facts(start, chain, spot.steps, last, tally);
+    let v = f.verdict;
     Facts {
         verdict: v,
-        steps: n,
+        steps: f.steps,
         nodes: spot.nodes,
-        corners: tally.corners,
-        j: tally.j,
-        k: tally.k,
-        area: a,
+        corners: f.corners,
+        j: f.j,
+        k: f.k,
+        area: f.area,
         last,
     }
 }

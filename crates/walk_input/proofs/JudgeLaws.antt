@@ -16,7 +16,7 @@ use Rattle.answer.specs.declared.Refusal.the-variants.{TooMany, Table, ResultRo
 use Rattle.answer.specs.Refusal.{orElse, when, refusalNumber}
 use Rattle.answer.specs.Limits.{mostInput, mostSteps, mostRecords, Near, startFits}
 use Rattle.grid.specs.declared.Corner.{Corner}
-use Rattle.walk_call.specs.Walk.{tableFits}
+use Rattle.walk_call.specs.Walk.{tableFits, bufferBy}
 use Rattle.steps.specs.Operations.{faultOf, operationsJudged, after}
 use Rattle.layout.specs.Marks.{markWords}
 use Rattle.layout.specs.Table.{width, recordsIn}
@@ -131,15 +131,19 @@ abbrev pub Early : Judged → Type 0
 Early Good = Unit {0}
 Early (Refused r) = eqb (refusalNumber r) 7 ≡ false
 
-early-when : (b : Bool) (r : Refusal) → eqb (refusalNumber r) 7 ≡ false → Early (when b r)
+-- such a refusal leaves a buffer as it was
+pub untouched : (r : Refusal) (new old : List ℕ) → Early (Refused r) → bufferBy (Refused r) new old ≡ old
+untouched r new old e = rw e
+
+pub early-when : (b : Bool) (r : Refusal) → eqb (refusalNumber r) 7 ≡ false → Early (when b r)
 early-when true r e = e
 early-when false r e = tt
 
-early-or : (a b : Judged) → Early a → Early b → Early (orElse a b)
+pub early-or : (a b : Judged) → Early a → Early b → Early (orElse a b)
 early-or Good b p q = q
 early-or (Refused r) b p q = p
 
-early-fault : (i n o : ℕ) → Early (faultOf i n o)
+pub early-fault : (i n o : ℕ) → Early (faultOf i n o)
 early-fault i n o =
     let a = when (ltb 4 o) (BadDigit i) in
     let b = when (eqb o 4 && eqb n 0) (NothingToTake i) in

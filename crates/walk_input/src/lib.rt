@@ -12,7 +12,7 @@ ghost use Rattle.steps.specs.Operations.{faultOf, operationsJudged, after, Fine
 ghost use Rattle.walk_input.specs.Input.{inputJudged};
 
 // What is wrong with the operation at place i, where so many steps survive.
-fn fault(op: u8, steps: usize, i: usize) -> Judged
+pub fn fault(op: u8, steps: usize, i: usize) -> Judged
     ensures { λ r. ⌜ r ≡ faultOf i steps op ⌝ }
 {
     if op > 4 {
@@ -31,7 +31,7 @@ fn fault(op: u8, steps: usize, i: usize) -> Judged
 }
 
 // How many steps survive an operation that has no fault.
-fn survive(op: u8, steps: usize) -> usize
+pub fn survive(op: u8, steps: usize) -> usize
     requires { ⌜ Fine steps op ⌝ }
     requires { ⌜ steps < 2 ^ 63 ⌝ }
     ensures { λ r. ⌜ r ≡ after steps op ⌝ }

@@ -9,7 +9,7 @@ ghost use Rattle.walk_plant.specs.Plants.{Deep, Grown, Planted};
 use grid::Corner;
 
 // How many parents c has.
-fn depth(c: Corner) -> usize
+pub fn depth(c: Corner) -> usize
     requires { ⌜ Near c ⌝ }
     ensures { λ r. ⌜ Deep c r ⌝ }
 {

@@ -8,92 +8,68 @@ use native.Mathlib.Omega.{arith}
 use borrow.Author.Tests.{eqb-true, eqb-false}
 use lib.Dec.{eqb}
 use lib.IntN.{natAbs}
-use lib.ListN.{length, length-append, length-set, take, getD, set}
-use lib.Seq.{sets, take-suc, take-suc-set, length-take-le}
-use Rattle.answer.specs.Limits.{mostSteps, mostStart}
+use lib.ListN.{length, take, getD, set}
+use lib.Seq.{sets}
+use Rattle.answer.specs.Limits.{mostSteps}
 use Rattle.grid.specs.declared.Corner.{Corner}
 use Rattle.grid.specs.Grid.{same, cornersFrom, endFrom}
-use Rattle.lists.specs.Lists.{Below, count}
+use Rattle.lists.specs.Lists.{count}
 use Rattle.walk_step.specs.declared.Moved.{Moved}
 use Rattle.walk_step.specs.declared.Walk.{Walk}
 use Rattle.walk_step.specs.Spots.{Walked}
 use Rattle.walk_step.specs.Walks.{Known, Advanced}
+use Rattle.walk_step.proofs.ChainLaws.{keeps-near, keeps-place, keeps-split, keeps-digit, keeps-back, keeps-step}
 use Rattle.layout.specs.Marks.{markWords, changesOf, markOf}
 use Rattle.tree.specs.Nodes.{nodesOf}
 use Rattle.tree_laws.specs.State.{stateOf}
-use Rattle.steps.specs.Operations.{operate, Fine, Walkable}
-use Rattle.grid.proofs.BoundLaws.{endFrom-bound}
+use Rattle.steps.specs.Operations.{operate, Fine}
 use Rattle.layout.specs.Table.{width, wordAt, visitsWord}
 use Rattle.table_laws.proofs.Cites.{ref-below}
 use Rattle.table_laws.proofs.DiffLaws.{changes-back}
 use Rattle.table_laws.proofs.RowLaws.{table-state}
 use Rattle.table_laws.proofs.StoreLaws.{read-visits}
-use Rattle.steps.proofs.SurvivorLaws.{walkable-operate, operate-step, operate-back, below-last, fine-step}
+use Rattle.steps.proofs.SurvivorLaws.{operate-step, operate-back, fine-step}
 use Rattle.walk_run.specs.Runs.{Chained, Applied, StepDone, Tells, Performed}
 
 module _ (c : Corner) (t ch ds : List ℕ) (w : Walk) (k : Chained c t ch ds w) where
   pub chained-few : w .spot .steps ≤ mostSteps
-  chained-few = omega (arith, k .known .walked .steps, k .sound .few)
+  chained-few = omega (arith, k .known .walked .steps, k .own .sound .few)
 
   pub chained-near : (natAbs (w .spot .at .0) < 65536) × (natAbs (w .spot .at .1) < 65536)
-  chained-near =
-      let h = endFrom-bound ds c in
-      let x : natAbs (w .spot .at .0) ≡ natAbs (endFrom c ds .0) = ap (λ (x : Corner). natAbs (x .0)) (k .known .walked .corner) in
-      let y : natAbs (w .spot .at .1) ≡ natAbs (endFrom c ds .1) = ap (λ (x : Corner). natAbs (x .1)) (k .known .walked .corner) in
-      (less (natAbs (w .spot .at .0)) (natAbs (endFrom c ds .0)) (natAbs (c .0)) (length ds) x (h .0) (k .near .0) (k .sound .few), less (natAbs (w .spot .at .1)) (natAbs (endFrom c ds .1)) (natAbs (c .1)) (length ds) y (h .1) (k .near .1) (k .sound .few))
-    where
-      less : (a b m n : ℕ) → a ≡ b → b ≤ m + n → m ≤ mostStart → n ≤ mostSteps → a < 65536
-      less a b m n p q r s = omega arith
+  chained-near = keeps-near c ch ds (k .own) (w .spot .at) (k .known .walked .corner)
 
   -- the last step, from the chain
   module _ (some : 0 < w .spot .steps) where
     pub chained-place : w .spot .steps - 1 < length ch
-    chained-place = omega (arith, k .known .walked .steps, k .space)
+    chained-place = keeps-place c ch ds (k .own) (w .spot .steps) (k .known .walked .steps) some
 
     chained-split : ds ≡ take (w .spot .steps - 1) ch ++ (getD ch (w .spot .steps - 1) 0 ∷ [])
-    chained-split =
-        let p : length ds ≡ suc (w .spot .steps - 1) = omega (arith, k .known .walked .steps) in
-        k .kept ∙ ap (λ (n : ℕ). take n ch) p ∙ take-suc ch (w .spot .steps - 1) 0 chained-place
+    chained-split = keeps-split c ch ds (k .own) (w .spot .steps) (k .known .walked .steps) some
 
     pub chained-digit : getD ch (w .spot .steps - 1) 0 < 4
-    chained-digit = below-last (take (w .spot .steps - 1) ch) (getD ch (w .spot .steps - 1) 0) (subst (λ (l : List ℕ). Below 4 l) chained-split (k .sound .digits))
+    chained-digit = keeps-digit c ch ds (k .own) (w .spot .steps) (k .known .walked .steps) some
 
     pub chained-known : Known t c (take (w .spot .steps - 1) ch ++ (getD ch (w .spot .steps - 1) 0 ∷ [])) w
     chained-known = subst (λ (l : List ℕ). Known t c l w) chained-split (k .known)
 
-    pub chained-back : (o : ℕ) → o ≡ 4 → Fine (w .spot .steps) o → (t′ : List ℕ) (v : Walk) → Known t′ c (take (w .spot .steps - 1) ch) v → Chained c t′ ch (operate ds o) v
-    chained-back o q f t′ v h =
-        let e : operate ds o ≡ take (w .spot .steps - 1) ch = ap₂ operate chained-split q ∙ operate-back (take (w .spot .steps - 1) ch) (getD ch (w .spot .steps - 1) 0) in
-        let n : length (take (w .spot .steps - 1) ch) ≡ w .spot .steps - 1 = length-take-le (w .spot .steps - 1) ch (omega (arith, chained-place)) in
-        subst (λ (l : List ℕ). Chained c t′ ch l v) (sym e) (record {
-          near = k .near;
-          known = h;
-          kept = ap (λ (m : ℕ). take m ch) (sym n);
-          sound = subst Walkable e (walkable-operate ds o (k .sound) (subst (λ (m : ℕ). Fine m o) (k .known .walked .steps) f));
-          space = omega (arith, n, chained-place);
-        })
+    chained-less : (o : ℕ) → o ≡ 4 → operate ds o ≡ take (w .spot .steps - 1) ch
+    chained-less o q = ap₂ operate chained-split q ∙ operate-back (take (w .spot .steps - 1) ch) (getD ch (w .spot .steps - 1) 0)
+
+    pub chained-back : (o : ℕ) → o ≡ 4 → (t′ : List ℕ) (v : Walk) → Known t′ c (take (w .spot .steps - 1) ch) v → Chained c t′ ch (operate ds o) v
+    chained-back o q t′ v h = subst (λ (l : List ℕ). Chained c t′ ch l v) (sym (chained-less o q)) (record { known = h; own = keeps-back c ch ds (k .own) (w .spot .steps) (k .known .walked .steps) some })
 
     -- how many records it changes, backwards as forwards
     pub chained-changes : (o n : ℕ) → o ≡ 4 → n ≡ changesOf c (take (w .spot .steps - 1) ch) (take (w .spot .steps - 1) ch ++ (getD ch (w .spot .steps - 1) 0 ∷ [])) → n ≡ changesOf c ds (operate ds o)
     chained-changes o n q z =
         let l = take (w .spot .steps - 1) ch in
-        let e : operate ds o ≡ l = ap₂ operate chained-split q ∙ operate-back l (getD ch (w .spot .steps - 1) 0) in
-        z ∙ ap (changesOf c l) (sym chained-split) ∙ changes-back c ds l ∙ ap (changesOf c ds) (sym e)
+        z ∙ ap (changesOf c l) (sym chained-split) ∙ changes-back c ds l ∙ ap (changesOf c ds) (sym (chained-less o q))
 
   -- a step more, in the chain
-  module _ (o : ℕ) (f : Fine (w .spot .steps) o) (small : o < 4) (place : w .spot .steps < length ch) where
+  module _ (o : ℕ) (few : w .spot .steps < mostSteps) (small : o < 4) (place : w .spot .steps < length ch) where
     chained-go : (t′ : List ℕ) (v : Walk) → Known t′ c (ds ++ (o ∷ [])) v → Chained c t′ (set ch (w .spot .steps) o) (operate ds o) v
     chained-go t′ v h =
-        let e : operate ds o ≡ ds ++ (o ∷ []) = operate-step ds o small in
-        let n : length (ds ++ (o ∷ [])) ≡ suc (w .spot .steps) = omega (arith, length-append ds (o ∷ []), k .known .walked .steps) in
-        let d : take (w .spot .steps) ch ≡ ds = ap (λ (m : ℕ). take m ch) (k .known .walked .steps) ∙ sym (k .kept) in
-        subst (λ (l : List ℕ). Chained c t′ (set ch (w .spot .steps) o) l v) (sym e) (record {
-          near = k .near;
-          known = h;
-          kept = ap (λ (l : List ℕ). l ++ (o ∷ [])) (sym d) ∙ sym (take-suc-set ch (w .spot .steps) o place) ∙ ap (λ (m : ℕ). take m (set ch (w .spot .steps) o)) (sym n);
-          sound = subst Walkable e (walkable-operate ds o (k .sound) (subst (λ (m : ℕ). Fine m o) (k .known .walked .steps) f));
-          space = omega (arith, n, length-set ch (w .spot .steps) o);
-        })
+        subst (λ (l : List ℕ). Chained c t′ (set ch (w .spot .steps) o) l v) (sym (operate-step ds o small))
+        (record { known = h; own = keeps-step c ch ds (k .own) (w .spot .steps) (k .known .walked .steps) o small few place })
 
     pub chained-applied : (words : ℕ) (t′ : List ℕ) (r : Moved) → Advanced words t′ c (ds ++ (o ∷ [])) r → Applied words c t′ (set ch (w .spot .steps) o) (operate ds o) r
     chained-applied words t′ (Moved.To v) h = (chained-go t′ v (h .0), h .1)

@@ -17,6 +17,7 @@ use Rattle.walk_step.specs.declared.Moved.{Moved}
 use Rattle.walk_step.specs.declared.Walk.{Walk}
 use Rattle.walk_step.specs.Spots.{Walked}
 use Rattle.walk_step.specs.Walks.{fresh}
+use Rattle.walk_step.proofs.ChainLaws.{keeps-none, keeps-zeros, keeps-end}
 use Rattle.tree.specs.Nodes.{nodesOf}
 use Rattle.steps.specs.Operations.{operate, survivorsFrom, survivors, faultOf, operationsJudged, after, Fine}
 use Rattle.walk_call.proofs.RoomLaws.{room-full, room-fits, room-end}
@@ -25,7 +26,7 @@ use Rattle.walk_run.specs.declared.Ran.{Ran}
 use Rattle.walk_run.specs.Runs.{Chained, Ready, Performed, PerformedAll, Ended}
 
 -- what stands before a run of stores, and the run
-take-sets : (l vs : List ℕ) (i n : ℕ) → i + length vs ≤ length l → i + length vs ≡ n → take n (sets l i vs) ≡ take i l ++ vs
+pub take-sets : (l vs : List ℕ) (i n : ℕ) → i + length vs ≤ length l → i + length vs ≡ n → take n (sets l i vs) ≡ take i l ++ vs
 take-sets l vs i n h e =
     ap (take n) (sets-eq vs l i h)
     ∙ take-at (take i l ++ vs) (drop (i + length vs) l) n (omega (arith, length-append (take i l) vs, length-take-le i l (omega arith)))
@@ -45,13 +46,7 @@ pub record Running (words : ℕ) (c : Corner) (ops t ms ch : List ℕ) (w : Walk
 pub running-start : (c : Corner) (node : ℕ) (ops t ms ch : List ℕ) → Near c → Walked t c [] (fresh c node .spot) → operationsJudged 0 0 ops ≡ Good → (w : Walk) → w ≡ fresh c node → Running (length t) c ops t ms ch w 0
 running-start c node ops t ms ch n k f w q = subst (λ (v : Walk). Running (length t) c ops t ms ch v 0) (sym q) (record {
   steps = [];
-  chained = record {
-    near = n;
-    known = record { walked = k; counted = record { seen = refl; met = (refl, refl) } };
-    kept = refl;
-    sound = record { digits = tt; few = omega arith };
-    space = omega arith;
-  };
+  chained = record { known = record { walked = k; counted = record { seen = refl; met = (refl, refl) } }; own = keeps-none c ch n };
   rest = refl;
   fine = f;
   fits = omega (arith, k .count, k .room);
@@ -134,22 +129,15 @@ pub ended-all : (words : ℕ) (c : Corner) (ops t ms ch : List ℕ) (w : Walk) �
     → (ch′ : List ℕ) → ch′ ≡ take (w .spot .steps) ch ++ replicate (length ch - w .spot .steps) 0 → Ended words c ops t ms ch′ (Ran.All w)
 ended-all words c ops t ms ch w l h ch′ e =
     let k = h .0 in
-    let ds = survivors ops in
-    let q : ch′ ≡ ds ++ replicate (length ch - length ds) 0 = e ∙ ap (λ (n : ℕ). take n ch ++ replicate (length ch - n) 0) (k .known .walked .steps) ∙ ap (λ (x : List ℕ). x ++ replicate (length ch - length ds) 0) (sym (k .kept)) in (
-      record {
-        near = k .near;
-        known = k .known;
-        kept = sym (ap (take (length ds)) q ∙ take-at ds (replicate (length ch - length ds) 0) (length ds) refl);
-        sound = k .sound;
-        space = omega (arith, ap length q, length-append ds (replicate (length ch - length ds) 0));
-      },
-      q ∙ ap (λ (n : ℕ). ds ++ replicate (n - length ds) 0) l,
+    let ds = survivors ops in (
+      record { known = k .known; own = keeps-end c ch ds (k .own) (w .spot .steps) (k .known .walked .steps) ch′ e },
+      keeps-zeros c ch ds (k .own) (w .spot .steps) (k .known .walked .steps) ch′ e ∙ ap (λ (n : ℕ). ds ++ replicate (n - length ds) 0) l,
       h .1,
       h .2,
     )
 
 pub ended-steps : (words : ℕ) (c : Corner) (ops t ms ch : List ℕ) (w : Walk) → PerformedAll words c ops t ms ch (Ran.All w) → w .spot .steps ≤ length ch
-ended-steps words c ops t ms ch w h = omega (arith, h .0 .known .walked .steps, h .0 .space)
+ended-steps words c ops t ms ch w h = omega (arith, h .0 .known .walked .steps, h .0 .own .space)
 
 pub cleared-from-0 : (ch ch′ : List ℕ) → length ch′ ≡ length ch → ch′ ≡ take 0 ch ++ replicate (length ch - 0) 0 → ch′ ≡ replicate (length ch′) 0
 cleared-from-0 ch ch′ l e = let n : length ch - 0 ≡ length ch′ = omega arith in e ∙ ap (λ (k : ℕ). replicate k 0) n

@@ -2,10 +2,9 @@
 -- Assumes nothing.
 use mathlib.Core.List.{List, [], _∷_, _++_}
 use mathlib.Core.Path.{_≡_}
-use Prim.Native.Nat.{ℕ, _*_, _<_, _≤_}
-use lib.ListN.{length, take, replicate}
+use Prim.Native.Nat.{ℕ, _*_, _<_}
+use lib.ListN.{length, replicate}
 use lib.Seq.{sets}
-use Rattle.answer.specs.Limits.{Near}
 use Rattle.answer.specs.declared.Judged.the-variants.{Good, Refused}
 use Rattle.answer.specs.declared.Refusal.the-variants.{NoRoom}
 use Rattle.walk_call.specs.Walk.{roomFrom}
@@ -18,17 +17,15 @@ use Rattle.walk_step.specs.declared.Walk.{Walk}
 use Rattle.walk_step.specs.declared.Spot.{Spot}
 use Rattle.walk_step.specs.Spots.{Walked, Stepped}
 use Rattle.walk_step.specs.Walks.{Known}
+use Rattle.walk_step.specs.Chains.{ChainKeeps}
 use Rattle.tree.specs.Nodes.{nodesOf}
-use Rattle.steps.specs.Operations.{survivors, Fine, Walkable}
+use Rattle.steps.specs.Operations.{survivors, Fine}
 use Rattle.walk_run.specs.declared.Ran.{Ran}
 
 -- the walk from c with the steps ds, which stand in the chain
 pub record Chained (c : Corner) (t chain ds : List ℕ) (w : Walk) : Type 0 where
-  pub near : Near c
   pub known : Known t c ds w
-  pub kept : ds ≡ take (length ds) chain
-  pub sound : Walkable ds
-  pub space : length ds ≤ length chain
+  pub own : ChainKeeps c chain ds
 
 -- some walk for which the operation o is no fault, with room in the chain
 pub record Ready (t chain : List ℕ) (w : Walk) (o : ℕ) : Type 0 where

@@ -1,3 +1,4 @@
 pub mod SpotLaws
 pub mod TallyLaws
 pub mod WalkLaws
+pub mod ChainLaws

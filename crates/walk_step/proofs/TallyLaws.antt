@@ -40,6 +40,7 @@ says-some : (m : Meeting) (j k : ℕ) → Says m j k → (k ≡ noMeeting → �
 says-some none j k h g f n = absurd (g (h .1))
 says-some (meet a b) j k h g f n = refl
 
+-- ---- what is read in the table: how often the corner was visited, and when first
 module _ (t : List ℕ) (c : Corner) (ds : List ℕ) (d : ℕ) (w : Spot) (k : Walked t c (ds ++ (d ∷ [])) w) where
   pub tally-bound : HasRecord t (w .node)
   tally-bound = bound (w .node) (length (nodesOf (cornersFrom c (ds ++ (d ∷ []))))) (w .nodes) (length t) (ref-below (nodesOf (cornersFrom c (ds ++ (d ∷ [])))) (endFrom c (ds ++ (d ∷ []))) (w .node) (k .here)) (k .count) (k .room)
@@ -47,77 +48,78 @@ module _ (t : List ℕ) (c : Corner) (ds : List ℕ) (d : ℕ) (w : Spot) (k : W
       bound : (a n m l : ℕ) → a < n → m ≡ n → width * m ≤ l → suc a * width ≤ l
       bound a n m l p q s = omega arith
 
-  steps-here : w .steps ≡ suc (length ds)
+  pub steps-here : w .steps ≡ suc (length ds)
   steps-here = omega (arith, k .steps, length-append ds (d ∷ []))
 
-  seen : getD t (wordAt (w .node) visitsWord) 0 ≡ count (same (stepped d (endFrom c ds))) (cornersFrom c ds) + 1
-  seen =
+  pub tally-seen : getD t (wordAt (w .node) visitsWord) 0 ≡ count (same (stepped d (endFrom c ds))) (cornersFrom c ds) + 1
+  tally-seen =
       let ps = cornersFrom c (ds ++ (d ∷ [])) in
       let p = stepped d (endFrom c ds) in
       ap (λ (x : List ℕ). getD x (wordAt (w .node) visitsWord) 0) (k .whole ∙ table-state (length t) c (ds ++ (d ∷ []))) ∙ read-visits (length t) (stateOf ps) (endFrom c (ds ++ (d ∷ []))) (w .node) (k .here)
       ∙ ap (λ (x : Corner). count (same x) ps) (endFrom-snoc c ds d) ∙ push-visits c ds d p ∙ ap (λ (b : Bool). count (same p) (cornersFrom c ds) + tally b) (same-refl p)
 
-  first : getD t (wordAt (w .node) firstWord) 0 ≡ later (find (same (stepped d (endFrom c ds))) (cornersFrom c ds)) true (suc (suc (length ds)))
-  first =
+  pub tally-found : getD t (wordAt (w .node) firstWord) 0 ≡ later (find (same (stepped d (endFrom c ds))) (cornersFrom c ds)) true (suc (suc (length ds)))
+  tally-found =
       let ps = cornersFrom c (ds ++ (d ∷ [])) in
       let p = stepped d (endFrom c ds) in
       ap (λ (x : List ℕ). getD x (wordAt (w .node) firstWord) 0) (k .whole ∙ table-state (length t) c (ds ++ (d ∷ []))) ∙ read-first (length t) (stateOf ps) (endFrom c (ds ++ (d ∷ []))) (w .node) (k .here)
       ∙ ap (λ (x : Corner). find (same x) ps) (endFrom-snoc c ds d) ∙ push-first c ds d p ∙ ap (λ (b : Bool). later (find (same p) (cornersFrom c ds)) b (suc (suc (length ds)))) (same-refl p)
 
   pub tally-first : (f : ℕ) → f ≡ getD t (wordAt (w .node) firstWord) 0 → 0 < f
-  tally-first f e = go (find (same (stepped d (endFrom c ds))) (cornersFrom c ds)) (e ∙ first)
+  tally-first f e = go (find (same (stepped d (endFrom c ds))) (cornersFrom c ds)) (e ∙ tally-found)
     where
       go : (n : ℕ) → f ≡ later n true (suc (suc (length ds))) → 0 < f
       go zero q = omega arith
       go (suc n) q = omega arith
 
-  module _ (m : Tally) (h : TallyIs c ds m) (v : ℕ) (e : v ≡ getD t (wordAt (w .node) visitsWord) 0) where
-    none-yet : v ≡ 1 → count (same (stepped d (endFrom c ds))) (cornersFrom c ds) ≡ 0
-    none-yet q = less v (count (same (stepped d (endFrom c ds))) (cornersFrom c ds)) (e ∙ seen) q
-      where
-        less : (a b : ℕ) → a ≡ b + 1 → a ≡ 1 → b ≡ 0
-        less a b p r = omega arith
+-- ---- a step: v visits with it
+module _ (c : Corner) (ds : List ℕ) (d : ℕ) (m : Tally) (h : TallyIs c ds m) (v : ℕ) (e : v ≡ count (same (stepped d (endFrom c ds))) (cornersFrom c ds) + 1) where
+  none-yet : v ≡ 1 → count (same (stepped d (endFrom c ds))) (cornersFrom c ds) ≡ 0
+  none-yet q = less v (count (same (stepped d (endFrom c ds))) (cornersFrom c ds)) e q
+    where
+      less : (a b : ℕ) → a ≡ b + 1 → a ≡ 1 → b ≡ 0
+      less a b p r = omega arith
 
-    -- the first visit
-    pub tally-new : v ≡ 1 → (r : Tally) → r .corners ≡ m .corners + 1 → r .j ≡ m .j → r .k ≡ m .k → TallyIs c (ds ++ (d ∷ [])) r
-    tally-new q r p₁ p₂ p₃ =
+  -- the first visit
+  pub tally-new : v ≡ 1 → (r : Tally) → r .corners ≡ m .corners + 1 → r .j ≡ m .j → r .k ≡ m .k → TallyIs c (ds ++ (d ∷ [])) r
+  tally-new q r p₁ p₂ p₃ =
+      let p = stepped d (endFrom c ds) in
+      let z = none-yet q in
+      let y : find (same p) (cornersFrom c ds) ≡ 0 = sound-walk c ds .fewer p z in
+      let s : meetingOf c (ds ++ (d ∷ [])) ≡ meetingOf c ds = push-meeting c ds d ∙ ap (λ (f : ℕ). met f (suc (length ds)) (meetingOf c ds)) y ∙ met-zero (suc (length ds)) (meetingOf c ds) in
+      record {
+        seen = p₁ ∙ ap (λ (n : ℕ). n + 1) (h .seen) ∙ sym (push-visited c ds d ∙ ap (λ (n : ℕ). length (visitedOf (cornersFrom c ds)) + tally (eqb n 0)) z);
+        met = subst (λ (x : Meeting). Says x (r .j) (r .k)) (sym s) (subst (λ (x : ℕ). Says (meetingOf c ds) x (r .k)) (sym p₂) (subst (λ (x : ℕ). Says (meetingOf c ds) (m .j) x) (sym p₃) (h .met)));
+      }
+
+  -- a later one
+  module _ (g : v ≡ 1 → ⊥) where
+    some : count (same (stepped d (endFrom c ds))) (cornersFrom c ds) ≡ 0 → ⊥
+    some z = g (e ∙ ap (λ (n : ℕ). n + 1) z)
+
+    same-seen : length (visitedOf (cornersFrom c (ds ++ (d ∷ [])))) ≡ length (visitedOf (cornersFrom c ds))
+    same-seen =
         let p = stepped d (endFrom c ds) in
-        let z = none-yet q in
-        let y : find (same p) (cornersFrom c ds) ≡ 0 = sound-walk c ds .fewer p z in
-        let s : meetingOf c (ds ++ (d ∷ [])) ≡ meetingOf c ds = push-meeting c ds d ∙ ap (λ (f : ℕ). met f (suc (length ds)) (meetingOf c ds)) y ∙ met-zero (suc (length ds)) (meetingOf c ds) in
-        record {
-          seen = p₁ ∙ ap (λ (n : ℕ). n + 1) (h .seen) ∙ sym (push-visited c ds d ∙ ap (λ (n : ℕ). length (visitedOf (cornersFrom c ds)) + tally (eqb n 0)) z);
-          met = subst (λ (x : Meeting). Says x (r .j) (r .k)) (sym s) (subst (λ (x : ℕ). Says (meetingOf c ds) x (r .k)) (sym p₂) (subst (λ (x : ℕ). Says (meetingOf c ds) (m .j) x) (sym p₃) (h .met)));
-        }
+        let z : length (visitedOf (cornersFrom c ds)) + 0 ≡ length (visitedOf (cornersFrom c ds)) = omega arith in
+        push-visited c ds d ∙ ap (λ (b : Bool). length (visitedOf (cornersFrom c ds)) + tally b) (ne-eqb (count (same p) (cornersFrom c ds)) 0 some) ∙ z
 
-    -- a later one
-    module _ (g : v ≡ 1 → ⊥) where
-      some : count (same (stepped d (endFrom c ds))) (cornersFrom c ds) ≡ 0 → ⊥
-      some z = g (e ∙ seen ∙ ap (λ (n : ℕ). n + 1) z)
+    pub tally-same : (m .k ≡ noMeeting → ⊥) → TallyIs c (ds ++ (d ∷ [])) m
+    tally-same x =
+        let s : meetingOf c (ds ++ (d ∷ [])) ≡ meetingOf c ds = push-meeting c ds d ∙ says-some (meetingOf c ds) (m .j) (m .k) (h .met) x (find (same (stepped d (endFrom c ds))) (cornersFrom c ds)) (suc (length ds)) in
+        record { seen = h .seen ∙ sym same-seen; met = subst (λ (y : Meeting). Says y (m .j) (m .k)) (sym s) (h .met) }
 
-      same-seen : length (visitedOf (cornersFrom c (ds ++ (d ∷ [])))) ≡ length (visitedOf (cornersFrom c ds))
-      same-seen =
-          let p = stepped d (endFrom c ds) in
-          let z : length (visitedOf (cornersFrom c ds)) + 0 ≡ length (visitedOf (cornersFrom c ds)) = omega arith in
-          push-visited c ds d ∙ ap (λ (b : Bool). length (visitedOf (cornersFrom c ds)) + tally b) (ne-eqb (count (same p) (cornersFrom c ds)) 0 some) ∙ z
+    pub tally-meets : m .k ≡ noMeeting → (n : ℕ) → n ≡ suc (length ds) → n < noMeeting → (f : ℕ) → f ≡ later (find (same (stepped d (endFrom c ds))) (cornersFrom c ds)) true (suc (suc (length ds))) → (r : Tally) → r .corners ≡ m .corners → r .j ≡ f - 1 → r .k ≡ n → TallyIs c (ds ++ (d ∷ [])) r
+    tally-meets x n i few f q r p₁ p₂ p₃ = record { seen = p₁ ∙ h .seen ∙ sym same-seen; met = subst (λ (y : Meeting). Says y (r .j) (r .k)) (sym s) (go (find (same (stepped d (endFrom c ds))) (cornersFrom c ds)) refl q) }
+      where
+        s : meetingOf c (ds ++ (d ∷ [])) ≡ met (find (same (stepped d (endFrom c ds))) (cornersFrom c ds)) (suc (length ds)) none
+        s = push-meeting c ds d ∙ ap (met (find (same (stepped d (endFrom c ds))) (cornersFrom c ds)) (suc (length ds))) (says-none (meetingOf c ds) (m .j) (m .k) (h .met) x)
 
-      pub tally-same : (m .k ≡ noMeeting → ⊥) → TallyIs c (ds ++ (d ∷ [])) m
-      tally-same x =
-          let s : meetingOf c (ds ++ (d ∷ [])) ≡ meetingOf c ds = push-meeting c ds d ∙ says-some (meetingOf c ds) (m .j) (m .k) (h .met) x (find (same (stepped d (endFrom c ds))) (cornersFrom c ds)) (suc (length ds)) in
-          record { seen = h .seen ∙ sym same-seen; met = subst (λ (y : Meeting). Says y (m .j) (m .k)) (sym s) (h .met) }
-
-      pub tally-meets : m .k ≡ noMeeting → w .steps < noMeeting → (f : ℕ) → f ≡ getD t (wordAt (w .node) firstWord) 0 → (r : Tally) → r .corners ≡ m .corners → r .j ≡ f - 1 → r .k ≡ w .steps → TallyIs c (ds ++ (d ∷ [])) r
-      tally-meets x few f q r p₁ p₂ p₃ = record { seen = p₁ ∙ h .seen ∙ sym same-seen; met = subst (λ (y : Meeting). Says y (r .j) (r .k)) (sym s) (go (find (same (stepped d (endFrom c ds))) (cornersFrom c ds)) refl (q ∙ first)) }
-        where
-          s : meetingOf c (ds ++ (d ∷ [])) ≡ met (find (same (stepped d (endFrom c ds))) (cornersFrom c ds)) (suc (length ds)) none
-          s = push-meeting c ds d ∙ ap (met (find (same (stepped d (endFrom c ds))) (cornersFrom c ds)) (suc (length ds))) (says-none (meetingOf c ds) (m .j) (m .k) (h .met) x)
-
-          go : (n : ℕ) → find (same (stepped d (endFrom c ds))) (cornersFrom c ds) ≡ n → f ≡ later n true (suc (suc (length ds))) → Says (met n (suc (length ds)) none) (r .j) (r .k)
-          go zero y a = absurd (some (sound-walk c ds .more (stepped d (endFrom c ds)) y))
-          go (suc n) y a = (p₂ ∙ less f n a, p₃ ∙ steps-here, subst (λ (b : ℕ). b < noMeeting) steps-here few)
-            where
-              less : (a b : ℕ) → a ≡ suc b → a - 1 ≡ b
-              less a b z = omega arith
+        go : (n : ℕ) → find (same (stepped d (endFrom c ds))) (cornersFrom c ds) ≡ n → f ≡ later n true (suc (suc (length ds))) → Says (met n (suc (length ds)) none) (r .j) (r .k)
+        go zero y a = absurd (some (sound-walk c ds .more (stepped d (endFrom c ds)) y))
+        go (suc l) y a = (p₂ ∙ less f l a, p₃ ∙ i, subst (λ (b : ℕ). b < noMeeting) i few)
+          where
+            less : (a b : ℕ) → a ≡ suc b → a - 1 ≡ b
+            less a b z = omega arith
 
 -- ---- and back
 unsays-here : (m : Meeting) (j k n : ℕ) → Says m j k → k ≡ n → n < noMeeting → unmet n m ≡ none
@@ -128,12 +130,12 @@ unsays-not : (m : Meeting) (j k n : ℕ) → Says m j k → (k ≡ n → ⊥) �
 unsays-not none j k n h g = refl
 unsays-not (meet a b) j k n h g = rw (ne-eqb b n (λ q. g (h .1 ∙ q)), unmet)
 
-module _ (t : List ℕ) (c : Corner) (ds : List ℕ) (d : ℕ) (w : Spot) (k : Walked t c (ds ++ (d ∷ [])) w) (m : Tally) (h : TallyIs c (ds ++ (d ∷ [])) m) (v : ℕ) (e : v ≡ getD t (wordAt (w .node) visitsWord) 0) where
+module _ (c : Corner) (ds : List ℕ) (d : ℕ) (m : Tally) (h : TallyIs c (ds ++ (d ∷ [])) m) (v : ℕ) (e : v ≡ count (same (stepped d (endFrom c ds))) (cornersFrom c ds) + 1) where
   -- the only visit
   pub untally-new : v ≡ 1 → (r : Tally) → r .corners ≡ m .corners - 1 → r .j ≡ m .j → r .k ≡ m .k → TallyIs c ds r
   untally-new q r p₁ p₂ p₃ =
       let p = stepped d (endFrom c ds) in
-      let z : count (same p) (cornersFrom c ds) ≡ 0 = less v (count (same p) (cornersFrom c ds)) (e ∙ seen t c ds d w k) q in
+      let z : count (same p) (cornersFrom c ds) ≡ 0 = less v (count (same p) (cornersFrom c ds)) e q in
       let y : find (same p) (cornersFrom c ds) ≡ 0 = sound-walk c ds .fewer p z in
       let s : meetingOf c (ds ++ (d ∷ [])) ≡ meetingOf c ds = push-meeting c ds d ∙ ap (λ (f : ℕ). met f (suc (length ds)) (meetingOf c ds)) y ∙ met-zero (suc (length ds)) (meetingOf c ds) in
       let n : length (visitedOf (cornersFrom c (ds ++ (d ∷ [])))) ≡ length (visitedOf (cornersFrom c ds)) + 1 = push-visited c ds d ∙ ap (λ (n : ℕ). length (visitedOf (cornersFrom c ds)) + tally (eqb n 0)) z in
@@ -154,15 +156,14 @@ module _ (t : List ℕ) (c : Corner) (ds : List ℕ) (d : ℕ) (w : Spot) (k : W
     still =
         let p = stepped d (endFrom c ds) in
         let z : length (visitedOf (cornersFrom c ds)) + 0 ≡ length (visitedOf (cornersFrom c ds)) = omega arith in
-        push-visited c ds d ∙ ap (λ (b : Bool). length (visitedOf (cornersFrom c ds)) + tally b) (ne-eqb (count (same p) (cornersFrom c ds)) 0 (λ y. g (e ∙ seen t c ds d w k ∙ ap (λ (n : ℕ). n + 1) y))) ∙ z
+        push-visited c ds d ∙ ap (λ (b : Bool). length (visitedOf (cornersFrom c ds)) + tally b) (ne-eqb (count (same p) (cornersFrom c ds)) 0 (λ y. g (e ∙ ap (λ (n : ℕ). n + 1) y))) ∙ z
 
-    pub untally-same : (m .k ≡ w .steps → ⊥) → TallyIs c ds m
-    untally-same x =
-        let s : meetingOf c (ds ++ (d ∷ [])) ≡ meetingOf c ds = sym (unsays-not (meetingOf c (ds ++ (d ∷ []))) (m .j) (m .k) (suc (length ds)) (h .met) (λ y. x (y ∙ sym (steps-here t c ds d w k)))) ∙ pop-meeting c ds d in
+    pub untally-same : (n : ℕ) → n ≡ suc (length ds) → (m .k ≡ n → ⊥) → TallyIs c ds m
+    untally-same n i x =
+        let s : meetingOf c (ds ++ (d ∷ [])) ≡ meetingOf c ds = sym (unsays-not (meetingOf c (ds ++ (d ∷ []))) (m .j) (m .k) (suc (length ds)) (h .met) (λ y. x (y ∙ sym i))) ∙ pop-meeting c ds d in
         record { seen = h .seen ∙ still; met = subst (λ (y : Meeting). Says y (m .j) (m .k)) s (h .met) }
 
-    pub untally-meets : m .k ≡ w .steps → w .steps < noMeeting → (r : Tally) → r .corners ≡ m .corners → r .j ≡ noMeeting → r .k ≡ noMeeting → TallyIs c ds r
-    untally-meets x few r p₁ p₂ p₃ =
-        let n = steps-here t c ds d w k in
-        let s : none ≡ meetingOf c ds = sym (unsays-here (meetingOf c (ds ++ (d ∷ []))) (m .j) (m .k) (suc (length ds)) (h .met) (x ∙ n) (subst (λ (b : ℕ). b < noMeeting) n few)) ∙ pop-meeting c ds d in
+    pub untally-meets : (n : ℕ) → n ≡ suc (length ds) → m .k ≡ n → n < noMeeting → (r : Tally) → r .corners ≡ m .corners → r .j ≡ noMeeting → r .k ≡ noMeeting → TallyIs c ds r
+    untally-meets n i x few r p₁ p₂ p₃ =
+        let s : none ≡ meetingOf c ds = sym (unsays-here (meetingOf c (ds ++ (d ∷ []))) (m .j) (m .k) (suc (length ds)) (h .met) (x ∙ i) (subst (λ (b : ℕ). b < noMeeting) i few)) ∙ pop-meeting c ds d in
         record { seen = p₁ ∙ h .seen ∙ still; met = subst (λ (y : Meeting). Says y (r .j) (r .k)) s (p₂, p₃) }

@@ -21,11 +21,11 @@ use Rattle.walk_step.specs.Tallies.{TallyIs}
 use Rattle.walk_step.specs.Walks.{Known, Knowing, Advanced}
 
 -- a walk has a corner, and one more with each step at most
-visited-some : (c : Corner) (ds : List ℕ) → 0 < length (visitedOf (cornersFrom c ds))
+pub visited-some : (c : Corner) (ds : List ℕ) → 0 < length (visitedOf (cornersFrom c ds))
 visited-some c [] = omega arith
 visited-some c (d ∷ ds) = omega (arith, gather-ge same (c ∷ []) (cornersFrom (stepped d c) ds))
 
-visited-few : (c : Corner) (ds : List ℕ) → length (visitedOf (cornersFrom c ds)) ≤ length ds + 1
+pub visited-few : (c : Corner) (ds : List ℕ) → length (visitedOf (cornersFrom c ds)) ≤ length ds + 1
 visited-few c ds = omega (arith, gather-le same [] (cornersFrom c ds), length-cornersFrom c ds)
 
 pub corners-some : (t : List ℕ) (c : Corner) (ds : List ℕ) (w : Walk) → Known t c ds w → 0 < w .tally .corners

@@ -1,3 +1,4 @@
 pub mod Spots
 pub mod Tallies
 pub mod Walks
+pub mod Chains

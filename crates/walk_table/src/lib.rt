@@ -25,7 +25,7 @@ impl Record {
 
     pub const FIRST: usize = 20;
 
-    const EDGE: usize = 21;
+    pub const EDGE: usize = 21;
 }
 
 // Word f of record r.

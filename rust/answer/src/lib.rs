@@ -18,6 +18,10 @@ pub const RECORD_WORDS: usize = 25;
 pub const MARK_WORDS: usize = 3;
 /// Records in a table at most.
 pub const MOST_RECORDS: usize = 131_148;
+/// Words in a record that two parties share.
+pub const PAIR_RECORD_WORDS: usize = 36;
+/// Records at most in a table that two parties share.
+pub const MOST_PAIR_RECORDS: usize = 262_296;
 /// j and k where there is no meeting.
 pub const NO_MEETING: u32 = 65_535;
 /// Operations or turns in a line at most.
@@ -29,6 +33,9 @@ pub const LINE_BYTES: usize = 8_240;
 /// Words of the answer to a walk at the C boundary: number, place, verdict, n, nodes, different corners, j, k, area, last x,
 /// last y.
 pub const WALK_ANSWER_WORDS: usize = 11;
+/// Words of the answer to two parties: number, place, nodes; then for party 0 and again for party 1 verdict, n, different
+/// corners, j, k, area, last x, last y.
+pub const WALK_TWO_ANSWER_WORDS: usize = 19;
 /// Words of the answer to a hull: number, place, count.
 pub const HULL_ANSWER_WORDS: usize = 3;
 /// Words of the answer to an outline: number, place, steps.
@@ -65,6 +72,12 @@ pub mod word {
     pub const FIRST: usize = 20;
     /// How often surviving steps used the edge east, north, west, south, in either sense.
     pub const EDGE: usize = 21;
+
+    /// The word of party `q`, 0 or 1, in a record that two parties share, by its place from [`LINK_STEP`] on in the record of
+    /// one walk. There a needing step is stored plus 1, and 0 where the party does not need the node.
+    pub const fn of(q: usize, word: usize) -> usize {
+        11 * q + word
+    }
 }
 
 /// Why a call is refused; a place counts from 0 in the input.
@@ -72,15 +85,16 @@ pub mod word {
 pub enum Refusal {
     /// More than [`MOST_INPUT`] bytes.
     TooMany,
-    /// The table's words are not [`RECORD_WORDS`] times 1 to [`MOST_RECORDS`].
+    /// The table's words are not [`RECORD_WORDS`] times 1 to [`MOST_RECORDS`]; for two parties [`PAIR_RECORD_WORDS`] times 1 to
+    /// [`MOST_PAIR_RECORDS`].
     Table,
     /// A result buffer has not the length that the input asks.
     ResultRoom,
-    /// A byte above 4 in a walk, above 3 elsewhere.
+    /// An operation above 4 in a walk or in a byte of a party, a byte above 3 elsewhere.
     BadDigit(u32),
-    /// Operation 4 with no surviving step.
+    /// Operation 4 with no surviving step, of that party where there are two.
     NothingToTake(u32),
-    /// A step that would survive as one more than [`MOST_STEPS`].
+    /// A step that would survive as one more than [`MOST_STEPS`], of that party where there are two.
     TooLong(u32),
     /// After this operation, or before the first, the nodes needed exceed the records.
     NoRoom(u32),
@@ -108,6 +122,8 @@ pub enum Refusal {
     ChainRoom,
     /// A frame of kind 01, which is retired.
     RetiredKind,
+    /// A byte above 31, in a call of two parties.
+    UnknownParty(u32),
     /// The buffer is shorter than three numbers a span.
     SpanRoom,
 }
@@ -135,6 +151,7 @@ impl Refusal {
             17 => Refusal::BadRing,
             18 => Refusal::ChainRoom,
             19 => Refusal::RetiredKind,
+            20 => Refusal::UnknownParty(place),
             21 => Refusal::SpanRoom,
             _ => return None,
         })
@@ -162,6 +179,7 @@ impl Refusal {
             Refusal::BadRing => 17,
             Refusal::ChainRoom => 18,
             Refusal::RetiredKind => 19,
+            Refusal::UnknownParty(_) => 20,
             Refusal::SpanRoom => 21,
         }
     }
@@ -172,7 +190,8 @@ impl Refusal {
             Refusal::BadDigit(place)
             | Refusal::NothingToTake(place)
             | Refusal::TooLong(place)
-            | Refusal::NoRoom(place) => place,
+            | Refusal::NoRoom(place)
+            | Refusal::UnknownParty(place) => place,
             _ => 0,
         }
     }
@@ -239,6 +258,47 @@ pub struct Facts {
     pub area: i32,
     /// x and y of pn.
     pub last: (i32, i32),
+}
+
+/// The facts of one party's walk in a table that two share.
+#[derive(Clone, Copy, Debug, PartialEq, Eq)]
+pub struct PartyFacts {
+    /// What the surviving steps make of the walk.
+    pub verdict: Verdict,
+    /// n, the number of surviving steps.
+    pub steps: u32,
+    /// Different corners among p0 to pn.
+    pub corners: u32,
+    /// j and k of the first meeting.
+    pub meeting: Option<(u32, u32)>,
+    /// The signed area of a room, 0 for the other verdicts.
+    pub area: i32,
+    /// x and y of pn.
+    pub last: (i32, i32),
+}
+
+impl PartyFacts {
+    /// The same of a walk that has its table alone, with the nodes in use there.
+    pub fn alone(self, nodes: u32) -> Facts {
+        Facts {
+            verdict: self.verdict,
+            steps: self.steps,
+            nodes,
+            corners: self.corners,
+            meeting: self.meeting,
+            area: self.area,
+            last: self.last,
+        }
+    }
+}
+
+/// The facts of an accepted call of two parties.
+#[derive(Clone, Copy, Debug, PartialEq, Eq)]
+pub struct PairFacts {
+    /// Nodes that either party needs, each once.
+    pub nodes: u32,
+    /// Party 0 and party 1.
+    pub parties: [PartyFacts; 2],
 }
 
 /// How many panels and how many spans a part of two rooms has.

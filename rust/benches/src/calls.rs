@@ -4,9 +4,11 @@
 use std::collections::HashMap;
 use std::hint::black_box;
 
-use answer::{Facts, MARK_WORDS, MOST_STEPS, Overlaid, RECORD_WORDS, Refusal};
-use compare::Room;
-use compare::inputs::most_nodes;
+use answer::{
+    Facts, MARK_WORDS, MOST_STEPS, Overlaid, PAIR_RECORD_WORDS, PairFacts, RECORD_WORDS, Refusal,
+};
+use compare::inputs::{most_nodes, most_pair_nodes};
+use compare::{Room, Starts};
 
 use crate::race::Call;
 
@@ -14,22 +16,80 @@ use crate::race::Call;
 const START: (i32, i32) = (0, 0);
 
 /// Each walk in the least table that has room.
-pub fn walk(
+pub fn walk<'a>(
     walk: impl Fn((i32, i32), &[u8], &mut [u32], &mut [u32], &mut [u8]) -> Result<Facts, Refusal>
+    + 'static,
+    inputs: &'a [Vec<u8>],
+) -> Call<'a> {
+    let walks = inputs.iter().map(|ops| (START, ops.clone())).collect();
+    walk_from(walk, walks)
+}
+
+/// The same from a start of its own each.
+fn walk_from<'a>(
+    walk: impl Fn((i32, i32), &[u8], &mut [u32], &mut [u32], &mut [u8]) -> Result<Facts, Refusal>
+    + 'static,
+    walks: Vec<((i32, i32), Vec<u8>)>,
+) -> Call<'a> {
+    let lent = |(start, ops): &((i32, i32), Vec<u8>)| {
+        let table = vec![0; RECORD_WORDS * most_nodes(*start, ops)];
+        (table, vec![0; MARK_WORDS * ops.len()], vec![0; ops.len()])
+    };
+    let mut buffers: Vec<_> = walks.iter().map(lent).collect();
+    Box::new(move || {
+        for ((start, ops), (table, marks, chain)) in walks.iter().zip(&mut buffers) {
+            let answer = walk(*start, black_box(ops), table, marks, chain);
+            black_box(answer.expect("there is room"));
+        }
+    })
+}
+
+/// Where two parties start.
+const STARTS: Starts = [START, (2, 1)];
+
+/// Two parties in the least table that has room, each input with the bytes of both.
+pub fn walk_two(
+    walk_two: impl Fn(
+        Starts,
+        &[u8],
+        &mut [u32],
+        &mut [u32],
+        [&mut [u8]; 2],
+    ) -> Result<PairFacts, Refusal>
     + 'static,
     inputs: &[Vec<u8>],
 ) -> Call<'_> {
     let lent = |ops: &Vec<u8>| {
-        let table = vec![0; RECORD_WORDS * most_nodes(START, ops)];
-        (table, vec![0; MARK_WORDS * ops.len()], vec![0; ops.len()])
+        let table = vec![0; PAIR_RECORD_WORDS * most_pair_nodes(STARTS, ops)];
+        let chain = vec![0; ops.len()];
+        (
+            table,
+            vec![0; MARK_WORDS * ops.len()],
+            [chain.clone(), chain],
+        )
     };
     let mut buffers: Vec<_> = inputs.iter().map(lent).collect();
     Box::new(move || {
-        for (ops, (table, marks, chain)) in inputs.iter().zip(&mut buffers) {
-            let answer = walk(START, black_box(ops), table, marks, chain);
+        for (ops, (table, marks, [first, second])) in inputs.iter().zip(&mut buffers) {
+            let answer = walk_two(STARTS, black_box(ops), table, marks, [first, second]);
             black_box(answer.expect("there is room"));
         }
     })
+}
+
+/// Each of the two parties alone, one after the other, each in a table of its own.
+pub fn walk_alone<'a>(
+    walk: impl Fn((i32, i32), &[u8], &mut [u32], &mut [u32], &mut [u8]) -> Result<Facts, Refusal>
+    + 'static,
+    inputs: &'a [Vec<u8>],
+) -> Call<'a> {
+    let own = |ops: &'a Vec<u8>| {
+        [0, 1].map(|q| {
+            let own = ops.iter().filter(|&op| op / 16 == q);
+            (STARTS[usize::from(q)], own.map(|op| op % 16).collect())
+        })
+    };
+    walk_from(walk, inputs.iter().flat_map(own).collect())
 }
 
 /// The visits of each corner, in a map of the standard library, without table, marks or verdict.

@@ -6,6 +6,7 @@ mod race;
 
 use calls::{
     chain, convert, convex, count_visits, hull, outline, overlay, polygon, rows, sorted_rows, walk,
+    walk_alone, walk_two,
 };
 use compare::inputs::{self, Random};
 use race::race;
@@ -43,6 +44,8 @@ fn ns(seconds: f64) -> f64 {
 fn main() {
     println!("\nwalk, ns an operation");
     walks();
+    println!("\ntwo parties, ns an operation of either");
+    pairs();
     println!("\nhull, ns a step");
     hulls();
     println!("\noutline, ns a step of the walk");
@@ -67,8 +70,7 @@ fn main() {
 
 fn walks() {
     for n in SIZES {
-        let taken_back = several(n, |random| inputs::hesitant(n, 45, 0, random));
-        for (shape, inputs) in [chains(n), vec![("taken-back", taken_back)]].concat() {
+        for (shape, inputs) in operations(n) {
             race(vec![
                 ("proved", walk(undrwyth::walk, &inputs)),
                 ("twin", walk(twin::walk, &inputs)),
@@ -76,6 +78,45 @@ fn walks() {
             ])
             .print(&format!("walk/{shape}/{n}"), ns);
         }
+    }
+}
+
+/// Walks of n operations, by the name of their shape.
+fn operations(n: usize) -> Vec<(&'static str, Vec<Vec<u8>>)> {
+    let taken_back = several(n, |random| inputs::hesitant(n, 45, 0, random));
+    [chains(n), vec![("taken-back", taken_back)]].concat()
+}
+
+/// The operations of two parties that walk by turns: party 0 the first half of each walk, party 1 that of the next.
+fn by_turns(walks: &[Vec<u8>]) -> Vec<Vec<u8>> {
+    let of = |i: usize| {
+        let half = |walk: &'_ Vec<u8>| walk[..walk.len() / 2].to_vec();
+        let (one, two) = (half(&walks[i]), half(&walks[(i + 1) % walks.len()]));
+        let bytes = one.into_iter().zip(two);
+        bytes.flat_map(|(one, two)| [one, 16 + two]).collect()
+    };
+    (0..walks.len()).map(of).collect()
+}
+
+/// Two parties that share what is near their starts, beside the same operations of each party alone.
+fn pairs() {
+    for n in SIZES {
+        for (shape, inputs) in operations(n) {
+            let pairs = by_turns(&inputs);
+            race(vec![
+                ("proved", walk_two(undrwyth::walk_two, &pairs)),
+                ("twin", walk_two(twin::walk_two, &pairs)),
+                ("alone", walk_alone(undrwyth::walk, &pairs)),
+            ])
+            .print(&format!("pair/{shape}/{n}"), ns);
+        }
+        // Each new node looks for its record through all that are in use.
+        let refilled = several(n, |_| inputs::refilled(n));
+        race(vec![
+            ("proved", walk_two(undrwyth::walk_two, &refilled)),
+            ("twin", walk_two(twin::walk_two, &refilled)),
+        ])
+        .print(&format!("pair/refilled/{n}"), ns);
     }
 }
 
@@ -221,6 +262,12 @@ fn growth() {
             ("8192", walk(undrwyth::walk, &short)),
         ])
         .print(&format!("growth-walk/{shape}"), ns);
+        let (two_long, two_short) = (by_turns(&long), by_turns(&short));
+        race(vec![
+            ("16384", walk_two(undrwyth::walk_two, &two_long)),
+            ("8192", walk_two(undrwyth::walk_two, &two_short)),
+        ])
+        .print(&format!("growth-pair/{shape}"), ns);
         race(vec![
             ("16384", hull(undrwyth::hull, &long)),
             ("8192", hull(undrwyth::hull, &short)),

@@ -6,10 +6,10 @@ use std::sync::atomic::{AtomicU64, Ordering};
 use answer::{
     CHAIN_ANSWER_WORDS, CONVEX_ANSWER_WORDS, HULL_ANSWER_WORDS, OUTLINE_ANSWER_WORDS,
     OVERLAY_ANSWER_WORDS, POLYGON_ANSWER_WORDS, ROWS_ANSWER_WORDS, TURNS_ANSWER_WORDS,
-    WALK_ANSWER_WORDS,
+    WALK_ANSWER_WORDS, WALK_TWO_ANSWER_WORDS,
 };
 
-use crate::{Convert, Library, Line, PLAIN, Room};
+use crate::{Convert, Library, Line, PLAIN, Room, Starts};
 
 /// Words before and after a lent buffer that no call may touch.
 const MARGIN: usize = 5;
@@ -90,6 +90,44 @@ pub fn walk(
     same("walk's table", ops, &ours.2, &plain.2);
     same("walk's marks", ops, &ours.3, &plain.3);
     same("walk's chain", ops, &ours.4, &plain.4);
+    plain.1
+}
+
+/// Compares the walks of two parties in buffers of these lengths, and gives the answer.
+pub fn walk_two(
+    library: &Library,
+    starts: Starts,
+    ops: &[u8],
+    table: usize,
+    marks: usize,
+    chains: [usize; 2],
+) -> [u32; WALK_TWO_ANSWER_WORDS] {
+    let run = |library: &Library| {
+        let (mut table, mut marks) = (Lent::words(table), Lent::words(marks));
+        let (mut chains, mut answer) = (chains.map(Lent::bytes), [u32::MAX; WALK_TWO_ANSWER_WORDS]);
+        let (t, m, c) = (
+            table.part(),
+            marks.part(),
+            chains.each_mut().map(Lent::part),
+        );
+        let number = (library.walk_two)(starts, ops, t, m, c, &mut answer);
+        (
+            [number],
+            answer,
+            table.0,
+            marks.0,
+            chains.map(|lent| lent.0),
+        )
+    };
+    let (ours, plain) = (run(library), run(&PLAIN));
+    let what = |of: &str| format!("{of} of two parties from {starts:?}");
+    same(&what("number"), ops, &ours.0, &plain.0);
+    same(&what("answer"), ops, &ours.1, &plain.1);
+    same(&what("table"), ops, &ours.2, &plain.2);
+    same(&what("marks"), ops, &ours.3, &plain.3);
+    for (ours, plain) in ours.4.iter().zip(&plain.4) {
+        same(&what("a chain"), ops, ours, plain);
+    }
     plain.1
 }
 

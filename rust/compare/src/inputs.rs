@@ -2,7 +2,9 @@
 
 use std::collections::HashMap;
 
-use answer::{MARK_WORDS, MOST_LINE_DIGITS, MOST_STEPS, RECORD_WORDS};
+use answer::{MARK_WORDS, MOST_LINE_DIGITS, MOST_STEPS, PAIR_RECORD_WORDS, RECORD_WORDS};
+
+use crate::Starts;
 
 /// A stream of numbers from a seed (splitmix64).
 pub struct Random(pub u64);
@@ -360,6 +362,63 @@ pub fn walk(most: usize, random: &mut Random) -> Vec<u8> {
         ops[place] = random.number() as u8;
     }
     ops
+}
+
+/// The operations of two parties one after the other, so many of one at a time at most.
+pub fn mixed(first: &[u8], second: &[u8], most: usize, random: &mut Random) -> Vec<u8> {
+    let (mut left, mut ops) = ([first, second], Vec::new());
+    while left.iter().any(|own| !own.is_empty()) {
+        let q = random.below(2);
+        let (now, later) = left[q].split_at(left[q].len().min(1 + random.below(most)));
+        ops.extend(now.iter().map(|op| op.wrapping_add(16 * q as u8)));
+        left[q] = later;
+    }
+    ops
+}
+
+/// n bytes of two parties, of which one fills the table; the other frees a low record, fills it again and needs one record more, again and again.
+pub fn refilled(n: usize) -> Vec<u8> {
+    let again = [0x14, 0x12, 0x12, 0x14].into_iter().cycle();
+    let filling = std::iter::once(0x12).chain(straight(n / 2, 0));
+    filling.chain(again).take(n).collect()
+}
+
+/// The number of nodes that two parties need at most at a moment, 1 where there is a fault.
+pub fn most_pair_nodes(starts: Starts, ops: &[u8]) -> usize {
+    let n = ops.len();
+    let mut table = vec![0; PAIR_RECORD_WORDS * (4 * n + 136)];
+    let (mut marks, mut chains) = (vec![0; MARK_WORDS * n], vec![0; 2 * n]);
+    let (first, second) = chains.split_at_mut(n);
+    match twin::walk_two(starts, ops, &mut table, &mut marks, [first, second]) {
+        // The first operation is a step, after which there are as many nodes as before it or more.
+        Ok(facts) => {
+            let nodes = marks.iter().step_by(MARK_WORDS).copied().max();
+            nodes.unwrap_or(facts.nodes) as usize
+        }
+        Err(_) => 1,
+    }
+}
+
+/// Two starts, equal, near each other, or any; and a walk of some kind for each, with up to `most` operations together. There may be a fault.
+pub fn pair(most: usize, random: &mut Random) -> (Starts, Vec<u8>) {
+    let one = start(random);
+    let other = match random.below(8) {
+        0..=2 => one,
+        3..=5 => {
+            let mut near = |v: i32| v.saturating_add(random.below(9) as i32 - 4);
+            (near(one.0), near(one.1))
+        }
+        6 => (0, 0),
+        _ => start(random),
+    };
+    let (first, second) = (walk(most / 2, random), walk(most / 2, random));
+    let at_a_time = [1, 2, 5, 40, usize::MAX][random.below(5)];
+    let mut ops = mixed(&first, &second, at_a_time, random);
+    if random.once_in(12) && !ops.is_empty() {
+        let place = random.below(ops.len());
+        ops[place] = random.below(40) as u8;
+    }
+    ([one, other], ops)
 }
 
 /// A polygon of one ring with these points, x and y each, in either byte order.

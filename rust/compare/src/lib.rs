@@ -6,13 +6,14 @@ pub mod suite;
 
 use answer::{
     CHAIN_ANSWER_WORDS, CONVEX_ANSWER_WORDS, Facts, HULL_ANSWER_WORDS, NO_MEETING,
-    OUTLINE_ANSWER_WORDS, OVERLAY_ANSWER_WORDS, Overlaid, POLYGON_ANSWER_WORDS, ROWS_ANSWER_WORDS,
-    Refusal, TURNS_ANSWER_WORDS, WALK_ANSWER_WORDS,
+    OUTLINE_ANSWER_WORDS, OVERLAY_ANSWER_WORDS, Overlaid, POLYGON_ANSWER_WORDS, PairFacts,
+    ROWS_ANSWER_WORDS, Refusal, TURNS_ANSWER_WORDS, WALK_ANSWER_WORDS, WALK_TWO_ANSWER_WORDS,
 };
 
 /// The calls of an implementation, with the answers of the C boundary.
 pub struct Library {
     pub walk: Walk,
+    pub walk_two: WalkTwo,
     pub hull: Hull,
     pub outline: Outline,
     pub polygon_of_room: Polygon,
@@ -29,6 +30,19 @@ pub struct Library {
 /// The walk of operations from a start in table, marks and chain.
 pub type Walk =
     fn((i32, i32), &[u8], &mut [u32], &mut [u32], &mut [u8], &mut [u32; WALK_ANSWER_WORDS]) -> u32;
+
+/// The starts of two parties.
+pub type Starts = [(i32, i32); 2];
+
+/// The walks of two parties from their starts in table, marks and two chains.
+pub type WalkTwo = fn(
+    Starts,
+    &[u8],
+    &mut [u32],
+    &mut [u32],
+    [&mut [u8]; 2],
+    &mut [u32; WALK_TWO_ANSWER_WORDS],
+) -> u32;
 
 /// The hull of the walk of a chain from a start.
 pub type Hull = fn((i32, i32), &[u8], &mut [i32], &mut [u32; HULL_ANSWER_WORDS]) -> u32;
@@ -64,6 +78,7 @@ pub type Convert = fn(&[u8], &mut [u8], &mut [u32; TURNS_ANSWER_WORDS]) -> u32;
 #[cfg(feature = "proved")]
 pub const PROVED: Library = Library {
     walk: undrwyth::raw::walk,
+    walk_two: undrwyth::raw::walk_two,
     hull: undrwyth::raw::hull,
     outline: undrwyth::raw::outline,
     polygon_of_room: undrwyth::raw::polygon_of_room,
@@ -86,6 +101,10 @@ macro_rules! library {
                     answer,
                     $of::walk(start, ops, table, marks, chain).map(words),
                 )
+            },
+            walk_two: |starts, ops, table, marks, chains, answer| {
+                let facts = $of::walk_two(starts, ops, table, marks, chains);
+                tell(answer, facts.map(pair_words))
             },
             hull: |start, chain, out, answer| {
                 tell(
@@ -157,6 +176,17 @@ fn measures(parts: Overlaid) -> [u32; OVERLAY_ANSWER_WORDS - 2] {
     let [a, b, c] = parts.map(|part| part.panels as u32);
     let [d, e, f] = parts.map(|part| part.spans as u32);
     [a, b, c, d, e, f]
+}
+
+/// The facts of two parties as words: those of each without its nodes, which both have in common.
+fn pair_words(facts: PairFacts) -> [u32; WALK_TWO_ANSWER_WORDS - 2] {
+    let mut all = [facts.nodes; WALK_TWO_ANSWER_WORDS - 2];
+    for (party, own) in facts.parties.into_iter().zip(all[1..].chunks_exact_mut(8)) {
+        let [verdict, steps, _, rest @ ..] = words(party.alone(0));
+        own[..2].copy_from_slice(&[verdict, steps]);
+        own[2..].copy_from_slice(&rest);
+    }
+    all
 }
 
 /// The facts of a walk as words.

@@ -1,12 +1,13 @@
 //! What is compared: all short inputs, every limit and one past it, random and damaged inputs of all lengths.
 
 use answer::{
-    CHAIN_ANSWER_WORDS, LINE_BYTES, MARK_WORDS, MOST_INPUT, MOST_LINE_DIGITS, MOST_RECORDS,
-    MOST_START, MOST_STEPS, OVERLAY_ANSWER_WORDS, POLYGON_ANSWER_WORDS, RECORD_WORDS,
+    CHAIN_ANSWER_WORDS, LINE_BYTES, MARK_WORDS, MOST_INPUT, MOST_LINE_DIGITS, MOST_PAIR_RECORDS,
+    MOST_RECORDS, MOST_START, MOST_STEPS, OVERLAY_ANSWER_WORDS, PAIR_RECORD_WORDS,
+    POLYGON_ANSWER_WORDS, RECORD_WORDS, WALK_TWO_ANSWER_WORDS,
 };
 
 use crate::inputs::{self, Random};
-use crate::{Library, Room, calls};
+use crate::{Library, Room, Starts, calls};
 
 /// Every string of exactly this length over the digits below `digits`.
 fn strings(length: u32, digits: u32) -> impl Iterator<Item = Vec<u8>> {
@@ -34,6 +35,25 @@ fn walk_near(library: &Library, start: (i32, i32), ops: &[u8]) {
     let right = inputs::most_nodes(start, ops);
     for records in right - 1..=right + 1 {
         walk(library, start, ops, RECORD_WORDS * records);
+    }
+}
+
+/// Two parties in buffers of the lengths that they ask, and a table of so many words; gives the answer.
+fn walk_two(
+    library: &Library,
+    starts: Starts,
+    ops: &[u8],
+    words: usize,
+) -> [u32; WALK_TWO_ANSWER_WORDS] {
+    let n = ops.len();
+    calls::walk_two(library, starts, ops, words, MARK_WORDS * n, [n; 2])
+}
+
+/// Two parties in the least table that has room, in one record less and in one more.
+fn pair_near(library: &Library, starts: Starts, ops: &[u8]) {
+    let right = inputs::most_pair_nodes(starts, ops);
+    for records in right - 1..=right + 1 {
+        walk_two(library, starts, ops, PAIR_RECORD_WORDS * records);
     }
 }
 
@@ -506,6 +526,186 @@ fn refused_over(library: &Library) {
     }
 }
 
+/// The bytes of two parties, and one that is refused.
+const BYTES: [u8; 11] = [
+    0x00, 0x01, 0x02, 0x03, 0x04, 0x10, 0x11, 0x12, 0x13, 0x14, 0x25,
+];
+
+/// Every string of up to `longest` of these bytes, from equal starts and from two that are neighbours at a border of the tree, in right and slightly
+/// wrong tables.
+pub fn short_pairs(library: &Library, longest: u32) {
+    for digits in (0..=longest).flat_map(|length| strings(length, BYTES.len() as u32)) {
+        let ops: Vec<u8> = digits.iter().map(|&i| BYTES[usize::from(i)]).collect();
+        for starts in [[(0, 0), (0, 0)], [(-1, 1), (0, 2)]] {
+            pair_near(library, starts, &ops);
+        }
+        let words = PAIR_RECORD_WORDS * inputs::most_pair_nodes([(0, 0); 2], &ops);
+        walk_two(library, [(0, 0); 2], &ops, words - 1);
+        walk_two(library, [(0, 0); 2], &ops, words + 1);
+    }
+}
+
+/// Every byte at each place of short strings, and every length of each buffer up to beyond the right one, together.
+pub fn pair_bytes(library: &Library) {
+    let firms = [0x00, 0x12, 0x00, 0x12, 0x11, 0x14, 0x01, 0x13, 0x02, 0x10];
+    for ops in [
+        &[0x00][..],
+        &[0x14],
+        &[0x00, 0x10],
+        &[0x10, 0x04, 0x14],
+        &firms,
+    ] {
+        let mut ops = ops.to_vec();
+        for place in 0..ops.len() {
+            let kept = ops[place];
+            for byte in 0..=u8::MAX {
+                ops[place] = byte;
+                walk_two(library, [(0, 0), (3, 1)], &ops, PAIR_RECORD_WORDS * 9);
+            }
+            ops[place] = kept;
+        }
+    }
+    for ops in [&[][..], &[0x00], &[0x14], &[0x25], &[0x10, 0x14, 0x00]] {
+        for table in 0..=PAIR_RECORD_WORDS * 3 + 1 {
+            for marks in 0..=MARK_WORDS * ops.len() + 3 {
+                for lengths in 0..(ops.len() + 2).pow(2) {
+                    let chains = [lengths % (ops.len() + 2), lengths / (ops.len() + 2)];
+                    calls::walk_two(library, [(0, 0); 2], ops, table, marks, chains);
+                }
+            }
+        }
+    }
+}
+
+/// The largest table and one beyond, the longest input and one beyond, the longest walks and one step beyond for either party; each with a fault of
+/// the other kinds at another place.
+pub fn pair_limits(library: &Library) {
+    let most = PAIR_RECORD_WORDS * MOST_PAIR_RECORDS;
+    for words in [most - 1, most, most + 1, most + PAIR_RECORD_WORDS] {
+        walk_two(library, [(0, 0); 2], &[0x00, 0x10, 0x01, 0x11, 0x14], words);
+    }
+    for (first, second) in [
+        (MOST_STEPS, MOST_STEPS),
+        (MOST_STEPS, MOST_STEPS + 1),
+        (MOST_STEPS + 1, MOST_STEPS - 1),
+        (MOST_STEPS - 1, MOST_STEPS + 1),
+        (MOST_INPUT, 0),
+        (1, MOST_INPUT),
+    ] {
+        for way in [0, 3] {
+            let mut ops = [vec![way; first], vec![16 + (way + 1) % 4; second]].concat();
+            pair_limits_of(library, &ops);
+            for (place, byte) in [
+                (MOST_STEPS, 0x14),
+                (MOST_STEPS, 0x04),
+                (MOST_STEPS, 0x05),
+                (ops.len() - 1, 0x20),
+                (ops.len() - 1, 0x04),
+            ] {
+                let kept = std::mem::replace(&mut ops[place], byte);
+                pair_limits_of(library, &ops);
+                ops[place] = kept;
+            }
+        }
+    }
+    let mut random = Random(17);
+    let halves = [(); 2].map(|()| inputs::withdrawn(MOST_STEPS, &mut random));
+    pair_limits_of(
+        library,
+        &inputs::mixed(&halves[0], &halves[1], 9, &mut random),
+    );
+}
+
+/// One input near a limit, in a table that has room, in one that has none, and in wrong buffers.
+fn pair_limits_of(library: &Library, ops: &[u8]) {
+    let (starts, n) = ([(0, 0); 2], ops.len());
+    let words = PAIR_RECORD_WORDS * inputs::most_pair_nodes(starts, ops);
+    walk_two(library, starts, ops, words);
+    walk_two(library, starts, ops, words - PAIR_RECORD_WORDS);
+    calls::walk_two(library, starts, ops, words, MARK_WORDS * n, [n, n - 1]);
+    calls::walk_two(library, starts, ops, words, MARK_WORDS * n, [n + 1, n]);
+    calls::walk_two(library, starts, ops, words, MARK_WORDS * n - 1, [n; 2]);
+}
+
+/// Starts at the ends of the range and beyond, equal, neighbours, and far apart, each with short walks, in every table up to one with room.
+pub fn pair_starts(library: &Library) {
+    let walks: [&[u8]; 4] = [
+        &[],
+        &[0x00, 0x12],
+        &[0x13, 0x02, 0x14, 0x01, 0x04, 0x04],
+        &[0x00, 0x10, 0x01, 0x11, 0x02, 0x14, 0x03, 0x14, 0x04],
+    ];
+    for one in AXES.iter().flat_map(|&x| AXES.map(|y| (x, y))) {
+        let beside = (one.0.saturating_add(1), one.1);
+        for other in [one, beside, (one.1, one.0), (0, 0), (-16_384, 16_384)] {
+            for ops in walks {
+                pair_near(library, [one, other], ops);
+                pair_near(library, [other, one], ops);
+            }
+        }
+    }
+    for starts in [[(16_383, 16_383), (16_384, -16_384)], [(-5, 9), (-5, 9)]] {
+        for records in 1..=60 {
+            for ops in walks {
+                walk_two(library, starts, ops, PAIR_RECORD_WORDS * records);
+            }
+        }
+    }
+}
+
+/// Rooms that share a lobby, walked by two parties in many orders, with steps taken back by both; each in every table up to one with room.
+pub fn lobbies(library: &Library) {
+    let mut random = Random(19);
+    let rooms: [&[u8]; 4] = [
+        &[0, 0, 1, 2, 2, 3],
+        &[2, 2, 3, 0, 0, 1],
+        &[1, 0, 3, 2],
+        &[0, 0, 0, 1, 1, 2, 3, 2, 1, 2, 3, 3],
+    ];
+    for (one, other) in rooms
+        .iter()
+        .flat_map(|&one| rooms.map(|other| (one, other)))
+    {
+        for start in [(0, 0), (3, 1), (-2, -1), (7, 8), (16_383, -16_384)] {
+            for _ in 0..12 {
+                let [first, second] = [one, other].map(|room| hesitating(room, &mut random));
+                let most = 1 + random.below(4);
+                let ops = inputs::mixed(&first, &second, most, &mut random);
+                let near = |v: i32, random: &mut Random| v + random.below(5) as i32 - 2;
+                let beside = (near(start.0, &mut random), near(start.1, &mut random));
+                let right = inputs::most_pair_nodes([start, beside], &ops);
+                for records in 1..=right + 1 {
+                    walk_two(library, [start, beside], &ops, PAIR_RECORD_WORDS * records);
+                }
+            }
+        }
+    }
+    // Both walk the same way, one after the other and back: each node is found, left to the other, and freed.
+    for n in [30, 1_000] {
+        let (out, back) = (inputs::spiral(n), vec![4; n]);
+        let there = [out, back].concat();
+        for most in [1, 3, n, usize::MAX] {
+            let ops = inputs::mixed(&there, &there, most, &mut random);
+            pair_near(library, [(5, -3), (5, -3)], &ops);
+        }
+        pair_near(library, [(0, 0), (2, 1)], &inputs::refilled(n));
+    }
+}
+
+/// The steps of a room with slips, which are taken back.
+fn hesitating(room: &[u8], random: &mut Random) -> Vec<u8> {
+    let mut ops = Vec::new();
+    for &step in room {
+        if random.once_in(3) {
+            let slip = 1 + random.below(4);
+            ops.extend(inputs::wander(slip, random));
+            ops.extend(vec![4; slip]);
+        }
+        ops.push(step);
+    }
+    ops
+}
+
 /// Polygons that are read, in both byte orders: rooms that were written, rings with every byte in each place, of every length, with every
 /// special float in each coordinate; long edges, rings of as many steps as may be and one panel more, files that count far more points than
 /// they have.
@@ -714,6 +914,20 @@ pub fn random_calls(library: &Library, random: &mut Random) {
         chain_near(library, &inputs::file(400, random));
     }
     chain_near(library, &inputs::file(MOST_STEPS, random));
+    if random.once_in(4) {
+        random_pair(library, MOST_INPUT + 4, random);
+    }
+    for _ in 0..8 {
+        random_pair(library, 1_024, random);
+    }
+}
+
+/// Two parties with up to `most` operations, in tables that have room and that have none.
+fn random_pair(library: &Library, most: usize, random: &mut Random) {
+    let (starts, ops) = inputs::pair(most, random);
+    pair_near(library, starts, &ops);
+    let records = 1 + random.below(inputs::most_pair_nodes(starts, &ops));
+    walk_two(library, starts, &ops, PAIR_RECORD_WORDS * records);
 }
 
 /// A walk of up to `most` operations, in tables that have room and that have none.

@@ -3,7 +3,7 @@
 use std::io::Write;
 use std::process::{Command, Stdio};
 
-use answer::{Facts, Overlaid, Refusal};
+use answer::{Facts, Overlaid, PairFacts, Refusal};
 use compare::PROVED as LIBRARY;
 use compare::inputs::{self, Random};
 use compare::suite;
@@ -34,6 +34,26 @@ fn wrapper() {
             )
         };
         assert_eq!(walked(undrwyth::walk), walked(plain::walk));
+        type WalkTwo = fn(
+            compare::Starts,
+            &[u8],
+            &mut [u32],
+            &mut [u32],
+            [&mut [u8]; 2],
+        ) -> Result<PairFacts, Refusal>;
+        let (starts, both) = inputs::pair(100, &mut random);
+        let shared = |walk_two: WalkTwo| {
+            let n = both.len();
+            let (mut first, mut second) = (vec![0; n], vec![0; n]);
+            walk_two(
+                starts,
+                &both,
+                &mut [0; 36 * 60],
+                &mut vec![0; 3 * n],
+                [&mut first, &mut second],
+            )
+        };
+        assert_eq!(shared(undrwyth::walk_two), shared(plain::walk_two));
         let listed = |hull: fn((i32, i32), &[u8], &mut [i32]) -> _| hull(start, &ops, &mut [0; 20]);
         assert_eq!(listed(undrwyth::hull), listed(plain::hull));
         let outlined =

@@ -3,7 +3,8 @@
 use std::collections::HashMap;
 
 use answer::{
-    Facts, MARK_WORDS, MOST_INPUT, MOST_RECORDS, MOST_STEPS, RECORD_WORDS, Refusal, Verdict,
+    Facts, MARK_WORDS, MOST_INPUT, MOST_RECORDS, MOST_STEPS, PartyFacts, RECORD_WORDS, Refusal,
+    Verdict,
 };
 
 use crate::grid::{Corner, corners, judge_start, lineage, stepped};
@@ -18,7 +19,8 @@ pub fn walk(
     marks: &mut [u32],
     chain: &mut [u8],
 ) -> Result<Facts, Refusal> {
-    judge_sizes(ops.len(), table.len(), marks.len(), chain.len())?;
+    let sizes = (RECORD_WORDS, MOST_RECORDS);
+    judge_sizes(ops.len(), table.len(), sizes, marks.len(), &[chain.len()])?;
     judge_start(start)?;
     judge_operations(ops)?;
     let (steps, moments) = run(start, ops);
@@ -26,27 +28,27 @@ pub fn walk(
     table.fill(0);
     marks.fill(0);
     chain.fill(0);
-    // The moment before the first operation has the place of the first.
-    let nodes = std::iter::once(lineage(start).count() as u32).chain(moments.iter().map(|m| m[0]));
-    if let Some(moment) = nodes.into_iter().position(|nodes| nodes > most_nodes) {
-        return Err(Refusal::NoRoom(moment.saturating_sub(1) as u32));
-    }
+    no_room(most_nodes, lineage(start).count() as u32, &moments)?;
     let records = records(start, &steps);
     table[..RECORD_WORDS * records.len()].copy_from_slice(records.as_flattened());
     marks.copy_from_slice(moments.as_flattened());
     chain[..steps.len()].copy_from_slice(&steps);
-    Ok(facts(start, &steps, records.len()))
+    Ok(facts(start, &steps).alone(records.len() as u32))
 }
 
-/// Refusals 1, 2 and 3.
-fn judge_sizes(ops: usize, table: usize, marks: usize, chain: usize) -> Result<(), Refusal> {
+/// Refusals 1, 2 and 3; `words` are those of a record, of which there are `most` at most.
+pub fn judge_sizes(
+    ops: usize,
+    table: usize,
+    (words, most): (usize, usize),
+    marks: usize,
+    chains: &[usize],
+) -> Result<(), Refusal> {
     if ops > MOST_INPUT {
         Err(Refusal::TooMany)
-    } else if !table.is_multiple_of(RECORD_WORDS)
-        || !(1..=MOST_RECORDS).contains(&(table / RECORD_WORDS))
-    {
+    } else if !table.is_multiple_of(words) || !(1..=most).contains(&(table / words)) {
         Err(Refusal::Table)
-    } else if marks != MARK_WORDS * ops || chain != ops {
+    } else if marks != MARK_WORDS * ops || chains.iter().any(|&chain| chain != ops) {
         Err(Refusal::ResultRoom)
     } else {
         Ok(())
@@ -56,16 +58,31 @@ fn judge_sizes(ops: usize, table: usize, marks: usize, chain: usize) -> Result<(
 /// Refusals 4, 5 and 6 at the first faulty place.
 fn judge_operations(ops: &[u8]) -> Result<(), Refusal> {
     let mut surviving = 0;
-    for (place, &op) in (0..).zip(ops) {
-        match op {
-            0..=3 if surviving == MOST_STEPS => return Err(Refusal::TooLong(place)),
-            0..=3 => surviving += 1,
-            4 if surviving == 0 => return Err(Refusal::NothingToTake(place)),
-            4 => surviving -= 1,
-            _ => return Err(Refusal::BadDigit(place)),
-        }
+    (0..)
+        .zip(ops)
+        .try_for_each(|(place, &op)| judge_operation(op, &mut surviving, place))
+}
+
+/// Refusals 4, 5 and 6 of one operation, and how many steps survive it.
+pub fn judge_operation(op: u8, surviving: &mut usize, place: u32) -> Result<(), Refusal> {
+    match op {
+        0..=3 if *surviving == MOST_STEPS => return Err(Refusal::TooLong(place)),
+        0..=3 => *surviving += 1,
+        4 if *surviving == 0 => return Err(Refusal::NothingToTake(place)),
+        4 => *surviving -= 1,
+        _ => return Err(Refusal::BadDigit(place)),
     }
     Ok(())
+}
+
+/// Refusal 7, by the nodes before the first operation and those in the mark of each.
+pub fn no_room(most: u32, alone: u32, marks: &[[u32; MARK_WORDS]]) -> Result<(), Refusal> {
+    // The moment before the first operation has the place of the first.
+    let mut nodes = std::iter::once(alone).chain(marks.iter().map(|mark| mark[0]));
+    match nodes.position(|nodes| nodes > most) {
+        Some(moment) => Err(Refusal::NoRoom(moment.saturating_sub(1) as u32)),
+        None => Ok(()),
+    }
 }
 
 /// The surviving steps, and after each operation its mark: the nodes in use, the visits at the corner then stood on, and
@@ -109,7 +126,7 @@ fn area(corners: &[Corner]) -> i32 {
 }
 
 /// The facts of the walk of these surviving steps.
-fn facts(start: Corner, steps: &[u8], nodes: usize) -> Facts {
+pub fn facts(start: Corner, steps: &[u8]) -> PartyFacts {
     let corners = corners(start, steps);
     let last = corners[steps.len()];
     let mut different = corners.clone();
@@ -131,10 +148,9 @@ fn facts(start: Corner, steps: &[u8], nodes: usize) -> Facts {
     } else {
         Verdict::OpenMeeting
     };
-    Facts {
+    PartyFacts {
         verdict,
         steps: steps.len() as u32,
-        nodes: nodes as u32,
         corners: different.len() as u32,
         meeting: first_meeting(&corners),
         area: if verdict == Verdict::Room {

@@ -58,10 +58,12 @@ fn limits_and_lengths() {
     assert_eq!(number("MOST_STEPS"), answer::MOST_STEPS);
     assert_eq!(number("MOST_START"), answer::MOST_START as usize);
     assert_eq!(number("MOST_RECORDS"), answer::MOST_RECORDS);
+    assert_eq!(number("MOST_PAIR_RECORDS"), answer::MOST_PAIR_RECORDS);
     assert_eq!(number("MOST_LINE_DIGITS"), answer::MOST_LINE_DIGITS);
     assert_eq!(number("LINE_RECORDS"), answer::LINE_RECORDS);
     assert_eq!(number("LINE_BYTES"), answer::LINE_BYTES);
     assert_eq!(number("RECORD_WORDS"), answer::RECORD_WORDS);
+    assert_eq!(number("PAIR_RECORD_WORDS"), answer::PAIR_RECORD_WORDS);
     assert_eq!(number("MARK_WORDS"), answer::MARK_WORDS);
     assert_eq!(number("NO_MEETING"), answer::NO_MEETING as usize);
 }
@@ -69,6 +71,10 @@ fn limits_and_lengths() {
 #[test]
 fn words() {
     assert_eq!(number("WALK_ANSWER_WORDS"), answer::WALK_ANSWER_WORDS);
+    assert_eq!(
+        number("WALK_TWO_ANSWER_WORDS"),
+        answer::WALK_TWO_ANSWER_WORDS
+    );
     assert_eq!(number("HULL_ANSWER_WORDS"), answer::HULL_ANSWER_WORDS);
     assert_eq!(number("OUTLINE_ANSWER_WORDS"), answer::OUTLINE_ANSWER_WORDS);
     assert_eq!(number("POLYGON_ANSWER_WORDS"), answer::POLYGON_ANSWER_WORDS);
@@ -92,4 +98,39 @@ fn words() {
         );
         assert_eq!(number(&format!("WORD_EDGE_{side}")), word::EDGE + way);
     }
+}
+
+/// The value of a macro of one number, `NAME(q) (from + by * (q))`, for party q.
+fn of_party(name: &str, q: usize) -> usize {
+    let line = HEADER
+        .lines()
+        .find_map(|line| line.strip_prefix(&format!("#define UNDRWYTH_{name}(q) ")))
+        .expect("the header has the macro");
+    let (from, by) = line
+        .strip_prefix('(')
+        .and_then(|line| line.strip_suffix(" * (q))"))
+        .and_then(|line| line.split_once(" + "))
+        .expect("it has this form");
+    from.parse::<usize>().unwrap() + by.parse::<usize>().unwrap() * q
+}
+
+/// The words of the answer to two parties follow each other without a gap, party 0 first; and so do a record's words of each party.
+#[test]
+fn words_of_parties() {
+    assert_eq!(
+        ["NUMBER", "PLACE", "NODES"].map(|name| number(&format!("WALK_TWO_{name}"))),
+        [0, 1, 2]
+    );
+    let names = [
+        "VERDICT", "STEPS", "CORNERS", "J", "K", "AREA", "LAST_X", "LAST_Y",
+    ];
+    let words = (0..2).flat_map(|q| names.map(|name| of_party(&format!("WALK_TWO_{name}"), q)));
+    assert!(words.eq(3..answer::WALK_TWO_ANSWER_WORDS));
+    assert!(HEADER.contains("#define UNDRWYTH_PAIR_WORD_OF(q, word) (11 * (q) + (word))\n"));
+    let own = |q| (word::LINK_STEP..answer::RECORD_WORDS).map(move |place| word::of(q, place));
+    assert!(
+        (0..2)
+            .flat_map(own)
+            .eq(word::LINK_STEP..answer::PAIR_RECORD_WORDS)
+    );
 }

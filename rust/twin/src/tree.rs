@@ -39,7 +39,7 @@ impl Corner {
         }
     }
 
-    fn parent(self) -> Corner {
+    pub fn parent(self) -> Corner {
         Corner {
             x: self.x / 2,
             y: self.y / 2,
@@ -47,12 +47,18 @@ impl Corner {
     }
 
     /// The i-th parent, where the root is its own.
-    fn up_by(self, i: u32) -> Corner {
+    pub fn up_by(self, i: u32) -> Corner {
         (0..i).fold(self, |c, _| c.parent())
     }
 
+    /// How many parents it has.
+    pub fn depth(self) -> u32 {
+        let depth = (0..).find(|&i| self.up_by(i) == ROOT);
+        depth.expect("the root is above every corner")
+    }
+
     /// The word of the parent's record that holds this corner's ref.
-    fn child_word(self) -> usize {
+    pub fn child_word(self) -> usize {
         let side = |v: i32| match v {
             -1 => 0,
             _ => 1 + (v & 1) as usize,
@@ -83,9 +89,8 @@ impl<'a> Tree<'a> {
 
     /// The node of the corner, made with its ancestors where they are not there.
     fn planted(&mut self, c: Corner) -> Option<usize> {
-        let depth = (0..).find(|&i| c.up_by(i) == ROOT)?;
         let mut node = 0;
-        for i in (0..depth).rev() {
+        for i in (0..c.depth()).rev() {
             node = self.child(node, c.up_by(i).child_word(), 0)?;
         }
         Some(node)

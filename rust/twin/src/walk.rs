@@ -1,7 +1,8 @@
 //! The whole call of the walk.
 
 use answer::{
-    Facts, MARK_WORDS, MOST_INPUT, MOST_RECORDS, MOST_STEPS, RECORD_WORDS, Refusal, Verdict,
+    Facts, MARK_WORDS, MOST_INPUT, MOST_RECORDS, MOST_STEPS, PartyFacts, RECORD_WORDS, Refusal,
+    Verdict,
 };
 
 use crate::tree::{Corner, STEPS, Tree, back, judge_start};
@@ -15,7 +16,13 @@ pub fn walk(
     chain: &mut [u8],
 ) -> Result<Facts, Refusal> {
     let start = Corner::from(start);
-    judge(start, ops, table.len(), marks.len(), chain.len())?;
+    let sizes = (RECORD_WORDS, MOST_RECORDS);
+    judge_sizes(ops.len(), table.len(), sizes, marks.len(), &[chain.len()])?;
+    judge_start(start)?;
+    let mut steps = 0;
+    for (i, &op) in ops.iter().enumerate() {
+        judge_operation(op, &mut steps, i)?;
+    }
     let Some(mut walk) = Walk::new(table, start) else {
         table.fill(0);
         marks.fill(0);
@@ -41,43 +48,45 @@ pub fn walk(
     }
     let (steps, rest) = chain.split_at_mut(walk.steps as usize);
     rest.fill(0);
-    Ok(walk.facts(steps))
+    let facts = facts(start, walk.at, walk.corners, walk.meeting, steps);
+    Ok(facts.alone(walk.tree.nodes as u32))
 }
 
-/// Refusals 1 to 6 and 10.
-fn judge(
-    start: Corner,
-    ops: &[u8],
+/// Refusals 1, 2 and 3; `record` are the words of a record, of which there are `most` at most.
+pub fn judge_sizes(
+    ops: usize,
     words: usize,
+    (record, most): (usize, usize),
     marks: usize,
-    chain: usize,
+    chains: &[usize],
 ) -> Result<(), Refusal> {
-    if ops.len() > MOST_INPUT {
+    if ops > MOST_INPUT {
         return Err(Refusal::TooMany);
     }
-    if words == 0 || !words.is_multiple_of(RECORD_WORDS) || words / RECORD_WORDS > MOST_RECORDS {
+    if words == 0 || !words.is_multiple_of(record) || words / record > most {
         return Err(Refusal::Table);
     }
-    if marks != MARK_WORDS * ops.len() || chain != ops.len() {
+    if marks != MARK_WORDS * ops || chains.iter().any(|&chain| chain != ops) {
         return Err(Refusal::ResultRoom);
     }
-    judge_start(start)?;
-    let mut steps = 0;
-    for (i, &op) in ops.iter().enumerate() {
-        if op > 4 {
-            return Err(Refusal::BadDigit(i as u32));
+    Ok(())
+}
+
+/// Refusals 4, 5 and 6 of the operation at place i, and how many steps survive it.
+pub fn judge_operation(op: u8, steps: &mut usize, i: usize) -> Result<(), Refusal> {
+    if op > 4 {
+        return Err(Refusal::BadDigit(i as u32));
+    }
+    if op == 4 {
+        if *steps == 0 {
+            return Err(Refusal::NothingToTake(i as u32));
         }
-        if op == 4 {
-            if steps == 0 {
-                return Err(Refusal::NothingToTake(i as u32));
-            }
-            steps -= 1;
-        } else {
-            if steps == MOST_STEPS {
-                return Err(Refusal::TooLong(i as u32));
-            }
-            steps += 1;
+        *steps -= 1;
+    } else {
+        if *steps == MOST_STEPS {
+            return Err(Refusal::TooLong(i as u32));
         }
+        *steps += 1;
     }
     Ok(())
 }
@@ -85,7 +94,6 @@ fn judge(
 /// The walk after some of its operations.
 struct Walk<'a> {
     tree: Tree<'a>,
-    start: Corner,
     node: usize,
     at: Corner,
     steps: u32,
@@ -102,7 +110,6 @@ impl<'a> Walk<'a> {
         Some(Walk {
             node: tree.nodes - 1,
             tree,
-            start,
             at: start,
             steps: 0,
             corners: 1,
@@ -149,29 +156,36 @@ impl<'a> Walk<'a> {
         self.at = self.at.stepped(back(way));
         self.steps = step - 1;
     }
+}
 
-    fn facts(&self, steps: &[u8]) -> Facts {
-        let verdict = match self.meeting {
-            _ if self.steps == 0 => Verdict::Nowhere,
-            None => Verdict::Open,
-            Some(_) if self.at != self.start => Verdict::OpenMeeting,
-            Some(_) if self.steps == 2 => Verdict::ThereAndBack,
-            Some((_, k)) if k == self.steps => Verdict::Room,
-            Some(_) => Verdict::ClosedMeeting,
-        };
-        Facts {
-            verdict,
-            steps: self.steps,
-            nodes: self.tree.nodes as u32,
-            corners: self.corners,
-            meeting: self.meeting,
-            area: if verdict == Verdict::Room {
-                area(self.start, steps)
-            } else {
-                0
-            },
-            last: (self.at.x, self.at.y),
-        }
+/// The facts of a walk that came from `start` to `at`, by its different corners and its first meeting.
+pub fn facts(
+    start: Corner,
+    at: Corner,
+    corners: u32,
+    meeting: Option<(u32, u32)>,
+    steps: &[u8],
+) -> PartyFacts {
+    let n = steps.len() as u32;
+    let verdict = match meeting {
+        _ if n == 0 => Verdict::Nowhere,
+        None => Verdict::Open,
+        Some(_) if at != start => Verdict::OpenMeeting,
+        Some(_) if n == 2 => Verdict::ThereAndBack,
+        Some((_, k)) if k == n => Verdict::Room,
+        Some(_) => Verdict::ClosedMeeting,
+    };
+    PartyFacts {
+        verdict,
+        steps: n,
+        corners,
+        meeting,
+        area: if verdict == Verdict::Room {
+            area(start, steps)
+        } else {
+            0
+        },
+        last: (at.x, at.y),
     }
 }
 

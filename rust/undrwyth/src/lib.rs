@@ -54,14 +54,55 @@ pub fn walk(
     let number = raw::walk(start, ops, table, marks, chain, &mut answer);
     accepted(number, answer[1])?;
     let [_, _, verdict, steps, nodes, corners, j, k, area, x, y] = answer;
-    Ok(Facts {
-        verdict: Verdict::of(verdict).expect("a verdict is 0 to 5"),
-        steps,
+    Ok(party_facts([verdict, steps, corners, j, k, area, x, y]).alone(nodes))
+}
+
+/// Judges the walks of two parties, 0 and 1, from their starts in one lent table of [`PAIR_RECORD_WORDS`] words a record. A byte
+/// of `ops` is 16 times the party plus the number of an operation, and concerns that party alone; `marks` has [`MARK_WORDS`] words
+/// a byte, and each of the two chains one.
+///
+/// After an accepted call the table holds the linked quadtree of the nodes that either party needs, each in one record: its words
+/// up to [`word::LINK_STEP`] once, and the others for each party at [`word::of`]. `marks` holds, for each byte, the nodes in use
+/// after it, the visits of the party that moved at the corner where it then stands, and how many records changed; each chain holds
+/// the surviving steps of its party and then zeros.
+///
+/// A table of 4 c + 128 records is never refused for room if the different corners of both parties add up to at most c at any
+/// moment. The whole table is cleared, whatever the walks use of it: lend what they can need, and no more.
+///
+/// Refused with 1, 2, 3, 10; then 20, 4, 5 or 6 at the first faulty place; then 7, which leaves the four buffers zero.
+///
+/// ```
+/// // Two firms walk round their rooms, which share a panel; the second takes a step back.
+/// let starts = [(0, 0), (3, 1)];
+/// let ops = [0x00, 0x12, 0x00, 0x12, 0x11, 0x14, 0x01, 0x13, 0x02, 0x10, 0x02, 0x10, 0x03, 0x11];
+/// let mut table = [0; 8 * undrwyth::PAIR_RECORD_WORDS];
+/// let (mut marks, mut first, mut second) = ([0; 42], [9; 14], [9; 14]);
+/// let facts = undrwyth::walk_two(starts, &ops, &mut table, &mut marks, [&mut first, &mut second])?;
+/// assert_eq!(facts.nodes, 8);
+/// assert_eq!(facts.parties.map(|party| (party.steps, party.area)), [(6, 2), (6, 2)]);
+/// assert_eq!(first[..7], [0, 0, 1, 2, 2, 3, 0]);
+/// assert_eq!(second[..7], [2, 2, 3, 0, 0, 1, 0]);
+/// // Both went along the edge between (1, 0) and (2, 0), which stands in record 4.
+/// let west = |q| undrwyth::word::of(q, undrwyth::word::EDGE + 2);
+/// let record = &table[4 * undrwyth::PAIR_RECORD_WORDS..];
+/// assert_eq!([record[west(0)], record[west(1)]], [1, 1]);
+/// # Ok::<(), undrwyth::Refusal>(())
+/// ```
+pub fn walk_two(
+    starts: [(i32, i32); 2],
+    ops: &[u8],
+    table: &mut [u32],
+    marks: &mut [u32],
+    chains: [&mut [u8]; 2],
+) -> Result<PairFacts, Refusal> {
+    let mut answer = [0; WALK_TWO_ANSWER_WORDS];
+    let number = raw::walk_two(starts, ops, table, marks, chains, &mut answer);
+    accepted(number, answer[1])?;
+    let [_, _, nodes, parties @ ..] = answer;
+    let party = |q: usize| party_facts(std::array::from_fn(|i| parties[8 * q + i]));
+    Ok(PairFacts {
         nodes,
-        corners,
-        meeting: (k != NO_MEETING).then_some((j, k)),
-        area: area.cast_signed(),
-        last: (x.cast_signed(), y.cast_signed()),
+        parties: [party(0), party(1)],
     })
 }
 
@@ -273,6 +314,18 @@ pub fn line<'a>(line: &[u8], out: &'a mut [u8; LINE_BYTES]) -> &'a [u8] {
 pub fn convert_line<'a>(line: &[u8], out: &'a mut [u8]) -> Option<&'a [u8]> {
     let bytes = raw::convert_line(line, out);
     (bytes == line.len()).then(|| &out[..bytes])
+}
+
+/// The facts of a walk but its nodes, as the words of an answer have them.
+fn party_facts([verdict, steps, corners, j, k, area, x, y]: [u32; 8]) -> PartyFacts {
+    PartyFacts {
+        verdict: Verdict::of(verdict).expect("a verdict is 0 to 5"),
+        steps,
+        corners,
+        meeting: (k != NO_MEETING).then_some((j, k)),
+        area: area.cast_signed(),
+        last: (x.cast_signed(), y.cast_signed()),
+    }
 }
 
 /// The refusal with this number and place, if the number is not 0.

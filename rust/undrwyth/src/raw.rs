@@ -3,7 +3,7 @@
 use answer::{
     CHAIN_ANSWER_WORDS, CONVEX_ANSWER_WORDS, HULL_ANSWER_WORDS, OUTLINE_ANSWER_WORDS,
     OVERLAY_ANSWER_WORDS, POLYGON_ANSWER_WORDS, ROWS_ANSWER_WORDS, TURNS_ANSWER_WORDS,
-    WALK_ANSWER_WORDS,
+    WALK_ANSWER_WORDS, WALK_TWO_ANSWER_WORDS,
 };
 
 mod c {
@@ -19,6 +19,23 @@ mod c {
             marks_words: usize,
             chain: *mut u8,
             chain_bytes: usize,
+            answer: *mut u32,
+        ) -> u32;
+        pub fn undrwyth_walk_two(
+            start0_x: i32,
+            start0_y: i32,
+            start1_x: i32,
+            start1_y: i32,
+            ops: *const u8,
+            n: usize,
+            table: *mut u32,
+            table_words: usize,
+            marks: *mut u32,
+            marks_words: usize,
+            chain0: *mut u8,
+            chain0_bytes: usize,
+            chain1: *mut u8,
+            chain1_bytes: usize,
             answer: *mut u32,
         ) -> u32;
         pub fn undrwyth_hull(
@@ -176,6 +193,37 @@ pub fn walk(
             marks.len(),
             chain.as_mut_ptr(),
             chain.len(),
+            answer.as_mut_ptr(),
+        )
+    }
+}
+
+/// `undrwyth_walk_two` of party 0 and party 1, by their starts and chains: the refusal's number, 0 for none.
+pub fn walk_two(
+    [start0, start1]: [(i32, i32); 2],
+    ops: &[u8],
+    table: &mut [u32],
+    marks: &mut [u32],
+    [chain0, chain1]: [&mut [u8]; 2],
+    answer: &mut [u32; WALK_TWO_ANSWER_WORDS],
+) -> u32 {
+    // SAFETY: as for walk.
+    unsafe {
+        c::undrwyth_walk_two(
+            start0.0,
+            start0.1,
+            start1.0,
+            start1.1,
+            ops.as_ptr(),
+            ops.len(),
+            table.as_mut_ptr(),
+            table.len(),
+            marks.as_mut_ptr(),
+            marks.len(),
+            chain0.as_mut_ptr(),
+            chain0.len(),
+            chain1.as_mut_ptr(),
+            chain1.len(),
             answer.as_mut_ptr(),
         )
     }

@@ -34,6 +34,7 @@ refusal-place-spec =
     (λ c. search needs)
     (λ c. search needs)
     (λ c. search needs)
+    (λ c. search needs)
     (λ c. sym (ap refusalPlace (c .enum-told .given .1)))
     (λ c. sym (ap refusalPlace (c .enum-told2 .given .1)))
     (λ c. sym (ap refusalPlace (c .enum-told3 .given .1)))
@@ -53,4 +54,5 @@ refusal-place-spec =
     (λ c. sym (ap refusalPlace (c .enum-told13 .given .1)))
     (λ c. sym (ap refusalPlace (c .enum-told14 .given .1)))
     (λ c. sym (ap refusalPlace (c .enum-told15 .given .1)))
+    (λ c. sym (ap refusalPlace (c .before .r5 .given .1)))
     (λ c. sym (ap refusalPlace (c .enum-told16 .given .1))))

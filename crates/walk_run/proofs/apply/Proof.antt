@@ -55,7 +55,7 @@ returns c =
     let some = fine-back (w .spot .steps) (a .op) (k .fine) (c .before .before .before .before .before .before .if1 .taken) in
     let b = c .before .before .withdraw in
     let l : length (b .last .0) ≡ length T = search needs in
-    λ x ds h. (chained-back x T C ds w h some (a .op) (c .before .before .before .before .before .before .if1 .taken) (k .fine) (b .last .0) (b .result) (b .ensures x (take (w .spot .steps - 1) C) (chained-known x T C ds w h some)), l)
+    λ x ds h. (chained-back x T C ds w h some (a .op) (c .before .before .before .before .before .before .if1 .taken) (b .last .0) (b .result) (b .ensures x (take (w .spot .steps - 1) C) (chained-known x T C ds w h some)), l)
 
 slice-write-chain : tie.Need-slice-write-chain
 slice-write-chain c =
@@ -90,7 +90,7 @@ returns-2 c =
     let b = c .before .before .advance in
     let f = c .before .before .before .before .if1 .left in
     let g = fine-step (w .spot .steps) (a .op) (k .fine) f in
-    λ x ds h. chained-applied x T C ds w h (a .op) (k .fine) (g .0) (k .next f) (length T) (b .last .0) (b .result) (b .ensures x ds (h .known))
+    λ x ds h. chained-applied x T C ds w h (a .op) (g .1) (g .0) (k .next f) (length T) (b .last .0) (b .result) (b .ensures x ds (h .known))
 
 pub apply-spec : {M : Type 1} → statement M
 apply-spec =

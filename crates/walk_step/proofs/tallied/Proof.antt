@@ -1,11 +1,11 @@
 -- `walk_step::tallied` meets its contract.
 -- Assumes nothing.
-use mathlib.Core.Path.{refl}
+use mathlib.Core.Path.{refl, _∙_}
 use Prim.Native.Nat.{_+_, _-_}
 use native.Mathlib.Omega.{arith}
 use borrow.Author.Needs.{needs}
 use Rattle.walk_step.specs.declared.Tally.{Tally}
-use Rattle.walk_step.proofs.TallyLaws.{tally-bound, tally-first, tally-new, tally-same, tally-meets}
+use Rattle.walk_step.proofs.TallyLaws.{tally-bound, steps-here, tally-seen, tally-found, tally-first, tally-new, tally-same, tally-meets}
 use Rattle.walk_step.proofs.tallied.Statement.{statement}
 use Rattle.walk_step.proofs.tallied.Tie as tie
 
@@ -27,7 +27,7 @@ returns c =
     let b = tally-bound T (k .start) (k .chain) (a .d) (a .w) (k .walked) in
     let v = c .before .before .word in
     let r : Tally = record { corners = a .m .corners + 1; j = a .m .j; k = a .m .k } in
-    λ x ds h n. tally-new T x ds (a .d) (a .w) h (a .m) n (v .result) (v .ensures) (c .before .if1 .taken) r refl refl refl
+    λ x ds h n. tally-new x ds (a .d) (a .m) n (v .result) (v .ensures ∙ tally-seen T x ds (a .d) (a .w) h) (c .before .if1 .taken) r refl refl refl
 
 word-requires-2 : tie.Need-word-requires-2
 word-requires-2 c κs =
@@ -57,7 +57,7 @@ returns-2 c =
     let v = c .before .before .before .word in
     let f = c .word2 in
     let r : Tally = record { corners = a .m .corners; j = f .result - 1; k = a .w .steps } in
-    λ x ds h n. tally-meets T x ds (a .d) (a .w) h (a .m) n (v .result) (v .ensures) (c .before .before .if1 .left) (c .before .if2 .taken) (s .pre .1 .0) (f .result) (f .ensures) r refl refl refl
+    λ x ds h n. tally-meets x ds (a .d) (a .m) n (v .result) (v .ensures ∙ tally-seen T x ds (a .d) (a .w) h) (c .before .before .if1 .left) (c .before .if2 .taken) (a .w .steps) (steps-here T x ds (a .d) (a .w) h) (s .pre .1 .0) (f .result) (f .ensures ∙ tally-found T x ds (a .d) (a .w) h) r refl refl refl
 
 returns-3 : tie.Need-returns-3
 returns-3 c =
@@ -67,7 +67,7 @@ returns-3 c =
     let T = a .t .now in
     let b = tally-bound T (k .start) (k .chain) (a .d) (a .w) (k .walked) in
     let v = c .before .before .word in
-    λ x ds h n. tally-same T x ds (a .d) (a .w) h (a .m) n (v .result) (v .ensures) (c .before .if1 .left) (c .if2 .left)
+    λ x ds h n. tally-same x ds (a .d) (a .m) n (v .result) (v .ensures ∙ tally-seen T x ds (a .d) (a .w) h) (c .before .if1 .left) (c .if2 .left)
 
 pub tallied-spec : {M : Type 1} → statement M
 tallied-spec =

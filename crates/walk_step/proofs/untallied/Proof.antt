@@ -1,12 +1,12 @@
 -- `walk_step::untallied` meets its contract.
 -- Assumes nothing.
-use mathlib.Core.Path.{refl}
+use mathlib.Core.Path.{refl, _∙_}
 use Prim.Native.Nat.{_-_}
 use native.Mathlib.Omega.{arith}
 use borrow.Author.Needs.{needs}
 use Rattle.answer.specs.Limits.{noMeeting}
 use Rattle.walk_step.specs.declared.Tally.{Tally}
-use Rattle.walk_step.proofs.TallyLaws.{tally-bound, untally-new, untally-same, untally-meets}
+use Rattle.walk_step.proofs.TallyLaws.{tally-bound, steps-here, tally-seen, untally-new, untally-same, untally-meets}
 use Rattle.walk_step.proofs.untallied.Statement.{statement}
 use Rattle.walk_step.proofs.untallied.Tie as tie
 
@@ -26,7 +26,7 @@ returns c =
     let T = a .t .now in
     let v = c .before .before .word in
     let r : Tally = record { corners = a .m .corners - 1; j = a .m .j; k = a .m .k } in
-    λ x ds h n. untally-new T x ds (a .d) (a .w) h (a .m) n (v .result) (v .ensures) (c .before .if1 .taken) r refl refl refl
+    λ x ds h n. untally-new x ds (a .d) (a .m) n (v .result) (v .ensures ∙ tally-seen T x ds (a .d) (a .w) h) (c .before .if1 .taken) r refl refl refl
 
 returns-2 : tie.Need-returns-2
 returns-2 c =
@@ -36,7 +36,7 @@ returns-2 c =
     let T = a .t .now in
     let v = c .before .before .word in
     let r : Tally = record { corners = a .m .corners; j = noMeeting; k = noMeeting } in
-    λ x ds h n. untally-meets T x ds (a .d) (a .w) h (a .m) n (v .result) (v .ensures) (c .before .if1 .left) (c .if2 .taken) (s .pre .1 .0) r refl refl refl
+    λ x ds h n. untally-meets x ds (a .d) (a .m) n (v .result) (v .ensures ∙ tally-seen T x ds (a .d) (a .w) h) (c .before .if1 .left) (a .w .steps) (steps-here T x ds (a .d) (a .w) h) (c .if2 .taken) (s .pre .1 .0) r refl refl refl
 
 returns-3 : tie.Need-returns-3
 returns-3 c =
@@ -45,7 +45,7 @@ returns-3 c =
     let k = s .pre .0 in
     let T = a .t .now in
     let v = c .before .before .word in
-    λ x ds h n. untally-same T x ds (a .d) (a .w) h (a .m) n (v .result) (v .ensures) (c .before .if1 .left) (c .if2 .left)
+    λ x ds h n. untally-same x ds (a .d) (a .m) n (v .result) (v .ensures ∙ tally-seen T x ds (a .d) (a .w) h) (c .before .if1 .left) (a .w .steps) (steps-here T x ds (a .d) (a .w) h) (c .if2 .left)
 
 pub untallied-spec : {M : Type 1} → statement M
 untallied-spec = tie.close (tie.spec word-requires (λ c. search needs) returns returns-2 returns-3)

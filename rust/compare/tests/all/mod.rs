@@ -51,6 +51,31 @@ fn overlays() {
 }
 
 #[test]
+fn short_pairs() {
+    suite::short_pairs(&LIBRARY, LONGEST - 3);
+}
+
+#[test]
+fn pair_bytes() {
+    suite::pair_bytes(&LIBRARY);
+}
+
+#[test]
+fn pair_limits() {
+    suite::pair_limits(&LIBRARY);
+}
+
+#[test]
+fn pair_starts() {
+    suite::pair_starts(&LIBRARY);
+}
+
+#[test]
+fn lobbies() {
+    suite::lobbies(&LIBRARY);
+}
+
+#[test]
 fn files() {
     suite::files(&LIBRARY);
 }

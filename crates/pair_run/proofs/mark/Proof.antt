@@ -1,0 +1,41 @@
+-- `pair_run::mark` meets its contract.
+-- Assumes nothing.
+use mathlib.Core.Path.{ap}
+use Prim.Native.Nat.{ℕ, _+_, _*_}
+use native.Mathlib.Omega.{arith}
+use borrow.Author.Needs.{needs}
+use lib.ListN.{set, length-set}
+use Rattle.layout.specs.Marks.{markWords}
+use Rattle.pair_run.proofs.mark.Statement.{statement}
+use Rattle.pair_run.proofs.mark.Tie as tie
+
+slice-write-marks-2 : tie.Need-slice-write-marks-2
+slice-write-marks-2 c =
+    let s = c .before .before .before .before .before .before in
+    let a = s .args in
+    omega (arith, length-set (a .marks .now) (markWords * a .i) (a .x .stock .nodes), s .pre .2)
+
+returns : tie.Need-returns
+returns c =
+    let a = c .before .before .before .before .before .before .args in
+    ap (λ (v : ℕ). set (set (set (a .marks .now) (markWords * a .i) (a .x .stock .nodes)) (markWords * a .i + 1) v) (markWords * a .i + 2) (a .changed)) (c .own .ensures)
+
+pub mark-spec : {M : Type 1} → statement M
+mark-spec =
+    tie.close
+    (tie.spec
+    (λ c. search needs)
+    (λ c. search needs)
+    (λ c. search needs)
+    (λ c. search needs)
+    (λ c κs. search needs)
+    (λ c. search needs)
+    (λ c. search needs)
+    (λ c. search needs)
+    slice-write-marks-2
+    (λ c. search needs)
+    (λ c. search needs)
+    (λ c. search needs)
+    (λ c. search needs)
+    (λ c. search needs)
+    returns)

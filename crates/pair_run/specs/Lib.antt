@@ -1,0 +1,2 @@
+-- What a run over all operations of two parties finds and leaves.
+pub mod Runs

@@ -1,0 +1,2 @@
+-- The parts of the call of two parties.
+pub mod Parts
