@@ -330,11 +330,11 @@ uint32_t undrwyth_walk(int32_t start_x, int32_t start_y,
  * Stack: UNDRWYTH_WALK_TWO_STACK_BYTES, whatever the walks. */
 uint32_t undrwyth_walk_two(int32_t start0_x, int32_t start0_y,
                            int32_t start1_x, int32_t start1_y,
-                           const uint8_t *ops, size_t n,
-                           uint32_t *table, size_t table_words,
-                           uint32_t *marks, size_t marks_words,
-                           uint8_t *chain0, size_t chain0_bytes,
-                           uint8_t *chain1, size_t chain1_bytes,
+                           const uint8_t *ops, undrwyth_size n,
+                           uint32_t *table, undrwyth_size table_words,
+                           uint32_t *marks, undrwyth_size marks_words,
+                           uint8_t *chain0, undrwyth_size chain0_bytes,
+                           uint8_t *chain1, undrwyth_size chain1_bytes,
                            uint32_t answer[UNDRWYTH_WALK_TWO_ANSWER_WORDS]);
 
 /* Lists the corners of the convex hull of p0 to pn of the walk of the n steps in chain from (start_x,start_y).

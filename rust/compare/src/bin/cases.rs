@@ -128,6 +128,18 @@ const WRITTEN: Library = Library {
         case.buffer(chain).buffer(answer).write();
         number
     },
+    walk_two: |starts, ops, table, marks, chains, answer| {
+        let [first, second] = chains;
+        let case = Case::of("walk_two", ops.len());
+        let case = case.start(starts[0]).start(starts[1]).input(ops);
+        let case = case.lent(table).lent(marks).lent(first).lent(second);
+        let case = case.answer(answer);
+        let lent = [&mut *first, &mut *second];
+        let number = (PROVED.walk_two)(starts, ops, table, marks, lent, answer);
+        let case = case.result(number.into()).buffer(table).buffer(marks);
+        case.buffer(first).buffer(second).buffer(answer).write();
+        number
+    },
     hull: |start, chain, out, answer| {
         let case = Case::of("hull", chain.len()).start(start).input(chain);
         let case = case.lent(out).answer(answer);
@@ -246,6 +258,11 @@ fn main() {
     suite::outlines(&WRITTEN);
     suite::convex_rooms(&WRITTEN, LONGEST_ROOM);
     suite::overlays(&WRITTEN, LONGEST as usize);
+    suite::short_pairs(&WRITTEN, LONGEST / 2);
+    suite::pair_bytes(&WRITTEN);
+    suite::pair_limits(&WRITTEN);
+    suite::pair_starts(&WRITTEN);
+    suite::lobbies(&WRITTEN);
     suite::files(&WRITTEN);
     suite::starts(&WRITTEN, LONGEST / 3);
     suite::lines(&WRITTEN);
