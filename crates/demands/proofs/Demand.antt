@@ -20,7 +20,7 @@ use Rattle.answer.specs.Refusal.{refusalNumber, refusalPlace}
 use Rattle.answer.specs.Words.{factsWords, answerWords, countedWords, judgedWords}
 use Rattle.lists.specs.Lists.{sumOf, Distinct, Below}
 use Rattle.grid.specs.declared.{Corner.Corner, Panel.Panel}
-use Rattle.grid.specs.Grid.{origin, cornersFrom, endFrom, stepped, back}
+use Rattle.grid.specs.Grid.{corner, origin, cornersFrom, endFrom, stepped, back}
 use Rattle.grid.specs.Tree.{AncestorAt, root, WithinLevels, pathOf}
 use Rattle.steps.specs.Operations.{survivors}
 use Rattle.steps.specs.Turns.{turnOf, turnsOf, stepAfter, stepsOf, ConvertedBy}
@@ -64,6 +64,7 @@ use Rattle.demands.proofs.BufferLaws as bufferLaws
 use Rattle.demands.proofs.AloneLaws as aloneLaws
 use Rattle.demands.proofs.ChangedLaws as changedLaws
 use Rattle.demands.proofs.CostLaws as costLaws
+use Rattle.demands.proofs.ReachedLaws as reachedLaws
 use Rattle.demands.proofs.CallLaws as callLaws
 use Rattle.demands.proofs.DigitLaws as digitLaws
 
@@ -209,7 +210,12 @@ module _ {c : Corner} {os t ms ch t′ ms′ ch′ : List ℕ} {f : Facts} (w : 
   pub same-lengths : (length t′ ≡ length t) × (length ms′ ≡ length ms) × (length ch′ ≡ length ch)
   same-lengths = acceptedLaws.its-lengths w
 
--- and from the origin to at most three for each step and 16 for each different corner, less 12
+-- 32 is reached: 16,384 steps east from (16384,16384) are accepted, and the last of them makes a link at each of 15 levels
+pub changed-reached : {t ms ch t′ ms′ ch′ : List ℕ} {r : Answer} → WalkIs (corner (pos 16384) (pos 16384)) (replicate 16384 0) t ms ch r t′ ms′ ch′
+    → length t ≡ 65604 * width → length ms ≡ markWords * 16384 → length ch ≡ 16384 → (f : Facts) × (r ≡ Answer.Accepted f) × (getD ms′ (markWords * 16383 + 2) 0 ≡ 32)
+changed-reached = reachedLaws.sixteen-thousand
+
+-- where no step is taken back they add up from the origin to at most three for each step and 16 for each different corner, less 12
 pub changed-sum-origin : {os t ms ch t′ ms′ ch′ : List ℕ} {f : Facts} → WalkIs origin os t ms ch (Answer.Accepted f) t′ ms′ ch′ → Below 4 os → sumTo (length os) (λ k. getD ms′ (markWords * k + 2) 0) + 12 ≤ 3 * length os + 16 * f .corners
 changed-sum-origin = costLaws.its-cost-origin
 

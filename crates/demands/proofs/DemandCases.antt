@@ -82,10 +82,12 @@ linked-unwalked = record {
   differ = λ e. stepped-ne 1 (corner (pos 1) (pos 0)) (sym e);
 }
 
--- two steps east from (2,2): the second, from a corner within two levels, changes two records for each of them, and two. So it is with 16,384 steps
--- from (16384,16384) and 15 levels
+-- two steps east from (2,2): the second, from a corner within two levels, changes two records for each of them, and two; along the axis one fewer
 six-changed : changesAt (corner (pos 2) (pos 2)) (0 ∷ 0 ∷ []) 1 ≡ 6
 six-changed = refl
+
+five-changed : changesAt (corner (pos 2) (pos 0)) (0 ∷ 0 ∷ []) 1 ≡ 5
+five-changed = refl
 
 -- the records that the steps of 0011 change: 2, 2, 3 and 5
 pub changed-in-all : sumTo 4 (changesAt origin (0 ∷ 0 ∷ 1 ∷ 1 ∷ [])) ≡ 12

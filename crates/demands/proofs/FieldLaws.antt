@@ -10,7 +10,7 @@ use lib.ListN.{length, take, drop, getD, length-append, length-drop, List·getD-
 use lib.Seq.{getD-append-add, take-all, take-append-le, drop-append-le, drop-append-add}
 use Rattle.answer.specs.declared.Facts.{Facts}
 use Rattle.answer.specs.declared.Refusal.{Refusal}
-use Rattle.answer.specs.declared.Refusal.the-variants.{TooMany, Table, ResultRoom, BadDigit, NothingToTake, TooLong, NoRoom, HullRoom, BadLine, StartRange, OutlineRoom, NotRoom, PolygonRoom, FileLength, FileKind, BadCoordinate, BadRing, ChainRoom, RetiredKind, SpanRoom}
+use Rattle.answer.specs.declared.Refusal.the-variants.{TooMany, Table, ResultRoom, BadDigit, NothingToTake, TooLong, NoRoom, HullRoom, BadLine, StartRange, OutlineRoom, NotRoom, PolygonRoom, FileLength, FileKind, BadCoordinate, BadRing, ChainRoom, RetiredKind, UnknownParty, SpanRoom}
 use Rattle.answer.specs.declared.Verdict.{Verdict, the-variants.Nowhere, the-variants.Open, the-variants.Room, the-variants.OpenMeeting, the-variants.ClosedMeeting, the-variants.ThereAndBack}
 use Rattle.answer.specs.Refusal.{refusalNumber, refusalPlace, verdictNumber}
 use Rattle.answer.specs.Words.{bitsOf}
@@ -85,6 +85,7 @@ number-few BadCoordinate = (omega arith, omega arith)
 number-few BadRing = (omega arith, omega arith)
 number-few ChainRoom = (omega arith, omega arith)
 number-few RetiredKind = (omega arith, omega arith)
+number-few (UnknownParty i) = (omega arith, omega arith)
 number-few SpanRoom = (omega arith, omega arith)
 
 pub refusal-read : (q : Refusal) → refusalPlace q < 16 ^ 8 → RefusalRead (refusedLine q) q

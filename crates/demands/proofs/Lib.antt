@@ -8,6 +8,7 @@ pub mod AcceptedLaws
 pub mod AloneLaws
 pub mod ChangedLaws
 pub mod CostLaws
+pub mod ReachedLaws
 pub mod CallLaws
 pub mod DigitLaws
 pub mod RoomCallLaws

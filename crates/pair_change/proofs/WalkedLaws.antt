@@ -32,7 +32,7 @@ use Rattle.pair_change.specs.Counts.{WithStep, Changes}
 
 -- party q has walked ds from c, in states B and records slots, and then in direction d, to record r of the records more
 module _ (B : Both) (slots more : List Slot) (q : ℕ) (known : q < 2) (c : Corner) (ds : List ℕ) (d : ℕ) (small : d < 4) (is : B q ≡ stateOf (cornersFrom c ds)) (settled : SettledIn slots B) (ext : Extends slots more (stepped d (endFrom c ds))) where
-  pub walked-with : (t : List ℕ) (r : ℕ) → At more r (stepped d (endFrom c ds)) → PairTable t more (withParty B q (stateOf (cornersFrom c (ds ++ (d ∷ []))))) → WithStep t q r (suc (length ds)) d B slots more (endFrom c ds)
+  walked-with : (t : List ℕ) (r : ℕ) → At more r (stepped d (endFrom c ds)) → PairTable t more (withParty B q (stateOf (cornersFrom c (ds ++ (d ∷ []))))) → WithStep t q r (suc (length ds)) d B slots more (endFrom c ds)
   walked-with t r x h =
       let a = endFrom c ds in
       let s = suc (length ds) in

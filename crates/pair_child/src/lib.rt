@@ -6,6 +6,7 @@ ghost use lib.ListN.{length};
 ghost use Rattle.pair_table_laws.specs.Hold.{wordsIn};
 ghost use Rattle.pair_words.specs.Places.{InTable};
 ghost use Rattle.pair_child.specs.Finds.{takenAt, ScannedTo, Makes, claimIn, Childed};
+use pair_words::has_record;
 use pair_words::need;
 use pair_words::own;
 use pair_words::put;
@@ -29,7 +30,7 @@ fn taken(t: &[u32], r: usize) -> bool
     requires { ⌜ r < 2 ^ 32 ⌝ }
     ensures { λ v. ⌜ v ≡ takenAt (now (t .entry)) r ⌝ }
 {
-    if !pair_words::has_record(t, r) {
+    if !has_record(t, r) {
         return false;
     }
     if word(t, r, Record::PARENT) == 0 {
@@ -57,7 +58,7 @@ fn make(t: &mut [u32], q: usize, s: Stock, u: usize, place: usize, step: u32) ->
     ensures { λ r. ⌜ Makes q (now (t .entry)) s u place step (now (t .exit)) r ⌝ }
 {
     let r = free_from(t, s.low);
-    if !pair_words::has_record(t, r) {
+    if !has_record(t, r) {
         return Located { at: 0, stock: s };
     }
     put(t, u, place, (r + 1) as u32);

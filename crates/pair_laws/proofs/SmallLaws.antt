@@ -17,7 +17,7 @@ use Rattle.answer.specs.Limits.{mostInput, mostSteps, mostPairRecords, startFit
 use Rattle.grid.specs.declared.Corner.{Corner}
 use Rattle.steps.specs.Operations.{faultOf, operationsJudged, Walkable}
 use Rattle.answer.proofs.RefusalLaws.{clear, when-good}
-use Rattle.lists.proofs.GatherLaws.{and-left, and-right}
+use Rattle.lists.proofs.GatherLaws.{and-right}
 use Rattle.steps.proofs.SurvivorLaws.{walkable-survivors}
 use Rattle.walk_call.proofs.SmallLaws.{Placed, placed-when, placed-or, placed-more, placed-fault, FewSeen, seen-few}
 use Rattle.pair_steps.specs.Parties.{partyOf, opOf, moves, ownOps, stepsBy, movedBy, afterBy, bytesJudged}

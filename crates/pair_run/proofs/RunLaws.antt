@@ -7,7 +7,7 @@ use Prim.Native.Nat.{ℕ, zero, suc, _+_, _-_, _*_, _<_, _≤_}
 use native.Mathlib.Omega.{arith}
 use borrow.Author.Tests.{eq-eqb, ne-eqb}
 use lib.ListN.{length, take, drop, getD, drop-of-length-le}
-use lib.Seq.{sets, length-sets, drop-cons, take-all}
+use lib.Seq.{length-sets, drop-cons, take-all}
 use Rattle.answer.specs.declared.Judged.the-variants.{Good, Refused}
 use Rattle.answer.specs.declared.Refusal.the-variants.{NoRoom}
 use Rattle.grid.specs.declared.Corner.{Corner}
@@ -30,7 +30,7 @@ use Rattle.pair_move.proofs.MoveLaws.{party-stays}
 use Rattle.pair_move.proofs.BackLaws.{own-needed}
 use Rattle.pair_run.specs.declared.Pair.{Pair}
 use Rattle.pair_run.specs.declared.Course.{Course}
-use Rattle.pair_run.specs.Runs.{firstBy, secondBy, slotsBy, PairKept, PairReady, changesTo, markBy, PairPerformed, BothKept, PairStarts, PairRan}
+use Rattle.pair_run.specs.Runs.{firstBy, secondBy, slotsBy, PairKept, PairReady, markBy, PairPerformed, BothKept, PairStarts, PairRan}
 use Rattle.pair_run.proofs.TurnLaws.{kept-nodes, kept-room}
 
 -- ---- the party of a byte, and its operation

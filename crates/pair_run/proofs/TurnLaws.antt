@@ -22,8 +22,7 @@ use Rattle.pair_table.specs.Words.{pairWidth, pairRecordsIn, pairTableOf, visit
 use Rattle.pair_laws.specs.Stand.{At}
 use Rattle.pair_laws.proofs.CountLaws.{held-nodes, held-most}
 use Rattle.pair_laws.proofs.UnionLaws.{union-distinct}
-use Rattle.pair_table_laws.specs.Hold.{Both, bothOf, ofParty, wordsIn}
-use Rattle.pair_table_laws.specs.Walked.{PairWalked}
+use Rattle.pair_table_laws.specs.Hold.{bothOf, ofParty, wordsIn}
 use Rattle.pair_table_laws.proofs.FrameLaws.{at-below}
 use Rattle.pair_child.specs.declared.Stock.{Stock}
 use Rattle.walk_step.specs.Chains.{ChainKeeps}
@@ -31,14 +30,14 @@ use Rattle.walk_step.proofs.ChainLaws.{keeps-near, keeps-place, keeps-split, ke
 use Rattle.pair_move.specs.declared.Party.{Party}
 use Rattle.pair_move.specs.declared.Stride.{Stride}
 use Rattle.pair_move.specs.declared.Strode.{Strode}
-use Rattle.pair_move.specs.Moves.{firstAfter, secondAfter, PartyIs, Moves, PairAdvanced}
+use Rattle.pair_move.specs.Moves.{firstAfter, secondAfter, Moves, PairAdvanced}
 use Rattle.pair_move.proofs.MoveLaws.{own-state, own-after}
 use Rattle.pair_move.proofs.BackLaws.{back-corner, back-steps}
 use Rattle.pair_change.specs.Counts.{WithStep, SomeStep, Changes}
 use Rattle.pair_change.proofs.WalkedLaws.{step-with, back-with, mark-step, mark-back}
 use Rattle.pair_run.specs.declared.Acted.{Acted}
 use Rattle.pair_run.specs.declared.Turn.{Turn}
-use Rattle.pair_run.specs.Runs.{firstBy, secondBy, slotsBy, PairKept, changesTo, PairActed, markBy, PairPerformed}
+use Rattle.pair_run.specs.Runs.{firstBy, secondBy, slotsBy, PairKept, PairActed, PairPerformed}
 
 -- ---- by the party: an operation that is a step, and one that takes the last step d back, before which the steps l of that party stand
 by-step-first : (q : ℕ) (ds : List ℕ) (d : ℕ) → d < 4 → firstBy q ds d ≡ firstAfter q ds d
@@ -185,7 +184,7 @@ module _ (t ch : List ℕ) (c e : Corner) (ds es : List ℕ) (slots : List Slot)
           ))
 
     -- ---- where it stands
-    pub kept-in : suc (p .node) * pairWidth ≤ length t
+    kept-in : suc (p .node) * pairWidth ≤ length t
     kept-in = omega (arith, at-below slots (p .node) (endFrom start own) (k .moves .party .here), k .moves .walked .table .room)
 
     pub kept-nodes : s .nodes ≡ length (needsOf c e ds es)
@@ -198,7 +197,7 @@ module _ (t ch : List ℕ) (c e : Corner) (ds es : List ℕ) (slots : List Slot)
     seen = k .moves .walked .table .holds .held (p .node) (endFrom start own) (k .moves .party .here) .own q known .visits ∙ ap (λ (S : State). S .visits (endFrom start own)) (own-state q c e ds es)
 
     -- its mark
-    pub kept-mark : (ms ms′ : List ℕ) (i n : ℕ) → ms′ ≡ set (set (set ms (markWords * i) (s .nodes)) (markWords * i + 1) (wordsIn t (p .node) (ofParty q visitsWord))) (markWords * i + 2) n
+    kept-mark : (ms ms′ : List ℕ) (i n : ℕ) → ms′ ≡ set (set (set ms (markWords * i) (s .nodes)) (markWords * i + 1) (wordsIn t (p .node) (ofParty q visitsWord))) (markWords * i + 2) n
         → ms′ ≡ sets ms (markWords * i) (length (needsOf c e ds es) ∷ visitsOf (byParty q c e) (byParty q ds es) ∷ n ∷ [])
     kept-mark ms ms′ i n j =
         let a : markWords * i + 1 ≡ suc (markWords * i) = omega arith in

@@ -20,7 +20,6 @@ use Rattle.pair_child.specs.declared.Stock.{Stock}
 use Rattle.pair_child.specs.Finds.{StockIs}
 use Rattle.walk_step.specs.Chains.{ChainKeeps}
 use Rattle.pair_move.specs.declared.Party.{Party}
-use Rattle.pair_move.specs.declared.Stride.{Stride}
 use Rattle.pair_move.specs.declared.Strode.{Strode}
 use Rattle.pair_move.specs.Moves.{PartyIs, Moves}
 use Rattle.pair_run.specs.declared.Pair.{Pair}
@@ -55,7 +54,7 @@ pub record PairReady (t chain : List ℕ) (q : ℕ) (p : Party) (s : Stock) (o :
   pub next : (o ≡ 4 → ⊥) → p .steps < length chain
 
 -- how many of so many records the operation o of party q changes
-abbrev pub changesTo : ℕ → Corner → Corner → List Slot → ℕ → List ℕ → List ℕ → ℕ → ℕ
+abbrev changesTo : ℕ → Corner → Corner → List Slot → ℕ → List ℕ → List ℕ → ℕ → ℕ
 changesTo records c e slots q ds es o =
     changesBy pairWidth records (pairTableOf (records * pairWidth) c e slots ds es) (pairTableOf (records * pairWidth) c e (slotsBy c e slots q ds es o) (firstBy q ds o) (secondBy q es o))
 

@@ -1,7 +1,7 @@
 -- The parts of the call of two parties put together: its input, the run, the walks that are over, and the refusals.
 -- Assumes nothing.
 use mathlib.Core.List.{List, [], _++_}
-use mathlib.Core.Path.{_≡_, refl, ap, ap₂, sym, subst, _∙_}
+use mathlib.Core.Path.{_≡_, refl, ap, sym, subst, _∙_}
 use Prim.Native.Nat.{ℕ, _-_, _<_}
 use lib.ListN.{length, replicate}
 use Rattle.answer.specs.declared.Judged.{Judged}
@@ -51,9 +51,6 @@ starts-full words c e os t ms first second h = room-full (pairRecordsIn words) c
 module _ (c e : Corner) (os : List ℕ) (b : PairLent) where
   abbrev W : ℕ
   W = length (b .table)
-
-  abbrev input : Judged
-  input = pairInputJudged c e os W (length (b .marks)) (length (b .first)) (length (b .second))
 
   abbrev room : Judged
   room = pairRoomFrom (pairRecordsIn W) c e 0 [] [] os

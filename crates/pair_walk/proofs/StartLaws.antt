@@ -10,7 +10,7 @@ use Rattle.pair_table_laws.specs.Stores.{rootTable}
 use Rattle.answer.specs.Limits.{Near}
 use Rattle.grid.specs.declared.Corner.{Corner}
 use Rattle.grid.specs.Tree.{root, pathOf}
-use Rattle.tree_laws.specs.State.{State, stateOf, plantedOf}
+use Rattle.tree_laws.specs.State.{stateOf, plantedOf}
 use Rattle.tree.proofs.StartLaws.{nodes-start}
 use Rattle.pair_table.specs.Slots.{Slot, held, needsOf, placedAll, slotsAtStart}
 use Rattle.pair_table.specs.Words.{pairWidth, pairRecordsIn}
@@ -29,7 +29,6 @@ use Rattle.pair_plant.proofs.GrowLaws.{root-plants}
 use Rattle.pair_move.proofs.MoveLaws.{party-new}
 use Rattle.walk_step.proofs.ChainLaws.{keeps-none}
 use Rattle.pair_run.specs.declared.Pair.{Pair}
-use Rattle.pair_run.specs.Runs.{PairStarts}
 use Rattle.pair_walk.specs.declared.Rooted.{Rooted}
 use Rattle.pair_walk.specs.Parts.{partiesAt, PairPlanted}
 
@@ -59,9 +58,6 @@ module _ (c e : Corner) (near : Near c) (near′ : Near e) (words : ℕ) (t t₁
     (f : Finds (λ p. plantedOf root) (held root ∷ []) 0 (stateOf (c ∷ [])) c t t₁ one) (long : length t ≡ words) where
   abbrev slots : List Slot
   slots = placedAll roots (pathOf c)
-
-  abbrev B : Both
-  B = withParty rooted 0 (stateOf (c ∷ []))
 
   -- no room for the first
   pub first-full : one .at ≡ 0 → pairRecordsIn words < length (needsOf c e [] [])

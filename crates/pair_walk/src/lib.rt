@@ -1,5 +1,5 @@
 // Two parties in one table: any operations of both, judged in a lent table.
-ghost use mathlib.Core.List.{List, [], _++_};
+ghost use mathlib.Core.List.{List};
 ghost use mathlib.Core.Path.{_≡_};
 ghost use Prim.Native.Nat.{ℕ, _-_, _*_, _%_, _^_, _<_, _≤_};
 ghost use lib.ListN.{length, replicate};

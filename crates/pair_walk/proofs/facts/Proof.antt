@@ -3,7 +3,6 @@
 use mathlib.Core.Path.{ap₂}
 use borrow.Author.Needs.{needs}
 use Rattle.answer.specs.declared.PartyFacts.{PartyFacts}
-use Rattle.answer.specs.declared.PairFacts.{PairFacts}
 use Rattle.pair_walk.proofs.facts.Statement.{statement}
 use Rattle.pair_walk.proofs.facts.Tie as tie
 

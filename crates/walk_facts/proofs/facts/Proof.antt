@@ -2,7 +2,6 @@
 -- Assumes nothing.
 use mir.Syntax.{w32}
 use mir.Val.{toZ, ofZ}
-use borrow.Author.Needs.{needs}
 use Rattle.walk_corner.proofs.SignedLaws.{back}
 use Rattle.walk_facts.proofs.FactLaws.{facts-are}
 use Rattle.walk_facts.proofs.facts.Statement.{statement}
