@@ -99,7 +99,7 @@ pub fn walk_two(
     let number = raw::walk_two(starts, ops, table, marks, chains, &mut answer);
     accepted(number, answer[1])?;
     let [_, _, nodes, parties @ ..] = answer;
-    let party = |q: usize| party_facts(std::array::from_fn(|i| parties[8 * q + i]));
+    let party = |q: usize| party_facts(core::array::from_fn(|i| parties[8 * q + i]));
     Ok(PairFacts {
         nodes,
         parties: [party(0), party(1)],
