@@ -8,8 +8,8 @@ use lib.IntN.{ℤ, pos, negℤ, _+ℤ_, _-ℤ_, _*ℤ_, +ℤ-comm, +ℤ-idr}
 use lib.ListN.{length, take, drop, take-append-drop, length-append}
 use Rattle.int_laws.proofs.RingLaws.{ring, v, k, _⊕_, _⊖_, _⊗_, ⊝}
 use Rattle.grid.specs.declared.Corner.{Corner}
-use Rattle.grid.specs.Grid.{stepped, endFrom, cornerAt}
-use Rattle.grid.proofs.StepLaws.{back, stepped-back, endFrom-append}
+use Rattle.grid.specs.Grid.{stepped, endFrom, cornerAt, back}
+use Rattle.grid.proofs.StepLaws.{stepped-back, endFrom-append}
 use Rattle.trace.specs.Verdict.{sweepFrom}
 use Rattle.panels.specs.Outline.{startedAt, backward}
 use Rattle.area_laws.proofs.SweepLaws.{sweep-append, straight}

@@ -12,8 +12,8 @@ use lib.Signed.{ltZ}
 use lib.ListN.{length, take, drop, length-append, take-append-drop}
 use lib.Seq.{take-append-le, take-append-add, take-at, drop-at, take-length, drop-length}
 use Rattle.grid.specs.declared.Corner.{Corner}
-use Rattle.grid.specs.Grid.{stepped, cornersFrom, endFrom, cornerAt}
-use Rattle.grid.proofs.StepLaws.{back, endFrom-append, cornerAt-end}
+use Rattle.grid.specs.Grid.{stepped, cornersFrom, endFrom, cornerAt, back}
+use Rattle.grid.proofs.StepLaws.{endFrom-append, cornerAt-end}
 use Rattle.trace.specs.Meeting.{Meets}
 use Rattle.trace.specs.Verdict.{IsRoom, sweepFrom}
 use Rattle.panels.specs.Outline.{startedAt, backward}

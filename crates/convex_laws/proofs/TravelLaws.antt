@@ -13,8 +13,8 @@ use Rattle.int_laws.proofs.LinearLaws.{zarith, neg-nat}
 use Rattle.int_laws.proofs.NextLaws.{true-lt, false-lt}
 use Rattle.lists.specs.Lists.{Below}
 use Rattle.grid.specs.declared.Corner.{Corner}
-use Rattle.grid.specs.Grid.{endFrom, cornerAt}
-use Rattle.grid.proofs.StepLaws.{back, endFrom-append, back-back}
+use Rattle.grid.specs.Grid.{endFrom, cornerAt, back}
+use Rattle.grid.proofs.StepLaws.{endFrom-append, back-back}
 use Rattle.trace.specs.Verdict.{IsRoom, sweepFrom}
 use Rattle.trace.proofs.VerdictLaws.{area-room}
 use Rattle.panels.specs.Inside.{InsideRight}

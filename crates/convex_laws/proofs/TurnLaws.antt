@@ -11,8 +11,8 @@ use lib.Signed.{ltZ, _<ℤ_, _≤ℤ_}
 use Rattle.int_laws.proofs.LinearLaws.{zarith, bal+, bal-, neg-nat}
 use Rattle.lists.specs.Lists.{Below}
 use Rattle.grid.specs.declared.Corner.{Corner}
-use Rattle.grid.specs.Grid.{corner, stepped, cornersFrom, endFrom}
-use Rattle.grid.proofs.StepLaws.{back, back-small, endFrom-append}
+use Rattle.grid.specs.Grid.{corner, stepped, cornersFrom, endFrom, back}
+use Rattle.grid.proofs.StepLaws.{back-small, endFrom-append}
 use Rattle.trace.specs.Verdict.{sweepFrom}
 use Rattle.panels.specs.Outline.{turned, backward}
 use Rattle.area_laws.proofs.ImageLaws.{Image, end-image, moved, move, turn, sweep-moved, sweep-turned}

@@ -2,7 +2,7 @@
 -- Assumes nothing.
 use mathlib.Core.Bool.{Bool, true, false}
 use mathlib.Core.List.{List}
-use mathlib.Core.Path.{_≡_, refl, sym, ap, ap₂, subst, _∙_}
+use mathlib.Core.Path.{_≡_, refl, sym, ap, ap₂, _∙_}
 use Prim.Native.Nat.{ℕ, zero, suc, _+_, _*_, _≤_, _<_}
 use native.Mathlib.Numerals.{add-one}
 use native.Mathlib.Omega.{arith}
@@ -13,8 +13,7 @@ use lib.Seq.{drop-cons}
 use mir.Val.{boolByte}
 use Rattle.hull_laws.specs.Columns.{middle, top, colAfter}
 use Rattle.hull_laws.proofs.TrailLaws.{near}
-use Rattle.convex_laws.specs.Way.{northIn, southIn, columnSum, Leftward}
-use Rattle.convex_laws.proofs.WayLaws.{sums-way}
+use Rattle.convex_laws.specs.Way.{northIn, southIn, columnSum}
 
 by-one : (x n : ℕ) → n ≡ 1 → x * n ≡ x
 by-one x n e = ap (λ (m : ℕ). x * m) e ∙ omega arith
@@ -82,9 +81,9 @@ module _ (ds : List ℕ) (x up down i : ℕ) (s : Sums ds x up down i) where
         nx : (x ≤ x′ + 1) × (x′ ≤ x + 1)
         nx = let r = near x (getD ds i 0) (omega (arith, s .west)) in (omega (arith, r .0), omega (arith, r .1))
 
-  pub sums-end : length ds ≤ i → length ds ≤ middle → Leftward ds (ltb down up)
+  pub sums-end : length ds ≤ i → ltb down up ≡ ltb (columnSum southIn middle ds) (columnSum northIn middle ds)
   unfolding columnSum
-  sums-end h g = subst (Leftward ds) (ap₂ ltb (s .souths ∙ none southIn down) (s .norths ∙ none northIn up)) (sums-way ds g)
+  sums-end h = sym (ap₂ ltb (s .souths ∙ none southIn down) (s .norths ∙ none northIn up))
     where
       none : (k : ℕ → ℕ → ℕ) (n : ℕ) → n + columnSum k x (drop i ds) ≡ n
       none k n = ap (λ (w : List ℕ). n + columnSum k x w) (drop-of-length-le ds h) ∙ omega arith

@@ -5,10 +5,11 @@ use hull_columns::height;
 use order::lesser;
 ghost use mathlib.Core.Path.{_≡_};
 ghost use Prim.Native.Nat.{_≤_};
+ghost use lib.Dec.{ltb};
 ghost use lib.ListN.{length};
 ghost use Rattle.hull_laws.specs.Columns.{middle, top};
 ghost use Rattle.convex_laws.specs.Place.{rank, rankAt, placeOf};
-ghost use Rattle.convex_laws.specs.Way.{northIn, southIn, Leftward};
+ghost use Rattle.convex_laws.specs.Way.{northIn, southIn, columnSum};
 
 // The number of the corner in column x at height y, after some quarter turns.
 fn number(turn: u8, x: usize, y: usize) -> usize
@@ -66,10 +67,10 @@ fn south(x: usize, d: u8) -> usize
     x * (d > 2) as usize
 }
 
-// Whether a closed walk goes round with its inside on the left.
+// Whether the columns of the steps north have the greater sum: then a closed walk goes round with its inside on the left.
 pub fn leftward(chain: &[u8]) -> bool
     requires { ⌜ length (now chain) ≤ middle ⌝ }
-    ensures { λ r. ⌜ Leftward (now (chain .entry)) r ⌝ }
+    ensures { λ r. ⌜ r ≡ ltb (columnSum southIn middle (now (chain .entry))) (columnSum northIn middle (now (chain .entry))) ⌝ }
 {
     let mut x = Columns::MIDDLE;
     let mut up = 0;

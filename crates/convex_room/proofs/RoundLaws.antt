@@ -6,19 +6,21 @@ use mathlib.Core.Path.{_≡_, refl, sym, ap, subst, _∙_}
 use Prim.Native.Nat.{ℕ, suc, _+_, _*_, _-_, _%_, _≤_, _<_}
 use native.Mathlib.Decide.{decLt, ℕ-discrete}
 use native.Mathlib.Omega.{arith}
+use lib.Dec.{ltb}
 use lib.ListN.{length, getD, take, drop, set, replicate, length-replicate, length-take, length-drop, length-set, List·getD-append, List·getD-eq-default}
 use lib.Seq.{getD-take, getD-drop, getD-append-seam, getD-append-add, getD-set-same, getD-set-other, ext-getD}
 use Rattle.area_laws.proofs.OutlineLaws.{length-backward}
 use Rattle.grid.specs.declared.Corner.{Corner}
-use Rattle.grid.specs.Grid.{origin, endFrom}
-use Rattle.grid.proofs.StepLaws.{back, back-mod, back-small}
+use Rattle.grid.specs.Grid.{origin, endFrom, back}
+use Rattle.grid.proofs.StepLaws.{back-mod, back-small}
 use Rattle.hull_laws.specs.Columns.{middle}
 use Rattle.panels.specs.Outline.{startedAt, backward}
 use Rattle.convex_laws.specs.Place.{placeOf}
-use Rattle.convex_laws.specs.Way.{Leftward, travelled}
+use Rattle.convex_laws.specs.Way.{northIn, southIn, columnSum, travelled}
 use Rattle.convex_laws.specs.Decide.{convexFrom, convexRound, convexOf}
 use Rattle.convex_laws.proofs.PlaceLaws.{placeOf-found}
 use Rattle.convex_laws.proofs.RoomLaws.{length-started}
+use Rattle.convex_laws.proofs.WayLaws.{sums-way}
 use Rattle.convex_part.specs.Steps.{Digits}
 use Rattle.convex_room.proofs.PartLaws.{digits-slice}
 use Rattle.convex_room.specs.Laid.{LaidTwice, Roomy}
@@ -140,12 +142,12 @@ module _ (ds out : List ℕ) (b : Bool) (d : Digits ds) (short : length ds ≤ m
   pub store-length : length (take ((m + length ds) - m) (drop m out)) ≡ length ds
   store-length = ap length round ∙ length-started m (travelled b ds) ∙ length-travelled b ds
 
-  pub store-told : (r : Bool) → Leftward ds b → r ≡ convexFrom (take ((m + length ds) - m) (drop m out)) → (c : Corner) → endFrom c ds ≡ c → r ≡ convexOf c ds
+  pub store-told : (r : Bool) → b ≡ ltb (columnSum southIn middle ds) (columnSum northIn middle ds) → r ≡ convexFrom (take ((m + length ds) - m) (drop m out)) → (c : Corner) → endFrom c ds ≡ c → r ≡ convexOf c ds
   unfolding convexOf convexRound
   store-told r f g c h =
       g ∙ ap convexFrom round
       ∙ ap (λ (k : ℕ). convexFrom (startedAt k (travelled b ds))) at
-      ∙ ap (λ (x : Bool). convexFrom (startedAt (placeOf 0 (travelled x ds)) (travelled x ds))) (f c h)
+      ∙ ap (λ (x : Bool). convexFrom (startedAt (placeOf 0 (travelled x ds)) (travelled x ds))) (f ∙ sums-way ds short c h)
 
 -- a store that is new
 pub store-new : (ds : List ℕ) (a n : ℕ) → Digits ds → length ds ≤ middle → 2 * length ds ≤ a → length ds < n → n ≤ 65536 → Roomy ds (replicate a 0) (replicate n 0) (replicate n 0)

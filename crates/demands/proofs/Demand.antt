@@ -20,7 +20,7 @@ use Rattle.answer.specs.Refusal.{refusalNumber, refusalPlace}
 use Rattle.answer.specs.Words.{factsWords, answerWords, countedWords, judgedWords}
 use Rattle.lists.specs.Lists.{sumOf, Distinct, Below}
 use Rattle.grid.specs.declared.{Corner.Corner, Panel.Panel}
-use Rattle.grid.specs.Grid.{origin, cornersFrom, endFrom, stepped}
+use Rattle.grid.specs.Grid.{origin, cornersFrom, endFrom, stepped, back}
 use Rattle.grid.specs.Tree.{AncestorAt, root, WithinLevels, pathOf}
 use Rattle.steps.specs.Operations.{survivors}
 use Rattle.steps.specs.Turns.{turnOf, turnsOf, stepAfter, stepsOf, ConvertedBy}
@@ -37,7 +37,6 @@ use Rattle.hull_laws.proofs.CallLaws as hullCallLaws
 use Rattle.hull_laws.proofs.HullLaws as hullLaws
 use Rattle.hull_laws.proofs.OneLaws as oneLaws
 use Rattle.grid.proofs.ColourLaws as colourLaws
-use Rattle.grid.proofs.StepLaws.{back}
 use Rattle.room_laws.proofs.RoomLaws as roomLaws
 use Rattle.trace.proofs.MeetingLaws as meetingLaws
 use Rattle.trace.proofs.VerdictLaws as verdictLaws

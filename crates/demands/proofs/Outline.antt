@@ -18,7 +18,7 @@ use Rattle.panels.specs.Outline.{startedAt, backward}
 use Rattle.outline.specs.Outline.{walked, homeOf, OutlineIs}
 use Rattle.outline.specs.Call.{OutlineCall}
 use Rattle.outline.proofs.CallLaws as callLaws
-use Rattle.outline.proofs.Computed.{outlineOf}
+use Rattle.outline.specs.Computed.{outlineOf}
 use Rattle.outline_laws.specs.Different.{different}
 use Rattle.outline_laws.proofs.OutlineLaws as outlineLaws
 use Rattle.outline_laws.proofs.FewLaws as fewLaws

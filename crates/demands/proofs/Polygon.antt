@@ -11,11 +11,10 @@ use mathlib.Core.Bool.{false}
 use Rattle.answer.specs.declared.{Counted.Counted, Judged.Judged, Judged.the-variants.Good, Judged.the-variants.Refused, Refusal.Refusal}
 use Rattle.grid.specs.declared.Corner.{Corner}
 use Rattle.room.specs.Room.{asRoomJudged}
-use Rattle.polygon.specs.Coordinate.{coordinateOf, IsWhole}
+use Rattle.polygon.specs.Coordinate.{coordinateOf, IsWhole, Exact}
 use Rattle.polygon.specs.Polygon.{bendsOf, pointsOf, polygonOf, PolygonCall}
 use Rattle.polygon.proofs.PolygonLaws as polygonLaws
 use Rattle.polygon_laws.specs.Points.{Bend}
-use Rattle.polygon_laws.proofs.PointLaws.{Exact}
 use Rattle.polygon_laws.proofs.PointLaws as pointLaws
 use Rattle.polygon_laws.proofs.ValueLaws as valueLaws
 use Rattle.demands.specs.GivenRoom.{GivenRoom, GivenPolygon}

@@ -25,7 +25,8 @@ use Rattle.hull.specs.Call.{faultAt, chainJudged, countedOf}
 use Rattle.room.specs.Room.{isRoom, asRoomJudged}
 use Rattle.room.proofs.RoomLaws.{isRoom-exactly, judged-many, judged-range, judged-fault, judged-room}
 use Rattle.polygon.specs.Polygon.{pointsOf, polygonOf, polygonJudged, PolygonCall}
-use Rattle.polygon_laws.proofs.PointLaws.{Exact, points-exact}
+use Rattle.polygon.specs.Coordinate.{Exact}
+use Rattle.polygon_laws.proofs.PointLaws.{points-exact}
 use Rattle.polygon_laws.proofs.WriteLaws.{room-drawable, polygon-few}
 use Rattle.answer.proofs.RefusalLaws.{orElse-good, orElse-right}
 use Rattle.answer.proofs.StartLaws.{fits-near, near-fits}

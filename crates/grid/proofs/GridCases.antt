@@ -4,7 +4,7 @@ use mathlib.Core.List.{[], _∷_}
 use mathlib.Core.Bool.{true, false}
 use mathlib.Core.Path.{_≡_, refl}
 use lib.IntN.{pos, negsuc}
-use Rattle.grid.specs.Grid.{corner, origin, cornersFrom, cornerAt, legsFrom, joins}
+use Rattle.grid.specs.Grid.{corner, origin, back, cornersFrom, cornerAt, legsFrom, joins}
 use Rattle.grid.specs.Tree.{root, halfOf, lineageOf, pathOf, slotOf, childWord}
 
 -- -1 is a child of 0
@@ -56,6 +56,10 @@ corners-of-a-walk = refl
 
 corner-at-four : cornerAt origin (0 ∷ 1 ∷ 2 ∷ 2 ∷ 3 ∷ []) 4 ≡ corner (negsuc 0) (pos 1)
 corner-at-four = refl
+
+-- the way back from each direction
+ways-back : back 0 ∷ back 1 ∷ back 2 ∷ back 3 ∷ [] ≡ 2 ∷ 3 ∷ 0 ∷ 1 ∷ []
+ways-back = refl
 
 -- a step has its two ends in either sense, and no other corner
 legs-of-a-walk : legsFrom origin (0 ∷ 2 ∷ []) ≡ (origin, corner (pos 1) (pos 0)) ∷ (corner (pos 1) (pos 0), origin) ∷ []

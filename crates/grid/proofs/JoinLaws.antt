@@ -5,9 +5,9 @@ use mathlib.Core.Logic.{_⊎_, ⊎-map}
 use mathlib.Core.Path.{_≡_, refl, ap, ap₂, sym, _∙_}
 use Prim.Native.Nat.{ℕ, _<_}
 use Rattle.grid.specs.declared.Corner.{Corner}
-use Rattle.grid.specs.Grid.{same, stepped, joins}
+use Rattle.grid.specs.Grid.{same, stepped, joins, back}
 use Rattle.grid.proofs.CornerLaws.{same-refl, same-sound}
-use Rattle.grid.proofs.StepLaws.{back, back-small, stepped-inj, stepped-back}
+use Rattle.grid.proofs.StepLaws.{back-small, stepped-inj, stepped-back}
 use Rattle.lists.proofs.GatherLaws.{and-left, and-right, or-cases}
 use Rattle.grid.proofs.GridCases as cases
 

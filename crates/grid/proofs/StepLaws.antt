@@ -8,14 +8,7 @@ use lib.IntN.{ℤ, pos, negsuc, natAbs, sucℤ, predℤ, suc-pred, pred-suc, pos
 use lib.ListN.{length, getD}
 use lib.Seq.{take-length}
 use Rattle.grid.specs.declared.Corner.{Corner}
-use Rattle.grid.specs.Grid.{corner, stepped, cornersFrom, endFrom, cornerAt}
-
--- the direction back
-abbrev pub back : ℕ → ℕ
-back zero = 2
-back (suc zero) = 3
-back (suc (suc zero)) = 0
-back (suc (suc (suc d))) = 1
+use Rattle.grid.specs.Grid.{corner, stepped, back, cornersFrom, endFrom, cornerAt}
 
 pub back-mod : (d : ℕ) → d < 4 → back d ≡ (d + 2) % 4
 back-mod zero h = refl

@@ -32,6 +32,13 @@ stepped (suc zero) c = corner (c .0) (sucℤ (c .1))
 stepped (suc (suc zero)) c = corner (predℤ (c .0)) (c .1)
 stepped (suc (suc (suc d))) c = corner (c .0) (predℤ (c .1))
 
+-- the direction back: west for east, south for north
+abbrev pub back : ℕ → ℕ
+back zero = 2
+back (suc zero) = 3
+back (suc (suc zero)) = 0
+back (suc (suc (suc d))) = 1
+
 -- what a step adds to x, and to y: where it leads from (0,0)
 abbrev pub eastOf : ℕ → ℤ
 eastOf d = stepped d origin .0

@@ -11,14 +11,7 @@ use native.Mathlib.Omega.{arith}
 use lib.IntN.{ℤ, pos, negsuc, negℤ, subℕ, _+ℤ_, _-ℤ_}
 use lib.Dec.{T, leb, ltb, leb→le, le→leb, ltb→lt, lt→ltb, nltb→le, nleb→lt}
 use lib.Signed.{_≤ℤ_, _<ℤ_, leZ, ltZ}
-
-abbrev pub up : ℤ → ℕ
-up (pos n) = n
-up (negsuc n) = 0
-
-abbrev pub dn : ℤ → ℕ
-dn (pos n) = 0
-dn (negsuc n) = suc n
+use Rattle.int_laws.specs.Signed.{up, dn}
 
 -- the order
 le-nat′ : (a b : ℤ) → T (leZ a b) → up a + dn b ≤ up b + dn a

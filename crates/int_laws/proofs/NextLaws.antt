@@ -8,7 +8,8 @@ use native.Mathlib.Omega.{arith}
 use lib.Dec.{T}
 use lib.IntN.{ℤ, pos, negsuc, sucℤ, predℤ, negℤ, natAbs, _+ℤ_, _-ℤ_, pred-suc, sucℤ-+ℤ, predℤ-+ℤ, +ℤ-invr}
 use lib.Signed.{_≤ℤ_, _<ℤ_, leZ, ltZ, yes-nonNeg, pos-natAbs}
-use Rattle.int_laws.proofs.LinearLaws.{up, dn, zarith, bal+, bal-, le-or-lt}
+use Rattle.int_laws.specs.Signed.{up, dn}
+use Rattle.int_laws.proofs.LinearLaws.{zarith, bal+, bal-, le-or-lt}
 use Rattle.int_laws.proofs.RangeLaws.{lt-true, lt-false}
 
 pub bal-suc : (z : ℤ) → up (sucℤ z) + dn z ≡ suc (dn (sucℤ z) + up z)

@@ -10,7 +10,8 @@ use mathlib.Core.Bool.{Bool, true, false, not}
 use lib.Dec.{T}
 use mir.Syntax.{Width}
 use mir.Val.{SFits, hbits}
-use Rattle.int_laws.proofs.LinearLaws.{up, dn, bal+}
+use Rattle.int_laws.specs.Signed.{up, dn}
+use Rattle.int_laws.proofs.LinearLaws.{bal+}
 
 pub abs-nat : (z : ℤ) → natAbs z ≡ up z + dn z
 abs-nat (pos n) = omega arith

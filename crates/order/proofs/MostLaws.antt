@@ -1,27 +1,27 @@
--- A bound on the bytes before a place, one place further.
+-- The greatest of some bytes: none is above it, and it is found one byte after the other.
 -- Assumes nothing.
-use mathlib.Core.Path.{_≡_, ap}
-use mathlib.Core.List.{List}
-use Prim.Native.Nat.{ℕ, _+_, _≤_, _<_, max}
+use mathlib.Core.Path.{_≡_, ap, sym, _∙_}
+use mathlib.Core.List.{List, [], _∷_}
+use Prim.Native.Nat.{ℕ, zero, suc, _+_, _≤_, _<_, max}
+use native.Mathlib.Numerals.{add-one}
 use native.Mathlib.Omega.{arith}
-use native.Mathlib.Decide.{decLt}
-use lib.ListN.{length, getD, List·getD-eq-default}
+use lib.ListN.{length, getD, drop, drop-of-length-le}
+use lib.Seq.{drop-cons}
+use Rattle.order.specs.Highest.{highestOf}
 
--- the next byte
-pub most-next : (bytes : List ℕ) (i m m′ : ℕ) → ((k : ℕ) → k < i → getD bytes k 0 ≤ m) → m′ ≡ max m (getD bytes i 0) → (k : ℕ) → k < i + 1 → getD bytes k 0 ≤ m′
-most-next bytes i m m′ f e k h = go (decLt k i)
-  where
-    go : Dec (k < i) → getD bytes k 0 ≤ m′
-    go (yes l) = omega (arith, f k l)
-    go (no l) = omega (arith, ap (λ (j : ℕ). getD bytes j 0) same)
-      where
-        same : k ≡ i
-        same = omega arith
+-- no byte is above it
+pub highest-most : (bytes : List ℕ) (k : ℕ) → getD bytes k 0 ≤ highestOf bytes
+highest-most [] k = omega arith
+highest-most (b ∷ bs) zero = omega arith
+highest-most (b ∷ bs) (suc k) = omega (arith, highest-most bs k)
 
--- all of them
-pub most-all : (bytes : List ℕ) (i m : ℕ) → length bytes ≤ i → ((k : ℕ) → k < i → getD bytes k 0 ≤ m) → (k : ℕ) → getD bytes k 0 ≤ m
-most-all bytes i m h f k = go (decLt k i)
+-- the greatest so far and those left give the whole, one byte further
+pub highest-next : (bytes : List ℕ) (i m m′ : ℕ) → i < length bytes → max m (highestOf (drop i bytes)) ≡ highestOf bytes → m′ ≡ max m (getD bytes i 0) → max m′ (highestOf (drop (i + 1) bytes)) ≡ highestOf bytes
+highest-next bytes i m m′ l h e = omega (arith, h, e, left)
   where
-    go : Dec (k < i) → getD bytes k 0 ≤ m
-    go (yes l) = f k l
-    go (no l) = omega (arith, List·getD-eq-default bytes 0 {n = k} (omega arith))
+    left : highestOf (drop i bytes) ≡ max (getD bytes i 0) (highestOf (drop (i + 1) bytes))
+    left = ap highestOf (drop-cons bytes i 0 l) ∙ ap (λ (j : ℕ). max (getD bytes i 0) (highestOf (drop j bytes))) (sym (add-one i))
+
+-- with none left it is the whole
+pub highest-end : (bytes : List ℕ) (i m : ℕ) → length bytes ≤ i → max m (highestOf (drop i bytes)) ≡ highestOf bytes → m ≡ highestOf bytes
+highest-end bytes i m l h = omega (arith, h, ap highestOf (drop-of-length-le bytes l))

@@ -1,7 +1,7 @@
-// The lesser and the greater of two numbers, a bound on bytes, and a number of 16 bits as a usize.
+// The lesser and the greater of two numbers, the greatest of some bytes, and a number of 16 bits as a usize.
 ghost use mathlib.Core.Path.{_≡_};
-ghost use Prim.Native.Nat.{ℕ, _≤_, _<_, min, max};
-ghost use lib.ListN.{getD};
+ghost use Prim.Native.Nat.{_<_, min, max};
+ghost use Rattle.order.specs.Highest.{highestOf};
 
 pub fn lesser(a: usize, b: usize) -> usize
     ensures { λ r. ⌜ r ≡ min a b ⌝ }
@@ -30,9 +30,9 @@ fn higher(x: u8, y: u8) -> u8
     x
 }
 
-// The greatest of the bytes, or 0: no byte is above it.
+// The greatest of the bytes, or 0.
 pub fn highest(bytes: &[u8]) -> u8
-    ensures { λ r. ⌜ ((k : ℕ) → getD (now (bytes .entry)) k 0 ≤ r) ⌝ }
+    ensures { λ r. ⌜ r ≡ highestOf (now (bytes .entry)) ⌝ }
 {
     let mut most = 0;
     let mut i = 0;

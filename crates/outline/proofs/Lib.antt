@@ -1,4 +1,3 @@
--- The outline computed, its cases, and that a refusal writes nothing.
-pub mod Computed
+-- Cases of the outline, and that a refusal writes nothing.
 pub mod OutlineCases
 pub mod CallLaws

@@ -8,7 +8,7 @@ use Rattle.grid.specs.Grid.{corner, origin}
 use Rattle.answer.specs.declared.{Judged.the-variants.Good, Judged.the-variants.Refused, Refusal.the-variants.StartRange, Refusal.the-variants.BadDigit, Refusal.the-variants.OutlineRoom}
 use Rattle.outline.specs.Outline.{walked, homeOf, onward, isDone}
 use Rattle.outline.specs.Call.{outlineJudged}
-use Rattle.outline.proofs.Computed.{outlineOf}
+use Rattle.outline.specs.Computed.{outlineOf}
 
 -- a walk without steps gives the empty outline
 of-no-step : outlineOf origin [] ≡ []

@@ -14,7 +14,7 @@ use Rattle.grid.specs.declared.Corner.{Corner}
 use Rattle.steps.specs.Turns.{writtenIf}
 use Rattle.hull.specs.Call.{chainJudged, hullJudged, countedOf}
 use Rattle.outline.specs.Call.{outlineRoomJudged, outlineJudged, OutlineCall}
-use Rattle.outline.proofs.Computed.{outlineOf}
+use Rattle.outline.specs.Computed.{outlineOf}
 use Rattle.outline_laws.proofs.OutlineLaws.{outlineOf-is, outlineIs-one}
 
 split : (a b c d : Judged) → firstOf (a ∷ b ∷ c ∷ d ∷ []) ≡ orElse (firstOf (a ∷ b ∷ c ∷ Good ∷ [])) d

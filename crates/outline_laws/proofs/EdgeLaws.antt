@@ -12,10 +12,10 @@ use lib.ListN.{length}
 use Rattle.lists.proofs.GatherLaws.{and-left, and-right}
 use Rattle.lists.proofs.FindLaws.{any-mem, any-some}
 use Rattle.grid.specs.declared.Corner.{Corner}
-use Rattle.grid.specs.Grid.{same, stepped, cornersFrom, legsFrom, joins}
+use Rattle.grid.specs.Grid.{same, stepped, cornersFrom, legsFrom, joins, back}
 use Rattle.grid.proofs.CornerLaws.{same-refl, same-sound}
 use Rattle.grid.proofs.JoinLaws.{joins-pair, joins-here, joins-there}
-use Rattle.grid.proofs.StepLaws.{back, back-small, stepped-back, stepped-inj}
+use Rattle.grid.proofs.StepLaws.{back-small, stepped-back, stepped-inj}
 use Rattle.outline.specs.Outline.{walked}
 
 -- some step leads from p to q or from q to p

@@ -10,7 +10,8 @@ use lib.IntN.{ℤ, pos, negsuc, sucℤ, predℤ, suc-pred, _-ℤ_}
 use lib.ListN.{length}
 use lib.Signed.{_≤ℤ_, _<ℤ_}
 use Rattle.answer.specs.Limits.{mostSteps}
-use Rattle.int_laws.proofs.LinearLaws.{up, dn, nat-eq, nat-lt, nat-le, bal-}
+use Rattle.int_laws.specs.Signed.{up, dn}
+use Rattle.int_laws.proofs.LinearLaws.{nat-eq, nat-lt, nat-le, bal-}
 use Rattle.grid.specs.declared.Corner.{Corner}
 use Rattle.grid.specs.Grid.{stepped, cornersFrom, endFrom}
 use Rattle.grid.proofs.StepLaws.{endFrom-mem}

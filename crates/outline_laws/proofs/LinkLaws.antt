@@ -14,10 +14,10 @@ use Rattle.lists.proofs.DistinctLaws.{mem-getD, getD-mem, distinct-getD}
 use Rattle.lists.proofs.FindLaws.{any-append, find-left, find-get, find-pos, bool-agree}
 use Rattle.lists.proofs.GatherLaws.{or-cases, add-cases, add-more, mem→any, distinct-add, gather-append}
 use Rattle.grid.specs.declared.Corner.{Corner}
-use Rattle.grid.specs.Grid.{origin, same, stepped, cornersFrom, endFrom, legsFrom, joins}
+use Rattle.grid.specs.Grid.{origin, same, stepped, cornersFrom, endFrom, legsFrom, joins, back}
 use Rattle.grid.proofs.CornerLaws.{same-refl, same-sound}
 use Rattle.grid.proofs.JoinLaws.{joins-pair}
-use Rattle.grid.proofs.StepLaws.{back, back-small, stepped-back, stepped-inj, stepped-ne, cornersFrom-snoc}
+use Rattle.grid.proofs.StepLaws.{back-small, stepped-back, stepped-inj, stepped-ne, cornersFrom-snoc}
 use Rattle.trace.specs.Meeting.{visitedOf}
 use Rattle.trace.proofs.VisitLaws.{visited-distinct, mem-visited}
 use Rattle.outline.specs.Outline.{walked}

@@ -14,7 +14,7 @@ use Rattle.grid.specs.declared.Corner.{Corner}
 use Rattle.grid.specs.Grid.{same, stepped, cornersFrom, endFrom}
 use Rattle.grid.proofs.CornerLaws.{same-refl, same-sound}
 use Rattle.outline.specs.Outline.{homeOf, firstWay, pathFromHome, lacks, isDone, OutlineIs}
-use Rattle.outline.proofs.Computed.{momentFrom, outlineOf}
+use Rattle.outline.specs.Computed.{momentFrom, outlineOf}
 use Rattle.outline_laws.proofs.OrbitLaws.{orbit, orbit-on}
 use Rattle.outline_laws.proofs.EdgeLaws.{Way}
 use Rattle.outline_laws.proofs.PathLaws.{next, On, next-on, length-path, path-ways}

@@ -9,8 +9,8 @@ use native.Mathlib.Omega.{arith}
 use lib.ListN.{length}
 use Rattle.lists.specs.Lists.{Distinct, zip}
 use Rattle.grid.specs.declared.Corner.{Corner}
-use Rattle.grid.specs.Grid.{stepped, cornersFrom, endFrom, legsFrom}
-use Rattle.grid.proofs.StepLaws.{back, stepped-back}
+use Rattle.grid.specs.Grid.{stepped, cornersFrom, endFrom, legsFrom, back}
+use Rattle.grid.proofs.StepLaws.{stepped-back}
 use Rattle.outline.specs.Outline.{walked, onward, pathFrom}
 use Rattle.outline_laws.proofs.OrbitLaws.{after, orbit, returns}
 use Rattle.outline_laws.proofs.TurnLaws.{onward-small, cameBy, turned}

@@ -11,9 +11,9 @@ use Rattle.lists.specs.Lists.{Distinct}
 use Rattle.lists.proofs.GatherLaws.{and-left, and-right}
 use Rattle.lists.proofs.FindLaws.{any-mem, any-some, bool-agree}
 use Rattle.grid.specs.declared.Corner.{Corner}
-use Rattle.grid.specs.Grid.{same, stepped, cornersFrom, endFrom, legsFrom}
+use Rattle.grid.specs.Grid.{same, stepped, cornersFrom, endFrom, legsFrom, back}
 use Rattle.grid.proofs.CornerLaws.{same-refl, same-sound}
-use Rattle.grid.proofs.StepLaws.{back, back-small, stepped-back, stepped-inj}
+use Rattle.grid.proofs.StepLaws.{back-small, stepped-back, stepped-inj}
 use Rattle.outline.specs.Outline.{walked, homeOf, firstWay, onward, pathFromHome, lacks, isDone}
 use Rattle.outline_laws.proofs.OrbitLaws.{after, orbit, after-suc, after-mem, mem-after, after-on, no-sooner, no-twice}
 use Rattle.outline_laws.proofs.EdgeLaws.{Way, Edge, along, walked-edge, edge-walked}

@@ -5,7 +5,8 @@ use mathlib.Core.Path.{_≡_, refl, sym, _∙_}
 use Prim.Native.Nat.{ℕ, _<_}
 use native.Mathlib.Omega.{arith}
 use Rattle.lists.proofs.FindLaws.{bool-agree}
-use Rattle.grid.proofs.StepLaws.{back, back-mod}
+use Rattle.grid.specs.Grid.{back}
+use Rattle.grid.proofs.StepLaws.{back-mod}
 use Rattle.steps.specs.Turns.{stepAfter}
 use Rattle.outline.specs.Outline.{onward}
 

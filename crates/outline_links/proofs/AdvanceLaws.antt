@@ -7,7 +7,7 @@ use Prim.Native.Nat.{ℕ, zero, suc, _+_, _-_, _*_}
 use native.Mathlib.Numerals.{add-one}
 use native.Mathlib.Omega.{arith}
 use lib.ListN.{getD, set}
-use Rattle.grid.proofs.StepLaws.{back}
+use Rattle.grid.specs.Grid.{back}
 use Rattle.outline_laws.specs.Keys.{keyAfter}
 use Rattle.outline_roster.specs.Tree.{Seated}
 use Rattle.outline_links.specs.Store.{StepLinked}

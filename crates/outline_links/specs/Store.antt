@@ -2,7 +2,7 @@
 use Rattle.answer.specs.Limits.{mostSteps}
 use Rattle.lists.specs.Lists.{_≡_, _⊎_, List, ℕ, suc, _+_, _*_, _<_, _≤_, length, getD}
 use lib.ListN.{set}
-use Rattle.grid.proofs.StepLaws.{back}
+use Rattle.grid.specs.Grid.{back}
 use Rattle.outline_roster.specs.Tree.{Tree, Seated}
 
 -- room for one more corner, and numbers that fit their words

@@ -9,7 +9,7 @@ ghost use mathlib.Core.Bool.{cond};
 ghost use Prim.Native.Nat.{_+_, _*_, _<_, _≤_};
 ghost use lib.Dec.{ltb};
 ghost use Rattle.grid.specs.declared.Corner.{Corner};
-ghost use Rattle.grid.proofs.StepLaws.{back};
+ghost use Rattle.grid.specs.Grid.{back};
 ghost use Rattle.outline_laws.specs.Keys.{columnRows, keyAfter};
 ghost use Rattle.outline_links.specs.Store.{StepLinked, RoomForMore};
 ghost use Rattle.outline_links.specs.Built.{Blank, Built};

@@ -25,7 +25,7 @@ use Rattle.outline_laws.proofs.TurnLaws.{stepAfter-lt}
 use Rattle.trace.specs.Meeting.{visitedOf}
 use Rattle.trace.proofs.VisitLaws.{mem-visited, visited-distinct, length-visited-le}
 use Rattle.outline.specs.Outline.{walked, homeOf, firstWay, onward, pathFromHome}
-use Rattle.outline.proofs.Computed.{outlineOf}
+use Rattle.outline.specs.Computed.{outlineOf}
 use Rattle.outline_laws.proofs.EdgeLaws.{Way, walked-visited}
 use Rattle.outline_laws.proofs.OrbitLaws.{after, orbit, after-suc, orbit-snoc, after-on, no-sooner}
 use Rattle.outline_laws.proofs.PathLaws.{next, On, next-on, length-path, dirs, path-dirs}

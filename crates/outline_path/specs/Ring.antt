@@ -3,7 +3,7 @@ use Rattle.answer.specs.Limits.{mostSteps}
 use Rattle.lists.specs.Lists.{_≡_, Bool, List, ℕ, suc, _+_, _*_, _<_, _≤_, ltb, length, getD, drop, _++_}
 use Rattle.grid.specs.declared.Corner.{Corner}
 use Rattle.outline.specs.Outline.{firstWay}
-use Rattle.outline.proofs.Computed.{outlineOf}
+use Rattle.outline.specs.Computed.{outlineOf}
 use Rattle.outline_links.specs.Built.{Built}
 
 -- the edges of corner i were walked

@@ -13,10 +13,10 @@ use lib.ListN.{length, getD, take, drop, length-append, length-drop, List·getD-
 use lib.Seq.{ext-getD, length-take-le, getD-take, getD-drop, getD-append-add, getD-append-seam}
 use Rattle.area_laws.proofs.OutlineLaws.{length-backward}
 use Rattle.grid.specs.declared.Corner.{Corner}
-use Rattle.grid.proofs.StepLaws.{back}
+use Rattle.grid.specs.Grid.{back}
 use Rattle.panels.specs.Outline.{startedAt, backward}
 use Rattle.outline.specs.Outline.{homeOf, pathFromHome, OutlineIs}
-use Rattle.outline.proofs.Computed.{outlineOf}
+use Rattle.outline.specs.Computed.{outlineOf}
 use Rattle.outline_laws.proofs.OrbitLaws.{after, orbit, after-suc, no-sooner}
 use Rattle.outline_laws.proofs.EdgeLaws.{Way}
 use Rattle.outline_laws.proofs.PathLaws.{next, dirs, path-dirs}

@@ -12,8 +12,8 @@ use Rattle.lists.specs.Lists.{Below}
 use Rattle.lists.proofs.BelowLaws.{below-getD}
 use Rattle.lists.proofs.DistinctLaws.{getD-mem}
 use Rattle.grid.specs.declared.Corner.{Corner}
-use Rattle.grid.specs.Grid.{stepped, cornersFrom, cornerAt, legsFrom}
-use Rattle.grid.proofs.StepLaws.{back, back-mod, back-small, stepped-back, stepped-inj, cornersFrom-at, length-cornersFrom, cornerAt-end, back-back}
+use Rattle.grid.specs.Grid.{stepped, cornersFrom, cornerAt, legsFrom, back}
+use Rattle.grid.proofs.StepLaws.{back-mod, back-small, stepped-back, stepped-inj, cornersFrom-at, length-cornersFrom, cornerAt-end, back-back}
 use Rattle.steps.specs.Turns.{turnOf, stepAfter}
 use Rattle.trace.specs.Verdict.{IsRoom}
 use Rattle.panels.specs.Outline.{startedAt, backward}

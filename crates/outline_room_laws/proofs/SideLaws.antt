@@ -7,8 +7,8 @@ use mathlib.Core.Path.{_≡_, refl, ap, ap₂, sym, _∙_, subst}
 use Prim.Native.Nat.{ℕ, _<_}
 use Rattle.lists.specs.Lists.{Below}
 use Rattle.grid.specs.declared.{Corner.Corner, Panel.Panel}
-use Rattle.grid.specs.Grid.{stepped, legsFrom}
-use Rattle.grid.proofs.StepLaws.{back, back-small, stepped-back, stepped-inj}
+use Rattle.grid.specs.Grid.{stepped, legsFrom, back}
+use Rattle.grid.proofs.StepLaws.{back-small, stepped-back, stepped-inj}
 use Rattle.trace.specs.Verdict.{IsRoom}
 use Rattle.panels.specs.Inside.{Inside, leftOf, rightOf, EachStep}
 use Rattle.room_laws.proofs.CornerLaws.{left-back, right-back}

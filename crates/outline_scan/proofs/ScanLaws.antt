@@ -16,7 +16,7 @@ use Rattle.hull.specs.Call.{chainJudged, countedOf}
 use Rattle.hull_laws.proofs.CallLaws as hulls
 use Rattle.hull_laws.proofs.SurveyLaws.{good-digits, good-short}
 use Rattle.outline.specs.Call.{outlineRoomJudged, outlineJudged, OutlineCall}
-use Rattle.outline.proofs.Computed.{outlineOf}
+use Rattle.outline.specs.Computed.{outlineOf}
 use Rattle.outline_laws.proofs.OutlineLaws.{outlineOf-is}
 use Rattle.outline_laws.proofs.CallLaws.{judged-last}
 use Rattle.outline_links.specs.Built.{Blank}

@@ -6,7 +6,7 @@ use Rattle.answer.specs.Limits.{mostSteps}
 use Rattle.steps.specs.Turns.{writtenIf}
 use Rattle.hull.specs.Call.{countedOf}
 use Rattle.outline.specs.Call.{outlineRoomJudged}
-use Rattle.outline.proofs.Computed.{outlineOf}
+use Rattle.outline.specs.Computed.{outlineOf}
 
 -- steps that are not refused
 pub record Steady (chain : List ℕ) : Type 0 where

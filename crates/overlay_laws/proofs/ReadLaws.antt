@@ -9,7 +9,8 @@ use borrow.Author.Tests.{ltb-false, le-ltb}
 use lib.Dec.{ltb}
 use lib.IntN.{ℤ, pos, negsuc, predℤ, natAbs, _+ℤ_, _-ℤ_}
 use lib.ListN.{length, getD}
-use Rattle.int_laws.proofs.LinearLaws.{zarith, up, dn, bal+, bal-}
+use Rattle.int_laws.specs.Signed.{up, dn}
+use Rattle.int_laws.proofs.LinearLaws.{zarith, bal+, bal-}
 use Rattle.int_laws.proofs.NextLaws.{bal-pred}
 use Rattle.int_laws.proofs.RangeLaws.{abs-nat}
 use Rattle.lists.specs.Lists.{tally, count, Below}

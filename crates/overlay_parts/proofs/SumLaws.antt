@@ -12,7 +12,8 @@ use lib.Signed.{_≤ℤ_, nonNeg, yes-nonNeg}
 use mir.Syntax.{w32, w64}
 use mir.Val.{SFits, Fits, toZ, ofZ}
 use mir.Facts.{toZ-ofZ}
-use Rattle.int_laws.proofs.LinearLaws.{zarith, up, dn, bal-, nat-le}
+use Rattle.int_laws.specs.Signed.{up, dn}
+use Rattle.int_laws.proofs.LinearLaws.{zarith, bal-, nat-le}
 use Rattle.int_laws.proofs.NextLaws.{bal-suc}
 use Rattle.int_laws.proofs.RangeLaws.{abs-nat, abs-, sfits-abs}
 use Rattle.row_call.specs.Rows.{Span, InOrder, spanNumbers, lengthsOf}

@@ -14,7 +14,7 @@ ghost use Rattle.overlay.specs.declared.Part.the-variants.{First, Second, Both}
 ghost use Rattle.overlay.specs.Call.{ofParts};
 ghost use Rattle.overlay_parts.specs.Parts.{Spanned, partSpans, Ordered, Summed, PartDone, PartsCall};
 
-// How many panels there are from the first to the last.
+// How many panels a row has from its column `first` to its column `last`.
 fn long(first: i32, last: i32) -> usize
     requires { ⌜ first ≤ℤ last ⌝ }
     ensures { λ r. ⌜ (r ≡ natAbs (sucℤ last -ℤ first)) × (r ≤ 4294967297) ⌝ }

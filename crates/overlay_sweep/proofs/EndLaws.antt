@@ -5,7 +5,7 @@ use mathlib.Core.List.{List}
 use mathlib.Core.Path.{_≡_, sym, ap, ap₂, _∙_, subst}
 use Prim.Native.Nat.{ℕ, _+_, _-_, _*_, _/_, _%_, _<_, _≤_}
 use native.Mathlib.Omega.{arith}
-use lib.IntN.{ℤ, pos, natAbs, _+ℤ_}
+use lib.IntN.{ℤ, pos, natAbs}
 use lib.ListN.{length, getD}
 use lib.Seq.{sets}
 use lib.Signed.{ltZ, _<ℤ_}
@@ -17,7 +17,7 @@ use Rattle.int_laws.proofs.LinearLaws.{zarith}
 use Rattle.int_laws.proofs.NextLaws.{false-lt}
 use Rattle.int_laws.proofs.RangeLaws.{abs+, sfits-abs, lt-true, lt-false}
 use Rattle.grid.specs.declared.Corner.{Corner}
-use Rattle.grid.specs.Grid.{corner, eqZ}
+use Rattle.grid.specs.Grid.{eqZ}
 use Rattle.grid.proofs.CornerLaws.{eqZ-refl, eqZ-not}
 use Rattle.row_laws.specs.Feet.{ahead}
 use Rattle.overlay.specs.declared.Part.{Part}
@@ -32,10 +32,6 @@ short-back z h = toZ-ofZ (sfits-abs w16 z (omega (arith, h)))
 
 pub long-back : (z : ℤ) → natAbs z ≤ 65536 → toZ w32 (ofZ w32 z) ≡ z
 long-back z h = toZ-ofZ (sfits-abs w32 z (omega (arith, h)))
-
--- an end by its coordinates
-pub end-is : (list : List ℤ) (i : ℕ) (x y : ℤ) → x ≡ getD list (3 * (i / 2) + 1 + i % 2) (pos 0) +ℤ pos (i % 2) → y ≡ getD list (3 * (i / 2)) (pos 0) → corner x y ≡ endAt list i
-end-is list i x y e f = ap₂ corner e f
 
 end-small : (list : List ℤ) (n i : ℕ) → Numbers list n → i < n → natAbs (endAt list i .0) ≤ farthest
 end-small list n i h l = omega (arith, abs+ (getD list (3 * (i / 2) + 1 + i % 2) (pos 0)) (pos (i % 2)), h .small (3 * (i / 2) + 1 + i % 2) (omega (arith, h .even)))

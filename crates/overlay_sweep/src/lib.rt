@@ -1,13 +1,16 @@
 // Sweeps over two lists of spans at once, from end to end of the spans of either, and writes the spans of a part.
 use grid::Corner;
+use grid::Panel;
 use overlay::Part;
 ghost use mathlib.Core.Path.{_≡_};
 ghost use mathlib.Core.Bool.{cond};
+ghost use mathlib.Core.List.{[], _∷_};
 ghost use Prim.Native.Nat.{_+_, _*_, _%_, _<_, _≤_};
 ghost use lib.IntN.{pos, natAbs, _+ℤ_, predℤ};
 ghost use lib.ListN.{length, set};
 ghost use lib.Seq.{sets};
 ghost use Rattle.answer.specs.Limits.{mostSteps, farthest};
+ghost use Rattle.grid.specs.Grid.{corner, panelAt};
 ghost use Rattle.lists.specs.Lists.{tally};
 ghost use Rattle.row_laws.specs.Feet.{ahead};
 ghost use Rattle.overlay_laws.specs.Sweep.{partHas, endAt, odd, edgeBy, partNumbers, Numbers, Comes};
@@ -20,12 +23,22 @@ fn wider(x: i16) -> i32
     x as i32
 }
 
-// The x of the end at place i: every other end is one past a panel.
+// The x of the end at place i, by that of its panel: every other end is one past a panel.
 fn past(x: i32, i: usize) -> i32
     requires { ⌜ natAbs x ≤ 32767 ⌝ }
     ensures { λ r. ⌜ r ≡ x +ℤ pos (i % 2) ⌝ }
 {
     x + (i % 2) as i32
+}
+
+// The lower end of the edge before the panel p, or at every other place of the edge behind it.
+fn foot(p: Panel, i: usize) -> Corner
+    requires { ⌜ natAbs (p .0) ≤ 32767 ⌝ }
+    ensures { λ r. ⌜ r ≡ corner (p .0 +ℤ pos (i % 2)) (p .1) ⌝ }
+{
+    let x = past(p.0, i);
+    let y = p.1;
+    Corner(x, y)
 }
 
 // The end at place i of the first list, if it is there.
@@ -38,8 +51,8 @@ fn first_end(list: &[i16], n: usize, i: usize) -> Corner
     }
     let row = 3 * (i / 2);
     let y = wider(list[row]);
-    let x = past(wider(list[row + 1 + i % 2]), i);
-    Corner(x, y)
+    let x = wider(list[row + 1 + i % 2]);
+    foot(Panel(x, y), i)
 }
 
 // The end at place i of the second list, if it is there.
@@ -52,8 +65,8 @@ fn second_end(list: &[i32], n: usize, i: usize) -> Corner
     }
     let row = 3 * (i / 2);
     let y = list[row];
-    let x = past(list[row + 1 + i % 2], i);
-    Corner(x, y)
+    let x = list[row + 1 + i % 2];
+    foot(Panel(x, y), i)
 }
 
 // Whether p is further south than q, or in one row further west.
@@ -125,12 +138,47 @@ fn put(out: &mut [i32], o: usize, v: i32)
     }
 }
 
-// The panel before x.
+// The column before x.
 fn less(x: i32) -> i32
     requires { ⌜ natAbs x ≤ farthest ⌝ }
     ensures { λ r. ⌜ r ≡ predℤ x ⌝ }
 {
     x - 1
+}
+
+// The panel before the edge whose lower end is `at`.
+fn panel_before(at: Corner) -> Panel
+    requires { ⌜ natAbs (at .0) ≤ farthest ⌝ }
+    ensures { λ r. ⌜ r ≡ panelAt (corner (predℤ (at .0)) (at .1)) ⌝ }
+{
+    let x = less(at.0);
+    let y = at.1;
+    Panel(x, y)
+}
+
+// The panel behind it.
+fn panel_behind(at: Corner) -> Panel
+    ensures { λ r. ⌜ r ≡ panelAt at ⌝ }
+{
+    let x = at.0;
+    let y = at.1;
+    Panel(x, y)
+}
+
+// Writes the row and the column of the panel that a span begins with, as far as there is room.
+fn put_first(out: &mut [i32], o: usize, first: Panel)
+    requires { ⌜ o ≤ 4 * mostSteps ⌝ }
+    ensures { λ _. ⌜ now (out .exit) ≡ sets (now (out .entry)) o (first .1 ∷ first .0 ∷ []) ⌝ }
+{
+    put(out, o, first.1);
+    put(out, o + 1, first.0);
+}
+
+// Writes the column of the panel that it ends with.
+fn put_last(out: &mut [i32], o: usize, last: Panel)
+    ensures { λ _. ⌜ now (out .exit) ≡ sets (now (out .entry)) o (last .0 ∷ []) ⌝ }
+{
+    put(out, o, last.0);
 }
 
 // Writes the end of a part as number o where the part begins or ends, as far as there is room, and answers which number comes next.
@@ -142,12 +190,11 @@ fn put_end(out: &mut [i32], o: usize, was: bool, is: bool, at: Corner) -> usize
         if is {
             return o;
         }
-        put(out, o, less(at.0));
+        put_last(out, o, panel_before(at));
         return o + 1;
     }
     if is {
-        put(out, o, at.1);
-        put(out, o + 1, at.0);
+        put_first(out, o, panel_behind(at));
         return o + 2;
     }
     o

@@ -1,6 +1,6 @@
 -- An outline turned, mirrored, walked from another of its corners, and walked backwards (RULES 1.10). Assumes nothing.
 use Rattle.lists.specs.Lists.{List, [], _∷_, _++_, take, drop, ℕ, zero, suc}
-use Rattle.grid.proofs.StepLaws.{back}
+use Rattle.grid.specs.Grid.{back}
 
 -- a quarter turn to the left: east to north, north to west, west to south, south to east
 abbrev pub turned : ℕ → ℕ

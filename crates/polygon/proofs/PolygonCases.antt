@@ -8,7 +8,7 @@ use Rattle.grid.specs.Grid.{corner}
 use Rattle.answer.specs.declared.Judged.the-variants.{Good, Refused}
 use Rattle.answer.specs.declared.Refusal.the-variants.{NotRoom, PolygonRoom}
 use Rattle.polygon.specs.Bytes.{bytesOf}
-use Rattle.polygon.specs.Coordinate.{coordinateOf}
+use Rattle.polygon.specs.Coordinate.{coordinateOf, IsWhole, Exact}
 use Rattle.polygon.specs.Polygon.{coordinateBytes, pointBytes, pointsBytes, polygonBytes, polygonOf, pointsOf, polygonJudged}
 
 -- 600.0, the lowest byte first
@@ -25,6 +25,11 @@ one-panel-west = refl
 zero-is-plus : coordinateBytes (pos 0) ≡ 0 ∷ 0 ∷ 0 ∷ 0 ∷ 0 ∷ 0 ∷ 0 ∷ 0 ∷ []
 unfolding coordinateBytes coordinateOf bytesOf ofInt toBits
 zero-is-plus = refl
+
+-- (-1,2) is -600 and 1,200 millimetres exactly
+west-and-north : Exact (corner (negsuc 0) (pos 2))
+unfolding coordinateOf IsWhole ofInt
+west-and-north = ((600, refl, refl), (1200, refl, refl))
 
 -- 16,386 points: the lowest byte first
 count-of-points : bytesOf 4 16386 ≡ 2 ∷ 64 ∷ 0 ∷ 0 ∷ []

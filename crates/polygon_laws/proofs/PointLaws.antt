@@ -7,14 +7,14 @@ use mathlib.Core.Path.{_≡_, refl, sym, ap, _∙_, subst}
 use Prim.Native.Nat.{ℕ, zero, suc, _+_, _≤_, _<_}
 use native.Mathlib.Omega.{arith}
 use borrow.Author.Tests.{eq-eqb, ne-eqb}
-use lib.IntN.{pos, natAbs, _*ℤ_}
+use lib.IntN.{natAbs}
 use lib.ListN.{length, take, getD, length-take}
 use Rattle.answer.specs.Limits.{farthest}
 use Rattle.grid.specs.declared.Corner.{Corner}
 use Rattle.grid.specs.Grid.{stepped, cornerAt}
 use Rattle.grid.proofs.BoundLaws.{endFrom-bound}
 use Rattle.steps.specs.Turns.{turnOf}
-use Rattle.polygon.specs.Coordinate.{scale, coordinateOf, IsWhole}
+use Rattle.polygon.specs.Coordinate.{Exact}
 use Rattle.polygon.specs.Polygon.{bends, bendsFrom, bendsOf, pointsOf}
 use Rattle.polygon_laws.specs.Bends.{Drawable}
 use Rattle.polygon_laws.specs.Points.{Bend}
@@ -76,10 +76,6 @@ bends-exactly s (d ∷ ds) p = (
 
 near-at : (s : Corner) (ds : List ℕ) (k : ℕ) → (natAbs (cornerAt s ds k .0) ≤ natAbs (s .0) + length ds) × (natAbs (cornerAt s ds k .1) ≤ natAbs (s .1) + length ds)
 near-at s ds k = let h = endFrom-bound (take k ds) s in (omega (arith, h .0, length-take k ds), omega (arith, h .1, length-take k ds))
-
--- both coordinates of a point are written exactly
-abbrev pub Exact : Corner → Type 0
-Exact p = IsWhole (coordinateOf (p .0)) (pos scale *ℤ p .0) × IsWhole (coordinateOf (p .1)) (pos scale *ℤ p .1)
 
 near-exact : (p : Corner) → natAbs (p .0) ≤ farthest → natAbs (p .1) ≤ farthest → Exact p
 near-exact p h k = (exact (p .0) h, exact (p .1) k)

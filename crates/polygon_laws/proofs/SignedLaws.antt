@@ -21,7 +21,7 @@ scaled-fits (negsuc n) h =
     let m : mag (negℤ (pos (600 * suc n))) ≤ 19660800 = mag-neg (600 * suc n) 19660800 (omega arith) in
     subst (SFits w32) (sym (pos-*ℤ-negsuc 600 n)) (record { sfits = omega arith })
 
-small-fits : (z : ℤ) → natAbs z ≤ farthest → SFits w32 z
+pub small-fits : (z : ℤ) → natAbs z ≤ farthest → SFits w32 z
 small-fits (pos n) h = record { sfits = omega arith }
 small-fits (negsuc n) h = record { sfits = omega arith }
 

@@ -17,7 +17,7 @@ ghost use Rattle.polygon.specs.Polygon.{pointBytes, pointsBytes, prefix, bends,
 ghost use Rattle.polygon_laws.specs.Bends.{Drawable, turning, pointLaid};
 
 // 600 times x, exactly.
-pub fn millimetres(x: i32) -> f64
+fn millimetres(x: i32) -> f64
     requires { ⌜ natAbs x ≤ farthest ⌝ }
     ensures { λ r. ⌜ r ≡ coordinateOf x ⌝ }
 {

@@ -2,9 +2,9 @@
 pub mod NumberLaws
 pub mod WholeLaws
 pub mod BitsLaws
-pub mod SignLaws
 pub mod TakeLaws
-pub mod NearestLaws
+pub mod SignLaws
+pub mod FieldLaws
 pub mod AxisLaws
 pub mod RingLaws
 pub mod ReadLaws

@@ -22,7 +22,7 @@ use Rattle.polygon_ring.specs.Ring.{both, mostAt, pointIn, pointAt, pointsFrom,
 use Rattle.polygon_laws.proofs.SignedLaws.{back}
 use Rattle.polygon_ring_laws.specs.Reading.{gridPointOf}
 use Rattle.polygon_ring_laws.specs.Files.{xAt, yAt, IsPoint}
-use Rattle.polygon_ring_laws.specs.Nearest.{IsAccepted}
+use Rattle.polygon_ring_laws.specs.Fields.{IsAccepted}
 use Rattle.polygon_ring_laws.proofs.TakeLaws.{accepted, accepted-value, accepts}
 use Rattle.polygon_ring.specs.declared.{GridPoint.GridPoint, GridPoint.the-variants.At, GridPoint.the-variants.Faulty, Whole.Whole, Whole.the-variants.Of, Whole.the-variants.Refused}
 

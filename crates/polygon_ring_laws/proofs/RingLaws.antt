@@ -7,8 +7,8 @@ use Prim.Native.Nat.{ℕ, zero, suc, _+_, _-_, _*_, _/_, _%_, _≤_, _<_}
 use native.Mathlib.Omega.{arith}
 use native.Mathlib.Numerals.{add-one}
 use borrow.Author.Tests.{eqb-true, eq-eqb, ne-eqb, ltb-true, ltb-false, lt-ltb, le-ltb, leb-true}
-use lib.Dec.{eqb, ltb, leb}
-use lib.Ieee.{Float, binary64, ofBits}
+use lib.Dec.{T, eqb, ltb, leb}
+use lib.Ieee.{Float, binary64, ofBits, isNan}
 use lib.ListN.{length, take, drop, replicate, set, getD, length-append, length-drop, length-take, length-replicate}
 use Rattle.lists.specs.Lists.{any}
 use Rattle.lists.proofs.GatherLaws.{and-left}
@@ -21,13 +21,21 @@ use Rattle.polygon_ring.specs.Ring.{both, mostAt, pointIn, pointAt, pointsFrom,
 use Rattle.polygon_ring_laws.specs.Reading.{PointFits, PointIs, ringFrom, capped}
 use Rattle.polygon_laws.proofs.BytesLaws.{Laid, laid-more, laid-last, Laying, laying-first, laying-more, laying-last, over-lent, part}
 use Rattle.polygon_ring_laws.proofs.TakeLaws.{accepted}
+use Rattle.polygon_ring_laws.proofs.FieldLaws.{kept-whole, kept-number}
 use Rattle.polygon_ring.specs.declared.{Point.Point, GridPoint.GridPoint, Whole.Whole, Whole.the-variants.Of, Whole.the-variants.Refused}
 
 -- ---- one point
 
 pub point-is : (most : ℕ) (little : Bool) (s : List ℕ) (j : GridPoint) (p : Point) → PointIs little s p → j ≡ both (wholeOf most (p .x)) (wholeOf most (p .y)) → j ≡ pointIn most little s
 unfolding pointIn
-point-is most little s j p q e = e ∙ ap₂ (λ (x y : Float). both (wholeOf most x) (wholeOf most y)) (q .x) (q .y)
+point-is most little s j p q e = e ∙ ap₂ both (ap (wholeOf most) (q .x) ∙ kept-whole most (numberIn little (take 8 s))) (ap (wholeOf most) (q .y) ∙ kept-whole most (numberIn little (take 8 (drop 8 s))))
+
+-- a point that is kept can be judged
+pub point-numbers : (little : Bool) (s : List ℕ) (p : Point) → PointIs little s p → T (not (isNan (p .x))) × T (not (isNan (p .y)))
+point-numbers little s p q = (
+  subst (λ (x : Float). T (not (isNan x))) (sym (q .x)) (kept-number (numberIn little (take 8 s))),
+  subst (λ (x : Float). T (not (isNan x))) (sym (q .y)) (kept-number (numberIn little (take 8 (drop 8 s)))),
+)
 
 pub first-is : (little : Bool) (s : List ℕ) → pointIn mostStart little s ≡ pointAt little s 0
 unfolding pointAt

@@ -9,7 +9,8 @@ use lib.IntN.{ℤ, pos, negℤ, sucℤ, predℤ, natAbs, _+ℤ_, _-ℤ_}
 use lib.ListN.{replicate}
 use lib.Signed.{_<ℤ_, ltZ}
 use Rattle.int_laws.proofs.NextLaws.{bal-suc, bal-pred}
-use Rattle.int_laws.proofs.LinearLaws.{up, dn, nat-lt, nat-eq, eq-nat, bal+, bal-, up-neg, dn-neg, zarith}
+use Rattle.int_laws.specs.Signed.{up, dn}
+use Rattle.int_laws.proofs.LinearLaws.{nat-lt, nat-eq, eq-nat, bal+, bal-, up-neg, dn-neg, zarith}
 use Rattle.int_laws.proofs.RangeLaws.{abs-neg, lt-true}
 use Rattle.grid.specs.declared.Corner.{Corner}
 use Rattle.grid.specs.Grid.{corner, eqZ, stepped, endFrom}

@@ -29,7 +29,7 @@ use Rattle.polygon_ring_laws.proofs.WholeLaws.{wholeOf-coordinateOf, wh
 use Rattle.grid.specs.declared.Corner.{Corner}
 use Rattle.polygon_ring.specs.declared.Whole.the-variants.{Of, Refused}
 
-natAbs-signed : (s : Bool) (n : ℕ) → natAbs (signed s n) ≡ n
+pub natAbs-signed : (s : Bool) (n : ℕ) → natAbs (signed s n) ≡ n
 natAbs-signed true zero = refl
 natAbs-signed true (suc n) = refl
 natAbs-signed false n = refl

@@ -1,14 +1,14 @@
 -- The coordinate of a float goes by its value, and that of a coordinate's float is the coordinate.
 -- Assumes nothing.
 use mathlib.Core.Path.{_≡_, refl, sym, ap, _∙_, subst}
-use mathlib.Core.Bool.{Bool, false, not, _&&_}
+use mathlib.Core.Bool.{Bool, _&&_}
 use Prim.Native.Nat.{ℕ, zero, suc, _+_, _*_, _/_, _%_, _≤_, _<_}
 use native.Mathlib.Nat.{mul-comm, mul-left-comm, mul-right-comm, mul-pos, mul-div-cancel, mul-mod-left, zero-lt-suc, lt-irrefl, add-mul, div-add-mod', zero-mul}
 use native.Mathlib.Omega.{arith}
 use borrow.Author.Tests.{le-leb}
-use lib.Dec.{T, eqb, leb, eqb·suc-zero}
+use lib.Dec.{eqb, leb, eqb·suc-zero}
 use lib.IntN.{ℤ, pos, negsuc, negℤ, natAbs, _*ℤ_, pos-*ℤ-pos, pos-*ℤ-negsuc}
-use lib.Ieee.{Float, nan, inf, fin, binary64, up, down, ofInt, isNan, ne}
+use lib.Ieee.{Float, nan, inf, fin, binary64, up, down, ofInt}
 use lib.Ieee.Exact.{HasValue}
 use lib.Ieee.Fits.{down-pos}
 use lib.Ieee.Nearest.{div-same}
@@ -37,7 +37,7 @@ rest-same a b c d B D h =
     (ap (λ (z : ℕ). z * b * d) (div-same a b c d B D h) ∙ mul-right-comm (c / d) b d)
     h
 
-pub wholeAt-same : (most : ℕ) (s : Bool) (a c a′ c′ : ℕ) → 0 < c → 0 < c′ → a * c′ ≡ a′ * c → wholeAt most s a c ≡ wholeAt most s a′ c′
+wholeAt-same : (most : ℕ) (s : Bool) (a c a′ c′ : ℕ) → 0 < c → 0 < c′ → a * c′ ≡ a′ * c → wholeAt most s a c ≡ wholeAt most s a′ c′
 unfolding wholeAt
 wholeAt-same most s a c a′ c′ C C′ h =
     let b = scale * c in
@@ -50,7 +50,7 @@ wholeAt-same most s a c a′ c′ C C′ h =
     ap (λ (t : Bool). pick (t && leb (a / b) most) (Of (signed s (a / b))) Refused) z
     ∙ ap (λ (n : ℕ). pick (eqb (a′ % d) 0 && leb n most) (Of (signed s n)) Refused) q
 
-wholeOf-value : (most : ℕ) (x : Float) (s : Bool) (a c : ℕ) → 0 < c → HasValue x s a c → wholeOf most x ≡ wholeAt most s a c
+pub wholeOf-value : (most : ℕ) (x : Float) (s : Bool) (a c : ℕ) → 0 < c → HasValue x s a c → wholeOf most x ≡ wholeAt most s a c
 unfolding wholeOf
 wholeOf-value most nan s a c C v = absurd v
 wholeOf-value most (inf t) s a c C v = absurd v
@@ -67,7 +67,7 @@ wholeAt-multiple most s k c C h =
     ∙ ap (λ (n : ℕ). pick (leb n most) (Of (signed s n)) Refused) (mul-div-cancel k B)
     ∙ ap (λ (t : Bool). pick t (Of (signed s k)) Refused) (le-leb k most h)
 
-pub same-sign : (z : ℤ) → signed (isNeg (pos scale *ℤ z)) (natAbs z) ≡ z
+same-sign : (z : ℤ) → signed (isNeg (pos scale *ℤ z)) (natAbs z) ≡ z
 same-sign (pos n) = ap (λ (y : ℤ). signed (isNeg y) n) (pos-*ℤ-pos scale n)
 same-sign (negsuc n) = ap (λ (y : ℤ). signed (isNeg y) (suc n)) (pos-*ℤ-negsuc scale n ∙ ap (λ (k : ℕ). negℤ (pos k)) (more n))
   where
@@ -83,14 +83,3 @@ wholeOf-coordinateOf most z h m =
     ∙ ap (λ (n : ℕ). wholeAt most (isNeg y) n 1) (natAbs-scaled z ∙ mul-comm scale (natAbs z))
     ∙ wholeAt-multiple most (isNeg y) (natAbs z) 1 (zero-lt-suc 0) h
     ∙ ap Of (same-sign z)
-
--- ---- a test for a NaN
-pub not-nan : (x : Float) → ne x x ≡ false → T (not (isNan x))
-unfolding ne isNan
-not-nan nan h = let z : _≡_ {A = ℕ} 0 1 = cc in omega arith
-not-nan (inf s) h = tt
-not-nan (fin s m e) h = tt
-
-pub wholeOf-nan : (most : ℕ) → wholeOf most nan ≡ Refused
-unfolding wholeOf
-wholeOf-nan most = refl

@@ -2,12 +2,12 @@
 -- Assumes nothing.
 use Rattle.lists.specs.Lists.{_≡_, Bool, cond, not, List, [], _∷_, _++_, length, take, drop, ℕ, suc, _+_, _*_, _≤_, eqb, ltb, any, natAbs}
 use mathlib.Core.List.{map}
-use lib.Ieee.{binary64, ofBits}
 use Rattle.answer.specs.Limits.{mostSteps, farthest}
 use Rattle.answer.specs.Refusal.{when, orElse, firstOf}
 use Rattle.steps.specs.Turns.{writtenIf}
 use Rattle.grid.specs.declared.Corner.{Corner}
 use Rattle.polygon_ring.specs.Bytes.{numberIn}
+use Rattle.polygon_ring_laws.specs.Fields.{floatKept}
 use Rattle.polygon_ring.specs.Ring.{pointsFrom, isFaulty, cornerIn, isRing, lengthOf, chainOfPoints, countIn, pointsIn, givenOf}
 use Rattle.answer.specs.declared.{Judged.Judged, Refusal.the-variants.FileLength, Refusal.the-variants.BadCoordinate, Refusal.the-variants.BadRing, Refusal.the-variants.TooLong, Refusal.the-variants.ChainRoom}
 use Rattle.polygon_ring.specs.declared.{Point.Point, GridPoint.GridPoint, GridPoint.the-variants.At, Given.Given}
@@ -25,10 +25,10 @@ pub record PointFits (c : Corner) : Type 0 where
 abbrev pub gridPointOf : Corner → GridPoint
 gridPointOf c = At (c .0) (c .1)
 
--- the floats of the point at the start of these bytes
+-- the floats of the point at the start of these bytes, as they are kept
 pub record PointIs (little : Bool) (s : List ℕ) (p : Point) : Type 0 where
-  pub x : p .x ≡ ofBits binary64 (numberIn little (take 8 s))
-  pub y : p .y ≡ ofBits binary64 (numberIn little (take 8 (drop 8 s)))
+  pub x : p .x ≡ floatKept (numberIn little (take 8 s))
+  pub y : p .y ≡ floatKept (numberIn little (take 8 (drop 8 s)))
 
 -- the corners of n points, from point i on
 abbrev pub ringFrom : Bool → List ℕ → ℕ → ℕ → List Corner

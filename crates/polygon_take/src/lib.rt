@@ -2,21 +2,19 @@
 
 ghost use mathlib.Core.Path.{_≡_};
 ghost use mathlib.Core.Bool.{true, false, not};
-ghost use Prim.Native.Nat.{_+_, _*_, _≤_, _<_};
-ghost use lib.Dec.{T};
-ghost use lib.IntN.{pos, _-ℤ_};
+ghost use Prim.Native.Nat.{_*_, _^_, _≤_};
+ghost use lib.Dec.{T, eqb};
 ghost use lib.ListN.{length};
 ghost use lib.Ieee.{binary64, ofBits, isNan};
 ghost use Rattle.answer.specs.Limits.{farthest};
 ghost use Rattle.polygon_ring.specs.Bytes.{numberIn, startsWith};
-ghost use Rattle.polygon.specs.Bytes.{bytesOf};
+ghost use Rattle.polygon.specs.{Bytes.bytesOf, Coordinate.scale, Coordinate.signed as signedOf};
 ghost use Rattle.polygon_ring.specs.Coordinate.{wholeOf};
 ghost use Rattle.polygon_ring.specs.Ring.{both, orderOf, pointIn, cornerIn, isFaulty};
 ghost use Rattle.polygon_ring_laws.specs.Reading.{PointIs};
-ghost use Rattle.polygon_ring_laws.specs.Nearest.{NearestIs, IsAccepted};
+ghost use Rattle.polygon_ring_laws.specs.Fields.{floatKept, bitsKept, digitsIn, placesIn, inReach, panelsShown, IsAccepted};
 ghost use Rattle.polygon_ring.specs.declared.Whole.{Whole};
 use grid::Corner;
-use polygon_put::millimetres;
 use polygon_ring::GridPoint;
 use polygon_ring::Order;
 use polygon_ring::Point;
@@ -112,54 +110,91 @@ fn eight(s: &[u8], first_lowest: bool) -> u64
     if first_lowest { v } else { swapped(v) }
 }
 
-// The float with these bits, a NaN for each NaN's pattern.
-fn float_of(bits: u64) -> f64
-    ensures { λ r. ⌜ r ≡ ofBits binary64 bits ⌝ }
+// These bits, or those of an infinity if they are no number's.
+fn kept(bits: u64) -> u64
+    ensures { λ r. ⌜ r ≡ bitsKept bits ⌝ }
 {
-    if 0x7ff0_0000_0000_0000 < bits % 0x8000_0000_0000_0000 {
-        0.0 / 0.0
+    if 0x7ff0_0000_0000_0000 < bits % SIGN {
+        0x7ff0_0000_0000_0000
     } else {
-        f64::from_bits(bits)
+        bits
     }
 }
 
-// The only coordinate that x can be, counted from -32,768: the sum with 2^52 + 600 * 32,768 has its whole part in its lowest bits.
-fn nearest(x: f64) -> u64
-    requires { ⌜ T (not (isNan x)) ⌝ }
-    ensures { λ r. ⌜ NearestIs x r ⌝ }
+// The float with these bits, as it is kept: an infinity for what is no number.
+fn float_of(bits: u64) -> f64
+    ensures { λ r. ⌜ r ≡ floatKept bits ⌝ }
 {
-    f64::to_bits(x + 4_503_599_647_031_296.0) % 0x400_0000 / 600
+    f64::from_bits(kept(bits))
 }
 
-// How far the place that `nearest` counts from lies before 0.
-const SHIFT: i32 = Point::MOST as i32;
+// A float's bits: the highest is its sign, and under the next eleven, its exponent, stand the digits after the leading one.
+const SIGN: u64 = 0x8000_0000_0000_0000;
 
-// The coordinate u, counted from 0.
-fn centred(u: u64) -> i32
-    requires { ⌜ u < 131072 ⌝ }
-    ensures { λ r. ⌜ r ≡ pos u -ℤ pos farthest ⌝ }
+const LEAD: u64 = 0x10_0000_0000_0000;
+
+// The digits with the leading one.
+fn digits(size: u64) -> u64
+    ensures { λ r. ⌜ r ≡ digitsIn size ⌝ }
 {
-    (u as i32) - SHIFT
+    LEAD + size % LEAD
 }
 
-// The coordinate that x is.
+// Whether the exponent is one that 600 to 600 * 32,768 have.
+fn in_reach(size: u64) -> bool
+    ensures { λ r. ⌜ r ≡ inReach size ⌝ }
+{
+    let exponent = size / LEAD;
+    if exponent < 1032 {
+        return false;
+    }
+    exponent <= 1047
+}
+
+// How many panels the digits before the point hold.
+fn panels(size: u64) -> u64
+    requires { ⌜ inReach size ≡ true ⌝ }
+    ensures { λ r. ⌜ r ≡ panelsShown size ⌝ }
+{
+    (digits(size) >> (1075 - size / LEAD)) / 600
+}
+
+// Whether the panels that the digits hold have all of them.
+fn is_all(n: u64, size: u64) -> bool
+    requires { ⌜ (inReach size ≡ true) × (n ≡ panelsShown size) ⌝ }
+    ensures { λ r. ⌜ r ≡ eqb (scale * n * 2 ^ placesIn size) (digitsIn size) ⌝ }
+{
+    (600 * n) << (1075 - size / LEAD) == digits(size)
+}
+
+// The number n with a sign.
+fn signed(n: u64, below: bool) -> i32
+    requires { ⌜ n ≤ farthest ⌝ }
+    ensures { λ r. ⌜ r ≡ signedOf below n ⌝ }
+{
+    let k = n as i32;
+    if below { -k } else { k }
+}
+
+// The coordinate that x is: its bits are those of 600 times a whole number.
 fn whole_of(x: f64, most: u64) -> Whole
-    requires { ⌜ most ≤ farthest ⌝ }
+    requires { ⌜ (most ≤ farthest) × T (not (isNan x)) ⌝ }
     ensures { λ r. ⌜ r ≡ wholeOf most x ⌝ }
 {
-    if x != x {
+    let bits = f64::to_bits(x);
+    let size = bits % SIGN;
+    if size == 0 {
+        return Whole::Of(0);
+    }
+    if !in_reach(size) {
         return Whole::Refused;
     }
-    let u = nearest(x);
-    if u + most < Point::MOST {
+    let n = panels(size);
+    if most < n {
         return Whole::Refused;
     }
-    if Point::MOST + most < u {
-        return Whole::Refused;
-    }
-    let k = centred(u);
-    if millimetres(k) == x {
-        Whole::Of(k)
+    if is_all(n, size) {
+        Whole::Of(signed(n, SIGN <= bits))
     } else {
         Whole::Refused
     }
@@ -167,7 +202,7 @@ fn whole_of(x: f64, most: u64) -> Whole
 
 // What the point p is as a corner.
 pub fn judge(p: Point, most: u64) -> GridPoint
-    requires { ⌜ most ≤ farthest ⌝ }
+    requires { ⌜ (most ≤ farthest) × T (not (isNan (p .x))) × T (not (isNan (p .y))) ⌝ }
     ensures { λ r. ⌜ r ≡ both (wholeOf most (p .x)) (wholeOf most (p .y)) ⌝ }
 {
     match whole_of(p.x, most) {
@@ -194,7 +229,12 @@ fn known(s: &[u8], little: bool) -> i32
     requires { ⌜ (length (now s) ≡ 8) × IsAccepted (ofBits binary64 (numberIn «little» (now s))) ⌝ }
     ensures { λ r. ⌜ Whole.Of r ≡ wholeOf farthest (ofBits binary64 (numberIn «little» (now (s .entry)))) ⌝ }
 {
-    centred(nearest(f64::from_bits(eight(s, little))))
+    let bits = eight(s, little);
+    let unsigned = bits % SIGN;
+    if unsigned == 0 {
+        return 0;
+    }
+    signed(panels(unsigned), SIGN <= bits)
 }
 
 // The corner that the point at the start of s is, where it was accepted before.

@@ -12,9 +12,9 @@ use Rattle.int_laws.proofs.LinearLaws.{zarith, bal+, bal-}
 use Rattle.lists.specs.Lists.{tally, count}
 use Rattle.lists.proofs.FindLaws.{count-append}
 use Rattle.grid.specs.declared.{Corner.Corner, Panel.Panel}
-use Rattle.grid.specs.Grid.{panelAt, eqZ, same, stepped, endFrom}
+use Rattle.grid.specs.Grid.{panelAt, eqZ, same, stepped, endFrom, back}
 use Rattle.grid.proofs.CornerLaws.{eqZ-pred}
-use Rattle.grid.proofs.StepLaws.{back, stepped-back}
+use Rattle.grid.proofs.StepLaws.{stepped-back}
 use Rattle.panels.specs.Edges.{Edge, edgeOf, edgesFrom, beside, surplusOf}
 use Rattle.panels.specs.Inside.{leftOf, rightOf}
 use Rattle.room_laws.proofs.ShiftLaws.{beside-east, beside-west, beside-below}

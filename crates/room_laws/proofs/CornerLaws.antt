@@ -12,9 +12,9 @@ use lib.ListN.{length}
 use Rattle.lists.specs.Lists.{tally, Distinct}
 use Rattle.lists.proofs.FindLaws.{bool-agree}
 use Rattle.grid.specs.declared.{Corner.Corner, Panel.Panel}
-use Rattle.grid.specs.Grid.{corner, panelAt, same, stepped, cornersFrom, endFrom}
+use Rattle.grid.specs.Grid.{corner, panelAt, same, stepped, cornersFrom, endFrom, back}
 use Rattle.grid.proofs.CornerLaws.{same-sound, same-refl}
-use Rattle.grid.proofs.StepLaws.{back, stepped-back, stepped-ne, startFrom-mem, endFrom-mem}
+use Rattle.grid.proofs.StepLaws.{stepped-back, stepped-ne, startFrom-mem, endFrom-mem}
 use Rattle.panels.specs.Edges.{surplusOf}
 use Rattle.panels.specs.Inside.{leftOf, rightOf}
 use Rattle.room_laws.proofs.AcrossLaws.{along, walks, across}

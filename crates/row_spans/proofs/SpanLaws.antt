@@ -5,26 +5,30 @@ use mathlib.Core.List.{List, [], _∷_}
 use Prim.Native.Nat.{ℕ, suc, _+_, _<_, _≤_}
 use native.Mathlib.Omega.{arith}
 use lib.ListN.{set}
-use lib.IntN.{ℤ, pos, predℤ, natAbs, _+ℤ_, _-ℤ_, -ℤ-one}
+use lib.IntN.{ℤ, pos, natAbs, _+ℤ_, _-ℤ_}
 use Rattle.int_laws.proofs.LinearLaws.{zarith, bal+}
 use Rattle.int_laws.proofs.RangeLaws.{abs+, abs-}
 use Rattle.grid.specs.declared.Corner.{Corner}
-use Rattle.grid.specs.Grid.{corner}
+use Rattle.grid.specs.Grid.{corner, panelAt}
 use Rattle.answer.specs.Limits.{mostStart}
 use lib.Seq.{sets}
 
 -- three numbers in a row
-pub three-put : (l : List ℤ) (o : ℕ) (y′ a′ b′ y a b : ℤ) → y′ ≡ y → a′ ≡ a → b′ ≡ b -ℤ pos 1 → set (set (set l o y′) (o + 1) a′) (o + 2) b′ ≡ sets l o (y ∷ a ∷ predℤ b ∷ [])
+pub three-put : (l : List ℤ) (o : ℕ) (y′ a′ b′ y a b : ℤ) → y′ ≡ y → a′ ≡ a → b′ ≡ b → set (set (set l o y′) (o + 1) a′) (o + 2) b′ ≡ sets l o (y ∷ a ∷ b ∷ [])
 three-put l o y′ a′ b′ y a b e f g =
     ap₂ (λ (i j : ℕ). set (set (set l o y′) i a′) j b′) one two
     ∙ ap₂ (λ (u v : ℤ). set (set (set l o u) (suc o) v) (suc (suc o)) b′) e f
-    ∙ ap (λ (u : ℤ). set (set (set l o y) (suc o) a) (suc (suc o)) u) (g ∙ -ℤ-one b)
+    ∙ ap (λ (u : ℤ). set (set (set l o y) (suc o) a) (suc (suc o)) u) g
   where
     one : o + 1 ≡ suc o
     one = omega arith
 
     two : o + 2 ≡ suc (suc o)
     two = omega arith
+
+-- a panel by its numbers
+pub panel-is : (x′ y′ x y : ℤ) → x′ ≡ x → y′ ≡ y → panelAt (corner x′ y′) ≡ panelAt (corner x y)
+panel-is x′ y′ x y e f = ap₂ (λ (u v : ℤ). panelAt (corner u v)) e f
 
 -- where a row begins
 pub base-is : (c b : Corner) (m h : ℕ) → b ≡ corner ((c .0 -ℤ pos m) +ℤ pos 0) ((c .1 -ℤ pos m) +ℤ pos h) → b ≡ corner (c .0 -ℤ pos m) ((c .1 -ℤ pos m) +ℤ pos h)

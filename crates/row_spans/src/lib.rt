@@ -1,5 +1,6 @@
 // Writes spans of panels, row by row, from buckets by row.
 use grid::Corner;
+use grid::Panel;
 use order::wide;
 ghost use mathlib.Core.Path.{_≡_};
 ghost use mathlib.Core.List.{[], _∷_};
@@ -8,35 +9,65 @@ ghost use lib.IntN.{pos, predℤ, natAbs, _+ℤ_, _-ℤ_};
 ghost use lib.ListN.{length};
 ghost use lib.Seq.{sets};
 ghost use Rattle.answer.specs.Limits.{mostStart};
-ghost use Rattle.grid.specs.Grid.{corner};
+ghost use Rattle.grid.specs.Grid.{corner, panelAt};
 ghost use Rattle.hull_laws.specs.Columns.{top};
 ghost use Rattle.row_bucket_laws.specs.Buckets.{Line, LineDone, Sheet, SheetDone};
 
-// The panel n steps east of `west`.
-fn first_panel(west: i32, n: u16) -> i32
+// The column n steps east of `west`.
+fn column(west: i32, n: u16) -> i32
     requires { ⌜ natAbs west ≤ mostStart + 65535 ⌝ }
     ensures { λ r. ⌜ r ≡ west +ℤ pos n ⌝ }
 {
     west + n as i32
 }
 
-// The panel before that.
-fn last_panel(west: i32, n: u16) -> i32
+// The column before that.
+fn column_before(west: i32, n: u16) -> i32
     requires { ⌜ natAbs west ≤ mostStart + 65535 ⌝ }
     ensures { λ r. ⌜ r ≡ (west +ℤ pos n) -ℤ pos 1 ⌝ }
 {
     west + n as i32 - 1
 }
 
-// Writes the span between the columns a and b of the row that begins at base.
+// The panel behind the edge that stands n steps east of base.
+fn first_panel(base: Corner, n: u16) -> Panel
+    requires { ⌜ natAbs (base .0) ≤ mostStart + 65535 ⌝ }
+    ensures { λ r. ⌜ r ≡ panelAt (corner (base .0 +ℤ pos n) (base .1)) ⌝ }
+{
+    let x = column(base.0, n);
+    let y = base.1;
+    Panel(x, y)
+}
+
+// The panel before it.
+fn last_panel(base: Corner, n: u16) -> Panel
+    requires { ⌜ natAbs (base .0) ≤ mostStart + 65535 ⌝ }
+    ensures { λ r. ⌜ r ≡ panelAt (corner (predℤ (base .0 +ℤ pos n)) (base .1)) ⌝ }
+{
+    let x = column_before(base.0, n);
+    let y = base.1;
+    Panel(x, y)
+}
+
+// Writes the span from a panel to another of its row.
+fn put_panels(out: &mut [i32], o: usize, first: Panel, last: Panel)
+    requires { ⌜ o + 2 < length (now out) ⌝ }
+    ensures { λ _. ⌜ now (out .exit) ≡ sets (now (out .entry)) o (first .1 ∷ first .0 ∷ last .0 ∷ []) ⌝ }
+{
+    let y = first.1;
+    let west = first.0;
+    let east = last.0;
+    out[o] = y;
+    out[o + 1] = west;
+    out[o + 2] = east;
+}
+
+// Writes the span between the edges a and b of the row that begins at base.
 fn put_span(out: &mut [i32], o: usize, base: Corner, a: u16, b: u16)
     requires { ⌜ (o + 2 < length (now out)) × (natAbs (base .0) ≤ mostStart + 65535) ⌝ }
     ensures { λ _. ⌜ now (out .exit) ≡ sets (now (out .entry)) o (base .1 ∷ (base .0 +ℤ pos a) ∷ predℤ (base .0 +ℤ pos b) ∷ []) ⌝ }
 {
-    let y = base.1;
-    out[o] = y;
-    out[o + 1] = first_panel(base.0, a);
-    out[o + 2] = last_panel(base.0, b);
+    put_panels(out, o, first_panel(base, a), last_panel(base, b));
 }
 
 // Writes the spans of the row that begins at base from number o on, and answers where they end.

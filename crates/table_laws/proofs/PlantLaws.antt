@@ -12,7 +12,7 @@ use Rattle.grid.specs.Tree.{root, parentOf, isRoot, upBy, pathOf}
 use Rattle.lists.specs.Lists.{any, place, tally}
 use Rattle.tree.specs.Nodes.{refOf}
 use Rattle.layout.specs.Table.{width, tableOf}
-use Rattle.tree_laws.specs.State.{later, State, stateOf, grown, visitedBy, Alike, Sound, WellLinked, tableBy}
+use Rattle.tree_laws.specs.State.{later, stateOf, plantedOf, grown, visitedBy, Alike, Sound, WellLinked, tableBy}
 use Rattle.grid.proofs.CornerLaws.{same-refl, same-sound}
 use Rattle.grid.proofs.PathLaws.{pathOf-root, pathOf-snoc}
 use Rattle.tree.proofs.StartLaws.{nodes-start}
@@ -21,10 +21,6 @@ use Rattle.tree_laws.proofs.AddLaws.{ref-snoc, path-below}
 use Rattle.table_laws.proofs.RowLaws.{table-state}
 use Rattle.table_laws.proofs.StateLaws.{grown-new}
 use Rattle.table_laws.proofs.StoreLaws.{alike-table}
-
--- the path of a corner, with nothing on it
-abbrev pub plantedOf : Corner → State
-plantedOf c = record { nodes = pathOf c; step = λ x y. 0; visits = λ x. 0; need = λ x. 0; first = λ x. 0; edges = λ x y. 0 }
 
 -- one node more, as `child` makes it for step 0
 pub planted-next : (c : Corner) → isRoot c ≡ false → Alike (grown (plantedOf (parentOf c)) c 0) (plantedOf c)

@@ -10,7 +10,7 @@ use borrow.Author.Tests.{eqb-true, eq-eqb, ne-eqb}
 use lib.Dec.{eqb}
 use lib.ListN.{length, length-append, getD}
 use Rattle.grid.specs.declared.Corner.{Corner}
-use Rattle.grid.specs.Grid.{origin, same, stepped, joins}
+use Rattle.grid.specs.Grid.{origin, same, stepped, joins, back}
 use Rattle.grid.specs.Tree.{parentOf, isRoot, sizeOf, pathOf}
 use Rattle.layout.specs.Table.{wordAt, parentWord, neighbourWord, linkWord, needWord}
 use Rattle.lists.specs.Lists.{any, gather, tally}
@@ -19,7 +19,7 @@ use Rattle.tree_laws.specs.State.{State, Sound, WellLinked, linked, needed, lin
 use Rattle.grid.proofs.CornerLaws.{same-refl, same-sound}
 use Rattle.grid.proofs.ParentLaws.{parentOf-stepped}
 use Rattle.grid.proofs.PathLaws.{sizeOf-parentOf}
-use Rattle.grid.proofs.StepLaws.{back, stepped-ne}
+use Rattle.grid.proofs.StepLaws.{stepped-ne}
 use Rattle.lists.proofs.FindLaws.{bool-agree, find-get}
 use Rattle.lists.proofs.GatherLaws.{mem→any, mem-gather-left, mem-gather-right}
 use Rattle.lists.proofs.BoolLaws.{is-false}

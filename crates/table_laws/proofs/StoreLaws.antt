@@ -11,7 +11,7 @@ use lib.Dec.{eqb}
 use lib.ListN.{length, length-set, getD, set, replicate}
 use lib.Seq.{sets, set-set, set-getD, getD-set-other}
 use Rattle.grid.specs.declared.Corner.{Corner}
-use Rattle.grid.specs.Grid.{same, stepped, joins}
+use Rattle.grid.specs.Grid.{same, stepped, joins, back}
 use Rattle.grid.specs.Tree.{parentOf, isRoot, childWord}
 use Rattle.layout.specs.Table.{width, wordAt, parentWord, neighbourWord, linkWord, visitsWord, needWord, firstWord, edgeWord, childRefOf}
 use Rattle.lists.specs.Lists.{tally, Distinct}
@@ -19,7 +19,7 @@ use Rattle.tree.specs.Nodes.{refOf}
 use Rattle.tree_laws.specs.State.{linkPut, State, withLink, withNode, visitedBy, walkedBy, Alike, Sound, neighbourBy, fieldsBy, recordBy, rowsBy, filled, tableBy}
 use Rattle.grid.proofs.ChildLaws.{slot-small}
 use Rattle.grid.proofs.CornerLaws.{same-refl, same-sound}
-use Rattle.grid.proofs.StepLaws.{back, back-mod, back-small, stepped-back, stepped-ne}
+use Rattle.grid.proofs.StepLaws.{back-mod, back-small, stepped-back, stepped-ne}
 use Rattle.layout.proofs.WordLaws.{bump, words-cong, withChild, words-child, withSide, words-side, withEdge, words-edge, child-of, neighbour-of, link-of, edge-of}
 use Rattle.tree_laws.proofs.LaterLaws.{later-none}
 use Rattle.lists.proofs.GatherLaws.{distinct-snoc}

@@ -9,13 +9,13 @@ use borrow.Author.Tests.{eqb-true, eqb-false}
 use lib.Dec.{eqb}
 use lib.ListN.{length, getD}
 use Rattle.grid.specs.declared.Corner.{Corner}
-use Rattle.grid.specs.Grid.{same, stepped, cornersFrom, endFrom}
+use Rattle.grid.specs.Grid.{same, stepped, cornersFrom, endFrom, back}
 use Rattle.grid.specs.Tree.{pathOf}
 use Rattle.layout.specs.Table.{width, wordAt, neighbourWord, visitsWord, tableOf}
 use Rattle.lists.specs.Lists.{gather, Distinct}
 use Rattle.tree.specs.Nodes.{nodesOf, refOf}
 use Rattle.tree_laws.specs.State.{linked, State, stateOf, reached, visitedBy, walkedBy, Sound, tableBy}
-use Rattle.grid.proofs.StepLaws.{back, stepped-back, back-small, endFrom-snoc}
+use Rattle.grid.proofs.StepLaws.{stepped-back, back-small, endFrom-snoc}
 use Rattle.lists.proofs.GatherLaws.{gather-more}
 use Rattle.tree_laws.proofs.AddLaws.{ref-append}
 use Rattle.tree_laws.proofs.PushLaws.{push-nodes, finish-node}

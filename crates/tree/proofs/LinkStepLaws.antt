@@ -13,10 +13,10 @@ use Rattle.lists.proofs.DistinctLaws.{mem-getD}
 use Rattle.lists.proofs.FindLaws.{find-get, find-cong, bool-agree}
 use Rattle.lists.proofs.ZipLaws.{zip-within, zip-at, any-at, at-any, find-least}
 use Rattle.grid.specs.declared.Corner.{Corner}
-use Rattle.grid.specs.Grid.{origin, stepped, cornersFrom, legsOf, joins}
+use Rattle.grid.specs.Grid.{origin, stepped, cornersFrom, legsOf, joins, back}
 use Rattle.grid.specs.Tree.{AncestorAt, lineageOf}
 use Rattle.grid.proofs.AncestorLaws.{ancestor-place, place-ancestor}
-use Rattle.grid.proofs.StepLaws.{back, back-small, stepped-back, length-cornersFrom, cornersFrom-next, stepped-ne}
+use Rattle.grid.proofs.StepLaws.{back-small, stepped-back, length-cornersFrom, cornersFrom-next, stepped-ne}
 use Rattle.tree.specs.Nodes.{links, linkStepOf, InUse, JoinedAt, LinkedBy}
 use Rattle.grid.proofs.JoinLaws.{joins-cases, joins-here, joins-there}
 use Rattle.tree.proofs.LinkLaws.{link-near}

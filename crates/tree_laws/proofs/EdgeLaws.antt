@@ -9,11 +9,11 @@ use native.Mathlib.Omega.{arith}
 use lib.IntN.{ℤ, pos, _+ℤ_, pos-+ℤ-pos}
 use lib.ListN.{length, getD}
 use Rattle.grid.specs.declared.Corner.{Corner}
-use Rattle.grid.specs.Grid.{origin, stepped, cornersFrom, legsOf, joins}
+use Rattle.grid.specs.Grid.{origin, stepped, cornersFrom, legsOf, joins, back}
 use Rattle.layout.specs.Table.{edgesOf}
 use Rattle.lists.specs.Lists.{count, tally, sumOf, Distinct, Below}
 use Rattle.tree.specs.Nodes.{nodesOf}
-use Rattle.grid.proofs.StepLaws.{back, stepped-back}
+use Rattle.grid.proofs.StepLaws.{stepped-back}
 use Rattle.lists.proofs.CountLaws.{count-cong, count-some, count-mem}
 use Rattle.lists.proofs.DistinctLaws.{mem-getD}
 use Rattle.lists.proofs.FindLaws.{any-mem}

@@ -11,14 +11,14 @@ use borrow.Author.Tests.{eqb-true, eq-eqb}
 use lib.Dec.{eqb}
 use lib.ListN.{length, length-append}
 use Rattle.grid.specs.declared.Corner.{Corner}
-use Rattle.grid.specs.Grid.{same, stepped}
+use Rattle.grid.specs.Grid.{same, stepped, back}
 use Rattle.grid.specs.Tree.{parentOf, isRoot, sizeOf, pathOf, WithinLevels}
 use Rattle.lists.specs.Lists.{any, gather, Distinct}
 use Rattle.grid.proofs.BoundLaws.{stepped-bound}
 use Rattle.grid.proofs.CornerLaws.{same-refl, same-sound}
 use Rattle.grid.proofs.ParentLaws.{parentOf-stepped}
 use Rattle.grid.proofs.PathLaws.{sizeOf-parentOf, root-of-size}
-use Rattle.grid.proofs.StepLaws.{back, stepped-back, stepped-ne}
+use Rattle.grid.proofs.StepLaws.{stepped-back, stepped-ne}
 use Rattle.lists.proofs.GatherLaws.{and-left, and-right, any→mem, not-mem, mem-add-cases}
 use Rattle.lists.proofs.BoolLaws.{not-true}
 use Rattle.tree.proofs.RefLaws.{not-any}

@@ -49,6 +49,10 @@ pub record State : Type 0 where
   pub first : Corner → ℕ
   pub edges : Corner → Corner → ℕ
 
+-- the path of a corner, with nothing on it
+abbrev pub plantedOf : Corner → State
+plantedOf c = record { nodes = pathOf c; step = λ x y. 0; visits = λ x. 0; need = λ x. 0; first = λ x. 0; edges = λ x y. 0 }
+
 -- a node that the path of e adds to the nodes
 abbrev isNew : List Corner → Corner → Corner → Bool
 isNew ns e x = not (any (same x) ns) && any (same x) (pathOf e)

@@ -12,13 +12,13 @@ use Rattle.grid.specs.Grid.{cornersFrom}
 use Rattle.grid.specs.Tree.{root, parentOf, isRoot, sizeOf, upBy, pathOf, childWord}
 use Rattle.layout.specs.Table.{width, HasRecord, wordAt, visitsWord}
 use Rattle.tree.specs.Nodes.{nodesOf, refOf}
-use Rattle.tree_laws.specs.State.{State, grown, Holds, Made, tableBy}
+use Rattle.tree_laws.specs.State.{State, grown, Holds, Made, tableBy, plantedOf}
 use Rattle.grid.proofs.AncestorLaws.{pathOf-first}
 use Rattle.grid.proofs.CornerLaws.{same-sound}
 use Rattle.grid.proofs.PathLaws.{sizeOf-parentOf, pathOf-root}
 use Rattle.tree.proofs.StartLaws.{nodes-start}
 use Rattle.table_laws.specs.Model.{visitIn}
-use Rattle.table_laws.proofs.PlantLaws.{plantedOf, planted-root, planted-next, planted-sound, planted-visit, length-path, path-up, ref-path}
+use Rattle.table_laws.proofs.PlantLaws.{planted-root, planted-next, planted-sound, planted-visit, length-path, path-up, ref-path}
 use Rattle.table_laws.proofs.StoreLaws.{alike-table, read-visits}
 use Rattle.table_laws.proofs.TakeLaws.{visit-made}
 use Rattle.walk_plant.specs.Plants.{Deep, Grown, Planted}

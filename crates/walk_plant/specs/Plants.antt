@@ -10,8 +10,7 @@ use Rattle.grid.specs.Grid.{cornersFrom}
 use Rattle.grid.specs.Tree.{isRoot, sizeOf, upBy, pathOf}
 use Rattle.layout.specs.Table.{width, tableOf}
 use Rattle.tree.specs.Nodes.{nodesOf, refOf}
-use Rattle.tree_laws.specs.State.{tableBy}
-use Rattle.table_laws.proofs.PlantLaws.{plantedOf}
+use Rattle.tree_laws.specs.State.{tableBy, plantedOf}
 
 -- the root is the n-th parent of c, and none before it
 pub record Deep (c : Corner) (n : ℕ) : Type 0 where

@@ -7,7 +7,7 @@ use native.Mathlib.Omega.{arith}
 use lib.ListN.{length, length-append, getD, set}
 use lib.Seq.{getD-set-other}
 use Rattle.grid.specs.declared.Corner.{Corner}
-use Rattle.grid.specs.Grid.{same, stepped, cornersFrom, endFrom, joins}
+use Rattle.grid.specs.Grid.{same, stepped, cornersFrom, endFrom, joins, back}
 use Rattle.grid.specs.Tree.{pathOf}
 use Rattle.layout.specs.Table.{width, wordAt, HasRecord, neighbourWord, visitsWord, edgeWord, tableOf}
 use Rattle.lists.specs.Lists.{count, tally, gather}
@@ -17,7 +17,7 @@ use Rattle.tree.specs.Nodes.{nodesOf, refOf}
 use Rattle.tree_laws.specs.State.{State, stateOf, reached, unlinking, tableBy, Made, Holds, Stood, UnlinkAt, DropAt}
 use Rattle.grid.proofs.CornerLaws.{same-refl}
 use Rattle.grid.proofs.JoinLaws.{joins-here}
-use Rattle.grid.proofs.StepLaws.{back, back-mod, stepped-back, endFrom-snoc}
+use Rattle.grid.proofs.StepLaws.{back-mod, stepped-back, endFrom-snoc}
 use Rattle.table_laws.proofs.Cites.{stood, ref-below, made-holds}
 use Rattle.table_laws.proofs.LookupLaws.{length-table}
 use Rattle.table_laws.proofs.RowLaws.{table-state}

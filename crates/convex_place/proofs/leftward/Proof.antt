@@ -47,7 +47,7 @@ loop-again c =
 returns : tie.Need-returns Inv-loop μ-loop
 returns c =
     let l = c .before .loop in
-    sums-end (c .before .before .before .args .chain .now) (l .x) (l .up) (l .down) (l .i) (l .inv) (omega arith) (omega arith)
+    sums-end (c .before .before .before .args .chain .now) (l .x) (l .up) (l .down) (l .i) (l .inv) (omega arith)
 
 pub leftward-spec : {M : Type 1} → statement M
 leftward-spec =

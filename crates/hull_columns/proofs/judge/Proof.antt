@@ -3,12 +3,15 @@
 use borrow.Author.Needs.{needs}
 use native.Mathlib.Omega.{arith}
 use mathlib.Core.Path.{sym}
+use Rattle.order.proofs.MostLaws.{highest-most}
 use Rattle.hull_laws.proofs.SurveyLaws.{no-fault}
 use Rattle.hull_columns.proofs.judge.Statement.{statement}
 use Rattle.hull_columns.proofs.judge.Tie as tie
 
 returns-3 : tie.Need-returns-3
-returns-3 c = sym (no-fault 0 (c .before .before .before .before .args .chain .now) (omega (arith, c .before .before .if1 .left)) (λ k. omega (arith, c .before .highest .ensures k, c .if2 .left)))
+returns-3 c =
+    let s = c .before .before .before .before .args .chain .now in
+    sym (no-fault 0 s (omega (arith, c .before .before .if1 .left)) (λ k. omega (arith, c .before .highest .ensures, highest-most s k, c .if2 .left)))
 
 pub judge-spec : {M : Type 1} → statement M
 judge-spec =

@@ -2,13 +2,15 @@
 -- Assumes nothing.
 use borrow.Author.Needs.{sfits-of, needs}
 use native.Mathlib.Omega.{arith}
-use mathlib.Core.Path.{ap, sym, _∙_, subst}
-use Prim.Native.Nat.{_+_, _*_, _/_, _%_, _≤_}
+use mathlib.Core.Path.{_≡_, ap₂, sym, _∙_, subst}
+use Prim.Native.Nat.{_+_, _*_, _/_, _%_, _<_, _≤_}
 use lib.ListN.{getD}
 use lib.IntN.{ℤ, pos, natAbs, _+ℤ_}
 use mir.Facts.{toZ-ofZ}
 use mir.Syntax.{w32}
-use Rattle.overlay_sweep.proofs.EndLaws.{short-back, end-is}
+use mir.Val.{toZ, ofZ}
+use Rattle.grid.specs.Grid.{corner}
+use Rattle.overlay_sweep.proofs.EndLaws.{short-back}
 use Rattle.overlay_sweep.proofs.first_end.Statement.{statement}
 use Rattle.overlay_sweep.proofs.first_end.Tie as tie
 
@@ -27,24 +29,26 @@ wider-requires-2 c κs =
     let s = z .pre .small (3 * (z .args .i / 2) + 1 + z .args .i % 2) (omega (arith, z .pre .even)) in
     subst (λ (v : ℤ). natAbs v ≤ 32767) (sym (short-back (getD (z .args .list .now) (3 * (z .args .i / 2) + 1 + z .args .i % 2) (pos 0)) s)) s
 
-past-requires : tie.Need-past-requires
-past-requires c κs =
+-- the column that was read
+column : (c : tie.After-wider2) → c .before .before .before .before .before .args .i < c .before .before .before .before .before .args .n → toZ w32 (ofZ w32 (c .wider2 .result)) ≡ getD (c .before .before .before .before .before .args .list .now) (3 * (c .before .before .before .before .before .args .i / 2) + 1 + c .before .before .before .before .before .args .i % 2) (pos 0)
+column c l =
     let z = c .before .before .before .before .before in
     let s = z .pre .small (3 * (z .args .i / 2) + 1 + z .args .i % 2) (omega (arith, z .pre .even)) in
-    let e = c .wider2 .ensures ∙ short-back (getD (z .args .list .now) (3 * (z .args .i / 2) + 1 + z .args .i % 2) (pos 0)) s in
-    subst (λ (v : ℤ). natAbs v ≤ 32767) (sym (toZ-ofZ (sfits-of {w = w32} {z = c .wider2 .result} (c .wider2 .ok)) ∙ e)) s
+    toZ-ofZ (sfits-of {w = w32} {z = c .wider2 .result} (c .wider2 .ok)) ∙ c .wider2 .ensures ∙ short-back (getD (z .args .list .now) (3 * (z .args .i / 2) + 1 + z .args .i % 2) (pos 0)) s
+
+foot-requires : tie.Need-foot-requires
+foot-requires c κs =
+    let z = c .before .before .before .before .before in
+    subst (λ (v : ℤ). natAbs v ≤ 32767) (sym (column c (omega arith))) (z .pre .small (3 * (z .args .i / 2) + 1 + z .args .i % 2) (omega (arith, z .pre .even)))
 
 returns-2 : tie.Need-returns-2
 returns-2 c =
     λ h.
     let z = c .before .before .before .before .before .before in
-    let w = c .before .wider2 in
     let v = c .before .before .before .wider in
-    let s = z .pre .small (3 * (z .args .i / 2) + 1 + z .args .i % 2) (omega (arith, z .pre .even)) in
     let t = z .pre .small (3 * (z .args .i / 2)) (omega (arith, z .pre .even)) in
-    end-is (z .args .list .now) (z .args .i) _ _
-    (toZ-ofZ (sfits-of {w = w32} {z = c .past .result} (c .past .ok)) ∙ c .past .ensures ∙ ap (λ (x : ℤ). x +ℤ pos (z .args .i % 2)) (toZ-ofZ (sfits-of {w = w32} {z = w .result} (w .ok)) ∙ w .ensures ∙ short-back (getD (z .args .list .now) (3 * (z .args .i / 2) + 1 + z .args .i % 2) (pos 0)) s))
-    (toZ-ofZ (sfits-of {w = w32} {z = v .result} (v .ok)) ∙ v .ensures ∙ short-back (getD (z .args .list .now) (3 * (z .args .i / 2)) (pos 0)) t)
+    c .foot .ensures
+    ∙ ap₂ (λ (x y : ℤ). corner (x +ℤ pos (z .args .i % 2)) y) (column (c .before) h) (toZ-ofZ (sfits-of {w = w32} {z = v .result} (v .ok)) ∙ v .ensures ∙ short-back (getD (z .args .list .now) (3 * (z .args .i / 2)) (pos 0)) t)
 
 pub first-end-spec : {M : Type 1} → statement M
 first-end-spec =
@@ -60,5 +64,5 @@ first-end-spec =
     (λ c. search needs)
     (λ c. search needs)
     wider-requires-2
-    past-requires
+    foot-requires
     returns-2)

@@ -1,16 +1,13 @@
 -- `overlay_sweep::put_end` meets its contract.
 -- Assumes nothing.
-use borrow.Author.Needs.{sfits-of, needs}
-use native.Mathlib.Numerals.{add-one}
+use borrow.Author.Needs.{needs}
 use native.Mathlib.Omega.{arith}
-use mathlib.Core.List.{List}
-use mathlib.Core.Path.{refl, ap, ap₂, _∙_}
+use mathlib.Core.List.{[], _∷_}
+use mathlib.Core.Path.{refl, ap, _∙_}
 use mathlib.Core.Bool.{true, false}
 use Prim.Native.Nat.{_+_}
-use lib.ListN.{set}
-use lib.IntN.{ℤ, predℤ}
-use mir.Facts.{toZ-ofZ}
-use mir.Syntax.{w32}
+use lib.Seq.{sets}
+use Rattle.grid.specs.declared.Panel.{Panel}
 use Rattle.overlay_sweep.proofs.EndLaws.{edge-put}
 use Rattle.overlay_sweep.proofs.put_end.Statement.{statement}
 use Rattle.overlay_sweep.proofs.put_end.Tie as tie
@@ -22,16 +19,15 @@ returns c =
 
 returns-2 : tie.Need-returns-2
 returns-2 c =
-    let z = c .before .before .before .before .before .before .before in
-    let l = c .before .before .less in
-    edge-put (z .args .was) (z .args .is) true false (z .args .at) (z .args .o) (z .args .o + 1) (z .args .out .now) (c .before .put .last .0) (c .before .before .before .before .before .before .if1 .taken) (c .before .before .before .before .before .if2 .left) (omega arith)
-    (c .before .put .ensures ∙ ap (set (z .args .out .now) (z .args .o)) (toZ-ofZ (sfits-of {w = w32} {z = l .result} (l .ok)) ∙ l .ensures ∙ ap predℤ (toZ-ofZ (sfits-of {w = w32} {z = z .args .at .0} (c .before .before .before .struct-told .given .0 .1)))))
+    let z = c .before .before .before .before .before .before in
+    edge-put (z .args .was) (z .args .is) true false (z .args .at) (z .args .o) (z .args .o + 1) (z .args .out .now) (c .before .put-last .last .0) (c .before .before .before .before .before .if1 .taken) (c .before .before .before .before .if2 .left) (omega arith)
+    (c .before .put-last .ensures ∙ ap (λ (p : Panel). sets (z .args .out .now) (z .args .o) (p .0 ∷ [])) (c .before .before .panel-before .ensures))
 
 returns-3 : tie.Need-returns-3
 returns-3 c =
-    let z = c .before .before .before .before .before .before .before .before .before .before in
-    edge-put (z .args .was) (z .args .is) false true (z .args .at) (z .args .o) (z .args .o + 2) (z .args .out .now) (c .before .put3 .last .0) (c .before .before .before .before .before .before .before .before .before .if1 .left) (c .before .before .before .before .before .before .before .before .if3 .taken) (omega arith)
-    (c .before .put3 .ensures ∙ ap₂ (λ (l : List ℤ) (v : ℤ). set l (z .args .o + 1) v) (c .before .before .before .before .before .put2 .ensures ∙ ap (set (z .args .out .now) (z .args .o)) (toZ-ofZ (sfits-of {w = w32} {z = z .args .at .1} (c .before .before .before .before .before .before .struct-told2 .given .1 .0 .1)))) (toZ-ofZ (sfits-of {w = w32} {z = z .args .at .0} (c .before .before .struct-told3 .given .0 .1))) ∙ ap (λ (n : _). set (set (z .args .out .now) (z .args .o) (z .args .at .1)) n (z .args .at .0)) (add-one (z .args .o)))
+    let z = c .before .before .before .before .before .before in
+    edge-put (z .args .was) (z .args .is) false true (z .args .at) (z .args .o) (z .args .o + 2) (z .args .out .now) (c .before .put-first .last .0) (c .before .before .before .before .before .if1 .left) (c .before .before .before .before .if3 .taken) (omega arith)
+    (c .before .put-first .ensures ∙ ap (λ (p : Panel). sets (z .args .out .now) (z .args .o) (p .1 ∷ p .0 ∷ [])) (c .before .before .panel-behind .ensures))
 
 returns-4 : tie.Need-returns-4
 returns-4 c =
@@ -49,7 +45,6 @@ put-end-spec =
     (λ c. search needs)
     returns-2
     (λ c κs. search needs)
-    (λ c. search needs)
     (λ c κs. search needs)
     (λ c. search needs)
     (λ c. search needs)

@@ -1,22 +1,21 @@
 -- `overlay_sweep::second_end` meets its contract.
 -- Assumes nothing.
-use borrow.Author.Needs.{sfits-of, needs}
+use borrow.Author.Needs.{needs}
 use native.Mathlib.Omega.{arith}
-use mathlib.Core.Path.{ap, sym, _∙_, subst}
+use mathlib.Core.Path.{ap₂, sym, _∙_, subst}
 use Prim.Native.Nat.{_+_, _*_, _/_, _%_, _≤_}
 use lib.ListN.{getD}
 use lib.IntN.{ℤ, pos, natAbs, _+ℤ_}
-use mir.Facts.{toZ-ofZ}
-use mir.Syntax.{w32}
-use Rattle.overlay_sweep.proofs.EndLaws.{long-back, end-is}
+use Rattle.grid.specs.Grid.{corner}
+use Rattle.overlay_sweep.proofs.EndLaws.{long-back}
 use Rattle.overlay_sweep.proofs.second_end.Statement.{statement}
 use Rattle.overlay_sweep.proofs.second_end.Tie as tie
 
 returns : tie.Need-returns
 returns c = λ h. absurd (omega arith)
 
-past-requires : tie.Need-past-requires
-past-requires c κs =
+foot-requires : tie.Need-foot-requires
+foot-requires c κs =
     let z = c .before .before .before in
     let s = z .pre .small (3 * (z .args .i / 2) + 1 + z .args .i % 2) (omega (arith, z .pre .even)) in
     subst (λ (v : ℤ). natAbs v ≤ 32767) (sym (long-back (getD (z .args .list .now) (3 * (z .args .i / 2) + 1 + z .args .i % 2) (pos 0)) (omega (arith, s)))) s
@@ -27,9 +26,8 @@ returns-2 c =
     let z = c .before .before .before .before in
     let s = z .pre .small (3 * (z .args .i / 2) + 1 + z .args .i % 2) (omega (arith, z .pre .even)) in
     let t = z .pre .small (3 * (z .args .i / 2)) (omega (arith, z .pre .even)) in
-    end-is (z .args .list .now) (z .args .i) _ _
-    (toZ-ofZ (sfits-of {w = w32} {z = c .past .result} (c .past .ok)) ∙ c .past .ensures ∙ ap (λ (x : ℤ). x +ℤ pos (z .args .i % 2)) (long-back (getD (z .args .list .now) (3 * (z .args .i / 2) + 1 + z .args .i % 2) (pos 0)) (omega (arith, s))))
-    (long-back (getD (z .args .list .now) (3 * (z .args .i / 2)) (pos 0)) (omega (arith, t)))
+    c .foot .ensures
+    ∙ ap₂ (λ (x y : ℤ). corner (x +ℤ pos (z .args .i % 2)) y) (long-back (getD (z .args .list .now) (3 * (z .args .i / 2) + 1 + z .args .i % 2) (pos 0)) (omega (arith, s))) (long-back (getD (z .args .list .now) (3 * (z .args .i / 2)) (pos 0)) (omega (arith, t)))
 
 pub second-end-spec : {M : Type 1} → statement M
 second-end-spec =
@@ -43,5 +41,5 @@ second-end-spec =
     (λ c. search needs)
     (λ c. search needs)
     (λ c. search needs)
-    past-requires
+    foot-requires
     returns-2)

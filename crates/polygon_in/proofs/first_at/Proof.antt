@@ -1,11 +1,15 @@
 -- `polygon_in::first_at` meets its contract.
 -- Assumes nothing.
 use borrow.Author.Needs.{needs}
+use native.Mathlib.Omega.{arith}
 use mathlib.Core.Path.{_∙_}
 use Rattle.answer.specs.Limits.{mostStart}
-use Rattle.polygon_ring_laws.proofs.RingLaws.{point-is, first-is}
+use Rattle.polygon_ring_laws.proofs.RingLaws.{point-is, point-numbers, first-is}
 use Rattle.polygon_in.proofs.first_at.Statement.{statement}
 use Rattle.polygon_in.proofs.first_at.Tie as tie
+
+judge-requires : tie.Need-judge-requires
+judge-requires c κs = let n = point-numbers (c .before .before .args .little) _ (c .point .result) (c .point .ensures) in (omega arith, n .0, n .1)
 
 returns : tie.Need-returns
 returns c =
@@ -13,4 +17,4 @@ returns c =
     point-is mostStart (s .args .little) (s .args .points .now) (c .judge .result) (c .before .point .result) (c .before .point .ensures) (c .judge .ensures) ∙ first-is (s .args .little) (s .args .points .now)
 
 pub first-at-spec : {M : Type 1} → statement M
-first-at-spec = tie.close (tie.spec (λ c κs. search needs) (λ c κs. search needs) returns)
+first-at-spec = tie.close (tie.spec (λ c κs. search needs) judge-requires returns)

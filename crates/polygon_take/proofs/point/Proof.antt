@@ -2,14 +2,14 @@
 -- Assumes nothing.
 use borrow.Author.Needs.{needs}
 use mathlib.Core.Path.{ap, _∙_}
-use lib.Ieee.{binary64, ofBits}
+use Rattle.polygon_ring_laws.specs.Fields.{floatKept}
 use Rattle.polygon_take.proofs.point.Statement.{statement}
 use Rattle.polygon_take.proofs.point.Tie as tie
 
 returns : tie.Need-returns
 returns c = record {
-  x = c .before .before .before .float-of .ensures ∙ ap (ofBits binary64) (c .before .before .before .before .eight .ensures);
-  y = c .float-of2 .ensures ∙ ap (ofBits binary64) (c .before .eight2 .ensures);
+  x = c .before .before .before .float-of .ensures ∙ ap floatKept (c .before .before .before .before .eight .ensures);
+  y = c .float-of2 .ensures ∙ ap floatKept (c .before .eight2 .ensures);
 }
 
 pub point-spec : {M : Type 1} → statement M

@@ -1,77 +1,67 @@
 -- `polygon_take::whole_of` meets its contract.
 -- Assumes nothing.
 use borrow.Author.Needs.{needs}
-use mathlib.Core.Path.{sym, ap, _∙_, subst}
-use native.Mathlib.Omega.{arith}
-use mathlib.Core.Logic.{inl, inr}
+use mathlib.Core.Path.{sym, subst, _∙_}
 use lib.Dec.{T}
-use lib.Ieee.{Float, eq}
-use lib.Ieee.Compare.{differs-from-itself}
-use Rattle.answer.specs.Limits.{farthest}
-use Rattle.polygon.specs.Coordinate.{coordinateOf}
-use Rattle.polygon_laws.proofs.SignedLaws.{back}
-use Rattle.polygon_ring.specs.declared.Whole.the-variants.{Of}
-use Rattle.polygon_ring_laws.proofs.SignLaws.{back-le}
-use Rattle.polygon_ring.specs.Coordinate.{wholeOf}
-use Rattle.polygon_ring_laws.proofs.WholeLaws.{not-nan, wholeOf-nan}
-use Rattle.polygon_ring_laws.proofs.NearestLaws.{centred-le, refused-far, refused-other, accepted-same}
+use lib.Ieee.{binary64, fits}
+use Rattle.polygon_ring_laws.proofs.FieldLaws.{reach-not, reach-yes, whole-zero, whole-out, whole-far, whole-other, whole-is}
 use Rattle.polygon_take.proofs.whole_of.Statement.{statement}
 use Rattle.polygon_take.proofs.whole_of.Tie as tie
 
-returns : tie.Need-returns
-returns c = sym (ap (wholeOf (c .before .args .most)) (differs-from-itself (c .before .args .x) (subst T (sym (c .if1 .taken)) tt)) ∙ wholeOf-nan (c .before .args .most))
+-- the format holds each float
+held : (c : tie.Start) → T (fits binary64 (c .args .x))
+held c = subst T (sym (c .good .0 .1)) tt
 
-nearest-requires : tie.Need-nearest-requires
-nearest-requires c κs = not-nan (c .before .args .x) (c .if1 .left)
+float-to-bits-bits : tie.Need-float-to-bits-bits
+float-to-bits-bits c = c .pre .1
+
+returns : tie.Need-returns
+returns c = let s = c .before in whole-zero (s .args .most) (s .pre .0) (s .args .x) (held s) (c .if1 .taken)
 
 returns-2 : tie.Need-returns-2
 returns-2 c =
     let s = c .before .before .before in
-    let u = c .before .nearest in
-    refused-far (s .args .most) (s .pre) (s .args .x) (u .result) (u .ensures) (inl (omega (arith, c .if2 .taken)))
+    whole-out (s .args .most) (s .pre .0) (s .args .x) (held s) (c .before .before .if1 .left) (reach-not _ (c .before .in-reach .result) (c .before .in-reach .ensures) (c .if2 .taken))
+
+panels-requires : tie.Need-panels-requires
+panels-requires c κs = reach-yes _ (c .before .in-reach .result) (c .before .in-reach .ensures) (c .if2 .left)
 
 returns-3 : tie.Need-returns-3
 returns-3 c =
-    let s = c .before .before .before .before in
-    let u = c .before .before .nearest in
-    refused-far (s .args .most) (s .pre) (s .args .x) (u .result) (u .ensures) (inr (omega (arith, c .if3 .taken)))
-
-millimetres-requires : tie.Need-millimetres-requires
-millimetres-requires c κs =
     let s = c .before .before .before .before .before in
-    let u = c .before .before .before .nearest in
-    back-le (c .centred .result) (centred-le (c .centred .result) (u .result) farthest (c .centred .ensures) (omega (arith, s .pre)) (omega (arith, s .pre)))
+    let p = c .before .panels in
+    whole-far (s .args .most) (s .pre .0) (s .args .x) (held s) (p .result) (p .ensures) (c .if3 .taken)
+
+is-all-requires : tie.Need-is-all-requires
+is-all-requires c κs =
+    let r = c .before .before .before .in-reach in
+    (reach-yes _ (r .result) (r .ensures) (c .before .before .if2 .left), c .before .panels .ensures)
 
 returns-4 : tie.Need-returns-4
 returns-4 c =
-    let s = c .before .before .before .before .before .before .before in
-    let u = c .before .before .before .before .before .nearest in
-    let k = c .before .before .centred in
-    let l = centred-le (k .result) (u .result) (s .args .most) (k .ensures) (omega arith) (omega arith) in
-    ap Of (back (k .result) (omega (arith, l, s .pre)))
-    ∙ accepted-same (s .args .most) (s .pre) (s .args .x) (u .result) (u .ensures) (k .result) l
-    (ap (λ (y : Float). eq y (s .args .x)) (sym (c .before .millimetres .ensures ∙ ap coordinateOf (back (k .result) (omega (arith, l, s .pre))))) ∙ c .if4 .taken)
+    let s = c .before .before .before .before .before .before .before .before in
+    let p = c .before .before .before .before .panels in
+    let r = c .before .before .before .before .before .before .in-reach in
+    whole-is (s .args .most) (s .pre .0) (s .args .x) (held s) (p .result) (p .ensures) (c .signed .result)
+    (reach-yes _ (r .result) (r .ensures) (c .before .before .before .before .before .if2 .left)) (c .before .before .before .if3 .left) (sym (c .before .before .is-all .ensures) ∙ c .before .if4 .taken) (c .signed .ensures)
 
 returns-5 : tie.Need-returns-5
 returns-5 c =
     let s = c .before .before .before .before .before .before .before in
-    let u = c .before .before .before .before .before .nearest in
-    let k = c .before .before .centred in
-    let l = centred-le (k .result) (u .result) (s .args .most) (k .ensures) (omega arith) (omega arith) in
-    refused-other (s .args .most) (s .pre) (s .args .x) (u .result) (u .ensures) (k .result) (k .ensures)
-    (ap (λ (y : Float). eq y (s .args .x)) (sym (c .before .millimetres .ensures ∙ ap coordinateOf (back (k .result) (omega (arith, l, s .pre))))) ∙ c .if4 .left)
+    let p = c .before .before .before .panels in
+    whole-other (s .args .most) (s .pre .0) (s .args .x) (held s) (p .result) (p .ensures) (c .before .before .before .before .before .before .if1 .left) (sym (c .before .is-all .ensures) ∙ c .if4 .left)
 
 pub whole-of-spec : {M : Type 1} → statement M
 whole-of-spec =
     tie.close
     (tie.spec
+    float-to-bits-bits
     returns
-    nearest-requires
-    (λ c. search needs)
-    returns-2
-    (λ c. search needs)
-    returns-3
     (λ c κs. search needs)
-    millimetres-requires
+    returns-2
+    panels-requires
+    returns-3
+    is-all-requires
+    (λ c κs. search needs)
     returns-4
     returns-5)

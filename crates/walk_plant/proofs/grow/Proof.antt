@@ -9,7 +9,7 @@ use lib.ListN.{length}
 use Rattle.grid.specs.declared.Corner.{Corner}
 use Rattle.grid.specs.Tree.{upBy, childWord}
 use Rattle.layout.proofs.ChildLaws.{childWord-range}
-use Rattle.table_laws.proofs.PlantLaws.{plantedOf}
+use Rattle.tree_laws.specs.State.{plantedOf}
 use Rattle.walk_plant.specs.Plants.{Deep}
 use Rattle.walk_plant.proofs.GrowLaws.{Growing, growing-start, growing-holds, growing-full, growing-next, growing-end, growing-none}
 use Rattle.walk_plant.proofs.grow.Statement.{statement}

@@ -1,0 +1,2 @@
+-- Integers as differences.
+pub mod Signed

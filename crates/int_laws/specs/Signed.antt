@@ -1,0 +1,12 @@
+-- An integer as a difference of two natural numbers: z is `up z` less `dn z`, of which one is 0.
+-- Assumes nothing.
+use Prim.Native.Nat.{ℕ, suc}
+use lib.IntN.{ℤ, pos, negsuc}
+
+abbrev pub up : ℤ → ℕ
+up (pos n) = n
+up (negsuc n) = 0
+
+abbrev pub dn : ℤ → ℕ
+dn (pos n) = 0
+dn (negsuc n) = suc n

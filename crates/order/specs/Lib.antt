@@ -1,0 +1,2 @@
+-- The greatest of some bytes.
+pub mod Highest
