@@ -14,8 +14,8 @@ use Rattle.int_laws.proofs.RangeLaws.{abs-nat}
 use Rattle.int_laws.proofs.NextLaws.{bal-suc, bal-pred}
 use Rattle.lists.specs.Lists.{Below}
 use Rattle.grid.specs.declared.{Corner.Corner}
-use Rattle.grid.specs.Grid.{corner, panelAt, stepped, cornersFrom, endFrom, cornerAt, legsFrom}
-use Rattle.grid.proofs.StepLaws.{back, back-small, stepped-back}
+use Rattle.grid.specs.Grid.{corner, panelAt, stepped, cornersFrom, endFrom, cornerAt, legsFrom, back}
+use Rattle.grid.proofs.StepLaws.{back-small, stepped-back}
 use Rattle.panels.specs.Box.{boxOf}
 use Rattle.panels.specs.Inside.{Inside, leftOf, rightOf, EachStep, InsideRight}
 use Rattle.room_laws.proofs.CornerLaws.{right-back}

@@ -17,9 +17,9 @@ use Rattle.lists.proofs.CountLaws.{count-never}
 use Rattle.lists.proofs.GatherLaws.{and-left}
 use Rattle.lists.proofs.FindLaws.{count-append, bool-agree}
 use Rattle.grid.specs.declared.{Corner.Corner, Panel.Panel}
-use Rattle.grid.specs.Grid.{corner, panelAt, eqZ, same, stepped, endFrom, cornerAt}
+use Rattle.grid.specs.Grid.{corner, panelAt, eqZ, same, stepped, endFrom, cornerAt, back}
 use Rattle.grid.proofs.CornerLaws.{same-sound, same-refl, eqZ-sound}
-use Rattle.grid.proofs.StepLaws.{back, endFrom-append, stepped-back}
+use Rattle.grid.proofs.StepLaws.{endFrom-append, stepped-back}
 use Rattle.trace.specs.Verdict.{IsRoom}
 use Rattle.hull_laws.proofs.CornerLaws.{corner-eq}
 use Rattle.panels.specs.Edges.{Edge, edgeOf, edgesFrom, beside, surplusOf}

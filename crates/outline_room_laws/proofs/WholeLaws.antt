@@ -20,9 +20,9 @@ use Rattle.lists.specs.Lists.{Distinct, Below, any, tally}
 use Rattle.lists.proofs.GatherLaws.{any→mem, not-mem}
 use Rattle.lists.proofs.FindLaws.{bool-agree}
 use Rattle.grid.specs.declared.{Corner.Corner, Panel.Panel}
-use Rattle.grid.specs.Grid.{corner, panelAt, same, stepped, cornersFrom, legsFrom}
+use Rattle.grid.specs.Grid.{corner, panelAt, same, stepped, cornersFrom, legsFrom, back}
 use Rattle.grid.proofs.CornerLaws.{same-sound, same-refl}
-use Rattle.grid.proofs.StepLaws.{back, back-mod, back-small, back-back, stepped-back, stepped-inj}
+use Rattle.grid.proofs.StepLaws.{back-mod, back-small, back-back, stepped-back, stepped-inj}
 use Rattle.steps.specs.Turns.{stepAfter}
 use Rattle.panels.specs.Edges.{surplusOf}
 use Rattle.panels.specs.Box.{boxOf}
