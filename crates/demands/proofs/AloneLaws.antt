@@ -2,7 +2,7 @@
 -- Assumes nothing.
 use mathlib.Core.List.{List, [], _++_, append-nil, List·Memᴰ}
 use mathlib.Core.Path.{_≡_, refl, ap, ap₂, sym, _∙_, subst}
-use Prim.Native.Nat.{ℕ, suc, _+_, _-_, _*_, _^_, _<_, _≤_}
+use Prim.Native.Nat.{ℕ, suc, _+_, _-_, _*_, _<_, _≤_}
 use native.Mathlib.Omega.{arith}
 use lib.IntN.{natAbs}
 use lib.ListN.{length, getD, take, replicate}
@@ -12,7 +12,7 @@ use Rattle.answer.specs.declared.Facts.{Facts}
 use Rattle.answer.specs.declared.Judged.{Judged}
 use Rattle.answer.specs.declared.Judged.the-variants.{Good}
 use Rattle.answer.specs.declared.Refusal.the-variants.{NoRoom}
-use Rattle.answer.specs.Limits.{mostSteps, Near}
+use Rattle.answer.specs.Limits.{mostSteps, farthest, Near}
 use Rattle.grid.specs.declared.Corner.{Corner}
 use Rattle.grid.specs.Grid.{origin, cornersFrom, endFrom}
 use Rattle.grid.specs.Tree.{WithinLevels}
@@ -87,31 +87,37 @@ walkable-after os f k h =
     subst (λ (o : ℕ). Fine (length (stepsAfter (take k os) i)) o) (sym (getD-take k os i 0 p)) (subst (λ (s : List ℕ). Fine (length (survivors s)) (getD os i 0)) (sym (take-take i k os (omega arith))) (f i (omega arith))) in
     walkable-survivors 0 [] (take k os) (record { digits = tt; few = omega arith }) (faults-none 0 [] (take k os) g)
 
--- every corner of a walk that may start there is within 16 levels
-pub corners-within : (c : Corner) (ds : List ℕ) → Near c → length ds ≤ mostSteps → (q : Corner) → List·Memᴰ q (cornersFrom c ds) → WithinLevels 16 q
-corners-within c ds n l q m =
+-- every corner of a walk is as near as its start, and one farther with each step
+pub corners-near : (c : Corner) (ds : List ℕ) (q : Corner) → List·Memᴰ q (cornersFrom c ds) → (natAbs (q .0) ≤ natAbs (c .0) + length ds) × (natAbs (q .1) ≤ natAbs (c .1) + length ds)
+corners-near c ds q m =
     let k = getD-mem (cornersFrom c ds) c m in
     let i : k .0 ≤ length ds = omega (arith, k .1, length-cornersFrom c ds) in
     let e : q ≡ endFrom c (take (k .0) ds) = sym (k .2) ∙ cornersFrom-at c ds (k .0) c i in
     let b = endFrom-bound (take (k .0) ds) c in
-    let t : length (take (k .0) ds) ≡ k .0 = length-take-le (k .0) ds i in
-    record {
-      x = subst (λ (z : Corner). natAbs (z .0) < 2 ^ 16) (sym e) (omega (arith, b .0, n .0));
-      y = subst (λ (z : Corner). natAbs (z .1) < 2 ^ 16) (sym e) (omega (arith, b .1, n .1));
-    }
+    let t : length (take (k .0) ds) ≡ k .0 = length-take-le (k .0) ds i in (
+      subst (λ (z : Corner). natAbs (z .0) ≤ natAbs (c .0) + length ds) (sym e) (omega (arith, b .0)),
+      subst (λ (z : Corner). natAbs (z .1) ≤ natAbs (c .1) + length ds) (sym e) (omega (arith, b .1)),
+    )
+
+pub corners-far : (c : Corner) (ds : List ℕ) → Near c → length ds ≤ mostSteps → (q : Corner) → List·Memᴰ q (cornersFrom c ds) → (natAbs (q .0) ≤ farthest) × (natAbs (q .1) ≤ farthest)
+corners-far c ds n l q m = let b = corners-near c ds q m in (omega (arith, b .0, n .0), omega (arith, b .1, n .1))
+
+-- every corner of a walk that may start there is within 16 levels
+corners-within : (c : Corner) (ds : List ℕ) → Near c → length ds ≤ mostSteps → (q : Corner) → List·Memᴰ q (cornersFrom c ds) → WithinLevels 16 q
+corners-within c ds n l q m = let b = corners-far c ds n l q m in record { x = omega (arith, b .0); y = omega (arith, b .1) }
 
 module _ {c : Corner} {os : List ℕ} {words marks chain : ℕ} (f : Faultless c os words marks chain) (k : ℕ) (h : k ≤ length os) where
-  few : length (stepsAfter os k) ≤ mostSteps
-  few = walkable-after os (f .fine) k h .few
+  pub few-steps : length (stepsAfter os k) ≤ mostSteps
+  few-steps = walkable-after os (f .fine) k h .few
 
   pub four-and-start : FourAndStart (nodesAfter c os k) (cornersAfter c os k)
-  four-and-start = few-nodes-from 16 c (stepsAfter os k) (corners-within c (stepsAfter os k) (f .sized .start) few)
+  four-and-start = few-nodes-from 16 c (stepsAfter os k) (corners-within c (stepsAfter os k) (f .sized .start) few-steps)
 
   pub at-most-eight : AtMostEight (nodesAfter c os k) (cornersAfter c os k)
   at-most-eight = omega (arith, four-and-start)
 
   most-corners : cornersAfter c os k ≤ suc mostSteps
-  most-corners = omega (arith, few, length-visited-le (cornersFrom c (stepsAfter os k)), length-cornersFrom c (stepsAfter os k))
+  most-corners = omega (arith, few-steps, length-visited-le (cornersFrom c (stepsAfter os k)), length-cornersFrom c (stepsAfter os k))
 
 -- ---- tables that are large enough at every moment
 module _ {c : Corner} {os t ms ch t′ ms′ ch′ : List ℕ} {r : Answer} (w : WalkIs c os t ms ch r t′ ms′ ch′) where

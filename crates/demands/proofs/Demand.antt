@@ -15,12 +15,12 @@ use Rattle.answer.specs.declared.Judged.the-variants.{Good, Refused}
 use Rattle.answer.specs.declared.Refusal.{Refusal}
 use Rattle.answer.specs.declared.Refusal.the-variants.{NoRoom}
 use Rattle.answer.specs.declared.Verdict.{Verdict, the-variants.ThereAndBack}
-use Rattle.answer.specs.Limits.{noMeeting}
+use Rattle.answer.specs.Limits.{mostSteps, noMeeting, farthest, Near}
 use Rattle.answer.specs.Refusal.{refusalNumber, refusalPlace}
 use Rattle.answer.specs.Words.{factsWords, answerWords, countedWords, judgedWords}
 use Rattle.lists.specs.Lists.{sumOf, Distinct, Below}
 use Rattle.grid.specs.declared.{Corner.Corner, Panel.Panel}
-use Rattle.grid.specs.Grid.{origin, cornersFrom, endFrom, stepped, back}
+use Rattle.grid.specs.Grid.{corner, origin, cornersFrom, endFrom, stepped, back}
 use Rattle.grid.specs.Tree.{AncestorAt, root, WithinLevels, pathOf}
 use Rattle.steps.specs.Operations.{survivors}
 use Rattle.steps.specs.Turns.{turnOf, turnsOf, stepAfter, stepsOf, ConvertedBy}
@@ -51,7 +51,7 @@ use Rattle.tree_laws.proofs.EdgeLaws as edgeLaws
 use Rattle.table_laws.proofs.DiffLaws as diffLaws
 use Rattle.steps.proofs.TurnLaws as turnLaws
 use Rattle.steps.proofs.TurnPromiseLaws as promiseLaws
-use Rattle.demands.specs.Moments.{nodesAfter, cornersAfter, visitsAfter, changesAt, AtMostEight, FourAndStart, FourLessThree, Exceeds}
+use Rattle.demands.specs.Moments.{stepsAfter, nodesAfter, cornersAfter, visitsAfter, changesAt, sumTo, AtMostEight, FourAndStart, FourLessThree, Exceeds}
 use Rattle.demands.specs.Given.{Faultless, NoRoomAfter, GivenWalk}
 use Rattle.demands.specs.GivenTurns.{GivenTurns}
 use Rattle.demands.specs.GivenHull.{GivenHull}
@@ -63,6 +63,8 @@ use Rattle.demands.proofs.AcceptedLaws as acceptedLaws
 use Rattle.demands.proofs.BufferLaws as bufferLaws
 use Rattle.demands.proofs.AloneLaws as aloneLaws
 use Rattle.demands.proofs.ChangedLaws as changedLaws
+use Rattle.demands.proofs.CostLaws as costLaws
+use Rattle.demands.proofs.ReachedLaws as reachedLaws
 use Rattle.demands.proofs.CallLaws as callLaws
 use Rattle.demands.proofs.DigitLaws as digitLaws
 
@@ -188,6 +190,18 @@ module _ {c : Corner} {os t ms ch t′ ms′ ch′ : List ℕ} {f : Facts} (w : 
   pub changed-at-most : (k : ℕ) → k < length os → getD ms′ (markWords * k + 2) 0 ≤ 33
   changed-at-most = changedLaws.its-few w
 
+  -- and never 33
+  pub changed-fewer : (k : ℕ) → k < length os → getD ms′ (markWords * k + 2) 0 ≤ 32
+  changed-fewer = changedLaws.its-fewer w
+
+  -- where no step is taken back the records that differ add up to at most three for each step, 16 for each different corner, and 256
+  pub changed-sum : Below 4 os → sumTo (length os) (λ k. getD ms′ (markWords * k + 2) 0) ≤ 3 * length os + 16 * f .corners + 256
+  changed-sum = costLaws.its-cost w
+
+  -- so what a walk writes grows with its steps alone
+  pub changed-linear : Below 4 os → sumTo (length os) (λ k. getD ms′ (markWords * k + 2) 0) ≤ 19 * length os + 272
+  changed-linear = costLaws.its-line w
+
   -- the surviving steps, then zeros
   pub chain-bytes : ch′ ≡ survivors os ++ replicate (length os - length (survivors os)) 0
   chain-bytes = walkLaws.its-chain w
@@ -195,6 +209,15 @@ module _ {c : Corner} {os t ms ch t′ ms′ ch′ : List ℕ} {f : Facts} (w : 
   -- no buffer changes its length
   pub same-lengths : (length t′ ≡ length t) × (length ms′ ≡ length ms) × (length ch′ ≡ length ch)
   same-lengths = acceptedLaws.its-lengths w
+
+-- 32 is reached: 16,384 steps east from (16384,16384) are accepted, and the last of them makes a link at each of 15 levels
+pub changed-reached : {t ms ch t′ ms′ ch′ : List ℕ} {r : Answer} → WalkIs (corner (pos 16384) (pos 16384)) (replicate 16384 0) t ms ch r t′ ms′ ch′
+    → length t ≡ 65604 * width → length ms ≡ markWords * 16384 → length ch ≡ 16384 → (f : Facts) × (r ≡ Answer.Accepted f) × (getD ms′ (markWords * 16383 + 2) 0 ≡ 32)
+changed-reached = reachedLaws.sixteen-thousand
+
+-- where no step is taken back they add up from the origin to at most three for each step and 16 for each different corner, less 12
+pub changed-sum-origin : {os t ms ch t′ ms′ ch′ : List ℕ} {f : Facts} → WalkIs origin os t ms ch (Answer.Accepted f) t′ ms′ ch′ → Below 4 os → sumTo (length os) (λ k. getD ms′ (markWords * k + 2) 0) + 12 ≤ 3 * length os + 16 * f .corners
+changed-sum-origin = costLaws.its-cost-origin
 
 -- only one first meeting, and only one verdict
 pub firstMeets-one : {c : Corner} {ds : List ℕ} {j k j′ k′ : ℕ} → FirstMeets c ds j k → FirstMeets c ds j′ k′ → (j ≡ j′) × (k ≡ k′)
@@ -358,6 +381,14 @@ module _ {c : Corner} {os t ms ch t′ ms′ ch′ t₁ ms₁ ch₁ t₂ ms₂ c
 -- before the first operation the nodes are the start and its ancestors, from the root down
 pub start-planted : (c : Corner) → nodesOf (cornersFrom c []) ≡ pathOf c
 start-planted = startLaws.nodes-start
+
+-- "no walk has more than 16,384 surviving steps at any moment"
+pub steps-few : {c : Corner} {os : List ℕ} {words marks chain : ℕ} → Faultless c os words marks chain → (k : ℕ) → k ≤ length os → length (stepsAfter os k) ≤ mostSteps
+steps-few = aloneLaws.few-steps
+
+-- "coordinates may then reach 32,768", and no corner is farther from 0
+pub corners-far : (c : Corner) (ds : List ℕ) → Near c → length ds ≤ mostSteps → (q : Corner) → List·Memᴰ q (cornersFrom c ds) → (natAbs (q .0) ≤ farthest) × (natAbs (q .1) ≤ farthest)
+corners-far = aloneLaws.corners-far
 
 -- "after every operation, the nodes in use number at most eight times the different corners that the walk then touches plus 68"
 pub at-most-eight : {c : Corner} {os : List ℕ} {words marks chain : ℕ} → Faultless c os words marks chain → (k : ℕ) → k ≤ length os → AtMostEight (nodesAfter c os k) (cornersAfter c os k)

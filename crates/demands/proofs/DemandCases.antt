@@ -14,7 +14,7 @@ use Rattle.lists.proofs.GatherLaws.{mem→any}
 use Rattle.tree.specs.Nodes.{InUse, LinkedBy}
 use Rattle.layout.specs.Table.{width}
 use Rattle.steps.specs.Operations.{Fine}
-use Rattle.demands.specs.Moments.{nodesAfter, cornersAfter, visitsAfter, AtMostEight, FourLessThree, Exceeds}
+use Rattle.demands.specs.Moments.{nodesAfter, cornersAfter, visitsAfter, changesAt, sumTo, AtMostEight, FourLessThree, Exceeds}
 use Rattle.demands.specs.Given.{HasRecords, FineAt, BadDigitAt, FirstAt, NoRoomAfter}
 
 -- 0011 needs six nodes for its five corners at its last moment, so five records are too few and six are enough
@@ -81,3 +81,14 @@ linked-unwalked = record {
   joined = inl ((refl, refl), (refl, refl));
   differ = λ e. stepped-ne 1 (corner (pos 1) (pos 0)) (sym e);
 }
+
+-- two steps east from (2,2): the second, from a corner within two levels, changes two records for each of them, and two; along the axis one fewer
+six-changed : changesAt (corner (pos 2) (pos 2)) (0 ∷ 0 ∷ []) 1 ≡ 6
+six-changed = refl
+
+five-changed : changesAt (corner (pos 2) (pos 0)) (0 ∷ 0 ∷ []) 1 ≡ 5
+five-changed = refl
+
+-- the records that the steps of 0011 change: 2, 2, 3 and 5
+pub changed-in-all : sumTo 4 (changesAt origin (0 ∷ 0 ∷ 1 ∷ 1 ∷ [])) ≡ 12
+changed-in-all = refl

@@ -7,6 +7,8 @@ pub mod RecordLaws
 pub mod AcceptedLaws
 pub mod AloneLaws
 pub mod ChangedLaws
+pub mod CostLaws
+pub mod ReachedLaws
 pub mod CallLaws
 pub mod DigitLaws
 pub mod RoomCallLaws
@@ -21,6 +23,12 @@ pub mod Convex
 pub mod Rows
 pub mod Outline
 pub mod ShareLaws
+pub mod LineCases
+pub mod FieldLaws
+pub mod LineCallLaws
+pub mod LineRoomLaws
+pub mod CellLaws
+pub mod LineRowLaws
 pub mod Lines
 pub mod Overlay
 pub mod PolygonIn

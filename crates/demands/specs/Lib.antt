@@ -1,4 +1,5 @@
--- The moments of a walk, when each answer of the calls is given, what a record says, what is lent for the surviving steps alone, and an input in parts.
+-- The moments of a walk, when each answer of the calls and of the programs on lines is given, what a record says, what is lent for the surviving steps alone, an
+-- input in parts, and what is read in the lines that are written.
 pub mod Moments
 pub mod Given
 pub mod GivenTurns
@@ -8,6 +9,9 @@ pub mod GivenRows
 pub mod GivenOverlay
 pub mod GivenOutline
 pub mod GivenFile
+pub mod GivenLine
 pub mod Record
 pub mod Alone
 pub mod Shares
+pub mod Fields
+pub mod Cells

@@ -1,7 +1,7 @@
 -- The moments of a walk: what survives after its first k operations, and the nodes and corners that it then has.
 -- Assumes nothing.
 use mathlib.Core.List.{List}
-use Prim.Native.Nat.{ℕ, suc, _+_, _*_, _<_, _≤_}
+use Prim.Native.Nat.{ℕ, zero, suc, _+_, _*_, _<_, _≤_}
 use lib.ListN.{length, take}
 use Rattle.lists.specs.Lists.{count}
 use Rattle.grid.specs.declared.Corner.{Corner}
@@ -30,6 +30,11 @@ visitsAfter c os k = count (same (endFrom c (stepsAfter os k))) (cornersFrom c (
 -- the records that differ before and after operation k, counted from 0
 abbrev pub changesAt : Corner → List ℕ → ℕ → ℕ
 changesAt c os k = changesOf c (stepsAfter os k) (stepsAfter os (suc k))
+
+-- the sum of the first n values
+abbrev pub sumTo : ℕ → (ℕ → ℕ) → ℕ
+sumTo zero f = 0
+sumTo (suc n) f = sumTo n f + f n
 
 -- at most eight nodes for each corner and 68, as it was demanded
 abbrev pub AtMostEight : ℕ → ℕ → Type 0

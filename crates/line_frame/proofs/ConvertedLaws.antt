@@ -1,13 +1,12 @@
 -- Lines converted: which change, what they become, and the whole output of the converter.
 -- Assumes nothing.
-use mathlib.Core.Path.{_≡_, refl, sym, ap, ap₂, _∙_, subst}
+use mathlib.Core.Path.{_≡_, refl, sym, ap, _∙_, subst}
 use mathlib.Core.Bool.{Bool, true, false, _&&_}
 use mathlib.Core.List.{List, [], _∷_, _++_}
-use Prim.Native.Nat.{ℕ, suc, _+_, _/_, _%_, _<_, _≤_}
+use Prim.Native.Nat.{ℕ, _+_, _<_, _≤_}
 use native.Mathlib.Omega.{arith}
-use native.Mathlib.Decide.{decLt}
-use borrow.Author.Tests.{le-leb, lt-leb, lt-ltb, le-ltb, ne-eqb}
-use lib.ListN.{length, length-append}
+use borrow.Author.Tests.{ne-eqb}
+use lib.ListN.{length}
 use Rattle.lists.specs.Lists.{Below}
 use Rattle.answer.specs.declared.Judged.{Judged}
 use Rattle.answer.specs.declared.Judged.the-variants.{Good, Refused}
@@ -18,37 +17,19 @@ use Rattle.line_frame.specs.declared.Kind.the-variants.{Operations, Turn
 use Rattle.line_frame.specs.declared.Frame.{Frame}
 use Rattle.line_frame.specs.declared.Frame.the-variants.{Of, Bad}
 use Rattle.line_frame.specs.Sizes.{headDigits, mostDigits, mostLine}
-use Rattle.line_frame.specs.Hex.{isHex, valueOf, allHex, valuesOf, numberFrom, letterOf, hexOf}
-use Rattle.line_frame.specs.Line.{kindOf, countOf, frameOf, digitsOf, lineAnswer}
+use Rattle.line_frame.specs.Hex.{isHex, allHex}
+use Rattle.line_frame.specs.Line.{frameOf, digitsOf, lineAnswer}
 use Rattle.line_frame.specs.Spelled.{walkedLine}
 use Rattle.line_frame.specs.Program.{outputFrom, feedsIn}
-use Rattle.line_frame.specs.Converted.{lettersOf, stepsFrame, convertedBy, Turned, convertedLine, converted, converter}
-use Rattle.line_frame.proofs.HexLaws.{length-hexOf, isHex-range}
-use Rattle.line_frame.proofs.LineLaws.{frameOf-frame, frame-good, lineAnswer-by, length-digitsOf}
+use Rattle.line_frame.specs.Converted.{stepsFrame, convertedBy, Turned, convertedLine, converted, converter}
+use Rattle.line_frame.proofs.HexLaws.{isHex-range}
+use Rattle.line_frame.proofs.LineLaws.{frame-good, lineAnswer-by, length-digitsOf}
+use Rattle.line_frame.proofs.FrameLaws.{length-framed, framed-hex, frameOf-framed, digits-framed}
 use Rattle.line_frame.proofs.OutputLaws.{feedsIn-more, output-same, output-length, output-feeds, output-then}
 
--- the digit that is worth d
-letter-value : (d : ℕ) → d < 16 → (isHex (letterOf d) ≡ true) × (valueOf (letterOf d) ≡ d)
-letter-value d h =
-    elim (decLt d 10) [
-      | yes l ↦ rw (lt-ltb d 10 l, le-leb 48 (d + 48) (omega arith), le-leb (d + 48) 57 (omega arith)) (refl, omega arith)
-      | no f ↦ rw (le-ltb d 10 (omega (arith, f)), le-leb 48 (d + 87) (omega arith), lt-leb (d + 87) 57 (omega (arith, f)), le-leb 97 (d + 87) (omega (arith, f)), le-leb (d + 87) 102 (omega arith)) (refl, omega arith)
-    ]
-
-pub length-lettersOf : (ds : List ℕ) → length (lettersOf ds) ≡ length ds
-unfolding lettersOf
-length-lettersOf [] = refl
-length-lettersOf (d ∷ ds) = ap suc (length-lettersOf ds)
-
-letters-hex : (ds : List ℕ) → Below 4 ds → allHex (lettersOf ds) ≡ true
-unfolding lettersOf allHex
-letters-hex [] b = refl
-letters-hex (d ∷ ds) b = rw (letter-value d (omega (arith, b .0)) .0) (letters-hex ds (b .1))
-
-letters-values : (ds : List ℕ) → Below 4 ds → valuesOf (lettersOf ds) ≡ ds
-unfolding lettersOf valuesOf
-letters-values [] b = refl
-letters-values (d ∷ ds) b = ap₂ (λ (x : ℕ) (l : List ℕ). x ∷ l) (letter-value d (omega (arith, b .0)) .1) (letters-values ds (b .1))
+below-more : (m n : ℕ) (ds : List ℕ) → m ≤ n → Below m ds → Below n ds
+below-more m n [] h b = tt
+below-more m n (d ∷ ds) h b = (omega (arith, b .0), below-more m n ds h (b .1))
 
 -- digits hold no line feed
 hex-feeds : (s : List ℕ) → allHex s ≡ true → feedsIn s ≡ 0
@@ -59,36 +40,6 @@ hex-feeds (b ∷ s) e = go (isHex b) refl e (λ k. hex-feeds s k)
     go : (c : Bool) → isHex b ≡ c → c && allHex s ≡ true → (allHex s ≡ true → feedsIn s ≡ 0) → feedsIn (b ∷ s) ≡ 0
     go true p q f = feedsIn-more b s (ne-eqb b 10 (λ x. omega (arith, isHex-range b p .0))) ∙ f q
     go false p q f = let z : _≡_ {A = ℕ} 0 1 = cc in absurd (omega arith)
-
--- the frame of kind 00 with some steps
-module _ (ds : List ℕ) (b : Below 4 ds) where
-  length-stepsFrame : length (stepsFrame ds) ≡ headDigits + length ds
-  length-stepsFrame =
-      omega (arith, length-append (hexOf 2 0 ++ hexOf 4 (length ds)) (lettersOf ds), length-append (hexOf 2 0) (hexOf 4 (length ds)), length-hexOf 2 0, length-hexOf 4 (length ds), length-lettersOf ds)
-
-  frame-hex : allHex (stepsFrame ds) ≡ true
-  unfolding allHex hexOf
-  frame-hex =
-      let n : ℕ = length ds in
-      rw (letter-value (n / 16 / 16 / 16 % 16) (omega arith) .0, letter-value (n / 16 / 16 % 16) (omega arith) .0, letter-value (n / 16 % 16) (omega arith) .0, letter-value (n % 16) (omega arith) .0) (letters-hex ds b)
-
-  frame-kind : kindOf (stepsFrame ds) ≡ 0
-  unfolding numberFrom hexOf
-  frame-kind = refl
-
-  frame-count : length ds ≤ mostDigits → length ds ≡ countOf (stepsFrame ds)
-  unfolding numberFrom hexOf
-  frame-count h =
-      let n : ℕ = length ds in
-      omega (arith, letter-value (n / 16 / 16 / 16 % 16) (omega arith) .1, letter-value (n / 16 / 16 % 16) (omega arith) .1, letter-value (n / 16 % 16) (omega arith) .1, letter-value (n % 16) (omega arith) .1)
-
-  frameOf-stepsFrame : length ds ≤ mostDigits → frameOf (stepsFrame ds) ≡ Of Operations (length ds)
-  frameOf-stepsFrame h =
-      sym (frameOf-frame (stepsFrame ds) Operations (length ds) frame-hex (omega (arith, frame-kind)) h length-stepsFrame (rw frame-kind refl) (frame-count h))
-
-  digits-stepsFrame : digitsOf (stepsFrame ds) ≡ ds
-  unfolding hexOf
-  digits-stepsFrame = letters-values ds b
 
 -- a frame's turns are few
 few-turns : (s : List ℕ) (t : Turned s) → (length s ≡ headDigits + length (digitsOf s)) × (length (digitsOf s) ≤ mostDigits)
@@ -145,26 +96,32 @@ module _ (s : List ℕ) (t : Turned s) where
   steps-below : Below 4 (stepsOf (digitsOf s))
   steps-below = stepsOf-below (digitsOf s) (t .turns)
 
+  steps-digits : Below 16 (stepsOf (digitsOf s))
+  steps-digits = below-more 4 16 (stepsOf (digitsOf s)) (omega arith) steps-below
+
   steps-few : length (stepsOf (digitsOf s)) ≤ mostDigits
   steps-few = omega (arith, length-stepsOf (digitsOf s), few-turns s t)
 
-  converted-frame : frameOf (convertedLine s) ≡ Of Operations (length (stepsOf (digitsOf s)))
-  converted-frame = ap frameOf (converted-turned s t) ∙ frameOf-stepsFrame (stepsOf (digitsOf s)) steps-below steps-few
+  pub converted-frame : frameOf (convertedLine s) ≡ Of Operations (length (stepsOf (digitsOf s)))
+  converted-frame = ap frameOf (converted-turned s t) ∙ frameOf-framed 0 (omega arith) (stepsOf (digitsOf s)) steps-digits steps-few
+
+  pub converted-digits : digitsOf (convertedLine s) ≡ stepsOf (digitsOf s)
+  converted-digits = ap digitsOf (converted-turned s t) ∙ digits-framed 0 (omega arith) (stepsOf (digitsOf s)) steps-digits
 
   -- converted, it is answered as they are
   pub converted-answer : lineAnswer (convertedLine s) ≡ walkedLine (stepsOf (digitsOf s))
   converted-answer =
       sym (lineAnswer-by (convertedLine s) (Of Operations (length (stepsOf (digitsOf s)))) converted-frame)
-      ∙ ap walkedLine (ap digitsOf (converted-turned s t) ∙ digits-stepsFrame (stepsOf (digitsOf s)) steps-below)
+      ∙ ap walkedLine converted-digits
 
   turned-length : length (convertedLine s) ≡ length s
   turned-length =
-      omega (arith, ap length (converted-turned s t), length-stepsFrame (stepsOf (digitsOf s)) steps-below, length-stepsOf (digitsOf s), few-turns s t)
+      omega (arith, ap length (converted-turned s t), length-framed 0 (omega arith) (stepsOf (digitsOf s)) steps-digits, length-stepsOf (digitsOf s), few-turns s t)
 
   turned-feeds : feedsIn (convertedLine s) ≡ feedsIn s
   turned-feeds =
       ap feedsIn (converted-turned s t)
-      ∙ hex-feeds (stepsFrame (stepsOf (digitsOf s))) (frame-hex (stepsOf (digitsOf s)) steps-below)
+      ∙ hex-feeds (stepsFrame (stepsOf (digitsOf s))) (framed-hex 0 (omega arith) (stepsOf (digitsOf s)) steps-digits)
       ∙ sym (hex-feeds s (frame-good s Turns (t .count) (t .frame) .digits))
 
 -- a line and what becomes of it

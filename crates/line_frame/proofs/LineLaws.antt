@@ -17,8 +17,9 @@ use Rattle.line_frame.specs.Sizes.{headDigits, mostDigits, mostLine, mos
 use Rattle.line_frame.specs.Hex.{allHex, pairAt, numberFrom}
 use Rattle.line_frame.specs.Line.{frameOf, kindNamed, isFrame, kindOf, countOf, digitsOf, digitsAnswer, answerOf, lineAnswer}
 use Rattle.line_frame.specs.Spelled.{refusedLine}
+use Rattle.line_frame.specs.Program.{feedsIn}
 use Rattle.line_frame.proofs.HexLaws.{length-valuesOf}
-use Rattle.line_frame.proofs.SpelledLaws.{length-refusedLine, walkedLine-most}
+use Rattle.line_frame.proofs.SpelledLaws.{length-refusedLine, walkedLine-most, refusedLine-feeds, walkedLine-feeds}
 
 -- of four tests that pass, the last two
 last-two : (a b c d : Bool) → a && b && c && d ≡ true → (c ≡ true) × (d ≡ true)
@@ -154,3 +155,13 @@ answerOf-most s Bad e = omega (arith, length-refusedLine BadLine)
 pub lineAnswer-most : (s : List ℕ) → length (lineAnswer s) + 1 ≤ mostAnswer
 unfolding lineAnswer
 lineAnswer-most s = answerOf-most s (frameOf s) refl
+
+-- and it is one line
+answerOf-feeds : (f : Frame) (ds : List ℕ) → feedsIn (answerOf f ds) ≡ 0
+answerOf-feeds (Of Operations n) ds = walkedLine-feeds ds
+answerOf-feeds (Of Turns n) ds = refusedLine-feeds RetiredKind
+answerOf-feeds Bad ds = refusedLine-feeds BadLine
+
+pub lineAnswer-feeds : (s : List ℕ) → feedsIn (lineAnswer s) ≡ 0
+unfolding lineAnswer
+lineAnswer-feeds s = answerOf-feeds (frameOf s) (digitsOf s)

@@ -1,7 +1,7 @@
--- How long the answers to good frames are.
+-- How long the answers to good frames are, and that each is one line.
 -- Assumes nothing.
 use mathlib.Core.Path.{_≡_, refl}
-use mathlib.Core.List.{List, [], _∷_}
+use mathlib.Core.List.{List, [], _∷_, _++_}
 use Prim.Native.Nat.{ℕ, _+_, _*_, _≤_}
 use native.Mathlib.Omega.{arith}
 use lib.IntN.{ℤ}
@@ -9,6 +9,8 @@ use lib.ListN.{length, length-append}
 use Rattle.answer.specs.declared.Refusal.{Refusal}
 use Rattle.answer.specs.declared.Facts.{Facts}
 use Rattle.answer.specs.declared.Answer.{Answer}
+use Rattle.answer.specs.Refusal.{refusalNumber, refusalPlace, verdictNumber}
+use Rattle.answer.specs.Words.{bitsOf}
 use Rattle.grid.specs.declared.Corner.{Corner}
 use Rattle.grid.specs.Grid.{origin}
 use Rattle.steps.specs.Operations.{survivors}
@@ -22,8 +24,9 @@ use Rattle.hull_laws.proofs.JoinLaws.{length-numbers}
 use Rattle.answer.specs.declared.Answer.the-variants as walked
 use Rattle.line_frame.specs.Sizes.{mostDigits, tableWords, refusedDigits, factsDigits, mostAnswer}
 use Rattle.line_frame.specs.Hex.{hexOf}
+use Rattle.line_frame.specs.Program.{feedsIn}
 use Rattle.line_frame.specs.Spelled.{refusedLine, factsLine, numbersLine, hullLine, answerLine, walkedLine}
-use Rattle.line_frame.proofs.HexLaws.{length-hexOf}
+use Rattle.line_frame.proofs.HexLaws.{length-hexOf, none-append, field-feeds}
 
 pub length-refusedLine : (r : Refusal) → length (refusedLine r) ≡ refusedDigits
 length-refusedLine r = simp (length-append, length-hexOf)
@@ -52,3 +55,36 @@ pub walkedLine-most : (os : List ℕ) → length os ≤ mostDigits → length (w
 unfolding walkedLine
 walkedLine-most os h =
     answerLine-most (walkAnswer origin os tableWords (markWords * length os) (length os)) (survivors os) (omega (arith, length-survivors [] os))
+
+-- ---- no line feed
+field-more : (l : List ℕ) (n v : ℕ) → feedsIn l ≡ 0 → feedsIn (l ++ hexOf n v) ≡ 0
+field-more l n v h = none-append l (hexOf n v) h (field-feeds n v)
+
+pub refusedLine-feeds : (r : Refusal) → feedsIn (refusedLine r) ≡ 0
+refusedLine-feeds r = field-more (hexOf 2 (0x80 + refusalNumber r)) 8 (refusalPlace r) (field-feeds 2 (0x80 + refusalNumber r))
+
+factsLine-feeds : (f : Facts) → feedsIn (factsLine f) ≡ 0
+factsLine-feeds f =
+    let l1 : List ℕ = hexOf 2 (verdictNumber (f .verdict)) in
+    let l2 : List ℕ = l1 ++ hexOf 4 (f .steps) in
+    let l3 : List ℕ = l2 ++ hexOf 8 (f .nodes) in
+    let l4 : List ℕ = l3 ++ hexOf 4 (f .corners) in
+    let l5 : List ℕ = l4 ++ hexOf 4 (f .j) in
+    let l6 : List ℕ = l5 ++ hexOf 4 (f .k) in
+    let h3 = field-more l2 8 (f .nodes) (field-more l1 4 (f .steps) (field-feeds 2 (verdictNumber (f .verdict)))) in
+    field-more l6 8 (bitsOf (f .area)) (field-more l5 4 (f .k) (field-more l4 4 (f .j) (field-more l3 4 (f .corners) h3)))
+
+pub numbersLine-feeds : (zs : List ℤ) → feedsIn (numbersLine zs) ≡ 0
+unfolding numbersLine
+numbersLine-feeds [] = refl
+numbersLine-feeds (z ∷ zs) = none-append (hexOf 4 (bitsOf z)) (numbersLine zs) (field-feeds 4 (bitsOf z)) (numbersLine-feeds zs)
+
+answerLine-feeds : (a : Answer) (w : List ℕ) → feedsIn (answerLine a w) ≡ 0
+answerLine-feeds (walked.Accepted f) w =
+    let L = hullOf origin w in
+    none-append (factsLine f) (hullLine L) (factsLine-feeds f) (none-append (hexOf 4 (length L)) (numbersLine (numbers L)) (field-feeds 4 (length L)) (numbersLine-feeds (numbers L)))
+answerLine-feeds (walked.Refused r) w = refusedLine-feeds r
+
+pub walkedLine-feeds : (os : List ℕ) → feedsIn (walkedLine os) ≡ 0
+unfolding walkedLine
+walkedLine-feeds os = answerLine-feeds (walkAnswer origin os tableWords (markWords * length os) (length os)) (survivors os)

@@ -9,9 +9,13 @@ unfoldable pub lettersOf : List ℕ → List ℕ
 lettersOf [] = []
 lettersOf (d ∷ ds) = letterOf d ∷ lettersOf ds
 
+-- the frame of this kind with these digits: two digits for the kind, four for their number, and one for each
+abbrev pub framed : ℕ → List ℕ → List ℕ
+framed kind ds = hexOf 2 kind ++ hexOf 4 (length ds) ++ lettersOf ds
+
 -- the frame of kind 00 with these steps
 abbrev pub stepsFrame : List ℕ → List ℕ
-stepsFrame ds = hexOf 2 0 ++ hexOf 4 (length ds) ++ lettersOf ds
+stepsFrame ds = framed 0 ds
 
 -- a frame of kind 01 whose turns may be converted becomes the frame of kind 00 with their steps; any other frame stays
 abbrev pub kindConverted : Kind → List ℕ → List ℕ

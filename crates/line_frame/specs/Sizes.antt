@@ -19,7 +19,7 @@ abbrev pub mostHeld : ℕ
 mostHeld = suc mostLine
 
 -- records of the table in which a frame is walked, and the words that they take
-abbrev frameRecords : ℕ
+abbrev pub frameRecords : ℕ
 frameRecords = 320
 
 abbrev pub tableWords : ℕ

@@ -41,14 +41,14 @@ pub rowsTold-long : (s : List ℕ) → mostLine < length s → rowsTold s ≡ re
 rowsTold-long s h = sym (rowsTold-by s (Answer.Refused BadLine) (lineWalked-long s h))
 
 -- a span takes 13 bytes, a refusal 11
-length-spansTold : (l : List Span) → length (spansTold l) ≡ 13 * length l
+pub length-spansTold : (l : List Span) → length (spansTold l) ≡ 13 * length l
 unfolding spansTold
 length-spansTold [] = refl
 length-spansTold (s ∷ l) =
     let z = s .row ∷ s .first ∷ s .last ∷ [] in
     omega (arith, length-append (numbersLine z ++ (10 ∷ [])) (spansTold l), length-append (numbersLine z) (10 ∷ []), length-numbersLine z, length-spansTold l)
 
-length-refusedTold : (r : Refusal) → length (refusedTold r) ≡ 11
+pub length-refusedTold : (r : Refusal) → length (refusedTold r) ≡ 11
 length-refusedTold r = omega (arith, length-append (refusedLine r) (10 ∷ []), length-refusedLine r)
 
 feet-few : (c : Corner) (ds : List ℕ) → length (feetFrom c ds) ≤ length ds

@@ -3,11 +3,10 @@
 use mathlib.Core.Path.{_≡_, refl, sym, ap, _∙_}
 use mathlib.Core.Bool.{Bool, true, false, not, cond}
 use mathlib.Core.List.{List, [], _∷_, _++_, append-assoc}
-use Prim.Native.Nat.{ℕ, zero, suc, _+_, _/_, _%_, _<_}
+use Prim.Native.Nat.{ℕ, suc, _+_, _<_}
 use native.Mathlib.Omega.{arith}
-use borrow.Author.Tests.{ne-eqb}
 use lib.IntN.{ℤ, pos, negsuc}
-use lib.Dec.{eqb, ltb}
+use lib.Dec.{eqb}
 use lib.ListN.{length}
 use Rattle.lists.specs.Lists.{tally}
 use Rattle.grid.specs.Grid.{origin}
@@ -18,20 +17,17 @@ use Rattle.answer.specs.Refusal.{verdictNumber, refusalNumber, refusalPlace}
 use Rattle.polygon.specs.Polygon.{polygonOf}
 use Rattle.room.specs.Room.{isRoom}
 use Rattle.steps.specs.Operations.{survivors}
-use Rattle.line_frame.specs.Hex.{letterOf, hexOf}
+use Rattle.line_frame.specs.Hex.{hexOf}
 use Rattle.line_frame.specs.Line.{digitsOf}
 use Rattle.line_frame.specs.Program.{outputFrom, feedsIn}
 use Rattle.line_frame.proofs.OutputLaws.{feedsIn-append, feedsIn-feed, feedsIn-more, output-line, output-last}
+use Rattle.line_frame.proofs.HexLaws.{none-append, field-feeds}
 use Rattle.line_room.specs.Walked.{lineWalked}
 use Rattle.sheet.specs.Decimal.{decimalOf, signedOf}
 use Rattle.sheet.specs.Sizes.{mostDecimals}
 use Rattle.sheet.specs.Entry.{cellOf, cellsOf, noFacts, hexBytes, polygonCell, entryBy, entryOf}
 use Rattle.sheet.specs.Sheet.{entered, entries, numberedFrom, entriesFrom, beginsAfter, linesIn, header, sheet}
 use Rattle.sheet.proofs.NumberLaws.{decimal-feeds, cell-feeds, numbered-feeds}
-
--- no line feed in either
-none-append : (r s : List ℕ) → feedsIn r ≡ 0 → feedsIn s ≡ 0 → feedsIn (r ++ s) ≡ 0
-none-append r s g h = omega (arith, feedsIn-append r s)
 
 signed-feeds : (k : ℕ) (z : ℤ) → feedsIn (signedOf k z) ≡ 0
 signed-feeds k (pos n) = decimal-feeds k n
@@ -52,22 +48,10 @@ cells-feeds number place f =
     let h8 = more l7 (f .k) (more l6 (f .j) (more l5 (f .corners) h5)) in
     none-append (l8 ++ signedOf mostDecimals (f .area)) (44 ∷ []) (none-append l8 (signedOf mostDecimals (f .area)) h8 (signed-feeds mostDecimals (f .area))) refl
 
-letter-feeds : (d : ℕ) → feedsIn (letterOf d ∷ []) ≡ 0
-letter-feeds d = go (ltb d 10)
-  where
-    go : (b : Bool) → feedsIn (cond b (d + 48) (d + 87) ∷ []) ≡ 0
-    go true = feedsIn-more (d + 48) [] (ne-eqb (d + 48) 10 (λ e. omega arith))
-    go false = feedsIn-more (d + 87) [] (ne-eqb (d + 87) 10 (λ e. omega arith))
-
-hex-feeds : (n v : ℕ) → feedsIn (hexOf n v) ≡ 0
-unfolding hexOf
-hex-feeds zero v = refl
-hex-feeds (suc n) v = none-append (hexOf n (v / 16)) (letterOf (v % 16) ∷ []) (hex-feeds n (v / 16)) (letter-feeds (v % 16))
-
 bytes-feeds : (s : List ℕ) → feedsIn (hexBytes s) ≡ 0
 unfolding hexBytes
 bytes-feeds [] = refl
-bytes-feeds (b ∷ s) = none-append (hexOf 2 b) (hexBytes s) (hex-feeds 2 b) (bytes-feeds s)
+bytes-feeds (b ∷ s) = none-append (hexOf 2 b) (hexBytes s) (field-feeds 2 b) (bytes-feeds s)
 
 polygon-feeds : (w : List ℕ) → feedsIn (polygonCell w) ≡ 0
 polygon-feeds w = go (isRoom origin w)
@@ -135,18 +119,23 @@ none-snoc : (r : List ℕ) (b : ℕ) → isNone (r ++ (b ∷ [])) ≡ false
 none-snoc [] b = refl
 none-snoc (a ∷ r) b = refl
 
-entries-feeds : (r s : List ℕ) → feedsIn (outputFrom entered entered r s) ≡ feedsIn s + tally (not (beginsAfter (isNone r) s))
-unfolding outputFrom beginsAfter
-entries-feeds [] [] = refl
-entries-feeds (b ∷ r) [] = entered-feeds (b ∷ r)
-entries-feeds r (b ∷ s) = go (eqb b 10) refl (entries-feeds [] s) (entries-feeds (r ++ (b ∷ [])) s)
-  where
-    go : (c : Bool) → eqb b 10 ≡ c → feedsIn (outputFrom entered entered [] s) ≡ feedsIn s + tally (not (beginsAfter true s))
-        → feedsIn (outputFrom entered entered (r ++ (b ∷ [])) s) ≡ feedsIn s + tally (not (beginsAfter (isNone (r ++ (b ∷ []))) s))
-        → feedsIn (elim c [ true ↦ entered r ++ outputFrom entered entered [] s | false ↦ outputFrom entered entered (r ++ (b ∷ [])) s ]) ≡ feedsIn (b ∷ s) + tally (not (beginsAfter c s))
-    go true e f g = omega (arith, feedsIn-append (entered r) (outputFrom entered entered [] s), entered-feeds r, f, feedsIn-feed b s e)
-    go false e f g = omega (arith, g, feedsIn-more b s e, ap (λ (t : Bool). tally (not (beginsAfter t s))) (none-snoc r b))
+-- an output that has one line for each line has as many as there are
+module _ (told : List ℕ → List ℕ) (one : (l : List ℕ) → feedsIn (told l) ≡ 1) where
+  output-feeds : (r s : List ℕ) → feedsIn (outputFrom told told r s) ≡ feedsIn s + tally (not (beginsAfter (isNone r) s))
+  unfolding outputFrom beginsAfter
+  output-feeds [] [] = refl
+  output-feeds (b ∷ r) [] = one (b ∷ r)
+  output-feeds r (b ∷ s) = go (eqb b 10) refl (output-feeds [] s) (output-feeds (r ++ (b ∷ [])) s)
+    where
+      go : (c : Bool) → eqb b 10 ≡ c → feedsIn (outputFrom told told [] s) ≡ feedsIn s + tally (not (beginsAfter true s))
+          → feedsIn (outputFrom told told (r ++ (b ∷ [])) s) ≡ feedsIn s + tally (not (beginsAfter (isNone (r ++ (b ∷ []))) s))
+          → feedsIn (elim c [ true ↦ told r ++ outputFrom told told [] s | false ↦ outputFrom told told (r ++ (b ∷ [])) s ]) ≡ feedsIn (b ∷ s) + tally (not (beginsAfter c s))
+      go true e f g = omega (arith, feedsIn-append (told r) (outputFrom told told [] s), one r, f, feedsIn-feed b s e)
+      go false e f g = omega (arith, g, feedsIn-more b s e, ap (λ (t : Bool). tally (not (beginsAfter t s))) (none-snoc r b))
+
+  pub output-lines : (s : List ℕ) → feedsIn (outputFrom told told [] s) ≡ linesIn s
+  output-lines s = output-feeds [] s
 
 -- as many rows as lines, after the header
 pub sheet-rows : (s : List ℕ) → feedsIn (sheet s) ≡ suc (linesIn s)
-sheet-rows s = omega (arith, feedsIn-append header (entriesFrom 1 s), numbered-feeds true 1 (entries s), entries-feeds [] s)
+sheet-rows s = omega (arith, feedsIn-append header (entriesFrom 1 s), numbered-feeds true 1 (entries s), output-lines entered entered-feeds s)

@@ -442,3 +442,17 @@ fn changes_are_those_of_whole_tables() {
         }
     }
 }
+
+/// An operation changes 32 records at most, and the last of all steps from the farthest corner does; all together change few for
+/// each step and corner.
+#[test]
+fn changes_at_most_thirty_two() {
+    let east = vec![0; answer::MOST_STEPS];
+    let walked = walk_from((16_384, 16_384), &east, 65_604);
+    let changes: Vec<usize> = walked.marks.iter().map(|mark| mark[2] as usize).collect();
+    assert_eq!(changes.iter().max(), Some(&32));
+    assert_eq!(changes.last(), Some(&32));
+    let corners = walked.facts().corners as usize;
+    assert_eq!(corners, east.len() + 1);
+    assert!(changes.iter().sum::<usize>() <= 3 * east.len() + 16 * corners + 256);
+}

@@ -5,7 +5,7 @@ use borrow.Author.Needs.{needs}
 use lib.ListN.{length, length-append}
 use Rattle.line_frame.specs.Hex.{hexOf}
 use Rattle.line_frame.proofs.HexLaws.{length-hexOf}
-use Rattle.line_frame.proofs.ConvertedLaws.{length-lettersOf}
+use Rattle.line_frame.proofs.FrameLaws.{length-lettersOf}
 use Rattle.line_fields.proofs.PutLaws.{wrote-append}
 use Rattle.line_convert.proofs.spell_frame.Statement.{statement}
 use Rattle.line_convert.proofs.spell_frame.Tie as tie

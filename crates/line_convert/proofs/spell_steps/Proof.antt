@@ -6,7 +6,7 @@ use native.Mathlib.Omega.{arith}
 use borrow.Author.Needs.{needs}
 use lib.ListN.{length, drop}
 use Rattle.line_frame.specs.Converted.{lettersOf}
-use Rattle.line_frame.proofs.ConvertedLaws.{length-lettersOf}
+use Rattle.line_frame.proofs.FrameLaws.{length-lettersOf}
 use Rattle.line_fields.specs.Put.{put}
 use Rattle.line_convert.proofs.ConvertLaws.{put-begun, put-next, put-done, letter-at, below-at}
 use Rattle.line_convert.proofs.spell_steps.Statement.{statement}
