@@ -1,11 +1,13 @@
 -- What is asked of the call that tells whether a room is convex (RULES 17), as theorems about its promise, `ConvexCall`. Each is proved by naming a law.
 -- Assumes nothing.
-use mathlib.Core.List.{List, map}
+use mathlib.Core.List.{List, [], _∷_, map}
 use mathlib.Core.Logic.{_↔_}
-use mathlib.Core.Path.{_≡_}
+use mathlib.Core.Path.{_≡_, ap}
 use Prim.Native.Nat.{ℕ, _<_}
 use Rattle.lists.specs.Lists.{Below}
 use Rattle.answer.specs.declared.{Counted.Counted, Judged.the-variants.Good, Judged.the-variants.Refused, Refusal.Refusal}
+use Rattle.answer.specs.Refusal.{refusalNumber, refusalPlace}
+use Rattle.answer.specs.Words.{countedWords}
 use Rattle.grid.specs.declared.{Corner.Corner, Panel.Panel}
 use Rattle.grid.specs.Grid.{endFrom, cornerAt}
 use Rattle.trace.specs.Verdict.{IsRoom}
@@ -59,6 +61,16 @@ module _ {s : Corner} {ds : List ℕ} {r : Counted} (w : ConvexCall s ds r) wher
   -- and no exactly if not every such panel is
   pub convex-no-centres : r ≡ Counted.Many 0 ↔ (GivenRoom s ds Good × (((q : Panel) → InHull (Inside s ds) q → Inside s ds q) → ⊥))
   convex-no-centres = convexCallLaws.no-centres-when w
+
+  -- the numbers of each
+  pub convex-refused-words : (q : Refusal) → GivenRoom s ds (Refused q) → countedWords r ≡ refusalNumber q ∷ refusalPlace q ∷ 0 ∷ []
+  convex-refused-words q g = ap countedWords (convex-refused-exactly q .1 g)
+
+  pub convex-yes-words : GivenRoom s ds Good → ConvexRoom s ds → countedWords r ≡ 0 ∷ 0 ∷ 1 ∷ []
+  convex-yes-words g h = ap countedWords (convex-yes-exactly .1 (g, h))
+
+  pub convex-no-words : GivenRoom s ds Good → (ConvexRoom s ds → ⊥) → countedWords r ≡ 0 ∷ 0 ∷ 0 ∷ []
+  convex-no-words g h = ap countedWords (convex-no-exactly .1 (g, h))
 
 module _ (c : Corner) (ds : List ℕ) (r : IsRoom c ds) where
   -- "travelled clockwise": the inside is on the right of each step
