@@ -103,7 +103,7 @@ pub corners-far : (c : Corner) (ds : List ℕ) → Near c → length ds ≤ most
 corners-far c ds n l q m = let b = corners-near c ds q m in (omega (arith, b .0, n .0), omega (arith, b .1, n .1))
 
 -- every corner of a walk that may start there is within 16 levels
-corners-within : (c : Corner) (ds : List ℕ) → Near c → length ds ≤ mostSteps → (q : Corner) → List·Memᴰ q (cornersFrom c ds) → WithinLevels 16 q
+pub corners-within : (c : Corner) (ds : List ℕ) → Near c → length ds ≤ mostSteps → (q : Corner) → List·Memᴰ q (cornersFrom c ds) → WithinLevels 16 q
 corners-within c ds n l q m = let b = corners-far c ds n l q m in record { x = omega (arith, b .0); y = omega (arith, b .1) }
 
 module _ {c : Corner} {os : List ℕ} {words marks chain : ℕ} (f : Faultless c os words marks chain) (k : ℕ) (h : k ≤ length os) where
