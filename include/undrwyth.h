@@ -77,7 +77,7 @@ typedef uint64_t undrwyth_size;
  * of an outline or of a call on a room by how many steps the chain has, and of a call on two rooms the longer chain: 256
  * at most, 2,048 at most, or more. */
 #define UNDRWYTH_WALK_STACK_BYTES 1024          /* 440 measured */
-#define UNDRWYTH_WALK_TWO_STACK_BYTES 2048
+#define UNDRWYTH_WALK_TWO_STACK_BYTES 1536      /* 1,072 measured */
 #define UNDRWYTH_HULL_256_STACK_BYTES 3072      /* 2,496 measured */
 #define UNDRWYTH_HULL_2048_STACK_BYTES 17408    /* 16,832 measured */
 #define UNDRWYTH_HULL_STACK_BYTES 132096        /* 131,520 measured */
