@@ -440,9 +440,8 @@ uint32_t undrwyth_overlay(int32_t start1_x, int32_t start1_y,
  * The room is the walk of the n steps in chain from the corner (start_x, start_y). It is travelled clockwise and cut into
  * four parts at the lowest of its leftmost corners, the leftmost of its highest, the highest of its rightmost and the
  * rightmost of its lowest. It is convex where each part, turned back to the first, goes east and north only, and no
- * other grid point lies between the part and its upper convex hull, the hull line included. On every room of up to 16
- * steps this was compared with another rule: a panel whose centre lies in the convex hull of the centres of the panels
- * inside is inside too.
+ * other grid point lies between the part and its upper convex hull, the hull line included. That is so exactly if every
+ * panel whose centre lies in the convex hull of the centres of the panels inside is inside too.
  *
  * Accepted: the answer's last word is 1 for yes and 0 for no. Refused with 1, 10, 4, 6 or 12, in this order.
  *

@@ -1,4 +1,4 @@
-/* Undrwyth, the program convert for aarch64 under Linux: made by scripts/dist from the sources of state dc7a63e4a78ff7483a9ddee94cc2dc2ca4ad66ce632030ed04638995b1f07eb2, which the Rattle kit proved; do not edit. SPDX-License-Identifier: MIT */
+/* Undrwyth, the program convert for aarch64 under Linux: made by scripts/dist from the sources of state a9bd208eebd346588f225e17afa85f12dd39a1d8fae94c51ab3256a86e2795d9, which the Rattle kit proved; do not edit. SPDX-License-Identifier: MIT */
 	.file	"rattle"
 	.section	".text.line_convert::end_line","ax",@progbits
 	.p2align	2

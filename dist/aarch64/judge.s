@@ -1,4 +1,4 @@
-/* Undrwyth, the program judge for aarch64 under Linux: made by scripts/dist from the sources of state dc7a63e4a78ff7483a9ddee94cc2dc2ca4ad66ce632030ed04638995b1f07eb2, which the Rattle kit proved; do not edit. SPDX-License-Identifier: MIT */
+/* Undrwyth, the program judge for aarch64 under Linux: made by scripts/dist from the sources of state a9bd208eebd346588f225e17afa85f12dd39a1d8fae94c51ab3256a86e2795d9, which the Rattle kit proved; do not edit. SPDX-License-Identifier: MIT */
 	.file	"rattle"
 	.section	".text.hull_scan::list_in","ax",@progbits
 	.p2align	2
@@ -263,17 +263,14 @@
 	.xword	-24
 	.xword	-20
 .LCPI1_1:
-	.xword	0
-	.xword	-28
+	.xword	-16
+	.xword	-12
 .LCPI1_2:
 	.xword	-8
 	.xword	0
-.LCPI1_3:
-	.xword	-16
-	.xword	-12
 	.section	.rodata.cst8,"aM",@progbits,8
 	.p2align	3, 0x0
-.LCPI1_4:
+.LCPI1_3:
 	.byte	15
 	.byte	15
 	.byte	15
@@ -282,7 +279,7 @@
 	.byte	15
 	.byte	15
 	.byte	255
-.LCPI1_5:
+.LCPI1_4:
 	.byte	10
 	.byte	10
 	.byte	10
@@ -296,56 +293,65 @@
 	.type	"line_parts::spell_refusal",@function
 "line_parts::spell_refusal":
 	ldrb	w10, [x2]
-	ldr	x11, [x2, #8]
-	adrp	x12, ".Lswitch.table.line_parts::spell_refusal"
-	add	x12, x12, :lo12:".Lswitch.table.line_parts::spell_refusal"
+	mov	x9, xzr
+	mov	w8, #1
+	lsl	w8, w8, w10
+	mov	w11, #65415
+	movk	w11, #23, lsl #16
+	tst	w8, w11
+	b.ne	.LBB1_2
+	ldr	x9, [x2, #8]
+.LBB1_2:
 	add	x8, x0, x1
-	mov	w9, #48
-	adrp	x13, .LCPI1_0
-	ldr	q0, [x13, :lo12:.LCPI1_0]
-	adrp	x13, .LCPI1_1
-	ldr	q1, [x13, :lo12:.LCPI1_1]
-	adrp	x13, .LCPI1_2
-	ldr	q2, [x13, :lo12:.LCPI1_2]
-	adrp	x13, .LCPI1_3
-	ldr	q3, [x13, :lo12:.LCPI1_3]
-	adrp	x13, .LCPI1_4
-	ldr	x12, [x12, w10, uxtw #3]
-	sub	w10, w10, #3
-	cmp	w10, #4
-	csel	x10, x11, xzr, lo
-	dup	v4.2d, x10
-	lsr	w11, w12, #4
-	ushl	v0.2d, v4.2d, v0.2d
-	ushl	v2.2d, v4.2d, v2.2d
-	ushl	v3.2d, v4.2d, v3.2d
-	fmov	d4, x12
-	adrp	x12, .LCPI1_5
-	uzp1	v2.4s, v3.4s, v2.4s
-	movi	v3.8b, #48
-	mov	v4.d[1], x10
-	ushl	v1.2d, v4.2d, v1.2d
-	movi	v4.8b, #87
-	uzp1	v0.4s, v1.4s, v0.4s
-	ldr	d1, [x13, :lo12:.LCPI1_4]
-	uzp1	v0.8h, v0.8h, v2.8h
-	ldr	d2, [x12, :lo12:.LCPI1_5]
-	and	w12, w10, #0xf
-	bfxil	w9, w10, #0, #4
-	ubfx	w10, w10, #4, #4
-	add	w13, w12, #87
-	cmp	w12, #10
-	orr	w11, w11, #0x30
-	csel	w9, w9, w13, lo
-	strb	w11, [x8]
-	strb	w9, [x8, #9]
-	xtn	v0.8b, v0.8h
-	and	v0.8b, v0.8b, v1.8b
-	cmhi	v1.8b, v2.8b, v0.8b
-	mov	v0.b[7], w10
-	orr	v2.8b, v0.8b, v3.8b
-	add	v0.8b, v0.8b, v4.8b
-	bit	v0.8b, v2.8b, v1.8b
+	add	w13, w10, #1
+	and	w11, w9, #0xf
+	mov	w10, #48
+	dup	v0.2d, x9
+	adrp	x14, .LCPI1_0
+	lsr	x15, x9, #28
+	adrp	x16, .LCPI1_1
+	adrp	x17, .LCPI1_2
+	ubfx	w12, w9, #4, #4
+	ldr	q1, [x14, :lo12:.LCPI1_0]
+	adrp	x14, .LCPI1_3
+	ldr	q2, [x16, :lo12:.LCPI1_1]
+	adrp	x16, .LCPI1_4
+	ldr	q3, [x17, :lo12:.LCPI1_2]
+	lsr	w17, w13, #4
+	ushl	v1.2d, v0.2d, v1.2d
+	ushl	v2.2d, v0.2d, v2.2d
+	ushl	v0.2d, v0.2d, v3.2d
+	fmov	s3, w13
+	mov	v3.b[1], w15
+	xtn	v1.2s, v1.2d
+	mov	w13, v1.s[1]
+	mov	v3.b[2], v1.b[0]
+	movi	v1.8b, #48
+	xtn	v2.2s, v2.2d
+	mov	w15, v2.s[1]
+	mov	v3.b[3], w13
+	mov	v3.b[4], v2.b[0]
+	movi	v2.8b, #87
+	bfxil	w10, w9, #0, #4
+	xtn	v0.2s, v0.2d
+	mov	w9, v0.s[1]
+	mov	v3.b[5], w15
+	mov	v3.b[6], v0.b[0]
+	ldr	d0, [x14, :lo12:.LCPI1_3]
+	add	w13, w11, #87
+	cmp	w11, #10
+	mov	v3.b[7], w9
+	and	v0.8b, v3.8b, v0.8b
+	ldr	d3, [x16, :lo12:.LCPI1_4]
+	orr	w9, w17, #0x38
+	csel	w10, w10, w13, lo
+	strb	w9, [x8]
+	strb	w10, [x8, #9]
+	cmhi	v3.8b, v3.8b, v0.8b
+	mov	v0.b[7], w12
+	orr	v1.8b, v0.8b, v1.8b
+	add	v0.8b, v0.8b, v2.8b
+	bit	v0.8b, v1.8b, v3.8b
 	add	x0, x1, #10
 	stur	d0, [x8, #1]
 	ret
@@ -510,11 +516,8 @@
 .LBB2_21:
 	strb	w9, [x0]
 	strb	w11, [x0, #8]
-	strb	wzr, [x0, #15]
-	sturh	wzr, [x0, #13]
-	stur	wzr, [x0, #9]
 	stp	x8, x23, [x0, #16]
-	stp	x24, x26, [x0, #32]
+	stp	x24, x25, [x0, #32]
 	str	x27, [x0, #48]
 	str	w12, [x0, #56]
 	stur	x10, [x0, #60]
@@ -662,26 +665,26 @@
 	mov	w11, #1
 	b.hs	.LBB2_145
 	mov	x11, xzr
-	mov	x25, xzr
+	mov	x26, xzr
 	add	x12, sp, #48
 	b	.LBB2_43
 .LBB2_41:
 	lsr	x13, x11, #14
 	mov	w9, #1
 	cbnz	x13, .LBB2_131
-	add	x25, x25, #1
-	cmp	x19, x25
+	add	x26, x26, #1
+	cmp	x19, x26
 	add	x11, x9, x11
 	b.eq	.LBB2_47
 .LBB2_43:
-	ldrb	w9, [x12, x25]
+	ldrb	w9, [x12, x26]
 	cmp	w9, #4
 	b.hi	.LBB2_128
 	b.ne	.LBB2_41
 	cbz	x11, .LBB2_132
 	mov	x9, #-1
-	add	x25, x25, #1
-	cmp	x19, x25
+	add	x26, x26, #1
+	cmp	x19, x26
 	add	x11, x9, x11
 	b.ne	.LBB2_43
 .LBB2_47:
@@ -708,7 +711,7 @@
 	str	w12, [sp, #12]
 	mov	x29, xzr
 	mov	x28, xzr
-	mov	x25, xzr
+	mov	x26, xzr
 	mov	x9, xzr
 	mov	w16, #25
 	mov	w17, #100
@@ -716,7 +719,7 @@
 	mov	w1, #7
 	movi	v0.2d, #0000000000000000
 	mov	w27, #65535
-	mov	w26, #65535
+	mov	w25, #65535
 	mov	w24, #1
 	mov	w23, #1
 	b	.LBB2_55
@@ -803,7 +806,7 @@
 	eor	x15, x15, #0x2
 	add	w14, w14, #1
 	str	w14, [x12, #84]
-	cinc	w12, w25, eq
+	cinc	w12, w26, eq
 	cmp	w3, #2
 	madd	x15, x9, x16, x15
 	add	x15, x8, x15, lsl #2
@@ -817,10 +820,10 @@
 	cmp	x23, x11
 	ldr	w15, [x13, #72]
 	csel	x23, x23, x11, hi
-	add	x11, x25, x14, lsl #32
+	add	x11, x26, x14, lsl #32
 	and	x11, x11, #0xffffffff00000000
 	cmp	w15, #1
-	orr	x25, x11, x12
+	orr	x26, x11, x12
 	b.ne	.LBB2_65
 	mov	w11, wzr
 	add	x24, x24, #1
@@ -833,7 +836,7 @@
 	b.ne	.LBB2_101
 	mov	w11, wzr
 	ldr	w12, [x13, #80]
-	sub	x26, x12, #1
+	sub	x25, x12, #1
 	mov	x27, x28
 	cmp	w3, #4
 	b.eq	.LBB2_54
@@ -845,7 +848,7 @@
 	b	.LBB2_80
 .LBB2_68:
 	mov	x6, xzr
-	lsr	x7, x25, #32
+	lsr	x7, x26, #32
 	cmp	w3, #0
 	cset	w11, eq
 	cmp	w3, #2
@@ -855,7 +858,7 @@
 	sub	w30, w11, w13
 	cset	w11, eq
 	sub	w13, w11, w14
-	mov	w11, w25
+	mov	w11, w26
 	mov	w15, w7
 	b	.LBB2_70
 .LBB2_69:
@@ -965,8 +968,8 @@
 	ldr	w14, [x2, #76]
 	cmp	w14, w28
 	b.ne	.LBB2_91
-	lsr	x6, x25, #32
-	mov	w20, w25
+	lsr	x6, x26, #32
+	mov	w20, w26
 .LBB2_90:
 	madd	x14, x9, x17, x8
 	and	w9, w6, #0x1
@@ -998,16 +1001,16 @@
 	cmp	x27, x28
 	mov	w12, #65535
 	csel	x9, x12, x27, eq
-	csel	x14, x12, x26, eq
+	csel	x14, x12, x25, eq
 	cmp	w7, #1
 	cset	w15, eq
 	csel	x27, x27, x9, eq
-	csel	x26, x26, x14, eq
+	csel	x25, x25, x14, eq
 	cmp	x5, #0
 	sub	x24, x24, x15
 	cset	w9, eq
 	cmp	x5, #2
-	cinc	w14, w25, eq
+	cinc	w14, w26, eq
 	cmp	x5, #3
 	sub	w9, w14, w9
 	cset	w14, eq
@@ -1015,9 +1018,9 @@
 	cset	w15, eq
 	sub	w14, w14, w15
 	sub	x28, x28, #1
-	add	x14, x25, x14, lsl #32
+	add	x14, x26, x14, lsl #32
 	and	x14, x14, #0xffffffff00000000
-	orr	x25, x14, x9
+	orr	x26, x14, x9
 	mov	x9, x13
 	cmp	w3, #4
 	b.eq	.LBB2_54
@@ -1150,10 +1153,10 @@
 .LBB2_113:
 	subs	x6, x6, #1
 	mov	w15, w7
-	mov	w2, w25
+	mov	w2, w26
 	b.eq	.LBB2_116
 	mov	x14, x20
-	mov	w2, w25
+	mov	w2, w26
 	mov	w15, w7
 .LBB2_115:
 	add	w2, w2, w2, lsr #31
@@ -1220,9 +1223,9 @@
 	mov	w11, #1
 	b	.LBB2_145
 .LBB2_122:
-	mov	x25, xzr
+	mov	x26, xzr
 	mov	x28, xzr
-	mov	w26, #65535
+	mov	w25, #65535
 	mov	w23, #1
 	mov	w24, #1
 	mov	w27, #65535
@@ -1236,7 +1239,7 @@
 .LBB2_125:
 	mov	w9, wzr
 	cbz	x28, .LBB2_130
-	cbz	x25, .LBB2_134
+	cbz	x26, .LBB2_134
 	mov	w12, wzr
 	mov	w8, #65535
 	cmp	x27, x8
@@ -1268,15 +1271,15 @@
 	b	.LBB2_145
 .LBB2_134:
 	mov	w11, #4
-	cbnz	x26, .LBB2_139
+	cbnz	x25, .LBB2_139
 	cmp	x27, x28
 	b.ne	.LBB2_139
 	cmp	x28, #2
 	b.ne	.LBB2_140
 	mov	w9, wzr
-	mov	x26, xzr
-	mov	w12, wzr
 	mov	x25, xzr
+	mov	w12, wzr
+	mov	x26, xzr
 	mov	w11, #5
 	mov	w27, #2
 	mov	w29, #2
@@ -1312,8 +1315,8 @@
 	sub	w9, w13, w15
 	b.ne	.LBB2_141
 	mov	w9, wzr
-	mov	x26, xzr
 	mov	x25, xzr
+	mov	x26, xzr
 	mov	w11, #2
 	mov	x27, x28
 .LBB2_143:
@@ -1322,7 +1325,7 @@
 	str	x29, [sp, #1080]
 	add	x13, sp, #1072
 .LBB2_145:
-	str	x25, [x13]
+	str	x26, [x13]
 	ldr	x8, [sp, #1080]
 	ldr	x10, [sp, #1072]
 	b	.LBB2_21
@@ -2703,32 +2706,6 @@ main:
 	b	.LBB4_46
 .Lfunc_end4:
 	.size	main, .Lfunc_end4-main
-
-	.type	".Lswitch.table.line_parts::spell_refusal",@object
-	.section	".rodata..Lswitch.table.line_parts::spell_refusal","a",@progbits
-	.p2align	3, 0x0
-".Lswitch.table.line_parts::spell_refusal":
-	.xword	129
-	.xword	130
-	.xword	131
-	.xword	132
-	.xword	133
-	.xword	134
-	.xword	135
-	.xword	136
-	.xword	137
-	.xword	138
-	.xword	139
-	.xword	140
-	.xword	141
-	.xword	142
-	.xword	143
-	.xword	144
-	.xword	145
-	.xword	146
-	.xword	147
-	.xword	149
-	.size	".Lswitch.table.line_parts::spell_refusal", 160
 
 	.ident	"rattle logic=064da1ca440f63e7502b45d89e7a7af6f35f329843886d4ee3931549ff4b3b79"
 	.section	".note.GNU-stack","",@progbits

@@ -1,4 +1,4 @@
-/* Undrwyth, the program polygons for aarch64 under Linux: made by scripts/dist from the sources of state dc7a63e4a78ff7483a9ddee94cc2dc2ca4ad66ce632030ed04638995b1f07eb2, which the Rattle kit proved; do not edit. SPDX-License-Identifier: MIT */
+/* Undrwyth, the program polygons for aarch64 under Linux: made by scripts/dist from the sources of state a9bd208eebd346588f225e17afa85f12dd39a1d8fae94c51ab3256a86e2795d9, which the Rattle kit proved; do not edit. SPDX-License-Identifier: MIT */
 	.file	"rattle"
 	.section	.rodata.cst16,"aM",@progbits,16
 	.p2align	4, 0x0
@@ -930,11 +930,8 @@
 .LBB3_21:
 	strb	w9, [x0]
 	strb	w11, [x0, #8]
-	strb	wzr, [x0, #15]
-	sturh	wzr, [x0, #13]
-	stur	wzr, [x0, #9]
 	stp	x8, x23, [x0, #16]
-	stp	x24, x26, [x0, #32]
+	stp	x24, x25, [x0, #32]
 	str	x27, [x0, #48]
 	str	w12, [x0, #56]
 	stur	x10, [x0, #60]
@@ -1082,26 +1079,26 @@
 	mov	w11, #1
 	b.hs	.LBB3_145
 	mov	x11, xzr
-	mov	x25, xzr
+	mov	x26, xzr
 	add	x12, sp, #48
 	b	.LBB3_43
 .LBB3_41:
 	lsr	x13, x11, #14
 	mov	w9, #1
 	cbnz	x13, .LBB3_131
-	add	x25, x25, #1
-	cmp	x19, x25
+	add	x26, x26, #1
+	cmp	x19, x26
 	add	x11, x9, x11
 	b.eq	.LBB3_47
 .LBB3_43:
-	ldrb	w9, [x12, x25]
+	ldrb	w9, [x12, x26]
 	cmp	w9, #4
 	b.hi	.LBB3_128
 	b.ne	.LBB3_41
 	cbz	x11, .LBB3_132
 	mov	x9, #-1
-	add	x25, x25, #1
-	cmp	x19, x25
+	add	x26, x26, #1
+	cmp	x19, x26
 	add	x11, x9, x11
 	b.ne	.LBB3_43
 .LBB3_47:
@@ -1128,7 +1125,7 @@
 	str	w12, [sp, #12]
 	mov	x29, xzr
 	mov	x28, xzr
-	mov	x25, xzr
+	mov	x26, xzr
 	mov	x9, xzr
 	mov	w16, #25
 	mov	w17, #100
@@ -1136,7 +1133,7 @@
 	mov	w1, #7
 	movi	v0.2d, #0000000000000000
 	mov	w27, #65535
-	mov	w26, #65535
+	mov	w25, #65535
 	mov	w24, #1
 	mov	w23, #1
 	b	.LBB3_55
@@ -1223,7 +1220,7 @@
 	eor	x15, x15, #0x2
 	add	w14, w14, #1
 	str	w14, [x12, #84]
-	cinc	w12, w25, eq
+	cinc	w12, w26, eq
 	cmp	w3, #2
 	madd	x15, x9, x16, x15
 	add	x15, x8, x15, lsl #2
@@ -1237,10 +1234,10 @@
 	cmp	x23, x11
 	ldr	w15, [x13, #72]
 	csel	x23, x23, x11, hi
-	add	x11, x25, x14, lsl #32
+	add	x11, x26, x14, lsl #32
 	and	x11, x11, #0xffffffff00000000
 	cmp	w15, #1
-	orr	x25, x11, x12
+	orr	x26, x11, x12
 	b.ne	.LBB3_65
 	mov	w11, wzr
 	add	x24, x24, #1
@@ -1253,7 +1250,7 @@
 	b.ne	.LBB3_101
 	mov	w11, wzr
 	ldr	w12, [x13, #80]
-	sub	x26, x12, #1
+	sub	x25, x12, #1
 	mov	x27, x28
 	cmp	w3, #4
 	b.eq	.LBB3_54
@@ -1265,7 +1262,7 @@
 	b	.LBB3_80
 .LBB3_68:
 	mov	x6, xzr
-	lsr	x7, x25, #32
+	lsr	x7, x26, #32
 	cmp	w3, #0
 	cset	w11, eq
 	cmp	w3, #2
@@ -1275,7 +1272,7 @@
 	sub	w30, w11, w13
 	cset	w11, eq
 	sub	w13, w11, w14
-	mov	w11, w25
+	mov	w11, w26
 	mov	w15, w7
 	b	.LBB3_70
 .LBB3_69:
@@ -1385,8 +1382,8 @@
 	ldr	w14, [x2, #76]
 	cmp	w14, w28
 	b.ne	.LBB3_91
-	lsr	x6, x25, #32
-	mov	w20, w25
+	lsr	x6, x26, #32
+	mov	w20, w26
 .LBB3_90:
 	madd	x14, x9, x17, x8
 	and	w9, w6, #0x1
@@ -1418,16 +1415,16 @@
 	cmp	x27, x28
 	mov	w12, #65535
 	csel	x9, x12, x27, eq
-	csel	x14, x12, x26, eq
+	csel	x14, x12, x25, eq
 	cmp	w7, #1
 	cset	w15, eq
 	csel	x27, x27, x9, eq
-	csel	x26, x26, x14, eq
+	csel	x25, x25, x14, eq
 	cmp	x5, #0
 	sub	x24, x24, x15
 	cset	w9, eq
 	cmp	x5, #2
-	cinc	w14, w25, eq
+	cinc	w14, w26, eq
 	cmp	x5, #3
 	sub	w9, w14, w9
 	cset	w14, eq
@@ -1435,9 +1432,9 @@
 	cset	w15, eq
 	sub	w14, w14, w15
 	sub	x28, x28, #1
-	add	x14, x25, x14, lsl #32
+	add	x14, x26, x14, lsl #32
 	and	x14, x14, #0xffffffff00000000
-	orr	x25, x14, x9
+	orr	x26, x14, x9
 	mov	x9, x13
 	cmp	w3, #4
 	b.eq	.LBB3_54
@@ -1570,10 +1567,10 @@
 .LBB3_113:
 	subs	x6, x6, #1
 	mov	w15, w7
-	mov	w2, w25
+	mov	w2, w26
 	b.eq	.LBB3_116
 	mov	x14, x20
-	mov	w2, w25
+	mov	w2, w26
 	mov	w15, w7
 .LBB3_115:
 	add	w2, w2, w2, lsr #31
@@ -1640,9 +1637,9 @@
 	mov	w11, #1
 	b	.LBB3_145
 .LBB3_122:
-	mov	x25, xzr
+	mov	x26, xzr
 	mov	x28, xzr
-	mov	w26, #65535
+	mov	w25, #65535
 	mov	w23, #1
 	mov	w24, #1
 	mov	w27, #65535
@@ -1656,7 +1653,7 @@
 .LBB3_125:
 	mov	w9, wzr
 	cbz	x28, .LBB3_130
-	cbz	x25, .LBB3_134
+	cbz	x26, .LBB3_134
 	mov	w12, wzr
 	mov	w8, #65535
 	cmp	x27, x8
@@ -1688,15 +1685,15 @@
 	b	.LBB3_145
 .LBB3_134:
 	mov	w11, #4
-	cbnz	x26, .LBB3_139
+	cbnz	x25, .LBB3_139
 	cmp	x27, x28
 	b.ne	.LBB3_139
 	cmp	x28, #2
 	b.ne	.LBB3_140
 	mov	w9, wzr
-	mov	x26, xzr
-	mov	w12, wzr
 	mov	x25, xzr
+	mov	w12, wzr
+	mov	x26, xzr
 	mov	w11, #5
 	mov	w27, #2
 	mov	w29, #2
@@ -1732,8 +1729,8 @@
 	sub	w9, w13, w15
 	b.ne	.LBB3_141
 	mov	w9, wzr
-	mov	x26, xzr
 	mov	x25, xzr
+	mov	x26, xzr
 	mov	w11, #2
 	mov	x27, x28
 .LBB3_143:
@@ -1742,7 +1739,7 @@
 	str	x29, [sp, #1080]
 	add	x13, sp, #1072
 .LBB3_145:
-	str	x25, [x13]
+	str	x26, [x13]
 	ldr	x8, [sp, #1080]
 	ldr	x10, [sp, #1072]
 	b	.LBB3_21
@@ -1805,27 +1802,31 @@
 	bl	"line_walk::walk_line"
 	ldrb	w8, [sp, #8]
 	ldr	x22, [sp, #24]
-	cbz	w8, .LBB4_2
+	cbz	w8, .LBB4_4
 	ldrb	w8, [sp, #16]
-	adrp	x9, ".Lswitch.table.sheet_entry::enter"
-	add	x9, x9, :lo12:".Lswitch.table.sheet_entry::enter"
+	mov	x4, xzr
+	mov	w9, #1
+	lsl	w9, w9, w8
+	mov	w10, #65415
+	movk	w10, #23, lsl #16
+	tst	w9, w10
+	b.ne	.LBB4_3
+	mov	x4, x22
+.LBB4_3:
 	strb	wzr, [sp, #1192]
 	movi	v0.2d, #0000000000000000
 	stp	q0, q0, [x25, #96]
-	ldr	x3, [x9, w8, uxtw #3]
-	sub	w8, w8, #3
-	cmp	w8, #4
-	csel	x4, x22, xzr, lo
 	stur	q0, [x25, #128]
 	str	wzr, [sp, #1248]
+	add	x3, x8, #1
 	add	x5, sp, #1192
 	mov	x0, x19
 	mov	x1, x21
 	mov	x2, x20
 	bl	"sheet_cells::spell_cells"
 	mov	x20, x0
-	b	.LBB4_26
-.LBB4_2:
+	b	.LBB4_28
+.LBB4_4:
 	ldp	q0, q1, [sp, #32]
 	ldur	q2, [sp, #64]
 	ldr	x8, [sp, #16]
@@ -1862,19 +1863,19 @@
 	add	x8, sp, #3, lsl #12
 	add	x8, x8, #1225
 	ldrb	w8, [x8, #4095]
-	cbnz	w8, .LBB4_26
-	cbz	x22, .LBB4_6
+	cbnz	w8, .LBB4_28
+	cbz	x22, .LBB4_8
 	ldrb	w10, [sp, #80]
 	cmp	x22, #32
-	b.hs	.LBB4_7
+	b.hs	.LBB4_9
 	mov	x9, xzr
 	mov	x8, xzr
-	b	.LBB4_11
-.LBB4_6:
+	b	.LBB4_13
+.LBB4_8:
 	mov	w9, #2
 	mov	w8, #45
-	b	.LBB4_14
-.LBB4_7:
+	b	.LBB4_16
+.LBB4_9:
 	and	x8, x22, #0xffffffffffffffe0
 	dup	v0.16b, w10
 	add	x10, sp, #80
@@ -1898,7 +1899,7 @@
 	movi	v22.2d, #0000000000000000
 	add	x10, x10, #16
 	movi	v25.2d, #0000000000000000
-.LBB4_8:
+.LBB4_10:
 	ldur	q26, [x10, #-16]
 	ext	v27.16b, v0.16b, v26.16b, #15
 	ldr	q0, [x10], #32
@@ -1968,7 +1969,7 @@
 	and	v26.16b, v26.16b, v4.16b
 	add	v17.2d, v17.2d, v26.2d
 	subs	x9, x9, #32
-	b.ne	.LBB4_8
+	b.ne	.LBB4_10
 	add	v4.2d, v24.2d, v18.2d
 	add	v18.2d, v25.2d, v20.2d
 	add	v1.2d, v1.2d, v6.2d
@@ -1987,27 +1988,27 @@
 	addp	d1, v1.2d
 	cmp	x22, x8
 	fmov	x9, d1
-	b.eq	.LBB4_13
+	b.eq	.LBB4_15
 	umov	w10, v0.b[15]
-.LBB4_11:
+.LBB4_13:
 	sub	x11, x22, x8
 	add	x12, sp, #80
 	add	x8, x12, x8
-.LBB4_12:
+.LBB4_14:
 	mov	w12, w10
 	ldrb	w10, [x8], #1
 	cmp	w10, w12, uxtb
 	cinc	x9, x9, ne
 	subs	x11, x11, #1
-	b.ne	.LBB4_12
-.LBB4_13:
+	b.ne	.LBB4_14
+.LBB4_15:
 	add	x9, x9, #2
 	mov	w8, #13
 	orr	x8, x8, x9, lsl #4
 	mov	w10, #16413
 	cmp	x8, x10
-	b.hi	.LBB4_26
-.LBB4_14:
+	b.hi	.LBB4_28
+.LBB4_16:
 	adrp	x10, .LCPI4_0
 	strb	wzr, [sp, #1200]
 	stur	w9, [x25, #97]
@@ -2017,7 +2018,7 @@
 	add	x10, x9, #13
 	str	d0, [sp, #1192]
 	stur	xzr, [x25, #101]
-	cbz	x22, .LBB4_20
+	cbz	x22, .LBB4_22
 	mov	x9, xzr
 	movi	v0.2d, #0000000000000000
 	ldrb	w13, [sp, #80]
@@ -2026,8 +2027,8 @@
 	add	x11, sp, #80
 	mov	w12, #600
 	dup	v2.2s, w12
-	b	.LBB4_17
-.LBB4_16:
+	b	.LBB4_19
+.LBB4_18:
 	dup	v3.2s, w12
 	cmp	w12, #2
 	cset	w13, eq
@@ -2040,32 +2041,32 @@
 	subs	x22, x22, #1
 	ssra	v0.2s, v3.2s, #31
 	mov	w13, w12
-	b.eq	.LBB4_19
-.LBB4_17:
+	b.eq	.LBB4_21
+.LBB4_19:
 	ldrb	w12, [x11], #1
 	cmp	w12, w13, uxtb
-	b.eq	.LBB4_16
+	b.eq	.LBB4_18
 	mul	v3.2s, v0.2s, v2.2s
 	sshll	v3.2d, v3.2s, #0
 	scvtf	v3.2d, v3.2d
 	str	q3, [x21, x9, lsl #4]
 	add	x9, x9, #1
-	b	.LBB4_16
-.LBB4_19:
+	b	.LBB4_18
+.LBB4_21:
 	lsl	x11, x9, #4
 	mov	x9, xzr
 	add	x10, x10, x11
 	cmp	x8, #32
 	stp	xzr, xzr, [x10, #16]
-	b.hs	.LBB4_21
-	b	.LBB4_23
-.LBB4_20:
+	b.hs	.LBB4_23
+	b	.LBB4_25
+.LBB4_22:
 	mov	x9, xzr
 	add	x10, x10, xzr
 	cmp	x8, #32
 	stp	xzr, xzr, [x10, #16]
-	b.lo	.LBB4_23
-.LBB4_21:
+	b.lo	.LBB4_25
+.LBB4_23:
 	and	x9, x8, #0x7fe0
 	add	x10, x20, x19
 	add	x11, sp, #1192
@@ -2078,7 +2079,7 @@
 	add	x10, x10, #32
 	add	x11, x11, #16
 	and	x12, x8, #0x7fe0
-.LBB4_22:
+.LBB4_24:
 	ldp	q5, q6, [x11, #-16]
 	sub	x13, x10, #32
 	movi	v7.16b, #48
@@ -2111,14 +2112,14 @@
 	st2	{ v5.16b, v6.16b }, [x10]
 	add	x10, x10, #64
 	add	x11, x11, #32
-	b.ne	.LBB4_22
-.LBB4_23:
+	b.ne	.LBB4_24
+.LBB4_25:
 	sub	x8, x8, x9
 	add	x11, sp, #1192
 	neg	x10, x20
 	add	x9, x11, x9
 	add	x11, x19, x20
-.LBB4_24:
+.LBB4_26:
 	ldrb	w12, [x9], #1
 	mov	w13, #48
 	sub	x8, x8, #1
@@ -2135,9 +2136,9 @@
 	strb	w13, [x11, #1]
 	csel	w12, w14, w15, lo
 	strb	w12, [x11], #2
-	cbnz	x8, .LBB4_24
+	cbnz	x8, .LBB4_26
 	neg	x20, x10
-.LBB4_26:
+.LBB4_28:
 	mov	w8, #10
 	add	x0, x20, #1
 	strb	w8, [x19, x20]
@@ -3227,32 +3228,6 @@ main:
 	ret
 .Lfunc_end6:
 	.size	main, .Lfunc_end6-main
-
-	.type	".Lswitch.table.sheet_entry::enter",@object
-	.section	".rodata..Lswitch.table.sheet_entry::enter","a",@progbits
-	.p2align	3, 0x0
-".Lswitch.table.sheet_entry::enter":
-	.xword	1
-	.xword	2
-	.xword	3
-	.xword	4
-	.xword	5
-	.xword	6
-	.xword	7
-	.xword	8
-	.xword	9
-	.xword	10
-	.xword	11
-	.xword	12
-	.xword	13
-	.xword	14
-	.xword	15
-	.xword	16
-	.xword	17
-	.xword	18
-	.xword	19
-	.xword	21
-	.size	".Lswitch.table.sheet_entry::enter", 160
 
 	.ident	"rattle logic=064da1ca440f63e7502b45d89e7a7af6f35f329843886d4ee3931549ff4b3b79"
 	.section	".note.GNU-stack","",@progbits

@@ -1,4 +1,4 @@
-/* Undrwyth, the program rows for aarch64 under Linux: made by scripts/dist from the sources of state dc7a63e4a78ff7483a9ddee94cc2dc2ca4ad66ce632030ed04638995b1f07eb2, which the Rattle kit proved; do not edit. SPDX-License-Identifier: MIT */
+/* Undrwyth, the program rows for aarch64 under Linux: made by scripts/dist from the sources of state a9bd208eebd346588f225e17afa85f12dd39a1d8fae94c51ab3256a86e2795d9, which the Rattle kit proved; do not edit. SPDX-License-Identifier: MIT */
 	.file	"rattle"
 	.section	.rodata.cst16,"aM",@progbits,16
 	.p2align	4, 0x0
@@ -674,12 +674,12 @@
 	b	.LBB1_4
 .LBB1_7:
 	mov	x9, xzr
-	mov	x15, xzr
-	lsr	x11, x0, #32
-	and	w12, w2, #0xffff
-	sub	w10, w0, w12
-	sub	w11, w11, w12
-	sub	w12, w10, #1
+	mov	x14, xzr
+	lsr	x10, x0, #32
+	and	w11, w2, #0xffff
+	sub	w10, w10, w11
+	sub	w11, w0, w11
+	sub	w12, w11, #1
 	add	x13, x7, #8
 	b	.LBB1_9
 .LBB1_8:
@@ -689,9 +689,9 @@
 .LBB1_9:
 	ldrh	w17, [x4, x9, lsl #1]
 	cbz	w17, .LBB1_8
-	add	w14, w11, w9
-	add	x16, x15, #1
-	add	x15, x13, x15, lsl #2
+	add	w15, w10, w9
+	add	x16, x14, #1
+	add	x14, x13, x14, lsl #2
 .LBB1_11:
 	ubfiz	x17, x17, #1, #32
 	sub	x17, x17, #2
@@ -700,14 +700,14 @@
 	lsl	x18, x18, #1
 	sub	x18, x18, #2
 	ldrh	w0, [x6, x18]
-	add	w17, w10, w17
-	stp	w14, w17, [x15, #-8]
-	add	w17, w12, w0
-	str	w17, [x15], #12
+	add	w17, w11, w17
+	add	w0, w12, w0
+	stp	w15, w17, [x14, #-8]
+	str	w0, [x14], #12
 	ldrh	w17, [x5, x18]
 	add	x16, x16, #3
 	cbnz	w17, .LBB1_11
-	sub	x15, x16, #1
+	sub	x14, x16, #1
 	b	.LBB1_8
 .LBB1_13:
 	ret
@@ -720,17 +720,14 @@
 	.xword	-24
 	.xword	-20
 .LCPI2_1:
-	.xword	0
-	.xword	-28
+	.xword	-16
+	.xword	-12
 .LCPI2_2:
 	.xword	-8
 	.xword	0
-.LCPI2_3:
-	.xword	-16
-	.xword	-12
 	.section	.rodata.cst8,"aM",@progbits,8
 	.p2align	3, 0x0
-.LCPI2_4:
+.LCPI2_3:
 	.byte	15
 	.byte	15
 	.byte	15
@@ -739,7 +736,7 @@
 	.byte	15
 	.byte	15
 	.byte	255
-.LCPI2_5:
+.LCPI2_4:
 	.byte	10
 	.byte	10
 	.byte	10
@@ -753,56 +750,65 @@
 	.type	"line_parts::spell_refusal",@function
 "line_parts::spell_refusal":
 	ldrb	w10, [x2]
-	ldr	x11, [x2, #8]
-	adrp	x12, ".Lswitch.table.line_parts::spell_refusal"
-	add	x12, x12, :lo12:".Lswitch.table.line_parts::spell_refusal"
+	mov	x9, xzr
+	mov	w8, #1
+	lsl	w8, w8, w10
+	mov	w11, #65415
+	movk	w11, #23, lsl #16
+	tst	w8, w11
+	b.ne	.LBB2_2
+	ldr	x9, [x2, #8]
+.LBB2_2:
 	add	x8, x0, x1
-	mov	w9, #48
-	adrp	x13, .LCPI2_0
-	ldr	q0, [x13, :lo12:.LCPI2_0]
-	adrp	x13, .LCPI2_1
-	ldr	q1, [x13, :lo12:.LCPI2_1]
-	adrp	x13, .LCPI2_2
-	ldr	q2, [x13, :lo12:.LCPI2_2]
-	adrp	x13, .LCPI2_3
-	ldr	q3, [x13, :lo12:.LCPI2_3]
-	adrp	x13, .LCPI2_4
-	ldr	x12, [x12, w10, uxtw #3]
-	sub	w10, w10, #3
-	cmp	w10, #4
-	csel	x10, x11, xzr, lo
-	dup	v4.2d, x10
-	lsr	w11, w12, #4
-	ushl	v0.2d, v4.2d, v0.2d
-	ushl	v2.2d, v4.2d, v2.2d
-	ushl	v3.2d, v4.2d, v3.2d
-	fmov	d4, x12
-	adrp	x12, .LCPI2_5
-	uzp1	v2.4s, v3.4s, v2.4s
-	movi	v3.8b, #48
-	mov	v4.d[1], x10
-	ushl	v1.2d, v4.2d, v1.2d
-	movi	v4.8b, #87
-	uzp1	v0.4s, v1.4s, v0.4s
-	ldr	d1, [x13, :lo12:.LCPI2_4]
-	uzp1	v0.8h, v0.8h, v2.8h
-	ldr	d2, [x12, :lo12:.LCPI2_5]
-	and	w12, w10, #0xf
-	bfxil	w9, w10, #0, #4
-	ubfx	w10, w10, #4, #4
-	add	w13, w12, #87
-	cmp	w12, #10
-	orr	w11, w11, #0x30
-	csel	w9, w9, w13, lo
-	strb	w11, [x8]
-	strb	w9, [x8, #9]
-	xtn	v0.8b, v0.8h
-	and	v0.8b, v0.8b, v1.8b
-	cmhi	v1.8b, v2.8b, v0.8b
-	mov	v0.b[7], w10
-	orr	v2.8b, v0.8b, v3.8b
-	add	v0.8b, v0.8b, v4.8b
-	bit	v0.8b, v2.8b, v1.8b
+	add	w13, w10, #1
+	and	w11, w9, #0xf
+	mov	w10, #48
+	dup	v0.2d, x9
+	adrp	x14, .LCPI2_0
+	lsr	x15, x9, #28
+	adrp	x16, .LCPI2_1
+	adrp	x17, .LCPI2_2
+	ubfx	w12, w9, #4, #4
+	ldr	q1, [x14, :lo12:.LCPI2_0]
+	adrp	x14, .LCPI2_3
+	ldr	q2, [x16, :lo12:.LCPI2_1]
+	adrp	x16, .LCPI2_4
+	ldr	q3, [x17, :lo12:.LCPI2_2]
+	lsr	w17, w13, #4
+	ushl	v1.2d, v0.2d, v1.2d
+	ushl	v2.2d, v0.2d, v2.2d
+	ushl	v0.2d, v0.2d, v3.2d
+	fmov	s3, w13
+	mov	v3.b[1], w15
+	xtn	v1.2s, v1.2d
+	mov	w13, v1.s[1]
+	mov	v3.b[2], v1.b[0]
+	movi	v1.8b, #48
+	xtn	v2.2s, v2.2d
+	mov	w15, v2.s[1]
+	mov	v3.b[3], w13
+	mov	v3.b[4], v2.b[0]
+	movi	v2.8b, #87
+	bfxil	w10, w9, #0, #4
+	xtn	v0.2s, v0.2d
+	mov	w9, v0.s[1]
+	mov	v3.b[5], w15
+	mov	v3.b[6], v0.b[0]
+	ldr	d0, [x14, :lo12:.LCPI2_3]
+	add	w13, w11, #87
+	cmp	w11, #10
+	mov	v3.b[7], w9
+	and	v0.8b, v3.8b, v0.8b
+	ldr	d3, [x16, :lo12:.LCPI2_4]
+	orr	w9, w17, #0x38
+	csel	w10, w10, w13, lo
+	strb	w9, [x8]
+	strb	w10, [x8, #9]
+	cmhi	v3.8b, v3.8b, v0.8b
+	mov	v0.b[7], w12
+	orr	v1.8b, v0.8b, v1.8b
+	add	v0.8b, v0.8b, v2.8b
+	bit	v0.8b, v1.8b, v3.8b
 	add	x0, x1, #10
 	stur	d0, [x8, #1]
 	ret
@@ -967,11 +973,8 @@
 .LBB3_21:
 	strb	w9, [x0]
 	strb	w11, [x0, #8]
-	strb	wzr, [x0, #15]
-	sturh	wzr, [x0, #13]
-	stur	wzr, [x0, #9]
 	stp	x8, x23, [x0, #16]
-	stp	x24, x26, [x0, #32]
+	stp	x24, x25, [x0, #32]
 	str	x27, [x0, #48]
 	str	w12, [x0, #56]
 	stur	x10, [x0, #60]
@@ -1119,26 +1122,26 @@
 	mov	w11, #1
 	b.hs	.LBB3_145
 	mov	x11, xzr
-	mov	x25, xzr
+	mov	x26, xzr
 	add	x12, sp, #48
 	b	.LBB3_43
 .LBB3_41:
 	lsr	x13, x11, #14
 	mov	w9, #1
 	cbnz	x13, .LBB3_131
-	add	x25, x25, #1
-	cmp	x19, x25
+	add	x26, x26, #1
+	cmp	x19, x26
 	add	x11, x9, x11
 	b.eq	.LBB3_47
 .LBB3_43:
-	ldrb	w9, [x12, x25]
+	ldrb	w9, [x12, x26]
 	cmp	w9, #4
 	b.hi	.LBB3_128
 	b.ne	.LBB3_41
 	cbz	x11, .LBB3_132
 	mov	x9, #-1
-	add	x25, x25, #1
-	cmp	x19, x25
+	add	x26, x26, #1
+	cmp	x19, x26
 	add	x11, x9, x11
 	b.ne	.LBB3_43
 .LBB3_47:
@@ -1165,7 +1168,7 @@
 	str	w12, [sp, #12]
 	mov	x29, xzr
 	mov	x28, xzr
-	mov	x25, xzr
+	mov	x26, xzr
 	mov	x9, xzr
 	mov	w16, #25
 	mov	w17, #100
@@ -1173,7 +1176,7 @@
 	mov	w1, #7
 	movi	v0.2d, #0000000000000000
 	mov	w27, #65535
-	mov	w26, #65535
+	mov	w25, #65535
 	mov	w24, #1
 	mov	w23, #1
 	b	.LBB3_55
@@ -1260,7 +1263,7 @@
 	eor	x15, x15, #0x2
 	add	w14, w14, #1
 	str	w14, [x12, #84]
-	cinc	w12, w25, eq
+	cinc	w12, w26, eq
 	cmp	w3, #2
 	madd	x15, x9, x16, x15
 	add	x15, x8, x15, lsl #2
@@ -1274,10 +1277,10 @@
 	cmp	x23, x11
 	ldr	w15, [x13, #72]
 	csel	x23, x23, x11, hi
-	add	x11, x25, x14, lsl #32
+	add	x11, x26, x14, lsl #32
 	and	x11, x11, #0xffffffff00000000
 	cmp	w15, #1
-	orr	x25, x11, x12
+	orr	x26, x11, x12
 	b.ne	.LBB3_65
 	mov	w11, wzr
 	add	x24, x24, #1
@@ -1290,7 +1293,7 @@
 	b.ne	.LBB3_101
 	mov	w11, wzr
 	ldr	w12, [x13, #80]
-	sub	x26, x12, #1
+	sub	x25, x12, #1
 	mov	x27, x28
 	cmp	w3, #4
 	b.eq	.LBB3_54
@@ -1302,7 +1305,7 @@
 	b	.LBB3_80
 .LBB3_68:
 	mov	x6, xzr
-	lsr	x7, x25, #32
+	lsr	x7, x26, #32
 	cmp	w3, #0
 	cset	w11, eq
 	cmp	w3, #2
@@ -1312,7 +1315,7 @@
 	sub	w30, w11, w13
 	cset	w11, eq
 	sub	w13, w11, w14
-	mov	w11, w25
+	mov	w11, w26
 	mov	w15, w7
 	b	.LBB3_70
 .LBB3_69:
@@ -1422,8 +1425,8 @@
 	ldr	w14, [x2, #76]
 	cmp	w14, w28
 	b.ne	.LBB3_91
-	lsr	x6, x25, #32
-	mov	w20, w25
+	lsr	x6, x26, #32
+	mov	w20, w26
 .LBB3_90:
 	madd	x14, x9, x17, x8
 	and	w9, w6, #0x1
@@ -1455,16 +1458,16 @@
 	cmp	x27, x28
 	mov	w12, #65535
 	csel	x9, x12, x27, eq
-	csel	x14, x12, x26, eq
+	csel	x14, x12, x25, eq
 	cmp	w7, #1
 	cset	w15, eq
 	csel	x27, x27, x9, eq
-	csel	x26, x26, x14, eq
+	csel	x25, x25, x14, eq
 	cmp	x5, #0
 	sub	x24, x24, x15
 	cset	w9, eq
 	cmp	x5, #2
-	cinc	w14, w25, eq
+	cinc	w14, w26, eq
 	cmp	x5, #3
 	sub	w9, w14, w9
 	cset	w14, eq
@@ -1472,9 +1475,9 @@
 	cset	w15, eq
 	sub	w14, w14, w15
 	sub	x28, x28, #1
-	add	x14, x25, x14, lsl #32
+	add	x14, x26, x14, lsl #32
 	and	x14, x14, #0xffffffff00000000
-	orr	x25, x14, x9
+	orr	x26, x14, x9
 	mov	x9, x13
 	cmp	w3, #4
 	b.eq	.LBB3_54
@@ -1607,10 +1610,10 @@
 .LBB3_113:
 	subs	x6, x6, #1
 	mov	w15, w7
-	mov	w2, w25
+	mov	w2, w26
 	b.eq	.LBB3_116
 	mov	x14, x20
-	mov	w2, w25
+	mov	w2, w26
 	mov	w15, w7
 .LBB3_115:
 	add	w2, w2, w2, lsr #31
@@ -1677,9 +1680,9 @@
 	mov	w11, #1
 	b	.LBB3_145
 .LBB3_122:
-	mov	x25, xzr
+	mov	x26, xzr
 	mov	x28, xzr
-	mov	w26, #65535
+	mov	w25, #65535
 	mov	w23, #1
 	mov	w24, #1
 	mov	w27, #65535
@@ -1693,7 +1696,7 @@
 .LBB3_125:
 	mov	w9, wzr
 	cbz	x28, .LBB3_130
-	cbz	x25, .LBB3_134
+	cbz	x26, .LBB3_134
 	mov	w12, wzr
 	mov	w8, #65535
 	cmp	x27, x8
@@ -1725,15 +1728,15 @@
 	b	.LBB3_145
 .LBB3_134:
 	mov	w11, #4
-	cbnz	x26, .LBB3_139
+	cbnz	x25, .LBB3_139
 	cmp	x27, x28
 	b.ne	.LBB3_139
 	cmp	x28, #2
 	b.ne	.LBB3_140
 	mov	w9, wzr
-	mov	x26, xzr
-	mov	w12, wzr
 	mov	x25, xzr
+	mov	w12, wzr
+	mov	x26, xzr
 	mov	w11, #5
 	mov	w27, #2
 	mov	w29, #2
@@ -1769,8 +1772,8 @@
 	sub	w9, w13, w15
 	b.ne	.LBB3_141
 	mov	w9, wzr
-	mov	x26, xzr
 	mov	x25, xzr
+	mov	x26, xzr
 	mov	w11, #2
 	mov	x27, x28
 .LBB3_143:
@@ -1779,7 +1782,7 @@
 	str	x29, [sp, #1080]
 	add	x13, sp, #1072
 .LBB3_145:
-	str	x25, [x13]
+	str	x26, [x13]
 	ldr	x8, [sp, #1080]
 	ldr	x10, [sp, #1072]
 	b	.LBB3_21
@@ -2141,7 +2144,7 @@
 	add	x9, x23, x23, lsl #1
 	cmp	x22, x9
 	b.hs	.LBB4_26
-	mov	w8, #19
+	mov	w8, #20
 	fmov	d0, x8
 	b	.LBB4_6
 .LBB4_26:
@@ -3703,32 +3706,6 @@ main:
 	b	.LBB5_47
 .Lfunc_end5:
 	.size	main, .Lfunc_end5-main
-
-	.type	".Lswitch.table.line_parts::spell_refusal",@object
-	.section	".rodata..Lswitch.table.line_parts::spell_refusal","a",@progbits
-	.p2align	3, 0x0
-".Lswitch.table.line_parts::spell_refusal":
-	.xword	129
-	.xword	130
-	.xword	131
-	.xword	132
-	.xword	133
-	.xword	134
-	.xword	135
-	.xword	136
-	.xword	137
-	.xword	138
-	.xword	139
-	.xword	140
-	.xword	141
-	.xword	142
-	.xword	143
-	.xword	144
-	.xword	145
-	.xword	146
-	.xword	147
-	.xword	149
-	.size	".Lswitch.table.line_parts::spell_refusal", 160
 
 	.ident	"rattle logic=064da1ca440f63e7502b45d89e7a7af6f35f329843886d4ee3931549ff4b3b79"
 	.section	".note.GNU-stack","",@progbits

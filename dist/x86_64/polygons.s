@@ -1,4 +1,4 @@
-/* Undrwyth, the program polygons for x86_64 under Linux: made by scripts/dist from the sources of state dc7a63e4a78ff7483a9ddee94cc2dc2ca4ad66ce632030ed04638995b1f07eb2, which the Rattle kit proved; do not edit. SPDX-License-Identifier: MIT */
+/* Undrwyth, the program polygons for x86_64 under Linux: made by scripts/dist from the sources of state a9bd208eebd346588f225e17afa85f12dd39a1d8fae94c51ab3256a86e2795d9, which the Rattle kit proved; do not edit. SPDX-License-Identifier: MIT */
 	.file	"rattle"
 	.section	.rodata.cst16,"aM",@progbits,16
 	.p2align	4, 0x0
@@ -1112,7 +1112,7 @@
 	pushq	%r13
 	pushq	%r12
 	pushq	%rbx
-	subq	$1224, %rsp
+	subq	$1240, %rsp
 	movq	%r9, %r12
 	movq	%r8, %r14
 	movq	%rcx, %r15
@@ -1120,25 +1120,22 @@
 	movq	%rdi, %rbx
 	movdqu	(%rsi), %xmm0
 	movdqa	%xmm0, 128(%rsp)
-	leaq	176(%rsp), %rdi
+	leaq	192(%rsp), %rdi
 	leaq	128(%rsp), %rsi
 	callq	"line_parts::read"
 	movb	$1, %al
-	cmpb	$0, 176(%rsp)
+	cmpb	$0, 192(%rsp)
 	je	.LBB4_3
 	movb	$8, %cl
 	jmp	.LBB4_2
 .LBB4_3:
-	cmpb	$0, 177(%rsp)
+	cmpb	$0, 193(%rsp)
 	je	.LBB4_5
 	movb	$18, %cl
 .LBB4_2:
-.LBB4_136:
+.LBB4_135:
 	movb	%al, (%rbx)
 	movb	%cl, 8(%rbx)
-	movb	$0, 15(%rbx)
-	movw	$0, 13(%rbx)
-	movl	$0, 9(%rbx)
 	movq	%rsi, 16(%rbx)
 	movq	%r15, 24(%rbx)
 	movq	%r8, 32(%rbx)
@@ -1146,7 +1143,7 @@
 	movq	%r10, 48(%rbx)
 	movl	%edx, 56(%rbx)
 	movq	%rdi, 60(%rbx)
-	addq	$1224, %rsp
+	addq	$1240, %rsp
 	popq	%rbx
 	popq	%r12
 	popq	%r13
@@ -1155,12 +1152,13 @@
 	popq	%rbp
 	retq
 .LBB4_5:
+	movq	%rbx, 168(%rsp)
 	movq	%r15, 80(%rsp)
 	movq	%r14, 112(%rsp)
-	movq	184(%rsp), %r13
+	movq	200(%rsp), %r13
 	movq	128(%rsp), %r14
 	movq	136(%rsp), %r15
-	leaq	200(%rsp), %rdi
+	leaq	216(%rsp), %rdi
 	movl	$1024, %edx
 	xorl	%esi, %esi
 	callq	memset@PLT
@@ -1202,8 +1200,8 @@
 	por	%xmm7, %xmm6
 	paddb	%xmm3, %xmm5
 	paddb	%xmm4, %xmm6
-	movdqu	%xmm5, 200(%rsp,%rcx)
-	movdqu	%xmm6, 216(%rsp,%rcx)
+	movdqu	%xmm5, 216(%rsp,%rcx)
+	movdqu	%xmm6, 232(%rsp,%rcx)
 	addq	$32, %rcx
 	cmpq	%rcx, %rax
 	jne	.LBB4_11
@@ -1229,7 +1227,7 @@
 	pandn	%xmm2, %xmm4
 	por	%xmm5, %xmm4
 	paddb	%xmm3, %xmm4
-	movq	%xmm4, 200(%rsp,%rcx)
+	movq	%xmm4, 216(%rsp,%rcx)
 	addq	$8, %rcx
 	cmpq	%rcx, %rax
 	jne	.LBB4_15
@@ -1244,7 +1242,7 @@
 	movl	$169, %edx
 .LBB4_19:
 	addb	%cl, %dl
-	movb	%dl, 200(%rsp,%rax)
+	movb	%dl, 216(%rsp,%rax)
 	incq	%rax
 	jmp	.LBB4_16
 .LBB4_20:
@@ -1275,14 +1273,14 @@
 .LBB4_25:
 	movl	$1, %edx
 	cmpq	$16383, %rcx
-	ja	.LBB4_121
+	ja	.LBB4_120
 .LBB4_26:
 	addq	%rdx, %rcx
 	incq	%r11
 	cmpq	%r11, %r13
 	je	.LBB4_35
 .LBB4_27:
-	cmpb	$4, 200(%rsp,%r11)
+	cmpb	$4, 216(%rsp,%r11)
 	ja	.LBB4_33
 	jne	.LBB4_25
 	movq	$-1, %rdx
@@ -1293,17 +1291,18 @@
 .LBB4_31:
 	movb	$1, %cl
 .LBB4_32:
-.LBB4_135:
+.LBB4_134:
 	movq	%r11, (%rsi)
 	movq	120(%rsp), %rsi
-	movq	192(%rsp), %rdi
-	jmp	.LBB4_136
+	movq	208(%rsp), %rdi
+	movq	168(%rsp), %rbx
+	jmp	.LBB4_135
 .LBB4_33:
 	movb	$3, %cl
 	jmp	.LBB4_34
 .LBB4_35:
 	testq	%rdi, %rdi
-	je	.LBB4_126
+	je	.LBB4_125
 .LBB4_36:
 	leaq	(,%rdi,4), %rdx
 	xorl	%r14d, %r14d
@@ -1320,20 +1319,20 @@
 .LBB4_39:
 	movq	%r13, 88(%rsp)
 	testq	%r13, %r13
-	je	.LBB4_110
-	movl	%r14d, 100(%rsp)
+	je	.LBB4_109
+	movl	%r14d, 108(%rsp)
 	pxor	%xmm0, %xmm0
 	xorl	%esi, %esi
 	movl	$65535, %eax
-	movq	%rax, 8(%rsp)
 	movq	%rax, 16(%rsp)
+	movq	%rax, 32(%rsp)
 	movl	$1, %eax
-	movq	%rax, (%rsp)
+	movq	%rax, 8(%rsp)
 	movl	$1, %r15d
 	xorl	%r13d, %r13d
 	xorl	%r11d, %r11d
 	xorl	%r8d, %r8d
-	movq	%r12, 104(%rsp)
+	movq	%r12, 24(%rsp)
 	jmp	.LBB4_43
 .LBB4_41:
 	addl	%eax, %edi
@@ -1347,14 +1346,12 @@
 	movl	%edi, 8(%rdx,%rax,4)
 	incq	%rsi
 	cmpq	88(%rsp), %rsi
-	movq	104(%rsp), %r12
-	je	.LBB4_111
+	je	.LBB4_110
 .LBB4_43:
-	movzbl	200(%rsp,%rsi), %ecx
-	cmpq	$4, %rcx
-	movq	%r11, 32(%rsp)
+	movzbl	216(%rsp,%rsi), %ebx
+	cmpq	$4, %rbx
+	movq	%r11, 40(%rsp)
 	movq	%rsi, 72(%rsp)
-	movq	%rcx, 40(%rsp)
 	jne	.LBB4_48
 	movzbl	-1(%r12,%r13), %eax
 	movl	%eax, %ecx
@@ -1364,7 +1361,7 @@
 	leaq	(%r8,%r8,4), %rdx
 	leaq	(%rdx,%rdx,4), %rdx
 	addq	%rcx, %rdx
-	movq	%rdx, 24(%rsp)
+	movq	%rdx, 96(%rsp)
 	movl	40(%rbp,%rdx,4), %r10d
 	leaq	-1(%r10), %rsi
 	imulq	$100, %rsi, %rdx
@@ -1405,12 +1402,12 @@
 	jne	.LBB4_46
 	jmp	.LBB4_64
 .LBB4_48:
-	movb	%cl, (%r12,%r13)
+	movb	%bl, (%r12,%r13)
 	incq	%r13
 	leaq	(%r8,%r8,4), %rax
 	leaq	(%rax,%rax,4), %rax
-	movq	%rax, 144(%rsp)
-	addq	%rcx, %rax
+	movq	%rax, 152(%rsp)
+	addq	%rbx, %rax
 	addq	$10, %rax
 	movl	(%rbp,%rax,4), %ecx
 	testq	%rcx, %rcx
@@ -1426,18 +1423,17 @@
 	leal	1(%r13), %edx
 	movl	%edx, 80(%rbp,%rax)
 .LBB4_51:
-	movq	40(%rsp), %r12
-	cmpb	$1, %r12b
+	cmpb	$1, %bl
 	movl	%r11d, %esi
 	adcl	$0, %esi
 	xorl	%edi, %edi
-	cmpb	$1, %r12b
+	cmpb	$1, %bl
 	sete	%dil
-	movq	144(%rsp), %r10
-	addq	%r12, %r10
+	movq	152(%rsp), %r10
+	addq	%rbx, %r10
 	movl	84(%rbp,%r10,4), %edx
 	incl	%edx
-	movl	%r12d, %r9d
+	movl	%ebx, %r9d
 	andl	$3, %r9d
 	movl	%edx, 84(%rbp,%r10,4)
 	leaq	(%r8,%r8,4), %r10
@@ -1445,10 +1441,10 @@
 	xorq	$2, %r9
 	addq	%r10, %r9
 	xorl	%r10d, %r10d
-	cmpb	$2, %r12b
+	cmpb	$2, %bl
 	sete	%r10b
 	subl	%r10d, %esi
-	cmpb	$3, %r12b
+	cmpb	$3, %bl
 	adcl	$-1, %edi
 	cmpq	%rcx, %r15
 	cmovbeq	%rcx, %r15
@@ -1461,19 +1457,22 @@
 	orq	%rdi, %r11
 	cmpl	$1, 72(%rbp,%rax)
 	jne	.LBB4_53
-	incq	(%rsp)
+	incq	8(%rsp)
 	xorl	%edi, %edi
+	movq	24(%rsp), %r12
 	movq	72(%rsp), %rsi
-	jmp	.LBB4_76
+	cmpb	$4, %bl
+	je	.LBB4_42
+	jmp	.LBB4_77
 .LBB4_53:
 	xorl	%edi, %edi
-	cmpq	$65535, 8(%rsp)
+	cmpq	$65535, 16(%rsp)
 	movq	72(%rsp), %rsi
 	jne	.LBB4_76
 	movl	80(%rbp,%rax), %eax
 	decq	%rax
-	movq	%rax, 16(%rsp)
-	movq	%r13, 8(%rsp)
+	movq	%rax, 32(%rsp)
+	movq	%r13, 16(%rsp)
 	jmp	.LBB4_76
 .LBB4_55:
 	movl	$2, %r11d
@@ -1482,23 +1481,22 @@
 	jmp	.LBB4_65
 .LBB4_56:
 	xorl	%eax, %eax
-	movq	40(%rsp), %r12
-	cmpb	$2, %r12b
+	cmpb	$2, %bl
 	sete	%al
-	cmpb	$1, %r12b
+	cmpb	$1, %bl
 	sbbl	$0, %eax
 	xorl	%ecx, %ecx
-	cmpb	$1, %r12b
+	cmpb	$1, %bl
 	sete	%cl
 	movq	%r11, %rdx
 	shrq	$32, %rdx
 	negl	%eax
 	movq	%rax, 56(%rsp)
-	cmpb	$3, %r12b
+	cmpb	$3, %bl
 	adcl	$-1, %ecx
 	movq	%rcx, 48(%rsp)
-	leaq	10(%r12), %rax
-	xorl	%esi, %esi
+	leaq	10(%rbx), %rax
+	xorl	%r12d, %r12d
 	movl	%r11d, %r10d
 	movq	%rdx, 64(%rsp)
 	movl	%edx, %r11d
@@ -1509,7 +1507,7 @@
 	imulq	$100, %r8, %rdx
 	movl	(%rbp,%rdx), %r8d
 	decq	%r8
-	incq	%rsi
+	incq	%r12
 	leaq	(%r8,%r8,4), %rdx
 	leaq	(%rdx,%rdx,4), %rdx
 	addq	%rax, %rdx
@@ -1578,7 +1576,7 @@
 	movl	84(%rbp,%rdx,4), %esi
 	decl	%esi
 	movl	%esi, 84(%rbp,%rdx,4)
-	movq	24(%rsp), %rdx
+	movq	96(%rsp), %rdx
 	movl	%esi, 84(%rbp,%rdx,4)
 	decl	72(%rbp,%r14)
 	jne	.LBB4_69
@@ -1609,7 +1607,7 @@
 .LBB4_72:
 	cmpl	%r13d, 76(%rbp,%r14)
 	jne	.LBB4_75
-	movq	32(%rsp), %rcx
+	movq	40(%rsp), %rcx
 	movq	%rcx, %rax
 	shrq	$32, %rax
 	movl	%ecx, %r10d
@@ -1660,29 +1658,29 @@
 	movq	56(%rsp), %r14
 	cmpq	$2, %r14
 	sete	%al
-	movq	32(%rsp), %r11
+	movq	40(%rsp), %r11
 	addl	%r11d, %eax
 	cmpq	$1, %r14
 	sbbl	$0, %eax
 	xorl	%ecx, %ecx
 	cmpq	$1, %r14
 	sete	%cl
-	movq	8(%rsp), %r10
+	movq	16(%rsp), %r10
 	cmpq	%r13, %r10
 	movq	%r10, %rdx
 	movl	$65535, %r8d
 	cmoveq	%r8, %rdx
-	movq	16(%rsp), %r9
+	movq	32(%rsp), %r9
 	movq	%r9, %rsi
 	cmoveq	%r8, %rsi
 	xorl	%r8d, %r8d
 	cmpl	$1, 48(%rsp)
 	sete	%r8b
 	cmovneq	%rdx, %r10
-	movq	%r10, 8(%rsp)
+	movq	%r10, 16(%rsp)
 	cmovneq	%rsi, %r9
-	movq	%r9, 16(%rsp)
-	subq	%r8, (%rsp)
+	movq	%r9, 32(%rsp)
+	subq	%r8, 8(%rsp)
 	xorl	%edx, %edx
 	cmpq	$3, %r14
 	sete	%dl
@@ -1696,12 +1694,13 @@
 	movq	64(%rsp), %r8
 	movq	%rax, %r11
 	movq	72(%rsp), %rsi
-	movq	40(%rsp), %r12
 .LBB4_76:
-	cmpb	$4, %r12b
+	movq	24(%rsp), %r12
+	cmpb	$4, %bl
 	je	.LBB4_42
+.LBB4_77:
 	movq	%rsi, %r14
-	movl	%r12d, %eax
+	movl	%ebx, %eax
 	andl	$3, %eax
 	xorq	$2, %rax
 	leaq	(%r8,%r8,4), %rcx
@@ -1713,7 +1712,7 @@
 	movl	(%rbp,%rax), %r10d
 	testl	%r10d, %r10d
 	je	.LBB4_81
-	leaq	10(%r12), %rdi
+	leaq	10(%rbx), %rdi
 	movl	$2, %eax
 	movq	%r8, %rdx
 	.p2align	4
@@ -1721,7 +1720,7 @@
 	movl	%r10d, %ecx
 	leaq	(%rcx,%rcx,4), %r9
 	leaq	(%r9,%r9,4), %r9
-	addq	%r12, %r9
+	addq	%rbx, %r9
 	cmpl	%r13d, -44(%rbp,%r9,4)
 	jne	.LBB4_82
 	decq	%rcx
@@ -1771,11 +1770,10 @@
 .LBB4_87:
 	leaq	(%r8,%r8,4), %rax
 	leaq	(%rax,%rax,4), %r10
-	leaq	(%r10,%r12), %rax
+	leaq	(%r10,%rbx), %rax
 	movl	40(%rbp,%rax,4), %r9d
 	testq	%r9, %r9
-	movq	%rsi, 24(%rsp)
-	jne	.LBB4_97
+	jne	.LBB4_96
 	movq	56(%rsp), %rdx
 	addl	%ecx, %edx
 	movq	48(%rsp), %rsi
@@ -1786,7 +1784,7 @@
 	movl	$1, 40(%rbp,%rax,4)
 	movl	%r13d, 56(%rbp,%rax,4)
 	leal	1(%r8), %eax
-	leal	(,%r12,4), %ecx
+	leal	(,%rbx,4), %ecx
 	andl	$12, %ecx
 	xorq	$8, %rcx
 	movl	%eax, 40(%rbp,%rcx)
@@ -1823,16 +1821,15 @@
 	leaq	(%r9,%r9,4), %rdi
 	leaq	(%rdi,%rdi,4), %rdi
 	cmpq	%rdi, 80(%rsp)
-	jb	.LBB4_116
+	jb	.LBB4_115
 	movl	%r9d, (%rbp,%rdx,4)
 	incl	%ecx
 	imulq	$100, %r15, %rdx
 	movl	%ecx, (%rbp,%rdx)
 	movl	%r13d, 76(%rbp,%rdx)
-	movq	40(%rsp), %r12
 .LBB4_95:
 	leaq	-1(%r9), %rcx
-	movl	%r12d, %edx
+	movl	%ebx, %edx
 	andl	$3, %edx
 	xorq	$2, %rdx
 	leal	1(%rcx), %edi
@@ -1845,68 +1842,68 @@
 	movl	%eax, 40(%rbp,%rcx,4)
 	movl	%r13d, 56(%rbp,%rcx,4)
 .LBB4_96:
-	movq	24(%rsp), %rsi
-.LBB4_97:
-	testq	%rsi, %rsi
-	je	.LBB4_109
-	andl	$3, %r12d
-	xorq	$2, %r12
-	movq	%r12, 160(%rsp)
-	leaq	-2(%rsi), %rax
-	movq	%rax, 152(%rsp)
-	leaq	-1(%rsi), %rax
+	testq	%r12, %r12
+	je	.LBB4_108
+	movl	%ebx, %eax
+	andl	$3, %eax
+	xorq	$2, %rax
+	movq	%rax, 184(%rsp)
+	leaq	-2(%r12), %rax
+	movq	%rax, 176(%rsp)
+	leaq	-1(%r12), %rax
+	movq	%r12, %rdi
 	xorl	%r12d, %r12d
-	movq	%rsi, %rdi
-	movq	32(%rsp), %r11
-	movq	%r13, 168(%rsp)
-	jmp	.LBB4_101
+	movq	%rdi, 160(%rsp)
+	movq	40(%rsp), %r11
+	movq	%r13, 96(%rsp)
+	jmp	.LBB4_100
 	.p2align	4
-.LBB4_99:
+.LBB4_98:
 	movl	%ecx, (%rbp,%rdx,4)
 	incl	%r9d
 	imulq	$100, %r11, %rdx
 	movl	%r9d, (%rbp,%rdx)
 	movl	%r13d, 76(%rbp,%rdx)
-.LBB4_100:
+.LBB4_99:
 	decq	%r8
 	leaq	-1(%rcx), %rdx
 	leal	1(%rdx), %r9d
 	leaq	(%r8,%r8,4), %r10
 	leaq	(%r10,%r10,4), %r10
-	addq	40(%rsp), %r10
+	addq	%rbx, %r10
 	movl	%r9d, 40(%rbp,%r10,4)
 	movl	%r13d, 56(%rbp,%r10,4)
 	leal	1(%r8), %r9d
 	leaq	(%rdx,%rdx,4), %rdx
 	leaq	(%rdx,%rdx,4), %rdx
-	addq	160(%rsp), %rdx
+	addq	184(%rsp), %rdx
 	movl	%r9d, 40(%rbp,%rdx,4)
 	movl	%r13d, 56(%rbp,%rdx,4)
 	incq	%r12
 	decq	%rax
 	movq	%rcx, %r9
 	testq	%rdi, %rdi
-	movq	32(%rsp), %r11
-	movq	24(%rsp), %rsi
+	movq	40(%rsp), %r11
 	je	.LBB4_49
-.LBB4_101:
+.LBB4_100:
+	movq	%rbx, %r13
 	movq	64(%rsp), %rcx
 	movl	%r11d, %r14d
 	decq	%rdi
-	je	.LBB4_107
+	je	.LBB4_106
 	movl	%r11d, %r14d
 	movq	64(%rsp), %rcx
-	cmpq	%r12, 152(%rsp)
-	je	.LBB4_106
+	cmpq	%r12, 176(%rsp)
+	je	.LBB4_105
 	movq	%r11, %r14
 	movq	%rax, %r11
 	andq	$-2, %r11
 	movq	%r12, %rdx
 	notq	%rdx
-	addq	%rsi, %rdx
+	addq	160(%rsp), %rdx
 	movq	64(%rsp), %rcx
 	.p2align	4
-.LBB4_104:
+.LBB4_103:
 	leal	3(%r14), %r10d
 	testl	%r14d, %r14d
 	cmovnsl	%r14d, %r10d
@@ -1918,10 +1915,10 @@
 	movl	%r10d, %ecx
 	sarl	$2, %ecx
 	addq	$-2, %r11
-	jne	.LBB4_104
+	jne	.LBB4_103
 	testb	$1, %dl
-	je	.LBB4_107
-.LBB4_106:
+	je	.LBB4_106
+.LBB4_105:
 	movl	%r14d, %edx
 	shrl	$31, %edx
 	addl	%r14d, %edx
@@ -1932,7 +1929,7 @@
 	sarl	%r10d
 	movl	%r10d, %ecx
 	movl	%edx, %r14d
-.LBB4_107:
+.LBB4_106:
 	movl	%ecx, %edx
 	andl	$1, %edx
 	incl	%edx
@@ -1943,8 +1940,8 @@
 	andl	$1, %r10d
 	cmpl	$-1, %r14d
 	leal	4(%r10,%r10,2), %r10d
-	movl	$1, %r13d
-	cmovel	%r13d, %r10d
+	movl	$1, %ebx
+	cmovel	%ebx, %r10d
 	addl	%edx, %r10d
 	leaq	(%r8,%r8,4), %rdx
 	leaq	(%rdx,%rdx,4), %rdx
@@ -1965,104 +1962,105 @@
 	andl	$1, %ecx
 	cmpl	$-1, %r14d
 	leal	4(%rcx,%rcx,2), %ecx
-	cmovel	%r13d, %ecx
+	cmovel	%ebx, %ecx
 	addl	%edx, %ecx
 	leaq	(%r9,%r9,4), %rdx
 	leaq	(%rdx,%rdx,4), %rdx
 	addq	%rcx, %rdx
 	movl	(%rbp,%rdx,4), %ecx
 	testq	%rcx, %rcx
-	movq	168(%rsp), %r13
-	jne	.LBB4_100
+	movq	%r13, %rbx
+	movq	96(%rsp), %r13
+	jne	.LBB4_99
 	leaq	1(%r11), %rcx
 	leaq	(%rcx,%rcx,4), %r10
 	leaq	(%r10,%r10,4), %r10
 	cmpq	%r10, 80(%rsp)
-	jae	.LBB4_99
-	jmp	.LBB4_116
-.LBB4_109:
+	jae	.LBB4_98
+	jmp	.LBB4_115
+.LBB4_108:
 	movq	%r9, %rcx
-	movq	32(%rsp), %r11
+	movq	40(%rsp), %r11
 	jmp	.LBB4_49
-.LBB4_110:
+.LBB4_109:
 	movl	$65535, %eax
-	movq	%rax, 16(%rsp)
+	movq	%rax, 32(%rsp)
 	movl	$1, %r15d
 	xorl	%r11d, %r11d
 	xorl	%r13d, %r13d
 	movl	$1, %eax
-	movq	%rax, (%rsp)
-	movl	$65535, %eax
 	movq	%rax, 8(%rsp)
-.LBB4_111:
+	movl	$65535, %eax
+	movq	%rax, 16(%rsp)
+.LBB4_110:
 	movq	88(%rsp), %rdx
 	subq	%r13, %rdx
-	jbe	.LBB4_113
+	jbe	.LBB4_112
 	leaq	(%r12,%r13), %rdi
 	xorl	%esi, %esi
 	movq	%r11, %r14
 	callq	memset@PLT
 	movq	%r14, %r11
-.LBB4_113:
+.LBB4_112:
 	testq	%r13, %r13
-	movq	16(%rsp), %r9
-	je	.LBB4_119
+	movq	32(%rsp), %r9
+	je	.LBB4_118
 	testq	%r11, %r11
-	je	.LBB4_122
-	movq	8(%rsp), %r10
+	je	.LBB4_121
+	movq	16(%rsp), %r10
 	cmpq	$65535, %r10
 	setne	%cl
 	addb	%cl, %cl
 	incb	%cl
 	xorl	%eax, %eax
 	xorl	%edx, %edx
-	jmp	.LBB4_133
-.LBB4_116:
-	cmpb	$0, 100(%rsp)
-	jne	.LBB4_118
+	jmp	.LBB4_132
+.LBB4_115:
+	cmpb	$0, 108(%rsp)
+	jne	.LBB4_117
 	movq	80(%rsp), %rdx
 	shlq	$2, %rdx
 	movq	%rbp, %rdi
 	xorl	%esi, %esi
 	callq	memset@PLT
-.LBB4_118:
+.LBB4_117:
 	movq	88(%rsp), %r14
 	leaq	(,%r14,4), %rax
 	leaq	(%rax,%rax,2), %rdx
 	movq	112(%rsp), %rdi
 	xorl	%esi, %esi
 	callq	memset@PLT
-	movq	104(%rsp), %rdi
+	movq	24(%rsp), %rdi
 	xorl	%esi, %esi
 	movq	%r14, %rdx
 	callq	memset@PLT
 	movb	$6, %cl
 	movb	$1, %al
 	movq	72(%rsp), %r13
-	jmp	.LBB4_134
-.LBB4_119:
+	jmp	.LBB4_133
+.LBB4_118:
 	xorl	%eax, %eax
 	xorl	%edx, %edx
 	xorl	%ecx, %ecx
 	xorl	%r13d, %r13d
+.LBB4_119:
+	movq	8(%rsp), %r8
+	movq	16(%rsp), %r10
+	jmp	.LBB4_133
 .LBB4_120:
-	movq	(%rsp), %r8
-	movq	8(%rsp), %r10
-	jmp	.LBB4_134
-.LBB4_121:
 	movb	$5, %cl
 .LBB4_34:
-	jmp	.LBB4_135
-.LBB4_122:
+	jmp	.LBB4_134
+.LBB4_121:
 	xorl	%eax, %eax
 	movb	$4, %cl
 	testq	%r9, %r9
-	jne	.LBB4_128
-	movq	8(%rsp), %r10
-	cmpq	%r13, %r10
 	jne	.LBB4_127
+	movq	16(%rsp), %r10
+	cmpq	%r13, %r10
+	jne	.LBB4_126
 	cmpq	$2, %r13
-	jne	.LBB4_129
+	jne	.LBB4_128
 	movb	$5, %cl
 	xorl	%eax, %eax
 	movl	$2, %r10d
@@ -2070,23 +2068,23 @@
 	xorl	%edx, %edx
 	xorl	%r11d, %r11d
 	movl	$2, %r13d
-	jmp	.LBB4_133
-.LBB4_126:
+	jmp	.LBB4_132
+.LBB4_125:
 	movb	$1, %r14b
 	jmp	.LBB4_37
+.LBB4_126:
+	xorl	%edx, %edx
+	jmp	.LBB4_131
 .LBB4_127:
 	xorl	%edx, %edx
-	jmp	.LBB4_132
-.LBB4_128:
-	xorl	%edx, %edx
 	xorl	%r11d, %r11d
-	jmp	.LBB4_120
-.LBB4_129:
+	jmp	.LBB4_119
+.LBB4_128:
 	xorl	%edx, %edx
 	xorl	%eax, %eax
 	xorl	%esi, %esi
 	movl	%esi, %ecx
-.LBB4_130:
+.LBB4_129:
 	movzbl	(%r12,%rax), %edi
 	xorl	%r8d, %r8d
 	cmpb	$1, %dil
@@ -2103,19 +2101,19 @@
 	incq	%rax
 	movl	%ecx, %esi
 	cmpq	%rax, %r13
-	jne	.LBB4_130
+	jne	.LBB4_129
 	movb	$2, %cl
 	xorl	%eax, %eax
 	xorl	%r9d, %r9d
 	movq	%r13, %r10
-.LBB4_132:
+.LBB4_131:
 	xorl	%r11d, %r11d
+.LBB4_132:
+	movq	8(%rsp), %r8
 .LBB4_133:
-	movq	(%rsp), %r8
-.LBB4_134:
 	movq	%r13, 120(%rsp)
-	leaq	192(%rsp), %rsi
-	jmp	.LBB4_135
+	leaq	208(%rsp), %rsi
+	jmp	.LBB4_134
 .Lfunc_end4:
 	.size	"line_walk::walk_line", .Lfunc_end4-"line_walk::walk_line"
 
@@ -2252,13 +2250,15 @@
 	cmpb	$0, 40(%rsp)
 	movq	56(%rsp), %rbx
 	je	.LBB5_1
+	movq	17696(%rsp), %rdx
 	movzbl	48(%rsp), %eax
-	leaq	".Lswitch.table.sheet_entry::enter"(%rip), %rcx
-	movq	(%rcx,%rax,8), %rcx
-	addl	$-3, %eax
 	xorl	%r8d, %r8d
-	cmpb	$4, %al
-	cmovbq	%rbx, %r8
+	movl	$1572743, %ecx
+	btl	%eax, %ecx
+	jb	.LBB5_25
+	movq	%rbx, %r8
+.LBB5_25:
+	leaq	1(%rax), %rcx
 	movb	$0, 1224(%rsp)
 	pxor	%xmm0, %xmm0
 	movdqu	%xmm0, 1232(%rsp)
@@ -2268,9 +2268,8 @@
 	leaq	1224(%rsp), %r9
 	movq	%r15, %rdi
 	movq	%r14, %rsi
-	movq	17696(%rsp), %rdx
 	callq	"sheet_cells::spell_cells"
-	jmp	.LBB5_24
+	jmp	.LBB5_26
 .LBB5_1:
 	movq	48(%rsp), %rax
 	movups	96(%rsp), %xmm0
@@ -2301,9 +2300,9 @@
 	callq	"room_judge::judge"
 	cmpb	$0, 176(%rsp)
 	je	.LBB5_2
-.LBB5_25:
+.LBB5_27:
 	movq	%r14, %rax
-	jmp	.LBB5_24
+	jmp	.LBB5_26
 .LBB5_2:
 	testq	%rbx, %rbx
 	je	.LBB5_3
@@ -2380,7 +2379,7 @@
 	shlq	$4, %rax
 	orq	$13, %rax
 	cmpq	$16413, %rax
-	ja	.LBB5_25
+	ja	.LBB5_27
 .LBB5_12:
 	xorl	%ecx, %ecx
 	movabsq	$1099511628545, %rsi
@@ -2507,7 +2506,7 @@
 	jne	.LBB5_21
 	negq	%rdx
 	movq	%rdx, %rax
-.LBB5_24:
+.LBB5_26:
 	movb	$10, (%r15,%rax)
 	incq	%rax
 	addq	$17640, %rsp
@@ -3650,32 +3649,6 @@ main:
 	retq
 .Lfunc_end7:
 	.size	main, .Lfunc_end7-main
-
-	.type	".Lswitch.table.sheet_entry::enter",@object
-	.section	".rodata..Lswitch.table.sheet_entry::enter","a",@progbits
-	.p2align	3, 0x0
-".Lswitch.table.sheet_entry::enter":
-	.quad	1
-	.quad	2
-	.quad	3
-	.quad	4
-	.quad	5
-	.quad	6
-	.quad	7
-	.quad	8
-	.quad	9
-	.quad	10
-	.quad	11
-	.quad	12
-	.quad	13
-	.quad	14
-	.quad	15
-	.quad	16
-	.quad	17
-	.quad	18
-	.quad	19
-	.quad	21
-	.size	".Lswitch.table.sheet_entry::enter", 160
 
 	.ident	"rattle logic=064da1ca440f63e7502b45d89e7a7af6f35f329843886d4ee3931549ff4b3b79"
 	.section	".note.GNU-stack","",@progbits

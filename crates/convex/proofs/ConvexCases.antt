@@ -6,11 +6,12 @@ use mathlib.Core.Path.{_≡_, refl, sym, ap, subst}
 use native.Mathlib.Omega.{arith}
 use lib.IntN.{ℤ, pos, natAbs}
 use lib.Signed.{_<ℤ_}
-use Rattle.grid.specs.declared.Corner.{Corner}
-use Rattle.grid.specs.Grid.{corner, origin, cornersFrom}
+use Rattle.grid.specs.declared.{Corner.Corner, Panel.Panel}
+use Rattle.grid.specs.Grid.{corner, origin, panelAt, cornersFrom}
 use Rattle.hull.specs.Hull.{cross}
 use Rattle.convex.specs.Parts.{turnedBy, clockwise, LowestLeft, LeftmostTop, HighestRight, RightmostBottom, Split, PartIs}
 use Rattle.convex.specs.Convex.{Between}
+use Rattle.convex.specs.Centres.{MeanOf}
 
 -- one panel, travelled both ways: clockwise it goes north first
 pub clockwise-back : clockwise origin (0 ∷ 1 ∷ 2 ∷ 3 ∷ []) ≡ 1 ∷ 0 ∷ 3 ∷ 2 ∷ []
@@ -91,3 +92,11 @@ on-the-line = record {
   where
     apart : (z : ℤ) → pos 2 ≡ pos 1 → z <ℤ pos 2
     apart z e = let n : ⊥ = omega (arith, ap natAbs e) in absurd n
+
+-- the mean of two panels, by columns and by rows
+pub mean-of-two : MeanOf (panelAt (corner (pos 0) (pos 0)) ∷ panelAt (corner (pos 2) (pos 4)) ∷ []) (panelAt (corner (pos 1) (pos 2)))
+mean-of-two = record { some = omega arith; mean-x = refl; mean-y = refl }
+
+-- no panel is the mean of none
+pub mean-of-none : (q : Panel) → MeanOf [] q → ⊥
+mean-of-none q m = omega (arith, m .some)

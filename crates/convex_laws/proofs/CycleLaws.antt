@@ -1,20 +1,24 @@
 -- A closed walk from another of its corners, and the other way round: the same corners, and a room if it is one.
 -- Assumes nothing.
+use mathlib.Core.Bool.{Bool, true, false, cond}
 use mathlib.Core.Path.{_≡_, refl, sym, ap, ap₂, _∙_, subst}
 use mathlib.Core.List.{List, [], _∷_, _++_, append-nil, List·Memᴰ, List·Memᴰ·head, List·Memᴰ·tail, List·Memᴰ·not-nil}
 use mathlib.Core.Logic.{_⊎_, inl, inr}
 use Prim.Native.Nat.{ℕ, zero, suc, _+_, _-_, _≤_, _<_}
 use native.Mathlib.Omega.{arith}
 use native.Mathlib.Decide.{decLt}
+use lib.IntN.{pos}
+use lib.Signed.{ltZ}
 use lib.ListN.{length, take, drop, length-append, take-append-drop}
 use lib.Seq.{take-append-le, take-append-add, take-at, drop-at, take-length, drop-length}
 use Rattle.grid.specs.declared.Corner.{Corner}
 use Rattle.grid.specs.Grid.{stepped, cornersFrom, endFrom, cornerAt, back}
 use Rattle.grid.proofs.StepLaws.{endFrom-append, cornerAt-end}
 use Rattle.trace.specs.Meeting.{Meets}
-use Rattle.trace.specs.Verdict.{IsRoom}
+use Rattle.trace.specs.Verdict.{IsRoom, sweepFrom}
 use Rattle.panels.specs.Outline.{startedAt, backward}
 use Rattle.area_laws.proofs.OutlineLaws.{end-backward, length-backward}
+use Rattle.convex.specs.Parts.{clockwise}
 
 -- the corners are those at the places
 pub in-place : (c : Corner) (ds : List ℕ) (p : Corner) → List·Memᴰ p (cornersFrom c ds) → (i : ℕ) × (i ≤ length ds) × (p ≡ cornerAt c ds i)
@@ -49,7 +53,7 @@ module _ (c : Corner) (ds b a : List ℕ) (whole : b ++ a ≡ ds) where
   pub cut-in : List·Memᴰ (endFrom c b) (cornersFrom c ds)
   cut-in = subst (λ (p : Corner). List·Memᴰ p (cornersFrom c ds)) cut-corner (place-in c ds (length b) cut-within)
 
-  cut-round : a ++ b ≡ startedAt (length b) ds
+  pub cut-round : a ++ b ≡ startedAt (length b) ds
   cut-round = ap₂ (λ (x y : List ℕ). x ++ y) (sym (ap (drop (length b)) (sym whole) ∙ drop-at b a (length b) refl)) (sym (ap (take (length b)) (sym whole) ∙ take-at b a (length b) refl))
 
 -- a room has one way round from each of its corners
@@ -168,7 +172,7 @@ backward-at c ds closed i h =
     rest = drop (length ds - i) ds
 
 -- the room travelled back is a room
-pub backward-room : (c : Corner) (ds : List ℕ) → IsRoom c ds → IsRoom c (backward ds)
+backward-room : (c : Corner) (ds : List ℕ) → IsRoom c ds → IsRoom c (backward ds)
 backward-room c ds r = record { four = omega (arith, r .four, length-backward ds); closed = closed; only = only }
   where
     closed : endFrom c (backward ds) ≡ c
@@ -183,3 +187,10 @@ backward-room c ds r = record { four = omega (arith, r .four, length-backward ds
         let j≤ : j ≤ length ds = omega (arith, t .earlier) in
         let m = r .only (length ds - k) (length ds - j) (record { earlier = omega (arith, t .earlier); within = omega arith; equal = sym (sym (backward-at c ds (r .closed) j j≤) ∙ t .equal ∙ backward-at c ds (r .closed) k k≤) }) in
         (omega (arith, m .0, m .1, t .earlier), omega (arith, m .0, m .1, t .earlier, length-backward ds))
+
+pub clockwise-room : (c : Corner) (ds : List ℕ) → IsRoom c ds → IsRoom c (clockwise c ds)
+clockwise-room c ds r = go (ltZ (pos 0) (sweepFrom c ds))
+  where
+    go : (t : Bool) → IsRoom c (cond t (backward ds) ds)
+    go true = backward-room c ds r
+    go false = r

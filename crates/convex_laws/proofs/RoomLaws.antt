@@ -26,7 +26,7 @@ use Rattle.convex_laws.specs.Place.{placeOf}
 use Rattle.convex_laws.specs.Decide.{convexAt, convexFrom, convexRound, convexOf}
 use Rattle.convex_laws.proofs.LevelLaws.{both, two}
 use Rattle.convex_laws.proofs.PartLaws.{convexPart-exactly}
-use Rattle.convex_laws.proofs.CycleLaws.{cut-in, way-one, cycle-in, in-cycle, cycle-room, backward-room}
+use Rattle.convex_laws.proofs.CycleLaws.{cut-in, way-one, cycle-in, in-cycle, cycle-room, clockwise-room}
 use Rattle.convex_laws.proofs.PlaceLaws.{Found, west-anti, north-anti, east-anti, south-anti, placeOf-found}
 use Rattle.convex_laws.proofs.WestLaws.{north-other, east-other, south-other, one-place}
 
@@ -268,13 +268,6 @@ module _ (c : Corner) (ds : List ℕ) (room : IsRoom c ds) (m : ℕ) (found : Fo
   round-cut j k l fj fk fl =
       let o = order-exactly (v ++ u) j k l in
       (λ e. order-cut (endFrom c u) (v ++ u) j k l fj fk fl (o .0 e), λ t. o .1 (cut-order (endFrom c u) (v ++ u) j k l fj fk fl round-room round-west t))
-
-pub clockwise-room : (c : Corner) (ds : List ℕ) → IsRoom c ds → IsRoom c (clockwise c ds)
-clockwise-room c ds r = go (ltZ (pos 0) (sweepFrom c ds))
-  where
-    go : (t : Bool) → IsRoom c (cond t (backward ds) ds)
-    go true = backward-room c ds r
-    go false = r
 
 length-clockwise : (c : Corner) (ds : List ℕ) → length (clockwise c ds) ≡ length ds
 length-clockwise c ds = go (ltZ (pos 0) (sweepFrom c ds))

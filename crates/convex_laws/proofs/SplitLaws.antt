@@ -24,9 +24,9 @@ use Rattle.convex.specs.Convex.{ConvexPart, ConvexRoom}
 use Rattle.convex_laws.specs.Level.{convexPart}
 use Rattle.convex_laws.proofs.PartLaws.{convexPart-exactly}
 use Rattle.convex_laws.proofs.PlaceLaws.{Found, first-anti}
-use Rattle.convex_laws.proofs.CycleLaws.{room-places, cut-within, cut-corner, cut-in, way-one, cycle-in, in-cycle, cycle-closed, cycle-room}
+use Rattle.convex_laws.proofs.CycleLaws.{room-places, cut-within, cut-corner, cut-in, way-one, cycle-in, in-cycle, cycle-closed, cycle-room, clockwise-room}
 use Rattle.convex_laws.proofs.WestLaws.{north-other, east-other, south-other}
-use Rattle.convex_laws.proofs.RoomLaws.{Cut, InOrder, order-cut, cut-order, round-room, round-west, cut-split, split-cut, clockwise-room}
+use Rattle.convex_laws.proofs.RoomLaws.{Cut, InOrder, order-cut, cut-order, round-room, round-west, cut-split, split-cut}
 use Rattle.convex_laws.proofs.TravelLaws.{Place, place, extremal-cycle}
 use Rattle.convex_laws.proofs.TurnLaws.{below-join, below-parts, below-backward}
 
@@ -294,7 +294,7 @@ letters-parts : (i : ℕ) (u v : List ℕ) → Below 2 (turnedBy i (u ++ v)) →
 letters-parts i [] v b = (tt, b)
 letters-parts i (d ∷ u) v b = let r = letters-parts i u v (b .1) in ((b .0, r .0), r .1)
 
-turned-none : (w : List ℕ) → Below 4 w → turnedBy 0 w ≡ w
+pub turned-none : (w : List ℕ) → Below 4 w → turnedBy 0 w ≡ w
 turned-none [] b = refl
 turned-none (d ∷ w) b = ap₂ (λ (n : ℕ) (l : List ℕ). n ∷ l) (same d (b .0)) (turned-none w (b .1))
   where
@@ -382,7 +382,7 @@ module _ (a : Corner) (ws : List ℕ) (room : IsRoom a ws) (west : Extremal Lowe
 
 -- ---- rooms
 
-below-clockwise : (c : Corner) (ds : List ℕ) → Below 4 ds → Below 4 (clockwise c ds)
+pub below-clockwise : (c : Corner) (ds : List ℕ) → Below 4 ds → Below 4 (clockwise c ds)
 below-clockwise c ds b = go (ltZ (pos 0) (sweepFrom c ds))
   where
     go : (t : Bool) → Below 4 (cond t (backward ds) ds)

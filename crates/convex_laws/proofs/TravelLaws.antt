@@ -23,7 +23,7 @@ use Rattle.area_laws.proofs.OutlineLaws.{sweep-started, sweep-backward, end-bac
 use Rattle.room_laws.proofs.RoomLaws.{room-magnitude, room-some, room-sign}
 use Rattle.convex.specs.Parts.{turnedBy, clockwise, LowestLeft, LeftmostTop, HighestRight, RightmostBottom, Extremal, Split}
 use Rattle.convex.specs.Convex.{ConvexPart, ConvexRoom}
-use Rattle.convex_laws.proofs.CycleLaws.{cycle-in, cycle-closed, backward-room}
+use Rattle.convex_laws.proofs.CycleLaws.{cycle-in, cycle-closed, clockwise-room}
 
 -- ---- a walk that is split into convex parts
 
@@ -208,15 +208,21 @@ clockwise-backward c ds b r = ⊎-elim
     other : sweepFrom c (backward ds) ≡ negℤ (sweepFrom c ds)
     other = sweep-backward c c ds (r .closed)
 
--- a room that is travelled clockwise has its inside on the right
-pub clockwise-right : (c : Corner) (ds : List ℕ) → IsRoom c ds → InsideRight c (clockwise c ds)
-clockwise-right c ds r = ⊎-elim
-    (λ h. subst (InsideRight c) (sym (ap (λ (t : Bool). cond t (backward ds) ds) (true-lt (pos 0) (sweepFrom c ds) h))) (right (backward ds) (backward-room c ds r) (omega (zarith, h, sweep-backward c c ds (r .closed), neg-nat (sweepFrom c ds) .0, neg-nat (sweepFrom c ds) .1))))
-    (λ h. subst (InsideRight c) (sym (ap (λ (t : Bool). cond t (backward ds) ds) (false-lt (pos 0) (sweepFrom c ds) (omega zarith)))) (right ds r h))
+-- a room that is travelled clockwise has an area below 0, and its inside on the right
+pub clockwise-sweep : (c : Corner) (ds : List ℕ) → IsRoom c ds → sweepFrom c (clockwise c ds) <ℤ pos 0
+clockwise-sweep c ds r = ⊎-elim
+    (λ h. subst (λ (w : List ℕ). sweepFrom c w <ℤ pos 0) (sym (ap (λ (t : Bool). cond t (backward ds) ds) (true-lt (pos 0) (sweepFrom c ds) h))) (omega (zarith, h, sweep-backward c c ds (r .closed), neg-nat (sweepFrom c ds) .0, neg-nat (sweepFrom c ds) .1)))
+    (λ h. subst (λ (w : List ℕ). sweepFrom c w <ℤ pos 0) (sym (ap (λ (t : Bool). cond t (backward ds) ds) (false-lt (pos 0) (sweepFrom c ds) (omega zarith)))) h)
     (room-either c ds r)
+
+pub clockwise-right : (c : Corner) (ds : List ℕ) → IsRoom c ds → InsideRight c (clockwise c ds)
+clockwise-right c ds r = room-sign c w room .1 .0 (subst (λ (z : ℤ). z <ℤ pos 0) (sym (area-room c w room)) (clockwise-sweep c ds r))
   where
-    right : (w : List ℕ) → IsRoom c w → sweepFrom c w <ℤ pos 0 → InsideRight c w
-    right w q h = room-sign c w q .1 .0 (subst (λ (z : ℤ). z <ℤ pos 0) (sym (area-room c w q)) h)
+    w : List ℕ
+    w = clockwise c ds
+
+    room : IsRoom c w
+    room = clockwise-room c ds r
 
 -- the answer is the same for a room walked the other way
 pub convex-backward : (c : Corner) (ds : List ℕ) → Below 4 ds → IsRoom c ds → ConvexRoom c ds ↔ ConvexRoom c (backward ds)

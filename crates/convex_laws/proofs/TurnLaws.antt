@@ -24,7 +24,7 @@ use Rattle.convex_laws.proofs.TravelLaws.{Way, room-way, way-room, AtWe
 
 module _ {f : Corner → Corner} {t : ℕ → ℕ} {m : ℤ} {P : Corner → ℤ} (i : Image f t m P) where
   -- the corners of the image are the images of the corners
-  image-in : (c : Corner) (w : List ℕ) (p : Corner) → List·Memᴰ p (cornersFrom (f c) (map t w)) → (q : Corner) × List·Memᴰ q (cornersFrom c w) × (p ≡ f q)
+  pub image-in : (c : Corner) (w : List ℕ) (p : Corner) → List·Memᴰ p (cornersFrom (f c) (map t w)) → (q : Corner) × List·Memᴰ q (cornersFrom c w) × (p ≡ f q)
   image-in c [] p (List·Memᴰ·head e) = (c, List·Memᴰ·head refl, e)
   image-in c [] p (List·Memᴰ·tail n) = absurd (List·Memᴰ·not-nil n)
   image-in c (d ∷ w) p (List·Memᴰ·head e) = (c, List·Memᴰ·head refl, e)
@@ -32,14 +32,14 @@ module _ {f : Corner → Corner} {t : ℕ → ℕ} {m : ℤ} {P : Corner → ℤ
       let r = image-in (stepped d c) w p (subst (λ (z : Corner). List·Memᴰ p (cornersFrom z (map t w))) (i .carries d c) n) in
       (r .0, List·Memᴰ·tail (r .1), r .2)
 
-  image-extremal : (R R′ : Corner → Corner → Type 0) → ((a b : Corner) → R a b → R′ (f a) (f b)) → (c : Corner) (w : List ℕ) (q : Corner) → Extremal R c w q → Extremal R′ (f c) (map t w) (f q)
+  pub image-extremal : (R R′ : Corner → Corner → Type 0) → ((a b : Corner) → R a b → R′ (f a) (f b)) → (c : Corner) (w : List ℕ) (q : Corner) → Extremal R c w q → Extremal R′ (f c) (map t w) (f q)
   image-extremal R R′ h c w q e p n = let r = image-in c w p n in subst (R′ (f q)) (sym (r .2)) (h q (r .0) (e (r .0) (r .1)))
 
-map-same : (w : List ℕ) → map (λ d. d) w ≡ w
+pub map-same : (w : List ℕ) → map (λ d. d) w ≡ w
 map-same [] = refl
 map-same (d ∷ w) = ap (λ (l : List ℕ). d ∷ l) (map-same w)
 
-map-append : (t : ℕ → ℕ) (u v : List ℕ) → map t (u ++ v) ≡ map t u ++ map t v
+pub map-append : (t : ℕ → ℕ) (u v : List ℕ) → map t (u ++ v) ≡ map t u ++ map t v
 map-append t [] v = refl
 map-append t (d ∷ u) v = ap (λ (l : List ℕ). t d ∷ l) (map-append t u v)
 
@@ -106,7 +106,7 @@ convex-moved c e ds closed = (
 )
 
 -- a quarter turn to the left
-abbrev quarter : Corner → Corner
+abbrev pub quarter : Corner → Corner
 quarter p = corner (negℤ (p .1)) (p .0)
 
 neg-lt : (a b : ℤ) → a <ℤ b → negℤ b <ℤ negℤ a
@@ -115,19 +115,19 @@ neg-lt a b h = omega (zarith, h, neg-nat a .0, neg-nat a .1, neg-nat b .0, neg-n
 neg-le : (a b : ℤ) → a ≤ℤ b → negℤ b ≤ℤ negℤ a
 neg-le a b h = omega (zarith, h, neg-nat a .0, neg-nat a .1, neg-nat b .0, neg-nat b .1)
 
-north-turned : (a b : Corner) → LeftmostTop a b → LowestLeft (quarter a) (quarter b)
+pub north-turned : (a b : Corner) → LeftmostTop a b → LowestLeft (quarter a) (quarter b)
 north-turned a b (inl h) = inl (neg-lt (b .1) (a .1) h)
 north-turned a b (inr h) = inr (ap negℤ (h .0), h .1)
 
-east-turned : (a b : Corner) → HighestRight a b → LeftmostTop (quarter a) (quarter b)
+pub east-turned : (a b : Corner) → HighestRight a b → LeftmostTop (quarter a) (quarter b)
 east-turned a b (inl h) = inl h
 east-turned a b (inr h) = inr (h .0, neg-le (b .1) (a .1) (h .1))
 
-south-turned : (a b : Corner) → RightmostBottom a b → HighestRight (quarter a) (quarter b)
+pub south-turned : (a b : Corner) → RightmostBottom a b → HighestRight (quarter a) (quarter b)
 south-turned a b (inl h) = inl (neg-lt (a .1) (b .1) h)
 south-turned a b (inr h) = inr (ap negℤ (h .0), h .1)
 
-west-turned : (a b : Corner) → LowestLeft a b → RightmostBottom (quarter a) (quarter b)
+pub west-turned : (a b : Corner) → LowestLeft a b → RightmostBottom (quarter a) (quarter b)
 west-turned a b (inl h) = inl h
 west-turned a b (inr h) = inr (h .0, neg-le (a .1) (b .1) (h .1))
 
@@ -139,15 +139,15 @@ turned-mod (suc (suc zero)) h = refl
 turned-mod (suc (suc (suc zero))) h = refl
 turned-mod (suc (suc (suc (suc d)))) h = absurd (omega arith)
 
-letters-one : (l : List ℕ) → Below 4 l → map turned l ≡ turnedBy 1 l
+pub letters-one : (l : List ℕ) → Below 4 l → map turned l ≡ turnedBy 1 l
 letters-one [] b = refl
 letters-one (d ∷ l) b = ap₂ (λ (n : ℕ) (m : List ℕ). n ∷ m) (turned-mod d (b .0)) (letters-one l (b .1))
 
-letters-more : (i : ℕ) (l : List ℕ) → Below 4 l → turnedBy i (map turned l) ≡ turnedBy (1 + i) l
+pub letters-more : (i : ℕ) (l : List ℕ) → Below 4 l → turnedBy i (map turned l) ≡ turnedBy (1 + i) l
 letters-more i [] b = refl
 letters-more i (d ∷ l) b = ap₂ (λ (n : ℕ) (m : List ℕ). n ∷ m) (ap (λ (n : ℕ). (n + i) % 4) (turned-mod d (b .0)) ∙ omega arith) (letters-more i l (b .1))
 
-letters-four : (l : List ℕ) → Below 4 l → turnedBy 4 l ≡ l
+pub letters-four : (l : List ℕ) → Below 4 l → turnedBy 4 l ≡ l
 letters-four [] b = refl
 letters-four (d ∷ l) b = ap₂ (λ (n : ℕ) (m : List ℕ). n ∷ m) (same d (b .0)) (letters-four l (b .1))
   where
@@ -276,7 +276,7 @@ turned-small (suc zero) = omega arith
 turned-small (suc (suc zero)) = omega arith
 turned-small (suc (suc (suc d))) = omega arith
 
-below-turned : (ds : List ℕ) → Below 4 (map turned ds)
+pub below-turned : (ds : List ℕ) → Below 4 (map turned ds)
 below-turned [] = tt
 below-turned (d ∷ ds) = (turned-small d, below-turned ds)
 

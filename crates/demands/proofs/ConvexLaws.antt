@@ -12,18 +12,21 @@ use Rattle.answer.specs.declared.Counted.{Counted}
 use Rattle.answer.specs.declared.Judged.{Judged}
 use Rattle.answer.specs.declared.Judged.the-variants.{Good, Refused}
 use Rattle.answer.specs.declared.Refusal.{Refusal}
-use Rattle.grid.specs.declared.Corner.{Corner}
+use Rattle.grid.specs.declared.{Corner.Corner, Panel.Panel}
 use Rattle.trace.specs.Verdict.{IsRoom}
 use Rattle.hull.specs.Call.{countedOf}
 use Rattle.hull_laws.proofs.SurveyLaws.{good-short}
 use Rattle.room.specs.Room.{asRoomJudged}
 use Rattle.room.proofs.RoomLaws.{good-room}
 use Rattle.row_laws.proofs.CallLaws.{good-steps}
+use Rattle.panels.specs.Inside.{Inside}
+use Rattle.convex.specs.Centres.{InHull}
 use Rattle.convex.specs.Parts.{turnedBy, clockwise, PartIs}
 use Rattle.convex.specs.Convex.{ConvexPart, ConvexRoom, ConvexCall}
 use Rattle.convex_laws.specs.Decide.{convexOf}
 use Rattle.convex_laws.proofs.RoomLaws.{convexOf-exactly}
 use Rattle.convex_laws.proofs.SplitLaws.{convex-parts, some-part}
+use Rattle.convex_hull_laws.proofs.HullLaws.{convex-exactly}
 use Rattle.demands.specs.GivenRoom.{GivenRoom}
 use Rattle.demands.proofs.DigitLaws.{count-refused}
 use Rattle.demands.proofs.RoomCallLaws.{room-when}
@@ -91,4 +94,16 @@ module _ {s : Corner} {ds : List ℕ} {r : Counted} (w : ConvexCall s ds r) wher
   no-part-when = (
     λ e. (let k = convex-no-when .0 e in (k .0, some-part s ds (digits (k .0)) (room (k .0)) .0 (k .1))),
     λ k. convex-no-when .1 (k .0, some-part s ds (digits (k .0)) (room (k .0)) .1 (k .1)),
+  )
+
+  pub yes-centres-when : r ≡ Counted.Many 1 ↔ (GivenRoom s ds Good × ((q : Panel) → InHull (Inside s ds) q → Inside s ds q))
+  yes-centres-when = (
+    λ e. (let k = convex-yes-when .0 e in (k .0, convex-exactly s ds (digits (k .0)) (room (k .0)) .0 (k .1))),
+    λ k. convex-yes-when .1 (k .0, convex-exactly s ds (digits (k .0)) (room (k .0)) .1 (k .1)),
+  )
+
+  pub no-centres-when : r ≡ Counted.Many 0 ↔ (GivenRoom s ds Good × (((q : Panel) → InHull (Inside s ds) q → Inside s ds q) → ⊥))
+  no-centres-when = (
+    λ e. (let k = convex-no-when .0 e in (k .0, λ f. k .1 (convex-exactly s ds (digits (k .0)) (room (k .0)) .1 f))),
+    λ k. convex-no-when .1 (k .0, λ x. k .1 (convex-exactly s ds (digits (k .0)) (room (k .0)) .0 x)),
   )

@@ -1,14 +1,16 @@
 -- What is asked of the outer outline of a walk (RULES 15), as theorems about the definition, `OutlineIs`, and about the call's promise, `OutlineCall`. Each is proved by naming a law.
 -- Assumes nothing.
 use mathlib.Core.Bool.{true}
-use mathlib.Core.List.{List, [], _++_, List·Memᴰ}
+use mathlib.Core.List.{List, [], _∷_, _++_, List·Memᴰ}
 use mathlib.Core.Logic.{_⊎_, _↔_}
-use mathlib.Core.Path.{_≡_}
+use mathlib.Core.Path.{_≡_, ap}
 use Prim.Native.Nat.{ℕ, _*_, _<_, _≤_}
 use lib.ListN.{length, drop}
 use Rattle.lists.specs.Lists.{Distinct, Below}
 use Rattle.answer.specs.declared.{Counted.Counted, Judged.the-variants.Good, Judged.the-variants.Refused, Refusal.Refusal}
 use Rattle.answer.specs.Limits.{mostSteps}
+use Rattle.answer.specs.Refusal.{refusalNumber, refusalPlace}
+use Rattle.answer.specs.Words.{countedWords}
 use Rattle.grid.specs.declared.{Corner.Corner, Panel.Panel}
 use Rattle.grid.specs.Grid.{stepped, cornersFrom, endFrom, cornerAt, legsFrom}
 use Rattle.trace.specs.Verdict.{IsRoom}
@@ -127,6 +129,13 @@ module _ {s : Corner} {ds before after : List ℕ} {r : Counted} (w : OutlineCal
   -- and acceptance exactly on its own, with the number of steps
   pub outline-written-exactly : r ≡ Counted.Many (length (w .steps)) ↔ GivenOutline s ds (length before) (length (w .steps)) Good
   outline-written-exactly = givenLaws.written-when w
+
+  -- the numbers of each
+  pub outline-refused-words : (q : Refusal) → GivenOutline s ds (length before) (length (w .steps)) (Refused q) → countedWords r ≡ refusalNumber q ∷ refusalPlace q ∷ 0 ∷ []
+  outline-refused-words q g = ap countedWords (outline-refused-exactly q .1 g)
+
+  pub outline-written-words : GivenOutline s ds (length before) (length (w .steps)) Good → countedWords r ≡ 0 ∷ 0 ∷ length (w .steps) ∷ []
+  outline-written-words g = ap countedWords (outline-written-exactly .1 g)
 
 module _ (s : Corner) (ds before : List ℕ) {after : List ℕ} where
   -- "nothing written"

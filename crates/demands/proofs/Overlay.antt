@@ -17,7 +17,7 @@ use Rattle.row_call.specs.Rows.{Span, RowsIs, lengthsOf, spanNumbers}
 use Rattle.row_laws.proofs.{OneLaws.rowsIs-one, RowLaws.rowsIs-rowsOf}
 use Rattle.room_laws.proofs.RoomLaws.{room-panels}
 use Rattle.overlay.specs.declared.{Part.Part, Part.the-variants.First, Part.the-variants.Second, Part.the-variants.Both, Measure.Measure, Measures.Measures, Overlaid.Overlaid}
-use Rattle.overlay.specs.{Overlay.InPart, Call.ofParts, Call.measureOf, Call.measuresOf, Call.OverlayCall}
+use Rattle.overlay.specs.{Overlay.InPart, Call.ofParts, Call.measureOf, Call.measuresOf, Call.overlaidWords, Call.OverlayCall}
 use Rattle.overlay_laws.specs.Sweep.{listsOf}
 use Rattle.overlay_laws.proofs.OverlayLaws.{lists-rows, parts-listed, length-parts, none-listed}
 use Rattle.overlay_laws.proofs.FewLaws.{spans-few, part-few}
@@ -82,6 +82,10 @@ module _ (s : Corner) (ds : List ℕ) (t : Corner) (es : List ℕ) (before : Par
   -- each answer exactly on its occasion: the first room's 1, 10, 4, 6, 12, then the second's, then 21 for any of the three lists, otherwise the panels and spans of each
   pub overlay-exactly : {r : Overlaid} {after : Part → List ℤ} → OverlayCall s ds t es before r after → (x : Overlaid) → r ≡ x ↔ GivenOverlay s ds t es (λ k. length (before k)) x
   overlay-exactly = overlayCallLaws.overlay-when s ds t es before
+
+  -- the numbers of each
+  pub overlay-words : {r : Overlaid} {after : Part → List ℤ} → OverlayCall s ds t es before r after → (x : Overlaid) → GivenOverlay s ds t es (λ k. length (before k)) x → overlaidWords r ≡ overlaidWords x
+  overlay-words w x g = ap overlaidWords (overlay-exactly w x .1 g)
 
   module _ {after : Part → List ℤ} where
     -- a refusal writes in none of the three buffers

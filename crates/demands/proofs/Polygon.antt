@@ -2,13 +2,15 @@
 -- Assumes nothing.
 use mathlib.Core.List.{List, [], _∷_, _++_, List·Memᴰ}
 use mathlib.Core.Logic.{_↔_}
-use mathlib.Core.Path.{_≡_, refl}
+use mathlib.Core.Path.{_≡_, refl, ap}
 use Prim.Native.Nat.{ℕ, _+_, _*_, _≤_}
 use lib.IntN.{ℤ, pos}
 use lib.Ieee.{Float, fin}
 use lib.ListN.{length, drop}
 use mathlib.Core.Bool.{false}
 use Rattle.answer.specs.declared.{Counted.Counted, Judged.Judged, Judged.the-variants.Good, Judged.the-variants.Refused, Refusal.Refusal}
+use Rattle.answer.specs.Refusal.{refusalNumber, refusalPlace}
+use Rattle.answer.specs.Words.{countedWords}
 use Rattle.grid.specs.declared.Corner.{Corner}
 use Rattle.room.specs.Room.{asRoomJudged}
 use Rattle.polygon.specs.Coordinate.{coordinateOf, IsWhole, Exact}
@@ -40,6 +42,13 @@ module _ {s : Corner} {ds before after : List ℕ} {r : Counted} (w : PolygonCal
   -- and acceptance exactly on its own, with the number of bytes
   pub polygon-written-exactly : r ≡ Counted.Many (length (polygonOf s ds)) ↔ GivenPolygon s ds (length before) (length (polygonOf s ds)) Good
   polygon-written-exactly = roomCallLaws.written-when w
+
+  -- the numbers of each
+  pub polygon-refused-words : (q : Refusal) → GivenPolygon s ds (length before) (length (polygonOf s ds)) (Refused q) → countedWords r ≡ refusalNumber q ∷ refusalPlace q ∷ 0 ∷ []
+  polygon-refused-words q g = ap countedWords (polygon-refused-exactly q .1 g)
+
+  pub polygon-written-words : GivenPolygon s ds (length before) (length (polygonOf s ds)) Good → countedWords r ≡ 0 ∷ 0 ∷ length (polygonOf s ds) ∷ []
+  polygon-written-words g = ap countedWords (polygon-written-exactly .1 g)
 
 module _ (s : Corner) (ds before : List ℕ) {after : List ℕ} where
   -- "nothing written"

@@ -1,16 +1,19 @@
 -- What is asked of a polygon that is read (RULES 18), as theorems about the call's promise, `ReadCall`. Each is proved by naming a law.
 -- Assumes nothing.
 use mathlib.Core.Bool.{Bool}
-use mathlib.Core.List.{List, _++_}
+use mathlib.Core.List.{List, [], _∷_, _++_}
 use mathlib.Core.Logic.{_↔_}
-use mathlib.Core.Path.{_≡_}
+use mathlib.Core.Path.{_≡_, ap}
 use Prim.Native.Nat.{ℕ, _≤_, _<_}
 use lib.ListN.{length, take, drop}
 use Rattle.answer.specs.declared.{Counted.Counted, Judged.Judged, Judged.the-variants.Good, Judged.the-variants.Refused, Refusal.Refusal, Refusal.the-variants.ChainRoom}
+use Rattle.answer.specs.Refusal.{refusalNumber, refusalPlace}
+use Rattle.answer.specs.Words.{bitsOf}
 use Rattle.grid.specs.declared.Corner.{Corner}
 use Rattle.polygon.specs.Polygon.{PolygonCall}
 use Rattle.polygon_ring.specs.declared.{Found.Found, Given.Given}
 use Rattle.polygon_ring.specs.Ring.{startOf, lengthOf, ringOf, readJudged, ReadCall}
+use Rattle.polygon_ring.specs.Words.{givenWords}
 use Rattle.polygon_ring.proofs.CallLaws as callLaws
 use Rattle.polygon_ring_laws.specs.Files.{Headed, HasCorners, IsRing, twinOf}
 use Rattle.polygon_ring_laws.specs.Passing.{RingPassed}
@@ -39,6 +42,13 @@ module _ {file before after : List ℕ} {r : Given} (c : ReadCall file before r 
   -- accepted exactly where the file is a closed ring of whole corners, not too long, and the chain has room
   pub chain-read-exactly : r ≡ Given.Chain (record { start = startOf (ringOf file); steps = lengthOf (ringOf file) }) ↔ GivenFile file (length before) Good
   chain-read-exactly = fileCallLaws.chain-read-when c
+
+  -- the numbers of each
+  pub chain-refused-words : (q : Refusal) → GivenFile file (length before) (Refused q) → givenWords r ≡ refusalNumber q ∷ refusalPlace q ∷ 0 ∷ 0 ∷ 0 ∷ []
+  chain-refused-words q g = ap givenWords (chain-refused-exactly q .1 g)
+
+  pub chain-read-words : GivenFile file (length before) Good → givenWords r ≡ 0 ∷ 0 ∷ lengthOf (ringOf file) ∷ bitsOf (startOf (ringOf file) .0) ∷ bitsOf (startOf (ringOf file) .1) ∷ []
+  chain-read-words g = ap givenWords (chain-read-exactly .1 g)
 
 module _ (file before after : List ℕ) where
   -- "a refusal writes nothing"

@@ -2,13 +2,14 @@
 -- Assumes nothing.
 use mathlib.Core.List.{List, _++_, List·Memᴰ}
 use mathlib.Core.Logic.{_↔_}
-use mathlib.Core.Path.{_≡_}
+use mathlib.Core.Path.{_≡_, ap}
 use Prim.Native.Nat.{ℕ, _*_, _%_}
 use lib.Dec.{eqb}
 use lib.IntN.{ℤ, natAbs}
 use lib.ListN.{length, drop}
 use Rattle.lists.specs.Lists.{count, Below}
 use Rattle.answer.specs.declared.{Counted.Counted, Refusal.Refusal}
+use Rattle.answer.specs.Words.{countedWords}
 use Rattle.grid.specs.declared.{Corner.Corner, Panel.Panel}
 use Rattle.trace.specs.Verdict.{IsRoom, areaOf}
 use Rattle.panels.specs.Inside.{Inside}
@@ -55,6 +56,10 @@ module _ (c : Corner) (ds : List ℕ) (before : List ℤ) where
   -- each answer exactly on its occasion: 1, 10, 4, 6, 12, then 21, otherwise the number of spans
   pub rows-exactly : {r : Counted} {after : List ℤ} → RowsCall c ds before r after → (s : Counted) → r ≡ s ↔ GivenRows c ds (length before) s
   rows-exactly = rowCallLaws.rows-when c ds before
+
+  -- the numbers of each
+  pub rows-words : {r : Counted} {after : List ℤ} → RowsCall c ds before r after → (s : Counted) → GivenRows c ds (length before) s → countedWords r ≡ countedWords s
+  rows-words w s g = ap countedWords (rows-exactly w s .1 g)
 
   module _ {after : List ℤ} where
     -- "nothing written"

@@ -18,7 +18,7 @@ use Rattle.demands.specs.Moments.{stepsAfter, nodesAfter, Exceeds}
 abbrev pub HasRecords : ℕ → Type 0
 HasRecords words = (r : ℕ) × (1 ≤ r) × (r ≤ mostRecords) × (words ≡ r * width)
 
--- marks are twice, and the chain is once, the input length
+-- marks are three times, and the chain is once, the input length
 abbrev pub HasRoom : List ℕ → ℕ → ℕ → Type 0
 HasRoom os marks chain = (marks ≡ markWords * length os) × (chain ≡ length os)
 

@@ -31,7 +31,7 @@ module _ (P : ℕ → Corner → Type 0) where
   way-each p (d ∷ es) f = (f (p, d) (List·Memᴰ·head refl), way-each (stepped d p) es (λ y m. f y (List·Memᴰ·tail m)))
 
   -- of the step along an edge
-  each-edge : (c : Corner) (ds : List ℕ) → Below 4 ds → EachStep P c ds → (v : Corner) (d : ℕ) → d < 4 → List·Memᴰ (v, stepped d v) (legsFrom c ds) → P d v
+  pub each-edge : (c : Corner) (ds : List ℕ) → Below 4 ds → EachStep P c ds → (v : Corner) (d : ℕ) → d < 4 → List·Memᴰ (v, stepped d v) (legsFrom c ds) → P d v
   each-edge c ds b f v d h m =
       let k = edge-of c ds (v, stepped d v) m in
       let q : k .0 .0 ≡ v = sym (ap (λ (e : Corner × Corner). e .0) (k .2)) in

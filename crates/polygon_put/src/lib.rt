@@ -16,12 +16,14 @@ ghost use Rattle.polygon.specs.Coordinate.{coordinateOf};
 ghost use Rattle.polygon.specs.Polygon.{pointBytes, pointsBytes, prefix, bends, bendsOf, pointsOf};
 ghost use Rattle.polygon_laws.specs.Bends.{Drawable, turning, pointLaid};
 
+const SIDE: i32 = polygon::SIDE as i32;
+
 // 600 times x, exactly.
 fn millimetres(x: i32) -> f64
     requires { ⌜ natAbs x ≤ farthest ⌝ }
     ensures { λ r. ⌜ r ≡ coordinateOf x ⌝ }
 {
-    (600 * x) as f64
+    (SIDE * x) as f64
 }
 
 // Writes the n lowest bytes of b at the start of buf, the lowest first.

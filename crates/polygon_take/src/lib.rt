@@ -133,6 +133,8 @@ const SIGN: u64 = 0x8000_0000_0000_0000;
 
 const LEAD: u64 = 0x10_0000_0000_0000;
 
+const SIDE: u64 = polygon::SIDE as u64;
+
 // The digits with the leading one.
 fn digits(size: u64) -> u64
     ensures { λ r. ⌜ r ≡ digitsIn size ⌝ }
@@ -156,7 +158,7 @@ fn panels(size: u64) -> u64
     requires { ⌜ inReach size ≡ true ⌝ }
     ensures { λ r. ⌜ r ≡ panelsShown size ⌝ }
 {
-    (digits(size) >> (1075 - size / LEAD)) / 600
+    (digits(size) >> (1075 - size / LEAD)) / SIDE
 }
 
 // Whether the panels that the digits hold have all of them.
@@ -164,7 +166,7 @@ fn is_all(n: u64, size: u64) -> bool
     requires { ⌜ (inReach size ≡ true) × (n ≡ panelsShown size) ⌝ }
     ensures { λ r. ⌜ r ≡ eqb (scale * n * 2 ^ placesIn size) (digitsIn size) ⌝ }
 {
-    (600 * n) << (1075 - size / LEAD) == digits(size)
+    (SIDE * n) << (1075 - size / LEAD) == digits(size)
 }
 
 // The number n with a sign.
