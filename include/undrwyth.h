@@ -325,7 +325,7 @@ uint32_t undrwyth_walk(int32_t start_x, int32_t start_y,
  *
  * A new node looks for its record from the lowest that may be free. That is seldom far. But operations that free a low
  * record, fill it and need one more, again and again, while thousands of records after it are in use, go through all of
- * these each time: in 8,000 records such an operation took 2.9 microseconds, where others take 0.04 (ARM Neoverse-V1).
+ * these each time: in 8,000 records such an operation took 1 to 2.2 microseconds, and others 0.04 (ARM Neoverse-V1).
  *
  * Stack: UNDRWYTH_WALK_TWO_STACK_BYTES, whatever the walks. */
 uint32_t undrwyth_walk_two(int32_t start0_x, int32_t start0_y,
