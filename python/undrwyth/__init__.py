@@ -25,7 +25,7 @@ from ._answers import (
     Corner, Hull, Line, Mark, Marks, Overlay, PairRecord, PairTable, Part, Party, PartyFacts, Polygon, Record, Refusal, Refused,
     Rows, Span, Steps, Table, Text, Verdict, Walk, WalkTwo,
 )
-from ._native import Buffer, Input, LibraryMissing, apart, corner, raw, room, steps, text
+from ._native import ORIGIN, Buffer, Input, LibraryMissing, apart, corner, raw, room, rooms, steps, text
 
 __version__ = "1.0.0"
 __all__ = [
@@ -41,7 +41,6 @@ __all__ = [
  _steps_of_turns, _line, _convert_line) = _native.functions()
 
 _Two, _Three, _Five, _Eight, _Eleven, _Nineteen = c_int32 * 2, c_int32 * 3, c_int32 * 5, c_int32 * 8, c_int32 * 11, c_int32 * 19
-_ORIGIN = (0, 0)
 
 
 def _refuse(number: int, place: int, given: Optional[Input] = None, most: int = 3) -> NoReturn:
@@ -64,7 +63,7 @@ def _facts(words: Sequence[int], chain: memoryview) -> PartyFacts:
 
 
 def walk(
-    ops: Input, start: Corner = _ORIGIN, *,
+    ops: Input, start: Corner = ORIGIN, *,
     table: Optional[Buffer] = None, marks: Optional[Buffer] = None, chain: Optional[Buffer] = None,
 ) -> Walk:
     """Judges the walk of the operations from the start corner.
@@ -86,24 +85,28 @@ def walk(
     x, y = corner(start)
     # 4 c + 64 records are enough for c different corners, from (0,0) 4 c - 3; a walk has at most one more than it has steps
     records = 4 * (min(n, MOST_STEPS) + 1) + (64 if x or y else -3)
-    t = room(table, "I", RECORD_WORDS * records)
-    m = room(marks, "I", MARK_WORDS * n)
-    c = room(chain, "B", n)
-    if table is not None or marks is not None or chain is not None:
+    if table is None and marks is None and chain is None:
+        t, m, c = rooms(RECORD_WORDS * records, MARK_WORDS * n, n)
+    else:
+        t = room(table, "I", RECORD_WORDS * records)
+        m = room(marks, "I", MARK_WORDS * n)
+        c = room(chain, "B", n)
         apart(t, m, c)
     answer = _Eleven()
     number = _walk(x, y, data, len(data), t[0], t[1], m[0], m[1], c[0], c[1], answer)
     if number:
         _refuse(number, answer[1], ops, 4)
-    _, _, verdict, count, nodes, corners, j, k, area, last_x, last_y = answer
-    return Walk(
-        VERDICTS[verdict], count, corners, None if k == NO_MEETING else (j, k), area, (last_x, last_y), c[2],
-        nodes, Table(t[2], nodes), Marks(m[2], n),
+    _, _, verdict, count, nodes, corners, j, k, area, last_x, last_y = answer[:]
+    made = Walk.__new__(Walk)  # as Walk(..) makes it, in half the time
+    made.__dict__.update(
+        verdict=VERDICTS[verdict], steps=count, corners=corners, meeting=None if k == NO_MEETING else (j, k), area=area,
+        last=(last_x, last_y), buffer=c[2], nodes=nodes, table=Table(t[2], nodes), marks=Marks(m[2], n),
     )
+    return made
 
 
 def walk_two(
-    ops: Input, start0: Corner = _ORIGIN, start1: Corner = _ORIGIN, *,
+    ops: Input, start0: Corner = ORIGIN, start1: Corner = ORIGIN, *,
     table: Optional[Buffer] = None, marks: Optional[Buffer] = None,
     chain0: Optional[Buffer] = None, chain1: Optional[Buffer] = None,
 ) -> WalkTwo:
@@ -135,7 +138,7 @@ def walk_two(
     return WalkTwo(words[2], parties, PairTable(t[2], t[1] // PAIR_RECORD_WORDS), Marks(m[2], n))
 
 
-def hull(chain: Input, start: Corner = _ORIGIN, *, out: Optional[Buffer] = None) -> Hull:
+def hull(chain: Input, start: Corner = ORIGIN, *, out: Optional[Buffer] = None) -> Hull:
     """Lists the corners of the convex hull of the walk of the chain.
 
     >>> hull("0123").corners
@@ -152,7 +155,7 @@ def hull(chain: Input, start: Corner = _ORIGIN, *, out: Optional[Buffer] = None)
     return Hull(count, o[2][: CORNER_NUMBERS * count])
 
 
-def outline(chain: Input, start: Corner = _ORIGIN, *, out: Optional[Buffer] = None) -> Steps:
+def outline(chain: Input, start: Corner = ORIGIN, *, out: Optional[Buffer] = None) -> Steps:
     """Writes the outer outline of the walk of the chain, as steps.
 
     >>> outline("001122331000").digits
@@ -168,7 +171,7 @@ def outline(chain: Input, start: Corner = _ORIGIN, *, out: Optional[Buffer] = No
     return Steps(answer[2], o[2][: answer[2]])
 
 
-def polygon_of_room(chain: Input, start: Corner = _ORIGIN, *, out: Optional[Buffer] = None) -> Polygon:
+def polygon_of_room(chain: Input, start: Corner = ORIGIN, *, out: Optional[Buffer] = None) -> Polygon:
     """Writes a room as a polygon in Well-Known Binary, in millimetres.
 
     >>> polygon_of_room("0123").wkb.hex()[:26]
@@ -200,7 +203,7 @@ def chain_of_polygon(file: Union[bytes, bytearray, memoryview], *, chain: Option
     return Chain(answer[2], o[2][: answer[2]], (answer[3], answer[4]))
 
 
-def rows(chain: Input, start: Corner = _ORIGIN, *, out: Optional[Buffer] = None) -> Rows:
+def rows(chain: Input, start: Corner = ORIGIN, *, out: Optional[Buffer] = None) -> Rows:
     """Lists the panels inside a room by rows.
 
     >>> rows("001223").spans
@@ -218,7 +221,7 @@ def rows(chain: Input, start: Corner = _ORIGIN, *, out: Optional[Buffer] = None)
 
 
 def overlay(
-    chain1: Input, chain2: Input, start1: Corner = _ORIGIN, start2: Corner = _ORIGIN, *,
+    chain1: Input, chain2: Input, start1: Corner = ORIGIN, start2: Corner = ORIGIN, *,
     first: Optional[Buffer] = None, second: Optional[Buffer] = None, both: Optional[Buffer] = None,
 ) -> Overlay:
     """Lays two rooms over each other.
@@ -242,7 +245,7 @@ def overlay(
     return Overlay(*parts)
 
 
-def convex(chain: Input, start: Corner = _ORIGIN) -> bool:
+def convex(chain: Input, start: Corner = ORIGIN) -> bool:
     """Tells whether a room is convex.
 
     >>> convex("0123"), convex("000111233223")

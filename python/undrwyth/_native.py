@@ -14,6 +14,7 @@ NAMED = "UNDRWYTH_LIBRARY"
 Buffer = Any  # whatever has writable bytes in one piece: bytearray, array, memoryview, a NumPy array
 Input = Union[str, bytes, bytearray, memoryview]
 Corner = Tuple[int, int]
+ORIGIN: Corner = (0, 0)
 Lent = Tuple[Any, int, memoryview]  # what the call gets, its length in elements, and its elements
 
 
@@ -126,6 +127,8 @@ def raw(given: Union[bytes, bytearray, memoryview]) -> bytes:
 
 def corner(given: Corner) -> Corner:
     """A pair of ints, each brought into 32 bits: what is further out is refused all the same."""
+    if given is ORIGIN:
+        return given
     try:
         x, y = given
         x, y = index(x), index(y)
@@ -136,6 +139,7 @@ def corner(given: Corner) -> Corner:
 
 _byte_at = ctypes.c_char.from_buffer
 _byref = ctypes.byref
+_address = ctypes.addressof
 
 
 def room(given: Optional[Buffer], code: str, count: int) -> Lent:
@@ -144,8 +148,26 @@ def room(given: Optional[Buffer], code: str, count: int) -> Lent:
         return _lent(given, code)
     if not count:
         return None, 0, memoryview(b"").cast(code)
-    made = bytearray(count if code == "B" else 4 * count)
+    if code == "B":
+        made = bytearray(count)
+        return _byref(_byte_at(made)), count, memoryview(made)
+    made = bytearray(4 * count)
     return _byref(_byte_at(made)), count, memoryview(made).cast(code)
+
+
+def rooms(words: int, marks: int, count: int) -> Tuple[Lent, Lent, Lent]:
+    """New buffers of so many words, words again, and bytes, in one piece, which is quicker."""
+    first, second = 4 * words, 4 * (words + marks)
+    made = bytearray(second + count)
+    at, view = _address(_byte_at(made)), memoryview(made)
+    return (
+        (at, words, view[:first].cast("I")),
+        (at + first, marks, view[first:second].cast("I")),
+        (at + second, count, view[second:]),
+    )
+
+
+_FORMATS = {1: frozenset("Bbc"), 4: frozenset(order + kind for order in ("", "@", "=", "<") for kind in "IiLl")}
 
 
 def _lent(given: Buffer, code: str) -> Lent:
@@ -156,21 +178,24 @@ def _lent(given: Buffer, code: str) -> Lent:
         raise TypeError(f"a lent buffer is a bytearray, an array or a memoryview, not {type(given).__name__}") from None
     if view.readonly or not view.c_contiguous:
         raise TypeError("a lent buffer can be written, and is in one piece")
-    if view.itemsize not in (1, size) or view.format.lstrip("@=<") not in ("B", "b", "c", "I", "i", "L", "l"):
+    item, held = view.itemsize, view.nbytes
+    if (item != size and item != 1) or view.format not in _FORMATS[item]:
         raise TypeError(f"a lent buffer has bytes or integers of {size} bytes, not elements of format {view.format!r}")
-    if view.nbytes % size:
-        raise ValueError(f"a lent buffer of {view.nbytes} bytes does not hold elements of {size} bytes")
-    if not view.nbytes:
+    if held % size:
+        raise ValueError(f"a lent buffer of {held} bytes does not hold elements of {size} bytes")
+    if not held:
         return None, 0, memoryview(b"").cast(code)
     first = _byte_at(view)
-    if ctypes.addressof(first) % size:
+    if size > 1 and _address(first) % size:
         raise ValueError(f"a lent buffer of elements of {size} bytes begins at a multiple of {size}")
-    return _byref(first), view.nbytes // size, view.cast("B").cast(code)
+    if view.format != code or view.ndim != 1:
+        view = view.cast("B").cast(code)
+    return _byref(first), held // size, view
 
 
 def apart(*lent: Lent) -> None:
     """Buffers of one call do not overlap."""
-    ends = sorted((ctypes.addressof(one[0]._obj), one[2].nbytes) for one in lent if one[0] is not None)
+    ends = sorted((_address(one[0]._obj), one[2].nbytes) for one in lent if one[0] is not None)
     for (at, length), (after, _) in zip(ends, ends[1:]):
         if after < at + length:
             raise ValueError("two lent buffers overlap")
