@@ -17,6 +17,7 @@ import undrwyth.__main__
 from undrwyth import Refused
 
 HERE = Path(__file__).resolve().parents[1]
+PAGE = HERE.parent / "docs" / "PYTHON.md"
 HEADER = (HERE.parent / "include" / "undrwyth.h").read_text()
 ROOM = "00000011112222223333"
 
@@ -28,6 +29,7 @@ def defined(prefix):
 def load_tests(loader, tests, pattern):
     for module in undrwyth, undrwyth._answers, undrwyth.__main__:
         tests.addTests(doctest.DocTestSuite(module))
+    tests.addTests(doctest.DocFileSuite(str(PAGE), module_relative=False))
     return tests
 
 
@@ -69,6 +71,22 @@ class Lending(unittest.TestCase):
             self.assertEqual(answer.table[0].edge_north, 1)
             memoryview(table).cast("B")[84:88] = b"\x09\0\0\0"  # word 21 of record 0
             self.assertEqual(answer.table[0].edge_east, 9)
+
+    def test_numpy(self):
+        try:
+            import numpy
+        except ImportError:
+            self.skipTest("NumPy is not there")
+        table, chain = numpy.full((4, 25), 7, numpy.uint32), numpy.full(4, 7, numpy.uint8)
+        answer = undrwyth.walk("0123", table=table, chain=chain)
+        self.assertEqual((table[0, 21], table[:, 18].tolist(), chain.tolist()), (1, [2, 1, 1, 1], [0, 1, 2, 3]))
+        table[0, 21] = 9
+        self.assertEqual(answer.table[0].edge_east, 9)
+        spans = numpy.zeros((2, 3), numpy.int32)
+        self.assertEqual((undrwyth.rows("001223", (-5, 2), out=spans).count, spans[0].tolist()), (1, [2, -5, -4]))
+        for wrong in numpy.zeros(100, numpy.float32), numpy.zeros(100, ">u4"), table.T, numpy.zeros(50, numpy.uint64):
+            with self.assertRaises(TypeError):
+                undrwyth.walk("0123", table=wrong)
 
     def test_rest_stays(self):
         out = array.array("i", [77]) * 12
@@ -216,6 +234,17 @@ class Threads(unittest.TestCase):
         for thread in threads:
             thread.join()
         self.assertEqual(wrong, [])
+
+
+class Page(unittest.TestCase):
+    def test_ten_lines(self):
+        """The program of docs/PYTHON.md, run as it stands, ends with what the page says."""
+        part = PAGE.read_text().split("## From records to panel counts\n")[1].split("\n## ")[0]
+        program = "\n".join(line[4:] for line in part.splitlines() if line.startswith("    ") or not line)
+        done = subprocess.run(
+            [sys.executable, "-c", program], cwd=HERE.parent, env={**os.environ, "PYTHONPATH": str(HERE)}, stdout=subprocess.PIPE,
+            text=True)
+        self.assertEqual((done.returncode, done.stdout.splitlines()[-1]), (0, re.findall("ends with `(.*)`", part)[0]))
 
 
 class Command(unittest.TestCase):

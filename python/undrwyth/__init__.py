@@ -40,6 +40,9 @@ __all__ = [
 (_walk, _walk_two, _hull, _outline, _polygon_of_room, _chain_of_polygon, _rows, _overlay, _convex, _turns_of_steps,
  _steps_of_turns, _line, _convert_line) = _native.functions()
 
+for _class in (Refused, LibraryMissing):
+    _class.__module__ = __name__  # by this name they are caught, and shown
+
 _Two, _Three, _Five, _Eight, _Eleven, _Nineteen = c_int32 * 2, c_int32 * 3, c_int32 * 5, c_int32 * 8, c_int32 * 11, c_int32 * 19
 
 
