@@ -130,6 +130,14 @@ class Cases(unittest.TestCase):
             said += [0] * (len(after[-1]) // 4 - len(said))
             self.assertEqual((0 if refused is None else refused.number, struct.pack(f"<{len(said)}i", *said)), (result, after[-1]))
             self.bytes += len(after[-1])
+        if answer is not None:
+            for view, value in zip(views(name, answer), after):
+                self.assertEqual(bytes(view), value[: view.nbytes])
+            if name == "walk":
+                self.assertEqual(answer.chain, after[2][: answer.steps])
+            elif name == "walk_two":
+                for party, value in zip(answer.parties, after[2:]):
+                    self.assertEqual(party.chain, value[: party.steps])
         if answer is not None and sum(map(len, inputs)) <= 2000:
             own = call(*inputs, *starts)
             self.assertEqual(words(name, own), words(name, answer))

@@ -1,6 +1,7 @@
 # SPDX-License-Identifier: MIT
 """The package: its docstrings, the header's numbers, lent buffers, bad input, threads, and the command."""
 import array
+import ctypes
 import doctest
 import os
 import pickle
@@ -52,6 +53,21 @@ class Header(unittest.TestCase):
         self.assertEqual(sorted(declared), sorted(undrwyth._native.SIGNATURES))
         for name in declared:
             self.assertTrue(callable(getattr(undrwyth, name)))
+
+    def test_signatures(self):
+        """Arguments and result of each function are those that the header declares."""
+        words = {"int32_t": ctypes.c_int32, "undrwyth_size": ctypes.c_uint64, "uint32_t": ctypes.c_uint32}
+        for result, name, arguments in re.findall(r"^(\w+) undrwyth_(\w+)\(([^)]*)\);", HEADER, re.M):
+            declared = [
+                ctypes.c_void_p if "*" in one or "[" in one else words[one.split()[0]] for one in arguments.split(",")]
+            self.assertEqual(undrwyth._native._types(name), (declared, words[result]), name)
+
+    def test_sizes(self):
+        """The tables that a walk makes are as large as the header says that always is enough."""
+        for n in 0, 1, 20:
+            self.assertEqual(len(undrwyth.walk(bytes(n)).table.words), 25 * (4 * n + 1))
+            self.assertEqual(len(undrwyth.walk(bytes(n), (0, 5)).table.words), 25 * (4 * n + 68))
+            self.assertEqual(len(undrwyth.walk_two(bytes(n)).table), 4 * n + 136)
 
     def test_sentences(self):
         for refusal in undrwyth.Refusal:
