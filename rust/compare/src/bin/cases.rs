@@ -1,11 +1,12 @@
-//! Writes calls that the comparisons make, with every lent buffer before and after the proved library's call: `cases`. Another build of
-//! the library, as the WebAssembly modules of dist/, is then asked the same. One call in so many is written, and more of those with a long
-//! input.
+//! Writes calls that the comparisons make, with every lent buffer before and after the proved library's call: `cases [ROUNDS]`. Another
+//! build of the library, as the WebAssembly modules of dist/, is then asked the same, or another language that calls it. One call in so
+//! many is written, and more of those with a long input. With ROUNDS, only so many rounds of random calls are made.
 //!
 //! A call is its name, its arguments, its result and the buffers after it. A text or a buffer has its length before it, 4 bytes, and an
 //! argument begins with a letter: `n` a number of 4 bytes; `i` bytes; `l` how many bytes an element of a lent buffer has, and the
 //! buffer; `a` the buffer of the answer. All numbers are little-endian.
 
+use std::env;
 use std::io::{self, BufWriter, Stdout, Write};
 use std::sync::atomic::{AtomicU64, Ordering};
 use std::sync::{LazyLock, Mutex};
@@ -248,7 +249,8 @@ const WRITTEN: Library = Library {
     },
 };
 
-fn main() {
+/// Every comparison but the random ones.
+fn chosen() {
     suite::short_walks(&WRITTEN, LONGEST);
     suite::short_chains(&WRITTEN, LONGEST + 1);
     suite::every_byte(&WRITTEN);
@@ -266,8 +268,16 @@ fn main() {
     suite::files(&WRITTEN);
     suite::starts(&WRITTEN, LONGEST / 3);
     suite::lines(&WRITTEN);
+}
+
+fn main() {
+    let given = env::args().nth(1);
+    let rounds = given.map(|rounds| rounds.parse().expect("ROUNDS is a number"));
+    if rounds.is_none() {
+        chosen();
+    }
     let mut random = Random(1);
-    for _ in 0..ROUNDS {
+    for _ in 0..rounds.unwrap_or(ROUNDS) {
         suite::random_calls(&WRITTEN, &mut random);
     }
     let mut output = OUTPUT.lock().expect("one thread writes");
