@@ -82,7 +82,7 @@ SENTENCES = {
     Refusal.BAD_COORDINATE: "a coordinate is not a whole multiple of 600, or is too far out",
     Refusal.BAD_RING: "the ring has a slant, a repeated point or fewer than four points, or is not closed",
     Refusal.CHAIN_ROOM: "the lent buffer is shorter than the chain",
-    Refusal.RETIRED_KIND: "the record has turns; convert_line makes a record with operations of it",
+    Refusal.RETIRED_KIND: "the record has turns, which are retired; convert makes a record with steps of it",
     Refusal.SPAN_ROOM: "a lent buffer is shorter than three numbers a span",
 }
 
