@@ -16,16 +16,25 @@ struct text {
 /* Says why on standard error, after the name of the command; gives the status of a failure. */
 int fail(const char *format, ...) __attribute__((format(printf, 1, 2)));
 
-/* The input is a sample, or the files, one after the other; if there are none it is standard input. A file that cannot be opened
- * now, or a standard input that is closed, is a failure. */
-void take_sample(struct text sample);
-int take_files(char **files, int count);
+/* A command has one input, 0, or two. An input is a sample, a record, or the files, one after the other; if there are none it is
+ * standard input. If `records` is not 0, what is not the name of a file may be a record itself. A file that cannot be opened now, or
+ * a standard input that is closed, is a failure. */
+enum { INPUTS = 2 };
+void take_sample(int input, struct text sample);
+void take_record(int input, const char *record);
+int take_files(int input, char **files, int count, int records);
+
+/* Whether the input consists of records that are arguments. */
+int is_spoken(int input);
+
+/* Whether a file is one that is still to be read. */
+int is_read(const char *file);
 
 /* The next bytes of the input, n at most: how many, 0 at its end, or -1. A file that lacks its last line feed gets it if another
  * one comes after it. */
-ssize_t next_bytes(unsigned char *to, size_t n);
+ssize_t next_bytes(int input, unsigned char *to, size_t n);
 
-/* Whether the input ended in a line that lacks its line feed. */
+/* Whether the first input ended in a line that lacks its line feed. */
 int line_is_open(void);
 
 /* The failure of a read, with what could not be read. */
@@ -34,10 +43,12 @@ int unread(const char *lost);
 /* Writes all n bytes to standard output: 0, or -1. */
 int write_bytes(const void *from, size_t n);
 
-/* The commands. */
+/* The commands: each gives its status. */
 int run_lines(int (*proved)(int, char **), int in_words);
-int draw(const unsigned char *record, size_t n);
-int draw_input(void);
-int chains(void);
+int explain(void), outline(void), hull(void), convex(void), spans(void), chains(void), overlay(void), table(void), draw(void), dxf(void), summary(void);
+
+/* What options tell: rooms are drawn apart, and the file that summary writes refused lines to, or null. */
+extern int apart;
+extern const char *refused_lines;
 
 #endif

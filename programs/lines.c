@@ -21,7 +21,7 @@ static int reason;       /* errno of the write that failed */
 /* In words, each record is followed by an empty line. The program refuses it, and the line of that refusal ends what is listed for
  * the record. */
 static ssize_t with_empty_lines(unsigned char *to, size_t n) {
-    ssize_t got = next_bytes(to, n / 2);
+    ssize_t got = next_bytes(0, to, n / 2);
     size_t feeds = 0;
     if (got < 0) return got;
     if (got == 0) {
@@ -42,7 +42,7 @@ static ssize_t with_empty_lines(unsigned char *to, size_t n) {
 
 ssize_t lines_read(int descriptor, void *to, size_t n) {
     (void)descriptor;
-    return words ? with_empty_lines(to, n) : next_bytes(to, n);
+    return words ? with_empty_lines(to, n) : next_bytes(0, to, n);
 }
 
 /* The number that hexadecimal digits spell. */

@@ -10,7 +10,7 @@
 #include <unistd.h>
 
 #include "command.h"
-#include "undrwyth.h"
+#include "output.h"
 
 /* The proved programs on lines, whose assembly is in dist/. */
 int judge_main(int, char **), convert_main(int, char **), rows_main(int, char **), polygons_main(int, char **);
@@ -18,36 +18,62 @@ int judge_main(int, char **), convert_main(int, char **), rows_main(int, char **
 #define TEXT(name) extern const unsigned char name[], name##_end[]
 TEXT(all_help);
 TEXT(common_help);
+TEXT(records_help);
 TEXT(judge_help);
 TEXT(convert_help);
 TEXT(rows_help);
 TEXT(polygons_help);
+TEXT(explain_help);
+TEXT(summary_help);
 TEXT(draw_help);
+TEXT(dxf_help);
 TEXT(chains_help);
+TEXT(outline_help);
+TEXT(hull_help);
+TEXT(convex_help);
+TEXT(spans_help);
+TEXT(overlay_help);
+TEXT(table_help);
 TEXT(records_sample);
 TEXT(old_records_sample);
 TEXT(rooms_sample);
 TEXT(picture_sample);
 TEXT(polygons_sample);
+TEXT(orders_sample);
+TEXT(landlord_sample);
+TEXT(tenant_sample);
 #define OF(name) {name, name##_end}
+
+/* What a command takes besides --help, --sample and files. */
+enum { PRETTY = 1, RECORDS = 2, FORMS = 4, APART = 8, REFUSED = 16, PAIRED = 32, POLYGONS = 64 };
 
 struct command {
     const char *name;
     struct text help, sample;
     int (*proved)(int, char **); /* a program on lines, */
     int (*shown)(void);          /* or what shows the answers of proved calls */
+    int takes;
 };
 
 static const struct command commands[] = {
-    {"judge", OF(judge_help), OF(records_sample), judge_main, NULL},
-    {"convert", OF(convert_help), OF(old_records_sample), convert_main, NULL},
-    {"rows", OF(rows_help), OF(rooms_sample), rows_main, NULL},
-    {"polygons", OF(polygons_help), OF(records_sample), polygons_main, NULL},
-    {"draw", OF(draw_help), OF(picture_sample), NULL, draw_input},
-    {"chains", OF(chains_help), OF(polygons_sample), NULL, chains},
+    {"judge", OF(judge_help), OF(records_sample), judge_main, NULL, 0},
+    {"convert", OF(convert_help), OF(old_records_sample), convert_main, NULL, 0},
+    {"rows", OF(rows_help), OF(rooms_sample), rows_main, NULL, PRETTY},
+    {"polygons", OF(polygons_help), OF(records_sample), polygons_main, NULL, 0},
+    {"explain", OF(explain_help), OF(orders_sample), NULL, explain, RECORDS | FORMS},
+    {"summary", OF(summary_help), OF(orders_sample), NULL, summary, RECORDS | FORMS | REFUSED},
+    {"draw", OF(draw_help), OF(picture_sample), NULL, draw, RECORDS},
+    {"dxf", OF(dxf_help), OF(orders_sample), NULL, dxf, RECORDS | APART},
+    {"chains", OF(chains_help), OF(polygons_sample), NULL, chains, FORMS},
+    {"outline", OF(outline_help), OF(orders_sample), NULL, outline, RECORDS | FORMS},
+    {"hull", OF(hull_help), OF(orders_sample), NULL, hull, RECORDS | FORMS},
+    {"convex", OF(convex_help), OF(orders_sample), NULL, convex, RECORDS | FORMS},
+    {"spans", OF(spans_help), OF(orders_sample), NULL, spans, RECORDS | FORMS},
+    {"overlay", OF(overlay_help), OF(landlord_sample), NULL, overlay, RECORDS | FORMS | PAIRED},
+    {"table", OF(table_help), OF(picture_sample), NULL, table, RECORDS | FORMS},
 };
 
-static const struct text all = OF(all_help), common = OF(common_help);
+static const struct text all = OF(all_help), common = OF(common_help), of_records = OF(records_help), tenant = OF(tenant_sample);
 static const struct command *chosen;
 
 /* The name that messages begin with: it is made before a signal can come. */
@@ -102,6 +128,7 @@ static int print(struct text text) {
 
 static int print_help(void) {
     int status = print(chosen != NULL ? chosen->help : all);
+    if (status == WHOLE && chosen != NULL && chosen->takes & RECORDS) status = print(of_records);
     return status == WHOLE && chosen != NULL ? print(common) : status;
 }
 
@@ -120,29 +147,65 @@ static int is(const char *word, const char *other) {
     return strcmp(word, other) == 0;
 }
 
+const char *refused_lines;
+
+/* What the words after the command ask for. */
+static struct {
+    int sampled, pretty;
+    const char *record;
+} asked;
+
+/* Takes an option, of which more words are left: how many words it has, or 0 if the command has none of that name. */
+static int option(char **words, int count) {
+    int takes = chosen->takes;
+    if (is(*words, "--sample")) asked.sampled = 1;
+    else if (is(*words, "--pretty") && takes & PRETTY) asked.pretty = 1;
+    else if (is(*words, "--json") && takes & FORMS) form = JSON;
+    else if (is(*words, "--csv") && takes & FORMS) form = CSV;
+    else if (is(*words, "--frames") && takes & RECORDS) reading = FRAMES;
+    else if (is(*words, "--digits") && takes & RECORDS) reading = DIGITS;
+    else if (is(*words, "--apart") && takes & APART) apart = 1;
+    else if (is(*words, "--refused") && takes & REFUSED && count > 1) refused_lines = words[1];
+    else if (is(*words, "--record") && takes & RECORDS && !(takes & PAIRED) && count > 1) asked.record = words[1];
+    else return 0;
+    return is(*words, "--refused") || is(*words, "--record") ? 2 : 1;
+}
+
+/* The two inputs of a command on pairs. */
+static int take_pair(char **words, int count) {
+    if (asked.sampled) {
+        take_sample(0, chosen->sample);
+        take_sample(1, tenant);
+        return WHOLE;
+    }
+    if (count != 2) return misused(count < 2 ? "two inputs are needed" : words[2]);
+    if (is(words[0], "-") && is(words[1], "-")) return misused("one input alone can be standard input");
+    return take_files(0, words, 1, 1) == WHOLE && take_files(1, words + 1, 1, 1) == WHOLE ? WHOLE : FAILED;
+}
+
 static int run(char **words, int count) {
-    int sampled = 0, pretty = 0;
-    const char *record = NULL;
-    for (; count > 0 && words[0][0] == '-' && words[0][1] != 0; words++, count--) {
+    int taken;
+    for (; count > 0 && words[0][0] == '-' && words[0][1] != 0; words += taken, count -= taken) {
+        taken = 1;
         if (is(*words, "--")) {
             words++;
             count--;
             break;
         }
-        if (is(*words, "--sample")) sampled = 1;
-        else if (is(*words, "--pretty") && is(chosen->name, "rows")) pretty = 1;
-        else if (is(*words, "--record") && is(chosen->name, "draw") && count > 1) {
-            record = *++words;
-            count--;
-        } else return misused(*words);
+        taken = option(words, count);
+        if (taken == 0) return misused(*words);
     }
-    if ((sampled || record != NULL) && count > 0) return misused(*words);
-    if (sampled && record != NULL) return misused("--sample and --record");
+    if ((asked.sampled || asked.record != NULL) && count > 0) return misused(*words);
+    if (asked.sampled && asked.record != NULL) return misused("--sample and --record");
     if (fcntl(1, F_GETFD) < 0) return fail("standard output is closed");
-    if (record != NULL) return draw((const unsigned char *)record, strlen(record));
-    if (sampled) take_sample(chosen->sample);
-    else if (take_files(words, count) != WHOLE) return FAILED;
-    return chosen->proved != NULL ? run_lines(chosen->proved, pretty) : chosen->shown();
+    if (chosen->takes & PAIRED) {
+        int status = take_pair(words, count);
+        return status == WHOLE ? chosen->shown() : status;
+    }
+    if (asked.record != NULL) take_record(0, asked.record);
+    else if (asked.sampled) take_sample(0, chosen->sample);
+    else if (take_files(0, words, count, chosen->takes & RECORDS) != WHOLE) return FAILED;
+    return chosen->proved != NULL ? run_lines(chosen->proved, asked.pretty) : chosen->shown();
 }
 
 int main(int count, char **words) {
