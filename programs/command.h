@@ -39,5 +39,6 @@ int run_lines(int (*proved)(int, char **), int in_words);
 int draw(const unsigned char *record, size_t n);
 int draw_input(void);
 int chains(void);
+int parts(char **words, int count); /* MISUSED if the words are wrong, and then it has said nothing */
 
 #endif

@@ -16,6 +16,7 @@
     text polygons_help, "programs/polygons.txt"
     text draw_help, "programs/draw.txt"
     text chains_help, "programs/chains.txt"
+    text parts_help, "programs/parts.txt"
     text records_sample, "samples/records.txt"
     text old_records_sample, "samples/old-records.txt"
     text rooms_sample, "samples/rooms.txt"

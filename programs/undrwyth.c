@@ -24,6 +24,7 @@ TEXT(rows_help);
 TEXT(polygons_help);
 TEXT(draw_help);
 TEXT(chains_help);
+TEXT(parts_help);
 TEXT(records_sample);
 TEXT(old_records_sample);
 TEXT(rooms_sample);
@@ -35,16 +36,18 @@ struct command {
     const char *name;
     struct text help, sample;
     int (*proved)(int, char **); /* a program on lines, */
-    int (*shown)(void);          /* or what shows the answers of proved calls */
+    int (*shown)(void);          /* or what shows the answers of proved calls, */
+    int (*own)(char **, int);    /* or what reads its words itself */
 };
 
 static const struct command commands[] = {
-    {"judge", OF(judge_help), OF(records_sample), judge_main, NULL},
-    {"convert", OF(convert_help), OF(old_records_sample), convert_main, NULL},
-    {"rows", OF(rows_help), OF(rooms_sample), rows_main, NULL},
-    {"polygons", OF(polygons_help), OF(records_sample), polygons_main, NULL},
-    {"draw", OF(draw_help), OF(picture_sample), NULL, draw_input},
-    {"chains", OF(chains_help), OF(polygons_sample), NULL, chains},
+    {"judge", OF(judge_help), OF(records_sample), judge_main, NULL, NULL},
+    {"convert", OF(convert_help), OF(old_records_sample), convert_main, NULL, NULL},
+    {"rows", OF(rows_help), OF(rooms_sample), rows_main, NULL, NULL},
+    {"polygons", OF(polygons_help), OF(records_sample), polygons_main, NULL, NULL},
+    {"draw", OF(draw_help), OF(picture_sample), NULL, draw_input, NULL},
+    {"chains", OF(chains_help), OF(polygons_sample), NULL, chains, NULL},
+    {"parts", OF(parts_help), {NULL, NULL}, NULL, NULL, parts},
 };
 
 static const struct text all = OF(all_help), common = OF(common_help);
@@ -102,7 +105,7 @@ static int print(struct text text) {
 
 static int print_help(void) {
     int status = print(chosen != NULL ? chosen->help : all);
-    return status == WHOLE && chosen != NULL ? print(common) : status;
+    return status == WHOLE && chosen != NULL && chosen->own == NULL ? print(common) : status;
 }
 
 /* Wrong usage, with the word that is wrong and the first paragraph of the help. */
@@ -123,6 +126,10 @@ static int is(const char *word, const char *other) {
 static int run(char **words, int count) {
     int sampled = 0, pretty = 0;
     const char *record = NULL;
+    if (chosen->own != NULL) {
+        int status = chosen->own(words, count);
+        return status == MISUSED ? misused(NULL) : status;
+    }
     for (; count > 0 && words[0][0] == '-' && words[0][1] != 0; words++, count--) {
         if (is(*words, "--")) {
             words++;
