@@ -47,6 +47,9 @@ int write_bytes(const void *from, size_t n);
 int run_lines(int (*proved)(int, char **), int in_words);
 int explain(void), outline(void), hull(void), convex(void), spans(void), chains(void), overlay(void), table(void), draw(void), dxf(void), summary(void);
 
+/* Commands that read their words themselves: MISUSED if these are wrong, and then they have said nothing. */
+int parts(char **words, int count), orders(char **words, int count);
+
 /* What options tell: rooms are drawn apart, and the file that summary writes refused lines to, or null. */
 extern int apart;
 extern const char *refused_lines;

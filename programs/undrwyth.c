@@ -34,6 +34,8 @@ TEXT(convex_help);
 TEXT(spans_help);
 TEXT(overlay_help);
 TEXT(table_help);
+TEXT(parts_help);
+TEXT(orders_help);
 TEXT(records_sample);
 TEXT(old_records_sample);
 TEXT(rooms_sample);
@@ -53,24 +55,27 @@ struct command {
     int (*proved)(int, char **); /* a program on lines, */
     int (*shown)(void);          /* or what shows the answers of proved calls */
     int takes;
+    int (*own)(char **, int);    /* or what reads its words itself */
 };
 
 static const struct command commands[] = {
-    {"judge", OF(judge_help), OF(records_sample), judge_main, NULL, 0},
-    {"convert", OF(convert_help), OF(old_records_sample), convert_main, NULL, 0},
-    {"rows", OF(rows_help), OF(rooms_sample), rows_main, NULL, PRETTY},
-    {"polygons", OF(polygons_help), OF(records_sample), polygons_main, NULL, 0},
-    {"explain", OF(explain_help), OF(orders_sample), NULL, explain, RECORDS | FORMS},
-    {"summary", OF(summary_help), OF(orders_sample), NULL, summary, RECORDS | FORMS | REFUSED},
-    {"draw", OF(draw_help), OF(picture_sample), NULL, draw, RECORDS},
-    {"dxf", OF(dxf_help), OF(orders_sample), NULL, dxf, RECORDS | APART},
-    {"chains", OF(chains_help), OF(polygons_sample), NULL, chains, FORMS},
-    {"outline", OF(outline_help), OF(orders_sample), NULL, outline, RECORDS | FORMS},
-    {"hull", OF(hull_help), OF(orders_sample), NULL, hull, RECORDS | FORMS},
-    {"convex", OF(convex_help), OF(orders_sample), NULL, convex, RECORDS | FORMS},
-    {"spans", OF(spans_help), OF(orders_sample), NULL, spans, RECORDS | FORMS},
-    {"overlay", OF(overlay_help), OF(landlord_sample), NULL, overlay, RECORDS | FORMS | PAIRED},
-    {"table", OF(table_help), OF(picture_sample), NULL, table, RECORDS | FORMS},
+    {"judge", OF(judge_help), OF(records_sample), judge_main, NULL, 0, NULL},
+    {"convert", OF(convert_help), OF(old_records_sample), convert_main, NULL, 0, NULL},
+    {"rows", OF(rows_help), OF(rooms_sample), rows_main, NULL, PRETTY, NULL},
+    {"polygons", OF(polygons_help), OF(records_sample), polygons_main, NULL, 0, NULL},
+    {"explain", OF(explain_help), OF(orders_sample), NULL, explain, RECORDS | FORMS, NULL},
+    {"summary", OF(summary_help), OF(orders_sample), NULL, summary, RECORDS | FORMS | REFUSED, NULL},
+    {"draw", OF(draw_help), OF(picture_sample), NULL, draw, RECORDS, NULL},
+    {"dxf", OF(dxf_help), OF(orders_sample), NULL, dxf, RECORDS | APART, NULL},
+    {"chains", OF(chains_help), OF(polygons_sample), NULL, chains, FORMS, NULL},
+    {"outline", OF(outline_help), OF(orders_sample), NULL, outline, RECORDS | FORMS, NULL},
+    {"hull", OF(hull_help), OF(orders_sample), NULL, hull, RECORDS | FORMS, NULL},
+    {"convex", OF(convex_help), OF(orders_sample), NULL, convex, RECORDS | FORMS, NULL},
+    {"spans", OF(spans_help), OF(orders_sample), NULL, spans, RECORDS | FORMS, NULL},
+    {"overlay", OF(overlay_help), OF(landlord_sample), NULL, overlay, RECORDS | FORMS | PAIRED, NULL},
+    {"table", OF(table_help), OF(picture_sample), NULL, table, RECORDS | FORMS, NULL},
+    {"parts", OF(parts_help), .own = parts},
+    {"orders", OF(orders_help), .own = orders},
 };
 
 static const struct text all = OF(all_help), common = OF(common_help), of_records = OF(records_help), tenant = OF(tenant_sample);
@@ -129,7 +134,7 @@ static int print(struct text text) {
 static int print_help(void) {
     int status = print(chosen != NULL ? chosen->help : all);
     if (status == WHOLE && chosen != NULL && chosen->takes & RECORDS) status = print(of_records);
-    return status == WHOLE && chosen != NULL ? print(common) : status;
+    return status == WHOLE && chosen != NULL && chosen->own == NULL ? print(common) : status;
 }
 
 /* Wrong usage, with the word that is wrong and the first paragraph of the help. */
@@ -185,6 +190,10 @@ static int take_pair(char **words, int count) {
 
 static int run(char **words, int count) {
     int taken;
+    if (chosen->own != NULL) {
+        int status = chosen->own(words, count);
+        return status == MISUSED ? misused(NULL) : status;
+    }
     for (; count > 0 && words[0][0] == '-' && words[0][1] != 0; words += taken, count -= taken) {
         taken = 1;
         if (is(*words, "--")) {
