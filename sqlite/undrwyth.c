@@ -423,7 +423,7 @@ static int begin(sqlite3 *db) {
 }
 
 /* The name that SQLite looks for in a file mod_undrwyth.so. */
-int sqlite3_modundrwyth_init(sqlite3 *db, char **message, const sqlite3_api_routines *api);
+__attribute__((visibility("default"))) int sqlite3_modundrwyth_init(sqlite3 *db, char **message, const sqlite3_api_routines *api);
 int sqlite3_modundrwyth_init(sqlite3 *db, char **message, const sqlite3_api_routines *api) {
     (void)message;
     SQLITE_EXTENSION_INIT2(api);

@@ -1,0 +1,10 @@
+INSERT INTO orders (customer, outline) VALUES ('landlord', undrwyth_polygon(0, 0, '00000011112222223333', 1000));
+INSERT INTO orders (customer, outline) VALUES ('tenant', undrwyth_polygon(4, 1, '000112321233', 1000));
+INSERT INTO orders (customer, outline) VALUES ('not as a GeoPackage has it', undrwyth_polygon(4, 1, '000112321233'));
+INSERT INTO orders (customer, outline) VALUES ('crossed', CAST(x'4750000100000000' || x'01030000000100000007000000000000000000000000000000000000000000000000c0924000000000000000000000000000c092400000000000c092400000000000c0a2400000000000c092400000000000c0a2400000000000c0824000000000000000000000000000c0824000000000000000000000000000000000' AS BLOB));
+INSERT INTO orders (customer) VALUES ('none');
+UPDATE orders SET outline = substr(outline, 1, 60) WHERE id = 1;
+UPDATE orders SET outline = undrwyth_polygon(0, 0, '0123', 1000) WHERE id = 1;
+SELECT id, customer, panels FROM orders;
+SELECT o.id, r.row, r.first, r.last FROM orders o, undrwyth_rows(o.outline) r;
+SELECT a.id, b.id, undrwyth_overlay(a.outline, b.outline) FROM orders a JOIN orders b ON a.id < b.id;
