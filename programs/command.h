@@ -46,6 +46,7 @@ int write_bytes(const void *from, size_t n);
 /* The commands: each gives its status. */
 int run_lines(int (*proved)(int, char **), int in_words);
 int explain(void), outline(void), hull(void), convex(void), spans(void), chains(void), overlay(void), table(void), draw(void), dxf(void), summary(void);
+int page(void);
 
 /* Commands that read their words themselves: MISUSED if these are wrong, and then they have said nothing. */
 int parts(char **words, int count), orders(char **words, int count);

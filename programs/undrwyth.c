@@ -36,6 +36,7 @@ TEXT(overlay_help);
 TEXT(table_help);
 TEXT(parts_help);
 TEXT(orders_help);
+TEXT(page_help);
 TEXT(records_sample);
 TEXT(old_records_sample);
 TEXT(rooms_sample);
@@ -47,7 +48,7 @@ TEXT(tenant_sample);
 #define OF(name) {name, name##_end}
 
 /* What a command takes besides --help, --sample and files. */
-enum { PRETTY = 1, RECORDS = 2, FORMS = 4, APART = 8, REFUSED = 16, PAIRED = 32, POLYGONS = 64 };
+enum { PRETTY = 1, RECORDS = 2, FORMS = 4, APART = 8, REFUSED = 16, PAIRED = 32, POLYGONS = 64, NO_INPUT = 128 };
 
 struct command {
     const char *name;
@@ -76,6 +77,7 @@ static const struct command commands[] = {
     {"table", OF(table_help), OF(picture_sample), NULL, table, RECORDS | FORMS, NULL},
     {"parts", OF(parts_help), .own = parts},
     {"orders", OF(orders_help), .own = orders},
+    {"page", OF(page_help), OF(page_help), NULL, page, NO_INPUT, NULL},
 };
 
 static const struct text all = OF(all_help), common = OF(common_help), of_records = OF(records_help), tenant = OF(tenant_sample);
@@ -206,7 +208,9 @@ static int run(char **words, int count) {
     }
     if ((asked.sampled || asked.record != NULL) && count > 0) return misused(*words);
     if (asked.sampled && asked.record != NULL) return misused("--sample and --record");
+    if (chosen->takes & NO_INPUT && (asked.sampled || count > 0)) return misused(asked.sampled ? "--sample" : *words);
     if (fcntl(1, F_GETFD) < 0) return fail("standard output is closed");
+    if (chosen->takes & NO_INPUT) return chosen->shown();
     if (chosen->takes & PAIRED) {
         int status = take_pair(words, count);
         return status == WHOLE ? chosen->shown() : status;
