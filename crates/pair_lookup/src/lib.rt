@@ -41,17 +41,7 @@ fn goes_up(t: &[u32], q: usize, u: usize, c: Corner, d: u8) -> bool
     if own(t, q, u, Record::LINK_STEP + d as usize) != 0 {
         return false;
     }
-    let e = walk_corner::moved(c, d);
-    if walk_corner::is_root(e) {
-        return false;
-    }
-    if walk_corner::is_root(c) {
-        return false;
-    }
-    if walk_corner::alike(walk_corner::parent_of(c), walk_corner::parent_of(e)) {
-        return false;
-    }
-    true
+    walk_corner::parted(c, d)
 }
 
 // The climb from u, which stands for c.

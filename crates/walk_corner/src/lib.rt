@@ -1,9 +1,9 @@
-// Corners as the code has them: where a step leads, the parent, and the child's word.
+// Corners as the code has them: where a step leads, the parent, the child's word, and whether the parents of two neighbours differ.
 ghost use mathlib.Core.Path.{_≡_};
 ghost use Prim.Native.Nat.{_<_, _≤_};
 ghost use lib.IntN.{natAbs, _+ℤ_};
 ghost use Rattle.grid.specs.Grid.{same, stepped, eastOf, northOf};
-ghost use Rattle.walk_corner.specs.Moves.{differenceOf};
+ghost use Rattle.walk_corner.specs.Moves.{differenceOf, partedBy};
 ghost use Rattle.grid.specs.Tree.{upBy, halfOf, parentOf, isRoot, slotOf, childWord};
 use grid::Corner;
 
@@ -118,4 +118,14 @@ pub fn alike(a: Corner, b: Corner) -> bool
         return false;
     }
     true
+}
+
+// Whether neither c nor its neighbour in the direction d is the root, and their parents differ. The parents alone tell it: those of the
+// root and of each neighbour of it are both the root.
+pub fn parted(c: Corner, d: u8) -> bool
+    requires { ⌜ (natAbs (c .0) < 65536) × (natAbs (c .1) < 65536) ⌝ }
+    ensures { λ r. ⌜ r ≡ partedBy d c ⌝ }
+{
+    let e = moved(c, d);
+    !alike(parent_of(c), parent_of(e))
 }

@@ -22,6 +22,7 @@ use Rattle.layout.specs.Marks.{markWords}
 use Rattle.layout.specs.Table.{width, recordsIn}
 use Rattle.answer.proofs.RefusalLaws.{orElse-right}
 use Rattle.lists.proofs.GatherLaws.{and-left, and-right}
+use Rattle.order.specs.Highest.{highestOf}
 use Rattle.walk_call.proofs.JudgedLaws.{input-fits}
 use Rattle.walk_input.specs.Input.{inputJudged}
 
@@ -52,6 +53,14 @@ after-le n o = go (eqb o 4) refl
 
 pub after-step : (n o : ℕ) → (o ≡ 4 → ⊥) → n + 1 ≡ after n o
 after-step n o e = rw (ne-eqb o 4 e, after)
+
+-- no 4 and not too many: no fault
+pub steps-fine : (i n : ℕ) (os : List ℕ) → highestOf os ≤ 3 → n + length os ≤ mostSteps → Good ≡ operationsJudged i n os
+steps-fine i n [] h l = refl
+steps-fine i n (o ∷ os) h l =
+    let f : Good ≡ faultOf i n o = fault-fits i n o (omega arith) (λ e. omega arith) (omega arith) in
+    let a : n + 1 ≡ after n o = after-step n o (λ e. omega arith) in
+    steps-fine (suc i) (after n o) os (omega arith) (omega (arith, a)) ∙ ap (λ (j : Judged). orElse j (operationsJudged (suc i) (after n o) os)) f
 
 -- one place on
 module _ (os : List ℕ) (i n : ℕ) (more : i < length os) (e : operationsJudged 0 0 os ≡ operationsJudged i n (drop i os)) where

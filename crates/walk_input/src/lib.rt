@@ -42,8 +42,8 @@ pub fn survive(op: u8, steps: usize) -> usize
     steps + 1
 }
 
-// The first fault of the operations.
-fn operations(ops: &[u8]) -> Judged
+// The first fault of the operations, one after the other.
+fn first_fault(ops: &[u8]) -> Judged
     ensures { λ r. ⌜ r ≡ operationsJudged 0 0 (now (ops .entry)) ⌝ }
 {
     let mut steps: usize = 0;
@@ -56,6 +56,19 @@ fn operations(ops: &[u8]) -> Judged
         }
         steps = survive(op, steps);
         i += 1;
+    }
+    Judged::Good
+}
+
+// The first fault of the operations. If all are steps, and not too many, there is none.
+fn operations(ops: &[u8]) -> Judged
+    ensures { λ r. ⌜ r ≡ operationsJudged 0 0 (now (ops .entry)) ⌝ }
+{
+    if ops.len() > Walk::MOST_STEPS {
+        return first_fault(ops);
+    }
+    if order::highest(ops) > 3 {
+        return first_fault(ops);
     }
     Judged::Good
 }

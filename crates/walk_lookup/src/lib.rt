@@ -57,17 +57,7 @@ fn goes_up(t: &[u32], u: usize, c: Corner, d: u8) -> bool
     if beside != 0 {
         return false;
     }
-    let e = walk_corner::moved(c, d);
-    if walk_corner::is_root(e) {
-        return false;
-    }
-    if walk_corner::is_root(c) {
-        return false;
-    }
-    if walk_corner::alike(walk_corner::parent_of(c), walk_corner::parent_of(e)) {
-        return false;
-    }
-    true
+    walk_corner::parted(c, d)
 }
 
 // The climb from u, which stands for c.

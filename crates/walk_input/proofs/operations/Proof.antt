@@ -1,59 +1,23 @@
--- `walk_input::operations` meets its contract. The invariant: the faults from here on are those of the whole.
+-- `walk_input::operations` meets its contract.
 -- Assumes nothing.
-use mathlib.Core.Path.{_≡_, refl, sym, _∙_}
-use Prim.Native.Nat.{_-_, _<_, _≤_}
 use native.Mathlib.Omega.{arith}
 use borrow.Author.Needs.{needs}
-use lib.ListN.{length, drop, getD, drop-of-length-le}
-use Rattle.steps.specs.Operations.{operationsJudged}
-use Rattle.steps.proofs.SurvivorLaws.{fault-none}
-use Rattle.walk_input.proofs.JudgeLaws.{faults-here, faults-next, after-le}
+use Rattle.walk_input.proofs.JudgeLaws.{steps-fine}
 use Rattle.walk_input.proofs.operations.Statement.{statement}
 use Rattle.walk_input.proofs.operations.Tie as tie
 
-abbrev Inv-loop : tie.InvT-loop
-Inv-loop ops steps₀ i₀ steps i = (i ≤ length ops) × (steps ≤ i) × (operationsJudged 0 0 ops ≡ operationsJudged i steps (drop i ops))
-
-abbrev μ-loop : tie.MeasureT-loop
-μ-loop ops steps₀ i₀ steps i = length ops - i
-
-loop-holds : tie.Need-loop-holds Inv-loop μ-loop
-loop-holds c = (omega arith, omega arith, refl)
-
-shared-slice-read-op : tie.Need-shared-slice-read-op Inv-loop μ-loop
-shared-slice-read-op c = omega arith
-
-fault-requires : tie.Need-fault-requires Inv-loop μ-loop
-fault-requires c κs = tt
-
-returns : tie.Need-returns Inv-loop μ-loop
-returns c =
-    let f = c .before .before .fault in
-    let l = c .before .before .before .before .before .loop in
-    let e = c .enum-told .given in
-    faults-here (c .before .before .before .before .before .before .before .args .ops .now) (l .i) (l .steps) (omega (arith, c .before .before .before .before .loop-test .taken)) (l .inv .2) (f .result) (e .0 .0) (f .ensures) (e .1)
-
-survive-requires : tie.Need-survive-requires Inv-loop μ-loop
-survive-requires c κs =
-    let f = c .before .before .fault in
-    let l = c .before .before .before .before .before .loop in
-    (fault-none (l .i) (l .steps) (getD (c .before .before .before .before .before .before .before .args .ops .now) (l .i) 0) (sym (f .ensures) ∙ c .enum-told2 .given .1), omega (arith, c .before .before .before .before .loop-test .taken, c .before .before .before .before .before .before .before .good .0 .0))
-
-loop-again : tie.Need-loop-again Inv-loop μ-loop
-loop-again c =
-    let f = c .before .before .before .fault in
-    let l = c .before .before .before .before .before .before .loop in
-    let O = c .before .before .before .before .before .before .before .before .args .ops .now in
-    let m : l .i < length O = omega (arith, c .before .before .before .before .before .loop-test .taken) in
-    (omega arith, omega (arith, c .survive .ensures, after-le (l .steps) (getD O (l .i) 0), l .inv .1), faults-next O (l .i) (l .steps) m (l .inv .2) (c .survive .result) (c .survive .ensures) (sym (f .ensures) ∙ c .before .enum-told2 .given .1))
-
-returns-2 : tie.Need-returns-2 Inv-loop μ-loop
-returns-2 c =
-    let l = c .before .loop in
-    let O = c .before .before .before .args .ops .now in
-    sym (l .inv .2 ∙ rw (drop-of-length-le O (c .loop-test .left)))
+returns-3 : tie.Need-returns-3
+returns-3 c =
+    let a = c .before .before .before .before .args in
+    steps-fine 0 0 (a .ops .now) (omega arith) (omega arith)
 
 pub operations-spec : {M : Type 1} → statement M
 operations-spec =
     tie.close
-    (tie.spec Inv-loop μ-loop loop-holds shared-slice-read-op fault-requires (λ c. search needs) returns (λ c. search needs) survive-requires (λ c. search needs) (λ c. search needs) loop-again returns-2)
+    (tie.spec
+    (λ c κs. search needs)
+    (λ c. search needs)
+    (λ c κs. search needs)
+    (λ c κs. search needs)
+    (λ c. search needs)
+    returns-3)
