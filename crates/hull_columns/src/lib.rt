@@ -7,7 +7,7 @@ use order::highest;
 use order::lesser;
 ghost use mathlib.Core.Path.{_≡_};
 ghost use mathlib.Core.List.{map};
-ghost use Prim.Native.Nat.{_-_, _<_, _≤_};
+ghost use Prim.Native.Nat.{_-_, _<_, _≤_, min};
 ghost use lib.ListN.{length};
 ghost use Rattle.answer.specs.declared.Judged.the-variants.{Good};
 ghost use Rattle.hull.specs.Call.{chainJudged};
@@ -123,15 +123,23 @@ pub fn survey(chain: &[u8]) -> Extent
     }
 }
 
+// The lower of two heights.
+fn lower(a: u16, b: u16) -> u16
+    ensures { λ r. ⌜ r ≡ min a b ⌝ }
+{
+    if a < b {
+        return a;
+    }
+    b
+}
+
 // Column c keeps the height y if it is lower.
 fn keep(ys: &mut [u16], c: usize, y: u16)
     requires { ⌜ c < length (now ys) ⌝ }
     ensures { λ _. ⌜ now (ys .exit) ≡ sink (now (ys .entry)) (c, y) ⌝ }
 {
-    if ys[c] <= y {
-        return;
-    }
-    ys[c] = y;
+    let before = ys[c];
+    ys[c] = lower(before, y);
 }
 
 // Keeps the lowest corner of each column in lo, counted from west, and in hi that of the walk turned by half a turn, from east.
