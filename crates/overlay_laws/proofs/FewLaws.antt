@@ -87,13 +87,15 @@ pairs-few [] = omega arith
 pairs-few (p ∷ []) = omega arith
 pairs-few (p ∷ q ∷ E) = omega (arith, pairs-few E)
 
--- the list of a part has no more spans than the rows of both walks
-pub part-few : (s : Corner) (ds : List ℕ) (t : Corner) (es : List ℕ) → endFrom s ds ≡ s → endFrom t es ≡ t → (k : Part) → length (listsOf s ds t es k) ≤ length (rowsOf s ds) + length (rowsOf t es)
-part-few s ds t es e f k =
-    let P = endsOfWalk s ds in
-    let Q = endsOfWalk t es in
+-- the list of a part has half as many spans as there are lower ends at most
+pub part-half : (k : Part) (P Q : List Corner) → 2 * length (pairsOf (partEnds k P Q)) ≤ length P + length Q
+part-half k P Q =
     let J = join (length P + length Q) P Q in
-    omega (arith, pairs-few (partEnds k P Q), changes-few (partHas k) false false J, join-few (length P + length Q) P Q, half s ds e, half t es f)
+    omega (arith, pairs-few (partEnds k P Q), changes-few (partHas k) false false J, join-few (length P + length Q) P Q)
+
+-- it has no more spans than the rows of both walks
+pub part-few : (s : Corner) (ds : List ℕ) (t : Corner) (es : List ℕ) → endFrom s ds ≡ s → endFrom t es ≡ t → (k : Part) → length (listsOf s ds t es k) ≤ length (rowsOf s ds) + length (rowsOf t es)
+part-few s ds t es e f k = omega (arith, part-half k (endsOfWalk s ds) (endsOfWalk t es), half s ds e, half t es f)
   where
     half : (c : Corner) (l : List ℕ) → endFrom c l ≡ c → 2 * length (rowsOf c l) ≡ length (endsOfWalk c l)
     half c l h = let w = walk-ends c l h in pairs-length (endsOfWalk c l) (turn-up-to (endsOfWalk c l) (w .sorted)) (w .even)

@@ -139,7 +139,7 @@ module _ (k : Part) (a : List ℤ) (i na : ℕ) (b : List ℤ) (j nb f : ℕ) (o
 
 -- ---- writing
 
-length-endsFrom : (a : List ℤ) (i k : ℕ) → length (endsFrom a i k) ≡ k
+pub length-endsFrom : (a : List ℤ) (i k : ℕ) → length (endsFrom a i k) ≡ k
 length-endsFrom a i zero = refl
 length-endsFrom a i (suc k) = ap suc (length-endsFrom a (suc i) k)
 

@@ -2,7 +2,7 @@
 -- Assumes nothing.
 use mathlib.Core.List.{List, _++_}
 use mathlib.Core.Path.{_≡_, sym, ap, ap₂, _∙_, subst}
-use Prim.Native.Nat.{ℕ, _*_, _/_, _<_, _≤_}
+use Prim.Native.Nat.{ℕ, _+_, _*_, _/_, _<_, _≤_}
 use native.Mathlib.Omega.{arith}
 use lib.IntN.{ℤ}
 use lib.ListN.{length, drop}
@@ -14,9 +14,9 @@ use Rattle.row_laws.proofs.{PairLaws.pairs-length, PairLaws.turn-up-to, NumberL
 use Rattle.overlay.specs.declared.{Part.Part, Part.the-variants.First, Part.the-variants.Second, Part.the-variants.Both, Measure.Measure, Overlaid.Overlaid}
 use Rattle.overlay.specs.Call.{ofParts, measureOf, overlaidOf}
 use Rattle.overlay_laws.specs.Sweep.{partHas, partEnds, endsFrom, partNumbers}
-use Rattle.overlay_laws.proofs.{PartLaws.Ends, PartLaws.part-rows, PartLaws.ends-ends, OverlayLaws.none-none, OverlayLaws.walk-ends, ReadLaws.edge-pairs}
+use Rattle.overlay_laws.proofs.{PartLaws.Ends, PartLaws.part-rows, PartLaws.ends-ends, OverlayLaws.none-none, OverlayLaws.walk-ends, ReadLaws.edge-pairs, FewLaws.part-half, SweepLaws.length-endsFrom}
 use Rattle.overlay_laws.proofs.CallLaws.{any-short, all-enough}
-use Rattle.overlay_parts.specs.Parts.{Spanned, partSpans, BeginsWith, Ordered, Summed, PartDone, PartsCall}
+use Rattle.overlay_parts.specs.Parts.{Spanned, partSpans, BeginsWith, Ordered, Summed, PartDone, HaveRoom, PartsCall}
 
 -- ---- the parts
 
@@ -58,6 +58,10 @@ module _ (a : List ℤ) (na : ℕ) (b : List ℤ) (nb : ℕ) (x : Spanned a na) 
         buffer = part-written;
       }
 
+-- the list of a part has three numbers for each two ends at most
+pub part-most : (a : List ℤ) (na : ℕ) (b : List ℤ) (nb : ℕ) (k : Part) → 3 * length (partSpans a na b nb k) ≤ 3 * ((na + nb) / 2)
+part-most a na b nb k = omega (arith, part-half k (endsFrom a 0 na) (endsFrom b 0 nb), length-endsFrom a 0 na, length-endsFrom b 0 nb)
+
 -- ---- the answer
 
 module _ (L : Part → List Span) (f g h : List ℤ) where
@@ -66,20 +70,20 @@ module _ (L : Part → List Span) (f g h : List ℤ) where
       let e = any-short (ofParts f g h) L k l in
       record { answer = sym (ap (λ (j : Judged). overlaidOf j L) e); buffers = λ i. sym (ap (λ (j : Judged). spansIn j (L i) (ofParts f g h i)) e) }
 
-  pub parts-listed : (f′ g′ h′ : List ℤ) (p q r : Measure) → 3 * length (L First) ≤ length f → 3 * length (L Second) ≤ length g → 3 * length (L Both) ≤ length h
-      → PartDone (L First) f p f′ → PartDone (L Second) g q g′ → PartDone (L Both) h r h′ → PartsCall L (ofParts f g h) (Overlaid.Listed (record { first = p; second = q; both = r })) (ofParts f′ g′ h′)
-  parts-listed f′ g′ h′ p q r l m n x y z =
+  pub parts-room : 3 * length (L First) ≤ length f → 3 * length (L Second) ≤ length g → 3 * length (L Both) ≤ length h → HaveRoom L (ofParts f g h)
+  parts-room l m n First = l
+  parts-room l m n Second = m
+  parts-room l m n Both = n
+
+  pub parts-listed : (f′ g′ h′ : List ℤ) (p q r : Measure) → HaveRoom L (ofParts f g h) → PartDone (L First) f p f′ → PartDone (L Second) g q g′ → PartDone (L Both) h r h′
+      → PartsCall L (ofParts f g h) (Overlaid.Listed (record { first = p; second = q; both = r })) (ofParts f′ g′ h′)
+  parts-listed f′ g′ h′ p q r all x y z =
       let e = all-enough (ofParts f g h) L all in
       record {
         answer = ap₂ (λ (i j : Measure). Overlaid.Listed (record { first = i; second = j; both = r })) (x .measure) (y .measure) ∙ ap (λ (k : Measure). Overlaid.Listed (record { first = measureOf (L First); second = measureOf (L Second); both = k })) (z .measure) ∙ sym (ap (λ (j : Judged). overlaidOf j L) e);
         buffers = λ k. done k ∙ sym (ap (λ (j : Judged). spansIn j (L k) (ofParts f g h k)) e);
       }
     where
-      all : (k : Part) → 3 * length (L k) ≤ length (ofParts f g h k)
-      all First = l
-      all Second = m
-      all Both = n
-
       done : (k : Part) → ofParts f′ g′ h′ k ≡ spanNumbers (L k) ++ drop (3 * length (L k)) (ofParts f g h k)
       done First = x .buffer
       done Second = y .buffer

@@ -55,6 +55,10 @@ pub record PartDone (L : List Span) (before : List ℤ) (r : Measure) (after : L
   pub measure : r ≡ measureOf L
   pub buffer : after ≡ spanNumbers L ++ drop (3 * length L) before
 
+-- each list has room in its buffer
+abbrev pub HaveRoom : (Part → List Span) → (Part → List ℤ) → Type 0
+HaveRoom lists before = (k : Part) → 3 * length (lists k) ≤ length (before k)
+
 -- 21 for any of the three lists
 abbrev pub partsJudged : (Part → List ℤ) → (Part → List Span) → Judged
 partsJudged before lists = firstOf (partRoomJudged before lists First ∷ partRoomJudged before lists Second ∷ partRoomJudged before lists Both ∷ [])

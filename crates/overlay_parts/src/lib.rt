@@ -5,6 +5,7 @@ use overlay::Measures;
 use overlay::Overlaid;
 use overlay::Part;
 use overlay_sweep::sweep;
+ghost use mathlib.Core.Bool.{true};
 ghost use mathlib.Core.Path.{_≡_};
 ghost use Prim.Native.Nat.{_*_, _≤_};
 ghost use lib.IntN.{natAbs, sucℤ, _-ℤ_};
@@ -12,7 +13,7 @@ ghost use lib.ListN.{length};
 ghost use lib.Signed.{_≤ℤ_};
 ghost use Rattle.overlay.specs.declared.Part.the-variants.{First, Second, Both};
 ghost use Rattle.overlay.specs.Call.{ofParts};
-ghost use Rattle.overlay_parts.specs.Parts.{Spanned, partSpans, Ordered, Summed, PartDone, PartsCall};
+ghost use Rattle.overlay_parts.specs.Parts.{Spanned, partSpans, Ordered, Summed, PartDone, HaveRoom, PartsCall};
 
 // How many panels a row has from its column `first` to its column `last`.
 fn long(first: i32, last: i32) -> usize
@@ -58,7 +59,47 @@ fn put_part(part: Part, a: &[i16], na: usize, b: &[i32], nb: usize, out: &mut [i
     }
 }
 
-// Writes the three lists, unless one of them is too long for its buffer.
+// Whether each of three buffers has at least `most` numbers.
+fn enough(most: usize, first: usize, second: usize, both: usize) -> bool
+    ensures { λ r. ⌜ (r ≡ true → (most ≤ first) × (most ≤ second) × (most ≤ both)) ⌝ }
+{
+    if first < most {
+        return false;
+    }
+    if second < most {
+        return false;
+    }
+    if both < most {
+        return false;
+    }
+    true
+}
+
+// Writes the three lists, each of which has room in its buffer.
+fn put_all(
+    a: &[i16],
+    na: usize,
+    b: &[i32],
+    nb: usize,
+    first: &mut [i32],
+    second: &mut [i32],
+    both: &mut [i32],
+) -> Overlaid
+    requires { ⌜ Spanned (now a) na × Spanned (now b) nb × HaveRoom (partSpans (now a) na (now b) nb) (ofParts (now first) (now second) (now both)) ⌝ }
+    ensures { λ r. ⌜ PartsCall (partSpans (now (a .entry)) na (now (b .entry)) nb) (ofParts (now (first .entry)) (now (second .entry)) (now (both .entry))) r (ofParts (now (first .exit)) (now (second .exit)) (now (both .exit))) ⌝ }
+{
+    let f = put_part(Part::First, a, na, b, nb, first);
+    let g = put_part(Part::Second, a, na, b, nb, second);
+    let h = put_part(Part::Both, a, na, b, nb, both);
+    Overlaid::Listed(Measures {
+        first: f,
+        second: g,
+        both: h,
+    })
+}
+
+// Writes the three lists, unless one of them is too long for its buffer. A list has three numbers for each two ends at most: no list is measured if each
+// buffer has room for that.
 pub fn put_parts(
     a: &[i16],
     na: usize,
@@ -71,6 +112,9 @@ pub fn put_parts(
     requires { ⌜ Spanned (now a) na × Spanned (now b) nb ⌝ }
     ensures { λ r. ⌜ PartsCall (partSpans (now (a .entry)) na (now (b .entry)) nb) (ofParts (now (first .entry)) (now (second .entry)) (now (both .entry))) r (ofParts (now (first .exit)) (now (second .exit)) (now (both .exit))) ⌝ }
 {
+    if enough(3 * ((na + nb) / 2), first.len(), second.len(), both.len()) {
+        return put_all(a, na, b, nb, first, second, both);
+    }
     if first.len() < size(Part::First, a, na, b, nb) {
         return Overlaid::Refused(Refusal::SpanRoom);
     }
@@ -80,12 +124,5 @@ pub fn put_parts(
     if both.len() < size(Part::Both, a, na, b, nb) {
         return Overlaid::Refused(Refusal::SpanRoom);
     }
-    let f = put_part(Part::First, a, na, b, nb, first);
-    let g = put_part(Part::Second, a, na, b, nb, second);
-    let h = put_part(Part::Both, a, na, b, nb, both);
-    Overlaid::Listed(Measures {
-        first: f,
-        second: g,
-        both: h,
-    })
+    put_all(a, na, b, nb, first, second, both)
 }
