@@ -6,7 +6,7 @@ use Prim.Native.Nat.{ℕ, zero, suc, _+_, _-_, _≤_, _<_, min, max}
 use native.Mathlib.Omega.{arith}
 use native.Mathlib.Numerals.{add-one}
 use lib.ListN.{length, getD, take}
-use lib.Seq.{take-suc, take-all}
+use lib.Seq.{take-suc}
 use Rattle.box_laws.specs.Box.{lastFrom, lowFrom, highFrom}
 
 module _ (f : ℕ → ℕ → ℕ) where

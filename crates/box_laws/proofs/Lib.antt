@@ -2,3 +2,4 @@
 pub mod AxisLaws
 pub mod PlaceLaws
 pub mod StepLaws
+pub mod PassLaws

@@ -1,14 +1,13 @@
 -- Places in the box of a walk are one to one with its corners, and a step leads from place to place by its digit alone.
 -- Assumes nothing.
-use mathlib.Core.Path.{_≡_, refl, sym, ap, ap₂, _∙_, subst}
+use mathlib.Core.Path.{_≡_, sym, ap, ap₂, _∙_}
 use mathlib.Core.List.{List, [], _∷_}
 use mathlib.Core.Logic.{_↔_}
-use Prim.Native.Nat.{ℕ, zero, suc, _+_, _*_, _-_, _^_, _%_, _≤_, _<_}
+use Prim.Native.Nat.{ℕ, suc, _+_, _*_, _-_, _≤_, _<_}
 use native.Mathlib.Omega.{arith}
 use native.Mathlib.Decide.{decLt}
-use native.Mathlib.Nat.{add-mul, suc-mul, mul-comm, mul-le-mul-right, mod-eq-of-lt}
-use native.Mathlib.Numerals.{add-one}
-use lib.ListN.{length, getD, take, length-take}
+use native.Mathlib.Nat.{suc-mul, mul-comm, mul-le-mul-right}
+use lib.ListN.{length, take, length-take}
 use lib.IntN.{ℤ, pos, _+ℤ_, _-ℤ_}
 use Rattle.int_laws.proofs.LinearLaws.{zarith, bal+, bal-}
 use Rattle.grid.specs.declared.Corner.{Corner}
@@ -17,8 +16,8 @@ use Rattle.hull_laws.specs.Columns.{middle, colAfter, rowAfter}
 use Rattle.hull_laws.proofs.CornerLaws.{corner-eq}
 use Rattle.hull_laws.proofs.TrailLaws.{near, near-row}
 use Rattle.room_thread_laws.proofs.RoomLaws.{move-x, move-y}
-use Rattle.box_laws.specs.Box.{lastFrom, lowFrom, highFrom, columnAt, heightAt, boxWest, boxEast, boxSouth, boxNorth, boxWidth, boxHeight, InBox, boxPlace, placeAt, placeSteps, Walkable}
-use Rattle.box_laws.proofs.AxisLaws.{low-le, high-ge, last-next, last-near, span-le}
+use Rattle.box_laws.specs.Box.{lastFrom, columnAt, heightAt, boxWest, boxSouth, boxNorth, boxWidth, boxHeight, InBox, boxPlace, placeAt, Boxable}
+use Rattle.box_laws.proofs.AxisLaws.{low-le, high-ge, span-le}
 
 -- a row and a column in it are found again in row * w + column
 row-past : (a b c e w : ℕ) → b < w → a * w + b ≡ c * w + e → a < c → ⊥
@@ -64,7 +63,7 @@ module _ (after : ℕ → ℕ → ℕ) (coord : Corner → ℤ)
   end-at p [] x o h e = e
   end-at p (d ∷ ds) x o h e = end-at (stepped d p) ds (after x d) o (omega (arith, close x d (omega arith))) (move d x p o (omega arith) e)
 
-module _ (ds : List ℕ) (w : Walkable ds) where
+module _ (ds : List ℕ) (w : Boxable ds) where
   few : (k : ℕ) → length (take k ds) ≤ middle
   few k = omega (arith, w .short, length-take k ds)
 

@@ -1,14 +1,14 @@
 -- A step leads along an axis, and from place to place in the box, by what a table has for its digit: sums are counted modulo 2 ^ 64.
 -- Assumes nothing.
 use mathlib.Core.Path.{_≡_, sym, ap, ap₂, _∙_, subst₂}
-use mathlib.Core.List.{List, [], _∷_}
+use mathlib.Core.List.{List}
 use Prim.Native.Nat.{ℕ, zero, suc, _+_, _*_, _-_, _^_, _%_, _≤_, _<_}
 use native.Mathlib.Omega.{arith}
 use native.Mathlib.Nat.{suc-mul, mul-le-mul}
 use lib.ListN.{length, getD, take, length-take}
 use Rattle.hull_laws.specs.Columns.{middle, top, colAfter, rowAfter}
 use Rattle.hull_laws.proofs.TrailLaws.{near, near-row}
-use Rattle.box_laws.specs.Box.{lastFrom, columnAt, heightAt, boxWest, boxEast, boxSouth, boxNorth, boxWidth, boxHeight, InBox, boxPlace, placeAt, placeSteps, columnSteps, heightSteps, Walkable}
+use Rattle.box_laws.specs.Box.{columnAt, heightAt, boxWest, boxSouth, boxWidth, boxHeight, InBox, boxPlace, placeAt, placeSteps, columnSteps, heightSteps, Boxable}
 use Rattle.box_laws.proofs.AxisLaws.{last-next, last-near}
 use Rattle.box_laws.proofs.PlaceLaws.{place-below, corner-in, width-few, height-few}
 
@@ -42,7 +42,7 @@ row-up y s w c h = let e : y + 1 - s ≡ suc (y - s) = omega arith in omega (ari
 row-down : (y s w c : ℕ) → 0 < y → s ≤ y - 1 → (y - s) * w + c ≡ ((y - 1 - s) * w + c) + w
 row-down y s w c h g = let e : y - s ≡ suc (y - 1 - s) = omega arith in omega (arith, ap (λ (n : ℕ). n * w) e, suc-mul (y - 1 - s) w)
 
-module _ (ds : List ℕ) (w : Walkable ds) where
+module _ (ds : List ℕ) (w : Boxable ds) where
   -- the number of places is far below 2 ^ 64
   pub places-few : boxWidth ds * boxHeight ds ≤ 268468225
   places-few =

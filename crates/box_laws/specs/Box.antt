@@ -3,7 +3,7 @@
 -- Assumes nothing.
 use mathlib.Core.Path.{_≡_}
 use mathlib.Core.List.{List, [], _∷_}
-use Prim.Native.Nat.{ℕ, zero, suc, _+_, _*_, _-_, _^_, _≤_, _<_, min, max}
+use Prim.Native.Nat.{ℕ, suc, _+_, _*_, _-_, _≤_, _<_, min, max}
 use lib.ListN.{length, getD, take}
 use Rattle.hull_laws.specs.Columns.{middle, colAfter, rowAfter}
 
@@ -75,6 +75,22 @@ unfoldable pub heightSteps : List ℕ
 heightSteps = 0 ∷ 1 ∷ 0 ∷ 18446744073709551615 ∷ []
 
 -- steps that are not refused
-pub record Walkable (ds : List ℕ) : Type 0 where
+pub record Boxable (ds : List ℕ) : Type 0 where
   pub digits : (k : ℕ) → getD ds k 0 < 4
   pub short : length ds ≤ middle
+
+-- a box around the start, no wider and no higher than a walk is long
+pub record Reached (west east south north : ℕ) : Type 0 where
+  pub left : west ≤ middle
+  pub right : middle ≤ east
+  pub wide : east ≤ west + middle
+  pub lower : south ≤ middle
+  pub upper : middle ≤ north
+  pub high : north ≤ south + middle
+  pub place : (middle - south) * (east - west + 1) ≤ middle * suc middle
+
+-- its columns and rows of corners, and the place of the start in it
+pub record Framed (west east south north width height from : ℕ) : Type 0 where
+  pub wide : width ≡ east - west + 1
+  pub high : height ≡ north - south + 1
+  pub start : from ≡ (middle - south) * (east - west + 1) + (middle - west)
