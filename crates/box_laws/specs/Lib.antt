@@ -1,0 +1,2 @@
+-- The box of a walk.
+pub mod Box
