@@ -12,7 +12,7 @@
 #include <unistd.h>
 
 #include "command.h"
-#include "sha256.h"
+#include "checksum.h"
 
 int judge_main(int, char **), convert_main(int, char **), rows_main(int, char **);
 

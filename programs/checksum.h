@@ -1,7 +1,7 @@
 /* SPDX-License-Identifier: MIT
  * The checksum of a file, as sha256sum prints it. */
-#ifndef SHA256_H
-#define SHA256_H
+#ifndef CHECKSUM_H
+#define CHECKSUM_H
 
 #include <stddef.h>
 #include <stdint.h>

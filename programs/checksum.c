@@ -3,7 +3,7 @@
  * computed here from the primes, so that no table has to be believed. */
 #include <string.h>
 
-#include "sha256.h"
+#include "checksum.h"
 
 __extension__ typedef unsigned __int128 wide;
 
