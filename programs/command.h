@@ -47,8 +47,8 @@ int write_bytes(const void *from, size_t n);
 int run_lines(int (*proved)(int, char **), int in_words);
 int explain(void), outline(void), hull(void), convex(void), spans(void), chains(void), overlay(void), table(void), draw(void), dxf(void), summary(void);
 
-/* What options tell: rooms are drawn apart, and the file that summary writes refused lines to, or null. */
-extern int apart;
+/* What options tell: rooms are drawn apart, their polygons are written too, and the file for refused lines, or null. */
+extern int apart, with_polygons;
 extern const char *refused_lines;
 
 #endif
