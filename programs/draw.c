@@ -11,7 +11,8 @@
 
 enum {
     SIDE = 40,      /* pixels of a panel's side */
-    WORDS = 24,     /* pixels of each line of words below the grid */
+    WORDS = 24,     /* pixels of each line of words below the grid, */
+    LETTER = 8,     /* and of a letter's width */
     LARGEST = 1600  /* pixels of the picture's longer side, unless it has few panels */
 };
 
@@ -87,13 +88,15 @@ static void panels(const int32_t *spans, uint32_t count, const char *colour) {
                   (span[2] - span[1] + 1) * SIDE, SIDE, colour);
 }
 
-/* The head of the picture, with its words as its title, and the ground. A large picture is shown smaller. */
-static void begin(const char *title, int lines) {
-    int tall = height + lines * WORDS, longer = width > tall ? width : tall;
+/* The head of the picture, with its words as its title, and the ground, which is wide enough for the words below the grid. A large
+ * picture is shown smaller. */
+static void begin(const char *title, int lines, size_t longest) {
+    int tall = height + lines * WORDS, words_wide = 16 + LETTER * (int)longest, wide = width > words_wide ? width : words_wide;
+    int longer = wide > tall ? wide : tall;
     double scale = longer > LARGEST ? (double)LARGEST / longer : 1;
     write_out("<svg xmlns=\"http://www.w3.org/2000/svg\" width=\"%d\" height=\"%d\" viewBox=\"0 0 %d %d\" font-family=\"sans-serif\" font-size=\"14\">\n",
-              (int)(width * scale), (int)(tall * scale), width, tall);
-    write_out("<title>%s</title>\n<rect width=\"%d\" height=\"%d\" fill=\"#ffffff\"/>\n", title, width, tall);
+              (int)(wide * scale), (int)(tall * scale), wide, tall);
+    write_out("<title>%s</title>\n<rect width=\"%d\" height=\"%d\" fill=\"#ffffff\"/>\n", title, wide, tall);
 }
 
 static void grid(void) {
@@ -144,7 +147,8 @@ static int draw_one(const char *note) {
     if (record->refusal != 0) return say_refused(record);
     follow(&one, 1);
     frame();
-    begin(record->sentence, note != NULL ? 2 : 1);
+    size_t said = strlen(record->sentence), noted = note != NULL ? strlen(note) : 0;
+    begin(record->sentence, note != NULL ? 2 : 1, said > noted ? said : noted);
     panels(spans, rows[UNDRWYTH_ROWS_SPANS], "#cfe8cf");
     grid();
     put("<polygon points=\"");
@@ -175,7 +179,7 @@ static int draw_two(void) {
     follow(&one, 1);
     follow(&two, 0);
     frame();
-    begin(one.record.sentence, 3);
+    begin(one.record.sentence, 3, 20);
     for (int i = 0; i < 3; i++) panels(laid.spans[i], laid.answer[UNDRWYTH_OVERLAY_FIRST_SPANS + i], colours[i]);
     grid();
     line(&one, "#2f7d32");

@@ -206,8 +206,10 @@ int dxf(void) {
             memcpy(why, record.sentence, sizeof why);
         }
     }
-    group(0, "ENDSEC");
-    group(0, "EOF");
+    if (got == 0) { /* a drawing that is not whole has no end */
+        group(0, "ENDSEC");
+        group(0, "EOF");
+    }
     int status = end_of_input(got);
     if (status == WHOLE && left_out > 0)
         fail("%llu of %llu records are not in the drawing; the first is that of line %llu: %s", left_out, record.number, first, why);

@@ -26,8 +26,8 @@ void take_sample(int input, struct text of) {
 }
 
 void take_record(int input, const char *record) {
-    const unsigned char *from = (const unsigned char *)record;
-    take_sample(input, (struct text){from, from + strlen(record)});
+    const unsigned char *from = (const unsigned char *)(*record != 0 ? record : "\n");
+    take_sample(input, (struct text){from, from + strlen((const char *)from)});
     inputs[input].spoken = 1;
 }
 
@@ -39,6 +39,11 @@ static int opened(const char *file) {
     int high = fcntl(low, F_DUPFD_CLOEXEC, 3);
     close(low);
     return high;
+}
+
+/* Whether a file was not opened since there is none of that name; a long record is longer than any name. */
+static int names_nothing(void) {
+    return errno == ENOENT || errno == ENAMETOOLONG;
 }
 
 /* Whether an argument that is not the name of a file is read as a record: after its last comma stand digits alone, or a frame. */
@@ -58,7 +63,7 @@ int take_files(int input, char **given, int count, int records) {
     in->spoken = 1;
     for (int i = 0; i < in->left; i++) {
         int file = opened(in->files[i]);
-        if (file < 0 && errno == ENOENT && records && is_record(in->files[i])) continue;
+        if (file < 0 && names_nothing() && records && is_record(in->files[i])) continue;
         in->spoken = 0;
         if (file < 0) return fail("%s cannot be opened: %s", in->files[i], strerror(errno));
         if (file > 0) close(file);
@@ -80,7 +85,7 @@ static int next_file(struct input *in) {
     in->left--;
     in->name = strcmp(file, "-") == 0 ? "standard input" : file;
     in->now = opened(file);
-    if (in->now < 0 && errno == ENOENT && in->records && is_record(file)) {
+    if (in->now < 0 && names_nothing() && in->records && is_record(file)) {
         const unsigned char *from = (const unsigned char *)file;
         in->text = (struct text){from, from + strlen(file)};
         return 1;

@@ -23,6 +23,26 @@ static uint32_t of_walk(int word) {
     return walk.answer[word];
 }
 
+int with_polygons;
+
+/* The polygon of a room, in hexadecimal, as a fact; another walk has none. */
+static void polygon_fact(void) {
+    static const char hexadecimal[] = "0123456789abcdef";
+    static uint8_t out[UNDRWYTH_POLYGON_HEADER_BYTES + UNDRWYTH_POINT_BYTES * (UNDRWYTH_MOST_STEPS + 1)];
+    static char digits[2 * sizeof out];
+    uint32_t answer[UNDRWYTH_POLYGON_ANSWER_WORDS];
+    if (undrwyth_polygon_of_room(record.x, record.y, walk.steps, of_walk(UNDRWYTH_WALK_STEPS), out, sizeof out, answer) != 0) {
+        no_fact();
+        return;
+    }
+    uint32_t n = answer[UNDRWYTH_POLYGON_BYTES];
+    for (uint32_t i = 0; i < n; i++) {
+        digits[2 * i] = hexadecimal[out[i] >> 4];
+        digits[2 * i + 1] = hexadecimal[out[i] & 15];
+    }
+    fact_text(digits, 2 * n);
+}
+
 static int explained(void) {
     uint32_t verdict = of_walk(UNDRWYTH_WALK_VERDICT), k = of_walk(UNDRWYTH_WALK_K);
     int32_t area = (int32_t)of_walk(UNDRWYTH_WALK_AREA);
@@ -43,12 +63,14 @@ static int explained(void) {
     fact(area < 0 ? -(long long)area : area);
     fact((int32_t)of_walk(UNDRWYTH_WALK_LAST_X));
     fact((int32_t)of_walk(UNDRWYTH_WALK_LAST_Y));
+    if (with_polygons) polygon_fact();
     end_row(record.sentence);
     return 1;
 }
 
 int explain(void) {
-    static const char *const facts[] = {"verdict", "steps", "nodes", "corners", "j", "k", "area", "panels", "last_x", "last_y", NULL};
+    static const char *facts[] = {"verdict", "steps", "nodes", "corners", "j", "k", "area", "panels", "last_x", "last_y", "wkb", NULL};
+    if (!with_polygons) facts[10] = NULL;
     return answer_each(facts, explained);
 }
 

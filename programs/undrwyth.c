@@ -48,7 +48,7 @@ TEXT(tenant_sample);
 #define OF(name) {name, name##_end}
 
 /* What a command takes besides --help, --sample and files. */
-enum { PRETTY = 1, RECORDS = 2, FORMS = 4, APART = 8, REFUSED = 16, PAIRED = 32, POLYGONS = 64, NO_INPUT = 128 };
+enum { PRETTY = 1, RECORDS = 2, FORMS = 4, APART = 8, REFUSED = 16, PAIRED = 32, WKB = 64, NO_INPUT = 128 };
 
 struct command {
     const char *name;
@@ -64,7 +64,7 @@ static const struct command commands[] = {
     {"convert", OF(convert_help), OF(old_records_sample), convert_main, NULL, 0, NULL},
     {"rows", OF(rows_help), OF(rooms_sample), rows_main, NULL, PRETTY, NULL},
     {"polygons", OF(polygons_help), OF(records_sample), polygons_main, NULL, 0, NULL},
-    {"explain", OF(explain_help), OF(orders_sample), NULL, explain, RECORDS | FORMS, NULL},
+    {"explain", OF(explain_help), OF(orders_sample), NULL, explain, RECORDS | FORMS | WKB, NULL},
     {"summary", OF(summary_help), OF(orders_sample), NULL, summary, RECORDS | FORMS | REFUSED, NULL},
     {"draw", OF(draw_help), OF(picture_sample), NULL, draw, RECORDS, NULL},
     {"dxf", OF(dxf_help), OF(orders_sample), NULL, dxf, RECORDS | APART, NULL},
@@ -171,6 +171,7 @@ static int option(char **words, int count) {
     else if (is(*words, "--csv") && takes & FORMS) form = CSV;
     else if (is(*words, "--frames") && takes & RECORDS) reading = FRAMES;
     else if (is(*words, "--digits") && takes & RECORDS) reading = DIGITS;
+    else if (is(*words, "--wkb") && takes & WKB) with_polygons = 1;
     else if (is(*words, "--apart") && takes & APART) apart = 1;
     else if (is(*words, "--refused") && takes & REFUSED && count > 1) refused_lines = words[1];
     else if (is(*words, "--record") && takes & RECORDS && !(takes & PAIRED) && count > 1) asked.record = words[1];
@@ -209,6 +210,7 @@ static int run(char **words, int count) {
     if ((asked.sampled || asked.record != NULL) && count > 0) return misused(*words);
     if (asked.sampled && asked.record != NULL) return misused("--sample and --record");
     if (chosen->takes & NO_INPUT && (asked.sampled || count > 0)) return misused(asked.sampled ? "--sample" : *words);
+    if (with_polygons && form == SENTENCES) form = CSV;
     if (fcntl(1, F_GETFD) < 0) return fail("standard output is closed");
     if (chosen->takes & NO_INPUT) return chosen->shown();
     if (chosen->takes & PAIRED) {

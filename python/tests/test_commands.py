@@ -3,8 +3,11 @@
 import csv
 import io
 import json
+import os
 import random
+import signal
 import subprocess
+import time
 import unittest
 from pathlib import Path
 
@@ -275,3 +278,45 @@ class Commands(unittest.TestCase):
                 self.assertEqual((row["steps"], row["nodes"]), (int(line[2:6], 16), int(line[6:14], 16)))
                 compared += 1
         self.assertGreater(compared, 10)
+
+
+class Running(unittest.TestCase):
+    """What a terminal sees: an interrupt, and how far the work is."""
+
+    def start(self, **handles):
+        def usual():
+            signal.signal(signal.SIGINT, signal.SIG_DFL)  # though the tests may run where it is ignored
+
+        run("explain", "0")  # it is built
+        return subprocess.Popen([str(HERE / "undrwyth"), "explain"], stdin=subprocess.PIPE, preexec_fn=usual, **handles)
+
+    def test_interrupt(self):
+        with self.start(stdout=subprocess.PIPE, stderr=subprocess.PIPE) as it:
+            it.stdin.write(b"0123\n")
+            it.stdin.flush()
+            self.assertEqual(it.stdout.readline(), b"1: a room of 1 panel, 4 steps, counterclockwise\n")
+            it.send_signal(signal.SIGINT)
+            said = it.communicate()[1].decode()
+        self.assertEqual((it.returncode, said), (1, "undrwyth explain: the program was stopped by a signal, with status 130\n"))
+
+    def test_progress(self):
+        here, there = os.openpty()
+        with self.start(stdout=subprocess.DEVNULL, stderr=there) as it:
+            for _ in range(2):
+                it.stdin.write(b"0123\n" * 1025)
+                it.stdin.flush()
+                time.sleep(1.2)
+            it.stdin.close()
+            self.assertEqual(it.wait(), 0)
+        os.close(there)
+        said = b""
+        try:
+            while True:
+                more = os.read(here, 1000)
+                if not more:
+                    break
+                said += more
+        except OSError:  # nothing is left
+            pass
+        os.close(here)
+        self.assertEqual(said, b"\r2049 lines\r\x1b[K")
