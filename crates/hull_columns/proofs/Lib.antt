@@ -1,2 +1,3 @@
 -- The laws of the columns.
 pub mod StepLaws
+pub mod MirrorLaws

@@ -1,8 +1,8 @@
 -- What the passes over a walk's columns ask and promise.
 -- Assumes nothing.
 use mathlib.Core.Path.{_≡_}
-use mathlib.Core.List.{List}
-use Prim.Native.Nat.{ℕ, _<_, _≤_}
+use mathlib.Core.List.{List, [], _∷_}
+use Prim.Native.Nat.{ℕ, _-_, _<_, _≤_}
 use lib.ListN.{length, getD}
 use Rattle.answer.specs.declared.Judged.{Judged}
 use Rattle.answer.specs.declared.Judged.the-variants as judged
@@ -21,3 +21,16 @@ pub record Spans (chain : List ℕ) (w e : ℕ) : Type 0 where
   pub short : length chain ≤ mostSteps
   pub west : w ≡ westFrom middle chain
   pub east : e ≡ eastFrom middle chain
+
+-- the steps 0 to 3 as what is added to a column, modulo 2^32, and to a height, modulo 2^16
+abbrev pub eastSteps : List ℕ
+eastSteps = 1 ∷ 0 ∷ 4294967295 ∷ 0 ∷ []
+
+abbrev pub northSteps : List ℕ
+northSteps = 0 ∷ 1 ∷ 0 ∷ 65535 ∷ []
+
+-- after has the columns 0 to m of before from right to left, and the others as they are
+pub record Mirrored (m : ℕ) (before after : List ℕ) : Type 0 where
+  pub size : length before ≡ length after
+  pub inside : (c : ℕ) → c ≤ m → getD after c 0 ≡ getD before (m - c) 0
+  pub beyond : (c : ℕ) → m < c → getD after c 0 ≡ getD before c 0

@@ -8,12 +8,12 @@ use order::lesser;
 ghost use mathlib.Core.Path.{_≡_};
 ghost use mathlib.Core.List.{map};
 ghost use Prim.Native.Nat.{_-_, _<_, _≤_, min};
-ghost use lib.ListN.{length};
+ghost use lib.ListN.{length, replicate};
 ghost use Rattle.answer.specs.declared.Judged.the-variants.{Good};
 ghost use Rattle.hull.specs.Call.{chainJudged};
 ghost use Rattle.hull_laws.specs.Columns.{colAfter, rowAfter, trail, westFrom, eastFrom, sink, sinks, countedFrom, halfTurned};
-ghost use Rattle.hull_laws.specs.Columns.{middle, top};
-ghost use Rattle.hull_columns.specs.Extent.{extentBy, Spans};
+ghost use Rattle.hull_laws.specs.Columns.{middle, top, blank};
+ghost use Rattle.hull_columns.specs.Extent.{extentBy, Spans, eastSteps, northSteps, Mirrored};
 
 // The columns that a walk may go through, and the heights of its corners. Its start stands in the middle of both.
 pub struct Columns;
@@ -41,6 +41,11 @@ impl Columns {
 
     // how far the start lies from column 0 and from height 0
     pub const SHIFT: i32 = Columns::MIDDLE as i32;
+
+    // how far each step goes east, and how far north, to be added modulo 2^32 and modulo 2^16
+    pub const EAST: [u32; 4] = [1, 0, 4294967295, 0];
+
+    pub const NORTH: [u16; 4] = [0, 1, 0, 65535];
 }
 
 // The westmost and the eastmost column of a walk, or why it is refused.
@@ -65,19 +70,36 @@ pub fn height(y: u16, d: u8) -> u16
     y + (d == 1) as u16 - (d > 2) as u16
 }
 
+// The column after step d, by the table of steps east.
+pub fn across(x: u32, by: &[u32; 4], d: u8) -> u32
+    requires { ⌜ (now by ≡ eastSteps) × (d < 4) × (0 < x) × (x ≤ top) ⌝ }
+    ensures { λ r. ⌜ r ≡ colAfter x d ⌝ }
+{
+    std::num::wrapping_add_u32(x, by[d as usize])
+}
+
+// The height after step d, by the table of steps north.
+pub fn upward(y: u16, by: &[u16; 4], d: u8) -> u16
+    requires { ⌜ (now by ≡ northSteps) × (d < 4) × (0 < y) × (y ≤ top) ⌝ }
+    ensures { λ r. ⌜ r ≡ rowAfter y d ⌝ }
+{
+    std::num::wrapping_add_u16(y, by[d as usize])
+}
+
 // How far a walk without a fault goes.
 fn measure(chain: &[u8]) -> Extent
     requires { ⌜ chainJudged 0 (now chain) ≡ Good ⌝ }
     ensures { λ r. ⌜ r ≡ extentBy (chainJudged 0 (now (chain .entry))) (westFrom middle (now (chain .entry))) (eastFrom middle (now (chain .entry))) ⌝ }
 {
-    let mut x = Columns::MIDDLE;
-    let mut west = x;
-    let mut east = x;
+    let by = Columns::EAST;
+    let mut x = Columns::MIDDLE as u32;
+    let mut west = Columns::MIDDLE;
+    let mut east = Columns::MIDDLE;
     let mut i = 0;
     while i < chain.len() {
-        x = column(x, chain[i]);
-        west = lesser(west, x);
-        east = greater(east, x);
+        x = across(x, &by, chain[i]);
+        west = lesser(west, x as usize);
+        east = greater(east, x as usize);
         i += 1;
     }
     Extent::Within(west, east)
@@ -142,22 +164,42 @@ fn keep(ys: &mut [u16], c: usize, y: u16)
     ys[c] = lower(before, y);
 }
 
-// Keeps the lowest corner of each column in lo, counted from west, and in hi that of the walk turned by half a turn, from east.
+// Puts the columns 0 to m into the order from right to left.
+fn mirror(ys: &mut [u16], m: usize)
+    requires { ⌜ m < length (now ys) ⌝ }
+    ensures { λ _. ⌜ Mirrored m (now (ys .entry)) (now (ys .exit)) ⌝ }
+{
+    let mut i = 0;
+    let mut j = m;
+    while i < j {
+        let left = ys[i];
+        ys[i] = ys[j];
+        ys[j] = left;
+        i += 1;
+        j -= 1;
+    }
+}
+
+// Keeps the lowest corner of each column in lo, counted from west, and in hi that of the walk turned by half a turn, from east. Both are
+// counted from west at first, so that a corner has one place in both.
 pub fn fill(chain: &[u8], west: usize, east: usize, lo: &mut [u16], hi: &mut [u16])
-    requires { ⌜ Spans (now chain) west east × (east - west < length (now lo)) × (east - west < length (now hi)) ⌝ }
+    requires { ⌜ Spans (now chain) west east × (east - west < length (now lo)) × (east - west < length (now hi)) × (now hi ≡ replicate (length (now hi)) blank) ⌝ }
     ensures { λ _. ⌜ (now (lo .exit) ≡ sinks (now (lo .entry)) (map (countedFrom west) (trail middle middle (now (chain .entry))))) × (now (hi .exit) ≡ sinks (now (hi .entry)) (map (halfTurned east top) (trail middle middle (now (chain .entry))))) ⌝ }
 {
-    let mut x = Columns::MIDDLE;
+    let by = Columns::EAST;
+    let up = Columns::NORTH;
+    let mut x = Columns::MIDDLE as u32;
     let mut y = Columns::LEVEL;
     let mut i = 0;
     while i < chain.len() {
-        keep(lo, x - west, y);
-        keep(hi, east - x, Columns::TOP - y);
+        keep(lo, x as usize - west, y);
+        keep(hi, x as usize - west, Columns::TOP - y);
         let d = chain[i];
-        x = column(x, d);
-        y = height(y, d);
+        x = across(x, &by, d);
+        y = upward(y, &up, d);
         i += 1;
     }
-    keep(lo, x - west, y);
-    keep(hi, east - x, Columns::TOP - y);
+    keep(lo, x as usize - west, y);
+    keep(hi, x as usize - west, Columns::TOP - y);
+    mirror(hi, east - west);
 }

@@ -2,40 +2,40 @@
 -- Assumes nothing.
 use borrow.Author.Needs.{needs}
 use native.Mathlib.Omega.{arith}
-use mathlib.Core.Path.{sym, ap, ap₂, _∙_}
+use mathlib.Core.Path.{refl, sym, ap, ap₂, _∙_}
 use Prim.Native.Nat.{_-_}
 use lib.ListN.{length}
 use Rattle.answer.specs.declared.Judged.{Judged}
 use Rattle.hull_laws.specs.Columns.{westFrom, eastFrom, middle}
-use Rattle.hull_laws.proofs.SurveyLaws.{Surveyed, falls, surveyed-start, surveyed-room, surveyed-step, surveyed-good, surveyed-west, surveyed-east, good-digits, good-short}
+use Rattle.hull_laws.proofs.SurveyLaws.{Surveyed, surveyed-start, surveyed-room, surveyed-step, surveyed-good, surveyed-west, surveyed-east, good-digits, good-short}
 use Rattle.hull_columns.specs.Extent.{extentBy}
 use Rattle.hull_columns.specs.declared.Extent.{Extent}
 use Rattle.hull_columns.proofs.measure.Statement.{statement}
 use Rattle.hull_columns.proofs.measure.Tie as tie
 
 abbrev Inv-loop : tie.InvT-loop
-Inv-loop chain x₀ west₀ east₀ i₀ x west east i = Surveyed chain x west east i
+Inv-loop chain by x₀ west₀ east₀ i₀ x west east i = Surveyed chain x west east i
 
 abbrev μ-loop : tie.MeasureT-loop
-μ-loop chain x₀ west₀ east₀ i₀ x west east i = length chain - i
+μ-loop chain by x₀ west₀ east₀ i₀ x west east i = length chain - i
 
 loop-holds : tie.Need-loop-holds Inv-loop μ-loop
 loop-holds c = surveyed-start (c .before .args .chain .now)
 
-column-requires : tie.Need-column-requires Inv-loop μ-loop
-column-requires c κs =
-    let s = c .before .before .before .before in
-    let l = c .before .before .loop in
-    surveyed-room (s .args .chain .now) (l .x) (l .west) (l .east) (l .i) (l .inv) (λ e. omega (arith, e, good-short 0 (s .args .chain .now) (omega arith) (s .pre)))
-
-loop-less : tie.Need-loop-less Inv-loop μ-loop
-loop-less c = falls (length (c .before .before .before .before .before .before .before .args .chain .now)) (c .before .before .before .before .before .loop .i) (c .before .before .before .before .loop-test .taken)
+across-requires : tie.Need-across-requires Inv-loop μ-loop
+across-requires c κs =
+    let s = c .before .before .before .before .before in
+    let l = c .before .before .before .loop in
+    let chain = s .args .chain .now in
+    let r = surveyed-room chain (l .x) (l .west) (l .east) (l .i) (l .inv) (λ e. omega (arith, e, good-short 0 chain (omega arith) (s .pre))) in
+    (refl, good-digits 0 chain (s .pre) (l .i), r .0, r .1)
 
 loop-again : tie.Need-loop-again Inv-loop μ-loop
 loop-again c =
-    let s = c .before .before .before .before .before .before .before in
-    let l = c .before .before .before .before .before .loop in
-    surveyed-step (s .args .chain .now) (l .x) (l .west) (l .east) (l .i) (l .inv) (c .before .before .column .result) (c .before .lesser .result) (c .greater .result) (c .before .before .before .before .loop-test .taken) (omega (arith, good-digits 0 (s .args .chain .now) (s .pre) (l .i))) (λ e. omega (arith, e, good-short 0 (s .args .chain .now) (omega arith) (s .pre))) (c .before .before .column .ensures) (c .before .lesser .ensures) (c .greater .ensures)
+    let s = c .before .before .before .before .before .before .before .before in
+    let l = c .before .before .before .before .before .before .loop in
+    let chain = s .args .chain .now in
+    surveyed-step chain (l .x) (l .west) (l .east) (l .i) (l .inv) (c .before .before .across .result) (c .before .lesser .result) (c .greater .result) (c .before .before .before .before .before .loop-test .taken) (omega (arith, good-digits 0 chain (s .pre) (l .i))) (λ e. omega (arith, e, good-short 0 chain (omega arith) (s .pre))) (c .before .before .across .ensures) (c .before .lesser .ensures) (c .greater .ensures)
 
 returns : tie.Need-returns Inv-loop μ-loop
 returns c =
@@ -51,12 +51,15 @@ measure-spec =
     (tie.spec
     Inv-loop
     μ-loop
+    (λ c. search needs)
     loop-holds
     (λ c. search needs)
-    column-requires
-    (λ c κs. search needs)
+    across-requires
+    (λ c. search needs)
     (λ c κs. search needs)
     (λ c. search needs)
-    loop-less
+    (λ c κs. search needs)
+    (λ c. search needs)
+    (λ c. search needs)
     loop-again
     returns)
