@@ -12,14 +12,15 @@ use Rattle.answer.specs.declared.Judged.{Judged}
 use Rattle.answer.specs.declared.Judged.the-variants.{Good, Refused}
 use Rattle.answer.specs.declared.Refusal.{Refusal}
 use Rattle.answer.specs.declared.Refusal.the-variants.{TooMany, StartRange, NotRoom}
-use Rattle.answer.specs.Limits.{mostInput, mostSteps, startFits}
+use Rattle.answer.specs.Limits.{mostInput, startFits}
 use Rattle.answer.specs.Refusal.{when}
 use Rattle.grid.specs.declared.Corner.{Corner}
 use Rattle.hull.specs.Call.{chainJudged}
-use Rattle.hull_laws.proofs.SurveyLaws.{good-short}
+use Rattle.hull_laws.proofs.SurveyLaws.{good-digits, good-short}
 use Rattle.room.specs.Room.{isRoom, asRoomJudged}
 use Rattle.room.proofs.RoomLaws.{isRoom-exactly, judged-many, judged-range, judged-fault, judged-room}
 use Rattle.room_thread_laws.specs.Threads.{Told}
+use Rattle.box_laws.specs.Box.{Boxable}
 
 pub not-room : (b : Bool) → b ≡ false → Refused NotRoom ≡ when (not b) NotRoom
 not-room b e = rw e
@@ -41,6 +42,6 @@ module _ (c : Corner) (ds : List ℕ) where
           s ∙ ap (λ (z : Bool). when (not z) NotRoom) (bool-agree m (isRoom c ds) (λ p. isRoom-exactly c ds .1 (t c .0 p)) (λ p. t c .1 (isRoom-exactly c ds .0 p)))
           ∙ sym (judged-room c ds h (sym e ∙ not-false b x) (sym f ∙ q))
 
-  -- a chain without a fault is not too long
-  pub good-few : (j : Judged) → j ≡ chainJudged 0 ds → j ≡ Good → length ds ≤ mostSteps
-  good-few j e q = omega (arith, good-short 0 ds (omega arith) (sym e ∙ q))
+  -- a chain without a fault has digits below 4, and not too many
+  pub good-steps : (j : Judged) → j ≡ chainJudged 0 ds → j ≡ Good → Boxable ds
+  good-steps j e q = record { digits = good-digits 0 ds (sym e ∙ q); short = omega (arith, good-short 0 ds (omega arith) (sym e ∙ q)) }

@@ -4,7 +4,7 @@ use answer::Limits;
 use answer::Refusal;
 use answer::start_fits;
 use grid::Corner;
-use room_threads::is_room;
+use room_map::is_room;
 ghost use mathlib.Core.Path.{_≡_};
 ghost use mathlib.Core.Bool.{not};
 ghost use Rattle.answer.specs.declared.Refusal.the-variants.{NotRoom};

@@ -2,7 +2,7 @@
 -- Assumes nothing.
 use native.Mathlib.Omega.{arith}
 use borrow.Author.Needs.{needs}
-use Rattle.room_judge.proofs.JudgeLaws.{told-many, told-range, told-fault, told-room, good-few}
+use Rattle.room_judge.proofs.JudgeLaws.{told-many, told-range, told-fault, told-room, good-steps}
 use Rattle.room_judge.proofs.judge.Statement.{statement}
 use Rattle.room_judge.proofs.judge.Tie as tie
 
@@ -17,7 +17,7 @@ returns-2 c =
 is-room-requires : tie.Need-is-room-requires
 is-room-requires c κs =
     let a = c .before .before .before .before .before .before .before .args in
-    good-few (a .start) (a .chain .now) (c .before .before .judge .result) (c .before .before .judge .ensures) (c .enum-told .given .1)
+    good-steps (a .start) (a .chain .now) (c .before .before .judge .result) (c .before .before .judge .ensures) (c .enum-told .given .1)
 
 returns-3 : tie.Need-returns-3
 returns-3 c =

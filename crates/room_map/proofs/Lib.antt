@@ -1,0 +1,2 @@
+-- Laws of the map.
+pub mod MapLaws

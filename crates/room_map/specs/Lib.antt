@@ -1,0 +1,2 @@
+-- A byte for each corner of the box of a walk.
+pub mod Map
