@@ -26,7 +26,7 @@ CREATE TABLE orders (
   id INTEGER PRIMARY KEY AUTOINCREMENT NOT NULL,
   outline POLYGON NOT NULL CHECK (substr(outline, 1, 2) = x'4750' AND undrwyth_is_room(outline)), -- a GeoPackage's blob, and a room
   customer TEXT,
-  placed DATETIME NOT NULL DEFAULT (strftime('%Y-%m-%dT%H:%M:%fZ', 'now')),
+  placed DATETIME DEFAULT (strftime('%Y-%m-%dT%H:%M:%fZ', 'now')),
   panels INTEGER GENERATED ALWAYS AS (undrwyth_panels(outline)) STORED
 );
 INSERT INTO gpkg_contents (table_name, data_type, identifier, description, srs_id) VALUES ('orders', 'features', 'orders', 'orders of panels; an outline is a room', 1000);
