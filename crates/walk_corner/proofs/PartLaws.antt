@@ -1,6 +1,6 @@
 -- When the parents of two adjacent corners differ, neither is the root.
 -- Assumes nothing.
-use mathlib.Core.Bool.{Bool, true, false, not, _&&_, true≢false}
+use mathlib.Core.Bool.{Bool, true, false, not, _&&_}
 use mathlib.Core.Path.{_≡_, refl, ap, ap₂, sym, _∙_}
 use Prim.Native.Nat.{ℕ, zero, suc}
 use Rattle.grid.specs.declared.Corner.{Corner}
