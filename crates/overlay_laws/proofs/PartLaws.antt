@@ -85,7 +85,7 @@ above-even b (x ∷ y ∷ qs) g even =
     let r = pair-row x y qs g even in
     omega (arith, above-even b qs (climbs-in-turn UpTo y qs (g .1)) (pairs-even x y qs r even), ap (λ (z : ℤ). tally (ltZ b z)) r)
 
-tally-odd : (n : ℕ) → tally (eqb (n % 2) 1) ≡ n % 2
+pub tally-odd : (n : ℕ) → tally (eqb (n % 2) 1) ≡ n % 2
 tally-odd n = by (n % 2) (omega arith)
   where
     by : (m : ℕ) → m % 2 ≡ m → tally (eqb m 1) ≡ m

@@ -1,4 +1,4 @@
--- Lower ends read from the numbers of spans, and the numbers of the spans between them.
+-- Lower ends read from the numbers of spans, and that the numbers of a room are small.
 -- Assumes nothing.
 use mathlib.Core.Bool.{Bool, true, false}
 use mathlib.Core.List.{List, [], _∷_, _++_}
@@ -26,7 +26,6 @@ use Rattle.row_laws.proofs.FootLaws.{UpTo, InTurn, climbs-in-turn}
 use Rattle.row_laws.proofs.PairLaws.{EvenRows, pair-row, pairs-even, turn-up-to}
 use Rattle.row_bucket_laws.specs.Buckets.{bucketOf, lowOf}
 use Rattle.row_bucket_laws.proofs.RowLaws.{feet-none}
-use Rattle.overlay_laws.specs.Join.{edgeNumbers}
 use Rattle.overlay_laws.specs.Sweep.{endAt, endsFrom}
 use Rattle.overlay_laws.proofs.PartLaws.{Ends}
 
@@ -74,13 +73,6 @@ ends-same a b n even h = go 0 n (omega arith)
     go : (i k : ℕ) → i + k ≡ n → endsFrom a i k ≡ endsFrom b i k
     go i zero e = refl
     go i (suc k) e = ap₂ (λ (q : Corner) (R : List Corner). q ∷ R) (ap₂ corner (ap (λ (z : ℤ). z +ℤ pos (i % 2)) (h (3 * (i / 2) + 1 + i % 2) (omega (arith, e)))) (h (3 * (i / 2)) (omega (arith, e)))) (go (suc i) k (omega (arith, e)))
-
--- ---- the numbers between ends
-
-pub edge-pairs : (E : List Corner) → length E % 2 ≡ 0 → edgeNumbers false E ≡ spanNumbers (pairsOf E)
-edge-pairs [] h = refl
-edge-pairs (x ∷ []) h = absurd (omega (arith, h))
-edge-pairs (x ∷ y ∷ E) h = ap (λ (l : List ℤ). x .1 ∷ x .0 ∷ predℤ (y .0) ∷ l) (edge-pairs E (omega (arith, h)))
 
 -- ---- the numbers of a room are small
 

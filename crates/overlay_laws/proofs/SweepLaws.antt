@@ -1,23 +1,20 @@
 -- What the sweep over two lists of spans does at each stop.
 -- Assumes nothing.
 use mathlib.Core.Bool.{Bool, true, false, cond, not, true≢false}
-use mathlib.Core.List.{List, [], _∷_, _++_}
+use mathlib.Core.List.{List, [], _∷_}
 use mathlib.Core.Path.{_≡_, refl, ap, ap₂, sym, _∙_}
 use Prim.Native.Nat.{ℕ, zero, suc, _+_, _-_, _%_, _<_, _≤_}
 use native.Mathlib.Omega.{arith}
 use lib.Dec.{eqb}
 use lib.IntN.{ℤ}
-use lib.ListN.{length, length-append}
-use lib.Seq.{sets}
+use lib.ListN.{length}
 use Rattle.lists.specs.Lists.{tally, count}
 use Rattle.grid.specs.declared.Corner.{Corner}
 use Rattle.row_laws.specs.Feet.{ahead}
 use Rattle.overlay.specs.declared.Part.{Part}
-use Rattle.overlay_laws.specs.Join.{Stop, leads, stopsBy, join, differ, changes, edgeNumbers}
-use Rattle.overlay_laws.specs.Sweep.{partHas, partEnds, endAt, endsFrom, odd, partRest, edgeBy, partNumbers, Writing}
-use Rattle.row_bucket_laws.proofs.WriteLaws.{sets-append}
+use Rattle.overlay_laws.specs.Join.{Stop, leads, stopsBy, join, differ, changes}
+use Rattle.overlay_laws.specs.Sweep.{partHas, partEnds, endAt, endsFrom, odd, partRest}
 use Rattle.overlay_laws.proofs.JoinLaws.{none-left}
-use Rattle.overlay_laws.proofs.OverlayLaws.{none-none}
 
 -- ---- which list leads
 
@@ -44,7 +41,7 @@ module _ (a : List ℤ) (i na : ℕ) (b : List ℤ) (j nb : ℕ) where
   lead-both h g = ap₂ leads (ends-one a na i h) (ends-one b nb j g)
 
   -- a list that leads is not at its end
-  pub lead-there : leads (endsFrom a i (na - i)) (endsFrom b j (nb - j)) ≡ true → i < na
+  lead-there : leads (endsFrom a i (na - i)) (endsFrom b j (nb - j)) ≡ true → i < na
   lead-there e = by (na - i) refl e
     where
       by : (k : ℕ) → na - i ≡ k → leads (endsFrom a i k) (endsFrom b j (nb - j)) ≡ true → i < na
@@ -93,7 +90,7 @@ module _ (k : Part) (a : List ℤ) (i na : ℕ) (b : List ℤ) (j nb f : ℕ) (o
   abbrev stop : Corner
   stop = cond one (endAt a i) (endAt b j)
 
-  stop-left : partRest k a i na b j nb (suc f) ≡ cond (differ was is) (stop ∷ rest) rest
+  pub stop-left : partRest k a i na b j nb (suc f) ≡ cond (differ was is) (stop ∷ rest) rest
   stop-left = by one two e g refl refl
     where
       step : (x y : Bool) (J : List Stop) (c : Corner) → changes (partHas k) (odd i) (odd j) (record { at = c; one = x; two = y } ∷ J)
@@ -137,14 +134,14 @@ module _ (k : Part) (a : List ℤ) (i na : ℕ) (b : List ℤ) (j nb f : ℕ) (o
           let n = none-left (λ c. true) (endsFrom a i (na - i)) (endsFrom b j (nb - j)) p q in
           absurd (omega (arith, n .0, n .1, length-ends a i (na - i), length-ends b j (nb - j)))
 
--- ---- writing
+-- ---- one step
 
 pub length-endsFrom : (a : List ℤ) (i k : ℕ) → length (endsFrom a i k) ≡ k
 length-endsFrom a i zero = refl
 length-endsFrom a i (suc k) = ap suc (length-endsFrom a (suc i) k)
 
 -- where there is a stop there is fuel
-some-fuel : (n f : ℕ) → 0 < n → n ≤ f → (m : ℕ) × (f ≡ suc m)
+pub some-fuel : (n f : ℕ) → 0 < n → n ≤ f → (m : ℕ) × (f ≡ suc m)
 some-fuel n zero h g = absurd (omega arith)
 some-fuel n (suc f) h g = (f, refl)
 
@@ -173,70 +170,19 @@ module _ (k : Part) (a : List ℤ) (i na : ℕ) (b : List ℤ) (j nb : ℕ) (one
       by false true p q = omega arith
       by false false p q = let n = none-left (λ c. true) (endsFrom a i (na - i)) (endsFrom b j (nb - j)) p q in absurd (omega (arith, n .0, n .1, length-ends a i (na - i), length-ends b j (nb - j), more))
 
-  numbers-cond : (x y : Bool) (c : Corner) (l : List Corner) → edgeNumbers x (cond (differ x y) (c ∷ l) l) ≡ edgeBy x y c ++ edgeNumbers y l
-  numbers-cond true true c l = refl
-  numbers-cond true false c l = refl
-  numbers-cond false true c l = refl
-  numbers-cond false false c l = refl
-
-  -- a stop has one number or two, or none
-  few-edge : (x y : Bool) (c : Corner) → length (edgeBy x y c) ≤ 2
-  few-edge true true c = omega arith
-  few-edge true false c = omega arith
-  few-edge false true c = omega arith
-  few-edge false false c = omega arith
-
-  pub write-step : (o : ℕ) (before now now′ : List ℤ) → Writing k a na b nb i j o before now
-      → now′ ≡ sets now o (edgeBy (partHas k (odd i) (odd j)) (partHas k (odd (i + tally one)) (odd (j + tally two))) (cond one (endAt a i) (endAt b j)))
-      → Writing k a na b nb (i + tally one) (j + tally two) (o + length (edgeBy (partHas k (odd i) (odd j)) (partHas k (odd (i + tally one)) (odd (j + tally two))) (cond one (endAt a i) (endAt b j)))) before now′
-  write-step o before now now′ w h =
-      let s = some-fuel ((na - i) + (nb - j)) (w .fuel) (omega (arith, more, w .first, w .second)) (w .enough) in
-      let x = partHas k (odd i) (odd j) in
-      let y = partHas k (odd (i + tally one)) (odd (j + tally two)) in
-      let l = partRest k a (i + tally one) na b (j + tally two) nb (s .0) in
-      let c = cond one (endAt a i) (endAt b j) in
-      let u : edgeNumbers x (partRest k a i na b j nb (w .fuel)) ≡ edgeBy x y c ++ edgeNumbers y l =
-      ap (λ (m : ℕ). edgeNumbers x (partRest k a i na b j nb m)) (s .1) ∙ ap (edgeNumbers x) (stop-left k a i na b j nb (s .0) one two e g more (w .first) (w .second)) ∙ numbers-cond x y c l in
-      record {
-        fuel = s .0;
-        enough = omega (arith, w .enough, s .1, some-step, stepped-first (w .first), stepped-second (w .second));
-        first = stepped-first (w .first);
-        second = stepped-second (w .second);
-        few = omega (arith, w .few, few-edge x y c, some-step);
-        numbers = omega (arith, w .numbers, ap length u, length-append (edgeBy x y c) (edgeNumbers y l));
-        left = ap (λ (z : List ℤ). sets z (o + length (edgeBy x y c)) (edgeNumbers y l)) h ∙ sym (sets-append now o (edgeBy x y c) (edgeNumbers y l)) ∙ ap (sets now o) (sym u) ∙ w .left;
-      }
-
   -- it comes nearer to the end
   pub step-nearer : i ≤ na → j ≤ nb → (i + tally one ≤ na) × (j + tally two ≤ nb) × (i + j < (i + tally one) + (j + tally two))
   step-nearer h l = (stepped-first h, stepped-second l, omega (arith, some-step))
 
 -- nothing is left
-left-none : (k : Part) (a : List ℤ) (i na : ℕ) (b : List ℤ) (j nb fuel : ℕ) → na ≤ i → nb ≤ j → partRest k a i na b j nb fuel ≡ []
+pub left-none : (k : Part) (a : List ℤ) (i na : ℕ) (b : List ℤ) (j nb fuel : ℕ) → na ≤ i → nb ≤ j → partRest k a i na b j nb fuel ≡ []
 left-none k a i na b j nb zero h g = refl
 left-none k a i na b j nb (suc f) h g =
     ap₂ (λ (X Y : List Corner). changes (partHas k) (odd i) (odd j) (join (suc f) X Y)) (ends-none a na i h) (ends-none b nb j g)
 
-pub write-start : (k : Part) (a : List ℤ) (na : ℕ) (b : List ℤ) (nb : ℕ) (before : List ℤ) → Writing k a na b nb 0 0 0 before before
-write-start k a na b nb before = record {
-  fuel = length (endsFrom a 0 na) + length (endsFrom b 0 nb);
-  enough = omega (arith, length-endsFrom a 0 na, length-endsFrom b 0 nb);
-  first = omega arith;
-  second = omega arith;
-  few = omega arith;
-  numbers = omega (arith, ap length whole);
-  left = ap (sets before 0) whole;
-}
+-- all of it is left at the start
+pub rest-start : (k : Part) (a : List ℤ) (na : ℕ) (b : List ℤ) (nb : ℕ) → partRest k a 0 na b 0 nb (length (endsFrom a 0 na) + length (endsFrom b 0 nb)) ≡ partEnds k (endsFrom a 0 na) (endsFrom b 0 nb)
+rest-start k a na b nb = ap₂ (λ (m n : ℕ). changes (partHas k) false false (join (length (endsFrom a 0 na) + length (endsFrom b 0 nb)) (endsFrom a 0 m) (endsFrom b 0 n))) (less na) (less nb)
   where
     less : (n : ℕ) → n - 0 ≡ n
     less n = omega arith
-
-    whole : edgeNumbers (partHas k (odd 0) (odd 0)) (partRest k a 0 na b 0 nb (length (endsFrom a 0 na) + length (endsFrom b 0 nb))) ≡ edgeNumbers false (partEnds k (endsFrom a 0 na) (endsFrom b 0 nb))
-    whole =
-        ap (λ (v : Bool). edgeNumbers v (partRest k a 0 na b 0 nb (length (endsFrom a 0 na) + length (endsFrom b 0 nb)))) (none-none k)
-        ∙ ap₂ (λ (m n : ℕ). edgeNumbers false (changes (partHas k) false false (join (length (endsFrom a 0 na) + length (endsFrom b 0 nb)) (endsFrom a 0 m) (endsFrom b 0 n)))) (less na) (less nb)
-
-pub write-end : (k : Part) (a : List ℤ) (na : ℕ) (b : List ℤ) (nb i j o : ℕ) (before now : List ℤ) → Writing k a na b nb i j o before now → (i + j < na + nb → ⊥) → (o ≡ length (partNumbers k a na b nb)) × (now ≡ sets before 0 (partNumbers k a na b nb))
-write-end k a na b nb i j o before now w h =
-    let none = left-none k a i na b j nb (w .fuel) (omega (arith, w .first, w .second)) (omega (arith, w .first, w .second)) in
-    (omega (arith, w .numbers, ap (λ (R : List Corner). length (edgeNumbers (partHas k (odd i) (odd j)) R)) none), sym (ap (λ (R : List Corner). sets now o (edgeNumbers (partHas k (odd i) (odd j)) R)) none) ∙ w .left)

@@ -3,7 +3,6 @@
 use mathlib.Core.Bool.{Bool, true, false, cond, not}
 use mathlib.Core.List.{List, [], _∷_}
 use Prim.Native.Nat.{ℕ, zero, suc}
-use lib.IntN.{ℤ, predℤ}
 use lib.ListN.{getD, drop}
 use Rattle.grid.specs.declared.Corner.{Corner}
 use Rattle.grid.specs.Grid.{origin}
@@ -45,9 +44,3 @@ differ false b = b
 abbrev pub changes : (Bool → Bool → Bool) → Bool → Bool → List Stop → List Corner
 changes part a b [] = []
 changes part a b (t ∷ J) = cond (differ (part a b) (part (differ a (t .one)) (differ b (t .two)))) (t .at ∷ changes part (differ a (t .one)) (differ b (t .two)) J) (changes part (differ a (t .one)) (differ b (t .two)) J)
-
--- the numbers of the spans between such stops, where a span is open before the first, or is not
-abbrev pub edgeNumbers : Bool → List Corner → List ℤ
-edgeNumbers v [] = []
-edgeNumbers true (q ∷ R) = predℤ (q .0) ∷ edgeNumbers false R
-edgeNumbers false (q ∷ R) = q .1 ∷ q .0 ∷ edgeNumbers true R

@@ -22,7 +22,8 @@ use Rattle.overlay.specs.Call.{overlayJudged, overlaidOf, OverlayCall}
 use Rattle.overlay_laws.specs.Sweep.{partEnds, endsFrom, endsOfWalk, listsOf}
 use Rattle.overlay_laws.proofs.{PartLaws.Ends, OverlayLaws.walk-ends, OverlayLaws.lists-rows, ReadLaws.ends-read, ReadLaws.ends-same, ReadLaws.room-small}
 use Rattle.overlay_laws.proofs.CallLaws.{first-refused, second-refused, both-rooms}
-use Rattle.overlay_parts.specs.Parts.{HoldsSpans, partSpans, partsJudged, PartsCall}
+use Rattle.overlay_sweep.specs.Parts.{HoldsSpans, partSpans}
+use Rattle.overlay_parts.specs.Parts.{partsJudged, PartsCall}
 use Rattle.overlay_list.specs.Copies.{Copied}
 
 -- ---- copies

@@ -15,7 +15,7 @@ ghost use Rattle.hull_laws.specs.Columns.{narrowSize, widerSize};
 ghost use Rattle.room.specs.Room.{asRoomJudged};
 ghost use Rattle.overlay.specs.Call.{ofParts, OverlayCall};
 ghost use Rattle.overlay_laws.specs.Sweep.{Numbers};
-ghost use Rattle.overlay_parts.specs.Parts.{HoldsSpans};
+ghost use Rattle.overlay_sweep.specs.Parts.{HoldsSpans};
 ghost use Rattle.overlay_list.specs.Copies.{Copied};
 
 // The steps for which the two lesser stores have room.

@@ -1,2 +1,2 @@
--- Lists of spans as the sweep reads them, and the parts of two such lists.
+-- What is answered for the parts of two lists of spans.
 pub mod Parts

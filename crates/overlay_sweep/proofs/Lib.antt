@@ -1,1 +1,3 @@
 pub mod EndLaws
+pub mod KeyLaws
+pub mod CloseLaws

@@ -1,19 +1,26 @@
-// Sweeps over two lists of spans at once, from end to end of the spans of either, and writes the spans of a part.
+// Sweeps over two lists of spans at once, from end to end of the spans of either, and writes the spans of all three parts. Ends are compared as keys.
 use grid::Corner;
 use grid::Panel;
-use overlay::Part;
-ghost use mathlib.Core.Path.{_≡_};
-ghost use mathlib.Core.Bool.{cond};
+use order::lesser;
+use overlay::Measure;
+use overlay::Measures;
 ghost use mathlib.Core.List.{[], _∷_};
+ghost use mathlib.Core.Path.{_≡_};
 ghost use Prim.Native.Nat.{_+_, _*_, _%_, _<_, _≤_};
 ghost use lib.IntN.{pos, natAbs, _+ℤ_, predℤ};
-ghost use lib.ListN.{length, set};
+ghost use lib.ListN.{length};
 ghost use lib.Seq.{sets};
 ghost use Rattle.answer.specs.Limits.{mostSteps, farthest};
 ghost use Rattle.grid.specs.Grid.{corner, panelAt};
 ghost use Rattle.lists.specs.Lists.{tally};
-ghost use Rattle.row_laws.specs.Feet.{ahead};
-ghost use Rattle.overlay_laws.specs.Sweep.{partHas, endAt, odd, edgeBy, partNumbers, Numbers, Comes};
+ghost use Rattle.overlay.specs.declared.Part.{Part};
+ghost use Rattle.overlay.specs.Call.{ofParts};
+ghost use Rattle.overlay_laws.specs.Sweep.{partHas, endAt, odd, Numbers};
+ghost use Rattle.overlay_sweep.specs.Keys.{Reached, lastKey, endKey, keyAt, sunk, cornerOf, Added, Closed, Closable, inParts};
+ghost use Rattle.overlay_sweep.specs.Parts.{Spanned, partSpans, Swept};
+
+// The key after the last end of a list: it is greater than any other.
+const END: usize = 17179869184;
 
 // The same number in 32 bits.
 fn wider(x: i16) -> i32
@@ -69,53 +76,44 @@ fn second_end(list: &[i32], n: usize, i: usize) -> Corner
     foot(Panel(x, y), i)
 }
 
-// Whether p is further south than q, or in one row further west.
-fn before(p: Corner, q: Corner) -> bool
-    ensures { λ r. ⌜ r ≡ ahead p q ⌝ }
+// A coordinate of a walk's corner, counted from the least.
+fn lift(z: i32) -> usize
+    requires { ⌜ natAbs z ≤ farthest ⌝ }
+    ensures { λ r. ⌜ (r ≡ natAbs (z +ℤ pos 32768)) × (r ≤ 65536) ⌝ }
 {
-    if p.1 < q.1 {
-        return true;
-    }
-    if q.1 < p.1 {
-        return false;
-    }
-    p.0 < q.0
+    (z + 32768) as usize
 }
 
-// Whether the end p at place i of a list of n comes next: it is there, and the end q at place k of the other list, of m, is not before it.
-fn comes(p: Corner, i: usize, n: usize, q: Corner, k: usize, m: usize) -> bool
-    ensures { λ r. ⌜ Comes p i n q k m r ⌝ }
+// The key of a lower end.
+fn key(at: Corner) -> usize
+    requires { ⌜ Reached at ⌝ }
+    ensures { λ r. ⌜ r ≡ endKey at ⌝ }
+{
+    let y = lift(at.1);
+    let x = lift(at.0);
+    y * 131072 + x
+}
+
+// The key of the end at place i of the first list, if it is there.
+fn first_key(list: &[i16], n: usize, i: usize) -> usize
+    requires { ⌜ Numbers (now list) n ⌝ }
+    ensures { λ r. ⌜ r ≡ keyAt (now (list .entry)) n i ⌝ }
 {
     if i >= n {
-        return false;
+        return END;
     }
-    if k >= m {
-        return true;
-    }
-    !before(q, p)
+    key(first_end(list, n, i))
 }
 
-// The end that comes next.
-fn next_end(one: bool, p: Corner, q: Corner) -> Corner
-    ensures { λ r. ⌜ r ≡ cond one p q ⌝ }
+// The key of the end at place i of the second list, if it is there.
+fn second_key(list: &[i32], n: usize, i: usize) -> usize
+    requires { ⌜ Numbers (now list) n ⌝ }
+    ensures { λ r. ⌜ r ≡ keyAt (now (list .entry)) n i ⌝ }
 {
-    if one {
-        return p;
+    if i >= n {
+        return END;
     }
-    q
-}
-
-// Whether the part has what lies behind i ends of the first list and j of the second.
-fn has(part: Part, i: usize, j: usize) -> bool
-    ensures { λ r. ⌜ r ≡ partHas part (odd i) (odd j) ⌝ }
-{
-    let a = i % 2 == 1;
-    let b = j % 2 == 1;
-    match part {
-        Part::First => a && !b,
-        Part::Second => b && !a,
-        Part::Both => a && b,
-    }
+    key(second_end(list, n, i))
 }
 
 // One further, if it goes on.
@@ -129,18 +127,27 @@ fn further(i: usize, on: bool) -> usize
     i
 }
 
-// Writes a number, if there is room for it.
-fn put(out: &mut [i32], o: usize, v: i32)
-    ensures { λ _. ⌜ now (out .exit) ≡ set (now (out .entry)) o v ⌝ }
+// The coordinate that was lifted to n.
+fn sunk(n: usize) -> i32
+    requires { ⌜ n ≤ 131072 ⌝ }
+    ensures { λ r. ⌜ r ≡ sunk n ⌝ }
 {
-    if o < out.len() {
-        out[o] = v;
-    }
+    n as i32 - 32768
+}
+
+// The lower end that has this key.
+fn end_of(key: usize) -> Corner
+    requires { ⌜ key ≤ lastKey ⌝ }
+    ensures { λ r. ⌜ r ≡ cornerOf key ⌝ }
+{
+    let x = sunk(key % 131072);
+    let y = sunk(key / 131072);
+    Corner(x, y)
 }
 
 // The column before x.
 fn less(x: i32) -> i32
-    requires { ⌜ natAbs x ≤ farthest ⌝ }
+    requires { ⌜ natAbs x ≤ 262144 ⌝ }
     ensures { λ r. ⌜ r ≡ predℤ x ⌝ }
 {
     x - 1
@@ -148,7 +155,7 @@ fn less(x: i32) -> i32
 
 // The panel before the edge whose lower end is `at`.
 fn panel_before(at: Corner) -> Panel
-    requires { ⌜ natAbs (at .0) ≤ farthest ⌝ }
+    requires { ⌜ natAbs (at .0) ≤ 262144 ⌝ }
     ensures { λ r. ⌜ r ≡ panelAt (corner (predℤ (at .0)) (at .1)) ⌝ }
 {
     let x = less(at.0);
@@ -165,58 +172,120 @@ fn panel_behind(at: Corner) -> Panel
     Panel(x, y)
 }
 
-// Writes the row and the column of the panel that a span begins with, as far as there is room.
-fn put_first(out: &mut [i32], o: usize, first: Panel)
-    requires { ⌜ o ≤ 4 * mostSteps ⌝ }
-    ensures { λ _. ⌜ now (out .exit) ≡ sets (now (out .entry)) o (first .1 ∷ first .0 ∷ []) ⌝ }
+// Writes the span from a panel to another of its row, if there is room for it.
+fn put(out: &mut [i32], o: usize, first: Panel, last: Panel)
+    requires { ⌜ o ≤ 6 * mostSteps ⌝ }
+    ensures { λ _. ⌜ (o + 2 < length (now (out .entry)) → now (out .exit) ≡ sets (now (out .entry)) o (first .1 ∷ first .0 ∷ last .0 ∷ [])) ⌝ }
 {
-    put(out, o, first.1);
-    put(out, o + 1, first.0);
+    let y = first.1;
+    let west = first.0;
+    let east = last.0;
+    if o + 2 < out.len() {
+        out[o] = y;
+        out[o + 1] = west;
+        out[o + 2] = east;
+    }
 }
 
-// Writes the column of the panel that it ends with.
-fn put_last(out: &mut [i32], o: usize, last: Panel)
-    ensures { λ _. ⌜ now (out .exit) ≡ sets (now (out .entry)) o (last .0 ∷ []) ⌝ }
+// Writes the span between two ends of one row after those that were counted, if there is room for it, and counts it.
+fn put_span(out: &mut [i32], m: Measure, from: usize, to: usize) -> Measure
+    requires { ⌜ (m .spans ≤ 2 * mostSteps) × (m .panels ≤ 2 * mostSteps * lastKey) × (from ≤ to) × (to ≤ lastKey) ⌝ }
+    ensures { λ r. ⌜ Added from to m (now (out .entry)) r (now (out .exit)) ⌝ }
 {
-    put(out, o, last.0);
+    let spans = m.spans;
+    put(
+        out,
+        3 * spans,
+        panel_behind(end_of(from)),
+        panel_before(end_of(to)),
+    );
+    Measure {
+        panels: m.panels + (to - from),
+        spans: spans + 1,
+    }
 }
 
-// Writes the end of a part as number o where the part begins or ends, as far as there is room, and answers which number comes next.
-fn put_end(out: &mut [i32], o: usize, was: bool, is: bool, at: Corner) -> usize
-    requires { ⌜ (o ≤ 4 * mostSteps) × (natAbs (at .0) ≤ farthest) ⌝ }
-    ensures { λ r. ⌜ (r ≡ o + length (edgeBy was is at)) × (now (out .exit) ≡ sets (now (out .entry)) o (edgeBy was is at)) ⌝ }
+// Closes the span of the part that lies after i ends of the first list and j of the second, if there is such a part.
+fn close(
+    i: usize,
+    j: usize,
+    from: usize,
+    to: usize,
+    m: Measures,
+    first: &mut [i32],
+    second: &mut [i32],
+    both: &mut [i32],
+) -> Measures
+    requires { ⌜ Closable i j from to m ⌝ }
+    ensures { λ r. ⌜ ((k : Part) → Closed (partHas k (odd i) (odd j)) from to (inParts m k) (ofParts (now (first .entry)) (now (second .entry)) (now (both .entry)) k) (inParts r k) (ofParts (now (first .exit)) (now (second .exit)) (now (both .exit)) k)) ⌝ }
 {
-    if was {
-        if is {
-            return o;
+    let f = m.first;
+    let g = m.second;
+    let h = m.both;
+    if i % 2 == 1 {
+        if j % 2 == 1 {
+            let n = put_span(both, h, from, to);
+            return Measures {
+                first: f,
+                second: g,
+                both: n,
+            };
         }
-        put_last(out, o, panel_before(at));
-        return o + 1;
+        let n = put_span(first, f, from, to);
+        return Measures {
+            first: n,
+            second: g,
+            both: h,
+        };
     }
-    if is {
-        put_first(out, o, panel_behind(at));
-        return o + 2;
+    if j % 2 == 1 {
+        let n = put_span(second, g, from, to);
+        return Measures {
+            first: f,
+            second: n,
+            both: h,
+        };
     }
-    o
+    Measures {
+        first: f,
+        second: g,
+        both: h,
+    }
 }
 
-// Writes the numbers of the spans of a part, as far as there is room, and answers how many there are. The lists have na and nb ends.
-pub fn sweep(part: Part, a: &[i16], na: usize, b: &[i32], nb: usize, out: &mut [i32]) -> usize
-    requires { ⌜ Numbers (now a) na × Numbers (now b) nb ⌝ }
-    ensures { λ r. ⌜ (r ≡ length (partNumbers part (now (a .entry)) na (now (b .entry)) nb)) × (r ≤ 4 * mostSteps) × (now (out .exit) ≡ sets (now (out .entry)) 0 (partNumbers part (now (a .entry)) na (now (b .entry)) nb)) ⌝ }
+// Writes the spans of the three parts of two lists of spans, as far as there is room, and counts them and their panels. The lists have na and nb ends.
+pub fn sweep(
+    a: &[i16],
+    na: usize,
+    b: &[i32],
+    nb: usize,
+    first: &mut [i32],
+    second: &mut [i32],
+    both: &mut [i32],
+) -> Measures
+    requires { ⌜ Spanned (now a) na × Spanned (now b) nb ⌝ }
+    ensures { λ r. ⌜ ((k : Part) → Swept (partSpans (now (a .entry)) na (now (b .entry)) nb k) (ofParts (now (first .entry)) (now (second .entry)) (now (both .entry)) k) (inParts r k) (ofParts (now (first .exit)) (now (second .exit)) (now (both .exit)) k)) ⌝ }
 {
+    let none = Measure {
+        panels: 0,
+        spans: 0,
+    };
+    let mut m = Measures {
+        first: none,
+        second: none,
+        both: none,
+    };
     let mut i = 0;
     let mut j = 0;
-    let mut o = 0;
+    let mut last = 0;
     while i + j < na + nb {
-        let p = first_end(a, na, i);
-        let q = second_end(b, nb, j);
-        let one = comes(p, i, na, q, j, nb);
-        let two = comes(q, j, nb, p, i, na);
-        let was = has(part, i, j);
-        i = further(i, one);
-        j = further(j, two);
-        o = put_end(out, o, was, has(part, i, j), next_end(one, p, q));
+        let p = first_key(a, na, i);
+        let q = second_key(b, nb, j);
+        let next = lesser(p, q);
+        m = close(i, j, last, next, m, first, second, both);
+        i = further(i, p == next);
+        j = further(j, q == next);
+        last = next;
     }
-    o
+    m
 }

@@ -3,8 +3,8 @@
 use borrow.Author.Needs.{needs}
 use native.Mathlib.Omega.{arith}
 use Rattle.overlay.specs.declared.Part.the-variants.{First, Second, Both}
-use Rattle.overlay_parts.proofs.PartLaws.{part-most, parts-short, parts-room}
-use Rattle.overlay_parts.specs.Parts.{partSpans}
+use Rattle.overlay_sweep.specs.Parts.{partSpans}
+use Rattle.overlay_parts.proofs.PartLaws.{part-most, parts-spans, parts-short, parts-room}
 use Rattle.overlay_parts.proofs.put_parts.Statement.{statement}
 use Rattle.overlay_parts.proofs.put_parts.Tie as tie
 
@@ -16,30 +16,52 @@ put-all-requires c κs =
     let m = part-most (a .a .now) (a .na) (a .b .now) (a .nb) in
     (z .pre .0, z .pre .1, parts-room (partSpans (a .a .now) (a .na) (a .b .now) (a .nb)) (a .first .now) (a .second .now) (a .both .now) (omega (arith, m First, e .0)) (omega (arith, m Second, e .1)) (omega (arith, m Both, e .2)))
 
+mul-if2 : tie.Need-mul-if2
+mul-if2 c =
+    let z = c .before .before .before .before .before .before .before in
+    let a = z .args in
+    let m = c .before .before .before .before .measure in
+    record { fits = omega (arith, parts-spans (partSpans (a .a .now) (a .na) (a .b .now) (a .nb)) (m .result) (m .ensures) First, part-most (a .a .now) (a .na) (a .b .now) (a .nb) First, z .pre .0 .held .numbers .few, z .pre .1 .held .numbers .few) }
+
 returns-2 : tie.Need-returns-2
 returns-2 c =
-    let z = c .before .before .before .before .args in
-    parts-short (partSpans (z .a .now) (z .na) (z .b .now) (z .nb)) (z .first .now) (z .second .now) (z .both .now) First (omega (arith, c .before .size .ensures, c .if2 .taken))
+    let z = c .before .before .before .before .before .before .before .before .args in
+    let m = c .before .before .before .before .before .measure in
+    parts-short (partSpans (z .a .now) (z .na) (z .b .now) (z .nb)) (z .first .now) (z .second .now) (z .both .now) First (omega (arith, parts-spans (partSpans (z .a .now) (z .na) (z .b .now) (z .nb)) (m .result) (m .ensures) First, c .if2 .taken))
+
+mul-if3 : tie.Need-mul-if3
+mul-if3 c =
+    let z = c .before .before .before .before .before .before .before .before .before in
+    let a = z .args in
+    let m = c .before .before .before .before .before .before .measure in
+    record { fits = omega (arith, parts-spans (partSpans (a .a .now) (a .na) (a .b .now) (a .nb)) (m .result) (m .ensures) Second, part-most (a .a .now) (a .na) (a .b .now) (a .nb) Second, z .pre .0 .held .numbers .few, z .pre .1 .held .numbers .few) }
 
 returns-3 : tie.Need-returns-3
 returns-3 c =
-    let z = c .before .before .before .before .before .before .args in
-    parts-short (partSpans (z .a .now) (z .na) (z .b .now) (z .nb)) (z .first .now) (z .second .now) (z .both .now) Second (omega (arith, c .before .size2 .ensures, c .if3 .taken))
+    let z = c .before .before .before .before .before .before .before .before .before .before .args in
+    let m = c .before .before .before .before .before .before .before .measure in
+    parts-short (partSpans (z .a .now) (z .na) (z .b .now) (z .nb)) (z .first .now) (z .second .now) (z .both .now) Second (omega (arith, parts-spans (partSpans (z .a .now) (z .na) (z .b .now) (z .nb)) (m .result) (m .ensures) Second, c .if3 .taken))
+
+mul-if4 : tie.Need-mul-if4
+mul-if4 c =
+    let z = c .before .before .before .before .before .before .before .before .before .before .before in
+    let a = z .args in
+    let m = c .before .before .before .before .before .before .before .before .measure in
+    record { fits = omega (arith, parts-spans (partSpans (a .a .now) (a .na) (a .b .now) (a .nb)) (m .result) (m .ensures) Both, part-most (a .a .now) (a .na) (a .b .now) (a .nb) Both, z .pre .0 .held .numbers .few, z .pre .1 .held .numbers .few) }
 
 returns-4 : tie.Need-returns-4
 returns-4 c =
-    let z = c .before .before .before .before .before .before .before .before .args in
-    parts-short (partSpans (z .a .now) (z .na) (z .b .now) (z .nb)) (z .first .now) (z .second .now) (z .both .now) Both (omega (arith, c .before .size3 .ensures, c .if4 .taken))
+    let z = c .before .before .before .before .before .before .before .before .before .before .before .before .args in
+    let m = c .before .before .before .before .before .before .before .before .before .measure in
+    parts-short (partSpans (z .a .now) (z .na) (z .b .now) (z .nb)) (z .first .now) (z .second .now) (z .both .now) Both (omega (arith, parts-spans (partSpans (z .a .now) (z .na) (z .b .now) (z .nb)) (m .result) (m .ensures) Both, c .if4 .taken))
 
 put-all-requires-2 : tie.Need-put-all-requires-2
 put-all-requires-2 c κs =
-    let z = c .before .before .before .before .before .before .before .before .before .before .before in
-    let a = z .args in (
-      z .pre .0,
-      z .pre .1,
-      parts-room (partSpans (a .a .now) (a .na) (a .b .now) (a .nb)) (a .first .now) (a .second .now) (a .both .now)
-          (omega (arith, c .before .before .before .before .before .before .before .before .size .ensures, c .before .before .before .before .before .before .before .if2 .left)) (omega (arith, c .before .before .before .before .before .before .size2 .ensures, c .before .before .before .before .before .if3 .left)) (omega (arith, c .before .before .before .before .size3 .ensures, c .before .before .before .if4 .left)),
-    )
+    let z = c .before .before .before .before .before .before .before .before .before .before .before .before .before .before .before in
+    let a = z .args in
+    let m = c .before .before .before .before .before .before .before .before .before .before .before .before .measure in
+    let s = parts-spans (partSpans (a .a .now) (a .na) (a .b .now) (a .nb)) (m .result) (m .ensures) in
+    (z .pre .0, z .pre .1, parts-room (partSpans (a .a .now) (a .na) (a .b .now) (a .nb)) (a .first .now) (a .second .now) (a .both .now) (omega (arith, s First, c .before .before .before .before .before .before .before .if2 .left)) (omega (arith, s Second, c .before .before .before .before .before .if3 .left)) (omega (arith, s Both, c .before .before .before .if4 .left)))
 
 pub put-parts-spec : {M : Type 1} → statement M
 put-parts-spec =
@@ -54,10 +76,11 @@ put-parts-spec =
     (λ c. search needs)
     (λ c. search needs)
     (λ c κs. search needs)
+    mul-if2
     returns-2
-    (λ c κs. search needs)
+    mul-if3
     returns-3
-    (λ c κs. search needs)
+    mul-if4
     returns-4
     put-all-requires-2
     (λ c. search needs)

@@ -1,0 +1,25 @@
+-- `overlay_sweep::second_key` meets its contract.
+-- Assumes nothing.
+use borrow.Author.Needs.{needs}
+use native.Mathlib.Omega.{arith}
+use mathlib.Core.Path.{sym, ap, _∙_, subst}
+use Rattle.overlay_sweep.specs.Keys.{Reached, endKey}
+use Rattle.overlay_sweep.proofs.KeyLaws.{end-reached, key-there, key-none}
+use Rattle.overlay_sweep.proofs.second_key.Statement.{statement}
+use Rattle.overlay_sweep.proofs.second_key.Tie as tie
+
+returns : tie.Need-returns
+returns c = let z = c .before .args in sym (key-none (z .list .now) (z .n) (z .i) (omega arith))
+
+key-requires : tie.Need-key-requires
+key-requires c κs =
+    let z = c .before .before in
+    subst Reached (sym (c .second-end .ensures (omega arith))) (end-reached (z .args .list .now) (z .args .n) (z .args .i) (z .pre) (omega arith))
+
+returns-2 : tie.Need-returns-2
+returns-2 c =
+    let z = c .before .before .before .args in
+    c .key .ensures ∙ ap endKey (c .before .second-end .ensures (omega arith)) ∙ sym (key-there (z .list .now) (z .n) (z .i) (omega arith))
+
+pub second-key-spec : {M : Type 1} → statement M
+second-key-spec = tie.close (tie.spec returns (λ c κs. search needs) key-requires returns-2)
