@@ -56,10 +56,10 @@ module _ (c : Corner) (ds : List ℕ) (d : ℕ) where
   walked-more : (x : Corner) (e : ℕ) → walked c ds x e ≡ true → walked c (ds ++ (d ∷ [])) x e ≡ true
   walked-more x e w = subst (λ (l : List (Corner × Corner)). any (joins x (stepped e x)) l ≡ true) (sym (edges-snoc c ds d)) (any-append (joins x (stepped e x)) (legsFrom c ds) ((p, q) ∷ []) ∙ ap (λ (b : Bool). b || any (joins x (stepped e x)) ((p, q) ∷ [])) w)
 
-  walked-last : walked c (ds ++ (d ∷ [])) p d ≡ true
+  pub walked-last : walked c (ds ++ (d ∷ [])) p d ≡ true
   walked-last = edge-walked c (ds ++ (d ∷ [])) p d (inl (subst (List·Memᴰ (p, q)) (sym (edges-snoc c ds d)) (Memᴰ·append-right (legsFrom c ds) (List·Memᴰ·head refl))))
 
-  walked-last-back : walked c (ds ++ (d ∷ [])) q (back d) ≡ true
+  pub walked-last-back : walked c (ds ++ (d ∷ [])) q (back d) ≡ true
   walked-last-back =
       edge-walked c (ds ++ (d ∷ [])) q (back d) (subst (Edge c (ds ++ (d ∷ [])) q) (sym (stepped-back d p)) (edge-turned c (ds ++ (d ∷ [])) p q (walked-edge c (ds ++ (d ∷ [])) p d walked-last)))
 
@@ -78,7 +78,7 @@ module _ (c : Corner) (ds : List ℕ) (d : ℕ) where
       along z = subst (λ (y : Corner × Corner). Edge c ds (y .0) (y .1)) z (walked-edge c ds p d w)
 
   -- no other edge is new
-  walked-other : d < 4 → (x : Corner) (e : ℕ) → e < 4 → ((x ≡ p) × (e ≡ d) → ⊥) → ((x ≡ q) × (e ≡ back d) → ⊥) → walked c (ds ++ (d ∷ [])) x e ≡ walked c ds x e
+  pub walked-other : d < 4 → (x : Corner) (e : ℕ) → e < 4 → ((x ≡ p) × (e ≡ d) → ⊥) → ((x ≡ q) × (e ≡ back d) → ⊥) → walked c (ds ++ (d ∷ [])) x e ≡ walked c ds x e
   walked-other hd x e he n m = bool-agree (walked c (ds ++ (d ∷ [])) x e) (walked c ds x e) (λ k. ⊎-elim (λ j. j) (λ j. absurd (⊎-elim forth against j)) (walked-cases x e k)) (walked-more x e)
     where
       forth : last ≡ (x, stepped e x) → ⊥

@@ -35,7 +35,7 @@ use Rattle.outline_links.specs.Built.{Built}
 use Rattle.outline_path.specs.Ring.{waysAt, RingStore, Long, Written}
 
 -- the choice depends on the four tests alone
-onward-same : (w v : ℕ → Bool) (d : ℕ) → ((e : ℕ) → e < 4 → w e ≡ v e) → onward w d ≡ onward v d
+pub onward-same : (w v : ℕ → Bool) (d : ℕ) → ((e : ℕ) → e < 4 → w e ≡ v e) → onward w d ≡ onward v d
 onward-same w v d f =
     ap (stepAfter d) (
     ap₂ (λ (a : Bool) (m : ℕ). cond a 3 m) (f (stepAfter d 3) (stepAfter-lt d 3)) (
@@ -153,11 +153,12 @@ pub record Going (c : Corner) (chain : List ℕ) (n i d : ℕ) : Type 0 where
   pub some : 0 < n
   pub within : n ≤ length (outlineOf c chain)
 
-module _ (chain links : List ℕ) (home first : ℕ) (r : RingStore chain links home first) where
-  not-first : (i d : ℕ) → not (eqb i home && eqb d first) ≡ true → (i ≡ home) × (d ≡ first) → ⊥
+-- another way than the first, or the first
+module _ (home first : ℕ) where
+  pub not-first : (i d : ℕ) → not (eqb i home && eqb d first) ≡ true → (i ≡ home) × (d ≡ first) → ⊥
   not-first i d e z = true≢false (sym e ∙ ap₂ (λ (a b : Bool). not (a && b)) (eq-eqb i home (z .0)) (eq-eqb d first (z .1)))
 
-  is-first : (i d : ℕ) → not (eqb i home && eqb d first) ≡ false → (i ≡ home) × (d ≡ first)
+  pub is-first : (i d : ℕ) → not (eqb i home && eqb d first) ≡ false → (i ≡ home) × (d ≡ first)
   is-first i d e = (eqb-true i home (and-left (eqb i home) (eqb d first) both), eqb-true d first (and-right (eqb i home) (eqb d first) both))
     where
       both : (eqb i home && eqb d first) ≡ true
@@ -167,18 +168,19 @@ module _ (chain links : List ℕ) (home first : ℕ) (r : RingStore chain links 
           go true p = p
           go false p = absurd (true≢false (sym (ap not p) ∙ e))
 
+module _ (chain links : List ℕ) (home first : ℕ) (r : RingStore chain links home first) where
   pub going-start : (j e : ℕ) → j ≡ getD links (4 * home + first) 0 - 1 → e ≡ onward (waysAt links j) first → (c : Corner) → Going c chain 1 j e
   going-start j e ej ee c = record { at = at-next c chain links home first r 0 home first (at-start c chain links home first r) j e ej ee; some = omega arith; within = round c chain links home first r .some }
 
   module _ (n i d : ℕ) (g : (c : Corner) → Going c chain n i d) where
     pub going-next : not (eqb i home && eqb d first) ≡ true → (j e : ℕ) → j ≡ getD links (4 * i + d) 0 - 1 → e ≡ onward (waysAt links j) d → (c : Corner) → Going c chain (n + 1) j e
-    going-next t j e ej ee c = rw (add-one n) (record { at = at-next c chain links home first r n i d (g c .at) j e ej ee; some = omega arith; within = not-end c chain links home first r n i d (g c .at) (g c .within) (not-first i d t) })
+    going-next t j e ej ee c = rw (add-one n) (record { at = at-next c chain links home first r n i d (g c .at) j e ej ee; some = omega arith; within = not-end c chain links home first r n i d (g c .at) (g c .within) (not-first home first i d t) })
 
     pub going-less : not (eqb i home && eqb d first) ≡ true → n < 2 * length chain
-    going-less t = omega (arith, not-end origin chain links home first r n i d (g origin .at) (g origin .within) (not-first i d t), round origin chain links home first r .few)
+    going-less t = omega (arith, not-end origin chain links home first r n i d (g origin .at) (g origin .within) (not-first home first i d t), round origin chain links home first r .few)
 
     pub going-end : not (eqb i home && eqb d first) ≡ false → Long chain n
-    going-end t c = let z = is-first i d t in at-end c chain links home first r n i d (g c .at) (g c .some) (g c .within) (z .0) (z .1)
+    going-end t c = let z = is-first home first i d t in at-end c chain links home first r n i d (g c .at) (g c .some) (g c .within) (z .0) (z .1)
 
 -- the first k steps are written
 pub record Writing (chain before out : List ℕ) (k i d : ℕ) : Type 0 where
@@ -196,6 +198,14 @@ path-snoc c chain k =
     ∙ dirs-snoc (orbit (next c chain) k (start c chain)) (after (next c chain) k (start c chain))
     ∙ ap (λ (l : List ℕ). l ++ (after (next c chain) k (start c chain) .1 ∷ [])) (sym (path-dirs c chain k (start c chain)))
 
+-- one step more is written
+pub written-next : (c : Corner) (chain before out : List ℕ) (k d : ℕ) → k < length before → d ≡ after (next c chain) k (start c chain) .1 → out ≡ pathFromHome c chain k ++ drop k before → set out k d ≡ pathFromHome c chain (suc k) ++ drop (suc k) before
+written-next c chain before out k d h e w =
+    ap (λ (l : List ℕ). set l k d) (w ∙ ap (λ (l : List ℕ). pathFromHome c chain k ++ l) (drop-cons before k 0 h))
+    ∙ set-at (pathFromHome c chain k) (getD before k 0) (drop (suc k) before) d k (length-path c chain k (homeOf c chain) (firstWay c chain))
+    ∙ sym (append-assoc (pathFromHome c chain k) (d ∷ []) (drop (suc k) before))
+    ∙ ap (λ (l : List ℕ). l ++ drop (suc k) before) (ap (λ (x : ℕ). pathFromHome c chain k ++ (x ∷ [])) e ∙ sym (path-snoc c chain k))
+
 module _ (chain links : List ℕ) (home first : ℕ) (r : RingStore chain links home first) (before : List ℕ) where
   pub writing-start : Writing chain before before 0 home first
   writing-start = record { at = λ c. at-start c chain links home first r; written = λ c. refl }
@@ -205,14 +215,7 @@ module _ (chain links : List ℕ) (home first : ℕ) (r : RingStore chain links 
     writing-length h = ap length (w .written origin) ∙ length-append (pathFromHome origin chain k) (drop k before) ∙ omega (arith, length-path origin chain k (homeOf origin chain) (firstWay origin chain), length-drop k before)
 
     pub writing-next : k < length before → (j e : ℕ) → j ≡ getD links (4 * i + d) 0 - 1 → e ≡ onward (waysAt links j) d → Writing chain before (set out k d) (k + 1) j e
-    writing-next h j e ej ee = rw (add-one k) (record { at = λ c. at-next c chain links home first r k i d (w .at c) j e ej ee; written = one })
-      where
-        one : (c : Corner) → set out k d ≡ pathFromHome c chain (suc k) ++ drop (suc k) before
-        one c =
-            ap (λ (l : List ℕ). set l k d) (w .written c ∙ ap (λ (l : List ℕ). pathFromHome c chain k ++ l) (drop-cons before k 0 h))
-            ∙ set-at (pathFromHome c chain k) (getD before k 0) (drop (suc k) before) d k (length-path c chain k (homeOf c chain) (firstWay c chain))
-            ∙ sym (append-assoc (pathFromHome c chain k) (d ∷ []) (drop (suc k) before))
-            ∙ ap (λ (l : List ℕ). l ++ drop (suc k) before) (ap (λ (x : ℕ). pathFromHome c chain k ++ (x ∷ [])) (ap (λ (y : Way). y .1) (w .at c .way)) ∙ sym (path-snoc c chain k))
+    writing-next h j e ej ee = rw (add-one k) (record { at = λ c. at-next c chain links home first r k i d (w .at c) j e ej ee; written = λ c. written-next c chain before out k d h (ap (λ (y : Way). y .1) (w .at c .way)) (w .written c) })
 
     pub writing-end : (n : ℕ) → Long chain n → k ≡ n → Written chain before out
     writing-end n l e c =

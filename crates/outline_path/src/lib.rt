@@ -45,7 +45,7 @@ fn follow(links: &[u16], i: usize, d: u8) -> usize
 }
 
 // Whether this is another way than the first.
-fn away(i: usize, d: u8, home: usize, first: u8) -> bool
+pub fn away(i: usize, d: u8, home: usize, first: u8) -> bool
     ensures { λ r. ⌜ r ≡ not (eqb i home && eqb d first) ⌝ }
 {
     if i != home {

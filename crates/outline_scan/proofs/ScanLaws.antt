@@ -1,11 +1,12 @@
 -- From the parts of the outline's call to the whole.
 -- Assumes nothing.
-use mathlib.Core.Bool.{true}
+use mathlib.Core.Bool.{Bool, true, false}
 use mathlib.Core.List.{List, [], _∷_, _++_}
 use mathlib.Core.Path.{_≡_, refl, ap, sym, _∙_}
 use Prim.Native.Nat.{ℕ, zero, suc, _*_, _<_, _≤_}
 use native.Mathlib.Omega.{arith}
-use borrow.Author.Tests.{lt-ltb, le-ltb}
+use borrow.Author.Tests.{lt-ltb, le-ltb, ltb-false, not-true, not-false}
+use lib.Dec.{ltb}
 use lib.ListN.{length, getD, drop, replicate, length-replicate}
 use Rattle.answer.specs.declared.{Judged.Judged, Judged.the-variants.Good, Judged.the-variants.Refused, Refusal.the-variants.OutlineRoom, Counted.Counted}
 use Rattle.answer.specs.Limits.{mostInput, mostSteps, startFits}
@@ -20,8 +21,9 @@ use Rattle.outline.specs.Computed.{outlineOf}
 use Rattle.outline_laws.proofs.OutlineLaws.{outlineOf-is}
 use Rattle.outline_laws.proofs.CallLaws.{judged-last}
 use Rattle.outline_links.specs.Built.{Blank}
+use Rattle.outline_map.specs.Ring.{Fits, FitsBy}
 use Rattle.outline_path.specs.Ring.{Long, Written}
-use Rattle.outline_scan.specs.Traced.{Steady, Traced}
+use Rattle.outline_scan.specs.Traced.{Steady, BoxFits, Traced}
 
 -- ---- the store
 
@@ -42,6 +44,10 @@ blank-of chain n k l s h m ek el = record {
   linkless = zeros l;
 }
 
+-- a map of zeros is lent as large as it is
+pub box-lent : (chain : List ℕ) (width height from : ℕ) (closed : Bool) (size : ℕ) → BoxFits chain width height from closed size → BoxFits chain width height from closed (length {A = ℕ} (replicate size 0)) × ((l : ℕ) → _≡_ {A = ℕ} (getD (replicate size 0) l 0) 0)
+box-lent chain width height from closed size f = (record { steady = f .steady; some = f .some; box = f .box; room = omega (arith, f .room, length-replicate {A = ℕ} size 0) }, zeros size)
+
 -- ---- too little room, or all of it written
 
 module _ (chain before : List ℕ) where
@@ -61,6 +67,14 @@ module _ (chain before : List ℕ) where
   pub traced-written : (after : List ℕ) (n : ℕ) → Long chain n → n ≤ length before → Written chain before after → (c : Corner) → Traced c chain before (Counted.Many n) after
   traced-written after n l h w c =
       by-room c Good (Counted.Many n) after (ap (λ b. when b OutlineRoom) (le-ltb (length before) (length (outlineOf c chain)) (omega (arith, l c)))) (ap Counted.Many (l c)) (w c)
+
+  -- the same by a test of the room
+  module _ (t : Bool) (f : FitsBy chain (length before) t) where
+    pub traced-refused : t ≡ false → (c : Corner) → Traced c chain before (Counted.Refused OutlineRoom) before
+    traced-refused e c = by-room c (Refused OutlineRoom) (Counted.Refused OutlineRoom) before (ap (λ b. when b OutlineRoom) (not-false (ltb (length before) (length (outlineOf c chain))) (sym (f c) ∙ e))) refl refl
+
+    pub fits-of : t ≡ true → Fits chain (length before)
+    fits-of e c = ltb-false (length before) (length (outlineOf c chain)) (not-true (ltb (length before) (length (outlineOf c chain))) (sym (f c) ∙ e))
 
 pub traced-empty : (chain before : List ℕ) → length chain ≡ 0 → (c : Corner) → Traced c chain before (Counted.Many 0) before
 traced-empty [] before e c = traced-written [] before before 0 (λ a. refl) (omega arith) (λ a. refl) c

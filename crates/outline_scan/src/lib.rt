@@ -4,20 +4,34 @@ use answer::Judged;
 use answer::Limits;
 use answer::Refusal;
 use answer::start_fits;
+use box_walk::WalkBox;
+use box_walk::enclose;
 use grid::Corner;
 use hull_columns::Columns;
 use hull_columns::judge;
 use outline_links::build;
+use outline_map::across;
+use outline_map::fits;
+use outline_map::mark;
 use outline_path::count;
 use outline_path::first_way;
 use outline_path::put;
-ghost use Prim.Native.Nat.{_<_, _≤_};
-ghost use lib.ListN.{length};
+ghost use Prim.Native.Nat.{ℕ, _*_, _<_, _≤_};
+ghost use mathlib.Core.Path.{_≡_};
+ghost use lib.ListN.{length, getD};
+ghost use Rattle.answer.specs.Limits.{mostSteps};
 ghost use Rattle.hull_laws.specs.Columns.{narrowSize, widerSize};
 ghost use Rattle.grid.specs.declared.Corner.{Corner};
 ghost use Rattle.outline.specs.Call.{OutlineCall};
 ghost use Rattle.outline_links.specs.Built.{Blank};
-ghost use Rattle.outline_scan.specs.Traced.{Steady, Traced};
+ghost use Rattle.outline_scan.specs.Traced.{Steady, BoxFits, Traced};
+
+// The sizes of the maps in bytes, one for each corner of a box. The stores below have 16 bytes for each step.
+const NARROW_MAP: usize = 16 * Columns::NARROW;
+
+const WIDER_MAP: usize = 16 * Columns::WIDER;
+
+const WIDEST_MAP: usize = 16 * Limits::MOST_STEPS;
 
 // The outline of a walk with steps, through a store that is lent blank.
 fn write_in(
@@ -73,7 +87,50 @@ fn write_widest(chain: &[u8], out: &mut [u8]) -> Counted
     write_in(chain, &mut keys, &mut kids, &mut links, out)
 }
 
-// The outline of a chain that is not refused, with a store that is not much larger than it needs: to clear it takes time.
+// The outline of a walk with steps, in a map of its box that is lent blank: a byte a corner, column after column.
+fn write_on(chain: &[u8], b: WalkBox, map: &mut [u8], out: &mut [u8]) -> Counted
+    requires { ⌜ BoxFits (now chain) (b .width) (b .height) (b .from) (b .closed) (length (now map)) × ((l : ℕ) → getD (now map) l 0 ≡ 0) ⌝ }
+    ensures { λ r. ⌜ ((c : Corner) → Traced c (now (chain .entry)) (now (out .entry)) r (now (out .exit))) ⌝ }
+{
+    let h = b.height;
+    let by = [h, 1, usize::MAX - h + 1, usize::MAX];
+    let home = mark(chain, across(b.from, b.width, h), &by, map);
+    let first = outline_map::first_way(map, home);
+    if !fits(chain, &by, map, home, first, out.len()) {
+        return Counted::Refused(Refusal::OutlineRoom);
+    }
+    Counted::Many(outline_map::put(chain, &by, map, home, first, out))
+}
+
+// The same with a map as large as the store for the corners of 256 steps.
+fn map_narrow(chain: &[u8], b: WalkBox, out: &mut [u8]) -> Counted
+    requires { ⌜ BoxFits (now chain) (b .width) (b .height) (b .from) (b .closed) (16 * narrowSize) ⌝ }
+    ensures { λ r. ⌜ ((c : Corner) → Traced c (now (chain .entry)) (now (out .entry)) r (now (out .exit))) ⌝ }
+{
+    let mut map = [0u8; NARROW_MAP];
+    write_on(chain, b, &mut map, out)
+}
+
+// The same with a map as large as the store for the corners of 2,048 steps.
+fn map_wider(chain: &[u8], b: WalkBox, out: &mut [u8]) -> Counted
+    requires { ⌜ BoxFits (now chain) (b .width) (b .height) (b .from) (b .closed) (16 * widerSize) ⌝ }
+    ensures { λ r. ⌜ ((c : Corner) → Traced c (now (chain .entry)) (now (out .entry)) r (now (out .exit))) ⌝ }
+{
+    let mut map = [0u8; WIDER_MAP];
+    write_on(chain, b, &mut map, out)
+}
+
+// The same with a map as large as the store for every walk.
+fn map_widest(chain: &[u8], b: WalkBox, out: &mut [u8]) -> Counted
+    requires { ⌜ BoxFits (now chain) (b .width) (b .height) (b .from) (b .closed) (16 * mostSteps) ⌝ }
+    ensures { λ r. ⌜ ((c : Corner) → Traced c (now (chain .entry)) (now (out .entry)) r (now (out .exit))) ⌝ }
+{
+    let mut map = [0u8; WIDEST_MAP];
+    write_on(chain, b, &mut map, out)
+}
+
+// The outline of a chain that is not refused: in a map if the box of the walk fits into it, and otherwise through a store of keys and
+// links. Neither is much larger than the walk needs: to clear it takes time.
 fn write_from(chain: &[u8], out: &mut [u8]) -> Counted
     requires { ⌜ Steady (now chain) ⌝ }
     ensures { λ r. ⌜ ((c : Corner) → Traced c (now (chain .entry)) (now (out .entry)) r (now (out .exit))) ⌝ }
@@ -81,11 +138,22 @@ fn write_from(chain: &[u8], out: &mut [u8]) -> Counted
     if chain.len() == 0 {
         return Counted::Many(0);
     }
+    let b = enclose(chain);
+    let size = b.width * b.height;
+    if size <= NARROW_MAP {
+        return map_narrow(chain, b, out);
+    }
     if chain.len() <= Columns::NARROW {
         return write_narrow(chain, out);
     }
+    if size <= WIDER_MAP {
+        return map_wider(chain, b, out);
+    }
     if chain.len() <= Columns::WIDER {
         return write_wider(chain, out);
+    }
+    if size <= WIDEST_MAP {
+        return map_widest(chain, b, out);
     }
     write_widest(chain, out)
 }

@@ -1,6 +1,8 @@
 -- `outline_scan::write_from` meets its contract.
 -- Assumes nothing.
 use borrow.Author.Needs.{needs}
+use native.Mathlib.Omega.{arith}
+use Rattle.outline_map.proofs.BoxLaws.{box-small}
 use Rattle.outline_scan.proofs.ScanLaws.{traced-empty}
 use Rattle.outline_scan.proofs.write_from.Statement.{statement}
 use Rattle.outline_scan.proofs.write_from.Tie as tie
@@ -8,17 +10,56 @@ use Rattle.outline_scan.proofs.write_from.Tie as tie
 returns : tie.Need-returns
 returns c = let s = c .before .before .before in traced-empty (s .args .chain .now) (s .args .out .now) (c .if1 .taken)
 
+enclose-requires : tie.Need-enclose-requires
+enclose-requires c κs = record { digits = c .before .before .before .pre .digits; short = c .before .before .before .pre .short }
+
+mul-size : tie.Need-mul-size
+mul-size c =
+    let s = c .before .before .before .before .before in
+    let b = c .before .enclose .result in
+    let e = c .before .enclose .ensures in
+    omega (arith, box-small (s .args .chain .now) (b .width) (b .height) (b .from) (record { digits = s .pre .digits; short = s .pre .short }) (e .wide) (e .high) (e .start) .2)
+
+map-narrow-requires : tie.Need-map-narrow-requires
+map-narrow-requires c κs = record { steady = c .before .before .before .before .before .before .before .pre; some = omega (arith, c .before .before .before .before .if1 .left); box = c .before .before .before .enclose .ensures; room = c .before .if2 .taken }
+
+write-narrow-requires : tie.Need-write-narrow-requires
+write-narrow-requires c κs = (c .before .before .before .before .before .before .before .before .pre, omega (arith, c .before .before .before .before .before .if1 .left), c .before .if3 .taken)
+
+map-wider-requires : tie.Need-map-wider-requires
+map-wider-requires c κs = record { steady = c .before .before .before .before .before .before .before .before .before .pre; some = omega (arith, c .before .before .before .before .before .before .if1 .left); box = c .before .before .before .before .before .enclose .ensures; room = c .before .if4 .taken }
+
+write-wider-requires : tie.Need-write-wider-requires
+write-wider-requires c κs = (c .before .before .before .before .before .before .before .before .before .before .pre, omega (arith, c .before .before .before .before .before .before .before .if1 .left), c .before .if5 .taken)
+
+map-widest-requires : tie.Need-map-widest-requires
+map-widest-requires c κs = record { steady = c .before .before .before .before .before .before .before .before .before .before .before .pre; some = omega (arith, c .before .before .before .before .before .before .before .before .if1 .left); box = c .before .before .before .before .before .before .before .enclose .ensures; room = c .before .if6 .taken }
+
+write-widest-requires : tie.Need-write-widest-requires
+write-widest-requires c κs = (c .before .before .before .before .before .before .before .before .before .before .before .pre, omega (arith, c .before .before .before .before .before .before .before .before .if1 .left))
+
 pub write-from-spec : {M : Type 1} → statement M
 write-from-spec =
     tie.close
     (tie.spec
     returns
-    (λ c κs. search needs)
+    enclose-requires
+    mul-size
+    map-narrow-requires
     (λ c. search needs)
     (λ c. search needs)
-    (λ c κs. search needs)
+    write-narrow-requires
     (λ c. search needs)
     (λ c. search needs)
-    (λ c κs. search needs)
+    map-wider-requires
+    (λ c. search needs)
+    (λ c. search needs)
+    write-wider-requires
+    (λ c. search needs)
+    (λ c. search needs)
+    map-widest-requires
+    (λ c. search needs)
+    (λ c. search needs)
+    write-widest-requires
     (λ c. search needs)
     (λ c. search needs))

@@ -1,0 +1,69 @@
+-- `outline_map::count` meets its contract.
+-- Assumes nothing.
+use borrow.Author.Needs.{needs}
+use mathlib.Core.Path.{refl, sym, _∙_}
+use Prim.Native.Nat.{_-_, _*_, _<_}
+use native.Mathlib.Omega.{arith}
+use lib.ListN.{length}
+use Rattle.grid.specs.Grid.{origin}
+use Rattle.outline_map.proofs.WayLaws.{GoingOn, going-start, going-way, going-in, going-first, going-next, going-less, going-end}
+use Rattle.outline_map.proofs.count.Statement.{statement}
+use Rattle.outline_map.proofs.count.Tie as tie
+
+abbrev Inv-loop : tie.InvT-loop
+Inv-loop chain by map home first i₀ d₀ n₀ i d n = GoingOn chain by map home n i d × (0 < n)
+
+abbrev μ-loop : tie.MeasureT-loop
+μ-loop chain by map home first i₀ d₀ n₀ i d n = 2 * length chain - n
+
+go-requires : tie.Need-go-requires Inv-loop μ-loop
+go-requires c κs = let s = c .before .before .before in going-way (s .args .chain .now) (s .args .by .now) (s .args .map .now) (s .args .home) (s .args .first) (s .pre) 0 (s .args .home) (s .args .first) (going-start (s .args .chain .now) (s .args .by .now) (s .args .map .now) (s .args .home) (s .args .first) (s .pre)) .1
+
+shared-slice-read-turn : tie.Need-shared-slice-read-turn Inv-loop μ-loop
+shared-slice-read-turn c = let s = c .before .before .before .before .before in going-in (s .args .chain .now) (s .args .by .now) (s .args .map .now) (s .args .home) (s .args .first) (s .pre) 0 (s .args .home) (s .args .first) (going-start (s .args .chain .now) (s .args .by .now) (s .args .map .now) (s .args .home) (s .args .first) (s .pre)) (c .before .go .result) (c .before .go .ensures)
+
+turn-requires : tie.Need-turn-requires Inv-loop μ-loop
+turn-requires c κs = let s = c .before .before .before .before .before in going-way (s .args .chain .now) (s .args .by .now) (s .args .map .now) (s .args .home) (s .args .first) (s .pre) 0 (s .args .home) (s .args .first) (going-start (s .args .chain .now) (s .args .by .now) (s .args .map .now) (s .args .home) (s .args .first) (s .pre)) .0
+
+loop-holds : tie.Need-loop-holds Inv-loop μ-loop
+loop-holds c = let s = c .before .before .before .before .before .before in (going-first (s .args .chain .now) (s .args .by .now) (s .args .map .now) (s .args .home) (s .args .first) (s .pre) 0 (s .args .home) (s .args .first) (going-start (s .args .chain .now) (s .args .by .now) (s .args .map .now) (s .args .home) (s .args .first) (s .pre)) refl (c .before .before .go .result) (c .turn .result) (c .before .before .go .ensures) (c .turn .ensures), omega arith)
+
+go-requires-2 : tie.Need-go-requires-2 Inv-loop μ-loop
+go-requires-2 c κs = let s = c .before .before .before .before .before .before .before .before .before in let l = c .before .before .loop in going-way (s .args .chain .now) (s .args .by .now) (s .args .map .now) (s .args .home) (s .args .first) (s .pre) (l .n) (l .i) (l .d) (l .inv .0) .1
+
+shared-slice-read-turn-2 : tie.Need-shared-slice-read-turn-2 Inv-loop μ-loop
+shared-slice-read-turn-2 c = let s = c .before .before .before .before .before .before .before .before .before .before .before in let l = c .before .before .before .before .loop in going-in (s .args .chain .now) (s .args .by .now) (s .args .map .now) (s .args .home) (s .args .first) (s .pre) (l .n) (l .i) (l .d) (l .inv .0) (c .before .go2 .result) (c .before .go2 .ensures)
+
+turn-requires-2 : tie.Need-turn-requires-2 Inv-loop μ-loop
+turn-requires-2 c κs = let s = c .before .before .before .before .before .before .before .before .before .before .before in let l = c .before .before .before .before .loop in going-way (s .args .chain .now) (s .args .by .now) (s .args .map .now) (s .args .home) (s .args .first) (s .pre) (l .n) (l .i) (l .d) (l .inv .0) .0
+
+add-n : tie.Need-add-n Inv-loop μ-loop
+add-n c = let s = c .before .before .before .before .before .before .before .before .before .before .before .before in let l = c .before .before .before .before .before .loop in omega (arith, s .pre .short, going-less (s .args .chain .now) (s .args .by .now) (s .args .map .now) (s .args .home) (s .args .first) (s .pre) (l .n) (l .i) (l .d) (l .inv .0) (sym (c .before .before .before .before .away .ensures) ∙ c .before .before .before .if1 .taken) origin .1)
+
+loop-less : tie.Need-loop-less Inv-loop μ-loop
+loop-less c = let s = c .before .before .before .before .before .before .before .before .before .before .before .before in let l = c .before .before .before .before .before .loop in omega (arith, going-less (s .args .chain .now) (s .args .by .now) (s .args .map .now) (s .args .home) (s .args .first) (s .pre) (l .n) (l .i) (l .d) (l .inv .0) (sym (c .before .before .before .before .away .ensures) ∙ c .before .before .before .if1 .taken) origin .1)
+
+loop-again : tie.Need-loop-again Inv-loop μ-loop
+loop-again c = let s = c .before .before .before .before .before .before .before .before .before .before .before .before in let l = c .before .before .before .before .before .loop in (going-next (s .args .chain .now) (s .args .by .now) (s .args .map .now) (s .args .home) (s .args .first) (s .pre) (l .n) (l .i) (l .d) (l .inv .0) (sym (c .before .before .before .before .away .ensures) ∙ c .before .before .before .if1 .taken) (c .before .before .go2 .result) (c .turn2 .result) (c .before .before .go2 .ensures) (c .turn2 .ensures), omega arith)
+
+returns : tie.Need-returns Inv-loop μ-loop
+returns c = let s = c .before .before .before .before .before .before .before .before .before in let l = c .before .before .loop in going-end (s .args .chain .now) (s .args .by .now) (s .args .map .now) (s .args .home) (s .args .first) (s .pre) (l .n) (l .i) (l .d) (l .inv .0) (l .inv .1) (sym (c .before .away .ensures) ∙ c .if1 .left)
+
+pub count-spec : {M : Type 1} → statement M
+count-spec =
+    tie.close
+    (tie.spec
+    Inv-loop
+    μ-loop
+    go-requires
+    shared-slice-read-turn
+    turn-requires
+    loop-holds
+    (λ c κs. search needs)
+    go-requires-2
+    shared-slice-read-turn-2
+    turn-requires-2
+    add-n
+    loop-less
+    loop-again
+    returns)
