@@ -3,7 +3,7 @@
 use mathlib.Core.Bool.{Bool, true, false, cond}
 use mathlib.Core.List.{List, [], _∷_, _++_, append-assoc}
 use mathlib.Core.Path.{_≡_, refl, ap, ap₂, sym, _∙_}
-use Prim.Native.Nat.{ℕ, zero, suc, _+_, _-_, _*_, _/_, _%_, _^_, _<_}
+use Prim.Native.Nat.{ℕ, zero, suc, _+_, _-_, _*_, _/_, _%_, _^_, _<_, _≤_}
 use native.Mathlib.Omega.{arith}
 use native.Mathlib.Nat.{pow-succ'}
 use borrow.Author.Tests.{ltb-true, ne-eqb}
@@ -22,8 +22,8 @@ use Rattle.line_frame.specs.Hex.{letterOf, hexOf, valueOf}
 use Rattle.line_frame.proofs.HexLaws.{letter-value}
 use Rattle.sheet.specs.Decimal.{decimalOf, signedOf}
 use Rattle.sheet.specs.Sizes.{mostDecimals}
-use Rattle.sheet.specs.Entry.{cellOf, cellsOf, hexBytes}
-use Rattle.demands.specs.Cells.{cellsBy, cellsIn, decimalFrom, decimalRead, bytesRead, numberAt, RowRead}
+use Rattle.sheet.specs.Entry.{cellOf, cellsOf, emptyCells, refusedCells, hexBytes}
+use Rattle.demands.specs.Cells.{cellsBy, cellsIn, decimalFrom, decimalRead, bytesRead, numberAt, RefusedRow, RowRead}
 use Rattle.demands.proofs.LineCases as cases
 
 -- ---- bytes above a limit: those of a cell are above the comma, and digits above the minus sign too
@@ -150,6 +150,50 @@ pub polygon-below : (ps : List Corner) → Below 256 (polygonBytes ps)
 unfolding polygonBytes
 polygon-below ps =
     below-append (prefix ++ bytesOf 4 (length ps)) (pointsBytes ps) (below-append prefix (bytesOf 4 (length ps)) prefix-below (number-below 4 (length ps))) (points-below ps)
+
+-- ---- the row of a refused line
+abbrev blanks : ℕ → List (List ℕ)
+blanks zero = []
+blanks (suc k) = [] ∷ blanks k
+
+blank-at : (k m : ℕ) → getD (blanks k) m [] ≡ []
+blank-at zero m = refl
+blank-at (suc k) zero = refl
+blank-at (suc k) (suc m) = blank-at k m
+
+module _ (n r i : ℕ) where
+  abbrev refusedRow : List ℕ
+  refusedRow = cellOf n ++ refusedCells r i
+
+  abbrev three : List (List ℕ)
+  three = decimalOf mostDecimals n ∷ decimalOf mostDecimals r ∷ decimalOf mostDecimals i ∷ blanks 8
+
+  refused-cells : cellsIn refusedRow ≡ three
+  unfolding cellsIn emptyCells
+  refused-cells =
+      let d : ℕ → List ℕ = λ m. decimalOf mostDecimals m in
+      let b1 : Begin (cellOf r) (d r ∷ []) = begin-cell [] r [] (λ x. refl) in
+      let b2 : Begin (cellOf r ++ cellOf i) (d r ∷ d i ∷ []) = begin-cell (cellOf r) i (d r ∷ []) b1 in
+      begin-cell [] n [] (λ x. refl) (refusedCells r i) ∙ ap (λ (x : List (List ℕ)). d n ∷ x) (b2 (emptyCells 7))
+
+  after-three : (k : ℕ) → 3 ≤ k → getD three k [] ≡ []
+  after-three (suc (suc (suc m))) h = blank-at 8 m
+  after-three (suc (suc zero)) h = absurd (omega arith)
+  after-three (suc zero) h = absurd (omega arith)
+  after-three zero h = absurd (omega arith)
+
+  module _ (hn : n < 10 ^ mostDecimals) (hr : r < 10 ^ mostDecimals) (hi : i < 10 ^ mostDecimals) where
+    find : (k m : ℕ) → getD three k [] ≡ decimalOf mostDecimals m → m < 10 ^ mostDecimals → numberAt refusedRow k ≡ m
+    find k m e h = ap (λ (cs : List (List ℕ)). decimalFrom 0 (getD cs k [])) refused-cells ∙ ap (decimalFrom 0) e ∙ decimal-back mostDecimals m h
+
+    pub refused-read : RefusedRow refusedRow n r i
+    refused-read = record {
+      cells = ap length refused-cells;
+      id = find 0 n refl hn;
+      number = find 1 r refl hr;
+      place = find 2 i refl hi;
+      empty = λ k h. ap (λ (cs : List (List ℕ)). getD cs k []) refused-cells ∙ after-three k h;
+    }
 
 -- every number of the facts has its digits
 pub record Decimals (f : Facts) : Type 0 where

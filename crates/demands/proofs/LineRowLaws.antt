@@ -1,7 +1,7 @@
 -- Lines in the table of polygons: what is read in the row of each.
 -- Assumes nothing.
 use mathlib.Core.Bool.{Bool, true, false, cond}
-use mathlib.Core.List.{List, [], _++_, append-nil}
+use mathlib.Core.List.{List, [], _++_}
 use mathlib.Core.Logic.{_↔_}
 use mathlib.Core.Path.{_≡_, refl, ap, sym, _∙_, subst}
 use Prim.Native.Nat.{ℕ, _^_, _<_, _≤_}
@@ -26,13 +26,13 @@ use Rattle.polygon.specs.Polygon.{pointsOf, polygonOf}
 use Rattle.line_frame.specs.Sizes.{mostDigits}
 use Rattle.line_frame.specs.Line.{digitsOf}
 use Rattle.sheet.specs.Sizes.{mostDecimals}
-use Rattle.sheet.specs.Entry.{cellOf, cellsOf, noFacts, hexBytes, polygonCell, entryBy, entryOf}
+use Rattle.sheet.specs.Entry.{cellOf, cellsOf, hexBytes, polygonCell, entryBy, entryOf}
 use Rattle.sheet.proofs.EntryLaws.{entryOf-by}
 use Rattle.demands.specs.GivenLine.{FrameIs, GivenLine}
-use Rattle.demands.specs.Cells.{numberAt, RowRead}
+use Rattle.demands.specs.Cells.{numberAt, RefusedRow, RowRead}
 use Rattle.demands.proofs.FieldLaws.{number-few, verdict-few}
 use Rattle.demands.proofs.LineCallLaws.{frame-read, accepted-frame, line-given, line-judged, place-few, refusal-same, line-spellable}
-use Rattle.demands.proofs.CellLaws.{Decimals, polygon-below, row-read}
+use Rattle.demands.proofs.CellLaws.{Decimals, polygon-below, refused-read, row-read}
 
 facts-decimals : (ds : List ℕ) → length ds ≤ mostDigits → Decimals (factsOf origin ds)
 facts-decimals ds h =
@@ -51,13 +51,10 @@ module _ (s : List ℕ) (n : ℕ) (few : n < 10 ^ mostDecimals) where
   abbrev row : List ℕ
   row = cellOf n ++ entryOf s
 
-  pub row-refused : (q : Refusal) → GivenLine s (Refused q) → RowRead (cellOf n ++ entryOf s) n (refusalNumber q) (refusalPlace q) noFacts []
-  unfolding hexBytes
+  pub row-refused : (q : Refusal) → GivenLine s (Refused q) → RefusedRow (cellOf n ++ entryOf s) n (refusalNumber q) (refusalPlace q)
   row-refused q g =
-      let none : Decimals noFacts = record { verdict = omega arith; steps = omega arith; nodes = omega arith; corners = omega arith; j = omega arith; k = omega arith; area = omega arith } in
-      subst (λ (l : List ℕ). RowRead (cellOf n ++ l) n (refusalNumber q) (refusalPlace q) noFacts [])
-      (append-nil (cellsOf (refusalNumber q) (refusalPlace q) noFacts) ∙ entryOf-by s (Answer.Refused q) (line-judged s (Refused q) g))
-      (row-read n (refusalNumber q) (refusalPlace q) noFacts [] few (omega (arith, number-few q)) (omega (arith, place-few q g)) none tt)
+      subst (λ (l : List ℕ). RefusedRow (cellOf n ++ l) n (refusalNumber q) (refusalPlace q)) (entryOf-by s (Answer.Refused q) (line-judged s (Refused q) g))
+      (refused-read n (refusalNumber q) (refusalPlace q) few (omega (arith, number-few q)) (omega (arith, place-few q g)))
 
   module _ (os : List ℕ) (frame : FrameIs s 0 os) (g : GivenLine s Good) where
     abbrev left : List ℕ

@@ -28,7 +28,7 @@ use Rattle.line_frame.specs.Program.{outputFrom, feedsIn, answered, program}
 use Rattle.line_frame.specs.Converted.{Turned, convertedLine, converter}
 use Rattle.line_room.specs.Told.{spansTold, refusedTold, rowsTold}
 use Rattle.sheet.specs.Sizes.{mostDecimals}
-use Rattle.sheet.specs.Entry.{cellOf, noFacts, entryOf}
+use Rattle.sheet.specs.Entry.{cellOf, entryOf}
 use Rattle.sheet.specs.Sheet.{linesIn}
 use Rattle.line_frame.proofs.LineLaws as lineLaws
 use Rattle.line_frame.proofs.ConvertedLaws as convertedLaws
@@ -36,7 +36,7 @@ use Rattle.line_frame.proofs.OutputLaws as outputLaws
 use Rattle.demands.specs.Shares.{endedParts, outputsOf}
 use Rattle.demands.specs.GivenLine.{FrameIs, GivenLine, GivenLineRoom}
 use Rattle.demands.specs.Fields.{RefusalRead, AnswerRead, SpansRead}
-use Rattle.demands.specs.Cells.{numberAt, RowRead}
+use Rattle.demands.specs.Cells.{numberAt, RefusedRow, RowRead}
 use Rattle.demands.proofs.ShareLaws as shareLaws
 use Rattle.demands.proofs.LineCallLaws as lineCallLaws
 use Rattle.demands.proofs.LineRoomLaws as lineRoomLaws
@@ -143,8 +143,8 @@ row-refused-exactly = lineRowLaws.row-refused-exactly
 pub row-accepted-exactly : (s : List ℕ) (n : ℕ) → n < 10 ^ mostDecimals → numberAt (cellOf n ++ entryOf s) 1 ≡ 0 ↔ GivenLine s Good
 row-accepted-exactly = lineRowLaws.row-accepted-exactly
 
--- what is read in its cells: all else is 0 where a line is refused
-pub row-refused-read : (s : List ℕ) (n : ℕ) → n < 10 ^ mostDecimals → (q : Refusal) → GivenLine s (Refused q) → RowRead (cellOf n ++ entryOf s) n (refusalNumber q) (refusalPlace q) noFacts []
+-- what is read in its cells: nothing after the refusal and its place if a line is refused
+pub row-refused-read : (s : List ℕ) (n : ℕ) → n < 10 ^ mostDecimals → (q : Refusal) → GivenLine s (Refused q) → RefusedRow (cellOf n ++ entryOf s) n (refusalNumber q) (refusalPlace q)
 row-refused-read = lineRowLaws.row-refused
 
 -- otherwise the facts, with the bytes of the polygon of a room, and no byte for a walk that is none

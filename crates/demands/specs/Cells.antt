@@ -1,5 +1,5 @@
 -- What a reader finds in a row of the table of polygons (RULES 20.2, 20.3). Assumes nothing.
-use Rattle.lists.specs.Lists.{_≡_, Bool, true, false, cond, List, [], _∷_, length, getD, ℕ, _+_, _-_, _*_, eqb, ℤ, pos, negℤ}
+use Rattle.lists.specs.Lists.{_≡_, Bool, true, false, cond, List, [], _∷_, length, getD, ℕ, _+_, _-_, _*_, _≤_, eqb, ℤ, pos, negℤ}
 use Rattle.answer.specs.declared.Facts.{Facts}
 use Rattle.answer.specs.Refusal.{verdictNumber}
 use Rattle.line_frame.specs.Hex.{valueOf}
@@ -37,6 +37,14 @@ cellAt l i = getD (cellsIn l) i []
 
 abbrev pub numberAt : List ℕ → ℕ → ℕ
 numberAt l i = decimalFrom 0 (cellAt l i)
+
+-- row n of a refused line: its number, the refusal's number r and place i, and nothing in all cells after these
+pub record RefusedRow (l : List ℕ) (n r i : ℕ) : Type 0 where
+  pub cells : length (cellsIn l) ≡ 11
+  pub id : numberAt l 0 ≡ n
+  pub number : numberAt l 1 ≡ r
+  pub place : numberAt l 2 ≡ i
+  pub empty : (k : ℕ) → 3 ≤ k → cellAt l k ≡ []
 
 -- row n: its number, the refusal's number r and place i, verdict, n, nodes, different corners, j, k, area, and the bytes of the polygon
 pub record RowRead (l : List ℕ) (n r i : ℕ) (f : Facts) (bytes : List ℕ) : Type 0 where

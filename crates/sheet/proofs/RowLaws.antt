@@ -3,7 +3,7 @@
 use mathlib.Core.Path.{_≡_, refl, sym, ap, _∙_}
 use mathlib.Core.Bool.{Bool, true, false, not, cond}
 use mathlib.Core.List.{List, [], _∷_, _++_, append-assoc}
-use Prim.Native.Nat.{ℕ, suc, _+_, _<_}
+use Prim.Native.Nat.{ℕ, zero, suc, _+_, _<_}
 use native.Mathlib.Omega.{arith}
 use lib.IntN.{ℤ, pos, negsuc}
 use lib.Dec.{eqb}
@@ -25,7 +25,7 @@ use Rattle.line_frame.proofs.HexLaws.{none-append, field-feeds}
 use Rattle.line_room.specs.Walked.{lineWalked}
 use Rattle.sheet.specs.Decimal.{decimalOf, signedOf}
 use Rattle.sheet.specs.Sizes.{mostDecimals}
-use Rattle.sheet.specs.Entry.{cellOf, cellsOf, noFacts, hexBytes, polygonCell, entryBy, entryOf}
+use Rattle.sheet.specs.Entry.{cellOf, cellsOf, emptyCells, refusedCells, hexBytes, polygonCell, entryBy, entryOf}
 use Rattle.sheet.specs.Sheet.{entered, entries, numberedFrom, entriesFrom, beginsAfter, linesIn, header, sheet}
 use Rattle.sheet.proofs.NumberLaws.{decimal-feeds, cell-feeds, numbered-feeds}
 
@@ -60,9 +60,17 @@ polygon-feeds w = go (isRoom origin w)
     go true = bytes-feeds (polygonOf origin w)
     go false = refl
 
+empty-feeds : (k : ℕ) → feedsIn (emptyCells k) ≡ 0
+unfolding emptyCells
+empty-feeds zero = refl
+empty-feeds (suc k) = none-append (emptyCells k) (44 ∷ []) (empty-feeds k) refl
+
+refused-feeds : (number place : ℕ) → feedsIn (refusedCells number place) ≡ 0
+refused-feeds number place = none-append (cellOf number ++ cellOf place) (emptyCells 7) (none-append (cellOf number) (cellOf place) (cell-feeds number) (cell-feeds place)) (empty-feeds 7)
+
 by-feeds : (a : Answer) (w : List ℕ) → feedsIn (entryBy a w) ≡ 0
 by-feeds (walked.Accepted f) w = none-append (cellsOf 0 0 f) (polygonCell w) (cells-feeds 0 0 f) (polygon-feeds w)
-by-feeds (walked.Refused r) w = cells-feeds (refusalNumber r) (refusalPlace r) noFacts
+by-feeds (walked.Refused r) w = refused-feeds (refusalNumber r) (refusalPlace r)
 
 -- what is said of a line is one line
 entry-feeds : (s : List ℕ) → feedsIn (entryOf s) ≡ 0

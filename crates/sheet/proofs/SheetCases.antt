@@ -14,7 +14,7 @@ use Rattle.line_frame.specs.Program.{outputFrom}
 use Rattle.line_frame.proofs.Bytes as text
 use Rattle.line_room.specs.Walked.{lineWalked}
 use Rattle.sheet.specs.Decimal.{decimalOf, signedOf}
-use Rattle.sheet.specs.Entry.{hexBytes, entryOf}
+use Rattle.sheet.specs.Entry.{emptyCells, hexBytes, entryOf}
 use Rattle.sheet.specs.Sheet.{header, numberedFrom, sheet}
 
 -- the names of the columns
@@ -44,12 +44,12 @@ pub no-room : entryOf (text.bytesOf "00000202") ≡ text.bytesOf "0,0,5,2,2,2,0,
 unfolding entryOf lineWalked frameOf allHex valuesOf numberFrom decimalOf hexBytes hexOf text.bytesOf
 no-room = refl
 
-pub retired : entryOf (text.bytesOf "0100014") ≡ text.bytesOf "19,0,0,0,0,0,0,0,0,"
-unfolding entryOf lineWalked frameOf allHex valuesOf numberFrom decimalOf text.bytesOf
+pub retired : entryOf (text.bytesOf "0100014") ≡ text.bytesOf "19,0,,,,,,,,"
+unfolding entryOf lineWalked frameOf allHex valuesOf numberFrom decimalOf emptyCells text.bytesOf
 retired = refl
 
-pub refused : entryOf (text.bytesOf "00000205") ≡ text.bytesOf "4,1,0,0,0,0,0,0,0,"
-unfolding entryOf lineWalked frameOf allHex valuesOf numberFrom decimalOf text.bytesOf
+pub refused : entryOf (text.bytesOf "00000205") ≡ text.bytesOf "4,1,,,,,,,,"
+unfolding entryOf lineWalked frameOf allHex valuesOf numberFrom decimalOf emptyCells text.bytesOf
 refused = refl
 
 -- every line has its number, the last too
@@ -58,6 +58,6 @@ unfolding numberedFrom decimalOf text.bytesOf
 numbers = refl
 
 -- a whole input: an empty line is no frame, and the last line may lack its line feed
-pub whole : sheet (text.bytesOf "\n00000202") ≡ header ++ text.bytesOf "1,9,0,0,0,0,0,0,0,0,\n2,0,0,5,2,2,2,0,2,0,\n"
-unfolding outputFrom numberedFrom entryOf lineWalked frameOf allHex valuesOf numberFrom decimalOf hexBytes hexOf text.bytesOf
+pub whole : sheet (text.bytesOf "\n00000202") ≡ header ++ text.bytesOf "1,9,0,,,,,,,,\n2,0,0,5,2,2,2,0,2,0,\n"
+unfolding outputFrom numberedFrom entryOf lineWalked frameOf allHex valuesOf numberFrom decimalOf emptyCells hexBytes hexOf text.bytesOf
 whole = refl

@@ -22,7 +22,7 @@ use Rattle.line_frame.specs.Hex.{hexOf}
 use Rattle.line_frame.proofs.HexLaws.{length-hexOf}
 use Rattle.sheet.specs.Decimal.{decimalOf, signedOf}
 use Rattle.sheet.specs.Sizes.{mostDecimals, mostCell, mostPolygon, mostEntry}
-use Rattle.sheet.specs.Entry.{cellOf, cellsOf, noFacts, hexBytes, polygonCell, entryBy}
+use Rattle.sheet.specs.Entry.{cellOf, cellsOf, emptyCells, refusedCells, hexBytes, polygonCell, entryBy}
 
 pub length-decimalOf : (k n : ℕ) → length (decimalOf k n) ≤ k
 unfolding decimalOf
@@ -62,6 +62,16 @@ length-cellsOf number place f =
     let h8 : length l8 ≤ 8 * mostCell = cell-more l7 (f .k) (7 * mostCell) h7 in
     omega (arith, h8, length-append l8 (signedOf mostDecimals (f .area)), length-append (l8 ++ signedOf mostDecimals (f .area)) (44 ∷ []), length-signedOf mostDecimals (f .area))
 
+pub length-emptyCells : (k : ℕ) → length (emptyCells k) ≡ k
+unfolding emptyCells
+length-emptyCells zero = refl
+length-emptyCells (suc k) = omega (arith, length-append (emptyCells k) (44 ∷ []), length-emptyCells k)
+
+length-refusedCells : (number place : ℕ) → length (refusedCells number place) ≤ 2 * mostCell + 7
+length-refusedCells number place =
+    let l2 : List ℕ = cellOf number ++ cellOf place in
+    omega (arith, cell-more (cellOf number) place mostCell (length-cellOf number), length-append l2 (emptyCells 7), length-emptyCells 7)
+
 pub length-hexBytes : (s : List ℕ) → length (hexBytes s) ≡ 2 * length s
 unfolding hexBytes
 length-hexBytes [] = refl
@@ -94,4 +104,4 @@ polygonCell-most w h = go (isRoom origin w)
 
 pub entryBy-most : (a : Answer) (w : List ℕ) → length w ≤ mostDigits → length (entryBy a w) + 1 ≤ mostEntry
 entryBy-most (walked.Accepted f) w h = omega (arith, length-append (cellsOf 0 0 f) (polygonCell w), length-cellsOf 0 0 f, polygonCell-most w h)
-entryBy-most (walked.Refused r) w h = omega (arith, length-cellsOf (refusalNumber r) (refusalPlace r) noFacts)
+entryBy-most (walked.Refused r) w h = omega (arith, length-refusedCells (refusalNumber r) (refusalPlace r))

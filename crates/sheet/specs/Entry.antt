@@ -1,7 +1,7 @@
 -- What the sheet says of a line, without its number and its line feed (RULES 20.2, 20.3). Assumes nothing.
-use Rattle.lists.specs.Lists.{cond, List, [], _∷_, _++_, ℕ, pos}
+use Rattle.lists.specs.Lists.{cond, List, [], _∷_, _++_, ℕ, zero, suc}
 use Rattle.grid.specs.Grid.{origin}
-use Rattle.answer.specs.declared.{Facts.Facts, Answer.Answer, Verdict.the-variants.Nowhere}
+use Rattle.answer.specs.declared.{Facts.Facts, Answer.Answer}
 use Rattle.answer.specs.Refusal.{refusalNumber, refusalPlace, verdictNumber}
 use Rattle.steps.specs.Operations.{survivors}
 use Rattle.room.specs.Room.{isRoom}
@@ -28,9 +28,14 @@ cellsOf number place f =
     ++ signedOf mostDecimals (f .area)
     ++ (44 ∷ [])
 
--- a refused answer is 0 in all else
-abbrev pub noFacts : Facts
-noFacts = record { verdict = Nowhere; steps = 0; nodes = 0; corners = 0; j = 0; k = 0; area = pos 0; last = origin }
+-- so many cells with nothing in them
+unfoldable pub emptyCells : ℕ → List ℕ
+emptyCells zero = []
+emptyCells (suc k) = emptyCells k ++ (44 ∷ [])
+
+-- a refusal's number and place, and none of the seven facts
+abbrev pub refusedCells : ℕ → ℕ → List ℕ
+refusedCells number place = cellOf number ++ cellOf place ++ emptyCells 7
 
 -- bytes in hexadecimal, two digits each
 unfoldable pub hexBytes : List ℕ → List ℕ
@@ -44,7 +49,7 @@ polygonCell w = cond (isRoom origin w) (hexBytes (polygonOf origin w)) []
 -- an answer to a walk of which the steps w survive
 abbrev pub entryBy : Answer → List ℕ → List ℕ
 entryBy (Answer.Accepted f) w = cellsOf 0 0 f ++ polygonCell w
-entryBy (Answer.Refused r) w = cellsOf (refusalNumber r) (refusalPlace r) noFacts
+entryBy (Answer.Refused r) w = refusedCells (refusalNumber r) (refusalPlace r)
 
 -- what is said of a line: its walk's answer, and the polygon of the steps that survive
 unfoldable pub entryOf : List ℕ → List ℕ

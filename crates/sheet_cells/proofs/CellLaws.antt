@@ -20,8 +20,8 @@ use Rattle.line_fields.specs.Put.{Wrote}
 use Rattle.line_fields.proofs.PutLaws.{put-one, wrote-append, wrote-nil, length-put}
 use Rattle.sheet.specs.Decimal.{decimalOf, signedOf}
 use Rattle.sheet.specs.Sizes.{mostDecimals, mostCell}
-use Rattle.sheet.specs.Entry.{cellOf, cellsOf, hexBytes}
-use Rattle.sheet.proofs.SizeLaws.{length-decimalOf, length-signedOf, length-cellOf, length-hexBytes}
+use Rattle.sheet.specs.Entry.{cellOf, cellsOf, emptyCells, refusedCells, hexBytes}
+use Rattle.sheet.proofs.SizeLaws.{length-decimalOf, length-signedOf, length-cellOf, length-emptyCells, length-hexBytes}
 
 -- one byte
 pub wrote-byte : (b at : ℕ) (a : List ℕ) → at < length a → Wrote (b ∷ []) at a (at + 1) (set a at b)
@@ -96,6 +96,25 @@ length-two v w = omega (arith, length-append (cellOf v) (cellOf w), length-cellO
 -- two cells
 pub wrote-two : (v w at : ℕ) {i e : ℕ} {a b c : List ℕ} → at + 2 * mostCell ≤ length a → Wrote (cellOf v) at a i b → Wrote (cellOf w) i b e c → Wrote (cellOf v ++ cellOf w) at a e c
 wrote-two v w at h p q = wrote-append p q (omega (arith, length-cellOf v, length-cellOf w))
+
+-- no empty cell, and one more
+pub empty-none : (k at : ℕ) (a : List ℕ) → k ≡ 0 → Wrote (emptyCells k) at a at a
+unfolding emptyCells
+empty-none zero at a e = wrote-nil at a
+empty-none (suc k) at a e = absurd (omega arith)
+
+pub empty-more : (k at : ℕ) {e : ℕ} {a b : List ℕ} → (k ≡ 0 → ⊥) → at + k ≤ length a → Wrote (emptyCells (k - 1)) at a e b → Wrote (emptyCells k) at a (e + 1) (set b e 44)
+unfolding emptyCells
+empty-more zero at z l w = absurd (z refl)
+empty-more (suc k) at {e} {a} {b} z l w =
+    let j : suc k - 1 ≡ k = omega arith in
+    let v : Wrote (emptyCells k) at a e b = subst (λ (i : ℕ). Wrote (emptyCells i) at a e b) j w in
+    wrote-then (emptyCells k) 44 at v (omega (arith, length-emptyCells k))
+
+-- a refusal, and the cells of the facts, which are empty
+pub wrote-refusal : (number place at : ℕ) {i e : ℕ} {a b c : List ℕ} → at + 2 * mostCell + 7 ≤ length a → Wrote (cellOf number ++ cellOf place) at a i b → Wrote (emptyCells 7) i b e c
+    → Wrote (refusedCells number place) at a e c
+wrote-refusal number place at h p q = wrote-append p q (omega (arith, length-two number place, length-emptyCells 7))
 
 -- four pairs of cells, the area and a comma
 pub wrote-cells : (number place v at : ℕ) (f : Facts) (z : ℤ) {i j k l e : ℕ} {a b c d g o : List ℕ} → at + 9 * mostCell + 1 ≤ length a → v ≡ verdictNumber (f .verdict) → z ≡ f .area

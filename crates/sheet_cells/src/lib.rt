@@ -9,7 +9,7 @@ ghost use Rattle.line_frame.specs.Hex.{hexOf};
 ghost use Rattle.line_fields.specs.Put.{Wrote};
 ghost use Rattle.sheet.specs.Decimal.{decimalOf, signedOf};
 ghost use Rattle.sheet.specs.Sizes.{mostDecimals, mostCell};
-ghost use Rattle.sheet.specs.Entry.{cellOf, cellsOf, hexBytes};
+ghost use Rattle.sheet.specs.Entry.{cellOf, cellsOf, emptyCells, refusedCells, hexBytes};
 
 // The cells.
 pub struct Cell;
@@ -84,6 +84,28 @@ pub fn spell_cells(out: &mut [u8], at: usize, number: usize, place: usize, f: Fa
     let e = spell_signed(out, d, f.area);
     out[e] = 44;
     e + 1
+}
+
+// Writes k cells with nothing in them.
+fn spell_empty(out: &mut [u8], at: usize, k: usize) -> usize
+    requires { ⌜ at + k ≤ length (now out) ⌝ }
+    ensures { λ e. ⌜ Wrote (emptyCells k) at (now (out .entry)) e (now (out .exit)) ⌝ }
+{
+    if k == 0 {
+        return at;
+    }
+    let next = spell_empty(out, at, k - 1);
+    out[next] = 44;
+    next + 1
+}
+
+// Writes a refusal's number and place, each with a comma after it, and no facts.
+pub fn spell_refusal(out: &mut [u8], at: usize, number: usize, place: usize) -> usize
+    requires { ⌜ at + 2 * mostCell + 7 ≤ length (now out) ⌝ }
+    ensures { λ e. ⌜ Wrote (refusedCells number place) at (now (out .entry)) e (now (out .exit)) ⌝ }
+{
+    let next = spell_two(out, at, number, place);
+    spell_empty(out, next, 7)
 }
 
 // Writes the byte, in two digits.

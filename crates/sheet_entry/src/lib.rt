@@ -3,13 +3,13 @@ use answer::Answer;
 use answer::Counted;
 use answer::Facts;
 use answer::Refusal;
-use answer::Verdict;
 use grid::Corner;
 use line_frame::Frame;
 use line_walk::walk_line;
 use sheet_cells::Cell;
 use sheet_cells::spell_bytes;
 use sheet_cells::spell_cells;
+use sheet_cells::spell_refusal;
 ghost use mathlib.Core.Path.{_≡_};
 ghost use mathlib.Core.List.{[]};
 ghost use Prim.Native.Nat.{_+_, _*_, _≤_};
@@ -56,24 +56,14 @@ fn enter_accepted(f: Facts, steps: &[u8], out: &mut [u8], at: usize) -> usize
     enter_polygon(steps, out, next)
 }
 
-// Writes a refusal: its number and place, and 0 in all else.
+// Writes a refusal: its number and place, and no facts.
 fn enter_refused(r: Refusal, out: &mut [u8], at: usize) -> usize
     requires { ⌜ at + mostEntry ≤ length (now out) ⌝ }
     ensures { λ e. ⌜ Wrote (entryBy (walked.Refused r) []) at (now (out .entry)) e (now (out .exit)) ⌝ }
 {
     let number = answer::refusal_number(r);
     let place = answer::refusal_place(r);
-    let none = Facts {
-        verdict: Verdict::Nowhere,
-        steps: 0,
-        nodes: 0,
-        corners: 0,
-        j: 0,
-        k: 0,
-        area: 0,
-        last: Corner(0, 0),
-    };
-    spell_cells(out, at, number, place, none)
+    spell_refusal(out, at, number, place)
 }
 
 // Writes what is said of the line s from the place at on, without its line feed. Answers the place after it.

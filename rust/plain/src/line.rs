@@ -60,7 +60,7 @@ fn entry(line: &[u8]) -> String {
     let (facts, chain) = match judge(line) {
         Ok(accepted) => accepted,
         Err(refusal) => {
-            return format!("{},{},0,0,0,0,0,0,0,", refusal.number(), refusal.place());
+            return format!("{},{},,,,,,,,", refusal.number(), refusal.place());
         }
     };
     let (j, k) = facts.meeting.unwrap_or((NO_MEETING, NO_MEETING));

@@ -148,7 +148,7 @@ impl Judge {
             Err(refusal) => {
                 spell_cell(out, refusal.number().into());
                 spell_cell(out, refusal.place().into());
-                out.extend(b"0,0,0,0,0,0,0,");
+                out.extend(b",,,,,,,");
             }
         }
         out.push(b'\n');

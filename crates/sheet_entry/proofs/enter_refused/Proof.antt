@@ -3,7 +3,7 @@
 use mathlib.Core.Path.{subst₂}
 use Prim.Native.Nat.{ℕ}
 use Rattle.line_fields.specs.Put.{Wrote}
-use Rattle.sheet.specs.Entry.{cellsOf, noFacts}
+use Rattle.sheet.specs.Entry.{refusedCells}
 use borrow.Author.Needs.{needs}
 use Rattle.sheet_entry.proofs.enter_refused.Statement.{statement}
 use Rattle.sheet_entry.proofs.enter_refused.Tie as tie
@@ -11,8 +11,8 @@ use Rattle.sheet_entry.proofs.enter_refused.Tie as tie
 returns : tie.Need-returns
 returns c =
     let a = c .before .before .before .before .before .before .before .args in
-    let r = c .before .before .spell-cells in
-    subst₂ (λ (m n : ℕ). Wrote (cellsOf m n noFacts) (a .at) (a .out .now) (r .result) (r .last .0)) (c .before .before .before .before .before .refusal-number .ensures .0) (c .before .before .before .before .refusal-place .ensures) (r .ensures)
+    let r = c .before .before .spell-refusal in
+    subst₂ (λ (m n : ℕ). Wrote (refusedCells m n) (a .at) (a .out .now) (r .result) (r .last .0)) (c .before .before .before .before .before .refusal-number .ensures .0) (c .before .before .before .before .refusal-place .ensures) (r .ensures)
 
 pub enter-refused-spec : {M : Type 1} → statement M
 enter-refused-spec =
