@@ -46,6 +46,7 @@ int write_bytes(const void *from, size_t n);
 /* The commands: each gives its status. */
 int run_lines(int (*proved)(int, char **), int in_words);
 int explain(void), outline(void), hull(void), convex(void), spans(void), chains(void), overlay(void), table(void), draw(void), dxf(void), summary(void);
+int page(void);
 
 /* What options tell: rooms are drawn apart, their polygons are written too, and the file for refused lines, or null. */
 extern int apart, with_polygons;

@@ -34,6 +34,7 @@ TEXT(convex_help);
 TEXT(spans_help);
 TEXT(overlay_help);
 TEXT(table_help);
+TEXT(page_help);
 TEXT(records_sample);
 TEXT(old_records_sample);
 TEXT(rooms_sample);
@@ -45,7 +46,7 @@ TEXT(tenant_sample);
 #define OF(name) {name, name##_end}
 
 /* What a command takes besides --help, --sample and files. */
-enum { PRETTY = 1, RECORDS = 2, FORMS = 4, APART = 8, REFUSED = 16, PAIRED = 32, WKB = 64 };
+enum { PRETTY = 1, RECORDS = 2, FORMS = 4, APART = 8, REFUSED = 16, PAIRED = 32, WKB = 64, NO_INPUT = 128 };
 
 struct command {
     const char *name;
@@ -71,6 +72,7 @@ static const struct command commands[] = {
     {"spans", OF(spans_help), OF(orders_sample), NULL, spans, RECORDS | FORMS},
     {"overlay", OF(overlay_help), OF(landlord_sample), NULL, overlay, RECORDS | FORMS | PAIRED},
     {"table", OF(table_help), OF(picture_sample), NULL, table, RECORDS | FORMS},
+    {"page", OF(page_help), OF(page_help), NULL, page, NO_INPUT},
 };
 
 static const struct text all = OF(all_help), common = OF(common_help), of_records = OF(records_help), tenant = OF(tenant_sample);
@@ -198,8 +200,10 @@ static int run(char **words, int count) {
     }
     if ((asked.sampled || asked.record != NULL) && count > 0) return misused(*words);
     if (asked.sampled && asked.record != NULL) return misused("--sample and --record");
+    if (chosen->takes & NO_INPUT && (asked.sampled || count > 0)) return misused(asked.sampled ? "--sample" : *words);
     if (with_polygons && form == SENTENCES) form = CSV;
     if (fcntl(1, F_GETFD) < 0) return fail("standard output is closed");
+    if (chosen->takes & NO_INPUT) return chosen->shown();
     if (chosen->takes & PAIRED) {
         int status = take_pair(words, count);
         return status == WHOLE ? chosen->shown() : status;

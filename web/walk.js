@@ -1,0 +1,223 @@
+// SPDX-License-Identifier: MIT
+// The view of one walk: keys and taps make steps, and after each the picture and the words are those of the walk so far.
+import { PANEL_MILLIMETRES, ROOM, bytesOfHex } from "./undrwyth.js";
+import { OPERATION_NAMES, convexWord, cornerText, counted, meetingCorner, refusalSentence, walkSentence } from "./words.js";
+import { pictureFile, stepOfTap, walkPicture } from "./picture.js";
+import { dxfOf, geojsonOf, hexOf, numberedRows, rowsCsv, saveFile } from "./save.js";
+import { judgeLine, lineOf, recordOf } from "./record.js";
+import { bytesOfFile, byId, element, isTyping, numberIn, roomFor, say, showFacts, showFault, stepOfKey, table } from "./parts.js";
+import { fillSheet } from "./sheet.js";
+
+const MOST_MARKS = 1000; // lines of the table of marks
+
+/** All that the proved calls answer of a walk: hull and outline, and of a room rows, convexity and polygon. */
+export function known(judge, walk, start) {
+  const { chain } = walk, answers = { walk, start, hull: judge.hull(chain, start), outline: judge.outline(chain, start) };
+  if (walk.verdict !== ROOM) return { ...answers, spans: null };
+  const { spans } = judge.rows(chain, start), { convex } = judge.convex(chain, start), { wkb } = judge.polygonOfRoom(chain, start);
+  return { ...answers, spans, convex, wkb };
+}
+
+/** Width and height of the box around a walk's hull, in panels. */
+export function sizeOf(hull) {
+  const [xs, ys] = [0, 1].map((axis) => hull.corners.map((corner) => corner[axis]));
+  return [Math.max(...xs) - Math.min(...xs), Math.max(...ys) - Math.min(...ys)];
+}
+
+/** 6000 as 6,000 */
+export const spaced = (number) => number.toLocaleString("en");
+
+export class WalkView {
+  #judge;
+  #ops = "";
+  #start = [0, 0];
+  #known = null; // what is known of the walk that is shown; null if the record is refused
+  #frame = null;
+  #picture = null;
+  #shown; // told whenever another record is shown
+
+  constructor(judge, shown) {
+    this.#judge = judge;
+    this.#shown = shown;
+    this.#listenToKeys();
+    this.#listenToForm();
+    this.#listenToFiles();
+    for (const id of ["show-hull", "show-outline", "show-rows"]) byId(id).addEventListener("change", () => this.draw());
+    byId("marks-details").addEventListener("toggle", () => this.#showMarks());
+  }
+
+  get ops() {
+    return this.#ops;
+  }
+
+  get start() {
+    return this.#start;
+  }
+
+  /** What is known of the walk, or null. */
+  get known() {
+    return this.#known;
+  }
+
+  #listenToKeys() {
+    document.addEventListener("keydown", (event) => {
+      const step = stepOfKey(event.key);
+      if (byId("view-walk").hidden || step < 0 || isTyping(event)) return;
+      event.preventDefault();
+      this.step(step);
+    });
+    for (const button of document.querySelectorAll("[data-step]")) button.addEventListener("click", () => this.step(Number(button.dataset.step)));
+    byId("clear").addEventListener("click", () => {
+      this.show("", this.#start);
+      byId("picture").focus();
+    });
+    byId("picture").addEventListener("click", (event) => this.#tap(event));
+  }
+
+  /** A tap near one of the four next corners is a step. */
+  #tap(event) {
+    const step = this.#known ? stepOfTap(this.#frame, this.#picture, event, this.#known.walk.last) : -1;
+    if (step >= 0) this.step(step);
+  }
+
+  #listenToForm() {
+    byId("record-form").addEventListener("submit", (event) => {
+      event.preventDefault();
+      this.open(byId("record").value.trim(), [numberIn("start-x"), numberIn("start-y")]);
+    });
+    byId("copy-record").addEventListener("click", () => this.#copy(recordOf(this.#ops), "The record is copied."));
+    byId("copy-link").addEventListener("click", () => this.#copy(location.href, "A link to this record is copied."));
+  }
+
+  async #copy(text, said) {
+    try {
+      await navigator.clipboard.writeText(text);
+      say(byId("copied"), said);
+    } catch { // a page from a disk may not be allowed to: the record is chosen, and the reader copies it
+      byId("record").select();
+      say(byId("copied"), document.execCommand("copy") ? said : "It is chosen: copy it with Ctrl and C.");
+    }
+  }
+
+  #listenToFiles() {
+    const save = (id, name, type, content) => byId(id).addEventListener("click", () => saveFile(name, content(), type));
+    save("save-svg", "walk.svg", "image/svg+xml", () => pictureFile(this.#picture));
+    save("save-csv", "rows.csv", "text/csv", () => rowsCsv(this.#known.spans));
+    save("save-wkb", "room.wkb", "application/octet-stream", () => this.#known.wkb);
+    save("save-hex", "room.hex", "text/plain", () => hexOf(this.#known.wkb) + "\n");
+    save("save-geojson", "room.geojson", "application/geo+json", () => geojsonOf({ ...this.#known, record: recordOf(this.#ops) }));
+    save("save-dxf", "room.dxf", "application/dxf", () => dxfOf(this.#known));
+    byId("print").addEventListener("click", () => window.print());
+    byId("open-file").addEventListener("change", async () => {
+      const [file] = byId("open-file").files;
+      if (file) this.openPolygon(await bytesOfFile(file));
+    });
+    byId("open-form").addEventListener("submit", (event) => {
+      event.preventDefault();
+      this.openPolygon(new TextEncoder().encode(byId("open-hex").value));
+    });
+  }
+
+  /** Opens a polygon: bytes of Well-Known Binary, or the hexadecimal digits of them. Binary begins with 0 or 1, which is no digit. */
+  openPolygon(bytes) {
+    const binary = bytes.length > 0 && bytes[0] <= 1;
+    const file = binary ? bytes : bytesOfHex(new TextDecoder().decode(bytes));
+    if (file === null) return say(byId("open-words"), "refused: the text is not hexadecimal, two digits a byte");
+    const read = this.#judge.chainOfPolygon(file);
+    if (read.refusal) return say(byId("open-words"), "refused: " + refusalSentence(read.refusal));
+    say(byId("open-words"), `a polygon of ${counted(read.steps, "step")} from ${cornerText(read.start)}`);
+    this.show(read.digits, read.start);
+  }
+
+  /** One operation more. A step that the judge refuses is not taken, and the reason is said. */
+  step(operation) {
+    const ops = this.#ops + operation, walk = this.#judge.walk(ops, this.#start, { table: false });
+    if (walk.refusal) return say(byId("words"), `refused: ${refusalSentence(walk.refusal, "the byte", 4)}`);
+    this.#accept(ops, this.#start, walk);
+  }
+
+  /** Shows the record of a line; a start that stands in the line counts more than the one that is given. */
+  open(line, start = [0, 0]) {
+    const read = judgeLine(this.#judge, line.includes(",") ? line : `${start[0]},${start[1]},${line}`, { table: false });
+    if (read.walk) return this.#accept(read.ops, read.start, read.walk);
+    this.#refuse(line, read, line.includes(",") ? 0 : read.line.length - line.length);
+  }
+
+  /** Shows operations, given as digits, from a start. */
+  show(ops, start) {
+    const walk = this.#judge.walk(ops, start, { table: false });
+    if (walk.refusal) return say(byId("words"), `refused: ${refusalSentence(walk.refusal, "the byte", 4)}`);
+    this.#accept(ops, start, walk);
+  }
+
+  #accept(ops, start, walk) {
+    this.#ops = ops;
+    this.#start = start;
+    this.#known = known(this.#judge, walk, start);
+    byId("record").value = recordOf(ops);
+    [byId("start-x").value, byId("start-y").value] = start;
+    showFault(byId("record-fault"), "", -1);
+    say(byId("words"), walkSentence(walk, start));
+    this.draw();
+    this.#showFacts();
+    this.#showRoom();
+    this.#showMarks();
+    fillSheet(this.#known, recordOf(ops));
+    this.#shown(lineOf(ops, start));
+  }
+
+  /** A refused record stays in its field, with its fault marked below; the walk that was shown before stays too. */
+  #refuse(line, read, before) {
+    byId("record").value = line;
+    showFault(byId("record-fault"), line, read.fault < 0 ? -1 : read.fault - before);
+    say(byId("words"), `refused: ${read.sentence}`);
+  }
+
+  /** Draws the picture anew, as after a change of the window's width. */
+  draw() {
+    if (!this.#known) return;
+    const { walk, start, hull, outline, spans } = this.#known, place = byId("picture");
+    const drawn = walkPicture({
+      walk, start, spans, hull: byId("show-hull").checked ? hull : null, around: hull.corners[0],
+      outline: byId("show-outline").checked ? outline : null, numbered: byId("show-rows").checked, next: true, title: walkSentence(walk, start),
+    }, { ...roomFor(place), margin: 2, least: [5, 3] });
+    this.#frame = drawn.frame;
+    this.#picture = drawn.element;
+    place.replaceChildren(drawn.element);
+  }
+
+  #showFacts() {
+    const { walk, start, hull } = this.#known, [width, height] = sizeOf(hull), at = meetingCorner(walk, start);
+    const meets = walk.meeting && `at ${cornerText(at)}: corner ${walk.meeting[0]} is corner ${walk.meeting[1]}`;
+    showFacts(byId("facts"), [
+      ["First meeting", meets ?? "none"], ["Surviving steps", spaced(walk.steps)], ["Operations", spaced(this.#ops.length)],
+      ["Stands at", cornerText(walk.last)], ["Different corners", spaced(walk.corners)], ["Nodes", spaced(walk.nodes)],
+      ["Hull", `${counted(hull.count, "corner")}, ${spaced(width)} by ${spaced(height)} panels`],
+      ["Outline", counted(this.#known.outline.count, "step")],
+    ]);
+  }
+
+  #showRoom() {
+    const { walk, spans, convex, hull } = this.#known;
+    byId("room").hidden = spans === null;
+    if (spans === null) return;
+    const [width, height] = sizeOf(hull).map((panels) => spaced(panels * PANEL_MILLIMETRES));
+    byId("room-words").textContent = `${counted(walk.panels, "panel")}, ${convexWord(convex)}, ${width} by ${height} mm`;
+    byId("rows").replaceChildren(rowsTable(spans));
+  }
+
+  /** The table of marks, made when it is unfolded. */
+  #showMarks() {
+    if (!this.#known || !byId("marks-details").open) return;
+    const { marks } = this.#known.walk;
+    const lines = marks.slice(0, MOST_MARKS).map(({ nodes, visits, changed }, i) => [i, OPERATION_NAMES[this.#ops[i]], nodes, visits, changed]);
+    const more = marks.length > MOST_MARKS ? [element("p", {}, `These are the first ${spaced(MOST_MARKS)} of ${spaced(marks.length)}.`)] : [];
+    byId("marks").replaceChildren(table(["place", "*operation", "nodes", "visits", "records changed"], lines), ...more);
+  }
+}
+
+/** The rows of a room, numbered from the south. */
+export function rowsTable(spans) {
+  const lines = numberedRows(spans).map(({ number, row, first, last, panels }) => [number, row, first, last, panels, spaced(panels * PANEL_MILLIMETRES)]);
+  return table(["row", "y", "first x", "last x", "panels", "mm"], lines);
+}
