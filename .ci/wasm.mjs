@@ -1,6 +1,7 @@
 // Makes the calls that `cases` of rust/compare writes to standard input in WebAssembly modules, and compares the result and every byte of every lent buffer,
-// with the bytes around it, with those of the native library: node .ci/wasm.mjs MODULE.. < cases
+// with the bytes around it, with those of the native library; and makes them with the binding of web/ too: node .ci/wasm.mjs MODULE.. < cases
 import { readFileSync } from "node:fs";
+import { boundCalls, compareBinding } from "../web/tests/binding.mjs";
 
 const MARGIN = 16; // bytes before and after a buffer that no call may touch
 
@@ -89,8 +90,10 @@ for (let name; (name = await buffer()); ) {
   for (const [letter] of args) if (letter === "l" || letter === "a") after.push(await buffer());
   name = name.toString();
   for (const module of modules) ask(module, name, args, result, after);
+  compareBinding(name, args, result, after);
   asked[name] = (asked[name] ?? 0) + 1;
 }
 const calls = Object.values(asked).reduce((sum, n) => sum + n, 0);
 if (calls === 0) throw new Error("no call was read");
 console.log(`${modules.map((module) => module.path).join(", ")}: ${calls} calls of ${Object.keys(asked).length} functions each, ${bytes} bytes as native`);
+console.log(boundCalls());

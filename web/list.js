@@ -101,7 +101,8 @@ export class RecordsView {
       panels += entry.panels;
     }
     const all = this.#entries.length;
-    say(byId("totals"), all === 0 ? "There are no lines yet." : `${counted(all, "line")}: ${counted(counts[ROOM], "room")} with ${counted(panels, "panel")}, ${spaced(counts[REFUSED])} refused.`);
+    const many = (count, thing) => counted(count, thing).replace(count, spaced(count));
+    say(byId("totals"), all === 0 ? "There are no lines yet." : `${many(all, "line")}: ${many(counts[ROOM], "room")} with ${many(panels, "panel")}, ${spaced(counts[REFUSED])} refused.`);
     const button = (kind, name, count) => {
       const made = element("button", { type: "button", "aria-pressed": String(kind === this.#kind) }, `${name}: ${spaced(count)}`);
       made.dataset.kind = kind;

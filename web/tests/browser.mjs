@@ -154,7 +154,8 @@ export class Tab {
 
   /** Clicks in the middle of an element, which is brought into view. */
   async tap(selector) {
-    const [x, y] = await this.ask(`(() => { const e = document.querySelector(${JSON.stringify(selector)}); e.scrollIntoView({ block: "center" });
+    const [x, y] = await this.ask(`(async () => { const e = document.querySelector(${JSON.stringify(selector)}); e.scrollIntoView({ block: "center" });
+      await new Promise((drawn) => requestAnimationFrame(() => requestAnimationFrame(drawn)));
       const b = e.getBoundingClientRect(); return [b.left + b.width / 2, b.top + b.height / 2]; })()`);
     await this.click(x, y);
   }
