@@ -24,7 +24,7 @@ export function linesOf(text) {
 
 /** What the list holds of a judged line. */
 function entryOf(judge, line) {
-  const { walk, start, key, sentence, fault, line: text } = judgeLine(judge, line, { table: false });
+  const { walk, start, key, sentence, fault, line: text } = judgeLine(judge, line, { table: false, marks: false });
   if (!walk) return { text, key, kind: REFUSED, panels: 0, fault, words: `refused: ${sentence}` };
   return { text, key, kind: walk.verdict, panels: walk.panels, fault: -1, words: walkSentence(walk, start) };
 }
@@ -191,7 +191,7 @@ export class RecordsView {
     if (!entry) say(byId("chosen-words"), "Choose a line with the arrow keys or a tap: here is its picture.");
     else byId("chosen-words").textContent = `Line ${spaced(this.#seen[this.#selected] + 1)}${entry.key ? `, ${entry.key}` : ""}: ${entry.words}`;
     if (!entry || entry.kind === REFUSED) return place.replaceChildren();
-    const { walk, start } = judgeLine(this.#judge, entry.text, { table: false });
+    const { walk, start } = judgeLine(this.#judge, entry.text, { table: false, marks: false });
     const { hull, spans } = known(this.#judge, walk, start);
     place.replaceChildren(walkPicture({ walk, start, hull, spans, outline: null, title: entry.words }, { ...roomFor(place, 320), most: 32, least: [6, 2] }).element);
   }

@@ -113,11 +113,19 @@ export function gridLayer(frame, { numbers = true } = {}) {
   return [grid, ...below, ...left];
 }
 
-/** Spans of panels, a rectangle each. */
+/** Spans of panels as rectangles: those that are the same in row after row are one. */
 export function spansLayer(frame, spans, attributes) {
-  const { px, py } = frame;
-  return spans.map(({ row, first, last }) => svg("rect", {
-    x: px(first), y: py(row + 1), width: rounded(px(last + 1) - px(first)), height: rounded(py(row) - py(row + 1)), ...attributes,
+  const { px, py } = frame, open = new Map(), blocks = [];
+  for (const { row, first, last } of spans) {
+    const name = `${first} ${last}`, below = open.get(name);
+    if (below?.to === row - 1) below.to = row;
+    else {
+      open.set(name, { first, last, from: row, to: row });
+      blocks.push(open.get(name));
+    }
+  }
+  return blocks.map(({ first, last, from, to }) => svg("rect", {
+    x: px(first), y: py(to + 1), width: rounded(px(last + 1) - px(first)), height: rounded(py(from) - py(to + 1)), ...attributes,
   }));
 }
 

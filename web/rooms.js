@@ -38,7 +38,7 @@ export class RoomsView {
   /** The room of a field, or null after the reason was said. */
   #room(which) {
     const start = [numberIn(`${which}-x`), numberIn(`${which}-y`)], line = byId(which).value.trim(), before = `${start[0]},${start[1]},`;
-    const read = judgeLine(this.#judge, before + line, { table: false });
+    const read = judgeLine(this.#judge, before + line, { table: false, marks: false });
     showFault(byId(`${which}-fault`), line, read.fault < 0 ? -1 : read.fault - before.length);
     const wrong = read.walk === null ? `refused: ${read.sentence}` : read.walk.verdict === ROOM ? null : walkSentence(read.walk, start);
     if (wrong === null) return read;

@@ -63,7 +63,7 @@ export class TenantsView {
   }
 
   #show(bytes, starts) {
-    const answer = this.#judge.walkTwo(bytes, ...starts, { table: false });
+    const answer = this.#judge.walkTwo(bytes, ...starts, { table: false, marks: false });
     if (answer.refusal) {
       const fault = bytes.length > answer.refusal.place ? byteFault(bytes[answer.refusal.place]) : undefined;
       return say(byId("tenant-words"), `refused: ${refusalSentence(answer.refusal, fault, 4)}`);

@@ -105,6 +105,8 @@ function grouped(numbers, size) {
 
 const spansOf = (numbers) => grouped(numbers, SPAN_NUMBERS).map(([row, first, last]) => ({ row, first, last }));
 
+const marksOf = (numbers) => grouped(numbers, MARK_WORDS).map(([nodes, visits, changed]) => ({ nodes, visits, changed }));
+
 const textOf = (bytes) => Array.from(bytes, (byte) => String.fromCharCode(byte)).join("");
 
 const digitsOf = (steps) => Array.from(steps, String).join("");
@@ -164,9 +166,10 @@ export class Undrwyth {
   /**
    * Judges the walk of the operations from the start: verdict, steps, nodes, corners, meeting ([j, k] or null), area (signed),
    * panels, last ([x, y]), chain (the surviving steps), marks (for each operation nodes, visits, changed), and table: the words of
-   * the records in use, 25 each. `records` is the number of records to lend; without `table` the table is not copied.
+   * the records in use, 25 each. `records` is the number of records to lend; if `table` or `marks` is false, it is not copied, and
+   * is null.
    */
-  walk(ops, start = [0, 0], { records, table = true } = {}) {
+  walk(ops, start = [0, 0], { records, table = true, marks = true } = {}) {
     const bytes = bytesOfDigits(ops), n = Math.min(bytes.length, MOST_INPUT_BYTES), origin = numbersOfStart(start);
     // 4 c + 64 records are enough for c different corners, from (0,0) 4 c - 3; a walk has at most one more than it has steps
     const enough = 4 * (Math.min(n, MOST_STEPS) + 1) + (origin[0] || origin[1] ? 64 : -3);
@@ -175,8 +178,10 @@ export class Undrwyth {
     const [number, place, verdict, steps, nodes, ...rest] = words;
     if (number !== 0) return refused(number, place);
     const said = facts([verdict, steps, ...rest], take(2, steps));
-    const marks = grouped(take(1, MARK_WORDS * n), MARK_WORDS).map(([nodes, visits, changed]) => ({ nodes, visits, changed }));
-    return { refusal: null, ...said, nodes, marks, table: table ? new Uint32Array(take(0, RECORD_WORDS * nodes).buffer) : null };
+    return {
+      refusal: null, ...said, nodes, marks: marks ? marksOf(take(1, MARK_WORDS * n)) : null,
+      table: table ? new Uint32Array(take(0, RECORD_WORDS * nodes).buffer) : null,
+    };
   }
 
   /**
@@ -184,7 +189,7 @@ export class Undrwyth {
    * digits a byte, and may have spaces. The answer has nodes, parties (two answers as of a walk, without nodes), marks, and table:
    * all words that were lent, 36 a record.
    */
-  walkTwo(ops, start0 = [0, 0], start1 = [0, 0], { records, table = true } = {}) {
+  walkTwo(ops, start0 = [0, 0], start1 = [0, 0], { records, table = true, marks = true } = {}) {
     const bytes = typeof ops === "string" ? bytesOfHex(ops) : bytesOfDigits(ops);
     if (bytes === null) throw new TypeError("a string for two parties has two hexadecimal digits a byte");
     const n = Math.min(bytes.length, MOST_INPUT_BYTES), starts = [...numbersOfStart(start0), ...numbersOfStart(start1)];
@@ -193,8 +198,10 @@ export class Undrwyth {
     const { words, take } = this.#ask("walk_two", [...starts, input(bytes), ...lent], 19);
     if (words[0] !== 0) return refused(words[0], words[1]);
     const parties = [0, 1].map((q) => facts(words.slice(3 + 8 * q, 11 + 8 * q), take(2 + q, words[4 + 8 * q])));
-    const marks = grouped(take(1, MARK_WORDS * n), MARK_WORDS).map(([nodes, visits, changed]) => ({ nodes, visits, changed }));
-    return { refusal: null, nodes: words[2], parties, marks, table: table ? new Uint32Array(take(0, tableWords).buffer) : null };
+    return {
+      refusal: null, nodes: words[2], parties, marks: marks ? marksOf(take(1, MARK_WORDS * n)) : null,
+      table: table ? new Uint32Array(take(0, tableWords).buffer) : null,
+    };
   }
 
   /** A call on a start and a chain that writes one list: its count and what was written. */

@@ -8,7 +8,7 @@ import { judgeLine, lineOf, recordOf } from "./record.js";
 import { bytesOfFile, byId, element, isTyping, numberIn, roomFor, say, showFacts, showFault, stepOfKey, table } from "./parts.js";
 import { fillSheet } from "./sheet.js";
 
-const MOST_MARKS = 1000; // lines of the table of marks
+const MOST_LINES = 1000; // of a table on the page
 
 /** All that the proved calls answer of a walk: hull and outline, and of a room rows, convexity and polygon. */
 export function known(judge, walk, start) {
@@ -108,6 +108,7 @@ export class WalkView {
     save("save-geojson", "room.geojson", "application/geo+json", () => geojsonOf({ ...this.#known, record: recordOf(this.#ops) }));
     save("save-dxf", "room.dxf", "application/dxf", () => dxfOf(this.#known));
     byId("print").addEventListener("click", () => window.print());
+    addEventListener("beforeprint", () => this.#known && fillSheet(this.#known, recordOf(this.#ops)));
     byId("open-file").addEventListener("change", async () => {
       const [file] = byId("open-file").files;
       if (file) this.openPolygon(await bytesOfFile(file));
@@ -162,7 +163,6 @@ export class WalkView {
     this.#showFacts();
     this.#showRoom();
     this.#showMarks();
-    fillSheet(this.#known, recordOf(ops));
     this.#shown(lineOf(ops, start));
   }
 
@@ -203,21 +203,24 @@ export class WalkView {
     if (spans === null) return;
     const [width, height] = sizeOf(hull).map((panels) => spaced(panels * PANEL_MILLIMETRES));
     byId("room-words").textContent = `${counted(walk.panels, "panel")}, ${convexWord(convex)}, ${width} by ${height} mm`;
-    byId("rows").replaceChildren(rowsTable(spans));
+    byId("rows").replaceChildren(...rowsTable(spans));
   }
 
   /** The table of marks, made when it is unfolded. */
   #showMarks() {
     if (!this.#known || !byId("marks-details").open) return;
     const { marks } = this.#known.walk;
-    const lines = marks.slice(0, MOST_MARKS).map(({ nodes, visits, changed }, i) => [i, OPERATION_NAMES[this.#ops[i]], nodes, visits, changed]);
-    const more = marks.length > MOST_MARKS ? [element("p", {}, `These are the first ${spaced(MOST_MARKS)} of ${spaced(marks.length)}.`)] : [];
-    byId("marks").replaceChildren(table(["place", "*operation", "nodes", "visits", "records changed"], lines), ...more);
+    const lines = marks.slice(0, MOST_LINES).map(({ nodes, visits, changed }, i) => [i, OPERATION_NAMES[this.#ops[i]], nodes, visits, changed]);
+    byId("marks").replaceChildren(table(["place", "*operation", "nodes", "visits", "records changed"], lines), ...firstOf(marks.length));
   }
 }
 
+/** A note below a table that does not have all lines. */
+const firstOf = (count) => (count > MOST_LINES ? [element("p", {}, `These are the first ${spaced(MOST_LINES)} of ${spaced(count)}.`)] : []);
+
 /** The rows of a room, numbered from the south. */
-export function rowsTable(spans) {
-  const lines = numberedRows(spans).map(({ number, row, first, last, panels }) => [number, row, first, last, panels, spaced(panels * PANEL_MILLIMETRES)]);
-  return table(["row", "y", "first x", "last x", "panels", "mm"], lines);
+function rowsTable(spans) {
+  const rows = numberedRows(spans.slice(0, MOST_LINES));
+  const lines = rows.map(({ number, row, first, last, panels }) => [number, row, first, last, panels, spaced(panels * PANEL_MILLIMETRES)]);
+  return [table(["row", "y", "first x", "last x", "panels", "mm"], lines), ...firstOf(spans.length)];
 }
