@@ -45,6 +45,13 @@ function lineInAddress() {
   }
 }
 
+function putIntoAddress(line) {
+  try {
+    history.replaceState(null, "", "#" + line);
+  } catch { // a page without an address of its own has no link
+  }
+}
+
 /** Bytes of the module that stands in the page. */
 function moduleBytes() {
   return Uint8Array.from(atob(byId("module").textContent), (character) => character.charCodeAt(0));
@@ -54,10 +61,11 @@ function moduleBytes() {
 async function begin(asked) {
   const judge = await loadUndrwyth(moduleBytes()), views = {};
   document.head.append(element("style", {}, PICTURE_STYLE));
-  let shown = null; // the line that the page has put into the address
+  let shown = null, later = 0; // the line that the page shows, and the timer that puts it into the address
   views.walk = new WalkView(judge, (line) => {
     shown = line;
-    history.replaceState(null, "", "#" + line);
+    clearTimeout(later);
+    later = setTimeout(() => putIntoAddress(line), 350); // some browsers allow few changes a second
   });
   views.records = new RecordsView(judge, (line) => {
     showView("walk", views);

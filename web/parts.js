@@ -73,3 +73,19 @@ export function isTyping(event) {
 
 /** The bytes of a file that the reader chose. */
 export const bytesOfFile = async (file) => new Uint8Array(await file.arrayBuffer());
+
+/** Puts a text on the clipboard: whether it is there. A page from a disk may have to do it in the old way, by a field that is marked. */
+export async function copyText(text) {
+  try {
+    await navigator.clipboard.writeText(text);
+    return true;
+  } catch {
+    const field = element("textarea", { value: text }), before = document.activeElement;
+    document.body.append(field);
+    field.select();
+    const done = document.execCommand("copy");
+    field.remove();
+    before?.focus();
+    return done;
+  }
+}

@@ -71,7 +71,7 @@ export function frameOf([west, south, east, north], { width = 720, height = 560,
   const wider = Math.max(0, least[0] - (east - west)), higher = Math.max(0, least[1] - (north - south));
   const [x0, y0] = [west - margin - Math.ceil(wider / 2), south - margin - Math.ceil(higher / 2)];
   const [x1, y1] = [east + margin + Math.floor(wider / 2), north + margin + Math.floor(higher / 2)];
-  const left = text * 3.2, below = text * 1.8, above = Math.max(rim, text * 0.6), right = Math.max(rim, text);
+  const left = text * 3.2, below = text * 1.8, above = Math.max(rim, text * 0.6), right = Math.max(rim, text * 1.6);
   const side = Math.max(0.01, Math.min(most, (width - left - right) / (x1 - x0), (height - below - above) / (y1 - y0)));
   const px = (x) => rounded(left + (x - x0) * side), py = (y) => rounded(above + (y1 - y) * side);
   return { x0, y0, x1, y1, side, text, px, py, left, above, rim, width: rounded(px(x1) + right), height: rounded(py(y0) + below) };
@@ -148,7 +148,7 @@ export function walkLayer(frame, chain, corners, look = "") {
 
 /** Arrow heads in the middle of steps: of each, or of so many that two are 24 pixels apart. */
 function arrowsOf(frame, chain, corners) {
-  const every = Math.max(1, Math.ceil(24 / frame.side)), long = Math.min(8, frame.side * 0.3), wide = long * 0.65;
+  const every = Math.max(1, Math.ceil(24 / frame.side)), long = every > 1 ? 6 : Math.min(8, frame.side * 0.3), wide = long * 0.65;
   const heads = [];
   for (let i = Math.floor((every - 1) / 2); i < chain.length; i += every) {
     const [dx, dy] = [(chain[i] === 0) - (chain[i] === 2), (chain[i] === 3) - (chain[i] === 1)];

@@ -1,6 +1,7 @@
 // SPDX-License-Identifier: MIT
 // Files that other programs open: what the proved calls wrote, in other forms.
 import { PANEL_MILLIMETRES } from "./undrwyth.js";
+import { counted } from "./words.js";
 
 /** Two hexadecimal digits a byte. */
 export const hexOf = (bytes) => Array.from(bytes, (byte) => byte.toString(16).padStart(2, "0")).join("");
@@ -19,33 +20,37 @@ export function geojsonOf({ wkb, walk, record, start }) {
   return JSON.stringify({ type: "Feature", properties, geometry: { type: "Polygon", coordinates: [ring] } }) + "\n";
 }
 
-/** A pair of DXF: its code and its value, a line each. */
-const pair = (code, value) => `${String(code).padStart(3)}\n${value}\n`;
+/** Groups of a DXF: a code and a value each, a line for either. */
+const groups = (...pairs) => pairs.map(([code, value]) => `${String(code).padStart(3)}\n${value}\n`).join("");
 
-/** The variables at the head of a drawing: its format, its unit (4 is the millimetre) and how far it reaches. */
-function dxfHeader(points) {
-  const [xs, ys] = [0, 1].map((axis) => points.map((point) => point[axis]));
-  const extent = (name, x, y) => pair(9, name) + pair(10, x) + pair(20, y) + pair(30, 0);
-  return pair(0, "SECTION") + pair(2, "HEADER") + pair(9, "$ACADVER") + pair(1, "AC1009") + pair(9, "$INSUNITS") + pair(70, 4)
-    + pair(9, "$MEASUREMENT") + pair(70, 1)
-    + extent("$EXTMIN", Math.min(...xs), Math.min(...ys)) + extent("$EXTMAX", Math.max(...xs), Math.max(...ys)) + pair(0, "ENDSEC");
+const dxfPoint = (code, [x, y]) => [[code, x], [code + 10, y], [code + 20, 0]];
+
+/** What stands before the drawing: release 12, the unit (4 is the millimetre), decimal numbers, one kind of line and one layer. */
+function dxfHead() {
+  const variables = [["$ACADVER", 1, "AC1009"], ["$INSUNITS", 70, 4], ["$MEASUREMENT", 70, 1], ["$LUNITS", 70, 2], ["$LUPREC", 70, 0]];
+  return groups(
+    [999, "undrwyth page, millimetres"], [0, "SECTION"], [2, "HEADER"], ...variables.flatMap(([name, code, value]) => [[9, name], [code, value]]), [0, "ENDSEC"],
+    [0, "SECTION"], [2, "TABLES"], [0, "TABLE"], [2, "LTYPE"], [70, 1], [0, "LTYPE"], [2, "CONTINUOUS"], [70, 0], [3, "Solid line"], [72, 65], [73, 0], [40, 0], [0, "ENDTAB"],
+    [0, "TABLE"], [2, "LAYER"], [70, 1], [0, "LAYER"], [2, "0"], [70, 0], [62, 7], [6, "CONTINUOUS"], [0, "ENDTAB"], [0, "ENDSEC"], [0, "SECTION"], [2, "ENTITIES"],
+  );
 }
 
-function dxfLayers(names) {
-  const layer = (name, colour) => pair(0, "LAYER") + pair(2, name) + pair(70, 0) + pair(62, colour) + pair(6, "CONTINUOUS");
-  return pair(0, "SECTION") + pair(2, "TABLES") + pair(0, "TABLE") + pair(2, "LAYER") + pair(70, names.length)
-    + names.map((name, i) => layer(name, i === 0 ? 7 : 8)).join("") + pair(0, "ENDTAB") + pair(0, "ENDSEC");
+/** A label in the middle of the room's longest span, and no wider than that. */
+function dxfLabel(layer, spans, words) {
+  const { row, first, last } = spans.reduce((longest, span) => (span.last - span.first > longest.last - longest.first ? span : longest));
+  const wide = (last - first + 1) * PANEL_MILLIMETRES, middle = [first * PANEL_MILLIMETRES + wide / 2, (row + 0.5) * PANEL_MILLIMETRES];
+  const high = Number(Math.min(PANEL_MILLIMETRES / 3, wide / (words.length + 1)).toPrecision(4));
+  return groups([0, "TEXT"], [8, layer], ...dxfPoint(10, middle), [40, high], [1, words], [72, 1], ...dxfPoint(11, middle), [73, 2]);
 }
 
-/** A room as a drawing for CAD: a closed polyline on the layer ROOM and a label with its panels, in millimetres. */
+/** A room as a drawing for CAD, as `undrwyth dxf` draws it: a closed polyline and a label with its panels, in millimetres. */
 export function dxfOf({ wkb, walk, spans }) {
-  const points = pointsOfWkb(wkb);
-  const vertex = ([x, y]) => pair(0, "VERTEX") + pair(8, "ROOM") + pair(10, x) + pair(20, y) + pair(30, 0);
-  const room = pair(0, "POLYLINE") + pair(8, "ROOM") + pair(66, 1) + pair(10, 0) + pair(20, 0) + pair(30, 0) + pair(70, 1)
-    + points.slice(0, -1).map(vertex).join("") + pair(0, "SEQEND") + pair(8, "ROOM");
-  const [x, y] = [(spans[0].first + 0.25) * PANEL_MILLIMETRES, (spans[0].row + 0.25) * PANEL_MILLIMETRES];
-  const label = pair(0, "TEXT") + pair(8, "LABEL") + pair(10, x) + pair(20, y) + pair(30, 0) + pair(40, 150) + pair(1, `${walk.panels} panels`);
-  return dxfHeader(points) + dxfLayers(["ROOM", "LABEL"]) + pair(0, "SECTION") + pair(2, "ENTITIES") + room + label + pair(0, "ENDSEC") + pair(0, "EOF");
+  const layer = "ROOM-1", corners = pointsOfWkb(wkb).slice(0, -1);
+  const outline = groups(
+    [0, "POLYLINE"], [8, layer], [66, 1], ...dxfPoint(10, [0, 0]), [70, 1],
+    ...corners.flatMap((point) => [[0, "VERTEX"], [8, layer], ...dxfPoint(10, point)]), [0, "SEQEND"], [8, layer],
+  );
+  return dxfHead() + outline + dxfLabel(layer, spans, `1: ${counted(walk.panels, "panel")}`) + groups([0, "ENDSEC"], [0, "EOF"]);
 }
 
 /** The rows of a room as a table: numbered from the south, with the coordinates of panels and what they measure. */

@@ -5,7 +5,7 @@ import { OPERATION_NAMES, convexWord, cornerText, counted, meetingCorner, refusa
 import { pictureFile, stepOfTap, walkPicture } from "./picture.js";
 import { dxfOf, geojsonOf, hexOf, numberedRows, rowsCsv, saveFile } from "./save.js";
 import { judgeLine, lineOf, recordOf } from "./record.js";
-import { bytesOfFile, byId, element, isTyping, numberIn, roomFor, say, showFacts, showFault, stepOfKey, table } from "./parts.js";
+import { bytesOfFile, byId, copyText, element, isTyping, numberIn, roomFor, say, showFacts, showFault, stepOfKey, table } from "./parts.js";
 import { fillSheet } from "./sheet.js";
 
 const MOST_LINES = 1000; // of a table on the page
@@ -86,17 +86,12 @@ export class WalkView {
       this.open(byId("record").value.trim(), [numberIn("start-x"), numberIn("start-y")]);
     });
     byId("copy-record").addEventListener("click", () => this.#copy(recordOf(this.#ops), "The record is copied."));
-    byId("copy-link").addEventListener("click", () => this.#copy(location.href, "A link to this record is copied."));
+    byId("copy-link").addEventListener("click", () => this.#copy(`${location.href.split("#")[0]}#${lineOf(this.#ops, this.#start)}`, "A link to this record is copied."));
   }
 
   async #copy(text, said) {
-    try {
-      await navigator.clipboard.writeText(text);
-      say(byId("copied"), said);
-    } catch { // a page from a disk may not be allowed to: the record is chosen, and the reader copies it
-      byId("record").select();
-      say(byId("copied"), document.execCommand("copy") ? said : "It is chosen: copy it with Ctrl and C.");
-    }
+    const done = await copyText(text);
+    say(byId("copied"), done ? said : "This browser does not let the page copy. Mark the record in its field, and copy it there.");
   }
 
   #listenToFiles() {

@@ -91,10 +91,12 @@ export class Browser {
     rmSync(this.#folder, { recursive: true, force: true, maxRetries: 5 });
   }
 
+  /** Ends the processes of the browser at once, and removes its folder. */
   kill() {
     try {
       process.kill(-this.#process.pid, "SIGKILL");
     } catch { /* it has ended */ }
+    rmSync(this.#folder, { recursive: true, force: true, maxRetries: 5, retryDelay: 100 });
   }
 }
 

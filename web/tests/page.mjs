@@ -82,7 +82,14 @@ const tests = {
       "open: 3 steps, from (0,0) to (0,1)", "a room of 1 panel, 4 steps, counterclockwise",
     ]);
     same("the record", await value("record"), "000006004123");
-    same("the address", await tab.ask("location.hash"), "#000006004123");
+    await tab.until(`location.hash === "#000006004123"`);
+    await browser.send("Browser.grantPermissions", { permissions: ["clipboardReadWrite"] });
+    for (const [button, copied, said] of [["copy-record", "000006004123", "The record is copied."], ["copy-link", address + "#000006004123", "A link to this record is copied."]]) {
+      await tab.tap("#" + button);
+      await tab.until(`document.getElementById("copied").textContent === "${said}"`);
+      same(button, await tab.ask("navigator.clipboard.readText()"), copied);
+    }
+    await tab.ask(`document.getElementById("picture").focus()`);
     await tab.press("ArrowLeft", "N", "S");
     same("crossed", await words(), "open and crossed: step 4 comes back to (0,0), where the walk began");
     same("the record goes on", await value("record"), "000009004123213");
@@ -116,15 +123,17 @@ const tests = {
     same("corners of the outline", await tab.ask(`document.querySelector("#picture .outline").getAttribute("points").split(" ").length`), 13);
     await tab.tap("#show-hull");
     same("no hull", await tab.ask(`document.querySelectorAll("#picture .hull").length`), 0);
+    await tab.size(1000, 640);
     await tab.go(address + "#00000c001100322223");
-    await shoot("page-walk", null, 0.55);
+    await shoot("page-walk", null, 0.7);
+    await tab.size(1280, 900);
   },
 
   async "a start of its own"() {
     await tab.go(address);
     await show("0123", 5, -7);
     same("words", await words(), "a room of 1 panel, 4 steps, counterclockwise");
-    same("the address", await tab.ask("location.hash"), "#5,-7,0000040123");
+    await tab.until(`location.hash === "#5,-7,0000040123"`);
     await show("00", -3, 4);
     same("words", await words(), "open: 2 steps, from (-3,4) to (-1,4)");
     await show("00", 20000, 0);
@@ -243,10 +252,12 @@ const tests = {
     const [geojson, dxf, svg] = [await saved("save-geojson", "room.geojson"), await saved("save-dxf", "room.dxf"), await saved("save-svg", "walk.svg")];
     same("GeoJSON", JSON.parse(geojson).geometry, { type: "Polygon", coordinates: [[[0, 0], [6000, 0], [6000, 2400], [0, 2400], [0, 0]]] });
     holds("DXF in millimetres", dxf.toString().includes("$INSUNITS\n 70\n4\n"));
+    const entities = (text) => text.slice(text.indexOf("ENTITIES"));
+    same("DXF as the command draws it", entities(dxf.toString()), entities(native("dxf", TEN_BY_FOUR + "\n")));
     holds("SVG", svg.toString().startsWith("<svg ") && !svg.toString().includes("var("));
     same("SVG is well formed", await tab.ask(`new DOMParser().parseFromString(${JSON.stringify(svg.toString())}, "image/svg+xml").querySelectorAll("parsererror").length`), 0);
     if (!has("ogrinfo")) return console.log("GDAL is not there: GeoJSON and DXF are not opened with it");
-    const area = (name, shape) => execFileSync("ogrinfo", ["-q", "-dialect", "SQLite", "-sql", `SELECT ST_Area(${shape}) AS area FROM ${name.endsWith("dxf") ? "entities WHERE Layer = 'ROOM'" : "room"}`, join(folder, name)], { encoding: "utf8" });
+    const area = (name, shape) => execFileSync("ogrinfo", ["-q", "-dialect", "SQLite", "-sql", `SELECT ST_Area(${shape}) AS area FROM ${name.endsWith("dxf") ? "entities WHERE Text IS NULL" : "room"}`, join(folder, name)], { encoding: "utf8" });
     holds("GDAL opens GeoJSON", /area \(Real\) = 14400000$/m.test(area("room.geojson", "geometry")));
     holds(`GDAL opens DXF: ${area("room.dxf", "ST_BuildArea(geometry)")}`, /area \(Real\) = 14400000$/m.test(area("room.dxf", "ST_BuildArea(geometry)")));
   },
@@ -423,7 +434,14 @@ async function contrast(one, other) {
 }
 
 const only = process.env.UNDRWYTH_ONLY;
-const late = setTimeout(() => { console.error("page.mjs: it takes too long"); browser.kill(); process.exit(1); }, 240000);
+const giveUp = (why) => () => {
+  console.error(`page.mjs: ${why}`);
+  browser.kill();
+  rmSync(folder, { recursive: true, force: true });
+  process.exit(1);
+};
+const late = setTimeout(giveUp("it takes too long"), 240000);
+for (const signal of ["SIGTERM", "SIGINT", "SIGHUP"]) process.once(signal, giveUp("it was stopped"));
 try {
   tab = await browser.open(address);
   await browser.send("Browser.setDownloadBehavior", { behavior: "allow", downloadPath: folder, eventsEnabled: true });
