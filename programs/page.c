@@ -61,7 +61,9 @@ static void put_base64(struct text bytes) {
     for (const unsigned char *at = bytes.from; at < bytes.to; at += 3) {
         size_t n = (size_t)(bytes.to - at);
         unsigned three = (unsigned)at[0] << 16 | (n > 1 ? (unsigned)at[1] << 8 : 0) | (n > 2 ? at[2] : 0);
-        char four[] = {digits[three >> 18], digits[three >> 12 & 63], n > 1 ? digits[three >> 6 & 63] : '=', n > 2 ? digits[three & 63] : '='};
+        char four[] = {digits[three >> 18], digits[three >> 12 & 63], '=', '='};
+        if (n > 1) four[2] = digits[three >> 6 & 63];
+        if (n > 2) four[3] = digits[three & 63];
         put(four, sizeof four);
     }
 }

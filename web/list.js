@@ -76,10 +76,11 @@ export class RecordsView {
   /** Judges all lines of a text, a slice of time after the other, and lists them. */
   async judgeText(text) {
     const run = ++this.#run, lines = linesOf(text), entries = [], began = performance.now(), bar = byId("progress");
-    while (entries.length < lines.length) {
+    const left = () => lines.length - entries.length;
+    while (left() > 0) {
       const until = performance.now() + SLICE;
-      while (entries.length < lines.length && performance.now() < until) entries.push(entryOf(this.#judge, lines[entries.length]));
-      if (entries.length === lines.length) break;
+      while (left() > 0 && performance.now() < until) entries.push(entryOf(this.#judge, lines[entries.length]));
+      if (left() === 0) break;
       bar.hidden = performance.now() - began < PATIENCE;
       bar.value = entries.length / lines.length;
       await new Promise((resume) => setTimeout(resume));
@@ -100,22 +101,24 @@ export class RecordsView {
       counts[entry.kind]++;
       panels += entry.panels;
     }
-    const all = this.#entries.length;
-    const many = (count, thing) => counted(count, thing).replace(count, spaced(count));
-    say(byId("totals"), all === 0 ? "There are no lines yet." : `${many(all, "line")}: ${many(counts[ROOM], "room")} with ${many(panels, "panel")}, ${spaced(counts[REFUSED])} refused.`);
-    const button = (kind, name, count) => {
-      const made = element("button", { type: "button", "aria-pressed": String(kind === this.#kind) }, `${name}: ${spaced(count)}`);
-      made.dataset.kind = kind;
-      made.addEventListener("click", () => this.#filterBy(kind));
-      return made;
-    };
+    const all = this.#entries.length, many = (count, thing) => counted(count, thing).replace(count, spaced(count));
+    const rooms = `${many(counts[ROOM], "room")} with ${many(panels, "panel")}`;
+    say(byId("totals"), all === 0 ? "There are no lines yet." : `${many(all, "line")}: ${rooms}, ${spaced(counts[REFUSED])} refused.`);
     const kinds = KINDS.map((name, kind) => [kind, name, counts[kind]]).filter(([, , count]) => count > 0);
-    byId("filters").replaceChildren(...(all === 0 ? [] : [[-1, "all", all], ...kinds]).map((one) => button(...one)));
+    byId("filters").replaceChildren(...(all === 0 ? [] : [[-1, "all", all], ...kinds]).map((one) => this.#filterButton(...one)));
+  }
+
+  #filterButton(kind, name, count) {
+    const made = element("button", { type: "button", "aria-pressed": String(kind === this.#kind) }, `${name}: ${spaced(count)}`);
+    made.dataset.kind = kind;
+    made.addEventListener("click", () => this.#filterBy(kind));
+    return made;
   }
 
   #filterBy(kind) {
     this.#kind = kind;
-    for (const button of byId("filters").children) button.setAttribute("aria-pressed", String(Number(button.dataset.kind) === kind));
+    for (const button of byId("filters").children)
+      button.setAttribute("aria-pressed", String(Number(button.dataset.kind) === kind));
     this.#filter();
   }
 
@@ -154,19 +157,20 @@ export class RecordsView {
   #row(place) {
     const number = this.#seen[place], entry = this.#entries[number];
     const record = element("span", { className: "record mono" }, `${number + 1}  `, ...marked(entry.text, entry.fault, 24));
-    const made = element("div", { className: "row", id: `row-${place}`, title: entry.words }, record, element("span", { className: "said" }, entry.words));
+    const said = element("span", { className: "said" }, entry.words);
+    const made = element("div", {
+      className: "row", id: `row-${place}`, title: entry.words, role: "option", "aria-selected": place === this.#selected,
+      "aria-posinset": place + 1, "aria-setsize": this.#seen.length,
+    }, record, said);
     made.dataset.place = place;
     made.style.top = `${place * this.#rowPixels}px`;
-    for (const [name, value] of [["role", "option"], ["aria-selected", place === this.#selected], ["aria-posinset", place + 1], ["aria-setsize", this.#seen.length]])
-      made.setAttribute(name, String(value));
     return made;
   }
 
   #key(event) {
     const page = Math.max(1, Math.floor(byId("list").clientHeight / this.#rowPixels) - 1), end = this.#seen.length - 1;
-    const to = {
-      ArrowDown: this.#selected + 1, ArrowUp: this.#selected - 1, PageDown: this.#selected + page, PageUp: this.#selected - page, Home: 0, End: end,
-    }[event.key];
+    const at = this.#selected;
+    const to = { ArrowDown: at + 1, ArrowUp: at - 1, PageDown: at + page, PageUp: at - page, Home: 0, End: end }[event.key];
     if (event.key === "Enter" && this.#selected >= 0) this.#open(this.#entries[this.#seen[this.#selected]].text);
     if (to === undefined) return;
     event.preventDefault();
@@ -185,14 +189,14 @@ export class RecordsView {
 
   /** The chosen line in full, with its words and a small picture. */
   #showChosen() {
-    const entry = this.#entries[this.#seen[this.#selected]], place = byId("chosen-picture");
+    const number = this.#seen[this.#selected], entry = this.#entries[number], place = byId("chosen-picture");
     byId("chosen-open").disabled = !entry || entry.kind === REFUSED;
     byId("chosen-line").replaceChildren(...(entry ? marked(entry.text, entry.fault) : []));
     if (!entry) say(byId("chosen-words"), "Choose a line with the arrow keys or a tap: here is its picture.");
-    else byId("chosen-words").textContent = `Line ${spaced(this.#seen[this.#selected] + 1)}${entry.key ? `, ${entry.key}` : ""}: ${entry.words}`;
+    else byId("chosen-words").textContent = `Line ${spaced(number + 1)}${entry.key ? `, ${entry.key}` : ""}: ${entry.words}`;
     if (!entry || entry.kind === REFUSED) return place.replaceChildren();
     const { walk, start } = judgeLine(this.#judge, entry.text, { table: false, marks: false });
-    const { hull, spans } = known(this.#judge, walk, start);
-    place.replaceChildren(walkPicture({ walk, start, hull, spans, outline: null, title: entry.words }, { ...roomFor(place, 320), most: 32, least: [6, 2] }).element);
+    const { hull, spans } = known(this.#judge, walk, start), small = { ...roomFor(place, 320), most: 32, least: [6, 2] };
+    place.replaceChildren(walkPicture({ walk, start, hull, spans, title: entry.words }, small).element);
   }
 }

@@ -91,5 +91,6 @@ async function begin(asked) {
 
 begin(lineInAddress()).catch((why) => {
   byId("failure").hidden = false;
-  byId("failure").textContent = `This page cannot run here: ${why.message}. It needs WebAssembly with BigInt, as browsers have since 2021.`;
+  const needs = "It needs WebAssembly with BigInt, as browsers have since 2021";
+  byId("failure").textContent = `This page cannot run here: ${why.message}. ${needs}.`;
 });

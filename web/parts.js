@@ -33,17 +33,17 @@ export function showFacts(list, facts) {
 
 /** A table with a line of names; a column whose name begins with a star has words, the others numbers. */
 export function table(names, lines) {
-  const word = names.map((name) => name.startsWith("*"));
-  const cell = (kind, text, i) => element(kind, { className: word[i] ? "word" : "" }, String(text));
-  const head = element("tr", {}, ...names.map((name, i) => element("th", { scope: "col", className: word[i] ? "word" : "" }, name.replace(/^\*/, ""))));
-  const body = lines.map((line) => element("tr", {}, ...line.map((text, i) => cell("td", text, i))));
-  return element("table", {}, element("thead", {}, head), element("tbody", {}, ...body));
+  const look = names.map((name) => (name.startsWith("*") ? "word" : ""));
+  const head = names.map((name, i) => element("th", { scope: "col", className: look[i] }, name.replace(/^\*/, "")));
+  const row = (line) => element("tr", {}, ...line.map((text, i) => element("td", { className: look[i] }, String(text))));
+  return element("table", {}, element("thead", {}, element("tr", {}, ...head)), element("tbody", {}, ...lines.map(row)));
 }
 
 /** A line of text with its faulty character marked; of a long line the part around it. */
 export function marked(line, fault, around = 60) {
   if (fault < 0) return [line.length > 2 * around ? line.slice(0, 2 * around) + "…" : line];
-  const character = String.fromCodePoint(line.codePointAt(fault) ?? 32), from = Math.max(0, fault - around), to = fault + character.length + around;
+  const character = String.fromCodePoint(line.codePointAt(fault) ?? 32);
+  const from = Math.max(0, fault - around), to = fault + character.length + around;
   const before = (from > 0 ? "…" : "") + line.slice(from, fault);
   const after = line.slice(fault + character.length, to) + (to < line.length ? "…" : "");
   return [before, element("mark", {}, character), after];
@@ -66,15 +66,14 @@ export function stepOfKey(key) {
 
 /** Whether a key is meant for the field that has the focus. */
 export function isTyping(event) {
-  const tag = event.target.tagName, type = event.target.type;
-  return event.ctrlKey || event.metaKey || event.altKey || event.target.getAttribute?.("role") === "tab" || tag === "TEXTAREA" || tag === "SELECT"
-    || (tag === "INPUT" && type !== "checkbox") || event.target.getAttribute?.("role") === "listbox" || event.target.classList?.contains("scrolled");
+  const meant = "textarea, input:not([type=checkbox]), [role=tab], [role=listbox], .scrolled";
+  return event.ctrlKey || event.metaKey || event.altKey || event.target.matches?.(meant);
 }
 
 /** The bytes of a file that the reader chose. */
 export const bytesOfFile = async (file) => new Uint8Array(await file.arrayBuffer());
 
-/** Puts a text on the clipboard: whether it is there. A page from a disk may have to do it in the old way, by a field that is marked. */
+/** Puts a text on the clipboard: whether it is there. A page from a disk may have to do it the old way, by a marked field. */
 export async function copyText(text) {
   try {
     await navigator.clipboard.writeText(text);

@@ -5,8 +5,8 @@ import { cornersOf, cornerText } from "./words.js";
 
 const SVG = "http://www.w3.org/2000/svg";
 
-// The looks of all parts of a picture. A colour is a variable of the page, which has a light and a dark one; what stands after the
-// comma is the light one, which a saved picture has.
+// The looks of all parts of a picture. A colour is a variable of the page, which has a light and a dark one; what stands after
+// the comma is the light one, which a saved picture has.
 export const PICTURE_STYLE = `
 .paper { fill: var(--paper, #ffffff); }
 .grid { fill: none; stroke: var(--grid, #cccccc); stroke-width: 1; }
@@ -30,7 +30,8 @@ export const PICTURE_STYLE = `
 .hull { fill: none; stroke: var(--hull, #3366cc); stroke-width: 1.5; stroke-dasharray: 6 4; }
 .outline { fill: none; stroke: var(--outline, #b0468f); stroke-width: 8; stroke-opacity: 0.45; stroke-linejoin: round; }
 .meeting { fill: none; stroke: var(--meeting, #cc2222); stroke-width: 3; }
-.meeting-label { fill: var(--meeting, #cc2222); font-family: sans-serif; font-weight: bold; paint-order: stroke; stroke: var(--paper, #ffffff); stroke-width: 4; }
+.meeting-label { fill: var(--meeting, #cc2222); font-family: sans-serif; font-weight: bold; }
+.meeting-label { paint-order: stroke; stroke: var(--paper, #ffffff); stroke-width: 4; }
 .start { fill: var(--ink, #222222); }
 .start.first { fill: var(--first, #0072b2); }
 .start.second { fill: var(--second, #a86a00); }
@@ -64,17 +65,20 @@ export function boxOf(...lists) {
 }
 
 /**
- * A frame for a box: `margin` panels more on each side, at most `width` by `height` pixels, a panel no larger than `most`. `text` is
- * the size of letters; the numbers of the axes have their room to the left and below.
+ * A frame for a box: `margin` panels more on each side and at least `least` panels, at most `width` by `height` pixels, a panel
+ * no larger than `most`. `text` is the size of letters; the numbers of the axes have their room to the left and below, and `rim`
+ * pixels above and to the right are for measures.
  */
-export function frameOf([west, south, east, north], { width = 720, height = 560, margin = 1, most = 44, text = 13, least = [0, 0], rim = 0 } = {}) {
+export function frameOf([west, south, east, north], options) {
+  const { width, height, margin, most, text, least, rim } = { margin: 1, most: 44, text: 13, least: [0, 0], rim: 0, ...options };
   const wider = Math.max(0, least[0] - (east - west)), higher = Math.max(0, least[1] - (north - south));
   const [x0, y0] = [west - margin - Math.ceil(wider / 2), south - margin - Math.ceil(higher / 2)];
   const [x1, y1] = [east + margin + Math.floor(wider / 2), north + margin + Math.floor(higher / 2)];
   const left = text * 3.2, below = text * 1.8, above = Math.max(rim, text * 0.6), right = Math.max(rim, text * 1.6);
   const side = Math.max(0.01, Math.min(most, (width - left - right) / (x1 - x0), (height - below - above) / (y1 - y0)));
   const px = (x) => rounded(left + (x - x0) * side), py = (y) => rounded(above + (y1 - y) * side);
-  return { x0, y0, x1, y1, side, text, px, py, left, above, rim, width: rounded(px(x1) + right), height: rounded(py(y0) + below) };
+  const size = { width: rounded(px(x1) + right), height: rounded(py(y0) + below) };
+  return { x0, y0, x1, y1, side, text, px, py, left, above, rim, ...size };
 }
 
 /** The corner that a pixel of a frame is nearest to. */
@@ -100,6 +104,13 @@ const multiples = (from, to, by) => {
   return found;
 };
 
+/** A piece of text in a picture. */
+function label(look, x, y, words, attributes = {}) {
+  return svg("text", { class: look, x: rounded(x), y: rounded(y), "text-anchor": "middle", ...attributes }, String(words));
+}
+
+const TO_THE_LEFT = { "text-anchor": "end" }, TO_THE_RIGHT = { "text-anchor": "start" };
+
 /** The grid, and the numbers of the axes below it and to its left. */
 export function gridLayer(frame, { numbers = true } = {}) {
   const { x0, y0, x1, y1, px, py, side, text } = frame, by = stride(side, 7);
@@ -108,8 +119,8 @@ export function gridLayer(frame, { numbers = true } = {}) {
   const grid = svg("path", { class: "grid", d: [...lines, ...across].join("") });
   if (!numbers) return [grid];
   const every = stride(side, text * 2.6);
-  const below = multiples(x0, x1, every).map((x) => svg("text", { class: "axis", x: px(x), y: py(y0) + text * 1.2, "text-anchor": "middle" }, String(x)));
-  const left = multiples(y0, y1, every).map((y) => svg("text", { class: "axis", x: px(x0) - 5, y: py(y) + text * 0.35, "text-anchor": "end" }, String(y)));
+  const below = multiples(x0, x1, every).map((x) => label("axis", px(x), py(y0) + text * 1.2, x));
+  const left = multiples(y0, y1, every).map((y) => label("axis", px(x0) - 5, py(y) + text * 0.35, y, TO_THE_LEFT));
   return [grid, ...below, ...left];
 }
 
@@ -161,49 +172,54 @@ function arrowsOf(frame, chain, corners) {
 
 /** The first meeting, ringed, with its corner and both steps. */
 export function meetingLayer(frame, corner, [j, k]) {
-  const [x, y] = [frame.px(corner[0]), frame.py(corner[1])], words = `${cornerText(corner)}: ${j === 0 ? "start" : `step ${j}`}, step ${k}`;
-  const long = words.length * frame.text * 0.6, left = Math.max(2, Math.min(x + 12, frame.width - long)); // as far to the right as it fits
-  const label = svg("text", { class: "meeting-label", x: rounded(left), y: y - 13 }, words);
-  return [svg("circle", { class: "meeting", cx: x, cy: y, r: 11 }), label];
+  const [x, y] = [frame.px(corner[0]), frame.py(corner[1])], before = j === 0 ? "start" : `step ${j}`;
+  const words = `${cornerText(corner)}: ${before}, step ${k}`, long = words.length * frame.text * 0.6;
+  const left = Math.max(2, Math.min(x + 12, frame.width - long)); // to the right of the ring, as far as it fits
+  return [svg("circle", { class: "meeting", cx: x, cy: y, r: 11 }), label("meeting-label", left, y - 13, words, TO_THE_RIGHT)];
 }
 
 /** Where the walk stands, and the four corners that a step leads to. */
 export function nextLayer(frame, [x, y]) {
   const ways = [[1, 0], [0, 1], [-1, 0], [0, -1]];
-  const dots = ways.map(([dx, dy]) => svg("circle", { class: "next", cx: frame.px(x + dx), cy: frame.py(y + dy), r: Math.min(7, frame.side / 3) }));
+  const r = Math.min(7, frame.side / 3);
+  const dots = ways.map(([dx, dy]) => svg("circle", { class: "next", cx: frame.px(x + dx), cy: frame.py(y + dy), r }));
   return [...dots, svg("circle", { class: "here", cx: frame.px(x), cy: frame.py(y), r: 4.5 })];
 }
 
 /** The numbers of a room's rows from the south, 1 on, to the left of the grid; of the rows of a small picture not each. */
 export function rowNumbersLayer(frame, spans) {
   const rows = [...new Set(spans.map((span) => span.row))], every = stride(frame.side, frame.text * 1.15);
-  return rows.map((row, i) => [row, i + 1]).filter(([, number]) => number === 1 || number % every === 0).map(([row, number]) =>
-    svg("text", { class: "axis", x: frame.px(frame.x0) - 8, y: frame.py(row + 0.5) + frame.text * 0.35, "text-anchor": "end" }, String(number)));
+  const numbered = rows.map((row, i) => [row, i + 1]).filter(([, number]) => number === 1 || number % every === 0);
+  const [x, down] = [frame.px(frame.x0) - 8, frame.text * 0.35];
+  return numbered.map(([row, number]) => label("axis", x, frame.py(row + 0.5) + down, number, TO_THE_LEFT));
+}
+
+/** The length of the wall from (u,v) to (x,y), on the side where the inside is; nothing if there is no room for the number. */
+function wallLabel(frame, [u, v], [x, y], turn, length) {
+  const [dx, dy] = [Math.sign(x - u), Math.sign(y - v)], long = Math.abs(x - u) + Math.abs(y - v), words = length(long);
+  if (long * frame.side < frame.text * 0.6 * words.length + 8 || frame.side < frame.text) return [];
+  const inwards = frame.text * 0.95 * turn;
+  const [cx, cy] = [frame.px((x + u) / 2) - dy * inwards, frame.py((y + v) / 2) - dx * inwards];
+  const turned = dy !== 0 ? { transform: `rotate(-90 ${rounded(cx)} ${rounded(cy)})` } : {};
+  return [label("label halo", cx, cy, words, { "dominant-baseline": "central", ...turned })];
 }
 
 /**
- * The walls of a room between its bends, with their lengths where there is room for the number. `corners` are the bends in walking
- * order, the last the first; `turn` is 1 if the inside is on the left of the walls, and -1 if it is on the right.
+ * The walls of a room between its bends, with their lengths. `corners` are the bends in walking order, the last the first; `turn`
+ * is 1 if the inside is on the left of the walls, and -1 if it is on the right.
  */
 export function wallsLayer(frame, corners, turn, length) {
   const walls = svg("polygon", { class: "walk", points: pointsOf(frame, corners.slice(0, -1)) });
-  const labels = corners.slice(1).flatMap(([x, y], i) => {
-    const [u, v] = corners[i], [dx, dy] = [Math.sign(x - u), Math.sign(y - v)], words = length(Math.abs(x - u) + Math.abs(y - v));
-    if ((Math.abs(x - u) + Math.abs(y - v)) * frame.side < frame.text * 0.6 * words.length + 8 || frame.side < frame.text) return [];
-    const inwards = frame.text * 0.95, cx = rounded(frame.px((x + u) / 2) - dy * turn * inwards), cy = rounded(frame.py((y + v) / 2) - dx * turn * inwards);
-    const turned = dy !== 0 ? { transform: `rotate(-90 ${cx} ${cy})` } : {};
-    return [svg("text", { class: "label halo", x: cx, y: cy, "text-anchor": "middle", "dominant-baseline": "central", ...turned }, words)];
-  });
-  return [walls, ...labels];
+  return [walls, ...corners.slice(1).flatMap((corner, i) => wallLabel(frame, corners[i], corner, turn, length))];
 }
 
 /** A line with ticks at its ends and a number in its middle. */
 function measure(frame, [x, y], [u, v], words) {
   const upright = x === u, tick = upright ? [5, 0] : [0, 5];
-  const line = `M${x},${y}L${u},${v}` + [[x, y], [u, v]].map(([a, b]) => `M${a - tick[0]},${b - tick[1]}L${a + tick[0]},${b + tick[1]}`).join("");
+  const ticks = [[x, y], [u, v]].map(([a, b]) => `M${a - tick[0]},${b - tick[1]}L${a + tick[0]},${b + tick[1]}`);
   const [cx, cy] = [(x + u) / 2, (y + v) / 2], at = upright ? [cx + frame.text * 1.1, cy] : [cx, cy - 5];
   const turned = upright ? { transform: `rotate(90 ${at[0]} ${at[1]})` } : {};
-  return [svg("path", { class: "measure", d: line }), svg("text", { class: "label", x: at[0], y: at[1], "text-anchor": "middle", ...turned }, words)];
+  return [svg("path", { class: "measure", d: `M${x},${y}L${u},${v}${ticks.join("")}` }), label("label", ...at, words, turned)];
 }
 
 /** The width above and the height to the right of a box, in millimetres. */
@@ -217,14 +233,19 @@ export function measuresLayer(frame, [west, south, east, north], millimetres) {
 
 let patterns = 0; // patterns have names in the whole page, so each has one of its own
 
-/** The panels of the parts of two rooms. Each part has a colour and a pattern: stripes up, stripes down, dots. */
+// The marks in a square of a pattern: stripes up, stripes down, a dot.
+const PATTERN_MARKS = {
+  first: () => svg("path", { class: "line-first", d: "M-2,2L2,-2M0,10L10,0M8,12L12,8" }),
+  second: () => svg("path", { class: "line-second", d: "M-2,8L2,12M0,0L10,10M8,-2L12,2" }),
+  both: () => svg("circle", { class: "line-both", cx: 5, cy: 5, r: 2.2 }),
+};
+
+/** The panels of the parts of two rooms, each part with a colour and a pattern. */
 export function partsLayer(frame, { first, second, both }) {
-  const made = [["first", first, "M-2,2L2,-2M0,10L10,0M8,12L12,8"], ["second", second, "M-2,8L2,12M0,0L10,10M8,-2L12,2"], ["both", both, null]];
-  return made.flatMap(([name, part, lines]) => {
-    const id = `pattern-${name}-${++patterns}`;
-    const ground = svg("rect", { class: `ground-${name}`, width: 10, height: 10 });
-    const mark = lines ? svg("path", { class: `line-${name}`, d: lines }) : svg("circle", { class: "line-both", cx: 5, cy: 5, r: 2.2 });
-    const pattern = svg("pattern", { id, width: 10, height: 10, patternUnits: "userSpaceOnUse" }, ground, mark);
+  return Object.entries({ first, second, both }).flatMap(([name, part]) => {
+    const id = `pattern-${name}-${++patterns}`, ground = svg("rect", { class: `ground-${name}`, width: 10, height: 10 });
+    const square = { id, width: 10, height: 10, patternUnits: "userSpaceOnUse" };
+    const pattern = svg("pattern", square, ground, PATTERN_MARKS[name]());
     return [svg("defs", {}, pattern), ...spansLayer(frame, part.spans, { class: "part", fill: `url(#${id})` })];
   });
 }
@@ -232,8 +253,8 @@ export function partsLayer(frame, { first, second, both }) {
 /** The picture of its layers, from the ground up, with its title. */
 export function picture(frame, title, layers) {
   const { width, height, text } = frame;
-  return svg("svg", { viewBox: `0 0 ${width} ${height}`, width, height, "font-size": text, role: "img", "aria-label": title },
-    svg("title", {}, title), svg("rect", { class: "paper", width, height }), ...layers.flat());
+  const attributes = { viewBox: `0 0 ${width} ${height}`, width, height, "font-size": text, role: "img", "aria-label": title };
+  return svg("svg", attributes, svg("title", {}, title), svg("rect", { class: "paper", width, height }), ...layers.flat());
 }
 
 /** The picture of one walk. What is null is left out; `around` is the corner where the outline starts. */
@@ -257,7 +278,7 @@ function rowCountsLayer(frame, spans) {
   if (frame.side < frame.text) return [];
   return spans.map(({ row, first, last }) => {
     const [x, y] = [(frame.px(first) + frame.px(last + 1)) / 2, frame.py(row + 0.5) + frame.text * 0.35];
-    return svg("text", { class: "label", x, y, "text-anchor": "middle" }, String(last - first + 1));
+    return label("label", x, y, last - first + 1);
   });
 }
 

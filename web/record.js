@@ -1,6 +1,6 @@
 // SPDX-License-Identifier: MIT
-// Lines of text as walks, and back. A line is RECORD, KEY,RECORD, X,Y,RECORD or KEY,X,Y,RECORD, as for `undrwyth explain`; a record
-// is a frame or bare digits.
+// Lines of text as walks, and back. A line is RECORD, KEY,RECORD, X,Y,RECORD or KEY,X,Y,RECORD, as for `undrwyth explain`; a
+// record is a frame or bare digits.
 import { MOST_INPUT_BYTES, MOST_LINE_DIGITS, bytesOfDigits, refused } from "./undrwyth.js";
 import { byteFault, refusalSentence, textFault } from "./words.js";
 
@@ -31,25 +31,29 @@ function split(line) {
 }
 
 /**
- * What a line says: its key ("" if it has none), its start, its operations as bytes and as text, and where in the line they begin.
- * If it cannot be a record, `refusal` and `sentence` say why.
+ * What a line says: its key ("" if it has none), its start, its operations as bytes and as text, and where in the line they
+ * begin. If it cannot be a record, `refusal` and `sentence` say why.
  */
 export function readLine(given) {
-  const line = cleaned(given), { key, start, record, at } = split(line), said = { line, key: key.replace(/^"(.*)"$/, "$1"), start: start ?? [0, 0], at };
-  const refuse = (number, more = "") => ({ ...said, ...refused(number, 0), sentence: refusalSentence({ number, place: 0 }) + more });
+  const line = cleaned(given), { key, start, record, at } = split(line);
+  const said = { line, key: key.replace(/^"(.*)"$/, "$1"), start: start ?? [0, 0], at };
+  const refuse = (number, more = "") => {
+    const { refusal } = refused(number, 0);
+    return { ...said, refusal, sentence: refusalSentence(refusal) + more };
+  };
   if (start === null) return refuse(9, ": its start is not two whole numbers");
   if (record.length > MOST_INPUT_BYTES) return refuse(1);
   const kind = kindOf(record);
   if (kind === "none") return refuse(9);
   if (kind === "digits") return { ...said, refusal: null, ops: record, bytes: bytesOfDigits(record), framed: false };
   if (record[1] === "1") return refuse(19);
-  const ops = record.slice(HEAD);
-  return { ...said, refusal: null, ops, bytes: Uint8Array.from(ops, (digit) => parseInt(digit, 16)), framed: true, at: at + HEAD };
+  const ops = record.slice(HEAD), bytes = Uint8Array.from(ops, (digit) => parseInt(digit, 16));
+  return { ...said, refusal: null, ops, bytes, framed: true, at: at + HEAD };
 }
 
 /**
- * A line judged: what it says, its walk (null if it is refused), a sentence for its refusal, and the place of the faulty character
- * in the line, or -1.
+ * A line judged: what it says, its walk (null if it is refused), a sentence for its refusal, and the place of the faulty
+ * character in the line, or -1.
  */
 export function judgeLine(judge, given, options) {
   const said = readLine(given);
@@ -58,7 +62,8 @@ export function judgeLine(judge, given, options) {
   if (!walk.refusal) return { ...said, walk, sentence: null, fault: -1 };
   const { number, place } = walk.refusal, placed = number >= 4 && number <= 7;
   const what = said.framed ? byteFault(said.bytes[place]) : textFault(said.ops.slice(place));
-  return { ...said, walk: null, refusal: walk.refusal, sentence: refusalSentence(walk.refusal, what, 4), fault: placed ? said.at + place : -1 };
+  const sentence = refusalSentence(walk.refusal, what, 4);
+  return { ...said, walk: null, refusal: walk.refusal, sentence, fault: placed ? said.at + place : -1 };
 }
 
 /** The record of operations, given as digits: a frame if there are at most 1,024, and bare digits if there are more. */

@@ -7,7 +7,7 @@ import { judgeLine, recordOf } from "./record.js";
 import { partsCsv, saveFile } from "./save.js";
 import { byId, element, numberIn, roomFor, say, showFault } from "./parts.js";
 
-const PARTS = [["first", "in the first only, stripes up"], ["second", "in the second only, stripes down"], ["both", "in both, dots"]];
+const PARTS = { first: "in the first only, stripes up", second: "in the second only, stripes down", both: "in both, dots" };
 
 export class RoomsView {
   #judge;
@@ -37,12 +37,12 @@ export class RoomsView {
 
   /** The room of a field, or null after the reason was said. */
   #room(which) {
-    const start = [numberIn(`${which}-x`), numberIn(`${which}-y`)], line = byId(which).value.trim(), before = `${start[0]},${start[1]},`;
-    const read = judgeLine(this.#judge, before + line, { table: false, marks: false });
+    const start = [numberIn(`${which}-x`), numberIn(`${which}-y`)], before = `${start[0]},${start[1]},`;
+    const line = byId(which).value.trim(), read = judgeLine(this.#judge, before + line, { table: false, marks: false });
     showFault(byId(`${which}-fault`), line, read.fault < 0 ? -1 : read.fault - before.length);
-    const wrong = read.walk === null ? `refused: ${read.sentence}` : read.walk.verdict === ROOM ? null : walkSentence(read.walk, start);
-    if (wrong === null) return read;
-    say(byId("overlay-words"), `The ${which} record is not a room: ${wrong}`);
+    if (read.walk?.verdict === ROOM) return read;
+    const why = read.walk === null ? `refused: ${read.sentence}` : walkSentence(read.walk, start);
+    say(byId("overlay-words"), `The ${which} record is not a room: ${why}`);
     return null;
   }
 
@@ -61,19 +61,23 @@ export class RoomsView {
       byId("overlay-legend").replaceChildren();
       return place.replaceChildren();
     }
-    const { first, second, answer } = this.#laid, corners = [first, second].map(({ walk, start }) => cornersOf(walk.chain, start));
-    const frame = frameOf(boxOf(...corners), roomFor(place));
+    const { first, second, answer } = this.#laid;
+    const [one, other] = [first, second].map(({ walk, start }) => cornersOf(walk.chain, start));
+    const frame = frameOf(boxOf(one, other), roomFor(place));
     this.#picture = picture(frame, overlaySentence(answer), [
-      partsLayer(frame, answer), gridLayer(frame), walkLayer(frame, first.walk.chain, corners[0], "first"), walkLayer(frame, second.walk.chain, corners[1], "second"),
+      partsLayer(frame, answer), gridLayer(frame), walkLayer(frame, first.walk.chain, one, "first"),
+      walkLayer(frame, second.walk.chain, other, "second"),
     ]);
     place.replaceChildren(this.#picture);
-    byId("overlay-legend").replaceChildren(...PARTS.map(([name, words]) => element("li", {}, swatch(name), `${counted(answer[name].panels, "panel")} ${words}`)));
+    const item = ([name, words]) => element("li", {}, swatch(name), `${counted(answer[name].panels, "panel")} ${words}`);
+    byId("overlay-legend").replaceChildren(...Object.entries(PARTS).map(item));
   }
 }
 
 /** A small piece of a part's pattern. */
 function swatch(name) {
-  const one = { panels: 1, spans: [{ row: 0, first: 0, last: 0 }] }, none = { panels: 0, spans: [] };
+  const none = { spans: [] }, one = { spans: [{ row: 0, first: 0, last: 0 }] };
   const frame = { px: (x) => x * 40, py: (y) => (1 - y) * 28 };
-  return svg("svg", { viewBox: "0 0 40 28", "aria-hidden": "true" }, ...partsLayer(frame, { first: none, second: none, both: none, [name]: one }));
+  const layer = partsLayer(frame, { first: none, second: none, both: none, [name]: one });
+  return svg("svg", { viewBox: "0 0 40 28", "aria-hidden": "true" }, ...layer);
 }

@@ -14,7 +14,7 @@ export function pointsOfWkb(wkb) {
 }
 
 /** A room as GeoJSON: one polygon, counterclockwise as that format asks, in millimetres. */
-export function geojsonOf({ wkb, walk, record, start }) {
+export function geojsonOf({ wkb, walk, start }, record) {
   const points = pointsOfWkb(wkb), ring = walk.area > 0 ? points : points.reverse();
   const properties = { record, start, panels: walk.panels, steps: walk.steps, unit: "millimetre" };
   return JSON.stringify({ type: "Feature", properties, geometry: { type: "Polygon", coordinates: [ring] } }) + "\n";
@@ -25,22 +25,28 @@ const groups = (...pairs) => pairs.map(([code, value]) => `${String(code).padSta
 
 const dxfPoint = (code, [x, y]) => [[code, x], [code + 10, y], [code + 20, 0]];
 
-/** What stands before the drawing: release 12, the unit (4 is the millimetre), decimal numbers, one kind of line and one layer. */
+/** What stands before the drawing: release 12, the unit (4 is the millimetre), decimal numbers, a kind of line and a layer. */
 function dxfHead() {
-  const variables = [["$ACADVER", 1, "AC1009"], ["$INSUNITS", 70, 4], ["$MEASUREMENT", 70, 1], ["$LUNITS", 70, 2], ["$LUPREC", 70, 0]];
+  const units = [["$INSUNITS", 4], ["$MEASUREMENT", 1], ["$LUNITS", 2], ["$LUPREC", 0]];
   return groups(
-    [999, "undrwyth page, millimetres"], [0, "SECTION"], [2, "HEADER"], ...variables.flatMap(([name, code, value]) => [[9, name], [code, value]]), [0, "ENDSEC"],
-    [0, "SECTION"], [2, "TABLES"], [0, "TABLE"], [2, "LTYPE"], [70, 1], [0, "LTYPE"], [2, "CONTINUOUS"], [70, 0], [3, "Solid line"], [72, 65], [73, 0], [40, 0], [0, "ENDTAB"],
-    [0, "TABLE"], [2, "LAYER"], [70, 1], [0, "LAYER"], [2, "0"], [70, 0], [62, 7], [6, "CONTINUOUS"], [0, "ENDTAB"], [0, "ENDSEC"], [0, "SECTION"], [2, "ENTITIES"],
+    [999, "undrwyth page, millimetres"],
+    [0, "SECTION"], [2, "HEADER"], [9, "$ACADVER"], [1, "AC1009"], ...units.flatMap(([name, value]) => [[9, name], [70, value]]),
+    [0, "ENDSEC"], [0, "SECTION"], [2, "TABLES"],
+    [0, "TABLE"], [2, "LTYPE"], [70, 1], [0, "LTYPE"], [2, "CONTINUOUS"], [70, 0], [3, "Solid line"], [72, 65], [73, 0], [40, 0],
+    [0, "ENDTAB"], [0, "TABLE"], [2, "LAYER"], [70, 1], [0, "LAYER"], [2, "0"], [70, 0], [62, 7], [6, "CONTINUOUS"],
+    [0, "ENDTAB"], [0, "ENDSEC"], [0, "SECTION"], [2, "ENTITIES"],
   );
 }
 
 /** A label in the middle of the room's longest span, and no wider than that. */
 function dxfLabel(layer, spans, words) {
-  const { row, first, last } = spans.reduce((longest, span) => (span.last - span.first > longest.last - longest.first ? span : longest));
-  const wide = (last - first + 1) * PANEL_MILLIMETRES, middle = [first * PANEL_MILLIMETRES + wide / 2, (row + 0.5) * PANEL_MILLIMETRES];
+  const long = (span) => span.last - span.first + 1;
+  const { row, first, last } = spans.reduce((longest, span) => (long(span) > long(longest) ? span : longest));
+  const wide = long({ first, last }) * PANEL_MILLIMETRES;
+  const middle = [first * PANEL_MILLIMETRES + wide / 2, (row + 0.5) * PANEL_MILLIMETRES];
   const high = Number(Math.min(PANEL_MILLIMETRES / 3, wide / (words.length + 1)).toPrecision(4));
-  return groups([0, "TEXT"], [8, layer], ...dxfPoint(10, middle), [40, high], [1, words], [72, 1], ...dxfPoint(11, middle), [73, 2]);
+  const [at, again] = [dxfPoint(10, middle), dxfPoint(11, middle)];
+  return groups([0, "TEXT"], [8, layer], ...at, [40, high], [1, words], [72, 1], ...again, [73, 2]);
 }
 
 /** A room as a drawing for CAD, as `undrwyth dxf` draws it: a closed polyline and a label with its panels, in millimetres. */
@@ -55,8 +61,8 @@ export function dxfOf({ wkb, walk, spans }) {
 
 /** The rows of a room as a table: numbered from the south, with the coordinates of panels and what they measure. */
 export function rowsCsv(spans) {
-  const lines = numberedRows(spans).map(({ number, row, first, last, panels }) => [number, row, first, last, panels, panels * PANEL_MILLIMETRES].join(","));
-  return ["number,row,first,last,panels,millimetres", ...lines, ""].join("\n");
+  const line = ({ number, row, first, last, panels }) => [number, row, first, last, panels, panels * PANEL_MILLIMETRES].join(",");
+  return ["number,row,first,last,panels,millimetres", ...numberedRows(spans).map(line), ""].join("\n");
 }
 
 /** Spans with the number of their row, counted from the south from 1 on, and how many panels they have. */

@@ -6,6 +6,8 @@ import { boxOf, frameOf, gridLayer, meetingLayer, nextLayer, picture, stepOfTap,
 import { hexOf } from "./save.js";
 import { byId, isTyping, numberIn, roomFor, say, showFacts, stepOfKey } from "./parts.js";
 
+const CROSSED = [3, 4]; // the verdicts of walks that meet themselves elsewhere than with both ends
+
 export class TenantsView {
   #judge;
   #bytes = new Uint8Array();
@@ -21,7 +23,8 @@ export class TenantsView {
       this.open();
     });
     document.addEventListener("keydown", (event) => this.#key(event));
-    for (const button of document.querySelectorAll("[data-tenant-step]")) button.addEventListener("click", () => this.step(Number(button.dataset.tenantStep)));
+    for (const button of document.querySelectorAll("[data-tenant-step]"))
+      button.addEventListener("click", () => this.step(Number(button.dataset.tenantStep)));
     for (const id of ["tenant-0", "tenant-1"]) byId(id).addEventListener("change", () => this.draw());
     byId("tenant-picture").addEventListener("click", (event) => {
       const step = this.#answer ? stepOfTap(this.#frame, this.#picture, event, this.#answer.parties[this.#tenant].last) : -1;
@@ -96,9 +99,11 @@ export class TenantsView {
     const corners = parties.map((party, q) => cornersOf(party.chain, this.#starts[q]));
     const frame = frameOf(boxOf(...corners), { ...roomFor(place), margin: 2, least: [5, 3] });
     const walks = parties.map((party, q) => walkLayer(frame, party.chain, corners[q], q === 0 ? "first" : "second"));
-    const crossed = parties.map((party, q) => (party.verdict === 3 || party.verdict === 4 ? meetingLayer(frame, corners[q][party.meeting[0]], party.meeting) : []));
+    const crossed = parties.map(({ verdict, meeting }, q) =>
+      (CROSSED.includes(verdict) ? meetingLayer(frame, corners[q][meeting[0]], meeting) : []));
+    const next = nextLayer(frame, parties[this.#tenant].last);
     this.#frame = frame;
-    this.#picture = picture(frame, this.#sentence(), [gridLayer(frame), ...walks, nextLayer(frame, parties[this.#tenant].last), ...crossed]);
+    this.#picture = picture(frame, this.#sentence(), [gridLayer(frame), ...walks, next, ...crossed]);
     place.replaceChildren(this.#picture);
   }
 }

@@ -42,9 +42,9 @@ export const ROOM = 2;
 
 /** Refusals by their numbers; 0 is none. */
 export const REFUSALS = [
-  "accepted", "too_many", "table", "result_room", "bad_digit", "nothing_to_take", "too_long", "no_room", "hull_room", "bad_line",
-  "start_range", "outline_room", "not_room", "polygon_room", "file_length", "file_kind", "bad_coordinate", "bad_ring", "chain_room",
-  "retired_kind", "unknown_party", "span_room",
+  "accepted", "too_many", "table", "result_room", "bad_digit", "nothing_to_take", "too_long", "no_room", "hull_room",
+  "bad_line", "start_range", "outline_room", "not_room", "polygon_room", "file_length", "file_kind", "bad_coordinate", "bad_ring",
+  "chain_room", "retired_kind", "unknown_party", "span_room",
 ];
 
 /** The answer that is a refusal, and nothing else. */
@@ -73,7 +73,8 @@ function bytesOfLine(given) {
 
 /** A start, each coordinate brought into 32 bits: what is farther out is refused all the same. */
 function numbersOfStart(start) {
-  if (!Array.isArray(start) || start.length !== 2 || !start.every(Number.isInteger)) throw new TypeError("a start is [x, y], two whole numbers");
+  const isPair = Array.isArray(start) && start.length === 2 && start.every(Number.isInteger);
+  if (!isPair) throw new TypeError("a start is [x, y], two whole numbers");
   return start.map((number) => Math.max(-(2 ** 31), Math.min(number, 2 ** 31 - 1)));
 }
 
@@ -132,7 +133,7 @@ export class Undrwyth {
     this.#own = calls.memory.buffer.byteLength;
   }
 
-  /** Offsets for buffers of these lengths, each at a multiple of 16, with at least 16 bytes between two; the memory grows for them. */
+  /** Places for buffers of these lengths: multiples of 16, with 16 bytes or more between two. The memory grows for them. */
   #places(lengths) {
     let at = this.#own + 16;
     const places = lengths.map((length) => {
@@ -159,15 +160,18 @@ export class Undrwyth {
     if (answerWords > 0) words.push(answerAt);
     const result = Number(this.#calls["undrwyth_" + name](...words));
     const lent = buffers.map((one, i) => ({ ...one, at: places[i] })).filter((one) => !one.bytes);
-    const take = (i, n) => (lent[i].size === 1 ? new Uint8Array(memory, lent[i].at, n) : new Int32Array(memory, lent[i].at, n)).slice();
+    const take = (i, n) => {
+      const Kind = lent[i].size === 1 ? Uint8Array : Int32Array;
+      return new Kind(memory, lent[i].at, n).slice();
+    };
     return { result, words: Array.from(new Int32Array(memory, answerAt, answerWords)), take };
   }
 
   /**
    * Judges the walk of the operations from the start: verdict, steps, nodes, corners, meeting ([j, k] or null), area (signed),
-   * panels, last ([x, y]), chain (the surviving steps), marks (for each operation nodes, visits, changed), and table: the words of
-   * the records in use, 25 each. `records` is the number of records to lend; if `table` or `marks` is false, it is not copied, and
-   * is null.
+   * panels, last ([x, y]), chain (the surviving steps), marks (for each operation nodes, visits, changed), and table: the words
+   * of the records in use, 25 each. `records` is the number of records to lend; if `table` or `marks` is false, it is not copied
+   * and is null.
    */
   walk(ops, start = [0, 0], { records, table = true, marks = true } = {}) {
     const bytes = bytesOfDigits(ops), n = Math.min(bytes.length, MOST_INPUT_BYTES), origin = numbersOfStart(start);
@@ -186,8 +190,8 @@ export class Undrwyth {
 
   /**
    * Judges the walks of two parties in one table. A byte is 16 times the party plus an operation; a string has two hexadecimal
-   * digits a byte, and may have spaces. The answer has nodes, parties (two answers as of a walk, without nodes), marks, and table:
-   * all words that were lent, 36 a record.
+   * digits a byte, and may have spaces. The answer has nodes, parties (two answers as of a walk, without nodes), marks, and
+   * table: all words that were lent, 36 a record.
    */
   walkTwo(ops, start0 = [0, 0], start1 = [0, 0], { records, table = true, marks = true } = {}) {
     const bytes = typeof ops === "string" ? bytesOfHex(ops) : bytesOfDigits(ops);
@@ -222,13 +226,14 @@ export class Undrwyth {
   outline(chain, start = [0, 0]) {
     const bytes = bytesOfDigits(chain);
     const answer = this.#list("outline", bytes, start, lentBytes(2 * Math.min(bytes.length, MOST_STEPS)), 1);
-    return answer.refusal ? answer : { refusal: null, count: answer.count, chain: answer.written, digits: digitsOf(answer.written) };
+    if (answer.refusal) return answer;
+    return { refusal: null, count: answer.count, chain: answer.written, digits: digitsOf(answer.written) };
   }
 
   /** A room as a polygon in Well-Known Binary, in millimetres. */
   polygonOfRoom(chain, start = [0, 0]) {
-    const bytes = bytesOfDigits(chain), room = lentBytes(POLYGON_HEADER_BYTES + POINT_BYTES * (Math.min(bytes.length, MOST_STEPS) + 1));
-    const answer = this.#list("polygon_of_room", bytes, start, room, 1);
+    const bytes = bytesOfDigits(chain), points = Math.min(bytes.length, MOST_STEPS) + 1;
+    const answer = this.#list("polygon_of_room", bytes, start, lentBytes(POLYGON_HEADER_BYTES + POINT_BYTES * points), 1);
     return answer.refusal ? answer : { refusal: null, count: answer.count, wkb: answer.written };
   }
 

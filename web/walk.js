@@ -5,7 +5,8 @@ import { OPERATION_NAMES, convexWord, cornerText, counted, meetingCorner, refusa
 import { pictureFile, stepOfTap, walkPicture } from "./picture.js";
 import { dxfOf, geojsonOf, hexOf, numberedRows, rowsCsv, saveFile } from "./save.js";
 import { judgeLine, lineOf, recordOf } from "./record.js";
-import { bytesOfFile, byId, copyText, element, isTyping, numberIn, roomFor, say, showFacts, showFault, stepOfKey, table } from "./parts.js";
+import { bytesOfFile, byId, copyText, element, isTyping, numberIn, roomFor } from "./parts.js";
+import { say, showFacts, showFault, stepOfKey, table } from "./parts.js";
 import { fillSheet } from "./sheet.js";
 
 const MOST_LINES = 1000; // of a table on the page
@@ -14,8 +15,8 @@ const MOST_LINES = 1000; // of a table on the page
 export function known(judge, walk, start) {
   const { chain } = walk, answers = { walk, start, hull: judge.hull(chain, start), outline: judge.outline(chain, start) };
   if (walk.verdict !== ROOM) return { ...answers, spans: null };
-  const { spans } = judge.rows(chain, start), { convex } = judge.convex(chain, start), { wkb } = judge.polygonOfRoom(chain, start);
-  return { ...answers, spans, convex, wkb };
+  const { spans } = judge.rows(chain, start), { convex } = judge.convex(chain, start);
+  return { ...answers, spans, convex, wkb: judge.polygonOfRoom(chain, start).wkb };
 }
 
 /** Width and height of the box around a walk's hull, in panels. */
@@ -66,7 +67,8 @@ export class WalkView {
       event.preventDefault();
       this.step(step);
     });
-    for (const button of document.querySelectorAll("[data-step]")) button.addEventListener("click", () => this.step(Number(button.dataset.step)));
+    for (const button of document.querySelectorAll("[data-step]"))
+      button.addEventListener("click", () => this.step(Number(button.dataset.step)));
     byId("clear").addEventListener("click", () => {
       this.show("", this.#start);
       byId("picture").focus();
@@ -86,12 +88,13 @@ export class WalkView {
       this.open(byId("record").value.trim(), [numberIn("start-x"), numberIn("start-y")]);
     });
     byId("copy-record").addEventListener("click", () => this.#copy(recordOf(this.#ops), "The record is copied."));
-    byId("copy-link").addEventListener("click", () => this.#copy(`${location.href.split("#")[0]}#${lineOf(this.#ops, this.#start)}`, "A link to this record is copied."));
+    const link = () => `${location.href.split("#")[0]}#${lineOf(this.#ops, this.#start)}`;
+    byId("copy-link").addEventListener("click", () => this.#copy(link(), "A link to this record is copied."));
   }
 
   async #copy(text, said) {
-    const done = await copyText(text);
-    say(byId("copied"), done ? said : "This browser does not let the page copy. Mark the record in its field, and copy it there.");
+    const otherwise = "This browser does not let the page copy. Mark the record in its field, and copy it there.";
+    say(byId("copied"), (await copyText(text)) ? said : otherwise);
   }
 
   #listenToFiles() {
@@ -100,7 +103,7 @@ export class WalkView {
     save("save-csv", "rows.csv", "text/csv", () => rowsCsv(this.#known.spans));
     save("save-wkb", "room.wkb", "application/octet-stream", () => this.#known.wkb);
     save("save-hex", "room.hex", "text/plain", () => hexOf(this.#known.wkb) + "\n");
-    save("save-geojson", "room.geojson", "application/geo+json", () => geojsonOf({ ...this.#known, record: recordOf(this.#ops) }));
+    save("save-geojson", "room.geojson", "application/geo+json", () => geojsonOf(this.#known, recordOf(this.#ops)));
     save("save-dxf", "room.dxf", "application/dxf", () => dxfOf(this.#known));
     byId("print").addEventListener("click", () => window.print());
     addEventListener("beforeprint", () => this.#known && fillSheet(this.#known, recordOf(this.#ops)));
@@ -114,7 +117,7 @@ export class WalkView {
     });
   }
 
-  /** Opens a polygon: bytes of Well-Known Binary, or the hexadecimal digits of them. Binary begins with 0 or 1, which is no digit. */
+  /** Opens a polygon: Well-Known Binary, or its hexadecimal digits. Binary begins with byte 0 or 1, which is not a character. */
   openPolygon(bytes) {
     const binary = bytes.length > 0 && bytes[0] <= 1;
     const file = binary ? bytes : bytesOfHex(new TextDecoder().decode(bytes));
@@ -171,10 +174,10 @@ export class WalkView {
   /** Draws the picture anew, as after a change of the window's width. */
   draw() {
     if (!this.#known) return;
-    const { walk, start, hull, outline, spans } = this.#known, place = byId("picture");
+    const { walk, start, hull, outline, spans } = this.#known, place = byId("picture"), asked = (id) => byId(id).checked;
     const drawn = walkPicture({
-      walk, start, spans, hull: byId("show-hull").checked ? hull : null, around: hull.corners[0],
-      outline: byId("show-outline").checked ? outline : null, numbered: byId("show-rows").checked, next: true, title: walkSentence(walk, start),
+      walk, start, spans, hull: asked("show-hull") ? hull : null, outline: asked("show-outline") ? outline : null,
+      around: hull.corners[0], numbered: asked("show-rows"), next: true, title: walkSentence(walk, start),
     }, { ...roomFor(place), margin: 2, least: [5, 3] });
     this.#frame = drawn.frame;
     this.#picture = drawn.element;
@@ -205,17 +208,20 @@ export class WalkView {
   #showMarks() {
     if (!this.#known || !byId("marks-details").open) return;
     const { marks } = this.#known.walk;
-    const lines = marks.slice(0, MOST_LINES).map(({ nodes, visits, changed }, i) => [i, OPERATION_NAMES[this.#ops[i]], nodes, visits, changed]);
-    byId("marks").replaceChildren(table(["place", "*operation", "nodes", "visits", "records changed"], lines), ...firstOf(marks.length));
+    const line = ({ nodes, visits, changed }, i) => [i, OPERATION_NAMES[this.#ops[i]], nodes, visits, changed];
+    const made = table(["place", "*operation", "nodes", "visits", "records changed"], marks.slice(0, MOST_LINES).map(line));
+    byId("marks").replaceChildren(made, ...firstOf(marks.length));
   }
 }
 
 /** A note below a table that does not have all lines. */
-const firstOf = (count) => (count > MOST_LINES ? [element("p", {}, `These are the first ${spaced(MOST_LINES)} of ${spaced(count)}.`)] : []);
+function firstOf(count) {
+  return count > MOST_LINES ? [element("p", {}, `These are the first ${spaced(MOST_LINES)} of ${spaced(count)}.`)] : [];
+}
 
 /** The rows of a room, numbered from the south. */
 function rowsTable(spans) {
-  const rows = numberedRows(spans.slice(0, MOST_LINES));
-  const lines = rows.map(({ number, row, first, last, panels }) => [number, row, first, last, panels, spaced(panels * PANEL_MILLIMETRES)]);
+  const rows = numberedRows(spans.slice(0, MOST_LINES)), long = (panels) => spaced(panels * PANEL_MILLIMETRES);
+  const lines = rows.map(({ number, row, first, last, panels }) => [number, row, first, last, panels, long(panels)]);
   return [table(["row", "y", "first x", "last x", "panels", "mm"], lines), ...firstOf(spans.length)];
 }

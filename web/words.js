@@ -27,12 +27,14 @@ function crossing(walk, start) {
   return ` and crossed: step ${k} comes back to ${cornerText(meetingCorner(walk, start))}, ${before}`;
 }
 
+const sense = ({ area }) => (area > 0 ? "counterclockwise" : "clockwise");
+
 /** What an accepted walk is, in a sentence. */
 export function walkSentence(walk, start) {
   switch (walk.verdict) {
     case 0: return "no step survives";
     case 1: return `open: ${counted(walk.steps, "step")}, from ${cornerText(start)} to ${cornerText(walk.last)}`;
-    case 2: return `a room of ${counted(walk.panels, "panel")}, ${counted(walk.steps, "step")}, ${walk.area > 0 ? "counter" : ""}clockwise`;
+    case 2: return `a room of ${counted(walk.panels, "panel")}, ${counted(walk.steps, "step")}, ${sense(walk)}`;
     case 3: return "open" + crossing(walk, start);
     case 4: return "closed" + crossing(walk, start);
     default: return "there and back, which is not a room";

@@ -1,6 +1,6 @@
 /* SPDX-License-Identifier: MIT
- * Says the sentences of programs/words.c for the check of the page. A line of the input is a letter and numbers: W start_x start_y,
- * the words of an answer to a walk and its chain; R number, place, most and what is faulty (- for nothing); O the words of an answer
+ * Says the sentences of programs/words.c for the check of the page. A line of the input is a letter and numbers: W the start, the
+ * words of an answer to a walk and its chain; R number, place, most and what is faulty (- for nothing); O the words of an answer
  * to two rooms; C convex; V and N the number of a verdict or a refusal; F a text whose first character is named. */
 #include <stdio.h>
 #include <string.h>
@@ -38,7 +38,8 @@ static const char *walk(void) {
 static const char *refusal(void) {
     int kind = number(), place = number(), most = number();
     const char *fault = strtok(NULL, "\n");
-    undrwyth_refusal_sentence(out, sizeof out, (uint32_t)kind, (uint32_t)place, strcmp(fault, "-") == 0 ? NULL : fault, (unsigned)most);
+    if (strcmp(fault, "-") == 0) fault = NULL;
+    undrwyth_refusal_sentence(out, sizeof out, (uint32_t)kind, (uint32_t)place, fault, (unsigned)most);
     return out;
 }
 
