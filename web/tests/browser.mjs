@@ -7,8 +7,9 @@ import { tmpdir } from "node:os";
 import { join } from "node:path";
 
 const FLAGS = [
-  "--headless=new", "--remote-debugging-pipe", "--no-first-run", "--disable-gpu", "--disable-dev-shm-usage", "--disable-extensions", "--hide-scrollbars",
-  "--disable-background-networking", "--disable-component-update", "--disable-sync", "--metrics-recording-only", "--mute-audio", "--force-color-profile=srgb",
+  "--headless=new", "--remote-debugging-pipe", "--no-first-run", "--disable-gpu", "--disable-dev-shm-usage",
+  "--disable-extensions", "--disable-background-networking", "--disable-component-update", "--disable-sync", "--hide-scrollbars",
+  "--metrics-recording-only", "--mute-audio", "--force-color-profile=srgb",
 ];
 
 export class Browser {
@@ -24,7 +25,9 @@ export class Browser {
   constructor(path) {
     this.#folder = mkdtempSync(join(tmpdir(), "undrwyth-browser-"));
     const sandbox = process.getuid?.() === 0 ? ["--no-sandbox"] : []; // Chromium has none for root
-    this.#process = spawn(path, [...FLAGS, ...sandbox, `--user-data-dir=${this.#folder}`, "about:blank"], { stdio: ["ignore", "ignore", "ignore", "pipe", "pipe"], detached: true });
+    const stdio = ["ignore", "ignore", "ignore", "pipe", "pipe"]; // it reads descriptor 3 and writes 4
+    const flags = [...FLAGS, ...sandbox, `--user-data-dir=${this.#folder}`, "about:blank"];
+    this.#process = spawn(path, flags, { stdio, detached: true });
     this.#ended = new Promise((resolve) => this.#process.once("exit", resolve));
     this.#process.once("error", (why) => this.#failAll(why));
     this.#process.once("exit", () => this.#failAll(new Error("the browser has ended")));
@@ -101,7 +104,10 @@ export class Browser {
 }
 
 // The keys that are pressed, as the protocol names them.
-const KEYS = { ArrowRight: 39, ArrowUp: 38, ArrowLeft: 37, ArrowDown: 40, Backspace: 8, Tab: 9, Enter: 13, Home: 36, End: 35, PageDown: 34, PageUp: 33 };
+const KEYS = { ArrowRight: 39, ArrowUp: 38, ArrowLeft: 37, ArrowDown: 40, Backspace: 8, Tab: 9, Enter: 13, Home: 36, End: 35 };
+
+/** An expression that finds an element. */
+const found = (selector, i = 0) => `document.querySelectorAll(${JSON.stringify(selector)})[${i}]`;
 
 export class Tab {
   constructor(browser, session) {
@@ -122,7 +128,8 @@ export class Tab {
 
   /** The value of an expression in the page. */
   async ask(expression) {
-    const { result, exceptionDetails } = await this.send("Runtime.evaluate", { expression, awaitPromise: true, returnByValue: true, userGesture: true });
+    const how = { expression, awaitPromise: true, returnByValue: true, userGesture: true };
+    const { result, exceptionDetails } = await this.send("Runtime.evaluate", how);
     if (exceptionDetails) throw new Error(`${expression}: ${exceptionDetails.exception?.description ?? exceptionDetails.text}`);
     return result.value;
   }
@@ -143,33 +150,76 @@ export class Tab {
   /** Presses keys: names of keys, or letters. */
   async press(...keys) {
     for (const key of keys) {
-      const text = key.length === 1 ? { text: key } : key === "Enter" ? { text: "\r" } : {};
-      const code = { key, code: key.length === 1 ? `Key${key.toUpperCase()}` : key, windowsVirtualKeyCode: KEYS[key] ?? key.toUpperCase().charCodeAt(0) };
-      await this.send("Input.dispatchKeyEvent", { type: text.text ? "keyDown" : "rawKeyDown", ...code, ...text });
+      const letter = key.length === 1, upper = key.toUpperCase();
+      const code = { key, code: letter ? `Key${upper}` : key, windowsVirtualKeyCode: KEYS[key] ?? upper.charCodeAt(0) };
+      const down = letter ? { type: "keyDown", text: key } : { type: "rawKeyDown" };
+      await this.send("Input.dispatchKeyEvent", { ...code, ...down });
       await this.send("Input.dispatchKeyEvent", { type: "keyUp", ...code });
     }
   }
 
   async click(x, y) {
-    for (const type of ["mousePressed", "mouseReleased"]) await this.send("Input.dispatchMouseEvent", { type, x, y, button: "left", clickCount: 1 });
+    const press = { x, y, button: "left", clickCount: 1 };
+    for (const type of ["mousePressed", "mouseReleased"]) await this.send("Input.dispatchMouseEvent", { type, ...press });
+  }
+
+  /** The middle of the i-th element that a selector finds. */
+  middle(selector, i = 0) {
+    return this.ask(`(() => { const box = ${found(selector, i)}.getBoundingClientRect();
+      return [box.left + box.width / 2, box.top + box.height / 2]; })()`);
   }
 
   /** Clicks in the middle of an element, which is brought into view. */
   async tap(selector) {
-    const [x, y] = await this.ask(`(async () => { const e = document.querySelector(${JSON.stringify(selector)}); e.scrollIntoView({ block: "center" });
-      await new Promise((drawn) => requestAnimationFrame(() => requestAnimationFrame(drawn)));
-      const b = e.getBoundingClientRect(); return [b.left + b.width / 2, b.top + b.height / 2]; })()`);
-    await this.click(x, y);
+    await this.ask(`(${found(selector)}.scrollIntoView({ block: "center" }),
+      new Promise((drawn) => requestAnimationFrame(() => requestAnimationFrame(drawn))))`);
+    await this.click(...(await this.middle(selector)));
   }
 
   text(selector) {
-    return this.ask(`document.querySelector(${JSON.stringify(selector)}).textContent`);
+    return this.ask(`${found(selector)}.textContent`);
+  }
+
+  /** The texts of all elements that a selector finds. */
+  texts(selector) {
+    return this.ask(`Array.from(document.querySelectorAll(${JSON.stringify(selector)}), (one) => one.textContent)`);
+  }
+
+  /** The cells of the rows that a selector finds, with a space between two. */
+  cells(selector) {
+    return this.ask(`Array.from(document.querySelectorAll(${JSON.stringify(selector)}),
+      (row) => Array.from(row.cells, (cell) => cell.textContent).join(" "))`);
+  }
+
+  count(selector) {
+    return this.ask(`document.querySelectorAll(${JSON.stringify(selector)}).length`);
+  }
+
+  attribute(selector, name) {
+    return this.ask(`${found(selector)}.getAttribute("${name}")`);
+  }
+
+  value(selector) {
+    return this.ask(`${found(selector)}.value`);
+  }
+
+  focus(selector) {
+    return this.ask(`${found(selector)}.focus()`);
   }
 
   /** Puts a text into a field, as a paste does. */
   fill(selector, text) {
-    return this.ask(`(() => { const e = document.querySelector(${JSON.stringify(selector)}); e.value = ${JSON.stringify(text)};
-      e.dispatchEvent(new Event("input", { bubbles: true })); })()`);
+    return this.ask(`(() => { const field = ${found(selector)}; field.value = ${JSON.stringify(text)};
+      field.dispatchEvent(new Event("input", { bubbles: true })); })()`);
+  }
+
+  submit(form) {
+    return this.ask(`${found(form)}.requestSubmit()`);
+  }
+
+  /** Has the page draw anew, as after a change of its width. */
+  redraw() {
+    return this.ask(`window.dispatchEvent(new Event("resize"))`);
   }
 
   async choose(selector, ...files) {
@@ -184,7 +234,8 @@ export class Tab {
   }
 
   async picture(clip = undefined) {
-    const { data } = await this.send("Page.captureScreenshot", { format: "png", clip, captureBeyondViewport: clip !== undefined });
+    const how = { format: "png", clip, captureBeyondViewport: clip !== undefined };
+    const { data } = await this.send("Page.captureScreenshot", how);
     return Buffer.from(data, "base64");
   }
 

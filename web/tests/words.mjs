@@ -31,20 +31,25 @@ function askWalk(ops, start) {
 /** All strings of digits 0 to 4 of a length. */
 const strings = (n) => (n === 0 ? [""] : strings(n - 1).flatMap((s) => ["0", "1", "2", "3", "4"].map((d) => s + d)));
 
+const long = ["0".repeat(300), "01".repeat(50) + "2".repeat(50) + "3".repeat(50)], odd = ["0x1", "12é"];
 for (const start of [[0, 0], [-3, 7], [16384, -16384], [16385, 0]])
-  for (const ops of [...WORKED, ...[1, 2, 3, 4, 5].flatMap(strings), "0".repeat(300), "01".repeat(50) + "2".repeat(50) + "3".repeat(50), "0x1", "12é"]) askWalk(ops, start);
+  for (const ops of [...WORKED, ...[1, 2, 3, 4, 5].flatMap(strings), ...long, ...odd]) askWalk(ops, start);
 for (let number = 1; number <= 22; number++)
   for (const place of [0, 1, 16384, 32767])
     for (const [most, fault] of [[3, "byte 200"], [4, "'x'"], [4, undefined]])
       ask(`R ${number} ${place} ${most} ${fault ?? "-"}`, refusalSentence({ number, place }, fault, most));
-for (const [first, second, both] of [[0, 1, 2], [1, 0, 1], [12, 34, 1]])
-  ask(`O 0 0 ${first} ${second} ${both} 1 1 1`, overlaySentence({ first: { panels: first }, second: { panels: second }, both: { panels: both } }));
+for (const counts of [[0, 1, 2], [1, 0, 1], [12, 34, 1]]) {
+  const [first, second, both] = counts.map((panels) => ({ panels }));
+  ask(`O 0 0 ${counts.join(" ")} 1 1 1`, overlaySentence({ first, second, both }));
+}
 for (const convex of [0, 1]) ask(`C ${convex}`, convexWord(convex === 1));
 VERDICTS.forEach((name, number) => ask(`V ${number}`, name));
 REFUSALS.forEach((name, number) => ask(`N ${number}`, name));
-for (const text of ["5", "x", "<script>", "'", "\\", "\t", "\r", "\x7f", "\x01", "é", "€", "𝄞", " ", "\u00a0", ""]) ask(`F ${text}`, textFault(text));
+for (const text of ["5", "x", "<script>", "'", "\\", "\t", "\r", "\x7f", "\x01", "é", "€", "𝄞", " ", "\u00a0", ""])
+  ask(`F ${text}`, textFault(text));
 
-const { stdout, status } = spawnSync(program, { input: lines.map((line) => line + "\n").join(""), maxBuffer: 1 << 26, encoding: "utf8" });
+const input = lines.map((line) => line + "\n").join("");
+const { stdout, status } = spawnSync(program, { input, maxBuffer: 1 << 26, encoding: "utf8" });
 if (status !== 0) throw new Error(`${program}: status ${status}`);
 const theirs = stdout.split("\n");
 ours.forEach((sentence, i) => {
@@ -56,7 +61,8 @@ console.log(`${ours.length} sentences as programs/words.c has them`);
 // what `undrwyth explain` says of lines, if there is that command: `line N: ` or the key, and the sentence
 const help = spawnSync(root + "undrwyth", ["--help"], { encoding: "utf8" }).stdout;
 if (/^ {2}explain /m.test(help)) {
-  const text = readFileSync(root + "samples/records.txt", "utf8") + ["0123", "order-17,120,-40,0123", "5,6,02", "a,b,0123", "k,001x", "0000FF", "<script>", ""].join("\n") + "\n";
+  const more = ["0123", "order-17,120,-40,0123", "5,6,02", "a,b,0123", "k,001x", "0000FF", "<script>", ""];
+  const text = readFileSync(root + "samples/records.txt", "utf8") + more.join("\n") + "\n";
   const said = spawnSync(root + "undrwyth", ["explain"], { input: text, encoding: "utf8" }).stdout.split("\n");
   text.split("\n").slice(0, -1).forEach((line, i) => {
     const { walk, start, sentence } = judgeLine(judge, line), words = walk ? walkSentence(walk, start) : `refused: ${sentence}`;
