@@ -103,7 +103,8 @@ export class RecordsView {
     }
     const all = this.#entries.length, many = (count, thing) => counted(count, thing).replace(count, spaced(count));
     const rooms = `${many(counts[ROOM], "room")} with ${many(panels, "panel")}`;
-    say(byId("totals"), all === 0 ? "There are no lines yet." : `${many(all, "line")}: ${rooms}, ${spaced(counts[REFUSED])} refused.`);
+    const totals = `${many(all, "line")}: ${rooms}, ${spaced(counts[REFUSED])} refused.`;
+    say(byId("totals"), all === 0 ? "There are no lines yet." : totals);
     const kinds = KINDS.map((name, kind) => [kind, name, counts[kind]]).filter(([, , count]) => count > 0);
     byId("filters").replaceChildren(...(all === 0 ? [] : [[-1, "all", all], ...kinds]).map((one) => this.#filterButton(...one)));
   }
