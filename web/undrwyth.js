@@ -138,7 +138,7 @@ export class Undrwyth {
     let at = this.#own + 16;
     const places = lengths.map((length) => {
       const place = at;
-      at += (length + 31) & ~15;
+      at += 16 * Math.ceil(length / 16 + 1);
       return place;
     });
     const missing = at - this.#calls.memory.buffer.byteLength;
