@@ -34,7 +34,7 @@ function split(line) {
  * What a line says: its key ("" if it has none), its start, its operations as bytes and as text, and where in the line they
  * begin. If it cannot be a record, `refusal` and `sentence` say why.
  */
-export function readLine(given) {
+function readLine(given) {
   const line = cleaned(given), { key, start, record, at } = split(line);
   const said = { line, key: key.replace(/^"(.*)"$/, "$1"), start: start ?? [0, 0], at };
   const refuse = (number, more = "") => {
@@ -70,6 +70,9 @@ export function judgeLine(judge, given, options) {
 export function recordOf(ops) {
   return ops.length > MOST_LINE_DIGITS ? ops : "00" + ops.length.toString(16).padStart(4, "0") + ops;
 }
+
+/** What stands in an address after the page's name, for a line. */
+export const fragmentOf = (line) => "#" + encodeURIComponent(line).replace(/%2C/g, ",");
 
 /** The record with its start before it, unless that is (0,0): what a link holds. */
 export const lineOf = (ops, [x, y]) => (x === 0 && y === 0 ? "" : `${x},${y},`) + recordOf(ops);
