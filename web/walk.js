@@ -1,6 +1,6 @@
 // SPDX-License-Identifier: MIT
 // The view of one walk: keys and taps make steps, and after each the picture and the words are those of the walk so far.
-import { PANEL_MILLIMETRES, ROOM, bytesOfHex } from "./undrwyth.js";
+import { MOST_LINE_DIGITS, PANEL_MILLIMETRES, ROOM, bytesOfHex } from "./undrwyth.js";
 import { OPERATION_NAMES, convexWord, cornerText, counted, meetingCorner, refusalSentence, walkSentence } from "./words.js";
 import { pictureFile, stepOfTap, walkPicture } from "./picture.js";
 import { dxfOf, geojsonOf, hexOf, numberedRows, rowsCsv, saveFile } from "./save.js";
@@ -199,8 +199,15 @@ export class WalkView {
       ["First meeting", meets ?? "none"], ["Surviving steps", spaced(walk.steps)], ["Operations", spaced(this.#ops.length)],
       ["Stands at", cornerText(walk.last)], ["Different corners", spaced(walk.corners)], ["Nodes", spaced(walk.nodes)],
       ["Hull", `${counted(hull.count, "corner")}, ${spaced(width)} by ${spaced(height)} panels`],
-      ["Outline", counted(this.#known.outline.count, "step")],
+      ["Outline", counted(this.#known.outline.count, "step")], ...this.#lineProgram(),
     ]);
+  }
+
+  /** The line program has a table of 320 records: whether it refuses what is shown here. */
+  #lineProgram() {
+    const walked = this.#ops.length <= MOST_LINE_DIGITS && this.#start[0] === 0 && this.#start[1] === 0;
+    const { refusal } = walked ? this.#judge.line(recordOf(this.#ops)) : { refusal: null };
+    return refusal ? [["Command judge", `refuses it: ${refusalSentence(refusal)}`]] : [];
   }
 
   #showRoom() {

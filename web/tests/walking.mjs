@@ -36,6 +36,11 @@ export const walking = {
       t.same(`${record} without its head`, await t.words(), sentence);
     }
     t.same("the faulty digit", await t.tab.text("#record-fault mark"), "5");
+    await t.show("0".repeat(319));
+    t.same("what the command judge takes", (await t.tab.text("#facts")).includes("Command judge"), false);
+    await t.show("0".repeat(320));
+    const refusal = "refuses it: the table has too few records for the operation at place 319";
+    t.holds("and what it refuses", (await t.tab.text("#facts")).endsWith(refusal));
   },
 
   async "a refused record shows nothing else"(t) {
