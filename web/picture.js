@@ -273,7 +273,7 @@ export function walkPicture({ walk, start, hull, outline, around, spans, numbere
   return { frame, element: picture(frame, title, layers) };
 }
 
-/** In each span how many panels it has, where there is room for the number. */
+/** In each span how many panels it has, if there is room for the number. */
 function rowCountsLayer(frame, spans) {
   if (frame.side < frame.text) return [];
   return spans.map(({ row, first, last }) => {
