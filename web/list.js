@@ -16,7 +16,7 @@ const KINDS = ["no step", "open", "room", "open, crossed", "closed, crossed", "t
 const REFUSED = VERDICTS.length;
 
 /** The lines of a text: the last may lack its line feed. */
-export function linesOf(text) {
+function linesOf(text) {
   const lines = text.split("\n");
   if (lines.at(-1) === "") lines.pop();
   return lines;

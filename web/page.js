@@ -6,6 +6,7 @@ import { WalkView } from "./walk.js";
 import { RecordsView } from "./list.js";
 import { RoomsView } from "./rooms.js";
 import { TenantsView } from "./tenants.js";
+import { fragmentOf } from "./record.js";
 import { byId, element } from "./parts.js";
 
 const VIEWS = ["walk", "records", "rooms", "tenants", "about"];
@@ -47,7 +48,7 @@ function lineInAddress() {
 
 function putIntoAddress(line) {
   try {
-    history.replaceState(null, "", "#" + line);
+    history.replaceState(null, "", fragmentOf(line));
   } catch { // a page without an address of its own has no link
   }
 }

@@ -82,7 +82,7 @@ export function frameOf([west, south, east, north], options) {
 }
 
 /** The corner that a pixel of a frame is nearest to. */
-export function cornerAt(frame, x, y) {
+function cornerAt(frame, x, y) {
   return [Math.round(frame.x0 + (x - frame.left) / frame.side), Math.round(frame.y1 - (y - frame.above) / frame.side)];
 }
 
@@ -142,9 +142,9 @@ export function spansLayer(frame, spans, attributes) {
 
 const pointsOf = (frame, corners) => corners.map(([x, y]) => `${frame.px(x)},${frame.py(y)}`).join(" ");
 
-export const hullLayer = (frame, corners) => [svg("polygon", { class: "hull", points: pointsOf(frame, corners) })];
+const hullLayer = (frame, corners) => [svg("polygon", { class: "hull", points: pointsOf(frame, corners) })];
 
-export const outlineLayer = (frame, corners) => [svg("polyline", { class: "outline", points: pointsOf(frame, corners) })];
+const outlineLayer = (frame, corners) => [svg("polyline", { class: "outline", points: pointsOf(frame, corners) })];
 
 /** A walk with its arrows and its start. `look` is "", "first" or "second"; the start of a second walk is a square. */
 export function walkLayer(frame, chain, corners, look = "") {
@@ -273,7 +273,7 @@ export function walkPicture({ walk, start, hull, outline, around, spans, numbere
   return { frame, element: picture(frame, title, layers) };
 }
 
-/** In each span how many panels it has, where there is room for the number. */
+/** In each span how many panels it has, if there is room for the number. */
 function rowCountsLayer(frame, spans) {
   if (frame.side < frame.text) return [];
   return spans.map(({ row, first, last }) => {

@@ -22,31 +22,35 @@ const coordinate = (text) => Math.max(-999999, Math.min(Number(text), 999999)) |
 /** A line without what programs leave at its ends: a carriage return, and a byte order mark. */
 const cleaned = (line) => line.replace(/^\ufeff/, "").replace(/\r$/, "");
 
-/** Key and start of a line, and its record with its place in the line. */
+/**
+ * Key and start of a line, and its record with its place in the line. If the start is not two whole numbers it is null, and
+ * `odd` is the place of the field that is not one.
+ */
 function split(line) {
   const fields = line.split(","), record = fields.pop(), at = line.length - record.length;
   if (fields.length < 2) return { key: fields[0] ?? "", start: [0, 0], record, at };
-  const start = fields.splice(-2), key = fields.join(",");
-  return { key, start: start.every((one) => NUMBER.test(one)) ? start.map(coordinate) : null, record, at };
+  const [x, y] = fields.splice(-2), key = fields.join(",");
+  if (NUMBER.test(x) && NUMBER.test(y)) return { key, start: [x, y].map(coordinate), record, at };
+  return { key, start: null, record, at, odd: NUMBER.test(x) ? at - y.length - 1 : at - y.length - x.length - 2 };
 }
 
 /**
  * What a line says: its key ("" if it has none), its start, its operations as bytes and as text, and where in the line they
- * begin. If it cannot be a record, `refusal` and `sentence` say why.
+ * begin. If it cannot be a record, `refusal` and `sentence` say why, and `fault` is the place of the faulty character, or -1.
  */
-export function readLine(given) {
-  const line = cleaned(given), { key, start, record, at } = split(line);
+function readLine(given) {
+  const line = cleaned(given), { key, start, record, at, odd } = split(line);
   const said = { line, key: key.replace(/^"(.*)"$/, "$1"), start: start ?? [0, 0], at };
-  const refuse = (number, more = "") => {
+  const refuse = (number, fault = -1, more = "") => {
     const { refusal } = refused(number, 0);
-    return { ...said, refusal, sentence: refusalSentence(refusal) + more };
+    return { ...said, refusal, fault, sentence: refusalSentence(refusal) + more };
   };
-  if (start === null) return refuse(9, ": its start is not two whole numbers");
+  if (start === null) return refuse(9, odd, ": its start is not two whole numbers");
   if (record.length > MOST_INPUT_BYTES) return refuse(1);
-  const kind = kindOf(record);
-  if (kind === "none") return refuse(9);
+  const kind = kindOf(record), capital = record.search(/[A-F]/);
+  if (kind === "none") return refuse(9, capital < 0 ? -1 : at + capital);
   if (kind === "digits") return { ...said, refusal: null, ops: record, bytes: bytesOfDigits(record), framed: false };
-  if (record[1] === "1") return refuse(19);
+  if (record[1] === "1") return refuse(19, at + 1);
   const ops = record.slice(HEAD), bytes = Uint8Array.from(ops, (digit) => parseInt(digit, 16));
   return { ...said, refusal: null, ops, bytes, framed: true, at: at + HEAD };
 }
@@ -57,7 +61,7 @@ export function readLine(given) {
  */
 export function judgeLine(judge, given, options) {
   const said = readLine(given);
-  if (said.refusal) return { ...said, walk: null, fault: -1 };
+  if (said.refusal) return { ...said, walk: null };
   const walk = judge.walk(said.bytes, said.start, options);
   if (!walk.refusal) return { ...said, walk, sentence: null, fault: -1 };
   const { number, place } = walk.refusal, placed = number >= 4 && number <= 7;
@@ -70,6 +74,9 @@ export function judgeLine(judge, given, options) {
 export function recordOf(ops) {
   return ops.length > MOST_LINE_DIGITS ? ops : "00" + ops.length.toString(16).padStart(4, "0") + ops;
 }
+
+/** What stands in an address after the page's name, for a line. */
+export const fragmentOf = (line) => "#" + encodeURIComponent(line).replace(/%2C/g, ",");
 
 /** The record with its start before it, unless that is (0,0): what a link holds. */
 export const lineOf = (ops, [x, y]) => (x === 0 && y === 0 ? "" : `${x},${y},`) + recordOf(ops);

@@ -3,7 +3,7 @@
 import { ROOM } from "./undrwyth.js";
 import { cornersOf, counted, overlaySentence, walkSentence } from "./words.js";
 import { boxOf, frameOf, gridLayer, partsLayer, picture, pictureFile, svg, walkLayer } from "./picture.js";
-import { judgeLine, recordOf } from "./record.js";
+import { judgeLine } from "./record.js";
 import { partsCsv, saveFile } from "./save.js";
 import { byId, element, numberIn, roomFor, say, showFault } from "./parts.js";
 
@@ -30,7 +30,7 @@ export class RoomsView {
 
   /** The walk that is shown under Walk becomes one of the rooms. */
   #take(which) {
-    byId(which).value = recordOf(this.#walk.ops);
+    byId(which).value = this.#walk.record;
     [byId(`${which}-x`).value, byId(`${which}-y`).value] = this.#walk.start;
     this.lay();
   }

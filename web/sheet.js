@@ -38,15 +38,11 @@ function sheetRows(rows, west) {
   return table(["row", "from panel", "to panel", "panels", "from the west wall", "length"], lines);
 }
 
-/** Fills the sheet for the walk that is shown. What is not a room has no order. */
-export function fillSheet(known, record) {
-  const { walk, start, spans, hull } = known, heading = element("h1", {}, "Order sheet: floor panels");
-  const last = element("p", { className: "mono" }, `Record ${record}`);
-  if (spans === null) {
-    const none = element("p", {}, `There is no order: ${walkSentence(walk, start)}.`);
-    return byId("sheet").replaceChildren(heading, none, last);
-  }
-  const box = boxOf(hull.corners), rows = numberedRows(spans);
+/** Fills the sheet for the walk that is shown, and of which this is said. What is not a room has no order. */
+export function fillSheet(known, record, said) {
+  const heading = element("h1", {}, "Order sheet: floor panels"), last = element("p", { className: "mono" }, `Record ${record}`);
+  if (!known?.spans) return byId("sheet").replaceChildren(heading, element("p", {}, `There is no order: ${said}.`), last);
+  const box = boxOf(known.hull.corners), rows = numberedRows(known.spans);
   byId("sheet").replaceChildren(
     heading, sheetFacts(known, box, rows), element("div", { className: "figure" }, sheetPicture(known)), sheetRows(rows, box[0]),
     element("p", {}, "Rows are counted from the south, panels from the westmost wall. Walls in the picture are in millimetres."),

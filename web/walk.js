@@ -1,10 +1,10 @@
 // SPDX-License-Identifier: MIT
 // The view of one walk: keys and taps make steps, and after each the picture and the words are those of the walk so far.
-import { PANEL_MILLIMETRES, ROOM, bytesOfHex } from "./undrwyth.js";
+import { MOST_LINE_DIGITS, PANEL_MILLIMETRES, ROOM, bytesOfHex } from "./undrwyth.js";
 import { OPERATION_NAMES, convexWord, cornerText, counted, meetingCorner, refusalSentence, walkSentence } from "./words.js";
 import { pictureFile, stepOfTap, walkPicture } from "./picture.js";
 import { dxfOf, geojsonOf, hexOf, numberedRows, rowsCsv, saveFile } from "./save.js";
-import { judgeLine, lineOf, recordOf } from "./record.js";
+import { fragmentOf, judgeLine, lineOf, recordOf } from "./record.js";
 import { bytesOfFile, byId, copyText, element, isTyping, numberIn, roomFor } from "./parts.js";
 import { say, showFacts, showFault, stepOfKey, table } from "./parts.js";
 import { fillSheet } from "./sheet.js";
@@ -20,7 +20,7 @@ export function known(judge, walk, start) {
 }
 
 /** Width and height of the box around a walk's hull, in panels. */
-export function sizeOf(hull) {
+function sizeOf(hull) {
   const [xs, ys] = [0, 1].map((axis) => hull.corners.map((corner) => corner[axis]));
   return [Math.max(...xs) - Math.min(...xs), Math.max(...ys) - Math.min(...ys)];
 }
@@ -30,9 +30,11 @@ export const spaced = (number) => number.toLocaleString("en");
 
 export class WalkView {
   #judge;
-  #ops = "";
+  #ops = "";     // the operations of the walk that is shown, as digits
   #start = [0, 0];
-  #known = null; // what is known of the walk that is shown; null if the record is refused
+  #known = null; // what is known of it; null if a refused record is shown
+  #said = "";    // the sentence
+  #line = "";    // what a link holds
   #frame = null;
   #picture = null;
   #shown; // told whenever another record is shown
@@ -47,17 +49,13 @@ export class WalkView {
     byId("marks-details").addEventListener("toggle", () => this.#showMarks());
   }
 
-  get ops() {
-    return this.#ops;
+  /** The record that is shown, refused or not. */
+  get record() {
+    return this.#known ? recordOf(this.#ops) : byId("record").value;
   }
 
   get start() {
     return this.#start;
-  }
-
-  /** What is known of the walk, or null. */
-  get known() {
-    return this.#known;
   }
 
   #listenToKeys() {
@@ -71,6 +69,7 @@ export class WalkView {
       button.addEventListener("click", () => this.step(Number(button.dataset.step)));
     byId("clear").addEventListener("click", () => {
       this.show("", this.#start);
+      if (!this.#known) this.show("", [0, 0]); // the start was what is refused
       byId("picture").focus();
     });
     byId("picture").addEventListener("click", (event) => this.#tap(event));
@@ -87,8 +86,8 @@ export class WalkView {
       event.preventDefault();
       this.open(byId("record").value.trim(), [numberIn("start-x"), numberIn("start-y")]);
     });
-    byId("copy-record").addEventListener("click", () => this.#copy(recordOf(this.#ops), "The record is copied."));
-    const link = () => `${location.href.split("#")[0]}#${lineOf(this.#ops, this.#start)}`;
+    byId("copy-record").addEventListener("click", () => this.#copy(this.record, "The record is copied."));
+    const link = () => location.href.split("#")[0] + fragmentOf(this.#line);
     byId("copy-link").addEventListener("click", () => this.#copy(link(), "A link to this record is copied."));
   }
 
@@ -103,10 +102,10 @@ export class WalkView {
     save("save-csv", "rows.csv", "text/csv", () => rowsCsv(this.#known.spans));
     save("save-wkb", "room.wkb", "application/octet-stream", () => this.#known.wkb);
     save("save-hex", "room.hex", "text/plain", () => hexOf(this.#known.wkb) + "\n");
-    save("save-geojson", "room.geojson", "application/geo+json", () => geojsonOf(this.#known, recordOf(this.#ops)));
+    save("save-geojson", "room.geojson", "application/geo+json", () => geojsonOf(this.#known, this.record));
     save("save-dxf", "room.dxf", "application/dxf", () => dxfOf(this.#known));
     byId("print").addEventListener("click", () => window.print());
-    addEventListener("beforeprint", () => this.#known && fillSheet(this.#known, recordOf(this.#ops)));
+    addEventListener("beforeprint", () => fillSheet(this.#known, this.record, this.#said));
     byId("open-file").addEventListener("change", async () => {
       const [file] = byId("open-file").files;
       if (file) this.openPolygon(await bytesOfFile(file));
@@ -128,8 +127,9 @@ export class WalkView {
     this.show(read.digits, read.start);
   }
 
-  /** One operation more. A step that the judge refuses is not taken, and the reason is said. */
+  /** One operation more. What the judge refuses is not taken, and the reason is said; a refused record goes on no further. */
   step(operation) {
+    if (!this.#known) return say(byId("words"), this.#said);
     const ops = this.#ops + operation, walk = this.#judge.walk(ops, this.#start, { table: false });
     if (walk.refusal) return say(byId("words"), `refused: ${refusalSentence(walk.refusal, "the byte", 4)}`);
     this.#accept(ops, this.#start, walk);
@@ -139,7 +139,7 @@ export class WalkView {
   open(line, start = [0, 0]) {
     const read = judgeLine(this.#judge, line.includes(",") ? line : `${start[0]},${start[1]},${line}`, { table: false });
     if (read.walk) return this.#accept(read.ops, read.start, read.walk);
-    this.#refuse(line, read, line.includes(",") ? 0 : read.line.length - line.length);
+    this.#refuse(line, read);
   }
 
   /** Shows operations, given as digits, from a start. */
@@ -150,30 +150,37 @@ export class WalkView {
   }
 
   #accept(ops, start, walk) {
-    this.#ops = ops;
-    this.#start = start;
-    this.#known = known(this.#judge, walk, start);
+    [this.#ops, this.#start, this.#known] = [ops, start, known(this.#judge, walk, start)];
+    [this.#said, this.#line] = [walkSentence(walk, start), lineOf(ops, start)];
     byId("record").value = recordOf(ops);
     [byId("start-x").value, byId("start-y").value] = start;
     showFault(byId("record-fault"), "", -1);
-    say(byId("words"), walkSentence(walk, start));
+    this.#showAll();
+  }
+
+  /** A refused record stays in its field, with its fault marked below. There is nothing to draw. */
+  #refuse(line, read) {
+    const before = read.line.length - line.length; // of the start, which was put before it
+    [this.#ops, this.#start, this.#known] = ["", read.start, null];
+    [this.#said, this.#line] = [`refused: ${read.sentence}`, read.line.replace(/^0,0,/, "")];
+    byId("record").value = line;
+    showFault(byId("record-fault"), line, read.fault < 0 ? -1 : read.fault - before);
+    this.#showAll();
+  }
+
+  #showAll() {
+    say(byId("words"), this.#said);
     this.draw();
     this.#showFacts();
     this.#showRoom();
     this.#showMarks();
-    this.#shown(lineOf(ops, start));
-  }
-
-  /** A refused record stays in its field, with its fault marked below; the walk that was shown before stays too. */
-  #refuse(line, read, before) {
-    byId("record").value = line;
-    showFault(byId("record-fault"), line, read.fault < 0 ? -1 : read.fault - before);
-    say(byId("words"), `refused: ${read.sentence}`);
+    byId("save-svg").disabled = !this.#known;
+    this.#shown(this.#line);
   }
 
   /** Draws the picture anew, as after a change of the window's width. */
   draw() {
-    if (!this.#known) return;
+    if (!this.#known) return byId("picture").replaceChildren();
     const { walk, start, hull, outline, spans } = this.#known, place = byId("picture"), asked = (id) => byId(id).checked;
     const drawn = walkPicture({
       walk, start, spans, hull: asked("show-hull") ? hull : null, outline: asked("show-outline") ? outline : null,
@@ -185,20 +192,28 @@ export class WalkView {
   }
 
   #showFacts() {
+    if (!this.#known) return showFacts(byId("facts"), []);
     const { walk, start, hull } = this.#known, [width, height] = sizeOf(hull), at = meetingCorner(walk, start);
     const meets = walk.meeting && `at ${cornerText(at)}: corner ${walk.meeting[0]} is corner ${walk.meeting[1]}`;
     showFacts(byId("facts"), [
       ["First meeting", meets ?? "none"], ["Surviving steps", spaced(walk.steps)], ["Operations", spaced(this.#ops.length)],
       ["Stands at", cornerText(walk.last)], ["Different corners", spaced(walk.corners)], ["Nodes", spaced(walk.nodes)],
       ["Hull", `${counted(hull.count, "corner")}, ${spaced(width)} by ${spaced(height)} panels`],
-      ["Outline", counted(this.#known.outline.count, "step")],
+      ["Outline", counted(this.#known.outline.count, "step")], ...this.#lineProgram(),
     ]);
   }
 
+  /** The line program has a table of 320 records: whether it refuses what is shown here. */
+  #lineProgram() {
+    const walked = this.#ops.length <= MOST_LINE_DIGITS && this.#start[0] === 0 && this.#start[1] === 0;
+    const { refusal } = walked ? this.#judge.line(recordOf(this.#ops)) : { refusal: null };
+    return refusal ? [["Command judge", `refuses it: ${refusalSentence(refusal)}`]] : [];
+  }
+
   #showRoom() {
+    byId("room").hidden = !this.#known?.spans;
+    if (!this.#known?.spans) return;
     const { walk, spans, convex, hull } = this.#known;
-    byId("room").hidden = spans === null;
-    if (spans === null) return;
     const [width, height] = sizeOf(hull).map((panels) => spaced(panels * PANEL_MILLIMETRES));
     byId("room-words").textContent = `${counted(walk.panels, "panel")}, ${convexWord(convex)}, ${width} by ${height} mm`;
     byId("rows").replaceChildren(...rowsTable(spans));
@@ -206,7 +221,7 @@ export class WalkView {
 
   /** The table of marks, made when it is unfolded. */
   #showMarks() {
-    if (!this.#known || !byId("marks-details").open) return;
+    if (!this.#known || !byId("marks-details").open) return byId("marks").replaceChildren();
     const { marks } = this.#known.walk;
     const line = ({ nodes, visits, changed }, i) => [i, OPERATION_NAMES[this.#ops[i]], nodes, visits, changed];
     const made = table(["place", "*operation", "nodes", "visits", "records changed"], marks.slice(0, MOST_LINES).map(line));

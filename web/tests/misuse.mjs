@@ -1,7 +1,10 @@
 // SPDX-License-Identifier: MIT
-// What the binding does if a caller is wrong, that its answers are copies, and some worked walks of docs/RULES.md.
+// The binding beside the header: its numbers and names; what it does if a caller is wrong; that its answers are copies; and some
+// worked walks of docs/RULES.md.
 import { readFileSync } from "node:fs";
-import { LINE_RECORDS, MOST_INPUT_BYTES, MOST_STEPS, loadUndrwyth } from "../undrwyth.js";
+import * as undrwyth from "../undrwyth.js";
+
+const { LINE_RECORDS, MOST_INPUT_BYTES, MOST_STEPS, REFUSALS, VERDICTS, loadUndrwyth } = undrwyth;
 
 const judge = await loadUndrwyth(readFileSync(new URL("../../dist/wasm/undrwyth32.wasm", import.meta.url)));
 let checks = 0;
@@ -22,6 +25,18 @@ function throws(what, call) {
   same(`${what} is a TypeError`, thrown instanceof TypeError, true);
 }
 
+// the header's numbers
+const header = readFileSync(new URL("../../include/undrwyth.h", import.meta.url), "utf8");
+const lines = [...header.matchAll(/^#define UNDRWYTH_(\w+) (\d+)/gm)];
+const defined = Object.fromEntries(lines.map(([, name, number]) => [name, Number(number)]));
+for (const name of Object.keys(undrwyth).filter((name) => name in defined)) same(name, undrwyth[name], defined[name]);
+const named = (kind) => Object.keys(defined).filter((name) => name.startsWith(kind))
+  .map((name) => [defined[name], name.slice(kind.length).toLowerCase()]);
+for (const [number, name] of named("REFUSAL_")) same(`refusal ${number}`, REFUSALS[number], name);
+for (const [number, name] of named("VERDICT_")) same(`verdict ${number}`, VERDICTS[number], name);
+same("refusals and verdicts", [named("REFUSAL_").length, named("VERDICT_").length], [REFUSALS.length - 1, VERDICTS.length]);
+
+// what is not an argument
 for (const ops of [undefined, null, 17, [0, 1], new Uint16Array(2), {}]) throws("no digits", () => judge.walk(ops));
 for (const start of [null, 5, [1], [1, 2, 3], ["1", "2"], [0.5, 0], [NaN, 0], [Infinity, 0]])
   throws("no start", () => judge.walk("0", start));

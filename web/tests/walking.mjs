@@ -36,6 +36,32 @@ export const walking = {
       t.same(`${record} without its head`, await t.words(), sentence);
     }
     t.same("the faulty digit", await t.tab.text("#record-fault mark"), "5");
+    await t.show("0".repeat(319));
+    t.same("what the command judge takes", (await t.tab.text("#facts")).includes("Command judge"), false);
+    await t.show("0".repeat(320));
+    const refusal = "refuses it: the table has too few records for the operation at place 319";
+    t.holds("and what it refuses", (await t.tab.text("#facts")).endsWith(refusal));
+  },
+
+  async "a refused record shows nothing else"(t) {
+    await t.open();
+    await t.show("0123");
+    await t.show("01x3", 4, 5);
+    const sentence = "refused: 'x' at place 2 is not a digit from 0 to 4";
+    t.same("words", await t.words(), sentence);
+    t.same("no picture and no facts", await t.tab.count("#picture svg, #facts dt"), 0);
+    t.same("no room", await t.tab.ask(`document.getElementById("room").hidden`), true);
+    await t.tab.focus("#picture");
+    await t.tab.press("ArrowUp");
+    t.same("a key changes nothing", [await t.words(), await t.record()], [sentence, "01x3"]);
+    await t.tab.until(`location.hash === "#4,5,01x3"`);
+    await t.open("4,5,01x3");
+    t.same("by its link", [await t.words(), await t.tab.text("#record-fault mark")], [sentence, "x"]);
+    await t.tab.tap("#clear");
+    t.same("started anew", [await t.words(), await t.tab.value("#start-x")], ["no step survives", "4"]);
+    await t.show("0", 20000, 0);
+    await t.tab.tap("#clear");
+    t.same("also from a start that is refused", [await t.words(), await t.tab.value("#start-x")], ["no step survives", "0"]);
   },
 
   async "keys and Backspace"(t) {
