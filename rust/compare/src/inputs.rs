@@ -1,6 +1,6 @@
 //! Walks and lines for tests and benchmarks; the same seed gives the same inputs everywhere.
 
-use std::collections::HashMap;
+use std::collections::{HashMap, HashSet};
 
 use answer::{MARK_WORDS, MOST_LINE_DIGITS, MOST_STEPS, PAIR_RECORD_WORDS, RECORD_WORDS};
 
@@ -92,8 +92,13 @@ pub fn lattice(n: usize, width: usize) -> Vec<u8> {
 /// The outline of the first panels of so many that it has n steps, n even and at least 4: counterclockwise from (0,0), the
 /// lower left corner of the first panel. Each panel has one side in common with those before it, and touches no other.
 fn outline(n: usize, panels: impl Iterator<Item = (i32, i32)>) -> Vec<u8> {
+    round(panels.take(n / 2 - 1), (0, 0))
+}
+
+/// The outline of these panels, which make one room: counterclockwise from a corner of it.
+fn round(panels: impl Iterator<Item = (i32, i32)>, corner: (i32, i32)) -> Vec<u8> {
     let mut sides = HashMap::new();
-    for (x, y) in panels.take(n / 2 - 1) {
+    for (x, y) in panels {
         for (way, from) in (0..).zip([(x, y), (x + 1, y), (x + 1, y + 1), (x, y + 1)]) {
             let to = stepped(from, way);
             // A side that is walked the other way already lies between two panels.
@@ -106,9 +111,9 @@ fn outline(n: usize, panels: impl Iterator<Item = (i32, i32)>) -> Vec<u8> {
         let way = (0..4).find(|&way| sides.contains_key(&(at, way)))?;
         Some((sides[&(at, way)], way))
     };
-    let start = ((0, 0), 0);
+    let start = (corner, 0);
     std::iter::successors(next(&start), next)
-        .take(n)
+        .take(sides.len())
         .map(|(_, way)| way)
         .collect()
 }
@@ -256,6 +261,39 @@ pub fn room(n: usize, random: &mut Random) -> Vec<u8> {
         }
     }
     steps
+}
+
+/// A room of n steps, n even and at least 4, that grew panel by panel at random places.
+pub fn grown(n: usize, random: &mut Random) -> Vec<u8> {
+    // The panels round a panel: those that share a side with it have even places.
+    const RING: [(i32, i32); 8] = [
+        (1, 0),
+        (1, 1),
+        (0, 1),
+        (-1, 1),
+        (-1, 0),
+        (-1, -1),
+        (0, -1),
+        (1, -1),
+    ];
+    let beside = |(x, y): (i32, i32)| RING.map(|(east, north)| (x + east, y + north));
+    let mut panels = HashSet::from([(0, 0)]);
+    let mut next: Vec<_> = beside((0, 0)).into_iter().step_by(2).collect();
+    let mut sides = 4;
+    while sides < n {
+        let panel = next.swap_remove(random.below(next.len()));
+        let held = beside(panel).map(|near| panels.contains(&near));
+        let borders = (0..8).filter(|&i| held[i] != held[(i + 1) % 8]).count();
+        let shared = held.iter().step_by(2).filter(|&&held| held).count();
+        // The panel touches the room along one piece of its outline, or else there would be a hole or a corner twice.
+        if !panels.contains(&panel) && borders == 2 && shared > 0 {
+            panels.insert(panel);
+            sides = sides + 4 - 2 * shared;
+            next.extend(beside(panel).into_iter().step_by(2));
+        }
+    }
+    let least = *panels.iter().min().expect("there is a panel");
+    round(panels.into_iter(), least)
 }
 
 /// The number of nodes that the walk from `start` needs at most at a moment, 1 where it has a fault.

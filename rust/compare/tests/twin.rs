@@ -62,6 +62,7 @@ fn benched_rooms() {
     for n in [8, 64, 1_024, 16_384] {
         for steps in [
             compare::inputs::room(n, &mut random),
+            compare::inputs::grown(n, &mut random),
             compare::inputs::closed_spiral(n),
             compare::inputs::closed_comb(n, 30),
         ] {
