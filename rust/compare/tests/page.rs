@@ -50,6 +50,7 @@ fn bytes_and_sizes() {
 #[test]
 fn rooms() {
     compare(suite::rooms);
+    compare(suite::boxes);
     compare(suite::outlines);
 }
 
