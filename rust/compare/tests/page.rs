@@ -11,7 +11,7 @@ use compare::{Library, loaded, suite};
 /// Operations of the longest walks of which all are compared.
 const LONGEST: u32 = 5;
 /// Rounds of random calls.
-const ROUNDS: usize = 50;
+const ROUNDS: usize = 30;
 
 /// Whether there are pages.
 static THERE: LazyLock<bool> = LazyLock::new(|| {
@@ -56,7 +56,7 @@ fn rooms() {
 
 #[test]
 fn convex_rooms() {
-    compare(|page| suite::convex_rooms(page, 2 * LONGEST as usize));
+    compare(|page| suite::convex_rooms(page, 12));
 }
 
 #[test]

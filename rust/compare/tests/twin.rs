@@ -5,7 +5,7 @@ use compare::TWIN as LIBRARY;
 /// Operations of the longest walks of which all are compared.
 const LONGEST: u32 = 6;
 /// Rounds of random calls.
-const ROUNDS: usize = 200;
+const ROUNDS: usize = 150;
 
 #[path = "all/mod.rs"]
 mod all;
