@@ -344,6 +344,8 @@ fn rooms_of(library: &Library, room: &[u8], random: &mut Random) {
 pub fn boxes(library: &Library) {
     let mut random = Random(23);
     for (columns, rows) in [
+        (16, 16),
+        (3, 86),
         (32, 64),
         (3, 683),
         (64, 64),

@@ -32,7 +32,8 @@ fn is_room(chain: &[u8]) -> bool {
     let walk = WalkBox::of(chain);
     walk.closed
         && match (chain.len(), walk.size()) {
-            (_, 0..=2_048) => free(chain, &walk, [0; 2_048]),
+            (_, 0..=256) => free(chain, &walk, [0; 256]),
+            (_, 257..=2_048) => free(chain, &walk, [0; 2_048]),
             (0..=256, _) => scattered(chain, [0; 258], [0; 256], [0; 256], [0; 258]),
             (_, 0..=16_384) => free(chain, &walk, [0; 16_384]),
             (0..=2_048, _) => scattered(chain, [0; 2_050], [0; 2_048], [0; 2_048], [0; 2_050]),
