@@ -2,10 +2,11 @@
 //! clearing of the table included, is timed.
 
 use std::collections::HashMap;
+use std::fmt::Debug;
 use std::hint::black_box;
 
 use answer::{
-    Facts, MARK_WORDS, MOST_STEPS, Overlaid, PAIR_RECORD_WORDS, PairFacts, RECORD_WORDS, Refusal,
+    LINE_BYTES, MARK_WORDS, MOST_STEPS, PAIR_RECORD_WORDS, PairFacts, RECORD_WORDS, Refusal,
 };
 use compare::inputs::{most_nodes, most_pair_nodes};
 use compare::{Room, Starts};
@@ -16,9 +17,8 @@ use crate::race::Call;
 const START: (i32, i32) = (0, 0);
 
 /// Each walk in the least table that has room.
-pub fn walk<'a>(
-    walk: impl Fn((i32, i32), &[u8], &mut [u32], &mut [u32], &mut [u8]) -> Result<Facts, Refusal>
-    + 'static,
+pub fn walk<'a, T, E: Debug>(
+    walk: impl Fn((i32, i32), &[u8], &mut [u32], &mut [u32], &mut [u8]) -> Result<T, E> + 'static,
     inputs: &'a [Vec<u8>],
 ) -> Call<'a> {
     let walks = inputs.iter().map(|ops| (START, ops.clone())).collect();
@@ -26,9 +26,8 @@ pub fn walk<'a>(
 }
 
 /// The same from a start of its own each.
-fn walk_from<'a>(
-    walk: impl Fn((i32, i32), &[u8], &mut [u32], &mut [u32], &mut [u8]) -> Result<Facts, Refusal>
-    + 'static,
+fn walk_from<'a, T, E: Debug>(
+    walk: impl Fn((i32, i32), &[u8], &mut [u32], &mut [u32], &mut [u8]) -> Result<T, E> + 'static,
     walks: Vec<((i32, i32), Vec<u8>)>,
 ) -> Call<'a> {
     let lent = |(start, ops): &((i32, i32), Vec<u8>)| {
@@ -78,9 +77,8 @@ pub fn walk_two(
 }
 
 /// Each of the two parties alone, one after the other, each in a table of its own.
-pub fn walk_alone<'a>(
-    walk: impl Fn((i32, i32), &[u8], &mut [u32], &mut [u32], &mut [u8]) -> Result<Facts, Refusal>
-    + 'static,
+pub fn walk_alone<'a, T, E: Debug>(
+    walk: impl Fn((i32, i32), &[u8], &mut [u32], &mut [u32], &mut [u8]) -> Result<T, E> + 'static,
     inputs: &'a [Vec<u8>],
 ) -> Call<'a> {
     let own = |ops: &'a Vec<u8>| {
@@ -126,10 +124,10 @@ fn stepped((x, y): (i32, i32), step: u8) -> (i32, i32) {
 }
 
 /// Each hull, in a buffer that is always large enough.
-pub fn hull(
-    hull: impl Fn((i32, i32), &[u8], &mut [i32]) -> Result<usize, Refusal> + 'static,
-    inputs: &[Vec<u8>],
-) -> Call<'_> {
+pub fn hull<'a, T, E: Debug>(
+    hull: impl Fn((i32, i32), &[u8], &mut [i32]) -> Result<T, E> + 'static,
+    inputs: &'a [Vec<u8>],
+) -> Call<'a> {
     let mut out = vec![0; 2 * inputs[0].len() + 2];
     Box::new(move || {
         for chain in inputs {
@@ -140,10 +138,10 @@ pub fn hull(
 }
 
 /// Each outline, in a buffer that is always large enough.
-pub fn outline(
-    outline: impl Fn((i32, i32), &[u8], &mut [u8]) -> Result<usize, Refusal> + 'static,
-    inputs: &[Vec<u8>],
-) -> Call<'_> {
+pub fn outline<'a, T, E: Debug>(
+    outline: impl Fn((i32, i32), &[u8], &mut [u8]) -> Result<T, E> + 'static,
+    inputs: &'a [Vec<u8>],
+) -> Call<'a> {
     let mut out = vec![0; 2 * inputs[0].len()];
     Box::new(move || {
         for chain in inputs {
@@ -154,10 +152,10 @@ pub fn outline(
 }
 
 /// Each room as a polygon, in a buffer that is always large enough.
-pub fn polygon(
-    polygon: impl Fn((i32, i32), &[u8], &mut [u8]) -> Result<usize, Refusal> + 'static,
-    inputs: &[Vec<u8>],
-) -> Call<'_> {
+pub fn polygon<'a, T, E: Debug>(
+    polygon: impl Fn((i32, i32), &[u8], &mut [u8]) -> Result<T, E> + 'static,
+    inputs: &'a [Vec<u8>],
+) -> Call<'a> {
     let mut out = vec![0; 16 * inputs[0].len() + 29];
     Box::new(move || {
         for chain in inputs {
@@ -168,10 +166,10 @@ pub fn polygon(
 }
 
 /// Each room by rows, in a buffer that is always large enough.
-pub fn rows(
-    rows: impl Fn((i32, i32), &[u8], &mut [i32]) -> Result<usize, Refusal> + 'static,
-    inputs: &[Vec<u8>],
-) -> Call<'_> {
+pub fn rows<'a, T, E: Debug>(
+    rows: impl Fn((i32, i32), &[u8], &mut [i32]) -> Result<T, E> + 'static,
+    inputs: &'a [Vec<u8>],
+) -> Call<'a> {
     let mut out = vec![0; 3 * inputs[0].len()];
     Box::new(move || {
         for chain in inputs {
@@ -210,10 +208,10 @@ fn sort_edges(start: (i32, i32), chain: &[u8], out: &mut [i32]) -> usize {
 }
 
 /// Each room over itself, moved aside a little, in buffers that are always large enough.
-pub fn overlay(
-    overlay: impl Fn(Room, Room, [&mut [i32]; 3]) -> Result<Overlaid, Refusal> + 'static,
-    inputs: &[Vec<u8>],
-) -> Call<'_> {
+pub fn overlay<'a, T, E: Debug>(
+    overlay: impl Fn(Room, Room, [&mut [i32]; 3]) -> Result<T, E> + 'static,
+    inputs: &'a [Vec<u8>],
+) -> Call<'a> {
     let [mut first, mut second, mut both] = [(); 3].map(|()| vec![0; 3 * inputs[0].len()]);
     Box::new(move || {
         for chain in inputs {
@@ -226,10 +224,10 @@ pub fn overlay(
 }
 
 /// Whether each room is convex.
-pub fn convex(
-    convex: impl Fn((i32, i32), &[u8]) -> Result<bool, Refusal> + 'static,
-    inputs: &[Vec<u8>],
-) -> Call<'_> {
+pub fn convex<'a, T, E: Debug>(
+    convex: impl Fn((i32, i32), &[u8]) -> Result<T, E> + 'static,
+    inputs: &'a [Vec<u8>],
+) -> Call<'a> {
     Box::new(move || {
         for chain in inputs {
             black_box(convex((-7, 5), black_box(chain)).expect("it is a room"));
@@ -238,15 +236,25 @@ pub fn convex(
 }
 
 /// Each polygon as a start and a chain.
-pub fn chain(
-    chain: impl Fn(&[u8], &mut [u8]) -> Result<((i32, i32), usize), Refusal> + 'static,
-    files: &[Vec<u8>],
-) -> Call<'_> {
+pub fn chain<'a, T, E: Debug>(
+    chain: impl Fn(&[u8], &mut [u8]) -> Result<T, E> + 'static,
+    files: &'a [Vec<u8>],
+) -> Call<'a> {
     let mut out = vec![0; MOST_STEPS];
     Box::new(move || {
         for file in files {
             let answer = chain(black_box(file), &mut out);
             black_box(answer.expect("it is a ring"));
+        }
+    })
+}
+
+/// Each answer to a line.
+pub fn line(line: impl Fn(&[u8], &mut [u8]) -> usize + 'static, lines: &[Vec<u8>]) -> Call<'_> {
+    let mut out = vec![0; LINE_BYTES];
+    Box::new(move || {
+        for frame in lines {
+            assert!(black_box(line(black_box(frame), &mut out)) > 0);
         }
     })
 }

@@ -1,15 +1,22 @@
 //! The proved library and programs beside plain Rust: docs/BENCHMARKS.md says what is measured and what the figures mean.
 
+mod beside;
 mod calls;
+mod loaded;
 mod programs;
 mod race;
+
+use std::env;
+use std::path::Path;
+use std::sync::LazyLock;
 
 use calls::{
     chain, convert, convex, count_visits, hull, outline, overlay, polygon, rows, sorted_rows, walk,
     walk_alone, walk_two,
 };
 use compare::inputs::{self, Random};
-use race::race;
+use compare::loaded::{Loaded, pages};
+use race::{Call, race};
 
 /// Operations that a contestant does at each call, on as many inputs as that takes.
 const OPERATIONS: usize = 16_384;
@@ -30,6 +37,7 @@ fn chains(n: usize) -> Vec<(&'static str, Vec<Vec<u8>>)> {
         ("comb", several(n, |_| inputs::comb(n, 30))),
         ("closed-comb", several(n, |_| inputs::closed_comb(n, 30))),
         ("room", several(n, |random| inputs::room(n, random))),
+        ("grown", several(n, |random| inputs::grown(n, random))),
         ("random", several(n, |random| inputs::wander(n, random))),
         ("straight", several(n, |_| inputs::straight(n, 0))),
         ("stairs", several(n, |_| inputs::stairs(n))),
@@ -41,7 +49,38 @@ fn ns(seconds: f64) -> f64 {
     1e9 * seconds / OPERATIONS as f64
 }
 
+/// The pages; none if there is no g++.
+fn page() -> Option<&'static Loaded> {
+    static PAGE: LazyLock<Option<&'static Loaded>> = LazyLock::new(|| {
+        let own = env::current_exe().expect("it is running");
+        let page = pages(own.parent().expect("a file is in a folder"));
+        if page.is_none() {
+            eprintln!("bench: g++ is not there: the pages are not measured");
+        }
+        page
+    });
+    *PAGE
+}
+
+/// These contestants, and the page if it is there.
+fn paged<'a>(
+    mut contestants: Vec<(&'static str, Call<'a>)>,
+    of: impl Fn(&'static Loaded) -> Call<'a>,
+) -> Vec<(&'static str, Call<'a>)> {
+    contestants.extend(page().map(|page| ("page", of(page))));
+    contestants
+}
+
 fn main() {
+    let words: Vec<_> = env::args().skip(1).collect();
+    match words.iter().map(String::as_str).collect::<Vec<_>>()[..] {
+        [] => print(),
+        ["--beside", before, after] => beside::print(Path::new(before), Path::new(after)),
+        _ => panic!("benches [--beside BEFORE AFTER]"),
+    }
+}
+
+fn print() {
     println!("\nwalk, ns an operation");
     walks();
     println!("\ntwo parties, ns an operation of either");
@@ -71,11 +110,14 @@ fn main() {
 fn walks() {
     for n in SIZES {
         for (shape, inputs) in operations(n) {
-            race(vec![
-                ("proved", walk(undrwyth::walk, &inputs)),
-                ("twin", walk(twin::walk, &inputs)),
-                ("map", count_visits(&inputs)),
-            ])
+            race(paged(
+                vec![
+                    ("proved", walk(undrwyth::walk, &inputs)),
+                    ("twin", walk(twin::walk, &inputs)),
+                    ("map", count_visits(&inputs)),
+                ],
+                |page| loaded::walk(page, &inputs),
+            ))
             .print(&format!("walk/{shape}/{n}"), ns);
         }
     }
@@ -123,11 +165,14 @@ fn pairs() {
 fn hulls() {
     for n in SIZES {
         for (shape, inputs) in chains(n) {
-            race(vec![
-                ("proved", hull(undrwyth::hull, &inputs)),
-                ("columns", hull(twin::hull, &inputs)),
-                ("sort", hull(plain::hull, &inputs)),
-            ])
+            race(paged(
+                vec![
+                    ("proved", hull(undrwyth::hull, &inputs)),
+                    ("columns", hull(twin::hull, &inputs)),
+                    ("sort", hull(plain::hull, &inputs)),
+                ],
+                |page| loaded::hull(page, &inputs),
+            ))
             .print(&format!("hull/{shape}/{n}"), ns);
         }
     }
@@ -136,11 +181,14 @@ fn hulls() {
 fn outlines() {
     for n in SIZES {
         for (shape, inputs) in chains(n) {
-            race(vec![
-                ("proved", outline(undrwyth::outline, &inputs)),
-                ("twin", outline(twin::outline, &inputs)),
-                ("set", outline(plain::outline, &inputs)),
-            ])
+            race(paged(
+                vec![
+                    ("proved", outline(undrwyth::outline, &inputs)),
+                    ("twin", outline(twin::outline, &inputs)),
+                    ("set", outline(plain::outline, &inputs)),
+                ],
+                |page| loaded::outline(page, &inputs),
+            ))
             .print(&format!("outline/{shape}/{n}"), ns);
         }
     }
@@ -148,7 +196,7 @@ fn outlines() {
 
 /// The walks of n steps that are rooms.
 fn rooms(n: usize) -> impl Iterator<Item = (&'static str, Vec<Vec<u8>>)> {
-    let closed = |shape: &str| shape.starts_with("closed") || shape == "room";
+    let closed = |shape: &str| shape.starts_with("closed") || ["room", "grown"].contains(&shape);
     chains(n)
         .into_iter()
         .filter(move |(shape, _)| closed(shape))
@@ -157,11 +205,14 @@ fn rooms(n: usize) -> impl Iterator<Item = (&'static str, Vec<Vec<u8>>)> {
 fn polygons() {
     for n in SIZES {
         for (shape, inputs) in rooms(n) {
-            race(vec![
-                ("proved", polygon(undrwyth::polygon_of_room, &inputs)),
-                ("twin", polygon(twin::polygon_of_room, &inputs)),
-                ("set", polygon(plain::polygon_of_room, &inputs)),
-            ])
+            race(paged(
+                vec![
+                    ("proved", polygon(undrwyth::polygon_of_room, &inputs)),
+                    ("twin", polygon(twin::polygon_of_room, &inputs)),
+                    ("set", polygon(plain::polygon_of_room, &inputs)),
+                ],
+                |page| loaded::polygon(page, &inputs),
+            ))
             .print(&format!("polygon/{shape}/{n}"), ns);
         }
     }
@@ -170,11 +221,14 @@ fn polygons() {
 fn rows_of_rooms() {
     for n in SIZES {
         for (shape, inputs) in rooms(n) {
-            race(vec![
-                ("proved", rows(undrwyth::rows, &inputs)),
-                ("twin", rows(twin::rows, &inputs)),
-                ("sort", sorted_rows(&inputs)),
-            ])
+            race(paged(
+                vec![
+                    ("proved", rows(undrwyth::rows, &inputs)),
+                    ("twin", rows(twin::rows, &inputs)),
+                    ("sort", sorted_rows(&inputs)),
+                ],
+                |page| loaded::rows(page, &inputs),
+            ))
             .print(&format!("rows/{shape}/{n}"), ns);
         }
     }
@@ -184,10 +238,13 @@ fn rows_of_rooms() {
 fn overlays() {
     for n in SIZES {
         for (shape, inputs) in rooms(n) {
-            race(vec![
-                ("proved", overlay(undrwyth::overlay, &inputs)),
-                ("twin", overlay(twin::overlay, &inputs)),
-            ])
+            race(paged(
+                vec![
+                    ("proved", overlay(undrwyth::overlay, &inputs)),
+                    ("twin", overlay(twin::overlay, &inputs)),
+                ],
+                |page| loaded::overlay(page, &inputs),
+            ))
             .print(&format!("overlay/{shape}/{n}"), ns);
         }
     }
@@ -198,11 +255,14 @@ fn convexes() {
     for n in SIZES {
         let ovals = several(n, |_| inputs::oval(n, n / 4));
         for (shape, inputs) in [("oval", ovals)].into_iter().chain(rooms(n)) {
-            race(vec![
-                ("proved", convex(undrwyth::convex, &inputs)),
-                ("twin", convex(twin::convex, &inputs)),
-                ("centres", convex(plain::convex, &inputs)),
-            ])
+            race(paged(
+                vec![
+                    ("proved", convex(undrwyth::convex, &inputs)),
+                    ("twin", convex(twin::convex, &inputs)),
+                    ("centres", convex(plain::convex, &inputs)),
+                ],
+                |page| loaded::convex(page, &inputs),
+            ))
             .print(&format!("convex/{shape}/{n}"), ns);
         }
     }
@@ -228,11 +288,14 @@ fn files() {
         for (shape, rooms) in rooms(n) {
             for (order, little) in [("little", true), ("big", false)] {
                 let files = polygons_of(&rooms, little);
-                race(vec![
-                    ("proved", chain(undrwyth::chain_of_polygon, &files)),
-                    ("twin", chain(twin::chain_of_polygon, &files)),
-                    ("lists", chain(plain::chain_of_polygon, &files)),
-                ])
+                race(paged(
+                    vec![
+                        ("proved", chain(undrwyth::chain_of_polygon, &files)),
+                        ("twin", chain(twin::chain_of_polygon, &files)),
+                        ("lists", chain(plain::chain_of_polygon, &files)),
+                    ],
+                    |page| loaded::chain(page, &files),
+                ))
                 .print(&format!("chain/{shape}-{order}/{n}"), megabytes(&files));
             }
         }

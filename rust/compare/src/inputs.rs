@@ -1,6 +1,6 @@
 //! Walks and lines for tests and benchmarks; the same seed gives the same inputs everywhere.
 
-use std::collections::HashMap;
+use std::collections::{HashMap, HashSet};
 
 use answer::{MARK_WORDS, MOST_LINE_DIGITS, MOST_STEPS, PAIR_RECORD_WORDS, RECORD_WORDS};
 
@@ -92,8 +92,13 @@ pub fn lattice(n: usize, width: usize) -> Vec<u8> {
 /// The outline of the first panels of so many that it has n steps, n even and at least 4: counterclockwise from (0,0), the
 /// lower left corner of the first panel. Each panel has one side in common with those before it, and touches no other.
 fn outline(n: usize, panels: impl Iterator<Item = (i32, i32)>) -> Vec<u8> {
+    round(panels.take(n / 2 - 1), (0, 0))
+}
+
+/// The outline of these panels, which make one room: counterclockwise from a corner of it.
+fn round(panels: impl Iterator<Item = (i32, i32)>, corner: (i32, i32)) -> Vec<u8> {
     let mut sides = HashMap::new();
-    for (x, y) in panels.take(n / 2 - 1) {
+    for (x, y) in panels {
         for (way, from) in (0..).zip([(x, y), (x + 1, y), (x + 1, y + 1), (x, y + 1)]) {
             let to = stepped(from, way);
             // A side that is walked the other way already lies between two panels.
@@ -106,9 +111,9 @@ fn outline(n: usize, panels: impl Iterator<Item = (i32, i32)>) -> Vec<u8> {
         let way = (0..4).find(|&way| sides.contains_key(&(at, way)))?;
         Some((sides[&(at, way)], way))
     };
-    let start = ((0, 0), 0);
+    let start = (corner, 0);
     std::iter::successors(next(&start), next)
-        .take(n)
+        .take(sides.len())
         .map(|(_, way)| way)
         .collect()
 }
@@ -137,6 +142,16 @@ pub fn closed_comb(n: usize, height: i32) -> Vec<u8> {
             .chain([(2 * x + 1, 0)])
     };
     outline(n, (0..).flat_map(tooth))
+}
+
+/// A room of n steps, n even: a corridor, one panel wide, that goes on east or north at random, so that its box is large.
+pub fn corridor(n: usize, random: &mut Random) -> Vec<u8> {
+    let mut at = (0, 0);
+    let rest = (0..n / 2).map(|_| {
+        at = stepped(at, random.below(2) as u8);
+        at
+    });
+    outline(n, std::iter::once((0, 0)).chain(rest))
 }
 
 /// The outline of rows of panels one above the other, each from its first panel to before its last; neighbours overlap.
@@ -258,6 +273,57 @@ pub fn room(n: usize, random: &mut Random) -> Vec<u8> {
     steps
 }
 
+/// A room of n steps, n even and at least 4, that grew panel by panel at random places.
+pub fn grown(n: usize, random: &mut Random) -> Vec<u8> {
+    // The panels round a panel: those that share a side with it have even places.
+    const RING: [(i32, i32); 8] = [
+        (1, 0),
+        (1, 1),
+        (0, 1),
+        (-1, 1),
+        (-1, 0),
+        (-1, -1),
+        (0, -1),
+        (1, -1),
+    ];
+    let beside = |(x, y): (i32, i32)| RING.map(|(east, north)| (x + east, y + north));
+    let mut panels = HashSet::from([(0, 0)]);
+    let mut next: Vec<_> = beside((0, 0)).into_iter().step_by(2).collect();
+    let mut sides = 4;
+    while sides < n {
+        let panel = next.swap_remove(random.below(next.len()));
+        let held = beside(panel).map(|near| panels.contains(&near));
+        let borders = (0..8).filter(|&i| held[i] != held[(i + 1) % 8]).count();
+        let shared = held.iter().step_by(2).filter(|&&held| held).count();
+        // The panel touches the room along one piece of its outline, or else there would be a hole or a corner twice.
+        if !panels.contains(&panel) && borders == 2 && shared > 0 {
+            panels.insert(panel);
+            sides = sides + 4 - 2 * shared;
+            next.extend(beside(panel).into_iter().step_by(2));
+        }
+    }
+    let least = *panels.iter().min().expect("there is a panel");
+    round(panels.into_iter(), least)
+}
+
+/// A room whose box has so many columns and rows of corners, three or more each: a rectangle with notches of this depth in its lower side.
+pub fn notched(columns: usize, rows: usize, depth: usize) -> Vec<u8> {
+    let (wide, high) = (columns - 1, rows - 1);
+    let depth = depth.min(high - 1);
+    let mut steps = Vec::new();
+    let mut x = 0;
+    while x < wide {
+        steps.push(0);
+        x += 1;
+        if x + 1 < wide {
+            steps.extend([vec![1; depth], vec![0], vec![3; depth]].concat());
+            x += 1;
+        }
+    }
+    steps.extend([vec![1; high], vec![2; wide], vec![3; high]].concat());
+    steps
+}
+
 /// The number of nodes that the walk from `start` needs at most at a moment, 1 where it has a fault.
 pub fn most_nodes(start: (i32, i32), ops: &[u8]) -> usize {
     let mut table = vec![0; RECORD_WORDS * (4 * (ops.len() + 1) + 64)];
@@ -339,10 +405,21 @@ pub fn withdrawn(n: usize, random: &mut Random) -> Vec<u8> {
     ops
 }
 
+/// A room of about n steps with a step aside and back at some place, so that it comes to a corner again.
+fn met_again(n: usize, random: &mut Random) -> Vec<u8> {
+    let mut steps = match random.below(2) {
+        0 => room(n, random),
+        _ => corridor(n, random),
+    };
+    let (place, aside) = (random.below(steps.len()), random.step());
+    steps.splice(place..place, [aside, (aside + 2) % 4]);
+    steps
+}
+
 /// A walk of some kind with up to `most` operations; it may have a fault.
 pub fn walk(most: usize, random: &mut Random) -> Vec<u8> {
     let n = random.length(most);
-    let mut ops = match random.below(13) {
+    let mut ops = match random.below(17) {
         0 => straight(n, random.step()),
         1 => spiral(n),
         2 => comb(n, 1 + random.below(40)),
@@ -355,6 +432,14 @@ pub fn walk(most: usize, random: &mut Random) -> Vec<u8> {
         9 => withdrawn(n, random),
         10 => closed_spiral(n.clamp(4, MOST_STEPS) & !1),
         11 => closed_comb(n.clamp(4, MOST_STEPS) & !1, random.below(40) as i32),
+        // Rooms of few panels for their steps, as `plain` counts panels one by one.
+        12 => grown(n.clamp(4, 2_048) & !1, random),
+        13 => {
+            let n = n.clamp(8, 1_024) & !1;
+            dented(n, 1 + random.below(n / 4), random)
+        }
+        14 => corridor(n.clamp(4, MOST_STEPS) & !1, random),
+        15 => met_again(n.clamp(8, MOST_STEPS) & !1, random),
         _ => [0, 2].repeat(n / 2),
     };
     if random.once_in(12) && !ops.is_empty() {

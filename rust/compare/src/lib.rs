@@ -2,6 +2,7 @@
 
 pub mod calls;
 pub mod inputs;
+pub mod loaded;
 pub mod suite;
 
 use answer::{

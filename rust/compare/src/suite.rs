@@ -339,6 +339,53 @@ fn rooms_of(library: &Library, room: &[u8], random: &mut Random) {
     }
 }
 
+/// Rooms whose boxes have as many corners as the maps of the room test and of the outline, and a few more, with few steps and with many; each
+/// also with a corner twice, without its first step, and over itself.
+pub fn boxes(library: &Library) {
+    let mut random = Random(23);
+    for (columns, rows) in [
+        (16, 16),
+        (3, 86),
+        (32, 64),
+        (3, 683),
+        (64, 64),
+        (65, 64),
+        (128, 128),
+        (129, 128),
+        (128, 256),
+        (129, 256),
+        (256, 512),
+        (257, 512),
+        (512, 512),
+        (512, 513),
+        (3, 8_000),
+        (8_000, 3),
+    ] {
+        for depth in [0, 1, 14, rows / 2] {
+            let mut room = inputs::notched(columns, rows, depth);
+            if room.len() > MOST_STEPS - 2 {
+                continue;
+            }
+            room.rotate_left(random.below(columns + rows));
+            let place = random.below(room.len());
+            let aside = random.step();
+            let mut crossed = room.clone();
+            crossed.splice(place..place, [aside, (aside + 2) % 4]);
+            for chain in [&room[..], &room[1..], &crossed] {
+                polygon_near(library, (5, -9), chain);
+                calls::convex(library, (5, -9), chain);
+                outline_near(library, (5, -9), chain);
+            }
+            // `plain` counts panels one by one.
+            if columns * rows < 20_000 {
+                rows_near(library, (5, -9), &room);
+                rows_near(library, (5, -9), &crossed);
+                overlay_near(library, ((5, -9), &room), ((6, -7), &room));
+            }
+        }
+    }
+}
+
 /// Outlines of trees, spirals, figures of eight, walks along one line, of one step and of none, crossed and lattice walks, from every start at
 /// the ends of the range, of every size of the working store and one beyond; 32,768 steps are the most.
 pub fn outlines(library: &Library) {

@@ -5,7 +5,7 @@ use compare::TWIN as LIBRARY;
 /// Operations of the longest walks of which all are compared.
 const LONGEST: u32 = 6;
 /// Rounds of random calls.
-const ROUNDS: usize = 200;
+const ROUNDS: usize = 150;
 
 #[path = "all/mod.rs"]
 mod all;
@@ -62,6 +62,7 @@ fn benched_rooms() {
     for n in [8, 64, 1_024, 16_384] {
         for steps in [
             compare::inputs::room(n, &mut random),
+            compare::inputs::grown(n, &mut random),
             compare::inputs::closed_spiral(n),
             compare::inputs::closed_comb(n, 30),
         ] {

@@ -35,16 +35,69 @@ pub fn judge(start: Corner, chain: &[u8]) -> Result<(), Refusal> {
 
 /// The hull corners of the walk of good steps, counterclockwise from the lowest of the leftmost.
 pub fn hull_list(start: Corner, chain: &[u8]) -> Vec<Corner> {
-    let (west, columns) = columns(start, chain);
-    let columns = || (0..columns.len()).map(|i| (west + i as i32, columns[i]));
+    let (west, east) = extent(chain);
+    match east - west {
+        0..256 => list(start, chain, west, east, [BLANK; 256], [BLANK; 256]),
+        256..2_048 => list(start, chain, west, east, [BLANK; 2_048], [BLANK; 2_048]),
+        _ => list(start, chain, west, east, [BLANK; 16_385], [BLANK; 16_385]),
+    }
+}
+
+/// What each step adds to a column and to a height.
+const EAST: [u32; 4] = [1, 0, u32::MAX, 0];
+const NORTH: [u16; 4] = [0, 1, 0, u16::MAX];
+/// The column and the height of the start, and twice that height.
+const MIDDLE: u32 = 16_384;
+const LEVEL: u16 = 16_384;
+const TOP: u16 = 32_768;
+/// What a column has before the walk comes there.
+const BLANK: u16 = u16::MAX;
+
+/// The westmost and the eastmost column.
+fn extent(chain: &[u8]) -> (u32, u32) {
+    let (mut x, mut west, mut east) = (MIDDLE, MIDDLE, MIDDLE);
+    for &step in chain {
+        x = x.wrapping_add(EAST[usize::from(step)]);
+        (west, east) = (west.min(x), east.max(x));
+    }
+    (west, east)
+}
+
+/// The same in a store with room for the columns: the least height of each, and the least of the heights turned upside down.
+fn list<const N: usize>(
+    start: Corner,
+    chain: &[u8],
+    west: u32,
+    east: u32,
+    mut low: [u16; N],
+    mut high: [u16; N],
+) -> Vec<Corner> {
+    let mut keep = |x: u32, y: u16| {
+        let column = x as usize;
+        low[column] = low[column].min(y);
+        high[column] = high[column].min(TOP - y);
+    };
+    let (mut x, mut y) = (MIDDLE - west, LEVEL);
+    for &step in chain {
+        keep(x, y);
+        x = x.wrapping_add(EAST[usize::from(step)]);
+        y = y.wrapping_add(NORTH[usize::from(step)]);
+    }
+    keep(x, y);
+    let columns = (east - west + 1) as usize;
+    high[..columns].reverse();
+    // The corners of one side, from their columns and heights.
+    let corner = |x: u32, y: u16| Corner {
+        x: start.x + x.wrapping_sub(MIDDLE).cast_signed(),
+        y: start.y + i32::from(y) - i32::from(LEVEL),
+    };
     let mut list = Vec::new();
-    scan(&mut list, columns().map(|(x, (y, _))| Corner { x, y }));
+    let below = (west..).zip(&low[..columns]);
+    scan(&mut list, below.map(|(x, &y)| corner(x, y)));
     // The upper side begins and ends where the lower does if that column has one corner.
     let lower = list.len();
-    scan(
-        &mut list,
-        columns().rev().map(|(x, (_, y))| Corner { x, y }),
-    );
+    let above = (0..).zip(&high[..columns]);
+    scan(&mut list, above.map(|(i, &y)| corner(east - i, TOP - y)));
     if list[lower - 1] == list[lower] {
         list.remove(lower);
     }
@@ -52,26 +105,6 @@ pub fn hull_list(start: Corner, chain: &[u8]) -> Vec<Corner> {
         list.pop();
     }
     list
-}
-
-/// The westmost x, and the lowest and highest y of each column from there on.
-fn columns(start: Corner, chain: &[u8]) -> (i32, Vec<(i32, i32)>) {
-    let (mut at, mut west, mut east) = (start, start.x, start.x);
-    for &step in chain {
-        at = at.stepped(step);
-        west = at.x.min(west);
-        east = at.x.max(east);
-    }
-    let mut columns = vec![(i32::MAX, i32::MIN); (east - west + 1) as usize];
-    let mut at = start;
-    columns[(at.x - west) as usize] = (at.y, at.y);
-    for &step in chain {
-        at = at.stepped(step);
-        let (low, high) = &mut columns[(at.x - west) as usize];
-        *low = at.y.min(*low);
-        *high = at.y.max(*high);
-    }
-    (west, columns)
 }
 
 /// Appends those of the corners, which are in order, at which their hull turns left.

@@ -13,6 +13,7 @@ mod rows;
 mod tree;
 mod turns;
 mod walk;
+mod walk_box;
 
 pub use convex::convex;
 pub use hull::hull;

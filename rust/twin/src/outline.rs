@@ -1,9 +1,11 @@
-//! The outer outline: corners in a digital tree of their keys, links along the walked edges, and two passes round.
+//! The outer outline: the ways that were walked at each corner in a map of the walk's box; if the box is large, corners in a digital
+//! tree of their keys, links along the walked edges, and two passes round.
 
 use answer::Refusal;
 
 use crate::hull;
 use crate::tree::{Corner, back};
+use crate::walk_box::WalkBox;
 
 /// Rows in a column of keys.
 const ROWS: u32 = 32_769;
@@ -11,13 +13,80 @@ const ROWS: u32 = 32_769;
 /// Writes the steps of the outer outline of the walk of `chain` from `start` to the start of `out`, and answers how many there are.
 pub fn outline(start: (i32, i32), chain: &[u8], out: &mut [u8]) -> Result<usize, Refusal> {
     hull::judge(Corner::from(start), chain)?;
-    match chain.len() {
-        0 => Some(0),
-        1..=256 => Store::new([0; 257], [[0; 2]; 257], [[0; 4]; 257]).write(chain, out),
-        257..=2_048 => Store::new([0; 2_049], [[0; 2]; 2_049], [[0; 4]; 2_049]).write(chain, out),
+    if chain.is_empty() {
+        return Ok(0);
+    }
+    let walk = WalkBox::of(chain);
+    match (chain.len(), walk.size()) {
+        (_, 0..=4_096) => write_in(&walk, chain, [0; 4_096], out),
+        (0..=256, _) => Store::new([0; 257], [[0; 2]; 257], [[0; 4]; 257]).write(chain, out),
+        (_, 0..=32_768) => write_in(&walk, chain, [0; 32_768], out),
+        (0..=2_048, _) => {
+            Store::new([0; 2_049], [[0; 2]; 2_049], [[0; 4]; 2_049]).write(chain, out)
+        }
+        (_, 0..=262_144) => write_in(&walk, chain, [0; 262_144], out),
         _ => Store::new([0; 16_385], [[0; 2]; 16_385], [[0; 4]; 16_385]).write(chain, out),
     }
     .ok_or(Refusal::OutlineRoom)
+}
+
+/// Marks the ways of the walk in a map of its box, a byte a corner and a bit a way, and writes the outline, if there is room for it.
+fn write_in<const N: usize>(
+    walk: &WalkBox,
+    chain: &[u8],
+    mut map: [u8; N],
+    out: &mut [u8],
+) -> Option<usize> {
+    // Places go column after column, so that the least is that of the lowest of the leftmost corners.
+    let h = walk.height;
+    let by = [h, 1, h.wrapping_neg(), usize::MAX];
+    let go = |place: usize, way: u8| place.wrapping_add(by[usize::from(way)]);
+    let mut at = walk.from % walk.width * h + walk.from / walk.width;
+    let (mut home, mut last) = (at, 0);
+    for &way in chain {
+        map[at] |= last | 1 << way;
+        at = go(at, way);
+        home = home.min(at);
+        last = 1 << back(way);
+    }
+    map[at] |= last;
+    let first = (home, u8::from(map[home] & 1 == 0));
+    let next = |(place, way): (usize, u8)| {
+        let to = go(place, way);
+        (to, turn(map[to], way))
+    };
+    if out.len() < 2 * chain.len() {
+        let (mut now, mut count) = (next(first), 1);
+        while now != first {
+            now = next(now);
+            count += 1;
+        }
+        if out.len() < count {
+            return None;
+        }
+    }
+    out[0] = first.1;
+    let (mut now, mut count) = (next(first), 1);
+    while now != first {
+        out[count] = now.1;
+        now = next(now);
+        count += 1;
+    }
+    Some(count)
+}
+
+/// The way on from a corner with these ways: the first that was walked of right turn, straight on, left turn, back.
+fn turn(ways: u8, way: u8) -> u8 {
+    let [right, left] = [(way + 3) % 4, (way + 1) % 4];
+    if ways >> right & 1 == 1 {
+        right
+    } else if ways >> way & 1 == 1 {
+        way
+    } else if ways >> left & 1 == 1 {
+        left
+    } else {
+        back(way)
+    }
 }
 
 /// The different corners of a walk: their keys, the two children of each in the tree, and 1 + the corner that a walked edge leads

@@ -150,10 +150,7 @@ impl<'a> PairTree<'a> {
     /// Whether the neighbour is looked up by its parents: the party has no link, neither is the root, and the parents differ.
     fn goes_up(&self, q: usize, u: usize, c: Corner, way: u8) -> bool {
         let e = c.stepped(way);
-        self.own(q, u, LINK_STEP + way as usize) == 0
-            && e != ROOT
-            && c != ROOT
-            && c.parent() != e.parent()
+        self.own(q, u, LINK_STEP + way as usize) == 0 && c.parent() != e.parent()
     }
 
     /// The neighbour at the level where a climb stopped.

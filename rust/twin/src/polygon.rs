@@ -1,10 +1,12 @@
-//! Rooms as polygons: whether a walk is a room by threads through its columns, and the points written one after the other. And
+//! Rooms as polygons: whether a walk is a room by a byte for each corner of its box, or by threads through its columns if the box is
+//! large, and the points written one after the other. And
 //! polygons as chains: one pass over the points judges them, one writes the steps.
 
 use answer::{MOST_STEPS, Refusal};
 
 use crate::hull;
 use crate::tree::Corner;
+use crate::walk_box::WalkBox;
 
 /// Writes the room with this start and chain to the start of `out`, and answers how many bytes its polygon has.
 pub fn polygon_of_room(start: (i32, i32), chain: &[u8], out: &mut [u8]) -> Result<usize, Refusal> {
@@ -24,21 +26,33 @@ pub fn judge_room(start: (i32, i32), chain: &[u8]) -> Result<(), Refusal> {
 
 /// Whether the walk is closed, of four steps or more, and at no corner twice before its end.
 fn is_room(chain: &[u8]) -> bool {
-    chain.len() >= 4
-        && closes(chain)
-        && match chain.len() {
-            0..=256 => scattered(chain, [0; 258], [0; 256], [0; 256], [0; 258]),
-            257..=2_048 => scattered(chain, [0; 2_050], [0; 2_048], [0; 2_048], [0; 2_050]),
+    if chain.len() < 4 {
+        return false;
+    }
+    let walk = WalkBox::of(chain);
+    walk.closed
+        && match (chain.len(), walk.size()) {
+            (_, 0..=256) => free(chain, &walk, [0; 256]),
+            (_, 257..=2_048) => free(chain, &walk, [0; 2_048]),
+            (0..=256, _) => scattered(chain, [0; 258], [0; 256], [0; 256], [0; 258]),
+            (_, 0..=16_384) => free(chain, &walk, [0; 16_384]),
+            (0..=2_048, _) => scattered(chain, [0; 2_050], [0; 2_048], [0; 2_048], [0; 2_050]),
+            (_, 0..=131_072) => free(chain, &walk, [0; 131_072]),
             _ => scattered(chain, [0; 16_386], [0; 16_384], [0; 16_384], [0; 16_386]),
         }
 }
 
-fn closes(chain: &[u8]) -> bool {
-    let mut at = Corner { x: 0, y: 0 };
+/// Whether no corner of the box comes twice: a byte for each, which is 1 if the walk was there.
+fn free<const N: usize>(chain: &[u8], walk: &WalkBox, mut map: [u8; N]) -> bool {
+    let (by, mut place) = (walk.by(), walk.from);
     for &step in chain {
-        at = at.stepped(step);
+        if map[place] != 0 {
+            return false;
+        }
+        map[place] = 1;
+        place = place.wrapping_add(by[usize::from(step)]);
     }
-    at == Corner { x: 0, y: 0 }
+    true
 }
 
 /// Threads the places of each column, then follows each thread and stamps its heights: whether none comes twice.

@@ -169,10 +169,11 @@ impl<'a> Tree<'a> {
         Some(to)
     }
 
-    /// Whether the neighbour is looked up by its parents: there is no link, neither is the root, and the parents differ.
+    /// Whether the neighbour is looked up by its parents: there is no link, and the parents differ. The root and its neighbours
+    /// have the root as parent.
     fn goes_up(&self, u: usize, c: Corner, way: u8) -> bool {
         let e = c.stepped(way);
-        self.linked(u, way).is_none() && e != ROOT && c != ROOT && c.parent() != e.parent()
+        self.linked(u, way).is_none() && c.parent() != e.parent()
     }
 
     /// The neighbour at the level where a climb stopped.

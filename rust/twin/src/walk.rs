@@ -19,10 +19,7 @@ pub fn walk(
     let sizes = (RECORD_WORDS, MOST_RECORDS);
     judge_sizes(ops.len(), table.len(), sizes, marks.len(), &[chain.len()])?;
     judge_start(start)?;
-    let mut steps = 0;
-    for (i, &op) in ops.iter().enumerate() {
-        judge_operation(op, &mut steps, i)?;
-    }
+    judge_operations(ops)?;
     let Some(mut walk) = Walk::new(table, start) else {
         table.fill(0);
         marks.fill(0);
@@ -68,6 +65,18 @@ pub fn judge_sizes(
     }
     if marks != MARK_WORDS * ops || chains.iter().any(|&chain| chain != ops) {
         return Err(Refusal::ResultRoom);
+    }
+    Ok(())
+}
+
+/// Refusals 4, 5 and 6. Steps alone, and not too many of them, are good at once.
+fn judge_operations(ops: &[u8]) -> Result<(), Refusal> {
+    if ops.len() <= MOST_STEPS && ops.iter().fold(0, |most, &op| op.max(most)) < 4 {
+        return Ok(());
+    }
+    let mut steps = 0;
+    for (i, &op) in ops.iter().enumerate() {
+        judge_operation(op, &mut steps, i)?;
     }
     Ok(())
 }

@@ -257,6 +257,7 @@ fn chosen() {
     suite::sizes(&WRITTEN);
     suite::limits(&WRITTEN);
     suite::rooms(&WRITTEN);
+    suite::boxes(&WRITTEN);
     suite::outlines(&WRITTEN);
     suite::convex_rooms(&WRITTEN, LONGEST_ROOM);
     suite::overlays(&WRITTEN, LONGEST as usize);

@@ -36,6 +36,11 @@ fn rooms() {
 }
 
 #[test]
+fn boxes() {
+    suite::boxes(&LIBRARY);
+}
+
+#[test]
 fn outlines() {
     suite::outlines(&LIBRARY);
 }
