@@ -51,7 +51,7 @@ module _ (ds : List ℕ) (w : Boxable ds) where
       mul-le-mul a b
 
   -- a step inside the box
-  pub place-step : (x y d : ℕ) → 0 < x → 0 < y → d < 4 → InBox ds (x, y) → InBox ds (colAfter x d, rowAfter y d) → (boxPlace ds (x, y) + getD (placeSteps (boxWidth ds)) d 0) % 2 ^ 64 ≡ boxPlace ds (colAfter x d, rowAfter y d)
+  place-step : (x y d : ℕ) → 0 < x → 0 < y → d < 4 → InBox ds (x, y) → InBox ds (colAfter x d, rowAfter y d) → (boxPlace ds (x, y) + getD (placeSteps (boxWidth ds)) d 0) % 2 ^ 64 ≡ boxPlace ds (colAfter x d, rowAfter y d)
   unfolding colAfter rowAfter boxPlace placeSteps
   place-step x y zero h g l p q =
       let b = place-below ds (x, y) p in

@@ -23,7 +23,7 @@ use Rattle.outline_laws.proofs.CallLaws.{judged-last}
 use Rattle.outline_links.specs.Built.{Blank}
 use Rattle.outline_map.specs.Ring.{Fits, FitsBy}
 use Rattle.outline_path.specs.Ring.{Long, Written}
-use Rattle.outline_scan.specs.Traced.{Steady, BoxFits, Traced}
+use Rattle.outline_scan.specs.Traced.{Steady, MapFits, Traced}
 
 -- ---- the store
 
@@ -45,7 +45,7 @@ blank-of chain n k l s h m ek el = record {
 }
 
 -- a map of zeros is lent as large as it is
-pub box-lent : (chain : List ℕ) (width height from : ℕ) (closed : Bool) (size : ℕ) → BoxFits chain width height from closed size → BoxFits chain width height from closed (length {A = ℕ} (replicate size 0)) × ((l : ℕ) → _≡_ {A = ℕ} (getD (replicate size 0) l 0) 0)
+pub box-lent : (chain : List ℕ) (width height from : ℕ) (closed : Bool) (size : ℕ) → MapFits chain width height from closed size → MapFits chain width height from closed (length {A = ℕ} (replicate size 0)) × ((l : ℕ) → _≡_ {A = ℕ} (getD (replicate size 0) l 0) 0)
 box-lent chain width height from closed size f = (record { steady = f .steady; some = f .some; box = f .box; room = omega (arith, f .room, length-replicate {A = ℕ} size 0) }, zeros size)
 
 -- ---- too little room, or all of it written

@@ -15,7 +15,7 @@ pub record Steady (chain : List ℕ) : Type 0 where
   pub short : length chain ≤ mostSteps
 
 -- steps that are not refused, and at least one, with a box of at most so many corners
-pub record BoxFits (chain : List ℕ) (width height from : ℕ) (closed : Bool) (size : ℕ) : Type 0 where
+pub record MapFits (chain : List ℕ) (width height from : ℕ) (closed : Bool) (size : ℕ) : Type 0 where
   pub steady : Steady chain
   pub some : 0 < length chain
   pub box : Boxed chain width height from closed

@@ -24,7 +24,7 @@ ghost use Rattle.hull_laws.specs.Columns.{narrowSize, widerSize};
 ghost use Rattle.grid.specs.declared.Corner.{Corner};
 ghost use Rattle.outline.specs.Call.{OutlineCall};
 ghost use Rattle.outline_links.specs.Built.{Blank};
-ghost use Rattle.outline_scan.specs.Traced.{Steady, BoxFits, Traced};
+ghost use Rattle.outline_scan.specs.Traced.{Steady, MapFits, Traced};
 
 // The sizes of the maps in bytes, one for each corner of a box. The stores below have 16 bytes for each step.
 const NARROW_MAP: usize = 16 * Columns::NARROW;
@@ -89,7 +89,7 @@ fn write_widest(chain: &[u8], out: &mut [u8]) -> Counted
 
 // The outline of a walk with steps, in a map of its box that is lent blank: a byte a corner, column after column.
 fn write_on(chain: &[u8], b: WalkBox, map: &mut [u8], out: &mut [u8]) -> Counted
-    requires { ⌜ BoxFits (now chain) (b .width) (b .height) (b .from) (b .closed) (length (now map)) × ((l : ℕ) → getD (now map) l 0 ≡ 0) ⌝ }
+    requires { ⌜ MapFits (now chain) (b .width) (b .height) (b .from) (b .closed) (length (now map)) × ((l : ℕ) → getD (now map) l 0 ≡ 0) ⌝ }
     ensures { λ r. ⌜ ((c : Corner) → Traced c (now (chain .entry)) (now (out .entry)) r (now (out .exit))) ⌝ }
 {
     let h = b.height;
@@ -104,7 +104,7 @@ fn write_on(chain: &[u8], b: WalkBox, map: &mut [u8], out: &mut [u8]) -> Counted
 
 // The same with a map as large as the store for the corners of 256 steps.
 fn map_narrow(chain: &[u8], b: WalkBox, out: &mut [u8]) -> Counted
-    requires { ⌜ BoxFits (now chain) (b .width) (b .height) (b .from) (b .closed) (16 * narrowSize) ⌝ }
+    requires { ⌜ MapFits (now chain) (b .width) (b .height) (b .from) (b .closed) (16 * narrowSize) ⌝ }
     ensures { λ r. ⌜ ((c : Corner) → Traced c (now (chain .entry)) (now (out .entry)) r (now (out .exit))) ⌝ }
 {
     let mut map = [0u8; NARROW_MAP];
@@ -113,7 +113,7 @@ fn map_narrow(chain: &[u8], b: WalkBox, out: &mut [u8]) -> Counted
 
 // The same with a map as large as the store for the corners of 2,048 steps.
 fn map_wider(chain: &[u8], b: WalkBox, out: &mut [u8]) -> Counted
-    requires { ⌜ BoxFits (now chain) (b .width) (b .height) (b .from) (b .closed) (16 * widerSize) ⌝ }
+    requires { ⌜ MapFits (now chain) (b .width) (b .height) (b .from) (b .closed) (16 * widerSize) ⌝ }
     ensures { λ r. ⌜ ((c : Corner) → Traced c (now (chain .entry)) (now (out .entry)) r (now (out .exit))) ⌝ }
 {
     let mut map = [0u8; WIDER_MAP];
@@ -122,7 +122,7 @@ fn map_wider(chain: &[u8], b: WalkBox, out: &mut [u8]) -> Counted
 
 // The same with a map as large as the store for every walk.
 fn map_widest(chain: &[u8], b: WalkBox, out: &mut [u8]) -> Counted
-    requires { ⌜ BoxFits (now chain) (b .width) (b .height) (b .from) (b .closed) (16 * mostSteps) ⌝ }
+    requires { ⌜ MapFits (now chain) (b .width) (b .height) (b .from) (b .closed) (16 * mostSteps) ⌝ }
     ensures { λ r. ⌜ ((c : Corner) → Traced c (now (chain .entry)) (now (out .entry)) r (now (out .exit))) ⌝ }
 {
     let mut map = [0u8; WIDEST_MAP];

@@ -25,7 +25,7 @@ use Rattle.overlay_laws.specs.Join.{leads, differ}
 use Rattle.overlay_laws.specs.Sweep.{partHas, partEnds, endAt, endsFrom, odd, partRest}
 use Rattle.overlay_laws.proofs.{PartLaws.Ends, PartLaws.ends-ends, PartLaws.tally-odd, OverlayLaws.none-none, OverlayLaws.walk-ends}
 use Rattle.overlay_laws.proofs.SweepLaws.{stop-left, step-nearer, some-fuel, left-none, rest-start, length-endsFrom}
-use Rattle.overlay_sweep.specs.Keys.{Reached, lastKey, endKey, keyAt, Added, Closed, Closable, inParts}
+use Rattle.overlay_sweep.specs.Keys.{KeyFits, lastKey, endKey, keyAt, Added, Closed, Closable, inParts}
 use Rattle.overlay_sweep.specs.Parts.{Spanned, partSpans, Swept}
 use Rattle.overlay_sweep.proofs.KeyLaws.{key-ahead, span-back, key-gap, key-last, lead-key, next-key}
 
@@ -52,7 +52,7 @@ first-less : (p q : Corner) (R : List Corner) → Ends (p ∷ q ∷ R) → p .0 
 first-less p q R e = let r = first-row p q R e in ⊎-elim (λ h. absurd (omega (zarith, h, r))) (λ h. h .1) (e .sorted .0)
 
 -- they make a span
-left-added : (p q : Corner) (R : List Corner) (L : List Span) (n n′ : ℕ) (before now after : List ℤ) (m r : Measure) → Reached p → Reached q → n < n′ → length after ≡ length now → Left (p ∷ q ∷ R) L n before m now
+left-added : (p q : Corner) (R : List Corner) (L : List Span) (n n′ : ℕ) (before now after : List ℤ) (m r : Measure) → KeyFits p → KeyFits q → n < n′ → length after ≡ length now → Left (p ∷ q ∷ R) L n before m now
     → Added (endKey p) (endKey q) m now r after → Left R L n′ before r after
 left-added p q R L n n′ before now after m r s t more len w a =
     let e = w .ends in
@@ -88,7 +88,7 @@ openEnds false c R = R
 
 -- a part has not what comes after a stop if it had what came before
 module _ (was is : Bool) (turns : was ≡ true → is ≡ true → ⊥) (at stop : Corner) (R : List Corner) where
-  left-next : (L : List Span) (n n′ : ℕ) (before now after : List ℤ) (m r : Measure) → Reached at → Reached stop → n < n′ → length after ≡ length now → Left (openEnds was at (cond (differ was is) (stop ∷ R) R)) L n before m now
+  left-next : (L : List Span) (n n′ : ℕ) (before now after : List ℤ) (m r : Measure) → KeyFits at → KeyFits stop → n < n′ → length after ≡ length now → Left (openEnds was at (cond (differ was is) (stop ∷ R) R)) L n before m now
       → Closed was (endKey at) (endKey stop) m now r after → Left (openEnds is stop R) L n′ before r after
   left-next L n n′ before now after m r s t more len w c = by was is turns w c
     where
@@ -177,7 +177,7 @@ pub record Sweeping (a : List ℤ) (na : ℕ) (b : List ℤ) (nb i j last : ℕ)
   pub second : j ≤ nb
   pub at : Corner
   pub key : last ≡ endKey at
-  pub small : Reached at
+  pub small : KeyFits at
   pub parts : (k : Part) → Left (leftOf k a na b nb i j fuel at) (partSpans a na b nb k) (i + j) (before k) (inParts m k) (now k)
 
 abbrev nothing : Measure
@@ -226,7 +226,7 @@ module _ (a : List ℤ) (na : ℕ) (b : List ℤ) (nb : ℕ) (x : Spanned a na) 
       leads-two : leads (endsFrom b j (nb - j)) (endsFrom a i (na - i)) ≡ two
       leads-two = lead-key b j nb a i na (y .held .numbers) (x .held .numbers) (omega (arith, more)) q p k′ eq ep (omega (arith, ek)) (w .second) (w .first)
 
-      stop-is : Reached stop × (k′ ≡ endKey stop)
+      stop-is : KeyFits stop × (k′ ≡ endKey stop)
       stop-is = next-key a i na b j nb (x .held .numbers) (y .held .numbers) more p q k′ ep eq ek
 
       pub sweep-nearer : (i + tally one ≤ na) × (j + tally two ≤ nb) × (i + j < (i + tally one) + (j + tally two))

@@ -22,7 +22,7 @@ use Rattle.row_laws.proofs.FootLaws.{Ahead, ahead-true, ahead-yes, ahead-three}
 use Rattle.overlay_laws.specs.Join.{leads}
 use Rattle.overlay_laws.specs.Sweep.{endAt, endsFrom, Numbers}
 use Rattle.overlay_laws.proofs.SweepLaws.{lead-none, lead-alone, lead-both}
-use Rattle.overlay_sweep.specs.Keys.{Reached, lastKey, endKey, keyAt, sunk, cornerOf, spanBetween}
+use Rattle.overlay_sweep.specs.Keys.{KeyFits, lastKey, endKey, keyAt, sunk, cornerOf, spanBetween}
 
 -- ---- a coordinate, counted from the least
 
@@ -41,43 +41,43 @@ unlifted z h = omega (zarith, bal- (pos (natAbs (z +ℤ pos 32768))) (pos 32768)
 
 -- ---- keys tell corners apart
 
-pub end-reached : (list : List ℤ) (n i : ℕ) → Numbers list n → i < n → Reached (endAt list i)
+pub end-reached : (list : List ℤ) (n i : ℕ) → Numbers list n → i < n → KeyFits (endAt list i)
 end-reached list n i h l =
     (omega (arith, abs+ (getD list (3 * (i / 2) + 1 + i % 2) (pos 0)) (pos (i % 2)), h .small (3 * (i / 2) + 1 + i % 2) (omega (arith, h .even))), omega (arith, h .small (3 * (i / 2)) (omega (arith, h .even))))
 
-key-before : (p q : Corner) → Reached p → Reached q → Ahead p q → endKey p < endKey q
+key-before : (p q : Corner) → KeyFits p → KeyFits q → Ahead p q → endKey p < endKey q
 key-before p q s t (inl h) = omega (zarith, h, s .0, s .1, t .0, t .1, abs-nat (p .0), abs-nat (q .0), lifted (p .1) (s .1), lifted (p .0) (s .0), lifted (q .1) (t .1), lifted (q .0) (t .0))
 key-before p q s t (inr h) = omega (zarith, h .0, h .1, lifted (p .1) (s .1), lifted (p .0) (s .0), lifted (q .1) (t .1), lifted (q .0) (t .0))
 
-pub key-ahead : (p q : Corner) → Reached p → Reached q → Ahead p q → endKey p ≤ endKey q
+pub key-ahead : (p q : Corner) → KeyFits p → KeyFits q → Ahead p q → endKey p ≤ endKey q
 key-ahead p q s t h = omega (arith, key-before p q s t h)
 
-key-order : (p q : Corner) → Reached p → Reached q → ltb (endKey p) (endKey q) ≡ ahead p q
+key-order : (p q : Corner) → KeyFits p → KeyFits q → ltb (endKey p) (endKey q) ≡ ahead p q
 key-order p q s t = by (ahead p q) refl
   where
     by : (b : Bool) → ahead p q ≡ b → ltb (endKey p) (endKey q) ≡ ahead p q
     by true e = lt-ltb (endKey p) (endKey q) (key-before p q s t (ahead-true p q e)) ∙ sym e
     by false e = le-ltb (endKey p) (endKey q) (⊎-elim (λ h. absurd (true≢false (sym (ahead-yes p q h) ∙ e))) (⊎-elim (λ h. omega (arith, ap endKey h)) (λ h. omega (arith, key-before q p t s h))) (ahead-three p q)) ∙ sym e
 
-pub key-last : (c : Corner) → Reached c → endKey c < lastKey
+pub key-last : (c : Corner) → KeyFits c → endKey c < lastKey
 key-last c s = omega (arith, s .0, s .1, abs-nat (c .0), abs-nat (c .1), lifted (c .1) (s .1), lifted (c .0) (s .0))
 
 -- ---- a span between two keys
 
-key-back : (c : Corner) → Reached c → cornerOf (endKey c) ≡ c
+key-back : (c : Corner) → KeyFits c → cornerOf (endKey c) ≡ c
 key-back c s =
     let e : endKey c % 131072 ≡ natAbs (c .0 +ℤ pos 32768) = omega (arith, s .0, abs-nat (c .0), lifted (c .0) (s .0)) in
     let f : endKey c / 131072 ≡ natAbs (c .1 +ℤ pos 32768) = omega (arith, s .0, abs-nat (c .0), lifted (c .0) (s .0)) in
     ap₂ corner (ap sunk e ∙ unlifted (c .0) (s .0)) (ap sunk f ∙ unlifted (c .1) (s .1))
 
-pub span-back : (p q : Corner) → Reached p → Reached q → spanBetween (endKey p) (endKey q) ≡ p .1 ∷ p .0 ∷ predℤ (q .0) ∷ []
+pub span-back : (p q : Corner) → KeyFits p → KeyFits q → spanBetween (endKey p) (endKey q) ≡ p .1 ∷ p .0 ∷ predℤ (q .0) ∷ []
 span-back p q s t = ap₂ (λ (u v : Corner). u .1 ∷ u .0 ∷ predℤ (v .0) ∷ []) (key-back p s) (key-back q t)
 
 -- a column that is read back fits its bits
 pub sunk-few : (n : ℕ) → n ≤ 131072 → natAbs (sunk n) ≤ 262144
 sunk-few n h = omega (arith, h, abs- (pos n) (pos 32768))
 
-pub key-gap : (p q : Corner) → Reached p → Reached q → p .1 ≡ q .1 → p .0 <ℤ q .0 → endKey q - endKey p ≡ spanLength (spanOf p q)
+pub key-gap : (p q : Corner) → KeyFits p → KeyFits q → p .1 ≡ q .1 → p .0 <ℤ q .0 → endKey q - endKey p ≡ spanLength (spanOf p q)
 key-gap p q s t r h =
     let d = no-less (q .0 -ℤ p .0) (omega (zarith, h, bal- (q .0) (p .0))) in
     let e : natAbs (sucℤ (predℤ (q .0)) -ℤ p .0) ≡ natAbs (q .0 -ℤ p .0) = ap (λ (z : ℤ). natAbs (z -ℤ p .0)) (suc-pred (q .0)) in
@@ -122,10 +122,10 @@ lead-key a i na b j nb x y more p q k ep eq ek h g = by (ltb i na) (ltb j nb) re
 
 -- the end that comes next, and its key
 abbrev Next : List ℤ → ℕ → List ℤ → ℕ → ℕ → Bool → Type 0
-Next a i b j k t = Reached (cond t (endAt a i) (endAt b j)) × (k ≡ endKey (cond t (endAt a i) (endAt b j)))
+Next a i b j k t = KeyFits (cond t (endAt a i) (endAt b j)) × (k ≡ endKey (cond t (endAt a i) (endAt b j)))
 
 pub next-key : (a : List ℤ) (i na : ℕ) (b : List ℤ) (j nb : ℕ) → Numbers a na → Numbers b nb → i + j < na + nb → (p q k : ℕ) → p ≡ keyAt a na i → q ≡ keyAt b nb j → k ≡ min p q
-    → Reached (cond (eqb p k) (endAt a i) (endAt b j)) × (k ≡ endKey (cond (eqb p k) (endAt a i) (endAt b j)))
+    → KeyFits (cond (eqb p k) (endAt a i) (endAt b j)) × (k ≡ endKey (cond (eqb p k) (endAt a i) (endAt b j)))
 next-key a i na b j nb x y more p q k ep eq ek = by (ltb i na) (ltb j nb) refl refl
   where
     by : (u v : Bool) → ltb i na ≡ u → ltb j nb ≡ v → Next a i b j k (eqb p k)

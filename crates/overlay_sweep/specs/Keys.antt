@@ -15,9 +15,9 @@ use Rattle.overlay.specs.declared.{Part.Part, Measure.Measure, Measures.Measure
 use Rattle.overlay.specs.Call.{ofParts}
 use Rattle.overlay_laws.specs.Sweep.{partHas, endAt, odd}
 
--- a corner that a walk can reach
-abbrev pub Reached : Corner → Type 0
-Reached c = (natAbs (c .0) ≤ farthest) × (natAbs (c .1) ≤ farthest)
+-- a corner whose key has a number: a walk goes no farther
+abbrev pub KeyFits : Corner → Type 0
+KeyFits c = (natAbs (c .0) ≤ farthest) × (natAbs (c .1) ≤ farthest)
 
 -- its key: row and then x, each counted from the least
 abbrev pub endKey : Corner → ℕ

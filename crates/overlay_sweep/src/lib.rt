@@ -16,7 +16,7 @@ ghost use Rattle.lists.specs.Lists.{tally};
 ghost use Rattle.overlay.specs.declared.Part.{Part};
 ghost use Rattle.overlay.specs.Call.{ofParts};
 ghost use Rattle.overlay_laws.specs.Sweep.{partHas, endAt, odd, Numbers};
-ghost use Rattle.overlay_sweep.specs.Keys.{Reached, lastKey, endKey, keyAt, sunk, cornerOf, Added, Closed, Closable, inParts};
+ghost use Rattle.overlay_sweep.specs.Keys.{KeyFits, lastKey, endKey, keyAt, sunk, cornerOf, Added, Closed, Closable, inParts};
 ghost use Rattle.overlay_sweep.specs.Parts.{Spanned, partSpans, Swept};
 
 // The key after the last end of a list: it is greater than any other.
@@ -86,7 +86,7 @@ fn lift(z: i32) -> usize
 
 // The key of a lower end.
 fn key(at: Corner) -> usize
-    requires { ⌜ Reached at ⌝ }
+    requires { ⌜ KeyFits at ⌝ }
     ensures { λ r. ⌜ r ≡ endKey at ⌝ }
 {
     let y = lift(at.1);

@@ -3,7 +3,7 @@
 use borrow.Author.Needs.{needs}
 use native.Mathlib.Omega.{arith}
 use mathlib.Core.Path.{sym, ap, _∙_, subst}
-use Rattle.overlay_sweep.specs.Keys.{Reached, endKey}
+use Rattle.overlay_sweep.specs.Keys.{KeyFits, endKey}
 use Rattle.overlay_sweep.proofs.KeyLaws.{end-reached, key-there, key-none}
 use Rattle.overlay_sweep.proofs.first_key.Statement.{statement}
 use Rattle.overlay_sweep.proofs.first_key.Tie as tie
@@ -14,7 +14,7 @@ returns c = let z = c .before .args in sym (key-none (z .list .now) (z .n) (z .i
 key-requires : tie.Need-key-requires
 key-requires c κs =
     let z = c .before .before in
-    subst Reached (sym (c .first-end .ensures (omega arith))) (end-reached (z .args .list .now) (z .args .n) (z .args .i) (z .pre) (omega arith))
+    subst KeyFits (sym (c .first-end .ensures (omega arith))) (end-reached (z .args .list .now) (z .args .n) (z .args .i) (z .pre) (omega arith))
 
 returns-2 : tie.Need-returns-2
 returns-2 c =
