@@ -88,6 +88,8 @@ export const listing = {
   },
 
   async "refused lines in words, with the faulty character marked"(t) {
+    await t.open();
+    await t.view("records");
     const seen = await t.listed(LINES.map(([line]) => line + "\n").join(""));
     const marks = await t.tab.ask(`Array.from(document.querySelectorAll("#list .row"),
       (row) => row.querySelector("mark")?.textContent ?? "")`);
@@ -106,6 +108,9 @@ export const listing = {
   },
 
   async "a filter, and a line opened under Walk"(t) {
+    await t.open();
+    await t.view("records");
+    await t.listed(LINES.map(([line]) => line + "\n").join(""));
     await t.tab.tap(`#filters [data-kind="2"]`);
     t.same("rooms alone", (await t.tab.texts("#list .row")).map((text) => text.split(" ")[0]), ["11", "15"]);
     await t.tab.tap("#row-1");

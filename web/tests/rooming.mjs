@@ -42,11 +42,14 @@ export const rooming = {
     t.same("in hexadecimal", (await t.saved("save-hex", "room.hex")).toString(), hex + "\n");
     const svg = (await t.saved("save-svg", "walk.svg")).toString();
     t.holds("the picture is a file of its own", svg.startsWith("<svg ") && !svg.includes("var("));
+    t.holds("with nothing to tap", svg.includes(`class="start`) && !svg.includes(`class="next`));
     const parsed = `new DOMParser().parseFromString(${JSON.stringify(svg)}, "image/svg+xml")`;
     t.same("and well formed", await t.tab.ask(`${parsed}.querySelectorAll("parsererror").length`), 0);
   },
 
   async "GeoJSON and DXF, also for GDAL"(t) {
+    await t.open();
+    await t.show(TEN_BY_FOUR);
     const [geojson, dxf] = [await t.saved("save-geojson", "room.geojson"), await t.saved("save-dxf", "room.dxf")].map(String);
     const ring = [[0, 0], [6000, 0], [6000, 2400], [0, 2400], [0, 0]];
     t.same("GeoJSON", JSON.parse(geojson).geometry, { type: "Polygon", coordinates: [ring] });
