@@ -282,9 +282,10 @@ function rowCountsLayer(frame, spans) {
   });
 }
 
-/** A picture as a file of its own: with its style, in which each variable is its light colour. */
+/** A picture as a file of its own: without what is there to be tapped, and with its style, each variable as its light colour. */
 export function pictureFile(element) {
   const copy = element.cloneNode(true), style = PICTURE_STYLE.replace(/var\(--[a-z-]+, ([^)]+)\)/g, "$1");
+  for (const one of copy.querySelectorAll(".next, .here")) one.remove();
   copy.setAttribute("xmlns", SVG);
   copy.prepend(svg("style", {}, style));
   return new XMLSerializer().serializeToString(copy) + "\n";
