@@ -25,7 +25,7 @@ use Rattle.line_frame.proofs.HexLaws.{none-append, field-feeds}
 use Rattle.line_room.specs.Walked.{lineWalked}
 use Rattle.sheet.specs.Decimal.{decimalOf, signedOf}
 use Rattle.sheet.specs.Sizes.{mostDecimals}
-use Rattle.sheet.specs.Entry.{cellOf, cellsOf, emptyCells, refusedCells, hexBytes, polygonCell, entryBy, entryOf}
+use Rattle.sheet.specs.Entry.{cellOf, cellsOf, emptyCells, factCount, refusedCells, hexBytes, polygonCell, entryBy, entryOf}
 use Rattle.sheet.specs.Sheet.{entered, entries, numberedFrom, entriesFrom, beginsAfter, linesIn, header, sheet}
 use Rattle.sheet.proofs.NumberLaws.{decimal-feeds, cell-feeds, numbered-feeds}
 
@@ -66,7 +66,7 @@ empty-feeds zero = refl
 empty-feeds (suc k) = none-append (emptyCells k) (44 ∷ []) (empty-feeds k) refl
 
 refused-feeds : (number place : ℕ) → feedsIn (refusedCells number place) ≡ 0
-refused-feeds number place = none-append (cellOf number ++ cellOf place) (emptyCells 7) (none-append (cellOf number) (cellOf place) (cell-feeds number) (cell-feeds place)) (empty-feeds 7)
+refused-feeds number place = none-append (cellOf number ++ cellOf place) (emptyCells factCount) (none-append (cellOf number) (cellOf place) (cell-feeds number) (cell-feeds place)) (empty-feeds factCount)
 
 by-feeds : (a : Answer) (w : List ℕ) → feedsIn (entryBy a w) ≡ 0
 by-feeds (walked.Accepted f) w = none-append (cellsOf 0 0 f) (polygonCell w) (cells-feeds 0 0 f) (polygon-feeds w)

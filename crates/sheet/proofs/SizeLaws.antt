@@ -22,7 +22,7 @@ use Rattle.line_frame.specs.Hex.{hexOf}
 use Rattle.line_frame.proofs.HexLaws.{length-hexOf}
 use Rattle.sheet.specs.Decimal.{decimalOf, signedOf}
 use Rattle.sheet.specs.Sizes.{mostDecimals, mostCell, mostPolygon, mostEntry}
-use Rattle.sheet.specs.Entry.{cellOf, cellsOf, emptyCells, refusedCells, hexBytes, polygonCell, entryBy}
+use Rattle.sheet.specs.Entry.{cellOf, cellsOf, emptyCells, factCount, refusedCells, hexBytes, polygonCell, entryBy}
 
 pub length-decimalOf : (k n : ℕ) → length (decimalOf k n) ≤ k
 unfolding decimalOf
@@ -67,10 +67,10 @@ unfolding emptyCells
 length-emptyCells zero = refl
 length-emptyCells (suc k) = omega (arith, length-append (emptyCells k) (44 ∷ []), length-emptyCells k)
 
-length-refusedCells : (number place : ℕ) → length (refusedCells number place) ≤ 2 * mostCell + 7
+length-refusedCells : (number place : ℕ) → length (refusedCells number place) ≤ 2 * mostCell + factCount
 length-refusedCells number place =
     let l2 : List ℕ = cellOf number ++ cellOf place in
-    omega (arith, cell-more (cellOf number) place mostCell (length-cellOf number), length-append l2 (emptyCells 7), length-emptyCells 7)
+    omega (arith, cell-more (cellOf number) place mostCell (length-cellOf number), length-append l2 (emptyCells factCount), length-emptyCells factCount)
 
 pub length-hexBytes : (s : List ℕ) → length (hexBytes s) ≡ 2 * length s
 unfolding hexBytes

@@ -33,9 +33,13 @@ unfoldable pub emptyCells : ℕ → List ℕ
 emptyCells zero = []
 emptyCells (suc k) = emptyCells k ++ (44 ∷ [])
 
--- a refusal's number and place, and none of the seven facts
+-- how many facts a row has: verdict, n, nodes, different corners, j, k and area
+abbrev pub factCount : ℕ
+factCount = 7
+
+-- a refusal's number and place, and no facts
 abbrev pub refusedCells : ℕ → ℕ → List ℕ
-refusedCells number place = cellOf number ++ cellOf place ++ emptyCells 7
+refusedCells number place = cellOf number ++ cellOf place ++ emptyCells factCount
 
 -- bytes in hexadecimal, two digits each
 unfoldable pub hexBytes : List ℕ → List ℕ
