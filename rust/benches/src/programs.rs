@@ -100,7 +100,7 @@ fn print_one(name: &str, row: &str, turns: u8) {
 
 /// Races `judge` of two builds, in these folders, the page and the twin on frames of n digits; gives the digits too.
 pub fn judge_beside(before: &Path, after: &Path, n: usize) -> (Race, f64) {
-    let count = 1_280_000 / n;
+    let count = 320_000 / n;
     let word = ["judge"];
     let mut programs = vec![
         ("after", after.join("undrwyth"), &word[..]),

@@ -57,7 +57,7 @@ const BLANK: u16 = u16::MAX;
 fn extent(chain: &[u8]) -> (u32, u32) {
     let (mut x, mut west, mut east) = (MIDDLE, MIDDLE, MIDDLE);
     for &step in chain {
-        x = x.wrapping_add(EAST[usize::from(step)]);
+        x = x.wrapping_add(EAST[usize::from(step % 4)]);
         (west, east) = (west.min(x), east.max(x));
     }
     (west, east)
@@ -72,6 +72,8 @@ fn list<const N: usize>(
     mut low: [u16; N],
     mut high: [u16; N],
 ) -> Vec<Corner> {
+    let columns = (east - west + 1) as usize;
+    let (low, high) = (&mut low[..columns], &mut high[..columns]);
     let mut keep = |x: u32, y: u16| {
         let column = x as usize;
         low[column] = low[column].min(y);
@@ -80,23 +82,22 @@ fn list<const N: usize>(
     let (mut x, mut y) = (MIDDLE - west, LEVEL);
     for &step in chain {
         keep(x, y);
-        x = x.wrapping_add(EAST[usize::from(step)]);
-        y = y.wrapping_add(NORTH[usize::from(step)]);
+        x = x.wrapping_add(EAST[usize::from(step % 4)]);
+        y = y.wrapping_add(NORTH[usize::from(step % 4)]);
     }
     keep(x, y);
-    let columns = (east - west + 1) as usize;
-    high[..columns].reverse();
+    high.reverse();
     // The corners of one side, from their columns and heights.
     let corner = |x: u32, y: u16| Corner {
         x: start.x + x.wrapping_sub(MIDDLE).cast_signed(),
         y: start.y + i32::from(y) - i32::from(LEVEL),
     };
     let mut list = Vec::new();
-    let below = (west..).zip(&low[..columns]);
+    let below = (west..).zip(&*low);
     scan(&mut list, below.map(|(x, &y)| corner(x, y)));
     // The upper side begins and ends where the lower does if that column has one corner.
     let lower = list.len();
-    let above = (0..).zip(&high[..columns]);
+    let above = (0..).zip(&*high);
     scan(&mut list, above.map(|(i, &y)| corner(east - i, TOP - y)));
     if list[lower - 1] == list[lower] {
         list.remove(lower);
