@@ -13,7 +13,7 @@ lay-requires : tie.Need-lay-requires
 lay-requires c κs =
     let z = c .before .before .before .before .before .before .before .before in
     let s = z .pre .1 in
-    (store-stays (z .pre .0) s, s .links, omega (arith, s .links, s .values), omega (arith, z .pre .0 .few), s .empty .0)
+    (store-stays (z .pre .0) s, s .links, omega (arith, s .links, s .values), omega (arith, z .pre .0 .few), s .empty .0, z .pre .0 .digits)
 
 gather-requires : tie.Need-gather-requires
 gather-requires c κs =
