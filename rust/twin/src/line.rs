@@ -12,7 +12,7 @@ use crate::polygon::polygon_of_room;
 use crate::rows::rows;
 use crate::tree::{Corner, ROOT};
 use crate::turns::steps_of_turns;
-use crate::walk::walk_clear;
+use crate::walk::walk;
 
 /// Writes the answer to one line, both without line feed, and answers its length; writes nothing where `out` is shorter than
 /// the longest answer may be.
@@ -78,7 +78,7 @@ fn each_line(
     output.flush()
 }
 
-/// The buffers in which lines are judged. Before and after each line the table is all zeros.
+/// The buffers in which lines are judged.
 struct Judge {
     digits: [u8; MOST_LINE_DIGITS],
     table: [u32; RECORD_WORDS * LINE_RECORDS],
@@ -162,7 +162,8 @@ impl Judge {
         }
         let ops = &self.digits[..n];
         let chain = &mut self.chain[..n];
-        walk_clear(
+        walk(
+            (0, 0),
             ops,
             &mut self.table,
             &mut self.marks[..MARK_WORDS * n],

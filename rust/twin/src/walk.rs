@@ -5,7 +5,7 @@ use answer::{
     Verdict,
 };
 
-use crate::tree::{Corner, ROOT, STEPS, Tree, back, judge_start};
+use crate::tree::{Corner, STEPS, Tree, back, judge_start};
 
 /// Judges the walk of `ops` from `start` and fills the three buffers.
 pub fn walk(
@@ -20,31 +20,6 @@ pub fn walk(
     judge_sizes(ops.len(), table.len(), sizes, marks.len(), &[chain.len()])?;
     judge_start(start)?;
     judge_operations(ops)?;
-    table.fill(0);
-    follow(start, ops, table, marks, chain)
-}
-
-/// The same of good operations, from the start (0, 0), in a table of zeros; the records that it took are cleared.
-pub fn walk_clear(
-    ops: &[u8],
-    table: &mut [u32],
-    marks: &mut [u32],
-    chain: &mut [u8],
-) -> Result<Facts, Refusal> {
-    judge_operations(ops)?;
-    let facts = follow(ROOT, ops, table, marks, chain)?;
-    table[..RECORD_WORDS * facts.nodes as usize].fill(0);
-    Ok(facts)
-}
-
-/// Walks good operations in a table of zeros. Refusal 7, which leaves all zero.
-fn follow(
-    start: Corner,
-    ops: &[u8],
-    table: &mut [u32],
-    marks: &mut [u32],
-    chain: &mut [u8],
-) -> Result<Facts, Refusal> {
     let Some(mut walk) = Walk::new(table, start) else {
         table.fill(0);
         marks.fill(0);
