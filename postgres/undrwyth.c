@@ -36,11 +36,21 @@ static struct room *room_of(struct varlena *value) {
     return room;
 }
 
+/* The columns of the function's rows; they are looked up at the first call of a statement and kept with the function until its end. */
+static TupleDesc columns(FunctionCallInfo fcinfo) {
+    if (fcinfo->flinfo->fn_extra == NULL) {
+        MemoryContext before = MemoryContextSwitchTo(fcinfo->flinfo->fn_mcxt);
+        TupleDesc found;
+        if (get_call_result_type(fcinfo, NULL, &found) != TYPEFUNC_COMPOSITE)
+            ereport(ERROR, (errcode(ERRCODE_FEATURE_NOT_SUPPORTED), errmsg("undrwyth: the result is a row")));
+        fcinfo->flinfo->fn_extra = BlessTupleDesc(found);
+        MemoryContextSwitchTo(before);
+    }
+    return fcinfo->flinfo->fn_extra;
+}
+
 static Datum row(FunctionCallInfo fcinfo, Datum *values, bool *nulls) {
-    TupleDesc shape;
-    if (get_call_result_type(fcinfo, NULL, &shape) != TYPEFUNC_COMPOSITE)
-        ereport(ERROR, (errcode(ERRCODE_FEATURE_NOT_SUPPORTED), errmsg("undrwyth: the result is a row")));
-    return HeapTupleGetDatum(heap_form_tuple(BlessTupleDesc(shape), values, nulls));
+    return HeapTupleGetDatum(heap_form_tuple(columns(fcinfo), values, nulls));
 }
 
 static Datum row_of_facts(FunctionCallInfo fcinfo, const int32_t facts[FACTS]) {
