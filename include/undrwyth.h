@@ -367,8 +367,8 @@ uint32_t undrwyth_hull(int32_t start_x, int32_t start_y,
  * Refused with 1, 10, 4, 6 or 11, in this order: out is as it was. A step at place UNDRWYTH_MOST_STEPS is 6 (a bad byte
  * there is 4).
  *
- * Stack: UNDRWYTH_OUTLINE_256_STACK_BYTES for at most 256 steps, and so on. No table is lent: the walked edges are found
- * in a store there, 262,160 bytes for more than 2,048 steps, 32,784 for more than 256, else 4,112. */
+ * Stack: UNDRWYTH_OUTLINE_256_STACK_BYTES for at most 256 steps, and so on. No table is lent: the walked edges stand
+ * in a store there, 262,160 bytes at most for more than 2,048 steps, 32,784 for more than 256, else 4,112. */
 uint32_t undrwyth_outline(int32_t start_x, int32_t start_y,
                           const uint8_t *chain, undrwyth_size n,
                           uint8_t *out, undrwyth_size out_bytes,
