@@ -11,7 +11,7 @@ use compare::suite;
 /// Operations of the longest walks of which all are compared.
 const LONGEST: u32 = 8;
 /// Rounds of random calls.
-const ROUNDS: usize = 1_500;
+const ROUNDS: usize = 1_000;
 
 #[path = "all/mod.rs"]
 mod all;

@@ -5,7 +5,7 @@ use compare::TWIN as LIBRARY;
 /// Operations of the longest walks of which all are compared.
 const LONGEST: u32 = 6;
 /// Rounds of random calls.
-const ROUNDS: usize = 150;
+const ROUNDS: usize = 100;
 
 #[path = "all/mod.rs"]
 mod all;
