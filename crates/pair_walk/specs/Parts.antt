@@ -8,7 +8,7 @@ use Rattle.answer.specs.declared.PairFacts.{PairFacts}
 use Rattle.grid.specs.declared.Corner.{Corner}
 use Rattle.pair_table.specs.Slots.{needsOf}
 use Rattle.pair_table.specs.Words.{pairRecordsIn}
-use Rattle.pair_call.specs.Call.{partyFactsOf}
+use Rattle.walk_call.specs.Walk.{partyFactsOf}
 use Rattle.pair_child.specs.declared.Located.{Located}
 use Rattle.pair_move.specs.Moves.{freshParty}
 use Rattle.pair_run.specs.declared.Pair.{Pair}

@@ -1,6 +1,6 @@
 -- The walk's refusals in their order, its answer, and its three buffers (RULES 5.2, 6.2, 6.5, 6.6). Assumes nothing.
 use Rattle.lists.specs.Lists.{_≡_, Bool, cond, not, _&&_, List, [], _∷_, length, replicate, ℕ, suc, _*_, _%_, eqb, ltb, leb, _++_, pred}
-use Rattle.answer.specs.declared.{Judged.Judged, Judged.the-variants.Good, Judged.the-variants.Refused, Refusal.the-variants.TooMany, Refusal.the-variants.Table, Refusal.the-variants.ResultRoom, Refusal.the-variants.NoRoom, Refusal.the-variants.StartRange, Facts.Facts, Answer.Answer}
+use Rattle.answer.specs.declared.{Judged.Judged, Judged.the-variants.Good, Judged.the-variants.Refused, Refusal.the-variants.TooMany, Refusal.the-variants.Table, Refusal.the-variants.ResultRoom, Refusal.the-variants.NoRoom, Refusal.the-variants.StartRange, Facts.Facts, PartyFacts.PartyFacts, Answer.Answer}
 use Rattle.answer.specs.{Limits.mostInput, Limits.mostRecords, Limits.startFits, Refusal.when, Refusal.orElse, Refusal.firstOf, Refusal.refusalNumber}
 use Rattle.grid.specs.{declared.Corner.Corner, Grid.cornersFrom, Grid.endFrom}
 use Rattle.steps.specs.Operations.{operate, survivors, operationsJudged}
@@ -45,6 +45,18 @@ factsOf c ds = record {
   verdict = verdictOf c ds;
   steps = length ds;
   nodes = length (nodesOf (cornersFrom c ds));
+  corners = length (visitedOf (cornersFrom c ds));
+  j = meetingJ (meetingOf c ds);
+  k = meetingK (meetingOf c ds);
+  area = areaOf c ds;
+  last = endFrom c ds;
+}
+
+-- the same without the nodes, which two parties share
+abbrev pub partyFactsOf : Corner → List ℕ → PartyFacts
+partyFactsOf c ds = record {
+  verdict = verdictOf c ds;
+  steps = length ds;
   corners = length (visitedOf (cornersFrom c ds));
   j = meetingJ (meetingOf c ds);
   k = meetingK (meetingOf c ds);
