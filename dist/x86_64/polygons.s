@@ -1,4 +1,4 @@
-/* Undrwyth, the program polygons for x86_64 under Linux: made by scripts/dist from the sources of state 9802d1d7c2587c68fad4b4a460817461f47212000104d6b43ba3d06b6e3c00de, which the Rattle kit proved; do not edit. SPDX-License-Identifier: MIT */
+/* Undrwyth, the program polygons for x86_64 under Linux: made by scripts/dist from the sources of state 15d664a88d90ef1acd4c44d42d4a2e0ad04e7c176e29312db310e9f99fd637ac, which the Rattle kit proved; do not edit. SPDX-License-Identifier: MIT */
 	.file	"rattle"
 	.section	".text.room_map::lone_wider","ax",@progbits
 	.p2align	4
