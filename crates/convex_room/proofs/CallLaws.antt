@@ -10,9 +10,9 @@ use Rattle.lists.specs.Lists.{tally}
 use Rattle.answer.specs.declared.{Counted.Counted, Judged.Judged, Judged.the-variants.Good, Judged.the-variants.Refused, Refusal.Refusal}
 use Rattle.grid.specs.declared.Corner.{Corner}
 use Rattle.grid.specs.Grid.{endFrom}
-use Rattle.hull.specs.Call.{countedOf}
-use Rattle.hull_laws.specs.Columns.{middle}
-use Rattle.hull_laws.proofs.SurveyLaws.{good-digits, good-short}
+use Rattle.answer.specs.Listed.{countedOf}
+use Rattle.column_laws.specs.Columns.{middle}
+use Rattle.steps.proofs.ChainLaws.{good-digits, good-short}
 use Rattle.room.specs.Room.{asRoomJudged}
 use Rattle.room.proofs.RoomLaws.{AsRoom, good-room}
 use Rattle.convex.specs.Convex.{ConvexIs, ConvexCall}

@@ -4,7 +4,7 @@ use borrow.Author.Needs.{needs}
 use native.Mathlib.Omega.{arith}
 use Prim.Native.Nat.{_-_, _≤_}
 use lib.ListN.{length}
-use Rattle.hull_laws.specs.Columns.{middle}
+use Rattle.column_laws.specs.Columns.{middle}
 use Rattle.room_thread_laws.specs.Threads.{Goes}
 use Rattle.room_thread_laws.proofs.RoomLaws.{goes-start, goes-step, goes-open, goes-closed}
 use Rattle.room_threads.proofs.closes.Statement.{statement}
