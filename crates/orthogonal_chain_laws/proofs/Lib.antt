@@ -1,0 +1,5 @@
+-- Laws of the chain around a pile of rows.
+pub mod ChainCases
+pub mod ArcLaws
+pub mod SideLaws
+pub mod LengthLaws
