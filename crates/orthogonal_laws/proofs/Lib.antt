@@ -1,0 +1,2 @@
+-- Laws of the orthogonal hull.
+pub mod JoinedLaws
