@@ -72,7 +72,7 @@ side-yes : (s : Bool) (x a : ℤ) → side s x a ≡ true → Side s x a
 side-yes true x a e = le-true e
 side-yes false x a e = le-true e
 
-true-le : (x a : ℤ) → x ≤ℤ a → leZ x a ≡ true
+pub true-le : (x a : ℤ) → x ≤ℤ a → leZ x a ≡ true
 true-le x a h = by (leZ x a) refl
   where
     by : (k : Bool) → leZ x a ≡ k → k ≡ true

@@ -7,14 +7,16 @@ use Rattle.grid.specs.{declared.Corner.Corner, declared.Panel.Panel}
 use Rattle.orthogonal.specs.Blocks.{block}
 use Rattle.orthogonal_chain_laws.specs.Chain.{InPile}
 
--- the least and the greatest of f m to f (m + n)
+-- what is picked of f m to f (m + n), the lesser or the greater of two at a time: the least and the greatest of them
+abbrev pub pickOver : (ℕ → ℕ → ℕ) → (ℕ → ℕ) → ℕ → ℕ → ℕ
+pickOver pick f m zero = f m
+pickOver pick f m (suc n) = pick (f m) (pickOver pick f (suc m) n)
+
 abbrev pub leastOver : (ℕ → ℕ) → ℕ → ℕ → ℕ
-leastOver f m zero = f m
-leastOver f m (suc n) = min (f m) (leastOver f (suc m) n)
+leastOver f m n = pickOver min f m n
 
 abbrev pub mostOver : (ℕ → ℕ) → ℕ → ℕ → ℕ
-mostOver f m zero = f m
-mostOver f m (suc n) = max (f m) (mostOver f (suc m) n)
+mostOver f m n = pickOver max f m n
 
 -- the left end of row q of the hull: the greater of the least left end of the rows up to q and the least of those from q on; and its right
 -- end: the lesser of the greatest right ends
