@@ -1,3 +1,4 @@
 -- Laws of the orthogonal hull.
 pub mod JoinedLaws
 pub mod RowLaws
+pub mod InsideLaws
