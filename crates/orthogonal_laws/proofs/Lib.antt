@@ -2,3 +2,4 @@
 pub mod JoinedLaws
 pub mod RowLaws
 pub mod InsideLaws
+pub mod BlockLaws
