@@ -95,11 +95,11 @@ abbrev pub Side : Bool → ℤ → ℤ → Type 0
 Side true x a = x ≤ℤ a
 Side false x a = a ≤ℤ x
 
-abbrev side : Bool → ℤ → ℤ → Bool
+abbrev pub side : Bool → ℤ → ℤ → Bool
 side true x a = leZ x a
 side false x a = leZ a x
 
-side-yes : (s : Bool) (x a : ℤ) → side s x a ≡ true → Side s x a
+pub side-yes : (s : Bool) (x a : ℤ) → side s x a ≡ true → Side s x a
 side-yes true x a e = le-true e
 side-yes false x a e = le-true e
 
@@ -110,7 +110,7 @@ true-le x a h = by (leZ x a) refl
     by true e = refl
     by false e = let g = le-false x a e in absurd (omega (zarith, g, h))
 
-yes-side : (s : Bool) (x a : ℤ) → Side s x a → side s x a ≡ true
+pub yes-side : (s : Bool) (x a : ℤ) → Side s x a → side s x a ≡ true
 yes-side true x a h = true-le x a h
 yes-side false x a h = true-le a x h
 

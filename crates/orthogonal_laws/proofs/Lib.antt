@@ -3,3 +3,4 @@ pub mod JoinedLaws
 pub mod RowLaws
 pub mod InsideLaws
 pub mod BlockLaws
+pub mod HullLaws
