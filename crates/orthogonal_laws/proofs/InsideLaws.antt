@@ -43,7 +43,7 @@ each-at : (Q : ℕ → Corner → Type 0) (c : Corner) (ds : List ℕ) → ((k :
 each-at Q c [] f = tt
 each-at Q c (d ∷ ds) f = (f 0 (omega arith), each-at Q (stepped d c) ds (λ k h. f (suc k) (omega arith)))
 
-first-step : (Q : ℕ → Corner → Type 0) (c : Corner) (ds : List ℕ) → 0 < length ds → EachStep Q c ds → Q (getD ds 0 0) c
+pub first-step : (Q : ℕ → Corner → Type 0) (c : Corner) (ds : List ℕ) → 0 < length ds → EachStep Q c ds → Q (getD ds 0 0) c
 first-step Q c [] h f = absurd (omega arith)
 first-step Q c (d ∷ ds) h f = f .0
 

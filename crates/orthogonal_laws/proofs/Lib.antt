@@ -4,3 +4,4 @@ pub mod RowLaws
 pub mod InsideLaws
 pub mod BlockLaws
 pub mod HullLaws
+pub mod OneLaws
