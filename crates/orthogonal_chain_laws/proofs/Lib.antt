@@ -3,3 +3,4 @@ pub mod ChainCases
 pub mod ArcLaws
 pub mod SideLaws
 pub mod LengthLaws
+pub mod SumLaws
