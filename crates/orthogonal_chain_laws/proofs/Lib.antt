@@ -4,3 +4,4 @@ pub mod ArcLaws
 pub mod SideLaws
 pub mod LengthLaws
 pub mod SumLaws
+pub mod RoomLaws
