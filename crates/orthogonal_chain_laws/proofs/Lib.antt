@@ -5,3 +5,4 @@ pub mod SideLaws
 pub mod LengthLaws
 pub mod SumLaws
 pub mod RoomLaws
+pub mod HomeLaws
