@@ -3,3 +3,6 @@ pub mod ChainCases
 pub mod ArcLaws
 pub mod SideLaws
 pub mod LengthLaws
+pub mod SumLaws
+pub mod RoomLaws
+pub mod HomeLaws
