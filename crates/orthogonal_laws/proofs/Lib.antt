@@ -5,3 +5,4 @@ pub mod InsideLaws
 pub mod BlockLaws
 pub mod HullLaws
 pub mod OneLaws
+pub mod CallLaws
