@@ -6,3 +6,4 @@ pub mod BlockLaws
 pub mod HullLaws
 pub mod OneLaws
 pub mod CallLaws
+pub mod EndsLaws
