@@ -1,6 +1,6 @@
 -- The chain around a pile is a room, counterclockwise, and the blocks inside it are those of the rows.
 -- Assumes nothing.
-use mathlib.Core.Bool.{Bool, true, false}
+use mathlib.Core.Bool.{Bool}
 use mathlib.Core.List.{List, [], _∷_}
 use mathlib.Core.Logic.{_⊎_, _↔_, inl, inr, ⊎-elim}
 use mathlib.Core.Path.{_≡_, refl, ap, ap₂, sym, _∙_}
@@ -20,15 +20,14 @@ use Rattle.grid.specs.declared.{Corner.Corner, Panel.Panel}
 use Rattle.grid.specs.Grid.{laterFrom, endFrom, cornerAt}
 use Rattle.grid.proofs.StepLaws.{cornersFrom-at, length-cornersFrom, cornerAt-end}
 use Rattle.trace.specs.Meeting.{Meets}
-use Rattle.trace.specs.Verdict.{IsRoom, verdictOf, sweepFrom, areaOf}
+use Rattle.trace.specs.Verdict.{IsRoom, verdictOf, areaOf}
 use Rattle.trace.proofs.VerdictLaws.{says-verdict, area-room}
 use Rattle.panels.specs.Edges.{beside}
 use Rattle.panels.specs.Inside.{edgesBeside, Inside, panelsInside, InsideLeft}
 use Rattle.panels.proofs.BesideLaws.{beside-other, beside-row}
 use Rattle.room_laws.proofs.RoomLaws.{room-sign, room-magnitude}
 use Rattle.orthogonal_chain_laws.specs.Chain.{Piled, cornerBy, InPile, blocksBelow, chainFromRow}
-use Rattle.orthogonal_chain_laws.proofs.ArcLaws.{Arc}
-use Rattle.orthogonal_chain_laws.proofs.SideLaws.{OnChain, arc-chain}
+use Rattle.orthogonal_chain_laws.proofs.SideLaws.{arc-chain}
 use Rattle.orthogonal_chain_laws.proofs.LengthLaws.{chain-four}
 use Rattle.orthogonal_chain_laws.proofs.SumLaws.{rowSum, count-adds, sweep-adds, adds-chain}
 

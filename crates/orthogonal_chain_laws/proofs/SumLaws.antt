@@ -6,7 +6,7 @@ use mathlib.Core.List.{List, [], _∷_, _++_, append-assoc, append-nil}
 use mathlib.Core.Path.{_≡_, refl, ap, ap₂, sym, _∙_}
 use Prim.Native.Nat.{ℕ, zero, suc, _+_, _-_, _≤_}
 use native.Mathlib.Omega.{arith}
-use lib.IntN.{ℤ, pos, negsuc, negℤ, predℤ, _+ℤ_, _-ℤ_, _*ℤ_, +ℤ-assoc, +ℤ-idl}
+use lib.IntN.{ℤ, pos, negsuc, negℤ, _+ℤ_, _-ℤ_, _*ℤ_, +ℤ-assoc, +ℤ-idl}
 use lib.ListN.{replicate}
 use Rattle.int_laws.proofs.NextLaws.{suc-sub, pred-sub}
 use Rattle.int_laws.proofs.RingLaws.{ring, v, k, _⊕_, _⊖_, _⊗_, ⊝}
