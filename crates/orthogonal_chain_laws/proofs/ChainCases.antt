@@ -8,7 +8,7 @@ use Rattle.answer.specs.declared.Verdict.the-variants.{ClosedMeeting}
 use Rattle.grid.specs.Grid.{origin}
 use Rattle.trace.specs.Verdict.{verdictOf}
 use Rattle.panels.specs.Inside.{panelsInside}
-use Rattle.orthogonal_chain_laws.specs.Chain.{blocksBelow, chainFromRow, homeRow, chainFromHome}
+use Rattle.orthogonal_chain_laws.specs.Chain.{blocksFrom, chainFromRow, homeRow, chainFromHome}
 
 abbrev at : List ℕ → ℕ → ℕ
 at xs q = getD xs q 0
@@ -48,7 +48,7 @@ touching = refl
 stairs-length : length (chainFromHome (at (0 ∷ 1 ∷ 2 ∷ [])) (at (2 ∷ 3 ∷ 4 ∷ [])) 2) ≡ 14
 stairs-length = refl
 
-stairs-blocks : blocksBelow (at (0 ∷ 1 ∷ 2 ∷ [])) (at (2 ∷ 3 ∷ 4 ∷ [])) 3 ≡ 6
+stairs-blocks : blocksFrom (at (0 ∷ 1 ∷ 2 ∷ [])) (at (2 ∷ 3 ∷ 4 ∷ [])) 0 3 ≡ 6
 stairs-blocks = refl
 
 stairs-panels : panelsInside origin (chainFromHome (at (0 ∷ 1 ∷ 2 ∷ [])) (at (2 ∷ 3 ∷ 4 ∷ [])) 2) ≡ 6

@@ -56,7 +56,7 @@ add-suc : (a b : ℕ) → a + suc b ≡ suc (a + b)
 add-suc a b = omega arith
 
 module _ (g : ℕ → ℤ) where
-  sum-front : (m n : ℕ) → rowSum g m (suc n) ≡ g m +ℤ rowSum g (suc m) n
+  pub sum-front : (m n : ℕ) → rowSum g m (suc n) ≡ g m +ℤ rowSum g (suc m) n
   sum-front m zero = ap (λ (q : ℕ). g q +ℤ pos 0) (omega arith)
   sum-front m (suc n) =
       let e : g (m + suc n) ≡ g (suc m + n) = ap g (omega arith) in
