@@ -7,3 +7,4 @@ pub mod HullLaws
 pub mod OneLaws
 pub mod CallLaws
 pub mod EndsLaws
+pub mod OutlineLaws
