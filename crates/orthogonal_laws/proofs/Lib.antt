@@ -8,3 +8,4 @@ pub mod OneLaws
 pub mod CallLaws
 pub mod EndsLaws
 pub mod OutlineLaws
+pub mod LengthLaws
