@@ -9,3 +9,5 @@ pub mod CallLaws
 pub mod EndsLaws
 pub mod OutlineLaws
 pub mod LengthLaws
+pub mod BoxLaws
+pub mod NotchLaws
