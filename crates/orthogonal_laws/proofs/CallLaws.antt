@@ -52,6 +52,21 @@ onGrid-split s ds g = by (when (ltb mostInput (length ds)) TooMany) (when (not (
     by Good (Refused q) c d e = refl
     by Good Good c d e = ap (orElse c) (sym (orElse-right (orElse d (orElse e Good))))
 
+-- each of them alone
+module _ (s : Corner) (ds : List ℕ) (g : ℕ) where
+  pub onGrid-many : mostInput < length ds → onGridJudged s ds g ≡ Refused TooMany
+  onGrid-many h = rw (lt-ltb mostInput (length ds) h)
+
+  pub onGrid-range : length ds ≤ mostInput → startFits s ≡ false → onGridJudged s ds g ≡ Refused StartRange
+  onGrid-range h e = rw (le-ltb mostInput (length ds) h, e)
+
+  pub onGrid-size : length ds ≤ mostInput → startFits s ≡ true → gridFits g ≡ false → onGridJudged s ds g ≡ Refused GridSize
+  onGrid-size h e f = onGrid-split s ds g ∙ rw (le-ltb mostInput (length ds) h, e, f)
+
+  -- with a grid size, those of a room
+  pub onGrid-room : gridFits g ≡ true → onGridJudged s ds g ≡ asRoomJudged s ds
+  onGrid-room e = rw e
+
 -- what is accepted is a room, with a grid size
 pub onGrid-good : (s : Corner) (ds : List ℕ) (g : ℕ) → onGridJudged s ds g ≡ Good → (asRoomJudged s ds ≡ Good) × (gridFits g ≡ true)
 onGrid-good s ds g e =
