@@ -1,14 +1,16 @@
 -- The refusals of the call, what is accepted, and that the call has one answer and leaves one buffer.
 -- Assumes nothing.
-use mathlib.Core.Bool.{Bool, true, false, not}
+use mathlib.Core.Bool.{Bool, true, false, not, _&&_}
 use mathlib.Core.List.{List, [], _∷_, _++_}
-use mathlib.Core.Logic.{_↔_}
+use mathlib.Core.Logic.{_↔_, ⊎-elim}
 use mathlib.Core.Path.{_≡_, refl, ap, ap₂, sym, _∙_, subst}
 use Prim.Native.Nat.{ℕ, _%_, _<_, _≤_}
 use native.Mathlib.Omega.{arith}
 use borrow.Author.Tests.{eqb-true, eq-eqb, lt-ltb, le-ltb}
-use lib.Dec.{T, leb, ltb, leb→le}
+use lib.Dec.{T, leb, ltb, leb→le, le→leb}
+use lib.IntN.{pos}
 use lib.ListN.{length, drop}
+use Rattle.int_laws.proofs.LinearLaws.{zarith, neg-nat}
 use Rattle.answer.specs.declared.{Judged.Judged, Judged.the-variants.Good, Judged.the-variants.Refused, Refusal.Refusal, Refusal.the-variants.TooMany, Refusal.the-variants.StartRange, Refusal.the-variants.GridSize, Refusal.the-variants.NotRoom, Refusal.the-variants.ChainRoom}
 use Rattle.answer.specs.Limits.{mostInput, startFits}
 use Rattle.answer.specs.Refusal.{when, orElse, firstOf}
@@ -20,7 +22,9 @@ use Rattle.steps.specs.Turns.{writtenIf}
 use Rattle.hull.specs.Call.{chainJudged}
 use Rattle.room.specs.Room.{isRoom, asRoomJudged}
 use Rattle.room.proofs.RoomLaws.{isRoom-exactly}
-use Rattle.panels.specs.Inside.{edgesBeside, Inside, inside}
+use Rattle.trace.specs.Verdict.{areaOf}
+use Rattle.panels.specs.Inside.{edgesBeside, Inside, inside, panelsInside}
+use Rattle.room_laws.proofs.RoomLaws.{room-counts, room-sign}
 use Rattle.orthogonal.specs.declared.Orthogonal.{Orthogonal}
 use Rattle.orthogonal.specs.Call.{mostGrid, gridFits, OutlinesHull, onGridJudged, orthogonalJudged, hulledOf, orthogonalOf, OrthogonalCall}
 use Rattle.orthogonal_laws.proofs.HullLaws.{hull-one}
@@ -31,6 +35,12 @@ use Rattle.orthogonal_laws.proofs.OneLaws.{Outlines, outlines-one}
 module _ {s : Corner} {ds : List ℕ} {g : ℕ} {start : Corner} {steps : List ℕ} (o : OutlinesHull s ds g start steps) where
   pub hull-outlines : Outlines start steps
   hull-outlines = record { digits = o .digits; room = isRoom-exactly start steps .0 (o .room); home = o .home; left = o .left }
+
+-- its area is the number of blocks
+pub outline-area : {s : Corner} {ds : List ℕ} {g : ℕ} (start : Corner) (steps : List ℕ) → OutlinesHull s ds g start steps → areaOf start steps ≡ pos (panelsInside start steps)
+outline-area start steps o =
+    let r = hull-outlines o .room in
+    ⊎-elim (λ k. k .1) (λ k. let h = room-sign start steps r .0 .1 (o .left) in absurd (omega (zarith, h, k .1, neg-nat (pos (panelsInside start steps))))) (room-counts start steps r)
 
 -- there is only one
 pub outlinesHull-one : {s : Corner} {ds : List ℕ} {g : ℕ} (start : Corner) (steps : List ℕ) (start′ : Corner) (steps′ : List ℕ) → OutlinesHull s ds g start steps → OutlinesHull s ds g start′ steps′ → (start ≡ start′) × (steps ≡ steps′)
@@ -81,6 +91,16 @@ grid-within g e = (le-of 1 g (and-left (leb 1 g) (leb g mostGrid) e), le-of g mo
   where
     le-of : (a b : ℕ) → leb a b ≡ true → a ≤ b
     le-of a b e = leb→le a b (subst T (sym e) tt)
+
+pub within-grid : (g : ℕ) → 0 < g → g ≤ mostGrid → gridFits g ≡ true
+within-grid g h k = ap₂ _&&_ (yes-le 1 g h) (yes-le g mostGrid k)
+  where
+    yes-le : (a b : ℕ) → a ≤ b → leb a b ≡ true
+    yes-le a b h = by (leb a b) (le→leb a b h)
+      where
+        by : (x : Bool) → T x → x ≡ true
+        by true t = refl
+        by false t = absurd t
 
 module _ (s : Corner) (ds : List ℕ) (g room n : ℕ) where
   -- what is refused is so whatever the buffer
