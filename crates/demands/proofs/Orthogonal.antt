@@ -15,9 +15,9 @@ use Rattle.trace.specs.Verdict.{IsRoom, areaOf}
 use Rattle.panels.specs.Box.{Box}
 use Rattle.panels.specs.Inside.{Inside, inside, panelsInside}
 use Rattle.outline.specs.Outline.{homeOf, OutlineIs}
-use Rattle.orthogonal.specs.declared.{Hulled.Hulled, Orthogonal.Orthogonal}
-use Rattle.orthogonal.specs.Blocks.{Holds, Unbroken, OrthogonalHullIs}
-use Rattle.orthogonal.specs.Call.{OutlinesHull, hulledOf, OrthogonalCall, orthogonalWords}
+use Rattle.orthogonal.specs.declared.{Enclosed.Enclosed, Orthogonal.Orthogonal}
+use Rattle.orthogonal.specs.Blocks.{HoldsInside, Unbroken, OrthogonalHullIs}
+use Rattle.orthogonal.specs.Call.{OutlinesHull, enclosedOf, OrthogonalCall, orthogonalWords}
 use Rattle.orthogonal_laws.specs.Connected.{Connected, Quadrants}
 use Rattle.orthogonal_laws.specs.BlockBox.{BoundedBy}
 use Rattle.orthogonal_laws.proofs.InsideLaws as insideLaws
@@ -54,15 +54,15 @@ module _ (s : Corner) (ds : List ℕ) (r : IsRoom s ds) (b : Below 4 ds) where
 
   module _ (g : ℕ) (some : 0 < g) where
     -- and so are its blocks
-    pub blocks-connected : Connected (Holds s ds g)
+    pub blocks-connected : Connected (HoldsInside s ds g)
     blocks-connected = blockLaws.blocks-connected g some s ds r b
 
     -- its blocks have a hull
-    pub room-hull : (H : Panel → Bool) × OrthogonalHullIs (Holds s ds g) H
+    pub room-hull : (H : Panel → Bool) × OrthogonalHullIs (HoldsInside s ds g) H
     room-hull = hullLaws.room-hull s ds r b g some
 
     -- "a block is in the hull exactly when each of its four closed quadrants holds a block of the room"
-    pub hull-quadrants : (H : Panel → Bool) → OrthogonalHullIs (Holds s ds g) H → (p : Panel) → (H p ≡ true) ↔ Quadrants (Holds s ds g) p
+    pub hull-quadrants : (H : Panel → Bool) → OrthogonalHullIs (HoldsInside s ds g) H → (p : Panel) → (H p ≡ true) ↔ Quadrants (HoldsInside s ds g) p
     hull-quadrants = hullLaws.hull-quadrants s ds r b g some
 
     -- the hull has an outline
@@ -70,12 +70,12 @@ module _ (s : Corner) (ds : List ℕ) (r : IsRoom s ds) (b : Below 4 ds) where
     outline-some = outlineLaws.outline-some s ds r b g some
 
     -- the blocks have a bounding box
-    pub blocks-bounded : (k : Box) × BoundedBy (Holds s ds g) k
+    pub blocks-bounded : (k : Box) × BoundedBy (HoldsInside s ds g) k
     blocks-bounded = boxLaws.blocks-bounded g some s ds r b
 
     module _ (start : Corner) (steps : List ℕ) (o : OutlinesHull s ds g start steps) where
       -- "its length is twice the width plus twice the height of the bounding box of the blocks"
-      pub hull-length : (k : Box) → BoundedBy (Holds s ds g) k → length steps ≡ 2 * natAbs (k .east -ℤ k .west) + 2 * natAbs (k .north -ℤ k .south)
+      pub hull-length : (k : Box) → BoundedBy (HoldsInside s ds g) k → length steps ≡ 2 * natAbs (k .east -ℤ k .west) + 2 * natAbs (k .north -ℤ k .south)
       hull-length k m = boxLaws.hull-length g some s ds r b k m start steps o
 
       -- "so it is never longer than the room's own chain"
@@ -124,7 +124,7 @@ module _ (s : Corner) (ds : List ℕ) (g : ℕ) (before : List ℕ) where
   orthogonal-words w a k = ap orthogonalWords (orthogonal-exactly w a .1 k)
 
   -- "a buffer as long as the chain always suffices": then a room with a grid size is accepted
-  pub orthogonal-enough : {r : Orthogonal} {after : List ℕ} → OrthogonalCall s ds g before r after → GridSized g → GivenRoom s ds Good → length ds ≤ length before → (h : Hulled) × (r ≡ Orthogonal.Outlined h)
+  pub orthogonal-enough : {r : Orthogonal} {after : List ℕ} → OrthogonalCall s ds g before r after → GridSized g → GivenRoom s ds Good → length ds ≤ length before → (h : Enclosed) × (r ≡ Orthogonal.Outlined h)
   orthogonal-enough = givenLaws.orthogonal-enough s ds g before
 
   module _ {after : List ℕ} where
@@ -133,5 +133,5 @@ module _ (s : Corner) (ds : List ℕ) (g : ℕ) (before : List ℕ) where
     orthogonal-untouched = givenLaws.orthogonal-untouched s ds g before
 
     -- the outline, and "bytes after the chain are unchanged"
-    pub orthogonal-written : (h : Hulled) → OrthogonalCall s ds g before (Orthogonal.Outlined h) after → (start : Corner) × (steps : List ℕ) × OutlinesHull s ds g start steps × (h ≡ hulledOf start steps) × (after ≡ steps ++ drop (length steps) before)
+    pub orthogonal-written : (h : Enclosed) → OrthogonalCall s ds g before (Orthogonal.Outlined h) after → (start : Corner) × (steps : List ℕ) × OutlinesHull s ds g start steps × (h ≡ enclosedOf start steps) × (after ≡ steps ++ drop (length steps) before)
     orthogonal-written = givenLaws.orthogonal-written s ds g before

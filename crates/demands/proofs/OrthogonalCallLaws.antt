@@ -20,8 +20,8 @@ use Rattle.steps.specs.Turns.{writtenIf}
 use Rattle.room.specs.Room.{asRoomJudged}
 use Rattle.room.proofs.RoomLaws.{good-room}
 use Rattle.row_laws.proofs.CallLaws.{good-steps}
-use Rattle.orthogonal.specs.declared.{Hulled.Hulled, Orthogonal.Orthogonal}
-use Rattle.orthogonal.specs.Call.{gridFits, OutlinesHull, onGridJudged, hulledOf, orthogonalOf, orthogonalJudged, OrthogonalCall}
+use Rattle.orthogonal.specs.declared.{Enclosed.Enclosed, Orthogonal.Orthogonal}
+use Rattle.orthogonal.specs.Call.{gridFits, OutlinesHull, onGridJudged, enclosedOf, orthogonalOf, orthogonalJudged, OrthogonalCall}
 use Rattle.orthogonal_laws.proofs.OutlineLaws.{outline-some}
 use Rattle.orthogonal_laws.proofs.BoxLaws.{hull-short}
 use Rattle.orthogonal_laws.proofs.CallLaws.{onGrid-good, onGrid-many, onGrid-range, onGrid-size, onGrid-room, grid-within, within-grid, refused-call, short-call, outlined-call, orthogonalCall-one}
@@ -58,7 +58,7 @@ module _ (s : Corner) (ds : List ℕ) (g : ℕ) where
             let w = accepted-outline e in
             elim (decLt (length before) (length (w .1))) [
               | yes h ↦ (Orthogonal.Refused ChainRoom, before, short-call s ds g before (w .0) (w .1) e (w .2) h)
-              | no h ↦ (Orthogonal.Outlined (hulledOf (w .0) (w .1)), w .1 ++ drop (length (w .1)) before, outlined-call s ds g before (w .0) (w .1) e (w .2) (omega arith))
+              | no h ↦ (Orthogonal.Outlined (enclosedOf (w .0) (w .1)), w .1 ++ drop (length (w .1)) before, outlined-call s ds g before (w .0) (w .1) e (w .2) (omega arith))
             ]
 
     -- each answer on its occasion has its call
@@ -81,7 +81,7 @@ module _ (s : Corner) (ds : List ℕ) (g : ℕ) where
             let k = room-when s ds Good .0 e in
             elim (decLt (length before) (length (w .1))) [
               | yes h ↦ (Orthogonal.Refused ChainRoom, given.chainRoom z k (w .0) (w .1) (w .2) h)
-              | no h ↦ (Orthogonal.Outlined (hulledOf (w .0) (w .1)), given.outlined z k (w .0) (w .1) (w .2) (omega arith))
+              | no h ↦ (Orthogonal.Outlined (enclosedOf (w .0) (w .1)), given.outlined z k (w .0) (w .1) (w .2) (omega arith))
             ]
 
         by-grid : length ds ≤ mostInput → Near s → (b : Bool) → gridFits g ≡ b → (a : Orthogonal) × GivenOrthogonal s ds g (length before) a
@@ -107,14 +107,14 @@ module _ (s : Corner) (ds : List ℕ) (g : ℕ) where
           (λ e. subst (GivenOrthogonal s ds g (length before)) (sym (same (x .0) (x .1)) ∙ e) (x .1), same a)
 
     -- a room with a grid size, and a buffer as long as its chain
-    pub orthogonal-enough : {r : Orthogonal} {after : List ℕ} → OrthogonalCall s ds g before r after → GridSized g → GivenRoom s ds Good → length ds ≤ length before → (h : Hulled) × (r ≡ Orthogonal.Outlined h)
+    pub orthogonal-enough : {r : Orthogonal} {after : List ℕ} → OrthogonalCall s ds g before r after → GridSized g → GivenRoom s ds Good → length ds ≤ length before → (h : Enclosed) × (r ≡ Orthogonal.Outlined h)
     orthogonal-enough w z k h =
         let e = room-when s ds Good .1 k in
         let o = accepted-outline (onGrid-room s ds g (sized-fits g z) ∙ e) in
         let n = hull-short g (z .least) s ds (good-room s ds e .room) (good-steps s ds e .0) (o .0) (o .1) (o .2) in
-        (hulledOf (o .0) (o .1), orthogonal-when w (Orthogonal.Outlined (hulledOf (o .0) (o .1))) .1 (given.outlined z k (o .0) (o .1) (o .2) (omega (arith, n, h))))
+        (enclosedOf (o .0) (o .1), orthogonal-when w (Orthogonal.Outlined (enclosedOf (o .0) (o .1))) .1 (given.outlined z k (o .0) (o .1) (o .2) (omega (arith, n, h))))
 
-    refused-outlined : (q : Refusal) (h : Hulled) → Orthogonal.Refused q ≡ Orthogonal.Outlined h → ⊥
+    refused-outlined : (q : Refusal) (h : Enclosed) → Orthogonal.Refused q ≡ Orthogonal.Outlined h → ⊥
     refused-outlined q h f = let z : _≡_ {A = ℕ} 0 1 = cc in omega arith
 
     module _ {after : List ℕ} where
@@ -122,21 +122,21 @@ module _ (s : Corner) (ds : List ℕ) (g : ℕ) where
       orthogonal-untouched q w = by (orthogonalJudged s ds g (length before) (length (w .steps))) refl
         where
           by : (j : Judged) → orthogonalJudged s ds g (length before) (length (w .steps)) ≡ j → after ≡ before
-          by Good e = absurd (refused-outlined q (hulledOf (w .start) (w .steps)) (w .answer ∙ ap (λ (j : Judged). orthogonalOf j (w .start) (w .steps)) e))
+          by Good e = absurd (refused-outlined q (enclosedOf (w .start) (w .steps)) (w .answer ∙ ap (λ (j : Judged). orthogonalOf j (w .start) (w .steps)) e))
           by (Refused x) e = w .buffer ∙ ap (λ (j : Judged). writtenIf j (w .steps ++ drop (length (w .steps)) before) before) e
 
-      pub orthogonal-written : (h : Hulled) → OrthogonalCall s ds g before (Orthogonal.Outlined h) after → (start : Corner) × (steps : List ℕ) × OutlinesHull s ds g start steps × (h ≡ hulledOf start steps) × (after ≡ steps ++ drop (length steps) before)
+      pub orthogonal-written : (h : Enclosed) → OrthogonalCall s ds g before (Orthogonal.Outlined h) after → (start : Corner) × (steps : List ℕ) × OutlinesHull s ds g start steps × (h ≡ enclosedOf start steps) × (after ≡ steps ++ drop (length steps) before)
       orthogonal-written h w = by (orthogonalJudged s ds g (length before) (length (w .steps))) refl
         where
-          same : (k : Hulled) → Orthogonal.Outlined h ≡ Orthogonal.Outlined k → h ≡ k
+          same : (k : Enclosed) → Orthogonal.Outlined h ≡ Orthogonal.Outlined k → h ≡ k
           same k f = cc
 
-          by : (j : Judged) → orthogonalJudged s ds g (length before) (length (w .steps)) ≡ j → (start : Corner) × (steps : List ℕ) × OutlinesHull s ds g start steps × (h ≡ hulledOf start steps) × (after ≡ steps ++ drop (length steps) before)
+          by : (j : Judged) → orthogonalJudged s ds g (length before) (length (w .steps)) ≡ j → (start : Corner) × (steps : List ℕ) × OutlinesHull s ds g start steps × (h ≡ enclosedOf start steps) × (after ≡ steps ++ drop (length steps) before)
           by Good e = (
             w .start,
             w .steps,
             w .outline (clear (onGridJudged s ds g ∷ when (ltb (length before) (length (w .steps))) ChainRoom ∷ []) e .0),
-            same (hulledOf (w .start) (w .steps)) (w .answer ∙ ap (λ (j : Judged). orthogonalOf j (w .start) (w .steps)) e),
+            same (enclosedOf (w .start) (w .steps)) (w .answer ∙ ap (λ (j : Judged). orthogonalOf j (w .start) (w .steps)) e),
             w .buffer ∙ ap (λ (j : Judged). writtenIf j (w .steps ++ drop (length (w .steps)) before) before) e,
           )
           by (Refused x) e = absurd (refused-outlined x h (sym (w .answer ∙ ap (λ (j : Judged). orthogonalOf j (w .start) (w .steps)) e)))

@@ -9,7 +9,7 @@ use Rattle.answer.specs.declared.Refusal.the-variants.{TooMany, StartRange, Gri
 use Rattle.answer.specs.Limits.{mostInput, Near}
 use Rattle.grid.specs.declared.Corner.{Corner}
 use Rattle.orthogonal.specs.declared.Orthogonal.{Orthogonal}
-use Rattle.orthogonal.specs.Call.{mostGrid, OutlinesHull, hulledOf}
+use Rattle.orthogonal.specs.Call.{mostGrid, OutlinesHull, enclosedOf}
 use Rattle.demands.specs.GivenHull.{ChainSized}
 use Rattle.demands.specs.GivenRoom.{GivenRoom}
 
@@ -25,4 +25,4 @@ pub data GivenOrthogonal (s : Corner) (ds : List ℕ) (g room : ℕ) : Orthogona
   gridSize : ChainSized s ds → (GridSized g → ⊥) → GivenOrthogonal s ds g room (Orthogonal.Refused GridSize)
   noRoom : (q : Refusal) → GridSized g → GivenRoom s ds (Refused q) → GivenOrthogonal s ds g room (Orthogonal.Refused q)
   chainRoom : GridSized g → GivenRoom s ds Good → (start : Corner) (steps : List ℕ) → OutlinesHull s ds g start steps → room < length steps → GivenOrthogonal s ds g room (Orthogonal.Refused ChainRoom)
-  outlined : GridSized g → GivenRoom s ds Good → (start : Corner) (steps : List ℕ) → OutlinesHull s ds g start steps → length steps ≤ room → GivenOrthogonal s ds g room (Orthogonal.Outlined (hulledOf start steps))
+  outlined : GridSized g → GivenRoom s ds Good → (start : Corner) (steps : List ℕ) → OutlinesHull s ds g start steps → length steps ≤ room → GivenOrthogonal s ds g room (Orthogonal.Outlined (enclosedOf start steps))

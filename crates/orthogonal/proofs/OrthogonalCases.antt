@@ -4,12 +4,12 @@ use mathlib.Core.List.{List, [], _∷_, map}
 use mathlib.Core.Path.{_≡_, refl}
 use mathlib.Core.Bool.{Bool, true, false}
 use Prim.Native.Nat.{ℕ}
-use lib.IntN.{ℤ, pos, negsuc}
+use lib.IntN.{pos, negsuc}
 use lib.Signed.{leZ-yes}
 use Rattle.grid.specs.declared.Panel.{Panel}
 use Rattle.grid.specs.Grid.{corner, origin}
-use Rattle.answer.specs.declared.{Judged.Judged, Judged.the-variants.Good, Judged.the-variants.Refused, Refusal.the-variants.BadDigit, Refusal.the-variants.StartRange, Refusal.the-variants.NotRoom, Refusal.the-variants.ChainRoom, Refusal.the-variants.GridSize}
-use Rattle.orthogonal.specs.Blocks.{floorBy, block, blockOf, Holds, OrthogonalHullIs}
+use Rattle.answer.specs.declared.{Judged.the-variants.Good, Judged.the-variants.Refused, Refusal.the-variants.BadDigit, Refusal.the-variants.StartRange, Refusal.the-variants.NotRoom, Refusal.the-variants.ChainRoom, Refusal.the-variants.GridSize}
+use Rattle.orthogonal.specs.Blocks.{floorBy, block, blockOf, HoldsInside, OrthogonalHullIs}
 use Rattle.orthogonal.specs.Call.{gridFits, orthogonalJudged, orthogonalOf, orthogonalWords, orthogonalNumber}
 
 -- -4, -3, -1, 0, 2 and 3 by 3
@@ -28,20 +28,20 @@ abbrev lying : List ℕ
 lying = 0 ∷ 0 ∷ 1 ∷ 2 ∷ 1 ∷ 0 ∷ 1 ∷ 2 ∷ 2 ∷ 3 ∷ 3 ∷ 3 ∷ []
 
 -- its mouth is in the hull: it lies between two panels of one row, and between two of one column
-pub mouth-in-a-row : (H : Panel → Bool) → OrthogonalHullIs (Holds origin upright 1) H → H (block (pos 1) (pos 1)) ≡ true
+pub mouth-in-a-row : (H : Panel → Bool) → OrthogonalHullIs (HoldsInside origin upright 1) H → H (block (pos 1) (pos 1)) ≡ true
 mouth-in-a-row H h =
     h .unbroken .row (pos 0) (pos 1) (pos 2) (pos 1) (leZ-yes tt) (leZ-yes tt)
     (h .contains (block (pos 0) (pos 1)) (record { panel = block (pos 0) (pos 1); inside = refl; block = refl }))
     (h .contains (block (pos 2) (pos 1)) (record { panel = block (pos 2) (pos 1); inside = refl; block = refl }))
 
-pub mouth-in-a-column : (H : Panel → Bool) → OrthogonalHullIs (Holds origin lying 1) H → H (block (pos 1) (pos 1)) ≡ true
+pub mouth-in-a-column : (H : Panel → Bool) → OrthogonalHullIs (HoldsInside origin lying 1) H → H (block (pos 1) (pos 1)) ≡ true
 mouth-in-a-column H h =
     h .unbroken .column (pos 1) (pos 0) (pos 1) (pos 2) (leZ-yes tt) (leZ-yes tt)
     (h .contains (block (pos 1) (pos 0)) (record { panel = block (pos 1) (pos 0); inside = refl; block = refl }))
     (h .contains (block (pos 1) (pos 2)) (record { panel = block (pos 1) (pos 2); inside = refl; block = refl }))
 
 -- with a grid size of 2 the panel at the east end of the U is in another block than the one at its west end
-by-twos : Holds origin upright 2 (block (pos 1) (pos 0))
+by-twos : HoldsInside origin upright 2 (block (pos 1) (pos 0))
 by-twos = record { panel = block (pos 2) (pos 1); inside = refl; block = refl }
 
 -- 1 and 16,384 are grid sizes, 0 and 16,385 are not

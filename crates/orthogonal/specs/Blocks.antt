@@ -17,7 +17,7 @@ abbrev pub blockOf : ℕ → Panel → Panel
 blockOf g p = block (floorBy g (p .0)) (floorBy g (p .1))
 
 -- the block holds a panel that is inside the room
-pub record Holds (s : Corner) (ds : List ℕ) (g : ℕ) (b : Panel) : Type 0 where
+pub record HoldsInside (s : Corner) (ds : List ℕ) (g : ℕ) (b : Panel) : Type 0 where
   pub panel : Panel
   pub inside : Inside s ds panel
   pub block : blockOf g panel ≡ b

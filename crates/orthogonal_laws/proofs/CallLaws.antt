@@ -5,7 +5,6 @@ use mathlib.Core.List.{List, [], _∷_, _++_}
 use mathlib.Core.Logic.{_↔_, ⊎-elim}
 use mathlib.Core.Path.{_≡_, refl, ap, ap₂, sym, _∙_, subst}
 use Prim.Native.Nat.{ℕ, _%_, _<_, _≤_}
-use native.Mathlib.Omega.{arith}
 use borrow.Author.Tests.{eqb-true, eq-eqb, lt-ltb, le-ltb}
 use lib.Dec.{T, leb, ltb, leb→le, le→leb}
 use lib.IntN.{pos}
@@ -26,7 +25,7 @@ use Rattle.trace.specs.Verdict.{areaOf}
 use Rattle.panels.specs.Inside.{edgesBeside, Inside, inside, panelsInside}
 use Rattle.room_laws.proofs.RoomLaws.{room-counts, room-sign}
 use Rattle.orthogonal.specs.declared.Orthogonal.{Orthogonal}
-use Rattle.orthogonal.specs.Call.{mostGrid, gridFits, OutlinesHull, onGridJudged, orthogonalJudged, hulledOf, orthogonalOf, OrthogonalCall}
+use Rattle.orthogonal.specs.Call.{mostGrid, gridFits, OutlinesHull, onGridJudged, orthogonalJudged, enclosedOf, orthogonalOf, OrthogonalCall}
 use Rattle.orthogonal_laws.proofs.HullLaws.{hull-one}
 use Rattle.orthogonal_laws.proofs.OneLaws.{Outlines, outlines-one}
 
@@ -54,7 +53,7 @@ outlinesHull-one start steps start′ steps′ o o′ = outlines-one start steps
 -- ---- the refusals in their order
 
 -- 1 and 10, then 22, then those of a room
-pub onGrid-split : (s : Corner) (ds : List ℕ) (g : ℕ) → onGridJudged s ds g ≡ firstOf (when (ltb mostInput (length ds)) TooMany ∷ when (not (startFits s)) StartRange ∷ when (not (gridFits g)) GridSize ∷ asRoomJudged s ds ∷ [])
+onGrid-split : (s : Corner) (ds : List ℕ) (g : ℕ) → onGridJudged s ds g ≡ firstOf (when (ltb mostInput (length ds)) TooMany ∷ when (not (startFits s)) StartRange ∷ when (not (gridFits g)) GridSize ∷ asRoomJudged s ds ∷ [])
 onGrid-split s ds g = by (when (ltb mostInput (length ds)) TooMany) (when (not (startFits s)) StartRange) (when (not (gridFits g)) GridSize) (chainJudged 0 ds) (when (not (isRoom s ds)) NotRoom)
   where
     by : (a b c d e : Judged) → firstOf (a ∷ b ∷ c ∷ d ∷ e ∷ []) ≡ firstOf (a ∷ b ∷ c ∷ firstOf (a ∷ b ∷ d ∷ e ∷ []) ∷ [])
@@ -104,11 +103,11 @@ within-grid g h k = ap₂ _&&_ (yes-le 1 g h) (yes-le g mostGrid k)
 
 module _ (s : Corner) (ds : List ℕ) (g room n : ℕ) where
   -- what is refused is so whatever the buffer
-  pub orthogonal-refused : (q : Refusal) → onGridJudged s ds g ≡ Refused q → orthogonalJudged s ds g room n ≡ Refused q
+  orthogonal-refused : (q : Refusal) → onGridJudged s ds g ≡ Refused q → orthogonalJudged s ds g room n ≡ Refused q
   orthogonal-refused q e = ap (λ (j : Judged). orElse j (orElse (when (ltb room n) ChainRoom) Good)) e
 
   -- and what is not, by its buffer alone
-  pub orthogonal-last : onGridJudged s ds g ≡ Good → orthogonalJudged s ds g room n ≡ when (ltb room n) ChainRoom
+  orthogonal-last : onGridJudged s ds g ≡ Good → orthogonalJudged s ds g room n ≡ when (ltb room n) ChainRoom
   orthogonal-last e = ap (λ (j : Judged). orElse j (orElse (when (ltb room n) ChainRoom) Good)) e ∙ orElse-right (when (ltb room n) ChainRoom)
 
 -- ---- the call
@@ -146,7 +145,7 @@ module _ (s : Corner) (ds : List ℕ) (g : ℕ) (before : List ℕ) where
     short-call h = by-room true (lt-ltb (length before) (length steps) h)
 
     -- and one that is not
-    pub outlined-call : length steps ≤ length before → OrthogonalCall s ds g before (Orthogonal.Outlined (hulledOf start steps)) (steps ++ drop (length steps) before)
+    pub outlined-call : length steps ≤ length before → OrthogonalCall s ds g before (Orthogonal.Outlined (enclosedOf start steps)) (steps ++ drop (length steps) before)
     outlined-call h = by-room false (le-ltb (length before) (length steps) h)
 
   -- one answer, and one state of the buffer

@@ -1,14 +1,11 @@
 -- The orthogonal hull: there is at most one, a larger set has a larger one, and that of a room's blocks is by quadrants.
 -- Assumes nothing.
 use mathlib.Core.Bool.{Bool, true, false, _&&_}
-use mathlib.Core.List.{List, List·Memᴰ}
+use mathlib.Core.List.{List}
 use mathlib.Core.Logic.{_↔_}
-use mathlib.Core.Path.{_≡_, refl, ap, ap₂, sym, _∙_, subst}
+use mathlib.Core.Path.{_≡_, refl, ap₂, sym, _∙_, subst}
 use Prim.Native.Nat.{ℕ, _%_, _<_}
-use native.Mathlib.Omega.{arith}
 use borrow.Author.Tests.{eqb-true}
-use lib.IntN.{ℤ}
-use lib.Signed.{_≤ℤ_}
 use Rattle.int_laws.proofs.LinearLaws.{zarith}
 use Rattle.lists.specs.Lists.{Below, any}
 use Rattle.lists.proofs.FindLaws.{bool-agree, any-mem, any-some}
@@ -16,9 +13,9 @@ use Rattle.lists.proofs.GatherLaws.{and-left, and-right}
 use Rattle.grid.specs.declared.{Corner.Corner, Panel.Panel}
 use Rattle.trace.specs.Verdict.{IsRoom}
 use Rattle.panels.specs.Box.{boxOf, panelsIn}
-use Rattle.panels.specs.Inside.{edgesBeside, Inside, inside}
+use Rattle.panels.specs.Inside.{edgesBeside, inside}
 use Rattle.room_laws.proofs.InsideLaws.{inside-found}
-use Rattle.orthogonal.specs.Blocks.{floorBy, block, blockOf, Holds, Unbroken, OrthogonalHullIs}
+use Rattle.orthogonal.specs.Blocks.{floorBy, block, blockOf, HoldsInside, Unbroken, OrthogonalHullIs}
 use Rattle.orthogonal_laws.specs.Connected.{Connected, Holding, Quadrants}
 use Rattle.orthogonal_laws.proofs.JoinedLaws.{Side, side, side-yes, yes-side, quadrants-in}
 use Rattle.orthogonal_laws.proofs.BlockLaws.{blocks-connected}
@@ -62,7 +59,7 @@ itself : {B X Y : Panel → Type 0} (p : Panel) → B p → X p → Y p → Hold
 itself p b x y = record { at = p; one = b; x = x; y = y }
 
 -- the blocks that have blocks of B in all four quadrants are the hull of a connected B
-pub quadrants-hull : (B : Panel → Type 0) → Connected B → (K : Panel → Bool) → ((p : Panel) → (K p ≡ true) ↔ Quadrants B p) → OrthogonalHullIs B K
+quadrants-hull : (B : Panel → Type 0) → Connected B → (K : Panel → Bool) → ((p : Panel) → (K p ≡ true) ↔ Quadrants B p) → OrthogonalHullIs B K
 quadrants-hull B joined K k =
     record {
       contains = λ p b. k p .1 (record { south-west = itself p b (omega zarith) (omega zarith); south-east = itself p b (omega zarith) (omega zarith); north-west = itself p b (omega zarith) (omega zarith); north-east = itself p b (omega zarith) (omega zarith) });
@@ -95,7 +92,7 @@ quadrants-hull B joined K k =
 -- the blocks of a room
 module _ (c : Corner) (ds : List ℕ) (r : IsRoom c ds) (b : Below 4 ds) (g : ℕ) (some : 0 < g) where
   abbrev B : Panel → Type 0
-  B = Holds c ds g
+  B = HoldsInside c ds g
 
   -- the room has a block on two sides of p
   abbrev inQuarter : Bool → Bool → Panel → Panel → Bool

@@ -1,8 +1,8 @@
 -- With blocks of one panel: the hull contains the room, and it is the room's own outline exactly if the room has no notch.
 -- Assumes nothing.
-use mathlib.Core.Bool.{Bool, true}
+use mathlib.Core.Bool.{true}
 use mathlib.Core.List.{List, _++_}
-use mathlib.Core.Logic.{_⊎_, inl, inr, ⊎-elim, _↔_}
+use mathlib.Core.Logic.{_⊎_, ⊎-elim, _↔_}
 use mathlib.Core.Path.{_≡_, refl, ap, sym, _∙_, subst}
 use Prim.Native.Nat.{ℕ, _%_, _<_}
 use native.Mathlib.Omega.{arith}
@@ -20,7 +20,7 @@ use Rattle.outline.specs.Outline.{homeOf, OutlineIs}
 use Rattle.outline_laws.proofs.BetweenLaws.{outline-same}
 use Rattle.outline_room_laws.proofs.RoomLaws.{room-outline}
 use Rattle.convex_hull_laws.proofs.TurnedLaws.{inside-cycle, inside-backward}
-use Rattle.orthogonal.specs.Blocks.{Holds, Unbroken, OrthogonalHullIs}
+use Rattle.orthogonal.specs.Blocks.{Unbroken}
 use Rattle.orthogonal.specs.Call.{OutlinesHull}
 use Rattle.orthogonal_laws.proofs.BlockLaws.{holds-one}
 use Rattle.orthogonal_laws.proofs.HullLaws.{hull-one, hull-same, unbroken-hull}

@@ -2,11 +2,11 @@
 -- Assumes nothing.
 use mathlib.Core.Bool.{Bool, true, false}
 use mathlib.Core.Logic.{_⊎_, inl, inr, ⊎-elim, _↔_}
-use mathlib.Core.Path.{_≡_, refl, ap, sym, _∙_, subst}
+use mathlib.Core.Path.{_≡_, refl, ap, _∙_, subst}
 use Prim.Native.Nat.{ℕ, zero, suc, _+_, _-_, _≤_, _<_, min, max}
 use native.Mathlib.Decide.{decLt}
 use native.Mathlib.Omega.{arith}
-use lib.IntN.{ℤ, pos, sucℤ, natAbs, _+ℤ_, _-ℤ_}
+use lib.IntN.{ℤ, pos, natAbs, _+ℤ_, _-ℤ_}
 use lib.Signed.{_≤ℤ_, _<ℤ_, leZ}
 use Rattle.int_laws.proofs.LinearLaws.{zarith, bal+}
 use Rattle.int_laws.proofs.NextLaws.{bal-suc, le-false, above}
@@ -23,7 +23,7 @@ use Rattle.orthogonal_laws.proofs.JoinedLaws as joinedLaws
 -- what is picked of some numbers
 module _ (pick : ℕ → ℕ → ℕ) (f : ℕ → ℕ) where
   -- one of them
-  pub over-one : ((a b : ℕ) → (pick a b ≡ a) ⊎ (pick a b ≡ b)) → (m n : ℕ) → (q : ℕ) × (m ≤ q) × (q ≤ m + n) × (pickOver pick f m n ≡ f q)
+  over-one : ((a b : ℕ) → (pick a b ≡ a) ⊎ (pick a b ≡ b)) → (m n : ℕ) → (q : ℕ) × (m ≤ q) × (q ≤ m + n) × (pickOver pick f m n ≡ f q)
   over-one w m zero = (m, omega arith, omega arith, refl)
   over-one w m (suc n) =
       let k = over-one w (suc m) n in
@@ -52,17 +52,14 @@ max-one : (a b : ℕ) → (max a b ≡ a) ⊎ (max a b ≡ b)
 max-one a b = elim (decLt a b) [ yes l ↦ inr (omega arith) | no l ↦ inl (omega arith) ]
 
 module _ (f : ℕ → ℕ) where
-  pub least-below : (m n q : ℕ) → m ≤ q → q ≤ m + n → leastOver f m n ≤ f q
+  least-below : (m n q : ℕ) → m ≤ q → q ≤ m + n → leastOver f m n ≤ f q
   least-below = over-all min f (λ a b. a ≤ b) (λ a. omega arith) (λ a b c. (omega arith, λ h. omega arith))
 
-  pub most-above : (m n q : ℕ) → m ≤ q → q ≤ m + n → f q ≤ mostOver f m n
+  most-above : (m n q : ℕ) → m ≤ q → q ≤ m + n → f q ≤ mostOver f m n
   most-above = over-all max f (λ a b. b ≤ a) (λ a. omega arith) (λ a b c. (omega arith, λ h. omega arith))
 
   pub least-next : (m n : ℕ) → leastOver f m (suc n) ≡ min (leastOver f m n) (f (suc (m + n)))
   least-next = over-next min f (λ a b c. omega arith)
-
-  pub most-next : (m n : ℕ) → mostOver f m (suc n) ≡ max (mostOver f m n) (f (suc (m + n)))
-  most-next = over-next max f (λ a b c. omega arith)
 
   -- more rows, less or more
   least-wider : (m n i j : ℕ) → i ≤ m → m + n ≤ i + j → leastOver f i j ≤ leastOver f m n
