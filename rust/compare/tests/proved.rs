@@ -73,6 +73,15 @@ fn wrapper() {
             undrwyth::convex((n as i32, -1), &ops),
             plain::convex((n as i32, -1), &ops)
         );
+        for grid in 0..4 {
+            let round = |hull: fn((i32, i32), &[u8], u32, &mut [u8]) -> _| {
+                hull((n as i32, -1), &ops, grid, &mut [0; 60])
+            };
+            assert_eq!(
+                round(undrwyth::orthogonal_hull),
+                round(plain::orthogonal_hull)
+            );
+        }
         type Overlay =
             fn(compare::Room, compare::Room, [&mut [i32]; 3]) -> Result<Overlaid, Refusal>;
         let over = |overlay: Overlay| {
