@@ -72,35 +72,22 @@ fn extent(start: i32, chain: &[u8], grid: i32) -> (i32, usize) {
 
 /// The least and the greatest x of the vertical sides in each row of blocks.
 fn sides(
-    (mut x, start): (i32, i32),
+    (mut x, mut y): (i32, i32),
     chain: &[u8],
     grid: i32,
     south: i32,
     left: &mut [i16],
     right: &mut [i16],
 ) {
-    // The row of blocks of the panel above, and how high in it that panel lies.
-    let mut row = (start.div_euclid(grid) - south) as usize;
-    let mut within = start.rem_euclid(grid);
     for &step in chain {
-        match step {
-            0 => x += 1,
-            2 => x -= 1,
-            _ => {
-                if step == 3 {
-                    let under = within == 0;
-                    row -= usize::from(under);
-                    within = if under { grid - 1 } else { within - 1 };
-                }
-                left[row] = left[row].min(x as i16);
-                right[row] = right[row].max(x as i16);
-                if step == 1 {
-                    let over = within == grid - 1;
-                    row += usize::from(over);
-                    within = if over { 0 } else { within + 1 };
-                }
-            }
+        if step % 2 == 1 {
+            let panels = (y - i32::from(step > 2) - south * grid) as usize;
+            let row = panels / grid as usize;
+            left[row] = left[row].min(x as i16);
+            right[row] = right[row].max(x as i16);
         }
+        x += [1, 0, -1, 0][usize::from(step % 4)];
+        y += [0, 1, 0, -1][usize::from(step % 4)];
     }
 }
 
