@@ -26,7 +26,7 @@ pub fn orthogonal_hull(
     let part = out.get_mut(..steps.len()).ok_or(Refusal::ChainRoom)?;
     part.copy_from_slice(&steps);
     Ok(OrthogonalHull {
-        start: from,
+        start: from.into(),
         steps: steps.len(),
         blocks: blocks.len(),
     })

@@ -53,7 +53,7 @@ fn put<const N: usize>(
     round(left, right, low, out);
     let wide = |(first, last): (&i16, &i16)| (i32::from(*last) - i32::from(*first) + 1) as usize;
     Ok(OrthogonalHull {
-        start: (west.into(), south + low as i32),
+        start: (west.into(), south + low as i32).into(),
         steps,
         blocks: left.iter().zip(right.iter()).map(wide).sum(),
     })
