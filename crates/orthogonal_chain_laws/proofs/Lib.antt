@@ -1,0 +1,2 @@
+-- Laws of the chain around a pile of rows.
+pub mod ChainCases
