@@ -1,0 +1,3 @@
+-- Laws of the orthogonal hull.
+pub mod JoinedLaws
+pub mod RowLaws
