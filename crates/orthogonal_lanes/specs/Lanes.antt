@@ -1,0 +1,47 @@
+-- The vertical edges of a walk by rows of blocks. Columns and heights are counted so that they are whole numbers. Assumes nothing.
+use mathlib.Core.Path.{_≡_}
+use mathlib.Core.List.{List, [], _∷_, _++_}
+use Prim.Native.Nat.{ℕ, zero, suc, _+_, _*_, _-_, _/_, _<_, _≤_}
+use lib.ListN.{length, getD}
+use Rattle.hull_laws.specs.Columns.{blank, colAfter, rowAfter}
+
+-- the row of blocks and the column of the edge of a step d from column x and height y, if it is vertical. Rows of blocks are g high, and
+-- row 0 begins `up` below height 0; a column is counted by f
+abbrev pub edgeOf : ℕ → ℕ → (ℕ → ℕ) → ℕ → ℕ → ℕ → List (ℕ × ℕ)
+edgeOf g up f x y zero = []
+edgeOf g up f x y (suc zero) = ((y + up) / g, f x) ∷ []
+edgeOf g up f x y (suc (suc zero)) = []
+edgeOf g up f x y (suc (suc (suc d))) = ((y - 1 + up) / g, f x) ∷ []
+
+-- the edges of a walk
+unfoldable pub edgesBy : ℕ → ℕ → (ℕ → ℕ) → ℕ → ℕ → List ℕ → List (ℕ × ℕ)
+edgesBy g up f x y [] = []
+edgesBy g up f x y (d ∷ ds) = edgeOf g up f x y d ++ edgesBy g up f (colAfter x d) (rowAfter y d) ds
+
+-- columns counted from west, from `right` west of column 0; and from east, from `far`
+abbrev pub fromWest : ℕ → ℕ → ℕ
+fromWest right x = x + right
+
+abbrev pub fromEast : ℕ → ℕ → ℕ → ℕ
+fromEast far right x = far - (x + right)
+
+-- lanes for rows of blocks: as many as a walk goes through that stays below 2 * m, columns that are counted from east there, and blocks of
+-- at least a panel
+pub record Ruled (m g right up far rows : ℕ) : Type 0 where
+  pub some : 0 < g
+  pub across : 2 * m + right ≤ far + 1
+  pub narrow : far < blank
+  pub along : 2 * m + up ≤ rows * g
+  pub low : up < blank
+
+-- the first rows that have no edge
+pub record EmptyBefore (a : List ℕ) (r : ℕ) : Type 0 where
+  pub within : r ≤ length a
+  pub before : (q : ℕ) → q < r → getD a q 0 ≡ blank
+  pub here : r < length a → getD a r 0 ≡ blank → ⊥
+
+-- and the last
+pub record EmptyFrom (a : List ℕ) (r : ℕ) : Type 0 where
+  pub within : r ≤ length a
+  pub after : (q : ℕ) → r ≤ q → q < length a → getD a q 0 ≡ blank
+  pub here : 0 < r → getD a (r - 1) 0 ≡ blank → ⊥
