@@ -1,6 +1,6 @@
 -- What the call that outlines the orthogonal hull of a room answers, and what it leaves in the buffer (RULES 21.4 to 21.6). Assumes
 -- nothing.
-use Rattle.lists.specs.Lists.{_≡_, Bool, true, not, _&&_, List, [], _∷_, _++_, length, drop, ℕ, leb, ltb}
+use Rattle.lists.specs.Lists.{_≡_, Bool, true, not, _&&_, List, [], _∷_, _++_, length, drop, ℕ, leb, ltb, Below}
 use Rattle.grid.specs.declared.Corner.{Corner}
 use Rattle.answer.specs.declared.{Judged.Judged, Judged.the-variants.Good, Judged.the-variants.Refused, Refusal.the-variants.TooMany, Refusal.the-variants.StartRange, Refusal.the-variants.GridSize, Refusal.the-variants.NotRoom, Refusal.the-variants.ChainRoom}
 use Rattle.answer.specs.{Limits.mostInput, Limits.startFits, Refusal.when, Refusal.firstOf, Refusal.refusalNumber, Refusal.refusalPlace, Words.bitsOf}
@@ -19,9 +19,10 @@ mostGrid = 16384
 abbrev pub gridFits : ℕ → Bool
 gridFits g = leb 1 g && leb g mostGrid
 
--- the chain of these steps outlines the orthogonal hull of the room's blocks: it is a room in block coordinates, counterclockwise from
--- the lowest of its leftmost corners, and the blocks inside it are the hull
+-- the chain of these steps outlines the orthogonal hull of the room's blocks: its digits are steps, it is a room in block coordinates,
+-- counterclockwise from the lowest of its leftmost corners, and the blocks inside it are the hull
 pub record OutlinesHull (s : Corner) (ds : List ℕ) (g : ℕ) (start : Corner) (steps : List ℕ) : Type 0 where
+  pub digits : Below 4 steps
   pub room : isRoom start steps ≡ true
   pub home : homeOf start steps ≡ start
   pub left : InsideLeft start steps

@@ -5,17 +5,23 @@ use mathlib.Core.Logic.{_⊎_, inl, inr, ⊎-elim, _↔_}
 use mathlib.Core.Path.{_≡_, refl, ap, ap₂, sym, _∙_, subst}
 use Prim.Native.Nat.{ℕ, zero, suc}
 use native.Mathlib.Omega.{arith}
-use lib.IntN.{ℤ, pos, sucℤ, predℤ}
+use lib.IntN.{ℤ, sucℤ, predℤ, pred-suc}
 use lib.Signed.{_≤ℤ_, _<ℤ_, leZ}
 use Rattle.int_laws.proofs.LinearLaws.{zarith, le-or-lt}
 use Rattle.int_laws.proofs.NextLaws.{bal-suc, bal-pred, le-false}
 use Rattle.lists.proofs.GatherLaws.{and-left, and-right}
 use Rattle.int_laws.proofs.RangeLaws.{le-true}
 use Rattle.grid.specs.declared.{Corner.Corner, Panel.Panel}
+use Rattle.grid.specs.Grid.{corner, stepped, back}
 use Rattle.panels.specs.Inside.{leftOf, rightOf}
+use Rattle.room_laws.proofs.CornerLaws.{left-back, right-back}
 use Rattle.orthogonal.specs.Blocks.{block, Contains, Unbroken, OrthogonalHullIs}
 use Rattle.orthogonal_laws.specs.Connected.{Joined, Connected, Holding, Quadrants}
 use Rattle.orthogonal_laws.specs.Connected as connected
+
+-- the panel with these coordinates
+at-both : {x y : ℤ} {p : Panel} → x ≡ p .0 → y ≡ p .1 → block x y ≡ p
+at-both e f = ap₂ block e f
 
 -- two panels with a common edge, the second north, west, south or east of the first
 pub data Beside (u v : Panel) : Type 0 where
@@ -57,6 +63,31 @@ module _ (B : Panel → Type 0) (p : Panel) (b : B p) where
       by sooner true e = record { from = rightOf d v; to = leftOf d v; from-one = joined-one (rightOf d v) j; to-one = c; in-it = e; off-it = o; edge = beside-edge d v }
       by sooner false e = sooner e
 
+module _ (B : Panel → Type 0) where
+  pub joined-trans : (p q r : Panel) → Joined B p q → Joined B q r → Joined B p r
+  joined-trans p q _ j connected.here = j
+  joined-trans p q _ j (connected.across d v k c) = connected.across d v (joined-trans p q (rightOf d v) j k) c
+
+  pub joined-back : (p : Panel) → B p → (q : Panel) → Joined B p q → Joined B q p
+  joined-back p b _ connected.here = connected.here
+  joined-back p b _ (connected.across d v j c) =
+      let one : Joined B (leftOf d v) (rightOf d v) =
+      subst (Joined B (leftOf d v)) (right-back d v) (connected.across (back d) (stepped d v) (subst (Joined B (leftOf d v)) (sym (left-back d v)) connected.here) (subst B (sym (right-back d v)) (joined-one B p b (rightOf d v) j))) in
+      joined-trans (leftOf d v) (rightOf d v) p one (joined-back p b (rightOf d v) j)
+
+  -- one panel more
+  pub joined-beside : (p u v : Panel) → Joined B p u → Beside u v → B v → Joined B p v
+  joined-beside p u v j k b = by k
+    where
+      step : (d : ℕ) (q : Corner) → rightOf d q ≡ u → leftOf d q ≡ v → Joined B p v
+      step d q e f = subst (Joined B p) f (connected.across d q (subst (Joined B p) (sym e) j) (subst B (sym f) b))
+
+      by : Beside u v → Joined B p v
+      by (north e f) = step 0 (corner (v .0) (v .1)) (at-both e (omega (zarith, f, bal-suc (u .1), bal-pred (v .1)))) refl
+      by (west e f) = step 1 (corner (u .0) (u .1)) refl (at-both (omega (zarith, e, bal-suc (v .0), bal-pred (u .0))) (sym f))
+      by (south e f) = step 2 (corner (sucℤ (u .0)) (u .1)) (at-both (pred-suc (u .0)) refl) (at-both (pred-suc (u .0) ∙ sym e) (omega (zarith, f, bal-suc (v .1), bal-pred (u .1))))
+      by (east e f) = step 3 (corner (v .0) (sucℤ (v .1))) (at-both (omega (zarith, e, bal-suc (u .0), bal-pred (v .0))) (pred-suc (v .1) ∙ f)) (at-both refl (pred-suc (v .1)))
+
 -- ---- quadrants
 
 -- x lies on one side of a, or at it: with true it is not above a, with false not below
@@ -64,11 +95,11 @@ abbrev pub Side : Bool → ℤ → ℤ → Type 0
 Side true x a = x ≤ℤ a
 Side false x a = a ≤ℤ x
 
-abbrev side : Bool → ℤ → ℤ → Bool
+abbrev pub side : Bool → ℤ → ℤ → Bool
 side true x a = leZ x a
 side false x a = leZ a x
 
-side-yes : (s : Bool) (x a : ℤ) → side s x a ≡ true → Side s x a
+pub side-yes : (s : Bool) (x a : ℤ) → side s x a ≡ true → Side s x a
 side-yes true x a e = le-true e
 side-yes false x a e = le-true e
 
@@ -79,7 +110,7 @@ true-le x a h = by (leZ x a) refl
     by true e = refl
     by false e = let g = le-false x a e in absurd (omega (zarith, g, h))
 
-yes-side : (s : Bool) (x a : ℤ) → Side s x a → side s x a ≡ true
+pub yes-side : (s : Bool) (x a : ℤ) → Side s x a → side s x a ≡ true
 yes-side true x a h = true-le x a h
 yes-side false x a h = true-le a x h
 

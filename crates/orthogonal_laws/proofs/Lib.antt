@@ -1,3 +1,8 @@
 -- Laws of the orthogonal hull.
 pub mod JoinedLaws
 pub mod RowLaws
+pub mod InsideLaws
+pub mod BlockLaws
+pub mod HullLaws
+pub mod OneLaws
+pub mod CallLaws
