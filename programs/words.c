@@ -4,7 +4,7 @@
 
 #include <string.h>
 
-/* A sentence under way: its length so far, of which what fits was written. */
+/* A sentence under way: its length so far. As much of it as fits was written. */
 struct sentence {
     char *out;
     size_t room, length;

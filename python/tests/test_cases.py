@@ -114,7 +114,7 @@ class Cases(unittest.TestCase):
             answer = call(*inputs, *starts, **dict(zip(names, lent)))
         except undrwyth.Refused as why:
             refused = why
-        except ValueError:  # a line that has no room: the result is 0, and nothing is written
+        except ValueError:  # the buffer is too short for the line: the result is 0, and nothing is written
             self.assertIn(name, LINES)
             self.assertEqual(result, 0)
         for one, value in zip(held, after):

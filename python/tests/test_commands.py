@@ -285,7 +285,7 @@ class Running(unittest.TestCase):
 
     def start(self, **handles):
         def usual():
-            signal.signal(signal.SIGINT, signal.SIG_DFL)  # though the tests may run where it is ignored
+            signal.signal(signal.SIGINT, signal.SIG_DFL)  # though the tests may run while it is ignored
 
         run("explain", "0")  # it is built
         return subprocess.Popen([str(HERE / "undrwyth"), "explain"], stdin=subprocess.PIPE, preexec_fn=usual, **handles)

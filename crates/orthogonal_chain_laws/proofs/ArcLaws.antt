@@ -14,6 +14,7 @@ use Rattle.grid.specs.declared.Corner.{Corner}
 use Rattle.grid.specs.Grid.{corner, stepped, laterFrom, endFrom}
 use Rattle.grid.proofs.StepLaws.{endFrom-append}
 use Rattle.orthogonal_chain_laws.specs.Chain.{cornerBy, sideways}
+use Rattle.orthogonal_chain_laws.proofs.ChainCases as cases
 
 -- where a step leads
 pub step-east : (o : Corner) (x y : ℕ) → stepped 0 (cornerBy o x y) ≡ cornerBy o (suc x) y
@@ -29,7 +30,7 @@ pub step-south : (o : Corner) (x y : ℕ) → stepped 3 (cornerBy o x (suc y)) �
 step-south o x y = ap (corner (o .0 +ℤ pos x)) (sym (+ℤ-predℤ (o .1) (pos (suc y))))
 
 -- no corner has two places
-pub cornerBy-one : (o : Corner) (x y a b : ℕ) → cornerBy o x y ≡ cornerBy o a b → (x ≡ a) × (y ≡ b)
+cornerBy-one : (o : Corner) (x y a b : ℕ) → cornerBy o x y ≡ cornerBy o a b → (x ≡ a) × (y ≡ b)
 cornerBy-one o x y a b e = (
   omega (zarith, ap (λ (q : Corner). q .0) e, bal+ (o .0) (pos x), bal+ (o .0) (pos a)),
   omega (zarith, ap (λ (q : Corner). q .1) e, bal+ (o .1) (pos y), bal+ (o .1) (pos b)),

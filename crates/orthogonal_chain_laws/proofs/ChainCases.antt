@@ -3,8 +3,12 @@
 use mathlib.Core.List.{List, [], _∷_}
 use mathlib.Core.Path.{_≡_, refl}
 use Prim.Native.Nat.{ℕ}
-use lib.ListN.{getD}
-use Rattle.orthogonal_chain_laws.specs.Chain.{chainFromRow, chainFromHome, homeRow}
+use lib.ListN.{length, getD}
+use Rattle.answer.specs.declared.Verdict.the-variants.{ClosedMeeting}
+use Rattle.grid.specs.Grid.{origin}
+use Rattle.trace.specs.Verdict.{verdictOf}
+use Rattle.panels.specs.Inside.{panelsInside}
+use Rattle.orthogonal_chain_laws.specs.Chain.{blocksFrom, chainFromRow, homeRow, chainFromHome}
 
 abbrev at : List ℕ → ℕ → ℕ
 at xs q = getD xs q 0
@@ -35,3 +39,17 @@ stairs-west = refl
 -- of two rows as far left the lower one
 lowest-row : homeRow (at (3 ∷ 1 ∷ 2 ∷ 1 ∷ 4 ∷ [])) 4 ≡ 1
 lowest-row = refl
+
+-- two rows that touch at a corner only are not a pile: the chain around them meets itself there
+touching : verdictOf origin (chainFromHome (at (0 ∷ 1 ∷ [])) (at (1 ∷ 2 ∷ [])) 1) ≡ ClosedMeeting
+touching = refl
+
+-- the chain around the staircase has twice its width of 4 and twice its height of 3 as steps, and the staircase has 6 blocks
+stairs-length : length (chainFromHome (at (0 ∷ 1 ∷ 2 ∷ [])) (at (2 ∷ 3 ∷ 4 ∷ [])) 2) ≡ 14
+stairs-length = refl
+
+stairs-blocks : blocksFrom (at (0 ∷ 1 ∷ 2 ∷ [])) (at (2 ∷ 3 ∷ 4 ∷ [])) 0 3 ≡ 6
+stairs-blocks = refl
+
+stairs-panels : panelsInside origin (chainFromHome (at (0 ∷ 1 ∷ 2 ∷ [])) (at (2 ∷ 3 ∷ 4 ∷ [])) 2) ≡ 6
+stairs-panels = refl

@@ -1,26 +1,27 @@
 -- The chain from the lowest row whose left end is least begins at the lowest of its leftmost corners.
 -- Assumes nothing.
 use mathlib.Core.Bool.{Bool, true, false, cond}
-use mathlib.Core.List.{List, List·Memᴰ, List·Memᴰ·cases-cons}
+use mathlib.Core.List.{List·Memᴰ·cases-cons}
 use mathlib.Core.Logic.{_⊎_, inl, inr, ⊎-elim}
-use mathlib.Core.Path.{_≡_, refl, ap, sym, subst}
-use Prim.Native.Nat.{ℕ, zero, suc, _-_, _<_, _≤_}
-use native.Mathlib.Decide.{ℕ-discrete, decLt}
+use mathlib.Core.Path.{_≡_, refl, ap, sym, _∙_, subst}
+use Prim.Native.Nat.{ℕ, zero, suc, _+_, _-_, _*_, _<_, _≤_}
+use native.Mathlib.Decide.{decLt}
 use native.Mathlib.Omega.{arith}
 use borrow.Author.Tests.{ltb-true, ltb-false}
 use lib.Dec.{ltb}
 use lib.IntN.{pos}
+use lib.ListN.{length}
 use Rattle.int_laws.proofs.LinearLaws.{zarith, bal+}
 use Rattle.grid.specs.declared.Corner.{Corner}
-use Rattle.grid.specs.Grid.{cornersFrom}
 use Rattle.grid.proofs.StepLaws.{startFrom-mem}
 use Rattle.hull.specs.Hull.{Begins}
 use Rattle.hull_laws.proofs.LineLaws.{begins-self}
 use Rattle.outline.specs.Outline.{homeOf}
 use Rattle.outline_laws.proofs.HomeLaws.{home-one}
-use Rattle.orthogonal_chain_laws.specs.Chain.{Piled, cornerBy, chainFromRow, homeRow, chainFromHome}
-use Rattle.orthogonal_chain_laws.proofs.ArcLaws.{Arc, Spot}
+use Rattle.orthogonal_chain_laws.specs.Chain.{Piled, Bulges, cornerBy, chainFromRow, homeRow, chainFromHome}
+use Rattle.orthogonal_chain_laws.proofs.ArcLaws.{Spot}
 use Rattle.orthogonal_chain_laws.proofs.SideLaws.{OnLeftSide, OnRightSide, OnChain, arc-chain}
+use Rattle.orthogonal_chain_laws.proofs.LengthLaws.{falls-down, bulge-least, bulge-length}
 
 -- row m has the least left end of the rows 0 to t, and no row below it does
 pub record LowestLeast (l : ℕ → ℕ) (t m : ℕ) : Type 0 where
@@ -94,3 +95,31 @@ module _ (o : Corner) (l r : ℕ → ℕ) (t : ℕ) (p : Piled l r t) (m : ℕ) 
 
 pub chain-home : (o : Corner) (l r : ℕ → ℕ) (t : ℕ) → Piled l r t → homeOf (cornerBy o (l (homeRow l t)) (homeRow l t)) (chainFromHome l r t) ≡ cornerBy o (l (homeRow l t)) (homeRow l t)
 chain-home o l r t p = row-home o l r t p (homeRow l t) (homeRow-is l t)
+
+-- where the left ends turn, they may turn at that row too
+home-bulges : {l r : ℕ → ℕ} {t k j : ℕ} → Bulges l r t k j → Bulges l r t (homeRow l t) j
+home-bulges {l} {r} {t} {k} {j} b =
+    record {
+      left = i .among;
+      left-falls = λ q h. b .left-falls q (omega (arith, below));
+      left-rises = λ q h u. elim (decLt q k) [ yes z ↦ omega (arith, flat q h z, i .least (suc q) (omega arith)) | no z ↦ b .left-rises q (omega arith) u ];
+      right = b .right;
+      right-rises = b .right-rises;
+      right-falls = b .right-falls;
+    }
+  where
+    i : LowestLeast l t (homeRow l t)
+    i = homeRow-is l t
+
+    below : homeRow l t ≤ k
+    below = elim (decLt k (homeRow l t)) [ yes z ↦ absurd (omega (arith, i .lowest k z, bulge-least b (homeRow l t) (i .among))) | no z ↦ omega arith ]
+
+    flat : (q : ℕ) → homeRow l t ≤ q → q < k → l q ≤ l (homeRow l t)
+    flat q h z = omega (arith, falls-down l (homeRow l t) (q - homeRow l t) (λ n u v. b .left-falls n (omega arith)), up)
+      where
+        up : l (homeRow l t + (q - homeRow l t)) ≡ l q
+        up = ap l (omega arith)
+
+-- twice the width and twice the height
+pub chain-length : {l r : ℕ → ℕ} {t k j : ℕ} → Piled l r t → Bulges l r t k j → length (chainFromHome l r t) ≡ 2 * (r j - l k) + 2 * suc t
+chain-length {l} {r} {t} {k} {j} p b = bulge-length (home-bulges b) p ∙ ap (λ (n : ℕ). 2 * (r j - n) + 2 * suc t) (omega (arith, homeRow-is l t .least k (b .left), bulge-least b (homeRow l t) (homeRow-is l t .among)))

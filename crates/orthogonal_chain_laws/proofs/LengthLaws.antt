@@ -1,7 +1,7 @@
 -- How many steps the chain around a pile has. If its left ends fall and then rise, and its right ends rise and then fall, they are twice its width
 -- and twice its height.
 -- Assumes nothing.
-use mathlib.Core.List.{List, [], _∷_, _++_}
+use mathlib.Core.List.{List, _∷_, _++_}
 use mathlib.Core.Path.{_≡_, ap, _∙_}
 use Prim.Native.Nat.{ℕ, zero, suc, _+_, _-_, _*_, _<_, _≤_}
 use native.Mathlib.Decide.{decLt}
@@ -40,7 +40,7 @@ module _ (f : ℕ → ℕ) where
   abbrev Rises : ℕ → ℕ → Type 0
   Rises a n = (i : ℕ) → a ≤ i → i < a + n → f i ≤ f (suc i)
 
-  abbrev Falls : ℕ → ℕ → Type 0
+  abbrev pub Falls : ℕ → ℕ → Type 0
   Falls a n = (i : ℕ) → a ≤ i → i < a + n → f (suc i) ≤ f i
 
   level : (a : ℕ) → f (a + 0) ≡ f a
@@ -53,7 +53,7 @@ module _ (f : ℕ → ℕ) where
   rises-up a zero h = omega (arith, level a)
   rises-up a (suc n) h = omega (arith, rises-up a n (λ i g k. h i g (omega arith)), h (a + n) (omega arith) (omega arith), next a n)
 
-  falls-down : (a n : ℕ) → Falls a n → f (a + n) ≤ f a
+  pub falls-down : (a n : ℕ) → Falls a n → f (a + n) ≤ f a
   falls-down a zero h = omega (arith, level a)
   falls-down a (suc n) h = omega (arith, falls-down a n (λ i g k. h i g (omega arith)), h (a + n) (omega arith) (omega arith), next a n)
 

@@ -6,3 +6,4 @@ pub mod LengthLaws
 pub mod SumLaws
 pub mod RoomLaws
 pub mod HomeLaws
+pub mod DigitLaws

@@ -1,6 +1,6 @@
 -- The chain around a pile is a room, counterclockwise, and the blocks inside it are those of the rows.
 -- Assumes nothing.
-use mathlib.Core.Bool.{Bool, true, false}
+use mathlib.Core.Bool.{Bool}
 use mathlib.Core.List.{List, [], _∷_}
 use mathlib.Core.Logic.{_⊎_, _↔_, inl, inr, ⊎-elim}
 use mathlib.Core.Path.{_≡_, refl, ap, ap₂, sym, _∙_}
@@ -20,17 +20,16 @@ use Rattle.grid.specs.declared.{Corner.Corner, Panel.Panel}
 use Rattle.grid.specs.Grid.{laterFrom, endFrom, cornerAt}
 use Rattle.grid.proofs.StepLaws.{cornersFrom-at, length-cornersFrom, cornerAt-end}
 use Rattle.trace.specs.Meeting.{Meets}
-use Rattle.trace.specs.Verdict.{IsRoom, verdictOf, sweepFrom, areaOf}
+use Rattle.trace.specs.Verdict.{IsRoom, verdictOf, areaOf}
 use Rattle.trace.proofs.VerdictLaws.{says-verdict, area-room}
 use Rattle.panels.specs.Edges.{beside}
 use Rattle.panels.specs.Inside.{edgesBeside, Inside, panelsInside, InsideLeft}
 use Rattle.panels.proofs.BesideLaws.{beside-other, beside-row}
 use Rattle.room_laws.proofs.RoomLaws.{room-sign, room-magnitude}
-use Rattle.orthogonal_chain_laws.specs.Chain.{Piled, cornerBy, InPile, blocksBelow, chainFromRow}
-use Rattle.orthogonal_chain_laws.proofs.ArcLaws.{Arc}
-use Rattle.orthogonal_chain_laws.proofs.SideLaws.{OnChain, arc-chain}
+use Rattle.orthogonal_chain_laws.specs.Chain.{Piled, cornerBy, InPile, blocksFrom, chainFromRow}
+use Rattle.orthogonal_chain_laws.proofs.SideLaws.{arc-chain}
 use Rattle.orthogonal_chain_laws.proofs.LengthLaws.{chain-four}
-use Rattle.orthogonal_chain_laws.proofs.SumLaws.{rowSum, count-adds, sweep-adds, adds-chain}
+use Rattle.orthogonal_chain_laws.proofs.SumLaws.{rowSum, sum-front, count-adds, sweep-adds, adds-chain}
 
 -- a closed walk of at least four steps whose corners after the start are all different is a room
 round-room : (c : Corner) (ds : List ℕ) → 4 ≤ length ds → endFrom c ds ≡ c → Distinct (laterFrom c ds) → IsRoom c ds
@@ -73,20 +72,17 @@ sum-one g (suc n) q h f =
 
 module _ (o : Corner) (l r : ℕ → ℕ) where
   -- right ends less left ends are the blocks
-  ends-blocks : (n : ℕ) → ((q : ℕ) → q < n → l q < r q) → rowSum (λ q. cornerBy o (r q) q .0) 0 n +ℤ rowSum (λ q. negℤ (cornerBy o (l q) q .0)) 0 n ≡ pos (blocksBelow l r n)
-  ends-blocks zero h = refl
-  ends-blocks (suc n) h =
-      let R = rowSum (λ q. cornerBy o (r q) q .0) 0 n in
-      let L = rowSum (λ q. negℤ (cornerBy o (l q) q .0)) 0 n in
-      ap (λ (q : ℕ). ((o .0 +ℤ pos (r q)) +ℤ R) +ℤ (negℤ (o .0 +ℤ pos (l q)) +ℤ L)) from
-      ∙ ring 5 (o .0 ∷ pos (r n) ∷ pos (l n) ∷ R ∷ L ∷ []) (v 0 ⊕ v 1 ⊕ v 3 ⊕ (⊝ (v 0 ⊕ v 2) ⊕ v 4)) (v 3 ⊕ v 4 ⊕ (v 1 ⊖ v 2)) tt
-      ∙ ap₂ (λ (x y : ℤ). x +ℤ y) (ends-blocks n (λ q u. h q (omega arith))) width
+  ends-blocks : (n m : ℕ) → ((q : ℕ) → q < m + n → l q < r q) → rowSum (λ q. cornerBy o (r q) q .0) m n +ℤ rowSum (λ q. negℤ (cornerBy o (l q) q .0)) m n ≡ pos (blocksFrom l r m n)
+  ends-blocks zero m h = refl
+  ends-blocks (suc n) m h =
+      let R = rowSum (λ q. cornerBy o (r q) q .0) (suc m) n in
+      let L = rowSum (λ q. negℤ (cornerBy o (l q) q .0)) (suc m) n in
+      ap₂ (λ (x y : ℤ). x +ℤ y) (sum-front (λ q. cornerBy o (r q) q .0) m n) (sum-front (λ q. negℤ (cornerBy o (l q) q .0)) m n)
+      ∙ ring 5 (o .0 ∷ pos (r m) ∷ pos (l m) ∷ R ∷ L ∷ []) (v 0 ⊕ v 1 ⊕ v 3 ⊕ (⊝ (v 0 ⊕ v 2) ⊕ v 4)) (v 1 ⊖ v 2 ⊕ (v 3 ⊕ v 4)) tt
+      ∙ ap₂ (λ (x y : ℤ). x +ℤ y) width (ends-blocks n (suc m) (λ q u. h q (omega arith)))
     where
-      from : 0 + n ≡ n
-      from = omega arith
-
-      width : pos (r n) -ℤ pos (l n) ≡ pos (r n - l n)
-      width = omega (zarith, bal- (pos (r n)) (pos (l n)), h n (omega arith))
+      width : pos (r m) -ℤ pos (l m) ≡ pos (r m - l m)
+      width = omega (zarith, bal- (pos (r m)) (pos (l m)), h m (omega arith))
 
   module _ (t : ℕ) (p : Panel) where
     -- the edges of one side that the panel sees
@@ -159,12 +155,12 @@ module _ (o : Corner) (l r : ℕ → ℕ) (t : ℕ) (p : Piled l r t) (m : ℕ) 
       (odd-pile o l r t b (p .wide) (edgesBeside c ds b) e, pile-odd o l r t b (p .wide) (edgesBeside c ds b) e)
 
   -- there are as many as the rows have
-  pub chain-area : areaOf c ds ≡ pos (blocksBelow l r (suc t))
-  chain-area = area-room c ds chain-room ∙ adds-chain sweep-adds o l r t m h ∙ ends-blocks o l r (suc t) (λ q u. p .wide q (omega arith))
+  pub chain-area : areaOf c ds ≡ pos (blocksFrom l r 0 (suc t))
+  chain-area = area-room c ds chain-room ∙ adds-chain sweep-adds o l r t m h ∙ ends-blocks o l r (suc t) 0 (λ q u. p .wide q (omega arith))
 
-  pub chain-panels : panelsInside c ds ≡ blocksBelow l r (suc t)
+  pub chain-panels : panelsInside c ds ≡ blocksFrom l r 0 (suc t)
   chain-panels = sym (room-magnitude c ds chain-room) ∙ ap natAbs chain-area
 
   -- they lie on its left
   pub chain-left : InsideLeft c ds
-  chain-left = room-sign c ds chain-room .0 .0 (omega (zarith, chain-area, p .wide t (omega arith)))
+  chain-left = room-sign c ds chain-room .0 .0 (omega (zarith, chain-area, p .wide 0 (omega arith)))

@@ -6,7 +6,7 @@ use mathlib.Core.List.{List, [], _∷_, _++_, append-assoc, append-nil}
 use mathlib.Core.Path.{_≡_, refl, ap, ap₂, sym, _∙_}
 use Prim.Native.Nat.{ℕ, zero, suc, _+_, _-_, _≤_}
 use native.Mathlib.Omega.{arith}
-use lib.IntN.{ℤ, pos, negsuc, negℤ, predℤ, _+ℤ_, _-ℤ_, _*ℤ_, +ℤ-assoc, +ℤ-idl}
+use lib.IntN.{ℤ, pos, negsuc, negℤ, _+ℤ_, _-ℤ_, _*ℤ_, +ℤ-assoc, +ℤ-idl}
 use lib.ListN.{replicate}
 use Rattle.int_laws.proofs.NextLaws.{suc-sub, pred-sub}
 use Rattle.int_laws.proofs.RingLaws.{ring, v, k, _⊕_, _⊖_, _⊗_, ⊝}
@@ -56,7 +56,7 @@ add-suc : (a b : ℕ) → a + suc b ≡ suc (a + b)
 add-suc a b = omega arith
 
 module _ (g : ℕ → ℤ) where
-  sum-front : (m n : ℕ) → rowSum g m (suc n) ≡ g m +ℤ rowSum g (suc m) n
+  pub sum-front : (m n : ℕ) → rowSum g m (suc n) ≡ g m +ℤ rowSum g (suc m) n
   sum-front m zero = ap (λ (q : ℕ). g q +ℤ pos 0) (omega arith)
   sum-front m (suc n) =
       let e : g (m + suc n) ≡ g (suc m + n) = ap g (omega arith) in

@@ -21,10 +21,10 @@ pub record InPile (o : Corner) (l r : ℕ → ℕ) (t : ℕ) (p : Panel) : Type 
   pub west : (o .0 +ℤ pos (l row)) ≤ℤ p .0
   pub east : p .0 <ℤ (o .0 +ℤ pos (r row))
 
--- how many blocks the lowest n rows have together
-abbrev pub blocksBelow : (ℕ → ℕ) → (ℕ → ℕ) → ℕ → ℕ
-blocksBelow l r zero = 0
-blocksBelow l r (suc n) = blocksBelow l r n + (r n - l n)
+-- how many blocks n rows have together, from row m on
+abbrev pub blocksFrom : (ℕ → ℕ) → (ℕ → ℕ) → ℕ → ℕ → ℕ
+blocksFrom l r m zero = 0
+blocksFrom l r m (suc n) = (r m - l m) + blocksFrom l r (suc m) n
 
 -- the steps from column a to column b: all east or all west
 abbrev pub sideways : ℕ → ℕ → List ℕ

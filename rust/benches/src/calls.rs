@@ -16,7 +16,7 @@ use crate::race::Call;
 /// Where the walks start.
 const START: (i32, i32) = (0, 0);
 
-/// Each walk in the least table that has room.
+/// Each walk in the smallest table that is large enough.
 pub fn walk<'a, T, E: Debug>(
     walk: impl Fn((i32, i32), &[u8], &mut [u32], &mut [u32], &mut [u8]) -> Result<T, E> + 'static,
     inputs: &'a [Vec<u8>],
@@ -46,7 +46,7 @@ fn walk_from<'a, T, E: Debug>(
 /// Where two parties start.
 const STARTS: Starts = [START, (2, 1)];
 
-/// Two parties in the least table that has room, each input with the bytes of both.
+/// Two parties in the smallest table that is large enough, each input with the bytes of both.
 pub fn walk_two(
     walk_two: impl Fn(
         Starts,
