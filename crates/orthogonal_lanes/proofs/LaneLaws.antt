@@ -2,7 +2,7 @@
 -- Assumes nothing.
 use mathlib.Core.Path.{_≡_, refl, sym, ap, ap₂, _∙_, subst}
 use mathlib.Core.Bool.{Bool, true, false}
-use mathlib.Core.List.{List, [], _∷_, _++_}
+use mathlib.Core.List.{List, [], _∷_, _++_, map}
 use Prim.Native.Nat.{ℕ, zero, suc, _+_, _*_, _-_, _/_, _%_, _<_, _≤_, min, max}
 use native.Mathlib.Omega.{arith}
 use native.Mathlib.Numerals.{add-one}
@@ -16,7 +16,7 @@ use Rattle.hull_laws.specs.Columns.{blank, sink, sinks, colAfter, rowAfter}
 use Rattle.room_thread_laws.specs.Threads.{Stays, alongFrom, columnsFrom, rowsFrom}
 use Rattle.orthogonal_laws.specs.HullRows.{leastOver, hullLeft}
 use Rattle.orthogonal_laws.proofs.RowLaws.{least-next}
-use Rattle.orthogonal_lanes.specs.Lanes.{edgeOf, edgesBy, fromWest, fromEast}
+use Rattle.orthogonal_row_laws.specs.Lanes.{lowEndOf, lowEndsFrom, laneOf, laneAt, lanesFrom, fromWest, fromEast}
 
 sinks-append : (a : List ℕ) (us vs : List (ℕ × ℕ)) → sinks a (us ++ vs) ≡ sinks (sinks a us) vs
 unfolding sinks
@@ -24,27 +24,27 @@ sinks-append a [] vs = refl
 sinks-append a (u ∷ us) vs = sinks-append (sink a u) us vs
 
 -- the edge of a step: none, or one in the row of its lower end
-pub edge-none : (g up : ℕ) (f : ℕ → ℕ) (x y d : ℕ) → d < 4 → d % 2 ≡ 0 → edgeOf g up f x y d ≡ []
-edge-none g up f x y zero h e = refl
-edge-none g up f x y (suc zero) h e = absurd (omega arith)
-edge-none g up f x y (suc (suc zero)) h e = refl
-edge-none g up f x y (suc (suc (suc zero))) h e = absurd (omega arith)
-edge-none g up f x y (suc (suc (suc (suc d)))) h e = absurd (omega arith)
+end-none : (x y d : ℕ) → d < 4 → d % 2 ≡ 0 → lowEndOf x y d ≡ []
+end-none x y zero h e = refl
+end-none x y (suc zero) h e = absurd (omega arith)
+end-none x y (suc (suc zero)) h e = refl
+end-none x y (suc (suc (suc zero))) h e = absurd (omega arith)
+end-none x y (suc (suc (suc (suc d)))) h e = absurd (omega arith)
 
-pub edge-one : (g up : ℕ) (f : ℕ → ℕ) (x y d : ℕ) → d < 4 → (d % 2 ≡ 0 → ⊥) → edgeOf g up f x y d ≡ ((y - tally (ltb 2 d) + up) / g, f x) ∷ []
-edge-one g up f x y zero h e = absurd (e (omega arith))
-edge-one g up f x y (suc zero) h e = let z : y ≡ y - 0 = omega arith in ap (λ (n : ℕ). ((n + up) / g, f x) ∷ []) z
-edge-one g up f x y (suc (suc zero)) h e = absurd (e (omega arith))
-edge-one g up f x y (suc (suc (suc zero))) h e = refl
-edge-one g up f x y (suc (suc (suc (suc d)))) h e = absurd (omega arith)
+end-one : (x y d : ℕ) → d < 4 → (d % 2 ≡ 0 → ⊥) → lowEndOf x y d ≡ (x, y - tally (ltb 2 d)) ∷ []
+end-one x y zero h e = absurd (e (omega arith))
+end-one x y (suc zero) h e = let z : y ≡ y - 0 = omega arith in ap (λ (n : ℕ). (x, n) ∷ []) z
+end-one x y (suc (suc zero)) h e = absurd (e (omega arith))
+end-one x y (suc (suc (suc zero))) h e = refl
+end-one x y (suc (suc (suc (suc d)))) h e = absurd (omega arith)
 
-pub mark-none : (a : List ℕ) (g up : ℕ) (f : ℕ → ℕ) (x y d : ℕ) → d < 4 → d % 2 ≡ 0 → a ≡ sinks a (edgeOf g up f x y d)
+pub mark-none : (a : List ℕ) (g up : ℕ) (f : ℕ → ℕ) (x y d : ℕ) → d < 4 → d % 2 ≡ 0 → a ≡ sinks a (laneAt g up f x y d)
 unfolding sinks
-mark-none a g up f x y d h e = sym (ap (sinks a) (edge-none g up f x y d h e))
+mark-none a g up f x y d h e = sym (ap (λ (l : List (ℕ × ℕ)). sinks a (map (laneOf g up f) l)) (end-none x y d h e))
 
-pub mark-one : (a : List ℕ) (g up : ℕ) (f : ℕ → ℕ) (x y d k : ℕ) → d < 4 → (d % 2 ≡ 0 → ⊥) → k ≡ y - tally (ltb 2 d) → (a′ : List ℕ) → a′ ≡ sink a ((k + up) / g, f x) → a′ ≡ sinks a (edgeOf g up f x y d)
+pub mark-one : (a : List ℕ) (g up : ℕ) (f : ℕ → ℕ) (x y d k : ℕ) → d < 4 → (d % 2 ≡ 0 → ⊥) → k ≡ y - tally (ltb 2 d) → (a′ : List ℕ) → a′ ≡ sink a ((k + up) / g, f x) → a′ ≡ sinks a (laneAt g up f x y d)
 unfolding sinks
-mark-one a g up f x y d k h e s a′ w = w ∙ ap (λ (n : ℕ). sink a ((n + up) / g, f x)) s ∙ sym (ap (sinks a) (edge-one g up f x y d h e))
+mark-one a g up f x y d k h e s a′ w = w ∙ ap (λ (n : ℕ). sink a ((n + up) / g, f x)) s ∙ sym (ap (λ (l : List (ℕ × ℕ)). sinks a (map (laneOf g up f) l)) (end-one x y d h e))
 
 -- a row below the number of rows
 pub row-below : (k y up g rows : ℕ) → 0 < g → k ≤ y → y + up < rows * g → (k + up) / g < rows
@@ -69,8 +69,8 @@ module _ (f : ℕ → ℕ → ℕ) (chain : List ℕ) (m x i : ℕ) (e : drop i 
 pub record Gathering (chain : List ℕ) (m g right up far : ℕ) (lo₀ hi₀ lo hi : List ℕ) (x y i : ℕ) : Type 0 where
   pub columns : drop i (columnsFrom m chain) ≡ columnsFrom x (drop i chain)
   pub rows : drop i (rowsFrom m chain) ≡ rowsFrom y (drop i chain)
-  pub lows : sinks lo (edgesBy g up (fromWest right) x y (drop i chain)) ≡ sinks lo₀ (edgesBy g up (fromWest right) m m chain)
-  pub highs : sinks hi (edgesBy g up (fromEast far right) x y (drop i chain)) ≡ sinks hi₀ (edgesBy g up (fromEast far right) m m chain)
+  pub lows : sinks lo (lanesFrom g up (fromWest right) x y (drop i chain)) ≡ sinks lo₀ (lanesFrom g up (fromWest right) m m chain)
+  pub highs : sinks hi (lanesFrom g up (fromEast far right) x y (drop i chain)) ≡ sinks hi₀ (lanesFrom g up (fromEast far right) m m chain)
 
 pub gathering-start : (chain : List ℕ) (m g right up far : ℕ) (lo hi : List ℕ) → Gathering chain m g right up far lo hi lo hi m m 0
 gathering-start chain m g right up far lo hi = record { columns = refl; rows = refl; lows = refl; highs = refl }
@@ -82,37 +82,42 @@ module _ {chain : List ℕ} {m g right up far : ℕ} {lo₀ hi₀ lo hi : List �
       let b = along-at rowAfter chain m y i (w .rows) l in
       (omega (arith, a, s .columns i l .0), omega (arith, a, s .columns i l .1), omega (arith, b, s .rows i l .0), omega (arith, b, s .rows i l .1))
 
-  sinks-next : (f : ℕ → ℕ) (a a′ G : List ℕ) → i < length chain → a′ ≡ sinks a (edgeOf g up f x y (getD chain i 0)) → sinks a (edgesBy g up f x y (drop i chain)) ≡ G → sinks a′ (edgesBy g up f (colAfter x (getD chain i 0)) (rowAfter y (getD chain i 0)) (drop (i + 1) chain)) ≡ G
-  unfolding edgesBy
+  sinks-next : (f : ℕ → ℕ) (a a′ G : List ℕ) → i < length chain → a′ ≡ sinks a (laneAt g up f x y (getD chain i 0)) → sinks a (lanesFrom g up f x y (drop i chain)) ≡ G → sinks a′ (lanesFrom g up f (colAfter x (getD chain i 0)) (rowAfter y (getD chain i 0)) (drop (i + 1) chain)) ≡ G
+  unfolding lowEndsFrom
   sinks-next f a a′ G l e s =
-      ap (λ (z : List ℕ). sinks z rest) e
-      ∙ sym (sinks-append a (edgeOf g up f x y (getD chain i 0)) rest)
-      ∙ ap (λ (n : ℕ). sinks a (edgeOf g up f x y (getD chain i 0) ++ edgesBy g up f (colAfter x (getD chain i 0)) (rowAfter y (getD chain i 0)) (drop n chain))) (add-one i)
-      ∙ ap (λ (ds : List ℕ). sinks a (edgesBy g up f x y ds)) (sym (drop-cons chain i 0 l)) ∙ s
+      ap (λ (z : List ℕ). sinks z (map (laneOf g up f) rest)) e
+      ∙ sym (sinks-append a (laneAt g up f x y (getD chain i 0)) (map (laneOf g up f) rest))
+      ∙ ap (sinks a) (sym (map-append (laneOf g up f) (lowEndOf x y (getD chain i 0)) rest))
+      ∙ ap (λ (n : ℕ). sinks a (map (laneOf g up f) (lowEndOf x y (getD chain i 0) ++ lowEndsFrom (colAfter x (getD chain i 0)) (rowAfter y (getD chain i 0)) (drop n chain)))) (add-one i)
+      ∙ ap (λ (ds : List ℕ). sinks a (lanesFrom g up f x y ds)) (sym (drop-cons chain i 0 l)) ∙ s
     where
       rest : List (ℕ × ℕ)
-      rest = edgesBy g up f (colAfter x (getD chain i 0)) (rowAfter y (getD chain i 0)) (drop (i + 1) chain)
+      rest = lowEndsFrom (colAfter x (getD chain i 0)) (rowAfter y (getD chain i 0)) (drop (i + 1) chain)
 
-  pub gathering-step : i < length chain → (x′ y′ : ℕ) (lo′ hi′ : List ℕ) → x′ ≡ colAfter x (getD chain i 0) → y′ ≡ rowAfter y (getD chain i 0) → lo′ ≡ sinks lo (edgeOf g up (fromWest right) x y (getD chain i 0)) → hi′ ≡ sinks hi (edgeOf g up (fromEast far right) x y (getD chain i 0)) → Gathering chain m g right up far lo₀ hi₀ lo′ hi′ x′ y′ (i + 1)
+      map-append : (k : ℕ × ℕ → ℕ × ℕ) (us vs : List (ℕ × ℕ)) → map k (us ++ vs) ≡ map k us ++ map k vs
+      map-append k [] vs = refl
+      map-append k (u ∷ us) vs = ap (λ (l : List (ℕ × ℕ)). k u ∷ l) (map-append k us vs)
+
+  pub gathering-step : i < length chain → (x′ y′ : ℕ) (lo′ hi′ : List ℕ) → x′ ≡ colAfter x (getD chain i 0) → y′ ≡ rowAfter y (getD chain i 0) → lo′ ≡ sinks lo (laneAt g up (fromWest right) x y (getD chain i 0)) → hi′ ≡ sinks hi (laneAt g up (fromEast far right) x y (getD chain i 0)) → Gathering chain m g right up far lo₀ hi₀ lo′ hi′ x′ y′ (i + 1)
   gathering-step l x′ y′ lo′ hi′ ex ey el eh =
       subst (λ (z : ℕ). Gathering chain m g right up far lo₀ hi₀ lo′ hi′ z y′ (i + 1)) (sym ex)
       (subst (λ (z : ℕ). Gathering chain m g right up far lo₀ hi₀ lo′ hi′ (colAfter x (getD chain i 0)) z (i + 1)) (sym ey)
       (record {
         columns = along-next colAfter chain m x i (w .columns) l;
         rows = along-next rowAfter chain m y i (w .rows) l;
-        lows = sinks-next (fromWest right) lo lo′ (sinks lo₀ (edgesBy g up (fromWest right) m m chain)) l el (w .lows);
-        highs = sinks-next (fromEast far right) hi hi′ (sinks hi₀ (edgesBy g up (fromEast far right) m m chain)) l eh (w .highs);
+        lows = sinks-next (fromWest right) lo lo′ (sinks lo₀ (lanesFrom g up (fromWest right) m m chain)) l el (w .lows);
+        highs = sinks-next (fromEast far right) hi hi′ (sinks hi₀ (lanesFrom g up (fromEast far right) m m chain)) l eh (w .highs);
       }))
 
-  pub gathering-end : length chain ≤ i → (lo ≡ sinks lo₀ (edgesBy g up (fromWest right) m m chain)) × (hi ≡ sinks hi₀ (edgesBy g up (fromEast far right) m m chain))
-  unfolding edgesBy sinks
+  pub gathering-end : length chain ≤ i → (lo ≡ sinks lo₀ (lanesFrom g up (fromWest right) m m chain)) × (hi ≡ sinks hi₀ (lanesFrom g up (fromEast far right) m m chain))
+  unfolding lowEndsFrom sinks
   gathering-end h = (
-    ap (λ (ds : List ℕ). sinks lo (edgesBy g up (fromWest right) x y ds)) (sym (drop-of-length-le chain {i = i} h)) ∙ w .lows,
-    ap (λ (ds : List ℕ). sinks hi (edgesBy g up (fromEast far right) x y ds)) (sym (drop-of-length-le chain {i = i} h)) ∙ w .highs,
+    ap (λ (ds : List ℕ). sinks lo (lanesFrom g up (fromWest right) x y ds)) (sym (drop-of-length-le chain {i = i} h)) ∙ w .lows,
+    ap (λ (ds : List ℕ). sinks hi (lanesFrom g up (fromEast far right) x y ds)) (sym (drop-of-length-le chain {i = i} h)) ∙ w .highs,
   )
 
 -- an edge is counted in its own column
-pub edge-shift : (g up : ℕ) (f h : ℕ → ℕ) (x z y d : ℕ) → f x ≡ h z → edgeOf g up f x y d ≡ edgeOf g up h z y d
+pub edge-shift : (g up : ℕ) (f h : ℕ → ℕ) (x z y d : ℕ) → f x ≡ h z → laneAt g up f x y d ≡ laneAt g up h z y d
 edge-shift g up f h x z y zero e = refl
 edge-shift g up f h x z y (suc zero) e = ap (λ (n : ℕ). ((y + up) / g, n) ∷ []) e
 edge-shift g up f h x z y (suc (suc zero)) e = refl

@@ -14,7 +14,7 @@ ghost use Rattle.lists.specs.Lists.{tally, Below};
 ghost use Rattle.hull_laws.specs.Columns.{sink, sinks};
 ghost use Rattle.room_thread_laws.specs.Threads.{Stays};
 ghost use Rattle.orthogonal_laws.specs.HullRows.{leastOver, hullLeft};
-ghost use Rattle.orthogonal_lanes.specs.Lanes.{edgeOf, edgesBy, fromWest, fromEast, Ruled, EmptyBefore, EmptyFrom};
+ghost use Rattle.orthogonal_row_laws.specs.Lanes.{laneAt, lanesFrom, fromWest, fromEast, Ruled, EmptyBefore, EmptyFrom};
 
 // Row q keeps the column x if it is less.
 fn keep(a: &mut [u16], q: usize, x: usize)
@@ -36,7 +36,7 @@ fn foot(y: u16, d: u8) -> usize
 // The edge of a step d from column x and height y, if it is vertical, in the lanes of its row.
 fn mark(d: u8, x: usize, y: u16, g: usize, up: usize, far: usize, lo: &mut [u16], hi: &mut [u16])
     requires { ⌜ (d < 4) × (0 < y) × (0 < g) × (x ≤ far) × (far < 65536) × (up < 65536) × (y + up < length (now lo) * g) × (length (now hi) ≡ length (now lo)) ⌝ }
-    ensures { λ _. ⌜ (now (lo .exit) ≡ sinks (now (lo .entry)) (edgeOf g up (λ z. z) x y d)) × (now (hi .exit) ≡ sinks (now (hi .entry)) (edgeOf g up (λ z. far - z) x y d)) ⌝ }
+    ensures { λ _. ⌜ (now (lo .exit) ≡ sinks (now (lo .entry)) (laneAt g up (λ z. z) x y d)) × (now (hi .exit) ≡ sinks (now (hi .entry)) (laneAt g up (λ z. far - z) x y d)) ⌝ }
 {
     if d % 2 == 0 {
         return;
@@ -58,7 +58,7 @@ pub fn gather(
     hi: &mut [u16],
 )
     requires { ⌜ Stays (now chain) m (2 * m) × Below 4 (now chain) × Ruled m g right up far (length (now lo)) × (length (now hi) ≡ length (now lo)) ⌝ }
-    ensures { λ _. ⌜ (now (lo .exit) ≡ sinks (now (lo .entry)) (edgesBy g up (fromWest right) m m (now (chain .entry)))) × (now (hi .exit) ≡ sinks (now (hi .entry)) (edgesBy g up (fromEast far right) m m (now (chain .entry)))) ⌝ }
+    ensures { λ _. ⌜ (now (lo .exit) ≡ sinks (now (lo .entry)) (lanesFrom g up (fromWest right) m m (now (chain .entry)))) × (now (hi .exit) ≡ sinks (now (hi .entry)) (lanesFrom g up (fromEast far right) m m (now (chain .entry)))) ⌝ }
 {
     let by = Columns::EAST;
     let north = Columns::NORTH;

@@ -5,7 +5,7 @@ use mathlib.Core.Path.{refl, ap, _∙_}
 use Prim.Native.Nat.{_+_, _*_}
 use Rattle.lists.proofs.BelowLaws.{below-getD}
 use Rattle.hull_laws.specs.Columns.{sinks}
-use Rattle.orthogonal_lanes.specs.Lanes.{fromWest, fromEast}
+use Rattle.orthogonal_row_laws.specs.Lanes.{fromWest, fromEast}
 use Rattle.orthogonal_lanes.proofs.LaneLaws.{edge-shift}
 use native.Mathlib.Omega.{arith}
 use mathlib.Core.Path.{_≡_}

@@ -1,22 +1,31 @@
 -- The vertical edges of a walk by rows of blocks. Columns and heights are counted so that they are whole numbers. Assumes nothing.
 use mathlib.Core.Path.{_≡_}
-use mathlib.Core.List.{List, [], _∷_, _++_}
+use mathlib.Core.List.{List, [], _∷_, _++_, map}
 use Prim.Native.Nat.{ℕ, zero, suc, _+_, _*_, _-_, _/_, _<_, _≤_}
 use lib.ListN.{length, getD}
 use Rattle.hull_laws.specs.Columns.{blank, colAfter, rowAfter}
 
--- the row of blocks and the column of the edge of a step d from column x and height y, if it is vertical. Rows of blocks are g high, and
--- row 0 begins `up` below height 0; a column is counted by f
-abbrev pub edgeOf : ℕ → ℕ → (ℕ → ℕ) → ℕ → ℕ → ℕ → List (ℕ × ℕ)
-edgeOf g up f x y zero = []
-edgeOf g up f x y (suc zero) = ((y + up) / g, f x) ∷ []
-edgeOf g up f x y (suc (suc zero)) = []
-edgeOf g up f x y (suc (suc (suc d))) = ((y - 1 + up) / g, f x) ∷ []
+-- column and height of the lower end of the edge of a step d from column x and height y, if it is vertical; and those of a walk
+abbrev pub lowEndOf : ℕ → ℕ → ℕ → List (ℕ × ℕ)
+lowEndOf x y zero = []
+lowEndOf x y (suc zero) = (x, y) ∷ []
+lowEndOf x y (suc (suc zero)) = []
+lowEndOf x y (suc (suc (suc d))) = (x, y - 1) ∷ []
 
--- the edges of a walk
-unfoldable pub edgesBy : ℕ → ℕ → (ℕ → ℕ) → ℕ → ℕ → List ℕ → List (ℕ × ℕ)
-edgesBy g up f x y [] = []
-edgesBy g up f x y (d ∷ ds) = edgeOf g up f x y d ++ edgesBy g up f (colAfter x d) (rowAfter y d) ds
+unfoldable pub lowEndsFrom : ℕ → ℕ → List ℕ → List (ℕ × ℕ)
+lowEndsFrom x y [] = []
+lowEndsFrom x y (d ∷ ds) = lowEndOf x y d ++ lowEndsFrom (colAfter x d) (rowAfter y d) ds
+
+-- the row of blocks that an edge stands in, and its column, counted by f. Rows of blocks are g high, and row 0 begins `up` below height 0
+abbrev pub laneOf : ℕ → ℕ → (ℕ → ℕ) → ℕ × ℕ → ℕ × ℕ
+laneOf g up f v = ((v .1 + up) / g, f (v .0))
+
+-- those of the edge of a step, and of the edges of a walk
+abbrev pub laneAt : ℕ → ℕ → (ℕ → ℕ) → ℕ → ℕ → ℕ → List (ℕ × ℕ)
+laneAt g up f x y d = map (laneOf g up f) (lowEndOf x y d)
+
+abbrev pub lanesFrom : ℕ → ℕ → (ℕ → ℕ) → ℕ → ℕ → List ℕ → List (ℕ × ℕ)
+lanesFrom g up f x y ds = map (laneOf g up f) (lowEndsFrom x y ds)
 
 -- columns counted from west, from `right` west of column 0; and from east, from `far`
 abbrev pub fromWest : ℕ → ℕ → ℕ
