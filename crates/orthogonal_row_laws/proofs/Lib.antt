@@ -1,1 +1,4 @@
 -- Laws of the rows of blocks.
+pub mod FloorLaws
+pub mod EdgeLaws
+pub mod LowEndLaws

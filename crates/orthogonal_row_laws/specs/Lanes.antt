@@ -2,8 +2,10 @@
 use mathlib.Core.Path.{_≡_}
 use mathlib.Core.List.{List, [], _∷_, _++_, map}
 use Prim.Native.Nat.{ℕ, zero, suc, _+_, _*_, _-_, _/_, _<_, _≤_}
+use lib.IntN.{ℤ, pos, _+ℤ_}
 use lib.ListN.{length, getD}
 use Rattle.hull_laws.specs.Columns.{blank, colAfter, rowAfter}
+use Rattle.orthogonal.specs.Blocks.{floorBy}
 
 -- column and height of the lower end of the edge of a step d from column x and height y, if it is vertical; and those of a walk
 abbrev pub lowEndOf : ℕ → ℕ → ℕ → List (ℕ × ℕ)
@@ -54,3 +56,7 @@ pub record EmptyFrom (a : List ℕ) (r : ℕ) : Type 0 where
   pub within : r ≤ length a
   pub after : (q : ℕ) → r ≤ q → q < length a → getD a q 0 ≡ blank
   pub here : 0 < r → getD a (r - 1) 0 ≡ blank → ⊥
+
+-- the block of a coordinate o + n is b + (n + e) / g: o lies e after the beginning of block b
+abbrev pub Aligned : ℕ → ℤ → ℕ → ℤ → Type 0
+Aligned g o e b = (n : ℕ) → floorBy g (o +ℤ pos n) ≡ b +ℤ pos ((n + e) / g)
