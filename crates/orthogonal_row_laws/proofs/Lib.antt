@@ -2,3 +2,4 @@
 pub mod FloorLaws
 pub mod EdgeLaws
 pub mod LowEndLaws
+pub mod EndsLaws
