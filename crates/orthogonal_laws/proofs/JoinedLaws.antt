@@ -115,20 +115,24 @@ yes-side true x a h = true-le x a h
 yes-side false x a h = true-le a x h
 
 -- equal, or one apart
-abbrev Near : ℤ → ℤ → Type 0
+abbrev pub Near : ℤ → ℤ → Type 0
 Near x y = (y ≡ x) ⊎ ((y ≡ sucℤ x) ⊎ (x ≡ sucℤ y))
 
-near-both : (u v : Panel) → Beside u v → Near (u .0) (v .0) × Near (u .1) (v .1)
+pub near-both : (u v : Panel) → Beside u v → Near (u .0) (v .0) × Near (u .1) (v .1)
 near-both u v (north e f) = (inl e, inr (inl f))
 near-both u v (west e f) = (inr (inr e), inl f)
 near-both u v (south e f) = (inl e, inr (inr f))
 near-both u v (east e f) = (inr (inl e), inl f)
 
+-- what is not above a, next to what is, is at a
+pub edge-border : (x y a : ℤ) → x ≤ℤ a → a <ℤ y → Near x y → x ≡ a
+edge-border x y a h k (inl e) = omega (zarith, h, k, e)
+edge-border x y a h k (inr (inl e)) = omega (zarith, h, k, e, bal-suc x)
+edge-border x y a h k (inr (inr e)) = omega (zarith, h, k, e, bal-suc y)
+
 -- what is on a side, next to what is not, is at the border
 border : (s : Bool) (x y a : ℤ) → side s x a ≡ true → side s y a ≡ false → Near x y → x ≡ a
-border true x y a i o (inl e) = let g = le-true {a = x} {b = a} i in let h = le-false y a o in omega (zarith, g, h, e)
-border true x y a i o (inr (inl e)) = let g = le-true {a = x} {b = a} i in let h = le-false y a o in omega (zarith, g, h, e, bal-suc x)
-border true x y a i o (inr (inr e)) = let g = le-true {a = x} {b = a} i in let h = le-false y a o in omega (zarith, g, h, e, bal-suc y)
+border true x y a i o n = edge-border x y a (le-true i) (le-false y a o) n
 border false x y a i o (inl e) = let g = le-true {a = a} {b = x} i in let h = le-false a y o in omega (zarith, g, h, e)
 border false x y a i o (inr (inl e)) = let g = le-true {a = a} {b = x} i in let h = le-false a y o in omega (zarith, g, h, e, bal-suc x)
 border false x y a i o (inr (inr e)) = let g = le-true {a = a} {b = x} i in let h = le-false a y o in omega (zarith, g, h, e, bal-suc y)

@@ -6,3 +6,8 @@ pub mod BlockLaws
 pub mod HullLaws
 pub mod OneLaws
 pub mod CallLaws
+pub mod EndsLaws
+pub mod OutlineLaws
+pub mod LengthLaws
+pub mod BoxLaws
+pub mod NotchLaws

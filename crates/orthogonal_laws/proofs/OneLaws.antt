@@ -78,7 +78,7 @@ module _ (c : Corner) (ds : List ℕ) (r : IsRoom c ds) (b : Below 4 ds) (home :
 -- ---- two rooms with the same panels inside
 
 -- have the same walked edges
-same-walked : (c : Corner) (ds : List ℕ) → IsRoom c ds → Below 4 ds → (c′ : Corner) (ds′ : List ℕ) → IsRoom c′ ds′ → ((p : Panel) → Inside c ds p ↔ Inside c′ ds′ p) → Along c ds c′ ds′
+pub same-walked : (c : Corner) (ds : List ℕ) → IsRoom c ds → Below 4 ds → (c′ : Corner) (ds′ : List ℕ) → IsRoom c′ ds′ → ((p : Panel) → Inside c ds p ↔ Inside c′ ds′ p) → Along c ds c′ ds′
 same-walked c ds r b c′ ds′ r′ same = along
   where
     small : (p : Corner) (d : ℕ) → d < 4 → walked c ds p d ≡ true → walked c′ ds′ p d ≡ true
@@ -100,7 +100,7 @@ same-walked c ds r b c′ ds′ r′ same = along
     along p (suc (suc (suc d))) w = small p 3 (omega arith) w
 
 -- walks along the same edges have one home
-home-same : (c : Corner) (ds : List ℕ) (c′ : Corner) (ds′ : List ℕ) → 0 < length ds → 0 < length ds′ → Along c ds c′ ds′ → Along c′ ds′ c ds → homeOf c ds ≡ homeOf c′ ds′
+pub home-same : (c : Corner) (ds : List ℕ) (c′ : Corner) (ds′ : List ℕ) → 0 < length ds → 0 < length ds′ → Along c ds c′ ds′ → Along c′ ds′ c ds → homeOf c ds ≡ homeOf c′ ds′
 home-same c ds c′ ds′ h h′ a a′ = home-one c ds (homeOf c′ ds′) (visited c′ ds′ h′ c ds a′ (homeOf c′ ds′) (home-visited c′ ds′)) (λ q m. home-least c′ ds′ q (visited c ds h c′ ds′ a q m))
   where
     visited : (c : Corner) (ds : List ℕ) → 0 < length ds → (c′ : Corner) (ds′ : List ℕ) → Along c ds c′ ds′ → (q : Corner) → List·Memᴰ q (cornersFrom c ds) → List·Memᴰ q (cornersFrom c′ ds′)
