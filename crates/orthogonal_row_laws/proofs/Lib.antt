@@ -3,3 +3,4 @@ pub mod FloorLaws
 pub mod EdgeLaws
 pub mod LowEndLaws
 pub mod EndsLaws
+pub mod PileLaws
