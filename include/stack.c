@@ -1,5 +1,5 @@
 /* Measures the stack that each call of undrwyth.h needs: runs it on a painted stack and looks how far down the paint is
- * gone. Prints what it found, and fails where a call needs more than the header says. Then runs it on a stack of just
+ * gone. Prints what it found, and fails if a call needs more than the header says. Then runs it on a stack of just
  * the size that the header says, above a page that cannot be touched. */
 #define _DEFAULT_SOURCE
 #define _XOPEN_SOURCE 700
@@ -108,7 +108,7 @@ static void convert_line(void) {
         undrwyth_convert_line(chain, n, bytes, UNDRWYTH_LINE_BYTES);
 }
 
-/* Runs the call on a stack of so many bytes. */
+/* Runs the call on a stack of this many bytes. */
 static void run(void (*call)(void), size_t stack_bytes) {
     getcontext(&there);
     there.uc_stack.ss_sp = stack;

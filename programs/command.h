@@ -51,7 +51,7 @@ int page(void);
 /* Commands that read their words themselves: MISUSED if these are wrong, and then they have said nothing. */
 int parts(char **words, int count), orders(char **words, int count);
 
-/* What options tell: rooms are drawn apart, their polygons are written too, and the file for refused lines, or null. */
+/* What options say: rooms are drawn apart, their polygons are written too, and the file for refused lines, or null. */
 extern int apart, with_polygons;
 extern const char *refused_lines;
 

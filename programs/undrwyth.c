@@ -162,7 +162,7 @@ static struct {
     const char *record;
 } asked;
 
-/* Takes an option, of which more words are left: how many words it has, or 0 if the command has none of that name. */
+/* Takes the option that stands first in the words: how many words it has, or 0 if the command has none of that name. */
 static int option(char **words, int count) {
     int takes = chosen->takes;
     if (is(*words, "--sample")) asked.sampled = 1;
@@ -187,7 +187,7 @@ static int take_pair(char **words, int count) {
         return WHOLE;
     }
     if (count != 2) return misused(count < 2 ? "two inputs are needed" : words[2]);
-    if (is(words[0], "-") && is(words[1], "-")) return misused("one input alone can be standard input");
+    if (is(words[0], "-") && is(words[1], "-")) return misused("only one input can be standard input");
     return take_files(0, words, 1, 1) == WHOLE && take_files(1, words + 1, 1, 1) == WHOLE ? WHOLE : FAILED;
 }
 

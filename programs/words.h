@@ -13,7 +13,7 @@
 #define UNDRWYTH_FAULT_BYTES 24
 
 /* A walk that was accepted: "a room of 24 panels, 20 steps, counterclockwise". It starts at (x,y); `answer` is what undrwyth_walk
- * answered, and `chain` has the surviving steps, of which those before the first meeting are looked at. */
+ * answered, and `chain` has the surviving steps; only those before the first meeting are looked at. */
 size_t undrwyth_walk_sentence(char *out, size_t room, int32_t x, int32_t y, const uint8_t *chain,
                               const uint32_t answer[UNDRWYTH_WALK_ANSWER_WORDS]);
 

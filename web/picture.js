@@ -93,7 +93,7 @@ export function stepOfTap(frame, element, event, [x, y]) {
   return [[1, 0], [0, 1], [-1, 0], [0, -1]].findIndex(([dx, dy]) => u - x === dx && v - y === dy);
 }
 
-/** 1, 2 or 5 times a power of ten: the least that is at least so many pixels. */
+/** 1, 2 or 5 times a power of ten: the least that is at least this many pixels. */
 function stride(side, pixels) {
   for (let power = 1; ; power *= 10) for (const times of [1, 2, 5]) if (times * power * side >= pixels) return times * power;
 }
@@ -157,7 +157,7 @@ export function walkLayer(frame, chain, corners, look = "") {
   return chain.length > 0 ? [line, arrows, start] : [start];
 }
 
-/** Arrow heads in the middle of steps: of each, or of so many that two are 24 pixels apart. */
+/** Arrow heads in the middle of steps: of each, or of as many as stand 24 pixels apart. */
 function arrowsOf(frame, chain, corners) {
   const every = Math.max(1, Math.ceil(24 / frame.side)), long = every > 1 ? 6 : Math.min(8, frame.side * 0.3), wide = long * 0.65;
   const heads = [];
@@ -194,7 +194,7 @@ export function rowNumbersLayer(frame, spans) {
   return numbered.map(([row, number]) => label("axis", x, frame.py(row + 0.5) + down, number, TO_THE_LEFT));
 }
 
-/** The length of the wall from (u,v) to (x,y), on the side where the inside is; nothing if there is no room for the number. */
+/** The length of the wall from (u,v) to (x,y), on the inner side; nothing if there is no space for the number. */
 function wallLabel(frame, [u, v], [x, y], turn, length) {
   const [dx, dy] = [Math.sign(x - u), Math.sign(y - v)], long = Math.abs(x - u) + Math.abs(y - v), words = length(long);
   if (long * frame.side < frame.text * 0.6 * words.length + 8 || frame.side < frame.text) return [];
@@ -273,7 +273,7 @@ export function walkPicture({ walk, start, hull, outline, around, spans, numbere
   return { frame, element: picture(frame, title, layers) };
 }
 
-/** In each span how many panels it has, if there is room for the number. */
+/** In each span how many panels it has, if there is space for the number. */
 function rowCountsLayer(frame, spans) {
   if (frame.side < frame.text) return [];
   return spans.map(({ row, first, last }) => {

@@ -147,7 +147,7 @@ export class Undrwyth {
   }
 
   /**
-   * Makes a call. Its arguments are numbers and buffers; a buffer is handed over as its place and its length. The answer has the
+   * Makes a call. Its arguments are numbers and buffers; a buffer is passed as its place and its length. The answer has the
    * result, the words of the answer (signed), and `take(i, n)`: a copy of the first n elements of the i-th lent buffer.
    */
   #ask(name, args, answerWords = 0) {

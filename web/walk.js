@@ -37,7 +37,7 @@ export class WalkView {
   #line = "";    // what a link holds
   #frame = null;
   #picture = null;
-  #shown; // told whenever another record is shown
+  #shown; // called whenever another record is shown
 
   constructor(judge, shown) {
     this.#judge = judge;

@@ -114,7 +114,7 @@ class Cases(unittest.TestCase):
             answer = call(*inputs, *starts, **dict(zip(names, lent)))
         except undrwyth.Refused as why:
             refused = why
-        except ValueError:  # a line that has no room: the result is 0, and nothing is written
+        except ValueError:  # the buffer is too short for the line: the result is 0, and nothing is written
             self.assertIn(name, LINES)
             self.assertEqual(result, 0)
         for one, value in zip(held, after):
@@ -149,7 +149,7 @@ class Cases(unittest.TestCase):
             else:
                 self.assertEqual(list(map(bytes, views(name, own))), list(map(bytes, views(name, answer))))
         elif refused is not None and refused.number in SHORT:
-            call(*inputs, *starts)  # with the package's own buffers there is room
+            call(*inputs, *starts)  # the package's own buffers are large enough
         elif refused is not None and refused.number in (2, 3, 7) and name not in LINES:  # the table of a line is not lent
             try:
                 call(*inputs, *starts)

@@ -136,7 +136,7 @@ class Lending(unittest.TestCase):
                 call("0000040123", out=bytearray(9))
 
     def test_no_room(self):
-        """One record has no room for a step, and the refusal clears all buffers."""
+        """A table of one record is too small for a step, and the refusal clears all buffers."""
         table, marks, chain = bytearray(b"\x09" * 100), bytearray(b"\x09" * 12), bytearray(b"\x09")
         with self.assertRaises(Refused) as caught:
             undrwyth.walk("0", table=table, marks=marks, chain=chain)

@@ -143,7 +143,7 @@ _address = ctypes.addressof
 
 
 def room(given: Optional[Buffer], code: str, count: int) -> Lent:
-    """The buffer that is given, or a new one of so many elements: B bytes, I words, i signed numbers."""
+    """The buffer that is given, or a new one of this many elements: B bytes, I words, i signed numbers."""
     if given is not None:
         return _lent(given, code)
     if not count:
@@ -156,7 +156,7 @@ def room(given: Optional[Buffer], code: str, count: int) -> Lent:
 
 
 def rooms(words: int, marks: int, count: int) -> Tuple[Lent, Lent, Lent]:
-    """New buffers of so many words, words again, and bytes, in one piece, which is quicker."""
+    """New buffers of these many words, words again, and bytes, in one piece, which is quicker."""
     first, second = 4 * words, 4 * (words + marks)
     made = bytearray(second + count)
     at, view = _address(_byte_at(made)), memoryview(made)

@@ -1,6 +1,6 @@
 // SPDX-License-Identifier: MIT
 // Compares the sentences of web/words.js with those of programs/words.c, and what the page says of lines with `undrwyth explain`:
-// node words.mjs PROGRAM, where PROGRAM is words.c built.
+// node words.mjs PROGRAM; PROGRAM is words.c, built.
 import { spawnSync } from "node:child_process";
 import { readFileSync } from "node:fs";
 import { REFUSALS, VERDICTS, loadUndrwyth } from "../undrwyth.js";

@@ -138,8 +138,12 @@ macro_rules! library {
                 let found = $of::chain_of_polygon(file, chain);
                 tell(
                     answer,
-                    found.map(|((x, y), steps)| {
-                        [steps as u32, x.cast_unsigned(), y.cast_unsigned()]
+                    found.map(|(start, steps)| {
+                        [
+                            steps as u32,
+                            start.x.cast_unsigned(),
+                            start.y.cast_unsigned(),
+                        ]
                     }),
                 )
             },
@@ -158,10 +162,10 @@ macro_rules! library {
 /// The rules by sets and maps.
 pub const PLAIN: Library = library!(plain);
 
-/// The same quadtree in plain Rust.
+/// The design of the proved library in plain Rust.
 pub const TWIN: Library = library!(twin);
 
-/// Writes number and place and then the facts, zeros where there are none; answers the number.
+/// Writes number and place and then the facts, or zeros if there are none; answers the number.
 fn tell<const FACTS: usize>(answer: &mut [u32], result: Result<[u32; FACTS], Refusal>) -> u32 {
     answer.fill(0);
     match result {
@@ -201,7 +205,7 @@ fn words(facts: Facts) -> [u32; WALK_ANSWER_WORDS - 2] {
         j,
         k,
         facts.area.cast_unsigned(),
-        facts.last.0.cast_unsigned(),
-        facts.last.1.cast_unsigned(),
+        facts.last.x.cast_unsigned(),
+        facts.last.y.cast_unsigned(),
     ]
 }

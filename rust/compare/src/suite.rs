@@ -18,7 +18,7 @@ fn strings(length: u32, digits: u32) -> impl Iterator<Item = Vec<u8>> {
 /// Where a walk starts to which no start is given.
 const ORIGIN: (i32, i32) = (0, 0);
 
-/// A walk in buffers of the lengths that it asks, and a table of so many words.
+/// A walk in buffers of the lengths that it asks, and a table of this many words.
 fn walk(library: &Library, start: (i32, i32), ops: &[u8], words: usize) {
     calls::walk(
         library,
@@ -30,7 +30,7 @@ fn walk(library: &Library, start: (i32, i32), ops: &[u8], words: usize) {
     );
 }
 
-/// A walk in the least table that has room, in one record less and in one more.
+/// A walk in the smallest table that is large enough, in one record less and in one more.
 fn walk_near(library: &Library, start: (i32, i32), ops: &[u8]) {
     let right = inputs::most_nodes(start, ops);
     for records in right - 1..=right + 1 {
@@ -38,7 +38,7 @@ fn walk_near(library: &Library, start: (i32, i32), ops: &[u8]) {
     }
 }
 
-/// Two parties in buffers of the lengths that they ask, and a table of so many words; gives the answer.
+/// Two parties in buffers of the lengths that they ask, and a table of this many words; gives the answer.
 fn walk_two(
     library: &Library,
     starts: Starts,
@@ -49,7 +49,7 @@ fn walk_two(
     calls::walk_two(library, starts, ops, words, MARK_WORDS * n, [n; 2])
 }
 
-/// Two parties in the least table that has room, in one record less and in one more.
+/// Two parties in the smallest table that is large enough, in one record less and in one more.
 fn pair_near(library: &Library, starts: Starts, ops: &[u8]) {
     let right = inputs::most_pair_nodes(starts, ops);
     for records in right - 1..=right + 1 {
@@ -57,7 +57,7 @@ fn pair_near(library: &Library, starts: Starts, ops: &[u8]) {
     }
 }
 
-/// A hull in the least buffer that has room, in one number less and in one more.
+/// A hull in the shortest buffer that is long enough, in one number less and in one more.
 fn hull_near(library: &Library, start: (i32, i32), chain: &[u8]) {
     let [number, _, count] = calls::hull(library, start, chain, 2 * chain.len() + 2);
     if number == 0 {
@@ -68,7 +68,7 @@ fn hull_near(library: &Library, start: (i32, i32), chain: &[u8]) {
     }
 }
 
-/// An outline in the least buffer that has room, in none, in one byte less and in one more; gives its steps.
+/// An outline in the shortest buffer that is long enough, in none, in one byte less and in one more; gives its steps.
 fn outline_near(library: &Library, start: (i32, i32), chain: &[u8]) -> u32 {
     let [number, _, steps] = calls::outline(library, start, chain, 2 * chain.len());
     let right = steps as usize;
@@ -78,7 +78,7 @@ fn outline_near(library: &Library, start: (i32, i32), chain: &[u8]) -> u32 {
     if number == 0 { steps } else { 0 }
 }
 
-/// A room as a polygon in the least buffer that has room, in one byte less and in one more.
+/// A room as a polygon in the shortest buffer that is long enough, in one byte less and in one more.
 fn polygon_near(library: &Library, start: (i32, i32), chain: &[u8]) {
     let [number, _, bytes] = calls::polygon(library, start, chain, 16 * chain.len() + 29);
     if number == 0 {
@@ -101,7 +101,7 @@ fn back(library: &Library, start: (i32, i32), chain: &[u8], bytes: usize) {
     assert!(steps == chain);
 }
 
-/// A file with the least chain buffer that has room, with one byte less and with one more.
+/// A file with the shortest chain buffer that is long enough, with one byte less and with one more.
 fn chain_near(library: &Library, file: &[u8]) {
     let [number, _, steps, _, _] = calls::chain(library, file, MOST_STEPS + 1);
     calls::chain(library, file, 0);
@@ -113,7 +113,7 @@ fn chain_near(library: &Library, file: &[u8]) {
     }
 }
 
-/// A room by rows in the least buffer that has room, in one number less and in one more.
+/// A room by rows in the shortest buffer that is long enough, in one number less and in one more.
 fn rows_near(library: &Library, start: (i32, i32), chain: &[u8]) {
     let [number, _, spans] = calls::rows(library, start, chain, 3 * chain.len());
     if number == 0 {
@@ -124,7 +124,7 @@ fn rows_near(library: &Library, start: (i32, i32), chain: &[u8]) {
     }
 }
 
-/// Two rooms in the least buffers that have room, in those with one number more or less in one of them, and with none at all; gives the answer.
+/// Two rooms in the shortest buffers that are long enough, in those with one number more or less in one of them, and with none at all; gives the answer.
 fn overlay_near(library: &Library, one: Room, other: Room) -> [u32; OVERLAY_ANSWER_WORDS] {
     let most = 3 * (one.1.len() + other.1.len()) / 2;
     let answer = calls::overlay(library, one, other, [most; 3]);
@@ -470,7 +470,7 @@ fn convex_of(library: &Library, room: &[u8], random: &mut Random) {
     calls::convex(library, (0, 0), &chain[1..]);
 }
 
-/// Every pair of rooms of up to `longest` steps at every distance at which they can touch, pairs of long ones, and walks that are no rooms in every
+/// Every pair of rooms of up to `longest` steps at every distance at which they can touch, pairs of long ones, and walks that are not rooms in every
 /// order.
 pub fn overlays(library: &Library, longest: usize) {
     let mut small = Vec::new();
@@ -663,7 +663,7 @@ pub fn pair_limits(library: &Library) {
     );
 }
 
-/// One input near a limit, in a table that has room, in one that has none, and in wrong buffers.
+/// One input near a limit, in a table that is large enough, in one that is not, and in wrong buffers.
 fn pair_limits_of(library: &Library, ops: &[u8]) {
     let (starts, n) = ([(0, 0); 2], ops.len());
     let words = PAIR_RECORD_WORDS * inputs::most_pair_nodes(starts, ops);
@@ -674,7 +674,7 @@ fn pair_limits_of(library: &Library, ops: &[u8]) {
     calls::walk_two(library, starts, ops, words, MARK_WORDS * n - 1, [n; 2]);
 }
 
-/// Starts at the ends of the range and beyond, equal, neighbours, and far apart, each with short walks, in every table up to one with room.
+/// Starts at the ends of the range and beyond, equal, neighbours, and far apart, each with short walks, in every table up to one that is large enough.
 pub fn pair_starts(library: &Library) {
     let walks: [&[u8]; 4] = [
         &[],
@@ -700,7 +700,7 @@ pub fn pair_starts(library: &Library) {
     }
 }
 
-/// Rooms that share a lobby, walked by two parties in many orders, with steps taken back by both; each in every table up to one with room.
+/// Rooms that share a lobby, walked by two parties in many orders, with steps taken back by both; each in every table up to one that is large enough.
 pub fn lobbies(library: &Library) {
     let mut random = Random(19);
     let rooms: [&[u8]; 4] = [
@@ -902,7 +902,7 @@ const AXES: [i32; 15] = [
 ];
 
 /// Every pair of such coordinates as a start, with every walk of up to `longest` operations, in right and slightly wrong tables
-/// and in every table up to one with room for the start; four corners around (16383, 16383) need 59 nodes.
+/// and in every table up to one that is large enough for the start; four corners around (16383, 16383) need 59 nodes.
 pub fn starts(library: &Library, longest: u32) {
     for start in AXES.iter().flat_map(|&x| AXES.map(|y| (x, y))) {
         for ops in (0..=longest).flat_map(|length| strings(length, 6)) {
@@ -969,7 +969,7 @@ pub fn random_calls(library: &Library, random: &mut Random) {
     }
 }
 
-/// Two parties with up to `most` operations, in tables that have room and that have none.
+/// Two parties with up to `most` operations, in tables that are large enough and in tables that are not.
 fn random_pair(library: &Library, most: usize, random: &mut Random) {
     let (starts, ops) = inputs::pair(most, random);
     pair_near(library, starts, &ops);
@@ -977,7 +977,7 @@ fn random_pair(library: &Library, most: usize, random: &mut Random) {
     walk_two(library, starts, &ops, PAIR_RECORD_WORDS * records);
 }
 
-/// A walk of up to `most` operations, in tables that have room and that have none.
+/// A walk of up to `most` operations, in tables that are large enough and in tables that are not.
 fn random_walk(library: &Library, most: usize, random: &mut Random) {
     let (start, ops) = (inputs::start(random), inputs::walk(most, random));
     walk_near(library, start, &ops);

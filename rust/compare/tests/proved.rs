@@ -8,7 +8,7 @@ use compare::PROVED as LIBRARY;
 use compare::inputs::{self, Random};
 use compare::suite;
 
-/// Operations of the longest walks of which all are compared.
+/// All walks of at most this many operations are compared.
 const LONGEST: u32 = 8;
 /// Rounds of random calls.
 const ROUNDS: usize = 1_000;

@@ -89,7 +89,7 @@ fn scattered<const N: usize, const M: usize>(
     true
 }
 
-/// Writes the polygon, if there is room for it.
+/// Writes the polygon, if the buffer is long enough.
 fn write(start: Corner, chain: &[u8], out: &mut [u8]) -> Option<usize> {
     let bends: u16 = chain
         .windows(2)
@@ -121,7 +121,7 @@ fn write(start: Corner, chain: &[u8], out: &mut [u8]) -> Option<usize> {
 }
 
 /// Reads a polygon of either byte order, writes its steps to the start of `chain`, and answers its start and how many there are.
-pub fn chain_of_polygon(file: &[u8], chain: &mut [u8]) -> Result<((i32, i32), usize), Refusal> {
+pub fn chain_of_polygon(file: &[u8], chain: &mut [u8]) -> Result<(answer::Corner, usize), Refusal> {
     let (header, points) = file.split_at_checked(13).ok_or(Refusal::FileLength)?;
     match &header[..9] {
         b"\x01\x03\x00\x00\x00\x01\x00\x00\x00" => read(
@@ -142,7 +142,7 @@ pub fn chain_of_polygon(file: &[u8], chain: &mut [u8]) -> Result<((i32, i32), us
     }
 }
 
-/// The same where the byte order is known.
+/// The same if the byte order is known.
 #[inline]
 fn read(
     header: &[u8],
@@ -150,7 +150,7 @@ fn read(
     number: impl Fn([u8; 4]) -> u32,
     float: impl Fn([u8; 8]) -> f64,
     chain: &mut [u8],
-) -> Result<((i32, i32), usize), Refusal> {
+) -> Result<(answer::Corner, usize), Refusal> {
     let count = number(header[9..].try_into().expect("four bytes"));
     if points.len() as u64 != 16 * u64::from(count) {
         return Err(Refusal::FileLength);
@@ -188,7 +188,7 @@ fn read(
         run.fill(direction(at, next));
         at = next;
     }
-    Ok(((first.x, first.y), steps))
+    Ok(((first.x, first.y).into(), steps))
 }
 
 fn distance(a: Corner, b: Corner) -> usize {

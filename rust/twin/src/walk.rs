@@ -85,7 +85,7 @@ fn set_out(
     Ok(facts.alone(walk.tree.nodes as u32))
 }
 
-/// Refusals 1, 2 and 3; `record` are the words of a record, of which there are `most` at most.
+/// Refusals 1, 2 and 3. A record has `record` words, and there are at most `most` records.
 pub fn judge_sizes(
     ops: usize,
     words: usize,
@@ -149,7 +149,7 @@ struct Walk<'a> {
 }
 
 impl<'a> Walk<'a> {
-    /// At the start; none where there is no room for it.
+    /// At the start; none if the table is too small for it.
     fn new(table: &'a mut [u32], start: Corner) -> Option<Walk<'a>> {
         let tree = Tree::new(table, start)?;
         Some(Walk {
@@ -163,7 +163,7 @@ impl<'a> Walk<'a> {
         })
     }
 
-    /// One step on; false where there is no room.
+    /// One step on; false if the table is full.
     fn step(&mut self, chain: &mut [u8], way: u8) -> bool {
         let step = self.steps + 1;
         let Some(node) = self.tree.neighbour(self.node, self.at, way, step) else {
@@ -230,7 +230,7 @@ pub fn facts(
         } else {
             0
         },
-        last: (at.x, at.y),
+        last: (at.x, at.y).into(),
     }
 }
 
