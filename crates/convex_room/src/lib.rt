@@ -3,22 +3,29 @@
 use answer::Counted;
 use answer::Judged;
 use answer::Limits;
+use answer::Refusal;
+use box_walk::WalkBox;
 use box_walk::enclose;
 use columns::Columns;
 use convex_part::judge;
 use convex_place::leftward;
 use convex_place::place;
 use grid::Corner;
+use room_map::is_room_in;
 ghost use mathlib.Core.Path.{_≡_};
 ghost use mathlib.Core.Bool.{_&&_};
 ghost use Prim.Native.Nat.{_+_, _*_, _-_, _<_, _≤_};
 ghost use lib.ListN.{length, getD, take, drop};
 ghost use Rattle.lists.specs.Lists.{tally};
 ghost use Rattle.answer.specs.declared.Counted.{Counted};
+ghost use Rattle.answer.specs.declared.Judged.the-variants.{Good};
 ghost use Rattle.grid.specs.declared.Corner.{Corner};
 ghost use Rattle.grid.specs.Grid.{endFrom};
 ghost use Rattle.trace.specs.Verdict.{IsRoom};
 ghost use Rattle.column_laws.specs.Columns.{middle, narrowSize, widerSize};
+ghost use Rattle.box_laws.specs.Box.{Boxable, boxWidth, boxHeight};
+ghost use Rattle.box_walk.specs.Boxed.{Boxed};
+ghost use Rattle.steps.specs.Chain.{asWalkJudged};
 ghost use Rattle.convex.specs.Parts.{turnedBy};
 ghost use Rattle.convex.specs.Convex.{ConvexCall};
 ghost use Rattle.convex_laws.specs.Way.{travelled};
@@ -158,14 +165,14 @@ fn is_convex(chain: &[u8]) -> bool
     widest(chain)
 }
 
-// Whether a room is convex, whatever corner it starts from. First its girth: each part of a convex room goes two ways only, so that its
-// steps add up to the edges around its box. A room with more is not convex, and nothing is laid down.
-fn decide(chain: &[u8]) -> bool
-    requires { ⌜ Digits (now chain) × (length (now chain) ≤ middle) ⌝ }
+// Whether a room is convex, whatever corner it starts from, if its box has so many columns and rows of corners. First its girth: each part
+// of a convex room goes two ways only, so that its steps add up to the edges around its box. A room with more is not convex, and nothing
+// is laid down.
+fn decide(chain: &[u8], width: usize, height: usize) -> bool
+    requires { ⌜ Digits (now chain) × (length (now chain) ≤ middle) × (width ≡ boxWidth (now chain)) × (height ≡ boxHeight (now chain)) ⌝ }
     ensures { λ r. ⌜ ((c : Corner) → IsRoom c (now (chain .entry)) → r ≡ convexOf c (now (chain .entry))) ⌝ }
 {
-    let b = enclose(chain);
-    if 2 * (b.width + b.height) < chain.len() + 4 {
+    if 2 * (width + height) < chain.len() + 4 {
         return false;
     }
     is_convex(chain)
@@ -181,12 +188,25 @@ fn counted(b: bool) -> Counted
     Counted::Many(0)
 }
 
+// Tells whether a walk with this box is a room, and whether it is convex, from any start that is not refused.
+fn tell_in(chain: &[u8], b: WalkBox) -> Counted
+    requires { ⌜ Boxable (now chain) × Boxed (now chain) (b .width) (b .height) (b .from) (b .closed) ⌝ }
+    ensures { λ r. ⌜ ((c : Corner) → asWalkJudged c (now (chain .entry)) ≡ Good → ConvexCall c (now (chain .entry)) r) ⌝ }
+{
+    let width = b.width;
+    let height = b.height;
+    if !is_room_in(chain, b) {
+        return Counted::Refused(Refusal::NotRoom);
+    }
+    counted(decide(chain, width, height))
+}
+
 // Tells whether a room is convex: 1 for yes and 0 for no.
 pub fn tell(start: Corner, chain: &[u8]) -> Counted
     ensures { λ r. ⌜ ConvexCall start (now (chain .entry)) r ⌝ }
 {
-    match room_judge::judge(start, chain) {
-        Judged::Good => counted(decide(chain)),
+    match chain_judge::judge(start, chain) {
+        Judged::Good => tell_in(chain, enclose(chain)),
         Judged::Refused(r) => Counted::Refused(r),
     }
 }

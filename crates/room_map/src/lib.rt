@@ -1,8 +1,10 @@
 // Whether a walk is a room, by a byte for each corner of its box: a byte that is 1 already is a meeting. If the box is too large for
 // the store, threads through the columns tell it.
+use box_walk::WalkBox;
 use box_walk::enclose;
 use columns::Columns;
 ghost use Rattle.box_laws.specs.Box.{Boxable};
+ghost use Rattle.box_walk.specs.Boxed.{Boxed};
 ghost use Rattle.room_thread_laws.specs.Threads.{Told};
 ghost use Rattle.room_map.specs.Map.{MapStore, BoxFits, Lone};
 
@@ -98,15 +100,15 @@ fn lone_widest(chain: &[u8], from: usize, w: usize) -> bool
     lone(chain, from, &by, &mut map)
 }
 
-// Whether a walk is a room, whatever corner it starts from. The store is no larger than the threads of a chain of this length take.
-pub fn is_room(chain: &[u8]) -> bool
-    requires { ⌜ Boxable (now chain) ⌝ }
+// Whether a walk with this box is a room, whatever corner it starts from. The store is no larger than the threads of a chain of this length
+// take.
+pub fn is_room_in(chain: &[u8], b: WalkBox) -> bool
+    requires { ⌜ Boxable (now chain) × Boxed (now chain) (b .width) (b .height) (b .from) (b .closed) ⌝ }
     ensures { λ r. ⌜ Told (now (chain .entry)) r ⌝ }
 {
     if chain.len() < 4 {
         return false;
     }
-    let b = enclose(chain);
     if !b.closed {
         return false;
     }
@@ -130,4 +132,12 @@ pub fn is_room(chain: &[u8]) -> bool
         }
     }
     room_threads::is_room(chain)
+}
+
+// Whether a walk is a room, whatever corner it starts from.
+pub fn is_room(chain: &[u8]) -> bool
+    requires { ⌜ Boxable (now chain) ⌝ }
+    ensures { λ r. ⌜ Told (now (chain .entry)) r ⌝ }
+{
+    is_room_in(chain, enclose(chain))
 }

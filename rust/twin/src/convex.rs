@@ -3,14 +3,18 @@
 
 use answer::Refusal;
 
-use crate::polygon::judge_room;
+use crate::hull;
+use crate::polygon::is_room_in;
 use crate::walk_box::WalkBox;
 
 /// Whether the room with this start and chain is convex.
 pub fn convex(start: (i32, i32), chain: &[u8]) -> Result<bool, Refusal> {
-    judge_room(start, chain)?;
-    let walk_box = WalkBox::of(chain);
-    if 2 * (walk_box.width + walk_box.height) < chain.len() + 4 {
+    hull::judge(start.into(), chain)?;
+    let walk = WalkBox::of(chain);
+    if !is_room_in(chain, &walk) {
+        return Err(Refusal::NotRoom);
+    }
+    if 2 * (walk.width + walk.height) < chain.len() + 4 {
         return Ok(false);
     }
     Ok(match chain.len() {

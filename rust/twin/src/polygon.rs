@@ -26,18 +26,20 @@ pub fn judge_room(start: (i32, i32), chain: &[u8]) -> Result<(), Refusal> {
 
 /// Whether the walk is closed, of four steps or more, and at no corner twice before its end.
 fn is_room(chain: &[u8]) -> bool {
-    if chain.len() < 4 {
-        return false;
-    }
-    let walk = WalkBox::of(chain);
-    walk.closed
+    is_room_in(chain, &WalkBox::of(chain))
+}
+
+/// The same, with the box of the walk.
+pub fn is_room_in(chain: &[u8], walk: &WalkBox) -> bool {
+    chain.len() >= 4
+        && walk.closed
         && match (chain.len(), walk.size()) {
-            (_, 0..=256) => free(chain, &walk, [0; 256]),
-            (_, 257..=2_048) => free(chain, &walk, [0; 2_048]),
+            (_, 0..=256) => free(chain, walk, [0; 256]),
+            (_, 257..=2_048) => free(chain, walk, [0; 2_048]),
             (0..=256, _) => scattered(chain, [0; 258], [0; 256], [0; 256], [0; 258]),
-            (_, 0..=16_384) => free(chain, &walk, [0; 16_384]),
+            (_, 0..=16_384) => free(chain, walk, [0; 16_384]),
             (0..=2_048, _) => scattered(chain, [0; 2_050], [0; 2_048], [0; 2_048], [0; 2_050]),
-            (_, 0..=131_072) => free(chain, &walk, [0; 131_072]),
+            (_, 0..=131_072) => free(chain, walk, [0; 131_072]),
             _ => scattered(chain, [0; 16_386], [0; 16_384], [0; 16_384], [0; 16_386]),
         }
 }

@@ -1,0 +1,28 @@
+-- `convex_room::tell_in` meets its contract.
+-- Assumes nothing.
+use borrow.Author.Needs.{needs}
+use Rattle.lists.proofs.BoolLaws.{not-true, not-false}
+use Rattle.convex_room.proofs.CallLaws.{call-open, call-room}
+use Rattle.convex_room.proofs.tell_in.Statement.{statement}
+use Rattle.convex_room.proofs.tell_in.Tie as tie
+
+returns : tie.Need-returns
+returns c =
+    let v = c .before .is-room-in in
+    call-open (c .before .before .before .args .chain .now) (v .result) (v .ensures) (not-true (v .result) (c .if1 .taken))
+
+returns-2 : tie.Need-returns-2
+returns-2 c =
+    let v = c .before .before .before .is-room-in in
+    let d = c .before .decide in
+    call-room (c .before .before .before .before .before .args .chain .now) (v .result) (v .ensures) (not-false (v .result) (c .before .before .if1 .left)) (d .result) (d .ensures) (c .counted .result) (c .counted .ensures)
+
+pub tell-in-spec : {M : Type 1} → statement M
+tell-in-spec =
+    tie.close
+    (tie.spec
+    (λ c κs. search needs)
+    returns
+    (λ c κs. search needs)
+    (λ c κs. search needs)
+    returns-2)
