@@ -19,6 +19,7 @@ use Rattle.orthogonal_laws.specs.HullRows.{pickOver, leastOver, mostOver
 use Rattle.lists.proofs.BoolLaws.{is-false}
 use Rattle.orthogonal_laws.proofs.JoinedLaws.{Beside, Leaves, joined-leaves, quadrants-in, true-le}
 use Rattle.orthogonal_laws.proofs.JoinedLaws as joinedLaws
+use Rattle.orthogonal_laws.proofs.RowCases as cases
 
 -- what is picked of some numbers
 module _ (pick : ℕ → ℕ → ℕ) (f : ℕ → ℕ) where
