@@ -120,7 +120,7 @@ static const char *const refusals[] = {
     [UNDRWYTH_REFUSAL_NOTHING_TO_TAKE] = "the operation at place # takes a step back, and no step is left",
     [UNDRWYTH_REFUSAL_TOO_LONG] = "the step at place # would be the 16,385th that survives",
     [UNDRWYTH_REFUSAL_NO_ROOM] = "the table has too few records for the operation at place #",
-    [UNDRWYTH_REFUSAL_HULL_ROOM] = "the lent buffer is shorter than two numbers a hull corner",
+    [UNDRWYTH_REFUSAL_HULL_ROOM] = "the lent buffer is shorter than two numbers for each hull corner",
     [UNDRWYTH_REFUSAL_BAD_LINE] = "the line is not a record",
     [UNDRWYTH_REFUSAL_START_RANGE] = "a coordinate of the start is beyond 16,384",
     [UNDRWYTH_REFUSAL_OUTLINE_ROOM] = "the lent buffer is shorter than the outline",
@@ -132,7 +132,7 @@ static const char *const refusals[] = {
     [UNDRWYTH_REFUSAL_BAD_RING] = "the ring has a slant, a repeated point or fewer than four points, or is not closed",
     [UNDRWYTH_REFUSAL_CHAIN_ROOM] = "the lent buffer is shorter than the chain",
     [UNDRWYTH_REFUSAL_RETIRED_KIND] = "the record has turns, which are retired; convert makes a record with steps of it",
-    [UNDRWYTH_REFUSAL_SPAN_ROOM] = "a lent buffer is shorter than three numbers a span",
+    [UNDRWYTH_REFUSAL_SPAN_ROOM] = "a lent buffer is shorter than three numbers for each span",
 };
 
 enum { REFUSALS = sizeof refusals / sizeof *refusals };

@@ -149,7 +149,7 @@ class Cases(unittest.TestCase):
             else:
                 self.assertEqual(list(map(bytes, views(name, own))), list(map(bytes, views(name, answer))))
         elif refused is not None and refused.number in SHORT:
-            call(*inputs, *starts)  # with the package's own buffers there is room
+            call(*inputs, *starts)  # the package's own buffers are large enough
         elif refused is not None and refused.number in (2, 3, 7) and name not in LINES:  # the table of a line is not lent
             try:
                 call(*inputs, *starts)

@@ -261,7 +261,7 @@ class Commands(unittest.TestCase):
         self.assertEqual(kept.read_text(), "".join(made[row["record"] - 1][0] + "\n" for row in refused))
 
     def test_frames(self):
-        """With --frames the lines are refused and answered as undrwyth judge does, which is proved, but for 7."""
+        """With --frames the lines are refused and answered as undrwyth judge does, which is proved, apart from 7."""
         given = (HERE / "crates" / "judge" / "stdin").read_bytes()
         judged = run("judge", given=given)[1].splitlines()
         said = [json.loads(line) for line in run("explain", "--frames", "--json", given=given)[1].splitlines()]

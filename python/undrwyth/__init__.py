@@ -77,7 +77,7 @@ def walk(
     >>> answer.table[0].edge_east, answer.marks[2]
     (1, Mark(nodes=2, visits=1, changed=2))
 
-    A lent table has 25 words a record, marks three words an operation, a chain one byte an operation.
+    A lent table has 25 words for each record. For each operation marks has three words, and a chain one byte.
 
     >>> table = bytearray(100 * 4)
     >>> walk("0123", table=table).table[3].visits

@@ -71,7 +71,7 @@ SENTENCES = {
     Refusal.NOTHING_TO_TAKE: "the operation at place {place} takes a step back, and no step is left",
     Refusal.TOO_LONG: "the step at place {place} would be the 16,385th that survives",
     Refusal.NO_ROOM: "the table has too few records for the operation at place {place}",
-    Refusal.HULL_ROOM: "the lent buffer is shorter than two numbers a hull corner",
+    Refusal.HULL_ROOM: "the lent buffer is shorter than two numbers for each hull corner",
     Refusal.BAD_LINE: "the line is not a record",
     Refusal.START_RANGE: "a coordinate of the start is beyond 16,384",
     Refusal.OUTLINE_ROOM: "the lent buffer is shorter than the outline",
@@ -83,7 +83,7 @@ SENTENCES = {
     Refusal.BAD_RING: "the ring has a slant, a repeated point or fewer than four points, or is not closed",
     Refusal.CHAIN_ROOM: "the lent buffer is shorter than the chain",
     Refusal.RETIRED_KIND: "the record has turns, which are retired; convert makes a record with steps of it",
-    Refusal.SPAN_ROOM: "a lent buffer is shorter than three numbers a span",
+    Refusal.SPAN_ROOM: "a lent buffer is shorter than three numbers for each span",
 }
 
 

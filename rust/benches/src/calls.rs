@@ -38,7 +38,7 @@ fn walk_from<'a, T, E: Debug>(
     Box::new(move || {
         for ((start, ops), (table, marks, chain)) in walks.iter().zip(&mut buffers) {
             let answer = walk(*start, black_box(ops), table, marks, chain);
-            black_box(answer.expect("there is room"));
+            black_box(answer.expect("the buffers are large enough"));
         }
     })
 }
@@ -71,7 +71,7 @@ pub fn walk_two(
     Box::new(move || {
         for (ops, (table, marks, [first, second])) in inputs.iter().zip(&mut buffers) {
             let answer = walk_two(STARTS, black_box(ops), table, marks, [first, second]);
-            black_box(answer.expect("there is room"));
+            black_box(answer.expect("the buffers are large enough"));
         }
     })
 }
@@ -132,7 +132,7 @@ pub fn hull<'a, T, E: Debug>(
     Box::new(move || {
         for chain in inputs {
             let answer = hull(START, black_box(chain), &mut out);
-            black_box(answer.expect("there is room"));
+            black_box(answer.expect("the buffers are large enough"));
         }
     })
 }
@@ -146,7 +146,7 @@ pub fn outline<'a, T, E: Debug>(
     Box::new(move || {
         for chain in inputs {
             let answer = outline(START, black_box(chain), &mut out);
-            black_box(answer.expect("there is room"));
+            black_box(answer.expect("the buffers are large enough"));
         }
     })
 }

@@ -674,7 +674,7 @@ fn pair_limits_of(library: &Library, ops: &[u8]) {
     calls::walk_two(library, starts, ops, words, MARK_WORDS * n - 1, [n; 2]);
 }
 
-/// Starts at the ends of the range and beyond, equal, neighbours, and far apart, each with short walks, in every table up to one with room.
+/// Starts at the ends of the range and beyond, equal, neighbours, and far apart, each with short walks, in every table up to one that is large enough.
 pub fn pair_starts(library: &Library) {
     let walks: [&[u8]; 4] = [
         &[],
@@ -700,7 +700,7 @@ pub fn pair_starts(library: &Library) {
     }
 }
 
-/// Rooms that share a lobby, walked by two parties in many orders, with steps taken back by both; each in every table up to one with room.
+/// Rooms that share a lobby, walked by two parties in many orders, with steps taken back by both; each in every table up to one that is large enough.
 pub fn lobbies(library: &Library) {
     let mut random = Random(19);
     let rooms: [&[u8]; 4] = [

@@ -154,7 +154,7 @@ impl<'a> Tree<'a> {
         }
         let (mut node, mut at, mut level) = (u, c, 0);
         while self.goes_up(node, at, way) {
-            node = self.node(node, PARENT).expect("it is no root");
+            node = self.node(node, PARENT).expect("it is not the root");
             at = at.parent();
             level += 1;
         }
