@@ -100,7 +100,7 @@ module _ {l r : ℕ → ℕ} {t k j : ℕ} (b : Bulges l r t k j) where
         | no g ↦ omega (arith, rises-up l k (q - k) (λ i u v. b .left-rises i u (omega arith)), up l k q (omega arith))
       ]
 
-  bulge-most : (q : ℕ) → q ≤ t → r q ≤ r j
+  pub bulge-most : (q : ℕ) → q ≤ t → r q ≤ r j
   bulge-most q h =
       elim (decLt q j) [
         | yes g ↦ omega (arith, rises-up r q (j - q) (λ i u v. b .right-rises i (omega arith)), up r q j (omega arith))
