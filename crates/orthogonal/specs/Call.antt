@@ -9,8 +9,8 @@ use Rattle.hull.specs.Call.{chainJudged}
 use Rattle.room.specs.Room.{isRoom}
 use Rattle.outline.specs.Outline.{homeOf}
 use Rattle.panels.specs.Inside.{inside, panelsInside, InsideLeft}
-use Rattle.orthogonal.specs.declared.{Hulled.Hulled, Orthogonal.Orthogonal}
-use Rattle.orthogonal.specs.Blocks.{Holds, OrthogonalHullIs}
+use Rattle.orthogonal.specs.declared.{Enclosed.Enclosed, Orthogonal.Orthogonal}
+use Rattle.orthogonal.specs.Blocks.{HoldsInside, OrthogonalHullIs}
 
 -- a grid size: from 1 to 16,384
 abbrev pub mostGrid : ℕ
@@ -26,7 +26,7 @@ pub record OutlinesHull (s : Corner) (ds : List ℕ) (g : ℕ) (start : Corner) 
   pub room : isRoom start steps ≡ true
   pub home : homeOf start steps ≡ start
   pub left : InsideLeft start steps
-  pub hull : OrthogonalHullIs (Holds s ds g) (inside start steps)
+  pub hull : OrthogonalHullIs (HoldsInside s ds g) (inside start steps)
 
 -- what is wrong before the buffer is asked: 1, then 10, then 22, then 4 or 6 at the first faulty place, then 12
 abbrev pub onGridJudged : Corner → List ℕ → ℕ → Judged
@@ -43,12 +43,12 @@ abbrev pub orthogonalJudged : Corner → List ℕ → ℕ → ℕ → ℕ → Ju
 orthogonalJudged s ds g room steps = firstOf (onGridJudged s ds g ∷ when (ltb room steps) ChainRoom ∷ [])
 
 -- how many steps there are, where they start, and how many blocks are inside
-abbrev pub hulledOf : Corner → List ℕ → Hulled
-hulledOf start steps = record { steps = length steps; start = start; blocks = panelsInside start steps }
+abbrev pub enclosedOf : Corner → List ℕ → Enclosed
+enclosedOf start steps = record { steps = length steps; start = start; blocks = panelsInside start steps }
 
 -- that of the outline, unless there is a refusal
 abbrev pub orthogonalOf : Judged → Corner → List ℕ → Orthogonal
-orthogonalOf Good start steps = Orthogonal.Outlined (hulledOf start steps)
+orthogonalOf Good start steps = Orthogonal.Outlined (enclosedOf start steps)
 orthogonalOf (Refused r) start steps = Orthogonal.Refused r
 
 -- the promise of the call: `steps` from `start` outlines the hull. It is counted, and the buffer holds it and then what stood after it,

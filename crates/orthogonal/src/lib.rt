@@ -3,7 +3,7 @@ use answer::Refusal;
 use grid::Corner;
 
 // The outline of a hull: how many steps it has, where it starts, and how many blocks are inside.
-pub struct Hulled {
+pub struct Enclosed {
     pub steps: usize,
     pub start: Corner,
     pub blocks: usize,
@@ -19,6 +19,6 @@ impl Grid {
 
 // The answer of the call.
 pub enum Orthogonal {
-    Outlined(Hulled),
+    Outlined(Enclosed),
     Refused(Refusal),
 }

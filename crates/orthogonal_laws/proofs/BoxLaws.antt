@@ -2,8 +2,8 @@
 -- and so it is no longer than the room's chain.
 -- Assumes nothing.
 use mathlib.Core.List.{List}
-use mathlib.Core.Logic.{_⊎_, inl, inr, ⊎-elim}
-use mathlib.Core.Path.{_≡_, refl, ap, ap₂, sym, _∙_, subst}
+use mathlib.Core.Logic.{_⊎_, ⊎-elim}
+use mathlib.Core.Path.{_≡_, refl, ap, _∙_}
 use Prim.Native.Nat.{ℕ, zero, suc, _+_, _-_, _*_, _<_, _≤_}
 use native.Mathlib.Omega.{arith}
 use lib.IntN.{ℤ, pos, sucℤ, natAbs, _+ℤ_, _-ℤ_}
@@ -15,12 +15,11 @@ use Rattle.lists.specs.Lists.{Below}
 use Rattle.grid.specs.declared.{Corner.Corner, Panel.Panel}
 use Rattle.trace.specs.Verdict.{IsRoom}
 use Rattle.panels.specs.Box.{Box, boxOf}
-use Rattle.panels.specs.Inside.{Inside}
 use Rattle.area_laws.proofs.PanelLaws.{HoldsPanel}
 use Rattle.room_laws.proofs.InsideLaws.{inside-held}
-use Rattle.orthogonal.specs.Blocks.{floorBy, block, blockOf, Holds}
+use Rattle.orthogonal.specs.Blocks.{floorBy, block, HoldsInside}
 use Rattle.orthogonal.specs.Call.{OutlinesHull}
-use Rattle.orthogonal_chain_laws.specs.Chain.{InPile, Bulges, chainFromHome}
+use Rattle.orthogonal_chain_laws.specs.Chain.{Bulges, chainFromHome}
 use Rattle.orthogonal_chain_laws.proofs.LengthLaws.{bulge-least, bulge-most}
 use Rattle.orthogonal_chain_laws.proofs.HomeLaws.{chain-length}
 use Rattle.orthogonal_laws.specs.Connected.{Connected}
@@ -135,25 +134,25 @@ module _ (g : ℕ) (some : 0 < g) where
 
   module _ (c : Corner) (ds : List ℕ) (r : IsRoom c ds) (b : Below 4 ds) where
     -- they have a box
-    pub blocks-bounded : (k : Box) × BoundedBy (Holds c ds g) k
+    pub blocks-bounded : (k : Box) × BoundedBy (HoldsInside c ds g) k
     blocks-bounded =
         let e = room-ends c ds r b g some in
         let m = hull-bulges (e .1) (e .2) (e .3) in
-        (boxBy (e .0) (hullLeft (e .1) (e .3) (m .0)) (hullRight (e .2) (e .3) (m .1)) (e .3), rows-bounded (Holds c ds g) (blocks-connected g some c ds r b) (e .0) (e .1) (e .2) (e .3) (m .0) (m .1) (e .4) (m .2))
+        (boxBy (e .0) (hullLeft (e .1) (e .3) (m .0)) (hullRight (e .2) (e .3) (m .1)) (e .3), rows-bounded (HoldsInside c ds g) (blocks-connected g some c ds r b) (e .0) (e .1) (e .2) (e .3) (m .0) (m .1) (e .4) (m .2))
 
-    module _ (k : Box) (bounded : BoundedBy (Holds c ds g) k) where
+    module _ (k : Box) (bounded : BoundedBy (HoldsInside c ds g) k) where
       -- the outline of the hull is as long as twice the width and twice the height of the box
       pub hull-length : (start : Corner) (steps : List ℕ) → OutlinesHull c ds g start steps → length steps ≡ 2 * natAbs (k .east -ℤ k .west) + 2 * natAbs (k .north -ℤ k .south)
       hull-length start steps h = by (room-ends c ds r b g some)
         where
-          by : (o : Corner) × (l : ℕ → ℕ) × (u : ℕ → ℕ) × (t : ℕ) × RowEnds (Holds c ds g) o l u t → length steps ≡ 2 * natAbs (k .east -ℤ k .west) + 2 * natAbs (k .north -ℤ k .south)
+          by : (o : Corner) × (l : ℕ → ℕ) × (u : ℕ → ℕ) × (t : ℕ) × RowEnds (HoldsInside c ds g) o l u t → length steps ≡ 2 * natAbs (k .east -ℤ k .west) + 2 * natAbs (k .north -ℤ k .south)
           by (o, l, u, t, e) =
               let joined = blocks-connected g some c ds r b in
               let m = hull-bulges l u t in
-              let piled = hull-piled (Holds c ds g) joined o l u t e in
+              let piled = hull-piled (HoldsInside c ds g) joined o l u t e in
               let same = outlinesHull-one start steps _ (chainFromHome (hullLeft l t) (hullRight u t) t) h (rows-outline c ds r b g some o l u t e) .1 in
               let size = chain-length piled (m .2) in
-              let z = bounded-one bounded (rows-bounded (Holds c ds g) joined o l u t (m .0) (m .1) e (m .2)) in
+              let z = bounded-one bounded (rows-bounded (HoldsInside c ds g) joined o l u t (m .0) (m .1) e (m .2)) in
               let x : ℕ = hullLeft l t (m .0) in
               let y : ℕ = hullRight u t (m .1) in
               let w : x ≤ y = let p = piled .wide (m .0) (m .2 .left) in let q = bulge-most (m .2) (m .0) (m .2 .left) in omega (arith, p, q) in
@@ -164,7 +163,7 @@ module _ (g : ℕ) (some : 0 < g) where
       -- the box is no wider and no higher than that of the room
       box-narrow : (natAbs (k .east -ℤ k .west) ≤ natAbs (boxOf c ds .east -ℤ boxOf c ds .west)) × (natAbs (k .north -ℤ k .south) ≤ natAbs (boxOf c ds .north -ℤ boxOf c ds .south))
       box-narrow =
-          let held : (b : Panel) (h : Holds c ds g b) → HoldsPanel (boxOf c ds) (h .panel) = λ b h. inside-held c ds (r .closed) (h .panel) (h .inside) in
+          let held : (b : Panel) (h : HoldsInside c ds g b) → HoldsPanel (boxOf c ds) (h .panel) = λ b h. inside-held c ds (r .closed) (h .panel) (h .inside) in
           let w = bounded .west in
           let e = bounded .east in
           let s = bounded .south in

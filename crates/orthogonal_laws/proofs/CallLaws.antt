@@ -1,14 +1,15 @@
 -- The refusals of the call, what is accepted, and that the call has one answer and leaves one buffer.
 -- Assumes nothing.
-use mathlib.Core.Bool.{Bool, true, false, not}
+use mathlib.Core.Bool.{Bool, true, false, not, _&&_}
 use mathlib.Core.List.{List, [], _∷_, _++_}
-use mathlib.Core.Logic.{_↔_}
+use mathlib.Core.Logic.{_↔_, ⊎-elim}
 use mathlib.Core.Path.{_≡_, refl, ap, ap₂, sym, _∙_, subst}
 use Prim.Native.Nat.{ℕ, _%_, _<_, _≤_}
-use native.Mathlib.Omega.{arith}
 use borrow.Author.Tests.{eqb-true, eq-eqb, lt-ltb, le-ltb}
-use lib.Dec.{T, leb, ltb, leb→le}
+use lib.Dec.{T, leb, ltb, leb→le, le→leb}
+use lib.IntN.{pos}
 use lib.ListN.{length, drop}
+use Rattle.int_laws.proofs.LinearLaws.{zarith, neg-nat}
 use Rattle.answer.specs.declared.{Judged.Judged, Judged.the-variants.Good, Judged.the-variants.Refused, Refusal.Refusal, Refusal.the-variants.TooMany, Refusal.the-variants.StartRange, Refusal.the-variants.GridSize, Refusal.the-variants.NotRoom, Refusal.the-variants.ChainRoom}
 use Rattle.answer.specs.Limits.{mostInput, startFits}
 use Rattle.answer.specs.Refusal.{when, orElse, firstOf}
@@ -20,9 +21,11 @@ use Rattle.steps.specs.Turns.{writtenIf}
 use Rattle.hull.specs.Call.{chainJudged}
 use Rattle.room.specs.Room.{isRoom, asRoomJudged}
 use Rattle.room.proofs.RoomLaws.{isRoom-exactly}
-use Rattle.panels.specs.Inside.{edgesBeside, Inside, inside}
+use Rattle.trace.specs.Verdict.{areaOf}
+use Rattle.panels.specs.Inside.{edgesBeside, Inside, inside, panelsInside}
+use Rattle.room_laws.proofs.RoomLaws.{room-counts, room-sign}
 use Rattle.orthogonal.specs.declared.Orthogonal.{Orthogonal}
-use Rattle.orthogonal.specs.Call.{mostGrid, gridFits, OutlinesHull, onGridJudged, orthogonalJudged, hulledOf, orthogonalOf, OrthogonalCall}
+use Rattle.orthogonal.specs.Call.{mostGrid, gridFits, OutlinesHull, onGridJudged, orthogonalJudged, enclosedOf, orthogonalOf, OrthogonalCall}
 use Rattle.orthogonal_laws.proofs.HullLaws.{hull-one}
 use Rattle.orthogonal_laws.proofs.OneLaws.{Outlines, outlines-one}
 
@@ -31,6 +34,12 @@ use Rattle.orthogonal_laws.proofs.OneLaws.{Outlines, outlines-one}
 module _ {s : Corner} {ds : List ℕ} {g : ℕ} {start : Corner} {steps : List ℕ} (o : OutlinesHull s ds g start steps) where
   pub hull-outlines : Outlines start steps
   hull-outlines = record { digits = o .digits; room = isRoom-exactly start steps .0 (o .room); home = o .home; left = o .left }
+
+-- its area is the number of blocks
+pub outline-area : {s : Corner} {ds : List ℕ} {g : ℕ} (start : Corner) (steps : List ℕ) → OutlinesHull s ds g start steps → areaOf start steps ≡ pos (panelsInside start steps)
+outline-area start steps o =
+    let r = hull-outlines o .room in
+    ⊎-elim (λ k. k .1) (λ k. let h = room-sign start steps r .0 .1 (o .left) in absurd (omega (zarith, h, k .1, neg-nat (pos (panelsInside start steps))))) (room-counts start steps r)
 
 -- there is only one
 pub outlinesHull-one : {s : Corner} {ds : List ℕ} {g : ℕ} (start : Corner) (steps : List ℕ) (start′ : Corner) (steps′ : List ℕ) → OutlinesHull s ds g start steps → OutlinesHull s ds g start′ steps′ → (start ≡ start′) × (steps ≡ steps′)
@@ -44,13 +53,28 @@ outlinesHull-one start steps start′ steps′ o o′ = outlines-one start steps
 -- ---- the refusals in their order
 
 -- 1 and 10, then 22, then those of a room
-pub onGrid-split : (s : Corner) (ds : List ℕ) (g : ℕ) → onGridJudged s ds g ≡ firstOf (when (ltb mostInput (length ds)) TooMany ∷ when (not (startFits s)) StartRange ∷ when (not (gridFits g)) GridSize ∷ asRoomJudged s ds ∷ [])
+onGrid-split : (s : Corner) (ds : List ℕ) (g : ℕ) → onGridJudged s ds g ≡ firstOf (when (ltb mostInput (length ds)) TooMany ∷ when (not (startFits s)) StartRange ∷ when (not (gridFits g)) GridSize ∷ asRoomJudged s ds ∷ [])
 onGrid-split s ds g = by (when (ltb mostInput (length ds)) TooMany) (when (not (startFits s)) StartRange) (when (not (gridFits g)) GridSize) (chainJudged 0 ds) (when (not (isRoom s ds)) NotRoom)
   where
     by : (a b c d e : Judged) → firstOf (a ∷ b ∷ c ∷ d ∷ e ∷ []) ≡ firstOf (a ∷ b ∷ c ∷ firstOf (a ∷ b ∷ d ∷ e ∷ []) ∷ [])
     by (Refused q) b c d e = refl
     by Good (Refused q) c d e = refl
     by Good Good c d e = ap (orElse c) (sym (orElse-right (orElse d (orElse e Good))))
+
+-- each of them alone
+module _ (s : Corner) (ds : List ℕ) (g : ℕ) where
+  pub onGrid-many : mostInput < length ds → onGridJudged s ds g ≡ Refused TooMany
+  onGrid-many h = rw (lt-ltb mostInput (length ds) h)
+
+  pub onGrid-range : length ds ≤ mostInput → startFits s ≡ false → onGridJudged s ds g ≡ Refused StartRange
+  onGrid-range h e = rw (le-ltb mostInput (length ds) h, e)
+
+  pub onGrid-size : length ds ≤ mostInput → startFits s ≡ true → gridFits g ≡ false → onGridJudged s ds g ≡ Refused GridSize
+  onGrid-size h e f = onGrid-split s ds g ∙ rw (le-ltb mostInput (length ds) h, e, f)
+
+  -- with a grid size, those of a room
+  pub onGrid-room : gridFits g ≡ true → onGridJudged s ds g ≡ asRoomJudged s ds
+  onGrid-room e = rw e
 
 -- what is accepted is a room, with a grid size
 pub onGrid-good : (s : Corner) (ds : List ℕ) (g : ℕ) → onGridJudged s ds g ≡ Good → (asRoomJudged s ds ≡ Good) × (gridFits g ≡ true)
@@ -67,13 +91,23 @@ grid-within g e = (le-of 1 g (and-left (leb 1 g) (leb g mostGrid) e), le-of g mo
     le-of : (a b : ℕ) → leb a b ≡ true → a ≤ b
     le-of a b e = leb→le a b (subst T (sym e) tt)
 
+pub within-grid : (g : ℕ) → 0 < g → g ≤ mostGrid → gridFits g ≡ true
+within-grid g h k = ap₂ _&&_ (yes-le 1 g h) (yes-le g mostGrid k)
+  where
+    yes-le : (a b : ℕ) → a ≤ b → leb a b ≡ true
+    yes-le a b h = by (leb a b) (le→leb a b h)
+      where
+        by : (x : Bool) → T x → x ≡ true
+        by true t = refl
+        by false t = absurd t
+
 module _ (s : Corner) (ds : List ℕ) (g room n : ℕ) where
   -- what is refused is so whatever the buffer
-  pub orthogonal-refused : (q : Refusal) → onGridJudged s ds g ≡ Refused q → orthogonalJudged s ds g room n ≡ Refused q
+  orthogonal-refused : (q : Refusal) → onGridJudged s ds g ≡ Refused q → orthogonalJudged s ds g room n ≡ Refused q
   orthogonal-refused q e = ap (λ (j : Judged). orElse j (orElse (when (ltb room n) ChainRoom) Good)) e
 
   -- and what is not, by its buffer alone
-  pub orthogonal-last : onGridJudged s ds g ≡ Good → orthogonalJudged s ds g room n ≡ when (ltb room n) ChainRoom
+  orthogonal-last : onGridJudged s ds g ≡ Good → orthogonalJudged s ds g room n ≡ when (ltb room n) ChainRoom
   orthogonal-last e = ap (λ (j : Judged). orElse j (orElse (when (ltb room n) ChainRoom) Good)) e ∙ orElse-right (when (ltb room n) ChainRoom)
 
 -- ---- the call
@@ -111,7 +145,7 @@ module _ (s : Corner) (ds : List ℕ) (g : ℕ) (before : List ℕ) where
     short-call h = by-room true (lt-ltb (length before) (length steps) h)
 
     -- and one that is not
-    pub outlined-call : length steps ≤ length before → OrthogonalCall s ds g before (Orthogonal.Outlined (hulledOf start steps)) (steps ++ drop (length steps) before)
+    pub outlined-call : length steps ≤ length before → OrthogonalCall s ds g before (Orthogonal.Outlined (enclosedOf start steps)) (steps ++ drop (length steps) before)
     outlined-call h = by-room false (le-ltb (length before) (length steps) h)
 
   -- one answer, and one state of the buffer

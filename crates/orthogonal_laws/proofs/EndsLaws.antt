@@ -1,23 +1,22 @@
 -- The blocks of a room have rows with ends, and the chain around the rows of their hull outlines it.
 -- Assumes nothing.
 use mathlib.Core.Bool.{Bool, true, false, true≢false, _&&_}
-use mathlib.Core.List.{List, [], _∷_, List·Memᴰ, List·Memᴰ·head, List·Memᴰ·tail, List·Memᴰ·not-nil, List·Memᴰ·cases-cons}
-use mathlib.Core.Logic.{_⊎_, inl, inr, ⊎-elim, _↔_}
+use mathlib.Core.List.{List, [], _∷_, List·Memᴰ, List·Memᴰ·not-nil, List·Memᴰ·cases-cons}
+use mathlib.Core.Logic.{_⊎_, ⊎-elim}
 use mathlib.Core.Path.{_≡_, refl, ap, ap₂, sym, _∙_, subst}
-use Prim.Native.Nat.{ℕ, zero, suc, _-_, _%_, _<_, _≤_}
+use Prim.Native.Nat.{ℕ, suc, _-_, _%_, _<_, _≤_}
 use native.Mathlib.Decide.{decLt}
 use native.Mathlib.Omega.{arith}
 use borrow.Author.Tests.{eqb-true}
-use lib.IntN.{ℤ, pos, negℤ, sucℤ, natAbs, _+ℤ_, _-ℤ_}
+use lib.IntN.{ℤ, pos, negℤ, natAbs, _+ℤ_, _-ℤ_}
 use lib.Signed.{_≤ℤ_, _<ℤ_, leZ}
 use Rattle.int_laws.proofs.LinearLaws.{zarith, bal+, neg-nat, le-or-lt}
-use Rattle.int_laws.proofs.NextLaws.{bal-suc, le-false, above}
+use Rattle.int_laws.proofs.NextLaws.{le-false, above}
 use Rattle.int_laws.proofs.RangeLaws.{le-true}
-use Rattle.lists.specs.Lists.{Below, any}
+use Rattle.lists.specs.Lists.{Below}
 use Rattle.lists.proofs.BoolLaws.{is-false}
 use Rattle.lists.proofs.CountLaws.{count-some}
-use Rattle.lists.proofs.FindLaws.{any-mem}
-use Rattle.lists.proofs.GatherLaws.{and-left, and-right, or-cases}
+use Rattle.lists.proofs.GatherLaws.{and-left, and-right}
 use Rattle.grid.specs.declared.{Corner.Corner, Panel.Panel}
 use Rattle.grid.specs.Grid.{corner, eqZ}
 use Rattle.grid.proofs.CornerLaws.{eqZ-sound, eqZ-refl}
@@ -26,11 +25,10 @@ use Rattle.panels.specs.Box.{boxOf, panelsIn}
 use Rattle.panels.specs.Inside.{edgesBeside, Inside, inside}
 use Rattle.room_laws.proofs.InsideLaws.{inside-found}
 use Rattle.room_laws.proofs.RoomLaws.{room-some}
-use Rattle.orthogonal.specs.Blocks.{floorBy, block, blockOf, Holds}
+use Rattle.orthogonal.specs.Blocks.{floorBy, block, blockOf, HoldsInside}
 use Rattle.orthogonal_chain_laws.specs.Chain.{InPile}
 use Rattle.orthogonal_laws.specs.HullRows.{RowEnds}
 use Rattle.orthogonal_laws.proofs.JoinedLaws.{Leaves, joined-leaves, true-le, near-both, edge-border}
-use Rattle.orthogonal_laws.proofs.JoinedLaws as joinedLaws
 use Rattle.orthogonal_laws.proofs.BlockLaws.{blocks-connected, holds-of}
 
 -- of those that pass a test one has the least value
@@ -105,12 +103,9 @@ module _ (c : Corner) (ds : List ℕ) (r : IsRoom c ds) (b : Below 4 ds) (g : �
         | no l ↦ let e : t ≡ q = omega arith in (high .0, high .1, top ∙ ap (λ (i : ℕ). o .1 +ℤ pos i) e)
       ]
     where
-      K : Panel → Bool
-      K u = leZ (u .1) (o .1 +ℤ pos q)
-
       lower : q < t → (u : Panel) × Inside c ds u × (fy u ≡ o .1 +ℤ pos q)
       lower l =
-          let B : Panel → Type 0 = Holds c ds g in
+          let B : Panel → Type 0 = HoldsInside c ds g in
           let i = holds-of g some c ds (low .0) (low .1) in
           let j = holds-of g some c ds (high .0) (high .1) in
           let w : Leaves B (λ u. leZ (u .1) (o .1 +ℤ pos q)) =
@@ -189,7 +184,7 @@ module _ (c : Corner) (ds : List ℕ) (r : IsRoom c ds) (b : Below 4 ds) (g : �
       by (yes l) = absurd (omega (arith, h, l))
       by (no l) = (row-by q l, refl, refl)
 
-  ends : RowEnds (Holds c ds g) o left right t
+  ends : RowEnds (HoldsInside c ds g) o left right t
   ends = record { wide = wide; within = within; first = first; last = last }
     where
       wide : (q : ℕ) → q ≤ t → left q < right q
@@ -201,7 +196,7 @@ module _ (c : Corner) (ds : List ℕ) (r : IsRoom c ds) (b : Below 4 ds) (g : �
           let z = at-column (w .last) (w .last-in) in
           omega (zarith, e .1, e .2, k, a, z, bal+ (o .0) (pos (column (w .first))), bal+ (o .0) (pos (column (w .last))))
 
-      within : (p : Panel) → Holds c ds g p → InPile o left right t p
+      within : (p : Panel) → HoldsInside c ds g p → InPile o left right t p
       within p k = subst (InPile o left right t) (k .block) (at-row (k .panel) (k .inside))
         where
           at-row : (u : Panel) → Inside c ds u → InPile o left right t (blockOf g u)
@@ -223,13 +218,13 @@ module _ (c : Corner) (ds : List ℕ) (r : IsRoom c ds) (b : Below 4 ds) (g : �
                 east = omega (zarith, y, z, e .2, bal+ (o .0) (pos (right q)), bal+ (o .0) (pos (column (w .last))));
               }
 
-      first : (q : ℕ) → q ≤ t → Holds c ds g (block (o .0 +ℤ pos (left q)) (o .1 +ℤ pos q))
+      first : (q : ℕ) → q ≤ t → HoldsInside c ds g (block (o .0 +ℤ pos (left q)) (o .1 +ℤ pos q))
       first q h =
           let e = ends-at q h in
           let w = e .0 in
           record { panel = w .first; inside = w .first-in; block = ap₂ block (at-column (w .first) (w .first-in) ∙ ap (λ (i : ℕ). o .0 +ℤ pos i) (sym (e .1))) (w .first-row) }
 
-      last : (q x : ℕ) → q ≤ t → right q ≡ suc x → Holds c ds g (block (o .0 +ℤ pos x) (o .1 +ℤ pos q))
+      last : (q x : ℕ) → q ≤ t → right q ≡ suc x → HoldsInside c ds g (block (o .0 +ℤ pos x) (o .1 +ℤ pos q))
       last q x h f =
           let e = ends-at q h in
           let w = e .0 in
@@ -237,5 +232,5 @@ module _ (c : Corner) (ds : List ℕ) (r : IsRoom c ds) (b : Below 4 ds) (g : �
           record { panel = w .last; inside = w .last-in; block = ap₂ block (at-column (w .last) (w .last-in) ∙ ap (λ (i : ℕ). o .0 +ℤ pos i) z) (w .last-row) }
 
   -- the rows of the blocks have ends
-  pub room-ends : (o : Corner) × (l : ℕ → ℕ) × (r : ℕ → ℕ) × (t : ℕ) × RowEnds (Holds c ds g) o l r t
+  pub room-ends : (o : Corner) × (l : ℕ → ℕ) × (r : ℕ → ℕ) × (t : ℕ) × RowEnds (HoldsInside c ds g) o l r t
   room-ends = (o, left, right, t, ends)

@@ -4,11 +4,11 @@ use mathlib.Core.Bool.{Bool, true, false, true≢false, not}
 use mathlib.Core.List.{List, [], _∷_, List·Memᴰ}
 use mathlib.Core.Logic.{_⊎_, inl, inr, ⊎-elim}
 use mathlib.Core.Path.{_≡_, refl, ap, sym, _∙_, subst}
-use Prim.Native.Nat.{ℕ, zero, suc, _+_, _-_, _<_, _≤_}
+use Prim.Native.Nat.{ℕ, zero, suc, _+_, _-_, _<_}
 use native.Mathlib.Omega.{arith}
-use lib.IntN.{ℤ, pos, sucℤ, predℤ, natAbs, _+ℤ_, _-ℤ_, pred-suc}
+use lib.IntN.{pos, predℤ, natAbs, _+ℤ_, _-ℤ_}
 use lib.ListN.{length, getD}
-use lib.Signed.{_≤ℤ_, _<ℤ_}
+use lib.Signed.{_<ℤ_}
 use Rattle.int_laws.proofs.LinearLaws.{zarith, bal+}
 use Rattle.int_laws.proofs.NextLaws.{bal-pred, above}
 use Rattle.lists.specs.Lists.{Below}
@@ -23,13 +23,13 @@ use Rattle.panels.specs.Inside.{Inside, leftOf, rightOf, EachStep}
 use Rattle.room_laws.proofs.CornerLaws.{left-back, right-back}
 use Rattle.room_laws.proofs.InsideLaws.{inside-held}
 use Rattle.room_laws.proofs.RoomLaws.{room-counts}
-use Rattle.outline.specs.Outline.{walked, onward}
+use Rattle.outline.specs.Outline.{walked}
 use Rattle.outline_laws.proofs.EdgeLaws.{Way, walked-edge, walked-back}
 use Rattle.outline_laws.proofs.PathLaws.{next}
 use Rattle.outline_room_laws.proofs.OutsideLaws.{onward-right, inside-same}
 use Rattle.outline_room_laws.proofs.RoomLaws.{corner-next, room-next, room-back}
 use Rattle.outline_room_laws.proofs.SideLaws.{each-edge}
-use Rattle.orthogonal_laws.specs.Connected.{Joined, Connected}
+use Rattle.orthogonal_laws.specs.Connected.{JoinedIn, Connected}
 use Rattle.orthogonal_laws.specs.Connected as connected
 use Rattle.orthogonal_laws.proofs.JoinedLaws.{joined-one, joined-trans, joined-back}
 
@@ -136,8 +136,8 @@ module _ (c : Corner) (ds : List ℕ) (r : IsRoom c ds) (b : Below 4 ds) where
       start : Inside c ds base
       start = first-step (λ e v. Inside c ds (sideOf s e v) × (Inside c ds (sideOf (not s) e v) → ⊥)) c ds (omega (arith, r .four)) f .0
 
-      reached-from : (q : Panel) → Inside c ds q → Joined (Inside c ds) base q
-      reached-from = reached (Joined (Inside c ds) base) (λ e q w k. connected.across e q k (inside-same c ds (r .closed) e q w .0 (joined-one (Inside c ds) base start (rightOf e q) k))) s f connected.here
+      reached-from : (q : Panel) → Inside c ds q → JoinedIn (Inside c ds) base q
+      reached-from = reached (JoinedIn (Inside c ds) base) (λ e q w k. connected.across e q k (inside-same c ds (r .closed) e q w .0 (joined-one (Inside c ds) base start (rightOf e q) k))) s f connected.here
 
   -- the panels inside a room are connected
   pub room-connected : Connected (Inside c ds)

@@ -1,13 +1,12 @@
 -- Connected sets of panels: where a set is left, there is an edge between a panel in it and one outside; and the hull of a connected set by quadrants.
 -- Assumes nothing.
 use mathlib.Core.Bool.{Bool, true, false, true≢false, not, _&&_}
-use mathlib.Core.Logic.{_⊎_, inl, inr, ⊎-elim, _↔_}
-use mathlib.Core.Path.{_≡_, refl, ap, ap₂, sym, _∙_, subst}
+use mathlib.Core.Logic.{_⊎_, inl, inr, ⊎-elim}
+use mathlib.Core.Path.{_≡_, refl, ap₂, sym, _∙_, subst}
 use Prim.Native.Nat.{ℕ, zero, suc}
-use native.Mathlib.Omega.{arith}
 use lib.IntN.{ℤ, sucℤ, predℤ, pred-suc}
 use lib.Signed.{_≤ℤ_, _<ℤ_, leZ}
-use Rattle.int_laws.proofs.LinearLaws.{zarith, le-or-lt}
+use Rattle.int_laws.proofs.LinearLaws.{zarith}
 use Rattle.int_laws.proofs.NextLaws.{bal-suc, bal-pred, le-false}
 use Rattle.lists.proofs.GatherLaws.{and-left, and-right}
 use Rattle.int_laws.proofs.RangeLaws.{le-true}
@@ -15,8 +14,8 @@ use Rattle.grid.specs.declared.{Corner.Corner, Panel.Panel}
 use Rattle.grid.specs.Grid.{corner, stepped, back}
 use Rattle.panels.specs.Inside.{leftOf, rightOf}
 use Rattle.room_laws.proofs.CornerLaws.{left-back, right-back}
-use Rattle.orthogonal.specs.Blocks.{block, Contains, Unbroken, OrthogonalHullIs}
-use Rattle.orthogonal_laws.specs.Connected.{Joined, Connected, Holding, Quadrants}
+use Rattle.orthogonal.specs.Blocks.{block, Contains, Unbroken}
+use Rattle.orthogonal_laws.specs.Connected.{JoinedIn, Connected, Holding, Quadrants}
 use Rattle.orthogonal_laws.specs.Connected as connected
 
 -- the panel with these coordinates
@@ -51,11 +50,11 @@ pub record Leaves (B : Panel → Type 0) (K : Panel → Bool) : Type 0 where
   pub edge : Beside from to
 
 module _ (B : Panel → Type 0) (p : Panel) (b : B p) where
-  pub joined-one : (q : Panel) → Joined B p q → B q
+  pub joined-one : (q : Panel) → JoinedIn B p q → B q
   joined-one _ connected.here = b
   joined-one _ (connected.across d v j c) = c
 
-  pub joined-leaves : (K : Panel → Bool) → K p ≡ true → (q : Panel) → Joined B p q → K q ≡ false → Leaves B K
+  pub joined-leaves : (K : Panel → Bool) → K p ≡ true → (q : Panel) → JoinedIn B p q → K q ≡ false → Leaves B K
   joined-leaves K i _ connected.here o = absurd (true≢false (sym i ∙ o))
   joined-leaves K i _ (connected.across d v j c) o = by (λ e. joined-leaves K i (rightOf d v) j e) (K (rightOf d v)) refl
     where
@@ -64,25 +63,25 @@ module _ (B : Panel → Type 0) (p : Panel) (b : B p) where
       by sooner false e = sooner e
 
 module _ (B : Panel → Type 0) where
-  pub joined-trans : (p q r : Panel) → Joined B p q → Joined B q r → Joined B p r
+  pub joined-trans : (p q r : Panel) → JoinedIn B p q → JoinedIn B q r → JoinedIn B p r
   joined-trans p q _ j connected.here = j
   joined-trans p q _ j (connected.across d v k c) = connected.across d v (joined-trans p q (rightOf d v) j k) c
 
-  pub joined-back : (p : Panel) → B p → (q : Panel) → Joined B p q → Joined B q p
+  pub joined-back : (p : Panel) → B p → (q : Panel) → JoinedIn B p q → JoinedIn B q p
   joined-back p b _ connected.here = connected.here
   joined-back p b _ (connected.across d v j c) =
-      let one : Joined B (leftOf d v) (rightOf d v) =
-      subst (Joined B (leftOf d v)) (right-back d v) (connected.across (back d) (stepped d v) (subst (Joined B (leftOf d v)) (sym (left-back d v)) connected.here) (subst B (sym (right-back d v)) (joined-one B p b (rightOf d v) j))) in
+      let one : JoinedIn B (leftOf d v) (rightOf d v) =
+      subst (JoinedIn B (leftOf d v)) (right-back d v) (connected.across (back d) (stepped d v) (subst (JoinedIn B (leftOf d v)) (sym (left-back d v)) connected.here) (subst B (sym (right-back d v)) (joined-one B p b (rightOf d v) j))) in
       joined-trans (leftOf d v) (rightOf d v) p one (joined-back p b (rightOf d v) j)
 
   -- one panel more
-  pub joined-beside : (p u v : Panel) → Joined B p u → Beside u v → B v → Joined B p v
+  pub joined-beside : (p u v : Panel) → JoinedIn B p u → Beside u v → B v → JoinedIn B p v
   joined-beside p u v j k b = by k
     where
-      step : (d : ℕ) (q : Corner) → rightOf d q ≡ u → leftOf d q ≡ v → Joined B p v
-      step d q e f = subst (Joined B p) f (connected.across d q (subst (Joined B p) (sym e) j) (subst B (sym f) b))
+      step : (d : ℕ) (q : Corner) → rightOf d q ≡ u → leftOf d q ≡ v → JoinedIn B p v
+      step d q e f = subst (JoinedIn B p) f (connected.across d q (subst (JoinedIn B p) (sym e) j) (subst B (sym f) b))
 
-      by : Beside u v → Joined B p v
+      by : Beside u v → JoinedIn B p v
       by (north e f) = step 0 (corner (v .0) (v .1)) (at-both e (omega (zarith, f, bal-suc (u .1), bal-pred (v .1)))) refl
       by (west e f) = step 1 (corner (u .0) (u .1)) refl (at-both (omega (zarith, e, bal-suc (v .0), bal-pred (u .0))) (sym f))
       by (south e f) = step 2 (corner (sucℤ (u .0)) (u .1)) (at-both (pred-suc (u .0)) refl) (at-both (pred-suc (u .0) ∙ sym e) (omega (zarith, f, bal-suc (v .1), bal-pred (u .1))))
@@ -205,17 +204,17 @@ module _ (B : Panel → Type 0) (joined : Connected B) (p : Panel) (quadrants : 
       first (inr s) (inr n) = inr (s, n)
 
   -- so p is in every unbroken set that contains B
-  pub quadrants-in : (K : Panel → Bool) → Contains B K → Unbroken K → K p ≡ true
+  pub quadrants-in : (K : Panel → Type 0) → Contains B K → Unbroken K → K p
   quadrants-in K c u = ⊎-elim in-row in-column between
     where
-      in-row : InRow true × InRow false → K p ≡ true
+      in-row : InRow true × InRow false → K p
       in-row (w, e) =
           u .row (w .at .0) (p .0) (e .at .0) (p .1) (w .x) (e .x)
-          (subst (λ (z : ℤ). K (block (w .at .0) z) ≡ true) (w .y) (c (w .at) (w .one)))
-          (subst (λ (z : ℤ). K (block (e .at .0) z) ≡ true) (e .y) (c (e .at) (e .one)))
+          (subst (λ (z : ℤ). K (block (w .at .0) z)) (w .y) (c (w .at) (w .one)))
+          (subst (λ (z : ℤ). K (block (e .at .0) z)) (e .y) (c (e .at) (e .one)))
 
-      in-column : InColumn true × InColumn false → K p ≡ true
+      in-column : InColumn true × InColumn false → K p
       in-column (s, n) =
           u .column (p .0) (s .at .1) (p .1) (n .at .1) (s .y) (n .y)
-          (subst (λ (z : ℤ). K (block z (s .at .1)) ≡ true) (s .x) (c (s .at) (s .one)))
-          (subst (λ (z : ℤ). K (block z (n .at .1)) ≡ true) (n .x) (c (n .at) (n .one)))
+          (subst (λ (z : ℤ). K (block z (s .at .1))) (s .x) (c (s .at) (s .one)))
+          (subst (λ (z : ℤ). K (block z (n .at .1))) (n .x) (c (n .at) (n .one)))

@@ -3,26 +3,22 @@
 -- Assumes nothing.
 use mathlib.Core.List.{List, [], _∷_, List·Memᴰ, List·Memᴰ·head}
 use mathlib.Core.Logic.{_⊎_, inl, inr, ⊎-elim}
-use mathlib.Core.Path.{_≡_, refl, ap, ap₂, sym, _∙_, subst}
-use Prim.Native.Nat.{ℕ, zero, suc, _+_, _-_, _*_, _<_, _≤_}
+use mathlib.Core.Path.{_≡_, refl, ap, sym, _∙_}
+use Prim.Native.Nat.{ℕ, zero, suc, _+_, _-_, _*_, _≤_}
 use native.Mathlib.Decide.{decLt}
 use native.Mathlib.Omega.{arith}
 use lib.IntN.{ℤ, pos, sucℤ, predℤ, natAbs, _+ℤ_, _-ℤ_}
 use lib.ListN.{length, take}
 use lib.Seq.{take-all}
-use lib.Signed.{_≤ℤ_, _<ℤ_}
-use Rattle.int_laws.proofs.LinearLaws.{zarith, bal+, bal-, le-or-lt}
+use lib.Signed.{_≤ℤ_}
+use Rattle.int_laws.proofs.LinearLaws.{zarith, bal+}
 use Rattle.int_laws.proofs.NextLaws.{bal-suc, bal-pred, above}
-use Rattle.lists.specs.Lists.{Below}
 use Rattle.lists.proofs.DistinctLaws.{getD-mem}
-use Rattle.grid.specs.declared.{Corner.Corner, Panel.Panel}
+use Rattle.grid.specs.declared.{Corner.Corner}
 use Rattle.grid.specs.Grid.{stepped, cornersFrom, cornerAt, endFrom}
 use Rattle.grid.proofs.StepLaws.{cornersFrom-at, length-cornersFrom, cornerAt-end}
-use Rattle.trace.specs.Verdict.{IsRoom}
-use Rattle.panels.specs.Box.{Box, boxOf}
+use Rattle.panels.specs.Box.{boxOf}
 use Rattle.area_laws.proofs.BoxLaws.{HoldsCorner, box-holds, box-met}
-use Rattle.orthogonal.specs.Blocks.{floorBy, blockOf, Holds}
-use Rattle.orthogonal_laws.proofs.BlockLaws.{floor-suc}
 
 -- ---- a closed walk is twice as long as its box is wide and high
 

@@ -2,10 +2,9 @@
 -- Assumes nothing.
 use mathlib.Core.Bool.{Bool, true, false}
 use mathlib.Core.List.{List, [], _∷_, List·Memᴰ, append-nil}
-use mathlib.Core.Logic.{_⊎_, inl, inr, ⊎-elim, _↔_}
-use mathlib.Core.Path.{_≡_, refl, ap, ap₂, sym, _∙_, subst}
-use Prim.Native.Nat.{ℕ, zero, suc, _+_, _-_, _<_, _≤_}
-use native.Mathlib.Decide.{decLt}
+use mathlib.Core.Logic.{_⊎_, ⊎-elim, _↔_}
+use mathlib.Core.Path.{_≡_, refl, ap, sym, _∙_, subst}
+use Prim.Native.Nat.{ℕ, zero, suc, _-_, _<_}
 use native.Mathlib.Omega.{arith}
 use lib.ListN.{length, getD}
 use Rattle.lists.specs.Lists.{Below}
@@ -13,18 +12,16 @@ use Rattle.grid.specs.declared.{Corner.Corner, Panel.Panel}
 use Rattle.grid.specs.Grid.{stepped, cornerAt, cornersFrom, back}
 use Rattle.grid.proofs.StepLaws.{cornerAt-end}
 use Rattle.trace.specs.Verdict.{IsRoom}
-use Rattle.hull.specs.Hull.{Begins}
 use Rattle.area_laws.proofs.OutlineLaws.{length-backward}
 use Rattle.panels.specs.Inside.{Inside, leftOf, rightOf, EachStep, InsideLeft}
 use Rattle.panels.specs.Outline.{startedAt, backward}
 use Rattle.room_laws.proofs.CornerLaws.{right-back}
 use Rattle.outline.specs.Outline.{walked, homeOf, OutlineIs}
-use Rattle.outline.specs.Computed.{outlineOf}
 use Rattle.outline_laws.proofs.BetweenLaws.{Along, outline-same}
 use Rattle.outline_laws.proofs.EdgeLaws.{edge-walked, walked-visited}
 use Rattle.outline_laws.proofs.HomeLaws.{home-least, home-visited, home-one}
 use Rattle.outline_laws.proofs.OutlineLaws.{outlineOf-is, outlineIs-one}
-use Rattle.outline_laws.proofs.RoundLaws.{EdgeAt, edge-at}
+use Rattle.outline_laws.proofs.RoundLaws.{edge-at}
 use Rattle.outline_room_laws.proofs.OutsideLaws.{inside-same}
 use Rattle.outline_room_laws.proofs.RingLaws.{backward-at}
 use Rattle.outline_room_laws.proofs.RoomLaws.{corner-next, room-outline}

@@ -2,28 +2,29 @@
 -- Assumes nothing.
 use mathlib.Core.Bool.{Bool, true, false}
 use mathlib.Core.Logic.{_⊎_, inl, inr, ⊎-elim, _↔_}
-use mathlib.Core.Path.{_≡_, refl, ap, sym, _∙_, subst}
+use mathlib.Core.Path.{_≡_, refl, ap, _∙_, subst}
 use Prim.Native.Nat.{ℕ, zero, suc, _+_, _-_, _≤_, _<_, min, max}
 use native.Mathlib.Decide.{decLt}
 use native.Mathlib.Omega.{arith}
-use lib.IntN.{ℤ, pos, sucℤ, natAbs, _+ℤ_, _-ℤ_}
+use lib.IntN.{ℤ, pos, natAbs, _+ℤ_, _-ℤ_}
 use lib.Signed.{_≤ℤ_, _<ℤ_, leZ}
 use Rattle.int_laws.proofs.LinearLaws.{zarith, bal+}
 use Rattle.int_laws.proofs.NextLaws.{bal-suc, le-false, above}
 use Rattle.int_laws.proofs.RangeLaws.{le-true}
 use Rattle.grid.specs.declared.{Corner.Corner, Panel.Panel}
-use Rattle.orthogonal.specs.Blocks.{block, Contains, Unbroken, OrthogonalHullIs}
+use Rattle.orthogonal.specs.Blocks.{block, Contains, Unbroken, Passing, OrthogonalHullIs}
 use Rattle.orthogonal_chain_laws.specs.Chain.{Piled, InPile, Bulges}
 use Rattle.orthogonal_laws.specs.Connected.{Connected, Holding, Quadrants}
 use Rattle.orthogonal_laws.specs.HullRows.{pickOver, leastOver, mostOver, hullLeft, hullRight, RowEnds}
 use Rattle.lists.proofs.BoolLaws.{is-false}
 use Rattle.orthogonal_laws.proofs.JoinedLaws.{Beside, Leaves, joined-leaves, quadrants-in, true-le}
 use Rattle.orthogonal_laws.proofs.JoinedLaws as joinedLaws
+use Rattle.orthogonal_laws.proofs.RowCases as cases
 
 -- what is picked of some numbers
 module _ (pick : ℕ → ℕ → ℕ) (f : ℕ → ℕ) where
   -- one of them
-  pub over-one : ((a b : ℕ) → (pick a b ≡ a) ⊎ (pick a b ≡ b)) → (m n : ℕ) → (q : ℕ) × (m ≤ q) × (q ≤ m + n) × (pickOver pick f m n ≡ f q)
+  over-one : ((a b : ℕ) → (pick a b ≡ a) ⊎ (pick a b ≡ b)) → (m n : ℕ) → (q : ℕ) × (m ≤ q) × (q ≤ m + n) × (pickOver pick f m n ≡ f q)
   over-one w m zero = (m, omega arith, omega arith, refl)
   over-one w m (suc n) =
       let k = over-one w (suc m) n in
@@ -52,17 +53,14 @@ max-one : (a b : ℕ) → (max a b ≡ a) ⊎ (max a b ≡ b)
 max-one a b = elim (decLt a b) [ yes l ↦ inr (omega arith) | no l ↦ inl (omega arith) ]
 
 module _ (f : ℕ → ℕ) where
-  pub least-below : (m n q : ℕ) → m ≤ q → q ≤ m + n → leastOver f m n ≤ f q
+  least-below : (m n q : ℕ) → m ≤ q → q ≤ m + n → leastOver f m n ≤ f q
   least-below = over-all min f (λ a b. a ≤ b) (λ a. omega arith) (λ a b c. (omega arith, λ h. omega arith))
 
-  pub most-above : (m n q : ℕ) → m ≤ q → q ≤ m + n → f q ≤ mostOver f m n
+  most-above : (m n q : ℕ) → m ≤ q → q ≤ m + n → f q ≤ mostOver f m n
   most-above = over-all max f (λ a b. b ≤ a) (λ a. omega arith) (λ a b c. (omega arith, λ h. omega arith))
 
   pub least-next : (m n : ℕ) → leastOver f m (suc n) ≡ min (leastOver f m n) (f (suc (m + n)))
   least-next = over-next min f (λ a b c. omega arith)
-
-  pub most-next : (m n : ℕ) → mostOver f m (suc n) ≡ max (mostOver f m n) (f (suc (m + n)))
-  most-next = over-next max f (λ a b c. omega arith)
 
   -- more rows, less or more
   least-wider : (m n i j : ℕ) → i ≤ m → m + n ≤ i + j → leastOver f i j ≤ leastOver f m n
@@ -218,7 +216,7 @@ module _ (B : Panel → Type 0) (joined : Connected B) (o : Corner) (l r : ℕ �
 
   -- the rows of the hull are its blocks
   module _ (H : Panel → Bool) (rows : (p : Panel) → (H p ≡ true) ↔ InPile o (hullLeft l t) (hullRight r t) t p) where
-    rows-contain : Contains B H
+    rows-contain : Contains B (Passing H)
     rows-contain p b =
         let w = ends .within p b in
         let x = left-out l t (w .row) (w .among) in
@@ -232,7 +230,7 @@ module _ (B : Panel → Type 0) (joined : Connected B) (o : Corner) (l r : ℕ �
           east = omega (zarith, w .east, y, bal+ (o .0) (pos (r (w .row))), bal+ (o .0) (pos (hullRight r t (w .row))));
         })
 
-    rows-unbroken : Unbroken H
+    rows-unbroken : Unbroken (Passing H)
     rows-unbroken =
         record {
           row = λ a c e b h k x y.
@@ -262,4 +260,4 @@ module _ (B : Panel → Type 0) (joined : Connected B) (o : Corner) (l r : ℕ �
             })
 
     pub rows-hull : OrthogonalHullIs B H
-    rows-hull = record { contains = rows-contain; unbroken = rows-unbroken; smallest = λ K c u p h. quadrants-in B joined p (rows-quadrants p (rows p .0 h)) K c u }
+    rows-hull = record { contains = rows-contain; unbroken = rows-unbroken; smallest = λ K c u p h. quadrants-in B joined p (rows-quadrants p (rows p .0 h)) (Passing K) c u }

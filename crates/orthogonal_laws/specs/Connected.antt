@@ -4,13 +4,13 @@ use Rattle.grid.specs.{declared.Corner.Corner, declared.Panel.Panel}
 use Rattle.panels.specs.Inside.{leftOf, rightOf}
 
 -- p itself, and every panel of B that is reached from it across edges, from panel to panel of B
-pub data Joined (B : Panel → Type 0) (p : Panel) : Panel → Type 0 where
-  here : Joined B p p
-  across : (d : ℕ) (q : Corner) → Joined B p (rightOf d q) → B (leftOf d q) → Joined B p (leftOf d q)
+pub data JoinedIn (B : Panel → Type 0) (p : Panel) : Panel → Type 0 where
+  here : JoinedIn B p p
+  across : (d : ℕ) (q : Corner) → JoinedIn B p (rightOf d q) → B (leftOf d q) → JoinedIn B p (leftOf d q)
 
 -- every panel of B is reached from every other
 abbrev pub Connected : (Panel → Type 0) → Type 0
-Connected B = (p q : Panel) → B p → B q → Joined B p q
+Connected B = (p q : Panel) → B p → B q → JoinedIn B p q
 
 -- B has a panel that is related to p by x, and by y
 pub record Holding (B : Panel → Type 0) (across along : Panel → Type 0) : Type 0 where

@@ -25,7 +25,7 @@ use Rattle.panels.specs.Inside.{Inside, leftOf, rightOf}
 use Rattle.room_laws.proofs.RoomLaws.{room-counts}
 use Rattle.hull_laws.specs.Columns.{blank, sink, sinks}
 use Rattle.room_thread_laws.specs.Threads.{Stays}
-use Rattle.orthogonal.specs.Blocks.{floorBy, block, blockOf, Holds}
+use Rattle.orthogonal.specs.Blocks.{floorBy, block, blockOf, HoldsInside}
 use Rattle.orthogonal_chain_laws.specs.Chain.{InPile}
 use Rattle.orthogonal_laws.specs.HullRows.{RowEnds}
 use Rattle.orthogonal_laws.proofs.InsideLaws.{first-step}
@@ -214,7 +214,7 @@ module _ (c : Corner) (ds : List ℕ) (room : IsRoom c ds) (digits : Below 4 ds)
       }
 
   -- the first block of a row with an edge holds a panel inside
-  first-holds : (q : ℕ) → q < rows → (getD lo q 0 ≡ blank → ⊥) → Holds c ds g (block (bx +ℤ pos (getD lo q 0 / g)) (by +ℤ pos q))
+  first-holds : (q : ℕ) → q < rows → (getD lo q 0 ≡ blank → ⊥) → HoldsInside c ds g (block (bx +ℤ pos (getD lo q 0 / g)) (by +ℤ pos q))
   first-holds q h n = so (edge-sides c ds room (e .0) (e .1))
     where
       t : (v : ℕ × ℕ) × List·Memᴰ v ends × ((v .1 + up) / g ≡ q) × (getD lo q 0 ≡ v .0 + right)
@@ -223,7 +223,7 @@ module _ (c : Corner) (ds : List ℕ) (room : IsRoom c ds) (digits : Below 4 ds)
       e : (e : Edge) × List·Memᴰ e (edgesFrom c ds) × EndOf ox oy e (t .0) × (0 < t .0 .0) × (t .0 .0 < 2 * m) × (t .0 .1 < 2 * m)
       e = edge-of (t .0) (t .1)
 
-      so : Inside c ds (eastOfEdge (e .0)) ⊎ Inside c ds (westOfEdge (e .0)) → Holds c ds g (block (bx +ℤ pos (getD lo q 0 / g)) (by +ℤ pos q))
+      so : Inside c ds (eastOfEdge (e .0)) ⊎ Inside c ds (westOfEdge (e .0)) → HoldsInside c ds g (block (bx +ℤ pos (getD lo q 0 / g)) (by +ℤ pos q))
       so (inl i) =
           record {
             panel = eastOfEdge (e .0);
@@ -239,7 +239,7 @@ module _ (c : Corner) (ds : List ℕ) (room : IsRoom c ds) (digits : Below 4 ds)
           absurd (omega (arith, k, l, t .3))
 
   -- and so does the last
-  last-holds : (q x : ℕ) → q < rows → (getD lo q 0 ≡ blank → ⊥) → span - getD hi q 0 / g ≡ suc x → Holds c ds g (block (bx +ℤ pos x) (by +ℤ pos q))
+  last-holds : (q x : ℕ) → q < rows → (getD lo q 0 ≡ blank → ⊥) → span - getD hi q 0 / g ≡ suc x → HoldsInside c ds g (block (bx +ℤ pos x) (by +ℤ pos q))
   last-holds q x h n s = so (edge-sides c ds room (e .0) (e .1))
     where
       t : (v : ℕ × ℕ) × List·Memᴰ v ends × ((v .1 + up) / g ≡ q) × (getD hi q 0 ≡ span * g - (v .0 + right))
@@ -248,7 +248,7 @@ module _ (c : Corner) (ds : List ℕ) (room : IsRoom c ds) (digits : Below 4 ds)
       e : (e : Edge) × List·Memᴰ e (edgesFrom c ds) × EndOf ox oy e (t .0) × (0 < t .0 .0) × (t .0 .0 < 2 * m) × (t .0 .1 < 2 * m)
       e = edge-of (t .0) (t .1)
 
-      so : Inside c ds (eastOfEdge (e .0)) ⊎ Inside c ds (westOfEdge (e .0)) → Holds c ds g (block (bx +ℤ pos x) (by +ℤ pos q))
+      so : Inside c ds (eastOfEdge (e .0)) ⊎ Inside c ds (westOfEdge (e .0)) → HoldsInside c ds g (block (bx +ℤ pos x) (by +ℤ pos q))
       so (inr i) =
           let v = t .0 in
           let whole = quotients-whole g (ruled .some) (v .0 + right) span (omega (arith, e .3)) (omega (arith, e .4, ruled .across)) in
@@ -281,15 +281,15 @@ module _ (c : Corner) (ds : List ℕ) (room : IsRoom c ds) (digits : Below 4 ds)
       so (yes f) = na (ap (λ (n : ℕ). getD lo n 0) f ∙ e)
       so (no f) = over (w .edge)
         where
-          fa : Holds c ds g (block (bx +ℤ pos (getD lo a 0 / g)) (by +ℤ pos a))
+          fa : HoldsInside c ds g (block (bx +ℤ pos (getD lo a 0 / g)) (by +ℤ pos a))
           fa = first-holds a ha na
 
-          fb : Holds c ds g (block (bx +ℤ pos (getD lo b 0 / g)) (by +ℤ pos b))
+          fb : HoldsInside c ds g (block (bx +ℤ pos (getD lo b 0 / g)) (by +ℤ pos b))
           fb = first-holds b hb nb
 
-          w : Leaves (Holds c ds g) up-to
+          w : Leaves (HoldsInside c ds g) up-to
           w =
-              joined-leaves (Holds c ds g) (block (bx +ℤ pos (getD lo a 0 / g)) (by +ℤ pos a)) fa up-to
+              joined-leaves (HoldsInside c ds g) (block (bx +ℤ pos (getD lo a 0 / g)) (by +ℤ pos a)) fa up-to
               (true-le (by +ℤ pos a) (by +ℤ pos (q - 1)) (omega (zarith, la, f, bal+ by (pos a), bal+ by (pos (q - 1)))))
               (block (bx +ℤ pos (getD lo b 0 / g)) (by +ℤ pos b))
               (blocks-connected g (ruled .some) c ds room digits _ _ fa fb)
@@ -339,7 +339,7 @@ module _ (c : Corner) (ds : List ℕ) (room : IsRoom c ds) (digits : Below 4 ds)
         between south (north - 1) q (omega (arith, s, after .within, size)) (omega (arith, s, after .within, size)) h (omega arith) (before .here (omega (arith, s, after .within))) (after .here (omega (arith, s)))
 
     pub row-ends : (a b : List ℕ) → ((q : ℕ) → q < north - south → getD a q 0 ≡ getD lo (south + q) 0) → ((q : ℕ) → q < north - south → getD b q 0 ≡ getD hi (south + q) 0)
-        → RowEnds (Holds c ds g) (corner bx (by +ℤ pos south)) (λ q. getD a q 0 / g) (λ q. span - getD b q 0 / g) (north - south - 1)
+        → RowEnds (HoldsInside c ds g) (corner bx (by +ℤ pos south)) (λ q. getD a q 0 / g) (λ q. span - getD b q 0 / g) (north - south - 1)
     row-ends a b ea eb = record { wide = wide; within = within; first = first; last = last }
       where
         s : south < north
@@ -351,17 +351,17 @@ module _ (c : Corner) (ds : List ℕ) (room : IsRoom c ds) (digits : Below 4 ds)
         in-it : (q : ℕ) → q ≤ north - south - 1 → south + q < rows
         in-it q h = omega (arith, s, after .within, size)
 
-        first : (q : ℕ) → q ≤ north - south - 1 → Holds c ds g (block (bx +ℤ pos (getD a q 0 / g)) ((by +ℤ pos south) +ℤ pos q))
+        first : (q : ℕ) → q ≤ north - south - 1 → HoldsInside c ds g (block (bx +ℤ pos (getD a q 0 / g)) ((by +ℤ pos south) +ℤ pos q))
         first q h =
-            subst (λ (z : ℤ). Holds c ds g (block (bx +ℤ pos (getD a q 0 / g)) z)) (up-by q)
-            (subst (λ (n : ℕ). Holds c ds g (block (bx +ℤ pos (n / g)) (by +ℤ pos (south + q)))) (sym (ea q (omega (arith, s)))) (first-holds (south + q) (in-it q h) (used (south + q) (omega arith) (omega (arith, s)))))
+            subst (λ (z : ℤ). HoldsInside c ds g (block (bx +ℤ pos (getD a q 0 / g)) z)) (up-by q)
+            (subst (λ (n : ℕ). HoldsInside c ds g (block (bx +ℤ pos (n / g)) (by +ℤ pos (south + q)))) (sym (ea q (omega (arith, s)))) (first-holds (south + q) (in-it q h) (used (south + q) (omega arith) (omega (arith, s)))))
 
-        last : (q x : ℕ) → q ≤ north - south - 1 → span - getD b q 0 / g ≡ suc x → Holds c ds g (block (bx +ℤ pos x) ((by +ℤ pos south) +ℤ pos q))
+        last : (q x : ℕ) → q ≤ north - south - 1 → span - getD b q 0 / g ≡ suc x → HoldsInside c ds g (block (bx +ℤ pos x) ((by +ℤ pos south) +ℤ pos q))
         last q x h e =
-            subst (λ (z : ℤ). Holds c ds g (block (bx +ℤ pos x) z)) (up-by q)
+            subst (λ (z : ℤ). HoldsInside c ds g (block (bx +ℤ pos x) z)) (up-by q)
             (last-holds (south + q) x (in-it q h) (used (south + q) (omega arith) (omega (arith, s))) (ap (λ (n : ℕ). span - n / g) (sym (eb q (omega (arith, s)))) ∙ e))
 
-        within : (p : Panel) → Holds c ds g p → InPile (corner bx (by +ℤ pos south)) (λ q. getD a q 0 / g) (λ q. span - getD b q 0 / g) (north - south - 1) p
+        within : (p : Panel) → HoldsInside c ds g p → InPile (corner bx (by +ℤ pos south)) (λ q. getD a q 0 / g) (λ q. span - getD b q 0 / g) (north - south - 1) p
         within p w =
             let k = placed (w .panel) (w .inside) in
             let r = in-rows (k .row) (k .within) (k .some) in

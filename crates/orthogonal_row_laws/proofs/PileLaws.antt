@@ -11,7 +11,7 @@ use Rattle.lists.specs.Lists.{Below}
 use Rattle.grid.specs.declared.Corner.{Corner}
 use Rattle.trace.specs.Verdict.{IsRoom}
 use Rattle.panels.specs.Inside.{panelsInside}
-use Rattle.orthogonal.specs.Blocks.{Holds}
+use Rattle.orthogonal.specs.Blocks.{HoldsInside}
 use Rattle.orthogonal.specs.Call.{OutlinesHull}
 use Rattle.orthogonal_chain_laws.specs.Chain.{Piled, Bulges, cornerBy, blocksFrom, sideways, leftSide, rightSide, chainFromRow, homeRow, chainFromHome}
 use Rattle.orthogonal_chain_laws.proofs.RoomLaws.{chain-panels}
@@ -61,7 +61,7 @@ east-over span f m (suc n) = omega (arith, east-over span f (suc m) n)
 east-right : (span : ℕ) (f : ℕ → ℕ) (t q : ℕ) → hullRight (λ k. span - f k) t q ≡ span - hullLeft f t q
 east-right span f t q = omega (arith, east-over span f 0 q, east-over span f q (t - q))
 
-module _ (c : Corner) (ds : List ℕ) (room : IsRoom c ds) (digits : Below 4 ds) (g : ℕ) (some : 0 < g) (o : Corner) (l f : ℕ → ℕ) (span t : ℕ) (ends : RowEnds (Holds c ds g) o l (λ q. span - f q) t) (a b : List ℕ) (ea : (q : ℕ) → q ≤ t → getD a q 0 ≡ hullLeft l t q) (eb : (q : ℕ) → q ≤ t → getD b q 0 ≡ hullLeft f t q) where
+module _ (c : Corner) (ds : List ℕ) (room : IsRoom c ds) (digits : Below 4 ds) (g : ℕ) (some : 0 < g) (o : Corner) (l f : ℕ → ℕ) (span t : ℕ) (ends : RowEnds (HoldsInside c ds g) o l (λ q. span - f q) t) (a b : List ℕ) (ea : (q : ℕ) → q ≤ t → getD a q 0 ≡ hullLeft l t q) (eb : (q : ℕ) → q ≤ t → getD b q 0 ≡ hullLeft f t q) where
   abbrev L : ℕ → ℕ
   L q = getD a q 0
 
@@ -81,7 +81,7 @@ module _ (c : Corner) (ds : List ℕ) (room : IsRoom c ds) (digits : Below 4 ds)
   er q h = ap (λ (n : ℕ). span - n) (eb q h) ∙ sym (east-right span f t q)
 
   piled : Piled L′ R′ t
-  piled = hull-piled (Holds c ds g) (blocks-connected g some c ds room digits) o l (λ q. span - f q) t ends
+  piled = hull-piled (HoldsInside c ds g) (blocks-connected g some c ds room digits) o l (λ q. span - f q) t ends
 
   chains : chainFromHome L R t ≡ chainFromHome L′ R′ t
   chains = chain-same L L′ R R′ t ea er
