@@ -12,6 +12,8 @@ use Prim.Native.Nat.{_*_}
 use Rattle.orthogonal_call.proofs.CallLaws.{lift-casts, lift-is}
 use Rattle.orthogonal_call.proofs.lifted.Statement.{statement}
 use Rattle.orthogonal_call.proofs.lifted.Tie as tie
+use Rattle.orthogonal_call.proofs.lifted.Reads as reads
+use Rattle.orthogonal_call.proofs.lifted.Lts as lts
 
 middle-is : (c : lts.Start reads.Pre reads.Post) → toZ w32 (c .args .m) ≡ pos (c .args .m)
 middle-is c = toZ-pos w32 (omega arith)

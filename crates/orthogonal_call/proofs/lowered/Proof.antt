@@ -10,6 +10,8 @@ use mir.Facts.{toZ-ofZ, toZ-pos}
 use Rattle.int_laws.proofs.RangeLaws.{abs-, sfits-abs}
 use Rattle.orthogonal_call.proofs.lowered.Statement.{statement}
 use Rattle.orthogonal_call.proofs.lowered.Tie as tie
+use Rattle.orthogonal_call.proofs.lowered.Reads as reads
+use Rattle.orthogonal_call.proofs.lowered.Lts as lts
 
 number : (c : lts.Start reads.Pre reads.Post) → toZ w32 (c .args .n) ≡ pos (c .args .n)
 number c = toZ-pos w32 (omega (arith, c .pre))
