@@ -15,8 +15,8 @@
  * the input; a refusal without a place has place 0. Signed values stand in the 32-bit words of an answer in two's
  * complement.
  *
- * First comes what all calls share: version, limits, lengths of buffers, stack, refusals and verdicts. Then comes each
- * call, after the words of its answer:
+ * These are the calls. In undrwyth.h each stands after the words of its answer, and before them all stands what they share:
+ * version, limits, lengths of buffers, stack, refusals and verdicts.
  *
  *   undrwyth_walk               judges a walk, and leaves its linked quadtree in a table
  *   undrwyth_walk_two           judges the walks of two parties, in one table
