@@ -4,11 +4,11 @@ use answer::Judged;
 use answer::Limits;
 use answer::Refusal;
 use answer::start_fits;
+use columns::Columns;
 use grid::Corner;
-use hull_columns::Columns;
 use order::wide;
+use orthogonal::Enclosed;
 use orthogonal::Grid;
-use orthogonal::Hulled;
 use orthogonal::Orthogonal;
 use orthogonal_draw::count;
 use orthogonal_draw::draw;
@@ -25,7 +25,8 @@ ghost use lib.ListN.{length, getD};
 ghost use Rattle.answer.specs.Limits.{mostStart, mostSteps};
 ghost use Rattle.answer.specs.declared.Judged.the-variants.{Good};
 ghost use Rattle.grid.specs.declared.Corner.{Corner};
-ghost use Rattle.hull_laws.specs.Columns.{blank, narrowSize, widerSize};
+ghost use Rattle.hull_laws.specs.Lowest.{blank};
+ghost use Rattle.column_laws.specs.Columns.{narrowSize, widerSize};
 ghost use Rattle.orthogonal.specs.Call.{mostGrid, gridFits, onGridJudged, OrthogonalCall};
 ghost use Rattle.orthogonal_call.specs.Store.{shift, homeIn, Edgeless, Small, Outlinable, Shaped, Laned, LanesReady};
 
@@ -77,7 +78,7 @@ fn outline_rows(
     draw(lo, hi, span, home, out);
     let start = Corner(lowered(x + wide(lo[home])), lowered(y + home));
     let blocks = count(lo, hi, span);
-    Orthogonal::Outlined(Hulled {
+    Orthogonal::Outlined(Enclosed {
         steps: steps,
         start: start,
         blocks: blocks,
