@@ -10,6 +10,7 @@ use lib.IntN.{pos, natAbs, _-ℤ_}
 use lib.ListN.{length, drop}
 use Rattle.lists.specs.Lists.{Below}
 use Rattle.answer.specs.declared.{Judged.the-variants.Good, Refusal.Refusal}
+use Rattle.answer.specs.Limits.{mostSteps}
 use Rattle.grid.specs.declared.{Corner.Corner, Panel.Panel}
 use Rattle.trace.specs.Verdict.{IsRoom, areaOf}
 use Rattle.panels.specs.Box.{Box}
@@ -139,3 +140,7 @@ module _ (s : Corner) (ds : List ℕ) (g : ℕ) (before : List ℕ) where
     -- the outline, and "bytes after the chain are unchanged"
     pub orthogonal-written : (h : Enclosed) → OrthogonalCall s ds g before (Orthogonal.Outlined h) after → (start : Corner) × (steps : List ℕ) × OutlinesHull s ds g start steps × (h ≡ enclosedOf start steps) × (after ≡ steps ++ drop (length steps) before)
     orthogonal-written = givenLaws.orthogonal-written s ds g before
+
+    -- 16,384 bytes are enough, and there are at most 67,108,864 blocks
+    pub orthogonal-most : (h : Enclosed) → OrthogonalCall s ds g before (Orthogonal.Outlined h) after → (h .steps ≤ mostSteps) × (4 * h .blocks ≤ mostSteps * mostSteps)
+    orthogonal-most = givenLaws.orthogonal-most s ds g before
