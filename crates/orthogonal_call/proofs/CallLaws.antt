@@ -32,9 +32,9 @@ use Rattle.hull_laws.proofs.SinkLaws.{length-sinks}
 use Rattle.hull_laws.proofs.SurveyLaws.{good-digits, good-short}
 use Rattle.room_thread_laws.specs.Threads.{Stays}
 use Rattle.room_thread_laws.proofs.RoomLaws.{closed-stays}
-use Rattle.orthogonal.specs.declared.{Hulled.Hulled, Orthogonal.Orthogonal}
-use Rattle.orthogonal.specs.Blocks.{Holds}
-use Rattle.orthogonal.specs.Call.{mostGrid, gridFits, onGridJudged, OutlinesHull, OrthogonalCall, hulledOf}
+use Rattle.orthogonal.specs.declared.{Enclosed.Enclosed, Orthogonal.Orthogonal}
+use Rattle.orthogonal.specs.Blocks.{HoldsInside}
+use Rattle.orthogonal.specs.Call.{mostGrid, gridFits, onGridJudged, OutlinesHull, OrthogonalCall, enclosedOf}
 use Rattle.orthogonal_chain_laws.specs.Chain.{cornerBy, homeRow, blocksFrom, chainFromHome}
 use Rattle.orthogonal_chain_laws.proofs.HomeLaws.{homeRow-is}
 use Rattle.orthogonal_laws.specs.HullRows.{hullLeft, RowEnds}
@@ -127,7 +127,7 @@ module _ {s : Corner} {ds : List ℕ} {g span x y : ℕ} {lo hi : List ℕ} (d :
 
   pub answer-outlined : (before after : List ℕ) → steps ≤ length before → after ≡ sets before 0 (chainIn span lo hi) → (cx cy : ℤ) (e n : ℕ) → e ≡ getD lo home 0 → cx ≡ pos (x + e) -ℤ pos shift → cy ≡ pos (y + home) -ℤ pos shift → n ≡ blocksFrom (leftIn lo) (rightIn span hi) 0 (length lo) → OrthogonalCall s ds g before (Orthogonal.Outlined (record { steps = steps; start = corner cx cy; blocks = n })) after
   answer-outlined before after h ea cx cy e n ee ex ey en =
-      subst₂ (λ (r : Hulled) (b : List ℕ). OrthogonalCall s ds g before (Orthogonal.Outlined r) b) same (sym written) (outlined-call s ds g before (startIn x y lo) (chainIn span lo hi) (d .good) (d .outline) (omega (arith, steps-are)))
+      subst₂ (λ (r : Enclosed) (b : List ℕ). OrthogonalCall s ds g before (Orthogonal.Outlined r) b) same (sym written) (outlined-call s ds g before (startIn x y lo) (chainIn span lo hi) (d .good) (d .outline) (omega (arith, steps-are)))
     where
       written : after ≡ chainIn span lo hi ++ drop (length (chainIn span lo hi)) before
       written = ea ∙ sets-eq (chainIn span lo hi) before 0 (omega (arith, steps-are)) ∙ ap (λ (k : ℕ). chainIn span lo hi ++ drop k before) none
@@ -143,7 +143,7 @@ module _ {s : Corner} {ds : List ℕ} {g span x y : ℕ} {lo hi : List ℕ} (d :
       south : (pos y -ℤ pos shift) +ℤ pos (homeIn lo) ≡ cy
       south = omega (zarith, ey, eh, bal- (pos y) (pos shift), bal+ (pos y -ℤ pos shift) (pos (homeIn lo)), bal- (pos (y + home)) (pos shift))
 
-      same : hulledOf (startIn x y lo) (chainIn span lo hi) ≡ record { steps = steps; start = corner cx cy; blocks = n }
+      same : enclosedOf (startIn x y lo) (chainIn span lo hi) ≡ record { steps = steps; start = corner cx cy; blocks = n }
       same = λ i. record { steps = sym steps-are i; start = ap₂ corner west south i; blocks = (d .blocks ∙ sym en) i }
 
 -- ---- from the ends of rows of blocks to those of the hull
@@ -184,8 +184,8 @@ shaped-outlinable s ds g span x y lo hi lo′ hi′ sm some sh nl nh fl fh =
     whole : suc (length lo′ - 1) ≡ length lo′
     whole = omega (arith, nl, sm .some)
 
-    ends : RowEnds (Holds s ds g) (shifted x y) l (λ q. span - f q) t
-    ends = subst (RowEnds (Holds s ds g) (shifted x y) (λ k. getD lo k 0 / g) (λ q. span - getD hi q 0 / g)) here (sh .ends)
+    ends : RowEnds (HoldsInside s ds g) (shifted x y) l (λ q. span - f q) t
+    ends = subst (RowEnds (HoldsInside s ds g) (shifted x y) (λ k. getD lo k 0 / g) (λ q. span - getD hi q 0 / g)) here (sh .ends)
 
     ea : (q : ℕ) → q ≤ t → getD lo′ q 0 ≡ hullLeft l t q
     ea q h = fl q (omega (arith, nl, sm .some)) ∙ ap (λ (n : ℕ). hullLeft (λ k. getD lo k 0 / g) n q) here
@@ -249,7 +249,7 @@ module _ {s : Corner} {ds : List ℕ} {g m span x y : ℕ} {lo hi : List ℕ} (w
   laned-shaped e =
       record {
         good = w .good;
-        ends = subst₂ (λ (o : Corner) (t : ℕ). RowEnds (Holds s ds g) o (λ q. getD (part lo) q 0 / g) (λ q. span - getD (part hi) q 0 / g) t) origin top
+        ends = subst₂ (λ (o : Corner) (t : ℕ). RowEnds (HoldsInside s ds g) o (λ q. getD (part lo) q 0 / g) (λ q. span - getD (part hi) q 0 / g) t) origin top
             (row-ends s ds (a .room) (a .digits) m g (x % g) (y % g) span span (w .ruled) (w .stays) bx by ax ay south north eb ef size (part lo) (part hi) (λ q h. part-at lo q h ∙ ap (λ (l : List ℕ). getD l (south + q) 0) (w .low)) (λ q h. part-at hi q h ∙ ap (λ (l : List ℕ). getD l (south + q) 0) (w .high)));
       }
     where

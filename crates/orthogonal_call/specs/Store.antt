@@ -10,7 +10,7 @@ use Rattle.answer.specs.declared.Judged.the-variants.{Good}
 use Rattle.panels.specs.Inside.{panelsInside}
 use Rattle.hull_laws.specs.Columns.{blank, sinks}
 use Rattle.room_thread_laws.specs.Threads.{Stays}
-use Rattle.orthogonal.specs.Blocks.{Holds}
+use Rattle.orthogonal.specs.Blocks.{HoldsInside}
 use Rattle.orthogonal.specs.Call.{onGridJudged, OutlinesHull}
 use Rattle.orthogonal_chain_laws.specs.Chain.{cornerBy, homeRow, blocksFrom, chainFromHome}
 use Rattle.orthogonal_laws.specs.HullRows.{RowEnds}
@@ -56,7 +56,7 @@ pub record Outlinable (s : Corner) (ds : List ℕ) (g span x y : ℕ) (lo hi : L
 -- the lists have the columns of the ends of the rows of the room's blocks
 pub record Shaped (s : Corner) (ds : List ℕ) (g span x y : ℕ) (lo hi : List ℕ) : Type 0 where
   pub good : onGridJudged s ds g ≡ Good
-  pub ends : RowEnds (Holds s ds g) (shifted x y) (λ q. getD lo q 0 / g) (λ q. span - getD hi q 0 / g) (length lo - 1)
+  pub ends : RowEnds (HoldsInside s ds g) (shifted x y) (λ q. getD lo q 0 / g) (λ q. span - getD hi q 0 / g) (length lo - 1)
 
 -- rows that have no edge yet
 abbrev pub Edgeless : List ℕ → Type 0

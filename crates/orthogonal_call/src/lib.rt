@@ -7,8 +7,8 @@ use answer::start_fits;
 use grid::Corner;
 use hull_columns::Columns;
 use order::wide;
+use orthogonal::Enclosed;
 use orthogonal::Grid;
-use orthogonal::Hulled;
 use orthogonal::Orthogonal;
 use orthogonal_draw::count;
 use orthogonal_draw::draw;
@@ -77,7 +77,7 @@ fn outline_rows(
     draw(lo, hi, span, home, out);
     let start = Corner(lowered(x + wide(lo[home])), lowered(y + home));
     let blocks = count(lo, hi, span);
-    Orthogonal::Outlined(Hulled {
+    Orthogonal::Outlined(Enclosed {
         steps: steps,
         start: start,
         blocks: blocks,
