@@ -36,20 +36,20 @@ sub-if4 c =
 -- a narrow walk fits the narrow store
 list-narrow-requires : tie.Need-list-narrow-requires
 list-narrow-requires c κs =
-    let s = c .before .before .before .before .before in
-    let e = c .before .before .before .survey in
+    let s = c .before .before .before .before .before .before in
+    let e = c .before .before .before .before .survey in
     (walked (s .args .chain .now) (e .result) (s .pre .0) (e .ensures), s .pre .1, search needs)
 
 list-wider-requires : tie.Need-list-wider-requires
 list-wider-requires c κs =
-    let s = c .before .before .before .before .before .before in
-    let e = c .before .before .before .before .survey in
+    let s = c .before .before .before .before .before .before .before in
+    let e = c .before .before .before .before .before .survey in
     (walked (s .args .chain .now) (e .result) (s .pre .0) (e .ensures), s .pre .1, search needs)
 
 list-widest-requires : tie.Need-list-widest-requires
 list-widest-requires c κs =
-    let s = c .before .before .before .before .before .before in
-    let e = c .before .before .before .before .survey in
+    let s = c .before .before .before .before .before .before .before in
+    let e = c .before .before .before .before .before .survey in
     (walked (s .args .chain .now) (e .result) (s .pre .0) (e .ensures), s .pre .1)
 
 pub list-from-spec : {M : Type 1} → statement M
