@@ -11,7 +11,9 @@ use crate::{SIZES, calls, loaded, ns, page, polygons_of, programs, several};
 /// The shapes of walks, of operations and of rooms.
 const WALKS: [&str; 4] = ["spiral", "comb", "room", "grown"];
 const OPERATIONS: [&str; 5] = ["spiral", "comb", "room", "grown", "taken-back"];
-const ROOMS: [&str; 4] = ["closed-spiral", "closed-comb", "room", "grown"];
+const ROOMS: [&str; 5] = ["closed-spiral", "closed-comb", "room", "grown", "oval"];
+/// The walks of outlines: the boxes of long ovals and stairs fit no map.
+const OUTLINED: [&str; 6] = ["spiral", "comb", "room", "grown", "oval", "stairs"];
 const CONVEX: [&str; 4] = ["oval", "closed-spiral", "room", "grown"];
 
 /// Inputs of this shape, of n operations each.
@@ -24,6 +26,7 @@ fn shaped(shape: &str, n: usize) -> Vec<Vec<u8>> {
         "room" => inputs::room(n, random),
         "grown" => inputs::grown(n, random),
         "oval" => inputs::oval(n, n / 4),
+        "stairs" => inputs::stairs(n),
         "taken-back" => inputs::hesitant(n, 45, 0, random),
         "panel" => vec![0, 1, 2, 3],
         _ => unreachable!("no such shape: {shape}"),
@@ -163,7 +166,9 @@ pub fn print(before: &Path, after: &Path) {
     let b = &builds;
     print_call("Walk, ns an operation", &OPERATIONS, |i| b.walk(i));
     print_call("Hull, ns a step", &WALKS, |i| b.hull(i));
-    print_call("Outline, ns a step of the walk", &WALKS, |i| b.outline(i));
+    print_call("Outline, ns a step of the walk", &OUTLINED, |i| {
+        b.outline(i)
+    });
     print_call("Polygon, ns a step", &ROOMS, |i| b.polygon(i));
     print_call("Rows, ns a step", &ROOMS, |i| b.rows(i));
     print_call("Overlay, ns a step of one of the two rooms", &ROOMS, |i| {
