@@ -18,11 +18,11 @@ use Rattle.int_laws.proofs.LinearLaws.{zarith, bal+, bal-}
 use Rattle.int_laws.proofs.RangeLaws.{abs-nat}
 use Rattle.lists.specs.Lists.{Below}
 use Rattle.lists.proofs.BelowLaws.{below-all}
+use Rattle.lists.proofs.BoolLaws.{not-true, not-false}
 use Rattle.grid.specs.declared.Corner.{Corner}
 use Rattle.grid.specs.Grid.{corner}
 use Rattle.answer.specs.declared.{Judged.Judged, Judged.the-variants.Good, Judged.the-variants.Refused, Refusal.the-variants.TooMany, Refusal.the-variants.StartRange, Refusal.the-variants.GridSize, Refusal.the-variants.ChainRoom}
 use Rattle.answer.specs.{Limits.mostInput, Limits.mostStart, Limits.mostSteps, Limits.startFits, Limits.Near, Refusal.when, Refusal.firstOf}
-use Rattle.answer.proofs.RefusalLaws.{orElse-right}
 use Rattle.trace.specs.Verdict.{IsRoom}
 use Rattle.room.specs.Room.{asRoomJudged}
 use Rattle.room.proofs.RoomLaws.{good-room}
@@ -39,7 +39,7 @@ use Rattle.orthogonal.specs.Call.{mostGrid, gridFits, onGridJudged, OutlinesHul
 use Rattle.orthogonal_chain_laws.specs.Chain.{cornerBy, homeRow, blocksFrom, chainFromHome}
 use Rattle.orthogonal_chain_laws.proofs.HomeLaws.{homeRow-is}
 use Rattle.orthogonal_laws.specs.HullRows.{hullLeft, RowEnds}
-use Rattle.orthogonal_laws.proofs.CallLaws.{onGrid-split, onGrid-good, grid-within, short-call, outlined-call}
+use Rattle.orthogonal_laws.proofs.CallLaws.{onGrid-many, onGrid-range, onGrid-size, onGrid-room, onGrid-good, grid-within, short-call, outlined-call}
 use Rattle.orthogonal_row_laws.specs.Lanes.{lanesFrom, fromWest, fromEast, Ruled, EmptyBefore, EmptyFrom, Aligned}
 use Rattle.orthogonal_row_laws.proofs.FloorLaws.{aligned}
 use Rattle.orthogonal_row_laws.proofs.EndsLaws.{some-rows, row-ends}
@@ -66,25 +66,19 @@ accepted s ds g e =
     record { room = r .room; digits = below-all 4 ds (good-digits 0 ds (r .steps)); few = omega (arith, good-short 0 ds (omega arith) (r .steps)); near = r .near; some = w .0; most = w .1 }
 
 module _ (s : Corner) (ds : List ℕ) (g : ℕ) where
-  judged-by : (a b c : Bool) → ltb mostInput (length ds) ≡ a → not (startFits s) ≡ b → not (gridFits g) ≡ c → onGridJudged s ds g ≡ firstOf (when a TooMany ∷ when b StartRange ∷ when c GridSize ∷ asRoomJudged s ds ∷ [])
-  judged-by a b c ea eb ec =
-      onGrid-split s ds g
-      ∙ ap (λ (x : Bool). firstOf (when x TooMany ∷ when (not (startFits s)) StartRange ∷ when (not (gridFits g)) GridSize ∷ asRoomJudged s ds ∷ [])) ea
-      ∙ ap₂ (λ (x y : Bool). firstOf (when a TooMany ∷ when x StartRange ∷ when y GridSize ∷ asRoomJudged s ds ∷ [])) eb ec
-
   pub told-many : mostInput < length ds → Refused TooMany ≡ onGridJudged s ds g
-  told-many h = sym (judged-by true (not (startFits s)) (not (gridFits g)) (lt-ltb mostInput (length ds) h) refl refl)
+  told-many h = sym (onGrid-many s ds g h)
 
   module _ (h : length ds ≤ mostInput) (b : Bool) (eb : b ≡ startFits s) where
     pub told-range : not b ≡ true → Refused StartRange ≡ onGridJudged s ds g
-    told-range n = sym (judged-by false true (not (gridFits g)) (le-ltb mostInput (length ds) h) (ap not (sym eb) ∙ n) refl)
+    told-range n = sym (onGrid-range s ds g h (sym eb ∙ not-true b n))
 
     module _ (n : not b ≡ false) (c : Bool) (ec : c ≡ gridFits g) where
       pub told-grid : not c ≡ true → Refused GridSize ≡ onGridJudged s ds g
-      told-grid m = sym (judged-by false false true (le-ltb mostInput (length ds) h) (ap not (sym eb) ∙ n) (ap not (sym ec) ∙ m))
+      told-grid m = sym (onGrid-size s ds g h (sym eb ∙ not-false b n) (sym ec ∙ not-true c m))
 
       pub told-room : not c ≡ false → (j : Judged) → j ≡ asRoomJudged s ds → j ≡ onGridJudged s ds g
-      told-room m j e = e ∙ sym (judged-by false false false (le-ltb mostInput (length ds) h) (ap not (sym eb) ∙ n) (ap not (sym ec) ∙ m) ∙ orElse-right (asRoomJudged s ds))
+      told-room m j e = e ∙ sym (onGrid-room s ds g (sym ec ∙ not-false c m))
 
 -- ---- coordinates
 
