@@ -73,7 +73,7 @@ const next = async (n) => {
   used += n;
   return held.subarray(used - n, used);
 };
-const have = (n) => held.length - used >= n; // so that a promise is made only where one must wait
+const have = (n) => held.length - used >= n; // so that a promise is made only if one must wait
 const take = (n) => (have(n) ? held.subarray(used, (used += n)) : next(n));
 const buffer = async () => { const n = await take(4); return n && Buffer.from(await take(n.readUInt32LE())); };
 

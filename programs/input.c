@@ -31,7 +31,7 @@ void take_record(int input, const char *record) {
     inputs[input].spoken = 1;
 }
 
-/* Opens a file by its name, of which - is standard input. No file becomes descriptor 0, 1 or 2, though these may be closed. */
+/* Opens a file by its name; - is standard input. No file becomes descriptor 0, 1 or 2, though these may be closed. */
 static int opened(const char *file) {
     if (strcmp(file, "-") == 0) return 0;
     int low = open(file, O_RDONLY | O_CLOEXEC);
@@ -46,7 +46,7 @@ static int names_nothing(void) {
     return errno == ENOENT || errno == ENAMETOOLONG;
 }
 
-/* Whether an argument that is not the name of a file is read as a record: after its last comma stand digits alone, or a frame. */
+/* Whether an argument that is not the name of a file is read as a record: after its last comma stand only digits, or a frame. */
 static int is_record(const char *word) {
     const char *comma = strrchr(word, ','), *at = comma != NULL ? comma + 1 : word;
     size_t n = strlen(at);

@@ -24,7 +24,7 @@ struct record {
 /* A record of this line, not yet split. */
 void begin_record(struct record *record, const unsigned char *line, size_t n);
 
-/* Splits the line into key, start and digits, and tells whether it is a frame. What cannot be a record is refused. */
+/* Splits the line into key, start and digits, and says whether it is a frame. What cannot be a record is refused. */
 void split_record(struct record *record, enum reading reading);
 
 /* The walk of a record. The caller lends the four buffers, with as much as the functions below say. */

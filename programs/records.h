@@ -8,7 +8,7 @@
 extern enum reading reading;
 
 /* The next line without its line feed, and without a carriage return before it or a byte order mark: 1; 0 at the end of the input;
- * -1 for a failure. A line of more bytes than the buffer has is cut, and `long_line` tells. */
+ * -1 for a failure. A line of more bytes than the buffer has is cut, and `long_line` says so. */
 int next_line(int input, struct record *record);
 extern int long_line;
 

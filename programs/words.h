@@ -13,7 +13,7 @@
 #define UNDRWYTH_FAULT_BYTES 24
 
 /* A walk that was accepted: "a room of 24 panels, 20 steps, counterclockwise". It starts at (x,y); `answer` is what undrwyth_walk
- * answered, and `chain` has the surviving steps, of which those before the first meeting are looked at. */
+ * answered, and `chain` has the surviving steps; only those before the first meeting are looked at. */
 size_t undrwyth_walk_sentence(char *out, size_t room, int32_t x, int32_t y, const uint8_t *chain,
                               const uint32_t answer[UNDRWYTH_WALK_ANSWER_WORDS]);
 
@@ -28,6 +28,10 @@ void undrwyth_text_fault(char out[UNDRWYTH_FAULT_BYTES], const uint8_t *text, si
 
 /* Two rooms that were laid over each other: "12 panels in the first only, 1 panel in the second only, 4 panels in both". */
 size_t undrwyth_overlay_sentence(char *out, size_t room, const uint32_t answer[UNDRWYTH_OVERLAY_ANSWER_WORDS]);
+
+/* The orthogonal hull of a room in blocks of this size: "an orthogonal hull of 4 blocks of 2 by 2 panels, 8 steps", and if a block
+ * is a panel "an orthogonal hull of 6 panels, 10 steps". */
+size_t undrwyth_orthogonal_sentence(char *out, size_t room, uint32_t grid, const uint32_t answer[UNDRWYTH_ORTHOGONAL_ANSWER_WORDS]);
 
 /* "convex", or "not convex". */
 const char *undrwyth_convex_word(const uint32_t answer[UNDRWYTH_CONVEX_ANSWER_WORDS]);

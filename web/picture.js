@@ -29,6 +29,9 @@ export const PICTURE_STYLE = `
 .arrow.second { fill: var(--second, #a86a00); }
 .hull { fill: none; stroke: var(--hull, #3366cc); stroke-width: 1.5; stroke-dasharray: 6 4; }
 .outline { fill: none; stroke: var(--outline, #b0468f); stroke-width: 8; stroke-opacity: 0.45; stroke-linejoin: round; }
+.blocks { fill: none; stroke: var(--line, #8b938e); stroke-width: 2; }
+.orthogonal-ground { fill: var(--around, #fbe3c0); }
+.orthogonal { fill: none; stroke: var(--orthogonal, #b35c00); stroke-width: 7; stroke-dasharray: 14 6; }
 .meeting { fill: none; stroke: var(--meeting, #cc2222); stroke-width: 3; }
 .meeting-label { fill: var(--meeting, #cc2222); font-family: sans-serif; font-weight: bold; }
 .meeting-label { paint-order: stroke; stroke: var(--paper, #ffffff); stroke-width: 4; }
@@ -93,7 +96,7 @@ export function stepOfTap(frame, element, event, [x, y]) {
   return [[1, 0], [0, 1], [-1, 0], [0, -1]].findIndex(([dx, dy]) => u - x === dx && v - y === dy);
 }
 
-/** 1, 2 or 5 times a power of ten: the least that is at least so many pixels. */
+/** 1, 2 or 5 times a power of ten: the least that is at least this many pixels. */
 function stride(side, pixels) {
   for (let power = 1; ; power *= 10) for (const times of [1, 2, 5]) if (times * power * side >= pixels) return times * power;
 }
@@ -146,6 +149,20 @@ const hullLayer = (frame, corners) => [svg("polygon", { class: "hull", points: p
 
 const outlineLayer = (frame, corners) => [svg("polyline", { class: "outline", points: pointsOf(frame, corners) })];
 
+/** The corners of an orthogonal hull as corners of panels, the last the first. */
+const hullCorners = ({ chain, start, grid }) => cornersOf(chain, start).map(([x, y]) => [x * grid, y * grid]);
+
+const orthogonalGround = (frame, corners) => [svg("polygon", { class: "orthogonal-ground", points: pointsOf(frame, corners) })];
+
+/** The orthogonal hull as a line, and the lines between blocks if a block is more than a panel and they are not too near. */
+function orthogonalLayer(frame, corners, grid) {
+  const { x0, y0, x1, y1, px, py, side } = frame, line = svg("polygon", { class: "orthogonal", points: pointsOf(frame, corners) });
+  if (grid === 1 || grid * side < 7) return [line];
+  const up = multiples(x0, x1, grid).map((x) => `M${px(x)},${py(y0)}V${py(y1)}`);
+  const across = multiples(y0, y1, grid).map((y) => `M${px(x0)},${py(y)}H${px(x1)}`);
+  return [svg("path", { class: "blocks", d: [...up, ...across].join("") }), line];
+}
+
 /** A walk with its arrows and its start. `look` is "", "first" or "second"; the start of a second walk is a square. */
 export function walkLayer(frame, chain, corners, look = "") {
   const line = svg("polyline", { class: `walk ${look}`, points: pointsOf(frame, corners) });
@@ -157,7 +174,7 @@ export function walkLayer(frame, chain, corners, look = "") {
   return chain.length > 0 ? [line, arrows, start] : [start];
 }
 
-/** Arrow heads in the middle of steps: of each, or of so many that two are 24 pixels apart. */
+/** Arrow heads in the middle of steps: of each, or of as many as stand 24 pixels apart. */
 function arrowsOf(frame, chain, corners) {
   const every = Math.max(1, Math.ceil(24 / frame.side)), long = every > 1 ? 6 : Math.min(8, frame.side * 0.3), wide = long * 0.65;
   const heads = [];
@@ -194,7 +211,7 @@ export function rowNumbersLayer(frame, spans) {
   return numbered.map(([row, number]) => label("axis", x, frame.py(row + 0.5) + down, number, TO_THE_LEFT));
 }
 
-/** The length of the wall from (u,v) to (x,y), on the side where the inside is; nothing if there is no room for the number. */
+/** The length of the wall from (u,v) to (x,y), on the inner side; nothing if there is no space for the number. */
 function wallLabel(frame, [u, v], [x, y], turn, length) {
   const [dx, dy] = [Math.sign(x - u), Math.sign(y - v)], long = Math.abs(x - u) + Math.abs(y - v), words = length(long);
   if (long * frame.side < frame.text * 0.6 * words.length + 8 || frame.side < frame.text) return [];
@@ -258,11 +275,14 @@ export function picture(frame, title, layers) {
 }
 
 /** The picture of one walk. What is null is left out; `around` is the corner where the outline starts. */
-export function walkPicture({ walk, start, hull, outline, around, spans, numbered, next, title }, options) {
-  const corners = cornersOf(walk.chain, start), frame = frameOf(boxOf(corners), options);
+export function walkPicture({ walk, start, hull, outline, around, orthogonal, spans, numbered, next, title }, options) {
+  const corners = cornersOf(walk.chain, start), outer = orthogonal ? hullCorners(orthogonal) : [];
+  const frame = frameOf(boxOf(corners, outer), options);
   const layers = [
+    orthogonal ? orthogonalGround(frame, outer) : [],
     spans ? spansLayer(frame, spans, { class: "inside" }) : [],
     gridLayer(frame),
+    orthogonal ? orthogonalLayer(frame, outer, orthogonal.grid) : [],
     hull ? hullLayer(frame, hull.corners) : [],
     outline ? outlineLayer(frame, cornersOf(outline.chain, around)) : [],
     spans && numbered ? rowCountsLayer(frame, spans) : [],
@@ -273,7 +293,7 @@ export function walkPicture({ walk, start, hull, outline, around, spans, numbere
   return { frame, element: picture(frame, title, layers) };
 }
 
-/** In each span how many panels it has, if there is room for the number. */
+/** In each span how many panels it has, if there is space for the number. */
 function rowCountsLayer(frame, spans) {
   if (frame.side < frame.text) return [];
   return spans.map(({ row, first, last }) => {

@@ -38,7 +38,7 @@ function sheetRows(rows, west) {
   return table(["row", "from panel", "to panel", "panels", "from the west wall", "length"], lines);
 }
 
-/** Fills the sheet for the walk that is shown, and of which this is said. What is not a room has no order. */
+/** Fills the sheet for the walk that is shown, with these words. What is not a room has no order. */
 export function fillSheet(known, record, said) {
   const heading = element("h1", {}, "Order sheet: floor panels"), last = element("p", { className: "mono" }, `Record ${record}`);
   if (!known?.spans) return byId("sheet").replaceChildren(heading, element("p", {}, `There is no order: ${said}.`), last);

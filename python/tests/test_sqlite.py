@@ -1,5 +1,5 @@
 # SPDX-License-Identifier: MIT
-"""undrwyth.sqlite, where this Python loads extensions and the extension is built; else what it says."""
+"""undrwyth.sqlite, if this Python loads extensions and the extension is built; otherwise its message."""
 from __future__ import annotations
 
 import os

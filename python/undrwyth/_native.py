@@ -55,6 +55,8 @@ def _types(name: str) -> Tuple[List[Any], Any]:
     for letter in SIGNATURES[name]:
         if letter == "s":
             arguments += [ctypes.c_int32, ctypes.c_int32]
+        elif letter == "g":
+            arguments += [ctypes.c_uint32]
         elif letter == "a":
             arguments += [ctypes.c_void_p]
         else:
@@ -62,7 +64,7 @@ def _types(name: str) -> Tuple[List[Any], Any]:
     return arguments, ctypes.c_uint64 if name in ("line", "convert_line") else ctypes.c_uint32
 
 
-# The arguments of each function: s a start, i an input, l a lent buffer, a the answer.
+# The arguments of each function: s a start, i an input, g a grid size, l a lent buffer, a the answer.
 SIGNATURES = {
     "walk": "sillla",
     "walk_two": "ssilllla",
@@ -73,6 +75,7 @@ SIGNATURES = {
     "rows": "sila",
     "overlay": "sisillla",
     "convex": "sia",
+    "orthogonal_hull": "sigla",
     "turns_of_steps": "ila",
     "steps_of_turns": "ila",
     "line": "il",
@@ -137,13 +140,21 @@ def corner(given: Corner) -> Corner:
     return max(-(2**31), min(x, 2**31 - 1)), max(-(2**31), min(y, 2**31 - 1))
 
 
+def grid_size(given: int) -> int:
+    """An int, brought into 32 bits: what is further out is refused all the same."""
+    try:
+        return max(0, min(index(given), 2**32 - 1))
+    except TypeError:
+        raise TypeError(f"a grid size is an int, not {given!r}") from None
+
+
 _byte_at = ctypes.c_char.from_buffer
 _byref = ctypes.byref
 _address = ctypes.addressof
 
 
 def room(given: Optional[Buffer], code: str, count: int) -> Lent:
-    """The buffer that is given, or a new one of so many elements: B bytes, I words, i signed numbers."""
+    """The buffer that is given, or a new one of this many elements: B bytes, I words, i signed numbers."""
     if given is not None:
         return _lent(given, code)
     if not count:
@@ -156,7 +167,7 @@ def room(given: Optional[Buffer], code: str, count: int) -> Lent:
 
 
 def rooms(words: int, marks: int, count: int) -> Tuple[Lent, Lent, Lent]:
-    """New buffers of so many words, words again, and bytes, in one piece, which is quicker."""
+    """New buffers of these many words, words again, and bytes, in one piece, which is quicker."""
     first, second = 4 * words, 4 * (words + marks)
     made = bytearray(second + count)
     at, view = _address(_byte_at(made)), memoryview(made)

@@ -2,7 +2,7 @@
 // Which rooms are convex: no row and no column may have a gap, and the panels beside the room lie outside the hull of the centres.
 #include "page.h"
 
-// Whether each f(y) is the least whole number that is not below the convex hull under f. `stack` has room for n places.
+// Whether each f(y) is the least whole number that is not below the convex hull under f. `stack` is long enough for n places.
 static bool close(const int *f, int n, int *stack) {
     int top = 0;
     for (int y = 0; y < n; y++) {

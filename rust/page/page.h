@@ -71,7 +71,7 @@ struct Flat {
         while (size_t(1) << bits < 2 * corners) bits++;
         memset(places, 0, size_t(4) << bits);
     }
-    // Where this corner stands, or where there is room for it.
+    // The place of this corner, or a free place for it.
     uint32_t find(uint32_t corner) const {
         uint32_t h = corner * 0x9e3779b1u >> (32 - bits);
         while (places[h] && places[h] != corner) h = (h + 1) & ((1u << bits) - 1);

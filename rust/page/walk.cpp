@@ -11,7 +11,7 @@ struct Tree {
     Record *table;
     uint32_t records, nodes;
 
-    // The child at this place, made by the step if it is not there. 0 if there is no room for it.
+    // The child at this place, made by the step if it is not there. 0 if the table is full.
     uint32_t child(uint32_t parent, uint32_t place, uint32_t step) {
         uint32_t &ref = table[parent].child[place];
         if (ref) return ref;
@@ -35,7 +35,7 @@ struct Tree {
         return ref;
     }
     // The neighbour of u at corner c, made by the step if it is not there, with a link at each level up to one that is there or to
-    // a common parent. 0 if there is no room. `changed` gets how many records differ.
+    // a common parent. 0 if the table is full. `changed` gets how many records differ.
     uint32_t neighbour(uint32_t u, Corner c, int way, uint32_t step, uint32_t &changed) {
         changed = 2;
         uint32_t known = table[u].beside[way];

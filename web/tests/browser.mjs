@@ -32,7 +32,7 @@ export class Browser {
     this.#process.once("error", (why) => this.#failAll(why));
     this.#process.once("exit", () => this.#failAll(new Error("the browser has ended")));
     this.#process.stdio[4].setEncoding("utf8").on("data", (text) => this.#take(text));
-    this.#process.stdio[3].on("error", () => {}); // the exit tells
+    this.#process.stdio[3].on("error", () => {}); // the exit says so
   }
 
   #failAll(why) {

@@ -162,7 +162,7 @@ take-backward (d ∷ ds) i h = go (decLt (length ds) i) (λ l. take-backward ds 
         none : 0 ≡ suc (length ds) - i
         none = omega arith
 
-backward-at : (c : Corner) (ds : List ℕ) → endFrom c ds ≡ c → (i : ℕ) → i ≤ length ds → cornerAt c (backward ds) i ≡ cornerAt c ds (length ds - i)
+pub backward-at : (c : Corner) (ds : List ℕ) → endFrom c ds ≡ c → (i : ℕ) → i ≤ length ds → cornerAt c (backward ds) i ≡ cornerAt c ds (length ds - i)
 backward-at c ds closed i h =
     ap (endFrom c) (take-backward ds i h)
     ∙ ap (λ (z : Corner). endFrom z (backward rest)) (sym (sym (endFrom-append c (take (length ds - i) ds) rest) ∙ ap (endFrom c) (take-append-drop (length ds - i) ds) ∙ closed))

@@ -10,3 +10,4 @@ pub mod WayLaws
 pub mod TravelLaws
 pub mod TurnLaws
 pub mod SplitLaws
+pub mod GirthLaws

@@ -3,6 +3,7 @@
 use answer::Counted;
 use answer::Judged;
 use answer::Limits;
+use box_walk::enclose;
 use columns::Columns;
 use convex_part::judge;
 use convex_place::leftward;
@@ -16,6 +17,7 @@ ghost use Rattle.lists.specs.Lists.{tally};
 ghost use Rattle.answer.specs.declared.Counted.{Counted};
 ghost use Rattle.grid.specs.declared.Corner.{Corner};
 ghost use Rattle.grid.specs.Grid.{endFrom};
+ghost use Rattle.trace.specs.Verdict.{IsRoom};
 ghost use Rattle.column_laws.specs.Columns.{middle, narrowSize, widerSize};
 ghost use Rattle.convex.specs.Parts.{turnedBy};
 ghost use Rattle.convex.specs.Convex.{ConvexCall};
@@ -156,6 +158,19 @@ fn is_convex(chain: &[u8]) -> bool
     widest(chain)
 }
 
+// Whether a room is convex, whatever corner it starts from. First its girth: each part of a convex room goes two ways only, so that its
+// steps add up to the edges around its box. A room with more is not convex, and nothing is laid down.
+fn decide(chain: &[u8]) -> bool
+    requires { ⌜ Digits (now chain) × (length (now chain) ≤ middle) ⌝ }
+    ensures { λ r. ⌜ ((c : Corner) → IsRoom c (now (chain .entry)) → r ≡ convexOf c (now (chain .entry))) ⌝ }
+{
+    let b = enclose(chain);
+    if 2 * (b.width + b.height) < chain.len() + 4 {
+        return false;
+    }
+    is_convex(chain)
+}
+
 // 1 for yes, 0 for no.
 fn counted(b: bool) -> Counted
     ensures { λ r. ⌜ r ≡ Counted.Many (tally b) ⌝ }
@@ -171,7 +186,7 @@ pub fn tell(start: Corner, chain: &[u8]) -> Counted
     ensures { λ r. ⌜ ConvexCall start (now (chain .entry)) r ⌝ }
 {
     match room_judge::judge(start, chain) {
-        Judged::Good => counted(is_convex(chain)),
+        Judged::Good => counted(decide(chain)),
         Judged::Refused(r) => Counted::Refused(r),
     }
 }

@@ -19,6 +19,7 @@ ghost use Rattle.line_frame.specs.Begun.{keptOf};
 ghost use Rattle.line_fields.specs.Put.{Wrote};
 ghost use Rattle.line_stream.specs.Stream.{mostPart};
 ghost use Rattle.line_stream.specs.Fill.{lineEnded, FedLine, Filled};
+ghost use Rattle.line_walk.specs.Walk.{Clear};
 ghost use Rattle.line_reply.specs.Reply.{Lent};
 ghost use Rattle.lines.specs.Tasks.{mostEarly, mostTold, jobOf};
 
@@ -80,6 +81,7 @@ fn tell(
     requires { ⌜ Lent (now table) (now marks) (now hull) ⌝ }
     requires { ⌜ at + mostTold task ≤ length (now out) ⌝ }
     ensures { λ e. ⌜ Wrote (jobOf task .told (now (s .entry)) []) at (now (out .entry)) e (now (out .exit)) ⌝ }
+    ensures { λ e. ⌜ Clear (now (table .exit)) ⌝ }
 {
     match task {
         Task::Answer => line_reply::tell(s, table, marks, hull, out, at),
@@ -132,6 +134,7 @@ fn tell_end(
     requires { ⌜ used + mostTold task ≤ length (now out) ⌝ }
     ensures { λ e. ⌜ Wrote (jobOf task .told (keptOf (take held (now (line .entry)) ++ take (end - at) (drop at (now (s .entry))))) []) used (now (out .entry)) e (now (out .exit)) ⌝ }
     ensures { λ e. ⌜ now (line .exit) ≡ lineEnded (now (line .entry)) held (take (end - at) (drop at (now (s .entry)))) ⌝ }
+    ensures { λ e. ⌜ Clear (now (table .exit)) ⌝ }
 {
     if held == 0 {
         let stop = at + lesser(end - at, Progress::MOST_HELD);
@@ -159,6 +162,7 @@ fn feed_line(
     requires { ⌜ Lent (now table) (now marks) (now hull) ⌝ }
     requires { ⌜ used + jobOf task .most ≤ length (now out) ⌝ }
     ensures { λ r. ⌜ FedLine (jobOf task) (now (line .entry)) held (drop at (now (s .entry))) at (now (out .entry)) used r (now (line .exit)) (now (out .exit)) ⌝ }
+    ensures { λ r. ⌜ Clear (now (table .exit)) ⌝ }
 {
     let end = line_end(s, at);
     let next = tell_early(task, line, held, s, at, end, out, used);

@@ -1,21 +1,22 @@
 -- Refusal 12 is given exactly where the walk is no room, and what an accepted start and chain are.
 -- Assumes nothing.
 use mathlib.Core.Bool.{true, not}
-use mathlib.Core.List.{List}
+use mathlib.Core.List.{List, [], _∷_}
 use mathlib.Core.Logic.{_↔_}
 use mathlib.Core.Path.{_≡_, refl, ap}
 use Prim.Native.Nat.{ℕ}
 use native.Mathlib.Omega.{arith}
 use borrow.Author.Tests.{eqb-true}
-use lib.Dec.{eqb}
+use lib.Dec.{eqb, ltb}
+use lib.ListN.{length}
 use Rattle.lists.proofs.BoolLaws.{not-false}
-use Rattle.answer.specs.declared.Refusal.{Refusal}
+use Rattle.answer.specs.declared.{Judged.Judged, Refusal.Refusal}
 use Rattle.answer.specs.declared.Judged.the-variants.{Good, Refused}
 use Rattle.answer.specs.declared.Verdict.{Verdict}
 use Rattle.answer.specs.declared.Verdict.the-variants.{Nowhere, Open, Room, OpenMeeting, ClosedMeeting, ThereAndBack}
-use Rattle.answer.specs.declared.Refusal.the-variants.{NotRoom}
-use Rattle.answer.specs.Limits.{Near}
-use Rattle.answer.specs.Refusal.{verdictNumber, when}
+use Rattle.answer.specs.declared.Refusal.the-variants.{TooMany, StartRange, NotRoom}
+use Rattle.answer.specs.Limits.{mostInput, Near, startFits}
+use Rattle.answer.specs.Refusal.{verdictNumber, when, firstOf}
 use Rattle.answer.proofs.RefusalLaws.{when-good, first-refused, first-last, first-good}
 use Rattle.grid.specs.declared.Corner.{Corner}
 use Rattle.steps.specs.Chain.{chainJudged, asWalkJudged}
@@ -48,6 +49,16 @@ module _ (c : Corner) (ds : List ℕ) where
 
   pub judged-room : asWalkJudged c ds ≡ Good → asRoomJudged c ds ≡ when (not (isRoom c ds)) NotRoom
   judged-room e = first-last (asWalkJudged c ds) (when (not (isRoom c ds)) NotRoom) e
+
+-- all four in one list
+pub judged-four : (c : Corner) (ds : List ℕ) → asRoomJudged c ds ≡ firstOf (when (ltb mostInput (length ds)) TooMany ∷ when (not (startFits c)) StartRange ∷ chainJudged 0 ds ∷ when (not (isRoom c ds)) NotRoom ∷ [])
+judged-four c ds = by (when (ltb mostInput (length ds)) TooMany) (when (not (startFits c)) StartRange) (chainJudged 0 ds) (when (not (isRoom c ds)) NotRoom)
+  where
+    by : (a b d e : Judged) → firstOf (firstOf (a ∷ b ∷ d ∷ []) ∷ e ∷ []) ≡ firstOf (a ∷ b ∷ d ∷ e ∷ [])
+    by (Refused q) b d e = refl
+    by Good (Refused q) d e = refl
+    by Good Good (Refused q) e = refl
+    by Good Good Good e = refl
 
 -- what a start and a chain are that nothing is wrong with
 pub record AsRoom (c : Corner) (ds : List ℕ) : Type 0 where

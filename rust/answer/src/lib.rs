@@ -12,9 +12,11 @@ pub const MOST_INPUT: usize = 32_768;
 pub const MOST_STEPS: usize = 16_384;
 /// How far from 0 a coordinate of a start may be.
 pub const MOST_START: i32 = 16_384;
+/// Panels along a side of a block at most.
+pub const MOST_GRID: u32 = 16_384;
 /// Words in a record.
 pub const RECORD_WORDS: usize = 25;
-/// Words of the marks an operation: nodes in use, visits at the corner stood on, records that changed.
+/// Words of the marks for each operation: nodes in use, visits at the corner where it ends, records that changed.
 pub const MARK_WORDS: usize = 3;
 /// Records in a table at most.
 pub const MOST_RECORDS: usize = 131_148;
@@ -22,7 +24,7 @@ pub const MOST_RECORDS: usize = 131_148;
 pub const PAIR_RECORD_WORDS: usize = 36;
 /// Records at most in a table that two parties share.
 pub const MOST_PAIR_RECORDS: usize = 262_296;
-/// j and k where there is no meeting.
+/// j and k if there is no meeting.
 pub const NO_MEETING: u32 = 65_535;
 /// Operations or turns in a line at most.
 pub const MOST_LINE_DIGITS: usize = 1_024;
@@ -49,6 +51,8 @@ pub const ROWS_ANSWER_WORDS: usize = 3;
 pub const OVERLAY_ANSWER_WORDS: usize = 8;
 /// Words of the answer to the question whether a room is convex: number, place, 1 for yes or 0 for no.
 pub const CONVEX_ANSWER_WORDS: usize = 3;
+/// Words of the answer to an orthogonal hull: number, place, steps, start x, start y, blocks.
+pub const ORTHOGONAL_ANSWER_WORDS: usize = 6;
 /// Words of the answer to a polygon that is read: number, place, steps, start x, start y.
 pub const CHAIN_ANSWER_WORDS: usize = 5;
 /// Words of the answer to a conversion between steps and turns: number, place.
@@ -62,7 +66,7 @@ pub mod word {
     pub const CHILD: usize = 1;
     /// Refs of the linked neighbours east, north, west, south.
     pub const NEIGHBOUR: usize = 10;
-    /// The steps of these four links, 0 where there is none.
+    /// The steps of these four links, 0 if there is none.
     pub const LINK_STEP: usize = 14;
     /// Visits.
     pub const VISITS: usize = 18;
@@ -70,17 +74,44 @@ pub mod word {
     pub const NEED: usize = 19;
     /// 1 + the least k with pk here, 0 if unvisited.
     pub const FIRST: usize = 20;
-    /// How often surviving steps used the edge east, north, west, south, in either sense.
+    /// How often surviving steps used the edge east, north, west, south, either way.
     pub const EDGE: usize = 21;
 
     /// The word of party `q`, 0 or 1, in a record that two parties share, by its place from [`LINK_STEP`] on in the record of
-    /// one walk. There a needing step is stored plus 1, and 0 where the party does not need the node.
+    /// one walk. There the step that first needed the node is stored plus 1, and 0 if the party does not need the node.
     pub const fn of(q: usize, word: usize) -> usize {
         11 * q + word
     }
 }
 
-/// Why a call is refused; a place counts from 0 in the input.
+/// A corner of the grid, by its coordinates (docs/RULES.md, rule 1.2). x grows to the east and y to the north.
+#[derive(Clone, Copy, Debug, Default, PartialEq, Eq, Hash, PartialOrd, Ord)]
+pub struct Corner {
+    /// East of the origin.
+    pub x: i32,
+    /// North of the origin.
+    pub y: i32,
+}
+
+impl From<(i32, i32)> for Corner {
+    fn from((x, y): (i32, i32)) -> Corner {
+        Corner { x, y }
+    }
+}
+
+impl From<Corner> for (i32, i32) {
+    fn from(corner: Corner) -> (i32, i32) {
+        (corner.x, corner.y)
+    }
+}
+
+impl Display for Corner {
+    fn fmt(&self, f: &mut Formatter) -> fmt::Result {
+        write!(f, "({},{})", self.x, self.y)
+    }
+}
+
+/// Why a call is refused. A place counts from 0 in the input.
 #[derive(Clone, Copy, Debug, PartialEq, Eq)]
 pub enum Refusal {
     /// More than [`MOST_INPUT`] bytes.
@@ -88,33 +119,33 @@ pub enum Refusal {
     /// The table's words are not [`RECORD_WORDS`] times 1 to [`MOST_RECORDS`]; for two parties [`PAIR_RECORD_WORDS`] times 1 to
     /// [`MOST_PAIR_RECORDS`].
     Table,
-    /// A result buffer has not the length that the input asks.
+    /// A result buffer does not have the length that the input asks for.
     ResultRoom,
     /// An operation above 4 in a walk or in a byte of a party, a byte above 3 elsewhere.
     BadDigit(u32),
-    /// Operation 4 with no surviving step, of that party where there are two.
+    /// Operation 4 with no surviving step, of that party if there are two.
     NothingToTake(u32),
-    /// A step that would survive as one more than [`MOST_STEPS`], of that party where there are two.
+    /// A step that would survive as one more than [`MOST_STEPS`], of that party if there are two.
     TooLong(u32),
-    /// After this operation, or before the first, the nodes needed exceed the records.
+    /// "No room": after this operation, or before the first, more nodes are needed than the table has records.
     NoRoom(u32),
     /// The buffer is shorter than twice the hull corners.
     HullRoom,
-    /// No frame of the line program.
+    /// The line is not a frame.
     BadLine,
     /// A coordinate of the start is farther than [`MOST_START`] from 0.
     StartRange,
     /// The buffer is shorter than the outline.
     OutlineRoom,
-    /// The walk is no room.
+    /// The walk is not a room.
     NotRoom,
     /// The buffer is shorter than the polygon.
     PolygonRoom,
-    /// A file shorter than a polygon's head, or of another length than its points ask.
+    /// A file shorter than a polygon's header, or not of the length that its points ask for.
     FileLength,
-    /// A file's byte order, type or ring count.
+    /// A file with another byte order, type or ring count than a polygon of one ring has.
     FileKind,
-    /// A coordinate of a file is no whole multiple of 600, or too far out.
+    /// A coordinate in a file is not a whole multiple of 600, or is too far out.
     BadCoordinate,
     /// A slant, a repeated point, fewer than four points, or a ring that is not closed.
     BadRing,
@@ -124,12 +155,14 @@ pub enum Refusal {
     RetiredKind,
     /// A byte above 31, in a call of two parties.
     UnknownParty(u32),
-    /// The buffer is shorter than three numbers a span.
+    /// The buffer is shorter than three numbers for each span.
     SpanRoom,
+    /// A grid size that is 0 or above [`MOST_GRID`].
+    GridSize,
 }
 
 impl Refusal {
-    /// The refusal with this number and place; none has another number.
+    /// The refusal with this number and place, if there is one with this number.
     pub fn of(number: u32, place: u32) -> Option<Refusal> {
         Some(match number {
             1 => Refusal::TooMany,
@@ -153,6 +186,7 @@ impl Refusal {
             19 => Refusal::RetiredKind,
             20 => Refusal::UnknownParty(place),
             21 => Refusal::SpanRoom,
+            22 => Refusal::GridSize,
             _ => return None,
         })
     }
@@ -181,25 +215,67 @@ impl Refusal {
             Refusal::RetiredKind => 19,
             Refusal::UnknownParty(_) => 20,
             Refusal::SpanRoom => 21,
+            Refusal::GridSize => 22,
         }
     }
 
-    /// The place, 0 where the refusal has none.
+    /// The place, 0 if the refusal has none.
     pub fn place(self) -> u32 {
+        self.place_if_any().unwrap_or(0)
+    }
+
+    fn place_if_any(self) -> Option<u32> {
         match self {
             Refusal::BadDigit(place)
             | Refusal::NothingToTake(place)
             | Refusal::TooLong(place)
             | Refusal::NoRoom(place)
-            | Refusal::UnknownParty(place) => place,
-            _ => 0,
+            | Refusal::UnknownParty(place) => Some(place),
+            _ => None,
+        }
+    }
+
+    /// The refusal in a few words, without its number and place.
+    pub fn words(self) -> &'static str {
+        match self {
+            Refusal::TooMany => "more than 32,768 bytes of input",
+            Refusal::Table => "the table does not hold 1 record or more, or holds too many",
+            Refusal::ResultRoom => "a buffer does not have the length that the input asks for",
+            Refusal::BadDigit(_) => "a bad digit",
+            Refusal::NothingToTake(_) => "nothing to take back",
+            Refusal::TooLong(_) => "more than 16,384 surviving steps",
+            Refusal::NoRoom(_) => "the table is full",
+            Refusal::HullRoom => "the buffer is shorter than two numbers for each hull corner",
+            Refusal::BadLine => "not a frame",
+            Refusal::StartRange => "a coordinate of the start is beyond 16,384",
+            Refusal::OutlineRoom => "the buffer is shorter than the outline",
+            Refusal::NotRoom => "not a room",
+            Refusal::PolygonRoom => "the buffer is shorter than the polygon",
+            Refusal::FileLength => "the file does not have 13 bytes and 16 for each point",
+            Refusal::FileKind => "the file is not a polygon of one ring",
+            Refusal::BadCoordinate => {
+                "a coordinate is not a whole multiple of 600, or is too far out"
+            }
+            Refusal::BadRing => {
+                "the ring is slanted, repeats a point, is too short or is not closed"
+            }
+            Refusal::ChainRoom => "the buffer is shorter than the chain",
+            Refusal::RetiredKind => "a frame with turns, which are retired",
+            Refusal::UnknownParty(_) => "a byte of neither party",
+            Refusal::SpanRoom => "a buffer is shorter than three numbers for each span",
+            Refusal::GridSize => "the grid size is not a number from 1 to 16,384",
         }
     }
 }
 
+/// `not a room (refusal 12)`, `a bad digit (refusal 4 at place 2)`
 impl Display for Refusal {
     fn fmt(&self, f: &mut Formatter) -> fmt::Result {
-        write!(f, "refusal {} at place {}", self.number(), self.place())
+        write!(f, "{} (refusal {}", self.words(), self.number())?;
+        match self.place_if_any() {
+            Some(place) => write!(f, " at place {place})"),
+            None => f.write_str(")"),
+        }
     }
 }
 
@@ -256,8 +332,8 @@ pub struct Facts {
     pub meeting: Option<(u32, u32)>,
     /// The signed area of a room, 0 for the other verdicts.
     pub area: i32,
-    /// x and y of pn.
-    pub last: (i32, i32),
+    /// pn, the last corner.
+    pub last: Corner,
 }
 
 /// The facts of one party's walk in a table that two share.
@@ -273,12 +349,12 @@ pub struct PartyFacts {
     pub meeting: Option<(u32, u32)>,
     /// The signed area of a room, 0 for the other verdicts.
     pub area: i32,
-    /// x and y of pn.
-    pub last: (i32, i32),
+    /// pn, the last corner.
+    pub last: Corner,
 }
 
 impl PartyFacts {
-    /// The same of a walk that has its table alone, with the nodes in use there.
+    /// The same facts for a walk alone in its table, with the nodes in use there.
     pub fn alone(self, nodes: u32) -> Facts {
         Facts {
             verdict: self.verdict,
@@ -319,4 +395,15 @@ pub struct Overlaid {
     pub second: Measure,
     /// In both.
     pub both: Measure,
+}
+
+/// The outline of the orthogonal hull of a room, in blocks.
+#[derive(Clone, Copy, Debug, PartialEq, Eq)]
+pub struct OrthogonalHull {
+    /// The corner at which it starts: the lowest of the leftmost.
+    pub start: Corner,
+    /// Its steps.
+    pub steps: usize,
+    /// The blocks inside.
+    pub blocks: usize,
 }

@@ -16,7 +16,7 @@ use crate::race::Call;
 /// Where the walks start.
 const START: (i32, i32) = (0, 0);
 
-/// Each walk in the least table that has room.
+/// Each walk in the smallest table that is large enough.
 pub fn walk<'a, T, E: Debug>(
     walk: impl Fn((i32, i32), &[u8], &mut [u32], &mut [u32], &mut [u8]) -> Result<T, E> + 'static,
     inputs: &'a [Vec<u8>],
@@ -38,7 +38,7 @@ fn walk_from<'a, T, E: Debug>(
     Box::new(move || {
         for ((start, ops), (table, marks, chain)) in walks.iter().zip(&mut buffers) {
             let answer = walk(*start, black_box(ops), table, marks, chain);
-            black_box(answer.expect("there is room"));
+            black_box(answer.expect("the buffers are large enough"));
         }
     })
 }
@@ -46,7 +46,7 @@ fn walk_from<'a, T, E: Debug>(
 /// Where two parties start.
 const STARTS: Starts = [START, (2, 1)];
 
-/// Two parties in the least table that has room, each input with the bytes of both.
+/// Two parties in the smallest table that is large enough, each input with the bytes of both.
 pub fn walk_two(
     walk_two: impl Fn(
         Starts,
@@ -71,7 +71,7 @@ pub fn walk_two(
     Box::new(move || {
         for (ops, (table, marks, [first, second])) in inputs.iter().zip(&mut buffers) {
             let answer = walk_two(STARTS, black_box(ops), table, marks, [first, second]);
-            black_box(answer.expect("there is room"));
+            black_box(answer.expect("the buffers are large enough"));
         }
     })
 }
@@ -132,7 +132,7 @@ pub fn hull<'a, T, E: Debug>(
     Box::new(move || {
         for chain in inputs {
             let answer = hull(START, black_box(chain), &mut out);
-            black_box(answer.expect("there is room"));
+            black_box(answer.expect("the buffers are large enough"));
         }
     })
 }
@@ -146,7 +146,7 @@ pub fn outline<'a, T, E: Debug>(
     Box::new(move || {
         for chain in inputs {
             let answer = outline(START, black_box(chain), &mut out);
-            black_box(answer.expect("there is room"));
+            black_box(answer.expect("the buffers are large enough"));
         }
     })
 }
@@ -231,6 +231,21 @@ pub fn convex<'a, T, E: Debug>(
     Box::new(move || {
         for chain in inputs {
             black_box(convex((-7, 5), black_box(chain)).expect("it is a room"));
+        }
+    })
+}
+
+/// The orthogonal hull of each room in blocks of this size, in a buffer as long as the chain, which is always large enough.
+pub fn orthogonal<'a, T, E: Debug>(
+    hull: impl Fn((i32, i32), &[u8], u32, &mut [u8]) -> Result<T, E> + 'static,
+    inputs: &'a [Vec<u8>],
+    grid: u32,
+) -> Call<'a> {
+    let mut out = vec![0; inputs[0].len()];
+    Box::new(move || {
+        for chain in inputs {
+            let answer = hull((-7, 5), black_box(chain), black_box(grid), &mut out);
+            black_box(answer.expect("it is a room"));
         }
     })
 }

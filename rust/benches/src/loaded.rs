@@ -10,14 +10,14 @@ use crate::calls;
 use crate::race::Call;
 
 /// The number of a refusal, if it is one.
-fn told(number: u32) -> Result<(), u32> {
+fn answered(number: u32) -> Result<(), u32> {
     if number == 0 { Ok(()) } else { Err(number) }
 }
 
 pub fn walk<'a>(of: &'static Loaded, inputs: &'a [Vec<u8>]) -> Call<'a> {
     calls::walk(
         |start, ops, table, marks, chain| {
-            told(of.walk(start, ops, table, marks, chain, &mut [0; WALK_ANSWER_WORDS]))
+            answered(of.walk(start, ops, table, marks, chain, &mut [0; WALK_ANSWER_WORDS]))
         },
         inputs,
     )
@@ -25,14 +25,14 @@ pub fn walk<'a>(of: &'static Loaded, inputs: &'a [Vec<u8>]) -> Call<'a> {
 
 pub fn hull<'a>(of: &'static Loaded, inputs: &'a [Vec<u8>]) -> Call<'a> {
     calls::hull(
-        |start, chain, out| told(of.hull(start, chain, out, &mut [0; HULL_ANSWER_WORDS])),
+        |start, chain, out| answered(of.hull(start, chain, out, &mut [0; HULL_ANSWER_WORDS])),
         inputs,
     )
 }
 
 pub fn outline<'a>(of: &'static Loaded, inputs: &'a [Vec<u8>]) -> Call<'a> {
     calls::outline(
-        |start, chain, out| told(of.outline(start, chain, out, &mut [0; OUTLINE_ANSWER_WORDS])),
+        |start, chain, out| answered(of.outline(start, chain, out, &mut [0; OUTLINE_ANSWER_WORDS])),
         inputs,
     )
 }
@@ -40,7 +40,7 @@ pub fn outline<'a>(of: &'static Loaded, inputs: &'a [Vec<u8>]) -> Call<'a> {
 pub fn polygon<'a>(of: &'static Loaded, inputs: &'a [Vec<u8>]) -> Call<'a> {
     calls::polygon(
         |start, chain, out| {
-            told(of.polygon_of_room(start, chain, out, &mut [0; POLYGON_ANSWER_WORDS]))
+            answered(of.polygon_of_room(start, chain, out, &mut [0; POLYGON_ANSWER_WORDS]))
         },
         inputs,
     )
@@ -48,28 +48,28 @@ pub fn polygon<'a>(of: &'static Loaded, inputs: &'a [Vec<u8>]) -> Call<'a> {
 
 pub fn rows<'a>(of: &'static Loaded, inputs: &'a [Vec<u8>]) -> Call<'a> {
     calls::rows(
-        |start, chain, out| told(of.rows(start, chain, out, &mut [0; ROWS_ANSWER_WORDS])),
+        |start, chain, out| answered(of.rows(start, chain, out, &mut [0; ROWS_ANSWER_WORDS])),
         inputs,
     )
 }
 
 pub fn overlay<'a>(of: &'static Loaded, inputs: &'a [Vec<u8>]) -> Call<'a> {
     calls::overlay(
-        |one, other, out| told(of.overlay(one, other, out, &mut [0; OVERLAY_ANSWER_WORDS])),
+        |one, other, out| answered(of.overlay(one, other, out, &mut [0; OVERLAY_ANSWER_WORDS])),
         inputs,
     )
 }
 
 pub fn convex<'a>(of: &'static Loaded, inputs: &'a [Vec<u8>]) -> Call<'a> {
     calls::convex(
-        |start, chain| told(of.convex(start, chain, &mut [0; CONVEX_ANSWER_WORDS])),
+        |start, chain| answered(of.convex(start, chain, &mut [0; CONVEX_ANSWER_WORDS])),
         inputs,
     )
 }
 
 pub fn chain<'a>(of: &'static Loaded, files: &'a [Vec<u8>]) -> Call<'a> {
     calls::chain(
-        |file, chain| told(of.chain_of_polygon(file, chain, &mut [0; CHAIN_ANSWER_WORDS])),
+        |file, chain| answered(of.chain_of_polygon(file, chain, &mut [0; CHAIN_ANSWER_WORDS])),
         files,
     )
 }

@@ -74,7 +74,7 @@ fn race_on(input: &[u8], programs: &[(&'static str, PathBuf, &[&str])]) -> Race 
     race
 }
 
-/// Prints the rows of a program beside its twin, and beside its page if it has one, on frames of which every fourth is of the kind given.
+/// Prints the rows of a program beside its twin, and beside its page if it has one, on frames. Every fourth is of the given kind.
 fn print_one(name: &str, row: &str, turns: u8) {
     let target = concat!(env!("CARGO_MANIFEST_DIR"), "/../../target");
     let program = PathBuf::from(target)

@@ -4,11 +4,11 @@ use std::ffi::{c_int, c_long};
 use std::sync::LazyLock;
 use std::time::{Duration, Instant};
 
-/// A race goes on for this long, and for so many rounds at least.
+/// A race goes on for this long, and for at least this many rounds.
 const LEAST_TIME: Duration = Duration::from_millis(400);
 const LEAST_ROUNDS: usize = 21;
 
-/// A call to be timed. It is short where it can be, so that few are cut by the machine's other work.
+/// A call to be timed. It is short if it can be, so that few are cut by the machine's other work.
 pub type Call<'a> = Box<dyn FnMut() + 'a>;
 
 /// The seconds of each contestant's calls, one a round.
@@ -69,7 +69,7 @@ fn median(values: impl Iterator<Item = f64>) -> f64 {
 }
 
 impl Race {
-    /// Prints a row of the table, where `unit` turns each median of seconds into the figure shown, and then the ratios.
+    /// Prints a row of the table: each median of seconds, which `unit` turns into the figure shown, and then the ratios.
     pub fn print(&self, name: &str, unit: impl Fn(f64) -> f64) {
         self.print_row(name, unit);
         for (contestant, ratio) in self.ratios() {

@@ -22,7 +22,7 @@ impl Random {
         (self.number() % end as u64) as usize
     }
 
-    /// True once in so many times.
+    /// True once in this many times.
     pub fn once_in(&mut self, times: usize) -> bool {
         self.below(times) == 0
     }
@@ -89,7 +89,7 @@ pub fn lattice(n: usize, width: usize) -> Vec<u8> {
     part.into_iter().cycle().take(n).collect()
 }
 
-/// The outline of the first panels of so many that it has n steps, n even and at least 4: counterclockwise from (0,0), the
+/// The outline of the first panels, as many as give it n steps, n even and at least 4: counterclockwise from (0,0), the
 /// lower left corner of the first panel. Each panel has one side in common with those before it, and touches no other.
 fn outline(n: usize, panels: impl Iterator<Item = (i32, i32)>) -> Vec<u8> {
     round(panels.take(n / 2 - 1), (0, 0))
@@ -306,7 +306,7 @@ pub fn grown(n: usize, random: &mut Random) -> Vec<u8> {
     round(panels.into_iter(), least)
 }
 
-/// A room whose box has so many columns and rows of corners, three or more each: a rectangle with notches of this depth in its lower side.
+/// A room whose box has this many columns and rows of corners, three or more each: a rectangle with notches of this depth in its lower side.
 pub fn notched(columns: usize, rows: usize, depth: usize) -> Vec<u8> {
     let (wide, high) = (columns - 1, rows - 1);
     let depth = depth.min(high - 1);
@@ -324,7 +324,7 @@ pub fn notched(columns: usize, rows: usize, depth: usize) -> Vec<u8> {
     steps
 }
 
-/// The number of nodes that the walk from `start` needs at most at a moment, 1 where it has a fault.
+/// The number of nodes that the walk from `start` needs at most at a moment, 1 if it has a fault.
 pub fn most_nodes(start: (i32, i32), ops: &[u8]) -> usize {
     let mut table = vec![0; RECORD_WORDS * (4 * (ops.len() + 1) + 64)];
     let (mut marks, mut chain) = (vec![0; MARK_WORDS * ops.len()], vec![0; ops.len()]);
@@ -359,7 +359,7 @@ pub fn start(random: &mut Random) -> (i32, i32) {
     (axis(), axis())
 }
 
-/// n operations of which so many in a hundred are take-backs, where there is something to take; no fault, and no more steps
+/// n operations; this many in a hundred are take-backs, if there is something to take; no fault, and no more steps
 /// than may survive. `bias` of a hundred steps go east.
 pub fn hesitant(n: usize, take_backs: usize, bias: usize, random: &mut Random) -> Vec<u8> {
     let mut surviving = 0;
@@ -449,7 +449,7 @@ pub fn walk(most: usize, random: &mut Random) -> Vec<u8> {
     ops
 }
 
-/// The operations of two parties one after the other, so many of one at a time at most.
+/// The operations of two parties one after the other, at most this many of one at a time.
 pub fn mixed(first: &[u8], second: &[u8], most: usize, random: &mut Random) -> Vec<u8> {
     let (mut left, mut ops) = ([first, second], Vec::new());
     while left.iter().any(|own| !own.is_empty()) {
@@ -461,14 +461,14 @@ pub fn mixed(first: &[u8], second: &[u8], most: usize, random: &mut Random) -> V
     ops
 }
 
-/// n bytes of two parties, of which one fills the table; the other frees a low record, fills it again and needs one record more, again and again.
+/// n bytes of two parties: one fills the table; the other frees a low record, fills it again and needs one record more, again and again.
 pub fn refilled(n: usize) -> Vec<u8> {
     let again = [0x14, 0x12, 0x12, 0x14].into_iter().cycle();
     let filling = std::iter::once(0x12).chain(straight(n / 2, 0));
     filling.chain(again).take(n).collect()
 }
 
-/// The number of nodes that two parties need at most at a moment, 1 where there is a fault.
+/// The number of nodes that two parties need at most at a moment, 1 if there is a fault.
 pub fn most_pair_nodes(starts: Starts, ops: &[u8]) -> usize {
     let n = ops.len();
     let mut table = vec![0; PAIR_RECORD_WORDS * (4 * n + 136)];

@@ -7,8 +7,9 @@ pub mod suite;
 
 use answer::{
     CHAIN_ANSWER_WORDS, CONVEX_ANSWER_WORDS, Facts, HULL_ANSWER_WORDS, NO_MEETING,
-    OUTLINE_ANSWER_WORDS, OVERLAY_ANSWER_WORDS, Overlaid, POLYGON_ANSWER_WORDS, PairFacts,
-    ROWS_ANSWER_WORDS, Refusal, TURNS_ANSWER_WORDS, WALK_ANSWER_WORDS, WALK_TWO_ANSWER_WORDS,
+    ORTHOGONAL_ANSWER_WORDS, OUTLINE_ANSWER_WORDS, OVERLAY_ANSWER_WORDS, OrthogonalHull, Overlaid,
+    POLYGON_ANSWER_WORDS, PairFacts, ROWS_ANSWER_WORDS, Refusal, TURNS_ANSWER_WORDS,
+    WALK_ANSWER_WORDS, WALK_TWO_ANSWER_WORDS,
 };
 
 /// The calls of an implementation, with the answers of the C boundary.
@@ -20,6 +21,7 @@ pub struct Library {
     pub polygon_of_room: Polygon,
     pub rows: Rows,
     pub convex: Convex,
+    pub orthogonal_hull: Orthogonal,
     pub overlay: Overlay,
     pub chain_of_polygon: Chain,
     pub turns_of_steps: Convert,
@@ -63,6 +65,10 @@ pub type Line = fn(&[u8], &mut [u8]) -> usize;
 /// Whether a room, by its start and chain, is convex.
 pub type Convex = fn((i32, i32), &[u8], &mut [u32; CONVEX_ANSWER_WORDS]) -> u32;
 
+/// The orthogonal hull of a room, by its start and chain, in blocks of a grid size.
+pub type Orthogonal =
+    fn((i32, i32), &[u8], u32, &mut [u8], &mut [u32; ORTHOGONAL_ANSWER_WORDS]) -> u32;
+
 /// A start and a chain.
 pub type Room<'a> = ((i32, i32), &'a [u8]);
 
@@ -85,6 +91,7 @@ pub const PROVED: Library = Library {
     polygon_of_room: undrwyth::raw::polygon_of_room,
     rows: undrwyth::raw::rows,
     convex: undrwyth::raw::convex,
+    orthogonal_hull: undrwyth::raw::orthogonal_hull,
     overlay: undrwyth::raw::overlay,
     chain_of_polygon: undrwyth::raw::chain_of_polygon,
     turns_of_steps: undrwyth::raw::turns_of_steps,
@@ -131,6 +138,10 @@ macro_rules! library {
                     $of::convex(start, chain).map(|yes| [u32::from(yes)]),
                 )
             },
+            orthogonal_hull: |start, chain, grid, out, answer| {
+                let hull = $of::orthogonal_hull(start, chain, grid, out);
+                tell(answer, hull.map(hull_words))
+            },
             overlay: |one, other, out, answer| {
                 tell(answer, $of::overlay(one, other, out).map(measures))
             },
@@ -138,8 +149,12 @@ macro_rules! library {
                 let found = $of::chain_of_polygon(file, chain);
                 tell(
                     answer,
-                    found.map(|((x, y), steps)| {
-                        [steps as u32, x.cast_unsigned(), y.cast_unsigned()]
+                    found.map(|(start, steps)| {
+                        [
+                            steps as u32,
+                            start.x.cast_unsigned(),
+                            start.y.cast_unsigned(),
+                        ]
                     }),
                 )
             },
@@ -158,10 +173,10 @@ macro_rules! library {
 /// The rules by sets and maps.
 pub const PLAIN: Library = library!(plain);
 
-/// The same quadtree in plain Rust.
+/// The design of the proved library in plain Rust.
 pub const TWIN: Library = library!(twin);
 
-/// Writes number and place and then the facts, zeros where there are none; answers the number.
+/// Writes number and place and then the facts, or zeros if there are none; answers the number.
 fn tell<const FACTS: usize>(answer: &mut [u32], result: Result<[u32; FACTS], Refusal>) -> u32 {
     answer.fill(0);
     match result {
@@ -177,6 +192,16 @@ fn measures(parts: Overlaid) -> [u32; OVERLAY_ANSWER_WORDS - 2] {
     let [a, b, c] = parts.map(|part| part.panels as u32);
     let [d, e, f] = parts.map(|part| part.spans as u32);
     [a, b, c, d, e, f]
+}
+
+/// Steps, start and blocks of an orthogonal hull.
+fn hull_words(hull: OrthogonalHull) -> [u32; ORTHOGONAL_ANSWER_WORDS - 2] {
+    [
+        hull.steps as u32,
+        hull.start.x.cast_unsigned(),
+        hull.start.y.cast_unsigned(),
+        hull.blocks as u32,
+    ]
 }
 
 /// The facts of two parties as words: those of each without its nodes, which both have in common.
@@ -201,7 +226,7 @@ fn words(facts: Facts) -> [u32; WALK_ANSWER_WORDS - 2] {
         j,
         k,
         facts.area.cast_unsigned(),
-        facts.last.0.cast_unsigned(),
-        facts.last.1.cast_unsigned(),
+        facts.last.x.cast_unsigned(),
+        facts.last.y.cast_unsigned(),
     ]
 }

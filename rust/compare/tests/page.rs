@@ -8,7 +8,7 @@ use std::sync::LazyLock;
 use compare::inputs::Random;
 use compare::{Library, loaded, suite};
 
-/// Operations of the longest walks of which all are compared.
+/// All walks of at most this many operations are compared.
 const LONGEST: u32 = 5;
 /// Rounds of random calls.
 const ROUNDS: usize = 30;

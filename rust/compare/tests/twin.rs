@@ -2,7 +2,7 @@
 
 use compare::TWIN as LIBRARY;
 
-/// Operations of the longest walks of which all are compared.
+/// All walks of at most this many operations are compared.
 const LONGEST: u32 = 6;
 /// Rounds of random calls.
 const ROUNDS: usize = 100;

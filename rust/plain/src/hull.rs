@@ -64,7 +64,7 @@ fn side<'a>(corners: impl Iterator<Item = &'a Corner>) -> Vec<Corner> {
     side
 }
 
-/// Twice the signed area of the triangle: above 0 where a, b, c turn left.
+/// Twice the signed area of the triangle: above 0 if a, b, c turn left.
 fn cross(a: Corner, b: Corner, c: Corner) -> i64 {
     let (ux, uy) = (i64::from(b.0 - a.0), i64::from(b.1 - a.1));
     let (vx, vy) = (i64::from(c.0 - a.0), i64::from(c.1 - a.1));

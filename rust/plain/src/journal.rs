@@ -96,7 +96,7 @@ impl Journal {
         self.records.entry(node).or_insert([0; RECORD_WORDS])
     }
 
-    /// The node with its ancestors, each made where it is not there, nearer the root first.
+    /// The node with its ancestors, each made if it is not there, the nearer to the root first.
     fn make(&mut self, node: Corner, k: u32) {
         if self.records.contains_key(&node) {
             return;

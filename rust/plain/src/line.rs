@@ -12,7 +12,7 @@ use crate::rows::{panels, spans};
 use crate::turns::steps_of_turns;
 use crate::walk::walk;
 
-/// Writes the answer to one line, both without line feed, and answers its length; writes nothing where `out` is shorter than
+/// Writes the answer to one line, both without a line feed, and answers its length; writes nothing if `out` is shorter than
 /// the longest answer may be.
 pub fn line(line: &[u8], out: &mut [u8]) -> usize {
     if out.len() < LINE_BYTES {
@@ -29,7 +29,7 @@ pub fn program(input: &[u8]) -> Vec<u8> {
     answers.collect::<String>().into_bytes()
 }
 
-/// The whole output of the rows program for the whole input: for each line the spans of its room, one a line, or its refusal.
+/// The whole output of the rows program for the whole input: for each line the spans of its room, one per line, or its refusal.
 pub fn rows_program(input: &[u8]) -> Vec<u8> {
     let mut output = String::new();
     for line in lines(input) {
@@ -84,7 +84,7 @@ fn lines(input: &[u8]) -> impl Iterator<Item = &[u8]> {
     lines.map(|line| line.strip_suffix(b"\n").unwrap_or(line))
 }
 
-/// Writes the line, converted, both without line feed, and answers its length; writes nothing where `out` is shorter.
+/// Writes the line, converted, both without a line feed, and answers its length; writes nothing if `out` is shorter.
 pub fn convert_line(line: &[u8], out: &mut [u8]) -> usize {
     if out.len() < line.len() {
         return 0;

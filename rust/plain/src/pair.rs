@@ -72,14 +72,14 @@ struct Party {
     edges: HashMap<(Corner, Corner), Vec<u32>>,
 }
 
-/// Adds the step to the list of the key, and tells whether there was none.
+/// Adds the step to the list of the key, and says whether there was none.
 fn enter<K: Eq + Hash>(lists: &mut HashMap<K, Vec<u32>>, key: K, step: u32) -> bool {
     let list = lists.entry(key).or_default();
     list.push(step);
     list.len() == 1
 }
 
-/// Takes the last step off the list of the key, and tells whether there is none now.
+/// Takes the last step off the list of the key, and says whether there is none now.
 fn withdraw<K: Eq + Hash>(lists: &mut HashMap<K, Vec<u32>>, key: K) -> bool {
     let list = lists.get_mut(&key).expect("it was entered");
     list.pop();

@@ -71,7 +71,7 @@ fn float(whole: i64) -> u64 {
 }
 
 /// Reads a polygon of either byte order, writes its steps to the start of `chain`, and answers its start and how many there are.
-pub fn chain_of_polygon(file: &[u8], chain: &mut [u8]) -> Result<(Corner, usize), Refusal> {
+pub fn chain_of_polygon(file: &[u8], chain: &mut [u8]) -> Result<(answer::Corner, usize), Refusal> {
     let corners = ring(&floats(file)?)?;
     let steps: Vec<u8> = corners
         .windows(2)
@@ -83,7 +83,7 @@ pub fn chain_of_polygon(file: &[u8], chain: &mut [u8]) -> Result<(Corner, usize)
     }
     let part = chain.get_mut(..steps.len()).ok_or(Refusal::ChainRoom)?;
     part.copy_from_slice(&steps);
-    Ok((corners[0], steps.len()))
+    Ok((corners[0].into(), steps.len()))
 }
 
 /// The coordinates of all points, x and y in turn.

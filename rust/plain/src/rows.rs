@@ -58,7 +58,7 @@ pub fn spans(panels: &BTreeSet<Panel>) -> Vec<[i32; 3]> {
     spans
 }
 
-/// Writes the spans, if there is room for them, and answers how many there are.
+/// Writes the spans, if the buffer is long enough, and answers how many there are.
 pub fn write(spans: &[[i32; 3]], out: &mut [i32]) -> Result<usize, Refusal> {
     let part = out.get_mut(..3 * spans.len()).ok_or(Refusal::SpanRoom)?;
     part.copy_from_slice(&spans.concat());

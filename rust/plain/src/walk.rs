@@ -36,7 +36,7 @@ pub fn walk(
     Ok(facts(start, &steps).alone(records.len() as u32))
 }
 
-/// Refusals 1, 2 and 3; `words` are those of a record, of which there are `most` at most.
+/// Refusals 1, 2 and 3. A record has `words` words, and there are at most `most` records.
 pub fn judge_sizes(
     ops: usize,
     table: usize,
@@ -135,7 +135,7 @@ pub fn facts(start: Corner, steps: &[u8]) -> PartyFacts {
     let verdict = if steps.is_empty() {
         Verdict::Nowhere
     } else if last == start {
-        // Start and end meet; no others do where the corners before the end all differ.
+        // Start and end meet; no others do if the corners before the end all differ.
         if steps.len() == 2 {
             Verdict::ThereAndBack
         } else if different.len() == steps.len() {
@@ -158,6 +158,6 @@ pub fn facts(start: Corner, steps: &[u8]) -> PartyFacts {
         } else {
             0
         },
-        last,
+        last: last.into(),
     }
 }

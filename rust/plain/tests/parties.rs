@@ -1,6 +1,8 @@
 //! Worked walks of two parties in one table, and what is promised of all of them.
 
-use answer::{MARK_WORDS, PAIR_RECORD_WORDS, PairFacts, RECORD_WORDS, Refusal, Verdict, word};
+use answer::{
+    Corner, MARK_WORDS, PAIR_RECORD_WORDS, PairFacts, RECORD_WORDS, Refusal, Verdict, word,
+};
 
 /// Room enough for all walks here but those that ask for more.
 const RECORDS: usize = 120;
@@ -86,7 +88,7 @@ fn two_firms_around_a_lobby() {
     assert_eq!([0, 1].map(|q| alone(q).unwrap().nodes), [6, 7]);
     for (party, start) in facts.parties.into_iter().zip(LOBBY) {
         assert_eq!(
-            (party.verdict, party.area, party.last),
+            (party.verdict, party.area, party.last.into()),
             (Verdict::Room, 2, start)
         );
         assert_eq!(
@@ -157,7 +159,10 @@ fn nobody_moves() {
     assert_eq!(walked.facts().nodes, 1);
     for party in walked.facts().parties {
         assert_eq!((party.verdict, party.corners), (Verdict::Nowhere, 1));
-        assert_eq!((party.meeting, party.area, party.last), (None, 0, (0, 0)));
+        assert_eq!(
+            (party.meeting, party.area, party.last),
+            (None, 0, (0, 0).into())
+        );
     }
     // Both stand on the root and need it.
     for q in 0..2 {
@@ -243,7 +248,7 @@ fn a_full_table_has_room_for_what_is_there() {
     let ops = [0x00, 0x00, 0x01, 0x10, 0x10, 0x11, 0x12];
     assert_eq!(
         walk_in([(0, 0); 2], &ops[..6], 4).facts().parties[1].last,
-        (2, 1)
+        (2, 1).into()
     );
     assert_eq!(
         walk_in([(0, 0); 2], &ops, 4).answer,
@@ -262,7 +267,7 @@ fn no_room_for_the_starts() {
         }
     }
     assert_eq!(walk_in(starts, &[], 6).facts().nodes, 6);
-    // A fault at any place wins over room for the starts.
+    // A fault at any place wins over a table that is too small for the starts.
     assert_eq!(
         walk_in(starts, &[0x10, 0x25], 1).answer,
         Err(Refusal::UnknownParty(1))
@@ -295,7 +300,7 @@ fn limits_of_steps() {
     assert_eq!(facts.nodes, 32_769);
     assert_eq!(
         facts.parties.map(|party| party.last),
-        [(16_384, 0), (-16_384, 0)]
+        [(16_384, 0), (-16_384, 0)].map(Corner::from)
     );
     ops[16_384] = 0x00;
     assert_eq!(

@@ -216,7 +216,7 @@ fn a_start_elsewhere() {
     let facts = walked.facts();
     assert_eq!((facts.nodes, facts.corners), (59, 4));
     assert_eq!(
-        (facts.verdict, facts.area, facts.last),
+        (facts.verdict, facts.area, facts.last.into()),
         (Verdict::Room, 1, (16_383, 16_383))
     );
     assert_eq!(

@@ -1,13 +1,18 @@
-//! Which rooms are convex: the room laid down clockwise twice, its extremal corners as the least of the numbers of its places,
-//! and each of the four parts by the depths of its columns and the chain over them.
+//! Which rooms are convex: first the steps against the box; then the room laid down clockwise twice, its extremal corners as the least
+//! of the numbers of its places, and each of the four parts by the depths of its columns and the chain over them.
 
 use answer::Refusal;
 
 use crate::polygon::judge_room;
+use crate::walk_box::WalkBox;
 
 /// Whether the room with this start and chain is convex.
 pub fn convex(start: (i32, i32), chain: &[u8]) -> Result<bool, Refusal> {
     judge_room(start, chain)?;
+    let walk_box = WalkBox::of(chain);
+    if 2 * (walk_box.width + walk_box.height) < chain.len() + 4 {
+        return Ok(false);
+    }
     Ok(match chain.len() {
         0..=256 => in_store(chain, [0; 512], [0; 257], [0; 257]),
         257..=2_048 => in_store(chain, [0; 4_096], [0; 2_049], [0; 2_049]),

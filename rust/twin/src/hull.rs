@@ -36,6 +36,9 @@ pub fn judge(start: Corner, chain: &[u8]) -> Result<(), Refusal> {
 /// The hull corners of the walk of good steps, counterclockwise from the lowest of the leftmost.
 pub fn hull_list(start: Corner, chain: &[u8]) -> Vec<Corner> {
     let (west, east) = extent(chain);
+    if chain.len() < 32 {
+        return list(start, chain, west, east, [BLANK; 32], [BLANK; 32]);
+    }
     match east - west {
         0..256 => list(start, chain, west, east, [BLANK; 256], [BLANK; 256]),
         256..2_048 => list(start, chain, west, east, [BLANK; 2_048], [BLANK; 2_048]),
@@ -63,7 +66,7 @@ fn extent(chain: &[u8]) -> (u32, u32) {
     (west, east)
 }
 
-/// The same in a store with room for the columns: the least height of each, and the least of the heights turned upside down.
+/// The same in a store that is large enough for the columns: the least height of each, and the least of the heights turned upside down.
 fn list<const N: usize>(
     start: Corner,
     chain: &[u8],
@@ -121,7 +124,7 @@ fn scan(list: &mut Vec<Corner>, corners: impl Iterator<Item = Corner>) {
     }
 }
 
-/// Above 0 where a, b, c turn left.
+/// Above 0 if a, b, c turn left.
 fn cross(a: Corner, b: Corner, c: Corner) -> i64 {
     i64::from(b.x - a.x) * i64::from(c.y - a.y) - i64::from(b.y - a.y) * i64::from(c.x - a.x)
 }

@@ -12,9 +12,9 @@ use crate::polygon::polygon_of_room;
 use crate::rows::rows;
 use crate::tree::{Corner, ROOT};
 use crate::turns::steps_of_turns;
-use crate::walk::walk;
+use crate::walk::walk_clear;
 
-/// Writes the answer to one line, both without line feed, and answers its length; writes nothing where `out` is shorter than
+/// Writes the answer to one line, both without a line feed, and answers its length; writes nothing if `out` is shorter than
 /// the longest answer may be.
 pub fn line(line: &[u8], out: &mut [u8]) -> usize {
     if out.len() < LINE_BYTES {
@@ -62,7 +62,7 @@ pub fn sheet(input: impl BufRead, mut output: impl Write) -> io::Result<()> {
     })
 }
 
-/// Writes what `tell` appends for each line of the input, which it is given without its line feed.
+/// Writes what `tell` appends for each line of the input; it gets the line without its line feed.
 fn each_line(
     mut input: impl BufRead,
     mut output: impl Write,
@@ -78,7 +78,7 @@ fn each_line(
     output.flush()
 }
 
-/// The buffers in which lines are judged.
+/// The buffers in which lines are judged. The table is all zero before each line and after it.
 struct Judge {
     digits: [u8; MOST_LINE_DIGITS],
     table: [u32; RECORD_WORDS * LINE_RECORDS],
@@ -107,7 +107,7 @@ impl Judge {
         }
     }
 
-    /// Appends the spans of the line's room, one a line, or the line of its refusal.
+    /// Appends the spans of the line's room, one per line, or the line of its refusal.
     fn list(&mut self, line: &[u8], numbers: &mut [i32; SPAN_NUMBERS], out: &mut Vec<u8>) {
         let walked = self.judge(line);
         match walked.and_then(|facts| rows((0, 0), &self.chain[..facts.steps as usize], numbers)) {
@@ -154,7 +154,7 @@ impl Judge {
         out.push(b'\n');
     }
 
-    /// Walks the frame in this line: the chain begins with its surviving steps.
+    /// Walks the frame in this line, and clears the records that this took: the chain begins with its surviving steps.
     fn judge(&mut self, line: &[u8]) -> Result<Facts, Refusal> {
         let (kind, n) = read(line, &mut self.digits).ok_or(Refusal::BadLine)?;
         if kind == 1 {
@@ -162,13 +162,16 @@ impl Judge {
         }
         let ops = &self.digits[..n];
         let chain = &mut self.chain[..n];
-        walk(
+        let walked = walk_clear(
             (0, 0),
             ops,
             &mut self.table,
             &mut self.marks[..MARK_WORDS * n],
             chain,
-        )
+        );
+        let used = walked.map_or(0, |facts| facts.nodes as usize);
+        self.table[..RECORD_WORDS * used].fill(0);
+        walked
     }
 }
 
@@ -186,7 +189,7 @@ fn read(line: &[u8], to: &mut [u8; MOST_LINE_DIGITS]) -> Option<(usize, usize)> 
     Some((kind, count))
 }
 
-/// Writes the line, converted, both without line feed, and answers its length; writes nothing where `out` is shorter.
+/// Writes the line, converted, both without a line feed, and answers its length; writes nothing if `out` is shorter.
 pub fn convert_line(line: &[u8], out: &mut [u8]) -> usize {
     if out.len() < line.len() {
         return 0;

@@ -30,7 +30,7 @@ pub fn outline(start: (i32, i32), chain: &[u8], out: &mut [u8]) -> Result<usize,
     .ok_or(Refusal::OutlineRoom)
 }
 
-/// Marks the ways of the walk in a map of its box, a byte a corner and a bit a way, and writes the outline, if there is room for it.
+/// Marks the ways of the walk in a map of its box, with a byte for each corner and a bit for each way, and writes the outline, if the buffer is long enough.
 fn write_in<const N: usize>(
     walk: &WalkBox,
     chain: &[u8],
@@ -161,7 +161,7 @@ impl<const N: usize> Store<N> {
         (to, ways.into_iter().find(walked).unwrap_or(back(way)))
     }
 
-    /// Writes the outline, if there is room for it.
+    /// Writes the outline, if the buffer is long enough.
     fn write(mut self, chain: &[u8], out: &mut [u8]) -> Option<usize> {
         let home = self.link(chain);
         let first = (home, u8::from(self.links[home][0] == 0));

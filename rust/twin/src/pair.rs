@@ -43,7 +43,7 @@ fn judge_bytes(ops: &[u8]) -> Result<(), Refusal> {
     Ok(())
 }
 
-/// The operations one after the other; refusal 7 where there is no room.
+/// The operations one after the other; refusal 7 if the table is full.
 fn run(
     starts: [Corner; 2],
     ops: &[u8],
@@ -101,7 +101,7 @@ impl Party {
         }
     }
 
-    /// One operation: the visits at the corner then stood on, and the records that changed; none where there is no room.
+    /// One operation: the visits at the corner where it ends, and the records that changed; none if the table is full.
     fn operate(
         &mut self,
         tree: &mut PairTree,

@@ -26,7 +26,7 @@ impl<'a> PairTree<'a> {
         tree
     }
 
-    /// The start of the party with its ancestors, visited; none where there is no room.
+    /// The start of the party with its ancestors, visited; none if the table is full.
     pub fn planted(&mut self, q: usize, start: Corner) -> Option<usize> {
         let mut node = 0;
         for i in (0..start.depth()).rev() {
@@ -79,7 +79,7 @@ impl<'a> PairTree<'a> {
         self.put_own(q, v, LINK_STEP + back, step);
     }
 
-    /// Takes the party's link away; the refs stay where the other party links the two.
+    /// Takes the party's link away; the refs stay if the other party links the two.
     fn clear_link(&mut self, q: usize, u: usize, v: usize, way: u8) {
         let (way, back) = (way as usize, back(way) as usize);
         if self.own(1 - q, u, LINK_STEP + way) == 0 {
@@ -96,7 +96,7 @@ impl<'a> PairTree<'a> {
     }
 
     /// The child of `u` at the word, which the party needs from the step on unless it does already; made in the lowest free record
-    /// where it is not there, none where there is no room.
+    /// if it is not there; none if the table is full.
     fn child(&mut self, q: usize, u: usize, word: usize, step: u32) -> Option<usize> {
         if let Some(known) = self.node(u, word) {
             if self.own(q, known, NEED) == 0 {
@@ -117,7 +117,7 @@ impl<'a> PairTree<'a> {
         Some(node)
     }
 
-    /// The neighbour of the node `u` of corner `c`, found or made by the step; none where there is no room. It climbs to the level
+    /// The neighbour of the node `u` of corner `c`, found or made by the step; none if the table is full. It climbs to the level
     /// of a link of the party's own, the root or a shared parent, and makes the link of each level on the way down.
     pub fn neighbour(
         &mut self,

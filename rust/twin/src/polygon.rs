@@ -55,7 +55,8 @@ fn free<const N: usize>(chain: &[u8], walk: &WalkBox, mut map: [u8; N]) -> bool 
     true
 }
 
-/// Threads the places of each column, then follows each thread and stamps its heights: whether none comes twice.
+/// Threads the places of each column, then follows the thread of each column that the closed walk can reach, and stamps its heights:
+/// whether none comes twice.
 fn scattered<const N: usize, const M: usize>(
     chain: &[u8],
     mut head: [u16; M],
@@ -74,7 +75,7 @@ fn scattered<const N: usize, const M: usize>(
         head[at.x as usize] = (i + 1) as u16;
         at = at.stepped(step);
     }
-    for (column, &last) in head.iter().enumerate() {
+    for (column, &last) in head[..2 * middle as usize].iter().enumerate() {
         let mut place = usize::from(last);
         while place > 0 {
             let stamp = &mut stamps[usize::from(heights[place - 1])];
@@ -88,9 +89,13 @@ fn scattered<const N: usize, const M: usize>(
     true
 }
 
-/// Writes the polygon, if there is room for it.
+/// Writes the polygon, if the buffer is long enough.
 fn write(start: Corner, chain: &[u8], out: &mut [u8]) -> Option<usize> {
-    let count = chain.windows(2).filter(|two| two[0] != two[1]).count() + 2;
+    let bends: u16 = chain
+        .windows(2)
+        .map(|two| u16::from(two[0] != two[1]))
+        .sum();
+    let count = usize::from(bends) + 2;
     let bytes = 13 + 16 * count;
     let (header, points) = out.get_mut(..bytes)?.split_at_mut(13);
     header[..9].copy_from_slice(b"\x01\x03\x00\x00\x00\x01\x00\x00\x00");
@@ -116,7 +121,7 @@ fn write(start: Corner, chain: &[u8], out: &mut [u8]) -> Option<usize> {
 }
 
 /// Reads a polygon of either byte order, writes its steps to the start of `chain`, and answers its start and how many there are.
-pub fn chain_of_polygon(file: &[u8], chain: &mut [u8]) -> Result<((i32, i32), usize), Refusal> {
+pub fn chain_of_polygon(file: &[u8], chain: &mut [u8]) -> Result<(answer::Corner, usize), Refusal> {
     let (header, points) = file.split_at_checked(13).ok_or(Refusal::FileLength)?;
     match &header[..9] {
         b"\x01\x03\x00\x00\x00\x01\x00\x00\x00" => read(
@@ -137,7 +142,7 @@ pub fn chain_of_polygon(file: &[u8], chain: &mut [u8]) -> Result<((i32, i32), us
     }
 }
 
-/// The same where the byte order is known.
+/// The same if the byte order is known.
 #[inline]
 fn read(
     header: &[u8],
@@ -145,7 +150,7 @@ fn read(
     number: impl Fn([u8; 4]) -> u32,
     float: impl Fn([u8; 8]) -> f64,
     chain: &mut [u8],
-) -> Result<((i32, i32), usize), Refusal> {
+) -> Result<(answer::Corner, usize), Refusal> {
     let count = number(header[9..].try_into().expect("four bytes"));
     if points.len() as u64 != 16 * u64::from(count) {
         return Err(Refusal::FileLength);
@@ -183,7 +188,7 @@ fn read(
         run.fill(direction(at, next));
         at = next;
     }
-    Ok(((first.x, first.y), steps))
+    Ok(((first.x, first.y).into(), steps))
 }
 
 fn distance(a: Corner, b: Corner) -> usize {

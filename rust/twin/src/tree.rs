@@ -46,7 +46,7 @@ impl Corner {
         }
     }
 
-    /// The i-th parent, where the root is its own.
+    /// The i-th parent; the root is its own parent.
     pub fn up_by(self, i: u32) -> Corner {
         (0..i).fold(self, |c, _| c.parent())
     }
@@ -78,16 +78,15 @@ pub struct Tree<'a> {
 }
 
 impl<'a> Tree<'a> {
-    /// Clears the table, plants the ancestors of the start and the start, and visits it; none where there is no room.
+    /// Plants the ancestors of the start and the start in a table of zeros, and visits it; none if the table is full.
     pub fn new(words: &'a mut [u32], start: Corner) -> Option<Tree<'a>> {
-        words.fill(0);
         let mut tree = Tree { words, nodes: 1 };
         let at = tree.planted(start)?;
         tree.visit(at, 0);
         Some(tree)
     }
 
-    /// The node of the corner, made with its ancestors where they are not there.
+    /// The node of the corner, made with its ancestors if they are not there.
     fn planted(&mut self, c: Corner) -> Option<usize> {
         let mut node = 0;
         for i in (0..c.depth()).rev() {
@@ -130,7 +129,7 @@ impl<'a> Tree<'a> {
         self.put(v, LINK_STEP + back, 0);
     }
 
-    /// The child of `u` at the word, made by the step where it is not there; none where there is no room.
+    /// The child of `u` at the word, made by the step if it is not there; none if the table is full.
     fn child(&mut self, u: usize, word: usize, step: u32) -> Option<usize> {
         if let Some(known) = self.node(u, word) {
             return Some(known);
@@ -146,7 +145,7 @@ impl<'a> Tree<'a> {
         Some(node)
     }
 
-    /// The neighbour of the node `u` of corner `c`, found or made by the step; none where there is no room. It climbs to the level
+    /// The neighbour of the node `u` of corner `c`, found or made by the step; none if the table is full. It climbs to the level
     /// of a link, the root or a shared parent, and makes the link of each level on the way down.
     pub fn neighbour(&mut self, u: usize, c: Corner, way: u8, step: u32) -> Option<usize> {
         if let Some(known) = self.linked(u, way) {
@@ -154,7 +153,7 @@ impl<'a> Tree<'a> {
         }
         let (mut node, mut at, mut level) = (u, c, 0);
         while self.goes_up(node, at, way) {
-            node = self.node(node, PARENT).expect("it is no root");
+            node = self.node(node, PARENT).expect("it is not the root");
             at = at.parent();
             level += 1;
         }

@@ -16,10 +16,46 @@ pub fn walk(
     chain: &mut [u8],
 ) -> Result<Facts, Refusal> {
     let start = Corner::from(start);
+    judge_input(start, ops, table.len(), marks.len(), chain.len())?;
+    table.fill(0);
+    set_out(start, ops, table, marks, chain)
+}
+
+/// The same if the table is all zero, and need not be cleared.
+pub fn walk_clear(
+    start: (i32, i32),
+    ops: &[u8],
+    table: &mut [u32],
+    marks: &mut [u32],
+    chain: &mut [u8],
+) -> Result<Facts, Refusal> {
+    let start = Corner::from(start);
+    judge_input(start, ops, table.len(), marks.len(), chain.len())?;
+    set_out(start, ops, table, marks, chain)
+}
+
+/// All refusals but 7, by the lengths of the buffers.
+fn judge_input(
+    start: Corner,
+    ops: &[u8],
+    table: usize,
+    marks: usize,
+    chain: usize,
+) -> Result<(), Refusal> {
     let sizes = (RECORD_WORDS, MOST_RECORDS);
-    judge_sizes(ops.len(), table.len(), sizes, marks.len(), &[chain.len()])?;
+    judge_sizes(ops.len(), table, sizes, marks, &[chain])?;
     judge_start(start)?;
-    judge_operations(ops)?;
+    judge_operations(ops)
+}
+
+/// Walks operations without a fault in a table of zeros.
+fn set_out(
+    start: Corner,
+    ops: &[u8],
+    table: &mut [u32],
+    marks: &mut [u32],
+    chain: &mut [u8],
+) -> Result<Facts, Refusal> {
     let Some(mut walk) = Walk::new(table, start) else {
         table.fill(0);
         marks.fill(0);
@@ -49,7 +85,7 @@ pub fn walk(
     Ok(facts.alone(walk.tree.nodes as u32))
 }
 
-/// Refusals 1, 2 and 3; `record` are the words of a record, of which there are `most` at most.
+/// Refusals 1, 2 and 3. A record has `record` words, and there are at most `most` records.
 pub fn judge_sizes(
     ops: usize,
     words: usize,
@@ -113,7 +149,7 @@ struct Walk<'a> {
 }
 
 impl<'a> Walk<'a> {
-    /// At the start; none where there is no room for it.
+    /// At the start; none if the table is too small for it.
     fn new(table: &'a mut [u32], start: Corner) -> Option<Walk<'a>> {
         let tree = Tree::new(table, start)?;
         Some(Walk {
@@ -127,7 +163,7 @@ impl<'a> Walk<'a> {
         })
     }
 
-    /// One step on; false where there is no room.
+    /// One step on; false if the table is full.
     fn step(&mut self, chain: &mut [u8], way: u8) -> bool {
         let step = self.steps + 1;
         let Some(node) = self.tree.neighbour(self.node, self.at, way, step) else {
@@ -194,7 +230,7 @@ pub fn facts(
         } else {
             0
         },
-        last: (at.x, at.y),
+        last: (at.x, at.y).into(),
     }
 }
 

@@ -1,14 +1,17 @@
 //! The proved judge of a surveyor's walk, for Rust.
 //!
-//! A walk is a byte string of operations: 0 east, 1 north, 2 west, 3 south, 4 takes the last surviving step back. The caller
-//! lends every buffer; a refusal leaves the buffers as they were, but [`Refusal::NoRoom`] leaves them wholly zero. No call
-//! allocates. Each names the numbers ([`Refusal::number`]) of its refusals in the order in which they are looked for.
-//! include/undrwyth.h has the stack that each call needs. A refusal is an error for `?`, with its number and place as its words:
+//! A walk is a byte string of operations: 0 east, 1 north, 2 west, 3 south, 4 takes the last surviving step back. It starts at a
+//! [`Corner`], for which every call also takes the pair `(x, y)`. The caller lends every buffer. A refusal leaves the buffers as
+//! they were, except that [`Refusal::NoRoom`] leaves them wholly zero. No call allocates. Each call names the numbers
+//! ([`Refusal::number`]) of its refusals, in the order in which it looks for them. include/undrwyth.h has the stack that each
+//! call needs. A refusal is an error for `?`, and says in words what is wrong:
 //!
 //! ```
-//! let refusal = undrwyth::convex((0, 0), &[0, 1, 4]).unwrap_err();
-//! assert_eq!(refusal, undrwyth::Refusal::BadDigit(2));
-//! assert_eq!(refusal.to_string(), "refusal 4 at place 2");
+//! use undrwyth::{Corner, Refusal};
+//! let refusal = undrwyth::convex(Corner { x: 0, y: 0 }, &[0, 1, 4]).unwrap_err();
+//! assert_eq!(refusal, Refusal::BadDigit(2));
+//! assert_eq!(refusal.to_string(), "a bad digit (refusal 4 at place 2)");
+//! assert_eq!(undrwyth::convex((0, 0), &[0, 2]).unwrap_err().to_string(), "not a room (refusal 12)");
 //! ```
 
 #![no_std]
@@ -20,15 +23,15 @@ pub mod raw;
 pub use answer::*;
 
 /// Judges the walk of `ops` from the corner `start`, whose coordinates are at most [`MOST_START`] from 0, in a lent table of
-/// [`RECORD_WORDS`] words a record; `marks` has [`MARK_WORDS`] words an operation and `chain` one byte.
+/// [`RECORD_WORDS`] words for each record. For each operation `marks` has [`MARK_WORDS`] words, and `chain` one byte.
 ///
 /// After an accepted walk the table holds the linked quadtree of the surviving steps, whose words [`word`] names. `marks` holds,
-/// for each operation, the nodes in use after it, the visits at the corner then stood on, and how many records it changed;
+/// for each operation, the nodes in use after it, the visits at the corner where it ends, and how many records it changed;
 /// `chain` holds the surviving steps and then zeros.
 ///
-/// A table of 4 c + 64 records is never refused for room where the walk has at most c different corners at any moment, nor
-/// one of 4 c - 3 where it starts at (0, 0). The whole table is cleared, whatever the walk uses of it: lend what it can
-/// need, and no more.
+/// A table of 4 c + 64 records is never too small if the walk has at most c different corners at any moment, nor is one of
+/// 4 c - 3 if the walk starts at (0, 0). The whole table is cleared, whatever the walk uses of it: lend what it can need, and
+/// no more.
 ///
 /// Refused with 1, 2, 3, 10; then 4, 5 or 6 at the first faulty place; then 7, which leaves the three buffers zero.
 ///
@@ -38,13 +41,13 @@ pub use answer::*;
 /// let (mut marks, mut chain) = ([0; 12], [0; 4]);
 /// let facts = undrwyth::walk((0, 0), &ops, &mut table, &mut marks, &mut chain)?;
 /// assert_eq!(facts.verdict, undrwyth::Verdict::Room);
-/// assert_eq!((facts.meeting, facts.area, facts.last), (Some((0, 4)), 1, (0, 0)));
+/// assert_eq!((facts.meeting, facts.area, facts.last), (Some((0, 4)), 1, (0, 0).into()));
 /// assert_eq!(marks, [2, 1, 2, 3, 1, 3, 4, 1, 3, 4, 2, 2]);
 /// assert_eq!(chain, ops);
 /// # Ok::<(), undrwyth::Refusal>(())
 /// ```
 pub fn walk(
-    start: (i32, i32),
+    start: impl Into<Corner>,
     ops: &[u8],
     table: &mut [u32],
     marks: &mut [u32],
@@ -57,16 +60,16 @@ pub fn walk(
     Ok(party_facts([verdict, steps, corners, j, k, area, x, y]).alone(nodes))
 }
 
-/// Judges the walks of two parties, 0 and 1, from their starts in one lent table of [`PAIR_RECORD_WORDS`] words a record. A byte
-/// of `ops` is 16 times the party plus the number of an operation, and concerns that party alone; `marks` has [`MARK_WORDS`] words
-/// a byte, and each of the two chains one.
+/// Judges the walks of two parties, 0 and 1, from their starts in one lent table of [`PAIR_RECORD_WORDS`] words for each record. A
+/// byte of `ops` is 16 times the party plus the number of an operation, and concerns that party alone. For each byte `marks` has
+/// [`MARK_WORDS`] words, and each of the two chains one byte.
 ///
 /// After an accepted call the table holds the linked quadtree of the nodes that either party needs, each in one record: its words
 /// up to [`word::LINK_STEP`] once, and the others for each party at [`word::of`]. `marks` holds, for each byte, the nodes in use
 /// after it, the visits of the party that moved at the corner where it then stands, and how many records changed; each chain holds
 /// the surviving steps of its party and then zeros.
 ///
-/// A table of 4 c + 128 records is never refused for room if the different corners of both parties add up to at most c at any
+/// A table of 4 c + 128 records is never too small if the different corners of both parties add up to at most c at any
 /// moment. The whole table is cleared, whatever the walks use of it: lend what they can need, and no more.
 ///
 /// Refused with 1, 2, 3, 10; then 20, 4, 5 or 6 at the first faulty place; then 7, which leaves the four buffers zero.
@@ -89,7 +92,7 @@ pub fn walk(
 /// # Ok::<(), undrwyth::Refusal>(())
 /// ```
 pub fn walk_two(
-    starts: [(i32, i32); 2],
+    starts: [impl Into<Corner>; 2],
     ops: &[u8],
     table: &mut [u32],
     marks: &mut [u32],
@@ -116,7 +119,7 @@ pub fn walk_two(
 /// assert_eq!(out, [-1, 0, 1, 0, 0]);
 /// assert_eq!(undrwyth::hull((0, 0), &[0, 1], &mut out), Err(undrwyth::Refusal::HullRoom));
 /// ```
-pub fn hull(start: (i32, i32), chain: &[u8], out: &mut [i32]) -> Result<usize, Refusal> {
+pub fn hull(start: impl Into<Corner>, chain: &[u8], out: &mut [i32]) -> Result<usize, Refusal> {
     let mut answer = [0; HULL_ANSWER_WORDS];
     let number = raw::hull(start, chain, out, &mut answer);
     accepted(number, answer[1])?;
@@ -136,7 +139,7 @@ pub fn hull(start: (i32, i32), chain: &[u8], out: &mut [i32]) -> Result<usize, R
 ///     Err(undrwyth::Refusal::OutlineRoom)
 /// );
 /// ```
-pub fn outline(start: (i32, i32), chain: &[u8], out: &mut [u8]) -> Result<usize, Refusal> {
+pub fn outline(start: impl Into<Corner>, chain: &[u8], out: &mut [u8]) -> Result<usize, Refusal> {
     let mut answer = [0; OUTLINE_ANSWER_WORDS];
     let number = raw::outline(start, chain, out, &mut answer);
     accepted(number, answer[1])?;
@@ -157,7 +160,11 @@ pub fn outline(start: (i32, i32), chain: &[u8], out: &mut [u8]) -> Result<usize,
 ///     Err(undrwyth::Refusal::NotRoom)
 /// );
 /// ```
-pub fn polygon_of_room(start: (i32, i32), chain: &[u8], out: &mut [u8]) -> Result<usize, Refusal> {
+pub fn polygon_of_room(
+    start: impl Into<Corner>,
+    chain: &[u8],
+    out: &mut [u8],
+) -> Result<usize, Refusal> {
     let mut answer = [0; POLYGON_ANSWER_WORDS];
     let number = raw::polygon_of_room(start, chain, out, &mut answer);
     accepted(number, answer[1])?;
@@ -174,7 +181,7 @@ pub fn polygon_of_room(start: (i32, i32), chain: &[u8], out: &mut [u8]) -> Resul
 /// assert_eq!(out, [4, -1, 0, 5, -1, -1, 7]);
 /// assert_eq!(undrwyth::rows((0, 0), &[0, 1, 2, 3], &mut [0; 2]), Err(undrwyth::Refusal::SpanRoom));
 /// ```
-pub fn rows(start: (i32, i32), chain: &[u8], out: &mut [i32]) -> Result<usize, Refusal> {
+pub fn rows(start: impl Into<Corner>, chain: &[u8], out: &mut [i32]) -> Result<usize, Refusal> {
     let mut answer = [0; ROWS_ANSWER_WORDS];
     let number = raw::rows(start, chain, out, &mut answer);
     accepted(number, answer[1])?;
@@ -192,16 +199,54 @@ pub fn rows(start: (i32, i32), chain: &[u8], out: &mut [i32]) -> Result<usize, R
 /// assert_eq!(undrwyth::convex((-7, 5), &l_of_five), Ok(false));
 /// assert_eq!(undrwyth::convex((0, 0), &[0, 2]), Err(undrwyth::Refusal::NotRoom));
 /// ```
-pub fn convex(start: (i32, i32), chain: &[u8]) -> Result<bool, Refusal> {
+pub fn convex(start: impl Into<Corner>, chain: &[u8]) -> Result<bool, Refusal> {
     let mut answer = [0; CONVEX_ANSWER_WORDS];
     let number = raw::convex(start, chain, &mut answer);
     accepted(number, answer[1])?;
     Ok(answer[2] == 1)
 }
 
+/// Writes the steps round the orthogonal hull of the room with this start and chain to the start of `out`. The plane is cut into
+/// blocks of `grid` by `grid` panels, 1 to [`MOST_GRID`], and the hull is the smallest set of blocks that has each block with a
+/// panel of the room and, with any two blocks of one row or one column, all blocks between them. The steps go counterclockwise
+/// along the edges of blocks, from the lowest of the leftmost corners, which is answered in blocks too: corner (x, y) is corner
+/// (grid x, grid y) of the panels. There are never more steps than in `chain`; the bytes after them are unchanged. Refused with 1,
+/// 10, 22, 4, 6, 12 or 18.
+///
+/// ```
+/// let u = [0, 0, 0, 1, 1, 2, 3, 2, 1, 2, 3, 3];
+/// let mut out = [7; 12];
+/// let hull = undrwyth::orthogonal_hull((-3, 5), &u, 1, &mut out)?;
+/// assert_eq!((hull.start.into(), hull.steps, hull.blocks), ((-3, 5), 10, 6));
+/// assert_eq!(out, [0, 0, 0, 1, 1, 2, 2, 2, 3, 3, 7, 7]);
+/// let hull = undrwyth::orthogonal_hull((-3, 5), &u, 2, &mut out)?;
+/// assert_eq!((hull.start.into(), hull.steps, hull.blocks), ((-2, 2), 8, 4));
+/// assert_eq!(
+///     undrwyth::orthogonal_hull((-3, 5), &u, 0, &mut out),
+///     Err(undrwyth::Refusal::GridSize)
+/// );
+/// # Ok::<(), undrwyth::Refusal>(())
+/// ```
+pub fn orthogonal_hull(
+    start: impl Into<Corner>,
+    chain: &[u8],
+    grid: u32,
+    out: &mut [u8],
+) -> Result<OrthogonalHull, Refusal> {
+    let mut answer = [0; ORTHOGONAL_ANSWER_WORDS];
+    let number = raw::orthogonal_hull(start, chain, grid, out, &mut answer);
+    accepted(number, answer[1])?;
+    let [_, _, steps, x, y, blocks] = answer;
+    Ok(OrthogonalHull {
+        start: corner(x, y),
+        steps: steps as usize,
+        blocks: blocks as usize,
+    })
+}
+
 /// Writes the spans of the panels that are in the first room only, in the second only and in both, each to the start of its
 /// buffer and as [`rows`] does, and answers how many panels and spans each of them has. A room is its start and its chain. The
-/// numbers after the spans are unchanged; unless all three lists have room, nothing is written. Refused with 1, 10, 4, 6 or 12
+/// numbers after the spans are unchanged; if a buffer is too short for its list, nothing is written. Refused with 1, 10, 4, 6 or 12
 /// for the first room, then for the second, and then with 21.
 ///
 /// ```
@@ -219,8 +264,8 @@ pub fn convex(start: (i32, i32), chain: &[u8]) -> Result<bool, Refusal> {
 /// # Ok::<(), undrwyth::Refusal>(())
 /// ```
 pub fn overlay(
-    one: ((i32, i32), &[u8]),
-    other: ((i32, i32), &[u8]),
+    one: (impl Into<Corner>, &[u8]),
+    other: (impl Into<Corner>, &[u8]),
     out: [&mut [i32]; 3],
 ) -> Result<Overlaid, Refusal> {
     let mut answer = [0; OVERLAY_ANSWER_WORDS];
@@ -245,7 +290,7 @@ pub fn overlay(
 /// let mut file = [0; 93];
 /// undrwyth::polygon_of_room((5, -7), &[0, 1, 2, 3], &mut file)?;
 /// let mut chain = [9; 5];
-/// assert_eq!(undrwyth::chain_of_polygon(&file, &mut chain), Ok(((5, -7), 4)));
+/// assert_eq!(undrwyth::chain_of_polygon(&file, &mut chain), Ok(((5, -7).into(), 4)));
 /// assert_eq!(chain, [0, 1, 2, 3, 9]);
 /// assert_eq!(
 ///     undrwyth::chain_of_polygon(&file[..92], &mut chain),
@@ -253,12 +298,12 @@ pub fn overlay(
 /// );
 /// # Ok::<(), undrwyth::Refusal>(())
 /// ```
-pub fn chain_of_polygon(file: &[u8], chain: &mut [u8]) -> Result<((i32, i32), usize), Refusal> {
+pub fn chain_of_polygon(file: &[u8], chain: &mut [u8]) -> Result<(Corner, usize), Refusal> {
     let mut answer = [0; CHAIN_ANSWER_WORDS];
     let number = raw::chain_of_polygon(file, chain, &mut answer);
     accepted(number, answer[1])?;
     let [_, _, steps, x, y] = answer;
-    Ok(((x.cast_signed(), y.cast_signed()), steps as usize))
+    Ok((corner(x, y), steps as usize))
 }
 
 /// Writes the turns of `steps` to `out`, which has the same length: the first step, then each step minus the one before,
@@ -290,7 +335,7 @@ pub fn steps_of_turns(turns: &[u8], out: &mut [u8]) -> Result<(), Refusal> {
     accepted(number, answer[1])
 }
 
-/// The answer of the line program to one line, both without line feed; it stands at the start of `out`. A refusal is a line
+/// The answer of the line program to one line, both without a line feed. It stands at the start of `out`. A refusal is a line
 /// too: 9, then 19, then 4, 5 or 7.
 ///
 /// ```
@@ -302,8 +347,9 @@ pub fn line<'a>(line: &[u8], out: &'a mut [u8; LINE_BYTES]) -> &'a [u8] {
     &out[..bytes]
 }
 
-/// Converts one line, without its line feed: a frame of kind 01 becomes the frame of kind 00 with the same steps, and any other
-/// line stays. It stands at the start of `out` then; `None` if `out` is shorter than the line, and it is unchanged.
+/// Converts one line, without its line feed: a frame of kind 01 whose digits are all at most 3 becomes the frame of kind 00 with
+/// the same steps, and any other line stays. The converted line stands at the start of `out`. If `out` is shorter than the line,
+/// the answer is `None`, and `out` is unchanged.
 ///
 /// ```
 /// let mut out = [0; 16];
@@ -316,7 +362,7 @@ pub fn convert_line<'a>(line: &[u8], out: &'a mut [u8]) -> Option<&'a [u8]> {
     (bytes == line.len()).then(|| &out[..bytes])
 }
 
-/// The facts of a walk but its nodes, as the words of an answer have them.
+/// The facts of a walk apart from its nodes, from the words of an answer.
 fn party_facts([verdict, steps, corners, j, k, area, x, y]: [u32; 8]) -> PartyFacts {
     PartyFacts {
         verdict: Verdict::of(verdict).expect("a verdict is 0 to 5"),
@@ -324,7 +370,15 @@ fn party_facts([verdict, steps, corners, j, k, area, x, y]: [u32; 8]) -> PartyFa
         corners,
         meeting: (k != NO_MEETING).then_some((j, k)),
         area: area.cast_signed(),
-        last: (x.cast_signed(), y.cast_signed()),
+        last: corner(x, y),
+    }
+}
+
+/// The corner whose coordinates stand in two words of an answer.
+fn corner(x: u32, y: u32) -> Corner {
+    Corner {
+        x: x.cast_signed(),
+        y: y.cast_signed(),
     }
 }
 

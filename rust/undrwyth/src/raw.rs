@@ -1,9 +1,9 @@
 //! The calls of the C boundary as they are, on slices: include/undrwyth.h says what each does.
 
 use answer::{
-    CHAIN_ANSWER_WORDS, CONVEX_ANSWER_WORDS, HULL_ANSWER_WORDS, OUTLINE_ANSWER_WORDS,
-    OVERLAY_ANSWER_WORDS, POLYGON_ANSWER_WORDS, ROWS_ANSWER_WORDS, TURNS_ANSWER_WORDS,
-    WALK_ANSWER_WORDS, WALK_TWO_ANSWER_WORDS,
+    CHAIN_ANSWER_WORDS, CONVEX_ANSWER_WORDS, Corner, HULL_ANSWER_WORDS, ORTHOGONAL_ANSWER_WORDS,
+    OUTLINE_ANSWER_WORDS, OVERLAY_ANSWER_WORDS, POLYGON_ANSWER_WORDS, ROWS_ANSWER_WORDS,
+    TURNS_ANSWER_WORDS, WALK_ANSWER_WORDS, WALK_TWO_ANSWER_WORDS,
 };
 
 mod c {
@@ -81,6 +81,16 @@ mod c {
             n: usize,
             answer: *mut u32,
         ) -> u32;
+        pub fn undrwyth_orthogonal_hull(
+            start_x: i32,
+            start_y: i32,
+            chain: *const u8,
+            n: usize,
+            grid: u32,
+            out: *mut u8,
+            out_bytes: usize,
+            answer: *mut u32,
+        ) -> u32;
         pub fn undrwyth_overlay(
             start1_x: i32,
             start1_y: i32,
@@ -136,17 +146,17 @@ type OnBytes = unsafe extern "C" fn(*const u8, usize, *mut u8, usize, *mut u32) 
 /// A call on a line that writes a line.
 type OnLine = unsafe extern "C" fn(*const u8, usize, *mut u8, usize) -> usize;
 
-/// Safe where the answer has as many words as the call's answer: each other pointer is of a slice of the length beside it, and none
-/// overlaps another.
+/// Safe if `answer` has as many words as the call's answer: each other pointer is that of a slice of the length beside it, and
+/// none overlaps another.
 unsafe fn on_chain<T>(
     call: OnChain<T>,
-    start: (i32, i32),
+    start: impl Into<Corner>,
     chain: &[u8],
     out: &mut [T],
     answer: &mut [u32],
 ) -> u32 {
-    let (x, y) = start;
-    let (to, room) = (out.as_mut_ptr(), out.len());
+    let Corner { x, y } = start.into();
+    let (to, length) = (out.as_mut_ptr(), out.len());
     unsafe {
         call(
             x,
@@ -154,7 +164,7 @@ unsafe fn on_chain<T>(
             chain.as_ptr(),
             chain.len(),
             to,
-            room,
+            length,
             answer.as_mut_ptr(),
         )
     }
@@ -162,8 +172,8 @@ unsafe fn on_chain<T>(
 
 /// Safe as `on_chain` is.
 unsafe fn on_bytes(call: OnBytes, bytes: &[u8], out: &mut [u8], answer: &mut [u32]) -> u32 {
-    let (to, room) = (out.as_mut_ptr(), out.len());
-    unsafe { call(bytes.as_ptr(), bytes.len(), to, room, answer.as_mut_ptr()) }
+    let (to, length) = (out.as_mut_ptr(), out.len());
+    unsafe { call(bytes.as_ptr(), bytes.len(), to, length, answer.as_mut_ptr()) }
 }
 
 /// Safe, as nothing else is lent.
@@ -173,18 +183,19 @@ fn on_line(call: OnLine, line: &[u8], out: &mut [u8]) -> usize {
 
 /// `undrwyth_walk`: the refusal's number, 0 for none.
 pub fn walk(
-    start: (i32, i32),
+    start: impl Into<Corner>,
     ops: &[u8],
     table: &mut [u32],
     marks: &mut [u32],
     chain: &mut [u8],
     answer: &mut [u32; WALK_ANSWER_WORDS],
 ) -> u32 {
-    // SAFETY: each pointer is of a slice of the length beside it, none overlaps another, and answer has its words.
+    let Corner { x, y } = start.into();
+    // SAFETY: each pointer is that of a slice of the length beside it, none overlaps another, and answer has its words.
     unsafe {
         c::undrwyth_walk(
-            start.0,
-            start.1,
+            x,
+            y,
             ops.as_ptr(),
             ops.len(),
             table.as_mut_ptr(),
@@ -200,20 +211,21 @@ pub fn walk(
 
 /// `undrwyth_walk_two` of party 0 and party 1, by their starts and chains: the refusal's number, 0 for none.
 pub fn walk_two(
-    [start0, start1]: [(i32, i32); 2],
+    starts: [impl Into<Corner>; 2],
     ops: &[u8],
     table: &mut [u32],
     marks: &mut [u32],
     [chain0, chain1]: [&mut [u8]; 2],
     answer: &mut [u32; WALK_TWO_ANSWER_WORDS],
 ) -> u32 {
+    let [start0, start1] = starts.map(Into::into);
     // SAFETY: as for walk.
     unsafe {
         c::undrwyth_walk_two(
-            start0.0,
-            start0.1,
-            start1.0,
-            start1.1,
+            start0.x,
+            start0.y,
+            start1.x,
+            start1.y,
             ops.as_ptr(),
             ops.len(),
             table.as_mut_ptr(),
@@ -231,7 +243,7 @@ pub fn walk_two(
 
 /// `undrwyth_hull`: the refusal's number, 0 for none.
 pub fn hull(
-    start: (i32, i32),
+    start: impl Into<Corner>,
     chain: &[u8],
     out: &mut [i32],
     answer: &mut [u32; HULL_ANSWER_WORDS],
@@ -242,7 +254,7 @@ pub fn hull(
 
 /// `undrwyth_outline`: the refusal's number, 0 for none.
 pub fn outline(
-    start: (i32, i32),
+    start: impl Into<Corner>,
     chain: &[u8],
     out: &mut [u8],
     answer: &mut [u32; OUTLINE_ANSWER_WORDS],
@@ -253,7 +265,7 @@ pub fn outline(
 
 /// `undrwyth_polygon_of_room`: the refusal's number, 0 for none.
 pub fn polygon_of_room(
-    start: (i32, i32),
+    start: impl Into<Corner>,
     chain: &[u8],
     out: &mut [u8],
     answer: &mut [u32; POLYGON_ANSWER_WORDS],
@@ -264,7 +276,7 @@ pub fn polygon_of_room(
 
 /// `undrwyth_rows`: the refusal's number, 0 for none.
 pub fn rows(
-    start: (i32, i32),
+    start: impl Into<Corner>,
     chain: &[u8],
     out: &mut [i32],
     answer: &mut [u32; ROWS_ANSWER_WORDS],
@@ -274,14 +286,35 @@ pub fn rows(
 }
 
 /// `undrwyth_convex`: the refusal's number, 0 for none.
-pub fn convex(start: (i32, i32), chain: &[u8], answer: &mut [u32; CONVEX_ANSWER_WORDS]) -> u32 {
+pub fn convex(
+    start: impl Into<Corner>,
+    chain: &[u8],
+    answer: &mut [u32; CONVEX_ANSWER_WORDS],
+) -> u32 {
+    let Corner { x, y } = start.into();
+    // SAFETY: as for walk.
+    unsafe { c::undrwyth_convex(x, y, chain.as_ptr(), chain.len(), answer.as_mut_ptr()) }
+}
+
+/// `undrwyth_orthogonal_hull`: the refusal's number, 0 for none.
+pub fn orthogonal_hull(
+    start: impl Into<Corner>,
+    chain: &[u8],
+    grid: u32,
+    out: &mut [u8],
+    answer: &mut [u32; ORTHOGONAL_ANSWER_WORDS],
+) -> u32 {
+    let Corner { x, y } = start.into();
     // SAFETY: as for walk.
     unsafe {
-        c::undrwyth_convex(
-            start.0,
-            start.1,
+        c::undrwyth_orthogonal_hull(
+            x,
+            y,
             chain.as_ptr(),
             chain.len(),
+            grid,
+            out.as_mut_ptr(),
+            out.len(),
             answer.as_mut_ptr(),
         )
     }
@@ -289,22 +322,23 @@ pub fn convex(start: (i32, i32), chain: &[u8], answer: &mut [u32; CONVEX_ANSWER_
 
 /// `undrwyth_overlay` of two rooms, each a start and a chain: the refusal's number, 0 for none.
 pub fn overlay(
-    one: ((i32, i32), &[u8]),
-    other: ((i32, i32), &[u8]),
+    (start1, chain1): (impl Into<Corner>, &[u8]),
+    (start2, chain2): (impl Into<Corner>, &[u8]),
     [first, second, both]: [&mut [i32]; 3],
     answer: &mut [u32; OVERLAY_ANSWER_WORDS],
 ) -> u32 {
+    let (start1, start2) = (start1.into(), start2.into());
     // SAFETY: as for walk.
     unsafe {
         c::undrwyth_overlay(
-            one.0.0,
-            one.0.1,
-            one.1.as_ptr(),
-            one.1.len(),
-            other.0.0,
-            other.0.1,
-            other.1.as_ptr(),
-            other.1.len(),
+            start1.x,
+            start1.y,
+            chain1.as_ptr(),
+            chain1.len(),
+            start2.x,
+            start2.y,
+            chain2.as_ptr(),
+            chain2.len(),
             first.as_mut_ptr(),
             first.len(),
             second.as_mut_ptr(),
@@ -338,12 +372,12 @@ pub fn steps_of_turns(turns: &[u8], out: &mut [u8], answer: &mut [u32; TURNS_ANS
     unsafe { on_bytes(c::undrwyth_steps_of_turns, turns, out, answer) }
 }
 
-/// `undrwyth_line`: the bytes written, 0 where out is shorter than `UNDRWYTH_LINE_BYTES`.
+/// `undrwyth_line`: the bytes written, 0 if out is shorter than `UNDRWYTH_LINE_BYTES`.
 pub fn line(line: &[u8], out: &mut [u8]) -> usize {
     on_line(c::undrwyth_line, line, out)
 }
 
-/// `undrwyth_convert_line`: the bytes written, 0 where out is shorter than the line.
+/// `undrwyth_convert_line`: the bytes written, 0 if out is shorter than the line.
 pub fn convert_line(line: &[u8], out: &mut [u8]) -> usize {
     on_line(c::undrwyth_convert_line, line, out)
 }

@@ -5,8 +5,8 @@ use Rattle.convex_room.proofs.CallLaws.{call-short, call-digits, call-g
 use Rattle.convex_room.proofs.tell.Statement.{statement}
 use Rattle.convex_room.proofs.tell.Tie as tie
 
-is-convex-requires : tie.Need-is-convex-requires
-is-convex-requires c κs =
+decide-requires : tie.Need-decide-requires
+decide-requires c κs =
     let a = c .before .before .before .before .args in
     let j = c .before .before .judge in
     (call-digits (a .start) (a .chain .now) (j .result) (j .ensures) (c .enum-told .given .1), call-short (a .start) (a .chain .now) (j .result) (j .ensures) (c .enum-told .given .1))
@@ -15,7 +15,7 @@ returns : tie.Need-returns
 returns c =
     let a = c .before .before .before .before .before .before .args in
     let j = c .before .before .before .before .judge in
-    let v = c .before .is-convex in
+    let v = c .before .decide in
     call-good (a .start) (a .chain .now) (j .result) (j .ensures) (c .before .before .enum-told .given .1) (v .result) (v .ensures) (c .counted .result) (c .counted .ensures)
 
 returns-2 : tie.Need-returns-2
@@ -30,7 +30,7 @@ tell-spec =
     (tie.spec
     (λ c κs. search needs)
     (λ c. search needs)
-    is-convex-requires
+    decide-requires
     (λ c κs. search needs)
     (λ c. search needs)
     returns

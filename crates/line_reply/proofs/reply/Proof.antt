@@ -17,7 +17,7 @@ answer-line-requires c κs = search needs
 returns-2 : tie.Need-returns-2
 returns-2 c =
     let a = c .before .before .before .before .before .before .before .before .before .before .before .before .before .args in
-    reply-told (a .line .now) (a .out .now) (c .before .before .before .before .before .before .before .before .before .before .if1 .left) (c .before .before .before .before .before .answer-line .ensures)
+    reply-told (a .line .now) (a .out .now) (c .before .before .before .before .before .before .before .before .before .before .if1 .left) (c .before .before .before .before .before .answer-line .ensures .0)
 
 pub reply-spec : {M : Type 1} → statement M
 reply-spec =

@@ -14,11 +14,11 @@ use Rattle.line_reply.proofs.tell.Tie as tie
 slice-write-out : tie.Need-slice-write-out
 slice-write-out c =
     let r = c .before .before .before .before .before .before .before .answer-line in
-    omega (arith, lineAnswer-most (c .before .before .before .before .before .before .before .before .before .before .before .before .before .before .before .before .args .s .now), r .ensures .end, r .kept .1 .1 .1 .1 .0)
+    omega (arith, lineAnswer-most (c .before .before .before .before .before .before .before .before .before .before .before .before .before .before .before .before .args .s .now), r .ensures .0 .end, r .kept .1 .1 .1 .1 .0)
 
 add-result : tie.Need-add-result
 add-result c =
-    omega (arith, lineAnswer-most (c .before .before .before .before .before .before .before .before .before .before .before .before .before .before .before .before .args .s .now), c .before .before .before .before .before .before .before .answer-line .ensures .end)
+    omega (arith, lineAnswer-most (c .before .before .before .before .before .before .before .before .before .before .before .before .before .before .before .before .args .s .now), c .before .before .before .before .before .before .before .answer-line .ensures .0 .end)
 
 returns : tie.Need-returns
 returns c =
@@ -26,8 +26,8 @@ returns c =
     let r = c .before .before .before .before .before .before .before .answer-line in
     let o = r .last .1 .1 .1 .1 .0 in
     let m = lineAnswer-most (a .s .now) in
-    let w : Wrote (10 ∷ []) (r .result) o (r .result + 1) _ = record { end = refl; buffer = put-one 10 (r .result) o (omega (arith, m, r .ensures .end, r .kept .1 .1 .1 .1 .0)) } in
-    wrote-append (r .ensures) w (omega (arith, m))
+    let w : Wrote (10 ∷ []) (r .result) o (r .result + 1) _ = record { end = refl; buffer = put-one 10 (r .result) o (omega (arith, m, r .ensures .0 .end, r .kept .1 .1 .1 .1 .0)) } in
+    (wrote-append (r .ensures .0) w (omega (arith, m)), r .ensures .1)
 
 pub tell-spec : {M : Type 1} → statement M
 tell-spec =

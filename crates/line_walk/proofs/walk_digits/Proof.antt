@@ -7,42 +7,73 @@ use borrow.Author.Needs.{needs}
 use lib.ListN.{length, take, drop, replicate}
 use lib.Seq.{length-take-le}
 use Rattle.layout.specs.Marks.{markWords}
+use Rattle.layout.specs.Table.{width}
 use Rattle.line_frame.specs.Sizes.{mostDigits}
 use Rattle.line_frame.specs.Line.{digitsOf}
 use Rattle.line_frame.proofs.LineLaws.{length-digitsOf}
 use Rattle.line_fields.proofs.PutLaws.{take-put-start}
+use Rattle.line_walk.proofs.ClearLaws.{clear-length, clear-zero, cleared-by}
 use Rattle.line_walk.proofs.WalkLaws.{walk-handed}
 use Rattle.line_walk.proofs.walk_digits.Statement.{statement}
 use Rattle.line_walk.proofs.walk_digits.Tie as tie
 
-slice-aggregate-follow : tie.Need-slice-aggregate-follow
-slice-aggregate-follow c =
+slice-aggregate-follow-clear : tie.Need-slice-aggregate-follow-clear
+slice-aggregate-follow-clear c =
     let d = c .before .before .copy-digits in
     let s = c .before .before .before .before .before .before .before .before in
     sym (length-take-le (s .args .n) (d .last .1 .0) (omega (arith, d .kept .1 .0, s .pre .1 .0)))
 
-slice-aggregate-follow-2 : tie.Need-slice-aggregate-follow-2
-slice-aggregate-follow-2 c =
+slice-aggregate-follow-clear-2 : tie.Need-slice-aggregate-follow-clear-2
+slice-aggregate-follow-clear-2 c =
     let s = c .before .before .before .before .before .before .before .before .before .before in
     sym (length-take-le (markWords * s .args .n) (s .args .marks .now) (omega (arith, s .pre .1 .0, s .pre .1 .1 .marks)))
 
-slice-aggregate-follow-3 : tie.Need-slice-aggregate-follow-3
-slice-aggregate-follow-3 c =
+slice-aggregate-follow-clear-3 : tie.Need-slice-aggregate-follow-clear-3
+slice-aggregate-follow-clear-3 c =
     let s = c .before .before .before .before .before .before .before .before .before .before .before in
     sym (length-take-le (s .args .n) (s .args .chain .now) (omega (arith, s .pre .1 .0, s .pre .1 .1 .chain)))
 
+follow-clear-requires : tie.Need-follow-clear-requires
+follow-clear-requires c κs = clear-zero (c .before .before .before .before .before .before .before .before .before .before .before .pre .1 .1 .table)
+
+mul-used : tie.Need-mul-used
+mul-used c =
+    let f = c .before .before .before .before .before .before .before .follow-clear in
+    let s = c .before .before .before .before .before .before .before .before .before .before .before .before .before .before .before .before .before .before .before in
+    let l : length (f .last .1 .1 .0) ≡ length (s .args .table .now) = search needs in
+    let h = cleared-by (f .ensures) (s .pre .1 .1 .table) l (c .records .result) (c .records .ensures) .0 in
+    search (needs, h, l, clear-length (s .pre .1 .1 .table))
+
+slice-relend-prefix-zero : tie.Need-slice-relend-prefix-zero
+slice-relend-prefix-zero c =
+    let f = c .before .before .before .before .before .before .before .follow-clear in
+    let s = c .before .before .before .before .before .before .before .before .before .before .before .before .before .before .before .before .before .before .before in
+    let l : length (f .last .1 .1 .0) ≡ length (s .args .table .now) = search needs in
+    cleared-by (f .ensures) (s .pre .1 .1 .table) l (c .records .result) (c .records .ensures) .0
+
+slice-aggregate-zero : tie.Need-slice-aggregate-zero
+slice-aggregate-zero c =
+    let f = c .before .before .before .before .before .before .before .before .follow-clear in
+    let s = c .before .before .before .before .before .before .before .before .before .before .before .before .before .before .before .before .before .before .before .before in
+    let r = c .before .records in
+    let l : length (f .last .1 .1 .0) ≡ length (s .args .table .now) = search needs in
+    sym (length-take-le (width * r .result) (f .last .1 .1 .0) (cleared-by (f .ensures) (s .pre .1 .1 .table) l (r .result) (r .ensures) .0))
+
 returns : tie.Need-returns
 returns c =
-    let f = c .before .before .before .before .before .before .follow in
-    let d = c .before .before .before .before .before .before .before .before .before .before .before .before .copy-digits in
-    let s = c .before .before .before .before .before .before .before .before .before .before .before .before .before .before .before .before .before .before in
+    let z = c .before .before .zero in
+    let r = c .before .before .before .before .records in
+    let f = c .before .before .before .before .before .before .before .before .before .before .before .follow-clear in
+    let d = c .before .before .before .before .before .before .before .before .before .before .before .before .before .before .before .before .before .copy-digits in
+    let s = c .before .before .before .before .before .before .before .before .before .before .before .before .before .before .before .before .before .before .before .before .before .before .before in
     let a = s .args in
     let n = a .n in
     let e : take n (d .last .1 .0) ≡ digitsOf (a .s .now) = ap (take n) (d .ensures) ∙ take-put-start (digitsOf (a .s .now)) (replicate mostDigits 0) n (length-digitsOf (a .s .now) n (s .pre .1 .0 .1)) (omega (arith, s .pre .1 .0)) in
     let l : length (take n (d .last .1 .0)) ≡ n = length-take-le n (d .last .1 .0) (omega (arith, d .kept .1 .0, s .pre .1 .0)) in
     let m = length-take-le (markWords * n) (a .marks .now) (omega (arith, s .pre .1 .0, s .pre .1 .1 .marks)) in
     let h = length-take-le n (a .chain .now) (omega (arith, s .pre .1 .0, s .pre .1 .1 .chain)) in
-    walk-handed (f .ensures) (s .pre .1 .1 .table) (m ∙ ap (λ (k : ℕ). markWords * k) (sym l)) (h ∙ sym l) (omega (arith, l, s .pre .1 .0)) (drop n (a .chain .now)) (digitsOf (a .s .now)) e
+    let w : length (f .last .1 .1 .0) ≡ length (a .table .now) = search needs in
+    (walk-handed (f .ensures) (clear-length (s .pre .1 .1 .table)) (m ∙ ap (λ (k : ℕ). markWords * k) (sym l)) (h ∙ sym l) (omega (arith, l, s .pre .1 .0)) (drop n (a .chain .now)) (digitsOf (a .s .now)) e, cleared-by (f .ensures) (s .pre .1 .1 .table) w (r .result) (r .ensures) .1 (z .last .0) (z .ensures))
 
 pub walk-digits-spec : {M : Type 1} → statement M
 walk-digits-spec =
@@ -51,12 +82,17 @@ walk-digits-spec =
     (λ c. search needs)
     (λ c κs. search needs)
     (λ c. search needs)
-    slice-aggregate-follow
+    slice-aggregate-follow-clear
     (λ c. search needs)
     (λ c. search needs)
-    slice-aggregate-follow-2
+    slice-aggregate-follow-clear-2
     (λ c. search needs)
-    slice-aggregate-follow-3
+    slice-aggregate-follow-clear-3
+    follow-clear-requires
+    (λ c κs. search needs)
+    mul-used
+    slice-relend-prefix-zero
+    slice-aggregate-zero
     (λ c κs. search needs)
     (λ c. search needs)
     (λ c. search needs)

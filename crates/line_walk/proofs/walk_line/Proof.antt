@@ -21,12 +21,14 @@ walk-frame-requires c κs =
 returns : tie.Need-returns
 returns c =
     let f = c .before .before .before .before .before .before .before .before .before .before .before .kind .given in
-    handed-by (lineWalked-by (c .before .before .before .before .before .before .before .before .before .before .before .before .before .before .before .before .before .before .args .s .now) (Of (f .0 .0) (f .0 .1 .0)) (sym (c .before .before .before .before .before .before .before .before .before .before .before .before .before .read .ensures) ∙ f .1)) (c .before .before .before .before .before .before .walk-frame .ensures)
+    let w = c .before .before .before .before .before .before .walk-frame .ensures in
+    (handed-by (lineWalked-by (c .before .before .before .before .before .before .before .before .before .before .before .before .before .before .before .before .before .before .args .s .now) (Of (f .0 .0) (f .0 .1 .0)) (sym (c .before .before .before .before .before .before .before .before .before .before .before .before .before .read .ensures) ∙ f .1)) (w .0), w .1)
 
 returns-2 : tie.Need-returns-2
 returns-2 c =
-    let a = c .before .before .before .before .before .before .before .args in
-    handed-by (lineWalked-by (a .s .now) Bad (sym (c .before .before .read .ensures) ∙ c .enum-told .given .1)) (refused-handed BadLine (digitsOf (a .s .now)) (a .chain .now))
+    let s = c .before .before .before .before .before .before .before in
+    let a = s .args in
+    (handed-by (lineWalked-by (a .s .now) Bad (sym (c .before .before .read .ensures) ∙ c .enum-told .given .1)) (refused-handed BadLine (digitsOf (a .s .now)) (a .chain .now)), s .pre .table)
 
 pub walk-line-spec : {M : Type 1} → statement M
 walk-line-spec =

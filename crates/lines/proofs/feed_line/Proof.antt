@@ -32,7 +32,7 @@ returns c =
     let l = c .before .before .before .before .before .before .before .before .before .before .line-end in
     let s = c .before .before .before .before .before .before .before .before .before .before .before .before .before .before .before .before in
     let a = s .args in
-    fed-held (jobOf (a .task)) (a .line .now) (a .s .now) (a .out .now) (a .held) (a .at) (a .used) (l .result) (l .ensures) (s .pre .1 .0 .0) (h .result) (t .result) (h .last .0) (t .last .1 .1 .1 .1 .1 .1 .0) (s .pre .0 .1) (c .before .before .before .before .if1 .taken) (h .ensures) (t .ensures)
+    (fed-held (jobOf (a .task)) (a .line .now) (a .s .now) (a .out .now) (a .held) (a .at) (a .used) (l .result) (l .ensures) (s .pre .1 .0 .0) (h .result) (t .result) (h .last .0) (t .last .1 .1 .1 .1 .1 .1 .0) (s .pre .0 .1) (c .before .before .before .before .if1 .taken) (h .ensures) (t .ensures), s .pre .1 .1 .0 .table)
 
 tell-end-requires : tie.Need-tell-end-requires
 tell-end-requires c κs =
@@ -53,9 +53,11 @@ returns-2 c =
     let t = c .before .before .before .before .before .before .before .before .before .before .before .before .before .before .before .before .before .before .tell-early in
     let l = c .before .before .before .before .before .before .before .before .before .before .before .before .before .before .before .before .before .before .before .before .before .line-end in
     let s = c .before .before .before .before .before .before .before .before .before .before .before .before .before .before .before .before .before .before .before .before .before .before .before .before .before .before .before in
-    let a = s .args in
-    fed-ended (jobOf (a .task)) (a .line .now) (a .s .now) (a .out .now) (a .held) (a .at) (a .used) (l .result) (l .ensures) (s .pre .1 .0 .0) (job-does (a .task)) (omega (arith, h))
-    (room-line (a .task) (a .line .now) (a .s .now) (a .held) (a .at) (s .pre .0 .0) (s .pre .1 .0 .1) (a .used) (s .pre .1 .1 .1)) (t .result) (r .result) (r .last .1 .0) (t .last .1 .1 .1 .1 .1 .1 .0) (r .last .1 .1 .1 .1 .1 .1 .1 .1 .1 .0) (t .ensures) (r .ensures .0) (r .ensures .1)
+    let a = s .args in (
+      fed-ended (jobOf (a .task)) (a .line .now) (a .s .now) (a .out .now) (a .held) (a .at) (a .used) (l .result) (l .ensures) (s .pre .1 .0 .0) (job-does (a .task)) (omega (arith, h))
+          (room-line (a .task) (a .line .now) (a .s .now) (a .held) (a .at) (s .pre .0 .0) (s .pre .1 .0 .1) (a .used) (s .pre .1 .1 .1)) (t .result) (r .result) (r .last .1 .0) (t .last .1 .1 .1 .1 .1 .1 .0) (r .last .1 .1 .1 .1 .1 .1 .1 .1 .1 .0) (t .ensures) (r .ensures .0) (r .ensures .1 .0),
+      r .ensures .1 .1,
+    )
 
 pub feed-line-spec : {M : Type 1} → statement M
 feed-line-spec =

@@ -1,6 +1,6 @@
 -- `lines::fill` meets its contract: at the head of the loop the lines passed so far are filled in, and the buffers are as long as they were.
 -- Assumes nothing.
-use mathlib.Core.Path.{_≡_, _∙_}
+use mathlib.Core.Path.{_≡_, sym, _∙_}
 use mathlib.Core.Logic.{inl, inr}
 use Prim.Native.Nat.{_+_, _-_, _≤_}
 use native.Mathlib.Omega.{arith}
@@ -9,6 +9,7 @@ use lib.ListN.{length}
 use Rattle.line_frame.specs.Sizes.{mostHeld}
 use Rattle.line_stream.specs.Stream.{mostPart}
 use Rattle.line_stream.proofs.FillLaws.{Filling, filling-start, filling-next, filling-done, falls}
+use Rattle.line_walk.proofs.ClearLaws.{clear-length}
 use Rattle.line_reply.specs.Reply.{Lent}
 use Rattle.lines.specs.Tasks.{jobOf}
 use Rattle.lines.proofs.TaskLaws.{job-does, room-line}
@@ -32,6 +33,9 @@ returns c =
     let a = c .before .before .before .before .before .before .before .before .args in
     filling-done (jobOf (a .task)) (a .line .now) (a .held) (a .s .now) (a .at) (a .out .now) (l .line) (l .out) (l .p) (l .inv .3) (inr (omega (arith, c .if2 .taken, l .inv .2, l .inv .3 .long, l .inv .3 .room)))
 
+slice-aggregate-feed-line : tie.Need-slice-aggregate-feed-line Inv-loop μ-loop
+slice-aggregate-feed-line c = sym (clear-length (c .before .before .before .before .before .loop .inv .4 .table))
+
 feed-line-requires : tie.Need-feed-line-requires Inv-loop μ-loop
 feed-line-requires c κs =
     let l = c .before .before .before .before .before .before .before .before .loop in
@@ -43,7 +47,7 @@ loop-less c =
     let f = c .before .before .before .before .before .before .before .feed-line in
     let l = c .before .before .before .before .before .before .before .before .before .before .before .before .before .before .before .before .loop in
     let a = c .before .before .before .before .before .before .before .before .before .before .before .before .before .before .before .before .before .before .before .before .before .args in
-    falls (jobOf (a .task)) (a .line .now) (a .held) (a .s .now) (a .at) (a .out .now) (l .line) (l .out) (l .p) (l .inv .3) (f .result) (f .last .1 .0) (f .last .1 .1 .1 .1 .1 .1 .1 .1 .0) (f .ensures) (c .before .before .before .before .before .before .before .before .before .before .before .before .before .before .if1 .taken)
+    falls (jobOf (a .task)) (a .line .now) (a .held) (a .s .now) (a .at) (a .out .now) (l .line) (l .out) (l .p) (l .inv .3) (f .result) (f .last .1 .0) (f .last .1 .1 .1 .1 .1 .1 .1 .1 .0) (f .ensures .0) (c .before .before .before .before .before .before .before .before .before .before .before .before .before .before .if1 .taken)
 
 loop-again : tie.Need-loop-again Inv-loop μ-loop
 loop-again c =
@@ -55,9 +59,9 @@ loop-again c =
       l .inv .0,
       l .inv .1,
       l .inv .2,
-      filling-next (jobOf (a .task)) (a .line .now) (a .held) (a .s .now) (a .at) (a .out .now) (l .line) (l .out) (l .p) q (f .result) (f .last .1 .0) (f .last .1 .1 .1 .1 .1 .1 .1 .1 .0) (f .ensures) (job-does (a .task)) room (room-line (a .task) (l .line) (a .s .now) (l .p .held) (l .p .at) (q .most) (l .inv .1) (l .p .used) room) (f .kept .1 .0) (c .before .before .before .before .before .before .before .before .before .before .before .before .before .before .if1 .taken),
+      filling-next (jobOf (a .task)) (a .line .now) (a .held) (a .s .now) (a .at) (a .out .now) (l .line) (l .out) (l .p) q (f .result) (f .last .1 .0) (f .last .1 .1 .1 .1 .1 .1 .1 .1 .0) (f .ensures .0) (job-does (a .task)) room (room-line (a .task) (l .line) (a .s .now) (l .p .held) (l .p .at) (q .most) (l .inv .1) (l .p .used) room) (f .kept .1 .0) (c .before .before .before .before .before .before .before .before .before .before .before .before .before .before .if1 .taken),
       record {
-        table = omega (arith, f .kept .1 .1 .1 .1 .1 .0, l .inv .4 .table);
+        table = f .ensures .1;
         marks = omega (arith, f .kept .1 .1 .1 .1 .1 .1 .0, l .inv .4 .marks);
         hull = omega (arith, f .kept .1 .1 .1 .1 .1 .1 .1 .0, l .inv .4 .hull);
       },
@@ -81,7 +85,7 @@ fill-spec =
     (λ c. search needs)
     (λ c. search needs)
     returns
-    (λ c. search needs)
+    slice-aggregate-feed-line
     (λ c. search needs)
     (λ c. search needs)
     feed-line-requires

@@ -41,25 +41,26 @@ returns : tie.Need-returns
 returns c =
     let r = c .before .before .before .before .before .before .before .tell in
     let a = c .before .before .before .before .before .before .before .before .before .before .before .before .before .before .before .before .before .before .args in
-    subst (λ (l : List ℕ). Wrote l (a .at) (a .out .now) (r .result) (r .last .1 .1 .1 .1 .0)) (each-told answered mostAnswer (a .s .now) ∙ ap (λ (t : Task). jobOf t .told (a .s .now) []) (sym (c .before .before .before .before .before .before .before .before .before .before .before .before .enum-told .given .1))) (r .ensures)
+    (subst (λ (l : List ℕ). Wrote l (a .at) (a .out .now) (r .result) (r .last .1 .1 .1 .1 .0)) (each-told answered mostAnswer (a .s .now) ∙ ap (λ (t : Task). jobOf t .told (a .s .now) []) (sym (c .before .before .before .before .before .before .before .before .before .before .before .before .enum-told .given .1))) (r .ensures .0), r .ensures .1)
 
 returns-2 : tie.Need-returns-2
 returns-2 c =
     let r = c .before .before .end-fed-line in
-    let a = c .before .before .before .before .before .before .before .before .before .before .args in
-    subst (λ (l : List ℕ). Wrote l (a .at) (a .out .now) (r .result) (r .last .1 .0)) (convert-told (a .s .now) ∙ ap (λ (t : Task). jobOf t .told (a .s .now) []) (sym (c .before .before .before .before .enum-told2 .given .1))) (r .ensures)
+    let s = c .before .before .before .before .before .before .before .before .before .before in
+    let a = s .args in
+    (subst (λ (l : List ℕ). Wrote l (a .at) (a .out .now) (r .result) (r .last .1 .0)) (convert-told (a .s .now) ∙ ap (λ (t : Task). jobOf t .told (a .s .now) []) (sym (c .before .before .before .before .enum-told2 .given .1))) (r .ensures), s .pre .1 .0 .table)
 
 returns-3 : tie.Need-returns-3
 returns-3 c =
     let r = c .before .before .before .before .before .before .before .tell2 in
     let a = c .before .before .before .before .before .before .before .before .before .before .before .before .before .before .before .before .before .before .args in
-    subst (λ (l : List ℕ). Wrote l (a .at) (a .out .now) (r .result) (r .last .1 .1 .1 .1 .0)) (each-told rowsTold mostRows (a .s .now) ∙ ap (λ (t : Task). jobOf t .told (a .s .now) []) (sym (c .before .before .before .before .before .before .before .before .before .before .before .before .enum-told3 .given .1))) (r .ensures)
+    (subst (λ (l : List ℕ). Wrote l (a .at) (a .out .now) (r .result) (r .last .1 .1 .1 .1 .0)) (each-told rowsTold mostRows (a .s .now) ∙ ap (λ (t : Task). jobOf t .told (a .s .now) []) (sym (c .before .before .before .before .before .before .before .before .before .before .before .before .enum-told3 .given .1))) (r .ensures .0), r .ensures .1)
 
 returns-4 : tie.Need-returns-4
 returns-4 c =
     let r = c .before .before .before .before .before .before .enter in
     let a = c .before .before .before .before .before .before .before .before .before .before .before .before .before .before .before .before .args in
-    subst (λ (l : List ℕ). Wrote l (a .at) (a .out .now) (r .result) (r .last .1 .1 .1 .0)) (each-told entered mostEntry (a .s .now) ∙ ap (λ (t : Task). jobOf t .told (a .s .now) []) (sym (c .before .before .before .before .before .before .before .before .before .before .enum-told4 .given .1))) (r .ensures)
+    (subst (λ (l : List ℕ). Wrote l (a .at) (a .out .now) (r .result) (r .last .1 .1 .1 .0)) (each-told entered mostEntry (a .s .now) ∙ ap (λ (t : Task). jobOf t .told (a .s .now) []) (sym (c .before .before .before .before .before .before .before .before .before .before .enum-told4 .given .1))) (r .ensures .0), r .ensures .1)
 
 pub tell-spec : {M : Type 1} → statement M
 tell-spec =

@@ -42,7 +42,7 @@ returns c =
     let r = c .before .before .before .before .before .before .before .tell in
     let s = c .before .before .before .before .before .before .before .before .before .before .before .before .before .before .before .before .before .before in
     let a = s .args in
-    subst (λ (l : List ℕ). Wrote l 0 (a .out .now) (r .result) (r .last .1 .1 .1 .1 .0)) (each-last answered mostAnswer (a .s .now) (s .pre .0 .0) ∙ ap (λ (t : Task). jobOf t .last (a .s .now)) (sym (c .before .before .before .before .before .before .before .before .before .before .before .before .enum-told .given .1))) (r .ensures)
+    subst (λ (l : List ℕ). Wrote l 0 (a .out .now) (r .result) (r .last .1 .1 .1 .1 .0)) (each-last answered mostAnswer (a .s .now) (s .pre .0 .0) ∙ ap (λ (t : Task). jobOf t .last (a .s .now)) (sym (c .before .before .before .before .before .before .before .before .before .before .before .before .enum-told .given .1))) (r .ensures .0)
 
 returns-2 : tie.Need-returns-2
 returns-2 c =
@@ -55,14 +55,14 @@ returns-3 c =
     let r = c .before .before .before .before .before .before .before .tell2 in
     let s = c .before .before .before .before .before .before .before .before .before .before .before .before .before .before .before .before .before .before in
     let a = s .args in
-    subst (λ (l : List ℕ). Wrote l 0 (a .out .now) (r .result) (r .last .1 .1 .1 .1 .0)) (each-last rowsTold mostRows (a .s .now) (s .pre .0 .0) ∙ ap (λ (t : Task). jobOf t .last (a .s .now)) (sym (c .before .before .before .before .before .before .before .before .before .before .before .before .enum-told3 .given .1))) (r .ensures)
+    subst (λ (l : List ℕ). Wrote l 0 (a .out .now) (r .result) (r .last .1 .1 .1 .1 .0)) (each-last rowsTold mostRows (a .s .now) (s .pre .0 .0) ∙ ap (λ (t : Task). jobOf t .last (a .s .now)) (sym (c .before .before .before .before .before .before .before .before .before .before .before .before .enum-told3 .given .1))) (r .ensures .0)
 
 returns-4 : tie.Need-returns-4
 returns-4 c =
     let r = c .before .before .before .before .before .before .enter in
     let s = c .before .before .before .before .before .before .before .before .before .before .before .before .before .before .before .before in
     let a = s .args in
-    subst (λ (l : List ℕ). Wrote l 0 (a .out .now) (r .result) (r .last .1 .1 .1 .0)) (each-last entered mostEntry (a .s .now) (s .pre .0 .0) ∙ ap (λ (t : Task). jobOf t .last (a .s .now)) (sym (c .before .before .before .before .before .before .before .before .before .before .enum-told4 .given .1))) (r .ensures)
+    subst (λ (l : List ℕ). Wrote l 0 (a .out .now) (r .result) (r .last .1 .1 .1 .0)) (each-last entered mostEntry (a .s .now) (s .pre .0 .0) ∙ ap (λ (t : Task). jobOf t .last (a .s .now)) (sym (c .before .before .before .before .before .before .before .before .before .before .enum-told4 .given .1))) (r .ensures .0)
 
 pub tell-last-spec : {M : Type 1} → statement M
 tell-last-spec =

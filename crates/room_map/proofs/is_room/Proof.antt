@@ -2,7 +2,9 @@
 -- Assumes nothing.
 use borrow.Author.Needs.{needs}
 use native.Mathlib.Omega.{arith}
+use mathlib.Core.Path.{subst}
 use Rattle.lists.proofs.BoolLaws.{not-true, not-false}
+use Rattle.room_thread_laws.specs.Threads.{Closes}
 use Rattle.room_thread_laws.proofs.RoomLaws.{told-short}
 use Rattle.room_map.proofs.MapLaws.{size-few, box-fits, box-told, box-open}
 use Rattle.room_map.proofs.is_room.Statement.{statement}
@@ -80,6 +82,12 @@ returns-6 c =
     let r = e .result in
     box-told (z .args .chain .now) (z .pre) (r .width) (r .height) (r .from) (r .closed) (e .ensures) (c .lone-widest .result) (omega arith) (not-false (r .closed) (c .before .before .before .before .before .before .before .before .if2 .left)) (c .lone-widest .ensures)
 
+is-room-requires : tie.Need-is-room-requires
+is-room-requires c κs =
+    let z = c .before .before .before .before .before .before .before .before .before in
+    let e = c .before .before .before .before .before .before .enclose in
+    (omega arith, z .pre .short, subst (Closes (z .args .chain .now)) (not-false (e .result .closed) (c .before .before .before .before .if2 .left)) (e .ensures .round), z .pre .digits)
+
 pub is-room-spec : {M : Type 1} → statement M
 is-room-spec =
     tie.close
@@ -96,5 +104,5 @@ is-room-spec =
     returns-5
     lone-widest-requires
     returns-6
-    (λ c κs. search needs)
+    is-room-requires
     (λ c. search needs))

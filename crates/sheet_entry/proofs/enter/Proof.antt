@@ -14,19 +14,19 @@ slice-write-out : tie.Need-slice-write-out
 slice-write-out c =
     let r = c .before .before .before .before .before .before .enter-line in
     let s = c .before .before .before .before .before .before .before .before .before .before .before .before .before .before in
-    omega (arith, s .pre .1, entered-most (s .args .s .now), length-append (entryOf (s .args .s .now)) (10 ∷ []), r .ensures .end, r .kept .1 .1 .1 .0)
+    omega (arith, s .pre .1, entered-most (s .args .s .now), length-append (entryOf (s .args .s .now)) (10 ∷ []), r .ensures .0 .end, r .kept .1 .1 .1 .0)
 
 add-result : tie.Need-add-result
 add-result c =
     let r = c .before .before .before .before .before .before .enter-line in
     let s = c .before .before .before .before .before .before .before .before .before .before .before .before .before .before in
-    search (needs, s .pre .1, entered-most (s .args .s .now), length-append (entryOf (s .args .s .now)) (10 ∷ []), r .ensures .end, r .kept .1 .1 .1 .0)
+    search (needs, s .pre .1, entered-most (s .args .s .now), length-append (entryOf (s .args .s .now)) (10 ∷ []), r .ensures .0 .end, r .kept .1 .1 .1 .0)
 
 returns : tie.Need-returns
 returns c =
     let r = c .before .before .before .before .before .before .enter-line in
     let s = c .before .before .before .before .before .before .before .before .before .before .before .before .before .before in
-    wrote-then (entryOf (s .args .s .now)) 10 (s .args .at) (r .ensures) (omega (arith, s .pre .1, entered-most (s .args .s .now), length-append (entryOf (s .args .s .now)) (10 ∷ [])))
+    (wrote-then (entryOf (s .args .s .now)) 10 (s .args .at) (r .ensures .0) (omega (arith, s .pre .1, entered-most (s .args .s .now), length-append (entryOf (s .args .s .now)) (10 ∷ []))), r .ensures .1)
 
 pub enter-spec : {M : Type 1} → statement M
 enter-spec =

@@ -1,6 +1,6 @@
 //! Writes calls that the comparisons make, with every lent buffer before and after the proved library's call: `cases [ROUNDS]`. Another
 //! build of the library, as the WebAssembly modules of dist/, is then asked the same, or another language that calls it. One call in so
-//! many is written, and more of those with a long input. With ROUNDS, only so many rounds of random calls are made.
+//! many is written, and more of those with a long input. With ROUNDS, only that many rounds of random calls are made.
 //!
 //! A call is its name, its arguments, its result and the buffers after it. A text or a buffer has its length before it, 4 bytes, and an
 //! argument begins with a letter: `n` a number of 4 bytes; `i` bytes; `l` how many bytes an element of a lent buffer has, and the
@@ -14,13 +14,13 @@ use std::sync::{LazyLock, Mutex};
 use compare::inputs::Random;
 use compare::{Library, PROVED, Room, suite};
 
-/// Operations of the longest walks of which all are asked.
+/// All walks of at most this many operations are asked.
 const LONGEST: u32 = 5;
-/// Steps of the longest rooms of which all are asked whether they are convex.
+/// All rooms of at most this many steps are asked whether they are convex, and for their orthogonal hulls.
 const LONGEST_ROOM: usize = 12;
 /// Rounds of random calls.
 const ROUNDS: usize = 300;
-/// One call in so many is written; if the input has as many bytes as `LONG`, one in fewer.
+/// One call in this many is written; if the input has as many bytes as `LONG`, one in fewer.
 const ONE_IN: u64 = 23;
 const LONG: usize = 1_000;
 const LONG_ONE_IN: u64 = 5;
@@ -55,7 +55,7 @@ impl Element for i32 {
 struct Case(Option<Vec<u8>>);
 
 impl Case {
-    /// The call of this name, with an input of so many bytes.
+    /// The call of this name, with an input of this many bytes.
     fn of(name: &str, input: usize) -> Case {
         static CALLS: AtomicU64 = AtomicU64::new(0);
         let one_in = if input < LONG { ONE_IN } else { LONG_ONE_IN };
@@ -81,6 +81,10 @@ impl Case {
     fn start(self, (x, y): (i32, i32)) -> Case {
         let case = self.letter(b'n').put(&x.to_le_bytes());
         case.letter(b'n').put(&y.to_le_bytes())
+    }
+
+    fn number(self, number: u32) -> Case {
+        self.letter(b'n').put(&number.to_le_bytes())
     }
 
     fn input(self, bytes: &[u8]) -> Case {
@@ -192,6 +196,16 @@ const WRITTEN: Library = Library {
         case.result(number.into()).buffer(answer).write();
         number
     },
+    orthogonal_hull: |start, chain, grid, out, answer| {
+        let case = Case::of("orthogonal_hull", chain.len()).start(start);
+        let case = case.input(chain).number(grid).lent(out).answer(answer);
+        let number = (PROVED.orthogonal_hull)(start, chain, grid, out, answer);
+        case.result(number.into())
+            .buffer(out)
+            .buffer(answer)
+            .write();
+        number
+    },
     overlay: |one: Room, other: Room, out, answer| {
         let [first, second, both] = out;
         let case = Case::of("overlay", one.1.len() + other.1.len())
@@ -260,6 +274,7 @@ fn chosen() {
     suite::boxes(&WRITTEN);
     suite::outlines(&WRITTEN);
     suite::convex_rooms(&WRITTEN, LONGEST_ROOM);
+    suite::orthogonal_hulls(&WRITTEN, LONGEST_ROOM);
     suite::overlays(&WRITTEN, LONGEST as usize);
     suite::short_pairs(&WRITTEN, LONGEST / 2);
     suite::pair_bytes(&WRITTEN);
