@@ -26,7 +26,8 @@ use Rattle.table_laws.proofs.Cites.{made-holds, ref-below, not-linked, above-ro
 use Rattle.table_laws.proofs.LastLaws.{near-last}
 use Rattle.table_laws.proofs.LookupLaws.{mem-of-ref, length-table, Raised, raised-is, root-parent}
 use Rattle.table_laws.proofs.StateLaws.{sound-reached}
-use Rattle.table_laws.proofs.StoreLaws.{far, read-neighbour, read-child, child-word-small}
+use Rattle.table_laws.proofs.CellLaws.{far, read-neighbour, read-child}
+use Rattle.table_laws.proofs.StoreLaws.{child-word-small}
 use Rattle.table_climb_laws.specs.Climb.{goesUp, Apart, Climbed, Descends}
 
 -- a link keeps the length

@@ -36,7 +36,9 @@ use Rattle.tree_laws.proofs.LineageLaws.{links-here, links-flip, links-up}
 use Rattle.tree_laws.proofs.RiseLaws.{goes-up, up-goes, up-near, risen-up, risen-top, risen-all, risen-once, risen-new, mem-but, but-mem}
 use Rattle.table_laws.proofs.LookupLaws.{Raised, raised-is, root-parent}
 use Rattle.table_laws.proofs.StateLaws.{by-mem, grown-known, grown-new, reach-known, reach-root, reach-over}
-use Rattle.table_laws.proofs.StoreLaws.{alike-row, link-row-x, node-row-x, child-word-small}
+use Rattle.table_laws.proofs.CellLaws.{alike-row}
+use Rattle.table_laws.proofs.LinkLaws.{link-row-x}
+use Rattle.table_laws.proofs.StoreLaws.{node-row-x, child-word-small}
 
 -- rows that are the same word by word are one row
 pub same-words : (l m : List ℕ) → sameWords l m ≡ true → l ≡ m

@@ -26,7 +26,7 @@ use Rattle.table_laws.proofs.ChangeLaws.{same-self, rooted, changed, af
 use Rattle.table_laws.proofs.LookupLaws.{length-table}
 use Rattle.table_laws.proofs.RowLaws.{table-state, rows-append, rows-cong, rows-zero, length-rows}
 use Rattle.table_laws.proofs.StateLaws.{step-table, room-old}
-use Rattle.table_laws.proofs.StoreLaws.{wide}
+use Rattle.table_laws.proofs.CellLaws.{wide}
 
 -- the first record, and the others
 take-row : (l r : List ℕ) → length l ≡ width → take width (l ++ r) ≡ l

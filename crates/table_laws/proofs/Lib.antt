@@ -1,4 +1,6 @@
 pub mod RowLaws
+pub mod CellLaws
+pub mod LinkLaws
 pub mod StoreLaws
 pub mod StateLaws
 pub mod LookupLaws

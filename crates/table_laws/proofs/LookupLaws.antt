@@ -28,7 +28,9 @@ use Rattle.tree_laws.proofs.LevelLaws.{root-is, add-known}
 use Rattle.table_laws.specs.Model.{Out, out, childIn, linkIn, joinIn, finishIn, aboveIn, neighbourIn}
 use Rattle.table_laws.proofs.RowLaws.{length-rows}
 use Rattle.table_laws.proofs.StateLaws.{grown-known, grown-new, by-mem, add-new, reach-known, reach-root, reach-over, sound-reached, room-old}
-use Rattle.table_laws.proofs.StoreLaws.{wide, far, alike-table, node-table, link-table, read-parent, read-child, read-neighbour, child-word-small}
+use Rattle.table_laws.proofs.CellLaws.{wide, far, alike-table, read-parent, read-child, read-neighbour}
+use Rattle.table_laws.proofs.LinkLaws.{link-table}
+use Rattle.table_laws.proofs.StoreLaws.{node-table, child-word-small}
 
 pub length-table : (words : ℕ) (S : State) → width * length (S .nodes) ≤ words → length (tableBy words S) ≡ words
 length-table words S h =

@@ -26,7 +26,8 @@ use Rattle.tree_laws.proofs.PopLaws.{unlink-stop, unlink-last, unlink-next, dro
 use Rattle.table_laws.specs.Model.{unsetIn}
 use Rattle.table_laws.proofs.LookupLaws.{mem-of-ref}
 use Rattle.table_laws.proofs.StateLaws.{unlinked-all, dropping-stop, dropping-table}
-use Rattle.table_laws.proofs.StoreLaws.{far-pos, alike-table, unlink-table, read-parent, read-neighbour, read-step, read-need}
+use Rattle.table_laws.proofs.CellLaws.{far-pos, alike-table, read-parent, read-neighbour, read-step, read-need}
+use Rattle.table_laws.proofs.LinkLaws.{unlink-table}
 
 module _ (words : ℕ) (S : State) (sound : Sound S) (s : ℕ) (pos : 0 < s) where
   module _ (z : Corner) (d : ℕ) (dir : d < 4) (small : (x y : Corner) → S .step x y < s) where
