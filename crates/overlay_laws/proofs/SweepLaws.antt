@@ -12,7 +12,7 @@ use Rattle.lists.specs.Lists.{tally, count}
 use Rattle.grid.specs.declared.Corner.{Corner}
 use Rattle.row_laws.specs.Feet.{ahead}
 use Rattle.overlay.specs.declared.Part.{Part}
-use Rattle.overlay_laws.specs.Join.{Stop, leads, stopsBy, join, differ, changes}
+use Rattle.overlay_laws.specs.Join.{leads, stopsBy, join, differ, changes}
 use Rattle.overlay_laws.specs.Sweep.{partHas, partEnds, endAt, endsFrom, odd, partRest}
 use Rattle.overlay_laws.proofs.JoinLaws.{none-left}
 
