@@ -24,7 +24,8 @@ use Rattle.tree_laws.proofs.AddLaws.{ref-pos, ref-append}
 use Rattle.table_laws.specs.Model.{linkIn}
 use Rattle.table_laws.proofs.Cites.{made-holds, ref-below, not-linked, above-root, above-same, above-call, over-holds, near-no-parent, near-no-child, near-linked, link-bounds, parent-word}
 use Rattle.table_laws.proofs.LastLaws.{near-last}
-use Rattle.table_laws.proofs.LookupLaws.{mem-of-ref, length-table, Raised, raised-is, root-parent}
+use Rattle.table_laws.proofs.ChildLaws.{mem-of-ref, length-table}
+use Rattle.table_laws.proofs.LookupLaws.{Raised, raised-is, root-parent}
 use Rattle.table_laws.proofs.StateLaws.{sound-reached}
 use Rattle.table_laws.proofs.CellLaws.{far, read-neighbour, read-child}
 use Rattle.table_laws.proofs.StoreLaws.{child-word-small}

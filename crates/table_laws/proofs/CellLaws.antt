@@ -1,20 +1,35 @@
 -- The words of the table of a state: one row for each node, and what is read there.
 -- Assumes nothing.
-use mathlib.Core.Bool.{cond}
-use mathlib.Core.List.{List}
+use mathlib.Core.Bool.{cond, true, false≢true}
+use mathlib.Core.List.{List, [], _∷_}
 use mathlib.Core.Path.{_≡_, refl, ap, ap₂, sym, _∙_}
 use Prim.Native.Nat.{ℕ, zero, suc, _-_, _<_}
 use native.Mathlib.Omega.{arith}
+use borrow.Author.Tests.{eqb-true, eq-eqb}
+use lib.Dec.{eqb}
 use lib.ListN.{length, getD}
 use Rattle.grid.specs.declared.Corner.{Corner}
 use Rattle.grid.specs.Grid.{stepped}
 use Rattle.grid.specs.Tree.{parentOf, isRoot}
+use Rattle.layout.specs.Marks.{sameWords}
 use Rattle.layout.specs.Table.{width, wordAt, parentWord, neighbourWord, linkWord, visitsWord, needWord, firstWord, edgeWord, childRefOf}
 use Rattle.tree.specs.Nodes.{refOf}
 use Rattle.tree_laws.specs.State.{State, Alike, neighbourBy, fieldsBy, recordBy, rowsBy, filled, tableBy}
 use Rattle.grid.proofs.StepLaws.{stepped-ne}
+use Rattle.lists.proofs.GatherLaws.{and-left, and-right}
 use Rattle.layout.proofs.WordLaws.{words-cong, child-of, neighbour-of, link-of, edge-of}
 use Rattle.table_laws.proofs.RowLaws.{corners, rows-cong, row-read}
+
+-- rows that are the same word by word are one row
+pub same-words : (l m : List ℕ) → sameWords l m ≡ true → l ≡ m
+same-words [] [] e = refl
+same-words [] (y ∷ m) e = absurd (false≢true e)
+same-words (x ∷ l) [] e = absurd (false≢true e)
+same-words (x ∷ l) (y ∷ m) e = ap₂ (λ (z : ℕ) (r : List ℕ). z ∷ r) (eqb-true x y (and-left (eqb x y) (sameWords l m) e)) (same-words l m (and-right (eqb x y) (sameWords l m) e))
+
+pub same-self : (l : List ℕ) → sameWords l l ≡ true
+same-self [] = refl
+same-self (x ∷ l) = rw (eq-eqb x x refl, same-self l)
 
 pub wide : (S : State) (a : Corner) → length (recordBy S a) ≡ width
 wide S a = refl

@@ -3,6 +3,7 @@ pub mod CellLaws
 pub mod LinkLaws
 pub mod StoreLaws
 pub mod StateLaws
+pub mod ChildLaws
 pub mod LookupLaws
 pub mod TakeLaws
 pub mod LastLaws

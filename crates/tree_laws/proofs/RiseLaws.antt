@@ -56,9 +56,9 @@ close d a e p = (omega (arith, size-step (back d) e, ap sizeOf (ap (stepped (bac
 
 -- how x stands above a and e, in the list of k + 1 levels: as a parent of a pair that goes up, above these parents, or as the parent of the
 -- topmost node that is made
-data Above (L : Corner → Corner → ℕ) (ns : List Corner) (k : ℕ) (a e x : Corner) : Type 0 where
-  before : linksUp L a e ≡ true → x ≡ parentOf a → (parentOf a ≡ e → ⊥) → Above L ns k a e x
-  after : linksUp L a e ≡ true → x ≡ parentOf e → (parentOf e ≡ a → ⊥) → Above L ns k a e x
+pub data Above (L : Corner → Corner → ℕ) (ns : List Corner) (k : ℕ) (a e x : Corner) : Type 0 where
+  over-a : linksUp L a e ≡ true → x ≡ parentOf a → (parentOf a ≡ e → ⊥) → Above L ns k a e x
+  over-e : linksUp L a e ≡ true → x ≡ parentOf e → (parentOf e ≡ a → ⊥) → Above L ns k a e x
   higher : linksUp L a e ≡ true → List·Memᴰ x (risenBy L ns k (parentOf a) (parentOf e)) → Above L ns k a e x
   topmost : isFresh ns e ≡ true → x ≡ parentOf e → (parentOf e ≡ a → ⊥) → Above L ns k a e x
 
@@ -103,7 +103,7 @@ module _ (L : Corner → Corner → ℕ) where
             ∙ ap (λ (l : List Corner). but (parentOf a) e ++ (but (parentOf e) a ++ l)) (ih (omega arith) (omega arith))
             ∙ sym (risen-up j a e p)
 
-    risen-cases : (k : ℕ) (a e x : Corner) → List·Memᴰ x (risenBy L ns (suc k) a e) → Above L ns k a e x
+    pub risen-cases : (k : ℕ) (a e x : Corner) → List·Memᴰ x (risenBy L ns (suc k) a e) → Above L ns k a e x
     risen-cases k a e x m = go (linksUp L a e) refl
       where
         made : (b : Bool) → isFresh ns e ≡ b → List·Memᴰ x (cond b (but (parentOf e) a) []) → Above L ns k a e x
@@ -114,8 +114,8 @@ module _ (L : Corner → Corner → ℕ) where
         go false r = made (isFresh ns e) refl (subst (List·Memᴰ x) (risen-top k a e r) m)
         go true r =
             ⊎-elim
-            (λ h. let q = mem-but (parentOf a) e x h in before r (q .0) (q .1))
-            (λ h. ⊎-elim (λ i. let q = mem-but (parentOf e) a x i in after r (q .0) (q .1)) (λ i. higher r i) (List·Memᴰ·append-cases (but (parentOf e) a) h))
+            (λ h. let q = mem-but (parentOf a) e x h in over-a r (q .0) (q .1))
+            (λ h. ⊎-elim (λ i. let q = mem-but (parentOf e) a x i in over-e r (q .0) (q .1)) (λ i. higher r i) (List·Memᴰ·append-cases (but (parentOf e) a) h))
             (List·Memᴰ·append-cases (but (parentOf a) e) (subst (List·Memᴰ x) (risen-up k a e r) m))
 
     -- what holds of the parents of what it holds of, holds of all
@@ -125,8 +125,8 @@ module _ (L : Corner → Corner → ℕ) where
     risen-all P up (suc k) a e p q x m = go (risen-cases k a e x m) (λ pa pe. risen-all P up k (parentOf a) (parentOf e) pa pe x)
       where
         go : Above L ns k a e x → (P (parentOf a) → P (parentOf e) → List·Memᴰ x (risenBy L ns k (parentOf a) (parentOf e)) → P x) → P x
-        go (before r s t) ih = subst P (sym s) (up a p (goes-up a e r .0))
-        go (after r s t) ih = subst P (sym s) (up e q (goes-up a e r .1))
+        go (over-a r s t) ih = subst P (sym s) (up a p (goes-up a e r .0))
+        go (over-e r s t) ih = subst P (sym s) (up e q (goes-up a e r .1))
         go (higher r n) ih = ih (up a p (goes-up a e r .0)) (up e q (goes-up a e r .1)) n
         go (topmost r s t) ih = subst P (sym s) (up e q (rooted e r))
 
@@ -137,8 +137,8 @@ module _ (L : Corner → Corner → ℕ) where
       where
         go : Above L ns k a e x → (List·Memᴰ x (risenBy L ns k (parentOf a) (parentOf e)) → (sizeOf x < sizeOf (parentOf a)) ⊎ (sizeOf x < sizeOf (parentOf e)))
             → (sizeOf x < sizeOf a) ⊎ (sizeOf x < sizeOf e)
-        go (before r s t) ih = inl (omega (arith, ap sizeOf s, sizeOf-parentOf a (goes-up a e r .0)))
-        go (after r s t) ih = inr (omega (arith, ap sizeOf s, sizeOf-parentOf e (goes-up a e r .1)))
+        go (over-a r s t) ih = inl (omega (arith, ap sizeOf s, sizeOf-parentOf a (goes-up a e r .0)))
+        go (over-e r s t) ih = inr (omega (arith, ap sizeOf s, sizeOf-parentOf e (goes-up a e r .1)))
         go (higher r n) ih =
             let g = goes-up a e r in
             ⊎-elim (λ j. inl (omega (arith, j, sizeOf-parentOf a (g .0)))) (λ j. inr (omega (arith, j, sizeOf-parentOf e (g .1)))) (ih n)
@@ -153,16 +153,16 @@ module _ (L : Corner → Corner → ℕ) where
         c = close d a e n
 
         not-a : Above L ns k a e a → ⊥
-        not-a (before r s t) = omega (arith, ap sizeOf s, sizeOf-parentOf a (goes-up a e r .0))
-        not-a (after r s t) = t (sym s)
+        not-a (over-a r s t) = omega (arith, ap sizeOf s, sizeOf-parentOf a (goes-up a e r .0))
+        not-a (over-e r s t) = t (sym s)
         not-a (higher r m) =
             let g = goes-up a e r in
             ⊎-elim (λ h. omega (arith, h, sizeOf-parentOf a (g .0))) (λ h. omega (arith, h, sizeOf-parentOf e (g .1), c .1)) (risen-size k (parentOf a) (parentOf e) a m)
         not-a (topmost r s t) = t (sym s)
 
         not-e : Above L ns k a e e → ⊥
-        not-e (before r s t) = t (sym s)
-        not-e (after r s t) = omega (arith, ap sizeOf s, sizeOf-parentOf e (goes-up a e r .1))
+        not-e (over-a r s t) = t (sym s)
+        not-e (over-e r s t) = omega (arith, ap sizeOf s, sizeOf-parentOf e (goes-up a e r .1))
         not-e (higher r m) =
             let g = goes-up a e r in
             ⊎-elim (λ h. omega (arith, h, sizeOf-parentOf a (g .0), c .0)) (λ h. omega (arith, h, sizeOf-parentOf e (g .1))) (risen-size k (parentOf a) (parentOf e) e m)

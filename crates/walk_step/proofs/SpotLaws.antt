@@ -19,7 +19,7 @@ use Rattle.grid.proofs.CornerLaws.{same-refl}
 use Rattle.grid.proofs.JoinLaws.{joins-here}
 use Rattle.grid.proofs.StepLaws.{back-mod, stepped-back, endFrom-snoc}
 use Rattle.table_laws.proofs.Cites.{stood, ref-below, made-holds}
-use Rattle.table_laws.proofs.LookupLaws.{length-table}
+use Rattle.table_laws.proofs.ChildLaws.{length-table}
 use Rattle.table_laws.proofs.RowLaws.{table-state}
 use Rattle.table_laws.proofs.StateLaws.{sound-step, links-small, needs-small, room-old}
 use Rattle.table_laws.proofs.CellLaws.{read-visits, read-edge}
