@@ -7,30 +7,35 @@ use Rattle.convex_room.proofs.decide.Statement.{statement}
 use Rattle.convex_room.proofs.decide.Tie as tie
 
 enclose-requires : tie.Need-enclose-requires
-enclose-requires c κs = let z = c .before in steps-box (z .args .chain .now) (z .pre .0) (z .pre .1)
+enclose-requires c κs =
+    let at-start = c .before in
+    steps-box (at-start .args .chain .now) (at-start .pre .0) (at-start .pre .1)
 
 add-if1 : tie.Need-add-if1
 add-if1 c =
-    let z = c .before .before .before in
+    let at-start = c .before .before .before in
     let e = c .before .enclose in
     let r = e .result in
-    let f = box-few (z .args .chain .now) (z .pre .0) (z .pre .1) (r .width) (r .height) (r .from) (r .closed) (e .ensures) in
+    let f = box-few (at-start .args .chain .now) (at-start .pre .0) (at-start .pre .1) (r .width) (r .height) (r .from)
+    (r .closed) (e .ensures) in
     record { fits = omega (arith, f .0, f .1) }
 
 mul-if1 : tie.Need-mul-if1
 mul-if1 c =
-    let z = c .before .before .before in
+    let at-start = c .before .before .before in
     let e = c .before .enclose in
     let r = e .result in
-    let f = box-few (z .args .chain .now) (z .pre .0) (z .pre .1) (r .width) (r .height) (r .from) (r .closed) (e .ensures) in
+    let f = box-few (at-start .args .chain .now) (at-start .pre .0) (at-start .pre .1) (r .width) (r .height) (r .from)
+    (r .closed) (e .ensures) in
     record { fits = omega (arith, f .0, f .1) }
 
 returns : tie.Need-returns
 returns c =
-    let z = c .before .before .before .before in
-    let e = c .before .before .enclose in
+    let at-enclose = c .before .before in let at-start = at-enclose .before .before in
+    let e = at-enclose .enclose in
     let r = e .result in
-    girth-no (z .args .chain .now) (z .pre .0) (z .pre .1) (r .width) (r .height) (r .from) (r .closed) (e .ensures) (c .if1 .taken)
+    girth-no (at-start .args .chain .now) (at-start .pre .0) (at-start .pre .1) (r .width) (r .height) (r .from) (r .closed)
+    (e .ensures) (c .if1 .taken)
 
 returns-2 : tie.Need-returns-2
 returns-2 c = λ p r. c .is-convex .ensures p (r .closed)

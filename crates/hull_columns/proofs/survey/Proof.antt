@@ -10,8 +10,10 @@ use Rattle.hull_columns.proofs.survey.Tie as tie
 
 returns-2 : tie.Need-returns-2
 returns-2 c =
-    let chain = c .before .before .before .before .before .args .chain .now in
-    ap (λ (j : Judged). extentBy j (westFrom middle chain) (eastFrom middle chain)) (sym (sym (c .before .before .before .judge .ensures) ∙ c .before .r .given .1))
+    let at-judge = c .before .before .before in
+    let chain = at-judge .before .before .args .chain .now in
+    ap (λ (j : Judged). extentBy j (westFrom middle chain) (eastFrom middle chain))
+    (sym (sym (at-judge .judge .ensures) ∙ c .before .r .given .1))
 
 pub survey-spec : {M : Type 1} → statement M
 survey-spec =

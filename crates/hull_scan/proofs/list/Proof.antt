@@ -20,33 +20,48 @@ returns c =
 
 returns-2 : tie.Need-returns-2
 returns-2 c =
-    let a = c .before .before .before .before .args in
+    let at-if1 = c .before .before in
+    let a = at-if1 .before .before .args in
     let f = c .before .start-fits in
-    call-refused (a .start) (a .chain .now) (a .out .now) StartRange (λ n. judged-start (a .start) (a .chain .now) (length (a .out .now)) n (c .before .before .if1 .left) (sym (f .ensures) ∙ not-true (f .result) (c .if2 .taken)))
+    call-refused (a .start) (a .chain .now) (a .out .now) StartRange
+    (λ n. judged-start (a .start) (a .chain .now) (length (a .out .now)) n (at-if1 .if1 .left)
+    (sym (f .ensures) ∙ not-true (f .result) (c .if2 .taken)))
 
 list-from-requires : tie.Need-list-from-requires
 list-from-requires c κs =
-    let a = c .before .before .before .before .before .before .before .before .before .args in
-    let f = c .before .before .before .before .before .before .start-fits in
-    let w = c .before .before .west .given in
-    let t = extent-good (chainJudged 0 (a .chain .now)) (westFrom middle (a .chain .now)) (eastFrom middle (a .chain .now)) (w .0 .0) (w .0 .1 .0) (sym (c .before .before .before .before .survey .ensures) ∙ w .1) in
-    (walked (a .chain .now) (w .0 .0) (w .0 .1 .0) (t .0) (t .1) (t .2), fits-near (a .start) (sym (f .ensures) ∙ not-false (f .result) (c .before .before .before .before .before .if2 .left)))
+    let at-west = c .before .before in let at-survey = at-west .before .before in let at-start-fits = at-survey .before .before in
+    let at-start = at-start-fits .before .before .before in
+    let a = at-start .args in
+    let f = at-start-fits .start-fits in
+    let w = at-west .west .given in
+    let t = extent-good (chainJudged 0 (a .chain .now)) (westFrom middle (a .chain .now)) (eastFrom middle (a .chain .now))
+    (w .0 .0) (w .0 .1 .0) (sym (at-survey .survey .ensures) ∙ w .1) in
+    (walked (a .chain .now) (w .0 .0) (w .0 .1 .0) (t .0) (t .1) (t .2), fits-near (a .start) (sym (f .ensures) ∙ not-false (f .result) (at-survey .before .if2 .left)))
 
 returns-3 : tie.Need-returns-3
 returns-3 c =
-    let a = c .before .before .before .before .before .before .before .before .before .before .before .args in
-    let f = c .before .before .before .before .before .before .before .before .start-fits in
-    let w = c .before .before .before .before .west .given in
-    let t = extent-good (chainJudged 0 (a .chain .now)) (westFrom middle (a .chain .now)) (eastFrom middle (a .chain .now)) (w .0 .0) (w .0 .1 .0) (sym (c .before .before .before .before .before .before .survey .ensures) ∙ w .1) in
-    call-listed (c .before .before .before .before .before .before .before .before .before .if1 .left) (sym (f .ensures) ∙ not-false (f .result) (c .before .before .before .before .before .before .before .if2 .left)) (t .0) (c .before .list-from .ensures)
+    let at-west = c .before .before .before .before in let at-survey = at-west .before .before in
+    let at-if2 = at-survey .before in let at-if1 = at-if2 .before .before in
+    let a = at-if1 .before .before .args in
+    let f = at-if2 .before .start-fits in
+    let w = at-west .west .given in
+    let t = extent-good (chainJudged 0 (a .chain .now)) (westFrom middle (a .chain .now)) (eastFrom middle (a .chain .now))
+    (w .0 .0) (w .0 .1 .0) (sym (at-survey .survey .ensures) ∙ w .1) in
+    call-listed (at-if1 .if1 .left) (sym (f .ensures) ∙ not-false (f .result) (at-if2 .if2 .left)) (t .0)
+    (c .before .list-from .ensures)
 
 returns-4 : tie.Need-returns-4
 returns-4 c =
-    let a = c .before .before .before .before .before .before .before .before .args in
-    let f = c .before .before .before .before .before .start-fits in
+    let at-survey = c .before .before .before in let at-start-fits = at-survey .before .before in
+    let at-if1 = at-start-fits .before in
+    let a = at-if1 .before .before .args in
+    let f = at-start-fits .start-fits in
     let r = c .before .r .given in
-    let e = extent-refused (chainJudged 0 (a .chain .now)) (westFrom middle (a .chain .now)) (eastFrom middle (a .chain .now)) (r .0 .0) (sym (c .before .before .before .survey .ensures) ∙ r .1) in
-    call-refused (a .start) (a .chain .now) (a .out .now) (r .0 .0) (λ n. judged-fault (a .start) (a .chain .now) (length (a .out .now)) n (c .before .before .before .before .before .before .if1 .left) (sym (f .ensures) ∙ not-false (f .result) (c .before .before .before .before .if2 .left)) (r .0 .0) e)
+    let e = extent-refused (chainJudged 0 (a .chain .now)) (westFrom middle (a .chain .now)) (eastFrom middle (a .chain .now))
+    (r .0 .0) (sym (at-survey .survey .ensures) ∙ r .1) in
+    call-refused (a .start) (a .chain .now) (a .out .now) (r .0 .0)
+    (λ n. judged-fault (a .start) (a .chain .now) (length (a .out .now)) n (at-if1 .if1 .left)
+    (sym (f .ensures) ∙ not-false (f .result) (at-survey .before .if2 .left)) (r .0 .0) e)
 
 pub list-spec : {M : Type 1} → statement M
 list-spec =

@@ -7,10 +7,14 @@ use Rattle.hull_scan.proofs.list_from.Statement.{statement}
 use Rattle.hull_scan.proofs.list_from.Tie as tie
 
 ends-requires : tie.Need-ends-requires
-ends-requires c κs = let s = c .before .before .before .before in (s .pre .1, omega (arith, walked-top (s .pre .0)), walked-top (s .pre .0))
+ends-requires c κs =
+    let at-start = c .before .before .before .before in
+    (at-start .pre .1, omega (arith, walked-top (at-start .pre .0)), walked-top (at-start .pre .0))
 
 returns : tie.Need-returns
-returns c = row-hulled (c .before .before .before .before .before .before .pre .0) (omega arith) (omega arith) (c .before .ends .ensures)
+returns c =
+    let at-start = c .before .before .before .before .before .before in
+    row-hulled (at-start .pre .0) (omega arith) (omega arith) (c .before .ends .ensures)
 
 sub-if3 : tie.Need-sub-if3
 sub-if3 c = walked-order (c .before .before .pre .0)

@@ -17,32 +17,40 @@ use Rattle.line_walk.proofs.walk_digits.Tie as tie
 
 slice-aggregate-follow : tie.Need-slice-aggregate-follow
 slice-aggregate-follow c =
-    let d = c .before .before .copy-digits in
-    let s = c .before .before .before .before .before .before .before .before in
-    sym (length-take-le (s .args .n) (d .last .1 .0) (omega (arith, d .kept .1 .0, s .pre .1 .0)))
+    let at-copy-digits = c .before .before in let at-start = at-copy-digits .before .before .before .before .before .before in
+    let d = at-copy-digits .copy-digits in
+    sym (length-take-le (at-start .args .n) (d .last .1 .0) (omega (arith, d .kept .1 .0, at-start .pre .1 .0)))
 
 slice-aggregate-follow-2 : tie.Need-slice-aggregate-follow-2
 slice-aggregate-follow-2 c =
-    let s = c .before .before .before .before .before .before .before .before .before .before in
-    sym (length-take-le (markWords * s .args .n) (s .args .marks .now) (omega (arith, s .pre .1 .0, s .pre .1 .1 .marks)))
+    let at-start = c .before .before .before .before .before .before .before .before .before .before in
+    sym (length-take-le (markWords * at-start .args .n) (at-start .args .marks .now)
+    (omega (arith, at-start .pre .1 .0, at-start .pre .1 .1 .marks)))
 
 slice-aggregate-follow-3 : tie.Need-slice-aggregate-follow-3
 slice-aggregate-follow-3 c =
-    let s = c .before .before .before .before .before .before .before .before .before .before .before in
-    sym (length-take-le (s .args .n) (s .args .chain .now) (omega (arith, s .pre .1 .0, s .pre .1 .1 .chain)))
+    let at-start = c .before .before .before .before .before .before .before .before .before .before .before in
+    sym (length-take-le (at-start .args .n) (at-start .args .chain .now)
+    (omega (arith, at-start .pre .1 .0, at-start .pre .1 .1 .chain)))
 
 returns : tie.Need-returns
 returns c =
-    let f = c .before .before .before .before .before .before .follow in
-    let d = c .before .before .before .before .before .before .before .before .before .before .before .before .copy-digits in
-    let s = c .before .before .before .before .before .before .before .before .before .before .before .before .before .before .before .before .before .before in
-    let a = s .args in
+    let at-follow = c .before .before .before .before .before .before in
+    let at-copy-digits = at-follow .before .before .before .before .before .before in
+    let at-start = at-copy-digits .before .before .before .before .before .before in
+    let f = at-follow .follow in
+    let d = at-copy-digits .copy-digits in
+    let a = at-start .args in
     let n = a .n in
-    let e : take n (d .last .1 .0) ≡ digitsOf (a .s .now) = ap (take n) (d .ensures) ∙ take-put-start (digitsOf (a .s .now)) (replicate mostDigits 0) n (length-digitsOf (a .s .now) n (s .pre .1 .0 .1)) (omega (arith, s .pre .1 .0)) in
-    let l : length (take n (d .last .1 .0)) ≡ n = length-take-le n (d .last .1 .0) (omega (arith, d .kept .1 .0, s .pre .1 .0)) in
-    let m = length-take-le (markWords * n) (a .marks .now) (omega (arith, s .pre .1 .0, s .pre .1 .1 .marks)) in
-    let h = length-take-le n (a .chain .now) (omega (arith, s .pre .1 .0, s .pre .1 .1 .chain)) in
-    walk-handed (f .ensures) (s .pre .1 .1 .table) (m ∙ ap (λ (k : ℕ). markWords * k) (sym l)) (h ∙ sym l) (omega (arith, l, s .pre .1 .0)) (drop n (a .chain .now)) (digitsOf (a .s .now)) e
+    let e : take n (d .last .1 .0) ≡ digitsOf (a .s .now) = ap (take n) (d .ensures)
+    ∙ take-put-start (digitsOf (a .s .now)) (replicate mostDigits 0) n (length-digitsOf (a .s .now) n (at-start .pre .1 .0 .1))
+    (omega (arith, at-start .pre .1 .0)) in
+    let l : length (take n (d .last .1 .0)) ≡ n = length-take-le n (d .last .1 .0)
+    (omega (arith, d .kept .1 .0, at-start .pre .1 .0)) in
+    let m = length-take-le (markWords * n) (a .marks .now) (omega (arith, at-start .pre .1 .0, at-start .pre .1 .1 .marks)) in
+    let h = length-take-le n (a .chain .now) (omega (arith, at-start .pre .1 .0, at-start .pre .1 .1 .chain)) in
+    walk-handed (f .ensures) (at-start .pre .1 .1 .table) (m ∙ ap (λ (k : ℕ). markWords * k) (sym l)) (h ∙ sym l)
+    (omega (arith, l, at-start .pre .1 .0)) (drop n (a .chain .now)) (digitsOf (a .s .now)) e
 
 pub walk-digits-spec : {M : Type 1} → statement M
 walk-digits-spec =

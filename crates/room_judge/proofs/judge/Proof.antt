@@ -11,25 +11,35 @@ returns c = let a = c .before .before .args in told-many (a .start) (a .chain .n
 
 returns-2 : tie.Need-returns-2
 returns-2 c =
-    let a = c .before .before .before .before .args in
-    told-range (a .start) (a .chain .now) (c .before .start-fits .result) (omega (arith, c .before .before .if1 .left)) (c .before .start-fits .ensures) (c .if2 .taken)
+    let at-start-fits = c .before in let at-if1 = at-start-fits .before in
+    let a = at-if1 .before .before .args in
+    told-range (a .start) (a .chain .now) (at-start-fits .start-fits .result) (omega (arith, at-if1 .if1 .left))
+    (at-start-fits .start-fits .ensures) (c .if2 .taken)
 
 is-room-requires : tie.Need-is-room-requires
 is-room-requires c κs =
-    let a = c .before .before .before .before .before .before .before .args in
-    good-steps (a .start) (a .chain .now) (c .before .before .judge .result) (c .before .before .judge .ensures) (c .enum-told .given .1)
+    let at-judge = c .before .before in let at-start = at-judge .before .before .before .before .before in
+    let a = at-start .args in
+    good-steps (a .start) (a .chain .now) (at-judge .judge .result) (at-judge .judge .ensures) (c .enum-told .given .1)
 
 returns-3 : tie.Need-returns-3
 returns-3 c =
-    let a = c .before .before .before .before .before .before .before .before .before .args in
-    told-room (a .start) (a .chain .now) (c .before .before .before .before .before .before .start-fits .result) (omega (arith, c .before .before .before .before .before .before .before .if1 .left)) (c .before .before .before .before .before .before .start-fits .ensures) (c .before .before .before .before .before .if2 .left)
-    (c .before .before .before .before .judge .result) (c .before .before .before .before .judge .ensures) (c .before .is-room .result) (c .told .result) (c .before .before .enum-told .given .1) (c .before .is-room .ensures) (c .told .ensures)
+    let at-is-room = c .before in let at-enum-told = at-is-room .before in let at-judge = at-enum-told .before .before in
+    let at-start-fits = at-judge .before .before in let at-if1 = at-start-fits .before in
+    let a = at-if1 .before .before .args in
+    told-room (a .start) (a .chain .now) (at-start-fits .start-fits .result) (omega (arith, at-if1 .if1 .left))
+    (at-start-fits .start-fits .ensures) (at-judge .before .if2 .left)
+    (at-judge .judge .result) (at-judge .judge .ensures) (at-is-room .is-room .result) (c .told .result)
+    (at-enum-told .enum-told .given .1) (at-is-room .is-room .ensures) (c .told .ensures)
 
 returns-4 : tie.Need-returns-4
 returns-4 c =
-    let a = c .before .before .before .before .before .before .before .before .args in
-    told-fault (a .start) (a .chain .now) (c .before .before .before .before .before .start-fits .result) (omega (arith, c .before .before .before .before .before .before .if1 .left)) (c .before .before .before .before .before .start-fits .ensures) (c .before .before .before .before .if2 .left)
-    (c .before .before .before .judge .result) (c .before .before .before .judge .ensures) _ (c .before .r .given .1)
+    let at-judge = c .before .before .before in let at-start-fits = at-judge .before .before in
+    let at-if1 = at-start-fits .before in
+    let a = at-if1 .before .before .args in
+    told-fault (a .start) (a .chain .now) (at-start-fits .start-fits .result) (omega (arith, at-if1 .if1 .left))
+    (at-start-fits .start-fits .ensures) (at-judge .before .if2 .left)
+    (at-judge .judge .result) (at-judge .judge .ensures) _ (c .before .r .given .1)
 
 pub judge-spec : {M : Type 1} → statement M
 judge-spec =

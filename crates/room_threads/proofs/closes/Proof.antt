@@ -23,24 +23,29 @@ column-requires : tie.Need-column-requires Inv-loop μ-loop
 column-requires c κs = let w = c .before .before .loop .inv .1 in (omega (arith, w .west), omega (arith, w .east))
 
 height-requires : tie.Need-height-requires Inv-loop μ-loop
-height-requires c κs = let w = c .before .before .before .loop .inv .1 in (omega (arith, w .south), omega (arith, w .north))
+height-requires c κs =
+    let at-loop = c .before .before .before in
+    let w = at-loop .loop .inv .1 in (omega (arith, w .south), omega (arith, w .north))
 
 loop-again : tie.Need-loop-again Inv-loop μ-loop
 loop-again c =
-    let l = c .before .before .before .before .loop in
-    let a = c .before .before .before .before .before .before .args in
-    (omega arith, goes-step (a .chain .now) middle (l .x) (l .y) (l .i) (l .inv .1) (c .before .column .result) (c .height .result) (c .before .column .ensures) (c .height .ensures) (omega arith) (omega arith))
+    let at-column = c .before in let at-loop = at-column .before .before .before in
+    let l = at-loop .loop in
+    let a = at-loop .before .before .args in
+    (omega arith, goes-step (a .chain .now) middle (l .x) (l .y) (l .i) (l .inv .1) (at-column .column .result) (c .height .result) (at-column .column .ensures) (c .height .ensures) (omega arith) (omega arith))
 
 returns : tie.Need-returns Inv-loop μ-loop
 returns c =
-    let l = c .before .before .loop in
-    let a = c .before .before .before .before .args in
+    let at-loop = c .before .before in
+    let l = at-loop .loop in
+    let a = at-loop .before .before .args in
     goes-open (a .chain .now) middle (l .x) (l .y) (l .i) (l .inv .1) (omega arith) (l .inv .0) (λ e. c .if1 .taken e)
 
 returns-2 : tie.Need-returns-2 Inv-loop μ-loop
 returns-2 c =
-    let l = c .before .before .loop in
-    let a = c .before .before .before .before .args in
+    let at-loop = c .before .before in
+    let l = at-loop .loop in
+    let a = at-loop .before .before .args in
     goes-closed (a .chain .now) middle (l .x) (l .y) (l .i) (l .inv .1) (omega arith) (l .inv .0) (c .if1 .left)
 
 pub closes-spec : {M : Type 1} → statement M

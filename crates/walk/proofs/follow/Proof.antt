@@ -14,40 +14,61 @@ input-requires c κs = tt
 
 returns : tie.Need-returns
 returns c =
-    let a = c .before .before .before .before .before .before .before .before .args in
+    let at-input = c .before .before .before in let at-start = at-input .before .before .before .before .before in
+    let a = at-start .args in
     let j = c .before .j .given in
-    walk-refused (a .start) (a .ops .now) (a .t .now) (a .marks .now) (a .chain .now) (j .0 .0) (sym (j .1) ∙ c .before .before .before .input .ensures)
+    walk-refused (a .start) (a .ops .now) (a .t .now) (a .marks .now) (a .chain .now) (j .0 .0)
+    (sym (j .1) ∙ at-input .input .ensures)
 
 plant-requires : tie.Need-plant-requires
 plant-requires c κs =
-    let a = c .before .before .before .before .before .before .before .before .args in
-    let k = input-good (a .start) (a .ops .now) (length (a .t .now)) (length (a .marks .now)) (length (a .chain .now)) (sym (c .before .before .before .input .ensures) ∙ c .before .enum-told .given .1) in
+    let at-input = c .before .before .before in let at-start = at-input .before .before .before .before .before in
+    let a = at-start .args in
+    let k = input-good (a .start) (a .ops .now) (length (a .t .now)) (length (a .marks .now)) (length (a .chain .now))
+    (sym (at-input .input .ensures) ∙ c .before .enum-told .given .1) in
     (k .start, k .least, k .most)
 
 returns-2 : tie.Need-returns-2
 returns-2 c =
-    let a = c .before .before .before .before .before .before .before .before .before .before .before .before .before .before .before .before .before .before .before .args in
-    let p = c .before .before .before .before .before .before .before .before .before .before .plant in
-    let z = c .before .before .before .before .clear in
+    let at-clear = c .before .before .before .before in let at-if1 = at-clear .before .before .before in
+    let at-plant = at-if1 .before .before .before in let at-enum-told = at-plant .before .before in
+    let at-input = at-enum-told .before .before in let at-start = at-input .before .before .before .before .before in
+    let a = at-start .args in
+    let p = at-plant .plant in
+    let z = at-clear .clear in
     let l : length (p .last .0) ≡ length (a .t .now) = search needs in
-    let f = planted-full (length (a .t .now)) (a .start) (a .ops .now) (p .last .0) (p .result) (p .ensures) (c .before .before .before .before .before .before .before .if1 .taken) in
-    walk-followed (a .start) (a .ops .now) (a .t .now) (a .t .now) (a .marks .now) (a .chain .now) _ (p .last .0) (z .last .0) (z .last .1 .0) (sym (c .before .before .before .before .before .before .before .before .before .before .before .before .enum-told .given .1) ∙ c .before .before .before .before .before .before .before .before .before .before .before .before .before .before .input .ensures) refl (followed-full (a .start) (a .ops .now) (a .t .now) (a .marks .now) (a .chain .now) (p .last .0) (z .last .0) (z .last .1 .0) 0 (f .0) (f .1) (z .ensures .0) (z .ensures .1))
+    let f = planted-full (length (a .t .now)) (a .start) (a .ops .now) (p .last .0) (p .result) (p .ensures)
+    (at-if1 .if1 .taken) in
+    walk-followed (a .start) (a .ops .now) (a .t .now) (a .t .now) (a .marks .now) (a .chain .now) _ (p .last .0) (z .last .0)
+    (z .last .1 .0) (sym (at-enum-told .enum-told .given .1) ∙ at-input .input .ensures) refl
+    (followed-full (a .start) (a .ops .now) (a .t .now) (a .marks .now) (a .chain .now) (p .last .0) (z .last .0) (z .last .1 .0)
+    0 (f .0) (f .1) (z .ensures .0) (z .ensures .1))
 
 go-on-requires : tie.Need-go-on-requires
 go-on-requires c κs =
-    let a = c .before .before .before .before .before .before .before .before .before .before .before .before .before .before .before .args in
-    let p = c .before .before .before .before .before .before .plant in
-    let k = input-good (a .start) (a .ops .now) (length (a .t .now)) (length (a .marks .now)) (length (a .chain .now)) (sym (c .before .before .before .before .before .before .before .before .before .before .input .ensures) ∙ c .before .before .before .before .before .before .before .before .enum-told .given .1) in
+    let at-if1 = c .before .before .before in let at-plant = at-if1 .before .before .before in
+    let at-enum-told = at-plant .before .before in let at-input = at-enum-told .before .before in
+    let at-start = at-input .before .before .before .before .before in
+    let a = at-start .args in
+    let p = at-plant .plant in
+    let k = input-good (a .start) (a .ops .now) (length (a .t .now)) (length (a .marks .now)) (length (a .chain .now))
+    (sym (at-input .input .ensures) ∙ at-enum-told .enum-told .given .1) in
     let l : length (p .last .0) ≡ length (a .t .now) = search needs in
-    ((k .start, planted-walked (a .start) (a .t .now) (p .last .0) (p .result) (p .ensures) l (c .before .before .before .if1 .left), omega (arith, l, k .most)), ((k .marks, k .chain, k .few), k .fine))
+    ((k .start, planted-walked (a .start) (a .t .now) (p .last .0) (p .result) (p .ensures) l (at-if1 .if1 .left), omega (arith, l, k .most)), ((k .marks, k .chain, k .few), k .fine))
 
 returns-3 : tie.Need-returns-3
 returns-3 c =
-    let a = c .before .before .before .before .before .before .before .before .before .before .before .before .before .before .before .before .before .before .before .before .before .before .args in
-    let g = c .before .before .before .before .before .before .go-on in
-    let p = c .before .before .before .before .before .before .before .before .before .before .before .before .before .plant in
+    let at-go-on = c .before .before .before .before .before .before in
+    let at-plant = at-go-on .before .before .before .before .before .before .before in
+    let at-enum-told = at-plant .before .before in let at-input = at-enum-told .before .before in
+    let at-start = at-input .before .before .before .before .before in
+    let a = at-start .args in
+    let g = at-go-on .go-on in
+    let p = at-plant .plant in
     let l : length (p .last .0) ≡ length (a .t .now) = search needs in
-    walk-followed (a .start) (a .ops .now) (a .t .now) (p .last .0) (a .marks .now) (a .chain .now) (g .result) (g .last .1 .1 .1 .0) (g .last .1 .1 .1 .1 .0) (g .last .1 .1 .1 .1 .1 .0) (sym (c .before .before .before .before .before .before .before .before .before .before .before .before .before .before .before .enum-told .given .1) ∙ c .before .before .before .before .before .before .before .before .before .before .before .before .before .before .before .before .before .input .ensures) l (g .ensures)
+    walk-followed (a .start) (a .ops .now) (a .t .now) (p .last .0) (a .marks .now) (a .chain .now) (g .result)
+    (g .last .1 .1 .1 .0) (g .last .1 .1 .1 .1 .0) (g .last .1 .1 .1 .1 .1 .0)
+    (sym (at-enum-told .enum-told .given .1) ∙ at-input .input .ensures) l (g .ensures)
 
 pub follow-spec : {M : Type 1} → statement M
 follow-spec =

@@ -12,39 +12,47 @@ use Rattle.walk_plant.proofs.plant.Tie as tie
 
 grow-requires : tie.Need-grow-requires
 grow-requires c κs =
-    let s = c .before .before .before .before .before .before in
-    let z = c .before .before .before .zero in
-    let l : length (z .last .0) ≡ length (s .args .t .now) = search needs in
-    (s .pre .0, z .ensures ∙ ap (λ (n : ℕ). replicate n 0) (sym l), omega (arith, l, s .pre .1), omega (arith, l, s .pre .2))
+    let at-zero = c .before .before .before in let at-start = at-zero .before .before .before in
+    let z = at-zero .zero in
+    let l : length (z .last .0) ≡ length (at-start .args .t .now) = search needs in
+    (at-start .pre .0, z .ensures ∙ ap (λ (n : ℕ). replicate n 0) (sym l), omega (arith, l, at-start .pre .1), omega (arith, l, at-start .pre .2))
 
 returns : tie.Need-returns
 returns c =
-    let s = c .before .before .before .before .before .before .before .before .before .before .before .before .before .before in
-    let z = c .before .before .before .before .before .before .before .before .before .before .before .zero in
-    let g = c .before .before .before .before .before .before .before .grow in
-    let e = c .before .before .zero2 in
-    let l : length (z .last .0) ≡ length (s .args .t .now) = search needs in
-    let m : length (g .last .0) ≡ length (s .args .t .now) = search needs in
-    planted-none (length (s .args .t .now)) (s .args .c) (g .last .0) (g .result) (subst (λ (n : ℕ). Grown n (s .args .c) (g .last .0) (g .result)) l (g .ensures)) (e .last .0) (c .before .before .before .before .if1 .taken) (e .ensures ∙ ap (λ (n : ℕ). replicate n 0) m)
+    let at-zero2 = c .before .before in let at-if1 = at-zero2 .before .before in let at-grow = at-if1 .before .before .before in
+    let at-zero = at-grow .before .before .before .before in let at-start = at-zero .before .before .before in
+    let z = at-zero .zero in
+    let g = at-grow .grow in
+    let e = at-zero2 .zero2 in
+    let l : length (z .last .0) ≡ length (at-start .args .t .now) = search needs in
+    let m : length (g .last .0) ≡ length (at-start .args .t .now) = search needs in
+    planted-none (length (at-start .args .t .now)) (at-start .args .c) (g .last .0) (g .result)
+    (subst (λ (n : ℕ). Grown n (at-start .args .c) (g .last .0) (g .result)) l (g .ensures)) (e .last .0) (at-if1 .if1 .taken)
+    (e .ensures ∙ ap (λ (n : ℕ). replicate n 0) m)
 
 visit-requires : tie.Need-visit-requires
 visit-requires c κs =
-    let s = c .before .before .before .before .before .before .before .before .before .before .before in
-    let z = c .before .before .before .before .before .before .before .before .zero in
-    let g = c .before .before .before .before .grow in
-    let l : length (z .last .0) ≡ length (s .args .t .now) = search needs in
-    let m : length (g .last .0) ≡ length (s .args .t .now) = search needs in
-    let v = grown-visits (length (s .args .t .now)) (s .args .c) (g .last .0) (g .result) (subst (λ (n : ℕ). Grown n (s .args .c) (g .last .0) (g .result)) l (g .ensures)) (c .before .if1 .left) m in
+    let at-grow = c .before .before .before .before in let at-zero = at-grow .before .before .before .before in
+    let at-start = at-zero .before .before .before in
+    let z = at-zero .zero in
+    let g = at-grow .grow in
+    let l : length (z .last .0) ≡ length (at-start .args .t .now) = search needs in
+    let m : length (g .last .0) ≡ length (at-start .args .t .now) = search needs in
+    let v = grown-visits (length (at-start .args .t .now)) (at-start .args .c) (g .last .0) (g .result)
+    (subst (λ (n : ℕ). Grown n (at-start .args .c) (g .last .0) (g .result)) l (g .ensures)) (c .before .if1 .left) m in
     (v .0, omega (arith, v .1), omega arith)
 
 returns-2 : tie.Need-returns-2
 returns-2 c =
-    let s = c .before .before .before .before .before .before .before .before .before .before .before .before .before .before in
-    let z = c .before .before .before .before .before .before .before .before .before .before .before .zero in
-    let g = c .before .before .before .before .before .before .before .grow in
-    let v = c .before .before .visit in
-    let l : length (z .last .0) ≡ length (s .args .t .now) = search needs in
-    planted-at (length (s .args .t .now)) (s .args .c) (g .last .0) (g .result) (subst (λ (n : ℕ). Grown n (s .args .c) (g .last .0) (g .result)) l (g .ensures)) (v .last .0) (c .before .before .before .before .if1 .left) (v .ensures)
+    let at-visit = c .before .before in let at-if1 = at-visit .before .before in let at-grow = at-if1 .before .before .before in
+    let at-zero = at-grow .before .before .before .before in let at-start = at-zero .before .before .before in
+    let z = at-zero .zero in
+    let g = at-grow .grow in
+    let v = at-visit .visit in
+    let l : length (z .last .0) ≡ length (at-start .args .t .now) = search needs in
+    planted-at (length (at-start .args .t .now)) (at-start .args .c) (g .last .0) (g .result)
+    (subst (λ (n : ℕ). Grown n (at-start .args .c) (g .last .0) (g .result)) l (g .ensures)) (v .last .0) (at-if1 .if1 .left)
+    (v .ensures)
 
 pub plant-spec : {M : Type 1} → statement M
 plant-spec = tie.close (tie.spec (λ c κs. search needs) grow-requires (λ c κs. search needs) (λ c. search needs) returns (λ c. search needs) visit-requires (λ c. search needs) returns-2)
