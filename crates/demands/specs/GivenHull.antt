@@ -28,7 +28,11 @@ pub record ChainSized (c : Corner) (chain : List ℕ) : Type 0 where
 pub data GivenHull (c : Corner) (chain : List ℕ) (room corners : ℕ) : Judged → Type 0 where
   tooMany : mostInput < length chain → GivenHull c chain room corners (Refused TooMany)
   startRange : length chain ≤ mostInput → (Near c → ⊥) → GivenHull c chain room corners (Refused StartRange)
-  badDigit : (i : ℕ) → ChainSized c chain → FirstAt (length chain) (StepAt chain) (AboveThreeAt chain) i → GivenHull c chain room corners (Refused (BadDigit i))
-  tooLong : (i : ℕ) → ChainSized c chain → FirstAt (length chain) (StepAt chain) (StepTooManyAt chain) i → GivenHull c chain room corners (Refused (TooLong i))
-  hullRoom : ChainSized c chain → ((i : ℕ) → i < length chain → StepAt chain i) → room < 2 * corners → GivenHull c chain room corners (Refused HullRoom)
-  accepted : ChainSized c chain → ((i : ℕ) → i < length chain → StepAt chain i) → 2 * corners ≤ room → GivenHull c chain room corners Good
+  badDigit : (i : ℕ) → ChainSized c chain → FirstAt (length chain) (StepAt chain) (AboveThreeAt chain) i
+      → GivenHull c chain room corners (Refused (BadDigit i))
+  tooLong : (i : ℕ) → ChainSized c chain → FirstAt (length chain) (StepAt chain) (StepTooManyAt chain) i
+      → GivenHull c chain room corners (Refused (TooLong i))
+  hullRoom : ChainSized c chain → ((i : ℕ) → i < length chain → StepAt chain i) → room < 2 * corners
+      → GivenHull c chain room corners (Refused HullRoom)
+  accepted : ChainSized c chain → ((i : ℕ) → i < length chain → StepAt chain i) → 2 * corners ≤ room
+      → GivenHull c chain room corners Good

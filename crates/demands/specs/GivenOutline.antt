@@ -17,7 +17,9 @@ use Rattle.demands.specs.GivenRoom.{AllSteps}
 pub data GivenOutline (s : Corner) (ds : List ℕ) (room steps : ℕ) : Judged → Type 0 where
   tooMany : mostInput < length ds → GivenOutline s ds room steps (Refused TooMany)
   startRange : length ds ≤ mostInput → (Near s → ⊥) → GivenOutline s ds room steps (Refused StartRange)
-  badDigit : (i : ℕ) → ChainSized s ds → FirstAt (length ds) (StepAt ds) (AboveThreeAt ds) i → GivenOutline s ds room steps (Refused (BadDigit i))
-  tooLong : (i : ℕ) → ChainSized s ds → FirstAt (length ds) (StepAt ds) (StepTooManyAt ds) i → GivenOutline s ds room steps (Refused (TooLong i))
+  badDigit : (i : ℕ) → ChainSized s ds → FirstAt (length ds) (StepAt ds) (AboveThreeAt ds) i
+      → GivenOutline s ds room steps (Refused (BadDigit i))
+  tooLong : (i : ℕ) → ChainSized s ds → FirstAt (length ds) (StepAt ds) (StepTooManyAt ds) i
+      → GivenOutline s ds room steps (Refused (TooLong i))
   outlineRoom : ChainSized s ds → AllSteps ds → room < steps → GivenOutline s ds room steps (Refused OutlineRoom)
   accepted : ChainSized s ds → AllSteps ds → steps ≤ room → GivenOutline s ds room steps Good

@@ -22,8 +22,10 @@ AllSteps ds = (i : ℕ) → i < length ds → StepAt ds i
 pub data GivenRoom (s : Corner) (ds : List ℕ) : Judged → Type 0 where
   tooMany : mostInput < length ds → GivenRoom s ds (Refused TooMany)
   startRange : length ds ≤ mostInput → (Near s → ⊥) → GivenRoom s ds (Refused StartRange)
-  badDigit : (i : ℕ) → length ds ≤ mostInput → Near s → FirstAt (length ds) (StepAt ds) (AboveThreeAt ds) i → GivenRoom s ds (Refused (BadDigit i))
-  tooLong : (i : ℕ) → length ds ≤ mostInput → Near s → FirstAt (length ds) (StepAt ds) (StepTooManyAt ds) i → GivenRoom s ds (Refused (TooLong i))
+  badDigit : (i : ℕ) → length ds ≤ mostInput → Near s → FirstAt (length ds) (StepAt ds) (AboveThreeAt ds) i
+      → GivenRoom s ds (Refused (BadDigit i))
+  tooLong : (i : ℕ) → length ds ≤ mostInput → Near s → FirstAt (length ds) (StepAt ds) (StepTooManyAt ds) i
+      → GivenRoom s ds (Refused (TooLong i))
   notRoom : length ds ≤ mostInput → Near s → AllSteps ds → (IsRoom s ds → ⊥) → GivenRoom s ds (Refused NotRoom)
   isRoom : length ds ≤ mostInput → Near s → AllSteps ds → IsRoom s ds → GivenRoom s ds Good
 

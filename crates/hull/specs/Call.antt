@@ -20,7 +20,9 @@ hullRoomJudged room corners = when (ltb room (2 * corners)) HullRoom
 
 -- refusal 1, then 10, then 4 and 6 at the first faulty place, 8 last
 abbrev pub hullJudged : Corner → List ℕ → ℕ → ℕ → Judged
-hullJudged s chain room corners = firstOf (when (ltb mostInput (length chain)) TooMany ∷ when (not (startFits s)) StartRange ∷ chainJudged 0 chain ∷ hullRoomJudged room corners ∷ [])
+hullJudged s chain room corners =
+    firstOf (when (ltb mostInput (length chain)) TooMany ∷ when (not (startFits s)) StartRange ∷ chainJudged 0 chain
+    ∷ hullRoomJudged room corners ∷ [])
 
 -- how many corners there are, unless there is a refusal
 abbrev pub countedOf : Judged → ℕ → Counted
@@ -37,7 +39,8 @@ abbrev pub bufferOf : Judged → List Corner → List ℤ → List ℤ
 bufferOf Good L before = numbers L ++ drop (2 * length L) before
 bufferOf (Refused r) L before = before
 
--- a call with this chain, from the corner s: `list` is the hull of the walk. A chain that has a digit above 3 is refused, whatever its list
+-- a call with this chain, from the corner s: `list` is the hull of the walk. A chain that has a digit above 3 is refused,
+-- whatever its list
 pub record HullCall (s : Corner) (chain : List ℕ) (before : List ℤ) (r : Counted) (after : List ℤ) : Type 0 where
   pub list : List Corner
   pub hull : HullIs (cornersFrom s chain) list

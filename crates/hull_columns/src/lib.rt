@@ -89,7 +89,8 @@ pub fn upward(y: u16, by: &[u16; 4], d: u8) -> u16
 // How far a walk without a fault goes.
 fn measure(chain: &[u8]) -> Extent
     requires { ⌜ chainJudged 0 (now chain) ≡ Good ⌝ }
-    ensures { λ r. ⌜ r ≡ extentBy (chainJudged 0 (now (chain .entry))) (westFrom middle (now (chain .entry))) (eastFrom middle (now (chain .entry))) ⌝ }
+    ensures { λ r. ⌜ r ≡ extentBy (chainJudged 0 (now (chain .entry))) (westFrom middle (now (chain .entry)))
+        (eastFrom middle (now (chain .entry))) ⌝ }
 {
     let by = Columns::EAST;
     let mut x = Columns::MIDDLE as u32;
@@ -137,7 +138,8 @@ pub fn judge(chain: &[u8]) -> Judged
 
 // How far the walk goes, unless it is refused.
 pub fn survey(chain: &[u8]) -> Extent
-    ensures { λ r. ⌜ r ≡ extentBy (chainJudged 0 (now (chain .entry))) (westFrom middle (now (chain .entry))) (eastFrom middle (now (chain .entry))) ⌝ }
+    ensures { λ r. ⌜ r ≡ extentBy (chainJudged 0 (now (chain .entry))) (westFrom middle (now (chain .entry)))
+        (eastFrom middle (now (chain .entry))) ⌝ }
 {
     match judge(chain) {
         Judged::Good => measure(chain),
@@ -180,11 +182,14 @@ fn mirror(ys: &mut [u16], m: usize)
     }
 }
 
-// Keeps the lowest corner of each column in lo, counted from west, and in hi that of the walk turned by half a turn, from east. Both are
-// counted from west at first, so that a corner has one place in both.
+// Keeps the lowest corner of each column in lo, counted from west, and in hi that of the walk turned by half a turn, from east.
+// Both are counted from west at first, so that a corner has one place in both.
 pub fn fill(chain: &[u8], west: usize, east: usize, lo: &mut [u16], hi: &mut [u16])
-    requires { ⌜ Spans (now chain) west east × (east - west < length (now lo)) × (east - west < length (now hi)) × (now hi ≡ replicate (length (now hi)) blank) ⌝ }
-    ensures { λ _. ⌜ (now (lo .exit) ≡ sinks (now (lo .entry)) (map (countedFrom west) (trail middle middle (now (chain .entry))))) × (now (hi .exit) ≡ sinks (now (hi .entry)) (map (halfTurned east top) (trail middle middle (now (chain .entry))))) ⌝ }
+    requires { ⌜ Spans (now chain) west east × (east - west < length (now lo)) × (east - west < length (now hi))
+        × (now hi ≡ replicate (length (now hi)) blank) ⌝ }
+    ensures { λ _. ⌜ (now (lo .exit) ≡ sinks (now (lo .entry))
+        (map (countedFrom west) (trail middle middle (now (chain .entry)))))
+        × (now (hi .exit) ≡ sinks (now (hi .entry)) (map (halfTurned east top) (trail middle middle (now (chain .entry))))) ⌝ }
 {
     let by = Columns::EAST;
     let up = Columns::NORTH;

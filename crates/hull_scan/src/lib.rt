@@ -135,8 +135,8 @@ fn list_widest(chain: &[u8], start: Corner, west: usize, east: usize, out: &mut 
     )
 }
 
-// The hull of the walk from start, with a store that is not much larger than it needs: to clear it takes time. A walk that goes through a
-// new column at each step is along one line, and needs none.
+// The hull of the walk from start, with a store that is not much larger than it needs: to clear it takes time. A walk that goes
+// through a new column at each step is along one line, and needs none.
 fn list_from(chain: &[u8], start: Corner, west: usize, east: usize, out: &mut [i32]) -> Counted
     requires { ⌜ Spans (now chain) west east × Near start ⌝ }
     ensures { λ r. ⌜ Hulled start (now (chain .entry)) (now (out .entry)) r (now (out .exit)) ⌝ }
@@ -155,8 +155,8 @@ fn list_from(chain: &[u8], start: Corner, west: usize, east: usize, out: &mut [i
     list_widest(chain, start, west, east, out)
 }
 
-// Writes x and y of each corner of the hull of the walk from start, and answers how many corners there are. Refuses too many bytes, a
-// start out of range, a digit above 3, a step too many, and a buffer that is too short; then it writes nothing.
+// Writes x and y of each corner of the hull of the walk from start, and answers how many corners there are. Refuses too many
+// bytes, a start out of range, a digit above 3, a step too many, and a buffer that is too short; then it writes nothing.
 pub fn list(start: Corner, chain: &[u8], out: &mut [i32]) -> Counted
     ensures { λ r. ⌜ HullCall start (now (chain .entry)) (now (out .entry)) r (now (out .exit)) ⌝ }
 {

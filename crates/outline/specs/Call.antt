@@ -13,9 +13,12 @@ outlineRoomJudged room steps = when (ltb room steps) OutlineRoom
 
 -- refusal 1, then 10, then 4 and 6 at the first faulty place, 11 last
 abbrev pub outlineJudged : Corner → List ℕ → ℕ → ℕ → Judged
-outlineJudged s ds room steps = firstOf (when (ltb mostInput (length ds)) TooMany ∷ when (not (startFits s)) StartRange ∷ chainJudged 0 ds ∷ outlineRoomJudged room steps ∷ [])
+outlineJudged s ds room steps =
+    firstOf (when (ltb mostInput (length ds)) TooMany ∷ when (not (startFits s)) StartRange ∷ chainJudged 0 ds
+    ∷ outlineRoomJudged room steps ∷ [])
 
--- a call with this chain, from the corner s: `steps` is the outline of the walk. It is counted, and the buffer holds it and then what stood after it, unless there is a refusal
+-- a call with this chain, from the corner s: `steps` is the outline of the walk. It is counted, and the buffer holds it and then
+-- what stood after it, unless there is a refusal
 pub record OutlineCall (s : Corner) (ds before : List ℕ) (r : Counted) (after : List ℕ) : Type 0 where
   pub steps : List ℕ
   pub outline : OutlineIs s ds steps

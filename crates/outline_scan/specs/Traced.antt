@@ -24,4 +24,5 @@ pub record MapFits (chain : List ℕ) (width height from : ℕ) (closed : Bool) 
 -- the outline of the walk from c is counted and written, unless the room is shorter
 pub record Traced (c : Corner) (chain before : List ℕ) (r : Counted) (after : List ℕ) : Type 0 where
   pub answer : r ≡ countedOf (outlineRoomJudged (length before) (length (outlineOf c chain))) (length (outlineOf c chain))
-  pub buffer : after ≡ writtenIf (outlineRoomJudged (length before) (length (outlineOf c chain))) (outlineOf c chain ++ drop (length (outlineOf c chain)) before) before
+  pub buffer : after ≡ writtenIf (outlineRoomJudged (length before) (length (outlineOf c chain)))
+      (outlineOf c chain ++ drop (length (outlineOf c chain)) before) before

@@ -35,4 +35,5 @@ pointLaid l k b c = take (16 * k) l ++ bytesIf b c ++ drop (16 * (k + tally b)) 
 -- the promise of the call for a walk that can be drawn
 pub record Drawn (s : Corner) (ds before : List ℕ) (r : Counted) (after : List ℕ) : Type 0 where
   pub answer : r ≡ countedOf (polygonRoomJudged s ds (length before)) (length (polygonOf s ds))
-  pub buffer : after ≡ writtenIf (polygonRoomJudged s ds (length before)) (polygonOf s ds ++ drop (length (polygonOf s ds)) before) before
+  pub buffer : after
+      ≡ writtenIf (polygonRoomJudged s ds (length before)) (polygonOf s ds ++ drop (length (polygonOf s ds)) before) before

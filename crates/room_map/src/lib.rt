@@ -1,5 +1,5 @@
-// Whether a walk is a room, by a byte for each corner of its box: a byte that is 1 already is a meeting. If the box is too large for
-// the store, threads through the columns tell it.
+// Whether a walk is a room, by a byte for each corner of its box: a byte that is 1 already is a meeting. If the box is too large
+// for the store, threads through the columns tell it.
 use box_walk::enclose;
 use hull_columns::Columns;
 ghost use Rattle.box_laws.specs.Box.{Boxable};
@@ -19,8 +19,8 @@ impl Map {
     const WIDEST: usize = 131072;
 }
 
-// Whether no corner of the walk but the last comes twice. The map is lent blank, with the place of the start and the steps from place
-// to place.
+// Whether no corner of the walk but the last comes twice. The map is lent blank, with the place of the start and the steps from
+// place to place.
 fn lone(chain: &[u8], from: usize, by: &[usize], map: &mut [u8]) -> bool
     requires { ⌜ MapStore (now chain) from (now by) (now map) ⌝ }
     ensures { λ r. ⌜ Lone (now (chain .entry)) r ⌝ }
@@ -98,7 +98,8 @@ fn lone_widest(chain: &[u8], from: usize, w: usize) -> bool
     lone(chain, from, &by, &mut map)
 }
 
-// Whether a walk is a room, whatever corner it starts from. The store is no larger than the threads of a chain of this length take.
+// Whether a walk is a room, whatever corner it starts from. The store is no larger than the threads of a chain of this length
+// take.
 pub fn is_room(chain: &[u8]) -> bool
     requires { ⌜ Boxable (now chain) ⌝ }
     ensures { λ r. ⌜ Told (now (chain .entry)) r ⌝ }

@@ -10,10 +10,12 @@ ghost use Rattle.hull_laws.specs.Columns.{middle, narrowSize, widerSize};
 ghost use lib.ListN.{length, getD};
 ghost use Rattle.room_thread_laws.specs.Threads.{Leads, ThreadFollowed, Parted, Stays, Laid, ThreadStore, Scattered, Closes, Told};
 
-// Follows the thread that ends at place `last`, counted from 1, and answers whether no height on it comes twice. Each gets the stamp.
+// Follows the thread that ends at place `last`, counted from 1, and answers whether no height on it comes twice. Each gets the
+// stamp.
 fn follow(tag: u16, last: u16, next: &[u16], hs: &[u16], stamps: &mut [u16]) -> bool
     requires { ⌜ Leads (now next) (now hs) (length (now stamps)) × (last ≤ length (now next)) ⌝ }
-    ensures { λ r. ⌜ ThreadFollowed (now (next .entry)) (now (hs .entry)) (now (stamps .entry)) tag last r (now (stamps .exit)) ⌝ }
+    ensures { λ r. ⌜ ThreadFollowed (now (next .entry)) (now (hs .entry)) (now (stamps .entry)) tag last r
+        (now (stamps .exit)) ⌝ }
 {
     let mut p = wide(last);
     while p > 0 {
@@ -29,7 +31,8 @@ fn follow(tag: u16, last: u16, next: &[u16], hs: &[u16], stamps: &mut [u16]) -> 
 
 // Follows the thread of every column, and answers whether no two places have one column and one height.
 fn apart(head: &[u16], next: &[u16], hs: &[u16], stamps: &mut [u16]) -> bool
-    requires { ⌜ Leads (now next) (now hs) (length (now stamps)) × ((c : ℕ) → getD (now head) c 0 ≤ length (now next)) × (length (now head) < 65536) × ((h : ℕ) → getD (now stamps) h 0 ≡ 0) ⌝ }
+    requires { ⌜ Leads (now next) (now hs) (length (now stamps)) × ((c : ℕ) → getD (now head) c 0 ≤ length (now next))
+        × (length (now head) < 65536) × ((h : ℕ) → getD (now stamps) h 0 ≡ 0) ⌝ }
     ensures { λ r. ⌜ Parted (now (head .entry)) (now (next .entry)) (now (hs .entry)) r ⌝ }
 {
     let mut c = 0;
@@ -44,8 +47,11 @@ fn apart(head: &[u16], next: &[u16], hs: &[u16], stamps: &mut [u16]) -> bool
 
 // Threads the places of the walk that starts in column and height m, all but its last, and keeps the height of each.
 fn lay(chain: &[u8], m: u16, head: &mut [u16], next: &mut [u16], hs: &mut [u16])
-    requires { ⌜ Stays (now chain) m (length (now head)) × (length (now chain) ≤ length (now next)) × (length (now chain) ≤ length (now hs)) × (length (now chain) < 65536) × ((c : ℕ) → getD (now head) c 0 ≡ 0) × ((j : ℕ) → getD (now next) j 0 ≡ 0) × ((j : ℕ) → getD (now hs) j 0 ≡ 0) ⌝ }
-    ensures { λ _. ⌜ Laid (now (chain .entry)) m (length (now (chain .entry))) (now (head .exit)) (now (next .exit)) (now (hs .exit)) ⌝ }
+    requires { ⌜ Stays (now chain) m (length (now head)) × (length (now chain) ≤ length (now next))
+        × (length (now chain) ≤ length (now hs)) × (length (now chain) < 65536) × ((c : ℕ) → getD (now head) c 0 ≡ 0)
+        × ((j : ℕ) → getD (now next) j 0 ≡ 0) × ((j : ℕ) → getD (now hs) j 0 ≡ 0) ⌝ }
+    ensures { λ _. ⌜ Laid (now (chain .entry)) m (length (now (chain .entry))) (now (head .exit))
+        (now (next .exit)) (now (hs .exit)) ⌝ }
 {
     let mut x = wide(m);
     let mut y = m;
