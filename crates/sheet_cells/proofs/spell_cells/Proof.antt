@@ -7,7 +7,7 @@ use mir.Syntax.{w32}
 use mir.ValLaws.{toZ-ofZ}
 use Rattle.sheet.specs.Sizes.{mostDecimals}
 use Rattle.sheet.proofs.SizeLaws.{length-signedOf}
-use Rattle.sheet_cells.proofs.CellLaws.{length-two, wrote-cells}
+use Rattle.sheet_cells.proofs.CellLaws.{length-two, four-pairs, wrote-cells}
 use borrow.Author.Needs.{needs}
 use Rattle.sheet_cells.proofs.spell_cells.Statement.{statement}
 use Rattle.sheet_cells.proofs.spell_cells.Tie as tie
@@ -43,7 +43,9 @@ spell-signed-requires c κs =
     let e = at-spell-two3 .spell-two3 in
     let g = at-spell-two4 .spell-two4 in
     let a = at-start .args in
-    omega (arith, at-start .pre, length-two (a .number) (a .place), length-two (at-spell-two2 .before .verdict-number .result) (a .f .steps), length-two (a .f .nodes) (a .f .corners), length-two (a .f .j) (a .f .k), g .ensures .end, g .kept .0, e .ensures .end, e .kept .0, d .ensures .end, d .kept .0, b .ensures .end, b .kept .0)
+    let pairs = four-pairs (a .number) (a .place) (at-spell-two2 .before .verdict-number .result) (a .at) (a .f) (b .ensures)
+    (d .ensures) (e .ensures) (g .ensures) in
+    omega (arith, at-start .pre, pairs, g .kept .0, e .kept .0, d .kept .0, b .kept .0)
 
 slice-write-out : tie.Need-slice-write-out
 slice-write-out c =
@@ -57,7 +59,9 @@ slice-write-out c =
     let e = at-spell-two3 .spell-two3 in
     let g = at-spell-two4 .spell-two4 in
     let a = at-start .args in
-    omega (arith, at-start .pre, length-two (a .number) (a .place), length-two (at-spell-two2 .before .verdict-number .result) (a .f .steps), length-two (a .f .nodes) (a .f .corners), length-two (a .f .j) (a .f .k), length-signedOf mostDecimals (toZ w32 (ofZ w32 (a .f .area))), at-spell-signed .spell-signed .ensures .end, at-spell-signed .spell-signed .kept .0, g .ensures .end, g .kept .0, e .ensures .end, e .kept .0, d .ensures .end, d .kept .0, b .ensures .end, b .kept .0)
+    let pairs = four-pairs (a .number) (a .place) (at-spell-two2 .before .verdict-number .result) (a .at) (a .f) (b .ensures)
+    (d .ensures) (e .ensures) (g .ensures) in
+    omega (arith, at-start .pre, pairs, length-signedOf mostDecimals (toZ w32 (ofZ w32 (a .f .area))), at-spell-signed .spell-signed .ensures .end, at-spell-signed .spell-signed .kept .0, g .kept .0, e .kept .0, d .kept .0, b .kept .0)
 
 add-result : tie.Need-add-result
 add-result c =
@@ -71,7 +75,9 @@ add-result c =
     let e = at-spell-two3 .spell-two3 in
     let g = at-spell-two4 .spell-two4 in
     let a = at-start .args in
-    record { fits = omega (arith, at-start .fits, at-start .pre, length-two (a .number) (a .place), length-two (at-spell-two2 .before .verdict-number .result) (a .f .steps), length-two (a .f .nodes) (a .f .corners), length-two (a .f .j) (a .f .k), length-signedOf mostDecimals (toZ w32 (ofZ w32 (a .f .area))), at-spell-signed .spell-signed .ensures .end, at-spell-signed .spell-signed .kept .0, g .ensures .end, g .kept .0, e .ensures .end, e .kept .0, d .ensures .end, d .kept .0, b .ensures .end, b .kept .0) }
+    let pairs = four-pairs (a .number) (a .place) (at-spell-two2 .before .verdict-number .result) (a .at) (a .f) (b .ensures)
+    (d .ensures) (e .ensures) (g .ensures) in
+    record { fits = omega (arith, at-start .fits, at-start .pre, pairs, length-signedOf mostDecimals (toZ w32 (ofZ w32 (a .f .area))), at-spell-signed .spell-signed .ensures .end, at-spell-signed .spell-signed .kept .0, g .kept .0, e .kept .0, d .kept .0, b .kept .0) }
 
 same-length : tie.Need-same-length
 same-length c =
