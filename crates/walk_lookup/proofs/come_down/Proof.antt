@@ -14,7 +14,7 @@ use Rattle.tree_laws.specs.State.{State, Holds, Made, raised, reached}
 use Rattle.table_laws.proofs.Cites.{ref-below}
 use Rattle.table_laws.proofs.StoreLaws.{child-word-small}
 use Rattle.table_climb_laws.specs.Climb.{Descends}
-use Rattle.table_climb_laws.proofs.ClimbLaws.{up-small, step-grew, step-held, step-word, step-number, step-none, step-bounds, step-next}
+use Rattle.table_climb_laws.proofs.ClimbLaws.{Level, up-small, step-grew, step-held, step-word, step-number, step-none, step-bounds, step-next}
 use Rattle.layout.specs.Table.{wordAt}
 use Rattle.walk_lookup.proofs.come_down.Statement.{statement}
 use Rattle.walk_lookup.proofs.come_down.Tie as tie
@@ -26,6 +26,22 @@ Inv-loop t₀ nodes u v c d step level at₀ to₀ left₀ t at to left =
 abbrev μ-loop : tie.MeasureT-loop
 μ-loop t₀ nodes u v c d step level at₀ to₀ left₀ t at to left = left
 
+-- within the loop's body: the level of the way down, for each state that the table may hold, and for the one that it holds
+level : (c : tie.In-loop Inv-loop μ-loop) → let a = c .before .before .before .args in let l = c .before .loop in (S : State)
+    → Descends (a .t .now) (a .nodes) (a .u) (a .v) (a .c) (a .d) (a .step) (a .level) S
+    → Level (l .t) (a .nodes) (l .at) (l .to) (a .c) (a .d) (a .step) (l .left) S
+level c S x =
+    let at-loop = c .before in
+    let l = at-loop .loop in
+    let q = at-loop .before .before .pre .1 in
+    record { down = l .inv .2 S x; more = omega (arith, c .loop-test .taken); small = q .2; pos = q .3; some = l .inv .1 }
+
+here : (c : tie.In-loop Inv-loop μ-loop) → let a = c .before .before .before .args in let l = c .before .loop in
+    Level (l .t) (a .nodes) (l .at) (l .to) (a .c) (a .d) (a .step) (l .left) (c .before .before .before .pre .0 .state)
+here c =
+    let at-start = c .before .before .before in
+    let k = at-start .pre .0 in level c (k .state) (k .descends)
+
 loop-holds : tie.Need-loop-holds Inv-loop μ-loop
 loop-holds c =
     (refl, c .before .pre .1 .5, λ S h. h)
@@ -35,31 +51,23 @@ sub-left c = omega (arith, c .loop-test .taken)
 
 word-requires : tie.Need-word-requires Inv-loop μ-loop
 word-requires c κs =
-    let at-up-by = c .before .before in let at-loop-test = at-up-by .before in
-    let at-start = at-loop-test .before .before .before in
-    let a = at-start .args in
-    let l = at-loop-test .before .loop in
-    let q = at-start .pre .1 in
-    let k = at-start .pre .0 in
-    let more : 0 < l .left = omega (arith, at-loop-test .loop-test .taken) in
+    let at-up-by = c .before .before in let at-loop-test = at-up-by .before in let at-loop = at-loop-test .before in
+    let a = at-loop .before .before .args in
+    let l = at-loop .loop in
     let w : c .child-word .result ≡ childWord (upBy (l .left - 1) (a .c)) = c .child-word .ensures
     ∙ ap childWord (at-up-by .up-by .ensures) in
-    omega (arith, step-word (l .t) (a .nodes) (l .at) (l .to) (a .c) (a .d) (a .step) (l .left) (k .state) (l .inv .2 (k .state) (k .descends)) more (q .2) (q .3) (l .inv .1), w)
+    omega (arith, step-word (here at-loop-test), w)
 
 sub-at : tie.Need-sub-at Inv-loop μ-loop
 sub-at c =
     let at-child-word = c .before in let at-up-by = at-child-word .before .before in let at-loop = at-up-by .before .before in
-    let at-start = at-loop .before .before in
-    let a = at-start .args in
+    let a = at-loop .before .before .args in
     let l = at-loop .loop in
-    let q = at-start .pre .1 in
-    let k = at-start .pre .0 in
-    let more : 0 < l .left = omega (arith, at-up-by .before .loop-test .taken) in
     let w : at-child-word .child-word .result ≡ childWord (upBy (l .left - 1) (a .c)) = at-child-word .child-word .ensures
     ∙ ap childWord (at-up-by .up-by .ensures) in
     let r : c .word .result ≡ getD (l .t) (wordAt (l .at) (childWord (upBy (l .left - 1) (a .c)))) 0 = c .word .ensures
     ∙ ap (λ (x : ℕ). getD (l .t) (wordAt (l .at) x) 0) w in
-    omega (arith, step-number (l .t) (a .nodes) (l .at) (l .to) (a .c) (a .d) (a .step) (l .left) (k .state) (l .inv .2 (k .state) (k .descends)) more (q .2) (q .3) (l .inv .1) (c .word .result) r .0)
+    omega (arith, step-number (here (at-up-by .before)) (c .word .result) r .0)
 
 moved-requires : tie.Need-moved-requires Inv-loop μ-loop
 moved-requires c κs =
@@ -85,37 +93,33 @@ child-requires c κs =
     let l = at-loop-test .before .loop in
     let q = at-start .pre .1 in
     let k = at-start .pre .0 in
-    let more : 0 < l .left = omega (arith, at-loop-test .loop-test .taken) in
-    let h = step-held (l .t) (a .nodes) (l .at) (l .to) (a .c) (a .d) (a .step) (l .left) (k .state)
-    (l .inv .2 (k .state) (k .descends)) more (q .2) (q .3) (l .inv .1) in
+    let b = upBy (l .left - 1) (a .c) in
+    let T = raised (k .state) (a .step) b (stepped (a .d) b) in
+    let h = step-held (here at-loop-test) in
     let n = c .before .greater .ensures in
     let w = child-word-small (at-moved .moved .result) in
     let z = c .child-word2 .ensures in (
-      record { state = raised (k .state) (a .step) (upBy (l .left - 1) (a .c)) (stepped (a .d) (upBy (l .left - 1) (a .c))); holds = subst (λ (x : ℕ). Holds (l .t) x (raised (k .state) (a .step) (upBy (l .left - 1) (a .c)) (stepped (a .d) (upBy (l .left - 1) (a .c))))) (sym n) (h .0) },
-      (omega (arith, ref-below (raised (k .state) (a .step) (upBy (l .left - 1) (a .c)) (stepped (a .d) (upBy (l .left - 1) (a .c))) .nodes) (parentOf (stepped (a .d) (upBy (l .left - 1) (a .c)))) (l .to - 1) (h .1), h .0 .count, n), omega (arith, z, w .0), omega (arith, z, w .1), omega (arith, l .inv .0, q .4)),
+      record { state = T; holds = subst (λ (x : ℕ). Holds (l .t) x T) (sym n) (h .0) },
+      (omega (arith, ref-below (T .nodes) (parentOf (stepped (a .d) b)) (l .to - 1) (h .1), h .0 .count, n), omega (arith, z, w .0), omega (arith, z, w .1), omega (arith, l .inv .0, q .4)),
     )
 
 returns : tie.Need-returns Inv-loop μ-loop
 returns c =
     let at-child = c .before .before .before in let at-greater = at-child .before .before in
     let at-moved = at-greater .before .before in let at-up-by = at-moved .before .before .before .before in
-    let at-loop = at-up-by .before .before in let at-start = at-loop .before .before in
+    let at-loop-test = at-up-by .before in let at-loop = at-loop-test .before in
     let b = at-greater .greater in
     let e = at-child .before .child-word2 in
     let f = at-child .child in
-    let a = at-start .args in
+    let a = at-loop .before .before .args in
     let l = at-loop .loop in
-    let q = at-start .pre .1 in
-    let more : 0 < l .left = omega (arith, at-up-by .before .loop-test .taken) in
     λ S x.
-    let g = step-grew (l .t) (a .nodes) (l .at) (l .to) (a .c) (a .d) (a .step) (l .left) S (l .inv .2 S x) more (q .2) (q .3)
-    (l .inv .1) (b .result) (e .result) (b .ensures)
+    let g = step-grew (level at-loop-test S x) (b .result) (e .result) (b .ensures)
     (e .ensures ∙ ap childWord (at-moved .moved .ensures ∙ ap (stepped (a .d)) (at-up-by .up-by .ensures))) (f .last .0)
     (f .result) (f .ensures .0) in
     subst (λ (w : ℕ). Made w (reached S (a .step) (a .c) (stepped (a .d) (a .c))) (stepped (a .d) (a .c)) (f .last .0) (f .result)
     (max (a .nodes) (f .result))) (l .inv .0)
-    (step-none (l .t) (a .nodes) (l .at) (l .to) (a .c) (a .d) (a .step) (l .left) S (l .inv .2 S x) more (q .2) (q .3)
-    (l .inv .1) (f .last .0) (f .result) g (c .if1 .taken))
+    (step-none (level at-loop-test S x) (f .last .0) (f .result) g (c .if1 .taken))
 
 sub-link : tie.Need-sub-link Inv-loop μ-loop
 sub-link c = omega (arith, c .before .if1 .left)
@@ -124,7 +128,7 @@ link-requires : tie.Need-link-requires Inv-loop μ-loop
 link-requires c κs =
     let at-child = c .before .before .before .before in let at-greater = at-child .before .before in
     let at-moved = at-greater .before .before in let at-child-word = at-moved .before .before in
-    let at-up-by = at-child-word .before .before in let at-loop = at-up-by .before .before in
+    let at-up-by = at-child-word .before .before in let at-loop-test = at-up-by .before in let at-loop = at-loop-test .before in
     let at-start = at-loop .before .before in
     let u = at-up-by .up-by in
     let b = at-child-word .child-word in
@@ -135,19 +139,14 @@ link-requires c κs =
     let a = at-start .args in
     let l = at-loop .loop in
     let q = at-start .pre .1 in
-    let k = at-start .pre .0 in
-    let more : 0 < l .left = omega (arith, at-up-by .before .loop-test .taken) in
-    let g = step-grew (l .t) (a .nodes) (l .at) (l .to) (a .c) (a .d) (a .step) (l .left) (k .state)
-    (l .inv .2 (k .state) (k .descends)) more (q .2) (q .3) (l .inv .1) (i .result) (j .result) (i .ensures)
+    let g = step-grew (here at-loop-test) (i .result) (j .result) (i .ensures)
     (j .ensures ∙ ap childWord (at-moved .moved .ensures ∙ ap (stepped (a .d)) (u .ensures))) (v .last .0) (v .result)
     (v .ensures .0) in
     let f : v .result ≡ 0 → ⊥ = λ z. c .before .if1 .left z in
-    let h = step-bounds (l .t) (a .nodes) (l .at) (l .to) (a .c) (a .d) (a .step) (l .left) (k .state)
-    (l .inv .2 (k .state) (k .descends)) more (q .2) (q .3) (l .inv .1) (v .last .0) (v .result) g f in
+    let h = step-bounds (here at-loop-test) (v .last .0) (v .result) g f in
     let w : b .result ≡ childWord (upBy (l .left - 1) (a .c)) = b .ensures ∙ ap childWord (u .ensures) in
     let r = e .ensures ∙ ap (λ (x : ℕ). getD (l .t) (wordAt (l .at) x) 0) w in
-    let m = step-number (l .t) (a .nodes) (l .at) (l .to) (a .c) (a .d) (a .step) (l .left) (k .state)
-    (l .inv .2 (k .state) (k .descends)) more (q .2) (q .3) (l .inv .1) (e .result) r in
+    let m = step-number (here at-loop-test) (e .result) r in
     ((omega (arith, m .1, h .0), h .1), (q .2, omega (arith, h .2, l .inv .0, q .4)))
 
 loop-less : tie.Need-loop-less Inv-loop μ-loop
@@ -160,7 +159,7 @@ loop-again c =
     let at-link = c .before .before in let at-if1 = at-link .before .before in let at-child = at-if1 .before .before .before in
     let at-greater = at-child .before .before in let at-moved = at-greater .before .before in
     let at-child-word = at-moved .before .before in let at-up-by = at-child-word .before .before in
-    let at-loop = at-up-by .before .before in let at-start = at-loop .before .before in
+    let at-loop-test = at-up-by .before in let at-loop = at-loop-test .before in let at-start = at-loop .before .before in
     let b = at-up-by .up-by in
     let e = at-child-word .child-word in
     let g = at-moved .before .word in
@@ -170,18 +169,15 @@ loop-again c =
     let m = at-link .link in
     let a = at-start .args in
     let l = at-loop .loop in
-    let q = at-start .pre .1 in
     let k = at-start .pre .0 in
-    let more : 0 < l .left = omega (arith, at-up-by .before .loop-test .taken) in
     let f : v .result ≡ 0 → ⊥ = λ z. at-if1 .if1 .left z in
     let w : e .result ≡ childWord (upBy (l .left - 1) (a .c)) = e .ensures ∙ ap childWord (b .ensures) in
     let r = g .ensures ∙ ap (λ (x : ℕ). getD (l .t) (wordAt (l .at) x) 0) w in
     let next : (S : State) → Descends (a .t .now) (a .nodes) (a .u) (a .v) (a .c) (a .d) (a .step) (a .level) S
     → Descends (m .last .0) (a .nodes) (g .result - 1) (v .result) (a .c) (a .d) (a .step) (l .left - 1) S
-    × (length (m .last .0) ≡ length (l .t)) = λ S x. step-next (l .t) (a .nodes) (l .at) (l .to) (a .c) (a .d) (a .step) (l .left)
-    S (l .inv .2 S x) more (q .2) (q .3) (l .inv .1) (v .last .0) (v .result)
-    (step-grew (l .t) (a .nodes) (l .at) (l .to) (a .c) (a .d) (a .step) (l .left) S (l .inv .2 S x) more (q .2) (q .3)
-    (l .inv .1) (h .result) (i .result) (h .ensures) (i .ensures ∙ ap childWord (at-moved .moved .ensures ∙ ap (stepped (a .d)) (b .ensures))) (v .last .0) (v .result) (v .ensures .0)) f (g .result - 1) (step-number (l .t) (a .nodes) (l .at) (l .to) (a .c) (a .d) (a .step) (l .left) S (l .inv .2 S x) more (q .2) (q .3) (l .inv .1) (g .result) r .1) (m .last .0) (m .ensures) in
+    × (length (m .last .0) ≡ length (l .t)) = λ S x. step-next (level at-loop-test S x) (v .last .0) (v .result)
+    (step-grew (level at-loop-test S x) (h .result) (i .result) (h .ensures)
+    (i .ensures ∙ ap childWord (at-moved .moved .ensures ∙ ap (stepped (a .d)) (b .ensures))) (v .last .0) (v .result) (v .ensures .0)) f (g .result - 1) (step-number (level at-loop-test S x) (g .result) r .1) (m .last .0) (m .ensures) in
     (next (k .state) (k .descends) .1 ∙ l .inv .0, omega (arith, f), λ S x. next S x .0)
 
 returns-2 : tie.Need-returns-2 Inv-loop μ-loop
