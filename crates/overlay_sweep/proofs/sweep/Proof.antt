@@ -16,7 +16,7 @@ abbrev μ-loop : tie.MeasureT-loop
 μ-loop a na b nb first₀ second₀ both₀ m₀ i₀ j₀ last₀ first second both m i j last = (na + nb) - (i + j)
 
 loop-holds : tie.Need-loop-holds Inv-loop μ-loop
-loop-holds c = sweep-start (c .args .a .now) (c .args .na) (c .args .b .now) (c .args .nb) (c .pre .0) (c .pre .1) (ofParts (c .args .first .now) (c .args .second .now) (c .args .both .now))
+loop-holds c = sweep-start (c .pre .0) (c .pre .1)
 
 add-loop : tie.Need-add-loop Inv-loop μ-loop
 add-loop c = omega (arith, c .loop .inv .first, c .loop .inv .second, c .before .pre .0 .held .numbers .few, c .before .pre .1 .held .numbers .few)
@@ -41,10 +41,7 @@ close-requires c κs =
     let p = at-first-key .first-key in
     let q = at-lesser .before .second-key in
     let k = at-lesser .lesser in
-    sweep-closable (at-start .args .a .now) (at-start .args .na) (at-start .args .b .now) (at-start .args .nb) (at-start .pre .0)
-    (at-start .pre .1) (ofParts (at-start .args .first .now) (at-start .args .second .now) (at-start .args .both .now)) (l .i)
-    (l .j) (l .last) (l .m) (ofParts (l .first) (l .second) (l .both)) (l .inv) more (p .result) (q .result) (k .result)
-    (p .ensures) (q .ensures) (k .ensures)
+    sweep-closable (at-start .pre .0) (at-start .pre .1) (l .inv) more (p .ensures) (q .ensures) (k .ensures)
 
 further-requires : tie.Need-further-requires Inv-loop μ-loop
 further-requires c κs =
@@ -66,11 +63,7 @@ loop-less c =
     let p = at-first-key .first-key in
     let q = at-lesser .before .second-key in
     let k = at-lesser .lesser in
-    let s = sweep-nearer (at-start .args .a .now) (at-start .args .na) (at-start .args .b .now) (at-start .args .nb)
-    (at-start .pre .0) (at-start .pre .1)
-    (ofParts (at-start .args .first .now) (at-start .args .second .now) (at-start .args .both .now)) (l .i) (l .j) (l .last)
-    (l .m) (ofParts (l .first) (l .second) (l .both)) (l .inv) more (p .result) (q .result) (k .result) (p .ensures) (q .ensures)
-    (k .ensures) in
+    let s = sweep-nearer (at-start .pre .0) (at-start .pre .1) (l .inv) more (p .ensures) (q .ensures) (k .ensures) in
     omega (arith, s .0, s .1, s .2, c .before .further .ensures, c .further2 .ensures)
 
 loop-again : tie.Need-loop-again Inv-loop μ-loop
@@ -87,10 +80,8 @@ loop-again c =
     let f = d .last .1 .1 .1 .1 .1 .0 in
     let g = d .last .1 .1 .1 .1 .1 .1 .0 in
     let h = d .last .1 .1 .1 .1 .1 .1 .1 .0 in
-    sweep-step (at-start .args .a .now) (at-start .args .na) (at-start .args .b .now) (at-start .args .nb) (at-start .pre .0)
-    (at-start .pre .1) (ofParts (at-start .args .first .now) (at-start .args .second .now) (at-start .args .both .now)) (l .i)
-    (l .j) (l .last) (l .m) (ofParts (l .first) (l .second) (l .both)) (l .inv) more (p .result) (q .result) (k .result)
-    (p .ensures) (q .ensures) (k .ensures) (d .result) (ofParts f g h) (at-further .further .result) (c .further2 .result)
+    sweep-step (at-start .pre .0) (at-start .pre .1) (l .inv) more (p .ensures) (q .ensures) (k .ensures) (d .result)
+    (ofParts f g h) (at-further .further .result) (c .further2 .result)
     (at-further .further .ensures) (c .further2 .ensures)
     (three-same (l .first) (l .second) (l .both) f g h (d .kept .1 .1 .1 .1 .1 .0) (d .kept .1 .1 .1 .1 .1 .1 .0)
     (d .kept .1 .1 .1 .1 .1 .1 .1 .0)) (d .ensures)
@@ -106,11 +97,9 @@ same-length-3 c = c .before .loop .inv .parts Both .same
 
 returns : tie.Need-returns Inv-loop μ-loop
 returns c =
-    let at-start = c .before .before in
-    let l = c .before .loop in
-    sweep-end (at-start .args .a .now) (at-start .args .na) (at-start .args .b .now) (at-start .args .nb) (at-start .pre .0)
-    (at-start .pre .1) (ofParts (at-start .args .first .now) (at-start .args .second .now) (at-start .args .both .now)) (l .i)
-    (l .j) (l .last) (l .m) (ofParts (l .first) (l .second) (l .both)) (l .inv) (λ h. omega arith)
+    let at-loop = c .before in
+    let l = at-loop .loop in
+    sweep-end (at-loop .before .pre .0) (at-loop .before .pre .1) (l .inv) (λ h. omega arith)
 
 pub sweep-spec : {M : Type 1} → statement M
 sweep-spec =
