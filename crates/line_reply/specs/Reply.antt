@@ -2,12 +2,13 @@
 use Rattle.lists.specs.Lists.{_≡_, cond, List, length, take, ℕ, _*_, leb, ℤ}
 use Rattle.grid.specs.declared.Corner.{Corner}
 use Rattle.hull.specs.Call.{numbers}
-use Rattle.line_frame.specs.{Sizes.tableWords, Sizes.marksWords, Sizes.hullNumbers, Sizes.mostAnswer, Line.lineAnswer}
+use Rattle.line_frame.specs.{Sizes.marksWords, Sizes.hullNumbers, Sizes.mostAnswer, Line.lineAnswer}
 use Rattle.line_fields.specs.Put.{put}
+use Rattle.line_walk.specs.Walk.{Clear}
 
 -- buffers for judging any line
 pub record Lent (t ms : List ℕ) (h : List ℤ) : Type 0 where
-  pub table : length t ≡ tableWords
+  pub table : Clear t
   pub marks : length ms ≡ marksWords
   pub hull : length h ≡ hullNumbers
 

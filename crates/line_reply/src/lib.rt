@@ -22,6 +22,7 @@ ghost use Rattle.line_frame.specs.Sizes.{mostDigits, hullNumbers, mostAnswer};
 ghost use Rattle.line_frame.specs.Spelled.{factsLine, hullLine};
 ghost use Rattle.line_frame.specs.Line.{lineAnswer};
 ghost use Rattle.line_fields.specs.Put.{Wrote};
+ghost use Rattle.line_walk.specs.Walk.{Clear};
 ghost use Rattle.line_reply.specs.Reply.{Lent, HoldsCorners, LineIs};
 
 // The buffers in which lines are judged.
@@ -86,6 +87,7 @@ fn answer_line(
     requires { ⌜ Lent (now table) (now marks) (now hull) ⌝ }
     requires { ⌜ at + mostAnswer ≤ length (now out) ⌝ }
     ensures { λ e. ⌜ Wrote (lineAnswer (now (s .entry))) at (now (out .entry)) e (now (out .exit)) ⌝ }
+    ensures { λ e. ⌜ Clear (now (table .exit)) ⌝ }
 {
     let mut chain = [0u8; Frame::MOST_DIGITS];
     match walk_line(s, table, marks, &mut chain) {
@@ -109,6 +111,7 @@ pub fn tell(
     requires { ⌜ Lent (now table) (now marks) (now hull) ⌝ }
     requires { ⌜ at + mostAnswer ≤ length (now out) ⌝ }
     ensures { λ e. ⌜ Wrote (lineAnswer (now (s .entry)) ++ (10 ∷ [])) at (now (out .entry)) e (now (out .exit)) ⌝ }
+    ensures { λ e. ⌜ Clear (now (table .exit)) ⌝ }
 {
     let end = answer_line(s, table, marks, hull, out, at);
     out[end] = 10;

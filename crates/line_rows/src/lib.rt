@@ -13,8 +13,9 @@ ghost use Prim.Native.Nat.{_+_, _*_, _<_, _≤_};
 ghost use lib.ListN.{length};
 ghost use Rattle.grid.specs.Grid.{origin};
 ghost use Rattle.room.specs.Room.{asRoomJudged};
-ghost use Rattle.line_frame.specs.Sizes.{mostDigits, hullNumbers, tableWords, marksWords};
+ghost use Rattle.line_frame.specs.Sizes.{mostDigits, hullNumbers, marksWords};
 ghost use Rattle.line_fields.specs.Put.{Wrote};
+ghost use Rattle.line_walk.specs.Walk.{Clear};
 ghost use Rattle.line_room.specs.Told.{refusedTold, roomTold, rowsTold, mostRows};
 ghost use Rattle.line_rows.specs.Numbers.{threeTold, threesTold};
 
@@ -85,9 +86,10 @@ pub fn tell(
     out: &mut [u8],
     at: usize,
 ) -> usize
-    requires { ⌜ (length (now table) ≡ tableWords) × (length (now marks) ≡ marksWords) × (length (now numbers) ≡ hullNumbers) ⌝ }
+    requires { ⌜ Clear (now table) × (length (now marks) ≡ marksWords) × (length (now numbers) ≡ hullNumbers) ⌝ }
     requires { ⌜ at + mostRows ≤ length (now out) ⌝ }
     ensures { λ e. ⌜ Wrote (rowsTold (now (s .entry))) at (now (out .entry)) e (now (out .exit)) ⌝ }
+    ensures { λ e. ⌜ Clear (now (table .exit)) ⌝ }
 {
     let mut chain = [0u8; Frame::MOST_DIGITS];
     match walk_line(s, table, marks, &mut chain) {

@@ -1,2 +1,3 @@
 -- The laws that the proofs of line_walk cite.
 pub mod WalkLaws
+pub mod ClearLaws

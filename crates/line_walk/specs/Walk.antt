@@ -1,12 +1,21 @@
 -- What the walk of a line takes and leaves. Assumes nothing.
-use Rattle.lists.specs.Lists.{_≡_, List, length, take, ℕ, _≤_, Below}
+use Rattle.lists.specs.Lists.{_≡_, List, length, take, replicate, ℕ, _≤_, Below}
 use Rattle.answer.specs.declared.{Facts.Facts, Answer.Answer}
 use Rattle.steps.specs.Operations.{survivors}
 use Rattle.line_frame.specs.Sizes.{mostDigits, tableWords, marksWords}
 
+-- a table for the walk of any line, all zero: so it is lent, and so it is left for the next line
+abbrev pub Clear : List ℕ → Type 0
+Clear t = t ≡ replicate tableWords 0
+
+-- how many records the walk that is answered so has left in such a table
+abbrev pub recordsLeft : Answer → ℕ
+recordsLeft (Answer.Accepted f) = f .nodes
+recordsLeft (Answer.Refused r) = 0
+
 -- buffers for the walk of any line
 pub record WalkBuffers (t ms ch : List ℕ) : Type 0 where
-  pub table : length t ≡ tableWords
+  pub table : Clear t
   pub marks : length ms ≡ marksWords
   pub chain : length ch ≡ mostDigits
 

@@ -20,6 +20,7 @@ ghost use Rattle.line_frame.specs.Begun.{keptOf};
 ghost use Rattle.line_fields.specs.Put.{Wrote};
 ghost use Rattle.line_stream.specs.Stream.{mostPart};
 ghost use Rattle.line_stream.specs.Fill.{lineEnded, FedLine, Filled};
+ghost use Rattle.line_walk.specs.Walk.{Clear};
 ghost use Rattle.line_reply.specs.Reply.{Lent};
 ghost use Rattle.lines.specs.Tasks.{mostEarly, mostTold, jobOf};
 
@@ -82,6 +83,7 @@ fn tell(
     requires { ⌜ Lent (now table) (now marks) (now hull) ⌝ }
     requires { ⌜ at + mostTold task ≤ length (now out) ⌝ }
     ensures { λ e. ⌜ Wrote (jobOf task .told (now (s .entry)) []) at (now (out .entry)) e (now (out .exit)) ⌝ }
+    ensures { λ e. ⌜ Clear (now (table .exit)) ⌝ }
 {
     match task {
         Task::Answer => line_reply::tell(s, table, marks, hull, out, at),
@@ -136,6 +138,7 @@ fn tell_end(
         (take held (now (line .entry)) ++ take (end - at) (drop at (now (s .entry))))) []) used
         (now (out .entry)) e (now (out .exit)) ⌝ }
     ensures { λ e. ⌜ now (line .exit) ≡ lineEnded (now (line .entry)) held (take (end - at) (drop at (now (s .entry)))) ⌝ }
+    ensures { λ e. ⌜ Clear (now (table .exit)) ⌝ }
 {
     if held == 0 {
         let stop = at + lesser(end - at, Progress::MOST_HELD);
@@ -164,6 +167,7 @@ fn feed_line(
     requires { ⌜ used + jobOf task .most ≤ length (now out) ⌝ }
     ensures { λ r. ⌜ FedLine (jobOf task) (now (line .entry)) held (drop at (now (s .entry))) at (now (out .entry)) used r
         (now (line .exit)) (now (out .exit)) ⌝ }
+    ensures { λ r. ⌜ Clear (now (table .exit)) ⌝ }
 {
     let end = line_end(s, at);
     let next = tell_early(task, line, held, s, at, end, out, used);

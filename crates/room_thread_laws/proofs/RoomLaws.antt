@@ -9,8 +9,6 @@ use native.Mathlib.Omega.{arith}
 use native.Mathlib.Decide.{decLt, ℕ-discrete}
 use lib.ListN.{length, getD, take, replicate, getD-replicate, length-replicate, List·getD-eq-default}
 use lib.Seq.{take-suc}
-use lib.Dec.{eqb}
-use borrow.Author.Tests.{eqb-true, eq-eqb}
 use native.Mathlib.Numerals.{add-one}
 use lib.IntN.{ℤ, pos, sucℤ, predℤ, _+ℤ_, _-ℤ_, +ℤ-one, -ℤ-one}
 use lib.Signed.{_≤ℤ_}
@@ -211,29 +209,6 @@ module _ (chain : List ℕ) (m x y i : ℕ) (w : Goes chain m x y i) where
 
       ny : (y ≤ y′ + 1) × (y′ ≤ y + 1)
       ny = let r = near-row y d py in (omega (arith, r .0), omega (arith, r .1))
-
-  at-end : (c : Corner) → length chain ≤ i → i ≤ length chain → (endFrom c chain .0 ≡ (c .0 -ℤ pos m) +ℤ pos x) × (endFrom c chain .1 ≡ (c .1 -ℤ pos m) +ℤ pos y)
-  at-end c h g = let e = sym (cornerAt-end c chain) ∙ ap (cornerAt c chain) same in (ap (λ (p : Corner). p .0) e ∙ w .corner c .0, ap (λ (p : Corner). p .1) e ∙ w .corner c .1)
-    where
-      same : length chain ≡ i
-      same = omega arith
-
-  to-m : (z : ℤ) (n : ℕ) → z ≡ (z -ℤ pos m) +ℤ pos n → n ≡ m
-  to-m z n e = omega (zarith, bal- z (pos m), bal+ (z -ℤ pos m) (pos n))
-
-  from-m : (z : ℤ) (n : ℕ) → n ≡ m → (z -ℤ pos m) +ℤ pos n ≡ z
-  from-m z n e = omega (zarith, bal- z (pos m), bal+ (z -ℤ pos m) (pos n))
-
-  -- it ends in another column
-  pub goes-open : length chain ≤ i → i ≤ length chain → (x ≡ m → ⊥) → Closes chain false
-  goes-open h g n c = ((λ e. absurd (false≢true e)), (λ e. absurd (n (to-m (c .0) x (sym (ap (λ (p : Corner). p .0) e) ∙ at-end c h g .0)))))
-
-  -- it ends in its own column
-  pub goes-closed : length chain ≤ i → i ≤ length chain → x ≡ m → Closes chain (eqb y m)
-  goes-closed h g k c = (
-    (λ e. corner-eq (endFrom c chain) c (at-end c h g .0 ∙ from-m (c .0) x k) (at-end c h g .1 ∙ from-m (c .1) y (eqb-true y m e))),
-    (λ e. eq-eqb y m (to-m (c .1) y (sym (ap (λ (p : Corner). p .1) e) ∙ at-end c h g .1))),
-  )
 
 -- a store that is new
 pub fresh : (chain : List ℕ) (m room places : ℕ) → Stays chain m room → 0 < room → length chain ≤ places → ThreadStore chain m (replicate room 0) (replicate places 0) (replicate places 0) (replicate room 0)

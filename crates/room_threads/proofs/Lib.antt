@@ -1,0 +1,2 @@
+-- Laws of the columns that a walk can reach.
+pub mod ReachLaws

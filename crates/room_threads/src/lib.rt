@@ -1,7 +1,7 @@
 // Whether two places of a walk are one corner: each column's thread is followed back, and each height on it is stamped.
 use hull_columns::Columns;
-use hull_columns::column;
-use hull_columns::height;
+use hull_columns::across;
+use hull_columns::upward;
 use order::wide;
 ghost use mathlib.Core.Path.{_≡_};
 ghost use mathlib.Core.Bool.{true};
@@ -45,29 +45,33 @@ fn apart(head: &[u16], next: &[u16], hs: &[u16], stamps: &mut [u16]) -> bool
     true
 }
 
-// Threads the places of the walk that starts in column and height m, all but its last, and keeps the height of each.
+// Threads the places of the walk that starts in column and height m, all but its last, and keeps the height of each. What a step
+// adds to the column and to the height stands in two tables.
 fn lay(chain: &[u8], m: u16, head: &mut [u16], next: &mut [u16], hs: &mut [u16])
     requires { ⌜ Stays (now chain) m (length (now head)) × (length (now chain) ≤ length (now next))
         × (length (now chain) ≤ length (now hs)) × (length (now chain) < 65536) × ((c : ℕ) → getD (now head) c 0 ≡ 0)
-        × ((j : ℕ) → getD (now next) j 0 ≡ 0) × ((j : ℕ) → getD (now hs) j 0 ≡ 0) ⌝ }
+        × ((j : ℕ) → getD (now next) j 0 ≡ 0) × ((j : ℕ) → getD (now hs) j 0 ≡ 0) × ((j : ℕ) → getD (now chain) j 0 < 4) ⌝ }
     ensures { λ _. ⌜ Laid (now (chain .entry)) m (length (now (chain .entry))) (now (head .exit))
         (now (next .exit)) (now (hs .exit)) ⌝ }
 {
-    let mut x = wide(m);
+    let by = Columns::EAST;
+    let up = Columns::NORTH;
+    let mut x = m as u32;
     let mut y = m;
     let mut i = 0;
     while i < chain.len() {
         let d = chain[i];
         hs[i] = y;
-        next[i] = head[x];
-        head[x] = (i + 1) as u16;
-        x = column(x, d);
-        y = height(y, d);
+        next[i] = head[x as usize];
+        head[x as usize] = (i + 1) as u16;
+        x = across(x, &by, d);
+        y = upward(y, &up, d);
         i += 1;
     }
 }
 
-// Whether no two places of the walk that starts in column and height m, but for its last, are one. The working store is lent.
+// Whether no two places of the walk that starts in column and height m, but for its last, are one. Only the columns that it can
+// reach are looked at. The working store is lent.
 fn scattered(
     chain: &[u8],
     m: u16,
@@ -76,31 +80,12 @@ fn scattered(
     hs: &mut [u16],
     stamps: &mut [u16],
 ) -> bool
-    requires { ⌜ ThreadStore (now chain) m (now head) (now next) (now hs) (now stamps) × (length (now chain) < 65536) ⌝ }
+    requires { ⌜ ThreadStore (now chain) m (now head) (now next) (now hs) (now stamps) × (length (now chain) < 65536)
+        × ((j : ℕ) → getD (now chain) j 0 < 4) × Stays (now chain) m (2 * m) × (2 * m ≤ length (now head)) ⌝ }
     ensures { λ r. ⌜ Scattered (now (chain .entry)) m r ⌝ }
 {
     lay(chain, m, head, next, hs);
-    apart(head, next, hs, stamps)
-}
-
-// Whether a walk ends where it starts.
-fn closes(chain: &[u8]) -> bool
-    requires { ⌜ length (now chain) ≤ middle ⌝ }
-    ensures { λ r. ⌜ Closes (now (chain .entry)) r ⌝ }
-{
-    let mut x = Columns::MIDDLE;
-    let mut y = Columns::LEVEL;
-    let mut i = 0;
-    while i < chain.len() {
-        let d = chain[i];
-        x = column(x, d);
-        y = height(y, d);
-        i += 1;
-    }
-    if x != Columns::MIDDLE {
-        return false;
-    }
-    y == Columns::LEVEL
+    apart(&head[..2 * wide(m)], next, hs, stamps)
 }
 
 // Where the walk starts in the working store: a closed walk stays within half its steps of it.
@@ -113,7 +98,8 @@ pub fn start(n: usize) -> u16
 
 // Whether a closed walk of at most 256 steps is a room.
 fn told_narrow(chain: &[u8]) -> bool
-    requires { ⌜ (4 ≤ length (now chain)) × (length (now chain) ≤ narrowSize) × Closes (now chain) true ⌝ }
+    requires { ⌜ (4 ≤ length (now chain)) × (length (now chain) ≤ narrowSize) × Closes (now chain) true
+        × ((j : ℕ) → getD (now chain) j 0 < 4) ⌝ }
     ensures { λ r. ⌜ Told (now (chain .entry)) r ⌝ }
 {
     let mut head = [0u16; Columns::NARROW + 2];
@@ -126,7 +112,8 @@ fn told_narrow(chain: &[u8]) -> bool
 
 // Whether a closed walk of at most 2,048 steps is a room.
 fn told_wider(chain: &[u8]) -> bool
-    requires { ⌜ (4 ≤ length (now chain)) × (length (now chain) ≤ widerSize) × Closes (now chain) true ⌝ }
+    requires { ⌜ (4 ≤ length (now chain)) × (length (now chain) ≤ widerSize) × Closes (now chain) true
+        × ((j : ℕ) → getD (now chain) j 0 < 4) ⌝ }
     ensures { λ r. ⌜ Told (now (chain .entry)) r ⌝ }
 {
     let mut head = [0u16; Columns::WIDER + 2];
@@ -139,7 +126,8 @@ fn told_wider(chain: &[u8]) -> bool
 
 // Whether a closed walk of at most 16,384 steps is a room.
 fn told_widest(chain: &[u8]) -> bool
-    requires { ⌜ (4 ≤ length (now chain)) × (length (now chain) ≤ middle) × Closes (now chain) true ⌝ }
+    requires { ⌜ (4 ≤ length (now chain)) × (length (now chain) ≤ middle) × Closes (now chain) true
+        × ((j : ℕ) → getD (now chain) j 0 < 4) ⌝ }
     ensures { λ r. ⌜ Told (now (chain .entry)) r ⌝ }
 {
     let mut head = [0u16; Columns::MIDDLE + 2];
@@ -150,17 +138,13 @@ fn told_widest(chain: &[u8]) -> bool
     scattered(chain, m, &mut head, &mut next, &mut hs, &mut stamps)
 }
 
-// Whether a walk is a room, whatever corner it starts from: closed, of at least four steps, with no meeting but that of its ends.
+// Whether a closed walk of four steps or more is a room, whatever corner it starts from: no two of its corners but its ends are
+// one.
 pub fn is_room(chain: &[u8]) -> bool
-    requires { ⌜ length (now chain) ≤ middle ⌝ }
+    requires { ⌜ (4 ≤ length (now chain)) × (length (now chain) ≤ middle) × Closes (now chain) true
+        × ((j : ℕ) → getD (now chain) j 0 < 4) ⌝ }
     ensures { λ r. ⌜ Told (now (chain .entry)) r ⌝ }
 {
-    if chain.len() < 4 {
-        return false;
-    }
-    if !closes(chain) {
-        return false;
-    }
     if chain.len() <= Columns::NARROW {
         return told_narrow(chain);
     }

@@ -16,8 +16,9 @@ ghost use Prim.Native.Nat.{_+_, _*_, _≤_};
 ghost use lib.ListN.{length};
 ghost use Rattle.lists.specs.Lists.{Below};
 ghost use Rattle.answer.specs.declared.Answer.the-variants as walked;
-ghost use Rattle.line_frame.specs.Sizes.{mostDigits, tableWords, marksWords};
+ghost use Rattle.line_frame.specs.Sizes.{mostDigits, marksWords};
 ghost use Rattle.line_fields.specs.Put.{Wrote};
+ghost use Rattle.line_walk.specs.Walk.{Clear};
 ghost use Rattle.sheet.specs.Sizes.{mostPolygon, mostEntry};
 ghost use Rattle.sheet.specs.Entry.{polygonCell, entryBy, entryOf};
 ghost use Rattle.sheet.specs.Sheet.{entered};
@@ -68,9 +69,10 @@ fn enter_refused(r: Refusal, out: &mut [u8], at: usize) -> usize
 
 // Writes what is said of the line s from the place at on, without its line feed. Answers the place after it.
 fn enter_line(s: &[u8], table: &mut [u32], marks: &mut [u32], out: &mut [u8], at: usize) -> usize
-    requires { ⌜ (length (now table) ≡ tableWords) × (length (now marks) ≡ marksWords) ⌝ }
+    requires { ⌜ Clear (now table) × (length (now marks) ≡ marksWords) ⌝ }
     requires { ⌜ at + mostEntry ≤ length (now out) ⌝ }
     ensures { λ e. ⌜ Wrote (entryOf (now (s .entry))) at (now (out .entry)) e (now (out .exit)) ⌝ }
+    ensures { λ e. ⌜ Clear (now (table .exit)) ⌝ }
 {
     let mut chain = [0u8; Frame::MOST_DIGITS];
     match walk_line(s, table, marks, &mut chain) {
@@ -84,9 +86,10 @@ fn enter_line(s: &[u8], table: &mut [u32], marks: &mut [u32], out: &mut [u8], at
 
 // The same, with its line feed.
 pub fn enter(s: &[u8], table: &mut [u32], marks: &mut [u32], out: &mut [u8], at: usize) -> usize
-    requires { ⌜ (length (now table) ≡ tableWords) × (length (now marks) ≡ marksWords) ⌝ }
+    requires { ⌜ Clear (now table) × (length (now marks) ≡ marksWords) ⌝ }
     requires { ⌜ at + mostEntry ≤ length (now out) ⌝ }
     ensures { λ e. ⌜ Wrote (entered (now (s .entry))) at (now (out .entry)) e (now (out .exit)) ⌝ }
+    ensures { λ e. ⌜ Clear (now (table .exit)) ⌝ }
 {
     let end = enter_line(s, table, marks, out, at);
     out[end] = 10;

@@ -134,18 +134,29 @@ room-buffer : (j : Judged) (new old old′ : List ℕ) → length old ≡ length
 room-buffer j new old old′ l (inl e) = rw e
 room-buffer j new old old′ l (inr e) = rw (e .1) (ap (λ (n : ℕ). replicate n 0) l)
 
-pub walk-followed : (c : Corner) (os t t₁ ms ch : List ℕ) (r : Answer) (t′ ms′ ch′ : List ℕ) → Good ≡ inputJudged c os (length t) (length ms) (length ch) → length t₁ ≡ length t
-    → Followed c os t₁ ms ch r t′ ms′ ch′ → WalkIs c os t ms ch r t′ ms′ ch′
-walk-followed c os t t₁ ms ch r t′ ms′ ch′ e l f =
+pub followed-from : (c : Corner) (os t t₁ ms ch : List ℕ) (r : Answer) (t′ ms′ ch′ : List ℕ) → length t₁ ≡ length t → Followed c os t₁ ms ch r t′ ms′ ch′ → Followed c os t ms ch r t′ ms′ ch′
+followed-from c os t t₁ ms ch r t′ ms′ ch′ l f =
     let R : ℕ → Judged = λ n. roomFrom (recordsIn n) c 0 [] os in
-    let j : walkJudged c os (length t) (length ms) (length ch) ≡ R (length t) = judged-split c os (length t) (length ms) (length ch) ∙ ap (λ (x : Judged). orElse x (R (length t))) (sym e) in
-    let k : R (length t₁) ≡ walkJudged c os (length t) (length ms) (length ch) = ap R l ∙ sym j in
+    let k : R (length t₁) ≡ R (length t) = ap R l in
     record {
       answer = f .answer ∙ ap (λ (x : Judged). answerBy x (factsOf c (survivors os))) k;
       table =
           f .table
           ∙ room-buffer (R (length t₁)) (tableOf (length t₁) c (survivors os)) t₁ t l (room-cases (recordsIn (length t₁)) c 0 [] os)
           ∙ ap₂ (λ (x : Judged) (n : ℕ). bufferBy x (tableOf n c (survivors os)) t) k l;
+      marks = f .marks ∙ ap (λ (x : Judged). bufferBy x (marksOf c os) ms) k;
+      chain = f .chain ∙ ap (λ (x : Judged). bufferBy x (chainOf os) ch) k;
+    }
+
+-- an input with no fault, followed
+pub walk-followed : (c : Corner) (os t ms ch : List ℕ) (r : Answer) (t′ ms′ ch′ : List ℕ) → Good ≡ inputJudged c os (length t) (length ms) (length ch)
+    → Followed c os t ms ch r t′ ms′ ch′ → WalkIs c os t ms ch r t′ ms′ ch′
+walk-followed c os t ms ch r t′ ms′ ch′ e f =
+    let R : Judged = roomFrom (recordsIn (length t)) c 0 [] os in
+    let k : R ≡ walkJudged c os (length t) (length ms) (length ch) = sym (judged-split c os (length t) (length ms) (length ch) ∙ ap (λ (x : Judged). orElse x R) (sym e)) in
+    record {
+      answer = f .answer ∙ ap (λ (x : Judged). answerBy x (factsOf c (survivors os))) k;
+      table = f .table ∙ ap (λ (x : Judged). bufferBy x (tableOf (length t) c (survivors os)) t) k;
       marks = f .marks ∙ ap (λ (x : Judged). bufferBy x (marksOf c os) ms) k;
       chain = f .chain ∙ ap (λ (x : Judged). bufferBy x (chainOf os) ch) k;
     }

@@ -12,6 +12,7 @@ ghost use Rattle.answer.specs.declared.Judged.the-variants.{Good};
 ghost use Rattle.walk_call.specs.Walk.{WalkIs};
 ghost use Rattle.answer.specs.Limits.{mostInput, Near};
 ghost use Rattle.layout.specs.Marks.{markWords};
+ghost use Rattle.walk_input.specs.Input.{inputJudged};
 ghost use Rattle.walk_step.specs.Spots.{Walked};
 ghost use Rattle.walk_step.specs.Walks.{fresh};
 ghost use Rattle.steps.specs.Operations.{operationsJudged};
@@ -48,6 +49,21 @@ fn go_on(
     }
 }
 
+// Follows operations that have no fault from start, in a table of zeros.
+fn set_out(start: Corner, ops: &[u8], t: &mut [u32], marks: &mut [u32], chain: &mut [u8]) -> Answer
+    requires { ⌜ inputJudged start (now ops) (length (now t)) (length (now marks)) (length (now chain)) ≡ Good ⌝ }
+    requires { ⌜ now t ≡ replicate (length (now t)) 0 ⌝ }
+    ensures { λ r. ⌜ Followed start (now (ops .entry)) (now (t .entry)) (now (marks .entry)) (now (chain .entry)) r
+        (now (t .exit)) (now (marks .exit)) (now (chain .exit)) ⌝ }
+{
+    let at = walk_plant::plant(t, start);
+    if at == 0 {
+        clear(marks, chain);
+        return Answer::Refused(Refusal::NoRoom(0));
+    }
+    go_on(start, at - 1, ops, t, marks, chain)
+}
+
 // Follows the operations from start. If they are refused, the buffers are untouched, but all zero where there is no room. Else
 // the table t holds the records of the nodes in use, then zeros; the marks, three words an operation, hold the nodes in use and
 // the visits at the corner stood on after it, and how many records it changed; and the chain holds the surviving steps, then
@@ -66,10 +82,25 @@ pub fn follow(
     if let Judged::Refused(r) = j {
         return Answer::Refused(r);
     }
-    let at = walk_plant::plant(t, start);
-    if at == 0 {
-        clear(marks, chain);
-        return Answer::Refused(Refusal::NoRoom(0));
+    walk_table::zero(t);
+    set_out(start, ops, t, marks, chain)
+}
+
+// The same where the table is all zero, and need not be cleared.
+pub fn follow_clear(
+    start: Corner,
+    ops: &[u8],
+    t: &mut [u32],
+    marks: &mut [u32],
+    chain: &mut [u8],
+) -> Answer
+    requires { ⌜ now t ≡ replicate (length (now t)) 0 ⌝ }
+    ensures { λ r. ⌜ WalkIs start (now (ops .entry)) (now (t .entry)) (now (marks .entry)) (now (chain .entry)) r (now (t .exit))
+        (now (marks .exit)) (now (chain .exit)) ⌝ }
+{
+    let j = walk_input::input(start, ops, t.len(), marks.len(), chain.len());
+    if let Judged::Refused(r) = j {
+        return Answer::Refused(r);
     }
-    go_on(start, at - 1, ops, t, marks, chain)
+    set_out(start, ops, t, marks, chain)
 }

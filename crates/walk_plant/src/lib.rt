@@ -1,4 +1,4 @@
-// The start of a walk, planted in a cleared table: its ancestors from the root down, each the child of the one before, then the
+// The start of a walk, planted in a table of zeros: its ancestors from the root down, each the child of the one before, then the
 // start itself and its first visit.
 ghost use mathlib.Core.Path.{_≡_};
 ghost use Prim.Native.Nat.{_^_, _<_, _≤_};
@@ -41,12 +41,12 @@ fn grow(t: &mut [u32], c: Corner) -> usize
     nodes
 }
 
-// The table of the walk from c with no step. Answers the ref of c, 0 if there is no room: then the table is cleared.
+// Makes a table of zeros that of the walk from c with no step. Answers the ref of c, 0 if there is no room: then the table is
+// cleared.
 pub fn plant(t: &mut [u32], c: Corner) -> usize
-    requires { ⌜ Near c × (width ≤ length (now t)) × (length (now t) < 2 ^ 32) ⌝ }
+    requires { ⌜ Near c × (now t ≡ replicate (length (now t)) 0) × (width ≤ length (now t)) × (length (now t) < 2 ^ 32) ⌝ }
     ensures { λ r. ⌜ Planted (length (now (t .entry))) c (now (t .exit)) r ⌝ }
 {
-    walk_table::zero(t);
     let at = grow(t, c);
     if at == 0 {
         walk_table::zero(t);

@@ -12,7 +12,7 @@ use crate::polygon::polygon_of_room;
 use crate::rows::rows;
 use crate::tree::{Corner, ROOT};
 use crate::turns::steps_of_turns;
-use crate::walk::walk;
+use crate::walk::walk_clear;
 
 /// Writes the answer to one line, both without a line feed, and answers its length; writes nothing if `out` is shorter than
 /// the longest answer may be.
@@ -78,7 +78,7 @@ fn each_line(
     output.flush()
 }
 
-/// The buffers in which lines are judged.
+/// The buffers in which lines are judged. The table is all zero before each line and after it.
 struct Judge {
     digits: [u8; MOST_LINE_DIGITS],
     table: [u32; RECORD_WORDS * LINE_RECORDS],
@@ -154,7 +154,7 @@ impl Judge {
         out.push(b'\n');
     }
 
-    /// Walks the frame in this line: the chain begins with its surviving steps.
+    /// Walks the frame in this line, and clears the records that this took: the chain begins with its surviving steps.
     fn judge(&mut self, line: &[u8]) -> Result<Facts, Refusal> {
         let (kind, n) = read(line, &mut self.digits).ok_or(Refusal::BadLine)?;
         if kind == 1 {
@@ -162,13 +162,16 @@ impl Judge {
         }
         let ops = &self.digits[..n];
         let chain = &mut self.chain[..n];
-        walk(
+        let walked = walk_clear(
             (0, 0),
             ops,
             &mut self.table,
             &mut self.marks[..MARK_WORDS * n],
             chain,
-        )
+        );
+        let used = walked.map_or(0, |facts| facts.nodes as usize);
+        self.table[..RECORD_WORDS * used].fill(0);
+        walked
     }
 }
 

@@ -55,7 +55,8 @@ fn free<const N: usize>(chain: &[u8], walk: &WalkBox, mut map: [u8; N]) -> bool 
     true
 }
 
-/// Threads the places of each column, then follows each thread and stamps its heights: whether none comes twice.
+/// Threads the places of each column, then follows the thread of each column that the closed walk can reach, and stamps its heights:
+/// whether none comes twice.
 fn scattered<const N: usize, const M: usize>(
     chain: &[u8],
     mut head: [u16; M],
@@ -74,7 +75,7 @@ fn scattered<const N: usize, const M: usize>(
         head[at.x as usize] = (i + 1) as u16;
         at = at.stepped(step);
     }
-    for (column, &last) in head.iter().enumerate() {
+    for (column, &last) in head[..2 * middle as usize].iter().enumerate() {
         let mut place = usize::from(last);
         while place > 0 {
             let stamp = &mut stamps[usize::from(heights[place - 1])];

@@ -78,9 +78,8 @@ pub struct Tree<'a> {
 }
 
 impl<'a> Tree<'a> {
-    /// Clears the table, plants the ancestors of the start and the start, and visits it; none if the table is full.
+    /// Plants the ancestors of the start and the start in a table of zeros, and visits it; none if the table is full.
     pub fn new(words: &'a mut [u32], start: Corner) -> Option<Tree<'a>> {
-        words.fill(0);
         let mut tree = Tree { words, nodes: 1 };
         let at = tree.planted(start)?;
         tree.visit(at, 0);

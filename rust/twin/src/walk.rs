@@ -16,10 +16,46 @@ pub fn walk(
     chain: &mut [u8],
 ) -> Result<Facts, Refusal> {
     let start = Corner::from(start);
+    judge_input(start, ops, table.len(), marks.len(), chain.len())?;
+    table.fill(0);
+    set_out(start, ops, table, marks, chain)
+}
+
+/// The same if the table is all zero, and need not be cleared.
+pub fn walk_clear(
+    start: (i32, i32),
+    ops: &[u8],
+    table: &mut [u32],
+    marks: &mut [u32],
+    chain: &mut [u8],
+) -> Result<Facts, Refusal> {
+    let start = Corner::from(start);
+    judge_input(start, ops, table.len(), marks.len(), chain.len())?;
+    set_out(start, ops, table, marks, chain)
+}
+
+/// All refusals but 7, by the lengths of the buffers.
+fn judge_input(
+    start: Corner,
+    ops: &[u8],
+    table: usize,
+    marks: usize,
+    chain: usize,
+) -> Result<(), Refusal> {
     let sizes = (RECORD_WORDS, MOST_RECORDS);
-    judge_sizes(ops.len(), table.len(), sizes, marks.len(), &[chain.len()])?;
+    judge_sizes(ops.len(), table, sizes, marks, &[chain])?;
     judge_start(start)?;
-    judge_operations(ops)?;
+    judge_operations(ops)
+}
+
+/// Walks operations without a fault in a table of zeros.
+fn set_out(
+    start: Corner,
+    ops: &[u8],
+    table: &mut [u32],
+    marks: &mut [u32],
+    chain: &mut [u8],
+) -> Result<Facts, Refusal> {
     let Some(mut walk) = Walk::new(table, start) else {
         table.fill(0);
         marks.fill(0);

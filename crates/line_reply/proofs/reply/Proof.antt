@@ -20,7 +20,7 @@ returns-2 c =
     let at-answer-line = c .before .before .before .before .before in
     let at-if1 = at-answer-line .before .before .before .before .before in let at-start = at-if1 .before .before .before in
     let a = at-start .args in
-    reply-told (a .line .now) (a .out .now) (at-if1 .if1 .left) (at-answer-line .answer-line .ensures)
+    reply-told (a .line .now) (a .out .now) (at-if1 .if1 .left) (at-answer-line .answer-line .ensures .0)
 
 pub reply-spec : {M : Type 1} → statement M
 reply-spec =

@@ -16,13 +16,13 @@ slice-write-out c =
     let at-answer-line = c .before .before .before .before .before .before .before in
     let at-start = at-answer-line .before .before .before .before .before .before .before .before .before in
     let r = at-answer-line .answer-line in
-    omega (arith, lineAnswer-most (at-start .args .s .now), r .ensures .end, r .kept .1 .1 .1 .1 .0)
+    omega (arith, lineAnswer-most (at-start .args .s .now), r .ensures .0 .end, r .kept .1 .1 .1 .1 .0)
 
 add-result : tie.Need-add-result
 add-result c =
     let at-answer-line = c .before .before .before .before .before .before .before in
     let at-start = at-answer-line .before .before .before .before .before .before .before .before .before in
-    omega (arith, lineAnswer-most (at-start .args .s .now), at-answer-line .answer-line .ensures .end)
+    omega (arith, lineAnswer-most (at-start .args .s .now), at-answer-line .answer-line .ensures .0 .end)
 
 returns : tie.Need-returns
 returns c =
@@ -33,8 +33,8 @@ returns c =
     let o = r .last .1 .1 .1 .1 .0 in
     let m = lineAnswer-most (a .s .now) in
     let w : Wrote (10 ∷ []) (r .result) o (r .result + 1)
-    _ = record { end = refl; buffer = put-one 10 (r .result) o (omega (arith, m, r .ensures .end, r .kept .1 .1 .1 .1 .0)) } in
-    wrote-append (r .ensures) w (omega (arith, m))
+    _ = record { end = refl; buffer = put-one 10 (r .result) o (omega (arith, m, r .ensures .0 .end, r .kept .1 .1 .1 .1 .0)) } in
+    (wrote-append (r .ensures .0) w (omega (arith, m)), r .ensures .1)
 
 pub tell-spec : {M : Type 1} → statement M
 tell-spec =

@@ -18,13 +18,13 @@ array-share-prefix-chain : tie.Need-array-share-prefix-chain
 array-share-prefix-chain c =
     let at-walk-line = c .before .before .before .before .before .before .before .before in
     let g = c .before .f .given in
-    at-walk-line .walk-line .ensures .survived (g .0 .0) (g .1) .within
+    at-walk-line .walk-line .ensures .0 .survived (g .0 .0) (g .1) .within
 
 slice-aggregate-tell-room : tie.Need-slice-aggregate-tell-room
 slice-aggregate-tell-room c =
     let at-f = c .before .before in let at-walk-line = at-f .before .before .before .before .before .before .before in
     let g = at-f .f .given in
-    let k = at-walk-line .walk-line .ensures .survived (g .0 .0) (g .1) in
+    let k = at-walk-line .walk-line .ensures .0 .survived (g .0 .0) (g .1) in
     k .steps ∙ sym (ap length (k .chain))
 
 tell-room-requires : tie.Need-tell-room-requires
@@ -33,7 +33,7 @@ tell-room-requires c κs =
     let at-walk-line = at-f .before .before .before .before .before .before .before in
     let at-start = at-walk-line .before .before .before .before .before .before .before .before in
     let g = at-f .f .given in
-    let k = at-walk-line .walk-line .ensures .survived (g .0 .0) (g .1) in
+    let k = at-walk-line .walk-line .ensures .0 .survived (g .0 .0) (g .1) in
     ((rw (k .chain) (k .few), at-start .pre .0 .2), at-start .pre .1)
 
 returns : tie.Need-returns
@@ -45,9 +45,7 @@ returns c =
     let g = at-f .f .given in
     let w = at-walk-line .walk-line .ensures in
     let r = at-tell-room .tell-room in
-    subst (λ (l : List ℕ). Wrote l (a .at) (a .out .now) (r .result) (r .last .1 .1 .0))
-    (ap (λ (ds : List ℕ). roomTold (asRoomJudged origin ds) ds) (w .survived (g .0 .0) (g .1) .chain)
-    ∙ rowsTold-by (a .s .now) (Accepted (g .0 .0)) (sym (w .answer) ∙ g .1)) (r .ensures)
+    (subst (λ (l : List ℕ). Wrote l (a .at) (a .out .now) (r .result) (r .last .1 .1 .0)) (ap (λ (ds : List ℕ). roomTold (asRoomJudged origin ds) ds) (w .0 .survived (g .0 .0) (g .1) .chain) ∙ rowsTold-by (a .s .now) (Accepted (g .0 .0)) (sym (w .0 .answer) ∙ g .1)) (r .ensures), w .1)
 
 returns-2 : tie.Need-returns-2
 returns-2 c =
@@ -56,9 +54,9 @@ returns-2 c =
     let at-start = at-walk-line .before .before .before .before .before .before .before .before in
     let a = at-start .args in
     let g = at-r .r .given in
+    let w = at-walk-line .walk-line .ensures in
     let r = at-tell-refusal .tell-refusal in
-    subst (λ (l : List ℕ). Wrote l (a .at) (a .out .now) (r .result) (r .last .0))
-    (rowsTold-by (a .s .now) (Refused (g .0 .0)) (sym (at-walk-line .walk-line .ensures .answer) ∙ g .1)) (r .ensures)
+    (subst (λ (l : List ℕ). Wrote l (a .at) (a .out .now) (r .result) (r .last .0)) (rowsTold-by (a .s .now) (Refused (g .0 .0)) (sym (w .0 .answer) ∙ g .1)) (r .ensures), w .1)
 
 pub tell-spec : {M : Type 1} → statement M
 tell-spec =

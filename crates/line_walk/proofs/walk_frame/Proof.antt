@@ -16,15 +16,14 @@ returns c =
     let at-enum-told = at-walk-digits .before .before .before .before in
     let at-start = at-enum-told .before .before .before .before .before .before in
     let ds = digitsOf (at-start .args .s .now) in
-    handed-by (ap (λ (k : Kind). kindWalked k ds) (sym (at-enum-told .enum-told .given .1)))
-    (at-walk-digits .walk-digits .ensures)
+    let w = at-walk-digits .walk-digits .ensures in
+    (handed-by (ap (λ (k : Kind). kindWalked k ds) (sym (at-enum-told .enum-told .given .1))) (w .0), w .1)
 
 returns-2 : tie.Need-returns-2
 returns-2 c =
     let at-start = c .before .before .before .before .before .before in
     let a = at-start .args in
-    handed-by (ap (λ (k : Kind). kindWalked k (digitsOf (a .s .now))) (sym (c .enum-told2 .given .1)))
-    (refused-handed RetiredKind (digitsOf (a .s .now)) (a .chain .now))
+    (handed-by (ap (λ (k : Kind). kindWalked k (digitsOf (a .s .now))) (sym (c .enum-told2 .given .1))) (refused-handed RetiredKind (digitsOf (a .s .now)) (a .chain .now)), at-start .pre .1 .1 .table)
 
 pub walk-frame-spec : {M : Type 1} → statement M
 walk-frame-spec =

@@ -25,15 +25,14 @@ returns c =
     let at-kind = at-walk-frame .before .before .before .before .before in let at-read = at-kind .before .before in
     let at-start = at-read .before .before .before .before .before in
     let f = at-kind .kind .given in
-    handed-by (lineWalked-by (at-start .args .s .now) (Of (f .0 .0) (f .0 .1 .0)) (sym (at-read .read .ensures) ∙ f .1))
-    (at-walk-frame .walk-frame .ensures)
+    let w = at-walk-frame .walk-frame .ensures in
+    (handed-by (lineWalked-by (at-start .args .s .now) (Of (f .0 .0) (f .0 .1 .0)) (sym (at-read .read .ensures) ∙ f .1)) (w .0), w .1)
 
 returns-2 : tie.Need-returns-2
 returns-2 c =
     let at-read = c .before .before in let at-start = at-read .before .before .before .before .before in
     let a = at-start .args in
-    handed-by (lineWalked-by (a .s .now) Bad (sym (at-read .read .ensures) ∙ c .enum-told .given .1))
-    (refused-handed BadLine (digitsOf (a .s .now)) (a .chain .now))
+    (handed-by (lineWalked-by (a .s .now) Bad (sym (at-read .read .ensures) ∙ c .enum-told .given .1)) (refused-handed BadLine (digitsOf (a .s .now)) (a .chain .now)), at-start .pre .table)
 
 pub walk-line-spec : {M : Type 1} → statement M
 walk-line-spec =

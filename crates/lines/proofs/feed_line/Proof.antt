@@ -35,9 +35,7 @@ returns c =
     let t = at-tell-early .tell-early in
     let l = at-line-end .line-end in
     let a = at-start .args in
-    fed-held (jobOf (a .task)) (a .line .now) (a .s .now) (a .out .now) (a .held) (a .at) (a .used) (l .result) (l .ensures)
-    (at-start .pre .1 .0 .0) (h .result) (t .result) (h .last .0) (t .last .1 .1 .1 .1 .1 .1 .0) (at-start .pre .0 .1)
-    (at-if1 .if1 .taken) (h .ensures) (t .ensures)
+    (fed-held (jobOf (a .task)) (a .line .now) (a .s .now) (a .out .now) (a .held) (a .at) (a .used) (l .result) (l .ensures) (at-start .pre .1 .0 .0) (h .result) (t .result) (h .last .0) (t .last .1 .1 .1 .1 .1 .1 .0) (at-start .pre .0 .1) (at-if1 .if1 .taken) (h .ensures) (t .ensures), at-start .pre .1 .1 .0 .table)
 
 tell-end-requires : tie.Need-tell-end-requires
 tell-end-requires c κs =
@@ -66,11 +64,13 @@ returns-2 c =
     let h = at-if1 .if1 .left in
     let t = at-tell-early .tell-early in
     let l = at-line-end .line-end in
-    let a = at-start .args in
-    fed-ended (jobOf (a .task)) (a .line .now) (a .s .now) (a .out .now) (a .held) (a .at) (a .used) (l .result) (l .ensures)
-    (at-start .pre .1 .0 .0) (job-does (a .task)) (omega (arith, h))
-    (room-line (a .task) (a .line .now) (a .s .now) (a .held) (a .at) (at-start .pre .0 .0) (at-start .pre .1 .0 .1) (a .used)
-    (at-start .pre .1 .1 .1)) (t .result) (r .result) (r .last .1 .0) (t .last .1 .1 .1 .1 .1 .1 .0) (r .last .1 .1 .1 .1 .1 .1 .1 .1 .1 .0) (t .ensures) (r .ensures .0) (r .ensures .1)
+    let a = at-start .args in (
+      fed-ended (jobOf (a .task)) (a .line .now) (a .s .now) (a .out .now) (a .held) (a .at) (a .used) (l .result) (l .ensures)
+          (at-start .pre .1 .0 .0) (job-does (a .task)) (omega (arith, h))
+          (room-line (a .task) (a .line .now) (a .s .now) (a .held) (a .at) (at-start .pre .0 .0) (at-start .pre .1 .0 .1)
+          (a .used) (at-start .pre .1 .1 .1)) (t .result) (r .result) (r .last .1 .0) (t .last .1 .1 .1 .1 .1 .1 .0) (r .last .1 .1 .1 .1 .1 .1 .1 .1 .1 .0) (t .ensures) (r .ensures .0) (r .ensures .1 .0),
+      r .ensures .1 .1,
+    )
 
 pub feed-line-spec : {M : Type 1} → statement M
 feed-line-spec =

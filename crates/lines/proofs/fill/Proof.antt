@@ -1,6 +1,6 @@
 -- `lines::fill` meets its contract: at the head of the loop the lines passed so far are filled in, and the buffers are as long as they were.
 -- Assumes nothing.
-use mathlib.Core.Path.{_≡_, _∙_}
+use mathlib.Core.Path.{_≡_, sym, _∙_}
 use mathlib.Core.Logic.{inl, inr}
 use Prim.Native.Nat.{_+_, _-_, _≤_}
 use native.Mathlib.Omega.{arith}
@@ -9,6 +9,7 @@ use lib.ListN.{length}
 use Rattle.line_frame.specs.Sizes.{mostHeld}
 use Rattle.line_stream.specs.Stream.{mostPart}
 use Rattle.line_stream.proofs.FillLaws.{Filling, filling-start, filling-next, filling-done, falls}
+use Rattle.line_walk.proofs.ClearLaws.{clear-length}
 use Rattle.line_reply.specs.Reply.{Lent}
 use Rattle.lines.specs.Tasks.{jobOf}
 use Rattle.lines.proofs.TaskLaws.{job-does, room-line}
@@ -35,6 +36,11 @@ returns c =
     filling-done (jobOf (a .task)) (a .line .now) (a .held) (a .s .now) (a .at) (a .out .now) (l .line) (l .out) (l .p)
     (l .inv .3) (inr (omega (arith, c .if2 .taken, l .inv .2, l .inv .3 .long, l .inv .3 .room)))
 
+slice-aggregate-feed-line : tie.Need-slice-aggregate-feed-line Inv-loop μ-loop
+slice-aggregate-feed-line c =
+    let at-loop = c .before .before .before .before .before in
+    sym (clear-length (at-loop .loop .inv .4 .table))
+
 feed-line-requires : tie.Need-feed-line-requires Inv-loop μ-loop
 feed-line-requires c κs =
     let at-if2 = c .before .before .before .before .before in let at-loop = at-if2 .before .before .before in
@@ -51,7 +57,7 @@ loop-less c =
     let l = at-loop .loop in
     let a = at-start .args in
     falls (jobOf (a .task)) (a .line .now) (a .held) (a .s .now) (a .at) (a .out .now) (l .line) (l .out) (l .p) (l .inv .3)
-    (f .result) (f .last .1 .0) (f .last .1 .1 .1 .1 .1 .1 .1 .1 .0) (f .ensures) (at-if1 .if1 .taken)
+    (f .result) (f .last .1 .0) (f .last .1 .1 .1 .1 .1 .1 .1 .1 .0) (f .ensures .0) (at-if1 .if1 .taken)
 
 loop-again : tie.Need-loop-again Inv-loop μ-loop
 loop-again c =
@@ -67,11 +73,11 @@ loop-again c =
       l .inv .1,
       l .inv .2,
       filling-next (jobOf (a .task)) (a .line .now) (a .held) (a .s .now) (a .at) (a .out .now) (l .line) (l .out) (l .p) q
-          (f .result) (f .last .1 .0) (f .last .1 .1 .1 .1 .1 .1 .1 .1 .0) (f .ensures) (job-does (a .task)) room
+          (f .result) (f .last .1 .0) (f .last .1 .1 .1 .1 .1 .1 .1 .1 .0) (f .ensures .0) (job-does (a .task)) room
           (room-line (a .task) (l .line) (a .s .now) (l .p .held) (l .p .at) (q .most) (l .inv .1) (l .p .used) room)
           (f .kept .1 .0) (at-if2 .before .if1 .taken),
       record {
-        table = omega (arith, f .kept .1 .1 .1 .1 .1 .0, l .inv .4 .table);
+        table = f .ensures .1;
         marks = omega (arith, f .kept .1 .1 .1 .1 .1 .1 .0, l .inv .4 .marks);
         hull = omega (arith, f .kept .1 .1 .1 .1 .1 .1 .1 .0, l .inv .4 .hull);
       },
@@ -97,7 +103,7 @@ fill-spec =
     (λ c. search needs)
     (λ c. search needs)
     returns
-    (λ c. search needs)
+    slice-aggregate-feed-line
     (λ c. search needs)
     (λ c. search needs)
     feed-line-requires

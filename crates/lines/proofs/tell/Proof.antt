@@ -47,9 +47,7 @@ returns c =
     let at-start = at-enum-told .before .before .before .before .before .before in
     let r = at-tell .tell in
     let a = at-start .args in
-    subst (λ (l : List ℕ). Wrote l (a .at) (a .out .now) (r .result) (r .last .1 .1 .1 .1 .0))
-    (each-told answered mostAnswer (a .s .now) ∙ ap (λ (t : Task). jobOf t .told (a .s .now) [])
-    (sym (at-enum-told .enum-told .given .1))) (r .ensures)
+    (subst (λ (l : List ℕ). Wrote l (a .at) (a .out .now) (r .result) (r .last .1 .1 .1 .1 .0)) (each-told answered mostAnswer (a .s .now) ∙ ap (λ (t : Task). jobOf t .told (a .s .now) []) (sym (at-enum-told .enum-told .given .1))) (r .ensures .0), r .ensures .1)
 
 returns-2 : tie.Need-returns-2
 returns-2 c =
@@ -57,9 +55,7 @@ returns-2 c =
     let at-start = at-enum-told2 .before .before .before .before .before .before in
     let r = at-end-fed-line .end-fed-line in
     let a = at-start .args in
-    subst (λ (l : List ℕ). Wrote l (a .at) (a .out .now) (r .result) (r .last .1 .0))
-    (convert-told (a .s .now) ∙ ap (λ (t : Task). jobOf t .told (a .s .now) []) (sym (at-enum-told2 .enum-told2 .given .1)))
-    (r .ensures)
+    (subst (λ (l : List ℕ). Wrote l (a .at) (a .out .now) (r .result) (r .last .1 .0)) (convert-told (a .s .now) ∙ ap (λ (t : Task). jobOf t .told (a .s .now) []) (sym (at-enum-told2 .enum-told2 .given .1))) (r .ensures), at-start .pre .1 .0 .table)
 
 returns-3 : tie.Need-returns-3
 returns-3 c =
@@ -68,9 +64,7 @@ returns-3 c =
     let at-start = at-enum-told3 .before .before .before .before .before .before in
     let r = at-tell2 .tell2 in
     let a = at-start .args in
-    subst (λ (l : List ℕ). Wrote l (a .at) (a .out .now) (r .result) (r .last .1 .1 .1 .1 .0))
-    (each-told rowsTold mostRows (a .s .now) ∙ ap (λ (t : Task). jobOf t .told (a .s .now) [])
-    (sym (at-enum-told3 .enum-told3 .given .1))) (r .ensures)
+    (subst (λ (l : List ℕ). Wrote l (a .at) (a .out .now) (r .result) (r .last .1 .1 .1 .1 .0)) (each-told rowsTold mostRows (a .s .now) ∙ ap (λ (t : Task). jobOf t .told (a .s .now) []) (sym (at-enum-told3 .enum-told3 .given .1))) (r .ensures .0), r .ensures .1)
 
 returns-4 : tie.Need-returns-4
 returns-4 c =
@@ -79,9 +73,7 @@ returns-4 c =
     let at-start = at-enum-told4 .before .before .before .before .before .before in
     let r = at-enter .enter in
     let a = at-start .args in
-    subst (λ (l : List ℕ). Wrote l (a .at) (a .out .now) (r .result) (r .last .1 .1 .1 .0))
-    (each-told entered mostEntry (a .s .now) ∙ ap (λ (t : Task). jobOf t .told (a .s .now) [])
-    (sym (at-enum-told4 .enum-told4 .given .1))) (r .ensures)
+    (subst (λ (l : List ℕ). Wrote l (a .at) (a .out .now) (r .result) (r .last .1 .1 .1 .0)) (each-told entered mostEntry (a .s .now) ∙ ap (λ (t : Task). jobOf t .told (a .s .now) []) (sym (at-enum-told4 .enum-told4 .given .1))) (r .ensures .0), r .ensures .1)
 
 pub tell-spec : {M : Type 1} → statement M
 tell-spec =

@@ -40,7 +40,7 @@ returns c =
     ∙ kept-here (a .line .now) (a .s .now) (a .held) (a .at) (a .end) (m .result) (at-start .pre .0 .0) (at-start .pre .0 .1)
     (at-start .pre .1 .0 .0) (at-start .pre .1 .0 .1) (m .ensures ∙ ap (λ (n : ℕ). min (a .end - a .at) (mostHeld - n)) (sym z)) z
     in
-    (subst (λ (x : List ℕ). Wrote (jobOf (a .task) .told x []) (a .used) (a .out .now) (r .result) (r .last .1 .1 .1 .1 .1 .0)) k (r .ensures), ended-here (a .line .now) (take (a .end - a .at) q) (a .held) z)
+    (subst (λ (x : List ℕ). Wrote (jobOf (a .task) .told x []) (a .used) (a .out .now) (r .result) (r .last .1 .1 .1 .1 .1 .0)) k (r .ensures .0), (ended-here (a .line .now) (take (a .end - a .at) q) (a .held) z, r .ensures .1))
 
 hold-requires : tie.Need-hold-requires
 hold-requires c κs =
@@ -81,7 +81,7 @@ returns-2 c =
     let z = at-if1 .if1 .left in
     let a = at-start .args in
     let b : List ℕ = take (a .end - a .at) (drop (a .at) (a .s .now)) in
-    (subst (λ (x : List ℕ). Wrote (jobOf (a .task) .told x []) (a .used) (a .out .now) (r .result) (r .last .1 .1 .1 .1 .1 .0)) (kept-bytes (a .line .now) (k .result) (k .last .0) (take (a .held) (a .line .now) ++ b) (at-start .pre .0 .1) (k .ensures)) (r .ensures), ended-kept (a .line .now) b (k .last .0) (a .held) (k .result) z (k .ensures))
+    (subst (λ (x : List ℕ). Wrote (jobOf (a .task) .told x []) (a .used) (a .out .now) (r .result) (r .last .1 .1 .1 .1 .1 .0)) (kept-bytes (a .line .now) (k .result) (k .last .0) (take (a .held) (a .line .now) ++ b) (at-start .pre .0 .1) (k .ensures)) (r .ensures .0), (ended-kept (a .line .now) b (k .last .0) (a .held) (k .result) z (k .ensures), r .ensures .1))
 
 pub tell-end-spec : {M : Type 1} → statement M
 tell-end-spec =

@@ -49,7 +49,7 @@ returns c =
     let a = at-start .args in
     subst (λ (l : List ℕ). Wrote l 0 (a .out .now) (r .result) (r .last .1 .1 .1 .1 .0))
     (each-last answered mostAnswer (a .s .now) (at-start .pre .0 .0)
-    ∙ ap (λ (t : Task). jobOf t .last (a .s .now)) (sym (at-enum-told .enum-told .given .1))) (r .ensures)
+    ∙ ap (λ (t : Task). jobOf t .last (a .s .now)) (sym (at-enum-told .enum-told .given .1))) (r .ensures .0)
 
 returns-2 : tie.Need-returns-2
 returns-2 c =
@@ -69,7 +69,7 @@ returns-3 c =
     let a = at-start .args in
     subst (λ (l : List ℕ). Wrote l 0 (a .out .now) (r .result) (r .last .1 .1 .1 .1 .0))
     (each-last rowsTold mostRows (a .s .now) (at-start .pre .0 .0)
-    ∙ ap (λ (t : Task). jobOf t .last (a .s .now)) (sym (at-enum-told3 .enum-told3 .given .1))) (r .ensures)
+    ∙ ap (λ (t : Task). jobOf t .last (a .s .now)) (sym (at-enum-told3 .enum-told3 .given .1))) (r .ensures .0)
 
 returns-4 : tie.Need-returns-4
 returns-4 c =
@@ -80,7 +80,7 @@ returns-4 c =
     let a = at-start .args in
     subst (λ (l : List ℕ). Wrote l 0 (a .out .now) (r .result) (r .last .1 .1 .1 .0))
     (each-last entered mostEntry (a .s .now) (at-start .pre .0 .0)
-    ∙ ap (λ (t : Task). jobOf t .last (a .s .now)) (sym (at-enum-told4 .enum-told4 .given .1))) (r .ensures)
+    ∙ ap (λ (t : Task). jobOf t .last (a .s .now)) (sym (at-enum-told4 .enum-told4 .given .1))) (r .ensures .0)
 
 pub tell-last-spec : {M : Type 1} → statement M
 tell-last-spec =

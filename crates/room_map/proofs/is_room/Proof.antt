@@ -2,7 +2,9 @@
 -- Assumes nothing.
 use borrow.Author.Needs.{needs}
 use native.Mathlib.Omega.{arith}
+use mathlib.Core.Path.{subst}
 use Rattle.lists.proofs.BoolLaws.{not-true, not-false}
+use Rattle.room_thread_laws.specs.Threads.{Closes}
 use Rattle.room_thread_laws.proofs.RoomLaws.{told-short}
 use Rattle.room_map.proofs.MapLaws.{size-few, box-fits, box-told, box-open}
 use Rattle.room_map.proofs.is_room.Statement.{statement}
@@ -95,6 +97,13 @@ returns-6 c =
     box-told (at-start .args .chain .now) (at-start .pre) (r .width) (r .height) (r .from) (r .closed) (e .ensures)
     (c .lone-widest .result) (omega arith) (not-false (r .closed) (at-if2 .if2 .left)) (c .lone-widest .ensures)
 
+is-room-requires : tie.Need-is-room-requires
+is-room-requires c κs =
+    let at-if2 = c .before .before .before .before in let at-enclose = at-if2 .before .before in
+    let at-start = at-enclose .before .before .before in
+    let e = at-enclose .enclose in
+    (omega arith, at-start .pre .short, subst (Closes (at-start .args .chain .now)) (not-false (e .result .closed) (at-if2 .if2 .left)) (e .ensures .round), at-start .pre .digits)
+
 pub is-room-spec : {M : Type 1} → statement M
 is-room-spec =
     tie.close
@@ -111,5 +120,5 @@ is-room-spec =
     returns-5
     lone-widest-requires
     returns-6
-    (λ c κs. search needs)
+    is-room-requires
     (λ c. search needs))

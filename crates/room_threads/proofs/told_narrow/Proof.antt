@@ -3,7 +3,7 @@
 use borrow.Author.Needs.{needs}
 use native.Mathlib.Omega.{arith}
 use mathlib.Core.Path.{refl}
-use Prim.Native.Nat.{_+_}
+use Prim.Native.Nat.{_+_, _*_}
 use Rattle.hull_laws.specs.Columns.{narrowSize}
 use Rattle.grid.specs.Grid.{origin}
 use Rattle.room_thread_laws.proofs.RoomLaws.{closed-stays, fresh, told-closed}
@@ -15,7 +15,8 @@ scattered-requires c κs =
     let at-start-call = c .before .before .before .before in let at-start = at-start-call .before .before in
     let a = at-start .args in
     let m = at-start-call .start in
-    (fresh (a .chain .now) (m .result) (narrowSize + 2) narrowSize (closed-stays origin (a .chain .now) (m .result) (at-start .pre .2 origin .0 refl) (m .ensures .0) (narrowSize + 2) (omega (arith, m .ensures .1)) (omega arith)) (omega arith) (omega arith), omega arith)
+    let s = closed-stays origin (a .chain .now) (m .result) (at-start .pre .2 origin .0 refl) (m .ensures .0) in
+    (fresh (a .chain .now) (m .result) (narrowSize + 2) narrowSize (s (narrowSize + 2) (omega (arith, m .ensures .1)) (omega arith)) (omega arith) (omega arith), omega arith, at-start .pre .3, s (2 * m .result) (omega arith) (omega (arith, m .ensures .1)), omega (arith, m .ensures .1))
 
 returns : tie.Need-returns
 returns c =

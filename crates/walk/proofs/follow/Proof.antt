@@ -1,16 +1,13 @@
 -- `walk::follow` meets its contract.
 -- Assumes nothing.
-use mathlib.Core.Path.{_≡_, refl, sym, _∙_}
-use native.Mathlib.Omega.{arith}
+use mathlib.Core.Path.{_≡_, ap, sym, _∙_}
+use Prim.Native.Nat.{ℕ}
 use borrow.Author.Needs.{needs}
-use lib.ListN.{length}
-use Rattle.walk_input.proofs.JudgeLaws.{input-good}
-use Rattle.walk.proofs.CallLaws.{walk-refused, planted-full, planted-walked, followed-full, walk-followed}
+use lib.ListN.{length, replicate}
+use Rattle.walk_input.specs.Input.{inputJudged}
+use Rattle.walk.proofs.CallLaws.{walk-refused, followed-from, walk-followed}
 use Rattle.walk.proofs.follow.Statement.{statement}
 use Rattle.walk.proofs.follow.Tie as tie
-
-input-requires : tie.Need-input-requires
-input-requires c κs = tt
 
 returns : tie.Need-returns
 returns c =
@@ -20,73 +17,40 @@ returns c =
     walk-refused (a .start) (a .ops .now) (a .t .now) (a .marks .now) (a .chain .now) (j .0 .0)
     (sym (j .1) ∙ at-input .input .ensures)
 
-plant-requires : tie.Need-plant-requires
-plant-requires c κs =
-    let at-input = c .before .before .before in let at-start = at-input .before .before .before .before .before in
+set-out-requires : tie.Need-set-out-requires
+set-out-requires c κs =
+    let at-zero = c .before .before .before .before .before in let at-enum-told = at-zero .before .before in
+    let at-input = at-enum-told .before .before in let at-start = at-input .before .before .before .before .before in
     let a = at-start .args in
-    let k = input-good (a .start) (a .ops .now) (length (a .t .now)) (length (a .marks .now)) (length (a .chain .now))
-    (sym (at-input .input .ensures) ∙ c .before .enum-told .given .1) in
-    (k .start, k .least, k .most)
+    let z = at-zero .zero in
+    let l : length (z .last .0) ≡ length (a .t .now) = search needs in
+    (ap (λ (n : ℕ). inputJudged (a .start) (a .ops .now) n (length (a .marks .now)) (length (a .chain .now))) l ∙ sym (at-input .input .ensures) ∙ at-enum-told .enum-told .given .1, z .ensures ∙ ap (λ (n : ℕ). replicate n 0) (sym l))
 
 returns-2 : tie.Need-returns-2
 returns-2 c =
-    let at-clear = c .before .before .before .before in let at-if1 = at-clear .before .before .before in
-    let at-plant = at-if1 .before .before .before in let at-enum-told = at-plant .before .before in
+    let at-set-out = c .before .before .before .before .before .before in
+    let at-zero = at-set-out .before .before .before .before .before .before in let at-enum-told = at-zero .before .before in
     let at-input = at-enum-told .before .before in let at-start = at-input .before .before .before .before .before in
     let a = at-start .args in
-    let p = at-plant .plant in
-    let z = at-clear .clear in
-    let l : length (p .last .0) ≡ length (a .t .now) = search needs in
-    let f = planted-full (length (a .t .now)) (a .start) (a .ops .now) (p .last .0) (p .result) (p .ensures)
-    (at-if1 .if1 .taken) in
-    walk-followed (a .start) (a .ops .now) (a .t .now) (a .t .now) (a .marks .now) (a .chain .now) _ (p .last .0) (z .last .0)
-    (z .last .1 .0) (sym (at-enum-told .enum-told .given .1) ∙ at-input .input .ensures) refl
-    (followed-full (a .start) (a .ops .now) (a .t .now) (a .marks .now) (a .chain .now) (p .last .0) (z .last .0) (z .last .1 .0)
-    0 (f .0) (f .1) (z .ensures .0) (z .ensures .1))
-
-go-on-requires : tie.Need-go-on-requires
-go-on-requires c κs =
-    let at-if1 = c .before .before .before in let at-plant = at-if1 .before .before .before in
-    let at-enum-told = at-plant .before .before in let at-input = at-enum-told .before .before in
-    let at-start = at-input .before .before .before .before .before in
-    let a = at-start .args in
-    let p = at-plant .plant in
-    let k = input-good (a .start) (a .ops .now) (length (a .t .now)) (length (a .marks .now)) (length (a .chain .now))
-    (sym (at-input .input .ensures) ∙ at-enum-told .enum-told .given .1) in
-    let l : length (p .last .0) ≡ length (a .t .now) = search needs in
-    ((k .start, planted-walked (a .start) (a .t .now) (p .last .0) (p .result) (p .ensures) l (at-if1 .if1 .left), omega (arith, l, k .most)), ((k .marks, k .chain, k .few), k .fine))
-
-returns-3 : tie.Need-returns-3
-returns-3 c =
-    let at-go-on = c .before .before .before .before .before .before in
-    let at-plant = at-go-on .before .before .before .before .before .before .before in
-    let at-enum-told = at-plant .before .before in let at-input = at-enum-told .before .before in
-    let at-start = at-input .before .before .before .before .before in
-    let a = at-start .args in
-    let g = at-go-on .go-on in
-    let p = at-plant .plant in
-    let l : length (p .last .0) ≡ length (a .t .now) = search needs in
-    walk-followed (a .start) (a .ops .now) (a .t .now) (p .last .0) (a .marks .now) (a .chain .now) (g .result)
-    (g .last .1 .1 .1 .0) (g .last .1 .1 .1 .1 .0) (g .last .1 .1 .1 .1 .1 .0)
-    (sym (at-enum-told .enum-told .given .1) ∙ at-input .input .ensures) l (g .ensures)
+    let z = at-zero .zero in
+    let g = at-set-out .set-out in
+    let l : length (z .last .0) ≡ length (a .t .now) = search needs in
+    walk-followed (a .start) (a .ops .now) (a .t .now) (a .marks .now) (a .chain .now) (g .result) (g .last .1 .1 .0)
+    (g .last .1 .1 .1 .0) (g .last .1 .1 .1 .1 .0) (sym (at-enum-told .enum-told .given .1) ∙ at-input .input .ensures)
+    (followed-from (a .start) (a .ops .now) (a .t .now) (z .last .0) (a .marks .now) (a .chain .now) (g .result)
+    (g .last .1 .1 .0) (g .last .1 .1 .1 .0) (g .last .1 .1 .1 .1 .0) l (g .ensures))
 
 pub follow-spec : {M : Type 1} → statement M
 follow-spec =
     tie.close
     (tie.spec
-    input-requires
+    (λ c κs. search needs)
     (λ c. search needs)
     returns
     (λ c. search needs)
-    plant-requires
     (λ c κs. search needs)
+    set-out-requires
     (λ c. search needs)
     (λ c. search needs)
     (λ c. search needs)
-    returns-2
-    (λ c. search needs)
-    go-on-requires
-    (λ c. search needs)
-    (λ c. search needs)
-    (λ c. search needs)
-    returns-3)
+    returns-2)
