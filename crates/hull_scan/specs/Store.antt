@@ -12,6 +12,10 @@ use Rattle.hull.specs.Hull.{HullIs}
 use Rattle.hull_laws.specs.Columns.{blank}
 use Rattle.hull_corners.specs.Parts.{ListGiven}
 
+-- the columns for which the small store has room: as many as 31 steps go through
+abbrev pub smallSize : ℕ
+smallSize = 32
+
 -- the columns for which the medium store has room: as many as 1,024 steps go through
 abbrev pub mediumSize : ℕ
 mediumSize = 1025

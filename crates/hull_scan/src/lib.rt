@@ -20,9 +20,11 @@ ghost use Rattle.hull.specs.Call.{HullCall};
 ghost use Rattle.hull_columns.specs.Extent.{Spans};
 ghost use Rattle.answer.specs.Limits.{Near, startFits};
 ghost use Rattle.hull_laws.specs.Columns.{narrowSize, widerSize};
-ghost use Rattle.hull_scan.specs.Store.{mediumSize, HullStore, Hulled};
+ghost use Rattle.hull_scan.specs.Store.{smallSize, mediumSize, HullStore, Hulled};
 
-// The columns for which the medium store has room.
+// The columns for which the small store has room, and the medium one.
+const SMALL: usize = 32;
+
 const MEDIUM: usize = 1025;
 
 // The hull of the walk from start through the columns west to east. The working store is lent; lo and hi hold no height yet.
@@ -45,6 +47,28 @@ fn list_in(
     let a = scan(lo, n, s);
     let b = scan(hi, n, t);
     finish(start, west, east, lo, hi, s, a, t, b, out)
+}
+
+// The same with a store for 32 columns.
+fn list_small(chain: &[u8], start: Corner, west: usize, east: usize, out: &mut [i32]) -> Counted
+    requires { ⌜ Spans (now chain) west east × Near start × (east - west < smallSize) ⌝ }
+    ensures { λ r. ⌜ Hulled start (now (chain .entry)) (now (out .entry)) r (now (out .exit)) ⌝ }
+{
+    let mut lo = [Columns::BLANK; SMALL];
+    let mut hi = [Columns::BLANK; SMALL];
+    let mut s = [0u16; SMALL];
+    let mut t = [0u16; SMALL];
+    list_in(
+        chain,
+        start,
+        west,
+        east,
+        &mut lo,
+        &mut hi,
+        &mut s,
+        &mut t,
+        out,
+    )
 }
 
 // The same with a store for 256 columns.
@@ -145,6 +169,9 @@ fn list_from(chain: &[u8], start: Corner, west: usize, east: usize, out: &mut [i
         if east - west == chain.len() {
             return ends(start, west, east, out);
         }
+    }
+    if chain.len() < SMALL {
+        return list_small(chain, start, west, east, out);
     }
     if east - west < Columns::NARROW {
         return list_narrow(chain, start, west, east, out);

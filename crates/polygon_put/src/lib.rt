@@ -88,19 +88,19 @@ fn bent(a: u8, d: u8) -> bool
     a != d
 }
 
-fn one_if(b: bool) -> usize
+fn one_if(b: bool) -> u16
     ensures { λ r. ⌜ r ≡ tally b ⌝ }
 {
     if b { 1 } else { 0 }
 }
 
-// How many later corners of the chain have a turn that is not 0.
+// How many later corners of the chain have a turn that is not 0. They are counted in 16 bits, so that the compiler counts eight at once.
 pub fn count(chain: &[u8]) -> usize
     requires { ⌜ Below 4 (now chain) × (length (now chain) ≤ mostSteps) ⌝ }
     ensures { λ r. ⌜ r ≡ turning (now (chain .entry)) ⌝ }
 {
     let mut last = first(chain);
-    let mut k = 0;
+    let mut k: u16 = 0;
     let mut i = 0;
     while i < chain.len() {
         let d = chain[i];
@@ -108,7 +108,7 @@ pub fn count(chain: &[u8]) -> usize
         last = d;
         i += 1;
     }
-    k
+    k as usize
 }
 
 // Writes c as point k of buf if it is a bend, and answers how many points there are then.

@@ -36,6 +36,9 @@ pub fn judge(start: Corner, chain: &[u8]) -> Result<(), Refusal> {
 /// The hull corners of the walk of good steps, counterclockwise from the lowest of the leftmost.
 pub fn hull_list(start: Corner, chain: &[u8]) -> Vec<Corner> {
     let (west, east) = extent(chain);
+    if chain.len() < 32 {
+        return list(start, chain, west, east, [BLANK; 32], [BLANK; 32]);
+    }
     match east - west {
         0..256 => list(start, chain, west, east, [BLANK; 256], [BLANK; 256]),
         256..2_048 => list(start, chain, west, east, [BLANK; 2_048], [BLANK; 2_048]),

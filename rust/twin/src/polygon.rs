@@ -91,7 +91,11 @@ fn scattered<const N: usize, const M: usize>(
 
 /// Writes the polygon, if the buffer is long enough.
 fn write(start: Corner, chain: &[u8], out: &mut [u8]) -> Option<usize> {
-    let count = chain.windows(2).filter(|two| two[0] != two[1]).count() + 2;
+    let bends: u16 = chain
+        .windows(2)
+        .map(|two| u16::from(two[0] != two[1]))
+        .sum();
+    let count = usize::from(bends) + 2;
     let bytes = 13 + 16 * count;
     let (header, points) = out.get_mut(..bytes)?.split_at_mut(13);
     header[..9].copy_from_slice(b"\x01\x03\x00\x00\x00\x01\x00\x00\x00");

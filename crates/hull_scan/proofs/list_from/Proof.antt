@@ -2,7 +2,7 @@
 -- Assumes nothing.
 use borrow.Author.Needs.{needs}
 use native.Mathlib.Omega.{arith}
-use Rattle.hull_scan.proofs.ListLaws.{walked-order, walked-top, row-hulled}
+use Rattle.hull_scan.proofs.ListLaws.{walked-order, walked-across, walked-top, row-hulled}
 use Rattle.hull_scan.proofs.list_from.Statement.{statement}
 use Rattle.hull_scan.proofs.list_from.Tie as tie
 
@@ -16,8 +16,12 @@ returns c =
     let at-start = c .before .before .before .before .before .before in
     row-hulled (at-start .pre .0) (omega arith) (omega arith) (c .before .ends .ensures)
 
-sub-if3 : tie.Need-sub-if3
-sub-if3 c = walked-order (c .before .before .pre .0)
+-- so few steps go through so few columns
+list-small-requires : tie.Need-list-small-requires
+list-small-requires c κs = let s = c .before .before .before .before in (s .pre .0, s .pre .1, omega (arith, walked-across (s .pre .0)))
+
+sub-if4 : tie.Need-sub-if4
+sub-if4 c = walked-order (c .before .before .before .pre .0)
 
 -- a narrow walk fits the narrow store
 list-narrow-requires : tie.Need-list-narrow-requires
@@ -31,7 +35,10 @@ list-from-spec =
     ends-requires
     (λ c. search needs)
     returns
-    sub-if3
+    list-small-requires
+    (λ c. search needs)
+    (λ c. search needs)
+    sub-if4
     list-narrow-requires
     (λ c. search needs)
     (λ c. search needs)

@@ -1,0 +1,23 @@
+-- `hull_scan::list_small` meets its contract.
+-- Assumes nothing.
+use borrow.Author.Needs.{needs}
+use native.Mathlib.Omega.{arith}
+use Rattle.hull_scan.specs.Store.{smallSize}
+use Rattle.hull_scan.proofs.ListLaws.{stored}
+use Rattle.hull_scan.proofs.list_small.Statement.{statement}
+use Rattle.hull_scan.proofs.list_small.Tie as tie
+
+list-in-requires : tie.Need-list-in-requires
+list-in-requires c κs = let s = c .before .before .before .before .before .before in (s .pre .0, s .pre .1, stored smallSize (s .pre .2) (omega arith))
+
+pub list-small-spec : {M : Type 1} → statement M
+list-small-spec =
+    tie.close
+    (tie.spec
+    (λ c. search needs)
+    (λ c. search needs)
+    (λ c. search needs)
+    (λ c. search needs)
+    list-in-requires
+    (λ c. search needs)
+    (λ c. search needs))
