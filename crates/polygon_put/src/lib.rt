@@ -94,7 +94,8 @@ fn one_if(b: bool) -> u16
     if b { 1 } else { 0 }
 }
 
-// How many later corners of the chain have a turn that is not 0. They are counted in 16 bits, so that the compiler counts eight at once.
+// How many later corners of the chain have a turn that is not 0. They are counted in 16 bits, so that the compiler counts eight
+// at once.
 pub fn count(chain: &[u8]) -> usize
     requires { ⌜ Below 4 (now chain) × (length (now chain) ≤ mostSteps) ⌝ }
     ensures { λ r. ⌜ r ≡ turning (now (chain .entry)) ⌝ }

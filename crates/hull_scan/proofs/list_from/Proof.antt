@@ -18,10 +18,14 @@ returns c =
 
 -- so few steps go through so few columns
 list-small-requires : tie.Need-list-small-requires
-list-small-requires c κs = let s = c .before .before .before .before in (s .pre .0, s .pre .1, omega (arith, walked-across (s .pre .0)))
+list-small-requires c κs =
+    let at-start = c .before .before .before .before in
+    (at-start .pre .0, at-start .pre .1, omega (arith, walked-across (at-start .pre .0)))
 
 sub-if4 : tie.Need-sub-if4
-sub-if4 c = walked-order (c .before .before .before .pre .0)
+sub-if4 c =
+    let at-start = c .before .before .before in
+    walked-order (at-start .pre .0)
 
 -- a narrow walk fits the narrow store
 list-narrow-requires : tie.Need-list-narrow-requires
