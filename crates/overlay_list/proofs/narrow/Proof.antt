@@ -43,7 +43,7 @@ loop-again c =
     let l = at-loop .loop in
     let s = at-start .pre .0 .small (l .k) (omega arith) in
     let v = c .short in
-    (omega arith, length-set (l .out) (l .k) _ ∙ l .inv .1, copied-step (at-start .args .list .now) (l .out) (l .k) _ (omega (arith, l .inv .1, at-start .pre .1)) (toZ-ofZ (sfits-of {w = w16} {at-start = v .result} (v .ok)) ∙ v .ensures ∙ long-back (getD (at-start .args .list .now) (l .k) (pos 0)) (omega (arith, s))) (l .inv .2))
+    (omega arith, length-set (l .out) (l .k) _ ∙ l .inv .1, copied-step (at-start .args .list .now) (l .out) (l .k) _ (omega (arith, l .inv .1, at-start .pre .1)) (toZ-ofZ (sfits-of {w = w16} {z = v .result} (v .ok)) ∙ v .ensures ∙ long-back (getD (at-start .args .list .now) (l .k) (pos 0)) (omega (arith, s))) (l .inv .2))
 
 same-length : tie.Need-same-length Inv-loop μ-loop
 same-length c = c .before .loop .inv .1

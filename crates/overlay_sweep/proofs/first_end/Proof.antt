@@ -36,7 +36,7 @@ column : (c : tie.After-wider2) → c .before .before .before .before .before .a
 column c l =
     let at-start = c .before .before .before .before .before in
     let s = at-start .pre .small (3 * (at-start .args .i / 2) + 1 + at-start .args .i % 2) (omega (arith, at-start .pre .even)) in
-    toZ-ofZ (sfits-of {w = w32} {at-start = c .wider2 .result} (c .wider2 .ok)) ∙ c .wider2 .ensures
+    toZ-ofZ (sfits-of {w = w32} {z = c .wider2 .result} (c .wider2 .ok)) ∙ c .wider2 .ensures
     ∙ short-back (getD (at-start .args .list .now) (3 * (at-start .args .i / 2) + 1 + at-start .args .i % 2) (pos 0)) s
 
 foot-requires : tie.Need-foot-requires
@@ -53,7 +53,7 @@ returns-2 c =
     let t = at-start .pre .small (3 * (at-start .args .i / 2)) (omega (arith, at-start .pre .even)) in
     c .foot .ensures
     ∙ ap₂ (λ (x y : ℤ). corner (x +ℤ pos (at-start .args .i % 2)) y) (column (c .before) h)
-    (toZ-ofZ (sfits-of {w = w32} {at-start = v .result} (v .ok)) ∙ v .ensures
+    (toZ-ofZ (sfits-of {w = w32} {z = v .result} (v .ok)) ∙ v .ensures
     ∙ short-back (getD (at-start .args .list .now) (3 * (at-start .args .i / 2)) (pos 0)) t)
 
 pub first-end-spec : {M : Type 1} → statement M
