@@ -85,13 +85,13 @@ fill-requires c κs =
 
 add-at : tie.Need-add-at Inv-loop μ-loop
 add-at c =
-    let at-distance = c .before .before .before .before .before in let at-loop-test = at-distance .before .before in
-    let at-loop = at-loop-test .before in let at-start = at-loop .before .before .before in
-    let at = at-loop .loop in
-    let b = at-distance .before .corner-at in
+    let at-start = c .before .before .before .before .before .before .before .before .before .before .before in
+    let at = c .before .before .before .before .before .before .before .before .loop in
+    let b = c .before .before .before .before .before .before .corner-at in
     let room = chaining-room (at-start .args .little) (at-start .args .points .now) (at-start .args .n) (at-start .args .out .now)
-    (at .out) (at .a) (b .result) (at .at) (at .i) (at-loop-test .loop-test .taken) (b .ensures) (at-start .pre .2) (at .inv) in
-    record { fits = omega (arith, room, at-distance .distance .ensures) }
+    (at .out) (at .a) (b .result) (at .at) (at .i) (c .before .before .before .before .before .before .before .loop-test .taken)
+    (b .ensures) (at-start .pre .2) (at .inv) in
+    record { fits = omega (arith, room, c .before .before .before .before .before .distance .ensures) }
 
 loop-again : tie.Need-loop-again Inv-loop μ-loop
 loop-again c =
