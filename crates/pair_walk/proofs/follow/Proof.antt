@@ -52,18 +52,15 @@ same-length c =
 
 returns-2 : tie.Need-returns-2
 returns-2 c =
-    let at-facts = c .before .before .before .before in let at-w = at-facts .before .before .before .before in
-    let at-go = at-w .before .before .before .before .before .before .before .before .before .before in
-    let at-enum-told = at-go .before .before .before .before .before in let at-input = at-enum-told .before .before in
-    let at-start = at-input .before .before .before .before .before .before in
-    let a = at-start .args in
-    let g = at-go .go in
-    let w = at-w .w .given in
+    let a = c .before .before .before .before .before .before .before .before .before .before .before .before .before .before .before .before .before .before .before .before .before .before .before .before .before .before .before .before .before .before .before .args in
+    let g = c .before .before .before .before .before .before .before .before .before .before .before .before .before .before .before .before .before .before .go in
+    let w = c .before .before .before .before .before .before .before .before .w .given in
     let h = subst (PairRan (length (a .t .now)) (a .start) (a .start2) (a .ops .now) (g .last .1 .1 .1 .0)
     (g .last .1 .1 .1 .1 .0) (g .last .1 .1 .1 .1 .1 .0) (g .last .1 .1 .1 .1 .1 .1 .0)) (w .1) (g .ensures) in
     let k = pair-input-good (a .start) (a .start2) (a .ops .now) (length (a .t .now)) (length (a .marks .now))
-    (length (a .first .now)) (length (a .second .now)) (sym (at-input .input .ensures) ∙ at-enum-told .enum-told .given .1) in
-    let f = at-facts .facts in
+    (length (a .first .now)) (length (a .second .now))
+    (sym (c .before .before .before .before .before .before .before .before .before .before .before .before .before .before .before .before .before .before .before .before .before .before .before .before .before .input .ensures) ∙ c .before .before .before .before .before .before .before .before .before .before .before .before .before .before .before .before .before .before .before .before .before .before .before .enum-told .given .1) in
+    let f = c .before .before .before .before .facts in
     let e = f .ensures (stepsBy 0 (a .ops .now)) (stepsBy 1 (a .ops .now))
     (over-first (g .last .1 .1 .1 .0) (g .last .1 .1 .1 .1 .1 .0) (g .last .1 .1 .1 .1 .1 .1 .0) (a .start) (a .start2)
     (stepsBy 0 (a .ops .now)) (stepsBy 1 (a .ops .now)) (slotsOf (a .start) (a .start2) (a .ops .now)) (w .0 .0 .first) (w .0 .0 .second) (w .0 .0 .stock) (h .0)) (over-second (g .last .1 .1 .1 .0) (g .last .1 .1 .1 .1 .1 .0) (g .last .1 .1 .1 .1 .1 .1 .0) (a .start) (a .start2) (stepsBy 0 (a .ops .now)) (stepsBy 1 (a .ops .now)) (slotsOf (a .start) (a .start2) (a .ops .now)) (w .0 .0 .first) (w .0 .0 .second) (w .0 .0 .stock) (h .0)) in
@@ -72,29 +69,24 @@ returns-2 c =
     let n : length (g .last .1 .1 .1 .1 .1 .1 .0) ≡ length (a .second .now) = search needs in
     pair-all (a .start) (a .start2) (a .ops .now)
     (record { table = a .t .now; marks = a .marks .now; first = a .first .now; second = a .second .now })
-    (sym (at-enum-told .enum-told .given .1) ∙ at-input .input .ensures)
+    (sym (c .before .before .before .before .before .before .before .before .before .before .before .before .before .before .before .before .before .before .before .before .before .before .before .enum-told .given .1) ∙ c .before .before .before .before .before .before .before .before .before .before .before .before .before .before .before .before .before .before .before .before .before .before .before .before .before .input .ensures)
     (g .last .1 .1 .1 .0) (g .last .1 .1 .1 .1 .0) (g .last .1 .1 .1 .1 .1 .0) (g .last .1 .1 .1 .1 .1 .1 .0) (w .0 .0) h l
     (m ∙ k .first) (n ∙ k .second)
     (f .result) (e .0) (record { table = g .last .1 .1 .1 .0; marks = g .last .1 .1 .1 .1 .0; first = f .last .1 .1 .0; second = f .last .1 .1 .1 .0 }) refl refl (e .1) (e .2)
 
 returns-3 : tie.Need-returns-3
 returns-3 c =
-    let at-clear = c .before .before .before .before .before .before .before .before in
-    let at-i = at-clear .before .before .before .before .before .before in
-    let at-go = at-i .before .before .before .before .before .before .before .before .before .before in
-    let at-enum-told = at-go .before .before .before .before .before in let at-input = at-enum-told .before .before in
-    let at-start = at-input .before .before .before .before .before .before in
-    let a = at-start .args in
-    let g = at-go .go in
-    let i = at-i .i .given in
-    let z = at-clear .clear in
+    let a = c .before .before .before .before .before .before .before .before .before .before .before .before .before .before .before .before .before .before .before .before .before .before .before .before .before .before .before .before .before .before .before .before .before .before .before .before .before .args in
+    let g = c .before .before .before .before .before .before .before .before .before .before .before .before .before .before .before .before .before .before .before .before .before .before .before .before .go in
+    let i = c .before .before .before .before .before .before .before .before .before .before .before .before .before .before .i .given in
+    let z = c .before .before .before .before .before .before .before .before .clear in
     let l : length (g .last .1 .1 .1 .0) ≡ length (a .t .now) = search needs in
     let k : length (g .last .1 .1 .1 .1 .0) ≡ length (a .marks .now) = search needs in
     let m : length (g .last .1 .1 .1 .1 .1 .0) ≡ length (a .first .now) = search needs in
     let n : length (g .last .1 .1 .1 .1 .1 .1 .0) ≡ length (a .second .now) = search needs in
     pair-full (a .start) (a .start2) (a .ops .now)
     (record { table = a .t .now; marks = a .marks .now; first = a .first .now; second = a .second .now })
-    (sym (at-enum-told .enum-told .given .1) ∙ at-input .input .ensures)
+    (sym (c .before .before .before .before .before .before .before .before .before .before .before .before .before .before .before .before .before .before .before .before .before .before .before .before .before .before .before .before .before .enum-told .given .1) ∙ c .before .before .before .before .before .before .before .before .before .before .before .before .before .before .before .before .before .before .before .before .before .before .before .before .before .before .before .before .before .before .before .input .ensures)
     (g .last .1 .1 .1 .0) (g .last .1 .1 .1 .1 .0) (g .last .1 .1 .1 .1 .1 .0) (g .last .1 .1 .1 .1 .1 .1 .0) (i .0 .0)
     (subst (PairRan (length (a .t .now)) (a .start) (a .start2) (a .ops .now) (g .last .1 .1 .1 .0) (g .last .1 .1 .1 .1 .0)
     (g .last .1 .1 .1 .1 .1 .0) (g .last .1 .1 .1 .1 .1 .1 .0)) (i .1) (g .ensures))
