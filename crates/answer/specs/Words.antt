@@ -8,7 +8,8 @@ abbrev pub bitsOf : ℤ → ℕ
 bitsOf (pos n) = n
 bitsOf (negsuc n) = 2 ^ 32 - (n + 1)
 
--- an accepted walk: 0, 0, verdict, n, nodes, different corners, j, k, area, x and y of the last corner, the signed ones in two's complement
+-- an accepted walk: 0, 0, verdict, n, nodes, different corners, j, k, area, x and y of the last corner, the signed ones in two's
+-- complement
 abbrev pub factsWords : Facts → List ℕ
 factsWords f =
     0 ∷ 0 ∷ verdictNumber (f .verdict) ∷ f .steps ∷ f .nodes ∷ f .corners ∷ f .j ∷ f .k

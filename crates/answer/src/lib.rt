@@ -1,5 +1,5 @@
-// What the calls answer, the numbers of refusals and verdicts (no other function tells one refusal from another), and where a walk may
-// start.
+// What the calls answer, the numbers of refusals and verdicts (no other function tells one refusal from another), and where a
+// walk may start.
 use grid::Corner;
 ghost use mathlib.Core.Path.{_≡_};
 ghost use Prim.Native.Nat.{_<_};

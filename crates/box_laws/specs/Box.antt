@@ -1,5 +1,5 @@
--- The box of a walk: all columns and heights between the least and the greatest of its corners. Columns and heights are counted so
--- that the walk's start stands in the middle of both. A corner's place in the box counts row after row.
+-- The box of a walk: all columns and heights between the least and the greatest of its corners. Columns and heights are counted
+-- so that the walk's start stands in the middle of both. A corner's place in the box counts row after row.
 -- Assumes nothing.
 use mathlib.Core.Path.{_≡_}
 use mathlib.Core.List.{List, [], _∷_}

@@ -9,7 +9,8 @@ ghost use Rattle.column_laws.specs.Columns.{middle};
 ghost use Rattle.box_laws.specs.Box.{Boxable, Reached, Framed};
 ghost use Rattle.box_walk.specs.Boxed.{Boxed};
 
-// How many columns and how many rows of corners the box has, the place of the walk's start in it, and whether the walk ends there.
+// How many columns and how many rows of corners the box has, the place of the walk's start in it, and whether the walk ends
+// there.
 pub struct WalkBox {
     pub width: usize,
     pub height: usize,

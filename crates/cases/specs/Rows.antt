@@ -90,7 +90,8 @@ rows =
     ∷ row (0 ∷ 1 ∷ 2 ∷ 3 ∷ []) (verdictIs 2 ∷ meetingIs (meet 0 4) ∷ areaIs (pos 1) ∷ [])
     ∷ row (3 ∷ 2 ∷ 1 ∷ 0 ∷ []) (verdictIs 2 ∷ areaIs (negsuc 0) ∷ [])
     ∷ row (0 ∷ 2 ∷ []) (verdictIs 5 ∷ meetingIs (meet 0 2) ∷ areaIs (pos 0) ∷ [])
-    ∷ row (0 ∷ 2 ∷ 2 ∷ []) (verdictIs 3 ∷ meetingIs (meet 0 2) ∷ nodesAre 3 ∷ hullIs (corner (negsuc 0) (pos 0) ∷ at 1 0 ∷ []) ∷ [])
+    ∷ row (0 ∷ 2 ∷ 2 ∷ [])
+    (verdictIs 3 ∷ meetingIs (meet 0 2) ∷ nodesAre 3 ∷ hullIs (corner (negsuc 0) (pos 0) ∷ at 1 0 ∷ []) ∷ [])
     ∷ row (0 ∷ 1 ∷ 2 ∷ 2 ∷ 3 ∷ []) (verdictIs 1 ∷ nodesAre 6 ∷ nodeIs 2 (at 1 1) ∷ nodeIs 4 (corner (negsuc 0) (pos 1)) ∷ [])
     ∷ row (2 ∷ 2 ∷ 2 ∷ 2 ∷ []) (nodesAre 5 ∷ [])
     ∷ row (0 ∷ 0 ∷ 1 ∷ 1 ∷ [])
@@ -98,8 +99,10 @@ rows =
     ∷ nodeIs 4 (at 1 1) ∷ visitsAre (at 1 1) 0 ∷ linkIs (at 1 0) 1 4
     ∷ recordIs 6 4 (1 ∷ 0 ∷ 0 ∷ 0 ∷ 0 ∷ 6 ∷ 0 ∷ 0 ∷ 0 ∷ 0 ∷ 0 ∷ 0 ∷ 0 ∷ 2 ∷ 0 ∷ 0 ∷ 0 ∷ 4 ∷ 0 ∷ 4 ∷ 0 ∷ 0 ∷ 0 ∷ 0 ∷ 0 ∷ [])
     ∷ judgedAs 5 7 3 ∷ judgedAs 6 0 0 ∷ [])
-    ∷ row (0 ∷ 0 ∷ 4 ∷ 1 ∷ 2 ∷ 3 ∷ []) (marksAre (2 ∷ 1 ∷ 2 ∷ 3 ∷ 1 ∷ 2 ∷ 2 ∷ 1 ∷ 2 ∷ 3 ∷ 1 ∷ 3 ∷ 4 ∷ 1 ∷ 3 ∷ 4 ∷ 2 ∷ 2 ∷ []) ∷ [])
-    ∷ row (0 ∷ 2 ∷ 0 ∷ 4 ∷ []) (marksAre (2 ∷ 1 ∷ 2 ∷ 2 ∷ 2 ∷ 2 ∷ 2 ∷ 2 ∷ 2 ∷ 2 ∷ 2 ∷ 2 ∷ []) ∷ survive (0 ∷ 2 ∷ []) ∷ verdictIs 5 ∷ linkIs origin 0 1 ∷ [])
+    ∷ row (0 ∷ 0 ∷ 4 ∷ 1 ∷ 2 ∷ 3 ∷ [])
+    (marksAre (2 ∷ 1 ∷ 2 ∷ 3 ∷ 1 ∷ 2 ∷ 2 ∷ 1 ∷ 2 ∷ 3 ∷ 1 ∷ 3 ∷ 4 ∷ 1 ∷ 3 ∷ 4 ∷ 2 ∷ 2 ∷ []) ∷ [])
+    ∷ row (0 ∷ 2 ∷ 0 ∷ 4 ∷ []) (marksAre (2 ∷ 1 ∷ 2 ∷ 2 ∷ 2 ∷ 2 ∷ 2 ∷ 2 ∷ 2 ∷ 2 ∷ 2 ∷ 2 ∷ []) ∷ survive (0 ∷ 2 ∷ []) ∷ verdictIs 5
+    ∷ linkIs origin 0 1 ∷ [])
     ∷ row (0 ∷ 0 ∷ 1 ∷ 1 ∷ 0 ∷ 0 ∷ 3 ∷ 2 ∷ 2 ∷ 2 ∷ 2 ∷ 3 ∷ [])
     (verdictIs 4 ∷ meetingIs (meet 3 9) ∷ nodesAre 11
     ∷ hullIs (at 0 0 ∷ at 2 0 ∷ at 4 1 ∷ at 4 2 ∷ at 2 2 ∷ at 0 1 ∷ [])

@@ -7,8 +7,8 @@ use Rattle.answer.specs.Listed.{countedOf}
 use Rattle.room.specs.Room.{asRoomJudged}
 use Rattle.convex.specs.Parts.{turnedBy, clockwise, Split}
 
--- the grid point q lies off the part with corners P, above it, and not above its upper convex hull: it is on or below the straight line between two
--- corners of P, one left of q and one right of it
+-- the grid point q lies off the part with corners P, above it, and not above its upper convex hull: it is on or below the
+-- straight line between two corners of P, one left of q and one right of it
 pub record Between (P : List Corner) (q : Corner) : Type 0 where
   pub a : Corner
   pub b : Corner
@@ -19,7 +19,8 @@ pub record Between (P : List Corner) (q : Corner) : Type 0 where
   pub under : cross a b q ≤ℤ pos 0
   pub above : (p : Corner) → List·Memᴰ p P → p .0 ≡ q .0 → p .1 <ℤ q .1
 
--- a part, turned back to the first, uses only the letters 0 and 1, and no grid point off it lies between it and its upper convex hull
+-- a part, turned back to the first, uses only the letters 0 and 1, and no grid point off it lies between it and its upper convex
+-- hull
 pub record ConvexPart (w : List ℕ) : Type 0 where
   pub letters : Below 2 w
   pub none : (q : Corner) → Between (cornersFrom origin w) q → ⊥

@@ -29,8 +29,8 @@ HighestRight a b = (b .0 <ℤ a .0) ⊎ ((a .0 ≡ b .0) × (b .1 ≤ℤ a .1))
 abbrev pub RightmostBottom : Corner → Corner → Type 0
 RightmostBottom a b = (a .1 <ℤ b .1) ⊎ ((a .1 ≡ b .1) × (b .0 ≤ℤ a .0))
 
--- a comes before b, or is b, in the order of extremal corner i: 0 for the lowest on the left, 1 for the leftmost on top, 2 for the highest on the
--- right, 3 for the rightmost at the bottom
+-- a comes before b, or is b, in the order of extremal corner i: 0 for the lowest on the left, 1 for the leftmost on top, 2 for
+-- the highest on the right, 3 for the rightmost at the bottom
 abbrev pub ComesFirst : ℕ → Corner → Corner → Type 0
 ComesFirst zero a b = LowestLeft a b
 ComesFirst (suc zero) a b = LeftmostTop a b
@@ -41,7 +41,8 @@ ComesFirst (suc (suc (suc i))) a b = RightmostBottom a b
 abbrev pub Extremal : (Corner → Corner → Type 0) → Corner → List ℕ → Corner → Type 0
 Extremal R c ds q = (p : Corner) → List·Memᴰ p (cornersFrom c ds) → R q p
 
--- w is part i, 0 to 3, of the closed walk of ds from c, said by itself: the steps from extremal corner i round to the next, and less than all of them
+-- w is part i, 0 to 3, of the closed walk of ds from c, said by itself: the steps from extremal corner i round to the next, and
+-- less than all of them
 pub record PartIs (i : ℕ) (c : Corner) (ds w : List ℕ) : Type 0 where
   pub before : List ℕ
   pub after : List ℕ
@@ -52,8 +53,8 @@ pub record PartIs (i : ℕ) (c : Corner) (ds w : List ℕ) : Type 0 where
   pub begins : Extremal (ComesFirst i) c ds (endFrom c before)
   pub ends : Extremal (ComesFirst ((i + 1) % 4)) c ds (endFrom c (before ++ w))
 
--- the steps of a room travelled clockwise from c, cut into four parts: from the lowest corner on the left to the leftmost on top, the highest on
--- the right, the rightmost at the bottom, and back
+-- the steps of a room travelled clockwise from c, cut into four parts: from the lowest corner on the left to the leftmost on top,
+-- the highest on the right, the rightmost at the bottom, and back
 pub record Split (c : Corner) (ds one two three four : List ℕ) : Type 0 where
   pub before : List ℕ
   pub after : List ℕ

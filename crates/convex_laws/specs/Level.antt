@@ -1,5 +1,6 @@
--- The decision on a part by its columns. A part over the letters 0 and 1 is drawn upside down: each column has the depth, below some line
--- above the part, of its highest corner. The part is convex when no column's next higher grid point reaches the chain over the depths.
+-- The decision on a part by its columns. A part over the letters 0 and 1 is drawn upside down: each column has the depth, below
+-- some line above the part, of its highest corner. The part is convex when no column's next higher grid point reaches the chain
+-- over the depths.
 -- Assumes nothing.
 use mathlib.Core.Bool.{Bool, true, _&&_}
 use mathlib.Core.List.{List, [], _∷_}

@@ -9,7 +9,8 @@ ghost use Rattle.convex.specs.Parts.{turnedBy};
 ghost use Rattle.convex_laws.specs.Level.{depthsFrom, areLetters, level, levels, levelAlong, levelOf, convexPart};
 ghost use Rattle.convex_part.specs.Steps.{over, under, Rises, Digits};
 
-// Whether one step above depth c, w columns right of p, lies above the straight line from depth p to depth b, u columns right of it.
+// Whether one step above depth c, w columns right of p, lies above the straight line from depth p to depth b, u columns right of
+// it.
 fn above(u: usize, w: usize, p: u16, b: u16, c: u16) -> bool
     requires { ⌜ (u < 65536) × (w < 65536) ⌝ }
     ensures { λ r. ⌜ r ≡ ltb (u * c + w * p) (w * b + u * p + u) ⌝ }
@@ -100,7 +101,8 @@ fn depth(y: u16, d: u8) -> u16
 // Writes the depths of the columns of a part, turned, and answers how many columns it has.
 fn dig(part: &[u8], turn: u8, ys: &mut [u16]) -> usize
     requires { ⌜ Digits (now part) × (turn < 4) × (length (now part) < length (now ys)) × (length (now ys) ≤ 65536) ⌝ }
-    ensures { λ r. ⌜ (take r (now (ys .exit)) ≡ depthsFrom (length (now (part .entry))) (turnedBy turn (now (part .entry)))) × (r ≤ length (now (part .entry)) + 1) ⌝ }
+    ensures { λ r. ⌜ (take r (now (ys .exit)) ≡ depthsFrom (length (now (part .entry))) (turnedBy turn (now (part .entry))))
+        × (r ≤ length (now (part .entry)) + 1) ⌝ }
 {
     let mut y = part.len() as u16;
     let mut k = 0;
@@ -127,7 +129,8 @@ fn columns(ys: &[u16], s: &mut [u16]) -> bool
 
 // Whether a part, turned back to the first, is convex. The working store is lent.
 pub fn judge(part: &[u8], turn: u8, ys: &mut [u16], s: &mut [u16]) -> bool
-    requires { ⌜ Digits (now part) × (turn < 4) × (length (now part) < length (now ys)) × (length (now part) < length (now s)) × (length (now ys) ≤ 65536) ⌝ }
+    requires { ⌜ Digits (now part) × (turn < 4) × (length (now part) < length (now ys)) × (length (now part) < length (now s))
+        × (length (now ys) ≤ 65536) ⌝ }
     ensures { λ r. ⌜ r ≡ convexPart (turnedBy turn (now (part .entry))) ⌝ }
 {
     if !plain(part, turn) {

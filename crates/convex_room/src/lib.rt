@@ -1,5 +1,5 @@
-// Whether a room is convex: it is travelled clockwise from its lowest corner on the left, cut at the other three extremal corners, and
-// each part is judged.
+// Whether a room is convex: it is travelled clockwise from its lowest corner on the left, cut at the other three extremal
+// corners, and each part is judged.
 use answer::Counted;
 use answer::Judged;
 use answer::Limits;
@@ -48,7 +48,8 @@ fn step_at(chain: &[u8], back: bool, i: usize) -> u8
 // Lays the chain, or the chain backwards, down twice.
 fn lay(chain: &[u8], back: bool, out: &mut [u8])
     requires { ⌜ Digits (now chain) × (2 * length (now chain) ≤ length (now out)) ⌝ }
-    ensures { λ _. ⌜ LaidTwice (travelled back (now (chain .entry))) (length (now (chain .entry))) (now (out .exit)) (length (now (chain .entry))) ⌝ }
+    ensures { λ _. ⌜ LaidTwice (travelled back (now (chain .entry))) (length (now (chain .entry))) (now (out .exit))
+        (length (now (chain .entry))) ⌝ }
 {
     let n = chain.len();
     let mut i = 0;
@@ -62,16 +63,20 @@ fn lay(chain: &[u8], back: bool, out: &mut [u8])
 
 // Whether the part from place j to place k, turned back to the first, is convex. The working store is lent.
 fn part(room: &[u8], j: usize, k: usize, turn: u8, ys: &mut [u16], s: &mut [u16]) -> bool
-    requires { ⌜ Digits (now room) × (j ≤ k) × (k ≤ length (now room)) × (turn < 4) × (length (now room) < length (now ys)) × (length (now room) < length (now s)) × (length (now ys) ≤ 65536) ⌝ }
+    requires { ⌜ Digits (now room) × (j ≤ k) × (k ≤ length (now room)) × (turn < 4) × (length (now room) < length (now ys))
+        × (length (now room) < length (now s)) × (length (now ys) ≤ 65536) ⌝ }
     ensures { λ r. ⌜ r ≡ convexPart (turnedBy turn (take (k - j) (drop j (now (room .entry))))) ⌝ }
 {
     judge(&room[j..k], turn, ys, s)
 }
 
-// Whether the part from place i to place j and the next one to place k are both convex, turned back to the first. The working store is lent.
+// Whether the part from place i to place j and the next one to place k are both convex, turned back to the first. The working
+// store is lent.
 fn half(room: &[u8], i: usize, j: usize, k: usize, turn: u8, ys: &mut [u16], s: &mut [u16]) -> bool
-    requires { ⌜ Digits (now room) × (i ≤ j) × (j ≤ k) × (k ≤ length (now room)) × (turn < 3) × (length (now room) < length (now ys)) × (length (now room) < length (now s)) × (length (now ys) ≤ 65536) ⌝ }
-    ensures { λ r. ⌜ r ≡ (convexPart (turnedBy turn (take (j - i) (drop i (now (room .entry))))) && convexPart (turnedBy (turn + 1) (take (k - j) (drop j (now (room .entry)))))) ⌝ }
+    requires { ⌜ Digits (now room) × (i ≤ j) × (j ≤ k) × (k ≤ length (now room)) × (turn < 3)
+        × (length (now room) < length (now ys)) × (length (now room) < length (now s)) × (length (now ys) ≤ 65536) ⌝ }
+    ensures { λ r. ⌜ r ≡ (convexPart (turnedBy turn (take (j - i) (drop i (now (room .entry)))))
+        && convexPart (turnedBy (turn + 1) (take (k - j) (drop j (now (room .entry)))))) ⌝ }
 {
     if !part(room, i, j, turn, ys, s) {
         return false;
@@ -79,9 +84,11 @@ fn half(room: &[u8], i: usize, j: usize, k: usize, turn: u8, ys: &mut [u16], s: 
     part(room, j, k, turn + 1, ys, s)
 }
 
-// Whether a room that begins at its first extremal corner and has the others at places j, k and l is convex. The working store is lent.
+// Whether a room that begins at its first extremal corner and has the others at places j, k and l is convex. The working store is
+// lent.
 fn by_parts(room: &[u8], j: usize, k: usize, l: usize, ys: &mut [u16], s: &mut [u16]) -> bool
-    requires { ⌜ Digits (now room) × (l ≤ length (now room)) × (length (now room) < length (now ys)) × (length (now room) < length (now s)) × (length (now ys) ≤ 65536) ⌝ }
+    requires { ⌜ Digits (now room) × (l ≤ length (now room)) × (length (now room) < length (now ys))
+        × (length (now room) < length (now s)) × (length (now ys) ≤ 65536) ⌝ }
     ensures { λ r. ⌜ r ≡ convexAt j k l (now (room .entry)) ⌝ }
 {
     if k < j {
@@ -98,7 +105,8 @@ fn by_parts(room: &[u8], j: usize, k: usize, l: usize, ys: &mut [u16], s: &mut [
 
 // The same where the places are still to be found.
 fn from_west(room: &[u8], ys: &mut [u16], s: &mut [u16]) -> bool
-    requires { ⌜ Digits (now room) × (length (now room) ≤ middle) × (length (now room) < length (now ys)) × (length (now room) < length (now s)) × (length (now ys) ≤ 65536) ⌝ }
+    requires { ⌜ Digits (now room) × (length (now room) ≤ middle) × (length (now room) < length (now ys))
+        × (length (now room) < length (now s)) × (length (now ys) ≤ 65536) ⌝ }
     ensures { λ r. ⌜ r ≡ convexFrom (now (room .entry)) ⌝ }
 {
     let j = place(room, 1);

@@ -1,5 +1,5 @@
--- What the area means (RULES 1.10), for every closed walk, crossed ones too, of any steps from any start. `sweepFrom` is the sum over the steps of
--- x times the change of y. Each is proved by naming a law. Assumes nothing.
+-- What the area means (RULES 1.10), for every closed walk, crossed ones too, of any steps from any start. `sweepFrom` is the sum
+-- over the steps of x times the change of y. Each is proved by naming a law. Assumes nothing.
 use mathlib.Core.List.{List, map}
 use mathlib.Core.Logic.{_↔_}
 use mathlib.Core.Path.{_≡_}
@@ -16,8 +16,8 @@ use Rattle.area_laws.proofs.AreaLaws as areaLaws
 use Rattle.area_laws.proofs.ImageLaws as imageLaws
 use Rattle.area_laws.proofs.OutlineLaws as outlineLaws
 
--- "the sum of x times the change of y equals the sum over all panels of the bounding box of northward minus southward edges in that panel's row
--- with x above the panel's"
+-- "the sum of x times the change of y equals the sum over all panels of the bounding box of northward minus southward edges in
+-- that panel's row with x above the panel's"
 pub sweep-panels : (c : Corner) (ds : List ℕ) → endFrom c ds ≡ c → sweepFrom c ds ≡ panelSum c ds
 sweep-panels = areaLaws.sweep-panels
 
@@ -30,7 +30,8 @@ pub sweep-turned : (c e : Corner) (ds : List ℕ) → endFrom c ds ≡ c → swe
 sweep-turned = imageLaws.sweep-turned
 
 -- "another starting corner on the same closed outline leaves the sum unchanged": pj for p0
-pub sweep-started : (c : Corner) (ds : List ℕ) (j : ℕ) → endFrom c ds ≡ c → sweepFrom (cornerAt c ds j) (startedAt j ds) ≡ sweepFrom c ds
+pub sweep-started : (c : Corner) (ds : List ℕ) (j : ℕ) → endFrom c ds ≡ c
+    → sweepFrom (cornerAt c ds j) (startedAt j ds) ≡ sweepFrom c ds
 sweep-started = outlineLaws.sweep-started
 
 -- and so does the same outline elsewhere

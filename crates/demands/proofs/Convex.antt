@@ -1,4 +1,5 @@
--- What is asked of the call that tells whether a room is convex (RULES 17), as theorems about its promise, `ConvexCall`. Each is proved by naming a law.
+-- What is asked of the call that tells whether a room is convex (RULES 17), as theorems about its promise, `ConvexCall`. Each is
+-- proved by naming a law.
 -- Assumes nothing.
 use mathlib.Core.List.{List, [], _∷_, map}
 use mathlib.Core.Logic.{_↔_}
@@ -45,25 +46,30 @@ module _ {s : Corner} {ds : List ℕ} {r : Counted} (w : ConvexCall s ds r) wher
   pub convex-no-exactly : r ≡ Counted.Many 0 ↔ (GivenRoom s ds Good × (ConvexRoom s ds → ⊥))
   convex-no-exactly = convexCallLaws.convex-no-when w
 
-  -- "Yes exactly when each part uses only its two letters and no grid point off the part lies between it and the upper convex hull of its points, the
-  -- hull line included": each of the four
-  pub convex-yes-parts : r ≡ Counted.Many 1 ↔ (GivenRoom s ds Good × ((i : ℕ) → i < 4 → (w : List ℕ) → PartIs i s (clockwise s ds) w → ConvexPart (turnedBy i w)))
+  -- "Yes exactly when each part uses only its two letters and no grid point off the part lies between it and the upper convex
+  -- hull of its points, the hull line included": each of the four
+  pub convex-yes-parts : r ≡ Counted.Many 1
+      ↔ (GivenRoom s ds Good × ((i : ℕ) → i < 4 → (w : List ℕ) → PartIs i s (clockwise s ds) w → ConvexPart (turnedBy i w)))
   convex-yes-parts = convexCallLaws.yes-parts-when w
 
   -- and no exactly when some part is not so
-  pub convex-no-part : r ≡ Counted.Many 0 ↔ (GivenRoom s ds Good × ((i : ℕ) × (i < 4) × (w : List ℕ) × PartIs i s (clockwise s ds) w × (ConvexPart (turnedBy i w) → ⊥)))
+  pub convex-no-part : r ≡ Counted.Many 0 ↔ (GivenRoom s ds Good
+      × ((i : ℕ) × (i < 4) × (w : List ℕ) × PartIs i s (clockwise s ds) w × (ConvexPart (turnedBy i w) → ⊥)))
   convex-no-part = convexCallLaws.no-part-when w
 
-  -- in other words: yes exactly if every panel whose centre lies in the convex hull of the centres of the room's panels is one of them
+  -- in other words: yes exactly if every panel whose centre lies in the convex hull of the centres of the room's panels is one of
+  -- them
   pub convex-yes-centres : r ≡ Counted.Many 1 ↔ (GivenRoom s ds Good × ((q : Panel) → InHull (Inside s ds) q → Inside s ds q))
   convex-yes-centres = convexCallLaws.yes-centres-when w
 
   -- and no exactly if not every such panel is
-  pub convex-no-centres : r ≡ Counted.Many 0 ↔ (GivenRoom s ds Good × (((q : Panel) → InHull (Inside s ds) q → Inside s ds q) → ⊥))
+  pub convex-no-centres : r ≡ Counted.Many 0
+      ↔ (GivenRoom s ds Good × (((q : Panel) → InHull (Inside s ds) q → Inside s ds q) → ⊥))
   convex-no-centres = convexCallLaws.no-centres-when w
 
   -- the numbers of each
-  pub convex-refused-words : (q : Refusal) → GivenRoom s ds (Refused q) → countedWords r ≡ refusalNumber q ∷ refusalPlace q ∷ 0 ∷ []
+  pub convex-refused-words : (q : Refusal) → GivenRoom s ds (Refused q)
+      → countedWords r ≡ refusalNumber q ∷ refusalPlace q ∷ 0 ∷ []
   convex-refused-words q g = ap countedWords (convex-refused-exactly q .1 g)
 
   pub convex-yes-words : GivenRoom s ds Good → ConvexRoom s ds → countedWords r ≡ 0 ∷ 0 ∷ 1 ∷ []
@@ -86,11 +92,13 @@ module _ (c : Corner) (ds : List ℕ) (r : IsRoom c ds) where
   partIs-one = splitLaws.part-one c (clockwise c ds) (cycleLaws.clockwise-room c ds r)
 
   -- the room is convex exactly when each of the four is: so convex parts always follow one another, once round
-  pub convex-parts : Below 4 ds → ConvexRoom c ds ↔ ((i : ℕ) → i < 4 → (w : List ℕ) → PartIs i c (clockwise c ds) w → ConvexPart (turnedBy i w))
+  pub convex-parts : Below 4 ds
+      → ConvexRoom c ds ↔ ((i : ℕ) → i < 4 → (w : List ℕ) → PartIs i c (clockwise c ds) w → ConvexPart (turnedBy i w))
   convex-parts b = splitLaws.convex-parts c ds b r
 
 -- a convex room is convex from each of its corners
-pub convex-started : (c : Corner) (ds : List ℕ) (j : ℕ) → endFrom c ds ≡ c → ConvexRoom c ds ↔ ConvexRoom (cornerAt c ds j) (startedAt j ds)
+pub convex-started : (c : Corner) (ds : List ℕ) (j : ℕ) → endFrom c ds ≡ c
+    → ConvexRoom c ds ↔ ConvexRoom (cornerAt c ds j) (startedAt j ds)
 convex-started = travelLaws.convex-started
 
 -- walked the other way

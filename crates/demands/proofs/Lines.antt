@@ -1,4 +1,5 @@
--- What is asked of the programs on lines (RULES 7, 14.6 to 14.8, 20), as theorems about their definitions. Each is proved by naming a law.
+-- What is asked of the programs on lines (RULES 7, 14.6 to 14.8, 20), as theorems about their definitions. Each is proved by
+-- naming a law.
 -- Assumes nothing.
 use mathlib.Core.Path.{_≡_}
 use mathlib.Core.List.{List, [], _∷_, _++_}
@@ -52,7 +53,8 @@ pub line-answers : (s : List ℕ) → (j : Judged) × GivenLine s j
 line-answers = lineCallLaws.line-given
 
 -- each refusal is written exactly on its occasion; a place that has more than eight digits is no place of a line
-pub line-refused-exactly : (s : List ℕ) (q : Refusal) → refusalPlace q < 16 ^ 8 → lineAnswer s ≡ refusedLine q ↔ GivenLine s (Refused q)
+pub line-refused-exactly : (s : List ℕ) (q : Refusal) → refusalPlace q < 16 ^ 8
+    → lineAnswer s ≡ refusedLine q ↔ GivenLine s (Refused q)
 line-refused-exactly s q h = (lineCallLaws.refused-line s q h, λ g. lineCallLaws.line-refused s q g .0)
 
 -- and the facts of the surviving steps with their hull exactly on the occasion of acceptance
@@ -60,11 +62,13 @@ pub line-accepted-exactly : (s os : List ℕ) → FrameIs s 0 os → (L : List C
     → lineAnswer s ≡ factsLine (factsOf origin (survivors os)) ++ hullLine L ↔ GivenLine s Good
 line-accepted-exactly = lineCallLaws.accepted-when
 
--- what is read in a line that is written: its fields give number and place of the refusal, or the facts and the corners of the hull
+-- what is read in a line that is written: its fields give number and place of the refusal, or the facts and the corners of the
+-- hull
 pub line-refused-read : (s : List ℕ) (q : Refusal) → GivenLine s (Refused q) → RefusalRead (lineAnswer s) q
 line-refused-read s q g = lineCallLaws.line-refused s q g .1
 
-pub line-accepted-read : (s os : List ℕ) → FrameIs s 0 os → (L : List Corner) → HullIs (cornersFrom origin (survivors os)) L → GivenLine s Good → AnswerRead (lineAnswer s) (factsOf origin (survivors os)) L
+pub line-accepted-read : (s os : List ℕ) → FrameIs s 0 os → (L : List Corner) → HullIs (cornersFrom origin (survivors os)) L
+    → GivenLine s Good → AnswerRead (lineAnswer s) (factsOf origin (survivors os)) L
 line-accepted-read = lineCallLaws.line-read
 
 -- "each frame gives one line, ended by a line feed": there is none in an answer, and as many lines are written as are read
@@ -84,7 +88,8 @@ pub converted-walked : (s : List ℕ) → Turned s → lineAnswer (convertedLine
 converted-walked = convertedLaws.converted-answer
 
 -- the frame itself: of kind 00, with the same count and the steps of the turns
-pub converted-frame : (s ts : List ℕ) → FrameIs s 1 ts → Below 4 ts → FrameIs (convertedLine s) 0 (stepsOf ts) × (length (stepsOf ts) ≡ length ts)
+pub converted-frame : (s ts : List ℕ) → FrameIs s 1 ts → Below 4 ts
+    → FrameIs (convertedLine s) 0 (stepsOf ts) × (length (stepsOf ts) ≡ length ts)
 converted-frame = lineCallLaws.converted-is
 
 pub turned-frame : (s ts : List ℕ) → FrameIs s 1 ts → Below 4 ts → Turned s
@@ -99,10 +104,12 @@ pub none-left : (s : List ℕ) → Turned (convertedLine s) → ⊥
 none-left = convertedLaws.converted-none
 
 -- whatever is done with the lines of a converted file is done with the lines converted: the line program answers each of these
-pub converted-lines : (told last : List ℕ → List ℕ) (s : List ℕ) → outputFrom told last [] (converter s) ≡ outputFrom (λ l. told (convertedLine l)) (λ l. last (convertedLine l)) [] s
+pub converted-lines : (told last : List ℕ → List ℕ) (s : List ℕ)
+    → outputFrom told last [] (converter s) ≡ outputFrom (λ l. told (convertedLine l)) (λ l. last (convertedLine l)) [] s
 converted-lines = convertedLaws.converter-then
 
-pub converted-answers : (s : List ℕ) → program (converter s) ≡ outputFrom (λ l. answered (convertedLine l)) (λ l. answered (convertedLine l)) [] s
+pub converted-answers : (s : List ℕ)
+    → program (converter s) ≡ outputFrom (λ l. answered (convertedLine l)) (λ l. answered (convertedLine l)) [] s
 converted-answers = convertedLaws.converter-then answered answered
 
 -- a file converted twice is the file converted once
@@ -121,46 +128,60 @@ converted-length = convertedLaws.converter-length
 pub rows-line-answers : (s : List ℕ) → (j : Judged) × GivenLineRoom s j
 rows-line-answers = lineRoomLaws.line-room-given
 
-pub rows-line-refused-exactly : (s : List ℕ) (q : Refusal) → refusalPlace q < 16 ^ 8 → rowsTold s ≡ refusedTold q ↔ GivenLineRoom s (Refused q)
+pub rows-line-refused-exactly : (s : List ℕ) (q : Refusal) → refusalPlace q < 16 ^ 8
+    → rowsTold s ≡ refusedTold q ↔ GivenLineRoom s (Refused q)
 rows-line-refused-exactly s q h = (lineRoomLaws.refused-rows s q h, lineRoomLaws.rows-refused s q)
 
 -- the spans are those of the panels inside the room
-pub rows-line-exactly : (s os : List ℕ) → FrameIs s 0 os → (L : List Span) → RowsIs (Inside origin (survivors os)) L → rowsTold s ≡ spansTold L ↔ GivenLineRoom s Good
+pub rows-line-exactly : (s os : List ℕ) → FrameIs s 0 os → (L : List Span) → RowsIs (Inside origin (survivors os)) L
+    → rowsTold s ≡ spansTold L ↔ GivenLineRoom s Good
 rows-line-exactly = lineRoomLaws.rows-when
 
 -- and row, first and last panel of each are read back, one span a line
-pub rows-line-read : (s os : List ℕ) → FrameIs s 0 os → (L : List Span) → RowsIs (Inside origin (survivors os)) L → GivenLineRoom s Good → SpansRead (rowsTold s) L
+pub rows-line-read : (s os : List ℕ) → FrameIs s 0 os → (L : List Span) → RowsIs (Inside origin (survivors os)) L
+    → GivenLineRoom s Good → SpansRead (rowsTold s) L
 rows-line-read = lineRoomLaws.spans-when
 
-pub rows-line-refused-read : (s : List ℕ) (q : Refusal) → GivenLineRoom s (Refused q) → (l : List ℕ) × (rowsTold s ≡ l ++ (10 ∷ [])) × RefusalRead l q × (feedsIn l ≡ 0)
+pub rows-line-refused-read : (s : List ℕ) (q : Refusal) → GivenLineRoom s (Refused q)
+    → (l : List ℕ) × (rowsTold s ≡ l ++ (10 ∷ [])) × RefusalRead l q × (feedsIn l ≡ 0)
 rows-line-refused-read = lineRoomLaws.rows-refusal
 
 -- ---- the table of polygons
 -- row n has a line's refusal exactly on its occasion, and none exactly if the line is accepted
-pub row-refused-exactly : (s : List ℕ) (n : ℕ) → n < 10 ^ mostDecimals → (q : Refusal) → (numberAt (cellOf n ++ entryOf s) 1 ≡ refusalNumber q) × (numberAt (cellOf n ++ entryOf s) 2 ≡ refusalPlace q) ↔ GivenLine s (Refused q)
+pub row-refused-exactly : (s : List ℕ) (n : ℕ) → n < 10 ^ mostDecimals → (q : Refusal)
+    → (numberAt (cellOf n ++ entryOf s) 1 ≡ refusalNumber q) × (numberAt (cellOf n ++ entryOf s) 2 ≡ refusalPlace q)
+    ↔ GivenLine s (Refused q)
 row-refused-exactly = lineRowLaws.row-refused-exactly
 
-pub row-accepted-exactly : (s : List ℕ) (n : ℕ) → n < 10 ^ mostDecimals → numberAt (cellOf n ++ entryOf s) 1 ≡ 0 ↔ GivenLine s Good
+pub row-accepted-exactly : (s : List ℕ) (n : ℕ) → n < 10 ^ mostDecimals
+    → numberAt (cellOf n ++ entryOf s) 1 ≡ 0 ↔ GivenLine s Good
 row-accepted-exactly = lineRowLaws.row-accepted-exactly
 
 -- what is read in its cells: nothing after the refusal and its place if a line is refused
-pub row-refused-read : (s : List ℕ) (n : ℕ) → n < 10 ^ mostDecimals → (q : Refusal) → GivenLine s (Refused q) → RefusedRow (cellOf n ++ entryOf s) n (refusalNumber q) (refusalPlace q)
+pub row-refused-read : (s : List ℕ) (n : ℕ) → n < 10 ^ mostDecimals → (q : Refusal) → GivenLine s (Refused q)
+    → RefusedRow (cellOf n ++ entryOf s) n (refusalNumber q) (refusalPlace q)
 row-refused-read = lineRowLaws.row-refused
 
 -- otherwise the facts, with the bytes of the polygon of a room, and no byte for a walk that is none
-pub row-room-read : (s : List ℕ) (n : ℕ) → n < 10 ^ mostDecimals → (os : List ℕ) → FrameIs s 0 os → GivenLine s Good → IsRoom origin (survivors os)
+pub row-room-read : (s : List ℕ) (n : ℕ) → n < 10 ^ mostDecimals → (os : List ℕ) → FrameIs s 0 os → GivenLine s Good
+    → IsRoom origin (survivors os)
     → RowRead (cellOf n ++ entryOf s) n 0 0 (factsOf origin (survivors os)) (polygonOf origin (survivors os))
 row-room-read = lineRowLaws.row-room
 
-pub row-other-read : (s : List ℕ) (n : ℕ) → n < 10 ^ mostDecimals → (os : List ℕ) → FrameIs s 0 os → GivenLine s Good → (IsRoom origin (survivors os) → ⊥)
+pub row-other-read : (s : List ℕ) (n : ℕ) → n < 10 ^ mostDecimals → (os : List ℕ) → FrameIs s 0 os → GivenLine s Good
+    → (IsRoom origin (survivors os) → ⊥)
     → RowRead (cellOf n ++ entryOf s) n 0 0 (factsOf origin (survivors os)) []
 row-other-read = lineRowLaws.row-other
 
 -- ---- an input in parts
--- of every program that writes line by line: where the first part of an input ends in a line feed, the output is that of the first part and then that of the second
-pub output-in-parts : (told last : List ℕ → List ℕ) (s t : List ℕ) → outputFrom told last [] (s ++ (10 ∷ t)) ≡ outputFrom told last [] (s ++ (10 ∷ [])) ++ outputFrom told last [] t
+-- of every program that writes line by line: where the first part of an input ends in a line feed, the output is that of the
+-- first part and then that of the second
+pub output-in-parts : (told last : List ℕ → List ℕ) (s t : List ℕ)
+    → outputFrom told last [] (s ++ (10 ∷ t)) ≡ outputFrom told last [] (s ++ (10 ∷ [])) ++ outputFrom told last [] t
 output-in-parts = outputLaws.output-parts
 
--- and so in any number of parts: each may be answered by a run of its own, anywhere, and the outputs put together in order are the output of the whole
-pub output-shared : (told last : List ℕ → List ℕ) (ss : List (List ℕ)) (t : List ℕ) → outputFrom told last [] (endedParts ss ++ t) ≡ outputsOf (outputFrom told last []) ss ++ outputFrom told last [] t
+-- and so in any number of parts: each may be answered by a run of its own, anywhere, and the outputs put together in order are
+-- the output of the whole
+pub output-shared : (told last : List ℕ → List ℕ) (ss : List (List ℕ)) (t : List ℕ)
+    → outputFrom told last [] (endedParts ss ++ t) ≡ outputsOf (outputFrom told last []) ss ++ outputFrom told last [] t
 output-shared = shareLaws.outputs-shared

@@ -1,4 +1,5 @@
--- What is asked of the outer outline of a walk (RULES 15), as theorems about the definition, `OutlineIs`, and about the call's promise, `OutlineCall`. Each is proved by naming a law.
+-- What is asked of the outer outline of a walk (RULES 15), as theorems about the definition, `OutlineIs`, and about the call's
+-- promise, `OutlineCall`. Each is proved by naming a law.
 -- Assumes nothing.
 use mathlib.Core.Bool.{true}
 use mathlib.Core.List.{List, [], _∷_, _++_, List·Memᴰ}
@@ -63,7 +64,8 @@ module _ {s : Corner} {ds es : List ℕ} (o : OutlineIs s ds es) where
   outline-digits = outlineLaws.outline-below o
 
   -- each of its steps goes along an edge that was walked, in that sense or in the other
-  pub outline-walked : (p q : Corner) → List·Memᴰ (p, q) (legsFrom (homeOf s ds) es) → List·Memᴰ (p, q) (legsFrom s ds) ⊎ List·Memᴰ (q, p) (legsFrom s ds)
+  pub outline-walked : (p q : Corner) → List·Memᴰ (p, q) (legsFrom (homeOf s ds) es)
+      → List·Memᴰ (p, q) (legsFrom s ds) ⊎ List·Memᴰ (q, p) (legsFrom s ds)
   outline-walked = fewLaws.outline-walked o
 
   -- no edge is used twice in one sense
@@ -78,21 +80,27 @@ module _ {s : Corner} {ds es : List ℕ} (o : OutlineIs s ds es) where
   pub outline-outside : EachStep (λ d q. Outside s ds (rightOf d q)) (homeOf s ds) es
   outline-outside = outsideLaws.outline-outside o
 
-  -- "the outside edge", and the whole of it: the outline passes an edge in a direction exactly if the edge was walked and the panel on its right lies
-  -- outside; by `outline-once` it does so once
-  pub outline-whole : (p : Corner) (d : ℕ) → d < 4 → List·Memᴰ (p, stepped d p) (legsFrom (homeOf s ds) es) ↔ ((walked s ds p d ≡ true) × Outside s ds (rightOf d p))
+  -- "the outside edge", and the whole of it: the outline passes an edge in a direction exactly if the edge was walked and the
+  -- panel on its right lies outside; by `outline-once` it does so once
+  pub outline-whole : (p : Corner) (d : ℕ) → d < 4
+      → List·Memᴰ (p, stepped d p) (legsFrom (homeOf s ds) es) ↔ ((walked s ds p d ≡ true) × Outside s ds (rightOf d p))
   outline-whole = wholeLaws.outline-whole o
 
   -- a panel lies outside the walk exactly if it is not inside the outline
   pub outside-exactly : (p : Panel) → Outside s ds p ↔ (Inside (homeOf s ds) es p → ⊥)
   outside-exactly = wholeLaws.outside-exactly o
 
-  -- what lies inside does not count: a walk along all edges of the outline, and along none that the first walk did not have, has the same outline
-  pub outline-between : (s′ : Corner) (ds′ : List ℕ) → 0 < length ds → ((p : Corner) (d : ℕ) → walked (homeOf s ds) es p d ≡ true → walked s′ ds′ p d ≡ true) → ((p : Corner) (d : ℕ) → walked s′ ds′ p d ≡ true → walked s ds p d ≡ true) → OutlineIs s′ ds′ es
+  -- what lies inside does not count: a walk along all edges of the outline, and along none that the first walk did not have, has
+  -- the same outline
+  pub outline-between : (s′ : Corner) (ds′ : List ℕ) → 0 < length ds
+      → ((p : Corner) (d : ℕ) → walked (homeOf s ds) es p d ≡ true → walked s′ ds′ p d ≡ true)
+      → ((p : Corner) (d : ℕ) → walked s′ ds′ p d ≡ true → walked s ds p d ≡ true) → OutlineIs s′ ds′ es
   outline-between s′ ds′ = betweenLaws.outline-between s′ ds′ o
 
   -- so the walked edges alone decide: not where a walk starts, nor in which order and how often it uses them
-  pub outline-same : (s′ : Corner) (ds′ : List ℕ) → 0 < length ds → ((p : Corner) (d : ℕ) → walked s ds p d ≡ true → walked s′ ds′ p d ≡ true) → ((p : Corner) (d : ℕ) → walked s′ ds′ p d ≡ true → walked s ds p d ≡ true) → OutlineIs s′ ds′ es
+  pub outline-same : (s′ : Corner) (ds′ : List ℕ) → 0 < length ds
+      → ((p : Corner) (d : ℕ) → walked s ds p d ≡ true → walked s′ ds′ p d ≡ true)
+      → ((p : Corner) (d : ℕ) → walked s′ ds′ p d ≡ true → walked s ds p d ≡ true) → OutlineIs s′ ds′ es
   outline-same s′ ds′ = betweenLaws.outline-same s′ ds′ o
 
   -- and an outline is its own outline
@@ -104,8 +112,10 @@ pub outside-not-inside : (s : Corner) (ds : List ℕ) → endFrom s ds ≡ s →
 outside-not-inside = outsideLaws.outside-not-inside
 
 module _ (s : Corner) (ds : List ℕ) (r : IsRoom s ds) (b : Below 4 ds) {es : List ℕ} (o : OutlineIs s ds es) where
-  -- the outline of a room, walked either way from any of its corners, is the room from the lowest of its leftmost corners, forwards or backwards
-  pub room-outline : (j : ℕ) × (j < length ds) × (cornerAt s ds j ≡ homeOf s ds) × ((es ≡ startedAt j ds) ⊎ (es ≡ backward (startedAt j ds)))
+  -- the outline of a room, walked either way from any of its corners, is the room from the lowest of its leftmost corners,
+  -- forwards or backwards
+  pub room-outline : (j : ℕ) × (j < length ds) × (cornerAt s ds j ≡ homeOf s ds)
+      × ((es ≡ startedAt j ds) ⊎ (es ≡ backward (startedAt j ds)))
   room-outline = roomLaws.room-outline s ds r b o
 
   -- counterclockwise: of the two panels beside each of its steps the left one is inside the room, and the right one is not
@@ -117,12 +127,14 @@ pub outline-answers : (s : Corner) (ds before : List ℕ) → (r : Counted) × (
 outline-answers = outlineCallLaws.outlineCall-some
 
 -- and only one
-pub outlineCall-one : {s : Corner} {ds before after₁ after₂ : List ℕ} {r₁ r₂ : Counted} → OutlineCall s ds before r₁ after₁ → OutlineCall s ds before r₂ after₂ → (r₁ ≡ r₂) × (after₁ ≡ after₂)
+pub outlineCall-one : {s : Corner} {ds before after₁ after₂ : List ℕ} {r₁ r₂ : Counted} → OutlineCall s ds before r₁ after₁
+    → OutlineCall s ds before r₂ after₂ → (r₁ ≡ r₂) × (after₁ ≡ after₂)
 outlineCall-one = outlineCallLaws.outlineCall-one
 
 module _ {s : Corner} {ds before after : List ℕ} {r : Counted} (w : OutlineCall s ds before r after) where
   -- "1, 10, 4 and 6 for start and chain; then 11": each exactly on its occasion
-  pub outline-refused-exactly : (q : Refusal) → r ≡ Counted.Refused q ↔ GivenOutline s ds (length before) (length (w .steps)) (Refused q)
+  pub outline-refused-exactly : (q : Refusal)
+      → r ≡ Counted.Refused q ↔ GivenOutline s ds (length before) (length (w .steps)) (Refused q)
   outline-refused-exactly = givenLaws.refused-when w
 
   -- and acceptance exactly on its own, with the number of steps
@@ -130,10 +142,12 @@ module _ {s : Corner} {ds before after : List ℕ} {r : Counted} (w : OutlineCal
   outline-written-exactly = givenLaws.written-when w
 
   -- the numbers of each
-  pub outline-refused-words : (q : Refusal) → GivenOutline s ds (length before) (length (w .steps)) (Refused q) → countedWords r ≡ refusalNumber q ∷ refusalPlace q ∷ 0 ∷ []
+  pub outline-refused-words : (q : Refusal) → GivenOutline s ds (length before) (length (w .steps)) (Refused q)
+      → countedWords r ≡ refusalNumber q ∷ refusalPlace q ∷ 0 ∷ []
   outline-refused-words q g = ap countedWords (outline-refused-exactly q .1 g)
 
-  pub outline-written-words : GivenOutline s ds (length before) (length (w .steps)) Good → countedWords r ≡ 0 ∷ 0 ∷ length (w .steps) ∷ []
+  pub outline-written-words : GivenOutline s ds (length before) (length (w .steps)) Good
+      → countedWords r ≡ 0 ∷ 0 ∷ length (w .steps) ∷ []
   outline-written-words g = ap countedWords (outline-written-exactly .1 g)
 
 module _ (s : Corner) (ds before : List ℕ) {after : List ℕ} where
@@ -142,7 +156,8 @@ module _ (s : Corner) (ds before : List ℕ) {after : List ℕ} where
   outline-untouched = callLaws.call-untouched
 
   -- "the length is answered; bytes after it are unchanged"
-  pub outline-written : (n : ℕ) (w : OutlineCall s ds before (Counted.Many n) after) → (n ≡ length (w .steps)) × (after ≡ w .steps ++ drop (length (w .steps)) before)
+  pub outline-written : (n : ℕ) (w : OutlineCall s ds before (Counted.Many n) after)
+      → (n ≡ length (w .steps)) × (after ≡ w .steps ++ drop (length (w .steps)) before)
   outline-written = givenLaws.call-written s ds before
 
   -- 32,768 bytes are enough

@@ -1,4 +1,5 @@
--- What is asked of a room that goes out as a polygon (RULES 13), as theorems about the call's promise, `PolygonCall`. Each is proved by naming a law.
+-- What is asked of a room that goes out as a polygon (RULES 13), as theorems about the call's promise, `PolygonCall`. Each is
+-- proved by naming a law.
 -- Assumes nothing.
 use mathlib.Core.List.{List, [], _∷_, _++_, List·Memᴰ}
 use mathlib.Core.Logic.{_↔_}
@@ -31,23 +32,28 @@ pub polygon-answers : (s : Corner) (ds before : List ℕ) → (r : Counted) × (
 polygon-answers = roomCallLaws.polygon-some
 
 -- and only one
-pub polygonCall-one : {s : Corner} {ds before after₁ after₂ : List ℕ} {r₁ r₂ : Counted} → PolygonCall s ds before r₁ after₁ → PolygonCall s ds before r₂ after₂ → (r₁ ≡ r₂) × (after₁ ≡ after₂)
+pub polygonCall-one : {s : Corner} {ds before after₁ after₂ : List ℕ} {r₁ r₂ : Counted} → PolygonCall s ds before r₁ after₁
+    → PolygonCall s ds before r₂ after₂ → (r₁ ≡ r₂) × (after₁ ≡ after₂)
 polygonCall-one = polygonLaws.polygonCall-one
 
 module _ {s : Corner} {ds before after : List ℕ} {r : Counted} (w : PolygonCall s ds before r after) where
   -- "12, not a room; 13, buffer too short; in that order", after 1, 10, 4 and 6: each exactly on its occasion
-  pub polygon-refused-exactly : (q : Refusal) → r ≡ Counted.Refused q ↔ GivenPolygon s ds (length before) (length (polygonOf s ds)) (Refused q)
+  pub polygon-refused-exactly : (q : Refusal)
+      → r ≡ Counted.Refused q ↔ GivenPolygon s ds (length before) (length (polygonOf s ds)) (Refused q)
   polygon-refused-exactly = roomCallLaws.refused-when w
 
   -- and acceptance exactly on its own, with the number of bytes
-  pub polygon-written-exactly : r ≡ Counted.Many (length (polygonOf s ds)) ↔ GivenPolygon s ds (length before) (length (polygonOf s ds)) Good
+  pub polygon-written-exactly : r ≡ Counted.Many (length (polygonOf s ds))
+      ↔ GivenPolygon s ds (length before) (length (polygonOf s ds)) Good
   polygon-written-exactly = roomCallLaws.written-when w
 
   -- the numbers of each
-  pub polygon-refused-words : (q : Refusal) → GivenPolygon s ds (length before) (length (polygonOf s ds)) (Refused q) → countedWords r ≡ refusalNumber q ∷ refusalPlace q ∷ 0 ∷ []
+  pub polygon-refused-words : (q : Refusal) → GivenPolygon s ds (length before) (length (polygonOf s ds)) (Refused q)
+      → countedWords r ≡ refusalNumber q ∷ refusalPlace q ∷ 0 ∷ []
   polygon-refused-words q g = ap countedWords (polygon-refused-exactly q .1 g)
 
-  pub polygon-written-words : GivenPolygon s ds (length before) (length (polygonOf s ds)) Good → countedWords r ≡ 0 ∷ 0 ∷ length (polygonOf s ds) ∷ []
+  pub polygon-written-words : GivenPolygon s ds (length before) (length (polygonOf s ds)) Good
+      → countedWords r ≡ 0 ∷ 0 ∷ length (polygonOf s ds) ∷ []
   polygon-written-words g = ap countedWords (polygon-written-exactly .1 g)
 
 module _ (s : Corner) (ds before : List ℕ) {after : List ℕ} where
@@ -56,7 +62,8 @@ module _ (s : Corner) (ds before : List ℕ) {after : List ℕ} where
   polygon-untouched = polygonLaws.call-untouched
 
   -- the polygon, and "bytes after the polygon are unchanged"
-  pub polygon-written : (n : ℕ) → PolygonCall s ds before (Counted.Many n) after → (n ≡ length (polygonOf s ds)) × (after ≡ polygonOf s ds ++ drop (length (polygonOf s ds)) before)
+  pub polygon-written : (n : ℕ) → PolygonCall s ds before (Counted.Many n) after
+      → (n ≡ length (polygonOf s ds)) × (after ≡ polygonOf s ds ++ drop (length (polygonOf s ds)) before)
   polygon-written n p = let g = roomCallLaws.call-good s ds before n p in (g .1, g .2)
 
   -- sixteen bytes a step and 29 always are enough
@@ -64,7 +71,8 @@ module _ (s : Corner) (ds before : List ℕ) {after : List ℕ} where
   polygon-few = roomCallLaws.call-few s ds before
 
   -- "it must be exact": the floats of every point that is written are 600 times the corner's coordinates
-  pub polygon-exact : (n : ℕ) → PolygonCall s ds before (Counted.Many n) after → (p : Corner) → List·Memᴰ p (pointsOf s ds) → Exact p
+  pub polygon-exact : (n : ℕ) → PolygonCall s ds before (Counted.Many n) after → (p : Corner)
+      → List·Memᴰ p (pointsOf s ds) → Exact p
   polygon-exact = roomCallLaws.call-exact s ds before
 
 -- a float is one whole number at most

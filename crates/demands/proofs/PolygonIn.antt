@@ -1,4 +1,5 @@
--- What is asked of a polygon that is read (RULES 18), as theorems about the call's promise, `ReadCall`. Each is proved by naming a law.
+-- What is asked of a polygon that is read (RULES 18), as theorems about the call's promise, `ReadCall`. Each is proved by naming
+-- a law.
 -- Assumes nothing.
 use mathlib.Core.Bool.{Bool}
 use mathlib.Core.List.{List, [], _∷_, _++_}
@@ -31,7 +32,8 @@ pub chain-answers : (file before : List ℕ) → (r : Given) × (after : List �
 chain-answers = fileCallLaws.chain-some
 
 -- and only one
-pub readCall-one : {file before after₁ after₂ : List ℕ} {r₁ r₂ : Given} → ReadCall file before r₁ after₁ → ReadCall file before r₂ after₂ → (r₁ ≡ r₂) × (after₁ ≡ after₂)
+pub readCall-one : {file before after₁ after₂ : List ℕ} {r₁ r₂ : Given} → ReadCall file before r₁ after₁
+    → ReadCall file before r₂ after₂ → (r₁ ≡ r₂) × (after₁ ≡ after₂)
 readCall-one = callLaws.readCall-one
 
 module _ {file before after : List ℕ} {r : Given} (c : ReadCall file before r after) where
@@ -40,14 +42,17 @@ module _ {file before after : List ℕ} {r : Given} (c : ReadCall file before r 
   chain-refused-exactly = fileCallLaws.chain-refused-when c
 
   -- accepted exactly where the file is a closed ring of whole corners, not too long, and the chain has room
-  pub chain-read-exactly : r ≡ Given.Chain (record { start = startOf (ringOf file); steps = lengthOf (ringOf file) }) ↔ GivenFile file (length before) Good
+  pub chain-read-exactly : r ≡ Given.Chain (record { start = startOf (ringOf file); steps = lengthOf (ringOf file) })
+      ↔ GivenFile file (length before) Good
   chain-read-exactly = fileCallLaws.chain-read-when c
 
   -- the numbers of each
-  pub chain-refused-words : (q : Refusal) → GivenFile file (length before) (Refused q) → givenWords r ≡ refusalNumber q ∷ refusalPlace q ∷ 0 ∷ 0 ∷ 0 ∷ []
+  pub chain-refused-words : (q : Refusal) → GivenFile file (length before) (Refused q)
+      → givenWords r ≡ refusalNumber q ∷ refusalPlace q ∷ 0 ∷ 0 ∷ 0 ∷ []
   chain-refused-words q g = ap givenWords (chain-refused-exactly q .1 g)
 
-  pub chain-read-words : GivenFile file (length before) Good → givenWords r ≡ 0 ∷ 0 ∷ lengthOf (ringOf file) ∷ bitsOf (startOf (ringOf file) .0) ∷ bitsOf (startOf (ringOf file) .1) ∷ []
+  pub chain-read-words : GivenFile file (length before) Good
+      → givenWords r ≡ 0 ∷ 0 ∷ lengthOf (ringOf file) ∷ bitsOf (startOf (ringOf file) .0) ∷ bitsOf (startOf (ringOf file) .1) ∷ []
   chain-read-words g = ap givenWords (chain-read-exactly .1 g)
 
 module _ (file before after : List ℕ) where
@@ -56,20 +61,25 @@ module _ (file before after : List ℕ) where
   chain-untouched = callLaws.call-untouched
 
   -- the points of an accepted file, each 600 times a corner, are those of the ring
-  pub chain-corners : (f : Found) → ReadCall file before (Given.Chain f) after → (little : Bool) × HasCorners little file (ringOf file) × IsRing (ringOf file)
+  pub chain-corners : (f : Found) → ReadCall file before (Given.Chain f) after
+      → (little : Bool) × HasCorners little file (ringOf file) × IsRing (ringOf file)
   chain-corners f = fileCallLaws.chain-corners
 
-  -- the chain's walk from the start passes exactly these points in their order and ends where it began; "bytes after the chain are unchanged"
+  -- the chain's walk from the start passes exactly these points in their order and ends where it began; "bytes after the chain
+  -- are unchanged"
   pub chain-follows : (f : Found) → ReadCall file before (Given.Chain f) after → RingPassed file before f after
   chain-follows f = tripLaws.read-follows file before f after
 
   -- the file in the other byte order gives the same answer and the same chain
-  pub chain-twin : (little : Bool) (r : Given) → Headed little file → ReadCall file before r after → ReadCall (twinOf file) before r after
+  pub chain-twin : (little : Bool) (r : Given) → Headed little file → ReadCall file before r after
+      → ReadCall (twinOf file) before r after
   chain-twin little r = twinLaws.twin-read little file before r after
 
-module _ (s : Corner) (ds out : List ℕ) (n : ℕ) (out′ chain : List ℕ) (r : Given) (chain′ : List ℕ) (w : PolygonCall s ds out (Counted.Many n) out′) (c : ReadCall (take n out′) chain r chain′) where
+module _ (s : Corner) (ds out : List ℕ) (n : ℕ) (out′ chain : List ℕ) (r : Given) (chain′ : List ℕ)
+    (w : PolygonCall s ds out (Counted.Many n) out′) (c : ReadCall (take n out′) chain r chain′) where
   -- "reading what was written gives back start and chain", for every room and every start
-  pub round-trip : length ds ≤ length chain → (r ≡ Given.Chain (record { start = s; steps = length ds })) × (chain′ ≡ ds ++ drop (length ds) chain)
+  pub round-trip : length ds ≤ length chain
+      → (r ≡ Given.Chain (record { start = s; steps = length ds })) × (chain′ ≡ ds ++ drop (length ds) chain)
   round-trip = tripLaws.round-trip s ds out n out′ chain r chain′ w c
 
   -- with less room for the chain it is refused 18

@@ -1,4 +1,5 @@
--- What is asked of the rows of a room (RULES 14), as theorems about the list, `RowsIs`, and the call's promise, `RowsCall`. Each is proved by naming a law.
+-- What is asked of the rows of a room (RULES 14), as theorems about the list, `RowsIs`, and the call's promise, `RowsCall`. Each
+-- is proved by naming a law.
 -- Assumes nothing.
 use mathlib.Core.List.{List, _++_, List·Memᴰ}
 use mathlib.Core.Logic.{_↔_}
@@ -50,15 +51,18 @@ rows-answers = rowCallLaws.rows-answers
 
 module _ (c : Corner) (ds : List ℕ) (before : List ℤ) where
   -- and only one
-  pub rowsCall-one : {r₁ r₂ : Counted} {after₁ after₂ : List ℤ} → RowsCall c ds before r₁ after₁ → RowsCall c ds before r₂ after₂ → (r₁ ≡ r₂) × (after₁ ≡ after₂)
+  pub rowsCall-one : {r₁ r₂ : Counted} {after₁ after₂ : List ℤ} → RowsCall c ds before r₁ after₁ → RowsCall c ds before r₂ after₂
+      → (r₁ ≡ r₂) × (after₁ ≡ after₂)
   rowsCall-one = callLaws.rowsCall-one c ds before
 
   -- each answer exactly on its occasion: 1, 10, 4, 6, 12, then 21, otherwise the number of spans
-  pub rows-exactly : {r : Counted} {after : List ℤ} → RowsCall c ds before r after → (s : Counted) → r ≡ s ↔ GivenRows c ds (length before) s
+  pub rows-exactly : {r : Counted} {after : List ℤ} → RowsCall c ds before r after → (s : Counted)
+      → r ≡ s ↔ GivenRows c ds (length before) s
   rows-exactly = rowCallLaws.rows-when c ds before
 
   -- the numbers of each
-  pub rows-words : {r : Counted} {after : List ℤ} → RowsCall c ds before r after → (s : Counted) → GivenRows c ds (length before) s → countedWords r ≡ countedWords s
+  pub rows-words : {r : Counted} {after : List ℤ} → RowsCall c ds before r after → (s : Counted)
+      → GivenRows c ds (length before) s → countedWords r ≡ countedWords s
   rows-words w s g = ap countedWords (rows-exactly w s .1 g)
 
   module _ {after : List ℤ} where
@@ -67,5 +71,6 @@ module _ (c : Corner) (ds : List ℕ) (before : List ℤ) where
     rows-untouched = rowCallLaws.rows-untouched c ds before
 
     -- the list, and "numbers after the list are unchanged"
-    pub rows-written : (n : ℕ) → RowsCall c ds before (Counted.Many n) after → (L : List Span) × RowsIs (Inside c ds) L × (n ≡ length L) × (after ≡ spanNumbers L ++ drop (3 * length L) before)
+    pub rows-written : (n : ℕ) → RowsCall c ds before (Counted.Many n) after
+        → (L : List Span) × RowsIs (Inside c ds) L × (n ≡ length L) × (after ≡ spanNumbers L ++ drop (3 * length L) before)
     rows-written = rowCallLaws.rows-written c ds before

@@ -46,7 +46,8 @@ pub record RefusedRow (l : List ℕ) (n r i : ℕ) : Type 0 where
   pub place : numberAt l 2 ≡ i
   pub empty : (k : ℕ) → 3 ≤ k → cellAt l k ≡ []
 
--- row n: its number, the refusal's number r and place i, verdict, n, nodes, different corners, j, k, area, and the bytes of the polygon
+-- row n: its number, the refusal's number r and place i, verdict, n, nodes, different corners, j, k, area, and the bytes of the
+-- polygon
 pub record RowRead (l : List ℕ) (n r i : ℕ) (f : Facts) (bytes : List ℕ) : Type 0 where
   pub cells : length (cellsIn l) ≡ 11
   pub id : numberAt l 0 ≡ n

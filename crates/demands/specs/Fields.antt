@@ -24,7 +24,8 @@ pub record RefusalRead (l : List ℕ) (q : Refusal) : Type 0 where
   pub number : fieldAt l 0 2 ≡ 0x80 + refusalNumber q
   pub place : fieldAt l 2 8 ≡ refusalPlace q
 
--- the line of an accepted frame: verdict, n, nodes, different corners, j, k, area, the number of hull corners, and x and y of each
+-- the line of an accepted frame: verdict, n, nodes, different corners, j, k, area, the number of hull corners, and x and y of
+-- each
 pub record AnswerRead (l : List ℕ) (f : Facts) (hull : List Corner) : Type 0 where
   pub long : length l ≡ 38 + 8 * length hull
   pub verdict : fieldAt l 0 2 ≡ verdictNumber (f .verdict)

@@ -56,16 +56,24 @@ pub record Faultless (c : Corner) (os : List ℕ) (words marks chain : ℕ) : Ty
 
 -- k operations are the fewest after which the nodes needed exceed the records
 abbrev pub NoRoomAfter : Corner → List ℕ → ℕ → ℕ → Type 0
-NoRoomAfter c os records k = FirstAt (suc (length os)) (λ h. nodesAfter c os h ≤ records) (λ h. Exceeds (nodesAfter c os h) records) k
+NoRoomAfter c os records k =
+    FirstAt (suc (length os)) (λ h. nodesAfter c os h ≤ records) (λ h. Exceeds (nodesAfter c os h) records) k
 
 -- the occasion of each judgement; the place of "no room" is k - 1, and 0 before the first operation
 pub data GivenWalk (c : Corner) (os : List ℕ) (words marks chain : ℕ) : Judged → Type 0 where
   tooMany : mostInput < length os → GivenWalk c os words marks chain (Refused TooMany)
   table : length os ≤ mostInput → (HasRecords words → ⊥) → GivenWalk c os words marks chain (Refused Table)
-  resultRoom : length os ≤ mostInput → HasRecords words → (HasRoom os marks chain → ⊥) → GivenWalk c os words marks chain (Refused ResultRoom)
-  startRange : length os ≤ mostInput → HasRecords words → HasRoom os marks chain → (Near c → ⊥) → GivenWalk c os words marks chain (Refused StartRange)
-  badDigit : (i : ℕ) → WalkSized c os words marks chain → FirstAt (length os) (FineAt os) (BadDigitAt os) i → GivenWalk c os words marks chain (Refused (BadDigit i))
-  nothingToTake : (i : ℕ) → WalkSized c os words marks chain → FirstAt (length os) (FineAt os) (NothingAt os) i → GivenWalk c os words marks chain (Refused (NothingToTake i))
-  tooLong : (i : ℕ) → WalkSized c os words marks chain → FirstAt (length os) (FineAt os) (TooLongAt os) i → GivenWalk c os words marks chain (Refused (TooLong i))
-  noRoom : (i k : ℕ) → Faultless c os words marks chain → NoRoomAfter c os (recordsIn words) k → i ≡ pred k → GivenWalk c os words marks chain (Refused (NoRoom i))
-  accepted : Faultless c os words marks chain → ((k : ℕ) → k ≤ length os → nodesAfter c os k ≤ recordsIn words) → GivenWalk c os words marks chain Good
+  resultRoom : length os ≤ mostInput → HasRecords words → (HasRoom os marks chain → ⊥)
+      → GivenWalk c os words marks chain (Refused ResultRoom)
+  startRange : length os ≤ mostInput → HasRecords words → HasRoom os marks chain → (Near c → ⊥)
+      → GivenWalk c os words marks chain (Refused StartRange)
+  badDigit : (i : ℕ) → WalkSized c os words marks chain → FirstAt (length os) (FineAt os) (BadDigitAt os) i
+      → GivenWalk c os words marks chain (Refused (BadDigit i))
+  nothingToTake : (i : ℕ) → WalkSized c os words marks chain → FirstAt (length os) (FineAt os) (NothingAt os) i
+      → GivenWalk c os words marks chain (Refused (NothingToTake i))
+  tooLong : (i : ℕ) → WalkSized c os words marks chain → FirstAt (length os) (FineAt os) (TooLongAt os) i
+      → GivenWalk c os words marks chain (Refused (TooLong i))
+  noRoom : (i k : ℕ) → Faultless c os words marks chain → NoRoomAfter c os (recordsIn words) k → i ≡ pred k
+      → GivenWalk c os words marks chain (Refused (NoRoom i))
+  accepted : Faultless c os words marks chain → ((k : ℕ) → k ≤ length os → nodesAfter c os k ≤ recordsIn words)
+      → GivenWalk c os words marks chain Good

@@ -17,9 +17,15 @@ use Rattle.polygon_ring_laws.specs.Files.{Headed, Sized, IsPoint, HasCorners, I
 pub data GivenFile (file : List ℕ) (room : ℕ) : Judged → Type 0 where
   tooShort : length file < 13 → GivenFile file room (Refused FileLength)
   otherKind : 13 ≤ length file → ((little : Bool) → Headed little file → ⊥) → GivenFile file room (Refused FileKind)
-  otherLength : (little : Bool) → Headed little file → (length file ≡ 13 + 16 * countIn little file → ⊥) → GivenFile file room (Refused FileLength)
-  badCoordinate : (little : Bool) (i : ℕ) → Sized little file → i < countIn little file → ((c : Corner) → IsPoint little (drop 13 file) i c → ⊥) → GivenFile file room (Refused BadCoordinate)
-  badRing : (little : Bool) (ps : List Corner) → HasCorners little file ps → (IsRing ps → ⊥) → GivenFile file room (Refused BadRing)
-  tooLong : (little : Bool) (ps : List Corner) → HasCorners little file ps → IsRing ps → mostSteps < lengthOf ps → GivenFile file room (Refused (TooLong mostSteps))
-  chainRoom : (little : Bool) (ps : List Corner) → HasCorners little file ps → IsRing ps → lengthOf ps ≤ mostSteps → room < lengthOf ps → GivenFile file room (Refused ChainRoom)
-  accepted : (little : Bool) (ps : List Corner) → HasCorners little file ps → IsRing ps → lengthOf ps ≤ mostSteps → lengthOf ps ≤ room → GivenFile file room Good
+  otherLength : (little : Bool) → Headed little file → (length file ≡ 13 + 16 * countIn little file → ⊥)
+      → GivenFile file room (Refused FileLength)
+  badCoordinate : (little : Bool) (i : ℕ) → Sized little file → i < countIn little file
+      → ((c : Corner) → IsPoint little (drop 13 file) i c → ⊥) → GivenFile file room (Refused BadCoordinate)
+  badRing : (little : Bool) (ps : List Corner) → HasCorners little file ps → (IsRing ps → ⊥)
+      → GivenFile file room (Refused BadRing)
+  tooLong : (little : Bool) (ps : List Corner) → HasCorners little file ps → IsRing ps → mostSteps < lengthOf ps
+      → GivenFile file room (Refused (TooLong mostSteps))
+  chainRoom : (little : Bool) (ps : List Corner) → HasCorners little file ps → IsRing ps → lengthOf ps ≤ mostSteps
+      → room < lengthOf ps → GivenFile file room (Refused ChainRoom)
+  accepted : (little : Bool) (ps : List Corner) → HasCorners little file ps → IsRing ps → lengthOf ps ≤ mostSteps
+      → lengthOf ps ≤ room → GivenFile file room Good

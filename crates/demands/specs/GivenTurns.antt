@@ -21,5 +21,6 @@ AboveThreeAt ds i = 3 < getD ds i 0
 pub data GivenTurns (ds : List ℕ) (room : ℕ) : Judged → Type 0 where
   tooMany : mostInput < length ds → GivenTurns ds room (Refused TooMany)
   resultRoom : length ds ≤ mostInput → (room ≡ length ds → ⊥) → GivenTurns ds room (Refused ResultRoom)
-  badDigit : (i : ℕ) → length ds ≤ mostInput → room ≡ length ds → FirstAt (length ds) (DigitAt ds) (AboveThreeAt ds) i → GivenTurns ds room (Refused (BadDigit i))
+  badDigit : (i : ℕ) → length ds ≤ mostInput → room ≡ length ds → FirstAt (length ds) (DigitAt ds) (AboveThreeAt ds) i
+      → GivenTurns ds room (Refused (BadDigit i))
   accepted : length ds ≤ mostInput → room ≡ length ds → ((i : ℕ) → i < length ds → DigitAt ds i) → GivenTurns ds room Good

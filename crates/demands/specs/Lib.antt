@@ -1,5 +1,5 @@
--- The moments of a walk, when each answer of the calls and of the programs on lines is given, what a record says, what is lent for the surviving steps alone, an
--- input in parts, and what is read in the lines that are written.
+-- The moments of a walk, when each answer of the calls and of the programs on lines is given, what a record says, what is lent
+-- for the surviving steps alone, an input in parts, and what is read in the lines that are written.
 pub mod Moments
 pub mod Given
 pub mod GivenTurns

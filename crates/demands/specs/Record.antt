@@ -33,7 +33,9 @@ FirstIn ps a k = FirstAt (length ps) (λ h. getD ps h origin ≡ a → ⊥) (λ 
 
 -- step k, counted from 1, has the two ends a and b, in either sense
 abbrev pub StepBetween : List Corner → Corner → Corner → ℕ → Type 0
-StepBetween ps a b k = (0 < k) × (k < length ps) × (((getD ps (pred k) origin ≡ a) × (getD ps k origin ≡ b)) ⊎ ((getD ps (pred k) origin ≡ b) × (getD ps k origin ≡ a)))
+StepBetween ps a b k =
+    (0 < k) × (k < length ps)
+    × (((getD ps (pred k) origin ≡ a) × (getD ps k origin ≡ b)) ⊎ ((getD ps (pred k) origin ≡ b) × (getD ps k origin ≡ a)))
 
 -- the words of the record of node a
 pub record RecordSays (ps : List Corner) (a : Corner) (word : ℕ → ℕ) : Type 0 where

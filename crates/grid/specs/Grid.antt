@@ -72,7 +72,8 @@ endFrom c (d ∷ ds) = endFrom (stepped d c) ds
 abbrev pub cornerAt : Corner → List ℕ → ℕ → Corner
 cornerAt c ds k = endFrom c (take k ds)
 
--- the steps of a walk with the corners ps, each as its two ends, where it begins first; and those of the walk of these steps from c
+-- the steps of a walk with the corners ps, each as its two ends, where it begins first; and those of the walk of these steps from
+-- c
 abbrev pub legsOf : List Corner → List (Corner × Corner)
 legsOf [] = []
 legsOf (p ∷ ps) = zip (p ∷ ps) ps

@@ -10,7 +10,8 @@ use Rattle.hull.specs.Hull.{HullIs}
 abbrev pub hullJudged : Corner → List ℕ → ℕ → ℕ → Judged
 hullJudged s chain room corners = firstOf (asWalkJudged s chain ∷ when (ltb room (2 * corners)) HullRoom ∷ [])
 
--- a call with this chain, from the corner s: `list` is the hull of the walk. A chain that has a digit above 3 is refused, whatever its list
+-- a call with this chain, from the corner s: `list` is the hull of the walk. A chain that has a digit above 3 is refused,
+-- whatever its list
 pub record HullCall (s : Corner) (chain : List ℕ) (before : List ℤ) (r : Counted) (after : List ℤ) : Type 0 where
   pub list : List Corner
   pub hull : HullIs (cornersFrom s chain) list

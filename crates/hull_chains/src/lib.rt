@@ -42,7 +42,8 @@ fn drops(ys: &[u16], s: &[u16], q: usize, p: usize) -> bool
 // Puts p in front of the chain from q on, and answers where it begins then.
 fn push(ys: &[u16], s: &mut [u16], q: usize, p: usize) -> usize
     requires { ⌜ Stack (now ys) (now s) q p × (0 < q) × (p < length (now ys)) ⌝ }
-    ensures { λ r. ⌜ (drop r (now (s .exit)) ≡ p ∷ cutAt (now (ys .entry)) p (drop q (now (s .entry)))) × (q ≤ r + 1) × (r < length (now (s .entry))) ⌝ }
+    ensures { λ r. ⌜ (drop r (now (s .exit)) ≡ p ∷ cutAt (now (ys .entry)) p (drop q (now (s .entry)))) × (q ≤ r + 1)
+        × (r < length (now (s .entry))) ⌝ }
 {
     let mut f = q;
     while drops(ys, s, f, p) {

@@ -74,11 +74,14 @@ fn mirror(ys: &mut [u16], m: usize)
     }
 }
 
-// Keeps the lowest corner of each column in lo, counted from west, and in hi that of the walk turned by half a turn, from east. Both are
-// counted from west at first, so that a corner has one place in both.
+// Keeps the lowest corner of each column in lo, counted from west, and in hi that of the walk turned by half a turn, from east.
+// Both are counted from west at first, so that a corner has one place in both.
 pub fn fill(chain: &[u8], west: usize, east: usize, lo: &mut [u16], hi: &mut [u16])
-    requires { ⌜ Spans (now chain) west east × (east - west < length (now lo)) × (east - west < length (now hi)) × (now hi ≡ replicate (length (now hi)) blank) ⌝ }
-    ensures { λ _. ⌜ (now (lo .exit) ≡ sinks (now (lo .entry)) (map (countedFrom west) (trail middle middle (now (chain .entry))))) × (now (hi .exit) ≡ sinks (now (hi .entry)) (map (halfTurned east top) (trail middle middle (now (chain .entry))))) ⌝ }
+    requires { ⌜ Spans (now chain) west east × (east - west < length (now lo)) × (east - west < length (now hi))
+        × (now hi ≡ replicate (length (now hi)) blank) ⌝ }
+    ensures { λ _. ⌜ (now (lo .exit) ≡ sinks (now (lo .entry))
+        (map (countedFrom west) (trail middle middle (now (chain .entry)))))
+        × (now (hi .exit) ≡ sinks (now (hi .entry)) (map (halfTurned east top) (trail middle middle (now (chain .entry))))) ⌝ }
 {
     let by = Columns::EAST;
     let up = Columns::NORTH;

@@ -42,7 +42,8 @@ bothSides c w e lo hi s t a f g =
 
 -- the two corners at the height of the start in the columns w and e
 abbrev pub twoAt : Corner → ℕ → ℕ → List Corner
-twoAt c w e = spot (c .0 -ℤ pos middle) (c .1 -ℤ pos middle) (w, middle) ∷ (spot (c .0 -ℤ pos middle) (c .1 -ℤ pos middle) (e, middle) ∷ [])
+twoAt c w e =
+    spot (c .0 -ℤ pos middle) (c .1 -ℤ pos middle) (w, middle) ∷ (spot (c .0 -ℤ pos middle) (c .1 -ℤ pos middle) (e, middle) ∷ [])
 
 -- parts of the two chains of the columns w to e, and room for them
 pub record Parts (w e : ℕ) (lo hi s t : List ℕ) (a f g room : ℕ) : Type 0 where

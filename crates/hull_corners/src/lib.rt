@@ -28,8 +28,10 @@ fn coordinate(base: i32, way: i32, n: u16) -> i32
 
 // Writes x and y of the corner at column c and height y to place o.
 fn put_corner(out: &mut [i32], o: usize, base: Corner, way: i32, c: u16, y: u16)
-    requires { ⌜ (o + 1 < length (now out)) × (natAbs (base .0) ≤ 2 * farthest) × (natAbs (base .1) ≤ 2 * farthest) × (natAbs way ≤ 1) ⌝ }
-    ensures { λ _. ⌜ now (out .exit) ≡ set (set (now (out .entry)) o (spotBy base way (c, y) .0)) (o + 1) (spotBy base way (c, y) .1) ⌝ }
+    requires { ⌜ (o + 1 < length (now out)) × (natAbs (base .0) ≤ 2 * farthest)
+        × (natAbs (base .1) ≤ 2 * farthest) × (natAbs way ≤ 1) ⌝ }
+    ensures { λ _. ⌜ now (out .exit)
+        ≡ set (set (now (out .entry)) o (spotBy base way (c, y) .0)) (o + 1) (spotBy base way (c, y) .1) ⌝ }
 {
     out[o] = coordinate(base.0, way, c);
     out[o + 1] = coordinate(base.1, way, y);
@@ -47,7 +49,8 @@ fn put(
     to: usize,
 )
     requires { ⌜ Puts (length (now out)) at base way (now ys) (now s) from to ⌝ }
-    ensures { λ _. ⌜ now (out .exit) ≡ sets (now (out .entry)) at (numbers (map (λ c. spotBy base way (colAt (now (ys .entry)) c)) (slice from to (now (s .entry))))) ⌝ }
+    ensures { λ _. ⌜ now (out .exit) ≡ sets (now (out .entry)) at
+        (numbers (map (λ c. spotBy base way (colAt (now (ys .entry)) c)) (slice from to (now (s .entry))))) ⌝ }
 {
     let mut i = from;
     let mut o = at;
@@ -115,7 +118,8 @@ fn write(
     out: &mut [i32],
 )
     requires { ⌜ Near start × Parts west east (now lo) (now hi) (now s) (now t) a f g (length (now out)) ⌝ }
-    ensures { λ _. ⌜ now (out .exit) ≡ sets (now (out .entry)) 0 (numbers (bothSides start west east (now (lo .entry)) (now (hi .entry)) (now (s .entry)) (now (t .entry)) a f g)) ⌝ }
+    ensures { λ _. ⌜ now (out .exit) ≡ sets (now (out .entry)) 0
+        (numbers (bothSides start west east (now (lo .entry)) (now (hi .entry)) (now (s .entry)) (now (t .entry)) a f g)) ⌝ }
 {
     let first = placed(start, west, 0);
     let last = placed(start, east, Columns::LAST);
@@ -138,7 +142,8 @@ pub fn finish(
     out: &mut [i32],
 ) -> Counted
     requires { ⌜ Near start × TwoChains west east (now lo) (now hi) (now s) (now t) a b ⌝ }
-    ensures { λ r. ⌜ ListGiven (hullBy (start .0 -ℤ pos middle) (start .1 -ℤ pos middle) west east top (now (lo .entry)) (now (hi .entry))) (now (out .entry)) r (now (out .exit)) ⌝ }
+    ensures { λ r. ⌜ ListGiven (hullBy (start .0 -ℤ pos middle) (start .1 -ℤ pos middle) west east top (now (lo .entry))
+        (now (hi .entry))) (now (out .entry)) r (now (out .exit)) ⌝ }
 {
     let k = east - west;
     let f = seam(lo[k], hi[0], b);

@@ -7,7 +7,7 @@ use Prim.Native.Nat.{ℕ, _+_, _*_}
 use lib.IntN.{ℤ, pos}
 use lib.Signed.{_≤ℤ_, _<ℤ_}
 use Rattle.int_laws.proofs.LinearLaws.{zarith}
-use Rattle.int_laws.proofs.RingLaws.{E, v, k, _⊖_, _⊗_, ring}
+use Rattle.int_laws.proofs.RingLaws.{E, v, k, _⊕_, _⊖_, _⊗_, ring}
 use Rattle.int_laws.proofs.SignLaws.{h≤, h<, hw, eqt, _⊞_, _⊠_, _⊡_, by≤, by≤÷, by<÷}
 use Rattle.grid.specs.declared.Corner.{Corner}
 use Rattle.grid.specs.Grid.{same, numbers}
@@ -21,8 +21,13 @@ X i = v (2 * i)
 abbrev pub Y : ℕ → E
 Y i = v (2 * i + 1)
 
+-- the cross product of corners i, j and l: above 0 if they turn left
 abbrev pub cr : ℕ → ℕ → ℕ → E
 cr i j l = (X j ⊖ X i) ⊗ (Y l ⊖ Y i) ⊖ (Y j ⊖ Y i) ⊗ (X l ⊖ X i)
+
+-- how far corner i lies in the direction of variables 0 and 1, which stand before the corners' own
+abbrev pub dt : ℕ → E
+dt i = v 0 ⊗ X i ⊕ v 1 ⊗ Y i
 
 abbrev pub O : E
 O = k (pos 0)

@@ -1,4 +1,9 @@
 -- The corners of a chain are exposed, and every exposed corner is on a chain.
+--
+-- An inequality is proved by a certificate over the numbers ρ of some corners: `X i` and `Y i` are the coordinates of the i-th of them, `cr i j l`
+-- is the cross product of three, `dt i` how far one lies in a direction, `O` is 0. A fact comes in by `h≤`, `h<`, `hw` (a < b, as a ≤ b), `h≡`,
+-- `h≢`, `hp` (0 < a), `h0` (0 ≤ a) or `eqt` (an equation times anything), with the number of variables, ρ and its two sides; `_⊞_` adds, `_⊠_` and
+-- `_⊡_` multiply. `by≤`, `by<`, `by≡` and `by⊥` conclude; `by<÷ m` divides by m (int_laws, SignLaws).
 -- Assumes nothing.
 use mathlib.Core.Path.{_≡_, refl, sym, ap, subst}
 use mathlib.Core.List.{List, [], _∷_, List·Memᴰ, List·Memᴰ·head, List·Memᴰ·tail, List·Memᴰ·not-nil}
@@ -10,17 +15,17 @@ use lib.Signed.{_≤ℤ_, _<ℤ_}
 use Rattle.int_laws.proofs.LinearLaws.{zarith, le-or-lt, up-neg, dn-neg}
 use Rattle.int_laws.proofs.RangeLaws.{abs-nat}
 use Rattle.int_laws.proofs.RingLaws.{E, v, k, _⊕_, _⊖_, _⊗_, ⊝}
-use Rattle.int_laws.proofs.SignLaws.{h≤, h<, h0, hp, eqt, by≤, by<, by⊥, by≤÷, _⊞_, _⊠_, _⋆_}
+use Rattle.int_laws.proofs.SignLaws.{Nn, h≤, h<, h0, hp, eqt, by≤, by<, by⊥, by≤÷, _⊞_, _⊠_, _⋆_}
 use Rattle.grid.specs.declared.Corner.{Corner}
 use Rattle.grid.specs.Grid.{numbers, Begins}
 use Rattle.hull.specs.Hull.{Exposed, Left, cross, reach, AllLeft, OnLeft}
 use Rattle.hull_laws.proofs.ChainLaws.{Chain, Ends}
-use Rattle.hull_laws.proofs.CornerLaws.{O, X, Y, cr, corner-dec}
+use Rattle.hull_laws.proofs.CornerLaws.{O, X, Y, cr, dt, corner-dec}
 use Rattle.grid.proofs.CornerLaws.{corner-eq}
 
--- how far corner i lies in the direction of variables 0 and 1
-abbrev dt : ℕ → E
-dt i = v 0 ⊗ X i ⊕ v 1 ⊗ Y i
+-- how far p lies in the direction square to a b, to its right
+abbrev square : Corner → Corner → Corner → ℤ
+square a b = reach (b .1 -ℤ a .1) (a .0 -ℤ b .0)
 
 -- where two edges meet at a left turn, the corner between them is exposed
 -- on both lines
@@ -28,14 +33,16 @@ meet : (a q b p : Corner) → Left a q b → cross a q p ≡ pos 0 → cross q b
 unfolding cross
 meet a q b p h e f =
     let ρ = numbers (a ∷ q ∷ b ∷ p ∷ []) in
-    let xl : p .0 ≤ℤ q .0 = by≤÷ (cr 0 1 2) (X 3) (X 1) (hp 8 ρ (cr 0 1 2) (h .left)) (eqt 8 ρ (cr 0 1 3) O (X 2 ⊖ X 1) e ⊞ eqt 8 ρ (cr 1 2 3) O (X 0 ⊖ X 1) f) tt in
-    let xr : q .0 ≤ℤ p .0 = by≤÷ (cr 0 1 2) (X 1) (X 3) (hp 8 ρ (cr 0 1 2) (h .left)) (eqt 8 ρ (cr 0 1 3) O (X 1 ⊖ X 2) e ⊞ eqt 8 ρ (cr 1 2 3) O (X 1 ⊖ X 0) f) tt in
-    let yl : p .1 ≤ℤ q .1 = by≤÷ (cr 0 1 2) (Y 3) (Y 1) (hp 8 ρ (cr 0 1 2) (h .left)) (eqt 8 ρ (cr 0 1 3) O (Y 2 ⊖ Y 1) e ⊞ eqt 8 ρ (cr 1 2 3) O (Y 0 ⊖ Y 1) f) tt in
-    let yr : q .1 ≤ℤ p .1 = by≤÷ (cr 0 1 2) (Y 1) (Y 3) (hp 8 ρ (cr 0 1 2) (h .left)) (eqt 8 ρ (cr 0 1 3) O (Y 1 ⊖ Y 2) e ⊞ eqt 8 ρ (cr 1 2 3) O (Y 1 ⊖ Y 0) f) tt in
+    let turn = hp 8 ρ (cr 0 1 2) (h .left) in
+    let on : (m n : E) → Nn 8 ρ (((O ⊖ cr 0 1 3) ⊗ m) ⊕ ((O ⊖ cr 1 2 3) ⊗ n)) = λ m n. eqt 8 ρ (cr 0 1 3) O m e ⊞ eqt 8 ρ (cr 1 2 3) O n f in
+    let xl : p .0 ≤ℤ q .0 = by≤÷ (cr 0 1 2) (X 3) (X 1) turn (on (X 2 ⊖ X 1) (X 0 ⊖ X 1)) tt in
+    let xr : q .0 ≤ℤ p .0 = by≤÷ (cr 0 1 2) (X 1) (X 3) turn (on (X 1 ⊖ X 2) (X 1 ⊖ X 0)) tt in
+    let yl : p .1 ≤ℤ q .1 = by≤÷ (cr 0 1 2) (Y 3) (Y 1) turn (on (Y 2 ⊖ Y 1) (Y 0 ⊖ Y 1)) tt in
+    let yr : q .1 ≤ℤ p .1 = by≤÷ (cr 0 1 2) (Y 1) (Y 3) turn (on (Y 1 ⊖ Y 2) (Y 1 ⊖ Y 0)) tt in
     corner-eq p q (omega zarith) (omega zarith)
 
 -- not less in the direction square to a b: so on both lines
-level : (a q b p : Corner) → OnLeft a q p → OnLeft q b p → reach (b .1 -ℤ a .1) (a .0 -ℤ b .0) q ≤ℤ reach (b .1 -ℤ a .1) (a .0 -ℤ b .0) p → (cross a q p ≤ℤ pos 0) × (cross q b p ≤ℤ pos 0)
+level : (a q b p : Corner) → OnLeft a q p → OnLeft q b p → square a b q ≤ℤ square a b p → (cross a q p ≤ℤ pos 0) × (cross q b p ≤ℤ pos 0)
 unfolding cross reach
 level a q b p h g l =
     let ρ = numbers (a ∷ q ∷ b ∷ p ∷ []) in
@@ -45,10 +52,10 @@ level a q b p h g l =
 turn-exposed : (P : List Corner) (a q b : Corner) → List·Memᴰ q P → AllLeft P a q → AllLeft P q b → Left a q b → Exposed P q
 turn-exposed P a q b m f g h = record { visited = m; u = b .1 -ℤ a .1; v = a .0 -ℤ b .0; most = top }
   where
-    top : (p : Corner) → List·Memᴰ p P → ¬ (p ≡ q) → reach (b .1 -ℤ a .1) (a .0 -ℤ b .0) p <ℤ reach (b .1 -ℤ a .1) (a .0 -ℤ b .0) q
-    top p n d = go (le-or-lt (reach (b .1 -ℤ a .1) (a .0 -ℤ b .0) q) (reach (b .1 -ℤ a .1) (a .0 -ℤ b .0) p))
+    top : (p : Corner) → List·Memᴰ p P → ¬ (p ≡ q) → square a b p <ℤ square a b q
+    top p n d = go (le-or-lt (square a b q) (square a b p))
       where
-        go : (reach (b .1 -ℤ a .1) (a .0 -ℤ b .0) q ≤ℤ reach (b .1 -ℤ a .1) (a .0 -ℤ b .0) p) ⊎ (reach (b .1 -ℤ a .1) (a .0 -ℤ b .0) p <ℤ reach (b .1 -ℤ a .1) (a .0 -ℤ b .0) q) → reach (b .1 -ℤ a .1) (a .0 -ℤ b .0) p <ℤ reach (b .1 -ℤ a .1) (a .0 -ℤ b .0) q
+        go : (square a b q ≤ℤ square a b p) ⊎ (square a b p <ℤ square a b q) → square a b p <ℤ square a b q
         go (inr r) = r
         go (inl l) = absurd (d (meet a q b p h (zero (cross a q p) (level a q b p (f p n) (g p n) l .0) (f p n .on)) (zero (cross q b p) (level a q b p (f p n) (g p n) l .1) (g p n .on))))
           where
@@ -100,7 +107,11 @@ bound-is [] q m = absurd (List·Memᴰ·not-nil m)
 bound-is (p ∷ l) q (List·Memᴰ·head e) = omega (arith, ap (λ (z : Corner). natAbs (z .1)) e)
 bound-is (p ∷ l) q (List·Memᴰ·tail m) = omega (arith, bound-is l q m)
 
-lean : (K s : ℤ) (b p : Corner) → pos 0 ≤ℤ K → (negℤ K) ≤ℤ p .1 → b .1 ≤ℤ K → (s *ℤ b .0) <ℤ (s *ℤ p .0) → reach (negℤ (s *ℤ (K +ℤ K +ℤ pos 1))) (negsuc 0) p <ℤ reach (negℤ (s *ℤ (K +ℤ K +ℤ pos 1))) (negsuc 0) b
+-- the first part of a direction that is nearly level, if no y is above K or below its negation: by a step along x it loses more than any two y differ
+abbrev steep : ℤ → ℤ → ℤ
+steep K s = negℤ (s *ℤ (K +ℤ K +ℤ pos 1))
+
+lean : (K s : ℤ) (b p : Corner) → pos 0 ≤ℤ K → (negℤ K) ≤ℤ p .1 → b .1 ≤ℤ K → (s *ℤ b .0) <ℤ (s *ℤ p .0) → reach (steep K s) (negsuc 0) p <ℤ reach (steep K s) (negsuc 0) b
 unfolding reach
 lean K s b p z i j l =
     let ρ = K ∷ s ∷ numbers (b ∷ p ∷ []) in
@@ -115,14 +126,14 @@ same-col u b p e l =
 
 -- s is 1 for the left end and -1 for the right end
 end-exposed : (P : List Corner) (s : ℤ) (b : Corner) → List·Memᴰ b P → ((q : Corner) → List·Memᴰ q P → ((s *ℤ b .0) <ℤ (s *ℤ q .0)) ⊎ ((b .0 ≡ q .0) × (b .1 ≤ℤ q .1))) → Exposed P b
-end-exposed P s b m f = record { visited = m; u = negℤ (s *ℤ (pos (bound P) +ℤ pos (bound P) +ℤ pos 1)); v = negsuc 0; most = top }
+end-exposed P s b m f = record { visited = m; u = steep (pos (bound P)) s; v = negsuc 0; most = top }
   where
-    top : (p : Corner) → List·Memᴰ p P → ¬ (p ≡ b) → reach (negℤ (s *ℤ (pos (bound P) +ℤ pos (bound P) +ℤ pos 1))) (negsuc 0) p <ℤ reach (negℤ (s *ℤ (pos (bound P) +ℤ pos (bound P) +ℤ pos 1))) (negsuc 0) b
+    top : (p : Corner) → List·Memᴰ p P → ¬ (p ≡ b) → reach (steep (pos (bound P)) s) (negsuc 0) p <ℤ reach (steep (pos (bound P)) s) (negsuc 0) b
     top p n d = go (f p n)
       where
-        go : ((s *ℤ b .0) <ℤ (s *ℤ p .0)) ⊎ ((b .0 ≡ p .0) × (b .1 ≤ℤ p .1)) → reach (negℤ (s *ℤ (pos (bound P) +ℤ pos (bound P) +ℤ pos 1))) (negsuc 0) p <ℤ reach (negℤ (s *ℤ (pos (bound P) +ℤ pos (bound P) +ℤ pos 1))) (negsuc 0) b
+        go : ((s *ℤ b .0) <ℤ (s *ℤ p .0)) ⊎ ((b .0 ≡ p .0) × (b .1 ≤ℤ p .1)) → reach (steep (pos (bound P)) s) (negsuc 0) p <ℤ reach (steep (pos (bound P)) s) (negsuc 0) b
         go (inl l) = lean (pos (bound P)) s b p (omega zarith) (omega (zarith, abs-nat (p .1), bound-is P p n, up-neg (pos (bound P)), dn-neg (pos (bound P)))) (omega (zarith, abs-nat (b .1), bound-is P b m)) l
-        go (inr l) = same-col (negℤ (s *ℤ (pos (bound P) +ℤ pos (bound P) +ℤ pos 1))) b p (l .0) (strict (le-or-lt (p .1) (b .1)))
+        go (inr l) = same-col (steep (pos (bound P)) s) b p (l .0) (strict (le-or-lt (p .1) (b .1)))
           where
             strict : (p .1 ≤ℤ b .1) ⊎ (b .1 <ℤ p .1) → b .1 <ℤ p .1
             strict (inr z) = z

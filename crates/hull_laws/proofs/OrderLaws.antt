@@ -1,23 +1,24 @@
 -- The corners in their order: from edges that have all corners on or left of them to the statement on any three.
+--
+-- An inequality is proved by a certificate over the numbers ρ of some corners: `X i` and `Y i` are the coordinates of the i-th of them, `cr i j l`
+-- is the cross product of three, `dt i` how far one lies in a direction, `O` is 0. A fact comes in by `h≤`, `h<`, `hw` (a < b, as a ≤ b), `h≡`,
+-- `h≢`, `hp` (0 < a), `h0` (0 ≤ a) or `eqt` (an equation times anything), with the number of variables, ρ and its two sides; `_⊞_` adds, `_⊠_` and
+-- `_⊡_` multiply. `by≤`, `by<`, `by≡` and `by⊥` conclude; `by<÷ m` divides by m (int_laws, SignLaws).
 -- Assumes nothing.
 use mathlib.Core.Path.{_≡_, refl, sym, subst}
 use mathlib.Core.List.{List, [], _∷_, List·Memᴰ, List·Memᴰ·head, List·Memᴰ·tail, List·Memᴰ·not-nil}
 use mathlib.Core.Logic.{_⊎_, inl, inr, ⊎-elim}
-use Prim.Native.Nat.{ℕ}
 use lib.IntN.{ℤ, pos, _-ℤ_, _*ℤ_, *ℤ-comm}
 use lib.Signed.{_≤ℤ_, _<ℤ_}
 use Rattle.int_laws.proofs.LinearLaws.{zarith, le-or-lt}
-use Rattle.int_laws.proofs.RingLaws.{E, v, _⊕_, _⊖_, _⊗_}
+use Rattle.int_laws.proofs.RingLaws.{v, _⊖_, _⊗_}
 use Rattle.int_laws.proofs.SignLaws.{h≤, h<, hw, h≡, h≢, h0, hp, eqt, by≤, by<, by⊥, by≡, by<÷, _⊞_, _⊠_, _⊡_}
 use Rattle.grid.specs.declared.Corner.{Corner}
 use Rattle.grid.specs.Grid.{numbers, Begins}
 use Rattle.lists.specs.Lists.{Distinct}
 use Rattle.hull.specs.Hull.{Ccw, Exposed, Left, Pairs, cross, reach, AllLeft, OnLeft}
-use Rattle.hull_laws.proofs.CornerLaws.{O, X, Y, cr, left-rot, on-rot}
+use Rattle.hull_laws.proofs.CornerLaws.{O, X, Y, cr, dt, left-rot, on-rot}
 use Rattle.grid.proofs.CornerLaws.{corner-eq}
-
-abbrev dt : ℕ → E
-dt i = v 0 ⊗ X i ⊕ v 1 ⊗ Y i
 
 flat-left : (a b : Corner) → Left a b b → ⊥
 unfolding cross
@@ -107,34 +108,55 @@ above o a d e h = go (le-or-lt (a .1) (o .1))
     go (inr l) = l
     go (inl l) = absurd (d (corner-eq o a e (omega zarith)))
 
--- o is the first, all three are corners, and o, a, b are in a line
-in-line : (P : List Corner) (o a b : Corner) → List·Memᴰ o P → Exposed P a → Exposed P b → Begins o a → Begins o b → ¬ (o ≡ a) → ¬ (o ≡ b) → ¬ (a ≡ b) → cross o a b ≡ pos 0 → ⊥
-in-line P o a b i ea eb f g d d′ d″ z = go f g
+-- o is a corner of P before a and b, which are exposed, and all three differ
+record Three (P : List Corner) (o a b : Corner) : Type 0 where
+  visited : List·Memᴰ o P
+  first : Exposed P a
+  second : Exposed P b
+  before-first : Begins o a
+  before-second : Begins o b
+  o-a : ¬ (o ≡ a)
+  o-b : ¬ (o ≡ b)
+  a-b : ¬ (a ≡ b)
+
+-- they are not in a line
+in-line : (P : List Corner) (o a b : Corner) → Three P o a b → cross o a b ≡ pos 0 → ⊥
+in-line P o a b t z = go (t .before-first) (t .before-second)
   where
-    a-o : reach (ea .u) (ea .v) o <ℤ reach (ea .u) (ea .v) a
-    a-o = ea .most o i d
+    ea : Exposed P a
+    ea = t .first
 
-    a-b : reach (ea .u) (ea .v) b <ℤ reach (ea .u) (ea .v) a
-    a-b = ea .most b (eb .visited) (λ e. d″ (sym e))
+    eb : Exposed P b
+    eb = t .second
 
-    b-o : reach (eb .u) (eb .v) o <ℤ reach (eb .u) (eb .v) b
-    b-o = eb .most o i d′
+    a-over-o : reach (ea .u) (ea .v) o <ℤ reach (ea .u) (ea .v) a
+    a-over-o = ea .most o (t .visited) (t .o-a)
 
-    b-a : reach (eb .u) (eb .v) a <ℤ reach (eb .u) (eb .v) b
-    b-a = eb .most a (ea .visited) d″
+    a-over-b : reach (ea .u) (ea .v) b <ℤ reach (ea .u) (ea .v) a
+    a-over-b = ea .most b (eb .visited) (λ e. t .a-b (sym e))
+
+    b-over-o : reach (eb .u) (eb .v) o <ℤ reach (eb .u) (eb .v) b
+    b-over-o = eb .most o (t .visited) (t .o-b)
+
+    b-over-a : reach (eb .u) (eb .v) a <ℤ reach (eb .u) (eb .v) b
+    b-over-a = eb .most a (ea .visited) (t .a-b)
 
     go : Begins o a → Begins o b → ⊥
-    go (inl f) (inl g) = ⊎-elim (λ l. line-x (ea .u) (ea .v) o a b f l z a-o a-b) (λ l. line-x (eb .u) (eb .v) o b a g (omega zarith) (swap-zero o a b z) b-o b-a) (le-or-lt (a .0) (b .0))
-    go (inl f) (inr g) = askew o a b f (g .0) (above o b d′ (g .0) (g .1)) z
-    go (inr f) (inl g) = askew o b a g (f .0) (above o a d (f .0) (f .1)) (swap-zero o a b z)
-    go (inr f) (inr g) = ⊎-elim (λ l. line-y (ea .u) (ea .v) o a b (f .0) (g .0) (above o a d (f .0) (f .1)) l a-o a-b) (λ l. line-y (eb .u) (eb .v) o b a (g .0) (f .0) (above o b d′ (g .0) (g .1)) (omega zarith) b-o b-a) (le-or-lt (a .1) (b .1))
+    go (inl f) (inl g) =
+        ⊎-elim (λ l. line-x (ea .u) (ea .v) o a b f l z a-over-o a-over-b)
+        (λ l. line-x (eb .u) (eb .v) o b a g (omega zarith) (swap-zero o a b z) b-over-o b-over-a) (le-or-lt (a .0) (b .0))
+    go (inl f) (inr g) = askew o a b f (g .0) (above o b (t .o-b) (g .0) (g .1)) z
+    go (inr f) (inl g) = askew o b a g (f .0) (above o a (t .o-a) (f .0) (f .1)) (swap-zero o a b z)
+    go (inr f) (inr g) =
+        ⊎-elim (λ l. line-y (ea .u) (ea .v) o a b (f .0) (g .0) (above o a (t .o-a) (f .0) (f .1)) l a-over-o a-over-b)
+        (λ l. line-y (eb .u) (eb .v) o b a (g .0) (f .0) (above o b (t .o-b) (g .0) (g .1)) (omega zarith) b-over-o b-over-a) (le-or-lt (a .1) (b .1))
 
-strict : (P : List Corner) (o a b : Corner) → List·Memᴰ o P → Exposed P a → Exposed P b → Begins o a → Begins o b → ¬ (o ≡ a) → ¬ (o ≡ b) → ¬ (a ≡ b) → OnLeft a b o → Left o a b
-strict P o a b i ea eb f g d d′ d″ h = go (le-or-lt (cross o a b) (pos 0)) (on-rot (on-rot h))
+strict : (P : List Corner) (o a b : Corner) → Three P o a b → OnLeft a b o → Left o a b
+strict P o a b t h = go (le-or-lt (cross o a b) (pos 0)) (on-rot (on-rot h))
   where
     go : (cross o a b ≤ℤ pos 0) ⊎ (pos 0 <ℤ cross o a b) → OnLeft o a b → Left o a b
     go (inr l) n = record { left = l }
-    go (inl l) n = absurd (in-line P o a b i ea eb f g d d′ d″ (omega (zarith, n .on)))
+    go (inl l) n = absurd (in-line P o a b t (omega (zarith, n .on)))
 
 -- a path with all of P on or left of each step
 abbrev pub Edges : List Corner → List Corner → Type 0
@@ -152,12 +174,21 @@ module _ (P : List Corner) (o : Corner) (i : List·Memᴰ o P) (first : (q : Cor
   fan (a ∷ []) h e d = ((λ b m. absurd (List·Memᴰ·not-nil m)), tt)
   fan (a ∷ (b ∷ s)) h e d = both (fan (b ∷ s) (h .2) (λ q m. e q (List·Memᴰ·tail m)) (λ q m. d q (List·Memᴰ·tail m)))
     where
+      ea : Exposed P a
+      ea = e a (List·Memᴰ·head refl)
+
+      eb : Exposed P b
+      eb = e b (List·Memᴰ·tail (List·Memᴰ·head refl))
+
       ab : Left o a b
-      ab = strict P o a b i (e a (List·Memᴰ·head refl)) (e b (List·Memᴰ·tail (List·Memᴰ·head refl))) (first a (e a (List·Memᴰ·head refl) .visited)) (first b (e b (List·Memᴰ·tail (List·Memᴰ·head refl)) .visited)) (d a (List·Memᴰ·head refl)) (d b (List·Memᴰ·tail (List·Memᴰ·head refl))) (h .0) (h .1 o i)
+      ab =
+          strict P o a b
+          (record { visited = i; first = ea; second = eb; before-first = first a (ea .visited); before-second = first b (eb .visited); o-a = d a (List·Memᴰ·head refl); o-b = d b (List·Memᴰ·tail (List·Memᴰ·head refl)); a-b = h .0 })
+          (h .1 o i)
 
       near : Pairs (λ a b. Left o a b) (b ∷ s) → (c : Corner) → List·Memᴰ c (b ∷ s) → Left o a c
       near rest c (List·Memᴰ·head r) = subst (λ (z : Corner). Left o a z) (sym r) ab
-      near rest c (List·Memᴰ·tail m) = left-trans o a b c (first a (e a (List·Memᴰ·head refl) .visited)) (first b (e b (List·Memᴰ·tail (List·Memᴰ·head refl)) .visited)) (first c (e c (List·Memᴰ·tail (List·Memᴰ·tail m)) .visited)) ab (rest .0 c m)
+      near rest c (List·Memᴰ·tail m) = left-trans o a b c (first a (ea .visited)) (first b (eb .visited)) (first c (e c (List·Memᴰ·tail (List·Memᴰ·tail m)) .visited)) ab (rest .0 c m)
 
       both : Pairs (λ a b. Left o a b) (b ∷ s) → Pairs (λ a b. Left o a b) (a ∷ (b ∷ s))
       both rest = (near rest, rest)

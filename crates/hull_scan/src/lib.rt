@@ -185,8 +185,8 @@ fn list_from(chain: &[u8], start: Corner, out: &mut [i32]) -> Counted
     list_widest(chain, start, west, east, out)
 }
 
-// Writes x and y of each corner of the hull of the walk from start, and answers how many corners there are. Refuses too many bytes, a
-// start out of range, a digit above 3, a step too many, and a buffer that is too short; then it writes nothing.
+// Writes x and y of each corner of the hull of the walk from start, and answers how many corners there are. Refuses too many
+// bytes, a start out of range, a digit above 3, a step too many, and a buffer that is too short; then it writes nothing.
 pub fn list(start: Corner, chain: &[u8], out: &mut [i32]) -> Counted
     ensures { λ r. ⌜ HullCall start (now (chain .entry)) (now (out .entry)) r (now (out .exit)) ⌝ }
 {

@@ -45,8 +45,8 @@ firstWord = 20
 abbrev pub edgeWord : ℕ → ℕ
 edgeWord d = 21 + d
 
--- what a record holds: the parent; the child in word w; the neighbour in direction d, and that link's step; the visits; the step that
--- first needed the node; 1 + the least k with pk here; how often the edge in direction d was walked
+-- what a record holds: the parent; the child in word w; the neighbour in direction d, and that link's step; the visits; the step
+-- that first needed the node; 1 + the least k with pk here; how often the edge in direction d was walked
 pub record Fields : Type 0 where
   pub parent : ℕ
   pub child : ℕ → ℕ

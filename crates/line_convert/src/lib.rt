@@ -63,7 +63,8 @@ fn spell_frame(steps: &[u8], out: &mut [u8], at: usize) -> usize
 fn convert_turns(s: &[u8], turns: &[u8], steps: &mut [u8], out: &mut [u8], at: usize) -> usize
     requires { ⌜ (length (now s) ≡ headDigits + length (now turns)) × (length (now steps) ≡ length (now turns)) ⌝ }
     requires { ⌜ at + length (now s) ≤ length (now out) ⌝ }
-    ensures { λ e. ⌜ Wrote (writtenIf (turnsJudged (now (turns .entry)) (length (now (turns .entry)))) (stepsFrame (stepsOf (now (turns .entry)))) (now (s .entry))) at (now (out .entry)) e (now (out .exit)) ⌝ }
+    ensures { λ e. ⌜ Wrote (writtenIf (turnsJudged (now (turns .entry)) (length (now (turns .entry))))
+        (stepsFrame (stepsOf (now (turns .entry)))) (now (s .entry))) at (now (out .entry)) e (now (out .exit)) ⌝ }
 {
     match turns::steps_of(turns, steps) {
         Judged::Good => spell_frame(steps, out, at),
@@ -110,7 +111,8 @@ fn names_turns(s: &[u8]) -> bool
     s[1] == 49
 }
 
-// Writes the line s, converted, from the place at on. Answers the place after it. A line of another kind stays, so it need not be read.
+// Writes the line s, converted, from the place at on. Answers the place after it. A line of another kind stays, so it need not be
+// read.
 fn convert_line(s: &[u8], out: &mut [u8], at: usize) -> usize
     requires { ⌜ at + length (now s) ≤ length (now out) ⌝ }
     ensures { λ e. ⌜ Wrote (convertedLine (now (s .entry))) at (now (out .entry)) e (now (out .exit)) ⌝ }
@@ -124,8 +126,8 @@ fn convert_line(s: &[u8], out: &mut [u8], at: usize) -> usize
     }
 }
 
-// The line, converted, at the start of the buffer; neither has a line feed. Answers how many bytes it has, as many as the line, or 0 if the
-// buffer is shorter, and leaves it as it was then.
+// The line, converted, at the start of the buffer; neither has a line feed. Answers how many bytes it has, as many as the line,
+// or 0 if the buffer is shorter, and leaves it as it was then.
 pub fn convert(line: &[u8], out: &mut [u8]) -> usize
     ensures { λ n. ⌜ ConvertedIs (now (line .entry)) (now (out .entry)) n (now (out .exit)) ⌝ }
 {
@@ -135,10 +137,13 @@ pub fn convert(line: &[u8], out: &mut [u8]) -> usize
     convert_line(line, out, 0)
 }
 
-// What is written of a line that goes on, where h is held of it and r comes: the bytes that are new as soon as it is longer than a frame.
+// What is written of a line that goes on, where h is held of it and r comes: the bytes that are new as soon as it is longer than
+// a frame.
 pub fn pass_on(h: &[u8], r: &[u8], out: &mut [u8], at: usize) -> usize
     requires { ⌜ at + length (now h) + length (now r) ≤ length (now out) ⌝ }
-    ensures { λ e. ⌜ Wrote (cond (isLong (now (h .entry))) (now (r .entry)) (cond (isLong (now (h .entry) ++ now (r .entry))) (now (h .entry) ++ now (r .entry)) [])) at (now (out .entry)) e (now (out .exit)) ⌝ }
+    ensures { λ e. ⌜ Wrote (cond (isLong (now (h .entry))) (now (r .entry))
+        (cond (isLong (now (h .entry) ++ now (r .entry))) (now (h .entry) ++ now (r .entry)) [])) at
+        (now (out .entry)) e (now (out .exit)) ⌝ }
 {
     if Frame::MOST_LINE < h.len() {
         return copy(r, out, at);
@@ -153,7 +158,8 @@ pub fn pass_on(h: &[u8], r: &[u8], out: &mut [u8], at: usize) -> usize
 // What is written of a line of which h was kept, where it ends: the line converted, or nothing more if it was passed on.
 pub fn end_line(h: &[u8], out: &mut [u8], at: usize) -> usize
     requires { ⌜ (length (now h) ≤ mostHeld) × (at + mostHeld ≤ length (now out)) ⌝ }
-    ensures { λ e. ⌜ Wrote (cond (isLong (now (h .entry))) [] (convertedLine (now (h .entry)))) at (now (out .entry)) e (now (out .exit)) ⌝ }
+    ensures { λ e. ⌜ Wrote (cond (isLong (now (h .entry))) [] (convertedLine (now (h .entry)))) at
+        (now (out .entry)) e (now (out .exit)) ⌝ }
 {
     if Frame::MOST_LINE < h.len() {
         return at;
@@ -164,7 +170,8 @@ pub fn end_line(h: &[u8], out: &mut [u8], at: usize) -> usize
 // The same, with its line feed.
 pub fn end_fed_line(h: &[u8], out: &mut [u8], at: usize) -> usize
     requires { ⌜ (length (now h) ≤ mostHeld) × (at + mostHeld ≤ length (now out)) ⌝ }
-    ensures { λ e. ⌜ Wrote (cond (isLong (now (h .entry))) [] (convertedLine (now (h .entry))) ++ (10 ∷ [])) at (now (out .entry)) e (now (out .exit)) ⌝ }
+    ensures { λ e. ⌜ Wrote (cond (isLong (now (h .entry))) [] (convertedLine (now (h .entry))) ++ (10 ∷ [])) at
+        (now (out .entry)) e (now (out .exit)) ⌝ }
 {
     let end = end_line(h, out, at);
     out[end] = 10;

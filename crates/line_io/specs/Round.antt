@@ -12,14 +12,18 @@ ReadOn held room m (Over n) = n ≡ held
 ReadOn held room m Unread = Unit {0}
 ReadOn held room m Unwritten = ⊥
 
--- lines of the chunk s from at on: the output up to used is what was handed on where the sheet stood at m, and the chunk is the same
+-- lines of the chunk s from at on: the output up to used is what was handed on where the sheet stood at m, and the chunk is the
+-- same
 abbrev pub PassedOn : Task → List ℕ → ℕ → List ℕ → ℕ → List ℕ → Margin → Round → List ℕ → List ℕ → Type 0
-PassedOn t line held s at out m (More p n q) line′ out′ = Filled (jobOf t) line held s at out p line′ out′ × (n ≡ length s) × (q ≡ marginOf t m (take (p .used) out′))
+PassedOn t line held s at out m (More p n q) line′ out′ =
+    Filled (jobOf t) line held s at out p line′ out′ × (n ≡ length s) × (q ≡ marginOf t m (take (p .used) out′))
 PassedOn t line held s at out m (Over n) line′ out′ = ⊥
 PassedOn t line held s at out m Unread line′ out′ = ⊥
 PassedOn t line held s at out m Unwritten line′ out′ = Unit {0}
 
--- a round, where the chunk is the first n bytes of buf and was passed up to the place of p: it is passed further as long as there is some of it
-pub record RoundIs (t : Task) (line : List ℕ) (p : Progress) (buf : List ℕ) (n : ℕ) (out : List ℕ) (m : Margin) (r : Round) (line′ buf′ out′ : List ℕ) : Type 0 where
+-- a round, where the chunk is the first n bytes of buf and was passed up to the place of p: it is passed further as long as there
+-- is some of it
+pub record RoundIs (t : Task) (line : List ℕ) (p : Progress) (buf : List ℕ) (n : ℕ) (out : List ℕ) (m : Margin) (r : Round)
+    (line′ buf′ out′ : List ℕ) : Type 0 where
   pub on : p .at < n → PassedOn t line (p .held) (take n buf) (p .at) out m r line′ out′ × (buf′ ≡ buf)
   pub next : n ≤ p .at → ReadOn (p .held) (length buf) m r × (line′ ≡ line) × (out′ ≡ out)

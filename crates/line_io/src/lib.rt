@@ -16,8 +16,8 @@ ghost use Rattle.sheet_number.specs.Numbered.{mostPage};
 ghost use Rattle.lines.specs.Tasks.{mostTold, jobOf};
 ghost use Rattle.line_io.specs.Round.{ReadOn, PassedOn, RoundIs};
 
-// After a round: how far the chunk was passed, how many bytes it has, and where the sheet stands; or the input is over with so many bytes
-// of a line held; or a read or a write failed.
+// After a round: how far the chunk was passed, how many bytes it has, and where the sheet stands; or the input is over with so
+// many bytes of a line held; or a read or a write failed.
 enum Round {
     More(Progress, usize, Margin),
     Over(usize),
@@ -69,7 +69,8 @@ fn pass(
     requires { ⌜ (held ≤ mostHeld) × (length (now line) ≡ mostHeld) ⌝ }
     requires { ⌜ (at ≤ length (now s)) × (length (now s) ≤ mostPart) ⌝ }
     requires { ⌜ length (now page) ≡ mostPage ⌝ }
-    ensures { λ r. ⌜ PassedOn task (now (line .entry)) held (now (s .entry)) at (now (out .entry)) m r (now (line .exit)) (now (out .exit)) ⌝ }
+    ensures { λ r. ⌜ PassedOn task (now (line .entry)) held (now (s .entry)) at (now (out .entry)) m r
+        (now (line .exit)) (now (out .exit)) ⌝ }
 {
     let p = lines::fill(task, line, held, s, at, out);
     let used = p.used;
@@ -93,7 +94,8 @@ fn go_round(
     requires { ⌜ (p .held ≤ mostHeld) × (length (now line) ≡ mostHeld) ⌝ }
     requires { ⌜ (n ≤ length (now buf)) × (length (now buf) ≤ mostPart) ⌝ }
     requires { ⌜ length (now page) ≡ mostPage ⌝ }
-    ensures { λ r. ⌜ RoundIs task (now (line .entry)) p (now (buf .entry)) n (now (out .entry)) m r (now (line .exit)) (now (buf .exit)) (now (out .exit)) ⌝ }
+    ensures { λ r. ⌜ RoundIs task (now (line .entry)) p (now (buf .entry)) n (now (out .entry)) m r (now (line .exit))
+        (now (buf .exit)) (now (out .exit)) ⌝ }
 {
     if p.at < n {
         return pass(task, line, p.held, &buf[..n], p.at, out, m, page);
@@ -115,7 +117,8 @@ fn close(task: Task, line: &[u8], held: usize, out: &mut [u8], m: Margin, page: 
     }
 }
 
-// A proved loop has to end, and nothing says that the input does. So it counts its rounds down, from a number that no run uses up.
+// A proved loop has to end, and nothing says that the input does. So it counts its rounds down, from a number that no run uses
+// up.
 fn run(task: Task, line: &mut [u8], buf: &mut [u8], out: &mut [u8], page: &mut [u8]) -> Ending
     requires { ⌜ (length (now line) ≡ mostHeld) × (length (now buf) ≤ mostPart) ⌝ }
     requires { ⌜ (mostTold task ≤ length (now out)) × (length (now page) ≡ mostPage) ⌝ }

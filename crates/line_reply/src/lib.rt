@@ -44,7 +44,8 @@ impl Desk {
     // the numbers that list them
     pub const HULL: usize = 2 * Desk::CORNERS;
 
-    // bytes that no answer line exceeds: 34 digits of facts, 4 of the hull count, 8 for each hull corner, the line feed, and one to spare
+    // bytes that no answer line exceeds: 34 digits of facts, 4 of the hull count, 8 for each hull corner, the line feed, and one
+    // to spare
     pub const MOST_ANSWER: usize = 40 + 8 * Desk::CORNERS;
 }
 
@@ -65,7 +66,8 @@ fn write_accepted(f: Facts, steps: &[u8], hull: &mut [i32], out: &mut [u8], at: 
     requires { ⌜ Below 4 (now steps) × (length (now steps) ≤ mostDigits) ⌝ }
     requires { ⌜ length (now hull) ≡ hullNumbers ⌝ }
     requires { ⌜ at + mostAnswer ≤ length (now out) ⌝ }
-    ensures { λ e. ⌜ Wrote (factsLine f ++ hullLine (hullOf origin (now (steps .entry)))) at (now (out .entry)) e (now (out .exit)) ⌝ }
+    ensures { λ e. ⌜ Wrote (factsLine f ++ hullLine (hullOf origin (now (steps .entry)))) at
+        (now (out .entry)) e (now (out .exit)) ⌝ }
 {
     let n = list_hull(steps, hull);
     let a = spell_facts(out, at, f);

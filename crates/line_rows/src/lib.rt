@@ -68,7 +68,8 @@ fn tell_threes(out: &mut [u8], at: usize, xs: &[i32], n: usize) -> usize
 fn tell_room(steps: &[u8], numbers: &mut [i32], out: &mut [u8], at: usize) -> usize
     requires { ⌜ (length (now steps) ≤ mostDigits) × (length (now numbers) ≡ hullNumbers) ⌝ }
     requires { ⌜ at + mostRows ≤ length (now out) ⌝ }
-    ensures { λ e. ⌜ Wrote (roomTold (asRoomJudged origin (now (steps .entry))) (now (steps .entry))) at (now (out .entry)) e (now (out .exit)) ⌝ }
+    ensures { λ e. ⌜ Wrote (roomTold (asRoomJudged origin (now (steps .entry))) (now (steps .entry))) at
+        (now (out .entry)) e (now (out .exit)) ⌝ }
 {
     match row_list::list(Corner(0, 0), steps, numbers) {
         Counted::Many(n) => tell_threes(out, at, numbers, n),

@@ -3,8 +3,8 @@
 use Rattle.lists.specs.Lists.{_≡_, Bool, true, false, cond, List, [], _∷_, _++_, length, take, ℕ, eqb, ltb}
 use Rattle.line_frame.specs.{Sizes.mostLine, Program.lastOf, Begun.lineLength, Begun.hasFeed, Begun.keptOf}
 
--- what a program writes for a line of which the bytes h are held: where the line ends after the bytes r; where a part of the input ends there, and
--- the line goes on; and where the input ends
+-- what a program writes for a line of which the bytes h are held: where the line ends after the bytes r; where a part of the
+-- input ends there, and the line goes on; and where the input ends
 pub record Job : Type 0 where
   pub told : List ℕ → List ℕ → List ℕ
   pub early : List ℕ → List ℕ → List ℕ
@@ -12,8 +12,8 @@ pub record Job : Type 0 where
   -- a line is passed only where the output has room for so many bytes
   pub most : ℕ
 
--- a job is to write told of each line and last of a last line that lacks its line feed: it does so for whole lines, and what was written early
--- and what is written of the kept bytes is what is written of all
+-- a job is to write told of each line and last of a last line that lacks its line feed: it does so for whole lines, and what was
+-- written early and what is written of the kept bytes is what is written of all
 pub record Does (J : Job) (told last : List ℕ → List ℕ) : Type 0 where
   pub whole : (l : List ℕ) → J .told [] l ≡ told l
   pub end : (l : List ℕ) → J .early [] l ++ J .last (keptOf l) ≡ lastOf last l
@@ -30,7 +30,8 @@ unfoldable pub owedFrom : Job → List ℕ → List ℕ → List ℕ → List �
 owedFrom J h r [] = J .early h r ++ J .last (keptOf (h ++ r))
 owedFrom J h r (b ∷ s) = elim (eqb b 10) [ true ↦ J .told h r ++ owedFrom J [] [] s | false ↦ owedFrom J h (r ++ (b ∷ [])) s ]
 
--- with h held, the bytes w are written for the bytes s and h′ is held then: whatever comes after, w and what is owed then is what was owed
+-- with h held, the bytes w are written for the bytes s and h′ is held then: whatever comes after, w and what is owed then is what
+-- was owed
 abbrev pub Fed : Job → List ℕ → List ℕ → List ℕ → List ℕ → Type 0
 Fed J h s w h′ = (t : List ℕ) → w ++ owedFrom J h′ [] t ≡ owedFrom J h [] (s ++ t)
 
@@ -52,7 +53,8 @@ tellsEach f n = record { told = λ h r. f (h ++ r); early = λ h r. []; last = l
 abbrev pub isLong : List ℕ → Bool
 isLong h = ltb mostLine (length h)
 
--- a job that writes f of each line and its line feed, and of a last line that lacks it f alone; a line that is longer than a frame is passed on as it comes
+-- a job that writes f of each line and its line feed, and of a last line that lacks it f alone; a line that is longer than a
+-- frame is passed on as it comes
 abbrev pub passesOn : (List ℕ → List ℕ) → ℕ → Job
 passesOn f n = record {
   told = λ h r. cond (isLong h) r (f (h ++ r)) ++ (10 ∷ []);

@@ -1,4 +1,5 @@
-// Input that comes in parts: how far a call went, where a line ends, and the bytes of a line begun, which are held in a lent buffer.
+// Input that comes in parts: how far a call went, where a line ends, and the bytes of a line begun, which are held in a lent
+// buffer.
 use line_frame::Frame;
 use order::lesser;
 ghost use mathlib.Core.Path.{_≡_};
@@ -46,7 +47,8 @@ fn is_near(s: &[u8], at: usize) -> bool
 // A place from at on that no line feed stands before: near the first one, or near the end.
 fn skip(s: &[u8], at: usize) -> usize
     requires { ⌜ at ≤ length (now s) ⌝ }
-    ensures { λ r. ⌜ (r ≤ length (now (s .entry))) × (r + lineLength (drop r (now (s .entry))) ≡ at + lineLength (drop at (now (s .entry)))) ⌝ }
+    ensures { λ r. ⌜ (r ≤ length (now (s .entry)))
+        × (r + lineLength (drop r (now (s .entry))) ≡ at + lineLength (drop at (now (s .entry)))) ⌝ }
 {
     let mut i = at;
     while Progress::NEAR <= s.len() - i {
@@ -77,7 +79,8 @@ pub fn line_end(s: &[u8], at: usize) -> usize
 pub fn hold(line: &mut [u8], held: usize, s: &[u8], at: usize, end: usize) -> usize
     requires { ⌜ (held ≤ mostHeld) × (length (now line) ≡ mostHeld) ⌝ }
     requires { ⌜ (at ≤ end) × (end ≤ length (now s)) ⌝ }
-    ensures { λ r. ⌜ Wrote (keptOf (take held (now (line .entry)) ++ take (end - at) (drop at (now (s .entry))))) 0 (now (line .entry)) r (now (line .exit)) ⌝ }
+    ensures { λ r. ⌜ Wrote (keptOf (take held (now (line .entry)) ++ take (end - at) (drop at (now (s .entry))))) 0
+        (now (line .entry)) r (now (line .exit)) ⌝ }
 {
     let m = lesser(end - at, Progress::MOST_HELD - held);
     let mut i = 0;

@@ -34,7 +34,8 @@ fn walk_digits(s: &[u8], n: usize, table: &mut [u32], marks: &mut [u32], chain: 
     requires { ⌜ allHex (now s) ≡ true ⌝ }
     requires { ⌜ (n ≤ mostDigits) × (length (now s) ≡ headDigits + n) ⌝ }
     requires { ⌜ WalkBuffers (now table) (now marks) (now chain) ⌝ }
-    ensures { λ r. ⌜ WalkedBy (kindWalked kinds.Operations (digitsOf (now (s .entry)))) (digitsOf (now (s .entry))) r (now (chain .exit)) ⌝ }
+    ensures { λ r. ⌜ WalkedBy (kindWalked kinds.Operations (digitsOf (now (s .entry)))) (digitsOf (now (s .entry)))
+        r (now (chain .exit)) ⌝ }
     ensures { λ r. ⌜ Clear (now (table .exit)) ⌝ }
 {
     let mut digits = [0u8; Frame::MOST_DIGITS];

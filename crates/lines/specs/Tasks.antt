@@ -19,7 +19,8 @@ mostTold Convert = mostHeld
 mostTold Rows = mostRows
 mostTold Enter = mostEntry
 
--- lines are answered where they end; lines are converted, and those that are too long passed on as they come; lines are taken as rooms, and their rows listed or what the sheet says of them entered where they end
+-- lines are answered where they end; lines are converted, and those that are too long passed on as they come; lines are taken as
+-- rooms, and their rows listed or what the sheet says of them entered where they end
 abbrev pub jobOf : Task → Job
 jobOf Answer = tellsEach answered (mostEarly Answer + mostTold Answer)
 jobOf Convert = passesOn convertedLine (mostEarly Convert + mostTold Convert)
@@ -57,10 +58,12 @@ marginOf Convert m w = m
 marginOf Rows m w = m
 marginOf Enter m w = marginAfter m w
 
--- all that is handed on for the parts of an input, one after the other, and at the end, where h was held and the sheet stood at m at first
+-- all that is handed on for the parts of an input, one after the other, and at the end, where h was held and the sheet stood at m
+-- at first
 pub data Handed (t : Task) : Margin → List ℕ → List (List ℕ) → List ℕ → Type 0 where
   closed : {m : Margin} {h : List ℕ} → Handed t m h [] (handedOf t m (jobOf t .last h))
-  passed : {m : Margin} {h o : List ℕ} {ss : List (List ℕ)} (s w h′ : List ℕ) → Fed (jobOf t) h s w h′ → Handed t (marginOf t m w) h′ ss o → Handed t m h (s ∷ ss) (handedOf t m w ++ o)
+  passed : {m : Margin} {h o : List ℕ} {ss : List (List ℕ)} (s w h′ : List ℕ) → Fed (jobOf t) h s w h′
+      → Handed t (marginOf t m w) h′ ss o → Handed t m h (s ∷ ss) (handedOf t m w ++ o)
 
 -- the whole of it for an input
 abbrev pub allHanded : Task → List ℕ → List ℕ

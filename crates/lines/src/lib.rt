@@ -1,5 +1,6 @@
-// The work of the programs on a part of their input: what is done with its lines is a task. These functions are the programs' own, with a
-// requires on the buffers that they make; the library's calls for a line are line_reply::reply and line_convert::convert.
+// The work of the programs on a part of their input: what is done with its lines is a task. These functions are the programs'
+// own, with a requires on the buffers that they make; the library's calls for a line are line_reply::reply and
+// line_convert::convert.
 use line_convert::end_fed_line;
 use line_convert::end_line;
 use line_convert::pass_on;
@@ -57,7 +58,8 @@ fn tell_early(
     requires { ⌜ (held ≤ mostHeld) × (length (now line) ≡ mostHeld) ⌝ }
     requires { ⌜ (at ≤ end) × (end ≤ length (now s)) × (length (now s) ≤ mostPart) ⌝ }
     requires { ⌜ used + mostEarly task ≤ length (now out) ⌝ }
-    ensures { λ e. ⌜ Wrote (jobOf task .early (take held (now (line .entry))) (take (end - at) (drop at (now (s .entry))))) used (now (out .entry)) e (now (out .exit)) ⌝ }
+    ensures { λ e. ⌜ Wrote (jobOf task .early (take held (now (line .entry))) (take (end - at) (drop at (now (s .entry))))) used
+        (now (out .entry)) e (now (out .exit)) ⌝ }
 {
     match task {
         Task::Answer => used,
@@ -113,8 +115,8 @@ fn tell_last(
     }
 }
 
-// Writes what a task writes where a line ends, of which the bytes of the chunk from at up to end come to those that are held. A line of
-// which none are held is read where it stands.
+// Writes what a task writes where a line ends, of which the bytes of the chunk from at up to end come to those that are held. A
+// line of which none are held is read where it stands.
 fn tell_end(
     task: Task,
     line: &mut [u8],
@@ -132,7 +134,9 @@ fn tell_end(
     requires { ⌜ (at ≤ end) × (end ≤ length (now s)) ⌝ }
     requires { ⌜ Lent (now table) (now marks) (now hull) ⌝ }
     requires { ⌜ used + mostTold task ≤ length (now out) ⌝ }
-    ensures { λ e. ⌜ Wrote (jobOf task .told (keptOf (take held (now (line .entry)) ++ take (end - at) (drop at (now (s .entry))))) []) used (now (out .entry)) e (now (out .exit)) ⌝ }
+    ensures { λ e. ⌜ Wrote (jobOf task .told (keptOf
+        (take held (now (line .entry)) ++ take (end - at) (drop at (now (s .entry))))) []) used
+        (now (out .entry)) e (now (out .exit)) ⌝ }
     ensures { λ e. ⌜ now (line .exit) ≡ lineEnded (now (line .entry)) held (take (end - at) (drop at (now (s .entry)))) ⌝ }
     ensures { λ e. ⌜ Clear (now (table .exit)) ⌝ }
 {
@@ -161,7 +165,8 @@ fn feed_line(
     requires { ⌜ (at ≤ length (now s)) × (length (now s) ≤ mostPart) ⌝ }
     requires { ⌜ Lent (now table) (now marks) (now hull) ⌝ }
     requires { ⌜ used + jobOf task .most ≤ length (now out) ⌝ }
-    ensures { λ r. ⌜ FedLine (jobOf task) (now (line .entry)) held (drop at (now (s .entry))) at (now (out .entry)) used r (now (line .exit)) (now (out .exit)) ⌝ }
+    ensures { λ r. ⌜ FedLine (jobOf task) (now (line .entry)) held (drop at (now (s .entry))) at (now (out .entry)) used r
+        (now (line .exit)) (now (out .exit)) ⌝ }
     ensures { λ r. ⌜ Clear (now (table .exit)) ⌝ }
 {
     let end = line_end(s, at);
@@ -193,7 +198,8 @@ pub fn fill(
 ) -> Progress
     requires { ⌜ (held ≤ mostHeld) × (length (now line) ≡ mostHeld) ⌝ }
     requires { ⌜ (at ≤ length (now s)) × (length (now s) ≤ mostPart) ⌝ }
-    ensures { λ r. ⌜ Filled (jobOf task) (now (line .entry)) held (now (s .entry)) at (now (out .entry)) r (now (line .exit)) (now (out .exit)) ⌝ }
+    ensures { λ r. ⌜ Filled (jobOf task) (now (line .entry)) held (now (s .entry)) at (now (out .entry)) r
+        (now (line .exit)) (now (out .exit)) ⌝ }
 {
     let mut table = [0u32; Desk::TABLE];
     let mut marks = [0u32; Desk::MARKS];

@@ -1,5 +1,5 @@
--- The library's words that the definitions use, passed on: they mean what the library says. Then words about lists over a type with a
--- Boolean test of equality: membership, first place, count, and the list without repeats. Assumes nothing.
+-- The library's words that the definitions use, passed on: they mean what the library says. Then words about lists over a type
+-- with a Boolean test of equality: membership, first place, count, and the list without repeats. Assumes nothing.
 pub use mathlib.Core.Path.{_≡_}
 pub use mathlib.Core.Bool.{Bool, true, false, cond, not, _&&_, _||_}
 pub use mathlib.Core.List.{List, [], _∷_, _++_, List·Memᴰ}

@@ -10,7 +10,8 @@ use Rattle.outline.specs.Outline.{OutlineIs}
 abbrev pub outlineJudged : Corner → List ℕ → ℕ → ℕ → Judged
 outlineJudged s ds room steps = firstOf (asWalkJudged s ds ∷ when (ltb room steps) OutlineRoom ∷ [])
 
--- a call with this chain, from the corner s: `steps` is the outline of the walk. It is counted, and the buffer holds it and then what stood after it, unless there is a refusal
+-- a call with this chain, from the corner s: `steps` is the outline of the walk. It is counted, and the buffer holds it and then
+-- what stood after it, unless there is a refusal
 pub record OutlineCall (s : Corner) (ds before : List ℕ) (r : Counted) (after : List ℕ) : Type 0 where
   pub steps : List ℕ
   pub outline : OutlineIs s ds steps

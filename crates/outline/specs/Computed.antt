@@ -1,4 +1,5 @@
--- The outline, computed: outline_laws proves that this is the outline, so that a reader of the call needs none of it. Assumes nothing.
+-- The outline, computed: outline_laws proves that this is the outline, so that a reader of the call needs none of it. Assumes
+-- nothing.
 use Rattle.lists.specs.Lists.{true, false, List, length, ℕ, zero, suc, _*_}
 use Rattle.grid.specs.declared.Corner.{Corner}
 use Rattle.outline.specs.Outline.{pathFromHome, isDone}

@@ -1,5 +1,6 @@
--- The outer outline of a walk (RULES 15.1 to 15.4): the path along walked edges that keeps to the right, from the lowest of the leftmost corners until it is back there
--- with each of that corner's walked edges used. A walk without steps is no case apart: it has no walked edge, so that its path is done at once. Assumes nothing.
+-- The outer outline of a walk (RULES 15.1 to 15.4): the path along walked edges that keeps to the right, from the lowest of the
+-- leftmost corners until it is back there with each of that corner's walked edges used. A walk without steps is no case apart: it
+-- has no walked edge, so that its path is done at once. Assumes nothing.
 use Rattle.lists.specs.Lists.{_≡_, Bool, true, false, cond, not, _&&_, _||_, List, [], _∷_, length, ℕ, zero, suc, _<_, ltZ, any}
 use Rattle.grid.specs.{declared.Corner.Corner, Grid.eqZ, Grid.same, Grid.stepped, Grid.endFrom, Grid.legsFrom, Grid.joins}
 use Rattle.steps.specs.Turns.{stepAfter}
@@ -21,7 +22,8 @@ homeOf c (d ∷ ds) = cond (beginsBefore (homeOf (stepped d c) ds) c) (homeOf (s
 abbrev pub firstWay : Corner → List ℕ → ℕ
 firstWay c ds = cond (walked c ds (homeOf c ds) 0) 0 1
 
--- arriving by direction d, the first walked edge of right turn, straight on, left turn, back: turns 3, 0, 1, 2. It came by the edge back
+-- arriving by direction d, the first walked edge of right turn, straight on, left turn, back: turns 3, 0, 1, 2. It came by the
+-- edge back
 abbrev pub onward : (ℕ → Bool) → ℕ → ℕ
 onward w d = stepAfter d (cond (w (stepAfter d 3)) 3 (cond (w (stepAfter d 0)) 0 (cond (w (stepAfter d 1)) 1 2)))
 

@@ -27,4 +27,5 @@ pub record LinkMade (keys links : List ℕ) (used node k d : ℕ) (keys′ kids�
 -- a step goes along a link, or makes one
 abbrev pub StepLinked : List ℕ → List ℕ → List ℕ → ℕ → ℕ → ℕ → ℕ → List ℕ → List ℕ → List ℕ → ℕ → ℕ → Type 0
 StepLinked keys kids links used node k d keys′ kids′ links′ node′ used′ =
-    Along keys kids links used node d keys′ kids′ links′ node′ used′ ⊎ LinkMade keys links used node k d keys′ kids′ links′ node′ used′
+    Along keys kids links used node d keys′ kids′ links′ node′ used′
+    ⊎ LinkMade keys links used node k d keys′ kids′ links′ node′ used′

@@ -1,5 +1,5 @@
-// The different corners of a walk and the walked edges between them: corner i has the words 4 * i to 4 * i + 3 of links, one a direction,
-// each 1 + the number of the corner that a walked edge leads to, or 0.
+// The different corners of a walk and the walked edges between them: corner i has the words 4 * i to 4 * i + 3 of links, one a
+// direction, each 1 + the number of the corner that a walked edge leads to, or 0.
 use answer::Limits;
 use order::wide;
 use outline_roster::Seat;
@@ -53,7 +53,8 @@ fn advance(
     d: u8,
 ) -> Seat
     requires { ⌜ RoomForMore (now keys) (now kids) (now links) used node × (d < 4) ⌝ }
-    ensures { λ r. ⌜ StepLinked (now (keys .entry)) (now (kids .entry)) (now (links .entry)) used node k d (now (keys .exit)) (now (kids .exit)) (now (links .exit)) (r .node) (r .used) ⌝ }
+    ensures { λ r. ⌜ StepLinked (now (keys .entry)) (now (kids .entry)) (now (links .entry)) used node k d (now (keys .exit))
+        (now (kids .exit)) (now (links .exit)) (r .node) (r .used) ⌝ }
 {
     let at = 4 * node + d as usize;
     let l = wide(links[at]);

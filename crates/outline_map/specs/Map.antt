@@ -13,11 +13,13 @@ wayOn m e = eqb (m / 2 ^ e % 2) 1
 abbrev pub withBits : List ℕ → ℕ → ℕ → List ℕ
 withBits map b x = set map b (bitOr (getD map b 0) x)
 
--- each corner of the walk has a place below `size`: more of the one is more of the other, so no two have one place, and a step in direction d adds the word d of `by`
+-- each corner of the walk has a place below `size`: more of the one is more of the other, so no two have one place, and a step in
+-- direction d adds the word d of `by`
 pub record Placed (c : Corner) (chain by : List ℕ) (size : ℕ) (at : Corner → ℕ) : Type 0 where
   pub inside : (p : Corner) → List·Memᴰ p (cornersFrom c chain) → at p < size
   pub order : (p q : Corner) → List·Memᴰ p (cornersFrom c chain) → List·Memᴰ q (cornersFrom c chain) → at p ≤ at q → Begins p q
-  pub onto : (p : Corner) (d : ℕ) → d < 4 → List·Memᴰ p (cornersFrom c chain) → List·Memᴰ (stepped d p) (cornersFrom c chain) → (at p + getD by d 0) % 2 ^ 64 ≡ at (stepped d p)
+  pub onto : (p : Corner) (d : ℕ) → d < 4 → List·Memᴰ p (cornersFrom c chain) → List·Memᴰ (stepped d p) (cornersFrom c chain)
+      → (at p + getD by d 0) % 2 ^ 64 ≡ at (stepped d p)
 
 -- the bytes of these corners show the edges that the walk of ds went
 pub record Shown (c : Corner) (chain ds map : List ℕ) (at : Corner → ℕ) : Type 0 where

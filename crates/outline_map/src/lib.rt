@@ -1,4 +1,5 @@
-// A map of the corners of a walk: a byte a corner, with a bit for each way whose edge was walked, and the path of the outline over it.
+// A map of the corners of a walk: a byte a corner, with a bit for each way whose edge was walked, and the path of the outline
+// over it.
 use order::lesser;
 use outline_path::away;
 ghost use mathlib.Core.Path.{_≡_};
@@ -120,8 +121,8 @@ fn count(chain: &[u8], by: &[usize], map: &[u8], home: usize, first: u8) -> usiz
     n
 }
 
-// Whether the outline has at most as many steps as there is room for. It has at most two for each step of the walk: if there is room
-// for these, it is not counted.
+// Whether the outline has at most as many steps as there is room for. It has at most two for each step of the walk: if there is
+// room for these, it is not counted.
 pub fn fits(chain: &[u8], by: &[usize], map: &[u8], home: usize, first: u8, room: usize) -> bool
     requires { ⌜ MapRing (now chain) (now by) (now map) home first ⌝ }
     ensures { λ r. ⌜ FitsBy (now (chain .entry)) room r ⌝ }

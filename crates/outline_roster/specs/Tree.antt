@@ -9,10 +9,12 @@ seekFrom zero keys kids k i r = Free 0
 seekFrom (suc f) keys kids k i r =
     elim (eqb (getD keys i 0) k) [
       | true ↦ Node i
-      | false ↦ elim (getD kids (2 * i + r % 2) 0) [ zero ↦ Free (2 * i + r % 2) | suc c ↦ seekFrom f keys kids k (suc c) (r / 2) ]
+      | false ↦
+          elim (getD kids (2 * i + r % 2) 0) [ zero ↦ Free (2 * i + r % 2) | suc c ↦ seekFrom f keys kids k (suc c) (r / 2) ]
     ]
 
--- the first `used` keys are in the tree: a child has a higher number than its parent, there are none past the nodes, and the way down to a key ends at its node
+-- the first `used` keys are in the tree: a child has a higher number than its parent, there are none past the nodes, and the way
+-- down to a key ends at its node
 pub record Tree (keys kids : List ℕ) (used : ℕ) : Type 0 where
   pub some : 0 < used
   pub room : used ≤ length keys

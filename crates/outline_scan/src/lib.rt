@@ -88,7 +88,8 @@ fn write_widest(chain: &[u8], out: &mut [u8]) -> Counted
 
 // The outline of a walk with steps, in a map of its box that is lent blank: a byte a corner, column after column.
 fn write_on(chain: &[u8], b: WalkBox, map: &mut [u8], out: &mut [u8]) -> Counted
-    requires { ⌜ MapFits (now chain) (b .width) (b .height) (b .from) (b .closed) (length (now map)) × ((l : ℕ) → getD (now map) l 0 ≡ 0) ⌝ }
+    requires { ⌜ MapFits (now chain) (b .width) (b .height) (b .from) (b .closed) (length (now map))
+        × ((l : ℕ) → getD (now map) l 0 ≡ 0) ⌝ }
     ensures { λ r. ⌜ ((c : Corner) → Traced c (now (chain .entry)) (now (out .entry)) r (now (out .exit))) ⌝ }
 {
     let h = b.height;
@@ -128,8 +129,8 @@ fn map_widest(chain: &[u8], b: WalkBox, out: &mut [u8]) -> Counted
     write_on(chain, b, &mut map, out)
 }
 
-// The outline of a chain that is not refused: in a map if the box of the walk fits into it, and otherwise through a store of keys and
-// links. Neither is much larger than the walk needs: to clear it takes time.
+// The outline of a chain that is not refused: in a map if the box of the walk fits into it, and otherwise through a store of keys
+// and links. Neither is much larger than the walk needs: to clear it takes time.
 fn write_from(chain: &[u8], out: &mut [u8]) -> Counted
     requires { ⌜ Steady (now chain) ⌝ }
     ensures { λ r. ⌜ ((c : Corner) → Traced c (now (chain .entry)) (now (out .entry)) r (now (out .exit))) ⌝ }
@@ -157,8 +158,8 @@ fn write_from(chain: &[u8], out: &mut [u8]) -> Counted
     write_widest(chain, out)
 }
 
-// Writes the steps of the outer outline of the walk from start, and answers how many there are. Refuses too many bytes, a start out of
-// range, a digit above 3, a step too many, and a buffer that is too short; then it writes nothing.
+// Writes the steps of the outer outline of the walk from start, and answers how many there are. Refuses too many bytes, a start
+// out of range, a digit above 3, a step too many, and a buffer that is too short; then it writes nothing.
 pub fn write(start: Corner, chain: &[u8], out: &mut [u8]) -> Counted
     ensures { λ r. ⌜ OutlineCall start (now (chain .entry)) (now (out .entry)) r (now (out .exit)) ⌝ }
 {

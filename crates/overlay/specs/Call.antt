@@ -1,4 +1,5 @@
--- What the call that lists the parts of two rooms answers, and what it leaves in the three buffers (RULES 16.3 to 16.6). Assumes nothing.
+-- What the call that lists the parts of two rooms answers, and what it leaves in the three buffers (RULES 16.3 to 16.6). Assumes
+-- nothing.
 use Rattle.lists.specs.Lists.{_≡_, List, [], _∷_, length, ℕ, ℤ}
 use Rattle.grid.specs.declared.Corner.{Corner}
 use Rattle.answer.specs.declared.{Judged.Judged, Judged.the-variants.Good, Judged.the-variants.Refused}
@@ -21,7 +22,8 @@ partRoomJudged before lists k = spanRoomJudged (length (before k)) (length (list
 -- the refusals of the first room, then those of the second, then 21 for any of the three lists
 abbrev pub overlayJudged : Corner → List ℕ → Corner → List ℕ → (Part → List ℤ) → (Part → List Span) → Judged
 overlayJudged s ds t es before lists =
-    firstOf (asRoomJudged s ds ∷ asRoomJudged t es ∷ partRoomJudged before lists First ∷ partRoomJudged before lists Second ∷ partRoomJudged before lists Both ∷ [])
+    firstOf (asRoomJudged s ds ∷ asRoomJudged t es ∷ partRoomJudged before lists First ∷ partRoomJudged before lists Second
+    ∷ partRoomJudged before lists Both ∷ [])
 
 -- how many panels and how many spans a list has, and each of three lists
 abbrev pub measureOf : List Span → Measure
@@ -36,7 +38,8 @@ overlaidOf Good lists = Overlaid.Listed (measuresOf lists)
 overlaidOf (Refused r) lists = Overlaid.Refused r
 
 -- the promise of the call: `lists` has the panels of each part by rows. What is not two rooms is refused, whatever the lists
-pub record OverlayCall (s : Corner) (ds : List ℕ) (t : Corner) (es : List ℕ) (before : Part → List ℤ) (r : Overlaid) (after : Part → List ℤ) : Type 0 where
+pub record OverlayCall (s : Corner) (ds : List ℕ) (t : Corner) (es : List ℕ) (before : Part → List ℤ) (r : Overlaid)
+    (after : Part → List ℤ) : Type 0 where
   pub lists : Part → List Span
   pub rows : asRoomJudged s ds ≡ Good → asRoomJudged t es ≡ Good → (k : Part) → RowsIs (InPart k s ds t es) (lists k)
   pub answer : r ≡ overlaidOf (overlayJudged s ds t es before lists) lists
@@ -44,7 +47,8 @@ pub record OverlayCall (s : Corner) (ds : List ℕ) (t : Corner) (es : List ℕ)
 
 -- number, place, the panels of the three parts, and their spans
 abbrev pub overlaidWords : Overlaid → List ℕ
-overlaidWords (Overlaid.Listed m) = 0 ∷ 0 ∷ m .first .panels ∷ m .second .panels ∷ m .both .panels ∷ m .first .spans ∷ m .second .spans ∷ m .both .spans ∷ []
+overlaidWords (Overlaid.Listed m) =
+    0 ∷ 0 ∷ m .first .panels ∷ m .second .panels ∷ m .both .panels ∷ m .first .spans ∷ m .second .spans ∷ m .both .spans ∷ []
 overlaidWords (Overlaid.Refused r) = refusalNumber r ∷ refusalPlace r ∷ 0 ∷ 0 ∷ 0 ∷ 0 ∷ 0 ∷ 0 ∷ []
 
 -- the refusal's number, 0 if there is none

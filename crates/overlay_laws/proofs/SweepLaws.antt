@@ -12,7 +12,7 @@ use Rattle.lists.specs.Lists.{tally, count}
 use Rattle.grid.specs.declared.Corner.{Corner}
 use Rattle.row_laws.specs.Feet.{ahead}
 use Rattle.overlay.specs.declared.Part.{Part}
-use Rattle.overlay_laws.specs.Join.{Stop, leads, stopsBy, join, differ, changes}
+use Rattle.overlay_laws.specs.Join.{leads, stopsBy, join, differ, changes}
 use Rattle.overlay_laws.specs.Sweep.{partHas, partEnds, endAt, endsFrom, odd, partRest}
 use Rattle.overlay_laws.proofs.JoinLaws.{none-left}
 
@@ -29,6 +29,13 @@ ends-one a n i h = ap (endsFrom a i) (one-more n i h)
 
 ends-none : (a : List ℤ) (n i : ℕ) → n ≤ i → endsFrom a i (n - i) ≡ []
 ends-none a n i h = ap (endsFrom a i) (none-more n i h)
+
+-- the ends from the next one on, and from the same one on
+ends-next : (a : List ℤ) (n i : ℕ) → endsFrom a (suc i) (n - suc i) ≡ endsFrom a (i + 1) (n - (i + 1))
+ends-next a n i = let e : suc i ≡ i + 1 = omega arith in ap (λ (m : ℕ). endsFrom a m (n - m)) e
+
+ends-stay : (a : List ℤ) (n i : ℕ) → endsFrom a i (n - i) ≡ endsFrom a (i + 0) (n - (i + 0))
+ends-stay a n i = let e : i ≡ i + 0 = omega arith in ap (λ (m : ℕ). endsFrom a m (n - m)) e
 
 module _ (a : List ℤ) (i na : ℕ) (b : List ℤ) (j nb : ℕ) where
   pub lead-none : na ≤ i → leads (endsFrom a i (na - i)) (endsFrom b j (nb - j)) ≡ false
@@ -90,47 +97,46 @@ module _ (k : Part) (a : List ℤ) (i na : ℕ) (b : List ℤ) (j nb f : ℕ) (o
   abbrev stop : Corner
   stop = cond one (endAt a i) (endAt b j)
 
+  -- the changes at and after the next stop, if the lists X and Y are at it, and x and y say which of them lead
+  abbrev stops : List Corner → List Corner → Bool → Bool → List Corner
+  stops X Y x y = changes (partHas k) (odd i) (odd j) (stopsBy (λ (X Y : List Corner). join f X Y) X Y x y)
+
+  -- those after it, if X and Y are then left
+  abbrev after : Bool → Bool → List Corner → List Corner → List Corner
+  after x y X Y = changes (partHas k) (odd (i + tally x)) (odd (j + tally y)) (join f X Y)
+
+  -- and those with the stop c, if the part begins or ends there
+  abbrev passed : Bool → Bool → Corner → List Corner → List Corner → List Corner
+  passed x y c X Y = cond (differ was (partHas k (odd (i + tally x)) (odd (j + tally y)))) (c ∷ after x y X Y) (after x y X Y)
+
+  one-stop : (x y : Bool) (c : Corner) (X Y : List Corner) → changes (partHas k) (odd i) (odd j) (record { at = c; one = x; two = y } ∷ join f X Y) ≡ passed x y c X Y
+  one-stop x y c X Y =
+      ap₂ (λ (u v : Bool). cond (differ was (partHas k u v)) (c ∷ changes (partHas k) u v (join f X Y)) (changes (partHas k) u v (join f X Y)))
+      (odd-step i x) (odd-step j y)
+
   pub stop-left : partRest k a i na b j nb (suc f) ≡ cond (differ was is) (stop ∷ rest) rest
-  stop-left = by one two e g refl refl
+  stop-left = by one two e g
     where
-      step : (x y : Bool) (J : List Stop) (c : Corner) → changes (partHas k) (odd i) (odd j) (record { at = c; one = x; two = y } ∷ J)
-          ≡ cond (differ (partHas k (odd i) (odd j)) (partHas k (odd (i + tally x)) (odd (j + tally y)))) (c ∷ changes (partHas k) (odd (i + tally x)) (odd (j + tally y)) J) (changes (partHas k) (odd (i + tally x)) (odd (j + tally y)) J)
-      step x y J c = ap₂ (λ (u v : Bool). cond (differ (partHas k (odd i) (odd j)) (partHas k u v)) (c ∷ changes (partHas k) u v J) (changes (partHas k) u v J)) (odd-step i x) (odd-step j y)
-
-      open-left : (x y : Bool) → leads (endsFrom a i (na - i)) (endsFrom b j (nb - j)) ≡ x → leads (endsFrom b j (nb - j)) (endsFrom a i (na - i)) ≡ y
-          → partRest k a i na b j nb (suc f) ≡ changes (partHas k) (odd i) (odd j) (stopsBy (λ (X Y : List Corner). join f X Y) (endsFrom a i (na - i)) (endsFrom b j (nb - j)) x y)
-      open-left x y p q = ap₂ (λ (u v : Bool). changes (partHas k) (odd i) (odd j) (stopsBy (λ (X Y : List Corner). join f X Y) (endsFrom a i (na - i)) (endsFrom b j (nb - j)) u v)) p q
-
-      next : (l : List ℤ) (n m : ℕ) → m < n → endsFrom l (suc m) (n - suc m) ≡ endsFrom l (m + 1) (n - (m + 1))
-      next l n m h = ap (λ (z : ℕ). endsFrom l z (n - z)) up
-        where
-          up : suc m ≡ m + 1
-          up = omega arith
-
-      stay : (l : List ℤ) (n m : ℕ) → endsFrom l m (n - m) ≡ endsFrom l (m + 0) (n - (m + 0))
-      stay l n m = ap (λ (z : ℕ). endsFrom l z (n - z)) same
-        where
-          same : m ≡ m + 0
-          same = omega arith
-
-      by : (x y : Bool) → leads (endsFrom a i (na - i)) (endsFrom b j (nb - j)) ≡ x → leads (endsFrom b j (nb - j)) (endsFrom a i (na - i)) ≡ y → x ≡ one → y ≡ two
-          → partRest k a i na b j nb (suc f) ≡ cond (differ (partHas k (odd i) (odd j)) (partHas k (odd (i + tally x)) (odd (j + tally y)))) (cond x (endAt a i) (endAt b j) ∷ partRest k a (i + tally x) na b (j + tally y) nb f) (partRest k a (i + tally x) na b (j + tally y) nb f)
-      by true true p q u v =
-          open-left true true p q
-          ∙ ap₂ (λ (X Y : List Corner). changes (partHas k) (odd i) (odd j) (stopsBy (λ (X Y : List Corner). join f X Y) X Y true true)) (ends-one a na i (lead-there a i na b j nb p)) (ends-one b nb j (lead-there b j nb a i na q))
-          ∙ step true true (join f (endsFrom a (suc i) (na - suc i)) (endsFrom b (suc j) (nb - suc j))) (endAt a i)
-          ∙ ap₂ (λ (X Y : List Corner). cond (differ (partHas k (odd i) (odd j)) (partHas k (odd (i + 1)) (odd (j + 1)))) (endAt a i ∷ changes (partHas k) (odd (i + 1)) (odd (j + 1)) (join f X Y)) (changes (partHas k) (odd (i + 1)) (odd (j + 1)) (join f X Y))) (next a na i (lead-there a i na b j nb p)) (next b nb j (lead-there b j nb a i na q))
-      by true false p q u v =
-          open-left true false p q
-          ∙ ap (λ (X : List Corner). changes (partHas k) (odd i) (odd j) (stopsBy (λ (X Y : List Corner). join f X Y) X (endsFrom b j (nb - j)) true false)) (ends-one a na i (lead-there a i na b j nb p))
-          ∙ step true false (join f (endsFrom a (suc i) (na - suc i)) (endsFrom b j (nb - j))) (endAt a i)
-          ∙ ap₂ (λ (X Y : List Corner). cond (differ (partHas k (odd i) (odd j)) (partHas k (odd (i + 1)) (odd (j + 0)))) (endAt a i ∷ changes (partHas k) (odd (i + 1)) (odd (j + 0)) (join f X Y)) (changes (partHas k) (odd (i + 1)) (odd (j + 0)) (join f X Y))) (next a na i (lead-there a i na b j nb p)) (stay b nb j)
-      by false true p q u v =
-          open-left false true p q
-          ∙ ap (λ (Y : List Corner). changes (partHas k) (odd i) (odd j) (stopsBy (λ (X Y : List Corner). join f X Y) (endsFrom a i (na - i)) Y false true)) (ends-one b nb j (lead-there b j nb a i na q))
-          ∙ step false true (join f (endsFrom a i (na - i)) (endsFrom b (suc j) (nb - suc j))) (endAt b j)
-          ∙ ap₂ (λ (X Y : List Corner). cond (differ (partHas k (odd i) (odd j)) (partHas k (odd (i + 0)) (odd (j + 1)))) (endAt b j ∷ changes (partHas k) (odd (i + 0)) (odd (j + 1)) (join f X Y)) (changes (partHas k) (odd (i + 0)) (odd (j + 1)) (join f X Y))) (stay a na i) (next b nb j (lead-there b j nb a i na q))
-      by false false p q u v =
+      by : (x y : Bool) → leads (endsFrom a i (na - i)) (endsFrom b j (nb - j)) ≡ x → leads (endsFrom b j (nb - j)) (endsFrom a i (na - i)) ≡ y
+          → partRest k a i na b j nb (suc f) ≡ passed x y (cond x (endAt a i) (endAt b j)) (endsFrom a (i + tally x) (na - (i + tally x))) (endsFrom b (j + tally y) (nb - (j + tally y)))
+      by true true p q =
+          let h = lead-there a i na b j nb p in
+          let l = lead-there b j nb a i na q in
+          ap₂ (stops (endsFrom a i (na - i)) (endsFrom b j (nb - j))) p q
+          ∙ ap₂ (λ (X Y : List Corner). stops X Y true true) (ends-one a na i h) (ends-one b nb j l)
+          ∙ one-stop true true (endAt a i) (endsFrom a (suc i) (na - suc i)) (endsFrom b (suc j) (nb - suc j))
+          ∙ ap₂ (passed true true (endAt a i)) (ends-next a na i) (ends-next b nb j)
+      by true false p q =
+          ap₂ (stops (endsFrom a i (na - i)) (endsFrom b j (nb - j))) p q
+          ∙ ap (λ (X : List Corner). stops X (endsFrom b j (nb - j)) true false) (ends-one a na i (lead-there a i na b j nb p))
+          ∙ one-stop true false (endAt a i) (endsFrom a (suc i) (na - suc i)) (endsFrom b j (nb - j))
+          ∙ ap₂ (passed true false (endAt a i)) (ends-next a na i) (ends-stay b nb j)
+      by false true p q =
+          ap₂ (stops (endsFrom a i (na - i)) (endsFrom b j (nb - j))) p q
+          ∙ ap (λ (Y : List Corner). stops (endsFrom a i (na - i)) Y false true) (ends-one b nb j (lead-there b j nb a i na q))
+          ∙ one-stop false true (endAt b j) (endsFrom a i (na - i)) (endsFrom b (suc j) (nb - suc j))
+          ∙ ap₂ (passed false true (endAt b j)) (ends-stay a na i) (ends-next b nb j)
+      by false false p q =
           let n = none-left (λ c. true) (endsFrom a i (na - i)) (endsFrom b j (nb - j)) p q in
           absurd (omega (arith, n .0, n .1, length-ends a i (na - i), length-ends b j (nb - j)))
 

@@ -43,4 +43,6 @@ differ false b = b
 -- the stops at which `part` of being in the one and in the other changes, where it is a and b before the first
 abbrev pub changes : (Bool → Bool → Bool) → Bool → Bool → List Stop → List Corner
 changes part a b [] = []
-changes part a b (t ∷ J) = cond (differ (part a b) (part (differ a (t .one)) (differ b (t .two)))) (t .at ∷ changes part (differ a (t .one)) (differ b (t .two)) J) (changes part (differ a (t .one)) (differ b (t .two)) J)
+changes part a b (t ∷ J) =
+    cond (differ (part a b) (part (differ a (t .one)) (differ b (t .two))))
+    (t .at ∷ changes part (differ a (t .one)) (differ b (t .two)) J) (changes part (differ a (t .one)) (differ b (t .two)) J)

@@ -52,7 +52,8 @@ fn fill(start: Corner, chain: &[u8], list: &mut [i32]) -> usize
 
 // The same in 16 bits, by way of the other list.
 fn fill_short(start: Corner, chain: &[u8], out: &mut [i16], list: &mut [i32]) -> usize
-    requires { ⌜ (asRoomJudged start (now chain) ≡ Good) × (3 * (length (now chain) / 2) ≤ length (now out)) × (3 * (length (now chain) / 2) ≤ length (now list)) ⌝ }
+    requires { ⌜ (asRoomJudged start (now chain) ≡ Good) × (3 * (length (now chain) / 2) ≤ length (now out))
+        × (3 * (length (now chain) / 2) ≤ length (now list)) ⌝ }
     ensures { λ n. ⌜ HoldsSpans start (now (chain .entry)) (now (out .exit)) n ⌝ }
 {
     let n = fill(start, chain, list);
@@ -70,8 +71,11 @@ fn list_narrow(
     second: &mut [i32],
     both: &mut [i32],
 ) -> Overlaid
-    requires { ⌜ (asRoomJudged s (now ds) ≡ Good) × (asRoomJudged t (now es) ≡ Good) × (length (now ds) ≤ narrowSize) × (length (now es) ≤ narrowSize) ⌝ }
-    ensures { λ r. ⌜ OverlayCall s (now (ds .entry)) t (now (es .entry)) (ofParts (now (first .entry)) (now (second .entry)) (now (both .entry))) r (ofParts (now (first .exit)) (now (second .exit)) (now (both .exit))) ⌝ }
+    requires { ⌜ (asRoomJudged s (now ds) ≡ Good) × (asRoomJudged t (now es) ≡ Good) × (length (now ds) ≤ narrowSize)
+        × (length (now es) ≤ narrowSize) ⌝ }
+    ensures { λ r. ⌜ OverlayCall s (now (ds .entry)) t (now (es .entry))
+        (ofParts (now (first .entry)) (now (second .entry)) (now (both .entry))) r
+        (ofParts (now (first .exit)) (now (second .exit)) (now (both .exit))) ⌝ }
 {
     let mut a = [0i16; 3 * (Columns::NARROW / 2)];
     let mut b = [0i32; 3 * (Columns::NARROW / 2)];
@@ -90,8 +94,12 @@ fn list_in(
     second: &mut [i32],
     both: &mut [i32],
 ) -> Overlaid
-    requires { ⌜ (asRoomJudged s (now ds) ≡ Good) × (asRoomJudged t (now es) ≡ Good) × (3 * (length (now ds) / 2) ≤ length (now a)) × (3 * (length (now ds) / 2) ≤ length (now b)) × (3 * (length (now es) / 2) ≤ length (now b)) ⌝ }
-    ensures { λ r. ⌜ OverlayCall s (now (ds .entry)) t (now (es .entry)) (ofParts (now (first .entry)) (now (second .entry)) (now (both .entry))) r (ofParts (now (first .exit)) (now (second .exit)) (now (both .exit))) ⌝ }
+    requires { ⌜ (asRoomJudged s (now ds) ≡ Good) × (asRoomJudged t (now es) ≡ Good)
+        × (3 * (length (now ds) / 2) ≤ length (now a)) × (3 * (length (now ds) / 2) ≤ length (now b))
+        × (3 * (length (now es) / 2) ≤ length (now b)) ⌝ }
+    ensures { λ r. ⌜ OverlayCall s (now (ds .entry)) t (now (es .entry))
+        (ofParts (now (first .entry)) (now (second .entry)) (now (both .entry))) r
+        (ofParts (now (first .exit)) (now (second .exit)) (now (both .exit))) ⌝ }
 {
     let na = fill_short(s, ds, a, b);
     let nb = fill(t, es, b);
@@ -108,8 +116,11 @@ fn list_wider(
     second: &mut [i32],
     both: &mut [i32],
 ) -> Overlaid
-    requires { ⌜ (asRoomJudged s (now ds) ≡ Good) × (asRoomJudged t (now es) ≡ Good) × (length (now ds) ≤ widerSize) × (length (now es) ≤ widerSize) ⌝ }
-    ensures { λ r. ⌜ OverlayCall s (now (ds .entry)) t (now (es .entry)) (ofParts (now (first .entry)) (now (second .entry)) (now (both .entry))) r (ofParts (now (first .exit)) (now (second .exit)) (now (both .exit))) ⌝ }
+    requires { ⌜ (asRoomJudged s (now ds) ≡ Good) × (asRoomJudged t (now es) ≡ Good) × (length (now ds) ≤ widerSize)
+        × (length (now es) ≤ widerSize) ⌝ }
+    ensures { λ r. ⌜ OverlayCall s (now (ds .entry)) t (now (es .entry))
+        (ofParts (now (first .entry)) (now (second .entry)) (now (both .entry))) r
+        (ofParts (now (first .exit)) (now (second .exit)) (now (both .exit))) ⌝ }
 {
     let mut a = [0i16; 3 * (Columns::WIDER / 2)];
     let mut b = [0i32; 3 * (Columns::WIDER / 2)];
@@ -127,7 +138,9 @@ fn list_rooms(
     both: &mut [i32],
 ) -> Overlaid
     requires { ⌜ (asRoomJudged s (now ds) ≡ Good) × (asRoomJudged t (now es) ≡ Good) ⌝ }
-    ensures { λ r. ⌜ OverlayCall s (now (ds .entry)) t (now (es .entry)) (ofParts (now (first .entry)) (now (second .entry)) (now (both .entry))) r (ofParts (now (first .exit)) (now (second .exit)) (now (both .exit))) ⌝ }
+    ensures { λ r. ⌜ OverlayCall s (now (ds .entry)) t (now (es .entry))
+        (ofParts (now (first .entry)) (now (second .entry)) (now (both .entry))) r
+        (ofParts (now (first .exit)) (now (second .exit)) (now (both .exit))) ⌝ }
 {
     let longer = order::greater(ds.len(), es.len());
     if longer <= Columns::NARROW {
@@ -150,7 +163,9 @@ fn list_widest(
     both: &mut [i32],
 ) -> Overlaid
     requires { ⌜ (asRoomJudged s (now ds) ≡ Good) × (asRoomJudged t (now es) ≡ Good) ⌝ }
-    ensures { λ r. ⌜ OverlayCall s (now (ds .entry)) t (now (es .entry)) (ofParts (now (first .entry)) (now (second .entry)) (now (both .entry))) r (ofParts (now (first .exit)) (now (second .exit)) (now (both .exit))) ⌝ }
+    ensures { λ r. ⌜ OverlayCall s (now (ds .entry)) t (now (es .entry))
+        (ofParts (now (first .entry)) (now (second .entry)) (now (both .entry))) r
+        (ofParts (now (first .exit)) (now (second .exit)) (now (both .exit))) ⌝ }
 {
     let mut a = [0i16; 3 * (Limits::MOST_STEPS / 2)];
     let mut b = [0i32; 3 * (Limits::MOST_STEPS / 2)];
@@ -168,7 +183,9 @@ fn list_second(
     both: &mut [i32],
 ) -> Overlaid
     requires { ⌜ asRoomJudged s (now ds) ≡ Good ⌝ }
-    ensures { λ r. ⌜ OverlayCall s (now (ds .entry)) t (now (es .entry)) (ofParts (now (first .entry)) (now (second .entry)) (now (both .entry))) r (ofParts (now (first .exit)) (now (second .exit)) (now (both .exit))) ⌝ }
+    ensures { λ r. ⌜ OverlayCall s (now (ds .entry)) t (now (es .entry))
+        (ofParts (now (first .entry)) (now (second .entry)) (now (both .entry))) r
+        (ofParts (now (first .exit)) (now (second .exit)) (now (both .exit))) ⌝ }
 {
     match judge(t, es) {
         Judged::Good => list_rooms(s, ds, t, es, first, second, both),
@@ -176,8 +193,8 @@ fn list_second(
     }
 }
 
-// Writes the spans of the panels that are in the first room only, in the second only and in both, each list into its buffer, and answers how many
-// panels and spans each has.
+// Writes the spans of the panels that are in the first room only, in the second only and in both, each list into its buffer, and
+// answers how many panels and spans each has.
 pub fn list(
     s: Corner,
     ds: &[u8],
@@ -187,7 +204,9 @@ pub fn list(
     second: &mut [i32],
     both: &mut [i32],
 ) -> Overlaid
-    ensures { λ r. ⌜ OverlayCall s (now (ds .entry)) t (now (es .entry)) (ofParts (now (first .entry)) (now (second .entry)) (now (both .entry))) r (ofParts (now (first .exit)) (now (second .exit)) (now (both .exit))) ⌝ }
+    ensures { λ r. ⌜ OverlayCall s (now (ds .entry)) t (now (es .entry))
+        (ofParts (now (first .entry)) (now (second .entry)) (now (both .entry))) r
+        (ofParts (now (first .exit)) (now (second .exit)) (now (both .exit))) ⌝ }
 {
     match judge(s, ds) {
         Judged::Good => list_second(s, ds, t, es, first, second, both),

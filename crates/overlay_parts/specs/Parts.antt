@@ -18,7 +18,8 @@ HaveRoom lists before = (k : Part) → 3 * length (lists k) ≤ length (before k
 
 -- 21 for any of the three lists
 abbrev pub partsJudged : (Part → List ℤ) → (Part → List Span) → Judged
-partsJudged before lists = firstOf (partRoomJudged before lists First ∷ partRoomJudged before lists Second ∷ partRoomJudged before lists Both ∷ [])
+partsJudged before lists =
+    firstOf (partRoomJudged before lists First ∷ partRoomJudged before lists Second ∷ partRoomJudged before lists Both ∷ [])
 
 -- the answer and the buffers by the three lists
 pub record PartsCall (lists : Part → List Span) (before : Part → List ℤ) (r : Overlaid) (after : Part → List ℤ) : Type 0 where

@@ -47,15 +47,18 @@ fn put_all(
     second: &mut [i32],
     both: &mut [i32],
 ) -> Overlaid
-    requires { ⌜ Spanned (now a) na × Spanned (now b) nb × HaveRoom (partSpans (now a) na (now b) nb) (ofParts (now first) (now second) (now both)) ⌝ }
-    ensures { λ r. ⌜ PartsCall (partSpans (now (a .entry)) na (now (b .entry)) nb) (ofParts (now (first .entry)) (now (second .entry)) (now (both .entry))) r (ofParts (now (first .exit)) (now (second .exit)) (now (both .exit))) ⌝ }
+    requires { ⌜ Spanned (now a) na × Spanned (now b) nb
+        × HaveRoom (partSpans (now a) na (now b) nb) (ofParts (now first) (now second) (now both)) ⌝ }
+    ensures { λ r. ⌜ PartsCall (partSpans (now (a .entry)) na (now (b .entry)) nb)
+        (ofParts (now (first .entry)) (now (second .entry)) (now (both .entry))) r
+        (ofParts (now (first .exit)) (now (second .exit)) (now (both .exit))) ⌝ }
 {
     let m = sweep(a, na, b, nb, first, second, both);
     Overlaid::Listed(m)
 }
 
-// Writes the three lists, unless one of them is too long for its buffer. A list has three numbers for each two ends at most: no list is measured if each
-// buffer has room for that.
+// Writes the three lists, unless one of them is too long for its buffer. A list has three numbers for each two ends at most: no
+// list is measured if each buffer has room for that.
 pub fn put_parts(
     a: &[i16],
     na: usize,
@@ -66,7 +69,9 @@ pub fn put_parts(
     both: &mut [i32],
 ) -> Overlaid
     requires { ⌜ Spanned (now a) na × Spanned (now b) nb ⌝ }
-    ensures { λ r. ⌜ PartsCall (partSpans (now (a .entry)) na (now (b .entry)) nb) (ofParts (now (first .entry)) (now (second .entry)) (now (both .entry))) r (ofParts (now (first .exit)) (now (second .exit)) (now (both .exit))) ⌝ }
+    ensures { λ r. ⌜ PartsCall (partSpans (now (a .entry)) na (now (b .entry)) nb)
+        (ofParts (now (first .entry)) (now (second .entry)) (now (both .entry))) r
+        (ofParts (now (first .exit)) (now (second .exit)) (now (both .exit))) ⌝ }
 {
     if enough(3 * ((na + nb) / 2), first.len(), second.len(), both.len()) {
         return put_all(a, na, b, nb, first, second, both);

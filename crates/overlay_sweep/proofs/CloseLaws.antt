@@ -186,10 +186,10 @@ nothing = record { panels = 0; spans = 0 }
 spanned-ends : (l : List ℤ) (n : ℕ) → Spanned l n → Ends (endsFrom l 0 n)
 spanned-ends l n z = subst Ends (sym (z .held .ends)) (walk-ends (z .start) (z .steps) (z .held .closed))
 
-module _ (a : List ℤ) (na : ℕ) (b : List ℤ) (nb : ℕ) (x : Spanned a na) (y : Spanned b nb) (before : Part → List ℤ) where
-  part-start : (k : Part) (at : Corner) → leftOf k a na b nb 0 0 (length (endsFrom a 0 na) + length (endsFrom b 0 nb)) at ≡ partEnds k (endsFrom a 0 na) (endsFrom b 0 nb)
-  part-start k at = ap (λ (v : Bool). openEnds v at (partRest k a 0 na b 0 nb (length (endsFrom a 0 na) + length (endsFrom b 0 nb)))) (none-none k) ∙ rest-start k a na b nb
+part-start : (k : Part) (a : List ℤ) (na : ℕ) (b : List ℤ) (nb : ℕ) (at : Corner) → leftOf k a na b nb 0 0 (length (endsFrom a 0 na) + length (endsFrom b 0 nb)) at ≡ partEnds k (endsFrom a 0 na) (endsFrom b 0 nb)
+part-start k a na b nb at = ap (λ (v : Bool). openEnds v at (partRest k a 0 na b 0 nb (length (endsFrom a 0 na) + length (endsFrom b 0 nb)))) (none-none k) ∙ rest-start k a na b nb
 
+module _ {a : List ℤ} {na : ℕ} {b : List ℤ} {nb : ℕ} (x : Spanned a na) (y : Spanned b nb) {before : Part → List ℤ} where
   pub sweep-start : Sweeping a na b nb 0 0 0 before (record { first = nothing; second = nothing; both = nothing }) before
   sweep-start = record {
     fuel = length (endsFrom a 0 na) + length (endsFrom b 0 nb);
@@ -200,7 +200,7 @@ module _ (a : List ℤ) (na : ℕ) (b : List ℤ) (nb : ℕ) (x : Spanned a na) 
     key = refl;
     small = (omega arith, omega arith);
     parts = λ k.
-        subst₂ (λ (E : List Corner) (z : Measure). Left E (partSpans a na b nb k) 0 (before k) z (before k)) (sym (part-start k (corner (negsuc 32767) (negsuc 32767)))) (sym (none k))
+        subst₂ (λ (E : List Corner) (z : Measure). Left E (partSpans a na b nb k) 0 (before k) z (before k)) (sym (part-start k a na b nb (corner (negsuc 32767) (negsuc 32767)))) (sym (none k))
         (record { ends = ends-ends (endsFrom a 0 na) (endsFrom b 0 nb) (spanned-ends a na x) (spanned-ends b nb y) (partHas k) (none-none k); many = omega arith; sum = omega arith; spansFew = omega arith; panelsFew = omega arith; same = refl; written = λ h. refl });
   }
     where
@@ -209,8 +209,8 @@ module _ (a : List ℤ) (na : ℕ) (b : List ℤ) (nb : ℕ) (x : Spanned a na) 
       none Second = refl
       none Both = refl
 
-  module _ (i j last : ℕ) (m : Measures) (now : Part → List ℤ) (w : Sweeping a na b nb i j last before m now) where
-    module _ (more : i + j < na + nb) (p q k′ : ℕ) (ep : p ≡ keyAt a na i) (eq : q ≡ keyAt b nb j) (ek : k′ ≡ min p q) where
+  module _ {i j last : ℕ} {m : Measures} {now : Part → List ℤ} (w : Sweeping a na b nb i j last before m now) where
+    module _ (more : i + j < na + nb) {p q k′ : ℕ} (ep : p ≡ keyAt a na i) (eq : q ≡ keyAt b nb j) (ek : k′ ≡ min p q) where
       abbrev one : Bool
       one = eqb p k′
 

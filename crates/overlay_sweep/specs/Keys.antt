@@ -56,7 +56,8 @@ Closed false from to m before r after = (r ≡ m) × (after ≡ before)
 abbrev pub inParts : Measures → Part → Measure
 inParts m = ofParts (m .first) (m .second) (m .both)
 
--- there is something between the keys for the part that lies after i ends of one list and j of the other, and the counts are small
+-- there is something between the keys for the part that lies after i ends of one list and j of the other, and the counts are
+-- small
 pub record Closable (i j from to : ℕ) (m : Measures) : Type 0 where
   pub order : (k : Part) → partHas k (odd i) (odd j) ≡ true → from ≤ to
   pub last : to ≤ lastKey

@@ -1,4 +1,5 @@
-// Sweeps over two lists of spans at once, from end to end of the spans of either, and writes the spans of all three parts. Ends are compared as keys.
+// Sweeps over two lists of spans at once, from end to end of the spans of either, and writes the spans of all three parts. Ends
+// are compared as keys.
 use grid::Corner;
 use grid::Panel;
 use order::lesser;
@@ -175,7 +176,8 @@ fn panel_behind(at: Corner) -> Panel
 // Writes the span from a panel to another of its row, if there is room for it.
 fn put(out: &mut [i32], o: usize, first: Panel, last: Panel)
     requires { ⌜ o ≤ 6 * mostSteps ⌝ }
-    ensures { λ _. ⌜ (o + 2 < length (now (out .entry)) → now (out .exit) ≡ sets (now (out .entry)) o (first .1 ∷ first .0 ∷ last .0 ∷ [])) ⌝ }
+    ensures { λ _. ⌜ (o + 2 < length (now (out .entry))
+        → now (out .exit) ≡ sets (now (out .entry)) o (first .1 ∷ first .0 ∷ last .0 ∷ [])) ⌝ }
 {
     let y = first.1;
     let west = first.0;
@@ -217,7 +219,9 @@ fn close(
     both: &mut [i32],
 ) -> Measures
     requires { ⌜ Closable i j from to m ⌝ }
-    ensures { λ r. ⌜ ((k : Part) → Closed (partHas k (odd i) (odd j)) from to (inParts m k) (ofParts (now (first .entry)) (now (second .entry)) (now (both .entry)) k) (inParts r k) (ofParts (now (first .exit)) (now (second .exit)) (now (both .exit)) k)) ⌝ }
+    ensures { λ r. ⌜ ((k : Part) → Closed (partHas k (odd i) (odd j)) from to (inParts m k)
+        (ofParts (now (first .entry)) (now (second .entry)) (now (both .entry)) k) (inParts r k)
+        (ofParts (now (first .exit)) (now (second .exit)) (now (both .exit)) k)) ⌝ }
 {
     let f = m.first;
     let g = m.second;
@@ -253,7 +257,8 @@ fn close(
     }
 }
 
-// Writes the spans of the three parts of two lists of spans, as far as there is room, and counts them and their panels. The lists have na and nb ends.
+// Writes the spans of the three parts of two lists of spans, as far as there is room, and counts them and their panels. The lists
+// have na and nb ends.
 pub fn sweep(
     a: &[i16],
     na: usize,
@@ -264,7 +269,9 @@ pub fn sweep(
     both: &mut [i32],
 ) -> Measures
     requires { ⌜ Spanned (now a) na × Spanned (now b) nb ⌝ }
-    ensures { λ r. ⌜ ((k : Part) → Swept (partSpans (now (a .entry)) na (now (b .entry)) nb k) (ofParts (now (first .entry)) (now (second .entry)) (now (both .entry)) k) (inParts r k) (ofParts (now (first .exit)) (now (second .exit)) (now (both .exit)) k)) ⌝ }
+    ensures { λ r. ⌜ ((k : Part) → Swept (partSpans (now (a .entry)) na (now (b .entry)) nb k)
+        (ofParts (now (first .entry)) (now (second .entry)) (now (both .entry)) k) (inParts r k)
+        (ofParts (now (first .exit)) (now (second .exit)) (now (both .exit)) k)) ⌝ }
 {
     let none = Measure {
         panels: 0,

@@ -1,5 +1,5 @@
--- What a take-back of party q finds in a table that two share, and what it leaves there. C has the other party's state, S is the state of party q that
--- it leads to.
+-- What a take-back of party q finds in a table that two share, and what it leaves there. C has the other party's state, S is the
+-- state of party q that it leads to.
 -- Assumes nothing.
 use mathlib.Core.List.{List, List·Memᴰ}
 use mathlib.Core.Path.{_≡_}
@@ -25,15 +25,18 @@ pub record PairJoined (t : List ℕ) (q u d s : ℕ) : Type 0 where
   pub here : InTable t u
   pub party : q < 2
   pub way : d < 4
-  pub there : wordsIn t u (ofParty q (linkWord d)) ≡ s → (0 < wordsIn t u (neighbourWord d)) × InTable t (wordsIn t u (neighbourWord d) - 1)
+  pub there : wordsIn t u (ofParty q (linkWord d)) ≡ s
+      → (0 < wordsIn t u (neighbourWord d)) × InTable t (wordsIn t u (neighbourWord d) - 1)
 
 -- one level: a link of the step s is taken away, and the parent's ref is next; any other link stays, and nothing is next
 pub record PairCleared (t : List ℕ) (q u d s : ℕ) (t′ : List ℕ) (next : ℕ) : Type 0 where
-  pub own : wordsIn t u (ofParty q (linkWord d)) ≡ s → (t′ ≡ pairUnlinkIn q t u (wordsIn t u (neighbourWord d) - 1) d) × (next ≡ wordsIn t′ u parentWord)
+  pub own : wordsIn t u (ofParty q (linkWord d)) ≡ s
+      → (t′ ≡ pairUnlinkIn q t u (wordsIn t u (neighbourWord d) - 1) d) × (next ≡ wordsIn t′ u parentWord)
   pub other : (wordsIn t u (ofParty q (linkWord d)) ≡ s → ⊥) → (t′ ≡ t) × (next ≡ 0)
 
 -- the links that step s made on its way to z are being taken away; next is the node c, in record u
-pub record PairUnlinks (t : List ℕ) (q u : ℕ) (c : Corner) (d s : ℕ) (C : Both) (slots : List Slot) (S : State) (z : Corner) : Type 0 where
+pub record PairUnlinks (t : List ℕ) (q u : ℕ) (c : Corner) (d s : ℕ) (C : Both) (slots : List Slot) (S : State)
+    (z : Corner) : Type 0 where
   pub party : q < 2
   pub sound : Sound S
   pub pos : 0 < s
@@ -65,7 +68,8 @@ pub record PairLeft (t : List ℕ) (q : ℕ) (s : Stock) (u up : ℕ) (c : Corne
   pub shared : 0 < wordsIn t u (ofParty (1 - q) needWord) → (t′ ≡ pairUnneedIn q t u) × (r ≡ s)
 
 -- the nodes that step n needed are being given up; next is h, in record u
-pub record PairDrops (t : List ℕ) (q : ℕ) (s : Stock) (u : ℕ) (h : Corner) (n : ℕ) (C : Both) (slots : List Slot) (S : State) : Type 0 where
+pub record PairDrops (t : List ℕ) (q : ℕ) (s : Stock) (u : ℕ) (h : Corner) (n : ℕ) (C : Both) (slots : List Slot)
+    (S : State) : Type 0 where
   pub party : q < 2
   pub sound : Sound S
   pub small : (x : Corner) → S .need x < n

@@ -1,5 +1,5 @@
--- The child of a node, found, needed from now on, or made in the lowest free record: what it leaves in the table, word by word; and by the nodes that
--- stand there.
+-- The child of a node, found, needed from now on, or made in the lowest free record: what it leaves in the table, word by word;
+-- and by the nodes that stand there.
 -- Assumes nothing.
 use mathlib.Core.Bool.{Bool, true, false, not, _&&_}
 use mathlib.Core.List.{List}
@@ -44,7 +44,9 @@ stocked s k = record { nodes = s .nodes + 1; low = k + 1 }
 
 -- record k, or nothing where it is not in the table
 abbrev pub MadeAt : ℕ → List ℕ → Stock → ℕ → ℕ → ℕ → ℕ → List ℕ → Located → Type 0
-MadeAt q t s u w step k t′ r = (inTable t k ≡ true → (t′ ≡ pairNodeIn q t k u w step) × (r ≡ found (k + 1) (stocked s k))) × (inTable t k ≡ false → r .at ≡ 0)
+MadeAt q t s u w step k t′ r =
+    (inTable t k ≡ true → (t′ ≡ pairNodeIn q t k u w step) × (r ≡ found (k + 1) (stocked s k)))
+    × (inTable t k ≡ false → r .at ≡ 0)
 
 -- the child in word w of record u, made by step in the first record from low on that is not taken
 pub record Makes (q : ℕ) (t : List ℕ) (s : Stock) (u w step : ℕ) (t′ : List ℕ) (r : Located) : Type 0 where
@@ -69,12 +71,13 @@ pub record StockIs (s : Stock) (slots : List Slot) : Type 0 where
   pub low : HeldBelow slots (s .low)
 
 -- the child e of a node that stands, for step s of party q, whose state was T: found or made, or there is no record for it
-pub record ChildFound (C : Both) (slots : List Slot) (q : ℕ) (T : State) (e : Corner) (s : ℕ) (t t′ : List ℕ) (r : Located) : Type 0 where
+pub record ChildFound (C : Both) (slots : List Slot) (q : ℕ) (T : State) (e : Corner) (s : ℕ) (t t′ : List ℕ)
+    (r : Located) : Type 0 where
   pub none : r .at ≡ 0 → ((i : ℕ) → At slots i e → ⊥) × (pairRecordsIn (length t) ≤ lowest slots)
   pub some : (r .at ≡ 0 → ⊥) → Child C slots q (grown T e s) e t′ (r .at) × StockIs (r .stock) (placed slots e)
 
--- a lookup of node e by party q, in records slots of table t, where the states were B: now its state is S, the path of e stands, and e has the ref that
--- is answered; or there is no room for that path
+-- a lookup of node e by party q, in records slots of table t, where the states were B: now its state is S, the path of e stands,
+-- and e has the ref that is answered; or there is no room for that path
 pub record Finds (B : Both) (slots : List Slot) (q : ℕ) (S : State) (e : Corner) (t t′ : List ℕ) (r : Located) : Type 0 where
   pub none : r .at ≡ 0 → NoRoomFor slots e t
   pub some : (r .at ≡ 0 → ⊥) → Look B slots q S e t′ (r .at) × StockIs (r .stock) (placedAll slots (pathOf e))

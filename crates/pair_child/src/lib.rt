@@ -1,5 +1,5 @@
-// The child of a node, for one of two parties: a node that is there is needed by this party from now on, a node that is not there takes the
-// lowest free record.
+// The child of a node, for one of two parties: a node that is there is needed by this party from now on, a node that is not there
+// takes the lowest free record.
 ghost use mathlib.Core.Path.{_≡_};
 ghost use Prim.Native.Nat.{ℕ, suc, _+_, _^_, _<_};
 ghost use lib.ListN.{length};

@@ -1,4 +1,5 @@
--- What the demands and K10 ask of two parties in one table, as theorems about the promise `PairIs` of their call. Each is proved by naming a law.
+-- What the demands and K10 ask of two parties in one table, as theorems about the promise `PairIs` of their call. Each is proved
+-- by naming a law.
 -- c and e are the two starts, os the bytes, b the four buffers that are lent and b′ what they hold then. Assumes nothing.
 use mathlib.Core.Bool.{false}
 use mathlib.Core.List.{List, [], _∷_, _++_, map, List·Memᴰ}
@@ -51,7 +52,8 @@ pub pair-answers : (c e : Corner) (os : List ℕ) (b : PairLent) → (r : PairAn
 pair-answers = pairLaws.pairIs-some
 
 -- and only one
-pub pairIs-one : {c e : Corner} {os : List ℕ} {b b₁ b₂ : PairLent} {r₁ r₂ : PairAnswer} → PairIs c e os b r₁ b₁ → PairIs c e os b r₂ b₂ → (r₁ ≡ r₂) × (b₁ ≡ b₂)
+pub pairIs-one : {c e : Corner} {os : List ℕ} {b b₁ b₂ : PairLent} {r₁ r₂ : PairAnswer} → PairIs c e os b r₁ b₁
+    → PairIs c e os b r₂ b₂ → (r₁ ≡ r₂) × (b₁ ≡ b₂)
 pairIs-one = pairLaws.pairIs-one
 
 module _ {c e : Corner} {os : List ℕ} {b b′ : PairLent} {r : PairAnswer} (w : PairIs c e os b r b′) where
@@ -64,11 +66,14 @@ module _ {c e : Corner} {os : List ℕ} {b b′ : PairLent} {r : PairAnswer} (w 
   accepted-exactly = pairLaws.accepted-when w
 
   -- "no room" is exact over the union: nothing else is wrong, and at some moment the nodes that either needs exceed the records
-  pub no-room-exactly : ((i : ℕ) × (r ≡ PairAnswer.Refused (NoRoom i))) ↔ PairFaultless c e os b × ((k : ℕ) × (k ≤ length os) × Exceeds (pairNodesAfter c e os k) (pairRecordsIn (length (b .table))))
+  pub no-room-exactly : ((i : ℕ) × (r ≡ PairAnswer.Refused (NoRoom i)))
+      ↔ PairFaultless c e os b
+      × ((k : ℕ) × (k ≤ length os) × Exceeds (pairNodesAfter c e os k) (pairRecordsIn (length (b .table))))
   no-room-exactly = pairLaws.no-room-when w
 
   -- its place is that of the last operation done at the first such moment, 0 before the first
-  pub no-room-place : (i : ℕ) → r ≡ PairAnswer.Refused (NoRoom i) ↔ PairFaultless c e os b × ((k : ℕ) × (i ≡ pred k) × PairNoRoomAfter c e os (pairRecordsIn (length (b .table))) k)
+  pub no-room-place : (i : ℕ) → r ≡ PairAnswer.Refused (NoRoom i)
+      ↔ PairFaultless c e os b × ((k : ℕ) × (i ≡ pred k) × PairNoRoomAfter c e os (pairRecordsIn (length (b .table))) k)
   no-room-place = pairLaws.no-room-at w
 
 module _ {c e : Corner} {os : List ℕ} {b b′ : PairLent} where
@@ -78,12 +83,14 @@ module _ {c e : Corner} {os : List ℕ} {b b′ : PairLent} where
 
   -- except that "no room" leaves them all zero
   pub no-room-zero : (i : ℕ) → PairIs c e os b (PairAnswer.Refused (NoRoom i)) b′
-      → (b′ .table ≡ replicate (length (b .table)) 0) × (b′ .marks ≡ replicate (length (b .marks)) 0) × (b′ .first ≡ replicate (length (b .first)) 0) × (b′ .second ≡ replicate (length (b .second)) 0)
+      → (b′ .table ≡ replicate (length (b .table)) 0) × (b′ .marks ≡ replicate (length (b .marks)) 0)
+      × (b′ .first ≡ replicate (length (b .first)) 0) × (b′ .second ≡ replicate (length (b .second)) 0)
   no-room-zero = pairLaws.all-zero
 
 -- ---- Demand 2: the records
 -- the nodes in use are those that either party needs, each once
-pub nodes-of-either : (ps qs : List Corner) (a : Corner) → List·Memᴰ a (unionOf ps qs) ↔ List·Memᴰ a (nodesOf ps) ⊎ List·Memᴰ a (nodesOf qs)
+pub nodes-of-either : (ps qs : List Corner) (a : Corner)
+    → List·Memᴰ a (unionOf ps qs) ↔ List·Memᴰ a (nodesOf ps) ⊎ List·Memᴰ a (nodesOf qs)
 nodes-of-either = unionLaws.union-either
 
 pub nodes-once : (ps qs : List Corner) → Distinct (unionOf ps qs)
@@ -99,11 +106,13 @@ module _ (c e : Corner) (os : List ℕ) where
   root-zero k = momentLaws.root-zero c e (take k os)
 
   -- numbers of nodes that stay in use do not change
-  pub number-stays : (k : ℕ) → k < length os → (i : ℕ) (a : Corner) → At (slotsAfter c e os k) i a → List·Memᴰ a (needsAfter c e os (suc k)) → At (slotsAfter c e os (suc k)) i a
+  pub number-stays : (k : ℕ) → k < length os → (i : ℕ) (a : Corner) → At (slotsAfter c e os k) i a
+      → List·Memᴰ a (needsAfter c e os (suc k)) → At (slotsAfter c e os (suc k)) i a
   number-stays = momentLaws.number-stays c e os
 
   -- an operation settles the records: what is not needed is freed, then what is new is placed
-  pub settled-next : (k : ℕ) → k < length os → slotsAfter c e os (suc k) ≡ settle (slotsAfter c e os k) (needsAfter c e os (suc k))
+  pub settled-next : (k : ℕ) → k < length os
+      → slotsAfter c e os (suc k) ≡ settle (slotsAfter c e os k) (needsAfter c e os (suc k))
   settled-next = momentLaws.slotsAfter-next c e os
 
 -- before the first operation, the first start's ancestors from the root down, then the second's
@@ -112,17 +121,21 @@ starts-placed = unionLaws.starts-placed
 
 module _ (c e : Corner) (os : List ℕ) (k : ℕ) (inside : k < length os) where
   -- a step of either party frees nothing, and places the path of the corner that it now stands on, nearer the root first
-  pub step-first : partyOf (getD os k 0) ≡ 0 → opOf (getD os k 0) < 4 → slotsAfter c e os (suc k) ≡ placedAll (slotsAfter c e os k) (pathOf (endFrom c (ownAfter 0 os (suc k))))
+  pub step-first : partyOf (getD os k 0) ≡ 0 → opOf (getD os k 0) < 4
+      → slotsAfter c e os (suc k) ≡ placedAll (slotsAfter c e os k) (pathOf (endFrom c (ownAfter 0 os (suc k))))
   step-first = byteLaws.byte-step-first c e os k inside
 
-  pub step-second : partyOf (getD os k 0) ≡ 1 → opOf (getD os k 0) < 4 → slotsAfter c e os (suc k) ≡ placedAll (slotsAfter c e os k) (pathOf (endFrom e (ownAfter 1 os (suc k))))
+  pub step-second : partyOf (getD os k 0) ≡ 1 → opOf (getD os k 0) < 4
+      → slotsAfter c e os (suc k) ≡ placedAll (slotsAfter c e os k) (pathOf (endFrom e (ownAfter 1 os (suc k))))
   step-second = byteLaws.byte-step-second c e os k inside
 
   -- a take-back only frees what neither party needs any more
-  pub back-first : partyOf (getD os k 0) ≡ 0 → opOf (getD os k 0) ≡ 4 → slotsAfter c e os (suc k) ≡ map (keptFor (needsAfter c e os (suc k))) (slotsAfter c e os k)
+  pub back-first : partyOf (getD os k 0) ≡ 0 → opOf (getD os k 0) ≡ 4
+      → slotsAfter c e os (suc k) ≡ map (keptFor (needsAfter c e os (suc k))) (slotsAfter c e os k)
   back-first = byteLaws.byte-back-first c e os k inside
 
-  pub back-second : partyOf (getD os k 0) ≡ 1 → opOf (getD os k 0) ≡ 4 → slotsAfter c e os (suc k) ≡ map (keptFor (needsAfter c e os (suc k))) (slotsAfter c e os k)
+  pub back-second : partyOf (getD os k 0) ≡ 1 → opOf (getD os k 0) ≡ 4
+      → slotsAfter c e os (suc k) ≡ map (keptFor (needsAfter c e os (suc k))) (slotsAfter c e os k)
   back-second = byteLaws.byte-back-second c e os k inside
 
 -- a node that is placed and stands nowhere takes the lowest free record, and all others stay
@@ -148,11 +161,13 @@ module _ {c e : Corner} {os : List ℕ} {b b′ : PairLent} {f : PairFacts} (w :
   own-facts = endLaws.own-facts w
 
   -- which is what a call of its own would answer, but for the nodes
-  pub as-alone : (q : ℕ) → q < 2 → {t ms ch t′ ms′ ch′ : List ℕ} {g : Facts} → WalkIs (byParty q c e) (ownOps q os) t ms ch (Answer.Accepted g) t′ ms′ ch′ → byParty q (f .first) (f .second) ≡ ownIn g
+  pub as-alone : (q : ℕ) → q < 2 → {t ms ch t′ ms′ ch′ : List ℕ} {g : Facts}
+      → WalkIs (byParty q c e) (ownOps q os) t ms ch (Answer.Accepted g) t′ ms′ ch′ → byParty q (f .first) (f .second) ≡ ownIn g
   as-alone = endLaws.as-alone w
 
   -- so is its chain: the surviving steps, then zeros
-  pub own-chain : (q : ℕ) → q < 2 → byParty q (b′ .first) (b′ .second) ≡ stepsBy q os ++ replicate (length os - length (stepsBy q os)) 0
+  pub own-chain : (q : ℕ) → q < 2
+      → byParty q (b′ .first) (b′ .second) ≡ stepsBy q os ++ replicate (length os - length (stepsBy q os)) 0
   own-chain = endLaws.own-chain w
 
   -- and so are its eleven words in the record of a node
@@ -161,12 +176,14 @@ module _ {c e : Corner} {os : List ℕ} {b b′ : PairLent} {f : PairFacts} (w :
   own-words = endLaws.own-words w
 
   -- where a party does not need a node, all eleven are zero
-  pub own-absent : (q : ℕ) → q < 2 → (a : Corner) (i n : ℕ) → At (slotsOf c e os) i a → n < 11 → (InUse (cornersFrom (byParty q c e) (stepsBy q os)) a → ⊥) → getD (b′ .table) (pairWordAt i (ownWord q n)) 0 ≡ 0
+  pub own-absent : (q : ℕ) → q < 2 → (a : Corner) (i n : ℕ) → At (slotsOf c e os) i a → n < 11
+      → (InUse (cornersFrom (byParty q c e) (stepsBy q os)) a → ⊥) → getD (b′ .table) (pairWordAt i (ownWord q n)) 0 ≡ 0
   own-absent = endLaws.own-absent w
 
   -- "every word of the table": the record of each node in use says what the table of words says
   pub record-words : (a : Corner) (i : ℕ) → At (slotsOf c e os) i a
-      → PairRecordSays (slotsOf c e os) (cornersFrom c (stepsBy 0 os)) (cornersFrom e (stepsBy 1 os)) a (λ n. getD (b′ .table) (pairWordAt i n) 0)
+      → PairRecordSays (slotsOf c e os) (cornersFrom c (stepsBy 0 os)) (cornersFrom e (stepsBy 1 os)) a
+      (λ n. getD (b′ .table) (pairWordAt i n) 0)
   record-words = endLaws.its-record w
 
   -- and a record that neither party needs is all zero
@@ -178,12 +195,15 @@ module _ {c e : Corner} {os : List ℕ} {b b′ : PairLent} {f : PairFacts} (w :
   mark-nodes = bufferLaws.mark-nodes w
 
   -- the visits at the corner of the party that moved
-  pub mark-visits : (k : ℕ) → k < length os → getD (b′ .marks) (markWords * k + 1) 0 ≡ visitsOf (byParty (partyAt os k) c e) (ownAfter (partyAt os k) os (suc k))
+  pub mark-visits : (k : ℕ) → k < length os
+      → getD (b′ .marks) (markWords * k + 1) 0 ≡ visitsOf (byParty (partyAt os k) c e) (ownAfter (partyAt os k) os (suc k))
   mark-visits = bufferLaws.mark-visits w
 
   -- the records that differ before and after
   pub mark-changes : (k : ℕ) → k < length os
-      → getD (b′ .marks) (markWords * k + 2) 0 ≡ changesBy pairWidth (pairRecordsIn (length (b .table))) (pairTableAfter (pairRecordsIn (length (b .table))) c e os k) (pairTableAfter (pairRecordsIn (length (b .table))) c e os (suc k))
+      → getD (b′ .marks) (markWords * k + 2) 0 ≡ changesBy pairWidth (pairRecordsIn (length (b .table)))
+      (pairTableAfter (pairRecordsIn (length (b .table))) c e os k)
+      (pairTableAfter (pairRecordsIn (length (b .table))) c e os (suc k))
   mark-changes = bufferLaws.mark-changes w
 
   -- every node in use has a record of the table
@@ -191,7 +211,8 @@ module _ {c e : Corner} {os : List ℕ} {b b′ : PairLent} {f : PairFacts} (w :
   records-enough = bufferLaws.its-records w
 
   -- no buffer changes its length
-  pub same-lengths : (length (b′ .table) ≡ length (b .table)) × (length (b′ .marks) ≡ length (b .marks)) × (length (b′ .first) ≡ length (b .first)) × (length (b′ .second) ≡ length (b .second))
+  pub same-lengths : (length (b′ .table) ≡ length (b .table)) × (length (b′ .marks) ≡ length (b .marks))
+      × (length (b′ .first) ≡ length (b .first)) × (length (b′ .second) ≡ length (b .second))
   same-lengths = bufferLaws.its-lengths w
 
 -- how many of the records 0, 1, .. have not the same words in two tables
@@ -211,7 +232,8 @@ module _ {c e c₁ e₁ : Corner} {os os₁ : List ℕ} {b b′ b₁ b₁′ : P
   alike-facts = endLaws.alike-facts w v q party start operations
 
   -- chain: the same surviving steps, however long the two inputs are
-  pub alike-steps : take (byParty q (f .first) (f .second) .steps) (byParty q (b′ .first) (b′ .second)) ≡ take (byParty q (f₁ .first) (f₁ .second) .steps) (byParty q (b₁′ .first) (b₁′ .second))
+  pub alike-steps : take (byParty q (f .first) (f .second) .steps) (byParty q (b′ .first) (b′ .second))
+      ≡ take (byParty q (f₁ .first) (f₁ .second) .steps) (byParty q (b₁′ .first) (b₁′ .second))
   alike-steps = endLaws.alike-steps w v q party start operations
 
   -- link steps, visits, needing step, first visit and edge counts of each node
@@ -220,26 +242,31 @@ module _ {c e c₁ e₁ : Corner} {os os₁ : List ℕ} {b b′ b₁ b₁′ : P
   alike-words = endLaws.alike-words w v q party start operations
 
   -- a node that has a record in one call only has none of this party's words there
-  pub alike-absent : (a : Corner) (i n : ℕ) → At (slotsOf c e os) i a → ((j : ℕ) → At (slotsOf c₁ e₁ os₁) j a → ⊥) → n < 11 → getD (b′ .table) (pairWordAt i (ownWord q n)) 0 ≡ 0
+  pub alike-absent : (a : Corner) (i n : ℕ) → At (slotsOf c e os) i a → ((j : ℕ) → At (slotsOf c₁ e₁ os₁) j a → ⊥) → n < 11
+      → getD (b′ .table) (pairWordAt i (ownWord q n)) 0 ≡ 0
   alike-absent = endLaws.alike-absent w v q party start operations
 
--- ---- "two neighbouring operations of different parties, exchanged, give the same end apart from node numbers, the refs that hold them and marks,
--- provided both orders are accepted"
+-- ---- "two neighbouring operations of different parties, exchanged, give the same end apart from node numbers, the refs that
+-- hold them and marks, provided both orders are accepted"
 module _ {c e : Corner} (xs : List ℕ) (o p : ℕ) (ys : List ℕ) {b b′ b₁ b₁′ : PairLent} {f f₁ : PairFacts}
-    (w : PairIs c e (xs ++ (o ∷ p ∷ ys)) b (PairAnswer.Accepted f) b′) (v : PairIs c e (xs ++ (p ∷ o ∷ ys)) b₁ (PairAnswer.Accepted f₁) b₁′) (different : partyOf o ≡ partyOf p → ⊥) where
+    (w : PairIs c e (xs ++ (o ∷ p ∷ ys)) b (PairAnswer.Accepted f) b′)
+    (v : PairIs c e (xs ++ (p ∷ o ∷ ys)) b₁ (PairAnswer.Accepted f₁) b₁′) (different : partyOf o ≡ partyOf p → ⊥) where
   pub exchanged-facts : f ≡ f₁
   exchanged-facts = endLaws.exchanged-facts xs o p ys w v different
 
-  pub exchanged-table : SameButNumbers (slotsOf c e (xs ++ (o ∷ p ∷ ys))) (slotsOf c e (xs ++ (p ∷ o ∷ ys))) (b′ .table) (b₁′ .table)
+  pub exchanged-table : SameButNumbers (slotsOf c e (xs ++ (o ∷ p ∷ ys))) (slotsOf c e (xs ++ (p ∷ o ∷ ys)))
+      (b′ .table) (b₁′ .table)
   exchanged-table = endLaws.exchanged-table xs o p ys w v different
 
   pub exchanged-chain : (q : ℕ) → q < 2 → byParty q (b′ .first) (b′ .second) ≡ byParty q (b₁′ .first) (b₁′ .second)
   exchanged-chain = endLaws.exchanged-chain xs o p ys w v different
 
 -- ---- Demand 3
--- if it is accepted, so is the record of the surviving steps alone in a table of the same size, in whatever way the two parties' steps are mixed
+-- if it is accepted, so is the record of the surviving steps alone in a table of the same size, in whatever way the two parties'
+-- steps are mixed
 module _ {c e : Corner} {os alone : List ℕ} {b b′ b₁ b₂ : PairLent} {f : PairFacts} {r : PairAnswer}
-    (w : PairIs c e os b (PairAnswer.Accepted f) b′) (a : AloneOf os alone) (v : PairIs c e alone b₁ r b₂) (lent : PairLentAlone alone b b₁) where
+    (w : PairIs c e os b (PairAnswer.Accepted f) b′) (a : AloneOf os alone) (v : PairIs c e alone b₁ r b₂)
+    (lent : PairLentAlone alone b b₁) where
   -- both give the same answer
   pub alone-answer : r ≡ PairAnswer.Accepted f
   alone-answer = aloneLaws.alone-answer w a v lent
@@ -249,11 +276,13 @@ module _ {c e : Corner} {os alone : List ℕ} {b b′ b₁ b₂ : PairLent} {f :
   alone-table = aloneLaws.alone-table w a v lent
 
   -- and the same surviving steps
-  pub alone-steps : (q : ℕ) → q < 2 → take (byParty q (f .first) (f .second) .steps) (byParty q (b₂ .first) (b₂ .second)) ≡ take (byParty q (f .first) (f .second) .steps) (byParty q (b′ .first) (b′ .second))
+  pub alone-steps : (q : ℕ) → q < 2 → take (byParty q (f .first) (f .second) .steps) (byParty q (b₂ .first) (b₂ .second))
+      ≡ take (byParty q (f .first) (f .second) .steps) (byParty q (b′ .first) (b′ .second))
   alone-steps = aloneLaws.alone-steps w a v lent
 
 -- one such record: the bytes whose steps survive, mixed as they came
-pub alone-some : {c e : Corner} {os : List ℕ} {b b′ : PairLent} {f : PairFacts} → PairIs c e os b (PairAnswer.Accepted f) b′ → AloneOf os (aloneIn os)
+pub alone-some : {c e : Corner} {os : List ℕ} {b b′ : PairLent} {f : PairFacts} → PairIs c e os b (PairAnswer.Accepted f) b′
+    → AloneOf os (aloneIn os)
 alone-some = aloneLaws.alone-some
 
 -- after every operation at most eight nodes for each different corner of both parties, and 136; half of it is enough
@@ -266,7 +295,8 @@ module _ {c e : Corner} {os : List ℕ} {b : PairLent} (h : PairFaultless c e os
 
 module _ {c e : Corner} {os : List ℕ} {b b′ : PairLent} {r : PairAnswer} (w : PairIs c e os b r b′) where
   -- so a table that large at every moment is never refused for room
-  pub enough-eight : ((k : ℕ) → k ≤ length os → 8 * pairCornersAfter c e os k + 136 ≤ pairRecordsIn (length (b .table))) → (i : ℕ) → r ≡ PairAnswer.Refused (NoRoom i) → ⊥
+  pub enough-eight : ((k : ℕ) → k ≤ length os → 8 * pairCornersAfter c e os k + 136 ≤ pairRecordsIn (length (b .table))) → (i : ℕ)
+      → r ≡ PairAnswer.Refused (NoRoom i) → ⊥
   enough-eight = aloneLaws.enough-eight w
 
   -- nor one with 131,208 records, whatever the two walks

@@ -17,7 +17,7 @@ use Rattle.grid.proofs.ParentLaws.{parentOf-stepped}
 use Rattle.grid.proofs.PathLaws.{pathOf-snoc}
 use Rattle.tree.proofs.NodeLaws.{mem-path}
 use Rattle.tree_laws.proofs.LevelLaws.{root-is, path-known}
-use Rattle.table_laws.proofs.LookupLaws.{root-child}
+use Rattle.table_laws.proofs.ChildLaws.{root-child}
 use Rattle.table_laws.specs.Climb.{Apart, Climbed}
 use Rattle.pair_table.specs.Slots.{Slot, placed, placedAll, refIn}
 use Rattle.pair_table.specs.Words.{pairWidth}

@@ -1,5 +1,5 @@
--- Where a party stands in a table that two share, and what a lookup from there starts from: at its node, at the level where its climb stops, and on the
--- way down again.
+-- Where a party stands in a table that two share, and what a lookup from there starts from: at its node, at the level where its
+-- climb stops, and on the way down again.
 -- Assumes nothing.
 use mathlib.Core.Bool.{false}
 use mathlib.Core.List.{List, List·Memᴰ}
@@ -58,7 +58,8 @@ pub record Lifting (t : List ℕ) (q : ℕ) (v : Located) (u : ℕ) (a : Corner)
   pub lifts : Lifts t slots both q v u a d s
 
 -- the neighbour v of the node so many levels above c, which stands in record u, is found, made and linked
-pub record ComesDown (t : List ℕ) (slots : List Slot) (B : Both) (q : ℕ) (v : Located) (u : ℕ) (c : Corner) (d s level : ℕ) : Type 0 where
+pub record ComesDown (t : List ℕ) (slots : List Slot) (B : Both) (q : ℕ) (v : Located) (u : ℕ) (c : Corner)
+    (d s level : ℕ) : Type 0 where
   pub settled : SettledIn slots B
   pub start : List·Memᴰ c (B q .nodes)
   pub top : At slots 0 root

@@ -1,5 +1,5 @@
-// The neighbour of a node, found or made for one of two parties. It is looked up as for one party, by that party's own links: a loop climbs
-// to the parents until a link of its own, the root or a shared parent is found, and a loop comes down again.
+// The neighbour of a node, found or made for one of two parties. It is looked up as for one party, by that party's own links: a
+// loop climbs to the parents until a link of its own, the root or a shared parent is found, and a loop comes down again.
 ghost use mathlib.Core.Path.{_≡_};
 ghost use mathlib.Core.Bool.{false, cond};
 ghost use mathlib.Core.List.{List};
@@ -48,7 +48,8 @@ fn goes_up(t: &[u32], q: usize, u: usize, c: Corner, d: u8) -> bool
 fn climb(t: &[u32], q: usize, u: usize, c: Corner, d: u8) -> Ledge
     requires { ⌜ PairStanding (now t) q u c ⌝ }
     requires { ⌜ (natAbs (c .0) < 65536) × (natAbs (c .1) < 65536) × (d < 4) × (q < 2) ⌝ }
-    ensures { λ r. ⌜ ((slots : List Slot) (B : Both) → Stands (now (t .entry)) slots B q u c → Climbed (B q) d c (r .level) (r .at) × Stands (now (t .entry)) slots B q (r .node) (r .at)) ⌝ }
+    ensures { λ r. ⌜ ((slots : List Slot) (B : Both) → Stands (now (t .entry)) slots B q u c
+        → Climbed (B q) d c (r .level) (r .at) × Stands (now (t .entry)) slots B q (r .node) (r .at)) ⌝ }
     ensures { λ r. ⌜ (pairGoesUp q (now (t .entry)) (r .node) (r .at) d ≡ false) ⌝ }
 {
     let mut node = u;
@@ -77,8 +78,10 @@ fn parent_or_self(t: &[u32], u: usize, c: Corner) -> usize
 // One level down: the child of v beside a, and their link. u stands for a.
 fn level_down(t: &mut [u32], q: usize, v: Located, u: usize, a: Corner, d: u8, step: u32) -> Located
     requires { ⌜ Lifting (now t) q v u a d step ⌝ }
-    requires { ⌜ (natAbs (a .0) < 65536) × (natAbs (a .1) < 65536) × (d < 4) × (q < 2) × (0 < step) × (step + 1 < 2 ^ 32) × (length (now t) < 2 ^ 32) ⌝ }
-    ensures { λ r. ⌜ ((slots : List Slot) (B : Both) → Lifts (now (t .entry)) slots B q v u a d step → Finds B slots q (reached (B q) step a (stepped d a)) (stepped d a) (now (t .entry)) (now (t .exit)) r) ⌝ }
+    requires { ⌜ (natAbs (a .0) < 65536) × (natAbs (a .1) < 65536) × (d < 4) × (q < 2) × (0 < step) × (step + 1 < 2 ^ 32)
+        × (length (now t) < 2 ^ 32) ⌝ }
+    ensures { λ r. ⌜ ((slots : List Slot) (B : Both) → Lifts (now (t .entry)) slots B q v u a d step
+        → Finds B slots q (reached (B q) step a (stepped d a)) (stepped d a) (now (t .entry)) (now (t .exit)) r) ⌝ }
 {
     let s = v.stock;
     let e = walk_corner::moved(a, d);
@@ -91,12 +94,15 @@ fn level_down(t: &mut [u32], q: usize, v: Located, u: usize, a: Corner, d: u8, s
     to
 }
 
-// The neighbour at the level where a climb stopped: linked by party q already, the root, or a child of c or of the parent that both have.
+// The neighbour at the level where a climb stopped: linked by party q already, the root, or a child of c or of the parent that
+// both have.
 fn top(t: &mut [u32], q: usize, s: Stock, u: usize, c: Corner, d: u8, step: u32) -> Located
     requires { ⌜ Looking (now t) q u c s ⌝ }
-    requires { ⌜ (natAbs (c .0) < 65536) × (natAbs (c .1) < 65536) × (d < 4) × (q < 2) × (0 < step) × (step + 1 < 2 ^ 32) × (length (now t) < 2 ^ 32) ⌝ }
+    requires { ⌜ (natAbs (c .0) < 65536) × (natAbs (c .1) < 65536) × (d < 4) × (q < 2) × (0 < step) × (step + 1 < 2 ^ 32)
+        × (length (now t) < 2 ^ 32) ⌝ }
     requires { ⌜ pairGoesUp q (now t) u c d ≡ false ⌝ }
-    ensures { λ r. ⌜ ((slots : List Slot) (B : Both) → Looks (now (t .entry)) slots B q u c s → Finds B slots q (reached (B q) step c (stepped d c)) (stepped d c) (now (t .entry)) (now (t .exit)) r) ⌝ }
+    ensures { λ r. ⌜ ((slots : List Slot) (B : Both) → Looks (now (t .entry)) slots B q u c s
+        → Finds B slots q (reached (B q) step c (stepped d c)) (stepped d c) (now (t .entry)) (now (t .exit)) r) ⌝ }
 {
     let way = d as usize;
     if own(t, q, u, Record::LINK_STEP + way) != 0 {
@@ -118,8 +124,8 @@ fn top(t: &mut [u32], q: usize, s: Stock, u: usize, c: Corner, d: u8, step: u32)
     level_down(t, q, over, u, c, d, step)
 }
 
-// Down again to the neighbour of c, from that of the node u so many levels above c, which is v. The node of a level is read in the
-// record of the one above, its corner worked out from c.
+// Down again to the neighbour of c, from that of the node u so many levels above c, which is v. The node of a level is read in
+// the record of the one above, its corner worked out from c.
 fn come_down(
     t: &mut [u32],
     q: usize,
@@ -131,9 +137,11 @@ fn come_down(
     level: usize,
 ) -> Located
     requires { ⌜ Coming (now t) q v u c d step level ⌝ }
-    requires { ⌜ (natAbs (c .0) < 65536) × (natAbs (c .1) < 65536) × (d < 4) × (q < 2) × (0 < step) × (step + 1 < 2 ^ 32) × (length (now t) < 2 ^ 32) ⌝ }
+    requires { ⌜ (natAbs (c .0) < 65536) × (natAbs (c .1) < 65536) × (d < 4) × (q < 2) × (0 < step) × (step + 1 < 2 ^ 32)
+        × (length (now t) < 2 ^ 32) ⌝ }
     requires { ⌜ 0 < v .at ⌝ }
-    ensures { λ r. ⌜ ((slots : List Slot) (B : Both) → ComesDown (now (t .entry)) slots B q v u c d step level → Finds B slots q (reached (B q) step c (stepped d c)) (stepped d c) (now (t .entry)) (now (t .exit)) r) ⌝ }
+    ensures { λ r. ⌜ ((slots : List Slot) (B : Both) → ComesDown (now (t .entry)) slots B q v u c d step level
+        → Finds B slots q (reached (B q) step c (stepped d c)) (stepped d c) (now (t .entry)) (now (t .exit)) r) ⌝ }
 {
     let mut at = u;
     let mut to = v;
@@ -150,11 +158,14 @@ fn come_down(
     to
 }
 
-// The neighbour of u, which stands for c, in the direction d: found, or made for the step of party q, with all links that the step makes.
+// The neighbour of u, which stands for c, in the direction d: found, or made for the step of party q, with all links that the
+// step makes.
 fn neighbour(t: &mut [u32], q: usize, s: Stock, u: usize, c: Corner, d: u8, step: u32) -> Located
     requires { ⌜ Looking (now t) q u c s ⌝ }
-    requires { ⌜ (natAbs (c .0) < 65536) × (natAbs (c .1) < 65536) × (d < 4) × (q < 2) × (0 < step) × (step + 1 < 2 ^ 32) × (length (now t) < 2 ^ 32) ⌝ }
-    ensures { λ r. ⌜ ((slots : List Slot) (B : Both) → Looks (now (t .entry)) slots B q u c s → Finds B slots q (reached (B q) step c (stepped d c)) (stepped d c) (now (t .entry)) (now (t .exit)) r) ⌝ }
+    requires { ⌜ (natAbs (c .0) < 65536) × (natAbs (c .1) < 65536) × (d < 4) × (q < 2) × (0 < step) × (step + 1 < 2 ^ 32)
+        × (length (now t) < 2 ^ 32) ⌝ }
+    ensures { λ r. ⌜ ((slots : List Slot) (B : Both) → Looks (now (t .entry)) slots B q u c s
+        → Finds B slots q (reached (B q) step c (stepped d c)) (stepped d c) (now (t .entry)) (now (t .exit)) r) ⌝ }
 {
     let p = climb(t, q, u, c, d);
     let corner = p.at;
@@ -168,8 +179,10 @@ fn neighbour(t: &mut [u32], q: usize, s: Stock, u: usize, c: Corner, d: u8, step
 // The neighbour as `neighbour` finds it, in two reads where party q links the two.
 pub fn reach(t: &mut [u32], q: usize, s: Stock, u: usize, c: Corner, d: u8, step: u32) -> Located
     requires { ⌜ Looking (now t) q u c s ⌝ }
-    requires { ⌜ (natAbs (c .0) < 65536) × (natAbs (c .1) < 65536) × (d < 4) × (q < 2) × (0 < step) × (step + 1 < 2 ^ 32) × (length (now t) < 2 ^ 32) ⌝ }
-    ensures { λ r. ⌜ ((slots : List Slot) (B : Both) → Looks (now (t .entry)) slots B q u c s → Finds B slots q (reached (B q) step c (stepped d c)) (stepped d c) (now (t .entry)) (now (t .exit)) r) ⌝ }
+    requires { ⌜ (natAbs (c .0) < 65536) × (natAbs (c .1) < 65536) × (d < 4) × (q < 2) × (0 < step) × (step + 1 < 2 ^ 32)
+        × (length (now t) < 2 ^ 32) ⌝ }
+    ensures { λ r. ⌜ ((slots : List Slot) (B : Both) → Looks (now (t .entry)) slots B q u c s
+        → Finds B slots q (reached (B q) step c (stepped d c)) (stepped d c) (now (t .entry)) (now (t .exit)) r) ⌝ }
 {
     let way = d as usize;
     if own(t, q, u, Record::LINK_STEP + way) != 0 {

@@ -1,5 +1,5 @@
--- One of two parties on its way: where it stands and its tally, in the table that both share, as the definitions have them. The first walks ds from c, the
--- second es from e.
+-- One of two parties on its way: where it stands and its tally, in the table that both share, as the definitions have them. The
+-- first walks ds from c, the second es from e.
 -- Assumes nothing.
 use mathlib.Core.List.{List, [], _∷_, _++_}
 use mathlib.Core.Path.{_≡_}
@@ -72,10 +72,12 @@ pub record StepCounted (c : Corner) (ds : List ℕ) (d visits first n : ℕ) : T
   pub number : n ≡ suc (length ds)
 
 -- party q, p, walked ds from c, and the node in record v, to which its step n leads in direction d, is found, made and linked
-pub record Arrives (t : List ℕ) (slots : List Slot) (C : Both) (q : ℕ) (c : Corner) (ds : List ℕ) (p : Party) (v d n : ℕ) : Type 0 where
+pub record Arrives (t : List ℕ) (slots : List Slot) (C : Both) (q : ℕ) (c : Corner) (ds : List ℕ) (p : Party)
+    (v d n : ℕ) : Type 0 where
   pub once : HeldOnce slots
   pub party : PartyIs slots c ds p
-  pub look : Look C slots q (reached (stateOf (cornersFrom c ds)) (suc (length ds)) (endFrom c ds) (stepped d (endFrom c ds))) (stepped d (endFrom c ds)) t (suc v)
+  pub look : Look C slots q (reached (stateOf (cornersFrom c ds)) (suc (length ds)) (endFrom c ds) (stepped d (endFrom c ds)))
+      (stepped d (endFrom c ds)) t (suc v)
   pub number : n ≡ suc (length ds)
 
 pub record Arriving (t : List ℕ) (q : ℕ) (p : Party) (v d n : ℕ) : Type 0 where
@@ -85,8 +87,11 @@ pub record Arriving (t : List ℕ) (q : ℕ) (p : Party) (v d n : ℕ) : Type 0 
   pub chain : List ℕ
   pub arrives : Arrives t slots both q start chain p v d n
 
--- the answer to a step d: the table, the party and what is in use are those of one step more; or the nodes that both then need are more than the records
+-- the answer to a step d: the table, the party and what is in use are those of one step more; or the nodes that both then need
+-- are more than the records
 abbrev pub PairAdvanced : List ℕ → Corner → Corner → List ℕ → List ℕ → List Slot → ℕ → ℕ → List ℕ → Strode → Type 0
 PairAdvanced t c e ds es slots q d t′ (Strode.To w) =
-    Moves t′ c e (firstAfter q ds d) (secondAfter q es d) (settle slots (needsOf c e (firstAfter q ds d) (secondAfter q es d))) q (w .party) (w .stock)
-PairAdvanced t c e ds es slots q d t′ Strode.Full = pairRecordsIn (length t) < length (needsOf c e (firstAfter q ds d) (secondAfter q es d))
+    Moves t′ c e (firstAfter q ds d) (secondAfter q es d)
+    (settle slots (needsOf c e (firstAfter q ds d) (secondAfter q es d))) q (w .party) (w .stock)
+PairAdvanced t c e ds es slots q d t′ Strode.Full =
+    pairRecordsIn (length t) < length (needsOf c e (firstAfter q ds d) (secondAfter q es d))

@@ -65,7 +65,8 @@ pub enum Strode {
 // The tally with a visit as corner n: there were so many visits of the corner with it, the first as corner `first` - 1.
 fn tallied(m: Tally, visits: u32, first: usize, n: usize) -> Tally
     requires { ⌜ (m .corners < 65536) × (0 < first) × (n < noMeeting) ⌝ }
-    ensures { λ r. ⌜ ((c : Node) (ds : List ℕ) (d : ℕ) → StepCounted c ds d visits first n → TallyIs c ds m → TallyIs c (ds ++ (d ∷ [])) r) ⌝ }
+    ensures { λ r. ⌜ ((c : Node) (ds : List ℕ) (d : ℕ) → StepCounted c ds d visits first n → TallyIs c ds m
+        → TallyIs c (ds ++ (d ∷ [])) r) ⌝ }
 {
     if visits == 1 {
         return Tally {
@@ -87,7 +88,8 @@ fn tallied(m: Tally, visits: u32, first: usize, n: usize) -> Tally
 // The tally without its last visit, as corner n.
 fn untallied(m: Tally, visits: u32, n: usize) -> Tally
     requires { ⌜ (0 < m .corners) × (n < noMeeting) ⌝ }
-    ensures { λ r. ⌜ ((c : Node) (ds : List ℕ) (d : ℕ) → (visits ≡ count (same (stepped d (endFrom c ds))) (cornersFrom c ds) + 1) → n ≡ suc (length ds) → TallyIs c (ds ++ (d ∷ [])) m → TallyIs c ds r) ⌝ }
+    ensures { λ r. ⌜ ((c : Node) (ds : List ℕ) (d : ℕ) → (visits ≡ count (same (stepped d (endFrom c ds))) (cornersFrom c ds) + 1)
+        → n ≡ suc (length ds) → TallyIs c (ds ++ (d ∷ [])) m → TallyIs c ds r) ⌝ }
 {
     if visits == 1 {
         return Tally {
@@ -111,7 +113,8 @@ fn arrive(t: &mut [u32], q: usize, p: Party, v: usize, d: u8, n: usize) -> Party
     requires { ⌜ Arriving (now t) q p v d n ⌝ }
     requires { ⌜ (natAbs (p .at .0) < 65536) × (natAbs (p .at .1) < 65536) × (d < 4) × (q < 2) × (n < noMeeting) ⌝ }
     ensures { λ r. ⌜ now (t .exit) ≡ pairTreadIn q (pairVisitIn q (now (t .entry)) v n) (p .node) v d ⌝ }
-    ensures { λ r. ⌜ ((slots : List Slot) (C : Both) (c : Node) (ds : List ℕ) → Arrives (now (t .entry)) slots C q c ds p v d n → PartyIs (placedAll slots (pathOf (stepped d (endFrom c ds)))) c (ds ++ (d ∷ [])) r) ⌝ }
+    ensures { λ r. ⌜ ((slots : List Slot) (C : Both) (c : Node) (ds : List ℕ) → Arrives (now (t .entry)) slots C q c ds p v d n
+        → PartyIs (placedAll slots (pathOf (stepped d (endFrom c ds)))) c (ds ++ (d ∷ [])) r) ⌝ }
 {
     pair_words::visit(t, q, v, n);
     pair_words::tread(t, q, p.node, v, d as usize);
@@ -131,8 +134,10 @@ fn arrive(t: &mut [u32], q: usize, p: Party, v: usize, d: u8, n: usize) -> Party
 // One step of party q in the direction d.
 pub fn advance(t: &mut [u32], q: usize, p: Party, s: Stock, d: u8) -> Strode
     requires { ⌜ Moving (now t) q p s ⌝ }
-    requires { ⌜ (natAbs (p .at .0) < 65536) × (natAbs (p .at .1) < 65536) × (d < 4) × (q < 2) × (p .steps + 1 < noMeeting) × (length (now t) < 2 ^ 32) ⌝ }
-    ensures { λ r. ⌜ ((c e : Node) (ds es : List ℕ) (slots : List Slot) → Moves (now (t .entry)) c e ds es slots q p s → PairAdvanced (now (t .entry)) c e ds es slots q d (now (t .exit)) r) ⌝ }
+    requires { ⌜ (natAbs (p .at .0) < 65536) × (natAbs (p .at .1) < 65536) × (d < 4) × (q < 2) × (p .steps + 1 < noMeeting)
+        × (length (now t) < 2 ^ 32) ⌝ }
+    ensures { λ r. ⌜ ((c e : Node) (ds es : List ℕ) (slots : List Slot) → Moves (now (t .entry)) c e ds es slots q p s
+        → PairAdvanced (now (t .entry)) c e ds es slots q d (now (t .exit)) r) ⌝ }
 {
     let n = p.steps + 1;
     let here = p.at;
@@ -159,7 +164,9 @@ fn origin(t: &[u32], node: usize, d: u8) -> usize
 pub fn withdraw(t: &mut [u32], q: usize, p: Party, s: Stock, d: u8) -> Stride
     requires { ⌜ Withdrawing (now t) q p s d ⌝ }
     requires { ⌜ (natAbs (p .at .0) < 65536) × (natAbs (p .at .1) < 65536) × (d < 4) × (q < 2) × (p .steps < noMeeting) ⌝ }
-    ensures { λ r. ⌜ ((c e : Node) (ds es : List ℕ) (slots : List Slot) → Moves (now (t .entry)) c e (firstAfter q ds d) (secondAfter q es d) slots q p s → Moves (now (t .exit)) c e ds es (settle slots (needsOf c e ds es)) q (r .party) (r .stock)) ⌝ }
+    ensures { λ r. ⌜ ((c e : Node) (ds es : List ℕ) (slots : List Slot)
+        → Moves (now (t .entry)) c e (firstAfter q ds d) (secondAfter q es d) slots q p s
+        → Moves (now (t .exit)) c e ds es (settle slots (needsOf c e ds es)) q (r .party) (r .stock)) ⌝ }
 {
     let n = p.steps;
     let node = p.node;

@@ -1,5 +1,5 @@
-// The starts of two parties, planted in a cleared table: the root for both, then the ancestors of the first from the root down, then those
-// of the second that are not there, and the first visit of each.
+// The starts of two parties, planted in a cleared table: the root for both, then the ancestors of the first from the root down,
+// then those of the second that are not there, and the first visit of each.
 ghost use mathlib.Core.List.{List, [], _∷_};
 ghost use mathlib.Core.Path.{_≡_};
 ghost use Prim.Native.Nat.{_^_, _<_, _≤_};
@@ -32,7 +32,8 @@ pub fn begin(t: &mut [u32]) -> Stock
 fn grow(t: &mut [u32], q: usize, s: Stock, c: Corner) -> Located
     requires { ⌜ Planting (now t) q s ⌝ }
     requires { ⌜ Near c × (q < 2) × (length (now t) < 2 ^ 32) ⌝ }
-    ensures { λ r. ⌜ ((slots : List Slot) (C : Both) → Plants (now (t .entry)) slots C q s → Finds C slots q (plantedOf c) c (now (t .entry)) (now (t .exit)) r) ⌝ }
+    ensures { λ r. ⌜ ((slots : List Slot) (C : Both) → Plants (now (t .entry)) slots C q s
+        → Finds C slots q (plantedOf c) c (now (t .entry)) (now (t .exit)) r) ⌝ }
 {
     let mut left = walk_plant::depth(c);
     let mut to = Located { at: 1, stock: s };
@@ -52,7 +53,8 @@ fn grow(t: &mut [u32], q: usize, s: Stock, c: Corner) -> Located
 pub fn plant(t: &mut [u32], q: usize, s: Stock, c: Corner) -> Located
     requires { ⌜ Planting (now t) q s ⌝ }
     requires { ⌜ Near c × (q < 2) × (length (now t) < 2 ^ 32) ⌝ }
-    ensures { λ r. ⌜ ((slots : List Slot) (C : Both) → Plants (now (t .entry)) slots C q s → Finds C slots q (stateOf (c ∷ [])) c (now (t .entry)) (now (t .exit)) r) ⌝ }
+    ensures { λ r. ⌜ ((slots : List Slot) (C : Both) → Plants (now (t .entry)) slots C q s
+        → Finds C slots q (stateOf (c ∷ [])) c (now (t .entry)) (now (t .exit)) r) ⌝ }
 {
     let to = grow(t, q, s, c);
     let at = to.at;

@@ -1,5 +1,5 @@
--- Two parties that follow their operations in one table: the steps of each in its chain, and what the run answers. The first has walked ds from c, the
--- second es from e.
+-- Two parties that follow their operations in one table: the steps of each in its chain, and what the run answers. The first has
+-- walked ds from c, the second es from e.
 -- Assumes nothing.
 use mathlib.Core.List.{List, [], _∷_}
 use mathlib.Core.Path.{_≡_}
@@ -38,7 +38,8 @@ abbrev pub slotsBy : Corner → Corner → List Slot → ℕ → List ℕ → Li
 slotsBy c e slots q ds es o = settle slots (needsOf c e (firstBy q ds o) (secondBy q es o))
 
 -- party q, p, between two operations: the table of both, and its own steps in its chain
-pub record PairKept (t chain : List ℕ) (c e : Corner) (ds es : List ℕ) (slots : List Slot) (q : ℕ) (p : Party) (s : Stock) : Type 0 where
+pub record PairKept (t chain : List ℕ) (c e : Corner) (ds es : List ℕ) (slots : List Slot) (q : ℕ) (p : Party)
+    (s : Stock) : Type 0 where
   pub moves : Moves t c e ds es slots q p s
   pub own : ChainKeeps (byParty q c e) chain (byParty q ds es)
 
@@ -56,16 +57,18 @@ pub record PairReady (t chain : List ℕ) (q : ℕ) (p : Party) (s : Stock) (o :
 -- how many of so many records the operation o of party q changes
 abbrev changesTo : ℕ → Corner → Corner → List Slot → ℕ → List ℕ → List ℕ → ℕ → ℕ
 changesTo records c e slots q ds es o =
-    changesBy pairWidth records (pairTableOf (records * pairWidth) c e slots ds es) (pairTableOf (records * pairWidth) c e (slotsBy c e slots q ds es o) (firstBy q ds o) (secondBy q es o))
+    changesBy pairWidth records (pairTableOf (records * pairWidth) c e slots ds es)
+    (pairTableOf (records * pairWidth) c e (slotsBy c e slots q ds es o) (firstBy q ds o) (secondBy q es o))
 
--- the answer to operation o of party q, in a table of so many words: both after it, and how many records it changed; or the nodes that both then need
--- are more than the records
+-- the answer to operation o of party q, in a table of so many words: both after it, and how many records it changed; or the nodes
+-- that both then need are more than the records
 abbrev pub PairActed : ℕ → Corner → Corner → List ℕ → List ℕ → List Slot → ℕ → ℕ → List ℕ → List ℕ → Acted → Type 0
 PairActed words c e ds es slots q o t chain (Acted.To x) =
     PairKept t chain c e (firstBy q ds o) (secondBy q es o) (slotsBy c e slots q ds es o) q (x .stride .party) (x .stride .stock)
     × (length t ≡ words)
     × (x .changed ≡ changesTo (pairRecordsIn words) c e slots q ds es o)
-PairActed words c e ds es slots q o t chain Acted.Full = pairRecordsIn words < length (needsOf c e (firstBy q ds o) (secondBy q es o))
+PairActed words c e ds es slots q o t chain Acted.Full =
+    pairRecordsIn words < length (needsOf c e (firstBy q ds o) (secondBy q es o))
 
 -- the mark of operation o of party q
 abbrev pub markBy : ℕ → Corner → Corner → List Slot → ℕ → List ℕ → List ℕ → ℕ → List ℕ
@@ -76,15 +79,18 @@ markBy records c e slots q ds es o =
     ∷ []
 
 -- the same with its mark, at place i of the marks ms₀
-abbrev pub PairPerformed : ℕ → List ℕ → ℕ → Corner → Corner → List ℕ → List ℕ → List Slot → ℕ → ℕ → List ℕ → List ℕ → List ℕ → Strode → Type 0
+abbrev pub PairPerformed : ℕ → List ℕ → ℕ → Corner → Corner → List ℕ → List ℕ → List Slot → ℕ → ℕ → List ℕ → List ℕ
+    → List ℕ → Strode → Type 0
 PairPerformed words ms₀ i c e ds es slots q o t ms chain (Strode.To x) =
     PairKept t chain c e (firstBy q ds o) (secondBy q es o) (slotsBy c e slots q ds es o) q (x .party) (x .stock)
     × (length t ≡ words)
     × (ms ≡ sets ms₀ (markWords * i) (markBy (pairRecordsIn words) c e slots q ds es o))
-PairPerformed words ms₀ i c e ds es slots q o t ms chain Strode.Full = pairRecordsIn words < length (needsOf c e (firstBy q ds o) (secondBy q es o))
+PairPerformed words ms₀ i c e ds es slots q o t ms chain Strode.Full =
+    pairRecordsIn words < length (needsOf c e (firstBy q ds o) (secondBy q es o))
 
 -- both parties between two operations
-pub record BothKept (t first second : List ℕ) (c e : Corner) (ds es : List ℕ) (slots : List Slot) (one two : Party) (s : Stock) : Type 0 where
+pub record BothKept (t first second : List ℕ) (c e : Corner) (ds es : List ℕ) (slots : List Slot) (one two : Party)
+    (s : Stock) : Type 0 where
   pub walked : PairWalked t c e ds es slots
   pub stock : StockIs s slots
   pub one-is : PartyIs slots c ds one
@@ -94,7 +100,9 @@ pub record BothKept (t first second : List ℕ) (c e : Corner) (ds es : List ℕ
 
 -- before the first operation, with any chains
 abbrev pub PairStarts : List ℕ → List ℕ → List ℕ → Pair → Type 0
-PairStarts t first second w = BothKept t first second (w .first .at) (w .second .at) [] [] (slotsAtStart (w .first .at) (w .second .at)) (w .first) (w .second) (w .stock)
+PairStarts t first second w =
+    BothKept t first second (w .first .at) (w .second .at) [] [] (slotsAtStart (w .first .at) (w .second .at))
+    (w .first) (w .second) (w .stock)
 
 -- the answer to all operations, with the chains as they then stand
 abbrev pub PairRan : ℕ → Corner → Corner → List ℕ → List ℕ → List ℕ → List ℕ → List ℕ → Course → Type 0

@@ -50,7 +50,9 @@ enum Acted {
 fn step(t: &mut [u32], chain: &mut [u8], q: usize, p: Party, s: Stock, d: u8) -> Acted
     requires { ⌜ PairReady (now t) (now chain) q p s d × (d < 4) ⌝ }
     requires { ⌜ (q < 2) × (length (now t) < 2 ^ 32) × (length (now t) % pairWidth ≡ 0) ⌝ }
-    ensures { λ r. ⌜ ((c e : Node) (ds es : List ℕ) (slots : List Slot) → PairKept (now (t .entry)) (now (chain .entry)) c e ds es slots q p s → PairActed (length (now (t .entry))) c e ds es slots q d (now (t .exit)) (now (chain .exit)) r) ⌝ }
+    ensures { λ r. ⌜ ((c e : Node) (ds es : List ℕ) (slots : List Slot)
+        → PairKept (now (t .entry)) (now (chain .entry)) c e ds es slots q p s
+        → PairActed (length (now (t .entry))) c e ds es slots q d (now (t .exit)) (now (chain .exit)) r) ⌝ }
 {
     let place = p.steps;
     chain[place] = d;
@@ -68,7 +70,9 @@ fn step(t: &mut [u32], chain: &mut [u8], q: usize, p: Party, s: Stock, d: u8) ->
 fn apply(t: &mut [u32], chain: &mut [u8], q: usize, p: Party, s: Stock, op: u8) -> Acted
     requires { ⌜ PairReady (now t) (now chain) q p s op ⌝ }
     requires { ⌜ (q < 2) × (length (now t) < 2 ^ 32) × (length (now t) % pairWidth ≡ 0) ⌝ }
-    ensures { λ r. ⌜ ((c e : Node) (ds es : List ℕ) (slots : List Slot) → PairKept (now (t .entry)) (now (chain .entry)) c e ds es slots q p s → PairActed (length (now (t .entry))) c e ds es slots q op (now (t .exit)) (now (chain .exit)) r) ⌝ }
+    ensures { λ r. ⌜ ((c e : Node) (ds es : List ℕ) (slots : List Slot)
+        → PairKept (now (t .entry)) (now (chain .entry)) c e ds es slots q p s
+        → PairActed (length (now (t .entry))) c e ds es slots q op (now (t .exit)) (now (chain .exit)) r) ⌝ }
 {
     if op != 4 {
         return step(t, chain, q, p, s, op);
@@ -82,8 +86,10 @@ fn apply(t: &mut [u32], chain: &mut [u8], q: usize, p: Party, s: Stock, op: u8) 
 
 // The mark at place i: the nodes in use, the visits of party q at the corner that it stands on, and the records that changed.
 fn mark(t: &[u32], marks: &mut [u32], q: usize, x: Stride, i: usize, changed: u32)
-    requires { ⌜ InTable (now t) (x .party .node) × (q < 2) × (markWords * i + 2 < length (now marks)) × (x .stock .nodes < 2 ^ 32) × (i < 2 ^ 32) ⌝ }
-    ensures { λ _. ⌜ now (marks .exit) ≡ set (set (set (now (marks .entry)) (markWords * i) (x .stock .nodes)) (markWords * i + 1) (wordsIn (now (t .entry)) (x .party .node) (ofParty q visitsWord))) (markWords * i + 2) changed ⌝ }
+    requires { ⌜ InTable (now t) (x .party .node) × (q < 2) × (markWords * i + 2 < length (now marks))
+        × (x .stock .nodes < 2 ^ 32) × (i < 2 ^ 32) ⌝ }
+    ensures { λ _. ⌜ now (marks .exit) ≡ set (set (set (now (marks .entry)) (markWords * i) (x .stock .nodes)) (markWords * i + 1)
+        (wordsIn (now (t .entry)) (x .party .node) (ofParty q visitsWord))) (markWords * i + 2) changed ⌝ }
 {
     let party = x.party;
     let stock = x.stock;
@@ -106,7 +112,10 @@ fn perform(
     requires { ⌜ PairReady (now t) (now chain) q p s op ⌝ }
     requires { ⌜ (q < 2) × (length (now t) < 2 ^ 32) × (length (now t) % pairWidth ≡ 0) ⌝ }
     requires { ⌜ (markWords * suc i ≤ length (now marks)) × (i < 2 ^ 32) ⌝ }
-    ensures { λ r. ⌜ ((c e : Node) (ds es : List ℕ) (slots : List Slot) → PairKept (now (t .entry)) (now (chain .entry)) c e ds es slots q p s → PairPerformed (length (now (t .entry))) (now (marks .entry)) i c e ds es slots q op (now (t .exit)) (now (marks .exit)) (now (chain .exit)) r) ⌝ }
+    ensures { λ r. ⌜ ((c e : Node) (ds es : List ℕ) (slots : List Slot)
+        → PairKept (now (t .entry)) (now (chain .entry)) c e ds es slots q p s
+        → PairPerformed (length (now (t .entry))) (now (marks .entry)) i c e ds es slots q op (now (t .exit)) (now (marks .exit))
+        (now (chain .exit)) r) ⌝ }
 {
     match apply(t, chain, q, p, s, op) {
         Acted::To(x) => {
@@ -129,8 +138,10 @@ pub fn run(
 ) -> Course
     requires { ⌜ PairStarts (now t) (now first) (now second) start × (bytesJudged 0 0 0 (now ops) ≡ Good) ⌝ }
     requires { ⌜ (length (now t) < 2 ^ 32) × (length (now t) % pairWidth ≡ 0) × (length (now ops) ≤ mostInput) ⌝ }
-    requires { ⌜ (length (now marks) ≡ markWords * length (now ops)) × (length (now first) ≡ length (now ops)) × (length (now second) ≡ length (now ops)) ⌝ }
-    ensures { λ r. ⌜ PairRan (length (now (t .entry))) (start .first .at) (start .second .at) (now (ops .entry)) (now (t .exit)) (now (marks .exit)) (now (first .exit)) (now (second .exit)) r ⌝ }
+    requires { ⌜ (length (now marks) ≡ markWords * length (now ops)) × (length (now first) ≡ length (now ops))
+        × (length (now second) ≡ length (now ops)) ⌝ }
+    ensures { λ r. ⌜ PairRan (length (now (t .entry))) (start .first .at) (start .second .at) (now (ops .entry)) (now (t .exit))
+        (now (marks .exit)) (now (first .exit)) (now (second .exit)) r ⌝ }
 {
     let mut one = start.first;
     let mut two = start.second;

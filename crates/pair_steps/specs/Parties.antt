@@ -1,4 +1,5 @@
--- Operations of two parties in one string of bytes, the surviving steps of each, and the refusals 20, 4, 5 and 6 (RULES 19.1, 19.7). Assumes nothing.
+-- Operations of two parties in one string of bytes, the surviving steps of each, and the refusals 20, 4, 5 and 6 (RULES 19.1,
+-- 19.7). Assumes nothing.
 use Rattle.lists.specs.Lists.{Bool, true, false, cond, List, [], _∷_, ℕ, zero, suc, _/_, _%_, eqb, ltb}
 use Rattle.answer.specs.declared.{Judged.Judged, Judged.the-variants.Good, Refusal.the-variants.UnknownParty}
 use Rattle.answer.specs.Refusal.{when, orElse}
@@ -37,7 +38,8 @@ movedBy q steps o = elim (moves q o) [ true ↦ operate steps (opOf o) | false �
 abbrev pub afterBy : ℕ → ℕ → ℕ → ℕ
 afterBy q n o = elim (moves q o) [ true ↦ after n (opOf o) | false ↦ n ]
 
--- what is wrong with byte o at place i, where m steps of party 0 and n steps of party 1 survive: 20, unknown party; then 4, 5 and 6 for the party that moves
+-- what is wrong with byte o at place i, where m steps of party 0 and n steps of party 1 survive: 20, unknown party; then 4, 5 and
+-- 6 for the party that moves
 abbrev pub byteFaultOf : ℕ → ℕ → ℕ → ℕ → Judged
 byteFaultOf i m n o = orElse (when (ltb 1 (partyOf o)) (UnknownParty i)) (faultOf i (cond (moves 0 o) m n) (opOf o))
 

@@ -21,7 +21,8 @@ partiesAt c one e two = record { first = freshParty c (one .at - 1); second = fr
 
 -- both starts in a table of so many words, or the nodes that they need are more than the records
 abbrev pub PairPlanted : ℕ → Corner → Corner → List ℕ → Rooted → Type 0
-PairPlanted words c e t (Rooted.Both w) = (w .first .at ≡ c) × (w .second .at ≡ e) × ((first second : List ℕ) → PairStarts t first second w)
+PairPlanted words c e t (Rooted.Both w) =
+    (w .first .at ≡ c) × (w .second .at ≡ e) × ((first second : List ℕ) → PairStarts t first second w)
 PairPlanted words c e t Rooted.Full = pairRecordsIn words < length (needsOf c e [] [])
 
 -- a chain that held the steps ds holds them, then zeros

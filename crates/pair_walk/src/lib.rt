@@ -80,7 +80,8 @@ fn plant(t: &mut [u32], start: Corner, start2: Corner) -> Rooted
 // The facts of a party, whose steps stand in the chain; after them the chain is cleared.
 fn conclude(start: Corner, chain: &mut [u8], p: Party) -> PartyFacts
     requires { ⌜ SomeOver start (now chain) (p .steps) (p .at) (p .tally) ⌝ }
-    ensures { λ r. ⌜ ((ds : List ℕ) → WalkOver start (now (chain .entry)) ds (p .steps) (p .at) (p .tally) → (r ≡ partyFactsOf start ds) × ChainEnds (now (chain .entry)) ds (now (chain .exit))) ⌝ }
+    ensures { λ r. ⌜ ((ds : List ℕ) → WalkOver start (now (chain .entry)) ds (p .steps) (p .at) (p .tally)
+        → (r ≡ partyFactsOf start ds) × ChainEnds (now (chain .entry)) ds (now (chain .exit))) ⌝ }
 {
     let last = p.at;
     let tally = p.tally;
@@ -91,8 +92,12 @@ fn conclude(start: Corner, chain: &mut [u8], p: Party) -> PartyFacts
 
 // The facts of both.
 fn facts(start: Corner, start2: Corner, first: &mut [u8], second: &mut [u8], w: Pair) -> PairFacts
-    requires { ⌜ SomeOver start (now first) (w .first .steps) (w .first .at) (w .first .tally) × SomeOver start2 (now second) (w .second .steps) (w .second .at) (w .second .tally) ⌝ }
-    ensures { λ r. ⌜ ((ds es : List ℕ) → WalkOver start (now (first .entry)) ds (w .first .steps) (w .first .at) (w .first .tally) → WalkOver start2 (now (second .entry)) es (w .second .steps) (w .second .at) (w .second .tally) → (r ≡ factsWith (w .stock .nodes) start start2 ds es) × ChainEnds (now (first .entry)) ds (now (first .exit)) × ChainEnds (now (second .entry)) es (now (second .exit))) ⌝ }
+    requires { ⌜ SomeOver start (now first) (w .first .steps) (w .first .at) (w .first .tally)
+        × SomeOver start2 (now second) (w .second .steps) (w .second .at) (w .second .tally) ⌝ }
+    ensures { λ r. ⌜ ((ds es : List ℕ) → WalkOver start (now (first .entry)) ds (w .first .steps) (w .first .at) (w .first .tally)
+        → WalkOver start2 (now (second .entry)) es (w .second .steps) (w .second .at) (w .second .tally)
+        → (r ≡ factsWith (w .stock .nodes) start start2 ds es) × ChainEnds (now (first .entry)) ds (now (first .exit))
+        × ChainEnds (now (second .entry)) es (now (second .exit))) ⌝ }
 {
     let one = w.first;
     let two = w.second;
@@ -106,7 +111,8 @@ fn facts(start: Corner, start2: Corner, first: &mut [u8], second: &mut [u8], w: 
     }
 }
 
-// Both walks, whose operations have no fault; or the place of the first operation for which there is no room, 0 if the starts have none.
+// Both walks, whose operations have no fault; or the place of the first operation for which there is no room, 0 if the starts
+// have none.
 fn go(
     start: Corner,
     start2: Corner,
@@ -117,9 +123,12 @@ fn go(
     second: &mut [u8],
 ) -> Course
     requires { ⌜ Near start × Near start2 × (bytesJudged 0 0 0 (now ops) ≡ Good) ⌝ }
-    requires { ⌜ (pairWidth ≤ length (now t)) × (length (now t) < 2 ^ 32) × (length (now t) % pairWidth ≡ 0) × (length (now ops) ≤ mostInput) ⌝ }
-    requires { ⌜ (length (now marks) ≡ markWords * length (now ops)) × (length (now first) ≡ length (now ops)) × (length (now second) ≡ length (now ops)) ⌝ }
-    ensures { λ r. ⌜ PairRan (length (now (t .entry))) start start2 (now (ops .entry)) (now (t .exit)) (now (marks .exit)) (now (first .exit)) (now (second .exit)) r ⌝ }
+    requires { ⌜ (pairWidth ≤ length (now t)) × (length (now t) < 2 ^ 32) × (length (now t) % pairWidth ≡ 0)
+        × (length (now ops) ≤ mostInput) ⌝ }
+    requires { ⌜ (length (now marks) ≡ markWords * length (now ops)) × (length (now first) ≡ length (now ops))
+        × (length (now second) ≡ length (now ops)) ⌝ }
+    ensures { λ r. ⌜ PairRan (length (now (t .entry))) start start2 (now (ops .entry)) (now (t .exit)) (now (marks .exit))
+        (now (first .exit)) (now (second .exit)) r ⌝ }
 {
     match plant(t, start, start2) {
         Rooted::Both(w) => pair_run::run(ops, t, marks, first, second, w),
@@ -127,10 +136,11 @@ fn go(
     }
 }
 
-// Follows the operations of two parties from their starts, one byte each: 16 times the party, 0 or 1, plus the operation's number. If they
-// are refused, the buffers are untouched, but all zero if there is no room. Else the table t holds the records of the nodes that
-// either needs, free records being zero; the marks, three words an operation, hold the nodes in use, the visits of the party that moved
-// at its corner, and how many records changed; and each chain holds the surviving steps of its party, then zeros.
+// Follows the operations of two parties from their starts, one byte each: 16 times the party, 0 or 1, plus the operation's
+// number. If they are refused, the buffers are untouched, but all zero if there is no room. Else the table t holds the records of
+// the nodes that either needs, free records being zero; the marks, three words an operation, hold the nodes in use, the visits of
+// the party that moved at its corner, and how many records changed; and each chain holds the surviving steps of its party, then
+// zeros.
 pub fn follow(
     start: Corner,
     start2: Corner,
@@ -140,7 +150,9 @@ pub fn follow(
     first: &mut [u8],
     second: &mut [u8],
 ) -> PairAnswer
-    ensures { λ r. ⌜ PairIs start start2 (now (ops .entry)) record { table = now (t .entry); marks = now (marks .entry); first = now (first .entry); second = now (second .entry) } r record { table = now (t .exit); marks = now (marks .exit); first = now (first .exit); second = now (second .exit) } ⌝ }
+    ensures { λ r. ⌜ PairIs start start2 (now (ops .entry))
+        record { table = now (t .entry); marks = now (marks .entry); first = now (first .entry); second = now (second .entry) } r
+        record { table = now (t .exit); marks = now (marks .exit); first = now (first .exit); second = now (second .exit) } ⌝ }
 {
     let lent = Lengths {
         table: t.len(),

@@ -25,7 +25,12 @@ pub record Box : Type 0 where
 -- the bounding box of the corners p0 to pn
 abbrev pub boxOf : Corner → List ℕ → Box
 boxOf c ds =
-    record { west = extremeFrom lesser (λ p. p .0) c ds; east = extremeFrom greater (λ p. p .0) c ds; south = extremeFrom lesser (λ p. p .1) c ds; north = extremeFrom greater (λ p. p .1) c ds }
+    record {
+      west = extremeFrom lesser (λ p. p .0) c ds;
+      east = extremeFrom greater (λ p. p .0) c ds;
+      south = extremeFrom lesser (λ p. p .1) c ds;
+      north = extremeFrom greater (λ p. p .1) c ds;
+    }
 
 -- n panels of row b, from a eastwards
 abbrev pub panelRow : ℤ → ℤ → ℕ → List Panel

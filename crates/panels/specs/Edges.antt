@@ -24,7 +24,8 @@ abbrev pub beside : Panel → Corner → Bool
 beside p q = eqZ (q .1) (p .1) && ltZ (p .0) (q .0)
 
 abbrev pub surplusBy : List Edge → Panel → ℤ
-surplusBy es p = pos (count (λ e. beside p (e .foot) && e .north) es) -ℤ pos (count (λ e. beside p (e .foot) && not (e .north)) es)
+surplusBy es p =
+    pos (count (λ e. beside p (e .foot) && e .north) es) -ℤ pos (count (λ e. beside p (e .foot) && not (e .north)) es)
 
 -- northward minus southward edges in the panel's row with x above the panel's
 abbrev pub surplusOf : Corner → List ℕ → Panel → ℤ

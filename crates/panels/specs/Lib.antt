@@ -1,4 +1,5 @@
--- Vertical edges, the bounding box with the sum over its panels, the panels inside, and outlines turned, mirrored and walked backwards.
+-- Vertical edges, the bounding box with the sum over its panels, the panels inside, and outlines turned, mirrored and walked
+-- backwards.
 pub mod Edges
 pub mod Box
 pub mod Inside

@@ -62,7 +62,8 @@ polygonRoomJudged s ds room = when (ltb room (length (polygonOf s ds))) PolygonR
 abbrev pub polygonJudged : Corner → List ℕ → ℕ → Judged
 polygonJudged s ds room = firstOf (asRoomJudged s ds ∷ polygonRoomJudged s ds room ∷ [])
 
--- the promise of the call: how many bytes there are, and a buffer that holds them and then what stood after them, unless there is a refusal
+-- the promise of the call: how many bytes there are, and a buffer that holds them and then what stood after them, unless there is
+-- a refusal
 pub record PolygonCall (s : Corner) (ds before : List ℕ) (r : Counted) (after : List ℕ) : Type 0 where
   pub answer : r ≡ countedOf (polygonJudged s ds (length before)) (length (polygonOf s ds))
   pub buffer : after ≡ laidIf (polygonJudged s ds (length before)) (polygonOf s ds) before

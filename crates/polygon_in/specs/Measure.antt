@@ -14,4 +14,5 @@ measuredBy false false c n = Broken
 measuredBy false true c n = Ring (record { start = c; steps = n })
 
 abbrev pub measuredOf : List GridPoint → Measured
-measuredOf ps = measuredBy (any isFaulty ps) (isRing (map cornerIn ps)) (startOf (map cornerIn ps)) (capped (lengthOf (map cornerIn ps)))
+measuredOf ps =
+    measuredBy (any isFaulty ps) (isRing (map cornerIn ps)) (startOf (map cornerIn ps)) (capped (lengthOf (map cornerIn ps)))

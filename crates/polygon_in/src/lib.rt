@@ -1,5 +1,5 @@
-// Rings in, in two passes over the points: the first judges them and their neighbours, the second writes the chain. No pass keeps more than
-// three corners.
+// Rings in, in two passes over the points: the first judges them and their neighbours, the second writes the chain. No pass keeps
+// more than three corners.
 use answer::Limits;
 use answer::Refusal;
 use grid::Corner;
@@ -29,8 +29,8 @@ ghost use Rattle.polygon_ring.specs.Ring.{isNeither, isLittle, pointAt, pointsF
 ghost use Rattle.polygon_ring_laws.specs.Reading.{PointFits, ringFrom, capped, ringJudged, ReadIn};
 ghost use Rattle.polygon_in.specs.Measure.{measuredBy, measuredOf};
 
-// What the first pass finds: a point that is no corner, points that are no ring, or the start of a ring and how many steps it has. MANY
-// stands for any number above 16,384.
+// What the first pass finds: a point that is no corner, points that are no ring, or the start of a ring and how many steps it
+// has. MANY stands for any number above 16,384.
 enum Measured {
     Faulty,
     Broken,
@@ -230,11 +230,13 @@ fn fill(buf: &mut [u8], d: u8, n: usize)
     }
 }
 
-// Writes the steps along the n points, which were accepted before, at the start of out: the part that is left is lent for each pair of
-// neighbours.
+// Writes the steps along the n points, which were accepted before, at the start of out: the part that is left is lent for each
+// pair of neighbours.
 fn put_chain(points: &[u8], little: bool, n: usize, start: Corner, out: &mut [u8])
-    requires { ⌜ (16 * n ≤ length (now points)) × (0 < n) × (lengthOf (ringFrom little (now points) 0 n) ≤ length (now out)) × (any isFaulty (pointsFrom little (now points) 0 n) ≡ false) × (start ≡ cornerIn (pointAt little (now points) 0)) ⌝ }
-    ensures { λ _. ⌜ now (out .exit) ≡ chainOfPoints (ringFrom little (now (points .entry)) 0 n) ++ drop (lengthOf (ringFrom little (now (points .entry)) 0 n)) (now (out .entry)) ⌝ }
+    requires { ⌜ (16 * n ≤ length (now points)) × (0 < n) × (lengthOf (ringFrom little (now points) 0 n) ≤ length (now out))
+        × (any isFaulty (pointsFrom little (now points) 0 n) ≡ false) × (start ≡ cornerIn (pointAt little (now points) 0)) ⌝ }
+    ensures { λ _. ⌜ now (out .exit) ≡ chainOfPoints (ringFrom little (now (points .entry)) 0 n)
+        ++ drop (lengthOf (ringFrom little (now (points .entry)) 0 n)) (now (out .entry)) ⌝ }
 {
     let mut a = start;
     let mut at = 0;
@@ -252,7 +254,8 @@ fn put_chain(points: &[u8], little: bool, n: usize, start: Corner, out: &mut [u8
 // Judges the n points, and answers start and number of steps. Refuses 16, 17, 6 and 18.
 fn survey(points: &[u8], little: bool, n: usize, room: usize) -> Given
     requires { ⌜ 16 * n ≤ length (now points) ⌝ }
-    ensures { λ r. ⌜ r ≡ givenOf (ringJudged (pointsFrom little (now (points .entry)) 0 n) room) (ringFrom little (now (points .entry)) 0 n) ⌝ }
+    ensures { λ r. ⌜ r
+        ≡ givenOf (ringJudged (pointsFrom little (now (points .entry)) 0 n) room) (ringFrom little (now (points .entry)) 0 n) ⌝ }
 {
     match measure(points, little, n) {
         Measured::Faulty => Given::Refused(Refusal::BadCoordinate),

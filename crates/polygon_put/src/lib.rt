@@ -94,7 +94,8 @@ fn one_if(b: bool) -> u16
     if b { 1 } else { 0 }
 }
 
-// How many later corners of the chain have a turn that is not 0. They are counted in 16 bits, so that the compiler counts eight at once.
+// How many later corners of the chain have a turn that is not 0. They are counted in 16 bits, so that the compiler counts eight
+// at once.
 pub fn count(chain: &[u8]) -> usize
     requires { ⌜ Below 4 (now chain) × (length (now chain) ≤ mostSteps) ⌝ }
     ensures { λ r. ⌜ r ≡ turning (now (chain .entry)) ⌝ }
@@ -126,7 +127,9 @@ fn put_bend(buf: &mut [u8], k: usize, bend: bool, c: Corner) -> usize
 // Writes the later corners with a turn that is not 0 at the start of buf, and answers how many.
 fn put_bends(buf: &mut [u8], start: Corner, chain: &[u8]) -> usize
     requires { ⌜ Drawable start (now chain) × (16 * turning (now chain) ≤ length (now buf)) ⌝ }
-    ensures { λ r. ⌜ (r ≡ turning (now (chain .entry))) × (now (buf .exit) ≡ pointsBytes (bendsOf start (now (chain .entry))) ++ drop (16 * turning (now (chain .entry))) (now (buf .entry))) ⌝ }
+    ensures { λ r. ⌜ (r ≡ turning (now (chain .entry)))
+        × (now (buf .exit) ≡ pointsBytes (bendsOf start (now (chain .entry)))
+        ++ drop (16 * turning (now (chain .entry))) (now (buf .entry))) ⌝ }
 {
     let mut at = start;
     let mut last = first(chain);
@@ -145,7 +148,8 @@ fn put_bends(buf: &mut [u8], start: Corner, chain: &[u8]) -> usize
 // Writes the points of the ring at the start of buf: the start, the bends, and the start again.
 pub fn put_ring(buf: &mut [u8], start: Corner, chain: &[u8])
     requires { ⌜ Drawable start (now chain) × (16 * (turning (now chain) + 2) ≤ length (now buf)) ⌝ }
-    ensures { λ _. ⌜ now (buf .exit) ≡ pointsBytes (pointsOf start (now (chain .entry))) ++ drop (16 * (turning (now (chain .entry)) + 2)) (now (buf .entry)) ⌝ }
+    ensures { λ _. ⌜ now (buf .exit) ≡ pointsBytes (pointsOf start (now (chain .entry)))
+        ++ drop (16 * (turning (now (chain .entry)) + 2)) (now (buf .entry)) ⌝ }
 {
     put_point(buf, start);
     let k = put_bends(&mut buf[16..], start, chain);

@@ -46,7 +46,9 @@ mostAt (suc i) = farthest
 
 -- the point at the start of these bytes
 unfoldable pub pointIn : ℕ → Bool → List ℕ → GridPoint
-pointIn most little s = both (wholeOf most (ofBits binary64 (numberIn little (take 8 s)))) (wholeOf most (ofBits binary64 (numberIn little (take 8 (drop 8 s)))))
+pointIn most little s =
+    both (wholeOf most (ofBits binary64 (numberIn little (take 8 s))))
+    (wholeOf most (ofBits binary64 (numberIn little (take 8 (drop 8 s)))))
 
 -- point i of a list of points
 unfoldable pub pointAt : Bool → List ℕ → ℕ → GridPoint
@@ -117,7 +119,8 @@ isRing ps = leb 4 (length ps) && same (getD ps (length ps - 1) origin) (startOf 
 unfoldable pub countIn : Bool → List ℕ → ℕ
 countIn little file = numberIn little (take 4 (drop 9 file))
 
--- its points, as many as there are sixteen bytes after the thirteen header bytes: a file that counts another number of them is refused
+-- its points, as many as there are sixteen bytes after the thirteen header bytes: a file that counts another number of them is
+-- refused
 abbrev pub pointsIn : Bool → List ℕ → List GridPoint
 pointsIn little file = pointsFrom little (drop 13 file) 0 ((length file - 13) / 16)
 

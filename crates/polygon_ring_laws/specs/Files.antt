@@ -59,6 +59,10 @@ abbrev pub eightsReversed : ℕ → List ℕ → List ℕ
 eightsReversed zero s = s
 eightsReversed (suc n) s = reverse (take 8 s) ++ eightsReversed n (drop 8 s)
 
--- the same file in the other byte order: 0 for 1 and 1 for 0, then type, ring count, point count and each coordinate with its bytes the other way round
+-- the same file in the other byte order: 0 for 1 and 1 for 0, then type, ring count, point count and each coordinate with its
+-- bytes the other way round
 abbrev pub twinOf : List ℕ → List ℕ
-twinOf file = (1 - getD file 0 0) ∷ (reverse (take 4 (drop 1 file)) ++ (reverse (take 4 (drop 5 file)) ++ (reverse (take 4 (drop 9 file)) ++ eightsReversed ((length file - 13) / 8) (drop 13 file))))
+twinOf file =
+    (1 - getD file 0 0) ∷ (reverse (take 4 (drop 1 file))
+    ++ (reverse (take 4 (drop 5 file))
+    ++ (reverse (take 4 (drop 9 file)) ++ eightsReversed ((length file - 13) / 8) (drop 13 file))))

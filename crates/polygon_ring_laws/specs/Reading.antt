@@ -45,7 +45,8 @@ ringJudged ps room =
 
 -- 14 by the length, and then these
 abbrev pub pointsJudged : Bool → List ℕ → ℕ → Judged
-pointsJudged little file room = orElse (when (not (eqb (length file) (13 + 16 * countIn little file))) FileLength) (ringJudged (pointsIn little file) room)
+pointsJudged little file room =
+    orElse (when (not (eqb (length file) (13 + 16 * countIn little file))) FileLength) (ringJudged (pointsIn little file) room)
 
 -- the promise of a file that is read in this byte order
 pub record ReadIn (little : Bool) (file out : List ℕ) (r : Given) (out′ : List ℕ) : Type 0 where

@@ -101,7 +101,8 @@ fn swapped(v: u64) -> u64
     r
 }
 
-// The number with the eight bytes of s, in their order: they are read the lowest first, and swapped where that is the other order.
+// The number with the eight bytes of s, in their order: they are read the lowest first, and swapped where that is the other
+// order.
 fn eight(s: &[u8], first_lowest: bool) -> u64
     requires { ⌜ length (now s) ≡ 8 ⌝ }
     ensures { λ r. ⌜ r ≡ numberIn «first_lowest» (now (s .entry)) ⌝ }

@@ -21,8 +21,8 @@ impl Map {
     const WIDEST: usize = 131072;
 }
 
-// Whether no corner of the walk but the last comes twice. The map is lent blank, with the place of the start and the steps from place
-// to place.
+// Whether no corner of the walk but the last comes twice. The map is lent blank, with the place of the start and the steps from
+// place to place.
 fn lone(chain: &[u8], from: usize, by: &[usize], map: &mut [u8]) -> bool
     requires { ⌜ MapStore (now chain) from (now by) (now map) ⌝ }
     ensures { λ r. ⌜ Lone (now (chain .entry)) r ⌝ }

@@ -36,7 +36,8 @@ pub record Double (xs hs : List ℕ) (n : ℕ) : Type 0 where
 abbrev pub Single : List ℕ → List ℕ → ℕ → ℕ → Type 0
 Single xs hs n c = (j k : ℕ) → j < k → k < n → getD xs j 0 ≡ c → getD xs k 0 ≡ c → getD hs j 0 ≡ getD hs k 0 → ⊥
 
--- column c is followed back to place b: the heights of its places from there on, and no others, bear the stamp t, and none of them twice
+-- column c is followed back to place b: the heights of its places from there on, and no others, bear the stamp t, and none of
+-- them twice
 pub record Stamped (xs hs stamps : List ℕ) (n c t b : ℕ) : Type 0 where
   pub seen : (h : ℕ) → getD stamps h 0 ≡ t → (j : ℕ) × (b ≤ j) × (j < n) × (getD xs j 0 ≡ c) × (getD hs j 0 ≡ h)
   pub marked : (j : ℕ) → b ≤ j → j < n → getD xs j 0 ≡ c → getD stamps (getD hs j 0) 0 ≡ t
@@ -51,7 +52,9 @@ pub record Outcome (xs hs : List ℕ) (n c t : ℕ) (r : Bool) (stamps : List �
 
 -- the answer for whatever walk has these threads
 abbrev pub ThreadFollowed : List ℕ → List ℕ → List ℕ → ℕ → ℕ → Bool → List ℕ → Type 0
-ThreadFollowed next hs before t last r after = (xs : List ℕ) (n c : ℕ) → ((j : ℕ) → j < n → getD next j 0 ≡ lastIn xs (getD xs j 0) j) → last ≡ lastIn xs c n → ((h : ℕ) → getD before h 0 < t) → Outcome xs hs n c t r after
+ThreadFollowed next hs before t last r after =
+    (xs : List ℕ) (n c : ℕ) → ((j : ℕ) → j < n → getD next j 0 ≡ lastIn xs (getD xs j 0) j) → last ≡ lastIn xs c n
+    → ((h : ℕ) → getD before h 0 < t) → Outcome xs hs n c t r after
 
 -- the threads lead back, and the heights are below the number of stamps
 pub record Leads (next hs : List ℕ) (room : ℕ) : Type 0 where
@@ -61,15 +64,20 @@ pub record Leads (next hs : List ℕ) (room : ℕ) : Type 0 where
 
 -- at place p of the thread, or at its end
 abbrev pub Following : List ℕ → List ℕ → List ℕ → ℕ → ℕ → ℕ → List ℕ → Type 0
-Following next hs before t last p stamps = (xs : List ℕ) (n c : ℕ) → ((j : ℕ) → j < n → getD next j 0 ≡ lastIn xs (getD xs j 0) j) → last ≡ lastIn xs c n → ((h : ℕ) → getD before h 0 < t) → (b : ℕ) × (b ≤ n) × (p ≡ lastIn xs c b) × Stamped xs hs stamps n c t b
+Following next hs before t last p stamps =
+    (xs : List ℕ) (n c : ℕ) → ((j : ℕ) → j < n → getD next j 0 ≡ lastIn xs (getD xs j 0) j) → last ≡ lastIn xs c n
+    → ((h : ℕ) → getD before h 0 < t) → (b : ℕ) × (b ≤ n) × (p ≡ lastIn xs c b) × Stamped xs hs stamps n c t b
 
 -- what following all threads answers: whether no two places have one column and one height
 abbrev pub Parted : List ℕ → List ℕ → List ℕ → Bool → Type 0
-Parted head next hs r = (xs : List ℕ) (n : ℕ) → Threaded xs head next n → ((j : ℕ) → j < n → getD xs j 0 < length head) → (r ≡ true → Double xs hs n → ⊥) × (r ≡ false → Double xs hs n)
+Parted head next hs r =
+    (xs : List ℕ) (n : ℕ) → Threaded xs head next n → ((j : ℕ) → j < n → getD xs j 0 < length head)
+    → (r ≡ true → Double xs hs n → ⊥) × (r ≡ false → Double xs hs n)
 
 -- the columns before c are followed
 abbrev pub Parting : List ℕ → List ℕ → List ℕ → ℕ → List ℕ → Type 0
-Parting head next hs c stamps = (xs : List ℕ) (n : ℕ) → Threaded xs head next n → ((h : ℕ) → getD stamps h 0 < c + 1) × ((k : ℕ) → k < c → Single xs hs n k)
+Parting head next hs c stamps =
+    (xs : List ℕ) (n : ℕ) → Threaded xs head next n → ((h : ℕ) → getD stamps h 0 < c + 1) × ((k : ℕ) → k < c → Single xs hs n k)
 
 -- where a walk is at each of its places but the last, by where each step leads
 unfoldable pub alongFrom : (ℕ → ℕ → ℕ) → ℕ → List ℕ → List ℕ
@@ -126,7 +134,8 @@ pub record Goes (chain : List ℕ) (m x y i : ℕ) : Type 0 where
   pub east : x ≤ m + i
   pub south : m ≤ y + i
   pub north : y ≤ m + i
-  pub corner : (c : Corner) → (cornerAt c chain i .0 ≡ (c .0 -ℤ pos m) +ℤ pos x) × (cornerAt c chain i .1 ≡ (c .1 -ℤ pos m) +ℤ pos y)
+  pub corner : (c : Corner)
+      → (cornerAt c chain i .0 ≡ (c .0 -ℤ pos m) +ℤ pos x) × (cornerAt c chain i .1 ≡ (c .1 -ℤ pos m) +ℤ pos y)
 
 -- whether a walk is closed, whatever its start
 abbrev pub Closes : List ℕ → Bool → Type 0

@@ -10,10 +10,12 @@ ghost use Rattle.column_laws.specs.Columns.{middle, narrowSize, widerSize};
 ghost use lib.ListN.{length, getD};
 ghost use Rattle.room_thread_laws.specs.Threads.{Leads, ThreadFollowed, Parted, Stays, Laid, ThreadStore, Scattered, Closes, Told};
 
-// Follows the thread that ends at place `last`, counted from 1, and answers whether no height on it comes twice. Each gets the stamp.
+// Follows the thread that ends at place `last`, counted from 1, and answers whether no height on it comes twice. Each gets the
+// stamp.
 fn follow(tag: u16, last: u16, next: &[u16], hs: &[u16], stamps: &mut [u16]) -> bool
     requires { ⌜ Leads (now next) (now hs) (length (now stamps)) × (last ≤ length (now next)) ⌝ }
-    ensures { λ r. ⌜ ThreadFollowed (now (next .entry)) (now (hs .entry)) (now (stamps .entry)) tag last r (now (stamps .exit)) ⌝ }
+    ensures { λ r. ⌜ ThreadFollowed (now (next .entry)) (now (hs .entry)) (now (stamps .entry)) tag last r
+        (now (stamps .exit)) ⌝ }
 {
     let mut p = wide(last);
     while p > 0 {
@@ -29,7 +31,8 @@ fn follow(tag: u16, last: u16, next: &[u16], hs: &[u16], stamps: &mut [u16]) -> 
 
 // Follows the thread of every column, and answers whether no two places have one column and one height.
 fn apart(head: &[u16], next: &[u16], hs: &[u16], stamps: &mut [u16]) -> bool
-    requires { ⌜ Leads (now next) (now hs) (length (now stamps)) × ((c : ℕ) → getD (now head) c 0 ≤ length (now next)) × (length (now head) < 65536) × ((h : ℕ) → getD (now stamps) h 0 ≡ 0) ⌝ }
+    requires { ⌜ Leads (now next) (now hs) (length (now stamps)) × ((c : ℕ) → getD (now head) c 0 ≤ length (now next))
+        × (length (now head) < 65536) × ((h : ℕ) → getD (now stamps) h 0 ≡ 0) ⌝ }
     ensures { λ r. ⌜ Parted (now (head .entry)) (now (next .entry)) (now (hs .entry)) r ⌝ }
 {
     let mut c = 0;
@@ -42,11 +45,14 @@ fn apart(head: &[u16], next: &[u16], hs: &[u16], stamps: &mut [u16]) -> bool
     true
 }
 
-// Threads the places of the walk that starts in column and height m, all but its last, and keeps the height of each. What a step adds
-// to the column and to the height stands in two tables.
+// Threads the places of the walk that starts in column and height m, all but its last, and keeps the height of each. What a step
+// adds to the column and to the height stands in two tables.
 fn lay(chain: &[u8], m: u16, head: &mut [u16], next: &mut [u16], hs: &mut [u16])
-    requires { ⌜ Stays (now chain) m (length (now head)) × (length (now chain) ≤ length (now next)) × (length (now chain) ≤ length (now hs)) × (length (now chain) < 65536) × ((c : ℕ) → getD (now head) c 0 ≡ 0) × ((j : ℕ) → getD (now next) j 0 ≡ 0) × ((j : ℕ) → getD (now hs) j 0 ≡ 0) × ((j : ℕ) → getD (now chain) j 0 < 4) ⌝ }
-    ensures { λ _. ⌜ Laid (now (chain .entry)) m (length (now (chain .entry))) (now (head .exit)) (now (next .exit)) (now (hs .exit)) ⌝ }
+    requires { ⌜ Stays (now chain) m (length (now head)) × (length (now chain) ≤ length (now next))
+        × (length (now chain) ≤ length (now hs)) × (length (now chain) < 65536) × ((c : ℕ) → getD (now head) c 0 ≡ 0)
+        × ((j : ℕ) → getD (now next) j 0 ≡ 0) × ((j : ℕ) → getD (now hs) j 0 ≡ 0) × ((j : ℕ) → getD (now chain) j 0 < 4) ⌝ }
+    ensures { λ _. ⌜ Laid (now (chain .entry)) m (length (now (chain .entry))) (now (head .exit))
+        (now (next .exit)) (now (hs .exit)) ⌝ }
 {
     let by = Columns::EAST;
     let up = Columns::NORTH;
@@ -64,8 +70,8 @@ fn lay(chain: &[u8], m: u16, head: &mut [u16], next: &mut [u16], hs: &mut [u16])
     }
 }
 
-// Whether no two places of the walk that starts in column and height m, but for its last, are one. Only the columns that it can reach are
-// looked at. The working store is lent.
+// Whether no two places of the walk that starts in column and height m, but for its last, are one. Only the columns that it can
+// reach are looked at. The working store is lent.
 fn scattered(
     chain: &[u8],
     m: u16,
@@ -74,7 +80,8 @@ fn scattered(
     hs: &mut [u16],
     stamps: &mut [u16],
 ) -> bool
-    requires { ⌜ ThreadStore (now chain) m (now head) (now next) (now hs) (now stamps) × (length (now chain) < 65536) × ((j : ℕ) → getD (now chain) j 0 < 4) × Stays (now chain) m (2 * m) × (2 * m ≤ length (now head)) ⌝ }
+    requires { ⌜ ThreadStore (now chain) m (now head) (now next) (now hs) (now stamps) × (length (now chain) < 65536)
+        × ((j : ℕ) → getD (now chain) j 0 < 4) × Stays (now chain) m (2 * m) × (2 * m ≤ length (now head)) ⌝ }
     ensures { λ r. ⌜ Scattered (now (chain .entry)) m r ⌝ }
 {
     lay(chain, m, head, next, hs);
@@ -91,7 +98,8 @@ pub fn start(n: usize) -> u16
 
 // Whether a closed walk of at most 256 steps is a room.
 fn told_narrow(chain: &[u8]) -> bool
-    requires { ⌜ (4 ≤ length (now chain)) × (length (now chain) ≤ narrowSize) × Closes (now chain) true × ((j : ℕ) → getD (now chain) j 0 < 4) ⌝ }
+    requires { ⌜ (4 ≤ length (now chain)) × (length (now chain) ≤ narrowSize) × Closes (now chain) true
+        × ((j : ℕ) → getD (now chain) j 0 < 4) ⌝ }
     ensures { λ r. ⌜ Told (now (chain .entry)) r ⌝ }
 {
     let mut head = [0u16; Columns::NARROW + 2];
@@ -104,7 +112,8 @@ fn told_narrow(chain: &[u8]) -> bool
 
 // Whether a closed walk of at most 2,048 steps is a room.
 fn told_wider(chain: &[u8]) -> bool
-    requires { ⌜ (4 ≤ length (now chain)) × (length (now chain) ≤ widerSize) × Closes (now chain) true × ((j : ℕ) → getD (now chain) j 0 < 4) ⌝ }
+    requires { ⌜ (4 ≤ length (now chain)) × (length (now chain) ≤ widerSize) × Closes (now chain) true
+        × ((j : ℕ) → getD (now chain) j 0 < 4) ⌝ }
     ensures { λ r. ⌜ Told (now (chain .entry)) r ⌝ }
 {
     let mut head = [0u16; Columns::WIDER + 2];
@@ -117,7 +126,8 @@ fn told_wider(chain: &[u8]) -> bool
 
 // Whether a closed walk of at most 16,384 steps is a room.
 fn told_widest(chain: &[u8]) -> bool
-    requires { ⌜ (4 ≤ length (now chain)) × (length (now chain) ≤ middle) × Closes (now chain) true × ((j : ℕ) → getD (now chain) j 0 < 4) ⌝ }
+    requires { ⌜ (4 ≤ length (now chain)) × (length (now chain) ≤ middle) × Closes (now chain) true
+        × ((j : ℕ) → getD (now chain) j 0 < 4) ⌝ }
     ensures { λ r. ⌜ Told (now (chain .entry)) r ⌝ }
 {
     let mut head = [0u16; Columns::MIDDLE + 2];
@@ -128,9 +138,11 @@ fn told_widest(chain: &[u8]) -> bool
     scattered(chain, m, &mut head, &mut next, &mut hs, &mut stamps)
 }
 
-// Whether a closed walk of four steps or more is a room, whatever corner it starts from: no two of its corners but its ends are one.
+// Whether a closed walk of four steps or more is a room, whatever corner it starts from: no two of its corners but its ends are
+// one.
 pub fn is_room(chain: &[u8]) -> bool
-    requires { ⌜ (4 ≤ length (now chain)) × (length (now chain) ≤ middle) × Closes (now chain) true × ((j : ℕ) → getD (now chain) j 0 < 4) ⌝ }
+    requires { ⌜ (4 ≤ length (now chain)) × (length (now chain) ≤ middle) × Closes (now chain) true
+        × ((j : ℕ) → getD (now chain) j 0 < 4) ⌝ }
     ensures { λ r. ⌜ Told (now (chain .entry)) r ⌝ }
 {
     if chain.len() <= Columns::NARROW {

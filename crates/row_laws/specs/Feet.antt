@@ -1,4 +1,5 @@
--- The list of rows from the lower ends of the vertical edges: they are sorted by row and then by x, equal ones cancel, and the others pair up.
+-- The list of rows from the lower ends of the vertical edges: they are sorted by row and then by x, equal ones cancel, and the
+-- others pair up.
 -- Assumes nothing.
 use Rattle.lists.specs.Lists.{Bool, cond, _&&_, _||_, List, [], _∷_, ℕ, predℤ, ltZ}
 use Rattle.grid.specs.{declared.Corner.Corner, Grid.eqZ, Grid.same}

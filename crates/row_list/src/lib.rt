@@ -33,7 +33,8 @@ fn list_in(
     at: &mut [u16],
     out: &mut [i32],
 )
-    requires { ⌜ Walled start (now chain) × RowStore (length (now chain)) m (now head) (now row) (now next) (now at) × (3 * length (rowsOf start (now chain)) ≤ length (now out)) ⌝ }
+    requires { ⌜ Walled start (now chain) × RowStore (length (now chain)) m (now head) (now row) (now next) (now at)
+        × (3 * length (rowsOf start (now chain)) ≤ length (now out)) ⌝ }
     ensures { λ _. ⌜ now (out .exit) ≡ sets (now (out .entry)) 0 (spanNumbers (rowsOf start (now (chain .entry)))) ⌝ }
 {
     lay(chain, m, head, next, at);
@@ -44,7 +45,8 @@ fn list_in(
 
 // Writes the rows of a room of at most 256 steps.
 fn list_narrow(start: Corner, chain: &[u8], out: &mut [i32])
-    requires { ⌜ Walled start (now chain) × (length (now chain) ≤ narrowSize) × (3 * length (rowsOf start (now chain)) ≤ length (now out)) ⌝ }
+    requires { ⌜ Walled start (now chain) × (length (now chain) ≤ narrowSize)
+        × (3 * length (rowsOf start (now chain)) ≤ length (now out)) ⌝ }
     ensures { λ _. ⌜ now (out .exit) ≡ sets (now (out .entry)) 0 (spanNumbers (rowsOf start (now (chain .entry)))) ⌝ }
 {
     let mut head = [0u16; Columns::NARROW + 2];
@@ -66,7 +68,8 @@ fn list_narrow(start: Corner, chain: &[u8], out: &mut [i32])
 
 // Writes the rows of a room of at most 2,048 steps.
 fn list_wider(start: Corner, chain: &[u8], out: &mut [i32])
-    requires { ⌜ Walled start (now chain) × (length (now chain) ≤ widerSize) × (3 * length (rowsOf start (now chain)) ≤ length (now out)) ⌝ }
+    requires { ⌜ Walled start (now chain) × (length (now chain) ≤ widerSize)
+        × (3 * length (rowsOf start (now chain)) ≤ length (now out)) ⌝ }
     ensures { λ _. ⌜ now (out .exit) ≡ sets (now (out .entry)) 0 (spanNumbers (rowsOf start (now (chain .entry)))) ⌝ }
 {
     let mut head = [0u16; Columns::WIDER + 2];
@@ -137,8 +140,8 @@ fn list_room(start: Corner, chain: &[u8], out: &mut [i32]) -> Counted
     Counted::Many(n)
 }
 
-// Writes row, first and last panel of each span of the panels inside a room, rows from south to north and in a row from west to east, and
-// answers how many spans there are.
+// Writes row, first and last panel of each span of the panels inside a room, rows from south to north and in a row from west to
+// east, and answers how many spans there are.
 pub fn list(start: Corner, chain: &[u8], out: &mut [i32]) -> Counted
     ensures { λ r. ⌜ RowsCall start (now (chain .entry)) (now (out .entry)) r (now (out .exit)) ⌝ }
 {

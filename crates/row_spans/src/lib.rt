@@ -65,7 +65,8 @@ fn put_panels(out: &mut [i32], o: usize, first: Panel, last: Panel)
 // Writes the span between the edges a and b of the row that begins at base.
 fn put_span(out: &mut [i32], o: usize, base: Corner, a: u16, b: u16)
     requires { ⌜ (o + 2 < length (now out)) × (natAbs (base .0) ≤ mostStart + 65535) ⌝ }
-    ensures { λ _. ⌜ now (out .exit) ≡ sets (now (out .entry)) o (base .1 ∷ (base .0 +ℤ pos a) ∷ predℤ (base .0 +ℤ pos b) ∷ []) ⌝ }
+    ensures { λ _. ⌜ now (out .exit)
+        ≡ sets (now (out .entry)) o (base .1 ∷ (base .0 +ℤ pos a) ∷ predℤ (base .0 +ℤ pos b) ∷ []) ⌝ }
 {
     put_panels(out, o, first_panel(base, a), last_panel(base, b));
 }
@@ -114,8 +115,10 @@ pub fn put_rows(
     at: &[u16],
     out: &mut [i32],
 )
-    requires { ⌜ Sheet end (now next) (now at) (now row) (length (now out)) × (natAbs (start .0) ≤ mostStart) × (natAbs (start .1) ≤ mostStart) × (end ≤ top) ⌝ }
-    ensures { λ _. ⌜ SheetDone start m end (now (next .entry)) (now (at .entry)) (now (row .entry)) (now (out .entry)) (now (out .exit)) ⌝ }
+    requires { ⌜ Sheet end (now next) (now at) (now row) (length (now out)) × (natAbs (start .0) ≤ mostStart)
+        × (natAbs (start .1) ≤ mostStart) × (end ≤ top) ⌝ }
+    ensures { λ _. ⌜ SheetDone start m end (now (next .entry)) (now (at .entry)) (now (row .entry))
+        (now (out .entry)) (now (out .exit)) ⌝ }
 {
     let mut h = 0;
     let mut o = 0;

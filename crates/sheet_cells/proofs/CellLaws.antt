@@ -116,6 +116,23 @@ pub wrote-refusal : (number place at : ℕ) {i e : ℕ} {a b c : List ℕ} → a
     → Wrote (refusedCells number place) at a e c
 wrote-refusal number place at h p q = wrote-append p q (omega (arith, length-two number place, length-emptyCells 7))
 
+-- four pairs of cells end after eight cells at most
+pub four-pairs : (number place v at : ℕ) (f : Facts) {i j k l : ℕ} {a b c d g : List ℕ} → Wrote (cellOf number ++ cellOf place) at a i b
+    → Wrote (cellOf v ++ cellOf (f .steps)) i b j c → Wrote (cellOf (f .nodes) ++ cellOf (f .corners)) j c k d
+    → Wrote (cellOf (f .j) ++ cellOf (f .k)) k d l g → l ≤ at + 8 * mostCell
+four-pairs number place v at f p q r s =
+    omega (
+      arith,
+      length-two number place,
+      length-two v (f .steps),
+      length-two (f .nodes) (f .corners),
+      length-two (f .j) (f .k),
+      p .end,
+      q .end,
+      r .end,
+      s .end,
+    )
+
 -- four pairs of cells, the area and a comma
 pub wrote-cells : (number place v at : ℕ) (f : Facts) (z : ℤ) {i j k l e : ℕ} {a b c d g o : List ℕ} → at + 9 * mostCell + 1 ≤ length a → v ≡ verdictNumber (f .verdict) → z ≡ f .area
     → Wrote (cellOf number ++ cellOf place) at a i b

@@ -17,7 +17,8 @@ abbrev pub mostNumber : ℕ
 mostNumber = 9223372036854775807
 
 -- the bytes s of the entries from the place at on, from the number n on
-pub record NumberedFrom (begins : Bool) (n : ℕ) (s : List ℕ) (at : ℕ) (before : List ℕ) (r : Numbered) (after : List ℕ) : Type 0 where
+pub record NumberedFrom (begins : Bool) (n : ℕ) (s : List ℕ) (at : ℕ) (before : List ℕ) (r : Numbered)
+    (after : List ℕ) : Type 0 where
   pub output : Wrote (numberedFrom begins n s) at before (r .used) after
   pub margin : r .margin ≡ record { line = n + feedsIn s; begins = beginsAfter begins s }
 

@@ -90,7 +90,8 @@ fn number_after(n: usize, b: u8) -> usize
     n
 }
 
-// Writes the bytes s of the entries from the place at on, each line after its number, from the number first on; a line begins with them or goes on.
+// Writes the bytes s of the entries from the place at on, each line after its number, from the number first on; a line begins
+// with them or goes on.
 fn number_from(out: &mut [u8], at: usize, starts: bool, first: usize, s: &[u8]) -> Numbered
     requires { ⌜ at + suc mostCell * length (now s) ≤ length (now out) ⌝ }
     requires { ⌜ first + length (now s) < 18446744073709551616 ⌝ }

@@ -1,13 +1,11 @@
 -- Which records a step changes: those of the nodes that tree_laws lists, and no others.
 -- Assumes nothing.
 use mathlib.Core.Bool.{Bool, true, false, cond, not, true≢false, false≢true}
-use mathlib.Core.List.{List, [], _∷_, _++_, append-nil, List·Memᴰ, List·Memᴰ·head, List·Memᴰ·tail, List·Memᴰ·not-nil, List·Memᴰ·cases-cons, List·Memᴰ·append-cases, Memᴰ·append-left, Memᴰ·append-right, Memᴰ·cast}
+use mathlib.Core.List.{List, [], _∷_, _++_, append-nil, List·Memᴰ, List·Memᴰ·head, List·Memᴰ·tail, List·Memᴰ·not-nil, List·Memᴰ·cases-cons, Memᴰ·append-left, Memᴰ·append-right, Memᴰ·cast}
 use mathlib.Core.Logic.{_⊎_, ⊎-elim}
 use mathlib.Core.Path.{_≡_, refl, ap, ap₂, sym, _∙_, subst}
 use Prim.Native.Nat.{ℕ, zero, suc, _+_, _*_, _<_}
 use native.Mathlib.Omega.{arith}
-use borrow.Author.Tests.{eqb-true, eq-eqb}
-use lib.Dec.{eqb}
 use lib.ListN.{length, getD, replicate}
 use Rattle.grid.specs.declared.Corner.{Corner}
 use Rattle.grid.specs.Grid.{same, stepped, joins, back}
@@ -24,7 +22,7 @@ use Rattle.grid.proofs.StepLaws.{back-small, stepped-back}
 use Rattle.layout.proofs.ChildLaws.{child-ref}
 use Rattle.layout.proofs.WordLaws.{words-cong, child-of, link-of, edge-of}
 use Rattle.lists.proofs.CountLaws.{count-listed}
-use Rattle.lists.proofs.GatherLaws.{and-left, and-right, mem→any, distinct-gather, mem-gather-left, mem-gather-right, mem-gather-cases}
+use Rattle.lists.proofs.GatherLaws.{mem→any, distinct-gather, mem-gather-left, mem-gather-right, mem-gather-cases}
 use Rattle.lists.proofs.BoolLaws.{is-false}
 use Rattle.grid.proofs.JoinLaws.{joins-here, joins-there, joins-stepped}
 use Rattle.tree.proofs.NodeLaws.{mem-path}
@@ -33,21 +31,12 @@ use Rattle.tree_laws.proofs.AddLaws.{ref-none, ref-pos}
 use Rattle.tree_laws.proofs.LaterLaws.{later-new, later-none}
 use Rattle.tree_laws.proofs.LevelLaws.{root-is, root-known, gather-closed}
 use Rattle.tree_laws.proofs.LineageLaws.{links-here, links-flip, links-up}
-use Rattle.tree_laws.proofs.RiseLaws.{goes-up, up-goes, up-near, risen-up, risen-top, risen-all, risen-once, risen-new, mem-but, but-mem}
+use Rattle.tree_laws.proofs.RiseLaws.{Above, over-a, over-e, higher, topmost, goes-up, up-goes, up-near, risen-up, risen-top, risen-cases, risen-all, risen-once, risen-new, but-mem}
 use Rattle.table_laws.proofs.LookupLaws.{Raised, raised-is, root-parent}
 use Rattle.table_laws.proofs.StateLaws.{by-mem, grown-known, grown-new, reach-known, reach-root, reach-over}
-use Rattle.table_laws.proofs.StoreLaws.{alike-row, link-row-x, node-row-x, child-word-small}
-
--- rows that are the same word by word are one row
-pub same-words : (l m : List ℕ) → sameWords l m ≡ true → l ≡ m
-same-words [] [] e = refl
-same-words [] (y ∷ m) e = absurd (false≢true e)
-same-words (x ∷ l) [] e = absurd (false≢true e)
-same-words (x ∷ l) (y ∷ m) e = ap₂ (λ (z : ℕ) (r : List ℕ). z ∷ r) (eqb-true x y (and-left (eqb x y) (sameWords l m) e)) (same-words l m (and-right (eqb x y) (sameWords l m) e))
-
-pub same-self : (l : List ℕ) → sameWords l l ≡ true
-same-self [] = refl
-same-self (x ∷ l) = rw (eq-eqb x x refl, same-self l)
+use Rattle.table_laws.proofs.CellLaws.{alike-row, same-words, same-self}
+use Rattle.table_laws.proofs.LinkLaws.{link-row-x}
+use Rattle.table_laws.proofs.StoreLaws.{node-row-x, child-word-small}
 
 module _ (S : State) (sound : Sound S) (s d : ℕ) (pos : 0 < s) (small : d < 4) where
   abbrev ns : List Corner
@@ -172,13 +161,17 @@ module _ (S : State) (sound : Sound S) (s d : ℕ) (pos : 0 < s) (small : d < 4)
     stays : (k : ℕ) → sizeOf a < k → (x : Corner) → List·Memᴰ x ns → (List·Memᴰ x (changed k a) → ⊥) → recordBy (after a) x ≡ recordBy S x
     stays k h x m f = ends-kept x (λ q. f (List·Memᴰ·head q)) (λ q. f (List·Memᴰ·tail (List·Memᴰ·head q))) ∙ reach-kept x m k a h from f
 
+    -- the record of x is the same after the step
+    abbrev Kept : Corner → Type 0
+    Kept x = recordBy S x ≡ recordBy (after a) x
+
     -- and all that are among them change: the edge's count at the two ends,
-    edge-a : recordBy S a ≡ recordBy (after a) a → ⊥
+    edge-a : Kept a → ⊥
     edge-a q =
         let w : S .edges a e ≡ S .edges a e + tally (joins a e (a, e)) = sym (edge-of (fieldsBy S a) d small) ∙ ap (λ (l : List ℕ). getD l (edgeWord d) 0) q ∙ edge-of (fieldsBy (after a) a) d small in
         omega (arith, ap tally (joins-here a e))
 
-    edge-e : recordBy S e ≡ recordBy (after a) e → ⊥
+    edge-e : Kept e → ⊥
     edge-e q =
         let b = stepped (back d) e in
         let w : S .edges e b ≡ S .edges e b + tally (joins e b (a, e)) = sym (edge-of (fieldsBy S e) (back d) (back-small d)) ∙ ap (λ (l : List ℕ). getD l (edgeWord (back d)) 0) q ∙ edge-of (fieldsBy (after a) e) (back d) (back-small d) in
@@ -186,13 +179,13 @@ module _ (S : State) (sound : Sound S) (s d : ℕ) (pos : 0 < s) (small : d < 4)
         omega arith
 
     -- the step of a link that is made,
-    link-new : (x : Corner) (k : ℕ) → k < 4 → L x (stepped k x) ≡ 0 → links x (stepped k x) (a, e) ≡ true → recordBy S x ≡ recordBy (after a) x → ⊥
+    link-new : (x : Corner) (k : ℕ) → k < 4 → L x (stepped k x) ≡ 0 → links x (stepped k x) (a, e) ≡ true → Kept x → ⊥
     link-new x k i z h q =
         let w : L x (stepped k x) ≡ linked L s a e x (stepped k x) = sym (link-of (fieldsBy S x) k i) ∙ ap (λ (l : List ℕ). getD l (linkWord k) 0) q ∙ link-of (fieldsBy (after a) x) k i in
         omega (arith, later-new (L x (stepped k x)) (links x (stepped k x) (a, e)) s z h)
 
     -- the child's ref in the parent of a node that is made,
-    child-new : (g : Corner) → isRoot g ≡ false → (List·Memᴰ g ns → ⊥) → List·Memᴰ g (gather same ns (pathOf e)) → recordBy S (parentOf g) ≡ recordBy (after a) (parentOf g) → ⊥
+    child-new : (g : Corner) → isRoot g ≡ false → (List·Memᴰ g ns → ⊥) → List·Memᴰ g (gather same ns (pathOf e)) → Kept (parentOf g) → ⊥
     child-new g low f m q =
         let r = child-word-small g in
         let w : childRefOf ns (parentOf g) (childWord g) ≡ childRefOf (gather same ns (pathOf e)) (parentOf g) (childWord g) = sym (child-of (fieldsBy S (parentOf g)) (childWord g) (r .0) (r .1)) ∙ ap (λ (l : List ℕ). getD l (childWord g) 0) q ∙ child-of (fieldsBy (after a) (parentOf g)) (childWord g) (r .0) (r .1) in
@@ -206,52 +199,40 @@ module _ (S : State) (sound : Sound S) (s d : ℕ) (pos : 0 < s) (small : d < 4)
         let w : 0 ≡ needed ns (S .need) s e x = ap (λ (l : List ℕ). getD l needWord 0) q in
         omega arith
 
-    risen-changes : (k : ℕ) (b x : Corner) → links b (stepped d b) (a, e) ≡ true → List·Memᴰ (stepped d b) (gather same ns (pathOf e)) → List·Memᴰ x (risenBy L ns k b (stepped d b)) → recordBy S x ≡ recordBy (after a) x → ⊥
+    risen-changes : (k : ℕ) (b x : Corner) → links b (stepped d b) (a, e) ≡ true → List·Memᴰ (stepped d b) (gather same ns (pathOf e))
+        → List·Memᴰ x (risenBy L ns k b (stepped d b)) → Kept x → ⊥
     risen-changes zero b x l n m q = List·Memᴰ·not-nil m
-    risen-changes (suc k) b x l n m q = go (linksUp L b g) refl (risen-changes k (parentOf b) x)
+    risen-changes (suc k) b x l n m q = go (risen-cases L ns rooted k b g x m) (risen-changes k (parentOf b) x)
       where
         g : Corner
         g = stepped d b
 
-        top : (t : Bool) → isFresh ns g ≡ t → List·Memᴰ x (cond (isFresh ns g) (but (parentOf g) b) []) → ⊥
-        top false r h = List·Memᴰ·not-nil (subst (λ (t : Bool). List·Memᴰ x (cond t (but (parentOf g) b) [])) r h)
-        top true r h =
-            let w = mem-but (parentOf g) b x (subst (λ (t : Bool). List·Memᴰ x (cond t (but (parentOf g) b) [])) r h) in
-            child-new g (rooted g r) (λ i. true≢false (sym r ∙ ap not (mem→any same same-sound same-refl i))) n (subst (λ (y : Corner). recordBy S y ≡ recordBy (after a) y) (w .0) q)
+        h : Corner
+        h = stepped d (parentOf b)
 
-        go : (t : Bool) → linksUp L b g ≡ t
-            → (links (parentOf b) (stepped d (parentOf b)) (a, e) ≡ true → List·Memᴰ (stepped d (parentOf b)) (gather same ns (pathOf e)) → List·Memᴰ x (risenBy L ns k (parentOf b) (stepped d (parentOf b))) → recordBy S x ≡ recordBy (after a) x → ⊥) → ⊥
-        go false r ih = top (isFresh ns g) refl (subst (List·Memᴰ x) (risen-top L ns rooted k b g r) m)
-        go true r ih =
-            ⊎-elim
-            (λ h. left (subst (λ (y : Corner). recordBy S y ≡ recordBy (after a) y) (mem-but (parentOf b) g x h .0) q))
-            (λ h.
-            ⊎-elim
-            (λ i. right (subst (λ (y : Corner). recordBy S y ≡ recordBy (after a) y) (mem-but (parentOf g) b x i .0 ∙ near) q))
-            (λ i. ih up (subst (λ (y : Corner). List·Memᴰ y (gather same ns (pathOf e))) near (gather-closed ns (sound .good .closed) e g n (f .1))) (subst (λ (y : Corner). List·Memᴰ x (risenBy L ns k (parentOf b) y)) near i) q)
-            (List·Memᴰ·append-cases (but (parentOf g) b) h))
-            (List·Memᴰ·append-cases (but (parentOf b) g) (subst (List·Memᴰ x) (risen-up L ns rooted k b g r) m))
-          where
-            f : (isRoot b ≡ false) × (isRoot g ≡ false) × (parentOf b ≡ parentOf g → ⊥) × (L (parentOf b) (parentOf g) ≡ 0)
-            f = goes-up L b g r
+        near : linksUp L b g ≡ true → parentOf g ≡ h
+        near = up-near L ns rooted d b g refl
 
-            near : parentOf g ≡ stepped d (parentOf b)
-            near = up-near L ns rooted d b g refl r
+        up : linksUp L b g ≡ true → links (parentOf b) h (a, e) ≡ true
+        up r = let f = goes-up L b g r in subst (λ (y : Corner). links (parentOf b) y (a, e) ≡ true) (near r) (links-up b g a e (f .0) (f .1) l)
 
-            up : links (parentOf b) (stepped d (parentOf b)) (a, e) ≡ true
-            up = subst (λ (y : Corner). links (parentOf b) y (a, e) ≡ true) near (links-up b g a e (f .0) (f .1) l)
+        none : linksUp L b g ≡ true → L (parentOf b) h ≡ 0
+        none r = ap (L (parentOf b)) (sym (near r)) ∙ goes-up L b g r .3
 
-            none : L (parentOf b) (stepped d (parentOf b)) ≡ 0
-            none = ap (L (parentOf b)) (sym near) ∙ f .3
+        across : linksUp L b g ≡ true → Kept h → ⊥
+        across r =
+            link-new h (back d) (back-small d)
+            (ap (L h) (stepped-back d (parentOf b)) ∙ sound .good .both h (parentOf b) ∙ none r)
+            (ap (λ (y : Corner). links h y (a, e)) (stepped-back d (parentOf b)) ∙ links-flip h (parentOf b) a e ∙ up r)
 
-            left : recordBy S (parentOf b) ≡ recordBy (after a) (parentOf b) → ⊥
-            left = link-new (parentOf b) d small none up
+        there : linksUp L b g ≡ true → List·Memᴰ h (gather same ns (pathOf e))
+        there r = subst (λ (y : Corner). List·Memᴰ y (gather same ns (pathOf e))) (near r) (gather-closed ns (sound .good .closed) e g n (goes-up L b g r .1))
 
-            right : recordBy S (stepped d (parentOf b)) ≡ recordBy (after a) (stepped d (parentOf b)) → ⊥
-            right =
-                link-new (stepped d (parentOf b)) (back d) (back-small d)
-                (ap (L (stepped d (parentOf b))) (stepped-back d (parentOf b)) ∙ sound .good .both (stepped d (parentOf b)) (parentOf b) ∙ none)
-                (ap (λ (y : Corner). links (stepped d (parentOf b)) y (a, e)) (stepped-back d (parentOf b)) ∙ links-flip (stepped d (parentOf b)) (parentOf b) a e ∙ up)
+        go : Above L ns k b g x → (links (parentOf b) h (a, e) ≡ true → List·Memᴰ h (gather same ns (pathOf e)) → List·Memᴰ x (risenBy L ns k (parentOf b) h) → Kept x → ⊥) → ⊥
+        go (over-a r s t) ih = link-new (parentOf b) d small (none r) (up r) (subst Kept s q)
+        go (over-e r s t) ih = across r (subst Kept (s ∙ near r) q)
+        go (higher r i) ih = ih (up r) (there r) (subst (λ (y : Corner). List·Memᴰ x (risenBy L ns k (parentOf b) y)) (near r) i) q
+        go (topmost r s t) ih = child-new g (rooted g r) (λ i. true≢false (sym r ∙ ap not (mem→any same same-sound same-refl i))) n (subst Kept s q)
 
     -- the record of a node before the step: zeros where it is made
     abbrev pub before : Corner → List ℕ
@@ -276,11 +257,11 @@ module _ (S : State) (sound : Sound S) (s d : ℕ) (pos : 0 < s) (small : d < 4)
     unfolding alters
     changes k x n m = ap not (is-false (sameWords (before x) (recordBy (after a) x)) (λ h. by-mem x ns ⊥ (λ i. old i (sym (before-old x i) ∙ same-words (before x) (recordBy (after a) x) h)) (λ i. need-new x i n (sym (before-new x i) ∙ same-words (before x) (recordBy (after a) x) h))))
       where
-        old : List·Memᴰ x ns → recordBy S x ≡ recordBy (after a) x → ⊥
+        old : List·Memᴰ x ns → Kept x → ⊥
         old i q =
             ⊎-elim
-            (λ p. edge-a (subst (λ (y : Corner). recordBy S y ≡ recordBy (after a) y) p q))
-            (λ u. ⊎-elim (λ p. edge-e (subst (λ (y : Corner). recordBy S y ≡ recordBy (after a) y) p q)) (λ v. risen-changes k a x (links-here a e) end-in v q) (List·Memᴰ·cases-cons u))
+            (λ p. edge-a (subst Kept p q))
+            (λ u. ⊎-elim (λ p. edge-e (subst Kept p q)) (λ v. risen-changes k a x (links-here a e) end-in v q) (List·Memᴰ·cases-cons u))
             (List·Memᴰ·cases-cons m)
 
     -- how many they are

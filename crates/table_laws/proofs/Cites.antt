@@ -17,9 +17,10 @@ use Rattle.tree_laws.specs.State.{State, Sound, tableBy, grown, raised, reached
 use Rattle.lists.proofs.FindLaws.{find-le}
 use Rattle.tree_laws.proofs.AddLaws.{ref-pos}
 use Rattle.table_laws.specs.Model.{Out, out, childIn, linkIn, aboveIn, neighbourIn}
-use Rattle.table_laws.proofs.LookupLaws.{child-made, mem-of-ref, neighbour-made, above-made, finish-made, join-made, join-none, finish-none, length-table, grown-nodes, Raised, raised-is, root-parent}
+use Rattle.table_laws.proofs.ChildLaws.{child-made, mem-of-ref, join-none, finish-none, length-table, grown-nodes}
+use Rattle.table_laws.proofs.LookupLaws.{neighbour-made, above-made, finish-made, join-made, Raised, raised-is, root-parent}
 use Rattle.table_laws.proofs.StateLaws.{room-old}
-use Rattle.table_laws.proofs.StoreLaws.{far, read-neighbour, read-parent}
+use Rattle.table_laws.proofs.CellLaws.{far, read-neighbour, read-parent}
 
 module _ (t : List ℕ) (n u w s : ℕ) where
   -- the child is there

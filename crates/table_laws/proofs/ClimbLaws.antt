@@ -24,9 +24,11 @@ use Rattle.tree_laws.proofs.AddLaws.{ref-pos, ref-append}
 use Rattle.table_laws.specs.Model.{linkIn}
 use Rattle.table_laws.proofs.Cites.{made-holds, ref-below, not-linked, above-root, above-same, above-call, over-holds, near-no-parent, near-no-child, near-linked, link-bounds, parent-word}
 use Rattle.table_laws.proofs.LastLaws.{near-last}
-use Rattle.table_laws.proofs.LookupLaws.{mem-of-ref, length-table, Raised, raised-is, root-parent}
+use Rattle.table_laws.proofs.ChildLaws.{mem-of-ref, length-table}
+use Rattle.table_laws.proofs.LookupLaws.{Raised, raised-is, root-parent}
 use Rattle.table_laws.proofs.StateLaws.{sound-reached}
-use Rattle.table_laws.proofs.StoreLaws.{far, read-neighbour, read-child, child-word-small}
+use Rattle.table_laws.proofs.CellLaws.{far, read-neighbour, read-child}
+use Rattle.table_laws.proofs.StoreLaws.{child-word-small}
 use Rattle.table_laws.specs.Climb.{goesUp, Apart, Climbed, Descends}
 
 -- a link keeps the length
@@ -166,21 +168,35 @@ module _ (words : ℕ) (S : State) (sound : Sound S) (n : ℕ) (count : n ≡ le
         sunk l g t a m z (none-above (upBy l c) (f l (omega arith)) (up-mem l g) t a m z made)
 
 -- ---- a round of the way down, to the node b one level below
-module _ (t : List ℕ) (n u v : ℕ) (c : Corner) (d s left : ℕ) (S : State) (down : Descends t n u v c d s left S) (more : 0 < left) (small : d < 4) (pos : 0 < s) (some : 0 < v) where
+-- a level on the way down that is not the last: the node u above it, of the walk, and its neighbour v - 1
+pub record Level (t : List ℕ) (n u v : ℕ) (c : Corner) (d s left : ℕ) (S : State) : Type 0 where
+  pub down : Descends t n u v c d s left S
+  pub more : 0 < left
+  pub small : d < 4
+  pub pos : 0 < s
+  pub some : 0 < v
+
+module _ {t : List ℕ} {n u v : ℕ} {c : Corner} {d s left : ℕ} {S : State} (here : Level t n u v c d s left S) where
+  small : d < 4
+  small = here .small
+
+  pos : 0 < s
+  pos = here .pos
+
   D : Descends t n u v c d s (suc (left - 1)) S
-  D = let e : left ≡ suc (left - 1) = omega arith in subst (λ (l : ℕ). Descends t n u v c d s l S) e down
+  D = let e : left ≡ suc (left - 1) = omega (arith, here .more) in subst (λ (l : ℕ). Descends t n u v c d s l S) e (here .down)
 
   abbrev b : Corner
   b = upBy (left - 1) c
 
   ne : v ≡ 0 → ⊥
-  ne z = omega arith
+  ne z = omega (arith, here .some)
 
   apart : Apart S d b
-  apart = D .below (left - 1) (omega arith)
+  apart = D .below (left - 1) (omega (arith, here .more))
 
   below : (j : ℕ) → j < left - 1 → Apart S d (upBy j c)
-  below j h = D .below j (omega arith)
+  below j h = D .below j (omega (arith, h))
 
   mem : List·Memᴰ b (S .nodes)
   mem = up-mem (length t) S (D .sound) n (D .count) (D .room) d s small pos c (D .start) (left - 1) below

@@ -22,11 +22,12 @@ use Rattle.tree_laws.proofs.AddLaws.{Fresh, fresh}
 use Rattle.tree_laws.proofs.LevelLaws.{root-known}
 use Rattle.tree_laws.proofs.PushLaws.{push-nodes, sound-walk, finish-node}
 use Rattle.tree_laws.proofs.RiseLaws.{risen-few}
-use Rattle.table_laws.proofs.ChangeLaws.{same-self, rooted, changed, after, before, before-old, before-new, count-changed}
-use Rattle.table_laws.proofs.LookupLaws.{length-table}
+use Rattle.table_laws.proofs.CellLaws.{same-self}
+use Rattle.table_laws.proofs.ChangeLaws.{rooted, changed, after, before, before-old, before-new, count-changed}
+use Rattle.table_laws.proofs.ChildLaws.{length-table}
 use Rattle.table_laws.proofs.RowLaws.{table-state, rows-append, rows-cong, rows-zero, length-rows}
 use Rattle.table_laws.proofs.StateLaws.{step-table, room-old}
-use Rattle.table_laws.proofs.StoreLaws.{wide}
+use Rattle.table_laws.proofs.CellLaws.{wide}
 
 -- the first record, and the others
 take-row : (l r : List ℕ) → length l ≡ width → take width (l ++ r) ≡ l

@@ -1,6 +1,9 @@
 pub mod RowLaws
+pub mod CellLaws
+pub mod LinkLaws
 pub mod StoreLaws
 pub mod StateLaws
+pub mod ChildLaws
 pub mod LookupLaws
 pub mod TakeLaws
 pub mod LastLaws

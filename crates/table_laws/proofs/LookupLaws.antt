@@ -2,110 +2,32 @@
 -- Assumes nothing.
 use mathlib.Core.Bool.{Bool, true, false, true≢false}
 use mathlib.Core.List.{List, [], _∷_, _++_, append-nil, append-assoc, List·Memᴰ, Memᴰ·cast}
-use mathlib.Core.Logic.{_⊎_, ⊎-elim}
+use mathlib.Core.Logic.{⊎-elim}
 use mathlib.Core.Path.{_≡_, refl, ap, ap₂, sym, _∙_, subst}
 use Prim.Native.Nat.{ℕ, zero, suc, _+_, _-_, _*_, _<_, _≤_}
 use native.Mathlib.Omega.{arith}
 use borrow.Author.Tests.{ltb-true, ltb-false}
 use lib.Dec.{ltb}
-use lib.ListN.{length, length-append, length-replicate, getD, set, replicate}
+use lib.ListN.{length, getD}
 use Rattle.grid.specs.declared.Corner.{Corner}
 use Rattle.grid.specs.Grid.{same, stepped}
 use Rattle.grid.specs.Tree.{root, parentOf, isRoot, sizeOf, pathOf, childWord}
 use Rattle.lists.specs.Lists.{add, gather}
 use Rattle.tree.specs.Nodes.{refOf}
-use Rattle.layout.specs.Table.{width, recordsIn, wordAt, parentWord, neighbourWord, needWord}
-use Rattle.tree_laws.specs.State.{State, reached, withNode, withLink, grown, raised, Alike, Sound, recordBy, rowsBy, tableBy, Made}
+use Rattle.layout.specs.Table.{width, wordAt, parentWord, neighbourWord}
+use Rattle.tree_laws.specs.State.{State, reached, withLink, grown, raised, Alike, Sound, tableBy}
 use Rattle.grid.proofs.CornerLaws.{same-refl, same-sound}
 use Rattle.grid.proofs.ParentLaws.{parentOf-stepped}
 use Rattle.grid.proofs.PathLaws.{sizeOf-parentOf}
-use Rattle.layout.proofs.ChildLaws.{child-ref}
-use Rattle.lists.proofs.FindLaws.{find-any}
-use Rattle.lists.proofs.GatherLaws.{gather-more, any→mem, distinct-add, mem-add, mem-gather-right}
+use Rattle.lists.proofs.GatherLaws.{gather-more, distinct-add, mem-add, mem-gather-right}
 use Rattle.tree.proofs.NodeLaws.{mem-path}
-use Rattle.tree_laws.proofs.AddLaws.{ref-pos, ref-none, ref-append, ref-snoc}
-use Rattle.tree_laws.proofs.LevelLaws.{root-is, add-known}
+use Rattle.tree_laws.proofs.AddLaws.{ref-pos, ref-append}
+use Rattle.tree_laws.proofs.LevelLaws.{root-is}
 use Rattle.table_laws.specs.Model.{Out, out, childIn, linkIn, joinIn, finishIn, aboveIn, neighbourIn}
-use Rattle.table_laws.proofs.RowLaws.{length-rows}
-use Rattle.table_laws.proofs.StateLaws.{grown-known, grown-new, by-mem, add-new, reach-known, reach-root, reach-over, sound-reached, room-old}
-use Rattle.table_laws.proofs.StoreLaws.{wide, far, alike-table, node-table, link-table, read-parent, read-child, read-neighbour, child-word-small}
-
-pub length-table : (words : ℕ) (S : State) → width * length (S .nodes) ≤ words → length (tableBy words S) ≡ words
-length-table words S h =
-    let rs = rowsBy (recordBy S) (S .nodes) in
-    let z : ℕ = 0 in
-    omega (arith, length-append rs (replicate (words - length rs) z), length-replicate (words - length rs) z, length-rows (recordBy S) (wide S) (S .nodes))
-
--- `child`: the node e under its parent, of ref 1 + u
-pub child-made : (words : ℕ) (S : State) → Sound S → (e : Corner) (s u : ℕ) → isRoot e ≡ false → List·Memᴰ (parentOf e) (S .nodes) → refOf (S .nodes) (parentOf e) ≡ suc u → width * length (S .nodes) ≤ words
-    → (o : Out) → childIn (tableBy words S) (length (S .nodes)) u (childWord e) s ≡ o → Made words (grown S e s) e (o .table) (o .at) (o .nodes)
-child-made words S sound e s u deep m r room o q =
-    subst (λ x. Made words (grown S e s) e (x .table) (x .at) (x .nodes)) q
-    (by-mem e (S .nodes) (Made words (grown S e s) e (o₁ .table) (o₁ .at) (o₁ .nodes)) known new)
-  where
-    o₁ : Out
-    o₁ = childIn (tableBy words S) (length (S .nodes)) u (childWord e) s
-
-    word : getD (tableBy words S) (wordAt u (childWord e)) 0 ≡ refOf (S .nodes) e
-    word = let w = child-word-small e in read-child words S (parentOf e) u r (childWord e) (w .0) (w .1) ∙ child-ref (S .nodes) e deep
-
-    known : List·Memᴰ e (S .nodes) → Made words (grown S e s) e (o₁ .table) (o₁ .at) (o₁ .nodes)
-    known k = rw (grown-known S e s k) (go (refOf (S .nodes) e) refl)
-      where
-        go : (n : ℕ) → refOf (S .nodes) e ≡ n → Made words S e (o₁ .table) (o₁ .at) (o₁ .nodes)
-        go zero p = absurd (omega (arith, ref-pos (S .nodes) e k))
-        go (suc n) p =
-            let x : o₁ ≡ out (tableBy words S) (suc n) (length (S .nodes)) = rw (word ∙ p, childIn) in
-            subst (λ y. Made words S e (y .table) (y .at) (y .nodes)) (sym x) (record { fits = λ f. (refl, sym p, refl); full = λ f. absurd (omega arith) })
-
-    new : (List·Memᴰ e (S .nodes) → ⊥) → Made words (grown S e s) e (o₁ .table) (o₁ .at) (o₁ .nodes)
-    new f = rw (grown-new S e s f) (go (ltb (length (S .nodes)) (recordsIn (length (tableBy words S)))) refl)
-      where
-        n : ℕ
-        n = length (S .nodes)
-
-        more : length (S .nodes ++ (e ∷ [])) ≡ suc (length (S .nodes))
-        more = length-append (S .nodes) (e ∷ []) ∙ (omega arith)
-
-        go : (b : Bool) → ltb (length (S .nodes)) (recordsIn (length (tableBy words S))) ≡ b → Made words (withNode S e s) e (o₁ .table) (o₁ .at) (o₁ .nodes)
-        go true p =
-            let l = ltb-true (length (S .nodes)) (recordsIn (length (tableBy words S))) p in
-            let x : o₁ ≡ out (set (set (set (tableBy words S) (wordAt u (childWord e)) (length (S .nodes) + 1)) (wordAt (length (S .nodes)) parentWord) (u + 1)) (wordAt (length (S .nodes)) needWord) s) (length (S .nodes) + 1) (length (S .nodes) + 1) = rw (word ∙ ref-none (S .nodes) e f, p, childIn) in
-            subst (λ y. Made words (withNode S e s) e (y .table) (y .at) (y .nodes)) (sym x) (record {
-              fits = λ g. (node-table S sound e s deep m f words u r (omega (arith, length-table words S room)), sym (ref-snoc (S .nodes) e f ∙ (omega arith)), sym (more ∙ (omega arith)));
-              full = λ g. absurd (omega (arith, length-table words S room, more));
-            })
-        go false p =
-            let l = ltb-false (length (S .nodes)) (recordsIn (length (tableBy words S))) p in
-            let x : o₁ ≡ out (tableBy words S) 0 (length (S .nodes)) = rw (word ∙ ref-none (S .nodes) e f, p, childIn) in
-            subst (λ y. Made words (withNode S e s) e (y .table) (y .at) (y .nodes)) (sym x) (record { fits = λ g. absurd (omega (arith, length-table words S room, more)); full = λ g. refl })
-
-pub join-none : (v : Out) (u d s : ℕ) → v .at ≡ 0 → joinIn v u d s ≡ v
-join-none v u d s q = ap (λ (n : ℕ). either n) q
-  where
-    either : ℕ → Out
-    either n = elim n [ zero ↦ v | suc k ↦ out (linkIn (v .table) u k d s) (suc k) (v .nodes) ]
-
-pub finish-none : (o : Out) (u : ℕ) (e : Corner) (d s : ℕ) → o .at ≡ 0 → finishIn o u e d s ≡ o
-finish-none o u e d s q = ap (λ (n : ℕ). either n) q
-  where
-    either : ℕ → Out
-    either n = elim n [ zero ↦ o | suc p ↦ joinIn (childIn (o .table) (o .nodes) p (childWord e) s) u d s ]
-
-pub root-child : (d : ℕ) → parentOf (stepped d root) ≡ root
-root-child zero = refl
-root-child (suc zero) = refl
-root-child (suc (suc zero)) = refl
-root-child (suc (suc (suc d))) = refl
-
-pub mem-of-ref : (ns : List Corner) (a : Corner) (u : ℕ) → refOf ns a ≡ suc u → List·Memᴰ a ns
-mem-of-ref ns a u h = any→mem same same-sound same-refl a ns (find-any (same a) ns (omega arith))
-
-pub grown-nodes : (T : State) (e : Corner) (s : ℕ) → grown T e s .nodes ≡ add same (T .nodes) e
-grown-nodes T e s =
-    by-mem e (T .nodes) (grown T e s .nodes ≡ add same (T .nodes) e)
-    (λ m. ap (λ (x : State). x .nodes) (grown-known T e s m) ∙ sym (add-known (T .nodes) e m))
-    (λ f. ap (λ (x : State). x .nodes) (grown-new T e s f) ∙ sym (add-new (T .nodes) e f))
+use Rattle.table_laws.proofs.StateLaws.{reach-known, reach-root, reach-over, sound-reached, room-old}
+use Rattle.table_laws.proofs.CellLaws.{far, alike-table, read-parent, read-neighbour}
+use Rattle.table_laws.proofs.LinkLaws.{link-table}
+use Rattle.table_laws.proofs.ChildLaws.{MadeBy, child-made, join-none, finish-none, root-child, mem-of-ref, grown-nodes}
 
 -- the state over which the last two stores are made: sound, with the parent of e, and more than S
 pub record Raised (S T : State) (e : Corner) : Type 0 where
@@ -132,7 +54,7 @@ raised-is S sound s a e m r = go (isRoot a) refl (same (parentOf a) (parentOf e)
 module _ (words : ℕ) (S : State) (sound : Sound S) (s d : ℕ) (pos : 0 < s) (small : d < 4) (room : width * length (S .nodes) ≤ words) where
   -- what a lookup from a gives
   abbrev pub Looked : Corner → Out → Type 0
-  Looked a o = Made words (reached S s a (stepped d a)) (stepped d a) (o .table) (o .at) (o .nodes)
+  Looked a o = MadeBy words (reached S s a (stepped d a)) (stepped d a) o
 
   parent-word : (a : Corner) (u : ℕ) → refOf (S .nodes) a ≡ suc u → isRoot a ≡ false → getD (tableBy words S) (wordAt u parentWord) 0 ≡ refOf (S .nodes) (parentOf a)
   parent-word a u h r = read-parent words S a u h ∙ rw r
@@ -140,15 +62,15 @@ module _ (words : ℕ) (S : State) (sound : Sound S) (s d : ℕ) (pos : 0 < s) (
   pub above-made : (call : ℕ → Corner → Out) (a : Corner) (u : ℕ) → refOf (S .nodes) a ≡ suc u → isRoot (stepped d a) ≡ false
       → ((v : ℕ) → isRoot a ≡ false → refOf (S .nodes) (parentOf a) ≡ suc v → Looked (parentOf a) (call v (parentOf a)))
       → (o : Out) → aboveIn call (tableBy words S) (length (S .nodes)) u a (stepped d a) ≡ o
-      → Made words (raised S s a (stepped d a)) (parentOf (stepped d a)) (o .table) (o .at) (o .nodes)
+      → MadeBy words (raised S s a (stepped d a)) (parentOf (stepped d a)) o
   above-made call a u h deep ih o q =
-      subst (λ x. Made words (raised S s a (stepped d a)) (parentOf (stepped d a)) (x .table) (x .at) (x .nodes)) q (go (isRoot a) refl (same (parentOf a) (parentOf (stepped d a))) refl)
+      subst (MadeBy words (raised S s a (stepped d a)) (parentOf (stepped d a))) q (go (isRoot a) refl (same (parentOf a) (parentOf (stepped d a))) refl)
     where
       o₁ : Out
       o₁ = aboveIn call (tableBy words S) (length (S .nodes)) u a (stepped d a)
 
       is : State → Out → Type 0
-      is T x = Made words T (parentOf (stepped d a)) (x .table) (x .at) (x .nodes)
+      is T x = MadeBy words T (parentOf (stepped d a)) x
 
       stay : (n : ℕ) → n ≡ refOf (S .nodes) (parentOf (stepped d a)) → is S (out (tableBy words S) n (length (S .nodes)))
       stay n e = record { fits = λ f. (refl, e, refl); full = λ f. absurd (omega arith) }
@@ -172,7 +94,7 @@ module _ (words : ℕ) (S : State) (sound : Sound S) (s d : ℕ) (pos : 0 < s) (
           let w : refOf (S .nodes) (parentOf a) ≡ suc (getD (tableBy words S) (wordAt u parentWord) 0 - 1) = omega (arith, parent-word a u h r, ref-pos (S .nodes) (parentOf a) m) in
           subst (λ t. is t o₁) (sym y)
           (subst (λ t. is (reached S s (parentOf a) (parentOf (stepped d a))) t) (sym x)
-          (subst (λ c. Made words (reached S s (parentOf a) c) c (call (getD (tableBy words S) (wordAt u parentWord) 0 - 1) (parentOf a) .table) (call (getD (tableBy words S) (wordAt u parentWord) 0 - 1) (parentOf a) .at) (call (getD (tableBy words S) (wordAt u parentWord) 0 - 1) (parentOf a) .nodes)) (sym p) (ih (getD (tableBy words S) (wordAt u parentWord) 0 - 1) r w)))
+          (subst (λ c. MadeBy words (reached S s (parentOf a) c) c (call (getD (tableBy words S) (wordAt u parentWord) 0 - 1) (parentOf a))) (sym p) (ih (getD (tableBy words S) (wordAt u parentWord) 0 - 1) r w)))
 
   pub root-parent : (a : Corner) → List·Memᴰ a (S .nodes) → isRoot a ≡ true → List·Memᴰ (parentOf (stepped d a)) (S .nodes)
   root-parent a m r = Memᴰ·cast (ap (λ (c : Corner). parentOf (stepped d c)) (root-is a r) ∙ root-child d ∙ sym (root-is a r)) m
@@ -217,7 +139,7 @@ module _ (words : ℕ) (S : State) (sound : Sound S) (s d : ℕ) (pos : 0 < s) (
         ∙ h
 
     -- the link, after the child
-    pub join-made : (v : Out) → Made words (grown (raised S s a (stepped d a)) (stepped d a) s) (stepped d a) (v .table) (v .at) (v .nodes) → Looked a (joinIn v u d s)
+    pub join-made : (v : Out) → MadeBy words (grown (raised S s a (stepped d a)) (stepped d a) s) (stepped d a) v → Looked a (joinIn v u d s)
     join-made v made = fit (ltb words (width * length (G .nodes))) refl
       where
         fit : (b : Bool) → ltb words (width * length (G .nodes)) ≡ b → Looked a (joinIn v u d s)
@@ -225,7 +147,7 @@ module _ (words : ℕ) (S : State) (sound : Sound S) (s d : ℕ) (pos : 0 < s) (
             let l = ltb-true words (width * length (G .nodes)) p in
             let q : v .at ≡ 0 = made .full l in
             let x : joinIn v u d s ≡ v = join-none v u d s q in
-            subst (λ y. Looked a y) (sym x) (record { fits = λ f. absurd (omega (arith, same-nodes)); full = λ f. q })
+            subst (Looked a) (sym x) (record { fits = λ f. absurd (omega (arith, same-nodes)); full = λ f. q })
         fit false p = node (refOf (G .nodes) e) refl
           where
             l : width * length (G .nodes) ≤ words
@@ -236,7 +158,7 @@ module _ (words : ℕ) (S : State) (sound : Sound S) (s d : ℕ) (pos : 0 < s) (
             node (suc k) q =
                 let g = made .fits l in
                 let x : joinIn v u d s ≡ out (linkIn (v .table) u k d s) (suc k) (v .nodes) = rw (g .1 ∙ q, joinIn) in
-                subst (λ y. Looked a y) (sym x) (record {
+                subst (Looked a) (sym x) (record {
                   fits = λ f. (
                     ap (λ (t : List ℕ). linkIn t u k d s) (g .0)
                         ∙ link-table G a d s words u k small pos (rw all (distinct-add same same-sound same-refl (T .nodes) e (up .sound .good .distinct))) ref-a q
@@ -248,7 +170,7 @@ module _ (words : ℕ) (S : State) (sound : Sound S) (s d : ℕ) (pos : 0 < s) (
                 })
 
     -- both
-    pub finish-made : (o : Out) → Made words (raised S s a (stepped d a)) (parentOf (stepped d a)) (o .table) (o .at) (o .nodes) → Looked a (finishIn o u (stepped d a) d s)
+    pub finish-made : (o : Out) → MadeBy words (raised S s a (stepped d a)) (parentOf (stepped d a)) o → Looked a (finishIn o u (stepped d a) d s)
     finish-made o made = go (ltb words (width * length (T .nodes))) refl
       where
         go : (b : Bool) → ltb words (width * length (T .nodes)) ≡ b → Looked a (finishIn o u e d s)
@@ -256,7 +178,7 @@ module _ (words : ℕ) (S : State) (sound : Sound S) (s d : ℕ) (pos : 0 < s) (
             let l = ltb-true words (width * length (T .nodes)) p in
             let q : o .at ≡ 0 = made .full l in
             let x : finishIn o u e d s ≡ o = finish-none o u e d s q in
-            subst (λ y. Looked a y) (sym x) (record { fits = λ f. absurd (omega (arith, same-nodes, more)); full = λ f. q })
+            subst (Looked a) (sym x) (record { fits = λ f. absurd (omega (arith, same-nodes, more)); full = λ f. q })
         go false p = node (refOf (T .nodes) (parentOf e)) refl
           where
             l : width * length (T .nodes) ≤ words
@@ -268,7 +190,7 @@ module _ (words : ℕ) (S : State) (sound : Sound S) (s d : ℕ) (pos : 0 < s) (
                 let g = made .fits l in
                 let x : finishIn o u e d s ≡ joinIn (childIn (o .table) (o .nodes) k (childWord e) s) u d s = rw (g .1 ∙ q, finishIn) in
                 let y : childIn (o .table) (o .nodes) k (childWord e) s ≡ childIn (tableBy words T) (length (T .nodes)) k (childWord e) s = ap₂ (λ (t : List ℕ) (n : ℕ). childIn t n k (childWord e) s) (g .0) (g .2) in
-                subst (λ r. Looked a r) (sym (x ∙ ap (λ (c : Out). joinIn c u d s) y)) (join-made (childIn (tableBy words T) (length (T .nodes)) k (childWord e) s) (child-made words T (up .sound) e s k deep (up .has) q l (childIn (tableBy words T) (length (T .nodes)) k (childWord e) s) refl))
+                subst (Looked a) (sym (x ∙ ap (λ (c : Out). joinIn c u d s) y)) (join-made (childIn (tableBy words T) (length (T .nodes)) k (childWord e) s) (child-made words T (up .sound) e s k deep (up .has) q l (childIn (tableBy words T) (length (T .nodes)) k (childWord e) s) refl))
 
   -- `neighbour`: found, or made
   pub neighbour-made : (f : ℕ) (a : Corner) (u : ℕ) → sizeOf a < f → refOf (S .nodes) a ≡ suc u → Looked a (neighbourIn f (tableBy words S) (length (S .nodes)) u a d s)
@@ -296,7 +218,7 @@ module _ (words : ℕ) (S : State) (sound : Sound S) (s d : ℕ) (pos : 0 < s) (
           known zero i = absurd (omega (arith, ref-pos (S .nodes) e (sound .good .ends a e (omega arith) .1)))
           known (suc k) i =
               let x : o ≡ out (tableBy words S) (suc k) (length (S .nodes)) = rw (word ∙ ap (λ (m : ℕ). far m (refOf (S .nodes) e)) p ∙ i, neighbourIn) in
-              subst (λ y. Looked a y) (sym x) (record {
+              subst (Looked a) (sym x) (record {
                 fits = λ g. (sym (alike-table words (reached S s a e) S alike), sym (ap (λ (l : List Corner). refOf l e) (alike .nodes) ∙ i), sym (ap length (alike .nodes)));
                 full = λ g. absurd (omega (arith, ap length (alike .nodes)));
               })
@@ -304,7 +226,7 @@ module _ (words : ℕ) (S : State) (sound : Sound S) (s d : ℕ) (pos : 0 < s) (
           let alike : Alike (reached S s a e) (withLink S a e s) = reach-root S sound s a e p q in
           let one : refOf (S .nodes) e ≡ 1 = ap₂ refOf (sound .good .root .1) (root-is e q) in
           let x : o ≡ out (linkIn (tableBy words S) u 0 d s) 1 (length (S .nodes)) = rw (word ∙ ap (λ (m : ℕ). far m (refOf (S .nodes) e)) p, q, neighbourIn) in
-          subst (λ y. Looked a y) (sym x) (record {
+          subst (Looked a) (sym x) (record {
             fits = λ g. (
               link-table S a d s words u 0 small pos (sound .good .distinct) r one ∙ sym (alike-table words (reached S s a e) (withLink S a e s) alike),
               sym (ap (λ (l : List Corner). refOf l e) (alike .nodes) ∙ one),
@@ -315,4 +237,4 @@ module _ (words : ℕ) (S : State) (sound : Sound S) (s d : ℕ) (pos : 0 < s) (
       go zero p false q ih =
           let over : Out = aboveIn (λ v c. neighbourIn f (tableBy words S) (length (S .nodes)) v c d s) (tableBy words S) (length (S .nodes)) u a e in
           let x : o ≡ finishIn over u e d s = rw (word ∙ ap (λ (m : ℕ). far m (refOf (S .nodes) e)) p, q, neighbourIn) in
-          subst (λ y. Looked a y) (sym x) (finish-made a u r q p over (above-made (λ v c. neighbourIn f (tableBy words S) (length (S .nodes)) v c d s) a u r q ih over refl))
+          subst (Looked a) (sym x) (finish-made a u r q p over (above-made (λ v c. neighbourIn f (tableBy words S) (length (S .nodes)) v c d s) a u r q ih over refl))

@@ -20,7 +20,7 @@ use Rattle.tree_laws.proofs.PushLaws.{good-walk}
 use Rattle.tree_laws.proofs.AddLaws.{ref-snoc, path-below}
 use Rattle.table_laws.proofs.RowLaws.{table-state}
 use Rattle.table_laws.proofs.StateLaws.{grown-new}
-use Rattle.table_laws.proofs.StoreLaws.{alike-table}
+use Rattle.table_laws.proofs.CellLaws.{alike-table}
 
 -- one node more, as `child` makes it for step 0
 pub planted-next : (c : Corner) → isRoot c ≡ false → Alike (grown (plantedOf (parentOf c)) c 0) (plantedOf c)

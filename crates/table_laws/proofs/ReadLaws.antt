@@ -33,7 +33,7 @@ use Rattle.tree_laws.proofs.LineageLaws.{links-here}
 use Rattle.tree_laws.proofs.RiseLaws.{goes-up, up-goes, up-near, risen-up, risen-top, risen-fuel}
 use Rattle.table_laws.proofs.ChangeLaws.{rooted, after}
 use Rattle.table_laws.proofs.StateLaws.{by-mem}
-use Rattle.table_laws.proofs.StoreLaws.{far-pos, read-parent, read-neighbour, read-step, read-need}
+use Rattle.table_laws.proofs.CellLaws.{far-pos, read-parent, read-neighbour, read-step, read-need}
 
 back-ne : (d : ℕ) → d < 4 → d ≡ back d → ⊥
 back-ne zero h e = omega arith

@@ -82,6 +82,14 @@ module _ {A : Type 0} (K : Keys A) where
       go true p = absurd (f (K .sound x a p))
       go false p = rw p
 
+  -- rows with one of them replaced are the rows Q: the new one is, and so are all others
+  pub upd-is : (R Q : A → List ℕ) (a : A) (row : List ℕ) → row ≡ Q a → (x : A) → ((x ≡ a → ⊥) → R x ≡ Q x) → upd R a row x ≡ Q x
+  upd-is R Q a row here x others = go (K .test x a) refl
+    where
+      go : (b : Bool) → K .test x a ≡ b → cond b row (R x) ≡ Q x
+      go true p = here ∙ ap Q (sym (K .sound x a p))
+      go false p = others (λ e. true≢false (sym (K .self a) ∙ ap (λ (y : A). K .test y a) (sym e) ∙ p))
+
   -- a row that was replaced once is replaced again
   upd-upd : (R : A → List ℕ) (a : A) (row new : List ℕ) (x : A) → upd (upd R a row) a new x ≡ upd R a new x
   upd-upd R a row new x = go (K .test x a)

@@ -25,7 +25,8 @@ use Rattle.tree_laws.proofs.LineageLaws.{links-there}
 use Rattle.tree_laws.proofs.PopLaws.{drop-stop, drop-root, drop-fresh, drop-next, drop-needs}
 use Rattle.tree_laws.proofs.PushLaws.{push-state, sound-walk, finish-node, step-bound, need-bound}
 use Rattle.table_laws.proofs.RowLaws.{table-state}
-use Rattle.table_laws.proofs.StoreLaws.{alike-table, drop-table}
+use Rattle.table_laws.proofs.CellLaws.{alike-table}
+use Rattle.table_laws.proofs.StoreLaws.{drop-table}
 
 pub add-new : (ns : List Corner) (e : Corner) → (List·Memᴰ e ns → ⊥) → add same ns e ≡ ns ++ (e ∷ [])
 add-new ns e f = ⊎-elim (λ h. absurd (f (any→mem same same-sound same-refl e ns (h .0)))) (λ h. h .1) (add-cases same ns e)

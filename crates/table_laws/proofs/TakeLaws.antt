@@ -21,7 +21,9 @@ use Rattle.tree_laws.proofs.AddLaws.{ref-append}
 use Rattle.tree_laws.proofs.PushLaws.{push-nodes, finish-node}
 use Rattle.table_laws.specs.Model.{edgeIn, visitIn, unvisitIn, treadIn, untreadIn}
 use Rattle.table_laws.proofs.StateLaws.{step-table, step-back}
-use Rattle.table_laws.proofs.StoreLaws.{far, far-pos, read-neighbour, read-visits, read-edge, walked-more, tread-table, untread-table, visit-table-first, visit-table-again, unvisit-table-last, unvisit-table-more}
+use Rattle.table_laws.proofs.CellLaws.{far, far-pos, read-neighbour, read-visits, read-edge}
+use Rattle.table_laws.proofs.LinkLaws.{walked-more, tread-table, untread-table}
+use Rattle.table_laws.proofs.StoreLaws.{visit-table-first, visit-table-again, unvisit-table-last, unvisit-table-more}
 
 module _ (words : ℕ) (S : State) (sound : Sound S) (e : Corner) (k r : ℕ) (h : refOf (S .nodes) e ≡ suc r) where
   pub visit-made : visitIn (tableBy words S) r k ≡ tableBy words (visitedBy S e k)

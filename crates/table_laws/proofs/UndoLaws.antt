@@ -24,9 +24,10 @@ use Rattle.tree_laws.proofs.AddLaws.{ref-pos, ref-append, ref-snoc}
 use Rattle.tree_laws.proofs.LevelLaws.{gather-closed, order-gather}
 use Rattle.tree_laws.proofs.PopLaws.{unlink-stop, unlink-last, unlink-next, drop-root, drop-next, drop-fresh}
 use Rattle.table_laws.specs.Model.{unsetIn}
-use Rattle.table_laws.proofs.LookupLaws.{mem-of-ref}
+use Rattle.table_laws.proofs.ChildLaws.{mem-of-ref}
 use Rattle.table_laws.proofs.StateLaws.{unlinked-all, dropping-stop, dropping-table}
-use Rattle.table_laws.proofs.StoreLaws.{far-pos, alike-table, unlink-table, read-parent, read-neighbour, read-step, read-need}
+use Rattle.table_laws.proofs.CellLaws.{far-pos, alike-table, read-parent, read-neighbour, read-step, read-need}
+use Rattle.table_laws.proofs.LinkLaws.{unlink-table}
 
 module _ (words : ℕ) (S : State) (sound : Sound S) (s : ℕ) (pos : 0 < s) where
   module _ (z : Corner) (d : ℕ) (dir : d < 4) (small : (x y : Corner) → S .step x y < s) where

@@ -22,10 +22,10 @@ use Rattle.tree_laws.proofs.PopLaws.{unlink-start}
 use Rattle.tree_laws.proofs.PushLaws.{push-nodes, sound-walk, finish-node}
 use Rattle.table_laws.specs.Model.{visitIn, unvisitIn, treadIn, untreadIn}
 use Rattle.table_laws.proofs.Cites.{made-holds}
-use Rattle.table_laws.proofs.LookupLaws.{length-table}
+use Rattle.table_laws.proofs.ChildLaws.{length-table}
 use Rattle.table_laws.proofs.RowLaws.{table-state}
 use Rattle.table_laws.proofs.StateLaws.{step-table, sound-step, links-small}
-use Rattle.table_laws.proofs.StoreLaws.{read-edge}
+use Rattle.table_laws.proofs.CellLaws.{read-edge}
 use Rattle.table_laws.proofs.TakeLaws.{visit-made, unvisit-made, tread-made, untread-made}
 
 -- the table of a walk, where it has room for the nodes, holds the walk's state

@@ -13,9 +13,12 @@ use Rattle.layout.specs.Table.{width, wordAt, neighbourWord}
 use Rattle.tree.specs.Nodes.{refOf}
 use Rattle.tree_laws.specs.State.{State, Sound, reached, Made}
 
--- the climb goes on from node u, which stands for c: no link in direction d, neither c nor its neighbour is the root, and their parents differ
+-- the climb goes on from node u, which stands for c: no link in direction d, neither c nor its neighbour is the root, and their
+-- parents differ
 abbrev pub goesUp : List ℕ → ℕ → Corner → ℕ → Bool
-goesUp t u c d = eqb (getD t (wordAt u (neighbourWord d)) 0) 0 && (not (isRoot (stepped d c)) && (not (isRoot c) && not (same (parentOf c) (parentOf (stepped d c)))))
+goesUp t u c d =
+    eqb (getD t (wordAt u (neighbourWord d)) 0) 0
+    && (not (isRoot (stepped d c)) && (not (isRoot c) && not (same (parentOf c) (parentOf (stepped d c)))))
 
 -- the same by the state
 pub record Apart (S : State) (d : ℕ) (a : Corner) : Type 0 where

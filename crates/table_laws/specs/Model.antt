@@ -1,6 +1,6 @@
--- The code's stores on a table, as functions on lists: the lookup, the visit, the edge, and the take-back. The lookup is a recursion from each
--- level to the one above it, which the code does by a loop up and a loop down; its first argument bounds how often it goes up, and more
--- than the node's size is enough.
+-- The code's stores on a table, as functions on lists: the lookup, the visit, the edge, and the take-back. The lookup is a
+-- recursion from each level to the one above it, which the code does by a loop up and a loop down; its first argument bounds how
+-- often it goes up, and more than the node's size is enough.
 -- Assumes nothing.
 use mathlib.Core.Bool.{true, false}
 use mathlib.Core.List.{List}
@@ -25,13 +25,18 @@ out t a n = record { table = t; at = a; nodes = n }
 abbrev pub childIn : List ℕ → ℕ → ℕ → ℕ → ℕ → Out
 childIn t n u w s =
     elim (getD t (wordAt u w) 0) [
-      | zero ↦ elim (ltb n (recordsIn (length t))) [ true ↦ out (set (set (set t (wordAt u w) (n + 1)) (wordAt n parentWord) (u + 1)) (wordAt n needWord) s) (n + 1) (n + 1) | false ↦ out t 0 n ]
+      | zero ↦ elim (ltb n (recordsIn (length t))) [
+        | true ↦ out (set (set (set t (wordAt u w) (n + 1)) (wordAt n parentWord) (u + 1)) (wordAt n needWord) s) (n + 1) (n + 1)
+        | false ↦ out t 0 n
+      ]
       | suc k ↦ out t (suc k) n
     ]
 
 -- ---- the lookup
 abbrev pub linkIn : List ℕ → ℕ → ℕ → ℕ → ℕ → List ℕ
-linkIn t u v d s = set (set (set (set t (wordAt u (neighbourWord d)) (v + 1)) (wordAt u (linkWord d)) s) (wordAt v (neighbourWord ((d + 2) % 4))) (u + 1)) (wordAt v (linkWord ((d + 2) % 4))) s
+linkIn t u v d s =
+    set (set (set (set t (wordAt u (neighbourWord d)) (v + 1)) (wordAt u (linkWord d)) s) (wordAt v (neighbourWord ((d + 2) % 4)))
+    (u + 1)) (wordAt v (linkWord ((d + 2) % 4))) s
 
 -- the node found is linked with u
 abbrev pub joinIn : Out → ℕ → ℕ → ℕ → Out
@@ -46,7 +51,8 @@ abbrev pub aboveIn : (ℕ → Corner → Out) → List ℕ → ℕ → ℕ → C
 aboveIn call t n u c e =
     elim (isRoot c) [
       | true ↦ out t (u + 1) n
-      | false ↦ elim (same (parentOf c) (parentOf e)) [ true ↦ out t (getD t (wordAt u parentWord) 0) n | false ↦ call (getD t (wordAt u parentWord) 0 - 1) (parentOf c) ]
+      | false ↦ elim (same (parentOf c) (parentOf e))
+          [ true ↦ out t (getD t (wordAt u parentWord) 0) n | false ↦ call (getD t (wordAt u parentWord) 0 - 1) (parentOf c) ]
     ]
 
 -- the neighbour of node u, which is the corner c, in direction d, by step s: `neighbour`
@@ -54,7 +60,10 @@ abbrev pub neighbourIn : ℕ → List ℕ → ℕ → ℕ → Corner → ℕ →
 neighbourIn zero t n u c d s = out t 0 n
 neighbourIn (suc f) t n u c d s =
     elim (getD t (wordAt u (neighbourWord d)) 0) [
-      | zero ↦ elim (isRoot (stepped d c)) [ true ↦ out (linkIn t u 0 d s) 1 n | false ↦ finishIn (aboveIn (λ v p. neighbourIn f t n v p d s) t n u c (stepped d c)) u (stepped d c) d s ]
+      | zero ↦ elim (isRoot (stepped d c)) [
+        | true ↦ out (linkIn t u 0 d s) 1 n
+        | false ↦ finishIn (aboveIn (λ v p. neighbourIn f t n v p d s) t n u c (stepped d c)) u (stepped d c) d s
+      ]
       | suc k ↦ out t (suc k) n
     ]
 
@@ -87,4 +96,6 @@ untreadIn t u v d = edgeIn t u v d (getD t (wordAt u (edgeWord d)) 0 - 1)
 
 -- ---- the take-back: the links, and then the nodes
 abbrev pub unsetIn : List ℕ → ℕ → ℕ → ℕ → List ℕ
-unsetIn t u v d = set (set (set (set t (wordAt u (neighbourWord d)) 0) (wordAt u (linkWord d)) 0) (wordAt v (neighbourWord ((d + 2) % 4))) 0) (wordAt v (linkWord ((d + 2) % 4))) 0
+unsetIn t u v d =
+    set (set (set (set t (wordAt u (neighbourWord d)) 0) (wordAt u (linkWord d)) 0) (wordAt v (neighbourWord ((d + 2) % 4))) 0)
+    (wordAt v (linkWord ((d + 2) % 4))) 0

@@ -31,14 +31,15 @@ pub record IsRoom (c : Corner) (ds : List ℕ) : Type 0 where
   pub closed : endFrom c ds ≡ c
   pub only : (j k : ℕ) → Meets c ds j k → (j ≡ 0) × (k ≡ length ds)
 
--- what each verdict says: 0, no step; 1, open, no meeting; 2, a room; 3, open, some meeting; 4, closed, a meeting other than (0,n);
--- 5, there and back
+-- what each verdict says: 0, no step; 1, open, no meeting; 2, a room; 3, open, some meeting; 4, closed, a meeting other than
+-- (0,n); 5, there and back
 abbrev pub VerdictSays : Corner → List ℕ → Verdict → Type 0
 VerdictSays c ds Nowhere = length ds ≡ 0
 VerdictSays c ds Open = (0 < length ds) × (endFrom c ds ≡ c → ⊥) × ((j k : ℕ) → Meets c ds j k → ⊥)
 VerdictSays c ds Room = IsRoom c ds
 VerdictSays c ds OpenMeeting = (0 < length ds) × (endFrom c ds ≡ c → ⊥) × ((j : ℕ) × (k : ℕ) × Meets c ds j k)
-VerdictSays c ds ClosedMeeting = (0 < length ds) × (endFrom c ds ≡ c) × ((j : ℕ) × (k : ℕ) × Meets c ds j k × ((j ≡ 0) × (k ≡ length ds) → ⊥))
+VerdictSays c ds ClosedMeeting =
+    (0 < length ds) × (endFrom c ds ≡ c) × ((j : ℕ) × (k : ℕ) × Meets c ds j k × ((j ≡ 0) × (k ≡ length ds) → ⊥))
 VerdictSays c ds ThereAndBack = (length ds ≡ 2) × (endFrom c ds ≡ c)
 
 -- the sum over the steps of x times the change of y

@@ -54,6 +54,14 @@ size-step (suc (suc (suc d))) c = omega (arith, stepped-bound 3 c .1)
 close : (d : ℕ) (a e : Corner) → e ≡ stepped d a → (sizeOf a ≤ sizeOf e + 1) × (sizeOf e ≤ sizeOf a + 1)
 close d a e p = (omega (arith, size-step (back d) e, ap sizeOf (ap (stepped (back d)) p ∙ stepped-back d a)), omega (arith, size-step d a, ap sizeOf p))
 
+-- how x stands above a and e, in the list of k + 1 levels: as a parent of a pair that goes up, above these parents, or as the parent of the
+-- topmost node that is made
+pub data Above (L : Corner → Corner → ℕ) (ns : List Corner) (k : ℕ) (a e x : Corner) : Type 0 where
+  over-a : linksUp L a e ≡ true → x ≡ parentOf a → (parentOf a ≡ e → ⊥) → Above L ns k a e x
+  over-e : linksUp L a e ≡ true → x ≡ parentOf e → (parentOf e ≡ a → ⊥) → Above L ns k a e x
+  higher : linksUp L a e ≡ true → List·Memᴰ x (risenBy L ns k (parentOf a) (parentOf e)) → Above L ns k a e x
+  topmost : isFresh ns e ≡ true → x ≡ parentOf e → (parentOf e ≡ a → ⊥) → Above L ns k a e x
+
 module _ (L : Corner → Corner → ℕ) where
   pub goes-up : (a e : Corner) → linksUp L a e ≡ true → (isRoot a ≡ false) × (isRoot e ≡ false) × (parentOf a ≡ parentOf e → ⊥) × (L (parentOf a) (parentOf e) ≡ 0)
   goes-up a e h =
@@ -95,88 +103,70 @@ module _ (L : Corner → Corner → ℕ) where
             ∙ ap (λ (l : List Corner). but (parentOf a) e ++ (but (parentOf e) a ++ l)) (ih (omega arith) (omega arith))
             ∙ sym (risen-up j a e p)
 
-    -- what holds of the parents of what it holds of, holds of all
-    pub risen-all : (P : Corner → Type 0) → ((x : Corner) → P x → isRoot x ≡ false → P (parentOf x)) → (k : ℕ) (a e : Corner) → P a → P e → (x : Corner) → List·Memᴰ x (risenBy L ns k a e) → P x
-    risen-all P up zero a e p q x m = absurd (List·Memᴰ·not-nil m)
-    risen-all P up (suc k) a e p q x m = go (linksUp L a e) refl (λ pa pe. risen-all P up k (parentOf a) (parentOf e) pa pe x)
+    pub risen-cases : (k : ℕ) (a e x : Corner) → List·Memᴰ x (risenBy L ns (suc k) a e) → Above L ns k a e x
+    risen-cases k a e x m = go (linksUp L a e) refl
       where
-        at : (y z : Corner) → P y → List·Memᴰ x (but y z) → P x
-        at y z h n = subst P (sym (mem-but y z x n .0)) h
+        made : (b : Bool) → isFresh ns e ≡ b → List·Memᴰ x (cond b (but (parentOf e) a) []) → Above L ns k a e x
+        made true r n = let q = mem-but (parentOf e) a x n in topmost r (q .0) (q .1)
+        made false r n = absurd (List·Memᴰ·not-nil n)
 
-        top : (b : Bool) → isFresh ns e ≡ b → List·Memᴰ x (cond (isFresh ns e) (but (parentOf e) a) []) → P x
-        top true r n = at (parentOf e) a (up e q (rooted e r)) (subst (λ (b : Bool). List·Memᴰ x (cond b (but (parentOf e) a) [])) r n)
-        top false r n = absurd (List·Memᴰ·not-nil (subst (λ (b : Bool). List·Memᴰ x (cond b (but (parentOf e) a) [])) r n))
-
-        go : (b : Bool) → linksUp L a e ≡ b → (P (parentOf a) → P (parentOf e) → List·Memᴰ x (risenBy L ns k (parentOf a) (parentOf e)) → P x) → P x
-        go false r ih = top (isFresh ns e) refl (subst (List·Memᴰ x) (risen-top k a e r) m)
-        go true r ih =
-            let g = goes-up a e r in
-            let pa = up a p (g .0) in
-            let pe = up e q (g .1) in
+        go : (b : Bool) → linksUp L a e ≡ b → Above L ns k a e x
+        go false r = made (isFresh ns e) refl (subst (List·Memᴰ x) (risen-top k a e r) m)
+        go true r =
             ⊎-elim
-            (at (parentOf a) e pa)
-            (λ n. ⊎-elim (at (parentOf e) a pe) (ih pa pe) (List·Memᴰ·append-cases (but (parentOf e) a) n))
+            (λ h. let q = mem-but (parentOf a) e x h in over-a r (q .0) (q .1))
+            (λ h. ⊎-elim (λ i. let q = mem-but (parentOf e) a x i in over-e r (q .0) (q .1)) (λ i. higher r i) (List·Memᴰ·append-cases (but (parentOf e) a) h))
             (List·Memᴰ·append-cases (but (parentOf a) e) (subst (List·Memᴰ x) (risen-up k a e r) m))
+
+    -- what holds of the parents of what it holds of, holds of all
+    pub risen-all : (P : Corner → Type 0) → ((x : Corner) → P x → isRoot x ≡ false → P (parentOf x)) → (k : ℕ) (a e : Corner) → P a → P e
+        → (x : Corner) → List·Memᴰ x (risenBy L ns k a e) → P x
+    risen-all P up zero a e p q x m = absurd (List·Memᴰ·not-nil m)
+    risen-all P up (suc k) a e p q x m = go (risen-cases k a e x m) (λ pa pe. risen-all P up k (parentOf a) (parentOf e) pa pe x)
+      where
+        go : Above L ns k a e x → (P (parentOf a) → P (parentOf e) → List·Memᴰ x (risenBy L ns k (parentOf a) (parentOf e)) → P x) → P x
+        go (over-a r s t) ih = subst P (sym s) (up a p (goes-up a e r .0))
+        go (over-e r s t) ih = subst P (sym s) (up e q (goes-up a e r .1))
+        go (higher r n) ih = ih (up a p (goes-up a e r .0)) (up e q (goes-up a e r .1)) n
+        go (topmost r s t) ih = subst P (sym s) (up e q (rooted e r))
 
     -- every node above is smaller than the greater of the two
     risen-size : (k : ℕ) (a e x : Corner) → List·Memᴰ x (risenBy L ns k a e) → (sizeOf x < sizeOf a) ⊎ (sizeOf x < sizeOf e)
     risen-size zero a e x m = absurd (List·Memᴰ·not-nil m)
-    risen-size (suc k) a e x m = go (linksUp L a e) refl (risen-size k (parentOf a) (parentOf e) x)
+    risen-size (suc k) a e x m = go (risen-cases k a e x m) (risen-size k (parentOf a) (parentOf e) x)
       where
-        top : (b : Bool) → isFresh ns e ≡ b → List·Memᴰ x (cond (isFresh ns e) (but (parentOf e) a) []) → sizeOf x < sizeOf e
-        top true r n = omega (arith, ap sizeOf (mem-but (parentOf e) a x (subst (λ (b : Bool). List·Memᴰ x (cond b (but (parentOf e) a) [])) r n) .0), sizeOf-parentOf e (rooted e r))
-        top false r n = absurd (List·Memᴰ·not-nil (subst (λ (b : Bool). List·Memᴰ x (cond b (but (parentOf e) a) [])) r n))
-
-        go : (b : Bool) → linksUp L a e ≡ b → (List·Memᴰ x (risenBy L ns k (parentOf a) (parentOf e)) → (sizeOf x < sizeOf (parentOf a)) ⊎ (sizeOf x < sizeOf (parentOf e))) → (sizeOf x < sizeOf a) ⊎ (sizeOf x < sizeOf e)
-        go false r ih = inr (top (isFresh ns e) refl (subst (List·Memᴰ x) (risen-top k a e r) m))
-        go true r ih =
+        go : Above L ns k a e x → (List·Memᴰ x (risenBy L ns k (parentOf a) (parentOf e)) → (sizeOf x < sizeOf (parentOf a)) ⊎ (sizeOf x < sizeOf (parentOf e)))
+            → (sizeOf x < sizeOf a) ⊎ (sizeOf x < sizeOf e)
+        go (over-a r s t) ih = inl (omega (arith, ap sizeOf s, sizeOf-parentOf a (goes-up a e r .0)))
+        go (over-e r s t) ih = inr (omega (arith, ap sizeOf s, sizeOf-parentOf e (goes-up a e r .1)))
+        go (higher r n) ih =
             let g = goes-up a e r in
-            let sa = sizeOf-parentOf a (g .0) in
-            let se = sizeOf-parentOf e (g .1) in
-            ⊎-elim
-            (λ h. inl (omega (arith, ap sizeOf (mem-but (parentOf a) e x h .0))))
-            (λ h.
-            ⊎-elim
-            (λ i. inr (omega (arith, ap sizeOf (mem-but (parentOf e) a x i .0))))
-            (λ i. ⊎-elim (λ j. inl (omega (arith, j))) (λ j. inr (omega (arith, j))) (ih i))
-            (List·Memᴰ·append-cases (but (parentOf e) a) h))
-            (List·Memᴰ·append-cases (but (parentOf a) e) (subst (List·Memᴰ x) (risen-up k a e r) m))
+            ⊎-elim (λ j. inl (omega (arith, j, sizeOf-parentOf a (g .0)))) (λ j. inr (omega (arith, j, sizeOf-parentOf e (g .1)))) (ih n)
+        go (topmost r s t) ih = inr (omega (arith, ap sizeOf s, sizeOf-parentOf e (rooted e r)))
 
     -- neither a nor e stands above
     risen-not : (k d : ℕ) (a e : Corner) → e ≡ stepped d a → (List·Memᴰ a (risenBy L ns k a e) → ⊥) × (List·Memᴰ e (risenBy L ns k a e) → ⊥)
     risen-not zero d a e n = (List·Memᴰ·not-nil, List·Memᴰ·not-nil)
-    risen-not (suc k) d a e n = go (linksUp L a e) refl
+    risen-not (suc k) d a e n = ((λ m. not-a (risen-cases k a e a m)), (λ m. not-e (risen-cases k a e e m)))
       where
         c : (sizeOf a ≤ sizeOf e + 1) × (sizeOf e ≤ sizeOf a + 1)
         c = close d a e n
 
-        top : (b : Bool) → isFresh ns e ≡ b → (List·Memᴰ a (cond (isFresh ns e) (but (parentOf e) a) []) → ⊥) × (List·Memᴰ e (cond (isFresh ns e) (but (parentOf e) a) []) → ⊥)
-        top false r = rw r (List·Memᴰ·not-nil, List·Memᴰ·not-nil)
-        top true r = rw r ((λ m. let q = mem-but (parentOf e) a a m in q .1 (sym (q .0))), (λ m. omega (arith, ap sizeOf (mem-but (parentOf e) a e m .0), sizeOf-parentOf e (rooted e r))))
+        not-a : Above L ns k a e a → ⊥
+        not-a (over-a r s t) = omega (arith, ap sizeOf s, sizeOf-parentOf a (goes-up a e r .0))
+        not-a (over-e r s t) = t (sym s)
+        not-a (higher r m) =
+            let g = goes-up a e r in
+            ⊎-elim (λ h. omega (arith, h, sizeOf-parentOf a (g .0))) (λ h. omega (arith, h, sizeOf-parentOf e (g .1), c .1)) (risen-size k (parentOf a) (parentOf e) a m)
+        not-a (topmost r s t) = t (sym s)
 
-        go : (b : Bool) → linksUp L a e ≡ b → (List·Memᴰ a (risenBy L ns (suc k) a e) → ⊥) × (List·Memᴰ e (risenBy L ns (suc k) a e) → ⊥)
-        go false r = rw (risen-top k a e r) (top (isFresh ns e) refl)
-        go true r = rw (risen-up k a e r) (left, right)
-          where
-            g : (isRoot a ≡ false) × (isRoot e ≡ false) × (parentOf a ≡ parentOf e → ⊥) × (L (parentOf a) (parentOf e) ≡ 0)
-            g = goes-up a e r
-
-            far : (x : Corner) → (sizeOf (parentOf a) ≤ sizeOf x) → (sizeOf (parentOf e) ≤ sizeOf x) → List·Memᴰ x (risenBy L ns k (parentOf a) (parentOf e)) → ⊥
-            far x i j m = ⊎-elim (λ h. omega (arith, h, i)) (λ h. omega (arith, h, j)) (risen-size k (parentOf a) (parentOf e) x m)
-
-            left : List·Memᴰ a (but (parentOf a) e ++ (but (parentOf e) a ++ risenBy L ns k (parentOf a) (parentOf e))) → ⊥
-            left m =
-                ⊎-elim
-                (λ h. omega (arith, ap sizeOf (mem-but (parentOf a) e a h .0), sizeOf-parentOf a (g .0)))
-                (λ h. ⊎-elim (λ i. let q = mem-but (parentOf e) a a i in q .1 (sym (q .0))) (far a (omega (arith, sizeOf-parentOf a (g .0))) (omega (arith, sizeOf-parentOf e (g .1), c .1))) (List·Memᴰ·append-cases (but (parentOf e) a) h))
-                (List·Memᴰ·append-cases (but (parentOf a) e) m)
-
-            right : List·Memᴰ e (but (parentOf a) e ++ (but (parentOf e) a ++ risenBy L ns k (parentOf a) (parentOf e))) → ⊥
-            right m =
-                ⊎-elim
-                (λ h. let q = mem-but (parentOf a) e e h in q .1 (sym (q .0)))
-                (λ h. ⊎-elim (λ i. omega (arith, ap sizeOf (mem-but (parentOf e) a e i .0), sizeOf-parentOf e (g .1))) (far e (omega (arith, sizeOf-parentOf a (g .0), c .0)) (omega (arith, sizeOf-parentOf e (g .1)))) (List·Memᴰ·append-cases (but (parentOf e) a) h))
-                (List·Memᴰ·append-cases (but (parentOf a) e) m)
+        not-e : Above L ns k a e e → ⊥
+        not-e (over-a r s t) = t (sym s)
+        not-e (over-e r s t) = omega (arith, ap sizeOf s, sizeOf-parentOf e (goes-up a e r .1))
+        not-e (higher r m) =
+            let g = goes-up a e r in
+            ⊎-elim (λ h. omega (arith, h, sizeOf-parentOf a (g .0), c .0)) (λ h. omega (arith, h, sizeOf-parentOf e (g .1))) (risen-size k (parentOf a) (parentOf e) e m)
+        not-e (topmost r s t) = omega (arith, ap sizeOf s, sizeOf-parentOf e (rooted e r))
 
     -- the parents of a pair that goes up are neighbours, too
     pub up-near : (d : ℕ) (a e : Corner) → e ≡ stepped d a → linksUp L a e ≡ true → parentOf e ≡ stepped d (parentOf a)

@@ -37,7 +37,8 @@ pub record WellLinked (ns : List Corner) (L : Corner → Corner → ℕ) : Type 
   pub order : (c : Corner) → List·Memᴰ c ns → isRoot c ≡ false → refOf ns (parentOf c) < refOf ns c
   pub ends : (x y : Corner) → 0 < L x y → List·Memᴰ x ns × List·Memᴰ y ns
   pub both : (x y : Corner) → L x y ≡ L y x
-  pub up : (x y : Corner) → 0 < L x y → isRoot x ≡ false → isRoot y ≡ false → (parentOf x ≡ parentOf y → ⊥) → 0 < L (parentOf x) (parentOf y)
+  pub up : (x y : Corner) → 0 < L x y → isRoot x ≡ false → isRoot y ≡ false → (parentOf x ≡ parentOf y → ⊥)
+      → 0 < L (parentOf x) (parentOf y)
 
 -- the nodes in their order; the step of the link of two nodes; the visits, the needing step and 1 + the first visit of a node;
 -- how often the edge between two nodes was walked
@@ -122,7 +123,9 @@ grown S e s = elim (any (same e) (S .nodes)) [ true ↦ S | false ↦ withNode S
 
 -- the state in which the parent of e is looked up, for the neighbour e of a: that of the parents' lookup, if they differ
 abbrev pub raised : State → ℕ → Corner → Corner → State
-raised S s a e = elim (isRoot a) [ true ↦ S | false ↦ elim (same (parentOf a) (parentOf e)) [ true ↦ S | false ↦ reached S s (parentOf a) (parentOf e) ] ]
+raised S s a e =
+    elim (isRoot a)
+    [ true ↦ S | false ↦ elim (same (parentOf a) (parentOf e)) [ true ↦ S | false ↦ reached S s (parentOf a) (parentOf e) ] ]
 
 -- a take-back on its way from reached S s a e to S: the links M are left, and the nodes on the path of e
 abbrev pub unlinking : State → ℕ → Corner → (Corner → Corner → ℕ) → State
@@ -139,7 +142,8 @@ unlinking S s e M = record {
 abbrev pub Agree : (Corner → Corner → ℕ) → (Corner → Corner → ℕ) → Type 0
 Agree M K = (x y : Corner) → (x ≡ y → ⊥) → M x y ≡ K x y
 
--- the links M while those of a step to z are cleared, from the node at in direction d up: they are L again, or those that the step made from here up are left
+-- the links M while those of a step to z are cleared, from the node at in direction d up: they are L again, or those that the
+-- step made from here up are left
 abbrev pub Unlinking : (Corner → Corner → ℕ) → ℕ → Corner → ℕ → (Corner → Corner → ℕ) → Corner → Type 0
 Unlinking L s z d M at = Agree M L ⊎ (Agree M (linked L s at (stepped d at)) × List·Memᴰ (stepped d at) (pathOf z))
 
@@ -156,11 +160,13 @@ isFresh ns e = not (any (same e) ns)
 abbrev pub but : Corner → Corner → List Corner
 but x y = cond (same x y) [] (x ∷ [])
 
--- the nodes above a and e whose records change, in at most k levels: the ends of the links that are made there, each left out where it is the
--- other end of the level below, and the parent of the topmost node that is made
+-- the nodes above a and e whose records change, in at most k levels: the ends of the links that are made there, each left out
+-- where it is the other end of the level below, and the parent of the topmost node that is made
 abbrev pub risenBy : (Corner → Corner → ℕ) → List Corner → ℕ → Corner → Corner → List Corner
 risenBy L ns zero a e = []
-risenBy L ns (suc k) a e = cond (linksUp L a e) (but (parentOf a) e ++ (but (parentOf e) a ++ risenBy L ns k (parentOf a) (parentOf e))) (cond (isFresh ns e) (but (parentOf e) a) [])
+risenBy L ns (suc k) a e =
+    cond (linksUp L a e) (but (parentOf a) e ++ (but (parentOf e) a ++ risenBy L ns k (parentOf a) (parentOf e)))
+    (cond (isFresh ns e) (but (parentOf e) a) [])
 
 -- two states with the same table
 pub record Alike (S T : State) : Type 0 where
@@ -242,7 +248,8 @@ pub record DropAt (words : ℕ) (S : State) (s : ℕ) (t : List ℕ) (left u : �
   pub here : refOf (gather same (S .nodes) (pathOf h)) h ≡ suc u
   pub room : width * left ≤ words
 
--- what a lookup makes of the table (t), answering the ref `at` of the node e and the number of nodes: the state T, if there is room for it
+-- what a lookup makes of the table (t), answering the ref `at` of the node e and the number of nodes: the state T, if there is
+-- room for it
 pub record Made (words : ℕ) (T : State) (e : Corner) (t : List ℕ) (at nodes : ℕ) : Type 0 where
   pub fits : width * length (T .nodes) ≤ words → (t ≡ tableBy words T) × (at ≡ refOf (T .nodes) e) × (nodes ≡ length (T .nodes))
   pub full : words < width * length (T .nodes) → at ≡ 0

@@ -69,7 +69,8 @@ pub record RowsGives (s : Corner) (chain : List ℕ) (before : List ℤ) (n : �
   pub result : n ≡ countedNumber answer
 
 -- that of two rooms that are laid over each other
-pub record OverlayGives (s : Corner) (chain : List ℕ) (t : Corner) (steps : List ℕ) (before : Part → List ℤ) (n : ℕ) (after : Part → List ℤ) (words : List ℕ) : Type 0 where
+pub record OverlayGives (s : Corner) (chain : List ℕ) (t : Corner) (steps : List ℕ) (before : Part → List ℤ) (n : ℕ)
+    (after : Part → List ℤ) (words : List ℕ) : Type 0 where
   pub answer : Overlaid
   pub laid : OverlayCall s chain t steps before answer after
   pub words-are : words ≡ overlaidWords answer

@@ -26,7 +26,8 @@ pub extern "C" fn undrwyth_walk(
     chain: &mut [u8],
     answer: &mut [u32; 11],
 ) -> u32
-    ensures { λ n. ⌜ WalkGives (corner «start_x» «start_y») (now (ops .entry)) (now (table .entry)) (now (marks .entry)) (now (chain .entry)) n (now (table .exit)) (now (marks .exit)) (now (chain .exit)) (now (answer .exit)) ⌝ }
+    ensures { λ n. ⌜ WalkGives (corner «start_x» «start_y») (now (ops .entry)) (now (table .entry)) (now (marks .entry))
+        (now (chain .entry)) n (now (table .exit)) (now (marks .exit)) (now (chain .exit)) (now (answer .exit)) ⌝ }
 {
     let a = walk::follow(Corner(start_x, start_y), ops, table, marks, chain);
     let words = walk_words(a);
@@ -48,7 +49,18 @@ pub extern "C" fn undrwyth_walk_two(
     chain1: &mut [u8],
     answer: &mut [u32; 19],
 ) -> u32
-    ensures { λ n. ⌜ PairGives (corner «start0_x» «start0_y») (corner «start1_x» «start1_y») (now (ops .entry)) record { table = now (table .entry); marks = now (marks .entry); first = now (chain0 .entry); second = now (chain1 .entry) } n record { table = now (table .exit); marks = now (marks .exit); first = now (chain0 .exit); second = now (chain1 .exit) } (now (answer .exit)) ⌝ }
+    ensures { λ n. ⌜ PairGives (corner «start0_x» «start0_y») (corner «start1_x» «start1_y») (now (ops .entry))
+        record {
+          table = now (table .entry);
+          marks = now (marks .entry);
+          first = now (chain0 .entry);
+          second = now (chain1 .entry);
+        } n record {
+          table = now (table .exit);
+          marks = now (marks .exit);
+          first = now (chain0 .exit);
+          second = now (chain1 .exit);
+        } (now (answer .exit)) ⌝ }
 {
     let start = Corner(start0_x, start0_y);
     let start2 = Corner(start1_x, start1_y);
@@ -67,7 +79,8 @@ pub extern "C" fn undrwyth_hull(
     out: &mut [i32],
     answer: &mut [u32; 3],
 ) -> u32
-    ensures { λ n. ⌜ HullGives (corner «start_x» «start_y») (now (chain .entry)) (now (out .entry)) n (now (out .exit)) (now (answer .exit)) ⌝ }
+    ensures { λ n. ⌜ HullGives (corner «start_x» «start_y») (now (chain .entry)) (now (out .entry)) n (now (out .exit))
+        (now (answer .exit)) ⌝ }
 {
     let c = hull_scan::list(Corner(start_x, start_y), chain, out);
     let words = counted_words(c);
@@ -84,7 +97,8 @@ pub extern "C" fn undrwyth_outline(
     out: &mut [u8],
     answer: &mut [u32; 3],
 ) -> u32
-    ensures { λ n. ⌜ OutlineGives (corner «start_x» «start_y») (now (chain .entry)) (now (out .entry)) n (now (out .exit)) (now (answer .exit)) ⌝ }
+    ensures { λ n. ⌜ OutlineGives (corner «start_x» «start_y») (now (chain .entry)) (now (out .entry)) n (now (out .exit))
+        (now (answer .exit)) ⌝ }
 {
     let c = outline_scan::write(Corner(start_x, start_y), chain, out);
     let words = counted_words(c);
@@ -101,7 +115,8 @@ pub extern "C" fn undrwyth_polygon_of_room(
     out: &mut [u8],
     answer: &mut [u32; 3],
 ) -> u32
-    ensures { λ n. ⌜ PolygonGives (corner «start_x» «start_y») (now (chain .entry)) (now (out .entry)) n (now (out .exit)) (now (answer .exit)) ⌝ }
+    ensures { λ n. ⌜ PolygonGives (corner «start_x» «start_y») (now (chain .entry)) (now (out .entry)) n (now (out .exit))
+        (now (answer .exit)) ⌝ }
 {
     let c = polygon_out::write(Corner(start_x, start_y), chain, out);
     let words = counted_words(c);
@@ -118,7 +133,8 @@ pub extern "C" fn undrwyth_rows(
     out: &mut [i32],
     answer: &mut [u32; 3],
 ) -> u32
-    ensures { λ n. ⌜ RowsGives (corner «start_x» «start_y») (now (chain .entry)) (now (out .entry)) n (now (out .exit)) (now (answer .exit)) ⌝ }
+    ensures { λ n. ⌜ RowsGives (corner «start_x» «start_y») (now (chain .entry)) (now (out .entry)) n (now (out .exit))
+        (now (answer .exit)) ⌝ }
 {
     let c = row_list::list(Corner(start_x, start_y), chain, out);
     let words = counted_words(c);
@@ -140,7 +156,9 @@ pub extern "C" fn undrwyth_overlay(
     both: &mut [i32],
     answer: &mut [u32; 8],
 ) -> u32
-    ensures { λ n. ⌜ OverlayGives (corner «start1_x» «start1_y») (now (chain1 .entry)) (corner «start2_x» «start2_y») (now (chain2 .entry)) (ofParts (now (first .entry)) (now (second .entry)) (now (both .entry))) n (ofParts (now (first .exit)) (now (second .exit)) (now (both .exit))) (now (answer .exit)) ⌝ }
+    ensures { λ n. ⌜ OverlayGives (corner «start1_x» «start1_y») (now (chain1 .entry)) (corner «start2_x» «start2_y»)
+        (now (chain2 .entry)) (ofParts (now (first .entry)) (now (second .entry)) (now (both .entry))) n
+        (ofParts (now (first .exit)) (now (second .exit)) (now (both .exit))) (now (answer .exit)) ⌝ }
 {
     let one = Corner(start1_x, start1_y);
     let other = Corner(start2_x, start2_y);
@@ -183,7 +201,8 @@ pub extern "C" fn undrwyth_chain_of_polygon(
 
 // Converts the digits one way or the other.
 fn give_converted(way: Way, digits: &[u8], out: &mut [u8], answer: &mut [u32; 2]) -> u32
-    ensures { λ n. ⌜ TurnsGive (convertOf way) (now (digits .entry)) (now (out .entry)) n (now (out .exit)) (now (answer .exit)) ⌝ }
+    ensures { λ n. ⌜ TurnsGive (convertOf way) (now (digits .entry)) (now (out .entry)) n (now (out .exit))
+        (now (answer .exit)) ⌝ }
 {
     let j = turns::convert(way, digits, out);
     let words = turns_words(j);

@@ -8,7 +8,8 @@ use Rattle.overlay.specs.declared.{Measure.Measure, Measures.Measures, Overlaid
 
 -- of a walk
 abbrev pub AnswerFits : Answer → Type 0
-AnswerFits (Answer.Accepted f) = (f .steps < 2 ^ 32) × (f .nodes < 2 ^ 32) × (f .corners < 2 ^ 32) × (f .j < 2 ^ 32) × (f .k < 2 ^ 32)
+AnswerFits (Answer.Accepted f) =
+    (f .steps < 2 ^ 32) × (f .nodes < 2 ^ 32) × (f .corners < 2 ^ 32) × (f .j < 2 ^ 32) × (f .k < 2 ^ 32)
 AnswerFits (Answer.Refused r) = refusalPlace r < 2 ^ 32
 
 -- of two parties

@@ -37,9 +37,11 @@ fn go_on(
     chain: &mut [u8],
 ) -> Answer
     requires { ⌜ Near start × Walked (now t) start [] (fresh start node .spot) × (length (now t) < 2 ^ 32) ⌝ }
-    requires { ⌜ (length (now marks) ≡ markWords * length (now ops)) × (length (now chain) ≡ length (now ops)) × (length (now ops) ≤ mostInput) ⌝ }
+    requires { ⌜ (length (now marks) ≡ markWords * length (now ops)) × (length (now chain) ≡ length (now ops))
+        × (length (now ops) ≤ mostInput) ⌝ }
     requires { ⌜ operationsJudged 0 0 (now ops) ≡ Good ⌝ }
-    ensures { λ r. ⌜ Followed start (now (ops .entry)) (now (t .entry)) (now (marks .entry)) (now (chain .entry)) r (now (t .exit)) (now (marks .exit)) (now (chain .exit)) ⌝ }
+    ensures { λ r. ⌜ Followed start (now (ops .entry)) (now (t .entry)) (now (marks .entry)) (now (chain .entry)) r
+        (now (t .exit)) (now (marks .exit)) (now (chain .exit)) ⌝ }
 {
     match walk_run::run(start, node, ops, t, marks, chain) {
         Ran::Full(i) => Answer::Refused(Refusal::NoRoom(i)),
@@ -51,7 +53,8 @@ fn go_on(
 fn set_out(start: Corner, ops: &[u8], t: &mut [u32], marks: &mut [u32], chain: &mut [u8]) -> Answer
     requires { ⌜ inputJudged start (now ops) (length (now t)) (length (now marks)) (length (now chain)) ≡ Good ⌝ }
     requires { ⌜ now t ≡ replicate (length (now t)) 0 ⌝ }
-    ensures { λ r. ⌜ Followed start (now (ops .entry)) (now (t .entry)) (now (marks .entry)) (now (chain .entry)) r (now (t .exit)) (now (marks .exit)) (now (chain .exit)) ⌝ }
+    ensures { λ r. ⌜ Followed start (now (ops .entry)) (now (t .entry)) (now (marks .entry)) (now (chain .entry)) r
+        (now (t .exit)) (now (marks .exit)) (now (chain .exit)) ⌝ }
 {
     let at = walk_plant::plant(t, start);
     if at == 0 {
@@ -61,9 +64,10 @@ fn set_out(start: Corner, ops: &[u8], t: &mut [u32], marks: &mut [u32], chain: &
     go_on(start, at - 1, ops, t, marks, chain)
 }
 
-// Follows the operations from start. If they are refused, the buffers are untouched, but all zero where there is no room. Else the
-// table t holds the records of the nodes in use, then zeros; the marks, three words an operation, hold the nodes in use and the visits
-// at the corner stood on after it, and how many records it changed; and the chain holds the surviving steps, then zeros.
+// Follows the operations from start. If they are refused, the buffers are untouched, but all zero where there is no room. Else
+// the table t holds the records of the nodes in use, then zeros; the marks, three words an operation, hold the nodes in use and
+// the visits at the corner stood on after it, and how many records it changed; and the chain holds the surviving steps, then
+// zeros.
 pub fn follow(
     start: Corner,
     ops: &[u8],
@@ -71,7 +75,8 @@ pub fn follow(
     marks: &mut [u32],
     chain: &mut [u8],
 ) -> Answer
-    ensures { λ r. ⌜ WalkIs start (now (ops .entry)) (now (t .entry)) (now (marks .entry)) (now (chain .entry)) r (now (t .exit)) (now (marks .exit)) (now (chain .exit)) ⌝ }
+    ensures { λ r. ⌜ WalkIs start (now (ops .entry)) (now (t .entry)) (now (marks .entry)) (now (chain .entry)) r (now (t .exit))
+        (now (marks .exit)) (now (chain .exit)) ⌝ }
 {
     let j = walk_input::input(start, ops, t.len(), marks.len(), chain.len());
     if let Judged::Refused(r) = j {
@@ -90,7 +95,8 @@ pub fn follow_clear(
     chain: &mut [u8],
 ) -> Answer
     requires { ⌜ now t ≡ replicate (length (now t)) 0 ⌝ }
-    ensures { λ r. ⌜ WalkIs start (now (ops .entry)) (now (t .entry)) (now (marks .entry)) (now (chain .entry)) r (now (t .exit)) (now (marks .exit)) (now (chain .exit)) ⌝ }
+    ensures { λ r. ⌜ WalkIs start (now (ops .entry)) (now (t .entry)) (now (marks .entry)) (now (chain .entry)) r (now (t .exit))
+        (now (marks .exit)) (now (chain .exit)) ⌝ }
 {
     let j = walk_input::input(start, ops, t.len(), marks.len(), chain.len());
     if let Judged::Refused(r) = j {

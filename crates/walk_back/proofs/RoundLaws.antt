@@ -18,8 +18,8 @@ use Rattle.tree.specs.Nodes.{refOf}
 use Rattle.tree_laws.specs.State.{State, needed, unlinking, tableBy, UnlinkAt, DropAt}
 use Rattle.walk_table.proofs.ErasureLaws.{length-unset}
 use Rattle.table_laws.proofs.Cites.{ref-below}
-use Rattle.table_laws.proofs.LookupLaws.{mem-of-ref}
-use Rattle.table_laws.proofs.StoreLaws.{read-parent}
+use Rattle.table_laws.proofs.ChildLaws.{mem-of-ref}
+use Rattle.table_laws.proofs.CellLaws.{read-parent}
 use Rattle.table_laws.proofs.UndoLaws.{unlink-to, unlink-done, unlink-top, unlink-up, drop-reads, drop-done, drop-up, drop-left, drop-falls}
 use Rattle.tree_laws.proofs.AddLaws.{ref-pos}
 use Rattle.tree_laws.proofs.LevelLaws.{gather-closed}

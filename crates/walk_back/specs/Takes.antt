@@ -16,11 +16,14 @@ use Rattle.table_laws.specs.Model.{unsetIn}
 pub record Joined (t : List ℕ) (u d : ℕ) : Type 0 where
   pub here : HasRecord t u
   pub way : d < 4
-  pub there : 0 < getD t (wordAt u (linkWord d)) 0 → (0 < getD t (wordAt u (neighbourWord d)) 0) × HasRecord t (getD t (wordAt u (neighbourWord d)) 0 - 1)
+  pub there : 0 < getD t (wordAt u (linkWord d)) 0
+      → (0 < getD t (wordAt u (neighbourWord d)) 0) × HasRecord t (getD t (wordAt u (neighbourWord d)) 0 - 1)
 
--- one level: a link of the step s is cleared at both ends, and the parent's ref is next; any other link stays, and nothing is next
+-- one level: a link of the step s is cleared at both ends, and the parent's ref is next; any other link stays, and nothing is
+-- next
 pub record Cleared (t : List ℕ) (u d s : ℕ) (t′ : List ℕ) (next : ℕ) : Type 0 where
-  pub own : getD t (wordAt u (linkWord d)) 0 ≡ s → (t′ ≡ unsetIn t u (getD t (wordAt u (neighbourWord d)) 0 - 1) d) × (next ≡ getD t′ (wordAt u parentWord) 0)
+  pub own : getD t (wordAt u (linkWord d)) 0 ≡ s
+      → (t′ ≡ unsetIn t u (getD t (wordAt u (neighbourWord d)) 0 - 1) d) × (next ≡ getD t′ (wordAt u parentWord) 0)
   pub other : (getD t (wordAt u (linkWord d)) 0 ≡ s → ⊥) → (t′ ≡ t) × (next ≡ 0)
 
 -- the links of step s are being cleared, on the way to the state S; next is the node u

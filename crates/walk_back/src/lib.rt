@@ -13,7 +13,8 @@ use walk_table::Record;
 use walk_table::put;
 use walk_table::word;
 
-// One level: clears the link of u in the direction d if the step made it. Answers the ref of the parent, the next level, or 0 if all is done.
+// One level: clears the link of u in the direction d if the step made it. Answers the ref of the parent, the next level, or 0 if
+// all is done.
 fn unlink_level(t: &mut [u32], u: usize, d: usize, step: u32) -> usize
     requires { ⌜ Joined (now t) u d × (0 < step) ⌝ }
     ensures { λ r. ⌜ Cleared (now (t .entry)) u d step (now (t .exit)) r ⌝ }
@@ -29,7 +30,8 @@ fn unlink_level(t: &mut [u32], u: usize, d: usize, step: u32) -> usize
 // Clears the links that the step made, from u in the direction d and up.
 pub fn unlink_up(t: &mut [u32], u: usize, d: usize, step: u32)
     requires { ⌜ Unlinkable (now t) u d step ⌝ }
-    ensures { λ _. ⌜ ((S : State) (z : Node) → Unlinks (now (t .entry)) u d step S z → now (t .exit) ≡ tableBy (length (now (t .entry))) (unlinking S step z (S .step))) ⌝ }
+    ensures { λ _. ⌜ ((S : State) (z : Node) → Unlinks (now (t .entry)) u d step S z
+        → now (t .exit) ≡ tableBy (length (now (t .entry))) (unlinking S step z (S .step))) ⌝ }
 {
     let mut at = u + 1;
     while at > 0 {
@@ -40,7 +42,8 @@ pub fn unlink_up(t: &mut [u32], u: usize, d: usize, step: u32)
 // One node: takes u, which stands for c, off the end of the table. Answers its parent's number.
 fn drop_node(t: &mut [u32], u: usize, c: Corner) -> usize
     requires { ⌜ Newest (now t) u c ⌝ }
-    ensures { λ r. ⌜ (r ≡ getD (now (t .entry)) (wordAt u parentWord) 0 - 1) × (now (t .exit) ≡ sets (set (now (t .entry)) (wordAt r (childWord c)) 0) (u * width) (replicate width 0)) ⌝ }
+    ensures { λ r. ⌜ (r ≡ getD (now (t .entry)) (wordAt u parentWord) 0 - 1)
+        × (now (t .exit) ≡ sets (set (now (t .entry)) (wordAt r (childWord c)) 0) (u * width) (replicate width 0)) ⌝ }
 {
     let up = word(t, u, Record::PARENT) as usize - 1;
     put(t, up, walk_corner::child_word(c), 0);
@@ -51,7 +54,8 @@ fn drop_node(t: &mut [u32], u: usize, c: Corner) -> usize
 // Takes the nodes that the step needed off the end of the table, from u (which stands for c) and up. Answers how many are left.
 pub fn drop_up(t: &mut [u32], nodes: usize, u: usize, c: Corner, step: u32) -> usize
     requires { ⌜ Droppable (now t) nodes u c step ⌝ }
-    ensures { λ r. ⌜ ((S : State) → Drops (now (t .entry)) nodes u c step S → (now (t .exit) ≡ tableBy (length (now (t .entry))) S) × (r ≡ length (S .nodes))) ⌝ }
+    ensures { λ r. ⌜ ((S : State) → Drops (now (t .entry)) nodes u c step S
+        → (now (t .exit) ≡ tableBy (length (now (t .entry))) S) × (r ≡ length (S .nodes))) ⌝ }
 {
     let mut left = nodes;
     let mut at = u;

@@ -22,7 +22,8 @@ inputJudgements c os words marks chain =
     ∷ operationsJudged 0 0 os
     ∷ []
 
--- 7 after k operations, which ds survive: the nodes needed exceed the records. Its place is k - 1, and 0 before the first operation
+-- 7 after k operations, which ds survive: the nodes needed exceed the records. Its place is k - 1, and 0 before the first
+-- operation
 abbrev pub roomAt : ℕ → Corner → ℕ → List ℕ → Judged
 roomAt records c k ds = when (ltb records (length (nodesOf (cornersFrom c ds)))) (NoRoom (pred k))
 
@@ -73,7 +74,8 @@ answerBy (Refused r) f = Answer.Refused r
 abbrev pub walkAnswer : Corner → List ℕ → ℕ → ℕ → ℕ → Answer
 walkAnswer c os words marks chain = answerBy (walkJudged c os words marks chain) (factsOf c (survivors os))
 
--- a buffer after the call: written if accepted; after a refusal all zero where it is "no room", and untouched where it is any other
+-- a buffer after the call: written if accepted; after a refusal all zero where it is "no room", and untouched where it is any
+-- other
 abbrev pub bufferBy : Judged → List ℕ → List ℕ → List ℕ
 bufferBy Good new old = new
 bufferBy (Refused r) new old = cond (eqb (refusalNumber r) (refusalNumber (NoRoom 0))) (replicate (length old) 0) old

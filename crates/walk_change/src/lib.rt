@@ -28,7 +28,8 @@ fn one_unless(x: usize, y: usize) -> u32
 // Whether the link of the parents, in the direction d of the parent of u, is the step's.
 fn links_up(t: &[u32], u: usize, d: usize, step: u32) -> bool
     requires { ⌜ HasRecord (now t) u × (d < 4) × ParentHeld (now t) u ⌝ }
-    ensures { λ r. ⌜ r ≡ (not (eqb (getD (now (t .entry)) (wordAt u parentWord) 0) 0) && eqb (getD (now (t .entry)) (wordAt (getD (now (t .entry)) (wordAt u parentWord) 0 - 1) (linkWord d)) 0) step) ⌝ }
+    ensures { λ r. ⌜ r ≡ (not (eqb (getD (now (t .entry)) (wordAt u parentWord) 0) 0)
+        && eqb (getD (now (t .entry)) (wordAt (getD (now (t .entry)) (wordAt u parentWord) 0 - 1) (linkWord d)) 0) step) ⌝ }
 {
     let up = word(t, u, Record::PARENT) as usize;
     if up == 0 {
@@ -47,7 +48,9 @@ struct Level {
 // The level above u and v: the parent of u, and its neighbour in the direction d.
 fn rise(t: &[u32], u: usize, v: usize, d: usize) -> Level
     requires { ⌜ HasRecord (now t) u × (d < 4) × LinkedAbove (now t) u d ⌝ }
-    ensures { λ r. ⌜ (r .u ≡ getD (now (t .entry)) (wordAt u parentWord) 0 - 1) × (r .v ≡ getD (now (t .entry)) (wordAt (getD (now (t .entry)) (wordAt u parentWord) 0 - 1) (neighbourWord d)) 0 - 1) × (r .count ≡ tally (not (eqb (r .u) v)) + tally (not (eqb (r .v) u))) ⌝ }
+    ensures { λ r. ⌜ (r .u ≡ getD (now (t .entry)) (wordAt u parentWord) 0 - 1)
+        × (r .v ≡ getD (now (t .entry)) (wordAt (getD (now (t .entry)) (wordAt u parentWord) 0 - 1) (neighbourWord d)) 0 - 1)
+        × (r .count ≡ tally (not (eqb (r .u) v)) + tally (not (eqb (r .v) u))) ⌝ }
 {
     let above = word(t, u, Record::PARENT) as usize - 1;
     let beside = word(t, above, Record::NEIGHBOUR + d) as usize - 1;
@@ -62,7 +65,8 @@ fn rise(t: &[u32], u: usize, v: usize, d: usize) -> Level
 // 1 where the step made the node v, and the parent of v is not u.
 fn above_made(t: &[u32], u: usize, v: usize, step: u32) -> u32
     requires { ⌜ HasRecord (now t) v × (u < 2 ^ 32) ⌝ }
-    ensures { λ r. ⌜ r ≡ tally (eqb (getD (now (t .entry)) (wordAt v needWord) 0) step && not (eqb (getD (now (t .entry)) (wordAt v parentWord) 0) (u + 1))) ⌝ }
+    ensures { λ r. ⌜ r ≡ tally (eqb (getD (now (t .entry)) (wordAt v needWord) 0) step
+        && not (eqb (getD (now (t .entry)) (wordAt v parentWord) 0) (u + 1))) ⌝ }
 {
     if word(t, v, Record::NEED) == step {
         let up = word(t, v, Record::PARENT) as usize;
@@ -71,12 +75,13 @@ fn above_made(t: &[u32], u: usize, v: usize, step: u32) -> u32
     0
 }
 
-// How many records the last step changed, which went in the direction d: its two ends, the ends of the links that it made above them, and the
-// parent of the topmost node that it made, each once.
+// How many records the last step changed, which went in the direction d: its two ends, the ends of the links that it made above
+// them, and the parent of the topmost node that it made, each once.
 pub fn changed(t: &[u32], w: Spot, d: u8) -> u32
     requires { ⌜ Stepped (now t) w d ⌝ }
     requires { ⌜ (d < 4) × (w .steps < 65537) × (length (now t) < 2 ^ 32) ⌝ }
-    ensures { λ r. ⌜ ((c : Node) (ds : List ℕ) → Walked (now (t .entry)) c (ds ++ (d ∷ [])) w → r ≡ changesOf c ds (ds ++ (d ∷ []))) ⌝ }
+    ensures { λ r. ⌜ ((c : Node) (ds : List ℕ) → Walked (now (t .entry)) c (ds ++ (d ∷ [])) w
+        → r ≡ changesOf c ds (ds ++ (d ∷ []))) ⌝ }
 {
     let step = w.steps as u32;
     let way = d as usize;

@@ -1,4 +1,5 @@
-// Corners as the code has them: where a step leads, the parent, the child's word, and whether the parents of two neighbours differ.
+// Corners as the code has them: where a step leads, the parent, the child's word, and whether the parents of two neighbours
+// differ.
 ghost use mathlib.Core.Path.{_≡_};
 ghost use Prim.Native.Nat.{_<_, _≤_};
 ghost use lib.IntN.{natAbs, _+ℤ_};
@@ -120,8 +121,8 @@ pub fn alike(a: Corner, b: Corner) -> bool
     true
 }
 
-// Whether neither c nor its neighbour in the direction d is the root, and their parents differ. The parents alone tell it: those of the
-// root and of each neighbour of it are both the root.
+// Whether neither c nor its neighbour in the direction d is the root, and their parents differ. The parents alone tell it: those
+// of the root and of each neighbour of it are both the root.
 pub fn parted(c: Corner, d: u8) -> bool
     requires { ⌜ (natAbs (c .0) < 65536) × (natAbs (c .1) < 65536) ⌝ }
     ensures { λ r. ⌜ r ≡ partedBy d c ⌝ }

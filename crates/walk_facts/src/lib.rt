@@ -79,8 +79,8 @@ fn verdict(n: usize, closed: bool, j: usize, k: usize) -> Verdict
     Verdict::Room
 }
 
-// The facts of n steps from start, which stand in the chain and end at the corner last: all but the nodes. They are closed if they end
-// at the start.
+// The facts of n steps from start, which stand in the chain and end at the corner last: all but the nodes. They are closed if
+// they end at the start.
 pub fn party_facts(start: Corner, chain: &[u8], n: usize, last: Corner, tally: Tally) -> PartyFacts
     requires { ⌜ SomeOver start (now chain) n last tally ⌝ }
     ensures { λ r. ⌜ ((ds : List ℕ) → WalkOver start (now (chain .entry)) ds n last tally → r ≡ partyFactsOf start ds) ⌝ }

@@ -1,6 +1,6 @@
-// The neighbour of a node, found or made: a loop climbs to the parents until a link, the root or a shared parent is found, and a loop
-// comes down again. Nothing here calls itself. A node is answered by its ref, 0 if there was no room; so many nodes are in use then as
-// the greater of how many there were and that ref, since a node that is made is the last one.
+// The neighbour of a node, found or made: a loop climbs to the parents until a link, the root or a shared parent is found, and a
+// loop comes down again. Nothing here calls itself. A node is answered by its ref, 0 if there was no room; so many nodes are in
+// use then as the greater of how many there were and that ref, since a node that is made is the last one.
 ghost use mathlib.Core.Path.{_≡_};
 ghost use mathlib.Core.Bool.{false, cond};
 ghost use Prim.Native.Nat.{suc, _+_, _^_, _<_, max};
@@ -25,8 +25,11 @@ use walk_table::zero;
 pub fn child(t: &mut [u32], nodes: usize, u: usize, place: usize, step: u32) -> usize
     requires { ⌜ Held (now t) nodes ⌝ }
     requires { ⌜ (u < nodes) × (0 < place) × (place < 10) × (length (now t) < 2 ^ 32) ⌝ }
-    ensures { λ r. ⌜ ((S : State) (e : Node) → Holds (now (t .entry)) nodes S → isRoot e ≡ false → refOf (S .nodes) (parentOf e) ≡ suc u → place ≡ childWord e → Made (length (now (t .entry))) (grown S e step) e (now (t .exit)) r (max nodes r)) ⌝ }
-    ensures { λ r. ⌜ (now (t .exit) ≡ childIn (now (t .entry)) nodes u place step .table) × (r ≡ childIn (now (t .entry)) nodes u place step .at) ⌝ }
+    ensures { λ r. ⌜ ((S : State) (e : Node) → Holds (now (t .entry)) nodes S → isRoot e ≡ false
+        → refOf (S .nodes) (parentOf e) ≡ suc u → place ≡ childWord e
+        → Made (length (now (t .entry))) (grown S e step) e (now (t .exit)) r (max nodes r)) ⌝ }
+    ensures { λ r. ⌜ (now (t .exit) ≡ childIn (now (t .entry)) nodes u place step .table)
+        × (r ≡ childIn (now (t .entry)) nodes u place step .at) ⌝ }
 {
     let known = word(t, u, place) as usize;
     if known != 0 {
@@ -64,7 +67,8 @@ fn goes_up(t: &[u32], u: usize, c: Corner, d: u8) -> bool
 fn climb(t: &[u32], nodes: usize, u: usize, c: Corner, d: u8) -> Perch
     requires { ⌜ Stood (now t) nodes u c ⌝ }
     requires { ⌜ (natAbs (c .0) < 65536) × (natAbs (c .1) < 65536) × (d < 4) ⌝ }
-    ensures { λ r. ⌜ ((S : State) → Holds (now (t .entry)) nodes S → refOf (S .nodes) c ≡ suc u → Climbed S d c (r .level) (r .at) × (refOf (S .nodes) (r .at) ≡ suc (r .node))) ⌝ }
+    ensures { λ r. ⌜ ((S : State) → Holds (now (t .entry)) nodes S → refOf (S .nodes) c ≡ suc u
+        → Climbed S d c (r .level) (r .at) × (refOf (S .nodes) (r .at) ≡ suc (r .node))) ⌝ }
     ensures { λ r. ⌜ (goesUp (now (t .entry)) (r .node) (r .at) d ≡ false) ⌝ }
 {
     let mut node = u;
@@ -95,7 +99,8 @@ fn top(t: &mut [u32], nodes: usize, u: usize, c: Corner, d: u8, step: u32) -> us
     requires { ⌜ Stood (now t) nodes u c ⌝ }
     requires { ⌜ (natAbs (c .0) < 65536) × (natAbs (c .1) < 65536) × (d < 4) × (0 < step) × (length (now t) < 2 ^ 32) ⌝ }
     requires { ⌜ goesUp (now t) u c d ≡ false ⌝ }
-    ensures { λ r. ⌜ ((S : State) → Holds (now (t .entry)) nodes S → refOf (S .nodes) c ≡ suc u → Made (length (now (t .entry))) (reached S step c (stepped d c)) (stepped d c) (now (t .exit)) r (max nodes r)) ⌝ }
+    ensures { λ r. ⌜ ((S : State) → Holds (now (t .entry)) nodes S → refOf (S .nodes) c ≡ suc u
+        → Made (length (now (t .entry))) (reached S step c (stepped d c)) (stepped d c) (now (t .exit)) r (max nodes r)) ⌝ }
 {
     let way = d as usize;
     let known = word(t, u, Record::NEIGHBOUR + way) as usize;
@@ -116,8 +121,8 @@ fn top(t: &mut [u32], nodes: usize, u: usize, c: Corner, d: u8, step: u32) -> us
     v
 }
 
-// Down again to the neighbour of c, from that of the node u so many levels above c, whose ref is v. The node of a level is read in
-// the record of the one above, its corner worked out from c.
+// Down again to the neighbour of c, from that of the node u so many levels above c, whose ref is v. The node of a level is read
+// in the record of the one above, its corner worked out from c.
 fn come_down(
     t: &mut [u32],
     nodes: usize,
@@ -129,8 +134,10 @@ fn come_down(
     level: usize,
 ) -> usize
     requires { ⌜ Descending (now t) nodes u v c d step level ⌝ }
-    requires { ⌜ (natAbs (c .0) < 65536) × (natAbs (c .1) < 65536) × (d < 4) × (0 < step) × (length (now t) < 2 ^ 32) × (0 < v) ⌝ }
-    ensures { λ r. ⌜ ((S : State) → Descends (now (t .entry)) nodes u v c d step level S → Made (length (now (t .entry))) (reached S step c (stepped d c)) (stepped d c) (now (t .exit)) r (max nodes r)) ⌝ }
+    requires { ⌜ (natAbs (c .0) < 65536) × (natAbs (c .1) < 65536) × (d < 4) × (0 < step)
+        × (length (now t) < 2 ^ 32) × (0 < v) ⌝ }
+    ensures { λ r. ⌜ ((S : State) → Descends (now (t .entry)) nodes u v c d step level S
+        → Made (length (now (t .entry))) (reached S step c (stepped d c)) (stepped d c) (now (t .exit)) r (max nodes r)) ⌝ }
 {
     let mut at = u;
     let mut to = v;
@@ -159,7 +166,8 @@ fn come_down(
 fn neighbour(t: &mut [u32], nodes: usize, u: usize, c: Corner, d: u8, step: u32) -> usize
     requires { ⌜ Stood (now t) nodes u c ⌝ }
     requires { ⌜ (natAbs (c .0) < 65536) × (natAbs (c .1) < 65536) × (d < 4) × (0 < step) × (length (now t) < 2 ^ 32) ⌝ }
-    ensures { λ r. ⌜ ((S : State) → Holds (now (t .entry)) nodes S → refOf (S .nodes) c ≡ suc u → Made (length (now (t .entry))) (reached S step c (stepped d c)) (stepped d c) (now (t .exit)) r (max nodes r)) ⌝ }
+    ensures { λ r. ⌜ ((S : State) → Holds (now (t .entry)) nodes S → refOf (S .nodes) c ≡ suc u
+        → Made (length (now (t .entry))) (reached S step c (stepped d c)) (stepped d c) (now (t .exit)) r (max nodes r)) ⌝ }
 {
     let p = climb(t, nodes, u, c, d);
     let v = top(t, nodes, p.node, p.at, d, step);
@@ -173,7 +181,8 @@ fn neighbour(t: &mut [u32], nodes: usize, u: usize, c: Corner, d: u8, step: u32)
 pub fn reach(t: &mut [u32], nodes: usize, u: usize, c: Corner, d: u8, step: u32) -> usize
     requires { ⌜ Stood (now t) nodes u c ⌝ }
     requires { ⌜ (natAbs (c .0) < 65536) × (natAbs (c .1) < 65536) × (d < 4) × (0 < step) × (length (now t) < 2 ^ 32) ⌝ }
-    ensures { λ r. ⌜ ((S : State) → Holds (now (t .entry)) nodes S → refOf (S .nodes) c ≡ suc u → Made (length (now (t .entry))) (reached S step c (stepped d c)) (stepped d c) (now (t .exit)) r (max nodes r)) ⌝ }
+    ensures { λ r. ⌜ ((S : State) → Holds (now (t .entry)) nodes S → refOf (S .nodes) c ≡ suc u
+        → Made (length (now (t .entry))) (reached S step c (stepped d c)) (stepped d c) (now (t .exit)) r (max nodes r)) ⌝ }
     ensures { λ r. ⌜ (r ≡ 0 → now (t .exit) ≡ replicate (length (now (t .entry))) 0) ⌝ }
 {
     let known = word(t, u, Record::NEIGHBOUR + d as usize) as usize;

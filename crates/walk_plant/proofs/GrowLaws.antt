@@ -19,7 +19,7 @@ use Rattle.grid.proofs.PathLaws.{sizeOf-parentOf, pathOf-root}
 use Rattle.tree.proofs.StartLaws.{nodes-start}
 use Rattle.table_laws.specs.Model.{visitIn}
 use Rattle.table_laws.proofs.PlantLaws.{planted-root, planted-next, planted-sound, planted-visit, length-path, path-up, ref-path}
-use Rattle.table_laws.proofs.StoreLaws.{alike-table, read-visits}
+use Rattle.table_laws.proofs.CellLaws.{alike-table, read-visits}
 use Rattle.table_laws.proofs.TakeLaws.{visit-made}
 use Rattle.walk_plant.specs.Plants.{Deep, Grown, Planted}
 

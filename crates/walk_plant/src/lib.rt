@@ -1,5 +1,5 @@
-// The start of a walk, planted in a table of zeros: its ancestors from the root down, each the child of the one before, then the start
-// itself and its first visit.
+// The start of a walk, planted in a table of zeros: its ancestors from the root down, each the child of the one before, then the
+// start itself and its first visit.
 ghost use mathlib.Core.Path.{_≡_};
 ghost use Prim.Native.Nat.{_^_, _<_, _≤_};
 ghost use lib.ListN.{length, replicate};
@@ -22,8 +22,8 @@ pub fn depth(c: Corner) -> usize
     levels
 }
 
-// The nodes from the root down to c, in a table of zeros; no step needs them. Answers the ref of c, which is how many they are, 0 if
-// there is no room.
+// The nodes from the root down to c, in a table of zeros; no step needs them. Answers the ref of c, which is how many they are, 0
+// if there is no room.
 fn grow(t: &mut [u32], c: Corner) -> usize
     requires { ⌜ Near c × (now t ≡ replicate (length (now t)) 0) × (width ≤ length (now t)) × (length (now t) < 2 ^ 32) ⌝ }
     ensures { λ r. ⌜ Grown (length (now (t .entry))) c (now (t .exit)) r ⌝ }
@@ -41,7 +41,8 @@ fn grow(t: &mut [u32], c: Corner) -> usize
     nodes
 }
 
-// Makes a table of zeros that of the walk from c with no step. Answers the ref of c, 0 if there is no room: then the table is cleared.
+// Makes a table of zeros that of the walk from c with no step. Answers the ref of c, 0 if there is no room: then the table is
+// cleared.
 pub fn plant(t: &mut [u32], c: Corner) -> usize
     requires { ⌜ Near c × (now t ≡ replicate (length (now t)) 0) × (width ≤ length (now t)) × (length (now t) < 2 ^ 32) ⌝ }
     ensures { λ r. ⌜ Planted (length (now (t .entry))) c (now (t .exit)) r ⌝ }

@@ -27,7 +27,7 @@ use Rattle.layout.specs.Table.{width, wordAt, visitsWord}
 use Rattle.table_laws.proofs.Cites.{ref-below}
 use Rattle.table_laws.proofs.DiffLaws.{changes-back}
 use Rattle.table_laws.proofs.RowLaws.{table-state}
-use Rattle.table_laws.proofs.StoreLaws.{read-visits}
+use Rattle.table_laws.proofs.CellLaws.{read-visits}
 use Rattle.steps.proofs.SurvivorLaws.{operate-step, operate-back, fine-step}
 use Rattle.walk_run.specs.Runs.{Chained, Applied, StepDone, Tells, Performed}
 

@@ -46,19 +46,29 @@ StepDone t w o = (o ≡ 4 → ⊥) → Stepped t w o × (o < 4) × (w .steps < 6
 
 -- how many records the operation o changed: so many as were told before a take-back, and as the step did otherwise
 abbrev pub Tells : List ℕ → Spot → ℕ → ℕ → ℕ → Type 0
-Tells t w o before r = (o ≡ 4 → r ≡ before) × ((o ≡ 4 → ⊥) → (c : Corner) (ds : List ℕ) → Walked t c (ds ++ (o ∷ [])) w → r ≡ changesOf c ds (ds ++ (o ∷ [])))
+Tells t w o before r =
+    (o ≡ 4 → r ≡ before)
+    × ((o ≡ 4 → ⊥) → (c : Corner) (ds : List ℕ) → Walked t c (ds ++ (o ∷ [])) w → r ≡ changesOf c ds (ds ++ (o ∷ [])))
 
 -- the same with its mark, at place i of the marks ms₀; the steps were ds, and are es
 abbrev pub Performed : ℕ → List ℕ → ℕ → Corner → List ℕ → List ℕ → List ℕ → List ℕ → List ℕ → Moved → Type 0
-Performed words ms₀ i c t ms chain ds es (Moved.To w) = Chained c t chain es w × (length t ≡ words) × (ms ≡ sets ms₀ (markWords * i) (markOf c ds es))
-Performed words ms₀ i c t ms chain ds es Moved.Full = (words < width * length (nodesOf (cornersFrom c es))) × (t ≡ replicate words 0)
+Performed words ms₀ i c t ms chain ds es (Moved.To w) =
+    Chained c t chain es w × (length t ≡ words) × (ms ≡ sets ms₀ (markWords * i) (markOf c ds es))
+Performed words ms₀ i c t ms chain ds es Moved.Full =
+    (words < width * length (nodesOf (cornersFrom c es))) × (t ≡ replicate words 0)
 
 -- the answer to all of them, with the chain as it then stands
 abbrev pub PerformedAll : ℕ → Corner → List ℕ → List ℕ → List ℕ → List ℕ → Ran → Type 0
-PerformedAll words c ops t ms chain (Ran.All w) = Chained c t chain (survivors ops) w × (ms ≡ marksOf c ops) × (roomFrom (recordsIn words) c 0 [] ops ≡ Good)
-PerformedAll words c ops t ms chain (Ran.Full i) = (roomFrom (recordsIn words) c 0 [] ops ≡ Refused (NoRoom i)) × (t ≡ replicate words 0)
+PerformedAll words c ops t ms chain (Ran.All w) =
+    Chained c t chain (survivors ops) w × (ms ≡ marksOf c ops) × (roomFrom (recordsIn words) c 0 [] ops ≡ Good)
+PerformedAll words c ops t ms chain (Ran.Full i) =
+    (roomFrom (recordsIn words) c 0 [] ops ≡ Refused (NoRoom i)) × (t ≡ replicate words 0)
 
 -- the answer to all of them: the walk, with zeros behind its steps in the chain, or all three buffers zero
 abbrev pub Ended : ℕ → Corner → List ℕ → List ℕ → List ℕ → List ℕ → Ran → Type 0
-Ended words c ops t ms chain (Ran.All w) = Chained c t chain (survivors ops) w × (chain ≡ chainOf ops) × (ms ≡ marksOf c ops) × (roomFrom (recordsIn words) c 0 [] ops ≡ Good)
-Ended words c ops t ms chain (Ran.Full i) = (roomFrom (recordsIn words) c 0 [] ops ≡ Refused (NoRoom i)) × (t ≡ replicate words 0) × (ms ≡ replicate (length ms) 0) × (chain ≡ replicate (length chain) 0)
+Ended words c ops t ms chain (Ran.All w) =
+    Chained c t chain (survivors ops) w × (chain ≡ chainOf ops) × (ms ≡ marksOf c ops)
+    × (roomFrom (recordsIn words) c 0 [] ops ≡ Good)
+Ended words c ops t ms chain (Ran.Full i) =
+    (roomFrom (recordsIn words) c 0 [] ops ≡ Refused (NoRoom i)) × (t ≡ replicate words 0) × (ms ≡ replicate (length ms) 0)
+    × (chain ≡ replicate (length chain) 0)

@@ -30,7 +30,8 @@ pub enum Ran {
 fn apply(t: &mut [u32], chain: &mut [u8], w: Walk, op: u8) -> Moved
     requires { ⌜ Ready (now t) (now chain) w op ⌝ }
     requires { ⌜ length (now t) < 2 ^ 32 ⌝ }
-    ensures { λ r. ⌜ ((c : Node) (ds : List ℕ) → Chained c (now (t .entry)) (now (chain .entry)) ds w → Applied (length (now (t .entry))) c (now (t .exit)) (now (chain .exit)) (operate ds op) r) ⌝ }
+    ensures { λ r. ⌜ ((c : Node) (ds : List ℕ) → Chained c (now (t .entry)) (now (chain .entry)) ds w
+        → Applied (length (now (t .entry))) c (now (t .exit)) (now (chain .exit)) (operate ds op) r) ⌝ }
 {
     if op == 4 {
         let last = w.spot.steps - 1;
@@ -42,11 +43,13 @@ fn apply(t: &mut [u32], chain: &mut [u8], w: Walk, op: u8) -> Moved
     walk_step::advance(t, w, op)
 }
 
-// How many records a take-back is about to change: as many as its step did. Asked before it, while the step's words are there; 0 for a step.
+// How many records a take-back is about to change: as many as its step did. Asked before it, while the step's words are there; 0
+// for a step.
 fn taken(t: &[u32], chain: &[u8], w: Walk, op: u8) -> u32
     requires { ⌜ Ready (now t) (now chain) w op ⌝ }
     requires { ⌜ length (now t) < 2 ^ 32 ⌝ }
-    ensures { λ r. ⌜ ((c : Node) (ds : List ℕ) → Chained c (now (t .entry)) (now (chain .entry)) ds w → op ≡ 4 → r ≡ changesOf c ds (operate ds op)) ⌝ }
+    ensures { λ r. ⌜ ((c : Node) (ds : List ℕ) → Chained c (now (t .entry)) (now (chain .entry)) ds w → op ≡ 4
+        → r ≡ changesOf c ds (operate ds op)) ⌝ }
 {
     if op == 4 {
         let spot = w.spot;
@@ -70,8 +73,10 @@ fn told(t: &[u32], w: Spot, op: u8, before: u32) -> u32
 
 // The mark at place i: the nodes in use, the visits at the corner stood on, and the records that changed.
 fn mark(t: &[u32], marks: &mut [u32], w: Spot, i: usize, changed: u32)
-    requires { ⌜ (wordAt (w .node) visitsWord < length (now t)) × (markWords * i + 2 < length (now marks)) × (w .nodes < 2 ^ 32) × (i < 2 ^ 32) ⌝ }
-    ensures { λ _. ⌜ now (marks .exit) ≡ set (set (set (now (marks .entry)) (markWords * i) (w .nodes)) (markWords * i + 1) (getD (now (t .entry)) (wordAt (w .node) visitsWord) 0)) (markWords * i + 2) changed ⌝ }
+    requires { ⌜ (wordAt (w .node) visitsWord < length (now t)) × (markWords * i + 2 < length (now marks))
+        × (w .nodes < 2 ^ 32) × (i < 2 ^ 32) ⌝ }
+    ensures { λ _. ⌜ now (marks .exit) ≡ set (set (set (now (marks .entry)) (markWords * i) (w .nodes)) (markWords * i + 1)
+        (getD (now (t .entry)) (wordAt (w .node) visitsWord) 0)) (markWords * i + 2) changed ⌝ }
 {
     let r = w.node;
     marks[Walk::MARK_WORDS * i] = w.nodes as u32;
@@ -83,7 +88,9 @@ fn mark(t: &[u32], marks: &mut [u32], w: Spot, i: usize, changed: u32)
 fn perform(t: &mut [u32], marks: &mut [u32], chain: &mut [u8], w: Walk, op: u8, i: usize) -> Moved
     requires { ⌜ Ready (now t) (now chain) w op ⌝ }
     requires { ⌜ (length (now t) < 2 ^ 32) × (markWords * suc i ≤ length (now marks)) × (i < 2 ^ 32) ⌝ }
-    ensures { λ r. ⌜ ((c : Node) (ds : List ℕ) → Chained c (now (t .entry)) (now (chain .entry)) ds w → Performed (length (now (t .entry))) (now (marks .entry)) i c (now (t .exit)) (now (marks .exit)) (now (chain .exit)) ds (operate ds op) r) ⌝ }
+    ensures { λ r. ⌜ ((c : Node) (ds : List ℕ) → Chained c (now (t .entry)) (now (chain .entry)) ds w
+        → Performed (length (now (t .entry))) (now (marks .entry)) i c (now (t .exit)) (now (marks .exit)) (now (chain .exit))
+        ds (operate ds op) r) ⌝ }
 {
     let before = taken(t, chain, w, op);
     match apply(t, chain, w, op) {
@@ -107,9 +114,11 @@ fn perform_all(
     chain: &mut [u8],
 ) -> Ran
     requires { ⌜ Near start × Walked (now t) start [] (fresh start node .spot) × (length (now t) < 2 ^ 32) ⌝ }
-    requires { ⌜ (length (now marks) ≡ markWords * length (now ops)) × (length (now chain) ≡ length (now ops)) × (length (now ops) ≤ mostInput) ⌝ }
+    requires { ⌜ (length (now marks) ≡ markWords * length (now ops)) × (length (now chain) ≡ length (now ops))
+        × (length (now ops) ≤ mostInput) ⌝ }
     requires { ⌜ operationsJudged 0 0 (now ops) ≡ Good ⌝ }
-    ensures { λ r. ⌜ PerformedAll (length (now (t .entry))) start (now (ops .entry)) (now (t .exit)) (now (marks .exit)) (now (chain .exit)) r ⌝ }
+    ensures { λ r. ⌜ PerformedAll (length (now (t .entry))) start (now (ops .entry)) (now (t .exit)) (now (marks .exit))
+        (now (chain .exit)) r ⌝ }
 {
     let mut w = Walk::new(start, node);
     let mut i = 0;
@@ -127,8 +136,8 @@ fn perform_all(
     Ran::All(w)
 }
 
-// All operations, in the table of the walk from start with no step, which stands at the node. Behind the surviving steps the chain is
-// cleared. If the table has no room, all three buffers are.
+// All operations, in the table of the walk from start with no step, which stands at the node. Behind the surviving steps the
+// chain is cleared. If the table has no room, all three buffers are.
 pub fn run(
     start: Corner,
     node: usize,
@@ -138,9 +147,11 @@ pub fn run(
     chain: &mut [u8],
 ) -> Ran
     requires { ⌜ Near start × Walked (now t) start [] (fresh start node .spot) × (length (now t) < 2 ^ 32) ⌝ }
-    requires { ⌜ (length (now marks) ≡ markWords * length (now ops)) × (length (now chain) ≡ length (now ops)) × (length (now ops) ≤ mostInput) ⌝ }
+    requires { ⌜ (length (now marks) ≡ markWords * length (now ops)) × (length (now chain) ≡ length (now ops))
+        × (length (now ops) ≤ mostInput) ⌝ }
     requires { ⌜ operationsJudged 0 0 (now ops) ≡ Good ⌝ }
-    ensures { λ r. ⌜ Ended (length (now (t .entry))) start (now (ops .entry)) (now (t .exit)) (now (marks .exit)) (now (chain .exit)) r ⌝ }
+    ensures { λ r. ⌜ Ended (length (now (t .entry))) start (now (ops .entry)) (now (t .exit)) (now (marks .exit))
+        (now (chain .exit)) r ⌝ }
 {
     match perform_all(start, node, ops, t, marks, chain) {
         Ran::All(w) => {

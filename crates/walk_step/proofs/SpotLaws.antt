@@ -19,10 +19,10 @@ use Rattle.grid.proofs.CornerLaws.{same-refl}
 use Rattle.grid.proofs.JoinLaws.{joins-here}
 use Rattle.grid.proofs.StepLaws.{back-mod, stepped-back, endFrom-snoc}
 use Rattle.table_laws.proofs.Cites.{stood, ref-below, made-holds}
-use Rattle.table_laws.proofs.LookupLaws.{length-table}
+use Rattle.table_laws.proofs.ChildLaws.{length-table}
 use Rattle.table_laws.proofs.RowLaws.{table-state}
 use Rattle.table_laws.proofs.StateLaws.{sound-step, links-small, needs-small, room-old}
-use Rattle.table_laws.proofs.StoreLaws.{read-visits, read-edge}
+use Rattle.table_laws.proofs.CellLaws.{read-visits, read-edge}
 use Rattle.table_laws.proofs.TakeLaws.{back-from}
 use Rattle.table_laws.proofs.WalkLaws.{walk-holds, from-kept, go-full, go-edge, go-fits, take-unlinks, take-drops}
 use Rattle.tree_laws.proofs.AddLaws.{ref-pos}

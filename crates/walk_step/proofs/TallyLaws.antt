@@ -20,7 +20,7 @@ use Rattle.grid.proofs.CornerLaws.{same-refl}
 use Rattle.grid.proofs.StepLaws.{endFrom-snoc}
 use Rattle.table_laws.proofs.Cites.{ref-below}
 use Rattle.table_laws.proofs.RowLaws.{table-state}
-use Rattle.table_laws.proofs.StoreLaws.{read-visits, read-first}
+use Rattle.table_laws.proofs.CellLaws.{read-visits, read-first}
 use Rattle.tree_laws.proofs.MeetLaws.{met, unmet, push-meeting, pop-meeting}
 use Rattle.tree_laws.proofs.PushLaws.{push-visits, push-first, push-visited, sound-walk}
 use Rattle.walk_step.specs.declared.Spot.{Spot}

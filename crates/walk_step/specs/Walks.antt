@@ -16,7 +16,11 @@ use Rattle.walk_step.specs.Tallies.{TallyIs}
 
 -- the walk with no step, at its start, which is the last of the nodes
 abbrev pub fresh : Corner → ℕ → Walk
-fresh c node = record { spot = record { node = node; at = c; steps = 0; nodes = node + 1 }; tally = record { corners = 1; j = noMeeting; k = noMeeting } }
+fresh c node =
+    record {
+      spot = record { node = node; at = c; steps = 0; nodes = node + 1 };
+      tally = record { corners = 1; j = noMeeting; k = noMeeting };
+    }
 
 -- the table is that of the walk from c with the steps ds, and w is where it stands, with its tally
 pub record Known (t : List ℕ) (c : Corner) (ds : List ℕ) (w : Walk) : Type 0 where
@@ -35,8 +39,8 @@ pub record Withdrawable (t : List ℕ) (w : Walk) (d : ℕ) : Type 0 where
   pub chain : List ℕ
   pub known : Known t start (chain ++ (d ∷ [])) w
 
--- the answer to a step, where ds are the steps with it: the walk stands there, or its nodes are more than the table has records, and the
--- table is left all zero
+-- the answer to a step, where ds are the steps with it: the walk stands there, or its nodes are more than the table has records,
+-- and the table is left all zero
 abbrev pub Advanced : ℕ → List ℕ → Corner → List ℕ → Moved → Type 0
 Advanced words t c ds (Moved.To w) = Known t c ds w × (length t ≡ words)
 Advanced words t c ds Moved.Full = (words < width * length (nodesOf (cornersFrom c ds))) × (t ≡ replicate words 0)

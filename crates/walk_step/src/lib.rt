@@ -88,8 +88,10 @@ pub enum Moved {
 // One step in the direction d.
 fn go(t: &mut [u32], w: Spot, d: u8) -> Gone
     requires { ⌜ Standing (now t) w ⌝ }
-    requires { ⌜ (natAbs (w .at .0) < 65536) × (natAbs (w .at .1) < 65536) × (d < 4) × (w .steps < 65536) × (length (now t) < 2 ^ 32) ⌝ }
-    ensures { λ r. ⌜ ((c : Node) (ds : List ℕ) → Walked (now (t .entry)) c ds w → Went (length (now (t .entry))) (now (t .exit)) c (ds ++ (d ∷ [])) r) ⌝ }
+    requires { ⌜ (natAbs (w .at .0) < 65536) × (natAbs (w .at .1) < 65536) × (d < 4) × (w .steps < 65536)
+        × (length (now t) < 2 ^ 32) ⌝ }
+    ensures { λ r. ⌜ ((c : Node) (ds : List ℕ) → Walked (now (t .entry)) c ds w
+        → Went (length (now (t .entry))) (now (t .exit)) c (ds ++ (d ∷ [])) r) ⌝ }
 {
     let n = w.steps + 1;
     let here = w.at;
@@ -138,7 +140,8 @@ fn take_back(t: &mut [u32], w: Spot, d: u8) -> Spot
 fn tallied(t: &[u32], w: Spot, m: Tally, d: u8) -> Tally
     requires { ⌜ Stepped (now t) w d ⌝ }
     requires { ⌜ (w .steps < noMeeting) × (m .corners < 65536) ⌝ }
-    ensures { λ r. ⌜ ((c : Node) (ds : List ℕ) → Walked (now (t .entry)) c (ds ++ (d ∷ [])) w → TallyIs c ds m → TallyIs c (ds ++ (d ∷ [])) r) ⌝ }
+    ensures { λ r. ⌜ ((c : Node) (ds : List ℕ) → Walked (now (t .entry)) c (ds ++ (d ∷ [])) w → TallyIs c ds m
+        → TallyIs c (ds ++ (d ∷ [])) r) ⌝ }
 {
     let node = w.node;
     let n = w.steps;
@@ -165,7 +168,8 @@ fn tallied(t: &[u32], w: Spot, m: Tally, d: u8) -> Tally
 fn untallied(t: &[u32], w: Spot, m: Tally, d: u8) -> Tally
     requires { ⌜ Stepped (now t) w d ⌝ }
     requires { ⌜ (w .steps < noMeeting) × (0 < m .corners) ⌝ }
-    ensures { λ r. ⌜ ((c : Node) (ds : List ℕ) → Walked (now (t .entry)) c (ds ++ (d ∷ [])) w → TallyIs c (ds ++ (d ∷ [])) m → TallyIs c ds r) ⌝ }
+    ensures { λ r. ⌜ ((c : Node) (ds : List ℕ) → Walked (now (t .entry)) c (ds ++ (d ∷ [])) w
+        → TallyIs c (ds ++ (d ∷ [])) m → TallyIs c ds r) ⌝ }
 {
     let node = w.node;
     let n = w.steps;
@@ -190,8 +194,10 @@ fn untallied(t: &[u32], w: Spot, m: Tally, d: u8) -> Tally
 // One step of the walk in the direction d.
 pub fn advance(t: &mut [u32], w: Walk, d: u8) -> Moved
     requires { ⌜ Knowing (now t) w ⌝ }
-    requires { ⌜ (natAbs (w .spot .at .0) < 65536) × (natAbs (w .spot .at .1) < 65536) × (d < 4) × (w .spot .steps + 1 < noMeeting) × (length (now t) < 2 ^ 32) ⌝ }
-    ensures { λ r. ⌜ ((c : Node) (ds : List ℕ) → Known (now (t .entry)) c ds w → Advanced (length (now (t .entry))) (now (t .exit)) c (ds ++ (d ∷ [])) r) ⌝ }
+    requires { ⌜ (natAbs (w .spot .at .0) < 65536) × (natAbs (w .spot .at .1) < 65536) × (d < 4)
+        × (w .spot .steps + 1 < noMeeting) × (length (now t) < 2 ^ 32) ⌝ }
+    ensures { λ r. ⌜ ((c : Node) (ds : List ℕ) → Known (now (t .entry)) c ds w
+        → Advanced (length (now (t .entry))) (now (t .exit)) c (ds ++ (d ∷ [])) r) ⌝ }
 {
     let spot = w.spot;
     let tally = w.tally;
@@ -210,7 +216,8 @@ pub fn advance(t: &mut [u32], w: Walk, d: u8) -> Moved
 // The walk before its last step, which went in the direction d.
 pub fn withdraw(t: &mut [u32], w: Walk, d: u8) -> Walk
     requires { ⌜ Withdrawable (now t) w d ⌝ }
-    requires { ⌜ (natAbs (w .spot .at .0) < 65536) × (natAbs (w .spot .at .1) < 65536) × (d < 4) × (w .spot .steps < noMeeting) ⌝ }
+    requires { ⌜ (natAbs (w .spot .at .0) < 65536) × (natAbs (w .spot .at .1) < 65536) × (d < 4)
+        × (w .spot .steps < noMeeting) ⌝ }
     ensures { λ r. ⌜ ((c : Node) (ds : List ℕ) → Known (now (t .entry)) c (ds ++ (d ∷ [])) w → Known (now (t .exit)) c ds r) ⌝ }
 {
     let spot = w.spot;

@@ -1,4 +1,5 @@
-// The worked walks, run through the calls: what each answers, and what every buffer holds then. The walks stand in the file stdin.
+// The worked walks, run through the calls: what each answers, and what every buffer holds then. The walks stand in the file
+// stdin.
 mod limits;
 mod show;
 mod walks;

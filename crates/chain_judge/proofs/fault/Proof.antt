@@ -19,18 +19,24 @@ loop-holds c = judging-start (c .args .chain .now)
 
 returns : tie.Need-returns Inv-loop μ-loop
 returns c =
-    let l = c .before .before .before .loop in
-    sym (judging-bad (c .before .before .before .before .args .chain .now) (l .i) (l .inv) (c .before .before .loop-test .taken) (c .if1 .taken))
+    let at-loop-test = c .before .before in
+    let l = at-loop-test .before .loop in
+    sym (judging-bad (at-loop-test .before .before .args .chain .now) (l .i) (l .inv) (at-loop-test .loop-test .taken)
+    (c .if1 .taken))
 
 returns-2 : tie.Need-returns-2 Inv-loop μ-loop
 returns-2 c =
-    let l = c .before .before .before .before .loop in
-    sym (judging-long (c .before .before .before .before .before .args .chain .now) (l .i) (l .inv) (c .before .before .before .loop-test .taken) (c .before .if1 .left) (c .if2 .taken))
+    let at-loop-test = c .before .before .before in
+    let l = at-loop-test .before .loop in
+    sym (judging-long (at-loop-test .before .before .args .chain .now) (l .i) (l .inv) (at-loop-test .loop-test .taken)
+    (c .before .if1 .left) (c .if2 .taken))
 
 loop-again : tie.Need-loop-again Inv-loop μ-loop
 loop-again c =
-    let l = c .before .before .before .before .loop in
-    judging-step (c .before .before .before .before .before .args .chain .now) (l .i) (l .inv) (c .before .before .before .loop-test .taken) (c .before .if1 .left) (c .if2 .left)
+    let at-loop-test = c .before .before .before in
+    let l = at-loop-test .before .loop in
+    judging-step (at-loop-test .before .before .args .chain .now) (l .i) (l .inv) (at-loop-test .loop-test .taken)
+    (c .before .if1 .left) (c .if2 .left)
 
 returns-3 : tie.Need-returns-3 Inv-loop μ-loop
 returns-3 c = let l = c .before .loop in sym (judging-good (c .before .before .args .chain .now) (l .i) (l .inv) (c .loop-test .left))

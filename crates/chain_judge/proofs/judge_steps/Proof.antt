@@ -10,8 +10,10 @@ use Rattle.chain_judge.proofs.judge_steps.Tie as tie
 
 returns-3 : tie.Need-returns-3
 returns-3 c =
-    let s = c .before .before .before .before .args .chain .now in
-    sym (no-fault 0 s (omega (arith, c .before .before .if1 .left)) (λ k. omega (arith, c .before .highest .ensures, highest-most s k, c .if2 .left)))
+    let at-if1 = c .before .before in
+    let s = at-if1 .before .before .args .chain .now in
+    sym (no-fault 0 s (omega (arith, at-if1 .if1 .left))
+    (λ k. omega (arith, c .before .highest .ensures, highest-most s k, c .if2 .left)))
 
 pub judge-steps-spec : {M : Type 1} → statement M
 judge-steps-spec =

@@ -11,11 +11,11 @@ use Rattle.columns.proofs.across.Tie as tie
 
 returns : tie.Need-returns
 returns c =
-    let s = c .before .before in
-    let a = s .args in
+    let at-start = c .before .before in
+    let a = at-start .args in
     c .wrapping-add-u32 .ensures
-    ∙ ap (λ (l : List ℕ). (a .x + getD l (a .d) 0) % 2 ^ 32) (s .pre .0)
-    ∙ across-by (a .x) (a .d) (s .pre .1) (s .pre .2) (s .pre .3)
+    ∙ ap (λ (l : List ℕ). (a .x + getD l (a .d) 0) % 2 ^ 32) (at-start .pre .0)
+    ∙ across-by (a .x) (a .d) (at-start .pre .1) (at-start .pre .2) (at-start .pre .3)
 
 pub across-spec : {M : Type 1} → statement M
 across-spec = tie.close (tie.spec (λ c. search needs) (λ c. search needs) (λ c κs. search needs) returns)

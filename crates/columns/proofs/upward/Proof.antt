@@ -11,11 +11,11 @@ use Rattle.columns.proofs.upward.Tie as tie
 
 returns : tie.Need-returns
 returns c =
-    let s = c .before .before in
-    let a = s .args in
+    let at-start = c .before .before in
+    let a = at-start .args in
     c .wrapping-add-u16 .ensures
-    ∙ ap (λ (l : List ℕ). (a .y + getD l (a .d) 0) % 2 ^ 16) (s .pre .0)
-    ∙ upward-by (a .y) (a .d) (s .pre .1) (s .pre .2) (s .pre .3)
+    ∙ ap (λ (l : List ℕ). (a .y + getD l (a .d) 0) % 2 ^ 16) (at-start .pre .0)
+    ∙ upward-by (a .y) (a .d) (at-start .pre .1) (at-start .pre .2) (at-start .pre .3)
 
 pub upward-spec : {M : Type 1} → statement M
 upward-spec = tie.close (tie.spec (λ c. search needs) (λ c. search needs) (λ c κs. search needs) returns)

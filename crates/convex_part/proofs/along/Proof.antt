@@ -22,33 +22,42 @@ loop-holds c = (omega arith, c .before .before .pre .0 .begins, refl)
 
 edge-requires : tie.Need-edge-requires Inv-loop μ-loop
 edge-requires c κs =
-    let l = c .before .before .before .before .before .loop in
-    let r = c .before .before .before .before .before .before .before .before .pre .0 in
-    let p = c .before .before .wide .ensures .0 in
+    let at-wide = c .before .before in let at-loop = at-wide .before .before .before in
+    let at-start = at-loop .before .before .before in
+    let l = at-loop .loop in
+    let r = at-start .pre .0 in
+    let p = at-wide .wide .ensures .0 in
     let b = c .wide2 .ensures .0 in
     (omega (arith, p, b, r .rises (l .q) (l .inv .0) (omega arith)), omega (arith, b, r .columns (l .q + 1) (omega (arith, l .inv .0)) (omega arith)), omega arith)
 
 returns : tie.Need-returns Inv-loop μ-loop
 returns c =
-    let l = c .before .before .before .before .before .before .before .loop in
-    let a = c .before .before .before .before .before .before .before .before .before .before .args in
-    along-here (a .ys .now) (a .s .now) (l .q) (c .before .before .before .before .wide .result) (c .before .before .wide2 .result) (omega arith) (c .before .before .before .before .wide .ensures .0) (c .before .before .wide2 .ensures .0)
-    (sym (c .before .edge .ensures) ∙ not-true (c .before .edge .result) (c .if1 .taken)) ∙ l .inv .2
+    let at-edge = c .before in let at-wide2 = at-edge .before in let at-wide = at-wide2 .before .before in
+    let at-loop = at-wide .before .before .before in let at-start = at-loop .before .before .before in
+    let l = at-loop .loop in
+    let a = at-start .args in
+    along-here (a .ys .now) (a .s .now) (l .q) (at-wide .wide .result) (at-wide2 .wide2 .result) (omega arith)
+    (at-wide .wide .ensures .0) (at-wide2 .wide2 .ensures .0)
+    (sym (at-edge .edge .ensures) ∙ not-true (at-edge .edge .result) (c .if1 .taken)) ∙ l .inv .2
 
 loop-again : tie.Need-loop-again Inv-loop μ-loop
 loop-again c =
-    let l = c .before .before .before .before .before .before .before .loop in
-    let a = c .before .before .before .before .before .before .before .before .before .before .args in (
+    let at-edge = c .before in let at-wide2 = at-edge .before in let at-wide = at-wide2 .before .before in
+    let at-loop = at-wide .before .before .before in let at-start = at-loop .before .before .before in
+    let l = at-loop .loop in
+    let a = at-start .args in (
       omega (arith, l .inv .0),
       omega arith,
-      along-next (a .ys .now) (a .s .now) (l .q) (c .before .before .before .before .wide .result) (c .before .before .wide2 .result) (omega arith) (c .before .before .before .before .wide .ensures .0) (c .before .before .wide2 .ensures .0)
-          (sym (c .before .edge .ensures) ∙ not-false (c .before .edge .result) (c .if1 .left)) ∙ l .inv .2,
+      along-next (a .ys .now) (a .s .now) (l .q) (at-wide .wide .result) (at-wide2 .wide2 .result) (omega arith)
+          (at-wide .wide .ensures .0) (at-wide2 .wide2 .ensures .0)
+          (sym (at-edge .edge .ensures) ∙ not-false (at-edge .edge .result) (c .if1 .left)) ∙ l .inv .2,
     )
 
 returns-2 : tie.Need-returns-2 Inv-loop μ-loop
 returns-2 c =
+    let at-start = c .before .before .before .before in
     let l = c .before .loop in
-    let a = c .before .before .before .before .args in
+    let a = at-start .args in
     along-none (a .ys .now) (a .s .now) (l .q) (omega arith) ∙ l .inv .2
 
 pub along-spec : {M : Type 1} → statement M

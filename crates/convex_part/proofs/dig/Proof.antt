@@ -25,27 +25,38 @@ slice-write-ys : tie.Need-slice-write-ys Inv-loop μ-loop
 slice-write-ys c = let l = c .before .loop in omega (arith, l .inv .0, l .inv .3)
 
 letter-requires : tie.Need-letter-requires Inv-loop μ-loop
-letter-requires c κs = (c .before .before .before .before .before .pre .0 .digits (c .before .before .loop .i), c .before .before .before .before .before .pre .1)
+letter-requires c κs =
+    let at-loop = c .before .before in let at-start = at-loop .before .before .before in
+    (at-start .pre .0 .digits (at-loop .loop .i), at-start .pre .1)
 
 column-requires : tie.Need-column-requires Inv-loop μ-loop
-column-requires c κs = let l = c .before .before .before .loop in omega (arith, l .inv .0)
+column-requires c κs =
+    let at-loop = c .before .before .before in
+    let l = at-loop .loop in omega (arith, l .inv .0)
 
 depth-requires : tie.Need-depth-requires Inv-loop μ-loop
-depth-requires c κs = let l = c .before .before .before .before .loop in omega (arith, l .inv .2)
+depth-requires c κs =
+    let at-loop = c .before .before .before .before in
+    let l = at-loop .loop in omega (arith, l .inv .2)
 
 loop-again : tie.Need-loop-again Inv-loop μ-loop
 loop-again c =
-    let l = c .before .before .before .before .before .loop in
-    let a = c .before .before .before .before .before .before .before .before .args in
-    let d = c .before .before .letter .result in
+    let at-letter = c .before .before in let at-loop = at-letter .before .before .before in
+    let at-start = at-loop .before .before .before in
+    let l = at-loop .loop in
+    let a = at-start .args in
+    let d = at-letter .letter .result in
     let k = c .before .column .ensures in
     let y = c .depth .ensures in (
       omega (arith, k, over-le (l .k) (l .i) d (l .inv .0)),
       omega arith,
       omega (arith, y, under-le (length (a .part .now)) (l .y) (l .i) d (l .inv .2)),
       length-set (l .ys) (l .k) (l .y) ∙ l .inv .3,
-      ap₂ (λ (m n : ℕ). take m (set (l .ys) (l .k) (l .y)) ++ depthsFrom n (drop (l .i + 1) (turnedBy (a .turn) (a .part .now)))) k y
-          ∙ dig-step (a .part .now) (a .turn) (l .ys) (l .k) (l .y) (l .i) d (depthsFrom (length (a .part .now)) (turnedBy (a .turn) (a .part .now))) (omega arith) (c .before .before .letter .ensures) (omega (arith, l .inv .0, l .inv .3)) (l .inv .4),
+      ap₂ (λ (m n : ℕ). take m (set (l .ys) (l .k) (l .y)) ++ depthsFrom n (drop (l .i + 1) (turnedBy (a .turn) (a .part .now))))
+          k y
+          ∙ dig-step (a .part .now) (a .turn) (l .ys) (l .k) (l .y) (l .i) d
+          (depthsFrom (length (a .part .now)) (turnedBy (a .turn) (a .part .now))) (omega arith) (at-letter .letter .ensures)
+          (omega (arith, l .inv .0, l .inv .3)) (l .inv .4),
     )
 
 slice-write-ys-2 : tie.Need-slice-write-ys-2 Inv-loop μ-loop
@@ -56,8 +67,9 @@ add-result c = let l = c .before .loop in omega (arith, l .inv .0)
 
 returns : tie.Need-returns Inv-loop μ-loop
 returns c =
+    let at-start = c .before .before .before .before in
     let l = c .before .loop in
-    let a = c .before .before .before .before .args in
+    let a = at-start .args in
     (dig-end (a .part .now) (a .turn) (l .ys) (l .k) (l .y) (l .i) (depthsFrom (length (a .part .now)) (turnedBy (a .turn) (a .part .now))) (omega arith) (omega (arith, l .inv .0, l .inv .3)) (l .inv .4), omega (arith, l .inv .0, l .inv .1))
 
 pub dig-spec : {M : Type 1} → statement M

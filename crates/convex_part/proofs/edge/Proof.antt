@@ -24,20 +24,24 @@ stands-requires c κs = let l = c .before .loop in (omega arith, omega (arith, l
 
 returns : tie.Need-returns Inv-loop μ-loop
 returns c =
-    let l = c .before .before .before .loop in
-    let a = c .before .before .before .before .before .args in
-    sym (levels-here (a .ys .now) (a .p) (a .b) (l .c) (omega arith) (sym (c .before .stands .ensures) ∙ not-true (c .before .stands .result) (c .if1 .taken))) ∙ l .inv .2
+    let at-stands = c .before in let at-loop = at-stands .before .before in
+    let l = at-loop .loop in
+    let a = at-loop .before .before .args in
+    sym (levels-here (a .ys .now) (a .p) (a .b) (l .c) (omega arith)
+    (sym (at-stands .stands .ensures) ∙ not-true (at-stands .stands .result) (c .if1 .taken))) ∙ l .inv .2
 
 loop-again : tie.Need-loop-again Inv-loop μ-loop
 loop-again c =
-    let l = c .before .before .before .loop in
-    let a = c .before .before .before .before .before .args in
-    (omega (arith, l .inv .0), omega arith, levels-next (a .ys .now) (a .p) (a .b) (l .c) (omega arith) (sym (c .before .stands .ensures) ∙ not-false (c .before .stands .result) (c .if1 .left)) ∙ l .inv .2)
+    let at-stands = c .before in let at-loop = at-stands .before .before in
+    let l = at-loop .loop in
+    let a = at-loop .before .before .args in
+    (omega (arith, l .inv .0), omega arith, levels-next (a .ys .now) (a .p) (a .b) (l .c) (omega arith) (sym (at-stands .stands .ensures) ∙ not-false (at-stands .stands .result) (c .if1 .left)) ∙ l .inv .2)
 
 returns-2 : tie.Need-returns-2 Inv-loop μ-loop
 returns-2 c =
-    let l = c .before .loop in
-    let a = c .before .before .before .args in
+    let at-loop = c .before in
+    let l = at-loop .loop in
+    let a = at-loop .before .before .args in
     levels-none (a .ys .now) (a .p) (a .b) (l .c) (omega arith) ∙ l .inv .2
 
 pub edge-spec : {M : Type 1} → statement M

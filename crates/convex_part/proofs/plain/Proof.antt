@@ -21,24 +21,31 @@ loop-holds : tie.Need-loop-holds Inv-loop μ-loop
 loop-holds c = refl
 
 letter-requires : tie.Need-letter-requires Inv-loop μ-loop
-letter-requires c κs = (c .before .before .before .before .pre .0 .digits (c .before .before .loop .i), c .before .before .before .before .pre .1)
+letter-requires c κs =
+    let at-loop = c .before .before in let at-start = at-loop .before .before in
+    (at-start .pre .0 .digits (at-loop .loop .i), at-start .pre .1)
 
 returns : tie.Need-returns Inv-loop μ-loop
 returns c =
-    let l = c .before .before .before .before .loop in
-    let a = c .before .before .before .before .before .before .args in
-    letters-here (a .part .now) (a .turn) (l .i) (c .before .letter .result) (omega arith) (c .before .letter .ensures) (omega arith) ∙ l .inv
+    let at-letter = c .before in let at-loop = at-letter .before .before .before in
+    let l = at-loop .loop in
+    let a = at-loop .before .before .args in
+    letters-here (a .part .now) (a .turn) (l .i) (at-letter .letter .result) (omega arith) (at-letter .letter .ensures)
+    (omega arith) ∙ l .inv
 
 loop-again : tie.Need-loop-again Inv-loop μ-loop
 loop-again c =
-    let l = c .before .before .before .before .loop in
-    let a = c .before .before .before .before .before .before .args in
-    letters-next (a .part .now) (a .turn) (l .i) (c .before .letter .result) (omega arith) (c .before .letter .ensures) (omega arith) ∙ l .inv
+    let at-letter = c .before in let at-loop = at-letter .before .before .before in
+    let l = at-loop .loop in
+    let a = at-loop .before .before .args in
+    letters-next (a .part .now) (a .turn) (l .i) (at-letter .letter .result) (omega arith) (at-letter .letter .ensures)
+    (omega arith) ∙ l .inv
 
 returns-2 : tie.Need-returns-2 Inv-loop μ-loop
 returns-2 c =
-    let l = c .before .loop in
-    let a = c .before .before .before .args in
+    let at-loop = c .before in
+    let l = at-loop .loop in
+    let a = at-loop .before .before .args in
     letters-none (a .part .now) (a .turn) (l .i) (omega arith) ∙ l .inv
 
 pub plain-spec : {M : Type 1} → statement M

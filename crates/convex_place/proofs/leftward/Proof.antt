@@ -22,32 +22,41 @@ north-requires c κs = let w = c .before .before .loop .inv in omega (arith, w .
 
 add-up : tie.Need-add-up Inv-loop μ-loop
 add-up c =
-    let l = c .before .before .before .loop in
-    let a = c .before .before .before .before .before .args in
+    let at-loop = c .before .before .before in
+    let l = at-loop .loop in
+    let a = at-loop .before .before .args in
     omega (arith, c .north .ensures, north-le (l .x) (getD (a .chain .now) (l .i) 0), l .inv .east, l .inv .up-most)
 
 south-requires : tie.Need-south-requires Inv-loop μ-loop
-south-requires c κs = let w = c .before .before .before .loop .inv in omega (arith, w .east)
+south-requires c κs =
+    let at-loop = c .before .before .before in
+    let w = at-loop .loop .inv in omega (arith, w .east)
 
 add-down : tie.Need-add-down Inv-loop μ-loop
 add-down c =
-    let l = c .before .before .before .before .loop in
-    let a = c .before .before .before .before .before .before .args in
+    let at-loop = c .before .before .before .before in
+    let l = at-loop .loop in
+    let a = at-loop .before .before .args in
     omega (arith, c .south .ensures, south-le (l .x) (getD (a .chain .now) (l .i) 0), l .inv .east, l .inv .down-most)
 
 column-requires : tie.Need-column-requires Inv-loop μ-loop
-column-requires c κs = let w = c .before .before .before .before .loop .inv in (omega (arith, w .west), omega (arith, w .east))
+column-requires c κs =
+    let at-loop = c .before .before .before .before in
+    let w = at-loop .loop .inv in (omega (arith, w .west), omega (arith, w .east))
 
 loop-again : tie.Need-loop-again Inv-loop μ-loop
 loop-again c =
-    let l = c .before .before .before .before .before .loop in
-    let a = c .before .before .before .before .before .before .before .args in
-    sums-step (a .chain .now) (l .x) (l .up) (l .down) (l .i) (l .inv) (omega arith) (omega arith) (c .column .result) (c .before .before .north .result) (c .before .south .result) (c .column .ensures) (c .before .before .north .ensures) (c .before .south .ensures)
+    let at-south = c .before in let at-north = at-south .before in let at-loop = at-north .before .before .before in
+    let l = at-loop .loop in
+    let a = at-loop .before .before .args in
+    sums-step (a .chain .now) (l .x) (l .up) (l .down) (l .i) (l .inv) (omega arith) (omega arith) (c .column .result)
+    (at-north .north .result) (at-south .south .result) (c .column .ensures) (at-north .north .ensures) (at-south .south .ensures)
 
 returns : tie.Need-returns Inv-loop μ-loop
 returns c =
-    let l = c .before .loop in
-    sums-end (c .before .before .before .args .chain .now) (l .x) (l .up) (l .down) (l .i) (l .inv) (omega arith)
+    let at-loop = c .before in
+    let l = at-loop .loop in
+    sums-end (at-loop .before .before .args .chain .now) (l .x) (l .up) (l .down) (l .i) (l .inv) (omega arith)
 
 pub leftward-spec : {M : Type 1} → statement M
 leftward-spec =

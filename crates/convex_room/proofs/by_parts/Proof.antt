@@ -7,30 +7,39 @@ use Rattle.convex_room.proofs.by_parts.Statement.{statement}
 use Rattle.convex_room.proofs.by_parts.Tie as tie
 
 returns : tie.Need-returns
-returns c = let a = c .before .before .before .before .args in late-second (a .room .now) (a .j) (a .k) (a .l) (c .if1 .taken)
+returns c =
+    let at-start = c .before .before .before .before in
+    let a = at-start .args in late-second (a .room .now) (a .j) (a .k) (a .l) (c .if1 .taken)
 
 returns-2 : tie.Need-returns-2
-returns-2 c = let a = c .before .before .before .before .before .args in late-third (a .room .now) (a .j) (a .k) (a .l) (omega arith) (c .if2 .taken)
+returns-2 c =
+    let at-start = c .before .before .before .before .before in
+    let a = at-start .args in late-third (a .room .now) (a .j) (a .k) (a .l) (omega arith) (c .if2 .taken)
 
 returns-3 : tie.Need-returns-3
 returns-3 c =
-    let z = c .before .before .before .before .before .before .before .before .before .before .before .before .before in
-    let a = z .args in
-    let h = c .before .before .before .before .before .half in
-    first-fails (a .room .now) (a .j) (a .k) (a .l) (z .pre .0) (omega arith) (omega arith) (z .pre .1) (h .result) (c .if3 .taken) (h .ensures)
+    let at-half = c .before .before .before .before .before in
+    let at-start = at-half .before .before .before .before .before .before .before .before in
+    let a = at-start .args in
+    let h = at-half .half in
+    first-fails (a .room .now) (a .j) (a .k) (a .l) (at-start .pre .0) (omega arith) (omega arith) (at-start .pre .1) (h .result)
+    (c .if3 .taken) (h .ensures)
 
 half-requires-2 : tie.Need-half-requires-2
 half-requires-2 c κs =
-    let z = c .before .before .before .before .before .before .before .before .before .before .before .before .before .before .before in
-    (z .pre .0, omega arith, omega arith, omega arith, omega arith, omega arith, omega arith, omega arith)
+    let at-start = c .before .before .before .before .before .before .before .before .before .before .before .before .before .before .before in
+    (at-start .pre .0, omega arith, omega arith, omega arith, omega arith, omega arith, omega arith, omega arith)
 
 returns-4 : tie.Need-returns-4
 returns-4 c =
-    let z = c .before .before .before .before .before .before .before .before .before .before .before .before .before .before .before .before .before .before .before .before in
-    let a = z .args in
-    let h = c .before .before .before .before .before .before .before .before .before .before .before .before .half in
-    let g = c .before .before .before .before .half2 in
-    second-tells (a .room .now) (a .j) (a .k) (a .l) (z .pre .0) (omega (arith, c .before .before .before .before .before .before .before .before .before .before .before .before .before .before .before .before .if1 .left)) (omega (arith, c .before .before .before .before .before .before .before .before .before .before .before .before .before .before .before .if2 .left)) (z .pre .1) (h .result) (g .result) (c .before .before .before .before .before .before .before .if3 .left) (h .ensures) (g .ensures)
+    let at-half2 = c .before .before .before .before in let at-if3 = at-half2 .before .before .before in
+    let at-half = at-if3 .before .before .before .before .before in let at-if2 = at-half .before .before .before in
+    let at-start = at-if2 .before .before .before .before .before in
+    let a = at-start .args in
+    let h = at-half .half in
+    let g = at-half2 .half2 in
+    second-tells (a .room .now) (a .j) (a .k) (a .l) (at-start .pre .0) (omega (arith, at-if2 .before .if1 .left))
+    (omega (arith, at-if2 .if2 .left)) (at-start .pre .1) (h .result) (g .result) (at-if3 .if3 .left) (h .ensures) (g .ensures)
 
 pub by-parts-spec : {M : Type 1} → statement M
 by-parts-spec =

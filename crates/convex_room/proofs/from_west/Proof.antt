@@ -9,16 +9,18 @@ use Rattle.convex_room.proofs.from_west.Tie as tie
 
 by-parts-requires : tie.Need-by-parts-requires
 by-parts-requires c κs =
-    let z = c .before .before .before .before .before .before .before .before in
-    (z .pre .0, omega (arith, c .before .before .place3 .ensures, place-within 3 (z .args .room .now) (z .pre .1)), z .pre .2, z .pre .3, z .pre .4)
+    let at-place3 = c .before .before in let at-start = at-place3 .before .before .before .before .before .before in
+    (at-start .pre .0, omega (arith, at-place3 .place3 .ensures, place-within 3 (at-start .args .room .now) (at-start .pre .1)), at-start .pre .2, at-start .pre .3, at-start .pre .4)
 
 returns : tie.Need-returns
 returns c =
-    let b = c .before .before .before .before .before .before .before .before .before .place in
-    let d = c .before .before .before .before .before .before .before .before .place2 in
-    let e = c .before .before .before .before .before .before .before .place3 in
-    let a = c .before .before .before .before .before .before .before .before .before .before .before .before .before .args in
-    let p = c .before .before .before .before .by-parts in
+    let at-by-parts = c .before .before .before .before in let at-place3 = at-by-parts .before .before .before in
+    let at-place = at-place3 .before .before in let at-start = at-place .before .before .before .before in
+    let b = at-place .place in
+    let d = at-place3 .before .place2 in
+    let e = at-place3 .place3 in
+    let a = at-start .args in
+    let p = at-by-parts .by-parts in
     west-told (a .room .now) (b .result) (d .result) (e .result) (p .result) (b .ensures) (d .ensures) (e .ensures) (p .ensures)
 
 pub from-west-spec : {M : Type 1} → statement M

@@ -21,23 +21,26 @@ loop-holds : tie.Need-loop-holds Inv-loop μ-loop
 loop-holds c = let a = c .before .before .args in (omega arith, refl, laid-none (travelled (a .back) (a .chain .now)) (length (a .chain .now)) (a .out .now))
 
 slice-write-out : tie.Need-slice-write-out Inv-loop μ-loop
-slice-write-out c = let z = c .before .before .before .before .before in omega (arith, c .before .before .loop .inv .1, z .pre .1)
+slice-write-out c =
+    let at-loop = c .before .before in let at-start = at-loop .before .before .before in
+    omega (arith, at-loop .loop .inv .1, at-start .pre .1)
 
 slice-write-out-2 : tie.Need-slice-write-out-2 Inv-loop μ-loop
 slice-write-out-2 c =
-    let z = c .before .before .before .before .before in
-    let l = c .before .before .loop in
-    omega (arith, l .inv .1, z .pre .1, length-set (l .out) (l .i) (c .step-at .result))
+    let at-loop = c .before .before in let at-start = at-loop .before .before .before in
+    let l = at-loop .loop in
+    omega (arith, l .inv .1, at-start .pre .1, length-set (l .out) (l .i) (c .step-at .result))
 
 loop-again : tie.Need-loop-again Inv-loop μ-loop
 loop-again c =
-    let l = c .before .before .loop in
-    let z = c .before .before .before .before .before in
-    let a = z .args in
+    let at-loop = c .before .before in let at-start = at-loop .before .before .before in
+    let l = at-loop .loop in
+    let a = at-start .args in
     let d = c .step-at .result in (
       omega arith,
       length-set (set (l .out) (l .i) d) (length (a .chain .now) + l .i) d ∙ length-set (l .out) (l .i) d ∙ l .inv .1,
-      laid-step (travelled (a .back) (a .chain .now)) (length (a .chain .now)) (l .out) (l .i) d (l .inv .2) (omega arith) (omega (arith, l .inv .1, z .pre .1)) (c .step-at .ensures),
+      laid-step (travelled (a .back) (a .chain .now)) (length (a .chain .now)) (l .out) (l .i) d (l .inv .2) (omega arith)
+          (omega (arith, l .inv .1, at-start .pre .1)) (c .step-at .ensures),
     )
 
 same-length : tie.Need-same-length Inv-loop μ-loop
@@ -45,9 +48,11 @@ same-length c = c .before .loop .inv .1
 
 returns : tie.Need-returns Inv-loop μ-loop
 returns c =
+    let at-start = c .before .before .before .before in
     let l = c .before .loop in
-    let a = c .before .before .before .before .args in
-    subst (LaidTwice (travelled (a .back) (a .chain .now)) (length (a .chain .now)) (l .out)) (all (l .i) (length (a .chain .now)) (l .inv .0) (omega arith)) (l .inv .2)
+    let a = at-start .args in
+    subst (LaidTwice (travelled (a .back) (a .chain .now)) (length (a .chain .now)) (l .out))
+    (all (l .i) (length (a .chain .now)) (l .inv .0) (omega arith)) (l .inv .2)
   where
     all : (i n : ℕ) → i ≤ n → n ≤ i → i ≡ n
     all i n h g = omega arith

@@ -10,11 +10,11 @@ use Rattle.convex_room.proofs.part.Tie as tie
 
 judge-requires : tie.Need-judge-requires
 judge-requires c κs =
-    let z = c .before .before .before .before .before .before in
-    let a = z .args in
+    let at-start = c .before .before .before .before .before .before in
+    let a = at-start .args in
     let n = a .k - a .j in
     let r = a .room .now in
-    (digits-slice r n (a .j) (z .pre .0), z .pre .3, omega (arith, length-take n (drop (a .j) r), length-drop (a .j) r), omega (arith, length-take n (drop (a .j) r), length-drop (a .j) r), z .pre .6)
+    (digits-slice r n (a .j) (at-start .pre .0), at-start .pre .3, omega (arith, length-take n (drop (a .j) r), length-drop (a .j) r), omega (arith, length-take n (drop (a .j) r), length-drop (a .j) r), at-start .pre .6)
 
 pub part-spec : {M : Type 1} → statement M
 part-spec =

@@ -10,14 +10,19 @@ use Rattle.convex_room.proofs.step_at.Tie as tie
 
 add-result : tie.Need-add-result
 add-result c =
-    let z = c .before .before in
-    omega (arith, z .pre .0 .digits (length (z .args .chain .now) - 1 - z .args .i))
+    let at-start = c .before .before in
+    omega (arith, at-start .pre .0 .digits (length (at-start .args .chain .now) - 1 - at-start .args .i))
 
 returns : tie.Need-returns
-returns c = let z = c .before .before in step-back (z .args .chain .now) (z .args .i) (z .pre .0) (z .pre .1) (z .args .back) (c .before .if1 .taken)
+returns c =
+    let at-start = c .before .before in
+    step-back (at-start .args .chain .now) (at-start .args .i) (at-start .pre .0) (at-start .pre .1) (at-start .args .back)
+    (c .before .if1 .taken)
 
 returns-2 : tie.Need-returns-2
-returns-2 c = let z = c .before .before in step-on (z .args .chain .now) (z .args .i) (z .args .back) (c .before .if1 .left)
+returns-2 c =
+    let at-start = c .before .before in
+    step-on (at-start .args .chain .now) (at-start .args .i) (at-start .args .back) (c .before .if1 .left)
 
 pub step-at-spec : {M : Type 1} → statement M
 step-at-spec =

@@ -27,8 +27,9 @@ returns c =
 
 returns-2 : tie.Need-returns-2
 returns-2 c =
-    let a = c .before .before .before .before .before .args in
-    let j = c .before .before .before .judge in
+    let at-judge = c .before .before .before in
+    let a = at-judge .before .before .args in
+    let j = at-judge .judge in
     call-refused (a .start) (a .chain .now) (j .result) (j .ensures) _ (c .before .r .given .1)
 
 pub tell-spec : {M : Type 1} → statement M

@@ -11,21 +11,24 @@ use Rattle.hull_chains.proofs.drops.Statement.{statement}
 use Rattle.hull_chains.proofs.drops.Tie as tie
 
 returns : tie.Need-returns
-returns c = let s = c .before .before .before in drops-short (s .args .ys .now) (s .args .p) (s .args .s .now) (s .args .q) (omega arith)
+returns c =
+    let at-start = c .before .before .before in
+    drops-short (at-start .args .ys .now) (at-start .args .p) (at-start .args .s .now) (at-start .args .q) (omega arith)
 
 turns-requires : tie.Need-turns-requires
 turns-requires c κs =
-    let s = c .before .before .before .before .before .before .before in
-    let q = s .args .q in
-    let b = s .pre .columns q (omega arith) (omega arith) in
-    let a = s .pre .columns (q + 1) (omega arith) (omega arith) in
-    (omega (arith, b, c .before .before .wide .ensures .0), omega (arith, a, c .wide2 .ensures .0), omega (arith, b, c .before .before .wide .ensures .0), omega (arith, a, c .wide2 .ensures .0), s .pre .short)
+    let at-wide = c .before .before in let at-start = at-wide .before .before .before .before .before in
+    let q = at-start .args .q in
+    let b = at-start .pre .columns q (omega arith) (omega arith) in
+    let a = at-start .pre .columns (q + 1) (omega arith) (omega arith) in
+    (omega (arith, b, at-wide .wide .ensures .0), omega (arith, a, c .wide2 .ensures .0), omega (arith, b, at-wide .wide .ensures .0), omega (arith, a, c .wide2 .ensures .0), at-start .pre .short)
 
 returns-2 : tie.Need-returns-2
 returns-2 c =
-    let s = c .before .before .before .before .before .before .before .before in
-    ap not (c .turns .ensures ∙ ap₂ (turnsAt (s .args .ys .now) (s .args .p)) (c .before .before .before .wide .ensures .0) (c .before .wide2 .ensures .0))
-    ∙ drops-long (s .args .ys .now) (s .args .p) (s .args .s .now) (s .args .q) (omega arith)
+    let at-wide = c .before .before .before in let at-start = at-wide .before .before .before .before .before in
+    ap not (c .turns .ensures ∙ ap₂ (turnsAt (at-start .args .ys .now) (at-start .args .p)) (at-wide .wide .ensures .0)
+    (c .before .wide2 .ensures .0))
+    ∙ drops-long (at-start .args .ys .now) (at-start .args .p) (at-start .args .s .now) (at-start .args .q) (omega arith)
 
 pub drops-spec : {M : Type 1} → statement M
 drops-spec =

@@ -20,16 +20,21 @@ loop-holds c = (omega arith, refl)
 
 returns : tie.Need-returns Inv-loop μ-loop
 returns c =
-    let l = c .before .before .before .loop in
-    turn-here (c .before .before .before .before .before .args .ys .now) (l .j) (omega arith) (sym (c .before .turns .ensures) ∙ c .if1 .taken) ∙ l .inv .1
+    let at-loop = c .before .before .before in
+    let l = at-loop .loop in
+    turn-here (at-loop .before .before .args .ys .now) (l .j) (omega arith) (sym (c .before .turns .ensures) ∙ c .if1 .taken)
+    ∙ l .inv .1
 
 loop-again : tie.Need-loop-again Inv-loop μ-loop
 loop-again c =
-    let l = c .before .before .before .loop in
-    (omega arith, turn-next (c .before .before .before .before .before .args .ys .now) (l .j) (omega arith) (sym (c .before .turns .ensures) ∙ c .if1 .left) ∙ l .inv .1)
+    let at-loop = c .before .before .before in
+    let l = at-loop .loop in
+    (omega arith, turn-next (at-loop .before .before .args .ys .now) (l .j) (omega arith) (sym (c .before .turns .ensures) ∙ c .if1 .left) ∙ l .inv .1)
 
 returns-2 : tie.Need-returns-2 Inv-loop μ-loop
-returns-2 c = let l = c .before .loop in turn-none (c .before .before .before .args .ys .now) (l .j) (omega arith) ∙ l .inv .1
+returns-2 c =
+    let at-loop = c .before in
+    let l = at-loop .loop in turn-none (at-loop .before .before .args .ys .now) (l .j) (omega arith) ∙ l .inv .1
 
 pub pass-spec : {M : Type 1} → statement M
 pass-spec =

@@ -21,27 +21,27 @@ loop-holds c = (omega arith, c .before .before .pre .0 .begins, refl)
 
 drops-requires : tie.Need-drops-requires Inv-loop μ-loop
 drops-requires c κs =
-    let s = c .before .before .before .before in
+    let at-start = c .before .before .before .before in
     let i = c .before .loop .inv in
-    record { begins = i .1; columns = λ j h g. s .pre .0 .columns j (omega (arith, h, i .0)) g; short = s .pre .0 .short }
+    record { begins = i .1; columns = λ j h g. at-start .pre .0 .columns j (omega (arith, h, i .0)) g; short = at-start .pre .0 .short }
 
 loop-less : tie.Need-loop-less Inv-loop μ-loop
 loop-less c =
-    let s = c .before .before .before .before .before .before in
-    omega (arith, drops-room (s .args .ys .now) (s .args .p) (s .args .s .now) (c .before .before .before .loop .f) (sym (c .before .drops .ensures) ∙ c .if1 .taken))
+    let at-loop = c .before .before .before in let at-start = at-loop .before .before .before in
+    omega (arith, drops-room (at-start .args .ys .now) (at-start .args .p) (at-start .args .s .now) (at-loop .loop .f) (sym (c .before .drops .ensures) ∙ c .if1 .taken))
 
 loop-again : tie.Need-loop-again Inv-loop μ-loop
 loop-again c =
-    let s = c .before .before .before .before .before .before in
-    let f = c .before .before .before .loop .f in
+    let at-loop = c .before .before .before in let at-start = at-loop .before .before .before in
+    let f = at-loop .loop .f in
     let t = sym (c .before .drops .ensures) ∙ c .if1 .taken in
-    (omega arith, omega (arith, drops-room (s .args .ys .now) (s .args .p) (s .args .s .now) f t), drops-next (s .args .ys .now) (s .args .p) (s .args .s .now) f t ∙ c .before .before .before .loop .inv .2)
+    (omega arith, omega (arith, drops-room (at-start .args .ys .now) (at-start .args .p) (at-start .args .s .now) f t), drops-next (at-start .args .ys .now) (at-start .args .p) (at-start .args .s .now) f t ∙ at-loop .loop .inv .2)
 
 returns : tie.Need-returns Inv-loop μ-loop
 returns c =
-    let s = c .before .before .before .before .before .before in
-    let i = c .before .before .before .loop in
-    (push-front (s .args .ys .now) (s .args .p) (s .args .s .now) (i .f) (cutAt (s .args .ys .now) (s .args .p) (drop (s .args .q) (s .args .s .now))) (omega arith) (i .inv .1) (sym (c .before .drops .ensures) ∙ c .if1 .left) (i .inv .2), omega arith, omega arith)
+    let at-loop = c .before .before .before in let at-start = at-loop .before .before .before in
+    let i = at-loop .loop in
+    (push-front (at-start .args .ys .now) (at-start .args .p) (at-start .args .s .now) (i .f) (cutAt (at-start .args .ys .now) (at-start .args .p) (drop (at-start .args .q) (at-start .args .s .now))) (omega arith) (i .inv .1) (sym (c .before .drops .ensures) ∙ c .if1 .left) (i .inv .2), omega arith, omega arith)
 
 pub push-spec : {M : Type 1} → statement M
 push-spec =

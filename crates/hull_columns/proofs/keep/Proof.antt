@@ -10,7 +10,8 @@ use Rattle.hull_columns.proofs.keep.Tie as tie
 returns : tie.Need-returns
 unfolding sink
 returns c =
-    let a = c .before .before .before .args in
+    let at-start = c .before .before .before in
+    let a = at-start .args in
     ap (set (a .ys .now) (a .c)) (c .lower .ensures)
 
 pub keep-spec : {M : Type 1} → statement M

@@ -17,19 +17,29 @@ loop-holds : tie.Need-loop-holds Inv-loop μ-loop
 loop-holds c = turning-start (c .args .m) (c .args .ys .now)
 
 slice-read-left : tie.Need-slice-read-left Inv-loop μ-loop
-slice-read-left c = let l = c .before .before in turning-left (l .loop .inv) (l .before .pre) (c .before .loop-test .taken)
+slice-read-left c =
+    let at-loop-test = c .before in
+    turning-left (at-loop-test .before .loop .inv) (at-loop-test .before .before .pre) (at-loop-test .loop-test .taken)
 
 slice-read-ys : tie.Need-slice-read-ys Inv-loop μ-loop
-slice-read-ys c = let l = c .before .before .before in turning-right (l .loop .inv) (l .before .pre)
+slice-read-ys c =
+    let at-loop = c .before .before .before in
+    turning-right (at-loop .loop .inv) (at-loop .before .pre)
 
 slice-write-ys : tie.Need-slice-write-ys Inv-loop μ-loop
-slice-write-ys c = let l = c .before .before .before in turning-left (l .loop .inv) (l .before .pre) (c .before .before .loop-test .taken)
+slice-write-ys c =
+    let at-loop-test = c .before .before in
+    turning-left (at-loop-test .before .loop .inv) (at-loop-test .before .before .pre) (at-loop-test .loop-test .taken)
 
 slice-write-ys-2 : tie.Need-slice-write-ys-2 Inv-loop μ-loop
-slice-write-ys-2 c = let l = c .before .before .before in turning-right-still (l .loop .inv) (getD (l .loop .ys) (l .loop .j) 0) (l .before .pre)
+slice-write-ys-2 c =
+    let at-loop = c .before .before .before in
+    turning-right-still (at-loop .loop .inv) (getD (at-loop .loop .ys) (at-loop .loop .j) 0) (at-loop .before .pre)
 
 loop-again : tie.Need-loop-again Inv-loop μ-loop
-loop-again c = let l = c .before .before .before in turning-step (l .loop .inv) (l .before .pre) (c .before .before .loop-test .taken)
+loop-again c =
+    let at-loop-test = c .before .before in
+    turning-step (at-loop-test .before .loop .inv) (at-loop-test .before .before .pre) (at-loop-test .loop-test .taken)
 
 same-length : tie.Need-same-length Inv-loop μ-loop
 same-length c = sym (c .before .loop .inv .size)

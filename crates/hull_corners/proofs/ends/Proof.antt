@@ -7,26 +7,32 @@ use Rattle.hull_corners.proofs.ends.Statement.{statement}
 use Rattle.hull_corners.proofs.ends.Tie as tie
 
 returns : tie.Need-returns
-returns c = let s = c .before in ends-short (s .args .start) (s .args .west) (s .args .east) (s .args .out .now) (omega arith)
+returns c =
+    let at-start = c .before in
+    ends-short (at-start .args .start) (at-start .args .west) (at-start .args .east) (at-start .args .out .now) (omega arith)
 
 put-corner-requires : tie.Need-put-corner-requires
 put-corner-requires c κs =
-    let s = c .before .before .before in
-    let k = ends-base (s .args .start) (c .before .placed .result) (c .before .placed .ensures) (s .pre .0) in
+    let at-placed = c .before in let at-start = at-placed .before .before in
+    let k = ends-base (at-start .args .start) (at-placed .placed .result) (at-placed .placed .ensures) (at-start .pre .0) in
     (omega arith, k .0, k .1, omega arith)
 
 put-corner-requires-2 : tie.Need-put-corner-requires-2
 put-corner-requires-2 c κs =
-    let s = c .before .before .before .before .before .before in
-    let k = ends-base (s .args .start) (c .before .before .before .before .placed .result) (c .before .before .before .before .placed .ensures) (s .pre .0) in
-    (omega (arith, c .before .before .put-corner .kept .0), k .0, k .1, omega arith)
+    let at-put-corner = c .before .before in let at-placed = at-put-corner .before .before in
+    let at-start = at-placed .before .before in
+    let k = ends-base (at-start .args .start) (at-placed .placed .result) (at-placed .placed .ensures) (at-start .pre .0) in
+    (omega (arith, at-put-corner .put-corner .kept .0), k .0, k .1, omega arith)
 
 returns-2 : tie.Need-returns-2
 returns-2 c =
-    let p = c .before .before .before .before .before .before .placed in
-    let a = c .before .before .before .before .put-corner in
-    let s = c .before .before .before .before .before .before .before .before in
-    ends-enough (s .args .start) (s .args .west) (s .args .east) (p .result) (s .args .out .now) (a .last .0) (c .before .put-corner2 .last .0) (p .ensures) (omega arith) (a .ensures) (c .before .put-corner2 .ensures)
+    let at-put-corner2 = c .before in let at-put-corner = at-put-corner2 .before .before .before in
+    let at-placed = at-put-corner .before .before in let at-start = at-placed .before .before in
+    let p = at-placed .placed in
+    let a = at-put-corner .put-corner in
+    ends-enough (at-start .args .start) (at-start .args .west) (at-start .args .east) (p .result) (at-start .args .out .now)
+    (a .last .0) (at-put-corner2 .put-corner2 .last .0) (p .ensures) (omega arith) (a .ensures)
+    (at-put-corner2 .put-corner2 .ensures)
 
 pub ends-spec : {M : Type 1} → statement M
 ends-spec =

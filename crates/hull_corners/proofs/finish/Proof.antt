@@ -7,26 +7,36 @@ use Rattle.hull_corners.proofs.finish.Statement.{statement}
 use Rattle.hull_corners.proofs.finish.Tie as tie
 
 sub-count-2 : tie.Need-sub-count-2
-sub-count-2 c = close-ge (c .before .before .before .before .before .before .before .before .before .before .pre .1) (c .before .before .before .seam .result) (c .close .result) (c .before .before .before .seam .ensures) (c .close .ensures)
+sub-count-2 c =
+    let at-seam = c .before .before .before in let at-start = at-seam .before .before .before .before .before .before .before in
+    close-ge (at-start .pre .1) (at-seam .seam .result) (c .close .result) (at-seam .seam .ensures) (c .close .ensures)
 
 returns : tie.Need-returns
 returns c =
-    let a = c .before .before .before .before .before .before .before .before .before .before .before .args in
-    let s = c .before .before .before .before .seam in
-    listed-short (c .before .before .before .before .before .before .before .before .before .before .before .pre .1) (s .result) (c .before .close .result) (s .ensures) (c .before .close .ensures) (a .start) (a .out .now) (c .if1 .taken)
+    let at-close = c .before in let at-seam = at-close .before .before .before in
+    let at-start = at-seam .before .before .before .before .before .before .before in
+    let a = at-start .args in
+    let s = at-seam .seam in
+    listed-short (at-start .pre .1) (s .result) (at-close .close .result) (s .ensures) (at-close .close .ensures) (a .start)
+    (a .out .now) (c .if1 .taken)
 
 write-requires : tie.Need-write-requires
 write-requires c κs =
-    let p = c .before .before .before .before .before .before .before .before .before .before .before .before .pre in
-    let s = c .before .before .before .before .before .seam in
-    (p .0, chained-parts (p .1) (s .result) (c .before .before .close .result) (s .ensures) (c .before .before .close .ensures) (length (c .before .before .before .before .before .before .before .before .before .before .before .before .args .out .now)) (c .before .if1 .left))
+    let at-close = c .before .before in let at-seam = at-close .before .before .before in
+    let at-start = at-seam .before .before .before .before .before .before .before in
+    let p = at-start .pre in
+    let s = at-seam .seam in
+    (p .0, chained-parts (p .1) (s .result) (at-close .close .result) (s .ensures) (at-close .close .ensures) (length (at-start .args .out .now)) (c .before .if1 .left))
 
 returns-2 : tie.Need-returns-2
 returns-2 c =
-    let a = c .before .before .before .before .before .before .before .before .before .before .before .before .before .before .args in
-    let s = c .before .before .before .before .before .before .before .seam in
-    let b = c .before .before .before .before .close in
-    listed-enough (c .before .before .before .before .before .before .before .before .before .before .before .before .before .before .pre .1) (s .result) (b .result) (s .ensures) (b .ensures) (a .start) (a .out .now) (c .before .write .last .1 .1 .1 .1 .1 .1 .1 .1 .1 .1 .0) (c .before .before .before .if1 .left) (c .before .write .ensures)
+    let at-write = c .before in let at-if1 = at-write .before .before in let at-seam = at-if1 .before .before .before .before in
+    let at-start = at-seam .before .before .before .before .before .before .before in
+    let a = at-start .args in
+    let s = at-seam .seam in
+    let b = at-if1 .before .close in
+    listed-enough (at-start .pre .1) (s .result) (b .result) (s .ensures) (b .ensures) (a .start) (a .out .now)
+    (at-write .write .last .1 .1 .1 .1 .1 .1 .1 .1 .1 .1 .0) (at-if1 .if1 .left) (at-write .write .ensures)
 
 pub finish-spec : {M : Type 1} → statement M
 finish-spec =

@@ -15,11 +15,16 @@ use Rattle.hull_corners.proofs.placed.Tie as tie
 
 returns : tie.Need-returns
 returns c =
-    let s = c .before .before .before .before in
-    let x = simp (toZ-ofZ (sfits-of {w = w32} {z = s .args .start .0} (c .before .before .before .struct-told .given .0 .1))) at (c .before .before .shifted .ensures) in
-    let y = simp (toZ-ofZ (sfits-of {w = w32} {z = s .args .start .1} (c .before .struct-told2 .given .1 .0 .1))) at (c .shifted2 .ensures) in
-    corner-eq (corner (toZ w32 (ofZ w32 (c .before .before .shifted .result))) (toZ w32 (ofZ w32 (c .shifted2 .result)))) (spot (s .args .start .0 -ℤ pos middle) (s .args .start .1 -ℤ pos middle) (s .args .column, s .args .height))
-    (toZ-ofZ (sfits-of {w = w32} {z = c .before .before .shifted .result} (c .before .before .shifted .ok)) ∙ x) (toZ-ofZ (sfits-of {w = w32} {z = c .shifted2 .result} (c .shifted2 .ok)) ∙ y)
+    let at-shifted = c .before .before in let at-struct-told = at-shifted .before in let at-start = at-struct-told .before in
+    let x = simp (toZ-ofZ (sfits-of {w = w32} {z = at-start .args .start .0} (at-struct-told .struct-told .given .0 .1))) at
+    (at-shifted .shifted .ensures) in
+    let y = simp (toZ-ofZ (sfits-of {w = w32} {z = at-start .args .start .1} (c .before .struct-told2 .given .1 .0 .1))) at
+    (c .shifted2 .ensures) in
+    corner-eq (corner (toZ w32 (ofZ w32 (at-shifted .shifted .result))) (toZ w32 (ofZ w32 (c .shifted2 .result))))
+    (spot (at-start .args .start .0 -ℤ pos middle) (at-start .args .start .1 -ℤ pos middle)
+    (at-start .args .column, at-start .args .height))
+    (toZ-ofZ (sfits-of {w = w32} {z = at-shifted .shifted .result} (at-shifted .shifted .ok)) ∙ x)
+    (toZ-ofZ (sfits-of {w = w32} {z = c .shifted2 .result} (c .shifted2 .ok)) ∙ y)
 
 pub placed-spec : {M : Type 1} → statement M
 placed-spec = tie.close (tie.spec (λ c κs. search needs) (λ c κs. search needs) returns)

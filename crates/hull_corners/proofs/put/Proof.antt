@@ -34,33 +34,42 @@ loop-holds : tie.Need-loop-holds Inv-loop μ-loop
 loop-holds c = (omega arith, c .before .before .pre .ordered, omega arith, refl, refl)
 
 cast-put-corner : tie.Need-cast-put-corner Inv-loop μ-loop
-cast-put-corner c = omega (arith, c .before .shared-slice-known3 .given (c .before .before .before .loop .i))
+cast-put-corner c =
+    let at-shared-slice-known3 = c .before in
+    omega (arith, at-shared-slice-known3 .shared-slice-known3 .given (at-shared-slice-known3 .before .before .loop .i))
 
 mul-put-corner : tie.Need-mul-put-corner Inv-loop μ-loop
-mul-put-corner c = omega (arith, c .before .shared-slice-known3 .given (c .before .before .before .loop .i))
+mul-put-corner c =
+    let at-shared-slice-known3 = c .before in
+    omega (arith, at-shared-slice-known3 .shared-slice-known3 .given (at-shared-slice-known3 .before .before .loop .i))
 
 shared-slice-read-put-corner : tie.Need-shared-slice-read-put-corner Inv-loop μ-loop
 shared-slice-read-put-corner c =
-    let l = c .before .before .before .before .loop in
-    c .before .before .before .before .before .before .before .pre .columns (l .i) (l .inv .0) (omega arith)
+    let at-loop = c .before .before .before .before in let at-start = at-loop .before .before .before in
+    let l = at-loop .loop in
+    at-start .pre .columns (l .i) (l .inv .0) (omega arith)
 
 put-corner-requires : tie.Need-put-corner-requires Inv-loop μ-loop
 put-corner-requires c κs =
-    let s = c .before .before .before .before .before .before .before in
-    (omega arith, s .pre .x, s .pre .y, simp (toZ-ofZ (s .fits .way)) (s .pre .one))
+    let at-start = c .before .before .before .before .before .before .before in
+    (omega arith, at-start .pre .x, at-start .pre .y, simp (toZ-ofZ (at-start .fits .way)) (at-start .pre .one))
 
 loop-again : tie.Need-loop-again Inv-loop μ-loop
 loop-again c =
-    let s = c .before .before .before .before .before .before .before .before .before in
-    let l = c .before .before .before .before .before .before .loop in
-    (omega arith, omega arith, omega arith, c .before .put-corner .kept .0 ∙ l .inv .3, put-turn (corner (s .args .base) (toZ w32 (ofZ w32 (s .args .way))) (s .args .ys .now)) (s .args .s .now) (s .args .to) (l .i) (l .o) (l .out) (c .before .put-corner .last .0) (sets (s .args .out .now) (s .args .at) (numbers (map (corner (s .args .base) (toZ w32 (ofZ w32 (s .args .way))) (s .args .ys .now)) (slice (s .args .from) (s .args .to) (s .args .s .now))))) (omega arith) (s .pre .inside) (c .before .put-corner .ensures) (l .inv .4))
+    let at-put-corner = c .before in let at-loop = at-put-corner .before .before .before .before .before in
+    let at-start = at-loop .before .before .before in
+    let l = at-loop .loop in
+    (omega arith, omega arith, omega arith, at-put-corner .put-corner .kept .0 ∙ l .inv .3, put-turn (corner (at-start .args .base) (toZ w32 (ofZ w32 (at-start .args .way))) (at-start .args .ys .now)) (at-start .args .s .now) (at-start .args .to) (l .i) (l .o) (l .out) (at-put-corner .put-corner .last .0) (sets (at-start .args .out .now) (at-start .args .at) (numbers (map (corner (at-start .args .base) (toZ w32 (ofZ w32 (at-start .args .way))) (at-start .args .ys .now)) (slice (at-start .args .from) (at-start .args .to) (at-start .args .s .now))))) (omega arith) (at-start .pre .inside) (at-put-corner .put-corner .ensures) (l .inv .4))
 
 returns : tie.Need-returns Inv-loop μ-loop
 returns c =
-    let s = c .before .before .before .before in
+    let at-start = c .before .before .before .before in
     let l = c .before .loop in
-    let way = toZ-ofZ (s .fits .way) in
-    put-end (corner (s .args .base) (s .args .way) (s .args .ys .now)) (s .args .s .now) (s .args .to) (l .i) (l .o) (l .out) (sets (s .args .out .now) (s .args .at) (numbers (map (corner (s .args .base) (s .args .way) (s .args .ys .now)) (slice (s .args .from) (s .args .to) (s .args .s .now))))) (l .inv .1) (omega arith) (simp way at (l .inv .4))
+    let way = toZ-ofZ (at-start .fits .way) in
+    put-end (corner (at-start .args .base) (at-start .args .way) (at-start .args .ys .now)) (at-start .args .s .now)
+    (at-start .args .to) (l .i) (l .o) (l .out)
+    (sets (at-start .args .out .now) (at-start .args .at)
+    (numbers (map (corner (at-start .args .base) (at-start .args .way) (at-start .args .ys .now)) (slice (at-start .args .from) (at-start .args .to) (at-start .args .s .now))))) (l .inv .1) (omega arith) (simp way at (l .inv .4))
 
 pub put-spec : {M : Type 1} → statement M
 put-spec =

@@ -13,23 +13,27 @@ use Rattle.hull_corners.proofs.put_corner.Tie as tie
 
 coordinate-requires : tie.Need-coordinate-requires
 coordinate-requires c κs =
-    let s = c .before in
-    simp (toZ-ofZ (sfits-of {w = w32} {z = s .args .base .0} (c .struct-told .given .0 .1)), toZ-ofZ (s .fits .way)) (s .pre .1, s .pre .3)
+    let at-start = c .before in
+    simp (toZ-ofZ (sfits-of {w = w32} {z = at-start .args .base .0} (c .struct-told .given .0 .1)), toZ-ofZ (at-start .fits .way))
+    (at-start .pre .1, at-start .pre .3)
 
 coordinate-requires-2 : tie.Need-coordinate-requires-2
 coordinate-requires-2 c κs =
-    let s = c .before .before .before in
-    simp (toZ-ofZ (sfits-of {w = w32} {z = s .args .base .1} (c .struct-told2 .given .1 .0 .1)), toZ-ofZ (s .fits .way)) (s .pre .2, s .pre .3)
+    let at-start = c .before .before .before in
+    simp (toZ-ofZ (sfits-of {w = w32} {z = at-start .args .base .1} (c .struct-told2 .given .1 .0 .1)), toZ-ofZ (at-start .fits .way)) (at-start .pre .2, at-start .pre .3)
 
 slice-set-from-out-2 : tie.Need-slice-set-from-out-2
 slice-set-from-out-2 c = simp length-set (omega arith)
 
 returns : tie.Need-returns
 returns c =
-    let s = c .before .before .before .before in
-    let x = simp (toZ-ofZ (sfits-of {w = w32} {z = s .args .base .0} (c .before .before .before .struct-told .given .0 .1)), toZ-ofZ (s .fits .way)) at (c .before .before .coordinate .ensures) in
-    let y = simp (toZ-ofZ (sfits-of {w = w32} {z = s .args .base .1} (c .before .struct-told2 .given .1 .0 .1)), toZ-ofZ (s .fits .way)) at (c .coordinate2 .ensures) in
-    ap₂ (λ (a b : ℤ). set (set (s .args .out .now) (s .args .o) a) (s .args .o + 1) b) (toZ-ofZ (sfits-of {w = w32} {z = c .before .before .coordinate .result} (c .before .before .coordinate .ok)) ∙ x) (toZ-ofZ (sfits-of {w = w32} {z = c .coordinate2 .result} (c .coordinate2 .ok)) ∙ y)
+    let at-coordinate = c .before .before in let at-struct-told = at-coordinate .before in
+    let at-start = at-struct-told .before in
+    let x = simp (toZ-ofZ (sfits-of {w = w32} {z = at-start .args .base .0} (at-struct-told .struct-told .given .0 .1)), toZ-ofZ (at-start .fits .way)) at (at-coordinate .coordinate .ensures) in
+    let y = simp (toZ-ofZ (sfits-of {w = w32} {z = at-start .args .base .1} (c .before .struct-told2 .given .1 .0 .1)), toZ-ofZ (at-start .fits .way)) at (c .coordinate2 .ensures) in
+    ap₂ (λ (a b : ℤ). set (set (at-start .args .out .now) (at-start .args .o) a) (at-start .args .o + 1) b)
+    (toZ-ofZ (sfits-of {w = w32} {z = at-coordinate .coordinate .result} (at-coordinate .coordinate .ok)) ∙ x)
+    (toZ-ofZ (sfits-of {w = w32} {z = c .coordinate2 .result} (c .coordinate2 .ok)) ∙ y)
 
 pub put-corner-spec : {M : Type 1} → statement M
 put-corner-spec =

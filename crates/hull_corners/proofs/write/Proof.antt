@@ -10,22 +10,32 @@ use Rattle.hull_corners.proofs.write.Statement.{statement}
 use Rattle.hull_corners.proofs.write.Tie as tie
 
 put-requires : tie.Need-put-requires
-put-requires c κs = puts-lower (c .before .before .before .before .before .before .before .args .start) (c .before .before .before .before .before .before .before .pre .0) (c .before .before .before .before .before .before .before .pre .1) (c .before .before .placed .result) (c .before .before .placed .ensures)
+put-requires c κs =
+    let at-placed = c .before .before in let at-start = at-placed .before .before .before .before .before in
+    puts-lower (at-start .args .start) (at-start .pre .0) (at-start .pre .1) (at-placed .placed .result)
+    (at-placed .placed .ensures)
 
 put-requires-2 : tie.Need-put-requires-2
 put-requires-2 c κs =
-    let p = c .before .before .before .before .before .before .before .before .before .before .pre in
-    let a = c .before .before .before .before .placed2 in
-    puts-upper (c .before .before .before .before .before .before .before .before .before .before .args .start) (p .0) (p .1) (a .result) (length (c .before .before .put .last .0)) (a .ensures) (c .before .before .put .kept .0)
+    let at-put = c .before .before in let at-placed2 = at-put .before .before in
+    let at-start = at-placed2 .before .before .before .before .before .before in
+    let p = at-start .pre in
+    let a = at-placed2 .placed2 in
+    puts-upper (at-start .args .start) (p .0) (p .1) (a .result) (length (at-put .put .last .0)) (a .ensures)
+    (at-put .put .kept .0)
 
 returns : tie.Need-returns
 returns c =
-    let p = c .before .before .before .before .before .before .before .placed in
-    let b = c .before .before .before .before .before .before .placed2 in
-    let d = c .before .before .before .before .put in
-    let s = c .before .before .before .before .before .before .before .before .before .before .before .before in
-    write-both (s .args .start .0 -ℤ pos middle) (s .args .start .1 -ℤ pos middle) (s .args .west) (s .args .east) top (s .args .lo .now) (s .args .hi .now) (s .args .s .now) (s .args .t .now) (s .args .a) (s .args .f) (s .args .g)
-    (p .result) (b .result) (s .args .out .now) (d .last .0) (c .before .put2 .last .0) (p .ensures) (b .ensures) (d .ensures) (c .before .put2 .ensures)
+    let at-put2 = c .before in let at-put = at-put2 .before .before .before in let at-placed2 = at-put .before .before in
+    let at-placed = at-placed2 .before in let at-start = at-placed .before .before .before .before .before in
+    let p = at-placed .placed in
+    let b = at-placed2 .placed2 in
+    let d = at-put .put in
+    write-both (at-start .args .start .0 -ℤ pos middle) (at-start .args .start .1 -ℤ pos middle) (at-start .args .west)
+    (at-start .args .east) top (at-start .args .lo .now) (at-start .args .hi .now) (at-start .args .s .now)
+    (at-start .args .t .now) (at-start .args .a) (at-start .args .f) (at-start .args .g)
+    (p .result) (b .result) (at-start .args .out .now) (d .last .0) (at-put2 .put2 .last .0) (p .ensures) (b .ensures)
+    (d .ensures) (at-put2 .put2 .ensures)
 
 pub write-spec : {M : Type 1} → statement M
 write-spec =

@@ -6,21 +6,30 @@ use Rattle.hull_scan.proofs.list_in.Statement.{statement}
 use Rattle.hull_scan.proofs.list_in.Tie as tie
 
 sub-n : tie.Need-sub-n
-sub-n c = walked-order (c .before .before .before .before .before .before .before .before .before .before .before .before .pre .0)
+sub-n c =
+    let at-start = c .before .before .before .before .before .before .before .before .before .before .before .before in
+    walked-order (at-start .pre .0)
 
 finish-requires : tie.Need-finish-requires
 finish-requires c κs =
-    let a = c .before .before .before .before .before .before .before .before .before .before .before .before .scan in
-    let b = c .before .before .before .before .before .before .before .scan2 in
-    let s = c .before .before .before .before .before .before .before .before .before .before .before .before .before .before .before .before .before .before .before .before .before .before .before .before .before .before .before in
-    let f = c .before .before .before .before .before .before .before .before .before .before .before .before .before .before .before .before .before .before .before .fill in
-    (s .pre .1, chained (s .pre .0) (s .pre .2) (f .last .1 .1 .1 .0) (f .last .1 .1 .1 .1 .0) (a .last .1 .1 .0) (b .last .1 .1 .0) (a .result) (b .result) (f .ensures .0) (f .ensures .1) (a .kept .1 .1 .0) (b .kept .1 .1 .0) (a .ensures) (b .ensures))
+    let at-scan2 = c .before .before .before .before .before .before .before in
+    let at-scan = at-scan2 .before .before .before .before .before in
+    let at-fill = at-scan .before .before .before .before .before .before .before in
+    let at-start = at-fill .before .before .before .before .before .before .before .before in
+    let a = at-scan .scan in
+    let b = at-scan2 .scan2 in
+    let f = at-fill .fill in
+    (at-start .pre .1, chained (at-start .pre .0) (at-start .pre .2) (f .last .1 .1 .1 .0) (f .last .1 .1 .1 .1 .0) (a .last .1 .1 .0) (b .last .1 .1 .0) (a .result) (b .result) (f .ensures .0) (f .ensures .1) (a .kept .1 .1 .0) (b .kept .1 .1 .0) (a .ensures) (b .ensures))
 
 returns : tie.Need-returns
 returns c =
-    let s = c .before .before .before .before .before .before .before .before .before .before .before .before .before .before .before .before .before .before .before .before .before .before .before .before .before .before .before .before .before in
-    let f = c .before .before .before .before .before .before .before .before .before .before .before .before .before .before .before .before .before .before .before .before .before .fill in
-    hulled (s .pre .0) (s .pre .2) (s .args .start) (f .last .1 .1 .1 .0) (f .last .1 .1 .1 .1 .0) (s .args .out .now) (c .before .finish .last .1 .1 .1 .1 .1 .1 .1 .1 .1 .0) (c .before .finish .result) (f .ensures .0) (f .ensures .1) (c .before .finish .ensures)
+    let at-finish = c .before in
+    let at-fill = at-finish .before .before .before .before .before .before .before .before .before .before .before .before .before .before .before .before .before .before .before .before in
+    let at-start = at-fill .before .before .before .before .before .before .before .before in
+    let f = at-fill .fill in
+    hulled (at-start .pre .0) (at-start .pre .2) (at-start .args .start) (f .last .1 .1 .1 .0) (f .last .1 .1 .1 .1 .0)
+    (at-start .args .out .now) (at-finish .finish .last .1 .1 .1 .1 .1 .1 .1 .1 .1 .0) (at-finish .finish .result) (f .ensures .0)
+    (f .ensures .1) (at-finish .finish .ensures)
 
 pub list-in-spec : {M : Type 1} → statement M
 list-in-spec =

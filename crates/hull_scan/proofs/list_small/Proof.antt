@@ -8,7 +8,9 @@ use Rattle.hull_scan.proofs.list_small.Statement.{statement}
 use Rattle.hull_scan.proofs.list_small.Tie as tie
 
 list-in-requires : tie.Need-list-in-requires
-list-in-requires c κs = let s = c .before .before .before .before .before .before in (s .pre .0, s .pre .1, stored smallSize (s .pre .2) (omega arith))
+list-in-requires c κs =
+    let at-start = c .before .before .before .before .before .before in
+    (at-start .pre .0, at-start .pre .1, stored smallSize (at-start .pre .2) (omega arith))
 
 pub list-small-spec : {M : Type 1} → statement M
 list-small-spec =

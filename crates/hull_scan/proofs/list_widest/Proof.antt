@@ -10,8 +10,8 @@ use Rattle.hull_scan.proofs.list_widest.Tie as tie
 
 list-in-requires : tie.Need-list-in-requires
 list-in-requires c κs =
-    let s = c .before .before .before .before .before .before in
-    (s .pre .0, s .pre .1, stored (mostSteps + 1) (omega (arith, walked-width (s .pre .0))) (omega arith))
+    let at-start = c .before .before .before .before .before .before in
+    (at-start .pre .0, at-start .pre .1, stored (mostSteps + 1) (omega (arith, walked-width (at-start .pre .0))) (omega arith))
 
 pub list-widest-spec : {M : Type 1} → statement M
 list-widest-spec =

@@ -10,15 +10,21 @@ use Rattle.line_convert.proofs.convert_kind.Tie as tie
 
 returns : tie.Need-returns
 returns c =
-    let r = c .before .before .copy in
-    let a = c .before .before .before .before .before .before .before .before .args in
-    subst (λ (k : Kind). Wrote (kindConverted k (a .s .now)) (a .at) (a .out .now) (r .result) (r .last .1 .0)) (sym (c .before .before .before .before .enum-told .given .1)) (r .ensures)
+    let at-copy = c .before .before in let at-enum-told = at-copy .before .before in
+    let at-start = at-enum-told .before .before .before .before in
+    let r = at-copy .copy in
+    let a = at-start .args in
+    subst (λ (k : Kind). Wrote (kindConverted k (a .s .now)) (a .at) (a .out .now) (r .result) (r .last .1 .0))
+    (sym (at-enum-told .enum-told .given .1)) (r .ensures)
 
 returns-2 : tie.Need-returns-2
 returns-2 c =
-    let r = c .before .before .convert-frame in
-    let a = c .before .before .before .before .before .before .before .before .args in
-    subst (λ (k : Kind). Wrote (kindConverted k (a .s .now)) (a .at) (a .out .now) (r .result) (r .last .1 .1 .0)) (sym (c .before .before .before .before .enum-told2 .given .1)) (r .ensures)
+    let at-convert-frame = c .before .before in let at-enum-told2 = at-convert-frame .before .before in
+    let at-start = at-enum-told2 .before .before .before .before in
+    let r = at-convert-frame .convert-frame in
+    let a = at-start .args in
+    subst (λ (k : Kind). Wrote (kindConverted k (a .s .now)) (a .at) (a .out .now) (r .result) (r .last .1 .1 .0))
+    (sym (at-enum-told2 .enum-told2 .given .1)) (r .ensures)
 
 pub convert-kind-spec : {M : Type 1} → statement M
 convert-kind-spec =

@@ -23,15 +23,15 @@ loop-holds c =
 
 loop-again : tie.Need-loop-again Inv-loop μ-loop
 loop-again c =
-    let l = c .before .before in
-    let a = l .before .args in
-    (search needs, search needs, search needs, put-next (a .s .now) (l .loop .out) _ (a .at) (l .loop .i) _ (omega arith) (omega arith) refl (l .loop .inv .3))
+    let at-loop = c .before .before in
+    let a = at-loop .before .args in
+    (search needs, search needs, search needs, put-next (a .s .now) (at-loop .loop .out) _ (a .at) (at-loop .loop .i) _ (omega arith) (omega arith) refl (at-loop .loop .inv .3))
 
 returns : tie.Need-returns Inv-loop μ-loop
 returns c =
-    let l = c .before in
-    let a = l .before .args in
-    put-done (a .s .now) (l .loop .out) (a .out .now) (a .at) (l .loop .i) (omega arith) (l .loop .inv .3)
+    let at-loop = c .before in
+    let a = at-loop .before .args in
+    put-done (a .s .now) (at-loop .loop .out) (a .out .now) (a .at) (at-loop .loop .i) (omega arith) (at-loop .loop .inv .3)
 
 pub copy-spec : {M : Type 1} → statement M
 copy-spec =

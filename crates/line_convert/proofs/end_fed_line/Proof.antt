@@ -13,23 +13,24 @@ use Rattle.line_convert.proofs.end_fed_line.Tie as tie
 
 slice-write-out : tie.Need-slice-write-out
 slice-write-out c =
-    let r = c .before .before .end-line in
-    let s = c .before .before .before .before .before .before in
-    omega (arith, ended-most (s .args .h .now), r .ensures .end, r .kept .1 .0, s .pre)
+    let at-end-line = c .before .before in let at-start = at-end-line .before .before .before .before in
+    let r = at-end-line .end-line in
+    omega (arith, ended-most (at-start .args .h .now), r .ensures .end, r .kept .1 .0, at-start .pre)
 
 add-result : tie.Need-add-result
 add-result c =
-    let r = c .before .before .end-line in
-    let s = c .before .before .before .before .before .before in
-    omega (arith, ended-most (s .args .h .now), r .ensures .end)
+    let at-end-line = c .before .before in let at-start = at-end-line .before .before .before .before in
+    let r = at-end-line .end-line in
+    omega (arith, ended-most (at-start .args .h .now), r .ensures .end)
 
 returns : tie.Need-returns
 returns c =
-    let r = c .before .before .end-line in
-    let s = c .before .before .before .before .before .before in
-    let m = ended-most (s .args .h .now) in
-    let w : Wrote (10 ∷ []) (r .result) (r .last .1 .0) (r .result + 1) _ = record { end = refl; buffer = put-one 10 (r .result) (r .last .1 .0) (omega (arith, m, r .ensures .end, r .kept .1 .0, s .pre)) } in
-    wrote-append (r .ensures) w (omega (arith, m, s .pre))
+    let at-end-line = c .before .before in let at-start = at-end-line .before .before .before .before in
+    let r = at-end-line .end-line in
+    let m = ended-most (at-start .args .h .now) in
+    let w : Wrote (10 ∷ []) (r .result) (r .last .1 .0) (r .result + 1)
+    _ = record { end = refl; buffer = put-one 10 (r .result) (r .last .1 .0) (omega (arith, m, r .ensures .end, r .kept .1 .0, at-start .pre)) } in
+    wrote-append (r .ensures) w (omega (arith, m, at-start .pre))
 
 pub end-fed-line-spec : {M : Type 1} → statement M
 end-fed-line-spec =

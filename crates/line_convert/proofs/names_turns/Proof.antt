@@ -9,10 +9,14 @@ returns : tie.Need-returns
 returns c = names-short (c .before .args .s .now) (c .if1 .taken)
 
 returns-2 : tie.Need-returns-2
-returns-2 c = names-other (c .before .before .before .args .s .now) (c .if2 .taken)
+returns-2 c =
+    let at-start = c .before .before .before in
+    names-other (at-start .args .s .now) (c .if2 .taken)
 
 returns-3 : tie.Need-returns-3
-returns-3 c = names-first (c .before .before .before .before .args .s .now) (c .before .if2 .left)
+returns-3 c =
+    let at-start = c .before .before .before .before in
+    names-first (at-start .args .s .now) (c .before .if2 .left)
 
 pub names-turns-spec : {M : Type 1} → statement M
 names-turns-spec = tie.close (tie.spec returns (λ c. search needs) returns-2 (λ c. search needs) returns-3)

@@ -25,22 +25,22 @@ loop-holds c =
 
 letter-requires : tie.Need-letter-requires Inv-loop μ-loop
 letter-requires c κs =
-    let l = c .before .before in
-    let s = l .before .before .before in
-    below-at (s .args .steps .now) (l .loop .i) (s .pre .0) (omega arith)
+    let at-loop = c .before .before in let at-start = at-loop .before .before .before in
+    below-at (at-start .args .steps .now) (at-loop .loop .i) (at-start .pre .0) (omega arith)
 
 loop-again : tie.Need-loop-again Inv-loop μ-loop
 loop-again c =
-    let l = c .before .before .before in
-    let a = l .before .before .before .args in
+    let at-loop = c .before .before .before in let at-start = at-loop .before .before .before in
+    let a = at-start .args in
     let n = length-lettersOf (a .steps .now) in
-    (search needs, search needs, search needs, put-next (lettersOf (a .steps .now)) (l .loop .out) _ (a .at) (l .loop .i) _ (omega arith) (omega arith) (c .letter .ensures ∙ letter-at (a .steps .now) (l .loop .i) (omega arith)) (l .loop .inv .3))
+    (search needs, search needs, search needs, put-next (lettersOf (a .steps .now)) (at-loop .loop .out) _ (a .at) (at-loop .loop .i) _ (omega arith) (omega arith) (c .letter .ensures ∙ letter-at (a .steps .now) (at-loop .loop .i) (omega arith)) (at-loop .loop .inv .3))
 
 returns : tie.Need-returns Inv-loop μ-loop
 returns c =
-    let l = c .before in
-    let a = l .before .before .before .args in
-    put-done (lettersOf (a .steps .now)) (l .loop .out) (a .out .now) (a .at) (l .loop .i) (omega (arith, length-lettersOf (a .steps .now))) (l .loop .inv .3)
+    let at-loop = c .before in let at-start = at-loop .before .before .before in
+    let a = at-start .args in
+    put-done (lettersOf (a .steps .now)) (at-loop .loop .out) (a .out .now) (a .at) (at-loop .loop .i)
+    (omega (arith, length-lettersOf (a .steps .now))) (at-loop .loop .inv .3)
 
 pub spell-steps-spec : {M : Type 1} → statement M
 spell-steps-spec =

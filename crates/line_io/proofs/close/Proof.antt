@@ -11,15 +11,16 @@ use Rattle.line_io.proofs.close.Tie as tie
 
 slice-reshare-prefix-send : tie.Need-slice-reshare-prefix-send
 slice-reshare-prefix-send c =
-    let f = c .before .before .finish in
-    let s = c .before .before .before .before .before .before .before in
-    omega (arith, last-most (s .args .task) (take (s .args .held) (s .args .line .now)) (omega (arith, length-take (s .args .held) (s .args .line .now), s .pre .0)), f .ensures .end, f .kept .1 .1 .1 .0, s .pre .1 .0)
+    let at-finish = c .before .before in let at-start = at-finish .before .before .before .before .before in
+    let f = at-finish .finish in
+    omega (arith, last-most (at-start .args .task) (take (at-start .args .held) (at-start .args .line .now)) (omega (arith, length-take (at-start .args .held) (at-start .args .line .now), at-start .pre .0)), f .ensures .end, f .kept .1 .1 .1 .0, at-start .pre .1 .0)
 
 slice-aggregate-send : tie.Need-slice-aggregate-send
 slice-aggregate-send c =
-    let f = c .before .before .before .finish in
-    let s = c .before .before .before .before .before .before .before .before in
-    sym (length-take-le (f .result) (f .last .1 .1 .1 .0) (omega (arith, last-most (s .args .task) (take (s .args .held) (s .args .line .now)) (omega (arith, length-take (s .args .held) (s .args .line .now), s .pre .0)), f .ensures .end, f .kept .1 .1 .1 .0, s .pre .1 .0)))
+    let at-finish = c .before .before .before in let at-start = at-finish .before .before .before .before .before in
+    let f = at-finish .finish in
+    sym (length-take-le (f .result) (f .last .1 .1 .1 .0)
+    (omega (arith, last-most (at-start .args .task) (take (at-start .args .held) (at-start .args .line .now)) (omega (arith, length-take (at-start .args .held) (at-start .args .line .now), at-start .pre .0)), f .ensures .end, f .kept .1 .1 .1 .0, at-start .pre .1 .0)))
 
 pub close-spec : {M : Type 1} → statement M
 close-spec =

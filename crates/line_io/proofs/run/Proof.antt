@@ -22,16 +22,19 @@ abbrev μ-loop : tie.MeasureT-loop
 
 close-requires : tie.Need-close-requires Inv-loop μ-loop
 close-requires c κs =
-    let g = c .before .before .before .before .before .before .before .before .before .before .before .before .before .before in
-    let l = g .before .before .before .before .before .before .loop .inv in
-    ((round-over (g .go-round .ensures) (l .0) (c .before .before .before .before .held .given .1), search needs), (search needs, search needs))
+    let at-held = c .before .before .before .before in
+    let at-go-round = at-held .before .before .before .before .before .before .before .before .before .before in
+    let at-loop = at-go-round .before .before .before .before .before .before in
+    let l = at-loop .loop .inv in
+    ((round-over (at-go-round .go-round .ensures) (l .0) (at-held .held .given .1), search needs), (search needs, search needs))
 
 loop-again : tie.Need-loop-again Inv-loop μ-loop
 loop-again c =
-    let g = c .before .before .before .before .before .before .before .before .before .before .before in
-    let l = g .before .before .before .before .before .before .loop .inv in
-    let m = round-more (g .go-round .ensures) (l .0) (c .before .q .given .1) (l .1) in
-    (m .0, omega (arith, m .1, g .go-round .kept .1 .1 .1 .0), search needs, search needs, search needs, search needs, search needs, search needs, search needs, search needs)
+    let at-go-round = c .before .before .before .before .before .before .before .before .before .before .before in
+    let at-loop = at-go-round .before .before .before .before .before .before in
+    let l = at-loop .loop .inv in
+    let m = round-more (at-go-round .go-round .ensures) (l .0) (c .before .q .given .1) (l .1) in
+    (m .0, omega (arith, m .1, at-go-round .go-round .kept .1 .1 .1 .0), search needs, search needs, search needs, search needs, search needs, search needs, search needs, search needs)
 
 pub run-spec : {M : Type 1} → statement M
 run-spec =

@@ -6,7 +6,9 @@ use Rattle.line_io.proofs.start.Statement.{statement}
 use Rattle.line_io.proofs.start.Tie as tie
 
 run-requires : tie.Need-run-requires
-run-requires c κs = (search needs, (last-small (c .before .before .before .before .args .task), search needs))
+run-requires c κs =
+    let at-start = c .before .before .before .before in
+    (search needs, (last-small (at-start .args .task), search needs))
 
 pub start-spec : {M : Type 1} → statement M
 start-spec =

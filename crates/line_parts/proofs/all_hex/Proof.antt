@@ -19,13 +19,14 @@ abbrev μ-loop : tie.MeasureT-loop
 
 loop-again : tie.Need-loop-again Inv-loop μ-loop
 loop-again c =
-    let l = c .before .before .before in
-    (search needs, allHex-next (l .before .before .args .s .now) (l .loop .i) (l .loop .all) (c .is-hex .result) (l .loop .inv .1) (omega arith) (c .is-hex .ensures))
+    let at-loop = c .before .before .before in
+    (search needs, allHex-next (at-loop .before .before .args .s .now) (at-loop .loop .i) (at-loop .loop .all) (c .is-hex .result) (at-loop .loop .inv .1) (omega arith) (c .is-hex .ensures))
 
 returns : tie.Need-returns Inv-loop μ-loop
 returns c =
-    let l = c .before in
-    allHex-all (l .before .before .args .s .now) (l .loop .i) (l .loop .all) (l .loop .inv .1) (c .loop-test .left)
+    let at-loop = c .before in
+    allHex-all (at-loop .before .before .args .s .now) (at-loop .loop .i) (at-loop .loop .all) (at-loop .loop .inv .1)
+    (c .loop-test .left)
 
 pub all-hex-spec : {M : Type 1} → statement M
 all-hex-spec =

@@ -21,21 +21,18 @@ abbrev μ-loop : tie.MeasureT-loop
 
 value-requires : tie.Need-value-requires Inv-loop μ-loop
 value-requires c κs =
-    let l = c .before .before in
-    let s = l .before .before .before in
-    allHex-at (s .args .s .now) (headDigits + l .loop .i) (s .pre .0) (omega arith)
+    let at-loop = c .before .before in let at-start = at-loop .before .before .before in
+    allHex-at (at-start .args .s .now) (headDigits + at-loop .loop .i) (at-start .pre .0) (omega arith)
 
 loop-again : tie.Need-loop-again Inv-loop μ-loop
 loop-again c =
-    let l = c .before .before .before in
-    let s = l .before .before .before in
-    (search needs, search needs, search needs, values-next (s .args .s .now) (l .loop .buf) _ (l .loop .i) (c .value .result) (omega arith) (omega arith) (c .value .ensures .0) (l .loop .inv .3))
+    let at-loop = c .before .before .before in let at-start = at-loop .before .before .before in
+    (search needs, search needs, search needs, values-next (at-start .args .s .now) (at-loop .loop .buf) _ (at-loop .loop .i) (c .value .result) (omega arith) (omega arith) (c .value .ensures .0) (at-loop .loop .inv .3))
 
 returns : tie.Need-returns Inv-loop μ-loop
 returns c =
-    let l = c .before in
-    let s = l .before .before .before in
-    values-done (s .args .s .now) (l .loop .buf) _ (l .loop .i) (omega arith) (l .loop .inv .3)
+    let at-loop = c .before in let at-start = at-loop .before .before .before in
+    values-done (at-start .args .s .now) (at-loop .loop .buf) _ (at-loop .loop .i) (omega arith) (at-loop .loop .inv .3)
 
 pub copy-digits-spec : {M : Type 1} → statement M
 copy-digits-spec =

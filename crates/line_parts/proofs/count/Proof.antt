@@ -7,7 +7,9 @@ use Rattle.line_parts.proofs.count.Statement.{statement}
 use Rattle.line_parts.proofs.count.Tie as tie
 
 returns : tie.Need-returns
-returns c = omega (arith, countOf-six (c .before .before .before .args .s .now) (omega arith))
+returns c =
+    let at-start = c .before .before .before in
+    omega (arith, countOf-six (at-start .args .s .now) (omega arith))
 
 pub count-spec : {M : Type 1} → statement M
 count-spec = tie.close (tie.spec (λ c κs. search needs) (λ c. search needs) (λ c κs. search needs) (λ c. search needs) returns)

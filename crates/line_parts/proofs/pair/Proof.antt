@@ -9,13 +9,13 @@ use Rattle.line_parts.proofs.pair.Tie as tie
 
 value-requires : tie.Need-value-requires
 value-requires c κs =
-    let s = c .before .before in
-    allHex-at (s .args .s .now) (s .args .i) (s .pre .0) (omega arith)
+    let at-start = c .before .before in
+    allHex-at (at-start .args .s .now) (at-start .args .i) (at-start .pre .0) (omega arith)
 
 value-requires-2 : tie.Need-value-requires-2
 value-requires-2 c κs =
-    let s = c .before .before .before .before in
-    allHex-at (s .args .s .now) (s .args .i + 1) (s .pre .0) (omega arith)
+    let at-start = c .before .before .before .before in
+    allHex-at (at-start .args .s .now) (at-start .args .i + 1) (at-start .pre .0) (omega arith)
 
 pub pair-spec : {M : Type 1} → statement M
 pair-spec =

@@ -11,34 +11,37 @@ use Rattle.line_parts.proofs.spell_facts.Tie as tie
 
 spell-two-requires-2 : tie.Need-spell-two-requires-2
 spell-two-requires-2 c κs =
-    let v = c .before .before .before .before in
-    let f = v .before .before .before .args .f in
-    omega (arith, length-two 2 (v .verdict-number .result) 4 (f .steps))
+    let at-verdict-number = c .before .before .before .before in let at-start = at-verdict-number .before .before .before in
+    let f = at-start .args .f in
+    omega (arith, length-two 2 (at-verdict-number .verdict-number .result) 4 (f .steps))
 
 spell-two-requires-3 : tie.Need-spell-two-requires-3
 spell-two-requires-3 c κs =
-    let v = c .before .before .before .before .before .before .before .before in
-    let f = v .before .before .before .args .f in
-    omega (arith, length-two 2 (v .verdict-number .result) 4 (f .steps), length-two 8 (f .nodes) 4 (f .corners))
+    let at-verdict-number = c .before .before .before .before .before .before .before .before in
+    let at-start = at-verdict-number .before .before .before in
+    let f = at-start .args .f in
+    omega (arith, length-two 2 (at-verdict-number .verdict-number .result) 4 (f .steps), length-two 8 (f .nodes) 4 (f .corners))
 
 spell-signed-requires : tie.Need-spell-signed-requires
 spell-signed-requires c κs =
-    let v = c .before .before .before .before .before .before .before .before .before .before .before .before .before in
-    let f = v .before .before .before .args .f in
-    omega (arith, length-two 2 (v .verdict-number .result) 4 (f .steps), length-two 8 (f .nodes) 4 (f .corners), length-two 4 (f .j) 4 (f .k))
+    let at-verdict-number = c .before .before .before .before .before .before .before .before .before .before .before .before .before in
+    let f = at-verdict-number .before .before .before .args .f in
+    omega (arith, length-two 2 (at-verdict-number .verdict-number .result) 4 (f .steps), length-two 8 (f .nodes) 4 (f .corners), length-two 4 (f .j) 4 (f .k))
 
 returns : tie.Need-returns
 returns c =
-    let last = c .before .before in
-    let third = last .before .before .before .before .before in
-    let second = third .before .before .before .before in
-    let first = second .before .before .before .before in
-    let v = first .before in
-    let a = v .before .before .before .args in
+    let at-spell-signed = c .before .before in let at-struct-told = at-spell-signed .before in
+    let at-spell-two3 = at-struct-told .before .before .before .before in
+    let at-spell-two2 = at-spell-two3 .before .before .before .before in
+    let at-spell-two = at-spell-two2 .before .before .before .before in let at-verdict-number = at-spell-two .before in
+    let at-start = at-verdict-number .before .before .before in
+    let a = at-start .args in
     let z = a .f .area in
-    wrote-facts (a .f) (v .verdict-number .result) (a .at) (toZ w32 (ofZ w32 z)) (v .verdict-number .ensures)
-    (toZ-ofZ w32 z (record { sfits = last .before .struct-told .given .1 .1 .1 .1 .1 .1 .0 .1 }))
-    (first .spell-two .ensures) (second .spell-two2 .ensures) (third .spell-two3 .ensures) (last .spell-signed .ensures) (omega arith)
+    wrote-facts (a .f) (at-verdict-number .verdict-number .result) (a .at) (toZ w32 (ofZ w32 z))
+    (at-verdict-number .verdict-number .ensures)
+    (toZ-ofZ w32 z (record { sfits = at-struct-told .struct-told .given .1 .1 .1 .1 .1 .1 .0 .1 }))
+    (at-spell-two .spell-two .ensures) (at-spell-two2 .spell-two2 .ensures) (at-spell-two3 .spell-two3 .ensures)
+    (at-spell-signed .spell-signed .ensures) (omega arith)
 
 pub spell-facts-spec : {M : Type 1} → statement M
 spell-facts-spec =

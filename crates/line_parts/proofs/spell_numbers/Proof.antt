@@ -26,32 +26,33 @@ loop-holds c = (omega arith, omega arith, omega arith, wrote-none (c .before .ar
 
 spell-signed-requires : tie.Need-spell-signed-requires Inv-loop μ-loop
 spell-signed-requires c κs =
-    let l = c .before .before .before in
-    let a = l .before .before .args in
-    let w = wrote-at (a .xs .now) (l .loop .i) (a .at) (omega arith) (omega arith) (l .loop .inv .3) in
+    let at-loop = c .before .before .before in
+    let a = at-loop .before .before .args in
+    let w = wrote-at (a .xs .now) (at-loop .loop .i) (a .at) (omega arith) (omega arith) (at-loop .loop .inv .3) in
     omega (arith, w .0, w .1)
 
 loop-again : tie.Need-loop-again Inv-loop μ-loop
 loop-again c =
-    let w = c .before .before in
-    let l = w .before .before .before .before in
-    let a = l .before .before .args in
-    let z = getD (a .xs .now) (l .loop .i) (pos 0) in
-    let e = toZ-ofZ w32 z (record { sfits = w .before .spell-signed-arg2 .given }) in
-    (omega arith, omega arith, omega arith, wrote-next (a .xs .now) (l .loop .i) (a .at) (toZ w32 (ofZ w32 z)) (omega arith) e (omega arith) (l .loop .inv .3) (w .spell-signed .ensures))
+    let at-spell-signed = c .before .before in let at-spell-signed-arg2 = at-spell-signed .before in
+    let at-loop = at-spell-signed-arg2 .before .before .before in
+    let a = at-loop .before .before .args in
+    let z = getD (a .xs .now) (at-loop .loop .i) (pos 0) in
+    let e = toZ-ofZ w32 z (record { sfits = at-spell-signed-arg2 .spell-signed-arg2 .given }) in
+    (omega arith, omega arith, omega arith, wrote-next (a .xs .now) (at-loop .loop .i) (a .at) (toZ w32 (ofZ w32 z)) (omega arith) e (omega arith) (at-loop .loop .inv .3) (at-spell-signed .spell-signed .ensures))
 
 same-length : tie.Need-same-length Inv-loop μ-loop
 same-length c =
-    let l = c .before in
-    let a = l .before .before .args in
-    wrote-at (a .xs .now) (l .loop .i) (a .at) (omega arith) (omega arith) (l .loop .inv .3) .1
+    let at-loop = c .before in
+    let a = at-loop .before .before .args in
+    wrote-at (a .xs .now) (at-loop .loop .i) (a .at) (omega arith) (omega arith) (at-loop .loop .inv .3) .1
 
 returns : tie.Need-returns Inv-loop μ-loop
 returns c =
-    let l = c .before in
-    let a = l .before .before .args in
-    let e : l .loop .i ≡ a .n = omega arith in
-    subst (λ (k : ℕ). Wrote (numbersLine (take k (a .xs .now))) (a .at) (a .out .now) (l .loop .next) (l .loop .out)) e (l .loop .inv .3)
+    let at-loop = c .before in
+    let a = at-loop .before .before .args in
+    let e : at-loop .loop .i ≡ a .n = omega arith in
+    subst (λ (k : ℕ). Wrote (numbersLine (take k (a .xs .now))) (a .at) (a .out .now) (at-loop .loop .next) (at-loop .loop .out))
+    e (at-loop .loop .inv .3)
 
 pub spell-numbers-spec : {M : Type 1} → statement M
 spell-numbers-spec =

@@ -11,12 +11,12 @@ use Rattle.line_parts.proofs.spell_refusal.Tie as tie
 
 returns : tie.Need-returns
 returns c =
-    let w = c .before .before in
-    let p = w .before .before in
-    let n = p .before in
-    let a = n .before .before .args in
-    subst₂ (λ (v i : ℕ). Wrote (hexOf 2 (0x80 + v) ++ hexOf 8 i) (a .at) (a .out .now) (w .spell-two .result) (w .spell-two .last .0))
-    (n .refusal-number .ensures .0) (p .refusal-place .ensures) (w .spell-two .ensures)
+    let at-spell-two = c .before .before in let at-refusal-place = at-spell-two .before .before in
+    let at-refusal-number = at-refusal-place .before in
+    let a = at-refusal-number .before .before .args in
+    subst₂ (λ (v i : ℕ). Wrote (hexOf 2 (0x80 + v) ++ hexOf 8 i) (a .at) (a .out .now) (at-spell-two .spell-two .result)
+    (at-spell-two .spell-two .last .0))
+    (at-refusal-number .refusal-number .ensures .0) (at-refusal-place .refusal-place .ensures) (at-spell-two .spell-two .ensures)
 
 pub spell-refusal-spec : {M : Type 1} → statement M
 spell-refusal-spec =

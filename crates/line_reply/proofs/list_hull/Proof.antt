@@ -7,14 +7,17 @@ use Rattle.line_reply.proofs.list_hull.Tie as tie
 
 returns : tie.Need-returns
 returns c =
-    let s = c .before .before .before .before .before .before .before in
-    hull-listed (c .before .before .before .before .list-short .ensures) (s .pre .0 .0) (s .pre .0 .1) (s .pre .1) (c .before .n .given .0 .0) (c .before .n .given .1)
+    let at-n = c .before in let at-list-short = at-n .before .before .before in
+    let at-start = at-list-short .before .before .before in
+    hull-listed (at-list-short .list-short .ensures) (at-start .pre .0 .0) (at-start .pre .0 .1) (at-start .pre .1)
+    (at-n .n .given .0 .0) (at-n .n .given .1)
 
 returns-2 : tie.Need-returns-2
 returns-2 c =
-    let s = c .before .before .before .before .before .before in
+    let at-list-short = c .before .before .before in let at-start = at-list-short .before .before .before in
     let g = c .enum-told .given in
-    absurd (hull-not-refused (c .before .before .before .list-short .ensures) (s .pre .0 .0) (s .pre .0 .1) (s .pre .1) (g .0 .0) (g .1))
+    absurd (hull-not-refused (at-list-short .list-short .ensures) (at-start .pre .0 .0) (at-start .pre .0 .1) (at-start .pre .1)
+    (g .0 .0) (g .1))
 
 pub list-hull-spec : {M : Type 1} → statement M
 list-hull-spec =

@@ -8,7 +8,8 @@ use Rattle.line_reply.proofs.reply.Tie as tie
 
 returns : tie.Need-returns
 returns c =
-    let a = c .before .before .before .args in
+    let at-start = c .before .before .before in
+    let a = at-start .args in
     reply-short (a .line .now) (a .out .now) (omega (arith, c .if1 .taken))
 
 answer-line-requires : tie.Need-answer-line-requires
@@ -16,8 +17,10 @@ answer-line-requires c κs = search needs
 
 returns-2 : tie.Need-returns-2
 returns-2 c =
-    let a = c .before .before .before .before .before .before .before .before .before .before .before .before .before .args in
-    reply-told (a .line .now) (a .out .now) (c .before .before .before .before .before .before .before .before .before .before .if1 .left) (c .before .before .before .before .before .answer-line .ensures .0)
+    let at-answer-line = c .before .before .before .before .before in
+    let at-if1 = at-answer-line .before .before .before .before .before in let at-start = at-if1 .before .before .before in
+    let a = at-start .args in
+    reply-told (a .line .now) (a .out .now) (at-if1 .if1 .left) (at-answer-line .answer-line .ensures .0)
 
 pub reply-spec : {M : Type 1} → statement M
 reply-spec =

@@ -14,33 +14,41 @@ use Rattle.line_reply.proofs.write_accepted.Tie as tie
 
 spell-requires : tie.Need-spell-requires
 spell-requires c κs =
-    let w = c .before .before .before .spell-facts in
-    omega (arith, length-factsLine (c .before .before .before .before .before .before .before .before .before .before .args .f), w .ensures .end, w .kept .0)
+    let at-spell-facts = c .before .before .before in
+    let at-start = at-spell-facts .before .before .before .before .before .before .before in
+    let w = at-spell-facts .spell-facts in
+    omega (arith, length-factsLine (at-start .args .f), w .ensures .end, w .kept .0)
 
 mul-spell-numbers : tie.Need-mul-spell-numbers
 mul-spell-numbers c =
-    let s = c .before .before .before .before .before .before .before .before .before .before .before .before .before .before .before in
-    record { fits = omega (arith, c .before .before .before .before .before .before .before .before .before .before .before .list-hull .ensures .count, length-hullOf origin (s .args .steps .now), s .pre .0) }
+    let at-list-hull = c .before .before .before .before .before .before .before .before .before .before .before in
+    let at-start = at-list-hull .before .before .before .before in
+    record { fits = omega (arith, at-list-hull .list-hull .ensures .count, length-hullOf origin (at-start .args .steps .now), at-start .pre .0) }
 
 spell-numbers-requires : tie.Need-spell-numbers-requires
 spell-numbers-requires c κs =
-    let s = c .before .before .before .before .before .before .before .before .before .before .before .before .before .before .before in
-    let h = c .before .before .before .before .before .before .before .before .before .before .before .list-hull in
-    let w = c .before .before .before .before .before .before .before .before .spell-facts in
-    let v = c .before .before .before .before .spell in
-    let l = length-hullOf origin (s .args .steps .now) in
-    let a = length-factsLine (s .args .f) in
+    let at-spell = c .before .before .before .before in let at-spell-facts = at-spell .before .before .before .before in
+    let at-list-hull = at-spell-facts .before .before .before in let at-start = at-list-hull .before .before .before .before in
+    let h = at-list-hull .list-hull in
+    let w = at-spell-facts .spell-facts in
+    let v = at-spell .spell in
+    let l = length-hullOf origin (at-start .args .steps .now) in
+    let a = length-factsLine (at-start .args .f) in
     let b = length-hexOf 4 (h .result) in
-    (omega (arith, h .kept .1 .0, h .ensures .count, s .pre .0, s .pre .1 .0), omega (arith, h .ensures .count, s .pre .0, w .ensures .end, w .kept .0, v .ensures .end, v .kept .0, s .pre .1 .1))
+    (omega (arith, h .kept .1 .0, h .ensures .count, at-start .pre .0, at-start .pre .1 .0), omega (arith, h .ensures .count, at-start .pre .0, w .ensures .end, w .kept .0, v .ensures .end, v .kept .0, at-start .pre .1 .1))
 
 returns : tie.Need-returns
 returns c =
-    let s = c .before .before .before .before .before .before .before .before .before .before .before .before .before .before .before .before .before .before in
-    let f = s .args .f in
-    let h = c .before .before .before .before .before .before .before .before .before .before .before .before .before .before .list-hull in
-    let cs = hullOf origin (s .args .steps .now) in
-    wrote-accepted (factsLine f) cs (s .args .at) (h .result) (h .last .1 .0) (h .ensures) (omega (arith, length-hullOf origin (s .args .steps .now), s .pre .0)) (length-factsLine f) (s .pre .1 .1)
-    (c .before .before .before .before .before .before .before .before .before .before .before .spell-facts .ensures) (c .before .before .before .before .before .before .before .spell .ensures) (c .before .before .spell-numbers .ensures)
+    let at-spell-numbers = c .before .before in let at-spell = at-spell-numbers .before .before .before .before .before in
+    let at-spell-facts = at-spell .before .before .before .before in let at-list-hull = at-spell-facts .before .before .before in
+    let at-start = at-list-hull .before .before .before .before in
+    let f = at-start .args .f in
+    let h = at-list-hull .list-hull in
+    let cs = hullOf origin (at-start .args .steps .now) in
+    wrote-accepted (factsLine f) cs (at-start .args .at) (h .result) (h .last .1 .0) (h .ensures)
+    (omega (arith, length-hullOf origin (at-start .args .steps .now), at-start .pre .0)) (length-factsLine f)
+    (at-start .pre .1 .1)
+    (at-spell-facts .spell-facts .ensures) (at-spell .spell .ensures) (at-spell-numbers .spell-numbers .ensures)
 
 pub write-accepted-spec : {M : Type 1} → statement M
 write-accepted-spec =

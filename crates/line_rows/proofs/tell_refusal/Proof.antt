@@ -9,14 +9,16 @@ use Rattle.line_rows.proofs.tell_refusal.Tie as tie
 
 feed-requires : tie.Need-feed-requires
 feed-requires c κs =
-    let w = c .before .before .before .spell-refusal in
-    let s = c .before .before .before .before .before .before in
-    omega (arith, w .ensures .end, w .kept .0, length-refusedLine (s .args .r), s .pre)
+    let at-spell-refusal = c .before .before .before in let at-start = at-spell-refusal .before .before .before in
+    let w = at-spell-refusal .spell-refusal in
+    omega (arith, w .ensures .end, w .kept .0, length-refusedLine (at-start .args .r), at-start .pre)
 
 returns : tie.Need-returns
 returns c =
-    let s = c .before .before .before .before .before .before .before .before .before in
-    wrote-append (c .before .before .before .before .before .before .spell-refusal .ensures) (c .before .before .feed .ensures) (omega (arith, length-refusedLine (s .args .r), s .pre))
+    let at-feed = c .before .before in let at-spell-refusal = at-feed .before .before .before .before in
+    let at-start = at-spell-refusal .before .before .before in
+    wrote-append (at-spell-refusal .spell-refusal .ensures) (at-feed .feed .ensures)
+    (omega (arith, length-refusedLine (at-start .args .r), at-start .pre))
 
 pub tell-refusal-spec : {M : Type 1} → statement M
 tell-refusal-spec =

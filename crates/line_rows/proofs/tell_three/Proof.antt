@@ -11,14 +11,16 @@ use Rattle.line_rows.proofs.tell_three.Tie as tie
 
 feed-requires : tie.Need-feed-requires
 feed-requires c κs =
-    let w = c .before .before .before .spell-numbers in
-    let s = c .before .before .before .before .before .before in
-    omega (arith, w .ensures .end, w .kept .0, length-numbersLine (take 3 (s .args .xs .now)), length-take-le 3 (s .args .xs .now) (s .pre .0), s .pre .1)
+    let at-spell-numbers = c .before .before .before in let at-start = at-spell-numbers .before .before .before in
+    let w = at-spell-numbers .spell-numbers in
+    omega (arith, w .ensures .end, w .kept .0, length-numbersLine (take 3 (at-start .args .xs .now)), length-take-le 3 (at-start .args .xs .now) (at-start .pre .0), at-start .pre .1)
 
 returns : tie.Need-returns
 returns c =
-    let s = c .before .before .before .before .before .before .before .before .before in
-    wrote-append (c .before .before .before .before .before .before .spell-numbers .ensures) (c .before .before .feed .ensures) (omega (arith, length-numbersLine (take 3 (s .args .xs .now)), length-take-le 3 (s .args .xs .now) (s .pre .0), s .pre .1))
+    let at-feed = c .before .before in let at-spell-numbers = at-feed .before .before .before .before in
+    let at-start = at-spell-numbers .before .before .before in
+    wrote-append (at-spell-numbers .spell-numbers .ensures) (at-feed .feed .ensures)
+    (omega (arith, length-numbersLine (take 3 (at-start .args .xs .now)), length-take-le 3 (at-start .args .xs .now) (at-start .pre .0), at-start .pre .1))
 
 pub tell-three-spec : {M : Type 1} → statement M
 tell-three-spec =

@@ -9,18 +9,21 @@ use Rattle.line_send.proofs.send_page.Tie as tie
 
 slice-reshare-prefix-write-all : tie.Need-slice-reshare-prefix-write-all
 slice-reshare-prefix-write-all c =
-    let s = c .before .before .before .before .before .before .before .before in
-    let n = c .before .before .number in
-    page-fits (s .args .m) (s .args .s .now) (s .pre .0) (s .pre .1) (n .ensures) (n .kept .1 .1 .0)
+    let at-number = c .before .before in let at-start = at-number .before .before .before .before .before .before in
+    let n = at-number .number in
+    page-fits (at-start .args .m) (at-start .args .s .now) (at-start .pre .0) (at-start .pre .1) (n .ensures) (n .kept .1 .1 .0)
 
 slice-aggregate-write-all : tie.Need-slice-aggregate-write-all
 slice-aggregate-write-all c =
-    let s = c .before .before .before .before .before .before .before .before .before in
-    let n = c .before .before .before .number in
-    sym (length-take-le (n .result .used) (n .last .1 .1 .0) (page-fits (s .args .m) (s .args .s .now) (s .pre .0) (s .pre .1) (n .ensures) (n .kept .1 .1 .0)))
+    let at-number = c .before .before .before in let at-start = at-number .before .before .before .before .before .before in
+    let n = at-number .number in
+    sym (length-take-le (n .result .used) (n .last .1 .1 .0)
+    (page-fits (at-start .args .m) (at-start .args .s .now) (at-start .pre .0) (at-start .pre .1) (n .ensures) (n .kept .1 .1 .0)))
 
 returns-3 : tie.Need-returns-3
-returns-3 c = c .before .before .before .before .before .before .number .ensures .margin
+returns-3 c =
+    let at-number = c .before .before .before .before .before .before in
+    at-number .number .ensures .margin
 
 pub send-page-spec : {M : Type 1} → statement M
 send-page-spec =

@@ -23,30 +23,37 @@ loop-holds c =
 
 send-page-requires : tie.Need-send-page-requires Inv-loop μ-loop
 send-page-requires c κs =
-    let m = c .before .before .lesser in
-    let l = c .before .before .before .loop in
-    let s = c .before .before .before .before .before .before .args .s .now in
+    let at-lesser = c .before .before in let at-loop = at-lesser .before in let at-start = at-loop .before .before .before in
+    let m = at-lesser .lesser in
+    let l = at-loop .loop in
+    let s = at-start .args .s .now in
     (omega (arith, length-take ((l .at + m .result) - l .at) (drop (l .at) s), m .ensures), l .inv .1)
 
 returns-2 : tie.Need-returns-2 Inv-loop μ-loop
 returns-2 c =
-    let l = c .before .before .before .before .before .before .before .before .before .before .loop in
-    let a = c .before .before .before .before .before .before .before .before .before .before .before .before .before .args in
-    let q = c .before .before .q .given in
-    pages-done (a .s .now) (a .m) (l .next) (q .0 .0) (l .at) (l .at + c .before .before .before .before .before .before .before .before .before .lesser .result) (omega arith) (l .inv .3) (c .before .before .before .before .before .before .send-page .ensures) (q .1) (c .if1 .taken)
+    let at-q = c .before .before in let at-send-page = at-q .before .before .before .before in
+    let at-lesser = at-send-page .before .before .before in let at-start = at-lesser .before .before .before .before in
+    let l = at-lesser .before .loop in
+    let a = at-start .args in
+    let q = at-q .q .given in
+    pages-done (a .s .now) (a .m) (l .next) (q .0 .0) (l .at) (l .at + at-lesser .lesser .result) (omega arith) (l .inv .3)
+    (at-send-page .send-page .ensures) (q .1) (c .if1 .taken)
 
 loop-less : tie.Need-loop-less Inv-loop μ-loop
 loop-less c =
-    let l = c .before .before .before .before .before .before .before .before .before .before .loop in
-    omega (arith, c .if1 .left, c .before .before .before .before .before .before .before .before .before .lesser .ensures, l .inv .0)
+    let at-lesser = c .before .before .before .before .before .before .before .before .before in
+    let l = at-lesser .before .loop in
+    omega (arith, c .if1 .left, at-lesser .lesser .ensures, l .inv .0)
 
 loop-again : tie.Need-loop-again Inv-loop μ-loop
 loop-again c =
-    let l = c .before .before .before .before .before .before .before .before .before .before .loop in
-    let a = c .before .before .before .before .before .before .before .before .before .before .before .before .before .args in
-    let q = c .before .before .q .given in
-    let m = c .before .before .before .before .before .before .before .before .before .lesser in
-    let r = c .before .before .before .before .before .before .send-page in
+    let at-q = c .before .before in let at-send-page = at-q .before .before .before .before in
+    let at-lesser = at-send-page .before .before .before in let at-start = at-lesser .before .before .before .before in
+    let l = at-lesser .before .loop in
+    let a = at-start .args in
+    let q = at-q .q .given in
+    let m = at-lesser .lesser in
+    let r = at-send-page .send-page in
     (omega (arith, m .ensures, l .inv .0), omega (arith, r .kept .1 .1 .0, l .inv .1), l .inv .2, pages-more (a .s .now) (a .m) (l .next) (q .0 .0) (l .at) (l .at + m .result) (omega arith) (l .inv .3) (r .ensures) (q .1))
 
 pub send-pages-spec : {M : Type 1} → statement M

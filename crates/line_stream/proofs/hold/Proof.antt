@@ -19,7 +19,8 @@ abbrev μ-loop : tie.MeasureT-loop
 
 loop-holds : tie.Need-loop-holds Inv-loop μ-loop
 loop-holds c =
-    let a = c .before .before .before .args in
+    let at-start = c .before .before .before in
+    let a = at-start .args in
     (omega arith, omega arith, omega arith, paste-zero (a .line .now) (a .held) (drop (a .at) (a .s .now)), refl)
 
 slice-write-line : tie.Need-slice-write-line Inv-loop μ-loop
@@ -27,26 +28,26 @@ slice-write-line c = omega arith
 
 loop-again : tie.Need-loop-again Inv-loop μ-loop
 loop-again c =
-    let l = c .before .before in
-    let a = l .before .before .before .before .args in
-    (search needs, search needs, search needs, paste-next (a .line .now) (a .s .now) (a .held) (a .at) (l .loop .i) (l .loop .line) (omega arith) (omega arith) (l .loop .inv .3), simp length-set (omega arith))
+    let at-loop = c .before .before in let at-start = at-loop .before .before .before .before in
+    let a = at-start .args in
+    (search needs, search needs, search needs, paste-next (a .line .now) (a .s .now) (a .held) (a .at) (at-loop .loop .i) (at-loop .loop .line) (omega arith) (omega arith) (at-loop .loop .inv .3), simp length-set (omega arith))
 
 same-length : tie.Need-same-length Inv-loop μ-loop
 same-length c = omega arith
 
 returns : tie.Need-returns Inv-loop μ-loop
 returns c =
-    let l = c .before in
-    let m = l .before .lesser .result in
-    let s = l .before .before .before .before in
-    let e : l .loop .i ≡ m = omega arith in
-    let a = s .args in
+    let at-loop = c .before in let at-lesser = at-loop .before in let at-start = at-lesser .before .before .before in
+    let m = at-lesser .lesser .result in
+    let e : at-loop .loop .i ≡ m = omega arith in
+    let a = at-start .args in
     let h : Wrote _ 0 (a .line .now) (a .held + m) (paste (a .line .now) (a .held) (drop (a .at) (a .s .now)) m) =
-    hold-kept (a .line .now) (a .s .now) (a .held) (a .at) (a .end) m (omega arith) (omega arith) (omega arith) (omega arith) (l .before .lesser .ensures)
+    hold-kept (a .line .now) (a .s .now) (a .held) (a .at) (a .end) m (omega arith) (omega arith) (omega arith) (omega arith)
+    (at-lesser .lesser .ensures)
     in
     record {
       end = h .end;
-      buffer = l .loop .inv .3 ∙ ap (paste (a .line .now) (a .held) (drop (a .at) (a .s .now))) e ∙ h .buffer;
+      buffer = at-loop .loop .inv .3 ∙ ap (paste (a .line .now) (a .held) (drop (a .at) (a .s .now))) e ∙ h .buffer;
     }
 
 pub hold-spec : {M : Type 1} → statement M

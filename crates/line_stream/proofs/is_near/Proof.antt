@@ -23,16 +23,16 @@ loop-holds c = (omega arith, near-none (drop (c .args .at) (c .args .s .now)))
 
 loop-again : tie.Need-loop-again Inv-loop μ-loop
 loop-again c =
-    let l = c .before .before in
-    let a = l .before .args in
-    (search needs, near-next (a .s .now) (a .at) (l .loop .k) (omega arith) (l .loop .inv .1))
+    let at-loop = c .before .before in
+    let a = at-loop .before .args in
+    (search needs, near-next (a .s .now) (a .at) (at-loop .loop .k) (omega arith) (at-loop .loop .inv .1))
 
 returns : tie.Need-returns Inv-loop μ-loop
 returns c =
-    let l = c .before in
-    let a = l .before .args in
-    let e : l .loop .k ≡ near = omega arith in
-    l .loop .inv .1 ∙ ap (ltb (lineLength (drop (a .at) (a .s .now)))) e
+    let at-loop = c .before in
+    let a = at-loop .before .args in
+    let e : at-loop .loop .k ≡ near = omega arith in
+    at-loop .loop .inv .1 ∙ ap (ltb (lineLength (drop (a .at) (a .s .now)))) e
 
 pub is-near-spec : {M : Type 1} → statement M
 is-near-spec =

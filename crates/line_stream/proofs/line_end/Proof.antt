@@ -18,18 +18,18 @@ abbrev μ-loop : tie.MeasureT-loop
 
 returns : tie.Need-returns Inv-loop μ-loop
 returns c =
-    let l = c .before .before .before in
-    omega (arith, lineLength-here (l .before .before .before .args .s .now) (l .loop .i) (omega arith) (c .if1 .taken))
+    let at-loop = c .before .before .before in let at-start = at-loop .before .before .before in
+    omega (arith, lineLength-here (at-start .args .s .now) (at-loop .loop .i) (omega arith) (c .if1 .taken))
 
 loop-again : tie.Need-loop-again Inv-loop μ-loop
 loop-again c =
-    let l = c .before .before .before in
-    (search needs, omega (arith, lineLength-next (l .before .before .before .args .s .now) (l .loop .i) (omega arith) (c .if1 .left)))
+    let at-loop = c .before .before .before in let at-start = at-loop .before .before .before in
+    (search needs, omega (arith, lineLength-next (at-start .args .s .now) (at-loop .loop .i) (omega arith) (c .if1 .left)))
 
 returns-2 : tie.Need-returns-2 Inv-loop μ-loop
 returns-2 c =
-    let l = c .before in
-    omega (arith, lineLength-end (l .before .before .before .args .s .now) (l .loop .i) (c .loop-test .left))
+    let at-start = c .before .before .before .before in
+    omega (arith, lineLength-end (at-start .args .s .now) (c .before .loop .i) (c .loop-test .left))
 
 pub line-end-spec : {M : Type 1} → statement M
 line-end-spec =

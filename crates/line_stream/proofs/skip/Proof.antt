@@ -21,8 +21,8 @@ is-near-requires c κs = search needs
 
 loop-again : tie.Need-loop-again Inv-loop μ-loop
 loop-again c =
-    let l = c .before .before .before in
-    (search needs, skip-next (l .before .before .args .s .now) (l .loop .i) near (c .before .is-near .ensures) (c .if1 .left) ∙ l .loop .inv .1)
+    let at-loop = c .before .before .before in
+    (search needs, skip-next (at-loop .before .before .args .s .now) (at-loop .loop .i) near (c .before .is-near .ensures) (c .if1 .left) ∙ at-loop .loop .inv .1)
 
 pub skip-spec : {M : Type 1} → statement M
 skip-spec =

@@ -19,61 +19,75 @@ use Rattle.line_walk.proofs.walk_digits.Tie as tie
 
 slice-aggregate-follow-clear : tie.Need-slice-aggregate-follow-clear
 slice-aggregate-follow-clear c =
-    let d = c .before .before .copy-digits in
-    let s = c .before .before .before .before .before .before .before .before in
-    sym (length-take-le (s .args .n) (d .last .1 .0) (omega (arith, d .kept .1 .0, s .pre .1 .0)))
+    let at-copy-digits = c .before .before in let at-start = at-copy-digits .before .before .before .before .before .before in
+    let d = at-copy-digits .copy-digits in
+    sym (length-take-le (at-start .args .n) (d .last .1 .0) (omega (arith, d .kept .1 .0, at-start .pre .1 .0)))
 
 slice-aggregate-follow-clear-2 : tie.Need-slice-aggregate-follow-clear-2
 slice-aggregate-follow-clear-2 c =
-    let s = c .before .before .before .before .before .before .before .before .before .before in
-    sym (length-take-le (markWords * s .args .n) (s .args .marks .now) (omega (arith, s .pre .1 .0, s .pre .1 .1 .marks)))
+    let at-start = c .before .before .before .before .before .before .before .before .before .before in
+    sym (length-take-le (markWords * at-start .args .n) (at-start .args .marks .now)
+    (omega (arith, at-start .pre .1 .0, at-start .pre .1 .1 .marks)))
 
 slice-aggregate-follow-clear-3 : tie.Need-slice-aggregate-follow-clear-3
 slice-aggregate-follow-clear-3 c =
-    let s = c .before .before .before .before .before .before .before .before .before .before .before in
-    sym (length-take-le (s .args .n) (s .args .chain .now) (omega (arith, s .pre .1 .0, s .pre .1 .1 .chain)))
+    let at-start = c .before .before .before .before .before .before .before .before .before .before .before in
+    sym (length-take-le (at-start .args .n) (at-start .args .chain .now)
+    (omega (arith, at-start .pre .1 .0, at-start .pre .1 .1 .chain)))
 
 follow-clear-requires : tie.Need-follow-clear-requires
-follow-clear-requires c κs = clear-zero (c .before .before .before .before .before .before .before .before .before .before .before .pre .1 .1 .table)
+follow-clear-requires c κs =
+    let at-start = c .before .before .before .before .before .before .before .before .before .before .before in
+    clear-zero (at-start .pre .1 .1 .table)
 
 mul-used : tie.Need-mul-used
 mul-used c =
-    let f = c .before .before .before .before .before .before .before .follow-clear in
-    let s = c .before .before .before .before .before .before .before .before .before .before .before .before .before .before .before .before .before .before .before in
-    let l : length (f .last .1 .1 .0) ≡ length (s .args .table .now) = search needs in
-    let h = cleared-by (f .ensures) (s .pre .1 .1 .table) l (c .records .result) (c .records .ensures) .0 in
-    search (needs, h, l, clear-length (s .pre .1 .1 .table))
+    let at-follow-clear = c .before .before .before .before .before .before .before in
+    let at-start = at-follow-clear .before .before .before .before .before .before .before .before .before .before .before .before in
+    let f = at-follow-clear .follow-clear in
+    let l : length (f .last .1 .1 .0) ≡ length (at-start .args .table .now) = search needs in
+    let h = cleared-by (f .ensures) (at-start .pre .1 .1 .table) l (c .records .result) (c .records .ensures) .0 in
+    search (needs, h, l, clear-length (at-start .pre .1 .1 .table))
 
 slice-relend-prefix-zero : tie.Need-slice-relend-prefix-zero
 slice-relend-prefix-zero c =
-    let f = c .before .before .before .before .before .before .before .follow-clear in
-    let s = c .before .before .before .before .before .before .before .before .before .before .before .before .before .before .before .before .before .before .before in
-    let l : length (f .last .1 .1 .0) ≡ length (s .args .table .now) = search needs in
-    cleared-by (f .ensures) (s .pre .1 .1 .table) l (c .records .result) (c .records .ensures) .0
+    let at-follow-clear = c .before .before .before .before .before .before .before in
+    let at-start = at-follow-clear .before .before .before .before .before .before .before .before .before .before .before .before in
+    let f = at-follow-clear .follow-clear in
+    let l : length (f .last .1 .1 .0) ≡ length (at-start .args .table .now) = search needs in
+    cleared-by (f .ensures) (at-start .pre .1 .1 .table) l (c .records .result) (c .records .ensures) .0
 
 slice-aggregate-zero : tie.Need-slice-aggregate-zero
 slice-aggregate-zero c =
-    let f = c .before .before .before .before .before .before .before .before .follow-clear in
-    let s = c .before .before .before .before .before .before .before .before .before .before .before .before .before .before .before .before .before .before .before .before in
+    let at-follow-clear = c .before .before .before .before .before .before .before .before in
+    let at-start = at-follow-clear .before .before .before .before .before .before .before .before .before .before .before .before in
+    let f = at-follow-clear .follow-clear in
     let r = c .before .records in
-    let l : length (f .last .1 .1 .0) ≡ length (s .args .table .now) = search needs in
-    sym (length-take-le (width * r .result) (f .last .1 .1 .0) (cleared-by (f .ensures) (s .pre .1 .1 .table) l (r .result) (r .ensures) .0))
+    let l : length (f .last .1 .1 .0) ≡ length (at-start .args .table .now) = search needs in
+    sym (length-take-le (width * r .result) (f .last .1 .1 .0)
+    (cleared-by (f .ensures) (at-start .pre .1 .1 .table) l (r .result) (r .ensures) .0))
 
 returns : tie.Need-returns
 returns c =
-    let z = c .before .before .zero in
-    let r = c .before .before .before .before .records in
-    let f = c .before .before .before .before .before .before .before .before .before .before .before .follow-clear in
-    let d = c .before .before .before .before .before .before .before .before .before .before .before .before .before .before .before .before .before .copy-digits in
-    let s = c .before .before .before .before .before .before .before .before .before .before .before .before .before .before .before .before .before .before .before .before .before .before .before in
-    let a = s .args in
+    let at-zero = c .before .before in let at-records = at-zero .before .before in
+    let at-follow-clear = at-records .before .before .before .before .before .before .before in
+    let at-copy-digits = at-follow-clear .before .before .before .before .before .before in
+    let at-start = at-copy-digits .before .before .before .before .before .before in
+    let z = at-zero .zero in
+    let r = at-records .records in
+    let f = at-follow-clear .follow-clear in
+    let d = at-copy-digits .copy-digits in
+    let a = at-start .args in
     let n = a .n in
-    let e : take n (d .last .1 .0) ≡ digitsOf (a .s .now) = ap (take n) (d .ensures) ∙ take-put-start (digitsOf (a .s .now)) (replicate mostDigits 0) n (length-digitsOf (a .s .now) n (s .pre .1 .0 .1)) (omega (arith, s .pre .1 .0)) in
-    let l : length (take n (d .last .1 .0)) ≡ n = length-take-le n (d .last .1 .0) (omega (arith, d .kept .1 .0, s .pre .1 .0)) in
-    let m = length-take-le (markWords * n) (a .marks .now) (omega (arith, s .pre .1 .0, s .pre .1 .1 .marks)) in
-    let h = length-take-le n (a .chain .now) (omega (arith, s .pre .1 .0, s .pre .1 .1 .chain)) in
+    let e : take n (d .last .1 .0) ≡ digitsOf (a .s .now) = ap (take n) (d .ensures)
+    ∙ take-put-start (digitsOf (a .s .now)) (replicate mostDigits 0) n (length-digitsOf (a .s .now) n (at-start .pre .1 .0 .1))
+    (omega (arith, at-start .pre .1 .0)) in
+    let l : length (take n (d .last .1 .0)) ≡ n = length-take-le n (d .last .1 .0)
+    (omega (arith, d .kept .1 .0, at-start .pre .1 .0)) in
+    let m = length-take-le (markWords * n) (a .marks .now) (omega (arith, at-start .pre .1 .0, at-start .pre .1 .1 .marks)) in
+    let h = length-take-le n (a .chain .now) (omega (arith, at-start .pre .1 .0, at-start .pre .1 .1 .chain)) in
     let w : length (f .last .1 .1 .0) ≡ length (a .table .now) = search needs in
-    (walk-handed (f .ensures) (clear-length (s .pre .1 .1 .table)) (m ∙ ap (λ (k : ℕ). markWords * k) (sym l)) (h ∙ sym l) (omega (arith, l, s .pre .1 .0)) (drop n (a .chain .now)) (digitsOf (a .s .now)) e, cleared-by (f .ensures) (s .pre .1 .1 .table) w (r .result) (r .ensures) .1 (z .last .0) (z .ensures))
+    (walk-handed (f .ensures) (clear-length (at-start .pre .1 .1 .table)) (m ∙ ap (λ (k : ℕ). markWords * k) (sym l)) (h ∙ sym l) (omega (arith, l, at-start .pre .1 .0)) (drop n (a .chain .now)) (digitsOf (a .s .now)) e, cleared-by (f .ensures) (at-start .pre .1 .1 .table) w (r .result) (r .ensures) .1 (z .last .0) (z .ensures))
 
 pub walk-digits-spec : {M : Type 1} → statement M
 walk-digits-spec =

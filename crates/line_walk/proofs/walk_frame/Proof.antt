@@ -11,15 +11,18 @@ use Rattle.line_walk.proofs.walk_frame.Tie as tie
 
 returns : tie.Need-returns
 returns c =
-    let ds = digitsOf (c .before .before .before .before .before .before .before .before .before .before .before .before .before .before .before .before .args .s .now) in
-    let w = c .before .before .before .before .before .before .walk-digits .ensures in
-    (handed-by (ap (λ (k : Kind). kindWalked k ds) (sym (c .before .before .before .before .before .before .before .before .before .before .enum-told .given .1))) (w .0), w .1)
+    let at-walk-digits = c .before .before .before .before .before .before in
+    let at-enum-told = at-walk-digits .before .before .before .before in
+    let at-start = at-enum-told .before .before .before .before .before .before in
+    let ds = digitsOf (at-start .args .s .now) in
+    let w = at-walk-digits .walk-digits .ensures in
+    (handed-by (ap (λ (k : Kind). kindWalked k ds) (sym (at-enum-told .enum-told .given .1))) (w .0), w .1)
 
 returns-2 : tie.Need-returns-2
 returns-2 c =
-    let s = c .before .before .before .before .before .before in
-    let a = s .args in
-    (handed-by (ap (λ (k : Kind). kindWalked k (digitsOf (a .s .now))) (sym (c .enum-told2 .given .1))) (refused-handed RetiredKind (digitsOf (a .s .now)) (a .chain .now)), s .pre .1 .1 .table)
+    let at-start = c .before .before .before .before .before .before in
+    let a = at-start .args in
+    (handed-by (ap (λ (k : Kind). kindWalked k (digitsOf (a .s .now))) (sym (c .enum-told2 .given .1))) (refused-handed RetiredKind (digitsOf (a .s .now)) (a .chain .now)), at-start .pre .1 .1 .table)
 
 pub walk-frame-spec : {M : Type 1} → statement M
 walk-frame-spec =

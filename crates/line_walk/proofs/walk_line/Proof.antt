@@ -13,22 +13,26 @@ use Rattle.line_walk.proofs.walk_line.Tie as tie
 
 walk-frame-requires : tie.Need-walk-frame-requires
 walk-frame-requires c κs =
-    let f = c .before .before .before .before .kind .given in
-    let s = c .before .before .before .before .before .before .before .before .before .before .before in
-    let g = frame-good (s .args .s .now) (f .0 .0) (f .0 .1 .0) (sym (c .before .before .before .before .before .before .read .ensures) ∙ f .1) in
-    (g .digits, ((g .most, g .size), s .pre))
+    let at-kind = c .before .before .before .before in let at-read = at-kind .before .before in
+    let at-start = at-read .before .before .before .before .before in
+    let f = at-kind .kind .given in
+    let g = frame-good (at-start .args .s .now) (f .0 .0) (f .0 .1 .0) (sym (at-read .read .ensures) ∙ f .1) in
+    (g .digits, ((g .most, g .size), at-start .pre))
 
 returns : tie.Need-returns
 returns c =
-    let f = c .before .before .before .before .before .before .before .before .before .before .before .kind .given in
-    let w = c .before .before .before .before .before .before .walk-frame .ensures in
-    (handed-by (lineWalked-by (c .before .before .before .before .before .before .before .before .before .before .before .before .before .before .before .before .before .before .args .s .now) (Of (f .0 .0) (f .0 .1 .0)) (sym (c .before .before .before .before .before .before .before .before .before .before .before .before .before .read .ensures) ∙ f .1)) (w .0), w .1)
+    let at-walk-frame = c .before .before .before .before .before .before in
+    let at-kind = at-walk-frame .before .before .before .before .before in let at-read = at-kind .before .before in
+    let at-start = at-read .before .before .before .before .before in
+    let f = at-kind .kind .given in
+    let w = at-walk-frame .walk-frame .ensures in
+    (handed-by (lineWalked-by (at-start .args .s .now) (Of (f .0 .0) (f .0 .1 .0)) (sym (at-read .read .ensures) ∙ f .1)) (w .0), w .1)
 
 returns-2 : tie.Need-returns-2
 returns-2 c =
-    let s = c .before .before .before .before .before .before .before in
-    let a = s .args in
-    (handed-by (lineWalked-by (a .s .now) Bad (sym (c .before .before .read .ensures) ∙ c .enum-told .given .1)) (refused-handed BadLine (digitsOf (a .s .now)) (a .chain .now)), s .pre .table)
+    let at-read = c .before .before in let at-start = at-read .before .before .before .before .before in
+    let a = at-start .args in
+    (handed-by (lineWalked-by (a .s .now) Bad (sym (at-read .read .ensures) ∙ c .enum-told .given .1)) (refused-handed BadLine (digitsOf (a .s .now)) (a .chain .now)), at-start .pre .table)
 
 pub walk-line-spec : {M : Type 1} → statement M
 walk-line-spec =

@@ -24,42 +24,58 @@ abbrev μ-loop : tie.MeasureT-loop
 
 loop-holds : tie.Need-loop-holds Inv-loop μ-loop
 loop-holds c =
-    let a = c .before .before .before .before .args in
-    (omega arith, c .before .before .before .before .pre .1 .1, c .most .ensures, filling-start (jobOf (a .task)) (a .line .now) (a .s .now) (a .out .now) (a .held) (a .at) (omega arith) (omega arith), search needs)
+    let at-start = c .before .before .before .before in
+    let a = at-start .args in
+    (omega arith, at-start .pre .1 .1, c .most .ensures, filling-start (jobOf (a .task)) (a .line .now) (a .s .now) (a .out .now) (a .held) (a .at) (omega arith) (omega arith), search needs)
 
 returns : tie.Need-returns Inv-loop μ-loop
 returns c =
-    let l = c .before .before .before .loop in
-    let a = c .before .before .before .before .before .before .before .before .args in
-    filling-done (jobOf (a .task)) (a .line .now) (a .held) (a .s .now) (a .at) (a .out .now) (l .line) (l .out) (l .p) (l .inv .3) (inr (omega (arith, c .if2 .taken, l .inv .2, l .inv .3 .long, l .inv .3 .room)))
+    let at-loop = c .before .before .before in let at-start = at-loop .before .before .before .before .before in
+    let l = at-loop .loop in
+    let a = at-start .args in
+    filling-done (jobOf (a .task)) (a .line .now) (a .held) (a .s .now) (a .at) (a .out .now) (l .line) (l .out) (l .p)
+    (l .inv .3) (inr (omega (arith, c .if2 .taken, l .inv .2, l .inv .3 .long, l .inv .3 .room)))
 
 slice-aggregate-feed-line : tie.Need-slice-aggregate-feed-line Inv-loop μ-loop
-slice-aggregate-feed-line c = sym (clear-length (c .before .before .before .before .before .loop .inv .4 .table))
+slice-aggregate-feed-line c =
+    let at-loop = c .before .before .before .before .before in
+    sym (clear-length (at-loop .loop .inv .4 .table))
 
 feed-line-requires : tie.Need-feed-line-requires Inv-loop μ-loop
 feed-line-requires c κs =
-    let l = c .before .before .before .before .before .before .before .before .loop in
+    let at-if2 = c .before .before .before .before .before in let at-loop = at-if2 .before .before .before in
+    let l = at-loop .loop in
     let q = l .inv .3 in
-    ((q .most, q .wide ∙ l .inv .0), ((q .to, l .inv .1), (l .inv .4, omega (arith, c .before .before .before .before .before .if2 .left, q .room, l .inv .2))))
+    ((q .most, q .wide ∙ l .inv .0), ((q .to, l .inv .1), (l .inv .4, omega (arith, at-if2 .if2 .left, q .room, l .inv .2))))
 
 loop-less : tie.Need-loop-less Inv-loop μ-loop
 loop-less c =
-    let f = c .before .before .before .before .before .before .before .feed-line in
-    let l = c .before .before .before .before .before .before .before .before .before .before .before .before .before .before .before .before .loop in
-    let a = c .before .before .before .before .before .before .before .before .before .before .before .before .before .before .before .before .before .before .before .before .before .args in
-    falls (jobOf (a .task)) (a .line .now) (a .held) (a .s .now) (a .at) (a .out .now) (l .line) (l .out) (l .p) (l .inv .3) (f .result) (f .last .1 .0) (f .last .1 .1 .1 .1 .1 .1 .1 .1 .0) (f .ensures .0) (c .before .before .before .before .before .before .before .before .before .before .before .before .before .before .if1 .taken)
+    let at-feed-line = c .before .before .before .before .before .before .before in
+    let at-if1 = at-feed-line .before .before .before .before .before .before .before in let at-loop = at-if1 .before .before in
+    let at-start = at-loop .before .before .before .before .before in
+    let f = at-feed-line .feed-line in
+    let l = at-loop .loop in
+    let a = at-start .args in
+    falls (jobOf (a .task)) (a .line .now) (a .held) (a .s .now) (a .at) (a .out .now) (l .line) (l .out) (l .p) (l .inv .3)
+    (f .result) (f .last .1 .0) (f .last .1 .1 .1 .1 .1 .1 .1 .1 .0) (f .ensures .0) (at-if1 .if1 .taken)
 
 loop-again : tie.Need-loop-again Inv-loop μ-loop
 loop-again c =
-    let f = c .before .before .before .before .before .before .before .feed-line in
-    let l = c .before .before .before .before .before .before .before .before .before .before .before .before .before .before .before .before .loop in
-    let a = c .before .before .before .before .before .before .before .before .before .before .before .before .before .before .before .before .before .before .before .before .before .args in
+    let at-feed-line = c .before .before .before .before .before .before .before in
+    let at-if2 = at-feed-line .before .before .before .before .before .before in let at-loop = at-if2 .before .before .before in
+    let at-start = at-loop .before .before .before .before .before in
+    let f = at-feed-line .feed-line in
+    let l = at-loop .loop in
+    let a = at-start .args in
     let q = l .inv .3 in
-    let room : l .p .used + jobOf (a .task) .most ≤ length (l .out) = omega (arith, c .before .before .before .before .before .before .before .before .before .before .before .before .before .if2 .left, q .room, l .inv .2) in (
+    let room : l .p .used + jobOf (a .task) .most ≤ length (l .out) = omega (arith, at-if2 .if2 .left, q .room, l .inv .2) in (
       l .inv .0,
       l .inv .1,
       l .inv .2,
-      filling-next (jobOf (a .task)) (a .line .now) (a .held) (a .s .now) (a .at) (a .out .now) (l .line) (l .out) (l .p) q (f .result) (f .last .1 .0) (f .last .1 .1 .1 .1 .1 .1 .1 .1 .0) (f .ensures .0) (job-does (a .task)) room (room-line (a .task) (l .line) (a .s .now) (l .p .held) (l .p .at) (q .most) (l .inv .1) (l .p .used) room) (f .kept .1 .0) (c .before .before .before .before .before .before .before .before .before .before .before .before .before .before .if1 .taken),
+      filling-next (jobOf (a .task)) (a .line .now) (a .held) (a .s .now) (a .at) (a .out .now) (l .line) (l .out) (l .p) q
+          (f .result) (f .last .1 .0) (f .last .1 .1 .1 .1 .1 .1 .1 .1 .0) (f .ensures .0) (job-does (a .task)) room
+          (room-line (a .task) (l .line) (a .s .now) (l .p .held) (l .p .at) (q .most) (l .inv .1) (l .p .used) room)
+          (f .kept .1 .0) (at-if2 .before .if1 .taken),
       record {
         table = f .ensures .1;
         marks = omega (arith, f .kept .1 .1 .1 .1 .1 .1 .0, l .inv .4 .marks);
@@ -69,9 +85,11 @@ loop-again c =
 
 returns-2 : tie.Need-returns-2 Inv-loop μ-loop
 returns-2 c =
-    let l = c .before .before .loop in
-    let a = c .before .before .before .before .before .before .before .args in
-    filling-done (jobOf (a .task)) (a .line .now) (a .held) (a .s .now) (a .at) (a .out .now) (l .line) (l .out) (l .p) (l .inv .3) (inl (omega (arith, c .if1 .left, l .inv .3 .to)))
+    let at-loop = c .before .before in let at-start = at-loop .before .before .before .before .before in
+    let l = at-loop .loop in
+    let a = at-start .args in
+    filling-done (jobOf (a .task)) (a .line .now) (a .held) (a .s .now) (a .at) (a .out .now) (l .line) (l .out) (l .p)
+    (l .inv .3) (inl (omega (arith, c .if1 .left, l .inv .3 .to)))
 
 pub fill-spec : {M : Type 1} → statement M
 fill-spec =

@@ -15,37 +15,47 @@ use Rattle.lines.proofs.tell_early.Tie as tie
 
 slice-aggregate-pass-on : tie.Need-slice-aggregate-pass-on
 slice-aggregate-pass-on c =
-    let s = c .before .before .before .before .before .before in
-    sym (length-take-le (s .args .held) (s .args .line .now) (omega (arith, s .pre .0)))
+    let at-start = c .before .before .before .before .before .before in
+    sym (length-take-le (at-start .args .held) (at-start .args .line .now) (omega (arith, at-start .pre .0)))
 
 pass-on-requires : tie.Need-pass-on-requires
 pass-on-requires c κs =
-    let s = c .before .before .before .before .before .before .before .before in
-    let a = s .args in
-    let m = length-take-le (a .held) (a .line .now) (omega (arith, s .pre .0)) in
-    let n = length-take-le (a .end - a .at) (drop (a .at) (a .s .now)) (omega (arith, length-drop (a .at) (a .s .now), s .pre .1 .0)) in
-    omega (arith, m, n, s .pre .0, s .pre .1 .0, s .pre .1 .1, ap mostEarly (c .before .before .before .enum-told2 .given .1))
+    let at-enum-told2 = c .before .before .before in let at-start = at-enum-told2 .before .before .before .before .before in
+    let a = at-start .args in
+    let m = length-take-le (a .held) (a .line .now) (omega (arith, at-start .pre .0)) in
+    let n = length-take-le (a .end - a .at) (drop (a .at) (a .s .now))
+    (omega (arith, length-drop (a .at) (a .s .now), at-start .pre .1 .0)) in
+    omega (arith, m, n, at-start .pre .0, at-start .pre .1 .0, at-start .pre .1 .1, ap mostEarly (at-enum-told2 .enum-told2 .given .1))
 
 returns : tie.Need-returns
 returns c =
-    let a = c .before .before .before .before .before .args in
-    subst (λ (t : Task). Wrote (jobOf t .early (take (a .held) (a .line .now)) (take (a .end - a .at) (drop (a .at) (a .s .now)))) (a .used) (a .out .now) (a .used) (a .out .now)) (sym (c .enum-told .given .1)) (wrote-nil (a .used) (a .out .now))
+    let at-start = c .before .before .before .before .before in
+    let a = at-start .args in
+    subst (λ (t : Task). Wrote (jobOf t .early (take (a .held) (a .line .now)) (take (a .end - a .at) (drop (a .at) (a .s .now))))
+    (a .used) (a .out .now) (a .used) (a .out .now)) (sym (c .enum-told .given .1)) (wrote-nil (a .used) (a .out .now))
 
 returns-2 : tie.Need-returns-2
 returns-2 c =
-    let r = c .before .before .pass-on in
-    let a = c .before .before .before .before .before .before .before .before .before .before .before .args in
-    subst (λ (t : Task). Wrote (jobOf t .early (take (a .held) (a .line .now)) (take (a .end - a .at) (drop (a .at) (a .s .now)))) (a .used) (a .out .now) (r .result) (r .last .1 .1 .0)) (sym (c .before .before .before .before .before .before .enum-told2 .given .1)) (r .ensures)
+    let at-pass-on = c .before .before in let at-enum-told2 = at-pass-on .before .before .before .before in
+    let at-start = at-enum-told2 .before .before .before .before .before in
+    let r = at-pass-on .pass-on in
+    let a = at-start .args in
+    subst (λ (t : Task). Wrote (jobOf t .early (take (a .held) (a .line .now)) (take (a .end - a .at) (drop (a .at) (a .s .now))))
+    (a .used) (a .out .now) (r .result) (r .last .1 .1 .0)) (sym (at-enum-told2 .enum-told2 .given .1)) (r .ensures)
 
 returns-3 : tie.Need-returns-3
 returns-3 c =
-    let a = c .before .before .before .before .before .args in
-    subst (λ (t : Task). Wrote (jobOf t .early (take (a .held) (a .line .now)) (take (a .end - a .at) (drop (a .at) (a .s .now)))) (a .used) (a .out .now) (a .used) (a .out .now)) (sym (c .enum-told3 .given .1)) (wrote-nil (a .used) (a .out .now))
+    let at-start = c .before .before .before .before .before in
+    let a = at-start .args in
+    subst (λ (t : Task). Wrote (jobOf t .early (take (a .held) (a .line .now)) (take (a .end - a .at) (drop (a .at) (a .s .now))))
+    (a .used) (a .out .now) (a .used) (a .out .now)) (sym (c .enum-told3 .given .1)) (wrote-nil (a .used) (a .out .now))
 
 returns-4 : tie.Need-returns-4
 returns-4 c =
-    let a = c .before .before .before .before .before .args in
-    subst (λ (t : Task). Wrote (jobOf t .early (take (a .held) (a .line .now)) (take (a .end - a .at) (drop (a .at) (a .s .now)))) (a .used) (a .out .now) (a .used) (a .out .now)) (sym (c .enum-told4 .given .1)) (wrote-nil (a .used) (a .out .now))
+    let at-start = c .before .before .before .before .before in
+    let a = at-start .args in
+    subst (λ (t : Task). Wrote (jobOf t .early (take (a .held) (a .line .now)) (take (a .end - a .at) (drop (a .at) (a .s .now))))
+    (a .used) (a .out .now) (a .used) (a .out .now)) (sym (c .enum-told4 .given .1)) (wrote-nil (a .used) (a .out .now))
 
 pub tell-early-spec : {M : Type 1} → statement M
 tell-early-spec =

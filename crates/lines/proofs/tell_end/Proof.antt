@@ -18,59 +18,70 @@ use Rattle.lines.proofs.tell_end.Tie as tie
 
 tell-requires : tie.Need-tell-requires
 tell-requires c κs =
-    let m = c .before .before .before .before .before .lesser in
-    let s = c .before .before .before .before .before .before .before .before .before .before .before .before in
-    let a = s .args in
-    (omega (arith, length-take ((a .at + m .result) - a .at) (drop (a .at) (a .s .now)), m .ensures), s .pre .1 .1)
+    let at-lesser = c .before .before .before .before .before in
+    let at-start = at-lesser .before .before .before .before .before .before .before in
+    let m = at-lesser .lesser in
+    let a = at-start .args in
+    (omega (arith, length-take ((a .at + m .result) - a .at) (drop (a .at) (a .s .now)), m .ensures), at-start .pre .1 .1)
 
 returns : tie.Need-returns
 returns c =
-    let r = c .before .before .before .before .before .before .before .tell in
-    let m = c .before .before .before .before .before .before .before .before .before .before .before .before .before .lesser in
-    let z = c .before .before .before .before .before .before .before .before .before .before .before .before .before .before .if1 .taken in
-    let s = c .before .before .before .before .before .before .before .before .before .before .before .before .before .before .before .before .before .before .before .before in
-    let a = s .args in
+    let at-tell = c .before .before .before .before .before .before .before in
+    let at-lesser = at-tell .before .before .before .before .before .before in
+    let at-start = at-lesser .before .before .before .before .before .before .before in
+    let r = at-tell .tell in
+    let m = at-lesser .lesser in
+    let z = at-lesser .before .if1 .taken in
+    let a = at-start .args in
     let q : List ℕ = drop (a .at) (a .s .now) in
     let e : (a .at + m .result) - a .at ≡ m .result = omega arith in
     let k : take ((a .at + m .result) - a .at) q ≡ keptOf (take (a .held) (a .line .now) ++ take (a .end - a .at) q) =
     ap (λ (n : ℕ). take n q) e
-    ∙ kept-here (a .line .now) (a .s .now) (a .held) (a .at) (a .end) (m .result) (s .pre .0 .0) (s .pre .0 .1) (s .pre .1 .0 .0) (s .pre .1 .0 .1) (m .ensures ∙ ap (λ (n : ℕ). min (a .end - a .at) (mostHeld - n)) (sym z)) z
+    ∙ kept-here (a .line .now) (a .s .now) (a .held) (a .at) (a .end) (m .result) (at-start .pre .0 .0) (at-start .pre .0 .1)
+    (at-start .pre .1 .0 .0) (at-start .pre .1 .0 .1) (m .ensures ∙ ap (λ (n : ℕ). min (a .end - a .at) (mostHeld - n)) (sym z)) z
     in
     (subst (λ (x : List ℕ). Wrote (jobOf (a .task) .told x []) (a .used) (a .out .now) (r .result) (r .last .1 .1 .1 .1 .1 .0)) k (r .ensures .0), (ended-here (a .line .now) (take (a .end - a .at) q) (a .held) z, r .ensures .1))
 
 hold-requires : tie.Need-hold-requires
-hold-requires c κs = let s = c .before .before .before .before .before .before .before in (s .pre .0, s .pre .1 .0)
+hold-requires c κs =
+    let at-start = c .before .before .before .before .before .before .before in
+    (at-start .pre .0, at-start .pre .1 .0)
 
 slice-reshare-prefix-tell : tie.Need-slice-reshare-prefix-tell
 slice-reshare-prefix-tell c =
-    let h = c .before .before .hold in
-    let s = c .before .before .before .before .before .before .before .before .before .before in
-    let a = s .args in
-    omega (arith, h .ensures .end, h .kept .0, s .pre .0, length-keptOf (take (a .held) (a .line .now) ++ take (a .end - a .at) (drop (a .at) (a .s .now))))
+    let at-hold = c .before .before in let at-start = at-hold .before .before .before .before .before .before .before .before in
+    let h = at-hold .hold in
+    let a = at-start .args in
+    omega (arith, h .ensures .end, h .kept .0, at-start .pre .0, length-keptOf (take (a .held) (a .line .now) ++ take (a .end - a .at) (drop (a .at) (a .s .now))))
 
 slice-aggregate-tell : tie.Need-slice-aggregate-tell
 slice-aggregate-tell c =
-    let h = c .before .before .before .hold in
-    let s = c .before .before .before .before .before .before .before .before .before .before .before in
-    let a = s .args in
-    sym (length-take-le (h .result) (h .last .0) (omega (arith, h .ensures .end, h .kept .0, s .pre .0, length-keptOf (take (a .held) (a .line .now) ++ take (a .end - a .at) (drop (a .at) (a .s .now))))))
+    let at-hold = c .before .before .before in
+    let at-start = at-hold .before .before .before .before .before .before .before .before in
+    let h = at-hold .hold in
+    let a = at-start .args in
+    sym (length-take-le (h .result) (h .last .0)
+    (omega (arith, h .ensures .end, h .kept .0, at-start .pre .0, length-keptOf (take (a .held) (a .line .now) ++ take (a .end - a .at) (drop (a .at) (a .s .now))))))
 
 tell-requires-2 : tie.Need-tell-requires-2
 tell-requires-2 c κs =
-    let h = c .before .before .before .before .before .before .before .hold in
-    let s = c .before .before .before .before .before .before .before .before .before .before .before .before .before .before .before in
-    let a = s .args in
-    (omega (arith, length-take (h .result) (h .last .0), h .ensures .end, length-keptOf (take (a .held) (a .line .now) ++ take (a .end - a .at) (drop (a .at) (a .s .now)))), s .pre .1 .1)
+    let at-hold = c .before .before .before .before .before .before .before in
+    let at-start = at-hold .before .before .before .before .before .before .before .before in
+    let h = at-hold .hold in
+    let a = at-start .args in
+    (omega (arith, length-take (h .result) (h .last .0), h .ensures .end, length-keptOf (take (a .held) (a .line .now) ++ take (a .end - a .at) (drop (a .at) (a .s .now)))), at-start .pre .1 .1)
 
 returns-2 : tie.Need-returns-2
 returns-2 c =
-    let r = c .before .before .before .before .before .before .before .tell2 in
-    let k = c .before .before .before .before .before .before .before .before .before .before .before .before .before .before .before .hold in
-    let z = c .before .before .before .before .before .before .before .before .before .before .before .before .before .before .before .before .before .if1 .left in
-    let s = c .before .before .before .before .before .before .before .before .before .before .before .before .before .before .before .before .before .before .before .before .before .before .before in
-    let a = s .args in
+    let at-tell2 = c .before .before .before .before .before .before .before in
+    let at-hold = at-tell2 .before .before .before .before .before .before .before .before in
+    let at-if1 = at-hold .before .before in let at-start = at-if1 .before .before .before .before .before .before in
+    let r = at-tell2 .tell2 in
+    let k = at-hold .hold in
+    let z = at-if1 .if1 .left in
+    let a = at-start .args in
     let b : List ℕ = take (a .end - a .at) (drop (a .at) (a .s .now)) in
-    (subst (λ (x : List ℕ). Wrote (jobOf (a .task) .told x []) (a .used) (a .out .now) (r .result) (r .last .1 .1 .1 .1 .1 .0)) (kept-bytes (a .line .now) (k .result) (k .last .0) (take (a .held) (a .line .now) ++ b) (s .pre .0 .1) (k .ensures)) (r .ensures .0), (ended-kept (a .line .now) b (k .last .0) (a .held) (k .result) z (k .ensures), r .ensures .1))
+    (subst (λ (x : List ℕ). Wrote (jobOf (a .task) .told x []) (a .used) (a .out .now) (r .result) (r .last .1 .1 .1 .1 .1 .0)) (kept-bytes (a .line .now) (k .result) (k .last .0) (take (a .held) (a .line .now) ++ b) (at-start .pre .0 .1) (k .ensures)) (r .ensures .0), (ended-kept (a .line .now) b (k .last .0) (a .held) (k .result) z (k .ensures), r .ensures .1))
 
 pub tell-end-spec : {M : Type 1} → statement M
 tell-end-spec =

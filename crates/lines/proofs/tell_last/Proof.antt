@@ -18,51 +18,69 @@ use Rattle.lines.proofs.tell_last.Tie as tie
 
 tell-requires : tie.Need-tell-requires
 tell-requires c κs =
-    let s = c .before .before .before .before .before .before .before .before .before .before in
-    (s .pre .1 .0, omega (arith, s .pre .1 .1, ap mostTold (c .before .before .before .before .enum-told .given .1)))
+    let at-enum-told = c .before .before .before .before in
+    let at-start = at-enum-told .before .before .before .before .before .before in
+    (at-start .pre .1 .0, omega (arith, at-start .pre .1 .1, ap mostTold (at-enum-told .enum-told .given .1)))
 
 end-line-requires : tie.Need-end-line-requires
 end-line-requires c κs =
-    let s = c .before .before .before .before .before .before .before in
-    (s .pre .0 .1, omega (arith, s .pre .1 .1, ap mostTold (c .before .enum-told2 .given .1)))
+    let at-start = c .before .before .before .before .before .before .before in
+    (at-start .pre .0 .1, omega (arith, at-start .pre .1 .1, ap mostTold (c .before .enum-told2 .given .1)))
 
 tell-requires-2 : tie.Need-tell-requires-2
 tell-requires-2 c κs =
-    let s = c .before .before .before .before .before .before .before .before .before .before in
-    let l = s .pre .1 .0 in
-    ((l .table, l .marks, l .hull), omega (arith, s .pre .1 .1, ap mostTold (c .before .before .before .before .enum-told3 .given .1)))
+    let at-enum-told3 = c .before .before .before .before in
+    let at-start = at-enum-told3 .before .before .before .before .before .before in
+    let l = at-start .pre .1 .0 in
+    ((l .table, l .marks, l .hull), omega (arith, at-start .pre .1 .1, ap mostTold (at-enum-told3 .enum-told3 .given .1)))
 
 enter-requires : tie.Need-enter-requires
 enter-requires c κs =
-    let s = c .before .before .before .before .before .before .before .before .before in
-    ((s .pre .1 .0 .table, s .pre .1 .0 .marks), omega (arith, s .pre .1 .1, ap mostTold (c .before .before .before .enum-told4 .given .1)))
+    let at-enum-told4 = c .before .before .before in
+    let at-start = at-enum-told4 .before .before .before .before .before .before in
+    ((at-start .pre .1 .0 .table, at-start .pre .1 .0 .marks), omega (arith, at-start .pre .1 .1, ap mostTold (at-enum-told4 .enum-told4 .given .1)))
 
 returns : tie.Need-returns
 returns c =
-    let r = c .before .before .before .before .before .before .before .tell in
-    let s = c .before .before .before .before .before .before .before .before .before .before .before .before .before .before .before .before .before .before in
-    let a = s .args in
-    subst (λ (l : List ℕ). Wrote l 0 (a .out .now) (r .result) (r .last .1 .1 .1 .1 .0)) (each-last answered mostAnswer (a .s .now) (s .pre .0 .0) ∙ ap (λ (t : Task). jobOf t .last (a .s .now)) (sym (c .before .before .before .before .before .before .before .before .before .before .before .before .enum-told .given .1))) (r .ensures .0)
+    let at-tell = c .before .before .before .before .before .before .before in
+    let at-enum-told = at-tell .before .before .before .before .before in
+    let at-start = at-enum-told .before .before .before .before .before .before in
+    let r = at-tell .tell in
+    let a = at-start .args in
+    subst (λ (l : List ℕ). Wrote l 0 (a .out .now) (r .result) (r .last .1 .1 .1 .1 .0))
+    (each-last answered mostAnswer (a .s .now) (at-start .pre .0 .0)
+    ∙ ap (λ (t : Task). jobOf t .last (a .s .now)) (sym (at-enum-told .enum-told .given .1))) (r .ensures .0)
 
 returns-2 : tie.Need-returns-2
 returns-2 c =
-    let r = c .before .before .end-line in
-    let a = c .before .before .before .before .before .before .before .before .before .before .args in
-    subst (λ (t : Task). Wrote (jobOf t .last (a .s .now)) 0 (a .out .now) (r .result) (r .last .1 .0)) (sym (c .before .before .before .before .enum-told2 .given .1)) (r .ensures)
+    let at-end-line = c .before .before in let at-enum-told2 = at-end-line .before .before in
+    let at-start = at-enum-told2 .before .before .before .before .before .before in
+    let r = at-end-line .end-line in
+    let a = at-start .args in
+    subst (λ (t : Task). Wrote (jobOf t .last (a .s .now)) 0 (a .out .now) (r .result) (r .last .1 .0))
+    (sym (at-enum-told2 .enum-told2 .given .1)) (r .ensures)
 
 returns-3 : tie.Need-returns-3
 returns-3 c =
-    let r = c .before .before .before .before .before .before .before .tell2 in
-    let s = c .before .before .before .before .before .before .before .before .before .before .before .before .before .before .before .before .before .before in
-    let a = s .args in
-    subst (λ (l : List ℕ). Wrote l 0 (a .out .now) (r .result) (r .last .1 .1 .1 .1 .0)) (each-last rowsTold mostRows (a .s .now) (s .pre .0 .0) ∙ ap (λ (t : Task). jobOf t .last (a .s .now)) (sym (c .before .before .before .before .before .before .before .before .before .before .before .before .enum-told3 .given .1))) (r .ensures .0)
+    let at-tell2 = c .before .before .before .before .before .before .before in
+    let at-enum-told3 = at-tell2 .before .before .before .before .before in
+    let at-start = at-enum-told3 .before .before .before .before .before .before in
+    let r = at-tell2 .tell2 in
+    let a = at-start .args in
+    subst (λ (l : List ℕ). Wrote l 0 (a .out .now) (r .result) (r .last .1 .1 .1 .1 .0))
+    (each-last rowsTold mostRows (a .s .now) (at-start .pre .0 .0)
+    ∙ ap (λ (t : Task). jobOf t .last (a .s .now)) (sym (at-enum-told3 .enum-told3 .given .1))) (r .ensures .0)
 
 returns-4 : tie.Need-returns-4
 returns-4 c =
-    let r = c .before .before .before .before .before .before .enter in
-    let s = c .before .before .before .before .before .before .before .before .before .before .before .before .before .before .before .before in
-    let a = s .args in
-    subst (λ (l : List ℕ). Wrote l 0 (a .out .now) (r .result) (r .last .1 .1 .1 .0)) (each-last entered mostEntry (a .s .now) (s .pre .0 .0) ∙ ap (λ (t : Task). jobOf t .last (a .s .now)) (sym (c .before .before .before .before .before .before .before .before .before .before .enum-told4 .given .1))) (r .ensures .0)
+    let at-enter = c .before .before .before .before .before .before in
+    let at-enum-told4 = at-enter .before .before .before .before in
+    let at-start = at-enum-told4 .before .before .before .before .before .before in
+    let r = at-enter .enter in
+    let a = at-start .args in
+    subst (λ (l : List ℕ). Wrote l 0 (a .out .now) (r .result) (r .last .1 .1 .1 .0))
+    (each-last entered mostEntry (a .s .now) (at-start .pre .0 .0)
+    ∙ ap (λ (t : Task). jobOf t .last (a .s .now)) (sym (at-enum-told4 .enum-told4 .given .1))) (r .ensures .0)
 
 pub tell-last-spec : {M : Type 1} → statement M
 tell-last-spec =

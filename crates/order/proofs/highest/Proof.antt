@@ -21,11 +21,15 @@ loop-holds c = omega arith
 
 loop-again : tie.Need-loop-again Inv-loop μ-loop
 loop-again c =
-    let l = c .before .before .before .loop in
-    highest-next (c .before .before .before .before .before .args .bytes .now) (l .i) (l .most) (c .higher .result) (omega arith) (l .inv) (c .higher .ensures)
+    let at-loop = c .before .before .before in
+    let l = at-loop .loop in
+    highest-next (at-loop .before .before .args .bytes .now) (l .i) (l .most) (c .higher .result) (omega arith) (l .inv)
+    (c .higher .ensures)
 
 returns : tie.Need-returns Inv-loop μ-loop
-returns c = let l = c .before .loop in highest-end (c .before .before .before .args .bytes .now) (l .i) (l .most) (omega arith) (l .inv)
+returns c =
+    let at-loop = c .before in
+    let l = at-loop .loop in highest-end (at-loop .before .before .args .bytes .now) (l .i) (l .most) (omega arith) (l .inv)
 
 pub highest-spec : {M : Type 1} → statement M
 highest-spec =

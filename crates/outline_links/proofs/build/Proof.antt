@@ -18,51 +18,71 @@ abbrev μ-loop : tie.MeasureT-loop
 μ-loop chain keys₀ kids₀ links₀ k₀ least₀ home₀ used₀ node₀ i₀ keys kids links k least home used node i = length chain - i
 
 loop-holds : tie.Need-loop-holds Inv-loop μ-loop
-loop-holds c = ((λ a. building-start a (c .before .before .before .before .args .chain .now) (c .before .before .before .before .args .keys .now) (c .before .before .before .before .args .kids .now) (c .before .before .before .before .args .links .now) (c .before .before .before .before .pre)), refl)
+loop-holds c =
+    let at-start = c .before .before .before .before in
+    ((λ a. building-start a (at-start .args .chain .now) (at-start .args .keys .now) (at-start .args .kids .now) (at-start .args .links .now) (at-start .pre)), refl)
 
 key-after-requires : tie.Need-key-after-requires Inv-loop μ-loop
 key-after-requires c κs =
-    let l = c .before .before .loop in
-    building-key origin (c .before .before .before .before .before .before .before .args .chain .now) (l .keys) (l .kids) (l .links) (l .k) (l .least) (l .home) (l .used) (l .node) (l .i) (l .inv .0 origin) (c .before .loop-test .taken)
+    let at-loop = c .before .before in let at-start = at-loop .before .before .before .before .before in
+    let l = at-loop .loop in
+    building-key origin (at-start .args .chain .now) (l .keys) (l .kids) (l .links) (l .k) (l .least) (l .home) (l .used)
+    (l .node) (l .i) (l .inv .0 origin) (c .before .loop-test .taken)
 
 advance-requires : tie.Need-advance-requires Inv-loop μ-loop
 advance-requires c κs =
-    let l = c .before .before .before .before .before .before .loop in
-    (building-ready origin (c .before .before .before .before .before .before .before .before .before .before .before .args .chain .now) (l .keys) (l .kids) (l .links) (l .k) (l .least) (l .home) (l .used) (l .node) (l .i) (l .inv .0 origin) (c .before .before .before .before .before .loop-test .taken), l .inv .0 origin .sized .digits (l .i))
+    let at-loop-test = c .before .before .before .before .before in
+    let at-start = at-loop-test .before .before .before .before .before .before in
+    let l = at-loop-test .before .loop in
+    (building-ready origin (at-start .args .chain .now) (l .keys) (l .kids) (l .links) (l .k) (l .least) (l .home) (l .used) (l .node) (l .i) (l .inv .0 origin) (at-loop-test .loop-test .taken), l .inv .0 origin .sized .digits (l .i))
 
 loop-less : tie.Need-loop-less Inv-loop μ-loop
-loop-less c = omega (arith, c .before .before .before .before .before .before .before .before .before .before .before .before .before .before .loop-test .taken)
+loop-less c =
+    let at-loop-test = c .before .before .before .before .before .before .before .before .before .before .before .before .before .before in
+    omega (arith, at-loop-test .loop-test .taken)
 
 loop-again : tie.Need-loop-again Inv-loop μ-loop
 loop-again c =
-    let b = c .before .before .before .before .before .before .before .before .before .before .before .before .before .before .before .before .before .before .before .before .args in
-    let d = c .before .before .before .before .before .before .before .before .before .before .before .before .before .before .loop-test in
-    let e = c .before .before .before .before .before .before .before .before .before .before .before .before .key-after in
-    let f = c .before .before .before .before .before .before .before .before .advance in
-    let l = c .before .before .before .before .before .before .before .before .before .before .before .before .before .before .before .loop in
-    ((λ a. building-next a (b .chain .now) (l .keys) (l .kids) (l .links) (l .k) (l .least) (l .home) (l .used) (l .node) (l .i) (l .inv .0 a) (d .taken) (e .ensures) (f .ensures) (c .lesser .ensures) (c .before .lower .ensures) .0), building-next origin (b .chain .now) (l .keys) (l .kids) (l .links) (l .k) (l .least) (l .home) (l .used) (l .node) (l .i) (l .inv .0 origin) (d .taken) (e .ensures) (f .ensures) (c .lesser .ensures) (c .before .lower .ensures) .1 ∙ l .inv .1)
+    let at-lower = c .before in let at-advance = at-lower .before .before .before .before .before .before .before in
+    let at-key-after = at-advance .before .before .before .before in let at-loop-test = at-key-after .before .before in
+    let at-loop = at-loop-test .before in let at-start = at-loop .before .before .before .before .before in
+    let b = at-start .args in
+    let d = at-loop-test .loop-test in
+    let e = at-key-after .key-after in
+    let f = at-advance .advance in
+    let l = at-loop .loop in
+    ((λ a. building-next a (b .chain .now) (l .keys) (l .kids) (l .links) (l .k) (l .least) (l .home) (l .used) (l .node) (l .i) (l .inv .0 a) (d .taken) (e .ensures) (f .ensures) (c .lesser .ensures) (at-lower .lower .ensures) .0), building-next origin (b .chain .now) (l .keys) (l .kids) (l .links) (l .k) (l .least) (l .home) (l .used) (l .node) (l .i) (l .inv .0 origin) (d .taken) (e .ensures) (f .ensures) (c .lesser .ensures) (at-lower .lower .ensures) .1 ∙ l .inv .1)
 
 same-length : tie.Need-same-length Inv-loop μ-loop
-same-length c = c .before .loop .inv .1 ∙ length-set (c .before .before .before .before .before .before .args .keys .now) 0 536903680
+same-length c =
+    let at-start = c .before .before .before .before .before .before in
+    c .before .loop .inv .1 ∙ length-set (at-start .args .keys .now) 0 536903680
 
 same-length-2 : tie.Need-same-length-2 Inv-loop μ-loop
 same-length-2 c =
-    let a = c .before .before .before .before .before .before .args in
+    let at-start = c .before .before .before .before .before .before in
+    let a = at-start .args in
     let l = c .before .loop in
-    let z = building-sizes origin (a .chain .now) (l .keys) (l .kids) (l .links) (l .k) (l .least) (l .home) (l .used) (l .node) (l .i) (l .inv .0 origin) in
+    let z = building-sizes origin (a .chain .now) (l .keys) (l .kids) (l .links) (l .k) (l .least) (l .home) (l .used) (l .node)
+    (l .i) (l .inv .0 origin) in
     let e : length (l .keys) ≡ length (a .keys .now) = l .inv .1 ∙ length-set (a .keys .now) 0 536903680 in
-    omega (arith, z .0, e, c .before .before .before .before .before .before .pre .pairs)
+    omega (arith, z .0, e, at-start .pre .pairs)
 
 same-length-3 : tie.Need-same-length-3 Inv-loop μ-loop
 same-length-3 c =
-    let a = c .before .before .before .before .before .before .args in
+    let at-start = c .before .before .before .before .before .before in
+    let a = at-start .args in
     let l = c .before .loop in
-    let z = building-sizes origin (a .chain .now) (l .keys) (l .kids) (l .links) (l .k) (l .least) (l .home) (l .used) (l .node) (l .i) (l .inv .0 origin) in
+    let z = building-sizes origin (a .chain .now) (l .keys) (l .kids) (l .links) (l .k) (l .least) (l .home) (l .used) (l .node)
+    (l .i) (l .inv .0 origin) in
     let e : length (l .keys) ≡ length (a .keys .now) = l .inv .1 ∙ length-set (a .keys .now) 0 536903680 in
-    omega (arith, z .1, e, c .before .before .before .before .before .before .pre .words)
+    omega (arith, z .1, e, at-start .pre .words)
 
 returns : tie.Need-returns Inv-loop μ-loop
-returns c = λ a. let l = c .before .loop in building-end a (c .before .before .before .before .before .before .args .chain .now) (l .keys) (l .kids) (l .links) (l .k) (l .least) (l .home) (l .used) (l .node) (l .i) (l .inv .0 a) (c .loop-test .left)
+returns c =
+    let at-start = c .before .before .before .before .before .before in
+    λ a. let l = c .before .loop in building-end a (at-start .args .chain .now) (l .keys) (l .kids) (l .links) (l .k) (l .least)
+    (l .home) (l .used) (l .node) (l .i) (l .inv .0 a) (c .loop-test .left)
 
 pub build-spec : {M : Type 1} → statement M
 build-spec =

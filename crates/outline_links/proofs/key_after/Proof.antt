@@ -14,10 +14,14 @@ returns-2 : tie.Need-returns-2
 returns-2 c = sym (ap (keyAfter (c .before .before .args .k)) (c .if2 .taken))
 
 returns-3 : tie.Need-returns-3
-returns-3 c = sym (ap (keyAfter (c .before .before .before .args .k)) (c .if3 .taken))
+returns-3 c =
+    let at-start = c .before .before .before in
+    sym (ap (keyAfter (at-start .args .k)) (c .if3 .taken))
 
 returns-4 : tie.Need-returns-4
-returns-4 c = key-south (c .before .before .before .args .k) (c .before .before .before .args .d) (c .before .before .if1 .left) (c .before .if2 .left) (c .if3 .left)
+returns-4 c =
+    let at-if1 = c .before .before in
+    key-south (at-if1 .before .args .k) (at-if1 .before .args .d) (at-if1 .if1 .left) (c .before .if2 .left) (c .if3 .left)
 
 pub key-after-spec : {M : Type 1} → statement M
 key-after-spec =

@@ -21,49 +21,74 @@ abbrev μ-loop : tie.MeasureT-loop
 μ-loop chain from by map₀ b₀ home₀ last₀ i₀ map b home last i = length chain - i
 
 loop-holds : tie.Need-loop-holds Inv-loop μ-loop
-loop-holds c = let s = c .before .before .before in ((λ a at e p. marking-start a (s .args .chain .now) (s .args .by .now) (length (s .args .map .now)) at p (s .args .from) (s .args .map .now) e refl (s .pre .nothing)), refl)
+loop-holds c =
+    let at-start = c .before .before .before in
+    ((λ a at e p. marking-start a (at-start .args .chain .now) (at-start .args .by .now) (length (at-start .args .map .now)) at p (at-start .args .from) (at-start .args .map .now) e refl (at-start .pre .nothing)), refl)
 
 slice-read-map : tie.Need-slice-read-map Inv-loop μ-loop
-slice-read-map c = let s = c .before .before .before .before .before .before .before in let l = c .before .before .before .loop in let q = s .pre .placed origin in omega (arith, l .inv .1, marking-inside origin (s .args .chain .now) (s .args .by .now) (length (s .args .map .now)) (q .0) (q .2) (l .map) (l .b) (l .home) (l .last) (l .i) (l .inv .0 origin (q .0) (q .1) (q .2)))
+slice-read-map c =
+    let at-loop = c .before .before .before in let at-start = at-loop .before .before .before .before in
+    let l = at-loop .loop in let q = at-start .pre .placed origin in omega
+    (arith, l .inv .1, marking-inside origin (at-start .args .chain .now) (at-start .args .by .now) (length (at-start .args .map .now)) (q .0) (q .2) (l .map) (l .b) (l .home) (l .last) (l .i) (l .inv .0 origin (q .0) (q .1) (q .2)))
 
 bit-requires : tie.Need-bit-requires Inv-loop μ-loop
-bit-requires c κs = c .before .before .before .before .before .before .before .pre .digits (c .before .before .before .loop .i)
+bit-requires c κs =
+    let at-loop = c .before .before .before in let at-start = at-loop .before .before .before .before in
+    at-start .pre .digits (at-loop .loop .i)
 
 slice-write-map : tie.Need-slice-write-map Inv-loop μ-loop
-slice-write-map c = let s = c .before .before .before .before .before .before .before .before in let l = c .before .before .before .before .loop in let q = s .pre .placed origin in omega (arith, l .inv .1, marking-inside origin (s .args .chain .now) (s .args .by .now) (length (s .args .map .now)) (q .0) (q .2) (l .map) (l .b) (l .home) (l .last) (l .i) (l .inv .0 origin (q .0) (q .1) (q .2)))
+slice-write-map c =
+    let at-loop = c .before .before .before .before in let at-start = at-loop .before .before .before .before in
+    let l = at-loop .loop in let q = at-start .pre .placed origin in omega
+    (arith, l .inv .1, marking-inside origin (at-start .args .chain .now) (at-start .args .by .now) (length (at-start .args .map .now)) (q .0) (q .2) (l .map) (l .b) (l .home) (l .last) (l .i) (l .inv .0 origin (q .0) (q .1) (q .2)))
 
 go-requires : tie.Need-go-requires Inv-loop μ-loop
-go-requires c κs = omega (arith, c .before .before .before .before .before .before .before .before .pre .digits (c .before .before .before .before .loop .i), c .before .before .before .before .before .before .before .before .pre .four)
+go-requires c κs =
+    let at-loop = c .before .before .before .before in let at-start = at-loop .before .before .before .before in
+    omega (arith, at-start .pre .digits (at-loop .loop .i), at-start .pre .four)
 
 bit-back-requires : tie.Need-bit-back-requires Inv-loop μ-loop
-bit-back-requires c κs = c .before .before .before .before .before .before .before .before .before .before .pre .digits (c .before .before .before .before .before .before .loop .i)
+bit-back-requires c κs =
+    let at-loop = c .before .before .before .before .before .before in let at-start = at-loop .before .before .before .before in
+    at-start .pre .digits (at-loop .loop .i)
 
 loop-less : tie.Need-loop-less Inv-loop μ-loop
-loop-less c = omega (arith, c .before .before .before .before .before .before .loop-test .taken)
+loop-less c =
+    let at-loop-test = c .before .before .before .before .before .before in
+    omega (arith, at-loop-test .loop-test .taken)
 
 loop-again : tie.Need-loop-again Inv-loop μ-loop
 loop-again c =
-    let s = c .before .before .before .before .before .before .before .before .before .before .before in
-    let l = c .before .before .before .before .before .before .before .loop in (
-      (λ a at e p. marking-next a (s .args .chain .now) (s .args .by .now) (length (s .args .map .now)) at p (l .map) (l .b) (l .home) (l .last) (l .i) (l .inv .0 a at e p) (l .inv .1) (c .before .before .before .before .before .before .loop-test .taken) (s .pre .digits (l .i)) (c .before .before .before .bit .result) (c .before .before .go .result) (c .before .lesser .result) (c .bit-back .result) (c .before .before .before .bit .ensures) (c .before .before .go .ensures) (c .before .lesser .ensures) (c .bit-back .ensures)),
-      length-set (l .map) (l .b) (bitOr (bitOr (getD (l .map) (l .b) 0) (l .last)) (c .before .before .before .bit .result)) ∙ l .inv .1,
+    let at-lesser = c .before in let at-go = at-lesser .before in let at-bit = at-go .before in
+    let at-loop-test = at-bit .before .before .before in let at-start = at-loop-test .before .before .before .before .before in
+    let l = at-loop-test .before .loop in (
+      (λ a at e p. marking-next a (at-start .args .chain .now) (at-start .args .by .now) (length (at-start .args .map .now)) at p
+          (l .map) (l .b) (l .home) (l .last) (l .i) (l .inv .0 a at e p) (l .inv .1) (at-loop-test .loop-test .taken) (at-start .pre .digits (l .i)) (at-bit .bit .result) (at-go .go .result) (at-lesser .lesser .result) (c .bit-back .result) (at-bit .bit .ensures) (at-go .go .ensures) (at-lesser .lesser .ensures) (c .bit-back .ensures)),
+      length-set (l .map) (l .b) (bitOr (bitOr (getD (l .map) (l .b) 0) (l .last)) (at-bit .bit .result)) ∙ l .inv .1,
     )
 
 slice-read-map-2 : tie.Need-slice-read-map-2 Inv-loop μ-loop
-slice-read-map-2 c = let s = c .before .before .before .before .before .before in let l = c .before .before .loop in let q = s .pre .placed origin in omega (arith, l .inv .1, marking-inside origin (s .args .chain .now) (s .args .by .now) (length (s .args .map .now)) (q .0) (q .2) (l .map) (l .b) (l .home) (l .last) (l .i) (l .inv .0 origin (q .0) (q .1) (q .2)))
+slice-read-map-2 c =
+    let at-loop = c .before .before in let at-start = at-loop .before .before .before .before in
+    let l = at-loop .loop in let q = at-start .pre .placed origin in omega
+    (arith, l .inv .1, marking-inside origin (at-start .args .chain .now) (at-start .args .by .now) (length (at-start .args .map .now)) (q .0) (q .2) (l .map) (l .b) (l .home) (l .last) (l .i) (l .inv .0 origin (q .0) (q .1) (q .2)))
 
 slice-write-map-2 : tie.Need-slice-write-map-2 Inv-loop μ-loop
-slice-write-map-2 c = let s = c .before .before .before .before .before .before in let l = c .before .before .loop in let q = s .pre .placed origin in omega (arith, l .inv .1, marking-inside origin (s .args .chain .now) (s .args .by .now) (length (s .args .map .now)) (q .0) (q .2) (l .map) (l .b) (l .home) (l .last) (l .i) (l .inv .0 origin (q .0) (q .1) (q .2)))
+slice-write-map-2 c =
+    let at-loop = c .before .before in let at-start = at-loop .before .before .before .before in
+    let l = at-loop .loop in let q = at-start .pre .placed origin in omega
+    (arith, l .inv .1, marking-inside origin (at-start .args .chain .now) (at-start .args .by .now) (length (at-start .args .map .now)) (q .0) (q .2) (l .map) (l .b) (l .home) (l .last) (l .i) (l .inv .0 origin (q .0) (q .1) (q .2)))
 
 same-length : tie.Need-same-length Inv-loop μ-loop
 same-length c = let l = c .before .before .loop in length-set (l .map) (l .b) (bitOr (getD (l .map) (l .b) 0) (l .last)) ∙ l .inv .1
 
 returns : tie.Need-returns Inv-loop μ-loop
 returns c a =
-    let s = c .before .before .before .before .before .before in
-    let l = c .before .before .loop in
-    let q = s .pre .placed a in
-    marking-end a (s .args .chain .now) (s .args .by .now) (length (s .args .map .now)) (q .0) (q .2) (l .map) (l .b) (l .home) (l .last) (l .i) (l .inv .0 a (q .0) (q .1) (q .2)) (l .inv .1) (c .before .loop-test .left)
+    let at-loop = c .before .before in let at-start = at-loop .before .before .before .before in
+    let l = at-loop .loop in
+    let q = at-start .pre .placed a in
+    marking-end a (at-start .args .chain .now) (at-start .args .by .now) (length (at-start .args .map .now)) (q .0) (q .2)
+    (l .map) (l .b) (l .home) (l .last) (l .i) (l .inv .0 a (q .0) (q .1) (q .2)) (l .inv .1) (c .before .loop-test .left)
 
 pub mark-spec : {M : Type 1} → statement M
 mark-spec =

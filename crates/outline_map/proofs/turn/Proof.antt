@@ -11,13 +11,26 @@ returns : tie.Need-returns
 returns c = turn-right (wayOn (c .before .before .args .m)) (c .before .before .args .d) (c .before .before .pre) (sym (c .before .has .ensures) ∙ c .if1 .taken)
 
 returns-2 : tie.Need-returns-2
-returns-2 c = turn-straight (wayOn (c .before .before .before .before .args .m)) (c .before .before .before .before .args .d) (c .before .before .before .before .pre) (sym (c .before .before .before .has .ensures) ∙ c .before .before .if1 .left) (sym (c .before .has2 .ensures) ∙ c .if2 .taken)
+returns-2 c =
+    let at-if1 = c .before .before in let at-has = at-if1 .before in let at-start = at-has .before in
+    turn-straight (wayOn (at-start .args .m)) (at-start .args .d) (at-start .pre) (sym (at-has .has .ensures) ∙ at-if1 .if1 .left)
+    (sym (c .before .has2 .ensures) ∙ c .if2 .taken)
 
 returns-3 : tie.Need-returns-3
-returns-3 c = turn-left (wayOn (c .before .before .before .before .before .before .args .m)) (c .before .before .before .before .before .before .args .d) (c .before .before .before .before .before .before .pre) (sym (c .before .before .before .before .before .has .ensures) ∙ c .before .before .before .before .if1 .left) (sym (c .before .before .before .has2 .ensures) ∙ c .before .before .if2 .left) (sym (c .before .has3 .ensures) ∙ c .if3 .taken)
+returns-3 c =
+    let at-if2 = c .before .before in let at-has2 = at-if2 .before in let at-has = at-has2 .before .before in
+    let at-start = at-has .before in
+    turn-left (wayOn (at-start .args .m)) (at-start .args .d) (at-start .pre)
+    (sym (at-has .has .ensures) ∙ at-has2 .before .if1 .left) (sym (at-has2 .has2 .ensures) ∙ at-if2 .if2 .left)
+    (sym (c .before .has3 .ensures) ∙ c .if3 .taken)
 
 returns-4 : tie.Need-returns-4
-returns-4 c = turn-back (wayOn (c .before .before .before .before .before .before .args .m)) (c .before .before .before .before .before .before .args .d) (c .before .before .before .before .before .before .pre) (sym (c .before .before .before .before .before .has .ensures) ∙ c .before .before .before .before .if1 .left) (sym (c .before .before .before .has2 .ensures) ∙ c .before .before .if2 .left) (sym (c .before .has3 .ensures) ∙ c .if3 .left)
+returns-4 c =
+    let at-if2 = c .before .before in let at-has2 = at-if2 .before in let at-has = at-has2 .before .before in
+    let at-start = at-has .before in
+    turn-back (wayOn (at-start .args .m)) (at-start .args .d) (at-start .pre)
+    (sym (at-has .has .ensures) ∙ at-has2 .before .if1 .left) (sym (at-has2 .has2 .ensures) ∙ at-if2 .if2 .left)
+    (sym (c .before .has3 .ensures) ∙ c .if3 .left)
 
 pub turn-spec : {M : Type 1} → statement M
 turn-spec =

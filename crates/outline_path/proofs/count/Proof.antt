@@ -24,49 +24,67 @@ follow-requires c κs =
 
 turn-requires : tie.Need-turn-requires Inv-loop μ-loop
 turn-requires c κs =
-    let a = c .before .before .before .args in
-    let p = c .before .before .before .pre in
-    at-to origin (a .chain .now) (a .links .now) (a .home) (a .first) (p) 0 (a .home) (a .first) (at-start origin (a .chain .now) (a .links .now) (a .home) (a .first) (p)) (c .follow .result) (c .follow .ensures)
+    let at-start-place = c .before .before .before in
+    let a = at-start-place .args in
+    let p = at-start-place .pre in
+    at-to origin (a .chain .now) (a .links .now) (a .home) (a .first) (p) 0 (a .home) (a .first)
+    (at-start origin (a .chain .now) (a .links .now) (a .home) (a .first) (p)) (c .follow .result) (c .follow .ensures)
 
 loop-holds : tie.Need-loop-holds Inv-loop μ-loop
-loop-holds c = going-start (c .before .before .before .before .args .chain .now) (c .before .before .before .before .args .links .now) (c .before .before .before .before .args .home) (c .before .before .before .before .args .first) (c .before .before .before .before .pre) (c .before .follow .result) (c .turn .result) (c .before .follow .ensures) (c .turn .ensures)
+loop-holds c =
+    let at-follow = c .before in let at-start = at-follow .before .before .before in
+    going-start (at-start .args .chain .now) (at-start .args .links .now) (at-start .args .home) (at-start .args .first)
+    (at-start .pre) (at-follow .follow .result) (c .turn .result) (at-follow .follow .ensures) (c .turn .ensures)
 
 follow-requires-2 : tie.Need-follow-requires-2 Inv-loop μ-loop
 follow-requires-2 c κs =
-    let a = c .before .before .before .before .before .before .before .args in
-    let l = c .before .before .loop in
-    at-link origin (a .chain .now) (a .links .now) (a .home) (a .first) (c .before .before .before .before .before .before .before .pre) (l .n) (l .i) (l .d) (l .inv origin .at)
+    let at-loop = c .before .before in let at-start = at-loop .before .before .before .before .before in
+    let a = at-start .args in
+    let l = at-loop .loop in
+    at-link origin (a .chain .now) (a .links .now) (a .home) (a .first) (at-start .pre) (l .n) (l .i) (l .d) (l .inv origin .at)
 
 turn-requires-2 : tie.Need-turn-requires-2 Inv-loop μ-loop
 turn-requires-2 c κs =
-    let a = c .before .before .before .before .before .before .before .before .args in
-    let l = c .before .before .before .loop in
-    at-to origin (a .chain .now) (a .links .now) (a .home) (a .first) (c .before .before .before .before .before .before .before .before .pre) (l .n) (l .i) (l .d) (l .inv origin .at) (c .follow2 .result) (c .follow2 .ensures)
+    let at-loop = c .before .before .before in let at-start = at-loop .before .before .before .before .before in
+    let a = at-start .args in
+    let l = at-loop .loop in
+    at-to origin (a .chain .now) (a .links .now) (a .home) (a .first) (at-start .pre) (l .n) (l .i) (l .d) (l .inv origin .at)
+    (c .follow2 .result) (c .follow2 .ensures)
 
 add-n : tie.Need-add-n Inv-loop μ-loop
 add-n c =
-    let a = c .before .before .before .before .before .before .before .before .before .args in
-    let p = c .before .before .before .before .before .before .before .before .before .pre in
-    let l = c .before .before .before .before .loop in
-    omega (arith, p .short, going-less (a .chain .now) (a .links .now) (a .home) (a .first) (p) (l .n) (l .i) (l .d) (l .inv) (sym (c .before .before .before .away .ensures) ∙ c .before .before .if1 .taken))
+    let at-if1 = c .before .before in let at-away = at-if1 .before in
+    let at-start = at-away .before .before .before .before .before .before in
+    let a = at-start .args in
+    let p = at-start .pre in
+    let l = at-away .before .loop in
+    omega (arith, p .short, going-less (a .chain .now) (a .links .now) (a .home) (a .first) (p) (l .n) (l .i) (l .d) (l .inv) (sym (at-away .away .ensures) ∙ at-if1 .if1 .taken))
 
 loop-less : tie.Need-loop-less Inv-loop μ-loop
 loop-less c =
-    let a = c .before .before .before .before .before .before .before .before .before .args in
-    let l = c .before .before .before .before .loop in
-    omega (arith, going-less (a .chain .now) (a .links .now) (a .home) (a .first) (c .before .before .before .before .before .before .before .before .before .pre) (l .n) (l .i) (l .d) (l .inv) (sym (c .before .before .before .away .ensures) ∙ c .before .before .if1 .taken))
+    let at-if1 = c .before .before in let at-away = at-if1 .before in
+    let at-start = at-away .before .before .before .before .before .before in
+    let a = at-start .args in
+    let l = at-away .before .loop in
+    omega (arith, going-less (a .chain .now) (a .links .now) (a .home) (a .first) (at-start .pre) (l .n) (l .i) (l .d) (l .inv) (sym (at-away .away .ensures) ∙ at-if1 .if1 .taken))
 
 loop-again : tie.Need-loop-again Inv-loop μ-loop
 loop-again c =
-    let a = c .before .before .before .before .before .before .before .before .before .args in
-    let l = c .before .before .before .before .loop in
-    going-next (a .chain .now) (a .links .now) (a .home) (a .first) (c .before .before .before .before .before .before .before .before .before .pre) (l .n) (l .i) (l .d) (l .inv) (sym (c .before .before .before .away .ensures) ∙ c .before .before .if1 .taken) (c .before .follow2 .result) (c .turn2 .result) (c .before .follow2 .ensures) (c .turn2 .ensures)
+    let at-follow2 = c .before in let at-if1 = at-follow2 .before in let at-away = at-if1 .before in
+    let at-start = at-away .before .before .before .before .before .before in
+    let a = at-start .args in
+    let l = at-away .before .loop in
+    going-next (a .chain .now) (a .links .now) (a .home) (a .first) (at-start .pre) (l .n) (l .i) (l .d) (l .inv)
+    (sym (at-away .away .ensures) ∙ at-if1 .if1 .taken) (at-follow2 .follow2 .result) (c .turn2 .result)
+    (at-follow2 .follow2 .ensures) (c .turn2 .ensures)
 
 returns : tie.Need-returns Inv-loop μ-loop
 returns c =
-    let a = c .before .before .before .before .before .before .before .args in
-    let l = c .before .before .loop in
-    going-end (a .chain .now) (a .links .now) (a .home) (a .first) (c .before .before .before .before .before .before .before .pre) (l .n) (l .i) (l .d) (l .inv) (sym (c .before .away .ensures) ∙ c .if1 .left)
+    let at-loop = c .before .before in let at-start = at-loop .before .before .before .before .before in
+    let a = at-start .args in
+    let l = at-loop .loop in
+    going-end (a .chain .now) (a .links .now) (a .home) (a .first) (at-start .pre) (l .n) (l .i) (l .d) (l .inv)
+    (sym (c .before .away .ensures) ∙ c .if1 .left)
 
 pub count-spec : {M : Type 1} → statement M
 count-spec =

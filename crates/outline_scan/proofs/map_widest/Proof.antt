@@ -8,7 +8,10 @@ use Rattle.outline_scan.proofs.map_widest.Statement.{statement}
 use Rattle.outline_scan.proofs.map_widest.Tie as tie
 
 write-on-requires : tie.Need-write-on-requires
-write-on-requires c κs = let s = c .before .before .before .before in let b = s .args .b in box-lent (s .args .chain .now) (b .width) (b .height) (b .from) (b .closed) (16 * mostSteps) (s .pre)
+write-on-requires c κs =
+    let at-start = c .before .before .before .before in
+    let b = at-start .args .b in box-lent (at-start .args .chain .now) (b .width) (b .height) (b .from) (b .closed)
+    (16 * mostSteps) (at-start .pre)
 
 pub map-widest-spec : {M : Type 1} → statement M
 map-widest-spec = tie.close (tie.spec (λ c. search needs) write-on-requires (λ c. search needs) (λ c. search needs))

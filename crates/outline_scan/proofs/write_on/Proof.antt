@@ -12,33 +12,54 @@ use Rattle.outline_scan.proofs.write_on.Statement.{statement}
 use Rattle.outline_scan.proofs.write_on.Tie as tie
 
 across-requires : tie.Need-across-requires
-across-requires c κs = let s = c .before .before .before in let f = s .pre .0 in let b = s .args .b in start-small (s .args .chain .now) (b .width) (b .height) (b .from) (record { digits = f .steady .digits; short = f .steady .short }) (f .box .wide) (f .box .high) (f .box .start)
+across-requires c κs =
+    let at-start = c .before .before .before in
+    let f = at-start .pre .0 in let b = at-start .args .b in start-small (at-start .args .chain .now) (b .width) (b .height)
+    (b .from) (record { digits = f .steady .digits; short = f .steady .short }) (f .box .wide) (f .box .high) (f .box .start)
 
 mark-requires : tie.Need-mark-requires
-mark-requires c κs = let s = c .before .before .before .before .before .before in let f = s .pre .0 in let b = s .args .b in box-blank (s .args .chain .now) (b .width) (b .height) (b .from) (record { digits = f .steady .digits; short = f .steady .short }) (f .box .wide) (f .box .high) (f .box .start) (s .args .map .now) (c .before .before .across .result) (f .room) (s .pre .1) (c .before .before .across .ensures)
+mark-requires c κs =
+    let at-across = c .before .before in let at-start = at-across .before .before .before .before in
+    let f = at-start .pre .0 in let b = at-start .args .b in box-blank (at-start .args .chain .now) (b .width) (b .height)
+    (b .from) (record { digits = f .steady .digits; short = f .steady .short }) (f .box .wide) (f .box .high) (f .box .start)
+    (at-start .args .map .now) (at-across .across .result) (f .room) (at-start .pre .1) (at-across .across .ensures)
 
 first-way-requires : tie.Need-first-way-requires
-first-way-requires c κs = home-in _ _ _ _ (c .before .before .before .mark .ensures)
+first-way-requires c κs =
+    let at-mark = c .before .before .before in
+    home-in _ _ _ _ (at-mark .mark .ensures)
 
 fits-requires : tie.Need-fits-requires
-fits-requires c κs = let s = c .before .before .before .before .before .before .before .before .before .before .before .before .before in map-ring _ _ _ _ _ (s .pre .0 .some) (s .pre .0 .steady .short) refl (c .before .before .before .before .before .before .mark .ensures) (c .before .before .first-way .ensures)
+fits-requires c κs =
+    let at-first-way = c .before .before in let at-mark = at-first-way .before .before .before .before in
+    let at-start = at-mark .before .before .before .before .before .before .before in
+    map-ring _ _ _ _ _ (at-start .pre .0 .some) (at-start .pre .0 .steady .short) refl (at-mark .mark .ensures)
+    (at-first-way .first-way .ensures)
 
 returns : tie.Need-returns
-returns c = let s = c .before .before .before .before .before .before .before .before .before .before .before .before .before .before .before in let f = c .before .fits2 in traced-refused (s .args .chain .now) (s .args .out .now) (f .result) (f .ensures) (not-true (f .result) (c .if1 .taken))
+returns c =
+    let at-start = c .before .before .before .before .before .before .before .before .before .before .before .before .before .before .before in
+    let f = c .before .fits2 in traced-refused (at-start .args .chain .now) (at-start .args .out .now) (f .result) (f .ensures)
+    (not-true (f .result) (c .if1 .taken))
 
 put-requires : tie.Need-put-requires
 put-requires c κs =
-    let s = c .before .before .before .before .before .before .before .before .before .before .before .before .before .before .before .before .before .before in
-    let f = c .before .before .before .before .fits2 in
-    (map-ring _ _ _ _ _ (s .pre .0 .some) (s .pre .0 .steady .short) refl (c .before .before .before .before .before .before .before .before .before .before .before .mark .ensures) (c .before .before .before .before .before .before .before .first-way .ensures), fits-of (s .args .chain .now) (s .args .out .now) (f .result) (f .ensures) (not-false (f .result) (c .before .before .before .if1 .left)))
+    let at-if1 = c .before .before .before in let at-first-way = at-if1 .before .before .before .before in
+    let at-mark = at-first-way .before .before .before .before in
+    let at-start = at-mark .before .before .before .before .before .before .before in
+    let f = at-if1 .before .fits2 in
+    (map-ring _ _ _ _ _ (at-start .pre .0 .some) (at-start .pre .0 .steady .short) refl (at-mark .mark .ensures) (at-first-way .first-way .ensures), fits-of (at-start .args .chain .now) (at-start .args .out .now) (f .result) (f .ensures) (not-false (f .result) (at-if1 .if1 .left)))
 
 returns-2 : tie.Need-returns-2
 returns-2 c =
-    let s = c .before .before .before .before .before .before .before .before .before .before .before .before .before .before .before .before .before .before .before .before .before in
-    let f = c .before .before .before .before .before .before .before .fits2 in
-    let p = c .before .before .put in
-    let h = fits-of (s .args .chain .now) (s .args .out .now) (f .result) (f .ensures) (not-false (f .result) (c .before .before .before .before .before .before .if1 .left)) in
-    traced-written (s .args .chain .now) (s .args .out .now) _ (p .result) (p .ensures .0) (omega (arith, h origin, p .ensures .0 origin)) (p .ensures .1)
+    let at-put = c .before .before in let at-if1 = at-put .before .before .before .before in
+    let at-start = at-if1 .before .before .before .before .before .before .before .before .before .before .before .before .before .before .before in
+    let f = at-if1 .before .fits2 in
+    let p = at-put .put in
+    let h = fits-of (at-start .args .chain .now) (at-start .args .out .now) (f .result) (f .ensures)
+    (not-false (f .result) (at-if1 .if1 .left)) in
+    traced-written (at-start .args .chain .now) (at-start .args .out .now) _ (p .result) (p .ensures .0)
+    (omega (arith, h origin, p .ensures .0 origin)) (p .ensures .1)
 
 pub write-on-spec : {M : Type 1} → statement M
 write-on-spec =

@@ -8,10 +8,11 @@ use Rattle.overlay_list.proofs.fill_short.Tie as tie
 
 returns : tie.Need-returns
 returns c =
-    let z = c .before .before .before .before .before .before .before .before in
-    let f = c .before .before .before .before .before .fill in
+    let at-fill = c .before .before .before .before .before in let at-start = at-fill .before .before .before in
+    let f = at-fill .fill in
     let n = c .before .narrow in
-    copied-holds (z .args .start) (z .args .chain .now) (f .last .1 .1 .0) (n .last .1 .1 .0) (f .result) (f .ensures) (n .ensures) (omega (arith, z .pre .1, f .ensures .short, n .kept .1 .1 .0))
+    copied-holds (at-start .args .start) (at-start .args .chain .now) (f .last .1 .1 .0) (n .last .1 .1 .0) (f .result)
+    (f .ensures) (n .ensures) (omega (arith, at-start .pre .1, f .ensures .short, n .kept .1 .1 .0))
 
 pub fill-short-spec : {M : Type 1} → statement M
 fill-short-spec =

@@ -8,12 +8,16 @@ use Rattle.overlay_list.proofs.list.Statement.{statement}
 use Rattle.overlay_list.proofs.list.Tie as tie
 
 list-second-requires : tie.Need-list-second-requires
-list-second-requires c κs = sym (c .before .before .before .before .before .judge .ensures) ∙ c .before .before .before .enum-told .given .1
+list-second-requires c κs =
+    let at-enum-told = c .before .before .before in
+    sym (at-enum-told .before .before .judge .ensures) ∙ at-enum-told .enum-told .given .1
 
 returns-2 : tie.Need-returns-2
 returns-2 c =
-    let z = c .before .before .before .before .before .before in
-    call-first (z .args .s) (z .args .ds .now) (z .args .t) (z .args .es .now) (ofParts (z .args .first .now) (z .args .second .now) (z .args .both .now)) _ (sym (c .before .before .before .judge .ensures) ∙ c .before .r .given .1)
+    let at-judge = c .before .before .before in let at-start = at-judge .before .before .before in
+    call-first (at-start .args .s) (at-start .args .ds .now) (at-start .args .t) (at-start .args .es .now)
+    (ofParts (at-start .args .first .now) (at-start .args .second .now) (at-start .args .both .now)) _
+    (sym (at-judge .judge .ensures) ∙ c .before .r .given .1)
 
 pub list-spec : {M : Type 1} → statement M
 list-spec =

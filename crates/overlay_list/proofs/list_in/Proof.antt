@@ -11,16 +11,25 @@ fill-short-requires c κs = search needs
 
 put-parts-requires : tie.Need-put-parts-requires
 put-parts-requires c κs =
-    let z = c .before .before .before .before .before .before .before .before .before .before .before .before .before .before .before .args in
-    (record { start = z .s; steps = z .ds .now; held = c .before .before .before .before .before .before .before .before .before .before .fill-short .ensures }, record { start = z .t; steps = z .es .now; held = c .before .before .before .before .before .before .fill .ensures })
+    let at-fill = c .before .before .before .before .before .before in
+    let at-fill-short = at-fill .before .before .before .before in
+    let at-start = at-fill-short .before .before .before .before .before in
+    let z = at-start .args in
+    (record { start = z .s; steps = z .ds .now; held = at-fill-short .fill-short .ensures }, record { start = z .t; steps = z .es .now; held = at-fill .fill .ensures })
 
 returns : tie.Need-returns
 returns c =
-    let z = c .before .before .before .before .before .before .before .before .before .before .before .before .before .before .before .before .before .before .before in
-    let f = c .before .before .before .before .before .before .before .before .before .before .before .before .before .before .fill-short in
-    let g = c .before .before .before .before .before .before .before .before .before .before .fill in
-    let p = c .before .before .before .put-parts in
-    call-listed (z .args .s) (z .args .ds .now) (z .args .t) (z .args .es .now) (ofParts (z .args .first .now) (z .args .second .now) (z .args .both .now)) (z .pre .0) (z .pre .1) (f .last .1 .1 .0) (f .result) (g .last .1 .1 .0) (g .result) (p .result) _ (f .ensures) (g .ensures) (p .ensures)
+    let at-put-parts = c .before .before .before in
+    let at-fill = at-put-parts .before .before .before .before .before .before .before in
+    let at-fill-short = at-fill .before .before .before .before in
+    let at-start = at-fill-short .before .before .before .before .before in
+    let f = at-fill-short .fill-short in
+    let g = at-fill .fill in
+    let p = at-put-parts .put-parts in
+    call-listed (at-start .args .s) (at-start .args .ds .now) (at-start .args .t) (at-start .args .es .now)
+    (ofParts (at-start .args .first .now) (at-start .args .second .now) (at-start .args .both .now)) (at-start .pre .0)
+    (at-start .pre .1) (f .last .1 .1 .0) (f .result) (g .last .1 .1 .0) (g .result) (p .result) _ (f .ensures) (g .ensures)
+    (p .ensures)
 
 pub list-in-spec : {M : Type 1} → statement M
 list-in-spec =

@@ -9,13 +9,16 @@ use Rattle.overlay_list.proofs.list_second.Tie as tie
 
 list-rooms-requires : tie.Need-list-rooms-requires
 list-rooms-requires c κs =
-    let z = c .before .before .before .before .before .before .before .before in
-    (z .pre, sym (c .before .before .before .before .before .judge .ensures) ∙ c .before .before .before .enum-told .given .1)
+    let at-enum-told = c .before .before .before in let at-judge = at-enum-told .before .before in
+    let at-start = at-judge .before .before .before in
+    (at-start .pre, sym (at-judge .judge .ensures) ∙ at-enum-told .enum-told .given .1)
 
 returns-2 : tie.Need-returns-2
 returns-2 c =
-    let z = c .before .before .before .before .before .before in
-    call-second (z .args .s) (z .args .ds .now) (z .args .t) (z .args .es .now) (ofParts (z .args .first .now) (z .args .second .now) (z .args .both .now)) _ (z .pre) (sym (c .before .before .before .judge .ensures) ∙ c .before .r .given .1)
+    let at-judge = c .before .before .before in let at-start = at-judge .before .before .before in
+    call-second (at-start .args .s) (at-start .args .ds .now) (at-start .args .t) (at-start .args .es .now)
+    (ofParts (at-start .args .first .now) (at-start .args .second .now) (at-start .args .both .now)) _ (at-start .pre)
+    (sym (at-judge .judge .ensures) ∙ c .before .r .given .1)
 
 pub list-second-spec : {M : Type 1} → statement M
 list-second-spec =

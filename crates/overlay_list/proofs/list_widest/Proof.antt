@@ -8,10 +8,10 @@ use Rattle.overlay_list.proofs.list_widest.Tie as tie
 
 list-in-requires : tie.Need-list-in-requires
 list-in-requires c κs =
-    let z = c .before .before .before .before .before .before .before in
-    let a = good-walled (z .args .s) (z .args .ds .now) (z .pre .0) .few in
-    let b = good-walled (z .args .t) (z .args .es .now) (z .pre .1) .few in
-    (z .pre .0, z .pre .1, omega (arith, a), omega (arith, a), omega (arith, b))
+    let at-start = c .before .before .before .before .before .before .before in
+    let a = good-walled (at-start .args .s) (at-start .args .ds .now) (at-start .pre .0) .few in
+    let b = good-walled (at-start .args .t) (at-start .args .es .now) (at-start .pre .1) .few in
+    (at-start .pre .0, at-start .pre .1, omega (arith, a), omega (arith, a), omega (arith, b))
 
 pub list-widest-spec : {M : Type 1} → statement M
 list-widest-spec =

@@ -24,24 +24,26 @@ loop-holds c = (omega arith, refl, λ j h. absurd (omega arith))
 
 short-requires : tie.Need-short-requires Inv-loop μ-loop
 short-requires c κs =
-    let z = c .before .before .before in
-    let k = c .before .before .loop .k in
-    let s = z .pre .0 .small k (omega arith) in
-    subst (λ (v : ℤ). natAbs v ≤ 32767) (sym (long-back (getD (z .args .list .now) k (pos 0)) (omega (arith, s)))) s
+    let at-loop = c .before .before in
+    let k = at-loop .loop .k in
+    let s = at-loop .before .pre .0 .small k (omega arith) in
+    subst (λ (v : ℤ). natAbs v ≤ 32767) (sym (long-back (getD (at-loop .before .args .list .now) k (pos 0)) (omega (arith, s)))) s
 
 slice-set-from-out : tie.Need-slice-set-from-out Inv-loop μ-loop
-slice-set-from-out c = let z = c .before .before .before .before in omega (arith, c .before .before .before .loop .inv .1, z .pre .1)
+slice-set-from-out c =
+    let at-loop = c .before .before .before in
+    omega (arith, at-loop .loop .inv .1, at-loop .before .pre .1)
 
 loop-less : tie.Need-loop-less Inv-loop μ-loop
 loop-less c = omega arith
 
 loop-again : tie.Need-loop-again Inv-loop μ-loop
 loop-again c =
-    let z = c .before .before .before .before in
-    let l = c .before .before .before .loop in
-    let s = z .pre .0 .small (l .k) (omega arith) in
+    let at-loop = c .before .before .before in let at-start = at-loop .before in
+    let l = at-loop .loop in
+    let s = at-start .pre .0 .small (l .k) (omega arith) in
     let v = c .short in
-    (omega arith, length-set (l .out) (l .k) _ ∙ l .inv .1, copied-step (z .args .list .now) (l .out) (l .k) _ (omega (arith, l .inv .1, z .pre .1)) (toZ-ofZ (sfits-of {w = w16} {z = v .result} (v .ok)) ∙ v .ensures ∙ long-back (getD (z .args .list .now) (l .k) (pos 0)) (omega (arith, s))) (l .inv .2))
+    (omega arith, length-set (l .out) (l .k) _ ∙ l .inv .1, copied-step (at-start .args .list .now) (l .out) (l .k) _ (omega (arith, l .inv .1, at-start .pre .1)) (toZ-ofZ (sfits-of {w = w16} {z = v .result} (v .ok)) ∙ v .ensures ∙ long-back (getD (at-start .args .list .now) (l .k) (pos 0)) (omega (arith, s))) (l .inv .2))
 
 same-length : tie.Need-same-length Inv-loop μ-loop
 same-length c = c .before .loop .inv .1

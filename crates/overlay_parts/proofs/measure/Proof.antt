@@ -8,8 +8,9 @@ use Rattle.overlay_parts.proofs.measure.Tie as tie
 
 returns : tie.Need-returns
 returns c =
-    let z = c .before .before .before .before .before .before .before .args in
-    let s = c .before .before .before .sweep in
+    let at-sweep = c .before .before .before in let at-start = at-sweep .before .before .before .before in
+    let z = at-start .args in
+    let s = at-sweep .sweep in
     parts-measured (partSpans (z .a .now) (z .na) (z .b .now) (z .nb)) (s .result) (λ k. s .ensures k .measure)
 
 pub measure-spec : {M : Type 1} → statement M

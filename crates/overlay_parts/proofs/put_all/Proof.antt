@@ -9,10 +9,11 @@ use Rattle.overlay_parts.proofs.put_all.Tie as tie
 
 returns : tie.Need-returns
 returns c =
-    let s = c .before .before .before .before .before .before .before in
-    let z = s .args in
-    let w = c .before .before .before .sweep in
-    parts-listed (partSpans (z .a .now) (z .na) (z .b .now) (z .nb)) (z .first .now) (z .second .now) (z .both .now) (w .result) (ofParts (w .last .1 .1 .1 .1 .0) (w .last .1 .1 .1 .1 .1 .0) (w .last .1 .1 .1 .1 .1 .1 .0)) (s .pre .2) (w .ensures)
+    let at-sweep = c .before .before .before in let at-start = at-sweep .before .before .before .before in
+    let z = at-start .args in
+    let w = at-sweep .sweep in
+    parts-listed (partSpans (z .a .now) (z .na) (z .b .now) (z .nb)) (z .first .now) (z .second .now) (z .both .now) (w .result)
+    (ofParts (w .last .1 .1 .1 .1 .0) (w .last .1 .1 .1 .1 .1 .0) (w .last .1 .1 .1 .1 .1 .1 .0)) (at-start .pre .2) (w .ensures)
 
 pub put-all-spec : {M : Type 1} → statement M
 put-all-spec = tie.close (tie.spec (λ c κs. search needs) (λ c. search needs) (λ c. search needs) (λ c. search needs) returns)

@@ -19,36 +19,42 @@ returns c = λ h. absurd (omega arith)
 
 wider-requires : tie.Need-wider-requires
 wider-requires c κs =
-    let z = c .before .before in
-    let s = z .pre .small (3 * (z .args .i / 2)) (omega (arith, z .pre .even)) in
-    subst (λ (v : ℤ). natAbs v ≤ 32767) (sym (short-back (getD (z .args .list .now) (3 * (z .args .i / 2)) (pos 0)) s)) s
+    let at-start = c .before .before in
+    let s = at-start .pre .small (3 * (at-start .args .i / 2)) (omega (arith, at-start .pre .even)) in
+    subst (λ (v : ℤ). natAbs v ≤ 32767)
+    (sym (short-back (getD (at-start .args .list .now) (3 * (at-start .args .i / 2)) (pos 0)) s)) s
 
 wider-requires-2 : tie.Need-wider-requires-2
 wider-requires-2 c κs =
-    let z = c .before .before .before .before in
-    let s = z .pre .small (3 * (z .args .i / 2) + 1 + z .args .i % 2) (omega (arith, z .pre .even)) in
-    subst (λ (v : ℤ). natAbs v ≤ 32767) (sym (short-back (getD (z .args .list .now) (3 * (z .args .i / 2) + 1 + z .args .i % 2) (pos 0)) s)) s
+    let at-start = c .before .before .before .before in
+    let s = at-start .pre .small (3 * (at-start .args .i / 2) + 1 + at-start .args .i % 2) (omega (arith, at-start .pre .even)) in
+    subst (λ (v : ℤ). natAbs v ≤ 32767)
+    (sym (short-back (getD (at-start .args .list .now) (3 * (at-start .args .i / 2) + 1 + at-start .args .i % 2) (pos 0)) s)) s
 
 -- the column that was read
 column : (c : tie.After-wider2) → c .before .before .before .before .before .args .i < c .before .before .before .before .before .args .n → toZ w32 (ofZ w32 (c .wider2 .result)) ≡ getD (c .before .before .before .before .before .args .list .now) (3 * (c .before .before .before .before .before .args .i / 2) + 1 + c .before .before .before .before .before .args .i % 2) (pos 0)
 column c l =
-    let z = c .before .before .before .before .before in
-    let s = z .pre .small (3 * (z .args .i / 2) + 1 + z .args .i % 2) (omega (arith, z .pre .even)) in
-    toZ-ofZ (sfits-of {w = w32} {z = c .wider2 .result} (c .wider2 .ok)) ∙ c .wider2 .ensures ∙ short-back (getD (z .args .list .now) (3 * (z .args .i / 2) + 1 + z .args .i % 2) (pos 0)) s
+    let at-start = c .before .before .before .before .before in
+    let s = at-start .pre .small (3 * (at-start .args .i / 2) + 1 + at-start .args .i % 2) (omega (arith, at-start .pre .even)) in
+    toZ-ofZ (sfits-of {w = w32} {z = c .wider2 .result} (c .wider2 .ok)) ∙ c .wider2 .ensures
+    ∙ short-back (getD (at-start .args .list .now) (3 * (at-start .args .i / 2) + 1 + at-start .args .i % 2) (pos 0)) s
 
 foot-requires : tie.Need-foot-requires
 foot-requires c κs =
-    let z = c .before .before .before .before .before in
-    subst (λ (v : ℤ). natAbs v ≤ 32767) (sym (column c (omega arith))) (z .pre .small (3 * (z .args .i / 2) + 1 + z .args .i % 2) (omega (arith, z .pre .even)))
+    let at-start = c .before .before .before .before .before in
+    subst (λ (v : ℤ). natAbs v ≤ 32767) (sym (column c (omega arith)))
+    (at-start .pre .small (3 * (at-start .args .i / 2) + 1 + at-start .args .i % 2) (omega (arith, at-start .pre .even)))
 
 returns-2 : tie.Need-returns-2
 returns-2 c =
+    let at-wider = c .before .before .before in let at-start = at-wider .before .before .before in
     λ h.
-    let z = c .before .before .before .before .before .before in
-    let v = c .before .before .before .wider in
-    let t = z .pre .small (3 * (z .args .i / 2)) (omega (arith, z .pre .even)) in
+    let v = at-wider .wider in
+    let t = at-start .pre .small (3 * (at-start .args .i / 2)) (omega (arith, at-start .pre .even)) in
     c .foot .ensures
-    ∙ ap₂ (λ (x y : ℤ). corner (x +ℤ pos (z .args .i % 2)) y) (column (c .before) h) (toZ-ofZ (sfits-of {w = w32} {z = v .result} (v .ok)) ∙ v .ensures ∙ short-back (getD (z .args .list .now) (3 * (z .args .i / 2)) (pos 0)) t)
+    ∙ ap₂ (λ (x y : ℤ). corner (x +ℤ pos (at-start .args .i % 2)) y) (column (c .before) h)
+    (toZ-ofZ (sfits-of {w = w32} {z = v .result} (v .ok)) ∙ v .ensures
+    ∙ short-back (getD (at-start .args .list .now) (3 * (at-start .args .i / 2)) (pos 0)) t)
 
 pub first-end-spec : {M : Type 1} → statement M
 first-end-spec =

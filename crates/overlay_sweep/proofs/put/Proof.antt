@@ -18,11 +18,13 @@ slice-set-from-east c = simp length-set (omega arith)
 
 returns : tie.Need-returns
 returns c =
+    let at-struct-told2 = c .before .before in
     λ h.
-    let a = c .before .before .before .before .args in
-    three-put (a .out .now) (a .o) (toZ w32 (ofZ w32 (a .first .1))) (toZ w32 (ofZ w32 (a .first .0))) (toZ w32 (ofZ w32 (a .last .0))) (a .first .1) (a .first .0) (a .last .0)
-    (toZ-ofZ (sfits-of {w = w32} {z = a .first .1} (c .before .before .before .struct-told .given .1 .0 .1)))
-    (toZ-ofZ (sfits-of {w = w32} {z = a .first .0} (c .before .before .struct-told2 .given .0 .1)))
+    let a = at-struct-told2 .before .before .args in
+    three-put (a .out .now) (a .o) (toZ w32 (ofZ w32 (a .first .1))) (toZ w32 (ofZ w32 (a .first .0)))
+    (toZ w32 (ofZ w32 (a .last .0))) (a .first .1) (a .first .0) (a .last .0)
+    (toZ-ofZ (sfits-of {w = w32} {z = a .first .1} (at-struct-told2 .before .struct-told .given .1 .0 .1)))
+    (toZ-ofZ (sfits-of {w = w32} {z = a .first .0} (at-struct-told2 .struct-told2 .given .0 .1)))
     (toZ-ofZ (sfits-of {w = w32} {z = a .last .0} (c .before .struct-told3 .given .0 .1)))
 
 returns-2 : tie.Need-returns-2

@@ -14,16 +14,24 @@ use Rattle.overlay_sweep.proofs.put_span.Statement.{statement}
 use Rattle.overlay_sweep.proofs.put_span.Tie as tie
 
 panel-before-requires : tie.Need-panel-before-requires
-panel-before-requires c κs = subst (λ (e : Corner). natAbs (e .0) ≤ 262144) (sym (c .end-of2 .ensures)) (sunk-few (c .before .before .before .before .args .to % 131072) (omega arith))
+panel-before-requires c κs =
+    let at-start = c .before .before .before .before in
+    subst (λ (e : Corner). natAbs (e .0) ≤ 262144) (sym (c .end-of2 .ensures))
+    (sunk-few (at-start .args .to % 131072) (omega arith))
 
 returns : tie.Need-returns
 returns c =
-    let a = c .before .before .before .before .before .before .before .before .args in
+    let at-put = c .before .before in let at-panel-before = at-put .before in
+    let at-panel-behind = at-panel-before .before .before in let at-end-of = at-panel-behind .before in
+    let a = at-end-of .before .before .args in
     record {
       measure = refl;
       buffer = λ h.
-          c .before .before .put .ensures h
-          ∙ ap₂ (λ (p q : Panel). sets (a .out .now) (3 * a .m .spans) (p .1 ∷ p .0 ∷ q .0 ∷ [])) (c .before .before .before .before .before .panel-behind .ensures ∙ ap panelAt (c .before .before .before .before .before .before .end-of .ensures)) (c .before .before .before .panel-before .ensures ∙ ap (λ (e : Corner). panelAt (corner (predℤ (e .0)) (e .1))) (c .before .before .before .before .end-of2 .ensures));
+          at-put .put .ensures h
+          ∙ ap₂ (λ (p q : Panel). sets (a .out .now) (3 * a .m .spans) (p .1 ∷ p .0 ∷ q .0 ∷ []))
+          (at-panel-behind .panel-behind .ensures ∙ ap panelAt (at-end-of .end-of .ensures))
+          (at-panel-before .panel-before .ensures
+          ∙ ap (λ (e : Corner). panelAt (corner (predℤ (e .0)) (e .1))) (at-panel-before .before .end-of2 .ensures));
     }
 
 pub put-span-spec : {M : Type 1} → statement M

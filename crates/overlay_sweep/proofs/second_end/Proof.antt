@@ -16,18 +16,22 @@ returns c = λ h. absurd (omega arith)
 
 foot-requires : tie.Need-foot-requires
 foot-requires c κs =
-    let z = c .before .before .before in
-    let s = z .pre .small (3 * (z .args .i / 2) + 1 + z .args .i % 2) (omega (arith, z .pre .even)) in
-    subst (λ (v : ℤ). natAbs v ≤ 32767) (sym (long-back (getD (z .args .list .now) (3 * (z .args .i / 2) + 1 + z .args .i % 2) (pos 0)) (omega (arith, s)))) s
+    let at-start = c .before .before .before in
+    let s = at-start .pre .small (3 * (at-start .args .i / 2) + 1 + at-start .args .i % 2) (omega (arith, at-start .pre .even)) in
+    subst (λ (v : ℤ). natAbs v ≤ 32767)
+    (sym (long-back (getD (at-start .args .list .now) (3 * (at-start .args .i / 2) + 1 + at-start .args .i % 2) (pos 0))
+    (omega (arith, s)))) s
 
 returns-2 : tie.Need-returns-2
 returns-2 c =
+    let at-start = c .before .before .before .before in
     λ h.
-    let z = c .before .before .before .before in
-    let s = z .pre .small (3 * (z .args .i / 2) + 1 + z .args .i % 2) (omega (arith, z .pre .even)) in
-    let t = z .pre .small (3 * (z .args .i / 2)) (omega (arith, z .pre .even)) in
+    let s = at-start .pre .small (3 * (at-start .args .i / 2) + 1 + at-start .args .i % 2) (omega (arith, at-start .pre .even)) in
+    let t = at-start .pre .small (3 * (at-start .args .i / 2)) (omega (arith, at-start .pre .even)) in
     c .foot .ensures
-    ∙ ap₂ (λ (x y : ℤ). corner (x +ℤ pos (z .args .i % 2)) y) (long-back (getD (z .args .list .now) (3 * (z .args .i / 2) + 1 + z .args .i % 2) (pos 0)) (omega (arith, s))) (long-back (getD (z .args .list .now) (3 * (z .args .i / 2)) (pos 0)) (omega (arith, t)))
+    ∙ ap₂ (λ (x y : ℤ). corner (x +ℤ pos (at-start .args .i % 2)) y)
+    (long-back (getD (at-start .args .list .now) (3 * (at-start .args .i / 2) + 1 + at-start .args .i % 2) (pos 0))
+    (omega (arith, s))) (long-back (getD (at-start .args .list .now) (3 * (at-start .args .i / 2)) (pos 0)) (omega (arith, t)))
 
 pub second-end-spec : {M : Type 1} → statement M
 second-end-spec =

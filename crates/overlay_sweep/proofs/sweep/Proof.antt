@@ -16,7 +16,7 @@ abbrev μ-loop : tie.MeasureT-loop
 μ-loop a na b nb first₀ second₀ both₀ m₀ i₀ j₀ last₀ first second both m i j last = (na + nb) - (i + j)
 
 loop-holds : tie.Need-loop-holds Inv-loop μ-loop
-loop-holds c = sweep-start (c .args .a .now) (c .args .na) (c .args .b .now) (c .args .nb) (c .pre .0) (c .pre .1) (ofParts (c .args .first .now) (c .args .second .now) (c .args .both .now))
+loop-holds c = sweep-start (c .pre .0) (c .pre .1)
 
 add-loop : tie.Need-add-loop Inv-loop μ-loop
 add-loop c = omega (arith, c .loop .inv .first, c .loop .inv .second, c .before .pre .0 .held .numbers .few, c .before .pre .1 .held .numbers .few)
@@ -28,49 +28,63 @@ first-key-requires : tie.Need-first-key-requires Inv-loop μ-loop
 first-key-requires c κs = c .before .before .pre .0 .held .numbers
 
 second-key-requires : tie.Need-second-key-requires Inv-loop μ-loop
-second-key-requires c κs = c .before .before .before .pre .1 .held .numbers
+second-key-requires c κs =
+    let at-start = c .before .before .before in
+    at-start .pre .1 .held .numbers
 
 close-requires : tie.Need-close-requires Inv-loop μ-loop
 close-requires c κs =
-    let z = c .before .before .before .before .before .before .before .before in
-    let l = c .before .before .before .before .before .before .before .loop in
-    let more : l .i + l .j < z .args .na + z .args .nb = omega (arith, c .before .before .before .before .before .before .loop-test .taken) in
-    let p = c .before .before .before .before .before .first-key in
-    let q = c .before .before .before .before .second-key in
-    let k = c .before .before .before .lesser in
-    sweep-closable (z .args .a .now) (z .args .na) (z .args .b .now) (z .args .nb) (z .pre .0) (z .pre .1) (ofParts (z .args .first .now) (z .args .second .now) (z .args .both .now)) (l .i) (l .j) (l .last) (l .m) (ofParts (l .first) (l .second) (l .both)) (l .inv) more (p .result) (q .result) (k .result) (p .ensures) (q .ensures) (k .ensures)
+    let at-lesser = c .before .before .before in let at-first-key = at-lesser .before .before in
+    let at-loop-test = at-first-key .before in let at-start = at-loop-test .before .before in
+    let l = at-loop-test .before .loop in
+    let more : l .i + l .j < at-start .args .na + at-start .args .nb = omega (arith, at-loop-test .loop-test .taken) in
+    let p = at-first-key .first-key in
+    let q = at-lesser .before .second-key in
+    let k = at-lesser .lesser in
+    sweep-closable (at-start .pre .0) (at-start .pre .1) (l .inv) more (p .ensures) (q .ensures) (k .ensures)
 
 further-requires : tie.Need-further-requires Inv-loop μ-loop
-further-requires c κs = omega (arith, c .before .before .before .before .before .before .before .before .before .before .before .loop .inv .first, c .before .before .before .before .before .before .before .before .before .before .before .before .pre .0 .held .numbers .few)
+further-requires c κs =
+    let at-loop = c .before .before .before .before .before .before .before .before .before .before .before in
+    omega (arith, at-loop .loop .inv .first, at-loop .before .pre .0 .held .numbers .few)
 
 further-requires-2 : tie.Need-further-requires-2 Inv-loop μ-loop
-further-requires-2 c κs = omega (arith, c .before .before .before .before .before .before .before .before .before .before .before .before .loop .inv .second, c .before .before .before .before .before .before .before .before .before .before .before .before .before .pre .1 .held .numbers .few)
+further-requires-2 c κs =
+    let at-loop = c .before .before .before .before .before .before .before .before .before .before .before .before in
+    omega (arith, at-loop .loop .inv .second, at-loop .before .pre .1 .held .numbers .few)
 
 loop-less : tie.Need-loop-less Inv-loop μ-loop
 loop-less c =
-    let z = c .before .before .before .before .before .before .before .before .before .before .before .before .before .before in
-    let l = c .before .before .before .before .before .before .before .before .before .before .before .before .before .loop in
-    let more : l .i + l .j < z .args .na + z .args .nb = omega (arith, c .before .before .before .before .before .before .before .before .before .before .before .before .loop-test .taken) in
-    let p = c .before .before .before .before .before .before .before .before .before .before .before .first-key in
-    let q = c .before .before .before .before .before .before .before .before .before .before .second-key in
-    let k = c .before .before .before .before .before .before .before .before .before .lesser in
-    let s = sweep-nearer (z .args .a .now) (z .args .na) (z .args .b .now) (z .args .nb) (z .pre .0) (z .pre .1) (ofParts (z .args .first .now) (z .args .second .now) (z .args .both .now)) (l .i) (l .j) (l .last) (l .m) (ofParts (l .first) (l .second) (l .both)) (l .inv) more (p .result) (q .result) (k .result) (p .ensures) (q .ensures) (k .ensures) in
+    let at-lesser = c .before .before .before .before .before .before .before .before .before in
+    let at-first-key = at-lesser .before .before in let at-loop-test = at-first-key .before in
+    let at-start = at-loop-test .before .before in
+    let l = at-loop-test .before .loop in
+    let more : l .i + l .j < at-start .args .na + at-start .args .nb = omega (arith, at-loop-test .loop-test .taken) in
+    let p = at-first-key .first-key in
+    let q = at-lesser .before .second-key in
+    let k = at-lesser .lesser in
+    let s = sweep-nearer (at-start .pre .0) (at-start .pre .1) (l .inv) more (p .ensures) (q .ensures) (k .ensures) in
     omega (arith, s .0, s .1, s .2, c .before .further .ensures, c .further2 .ensures)
 
 loop-again : tie.Need-loop-again Inv-loop μ-loop
 loop-again c =
-    let z = c .before .before .before .before .before .before .before .before .before .before .before .before .before .before in
-    let l = c .before .before .before .before .before .before .before .before .before .before .before .before .before .loop in
-    let more : l .i + l .j < z .args .na + z .args .nb = omega (arith, c .before .before .before .before .before .before .before .before .before .before .before .before .loop-test .taken) in
-    let p = c .before .before .before .before .before .before .before .before .before .before .before .first-key in
-    let q = c .before .before .before .before .before .before .before .before .before .before .second-key in
-    let k = c .before .before .before .before .before .before .before .before .before .lesser in
-    let d = c .before .before .before .before .before .close in
+    let at-further = c .before in let at-close = at-further .before .before .before .before in
+    let at-lesser = at-close .before .before .before .before in let at-first-key = at-lesser .before .before in
+    let at-loop-test = at-first-key .before in let at-start = at-loop-test .before .before in
+    let l = at-loop-test .before .loop in
+    let more : l .i + l .j < at-start .args .na + at-start .args .nb = omega (arith, at-loop-test .loop-test .taken) in
+    let p = at-first-key .first-key in
+    let q = at-lesser .before .second-key in
+    let k = at-lesser .lesser in
+    let d = at-close .close in
     let f = d .last .1 .1 .1 .1 .1 .0 in
     let g = d .last .1 .1 .1 .1 .1 .1 .0 in
     let h = d .last .1 .1 .1 .1 .1 .1 .1 .0 in
-    sweep-step (z .args .a .now) (z .args .na) (z .args .b .now) (z .args .nb) (z .pre .0) (z .pre .1) (ofParts (z .args .first .now) (z .args .second .now) (z .args .both .now)) (l .i) (l .j) (l .last) (l .m) (ofParts (l .first) (l .second) (l .both)) (l .inv) more (p .result) (q .result) (k .result) (p .ensures) (q .ensures) (k .ensures) (d .result) (ofParts f g h) (c .before .further .result) (c .further2 .result) (c .before .further .ensures) (c .further2 .ensures)
-    (three-same (l .first) (l .second) (l .both) f g h (d .kept .1 .1 .1 .1 .1 .0) (d .kept .1 .1 .1 .1 .1 .1 .0) (d .kept .1 .1 .1 .1 .1 .1 .1 .0)) (d .ensures)
+    sweep-step (at-start .pre .0) (at-start .pre .1) (l .inv) more (p .ensures) (q .ensures) (k .ensures) (d .result)
+    (ofParts f g h) (at-further .further .result) (c .further2 .result)
+    (at-further .further .ensures) (c .further2 .ensures)
+    (three-same (l .first) (l .second) (l .both) f g h (d .kept .1 .1 .1 .1 .1 .0) (d .kept .1 .1 .1 .1 .1 .1 .0)
+    (d .kept .1 .1 .1 .1 .1 .1 .1 .0)) (d .ensures)
 
 same-length : tie.Need-same-length Inv-loop μ-loop
 same-length c = c .before .loop .inv .parts First .same
@@ -83,9 +97,9 @@ same-length-3 c = c .before .loop .inv .parts Both .same
 
 returns : tie.Need-returns Inv-loop μ-loop
 returns c =
-    let z = c .before .before in
-    let l = c .before .loop in
-    sweep-end (z .args .a .now) (z .args .na) (z .args .b .now) (z .args .nb) (z .pre .0) (z .pre .1) (ofParts (z .args .first .now) (z .args .second .now) (z .args .both .now)) (l .i) (l .j) (l .last) (l .m) (ofParts (l .first) (l .second) (l .both)) (l .inv) (λ h. omega arith)
+    let at-loop = c .before in
+    let l = at-loop .loop in
+    sweep-end (at-loop .before .pre .0) (at-loop .before .pre .1) (l .inv) (λ h. omega arith)
 
 pub sweep-spec : {M : Type 1} → statement M
 sweep-spec =

@@ -39,43 +39,55 @@ loop-holds c = (refl, c .before .pre .1 .1, λ slots B k. k)
 
 word-requires : tie.Need-word-requires Inv-loop μ-loop
 word-requires c κs =
-    let s = c .before .before .before .before .before .before in
-    let a = s .args in
-    let k = s .pre .0 in
-    let q = s .pre .1 .0 in
-    let l = c .before .before .before .before .loop in
-    let n = down (l .t) (k .slots) (k .both) (a .q) (l .to) (l .at) (a .c) (a .d) (a .step) (l .left) (omega (arith, c .before .before .before .loop-test .taken)) (l .inv .2 (k .slots) (k .both) (k .comes)) in
-    let b = comes-in (l .t) (k .slots) (k .both) (a .q) (l .to) (l .at) (a .c) (a .d) (a .step) (l .left - 1) n (q .3) (q .2) (q .4) in
-    omega (arith, b, c .child-word .ensures, child-word-small (c .before .before .up-by .result) .1)
+    let at-up-by = c .before .before in let at-loop-test = at-up-by .before in
+    let at-start = at-loop-test .before .before .before in
+    let a = at-start .args in
+    let k = at-start .pre .0 in
+    let q = at-start .pre .1 .0 in
+    let l = at-loop-test .before .loop in
+    let n = down (l .t) (k .slots) (k .both) (a .q) (l .to) (l .at) (a .c) (a .d) (a .step) (l .left)
+    (omega (arith, at-loop-test .loop-test .taken)) (l .inv .2 (k .slots) (k .both) (k .comes)) in
+    let b = comes-in (l .t) (k .slots) (k .both) (a .q) (l .to) (l .at) (a .c) (a .d) (a .step) (l .left - 1) n (q .3) (q .2)
+    (q .4) in
+    omega (arith, b, c .child-word .ensures, child-word-small (at-up-by .up-by .result) .1)
 
 sub-at : tie.Need-sub-at Inv-loop μ-loop
 sub-at c =
-    let s = c .before .before .before .before .before .before .before in
-    let a = s .args in
-    let k = s .pre .0 in
-    let q = s .pre .1 .0 in
-    let l = c .before .before .before .before .before .loop in
-    let n = down (l .t) (k .slots) (k .both) (a .q) (l .to) (l .at) (a .c) (a .d) (a .step) (l .left) (omega (arith, c .before .before .before .before .loop-test .taken)) (l .inv .2 (k .slots) (k .both) (k .comes)) in
-    let p : c .before .child-word .result ≡ childWord (upBy (l .left - 1) (a .c)) = c .before .child-word .ensures ∙ ap childWord (c .before .before .before .up-by .ensures) in
+    let at-child-word = c .before in let at-up-by = at-child-word .before .before in let at-loop = at-up-by .before .before in
+    let at-start = at-loop .before .before in
+    let a = at-start .args in
+    let k = at-start .pre .0 in
+    let q = at-start .pre .1 .0 in
+    let l = at-loop .loop in
+    let n = down (l .t) (k .slots) (k .both) (a .q) (l .to) (l .at) (a .c) (a .d) (a .step) (l .left)
+    (omega (arith, at-up-by .before .loop-test .taken)) (l .inv .2 (k .slots) (k .both) (k .comes)) in
+    let p : at-child-word .child-word .result ≡ childWord (upBy (l .left - 1) (a .c)) = at-child-word .child-word .ensures
+    ∙ ap childWord (at-up-by .up-by .ensures) in
     omega (arith, comes-number (l .t) (k .slots) (k .both) (a .q) (l .to) (l .at) (a .c) (a .d) (a .step) (l .left - 1) n (q .3) (q .2) (q .4) (c .word .result) (c .word .ensures ∙ ap (wordsIn (l .t) (l .at)) p) .0)
 
 level-down-requires : tie.Need-level-down-requires Inv-loop μ-loop
 level-down-requires c κs =
-    let s = c .before .before .before .before .before .before .before .before in
-    let a = s .args in
-    let k = s .pre .0 in
-    let q = s .pre .1 .0 in
-    let l = c .before .before .before .before .before .before .loop in
+    let at-child-word = c .before .before in let at-up-by = at-child-word .before .before in
+    let at-loop = at-up-by .before .before in let at-start = at-loop .before .before in
+    let a = at-start .args in
+    let k = at-start .pre .0 in
+    let q = at-start .pre .1 .0 in
+    let l = at-loop .loop in
     let w = c .before .word in
-    let u = c .before .before .before .before .up-by .ensures in
-    let n = down (l .t) (k .slots) (k .both) (a .q) (l .to) (l .at) (a .c) (a .d) (a .step) (l .left) (omega (arith, c .before .before .before .before .before .loop-test .taken)) (l .inv .2 (k .slots) (k .both) (k .comes)) in
-    let p : c .before .before .child-word .result ≡ childWord (upBy (l .left - 1) (a .c)) = c .before .before .child-word .ensures ∙ ap childWord u in
-    let m = comes-number (l .t) (k .slots) (k .both) (a .q) (l .to) (l .at) (a .c) (a .d) (a .step) (l .left - 1) n (q .3) (q .2) (q .4) (w .result) (w .ensures ∙ ap (wordsIn (l .t) (l .at)) p) .1 in
+    let u = at-up-by .up-by .ensures in
+    let n = down (l .t) (k .slots) (k .both) (a .q) (l .to) (l .at) (a .c) (a .d) (a .step) (l .left)
+    (omega (arith, at-up-by .before .loop-test .taken)) (l .inv .2 (k .slots) (k .both) (k .comes)) in
+    let p : at-child-word .child-word .result ≡ childWord (upBy (l .left - 1) (a .c)) = at-child-word .child-word .ensures
+    ∙ ap childWord u in
+    let m = comes-number (l .t) (k .slots) (k .both) (a .q) (l .to) (l .at) (a .c) (a .d) (a .step) (l .left - 1) n (q .3) (q .2)
+    (q .4) (w .result) (w .ensures ∙ ap (wordsIn (l .t) (l .at)) p) .1 in
     let h = up-small (l .left - 1) (a .c) in (
       record {
         slots = k .slots;
         both = k .both;
-        lifts = subst (λ (x : Corner). Lifts (l .t) (k .slots) (k .both) (a .q) (l .to) (w .result - 1) x (a .d) (a .step)) (sym u) (comes-lift (l .t) (k .slots) (k .both) (a .q) (l .to) (l .at) (a .c) (a .d) (a .step) (l .left - 1) n (q .3) (q .2) (q .4) (w .result - 1) m);
+        lifts = subst (λ (x : Corner). Lifts (l .t) (k .slots) (k .both) (a .q) (l .to) (w .result - 1) x (a .d) (a .step))
+            (sym u) (comes-lift (l .t) (k .slots) (k .both) (a .q) (l .to) (l .at) (a .c) (a .d) (a .step) (l .left - 1) n (q .3)
+            (q .2) (q .4) (w .result - 1) m);
       },
       (omega (arith, ap (λ (y : Corner). natAbs (y .0)) u, h .0, q .0), omega (arith, ap (λ (y : Corner). natAbs (y .1)) u, h .1, q .1), q .2, q .3, q .4, q .5, omega (arith, l .inv .0, q .6)),
     )
@@ -98,38 +110,50 @@ module _ (t : List ℕ) (slots : List Slot) (B : Both) (q : ℕ) (v : Located) (
 
 returns : tie.Need-returns Inv-loop μ-loop
 returns c =
-    let s = c .before .before .before .before .before .before .before .before .before .before .before .before .before in
-    let a = s .args in
-    let q = s .pre .1 .0 in
-    let l = c .before .before .before .before .before .before .before .before .before .before .before .loop in
-    let w = c .before .before .before .before .before .before .word in
-    let r = c .before .before .before .before .level-down in
+    let at-level-down = c .before .before .before .before in let at-word = at-level-down .before .before in
+    let at-child-word = at-word .before in let at-up-by = at-child-word .before .before in let at-loop-test = at-up-by .before in
+    let at-start = at-loop-test .before .before .before in
+    let a = at-start .args in
+    let q = at-start .pre .1 .0 in
+    let l = at-loop-test .before .loop in
+    let w = at-word .word in
+    let r = at-level-down .level-down in
     λ slots B k.
-    let n = down (l .t) slots B (a .q) (l .to) (l .at) (a .c) (a .d) (a .step) (l .left) (omega (arith, c .before .before .before .before .before .before .before .before .before .before .loop-test .taken)) (l .inv .2 slots B k) in
-    level-none (l .t) slots B (a .q) (l .to) (l .at) (a .c) (a .d) (a .step) (l .left - 1) n (q .3) (q .2) (q .4) (c .before .before .before .before .before .before .before .child-word .result) (w .result) (c .before .before .before .before .before .before .before .before .before .up-by .result) (c .before .before .before .before .before .before .before .before .before .up-by .ensures) (c .before .before .before .before .before .before .before .child-word .ensures) (w .ensures) (r .last .0) (r .result) (r .ensures slots B) (a .t .now) (l .inv .0) (c .if1 .taken)
+    let n = down (l .t) slots B (a .q) (l .to) (l .at) (a .c) (a .d) (a .step) (l .left)
+    (omega (arith, at-loop-test .loop-test .taken)) (l .inv .2 slots B k) in
+    level-none (l .t) slots B (a .q) (l .to) (l .at) (a .c) (a .d) (a .step) (l .left - 1) n (q .3) (q .2) (q .4)
+    (at-child-word .child-word .result) (w .result) (at-up-by .up-by .result) (at-up-by .up-by .ensures)
+    (at-child-word .child-word .ensures) (w .ensures) (r .last .0) (r .result) (r .ensures slots B) (a .t .now) (l .inv .0)
+    (c .if1 .taken)
 
 loop-again : tie.Need-loop-again Inv-loop μ-loop
 loop-again c =
-    let s = c .before .before .before .before .before .before .before .before .before .before .before .before .before in
-    let a = s .args in
-    let q = s .pre .1 .0 in
-    let l = c .before .before .before .before .before .before .before .before .before .before .before .loop in
-    let w = c .before .before .before .before .before .before .word in
-    let r = c .before .before .before .before .level-down in (
+    let at-level-down = c .before .before .before .before in let at-word = at-level-down .before .before in
+    let at-child-word = at-word .before in let at-up-by = at-child-word .before .before in let at-loop-test = at-up-by .before in
+    let at-start = at-loop-test .before .before .before in
+    let a = at-start .args in
+    let q = at-start .pre .1 .0 in
+    let l = at-loop-test .before .loop in
+    let w = at-word .word in
+    let r = at-level-down .level-down in (
       r .kept .0 ∙ l .inv .0,
       omega (arith, c .if1 .left),
       λ slots B k.
-          let n = down (l .t) slots B (a .q) (l .to) (l .at) (a .c) (a .d) (a .step) (l .left) (omega (arith, c .before .before .before .before .before .before .before .before .before .before .loop-test .taken)) (l .inv .2 slots B k) in
-          level-next (l .t) slots B (a .q) (l .to) (l .at) (a .c) (a .d) (a .step) (l .left - 1) n (q .3) (q .2) (q .4) (c .before .before .before .before .before .before .before .child-word .result) (w .result) (c .before .before .before .before .before .before .before .before .before .up-by .result) (c .before .before .before .before .before .before .before .before .before .up-by .ensures) (c .before .before .before .before .before .before .before .child-word .ensures) (w .ensures) (r .last .0) (r .result) (r .ensures slots B) (c .if1 .left),
+          let n = down (l .t) slots B (a .q) (l .to) (l .at) (a .c) (a .d) (a .step) (l .left)
+          (omega (arith, at-loop-test .loop-test .taken)) (l .inv .2 slots B k) in
+          level-next (l .t) slots B (a .q) (l .to) (l .at) (a .c) (a .d) (a .step) (l .left - 1) n (q .3) (q .2) (q .4)
+          (at-child-word .child-word .result) (w .result) (at-up-by .up-by .result) (at-up-by .up-by .ensures)
+          (at-child-word .child-word .ensures) (w .ensures) (r .last .0) (r .result) (r .ensures slots B) (c .if1 .left),
     )
 
 returns-2 : tie.Need-returns-2 Inv-loop μ-loop
 returns-2 c =
-    let s = c .before .before .before in
-    let a = s .args in
-    let l = c .before .loop in
+    let at-loop = c .before in
+    let a = at-loop .before .before .args in
+    let l = at-loop .loop in
     let z : l .left ≡ 0 = omega (arith, c .loop-test .left) in
-    λ slots B k. comes-end (a .t .now) (l .t) slots B (a .q) (l .to) (l .at) (a .c) (a .d) (a .step) (subst (ComesDown (l .t) slots B (a .q) (l .to) (l .at) (a .c) (a .d) (a .step)) z (l .inv .2 slots B k)) (l .inv .1)
+    λ slots B k. comes-end (a .t .now) (l .t) slots B (a .q) (l .to) (l .at) (a .c) (a .d) (a .step)
+    (subst (ComesDown (l .t) slots B (a .q) (l .to) (l .at) (a .c) (a .d) (a .step)) z (l .inv .2 slots B k)) (l .inv .1)
 
 pub come-down-spec : {M : Type 1} → statement M
 come-down-spec =

@@ -32,26 +32,31 @@ down slots C q c left t v h g = let e : left ≡ suc (left - 1) = omega arith in
 
 loop-holds : tie.Need-loop-holds Inv-loop μ-loop
 loop-holds c =
-    let s = c .before .before in
-    let a = s .args in
+    let at-start = c .before .before in
+    let a = at-start .args in
     let d = c .depth in
-    (refl, omega arith, d .ensures, omega arith, λ slots C k. grows-start (a .t .now) slots C (a .q) (a .s) k (s .pre .1 .1) (a .c) (d .result) (d .ensures))
+    (refl, omega arith, d .ensures, omega arith, λ slots C k. grows-start (a .t .now) slots C (a .q) (a .s) k (at-start .pre .1 .1) (a .c) (d .result) (d .ensures))
 
 sub-child : tie.Need-sub-child Inv-loop μ-loop
-sub-child c = omega (arith, c .before .before .before .before .before .before .loop .inv .1)
+sub-child c =
+    let at-loop = c .before .before .before .before .before .before in
+    omega (arith, at-loop .loop .inv .1)
 
 child-requires : tie.Need-child-requires Inv-loop μ-loop
 child-requires c κs =
-    let s = c .before .before .before .before .before .before .before .before .before in
-    let a = s .args in
-    let k = s .pre .0 in
-    let q = s .pre .1 in
-    let l = c .before .before .before .before .before .before .loop in
-    let n = c .before .before .before .before .before .before .before .depth .result in
-    let more : 0 < l .left = omega (arith, c .before .before .before .before .before .loop-test .taken) in
+    let at-child-word = c .before .before in let at-up-by = at-child-word .before in
+    let at-loop-test = at-up-by .before .before in let at-loop = at-loop-test .before in
+    let at-start = at-loop .before .before .before in
+    let a = at-start .args in
+    let k = at-start .pre .0 in
+    let q = at-start .pre .1 in
+    let l = at-loop .loop in
+    let n = at-loop .before .depth .result in
+    let more : 0 < l .left = omega (arith, at-loop-test .loop-test .taken) in
     let less : l .left - 1 < n = omega (arith, l .inv .3) in
     let g = down (k .slots) (k .both) (a .q) (a .c) (l .left) (l .t) (l .to) more (l .inv .4 (k .slots) (k .both) (k .plants)) in
-    let p : c .before .before .child-word .result ≡ childWord (upBy (l .left - 1) (a .c)) = c .before .before .child-word .ensures ∙ ap childWord (c .before .before .before .up-by .ensures) in
+    let p : at-child-word .child-word .result ≡ childWord (upBy (l .left - 1) (a .c)) = at-child-word .child-word .ensures
+    ∙ ap childWord (at-up-by .up-by .ensures) in
     let b = grows-stock (a .t .now) (k .slots) (k .both) (a .q) (a .s) (k .plants) (q .1) (a .c) n (l .left - 1) (l .inv .2) less (l .t) (l .to) g (l .inv .1) in (
       (grows-in (a .t .now) (k .slots) (k .both) (a .q) (a .s) (k .plants) (q .1) (a .c) n (l .left - 1) (l .inv .2) less (l .t) (l .to) g (l .inv .1), q .1, omega (arith, p, childWord-range (upBy (l .left - 1) (a .c)) .1), omega arith),
       ((omega (arith, b .0, l .inv .0, q .2), omega (arith, b .1, l .inv .0, q .2), omega (arith, l .inv .0, q .2)), λ w e. grows-child (a .t .now) (k .slots) (k .both) (a .q) (a .s) (k .plants) (q .1) (a .c) n (l .left - 1) (l .inv .2) less (l .t) (l .to) g (l .inv .1) w (ap (wordsIn (l .t) (l .to .at - 1)) (sym p) ∙ e)),
@@ -59,29 +64,36 @@ child-requires c κs =
 
 returns : tie.Need-returns Inv-loop μ-loop
 returns c =
-    let s = c .before .before .before .before .before .before .before .before .before .before .before .before .before .before in
-    let a = s .args in
-    let l = c .before .before .before .before .before .before .before .before .before .before .before .loop in
-    let n = c .before .before .before .before .before .before .before .before .before .before .before .before .depth .result in
-    let r = c .before .before .before .before .child in
-    let more : 0 < l .left = omega (arith, c .before .before .before .before .before .before .before .before .before .before .loop-test .taken) in
+    let at-child = c .before .before .before .before in let at-child-word = at-child .before .before .before in
+    let at-loop-test = at-child-word .before .before .before in let at-depth = at-loop-test .before .before in
+    let at-start = at-depth .before .before in
+    let a = at-start .args in
+    let l = at-loop-test .before .loop in
+    let n = at-depth .depth .result in
+    let r = at-child .child in
+    let more : 0 < l .left = omega (arith, at-loop-test .loop-test .taken) in
     let less : l .left - 1 < n = omega (arith, l .inv .3) in
-    let p : c .before .before .before .before .before .before .before .child-word .result ≡ childWord (upBy (l .left - 1) (a .c)) = c .before .before .before .before .before .before .before .child-word .ensures ∙ ap childWord (c .before .before .before .before .before .before .before .before .up-by .ensures) in
+    let p : at-child-word .child-word .result ≡ childWord (upBy (l .left - 1) (a .c)) = at-child-word .child-word .ensures
+    ∙ ap childWord (at-child-word .before .up-by .ensures) in
     let h = subst (λ (w : ℕ). Childed (a .q) (l .t) (l .to .stock) (l .to .at - 1) w 0 (r .last .0) (r .result)) p (r .ensures) in
     λ slots C k.
     let g = down slots C (a .q) (a .c) (l .left) (l .t) (l .to) more (l .inv .4 slots C k) in
-    grows-none (a .t .now) slots C (a .q) (a .s) k (s .pre .1 .1) (a .c) n (l .left - 1) (l .inv .2) less (l .t) (l .to) g (l .inv .1) (r .last .0) (r .result) h (a .t .now) (l .inv .0) (c .if1 .taken)
+    grows-none (a .t .now) slots C (a .q) (a .s) k (at-start .pre .1 .1) (a .c) n (l .left - 1) (l .inv .2) less (l .t) (l .to) g
+    (l .inv .1) (r .last .0) (r .result) h (a .t .now) (l .inv .0) (c .if1 .taken)
 
 loop-again : tie.Need-loop-again Inv-loop μ-loop
 loop-again c =
-    let s = c .before .before .before .before .before .before .before .before .before .before .before .before .before .before in
-    let a = s .args in
-    let l = c .before .before .before .before .before .before .before .before .before .before .before .loop in
-    let n = c .before .before .before .before .before .before .before .before .before .before .before .before .depth .result in
-    let r = c .before .before .before .before .child in
-    let more : 0 < l .left = omega (arith, c .before .before .before .before .before .before .before .before .before .before .loop-test .taken) in
+    let at-child = c .before .before .before .before in let at-child-word = at-child .before .before .before in
+    let at-loop-test = at-child-word .before .before .before in let at-depth = at-loop-test .before .before in
+    let at-start = at-depth .before .before in
+    let a = at-start .args in
+    let l = at-loop-test .before .loop in
+    let n = at-depth .depth .result in
+    let r = at-child .child in
+    let more : 0 < l .left = omega (arith, at-loop-test .loop-test .taken) in
     let less : l .left - 1 < n = omega (arith, l .inv .3) in
-    let p : c .before .before .before .before .before .before .before .child-word .result ≡ childWord (upBy (l .left - 1) (a .c)) = c .before .before .before .before .before .before .before .child-word .ensures ∙ ap childWord (c .before .before .before .before .before .before .before .before .up-by .ensures) in
+    let p : at-child-word .child-word .result ≡ childWord (upBy (l .left - 1) (a .c)) = at-child-word .child-word .ensures
+    ∙ ap childWord (at-child-word .before .up-by .ensures) in
     let h = subst (λ (w : ℕ). Childed (a .q) (l .t) (l .to .stock) (l .to .at - 1) w 0 (r .last .0) (r .result)) p (r .ensures) in (
       r .kept .0 ∙ l .inv .0,
       omega (arith, c .if1 .left),
@@ -89,12 +101,14 @@ loop-again c =
       omega (arith, l .inv .3),
       λ slots C k.
           let g = down slots C (a .q) (a .c) (l .left) (l .t) (l .to) more (l .inv .4 slots C k) in
-          grows-next (a .t .now) slots C (a .q) (a .s) k (s .pre .1 .1) (a .c) n (l .left - 1) (l .inv .2) less (l .t) (l .to) g (l .inv .1) (r .last .0) (r .result) h (c .if1 .left),
+          grows-next (a .t .now) slots C (a .q) (a .s) k (at-start .pre .1 .1) (a .c) n (l .left - 1) (l .inv .2) less (l .t)
+          (l .to) g (l .inv .1) (r .last .0) (r .result) h (c .if1 .left),
     )
 
 returns-2 : tie.Need-returns-2 Inv-loop μ-loop
 returns-2 c =
-    let a = c .before .before .before .before .args in
+    let at-start = c .before .before .before .before in
+    let a = at-start .args in
     let l = c .before .loop in
     let z : l .left ≡ 0 = omega (arith, c .loop-test .left) in
     λ slots C k. grows-end (a .t .now) (l .t) slots C (a .q) (a .c) (l .left) (l .to) (l .inv .4 slots C k) (l .inv .1) z

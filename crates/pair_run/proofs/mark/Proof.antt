@@ -11,14 +11,16 @@ use Rattle.pair_run.proofs.mark.Tie as tie
 
 slice-write-marks-2 : tie.Need-slice-write-marks-2
 slice-write-marks-2 c =
-    let s = c .before .before .before .before .before .before in
-    let a = s .args in
-    omega (arith, length-set (a .marks .now) (markWords * a .i) (a .x .stock .nodes), s .pre .2)
+    let at-start = c .before .before .before .before .before .before in
+    let a = at-start .args in
+    omega (arith, length-set (a .marks .now) (markWords * a .i) (a .x .stock .nodes), at-start .pre .2)
 
 returns : tie.Need-returns
 returns c =
-    let a = c .before .before .before .before .before .before .args in
-    ap (λ (v : ℕ). set (set (set (a .marks .now) (markWords * a .i) (a .x .stock .nodes)) (markWords * a .i + 1) v) (markWords * a .i + 2) (a .changed)) (c .own .ensures)
+    let at-start = c .before .before .before .before .before .before in
+    let a = at-start .args in
+    ap (λ (v : ℕ). set (set (set (a .marks .now) (markWords * a .i) (a .x .stock .nodes)) (markWords * a .i + 1) v)
+    (markWords * a .i + 2) (a .changed)) (c .own .ensures)
 
 pub mark-spec : {M : Type 1} → statement M
 mark-spec =

@@ -16,56 +16,68 @@ use Rattle.pair_run.proofs.step.Tie as tie
 
 slice-write-chain : tie.Need-slice-write-chain
 slice-write-chain c =
-    let s = c .before .before in
-    s .pre .0 .0 .next (λ e. omega (arith, s .pre .0 .1, e))
+    let at-start = c .before .before in
+    at-start .pre .0 .0 .next (λ e. omega (arith, at-start .pre .0 .1, e))
 
 advance-requires : tie.Need-advance-requires
 advance-requires c κs =
-    let s = c .before .before .before in
-    let a = s .args in
-    let k = s .pre .0 .0 in
-    let n = kept-near (a .t .now) (a .chain .now) (k .first) (k .second) (k .firsts) (k .seconds) (k .slots) (a .q) (a .p) (a .s) (k .here) in
-    let f = fine-step (a .p .steps) (a .d) (k .fine) (λ e. omega (arith, s .pre .0 .1, e)) in
-    (record { first = k .first; second = k .second; firsts = k .firsts; seconds = k .seconds; slots = k .slots; moves = k .here .moves }, (n .0, n .1, s .pre .0 .1, s .pre .1 .0, omega (arith, f .1), s .pre .1 .1))
+    let at-start = c .before .before .before in
+    let a = at-start .args in
+    let k = at-start .pre .0 .0 in
+    let n = kept-near (a .t .now) (a .chain .now) (k .first) (k .second) (k .firsts) (k .seconds) (k .slots) (a .q) (a .p) (a .s)
+    (k .here) in
+    let f = fine-step (a .p .steps) (a .d) (k .fine) (λ e. omega (arith, at-start .pre .0 .1, e)) in
+    (record { first = k .first; second = k .second; firsts = k .firsts; seconds = k .seconds; slots = k .slots; moves = k .here .moves }, (n .0, n .1, at-start .pre .0 .1, at-start .pre .1 .0, omega (arith, f .1), at-start .pre .1 .1))
 
 changed-requires : tie.Need-changed-requires
 changed-requires c κs =
-    let s = c .before .before .before .before .before .before .before .before .before .before .before in
-    let a = s .args in
-    let k = s .pre .0 .0 in
-    let b = c .before .before .before .before .before .before .before .advance in
-    let w = c .before .before .before .stride .given in
-    let f = fine-step (a .p .steps) (a .d) (k .fine) (λ e. omega (arith, s .pre .0 .1, e)) in
-    let h = subst (PairAdvanced (a .t .now) (k .first) (k .second) (k .firsts) (k .seconds) (k .slots) (a .q) (a .d) (b .last .0)) (w .1) (b .ensures (k .first) (k .second) (k .firsts) (k .seconds) (k .slots) (k .here .moves)) in
+    let at-stride = c .before .before .before in let at-advance = at-stride .before .before .before .before in
+    let at-start = at-advance .before .before .before .before in
+    let a = at-start .args in
+    let k = at-start .pre .0 .0 in
+    let b = at-advance .advance in
+    let w = at-stride .stride .given in
+    let f = fine-step (a .p .steps) (a .d) (k .fine) (λ e. omega (arith, at-start .pre .0 .1, e)) in
+    let h = subst (PairAdvanced (a .t .now) (k .first) (k .second) (k .firsts) (k .seconds) (k .slots) (a .q) (a .d) (b .last .0))
+    (w .1) (b .ensures (k .first) (k .second) (k .firsts) (k .seconds) (k .slots) (k .here .moves)) in
     let l : length (b .last .0) ≡ length (a .t .now) = search needs in
-    let n = step-bounds (a .t .now) (a .chain .now) (k .first) (k .second) (k .firsts) (k .seconds) (k .slots) (a .q) (a .p) (a .s) (k .here) (s .pre .1 .0) (a .d) (s .pre .0 .1) (b .last .0) (w .0 .0) h (f .1) (k .next (λ e. omega (arith, s .pre .0 .1, e))) in
-    (step-some (a .t .now) (a .chain .now) (k .first) (k .second) (k .firsts) (k .seconds) (k .slots) (a .q) (a .p) (a .s) (k .here) (s .pre .1 .0) (a .d) (s .pre .0 .1) (b .last .0) (w .0 .0) h, (n .0, n .1, n .2, omega (arith, l, s .pre .1 .1)))
+    let n = step-bounds (a .t .now) (a .chain .now) (k .first) (k .second) (k .firsts) (k .seconds) (k .slots) (a .q) (a .p)
+    (a .s) (k .here) (at-start .pre .1 .0) (a .d) (at-start .pre .0 .1) (b .last .0) (w .0 .0) h (f .1)
+    (k .next (λ e. omega (arith, at-start .pre .0 .1, e))) in
+    (step-some (a .t .now) (a .chain .now) (k .first) (k .second) (k .firsts) (k .seconds) (k .slots) (a .q) (a .p) (a .s) (k .here) (at-start .pre .1 .0) (a .d) (at-start .pre .0 .1) (b .last .0) (w .0 .0) h, (n .0, n .1, n .2, omega (arith, l, at-start .pre .1 .1)))
 
 returns : tie.Need-returns
 returns c =
-    let s = c .before .before .before .before .before .before .before .before .before .before .before .before in
-    let a = s .args in
-    let k = s .pre .0 .0 in
-    let b = c .before .before .before .before .before .before .before .before .advance in
-    let w = c .before .before .before .before .stride .given in
+    let at-stride = c .before .before .before .before in let at-advance = at-stride .before .before .before .before in
+    let at-start = at-advance .before .before .before .before in
+    let a = at-start .args in
+    let k = at-start .pre .0 .0 in
+    let b = at-advance .advance in
+    let w = at-stride .stride .given in
     let n = c .changed in
-    let f = fine-step (a .p .steps) (a .d) (k .fine) (λ e. omega (arith, s .pre .0 .1, e)) in
+    let f = fine-step (a .p .steps) (a .d) (k .fine) (λ e. omega (arith, at-start .pre .0 .1, e)) in
     let l : length (b .last .0) ≡ length (a .t .now) = search needs in
     λ x y ds es slots h.
-    let m = subst (PairAdvanced (a .t .now) x y ds es slots (a .q) (a .d) (b .last .0)) (w .1) (b .ensures x y ds es slots (h .moves)) in
-    step-turned (a .t .now) (a .chain .now) x y ds es slots (a .q) (a .p) (a .s) h (s .pre .1 .0) (a .d) (s .pre .0 .1) (b .last .0) (w .0 .0) m (f .1) (k .next (λ e. omega (arith, s .pre .0 .1, e)))
+    let m = subst (PairAdvanced (a .t .now) x y ds es slots (a .q) (a .d) (b .last .0)) (w .1)
+    (b .ensures x y ds es slots (h .moves)) in
+    step-turned (a .t .now) (a .chain .now) x y ds es slots (a .q) (a .p) (a .s) h (at-start .pre .1 .0) (a .d)
+    (at-start .pre .0 .1) (b .last .0) (w .0 .0) m (f .1) (k .next (λ e. omega (arith, at-start .pre .0 .1, e)))
     (record { stride = w .0 .0; changed = n .result }) refl
     (n .ensures (bothOf (cornersFrom x ds) (cornersFrom y es)) slots (settle slots (needsOf x y (firstAfter (a .q) ds (a .d)) (secondAfter (a .q) es (a .d)))) (endFrom (byParty (a .q) x y) (byParty (a .q) ds es))
-    (step-holds (a .t .now) (a .chain .now) x y ds es slots (a .q) (a .p) (a .s) h (s .pre .1 .0) (a .d) (s .pre .0 .1) (b .last .0) (w .0 .0) m)
-    (step-corner (a .t .now) (a .chain .now) x y ds es slots (a .q) (a .p) (a .s) h (s .pre .1 .0) (a .d) (s .pre .0 .1) (b .last .0) (w .0 .0) m))
-    l (s .pre .1 .2)
+    (step-holds (a .t .now) (a .chain .now) x y ds es slots (a .q) (a .p) (a .s) h (at-start .pre .1 .0) (a .d)
+    (at-start .pre .0 .1) (b .last .0) (w .0 .0) m)
+    (step-corner (a .t .now) (a .chain .now) x y ds es slots (a .q) (a .p) (a .s) h (at-start .pre .1 .0) (a .d) (at-start .pre .0 .1) (b .last .0) (w .0 .0) m))
+    l (at-start .pre .1 .2)
 
 returns-2 : tie.Need-returns-2
 returns-2 c =
-    let s = c .before .before .before .before .before .before .before .before in
-    let a = s .args in
-    let b = c .before .before .before .before .advance in
-    λ x y ds es slots h. turned-full (a .t .now) (a .chain .now) x y ds es slots (a .q) (a .p) (a .s) h (s .pre .1 .0) (a .d) (s .pre .0 .1) (b .last .0) (subst (PairAdvanced (a .t .now) x y ds es slots (a .q) (a .d) (b .last .0)) (c .enum-told .given .1) (b .ensures x y ds es slots (h .moves))) (a .chain .now)
+    let at-advance = c .before .before .before .before in let at-start = at-advance .before .before .before .before in
+    let a = at-start .args in
+    let b = at-advance .advance in
+    λ x y ds es slots h. turned-full (a .t .now) (a .chain .now) x y ds es slots (a .q) (a .p) (a .s) h (at-start .pre .1 .0)
+    (a .d) (at-start .pre .0 .1) (b .last .0)
+    (subst (PairAdvanced (a .t .now) x y ds es slots (a .q) (a .d) (b .last .0)) (c .enum-told .given .1)
+    (b .ensures x y ds es slots (h .moves))) (a .chain .now)
 
 pub step-spec : {M : Type 1} → statement M
 step-spec =

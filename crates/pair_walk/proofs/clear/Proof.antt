@@ -7,10 +7,13 @@ use Rattle.pair_walk.proofs.clear.Tie as tie
 
 returns : tie.Need-returns
 returns c =
-    let a = c .before .before .before .before .before .before .before .before .before .before .before .before .before .before .before .before .before .before .before .before .args in
-    let x = c .before .before .before .before .before .before .zero-from in
-    let y = c .before .before .zero-from2 in
-    (c .before .before .before .before .before .before .before .before .before .before .before .before .before .before .zero .ensures, (c .before .before .before .before .before .before .before .before .before .before .zero2 .ensures, (cleared (a .first .now) (x .last .0) (x .ensures), cleared (a .second .now) (y .last .0) (y .ensures))))
+    let at-zero-from2 = c .before .before in let at-zero-from = at-zero-from2 .before .before .before .before in
+    let at-zero2 = at-zero-from .before .before .before .before in let at-zero = at-zero2 .before .before .before .before in
+    let at-start = at-zero .before .before .before .before .before .before in
+    let a = at-start .args in
+    let x = at-zero-from .zero-from in
+    let y = at-zero-from2 .zero-from2 in
+    (at-zero .zero .ensures, (at-zero2 .zero2 .ensures, (cleared (a .first .now) (x .last .0) (x .ensures), cleared (a .second .now) (y .last .0) (y .ensures))))
 
 pub clear-spec : {M : Type 1} → statement M
 clear-spec =

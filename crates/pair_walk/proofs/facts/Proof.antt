@@ -8,9 +8,11 @@ use Rattle.pair_walk.proofs.facts.Tie as tie
 
 returns : tie.Need-returns
 returns c =
-    let a = c .before .before .before .before .before .before .before .before .before .before .before .before .before .args in
-    let x = c .before .before .before .before .before .before .conclude in
-    let y = c .before .before .conclude2 in
+    let at-conclude2 = c .before .before in let at-conclude = at-conclude2 .before .before .before .before in
+    let at-start = at-conclude .before .before .before .before .before .before .before in
+    let a = at-start .args in
+    let x = at-conclude .conclude in
+    let y = at-conclude2 .conclude2 in
     λ ds es k l.
     let f = x .ensures ds k in
     let g = y .ensures es l in

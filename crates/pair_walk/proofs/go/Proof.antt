@@ -15,31 +15,39 @@ use Rattle.pair_walk.proofs.go.Tie as tie
 
 run-requires : tie.Need-run-requires
 run-requires c κs =
-    let s = c .before .before .before .before .before .before .before .before .before .before .before .before .before .before .before .before in
-    let a = s .args in
-    let b = c .before .before .before .before .before .before .before .before .before .plant in
-    let v = c .before .before .before .before .before .w .given in
+    let at-w = c .before .before .before .before .before in let at-plant = at-w .before .before .before .before in
+    let at-start = at-plant .before .before .before .before .before .before .before in
+    let a = at-start .args in
+    let b = at-plant .plant in
+    let v = at-w .w .given in
     let h = subst (PairPlanted (length (a .t .now)) (a .start) (a .start2) (b .last .0)) (v .1) (b .ensures) in
     let l : length (b .last .0) ≡ length (a .t .now) = search needs in
-    ((h .2 (a .first .now) (a .second .now), s .pre .0 .2), ((omega (arith, l, s .pre .1 .0 .1), ap (λ (n : ℕ). n % pairWidth) l ∙ s .pre .1 .0 .2, s .pre .1 .0 .3), s .pre .1 .1))
+    ((h .2 (a .first .now) (a .second .now), at-start .pre .0 .2), ((omega (arith, l, at-start .pre .1 .0 .1), ap (λ (n : ℕ). n % pairWidth) l ∙ at-start .pre .1 .0 .2, at-start .pre .1 .0 .3), at-start .pre .1 .1))
 
 returns : tie.Need-returns
 returns c =
-    let s = c .before .before .before .before .before .before .before .before .before .before .before .before .before .before .before .before .before .before .before .before .before .before .before .before .before in
-    let a = s .args in
-    let b = c .before .before .before .before .before .before .before .before .before .before .before .before .before .before .before .before .before .before .plant in
-    let v = c .before .before .before .before .before .before .before .before .before .before .before .before .before .before .w .given in
-    let r = c .before .before .before .before .before .before .before .before .run in
+    let at-run = c .before .before .before .before .before .before .before .before in
+    let at-w = at-run .before .before .before .before .before .before in let at-plant = at-w .before .before .before .before in
+    let at-start = at-plant .before .before .before .before .before .before .before in
+    let a = at-start .args in
+    let b = at-plant .plant in
+    let v = at-w .w .given in
+    let r = at-run .run in
     let h = subst (PairPlanted (length (a .t .now)) (a .start) (a .start2) (b .last .0)) (v .1) (b .ensures) in
     let l : length (b .last .0) ≡ length (a .t .now) = search needs in
-    let P : ℕ → Corner → Corner → Type 0 = λ n x y. PairRan n x y (a .ops .now) (r .last .1 .0) (r .last .1 .1 .0) (r .last .1 .1 .1 .0) (r .last .1 .1 .1 .1 .0) (r .result) in
+    let P : ℕ → Corner → Corner → Type 0 = λ n x y. PairRan n x y (a .ops .now) (r .last .1 .0) (r .last .1 .1 .0)
+    (r .last .1 .1 .1 .0) (r .last .1 .1 .1 .1 .0) (r .result) in
     subst (λ (n : ℕ). P n (a .start) (a .start2)) l (subst₂ (P (length (b .last .0))) (h .0) (h .1) (r .ensures))
 
 returns-2 : tie.Need-returns-2
 returns-2 c =
-    let a = c .before .before .before .before .before .before .before .before .before .before .before .args in
-    let b = c .before .before .before .before .plant in
-    starts-full (length (a .t .now)) (a .start) (a .start2) (a .ops .now) (b .last .0) (a .marks .now) (a .first .now) (a .second .now) (subst (PairPlanted (length (a .t .now)) (a .start) (a .start2) (b .last .0)) (c .enum-told .given .1) (b .ensures))
+    let at-plant = c .before .before .before .before in
+    let at-start = at-plant .before .before .before .before .before .before .before in
+    let a = at-start .args in
+    let b = at-plant .plant in
+    starts-full (length (a .t .now)) (a .start) (a .start2) (a .ops .now) (b .last .0) (a .marks .now) (a .first .now)
+    (a .second .now) (subst (PairPlanted (length (a .t .now)) (a .start) (a .start2) (b .last .0)) (c .enum-told .given .1)
+    (b .ensures))
 
 pub go-spec : {M : Type 1} → statement M
 go-spec =

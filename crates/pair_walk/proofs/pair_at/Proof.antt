@@ -8,8 +8,9 @@ use Rattle.pair_walk.proofs.pair_at.Tie as tie
 
 returns : tie.Need-returns
 returns c =
-    let a = c .before .before .before .before .before .args in
-    ap₂ (λ (f g : Party). record { first = f; second = g; stock = a .two .stock }) (c .before .before .new .ensures) (c .new2 .ensures)
+    let at-new = c .before .before in let at-start = at-new .before .before .before in
+    let a = at-start .args in
+    ap₂ (λ (f g : Party). record { first = f; second = g; stock = a .two .stock }) (at-new .new .ensures) (c .new2 .ensures)
 
 pub pair-at-spec : {M : Type 1} → statement M
 pair-at-spec = tie.close (tie.spec (λ c. search needs) (λ c κs. search needs) (λ c. search needs) (λ c κs. search needs) returns)

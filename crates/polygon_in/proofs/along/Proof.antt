@@ -11,13 +11,15 @@ use Rattle.polygon_in.proofs.along.Tie as tie
 
 returns : tie.Need-returns
 returns c =
-    let s = c .before .before in
-    sym (ap (λ (b : Bool). cond b (s .args .d) (s .args .d + 2)) (sym (c .before .less .ensures ∙ ap₂ ltZ (toZ-ofZ (s .fits .x)) (toZ-ofZ (s .fits .y))) ∙ c .if1 .taken))
+    let at-start = c .before .before in
+    sym (ap (λ (b : Bool). cond b (at-start .args .d) (at-start .args .d + 2))
+    (sym (c .before .less .ensures ∙ ap₂ ltZ (toZ-ofZ (at-start .fits .x)) (toZ-ofZ (at-start .fits .y))) ∙ c .if1 .taken))
 
 returns-2 : tie.Need-returns-2
 returns-2 c =
-    let s = c .before .before in
-    sym (ap (λ (b : Bool). cond b (s .args .d) (s .args .d + 2)) (sym (c .before .less .ensures ∙ ap₂ ltZ (toZ-ofZ (s .fits .x)) (toZ-ofZ (s .fits .y))) ∙ c .if1 .left))
+    let at-start = c .before .before in
+    sym (ap (λ (b : Bool). cond b (at-start .args .d) (at-start .args .d + 2))
+    (sym (c .before .less .ensures ∙ ap₂ ltZ (toZ-ofZ (at-start .fits .x)) (toZ-ofZ (at-start .fits .y))) ∙ c .if1 .left))
 
 pub along-spec : {M : Type 1} → statement M
 along-spec = tie.close (tie.spec (λ c κs. search needs) (λ c. search needs) returns returns-2)

@@ -11,13 +11,14 @@ use Rattle.polygon_in.proofs.corner_at.Tie as tie
 
 corner-requires : tie.Need-corner-requires
 corner-requires c κs =
-    let s = c .before .before in
-    (part-room (s .args .points .now) (16 * s .args .i) 16 (omega (arith, s .pre .1)), ap isFaulty (later-is (s .args .little) (s .args .points .now) (s .args .i) (s .pre .0)) ∙ s .pre .2)
+    let at-start = c .before .before in
+    (part-room (at-start .args .points .now) (16 * at-start .args .i) 16 (omega (arith, at-start .pre .1)), ap isFaulty (later-is (at-start .args .little) (at-start .args .points .now) (at-start .args .i) (at-start .pre .0)) ∙ at-start .pre .2)
 
 returns : tie.Need-returns
 returns c =
-    let s = c .before .before .before in
-    c .corner .ensures ∙ ap cornerIn (later-is (s .args .little) (s .args .points .now) (s .args .i) (s .pre .0))
+    let at-start = c .before .before .before in
+    c .corner .ensures ∙ ap cornerIn
+    (later-is (at-start .args .little) (at-start .args .points .now) (at-start .args .i) (at-start .pre .0))
 
 pub corner-at-spec : {M : Type 1} → statement M
 corner-at-spec =

@@ -20,13 +20,15 @@ loop-holds c = laid-first
 
 loop-again : tie.Need-loop-again Inv-loop μ-loop
 loop-again c =
-    let s = c .before .before in
-    fill-more (s .args .buf .now) (c .before .loop .buf) (s .args .d) (s .args .n) (c .before .loop .i) (s .pre) (c .loop-test .taken) (c .before .loop .inv)
+    let at-loop = c .before in let at-start = at-loop .before in
+    fill-more (at-start .args .buf .now) (at-loop .loop .buf) (at-start .args .d) (at-start .args .n) (at-loop .loop .i)
+    (at-start .pre) (c .loop-test .taken) (at-loop .loop .inv)
 
 returns : tie.Need-returns Inv-loop μ-loop
 returns c =
-    let s = c .before .before in
-    fill-last (s .args .buf .now) (c .before .loop .buf) (s .args .d) (s .args .n) (c .before .loop .i) (omega arith) (c .before .loop .inv)
+    let at-loop = c .before in let at-start = at-loop .before in
+    fill-last (at-start .args .buf .now) (at-loop .loop .buf) (at-start .args .d) (at-start .args .n) (at-loop .loop .i)
+    (omega arith) (at-loop .loop .inv)
 
 pub fill-spec : {M : Type 1} → statement M
 fill-spec =

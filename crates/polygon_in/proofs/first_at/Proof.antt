@@ -13,8 +13,9 @@ judge-requires c κs = let n = point-numbers (c .before .before .args .little) _
 
 returns : tie.Need-returns
 returns c =
-    let s = c .before .before .before in
-    point-is mostStart (s .args .little) (s .args .points .now) (c .judge .result) (c .before .point .result) (c .before .point .ensures) (c .judge .ensures) ∙ first-is (s .args .little) (s .args .points .now)
+    let at-point = c .before in let at-start = at-point .before .before in
+    point-is mostStart (at-start .args .little) (at-start .args .points .now) (c .judge .result) (at-point .point .result)
+    (at-point .point .ensures) (c .judge .ensures) ∙ first-is (at-start .args .little) (at-start .args .points .now)
 
 pub first-at-spec : {M : Type 1} → statement M
 first-at-spec = tie.close (tie.spec (λ c κs. search needs) judge-requires returns)

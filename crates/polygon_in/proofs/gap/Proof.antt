@@ -9,26 +9,39 @@ use Rattle.polygon_in.proofs.gap.Statement.{statement}
 use Rattle.polygon_in.proofs.gap.Tie as tie
 
 sub-result : tie.Need-sub-result
-sub-result c = let s = c .before .before in diff-fits (s .args .x) (s .args .y) (s .pre .0) (s .pre .1)
+sub-result c =
+    let at-start = c .before .before in
+    diff-fits (at-start .args .x) (at-start .args .y) (at-start .pre .0) (at-start .pre .1)
 
 cast-result : tie.Need-cast-result
 cast-result c =
-    let s = c .before .before in
-    diff-cast (s .args .x) (s .args .y) (s .pre .0) (s .pre .1) (before-le (s .args .x) (s .args .y) (c .before .less .result) (c .before .less .ensures ∙ ap₂ ltZ (back (s .args .x) (s .pre .0)) (back (s .args .y) (s .pre .1))) (c .if1 .taken))
+    let at-less = c .before in let at-start = at-less .before in
+    diff-cast (at-start .args .x) (at-start .args .y) (at-start .pre .0) (at-start .pre .1)
+    (before-le (at-start .args .x) (at-start .args .y) (at-less .less .result)
+    (at-less .less .ensures ∙ ap₂ ltZ (back (at-start .args .x) (at-start .pre .0)) (back (at-start .args .y) (at-start .pre .1))) (c .if1 .taken))
 
 sub-result-2 : tie.Need-sub-result-2
-sub-result-2 c = let s = c .before .before in diff-fits (s .args .y) (s .args .x) (s .pre .1) (s .pre .0)
+sub-result-2 c =
+    let at-start = c .before .before in
+    diff-fits (at-start .args .y) (at-start .args .x) (at-start .pre .1) (at-start .pre .0)
 
 cast-result-2 : tie.Need-cast-result-2
 cast-result-2 c =
-    let s = c .before .before in
-    diff-cast (s .args .y) (s .args .x) (s .pre .1) (s .pre .0) (after-le (s .args .x) (s .args .y) (c .before .less .result) (c .before .less .ensures ∙ ap₂ ltZ (back (s .args .x) (s .pre .0)) (back (s .args .y) (s .pre .1))) (c .if1 .left))
+    let at-less = c .before in let at-start = at-less .before in
+    diff-cast (at-start .args .y) (at-start .args .x) (at-start .pre .1) (at-start .pre .0)
+    (after-le (at-start .args .x) (at-start .args .y) (at-less .less .result)
+    (at-less .less .ensures ∙ ap₂ ltZ (back (at-start .args .x) (at-start .pre .0)) (back (at-start .args .y) (at-start .pre .1))) (c .if1 .left))
 
 returns : tie.Need-returns
-returns c = let s = c .before .before in diff-is (s .args .x) (s .args .y) (s .pre .0) (s .pre .1)
+returns c =
+    let at-start = c .before .before in
+    diff-is (at-start .args .x) (at-start .args .y) (at-start .pre .0) (at-start .pre .1)
 
 returns-2 : tie.Need-returns-2
-returns-2 c = let s = c .before .before in diff-is (s .args .y) (s .args .x) (s .pre .1) (s .pre .0) ∙ diff-swap (s .args .x) (s .args .y)
+returns-2 c =
+    let at-start = c .before .before in
+    diff-is (at-start .args .y) (at-start .args .x) (at-start .pre .1) (at-start .pre .0)
+    ∙ diff-swap (at-start .args .x) (at-start .args .y)
 
 pub gap-spec : {M : Type 1} → statement M
 gap-spec =

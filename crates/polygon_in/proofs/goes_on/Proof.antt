@@ -8,10 +8,15 @@ use Rattle.polygon_in.proofs.goes_on.Statement.{statement}
 use Rattle.polygon_in.proofs.goes_on.Tie as tie
 
 returns : tie.Need-returns
-returns c = let s = c .before .before in c .before .is-straight .ensures ∙ sym (ap (λ (b : Bool). b && straight (s .args .a) (s .args .b)) (c .if1 .taken))
+returns c =
+    let at-is-straight = c .before in
+    at-is-straight .is-straight .ensures ∙ sym
+    (ap (λ (b : Bool). b && straight (at-is-straight .before .args .a) (at-is-straight .before .args .b)) (c .if1 .taken))
 
 returns-2 : tie.Need-returns-2
-returns-2 c = let s = c .before .before in sym (ap (λ (b : Bool). b && straight (s .args .a) (s .args .b)) (c .if1 .left))
+returns-2 c =
+    let at-start = c .before .before in
+    sym (ap (λ (b : Bool). b && straight (at-start .args .a) (at-start .args .b)) (c .if1 .left))
 
 pub goes-on-spec : {M : Type 1} → statement M
 goes-on-spec = tie.close (tie.spec (λ c κs. search needs) returns returns-2)

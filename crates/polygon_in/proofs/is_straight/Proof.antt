@@ -9,15 +9,21 @@ use Rattle.polygon_in.proofs.is_straight.Tie as tie
 
 returns : tie.Need-returns
 returns c =
-    let e = c .before .before .before .before .equal in
-    let s = c .before .before .before .before .before .before .before in
-    sym (ap (λ (m : Bool). cond m (not (e .result)) (e .result)) (c .if1 .taken)) ∙ straight-is (s .args .a) (s .args .b) (s .pre .0) (s .pre .1) (e .result) (c .before .equal2 .result) (e .ensures) (c .before .equal2 .ensures)
+    let at-equal2 = c .before in let at-equal = at-equal2 .before .before .before in
+    let at-start = at-equal .before .before .before in
+    let e = at-equal .equal in
+    sym (ap (λ (m : Bool). cond m (not (e .result)) (e .result)) (c .if1 .taken))
+    ∙ straight-is (at-start .args .a) (at-start .args .b) (at-start .pre .0) (at-start .pre .1) (e .result)
+    (at-equal2 .equal2 .result) (e .ensures) (at-equal2 .equal2 .ensures)
 
 returns-2 : tie.Need-returns-2
 returns-2 c =
-    let e = c .before .before .before .before .equal in
-    let s = c .before .before .before .before .before .before .before in
-    sym (ap (λ (m : Bool). cond m (not (e .result)) (e .result)) (c .if1 .left)) ∙ straight-is (s .args .a) (s .args .b) (s .pre .0) (s .pre .1) (e .result) (c .before .equal2 .result) (e .ensures) (c .before .equal2 .ensures)
+    let at-equal2 = c .before in let at-equal = at-equal2 .before .before .before in
+    let at-start = at-equal .before .before .before in
+    let e = at-equal .equal in
+    sym (ap (λ (m : Bool). cond m (not (e .result)) (e .result)) (c .if1 .left))
+    ∙ straight-is (at-start .args .a) (at-start .args .b) (at-start .pre .0) (at-start .pre .1) (e .result)
+    (at-equal2 .equal2 .result) (e .ensures) (at-equal2 .equal2 .ensures)
 
 pub is-straight-spec : {M : Type 1} → statement M
 is-straight-spec = tie.close (tie.spec (λ c κs. search needs) (λ c κs. search needs) returns returns-2)

@@ -9,14 +9,16 @@ use Rattle.polygon_in.proofs.is_whole.Tie as tie
 
 returns : tie.Need-returns
 returns c =
-    let s = c .before .before .before .before in
-    whole-no (length (s .args .file .now)) (countIn (s .args .little) (s .args .file .now)) (s .pre) (c .if1 .taken)
+    let at-start = c .before .before .before .before in
+    whole-no (length (at-start .args .file .now)) (countIn (at-start .args .little) (at-start .args .file .now)) (at-start .pre)
+    (c .if1 .taken)
 
 returns-2 : tie.Need-returns-2
 unfolding countIn
 returns-2 c =
-    let s = c .before .before .before .before in
-    whole-is (length (s .args .file .now)) (c .before .number .result) (countIn (s .args .little) (s .args .file .now)) (s .pre) (c .if1 .left) (c .before .number .ensures)
+    let at-number = c .before in let at-start = at-number .before .before .before in
+    whole-is (length (at-start .args .file .now)) (at-number .number .result)
+    (countIn (at-start .args .little) (at-start .args .file .now)) (at-start .pre) (c .if1 .left) (at-number .number .ensures)
 
 pub is-whole-spec : {M : Type 1} → statement M
 is-whole-spec =

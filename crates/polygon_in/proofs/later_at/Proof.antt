@@ -9,12 +9,15 @@ use Rattle.polygon_in.proofs.later_at.Statement.{statement}
 use Rattle.polygon_in.proofs.later_at.Tie as tie
 
 judge-requires : tie.Need-judge-requires
-judge-requires c κs = let n = point-numbers (c .before .before .before .args .little) _ (c .point .result) (c .point .ensures) in (omega arith, n .0, n .1)
+judge-requires c κs =
+    let at-start = c .before .before .before in
+    let n = point-numbers (at-start .args .little) _ (c .point .result) (c .point .ensures) in (omega arith, n .0, n .1)
 
 returns : tie.Need-returns
 returns c =
-    let s = c .before .before .before .before in
-    point-is farthest (s .args .little) _ (c .judge .result) (c .before .point .result) (c .before .point .ensures) (c .judge .ensures) ∙ later-is (s .args .little) (s .args .points .now) (s .args .i) (s .pre .0)
+    let at-point = c .before in let at-start = at-point .before .before .before in
+    point-is farthest (at-start .args .little) _ (c .judge .result) (at-point .point .result) (at-point .point .ensures)
+    (c .judge .ensures) ∙ later-is (at-start .args .little) (at-start .args .points .now) (at-start .args .i) (at-start .pre .0)
 
 pub later-at-spec : {M : Type 1} → statement M
 later-at-spec =

@@ -20,80 +20,100 @@ abbrev μ-loop : tie.MeasureT-loop
 
 loop-holds : tie.Need-loop-holds Inv-loop μ-loop
 loop-holds c =
-    let s = c .before .before in
-    chaining-first (s .args .little) (s .args .points .now) (s .args .n) (s .args .out .now) (s .args .start) (s .pre .1) (s .pre .4)
+    let at-start = c .before .before in
+    chaining-first (at-start .args .little) (at-start .args .points .now) (at-start .args .n) (at-start .args .out .now)
+    (at-start .args .start) (at-start .pre .1) (at-start .pre .4)
 
 corner-at-requires : tie.Need-corner-at-requires Inv-loop μ-loop
 corner-at-requires c κs =
-    let s = c .before .before .before .before in
+    let at-start = c .before .before .before .before in
     let at = c .before .loop in
-    (at .inv .some, omega (arith, s .pre .0), good-at (s .args .little) (s .args .points .now) (s .args .n) (at .i) (s .pre .3) (c .loop-test .taken))
+    (at .inv .some, omega (arith, at-start .pre .0), good-at (at-start .args .little) (at-start .args .points .now) (at-start .args .n) (at .i) (at-start .pre .3) (c .loop-test .taken))
 
 distance-requires : tie.Need-distance-requires Inv-loop μ-loop
 distance-requires c κs =
-    let s = c .before .before .before .before .before in
-    (c .before .before .loop .inv .near, subst PointFits (sym (c .corner-at .ensures)) (near-at (s .args .little) (s .args .points .now) (c .before .before .loop .i)))
+    let at-loop = c .before .before in let at-start = at-loop .before .before .before in
+    (at-loop .loop .inv .near, subst PointFits (sym (c .corner-at .ensures)) (near-at (at-start .args .little) (at-start .args .points .now) (at-loop .loop .i)))
 
 sub-fill : tie.Need-sub-fill Inv-loop μ-loop
 sub-fill c =
-    let s = c .before .before .before .before .before .before in
-    let at = c .before .before .before .loop in
+    let at-loop-test = c .before .before in let at-loop = at-loop-test .before in
+    let at-start = at-loop .before .before .before in
+    let at = at-loop .loop in
     let b = c .before .corner-at in
-    let room = chaining-room (s .args .little) (s .args .points .now) (s .args .n) (s .args .out .now) (at .out) (at .a) (b .result) (at .at) (at .i) (c .before .before .loop-test .taken) (b .ensures) (s .pre .2) (at .inv) in
+    let room = chaining-room (at-start .args .little) (at-start .args .points .now) (at-start .args .n) (at-start .args .out .now)
+    (at .out) (at .a) (b .result) (at .at) (at .i) (at-loop-test .loop-test .taken) (b .ensures) (at-start .pre .2) (at .inv) in
     omega (arith, room)
 
 part-fill-start : tie.Need-part-fill-start Inv-loop μ-loop
 part-fill-start c =
-    let s = c .before .before .before .before .before .before in
-    let at = c .before .before .before .loop in
+    let at-loop-test = c .before .before in let at-loop = at-loop-test .before in
+    let at-start = at-loop .before .before .before in
+    let at = at-loop .loop in
     let b = c .before .corner-at in
-    let room = chaining-room (s .args .little) (s .args .points .now) (s .args .n) (s .args .out .now) (at .out) (at .a) (b .result) (at .at) (at .i) (c .before .before .loop-test .taken) (b .ensures) (s .pre .2) (at .inv) in
+    let room = chaining-room (at-start .args .little) (at-start .args .points .now) (at-start .args .n) (at-start .args .out .now)
+    (at .out) (at .a) (b .result) (at .at) (at .i) (at-loop-test .loop-test .taken) (b .ensures) (at-start .pre .2) (at .inv) in
     omega (arith, room)
 
 part-fill-end : tie.Need-part-fill-end Inv-loop μ-loop
 part-fill-end c =
-    let s = c .before .before .before .before .before .before in
-    let at = c .before .before .before .loop in
+    let at-loop-test = c .before .before in let at-loop = at-loop-test .before in
+    let at-start = at-loop .before .before .before in
+    let at = at-loop .loop in
     let b = c .before .corner-at in
-    let room = chaining-room (s .args .little) (s .args .points .now) (s .args .n) (s .args .out .now) (at .out) (at .a) (b .result) (at .at) (at .i) (c .before .before .loop-test .taken) (b .ensures) (s .pre .2) (at .inv) in
+    let room = chaining-room (at-start .args .little) (at-start .args .points .now) (at-start .args .n) (at-start .args .out .now)
+    (at .out) (at .a) (b .result) (at .at) (at .i) (at-loop-test .loop-test .taken) (b .ensures) (at-start .pre .2) (at .inv) in
     omega (arith, room)
 
 direction-requires : tie.Need-direction-requires Inv-loop μ-loop
 direction-requires c κs =
-    let s = c .before .before .before .before .before .before .before in
-    (c .before .before .before .before .loop .inv .near, subst PointFits (sym (c .before .before .corner-at .ensures)) (near-at (s .args .little) (s .args .points .now) (c .before .before .before .before .loop .i)))
+    let at-corner-at = c .before .before in let at-loop = at-corner-at .before .before in
+    let at-start = at-loop .before .before .before in
+    (at-loop .loop .inv .near, subst PointFits (sym (at-corner-at .corner-at .ensures)) (near-at (at-start .args .little) (at-start .args .points .now) (at-loop .loop .i)))
 
 fill-requires : tie.Need-fill-requires Inv-loop μ-loop
 fill-requires c κs =
-    let s = c .before .before .before .before .before .before .before .before in
-    let at = c .before .before .before .before .before .loop in
-    let b = c .before .before .before .corner-at in
-    let room = chaining-room (s .args .little) (s .args .points .now) (s .args .n) (s .args .out .now) (at .out) (at .a) (b .result) (at .at) (at .i) (c .before .before .before .before .loop-test .taken) (b .ensures) (s .pre .2) (at .inv) in
-    part-room (at .out) (at .at) (c .before .before .distance .result) (subst (λ (k : ℕ). at .at + k ≤ length (at .out)) (sym (c .before .before .distance .ensures)) room)
+    let at-distance = c .before .before in let at-corner-at = at-distance .before in let at-loop = at-corner-at .before .before in
+    let at-start = at-loop .before .before .before in
+    let at = at-loop .loop in
+    let b = at-corner-at .corner-at in
+    let room = chaining-room (at-start .args .little) (at-start .args .points .now) (at-start .args .n) (at-start .args .out .now)
+    (at .out) (at .a) (b .result) (at .at) (at .i) (at-corner-at .before .loop-test .taken) (b .ensures) (at-start .pre .2)
+    (at .inv) in
+    part-room (at .out) (at .at) (at-distance .distance .result)
+    (subst (λ (k : ℕ). at .at + k ≤ length (at .out)) (sym (at-distance .distance .ensures)) room)
 
 add-at : tie.Need-add-at Inv-loop μ-loop
 add-at c =
-    let s = c .before .before .before .before .before .before .before .before .before .before .before in
+    let at-start = c .before .before .before .before .before .before .before .before .before .before .before in
     let at = c .before .before .before .before .before .before .before .before .loop in
     let b = c .before .before .before .before .before .before .corner-at in
-    let room = chaining-room (s .args .little) (s .args .points .now) (s .args .n) (s .args .out .now) (at .out) (at .a) (b .result) (at .at) (at .i) (c .before .before .before .before .before .before .before .loop-test .taken) (b .ensures) (s .pre .2) (at .inv) in
+    let room = chaining-room (at-start .args .little) (at-start .args .points .now) (at-start .args .n) (at-start .args .out .now)
+    (at .out) (at .a) (b .result) (at .at) (at .i) (c .before .before .before .before .before .before .before .loop-test .taken)
+    (b .ensures) (at-start .pre .2) (at .inv) in
     record { fits = omega (arith, room, c .before .before .before .before .before .distance .ensures) }
 
 loop-again : tie.Need-loop-again Inv-loop μ-loop
 loop-again c =
-    let s = c .before .before .before .before .before .before .before .before .before .before .before in
-    let at = c .before .before .before .before .before .before .before .before .loop in
-    let b = c .before .before .before .before .before .before .corner-at in
-    chaining-more (s .args .little) (s .args .points .now) (s .args .n) (s .args .out .now) (at .out) (at .a) (b .result) (at .at) (at .i) (c .before .before .before .before .before .before .before .loop-test .taken) (b .ensures) (s .pre .2) (at .inv)
-    (c .before .before .before .before .before .distance .result) (c .before .before .before .direction .result) (c .before .before .fill .last .0) (c .before .before .before .before .before .distance .ensures) (c .before .before .before .direction .ensures) (c .before .before .fill .ensures)
+    let at-fill = c .before .before in let at-direction = at-fill .before in let at-distance = at-direction .before .before in
+    let at-corner-at = at-distance .before in let at-loop = at-corner-at .before .before in
+    let at-start = at-loop .before .before .before in
+    let at = at-loop .loop in
+    let b = at-corner-at .corner-at in
+    chaining-more (at-start .args .little) (at-start .args .points .now) (at-start .args .n) (at-start .args .out .now) (at .out)
+    (at .a) (b .result) (at .at) (at .i) (at-corner-at .before .loop-test .taken) (b .ensures) (at-start .pre .2) (at .inv)
+    (at-distance .distance .result) (at-direction .direction .result) (at-fill .fill .last .0) (at-distance .distance .ensures)
+    (at-direction .direction .ensures) (at-fill .fill .ensures)
 
 same-length : tie.Need-same-length Inv-loop μ-loop
 same-length c = c .before .loop .inv .laid .same
 
 returns : tie.Need-returns Inv-loop μ-loop
 returns c =
-    let s = c .before .before .before .before in
-    chaining-last (s .args .little) (s .args .points .now) (s .args .n) (s .args .out .now) (c .before .loop .out) (c .before .loop .a) (c .before .loop .at) (c .before .loop .i) (s .pre .1) (omega arith) (c .before .loop .inv)
+    let at-loop = c .before in let at-start = at-loop .before .before .before in
+    chaining-last (at-start .args .little) (at-start .args .points .now) (at-start .args .n) (at-start .args .out .now)
+    (at-loop .loop .out) (at-loop .loop .a) (at-loop .loop .at) (at-loop .loop .i) (at-start .pre .1) (omega arith)
+    (at-loop .loop .inv)
 
 pub put-chain-spec : {M : Type 1} → statement M
 put-chain-spec =

@@ -9,36 +9,44 @@ use Rattle.polygon_in.proofs.survey.Tie as tie
 
 returns : tie.Need-returns
 returns c =
-    let s = c .before .before .before .before .before .before .before in
-    let m = c .before .before .before .before .before .measure in
-    let k = c .before .before .before .found .given in
-    refused-long (pointsFrom (s .args .little) (s .args .points .now) 0 (s .args .n)) (s .args .room) (m .result) (m .ensures) (k .0 .0) (k .1) (omega (arith, c .if1 .taken))
+    let at-found = c .before .before .before in let at-measure = at-found .before .before in
+    let at-start = at-measure .before .before in
+    let m = at-measure .measure in
+    let k = at-found .found .given in
+    refused-long (pointsFrom (at-start .args .little) (at-start .args .points .now) 0 (at-start .args .n)) (at-start .args .room)
+    (m .result) (m .ensures) (k .0 .0) (k .1) (omega (arith, c .if1 .taken))
 
 returns-2 : tie.Need-returns-2
 returns-2 c =
-    let s = c .before .before .before .before .before .before .before .before .before in
-    let m = c .before .before .before .before .before .before .before .measure in
-    let k = c .before .before .before .before .before .found .given in
-    refused-short (pointsFrom (s .args .little) (s .args .points .now) 0 (s .args .n)) (s .args .room) (m .result) (m .ensures) (k .0 .0) (k .1) (omega (arith, c .before .before .if1 .left)) (omega (arith, c .if2 .taken))
+    let at-if1 = c .before .before in let at-found = at-if1 .before .before .before in
+    let at-measure = at-found .before .before in let at-start = at-measure .before .before in
+    let m = at-measure .measure in
+    let k = at-found .found .given in
+    refused-short (pointsFrom (at-start .args .little) (at-start .args .points .now) 0 (at-start .args .n)) (at-start .args .room)
+    (m .result) (m .ensures) (k .0 .0) (k .1) (omega (arith, at-if1 .if1 .left)) (omega (arith, c .if2 .taken))
 
 returns-3 : tie.Need-returns-3
 returns-3 c =
-    let s = c .before .before .before .before in
-    let m = c .before .before .measure in
-    refused-faulty (pointsFrom (s .args .little) (s .args .points .now) 0 (s .args .n)) (s .args .room) (m .result) (m .ensures) (c .enum-told .given .1)
+    let at-measure = c .before .before in let at-start = at-measure .before .before in
+    let m = at-measure .measure in
+    refused-faulty (pointsFrom (at-start .args .little) (at-start .args .points .now) 0 (at-start .args .n))
+    (at-start .args .room) (m .result) (m .ensures) (c .enum-told .given .1)
 
 returns-4 : tie.Need-returns-4
 returns-4 c =
-    let s = c .before .before .before .before in
-    let m = c .before .before .measure in
-    refused-broken (pointsFrom (s .args .little) (s .args .points .now) 0 (s .args .n)) (s .args .room) (m .result) (m .ensures) (c .enum-told2 .given .1)
+    let at-measure = c .before .before in let at-start = at-measure .before .before in
+    let m = at-measure .measure in
+    refused-broken (pointsFrom (at-start .args .little) (at-start .args .points .now) 0 (at-start .args .n))
+    (at-start .args .room) (m .result) (m .ensures) (c .enum-told2 .given .1)
 
 returns-5 : tie.Need-returns-5
 returns-5 c =
-    let s = c .before .before .before .before .before .before .before .before .before in
-    let m = c .before .before .before .before .before .before .before .measure in
-    let k = c .before .before .before .before .before .found .given in
-    accepted-all (pointsFrom (s .args .little) (s .args .points .now) 0 (s .args .n)) (s .args .room) (m .result) (m .ensures) (k .0 .0) (k .1) (omega (arith, c .before .before .if1 .left)) (omega (arith, c .if2 .left))
+    let at-if1 = c .before .before in let at-found = at-if1 .before .before .before in
+    let at-measure = at-found .before .before in let at-start = at-measure .before .before in
+    let m = at-measure .measure in
+    let k = at-found .found .given in
+    accepted-all (pointsFrom (at-start .args .little) (at-start .args .points .now) 0 (at-start .args .n)) (at-start .args .room)
+    (m .result) (m .ensures) (k .0 .0) (k .1) (omega (arith, at-if1 .if1 .left)) (omega (arith, c .if2 .left))
 
 pub survey-spec : {M : Type 1} → statement M
 survey-spec =

@@ -10,30 +10,41 @@ use Rattle.polygon_out.proofs.draw.Statement.{statement}
 use Rattle.polygon_out.proofs.draw.Tie as tie
 
 add-n : tie.Need-add-n
-add-n c = record { fits = omega (arith, c .count .ensures, turning-le (c .before .before .before .args .chain .now), c .before .before .before .pre .few) }
+add-n c =
+    let at-start = c .before .before .before in
+    record { fits = omega (arith, c .count .ensures, turning-le (at-start .args .chain .now), at-start .pre .few) }
 
 mul-if1 : tie.Need-mul-if1
-mul-if1 c = record { fits = omega (arith, c .count .ensures, turning-le (c .before .before .before .args .chain .now), c .before .before .before .pre .few) }
+mul-if1 c =
+    let at-start = c .before .before .before in
+    record { fits = omega (arith, c .count .ensures, turning-le (at-start .args .chain .now), at-start .pre .few) }
 
 add-if1 : tie.Need-add-if1
-add-if1 c = record { fits = omega (arith, c .count .ensures, turning-le (c .before .before .before .args .chain .now), c .before .before .before .pre .few) }
+add-if1 c =
+    let at-start = c .before .before .before in
+    record { fits = omega (arith, c .count .ensures, turning-le (at-start .args .chain .now), at-start .pre .few) }
 
 returns : tie.Need-returns
 returns c =
-    let s = c .before .before .before .before in
-    draw-short (s .args .start) (s .args .chain .now) (s .args .out .now) (c .before .count .result + 2) (s .pre .digits) (ap (λ (k : ℕ). k + 2) (c .before .count .ensures)) (c .if1 .taken)
+    let at-count = c .before in let at-start = at-count .before .before .before in
+    draw-short (at-start .args .start) (at-start .args .chain .now) (at-start .args .out .now) (at-count .count .result + 2)
+    (at-start .pre .digits) (ap (λ (k : ℕ). k + 2) (at-count .count .ensures)) (c .if1 .taken)
 
 returns-2 : tie.Need-returns-2
 returns-2 c =
-    let s = c .before .before .before .before .before .before .before .before .before .before .before .before .before .before .before .before in
-    let k = c .before .before .before .before .before .before .before .before .before .before .before .before .before .count in
+    let at-put-ring = c .before .before in let at-put-number = at-put-ring .before .before .before .before in
+    let at-put-prefix = at-put-number .before .before .before .before in let at-if1 = at-put-prefix .before .before in
+    let at-count = at-if1 .before in let at-start = at-count .before .before .before in
+    let k = at-count .count in
     let n = ap (λ (k : ℕ). k + 2) (k .ensures) in
-    let h = c .before .before .before .before .before .before .before .before .before .before .before .before .if1 .left in
-    let a = c .before .before .before .before .before .before .before .before .before .before .put-prefix in
-    let b = c .before .before .before .before .before .before .put-number in
-    let z = c .before .before .put-ring in
-    draw-done (s .args .start) (s .args .chain .now) (s .args .out .now) _ (k .result + 2) (s .pre .digits) n (λ w. omega (arith, h, w))
-    (polygon-laid (s .args .out .now) (a .last .0) (b .last .0) (z .last .0) (s .args .start) (s .args .chain .now) (k .result + 2) (s .pre .digits) n (a .ensures) (b .ensures) (z .ensures))
+    let h = at-if1 .if1 .left in
+    let a = at-put-prefix .put-prefix in
+    let b = at-put-number .put-number in
+    let z = at-put-ring .put-ring in
+    draw-done (at-start .args .start) (at-start .args .chain .now) (at-start .args .out .now) _ (k .result + 2)
+    (at-start .pre .digits) n (λ w. omega (arith, h, w))
+    (polygon-laid (at-start .args .out .now) (a .last .0) (b .last .0) (z .last .0) (at-start .args .start)
+    (at-start .args .chain .now) (k .result + 2) (at-start .pre .digits) n (a .ensures) (b .ensures) (z .ensures))
 
 pub draw-spec : {M : Type 1} → statement M
 draw-spec =

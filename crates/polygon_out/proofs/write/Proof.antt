@@ -7,18 +7,24 @@ use Rattle.polygon_out.proofs.write.Tie as tie
 
 draw-requires : tie.Need-draw-requires
 draw-requires c κs =
-    let a = c .before .before .before .before .before .before .args in
-    room-drawable (a .start) (a .chain .now) (c .before .before .before .judge .result) (c .before .before .before .judge .ensures) (c .before .enum-told .given .1)
+    let at-judge = c .before .before .before in let at-start = at-judge .before .before .before in
+    let a = at-start .args in
+    room-drawable (a .start) (a .chain .now) (at-judge .judge .result) (at-judge .judge .ensures) (c .before .enum-told .given .1)
 
 returns : tie.Need-returns
 returns c =
-    let a = c .before .before .before .before .before .before .before .before .before .args in
-    call-good (a .start) (a .chain .now) (a .out .now) (c .before .before .before .before .before .before .judge .result) (c .before .before .before .before .before .before .judge .ensures) (c .before .before .draw .result) _ (c .before .before .before .before .enum-told .given .1) (c .before .before .draw .ensures)
+    let at-draw = c .before .before in let at-enum-told = at-draw .before .before in
+    let at-judge = at-enum-told .before .before in let at-start = at-judge .before .before .before in
+    let a = at-start .args in
+    call-good (a .start) (a .chain .now) (a .out .now) (at-judge .judge .result) (at-judge .judge .ensures)
+    (at-draw .draw .result) _ (at-enum-told .enum-told .given .1) (at-draw .draw .ensures)
 
 returns-2 : tie.Need-returns-2
 returns-2 c =
-    let a = c .before .before .before .before .before .before .args in
-    call-refused (a .start) (a .chain .now) (a .out .now) (c .before .before .before .judge .result) (c .before .before .before .judge .ensures) _ (c .before .r .given .1)
+    let at-judge = c .before .before .before in let at-start = at-judge .before .before .before in
+    let a = at-start .args in
+    call-refused (a .start) (a .chain .now) (a .out .now) (at-judge .judge .result) (at-judge .judge .ensures) _
+    (c .before .r .given .1)
 
 pub write-spec : {M : Type 1} → statement M
 write-spec =

@@ -19,24 +19,27 @@ abbrev μ-loop : tie.MeasureT-loop
 μ-loop chain last₀ k₀ i₀ last k i = length chain - i
 
 loop-holds : tie.Need-loop-holds Inv-loop μ-loop
-loop-holds c = let s = c .before .before in count-first (s .args .chain .now) (c .first .result) (s .pre .0) (c .first .ensures)
+loop-holds c =
+    let at-start = c .before .before in
+    count-first (at-start .args .chain .now) (c .first .result) (at-start .pre .0) (c .first .ensures)
 
 bent-requires : tie.Need-bent-requires Inv-loop μ-loop
 bent-requires c κs =
-    let s = c .before .before .before .before .before in
-    (c .before .before .loop .inv .small, below-getD 4 (s .args .chain .now) (c .before .before .loop .i) (s .pre .0) (c .before .loop-test .taken))
+    let at-loop = c .before .before in let at-start = at-loop .before .before .before in
+    (at-loop .loop .inv .small, below-getD 4 (at-start .args .chain .now) (at-loop .loop .i) (at-start .pre .0) (c .before .loop-test .taken))
 
 add-k : tie.Need-add-k Inv-loop μ-loop
 add-k c =
-    let p = c .before .before .before .before .loop .inv in
-    let s = c .before .before .before .before .before .before .before in
-    record { fits = omega (arith, p .few, p .within, s .pre .1, c .one-if .ensures, tally-le (c .before .bent .result)) }
+    let at-loop = c .before .before .before .before in let at-start = at-loop .before .before .before in
+    let p = at-loop .loop .inv in
+    record { fits = omega (arith, p .few, p .within, at-start .pre .1, c .one-if .ensures, tally-le (c .before .bent .result)) }
 
 loop-again : tie.Need-loop-again Inv-loop μ-loop
 loop-again c =
-    let s = c .before .before .before .before .before .before .before in
-    let at = c .before .before .before .before .loop in
-    count-more (s .args .chain .now) (at .last) (at .k) (c .one-if .result) (at .i) (s .pre .0) (c .before .before .before .loop-test .taken) (c .one-if .ensures ∙ ap tally (c .before .bent .ensures)) (at .inv)
+    let at-loop-test = c .before .before .before in let at-start = at-loop-test .before .before .before .before in
+    let at = at-loop-test .before .loop in
+    count-more (at-start .args .chain .now) (at .last) (at .k) (c .one-if .result) (at .i) (at-start .pre .0)
+    (at-loop-test .loop-test .taken) (c .one-if .ensures ∙ ap tally (c .before .bent .ensures)) (at .inv)
 
 returns : tie.Need-returns Inv-loop μ-loop
 returns c = count-last _ _ _ _ (omega arith) (c .before .loop .inv)

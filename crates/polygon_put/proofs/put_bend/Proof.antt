@@ -9,13 +9,14 @@ use Rattle.polygon_put.proofs.put_bend.Tie as tie
 
 put-point-requires : tie.Need-put-point-requires
 put-point-requires c κs =
-    let s = c .before .before .before in
-    (room (s .args .buf .now) (16 * s .args .k) (below-room (s .args .k) (s .args .bend) (length (s .args .buf .now)) (c .before .if1 .taken) (s .pre .0)), s .pre .1, s .pre .2)
+    let at-start = c .before .before .before in
+    (room (at-start .args .buf .now) (16 * at-start .args .k) (below-room (at-start .args .k) (at-start .args .bend) (length (at-start .args .buf .now)) (c .before .if1 .taken) (at-start .pre .0)), at-start .pre .1, at-start .pre .2)
 
 returns : tie.Need-returns
 returns c =
-    let s = c .before .before .before .before .before .before in
-    put-one (s .args .buf .now) (c .before .before .put-point .last .0) (s .args .k) (s .args .bend) (s .args .c) (c .before .before .before .before .if1 .taken) (s .pre .0) (c .before .before .put-point .ensures)
+    let at-put-point = c .before .before in let at-if1 = at-put-point .before .before in let at-start = at-if1 .before .before in
+    put-one (at-start .args .buf .now) (at-put-point .put-point .last .0) (at-start .args .k) (at-start .args .bend)
+    (at-start .args .c) (at-if1 .if1 .taken) (at-start .pre .0) (at-put-point .put-point .ensures)
 
 returns-2 : tie.Need-returns-2
 returns-2 c = put-none (c .before .before .args .buf .now) (c .before .before .args .k) (c .before .before .args .bend) (c .before .before .args .c) (c .if1 .left)

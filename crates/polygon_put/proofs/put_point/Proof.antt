@@ -44,21 +44,23 @@ two l cur ys x y c h k p q e w =
 
 put-float-requires : tie.Need-put-float-requires
 put-float-requires c κs =
-    let s = c .before .before .before .before in
-    (omega arith, no-nan _ (s .args .c .0) (s .pre .1) (c .millimetres .ensures))
+    let at-start = c .before .before .before .before in
+    (omega arith, no-nan _ (at-start .args .c .0) (at-start .pre .1) (c .millimetres .ensures))
 
 put-float-requires-2 : tie.Need-put-float-requires-2
 put-float-requires-2 c κs =
-    let s = c .before .before .before .before .before .before .before .before .before .before in
-    (room (c .before .before .before .before .before .put-float .last .0) (omega arith), no-nan _ (s .args .c .1) (s .pre .2) (c .millimetres2 .ensures))
+    let at-put-float = c .before .before .before .before .before in
+    let at-start = at-put-float .before .before .before .before .before in
+    (room (at-put-float .put-float .last .0) (omega arith), no-nan _ (at-start .args .c .1) (at-start .pre .2) (c .millimetres2 .ensures))
 
 returns : tie.Need-returns
 returns c =
-    let s = c .before .before .before .before .before .before .before .before .before .before .before .before .before in
-    let w = c .before .before .before .before .before .before .before .before in
-    let z = c .before .before .before in
-    two (s .args .buf .now) (w .put-float .last .0) (c .before .before .put-float2 .last .0) _ _ (s .args .c) (s .pre .1) (s .pre .2) (w .before .millimetres .ensures)
-    (z .millimetres2 .ensures) (w .put-float .ensures) (c .before .before .put-float2 .ensures)
+    let at-put-float2 = c .before .before in let at-millimetres2 = at-put-float2 .before in
+    let at-put-float = at-millimetres2 .before .before .before .before .before in
+    let at-start = at-put-float .before .before .before .before .before in
+    two (at-start .args .buf .now) (at-put-float .put-float .last .0) (at-put-float2 .put-float2 .last .0) _ _ (at-start .args .c)
+    (at-start .pre .1) (at-start .pre .2) (at-put-float .before .millimetres .ensures)
+    (at-millimetres2 .millimetres2 .ensures) (at-put-float .put-float .ensures) (at-put-float2 .put-float2 .ensures)
 
 pub put-point-spec : {M : Type 1} → statement M
 put-point-spec =

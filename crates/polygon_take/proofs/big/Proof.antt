@@ -43,7 +43,9 @@ cast-v : tie.Need-cast-v Inv-loop μ-loop
 cast-v c = omega (arith, c .shared-slice-known .given (c .before .before .loop .i))
 
 add-v : tie.Need-add-v Inv-loop μ-loop
-add-v c = record { fits = room _ _ _ _ (c .before .before .before .pre) (c .before .loop-test .taken) (c .shared-slice-known .given (c .before .before .loop .i) .fits) (c .before .before .loop .inv) }
+add-v c =
+    let at-loop = c .before .before in
+    record { fits = room _ _ _ _ (at-loop .before .pre) (c .before .loop-test .taken) (c .shared-slice-known .given (at-loop .loop .i) .fits) (at-loop .loop .inv) }
 
 add-i : tie.Need-add-i Inv-loop μ-loop
 add-i c = omega arith

@@ -9,18 +9,19 @@ use Rattle.polygon_take.proofs.corner.Tie as tie
 
 known-requires : tie.Need-known-requires
 known-requires c κs =
-    let s = c .before .before in
-    (simp length-take (omega (arith, s .pre .0)), point-parts (s .args .little) (s .args .s .now) (s .pre .1) .0)
+    let at-start = c .before .before in
+    (simp length-take (omega (arith, at-start .pre .0)), point-parts (at-start .args .little) (at-start .args .s .now) (at-start .pre .1) .0)
 
 known-requires-2 : tie.Need-known-requires-2
 known-requires-2 c κs =
-    let s = c .before .before .before .before in
-    (simp (length-take, length-drop) (omega (arith, s .pre .0)), point-parts (s .args .little) (s .args .s .now) (s .pre .1) .1)
+    let at-start = c .before .before .before .before in
+    (simp (length-take, length-drop) (omega (arith, at-start .pre .0)), point-parts (at-start .args .little) (at-start .args .s .now) (at-start .pre .1) .1)
 
 returns : tie.Need-returns
 returns c =
-    let s = c .before .before .before .before .before in
-    point-corner (s .args .little) (s .args .s .now) (c .before .before .known .result) (c .known2 .result) (c .before .before .known .ensures) (c .known2 .ensures)
+    let at-known = c .before .before in let at-start = at-known .before .before .before in
+    point-corner (at-start .args .little) (at-start .args .s .now) (at-known .known .result) (c .known2 .result)
+    (at-known .known .ensures) (c .known2 .ensures)
 
 pub corner-spec : {M : Type 1} → statement M
 corner-spec =

@@ -9,14 +9,18 @@ use Rattle.polygon_take.proofs.eight.Statement.{statement}
 use Rattle.polygon_take.proofs.eight.Tie as tie
 
 returns : tie.Need-returns
-returns c = c .before .little .ensures ∙ ap (λ (b : Bool). numberIn b (c .before .before .before .args .s .now)) (sym (c .if1 .taken))
+returns c =
+    let at-little = c .before in
+    at-little .little .ensures ∙ ap (λ (b : Bool). numberIn b (at-little .before .before .args .s .now)) (sym (c .if1 .taken))
 
 returns-2 : tie.Need-returns-2
 returns-2 c =
-    let s = c .before .before .before .before in
+    let at-little = c .before .before in let at-shared-slice-known = at-little .before in
+    let at-start = at-shared-slice-known .before in
     c .swapped .ensures
-    ∙ eight-swapped (s .args .s .now) (c .before .before .little .result) (s .pre) (λ i. c .before .before .before .shared-slice-known .given i .fits) (c .before .before .little .ensures)
-    ∙ ap (λ (b : Bool). numberIn b (s .args .s .now)) (sym (c .before .if1 .left))
+    ∙ eight-swapped (at-start .args .s .now) (at-little .little .result) (at-start .pre)
+    (λ i. at-shared-slice-known .shared-slice-known .given i .fits) (at-little .little .ensures)
+    ∙ ap (λ (b : Bool). numberIn b (at-start .args .s .now)) (sym (c .before .if1 .left))
 
 pub eight-spec : {M : Type 1} → statement M
 eight-spec = tie.close (tie.spec (λ c κs. search needs) (λ c κs. search needs) returns returns-2)

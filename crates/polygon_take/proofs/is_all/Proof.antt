@@ -19,8 +19,8 @@ shl-result c = omega (arith, reach-range (c .args .size) (c .pre .0) .0)
 
 returns : tie.Need-returns
 returns c =
-    let s = c .before in
-    ap₂ eqb (panels-back (s .args .size) (s .args .n) (s .pre .1)) (c .digits .ensures)
+    let at-start = c .before in
+    ap₂ eqb (panels-back (at-start .args .size) (at-start .args .n) (at-start .pre .1)) (c .digits .ensures)
 
 pub is-all-spec : {M : Type 1} → statement M
 is-all-spec = tie.close (tie.spec mul-result sub-result shl-result (λ c κs. search needs) returns)

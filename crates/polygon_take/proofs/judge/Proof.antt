@@ -34,18 +34,23 @@ second m x y v e g = sym (ap (both (wholeOf m x)) (sym e ∙ g) ∙ any (wholeOf
 
 returns : tie.Need-returns
 returns c =
-    let s = c .before .before .before .before .before .before .before .before in
-    good (s .args .most) (s .args .p .x) (s .args .p .y) _ _ _ _ (c .before .before .before .before .before .before .before .whole-of .ensures) (c .before .before .before .whole-of2 .ensures) (c .before .before .before .before .before .x .given .1) (c .before .y .given .1) (record { sfits = c .before .before .before .before .known-told .given .0 .1 }) (record { sfits = c .known-told2 .given .0 .1 })
+    let at-whole-of2 = c .before .before .before in let at-x = at-whole-of2 .before .before in
+    let at-whole-of = at-x .before .before in let at-start = at-whole-of .before in
+    good (at-start .args .most) (at-start .args .p .x) (at-start .args .p .y) _ _ _ _ (at-whole-of .whole-of .ensures)
+    (at-whole-of2 .whole-of2 .ensures) (at-x .x .given .1) (c .before .y .given .1)
+    (record { sfits = at-whole-of2 .before .known-told .given .0 .1 }) (record { sfits = c .known-told2 .given .0 .1 })
 
 returns-2 : tie.Need-returns-2
 returns-2 c =
-    let s = c .before .before .before .before .before .before .before in
-    second (s .args .most) (s .args .p .x) (s .args .p .y) _ (c .before .before .whole-of2 .ensures) (c .enum-told .given .1)
+    let at-whole-of2 = c .before .before in let at-start = at-whole-of2 .before .before .before .before .before in
+    second (at-start .args .most) (at-start .args .p .x) (at-start .args .p .y) _ (at-whole-of2 .whole-of2 .ensures)
+    (c .enum-told .given .1)
 
 returns-3 : tie.Need-returns-3
 returns-3 c =
-    let s = c .before .before .before in
-    first (s .args .most) (s .args .p .x) (s .args .p .y) _ (c .before .before .whole-of .ensures) (c .enum-told2 .given .1)
+    let at-whole-of = c .before .before in let at-start = at-whole-of .before in
+    first (at-start .args .most) (at-start .args .p .x) (at-start .args .p .y) _ (at-whole-of .whole-of .ensures)
+    (c .enum-told2 .given .1)
 
 pub judge-spec : {M : Type 1} → statement M
 judge-spec =

@@ -16,21 +16,24 @@ before c = subst (λ (b : ℕ). IsAccepted (ofBits binary64 b)) (sym (c .eight .
 
 returns : tie.Need-returns
 returns c =
-    let e = c .before in
-    known-zero (e .eight .result) (before e) (c .if1 .taken) ∙ ap (λ (b : ℕ). wholeOf farthest (ofBits binary64 b)) (e .eight .ensures)
+    let at-eight = c .before in
+    known-zero (at-eight .eight .result) (before at-eight) (c .if1 .taken)
+    ∙ ap (λ (b : ℕ). wholeOf farthest (ofBits binary64 b)) (at-eight .eight .ensures)
 
 panels-requires : tie.Need-panels-requires
 panels-requires c κs = known-reach (c .before .eight .result) (before (c .before)) (c .if1 .left)
 
 signed-requires : tie.Need-signed-requires
-signed-requires c κs = let e = c .before .before in known-le (e .eight .result) (before e) (c .panels .result) (c .panels .ensures)
+signed-requires c κs =
+    let at-eight = c .before .before in
+    known-le (at-eight .eight .result) (before at-eight) (c .panels .result) (c .panels .ensures)
 
 returns-2 : tie.Need-returns-2
 returns-2 c =
-    let e = c .before .before .before in
+    let at-eight = c .before .before .before in
     let p = c .before .panels in
-    known-is (e .eight .result) (before e) (p .result) (p .ensures) (c .signed .result) (c .signed .ensures)
-    ∙ ap (λ (b : ℕ). wholeOf farthest (ofBits binary64 b)) (e .eight .ensures)
+    known-is (at-eight .eight .result) (before at-eight) (p .result) (p .ensures) (c .signed .result) (c .signed .ensures)
+    ∙ ap (λ (b : ℕ). wholeOf farthest (ofBits binary64 b)) (at-eight .eight .ensures)
 
 pub known-spec : {M : Type 1} → statement M
 known-spec =

@@ -55,7 +55,9 @@ cast-v : tie.Need-cast-v Inv-loop μ-loop
 cast-v c = omega (arith, c .shared-slice-known .given (c .before .before .loop .i - 1))
 
 add-v : tie.Need-add-v Inv-loop μ-loop
-add-v c = record { fits = room _ _ _ _ (c .before .before .before .pre) (c .before .loop-test .taken) (c .shared-slice-known .given (c .before .before .loop .i - 1) .fits) (c .before .before .loop .inv) }
+add-v c =
+    let at-loop = c .before .before in
+    record { fits = room _ _ _ _ (at-loop .before .pre) (c .before .loop-test .taken) (c .shared-slice-known .given (at-loop .loop .i - 1) .fits) (at-loop .loop .inv) }
 
 sub-i : tie.Need-sub-i Inv-loop μ-loop
 sub-i c = omega arith

@@ -28,10 +28,16 @@ returns : tie.Need-returns
 returns c = little _ _ (c .before .starts .ensures) (c .if1 .taken)
 
 returns-2 : tie.Need-returns-2
-returns-2 c = ap (λ (x : Bool). pickOrder x Big Neither) (sym (c .if2 .taken)) ∙ other _ _ _ (c .before .before .before .before .starts .ensures) (c .before .starts2 .ensures) (c .before .before .before .if1 .left)
+returns-2 c =
+    let at-if1 = c .before .before .before in
+    ap (λ (x : Bool). pickOrder x Big Neither) (sym (c .if2 .taken))
+    ∙ other _ _ _ (at-if1 .before .starts .ensures) (c .before .starts2 .ensures) (at-if1 .if1 .left)
 
 returns-3 : tie.Need-returns-3
-returns-3 c = ap (λ (x : Bool). pickOrder x Big Neither) (sym (c .if2 .left)) ∙ other _ _ _ (c .before .before .before .before .starts .ensures) (c .before .starts2 .ensures) (c .before .before .before .if1 .left)
+returns-3 c =
+    let at-if1 = c .before .before .before in
+    ap (λ (x : Bool). pickOrder x Big Neither) (sym (c .if2 .left))
+    ∙ other _ _ _ (at-if1 .before .starts .ensures) (c .before .starts2 .ensures) (at-if1 .if1 .left)
 
 pub order-spec : {M : Type 1} → statement M
 order-spec =

@@ -7,10 +7,12 @@ use Rattle.polygon_take.proofs.point.Statement.{statement}
 use Rattle.polygon_take.proofs.point.Tie as tie
 
 returns : tie.Need-returns
-returns c = record {
-  x = c .before .before .before .float-of .ensures ∙ ap floatKept (c .before .before .before .before .eight .ensures);
-  y = c .float-of2 .ensures ∙ ap floatKept (c .before .eight2 .ensures);
-}
+returns c =
+    let at-float-of = c .before .before .before in
+    record {
+      x = at-float-of .float-of .ensures ∙ ap floatKept (at-float-of .before .eight .ensures);
+      y = c .float-of2 .ensures ∙ ap floatKept (c .before .eight2 .ensures);
+    }
 
 pub point-spec : {M : Type 1} → statement M
 point-spec =

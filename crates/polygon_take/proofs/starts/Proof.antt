@@ -20,7 +20,10 @@ loop-holds : tie.Need-loop-holds Inv-loop μ-loop
 loop-holds c = (omega arith, refl)
 
 returns : tie.Need-returns Inv-loop μ-loop
-returns c = sym (c .before .before .loop .inv .1 ∙ starts-short (c .before .before .before .args .p .now) (c .before .before .before .args .s .now) (c .before .before .loop .i) (omega arith) (omega arith))
+returns c =
+    let at-loop = c .before .before in
+    sym (at-loop .loop .inv .1 ∙ starts-short (at-loop .before .args .p .now) (at-loop .before .args .s .now) (at-loop .loop .i)
+    (omega arith) (omega arith))
 
 shared-slice-read-if2 : tie.Need-shared-slice-read-if2 Inv-loop μ-loop
 shared-slice-read-if2 c = omega arith
@@ -29,7 +32,10 @@ shared-slice-read-if2-2 : tie.Need-shared-slice-read-if2-2 Inv-loop μ-loop
 shared-slice-read-if2-2 c = omega arith
 
 returns-2 : tie.Need-returns-2 Inv-loop μ-loop
-returns-2 c = sym (c .before .before .before .before .before .loop .inv .1 ∙ starts-other (c .before .before .before .before .before .before .args .p .now) (c .before .before .before .before .before .before .args .s .now) (c .before .before .before .before .before .loop .i) (omega arith) (omega arith) (c .if2 .taken))
+returns-2 c =
+    let at-loop = c .before .before .before .before .before in
+    sym (at-loop .loop .inv .1 ∙ starts-other (at-loop .before .args .p .now) (at-loop .before .args .s .now) (at-loop .loop .i)
+    (omega arith) (omega arith) (c .if2 .taken))
 
 add-i : tie.Need-add-i Inv-loop μ-loop
 add-i c = omega arith
@@ -38,7 +44,9 @@ loop-less : tie.Need-loop-less Inv-loop μ-loop
 loop-less c = omega arith
 
 loop-again : tie.Need-loop-again Inv-loop μ-loop
-loop-again c = (omega arith, c .before .before .before .before .before .loop .inv .1 ∙ starts-same (c .before .before .before .before .before .before .args .p .now) (c .before .before .before .before .before .before .args .s .now) (c .before .before .before .before .before .loop .i) (omega arith) (omega arith) (c .if2 .left))
+loop-again c =
+    let at-loop = c .before .before .before .before .before in
+    (omega arith, at-loop .loop .inv .1 ∙ starts-same (at-loop .before .args .p .now) (at-loop .before .args .s .now) (at-loop .loop .i) (omega arith) (omega arith) (c .if2 .left))
 
 returns-3 : tie.Need-returns-3 Inv-loop μ-loop
 returns-3 c = sym (c .before .loop .inv .1 ∙ starts-all (c .before .before .args .p .now) (c .before .before .args .s .now) (c .before .loop .i) (omega arith))

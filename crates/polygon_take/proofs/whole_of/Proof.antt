@@ -16,40 +16,50 @@ float-to-bits-bits : tie.Need-float-to-bits-bits
 float-to-bits-bits c = c .pre .1
 
 returns : tie.Need-returns
-returns c = let s = c .before in whole-zero (s .args .most) (s .pre .0) (s .args .x) (held s) (c .if1 .taken)
+returns c =
+    let at-start = c .before in
+    whole-zero (at-start .args .most) (at-start .pre .0) (at-start .args .x) (held at-start) (c .if1 .taken)
 
 returns-2 : tie.Need-returns-2
 returns-2 c =
-    let s = c .before .before .before in
-    whole-out (s .args .most) (s .pre .0) (s .args .x) (held s) (c .before .before .if1 .left) (reach-not _ (c .before .in-reach .result) (c .before .in-reach .ensures) (c .if2 .taken))
+    let at-in-reach = c .before in let at-if1 = at-in-reach .before in let at-start = at-if1 .before in
+    whole-out (at-start .args .most) (at-start .pre .0) (at-start .args .x) (held at-start) (at-if1 .if1 .left)
+    (reach-not _ (at-in-reach .in-reach .result) (at-in-reach .in-reach .ensures) (c .if2 .taken))
 
 panels-requires : tie.Need-panels-requires
 panels-requires c κs = reach-yes _ (c .before .in-reach .result) (c .before .in-reach .ensures) (c .if2 .left)
 
 returns-3 : tie.Need-returns-3
 returns-3 c =
-    let s = c .before .before .before .before .before in
+    let at-start = c .before .before .before .before .before in
     let p = c .before .panels in
-    whole-far (s .args .most) (s .pre .0) (s .args .x) (held s) (p .result) (p .ensures) (c .if3 .taken)
+    whole-far (at-start .args .most) (at-start .pre .0) (at-start .args .x) (held at-start) (p .result) (p .ensures)
+    (c .if3 .taken)
 
 is-all-requires : tie.Need-is-all-requires
 is-all-requires c κs =
-    let r = c .before .before .before .in-reach in
-    (reach-yes _ (r .result) (r .ensures) (c .before .before .if2 .left), c .before .panels .ensures)
+    let at-panels = c .before in
+    let r = at-panels .before .before .in-reach in
+    (reach-yes _ (r .result) (r .ensures) (at-panels .before .if2 .left), at-panels .panels .ensures)
 
 returns-4 : tie.Need-returns-4
 returns-4 c =
-    let s = c .before .before .before .before .before .before .before .before in
-    let p = c .before .before .before .before .panels in
-    let r = c .before .before .before .before .before .before .in-reach in
-    whole-is (s .args .most) (s .pre .0) (s .args .x) (held s) (p .result) (p .ensures) (c .signed .result)
-    (reach-yes _ (r .result) (r .ensures) (c .before .before .before .before .before .if2 .left)) (c .before .before .before .if3 .left) (sym (c .before .before .is-all .ensures) ∙ c .before .if4 .taken) (c .signed .ensures)
+    let at-is-all = c .before .before in let at-if3 = at-is-all .before in let at-if2 = at-if3 .before .before in
+    let at-in-reach = at-if2 .before in let at-start = at-in-reach .before .before in
+    let p = at-if3 .before .panels in
+    let r = at-in-reach .in-reach in
+    whole-is (at-start .args .most) (at-start .pre .0) (at-start .args .x) (held at-start) (p .result) (p .ensures)
+    (c .signed .result)
+    (reach-yes _ (r .result) (r .ensures) (at-if2 .if2 .left)) (at-if3 .if3 .left)
+    (sym (at-is-all .is-all .ensures) ∙ c .before .if4 .taken) (c .signed .ensures)
 
 returns-5 : tie.Need-returns-5
 returns-5 c =
-    let s = c .before .before .before .before .before .before .before in
-    let p = c .before .before .before .panels in
-    whole-other (s .args .most) (s .pre .0) (s .args .x) (held s) (p .result) (p .ensures) (c .before .before .before .before .before .before .if1 .left) (sym (c .before .is-all .ensures) ∙ c .if4 .left)
+    let at-panels = c .before .before .before in let at-if1 = at-panels .before .before .before in
+    let at-start = at-if1 .before in
+    let p = at-panels .panels in
+    whole-other (at-start .args .most) (at-start .pre .0) (at-start .args .x) (held at-start) (p .result) (p .ensures)
+    (at-if1 .if1 .left) (sym (c .before .is-all .ensures) ∙ c .if4 .left)
 
 pub whole-of-spec : {M : Type 1} → statement M
 whole-of-spec =

@@ -20,53 +20,68 @@ abbrev μ-loop : tie.MeasureT-loop
 
 loop-holds : tie.Need-loop-holds Inv-loop μ-loop
 loop-holds c =
-    let z = c .before .before .before in
-    let a = z .args in
-    (omega arith, refl, mark-start (a .chain .now) (a .from) (a .by .now) (a .map .now) (z .pre))
+    let at-start = c .before .before .before in
+    let a = at-start .args in
+    (omega arith, refl, mark-start (a .chain .now) (a .from) (a .by .now) (a .map .now) (at-start .pre))
 
 slice-read-if1 : tie.Need-slice-read-if1 Inv-loop μ-loop
 slice-read-if1 c =
-    let l = c .before .before .loop in
-    let z = c .before .before .before .before .before .before in
-    mark-in (z .args .chain .now) (l .i) (l .at) (length (l .map)) (l .map) (l .inv .2) (omega (arith, l .inv .1, z .pre .fits .few))
+    let at-loop = c .before .before in let at-start = at-loop .before .before .before .before in
+    let l = at-loop .loop in
+    mark-in (at-start .args .chain .now) (l .i) (l .at) (length (l .map)) (l .map) (l .inv .2)
+    (omega (arith, l .inv .1, at-start .pre .fits .few))
 
 returns : tie.Need-returns Inv-loop μ-loop
 returns c =
-    let l = c .before .before .before .loop in
-    mark-again (c .before .before .before .before .before .before .before .args .chain .now) (l .i) (l .at) (l .map) (l .inv .2) (c .before .before .loop-test .taken) (λ e. c .if1 .taken e)
+    let at-loop-test = c .before .before in let at-loop = at-loop-test .before in
+    let at-start = at-loop .before .before .before .before in
+    let l = at-loop .loop in
+    mark-again (at-start .args .chain .now) (l .i) (l .at) (l .map) (l .inv .2) (at-loop-test .loop-test .taken)
+    (λ e. c .if1 .taken e)
 
 slice-write-map : tie.Need-slice-write-map Inv-loop μ-loop
 slice-write-map c =
-    let l = c .before .before .before .loop in
-    let z = c .before .before .before .before .before .before .before in
-    mark-in (z .args .chain .now) (l .i) (l .at) (length (l .map)) (l .map) (l .inv .2) (omega (arith, l .inv .1, z .pre .fits .few))
+    let at-loop = c .before .before .before in let at-start = at-loop .before .before .before .before in
+    let l = at-loop .loop in
+    mark-in (at-start .args .chain .now) (l .i) (l .at) (length (l .map)) (l .map) (l .inv .2)
+    (omega (arith, l .inv .1, at-start .pre .fits .few))
 
 cast-wrapping-add-usize : tie.Need-cast-wrapping-add-usize Inv-loop μ-loop
-cast-wrapping-add-usize c = record { fits = omega (arith, c .before .before .before .before .before .before .before .before .pre .fits .steps .digits (c .before .before .before .before .loop .i)) }
+cast-wrapping-add-usize c =
+    let at-loop = c .before .before .before .before in let at-start = at-loop .before .before .before .before in
+    record { fits = omega (arith, at-start .pre .fits .steps .digits (at-loop .loop .i)) }
 
 mul-wrapping-add-usize : tie.Need-mul-wrapping-add-usize Inv-loop μ-loop
-mul-wrapping-add-usize c = record { fits = omega (arith, c .before .before .before .before .before .before .before .before .pre .fits .steps .digits (c .before .before .before .before .loop .i)) }
+mul-wrapping-add-usize c =
+    let at-loop = c .before .before .before .before in let at-start = at-loop .before .before .before .before in
+    record { fits = omega (arith, at-start .pre .fits .steps .digits (at-loop .loop .i)) }
 
 shared-slice-read-wrapping-add-usize-2 : tie.Need-shared-slice-read-wrapping-add-usize-2 Inv-loop μ-loop
 unfolding placeSteps
-shared-slice-read-wrapping-add-usize-2 c = omega (arith, c .before .before .before .before .before .before .before .before .before .pre .fits .steps .digits (c .before .before .before .before .before .loop .i), ap length (c .before .before .before .before .before .before .before .before .before .pre .table))
+shared-slice-read-wrapping-add-usize-2 c =
+    let at-loop = c .before .before .before .before .before in let at-start = at-loop .before .before .before .before in
+    omega (arith, at-start .pre .fits .steps .digits (at-loop .loop .i), ap length (at-start .pre .table))
 
 loop-again : tie.Need-loop-again Inv-loop μ-loop
 loop-again c =
-    let l = c .before .before .before .before .before .before .loop in
-    let z = c .before .before .before .before .before .before .before .before .before .before in
-    let a = z .args .chain .now in
-    let h : l .at < length (l .map) = mark-in a (l .i) (l .at) (length (l .map)) (l .map) (l .inv .2) (omega (arith, l .inv .1, z .pre .fits .few)) in (
+    let at-if1 = c .before .before .before in let at-loop-test = at-if1 .before .before in let at-loop = at-loop-test .before in
+    let at-start = at-loop .before .before .before .before in
+    let l = at-loop .loop in
+    let a = at-start .args .chain .now in
+    let h : l .at < length (l .map) = mark-in a (l .i) (l .at) (length (l .map)) (l .map) (l .inv .2) (omega (arith, l .inv .1, at-start .pre .fits .few)) in (
       omega arith,
       length-set (l .map) (l .at) 1 ∙ l .inv .1,
-      mark-step a (l .i) (l .at) (l .map) (l .inv .2) (c .before .before .before .before .before .loop-test .taken) (c .before .before .before .if1 .left) h (c .wrapping-add-usize .result) (z .pre .fits .steps)
-          (c .wrapping-add-usize .ensures ∙ ap (λ (t : List ℕ). (l .at + getD t (getD a (l .i) 0) 0) % 2 ^ 64) (z .pre .table)),
+      mark-step a (l .i) (l .at) (l .map) (l .inv .2) (at-loop-test .loop-test .taken) (at-if1 .if1 .left) h
+          (c .wrapping-add-usize .result) (at-start .pre .fits .steps)
+          (c .wrapping-add-usize .ensures ∙ ap (λ (t : List ℕ). (l .at + getD t (getD a (l .i) 0) 0) % 2 ^ 64)
+          (at-start .pre .table)),
     )
 
 returns-2 : tie.Need-returns-2 Inv-loop μ-loop
 returns-2 c =
+    let at-start = c .before .before .before .before .before in
     let l = c .before .loop in
-    mark-end (c .before .before .before .before .before .args .chain .now) (l .i) (l .at) (l .map) (l .inv .2) (c .loop-test .left)
+    mark-end (at-start .args .chain .now) (l .i) (l .at) (l .map) (l .inv .2) (c .loop-test .left)
 
 pub lone-spec : {M : Type 1} → statement M
 lone-spec =

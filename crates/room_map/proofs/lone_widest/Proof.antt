@@ -8,10 +8,10 @@ use Rattle.room_map.proofs.lone_widest.Tie as tie
 
 lone-requires : tie.Need-lone-requires
 lone-requires c κs =
-    let z = c .before .before .before .before in
-    let a = z .args in
-    let s = c .before .before .wrapping-sub-usize in
-    blank-map (a .chain .now) (a .from) (a .w) 131072 (z .pre) (s .result) (s .ensures) (omega (arith, s .ok))
+    let at-wrapping-sub-usize = c .before .before in let at-start = at-wrapping-sub-usize .before .before in
+    let a = at-start .args in
+    let s = at-wrapping-sub-usize .wrapping-sub-usize in
+    blank-map (a .chain .now) (a .from) (a .w) 131072 (at-start .pre) (s .result) (s .ensures) (omega (arith, s .ok))
 
 pub lone-widest-spec : {M : Type 1} → statement M
 lone-widest-spec =

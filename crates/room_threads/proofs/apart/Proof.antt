@@ -20,38 +20,45 @@ abbrev μ-loop : tie.MeasureT-loop
 
 loop-holds : tie.Need-loop-holds Inv-loop μ-loop
 loop-holds c =
-    let z = c .before .before .before .before in
-    (omega arith, refl, part-start (z .args .head .now) (z .args .next .now) (z .args .hs .now) (z .args .stamps .now) (z .pre .3))
+    let at-start = c .before .before .before .before in
+    (omega arith, refl, part-start (at-start .args .head .now) (at-start .args .next .now) (at-start .args .hs .now) (at-start .args .stamps .now) (at-start .pre .3))
 
 follow-requires : tie.Need-follow-requires Inv-loop μ-loop
 follow-requires c κs =
-    let l = c .before .before .before .loop in
-    let z = c .before .before .before .before .before .before .before .before in
-    (subst (Leads (z .args .next .now) (z .args .hs .now)) (sym (l .inv .1)) (z .pre .0), z .pre .1 (l .c))
+    let at-loop = c .before .before .before in let at-start = at-loop .before .before .before .before .before in
+    let l = at-loop .loop in
+    (subst (Leads (at-start .args .next .now) (at-start .args .hs .now)) (sym (l .inv .1)) (at-start .pre .0), at-start .pre .1 (l .c))
 
 returns : tie.Need-returns Inv-loop μ-loop
 returns c =
-    let l = c .before .before .before .before .before .before .before .loop in
-    let a = c .before .before .before .before .before .before .before .before .before .before .before .before .args in
-    let f = c .before .before .before .follow in
+    let at-follow = c .before .before .before in let at-loop = at-follow .before .before .before .before in
+    let at-start = at-loop .before .before .before .before .before in
+    let l = at-loop .loop in
+    let a = at-start .args in
+    let f = at-follow .follow in
     part-twice (a .head .now) (a .next .now) (a .hs .now) (l .c) (l .stamps) (f .last .1 .1 .1 .1 .0) (l .inv .2) (omega arith)
-    (subst (λ (b : Bool). ThreadFollowed (a .next .now) (a .hs .now) (l .stamps) (l .c + 1) (getD (a .head .now) (l .c) 0) b (f .last .1 .1 .1 .1 .0)) (not-true (f .result) (c .if1 .taken)) (f .ensures))
+    (subst (λ (b : Bool). ThreadFollowed (a .next .now) (a .hs .now) (l .stamps) (l .c + 1) (getD (a .head .now) (l .c) 0) b
+    (f .last .1 .1 .1 .1 .0)) (not-true (f .result) (c .if1 .taken)) (f .ensures))
 
 loop-again : tie.Need-loop-again Inv-loop μ-loop
 loop-again c =
-    let l = c .before .before .before .before .before .before .before .loop in
-    let a = c .before .before .before .before .before .before .before .before .before .before .before .before .args in
-    let f = c .before .before .before .follow in (
+    let at-follow = c .before .before .before in let at-loop = at-follow .before .before .before .before in
+    let at-start = at-loop .before .before .before .before .before in
+    let l = at-loop .loop in
+    let a = at-start .args in
+    let f = at-follow .follow in (
       omega arith,
       f .kept .1 .1 .1 .1 .0 ∙ l .inv .1,
       part-step (a .head .now) (a .next .now) (a .hs .now) (l .c) (l .stamps) (f .last .1 .1 .1 .1 .0) (l .inv .2) (omega arith)
-          (subst (λ (b : Bool). ThreadFollowed (a .next .now) (a .hs .now) (l .stamps) (l .c + 1) (getD (a .head .now) (l .c) 0) b (f .last .1 .1 .1 .1 .0)) (not-false (f .result) (c .if1 .left)) (f .ensures)),
+          (subst (λ (b : Bool). ThreadFollowed (a .next .now) (a .hs .now) (l .stamps) (l .c + 1) (getD (a .head .now) (l .c) 0) b
+          (f .last .1 .1 .1 .1 .0)) (not-false (f .result) (c .if1 .left)) (f .ensures)),
     )
 
 returns-2 : tie.Need-returns-2 Inv-loop μ-loop
 returns-2 c =
+    let at-start = c .before .before .before .before .before .before in
     let l = c .before .loop in
-    let a = c .before .before .before .before .before .before .args in
+    let a = at-start .args in
     part-end (a .head .now) (a .next .now) (a .hs .now) (l .c) (l .stamps) (l .inv .2) (omega arith)
 
 pub apart-spec : {M : Type 1} → statement M

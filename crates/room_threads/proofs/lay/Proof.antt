@@ -18,92 +18,106 @@ abbrev μ-loop : tie.MeasureT-loop
 
 loop-holds : tie.Need-loop-holds Inv-loop μ-loop
 loop-holds c =
-    let z = c .before .before .before .before in
-    let a = z .args in
-    (omega arith, refl, refl, refl, lay-start (a .chain .now) (a .m) (a .head .now) (a .next .now) (a .hs .now) (z .pre .4) (z .pre .5) (z .pre .6))
+    let at-start = c .before .before .before .before in
+    let a = at-start .args in
+    (omega arith, refl, refl, refl, lay-start (a .chain .now) (a .m) (a .head .now) (a .next .now) (a .hs .now) (at-start .pre .4) (at-start .pre .5) (at-start .pre .6))
 
 cast-next : tie.Need-cast-next Inv-loop μ-loop
 cast-next c =
-    let l = c .before .before .loop in
-    let z = c .before .before .before .before .before .before .before in
-    let a = z .args in
-    let b = lay-bounds (a .chain .now) (a .m) (l .x) (l .y) (l .i) (l .head) (l .next) (l .hs) (length (a .head .now)) (l .inv .4) (z .pre .0) (omega arith) in
-    record { fits = omega (arith, b .1, z .pre .0 .narrow) }
+    let at-loop = c .before .before in let at-start = at-loop .before .before .before .before .before in
+    let l = at-loop .loop in
+    let a = at-start .args in
+    let b = lay-bounds (a .chain .now) (a .m) (l .x) (l .y) (l .i) (l .head) (l .next) (l .hs) (length (a .head .now)) (l .inv .4)
+    (at-start .pre .0) (omega arith) in
+    record { fits = omega (arith, b .1, at-start .pre .0 .narrow) }
 
 mul-next : tie.Need-mul-next Inv-loop μ-loop
 mul-next c =
-    let l = c .before .before .loop in
-    let z = c .before .before .before .before .before .before .before in
-    let a = z .args in
-    let b = lay-bounds (a .chain .now) (a .m) (l .x) (l .y) (l .i) (l .head) (l .next) (l .hs) (length (a .head .now)) (l .inv .4) (z .pre .0) (omega arith) in
-    record { fits = omega (arith, b .1, z .pre .0 .narrow) }
+    let at-loop = c .before .before in let at-start = at-loop .before .before .before .before .before in
+    let l = at-loop .loop in
+    let a = at-start .args in
+    let b = lay-bounds (a .chain .now) (a .m) (l .x) (l .y) (l .i) (l .head) (l .next) (l .hs) (length (a .head .now)) (l .inv .4)
+    (at-start .pre .0) (omega arith) in
+    record { fits = omega (arith, b .1, at-start .pre .0 .narrow) }
 
 slice-read-next : tie.Need-slice-read-next Inv-loop μ-loop
 slice-read-next c =
-    let l = c .before .before .before .loop in
-    let z = c .before .before .before .before .before .before .before .before in
-    let a = z .args in
-    let b = lay-bounds (a .chain .now) (a .m) (l .x) (l .y) (l .i) (l .head) (l .next) (l .hs) (length (a .head .now)) (l .inv .4) (z .pre .0) (omega arith) in
+    let at-loop = c .before .before .before in let at-start = at-loop .before .before .before .before .before in
+    let l = at-loop .loop in
+    let a = at-start .args in
+    let b = lay-bounds (a .chain .now) (a .m) (l .x) (l .y) (l .i) (l .head) (l .next) (l .hs) (length (a .head .now)) (l .inv .4)
+    (at-start .pre .0) (omega arith) in
     omega (arith, b .1, l .inv .1)
 
 cast-head-2 : tie.Need-cast-head-2 Inv-loop μ-loop
 cast-head-2 c =
-    let l = c .before .before .before .loop in
-    let z = c .before .before .before .before .before .before .before .before in
-    let a = z .args in
-    let b = lay-bounds (a .chain .now) (a .m) (l .x) (l .y) (l .i) (l .head) (l .next) (l .hs) (length (a .head .now)) (l .inv .4) (z .pre .0) (omega arith) in
-    record { fits = omega (arith, b .1, z .pre .0 .narrow) }
+    let at-loop = c .before .before .before in let at-start = at-loop .before .before .before .before .before in
+    let l = at-loop .loop in
+    let a = at-start .args in
+    let b = lay-bounds (a .chain .now) (a .m) (l .x) (l .y) (l .i) (l .head) (l .next) (l .hs) (length (a .head .now)) (l .inv .4)
+    (at-start .pre .0) (omega arith) in
+    record { fits = omega (arith, b .1, at-start .pre .0 .narrow) }
 
 mul-head : tie.Need-mul-head Inv-loop μ-loop
 mul-head c =
-    let l = c .before .before .before .loop in
-    let z = c .before .before .before .before .before .before .before .before in
-    let a = z .args in
-    let b = lay-bounds (a .chain .now) (a .m) (l .x) (l .y) (l .i) (l .head) (l .next) (l .hs) (length (a .head .now)) (l .inv .4) (z .pre .0) (omega arith) in
-    record { fits = omega (arith, b .1, z .pre .0 .narrow) }
+    let at-loop = c .before .before .before in let at-start = at-loop .before .before .before .before .before in
+    let l = at-loop .loop in
+    let a = at-start .args in
+    let b = lay-bounds (a .chain .now) (a .m) (l .x) (l .y) (l .i) (l .head) (l .next) (l .hs) (length (a .head .now)) (l .inv .4)
+    (at-start .pre .0) (omega arith) in
+    record { fits = omega (arith, b .1, at-start .pre .0 .narrow) }
 
 slice-write-head : tie.Need-slice-write-head Inv-loop μ-loop
 slice-write-head c =
-    let l = c .before .before .before .loop in
-    let z = c .before .before .before .before .before .before .before .before in
-    let a = z .args in
-    let b = lay-bounds (a .chain .now) (a .m) (l .x) (l .y) (l .i) (l .head) (l .next) (l .hs) (length (a .head .now)) (l .inv .4) (z .pre .0) (omega arith) in
+    let at-loop = c .before .before .before in let at-start = at-loop .before .before .before .before .before in
+    let l = at-loop .loop in
+    let a = at-start .args in
+    let b = lay-bounds (a .chain .now) (a .m) (l .x) (l .y) (l .i) (l .head) (l .next) (l .hs) (length (a .head .now)) (l .inv .4)
+    (at-start .pre .0) (omega arith) in
     omega (arith, b .1, l .inv .1)
 
 across-requires : tie.Need-across-requires Inv-loop μ-loop
 across-requires c κs =
-    let l = c .before .before .before .before .loop in
-    let z = c .before .before .before .before .before .before .before .before .before in
-    let a = z .args in
-    let b = lay-bounds (a .chain .now) (a .m) (l .x) (l .y) (l .i) (l .head) (l .next) (l .hs) (length (a .head .now)) (l .inv .4) (z .pre .0) (omega arith) in
-    (refl, z .pre .7 (l .i), b .0, omega (arith, b .1, z .pre .0 .narrow))
+    let at-loop = c .before .before .before .before in let at-start = at-loop .before .before .before .before .before in
+    let l = at-loop .loop in
+    let a = at-start .args in
+    let b = lay-bounds (a .chain .now) (a .m) (l .x) (l .y) (l .i) (l .head) (l .next) (l .hs) (length (a .head .now)) (l .inv .4)
+    (at-start .pre .0) (omega arith) in
+    (refl, at-start .pre .7 (l .i), b .0, omega (arith, b .1, at-start .pre .0 .narrow))
 
 upward-requires : tie.Need-upward-requires Inv-loop μ-loop
 upward-requires c κs =
-    let l = c .before .before .before .before .before .before .loop in
-    let z = c .before .before .before .before .before .before .before .before .before .before .before in
-    let a = z .args in
-    let b = lay-bounds (a .chain .now) (a .m) (l .x) (l .y) (l .i) (l .head) (l .next) (l .hs) (length (a .head .now)) (l .inv .4) (z .pre .0) (omega arith) in
-    (refl, z .pre .7 (l .i), b .2, omega (arith, b .3, z .pre .0 .narrow))
+    let at-loop = c .before .before .before .before .before .before in
+    let at-start = at-loop .before .before .before .before .before in
+    let l = at-loop .loop in
+    let a = at-start .args in
+    let b = lay-bounds (a .chain .now) (a .m) (l .x) (l .y) (l .i) (l .head) (l .next) (l .hs) (length (a .head .now)) (l .inv .4)
+    (at-start .pre .0) (omega arith) in
+    (refl, at-start .pre .7 (l .i), b .2, omega (arith, b .3, at-start .pre .0 .narrow))
 
 loop-again : tie.Need-loop-again Inv-loop μ-loop
 loop-again c =
-    let l = c .before .before .before .before .before .before .before .loop in
-    let z = c .before .before .before .before .before .before .before .before .before .before .before .before in
-    let a = z .args in
-    let b = lay-bounds (a .chain .now) (a .m) (l .x) (l .y) (l .i) (l .head) (l .next) (l .hs) (length (a .head .now)) (l .inv .4) (z .pre .0) (omega arith) in (
+    let at-across = c .before .before in let at-loop = at-across .before .before .before .before .before in
+    let at-start = at-loop .before .before .before .before .before in
+    let l = at-loop .loop in
+    let a = at-start .args in
+    let b = lay-bounds (a .chain .now) (a .m) (l .x) (l .y) (l .i) (l .head) (l .next) (l .hs) (length (a .head .now)) (l .inv .4) (at-start .pre .0) (omega arith) in (
       omega arith,
       length-set (l .head) (l .x) (l .i + 1) ∙ l .inv .1,
       length-set (l .next) (l .i) (getD (l .head) (l .x) 0) ∙ l .inv .2,
       length-set (l .hs) (l .i) (l .y) ∙ l .inv .3,
-      lay-step (a .chain .now) (a .m) (l .x) (l .y) (l .i) (l .head) (l .next) (l .hs) (l .inv .4) (omega arith) (c .before .before .across .result) (c .upward .result) (c .before .before .across .ensures) (c .upward .ensures) (omega (arith, b .1, l .inv .1)) (omega (arith, l .inv .2)) (omega (arith, l .inv .3)),
+      lay-step (a .chain .now) (a .m) (l .x) (l .y) (l .i) (l .head) (l .next) (l .hs) (l .inv .4) (omega arith)
+          (at-across .across .result) (c .upward .result) (at-across .across .ensures) (c .upward .ensures)
+          (omega (arith, b .1, l .inv .1)) (omega (arith, l .inv .2)) (omega (arith, l .inv .3)),
     )
 
 returns : tie.Need-returns Inv-loop μ-loop
 returns c =
+    let at-start = c .before .before .before .before .before .before in
     let l = c .before .loop in
-    let a = c .before .before .before .before .before .before .args in
-    subst (λ (n : ℕ). Laid (a .chain .now) (a .m) n (l .head) (l .next) (l .hs)) (all (l .i) (length (a .chain .now)) (l .inv .0) (omega arith)) (l .inv .4 .laid)
+    let a = at-start .args in
+    subst (λ (n : ℕ). Laid (a .chain .now) (a .m) n (l .head) (l .next) (l .hs))
+    (all (l .i) (length (a .chain .now)) (l .inv .0) (omega arith)) (l .inv .4 .laid)
   where
     all : (i n : ℕ) → i ≤ n → n ≤ i → i ≡ n
     all i n h g = omega arith

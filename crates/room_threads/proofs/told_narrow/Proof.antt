@@ -12,19 +12,20 @@ use Rattle.room_threads.proofs.told_narrow.Tie as tie
 
 scattered-requires : tie.Need-scattered-requires
 scattered-requires c κs =
-    let z = c .before .before .before .before .before .before in
-    let a = z .args in
-    let m = c .before .before .before .before .start in
-    let s = closed-stays origin (a .chain .now) (m .result) (z .pre .2 origin .0 refl) (m .ensures .0) in
-    (fresh (a .chain .now) (m .result) (narrowSize + 2) narrowSize (s (narrowSize + 2) (omega (arith, m .ensures .1)) (omega arith)) (omega arith) (omega arith), omega arith, z .pre .3, s (2 * m .result) (omega arith) (omega (arith, m .ensures .1)), omega (arith, m .ensures .1))
+    let at-start-call = c .before .before .before .before in let at-start = at-start-call .before .before in
+    let a = at-start .args in
+    let m = at-start-call .start in
+    let s = closed-stays origin (a .chain .now) (m .result) (at-start .pre .2 origin .0 refl) (m .ensures .0) in
+    (fresh (a .chain .now) (m .result) (narrowSize + 2) narrowSize (s (narrowSize + 2) (omega (arith, m .ensures .1)) (omega arith)) (omega arith) (omega arith), omega arith, at-start .pre .3, s (2 * m .result) (omega arith) (omega (arith, m .ensures .1)), omega (arith, m .ensures .1))
 
 returns : tie.Need-returns
 returns c =
-    let z = c .before .before .before .before .before .before .before .before .before .before .before in
-    let a = z .args in
-    let m = c .before .before .before .before .before .before .before .before .before .start in
-    let f = c .before .before .before .before .scattered in
-    told-closed (a .chain .now) (m .result) (f .result) (z .pre .0) (z .pre .2) (m .ensures .0) (f .ensures)
+    let at-scattered = c .before .before .before .before in
+    let at-start-call = at-scattered .before .before .before .before .before in let at-start = at-start-call .before .before in
+    let a = at-start .args in
+    let m = at-start-call .start in
+    let f = at-scattered .scattered in
+    told-closed (a .chain .now) (m .result) (f .result) (at-start .pre .0) (at-start .pre .2) (m .ensures .0) (f .ensures)
 
 pub told-narrow-spec : {M : Type 1} → statement M
 told-narrow-spec =

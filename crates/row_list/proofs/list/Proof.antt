@@ -7,12 +7,15 @@ use Rattle.row_list.proofs.list.Statement.{statement}
 use Rattle.row_list.proofs.list.Tie as tie
 
 list-room-requires : tie.Need-list-room-requires
-list-room-requires c κs = sym (c .before .before .before .judge .ensures) ∙ c .before .enum-told .given .1
+list-room-requires c κs =
+    let at-enum-told = c .before in
+    sym (at-enum-told .before .before .judge .ensures) ∙ at-enum-told .enum-told .given .1
 
 returns-2 : tie.Need-returns-2
 returns-2 c =
-    let a = c .before .before .before .before .before .args in
-    let j = c .before .before .before .judge in
+    let at-judge = c .before .before .before in
+    let a = at-judge .before .before .args in
+    let j = at-judge .judge in
     refused-call (a .start) (a .chain .now) (a .out .now) _ (sym (j .ensures) ∙ c .before .r .given .1)
 
 pub list-spec : {M : Type 1} → statement M

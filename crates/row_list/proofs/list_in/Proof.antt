@@ -11,34 +11,46 @@ use Rattle.row_list.proofs.list_in.Tie as tie
 
 lay-requires : tie.Need-lay-requires
 lay-requires c κs =
-    let z = c .before .before .before .before .before .before .before .before in
-    let s = z .pre .1 in
-    (store-stays (z .pre .0) s, s .links, omega (arith, s .links, s .values), omega (arith, z .pre .0 .few), s .empty .0, z .pre .0 .digits)
+    let at-start = c .before .before .before .before .before .before .before .before in
+    let s = at-start .pre .1 in
+    (store-stays (at-start .pre .0) s, s .links, omega (arith, s .links, s .values), omega (arith, at-start .pre .0 .few), s .empty .0, at-start .pre .0 .digits)
 
 gather-requires : tie.Need-gather-requires
 gather-requires c κs =
-    let z = c .before .before .before .before .before .before .before .before .before .before .before .before .before .before .before .before .before .before .before .before in
-    let f = c .before .before .before .before .before .before .before .before .before .before .before .lay in
-    let e = c .before .before .before .before .wide .ensures .0 in
-    store-columns (z .pre .0) (z .pre .1) (2 * c .before .before .before .before .wide .result) (ap (λ (k : ℕ). 2 * k) e) (f .kept .1 .1 .0) (f .kept .1 .1 .1 .0) (f .kept .1 .1 .1 .1 .0) (f .ensures)
+    let at-wide = c .before .before .before .before in
+    let at-lay = at-wide .before .before .before .before .before .before .before in
+    let at-start = at-lay .before .before .before .before .before .before .before .before .before in
+    let f = at-lay .lay in
+    let e = at-wide .wide .ensures .0 in
+    store-columns (at-start .pre .0) (at-start .pre .1) (2 * at-wide .wide .result) (ap (λ (k : ℕ). 2 * k) e) (f .kept .1 .1 .0)
+    (f .kept .1 .1 .1 .0) (f .kept .1 .1 .1 .1 .0) (f .ensures)
 
 put-rows-requires : tie.Need-put-rows-requires
 put-rows-requires c κs =
-    let w = c .before .before .before .before .before .before .before .before .before .before .before .before .before .before .before .wide in
-    let z = c .before .before .before .before .before .before .before .before .before .before .before .before .before .before .before .before .before .before .before .before .before .before .before .before .before .before .before .before .before .before .before in
-    let f = c .before .before .before .before .before .before .before .before .before .before .before .before .before .before .before .before .before .before .before .before .before .before .lay in
-    let g = c .before .before .before .before .before .before .before .before .before .before .gather in
+    let at-gather = c .before .before .before .before .before .before .before .before .before .before in
+    let at-wide = at-gather .before .before .before .before .before in
+    let at-lay = at-wide .before .before .before .before .before .before .before in
+    let at-start = at-lay .before .before .before .before .before .before .before .before .before in
+    let w = at-wide .wide in
+    let f = at-lay .lay in
+    let g = at-gather .gather in
     let e = w .ensures .0 in
-    (store-sheet (z .pre .0) (z .pre .1) (2 * w .result) (ap (λ (k : ℕ). 2 * k) e) (f .kept .1 .1 .0) (f .kept .1 .1 .1 .0) (f .kept .1 .1 .1 .1 .0) (f .ensures) (g .kept .1 .1 .0) (g .kept .1 .1 .1 .0) (g .kept .1 .1 .1 .1 .0) (g .ensures) (length (z .args .out .now)) (z .pre .2), z .pre .0 .near .0, z .pre .0 .near .1, omega (arith, z .pre .1 .columns, z .pre .1 .narrow, e))
+    (store-sheet (at-start .pre .0) (at-start .pre .1) (2 * w .result) (ap (λ (k : ℕ). 2 * k) e) (f .kept .1 .1 .0) (f .kept .1 .1 .1 .0) (f .kept .1 .1 .1 .1 .0) (f .ensures) (g .kept .1 .1 .0) (g .kept .1 .1 .1 .0) (g .kept .1 .1 .1 .1 .0) (g .ensures) (length (at-start .args .out .now)) (at-start .pre .2), at-start .pre .0 .near .0, at-start .pre .0 .near .1, omega (arith, at-start .pre .1 .columns, at-start .pre .1 .narrow, e))
 
 returns : tie.Need-returns
 returns c =
-    let w = c .before .before .before .before .before .before .before .before .before .before .before .before .before .before .before .before .before .wide in
-    let z = c .before .before .before .before .before .before .before .before .before .before .before .before .before .before .before .before .before .before .before .before .before .before .before .before .before .before .before .before .before .before .before .before .before in
-    let f = c .before .before .before .before .before .before .before .before .before .before .before .before .before .before .before .before .before .before .before .before .before .before .before .before .lay in
-    let g = c .before .before .before .before .before .before .before .before .before .before .before .before .gather in
+    let at-put-rows = c .before in
+    let at-gather = at-put-rows .before .before .before .before .before .before .before .before .before .before .before in
+    let at-wide = at-gather .before .before .before .before .before in
+    let at-lay = at-wide .before .before .before .before .before .before .before in
+    let at-start = at-lay .before .before .before .before .before .before .before .before .before in
+    let w = at-wide .wide in
+    let f = at-lay .lay in
+    let g = at-gather .gather in
     let e = w .ensures .0 in
-    store-rows (z .pre .0) (z .pre .1) (2 * w .result) (ap (λ (k : ℕ). 2 * k) e) (f .kept .1 .1 .0) (f .kept .1 .1 .1 .0) (f .kept .1 .1 .1 .1 .0) (f .ensures) (g .kept .1 .1 .0) (g .kept .1 .1 .1 .0) (g .kept .1 .1 .1 .1 .0) (g .ensures) (z .args .out .now) (c .before .put-rows .last .1 .1 .1 .1 .1 .1 .0) (c .before .put-rows .ensures)
+    store-rows (at-start .pre .0) (at-start .pre .1) (2 * w .result) (ap (λ (k : ℕ). 2 * k) e) (f .kept .1 .1 .0)
+    (f .kept .1 .1 .1 .0) (f .kept .1 .1 .1 .1 .0) (f .ensures) (g .kept .1 .1 .0) (g .kept .1 .1 .1 .0) (g .kept .1 .1 .1 .1 .0)
+    (g .ensures) (at-start .args .out .now) (at-put-rows .put-rows .last .1 .1 .1 .1 .1 .1 .0) (at-put-rows .put-rows .ensures)
 
 pub list-in-spec : {M : Type 1} → statement M
 list-in-spec =

@@ -8,25 +8,28 @@ use Rattle.row_list.proofs.list_room.Tie as tie
 
 mul-if1 : tie.Need-mul-if1
 mul-if1 c =
-    let z = c .before .before in
-    record { fits = omega (arith, c .vertical .ensures .1, good-walled (z .args .start) (z .args .chain .now) (z .pre) .few) }
+    let at-start = c .before .before in
+    record { fits = omega (arith, c .vertical .ensures .1, good-walled (at-start .args .start) (at-start .args .chain .now) (at-start .pre) .few) }
 
 returns : tie.Need-returns
 returns c =
-    let z = c .before .before .before in
-    call-short (z .args .start) (z .args .chain .now) (z .pre) (c .before .vertical .result) (c .before .vertical .ensures .0) (z .args .out .now) (c .if1 .taken)
+    let at-vertical = c .before in let at-start = at-vertical .before .before in
+    call-short (at-start .args .start) (at-start .args .chain .now) (at-start .pre) (at-vertical .vertical .result)
+    (at-vertical .vertical .ensures .0) (at-start .args .out .now) (c .if1 .taken)
 
 write-requires : tie.Need-write-requires
 write-requires c κs =
-    let z = c .before .before .before .before in
-    let v = c .before .before .vertical in
-    (good-walled (z .args .start) (z .args .chain .now) (z .pre), omega (arith, spans-half (z .args .start) (z .args .chain .now) (z .pre) (v .result) (v .ensures .0)))
+    let at-vertical = c .before .before in let at-start = at-vertical .before .before in
+    let v = at-vertical .vertical in
+    (good-walled (at-start .args .start) (at-start .args .chain .now) (at-start .pre), omega (arith, spans-half (at-start .args .start) (at-start .args .chain .now) (at-start .pre) (v .result) (v .ensures .0)))
 
 returns-2 : tie.Need-returns-2
 returns-2 c =
-    let z = c .before .before .before .before .before .before in
-    let v = c .before .before .before .before .vertical in
-    call-listed (z .args .start) (z .args .chain .now) (z .pre) (v .result) (v .ensures .0) (z .args .out .now) (c .before .write .last .1 .1 .0) (omega arith) (c .before .write .ensures)
+    let at-write = c .before in let at-vertical = at-write .before .before .before in
+    let at-start = at-vertical .before .before in
+    let v = at-vertical .vertical in
+    call-listed (at-start .args .start) (at-start .args .chain .now) (at-start .pre) (v .result) (v .ensures .0)
+    (at-start .args .out .now) (at-write .write .last .1 .1 .0) (omega arith) (at-write .write .ensures)
 
 pub list-room-spec : {M : Type 1} → statement M
 list-room-spec =

@@ -18,10 +18,12 @@ slice-set-from-east c = simp length-set (omega arith)
 
 returns : tie.Need-returns
 returns c =
-    let a = c .before .before .before .args in
-    three-put (a .out .now) (a .o) (toZ w32 (ofZ w32 (a .first .1))) (toZ w32 (ofZ w32 (a .first .0))) (toZ w32 (ofZ w32 (a .last .0))) (a .first .1) (a .first .0) (a .last .0)
-    (toZ-ofZ (sfits-of {w = w32} {z = a .first .1} (c .before .before .struct-told .given .1 .0 .1)))
-    (toZ-ofZ (sfits-of {w = w32} {z = a .first .0} (c .before .struct-told2 .given .0 .1)))
+    let at-struct-told2 = c .before in
+    let a = at-struct-told2 .before .before .args in
+    three-put (a .out .now) (a .o) (toZ w32 (ofZ w32 (a .first .1))) (toZ w32 (ofZ w32 (a .first .0)))
+    (toZ w32 (ofZ w32 (a .last .0))) (a .first .1) (a .first .0) (a .last .0)
+    (toZ-ofZ (sfits-of {w = w32} {z = a .first .1} (at-struct-told2 .before .struct-told .given .1 .0 .1)))
+    (toZ-ofZ (sfits-of {w = w32} {z = a .first .0} (at-struct-told2 .struct-told2 .given .0 .1)))
     (toZ-ofZ (sfits-of {w = w32} {z = a .last .0} (c .struct-told3 .given .0 .1)))
 
 pub put-panels-spec : {M : Type 1} → statement M

@@ -19,7 +19,8 @@ abbrev μ-loop : tie.MeasureT-loop
 
 loop-holds : tie.Need-loop-holds Inv-loop μ-loop
 loop-holds c =
-    let a = c .before .before .before .args in
+    let at-start = c .before .before .before in
+    let a = at-start .args in
     (c .wide .ensures .1, refl, λ l s e. subst (λ (k : ℕ). LineAt (a .next .now) (a .at .now) (a .base) l (a .out .now) (a .o) k (a .o) (a .out .now)) (sym (c .wide .ensures .0)) (line-start (a .next .now) (a .at .now) (a .base) l (a .out .now) (a .o) (a .first) s e))
 
 mul-wide : tie.Need-mul-wide Inv-loop μ-loop
@@ -27,91 +28,104 @@ mul-wide c = record { fits = omega (arith, c .before .loop .inv .0) }
 
 shared-slice-read-wide : tie.Need-shared-slice-read-wide Inv-loop μ-loop
 shared-slice-read-wide c =
-    let l = c .before .before .loop in
-    let z = c .before .before .before .before .before .before in
-    let r = z .pre .0 in
-    let w = line-two (l .inv .2 (r .list) (r .thread) (r .even)) (length (z .args .out .now)) (r .fits) (omega arith) in
+    let at-loop = c .before .before in let at-start = at-loop .before .before .before .before in
+    let l = at-loop .loop in
+    let r = at-start .pre .0 in
+    let w = line-two (l .inv .2 (r .list) (r .thread) (r .even)) (length (at-start .args .out .now)) (r .fits) (omega arith) in
     w .first
 
 mul-put-span : tie.Need-mul-put-span Inv-loop μ-loop
-mul-put-span c = record { fits = omega (arith, c .before .before .before .before .loop .inv .0) }
+mul-put-span c =
+    let at-loop = c .before .before .before .before in
+    record { fits = omega (arith, at-loop .loop .inv .0) }
 
 shared-slice-read-put-span : tie.Need-shared-slice-read-put-span Inv-loop μ-loop
 shared-slice-read-put-span c =
-    let l = c .before .before .before .before .before .loop in
-    let z = c .before .before .before .before .before .before .before .before .before in
-    let r = z .pre .0 in
-    let w = line-two (l .inv .2 (r .list) (r .thread) (r .even)) (length (z .args .out .now)) (r .fits) (omega arith) in
+    let at-loop = c .before .before .before .before .before in let at-start = at-loop .before .before .before .before in
+    let l = at-loop .loop in
+    let r = at-start .pre .0 in
+    let w = line-two (l .inv .2 (r .list) (r .thread) (r .even)) (length (at-start .args .out .now)) (r .fits) (omega arith) in
     omega (arith, w .first, r .store)
 
 sub-put-span-2 : tie.Need-sub-put-span-2 Inv-loop μ-loop
 sub-put-span-2 c =
-    let l = c .before .before .before .before .before .loop in
-    let z = c .before .before .before .before .before .before .before .before .before in
-    let r = z .pre .0 in
-    let w = line-two (l .inv .2 (r .list) (r .thread) (r .even)) (length (z .args .out .now)) (r .fits) (omega arith) in
-    omega (arith, w .there, c .before .before .wide2 .ensures .0)
+    let at-wide2 = c .before .before in let at-loop = at-wide2 .before .before .before in
+    let at-start = at-loop .before .before .before .before in
+    let l = at-loop .loop in
+    let r = at-start .pre .0 in
+    let w = line-two (l .inv .2 (r .list) (r .thread) (r .even)) (length (at-start .args .out .now)) (r .fits) (omega arith) in
+    omega (arith, w .there, at-wide2 .wide2 .ensures .0)
 
 mul-put-span-2 : tie.Need-mul-put-span-2 Inv-loop μ-loop
 mul-put-span-2 c = record { fits = omega (arith, c .before .before .wide2 .ensures .1) }
 
 shared-slice-read-put-span-2 : tie.Need-shared-slice-read-put-span-2 Inv-loop μ-loop
 shared-slice-read-put-span-2 c =
-    let l = c .before .before .before .before .before .before .loop in
-    let z = c .before .before .before .before .before .before .before .before .before .before in
-    let r = z .pre .0 in
-    let w = line-two (l .inv .2 (r .list) (r .thread) (r .even)) (length (z .args .out .now)) (r .fits) (omega arith) in
-    omega (arith, w .second, c .before .before .before .wide2 .ensures .0, r .store)
+    let at-wide2 = c .before .before .before in let at-loop = at-wide2 .before .before .before in
+    let at-start = at-loop .before .before .before .before in
+    let l = at-loop .loop in
+    let r = at-start .pre .0 in
+    let w = line-two (l .inv .2 (r .list) (r .thread) (r .even)) (length (at-start .args .out .now)) (r .fits) (omega arith) in
+    omega (arith, w .second, at-wide2 .wide2 .ensures .0, r .store)
 
 put-span-requires : tie.Need-put-span-requires Inv-loop μ-loop
 put-span-requires c κs =
-    let l = c .before .before .before .before .before .before .loop in
-    let z = c .before .before .before .before .before .before .before .before .before .before in
-    let r = z .pre .0 in
-    let w = line-two (l .inv .2 (r .list) (r .thread) (r .even)) (length (z .args .out .now)) (r .fits) (omega arith) in
-    (omega (arith, w .free, l .inv .1), z .pre .1)
+    let at-loop = c .before .before .before .before .before .before in let at-start = at-loop .before .before .before .before in
+    let l = at-loop .loop in
+    let r = at-start .pre .0 in
+    let w = line-two (l .inv .2 (r .list) (r .thread) (r .even)) (length (at-start .args .out .now)) (r .fits) (omega arith) in
+    (omega (arith, w .free, l .inv .1), at-start .pre .1)
 
 add-to : tie.Need-add-to Inv-loop μ-loop
 add-to c =
-    let l = c .before .before .before .before .before .before .before .before .loop in
-    let z = c .before .before .before .before .before .before .before .before .before .before .before .before in
-    let r = z .pre .0 in
-    let w = line-two (l .inv .2 (r .list) (r .thread) (r .even)) (length (z .args .out .now)) (r .fits) (omega arith) in
+    let at-loop = c .before .before .before .before .before .before .before .before in
+    let at-start = at-loop .before .before .before .before in
+    let l = at-loop .loop in
+    let r = at-start .pre .0 in
+    let w = line-two (l .inv .2 (r .list) (r .thread) (r .even)) (length (at-start .args .out .now)) (r .fits) (omega arith) in
     omega (arith, w .free)
 
 sub-wide-2 : tie.Need-sub-wide-2 Inv-loop μ-loop
 sub-wide-2 c =
-    let l = c .before .before .before .before .before .before .before .before .loop in
-    let z = c .before .before .before .before .before .before .before .before .before .before .before .before in
-    let r = z .pre .0 in
-    let w = line-two (l .inv .2 (r .list) (r .thread) (r .even)) (length (z .args .out .now)) (r .fits) (omega arith) in
-    omega (arith, w .there, c .before .before .before .before .before .wide2 .ensures .0)
+    let at-wide2 = c .before .before .before .before .before in let at-loop = at-wide2 .before .before .before in
+    let at-start = at-loop .before .before .before .before in
+    let l = at-loop .loop in
+    let r = at-start .pre .0 in
+    let w = line-two (l .inv .2 (r .list) (r .thread) (r .even)) (length (at-start .args .out .now)) (r .fits) (omega arith) in
+    omega (arith, w .there, at-wide2 .wide2 .ensures .0)
 
 mul-wide-2 : tie.Need-mul-wide-2 Inv-loop μ-loop
-mul-wide-2 c = record { fits = omega (arith, c .before .before .before .before .before .wide2 .ensures .1) }
+mul-wide-2 c =
+    let at-wide2 = c .before .before .before .before .before in
+    record { fits = omega (arith, at-wide2 .wide2 .ensures .1) }
 
 shared-slice-read-wide-2 : tie.Need-shared-slice-read-wide-2 Inv-loop μ-loop
 shared-slice-read-wide-2 c =
-    let l = c .before .before .before .before .before .before .before .before .before .loop in
-    let z = c .before .before .before .before .before .before .before .before .before .before .before .before .before in
-    let r = z .pre .0 in
-    let w = line-two (l .inv .2 (r .list) (r .thread) (r .even)) (length (z .args .out .now)) (r .fits) (omega arith) in
-    omega (arith, w .second, c .before .before .before .before .before .before .wide2 .ensures .0)
+    let at-wide2 = c .before .before .before .before .before .before in let at-loop = at-wide2 .before .before .before in
+    let at-start = at-loop .before .before .before .before in
+    let l = at-loop .loop in
+    let r = at-start .pre .0 in
+    let w = line-two (l .inv .2 (r .list) (r .thread) (r .even)) (length (at-start .args .out .now)) (r .fits) (omega arith) in
+    omega (arith, w .second, at-wide2 .wide2 .ensures .0)
 
 loop-less : tie.Need-loop-less Inv-loop μ-loop
 loop-less c =
-    let l = c .before .before .before .before .before .before .before .before .before .before .loop in
-    let z = c .before .before .before .before .before .before .before .before .before .before .before .before .before .before in
-    let r = z .pre .0 in
-    let w = line-two (l .inv .2 (r .list) (r .thread) (r .even)) (length (z .args .out .now)) (r .fits) (omega arith) in
-    omega (arith, w .free, l .inv .1, c .before .before .before .put-span .kept .0)
+    let at-put-span = c .before .before .before in
+    let at-loop = at-put-span .before .before .before .before .before .before .before in
+    let at-start = at-loop .before .before .before .before in
+    let l = at-loop .loop in
+    let r = at-start .pre .0 in
+    let w = line-two (l .inv .2 (r .list) (r .thread) (r .even)) (length (at-start .args .out .now)) (r .fits) (omega arith) in
+    omega (arith, w .free, l .inv .1, at-put-span .put-span .kept .0)
 
 loop-again : tie.Need-loop-again Inv-loop μ-loop
 loop-again c =
-    let l = c .before .before .before .before .before .before .before .before .before .before .loop in
-    let a = c .before .before .before .before .before .before .before .before .before .before .before .before .before .before .args in
-    let u = c .before .before .before .put-span in
-    (c .wide3 .ensures .1, u .kept .0 ∙ l .inv .1, λ k s e. line-step (l .inv .2 k s e) (c .before .before .before .before .before .before .before .wide2 .result) (c .wide3 .result) (u .last .0) (omega arith) (c .before .before .before .before .before .before .before .wide2 .ensures .0) (c .wide3 .ensures .0) (u .ensures))
+    let at-put-span = c .before .before .before in let at-wide2 = at-put-span .before .before .before .before in
+    let at-loop = at-wide2 .before .before .before in let at-start = at-loop .before .before .before .before in
+    let l = at-loop .loop in
+    let a = at-start .args in
+    let u = at-put-span .put-span in
+    (c .wide3 .ensures .1, u .kept .0 ∙ l .inv .1, λ k s e. line-step (l .inv .2 k s e) (at-wide2 .wide2 .result) (c .wide3 .result) (u .last .0) (omega arith) (at-wide2 .wide2 .ensures .0) (c .wide3 .ensures .0) (u .ensures))
 
 same-length : tie.Need-same-length Inv-loop μ-loop
 same-length c = c .before .loop .inv .1

@@ -20,38 +20,47 @@ abbrev μ-loop : tie.MeasureT-loop
 
 loop-holds : tie.Need-loop-holds Inv-loop μ-loop
 loop-holds c =
-    let a = c .before .before .before .args in
+    let at-start = c .before .before .before in
+    let a = at-start .args in
     (omega arith, refl, λ key foot done p e. sheet-start (a .start) (a .m) (a .end) key foot done (a .out .now))
 
 row-base-requires : tie.Need-row-base-requires Inv-loop μ-loop
-row-base-requires c κs = let z = c .before .before .before .before .before in (z .pre .1, z .pre .2, omega (arith, z .pre .3))
+row-base-requires c κs =
+    let at-start = c .before .before .before .before .before in
+    (at-start .pre .1, at-start .pre .2, omega (arith, at-start .pre .3))
 
 mul-put-row : tie.Need-mul-put-row Inv-loop μ-loop
-mul-put-row c = let z = c .before .before .before .before .before .before .before in record { fits = omega (arith, z .pre .3) }
+mul-put-row c =
+    let at-start = c .before .before .before .before .before .before .before in
+    record { fits = omega (arith, at-start .pre .3) }
 
 shared-slice-read-put-row : tie.Need-shared-slice-read-put-row Inv-loop μ-loop
-shared-slice-read-put-row c = let z = c .before .before .before .before .before .before .before .before in omega (arith, z .pre .0 .within)
+shared-slice-read-put-row c =
+    let at-start = c .before .before .before .before .before .before .before .before in
+    omega (arith, at-start .pre .0 .within)
 
 put-row-requires : tie.Need-put-row-requires Inv-loop μ-loop
 put-row-requires c κs =
-    let l = c .before .before .before .before .loop in
-    let z = c .before .before .before .before .before .before .before .before in
-    let a = z .args in
-    let r = z .pre .0 in
-    let b = c .before .before .row-base in
-    (sheet-line (l .inv .2 (r .key) (r .foot) (r .done) (r .poured) (r .even)) (a .next .now) (a .at .now) (a .row .now) (length (l .out)) (omega arith) (r .within) (r .poured) (r .even) (omega (arith, r .fits, l .inv .1)) (r .store), base-fits (a .start) (b .result) (a .m) (z .pre .1) (omega arith) (b .ensures))
+    let at-row-base = c .before .before in let at-loop = at-row-base .before .before in
+    let at-start = at-loop .before .before .before .before in
+    let l = at-loop .loop in
+    let a = at-start .args in
+    let r = at-start .pre .0 in
+    let b = at-row-base .row-base in
+    (sheet-line (l .inv .2 (r .key) (r .foot) (r .done) (r .poured) (r .even)) (a .next .now) (a .at .now) (a .row .now) (length (l .out)) (omega arith) (r .within) (r .poured) (r .even) (omega (arith, r .fits, l .inv .1)) (r .store), base-fits (a .start) (b .result) (a .m) (at-start .pre .1) (omega arith) (b .ensures))
 
 loop-less : tie.Need-loop-less Inv-loop μ-loop
 loop-less c = omega arith
 
 loop-again : tie.Need-loop-again Inv-loop μ-loop
 loop-again c =
-    let l = c .before .before .before .before .before .before .loop in
-    let z = c .before .before .before .before .before .before .before .before .before .before in
-    let a = z .args in
-    let b = c .before .before .before .before .row-base in
+    let at-row-base = c .before .before .before .before in let at-loop = at-row-base .before .before in
+    let at-start = at-loop .before .before .before .before in
+    let l = at-loop .loop in
+    let a = at-start .args in
+    let b = at-row-base .row-base in
     let u = c .before .put-row in
-    (omega arith, u .kept .0 ∙ l .inv .1, λ key foot done p e. sheet-step (l .inv .2 key foot done p e) (a .next .now) (a .at .now) (a .row .now) (b .result) (u .result) (u .last .0) (omega arith) (z .pre .0 .within) p e (base-is (a .start) (b .result) (a .m) (l .h) (b .ensures)) (u .ensures))
+    (omega arith, u .kept .0 ∙ l .inv .1, λ key foot done p e. sheet-step (l .inv .2 key foot done p e) (a .next .now) (a .at .now) (a .row .now) (b .result) (u .result) (u .last .0) (omega arith) (at-start .pre .0 .within) p e (base-is (a .start) (b .result) (a .m) (l .h) (b .ensures)) (u .ensures))
 
 same-length : tie.Need-same-length Inv-loop μ-loop
 same-length c = c .before .loop .inv .1

@@ -10,9 +10,11 @@ use Rattle.row_spans.proofs.put_span.Tie as tie
 
 returns : tie.Need-returns
 returns c =
-    let a = c .before .before .before .before .before .args in
+    let at-last-panel = c .before .before in let at-first-panel = at-last-panel .before in
+    let a = at-first-panel .before .before .args in
     c .before .put-panels .ensures
-    ∙ ap₂ (λ (u v : Panel). sets (a .out .now) (a .o) (u .1 ∷ u .0 ∷ v .0 ∷ [])) (c .before .before .before .first-panel .ensures) (c .before .before .last-panel .ensures)
+    ∙ ap₂ (λ (u v : Panel). sets (a .out .now) (a .o) (u .1 ∷ u .0 ∷ v .0 ∷ [])) (at-first-panel .first-panel .ensures)
+    (at-last-panel .last-panel .ensures)
 
 pub put-span-spec : {M : Type 1} → statement M
 put-span-spec =

@@ -41,38 +41,43 @@ spell-decimal-returns-2 : (t : ℕ) → spell-decimal-lts.Need-returns-2 (
   spell-decimal.Post,
 ) (spell-decimal-at t) spell-decimal.Post
 spell-decimal-returns-2 t c =
-    let s = c .before .before .before in
-    let a = s .args in
-    decimal-one (a .k) (a .n) (a .at) (a .out .now) (c .before .if1 .left) (c .if2 .taken) (omega (arith, s .pre .1, c .before .if1 .left))
+    let at-if1 = c .before in let at-start = at-if1 .before .before in
+    let a = at-start .args in
+    decimal-one (a .k) (a .n) (a .at) (a .out .now) (at-if1 .if1 .left) (c .if2 .taken)
+    (omega (arith, at-start .pre .1, at-if1 .if1 .left))
 
 spell-decimal-slice-write-out-2 : (t : ℕ) → spell-decimal-lts.Need-slice-write-out-2 (
   spell-decimal-below t,
   spell-decimal.Post,
 ) (spell-decimal-at t) spell-decimal.Post
 spell-decimal-slice-write-out-2 t c =
-    let r = c .before .before .spell-decimal in
-    let s = c .before .before .before .before .before .before .before in
-    let a = s .args in
-    omega (arith, r .ensures .end, r .kept .0, s .pre .1, c .before .before .before .before .before .if1 .left, length-decimalOf (a .k - 1) (a .n / 10))
+    let at-spell-decimal = c .before .before in let at-if1 = at-spell-decimal .before .before .before in
+    let at-start = at-if1 .before .before in
+    let r = at-spell-decimal .spell-decimal in
+    let a = at-start .args in
+    omega (arith, r .ensures .end, r .kept .0, at-start .pre .1, at-if1 .if1 .left, length-decimalOf (a .k - 1) (a .n / 10))
 
 spell-decimal-add-result-2 : (t : ℕ) → spell-decimal-lts.Need-add-result-2 (
   spell-decimal-below t,
   spell-decimal.Post,
 ) (spell-decimal-at t) spell-decimal.Post
 spell-decimal-add-result-2 t c =
-    let r = c .before .before .spell-decimal in
-    let s = c .before .before .before .before .before .before .before in
-    let a = s .args in
-    search (needs, r .ensures .end, r .kept .0, s .pre .1, c .before .before .before .before .before .if1 .left, length-decimalOf (a .k - 1) (a .n / 10))
+    let at-spell-decimal = c .before .before in let at-if1 = at-spell-decimal .before .before .before in
+    let at-start = at-if1 .before .before in
+    let r = at-spell-decimal .spell-decimal in
+    let a = at-start .args in
+    search (needs, r .ensures .end, r .kept .0, at-start .pre .1, at-if1 .if1 .left, length-decimalOf (a .k - 1) (a .n / 10))
 
 spell-decimal-returns-3 : (t : ℕ) → spell-decimal-lts.Need-returns-3 (
   spell-decimal-below t,
   spell-decimal.Post,
 ) (spell-decimal-at t) spell-decimal.Post
 spell-decimal-returns-3 t c =
-    let s = c .before .before .before .before .before .before .before in
-    let a = s .args in
-    decimal-more (a .k) (a .n) (a .at) (c .before .before .before .before .before .if1 .left) (c .before .before .before .before .if2 .left) (s .pre .1) (c .before .before .spell-decimal .ensures)
+    let at-spell-decimal = c .before .before in let at-if2 = at-spell-decimal .before .before in
+    let at-start = at-if2 .before .before .before in
+    let a = at-start .args in
+    decimal-more (a .k) (a .n) (a .at) (at-if2 .before .if1 .left) (at-if2 .if2 .left) (at-start .pre .1)
+    (at-spell-decimal .spell-decimal .ensures)
 
 pub +spell-decimal-spec : {M : Type 1} → statement M
 +spell-decimal-spec = close μ-spell-decimal λ t. spell-decimal-lts.spec (

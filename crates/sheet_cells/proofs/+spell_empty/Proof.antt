@@ -41,29 +41,32 @@ spell-empty-slice-write-out : (t : ℕ) → spell-empty-lts.Need-slice-write-out
   spell-empty.Post,
 ) (spell-empty-at t) spell-empty.Post
 spell-empty-slice-write-out t c =
-    let r = c .before .before .spell-empty in
-    let s = c .before .before .before .before .before .before in
-    let a = s .args in
-    omega (arith, r .ensures .end, r .kept .0, s .pre .1, c .before .before .before .before .if1 .left, length-emptyCells (a .k - 1))
+    let at-spell-empty = c .before .before in let at-if1 = at-spell-empty .before .before in
+    let at-start = at-if1 .before .before in
+    let r = at-spell-empty .spell-empty in
+    let a = at-start .args in
+    omega (arith, r .ensures .end, r .kept .0, at-start .pre .1, at-if1 .if1 .left, length-emptyCells (a .k - 1))
 
 spell-empty-add-result : (t : ℕ) → spell-empty-lts.Need-add-result (
   spell-empty-below t,
   spell-empty.Post,
 ) (spell-empty-at t) spell-empty.Post
 spell-empty-add-result t c =
-    let r = c .before .before .spell-empty in
-    let s = c .before .before .before .before .before .before in
-    let a = s .args in
-    search (needs, r .ensures .end, r .kept .0, s .pre .1, c .before .before .before .before .if1 .left, length-emptyCells (a .k - 1))
+    let at-spell-empty = c .before .before in let at-if1 = at-spell-empty .before .before in
+    let at-start = at-if1 .before .before in
+    let r = at-spell-empty .spell-empty in
+    let a = at-start .args in
+    search (needs, r .ensures .end, r .kept .0, at-start .pre .1, at-if1 .if1 .left, length-emptyCells (a .k - 1))
 
 spell-empty-returns-2 : (t : ℕ) → spell-empty-lts.Need-returns-2 (
   spell-empty-below t,
   spell-empty.Post,
 ) (spell-empty-at t) spell-empty.Post
 spell-empty-returns-2 t c =
-    let s = c .before .before .before .before .before .before in
-    let a = s .args in
-    empty-more (a .k) (a .at) (c .before .before .before .before .if1 .left) (s .pre .1) (c .before .before .spell-empty .ensures)
+    let at-spell-empty = c .before .before in let at-if1 = at-spell-empty .before .before in
+    let at-start = at-if1 .before .before in
+    let a = at-start .args in
+    empty-more (a .k) (a .at) (at-if1 .if1 .left) (at-start .pre .1) (at-spell-empty .spell-empty .ensures)
 
 pub +spell-empty-spec : {M : Type 1} → statement M
 +spell-empty-spec = close μ-spell-empty λ t. spell-empty-lts.spec (

@@ -25,15 +25,17 @@ loop-holds c =
 
 loop-again : tie.Need-loop-again Inv-loop μ-loop
 loop-again c =
-    let l = c .before .before .before .before .before .before in
-    let a = l .before .before .before .args in
-    let r = c .before .before .spell-byte in
-    (search needs, search needs, omega (arith, r .kept .0, l .loop .inv .2), omega (arith, r .ensures .end, length-hexOf 2 (getD (a .s .now) (l .loop .i) 0), l .loop .inv .3), bytes-next (a .s .now) (l .loop .i) (a .at) (omega arith) (l .loop .inv .1) (l .loop .inv .4) (r .ensures))
+    let at-spell-byte = c .before .before in let at-loop = at-spell-byte .before .before .before .before in
+    let at-start = at-loop .before .before .before in
+    let a = at-start .args in
+    let r = at-spell-byte .spell-byte in
+    (search needs, search needs, omega (arith, r .kept .0, at-loop .loop .inv .2), omega (arith, r .ensures .end, length-hexOf 2 (getD (a .s .now) (at-loop .loop .i) 0), at-loop .loop .inv .3), bytes-next (a .s .now) (at-loop .loop .i) (a .at) (omega arith) (at-loop .loop .inv .1) (at-loop .loop .inv .4) (r .ensures))
 
 returns : tie.Need-returns Inv-loop μ-loop
 returns c =
+    let at-start = c .before .before .before .before in
     let l = c .before .loop in
-    let a = c .before .before .before .before .args in
+    let a = at-start .args in
     bytes-all (a .s .now) (l .i) (a .at) (c .loop-test .left) (l .inv .0) (l .inv .4)
 
 pub spell-bytes-spec : {M : Type 1} → statement M

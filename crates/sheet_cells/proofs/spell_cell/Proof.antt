@@ -11,18 +11,22 @@ use Rattle.sheet_cells.proofs.spell_cell.Tie as tie
 
 slice-write-out : tie.Need-slice-write-out
 slice-write-out c =
-    let a = c .before .before .before .before .before .args in
-    omega (arith, length-decimalOf mostDecimals (a .n), c .before .before .spell-decimal .ensures .end, c .before .before .spell-decimal .kept .0)
+    let at-spell-decimal = c .before .before in let at-start = at-spell-decimal .before .before .before in
+    let a = at-start .args in
+    omega (arith, length-decimalOf mostDecimals (a .n), at-spell-decimal .spell-decimal .ensures .end, at-spell-decimal .spell-decimal .kept .0)
 
 add-result : tie.Need-add-result
 add-result c =
-    let a = c .before .before .before .before .before .args in
-    search (needs, length-decimalOf mostDecimals (a .n), c .before .before .spell-decimal .ensures .end, c .before .before .spell-decimal .kept .0)
+    let at-spell-decimal = c .before .before in let at-start = at-spell-decimal .before .before .before in
+    let a = at-start .args in
+    search (needs, length-decimalOf mostDecimals (a .n), at-spell-decimal .spell-decimal .ensures .end, at-spell-decimal .spell-decimal .kept .0)
 
 returns : tie.Need-returns
 returns c =
-    let a = c .before .before .before .before .before .args in
-    wrote-then (decimalOf mostDecimals (a .n)) 44 (a .at) (c .before .before .spell-decimal .ensures) (omega (arith, length-decimalOf mostDecimals (a .n)))
+    let at-spell-decimal = c .before .before in let at-start = at-spell-decimal .before .before .before in
+    let a = at-start .args in
+    wrote-then (decimalOf mostDecimals (a .n)) 44 (a .at) (at-spell-decimal .spell-decimal .ensures)
+    (omega (arith, length-decimalOf mostDecimals (a .n)))
 
 pub spell-cell-spec : {M : Type 1} → statement M
 spell-cell-spec =

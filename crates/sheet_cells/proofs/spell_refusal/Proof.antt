@@ -8,15 +8,17 @@ use Rattle.sheet_cells.proofs.spell_refusal.Tie as tie
 
 spell-empty-requires : tie.Need-spell-empty-requires
 spell-empty-requires c κs =
-    let s = c .before .before .before .before .before .before in
-    let a = s .args in
-    omega (arith, s .pre, length-two (a .number) (a .place))
+    let at-start = c .before .before .before .before .before .before in
+    let a = at-start .args in
+    omega (arith, at-start .pre, length-two (a .number) (a .place))
 
 returns : tie.Need-returns
 returns c =
-    let s = c .before .before .before .before .before .before .before .before .before in
-    let a = s .args in
-    wrote-refusal (a .number) (a .place) (a .at) (s .pre) (c .before .before .before .before .before .before .spell-two .ensures) (c .before .before .spell-empty .ensures)
+    let at-spell-empty = c .before .before in let at-spell-two = at-spell-empty .before .before .before .before in
+    let at-start = at-spell-two .before .before .before in
+    let a = at-start .args in
+    wrote-refusal (a .number) (a .place) (a .at) (at-start .pre) (at-spell-two .spell-two .ensures)
+    (at-spell-empty .spell-empty .ensures)
 
 pub spell-refusal-spec : {M : Type 1} → statement M
 spell-refusal-spec = tie.close (tie.spec (λ c κs. search needs) spell-empty-requires (λ c. search needs) returns)

@@ -19,30 +19,38 @@ use Rattle.sheet_cells.proofs.spell_signed.Tie as tie
 
 returns : tie.Need-returns
 returns c =
-    let s = c .before .before .before .before .before .before .before in
-    let a = s .args in
-    let b = c .before .before .before .before .before .bits in
-    let r = c .before .before .spell-decimal in
-    subst (λ (l : List ℕ). Wrote l (a .at) (a .out .now) (r .result) (r .last .0)) (signed-above mostDecimals (a .x) (b .result) (s .fits .x) (b .ensures ∙ ap bitsOf (toZ-ofZ w32 (a .x) (s .fits .x))) (c .before .before .before .before .if1 .taken)) (r .ensures)
+    let at-spell-decimal = c .before .before in let at-if1 = at-spell-decimal .before .before in
+    let at-start = at-if1 .before .before .before in
+    let a = at-start .args in
+    let b = at-if1 .before .bits in
+    let r = at-spell-decimal .spell-decimal in
+    subst (λ (l : List ℕ). Wrote l (a .at) (a .out .now) (r .result) (r .last .0))
+    (signed-above mostDecimals (a .x) (b .result) (at-start .fits .x)
+    (b .ensures ∙ ap bitsOf (toZ-ofZ w32 (a .x) (at-start .fits .x))) (at-if1 .if1 .taken)) (r .ensures)
 
 spell-decimal-requires-2 : tie.Need-spell-decimal-requires-2
 spell-decimal-requires-2 c κs =
-    let s = c .before .before .before .before in
-    omega (arith, length-set (s .args .out .now) (s .args .at) 45, s .pre)
+    let at-start = c .before .before .before .before in
+    omega (arith, length-set (at-start .args .out .now) (at-start .args .at) 45, at-start .pre)
 
 same-length-2 : tie.Need-same-length-2
 same-length-2 c =
-    let a = c .before .before .before .before .before .before .before .args in
-    omega (arith, length-set (a .out .now) (a .at) 45, c .before .before .spell-decimal2 .kept .0)
+    let at-spell-decimal2 = c .before .before in let at-start = at-spell-decimal2 .before .before .before .before .before in
+    let a = at-start .args in
+    omega (arith, length-set (a .out .now) (a .at) 45, at-spell-decimal2 .spell-decimal2 .kept .0)
 
 returns-2 : tie.Need-returns-2
 returns-2 c =
-    let s = c .before .before .before .before .before .before .before in
-    let a = s .args in
-    let b = c .before .before .before .before .before .bits in
-    let r = c .before .before .spell-decimal2 in
-    subst (λ (l : List ℕ). Wrote l (a .at) (a .out .now) (r .result) (r .last .0)) (signed-below mostDecimals (a .x) (b .result) (s .fits .x) (b .ensures ∙ ap bitsOf (toZ-ofZ w32 (a .x) (s .fits .x))) (c .before .before .before .before .if1 .left))
-    (wrote-after 45 (a .at) (decimalOf mostDecimals (4294967296 - b .result)) (omega (arith, length-decimalOf mostDecimals (4294967296 - b .result), s .pre)) (r .ensures))
+    let at-spell-decimal2 = c .before .before in let at-if1 = at-spell-decimal2 .before .before in
+    let at-start = at-if1 .before .before .before in
+    let a = at-start .args in
+    let b = at-if1 .before .bits in
+    let r = at-spell-decimal2 .spell-decimal2 in
+    subst (λ (l : List ℕ). Wrote l (a .at) (a .out .now) (r .result) (r .last .0))
+    (signed-below mostDecimals (a .x) (b .result) (at-start .fits .x)
+    (b .ensures ∙ ap bitsOf (toZ-ofZ w32 (a .x) (at-start .fits .x))) (at-if1 .if1 .left))
+    (wrote-after 45 (a .at) (decimalOf mostDecimals (4294967296 - b .result))
+    (omega (arith, length-decimalOf mostDecimals (4294967296 - b .result), at-start .pre)) (r .ensures))
 
 pub spell-signed-spec : {M : Type 1} → statement M
 spell-signed-spec =

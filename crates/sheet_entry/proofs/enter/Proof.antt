@@ -12,21 +12,24 @@ use Rattle.sheet_entry.proofs.enter.Tie as tie
 
 slice-write-out : tie.Need-slice-write-out
 slice-write-out c =
-    let r = c .before .before .before .before .before .before .enter-line in
-    let s = c .before .before .before .before .before .before .before .before .before .before .before .before .before .before in
-    omega (arith, s .pre .1, entered-most (s .args .s .now), length-append (entryOf (s .args .s .now)) (10 ∷ []), r .ensures .0 .end, r .kept .1 .1 .1 .0)
+    let at-enter-line = c .before .before .before .before .before .before in
+    let at-start = at-enter-line .before .before .before .before .before .before .before .before in
+    let r = at-enter-line .enter-line in
+    omega (arith, at-start .pre .1, entered-most (at-start .args .s .now), length-append (entryOf (at-start .args .s .now)) (10 ∷ []), r .ensures .0 .end, r .kept .1 .1 .1 .0)
 
 add-result : tie.Need-add-result
 add-result c =
-    let r = c .before .before .before .before .before .before .enter-line in
-    let s = c .before .before .before .before .before .before .before .before .before .before .before .before .before .before in
-    search (needs, s .pre .1, entered-most (s .args .s .now), length-append (entryOf (s .args .s .now)) (10 ∷ []), r .ensures .0 .end, r .kept .1 .1 .1 .0)
+    let at-enter-line = c .before .before .before .before .before .before in
+    let at-start = at-enter-line .before .before .before .before .before .before .before .before in
+    let r = at-enter-line .enter-line in
+    search (needs, at-start .pre .1, entered-most (at-start .args .s .now), length-append (entryOf (at-start .args .s .now)) (10 ∷ []), r .ensures .0 .end, r .kept .1 .1 .1 .0)
 
 returns : tie.Need-returns
 returns c =
-    let r = c .before .before .before .before .before .before .enter-line in
-    let s = c .before .before .before .before .before .before .before .before .before .before .before .before .before .before in
-    (wrote-then (entryOf (s .args .s .now)) 10 (s .args .at) (r .ensures .0) (omega (arith, s .pre .1, entered-most (s .args .s .now), length-append (entryOf (s .args .s .now)) (10 ∷ []))), r .ensures .1)
+    let at-enter-line = c .before .before .before .before .before .before in
+    let at-start = at-enter-line .before .before .before .before .before .before .before .before in
+    let r = at-enter-line .enter-line in
+    (wrote-then (entryOf (at-start .args .s .now)) 10 (at-start .args .at) (r .ensures .0) (omega (arith, at-start .pre .1, entered-most (at-start .args .s .now), length-append (entryOf (at-start .args .s .now)) (10 ∷ []))), r .ensures .1)
 
 pub enter-spec : {M : Type 1} → statement M
 enter-spec =

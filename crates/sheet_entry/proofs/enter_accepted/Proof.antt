@@ -9,14 +9,16 @@ use Rattle.sheet_entry.proofs.enter_accepted.Tie as tie
 
 enter-polygon-requires : tie.Need-enter-polygon-requires
 enter-polygon-requires c κs =
-    let s = c .before .before .before .before .before .before .before in
-    (s .pre .0, omega (arith, s .pre .1, length-cellsOf 0 0 (s .args .f), c .before .before .before .spell-cells .ensures .end, c .before .before .before .spell-cells .kept .0))
+    let at-spell-cells = c .before .before .before in let at-start = at-spell-cells .before .before .before .before in
+    (at-start .pre .0, omega (arith, at-start .pre .1, length-cellsOf 0 0 (at-start .args .f), at-spell-cells .spell-cells .ensures .end, at-spell-cells .spell-cells .kept .0))
 
 returns : tie.Need-returns
 returns c =
-    let s = c .before .before .before .before .before .before .before .before .before .before in
-    let a = s .args in
-    wrote-accepted (a .f) (a .steps .now) (a .at) (s .pre .0 .1) (s .pre .1) (c .before .before .before .before .before .before .spell-cells .ensures) (c .before .before .enter-polygon .ensures)
+    let at-enter-polygon = c .before .before in let at-spell-cells = at-enter-polygon .before .before .before .before in
+    let at-start = at-spell-cells .before .before .before .before in
+    let a = at-start .args in
+    wrote-accepted (a .f) (a .steps .now) (a .at) (at-start .pre .0 .1) (at-start .pre .1) (at-spell-cells .spell-cells .ensures)
+    (at-enter-polygon .enter-polygon .ensures)
 
 pub enter-accepted-spec : {M : Type 1} → statement M
 enter-accepted-spec =

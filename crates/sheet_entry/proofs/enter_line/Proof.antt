@@ -12,34 +12,43 @@ use Rattle.sheet_entry.proofs.enter_line.Tie as tie
 
 array-share-prefix-chain : tie.Need-array-share-prefix-chain
 array-share-prefix-chain c =
-    c .before .before .before .before .before .before .before .before .walk-line .ensures .0 .survived (c .before .f .given .0 .0) (c .before .f .given .1) .within
+    let at-f = c .before in let at-walk-line = at-f .before .before .before .before .before .before .before in
+    at-walk-line .walk-line .ensures .0 .survived (at-f .f .given .0 .0) (at-f .f .given .1) .within
 
 slice-aggregate-enter-accepted : tie.Need-slice-aggregate-enter-accepted
 slice-aggregate-enter-accepted c =
-    let w = c .before .before .before .before .before .before .before .before .before .walk-line in
-    let f = c .before .before .f .given in
+    let at-f = c .before .before in let at-walk-line = at-f .before .before .before .before .before .before .before in
+    let w = at-walk-line .walk-line in
+    let f = at-f .f .given in
     sym (length-take-le (f .0 .0 .steps) (w .last .1 .1 .1 .0) (w .ensures .0 .survived (f .0 .0) (f .1) .within))
 
 enter-accepted-requires : tie.Need-enter-accepted-requires
 enter-accepted-requires c κs =
-    let s = c .before .before .before .before .before .before .before .before .before .before .before .before .before .before .before .before .before .before in
-    let f = c .before .before .before .f .given in
-    (steps-good (s .args .s .now) (c .before .before .before .before .before .before .before .before .before .before .walk-line .ensures .0) (f .0 .0) (f .1), s .pre .1)
+    let at-f = c .before .before .before in let at-walk-line = at-f .before .before .before .before .before .before .before in
+    let at-start = at-walk-line .before .before .before .before .before .before .before .before in
+    let f = at-f .f .given in
+    (steps-good (at-start .args .s .now) (at-walk-line .walk-line .ensures .0) (f .0 .0) (f .1), at-start .pre .1)
 
 returns : tie.Need-returns
 returns c =
-    let a = c .before .before .before .before .before .before .before .before .before .before .before .before .before .before .before .before .before .before .before .before .before .args in
-    let f = c .before .before .before .before .before .before .f .given in
-    let r = c .before .before .enter-accepted in
-    let w = c .before .before .before .before .before .before .before .before .before .before .before .before .before .walk-line .ensures in
+    let at-enter-accepted = c .before .before in let at-f = at-enter-accepted .before .before .before .before in
+    let at-walk-line = at-f .before .before .before .before .before .before .before in
+    let at-start = at-walk-line .before .before .before .before .before .before .before .before in
+    let a = at-start .args in
+    let f = at-f .f .given in
+    let r = at-enter-accepted .enter-accepted in
+    let w = at-walk-line .walk-line .ensures in
     (subst (λ (l : List ℕ). Wrote l (a .at) (a .out .now) (r .result) (r .last .1 .1 .0)) (walk-accepted (a .s .now) (w .0) (f .0 .0) (f .1)) (r .ensures), w .1)
 
 returns-2 : tie.Need-returns-2
 returns-2 c =
-    let a = c .before .before .before .before .before .before .before .before .before .before .before .before .before .before .before .before .before .before .before .before .args in
-    let x = c .before .before .before .before .before .r .given in
-    let r = c .before .before .enter-refused in
-    let w = c .before .before .before .before .before .before .before .before .before .before .before .before .walk-line .ensures in
+    let at-enter-refused = c .before .before in let at-r = at-enter-refused .before .before .before in
+    let at-walk-line = at-r .before .before .before .before .before .before .before in
+    let at-start = at-walk-line .before .before .before .before .before .before .before .before in
+    let a = at-start .args in
+    let x = at-r .r .given in
+    let r = at-enter-refused .enter-refused in
+    let w = at-walk-line .walk-line .ensures in
     (subst (λ (l : List ℕ). Wrote l (a .at) (a .out .now) (r .result) (r .last .1 .0)) (walk-refused (a .s .now) (w .0) (x .0 .0) (x .1)) (r .ensures), w .1)
 
 pub enter-line-spec : {M : Type 1} → statement M

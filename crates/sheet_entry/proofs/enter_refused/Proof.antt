@@ -10,9 +10,12 @@ use Rattle.sheet_entry.proofs.enter_refused.Tie as tie
 
 returns : tie.Need-returns
 returns c =
-    let a = c .before .before .before .before .before .before .before .args in
-    let r = c .before .before .spell-refusal in
-    subst₂ (λ (m n : ℕ). Wrote (refusedCells m n) (a .at) (a .out .now) (r .result) (r .last .0)) (c .before .before .before .before .before .refusal-number .ensures .0) (c .before .before .before .before .refusal-place .ensures) (r .ensures)
+    let at-spell-refusal = c .before .before in let at-refusal-place = at-spell-refusal .before .before in
+    let at-refusal-number = at-refusal-place .before in
+    let a = at-refusal-number .before .before .args in
+    let r = at-spell-refusal .spell-refusal in
+    subst₂ (λ (m n : ℕ). Wrote (refusedCells m n) (a .at) (a .out .now) (r .result) (r .last .0))
+    (at-refusal-number .refusal-number .ensures .0) (at-refusal-place .refusal-place .ensures) (r .ensures)
 
 pub enter-refused-spec : {M : Type 1} → statement M
 enter-refused-spec =

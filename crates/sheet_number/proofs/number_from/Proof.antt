@@ -15,23 +15,25 @@ abbrev μ-loop : tie.MeasureT-loop
 
 loop-holds : tie.Need-loop-holds Inv-loop μ-loop
 loop-holds c =
-    let s = c .before .before in
-    numbering-start (s .args .starts) (s .args .first) (s .args .s .now) (s .args .at) (s .args .out .now) (s .pre .0) (s .pre .1)
+    let at-start = c .before .before in
+    numbering-start (at-start .args .starts) (at-start .args .first) (at-start .args .s .now) (at-start .args .at)
+    (at-start .args .out .now) (at-start .pre .0) (at-start .pre .1)
 
 put-byte-requires : tie.Need-put-byte-requires Inv-loop μ-loop
 put-byte-requires c κs =
-    let l = c .before .before .before in
-    numbering-room (l .loop .inv) (c .before .before .loop-test .taken) .0
+    let at-loop-test = c .before .before in
+    numbering-room (at-loop-test .before .loop .inv) (at-loop-test .loop-test .taken) .0
 
 number-after-requires : tie.Need-number-after-requires Inv-loop μ-loop
 number-after-requires c κs =
-    let l = c .before .before .before .before .before .before in
-    numbering-room (l .loop .inv) (c .before .before .before .before .before .loop-test .taken) .1
+    let at-loop-test = c .before .before .before .before .before in
+    numbering-room (at-loop-test .before .loop .inv) (at-loop-test .loop-test .taken) .1
 
 loop-again : tie.Need-loop-again Inv-loop μ-loop
 loop-again c =
-    let l = c .before .before .before .before .before .before .before in
-    numbering-next (l .loop .inv) (c .before .before .before .before .before .before .loop-test .taken) (c .number-after .ensures) (c .before .before .before .put-byte .ensures)
+    let at-put-byte = c .before .before .before in let at-loop-test = at-put-byte .before .before .before in
+    numbering-next (at-loop-test .before .loop .inv) (at-loop-test .loop-test .taken) (c .number-after .ensures)
+    (at-put-byte .put-byte .ensures)
 
 same-length : tie.Need-same-length Inv-loop μ-loop
 same-length c = numbering-long (c .before .loop .inv)

@@ -16,28 +16,31 @@ use Rattle.sheet_number.proofs.put_byte.Tie as tie
 
 slice-write-out : tie.Need-slice-write-out
 slice-write-out c =
-    let s = c .before .before .before .before .before .before in
-    omega (arith, s .pre, length-cellOf (s .args .n), c .before .before .spell-cell .ensures .end, c .before .before .spell-cell .kept .0)
+    let at-spell-cell = c .before .before in let at-start = at-spell-cell .before .before .before .before in
+    omega (arith, at-start .pre, length-cellOf (at-start .args .n), at-spell-cell .spell-cell .ensures .end, at-spell-cell .spell-cell .kept .0)
 
 add-result : tie.Need-add-result
 add-result c =
-    let s = c .before .before .before .before .before .before in
-    search (needs, s .pre, length-cellOf (s .args .n), c .before .before .spell-cell .ensures .end, c .before .before .spell-cell .kept .0)
+    let at-spell-cell = c .before .before in let at-start = at-spell-cell .before .before .before .before in
+    search (needs, at-start .pre, length-cellOf (at-start .args .n), at-spell-cell .spell-cell .ensures .end, at-spell-cell .spell-cell .kept .0)
 
 returns : tie.Need-returns
 returns c =
-    let s = c .before .before .before .before .before .before in
-    let a = s .args in
-    let r = c .before .before .spell-cell in
-    subst (λ (t : Bool). Wrote (cond t (cellOf (a .n)) [] ++ (a .b ∷ [])) (a .at) (a .out .now) (r .result + 1) (set (r .last .0) (r .result) (a .b))) (sym (c .before .before .before .before .if1 .taken))
-    (wrote-then (cellOf (a .n)) (a .b) (a .at) (r .ensures) (omega (arith, s .pre, length-cellOf (a .n))))
+    let at-spell-cell = c .before .before in let at-if1 = at-spell-cell .before .before in
+    let at-start = at-if1 .before .before in
+    let a = at-start .args in
+    let r = at-spell-cell .spell-cell in
+    subst (λ (t : Bool). Wrote (cond t (cellOf (a .n)) [] ++ (a .b ∷ [])) (a .at) (a .out .now) (r .result + 1)
+    (set (r .last .0) (r .result) (a .b))) (sym (at-if1 .if1 .taken))
+    (wrote-then (cellOf (a .n)) (a .b) (a .at) (r .ensures) (omega (arith, at-start .pre, length-cellOf (a .n))))
 
 returns-2 : tie.Need-returns-2
 returns-2 c =
-    let s = c .before .before in
-    let a = s .args in
-    subst (λ (t : Bool). Wrote (cond t (cellOf (a .n)) [] ++ (a .b ∷ [])) (a .at) (a .out .now) (a .at + 1) (set (a .out .now) (a .at) (a .b))) (sym (c .if1 .left))
-    (wrote-byte (a .b) (a .at) (a .out .now) (omega (arith, s .pre)))
+    let at-start = c .before .before in
+    let a = at-start .args in
+    subst (λ (t : Bool). Wrote (cond t (cellOf (a .n)) [] ++ (a .b ∷ [])) (a .at) (a .out .now) (a .at + 1)
+    (set (a .out .now) (a .at) (a .b))) (sym (c .if1 .left))
+    (wrote-byte (a .b) (a .at) (a .out .now) (omega (arith, at-start .pre)))
 
 pub put-byte-spec : {M : Type 1} → statement M
 put-byte-spec =

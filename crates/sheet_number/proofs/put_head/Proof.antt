@@ -11,8 +11,8 @@ returns c = head-written (c .before .before .args .line) (c .before .before .arg
 
 returns-2 : tie.Need-returns-2
 returns-2 c =
-    let s = c .before .before .before .before .before .before .before in
-    head-first (s .args .line) (omega (arith, c .before .before .before .before .before .if1 .left)) (c .before .before .copy .ensures)
+    let at-copy = c .before .before in let at-if1 = at-copy .before .before .before in
+    head-first (at-if1 .before .before .args .line) (omega (arith, at-if1 .if1 .left)) (at-copy .copy .ensures)
 
 pub put-head-spec : {M : Type 1} → statement M
 put-head-spec = tie.close (tie.spec returns (λ c. search needs) (λ c κs. search needs) (λ c. search needs) returns-2)

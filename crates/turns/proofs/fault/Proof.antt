@@ -18,18 +18,18 @@ abbrev μ-loop : tie.MeasureT-loop
 
 returns : tie.Need-returns Inv-loop μ-loop
 returns c =
-    let l = c .before .before .before in
-    sym (fault-here (l .before .args .digits .now) (l .loop .i) (omega arith) (c .if1 .taken)) ∙ l .loop .inv .1
+    let at-loop = c .before .before .before in
+    sym (fault-here (at-loop .before .args .digits .now) (at-loop .loop .i) (omega arith) (c .if1 .taken)) ∙ at-loop .loop .inv .1
 
 loop-again : tie.Need-loop-again Inv-loop μ-loop
 loop-again c =
-    let l = c .before .before .before in
-    (omega arith, sym (fault-later (l .before .args .digits .now) (l .loop .i) (omega arith) (c .if1 .left)) ∙ l .loop .inv .1)
+    let at-loop = c .before .before .before in
+    (omega arith, sym (fault-later (at-loop .before .args .digits .now) (at-loop .loop .i) (omega arith) (c .if1 .left)) ∙ at-loop .loop .inv .1)
 
 returns-2 : tie.Need-returns-2 Inv-loop μ-loop
 returns-2 c =
-    let l = c .before in
-    sym (fault-none (l .before .args .digits .now) (l .loop .i) (c .loop-test .left)) ∙ l .loop .inv .1
+    let at-loop = c .before in
+    sym (fault-none (at-loop .before .args .digits .now) (at-loop .loop .i) (c .loop-test .left)) ∙ at-loop .loop .inv .1
 
 pub fault-spec : {M : Type 1} → statement M
 fault-spec = tie.close (tie.spec Inv-loop μ-loop (λ c. search needs) (λ c. search needs) returns (λ c. search needs) (λ c. search needs) loop-again returns-2)

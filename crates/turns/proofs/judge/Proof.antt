@@ -9,18 +9,19 @@ use Rattle.turns.proofs.judge.Tie as tie
 
 returns : tie.Need-returns
 returns c =
-    let s = c .before .before in
-    sym (judged-many (s .args .digits .now) (s .args .room) (c .if1 .taken))
+    let at-start = c .before .before in
+    sym (judged-many (at-start .args .digits .now) (at-start .args .room) (c .if1 .taken))
 
 returns-2 : tie.Need-returns-2
 returns-2 c =
-    let s = c .before .before .before in
-    sym (judged-room (s .args .digits .now) (s .args .room) (c .before .if1 .left) (c .if2 .taken))
+    let at-start = c .before .before .before in
+    sym (judged-room (at-start .args .digits .now) (at-start .args .room) (c .before .if1 .left) (c .if2 .taken))
 
 returns-3 : tie.Need-returns-3
 returns-3 c =
-    let s = c .before .before .before .before in
-    c .judge-digits .ensures ∙ sym (judged-digits (s .args .digits .now) (s .args .room) (c .before .before .if1 .left) (omega arith))
+    let at-if1 = c .before .before in let at-start = at-if1 .before .before in
+    c .judge-digits .ensures ∙ sym
+    (judged-digits (at-start .args .digits .now) (at-start .args .room) (at-if1 .if1 .left) (omega arith))
 
 pub judge-spec : {M : Type 1} → statement M
 judge-spec = tie.close (tie.spec returns returns-2 (λ c κs. search needs) returns-3)

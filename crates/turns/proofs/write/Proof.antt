@@ -17,24 +17,23 @@ abbrev μ-loop : tie.MeasureT-loop
 
 digit-requires : tie.Need-digit-requires Inv-loop μ-loop
 digit-requires c κs =
-    let l = c .before .before in
-    let s = l .before .before .before in
-    (omega (arith, l .loop .inv .small), below-getD 4 (s .args .digits .now) (l .loop .i) (s .pre .0) (omega arith))
+    let at-loop = c .before .before in let at-start = at-loop .before .before .before in
+    (omega (arith, at-loop .loop .inv .small), below-getD 4 (at-start .args .digits .now) (at-loop .loop .i) (at-start .pre .0) (omega arith))
 
 loop-again : tie.Need-loop-again Inv-loop μ-loop
 loop-again c =
-    let l = c .before .before .before .before in
-    let s = l .before .before .before in
-    let ds = s .args .digits .now in
+    let at-loop = c .before .before .before .before in let at-start = at-loop .before .before .before in
+    let ds = at-start .args .digits .now in
     let y = c .before .digit in
-    let b = below-getD 4 ds (l .loop .i) (s .pre .0) (omega arith) in
-    one-more (s .args .way) ds (l .loop .out) (l .loop .last) (l .loop .i) (y .result) (c .step-at .result) (omega arith) (y .ensures .0) (c .step-at .ensures) b (y .ensures .1) (l .loop .inv)
+    let b = below-getD 4 ds (at-loop .loop .i) (at-start .pre .0) (omega arith) in
+    one-more (at-start .args .way) ds (at-loop .loop .out) (at-loop .loop .last) (at-loop .loop .i) (y .result)
+    (c .step-at .result) (omega arith) (y .ensures .0) (c .step-at .ensures) b (y .ensures .1) (at-loop .loop .inv)
 
 returns : tie.Need-returns Inv-loop μ-loop
 returns c =
-    let l = c .before in
-    let s = l .before .before .before in
-    all-done (s .args .way) (s .args .digits .now) (l .loop .out) (l .loop .last) (l .loop .i) (c .loop-test .left) (s .pre .0) (l .loop .inv)
+    let at-loop = c .before in let at-start = at-loop .before .before .before in
+    all-done (at-start .args .way) (at-start .args .digits .now) (at-loop .loop .out) (at-loop .loop .last) (at-loop .loop .i)
+    (c .loop-test .left) (at-start .pre .0) (at-loop .loop .inv)
 
 pub write-spec : {M : Type 1} → statement M
 write-spec = tie.close (tie.spec Inv-loop μ-loop (λ c. search needs) (λ c. search needs) digit-requires (λ c. search needs) (λ c κs. search needs) (λ c. search needs) (λ c. search needs) loop-again (λ c. search needs) returns)

@@ -11,11 +11,14 @@ use Rattle.undrwyth.proofs.give_converted.Tie as tie
 
 turns-words-requires : tie.Need-turns-words-requires
 turns-words-requires c κs =
-    let a = c .before .before .before .before .before .before .args in
-    turns-fit (a .digits .now) (length (a .out .now)) (c .before .before .convert .result) (c .before .before .convert .ensures .answer)
+    let at-convert = c .before .before in let at-start = at-convert .before .before .before .before in
+    let a = at-start .args in
+    turns-fit (a .digits .now) (length (a .out .now)) (at-convert .convert .result) (at-convert .convert .ensures .answer)
 
 returns : tie.Need-returns
-returns c = record { answer = c .before .before .before .convert .result; converted = c .before .before .before .convert .ensures; words-are = c .turns-words .ensures; result = ap (λ (l : List ℕ). getD l 0 0) (c .turns-words .ensures) }
+returns c =
+    let at-convert = c .before .before .before in
+    record { answer = at-convert .convert .result; converted = at-convert .convert .ensures; words-are = c .turns-words .ensures; result = ap (λ (l : List ℕ). getD l 0 0) (c .turns-words .ensures) }
 
 pub give-converted-spec : {M : Type 1} → statement M
 give-converted-spec =

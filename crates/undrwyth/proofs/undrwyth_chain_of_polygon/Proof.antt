@@ -8,13 +8,15 @@ use Rattle.undrwyth.proofs.undrwyth_chain_of_polygon.Tie as tie
 
 given-words-requires : tie.Need-given-words-requires
 given-words-requires c κs =
-    let a = c .before .before .before .before .before .before .args in
-    let w = c .before .before .read in
+    let at-read = c .before .before in let at-start = at-read .before .before .before .before in
+    let a = at-start .args in
+    let w = at-read .read in
     given-fits (a .file .now) (a .chain .now) (w .result) (w .last .1 .0) (w .ensures)
 
 returns : tie.Need-returns
 returns c =
-    let w = c .before .before .before .read in
+    let at-read = c .before .before .before in
+    let w = at-read .read in
     record {
       answer = w .result;
       read = w .ensures;

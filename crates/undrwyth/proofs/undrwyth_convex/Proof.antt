@@ -17,11 +17,13 @@ counted-words-requires c κs = convex-fits _ (c .before .before .args .chain .no
 
 returns : tie.Need-returns
 returns c =
-    let z = c .before .before .before in
+    let at-start = c .before .before .before in
     let w = c .before .tell in
     record {
       answer = w .result;
-      told = subst (λ (s : Corner). ConvexCall s (z .args .chain .now) (w .result)) (ap₂ corner (toZ-ofZ w32 (z .args .start-x) (z .fits .start-x)) (toZ-ofZ w32 (z .args .start-y) (z .fits .start-y))) (w .ensures);
+      told = subst (λ (s : Corner). ConvexCall s (at-start .args .chain .now) (w .result))
+          (ap₂ corner (toZ-ofZ w32 (at-start .args .start-x) (at-start .fits .start-x))
+          (toZ-ofZ w32 (at-start .args .start-y) (at-start .fits .start-y))) (w .ensures);
       words-are = c .counted-words .ensures;
       result = counted-first (w .result) (c .counted-words .result) (c .counted-words .ensures);
     }

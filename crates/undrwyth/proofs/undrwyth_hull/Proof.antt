@@ -14,17 +14,21 @@ use Rattle.undrwyth.proofs.undrwyth_hull.Tie as tie
 
 counted-words-requires : tie.Need-counted-words-requires
 counted-words-requires c κs =
-    let a = c .before .before .before .before .args in
+    let at-start = c .before .before .before .before in
+    let a = at-start .args in
     let w = c .before .list in
     counted-fits _ (a .chain .now) (a .out .now) (w .result) (w .last .1 .1 .0) (w .ensures)
 
 returns : tie.Need-returns
 returns c =
-    let a = c .before .before .before .before .before .args in
-    let w = c .before .before .list in
+    let at-list = c .before .before in let at-start = at-list .before .before .before in
+    let a = at-start .args in
+    let w = at-list .list in
     record {
       answer = w .result;
-      listed = subst (λ (s : Corner). HullCall s (a .chain .now) (a .out .now) (w .result) (w .last .1 .1 .0)) (ap₂ corner (toZ-ofZ w32 (a .start-x) (c .before .before .before .before .before .fits .start-x)) (toZ-ofZ w32 (a .start-y) (c .before .before .before .before .before .fits .start-y))) (w .ensures);
+      listed = subst (λ (s : Corner). HullCall s (a .chain .now) (a .out .now) (w .result) (w .last .1 .1 .0))
+          (ap₂ corner (toZ-ofZ w32 (a .start-x) (at-start .fits .start-x)) (toZ-ofZ w32 (a .start-y) (at-start .fits .start-y)))
+          (w .ensures);
       words-are = c .counted-words .ensures;
       result = counted-first (w .result) (c .counted-words .result) (c .counted-words .ensures);
     }

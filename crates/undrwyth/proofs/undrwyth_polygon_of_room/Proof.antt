@@ -14,17 +14,21 @@ use Rattle.undrwyth.proofs.undrwyth_polygon_of_room.Tie as tie
 
 counted-words-requires : tie.Need-counted-words-requires
 counted-words-requires c κs =
-    let a = c .before .before .before .before .before .before .args in
-    let w = c .before .before .write in
+    let at-write = c .before .before in let at-start = at-write .before .before .before .before in
+    let a = at-start .args in
+    let w = at-write .write in
     polygon-fits _ (a .chain .now) (a .out .now) (w .result) (w .last .1 .1 .0) (w .ensures)
 
 returns : tie.Need-returns
 returns c =
-    let a = c .before .before .before .before .before .before .before .args in
-    let w = c .before .before .before .write in
+    let at-write = c .before .before .before in let at-start = at-write .before .before .before .before in
+    let a = at-start .args in
+    let w = at-write .write in
     record {
       answer = w .result;
-      written = subst (λ (s : Corner). PolygonCall s (a .chain .now) (a .out .now) (w .result) (w .last .1 .1 .0)) (ap₂ corner (toZ-ofZ w32 (a .start-x) (c .before .before .before .before .before .before .before .fits .start-x)) (toZ-ofZ w32 (a .start-y) (c .before .before .before .before .before .before .before .fits .start-y))) (w .ensures);
+      written = subst (λ (s : Corner). PolygonCall s (a .chain .now) (a .out .now) (w .result) (w .last .1 .1 .0))
+          (ap₂ corner (toZ-ofZ w32 (a .start-x) (at-start .fits .start-x)) (toZ-ofZ w32 (a .start-y) (at-start .fits .start-y)))
+          (w .ensures);
       words-are = c .counted-words .ensures;
       result = counted-first (w .result) (c .counted-words .result) (c .counted-words .ensures);
     }

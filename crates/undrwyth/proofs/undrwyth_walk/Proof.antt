@@ -14,18 +14,23 @@ use Rattle.undrwyth.proofs.undrwyth_walk.Tie as tie
 
 walk-words-requires : tie.Need-walk-words-requires
 walk-words-requires c κs =
-    let a = c .before .before .before .before .before .before .before .before .before .before .before .before .before .before .args in
-    let w = c .before .before .before .before .before .before .follow in
-    answer-fits _ (a .ops .now) (a .table .now) (a .marks .now) (a .chain .now) (w .result) (w .last .1 .1 .0) (w .last .1 .1 .1 .0) (w .last .1 .1 .1 .1 .0) (w .ensures)
+    let at-follow = c .before .before .before .before .before .before in
+    let at-start = at-follow .before .before .before .before .before .before .before .before in
+    let a = at-start .args in
+    let w = at-follow .follow in
+    answer-fits _ (a .ops .now) (a .table .now) (a .marks .now) (a .chain .now) (w .result) (w .last .1 .1 .0)
+    (w .last .1 .1 .1 .0) (w .last .1 .1 .1 .1 .0) (w .ensures)
 
 returns : tie.Need-returns
 returns c =
-    let s = c .before .before .before .before .before .before .before .before .before .before .before .before .before .before .before in
-    let a = s .args in
-    let w = c .before .before .before .before .before .before .before .follow in
+    let at-follow = c .before .before .before .before .before .before .before in
+    let at-start = at-follow .before .before .before .before .before .before .before .before in
+    let a = at-start .args in
+    let w = at-follow .follow in
     record {
       answer = w .result;
-      walked = subst (λ (k : Corner). WalkIs k (a .ops .now) (a .table .now) (a .marks .now) (a .chain .now) (w .result) (w .last .1 .1 .0) (w .last .1 .1 .1 .0) (w .last .1 .1 .1 .1 .0)) (ap₂ corner (toZ-ofZ w32 (a .start-x) (s .fits .start-x)) (toZ-ofZ w32 (a .start-y) (s .fits .start-y))) (w .ensures);
+      walked = subst (λ (k : Corner). WalkIs k (a .ops .now) (a .table .now) (a .marks .now) (a .chain .now) (w .result)
+          (w .last .1 .1 .0) (w .last .1 .1 .1 .0) (w .last .1 .1 .1 .1 .0)) (ap₂ corner (toZ-ofZ w32 (a .start-x) (at-start .fits .start-x)) (toZ-ofZ w32 (a .start-y) (at-start .fits .start-y))) (w .ensures);
       words-are = c .walk-words .ensures;
       result = answer-first (w .result) (c .walk-words .result) (c .walk-words .ensures);
     }

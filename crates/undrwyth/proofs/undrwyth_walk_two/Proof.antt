@@ -14,20 +14,28 @@ use Rattle.undrwyth.proofs.undrwyth_walk_two.Tie as tie
 
 pair-answer-words-requires : tie.Need-pair-answer-words-requires
 pair-answer-words-requires c κs =
-    let a = c .before .before .before .before .before .before .before .before .before .before .before .before .before .before .before .before .before .before .args in
-    let w = c .before .before .before .before .before .before .before .before .follow in
-    pair-fits _ _ (a .ops .now) (record { table = a .table .now; marks = a .marks .now; first = a .chain0 .now; second = a .chain1 .now }) (w .result) (record { table = w .last .1 .1 .1 .0; marks = w .last .1 .1 .1 .1 .0; first = w .last .1 .1 .1 .1 .1 .0; second = w .last .1 .1 .1 .1 .1 .1 .0 }) (w .ensures)
+    let at-follow = c .before .before .before .before .before .before .before .before in
+    let at-start = at-follow .before .before .before .before .before .before .before .before .before .before in
+    let a = at-start .args in
+    let w = at-follow .follow in
+    pair-fits _ _ (a .ops .now)
+    (record { table = a .table .now; marks = a .marks .now; first = a .chain0 .now; second = a .chain1 .now }) (w .result)
+    (record { table = w .last .1 .1 .1 .0; marks = w .last .1 .1 .1 .1 .0; first = w .last .1 .1 .1 .1 .1 .0; second = w .last .1 .1 .1 .1 .1 .1 .0 }) (w .ensures)
 
 returns : tie.Need-returns
 returns c =
-    let s = c .before .before .before .before .before .before .before .before .before .before .before .before .before .before .before .before .before .before .before in
-    let a = s .args in
-    let w = c .before .before .before .before .before .before .before .before .before .follow in
+    let at-follow = c .before .before .before .before .before .before .before .before .before in
+    let at-start = at-follow .before .before .before .before .before .before .before .before .before .before in
+    let a = at-start .args in
+    let w = at-follow .follow in
     record {
       answer = w .result;
-      walked = subst₂ (λ (x y : Corner). PairIs x y (a .ops .now) (record { table = a .table .now; marks = a .marks .now; first = a .chain0 .now; second = a .chain1 .now }) (w .result) (record { table = w .last .1 .1 .1 .0; marks = w .last .1 .1 .1 .1 .0; first = w .last .1 .1 .1 .1 .1 .0; second = w .last .1 .1 .1 .1 .1 .1 .0 }))
-          (ap₂ corner (toZ-ofZ w32 (a .start0-x) (s .fits .start0-x)) (toZ-ofZ w32 (a .start0-y) (s .fits .start0-y)))
-          (ap₂ corner (toZ-ofZ w32 (a .start1-x) (s .fits .start1-x)) (toZ-ofZ w32 (a .start1-y) (s .fits .start1-y)))
+      walked = subst₂ (λ (x y : Corner). PairIs x y (a .ops .now)
+          (record { table = a .table .now; marks = a .marks .now; first = a .chain0 .now; second = a .chain1 .now }) (w .result) (record { table = w .last .1 .1 .1 .0; marks = w .last .1 .1 .1 .1 .0; first = w .last .1 .1 .1 .1 .1 .0; second = w .last .1 .1 .1 .1 .1 .1 .0 }))
+          (ap₂ corner (toZ-ofZ w32 (a .start0-x) (at-start .fits .start0-x))
+          (toZ-ofZ w32 (a .start0-y) (at-start .fits .start0-y)))
+          (ap₂ corner (toZ-ofZ w32 (a .start1-x) (at-start .fits .start1-x))
+          (toZ-ofZ w32 (a .start1-y) (at-start .fits .start1-y)))
           (w .ensures);
       words-are = c .pair-answer-words .ensures;
       result = pair-first (w .result) (c .pair-answer-words .result) (c .pair-answer-words .ensures);

@@ -10,16 +10,23 @@ use Rattle.undrwyth_words.proofs.counted_words.Statement.{statement}
 use Rattle.undrwyth_words.proofs.counted_words.Tie as tie
 
 cast-t7 : tie.Need-cast-t7
-cast-t7 c = omega (arith, subst CountedFits (c .before .c .given .1) (c .before .before .before .pre))
+cast-t7 c =
+    let at-c = c .before in
+    omega (arith, subst CountedFits (at-c .c .given .1) (at-c .before .before .pre))
 
 cast-place : tie.Need-cast-place
-cast-place c = omega (arith, c .refusal-place .ensures, subst CountedFits (c .before .before .before .c2 .given .1) (c .before .before .before .before .before .pre))
+cast-place c =
+    let at-c2 = c .before .before .before in
+    omega (arith, c .refusal-place .ensures, subst CountedFits (at-c2 .c2 .given .1) (at-c2 .before .before .pre))
 
 returns : tie.Need-returns
 returns c = sym (ap countedWords (c .before .c .given .1))
 
 returns-2 : tie.Need-returns-2
-returns-2 c = refused-counted (c .before .before .before .before .before .args .c) (c .before .before .before .c2 .given .0 .0) (c .before .refusal-number .result) (c .refusal-place .result) (c .before .before .before .c2 .given .1) (c .before .refusal-number .ensures .0) (c .refusal-place .ensures)
+returns-2 c =
+    let at-refusal-number = c .before in let at-c2 = at-refusal-number .before .before in
+    refused-counted (at-c2 .before .before .args .c) (at-c2 .c2 .given .0 .0) (at-refusal-number .refusal-number .result)
+    (c .refusal-place .result) (at-c2 .c2 .given .1) (at-refusal-number .refusal-number .ensures .0) (c .refusal-place .ensures)
 
 pub counted-words-spec : {M : Type 1} → statement M
 counted-words-spec =

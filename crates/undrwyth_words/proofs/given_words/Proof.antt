@@ -10,16 +10,23 @@ use Rattle.undrwyth_words.proofs.given_words.Statement.{statement}
 use Rattle.undrwyth_words.proofs.given_words.Tie as tie
 
 found-words-requires : tie.Need-found-words-requires
-found-words-requires c κs = subst GivenFits (c .before .g .given .1) (c .before .before .before .pre)
+found-words-requires c κs =
+    let at-g = c .before in
+    subst GivenFits (at-g .g .given .1) (at-g .before .before .pre)
 
 cast-place : tie.Need-cast-place
-cast-place c = omega (arith, c .refusal-place .ensures, subst GivenFits (c .before .before .before .g2 .given .1) (c .before .before .before .before .before .pre))
+cast-place c =
+    let at-g2 = c .before .before .before in
+    omega (arith, c .refusal-place .ensures, subst GivenFits (at-g2 .g2 .given .1) (at-g2 .before .before .pre))
 
 returns : tie.Need-returns
 returns c = c .found-words .ensures ∙ sym (ap givenWords (c .before .before .g .given .1))
 
 returns-2 : tie.Need-returns-2
-returns-2 c = refused-given (c .before .before .before .before .before .args .g) (c .before .before .before .g2 .given .0 .0) (c .before .refusal-number .result) (c .refusal-place .result) (c .before .before .before .g2 .given .1) (c .before .refusal-number .ensures .0) (c .refusal-place .ensures)
+returns-2 c =
+    let at-refusal-number = c .before in let at-g2 = at-refusal-number .before .before in
+    refused-given (at-g2 .before .before .args .g) (at-g2 .g2 .given .0 .0) (at-refusal-number .refusal-number .result)
+    (c .refusal-place .result) (at-g2 .g2 .given .1) (at-refusal-number .refusal-number .ensures .0) (c .refusal-place .ensures)
 
 pub given-words-spec : {M : Type 1} → statement M
 given-words-spec =

@@ -10,16 +10,23 @@ use Rattle.undrwyth_words.proofs.pair_answer_words.Statement.{statement
 use Rattle.undrwyth_words.proofs.pair_answer_words.Tie as tie
 
 pair-facts-words-requires : tie.Need-pair-facts-words-requires
-pair-facts-words-requires c κs = subst PairAnswerFits (c .before .a .given .1) (c .before .before .before .pre)
+pair-facts-words-requires c κs =
+    let at-a = c .before in
+    subst PairAnswerFits (at-a .a .given .1) (at-a .before .before .pre)
 
 cast-place : tie.Need-cast-place
-cast-place c = omega (arith, c .refusal-place .ensures, subst PairAnswerFits (c .before .before .before .a2 .given .1) (c .before .before .before .before .before .pre))
+cast-place c =
+    let at-a2 = c .before .before .before in
+    omega (arith, c .refusal-place .ensures, subst PairAnswerFits (at-a2 .a2 .given .1) (at-a2 .before .before .pre))
 
 returns : tie.Need-returns
 returns c = c .pair-facts-words .ensures ∙ sym (ap pairAnswerWords (c .before .before .a .given .1))
 
 returns-2 : tie.Need-returns-2
-returns-2 c = refused-pair (c .before .before .before .before .before .args .a) (c .before .before .before .a2 .given .0 .0) (c .before .refusal-number .result) (c .refusal-place .result) (c .before .before .before .a2 .given .1) (c .before .refusal-number .ensures .0) (c .refusal-place .ensures)
+returns-2 c =
+    let at-refusal-number = c .before in let at-a2 = at-refusal-number .before .before in
+    refused-pair (at-a2 .before .before .args .a) (at-a2 .a2 .given .0 .0) (at-refusal-number .refusal-number .result)
+    (c .refusal-place .result) (at-a2 .a2 .given .1) (at-refusal-number .refusal-number .ensures .0) (c .refusal-place .ensures)
 
 pub pair-answer-words-spec : {M : Type 1} → statement M
 pair-answer-words-spec =

@@ -7,9 +7,10 @@ use Rattle.undrwyth_words.proofs.pair_facts_words.Tie as tie
 
 returns : tie.Need-returns
 returns c =
-    let a = c .before .before .party-words in
+    let at-party-words = c .before .before in let at-start = at-party-words .before .before .before in
+    let a = at-party-words .party-words in
     let b = c .before .party-words2 in
-    pair-words (c .before .before .before .before .before .args .f) (a .result) (b .result) (a .ensures) (b .ensures)
+    pair-words (at-start .args .f) (a .result) (b .result) (a .ensures) (b .ensures)
 
 pub pair-facts-words-spec : {M : Type 1} → statement M
 pair-facts-words-spec =

@@ -13,19 +13,24 @@ cast-verdict : tie.Need-cast-verdict
 cast-verdict c = omega (arith, verdict-small (c .before .args .f .verdict) (c .verdict-number .result) (c .verdict-number .ensures))
 
 cast-t12 : tie.Need-cast-t12
-cast-t12 c = omega (arith, c .before .before .before .before .before .before .before .before .before .before .before .before .pre .3)
+cast-t12 c =
+    let at-start = c .before .before .before .before .before .before .before .before .before .before .before .before in
+    omega (arith, at-start .pre .3)
 
 returns : tie.Need-returns
 returns c =
-    let v = c .before .before .before .before .before .before .before .before .before .before .before .verdict-number in
-    let b = c .before .before .before .before .before .before .before .before .bits in
-    let a = c .before .before .before .before .before .before .bits2 in
-    let d = c .before .before .before .before .bits3 in
-    let f = c .before .before .before .before .before .before .before .before .before .before .before .before .args .f in
+    let at-bits3 = c .before .before .before .before in let at-bits2 = at-bits3 .before .before in
+    let at-struct-told2 = at-bits2 .before in let at-struct-told = at-struct-told2 .before .before in
+    let at-verdict-number = at-struct-told .before .before in
+    let v = at-verdict-number .verdict-number in
+    let b = at-struct-told2 .before .bits in
+    let a = at-bits2 .bits2 in
+    let d = at-bits3 .bits3 in
+    let f = at-verdict-number .before .args .f in
     party-words f (v .result) (b .result) (a .result) (d .result) (v .ensures)
-    (b .ensures ∙ ap bitsOf (back (f .area) (c .before .before .before .before .before .before .before .before .before .struct-told .given .1 .1 .1 .1 .1 .0 .1)))
-    (a .ensures ∙ ap bitsOf (back (f .last .0) (c .before .before .before .before .before .before .before .struct-told2 .given .0 .1)))
-    (d .ensures ∙ ap bitsOf (back (f .last .1) (c .before .before .before .before .before .struct-told3 .given .1 .0 .1)))
+    (b .ensures ∙ ap bitsOf (back (f .area) (at-struct-told .struct-told .given .1 .1 .1 .1 .1 .0 .1)))
+    (a .ensures ∙ ap bitsOf (back (f .last .0) (at-struct-told2 .struct-told2 .given .0 .1)))
+    (d .ensures ∙ ap bitsOf (back (f .last .1) (at-bits3 .before .struct-told3 .given .1 .0 .1)))
 
 pub party-words-spec : {M : Type 1} → statement M
 party-words-spec =

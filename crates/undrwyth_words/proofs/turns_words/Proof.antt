@@ -12,13 +12,18 @@ use Rattle.undrwyth_words.proofs.turns_words.Statement.{statement}
 use Rattle.undrwyth_words.proofs.turns_words.Tie as tie
 
 cast-place : tie.Need-cast-place
-cast-place c = omega (arith, c .refusal-place .ensures, subst (λ (j : Judged). judgedPlace j < 2 ^ 32) (c .before .before .before .j .given .1) (c .before .before .before .before .before .pre))
+cast-place c =
+    let at-j = c .before .before .before in
+    omega (arith, c .refusal-place .ensures, subst (λ (j : Judged). judgedPlace j < 2 ^ 32) (at-j .j .given .1) (at-j .before .before .pre))
 
 returns : tie.Need-returns
 returns c = sym (ap judgedWords (c .enum-told .given .1))
 
 returns-2 : tie.Need-returns-2
-returns-2 c = refused-judged (c .before .before .before .before .before .args .j) (c .before .before .before .j .given .0 .0) (c .before .refusal-number .result) (c .refusal-place .result) (c .before .before .before .j .given .1) (c .before .refusal-number .ensures .0) (c .refusal-place .ensures)
+returns-2 c =
+    let at-refusal-number = c .before in let at-j = at-refusal-number .before .before in
+    refused-judged (at-j .before .before .args .j) (at-j .j .given .0 .0) (at-refusal-number .refusal-number .result)
+    (c .refusal-place .result) (at-j .j .given .1) (at-refusal-number .refusal-number .ensures .0) (c .refusal-place .ensures)
 
 pub turns-words-spec : {M : Type 1} → statement M
 turns-words-spec =

@@ -10,16 +10,23 @@ use Rattle.undrwyth_words.proofs.walk_words.Statement.{statement}
 use Rattle.undrwyth_words.proofs.walk_words.Tie as tie
 
 facts-words-requires : tie.Need-facts-words-requires
-facts-words-requires c κs = subst AnswerFits (c .before .a .given .1) (c .before .before .before .pre)
+facts-words-requires c κs =
+    let at-a = c .before in
+    subst AnswerFits (at-a .a .given .1) (at-a .before .before .pre)
 
 cast-place : tie.Need-cast-place
-cast-place c = omega (arith, c .refusal-place .ensures, subst AnswerFits (c .before .before .before .a2 .given .1) (c .before .before .before .before .before .pre))
+cast-place c =
+    let at-a2 = c .before .before .before in
+    omega (arith, c .refusal-place .ensures, subst AnswerFits (at-a2 .a2 .given .1) (at-a2 .before .before .pre))
 
 returns : tie.Need-returns
 returns c = c .facts-words .ensures ∙ sym (ap answerWords (c .before .before .a .given .1))
 
 returns-2 : tie.Need-returns-2
-returns-2 c = refused-answer (c .before .before .before .before .before .args .a) (c .before .before .before .a2 .given .0 .0) (c .before .refusal-number .result) (c .refusal-place .result) (c .before .before .before .a2 .given .1) (c .before .refusal-number .ensures .0) (c .refusal-place .ensures)
+returns-2 c =
+    let at-refusal-number = c .before in let at-a2 = at-refusal-number .before .before in
+    refused-answer (at-a2 .before .before .args .a) (at-a2 .a2 .given .0 .0) (at-refusal-number .refusal-number .result)
+    (c .refusal-place .result) (at-a2 .a2 .given .1) (at-refusal-number .refusal-number .ensures .0) (c .refusal-place .ensures)
 
 pub walk-words-spec : {M : Type 1} → statement M
 walk-words-spec =

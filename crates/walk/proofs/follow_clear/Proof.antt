@@ -8,18 +8,28 @@ use Rattle.walk.proofs.follow_clear.Tie as tie
 
 returns : tie.Need-returns
 returns c =
-    let a = c .before .before .before .before .before .before .before .before .args in
+    let at-input = c .before .before .before in let at-start = at-input .before .before .before .before .before in
+    let a = at-start .args in
     let j = c .before .j .given in
-    walk-refused (a .start) (a .ops .now) (a .t .now) (a .marks .now) (a .chain .now) (j .0 .0) (sym (j .1) ∙ c .before .before .before .input .ensures)
+    walk-refused (a .start) (a .ops .now) (a .t .now) (a .marks .now) (a .chain .now) (j .0 .0)
+    (sym (j .1) ∙ at-input .input .ensures)
 
 set-out-requires : tie.Need-set-out-requires
-set-out-requires c κs = (sym (c .before .before .before .before .before .input .ensures) ∙ c .before .before .before .enum-told .given .1, c .before .before .before .before .before .before .before .before .before .before .pre)
+set-out-requires c κs =
+    let at-enum-told = c .before .before .before in let at-input = at-enum-told .before .before in
+    let at-start = at-input .before .before .before .before .before in
+    (sym (at-input .input .ensures) ∙ at-enum-told .enum-told .given .1, at-start .pre)
 
 returns-2 : tie.Need-returns-2
 returns-2 c =
-    let a = c .before .before .before .before .before .before .before .before .before .before .before .before .before .before .before .before .before .args in
-    let g = c .before .before .before .before .before .before .set-out in
-    walk-followed (a .start) (a .ops .now) (a .t .now) (a .marks .now) (a .chain .now) (g .result) (g .last .1 .1 .0) (g .last .1 .1 .1 .0) (g .last .1 .1 .1 .1 .0) (sym (c .before .before .before .before .before .before .before .before .before .before .enum-told .given .1) ∙ c .before .before .before .before .before .before .before .before .before .before .before .before .input .ensures) (g .ensures)
+    let at-set-out = c .before .before .before .before .before .before in
+    let at-enum-told = at-set-out .before .before .before .before in let at-input = at-enum-told .before .before in
+    let at-start = at-input .before .before .before .before .before in
+    let a = at-start .args in
+    let g = at-set-out .set-out in
+    walk-followed (a .start) (a .ops .now) (a .t .now) (a .marks .now) (a .chain .now) (g .result) (g .last .1 .1 .0)
+    (g .last .1 .1 .1 .0) (g .last .1 .1 .1 .1 .0) (sym (at-enum-told .enum-told .given .1) ∙ at-input .input .ensures)
+    (g .ensures)
 
 pub follow-clear-spec : {M : Type 1} → statement M
 follow-clear-spec =

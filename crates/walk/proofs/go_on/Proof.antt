@@ -16,31 +16,43 @@ zeros e = ap (λ (k : ℕ). replicate {A = ℕ} k 0) e
 
 facts-requires : tie.Need-facts-requires
 facts-requires c κs =
-    let a = c .before .before .before .before .before .before .before .before .before .before .before .before .before .before .before .before .before .before .args in
-    let r = c .before .before .before .before .before .before .before .before .before .before .run in
-    let w = c .before .before .w .given in
-    let e = subst (λ (x : Ran). Ended (length (a .t .now)) (a .start) (a .ops .now) (r .last .1 .1 .1 .0) (r .last .1 .1 .1 .1 .0) (r .last .1 .1 .1 .1 .1 .0) x) (w .1) (r .ensures) in
+    let at-w = c .before .before in let at-run = at-w .before .before .before .before .before .before .before .before in
+    let at-start = at-run .before .before .before .before .before .before .before .before in
+    let a = at-start .args in
+    let r = at-run .run in
+    let w = at-w .w .given in
+    let e = subst (λ (x : Ran). Ended (length (a .t .now)) (a .start) (a .ops .now) (r .last .1 .1 .1 .0) (r .last .1 .1 .1 .1 .0)
+    (r .last .1 .1 .1 .1 .1 .0) x) (w .1) (r .ensures) in
     record { chain-steps = survivors (a .ops .now); settled = settled-of (a .start) (r .last .1 .1 .1 .0) (r .last .1 .1 .1 .1 .1 .0) (survivors (a .ops .now)) (w .0 .0) (e .0) }
 
 returns : tie.Need-returns
 returns c =
-    let a = c .before .before .before .before .before .before .before .before .before .before .before .before .before .before .before .before .before .args in
-    let r = c .before .before .before .before .before .before .before .before .before .run in
+    let at-run = c .before .before .before .before .before .before .before .before .before in
+    let at-start = at-run .before .before .before .before .before .before .before .before in
+    let a = at-start .args in
+    let r = at-run .run in
     let w = c .before .i .given in
-    let e = subst (λ (x : Ran). Ended (length (a .t .now)) (a .start) (a .ops .now) (r .last .1 .1 .1 .0) (r .last .1 .1 .1 .1 .0) (r .last .1 .1 .1 .1 .1 .0) x) (w .1) (r .ensures) in
+    let e = subst (λ (x : Ran). Ended (length (a .t .now)) (a .start) (a .ops .now) (r .last .1 .1 .1 .0) (r .last .1 .1 .1 .1 .0)
+    (r .last .1 .1 .1 .1 .1 .0) x) (w .1) (r .ensures) in
     let q : length (r .last .1 .1 .1 .1 .0) ≡ length (a .marks .now) = search needs in
     let o : length (r .last .1 .1 .1 .1 .1 .0) ≡ length (a .chain .now) = search needs in
-    followed-full (a .start) (a .ops .now) (a .t .now) (a .marks .now) (a .chain .now) (r .last .1 .1 .1 .0) (r .last .1 .1 .1 .1 .0) (r .last .1 .1 .1 .1 .1 .0) (w .0 .0) (e .0) (e .1) (e .2 ∙ zeros q) (e .3 ∙ zeros o)
+    followed-full (a .start) (a .ops .now) (a .t .now) (a .marks .now) (a .chain .now) (r .last .1 .1 .1 .0)
+    (r .last .1 .1 .1 .1 .0) (r .last .1 .1 .1 .1 .1 .0) (w .0 .0) (e .0) (e .1) (e .2 ∙ zeros q) (e .3 ∙ zeros o)
 
 returns-2 : tie.Need-returns-2
 returns-2 c =
-    let a = c .before .before .before .before .before .before .before .before .before .before .before .before .before .before .before .before .before .before .before .args in
-    let r = c .before .before .before .before .before .before .before .before .before .before .before .run in
-    let w = c .before .before .before .w .given in
-    let e = subst (λ (x : Ran). Ended (length (a .t .now)) (a .start) (a .ops .now) (r .last .1 .1 .1 .0) (r .last .1 .1 .1 .1 .0) (r .last .1 .1 .1 .1 .1 .0) x) (w .1) (r .ensures) in
+    let at-w = c .before .before .before in let at-run = at-w .before .before .before .before .before .before .before .before in
+    let at-start = at-run .before .before .before .before .before .before .before .before in
+    let a = at-start .args in
+    let r = at-run .run in
+    let w = at-w .w .given in
+    let e = subst (λ (x : Ran). Ended (length (a .t .now)) (a .start) (a .ops .now) (r .last .1 .1 .1 .0) (r .last .1 .1 .1 .1 .0)
+    (r .last .1 .1 .1 .1 .1 .0) x) (w .1) (r .ensures) in
     let l : length (r .last .1 .1 .1 .0) ≡ length (a .t .now) = search needs in
-    let f = c .facts .ensures (survivors (a .ops .now)) (settled-of (a .start) (r .last .1 .1 .1 .0) (r .last .1 .1 .1 .1 .1 .0) (survivors (a .ops .now)) (w .0 .0) (e .0)) in
-    followed-all (a .start) (a .ops .now) (a .t .now) (a .marks .now) (a .chain .now) (r .last .1 .1 .1 .0) (r .last .1 .1 .1 .1 .0) (r .last .1 .1 .1 .1 .1 .0) (w .0 .0) (c .facts .result) (e .0) (e .1) (e .2) (e .3) l f
+    let f = c .facts .ensures (survivors (a .ops .now))
+    (settled-of (a .start) (r .last .1 .1 .1 .0) (r .last .1 .1 .1 .1 .1 .0) (survivors (a .ops .now)) (w .0 .0) (e .0)) in
+    followed-all (a .start) (a .ops .now) (a .t .now) (a .marks .now) (a .chain .now) (r .last .1 .1 .1 .0)
+    (r .last .1 .1 .1 .1 .0) (r .last .1 .1 .1 .1 .1 .0) (w .0 .0) (c .facts .result) (e .0) (e .1) (e .2) (e .3) l f
 
 pub go-on-spec : {M : Type 1} → statement M
 go-on-spec =

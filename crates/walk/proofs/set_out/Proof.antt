@@ -11,35 +11,46 @@ use Rattle.walk.proofs.set_out.Tie as tie
 
 plant-requires : tie.Need-plant-requires
 plant-requires c κs =
-    let s = c .before .before .before .before .before in
-    let a = s .args in
-    let k = input-good (a .start) (a .ops .now) (length (a .t .now)) (length (a .marks .now)) (length (a .chain .now)) (s .pre .0) in
-    (k .start, s .pre .1, k .least, k .most)
+    let at-start = c .before .before .before .before .before in
+    let a = at-start .args in
+    let k = input-good (a .start) (a .ops .now) (length (a .t .now)) (length (a .marks .now)) (length (a .chain .now))
+    (at-start .pre .0) in
+    (k .start, at-start .pre .1, k .least, k .most)
 
 returns : tie.Need-returns
 returns c =
-    let a = c .before .before .before .before .before .before .before .before .before .before .before .before .before .before .before .before .args in
-    let p = c .before .before .before .before .before .before .before .before .before .before .plant in
-    let z = c .before .before .before .before .clear in
-    let f = planted-full (length (a .t .now)) (a .start) (a .ops .now) (p .last .0) (p .result) (p .ensures) (c .before .before .before .before .before .before .before .if1 .taken) in
-    followed-full (a .start) (a .ops .now) (a .t .now) (a .marks .now) (a .chain .now) (p .last .0) (z .last .0) (z .last .1 .0) 0 (f .0) (f .1) (z .ensures .0) (z .ensures .1)
+    let at-clear = c .before .before .before .before in let at-if1 = at-clear .before .before .before in
+    let at-plant = at-if1 .before .before .before in let at-start = at-plant .before .before .before .before .before .before in
+    let a = at-start .args in
+    let p = at-plant .plant in
+    let z = at-clear .clear in
+    let f = planted-full (length (a .t .now)) (a .start) (a .ops .now) (p .last .0) (p .result) (p .ensures)
+    (at-if1 .if1 .taken) in
+    followed-full (a .start) (a .ops .now) (a .t .now) (a .marks .now) (a .chain .now) (p .last .0) (z .last .0) (z .last .1 .0) 0
+    (f .0) (f .1) (z .ensures .0) (z .ensures .1)
 
 go-on-requires : tie.Need-go-on-requires
 go-on-requires c κs =
-    let s = c .before .before .before .before .before .before .before .before .before .before .before .before in
-    let a = s .args in
-    let p = c .before .before .before .before .before .before .plant in
-    let k = input-good (a .start) (a .ops .now) (length (a .t .now)) (length (a .marks .now)) (length (a .chain .now)) (s .pre .0) in
+    let at-if1 = c .before .before .before in let at-plant = at-if1 .before .before .before in
+    let at-start = at-plant .before .before .before .before .before .before in
+    let a = at-start .args in
+    let p = at-plant .plant in
+    let k = input-good (a .start) (a .ops .now) (length (a .t .now)) (length (a .marks .now)) (length (a .chain .now))
+    (at-start .pre .0) in
     let l : length (p .last .0) ≡ length (a .t .now) = search needs in
-    ((k .start, planted-walked (a .start) (a .t .now) (p .last .0) (p .result) (p .ensures) l (c .before .before .before .if1 .left), omega (arith, l, k .most)), ((k .marks, k .chain, k .few), k .fine))
+    ((k .start, planted-walked (a .start) (a .t .now) (p .last .0) (p .result) (p .ensures) l (at-if1 .if1 .left), omega (arith, l, k .most)), ((k .marks, k .chain, k .few), k .fine))
 
 returns-2 : tie.Need-returns-2
 returns-2 c =
-    let a = c .before .before .before .before .before .before .before .before .before .before .before .before .before .before .before .before .before .before .before .args in
-    let g = c .before .before .before .before .before .before .go-on in
-    let p = c .before .before .before .before .before .before .before .before .before .before .before .before .before .plant in
+    let at-go-on = c .before .before .before .before .before .before in
+    let at-plant = at-go-on .before .before .before .before .before .before .before in
+    let at-start = at-plant .before .before .before .before .before .before in
+    let a = at-start .args in
+    let g = at-go-on .go-on in
+    let p = at-plant .plant in
     let l : length (p .last .0) ≡ length (a .t .now) = search needs in
-    followed-from (a .start) (a .ops .now) (a .t .now) (p .last .0) (a .marks .now) (a .chain .now) (g .result) (g .last .1 .1 .1 .0) (g .last .1 .1 .1 .1 .0) (g .last .1 .1 .1 .1 .1 .0) l (g .ensures)
+    followed-from (a .start) (a .ops .now) (a .t .now) (p .last .0) (a .marks .now) (a .chain .now) (g .result)
+    (g .last .1 .1 .1 .0) (g .last .1 .1 .1 .1 .0) (g .last .1 .1 .1 .1 .1 .0) l (g .ensures)
 
 pub set-out-spec : {M : Type 1} → statement M
 set-out-spec =

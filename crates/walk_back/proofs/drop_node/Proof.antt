@@ -18,26 +18,28 @@ word-requires c κs = omega (arith, newest-bounds (c .before .before .args .t .n
 
 sub-up : tie.Need-sub-up
 sub-up c =
-    let s = c .before .before .before in
-    omega (arith, newest-bounds (s .args .t .now) (s .args .u) (s .args .c) (s .pre) .1, c .word .ensures)
+    let at-start = c .before .before .before in
+    omega (arith, newest-bounds (at-start .args .t .now) (at-start .args .u) (at-start .args .c) (at-start .pre) .1, c .word .ensures)
 
 put-requires : tie.Need-put-requires
 put-requires c κs =
-    let s = c .before .before .before .before .before in
-    let b = newest-bounds (s .args .t .now) (s .args .u) (s .args .c) (s .pre) in
-    omega (arith, b .0, b .2, c .before .before .word .ensures, c .child-word .ensures, child-word-small (s .args .c))
+    let at-word = c .before .before in let at-start = at-word .before .before .before in
+    let b = newest-bounds (at-start .args .t .now) (at-start .args .u) (at-start .args .c) (at-start .pre) in
+    omega (arith, b .0, b .2, at-word .word .ensures, c .child-word .ensures, child-word-small (at-start .args .c))
 
 clear-record-requires : tie.Need-clear-record-requires
 clear-record-requires c κs =
-    let s = c .before .before .before .before .before .before .before .before .before in
-    omega (arith, newest-bounds (s .args .t .now) (s .args .u) (s .args .c) (s .pre) .0, ap length (c .before .before .before .put .ensures) ∙ length-set (s .args .t .now) ((c .before .before .before .before .before .before .word .result - 1) * width + c .before .before .before .before .child-word .result) 0)
+    let at-put = c .before .before .before in let at-word = at-put .before .before .before in
+    let at-start = at-word .before .before .before in
+    omega (arith, newest-bounds (at-start .args .t .now) (at-start .args .u) (at-start .args .c) (at-start .pre) .0, ap length (at-put .put .ensures) ∙ length-set (at-start .args .t .now) ((at-word .word .result - 1) * width + at-put .before .child-word .result) 0)
 
 returns : tie.Need-returns
 returns c =
-    let s = c .before .before .before .before .before .before .before .before .before .before .before .before in
-    let v = c .before .before .before .before .before .before .before .before .before .word in
+    let at-clear-record = c .before .before in let at-put = at-clear-record .before .before .before .before in
+    let at-word = at-put .before .before .before in let at-start = at-word .before .before .before in
+    let v = at-word .word in
     let z : List ℕ = replicate width 0 in
-    (ap (λ (n : ℕ). n - 1) (v .ensures), c .before .before .clear-record .ensures ∙ ap (λ (x : List ℕ). sets x (s .args .u * width) z) (c .before .before .before .before .before .before .put .ensures ∙ ap (λ (n : ℕ). set (s .args .t .now) ((v .result - 1) * width + n) 0) (c .before .before .before .before .before .before .before .child-word .ensures)))
+    (ap (λ (n : ℕ). n - 1) (v .ensures), at-clear-record .clear-record .ensures ∙ ap (λ (x : List ℕ). sets x (at-start .args .u * width) z) (at-put .put .ensures ∙ ap (λ (n : ℕ). set (at-start .args .t .now) ((v .result - 1) * width + n) 0) (at-put .before .child-word .ensures)))
 
 pub drop-node-spec : {M : Type 1} → statement M
 drop-node-spec =

@@ -13,26 +13,32 @@ use Rattle.walk_back.proofs.unlink_level.Tie as tie
 
 sub-unlink : tie.Need-sub-unlink
 sub-unlink c =
-    let k = c .before .before .before .before .before .before .before .pre in
-    omega (arith, k .0 .there (omega (arith, c .before .before .before .before .word .ensures, c .before .before .before .if1 .taken, k .1)) .0, c .before .word2 .ensures)
+    let at-if1 = c .before .before .before in let at-start = at-if1 .before .before .before .before in
+    let k = at-start .pre in
+    omega (arith, k .0 .there (omega (arith, at-if1 .before .word .ensures, at-if1 .if1 .taken, k .1)) .0, c .before .word2 .ensures)
 
 unlink-requires : tie.Need-unlink-requires
 unlink-requires c κs =
-    let k = c .before .before .before .before .before .before .before .pre in
-    let h = k .0 .there (omega (arith, c .before .before .before .before .word .ensures, c .before .before .before .if1 .taken, k .1)) in
-    (k .0 .here, subst (λ (n : ℕ). HasRecord (c .before .before .before .before .before .before .before .args .t .now) (n - 1)) (sym (c .before .word2 .ensures)) (h .1), k .0 .way)
+    let at-if1 = c .before .before .before in let at-start = at-if1 .before .before .before .before in
+    let k = at-start .pre in
+    let h = k .0 .there (omega (arith, at-if1 .before .word .ensures, at-if1 .if1 .taken, k .1)) in
+    (k .0 .here, subst (λ (n : ℕ). HasRecord (at-start .args .t .now) (n - 1)) (sym (c .before .word2 .ensures)) (h .1), k .0 .way)
 
 word-requires-3 : tie.Need-word-requires-3
 word-requires-3 c κs =
-    let a = c .before .before .before .before .before .before .before .before .before .before .before .args in
-    omega (arith, c .before .before .before .before .before .before .before .before .before .before .before .pre .0 .here, ap length (c .before .before .before .unlink .ensures) ∙ length-unset (a .t .now) (a .u) (c .before .before .before .before .before .word2 .result - 1) (a .d))
+    let at-unlink = c .before .before .before in let at-word2 = at-unlink .before .before in
+    let at-start = at-word2 .before .before .before .before .before .before in
+    let a = at-start .args in
+    omega (arith, at-start .pre .0 .here, ap length (at-unlink .unlink .ensures) ∙ length-unset (a .t .now) (a .u) (at-word2 .word2 .result - 1) (a .d))
 
 returns : tie.Need-returns
 returns c =
-    let a = c .before .before .before .before .before .before .before .before .before .before .before .before .args in
-    let e = sym (c .before .before .before .before .before .before .before .before .before .word .ensures) ∙ c .before .before .before .before .before .before .before .before .if1 .taken in
+    let at-unlink = c .before .before .before .before in let at-word2 = at-unlink .before .before in
+    let at-if1 = at-word2 .before .before in let at-start = at-if1 .before .before .before .before in
+    let a = at-start .args in
+    let e = sym (at-if1 .before .word .ensures) ∙ at-if1 .if1 .taken in
     record {
-      own = λ p. (c .before .before .before .before .unlink .ensures ∙ ap (λ (n : ℕ). unsetIn (a .t .now) (a .u) (n - 1) (a .d)) (c .before .before .before .before .before .before .word2 .ensures), c .word3 .ensures);
+      own = λ p. (at-unlink .unlink .ensures ∙ ap (λ (n : ℕ). unsetIn (a .t .now) (a .u) (n - 1) (a .d)) (at-word2 .word2 .ensures), c .word3 .ensures);
       other = λ f. absurd (f e);
     }
 

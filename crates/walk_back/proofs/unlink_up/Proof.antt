@@ -15,33 +15,39 @@ abbrev μ-loop : tie.MeasureT-loop
 μ-loop t₀ u d step at₀ t at = at
 
 add-at : tie.Need-add-at Inv-loop μ-loop
-add-at c = let s = c .before in omega (arith, unlinkable-bound (s .args .t .now) (s .args .u) (s .args .d) (s .args .step) (s .pre))
+add-at c =
+    let at-start = c .before in
+    omega (arith, unlinkable-bound (at-start .args .t .now) (at-start .args .u) (at-start .args .d) (at-start .args .step) (at-start .pre))
 
 loop-holds : tie.Need-loop-holds Inv-loop μ-loop
 loop-holds c = let a = c .before .args in (refl, unlinked-start (a .t .now) (a .u) (a .d) (a .step))
 
 unlink-level-requires : tie.Need-unlink-level-requires Inv-loop μ-loop
 unlink-level-requires c κs =
-    let s = c .before .before .before .before in
-    let l = c .before .before .loop in
-    let a = s .args in
-    unlinked-joined (a .t .now) (a .u) (a .d) (a .step) (s .pre) (l .t) (l .at) (l .inv .1) (omega (arith, c .before .loop-test .taken))
+    let at-loop = c .before .before in let at-start = at-loop .before .before in
+    let l = at-loop .loop in
+    let a = at-start .args in
+    unlinked-joined (a .t .now) (a .u) (a .d) (a .step) (at-start .pre) (l .t) (l .at) (l .inv .1)
+    (omega (arith, c .before .loop-test .taken))
 
 loop-less : tie.Need-loop-less Inv-loop μ-loop
 loop-less c =
-    let s = c .before .before .before .before .before .before .before in
-    let l = c .before .before .before .before .before .loop in
-    let a = s .args in
-    let n = c .before .before .unlink-level in
-    unlinked-falls (a .t .now) (a .u) (a .d) (a .step) (s .pre) (l .t) (l .at) (l .inv .1) (omega (arith, c .before .before .before .before .loop-test .taken)) (n .last .0) (n .result) (n .ensures)
+    let at-unlink-level = c .before .before in let at-loop-test = at-unlink-level .before .before in
+    let at-start = at-loop-test .before .before .before in
+    let l = at-loop-test .before .loop in
+    let a = at-start .args in
+    let n = at-unlink-level .unlink-level in
+    unlinked-falls (a .t .now) (a .u) (a .d) (a .step) (at-start .pre) (l .t) (l .at) (l .inv .1)
+    (omega (arith, at-loop-test .loop-test .taken)) (n .last .0) (n .result) (n .ensures)
 
 loop-again : tie.Need-loop-again Inv-loop μ-loop
 loop-again c =
-    let s = c .before .before .before .before .before .before .before in
-    let l = c .before .before .before .before .before .loop in
-    let a = s .args in
-    let n = c .before .before .unlink-level in
-    (n .kept .0 ∙ l .inv .0, unlinked-next (a .t .now) (a .u) (a .d) (a .step) (s .pre) (l .t) (l .at) (l .inv .1) (omega (arith, c .before .before .before .before .loop-test .taken)) (n .last .0) (n .result) (n .ensures) (l .inv .0))
+    let at-unlink-level = c .before .before in let at-loop-test = at-unlink-level .before .before in
+    let at-start = at-loop-test .before .before .before in
+    let l = at-loop-test .before .loop in
+    let a = at-start .args in
+    let n = at-unlink-level .unlink-level in
+    (n .kept .0 ∙ l .inv .0, unlinked-next (a .t .now) (a .u) (a .d) (a .step) (at-start .pre) (l .t) (l .at) (l .inv .1) (omega (arith, at-loop-test .loop-test .taken)) (n .last .0) (n .result) (n .ensures) (l .inv .0))
 
 returns : tie.Need-returns Inv-loop μ-loop
 returns c = let l = c .before .loop in λ S z h. l .inv .1 S z h .0 (omega (arith, c .loop-test .left))

@@ -8,13 +8,16 @@ use Rattle.walk_change.proofs.above_made.Tie as tie
 
 returns : tie.Need-returns
 returns c =
-    let a = c .before .before .before .before .before .args in
-    made-above (a .step) (a .u + 1) (c .before .before .before .word .ensures) (c .before .word2 .ensures) (c .before .before .if1 .taken) (c .one-unless .ensures)
+    let at-if1 = c .before .before in let at-word = at-if1 .before in
+    let a = at-word .before .before .args in
+    made-above (a .step) (a .u + 1) (at-word .word .ensures) (c .before .word2 .ensures) (at-if1 .if1 .taken)
+    (c .one-unless .ensures)
 
 returns-2 : tie.Need-returns-2
 returns-2 c =
-    let a = c .before .before .before .args in
-    made-none (a .t .now) (a .u) (a .v) (a .step) (c .before .word .result) (c .before .word .ensures) (c .if1 .left)
+    let at-word = c .before in
+    let a = at-word .before .before .args in
+    made-none (a .t .now) (a .u) (a .v) (a .step) (at-word .word .result) (at-word .word .ensures) (c .if1 .left)
 
 pub above-made-spec : {M : Type 1} → statement M
 above-made-spec =

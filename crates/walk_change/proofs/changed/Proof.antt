@@ -31,101 +31,120 @@ word-requires c κs =
 
 sub-u : tie.Need-sub-u Inv-loop μ-loop
 sub-u c =
-    let a = c .before .before .before .args in
-    let p = c .before .before .before .pre in
+    let at-start = c .before .before .before in
+    let a = at-start .args in
+    let p = at-start .pre in
     omega (arith, up-start (p .0 .start) (p .0 .chain) (a .d) (p .1 .0) (a .t .now) (a .w) (p .0 .walked) (c .word .result) (c .word .ensures) .0)
 
 loop-holds : tie.Need-loop-holds Inv-loop μ-loop
 loop-holds c =
-    let a = c .before .before .before .args in
+    let at-start = c .before .before .before in
+    let a = at-start .args in
     λ w n m x ds small h.
     subst (λ (v : ℕ). Up x ds (a .d) small (c .word .result - 1) v 2) n
-    (up-start x ds (a .d) small (a .t .now) w h (c .word .result) (c .word .ensures ∙ ap (λ (v : ℕ). getD (a .t .now) (wordAt v (neighbourWord ((a .d + 2) % 4))) 0) (sym n)) .1)
+    (up-start x ds (a .d) small (a .t .now) w h (c .word .result)
+    (c .word .ensures ∙ ap (λ (v : ℕ). getD (a .t .now) (wordAt v (neighbourWord ((a .d + 2) % 4))) 0) (sym n)) .1)
 
 links-up-requires : tie.Need-links-up-requires Inv-loop μ-loop
 links-up-requires c κs =
-    let s = c .before .before .before .before in
-    let a = s .args in
-    let k = s .pre .0 in
-    let q = s .pre .1 in
+    let at-start = c .before .before .before .before in
+    let a = at-start .args in
+    let k = at-start .pre .0 in
+    let q = at-start .pre .1 in
     let l = c .loop in
-    let g = up-held (k .start) (k .chain) (a .d) (q .0) (a .t .now) (a .w) (k .walked) (l .u) (l .v) (l .sum) (l .inv (a .w) refl refl (k .start) (k .chain) (q .0) (k .walked)) in
+    let g = up-held (k .start) (k .chain) (a .d) (q .0) (a .t .now) (a .w) (k .walked) (l .u) (l .v) (l .sum)
+    (l .inv (a .w) refl refl (k .start) (k .chain) (q .0) (k .walked)) in
     (g .0, q .0, g .2)
 
 rise-requires : tie.Need-rise-requires Inv-loop μ-loop
 rise-requires c κs =
-    let s = c .before .before .before .before .before .before in
-    let a = s .args in
-    let k = s .pre .0 in
-    let q = s .pre .1 in
-    let l = c .before .before .loop in
+    let at-loop = c .before .before in let at-start = at-loop .before .before .before .before in
+    let a = at-start .args in
+    let k = at-start .pre .0 in
+    let q = at-start .pre .1 in
+    let l = at-loop .loop in
     let r = l .inv (a .w) refl refl (k .start) (k .chain) (q .0) (k .walked) in
     let h = sym (c .before .links-up .ensures) ∙ c .if1 .taken in
     (up-held (k .start) (k .chain) (a .d) (q .0) (a .t .now) (a .w) (k .walked) (l .u) (l .v) (l .sum) r .0, q .0, up-linked (k .start) (k .chain) (a .d) (q .0) (a .t .now) (a .w) (k .walked) (l .u) (l .v) (l .sum) r h)
 
 add-sum : tie.Need-add-sum Inv-loop μ-loop
 add-sum c =
-    let s = c .before .before .before .before .before .before .before .before in
-    let a = s .args in
-    let k = s .pre .0 in
-    let q = s .pre .1 in
-    let l = c .before .before .before .before .loop in
+    let at-if1 = c .before .before in let at-links-up = at-if1 .before in
+    let at-start = at-links-up .before .before .before .before .before in
+    let a = at-start .args in
+    let k = at-start .pre .0 in
+    let q = at-start .pre .1 in
+    let l = at-links-up .before .loop in
     let x = c .before .rise in
     let r = l .inv (a .w) refl refl (k .start) (k .chain) (q .0) (k .walked) in
-    let h = sym (c .before .before .before .links-up .ensures) ∙ c .before .before .if1 .taken in
-    let g = up-next (k .start) (k .chain) (a .d) (q .0) (a .t .now) (a .w) (k .walked) (l .u) (l .v) (l .sum) r h (x .result .u) (x .result .v) (x .result .count) (x .ensures .0) (x .ensures .1) (x .ensures .2) in
-    let f = up-few (k .start) (k .chain) (a .d) (q .0) (a .t .now) (a .w) (k .walked) (x .result .u) (x .result .v) (l .sum + x .result .count) (g .1) in
+    let h = sym (at-links-up .links-up .ensures) ∙ at-if1 .if1 .taken in
+    let g = up-next (k .start) (k .chain) (a .d) (q .0) (a .t .now) (a .w) (k .walked) (l .u) (l .v) (l .sum) r h (x .result .u)
+    (x .result .v) (x .result .count) (x .ensures .0) (x .ensures .1) (x .ensures .2) in
+    let f = up-few (k .start) (k .chain) (a .d) (q .0) (a .t .now) (a .w) (k .walked) (x .result .u) (x .result .v)
+    (l .sum + x .result .count) (g .1) in
     omega (arith, f .0, f .1, q .2)
 
 loop-less : tie.Need-loop-less Inv-loop μ-loop
 loop-less c =
-    let s = c .before .before .before .before .before .before .before .before in
-    let a = s .args in
-    let k = s .pre .0 in
-    let q = s .pre .1 in
-    let l = c .before .before .before .before .loop in
+    let at-if1 = c .before .before in let at-links-up = at-if1 .before in
+    let at-start = at-links-up .before .before .before .before .before in
+    let a = at-start .args in
+    let k = at-start .pre .0 in
+    let q = at-start .pre .1 in
+    let l = at-links-up .before .loop in
     let x = c .before .rise in
-    up-next (k .start) (k .chain) (a .d) (q .0) (a .t .now) (a .w) (k .walked) (l .u) (l .v) (l .sum) (l .inv (a .w) refl refl (k .start) (k .chain) (q .0) (k .walked)) (sym (c .before .before .before .links-up .ensures) ∙ c .before .before .if1 .taken) (x .result .u) (x .result .v) (x .result .count) (x .ensures .0) (x .ensures .1) (x .ensures .2) .0
+    up-next (k .start) (k .chain) (a .d) (q .0) (a .t .now) (a .w) (k .walked) (l .u) (l .v) (l .sum)
+    (l .inv (a .w) refl refl (k .start) (k .chain) (q .0) (k .walked)) (sym (at-links-up .links-up .ensures) ∙ at-if1 .if1 .taken)
+    (x .result .u) (x .result .v) (x .result .count) (x .ensures .0) (x .ensures .1) (x .ensures .2) .0
 
 loop-again : tie.Need-loop-again Inv-loop μ-loop
 loop-again c =
-    let a = c .before .before .before .before .before .before .before .before .args in
-    let l = c .before .before .before .before .loop in
+    let at-if1 = c .before .before in let at-links-up = at-if1 .before in
+    let at-start = at-links-up .before .before .before .before .before in
+    let a = at-start .args in
+    let l = at-links-up .before .loop in
     let x = c .before .rise in
-    let h = sym (c .before .before .before .links-up .ensures) ∙ c .before .before .if1 .taken in
+    let h = sym (at-links-up .links-up .ensures) ∙ at-if1 .if1 .taken in
     λ w n m o ds small k.
-    let t = subst (λ (z : ℕ). (not (eqb (getD (a .t .now) (wordAt (l .u) parentWord) 0) 0) && eqb (getD (a .t .now) (wordAt (getD (a .t .now) (wordAt (l .u) parentWord) 0 - 1) (linkWord (a .d))) 0) z) ≡ true) (sym m) h in
-    up-next o ds (a .d) small (a .t .now) w k (l .u) (l .v) (l .sum) (l .inv w n m o ds small k) t (x .result .u) (x .result .v) (x .result .count) (x .ensures .0) (x .ensures .1) (x .ensures .2) .1
+    let t = subst (λ (z : ℕ). (not (eqb (getD (a .t .now) (wordAt (l .u) parentWord) 0) 0) && eqb
+    (getD (a .t .now) (wordAt (getD (a .t .now) (wordAt (l .u) parentWord) 0 - 1) (linkWord (a .d))) 0) z) ≡ true) (sym m) h in
+    up-next o ds (a .d) small (a .t .now) w k (l .u) (l .v) (l .sum) (l .inv w n m o ds small k) t (x .result .u) (x .result .v)
+    (x .result .count) (x .ensures .0) (x .ensures .1) (x .ensures .2) .1
 
 above-made-requires : tie.Need-above-made-requires Inv-loop μ-loop
 above-made-requires c κs =
-    let s = c .before .before .before .before .before .before in
-    let a = s .args in
-    let k = s .pre .0 in
-    let q = s .pre .1 in
-    let l = c .before .before .loop in
-    let g = up-held (k .start) (k .chain) (a .d) (q .0) (a .t .now) (a .w) (k .walked) (l .u) (l .v) (l .sum) (l .inv (a .w) refl refl (k .start) (k .chain) (q .0) (k .walked)) in
+    let at-loop = c .before .before in let at-start = at-loop .before .before .before .before in
+    let a = at-start .args in
+    let k = at-start .pre .0 in
+    let q = at-start .pre .1 in
+    let l = at-loop .loop in
+    let g = up-held (k .start) (k .chain) (a .d) (q .0) (a .t .now) (a .w) (k .walked) (l .u) (l .v) (l .sum)
+    (l .inv (a .w) refl refl (k .start) (k .chain) (q .0) (k .walked)) in
     (g .1, omega (arith, g .0, q .2))
 
 add-result : tie.Need-add-result Inv-loop μ-loop
 add-result c =
-    let s = c .before .before .before .before .before .before .before in
-    let a = s .args in
-    let k = s .pre .0 in
-    let q = s .pre .1 in
-    let l = c .before .before .before .loop in
+    let at-links-up = c .before .before in let at-loop = at-links-up .before in
+    let at-start = at-loop .before .before .before .before in
+    let a = at-start .args in
+    let k = at-start .pre .0 in
+    let q = at-start .pre .1 in
+    let l = at-loop .loop in
     let r = l .inv (a .w) refl refl (k .start) (k .chain) (q .0) (k .walked) in
     let f = up-few (k .start) (k .chain) (a .d) (q .0) (a .t .now) (a .w) (k .walked) (l .u) (l .v) (l .sum) r in
-    omega (arith, c .above-made .ensures, up-end (k .start) (k .chain) (a .d) (q .0) (a .t .now) (a .w) (k .walked) (l .u) (l .v) (l .sum) r (sym (c .before .before .links-up .ensures) ∙ c .before .if1 .left), f .1, q .2)
+    omega (arith, c .above-made .ensures, up-end (k .start) (k .chain) (a .d) (q .0) (a .t .now) (a .w) (k .walked) (l .u) (l .v) (l .sum) r (sym (at-links-up .links-up .ensures) ∙ c .before .if1 .left), f .1, q .2)
 
 returns : tie.Need-returns Inv-loop μ-loop
 returns c =
-    let a = c .before .before .before .before .before .before .before .args in
-    let l = c .before .before .before .loop in
-    let t = sym (c .before .before .links-up .ensures) ∙ c .before .if1 .left in
+    let at-links-up = c .before .before in let at-loop = at-links-up .before in
+    let at-start = at-loop .before .before .before .before in
+    let a = at-start .args in
+    let l = at-loop .loop in
+    let t = sym (at-links-up .links-up .ensures) ∙ c .before .if1 .left in
     λ x ds h.
-    let small : a .d < 4 = c .before .before .before .before .before .before .before .pre .1 .0 in
-    ap (λ (z : ℕ). l .sum + z) (c .above-made .ensures) ∙ up-end x ds (a .d) small (a .t .now) (a .w) h (l .u) (l .v) (l .sum) (l .inv (a .w) refl refl x ds small h) t
+    let small : a .d < 4 = at-start .pre .1 .0 in
+    ap (λ (z : ℕ). l .sum + z) (c .above-made .ensures)
+    ∙ up-end x ds (a .d) small (a .t .now) (a .w) h (l .u) (l .v) (l .sum) (l .inv (a .w) refl refl x ds small h) t
 
 pub changed-spec : {M : Type 1} → statement M
 changed-spec =

@@ -10,9 +10,9 @@ use Rattle.walk_corner.proofs.child_word.Tie as tie
 
 returns : tie.Need-returns
 returns c =
-    let s = c .before .before .before .before in
-    let g = c .before .before .before .struct-told .given in
-    omega (arith, c .before .before .slot-of .ensures ∙ ap slotOf (back (s .args .e .0) (g .0 .1)), c .slot-of2 .ensures ∙ ap slotOf (back (s .args .e .1) (g .1 .0 .1)))
+    let at-slot-of = c .before .before in let at-struct-told = at-slot-of .before in
+    let g = at-struct-told .struct-told .given in
+    omega (arith, at-slot-of .slot-of .ensures ∙ ap slotOf (back (at-struct-told .before .args .e .0) (g .0 .1)), c .slot-of2 .ensures ∙ ap slotOf (back (at-struct-told .before .args .e .1) (g .1 .0 .1)))
 
 pub child-word-spec : {M : Type 1} → statement M
 child-word-spec =

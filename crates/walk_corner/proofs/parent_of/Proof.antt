@@ -10,9 +10,10 @@ use Rattle.walk_corner.proofs.parent_of.Tie as tie
 
 returns : tie.Need-returns
 returns c =
-    let a = c .before .before .before .before .args .c in
-    let g = c .before .before .before .struct-told .given in
-    let h = c .before .before .half-of in
+    let at-half-of = c .before .before in
+    let a = at-half-of .before .before .args .c in
+    let g = at-half-of .before .struct-told .given in
+    let h = at-half-of .half-of in
     let k = c .half-of2 in
     ap₂ corner
     (back (h .result) (h .ok) ∙ h .ensures ∙ ap halfOf (back (a .0) (g .0 .1)))

@@ -11,9 +11,11 @@ use Rattle.walk_corner.proofs.parted.Tie as tie
 
 returns : tie.Need-returns
 returns c =
-    let a = c .before .before .before .before .args in
-    let m = c .before .before .before .moved .ensures in
-    ap not (c .alike .ensures ∙ ap₂ same (c .before .before .parent-of .ensures) (c .before .parent-of2 .ensures ∙ ap parentOf m)) ∙ parents-tell (a .d) (a .c)
+    let at-parent-of = c .before .before in
+    let a = at-parent-of .before .before .args in
+    let m = at-parent-of .before .moved .ensures in
+    ap not (c .alike .ensures ∙ ap₂ same (at-parent-of .parent-of .ensures) (c .before .parent-of2 .ensures ∙ ap parentOf m))
+    ∙ parents-tell (a .d) (a .c)
 
 pub parted-spec : {M : Type 1} → statement M
 parted-spec =

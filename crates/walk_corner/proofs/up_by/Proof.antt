@@ -19,9 +19,10 @@ loop-holds c = (refl, omega arith)
 
 loop-again : tie.Need-loop-again Inv-loop μ-loop
 loop-again c =
-    let l = c .before .before .loop in
-    let a = c .before .before .before .args in
-    let n : l .k + 1 ≤ a .i = omega (arith, c .before .loop-test .taken) in
+    let at-loop-test = c .before in
+    let l = at-loop-test .before .loop in
+    let a = at-loop-test .before .before .args in
+    let n : l .k + 1 ≤ a .i = omega (arith, at-loop-test .loop-test .taken) in
     let e : suc (l .k) ≡ l .k + 1 = omega arith in
     (c .parent-of .ensures ∙ ap parentOf (l .inv .0) ∙ ap (λ (m : ℕ). upBy m (a .c)) e, n)
 

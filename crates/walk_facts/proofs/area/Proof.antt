@@ -18,7 +18,11 @@ use Rattle.walk_facts.proofs.area.Statement.{statement}
 use Rattle.walk_facts.proofs.area.Tie as tie
 
 returns : tie.Need-returns
-returns c = back (c .sweep .result) (c .sweep .ok) ∙ c .sweep .ensures ∙ sym (ap (λ (v : Verdict). areaBy v (sweepFrom (c .before .before .before .before .args .start) (take (c .before .before .before .before .args .n) (c .before .before .before .before .args .chain .now)))) (c .before .enum-told .given .1))
+returns c =
+    let at-start = c .before .before .before .before in
+    back (c .sweep .result) (c .sweep .ok) ∙ c .sweep .ensures
+    ∙ sym (ap (λ (v : Verdict). areaBy v
+    (sweepFrom (at-start .args .start) (take (at-start .args .n) (at-start .args .chain .now)))) (c .before .enum-told .given .1))
 
 -- a verdict whose tag is none of Room's
 no-room : (v : Verdict) → v ≡ Room → OneOf (0 ∷ 1 ∷ 3 ∷ 4 ∷ 5 ∷ []) (tagOf the-type v) → ⊥

@@ -16,24 +16,32 @@ use Rattle.walk_facts.proofs.gained.Tie as tie
 
 mul-result : tie.Need-mul-result
 mul-result c =
-    let s = c .before in
+    let at-start = c .before in
     let n = c .north in
-    let p : toZ w32 (ofZ w32 (s .args .x)) *ℤ toZ w32 (ofZ w32 (n .result)) ≡ gain (s .args .d) (s .args .x) = ap₂ _*ℤ_ (toZ-ofZ w32 (s .args .x) (s .fits .x)) (back (n .result) (n .ok) ∙ n .ensures) in
-    subst (SFits w32) (sym p) (sfits-abs w32 (gain (s .args .d) (s .args .x)) (omega (arith, gain-bound (s .args .d) (s .args .x), s .pre .1)))
+    let p : toZ w32 (ofZ w32 (at-start .args .x)) *ℤ toZ w32 (ofZ w32 (n .result)) ≡ gain (at-start .args .d)
+    (at-start .args .x) = ap₂ _*ℤ_ (toZ-ofZ w32 (at-start .args .x) (at-start .fits .x))
+    (back (n .result) (n .ok) ∙ n .ensures) in
+    subst (SFits w32) (sym p) (sfits-abs w32 (gain (at-start .args .d) (at-start .args .x))
+    (omega (arith, gain-bound (at-start .args .d) (at-start .args .x), at-start .pre .1)))
 
 add-result : tie.Need-add-result
 add-result c =
-    let s = c .before in
+    let at-start = c .before in
     let n = c .north in
-    let p = toZ-ofZ w32 _ (mul-result c) ∙ ap₂ _*ℤ_ (toZ-ofZ w32 (s .args .x) (s .fits .x)) (back (n .result) (n .ok) ∙ n .ensures) in
-    subst (SFits w32) (sym (ap₂ _+ℤ_ (toZ-ofZ w32 (s .args .sum) (s .fits .sum)) p)) (sfits-abs w32 (s .args .sum +ℤ gain (s .args .d) (s .args .x)) (omega (arith, abs+ (s .args .sum) (gain (s .args .d) (s .args .x)), gain-bound (s .args .d) (s .args .x), s .pre .0, s .pre .1)))
+    let p = toZ-ofZ w32 _ (mul-result c) ∙ ap₂ _*ℤ_ (toZ-ofZ w32 (at-start .args .x) (at-start .fits .x))
+    (back (n .result) (n .ok) ∙ n .ensures) in
+    subst (SFits w32) (sym (ap₂ _+ℤ_ (toZ-ofZ w32 (at-start .args .sum) (at-start .fits .sum)) p))
+    (sfits-abs w32 (at-start .args .sum +ℤ gain (at-start .args .d) (at-start .args .x))
+    (omega (arith, abs+ (at-start .args .sum) (gain (at-start .args .d) (at-start .args .x)), gain-bound (at-start .args .d) (at-start .args .x), at-start .pre .0, at-start .pre .1)))
 
 returns : tie.Need-returns
 returns c =
-    let s = c .before in
+    let at-start = c .before in
     let n = c .north in
     toZ-ofZ w32 _ (add-result c)
-    ∙ ap₂ _+ℤ_ (toZ-ofZ w32 (s .args .sum) (s .fits .sum)) (toZ-ofZ w32 _ (mul-result c) ∙ ap₂ _*ℤ_ (toZ-ofZ w32 (s .args .x) (s .fits .x)) (back (n .result) (n .ok) ∙ n .ensures))
+    ∙ ap₂ _+ℤ_ (toZ-ofZ w32 (at-start .args .sum) (at-start .fits .sum))
+    (toZ-ofZ w32 _ (mul-result c) ∙ ap₂ _*ℤ_ (toZ-ofZ w32 (at-start .args .x) (at-start .fits .x))
+    (back (n .result) (n .ok) ∙ n .ensures))
 
 pub gained-spec : {M : Type 1} → statement M
 gained-spec = tie.close (tie.spec (λ c κs. search needs) mul-result add-result returns)

@@ -28,29 +28,36 @@ fault-requires c κs = tt
 
 returns : tie.Need-returns Inv-loop μ-loop
 returns c =
-    let f = c .before .before .fault in
-    let l = c .before .before .before .before .before .loop in
+    let at-fault = c .before .before in let at-loop-test = at-fault .before .before in let at-loop = at-loop-test .before in
+    let f = at-fault .fault in
+    let l = at-loop .loop in
     let e = c .enum-told .given in
-    faults-here (c .before .before .before .before .before .before .before .args .ops .now) (l .i) (l .steps) (omega (arith, c .before .before .before .before .loop-test .taken)) (l .inv .2) (f .result) (e .0 .0) (f .ensures) (e .1)
+    faults-here (at-loop .before .before .args .ops .now) (l .i) (l .steps) (omega (arith, at-loop-test .loop-test .taken))
+    (l .inv .2) (f .result) (e .0 .0) (f .ensures) (e .1)
 
 survive-requires : tie.Need-survive-requires Inv-loop μ-loop
 survive-requires c κs =
-    let f = c .before .before .fault in
-    let l = c .before .before .before .before .before .loop in
-    (fault-none (l .i) (l .steps) (getD (c .before .before .before .before .before .before .before .args .ops .now) (l .i) 0) (sym (f .ensures) ∙ c .enum-told2 .given .1), omega (arith, c .before .before .before .before .loop-test .taken, c .before .before .before .before .before .before .before .good .0 .0))
+    let at-fault = c .before .before in let at-loop-test = at-fault .before .before in
+    let at-start = at-loop-test .before .before .before in
+    let f = at-fault .fault in
+    let l = at-loop-test .before .loop in
+    (fault-none (l .i) (l .steps) (getD (at-start .args .ops .now) (l .i) 0) (sym (f .ensures) ∙ c .enum-told2 .given .1), omega (arith, at-loop-test .loop-test .taken, at-start .good .0 .0))
 
 loop-again : tie.Need-loop-again Inv-loop μ-loop
 loop-again c =
-    let f = c .before .before .before .fault in
-    let l = c .before .before .before .before .before .before .loop in
-    let O = c .before .before .before .before .before .before .before .before .args .ops .now in
-    let m : l .i < length O = omega (arith, c .before .before .before .before .before .loop-test .taken) in
+    let at-fault = c .before .before .before in let at-loop-test = at-fault .before .before in
+    let at-loop = at-loop-test .before in
+    let f = at-fault .fault in
+    let l = at-loop .loop in
+    let O = at-loop .before .before .args .ops .now in
+    let m : l .i < length O = omega (arith, at-loop-test .loop-test .taken) in
     (omega arith, omega (arith, c .survive .ensures, after-le (l .steps) (getD O (l .i) 0), l .inv .1), faults-next O (l .i) (l .steps) m (l .inv .2) (c .survive .result) (c .survive .ensures) (sym (f .ensures) ∙ c .before .enum-told2 .given .1))
 
 returns-2 : tie.Need-returns-2 Inv-loop μ-loop
 returns-2 c =
-    let l = c .before .loop in
-    let O = c .before .before .before .args .ops .now in
+    let at-loop = c .before in
+    let l = at-loop .loop in
+    let O = at-loop .before .before .args .ops .now in
     sym (l .inv .2 ∙ rw (drop-of-length-le O (c .loop-test .left)))
 
 pub first-fault-spec : {M : Type 1} → statement M

@@ -8,7 +8,8 @@ use Rattle.walk_input.proofs.operations.Tie as tie
 
 returns-3 : tie.Need-returns-3
 returns-3 c =
-    let a = c .before .before .before .before .args in
+    let at-start = c .before .before .before .before in
+    let a = at-start .args in
     steps-fine 0 0 (a .ops .now) (omega arith) (omega arith)
 
 pub operations-spec : {M : Type 1} → statement M

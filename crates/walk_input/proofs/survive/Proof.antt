@@ -7,7 +7,9 @@ use Rattle.walk_input.proofs.survive.Statement.{statement}
 use Rattle.walk_input.proofs.survive.Tie as tie
 
 sub-result : tie.Need-sub-result
-sub-result c = let s = c .before in omega (arith, fine-back (s .args .steps) (s .args .op) (s .pre .0) (c .if1 .taken))
+sub-result c =
+    let at-start = c .before in
+    omega (arith, fine-back (at-start .args .steps) (at-start .args .op) (at-start .pre .0) (c .if1 .taken))
 
 returns : tie.Need-returns
 returns c = after-take (c .before .args .steps) (c .before .args .op) (c .if1 .taken)

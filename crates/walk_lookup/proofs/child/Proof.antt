@@ -23,39 +23,45 @@ three t n u f s e₁ e₂ e₃ = cc
 
 returns : tie.Need-returns
 returns c =
-    let s = c .before .before .before .before in
+    let at-start = c .before .before .before .before in
     let w = c .before .word in
-    let t = s .args .t .now in
-    let n = s .args .nodes in
-    let q = child-is t n (s .args .u) (s .args .place) (s .args .step) (w .result) (w .ensures) (λ z. omega arith) in
-    ((λ S e h deep r p. child-last t n S h (length t) (s .args .step) t (w .result) n e (child-holds t n (s .args .u) (s .args .place) (s .args .step) S e h deep r p (out t (w .result) n) q)), told t n (s .args .u) (s .args .place) (s .args .step) (w .result) n t q refl)
+    let t = at-start .args .t .now in
+    let n = at-start .args .nodes in
+    let q = child-is t n (at-start .args .u) (at-start .args .place) (at-start .args .step) (w .result) (w .ensures)
+    (λ z. omega arith) in
+    ((λ S e h deep r p. child-last t n S h (length t) (at-start .args .step) t (w .result) n e (child-holds t n (at-start .args .u) (at-start .args .place) (at-start .args .step) S e h deep r p (out t (w .result) n) q)), told t n (at-start .args .u) (at-start .args .place) (at-start .args .step) (w .result) n t q refl)
 
 returns-2 : tie.Need-returns-2
 returns-2 c =
-    let s = c .before .before .before .before .before in
-    let w = c .before .before .word in
-    let t = s .args .t .now in
-    let n = s .args .nodes in
+    let at-word = c .before .before in let at-start = at-word .before .before .before in
+    let w = at-word .word in
+    let t = at-start .args .t .now in
+    let n = at-start .args .nodes in
     let z : w .result ≡ 0 = omega arith in
-    let q = child-full t n (s .args .u) (s .args .place) (s .args .step) (sym z ∙ w .ensures) (omega arith) in
-    ((λ S e h deep r p. child-last t n S h (length t) (s .args .step) t 0 n e (child-holds t n (s .args .u) (s .args .place) (s .args .step) S e h deep r p (out t 0 n) q)), told t n (s .args .u) (s .args .place) (s .args .step) 0 n t q refl)
+    let q = child-full t n (at-start .args .u) (at-start .args .place) (at-start .args .step) (sym z ∙ w .ensures)
+    (omega arith) in
+    ((λ S e h deep r p. child-last t n S h (length t) (at-start .args .step) t 0 n e (child-holds t n (at-start .args .u) (at-start .args .place) (at-start .args .step) S e h deep r p (out t 0 n) q)), told t n (at-start .args .u) (at-start .args .place) (at-start .args .step) 0 n t q refl)
 
 put-requires-2 : tie.Need-put-requires-2
 put-requires-2 c κs = search needs
 
 returns-3 : tie.Need-returns-3
 returns-3 c =
-    let s = c .before .before .before .before .before .before .before .before .before .before .before .before .before .before .before .before .before in
-    let w = c .before .before .before .before .before .before .before .before .before .before .before .before .before .before .word in
-    let t = s .args .t .now in
+    let at-put3 = c .before .before in let at-put2 = at-put3 .before .before .before .before in
+    let at-put = at-put2 .before .before .before .before in let at-word = at-put .before .before .before .before in
+    let at-start = at-word .before .before .before in
+    let w = at-word .word in
+    let t = at-start .args .t .now in
     let z : w .result ≡ 0 = omega arith in
-    let n = s .args .nodes in
-    let e = three t n (s .args .u) (s .args .place) (s .args .step) (c .before .before .before .before .before .before .before .before .before .before .put .ensures) (c .before .before .before .before .before .before .put2 .ensures) (c .before .before .put3 .ensures) in
-    let q = child-makes t n (s .args .u) (s .args .place) (s .args .step) (sym z ∙ w .ensures) (omega arith) in (
-      (λ S x h deep r p. child-last t n S h (length t) (s .args .step) _ (n + 1) (n + 1) x
-          (subst (λ (l : List ℕ). Made (length t) (grown S x (s .args .step)) x l (n + 1) (n + 1)) (sym e)
-          (child-holds t n (s .args .u) (s .args .place) (s .args .step) S x h deep r p (out (set (set (set t (wordAt (s .args .u) (s .args .place)) (n + 1)) (wordAt n parentWord) (s .args .u + 1)) (wordAt n needWord) (s .args .step)) (n + 1) (n + 1)) q))),
-      told t n (s .args .u) (s .args .place) (s .args .step) (n + 1) (n + 1) (c .before .before .put3 .last .0) q (ap (λ (x : List ℕ). out x (n + 1) (n + 1)) (sym e)),
+    let n = at-start .args .nodes in
+    let e = three t n (at-start .args .u) (at-start .args .place) (at-start .args .step) (at-put .put .ensures)
+    (at-put2 .put2 .ensures) (at-put3 .put3 .ensures) in
+    let q = child-makes t n (at-start .args .u) (at-start .args .place) (at-start .args .step) (sym z ∙ w .ensures) (omega arith) in (
+      (λ S x h deep r p. child-last t n S h (length t) (at-start .args .step) _ (n + 1) (n + 1) x
+          (subst (λ (l : List ℕ). Made (length t) (grown S x (at-start .args .step)) x l (n + 1) (n + 1)) (sym e)
+          (child-holds t n (at-start .args .u) (at-start .args .place) (at-start .args .step) S x h deep r p (out (set (set (set t (wordAt (at-start .args .u) (at-start .args .place)) (n + 1)) (wordAt n parentWord) (at-start .args .u + 1)) (wordAt n needWord) (at-start .args .step)) (n + 1) (n + 1)) q))),
+      told t n (at-start .args .u) (at-start .args .place) (at-start .args .step) (n + 1) (n + 1) (at-put3 .put3 .last .0) q
+          (ap (λ (x : List ℕ). out x (n + 1) (n + 1)) (sym e)),
     )
 
 pub child-spec : {M : Type 1} → statement M

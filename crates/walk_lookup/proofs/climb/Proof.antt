@@ -25,68 +25,73 @@ abbrev μ-loop : tie.MeasureT-loop
 
 loop-holds : tie.Need-loop-holds Inv-loop μ-loop
 loop-holds c =
-    let s = c .before in
-    let q = s .pre .1 in
+    let q = c .before .pre .1 in
     (λ S h r. (record { above = refl; below = λ j k. absurd (omega arith) }, r), q .0, q .1, omega arith)
 
 goes-up-requires : tie.Need-goes-up-requires Inv-loop μ-loop
 goes-up-requires c κs =
-    let s = c .before .before in
+    let at-start = c .before .before in
     let l = c .loop in
-    let k = s .pre .0 in
+    let k = at-start .pre .0 in
     let i = l .inv .0 (k .state) (k .holds) (k .here) in
-    (node-bound (s .args .t .now) (s .args .nodes) (l .node) (l .at) (k .state) (k .holds) (i .1), l .inv .1, l .inv .2, s .pre .1 .2)
+    (node-bound (at-start .args .t .now) (at-start .args .nodes) (l .node) (l .at) (k .state) (k .holds) (i .1), l .inv .1, l .inv .2, at-start .pre .1 .2)
 
 word-requires : tie.Need-word-requires Inv-loop μ-loop
 word-requires c κs =
-    let s = c .before .before .before .before in
-    let l = c .before .before .loop in
-    let k = s .pre .0 in
+    let at-loop = c .before .before in let at-start = at-loop .before .before in
+    let l = at-loop .loop in
+    let k = at-start .pre .0 in
     let i = l .inv .0 (k .state) (k .holds) (k .here) in
-    omega (arith, node-bound (s .args .t .now) (s .args .nodes) (l .node) (l .at) (k .state) (k .holds) (i .1))
+    omega (arith, node-bound (at-start .args .t .now) (at-start .args .nodes) (l .node) (l .at) (k .state) (k .holds) (i .1))
 
 sub-node : tie.Need-sub-node Inv-loop μ-loop
 sub-node c =
-    let s = c .before .before .before .before .before in
-    let l = c .before .before .before .loop in
-    let k = s .pre .0 in
+    let at-goes-up = c .before .before in let at-loop = at-goes-up .before in let at-start = at-loop .before .before in
+    let l = at-loop .loop in
+    let k = at-start .pre .0 in
     let i = l .inv .0 (k .state) (k .holds) (k .here) in
-    let a = s .args in
-    let up = goes-apart (a .t .now) (a .nodes) (l .node) (l .at) (a .d) 1 (k .state) (k .holds) (i .1) (s .pre .1 .2) (omega arith) (sym (c .before .before .goes-up .ensures) ∙ c .before .if1 .taken) in
+    let a = at-start .args in
+    let up = goes-apart (a .t .now) (a .nodes) (l .node) (l .at) (a .d) 1 (k .state) (k .holds) (i .1) (at-start .pre .1 .2)
+    (omega arith) (sym (at-goes-up .goes-up .ensures) ∙ c .before .if1 .taken) in
     omega (arith, up-reads (a .t .now) (a .nodes) (l .node) (l .at) (k .state) (k .holds) (i .1) (up .inner) (c .word .result) (c .word .ensures) .0)
 
 add-level : tie.Need-add-level Inv-loop μ-loop
 add-level c =
-    let s = c .before .before .before .before .before .before in
-    let l = c .before .before .before .before .loop in
-    omega (arith, l .inv .3, s .pre .1 .0, s .pre .1 .1)
+    let at-loop = c .before .before .before .before in let at-start = at-loop .before .before in
+    let l = at-loop .loop in
+    omega (arith, l .inv .3, at-start .pre .1 .0, at-start .pre .1 .1)
 
 loop-less : tie.Need-loop-less Inv-loop μ-loop
 loop-less c =
-    let s = c .before .before .before .before .before .before in
-    let l = c .before .before .before .before .loop in
-    let k = s .pre .0 in
+    let at-if1 = c .before .before in let at-goes-up = at-if1 .before in let at-start = at-goes-up .before .before .before in
+    let l = at-goes-up .before .loop in
+    let k = at-start .pre .0 in
     let i = l .inv .0 (k .state) (k .holds) (k .here) in
-    let a = s .args in
-    let up = goes-apart (a .t .now) (a .nodes) (l .node) (l .at) (a .d) 1 (k .state) (k .holds) (i .1) (s .pre .1 .2) (omega arith) (sym (c .before .before .before .goes-up .ensures) ∙ c .before .before .if1 .taken) in
+    let a = at-start .args in
+    let up = goes-apart (a .t .now) (a .nodes) (l .node) (l .at) (a .d) 1 (k .state) (k .holds) (i .1) (at-start .pre .1 .2)
+    (omega arith) (sym (at-goes-up .goes-up .ensures) ∙ at-if1 .if1 .taken) in
     let e : sizeOf (c .parent-of .result) ≡ sizeOf (parentOf (l .at)) = ap sizeOf (c .parent-of .ensures) in
     omega (arith, e, sizeOf-parentOf (l .at) (up .inner))
 
 loop-again : tie.Need-loop-again Inv-loop μ-loop
 loop-again c =
-    let s = c .before .before .before .before .before .before in
-    let l = c .before .before .before .before .loop in
-    let k = s .pre .0 in
+    let at-word = c .before in let at-if1 = at-word .before in let at-goes-up = at-if1 .before in
+    let at-start = at-goes-up .before .before .before in
+    let l = at-goes-up .before .loop in
+    let k = at-start .pre .0 in
     let i = l .inv .0 (k .state) (k .holds) (k .here) in
-    let a = s .args in
-    let up = goes-apart (a .t .now) (a .nodes) (l .node) (l .at) (a .d) 1 (k .state) (k .holds) (i .1) (s .pre .1 .2) (omega arith) (sym (c .before .before .before .goes-up .ensures) ∙ c .before .before .if1 .taken) in
+    let a = at-start .args in
+    let up = goes-apart (a .t .now) (a .nodes) (l .node) (l .at) (a .d) 1 (k .state) (k .holds) (i .1) (at-start .pre .1 .2)
+    (omega arith) (sym (at-goes-up .goes-up .ensures) ∙ at-if1 .if1 .taken) in
     let p = c .parent-of .ensures in
     let e : sizeOf (c .parent-of .result) ≡ sizeOf (parentOf (l .at)) = ap sizeOf p in
     let n : suc (l .level) ≡ l .level + 1 = omega arith in (
       (λ S h r.
           let j = l .inv .0 S h r in
-          let g = goes-apart (a .t .now) (a .nodes) (l .node) (l .at) (a .d) 1 S h (j .1) (s .pre .1 .2) (omega arith) (sym (c .before .before .before .goes-up .ensures) ∙ c .before .before .if1 .taken) in
-          let v = up-reads (a .t .now) (a .nodes) (l .node) (l .at) S h (j .1) (g .inner) (c .before .word .result) (c .before .word .ensures) in
+          let g = goes-apart (a .t .now) (a .nodes) (l .node) (l .at) (a .d) 1 S h (j .1) (at-start .pre .1 .2) (omega arith)
+          (sym (at-goes-up .goes-up .ensures) ∙ at-if1 .if1 .taken) in
+          let v = up-reads (a .t .now) (a .nodes) (l .node) (l .at) S h (j .1) (g .inner) (at-word .word .result)
+          (at-word .word .ensures) in
           (subst (λ (x : Corner). Climbed S (a .d) (a .c) (l .level + 1) x) (sym p) (subst (λ (m : ℕ). Climbed S (a .d) (a .c) m (parentOf (l .at))) n (climb-next S (a .d) (a .c) (l .level) (l .at) (j .0) g)), ap (refOf (S .nodes)) p ∙ v .1)),
       omega (arith, ap (λ (y : Corner). natAbs (y .0)) p, natAbs-halfOf (l .at .0), l .inv .1),
       omega (arith, ap (λ (y : Corner). natAbs (y .1)) p, natAbs-halfOf (l .at .1), l .inv .2),

@@ -20,15 +20,19 @@ goes a b r e f = rw e f
 
 returns : tie.Need-returns
 returns c =
-    let a = c .before .before .before .args in
-    stops (eqb (getD (a .t .now) (wordAt (a .u) (neighbourWord (a .d))) 0) 0) (partedBy (a .d) (a .c)) (ne-eqb (getD (a .t .now) (wordAt (a .u) (neighbourWord (a .d))) 0) 0 (λ z. c .if1 .taken (c .before .word .ensures ∙ z)))
+    let at-word = c .before in
+    let a = at-word .before .before .args in
+    stops (eqb (getD (a .t .now) (wordAt (a .u) (neighbourWord (a .d))) 0) 0) (partedBy (a .d) (a .c))
+    (ne-eqb (getD (a .t .now) (wordAt (a .u) (neighbourWord (a .d))) 0) 0 (λ z. c .if1 .taken (at-word .word .ensures ∙ z)))
 
 returns-2 : tie.Need-returns-2
 returns-2 c =
-    let a = c .before .before .before .before .args in
-    let w = c .before .before .word in
+    let at-word = c .before .before in
+    let a = at-word .before .before .args in
+    let w = at-word .word in
     let z : w .result ≡ 0 = omega (arith, c .before .if1 .left) in
-    goes (eqb (getD (a .t .now) (wordAt (a .u) (neighbourWord (a .d))) 0) 0) (partedBy (a .d) (a .c)) (c .parted .result) (eq-eqb (getD (a .t .now) (wordAt (a .u) (neighbourWord (a .d))) 0) 0 (sym (w .ensures) ∙ z)) (c .parted .ensures)
+    goes (eqb (getD (a .t .now) (wordAt (a .u) (neighbourWord (a .d))) 0) 0) (partedBy (a .d) (a .c)) (c .parted .result)
+    (eq-eqb (getD (a .t .now) (wordAt (a .u) (neighbourWord (a .d))) 0) 0 (sym (w .ensures) ∙ z)) (c .parted .ensures)
 
 pub goes-up-spec : {M : Type 1} → statement M
 goes-up-spec =

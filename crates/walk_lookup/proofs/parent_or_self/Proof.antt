@@ -15,10 +15,15 @@ by-false : (b : Bool) (x y z : ℕ) → b ≡ false → z ≡ y → z ≡ cond b
 by-false b x y z e f = rw e f
 
 returns : tie.Need-returns
-returns c = by-true (isRoot (c .before .before .before .args .c)) (c .before .before .before .args .u + 1) _ (sym (c .before .is-root .ensures) ∙ c .if1 .taken)
+returns c =
+    let at-start = c .before .before .before in
+    by-true (isRoot (at-start .args .c)) (at-start .args .u + 1) _ (sym (c .before .is-root .ensures) ∙ c .if1 .taken)
 
 returns-2 : tie.Need-returns-2
-returns-2 c = by-false (isRoot (c .before .before .before .before .args .c)) (c .before .before .before .before .args .u + 1) _ _ (sym (c .before .before .is-root .ensures) ∙ c .before .if1 .left) (c .word .ensures)
+returns-2 c =
+    let at-is-root = c .before .before in let at-start = at-is-root .before .before in
+    by-false (isRoot (at-start .args .c)) (at-start .args .u + 1) _ _ (sym (at-is-root .is-root .ensures) ∙ c .before .if1 .left)
+    (c .word .ensures)
 
 pub parent-or-self-spec : {M : Type 1} → statement M
 parent-or-self-spec =

@@ -13,27 +13,33 @@ use Rattle.walk_lookup.proofs.reach.Tie as tie
 
 returns : tie.Need-returns
 returns c =
-    let s = c .before .before .before .before in
-    let a = s .args in
-    let q = s .pre .1 in
+    let at-start = c .before .before .before .before in
+    let a = at-start .args in
+    let q = at-start .pre .1 in
     let w = c .before .word in (
-      (λ S h r. near-last (a .t .now) (a .nodes) S h (length (a .t .now)) (a .step) (a .t .now) (w .result) (a .nodes) (a .c) (stepped (a .d) (a .c)) (near-known (a .t .now) (a .nodes) (a .u) (a .c) (a .d) (a .step) S h r (q .2) (q .3) (w .result) (w .ensures) (c .if1 .taken))),
+      (λ S h r. near-last (a .t .now) (a .nodes) S h (length (a .t .now)) (a .step) (a .t .now) (w .result) (a .nodes) (a .c)
+          (stepped (a .d) (a .c)) (near-known (a .t .now) (a .nodes) (a .u) (a .c) (a .d) (a .step) S h r (q .2) (q .3) (w .result) (w .ensures) (c .if1 .taken))),
       (λ z. absurd (c .if1 .taken z)),
     )
 
 returns-2 : tie.Need-returns-2
 returns-2 c =
-    let a = c .before .before .before .before .before .before .before .before .before .before .before .before .before .args in
-    let n = c .before .before .before .before .before .before .before .neighbour in
-    let z = c .before .before .zero in
+    let at-zero = c .before .before in let at-if2 = at-zero .before .before in
+    let at-neighbour = at-if2 .before .before .before in
+    let at-start = at-neighbour .before .before .before .before .before .before in
+    let a = at-start .args in
+    let n = at-neighbour .neighbour in
+    let z = at-zero .zero in
     let l : length (n .last .0) ≡ length (a .t .now) = n .kept .0 in (
-      (λ S h r. none-made (length (a .t .now)) S (a .step) (a .c) (stepped (a .d) (a .c)) (n .last .0) (z .last .0) (n .result) (max (a .nodes) (n .result)) (max (a .nodes) 0) (c .before .before .before .before .if2 .taken) (n .ensures S h r)),
+      (λ S h r. none-made (length (a .t .now)) S (a .step) (a .c) (stepped (a .d) (a .c)) (n .last .0) (z .last .0) (n .result)
+          (max (a .nodes) (n .result)) (max (a .nodes) 0) (at-if2 .if2 .taken) (n .ensures S h r)),
       (λ e. z .ensures ∙ ap (λ (m : ℕ). replicate {A = ℕ} m 0) l),
     )
 
 returns-3 : tie.Need-returns-3
 returns-3 c =
-    (c .before .before .before .neighbour .ensures, λ z. absurd (c .if2 .left z))
+    let at-neighbour = c .before .before .before in
+    (at-neighbour .neighbour .ensures, λ z. absurd (c .if2 .left z))
 
 pub reach-spec : {M : Type 1} → statement M
 reach-spec =

@@ -18,102 +18,123 @@ use Rattle.walk_lookup.proofs.top.Tie as tie
 
 returns : tie.Need-returns
 returns c =
-    let s = c .before .before .before .before in
-    let a = s .args in
-    let q = s .pre .1 .0 in
+    let at-start = c .before .before .before .before in
+    let a = at-start .args in
+    let q = at-start .pre .1 .0 in
     let w = c .before .word in
-    λ S h r. near-last (a .t .now) (a .nodes) S h (length (a .t .now)) (a .step) (a .t .now) (w .result) (a .nodes) (a .c) (stepped (a .d) (a .c)) (near-known (a .t .now) (a .nodes) (a .u) (a .c) (a .d) (a .step) S h r (q .2) (q .3) (w .result) (w .ensures) (c .if1 .taken))
+    λ S h r. near-last (a .t .now) (a .nodes) S h (length (a .t .now)) (a .step) (a .t .now) (w .result) (a .nodes) (a .c)
+    (stepped (a .d) (a .c)) (near-known (a .t .now) (a .nodes) (a .u) (a .c) (a .d) (a .step) S h r (q .2) (q .3) (w .result)
+    (w .ensures) (c .if1 .taken))
 
 returns-2 : tie.Need-returns-2
 returns-2 c =
-    let s = c .before .before .before .before .before .before .before .before .before .before .before in
-    let a = s .args in
-    let q = s .pre .1 .0 in
-    let w = c .before .before .before .before .before .before .before .before .word in
-    let z : w .result ≡ 0 = omega (arith, c .before .before .before .before .before .before .before .if1 .left) in
+    let at-link = c .before .before in let at-if2 = at-link .before .before in let at-moved = at-if2 .before .before in
+    let at-if1 = at-moved .before in let at-start = at-if1 .before .before .before .before in
+    let a = at-start .args in
+    let q = at-start .pre .1 .0 in
+    let w = at-if1 .before .word in
+    let z : w .result ≡ 0 = omega (arith, at-if1 .if1 .left) in
     let none = sym z ∙ w .ensures in
-    let m = c .before .before .before .before .before .before .moved .ensures in
-    let g = ap isRoot (sym m) ∙ sym (c .before .before .before .before .before .is-root .ensures) ∙ c .before .before .before .before .if2 .taken in
-    λ S h r. subst (λ (l : List ℕ). Made (length (a .t .now)) (reached S (a .step) (a .c) (stepped (a .d) (a .c))) (stepped (a .d) (a .c)) l 1 (max (a .nodes) 1)) (sym (c .before .before .link .ensures))
-    (near-last (a .t .now) (a .nodes) S h (length (a .t .now)) (a .step) _ 1 (a .nodes) (a .c) (stepped (a .d) (a .c)) (near-root (a .t .now) (a .nodes) (a .u) (a .c) (a .d) (a .step) S h r (q .2) (q .3) none g))
+    let m = at-moved .moved .ensures in
+    let g = ap isRoot (sym m) ∙ sym (at-if2 .before .is-root .ensures) ∙ at-if2 .if2 .taken in
+    λ S h r. subst (λ (l : List ℕ). Made (length (a .t .now)) (reached S (a .step) (a .c) (stepped (a .d) (a .c)))
+    (stepped (a .d) (a .c)) l 1 (max (a .nodes) 1)) (sym (at-link .link .ensures))
+    (near-last (a .t .now) (a .nodes) S h (length (a .t .now)) (a .step) _ 1 (a .nodes) (a .c) (stepped (a .d) (a .c))
+    (near-root (a .t .now) (a .nodes) (a .u) (a .c) (a .d) (a .step) S h r (q .2) (q .3) none g))
 
 sub-child : tie.Need-sub-child
 sub-child c =
-    let s = c .before .before .before .before .before .before .before .before .before .before in
-    let a = s .args in
-    let k = s .pre .0 in
-    let q = s .pre .1 .0 in
-    let w = c .before .before .before .before .before .before .before .word in
-    let z : w .result ≡ 0 = omega (arith, c .before .before .before .before .before .before .if1 .left) in
+    let at-parent-or-self = c .before in let at-if2 = at-parent-or-self .before .before in
+    let at-moved = at-if2 .before .before in let at-if1 = at-moved .before in
+    let at-start = at-if1 .before .before .before .before in
+    let a = at-start .args in
+    let k = at-start .pre .0 in
+    let q = at-start .pre .1 .0 in
+    let w = at-if1 .before .word in
+    let z : w .result ≡ 0 = omega (arith, at-if1 .if1 .left) in
     let none = sym z ∙ w .ensures in
-    let m = c .before .before .before .before .before .moved .ensures in
-    let g = ap isRoot (sym m) ∙ sym (c .before .before .before .before .is-root .ensures) ∙ c .before .before .before .if2 .left in
-    omega (arith, top-raises (a .t .now) (a .nodes) (a .u) (a .c) (a .d) (a .step) (k .state) (k .holds) (k .here) (q .2) (q .3) (s .pre .1 .1) none g (c .before .parent-or-self .result) (c .before .parent-or-self .ensures) .0)
+    let m = at-moved .moved .ensures in
+    let g = ap isRoot (sym m) ∙ sym (at-if2 .before .is-root .ensures) ∙ at-if2 .if2 .left in
+    omega (arith, top-raises (a .t .now) (a .nodes) (a .u) (a .c) (a .d) (a .step) (k .state) (k .holds) (k .here) (q .2) (q .3) (at-start .pre .1 .1) none g (at-parent-or-self .parent-or-self .result) (at-parent-or-self .parent-or-self .ensures) .0)
 
 child-requires : tie.Need-child-requires
 child-requires c κs =
-    let s = c .before .before .before .before .before .before .before .before .before .before .before in
-    let a = s .args in
-    let k = s .pre .0 in
-    let q = s .pre .1 .0 in
-    let w = c .before .before .before .before .before .before .before .before .word in
-    let z : w .result ≡ 0 = omega (arith, c .before .before .before .before .before .before .before .if1 .left) in
+    let at-parent-or-self = c .before .before in let at-if2 = at-parent-or-self .before .before in
+    let at-moved = at-if2 .before .before in let at-if1 = at-moved .before in
+    let at-start = at-if1 .before .before .before .before in
+    let a = at-start .args in
+    let k = at-start .pre .0 in
+    let q = at-start .pre .1 .0 in
+    let w = at-if1 .before .word in
+    let z : w .result ≡ 0 = omega (arith, at-if1 .if1 .left) in
     let none = sym z ∙ w .ensures in
-    let m = c .before .before .before .before .before .before .moved .ensures in
-    let g = ap isRoot (sym m) ∙ sym (c .before .before .before .before .before .is-root .ensures) ∙ c .before .before .before .before .if2 .left in
-    let h = top-held (a .t .now) (a .nodes) (a .u) (a .c) (a .d) (a .step) (k .state) (k .holds) (k .here) (q .2) (q .3) (s .pre .1 .1) none g (c .before .before .parent-or-self .result) (c .before .before .parent-or-self .ensures) in
-    let x = child-word-small (c .before .before .before .before .before .before .moved .result) in
+    let m = at-moved .moved .ensures in
+    let g = ap isRoot (sym m) ∙ sym (at-if2 .before .is-root .ensures) ∙ at-if2 .if2 .left in
+    let h = top-held (a .t .now) (a .nodes) (a .u) (a .c) (a .d) (a .step) (k .state) (k .holds) (k .here) (q .2) (q .3)
+    (at-start .pre .1 .1) none g (at-parent-or-self .parent-or-self .result) (at-parent-or-self .parent-or-self .ensures) in
+    let x = child-word-small (at-moved .moved .result) in
     let y = c .child-word .ensures in
-    (record { state = raised (k .state) (a .step) (a .c) (stepped (a .d) (a .c)); holds = h .0 }, (omega (arith, ref-below (raised (k .state) (a .step) (a .c) (stepped (a .d) (a .c)) .nodes) (parentOf (stepped (a .d) (a .c))) (c .before .before .parent-or-self .result - 1) (h .1), h .0 .count), omega (arith, y, x .0), omega (arith, y, x .1), q .4))
+    (record { state = raised (k .state) (a .step) (a .c) (stepped (a .d) (a .c)); holds = h .0 }, (omega (arith, ref-below (raised (k .state) (a .step) (a .c) (stepped (a .d) (a .c)) .nodes) (parentOf (stepped (a .d) (a .c))) (at-parent-or-self .parent-or-self .result - 1) (h .1), h .0 .count), omega (arith, y, x .0), omega (arith, y, x .1), q .4))
 
 returns-3 : tie.Need-returns-3
 returns-3 c =
-    let p = c .before .before .before .before .before .before .parent-or-self in
-    let b = c .before .before .before .before .child-word in
-    let e = c .before .before .before .child in
-    let s = c .before .before .before .before .before .before .before .before .before .before .before .before .before .before .before in
-    let a = s .args in
-    let q = s .pre .1 .0 in
-    let w = c .before .before .before .before .before .before .before .before .before .before .before .before .word in
-    let z : w .result ≡ 0 = omega (arith, c .before .before .before .before .before .before .before .before .before .before .before .if1 .left) in
+    let at-child = c .before .before .before in let at-parent-or-self = at-child .before .before .before in
+    let at-if2 = at-parent-or-self .before .before in let at-is-root = at-if2 .before in
+    let at-if1 = at-is-root .before .before in let at-word = at-if1 .before in let at-start = at-word .before .before .before in
+    let p = at-parent-or-self .parent-or-self in
+    let b = at-child .before .child-word in
+    let e = at-child .child in
+    let a = at-start .args in
+    let q = at-start .pre .1 .0 in
+    let w = at-word .word in
+    let z : w .result ≡ 0 = omega (arith, at-if1 .if1 .left) in
     let none = sym z ∙ w .ensures in
-    let m = c .before .before .before .before .before .before .before .before .before .before .moved .ensures in
-    let g = ap isRoot (sym m) ∙ sym (c .before .before .before .before .before .before .before .before .before .is-root .ensures) ∙ c .before .before .before .before .before .before .before .before .if2 .left in
-    λ S h r. top-none (a .t .now) (a .nodes) (a .u) (a .c) (a .d) (a .step) S h r (q .2) (q .3) (s .pre .1 .1) none g (p .result) (p .ensures) (e .last .0) (e .result) (b .result) (b .ensures ∙ ap childWord m) (e .ensures .0) (c .if3 .taken)
+    let m = at-is-root .before .moved .ensures in
+    let g = ap isRoot (sym m) ∙ sym (at-is-root .is-root .ensures) ∙ at-if2 .if2 .left in
+    λ S h r. top-none (a .t .now) (a .nodes) (a .u) (a .c) (a .d) (a .step) S h r (q .2) (q .3) (at-start .pre .1 .1) none g
+    (p .result) (p .ensures) (e .last .0) (e .result) (b .result) (b .ensures ∙ ap childWord m) (e .ensures .0) (c .if3 .taken)
 
 link-requires-2 : tie.Need-link-requires-2
 link-requires-2 c κs =
-    let p = c .before .before .before .before .before .before .before .parent-or-self in
-    let b = c .before .before .before .before .before .child-word in
-    let e = c .before .before .before .before .child in
-    let s = c .before .before .before .before .before .before .before .before .before .before .before .before .before .before .before .before in
-    let a = s .args in
-    let k = s .pre .0 in
-    let q = s .pre .1 .0 in
-    let w = c .before .before .before .before .before .before .before .before .before .before .before .before .before .word in
-    let z : w .result ≡ 0 = omega (arith, c .before .before .before .before .before .before .before .before .before .before .before .before .if1 .left) in
+    let at-child = c .before .before .before .before in let at-parent-or-self = at-child .before .before .before in
+    let at-if2 = at-parent-or-self .before .before in let at-is-root = at-if2 .before in
+    let at-if1 = at-is-root .before .before in let at-word = at-if1 .before in let at-start = at-word .before .before .before in
+    let p = at-parent-or-self .parent-or-self in
+    let b = at-child .before .child-word in
+    let e = at-child .child in
+    let a = at-start .args in
+    let k = at-start .pre .0 in
+    let q = at-start .pre .1 .0 in
+    let w = at-word .word in
+    let z : w .result ≡ 0 = omega (arith, at-if1 .if1 .left) in
     let none = sym z ∙ w .ensures in
-    let m = c .before .before .before .before .before .before .before .before .before .before .before .moved .ensures in
-    let g = ap isRoot (sym m) ∙ sym (c .before .before .before .before .before .before .before .before .before .before .is-root .ensures) ∙ c .before .before .before .before .before .before .before .before .before .if2 .left in
+    let m = at-is-root .before .moved .ensures in
+    let g = ap isRoot (sym m) ∙ sym (at-is-root .is-root .ensures) ∙ at-if2 .if2 .left in
     let f : e .result ≡ 0 → ⊥ = λ y. c .before .if3 .left y in
-    let l = top-bounds (a .t .now) (a .nodes) (a .u) (a .c) (a .d) (a .step) (k .state) (k .holds) (k .here) (q .2) (q .3) (s .pre .1 .1) none g (p .result) (p .ensures) (e .last .0) (e .result) (b .result) (b .ensures ∙ ap childWord m) (e .ensures .0) f in
+    let l = top-bounds (a .t .now) (a .nodes) (a .u) (a .c) (a .d) (a .step) (k .state) (k .holds) (k .here) (q .2) (q .3)
+    (at-start .pre .1 .1) none g (p .result) (p .ensures) (e .last .0) (e .result) (b .result) (b .ensures ∙ ap childWord m)
+    (e .ensures .0) f in
     ((l .0, l .1), (q .2, omega (arith, l .2, q .4)))
 
 returns-4 : tie.Need-returns-4
 returns-4 c =
-    let p = c .before .before .before .before .before .before .before .before .before .before .parent-or-self in
-    let b = c .before .before .before .before .before .before .before .before .child-word in
-    let e = c .before .before .before .before .before .before .before .child in
-    let s = c .before .before .before .before .before .before .before .before .before .before .before .before .before .before .before .before .before .before .before in
-    let a = s .args in
-    let q = s .pre .1 .0 in
-    let w = c .before .before .before .before .before .before .before .before .before .before .before .before .before .before .before .before .word in
-    let z : w .result ≡ 0 = omega (arith, c .before .before .before .before .before .before .before .before .before .before .before .before .before .before .before .if1 .left) in
+    let at-link2 = c .before .before in let at-if3 = at-link2 .before .before in let at-child = at-if3 .before .before .before in
+    let at-parent-or-self = at-child .before .before .before in let at-if2 = at-parent-or-self .before .before in
+    let at-is-root = at-if2 .before in let at-if1 = at-is-root .before .before in let at-word = at-if1 .before in
+    let at-start = at-word .before .before .before in
+    let p = at-parent-or-self .parent-or-self in
+    let b = at-child .before .child-word in
+    let e = at-child .child in
+    let a = at-start .args in
+    let q = at-start .pre .1 .0 in
+    let w = at-word .word in
+    let z : w .result ≡ 0 = omega (arith, at-if1 .if1 .left) in
     let none = sym z ∙ w .ensures in
-    let m = c .before .before .before .before .before .before .before .before .before .before .before .before .before .before .moved .ensures in
-    let g = ap isRoot (sym m) ∙ sym (c .before .before .before .before .before .before .before .before .before .before .before .before .before .is-root .ensures) ∙ c .before .before .before .before .before .before .before .before .before .before .before .before .if2 .left in
-    let f : e .result ≡ 0 → ⊥ = λ y. c .before .before .before .before .if3 .left y in
-    λ S h r. subst (λ (l : List ℕ). Made (length (a .t .now)) (reached S (a .step) (a .c) (stepped (a .d) (a .c))) (stepped (a .d) (a .c)) l (e .result) (max (a .nodes) (e .result))) (sym (c .before .before .link2 .ensures)) (top-linked (a .t .now) (a .nodes) (a .u) (a .c) (a .d) (a .step) S h r (q .2) (q .3) (s .pre .1 .1) none g (p .result) (p .ensures) (e .last .0) (e .result) (b .result) (b .ensures ∙ ap childWord m) (e .ensures .0) f)
+    let m = at-is-root .before .moved .ensures in
+    let g = ap isRoot (sym m) ∙ sym (at-is-root .is-root .ensures) ∙ at-if2 .if2 .left in
+    let f : e .result ≡ 0 → ⊥ = λ y. at-if3 .if3 .left y in
+    λ S h r. subst (λ (l : List ℕ). Made (length (a .t .now)) (reached S (a .step) (a .c) (stepped (a .d) (a .c)))
+    (stepped (a .d) (a .c)) l (e .result) (max (a .nodes) (e .result))) (sym (at-link2 .link2 .ensures)) (top-linked (a .t .now) (a .nodes) (a .u) (a .c) (a .d) (a .step) S h r (q .2) (q .3) (at-start .pre .1 .1) none g (p .result) (p .ensures) (e .last .0) (e .result) (b .result) (b .ensures ∙ ap childWord m) (e .ensures .0) f)
 
 pub top-spec : {M : Type 1} → statement M
 top-spec =

@@ -24,8 +24,9 @@ loop-holds c = climb-start (c .args .c)
 
 add-levels : tie.Need-add-levels Inv-loop μ-loop
 add-levels c =
-    let l = c .before .before .before .loop in
-    let n = c .before .before .before .before .pre in
+    let at-loop = c .before .before .before in
+    let l = at-loop .loop in
+    let n = at-loop .before .pre in
     omega (arith, l .inv .few, n .0, n .1)
 
 less : (a b : Corner) → isRoot a ≡ false → b ≡ parentOf a → sizeOf b < sizeOf a
@@ -33,19 +34,25 @@ less a b e q = subst (λ (x : Corner). sizeOf x < sizeOf a) (sym q) (sizeOf-pare
 
 loop-less : tie.Need-loop-less Inv-loop μ-loop
 loop-less c =
-    let l = c .before .before .before .loop in
-    less (l .at) (c .parent-of .result) (sym (c .before .before .is-root .ensures) ∙ not-true (c .before .before .is-root .result) (c .before .if1 .taken)) (c .parent-of .ensures)
+    let at-is-root = c .before .before in
+    let l = at-is-root .before .loop in
+    less (l .at) (c .parent-of .result)
+    (sym (at-is-root .is-root .ensures) ∙ not-true (at-is-root .is-root .result) (c .before .if1 .taken)) (c .parent-of .ensures)
 
 loop-again : tie.Need-loop-again Inv-loop μ-loop
 loop-again c =
-    let l = c .before .before .before .loop in
-    climb-next (c .before .before .before .before .args .c) (l .at) (c .parent-of .result) (l .levels) (l .inv) (sym (c .before .before .is-root .ensures) ∙ not-true (c .before .before .is-root .result) (c .before .if1 .taken)) (c .parent-of .ensures)
+    let at-is-root = c .before .before in
+    let l = at-is-root .before .loop in
+    climb-next (at-is-root .before .before .args .c) (l .at) (c .parent-of .result) (l .levels) (l .inv)
+    (sym (at-is-root .is-root .ensures) ∙ not-true (at-is-root .is-root .result) (c .before .if1 .taken)) (c .parent-of .ensures)
 
 returns : tie.Need-returns Inv-loop μ-loop
 returns c =
-    let l = c .before .before .loop in
-    let r = c .before .is-root in
-    climb-end (c .before .before .before .args .c) (l .at) (l .levels) (l .inv) (sym (r .ensures) ∙ not-false (r .result) (c .if1 .left))
+    let at-is-root = c .before in
+    let l = at-is-root .before .loop in
+    let r = at-is-root .is-root in
+    climb-end (at-is-root .before .before .args .c) (l .at) (l .levels) (l .inv)
+    (sym (r .ensures) ∙ not-false (r .result) (c .if1 .left))
 
 pub depth-spec : {M : Type 1} → statement M
 depth-spec =

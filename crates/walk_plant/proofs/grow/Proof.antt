@@ -23,12 +23,14 @@ abbrev μ-loop : tie.MeasureT-loop
 
 loop-holds : tie.Need-loop-holds Inv-loop μ-loop
 loop-holds c =
-    let s = c .before .before in
+    let at-start = c .before .before in
     let d = c .depth in
-    (refl, d .ensures, omega arith, growing-start (length (s .args .t .now)) (s .args .c) (s .args .t .now) (d .result) (d .ensures) (s .pre .1) (s .pre .2))
+    (refl, d .ensures, omega arith, growing-start (length (at-start .args .t .now)) (at-start .args .c) (at-start .args .t .now) (d .result) (d .ensures) (at-start .pre .1) (at-start .pre .2))
 
 sub-child : tie.Need-sub-child Inv-loop μ-loop
-sub-child c = let k = c .before .before .before .before .loop .inv .3 in omega (arith, k .some)
+sub-child c =
+    let at-loop = c .before .before .before .before in
+    let k = at-loop .loop .inv .3 in omega (arith, k .some)
 
 -- one level down is what is left
 down : {words : ℕ} {c : Corner} {t : List ℕ} (left nodes : ℕ) → 0 < left → Growing words c t left nodes → Growing words c t ((left - 1) + 1) nodes
@@ -40,44 +42,52 @@ worded p e q = let h = childWord-range e in (omega (arith, h .0), omega (arith, 
 
 child-requires : tie.Need-child-requires Inv-loop μ-loop
 child-requires c κs =
-    let s = c .before .before .before .before .before .before .before in
-    let l = c .before .before .before .before .loop in
-    let k = down (l .left) (l .nodes) (omega (arith, c .before .before .before .loop-test .taken)) (l .inv .3) in
-    let w = worded (c .before .child-word .result) (c .before .before .up-by .result) (c .before .child-word .ensures) in
-    (record { state = plantedOf (upBy ((l .left - 1) + 1) (s .args .c)); holds = growing-holds (length (s .args .t .now)) (s .args .c) (l .t) (l .left - 1) (l .nodes) k (l .inv .0) }, (omega (arith, k .some), w .0, w .1, omega (arith, l .inv .0, s .pre .3)))
+    let at-child-word = c .before in let at-up-by = at-child-word .before in let at-loop-test = at-up-by .before in
+    let at-start = at-loop-test .before .before .before .before in
+    let l = at-loop-test .before .loop in
+    let k = down (l .left) (l .nodes) (omega (arith, at-loop-test .loop-test .taken)) (l .inv .3) in
+    let w = worded (at-child-word .child-word .result) (at-up-by .up-by .result) (at-child-word .child-word .ensures) in
+    (record { state = plantedOf (upBy ((l .left - 1) + 1) (at-start .args .c)); holds = growing-holds (length (at-start .args .t .now)) (at-start .args .c) (l .t) (l .left - 1) (l .nodes) k (l .inv .0) }, (omega (arith, k .some), w .0, w .1, omega (arith, l .inv .0, at-start .pre .3)))
 
 returns : tie.Need-returns Inv-loop μ-loop
 returns c =
-    let s = c .before .before .before .before .before .before .before .before .before .before .before in
-    let W = length (s .args .t .now) in
-    let C = s .args .c in
-    let l = c .before .before .before .before .before .before .before .before .loop in
-    let k = down (l .left) (l .nodes) (omega (arith, c .before .before .before .before .before .before .before .loop-test .taken)) (l .inv .3) in
-    let b = c .before .before .before .child in
-    let w = c .before .before .before .before .before .child-word in
-    let p = w .ensures ∙ ap childWord (c .before .before .before .before .before .before .up-by .ensures) in
+    let at-child = c .before .before .before in let at-child-word = at-child .before .before in
+    let at-up-by = at-child-word .before in let at-loop = at-up-by .before .before in
+    let at-start = at-loop .before .before .before in
+    let W = length (at-start .args .t .now) in
+    let C = at-start .args .c in
+    let l = at-loop .loop in
+    let k = down (l .left) (l .nodes) (omega (arith, at-up-by .before .loop-test .taken)) (l .inv .3) in
+    let b = at-child .child in
+    let w = at-child-word .child-word in
+    let p = w .ensures ∙ ap childWord (at-up-by .up-by .ensures) in
     let deep = l .inv .1 .below (l .left - 1) (omega (arith, l .inv .2)) in
-    growing-none W C (b .last .0) (growing-full W C (l .t) (l .left - 1) (l .nodes) k (l .inv .0) deep (w .result) (b .result) p (b .last .0) (b .ensures .0) (c .if1 .taken))
+    growing-none W C (b .last .0)
+    (growing-full W C (l .t) (l .left - 1) (l .nodes) k (l .inv .0) deep (w .result) (b .result) p (b .last .0) (b .ensures .0)
+    (c .if1 .taken))
 
 loop-again : tie.Need-loop-again Inv-loop μ-loop
 loop-again c =
-    let s = c .before .before .before .before .before .before .before .before .before .before .before in
-    let W = length (s .args .t .now) in
-    let C = s .args .c in
-    let l = c .before .before .before .before .before .before .before .before .loop in
-    let k = down (l .left) (l .nodes) (omega (arith, c .before .before .before .before .before .before .before .loop-test .taken)) (l .inv .3) in
-    let b = c .before .before .before .child in
-    let w = c .before .before .before .before .before .child-word in
-    let p = w .ensures ∙ ap childWord (c .before .before .before .before .before .before .up-by .ensures) in
+    let at-child = c .before .before .before in let at-child-word = at-child .before .before in
+    let at-up-by = at-child-word .before in let at-loop = at-up-by .before .before in
+    let at-start = at-loop .before .before .before in
+    let W = length (at-start .args .t .now) in
+    let C = at-start .args .c in
+    let l = at-loop .loop in
+    let k = down (l .left) (l .nodes) (omega (arith, at-up-by .before .loop-test .taken)) (l .inv .3) in
+    let b = at-child .child in
+    let w = at-child-word .child-word in
+    let p = w .ensures ∙ ap childWord (at-up-by .up-by .ensures) in
     let deep = l .inv .1 .below (l .left - 1) (omega (arith, l .inv .2)) in
     let same : length (b .last .0) ≡ length (l .t) = search needs in
     (same ∙ l .inv .0, l .inv .1, omega (arith, l .inv .2), growing-next W C (l .t) (l .left - 1) (l .nodes) k (l .inv .0) deep (w .result) (b .result) p (b .last .0) (b .ensures .0) (c .if1 .left))
 
 returns-2 : tie.Need-returns-2 Inv-loop μ-loop
 returns-2 c =
-    let s = c .before .before .before .before in
+    let at-start = c .before .before .before .before in
     let l = c .before .loop in
-    growing-end (length (s .args .t .now)) (s .args .c) (l .t) (l .left) (l .nodes) (l .inv .3) (omega (arith, c .loop-test .left))
+    growing-end (length (at-start .args .t .now)) (at-start .args .c) (l .t) (l .left) (l .nodes) (l .inv .3)
+    (omega (arith, c .loop-test .left))
 
 pub grow-spec : {M : Type 1} → statement M
 grow-spec =

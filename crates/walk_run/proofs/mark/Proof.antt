@@ -11,14 +11,16 @@ use Rattle.walk_run.proofs.mark.Tie as tie
 
 slice-write-marks-2 : tie.Need-slice-write-marks-2
 slice-write-marks-2 c =
-    let s = c .before .before .before .before in
-    let a = s .args in
-    omega (arith, length-set (a .marks .now) (markWords * a .i) (a .w .nodes), s .pre .1)
+    let at-start = c .before .before .before .before in
+    let a = at-start .args in
+    omega (arith, length-set (a .marks .now) (markWords * a .i) (a .w .nodes), at-start .pre .1)
 
 returns : tie.Need-returns
 returns c =
-    let a = c .before .before .before .before .args in
-    ap (λ (v : ℕ). set (set (set (a .marks .now) (markWords * a .i) (a .w .nodes)) (markWords * a .i + 1) v) (markWords * a .i + 2) (a .changed)) (c .word .ensures)
+    let at-start = c .before .before .before .before in
+    let a = at-start .args in
+    ap (λ (v : ℕ). set (set (set (a .marks .now) (markWords * a .i) (a .w .nodes)) (markWords * a .i + 1) v)
+    (markWords * a .i + 2) (a .changed)) (c .word .ensures)
 
 pub mark-spec : {M : Type 1} → statement M
 mark-spec =

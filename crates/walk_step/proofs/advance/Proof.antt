@@ -9,27 +9,31 @@ use Rattle.walk_step.proofs.advance.Tie as tie
 
 tallied-requires : tie.Need-tallied-requires
 tallied-requires c κs =
-    let s = c .before .before .before .before .before .before .before .before .before .before .before in
-    let a = s .args in
-    let g = c .before .before .before .before .before .before .go in
-    let n = c .before .before .next .given in
-    let h = advance-stepped (a .t .now) (g .last .0) (a .w) (a .d) (g .result) (n .0 .0) (g .ensures) (n .1) (s .pre .0) (s .pre .1 .3) in
+    let at-next = c .before .before in let at-go = at-next .before .before .before .before in
+    let at-start = at-go .before .before .before .before .before in
+    let a = at-start .args in
+    let g = at-go .go in
+    let n = at-next .next .given in
+    let h = advance-stepped (a .t .now) (g .last .0) (a .w) (a .d) (g .result) (n .0 .0) (g .ensures) (n .1) (at-start .pre .0)
+    (at-start .pre .1 .3) in
     (h .0, (h .1, h .2))
 
 returns : tie.Need-returns
 returns c =
-    let s = c .before .before .before .before .before .before .before .before .before .before .before .before in
-    let a = s .args in
-    let g = c .before .before .before .before .before .before .before .go in
-    let n = c .before .before .before .next .given in
+    let at-next = c .before .before .before in let at-go = at-next .before .before .before .before in
+    let at-start = at-go .before .before .before .before .before in
+    let a = at-start .args in
+    let g = at-go .go in
+    let n = at-next .next .given in
     let v : Walk = record { spot = n .0 .0; tally = c .tallied .result } in
-    advance-to (a .t .now) (g .last .0) (a .w) (a .d) (g .result) (n .0 .0) (g .ensures) (n .1) (c .tallied .result) (c .tallied .ensures) v refl refl
+    advance-to (a .t .now) (g .last .0) (a .w) (a .d) (g .result) (n .0 .0) (g .ensures) (n .1) (c .tallied .result)
+    (c .tallied .ensures) v refl refl
 
 returns-2 : tie.Need-returns-2
 returns-2 c =
-    let s = c .before .before .before .before .before .before .before .before .before in
-    let a = s .args in
-    let g = c .before .before .before .before .go in
+    let at-go = c .before .before .before .before in let at-start = at-go .before .before .before .before .before in
+    let a = at-start .args in
+    let g = at-go .go in
     advance-full (a .t .now) (g .last .0) (a .w) (a .d) (g .result) (g .ensures) (c .enum-told .given .1)
 
 pub advance-spec : {M : Type 1} → statement M

@@ -10,17 +10,18 @@ use Rattle.walk_step.proofs.withdraw.Tie as tie
 
 untallied-requires : tie.Need-untallied-requires
 untallied-requires c κs =
-    let s = c .before .before .before .before in
-    let a = s .args in
-    let k = s .pre .0 in
-    (record { start = k .start; chain = k .chain; walked = k .known .walked }, (s .pre .1 .3, corners-some (a .t .now) (k .start) (k .chain ++ (a .d ∷ [])) (a .w) (k .known)))
+    let at-start = c .before .before .before .before in
+    let a = at-start .args in
+    let k = at-start .pre .0 in
+    (record { start = k .start; chain = k .chain; walked = k .known .walked }, (at-start .pre .1 .3, corners-some (a .t .now) (k .start) (k .chain ++ (a .d ∷ [])) (a .w) (k .known)))
 
 returns : tie.Need-returns
 returns c =
-    let s = c .before .before .before .before .before .before .before .before .before in
-    let a = s .args in
-    let u = c .before .before .before .before .untallied in
-    let b = c .before .before .take-back in
+    let at-take-back = c .before .before in let at-untallied = at-take-back .before .before in
+    let at-start = at-untallied .before .before .before .before .before in
+    let a = at-start .args in
+    let u = at-untallied .untallied in
+    let b = at-take-back .take-back in
     let v : Walk = record { spot = b .result; tally = u .result } in
     withdraw-to (a .t .now) (b .last .0) (a .w) (a .d) (b .result) (u .result) (u .ensures) (b .ensures) v refl refl
 

@@ -22,15 +22,15 @@ loop-holds c = (refl, omega arith, refl)
 
 loop-again : tie.Need-loop-again Inv-loop μ-loop
 loop-again c =
-    let s = c .before .before .before .before .before .before .before in
-    let l = c .before .before .before .before .before .loop in
-    (ap length (c .before .before .put .ensures) ∙ length-set (l .t) _ _ ∙ l .inv .0, omega arith, clear-next (s .args .t .now) (l .t) (c .before .before .put .last .0) (s .args .r) (l .f) (l .inv .2) (c .before .before .put .ensures))
+    let at-put = c .before .before in let at-loop = at-put .before .before .before in let at-start = at-loop .before .before in
+    let l = at-loop .loop in
+    (ap length (at-put .put .ensures) ∙ length-set (l .t) _ _ ∙ l .inv .0, omega arith, clear-next (at-start .args .t .now) (l .t) (at-put .put .last .0) (at-start .args .r) (l .f) (l .inv .2) (at-put .put .ensures))
 
 returns : tie.Need-returns Inv-loop μ-loop
 returns c =
-    let s = c .before .before .before in
+    let at-start = c .before .before .before in
     let l = c .before .loop in
-    clear-end (s .args .t .now) (l .t) (s .args .r) (l .f) (l .inv .2) (omega arith)
+    clear-end (at-start .args .t .now) (l .t) (at-start .args .r) (l .f) (l .inv .2) (omega arith)
 
 pub clear-record-spec : {M : Type 1} → statement M
 clear-record-spec =

@@ -9,8 +9,11 @@ use Rattle.walk_table.proofs.put_edge.Tie as tie
 
 returns : tie.Need-returns
 returns c =
-    let a = c .before .before .before .before .before .before .before .before .before .args in
-    store-two (a .t .now) (wordAt (a .u) (edgeWord (a .d))) (wordAt (a .v) (edgeWord ((a .d + 2) % 4))) (a .count) (a .count) (c .before .before .before .before .before .before .put .ensures) (c .before .before .put2 .ensures)
+    let at-put2 = c .before .before in let at-put = at-put2 .before .before .before .before in
+    let at-start = at-put .before .before .before in
+    let a = at-start .args in
+    store-two (a .t .now) (wordAt (a .u) (edgeWord (a .d))) (wordAt (a .v) (edgeWord ((a .d + 2) % 4))) (a .count) (a .count)
+    (at-put .put .ensures) (at-put2 .put2 .ensures)
 
 pub put-edge-spec : {M : Type 1} → statement M
 put-edge-spec =

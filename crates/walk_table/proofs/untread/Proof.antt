@@ -9,8 +9,10 @@ use Rattle.walk_table.proofs.untread.Tie as tie
 
 returns : tie.Need-returns
 returns c =
-    let a = c .before .before .before .before .before .before .before .args in
-    c .before .before .put-edge .ensures ∙ ap (λ (n : ℕ). edgeIn (a .t .now) (a .u) (a .v) (a .d) (n - 1)) (c .before .before .before .before .word .ensures)
+    let at-put-edge = c .before .before in let at-word = at-put-edge .before .before in
+    let at-start = at-word .before .before .before in
+    let a = at-start .args in
+    at-put-edge .put-edge .ensures ∙ ap (λ (n : ℕ). edgeIn (a .t .now) (a .u) (a .v) (a .d) (n - 1)) (at-word .word .ensures)
 
 pub untread-spec : {M : Type 1} → statement M
 untread-spec =

@@ -7,15 +7,18 @@ use Rattle.walk_table.proofs.unvisit.Tie as tie
 
 returns : tie.Need-returns
 returns c =
-    let s = c .before .before .before .before .before .before .before .before .before .before .before .before in
-    let w = c .before .before .before .before .before .before .before .before .before .word in
-    unvisit-last (s .args .t .now) (s .args .r) (w .result) (w .ensures) (c .before .before .before .before .before .before .before .put .ensures) (c .before .before .put2 .ensures) (c .before .before .before .before .if1 .taken)
+    let at-put2 = c .before .before in let at-if1 = at-put2 .before .before in let at-put = at-if1 .before .before .before in
+    let at-word = at-put .before .before in let at-start = at-word .before .before .before in
+    let w = at-word .word in
+    unvisit-last (at-start .args .t .now) (at-start .args .r) (w .result) (w .ensures) (at-put .put .ensures)
+    (at-put2 .put2 .ensures) (at-if1 .if1 .taken)
 
 returns-2 : tie.Need-returns-2
 returns-2 c =
-    let s = c .before .before .before .before .before .before .before .before in
-    let w = c .before .before .before .before .before .word in
-    unvisit-more (s .args .t .now) (s .args .r) (w .result) (w .ensures) (c .before .before .before .put .ensures) (c .if1 .left)
+    let at-put = c .before .before .before in let at-word = at-put .before .before in
+    let at-start = at-word .before .before .before in
+    let w = at-word .word in
+    unvisit-more (at-start .args .t .now) (at-start .args .r) (w .result) (w .ensures) (at-put .put .ensures) (c .if1 .left)
 
 pub unvisit-spec : {M : Type 1} → statement M
 unvisit-spec =

@@ -19,16 +19,18 @@ abbrev μ-loop : tie.MeasureT-loop
 
 loop-again : tie.Need-loop-again Inv-loop μ-loop
 loop-again c =
-    let l = c .before .before in
-    let a = l .before .before .args in
-    let step = spell-next (l .loop .left) (l .loop .rest) (a .at) (c .letter .result) (l .loop .out) _ (omega arith) (omega arith) (c .letter .ensures) (l .loop .inv .2) in
-    (omega arith, simp length-set (l .loop .inv .1), step)
+    let at-loop = c .before .before in
+    let a = at-loop .before .before .args in
+    let step = spell-next (at-loop .loop .left) (at-loop .loop .rest) (a .at) (c .letter .result) (at-loop .loop .out) _
+    (omega arith) (omega arith) (c .letter .ensures) (at-loop .loop .inv .2) in
+    (omega arith, simp length-set (at-loop .loop .inv .1), step)
 
 returns : tie.Need-returns Inv-loop μ-loop
 returns c =
-    let l = c .before in
-    let a = l .before .before .args in
-    spell-done (a .n) (a .v) (l .loop .left) (l .loop .rest) (a .at) (l .loop .out) (a .out .now) (c .loop-test .left) (l .loop .inv .2)
+    let at-loop = c .before in
+    let a = at-loop .before .before .args in
+    spell-done (a .n) (a .v) (at-loop .loop .left) (at-loop .loop .rest) (a .at) (at-loop .loop .out) (a .out .now)
+    (c .loop-test .left) (at-loop .loop .inv .2)
 
 pub spell-spec : {M : Type 1} → statement M
 spell-spec =

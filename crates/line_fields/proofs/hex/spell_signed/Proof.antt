@@ -13,10 +13,11 @@ use Rattle.line_fields.proofs.hex.spell_signed.Tie as tie
 
 returns : tie.Need-returns
 returns c =
-    let w = c .before .before .spell in
-    let s = c .before .before .before .before .before .before in
-    let a = s .args in
-    subst (λ (v : ℕ). Wrote (hexOf (a .n) v) (a .at) (a .out .now) (w .result) (w .last .0)) (c .before .before .before .bits .ensures ∙ ap bitsOf (toZ-ofZ w32 (a .x) (s .fits .x))) (w .ensures)
+    let at-spell = c .before .before in let at-bits = at-spell .before in let at-start = at-bits .before .before .before in
+    let w = at-spell .spell in
+    let a = at-start .args in
+    subst (λ (v : ℕ). Wrote (hexOf (a .n) v) (a .at) (a .out .now) (w .result) (w .last .0))
+    (at-bits .bits .ensures ∙ ap bitsOf (toZ-ofZ w32 (a .x) (at-start .fits .x))) (w .ensures)
 
 pub spell-signed-spec : {M : Type 1} → statement M
 spell-signed-spec =

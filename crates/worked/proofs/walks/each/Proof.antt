@@ -16,21 +16,21 @@ abbrev μ-loop : tie.MeasureT-loop
 
 part-one-end : tie.Need-part-one-end Inv-loop μ-loop
 part-one-end c =
-    let l = c .before .before in
-    let s = l .before .before .args .s .now in
-    omega (arith, lineLength-most (drop (l .loop .at) s), length-drop (l .loop .at) s)
+    let at-loop = c .before .before in
+    let s = at-loop .before .before .args .s .now in
+    omega (arith, lineLength-most (drop (at-loop .loop .at) s), length-drop (at-loop .loop .at) s)
 
 add-at : tie.Need-add-at Inv-loop μ-loop
 add-at c =
-    let l = c .before .before .before .before in
-    let s = l .before .before .args .s .now in
-    omega (arith, lineLength-most (drop (l .loop .at) s), length-drop (l .loop .at) s)
+    let at-loop = c .before .before .before .before in
+    let s = at-loop .before .before .args .s .now in
+    omega (arith, lineLength-most (drop (at-loop .loop .at) s), length-drop (at-loop .loop .at) s)
 
 loop-again : tie.Need-loop-again Inv-loop μ-loop
 loop-again c =
-    let l = c .before .before .before .before in
-    let s = l .before .before .args .s .now in
-    omega (arith, lineLength-most (drop (l .loop .at) s), length-drop (l .loop .at) s)
+    let at-loop = c .before .before .before .before in
+    let s = at-loop .before .before .args .s .now in
+    omega (arith, lineLength-most (drop (at-loop .loop .at) s), length-drop (at-loop .loop .at) s)
 
 pub each-spec : {M : Type 1} → statement M
 each-spec =

@@ -11,16 +11,20 @@ use Rattle.worked.proofs.walks.one.Tie as tie
 
 slice-aggregate-run : tie.Need-slice-aggregate-run
 slice-aggregate-run c =
-    let r = c .before .before .read in
-    let n = length (c .before .before .before .before .before .before .before .before .before .before .before .before .before .args .line .now) - 1 in
-    sym (length-take-le n (r .last .1 .0) (omega (arith, r .kept .1 .0, c .before .before .before .before .before .before .if2 .left)))
+    let at-read = c .before .before in let at-if2 = at-read .before .before .before .before in
+    let at-start = at-if2 .before .before .before .before .before .before .before in
+    let r = at-read .read in
+    let n = length (at-start .args .line .now) - 1 in
+    sym (length-take-le n (r .last .1 .0) (omega (arith, r .kept .1 .0, at-if2 .if2 .left)))
 
 run-requires : tie.Need-run-requires
 run-requires c κs =
-    let r = c .before .before .read in
-    let n = length (c .before .before .before .before .before .before .before .before .before .before .before .before .before .args .line .now) - 1 in
-    let short = c .before .before .before .before .before .before .if2 .left in
-    (omega (arith, length-take-le n (r .last .1 .0) (omega (arith, r .kept .1 .0, short)), short), omega (arith, c .before .before .before .before .before .if3 .left))
+    let at-read = c .before .before in let at-if3 = at-read .before .before .before in
+    let at-start = at-if3 .before .before .before .before .before .before .before .before in
+    let r = at-read .read in
+    let n = length (at-start .args .line .now) - 1 in
+    let short = at-if3 .before .if2 .left in
+    (omega (arith, length-take-le n (r .last .1 .0) (omega (arith, r .kept .1 .0, short)), short), omega (arith, at-if3 .if3 .left))
 
 pub one-spec : {M : Type 1} → statement M
 one-spec =

@@ -16,19 +16,30 @@ slice-aggregate-shown : tie.Need-slice-aggregate-shown
 slice-aggregate-shown c = sym (length-take-le (width * c .before .before .args .records) (replicate (12 * width) 7) (omega (arith, c .before .before .pre)))
 
 slice-aggregate-shown-2 : tie.Need-slice-aggregate-shown-2
-slice-aggregate-shown-2 c = sym (length-take-le (markWords * length (c .before .before .before .args .ops .now)) (replicate (32 * markWords) 7) (omega (arith, c .before .before .before .pre)))
+slice-aggregate-shown-2 c =
+    let at-start = c .before .before .before in
+    sym (length-take-le (markWords * length (at-start .args .ops .now)) (replicate (32 * markWords) 7)
+    (omega (arith, at-start .pre)))
 
 slice-aggregate-shown-3 : tie.Need-slice-aggregate-shown-3
-slice-aggregate-shown-3 c = sym (length-take-le (length (c .before .before .before .before .args .ops .now)) (replicate 32 7) (omega (arith, c .before .before .before .before .pre)))
+slice-aggregate-shown-3 c =
+    let at-start = c .before .before .before .before in
+    sym (length-take-le (length (at-start .args .ops .now)) (replicate 32 7) (omega (arith, at-start .pre)))
 
 slice-aggregate-hulled : tie.Need-slice-aggregate-hulled
-slice-aggregate-hulled c = sym (length-take-le (2 * c .before .before .before .before .before .before .before .before .before .args .records) (replicate 24 (pos 7)) (omega (arith, c .before .before .before .before .before .before .before .before .before .pre)))
+slice-aggregate-hulled c =
+    let at-start = c .before .before .before .before .before .before .before .before .before in
+    sym (length-take-le (2 * at-start .args .records) (replicate 24 (pos 7)) (omega (arith, at-start .pre)))
 
 slice-aggregate-turned : tie.Need-slice-aggregate-turned
-slice-aggregate-turned c = sym (length-take-le (length (c .before .before .before .before .before .before .before .before .before .before .before .before .args .ops .now)) (replicate 32 7) (omega (arith, c .before .before .before .before .before .before .before .before .before .before .before .before .pre)))
+slice-aggregate-turned c =
+    let at-start = c .before .before .before .before .before .before .before .before .before .before .before .before in
+    sym (length-take-le (length (at-start .args .ops .now)) (replicate 32 7) (omega (arith, at-start .pre)))
 
 slice-aggregate-turned-2 : tie.Need-slice-aggregate-turned-2
-slice-aggregate-turned-2 c = sym (length-take-le (length (c .before .before .before .before .before .before .before .before .before .before .before .before .before .args .ops .now)) (replicate 32 7) (omega (arith, c .before .before .before .before .before .before .before .before .before .before .before .before .before .pre)))
+slice-aggregate-turned-2 c =
+    let at-start = c .before .before .before .before .before .before .before .before .before .before .before .before .before in
+    sym (length-take-le (length (at-start .args .ops .now)) (replicate 32 7) (omega (arith, at-start .pre)))
 
 pub run-spec : {M : Type 1} → statement M
 run-spec =
