@@ -84,7 +84,8 @@ retired = lineLaws.lineAnswer-turns
 
 -- ---- the converter
 -- "each 01 frame as the 00 frame with the same steps": converted, it is answered as the steps of its turns are
-pub converted-walked : (s : List ℕ) → Turned s → lineAnswer (convertedLine s) ≡ answerLine (kindWalked Operations (stepsOf (digitsOf s))) (survivors (stepsOf (digitsOf s)))
+pub converted-walked : (s : List ℕ) → Turned s
+    → lineAnswer (convertedLine s) ≡ answerLine (kindWalked Operations (stepsOf (digitsOf s))) (survivors (stepsOf (digitsOf s)))
 converted-walked = convertedLaws.converted-answer
 
 -- the frame itself: of kind 00, with the same count and the steps of the turns

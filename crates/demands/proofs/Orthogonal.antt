@@ -1,5 +1,5 @@
--- What is asked of the orthogonal hull of a room (RULES 21), as theorems about the hull, `OrthogonalHullIs`, its outline, `OutlinesHull`, and the call's promise,
--- `OrthogonalCall`. Each is proved by naming a law.
+-- What is asked of the orthogonal hull of a room (RULES 21), as theorems about the hull, `OrthogonalHullIs`, its outline,
+-- `OutlinesHull`, and the call's promise, `OrthogonalCall`. Each is proved by naming a law.
 -- Assumes nothing.
 use mathlib.Core.Bool.{Bool, true}
 use mathlib.Core.List.{List, _++_}
@@ -43,7 +43,8 @@ pub hull-again : {B : Panel → Type 0} {H : Panel → Bool} → OrthogonalHullI
 hull-again = hullLaws.hull-again
 
 -- "a larger set has a larger hull"
-pub hull-larger : {B C : Panel → Type 0} {H J : Panel → Bool} → OrthogonalHullIs B H → OrthogonalHullIs C J → Contains B C → Contains (Passing H) (Passing J)
+pub hull-larger : {B C : Panel → Type 0} {H J : Panel → Bool} → OrthogonalHullIs B H → OrthogonalHullIs C J → Contains B C
+    → Contains (Passing H) (Passing J)
 hull-larger = hullLaws.hull-larger
 
 -- ---- a room
@@ -63,11 +64,13 @@ module _ (s : Corner) (ds : List ℕ) (r : IsRoom s ds) (b : Below 4 ds) where
     room-hull = hullLaws.room-hull s ds r b g some
 
     -- "a block is in the hull exactly when each of its four closed quadrants holds a block of the room"
-    pub hull-quadrants : (H : Panel → Bool) → OrthogonalHullIs (HoldsInside s ds g) H → (p : Panel) → (H p ≡ true) ↔ Quadrants (HoldsInside s ds g) p
+    pub hull-quadrants : (H : Panel → Bool) → OrthogonalHullIs (HoldsInside s ds g) H → (p : Panel)
+        → (H p ≡ true) ↔ Quadrants (HoldsInside s ds g) p
     hull-quadrants = hullLaws.hull-quadrants s ds r b g some
 
     -- it is contained in every unbroken set that contains the room's blocks, whether a test tells that set or not
-    pub hull-least : (H : Panel → Bool) → OrthogonalHullIs (HoldsInside s ds g) H → (K : Panel → Type 0) → Contains (HoldsInside s ds g) K → Unbroken K → Contains (Passing H) K
+    pub hull-least : (H : Panel → Bool) → OrthogonalHullIs (HoldsInside s ds g) H → (K : Panel → Type 0)
+        → Contains (HoldsInside s ds g) K → Unbroken K → Contains (Passing H) K
     hull-least = hullLaws.hull-least s ds r b g some
 
     -- the hull has an outline
@@ -80,7 +83,8 @@ module _ (s : Corner) (ds : List ℕ) (r : IsRoom s ds) (b : Below 4 ds) where
 
     module _ (start : Corner) (steps : List ℕ) (o : OutlinesHull s ds g start steps) where
       -- "its length is twice the width plus twice the height of the bounding box of the blocks"
-      pub hull-length : (k : Box) → BoundedBy (HoldsInside s ds g) k → length steps ≡ 2 * natAbs (k .east -ℤ k .west) + 2 * natAbs (k .north -ℤ k .south)
+      pub hull-length : (k : Box) → BoundedBy (HoldsInside s ds g) k
+          → length steps ≡ 2 * natAbs (k .east -ℤ k .west) + 2 * natAbs (k .north -ℤ k .south)
       hull-length k m = boxLaws.hull-length g some s ds r b k m start steps o
 
       -- "so it is never longer than the room's own chain"
@@ -106,30 +110,36 @@ module _ {s : Corner} {ds : List ℕ} {g : ℕ} (start : Corner) (steps : List �
   outline-area = callLaws.outline-area start steps o
 
   -- and there is only one
-  pub outlinesHull-one : (start′ : Corner) (steps′ : List ℕ) → OutlinesHull s ds g start′ steps′ → (start ≡ start′) × (steps ≡ steps′)
+  pub outlinesHull-one : (start′ : Corner) (steps′ : List ℕ) → OutlinesHull s ds g start′ steps′
+      → (start ≡ start′) × (steps ≡ steps′)
   outlinesHull-one start′ steps′ = callLaws.outlinesHull-one start steps start′ steps′ o
 
 -- ---- the call
 
 -- every start, chain, grid size and buffer has an answer and a state of the buffer
-pub orthogonal-answers : (s : Corner) (ds : List ℕ) (g : ℕ) (before : List ℕ) → (r : Orthogonal) × (after : List ℕ) × OrthogonalCall s ds g before r after
+pub orthogonal-answers : (s : Corner) (ds : List ℕ) (g : ℕ) (before : List ℕ)
+    → (r : Orthogonal) × (after : List ℕ) × OrthogonalCall s ds g before r after
 orthogonal-answers = givenLaws.orthogonal-answers
 
 module _ (s : Corner) (ds : List ℕ) (g : ℕ) (before : List ℕ) where
   -- and only one
-  pub orthogonalCall-one : {r r′ : Orthogonal} {after after′ : List ℕ} → OrthogonalCall s ds g before r after → OrthogonalCall s ds g before r′ after′ → (r ≡ r′) × (after ≡ after′)
+  pub orthogonalCall-one : {r r′ : Orthogonal} {after after′ : List ℕ} → OrthogonalCall s ds g before r after
+      → OrthogonalCall s ds g before r′ after′ → (r ≡ r′) × (after ≡ after′)
   orthogonalCall-one = callLaws.orthogonalCall-one s ds g before
 
   -- each answer exactly on its occasion: 1, 10, 22, 4, 6, 12, then 18, otherwise the outline
-  pub orthogonal-exactly : {r : Orthogonal} {after : List ℕ} → OrthogonalCall s ds g before r after → (a : Orthogonal) → r ≡ a ↔ GivenOrthogonal s ds g (length before) a
+  pub orthogonal-exactly : {r : Orthogonal} {after : List ℕ} → OrthogonalCall s ds g before r after → (a : Orthogonal)
+      → r ≡ a ↔ GivenOrthogonal s ds g (length before) a
   orthogonal-exactly = givenLaws.orthogonal-when s ds g before
 
   -- the numbers of each
-  pub orthogonal-words : {r : Orthogonal} {after : List ℕ} → OrthogonalCall s ds g before r after → (a : Orthogonal) → GivenOrthogonal s ds g (length before) a → orthogonalWords r ≡ orthogonalWords a
+  pub orthogonal-words : {r : Orthogonal} {after : List ℕ} → OrthogonalCall s ds g before r after → (a : Orthogonal)
+      → GivenOrthogonal s ds g (length before) a → orthogonalWords r ≡ orthogonalWords a
   orthogonal-words w a k = ap orthogonalWords (orthogonal-exactly w a .1 k)
 
   -- "a buffer as long as the chain always suffices": then a room with a grid size is accepted
-  pub orthogonal-enough : {r : Orthogonal} {after : List ℕ} → OrthogonalCall s ds g before r after → GridSized g → GivenRoom s ds Good → length ds ≤ length before → (h : Enclosed) × (r ≡ Orthogonal.Outlined h)
+  pub orthogonal-enough : {r : Orthogonal} {after : List ℕ} → OrthogonalCall s ds g before r after → GridSized g
+      → GivenRoom s ds Good → length ds ≤ length before → (h : Enclosed) × (r ≡ Orthogonal.Outlined h)
   orthogonal-enough = givenLaws.orthogonal-enough s ds g before
 
   module _ {after : List ℕ} where
@@ -138,9 +148,12 @@ module _ (s : Corner) (ds : List ℕ) (g : ℕ) (before : List ℕ) where
     orthogonal-untouched = givenLaws.orthogonal-untouched s ds g before
 
     -- the outline, and "bytes after the chain are unchanged"
-    pub orthogonal-written : (h : Enclosed) → OrthogonalCall s ds g before (Orthogonal.Outlined h) after → (start : Corner) × (steps : List ℕ) × OutlinesHull s ds g start steps × (h ≡ enclosedOf start steps) × (after ≡ steps ++ drop (length steps) before)
+    pub orthogonal-written : (h : Enclosed) → OrthogonalCall s ds g before (Orthogonal.Outlined h) after
+        → (start : Corner) × (steps : List ℕ) × OutlinesHull s ds g start steps × (h ≡ enclosedOf start steps)
+        × (after ≡ steps ++ drop (length steps) before)
     orthogonal-written = givenLaws.orthogonal-written s ds g before
 
     -- 16,384 bytes are enough, and there are at most 67,108,864 blocks
-    pub orthogonal-most : (h : Enclosed) → OrthogonalCall s ds g before (Orthogonal.Outlined h) after → (h .steps ≤ mostSteps) × (4 * h .blocks ≤ mostSteps * mostSteps)
+    pub orthogonal-most : (h : Enclosed) → OrthogonalCall s ds g before (Orthogonal.Outlined h) after
+        → (h .steps ≤ mostSteps) × (4 * h .blocks ≤ mostSteps * mostSteps)
     orthogonal-most = givenLaws.orthogonal-most s ds g before

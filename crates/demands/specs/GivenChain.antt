@@ -32,6 +32,8 @@ AllSteps ds = (i : ℕ) → i < length ds → StepAt ds i
 pub data GivenChain (s : Corner) (ds : List ℕ) : Judged → Type 0 where
   tooMany : mostInput < length ds → GivenChain s ds (Refused TooMany)
   startRange : length ds ≤ mostInput → (Near s → ⊥) → GivenChain s ds (Refused StartRange)
-  badDigit : (i : ℕ) → ChainSized s ds → FirstAt (length ds) (StepAt ds) (AboveThreeAt ds) i → GivenChain s ds (Refused (BadDigit i))
-  tooLong : (i : ℕ) → ChainSized s ds → FirstAt (length ds) (StepAt ds) (StepTooManyAt ds) i → GivenChain s ds (Refused (TooLong i))
+  badDigit : (i : ℕ) → ChainSized s ds → FirstAt (length ds) (StepAt ds) (AboveThreeAt ds) i
+      → GivenChain s ds (Refused (BadDigit i))
+  tooLong : (i : ℕ) → ChainSized s ds → FirstAt (length ds) (StepAt ds) (StepTooManyAt ds) i
+      → GivenChain s ds (Refused (TooLong i))
   walkable : ChainSized s ds → AllSteps ds → GivenChain s ds Good

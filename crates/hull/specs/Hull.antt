@@ -1,7 +1,7 @@
 -- The convex hull of some corners (RULES 5.5).
--- L lists it when it begins at the lowest of the leftmost corners, holds exactly the exposed ones, each once, and any three in its
--- order turn left: so no three are in a line and the order is counterclockwise. There is no case apart: one corner gives one, and
--- corners along one line give their two outermost. Assumes nothing.
+-- L lists it when it begins at the lowest of the leftmost corners, holds exactly the exposed ones, each once, and any three in
+-- its order turn left: so no three are in a line and the order is counterclockwise. There is no case apart: one corner gives one,
+-- and corners along one line give their two outermost. Assumes nothing.
 use Rattle.lists.specs.Lists.{_≡_, List, [], _∷_, _++_, List·Memᴰ, _↔_, ℤ, pos, _+ℤ_, _-ℤ_, _*ℤ_, _≤ℤ_, _<ℤ_, Distinct}
 use Rattle.grid.specs.{declared.Corner.Corner, Grid.Begins}
 

@@ -159,8 +159,8 @@ fn list_widest(chain: &[u8], start: Corner, west: usize, east: usize, out: &mut 
     )
 }
 
-// The hull of the walk from start, with a store that is not much larger than it needs: to clear it takes time. A walk that goes through a
-// new column at each step is along one line, and needs none.
+// The hull of the walk from start, with a store that is not much larger than it needs: to clear it takes time. A walk that goes
+// through a new column at each step is along one line, and needs none.
 fn list_from(chain: &[u8], start: Corner, out: &mut [i32]) -> Counted
     requires { ⌜ (chainJudged 0 (now chain) ≡ Good) × Near start ⌝ }
     ensures { λ r. ⌜ Hulled start (now (chain .entry)) (now (out .entry)) r (now (out .exit)) ⌝ }

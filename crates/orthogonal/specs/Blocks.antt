@@ -34,7 +34,8 @@ pub record Unbroken (K : Panel → Type 0) : Type 0 where
 abbrev pub Passing : (Panel → Bool) → Panel → Type 0
 Passing K b = K b ≡ true
 
--- H is the orthogonal hull of B: the smallest set of blocks that contains B and is unbroken. It is compared with the sets that a test tells
+-- H is the orthogonal hull of B: the smallest set of blocks that contains B and is unbroken. It is compared with the sets that a
+-- test tells
 pub record OrthogonalHullIs (B : Panel → Type 0) (H : Panel → Bool) : Type 0 where
   pub contains : Contains B (Passing H)
   pub unbroken : Unbroken (Passing H)

@@ -1,5 +1,5 @@
--- What the call that outlines the orthogonal hull of a room answers, and what it leaves in the buffer (RULES 21.4 to 21.6). Assumes
--- nothing.
+-- What the call that outlines the orthogonal hull of a room answers, and what it leaves in the buffer (RULES 21.4 to 21.6).
+-- Assumes nothing.
 use Rattle.lists.specs.Lists.{_≡_, Bool, true, not, _&&_, List, [], _∷_, _++_, length, drop, ℕ, leb, ltb, Below}
 use Rattle.grid.specs.declared.Corner.{Corner}
 use Rattle.answer.specs.declared.{Judged.Judged, Judged.the-variants.Good, Judged.the-variants.Refused, Refusal.the-variants.TooMany, Refusal.the-variants.StartRange, Refusal.the-variants.GridSize, Refusal.the-variants.NotRoom, Refusal.the-variants.ChainRoom}
@@ -19,8 +19,8 @@ mostGrid = 16384
 abbrev pub gridFits : ℕ → Bool
 gridFits g = leb 1 g && leb g mostGrid
 
--- the chain of these steps outlines the orthogonal hull of the room's blocks: its digits are steps, it is a room in block coordinates,
--- counterclockwise from the lowest of its leftmost corners, and the blocks inside it are the hull
+-- the chain of these steps outlines the orthogonal hull of the room's blocks: its digits are steps, it is a room in block
+-- coordinates, counterclockwise from the lowest of its leftmost corners, and the blocks inside it are the hull
 pub record OutlinesHull (s : Corner) (ds : List ℕ) (g : ℕ) (start : Corner) (steps : List ℕ) : Type 0 where
   pub digits : Below 4 steps
   pub room : isRoom start steps ≡ true
@@ -51,14 +51,15 @@ abbrev pub orthogonalOf : Judged → Corner → List ℕ → Orthogonal
 orthogonalOf Good start steps = Orthogonal.Outlined (enclosedOf start steps)
 orthogonalOf (Refused r) start steps = Orthogonal.Refused r
 
--- the promise of the call: `steps` from `start` outlines the hull. It is counted, and the buffer holds it and then what stood after it,
--- unless there is a refusal. What is not a room, or has no grid size, is refused, whatever the outline
+-- the promise of the call: `steps` from `start` outlines the hull. It is counted, and the buffer holds it and then what stood
+-- after it, unless there is a refusal. What is not a room, or has no grid size, is refused, whatever the outline
 pub record OrthogonalCall (s : Corner) (ds : List ℕ) (g : ℕ) (before : List ℕ) (r : Orthogonal) (after : List ℕ) : Type 0 where
   pub start : Corner
   pub steps : List ℕ
   pub outline : onGridJudged s ds g ≡ Good → OutlinesHull s ds g start steps
   pub answer : r ≡ orthogonalOf (orthogonalJudged s ds g (length before) (length steps)) start steps
-  pub buffer : after ≡ writtenIf (orthogonalJudged s ds g (length before) (length steps)) (steps ++ drop (length steps) before) before
+  pub buffer : after
+      ≡ writtenIf (orthogonalJudged s ds g (length before) (length steps)) (steps ++ drop (length steps) before) before
 
 -- number, place, steps, x and y of the start in two's complement, blocks; a refused answer holds number and place, all else 0
 abbrev pub orthogonalWords : Orthogonal → List ℕ

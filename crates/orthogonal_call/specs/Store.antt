@@ -62,8 +62,8 @@ pub record Shaped (s : Corner) (ds : List ℕ) (g span x y : ℕ) (lo hi : List 
 abbrev pub Edgeless : List ℕ → Type 0
 Edgeless l = l ≡ replicate (length l) blank
 
--- the vertical edges of an accepted room in the lanes of their rows. The walk starts in column and height m, which lie x and y after the
--- beginning of block -32,768
+-- the vertical edges of an accepted room in the lanes of their rows. The walk starts in column and height m, which lie x and y
+-- after the beginning of block -32,768
 pub record Laned (s : Corner) (ds : List ℕ) (g m span x y : ℕ) (lo hi : List ℕ) : Type 0 where
   pub good : onGridJudged s ds g ≡ Good
   pub ruled : Ruled m g (x % g) (y % g) (span * g) span
@@ -73,7 +73,8 @@ pub record Laned (s : Corner) (ds : List ℕ) (g m span x y : ℕ) (lo hi : List
   pub low : lo ≡ sinks (replicate span blank) (lanesFrom g (y % g) (fromWest (x % g)) m m ds)
   pub high : hi ≡ sinks (replicate span blank) (lanesFrom g (y % g) (fromEast (span * g) (x % g)) m m ds)
 
--- an accepted room, a walk in the store that starts in column and height m, and `span` rows that have no edge yet, as many as it needs
+-- an accepted room, a walk in the store that starts in column and height m, and `span` rows that have no edge yet, as many as it
+-- needs
 pub record LanesReady (s : Corner) (ds : List ℕ) (g m span : ℕ) (lo hi t : List ℕ) : Type 0 where
   pub good : onGridJudged s ds g ≡ Good
   pub wide : length ds < 2 * m

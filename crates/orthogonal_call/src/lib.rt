@@ -1,5 +1,5 @@
-// The orthogonal hull of a room on a grid: the call. The vertical edges of the room, by rows of blocks, give the ends of each row, two passes
-// of minima the ends of the hull's rows, and the outline goes along them.
+// The orthogonal hull of a room on a grid: the call. The vertical edges of the room, by rows of blocks, give the ends of each
+// row, two passes of minima the ends of the hull's rows, and the outline goes along them.
 use answer::Judged;
 use answer::Limits;
 use answer::Refusal;
@@ -51,8 +51,10 @@ fn lowered(n: usize) -> i32
 
 // How many steps the outline has: twice as many as the rows are wide and high.
 fn around(lo: &[u16], hi: &[u16], span: usize, home: usize) -> usize
-    requires { ⌜ (0 < length (now hi)) × (length (now hi) ≡ length (now lo)) × (home < length (now lo)) × (length (now lo) < 65536) × (span < 65536) × (getD (now hi) (homeIn (now hi)) 0 + getD (now lo) home 0 ≤ span) ⌝ }
-    ensures { λ r. ⌜ r ≡ 2 * (span - getD (now (hi .entry)) (homeIn (now (hi .entry))) 0 - getD (now (lo .entry)) home 0 + length (now (lo .entry))) ⌝ }
+    requires { ⌜ (0 < length (now hi)) × (length (now hi) ≡ length (now lo)) × (home < length (now lo))
+        × (length (now lo) < 65536) × (span < 65536) × (getD (now hi) (homeIn (now hi)) 0 + getD (now lo) home 0 ≤ span) ⌝ }
+    ensures { λ r. ⌜ r ≡ 2 * (span - getD (now (hi .entry)) (homeIn (now (hi .entry))) 0 - getD (now (lo .entry)) home
+        0 + length (now (lo .entry))) ⌝ }
 {
     let east = wide(hi[home_row(hi)]);
     2 * (span - east - wide(lo[home]) + lo.len())
@@ -67,8 +69,10 @@ fn outline_rows(
     y: usize,
     out: &mut [u8],
 ) -> Orthogonal
-    requires { ⌜ Small span x y (now lo) (now hi) × ((s : Corner) × (ds : List ℕ) × (g : ℕ) × Outlinable s ds g span x y (now lo) (now hi)) ⌝ }
-    ensures { λ r. ⌜ ((s : Corner) (ds : List ℕ) (g : ℕ) → Outlinable s ds g span x y (now (lo .entry)) (now (hi .entry)) → OrthogonalCall s ds g (now (out .entry)) r (now (out .exit))) ⌝ }
+    requires { ⌜ Small span x y (now lo) (now hi)
+        × ((s : Corner) × (ds : List ℕ) × (g : ℕ) × Outlinable s ds g span x y (now lo) (now hi)) ⌝ }
+    ensures { λ r. ⌜ ((s : Corner) (ds : List ℕ) (g : ℕ) → Outlinable s ds g span x y (now (lo .entry)) (now (hi .entry))
+        → OrthogonalCall s ds g (now (out .entry)) r (now (out .exit))) ⌝ }
 {
     let home = home_row(lo);
     let steps = around(lo, hi, span, home);
@@ -96,8 +100,10 @@ fn shape(
     y: usize,
     out: &mut [u8],
 ) -> Orthogonal
-    requires { ⌜ Small span x y (now lo) (now hi) × (length (now lo) ≤ length (now t)) × (0 < g) × ((s : Corner) × (ds : List ℕ) × Shaped s ds g span x y (now lo) (now hi)) ⌝ }
-    ensures { λ r. ⌜ ((s : Corner) (ds : List ℕ) → Shaped s ds g span x y (now (lo .entry)) (now (hi .entry)) → OrthogonalCall s ds g (now (out .entry)) r (now (out .exit))) ⌝ }
+    requires { ⌜ Small span x y (now lo) (now hi) × (length (now lo) ≤ length (now t)) × (0 < g)
+        × ((s : Corner) × (ds : List ℕ) × Shaped s ds g span x y (now lo) (now hi)) ⌝ }
+    ensures { λ r. ⌜ ((s : Corner) (ds : List ℕ) → Shaped s ds g span x y (now (lo .entry)) (now (hi .entry))
+        → OrthogonalCall s ds g (now (out .entry)) r (now (out .exit))) ⌝ }
 {
     fill(lo, t, g);
     fill(hi, t, g);
@@ -115,8 +121,11 @@ fn cut(
     y: usize,
     out: &mut [u8],
 ) -> Orthogonal
-    requires { ⌜ (0 < g) × (length (now lo) ≡ span) × (length (now hi) ≡ span) × (length (now t) ≡ span) × (span < blank) × (x < 65536 * g) × (y < 65536 * g) × ((s : Corner) × (ds : List ℕ) × (m : ℕ) × Laned s ds g m span x y (now lo) (now hi)) ⌝ }
-    ensures { λ r. ⌜ ((s : Corner) (ds : List ℕ) (m : ℕ) → Laned s ds g m span x y (now (lo .entry)) (now (hi .entry)) → OrthogonalCall s ds g (now (out .entry)) r (now (out .exit))) ⌝ }
+    requires { ⌜ (0 < g) × (length (now lo) ≡ span) × (length (now hi) ≡ span) × (length (now t) ≡ span) × (span < blank)
+        × (x < 65536 * g) × (y < 65536 * g)
+        × ((s : Corner) × (ds : List ℕ) × (m : ℕ) × Laned s ds g m span x y (now lo) (now hi)) ⌝ }
+    ensures { λ r. ⌜ ((s : Corner) (ds : List ℕ) (m : ℕ) → Laned s ds g m span x y (now (lo .entry)) (now (hi .entry))
+        → OrthogonalCall s ds g (now (out .entry)) r (now (out .exit))) ⌝ }
 {
     let south = first_row(lo);
     let north = end_row(lo);
@@ -163,7 +172,8 @@ fn outline_in(
     t: &mut [u16],
     out: &mut [u8],
 ) -> Orthogonal
-    requires { ⌜ (onGridJudged start (now chain) g ≡ Good) × (length (now chain) + 2 ≤ length (now lo)) × Edgeless (now lo) × Edgeless (now hi) × (length (now hi) ≡ length (now lo)) × (length (now t) ≡ length (now lo)) ⌝ }
+    requires { ⌜ (onGridJudged start (now chain) g ≡ Good) × (length (now chain) + 2 ≤ length (now lo)) × Edgeless (now lo)
+        × Edgeless (now hi) × (length (now hi) ≡ length (now lo)) × (length (now t) ≡ length (now lo)) ⌝ }
     ensures { λ r. ⌜ OrthogonalCall start (now (chain .entry)) g (now (out .entry)) r (now (out .exit)) ⌝ }
 {
     let m = room_threads::start(chain.len());
@@ -254,8 +264,8 @@ fn judge(start: Corner, chain: &[u8], grid: u32) -> Judged
     room_judge::judge(start, chain)
 }
 
-// Writes the outline of the orthogonal hull of a room's blocks, counterclockwise from the lowest of its leftmost corners, and answers how
-// many steps it has, where it starts and how many blocks are inside. A refused call writes nothing.
+// Writes the outline of the orthogonal hull of a room's blocks, counterclockwise from the lowest of its leftmost corners, and
+// answers how many steps it has, where it starts and how many blocks are inside. A refused call writes nothing.
 pub fn outline(start: Corner, chain: &[u8], grid: u32, out: &mut [u8]) -> Orthogonal
     ensures { λ r. ⌜ OrthogonalCall start (now (chain .entry)) grid (now (out .entry)) r (now (out .exit)) ⌝ }
 {

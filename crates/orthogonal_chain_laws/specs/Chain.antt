@@ -1,4 +1,5 @@
--- A pile of rows of blocks, and the chain around it. The rows are 0 to t from the south. Row q has the blocks with the columns l q to r q - 1.
+-- A pile of rows of blocks, and the chain around it. The rows are 0 to t from the south. Row q has the blocks with the columns l
+-- q to r q - 1.
 -- Code that has the ends in two lists passes `λ q. getD ls q 0` and `λ q. getD rs q 0`. Assumes nothing.
 use Rattle.lists.specs.Lists.{_≡_, cond, List, [], _∷_, _++_, replicate, ℕ, zero, suc, _+_, _-_, _<_, _≤_, ltb, pos, _+ℤ_, _≤ℤ_, _<ℤ_}
 use Rattle.grid.specs.{declared.Corner.Corner, declared.Panel.Panel, Grid.corner}
@@ -40,10 +41,11 @@ abbrev pub rightSide : (ℕ → ℕ) → ℕ → ℕ → List ℕ
 rightSide r q zero = 1 ∷ []
 rightSide r q (suc n) = 1 ∷ (sideways (r q) (r (suc q)) ++ rightSide r (suc q) n)
 
--- the chain around the rows 0 to t, counterclockwise from the south-west corner of row k: down the left side to row 0, east along its foot, up the
--- right side, west along the top, and down the left side to row k, at last south along that row
+-- the chain around the rows 0 to t, counterclockwise from the south-west corner of row k: down the left side to row 0, east along
+-- its foot, up the right side, west along the top, and down the left side to row k, at last south along that row
 abbrev pub chainFromRow : (ℕ → ℕ) → (ℕ → ℕ) → ℕ → ℕ → List ℕ
-chainFromRow l r t k = leftSide l 0 k ++ (sideways (l 0) (r 0) ++ (rightSide r 0 t ++ (sideways (r t) (l t) ++ (3 ∷ leftSide l k (t - k)))))
+chainFromRow l r t k =
+    leftSide l 0 k ++ (sideways (l 0) (r 0) ++ (rightSide r 0 t ++ (sideways (r t) (l t) ++ (3 ∷ leftSide l k (t - k)))))
 
 -- the lowest of the rows 0 to t whose left end is least
 abbrev pub homeRow : (ℕ → ℕ) → ℕ → ℕ

@@ -1,5 +1,5 @@
-// The outline of a pile of rows of blocks, measured and written. A list has the left end of each row, and another the right end counted from
-// east, from a column `span`.
+// The outline of a pile of rows of blocks, measured and written. A list has the left end of each row, and another the right end
+// counted from east, from a column `span`.
 use order::wide;
 ghost use mathlib.Core.Path.{_≡_};
 ghost use mathlib.Core.List.{[], _∷_, _++_};
@@ -27,7 +27,8 @@ pub fn home_row(a: &[u16]) -> usize
 
 // How many blocks the rows have.
 pub fn count(lo: &[u16], hi: &[u16], span: usize) -> usize
-    requires { ⌜ (length (now lo) ≤ length (now hi)) × (length (now lo) < 65536) × (span < 65536) × ((q : ℕ) → q < length (now lo) → getD (now lo) q 0 + getD (now hi) q 0 ≤ span) ⌝ }
+    requires { ⌜ (length (now lo) ≤ length (now hi)) × (length (now lo) < 65536) × (span < 65536)
+        × ((q : ℕ) → q < length (now lo) → getD (now lo) q 0 + getD (now hi) q 0 ≤ span) ⌝ }
     ensures { λ r. ⌜ r ≡ blocksFrom (leftIn (now (lo .entry))) (rightIn span (now (hi .entry))) 0 (length (now (lo .entry))) ⌝ }
 {
     let mut n: usize = 0;
@@ -68,7 +69,8 @@ fn along(out: &mut [u8], at: usize, x: usize, to: usize) -> usize
 // Writes them and then a step d along a row.
 fn leg(out: &mut [u8], at: usize, x: usize, to: usize, d: u8) -> usize
     requires { ⌜ at + length (sideways x to) < length (now out) ⌝ }
-    ensures { λ r. ⌜ (now (out .exit) ≡ sets (now (out .entry)) at (sideways x to ++ (d ∷ []))) × (r ≡ at + length (sideways x to) + 1) ⌝ }
+    ensures { λ r. ⌜ (now (out .exit) ≡ sets (now (out .entry)) at (sideways x to ++ (d ∷ [])))
+        × (r ≡ at + length (sideways x to) + 1) ⌝ }
 {
     let end = along(out, at, x, to);
     out[end] = d;
@@ -77,8 +79,10 @@ fn leg(out: &mut [u8], at: usize, x: usize, to: usize, d: u8) -> usize
 
 // Writes the left side from column x down the rows before `end`, the last of them row `first`.
 fn fall(out: &mut [u8], from: usize, x: usize, lo: &[u16], first: usize, end: usize) -> usize
-    requires { ⌜ (first ≤ end) × (end ≤ length (now lo)) × (from + length (descent (leftIn (now lo)) x first (end - first)) ≤ length (now out)) ⌝ }
-    ensures { λ r. ⌜ (now (out .exit) ≡ sets (now (out .entry)) from (descent (leftIn (now (lo .entry))) x first (end - first))) × (r ≡ from + length (descent (leftIn (now (lo .entry))) x first (end - first))) ⌝ }
+    requires { ⌜ (first ≤ end) × (end ≤ length (now lo))
+        × (from + length (descent (leftIn (now lo)) x first (end - first)) ≤ length (now out)) ⌝ }
+    ensures { λ r. ⌜ (now (out .exit) ≡ sets (now (out .entry)) from (descent (leftIn (now (lo .entry))) x first (end - first)))
+        × (r ≡ from + length (descent (leftIn (now (lo .entry))) x first (end - first))) ⌝ }
 {
     let mut at = from;
     let mut col = x;
@@ -94,8 +98,11 @@ fn fall(out: &mut [u8], from: usize, x: usize, lo: &[u16], first: usize, end: us
 
 // Writes the right side from column x up all rows.
 fn rise(out: &mut [u8], from: usize, x: usize, hi: &[u16], span: usize) -> usize
-    requires { ⌜ ((q : ℕ) → q < length (now hi) → getD (now hi) q 0 ≤ span) × (from + length (ascent (rightIn span (now hi)) x 0 (length (now hi))) ≤ length (now out)) ⌝ }
-    ensures { λ r. ⌜ (now (out .exit) ≡ sets (now (out .entry)) from (ascent (rightIn span (now (hi .entry))) x 0 (length (now (hi .entry))))) × (r ≡ from + length (ascent (rightIn span (now (hi .entry))) x 0 (length (now (hi .entry))))) ⌝ }
+    requires { ⌜ ((q : ℕ) → q < length (now hi) → getD (now hi) q 0 ≤ span)
+        × (from + length (ascent (rightIn span (now hi)) x 0 (length (now hi))) ≤ length (now out)) ⌝ }
+    ensures { λ r. ⌜ (now (out .exit) ≡ sets (now (out .entry)) from
+        (ascent (rightIn span (now (hi .entry))) x 0 (length (now (hi .entry)))))
+        × (r ≡ from + length (ascent (rightIn span (now (hi .entry))) x 0 (length (now (hi .entry))))) ⌝ }
 {
     let mut at = from;
     let mut col = x;
@@ -111,8 +118,12 @@ fn rise(out: &mut [u8], from: usize, x: usize, hi: &[u16], span: usize) -> usize
 
 // Writes the outline of the rows, counterclockwise from the lowest of its leftmost corners, which is in the row `home`.
 pub fn draw(lo: &[u16], hi: &[u16], span: usize, home: usize, out: &mut [u8])
-    requires { ⌜ (0 < length (now lo)) × (length (now hi) ≡ length (now lo)) × (home ≡ homeRow (leftIn (now lo)) (length (now lo) - 1)) × (home < length (now lo)) × ((q : ℕ) → q < length (now hi) → getD (now hi) q 0 ≤ span) × (length (chainFromHome (leftIn (now lo)) (rightIn span (now hi)) (length (now lo) - 1)) ≤ length (now out)) ⌝ }
-    ensures { λ _. ⌜ now (out .exit) ≡ sets (now (out .entry)) 0 (chainFromHome (leftIn (now (lo .entry))) (rightIn span (now (hi .entry))) (length (now (lo .entry)) - 1)) ⌝ }
+    requires { ⌜ (0 < length (now lo)) × (length (now hi) ≡ length (now lo))
+        × (home ≡ homeRow (leftIn (now lo)) (length (now lo) - 1)) × (home < length (now lo))
+        × ((q : ℕ) → q < length (now hi) → getD (now hi) q 0 ≤ span)
+        × (length (chainFromHome (leftIn (now lo)) (rightIn span (now hi)) (length (now lo) - 1)) ≤ length (now out)) ⌝ }
+    ensures { λ _. ⌜ now (out .exit) ≡ sets (now (out .entry)) 0
+        (chainFromHome (leftIn (now (lo .entry))) (rightIn span (now (hi .entry))) (length (now (lo .entry)) - 1)) ⌝ }
 {
     let south = fall(out, 0, wide(lo[home]), lo, 0, home);
     let north = rise(out, south, wide(lo[0]), hi, span);

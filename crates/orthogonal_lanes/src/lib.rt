@@ -1,5 +1,5 @@
-// The least column of each row of blocks, and of each row of the hull. A list of lanes has a column for each row. Columns are counted from
-// west in one list and from east in another, so that the least of them is the end of the row on that side.
+// The least column of each row of blocks, and of each row of the hull. A list of lanes has a column for each row. Columns are
+// counted from west in one list and from east in another, so that the least of them is the end of the row on that side.
 use columns::Columns;
 use columns::across;
 use columns::upward;
@@ -35,8 +35,10 @@ fn foot(y: u16, d: u8) -> usize
 
 // The edge of a step d from column x and height y, if it is vertical, in the lanes of its row.
 fn mark(d: u8, x: usize, y: u16, g: usize, up: usize, far: usize, lo: &mut [u16], hi: &mut [u16])
-    requires { ⌜ (d < 4) × (0 < y) × (0 < g) × (x ≤ far) × (far < 65536) × (up < 65536) × (y + up < length (now lo) * g) × (length (now hi) ≡ length (now lo)) ⌝ }
-    ensures { λ _. ⌜ (now (lo .exit) ≡ sinks (now (lo .entry)) (laneAt g up (λ z. z) x y d)) × (now (hi .exit) ≡ sinks (now (hi .entry)) (laneAt g up (λ z. far - z) x y d)) ⌝ }
+    requires { ⌜ (d < 4) × (0 < y) × (0 < g) × (x ≤ far) × (far < 65536) × (up < 65536) × (y + up < length (now lo) * g)
+        × (length (now hi) ≡ length (now lo)) ⌝ }
+    ensures { λ _. ⌜ (now (lo .exit) ≡ sinks (now (lo .entry)) (laneAt g up (λ z. z) x y d))
+        × (now (hi .exit) ≡ sinks (now (hi .entry)) (laneAt g up (λ z. far - z) x y d)) ⌝ }
 {
     if d % 2 == 0 {
         return;
@@ -57,8 +59,10 @@ pub fn gather(
     lo: &mut [u16],
     hi: &mut [u16],
 )
-    requires { ⌜ Stays (now chain) m (2 * m) × Below 4 (now chain) × Ruled m g right up far (length (now lo)) × (length (now hi) ≡ length (now lo)) ⌝ }
-    ensures { λ _. ⌜ (now (lo .exit) ≡ sinks (now (lo .entry)) (lanesFrom g up (fromWest right) m m (now (chain .entry)))) × (now (hi .exit) ≡ sinks (now (hi .entry)) (lanesFrom g up (fromEast far right) m m (now (chain .entry)))) ⌝ }
+    requires { ⌜ Stays (now chain) m (2 * m) × Below 4 (now chain) × Ruled m g right up far (length (now lo))
+        × (length (now hi) ≡ length (now lo)) ⌝ }
+    ensures { λ _. ⌜ (now (lo .exit) ≡ sinks (now (lo .entry)) (lanesFrom g up (fromWest right) m m (now (chain .entry))))
+        × (now (hi .exit) ≡ sinks (now (hi .entry)) (lanesFrom g up (fromEast far right) m m (now (chain .entry)))) ⌝ }
 {
     let by = Columns::EAST;
     let north = Columns::NORTH;
@@ -105,7 +109,9 @@ pub fn end_row(a: &[u16]) -> usize
 // The columns as columns of blocks in a, and the least of each row and all rows after it in t.
 fn look_back(a: &mut [u16], t: &mut [u16], g: usize)
     requires { ⌜ (0 < length (now a)) × (length (now a) ≤ length (now t)) × (0 < g) ⌝ }
-    ensures { λ _. ⌜ ((q : ℕ) → q < length (now (a .entry)) → getD (now (a .exit)) q 0 ≡ getD (now (a .entry)) q 0 / g) × ((q : ℕ) → q < length (now (a .entry)) → getD (now (t .exit)) q 0 ≡ leastOver (λ k. getD (now (a .entry)) k 0 / g) q (length (now (a .entry)) - 1 - q)) ⌝ }
+    ensures { λ _. ⌜ ((q : ℕ) → q < length (now (a .entry)) → getD (now (a .exit)) q 0 ≡ getD (now (a .entry)) q 0 / g)
+        × ((q : ℕ) → q < length (now (a .entry))
+        → getD (now (t .exit)) q 0 ≡ leastOver (λ k. getD (now (a .entry)) k 0 / g) q (length (now (a .entry)) - 1 - q)) ⌝ }
 {
     let top = a.len() - 1;
     let mut least = wide(a[top]) / g;
@@ -121,8 +127,10 @@ fn look_back(a: &mut [u16], t: &mut [u16], g: usize)
 
 // The greater of the least column of the rows up to each row and the least column of the rows from it on, which is in t.
 fn settle(a: &mut [u16], t: &[u16])
-    requires { ⌜ (0 < length (now a)) × (length (now a) ≤ length (now t)) × ((q : ℕ) → q < length (now a) → getD (now t) q 0 ≡ leastOver (λ k. getD (now a) k 0) q (length (now a) - 1 - q)) ⌝ }
-    ensures { λ _. ⌜ ((q : ℕ) → q < length (now (a .entry)) → getD (now (a .exit)) q 0 ≡ hullLeft (λ k. getD (now (a .entry)) k 0) (length (now (a .entry)) - 1) q) ⌝ }
+    requires { ⌜ (0 < length (now a)) × (length (now a) ≤ length (now t))
+        × ((q : ℕ) → q < length (now a) → getD (now t) q 0 ≡ leastOver (λ k. getD (now a) k 0) q (length (now a) - 1 - q)) ⌝ }
+    ensures { λ _. ⌜ ((q : ℕ) → q < length (now (a .entry))
+        → getD (now (a .exit)) q 0 ≡ hullLeft (λ k. getD (now (a .entry)) k 0) (length (now (a .entry)) - 1) q) ⌝ }
 {
     let mut least = wide(a[0]);
     let mut q = 0;
@@ -136,7 +144,8 @@ fn settle(a: &mut [u16], t: &[u16])
 // From the least column of each row to the end of that row of the hull, as a column of blocks. The store t is lent.
 pub fn fill(a: &mut [u16], t: &mut [u16], g: usize)
     requires { ⌜ (0 < length (now a)) × (length (now a) ≤ length (now t)) × (0 < g) ⌝ }
-    ensures { λ _. ⌜ ((q : ℕ) → q < length (now (a .entry)) → getD (now (a .exit)) q 0 ≡ hullLeft (λ k. getD (now (a .entry)) k 0 / g) (length (now (a .entry)) - 1) q) ⌝ }
+    ensures { λ _. ⌜ ((q : ℕ) → q < length (now (a .entry))
+        → getD (now (a .exit)) q 0 ≡ hullLeft (λ k. getD (now (a .entry)) k 0 / g) (length (now (a .entry)) - 1) q) ⌝ }
 {
     look_back(a, t, g);
     settle(a, t);

@@ -1,4 +1,5 @@
--- The vertical edges of a walk by rows of blocks. Columns and heights are counted so that they are whole numbers. Assumes nothing.
+-- The vertical edges of a walk by rows of blocks. Columns and heights are counted so that they are whole numbers. Assumes
+-- nothing.
 use mathlib.Core.Path.{_≡_}
 use mathlib.Core.List.{List, [], _∷_, _++_, map}
 use Prim.Native.Nat.{ℕ, zero, suc, _+_, _*_, _-_, _/_, _<_, _≤_}
@@ -19,7 +20,8 @@ unfoldable pub lowEndsFrom : ℕ → ℕ → List ℕ → List (ℕ × ℕ)
 lowEndsFrom x y [] = []
 lowEndsFrom x y (d ∷ ds) = lowEndOf x y d ++ lowEndsFrom (colAfter x d) (rowAfter y d) ds
 
--- the row of blocks that an edge stands in, and its column, counted by f. Rows of blocks are g high, and row 0 begins `up` below height 0
+-- the row of blocks that an edge stands in, and its column, counted by f. Rows of blocks are g high, and row 0 begins `up` below
+-- height 0
 abbrev pub laneOf : ℕ → ℕ → (ℕ → ℕ) → ℕ × ℕ → ℕ × ℕ
 laneOf g up f v = ((v .1 + up) / g, f (v .0))
 
@@ -37,8 +39,8 @@ fromWest right x = x + right
 abbrev pub fromEast : ℕ → ℕ → ℕ → ℕ
 fromEast far right x = far - (x + right)
 
--- lanes for rows of blocks: as many as a walk goes through that stays below 2 * m, columns that are counted from east there, and blocks of
--- at least a panel
+-- lanes for rows of blocks: as many as a walk goes through that stays below 2 * m, columns that are counted from east there, and
+-- blocks of at least a panel
 pub record Ruled (m g right up far rows : ℕ) : Type 0 where
   pub some : 0 < g
   pub across : 2 * m + right ≤ far + 1

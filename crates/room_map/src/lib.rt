@@ -1,5 +1,5 @@
-// Whether a walk is a room, by a byte for each corner of its box: a byte that is 1 already is a meeting. If the box is too large for
-// the store, threads through the columns tell it.
+// Whether a walk is a room, by a byte for each corner of its box: a byte that is 1 already is a meeting. If the box is too large
+// for the store, threads through the columns tell it.
 use box_walk::WalkBox;
 use box_walk::enclose;
 use columns::Columns;
@@ -100,8 +100,8 @@ fn lone_widest(chain: &[u8], from: usize, w: usize) -> bool
     lone(chain, from, &by, &mut map)
 }
 
-// Whether a walk with this box is a room, whatever corner it starts from. The store is no larger than the threads of a chain of this length
-// take.
+// Whether a walk with this box is a room, whatever corner it starts from. The store is no larger than the threads of a chain of
+// this length take.
 pub fn is_room_in(chain: &[u8], b: WalkBox) -> bool
     requires { ⌜ Boxable (now chain) × Boxed (now chain) (b .width) (b .height) (b .from) (b .closed) ⌝ }
     ensures { λ r. ⌜ Told (now (chain .entry)) r ⌝ }

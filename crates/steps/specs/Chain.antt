@@ -15,4 +15,5 @@ chainJudged i (d ∷ ds) = orElse (faultAt i d) (chainJudged (suc i) ds)
 
 -- what is wrong with a start and a chain as a walk: 1, then 10, then 4 or 6 at the first faulty place
 abbrev pub asWalkJudged : Corner → List ℕ → Judged
-asWalkJudged s ds = firstOf (when (ltb mostInput (length ds)) TooMany ∷ when (not (startFits s)) StartRange ∷ chainJudged 0 ds ∷ [])
+asWalkJudged s ds =
+    firstOf (when (ltb mostInput (length ds)) TooMany ∷ when (not (startFits s)) StartRange ∷ chainJudged 0 ds ∷ [])

@@ -12,16 +12,19 @@ returns c = let a = c .before .before .args in sym (walk-many (a .start) (a .cha
 
 returns-2 : tie.Need-returns-2
 returns-2 c =
-    let a = c .before .before .before .before .args in
+    let at-if1 = c .before .before in
+    let a = at-if1 .before .before .args in
     let f = c .before .start-fits in
-    sym (walk-start (a .start) (a .chain .now) (c .before .before .if1 .left) (sym (f .ensures) ∙ not-true (f .result) (c .if2 .taken)))
+    sym (walk-start (a .start) (a .chain .now) (at-if1 .if1 .left) (sym (f .ensures) ∙ not-true (f .result) (c .if2 .taken)))
 
 returns-3 : tie.Need-returns-3
 returns-3 c =
-    let a = c .before .before .before .before .before .args in
-    let f = c .before .before .start-fits in
+    let at-start-fits = c .before .before in let at-if1 = at-start-fits .before in
+    let a = at-if1 .before .before .args in
+    let f = at-start-fits .start-fits in
     c .judge-steps .ensures
-    ∙ sym (walk-chain (a .start) (a .chain .now) (c .before .before .before .if1 .left) (sym (f .ensures) ∙ not-false (f .result) (c .before .if2 .left)))
+    ∙ sym (walk-chain (a .start) (a .chain .now) (at-if1 .if1 .left)
+    (sym (f .ensures) ∙ not-false (f .result) (c .before .if2 .left)))
 
 pub judge-spec : {M : Type 1} → statement M
 judge-spec = tie.close (tie.spec returns (λ c κs. search needs) returns-2 (λ c κs. search needs) returns-3)

@@ -8,14 +8,17 @@ use Rattle.convex_room.proofs.tell_in.Tie as tie
 
 returns : tie.Need-returns
 returns c =
-    let v = c .before .is-room-in in
-    call-open (c .before .before .before .args .chain .now) (v .result) (v .ensures) (not-true (v .result) (c .if1 .taken))
+    let at-is-room-in = c .before in
+    let v = at-is-room-in .is-room-in in
+    call-open (at-is-room-in .before .before .args .chain .now) (v .result) (v .ensures) (not-true (v .result) (c .if1 .taken))
 
 returns-2 : tie.Need-returns-2
 returns-2 c =
-    let v = c .before .before .before .is-room-in in
+    let at-if1 = c .before .before in let at-is-room-in = at-if1 .before in
+    let v = at-is-room-in .is-room-in in
     let d = c .before .decide in
-    call-room (c .before .before .before .before .before .args .chain .now) (v .result) (v .ensures) (not-false (v .result) (c .before .before .if1 .left)) (d .result) (d .ensures) (c .counted .result) (c .counted .ensures)
+    call-room (at-is-room-in .before .before .args .chain .now) (v .result) (v .ensures)
+    (not-false (v .result) (at-if1 .if1 .left)) (d .result) (d .ensures) (c .counted .result) (c .counted .ensures)
 
 pub tell-in-spec : {M : Type 1} → statement M
 tell-in-spec =

@@ -22,26 +22,32 @@ loop-holds c = surveyed-start (c .before .args .chain .now)
 
 across-requires : tie.Need-across-requires Inv-loop μ-loop
 across-requires c κs =
-    let s = c .before .before .before .before .before in
-    let l = c .before .before .before .loop in
-    let chain = s .args .chain .now in
-    let r = surveyed-room chain (l .x) (l .west) (l .east) (l .i) (l .inv) (λ e. omega (arith, e, good-short 0 chain (omega arith) (s .pre))) in
-    (refl, good-digits 0 chain (s .pre) (l .i), r .0, r .1)
+    let at-loop = c .before .before .before in let at-start = at-loop .before .before in
+    let l = at-loop .loop in
+    let chain = at-start .args .chain .now in
+    let r = surveyed-room chain (l .x) (l .west) (l .east) (l .i) (l .inv)
+    (λ e. omega (arith, e, good-short 0 chain (omega arith) (at-start .pre))) in
+    (refl, good-digits 0 chain (at-start .pre) (l .i), r .0, r .1)
 
 loop-again : tie.Need-loop-again Inv-loop μ-loop
 loop-again c =
-    let s = c .before .before .before .before .before .before .before .before in
-    let l = c .before .before .before .before .before .before .loop in
-    let chain = s .args .chain .now in
-    surveyed-step chain (l .x) (l .west) (l .east) (l .i) (l .inv) (c .before .before .across .result) (c .before .lesser .result) (c .greater .result) (c .before .before .before .before .before .loop-test .taken) (omega (arith, good-digits 0 chain (s .pre) (l .i))) (λ e. omega (arith, e, good-short 0 chain (omega arith) (s .pre))) (c .before .before .across .ensures) (c .before .lesser .ensures) (c .greater .ensures)
+    let at-lesser = c .before in let at-across = at-lesser .before in let at-loop-test = at-across .before .before .before in
+    let at-start = at-loop-test .before .before .before in
+    let l = at-loop-test .before .loop in
+    let chain = at-start .args .chain .now in
+    surveyed-step chain (l .x) (l .west) (l .east) (l .i) (l .inv) (at-across .across .result) (at-lesser .lesser .result)
+    (c .greater .result) (at-loop-test .loop-test .taken) (omega (arith, good-digits 0 chain (at-start .pre) (l .i)))
+    (λ e. omega (arith, e, good-short 0 chain (omega arith) (at-start .pre))) (at-across .across .ensures)
+    (at-lesser .lesser .ensures) (c .greater .ensures)
 
 returns : tie.Need-returns Inv-loop μ-loop
 returns c =
-    let s = c .before .before .before in
-    let l = c .before .loop in
+    let at-loop = c .before in
+    let l = at-loop .loop in
     let n = c .loop-test .left in
-    let chain = s .args .chain .now in
-    ap₂ extent (surveyed-west chain (l .x) (l .west) (l .east) (l .i) (l .inv) n) (surveyed-east chain (l .x) (l .west) (l .east) (l .i) (l .inv) n)
+    let chain = at-loop .before .before .args .chain .now in
+    ap₂ extent (surveyed-west chain (l .x) (l .west) (l .east) (l .i) (l .inv) n)
+    (surveyed-east chain (l .x) (l .west) (l .east) (l .i) (l .inv) n)
   where
     extent : ℕ → ℕ → Extent
     extent w e = record { west = w; east = e }

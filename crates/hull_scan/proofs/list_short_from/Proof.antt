@@ -9,16 +9,16 @@ use Rattle.hull_scan.proofs.list_short_from.Tie as tie
 -- so few steps go through so few columns
 list-medium-requires : tie.Need-list-medium-requires
 list-medium-requires c κs =
-    let s = c .before .before .before .before in
-    let e = c .before .before .survey in
-    let k = walked (s .args .chain .now) (e .result) (s .pre .0) (e .ensures) in
-    (k, s .pre .1, omega (arith, walked-across k, s .pre .2))
+    let at-survey = c .before .before in let at-start = at-survey .before .before in
+    let e = at-survey .survey in
+    let k = walked (at-start .args .chain .now) (e .result) (at-start .pre .0) (e .ensures) in
+    (k, at-start .pre .1, omega (arith, walked-across k, at-start .pre .2))
 
 list-narrow-requires : tie.Need-list-narrow-requires
 list-narrow-requires c κs =
-    let s = c .before .before .before .before in
-    let e = c .before .before .survey in
-    (walked (s .args .chain .now) (e .result) (s .pre .0) (e .ensures), s .pre .1, search needs)
+    let at-survey = c .before .before in let at-start = at-survey .before .before in
+    let e = at-survey .survey in
+    (walked (at-start .args .chain .now) (e .result) (at-start .pre .0) (e .ensures), at-start .pre .1, search needs)
 
 pub list-short-from-spec : {M : Type 1} → statement M
 list-short-from-spec =

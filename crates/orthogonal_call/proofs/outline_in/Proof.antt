@@ -11,36 +11,70 @@ use Rattle.orthogonal_call.proofs.outline_in.Statement.{statement}
 use Rattle.orthogonal_call.proofs.outline_in.Tie as tie
 
 start-requires : tie.Need-start-requires
-start-requires c κs = let z = c .before .before .before .before .before in omega (arith, accepted (z .args .start) (z .args .chain .now) (z .args .g) (z .pre .0) .few)
+start-requires c κs =
+    let at-start = c .before .before .before .before .before in
+    omega (arith, accepted (at-start .args .start) (at-start .args .chain .now) (at-start .args .g) (at-start .pre .0) .few)
 
 div-span : tie.Need-div-span
-div-span c = let z = c .before .before .before .before .before .before .before in accepted (z .args .start) (z .args .chain .now) (z .args .g) (z .pre .0) .some
+div-span c =
+    let at-start = c .before .before .before .before .before .before .before in
+    accepted (at-start .args .start) (at-start .args .chain .now) (at-start .args .g) (at-start .pre .0) .some
 
 add-span : tie.Need-add-span
-add-span c = let z = c .before .before .before .before .before .before .before in let a = accepted (z .args .start) (z .args .chain .now) (z .args .g) (z .pre .0) in let m = c .wide .result in let e = c .wide .ensures .0 in let b = c .before .start .ensures in let h : 0 < m = omega (arith, e, b .0) in record { fits = omega (arith, need-few m (z .args .g) h (a .some), e, b .1, a .few) }
+add-span c =
+    let at-start = c .before .before .before .before .before .before .before in
+    let a = accepted (at-start .args .start) (at-start .args .chain .now) (at-start .args .g)
+    (at-start .pre .0) in let m = c .wide .result in let e = c .wide .ensures .0 in let b = c .before .start .ensures in let h : 0 < m = omega (arith, e, b .0) in record { fits = omega (arith, need-few m (at-start .args .g) h (a .some), e, b .1, a .few) }
 
 slice-relend-prefix-trace : tie.Need-slice-relend-prefix-trace
-slice-relend-prefix-trace c = let z = c .before .before .before .before .before .before .before in let a = accepted (z .args .start) (z .args .chain .now) (z .args .g) (z .pre .0) in let m = c .wide .result in let e = c .wide .ensures .0 in let b = c .before .start .ensures in let h : 0 < m = omega (arith, e, b .0) in omega (arith, need-few m (z .args .g) h (a .some), e, b .1, z .pre .1, z .pre .4, z .pre .5)
+slice-relend-prefix-trace c =
+    let at-start = c .before .before .before .before .before .before .before in
+    let a = accepted (at-start .args .start) (at-start .args .chain .now) (at-start .args .g)
+    (at-start .pre .0) in let m = c .wide .result in let e = c .wide .ensures .0 in let b = c .before .start .ensures in let h : 0 < m = omega (arith, e, b .0) in omega (arith, need-few m (at-start .args .g) h (a .some), e, b .1, at-start .pre .1, at-start .pre .4, at-start .pre .5)
 
 slice-aggregate-trace : tie.Need-slice-aggregate-trace
-slice-aggregate-trace c = let z = c .before .before .before .before .before .before .before .before in let a = accepted (z .args .start) (z .args .chain .now) (z .args .g) (z .pre .0) in let m = c .before .wide .result in let e = c .before .wide .ensures .0 in let b = c .before .before .start .ensures in let h : 0 < m = omega (arith, e, b .0) in sym (store-size m (z .args .g) h (a .some) (z .args .lo .now) (length (z .args .lo .now)) (omega (arith, e, b .1, z .pre .1, z .pre .4, z .pre .5)) refl)
+slice-aggregate-trace c =
+    let at-wide = c .before in let at-start-call = at-wide .before in
+    let at-start = at-start-call .before .before .before .before .before .before in
+    let a = accepted (at-start .args .start) (at-start .args .chain .now) (at-start .args .g)
+    (at-start .pre .0) in let m = at-wide .wide .result in let e = at-wide .wide .ensures .0 in let b = at-start-call .start .ensures in let h : 0 < m = omega (arith, e, b .0) in sym (store-size m (at-start .args .g) h (a .some) (at-start .args .lo .now) (length (at-start .args .lo .now)) (omega (arith, e, b .1, at-start .pre .1, at-start .pre .4, at-start .pre .5)) refl)
 
 slice-relend-prefix-trace-2 : tie.Need-slice-relend-prefix-trace-2
-slice-relend-prefix-trace-2 c = let z = c .before .before .before .before .before .before .before .before in let a = accepted (z .args .start) (z .args .chain .now) (z .args .g) (z .pre .0) in let m = c .before .wide .result in let e = c .before .wide .ensures .0 in let b = c .before .before .start .ensures in let h : 0 < m = omega (arith, e, b .0) in omega (arith, need-few m (z .args .g) h (a .some), e, b .1, z .pre .1, z .pre .4, z .pre .5)
+slice-relend-prefix-trace-2 c =
+    let at-wide = c .before in let at-start-call = at-wide .before in
+    let at-start = at-start-call .before .before .before .before .before .before in
+    let a = accepted (at-start .args .start) (at-start .args .chain .now) (at-start .args .g)
+    (at-start .pre .0) in let m = at-wide .wide .result in let e = at-wide .wide .ensures .0 in let b = at-start-call .start .ensures in let h : 0 < m = omega (arith, e, b .0) in omega (arith, need-few m (at-start .args .g) h (a .some), e, b .1, at-start .pre .1, at-start .pre .4, at-start .pre .5)
 
 slice-aggregate-trace-2 : tie.Need-slice-aggregate-trace-2
-slice-aggregate-trace-2 c = let z = c .before .before .before .before .before .before .before .before .before in let a = accepted (z .args .start) (z .args .chain .now) (z .args .g) (z .pre .0) in let m = c .before .before .wide .result in let e = c .before .before .wide .ensures .0 in let b = c .before .before .before .start .ensures in let h : 0 < m = omega (arith, e, b .0) in sym (store-size m (z .args .g) h (a .some) (z .args .hi .now) (length (z .args .hi .now)) (omega (arith, e, b .1, z .pre .1, z .pre .4, z .pre .5)) refl)
+slice-aggregate-trace-2 c =
+    let at-wide = c .before .before in let at-start-call = at-wide .before in
+    let at-start = at-start-call .before .before .before .before .before .before in
+    let a = accepted (at-start .args .start) (at-start .args .chain .now) (at-start .args .g)
+    (at-start .pre .0) in let m = at-wide .wide .result in let e = at-wide .wide .ensures .0 in let b = at-start-call .start .ensures in let h : 0 < m = omega (arith, e, b .0) in sym (store-size m (at-start .args .g) h (a .some) (at-start .args .hi .now) (length (at-start .args .hi .now)) (omega (arith, e, b .1, at-start .pre .1, at-start .pre .4, at-start .pre .5)) refl)
 
 slice-relend-prefix-trace-3 : tie.Need-slice-relend-prefix-trace-3
-slice-relend-prefix-trace-3 c = let z = c .before .before .before .before .before .before .before .before .before in let a = accepted (z .args .start) (z .args .chain .now) (z .args .g) (z .pre .0) in let m = c .before .before .wide .result in let e = c .before .before .wide .ensures .0 in let b = c .before .before .before .start .ensures in let h : 0 < m = omega (arith, e, b .0) in omega (arith, need-few m (z .args .g) h (a .some), e, b .1, z .pre .1, z .pre .4, z .pre .5)
+slice-relend-prefix-trace-3 c =
+    let at-wide = c .before .before in let at-start-call = at-wide .before in
+    let at-start = at-start-call .before .before .before .before .before .before in
+    let a = accepted (at-start .args .start) (at-start .args .chain .now) (at-start .args .g)
+    (at-start .pre .0) in let m = at-wide .wide .result in let e = at-wide .wide .ensures .0 in let b = at-start-call .start .ensures in let h : 0 < m = omega (arith, e, b .0) in omega (arith, need-few m (at-start .args .g) h (a .some), e, b .1, at-start .pre .1, at-start .pre .4, at-start .pre .5)
 
 slice-aggregate-trace-3 : tie.Need-slice-aggregate-trace-3
-slice-aggregate-trace-3 c = let z = c .before .before .before .before .before .before .before .before .before .before in let a = accepted (z .args .start) (z .args .chain .now) (z .args .g) (z .pre .0) in let m = c .before .before .before .wide .result in let e = c .before .before .before .wide .ensures .0 in let b = c .before .before .before .before .start .ensures in let h : 0 < m = omega (arith, e, b .0) in sym (store-size m (z .args .g) h (a .some) (z .args .t .now) (length (z .args .t .now)) (omega (arith, e, b .1, z .pre .1, z .pre .4, z .pre .5)) refl)
+slice-aggregate-trace-3 c =
+    let at-wide = c .before .before .before in let at-start = at-wide .before .before .before .before .before .before .before in
+    let a = accepted (at-start .args .start) (at-start .args .chain .now) (at-start .args .g)
+    (at-start .pre .0) in let m = at-wide .wide .result in let e = at-wide .wide .ensures .0 in let b = at-wide .before .start .ensures in let h : 0 < m = omega (arith, e, b .0) in sym (store-size m (at-start .args .g) h (a .some) (at-start .args .t .now) (length (at-start .args .t .now)) (omega (arith, e, b .1, at-start .pre .1, at-start .pre .4, at-start .pre .5)) refl)
 
 trace-requires : tie.Need-trace-requires
-trace-requires c κs = let z = c .before .before .before .before .before .before .before .before .before .before .before in let a = accepted (z .args .start) (z .args .chain .now) (z .args .g) (z .pre .0) in let m = c .before .before .before .before .wide .result in let e = c .before .before .before .before .wide .ensures .0 in let b = c .before .before .before .before .before .start .ensures in let h : 0 < m = omega (arith, e, b .0) in
-    let s = (2 * m - 2) / z .args .g + 2 in
-    subst (λ (k : ℕ). LanesReady (z .args .start) (z .args .chain .now) (z .args .g) k s (take s (z .args .lo .now)) (take s (z .args .hi .now)) (take s (z .args .t .now))) e (store-ready m (z .args .g) h (a .some) (z .args .start) (z .args .chain .now) (z .args .lo .now) (z .args .hi .now) (z .args .t .now) (z .pre .0) (omega (arith, e, b .0)) (omega (arith, e, b .1)) (z .pre .1) (z .pre .2) (z .pre .3) (z .pre .4) (z .pre .5))
+trace-requires c κs =
+    let at-wide = c .before .before .before .before in
+    let at-start = at-wide .before .before .before .before .before .before .before in
+    let a = accepted (at-start .args .start) (at-start .args .chain .now) (at-start .args .g)
+    (at-start .pre .0) in let m = at-wide .wide .result in let e = at-wide .wide .ensures .0 in let b = at-wide .before .start .ensures in let h : 0 < m = omega (arith, e, b .0) in
+    let s = (2 * m - 2) / at-start .args .g + 2 in
+    subst (λ (k : ℕ). LanesReady (at-start .args .start) (at-start .args .chain .now) (at-start .args .g) k s
+    (take s (at-start .args .lo .now)) (take s (at-start .args .hi .now)) (take s (at-start .args .t .now))) e (store-ready m (at-start .args .g) h (a .some) (at-start .args .start) (at-start .args .chain .now) (at-start .args .lo .now) (at-start .args .hi .now) (at-start .args .t .now) (at-start .pre .0) (omega (arith, e, b .0)) (omega (arith, e, b .1)) (at-start .pre .1) (at-start .pre .2) (at-start .pre .3) (at-start .pre .4) (at-start .pre .5))
 
 pub outline-in-spec : {M : Type 1} → statement M
 outline-in-spec =

@@ -12,20 +12,37 @@ use Rattle.orthogonal_call.proofs.outline_rows.Statement.{statement}
 use Rattle.orthogonal_call.proofs.outline_rows.Tie as tie
 
 around-requires : tie.Need-around-requires
-around-requires c κs = let a = c .before .before .before .before .args in let p = c .before .before .before .before .pre .0 in (omega (arith, p .some, p .same), p .same, c .home-row .ensures .1, omega (arith, p .few), omega (arith, p .narrow), ends-fit (a .span) (a .lo .now) (a .hi .now) (c .home-row .result) (c .home-row .ensures .1) (p .same) (c .before .before .before .before .pre .1 .3 .fits))
+around-requires c κs =
+    let at-start = c .before .before .before .before in
+    let a = at-start .args in let p = at-start .pre .0 in (omega (arith, p .some, p .same), p .same, c .home-row .ensures .1, omega (arith, p .few), omega (arith, p .narrow), ends-fit (a .span) (a .lo .now) (a .hi .now) (c .home-row .result) (c .home-row .ensures .1) (p .same) (at-start .pre .1 .3 .fits))
 
 returns : tie.Need-returns
-returns c = let a = c .before .before .before .before .before .before .args in λ s ds g d. answer-short d (c .before .before .home-row .result) (c .before .before .home-row .ensures .0) (c .before .around .result) (c .before .around .ensures) (a .out .now) (c .if1 .taken)
+returns c =
+    let at-around = c .before in let at-home-row = at-around .before in
+    let at-start = at-home-row .before .before .before .before in
+    let a = at-start .args in λ s ds g d. answer-short d (at-home-row .home-row .result) (at-home-row .home-row .ensures .0)
+    (at-around .around .result) (at-around .around .ensures) (a .out .now) (c .if1 .taken)
 
 draw-requires : tie.Need-draw-requires
-draw-requires c κs = let a = c .before .before .before .before .before .before .before .args in let p = c .before .before .before .before .before .before .before .pre .0 in let d = c .before .before .before .before .before .before .before .pre .1 .3 in (p .some, p .same, c .before .before .before .home-row .ensures .0, c .before .before .before .home-row .ensures .1, λ q h. omega (arith, d .fits q (omega (arith, h, p .same))), omega (arith, c .before .if1 .left, steps-are d (c .before .before .before .home-row .result) (c .before .before .before .home-row .ensures .0) (c .before .before .around .result) (c .before .before .around .ensures)))
+draw-requires c κs =
+    let at-around = c .before .before in let at-home-row = at-around .before in
+    let at-start = at-home-row .before .before .before .before in
+    let a = at-start .args in let p = at-start .pre .0 in let d = at-start .pre .1 .3 in (p .some, p .same, at-home-row .home-row .ensures .0, at-home-row .home-row .ensures .1, λ q h. omega (arith, d .fits q (omega (arith, h, p .same))), omega (arith, c .before .if1 .left, steps-are d (at-home-row .home-row .result) (at-home-row .home-row .ensures .0) (at-around .around .result) (at-around .around .ensures)))
 
 returns-2 : tie.Need-returns-2
 returns-2 c =
-    let a = c .before .before .before .before .before .before .before .before .before .before .before .before .before .before .before .args in
-    let u = c .before .before .lowered in
+    let at-lowered = c .before .before in let at-wide = at-lowered .before in
+    let at-draw = at-wide .before .before .before .before in let at-if1 = at-draw .before .before in
+    let at-around = at-if1 .before in let at-home-row = at-around .before in
+    let at-start = at-home-row .before .before .before .before in
+    let a = at-start .args in
+    let u = at-lowered .lowered in
     let v = c .before .lowered2 in
-    λ s ds g d. answer-outlined d (c .before .before .before .before .before .before .before .before .before .before .before .home-row .result) (c .before .before .before .before .before .before .before .before .before .before .before .home-row .ensures .0) (c .before .before .before .before .before .before .before .before .before .before .around .result) (c .before .before .before .before .before .before .before .before .before .before .around .ensures) (a .out .now) (c .before .before .before .before .before .before .before .draw .last .1 .1 .1 .1 .0) (c .before .before .before .before .before .before .before .before .before .if1 .left) (c .before .before .before .before .before .before .before .draw .ensures) (toZ w32 (ofZ w32 (u .result))) (toZ w32 (ofZ w32 (v .result))) (c .before .before .before .wide .result) (c .count .result) (c .before .before .before .wide .ensures .0) (toZ-ofZ (sfits-of {w = w32} {z = u .result} (u .ok)) ∙ u .ensures) (toZ-ofZ (sfits-of {w = w32} {z = v .result} (v .ok)) ∙ v .ensures) (c .count .ensures)
+    λ s ds g d. answer-outlined d (at-home-row .home-row .result) (at-home-row .home-row .ensures .0) (at-around .around .result)
+    (at-around .around .ensures) (a .out .now) (at-draw .draw .last .1 .1 .1 .1 .0) (at-if1 .if1 .left) (at-draw .draw .ensures)
+    (toZ w32 (ofZ w32 (u .result))) (toZ w32 (ofZ w32 (v .result))) (at-wide .wide .result) (c .count .result)
+    (at-wide .wide .ensures .0) (toZ-ofZ (sfits-of {w = w32} {z = u .result} (u .ok)) ∙ u .ensures)
+    (toZ-ofZ (sfits-of {w = w32} {z = v .result} (v .ok)) ∙ v .ensures) (c .count .ensures)
 
 pub outline-rows-spec : {M : Type 1} → statement M
 outline-rows-spec =

@@ -11,9 +11,10 @@ use Rattle.orthogonal_call.proofs.outline_widest.Tie as tie
 
 outline-in-requires : tie.Need-outline-in-requires
 outline-in-requires c κs =
-    let s = c .before .before .before .before .before .before in
-    let n = new-store (mostSteps + 2) (length (s .args .chain .now)) (omega (arith, accepted (s .args .start) (s .args .chain .now) (s .args .g) (s .pre) .few)) in
-    (s .pre, n .0, n .1, n .2, n .3, n .4)
+    let at-start = c .before .before .before .before .before .before in
+    let n = new-store (mostSteps + 2) (length (at-start .args .chain .now))
+    (omega (arith, accepted (at-start .args .start) (at-start .args .chain .now) (at-start .args .g) (at-start .pre) .few)) in
+    (at-start .pre, n .0, n .1, n .2, n .3, n .4)
 
 pub outline-widest-spec : {M : Type 1} → statement M
 outline-widest-spec =

@@ -21,24 +21,37 @@ loop-holds : tie.Need-loop-holds Inv-loop μ-loop
 loop-holds c = let a = c .before .before .args in (omega arith, omega arith, count-start (leftIn (a .lo .now)) (rightIn (a .span) (a .hi .now)) (length (a .lo .now)))
 
 sub-n : tie.Need-sub-n Inv-loop μ-loop
-sub-n c = omega (arith, c .wide .ensures .0, c .before .before .before .before .before .before .pre .3 (c .before .before .before .loop .q) (c .before .before .loop-test .taken))
+sub-n c =
+    let at-loop-test = c .before .before in let at-loop = at-loop-test .before in
+    let at-start = at-loop .before .before .before in
+    omega (arith, c .wide .ensures .0, at-start .pre .3 (at-loop .loop .q) (at-loop-test .loop-test .taken))
 
 sub-n-2 : tie.Need-sub-n-2 Inv-loop μ-loop
-sub-n-2 c = omega (arith, c .wide2 .ensures .0, c .before .before .wide .ensures .0, c .before .before .before .before .before .before .before .before .pre .3 (c .before .before .before .before .before .loop .q) (c .before .before .before .before .loop-test .taken))
+sub-n-2 c =
+    let at-wide = c .before .before in let at-loop-test = at-wide .before .before in
+    let at-start = at-loop-test .before .before .before .before in
+    omega (arith, c .wide2 .ensures .0, at-wide .wide .ensures .0, at-start .pre .3 (at-loop-test .before .loop .q) (at-loop-test .loop-test .taken))
 
 loop-again : tie.Need-loop-again Inv-loop μ-loop
 loop-again c =
-    let l = c .before .before .before .before .before .loop in
-    let a = c .before .before .before .before .before .before .before .before .args in
+    let at-wide = c .before .before in let at-loop-test = at-wide .before .before in
+    let at-start = at-loop-test .before .before .before .before in
+    let l = at-loop-test .before .loop in
+    let a = at-start .args in
     let r = rightIn (a .span) (a .hi .now) in
-    let t = c .before .before .before .before .loop-test .taken in (
+    let t = at-loop-test .loop-test .taken in (
       omega (arith, t),
-      omega (arith, l .inv .1, c .before .before .before .before .before .before .before .before .pre .2),
-      ap₂ (λ (u v : ℕ). (l .n + (a .span - u - v)) + blocksFrom (leftIn (a .lo .now)) r (l .q + 1) (length (a .lo .now) - (l .q + 1))) (c .before .before .wide .ensures .0) (c .wide2 .ensures .0) ∙ count-next (leftIn (a .lo .now)) r (l .q) (l .n) (length (a .lo .now)) (blocksFrom (leftIn (a .lo .now)) r 0 (length (a .lo .now))) t (l .inv .2),
+      omega (arith, l .inv .1, at-start .pre .2),
+      ap₂ (λ (u v : ℕ). (l .n + (a .span - u - v)) + blocksFrom (leftIn (a .lo .now)) r (l .q + 1)
+          (length (a .lo .now) - (l .q + 1))) (at-wide .wide .ensures .0) (c .wide2 .ensures .0) ∙ count-next (leftIn (a .lo .now)) r (l .q) (l .n) (length (a .lo .now)) (blocksFrom (leftIn (a .lo .now)) r 0 (length (a .lo .now))) t (l .inv .2),
     )
 
 returns : tie.Need-returns Inv-loop μ-loop
-returns c = let l = c .before .loop in let a = c .before .before .before .before .args in count-end (leftIn (a .lo .now)) (rightIn (a .span) (a .hi .now)) (l .q) (l .n) (length (a .lo .now)) (blocksFrom (leftIn (a .lo .now)) (rightIn (a .span) (a .hi .now)) 0 (length (a .lo .now))) (c .loop-test .left) (l .inv .2)
+returns c =
+    let at-start = c .before .before .before .before in
+    let l = c .before .loop in let a = at-start .args in count-end (leftIn (a .lo .now)) (rightIn (a .span) (a .hi .now)) (l .q)
+    (l .n) (length (a .lo .now)) (blocksFrom (leftIn (a .lo .now)) (rightIn (a .span) (a .hi .now)) 0 (length (a .lo .now)))
+    (c .loop-test .left) (l .inv .2)
 
 pub count-spec : {M : Type 1} → statement M
 count-spec =

@@ -23,22 +23,27 @@ loop-holds c = let a = c .before .before .args in (omega (arith, c .before .befo
 
 leg-requires : tie.Need-leg-requires Inv-loop μ-loop
 leg-requires c κs =
-    let l = c .before .before .before .before .loop in
-    let a = c .before .before .before .before .before .before .before .args in
+    let at-loop-test = c .before .before .before in let at-start = at-loop-test .before .before .before .before in
+    let l = at-loop-test .before .loop in
+    let a = at-start .args in
     let f = leftIn (a .lo .now) in
-    omega (arith, drawing-room (l .inv .2) (sideways (l .col) (f (l .q - 1))) 3 (descent f (f (l .q - 1)) (a .first) (l .q - 1 - a .first)) (descent-next f (l .col) (a .first) (l .q) (c .before .before .before .loop-test .taken)) (c .before .before .before .before .before .before .before .pre .2), ap (λ (n : ℕ). length (sideways (l .col) n)) (c .before .wide .ensures .0))
+    omega (arith, drawing-room (l .inv .2) (sideways (l .col) (f (l .q - 1))) 3 (descent f (f (l .q - 1)) (a .first) (l .q - 1 - a .first)) (descent-next f (l .col) (a .first) (l .q) (at-loop-test .loop-test .taken)) (at-start .pre .2), ap (λ (n : ℕ). length (sideways (l .col) n)) (c .before .wide .ensures .0))
 
 loop-again : tie.Need-loop-again Inv-loop μ-loop
 loop-again c =
-    let l = c .before .before .before .before .before .before .before .loop in
-    let a = c .before .before .before .before .before .before .before .before .before .before .args in
+    let at-leg = c .before .before in let at-wide = at-leg .before .before in let at-loop-test = at-wide .before .before in
+    let at-loop = at-loop-test .before in let at-start = at-loop .before .before .before in
+    let l = at-loop .loop in
+    let a = at-start .args in
     let f = leftIn (a .lo .now) in
-    let w = c .before .before .before .before .wide in
-    let u = c .before .before .leg in
-    let t = c .before .before .before .before .before .before .loop-test .taken in (
+    let w = at-wide .wide in
+    let u = at-leg .leg in
+    let t = at-loop-test .loop-test .taken in (
       omega (arith, t),
       omega (arith, l .inv .1),
-      drawing-step (l .inv .2) (sideways (l .col) (w .result)) 3 (descent f (w .result) (a .first) (l .q - 1 - a .first)) (descent-next f (l .col) (a .first) (l .q) t ∙ ap (λ (n : ℕ). sideways (l .col) n ++ (3 ∷ descent f n (a .first) (l .q - 1 - a .first))) (sym (w .ensures .0))) (u .last .0) (u .result) (u .kept .0) (u .ensures .0) (u .ensures .1),
+      drawing-step (l .inv .2) (sideways (l .col) (w .result)) 3 (descent f (w .result) (a .first) (l .q - 1 - a .first))
+          (descent-next f (l .col) (a .first) (l .q) t
+          ∙ ap (λ (n : ℕ). sideways (l .col) n ++ (3 ∷ descent f n (a .first) (l .q - 1 - a .first))) (sym (w .ensures .0))) (u .last .0) (u .result) (u .kept .0) (u .ensures .0) (u .ensures .1),
     )
 
 same-length : tie.Need-same-length Inv-loop μ-loop
@@ -46,8 +51,9 @@ same-length c = c .before .loop .inv .2 .size
 
 returns : tie.Need-returns Inv-loop μ-loop
 returns c =
+    let at-start = c .before .before .before .before in
     let l = c .before .loop in
-    let a = c .before .before .before .before .args in
+    let a = at-start .args in
     drawing-end (l .inv .2) (descent-none (leftIn (a .lo .now)) (l .col) (a .first) (l .q) (c .loop-test .left))
 
 pub fall-spec : {M : Type 1} → statement M

@@ -23,9 +23,11 @@ loop-holds c = (omega arith, search needs, omega arith, refl)
 
 loop-again : tie.Need-loop-again Inv-loop μ-loop
 loop-again c =
-    let l = c .before .before .before .before .loop in
-    let a = c .before .before .before .before .before .args in
-    let r = home-next (leftIn (a .a .now)) (l .q) (l .home) (c .if1 .home) (l .inv .0) (l .inv .2) (l .inv .3) (⊎-elim (λ w. inl (search needs)) (λ w. inr (search needs)) (c .if1 .came)) in
+    let at-loop = c .before .before .before .before in
+    let l = at-loop .loop in
+    let a = at-loop .before .args in
+    let r = home-next (leftIn (a .a .now)) (l .q) (l .home) (c .if1 .home) (l .inv .0) (l .inv .2) (l .inv .3)
+    (⊎-elim (λ w. inl (search needs)) (λ w. inr (search needs)) (c .if1 .came)) in
     (omega arith, omega arith, r .0, r .1)
 
 returns : tie.Need-returns Inv-loop μ-loop

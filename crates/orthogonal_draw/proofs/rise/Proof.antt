@@ -22,26 +22,34 @@ loop-holds : tie.Need-loop-holds Inv-loop μ-loop
 loop-holds c = let a = c .before .before .args in (omega arith, drawing-start (a .out .now) (a .from) (ascent (rightIn (a .span) (a .hi .now)) (a .x) 0 (length (a .hi .now) - 0)) (ascent (rightIn (a .span) (a .hi .now)) (a .x) 0 (length (a .hi .now))) (ascent-all (rightIn (a .span) (a .hi .now)) (a .x) (length (a .hi .now))))
 
 sub-to : tie.Need-sub-to Inv-loop μ-loop
-sub-to c = omega (arith, c .wide .ensures .0, c .before .before .before .before .before .before .pre .0 (c .before .before .before .loop .q) (c .before .before .loop-test .taken))
+sub-to c =
+    let at-loop-test = c .before .before in let at-loop = at-loop-test .before in
+    let at-start = at-loop .before .before .before in
+    omega (arith, c .wide .ensures .0, at-start .pre .0 (at-loop .loop .q) (at-loop-test .loop-test .taken))
 
 leg-requires : tie.Need-leg-requires Inv-loop μ-loop
 leg-requires c κs =
-    let l = c .before .before .before .before .loop in
-    let a = c .before .before .before .before .before .before .before .args in
+    let at-loop-test = c .before .before .before in let at-start = at-loop-test .before .before .before .before in
+    let l = at-loop-test .before .loop in
+    let a = at-start .args in
     let f = rightIn (a .span) (a .hi .now) in
-    omega (arith, drawing-room (l .inv .1) (sideways (l .col) (f (l .q))) 1 (ascent f (f (l .q)) (l .q + 1) (length (a .hi .now) - (l .q + 1))) (ascent-next f (l .col) (l .q) (length (a .hi .now)) (c .before .before .before .loop-test .taken)) (c .before .before .before .before .before .before .before .pre .1), ap (λ (n : ℕ). length (sideways (l .col) (a .span - n))) (c .before .wide .ensures .0))
+    omega (arith, drawing-room (l .inv .1) (sideways (l .col) (f (l .q))) 1 (ascent f (f (l .q)) (l .q + 1) (length (a .hi .now) - (l .q + 1))) (ascent-next f (l .col) (l .q) (length (a .hi .now)) (at-loop-test .loop-test .taken)) (at-start .pre .1), ap (λ (n : ℕ). length (sideways (l .col) (a .span - n))) (c .before .wide .ensures .0))
 
 loop-again : tie.Need-loop-again Inv-loop μ-loop
 loop-again c =
-    let l = c .before .before .before .before .before .before .before .loop in
-    let a = c .before .before .before .before .before .before .before .before .before .before .args in
+    let at-leg = c .before .before in let at-wide = at-leg .before .before in let at-loop-test = at-wide .before .before in
+    let at-loop = at-loop-test .before in let at-start = at-loop .before .before .before in
+    let l = at-loop .loop in
+    let a = at-start .args in
     let f = rightIn (a .span) (a .hi .now) in
-    let w = c .before .before .before .before .wide in
+    let w = at-wide .wide in
     let x = a .span - w .result in
-    let u = c .before .before .leg in
-    let t = c .before .before .before .before .before .before .loop-test .taken in (
+    let u = at-leg .leg in
+    let t = at-loop-test .loop-test .taken in (
       omega (arith, t),
-      drawing-step (l .inv .1) (sideways (l .col) x) 1 (ascent f x (l .q + 1) (length (a .hi .now) - (l .q + 1))) (ascent-next f (l .col) (l .q) (length (a .hi .now)) t ∙ ap (λ (n : ℕ). sideways (l .col) (a .span - n) ++ (1 ∷ ascent f (a .span - n) (l .q + 1) (length (a .hi .now) - (l .q + 1)))) (sym (w .ensures .0))) (u .last .0) (u .result) (u .kept .0) (u .ensures .0) (u .ensures .1),
+      drawing-step (l .inv .1) (sideways (l .col) x) 1 (ascent f x (l .q + 1) (length (a .hi .now) - (l .q + 1)))
+          (ascent-next f (l .col) (l .q) (length (a .hi .now)) t
+          ∙ ap (λ (n : ℕ). sideways (l .col) (a .span - n) ++ (1 ∷ ascent f (a .span - n) (l .q + 1) (length (a .hi .now) - (l .q + 1)))) (sym (w .ensures .0))) (u .last .0) (u .result) (u .kept .0) (u .ensures .0) (u .ensures .1),
     )
 
 same-length : tie.Need-same-length Inv-loop μ-loop
@@ -49,9 +57,11 @@ same-length c = c .before .loop .inv .1 .size
 
 returns : tie.Need-returns Inv-loop μ-loop
 returns c =
+    let at-start = c .before .before .before .before in
     let l = c .before .loop in
-    let a = c .before .before .before .before .args in
-    drawing-end (l .inv .1) (ascent-none (rightIn (a .span) (a .hi .now)) (l .col) (l .q) (length (a .hi .now)) (c .loop-test .left))
+    let a = at-start .args in
+    drawing-end (l .inv .1) (ascent-none (rightIn (a .span) (a .hi .now)) (l .col) (l .q) (length (a .hi .now))
+    (c .loop-test .left))
 
 pub rise-spec : {M : Type 1} → statement M
 rise-spec =

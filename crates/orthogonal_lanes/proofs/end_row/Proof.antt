@@ -17,7 +17,9 @@ abbrev μ-loop : tie.MeasureT-loop
 μ-loop a q₀ q = q
 
 loop-again : tie.Need-loop-again Inv-loop μ-loop
-loop-again c = (omega arith, from-less (c .before .before .before .before .args .a .now) (c .before .before .before .loop .q) (c .before .before .loop-test .taken) (c .before .before .before .loop .inv .1) (c .if1 .left))
+loop-again c =
+    let at-loop-test = c .before .before in let at-loop = at-loop-test .before in
+    (omega arith, from-less (at-loop .before .args .a .now) (at-loop .loop .q) (at-loop-test .loop-test .taken) (at-loop .loop .inv .1) (c .if1 .left))
 
 pub end-row-spec : {M : Type 1} → statement M
 end-row-spec =

@@ -8,16 +8,21 @@ use Rattle.orthogonal_lanes.proofs.fill.Tie as tie
 
 settle-requires : tie.Need-settle-requires
 settle-requires c κs =
-    let a = c .before .before .before .before .before .before .before .before .before .before .before .args in
-    let u = c .before .before .before .before .before .before .look-back in
+    let at-look-back = c .before .before .before .before .before .before in
+    let at-start = at-look-back .before .before .before .before .before in
+    let a = at-start .args in
+    let u = at-look-back .look-back in
     let k = u .kept .0 in
-    (omega (arith, k, c .before .before .before .before .before .before .before .before .before .before .before .pre .0), omega (arith, k, u .kept .1 .0, c .before .before .before .before .before .before .before .before .before .before .before .pre .1), fill-ready (a .a .now) (u .last .0) (a .g) k (u .ensures .0) (u .last .1 .0) (u .ensures .1))
+    (omega (arith, k, at-start .pre .0), omega (arith, k, u .kept .1 .0, at-start .pre .1), fill-ready (a .a .now) (u .last .0) (a .g) k (u .ensures .0) (u .last .1 .0) (u .ensures .1))
 
 returns : tie.Need-returns
 returns c =
-    let a = c .before .before .before .before .before .before .before .before .before .before .before .before .before .before .args in
-    let u = c .before .before .before .before .before .before .before .before .before .look-back in
-    fill-done (a .a .now) (u .last .0) (a .g) (u .kept .0) (u .ensures .0) (c .before .before .settle .last .0) (c .before .before .settle .ensures)
+    let at-settle = c .before .before in let at-look-back = at-settle .before .before .before .before .before .before .before in
+    let at-start = at-look-back .before .before .before .before .before in
+    let a = at-start .args in
+    let u = at-look-back .look-back in
+    fill-done (a .a .now) (u .last .0) (a .g) (u .kept .0) (u .ensures .0) (at-settle .settle .last .0)
+    (at-settle .settle .ensures)
 
 pub fill-spec : {M : Type 1} → statement M
 fill-spec =

@@ -17,7 +17,9 @@ abbrev μ-loop : tie.MeasureT-loop
 μ-loop a q₀ q = length a - q
 
 loop-again : tie.Need-loop-again Inv-loop μ-loop
-loop-again c = (omega arith, below-more (λ (k : ℕ). getD (c .before .before .before .before .args .a .now) k 0 ≡ blank) (c .before .before .before .loop .q) (c .before .before .before .loop .inv .1) (c .if1 .left))
+loop-again c =
+    let at-loop = c .before .before .before in
+    (omega arith, below-more (λ (k : ℕ). getD (at-loop .before .args .a .now) k 0 ≡ blank) (at-loop .loop .q) (at-loop .loop .inv .1) (c .if1 .left))
 
 pub first-row-spec : {M : Type 1} → statement M
 first-row-spec =

@@ -22,28 +22,44 @@ abbrev μ-loop : tie.MeasureT-loop
 μ-loop chain m g right up far lo₀ hi₀ by north x₀ y₀ i₀ lo hi x y i = length chain - i
 
 cast-mark : tie.Need-cast-mark Inv-loop μ-loop
-cast-mark c = let l = c .before .before .loop in let z = c .before .before .before .before .before .before in let b = gathering-bounds (l .inv .3) (c .before .loop-test .taken) (2 * z .args .m) (z .pre .0) in record { fits = omega (arith, b .1) }
+cast-mark c =
+    let at-loop = c .before .before in let at-start = at-loop .before .before .before .before in
+    let l = at-loop .loop in let b = gathering-bounds (l .inv .3) (c .before .loop-test .taken) (2 * at-start .args .m)
+    (at-start .pre .0) in record { fits = omega (arith, b .1) }
 
 add-mark : tie.Need-add-mark Inv-loop μ-loop
-add-mark c = let l = c .before .before .loop in let z = c .before .before .before .before .before .before in let b = gathering-bounds (l .inv .3) (c .before .loop-test .taken) (2 * z .args .m) (z .pre .0) in record { fits = omega (arith, b .1, z .pre .2 .across, z .pre .2 .narrow) }
+add-mark c =
+    let at-loop = c .before .before in let at-start = at-loop .before .before .before .before in
+    let l = at-loop .loop in let b = gathering-bounds (l .inv .3) (c .before .loop-test .taken) (2 * at-start .args .m)
+    (at-start .pre .0) in record { fits = omega (arith, b .1, at-start .pre .2 .across, at-start .pre .2 .narrow) }
 
 mark-requires : tie.Need-mark-requires Inv-loop μ-loop
-mark-requires c κs = let l = c .before .before .before .before .loop in let z = c .before .before .before .before .before .before .before .before in let b = gathering-bounds (l .inv .3) (c .before .before .before .loop-test .taken) (2 * z .args .m) (z .pre .0) in (
-  below-getD 4 (z .args .chain .now) (l .i) (z .pre .1) (c .before .before .before .loop-test .taken),
-  b .2,
-  z .pre .2 .some,
-  omega (arith, b .1, z .pre .2 .across),
-  omega (arith, z .pre .2 .narrow),
-  omega (arith, z .pre .2 .low),
-  omega (arith, b .3, z .pre .2 .along, ap (λ (n : ℕ). n * z .args .g) (l .inv .1)),
-  omega (arith, l .inv .1, l .inv .2, z .pre .3),
-)
+mark-requires c κs =
+    let at-loop-test = c .before .before .before in let at-start = at-loop-test .before .before .before .before .before in
+    let l = at-loop-test .before .loop in let b = gathering-bounds (l .inv .3) (at-loop-test .loop-test .taken) (2 * at-start .args .m) (at-start .pre .0) in (
+      below-getD 4 (at-start .args .chain .now) (l .i) (at-start .pre .1) (at-loop-test .loop-test .taken),
+      b .2,
+      at-start .pre .2 .some,
+      omega (arith, b .1, at-start .pre .2 .across),
+      omega (arith, at-start .pre .2 .narrow),
+      omega (arith, at-start .pre .2 .low),
+      omega (arith, b .3, at-start .pre .2 .along, ap (λ (n : ℕ). n * at-start .args .g) (l .inv .1)),
+      omega (arith, l .inv .1, l .inv .2, at-start .pre .3),
+    )
 
 across-requires : tie.Need-across-requires Inv-loop μ-loop
-across-requires c κs = let l = c .before .before .before .before .before .before .before .before .before .before .loop in let z = c .before .before .before .before .before .before .before .before .before .before .before .before .before .before in let b = gathering-bounds (l .inv .3) (c .before .before .before .before .before .before .before .before .before .loop-test .taken) (2 * z .args .m) (z .pre .0) in (refl, below-getD 4 (z .args .chain .now) (l .i) (z .pre .1) (c .before .before .before .before .before .before .before .before .before .loop-test .taken), b .0, omega (arith, b .1, z .pre .0 .narrow))
+across-requires c κs =
+    let at-loop-test = c .before .before .before .before .before .before .before .before .before in
+    let at-start = at-loop-test .before .before .before .before .before in
+    let l = at-loop-test .before .loop in let b = gathering-bounds (l .inv .3) (at-loop-test .loop-test .taken)
+    (2 * at-start .args .m) (at-start .pre .0) in (refl, below-getD 4 (at-start .args .chain .now) (l .i) (at-start .pre .1) (at-loop-test .loop-test .taken), b .0, omega (arith, b .1, at-start .pre .0 .narrow))
 
 upward-requires : tie.Need-upward-requires Inv-loop μ-loop
-upward-requires c κs = let l = c .before .before .before .before .before .before .before .before .before .before .before .before .loop in let z = c .before .before .before .before .before .before .before .before .before .before .before .before .before .before .before .before in let b = gathering-bounds (l .inv .3) (c .before .before .before .before .before .before .before .before .before .before .before .loop-test .taken) (2 * z .args .m) (z .pre .0) in (refl, below-getD 4 (z .args .chain .now) (l .i) (z .pre .1) (c .before .before .before .before .before .before .before .before .before .before .before .loop-test .taken), b .2, omega (arith, b .3, z .pre .0 .narrow))
+upward-requires c κs =
+    let at-loop-test = c .before .before .before .before .before .before .before .before .before .before .before in
+    let at-start = at-loop-test .before .before .before .before .before in
+    let l = at-loop-test .before .loop in let b = gathering-bounds (l .inv .3) (at-loop-test .loop-test .taken)
+    (2 * at-start .args .m) (at-start .pre .0) in (refl, below-getD 4 (at-start .args .chain .now) (l .i) (at-start .pre .1) (at-loop-test .loop-test .taken), b .2, omega (arith, b .3, at-start .pre .0 .narrow))
 
 loop-again : tie.Need-loop-again Inv-loop μ-loop
 loop-again c =

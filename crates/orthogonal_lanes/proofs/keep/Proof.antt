@@ -10,7 +10,10 @@ use Rattle.orthogonal_lanes.proofs.keep.Tie as tie
 
 returns : tie.Need-returns
 unfolding sink
-returns c = let a = c .before .before .before .before .args in ap (set (a .a .now) (a .q)) (c .lesser .ensures ∙ ap (λ (n : ℕ). min n (a .x)) (c .before .wide .ensures .0))
+returns c =
+    let at-start = c .before .before .before .before in
+    let a = at-start .args in ap (set (a .a .now) (a .q))
+    (c .lesser .ensures ∙ ap (λ (n : ℕ). min n (a .x)) (c .before .wide .ensures .0))
 
 pub keep-spec : {M : Type 1} → statement M
 keep-spec =

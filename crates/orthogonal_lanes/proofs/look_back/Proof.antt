@@ -20,22 +20,32 @@ abbrev μ-loop : tie.MeasureT-loop
 μ-loop a₀ t₀ g top least₀ q₀ a t least q = q
 
 loop-holds : tie.Need-loop-holds Inv-loop μ-loop
-loop-holds c = let a = c .before .before .before .before .args in (refl, refl, looking-start (a .a .now) (a .g) (length (a .a .now)) (c .wide .result / a .g) (a .t .now) (c .before .before .before .before .pre .0) (ap (λ (n : ℕ). n / a .g) (c .wide .ensures .0)))
+loop-holds c =
+    let at-start = c .before .before .before .before in
+    let a = at-start .args in (refl, refl, looking-start (a .a .now) (a .g) (length (a .a .now)) (c .wide .result / a .g) (a .t .now) (at-start .pre .0) (ap (λ (n : ℕ). n / a .g) (c .wide .ensures .0)))
 
 cast-a : tie.Need-cast-a Inv-loop μ-loop
-cast-a c = let a = c .before .before .before .before .before .before .before .before .before .args in record { fits = omega (arith, div-le-self (c .before .wide2 .result) (a .g), c .before .wide2 .ensures .1) }
+cast-a c =
+    let at-wide2 = c .before in let at-start = at-wide2 .before .before .before .before .before .before .before .before in
+    let a = at-start .args in record { fits = omega (arith, div-le-self (at-wide2 .wide2 .result) (a .g), at-wide2 .wide2 .ensures .1) }
 
 cast-t : tie.Need-cast-t Inv-loop μ-loop
-cast-t c = let a = c .before .before .before .before .before .before .before .before .before .args in record { fits = omega (arith, c .lesser .ensures, div-le-self (c .before .wide2 .result) (a .g), c .before .wide2 .ensures .1) }
+cast-t c =
+    let at-wide2 = c .before in let at-start = at-wide2 .before .before .before .before .before .before .before .before in
+    let a = at-start .args in record { fits = omega (arith, c .lesser .ensures, div-le-self (at-wide2 .wide2 .result) (a .g), at-wide2 .wide2 .ensures .1) }
 
 loop-again : tie.Need-loop-again Inv-loop μ-loop
 loop-again c =
-    let l = c .before .before .before .before .loop in
-    let a = c .before .before .before .before .before .before .before .before .before .args in
-    let x = c .before .wide2 .result / a .g in (
+    let at-wide2 = c .before in let at-loop-test = at-wide2 .before .before in
+    let at-start = at-loop-test .before .before .before .before .before .before in
+    let l = at-loop-test .before .loop in
+    let a = at-start .args in
+    let x = at-wide2 .wide2 .result / a .g in (
       length-set (l .a) (l .q - 1) x ∙ l .inv .0,
       length-set (l .t) (l .q - 1) (c .lesser .result) ∙ l .inv .1,
-      looking-step (l .inv .2) (c .before .before .before .loop-test .taken) (omega (arith, l .inv .0)) (omega (arith, l .inv .1, c .before .before .before .before .before .before .before .before .before .pre .1)) x (c .lesser .result) (ap (λ (n : ℕ). n / a .g) (c .before .wide2 .ensures .0)) (c .lesser .ensures),
+      looking-step (l .inv .2) (at-loop-test .loop-test .taken) (omega (arith, l .inv .0))
+          (omega (arith, l .inv .1, at-start .pre .1)) x (c .lesser .result)
+          (ap (λ (n : ℕ). n / a .g) (at-wide2 .wide2 .ensures .0)) (c .lesser .ensures),
     )
 
 returns : tie.Need-returns Inv-loop μ-loop

@@ -9,24 +9,36 @@ use Rattle.orthogonal_lanes.proofs.mark.Statement.{statement}
 use Rattle.orthogonal_lanes.proofs.mark.Tie as tie
 
 returns : tie.Need-returns
-returns c = let a = c .before .before .before .args in let p = c .before .before .before .pre in (mark-none (a .lo .now) (a .g) (a .up) (λ z. z) (a .x) (a .y) (a .d) (p .0) (c .if1 .taken), mark-none (a .hi .now) (a .g) (a .up) (λ z. a .far - z) (a .x) (a .y) (a .d) (p .0) (c .if1 .taken))
+returns c =
+    let at-start = c .before .before .before in
+    let a = at-start .args in let p = at-start .pre in (mark-none (a .lo .now) (a .g) (a .up) (λ z. z) (a .x) (a .y) (a .d) (p .0) (c .if1 .taken), mark-none (a .hi .now) (a .g) (a .up) (λ z. a .far - z) (a .x) (a .y) (a .d) (p .0) (c .if1 .taken))
 
 add-q : tie.Need-add-q
-add-q c = omega (arith, c .foot .ensures, c .before .before .before .before .pre .5)
+add-q c =
+    let at-start = c .before .before .before .before in
+    omega (arith, c .foot .ensures, at-start .pre .5)
 
 keep-requires : tie.Need-keep-requires
-keep-requires c κs = let a = c .before .before .before .before .before .args in let p = c .before .before .before .before .before .pre in (row-below (c .before .foot .result) (a .y) (a .up) (a .g) (length (a .lo .now)) (p .2) (omega (arith, c .before .foot .ensures)) (p .6), omega (arith, p .3, p .4))
+keep-requires c κs =
+    let at-foot = c .before in let at-start = at-foot .before .before .before .before in
+    let a = at-start .args in let p = at-start .pre in (row-below (at-foot .foot .result) (a .y) (a .up) (a .g) (length (a .lo .now)) (p .2) (omega (arith, at-foot .foot .ensures)) (p .6), omega (arith, p .3, p .4))
 
 keep-requires-2 : tie.Need-keep-requires-2
-keep-requires-2 c κs = let a = c .before .before .before .before .before .before .before .before .before .args in let p = c .before .before .before .before .before .before .before .before .before .pre in (omega (arith, p .7, row-below (c .before .before .before .before .before .foot .result) (a .y) (a .up) (a .g) (length (a .lo .now)) (p .2) (omega (arith, c .before .before .before .before .before .foot .ensures)) (p .6)), omega (arith, p .4))
+keep-requires-2 c κs =
+    let at-foot = c .before .before .before .before .before in let at-start = at-foot .before .before .before .before in
+    let a = at-start .args in let p = at-start .pre in (omega (arith, p .7, row-below (at-foot .foot .result) (a .y) (a .up) (a .g) (length (a .lo .now)) (p .2) (omega (arith, at-foot .foot .ensures)) (p .6)), omega (arith, p .4))
 
 returns-2 : tie.Need-returns-2
 returns-2 c =
-    let a = c .before .before .before .before .before .before .before .before .before .before .before .before .args in
-    let p = c .before .before .before .before .before .before .before .before .before .before .before .before .pre in
-    let f = c .before .before .before .before .before .before .before .before .foot in (
-      mark-one (a .lo .now) (a .g) (a .up) (λ z. z) (a .x) (a .y) (a .d) (f .result) (p .0) (c .before .before .before .before .before .before .before .before .before .if1 .left) (f .ensures) (c .before .before .before .before .before .before .keep .last .0) (c .before .before .before .before .before .before .keep .ensures),
-      mark-one (a .hi .now) (a .g) (a .up) (λ z. a .far - z) (a .x) (a .y) (a .d) (f .result) (p .0) (c .before .before .before .before .before .before .before .before .before .if1 .left) (f .ensures) (c .before .before .keep2 .last .0) (c .before .before .keep2 .ensures),
+    let at-keep2 = c .before .before in let at-keep = at-keep2 .before .before .before .before in
+    let at-foot = at-keep .before .before in let at-if1 = at-foot .before in let at-start = at-if1 .before .before .before in
+    let a = at-start .args in
+    let p = at-start .pre in
+    let f = at-foot .foot in (
+      mark-one (a .lo .now) (a .g) (a .up) (λ z. z) (a .x) (a .y) (a .d) (f .result) (p .0) (at-if1 .if1 .left) (f .ensures)
+          (at-keep .keep .last .0) (at-keep .keep .ensures),
+      mark-one (a .hi .now) (a .g) (a .up) (λ z. a .far - z) (a .x) (a .y) (a .d) (f .result) (p .0) (at-if1 .if1 .left)
+          (f .ensures) (at-keep2 .keep2 .last .0) (at-keep2 .keep2 .ensures),
     )
 
 pub mark-spec : {M : Type 1} → statement M

@@ -21,12 +21,17 @@ abbrev μ-loop : tie.MeasureT-loop
 
 loop-again : tie.Need-loop-again Inv-loop μ-loop
 loop-again c =
-    let l = c .before .before .before .before .before .before .before .loop in
-    let a = c .before .before .before .before .before .before .before .before .before .before .before .before .args in
-    let t = c .before .before .before .before .before .before .loop-test .taken in
+    let at-wide3 = c .before in let at-lesser = at-wide3 .before .before in
+    let at-loop-test = at-lesser .before .before .before in
+    let at-start = at-loop-test .before .before .before .before .before .before in
+    let l = at-loop-test .before .loop in
+    let a = at-start .args in
+    let t = at-loop-test .loop-test .taken in
     let h : l .q < length (a .a .now) = omega (arith, t, l .inv .0) in (
       length-set (l .a) (l .q) (c .greater .result) ∙ l .inv .0,
-      settling-step (l .inv .1) h (omega (arith, l .inv .0)) (c .before .before .before .lesser .result) (c .before .wide3 .result) (c .greater .result) (c .before .before .before .lesser .ensures ∙ ap (min (l .least)) (c .before .before .before .before .wide2 .ensures .0)) (c .before .wide3 .ensures .0 ∙ c .before .before .before .before .before .before .before .before .before .before .before .before .pre .2 (l .q) h) (c .greater .ensures),
+      settling-step (l .inv .1) h (omega (arith, l .inv .0)) (at-lesser .lesser .result) (at-wide3 .wide3 .result)
+          (c .greater .result) (at-lesser .lesser .ensures ∙ ap (min (l .least)) (at-lesser .before .wide2 .ensures .0))
+          (at-wide3 .wide3 .ensures .0 ∙ at-start .pre .2 (l .q) h) (c .greater .ensures),
     )
 
 returns : tie.Need-returns Inv-loop μ-loop

@@ -9,20 +9,25 @@ use Rattle.outline_scan.proofs.write.Tie as tie
 
 write-from-requires : tie.Need-write-from-requires
 write-from-requires c κs =
-    let a = c .before .before .before .before .before .before .args in
-    steady (a .start) (a .chain .now) (sym (c .before .before .before .judge .ensures) ∙ c .before .enum-told .given .1)
+    let at-judge = c .before .before .before in let at-start = at-judge .before .before .before in
+    let a = at-start .args in
+    steady (a .start) (a .chain .now) (sym (at-judge .judge .ensures) ∙ c .before .enum-told .given .1)
 
 returns : tie.Need-returns
 returns c =
-    let a = c .before .before .before .before .before .before .before .before .before .args in
-    let w = c .before .before .write-from in
-    call-traced (a .start) (a .chain .now) (sym (c .before .before .before .before .before .before .judge .ensures) ∙ c .before .before .before .before .enum-told .given .1) (a .out .now) (w .result) _ (w .ensures (a .start))
+    let at-write-from = c .before .before in let at-enum-told = at-write-from .before .before in
+    let at-judge = at-enum-told .before .before in let at-start = at-judge .before .before .before in
+    let a = at-start .args in
+    let w = at-write-from .write-from in
+    call-traced (a .start) (a .chain .now) (sym (at-judge .judge .ensures) ∙ at-enum-told .enum-told .given .1) (a .out .now)
+    (w .result) _ (w .ensures (a .start))
 
 returns-2 : tie.Need-returns-2
 returns-2 c =
-    let a = c .before .before .before .before .before .before .args in
+    let at-judge = c .before .before .before in let at-start = at-judge .before .before .before in
+    let a = at-start .args in
     let r = c .before .r .given in
-    call-refused (a .start) (a .chain .now) (a .out .now) (r .0 .0) (sym (c .before .before .before .judge .ensures) ∙ r .1)
+    call-refused (a .start) (a .chain .now) (a .out .now) (r .0 .0) (sym (at-judge .judge .ensures) ∙ r .1)
 
 pub write-spec : {M : Type 1} → statement M
 write-spec =

@@ -7,20 +7,24 @@ use Rattle.room_judge.proofs.judge.Tie as tie
 
 is-room-requires : tie.Need-is-room-requires
 is-room-requires c κs =
-    let a = c .before .before .before .before .args in
-    let j = c .before .before .judge in
+    let at-judge = c .before .before in
+    let a = at-judge .before .before .args in
+    let j = at-judge .judge in
     good-steps (a .start) (a .chain .now) (j .result) (j .ensures) (c .enum-told .given .1)
 
 returns : tie.Need-returns
 returns c =
-    let a = c .before .before .before .before .before .before .args in
-    let j = c .before .before .before .before .judge in
-    told-room (a .start) (a .chain .now) (j .result) (j .ensures) (c .before .is-room .result) (c .told .result) (c .before .before .enum-told .given .1) (c .before .is-room .ensures) (c .told .ensures)
+    let at-is-room = c .before in let at-enum-told = at-is-room .before in let at-judge = at-enum-told .before .before in
+    let a = at-judge .before .before .args in
+    let j = at-judge .judge in
+    told-room (a .start) (a .chain .now) (j .result) (j .ensures) (at-is-room .is-room .result) (c .told .result)
+    (at-enum-told .enum-told .given .1) (at-is-room .is-room .ensures) (c .told .ensures)
 
 returns-2 : tie.Need-returns-2
 returns-2 c =
-    let a = c .before .before .before .before .before .args in
-    let j = c .before .before .before .judge in
+    let at-judge = c .before .before .before in
+    let a = at-judge .before .before .args in
+    let j = at-judge .judge in
     told-refused (a .start) (a .chain .now) (j .result) (j .ensures) _ (c .before .r .given .1)
 
 pub judge-spec : {M : Type 1} → statement M

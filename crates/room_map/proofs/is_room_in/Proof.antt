@@ -15,69 +15,79 @@ returns c = told-short (c .before .before .args .chain .now) (omega arith)
 
 returns-2 : tie.Need-returns-2
 returns-2 c =
-    let z = c .before .before .before .before in
-    let r = z .args .b in
-    box-open (z .args .chain .now) (z .pre .0) (r .width) (r .height) (r .from) (r .closed) (z .pre .1) (not-true (r .closed) (c .if2 .taken))
+    let at-start = c .before .before .before .before in
+    let r = at-start .args .b in
+    box-open (at-start .args .chain .now) (at-start .pre .0) (r .width) (r .height) (r .from) (r .closed) (at-start .pre .1)
+    (not-true (r .closed) (c .if2 .taken))
 
 mul-size : tie.Need-mul-size
 mul-size c =
-    let z = c .before .before .before .before .before in
-    let r = z .args .b in
-    record { fits = omega (arith, size-few (z .args .chain .now) (z .pre .0) (r .width) (r .height) (r .from) (r .closed) (z .pre .1)) }
+    let at-start = c .before .before .before .before .before in
+    let r = at-start .args .b in
+    record { fits = omega (arith, size-few (at-start .args .chain .now) (at-start .pre .0) (r .width) (r .height) (r .from) (r .closed) (at-start .pre .1)) }
 
 lone-small-requires : tie.Need-lone-small-requires
 lone-small-requires c κs =
-    let z = c .before .before .before .before .before .before in
-    let r = z .args .b in
-    box-fits (z .args .chain .now) (z .pre .0) (r .width) (r .height) (r .from) (r .closed) (z .pre .1) 256 (omega arith)
+    let at-start = c .before .before .before .before .before .before in
+    let r = at-start .args .b in
+    box-fits (at-start .args .chain .now) (at-start .pre .0) (r .width) (r .height) (r .from) (r .closed) (at-start .pre .1) 256
+    (omega arith)
 
 returns-3 : tie.Need-returns-3
 returns-3 c =
-    let z = c .before .before .before .before .before .before .before in
-    let r = z .args .b in
-    box-told (z .args .chain .now) (z .pre .0) (r .width) (r .height) (r .from) (r .closed) (z .pre .1) (c .lone-small .result) (omega arith) (not-false (r .closed) (c .before .before .before .if2 .left)) (c .lone-small .ensures)
+    let at-if2 = c .before .before .before in let at-start = at-if2 .before .before .before .before in
+    let r = at-start .args .b in
+    box-told (at-start .args .chain .now) (at-start .pre .0) (r .width) (r .height) (r .from) (r .closed) (at-start .pre .1)
+    (c .lone-small .result) (omega arith) (not-false (r .closed) (at-if2 .if2 .left)) (c .lone-small .ensures)
 
 lone-narrow-requires : tie.Need-lone-narrow-requires
 lone-narrow-requires c κs =
-    let z = c .before .before .before .before .before .before .before in
-    let r = z .args .b in
-    box-fits (z .args .chain .now) (z .pre .0) (r .width) (r .height) (r .from) (r .closed) (z .pre .1) 2048 (omega arith)
+    let at-start = c .before .before .before .before .before .before .before in
+    let r = at-start .args .b in
+    box-fits (at-start .args .chain .now) (at-start .pre .0) (r .width) (r .height) (r .from) (r .closed) (at-start .pre .1) 2048
+    (omega arith)
 
 returns-4 : tie.Need-returns-4
 returns-4 c =
-    let z = c .before .before .before .before .before .before .before .before in
-    let r = z .args .b in
-    box-told (z .args .chain .now) (z .pre .0) (r .width) (r .height) (r .from) (r .closed) (z .pre .1) (c .lone-narrow .result) (omega arith) (not-false (r .closed) (c .before .before .before .before .if2 .left)) (c .lone-narrow .ensures)
+    let at-if2 = c .before .before .before .before in let at-start = at-if2 .before .before .before .before in
+    let r = at-start .args .b in
+    box-told (at-start .args .chain .now) (at-start .pre .0) (r .width) (r .height) (r .from) (r .closed) (at-start .pre .1)
+    (c .lone-narrow .result) (omega arith) (not-false (r .closed) (at-if2 .if2 .left)) (c .lone-narrow .ensures)
 
 lone-wider-requires : tie.Need-lone-wider-requires
 lone-wider-requires c κs =
-    let z = c .before .before .before .before .before .before .before .before .before in
-    let r = z .args .b in
-    box-fits (z .args .chain .now) (z .pre .0) (r .width) (r .height) (r .from) (r .closed) (z .pre .1) 16384 (omega arith)
+    let at-start = c .before .before .before .before .before .before .before .before .before in
+    let r = at-start .args .b in
+    box-fits (at-start .args .chain .now) (at-start .pre .0) (r .width) (r .height) (r .from) (r .closed) (at-start .pre .1) 16384
+    (omega arith)
 
 returns-5 : tie.Need-returns-5
 returns-5 c =
-    let z = c .before .before .before .before .before .before .before .before .before .before in
-    let r = z .args .b in
-    box-told (z .args .chain .now) (z .pre .0) (r .width) (r .height) (r .from) (r .closed) (z .pre .1) (c .lone-wider .result) (omega arith) (not-false (r .closed) (c .before .before .before .before .before .before .if2 .left)) (c .lone-wider .ensures)
+    let at-if2 = c .before .before .before .before .before .before in let at-start = at-if2 .before .before .before .before in
+    let r = at-start .args .b in
+    box-told (at-start .args .chain .now) (at-start .pre .0) (r .width) (r .height) (r .from) (r .closed) (at-start .pre .1)
+    (c .lone-wider .result) (omega arith) (not-false (r .closed) (at-if2 .if2 .left)) (c .lone-wider .ensures)
 
 lone-widest-requires : tie.Need-lone-widest-requires
 lone-widest-requires c κs =
-    let z = c .before .before .before .before .before .before .before .before .before .before .before in
-    let r = z .args .b in
-    box-fits (z .args .chain .now) (z .pre .0) (r .width) (r .height) (r .from) (r .closed) (z .pre .1) 131072 (omega arith)
+    let at-start = c .before .before .before .before .before .before .before .before .before .before .before in
+    let r = at-start .args .b in
+    box-fits (at-start .args .chain .now) (at-start .pre .0) (r .width) (r .height) (r .from) (r .closed) (at-start .pre .1)
+    131072 (omega arith)
 
 returns-6 : tie.Need-returns-6
 returns-6 c =
-    let z = c .before .before .before .before .before .before .before .before .before .before .before .before in
-    let r = z .args .b in
-    box-told (z .args .chain .now) (z .pre .0) (r .width) (r .height) (r .from) (r .closed) (z .pre .1) (c .lone-widest .result) (omega arith) (not-false (r .closed) (c .before .before .before .before .before .before .before .before .if2 .left)) (c .lone-widest .ensures)
+    let at-if2 = c .before .before .before .before .before .before .before .before in
+    let at-start = at-if2 .before .before .before .before in
+    let r = at-start .args .b in
+    box-told (at-start .args .chain .now) (at-start .pre .0) (r .width) (r .height) (r .from) (r .closed) (at-start .pre .1)
+    (c .lone-widest .result) (omega arith) (not-false (r .closed) (at-if2 .if2 .left)) (c .lone-widest .ensures)
 
 is-room-requires : tie.Need-is-room-requires
 is-room-requires c κs =
-    let z = c .before .before .before .before .before .before .before .before in
-    let r = z .args .b in
-    (omega arith, z .pre .0 .short, subst (Closes (z .args .chain .now)) (not-false (r .closed) (c .before .before .before .before .if2 .left)) (z .pre .1 .round), z .pre .0 .digits)
+    let at-if2 = c .before .before .before .before in let at-start = at-if2 .before .before .before .before in
+    let r = at-start .args .b in
+    (omega arith, at-start .pre .0 .short, subst (Closes (at-start .args .chain .now)) (not-false (r .closed) (at-if2 .if2 .left)) (at-start .pre .1 .round), at-start .pre .0 .digits)
 
 pub is-room-in-spec : {M : Type 1} → statement M
 is-room-in-spec =

@@ -10,16 +10,23 @@ use Rattle.undrwyth_words.proofs.orthogonal_words.Statement.{statement}
 use Rattle.undrwyth_words.proofs.orthogonal_words.Tie as tie
 
 enclosed-words-requires : tie.Need-enclosed-words-requires
-enclosed-words-requires c κs = subst OrthogonalFits (c .before .o .given .1) (c .before .before .before .pre)
+enclosed-words-requires c κs =
+    let at-o = c .before in
+    subst OrthogonalFits (at-o .o .given .1) (at-o .before .before .pre)
 
 cast-place : tie.Need-cast-place
-cast-place c = omega (arith, c .refusal-place .ensures, subst OrthogonalFits (c .before .before .before .o2 .given .1) (c .before .before .before .before .before .pre))
+cast-place c =
+    let at-o2 = c .before .before .before in
+    omega (arith, c .refusal-place .ensures, subst OrthogonalFits (at-o2 .o2 .given .1) (at-o2 .before .before .pre))
 
 returns : tie.Need-returns
 returns c = c .enclosed-words .ensures ∙ sym (ap orthogonalWords (c .before .before .o .given .1))
 
 returns-2 : tie.Need-returns-2
-returns-2 c = refused-orthogonal (c .before .before .before .before .before .args .o) (c .before .before .before .o2 .given .0 .0) (c .before .refusal-number .result) (c .refusal-place .result) (c .before .before .before .o2 .given .1) (c .before .refusal-number .ensures .0) (c .refusal-place .ensures)
+returns-2 c =
+    let at-refusal-number = c .before in let at-o2 = at-refusal-number .before .before in
+    refused-orthogonal (at-o2 .before .before .args .o) (at-o2 .o2 .given .0 .0) (at-refusal-number .refusal-number .result)
+    (c .refusal-place .result) (at-o2 .o2 .given .1) (at-refusal-number .refusal-number .ensures .0) (c .refusal-place .ensures)
 
 pub orthogonal-words-spec : {M : Type 1} → statement M
 orthogonal-words-spec =
