@@ -1,4 +1,4 @@
--- Where a walk may start: the test and what it tells.
+-- Where a walk may start: the test, and what it shows.
 -- Assumes nothing.
 use mathlib.Core.Bool.{Bool, true, false, not}
 use mathlib.Core.Path.{_≡_, refl, sym, ap, _∙_, subst}

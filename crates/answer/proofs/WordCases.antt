@@ -17,7 +17,7 @@ minus-one = refl
 minus-256 : bitsOf (negsuc 255) ≡ 0xffffff00
 minus-256 = refl
 
--- a refused answer holds number and place, all else 0
+-- a refused answer holds number and place, and 0 in all other words
 walk-refused : answerWords (Answer.Refused (BadDigit 7)) ≡ 4 ∷ 7 ∷ 0 ∷ 0 ∷ 0 ∷ 0 ∷ 0 ∷ 0 ∷ 0 ∷ 0 ∷ 0 ∷ []
 walk-refused = refl
 

@@ -18,7 +18,7 @@ mostRecords = 8 * (mostSteps + 1) + 68
 abbrev pub mostPairRecords : ℕ
 mostPairRecords = 2 * mostRecords
 
--- j and k where there is no meeting
+-- j and k if there is no meeting
 abbrev pub noMeeting : ℕ
 noMeeting = 65535
 

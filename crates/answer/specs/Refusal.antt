@@ -54,7 +54,7 @@ refusalPlace (UnknownParty i) = i
 refusalPlace SpanRoom = 0
 refusalPlace GridSize = 0
 
--- the number and the place of a judgement: 0 for both where nothing is refused
+-- the number and the place of a judgement: 0 for both if nothing is refused
 abbrev pub judgedNumber : Judged → ℕ
 judgedNumber Good = 0
 judgedNumber (Refused r) = refusalNumber r

@@ -15,7 +15,7 @@ factsWords f =
     0 ∷ 0 ∷ verdictNumber (f .verdict) ∷ f .steps ∷ f .nodes ∷ f .corners ∷ f .j ∷ f .k
     ∷ bitsOf (f .area) ∷ bitsOf (f .last .0) ∷ bitsOf (f .last .1) ∷ []
 
--- a refused answer holds number and place, all else 0; an accepted one holds 0 for both
+-- a refused answer holds number and place, and 0 in all other words; an accepted one holds 0 for both
 abbrev pub answerWords : Answer → List ℕ
 answerWords (Answer.Accepted f) = factsWords f
 answerWords (Answer.Refused r) = refusalNumber r ∷ refusalPlace r ∷ 0 ∷ 0 ∷ 0 ∷ 0 ∷ 0 ∷ 0 ∷ 0 ∷ 0 ∷ 0 ∷ []

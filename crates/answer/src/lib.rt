@@ -1,5 +1,5 @@
-// What the calls answer, the numbers of refusals and verdicts (no other function tells one refusal from another), and where a
-// walk may start.
+// What the calls answer, the numbers of refusals and verdicts (no other function distinguishes one refusal from another), and
+// where a walk may start.
 use grid::Corner;
 ghost use mathlib.Core.Path.{_≡_};
 ghost use Prim.Native.Nat.{_<_};
@@ -68,7 +68,7 @@ pub enum Answer {
     Refused(Refusal),
 }
 
-// The answer of a call that lists: how many corners or bytes there are.
+// The answer of a call that counts: how many corners, steps, bytes or spans there are; or 1 for yes and 0 for no.
 pub enum Counted {
     Many(usize),
     Refused(Refusal),

@@ -6,7 +6,7 @@ use lib.IntN.{pos, negsuc}
 use Rattle.grid.specs.Grid.{corner, origin}
 use Rattle.trace.specs.Verdict.{sweepFrom, areaOf}
 use Rattle.panels.specs.Box.{panelSum}
-use Rattle.panels.specs.Outline.{backward}
+use Rattle.panels.specs.Moved.{backward}
 use Rattle.panels.proofs.PanelCases.{p2, p3, p11, eight, twice, u, spiral}
 
 -- rooms: P2, P3, P2 far from the origin, a U and a spiral

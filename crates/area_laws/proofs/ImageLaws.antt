@@ -9,7 +9,7 @@ use Rattle.int_laws.proofs.RingLaws.{ring, v, k, _⊕_, _⊖_, _⊗_, ⊝}
 use Rattle.grid.specs.declared.Corner.{Corner}
 use Rattle.grid.specs.Grid.{corner, stepped, endFrom}
 use Rattle.trace.specs.Verdict.{sweepFrom}
-use Rattle.panels.specs.Outline.{turned, mirrored, flipped}
+use Rattle.panels.specs.Moved.{turned, mirrored, flipped}
 use Rattle.area_laws.proofs.SweepLaws.{straight}
 
 -- t carries the steps as f carries the corners

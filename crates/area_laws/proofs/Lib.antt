@@ -2,7 +2,7 @@
 pub mod AreaCases
 pub mod SweepLaws
 pub mod ImageLaws
-pub mod OutlineLaws
+pub mod MovedLaws
 pub mod SumLaws
 pub mod BoxLaws
 pub mod PanelLaws

@@ -19,7 +19,7 @@ module _ {A : Type 0} where
   sum-zero f h [] = refl
   sum-zero f h (x ∷ l) = ap₂ _+ℤ_ (h x) (sum-zero f h l)
 
-  -- f is s where a test passes, and g besides
+  -- f is s if a test passes, and g besides
   sum-tally : (f g : A → ℤ) (s : ℤ) (t : A → Bool) → ((x : A) → f x ≡ (s *ℤ pos (tally (t x))) +ℤ g x) → (l : List A) → sumOf f l ≡ (s *ℤ pos (count t l)) +ℤ sumOf g l
   sum-tally f g s t h [] = ring 1 (s ∷ []) (k (pos 0)) (v 0 ⊗ k (pos 0) ⊕ k (pos 0)) tt
   sum-tally f g s t h (x ∷ l) =

@@ -1,4 +1,4 @@
--- What the pass over a chain tells of the walk's box.
+-- What the pass over a chain finds of the walk's box.
 -- Assumes nothing.
 use mathlib.Core.Path.{_≡_}
 use mathlib.Core.Bool.{Bool}

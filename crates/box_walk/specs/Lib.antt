@@ -1,2 +1,2 @@
--- What the pass over a chain tells of the walk's box.
+-- What the pass over a chain finds of the walk's box.
 pub mod Boxed

@@ -6,7 +6,7 @@ use Prim.Native.Nat.{ℕ}
 use Rattle.grid.specs.declared.Corner.{Corner}
 use Rattle.grid.specs.Grid.{origin, cornersFrom}
 use Rattle.hull.specs.Hull.{HullIs}
-use Rattle.hull_laws.specs.Outline.{hullOf}
+use Rattle.hull_laws.specs.Chain.{hullOf}
 use Rattle.hull_laws.proofs.HullCases.{hull-of-none, hull-of-022, hull-of-001100322223}
 use Rattle.hull_laws.proofs.HullLaws.{hullOf-hull}
 use Rattle.cases.specs.Rows.{Worked, rows}

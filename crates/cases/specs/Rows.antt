@@ -33,11 +33,11 @@ pub data Fact : Type 0 where
   -- the node of this number is this corner
   nodeIs : ℕ → Corner → Fact
   visitsAre : Corner → ℕ → Fact
-  -- the record of the node of this number, in a table of so many records
+  -- the record of the node of this number, in a table of this many records
   recordIs : ℕ → ℕ → List ℕ → Fact
   -- the step of the link from a corner in a direction
   linkIs : Corner → ℕ → ℕ → Fact
-  -- with so many records: the refusal's number and place
+  -- with this many records: the refusal's number and place
   judgedAs : ℕ → ℕ → ℕ → Fact
 
 -- the corners p0 to pn of the surviving steps

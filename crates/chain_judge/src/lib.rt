@@ -25,7 +25,7 @@ fn fault(chain: &[u8]) -> Judged
     Judged::Good
 }
 
-// The same, in one pass without a test where there is none.
+// The same, but bytes are looked at one by one only if something is wrong.
 fn judge_steps(chain: &[u8]) -> Judged
     ensures { λ r. ⌜ r ≡ chainJudged 0 (now (chain .entry)) ⌝ }
 {

@@ -43,7 +43,7 @@ module _ (x0 y0 : ℤ) where
   spot-step x y (suc (suc zero)) h g = corner-eq (stepped 2 (spot x0 y0 (x, y))) (spot x0 y0 (x - 1, y)) (west-one x0 x h) refl
   spot-step x y (suc (suc (suc d))) h g = corner-eq (stepped 3 (spot x0 y0 (x, y))) (spot x0 y0 (x, y - 1)) refl (west-one y0 y g)
 
-  -- the corners of a walk with room for its steps on every side
+  -- the corners of a walk with space for its steps on every side
   pub trail-corners : (x y : ℕ) (ds : List ℕ) → length ds ≤ x → length ds ≤ y → cornersFrom (spot x0 y0 (x, y)) ds ≡ map (spot x0 y0) (trail x y ds)
   unfolding trail
   trail-corners x y [] h g = refl

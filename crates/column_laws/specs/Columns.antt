@@ -7,7 +7,7 @@ use Rattle.grid.specs.declared.Corner.{Corner}
 use Rattle.grid.specs.Grid.{corner, eastOf, northOf}
 use Rattle.answer.specs.Limits.{mostSteps}
 
--- the column and the height of a walk's start: it has room on every side
+-- the column and the height of a walk's start: it has space on every side
 abbrev pub middle : ℕ
 middle = mostSteps
 
@@ -51,6 +51,6 @@ unfoldable pub eastFrom : ℕ → List ℕ → ℕ
 eastFrom x [] = x
 eastFrom x (d ∷ ds) = max x (eastFrom (colAfter x d) ds)
 
--- the corner at column and height v, where (0,0) stands for (x0,y0)
+-- the corner at column and height v, if (0,0) stands for (x0,y0)
 abbrev pub spot : ℤ → ℤ → ℕ × ℕ → Corner
 spot x0 y0 v = corner (x0 +ℤ pos (v .0)) (y0 +ℤ pos (v .1))

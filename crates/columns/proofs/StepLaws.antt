@@ -1,4 +1,4 @@
--- Where a step leads, by its digit: a test counts 1 where it holds.
+-- Where a step leads, by its digit: a test counts 1 if it holds.
 -- Assumes nothing.
 use mathlib.Core.Path.{_≡_, ap}
 use mathlib.Core.Bool.{Bool, true, false}
@@ -33,7 +33,7 @@ row-by y (suc zero) h = omega arith
 row-by y (suc (suc zero)) h = omega arith
 row-by y (suc (suc (suc d))) h = omega (arith, other (suc (suc (suc d))) 1 (λ e. omega arith), ap boolByte (lt-ltb 2 (suc (suc (suc d))) (omega arith)))
 
--- the same by the tables: what they add comes to one less where a step goes back
+-- the same by the tables: what they add comes to one less if a step goes back
 pub across-by : (x d : ℕ) → d < 4 → 0 < x → x ≤ top → (x + getD eastSteps d 0) % 2 ^ 32 ≡ colAfter x d
 unfolding colAfter
 across-by x zero h p q = omega arith

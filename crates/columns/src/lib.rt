@@ -21,7 +21,7 @@ impl Columns {
     // the greatest height, from which the walk turned by half a turn counts
     pub const TOP: u16 = 2 * Columns::LEVEL;
 
-    // the sizes of the two lesser working stores, in steps or in columns
+    // the sizes of the two smaller working stores, in steps or in columns
     pub const NARROW: usize = 256;
 
     pub const WIDER: usize = 2048;

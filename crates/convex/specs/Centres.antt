@@ -8,7 +8,7 @@ pub record MeanOf (ps : List Panel) (q : Panel) : Type 0 where
   pub mean-x : sumOf (λ p. p .0) ps ≡ pos (length ps) *ℤ q .0
   pub mean-y : sumOf (λ p. p .1) ps ≡ pos (length ps) *ℤ q .1
 
--- the centre of q lies in the convex hull of the centres of the panels of which S holds: q is the mean of a list of them
+-- the centre of q lies in the convex hull of the centres of the panels that have S: q is the mean of a list of them
 pub record InHull (S : Panel → Type 0) (q : Panel) : Type 0 where
   pub panels : List Panel
   pub all : (p : Panel) → List·Memᴰ p panels → S p

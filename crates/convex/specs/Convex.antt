@@ -1,4 +1,4 @@
--- When a part is convex, when a room is, and the promise of the call that tells it (RULES 17). Assumes nothing.
+-- When a part is convex, when a room is, and the promise of its call (RULES 17). Assumes nothing.
 use Rattle.lists.specs.Lists.{_≡_, Bool, true, List, List·Memᴰ, _↔_, ℕ, pos, _≤ℤ_, _<ℤ_, tally, Below}
 use Rattle.grid.specs.{declared.Corner.Corner, Grid.origin, Grid.cornersFrom}
 use Rattle.answer.specs.declared.{Counted.Counted, Judged.the-variants.Good}
@@ -25,7 +25,7 @@ pub record ConvexPart (w : List ℕ) : Type 0 where
   pub letters : Below 2 w
   pub none : (q : Corner) → Between (cornersFrom origin w) q → ⊥
 
--- a room is convex where each of its four parts is, turned back to the first
+-- a room is convex if each of its four parts is, turned back to the first
 pub record ConvexRoom (c : Corner) (ds : List ℕ) : Type 0 where
   pub one : List ℕ
   pub two : List ℕ
@@ -37,12 +37,12 @@ pub record ConvexRoom (c : Corner) (ds : List ℕ) : Type 0 where
   pub third : ConvexPart (turnedBy 2 three)
   pub fourth : ConvexPart (turnedBy 3 four)
 
--- b says yes exactly where the room is convex
+-- b says yes exactly if the room is convex
 abbrev pub ConvexIs : Corner → List ℕ → Bool → Type 0
 ConvexIs c ds b = (b ≡ true) ↔ ConvexRoom c ds
 
--- the promise of the call: 1 for yes and 0 for no, unless it is refused where a room is asked for
-pub record ConvexCall (s : Corner) (ds : List ℕ) (r : Counted) : Type 0 where
+-- the promise of the call: 1 for yes and 0 for no, unless it is refused as every call on a room refuses
+pub record ConvexCall (c : Corner) (ds : List ℕ) (r : Counted) : Type 0 where
   pub says : Bool
-  pub convex : asRoomJudged s ds ≡ Good → ConvexIs s ds says
-  pub answer : r ≡ countedOf (asRoomJudged s ds) (tally says)
+  pub convex : asRoomJudged c ds ≡ Good → ConvexIs c ds says
+  pub answer : r ≡ countedOf (asRoomJudged c ds) (tally says)

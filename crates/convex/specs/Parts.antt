@@ -2,14 +2,14 @@
 use Rattle.lists.specs.Lists.{_≡_, cond, List, [], _∷_, _++_, length, List·Memᴰ, _⊎_, ℕ, zero, suc, _+_, _%_, _<_, pos, _≤ℤ_, _<ℤ_, ltZ}
 use Rattle.grid.specs.{declared.Corner.Corner, Grid.cornersFrom, Grid.endFrom}
 use Rattle.trace.specs.Verdict.{sweepFrom}
-use Rattle.panels.specs.Outline.{backward}
+use Rattle.panels.specs.Moved.{backward}
 
 -- steps turned by i quarter turns to the left: one turn takes east to north
 abbrev pub turnedBy : ℕ → List ℕ → List ℕ
 turnedBy i [] = []
 turnedBy i (d ∷ ds) = (d + i) % 4 ∷ turnedBy i ds
 
--- the steps of a room travelled clockwise: backwards where its area is above 0
+-- the steps of a room travelled clockwise: backwards if its area is above 0
 abbrev pub clockwise : Corner → List ℕ → List ℕ
 clockwise c ds = cond (ltZ (pos 0) (sweepFrom c ds)) (backward ds) ds
 

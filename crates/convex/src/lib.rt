@@ -1,1 +1,1 @@
-// What a convex room is, and what the call that tells it promises. There is no code here.
+// What a convex room is, and what its call promises. There is no code here.

@@ -18,9 +18,9 @@ use Rattle.grid.proofs.StepLaws.{endFrom-append}
 use Rattle.trace.specs.Verdict.{IsRoom, sweepFrom}
 use Rattle.trace.proofs.VerdictLaws.{area-room}
 use Rattle.panels.specs.Inside.{Inside, InsideRight}
-use Rattle.panels.specs.Outline.{turned, backward}
+use Rattle.panels.specs.Moved.{turned, backward}
 use Rattle.area_laws.proofs.ImageLaws.{end-image, turn, sweep-turned}
-use Rattle.area_laws.proofs.OutlineLaws.{sweep-started}
+use Rattle.area_laws.proofs.MovedLaws.{sweep-started}
 use Rattle.room_laws.proofs.RoomLaws.{room-sign}
 use Rattle.convex.specs.Parts.{turnedBy, clockwise, ComesFirst, Extremal, PartIs}
 use Rattle.convex.specs.Convex.{ConvexPart, ConvexRoom}

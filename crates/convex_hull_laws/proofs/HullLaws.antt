@@ -15,9 +15,9 @@ use Rattle.grid.specs.declared.{Corner.Corner, Panel.Panel}
 use Rattle.grid.specs.Grid.{cornersFrom, endFrom}
 use Rattle.trace.specs.Verdict.{IsRoom, sweepFrom}
 use Rattle.panels.specs.Inside.{Inside}
-use Rattle.panels.specs.Outline.{turned}
+use Rattle.panels.specs.Moved.{turned}
 use Rattle.area_laws.proofs.ImageLaws.{end-image, turn, sweep-turned}
-use Rattle.area_laws.proofs.OutlineLaws.{sweep-started}
+use Rattle.area_laws.proofs.MovedLaws.{sweep-started}
 use Rattle.convex.specs.Centres.{InHull}
 use Rattle.convex.specs.Parts.{clockwise, Split}
 use Rattle.convex.specs.Convex.{ConvexPart, ConvexRoom}

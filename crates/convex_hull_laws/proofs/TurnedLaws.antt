@@ -24,11 +24,11 @@ use Rattle.trace.specs.Verdict.{IsRoom}
 use Rattle.panels.specs.Edges.{Edge, edgeOf, edgesFrom, beside, surplusOf}
 use Rattle.panels.specs.Box.{boxOf}
 use Rattle.panels.specs.Inside.{edgesBeside, Inside, leftOf, rightOf}
-use Rattle.panels.specs.Outline.{turned, backward}
+use Rattle.panels.specs.Moved.{turned, backward}
 use Rattle.area_laws.proofs.AreaLaws.{surplus-inside}
 use Rattle.area_laws.proofs.BoxLaws.{box-holds, box-met, edges-held}
 use Rattle.area_laws.proofs.ImageLaws.{end-image, turn}
-use Rattle.area_laws.proofs.OutlineLaws.{end-backward}
+use Rattle.area_laws.proofs.MovedLaws.{end-backward}
 use Rattle.room_laws.proofs.AcrossLaws.{along, walks, across}
 use Rattle.convex_laws.proofs.TurnLaws.{quarter, image-in}
 

@@ -16,8 +16,8 @@ use Rattle.grid.specs.Grid.{stepped, cornersFrom, endFrom, cornerAt, back}
 use Rattle.grid.proofs.StepLaws.{endFrom-append, cornerAt-end}
 use Rattle.trace.specs.Meeting.{Meets}
 use Rattle.trace.specs.Verdict.{IsRoom, sweepFrom}
-use Rattle.panels.specs.Outline.{startedAt, backward}
-use Rattle.area_laws.proofs.OutlineLaws.{end-backward, length-backward}
+use Rattle.panels.specs.Moved.{startedAt, backward}
+use Rattle.area_laws.proofs.MovedLaws.{end-backward, length-backward}
 use Rattle.convex.specs.Parts.{clockwise}
 
 -- the corners are those at the places
@@ -33,7 +33,7 @@ place-in c [] (suc i) h = let z : ⊥ = omega arith in absurd z
 place-in c (d ∷ ds) zero h = List·Memᴰ·head refl
 place-in c (d ∷ ds) (suc i) h = List·Memᴰ·tail (place-in (stepped d c) ds i (omega arith))
 
--- where a room has one corner at two places, they are one place or its ends
+-- if a room has one corner at two places, they are one place or its ends
 pub room-places : (c : Corner) (ds : List ℕ) → IsRoom c ds → (i j : ℕ) → i ≤ length ds → j ≤ length ds → cornerAt c ds i ≡ cornerAt c ds j → (i ≡ j) ⊎ (((i ≡ 0) × (j ≡ length ds)) ⊎ ((i ≡ length ds) × (j ≡ 0)))
 room-places c ds r i j h g e = go (decLt i j) (decLt j i)
   where

@@ -15,13 +15,13 @@ use Rattle.grid.specs.declared.Corner.{Corner}
 use Rattle.grid.specs.Grid.{stepped, endFrom, cornersFrom, cornerAt}
 use Rattle.grid.proofs.StepLaws.{endFrom-append}
 use Rattle.trace.specs.Verdict.{sweepFrom, IsRoom}
-use Rattle.panels.specs.Outline.{backward}
+use Rattle.panels.specs.Moved.{backward}
 use Rattle.column_laws.specs.Columns.{middle}
 use Rattle.convex.specs.Parts.{turnedBy, clockwise}
 use Rattle.convex.specs.Convex.{ConvexRoom}
 use Rattle.convex_laws.proofs.CycleLaws.{in-place, cut-in, cycle-in, cycle-closed, backward-at, clockwise-room}
 use Rattle.convex_laws.proofs.SplitLaws.{below-clockwise}
-use Rattle.area_laws.proofs.OutlineLaws.{length-backward}
+use Rattle.area_laws.proofs.MovedLaws.{length-backward}
 use Rattle.lists.proofs.BelowLaws.{below-all}
 use Rattle.box_laws.specs.Box.{columnAt, heightAt, boxWidth, boxHeight, Boxable}
 use Rattle.box_laws.proofs.PlaceLaws.{corner-in, corner-column, corner-height}

@@ -18,7 +18,7 @@ use Rattle.int_laws.proofs.SignLaws.{h≤, h<, hw, _⊞_, _⊠_, _⊡_, by<÷}
 use Rattle.grid.specs.declared.Corner.{Corner}
 use Rattle.grid.specs.Grid.{corner, numbers}
 use Rattle.hull.specs.Hull.{OnLeft, AllLeft, cross}
-use Rattle.hull_laws.specs.Outline.{chainFrom, cutAt}
+use Rattle.hull_laws.specs.Chain.{chainFrom, cutAt}
 use Rattle.column_laws.specs.Columns.{spot}
 use Rattle.hull_laws.proofs.ChainLaws.{Chain, chain-ok}
 use Rattle.hull_laws.proofs.CornerLaws.{X, cr, O}
@@ -27,7 +27,8 @@ use Rattle.hull_laws.proofs.RoundLaws.{lastOf}
 use Rattle.hull_laws.proofs.SinkLaws.{upFrom, at, upFrom-in, cols-sorted}
 use Rattle.convex_laws.specs.Level.{level, levels, levelAlong, levelOf}
 
--- what lies right of the way from p to b, both of which a and z lie on or left of, lies right of the way from a to z when it stands between them
+-- what lies right of the way from p to b, if a and z lie on it or left of it, lies right of the way from a to z when it stands
+-- between them
 right-chord : (p b a z q : Corner) → p .0 <ℤ b .0 → OnLeft p b a → OnLeft p b z → cross p b q <ℤ pos 0 → a .0 <ℤ q .0 → q .0 <ℤ z .0 → cross a z q <ℤ pos 0
 unfolding cross
 right-chord p b a z q i f g h l r =

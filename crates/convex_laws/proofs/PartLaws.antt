@@ -24,7 +24,7 @@ use Rattle.convex.specs.Convex.{Between, ConvexPart}
 use Rattle.convex_laws.specs.Level.{depthsFrom, areLetters, level, levelOf, convexPart}
 use Rattle.convex_laws.proofs.LevelLaws.{Level, both, two, levelOf-exactly}
 
--- the highest corner of column j, where column 0 stands at x and depths are counted down from h
+-- the highest corner of column j, if column 0 stands at x and depths are counted down from h
 abbrev top : ℤ → ℤ → List ℕ → ℕ → Corner
 top x h ys j = corner (x +ℤ pos j) (h -ℤ pos (getD ys j 0))
 
@@ -107,7 +107,7 @@ module _ (x h : ℤ) (ys : List ℕ) (p c b : ℕ) (l : p < c) (r : c < b) where
       back′ : c ≡ p + (c - p)
       back′ = omega arith
 
-  -- the test passes where the next grid point lies above the line
+  -- the test passes if the next grid point lies above the line
   level-above : level ys p b c ≡ true → pos 0 <ℤ cross (top x h ys p) (top x h ys b) (next x h ys c)
   unfolding level
   level-above t = subst (λ (z : ℤ). pos 0 <ℤ z) (sym cross-cols) (more ((b - p) * getD ys c 0 + (c - p) * getD ys p 0) ((c - p) * getD ys b 0 + (b - p) * getD ys p 0 + (b - p)) t)
@@ -115,7 +115,7 @@ module _ (x h : ℤ) (ys : List ℕ) (p c b : ℕ) (l : p < c) (r : c < b) where
       more : (m n : ℕ) → ltb m n ≡ true → pos 0 <ℤ (pos n -ℤ pos m)
       more m n t = omega (zarith, ltb-true m n t, bal- (pos n) (pos m))
 
-  -- and fails where it does not
+  -- and fails if it does not
   level-under : level ys p b c ≡ false → cross (top x h ys p) (top x h ys b) (next x h ys c) ≤ℤ pos 0
   unfolding level
   level-under t = subst (λ (z : ℤ). z ≤ℤ pos 0) (sym cross-cols) (less ((b - p) * getD ys c 0 + (c - p) * getD ys p 0) ((c - p) * getD ys b 0 + (b - p) * getD ys p 0 + (b - p)) t)
@@ -131,7 +131,7 @@ cross-falls a b q ay by qy i j l m n =
     by≤ ((v 1 ⊖ v 0) ⊗ (v 8 ⊖ v 6) ⊖ (v 7 ⊖ v 6) ⊗ (v 2 ⊖ v 0)) ((v 1 ⊖ v 0) ⊗ (v 5 ⊖ v 3) ⊖ (v 4 ⊖ v 3) ⊗ (v 2 ⊖ v 0))
     (hw 9 ρ (v 0) (v 1) (omega zarith) ⊠ h≤ 9 ρ (v 8) (v 5) l ⊞ hw 9 ρ (v 2) (v 1) n ⊠ h≤ 9 ρ (v 3) (v 6) i ⊞ hw 9 ρ (v 0) (v 2) m ⊠ h≤ 9 ρ (v 4) (v 7) j) tt
 
--- the same, where the columns are given apart
+-- the same, if the columns are given apart
 not-under : (a b q : Corner) (ax bx qx ay by qy : ℤ) → a .0 ≡ ax → b .0 ≡ bx → q .0 ≡ qx → a .1 ≤ℤ ay → b .1 ≤ℤ by → qy ≤ℤ q .1 → a .0 <ℤ q .0 → q .0 <ℤ b .0 → pos 0 <ℤ cross (corner ax ay) (corner bx by) (corner qx qy) → cross a b q ≤ℤ pos 0 → ⊥
 not-under a b q ax bx qx ay by qy e f g i j l m n t s =
     let x = subst (λ (z : ℤ). pos 0 <ℤ cross (corner z ay) (corner bx by) (corner qx qy)) (sym e) t in
@@ -175,7 +175,7 @@ module _ (w : List ℕ) (letters : Below 2 w) where
   unfolding ys
   has-top = under-tops h w letters origin (length w) (omega arith) begins
 
-  -- nothing lies between where the test passes
+  -- nothing lies between if the test passes
   level-none : Level ys → (q : Corner) → Between (cornersFrom origin w) q → ⊥
   level-none f q t = go (has-top (t .a) (t .from)) (has-top (t .b) (t .to))
     where
@@ -197,7 +197,7 @@ module _ (w : List ℕ) (letters : Below 2 w) where
               over : (h -ℤ pos (getD ys m 0)) <ℤ q .1 → ((h -ℤ pos (getD ys m 0)) +ℤ pos 1) ≤ℤ q .1
               over g = omega (zarith, bal+ (h -ℤ pos (getD ys m 0)) (pos 1))
 
-  -- and where nothing lies between it passes
+  -- and if nothing lies between it passes
   none-level : ((q : Corner) → Between (cornersFrom origin w) q → ⊥) → Level ys
   none-level f a c b l r m = go (level ys a b c) refl
     where

@@ -12,13 +12,13 @@ use lib.IntN.{pos}
 use lib.Signed.{ltZ}
 use lib.ListN.{length, take, drop, length-append, take-append-drop}
 use lib.Seq.{take-at, drop-at, take-add, drop-drop}
-use Rattle.area_laws.proofs.OutlineLaws.{length-backward}
+use Rattle.area_laws.proofs.MovedLaws.{length-backward}
 use Rattle.grid.specs.declared.Corner.{Corner}
 use Rattle.grid.specs.Grid.{cornersFrom, endFrom, cornerAt}
 use Rattle.grid.proofs.StepLaws.{endFrom-append}
 use Rattle.trace.specs.Verdict.{IsRoom, sweepFrom}
 use Rattle.column_laws.specs.Columns.{middle}
-use Rattle.panels.specs.Outline.{startedAt, backward}
+use Rattle.panels.specs.Moved.{startedAt, backward}
 use Rattle.convex.specs.Parts.{turnedBy, clockwise, LowestLeft, LeftmostTop, HighestRight, RightmostBottom, Extremal, Split}
 use Rattle.convex.specs.Convex.{ConvexPart, ConvexRoom, ConvexIs}
 use Rattle.convex_laws.specs.Level.{convexPart}

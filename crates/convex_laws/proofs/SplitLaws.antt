@@ -18,7 +18,7 @@ use Rattle.grid.specs.declared.Corner.{Corner}
 use Rattle.grid.specs.Grid.{stepped, cornersFrom, endFrom, cornerAt}
 use Rattle.grid.proofs.StepLaws.{endFrom-append}
 use Rattle.trace.specs.Verdict.{IsRoom, sweepFrom}
-use Rattle.panels.specs.Outline.{backward}
+use Rattle.panels.specs.Moved.{backward}
 use Rattle.convex.specs.Parts.{turnedBy, clockwise, LowestLeft, LeftmostTop, HighestRight, RightmostBottom, ComesFirst, Extremal, PartIs}
 use Rattle.convex.specs.Convex.{ConvexPart, ConvexRoom}
 use Rattle.convex_laws.specs.Level.{convexPart}
@@ -167,7 +167,7 @@ part-some c ds r i = go (first-some ((i + 1) % 4) a ws)
 
 -- ---- and only one
 
--- a walk that has not come round stands at each corner once
+-- a walk that did not yet come round stands at each corner once
 stop-one : (a : Corner) (ws : List ℕ) → IsRoom a ws → (w r w′ r′ : List ℕ) → w ++ r ≡ ws → w′ ++ r′ ≡ ws → 0 < length r → 0 < length r′ → endFrom a w ≡ endFrom a w′ → w ≡ w′
 stop-one a ws room w r w′ r′ e e′ l l′ h = sym (first w r e) ∙ ap (λ (n : ℕ). take n ws) same ∙ first w′ r′ e′
   where

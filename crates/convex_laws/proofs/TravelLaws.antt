@@ -18,8 +18,8 @@ use Rattle.grid.proofs.StepLaws.{endFrom-append, back-back}
 use Rattle.trace.specs.Verdict.{IsRoom, sweepFrom}
 use Rattle.trace.proofs.VerdictLaws.{area-room}
 use Rattle.panels.specs.Inside.{InsideRight}
-use Rattle.panels.specs.Outline.{startedAt, backward}
-use Rattle.area_laws.proofs.OutlineLaws.{sweep-started, sweep-backward, end-backward}
+use Rattle.panels.specs.Moved.{startedAt, backward}
+use Rattle.area_laws.proofs.MovedLaws.{sweep-started, sweep-backward, end-backward}
 use Rattle.room_laws.proofs.RoomLaws.{room-magnitude, room-some, room-sign}
 use Rattle.convex.specs.Parts.{turnedBy, clockwise, LowestLeft, LeftmostTop, HighestRight, RightmostBottom, Extremal, Split}
 use Rattle.convex.specs.Convex.{ConvexPart, ConvexRoom}

@@ -14,9 +14,9 @@ use Rattle.grid.specs.declared.Corner.{Corner}
 use Rattle.grid.specs.Grid.{corner, stepped, cornersFrom, endFrom, back}
 use Rattle.grid.proofs.StepLaws.{back-small, endFrom-append}
 use Rattle.trace.specs.Verdict.{sweepFrom}
-use Rattle.panels.specs.Outline.{turned, backward}
+use Rattle.panels.specs.Moved.{turned, backward}
 use Rattle.area_laws.proofs.ImageLaws.{Image, end-image, moved, move, turn, sweep-moved, sweep-turned}
-use Rattle.area_laws.proofs.OutlineLaws.{end-backward}
+use Rattle.area_laws.proofs.MovedLaws.{end-backward}
 use Rattle.convex.specs.Parts.{turnedBy, clockwise, LowestLeft, LeftmostTop, HighestRight, RightmostBottom, Extremal, Split}
 use Rattle.convex.specs.Convex.{ConvexPart, ConvexRoom}
 use Rattle.convex_laws.proofs.CycleLaws.{cycle-closed}

@@ -1,4 +1,4 @@
--- The sums of the columns tell the sign of the area.
+-- The sums of the columns show the sign of the area.
 -- Assumes nothing.
 use mathlib.Core.List.{List, [], _∷_}
 use mathlib.Core.Path.{_≡_, refl, sym, ap, ap₂, _∙_}
@@ -61,7 +61,7 @@ above-zero a b = go (decLt b a)
     go (yes h) = lt-ltb b a h ∙ sym (true-lt (pos 0) (pos a -ℤ pos b) (omega (zarith, bal- (pos a) (pos b))))
     go (no h) = le-ltb b a (omega arith) ∙ sym (false-lt (pos 0) (pos a -ℤ pos b) (omega (zarith, bal- (pos a) (pos b))))
 
--- so the greater sum tells the way
+-- so the greater sum shows the way
 pub sums-way : (ds : List ℕ) → length ds ≤ middle → Leftward ds (ltb (columnSum southIn middle ds) (columnSum northIn middle ds))
 sums-way ds h c e =
     above-zero (columnSum northIn middle ds) (columnSum southIn middle ds)

@@ -6,7 +6,7 @@ use Prim.Native.Nat.{ℕ, _-_}
 use lib.Dec.{leb}
 use lib.ListN.{take, drop}
 use Rattle.grid.specs.declared.Corner.{Corner}
-use Rattle.panels.specs.Outline.{startedAt}
+use Rattle.panels.specs.Moved.{startedAt}
 use Rattle.convex.specs.Parts.{turnedBy, clockwise}
 use Rattle.convex_laws.specs.Level.{convexPart}
 use Rattle.convex_laws.specs.Place.{placeOf}

@@ -7,9 +7,9 @@ use mathlib.Core.List.{List, [], _∷_}
 use Prim.Native.Nat.{ℕ, zero, suc, _+_, _*_, _-_}
 use lib.Dec.{ltb}
 use lib.ListN.{length, getD}
-use Rattle.hull_laws.specs.Outline.{chainFrom}
+use Rattle.hull_laws.specs.Chain.{chainFrom}
 
--- how deep the highest corner of each column lies, where the part begins y deep: a column is left by a step 0
+-- how deep the highest corner of each column lies, if the part begins y deep: a column is left by a step 0
 unfoldable pub depthsFrom : ℕ → List ℕ → List ℕ
 depthsFrom y [] = y ∷ []
 depthsFrom y (zero ∷ w) = y ∷ depthsFrom y w

@@ -10,15 +10,15 @@ use Rattle.grid.specs.declared.Corner.{Corner}
 use Rattle.grid.specs.Grid.{endFrom}
 use Rattle.trace.specs.Verdict.{sweepFrom}
 use Rattle.column_laws.specs.Columns.{colAfter}
-use Rattle.panels.specs.Outline.{backward}
+use Rattle.panels.specs.Moved.{backward}
 
--- the column x where the step d leads north, else 0
+-- the column x if the step d leads north, else 0
 abbrev pub northIn : ℕ → ℕ → ℕ
 northIn x zero = 0
 northIn x (suc zero) = x
 northIn x (suc (suc d)) = 0
 
--- the column x where it leads south, else 0
+-- the column x if it leads south, else 0
 abbrev pub southIn : ℕ → ℕ → ℕ
 southIn x zero = 0
 southIn x (suc zero) = 0

@@ -11,7 +11,7 @@ use lib.ListN.{length, getD, take, drop, set, length-drop, drop-of-length-le}
 use lib.Seq.{getD-drop, drop-cons, take-set-le, take-suc-set, append-snoc}
 use borrow.Author.Tests.{ne-eqb, lt-ltb, le-ltb}
 use mir.Val.{boolByte}
-use Rattle.hull_laws.specs.Outline.{chainFrom}
+use Rattle.hull_laws.specs.Chain.{chainFrom}
 use Rattle.hull_laws.proofs.StackLaws.{stack-in}
 use Rattle.convex.specs.Parts.{turnedBy}
 use Rattle.convex_laws.specs.Level.{depthsFrom, areLetters, level, levels, levelAlong, levelOf, convexPart}

@@ -21,7 +21,7 @@ by-one x n e = ap (λ (m : ℕ). x * m) e ∙ omega arith
 by-none : (x n : ℕ) → n ≡ 0 → x * n ≡ 0
 by-none x n e = ap (λ (m : ℕ). x * m) e ∙ omega arith
 
--- a column times a test that counts 1 where it holds
+-- a column times a test that counts 1 if it holds
 pub times-le : (x : ℕ) (b : Bool) → x * boolByte b ≤ x
 times-le x true = omega (arith, by-one x 1 refl)
 times-le x false = omega (arith, by-none x 0 refl)

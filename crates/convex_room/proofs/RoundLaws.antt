@@ -9,12 +9,12 @@ use native.Mathlib.Omega.{arith}
 use lib.Dec.{ltb}
 use lib.ListN.{length, getD, take, drop, set, replicate, length-replicate, length-take, length-drop, length-set, List·getD-append, List·getD-eq-default}
 use lib.Seq.{getD-take, getD-drop, getD-append-seam, getD-append-add, getD-set-same, getD-set-other, ext-getD}
-use Rattle.area_laws.proofs.OutlineLaws.{length-backward}
+use Rattle.area_laws.proofs.MovedLaws.{length-backward}
 use Rattle.grid.specs.declared.Corner.{Corner}
 use Rattle.grid.specs.Grid.{origin, endFrom, back}
 use Rattle.grid.proofs.StepLaws.{back-mod, back-small}
 use Rattle.column_laws.specs.Columns.{middle}
-use Rattle.panels.specs.Outline.{startedAt, backward}
+use Rattle.panels.specs.Moved.{startedAt, backward}
 use Rattle.convex_laws.specs.Place.{placeOf}
 use Rattle.convex_laws.specs.Way.{northIn, southIn, columnSum, travelled}
 use Rattle.convex_laws.specs.Decide.{convexFrom, convexRound, convexOf}

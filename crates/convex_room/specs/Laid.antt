@@ -12,7 +12,7 @@ pub record LaidTwice (w : List ℕ) (n : ℕ) (out : List ℕ) (i : ℕ) : Type 
   pub once : (j : ℕ) → j < i → getD out j 0 ≡ getD w j 0
   pub again : (j : ℕ) → j < i → getD out (n + j) 0 ≡ getD w j 0
 
--- a chain of n steps at most has room to be laid down, and its parts to be judged
+-- the store is large enough to lay down a chain of at most n steps, and to judge its parts
 pub record Roomy (ds out ys s : List ℕ) : Type 0 where
   pub digits : Digits ds
   pub short : length ds ≤ middle

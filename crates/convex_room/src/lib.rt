@@ -103,7 +103,7 @@ fn by_parts(room: &[u8], j: usize, k: usize, l: usize, ys: &mut [u16], s: &mut [
     half(room, k, l, room.len(), 2, ys, s)
 }
 
-// The same where the places are still to be found.
+// The same if the places are still to be found.
 fn from_west(room: &[u8], ys: &mut [u16], s: &mut [u16]) -> bool
     requires { ⌜ Digits (now room) × (length (now room) ≤ middle) × (length (now room) < length (now ys))
         × (length (now room) < length (now s)) × (length (now ys) ≤ 65536) ⌝ }
@@ -210,7 +210,7 @@ fn tell_in(chain: &[u8], b: WalkBox) -> Counted
     counted(decide(chain, width, height))
 }
 
-// Tells whether a room is convex: 1 for yes and 0 for no.
+// Says whether a room is convex: 1 for yes and 0 for no.
 pub fn tell(start: Corner, chain: &[u8]) -> Counted
     ensures { λ r. ⌜ ConvexCall start (now (chain .entry)) r ⌝ }
 {

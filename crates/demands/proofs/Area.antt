@@ -11,10 +11,10 @@ use Rattle.trace.specs.Verdict.{IsRoom, sweepFrom, areaOf}
 use Rattle.panels.specs.Edges.{surplusOf}
 use Rattle.panels.specs.Box.{panelSum}
 use Rattle.panels.specs.Inside.{Inside}
-use Rattle.panels.specs.Outline.{turned, mirrored, flipped, startedAt, backward}
+use Rattle.panels.specs.Moved.{turned, mirrored, flipped, startedAt, backward}
 use Rattle.area_laws.proofs.AreaLaws as areaLaws
 use Rattle.area_laws.proofs.ImageLaws as imageLaws
-use Rattle.area_laws.proofs.OutlineLaws as outlineLaws
+use Rattle.area_laws.proofs.MovedLaws as outlineLaws
 
 -- "the sum of x times the change of y equals the sum over all panels of the bounding box of northward minus southward edges in
 -- that panel's row with x above the panel's"

@@ -107,7 +107,7 @@ decimal-back (suc k) n h =
     go true e i = omega (arith, ltb-true n 10 e)
     go false e i = decimal-snoc 0 (decimalOf k (n / 10)) (48 + n % 10) ∙ omega (arith, i)
 
--- where no minus sign comes first
+-- if no minus sign comes first
 unsigned : (l : List ℕ) → Above 45 l → decimalRead l ≡ pos (decimalFrom 0 l)
 unfolding decimalRead decimalFrom
 unsigned [] a = refl
@@ -250,7 +250,7 @@ module _ (n r i : ℕ) (f : Facts) (bytes : List ℕ) where
       ∙ ap (λ (x : List (List ℕ)). d n ∷ x) (b9 (hexBytes bytes))
       ∙ ap (λ (x : List (List ℕ)). d n ∷ d r ∷ d i ∷ d (verdictNumber (f .verdict)) ∷ d (f .steps) ∷ d (f .nodes) ∷ d (f .corners) ∷ d (f .j) ∷ d (f .k) ∷ a ∷ x) (cells-last (hexBytes bytes) (bytes-above bytes))
 
-  -- where every number has its digits
+  -- if every number has its digits
   module _ (hn : n < 10 ^ mostDecimals) (hr : r < 10 ^ mostDecimals) (hi : i < 10 ^ mostDecimals) (hf : Decimals f) (hb : Below 256 bytes) where
     read : (k m : ℕ) → getD eleven k [] ≡ decimalOf mostDecimals m → m < 10 ^ mostDecimals → numberAt row k ≡ m
     read k m e h = ap (λ (cs : List (List ℕ)). decimalFrom 0 (getD cs k [])) row-cells ∙ ap (decimalFrom 0) e ∙ decimal-back mostDecimals m h

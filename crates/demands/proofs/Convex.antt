@@ -1,6 +1,5 @@
--- What is asked of the call that tells whether a room is convex (RULES 17), as theorems about its promise, `ConvexCall`. Each is
--- proved by naming a law.
--- Assumes nothing.
+-- What is asked of the call that says whether a room is convex (RULES 17), as theorems about its promise, `ConvexCall`. Each is
+-- proved by naming a law. Assumes nothing.
 use mathlib.Core.List.{List, [], _∷_, map}
 use mathlib.Core.Logic.{_↔_}
 use mathlib.Core.Path.{_≡_, ap}
@@ -13,7 +12,7 @@ use Rattle.grid.specs.declared.{Corner.Corner, Panel.Panel}
 use Rattle.grid.specs.Grid.{endFrom, cornerAt}
 use Rattle.trace.specs.Verdict.{IsRoom}
 use Rattle.panels.specs.Inside.{Inside, InsideRight}
-use Rattle.panels.specs.Outline.{turned, startedAt, backward}
+use Rattle.panels.specs.Moved.{turned, startedAt, backward}
 use Rattle.convex.specs.Centres.{InHull}
 use Rattle.convex.specs.Parts.{turnedBy, clockwise, PartIs}
 use Rattle.convex.specs.Convex.{ConvexPart, ConvexRoom, ConvexCall}

@@ -1,4 +1,4 @@
--- The promise of the call that tells whether a room is convex, taken apart.
+-- The promise of the call that says whether a room is convex, taken apart.
 -- Assumes nothing.
 use mathlib.Core.Bool.{Bool, true, false, true≢false}
 use mathlib.Core.List.{List}
@@ -37,7 +37,7 @@ convex-some s ds = (countedOf (asRoomJudged s ds) (tally (convexOf s ds)), recor
     told : asRoomJudged s ds ≡ Good → (convexOf s ds ≡ true) ↔ ConvexRoom s ds
     told e = let r = good-room s ds e in convexOf-exactly s ds (r .room) (omega (arith, good-short 0 ds (omega arith) (r .steps)))
 
--- a count that is told is that of a call with no refusal
+-- a count that is answered is that of a call with no refusal
 counted-good : (j : Judged) (n m : ℕ) → Counted.Many m ≡ countedOf j n → (j ≡ Good) × (m ≡ n)
 counted-good Good n m e = (refl, cc)
 counted-good (Refused r) n m e = absurd (let z : _≡_ {A = ℕ} 0 1 = cc in omega arith)
@@ -60,7 +60,7 @@ module _ {s : Corner} {ds : List ℕ} {r : Counted} (w : ConvexCall s ds r) wher
     λ g. w .answer ∙ ap (λ (j : Judged). countedOf j (tally (w .says))) (room-when s ds (Refused q) .1 g),
   )
 
-  -- what is told of a room
+  -- what is answered for a room
   told : (b : Bool) → w .says ≡ b → GivenRoom s ds Good → r ≡ Counted.Many (tally b)
   told b e g = w .answer ∙ ap₂ (λ (j : Judged) (x : Bool). countedOf j (tally x)) (room-when s ds Good .1 g) e
 

@@ -59,7 +59,7 @@ total-four : (f : Corner → ℕ) → ((x : Corner) → f x ≤ 4) → (l : List
 total-four f h [] = omega arith
 total-four f h (x ∷ l) = omega (arith, h x, total-four f h l)
 
--- a value that grows, and by one at least where the test passes
+-- a value that grows, and by one at least if the test passes
 total-grows : (f g : Corner → ℕ) (t : Corner → Bool) → ((x : Corner) → f x + tally (t x) ≤ g x) → (l : List Corner) → total f l + count t l ≤ total g l
 total-grows f g t h [] = omega arith
 total-grows f g t h (x ∷ l) = omega (arith, h x, total-grows f g t h l)

@@ -91,7 +91,8 @@ module _ {c : Corner} {os t ms ch t′ ms′ ch′ : List ℕ} {r : Answer} (w :
   pub accepted-exactly : r ≡ Answer.Accepted (factsOf c (survivors os)) ↔ GivenWalk c os (length t) (length ms) (length ch) Good
   accepted-exactly = walkLaws.accepted-when w
 
-  -- the numbers of each: a refused answer holds number and place, all else 0; an accepted one 0 for both, and the facts
+  -- the numbers of each: a refused answer holds number and place, and 0 in all other words; an accepted one 0 for both, and the
+  -- facts
   pub refused-words : (q : Refusal) → GivenWalk c os (length t) (length ms) (length ch) (Refused q)
       → answerWords r ≡ refusalNumber q ∷ refusalPlace q ∷ replicate 9 0
   refused-words q g = ap answerWords (refused-exactly q .1 g)
@@ -210,7 +211,8 @@ module _ {c : Corner} {os t ms ch t′ ms′ ch′ : List ℕ} {f : Facts} (w : 
   pub unused-words : (n : ℕ) → width * f .nodes ≤ n → getD t′ n 0 ≡ 0
   unused-words = acceptedLaws.its-unused w
 
-  -- after each operation the nodes in use, the visits at the corner now stood on, and the records that differ before and after it
+  -- after each operation the nodes in use, the visits at the corner where the walk now stands, and the records that differ before
+  -- and after it
   pub marks-words : (k : ℕ) → k < length os → (getD ms′ (markWords * k) 0 ≡ nodesAfter c os (suc k))
       × (getD ms′ (markWords * k + 1) 0 ≡ visitsAfter c os (suc k)) × (getD ms′ (markWords * k + 2) 0 ≡ changesAt c os k)
   marks-words = acceptedLaws.its-mark w
@@ -223,8 +225,7 @@ module _ {c : Corner} {os t ms ch t′ ms′ ch′ : List ℕ} {f : Facts} (w : 
   pub changed-fewer : (k : ℕ) → k < length os → getD ms′ (markWords * k + 2) 0 ≤ 32
   changed-fewer = changedLaws.its-fewer w
 
-  -- where no step is taken back the records that differ add up to at most three for each step, 16 for each different corner, and
-  -- 256
+  -- if no step is taken back the records that differ add up to at most three for each step, 16 for each different corner, and 256
   pub changed-sum : Below 4 os → sumTo (length os) (λ k. getD ms′ (markWords * k + 2) 0) ≤ 3 * length os + 16 * f .corners + 256
   changed-sum = costLaws.its-cost w
 
@@ -247,8 +248,7 @@ pub changed-reached : {t ms ch t′ ms′ ch′ : List ℕ} {r : Answer}
     → (f : Facts) × (r ≡ Answer.Accepted f) × (getD ms′ (markWords * 16383 + 2) 0 ≡ 32)
 changed-reached = reachedLaws.sixteen-thousand
 
--- where no step is taken back they add up from the origin to at most three for each step and 16 for each different corner, less
--- 12
+-- if no step is taken back they add up from the origin to at most three for each step and 16 for each different corner, less 12
 pub changed-sum-origin : {os t ms ch t′ ms′ ch′ : List ℕ} {f : Facts} → WalkIs origin os t ms ch (Answer.Accepted f) t′ ms′ ch′
     → Below 4 os → sumTo (length os) (λ k. getD ms′ (markWords * k + 2) 0) + 12 ≤ 3 * length os + 16 * f .corners
 changed-sum-origin = costLaws.its-cost-origin
@@ -458,7 +458,7 @@ four-and-start = aloneLaws.four-and-start
 pub four-less-three : (os : List ℕ) (k : ℕ) → FourLessThree (nodesAfter origin os k) (cornersAfter origin os k)
 four-less-three = aloneLaws.four-less-three
 
--- from any start, where every coordinate is below 2 ^ n: at most four times the corners and 4 n
+-- from any start, if every coordinate is below 2 ^ n: at most four times the corners and 4 n
 pub four-and-levels : (n : ℕ) (c : Corner) (ds : List ℕ) → ((q : Corner) → List·Memᴰ q (cornersFrom c ds) → WithinLevels n q)
     → length (nodesOf (cornersFrom c ds)) ≤ 4 * length (visitedOf (cornersFrom c ds)) + 4 * n
 four-and-levels = countLaws.few-nodes-from
@@ -469,7 +469,7 @@ module _ {c : Corner} {os t ms ch t′ ms′ ch′ : List ℕ} {r : Answer} (w :
       → r ≡ Answer.Refused (NoRoom i) → ⊥
   enough-eight = aloneLaws.enough-eight w
 
-  -- nor one with four records a corner and 64
+  -- nor one with four records for each corner and 64
   pub enough-four : ((k : ℕ) → k ≤ length os → 4 * cornersAfter c os k + 64 ≤ recordsIn (length t)) → (i : ℕ)
       → r ≡ Answer.Refused (NoRoom i) → ⊥
   enough-four = aloneLaws.enough-four w
@@ -478,7 +478,7 @@ module _ {c : Corner} {os t ms ch t′ ms′ ch′ : List ℕ} {r : Answer} (w :
   pub enough-always : 65604 ≤ recordsIn (length t) → (i : ℕ) → r ≡ Answer.Refused (NoRoom i) → ⊥
   enough-always = aloneLaws.enough-largest w
 
--- from the origin four records a corner, less three, are enough
+-- from the origin four records for each corner, less three, are enough
 pub enough-origin : {os t ms ch t′ ms′ ch′ : List ℕ} {r : Answer} → WalkIs origin os t ms ch r t′ ms′ ch′
     → ((k : ℕ) → k ≤ length os → 4 * cornersAfter origin os k ≤ recordsIn (length t) + 3) → (i : ℕ)
     → r ≡ Answer.Refused (NoRoom i) → ⊥

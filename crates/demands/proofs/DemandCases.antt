@@ -43,7 +43,7 @@ bound-is-reached = omega arith
 start-needs-more : (nodesAfter (corner (pos 16384) (pos 0)) [] 0 ≤ 8 → ⊥) × AtMostEight (nodesAfter (corner (pos 16384) (pos 0)) [] 0) (cornersAfter (corner (pos 16384) (pos 0)) [] 0)
 start-needs-more = (λ h. omega arith, omega arith)
 
--- with two records for its three nodes (3,-2) has no room before the first operation, of an empty record
+-- with two records for its three nodes (3,-2) is refused before the first operation, of an empty record
 no-room-at-first : NoRoomAfter (corner (pos 3) (negsuc 1)) [] 2 0
 no-room-at-first = record { inside = omega arith; before = λ h l. absurd (omega arith); here = omega arith }
 
@@ -65,7 +65,7 @@ two-records = (2, omega arith, omega arith, refl)
 part-of-a-record : HasRecords (2 * width - 1) → ⊥
 part-of-a-record x = let e : 2 * width - 1 ≡ x .0 * width = x .3 in omega arith
 
--- a node that exists need not have been stood on: 0011 uses (1,1), the parent of its end, and was never there
+-- a node that exists need not have been visited: 0011 uses (1,1), the parent of its end, and was never there
 pub in-use-unvisited : InUse (cornersFrom origin (0 ∷ 0 ∷ 1 ∷ 1 ∷ [])) (corner (pos 1) (pos 1)) × (List·Memᴰ (corner (pos 1) (pos 1)) (cornersFrom origin (0 ∷ 0 ∷ 1 ∷ 1 ∷ [])) → ⊥)
 in-use-unvisited = (
   (corner (pos 2) (pos 2), List·Memᴰ·tail (List·Memᴰ·tail (List·Memᴰ·tail (List·Memᴰ·tail (List·Memᴰ·head refl)))), (1, (refl, refl))),

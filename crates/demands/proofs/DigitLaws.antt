@@ -38,7 +38,7 @@ use Rattle.demands.specs.GivenHull.{GivenHull}
 use Rattle.demands.specs.GivenHull as hull
 use Rattle.demands.proofs.FirstLaws.{all-or-first}
 
--- ---- the first fault of a list, where place p is judged by itself and its digit
+-- ---- the first fault of a list, if place p is judged by itself and its digit
 module _ (at : ℕ → ℕ → Judged) (from : ℕ → List ℕ → Judged) (none : (p : ℕ) → from p [] ≡ Good) (next : (p d : ℕ) (ds : List ℕ) → from p (d ∷ ds) ≡ orElse (at p d) (from (suc p) ds)) where
   skipped : (b d : ℕ) (ds : List ℕ) → at b d ≡ Good → from b (d ∷ ds) ≡ from (suc b) ds
   skipped b d ds e = next b d ds ∙ ap (λ (j : Judged). orElse j (from (suc b) ds)) e

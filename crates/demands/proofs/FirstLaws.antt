@@ -24,7 +24,7 @@ use Rattle.walk_call.proofs.RoomLaws.{room-full, room-fits, room-end}
 use Rattle.demands.specs.Given.{FirstAt}
 use Rattle.demands.proofs.DemandCases as cases
 
--- where each place is fine or bad, all are fine or one is the first that is bad
+-- if each place is fine or bad, all are fine or one is the first that is bad
 pub all-or-first : (n : ℕ) (fine bad : ℕ → Type 0) → ((i : ℕ) → fine i ⊎ bad i) → ((i : ℕ) → i < n → fine i) ⊎ ((i : ℕ) × FirstAt n fine bad i)
 all-or-first zero fine bad f = inl (λ i h. absurd (omega arith))
 all-or-first (suc n) fine bad f =

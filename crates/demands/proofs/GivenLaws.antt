@@ -48,7 +48,7 @@ records-fit w x =
     let e : w ≡ r * width = x .3 in
     rw (eq-eqb (w % width) 0 (omega arith), le-leb 1 (recordsIn w) (omega arith), le-leb (recordsIn w) mostRecords (omega arith))
 
--- a test that tells whether something holds
+-- a test that shows whether something holds
 decided : {P : Type 0} (b : Bool) → (b ≡ true → P) → (P → b ≡ true) → P ⊎ ((P → ⊥) × (b ≡ false))
 decided true f g = inl (f refl)
 decided false f g = inr (λ p. let z : _≡_ {A = ℕ} 0 1 = cc (g p) in omega arith, refl)
@@ -116,7 +116,7 @@ module _ (c : Corner) (os : List ℕ) (w m k : ℕ) where
   roomy : (k : ℕ) → (nodesAfter c os k ≤ recordsIn w) ⊎ (recordsIn w < nodesAfter c os k)
   roomy k = elim (decLt (recordsIn w) (nodesAfter c os k)) [ yes h ↦ inr h | no h ↦ inl (omega arith) ]
 
-  -- there is room at every moment, or one is the first without
+  -- the table is large enough at every moment, or one moment is the first at which it is not
   pub room-or-not : ((k : ℕ) → k ≤ length os → nodesAfter c os k ≤ recordsIn w) ⊎ ((k : ℕ) × NoRoomAfter c os (recordsIn w) k)
   room-or-not =
       ⊎-map

@@ -38,7 +38,7 @@ use Rattle.tree_laws.proofs.CountLaws.{few-nodes}
 use Rattle.walk_call.specs.Walk.{walkJudged, factsOf, answerBy}
 use Rattle.hull.specs.Hull.{HullIs}
 use Rattle.hull_laws.proofs.{HullLaws.hullOf-hull, HullLaws.hull-count-steps, OneLaws.hullIs-one}
-use Rattle.hull_laws.specs.Outline.{hullOf}
+use Rattle.hull_laws.specs.Chain.{hullOf}
 use Rattle.line_frame.specs.declared.{Kind.Kind, Kind.the-variants.Operations, Kind.the-variants.Turns, Frame.Frame, Frame.the-variants.Of, Frame.the-variants.Bad}
 use Rattle.line_frame.specs.Sizes.{mostDigits, tableWords}
 use Rattle.line_frame.specs.Line.{kindNamed, frameOf, digitsOf, lineAnswer, lineWalked}

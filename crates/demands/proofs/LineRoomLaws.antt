@@ -31,7 +31,7 @@ use Rattle.line_frame.specs.Spelled.{refusedLine}
 use Rattle.line_frame.specs.Program.{feedsIn}
 use Rattle.line_frame.proofs.SpelledLaws.{length-refusedLine, refusedLine-feeds}
 use Rattle.line_room.specs.Told.{spansTold, refusedTold, rowsTold}
-use Rattle.line_room.proofs.ToldLaws.{length-spansTold, length-refusedTold, refused-told, room-told, no-room-told}
+use Rattle.line_room.proofs.ToldLaws.{length-spansTold, length-refusedTold, refused-told, room-told, not-room-told}
 use Rattle.line_room.proofs.WalkedLaws.{line-sound}
 use Rattle.demands.specs.GivenLine.{FrameIs, GivenLine, GivenLineRoom}
 use Rattle.demands.specs.GivenLine as line
@@ -58,7 +58,7 @@ module _ (s : List ℕ) where
   pub rows-refused : (q : Refusal) → GivenLineRoom s (Refused q) → rowsTold s ≡ refusedTold q
   rows-refused _ (line.refused q g) = refused-told s q (line-judged s (Refused q) g) .0
   rows-refused _ (line.notRoom os g f n) =
-      no-room-told s (factsOf origin left) (line-judged s Good g) (λ r. n (subst (λ (ds : List ℕ). IsRoom origin (survivors ds)) (frame-read (omega arith) f .1) r))
+      not-room-told s (factsOf origin left) (line-judged s Good g) (λ r. n (subst (λ (ds : List ℕ). IsRoom origin (survivors ds)) (frame-read (omega arith) f .1) r))
 
   place-small : (q : Refusal) → GivenLineRoom s (Refused q) → refusalPlace q < 16 ^ 8
   place-small _ (line.refused q g) = omega (arith, place-few q g)

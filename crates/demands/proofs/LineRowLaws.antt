@@ -17,7 +17,7 @@ use Rattle.grid.specs.Grid.{origin}
 use Rattle.steps.specs.Operations.{survivors}
 use Rattle.steps.proofs.SurvivorLaws.{length-survivors}
 use Rattle.trace.specs.Verdict.{IsRoom}
-use Rattle.hull_laws.specs.Outline.{hullOf}
+use Rattle.hull_laws.specs.Chain.{hullOf}
 use Rattle.hull_laws.proofs.HullLaws.{hullOf-hull}
 use Rattle.walk_call.specs.Walk.{factsOf}
 use Rattle.room.specs.Room.{isRoom}

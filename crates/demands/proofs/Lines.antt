@@ -52,7 +52,7 @@ frame-one = lineCallLaws.frame-one
 pub line-answers : (s : List ℕ) → (j : Judged) × GivenLine s j
 line-answers = lineCallLaws.line-given
 
--- each refusal is written exactly on its occasion; a place that has more than eight digits is no place of a line
+-- each refusal is written exactly on its occasion; a place that has more than eight digits is not a place of a line
 pub line-refused-exactly : (s : List ℕ) (q : Refusal) → refusalPlace q < 16 ^ 8
     → lineAnswer s ≡ refusedLine q ↔ GivenLine s (Refused q)
 line-refused-exactly s q h = (lineCallLaws.refused-line s q h, λ g. lineCallLaws.line-refused s q g .0)
@@ -138,7 +138,7 @@ pub rows-line-exactly : (s os : List ℕ) → FrameIs s 0 os → (L : List Span)
     → rowsTold s ≡ spansTold L ↔ GivenLineRoom s Good
 rows-line-exactly = lineRoomLaws.rows-when
 
--- and row, first and last panel of each are read back, one span a line
+-- and row, first and last panel of each are read back, one span on each line
 pub rows-line-read : (s os : List ℕ) → FrameIs s 0 os → (L : List Span) → RowsIs (Inside origin (survivors os)) L
     → GivenLineRoom s Good → SpansRead (rowsTold s) L
 rows-line-read = lineRoomLaws.spans-when
@@ -163,7 +163,7 @@ pub row-refused-read : (s : List ℕ) (n : ℕ) → n < 10 ^ mostDecimals → (q
     → RefusedRow (cellOf n ++ entryOf s) n (refusalNumber q) (refusalPlace q)
 row-refused-read = lineRowLaws.row-refused
 
--- otherwise the facts, with the bytes of the polygon of a room, and no byte for a walk that is none
+-- otherwise the facts, with the bytes of the polygon of a room, and no byte for a walk that is not a room
 pub row-room-read : (s : List ℕ) (n : ℕ) → n < 10 ^ mostDecimals → (os : List ℕ) → FrameIs s 0 os → GivenLine s Good
     → IsRoom origin (survivors os)
     → RowRead (cellOf n ++ entryOf s) n 0 0 (factsOf origin (survivors os)) (polygonOf origin (survivors os))
@@ -174,9 +174,8 @@ pub row-other-read : (s : List ℕ) (n : ℕ) → n < 10 ^ mostDecimals → (os 
     → RowRead (cellOf n ++ entryOf s) n 0 0 (factsOf origin (survivors os)) []
 row-other-read = lineRowLaws.row-other
 
--- ---- an input in parts
--- of every program that writes line by line: where the first part of an input ends in a line feed, the output is that of the
--- first part and then that of the second
+-- ---- an input in parts of every program that writes line by line: if the first part of an input ends in a line feed, the output
+-- is that of the first part and then that of the second
 pub output-in-parts : (told last : List ℕ → List ℕ) (s t : List ℕ)
     → outputFrom told last [] (s ++ (10 ∷ t)) ≡ outputFrom told last [] (s ++ (10 ∷ [])) ++ outputFrom told last [] t
 output-in-parts = outputLaws.output-parts

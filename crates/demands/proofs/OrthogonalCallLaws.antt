@@ -68,7 +68,7 @@ module _ (s : Corner) (ds : List ℕ) (g : ℕ) where
     given-call _ (given.tooMany h) = (before, refused-call s ds g before TooMany (onGrid-many s ds g h))
     given-call _ (given.startRange h f) = (before, refused-call s ds g before StartRange (onGrid-range s ds g h (unfit (startFits s) (fits-near s) f)))
     given-call _ (given.gridSize z f) = (before, refused-call s ds g before GridSize (onGrid-size s ds g (z .few) (near-fits s (z .start)) (unfit (gridFits g) (fits-sized g) f)))
-    given-call _ (given.noRoom q z k) = (before, refused-call s ds g before q (onGrid-room s ds g (sized-fits g z) ∙ room-when s ds (Refused q) .1 k))
+    given-call _ (given.refused q z k) = (before, refused-call s ds g before q (onGrid-room s ds g (sized-fits g z) ∙ room-when s ds (Refused q) .1 k))
     given-call _ (given.chainRoom z k start steps o h) = (before, short-call s ds g before start steps (onGrid-room s ds g (sized-fits g z) ∙ room-when s ds Good .1 k) o h)
     given-call _ (given.outlined z k start steps o h) = (steps ++ drop (length steps) before, outlined-call s ds g before start steps (onGrid-room s ds g (sized-fits g z) ∙ room-when s ds Good .1 k) o h)
 
@@ -77,7 +77,7 @@ module _ (s : Corner) (ds : List ℕ) (g : ℕ) where
     some-given = by-many (decLt mostInput (length ds))
       where
         by-room : GridSized g → (j : Judged) → asRoomJudged s ds ≡ j → (a : Orthogonal) × GivenOrthogonal s ds g (length before) a
-        by-room z (Refused q) e = (Orthogonal.Refused q, given.noRoom q z (room-when s ds (Refused q) .0 e))
+        by-room z (Refused q) e = (Orthogonal.Refused q, given.refused q z (room-when s ds (Refused q) .0 e))
         by-room z Good e =
             let w = accepted-outline (onGrid-room s ds g (sized-fits g z) ∙ e) in
             let k = room-when s ds Good .0 e in

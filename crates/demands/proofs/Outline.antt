@@ -16,7 +16,7 @@ use Rattle.grid.specs.declared.{Corner.Corner, Panel.Panel}
 use Rattle.grid.specs.Grid.{stepped, cornersFrom, endFrom, cornerAt, legsFrom, Begins}
 use Rattle.trace.specs.Verdict.{IsRoom}
 use Rattle.panels.specs.Inside.{Inside, leftOf, rightOf, EachStep}
-use Rattle.panels.specs.Outline.{startedAt, backward}
+use Rattle.panels.specs.Moved.{startedAt, backward}
 use Rattle.outline.specs.Outline.{walked, homeOf, OutlineIs}
 use Rattle.outline.specs.Call.{OutlineCall}
 use Rattle.outline.proofs.CallLaws as callLaws
@@ -68,7 +68,7 @@ module _ {s : Corner} {ds es : List ℕ} (o : OutlineIs s ds es) where
       → List·Memᴰ (p, q) (legsFrom s ds) ⊎ List·Memᴰ (q, p) (legsFrom s ds)
   outline-walked = fewLaws.outline-walked o
 
-  -- no edge is used twice in one sense
+  -- no edge is used twice in one direction
   pub outline-once : Distinct (legsFrom (homeOf s ds) es)
   outline-once = fewLaws.outline-once o
 

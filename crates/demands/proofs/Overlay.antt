@@ -107,7 +107,7 @@ module _ (s : Corner) (ds : List ℕ) (t : Corner) (es : List ℕ) (before : Par
     overlay-untouched = overlayCallLaws.overlay-untouched s ds t es before
 
     module _ (m : Measures) (w : OverlayCall s ds t es before (Overlaid.Listed m) after) where
-      -- the lists, and the numbers behind each as they were
+      -- the lists, and the numbers after each as they were
       pub overlay-written : (L : Part → List Span) × PartsAre s ds t es L × (m ≡ measuresOf L)
           × ((k : Part) → after k ≡ spanNumbers (L k) ++ drop (3 * length (L k)) (before k))
       overlay-written = let d = overlayCallLaws.overlay-laid s ds t es before m w in (d .lists, d .rows, d .measures, d .buffers)

@@ -66,7 +66,7 @@ module _ (s : Corner) (ds before : List ℕ) {after : List ℕ} where
       → (n ≡ length (polygonOf s ds)) × (after ≡ polygonOf s ds ++ drop (length (polygonOf s ds)) before)
   polygon-written n p = let g = roomCallLaws.call-good s ds before n p in (g .1, g .2)
 
-  -- sixteen bytes a step and 29 always are enough
+  -- sixteen bytes for each step and 29 are always enough
   pub polygon-few : (n : ℕ) → PolygonCall s ds before (Counted.Many n) after → n ≤ 16 * length ds + 29
   polygon-few = roomCallLaws.call-few s ds before
 

@@ -41,7 +41,7 @@ module _ {file before after : List ℕ} {r : Given} (c : ReadCall file before r 
   pub chain-refused-exactly : (q : Refusal) → r ≡ Given.Refused q ↔ GivenFile file (length before) (Refused q)
   chain-refused-exactly = fileCallLaws.chain-refused-when c
 
-  -- accepted exactly where the file is a closed ring of whole corners, not too long, and the chain has room
+  -- accepted exactly if the file is a closed ring of whole corners, not too long, and the chain buffer is long enough
   pub chain-read-exactly : r ≡ Given.Chain (record { start = startOf (ringOf file); steps = lengthOf (ringOf file) })
       ↔ GivenFile file (length before) Good
   chain-read-exactly = fileCallLaws.chain-read-when c
@@ -82,6 +82,6 @@ module _ (s : Corner) (ds out : List ℕ) (n : ℕ) (out′ chain : List ℕ) (r
       → (r ≡ Given.Chain (record { start = s; steps = length ds })) × (chain′ ≡ ds ++ drop (length ds) chain)
   round-trip = tripLaws.round-trip s ds out n out′ chain r chain′ w c
 
-  -- with less room for the chain it is refused 18
+  -- with a shorter chain buffer it is refused 18
   pub round-trip-short : length chain < length ds → (r ≡ Given.Refused ChainRoom) × (chain′ ≡ chain)
   round-trip-short = tripLaws.round-trip-short s ds out n out′ chain r chain′ w c

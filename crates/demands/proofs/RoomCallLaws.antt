@@ -36,13 +36,13 @@ use Rattle.answer.proofs.ListedLaws.{count-refused, count-good}
 -- ---- a start and a chain as a room
 
 module _ (s : Corner) (ds : List ℕ) where
-  no-room : (b : Bool) → isRoom s ds ≡ b → (IsRoom s ds → ⊥) → when (not (isRoom s ds)) NotRoom ≡ Refused NotRoom
-  no-room true e f = absurd (f (isRoom-exactly s ds .0 e))
-  no-room false e f = ap (λ (b : Bool). when (not b) NotRoom) e
+  not-a-room : (b : Bool) → isRoom s ds ≡ b → (IsRoom s ds → ⊥) → when (not (isRoom s ds)) NotRoom ≡ Refused NotRoom
+  not-a-room true e f = absurd (f (isRoom-exactly s ds .0 e))
+  not-a-room false e f = ap (λ (b : Bool). when (not b) NotRoom) e
 
   given-room : (j : Judged) → GivenRoom s ds j → asRoomJudged s ds ≡ j
   given-room _ (given.notWalk q g) = judged-refused s ds q (chain-when s ds (Refused q) .1 g)
-  given-room _ (given.notRoom g r) = judged-room s ds (chain-when s ds Good .1 g) ∙ no-room (isRoom s ds) refl r
+  given-room _ (given.notRoom g r) = judged-room s ds (chain-when s ds Good .1 g) ∙ not-a-room (isRoom s ds) refl r
   given-room _ (given.isRoom g r) = judged-room s ds (chain-when s ds Good .1 g) ∙ ap (λ (b : Bool). when (not b) NotRoom) (isRoom-exactly s ds .1 r)
 
   by-steps : GivenChain s ds Good → (b : Bool) → isRoom s ds ≡ b → (j : Judged) × GivenRoom s ds j
@@ -71,13 +71,13 @@ module _ (s : Corner) (ds : List ℕ) where
     room-then e = ap (λ (j : Judged). orElse j (orElse (when (ltb room bytes) PolygonRoom) Good)) e ∙ orElse-right (when (ltb room bytes) PolygonRoom)
 
     given-polygon : (j : Judged) → GivenPolygon s ds room bytes j → polygonJudged s ds room ≡ j
-    given-polygon _ (given.noRoom q g) = refused-first q (given-room (Refused q) g)
+    given-polygon _ (given.refused q g) = refused-first q (given-room (Refused q) g)
     given-polygon _ (given.polygonRoom g h) = room-then (given-room Good g) ∙ ap (λ (b : Bool). when b PolygonRoom) (lt-ltb room bytes h)
     given-polygon _ (given.accepted g h) = room-then (given-room Good g) ∙ ap (λ (b : Bool). when b PolygonRoom) (le-ltb room bytes h)
 
     by-room : (j : Judged) → GivenRoom s ds j → (k : Judged) × GivenPolygon s ds room bytes k
     by-room Good g = elim (decLt room bytes) [ yes h ↦ (Refused PolygonRoom, given.polygonRoom g h) | no h ↦ (Good, given.accepted g (omega arith)) ]
-    by-room (Refused q) g = (Refused q, given.noRoom q g)
+    by-room (Refused q) g = (Refused q, given.refused q g)
 
     some-polygon : (j : Judged) × GivenPolygon s ds room bytes j
     some-polygon = let x = some-room in by-room (x .0) (x .1)

@@ -54,13 +54,13 @@ module _ (c : Corner) (ds : List ℕ) (before : List ℤ) where
       (countedOf j (length L), laidIf j (spanNumbers L) before, record { list = L; rows = λ g. rowsOf-rows c ds (good-room c ds g .room .closed); answer = refl; buffer = refl })
 
   module _ {r : Counted} {after : List ℤ} (w : RowsCall c ds before r after) where
-    -- the answer and the buffer where start and chain are refused
+    -- the answer and the buffer if start and chain are refused
     at-refused : (q : Refusal) → asRoomJudged c ds ≡ Refused q → (r ≡ Counted.Refused q) × (after ≡ before)
     at-refused q e =
         let k = rows-refused c ds room (length (w .list)) q e in
         (w .answer ∙ ap (λ (j : Judged). countedOf j (length (w .list))) k, w .buffer ∙ ap (λ (j : Judged). laidIf j (spanNumbers (w .list)) before) k)
 
-    -- where they are a room
+    -- if they are a room
     module _ (e : asRoomJudged c ds ≡ Good) where
       by-room : (b : Bool) → ltb room (3 * length (w .list)) ≡ b → (r ≡ countedOf (when b SpanRoom) (length (w .list))) × (after ≡ laidIf (when b SpanRoom) (spanNumbers (w .list)) before)
       by-room b t =
@@ -77,7 +77,7 @@ module _ (c : Corner) (ds : List ℕ) (before : List ℤ) where
       same-list L k = rowsIs-one (Inside c ds) L (w .list) k (w .rows e)
 
     given-answer : (s : Counted) → GivenRows c ds room s → r ≡ s
-    given-answer _ (given.noRoom q g) = at-refused q (room-when c ds (Refused q) .1 g) .0
+    given-answer _ (given.refused q g) = at-refused q (room-when c ds (Refused q) .1 g) .0
     given-answer _ (given.spanRoom g L k h) = let e = room-when c ds Good .1 g in at-short e (omega (arith, ap length (same-list e L k))) .0
     given-answer _ (given.listed g L k h) = let e = room-when c ds Good .1 g in at-listed e (omega (arith, ap length (same-list e L k))) .0 ∙ ap (λ (l : List Span). Counted.Many (length l)) (sym (same-list e L k))
 
@@ -85,7 +85,7 @@ module _ (c : Corner) (ds : List ℕ) (before : List ℤ) where
     some-answer Good e =
         let g = room-when c ds Good .0 e in
         elim (decLt room (3 * length (w .list))) [ yes h ↦ (Counted.Refused SpanRoom, given.spanRoom g (w .list) (w .rows e) h) | no h ↦ (Counted.Many (length (w .list)), given.listed g (w .list) (w .rows e) (omega arith)) ]
-    some-answer (Refused q) e = (Counted.Refused q, given.noRoom q (room-when c ds (Refused q) .0 e))
+    some-answer (Refused q) e = (Counted.Refused q, given.refused q (room-when c ds (Refused q) .0 e))
 
     pub rows-when : (s : Counted) → r ≡ s ↔ GivenRows c ds room s
     rows-when s =

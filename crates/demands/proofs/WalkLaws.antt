@@ -1,5 +1,5 @@
 -- What the walk's promise gives: there is one answer and one state of the buffers, each refusal has its occasion and its buffers, and
--- "no room" is given where some moment needs too many nodes.
+-- "no room" is given if some moment needs too many nodes.
 -- Assumes nothing.
 use mathlib.Core.List.{List}
 use mathlib.Core.Logic.{⊎-elim, _↔_}
@@ -40,7 +40,7 @@ pub walkIs-one : {c : Corner} {os t ms ch t₁ ms₁ ch₁ t₂ ms₂ ch₂ : Li
     → (r₁ ≡ r₂) × (t₁ ≡ t₂) × (ms₁ ≡ ms₂) × (ch₁ ≡ ch₂)
 walkIs-one p q = (p .answer ∙ sym (q .answer), p .table ∙ sym (q .table), p .marks ∙ sym (q .marks), p .chain ∙ sym (q .chain))
 
--- ---- the judgement behind an answer
+-- ---- the judgement of an answer
 answer-refused : (j : Judged) (f : Facts) (q : Refusal) → Answer.Refused q ≡ answerBy j f → j ≡ Refused q
 answer-refused Good f q e = absurd (let z : _≡_ {A = ℕ} 0 1 = cc in omega arith)
 answer-refused (Refused r) f q e = cc

@@ -25,7 +25,7 @@ unfoldable pub decimalRead : List ℕ → ℤ
 decimalRead [] = pos 0
 decimalRead (b ∷ s) = cond (eqb b 45) (negℤ (pos (decimalFrom 0 s))) (pos (decimalFrom 0 (b ∷ s)))
 
--- the bytes that hexadecimal digits spell, two digits a byte
+-- the bytes that hexadecimal digits spell, two digits for each byte
 unfoldable pub bytesRead : List ℕ → List ℕ
 bytesRead [] = []
 bytesRead (a ∷ []) = []

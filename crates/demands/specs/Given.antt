@@ -1,4 +1,4 @@
--- When each answer of the walk is given: the table of refusals, a row a constructor (RULES 6.1 to 6.3).
+-- When each answer of the walk is given: the table of refusals, one row for each constructor (RULES 6.1 to 6.3).
 -- Assumes nothing.
 use mathlib.Core.List.{List}
 use mathlib.Core.Path.{_≡_}
@@ -18,7 +18,7 @@ use Rattle.demands.specs.Moments.{stepsAfter, nodesAfter, Exceeds}
 abbrev pub HasRecords : ℕ → Type 0
 HasRecords words = (r : ℕ) × (1 ≤ r) × (r ≤ mostRecords) × (words ≡ r * width)
 
--- marks are three times, and the chain is once, the input length
+-- three words of marks and one byte of chain for each operation
 abbrev pub HasRoom : List ℕ → ℕ → ℕ → Type 0
 HasRoom os marks chain = (marks ≡ markWords * length os) × (chain ≡ length os)
 
@@ -49,7 +49,7 @@ pub record WalkSized (c : Corner) (os : List ℕ) (words marks chain : ℕ) : Ty
   pub room : HasRoom os marks chain
   pub start : Near c
 
--- and so are 4, 5 and 6: nothing is wrong with the call, but for room in the table
+-- and so are 4, 5 and 6: nothing is wrong with the call, apart from the size of the table
 pub record Faultless (c : Corner) (os : List ℕ) (words marks chain : ℕ) : Type 0 where
   pub sized : WalkSized c os words marks chain
   pub fine : (i : ℕ) → i < length os → FineAt os i

@@ -29,11 +29,11 @@ abbrev pub AllSteps : List ℕ → Type 0
 AllSteps ds = (i : ℕ) → i < length ds → StepAt ds i
 
 -- the occasion of each judgement: 1, then 10, then 4 and 6 at the first faulty place
-pub data GivenChain (s : Corner) (ds : List ℕ) : Judged → Type 0 where
-  tooMany : mostInput < length ds → GivenChain s ds (Refused TooMany)
-  startRange : length ds ≤ mostInput → (Near s → ⊥) → GivenChain s ds (Refused StartRange)
-  badDigit : (i : ℕ) → ChainSized s ds → FirstAt (length ds) (StepAt ds) (AboveThreeAt ds) i
-      → GivenChain s ds (Refused (BadDigit i))
-  tooLong : (i : ℕ) → ChainSized s ds → FirstAt (length ds) (StepAt ds) (StepTooManyAt ds) i
-      → GivenChain s ds (Refused (TooLong i))
-  walkable : ChainSized s ds → AllSteps ds → GivenChain s ds Good
+pub data GivenChain (c : Corner) (ds : List ℕ) : Judged → Type 0 where
+  tooMany : mostInput < length ds → GivenChain c ds (Refused TooMany)
+  startRange : length ds ≤ mostInput → (Near c → ⊥) → GivenChain c ds (Refused StartRange)
+  badDigit : (i : ℕ) → ChainSized c ds → FirstAt (length ds) (StepAt ds) (AboveThreeAt ds) i
+      → GivenChain c ds (Refused (BadDigit i))
+  tooLong : (i : ℕ) → ChainSized c ds → FirstAt (length ds) (StepAt ds) (StepTooManyAt ds) i
+      → GivenChain c ds (Refused (TooLong i))
+  walkable : ChainSized c ds → AllSteps ds → GivenChain c ds Good

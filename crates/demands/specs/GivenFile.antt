@@ -13,19 +13,19 @@ use Rattle.grid.specs.declared.Corner.{Corner}
 use Rattle.polygon_ring.specs.Ring.{lengthOf, countIn}
 use Rattle.polygon_ring_laws.specs.Files.{Headed, Sized, IsPoint, HasCorners, IsRing}
 
--- the occasion of each judgement of a file, where the chain buffer has this room: 14, 15, 14 again, 16, 17, 6 at place 16,384, 18
-pub data GivenFile (file : List ℕ) (room : ℕ) : Judged → Type 0 where
-  tooShort : length file < 13 → GivenFile file room (Refused FileLength)
-  otherKind : 13 ≤ length file → ((little : Bool) → Headed little file → ⊥) → GivenFile file room (Refused FileKind)
+-- the occasion of each judgement of a file, if the chain buffer has this size: 14, 15, 14 again, 16, 17, 6 at place 16,384, 18
+pub data GivenFile (file : List ℕ) (size : ℕ) : Judged → Type 0 where
+  tooShort : length file < 13 → GivenFile file size (Refused FileLength)
+  otherKind : 13 ≤ length file → ((little : Bool) → Headed little file → ⊥) → GivenFile file size (Refused FileKind)
   otherLength : (little : Bool) → Headed little file → (length file ≡ 13 + 16 * countIn little file → ⊥)
-      → GivenFile file room (Refused FileLength)
+      → GivenFile file size (Refused FileLength)
   badCoordinate : (little : Bool) (i : ℕ) → Sized little file → i < countIn little file
-      → ((c : Corner) → IsPoint little (drop 13 file) i c → ⊥) → GivenFile file room (Refused BadCoordinate)
+      → ((c : Corner) → IsPoint little (drop 13 file) i c → ⊥) → GivenFile file size (Refused BadCoordinate)
   badRing : (little : Bool) (ps : List Corner) → HasCorners little file ps → (IsRing ps → ⊥)
-      → GivenFile file room (Refused BadRing)
+      → GivenFile file size (Refused BadRing)
   tooLong : (little : Bool) (ps : List Corner) → HasCorners little file ps → IsRing ps → mostSteps < lengthOf ps
-      → GivenFile file room (Refused (TooLong mostSteps))
+      → GivenFile file size (Refused (TooLong mostSteps))
   chainRoom : (little : Bool) (ps : List Corner) → HasCorners little file ps → IsRing ps → lengthOf ps ≤ mostSteps
-      → room < lengthOf ps → GivenFile file room (Refused ChainRoom)
+      → size < lengthOf ps → GivenFile file size (Refused ChainRoom)
   accepted : (little : Bool) (ps : List Corner) → HasCorners little file ps → IsRing ps → lengthOf ps ≤ mostSteps
-      → lengthOf ps ≤ room → GivenFile file room Good
+      → lengthOf ps ≤ size → GivenFile file size Good

@@ -27,8 +27,8 @@ pub record FineFrame (s os : List ℕ) : Type 0 where
   pub frame : FrameIs s 0 os
   pub fine : (i : ℕ) → i < length os → FineAt os i
 
--- the occasion of each judgement of a line: 9 if it is no frame, 19 if it is one of kind 01; of kind 00 then 4 and 5 at the first
--- faulty place, and then 7 if the walk needs more than 320 nodes at some moment
+-- the occasion of each judgement of a line: 9 if it is not a frame, 19 if it is one of kind 01; of kind 00 then 4 and 5 at the
+-- first faulty place, and then 7 if the walk needs more than 320 nodes at some moment
 pub data GivenLine (s : List ℕ) : Judged → Type 0 where
   badLine : ((kind : ℕ) (ds : List ℕ) → kind < 2 → FrameIs s kind ds → ⊥) → GivenLine s (Refused BadLine)
   retiredKind : (ds : List ℕ) → FrameIs s 1 ds → GivenLine s (Refused RetiredKind)
@@ -40,7 +40,7 @@ pub data GivenLine (s : List ℕ) : Judged → Type 0 where
       → GivenLine s (Refused (NoRoom i))
   accepted : (os : List ℕ) → FineFrame s os → ((k : ℕ) → k ≤ length os → nodesAfter origin os k ≤ frameRecords) → GivenLine s Good
 
--- that of each judgement of a line as a room: those, and then 12 if the steps that survive are no room
+-- that of each judgement of a line as a room: those, and then 12 if the steps that survive are not a room
 pub data GivenLineRoom (s : List ℕ) : Judged → Type 0 where
   refused : (q : Refusal) → GivenLine s (Refused q) → GivenLineRoom s (Refused q)
   notRoom : (os : List ℕ) → GivenLine s Good → FrameIs s 0 os → (IsRoom origin (survivors os) → ⊥)

@@ -18,14 +18,14 @@ pub record GridSized (g : ℕ) : Type 0 where
   pub least : 1 ≤ g
   pub most : g ≤ mostGrid
 
--- the occasion of each answer where the buffer has so many bytes: 1, then 10, then 22, then the other refusals of a room, then
--- 18; otherwise the outline
-pub data GivenOrthogonal (s : Corner) (ds : List ℕ) (g room : ℕ) : Orthogonal → Type 0 where
-  tooMany : mostInput < length ds → GivenOrthogonal s ds g room (Orthogonal.Refused TooMany)
-  startRange : length ds ≤ mostInput → (Near s → ⊥) → GivenOrthogonal s ds g room (Orthogonal.Refused StartRange)
-  gridSize : ChainSized s ds → (GridSized g → ⊥) → GivenOrthogonal s ds g room (Orthogonal.Refused GridSize)
-  noRoom : (q : Refusal) → GridSized g → GivenRoom s ds (Refused q) → GivenOrthogonal s ds g room (Orthogonal.Refused q)
-  chainRoom : GridSized g → GivenRoom s ds Good → (start : Corner) (steps : List ℕ) → OutlinesHull s ds g start steps
-      → room < length steps → GivenOrthogonal s ds g room (Orthogonal.Refused ChainRoom)
-  outlined : GridSized g → GivenRoom s ds Good → (start : Corner) (steps : List ℕ) → OutlinesHull s ds g start steps
-      → length steps ≤ room → GivenOrthogonal s ds g room (Orthogonal.Outlined (enclosedOf start steps))
+-- the occasion of each answer if the buffer has this many bytes: 1, then 10, then 22, then the other refusals of a room, then 18;
+-- otherwise the outline
+pub data GivenOrthogonal (c : Corner) (ds : List ℕ) (g size : ℕ) : Orthogonal → Type 0 where
+  tooMany : mostInput < length ds → GivenOrthogonal c ds g size (Orthogonal.Refused TooMany)
+  startRange : length ds ≤ mostInput → (Near c → ⊥) → GivenOrthogonal c ds g size (Orthogonal.Refused StartRange)
+  gridSize : ChainSized c ds → (GridSized g → ⊥) → GivenOrthogonal c ds g size (Orthogonal.Refused GridSize)
+  refused : (q : Refusal) → GridSized g → GivenRoom c ds (Refused q) → GivenOrthogonal c ds g size (Orthogonal.Refused q)
+  chainRoom : GridSized g → GivenRoom c ds Good → (start : Corner) (steps : List ℕ) → OutlinesHull c ds g start steps
+      → size < length steps → GivenOrthogonal c ds g size (Orthogonal.Refused ChainRoom)
+  outlined : GridSized g → GivenRoom c ds Good → (start : Corner) (steps : List ℕ) → OutlinesHull c ds g start steps
+      → length steps ≤ size → GivenOrthogonal c ds g size (Orthogonal.Outlined (enclosedOf start steps))

@@ -10,7 +10,7 @@ use Rattle.grid.specs.declared.Corner.{Corner}
 use Rattle.demands.specs.GivenChain.{GivenChain}
 
 -- the occasion of each judgement, for an outline of so many steps: those of a start and a chain, then 11
-pub data GivenOutline (s : Corner) (ds : List ℕ) (room steps : ℕ) : Judged → Type 0 where
-  notWalk : (q : Refusal) → GivenChain s ds (Refused q) → GivenOutline s ds room steps (Refused q)
-  outlineRoom : GivenChain s ds Good → room < steps → GivenOutline s ds room steps (Refused OutlineRoom)
-  accepted : GivenChain s ds Good → steps ≤ room → GivenOutline s ds room steps Good
+pub data GivenOutline (c : Corner) (ds : List ℕ) (size steps : ℕ) : Judged → Type 0 where
+  notWalk : (q : Refusal) → GivenChain c ds (Refused q) → GivenOutline c ds size steps (Refused q)
+  outlineRoom : GivenChain c ds Good → size < steps → GivenOutline c ds size steps (Refused OutlineRoom)
+  accepted : GivenChain c ds Good → steps ≤ size → GivenOutline c ds size steps Good

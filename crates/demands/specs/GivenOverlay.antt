@@ -14,14 +14,14 @@ use Rattle.demands.specs.GivenRoom.{GivenRoom}
 
 -- the three lists
 abbrev pub PartsAre : Corner → List ℕ → Corner → List ℕ → (Part → List Span) → Type 0
-PartsAre s ds t es L = (k : Part) → RowsIs (InPart k s ds t es) (L k)
+PartsAre c ds e es L = (k : Part) → RowsIs (InPart k c ds e es) (L k)
 
--- the occasion of each answer where the buffer of each part has room for so many numbers: the refusals of the first room, then
--- those of the second, then 21; otherwise how many panels and spans each list has
-pub data GivenOverlay (s : Corner) (ds : List ℕ) (t : Corner) (es : List ℕ) (room : Part → ℕ) : Overlaid → Type 0 where
-  firstNone : (q : Refusal) → GivenRoom s ds (Refused q) → GivenOverlay s ds t es room (Overlaid.Refused q)
-  secondNone : (q : Refusal) → GivenRoom s ds Good → GivenRoom t es (Refused q) → GivenOverlay s ds t es room (Overlaid.Refused q)
-  spanRoom : GivenRoom s ds Good → GivenRoom t es Good → (L : Part → List Span) → PartsAre s ds t es L → (k : Part)
-      → room k < 3 * length (L k) → GivenOverlay s ds t es room (Overlaid.Refused SpanRoom)
-  listed : GivenRoom s ds Good → GivenRoom t es Good → (L : Part → List Span) → PartsAre s ds t es L
-      → ((k : Part) → 3 * length (L k) ≤ room k) → GivenOverlay s ds t es room (Overlaid.Listed (measuresOf L))
+-- the occasion of each answer if the buffer of each part has this many numbers: the refusals of the first room, then those of the
+-- second, then 21; otherwise how many panels and spans each list has
+pub data GivenOverlay (c : Corner) (ds : List ℕ) (e : Corner) (es : List ℕ) (size : Part → ℕ) : Overlaid → Type 0 where
+  firstNone : (q : Refusal) → GivenRoom c ds (Refused q) → GivenOverlay c ds e es size (Overlaid.Refused q)
+  secondNone : (q : Refusal) → GivenRoom c ds Good → GivenRoom e es (Refused q) → GivenOverlay c ds e es size (Overlaid.Refused q)
+  spanRoom : GivenRoom c ds Good → GivenRoom e es Good → (L : Part → List Span) → PartsAre c ds e es L → (k : Part)
+      → size k < 3 * length (L k) → GivenOverlay c ds e es size (Overlaid.Refused SpanRoom)
+  listed : GivenRoom c ds Good → GivenRoom e es Good → (L : Part → List Span) → PartsAre c ds e es L
+      → ((k : Part) → 3 * length (L k) ≤ size k) → GivenOverlay c ds e es size (Overlaid.Listed (measuresOf L))

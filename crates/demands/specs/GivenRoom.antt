@@ -11,13 +11,13 @@ use Rattle.trace.specs.Verdict.{IsRoom}
 use Rattle.demands.specs.GivenChain.{GivenChain}
 
 -- the occasion of each judgement of a start and a chain as a room: those of a start and a chain, then 12
-pub data GivenRoom (s : Corner) (ds : List ℕ) : Judged → Type 0 where
-  notWalk : (q : Refusal) → GivenChain s ds (Refused q) → GivenRoom s ds (Refused q)
-  notRoom : GivenChain s ds Good → (IsRoom s ds → ⊥) → GivenRoom s ds (Refused NotRoom)
-  isRoom : GivenChain s ds Good → IsRoom s ds → GivenRoom s ds Good
+pub data GivenRoom (c : Corner) (ds : List ℕ) : Judged → Type 0 where
+  notWalk : (q : Refusal) → GivenChain c ds (Refused q) → GivenRoom c ds (Refused q)
+  notRoom : GivenChain c ds Good → (IsRoom c ds → ⊥) → GivenRoom c ds (Refused NotRoom)
+  isRoom : GivenChain c ds Good → IsRoom c ds → GivenRoom c ds Good
 
--- that of each judgement of a room whose polygon has so many bytes: those, then 13
-pub data GivenPolygon (s : Corner) (ds : List ℕ) (room bytes : ℕ) : Judged → Type 0 where
-  noRoom : (q : Refusal) → GivenRoom s ds (Refused q) → GivenPolygon s ds room bytes (Refused q)
-  polygonRoom : GivenRoom s ds Good → room < bytes → GivenPolygon s ds room bytes (Refused PolygonRoom)
-  accepted : GivenRoom s ds Good → bytes ≤ room → GivenPolygon s ds room bytes Good
+-- that of each judgement of a room whose polygon has this many bytes: those, then 13
+pub data GivenPolygon (c : Corner) (ds : List ℕ) (size bytes : ℕ) : Judged → Type 0 where
+  refused : (q : Refusal) → GivenRoom c ds (Refused q) → GivenPolygon c ds size bytes (Refused q)
+  polygonRoom : GivenRoom c ds Good → size < bytes → GivenPolygon c ds size bytes (Refused PolygonRoom)
+  accepted : GivenRoom c ds Good → bytes ≤ size → GivenPolygon c ds size bytes Good

@@ -12,11 +12,10 @@ use Rattle.panels.specs.Inside.{Inside}
 use Rattle.row_call.specs.Rows.{Span, RowsIs}
 use Rattle.demands.specs.GivenRoom.{GivenRoom}
 
--- the occasion of each answer where the buffer has room for so many numbers: the refusals of a room, then 21; otherwise the
--- number of spans
-pub data GivenRows (s : Corner) (ds : List ℕ) (room : ℕ) : Counted → Type 0 where
-  noRoom : (q : Refusal) → GivenRoom s ds (Refused q) → GivenRows s ds room (Counted.Refused q)
-  spanRoom : GivenRoom s ds Good → (L : List Span) → RowsIs (Inside s ds) L → room < 3 * length L
-      → GivenRows s ds room (Counted.Refused SpanRoom)
-  listed : GivenRoom s ds Good → (L : List Span) → RowsIs (Inside s ds) L → 3 * length L ≤ room
-      → GivenRows s ds room (Counted.Many (length L))
+-- the occasion of each answer if the buffer has this many numbers: the refusals of a room, then 21; otherwise the number of spans
+pub data GivenRows (c : Corner) (ds : List ℕ) (size : ℕ) : Counted → Type 0 where
+  refused : (q : Refusal) → GivenRoom c ds (Refused q) → GivenRows c ds size (Counted.Refused q)
+  spanRoom : GivenRoom c ds Good → (L : List Span) → RowsIs (Inside c ds) L → size < 3 * length L
+      → GivenRows c ds size (Counted.Refused SpanRoom)
+  listed : GivenRoom c ds Good → (L : List Span) → RowsIs (Inside c ds) L → 3 * length L ≤ size
+      → GivenRows c ds size (Counted.Many (length L))

@@ -18,9 +18,9 @@ abbrev pub AboveThreeAt : List ℕ → ℕ → Type 0
 AboveThreeAt ds i = 3 < getD ds i 0
 
 -- the occasion of each judgement: 1, then 3, then 4 at the first bad digit
-pub data GivenTurns (ds : List ℕ) (room : ℕ) : Judged → Type 0 where
-  tooMany : mostInput < length ds → GivenTurns ds room (Refused TooMany)
-  resultRoom : length ds ≤ mostInput → (room ≡ length ds → ⊥) → GivenTurns ds room (Refused ResultRoom)
-  badDigit : (i : ℕ) → length ds ≤ mostInput → room ≡ length ds → FirstAt (length ds) (DigitAt ds) (AboveThreeAt ds) i
-      → GivenTurns ds room (Refused (BadDigit i))
-  accepted : length ds ≤ mostInput → room ≡ length ds → ((i : ℕ) → i < length ds → DigitAt ds i) → GivenTurns ds room Good
+pub data GivenTurns (ds : List ℕ) (size : ℕ) : Judged → Type 0 where
+  tooMany : mostInput < length ds → GivenTurns ds size (Refused TooMany)
+  resultRoom : length ds ≤ mostInput → (size ≡ length ds → ⊥) → GivenTurns ds size (Refused ResultRoom)
+  badDigit : (i : ℕ) → length ds ≤ mostInput → size ≡ length ds → FirstAt (length ds) (DigitAt ds) (AboveThreeAt ds) i
+      → GivenTurns ds size (Refused (BadDigit i))
+  accepted : length ds ≤ mostInput → size ≡ length ds → ((i : ℕ) → i < length ds → DigitAt ds i) → GivenTurns ds size Good

@@ -23,7 +23,7 @@ nodesAfter c os k = length (nodesOf (cornersFrom c (stepsAfter os k)))
 abbrev pub cornersAfter : Corner → List ℕ → ℕ → ℕ
 cornersAfter c os k = length (visitedOf (cornersFrom c (stepsAfter os k)))
 
--- the visits at the corner then stood on
+-- the visits at the corner where the walk then stands
 abbrev pub visitsAfter : Corner → List ℕ → ℕ → ℕ
 visitsAfter c os k = count (same (endFrom c (stepsAfter os k))) (cornersFrom c (stepsAfter os k))
 
@@ -36,7 +36,7 @@ abbrev pub sumTo : ℕ → (ℕ → ℕ) → ℕ
 sumTo zero f = 0
 sumTo (suc n) f = sumTo n f + f n
 
--- at most eight nodes for each corner and 68, as it was demanded
+-- at most eight nodes for each corner and 68, as demanded
 abbrev pub AtMostEight : ℕ → ℕ → Type 0
 AtMostEight nodes corners = nodes ≤ 8 * corners + 68
 

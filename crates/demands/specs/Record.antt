@@ -31,7 +31,7 @@ pub record IsChild (ps : List Corner) (a : Corner) (w : ℕ) (b : Corner) : Type
 abbrev pub FirstIn : List Corner → Corner → ℕ → Type 0
 FirstIn ps a k = FirstAt (length ps) (λ h. getD ps h origin ≡ a → ⊥) (λ h. getD ps h origin ≡ a) k
 
--- step k, counted from 1, has the two ends a and b, in either sense
+-- step k, counted from 1, has the two ends a and b, either way
 abbrev pub StepBetween : List Corner → Corner → Corner → ℕ → Type 0
 StepBetween ps a b k =
     (0 < k) × (k < length ps)

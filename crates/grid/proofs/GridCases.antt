@@ -62,7 +62,7 @@ corner-at-four = refl
 ways-back : back 0 ∷ back 1 ∷ back 2 ∷ back 3 ∷ [] ≡ 2 ∷ 3 ∷ 0 ∷ 1 ∷ []
 ways-back = refl
 
--- a step has its two ends in either sense, and no other corner
+-- a step has its two ends, either way, and no other corner
 legs-of-a-walk : legsFrom origin (0 ∷ 2 ∷ []) ≡ (origin, corner (pos 1) (pos 0)) ∷ (corner (pos 1) (pos 0), origin) ∷ []
 legs-of-a-walk = refl
 

@@ -6,7 +6,7 @@ use Rattle.grid.specs.declared.{Corner.Corner, Panel.Panel}
 abbrev pub corner : ℤ → ℤ → Corner
 corner x y = record { 0 = x; 1 = y }
 
--- the drawing's origin, where a walk starts to which no start is given
+-- the drawing's origin, where a walk starts if no start is given
 abbrev pub origin : Corner
 origin = corner (pos 0) (pos 0)
 

@@ -33,7 +33,7 @@ abbrev pub AncestorAt : ℕ → Corner → Corner → Type 0
 AncestorAt zero c a = a ≡ c
 AncestorAt (suc i) c a = (isRoot c ≡ false) × AncestorAt i (parentOf c) a
 
--- its i-th parent, where the root is its own
+-- its i-th parent; the root is its own parent
 abbrev pub upBy : ℕ → Corner → Corner
 upBy zero c = c
 upBy (suc i) c = parentOf (upBy i c)

@@ -1,5 +1,5 @@
 // Corners and panels: the grid points of the floor, and its unit squares. Each is a type of its own, so that neither can be
-// handed over where the other is expected.
+// passed if the other is expected.
 
 // A grid point: x to the east, y to the north.
 pub struct Corner(pub i32, pub i32);

@@ -8,12 +8,12 @@ use Rattle.hull.specs.Hull.{HullIs}
 
 -- the refusals of a start and a chain, then 8 where the room is shorter than twice the hull corners
 abbrev pub hullJudged : Corner → List ℕ → ℕ → ℕ → Judged
-hullJudged s chain room corners = firstOf (asWalkJudged s chain ∷ when (ltb room (2 * corners)) HullRoom ∷ [])
+hullJudged c chain size corners = firstOf (asWalkJudged c chain ∷ when (ltb size (2 * corners)) HullRoom ∷ [])
 
--- a call with this chain, from the corner s: `list` is the hull of the walk. A chain that has a digit above 3 is refused,
+-- a call with this chain, from the corner c: `list` is the hull of the walk. A chain that has a digit above 3 is refused,
 -- whatever its list
-pub record HullCall (s : Corner) (chain : List ℕ) (before : List ℤ) (r : Counted) (after : List ℤ) : Type 0 where
+pub record HullCall (c : Corner) (chain : List ℕ) (before : List ℤ) (r : Counted) (after : List ℤ) : Type 0 where
   pub list : List Corner
-  pub hull : HullIs (cornersFrom s chain) list
-  pub answer : r ≡ countedOf (hullJudged s chain (length before) (length list)) (length list)
-  pub buffer : after ≡ laidIf (hullJudged s chain (length before) (length list)) (numbers list) before
+  pub hull : HullIs (cornersFrom c chain) list
+  pub answer : r ≡ countedOf (hullJudged c chain (length before) (length list)) (length list)
+  pub buffer : after ≡ laidIf (hullJudged c chain (length before) (length list)) (numbers list) before

@@ -1,11 +1,10 @@
--- The convex hull of some corners (RULES 5.5).
--- L lists it when it begins at the lowest of the leftmost corners, holds exactly the exposed ones, each once, and any three in
--- its order turn left: so no three are in a line and the order is counterclockwise. There is no case apart: one corner gives one,
--- and corners along one line give their two outermost. Assumes nothing.
+-- The convex hull of some corners (RULES 5.5). L lists it when it begins at the lowest of the leftmost corners, holds exactly the
+-- exposed ones, each once, and any three in its order turn left: so no three are in a line and the order is counterclockwise.
+-- There is no special case: one corner gives one, and corners along one line give their two outermost. Assumes nothing.
 use Rattle.lists.specs.Lists.{_≡_, List, [], _∷_, _++_, List·Memᴰ, _↔_, ℤ, pos, _+ℤ_, _-ℤ_, _*ℤ_, _≤ℤ_, _<ℤ_, Distinct}
 use Rattle.grid.specs.{declared.Corner.Corner, Grid.Begins}
 
--- above 0 where c lies left of the way from a to b, below 0 where right of it, 0 where the three are in a line
+-- above 0 if c lies left of the way from a to b, below 0 if right of it, 0 if the three are in a line
 unfoldable pub cross : Corner → Corner → Corner → ℤ
 cross a b c = ((b .0 -ℤ a .0) *ℤ (c .1 -ℤ a .1)) -ℤ ((b .1 -ℤ a .1) *ℤ (c .0 -ℤ a .0))
 

@@ -5,7 +5,7 @@ use mathlib.Core.List.{List}
 use Prim.Native.Nat.{ℕ, suc, _<_, _≤_}
 use lib.ListN.{length, getD, drop}
 use Rattle.hull_laws.specs.Lowest.{blank}
-use Rattle.hull_laws.specs.Outline.{chainFrom}
+use Rattle.hull_laws.specs.Chain.{chainFrom}
 
 -- from place q on s has columns of ys that are right of p
 pub record Stack (ys s : List ℕ) (q p : ℕ) : Type 0 where

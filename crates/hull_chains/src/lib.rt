@@ -6,10 +6,10 @@ ghost use mathlib.Core.List.{_∷_};
 ghost use Prim.Native.Nat.{_+_, _*_, _-_, _<_, _≤_};
 ghost use lib.Dec.{ltb};
 ghost use lib.ListN.{length, drop};
-ghost use Rattle.hull_laws.specs.Outline.{turnsAt, dropsAt, cutAt, turnFrom};
+ghost use Rattle.hull_laws.specs.Chain.{turnsAt, dropsAt, cutAt, turnFrom};
 ghost use Rattle.hull_chains.specs.Stack.{Scanned, Stack};
 
-// Whether heights p, b and a turn left at b, where b and a lie u and w columns to the right of p.
+// Whether heights p, b and a turn left at b, if b and a lie u and w columns to the right of p.
 fn bends(u: usize, w: usize, p: u16, b: u16, a: u16) -> bool
     requires { ⌜ (u < 65536) × (w < 65536) ⌝ }
     ensures { λ r. ⌜ r ≡ ltb (w * b + u * p) (u * a + w * p) ⌝ }

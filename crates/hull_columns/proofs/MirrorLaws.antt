@@ -143,7 +143,7 @@ module _ {m : ℕ} {a b : List ℕ} {i j : ℕ} (t : Turning m a b i j) where
           here : c ≡ m - c
           here = omega (arith, t .sum)
 
--- the pass that fills the columns, where hi is what it would be from right to left
+-- the pass that fills the columns, if hi is what it would be from right to left
 pub record Filled (chain : List ℕ) (w e : ℕ) (lo₀ hi₀ lo hi : List ℕ) (x y i : ℕ) : Type 0 where
   pub other : List ℕ
   pub filling : Filling chain w e lo₀ hi₀ lo other x y i

@@ -21,7 +21,7 @@ use Rattle.answer.specs.Limits.{mostSteps}
 use Rattle.answer.specs.Refusal.{when}
 use Rattle.answer.specs.Listed.{countedOf, laidIf}
 use Rattle.grid.specs.Grid.{numbers}
-use Rattle.hull_laws.specs.Outline.{spotBy, hullBy}
+use Rattle.hull_laws.specs.Chain.{spotBy, hullBy}
 use Rattle.column_laws.specs.Columns.{spot, middle, top}
 use Rattle.hull_laws.proofs.StackLaws.{stack-in}
 use Rattle.hull_laws.proofs.JoinLaws.{seam-room, close-room, length-both, parts-hull, spot-by}

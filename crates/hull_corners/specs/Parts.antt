@@ -16,19 +16,19 @@ use Rattle.answer.specs.Refusal.{when}
 use Rattle.answer.specs.Listed.{countedOf, laidIf}
 use Rattle.column_laws.specs.Columns.{middle, top, spot}
 use Rattle.hull_laws.specs.Lowest.{blank}
-use Rattle.hull_laws.specs.Outline.{spotBack, colAt}
+use Rattle.hull_laws.specs.Chain.{spotBack, colAt}
 use Rattle.hull_chains.specs.Stack.{Scanned}
 
--- the list L is counted, and written where there is room
+-- the list L is counted, and written if the buffer is long enough
 pub record ListGiven (L : List Corner) (before : List ℤ) (r : Counted) (after : List ℤ) : Type 0 where
   pub answer : r ≡ countedOf (when (ltb (length before) (2 * length L)) HullRoom) (length L)
   pub buffer : after ≡ laidIf (when (ltb (length before) (2 * length L)) HullRoom) (numbers L) before
 
 -- the columns s[from] up to s[to] can be written from place o on, counted from base
-pub record Puts (room o : ℕ) (base : Corner) (way : ℤ) (ys s : List ℕ) (from to : ℕ) : Type 0 where
+pub record Puts (size o : ℕ) (base : Corner) (way : ℤ) (ys s : List ℕ) (from to : ℕ) : Type 0 where
   pub ordered : from ≤ to
   pub inside : to ≤ length s
-  pub fits : o + 2 * (to - from) ≤ room
+  pub fits : o + 2 * (to - from) ≤ size
   pub x : natAbs (base .0) ≤ 2 * farthest
   pub y : natAbs (base .1) ≤ 2 * farthest
   pub one : natAbs way ≤ 1
@@ -45,14 +45,14 @@ abbrev pub twoAt : Corner → ℕ → ℕ → List Corner
 twoAt c w e =
     spot (c .0 -ℤ pos middle) (c .1 -ℤ pos middle) (w, middle) ∷ (spot (c .0 -ℤ pos middle) (c .1 -ℤ pos middle) (e, middle) ∷ [])
 
--- parts of the two chains of the columns w to e, and room for them
-pub record Parts (w e : ℕ) (lo hi s t : List ℕ) (a f g room : ℕ) : Type 0 where
+-- parts of the two chains of the columns w to e, and a buffer that is long enough for them
+pub record Parts (w e : ℕ) (lo hi s t : List ℕ) (a f g size : ℕ) : Type 0 where
   pub ordered : w ≤ e
   pub within : e ≤ top
   pub lower : a ≤ length s
   pub from : f ≤ g
   pub upto : g ≤ length t
-  pub fits : 2 * ((length s - a) + (g - f)) ≤ room
+  pub fits : 2 * ((length s - a) + (g - f)) ≤ size
   pub columns : (j : ℕ) → a ≤ j → j < length s → getD s j 0 < length lo
   pub columns2 : (j : ℕ) → f ≤ j → j < g → getD t j 0 < length hi
 

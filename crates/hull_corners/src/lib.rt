@@ -13,7 +13,7 @@ ghost use lib.IntN.{pos, natAbs, _+ℤ_, _-ℤ_, _*ℤ_};
 ghost use lib.ListN.{length, set};
 ghost use lib.Seq.{sets, slice};
 ghost use Rattle.grid.specs.Grid.{numbers};
-ghost use Rattle.hull_laws.specs.Outline.{hullBy, spotBy, colAt};
+ghost use Rattle.hull_laws.specs.Chain.{hullBy, spotBy, colAt};
 ghost use Rattle.column_laws.specs.Columns.{spot, middle, top};
 ghost use Rattle.answer.specs.Limits.{mostStart, farthest, Near};
 ghost use Rattle.hull_corners.specs.Parts.{bothSides, twoAt, Puts, Parts, TwoChains, ListGiven};
@@ -85,7 +85,7 @@ fn close(lo: u16, hi: u16, f: usize, n: usize) -> usize
     n
 }
 
-// The coordinate at place n, where z stands in the middle.
+// The coordinate at place n, if z stands in the middle.
 fn shifted(z: i32, n: usize) -> i32
     requires { ⌜ (natAbs z ≤ mostStart) × (n ≤ top) ⌝ }
     ensures { λ r. ⌜ r ≡ (z -ℤ pos middle) +ℤ pos n ⌝ }
@@ -93,7 +93,7 @@ fn shifted(z: i32, n: usize) -> i32
     z - Columns::SHIFT + n as i32
 }
 
-// The corner at this column and height, where start stands in the middle.
+// The corner at this column and height, if start stands in the middle.
 fn placed(start: Corner, column: usize, height: usize) -> Corner
     requires { ⌜ Near start × (column ≤ top) × (height ≤ top) ⌝ }
     ensures { λ r. ⌜ r ≡ spot (start .0 -ℤ pos middle) (start .1 -ℤ pos middle) (column, height) ⌝ }
@@ -128,7 +128,7 @@ fn write(
     put(out, 2 * (n - a), last, -1, hi, t, f, g);
 }
 
-// Writes both chains if there is room, and answers how many corners there are.
+// Writes both chains if the buffer is long enough, and answers how many corners there are.
 pub fn finish(
     start: Corner,
     west: usize,
@@ -156,7 +156,7 @@ pub fn finish(
     Counted::Many(count)
 }
 
-// Writes the corners at the start's height in these two columns if there is room, and answers that there are two.
+// Writes the corners at the start's height in these two columns if the buffer is long enough, and answers that there are two.
 pub fn ends(start: Corner, west: usize, east: usize, out: &mut [i32]) -> Counted
     requires { ⌜ Near start × (west ≤ top) × (east ≤ top) ⌝ }
     ensures { λ r. ⌜ ListGiven (twoAt start west east) (now (out .entry)) r (now (out .exit)) ⌝ }

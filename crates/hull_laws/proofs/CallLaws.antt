@@ -22,7 +22,7 @@ use Rattle.answer.specs.Listed.{countedOf, laidIf}
 use Rattle.answer.proofs.RefusalLaws.{first-refused, first-last}
 use Rattle.steps.specs.Chain.{asWalkJudged}
 use Rattle.hull.specs.Call.{hullJudged, HullCall}
-use Rattle.hull_laws.specs.Outline.{hullOf}
+use Rattle.hull_laws.specs.Chain.{hullOf}
 use Rattle.hull_laws.proofs.OneLaws.{hullIs-one}
 use Rattle.hull_laws.proofs.HullLaws.{hullOf-hull}
 use Rattle.hull_laws.proofs.JoinLaws.{length-numbers}

@@ -14,7 +14,7 @@ use Rattle.grid.specs.Grid.{same, numbers}
 use Rattle.grid.proofs.CornerLaws.{same-sound, same-refl}
 use Rattle.hull.specs.Hull.{Left, OnLeft, cross}
 
--- the variables of the i-th corner of a list, of which `numbers` are the values
+-- the variables of the i-th corner of a list; `numbers` are their values
 abbrev pub X : ℕ → E
 X i = v (2 * i)
 

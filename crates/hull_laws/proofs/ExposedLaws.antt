@@ -27,7 +27,7 @@ use Rattle.grid.proofs.CornerLaws.{corner-eq}
 abbrev square : Corner → Corner → Corner → ℤ
 square a b = reach (b .1 -ℤ a .1) (a .0 -ℤ b .0)
 
--- where two edges meet at a left turn, the corner between them is exposed
+-- if two edges meet at a left turn, the corner between them is exposed
 -- on both lines
 meet : (a q b p : Corner) → Left a q b → cross a q p ≡ pos 0 → cross q b p ≡ pos 0 → p ≡ q
 unfolding cross

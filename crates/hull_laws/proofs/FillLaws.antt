@@ -59,7 +59,7 @@ module _ {chain : List ℕ} {w e : ℕ} {lo₀ hi₀ lo hi : List ℕ} {x y i : 
   pub filling-in-hi : e - w < length hi₀ → e - x < length hi
   filling-in-hi h = omega (arith, filling-west, filling-east, f .size2)
 
-  -- with room for a step
+  -- with space for a step
   pub filling-column : i < length chain → (0 < x) × (x ≤ 2 * mostSteps)
   filling-column h = (omega (arith, f .left), omega (arith, f .right))
 

@@ -6,7 +6,7 @@ use lib.IntN.{pos, negsuc}
 use Rattle.grid.specs.Grid.{corner, origin}
 use Rattle.column_laws.specs.Columns.{colAfter, rowAfter, trail, westFrom, eastFrom}
 use Rattle.hull_laws.specs.Lowest.{sink, sinks}
-use Rattle.hull_laws.specs.Outline.{turnsAt, cutAt, chainFrom, hullBy, hullOf}
+use Rattle.hull_laws.specs.Chain.{turnsAt, cutAt, chainFrom, hullBy, hullOf}
 
 -- P1
 pub hull-of-none : hullOf origin [] ≡ origin ∷ []

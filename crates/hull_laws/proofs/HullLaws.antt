@@ -16,7 +16,7 @@ use Rattle.grid.proofs.CornerLaws.{same-sound, same-refl, corner-eq}
 use Rattle.grid.proofs.StepLaws.{length-cornersFrom}
 use Rattle.hull.specs.Hull.{HullIs, Encloses}
 use Rattle.column_laws.specs.Columns.{westFrom, eastFrom, spot}
-use Rattle.hull_laws.specs.Outline.{hullOf}
+use Rattle.hull_laws.specs.Chain.{hullOf}
 use Rattle.hull_laws.proofs.WalkLaws.{Room, columns-both}
 use Rattle.hull_laws.proofs.OneLaws.{hullIs-one}
 

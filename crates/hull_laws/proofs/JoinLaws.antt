@@ -17,7 +17,7 @@ use Rattle.lists.specs.Lists.{tally, front}
 use Rattle.lists.proofs.BoolLaws.{tally-le}
 use Rattle.grid.specs.declared.Corner.{Corner}
 use Rattle.grid.specs.Grid.{numbers}
-use Rattle.hull_laws.specs.Outline.{chainFrom, spotBack, spotBy, colAt, skip, stop, upper, hullBy}
+use Rattle.hull_laws.specs.Chain.{chainFrom, spotBack, spotBy, colAt, skip, stop, upper, hullBy}
 use Rattle.column_laws.specs.Columns.{spot}
 use Rattle.grid.proofs.CornerLaws.{corner-eq}
 

@@ -12,7 +12,7 @@ use lib.IntN.{ℤ, pos, _+ℤ_, _-ℤ_}
 use lib.Signed.{_<ℤ_}
 use Rattle.int_laws.proofs.LinearLaws.{zarith, bal+, bal-}
 use Rattle.grid.specs.declared.Corner.{Corner}
-use Rattle.hull_laws.specs.Outline.{chainFrom, cutAt, spotBack, colAt, skip, stop, upper}
+use Rattle.hull_laws.specs.Chain.{chainFrom, cutAt, spotBack, colAt, skip, stop, upper}
 use Rattle.column_laws.specs.Columns.{spot}
 use Rattle.hull_laws.proofs.CornerLaws.{corner-dec}
 use Rattle.grid.proofs.CornerLaws.{corner-eq}
@@ -91,7 +91,7 @@ module _ (x0 y0 : ℤ) (k h : ℕ) (lo hi : List ℕ) where
   g : ℕ → Corner
   g c = spotBack (x0 +ℤ pos k) (y0 +ℤ pos h) (colAt hi c)
 
-  -- where columns face each other the corners are one exactly when the heights together are h
+  -- if columns face each other the corners are one exactly when the heights together are h
   meets : (c d : ℕ) → c + d ≡ k → eqb (getD lo c 0 + getD hi d 0) h ≡ true → g d ≡ f c
   unfolding f g
   meets c d e t = corner-eq (spotBack (x0 +ℤ pos k) (y0 +ℤ pos h) (colAt hi d)) (spot x0 y0 (colAt lo c)) (over x0 c d k e) (over y0 (getD lo c 0) (getD hi d 0) h (eqb-true (getD lo c 0 + getD hi d 0) h t))

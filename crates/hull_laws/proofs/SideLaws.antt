@@ -68,7 +68,7 @@ ends-x : (b q : Corner) → Ends b q → q .0 ≤ℤ b .0
 ends-x b q (inl h) = omega zarith
 ends-x b q (inr h) = omega (zarith, h .0)
 
--- a path with its last corner left out where it is c: the way to c ends it
+-- a path with its last corner left out if it is c: the way to c ends it
 close-trim : (P : List Corner) (c b : Corner) (s : List Corner) → Edges P (b ∷ s) → (¬ (lastOf b s ≡ c) → AllLeft P (lastOf b s) c) → LeftOfPath P (b ∷ (trim c s ++ (c ∷ [])))
 unfolding trim lastOf
 close-trim P c b [] h f = go (corner-dec b c)

@@ -14,7 +14,7 @@ use lib.Signed.{_≤ℤ_, _<ℤ_}
 use Rattle.int_laws.proofs.LinearLaws.{zarith, bal+}
 use Rattle.grid.specs.declared.Corner.{Corner}
 use Rattle.hull_laws.specs.Lowest.{sink, sinks}
-use Rattle.hull_laws.specs.Outline.{colAt}
+use Rattle.hull_laws.specs.Chain.{colAt}
 use Rattle.column_laws.specs.Columns.{spot}
 use Rattle.hull_laws.proofs.ChainLaws.{Sorted}
 use Rattle.hull_laws.proofs.TurnedLaws.{Lows}
@@ -115,7 +115,7 @@ module _ (x0 y0 : ℤ) (ys : List ℕ) where
           let r = Memᴰ·of-map at (upFrom (suc i) k) m in
           omega (zarith, in-upFrom (suc i) k (r .0) (r .1), bal+ x0 (pos i), bal+ x0 (pos (r .0)), ap (λ (z : Corner). z .0) (r .2))
 
--- n columns, of which each is seen; none holds a height at first
+-- n columns, each of them seen; none holds a height at first
 module _ (x0 y0 : ℤ) (vs : List (ℕ × ℕ)) (a : List ℕ) (n top : ℕ) (room : n ≤ length a)
     (blank : (c : ℕ) → c < n → getD a c 0 ≡ top) (inside : (v : ℕ × ℕ) → List·Memᴰ v vs → (v .0 < n) × (v .1 < top))
     (every : (c : ℕ) → c < n → (h : ℕ) × List·Memᴰ (c, h) vs) where

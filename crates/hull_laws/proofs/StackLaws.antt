@@ -10,7 +10,7 @@ use native.Mathlib.Numerals.{add-one}
 use native.Mathlib.Decide.{decLt}
 use lib.ListN.{length, getD, drop, set, length-drop, drop-of-length-le}
 use lib.Seq.{drop-cons, drop-set-lt, getD-set-same, lt-length-set, getD-drop}
-use Rattle.hull_laws.specs.Outline.{turnsAt, dropsAt, cutAt, chainFrom}
+use Rattle.hull_laws.specs.Chain.{turnsAt, dropsAt, cutAt, chainFrom}
 use Rattle.hull_laws.proofs.ScanLaws.{chain-in}
 
 -- a product of two numbers of 16 bits

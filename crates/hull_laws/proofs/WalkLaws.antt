@@ -1,4 +1,4 @@
--- The hull of a walk's corners, by columns: any columns that have room give it, and so there is one.
+-- The hull of a walk's corners, by columns: any columns that are enough give it, and so there is one.
 -- Assumes nothing.
 use mathlib.Core.Path.{_≡_, refl, sym, ap, ap₂, _∙_, subst}
 use mathlib.Core.List.{List, [], _∷_, _++_, map, List·Memᴰ, List·Memᴰ·head, Memᴰ·map, Memᴰ·of-map}
@@ -12,7 +12,7 @@ use Rattle.grid.specs.Grid.{cornersFrom}
 use Rattle.hull.specs.Hull.{HullIs, Encloses}
 use Rattle.column_laws.specs.Columns.{trail, westFrom, eastFrom, spot}
 use Rattle.hull_laws.specs.Lowest.{sinks, countedFrom, halfTurned}
-use Rattle.hull_laws.specs.Outline.{chainFrom, spotBack, colAt, upper, hullBy}
+use Rattle.hull_laws.specs.Chain.{chainFrom, spotBack, colAt, upper, hullBy}
 use Rattle.grid.proofs.CornerLaws.{corner-eq}
 use Rattle.hull_laws.proofs.ChainLaws.{chain}
 use Rattle.hull_laws.proofs.TurnedLaws.{Lows, neg, negs}
@@ -36,7 +36,7 @@ unfolding negs
 turned-back x1 y1 ys [] = refl
 turned-back x1 y1 ys (c ∷ l) = ap₂ _∷_ (spot-back x1 y1 (colAt ys c)) (turned-back x1 y1 ys l)
 
--- what is asked of the columns: room for the walk on every side, heights up to h, and no height yet
+-- what is asked of the columns: space for the walk on every side, heights up to h, and no height yet
 pub record Room (x y : ℕ) (ds : List ℕ) (h top : ℕ) (a b : List ℕ) : Type 0 where
   pub across : length ds ≤ x
   pub up : length ds ≤ y

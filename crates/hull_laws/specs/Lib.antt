@@ -1,3 +1,3 @@
 -- The method by columns.
 pub mod Lowest
-pub mod Outline
+pub mod Chain

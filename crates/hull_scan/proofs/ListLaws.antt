@@ -24,7 +24,7 @@ use Rattle.steps.proofs.ChainLaws.{good-digits, good-short}
 use Rattle.hull.specs.Call.{hullJudged, HullCall}
 use Rattle.column_laws.specs.Columns.{westFrom, eastFrom, trail, spot, middle, top}
 use Rattle.hull_laws.specs.Lowest.{sinks, countedFrom, halfTurned, blank}
-use Rattle.hull_laws.specs.Outline.{hullBy}
+use Rattle.hull_laws.specs.Chain.{hullBy}
 use Rattle.grid.proofs.CornerLaws.{corner-eq}
 use Rattle.column_laws.proofs.TrailLaws.{width-le, east-le, west-le, east-ge}
 use Rattle.hull_laws.proofs.SinkLaws.{length-sinks}
@@ -142,7 +142,7 @@ module _ {chain : List ℕ} {w e : ℕ} {lo hi s t : List ℕ} (k : Spans chain 
       whole : HullIs (cornersFrom c chain) (hullBy (c .0 -ℤ pos middle) (c .1 -ℤ pos middle) w e top lo′ hi′)
       whole = subst (HullIs (cornersFrom c chain)) same at
 
--- and where nothing else is refused that is the call
+-- and if nothing else is refused that is the call
 pub call-listed : {s : Corner} {chain : List ℕ} {before after : List ℤ} {r : Counted} → asWalkJudged s chain ≡ judged.Good → Hulled s chain before r after → HullCall s chain before r after
 call-listed {s} {chain} {before} e k = record {
   list = k .list;

@@ -12,11 +12,11 @@ use Rattle.hull.specs.Hull.{HullIs}
 use Rattle.hull_laws.specs.Lowest.{blank}
 use Rattle.hull_corners.specs.Parts.{ListGiven}
 
--- the columns for which the small store has room: as many as 31 steps go through
+-- the columns that the small store has: as many as 31 steps go through
 abbrev pub smallSize : ℕ
 smallSize = 32
 
--- the columns for which the medium store has room: as many as 1,024 steps go through
+-- the columns that the medium store has: as many as 1,024 steps go through
 abbrev pub mediumSize : ℕ
 mediumSize = 1025
 
@@ -34,7 +34,7 @@ pub record HullStore (w e : ℕ) (lo hi s t : List ℕ) : Type 0 where
   pub clear2 : hi ≡ replicate (length hi) blank
 
 -- the hull of the walk is listed
-pub record Hulled (s : Corner) (chain : List ℕ) (before : List ℤ) (r : Counted) (after : List ℤ) : Type 0 where
+pub record Hulled (c : Corner) (chain : List ℕ) (before : List ℤ) (r : Counted) (after : List ℤ) : Type 0 where
   pub list : List Corner
-  pub hull : HullIs (cornersFrom s chain) list
+  pub hull : HullIs (cornersFrom c chain) list
   pub listed : ListGiven list before r after

@@ -22,7 +22,7 @@ ghost use Rattle.hull.specs.Call.{HullCall};
 ghost use Rattle.hull_columns.specs.Extent.{Spans};
 ghost use Rattle.hull_scan.specs.Store.{smallSize, mediumSize, HullStore, Hulled};
 
-// The columns for which the small store has room, and the medium one.
+// The columns that the small store has, and the medium one.
 const SMALL: usize = 32;
 
 const MEDIUM: usize = 1025;

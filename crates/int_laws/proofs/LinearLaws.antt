@@ -1,8 +1,7 @@
--- ℤ by way of the native ℕ, so that `omega` proves linear facts of ℤ.
--- z is `up z` less `dn z`, of which one is 0. An order or an equation of ℤ is one of ℕ: a ≤ℤ b is up a + dn b ≤ up b + dn a.
--- `omega zarith` reads hypotheses and goals a ≤ℤ b, a <ℤ b, a ≡ b whose sides are atoms (or literals); for a sum, a difference or a negation
--- that occurs list its fact: `omega (zarith, bal+ x y, bal- x y)`.
--- Assumes nothing.
+-- ℤ by way of the native ℕ, so that `omega` proves linear facts of ℤ. z is `up z` less `dn z`, and one of the two is 0. An order
+-- or an equation of ℤ is one of ℕ: a ≤ℤ b is up a + dn b ≤ up b + dn a. `omega zarith` reads hypotheses and goals a ≤ℤ b, a <ℤ b,
+-- a ≡ b whose sides are atoms (or literals); for a sum, a difference or a negation that occurs list its fact: `omega (zarith,
+-- bal+ x y, bal- x y)`. Assumes nothing.
 use mathlib.Core.Path.{_≡_, refl, ap}
 use mathlib.Core.Bool.{Bool, true, false, not, cond}
 use mathlib.Core.Logic.{_⊎_, inl, inr}

@@ -1,6 +1,6 @@
--- Equations of polynomials over ℤ, by reflection. `E` is an expression in the variables 0, 1, .. , of which `den n ρ e` is the value where
+-- Equations of polynomials over ℤ, by reflection. `E` is an expression in the variables 0, 1, .. ; `den n ρ e` is its value if
 -- variable i is the i-th of the list ρ and n is how many there are. `norm n e` is the polynomial, as coefficients nested n deep, and
--- `ring n ρ a b tt : den n ρ a ≡ den n ρ b` where a and b have the same polynomial.
+-- `ring n ρ a b tt : den n ρ a ≡ den n ρ b` if a and b have the same polynomial.
 -- Assumes nothing.
 use mathlib.Core.Path.{_≡_, refl, sym, ap, ap₂, _∙_}
 use mathlib.Core.Bool.{Bool, true, false}

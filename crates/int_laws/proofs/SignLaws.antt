@@ -1,7 +1,7 @@
--- Inequalities of polynomials over ℤ, by certificate. `Nn n ρ e` says that e is not negative. Hypotheses are brought in by `h≤`, `h<`, `h≡`,
--- combined by sums `_⊞_`, products `_⊠_` and multiples `_⋆_`, and the goal is what the ring normaliser finds equal to the combination,
--- up to a constant that is not negative: `by≤ a b c tt`. `by≤÷ m a b hm c tt` proves a ≤ b where m * (b - a) is the combination, m above 0.
--- Assumes nothing.
+-- Inequalities of polynomials over ℤ, by certificate. `Nn n ρ e` says that e is not negative. Hypotheses are brought in by `h≤`,
+-- `h<`, `h≡`, combined by sums `_⊞_`, products `_⊠_` and multiples `_⋆_`, and the goal is what the ring normaliser finds equal to
+-- the combination, up to a constant that is not negative: `by≤ a b c tt`. `by≤÷ m a b hm c tt` proves a ≤ b if m * (b - a) is the
+-- combination, m above 0. Assumes nothing.
 use mathlib.Core.Path.{_≡_, sym, ap, _∙_, subst}
 use mathlib.Core.Bool.{Bool, true}
 use mathlib.Core.List.{List, [], _∷_}

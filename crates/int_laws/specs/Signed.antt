@@ -1,4 +1,4 @@
--- An integer as a difference of two natural numbers: z is `up z` less `dn z`, of which one is 0.
+-- An integer as a difference of two natural numbers: z is `up z` less `dn z`, and one of the two is 0.
 -- Assumes nothing.
 use Prim.Native.Nat.{ℕ, suc}
 use lib.IntN.{ℤ, pos, negsuc}

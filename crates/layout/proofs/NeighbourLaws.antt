@@ -1,4 +1,4 @@
--- The neighbour's ref stands in a record exactly where there is a link.
+-- The neighbour's ref stands in a record exactly if there is a link.
 -- Assumes nothing.
 use mathlib.Core.List.{List}
 use mathlib.Core.Path.{_≡_, refl}

@@ -48,7 +48,8 @@ record-width = refl
 zeros-after : drop width (tableOf (width + 4) origin []) ≡ 0 ∷ 0 ∷ 0 ∷ 0 ∷ []
 zeros-after = refl
 
--- after 0, 2, 0 and a take-back: nodes, visits at the corner now stood on, and the two ends of the step, whose records alone differ
+-- after 0, 2, 0 and a take-back: nodes, visits at the corner where the walk now stands, and the two ends of the step, whose
+-- records alone differ
 marks-of-a-take-back : marksOf origin (0 ∷ 2 ∷ 0 ∷ 4 ∷ []) ≡ 2 ∷ 1 ∷ 2 ∷ 2 ∷ 2 ∷ 2 ∷ 2 ∷ 2 ∷ 2 ∷ 2 ∷ 2 ∷ 2 ∷ []
 marks-of-a-take-back = refl
 

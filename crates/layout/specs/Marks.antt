@@ -32,8 +32,8 @@ changesOf c ds es =
     let n = max (length (nodesOf (cornersFrom c ds))) (length (nodesOf (cornersFrom c es))) in
     changesIn n (tableOf (n * width) c ds) (tableOf (n * width) c es)
 
--- of an operation with the steps ds before it and es after it: the nodes then in use, the visits at the corner then stood on, the
--- records that differ
+-- of an operation with the steps ds before it and es after it: the nodes then in use, the visits at the corner where the walk
+-- then stands, the records that differ
 abbrev pub markOf : Corner → List ℕ → List ℕ → List ℕ
 markOf c ds es = length (nodesOf (cornersFrom c es)) ∷ count (same (endFrom c es)) (cornersFrom c es) ∷ changesOf c ds es ∷ []
 

@@ -11,7 +11,7 @@ recordWords m = 14 + m * 11
 abbrev pub width : ℕ
 width = recordWords 1
 
--- how many records so many words hold
+-- how many records this many words hold
 abbrev pub recordsIn : ℕ → ℕ
 recordsIn words = words / width
 
@@ -80,7 +80,7 @@ childRefOf ns a w = find (λ c. not (isRoot c) && same (parentOf c) a && eqb (ch
 abbrev pub neighbourRefOf : List Corner → List Corner → Corner → ℕ → ℕ
 neighbourRefOf ps ns a d = elim (linkStepOf ps a d) [ zero ↦ 0 | suc k ↦ refOf ns (stepped d a) ]
 
--- how often the edge from a in direction d was walked: the steps whose two ends are a and its neighbour there, in either sense
+-- how often the edge from a in direction d was walked: the steps whose two ends are a and its neighbour there, either way
 abbrev pub edgesOf : List Corner → Corner → ℕ → ℕ
 edgesOf ps a d = count (joins a (stepped d a)) (legsOf ps)
 
@@ -105,7 +105,7 @@ abbrev pub recordsOf : List Corner → List Corner → List Corner → List ℕ
 recordsOf ps ns [] = []
 recordsOf ps ns (a ∷ rest) = recordOf ps ns a ++ recordsOf ps ns rest
 
--- the table of so many words: the records of the nodes in use, then zeros
+-- the table of this many words: the records of the nodes in use, then zeros
 abbrev pub tableOf : ℕ → Corner → List ℕ → List ℕ
 tableOf words c ds =
     let ps = cornersFrom c ds in

@@ -100,7 +100,7 @@ turned-names s t =
 pub other-stays : (s : List ℕ) {r : Bool} → r ≡ namesTurns s → r ≡ false → s ≡ convertedLine s
 other-stays s e f = sym (converted-other s (λ t. true≢false (sym (turned-names s t) ∙ sym e ∙ f)))
 
--- how that is told
+-- how that is written
 pub names-short : (s : List ℕ) → length s < 2 → false ≡ namesTurns s
 names-short [] h = refl
 names-short (a ∷ []) h = go (eqb a 48)
@@ -116,7 +116,7 @@ names-other s f = rw (ne-eqb (getD s 0 0) 48 f) refl
 pub names-first : (s : List ℕ) → getD s 0 0 ≡ 48 → eqb (getD s 1 0) 49 ≡ namesTurns s
 names-first s e = rw (eq-eqb (getD s 0 0) 48 e) refl
 
--- the call, where the buffer is too short, and where it is not
+-- the call, if the buffer is too short, and if it is not
 pub convert-short : (s out : List ℕ) → length out < length s → ConvertedIs s out 0 out
 convert-short s out h = record {
   answer = rw (lt-leb (length s) (length out) h) refl;

@@ -59,7 +59,7 @@ fn spell_frame(steps: &[u8], out: &mut [u8], at: usize) -> usize
     spell_steps(steps, out, b)
 }
 
-// Writes the frame with the steps of the turns of the frame s, for which a buffer is lent; or s, if a digit is no turn.
+// Writes the frame with the steps of the turns of the frame s into the lent buffer; or s, if a digit is not a turn.
 fn convert_turns(s: &[u8], turns: &[u8], steps: &mut [u8], out: &mut [u8], at: usize) -> usize
     requires { ⌜ (length (now s) ≡ headDigits + length (now turns)) × (length (now steps) ≡ length (now turns)) ⌝ }
     requires { ⌜ at + length (now s) ≤ length (now out) ⌝ }
@@ -137,8 +137,8 @@ pub fn convert(line: &[u8], out: &mut [u8]) -> usize
     convert_line(line, out, 0)
 }
 
-// What is written of a line that goes on, where h is held of it and r comes: the bytes that are new as soon as it is longer than
-// a frame.
+// What is written of a line that goes on, if h is held of it and then r comes: the bytes that are new as soon as it is longer
+// than a frame.
 pub fn pass_on(h: &[u8], r: &[u8], out: &mut [u8], at: usize) -> usize
     requires { ⌜ at + length (now h) + length (now r) ≤ length (now out) ⌝ }
     ensures { λ e. ⌜ Wrote (cond (isLong (now (h .entry))) (now (r .entry))
@@ -155,7 +155,7 @@ pub fn pass_on(h: &[u8], r: &[u8], out: &mut [u8], at: usize) -> usize
     copy(r, out, next)
 }
 
-// What is written of a line of which h was kept, where it ends: the line converted, or nothing more if it was passed on.
+// What is written at the end of a line, if h was kept of it: the line converted, or nothing more if it was passed on.
 pub fn end_line(h: &[u8], out: &mut [u8], at: usize) -> usize
     requires { ⌜ (length (now h) ≤ mostHeld) × (at + mostHeld ≤ length (now out)) ⌝ }
     ensures { λ e. ⌜ Wrote (cond (isLong (now (h .entry))) [] (convertedLine (now (h .entry)))) at

@@ -1,4 +1,4 @@
--- Bytes written into a buffer, the rest of which stays as it was. Assumes nothing.
+-- Bytes written into a buffer; the rest of the buffer stays as it was. Assumes nothing.
 use Rattle.lists.specs.Lists.{_≡_, List, _++_, length, take, drop, ℕ, _+_}
 
 -- the buffer with the bytes f from the place at on

@@ -3,7 +3,7 @@
 use mathlib.Core.Path.{_≡_, refl}
 use Rattle.hull_laws.specs.Lowest.{sinks, sink}
 use Rattle.column_laws.specs.Columns.{westFrom, eastFrom, trail, colAfter, rowAfter}
-use Rattle.hull_laws.specs.Outline.{turnsAt, cutAt, chainFrom, hullBy, hullOf}
+use Rattle.hull_laws.specs.Chain.{turnsAt, cutAt, chainFrom, hullBy, hullOf}
 use Rattle.line_frame.specs.Hex.{allHex, valuesOf, numberFrom, hexOf}
 use Rattle.line_frame.specs.Spelled.{numbersLine}
 use Rattle.line_frame.specs.Line.{frameOf, lineWalked, lineAnswer}
@@ -47,7 +47,7 @@ pub nothing-to-take : lineAnswer (bytesOf "000003044") ≡ bytesOf "8500000002"
 unfolding lineAnswer lineWalked frameOf allHex valuesOf numberFrom hexOf numbersLine hullOf hullBy chainFrom cutAt turnsAt sinks sink westFrom eastFrom trail colAfter rowAfter bytesOf
 nothing-to-take = refl
 
--- 4 is no turn, and its frame is retired before that is seen
+-- 4 is not a turn, and its frame is retired before that is seen
 pub retired-first : lineAnswer (bytesOf "0100014") ≡ bytesOf "9300000000"
 unfolding lineAnswer lineWalked frameOf allHex valuesOf numberFrom hexOf bytesOf
 retired-first = refl

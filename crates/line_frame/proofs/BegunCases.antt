@@ -10,7 +10,7 @@ line-passed : passedOf (48 ∷ 10 ∷ 49 ∷ []) ≡ 2
 unfolding lineLength
 line-passed = refl
 
--- all, where there is none
+-- all, if there is none
 all-passed : passedOf (48 ∷ 49 ∷ []) ≡ 2
 unfolding lineLength
 all-passed = refl
@@ -29,7 +29,7 @@ held-on = refl
 kept-of-a-long-line : length (keptOf (replicate 1032 48)) ≡ 1031
 kept-of-a-long-line = refl
 
--- and it stays held, so that its rest is no line
+-- and it stays held, so that its rest is not a line
 long-line-held : length (heldOf (replicate 1031 48) (48 ∷ [])) ≡ 1031
 unfolding lineLength
 long-line-held = refl

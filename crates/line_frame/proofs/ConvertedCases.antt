@@ -12,12 +12,12 @@ pub turns-to-steps : convertedLine (bytesOf "01000c001030330001") ≡ bytesOf "0
 unfolding convertedLine frameOf allHex valuesOf numberFrom hexOf lettersOf bytesOf
 turns-to-steps = refl
 
--- 4 is no turn: the frame stays
+-- 4 is not a turn: the frame stays
 pub no-turn : convertedLine (bytesOf "01000204") ≡ bytesOf "01000204"
 unfolding convertedLine frameOf allHex valuesOf numberFrom hexOf lettersOf bytesOf
 no-turn = refl
 
--- so do operations, and what is no frame
+-- so do operations, and what is not a frame
 pub operations-stay : convertedLine (bytesOf "00000204") ≡ bytesOf "00000204"
 unfolding convertedLine frameOf allHex valuesOf numberFrom hexOf lettersOf bytesOf
 operations-stay = refl

@@ -25,7 +25,7 @@ unfolding valuesOf
 length-valuesOf [] = refl
 length-valuesOf (b ∷ s) = ap suc (length-valuesOf s)
 
--- digits alone: of what is left
+-- only digits: of what is left
 pub allHex-here : (s : List ℕ) (i : ℕ) → i < length s → allHex (drop i s) ≡ isHex (getD s i 0) && allHex (drop (suc i) s)
 unfolding allHex
 allHex-here s i h = rw (drop-cons s i 0 h) refl
@@ -86,7 +86,7 @@ value-letter b e =
       | no f ↦ rw (le-leb b 57 (omega (arith, f)), lt-ltb (b - 48) 10 (omega (arith, f))) (omega (arith, f), omega (arith, r .0))
     ]
 
--- the digits of a number say it, but for what is cut off
+-- the digits of a number say it, apart from what is cut off
 number-snoc : (v : ℕ) (l : List ℕ) (b : ℕ) → numberFrom v (l ++ (b ∷ [])) ≡ numberFrom v l * 16 + valueOf b
 unfolding numberFrom
 number-snoc v [] b = refl

@@ -48,7 +48,7 @@ pub upper-case : frameOf (bytesOf "000001F") ≡ Bad
 unfolding frameOf allHex numberFrom bytesOf
 upper-case = refl
 
--- a carriage return belongs to the line, and is no digit
+-- a carriage return belongs to the line, and is not a digit
 pub carriage-return : frameOf (bytesOf "0000010\r") ≡ Bad
 unfolding frameOf allHex numberFrom bytesOf
 carriage-return = refl
@@ -83,7 +83,7 @@ pub feed-alone : outputFrom marked marked [] (bytesOf "\n") ≡ bytesOf "<>"
 unfolding outputFrom bytesOf
 feed-alone = refl
 
--- what is told of a last line that lacks its line feed may be something else
+-- what is written for a last line that lacks its line feed may be something else
 pub another-last : outputFrom marked (λ l. l) [] (bytesOf "0\n1") ≡ bytesOf "<0>1"
 unfolding outputFrom bytesOf
 another-last = refl

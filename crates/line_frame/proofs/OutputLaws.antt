@@ -65,11 +65,11 @@ module _ (told last : List ℕ → List ℕ) where
           ∙ ap (λ (x : List ℕ). x ++ outputFrom told last [] t) (sym (output-feed r (s ++ (10 ∷ [])) b e))
       go false e f g = output-more r (s ++ (10 ∷ t)) b e ∙ g ∙ ap (λ (x : List ℕ). x ++ outputFrom told last [] t) (sym (output-more r (s ++ (10 ∷ [])) b e))
 
-  -- where the first part of an input ends in a line feed, the output is that of the one and then that of the other
+  -- if the first part of an input ends in a line feed, the output is that of the one and then that of the other
   pub output-parts : (s t : List ℕ) → outputFrom told last [] (s ++ (10 ∷ t)) ≡ outputFrom told last [] (s ++ (10 ∷ [])) ++ outputFrom told last [] t
   output-parts s t = output-cut [] s t
 
--- what is told of each line decides
+-- what is written for each line decides
 pub output-same : (told last told′ last′ : List ℕ → List ℕ) → ((l : List ℕ) → told l ≡ told′ l) → ((l : List ℕ) → last l ≡ last′ l)
     → (r s : List ℕ) → outputFrom told last r s ≡ outputFrom told′ last′ r s
 unfolding outputFrom
@@ -82,7 +82,7 @@ output-same told last told′ last′ f g r (b ∷ s) =
     go true p q = p
     go false p q = q
 
--- where each line is written as one of its length with as many line feeds, and those between the lines stay
+-- if each line is written as one of its length with as many line feeds, and those between the lines stay
 module _ (g : List ℕ → List ℕ) (size : (l : List ℕ) → length (g l) ≡ length l) (feeds : (l : List ℕ) → feedsIn (g l) ≡ feedsIn l) where
   abbrev fedLine : List ℕ → List ℕ
   fedLine l = g l ++ (10 ∷ [])

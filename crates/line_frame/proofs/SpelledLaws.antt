@@ -13,7 +13,7 @@ use Rattle.answer.specs.Refusal.{refusalNumber, refusalPlace, verdictNumber}
 use Rattle.answer.specs.Words.{bitsOf}
 use Rattle.grid.specs.declared.Corner.{Corner}
 use Rattle.grid.specs.Grid.{origin, numbers}
-use Rattle.hull_laws.specs.Outline.{hullOf}
+use Rattle.hull_laws.specs.Chain.{hullOf}
 use Rattle.hull_laws.proofs.HullLaws.{length-hullOf}
 use Rattle.hull_laws.proofs.JoinLaws.{length-numbers}
 use Rattle.answer.specs.declared.Answer.the-variants as walked

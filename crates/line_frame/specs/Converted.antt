@@ -22,7 +22,7 @@ abbrev pub kindConverted : Kind → List ℕ → List ℕ
 kindConverted Operations s = s
 kindConverted Turns s = writtenIf (turnsJudged (digitsOf s) (length (digitsOf s))) (stepsFrame (stepsOf (digitsOf s))) s
 
--- so does a line that is no frame
+-- so does a line that is not a frame
 abbrev pub convertedBy : Frame → List ℕ → List ℕ
 convertedBy (Of k n) s = kindConverted k s
 convertedBy Bad s = s

@@ -16,7 +16,7 @@ kindOf s = numberFrom 0 (take 2 s)
 abbrev pub countOf : List ℕ → ℕ
 countOf s = numberFrom 0 (take 4 (drop 2 s))
 
--- digits alone; kind 00 or 01; a count of at most 0400; and as many digits after it as it says
+-- only digits; kind 00 or 01; a count of at most 0400; and as many digits after it as it says
 abbrev pub isFrame : List ℕ → Bool
 isFrame s = allHex s && ltb (kindOf s) 2 && leb (countOf s) mostDigits && eqb (length s) (headDigits + countOf s)
 

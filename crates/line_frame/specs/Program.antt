@@ -7,8 +7,8 @@ abbrev pub lastOf : (List ℕ → List ℕ) → List ℕ → List ℕ
 lastOf f [] = []
 lastOf f (b ∷ s) = f (b ∷ s)
 
--- an output made line by line, where these bytes of the first line were read before: what is told of each line that a line feed
--- ends, and what is told of a last line that lacks it
+-- an output made line by line, if these bytes of the first line were read before: what is written for each line that a line feed
+-- ends, and what is written for a last line that lacks it
 unfoldable pub outputFrom : (List ℕ → List ℕ) → (List ℕ → List ℕ) → List ℕ → List ℕ → List ℕ
 outputFrom told last line [] = lastOf last line
 outputFrom told last line (b ∷ s) =

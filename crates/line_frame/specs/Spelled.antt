@@ -3,7 +3,7 @@ use Rattle.lists.specs.Lists.{List, [], _∷_, _++_, length, ℕ, _+_, ℤ}
 use Rattle.answer.specs.declared.{Refusal.Refusal, Facts.Facts, Answer.Answer}
 use Rattle.answer.specs.{Refusal.refusalNumber, Refusal.refusalPlace, Refusal.verdictNumber, Words.bitsOf}
 use Rattle.grid.specs.{declared.Corner.Corner, Grid.origin, Grid.numbers}
-use Rattle.hull_laws.specs.Outline.{hullOf}
+use Rattle.hull_laws.specs.Chain.{hullOf}
 use Rattle.line_frame.specs.Hex.{hexOf}
 
 -- refused: hexadecimal 80 plus the number, then the place in 8 digits

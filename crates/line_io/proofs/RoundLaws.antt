@@ -43,11 +43,11 @@ module _ {t : Task} {line : List ℕ} {p : Progress} {buf : List ℕ} {n : ℕ} 
         | no b ↦ omega (arith, g .next (omega (arith, b)) .0)
       ]
 
--- the sheet stands where it was told
+-- the sheet stands at the place that was answered
 pub passed-sent : (t : Task) (m q : Margin) (w : List ℕ) {r : Sent} → SentIs (marginOf t m w) r → r ≡ At q → q ≡ marginOf t m w
 passed-sent t m q w h e = subst (SentIs (marginOf t m w)) e h
 
--- the programs' output has room for the last line
+-- the programs' output is long enough for the last line
 pub last-small : (t : Task) → mostTold t ≤ 2 * mostPart
 last-small Answer = omega arith
 last-small Convert = omega arith

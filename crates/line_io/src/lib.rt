@@ -16,7 +16,7 @@ ghost use Rattle.sheet_number.specs.Numbered.{mostPage};
 ghost use Rattle.lines.specs.Tasks.{mostTold, jobOf};
 ghost use Rattle.line_io.specs.Round.{ReadOn, PassedOn, RoundIs};
 
-// After a round: how far the chunk was passed, how many bytes it has, and where the sheet stands; or the input is over with so
+// After a round: how far the chunk was passed, how many bytes it has, and where the sheet stands; or the input is over with this
 // many bytes of a line held; or a read or a write failed.
 enum Round {
     More(Progress, usize, Margin),
@@ -35,7 +35,7 @@ enum Ending {
 // A program has no exit status, so it says on this descriptor how it ended.
 const WORD_FILENO: i32 = 3;
 
-// Reads the next chunk, with so many bytes of a line held, where the sheet stands at m.
+// Reads the next chunk, with this many bytes of a line held, if the sheet stands at m.
 fn read_on(held: usize, buf: &mut [u8], m: Margin) -> Round
     ensures { λ r. ⌜ ReadOn held (length (now (buf .exit))) m r ⌝ }
 {
@@ -55,7 +55,7 @@ fn read_on(held: usize, buf: &mut [u8], m: Margin) -> Round
     Round::More(begun, n, m)
 }
 
-// Passes lines of the chunk from at on, as far as the output has room, and hands on what is written of them.
+// Passes lines of the chunk from at on, as far as the output is long enough, and passes on what is written of them.
 fn pass(
     task: Task,
     line: &mut [u8],

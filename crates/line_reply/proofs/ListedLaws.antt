@@ -16,7 +16,7 @@ use Rattle.answer.specs.declared.Refusal.{Refusal}
 use Rattle.hull.specs.Call.{hullJudged, HullCall}
 use Rattle.steps.proofs.ChainLaws.{walk-good}
 use Rattle.answer.specs.Listed.{countedOf, laidIf}
-use Rattle.hull_laws.specs.Outline.{hullOf}
+use Rattle.hull_laws.specs.Chain.{hullOf}
 use Rattle.hull_laws.proofs.OneLaws.{hullIs-one}
 use Rattle.hull_laws.proofs.HullLaws.{hullOf-hull, length-hullOf}
 use Rattle.hull_laws.proofs.JoinLaws.{length-numbers}

@@ -11,7 +11,7 @@ use Rattle.line_frame.specs.Sizes.{mostAnswer}
 use Rattle.line_fields.specs.Put.{Wrote}
 use Rattle.line_reply.specs.Reply.{LineIs}
 
--- the call for one line, where the buffer is too short, and where it is not
+-- the call for one line, if the buffer is too short, and if it is not
 pub reply-short : (s out : List ℕ) → length out < mostAnswer → LineIs s out 0 out
 reply-short s out h = record {
   answer = rw (lt-leb mostAnswer (length out) h) refl;

@@ -17,7 +17,7 @@ ghost use Prim.Native.Nat.{_+_, _≤_};
 ghost use lib.ListN.{length};
 ghost use Rattle.lists.specs.Lists.{Below};
 ghost use Rattle.grid.specs.Grid.{origin};
-ghost use Rattle.hull_laws.specs.Outline.{hullOf};
+ghost use Rattle.hull_laws.specs.Chain.{hullOf};
 ghost use Rattle.line_frame.specs.Sizes.{mostDigits, hullNumbers, mostAnswer};
 ghost use Rattle.line_frame.specs.Spelled.{factsLine, hullLine};
 ghost use Rattle.line_frame.specs.Line.{lineAnswer};
@@ -49,7 +49,7 @@ impl Desk {
     pub const MOST_ANSWER: usize = 40 + 8 * Desk::CORNERS;
 }
 
-// Lists the hull of the steps at the start of the buffer, which has room for it. Answers how many corners it has.
+// Lists the hull of the steps at the start of the buffer, which is long enough. Answers how many corners it has.
 fn list_hull(steps: &[u8], hull: &mut [i32]) -> usize
     requires { ⌜ Below 4 (now steps) × (length (now steps) ≤ mostDigits) ⌝ }
     requires { ⌜ length (now hull) ≡ hullNumbers ⌝ }

@@ -28,10 +28,10 @@ pub two-rows : rowsTold (bytesOf "00000a1400121233") ≡ bytesOf "000000000001\n
 unfolding rowsTold lineWalked spansTold frameOf allHex valuesOf numberFrom hexOf numbersLine bytesOf
 two-rows = refl
 
--- there and back is no room; turns are retired; a bad digit keeps its place; an empty line is no frame
-pub no-room : rowsTold (bytesOf "00000202") ≡ bytesOf "8c00000000\n"
+-- there and back is not a room; turns are retired; a bad digit keeps its place; an empty line is not a frame
+pub not-a-room : rowsTold (bytesOf "00000202") ≡ bytesOf "8c00000000\n"
 unfolding rowsTold lineWalked spansTold frameOf allHex valuesOf numberFrom hexOf numbersLine bytesOf
-no-room = refl
+not-a-room = refl
 
 pub retired : rowsTold (bytesOf "0100014") ≡ bytesOf "9300000000\n"
 unfolding rowsTold lineWalked spansTold frameOf allHex valuesOf numberFrom hexOf numbersLine bytesOf

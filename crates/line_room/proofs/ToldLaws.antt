@@ -98,8 +98,8 @@ module _ (s : List ℕ) (f : Facts) (e : lineWalked s ≡ Answer.Accepted f) whe
   room-told r L k = told-by true (isRoom-exactly origin left .1 r) ∙ ap spansTold (sym (rowsIs-rowsOf origin left L (r .closed) k))
 
   -- what is none is refusal 12
-  pub no-room-told : (IsRoom origin left → ⊥) → rowsTold s ≡ refusedTold NotRoom
-  no-room-told n = by (isRoom origin left) refl
+  pub not-room-told : (IsRoom origin left → ⊥) → rowsTold s ≡ refusedTold NotRoom
+  not-room-told n = by (isRoom origin left) refl
     where
       by : (b : Bool) → isRoom origin left ≡ b → rowsTold s ≡ refusedTold NotRoom
       by true h = absurd (n (isRoom-exactly origin left .0 h))

@@ -21,7 +21,7 @@ spansTold (s ∷ l) = spanTold s ++ spansTold l
 abbrev pub refusedTold : Refusal → List ℕ
 refusedTold r = refusedLine r ++ (10 ∷ [])
 
--- the spans of a room; what is no room is refused as the rows call refuses it
+-- the spans of a room; what is not a room is refused as the rows call refuses it
 abbrev pub roomTold : Judged → List ℕ → List ℕ
 roomTold Good ds = spansTold (rowsOf origin ds)
 roomTold (Refused r) ds = refusedTold r
@@ -35,10 +35,10 @@ walkTold (Answer.Refused r) ds = refusedTold r
 unfoldable pub rowsTold : List ℕ → List ℕ
 rowsTold s = walkTold (lineWalked s) (survivors (digitsOf s))
 
--- the output for an input: so for every line, the last too
+-- the output for an input: that for every line, the last too
 abbrev pub rowsProgram : List ℕ → List ℕ
 rowsProgram s = outputFrom rowsTold rowsTold [] s
 
--- bytes for a line at most: 12 digits and a line feed a span, of which there are half as many as digits at most
+-- bytes for a line at most: 12 digits and a line feed for each span; there are at most half as many spans as digits
 abbrev pub mostRows : ℕ
 mostRows = 13 * (mostDigits / 2)

@@ -42,7 +42,7 @@ module _ {ds : List ℕ} {before after : List ℤ} {r : Counted} (w : RowsCall o
   refused : (q : Refusal) → asRoomJudged origin ds ≡ Refused q → r ≡ Counted.Refused q
   refused q e = w .answer ∙ ap (λ (j : Judged). countedOf j (length (w .list))) (rows-refused origin ds (length before) (length (w .list)) q e)
 
-  -- so many spans: the buffer has their numbers, and lines of three are the lines of the room
+  -- this many spans: the buffer has their numbers, and lines of three are the lines of the room
   pub room-listed : (n : ℕ) → r ≡ Counted.Many n → (3 * n ≤ length before) × (13 * n ≤ mostRows) × (threesTold n after ≡ roomTold (asRoomJudged origin ds) ds)
   room-listed n e = by (asRoomJudged origin ds) refl
     where

@@ -50,7 +50,7 @@ module _ (zs : List ℤ) (i at : ℕ) {m : ℕ} {a b : List ℕ} (w : Wrote (thr
       subst (λ (f : List ℕ). Wrote f at a e c) (sym (ap (λ (k : ℕ). threesTold k zs) (add-one i) ∙ threes-next i zs))
       (wrote-append w (subst (λ (l : List ℤ). Wrote (threeTold l) m b e c) y v) (omega (arith, length-threes i zs (omega arith), length-three (drop (3 * i) zs) (omega (arith, length-drop (3 * i) zs)))))
 
--- the numbers of spans, before whatever comes behind them
+-- the numbers of spans, before whatever comes after them
 pub threes-spans : (L : List Span) (rest : List ℤ) → threesTold (length L) (spanNumbers L ++ rest) ≡ spansTold L
 unfolding threesTold spansTold
 threes-spans [] rest = refl

@@ -1,2 +1,2 @@
--- The laws of pages handed on.
+-- The laws of pages passed on.
 pub mod SendLaws

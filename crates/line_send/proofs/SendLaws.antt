@@ -1,4 +1,4 @@
--- Pages of the sheet handed on, one after the other.
+-- Pages of the sheet passed on, one after the other.
 -- Assumes nothing.
 use mathlib.Core.Path.{_≡_, sym, ap, _∙_, subst}
 use mathlib.Core.List.{List}
@@ -18,7 +18,7 @@ use Rattle.line_send.specs.Send.{SentIs}
 pub page-fits : (m : Margin) (s : List ℕ) {before after : List ℕ} {r : Numbered} → length s ≤ mostPiece → length before ≡ mostPage → NumberedIs m s before r after → length after ≡ length before → r .used ≤ length after
 page-fits m s f l n k = omega (arith, n .output .end, page-most m s)
 
--- where the sheet stands, as it was told
+-- where the sheet stands, as it was answered
 sent-at : {m : Margin} {r : Sent} (q : Margin) → SentIs m r → r ≡ At q → q ≡ m
 sent-at {m} q h e = subst (SentIs m) e h
 

@@ -1,2 +1,2 @@
--- What the functions that hand bytes on promise.
+-- What the functions that pass bytes on promise.
 pub mod Send

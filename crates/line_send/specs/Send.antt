@@ -1,4 +1,4 @@
--- Bytes that were handed on. Assumes nothing.
+-- Bytes that were passed on. Assumes nothing.
 use Rattle.lists.specs.Lists.{_≡_}
 use Rattle.sheet.specs.declared.Margin.{Margin}
 use Rattle.line_send.specs.declared.Sent.{Sent, the-variants.At, the-variants.Unwritten}

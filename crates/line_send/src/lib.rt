@@ -1,4 +1,4 @@
-// What a task wrote, handed to standard output: the entries of the sheet page by page, all else as it is.
+// What a task wrote, passed to standard output: the entries of the sheet page by page, everything else as it is.
 use libc::STDOUT_FILENO;
 use lines::Task;
 use order::lesser;
@@ -13,7 +13,7 @@ ghost use Rattle.sheet_number.specs.Numbered.{mostPiece, mostPage};
 ghost use Rattle.lines.specs.Tasks.{marginOf};
 ghost use Rattle.line_send.specs.Send.{SentIs};
 
-// Where the sheet stands after bytes were handed on; or a write failed.
+// Where the sheet stands after bytes were passed on; or a write failed.
 pub enum Sent {
     At(Margin),
     Unwritten,
@@ -67,7 +67,7 @@ fn send_plain(m: Margin, s: &[u8]) -> Sent
     Sent::At(m)
 }
 
-// Hands on the bytes s that a task wrote: entries as pages of the sheet, all else as it is.
+// Passes on the bytes s that a task wrote: entries as pages of the sheet, everything else as it is.
 pub fn send(task: Task, m: Margin, s: &[u8], page: &mut [u8]) -> Sent
     requires { ⌜ length (now page) ≡ mostPage ⌝ }
     ensures { λ r. ⌜ SentIs (marginOf task m (now (s .entry))) r ⌝ }

@@ -22,7 +22,7 @@ progress-one r r′ h a u =
     ∙ ap {A = ℕ} {B = Progress} (λ (x : ℕ). record { held = r′ .held; at = x; used = r .used }) a
     ∙ ap {A = ℕ} {B = Progress} (λ (x : ℕ). record { held = r′ .held; at = r′ .at; used = x }) u
 
--- lines, as far as there is room
+-- lines, as far as the output is long enough
 module _ {J : Job} {line : List ℕ} {held : ℕ} {s : List ℕ} {at : ℕ} {out : List ℕ} {r r′ : Progress} {l l′ o o′ : List ℕ} where
   pub filled-one : Filled J line held s at out r l o → Filled J line held s at out r′ l′ o′ → (r ≡ r′) × (l ≡ l′) × (o ≡ o′)
   filled-one f g =

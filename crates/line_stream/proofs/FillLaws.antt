@@ -45,7 +45,8 @@ module _ (J : Job) (line s out : List ℕ) (held at used e : ℕ) (he : e ≡ at
         buffer = rw f (w .buffer ∙ ap (λ (l : List ℕ). put l 0 line) g);
       }
 
-  -- a line that ends there: what is written early, and then what is told of the bytes that are kept, wherever these were read from
+  -- a line that ends there: what is written early, and then what is written for the bytes that are kept, wherever these were read
+  -- from
   module _ {told last : List ℕ → List ℕ} (does : Does J told last) (h : e < length s) (room : used + length (toldOf J (take held line) (drop at s)) ≤ length out)
       (v u : ℕ) (line′ mid out′ : List ℕ) (o : Wrote (J .early (take held line) (take (e - at) (drop at s))) used out v mid)
       (w : Wrote (J .told (keptOf (take held line ++ take (e - at) (drop at s))) []) v mid u out′) where
@@ -76,7 +77,7 @@ module _ (J : Job) (line s out : List ℕ) (held at used e : ℕ) (he : e ≡ at
           buffer = rw f (b ∙ ap (λ (i : ℕ). lineEnded line held (take i q)) d);
         }
 
--- what a line that ends leaves in the buffer: nothing of it, where none was held, and else the bytes that were put together
+-- what a line that ends leaves in the buffer: nothing of it, if none was held, and else the bytes that were put together
 pub ended-here : (line r : List ℕ) (held : ℕ) → held ≡ 0 → line ≡ lineEnded line held r
 ended-here line r held z = rw (eq-eqb held 0 z)
 

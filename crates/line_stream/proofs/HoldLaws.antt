@@ -58,7 +58,7 @@ near-next s at k h e =
     ∙ near-suc (drop at s) k (omega (arith, length-drop at s))
     ∙ ap (ltb (lineLength (drop at s))) (sym (add-one k))
 
--- a line that has so many bytes more goes on behind them
+-- a line that has this many bytes more goes on after them
 line-further : (s : List ℕ) (n : ℕ) → n ≤ lineLength s → lineLength s ≡ n + lineLength (drop n s)
 line-further s zero h = omega arith
 line-further [] (suc n) h = absurd (omega (arith, lineLength-most []))
@@ -103,7 +103,7 @@ module _ (line s : List ℕ) (held at end m : ℕ) (hh : held ≤ mostHeld) (hl 
           let e : mostHeld - held ≡ m = omega (arith, f, hm) in
           take-take (mostHeld - held) (end - at) (drop at s) (omega (arith, f)) ∙ ap (λ (n : ℕ). take n (drop at s)) e
 
-  -- where none are held, those of the piece
+  -- if none are held, those of the piece
   pub kept-here : held ≡ 0 → take m (drop at s) ≡ keptOf (take held line ++ take (end - at) (drop at s))
   kept-here z = ap (λ (n : ℕ). take n line ++ take m (drop at s)) (sym z) ∙ sym kept-piece
 

@@ -1,4 +1,4 @@
--- A job that writes something of each line where it ends.
+-- A job that writes something for each line when it ends.
 -- Assumes nothing.
 use mathlib.Core.Path.{_≡_, refl, sym, ap, _∙_}
 use mathlib.Core.Bool.{Bool, true, false, cond}

@@ -68,7 +68,7 @@ module _ (f : List ℕ → List ℕ) (n : ℕ) (long : (l : List ℕ) → mostLi
   pub passes-does : Does (passesOn f n) (λ l. f l ++ (10 ∷ [])) f
   passes-does = record { whole = λ l. refl; end = end; more = more; on = on; rest = rest }
 
--- how much is written where f keeps the length: at most what is held and what comes, and a line feed
+-- how much is written if f keeps the length: at most what is held and what comes, and a line feed
 module _ (f : List ℕ → List ℕ) (n : ℕ) (size : (l : List ℕ) → length (f l) ≡ length l) where
   pub early-most : (h r : List ℕ) → length (passesOn f n .early h r) ≤ length h + length r
   early-most h r = go (isLong h) (isLong (h ++ r))

@@ -6,8 +6,8 @@ use Rattle.line_frame.specs.Begun.{lineLength, hasFeed, keptOf, passedOf, heldO
 use Rattle.line_stream.specs.Stream.{toldOf, Job, Fed}
 use Rattle.line_stream.specs.declared.Progress.{Progress}
 
--- what a line that ends after the bytes r leaves in the buffer: where none of it is held it is read where it stands, any other is
--- put together there
+-- what a line that ends after the bytes r leaves in the buffer: if none of it was held, it is read in place; any other line is
+-- put together in the buffer
 abbrev pub lineEnded : List ℕ → ℕ → List ℕ → List ℕ
 lineEnded line held r = cond (eqb held 0) line (put (keptOf (take held line ++ r)) 0 line)
 
@@ -32,21 +32,21 @@ pub record Block : Type 0 where
   pub held : ℕ
   pub rest : List ℕ
 
--- there are bytes left, and the output of this room has space for the most that is written for a line
+-- there are bytes left, and the output of this size is long enough for the most that is written for a line
 abbrev pub goesOn : ℕ → ℕ → List ℕ → List ℕ → Bool
-goesOn most room w s = ltb 0 (length s) && leb (length w + most) room
+goesOn most size w s = ltb 0 (length s) && leb (length w + most) size
 
 -- line after line while that is so, after the bytes w. The second argument bounds how many lines there are
 unfoldable pub fillOf : Job → ℕ → ℕ → List ℕ → List ℕ → ℕ → List ℕ → Block
-fillOf J zero room w line held s = record { told = w; line = line; held = held; rest = s }
-fillOf J (suc n) room w line held s =
-    elim (goesOn (J .most) room w s) [
-      | true ↦ fillOf J n room (w ++ toldOf J (take held line) s) (lineAfter line held s)
+fillOf J zero size w line held s = record { told = w; line = line; held = held; rest = s }
+fillOf J (suc n) size w line held s =
+    elim (goesOn (J .most) size w s) [
+      | true ↦ fillOf J n size (w ++ toldOf J (take held line) s) (lineAfter line held s)
           (length (heldOf (take held line) s)) (drop (passedOf s) s)
       | false ↦ record { told = w; line = line; held = held; rest = s }
     ]
 
--- lines, until the chunk is passed or the output has no room for one more
+-- lines, until the chunk is passed or the output is too short for one more
 pub record Filled (J : Job) (line : List ℕ) (held : ℕ) (s : List ℕ) (at : ℕ) (out : List ℕ) (r : Progress)
     (line′ out′ : List ℕ) : Type 0 where
   pub fed : Fed J (take held line) (take (r .at - at) (drop at s)) (take (r .used) out′) (take (r .held) line′)

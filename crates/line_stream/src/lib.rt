@@ -12,7 +12,7 @@ ghost use Rattle.line_stream.specs.Stream.{near};
 ghost use Rattle.line_frame.specs.Sizes.{mostHeld};
 ghost use Rattle.line_fields.specs.Put.{Wrote};
 
-// After a call: so many bytes are held of the line begun, the chunk was passed up to at, and the output up to used is written.
+// After a call: this many bytes of the line begun are held, the chunk was passed up to at, and the output up to used is written.
 pub struct Progress {
     pub held: usize,
     pub at: usize,
@@ -30,7 +30,7 @@ impl Progress {
     const NEAR: usize = 32;
 }
 
-// Whether there is a line feed among the next bytes, of which all are looked at, so that they can be looked at together.
+// Whether there is a line feed among the next bytes. All of them are looked at, so that they can be looked at together.
 fn is_near(s: &[u8], at: usize) -> bool
     requires { ⌜ at + near ≤ length (now s) ⌝ }
     ensures { λ r. ⌜ r ≡ ltb (lineLength (drop at (now (s .entry)))) near ⌝ }
@@ -75,7 +75,7 @@ pub fn line_end(s: &[u8], at: usize) -> usize
     i
 }
 
-// Holds the bytes of the chunk from at up to end, as far as there is room. Answers how many are held then.
+// Holds the bytes of the chunk from at up to end, as far as the buffer is long enough. Answers how many are held then.
 pub fn hold(line: &mut [u8], held: usize, s: &[u8], at: usize, end: usize) -> usize
     requires { ⌜ (held ≤ mostHeld) × (length (now line) ≡ mostHeld) ⌝ }
     requires { ⌜ (at ≤ end) × (end ≤ length (now s)) ⌝ }

@@ -1,4 +1,4 @@
--- A walk in lent buffers: what it hands on, accepted or refused.
+-- A walk in lent buffers: what it passes on, accepted or refused.
 -- Assumes nothing.
 use mathlib.Core.Path.{_≡_, refl, sym, ap, ap₂, _∙_, subst}
 use mathlib.Core.List.{List, [], _++_, append-assoc}
@@ -57,7 +57,7 @@ module _ {os t ms ch : List ℕ} {r : Answer} {t′ ms′ ch′ : List ℕ} (w :
   pub walk-handed : (ds : List ℕ) → os ≡ ds → WalkedBy (kindWalked Operations ds) ds r (ch′ ++ rest)
   walk-handed ds e = subst (λ (l : List ℕ). WalkedBy (kindWalked Operations l) l r (ch′ ++ rest)) e (record { answer = answer-is; survived = survived })
 
--- a refusal hands nothing on
+-- a refusal passes nothing on
 pub refused-handed : (x : Refusal) (os ch : List ℕ) → WalkedBy (walked.Refused x) os (walked.Refused x) ch
 refused-handed x os ch = record { answer = refl; survived = λ f e. let z : _≡_ {A = ℕ} 0 1 = cc in absurd (omega arith) }
 

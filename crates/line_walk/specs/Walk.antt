@@ -27,7 +27,7 @@ pub record Survived (os : List ℕ) (f : Facts) (ch : List ℕ) : Type 0 where
   pub chain : take (f .steps) ch ≡ survivors os
   pub within : f .steps ≤ length ch
 
--- the walk is answered by a, and if that accepts it, its surviving steps are handed on
+-- the walk is answered by a, and if that accepts it, its surviving steps are passed on
 pub record WalkedBy (a : Answer) (os : List ℕ) (r : Answer) (ch : List ℕ) : Type 0 where
   pub answer : r ≡ a
   pub survived : (f : Facts) → r ≡ Answer.Accepted f → Survived os f ch

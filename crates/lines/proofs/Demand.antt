@@ -29,11 +29,11 @@ run-converter = run-task Convert
 pub run-rows : {o : List ℕ} {ss : List (List ℕ)} → Run (jobOf Rows) [] ss o → o ≡ rowsProgram (joined ss)
 run-rows = run-task Rows
 
--- a line without a line feed in it, ended by one, is told, and then comes the output for the rest
+-- a line without a line feed in it, ended by one, is written, and then comes the output for the rest
 pub output-of-line : (t : Task) (l s : List ℕ) → feedsIn l ≡ 0 → outputOf t (l ++ (10 ∷ s)) ≡ fedLineOf t l ++ outputOf t s
 output-of-line t = output-line (fedLineOf t) (lastLineOf t)
 
--- a last line that lacks it is told too
+-- a last line that lacks it is written too
 pub output-of-last : (t : Task) (l : List ℕ) → feedsIn l ≡ 0 → 0 < length l → outputOf t l ≡ lastLineOf t l
 output-of-last t = output-last (fedLineOf t) (lastLineOf t)
 
@@ -42,21 +42,21 @@ pub output-of-nil : (t : Task) → outputOf t [] ≡ []
 unfolding outputFrom
 output-of-nil t = refl
 
--- what is handed on of two parts, one after the other
+-- what is passed on of two parts, one after the other
 handed-append : (t : Task) (m : Margin) (r s : List ℕ) → handedOf t m (r ++ s) ≡ handedOf t m r ++ handedOf t (marginOf t m r) s
 handed-append Answer m r s = refl
 handed-append Convert m r s = refl
 handed-append Rows m r s = refl
 handed-append Enter m r s = page-append m r s
 
--- the parts are those of a run, and what is handed on is what is handed on of its output
+-- the parts are those of a run, and what is passed on is what is passed on of its output
 handed-run : (t : Task) {m : Margin} {h o : List ℕ} {ss : List (List ℕ)} → Handed t m h ss o → (w : List ℕ) × (Run (jobOf t) h ss w × (o ≡ handedOf t m w))
 handed-run t {m} {h} closed = (jobOf t .last h, (ended, refl))
 handed-run t {m} {h} (passed {ss = ss} s w h′ f r) =
     let k = handed-run t r in
     (w ++ k .0, (fed s w h′ f (k .1 .0), ap (λ (l : List ℕ). handedOf t m w ++ l) (k .1 .1) ∙ sym (handed-append t m w (k .0))))
 
--- whatever the parts in which an input comes, what is handed on, one after the other, is the whole
+-- whatever the parts in which an input comes, what is passed on, one after the other, is the whole
 pub handed-whole : (t : Task) {o : List ℕ} {ss : List (List ℕ)} → Handed t atTop [] ss o → o ≡ allHanded t (joined ss)
 handed-whole t h =
     let k = handed-run t h in

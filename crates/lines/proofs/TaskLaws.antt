@@ -1,4 +1,4 @@
--- The programs' tasks: each does what it should, and writes no more than there is room for.
+-- The programs' tasks: each does what it should, and writes no more than the buffer holds.
 -- Assumes nothing.
 use mathlib.Core.Path.{_≡_, refl, sym, ap, _∙_, subst}
 use mathlib.Core.Bool.{cond}
@@ -31,7 +31,7 @@ use Rattle.sheet.proofs.EntryLaws.{entryOf-long, entered-most}
 use Rattle.lines.specs.declared.Task.{Task, the-variants.Answer, the-variants.Convert, the-variants.Rows, the-variants.Enter}
 use Rattle.lines.specs.Tasks.{mostEarly, mostTold, jobOf, fedLineOf, lastLineOf}
 
--- what is kept of a line gives the same, where all lines that are longer than a frame do
+-- what is kept of a line gives the same, if all lines that are longer than a frame do
 kept-same : (f : List ℕ → List ℕ) (b : List ℕ) → ((s : List ℕ) → mostLine < length s → f s ≡ b) → (s : List ℕ) → f (keptOf s) ≡ f s
 kept-same f b long s =
     elim (decLe (length s) mostHeld) [
@@ -80,7 +80,7 @@ last-most Convert h a = omega (arith, passLaws.passes-last convertedLine (mostEa
 last-most Rows h a = jobLaws.last-most rowsTold mostRows rowsTold-most h
 last-most Enter h a = jobLaws.last-most entered mostEntry entered-most h
 
--- room for all of it is room for each part
+-- a buffer that is long enough for all of it is long enough for each part
 pub room-early : (t : Task) (used : ℕ) {n : ℕ} → used + jobOf t .most ≤ n → used + mostEarly t ≤ n
 room-early t used h = omega (arith, job-most t)
 
@@ -106,7 +106,7 @@ module _ (f : List ℕ → List ℕ) (n : ℕ) where
 pub convert-told : (h : List ℕ) → cond (isLong h) [] (convertedLine h) ++ (10 ∷ []) ≡ jobOf Convert .told h []
 convert-told h = ap (λ (l : List ℕ). cond (isLong h) [] (convertedLine l) ++ (10 ∷ [])) (sym (append-nil h))
 
--- where nothing is held, nothing is written at the end
+-- if nothing is held, nothing is written at the end
 last-nil : (t : Task) → jobOf t .last [] ≡ []
 last-nil Answer = refl
 last-nil Convert = converted-nil

@@ -6,7 +6,7 @@ use Rattle.line_room.specs.Told.{rowsTold, mostRows}
 use Rattle.sheet.specs.{declared.Margin.Margin, Sizes.mostEntry, Sheet.entered, Sheet.atTop, Sheet.pageOf, Sheet.marginAfter}
 use Rattle.lines.specs.declared.Task.{Task, the-variants.Answer, the-variants.Convert, the-variants.Rows, the-variants.Enter}
 
--- bytes that are written of a line before it ends, and where it ends, at most
+-- bytes that are written of a line before it ends, and at its end, at most
 abbrev pub mostEarly : Task → ℕ
 mostEarly Answer = 0
 mostEarly Convert = mostHeld + mostPart
@@ -19,8 +19,9 @@ mostTold Convert = mostHeld
 mostTold Rows = mostRows
 mostTold Enter = mostEntry
 
--- lines are answered where they end; lines are converted, and those that are too long passed on as they come; lines are taken as
--- rooms, and their rows listed or what the sheet says of them entered where they end
+-- what each task writes. Answer: the answer, at the end of the line. Convert: the converted line at its end, and a line that is
+-- too long for a frame as it comes. Rows: the rows of the room, at the end of the line. Enter: the entry of the sheet, at the end
+-- of the line
 abbrev pub jobOf : Task → Job
 jobOf Answer = tellsEach answered (mostEarly Answer + mostTold Answer)
 jobOf Convert = passesOn convertedLine (mostEarly Convert + mostTold Convert)
@@ -44,7 +45,7 @@ lastLineOf Enter = entered
 abbrev pub outputOf : Task → List ℕ → List ℕ
 outputOf t s = outputFrom (fedLineOf t) (lastLineOf t) [] s
 
--- what is handed on of it, where the sheet stands at m: entries are numbered, after the header, and all else stays as it is
+-- what is passed on of it, if the sheet stands at m: entries are numbered, after the header, and everything else stays as it is
 abbrev pub handedOf : Task → Margin → List ℕ → List ℕ
 handedOf Answer m w = w
 handedOf Convert m w = w
@@ -58,8 +59,8 @@ marginOf Convert m w = m
 marginOf Rows m w = m
 marginOf Enter m w = marginAfter m w
 
--- all that is handed on for the parts of an input, one after the other, and at the end, where h was held and the sheet stood at m
--- at first
+-- all that is passed on for the parts of an input, one after the other, and at the end, if h was held and the sheet stood at m at
+-- first
 pub data Handed (t : Task) : Margin → List ℕ → List (List ℕ) → List ℕ → Type 0 where
   closed : {m : Margin} {h : List ℕ} → Handed t m h [] (handedOf t m (jobOf t .last h))
   passed : {m : Margin} {h o : List ℕ} {ss : List (List ℕ)} (s w h′ : List ℕ) → Fed (jobOf t) h s w h′

@@ -32,7 +32,7 @@ pub enum Task {
     Enter,
 }
 
-// The bytes for which the output has room where a line is passed.
+// The bytes that the output has left when a line is passed.
 fn most(task: Task) -> usize
     ensures { λ r. ⌜ r ≡ jobOf task .most ⌝ }
 {
@@ -44,7 +44,7 @@ fn most(task: Task) -> usize
     }
 }
 
-// Writes what a task writes early, where the bytes of the chunk from at up to end come to those that are held.
+// Writes what a task writes before a line ends, when the bytes of the chunk from `at` to `end` come to those that are held.
 fn tell_early(
     task: Task,
     line: &[u8],
@@ -69,7 +69,7 @@ fn tell_early(
     }
 }
 
-// Writes what a task writes where a line ends of which s was kept.
+// Writes what a task writes at the end of a line, if s was kept of it.
 fn tell(
     task: Task,
     s: &[u8],
@@ -93,7 +93,7 @@ fn tell(
     }
 }
 
-// Writes what a task writes where the input ends in a line of which s was kept.
+// Writes what a task writes at the end of an input whose last line lacks its line feed, if s was kept of that line.
 fn tell_last(
     task: Task,
     s: &[u8],
@@ -115,8 +115,8 @@ fn tell_last(
     }
 }
 
-// Writes what a task writes where a line ends, of which the bytes of the chunk from at up to end come to those that are held. A
-// line of which none are held is read where it stands.
+// Writes the task's output for a line that ends at `end`. The line is the bytes that were held, then the chunk's bytes from `at`
+// to `end`. If nothing was held, it is read in place.
 fn tell_end(
     task: Task,
     line: &mut [u8],
@@ -187,7 +187,7 @@ fn feed_line(
     }
 }
 
-// Passes lines of the chunk from at on while the output, which is written from its start, has room for one more.
+// Passes lines of the chunk from at on while the output, which is written from its start, is long enough for one more.
 pub fn fill(
     task: Task,
     line: &mut [u8],

@@ -16,7 +16,7 @@ pub not-false : (b : Bool) → not b ≡ false → b ≡ true
 not-false true e = refl
 not-false false e = sym e
 
--- a test that fails where what it tells does not hold
+-- a test that fails if what it shows does not hold
 pub unfit : {P : Type 0} (b : Bool) → (b ≡ true → P) → (P → ⊥) → b ≡ false
 unfit true f n = absurd (n (f refl))
 unfit false f n = refl

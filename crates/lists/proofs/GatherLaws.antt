@@ -123,7 +123,7 @@ module _ {A : Type 0} (eq : A → A → Bool) where
   gather-ge seen xs = let h = gather-more eq seen xs in omega (arith, ap length (h .1), length-append seen (h .0))
 
 module _ {A : Type 0} (eq : A → A → Bool) (sound : (x y : A) → eq x y ≡ true → x ≡ y) (equal : (x : A) → eq x x ≡ true) where
-  -- where no element stands twice, all are gathered
+  -- if no element stands twice, all are gathered
   pub gather-distinct : (seen xs : List A) → Distinct (seen ++ xs) → gather eq seen xs ≡ seen ++ xs
   gather-distinct seen [] d = sym (append-nil seen)
   gather-distinct seen (x ∷ xs) d =

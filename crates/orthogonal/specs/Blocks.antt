@@ -16,9 +16,9 @@ abbrev pub blockOf : ℕ → Panel → Panel
 blockOf g p = block (floorBy g (p .0)) (floorBy g (p .1))
 
 -- the block holds a panel that is inside the room
-pub record HoldsInside (s : Corner) (ds : List ℕ) (g : ℕ) (b : Panel) : Type 0 where
+pub record HoldsInside (c : Corner) (ds : List ℕ) (g : ℕ) (b : Panel) : Type 0 where
   pub panel : Panel
-  pub inside : Inside s ds panel
+  pub inside : Inside c ds panel
   pub block : blockOf g panel ≡ b
 
 -- every block of B is in K

@@ -21,26 +21,26 @@ gridFits g = leb 1 g && leb g mostGrid
 
 -- the chain of these steps outlines the orthogonal hull of the room's blocks: its digits are steps, it is a room in block
 -- coordinates, counterclockwise from the lowest of its leftmost corners, and the blocks inside it are the hull
-pub record OutlinesHull (s : Corner) (ds : List ℕ) (g : ℕ) (start : Corner) (steps : List ℕ) : Type 0 where
+pub record OutlinesHull (c : Corner) (ds : List ℕ) (g : ℕ) (start : Corner) (steps : List ℕ) : Type 0 where
   pub digits : Below 4 steps
   pub room : isRoom start steps ≡ true
   pub home : homeOf start steps ≡ start
   pub left : InsideLeft start steps
-  pub hull : OrthogonalHullIs (HoldsInside s ds g) (inside start steps)
+  pub hull : OrthogonalHullIs (HoldsInside c ds g) (inside start steps)
 
 -- what is wrong before the buffer is asked: 1, then 10, then 22, then 4 or 6 at the first faulty place, then 12
 abbrev pub onGridJudged : Corner → List ℕ → ℕ → Judged
-onGridJudged s ds g =
+onGridJudged c ds g =
     firstOf (when (ltb mostInput (length ds)) TooMany
-    ∷ when (not (startFits s)) StartRange
+    ∷ when (not (startFits c)) StartRange
     ∷ when (not (gridFits g)) GridSize
     ∷ chainJudged 0 ds
-    ∷ when (not (isRoom s ds)) NotRoom
+    ∷ when (not (isRoom c ds)) NotRoom
     ∷ [])
 
 -- and then 18, if the buffer has fewer bytes than the outline has steps
 abbrev pub orthogonalJudged : Corner → List ℕ → ℕ → ℕ → ℕ → Judged
-orthogonalJudged s ds g room steps = firstOf (onGridJudged s ds g ∷ when (ltb room steps) ChainRoom ∷ [])
+orthogonalJudged c ds g size steps = firstOf (onGridJudged c ds g ∷ when (ltb size steps) ChainRoom ∷ [])
 
 -- how many steps there are, where they start, and how many blocks are inside
 abbrev pub enclosedOf : Corner → List ℕ → Enclosed
@@ -53,15 +53,16 @@ orthogonalOf (Refused r) start steps = Orthogonal.Refused r
 
 -- the promise of the call: `steps` from `start` outlines the hull. It is counted, and the buffer holds it and then what stood
 -- after it, unless there is a refusal. What is not a room, or has no grid size, is refused, whatever the outline
-pub record OrthogonalCall (s : Corner) (ds : List ℕ) (g : ℕ) (before : List ℕ) (r : Orthogonal) (after : List ℕ) : Type 0 where
+pub record OrthogonalCall (c : Corner) (ds : List ℕ) (g : ℕ) (before : List ℕ) (r : Orthogonal) (after : List ℕ) : Type 0 where
   pub start : Corner
   pub steps : List ℕ
-  pub outline : onGridJudged s ds g ≡ Good → OutlinesHull s ds g start steps
-  pub answer : r ≡ orthogonalOf (orthogonalJudged s ds g (length before) (length steps)) start steps
+  pub outline : onGridJudged c ds g ≡ Good → OutlinesHull c ds g start steps
+  pub answer : r ≡ orthogonalOf (orthogonalJudged c ds g (length before) (length steps)) start steps
   pub buffer : after
-      ≡ writtenIf (orthogonalJudged s ds g (length before) (length steps)) (steps ++ drop (length steps) before) before
+      ≡ writtenIf (orthogonalJudged c ds g (length before) (length steps)) (steps ++ drop (length steps) before) before
 
--- number, place, steps, x and y of the start in two's complement, blocks; a refused answer holds number and place, all else 0
+-- number, place, steps, x and y of the start in two's complement, blocks; a refused answer holds number and place, and 0 in all
+-- other words
 abbrev pub orthogonalWords : Orthogonal → List ℕ
 orthogonalWords (Orthogonal.Outlined h) = 0 ∷ 0 ∷ h .steps ∷ bitsOf (h .start .0) ∷ bitsOf (h .start .1) ∷ h .blocks ∷ []
 orthogonalWords (Orthogonal.Refused r) = refusalNumber r ∷ refusalPlace r ∷ 0 ∷ 0 ∷ 0 ∷ 0 ∷ []

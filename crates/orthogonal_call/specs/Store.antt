@@ -46,17 +46,17 @@ pub record Small (span x y : ℕ) (lo hi : List ℕ) : Type 0 where
   pub south : y < 131072
 
 -- the lists have the ends of the rows of the hull of the room's blocks, the right ends counted from column `span`
-pub record Outlinable (s : Corner) (ds : List ℕ) (g span x y : ℕ) (lo hi : List ℕ) : Type 0 where
-  pub good : onGridJudged s ds g ≡ Good
+pub record Outlinable (c : Corner) (ds : List ℕ) (g span x y : ℕ) (lo hi : List ℕ) : Type 0 where
+  pub good : onGridJudged c ds g ≡ Good
   pub fits : (q : ℕ) → q < length lo → getD lo q 0 + getD hi q 0 ≤ span
-  pub outline : OutlinesHull s ds g (startIn x y lo) (chainIn span lo hi)
+  pub outline : OutlinesHull c ds g (startIn x y lo) (chainIn span lo hi)
   pub long : length (chainIn span lo hi) ≡ 2 * (span - getD hi (homeIn hi) 0 - getD lo (homeIn lo) 0 + length lo)
   pub blocks : panelsInside (startIn x y lo) (chainIn span lo hi) ≡ blocksFrom (leftIn lo) (rightIn span hi) 0 (length lo)
 
 -- the lists have the columns of the ends of the rows of the room's blocks
-pub record Shaped (s : Corner) (ds : List ℕ) (g span x y : ℕ) (lo hi : List ℕ) : Type 0 where
-  pub good : onGridJudged s ds g ≡ Good
-  pub ends : RowEnds (HoldsInside s ds g) (shifted x y) (λ q. getD lo q 0 / g) (λ q. span - getD hi q 0 / g) (length lo - 1)
+pub record Shaped (c : Corner) (ds : List ℕ) (g span x y : ℕ) (lo hi : List ℕ) : Type 0 where
+  pub good : onGridJudged c ds g ≡ Good
+  pub ends : RowEnds (HoldsInside c ds g) (shifted x y) (λ q. getD lo q 0 / g) (λ q. span - getD hi q 0 / g) (length lo - 1)
 
 -- rows that have no edge yet
 abbrev pub Edgeless : List ℕ → Type 0
@@ -64,19 +64,19 @@ Edgeless l = l ≡ replicate (length l) blank
 
 -- the vertical edges of an accepted room in the lanes of their rows. The walk starts in column and height m, which lie x and y
 -- after the beginning of block -32,768
-pub record Laned (s : Corner) (ds : List ℕ) (g m span x y : ℕ) (lo hi : List ℕ) : Type 0 where
-  pub good : onGridJudged s ds g ≡ Good
+pub record Laned (c : Corner) (ds : List ℕ) (g m span x y : ℕ) (lo hi : List ℕ) : Type 0 where
+  pub good : onGridJudged c ds g ≡ Good
   pub ruled : Ruled m g (x % g) (y % g) (span * g) span
   pub stays : Stays ds m (2 * m)
-  pub west : s .0 -ℤ pos m ≡ pos x -ℤ pos (shift * g)
-  pub south : s .1 -ℤ pos m ≡ pos y -ℤ pos (shift * g)
+  pub west : c .0 -ℤ pos m ≡ pos x -ℤ pos (shift * g)
+  pub south : c .1 -ℤ pos m ≡ pos y -ℤ pos (shift * g)
   pub low : lo ≡ sinks (replicate span blank) (lanesFrom g (y % g) (fromWest (x % g)) m m ds)
   pub high : hi ≡ sinks (replicate span blank) (lanesFrom g (y % g) (fromEast (span * g) (x % g)) m m ds)
 
 -- an accepted room, a walk in the store that starts in column and height m, and `span` rows that have no edge yet, as many as it
 -- needs
-pub record LanesReady (s : Corner) (ds : List ℕ) (g m span : ℕ) (lo hi t : List ℕ) : Type 0 where
-  pub good : onGridJudged s ds g ≡ Good
+pub record LanesReady (c : Corner) (ds : List ℕ) (g m span : ℕ) (lo hi t : List ℕ) : Type 0 where
+  pub good : onGridJudged c ds g ≡ Good
   pub wide : length ds < 2 * m
   pub tight : 2 * m ≤ length ds + 2
   pub low : lo ≡ replicate span blank

@@ -54,7 +54,7 @@ round-room c ds h e u = record { four = h; closed = e; only = only }
         last zero q g = omega (arith, q)
         last (suc n) q g = apart j n (omega (arith, q)) (omega (arith, q)) (sym (m .equal) ∙ sym e ∙ sym (cornerAt-end c ds) ∙ ap (cornerAt c ds) q)
 
--- sums over the lowest rows of which one counts, or none
+-- sums over the lowest rows, if one of them counts, or none
 sum-none : (g : ℕ → ℤ) (n : ℕ) → ((q : ℕ) → q < n → g q ≡ pos 0) → rowSum g 0 n ≡ pos 0
 sum-none g zero h = refl
 sum-none g (suc n) h = ap₂ (λ (x y : ℤ). x +ℤ y) (h (0 + n) (omega arith)) (sum-none g n (λ q u. h q (omega arith)))

@@ -14,7 +14,7 @@ use Rattle.grid.specs.Grid.{cornerAt, endFrom}
 use Rattle.grid.proofs.StepLaws.{endFrom-append}
 use Rattle.trace.specs.Verdict.{IsRoom}
 use Rattle.panels.specs.Inside.{edgesBeside, Inside, inside}
-use Rattle.panels.specs.Outline.{startedAt, backward}
+use Rattle.panels.specs.Moved.{startedAt, backward}
 use Rattle.outline.specs.Outline.{homeOf, OutlineIs}
 use Rattle.outline_laws.proofs.BetweenLaws.{outline-same}
 use Rattle.outline_room_laws.proofs.RoomLaws.{room-outline}

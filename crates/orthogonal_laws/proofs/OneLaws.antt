@@ -12,9 +12,9 @@ use Rattle.grid.specs.declared.{Corner.Corner, Panel.Panel}
 use Rattle.grid.specs.Grid.{stepped, cornerAt, cornersFrom, back}
 use Rattle.grid.proofs.StepLaws.{cornerAt-end}
 use Rattle.trace.specs.Verdict.{IsRoom}
-use Rattle.area_laws.proofs.OutlineLaws.{length-backward}
+use Rattle.area_laws.proofs.MovedLaws.{length-backward}
 use Rattle.panels.specs.Inside.{Inside, leftOf, rightOf, EachStep, InsideLeft}
-use Rattle.panels.specs.Outline.{startedAt, backward}
+use Rattle.panels.specs.Moved.{startedAt, backward}
 use Rattle.room_laws.proofs.CornerLaws.{right-back}
 use Rattle.outline.specs.Outline.{walked, homeOf, OutlineIs}
 use Rattle.outline_laws.proofs.BetweenLaws.{Along, outline-same}

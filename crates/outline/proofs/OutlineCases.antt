@@ -53,11 +53,11 @@ home-left-of-low = refl
 walked-both-ways : walked origin (2 ∷ []) (corner (negsuc 0) (pos 0)) 0 ≡ true
 walked-both-ways = refl
 
--- arriving by east where all four edges are walked: right, that is south
+-- arriving by east if all four edges are walked: right, that is south
 turn-right : onward (λ d. true) 0 ≡ 3
 turn-right = refl
 
--- where none but the edge that it came by is walked: back
+-- if none but the edge that it came by is walked: back
 turn-back : onward (λ d. false) 3 ≡ 1
 turn-back = refl
 
@@ -65,7 +65,8 @@ turn-back = refl
 first-return : isDone origin (0 ∷ 2 ∷ 1 ∷ []) (0 ∷ 2 ∷ []) ≡ false
 first-return = refl
 
--- a buffer of one byte is one too short for a step there and back; what is wrong with the digits is told first, and what is wrong with the start before that
+-- a buffer of one byte is one too short for a step there and back; what is wrong with the digits is judged first, and what is
+-- wrong with the start before that
 one-byte-short : outlineJudged origin (0 ∷ []) 1 2 ≡ Refused OutlineRoom
 one-byte-short = refl
 

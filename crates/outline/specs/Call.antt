@@ -8,12 +8,12 @@ use Rattle.outline.specs.Outline.{OutlineIs}
 
 -- the refusals of a start and a chain, then 11 where the buffer has fewer bytes than the outline has steps
 abbrev pub outlineJudged : Corner → List ℕ → ℕ → ℕ → Judged
-outlineJudged s ds room steps = firstOf (asWalkJudged s ds ∷ when (ltb room steps) OutlineRoom ∷ [])
+outlineJudged c ds size steps = firstOf (asWalkJudged c ds ∷ when (ltb size steps) OutlineRoom ∷ [])
 
--- a call with this chain, from the corner s: `steps` is the outline of the walk. It is counted, and the buffer holds it and then
+-- a call with this chain, from the corner c: `steps` is the outline of the walk. It is counted, and the buffer holds it and then
 -- what stood after it, unless there is a refusal
-pub record OutlineCall (s : Corner) (ds before : List ℕ) (r : Counted) (after : List ℕ) : Type 0 where
+pub record OutlineCall (c : Corner) (ds before : List ℕ) (r : Counted) (after : List ℕ) : Type 0 where
   pub steps : List ℕ
-  pub outline : OutlineIs s ds steps
-  pub answer : r ≡ countedOf (outlineJudged s ds (length before) (length steps)) (length steps)
-  pub buffer : after ≡ laidIf (outlineJudged s ds (length before) (length steps)) steps before
+  pub outline : OutlineIs c ds steps
+  pub answer : r ≡ countedOf (outlineJudged c ds (length before) (length steps)) (length steps)
+  pub buffer : after ≡ laidIf (outlineJudged c ds (length before) (length steps)) steps before

@@ -1,11 +1,11 @@
 -- The outer outline of a walk (RULES 15.1 to 15.4): the path along walked edges that keeps to the right, from the lowest of the
--- leftmost corners until it is back there with each of that corner's walked edges used. A walk without steps is no case apart: it
--- has no walked edge, so that its path is done at once. Assumes nothing.
+-- leftmost corners until it is back there with each of that corner's walked edges used. A walk without steps is not a special
+-- case: it has no walked edge, so that its path is done at once. Assumes nothing.
 use Rattle.lists.specs.Lists.{_≡_, Bool, true, false, cond, not, _&&_, _||_, List, [], _∷_, length, ℕ, zero, suc, _<_, ltZ, any}
 use Rattle.grid.specs.{declared.Corner.Corner, Grid.eqZ, Grid.same, Grid.stepped, Grid.endFrom, Grid.legsFrom, Grid.joins}
 use Rattle.steps.specs.Turns.{stepAfter}
 
--- the edge from p in direction d was walked: some step has its two ends, in either sense
+-- the edge from p in direction d was walked: some step has its two ends, either way
 abbrev pub walked : Corner → List ℕ → Corner → ℕ → Bool
 walked c ds p d = any (joins p (stepped d p)) (legsFrom c ds)
 
@@ -36,11 +36,11 @@ pathFrom c ds (suc n) p d = d ∷ pathFrom c ds n (stepped d p) (onward (walked 
 abbrev pub pathFromHome : Corner → List ℕ → ℕ → List ℕ
 pathFromHome c ds n = pathFrom c ds n (homeOf c ds) (firstWay c ds)
 
--- some walked edge of h is not used, in some sense, by the steps es from h
+-- some walked edge of h is not used, one way or the other, by the steps es from h
 abbrev pub lacks : Corner → List ℕ → Corner → List ℕ → Bool
 lacks c ds h es = any (λ d. walked c ds h d && not (walked h es h d)) (0 ∷ 1 ∷ 2 ∷ 3 ∷ [])
 
--- back at the start with each of its walked edges used in some sense
+-- back at the start with each of its walked edges used, one way or the other
 abbrev pub isDone : Corner → List ℕ → List ℕ → Bool
 isDone c ds es = same (endFrom (homeOf c ds) es) (homeOf c ds) && not (lacks c ds (homeOf c ds) es)
 

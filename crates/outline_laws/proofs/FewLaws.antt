@@ -1,5 +1,5 @@
--- The outline's edges: each was walked, none is taken twice in one sense, so that there are at most two for each different edge of the walk.
--- Assumes nothing.
+-- The outline's edges: each was walked, none is taken twice in one direction, so that there are at most two for each different
+-- edge of the walk. Assumes nothing.
 use mathlib.Core.Bool.{Bool, true, _||_}
 use mathlib.Core.List.{List, [], _∷_, List·Memᴰ, List·Memᴰ·head, List·Memᴰ·tail, List·Memᴰ·not-nil, List·Memᴰ·cases-cons}
 use mathlib.Core.Logic.{_⊎_, inl, inr, ⊎-elim}
@@ -44,13 +44,13 @@ edges-once p (d ∷ es) b u = (new, edges-once (stepped d p) es (b .1) (u .1))
         let k : h .0 .1 ≡ d = stepped-inj (h .0 .1) d p (ways-below (stepped d p) es (b .1) (h .0) (h .1)) (b .0) (ap (stepped (h .0 .1)) (sym q) ∙ sym (ap (λ (e : Corner × Corner). e .1) (h .2))) in
         u .0 (subst (λ (y : Way). List·Memᴰ y (waysOf (stepped d p) es)) (ap₂ (λ (a : Corner) (x : ℕ). (a, x)) q k) (h .1))
 
--- each step of the outline goes along an edge that was walked, in some sense
+-- each step of the outline goes along an edge that was walked, one way or the other
 pub outline-walked : {c : Corner} {ds es : List ℕ} → OutlineIs c ds es → (p q : Corner) → List·Memᴰ (p, q) (legsFrom (homeOf c ds) es) → Edge c ds p q
 outline-walked {c} {ds} {es} o p q m =
     let h = edge-of (homeOf c ds) es (p, q) m in
     subst (λ (e : Corner × Corner). Edge c ds (e .0) (e .1)) (sym (h .2)) (walked-edge c ds (h .0 .0) (h .0 .1) (outline-ways o (h .0) (h .1) .1))
 
--- none is taken twice in one sense
+-- none is taken twice in one direction
 pub outline-once : {c : Corner} {ds es : List ℕ} → OutlineIs c ds es → Distinct (legsFrom (homeOf c ds) es)
 outline-once {c} {ds} {es} o = edges-once (homeOf c ds) es (outline-below o) (outline-once-way o)
 

@@ -67,7 +67,7 @@ home-least c (d ∷ ds) q m =
     (λ h. subst (λ (x : Corner). Begins x q) (sym (h .0)) (⊎-elim (λ e. subst (Begins c) (sym e) (begins-self c)) (λ t. begins-trans c (homeOf (stepped d c) ds) q (h .1) (home-least (stepped d c) ds q t)) (List·Memᴰ·cases-cons m)))
     (lower c d ds)
 
--- it is the only corner of which both hold
+-- it is the only corner that has both
 pub home-one : (c : Corner) (ds : List ℕ) (h : Corner) → List·Memᴰ h (cornersFrom c ds) → ((q : Corner) → List·Memᴰ q (cornersFrom c ds) → Begins h q) → homeOf c ds ≡ h
 home-one c ds h m f = begins-both (homeOf c ds) h (home-least c ds h m) (f (homeOf c ds) (home-visited c ds))
 

@@ -65,7 +65,7 @@ offset-west n a z l h =
     let k : offset a (sucℤ (predℤ z)) ≡ offset a (predℤ z) + 1 = offset-east (suc n) a (predℤ z) (omega arith) (near-west n a z h) in
     omega (arith, subst (λ (y : ℤ). offset a y ≡ offset a (predℤ z) + 1) (suc-pred z) k)
 
--- near enough, the offset tells the place, and more of one is more of the other
+-- near enough, the offset shows the place, and more of one is more of the other
 offset-exact : (a z : ℤ) → Near mostSteps a z → (offset a z + dn (z -ℤ a) ≡ mostSteps + up (z -ℤ a)) × (offset a z < columnRows)
 offset-exact a z h = (omega (arith, h .before), omega (arith, h .after))
 
@@ -144,7 +144,7 @@ walk-close c a (d ∷ ds) n p h m =
 pub corner-close : (c : Corner) (ds : List ℕ) (p : Corner) → length ds ≤ mostSteps → List·Memᴰ p (cornersFrom c ds) → Close mostSteps c p
 corner-close c ds p l m = close-more (0 + length ds) mostSteps c p (omega arith) (walk-close c c ds 0 p (close-self c) m)
 
--- one step from the farthest key there is room on every side
+-- one step from the farthest key there is space on every side
 pub key-large : (n : ℕ) (c p : Corner) → n < mostSteps → Close n c p → columnRows ≤ keyOf c p
 key-large n c p l h = omega (arith, h .x .before)
 

@@ -70,7 +70,7 @@ module _ (c : Corner) (ds : List ℕ) (d : ℕ) where
       (λ k. ⊎-elim (λ j. inr (joins-pair x (stepped e x) (p, q) j)) (λ f. absurd (false≢true f)) (or-cases (joins x (stepped e x) (p, q)) false k))
       (or-cases (any (joins x (stepped e x)) (legsFrom c ds)) (any (joins x (stepped e x)) ((p, q) ∷ [])) (sym (any-append (joins x (stepped e x)) (legsFrom c ds) ((p, q) ∷ [])) ∙ subst (λ (l : List (Corner × Corner)). any (joins x (stepped e x)) l ≡ true) (edges-snoc c ds d) w))
 
-  -- where the step's edge was walked before, nothing is new
+  -- if the step's edge was walked before, nothing is new
   walked-same : walked c ds p d ≡ true → (x : Corner) (e : ℕ) → walked c (ds ++ (d ∷ [])) x e ≡ walked c ds x e
   walked-same w x e = bool-agree (walked c (ds ++ (d ∷ [])) x e) (walked c ds x e) (λ k. ⊎-elim (λ j. j) (λ j. edge-walked c ds x e (⊎-elim (λ z. along z) (λ z. edge-turned c ds (stepped e x) x (along z)) j)) (walked-cases x e k)) (walked-more x e)
     where
@@ -123,7 +123,7 @@ module _ (c : Corner) (ds : List ℕ) (d : ℕ) (hd : d < 4) where
       let r = add-more same vs (q c ds d) in
       ap (find (same (stepped e x))) (r .1) ∙ find-left (same (stepped e x)) vs (r .0) (mem→any same same-sound same-refl (mem-visited (cornersFrom c ds) (walked-visited c ds x e w .1)))
 
-  -- a link is what it was where the edges of its corner are
+  -- a link is what it was if the edges of its corner are
   link-same : (m e : ℕ) → m < length vs → walked c (ds ++ (d ∷ [])) (getD ws m origin) e ≡ walked c ds (getD ws m origin) e → linkOf c (ds ++ (d ∷ [])) ws m e ≡ linkOf c ds vs m e
   link-same m e h k = go (walked c ds (getD vs m origin) e) refl
     where

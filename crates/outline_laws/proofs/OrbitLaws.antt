@@ -49,7 +49,7 @@ module _ {A : Type 0} (f : A → A) where
       (λ t. let h = mem-after n (f x) t in (suc (h .0), omega (arith, h .1), h .2))
       (List·Memᴰ·cases-cons m)
 
-  -- where nothing is met twice there is no return sooner, to the first or to another
+  -- if nothing is met twice there is no return sooner, to the first or to another
   pub no-sooner : (n k : ℕ) (x : A) → Distinct (orbit f n x) → 0 < k → k < n → after f k x ≡ x → ⊥
   no-sooner zero k x d h l e = omega arith
   no-sooner (suc n) zero x d h l e = omega arith

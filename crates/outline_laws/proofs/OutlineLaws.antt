@@ -20,7 +20,7 @@ use Rattle.outline_laws.proofs.EdgeLaws.{Way}
 use Rattle.outline_laws.proofs.PathLaws.{next, On, next-on, length-path, path-ways}
 use Rattle.outline_laws.proofs.RoundLaws.{start, Round, round-of, done-round, not-before}
 
--- the first of two moments that are both the first is no later
+-- the first of two moments that are both the first is not later
 no-later : (c : Corner) (ds es fs : List ℕ) → OutlineIs c ds es → OutlineIs c ds fs → length es < length fs → ⊥
 no-later c ds es fs a b l = true≢false (sym (ap (isDone c ds) (sym (a .path)) ∙ a .done) ∙ b .first (length es) l)
 

@@ -79,7 +79,7 @@ module _ (c : Corner) (ds : List ℕ) where
   two (suc zero) w = inr refl
   two (suc (suc d)) w = absurd (true≢false (sym w ∙ home-ways c ds (suc (suc d)) (omega arith)))
 
-  -- a way met, in either sense, uses its edge
+  -- a way met, in either direction, uses its edge
   uses : (n d : ℕ) → List·Memᴰ (h, d) (orbit (next c ds) n (start c ds)) → walked h (pathFromHome c ds n) h d ≡ true
   uses n d m = edge-walked h (pathFromHome c ds n) h d (inl (way-edge c ds n h (firstWay c ds) (h, d) m))
 
@@ -88,7 +88,7 @@ module _ (c : Corner) (ds : List ℕ) where
       edge-walked h (pathFromHome c ds n) h d (inr (subst (λ (x : Corner × Corner). List·Memᴰ x (legsFrom h (pathFromHome c ds n))) (ap₂ (λ (a b : Corner). (a, b)) e f) (way-edge c ds n h (firstWay c ds) y m)))
 
   module _ (on : On c ds (start c ds)) where
-    -- where both edges are walked, the way before the first comes from the north
+    -- if both edges are walked, the way before the first comes from the north
     from-north : (y : Way) → On c ds y → next c ds y ≡ (h, 0) → walked c ds h 1 ≡ true → (y .1 ≡ 3) × (y .0 ≡ stepped 1 h)
     from-north y o e w =
         let k = came c ds y o (h, 0) e in

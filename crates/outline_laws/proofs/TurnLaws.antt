@@ -1,4 +1,4 @@
--- The first walked edge of right turn, straight on, left turn, back: it is walked, and it tells by which edge the path came.
+-- The first walked edge of right turn, straight on, left turn, back: it is walked, and it shows by which edge the path came.
 -- Assumes nothing.
 use mathlib.Core.Bool.{Bool, true, false, cond, true≢false, false≢true}
 use mathlib.Core.Path.{_≡_, refl, sym, _∙_}
@@ -33,7 +33,7 @@ module _ (w : ℕ → Bool) where
   abbrev pub Turned : ℕ → Type 0
   Turned d = w (back d) ≡ true → (w (onward w d) ≡ true) × (cameBy w (onward w d) ≡ d)
 
-  -- a path that came by a walked edge goes on by a walked edge, and that tells how it came
+  -- a path that came by a walked edge goes on by a walked edge, and that shows how it came
   by-turns : (d : ℕ) → d < 4 → (r s l : Bool) → w (stepAfter d 3) ≡ r → w (stepAfter d 0) ≡ s → w (stepAfter d 1) ≡ l → w (stepAfter d 2) ≡ true → (w (onward w d) ≡ true) × (cameBy w (onward w d) ≡ d)
   by-turns d h true s l p q r b = (rw p p, rw (p, twice d 3 3, b, twice d 3 1, straight d h))
   by-turns d h false true l p q r b = (rw (p, q) q, rw (p, q, twice d 0 3, p, twice d 0 2, b, twice d 0 0, straight d h))

@@ -122,14 +122,14 @@ module _ (c : Corner) (chain keys kids links : List ℕ) (k least home used node
   short : i < mostSteps
   short = omega (arith, b .sized .room, b .sized .small)
 
-  -- the key has room on every side
+  -- the key has space on every side
   pub building-key : (columnRows ≤ k) × (k < columnRows * columnRows)
   building-key = (
     omega (arith, b .key, key-large (0 + length ds) c (endFrom c ds) (omega (arith, length-ds, short)) (end-close c ds)),
     omega (arith, b .key, key-small c (endFrom c ds) (corner-close c ds (endFrom c ds) (omega (arith, length-ds, short)) (endFrom-mem c ds))),
   )
 
-  -- the store has room for one corner more
+  -- the store is large enough for one corner more
   pub building-ready : RoomForMore keys kids links used node
   building-ready = record {
     tree = b .store .tree;

@@ -5,7 +5,7 @@ use lib.ListN.{set}
 use Rattle.grid.specs.Grid.{back}
 use Rattle.outline_roster.specs.Tree.{Tree, Seated}
 
--- room for one more corner, and numbers that fit their words
+-- space for one more corner, and numbers that fit their words
 pub record RoomForMore (keys kids links : List ℕ) (used node : ℕ) : Type 0 where
   pub tree : Tree keys kids used
   pub room : used < length keys
@@ -18,7 +18,7 @@ pub record Along (keys kids links : List ℕ) (used node d : ℕ) (keys′ kids�
   pub link : getD links (4 * node + d) 0 ≡ suc node′
   pub same : (keys′ ≡ keys) × (kids′ ≡ kids) × (links′ ≡ links) × (used′ ≡ used)
 
--- where there is no link: the corner is seated, and two words are set
+-- if there is no link: the corner is seated, and two words are set
 pub record LinkMade (keys links : List ℕ) (used node k d : ℕ) (keys′ kids′ links′ : List ℕ) (node′ used′ : ℕ) : Type 0 where
   pub none : getD links (4 * node + d) 0 ≡ 0
   pub seated : Seated keys used k keys′ kids′ node′ used′

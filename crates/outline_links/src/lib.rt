@@ -1,5 +1,5 @@
-// The different corners of a walk and the walked edges between them: corner i has the words 4 * i to 4 * i + 3 of links, one a
-// direction, each 1 + the number of the corner that a walked edge leads to, or 0.
+// The different corners of a walk and the walked edges between them: corner i has the words 4 * i to 4 * i + 3 of links, one for
+// each direction. Each is 1 + the number of the corner that a walked edge leads to, or 0.
 use answer::Limits;
 use order::wide;
 use outline_roster::Seat;

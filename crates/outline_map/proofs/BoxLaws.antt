@@ -190,7 +190,7 @@ module _ (c : Corner) (ds : List ℕ) (w : Boxable ds) where
   start-few : placeOf c < 268468225
   start-few = omega (arith, below c (cell c (startFrom-mem c ds)), places-few ds w)
 
--- the box of a walk, and what the pass over it tells
+-- the box of a walk, and what the pass over it finds
 module _ (ds : List ℕ) (width height from : ℕ) (w : Boxable ds) (ew : width ≡ boxWidth ds) (eh : height ≡ boxHeight ds) (ef : from ≡ placeAt ds 0) where
   -- the place of the start is a small number
   pub start-small : (0 < width) × (from % width * height + from / width < 268468225)

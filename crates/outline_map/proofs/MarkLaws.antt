@@ -159,7 +159,7 @@ lowest-step c ds d at home b e w =
 
 -- ---- the walk as it is read
 
--- the first i steps are in the map, but for the way into the corner where they end: its bit is `last`
+-- the first i steps are in the map, apart from the way into the corner where they end: its bit is `last`
 pub record Marking (c : Corner) (chain : List ℕ) (at : Corner → ℕ) (map : List ℕ) (b home last i : ℕ) : Type 0 where
   pub within : i ≤ length chain
   pub here : b ≡ at (endFrom c (take i chain))

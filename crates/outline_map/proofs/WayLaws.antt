@@ -132,7 +132,7 @@ module _ (chain by map : List ℕ) (home first : ℕ) (r : MapRing chain by map 
         let z = is-first home first i d t in
         stands-end c chain by map home first (r .some) (r .mapped c) (r .firstly c) n i d (g c (r .mapped c)) l (z .0) (z .1)
 
-  -- there is room for the first step
+  -- the buffer is long enough for the first step
   pub put-some : (room : ℕ) → Fits chain room → 0 < room
   put-some room h = omega (arith, h origin, round origin chain (r .some) .some)
 
@@ -157,7 +157,7 @@ module _ (chain by map : List ℕ) (home first : ℕ) (r : MapRing chain by map 
       after-first [] (suc n) h = refl
       after-first (x ∷ before) (suc n) h = refl
 
-  -- it fits where there are two steps for each of the walk's
+  -- it fits if there are two steps for each of the walk's
   pub fits-surely : (room : ℕ) → 2 * length chain ≤ room → (c : Corner) → true ≡ not (ltb room (length (outlineOf c chain)))
   fits-surely room h c = sym (ap not (le-ltb room (length (outlineOf c chain)) (omega (arith, h, round c chain (r .some) .few))))
 

@@ -1,3 +1,3 @@
--- A map of the box of a walk: a byte a corner, with a bit for each way.
+-- A map of the box of a walk: one byte for each corner, with a bit for each way.
 pub mod Map
 pub mod Ring

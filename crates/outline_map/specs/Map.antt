@@ -1,4 +1,4 @@
--- A map of the corners of a walk: a byte a corner, with a bit for each way whose edge was walked. Assumes nothing.
+-- A map of the corners of a walk: one byte for each corner, with a bit for each way whose edge was walked. Assumes nothing.
 use Rattle.lists.specs.Lists.{_≡_, Bool, List, List·Memᴰ, ℕ, _+_, _/_, _%_, _^_, _<_, _≤_, eqb, length, getD}
 use lib.Bits.{bitOr}
 use lib.ListN.{set}

@@ -16,8 +16,8 @@ pub record MapRing (chain by map : List ℕ) (home first : ℕ) : Type 0 where
 
 -- the outline fits into the room
 abbrev pub Fits : List ℕ → ℕ → Type 0
-Fits chain room = (c : Corner) → length (outlineOf c chain) ≤ room
+Fits chain size = (c : Corner) → length (outlineOf c chain) ≤ size
 
 -- whether it does
 abbrev pub FitsBy : List ℕ → ℕ → Bool → Type 0
-FitsBy chain room t = (c : Corner) → t ≡ not (ltb room (length (outlineOf c chain)))
+FitsBy chain size t = (c : Corner) → t ≡ not (ltb size (length (outlineOf c chain)))

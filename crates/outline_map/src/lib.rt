@@ -1,5 +1,5 @@
-// A map of the corners of a walk: a byte a corner, with a bit for each way whose edge was walked, and the path of the outline
-// over it.
+// A map of the corners of a walk: one byte for each corner, with a bit for each way whose edge was walked, and the path of the
+// outline over it.
 use order::lesser;
 use outline_path::away;
 ghost use mathlib.Core.Path.{_≡_};
@@ -45,7 +45,7 @@ fn go(by: &[usize], b: usize, d: u8) -> usize
     std::num::wrapping_add_usize(b, by[d as usize])
 }
 
-// The place of the start where places go column after column, from that where they go row after row.
+// The place of the start if places go column after column, from its place if they go row after row.
 pub fn across(from: usize, width: usize, height: usize) -> usize
     requires { ⌜ (0 < width) × (from % width * height + from / width < 268468225) ⌝ }
     ensures { λ r. ⌜ r ≡ from % width * height + from / width ⌝ }
@@ -75,7 +75,7 @@ pub fn mark(chain: &[u8], from: usize, by: &[usize], map: &mut [u8]) -> usize
     home
 }
 
-// The direction by which the path goes on from a corner with these ways, where it came by d.
+// The direction by which the path goes on from a corner with these ways, if it came by d.
 fn turn(m: u8, d: u8) -> u8
     requires { ⌜ d < 4 ⌝ }
     ensures { λ r. ⌜ r ≡ onward (wayOn m) d ⌝ }
@@ -121,19 +121,19 @@ fn count(chain: &[u8], by: &[usize], map: &[u8], home: usize, first: u8) -> usiz
     n
 }
 
-// Whether the outline has at most as many steps as there is room for. It has at most two for each step of the walk: if there is
-// room for these, it is not counted.
-pub fn fits(chain: &[u8], by: &[usize], map: &[u8], home: usize, first: u8, room: usize) -> bool
+// Whether the buffer is long enough for the outline. The outline has at most two steps for each step of the walk: if the buffer
+// is long enough for these, they are not counted.
+pub fn fits(chain: &[u8], by: &[usize], map: &[u8], home: usize, first: u8, size: usize) -> bool
     requires { ⌜ MapRing (now chain) (now by) (now map) home first ⌝ }
-    ensures { λ r. ⌜ FitsBy (now (chain .entry)) room r ⌝ }
+    ensures { λ r. ⌜ FitsBy (now (chain .entry)) size r ⌝ }
 {
-    if 2 * chain.len() <= room {
+    if 2 * chain.len() <= size {
         return true;
     }
-    count(chain, by, map, home, first) <= room
+    count(chain, by, map, home, first) <= size
 }
 
-// Writes the outline, for which there is room, and answers how many steps it has.
+// Writes the outline into a buffer that is long enough, and answers how many steps it has.
 pub fn put(chain: &[u8], by: &[usize], map: &[u8], home: usize, first: u8, out: &mut [u8]) -> usize
     requires { ⌜ MapRing (now chain) (now by) (now map) home first × Fits (now chain) (length (now out)) ⌝ }
     ensures { λ r. ⌜ Long (now (chain .entry)) r × Written (now (chain .entry)) (now (out .entry)) (now (out .exit)) ⌝ }

@@ -57,7 +57,7 @@ module _ (c : Corner) (chain links : List ℕ) (home : ℕ) (b : Built c chain l
   seen : (i e : ℕ) → walked c chain (getD vs i origin) e ≡ true → 0 < find (same (stepped e (getD vs i origin))) vs
   seen i e w = find-pos (same (stepped e (getD vs i origin))) vs (mem→any same same-sound same-refl (mem-visited (cornersFrom c chain) (walked-visited c chain (getD vs i origin) e w .1)))
 
-  -- a word is above 0 exactly where the edge was walked
+  -- a word is above 0 exactly if the edge was walked
   link-walked : (i e : ℕ) → i < length vs → e < 4 → waysAt links i e ≡ walked c chain (getD vs i origin) e
   link-walked i e h g = go (walked c chain (getD vs i origin) e) refl
     where

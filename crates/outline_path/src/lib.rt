@@ -17,7 +17,7 @@ fn leads(links: &[u16], i: usize, e: u8) -> bool
     links[4 * i + e as usize] > 0
 }
 
-// The direction by which the path goes on from corner i, where it came by d.
+// The direction by which the path goes on from corner i, if it came by d.
 fn turn(links: &[u16], i: usize, d: u8) -> u8
     requires { ⌜ (4 * i + 3 < length (now links)) × (d < 4) × (i ≤ mostSteps) ⌝ }
     ensures { λ r. ⌜ r ≡ onward (waysAt (now (links .entry)) i) d ⌝ }

@@ -11,10 +11,10 @@ use borrow.Author.Tests.{ltb-true, ltb-false}
 use lib.Dec.{ltb}
 use lib.ListN.{length, getD, take, drop, length-append, length-drop, List·getD-append}
 use lib.Seq.{ext-getD, length-take-le, getD-take, getD-drop, getD-append-add, getD-append-seam}
-use Rattle.area_laws.proofs.OutlineLaws.{length-backward}
+use Rattle.area_laws.proofs.MovedLaws.{length-backward}
 use Rattle.grid.specs.declared.Corner.{Corner}
 use Rattle.grid.specs.Grid.{back}
-use Rattle.panels.specs.Outline.{startedAt, backward}
+use Rattle.panels.specs.Moved.{startedAt, backward}
 use Rattle.outline.specs.Outline.{homeOf, pathFromHome, OutlineIs}
 use Rattle.outline.specs.Computed.{outlineOf}
 use Rattle.outline_laws.proofs.OrbitLaws.{after, orbit, after-suc, no-sooner}

@@ -16,8 +16,8 @@ use Rattle.grid.specs.Grid.{stepped, cornersFrom, cornerAt, legsFrom, back}
 use Rattle.grid.proofs.StepLaws.{back-mod, back-small, stepped-back, stepped-inj, cornersFrom-at, length-cornersFrom, cornerAt-end, back-back}
 use Rattle.steps.specs.Turns.{turnOf, stepAfter}
 use Rattle.trace.specs.Verdict.{IsRoom}
-use Rattle.panels.specs.Outline.{startedAt, backward}
-use Rattle.area_laws.proofs.OutlineLaws.{length-backward}
+use Rattle.panels.specs.Moved.{startedAt, backward}
+use Rattle.area_laws.proofs.MovedLaws.{length-backward}
 use Rattle.outline.specs.Outline.{walked, homeOf, firstWay, onward, OutlineIs}
 use Rattle.outline_laws.proofs.TurnLaws.{stepAfter-lt}
 use Rattle.outline_laws.proofs.EdgeLaws.{walked-edge, edge-walked, walked-back}
@@ -211,7 +211,7 @@ module _ (c : Corner) (ds : List ℕ) (r : IsRoom c ds) (b : Below 4 ds) (j : �
   first-east : walked c ds (homeOf c ds) 0 ≡ true → firstWay c ds ≡ 0
   first-east w = ⊎-elim (λ k. k .1) (λ k. absurd (true≢false (sym w ∙ k .0))) (ways c ds)
 
-  -- forwards, where it leaves home to the east
+  -- forwards, if it leaves home to the east
   forth : getD ds j 0 ≡ 0 → OutlineIs c ds (startedAt j ds)
   forth east = ring-outline c ds (startedAt j ds) (omega (arith, hj)) (λ n. (cornerAt c ds (at n), getD ds (at n) 0)) (record {
     some = omega (arith, l, hj);
@@ -232,7 +232,7 @@ module _ (c : Corner) (ds : List ℕ) (r : IsRoom c ds) (b : Below 4 ds) (j : �
   abbrev from : ℕ → ℕ
   from n = at (length ds - 1 - n)
 
-  -- backwards, where it comes home from the east
+  -- backwards, if it comes home from the east
   aback : back (getD ds (from 0) 0) ≡ 0 → OutlineIs c ds (backward (startedAt j ds))
   aback east = ring-outline c ds (backward (startedAt j ds)) (omega (arith, hj)) (λ n. (cornerAt c ds (suc (from n)), back (getD ds (from n) 0))) (record {
     some = omega (arith, l, hj);

@@ -3,7 +3,7 @@ use Rattle.lists.specs.Lists.{_≡_, true, false, List, ℕ, zero, suc, _+_, _*
 use Rattle.outline_roster.specs.declared.Sought.{Sought}
 use Rattle.outline_roster.specs.declared.Sought.the-variants.{Node, Free}
 
--- the way down to the key k from node i, where r holds the digits that are left; the first argument bounds how long it is
+-- the way down to the key k from node i, if r holds the digits that are left; the first argument bounds how long it is
 abbrev pub seekFrom : ℕ → List ℕ → List ℕ → ℕ → ℕ → ℕ → Sought
 seekFrom zero keys kids k i r = Free 0
 seekFrom (suc f) keys kids k i r =

@@ -1,6 +1,6 @@
 // Different keys, numbered in the order in which they came, and a digital tree that finds them. Node i has the key keys[i] and
-// two children, kids[2 * i] and kids[2 * i + 1], 0 where there is none; the way down to a key goes by its binary digits, so it
-// has 33 nodes at most.
+// two children, kids[2 * i] and kids[2 * i + 1], 0 if there is none; the way down to a key goes by its binary digits, so it has
+// 33 nodes at most.
 use order::wide;
 ghost use mathlib.Core.Path.{_≡_};
 ghost use Prim.Native.Nat.{_*_, _%_, _<_};

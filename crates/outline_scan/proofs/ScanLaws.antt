@@ -47,7 +47,7 @@ blank-of chain n k l s h m ek el = record {
 pub box-lent : (chain : List ℕ) (width height from : ℕ) (closed : Bool) (size : ℕ) → MapFits chain width height from closed size → MapFits chain width height from closed (length {A = ℕ} (replicate size 0)) × ((l : ℕ) → _≡_ {A = ℕ} (getD (replicate size 0) l 0) 0)
 box-lent chain width height from closed size f = (record { steady = f .steady; some = f .some; box = f .box; room = omega (arith, f .room, length-replicate {A = ℕ} size 0) }, zeros size)
 
--- ---- too little room, or all of it written
+-- ---- the buffer is too short, or all of it is written
 
 module _ (chain before : List ℕ) where
   by-room : (c : Corner) (j : Judged) (r : Counted) (after : List ℕ) → when (ltb (length before) (length (outlineOf c chain))) OutlineRoom ≡ j → r ≡ countedOf j (length (outlineOf c chain)) → after ≡ laidIf j (outlineOf c chain) before → Traced c chain before r after

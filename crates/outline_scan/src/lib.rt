@@ -86,7 +86,7 @@ fn write_widest(chain: &[u8], out: &mut [u8]) -> Counted
     write_in(chain, &mut keys, &mut kids, &mut links, out)
 }
 
-// The outline of a walk with steps, in a map of its box that is lent blank: a byte a corner, column after column.
+// The outline of a walk with steps, in a map of its box that is lent blank: one byte for each corner, column after column.
 fn write_on(chain: &[u8], b: WalkBox, map: &mut [u8], out: &mut [u8]) -> Counted
     requires { ⌜ MapFits (now chain) (b .width) (b .height) (b .from) (b .closed) (length (now map))
         × ((l : ℕ) → getD (now map) l 0 ≡ 0) ⌝ }

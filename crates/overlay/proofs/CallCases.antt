@@ -40,7 +40,7 @@ first-room-first = refl
 rooms-before-buffers : judged one (0 ∷ 9 ∷ []) [] ≡ Refused (BadDigit 1)
 rooms-before-buffers = refl
 
--- any list can be too long for its buffer; an empty one needs no room
+-- any list can be too long for its buffer; an empty one needs no buffer
 short-for-one : judged one one five ≡ Refused SpanRoom
 short-for-one = refl
 
@@ -51,7 +51,7 @@ room-for-all = refl
 one-short : {r : Overlaid} {after : Part → List ℤ} (w : OverlayCall origin one origin one (buffers five) r after) → w .lists ≡ lists → after First ≡ three
 one-short w e = w .buffers First ∙ ap (λ (L : Part → List Span). laidIf (overlayJudged origin one origin one (buffers five) L) (spanNumbers (L First)) three) e
 
--- the number behind a list stays
+-- the number after a list stays
 number-behind : laidIf (judged one one (pos 7 ∷ pos 7 ∷ five)) (spanNumbers (lists Second)) (pos 7 ∷ pos 7 ∷ five) ≡ pos 0 ∷ pos 1 ∷ pos 2 ∷ pos 0 ∷ pos 4 ∷ pos 4 ∷ pos 7 ∷ []
 number-behind = refl
 

@@ -15,14 +15,14 @@ ofParts a b c First = a
 ofParts a b c Second = b
 ofParts a b c Both = c
 
--- 21 where the buffer of a part has too little room for its spans
+-- 21 if the buffer of a part is too short for its spans
 abbrev pub partRoomJudged : (Part → List ℤ) → (Part → List Span) → Part → Judged
 partRoomJudged before lists k = spanRoomJudged (length (before k)) (length (lists k))
 
 -- the refusals of the first room, then those of the second, then 21 for any of the three lists
 abbrev pub overlayJudged : Corner → List ℕ → Corner → List ℕ → (Part → List ℤ) → (Part → List Span) → Judged
-overlayJudged s ds t es before lists =
-    firstOf (asRoomJudged s ds ∷ asRoomJudged t es ∷ partRoomJudged before lists First ∷ partRoomJudged before lists Second
+overlayJudged c ds e es before lists =
+    firstOf (asRoomJudged c ds ∷ asRoomJudged e es ∷ partRoomJudged before lists First ∷ partRoomJudged before lists Second
     ∷ partRoomJudged before lists Both ∷ [])
 
 -- how many panels and how many spans a list has, and each of three lists
@@ -38,12 +38,12 @@ overlaidOf Good lists = Overlaid.Listed (measuresOf lists)
 overlaidOf (Refused r) lists = Overlaid.Refused r
 
 -- the promise of the call: `lists` has the panels of each part by rows. What is not two rooms is refused, whatever the lists
-pub record OverlayCall (s : Corner) (ds : List ℕ) (t : Corner) (es : List ℕ) (before : Part → List ℤ) (r : Overlaid)
+pub record OverlayCall (c : Corner) (ds : List ℕ) (e : Corner) (es : List ℕ) (before : Part → List ℤ) (r : Overlaid)
     (after : Part → List ℤ) : Type 0 where
   pub lists : Part → List Span
-  pub rows : asRoomJudged s ds ≡ Good → asRoomJudged t es ≡ Good → (k : Part) → RowsIs (InPart k s ds t es) (lists k)
-  pub answer : r ≡ overlaidOf (overlayJudged s ds t es before lists) lists
-  pub buffers : (k : Part) → after k ≡ laidIf (overlayJudged s ds t es before lists) (spanNumbers (lists k)) (before k)
+  pub rows : asRoomJudged c ds ≡ Good → asRoomJudged e es ≡ Good → (k : Part) → RowsIs (InPart k c ds e es) (lists k)
+  pub answer : r ≡ overlaidOf (overlayJudged c ds e es before lists) lists
+  pub buffers : (k : Part) → after k ≡ laidIf (overlayJudged c ds e es before lists) (spanNumbers (lists k)) (before k)
 
 -- number, place, the panels of the three parts, and their spans
 abbrev pub overlaidWords : Overlaid → List ℕ

@@ -1,5 +1,5 @@
--- The promise of the call on two rooms: which judgement it is where a room is refused and where both are good, and that there is one answer and one state of each buffer.
--- Assumes nothing.
+-- The promise of the call on two rooms: which judgement it is if a room is refused and if both are good, and that there is one
+-- answer and one state of each buffer. Assumes nothing.
 use mathlib.Core.Bool.{Bool, true, false}
 use mathlib.Core.List.{List, [], _∷_}
 use mathlib.Core.Logic.{_⊎_, inl, inr}

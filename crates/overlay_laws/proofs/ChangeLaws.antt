@@ -1,5 +1,5 @@
--- The stops at which a part changes: in order, even in every row, and an odd number of them is beside a panel exactly where the part has the panel.
--- Assumes nothing.
+-- The stops at which a part changes: in order, even in every row, and an odd number of them is beside a panel exactly if the part
+-- has the panel. Assumes nothing.
 use mathlib.Core.Bool.{Bool, true, false, cond, _&&_}
 use mathlib.Core.List.{List, [], _∷_}
 use mathlib.Core.Path.{_≡_, refl, ap, ap₂, sym, _∙_}
@@ -38,7 +38,7 @@ abbrev pub twos : List Stop → ℕ
 twos J = count (λ t. t .two) J
 
 module _ (part : Bool → Bool → Bool) (none : part false false ≡ false) where
-  -- how many changes are left tells whether the part is there
+  -- how many changes are left shows whether the part is there
   changes-length : (J : List Stop) (a b : Bool) → tally a ≡ ones J % 2 → tally b ≡ twos J % 2 → length (changes part a b J) % 2 ≡ tally (part a b)
   changes-length [] a b e f = sym (ap tally (ap₂ part (tally-one a false e) (tally-one b false f) ∙ none))
   changes-length (t ∷ J) a b e f =
@@ -71,7 +71,7 @@ module _ (part : Bool → Bool → Bool) (none : part false false ≡ false) whe
         by true ih = omega (arith, ih, ap tally (mono lo (t .at) (g .0) e))
         by false ih = ih
 
-    -- what passes tells whether the part is there behind
+    -- what passes shows whether the part is there afterwards
     pub changes-pass : (J : List Stop) (a b x y : Bool) → tally a ≡ ones J % 2 → tally b ≡ twos J % 2 → tally x ≡ onesIn T J % 2 → tally y ≡ twosIn T J % 2 → InTurn Ahead (ats J)
         → count T (changes part a b J) % 2 ≡ tally (part x y)
     changes-pass [] a b x y e f g h s = sym (ap tally (ap₂ part (tally-one x false g) (tally-one y false h) ∙ none))

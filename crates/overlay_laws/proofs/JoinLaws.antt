@@ -1,5 +1,5 @@
 -- The joined stops are in order and have all of both lists; the changes of a part are in order, even in every row, and of them an odd number is
--- beside a panel exactly where the part has the panel.
+-- beside a panel exactly if the part has the panel.
 -- Assumes nothing.
 use mathlib.Core.Bool.{Bool, true, false, not, _&&_, true≢false}
 use mathlib.Core.List.{List, [], _∷_, map}
@@ -27,7 +27,7 @@ not-ahead p q e = by (ahead q p) refl e
     by true f g = ahead-true q p f
     by false f g = absurd (true≢false g)
 
--- where P does not lead, Q is behind its own first
+-- if P does not lead, Q comes after its own first
 behind : (P Q : List Corner) → leads P Q ≡ true → leads Q P ≡ false → InTurn Ahead Q → Climbs Ahead (first P) Q
 behind [] Q e f g = absurd (true≢false (sym e))
 behind (p ∷ P) [] e f g = tt
@@ -84,7 +84,7 @@ module _ (T : Corner → Bool) where
   length-first [] Q e = absurd (true≢false (sym e))
   length-first (p ∷ P) Q e = refl
 
-  -- where none leads there is none
+  -- if none leads there is none
   pub none-left : (P Q : List Corner) → leads P Q ≡ false → leads Q P ≡ false → (count T P ≡ 0) × (count T Q ≡ 0)
   none-left [] [] e f = (refl, refl)
   none-left [] (q ∷ Q) e f = absurd (true≢false f)

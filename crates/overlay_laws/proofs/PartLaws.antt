@@ -76,7 +76,7 @@ count-ahead : (p : Panel) (l : List Corner) → count (ahead (place p)) l ≡ co
 count-ahead p [] = refl
 count-ahead p (q ∷ l) = omega (arith, tally-ahead p q, count-ahead p l)
 
--- even above any row where every row is even
+-- even above any row if every row is even
 above-even : (b : ℤ) (qs : List Corner) → InTurn UpTo qs → EvenRows qs → count (above b) qs % 2 ≡ 0
 unfolding above
 above-even b [] g even = refl

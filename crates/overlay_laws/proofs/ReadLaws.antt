@@ -100,7 +100,7 @@ not-far z h = by (far z) refl h
     by true e k = absurd (omega (arith, k))
     by false e k = ltb-false 24577 (natAbs z) e
 
--- where no end is far the numbers are small
+-- if no end is far the numbers are small
 numbers-small : (P : List Corner) → count (λ q. far (q .0)) P ≡ 0 → count (λ q. far (q .1)) P ≡ 0 → (k : ℕ) → natAbs (getD (spanNumbers (pairsOf P)) k (pos 0)) ≤ 32767
 numbers-small [] e f k = omega arith
 numbers-small (x ∷ []) e f k = omega arith

@@ -146,7 +146,7 @@ pub length-endsFrom : (a : List ℤ) (i k : ℕ) → length (endsFrom a i k) ≡
 length-endsFrom a i zero = refl
 length-endsFrom a i (suc k) = ap suc (length-endsFrom a (suc i) k)
 
--- where there is a stop there is fuel
+-- if there is a stop there is fuel
 pub some-fuel : (n f : ℕ) → 0 < n → n ≤ f → (m : ℕ) × (f ≡ suc m)
 some-fuel n zero h g = absurd (omega arith)
 some-fuel n (suc f) h g = (f, refl)

@@ -17,7 +17,7 @@ pub record Stop : Type 0 where
 abbrev pub first : List Corner → Corner
 first P = getD P 0 origin
 
--- the first of P is not behind the first of Q
+-- the first of P does not come after the first of Q
 abbrev pub leads : List Corner → List Corner → Bool
 leads [] Q = false
 leads (p ∷ P) [] = true
@@ -40,7 +40,7 @@ abbrev pub differ : Bool → Bool → Bool
 differ true b = not b
 differ false b = b
 
--- the stops at which `part` of being in the one and in the other changes, where it is a and b before the first
+-- the stops at which `part` of being in the one and in the other changes, if it is a and b before the first
 abbrev pub changes : (Bool → Bool → Bool) → Bool → Bool → List Stop → List Corner
 changes part a b [] = []
 changes part a b (t ∷ J) =

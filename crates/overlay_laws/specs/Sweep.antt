@@ -16,7 +16,7 @@ use Rattle.row_laws.specs.Feet.{feetOf, pairsOf}
 use Rattle.overlay.specs.declared.{Part.Part, Part.the-variants.First, Part.the-variants.Second, Part.the-variants.Both}
 use Rattle.overlay_laws.specs.Join.{join, changes}
 
--- whether the part has what the first room has or has not, and the second
+-- whether the part has what the first room has, or what it lacks, and likewise the second
 abbrev pub partHas : Part → Bool → Bool → Bool
 partHas First a b = a && not b
 partHas Second a b = b && not a
@@ -24,7 +24,7 @@ partHas Both a b = a && b
 
 -- the sorted lower ends of a walk
 abbrev pub endsOfWalk : Corner → List ℕ → List Corner
-endsOfWalk s ds = feetOf (edgesFrom s ds)
+endsOfWalk c ds = feetOf (edgesFrom c ds)
 
 -- the ends of the spans of a part of two sets, by the lower ends of each
 abbrev pub partEnds : Part → List Corner → List Corner → List Corner
@@ -32,7 +32,7 @@ partEnds k P Q = changes (partHas k) false false (join (length P + length Q) P Q
 
 -- the list of each part of two walks
 abbrev pub listsOf : Corner → List ℕ → Corner → List ℕ → Part → List Span
-listsOf s ds t es k = pairsOf (partEnds k (endsOfWalk s ds) (endsOfWalk t es))
+listsOf c ds e es k = pairsOf (partEnds k (endsOfWalk c ds) (endsOfWalk e es))
 
 -- the lower end at place i of the spans whose numbers the list has: the first panel of a span, and the one past its last
 abbrev pub endAt : List ℤ → ℕ → Corner
@@ -43,7 +43,7 @@ abbrev pub endsFrom : List ℤ → ℕ → ℕ → List Corner
 endsFrom list i zero = []
 endsFrom list i (suc k) = endAt list i ∷ endsFrom list (suc i) k
 
--- a list of so many ends, whose numbers fit 16 bits
+-- a list of this many ends, whose numbers fit 16 bits
 pub record Numbers (list : List ℤ) (n : ℕ) : Type 0 where
   pub even : n % 2 ≡ 0
   pub room : 3 * (n / 2) ≤ length list

@@ -12,7 +12,7 @@ use Rattle.row_call.specs.{Rows.Span, Rows.spanNumbers}
 use Rattle.overlay.specs.declared.{Part.Part, Part.the-variants.First, Part.the-variants.Second, Part.the-variants.Both, Overlaid.Overlaid}
 use Rattle.overlay.specs.Call.{partRoomJudged, overlaidOf}
 
--- each list has room in its buffer
+-- each buffer is long enough for its list
 abbrev pub HaveRoom : (Part → List Span) → (Part → List ℤ) → Type 0
 HaveRoom lists before = (k : Part) → 3 * length (lists k) ≤ length (before k)
 

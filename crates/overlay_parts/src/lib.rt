@@ -1,4 +1,4 @@
-// Writes the parts of two lists of spans, in the first only, in the second only and in both, unless one has no room.
+// Writes the parts of two lists of spans, in the first only, in the second only and in both, unless a buffer is too short.
 use answer::Refusal;
 use overlay::Measures;
 use overlay::Overlaid;
@@ -26,7 +26,7 @@ fn enough(most: usize, first: usize, second: usize, both: usize) -> bool
     true
 }
 
-// How many panels and spans the parts have, by a sweep that has room for no span.
+// How many panels and spans the parts have, by a sweep that writes no span.
 fn measure(a: &[i16], na: usize, b: &[i32], nb: usize) -> Measures
     requires { ⌜ Spanned (now a) na × Spanned (now b) nb ⌝ }
     ensures { λ r. ⌜ r ≡ measuresOf (partSpans (now (a .entry)) na (now (b .entry)) nb) ⌝ }
@@ -37,7 +37,7 @@ fn measure(a: &[i16], na: usize, b: &[i32], nb: usize) -> Measures
     sweep(a, na, b, nb, &mut f, &mut g, &mut h)
 }
 
-// Writes the three lists, each of which has room in its buffer.
+// Writes the three lists; each buffer is long enough.
 fn put_all(
     a: &[i16],
     na: usize,
@@ -57,8 +57,8 @@ fn put_all(
     Overlaid::Listed(m)
 }
 
-// Writes the three lists, unless one of them is too long for its buffer. A list has three numbers for each two ends at most: no
-// list is measured if each buffer has room for that.
+// Writes the three lists, unless one of them is too long for its buffer. A list has at most three numbers for each two ends: no
+// list is measured if each buffer is long enough for that.
 pub fn put_parts(
     a: &[i16],
     na: usize,

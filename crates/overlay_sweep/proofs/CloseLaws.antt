@@ -31,7 +31,7 @@ use Rattle.overlay_sweep.proofs.KeyLaws.{key-ahead, span-back, key-gap,
 
 -- ---- one part
 
--- the ends E are left of a part that has the spans L in all; n stops are behind
+-- the ends E are left of a part that has the spans L in all; n stops are passed
 pub record Left (E : List Corner) (L : List Span) (n : ℕ) (before : List ℤ) (m : Measure) (now : List ℤ) : Type 0 where
   pub ends : Ends E
   pub many : m .spans + length (pairsOf E) ≡ length L
@@ -86,7 +86,7 @@ abbrev openEnds : Bool → Corner → List Corner → List Corner
 openEnds true c R = c ∷ R
 openEnds false c R = R
 
--- a part has not what comes after a stop if it had what came before
+-- a part lacks what comes after a stop if it had what came before
 module _ (was is : Bool) (turns : was ≡ true → is ≡ true → ⊥) (at stop : Corner) (R : List Corner) where
   left-next : (L : List Span) (n n′ : ℕ) (before now after : List ℤ) (m r : Measure) → KeyFits at → KeyFits stop → n < n′ → length after ≡ length now → Left (openEnds was at (cond (differ was is) (stop ∷ R) R)) L n before m now
       → Closed was (endKey at) (endKey stop) m now r after → Left (openEnds is stop R) L n′ before r after
@@ -147,7 +147,7 @@ odd-yes i e = ap (λ (n : ℕ). eqb n 1) e
 pub odd-no : (i : ℕ) → i % 2 ≡ 0 → odd i ≡ false
 odd-no i e = ap (λ (n : ℕ). eqb n 1) e
 
--- what is known of each part, where the first list is in a span or not, and the second
+-- what is known of each part, whether the first list is in a span or not, and the second
 pub three-closed : (i j : ℕ) (u v : Bool) (from to : ℕ) (m r : Measures) (f g h f′ g′ h′ : List ℤ) → odd i ≡ u → odd j ≡ v
     → Closed (partHas First u v) from to (m .first) f (r .first) f′ → Closed (partHas Second u v) from to (m .second) g (r .second) g′ → Closed (partHas Both u v) from to (m .both) h (r .both) h′
     → (k : Part) → Closed (partHas k (odd i) (odd j)) from to (inParts m k) (ofParts f g h k) (inParts r k) (ofParts f′ g′ h′ k)
@@ -165,7 +165,7 @@ three-same f g h f′ g′ h′ x y z Both = z
 
 -- ---- the sweep
 
--- what is left of a part after i ends of one list and j of the other, the last of which is `at`
+-- what is left of a part after i ends of one list and j of the other; the last is `at`
 abbrev leftOf : Part → List ℤ → ℕ → List ℤ → ℕ → ℕ → ℕ → ℕ → Corner → List Corner
 leftOf k a na b nb i j fuel at = openEnds (partHas k (odd i) (odd j)) at (partRest k a i na b j nb fuel)
 

@@ -39,7 +39,7 @@ lifted z h =
 unlifted : (z : ℤ) → natAbs z ≤ 32768 → sunk (natAbs (z +ℤ pos 32768)) ≡ z
 unlifted z h = omega (zarith, bal- (pos (natAbs (z +ℤ pos 32768))) (pos 32768), lifted z h)
 
--- ---- keys tell corners apart
+-- ---- keys distinguish corners
 
 pub end-reached : (list : List ℤ) (n i : ℕ) → Numbers list n → i < n → KeyFits (endAt list i)
 end-reached list n i h l =

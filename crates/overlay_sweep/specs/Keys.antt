@@ -42,7 +42,7 @@ cornerOf k = corner (sunk (k % 131072)) (sunk (k / 131072))
 abbrev pub spanBetween : ℕ → ℕ → List ℤ
 spanBetween from to = cornerOf from .1 ∷ cornerOf from .0 ∷ predℤ (cornerOf to .0) ∷ []
 
--- that span is counted, and written after those that were counted before if there is room for it
+-- that span is counted, and written after those that were counted before if the buffer is long enough
 pub record Added (from to : ℕ) (m : Measure) (before : List ℤ) (r : Measure) (after : List ℤ) : Type 0 where
   pub measure : r ≡ record { panels = m .panels + (to - from); spans = m .spans + 1 }
   pub buffer : 3 * m .spans + 2 < length before → after ≡ sets before (3 * m .spans) (spanBetween from to)

@@ -15,9 +15,9 @@ use Rattle.overlay.specs.Call.{measureOf}
 use Rattle.overlay_laws.specs.Sweep.{endsOfWalk, partEnds, endsFrom, Numbers}
 
 -- the list has the spans of a closed walk, by n ends
-pub record HoldsSpans (s : Corner) (ds : List ℕ) (list : List ℤ) (n : ℕ) : Type 0 where
-  pub closed : endFrom s ds ≡ s
-  pub ends : endsFrom list 0 n ≡ endsOfWalk s ds
+pub record HoldsSpans (c : Corner) (ds : List ℕ) (list : List ℤ) (n : ℕ) : Type 0 where
+  pub closed : endFrom c ds ≡ c
+  pub ends : endsFrom list 0 n ≡ endsOfWalk c ds
   pub short : n ≤ length ds
   pub numbers : Numbers list n
 
@@ -31,7 +31,7 @@ pub record Spanned (list : List ℤ) (n : ℕ) : Type 0 where
 abbrev pub partSpans : List ℤ → ℕ → List ℤ → ℕ → Part → List Span
 partSpans a na b nb k = pairsOf (partEnds k (endsFrom a 0 na) (endsFrom b 0 nb))
 
--- a part is measured, and written if there is room for it
+-- a part is measured, and written if the buffer is long enough
 pub record Swept (L : List Span) (before : List ℤ) (r : Measure) (after : List ℤ) : Type 0 where
   pub measure : r ≡ measureOf L
   pub buffer : 3 * length L ≤ length before → after ≡ sets before 0 (spanNumbers L)

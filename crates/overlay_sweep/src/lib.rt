@@ -39,7 +39,7 @@ fn past(x: i32, i: usize) -> i32
     x + (i % 2) as i32
 }
 
-// The lower end of the edge before the panel p, or at every other place of the edge behind it.
+// The lower end of the edge before the panel p, or at every other place of the edge after it.
 fn foot(p: Panel, i: usize) -> Corner
     requires { ⌜ natAbs (p .0) ≤ 32767 ⌝ }
     ensures { λ r. ⌜ r ≡ corner (p .0 +ℤ pos (i % 2)) (p .1) ⌝ }
@@ -164,7 +164,7 @@ fn panel_before(at: Corner) -> Panel
     Panel(x, y)
 }
 
-// The panel behind it.
+// The panel after it.
 fn panel_behind(at: Corner) -> Panel
     ensures { λ r. ⌜ r ≡ panelAt at ⌝ }
 {
@@ -173,7 +173,7 @@ fn panel_behind(at: Corner) -> Panel
     Panel(x, y)
 }
 
-// Writes the span from a panel to another of its row, if there is room for it.
+// Writes the span from a panel to another of its row, if the buffer is long enough.
 fn put(out: &mut [i32], o: usize, first: Panel, last: Panel)
     requires { ⌜ o ≤ 6 * mostSteps ⌝ }
     ensures { λ _. ⌜ (o + 2 < length (now (out .entry))
@@ -189,7 +189,7 @@ fn put(out: &mut [i32], o: usize, first: Panel, last: Panel)
     }
 }
 
-// Writes the span between two ends of one row after those that were counted, if there is room for it, and counts it.
+// Writes the span between two ends of one row after those that were counted, if the buffer is long enough, and counts it.
 fn put_span(out: &mut [i32], m: Measure, from: usize, to: usize) -> Measure
     requires { ⌜ (m .spans ≤ 2 * mostSteps) × (m .panels ≤ 2 * mostSteps * lastKey) × (from ≤ to) × (to ≤ lastKey) ⌝ }
     ensures { λ r. ⌜ Added from to m (now (out .entry)) r (now (out .exit)) ⌝ }
@@ -257,8 +257,8 @@ fn close(
     }
 }
 
-// Writes the spans of the three parts of two lists of spans, as far as there is room, and counts them and their panels. The lists
-// have na and nb ends.
+// Writes the spans of the three parts of two lists of spans, as far as the buffers are long enough, and counts them and their
+// panels. The lists have na and nb ends.
 pub fn sweep(
     a: &[i16],
     na: usize,

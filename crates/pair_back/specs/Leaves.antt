@@ -20,7 +20,7 @@ use Rattle.pair_child.specs.declared.Stock.{Stock}
 use Rattle.pair_child.specs.Finds.{StockIs}
 
 -- ---- the links
--- record u lies in the table, and so does that of its neighbour in the direction d where step s of party q linked the two
+-- record u lies in the table, and so does that of its neighbour in the direction d if step s of party q linked the two
 pub record PairJoined (t : List ℕ) (q u d s : ℕ) : Type 0 where
   pub here : InTable t u
   pub party : q < 2
@@ -62,7 +62,7 @@ pub record PairUnlinkable (t : List ℕ) (q u : ℕ) (c : Corner) (d s : ℕ) : 
 abbrev pub freedIn : Stock → ℕ → Stock
 freedIn s u = record { nodes = s .nodes - 1; low = min (s .low) u }
 
--- party q leaves the node c in record u, a child of that in record up: its record is freed where the other party does not need it
+-- party q leaves the node c in record u, a child of that in record up: its record is freed if the other party does not need it
 pub record PairLeft (t : List ℕ) (q : ℕ) (s : Stock) (u up : ℕ) (c : Corner) (t′ : List ℕ) (r : Stock) : Type 0 where
   pub alone : wordsIn t u (ofParty (1 - q) needWord) ≡ 0 → (t′ ≡ pairDropIn t u up (childWord c)) × (r ≡ freedIn s u)
   pub shared : 0 < wordsIn t u (ofParty (1 - q) needWord) → (t′ ≡ pairUnneedIn q t u) × (r ≡ s)

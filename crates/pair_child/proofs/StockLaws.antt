@@ -1,5 +1,5 @@
--- The child of a node that stands, by the nodes and what is in use: the scan finds the lowest free record, and what is in use is told on.
--- Assumes nothing.
+-- The child of a node that stands, by the nodes and what is in use: the scan finds the lowest free record, and what is in use is
+-- passed on. Assumes nothing.
 use mathlib.Core.Bool.{Bool, true, false, not, _&&_}
 use mathlib.Core.List.{List, [], _∷_, List·Memᴰ, Memᴰ·append-left}
 use mathlib.Core.Logic.{⊎-elim}
@@ -143,8 +143,8 @@ module _ (slots : List Slot) (C : Both) (q : ℕ) (known : q < 2) (T : State) (s
             by true b = let k = ch .0 w .made .0 b in made-found w (ch .0 w .number) (ch .0 w .scanned) b t′ r (k .0) (k .1)
             by false b = none-found w (ch .0 w .number) (ch .0 w .scanned) b t′ r (ch .0 w .made .1 b)
 
--- ---- no room
--- for the child of a path is no room for its path
+-- ---- the table is full
+-- a table that is too small for the child of a path is too small for its path
 pub no-room-child : (slots : List Slot) (e : Corner) (t : List ℕ) → isRoot e ≡ false → HeldOnce (placedAll slots (pathOf (parentOf e))) → ((i : ℕ) → At (placedAll slots (pathOf (parentOf e))) i e → ⊥)
     → pairRecordsIn (length t) ≤ lowest (placedAll slots (pathOf (parentOf e))) → NoRoomFor slots e t
 no-room-child slots e t deep once fresh full ns all path =

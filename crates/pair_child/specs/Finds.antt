@@ -42,7 +42,7 @@ found at s = record { at = at; stock = s }
 abbrev pub stocked : Stock → ℕ → Stock
 stocked s k = record { nodes = s .nodes + 1; low = k + 1 }
 
--- record k, or nothing where it is not in the table
+-- record k, or nothing if it is not in the table
 abbrev pub MadeAt : ℕ → List ℕ → Stock → ℕ → ℕ → ℕ → ℕ → List ℕ → Located → Type 0
 MadeAt q t s u w step k t′ r =
     (inTable t k ≡ true → (t′ ≡ pairNodeIn q t k u w step) × (r ≡ found (k + 1) (stocked s k)))
@@ -64,7 +64,7 @@ Childed q t s u w step t′ r =
     (wordsIn t u w ≡ 0 → Makes q t s u w step t′ r)
     × ((v : ℕ) → wordsIn t u w ≡ suc v → (t′ ≡ claimIn q t v step) × (r ≡ found (suc v) s))
 
--- ---- what is in use: so many nodes, and no record before low is free
+-- ---- what is in use: this many nodes, and no record before low is free
 pub record StockIs (s : Stock) (slots : List Slot) : Type 0 where
   pub nodes : s .nodes ≡ heldIn slots
   pub above : 0 < s .low
@@ -76,8 +76,8 @@ pub record ChildFound (C : Both) (slots : List Slot) (q : ℕ) (T : State) (e : 
   pub none : r .at ≡ 0 → ((i : ℕ) → At slots i e → ⊥) × (pairRecordsIn (length t) ≤ lowest slots)
   pub some : (r .at ≡ 0 → ⊥) → Child C slots q (grown T e s) e t′ (r .at) × StockIs (r .stock) (placed slots e)
 
--- a lookup of node e by party q, in records slots of table t, where the states were B: now its state is S, the path of e stands,
--- and e has the ref that is answered; or there is no room for that path
+-- a lookup of node e by party q, in records slots of table t, if the states were B: now its state is S, the path of e stands, and
+-- e has the ref that is answered; or the table is too small for that path
 pub record Finds (B : Both) (slots : List Slot) (q : ℕ) (S : State) (e : Corner) (t t′ : List ℕ) (r : Located) : Type 0 where
   pub none : r .at ≡ 0 → NoRoomFor slots e t
   pub some : (r .at ≡ 0 → ⊥) → Look B slots q S e t′ (r .at) × StockIs (r .stock) (placedAll slots (pathOf e))

@@ -19,7 +19,7 @@ pub struct Stock {
     pub low: usize,
 }
 
-// A node by its ref, 0 if there was no room, and what is in use then.
+// A node by its ref, 0 if the table is full, and what is in use then.
 pub struct Located {
     pub at: usize,
     pub stock: Stock,
@@ -39,7 +39,7 @@ fn taken(t: &[u32], r: usize) -> bool
     true
 }
 
-// The first record from here on that is not in use; so many as there are records, if all are.
+// The first record from here on that is not in use; the number of records, if all are.
 fn free_from(t: &[u32], low: usize) -> usize
     requires { ⌜ (low < 2 ^ 32) × (length (now t) < 2 ^ 32) ⌝ }
     ensures { λ r. ⌜ ScannedTo (now (t .entry)) low r × (r < 2 ^ 32) ⌝ }

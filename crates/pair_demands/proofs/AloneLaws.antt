@@ -181,7 +181,7 @@ module _ {c e : Corner} {os : List ℕ} {b : PairLent} (h : PairFaultless c e os
       omega (arith, length-visited-le ps, length-visited-le qs, length-cornersFrom c (ownAfter 0 os k), length-cornersFrom e (ownAfter 1 os k), p .0, p .1)
 
 module _ {c e : Corner} {os : List ℕ} {b b′ : PairLent} {r : PairAnswer} (w : PairIs c e os b r b′) where
-  -- a table that has so many records at every moment
+  -- a table that has this many records at every moment
   enough-four : ((k : ℕ) → k ≤ length os → 4 * pairCornersAfter c e os k + 128 ≤ pairRecordsIn (length (b .table))) → (i : ℕ) → r ≡ PairAnswer.Refused (NoRoom i) → ⊥
   enough-four f i x =
       let n = no-room-at w i .0 x in

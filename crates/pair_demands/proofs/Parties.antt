@@ -1,6 +1,6 @@
--- What the demands and K10 ask of two parties in one table, as theorems about the promise `PairIs` of their call. Each is proved
--- by naming a law.
--- c and e are the two starts, os the bytes, b the four buffers that are lent and b′ what they hold then. Assumes nothing.
+-- What the demands (RULES 8) and RULES 19 ask of two parties in one table, as theorems about the promise `PairIs` of their call.
+-- Each is proved by naming a law. c and e are the two starts, os the bytes, b the four buffers that are lent and b′ what they
+-- hold then. Assumes nothing.
 use mathlib.Core.Bool.{false}
 use mathlib.Core.List.{List, [], _∷_, _++_, map, List·Memᴰ}
 use mathlib.Core.Logic.{_⊎_, _↔_}
@@ -148,7 +148,7 @@ known-stays = slotLaws.placed-known
 
 -- ---- Demand 2: what an accepted call answers and leaves
 module _ {c e : Corner} {os : List ℕ} {b b′ : PairLent} {f : PairFacts} (w : PairIs c e os b (PairAnswer.Accepted f) b′) where
-  -- nothing was wrong with it, and there was room at every moment
+  -- nothing was wrong with it, and the table was large enough at every moment
   pub faultless : PairFaultless c e os b × ((k : ℕ) → k ≤ length os → pairNodesAfter c e os k ≤ pairRecordsIn (length (b .table)))
   faultless = pairLaws.its-faultless w
 
@@ -160,7 +160,7 @@ module _ {c e : Corner} {os : List ℕ} {b b′ : PairLent} {f : PairFacts} (w :
   pub own-facts : (q : ℕ) → q < 2 → byParty q (f .first) (f .second) ≡ partyFactsOf (byParty q c e) (stepsBy q os)
   own-facts = endLaws.own-facts w
 
-  -- which is what a call of its own would answer, but for the nodes
+  -- which is what a call of its own would answer, apart from the nodes
   pub as-alone : (q : ℕ) → q < 2 → {t ms ch t′ ms′ ch′ : List ℕ} {g : Facts}
       → WalkIs (byParty q c e) (ownOps q os) t ms ch (Answer.Accepted g) t′ ms′ ch′ → byParty q (f .first) (f .second) ≡ ownIn g
   as-alone = endLaws.as-alone w
@@ -175,7 +175,7 @@ module _ {c e : Corner} {os : List ℕ} {b b′ : PairLent} {f : PairFacts} (w :
       → getD (b′ .table) (pairWordAt i (ownWord q n)) 0 ≡ getD (ownOf (cornersFrom (byParty q c e) (stepsBy q os)) a) n 0
   own-words = endLaws.own-words w
 
-  -- where a party does not need a node, all eleven are zero
+  -- if a party does not need a node, all eleven are zero
   pub own-absent : (q : ℕ) → q < 2 → (a : Corner) (i n : ℕ) → At (slotsOf c e os) i a → n < 11
       → (InUse (cornersFrom (byParty q c e) (stepsBy q os)) a → ⊥) → getD (b′ .table) (pairWordAt i (ownWord q n)) 0 ≡ 0
   own-absent = endLaws.own-absent w
@@ -215,11 +215,11 @@ module _ {c e : Corner} {os : List ℕ} {b b′ : PairLent} {f : PairFacts} (w :
       × (length (b′ .first) ≡ length (b .first)) × (length (b′ .second) ≡ length (b .second))
   same-lengths = bufferLaws.its-lengths w
 
--- how many of the records 0, 1, .. have not the same words in two tables
+-- how many of the records 0, 1, .. differ in a word in two tables
 pub changes-counted : (r : ℕ) (t u : List ℕ) → changesBy pairWidth r t u ≡ count (differsAt pairWidth t u) (numbersFrom 0 r)
 changes-counted = changeLaws.changes-counted pairWidth
 
--- a record does not differ exactly where all its words are the same
+-- a record does not differ exactly if all its words are the same
 pub differs-exactly : (t u : List ℕ) (i : ℕ) → differsAt pairWidth t u i ≡ false ↔ recordAt pairWidth t i ≡ recordAt pairWidth u i
 differs-exactly = changeLaws.differs-exactly pairWidth
 
@@ -294,7 +294,7 @@ module _ {c e : Corner} {os : List ℕ} {b : PairLent} (h : PairFaultless c e os
   four-and-more = aloneLaws.four-and-more h
 
 module _ {c e : Corner} {os : List ℕ} {b b′ : PairLent} {r : PairAnswer} (w : PairIs c e os b r b′) where
-  -- so a table that large at every moment is never refused for room
+  -- so a table that large at every moment is never too small
   pub enough-eight : ((k : ℕ) → k ≤ length os → 8 * pairCornersAfter c e os k + 136 ≤ pairRecordsIn (length (b .table))) → (i : ℕ)
       → r ≡ PairAnswer.Refused (NoRoom i) → ⊥
   enough-eight = aloneLaws.enough-eight w

@@ -26,7 +26,7 @@ use Rattle.walk_input.proofs.JudgeLaws.{Early, early-when, early-or, early-faul
 use Rattle.pair_input.specs.Judges.{pairInputJudgements, pairInputJudged}
 
 module _ (c e : Corner) (os : List ℕ) (w m k l : ℕ) where
-  -- the room decides last
+  -- the size of the table decides last
   pub pair-judged-split : pairJudged c e os w m k l ≡ orElse (pairInputJudged c e os w m k l) (pairRoomFrom (pairRecordsIn w) c e 0 [] [] os)
   pair-judged-split = firstOf-last (pairInputJudgements c e os w m k l) (pairRoomFrom (pairRecordsIn w) c e 0 [] [] os)
 

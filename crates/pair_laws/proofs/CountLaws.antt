@@ -1,4 +1,4 @@
--- How many records hold a node: as many as there are nodes, one more where a node is put, one less where a record is freed.
+-- How many records hold a node: as many as there are nodes, one more when a node is put, one less when a record is freed.
 -- Assumes nothing.
 use mathlib.Core.List.{List, [], _∷_, List·Memᴰ, List·Memᴰ·head, List·Memᴰ·tail, List·Memᴰ·not-nil, List·Memᴰ·cases-cons}
 use mathlib.Core.Logic.{⊎-elim}

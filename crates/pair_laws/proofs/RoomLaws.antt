@@ -1,6 +1,5 @@
--- Refusal 7 of two parties: given at the first moment at which the nodes that either needs exceed the records, and never where all of the
--- steps survive and there is room in the end.
--- Assumes nothing.
+-- Refusal 7 of two parties: given at the first moment at which the nodes that either needs exceed the records, and never if all
+-- of the steps survive and the table is large enough in the end. Assumes nothing.
 use mathlib.Core.Bool.{Bool, true, false}
 use mathlib.Core.List.{List, [], _∷_, _++_, append-assoc}
 use mathlib.Core.Path.{_≡_, refl, ap, ap₂, sym, _∙_, subst}
@@ -33,14 +32,14 @@ module _ (r : ℕ) (c e : Corner) where
   needs-suc : (ds es : List ℕ) (o : ℕ) (os : List ℕ) (k : ℕ) → needs ds es (o ∷ os) (suc k) ≡ needs (movedBy 0 ds o) (movedBy 1 es o) os k
   needs-suc ds es o os k = ap length (needs-next c e ds es o (take k os))
 
-  -- there is room now: what is left decides
+  -- the table is large enough now: what is left decides
   pub room-end : (b : ℕ) (ds es : List ℕ) → length (needsOf c e ds es) ≤ r → when (ltb r (length (needsOf c e ds es))) (NoRoom (pred b)) ≡ Good
   room-end b ds es h = ap (λ (t : Bool). when t (NoRoom (pred b))) (le-ltb r (length (needsOf c e ds es)) h)
 
   pub room-fits : (b : ℕ) (ds es : List ℕ) (o : ℕ) (os : List ℕ) → length (needsOf c e ds es) ≤ r → pairRoomFrom r c e b ds es (o ∷ os) ≡ pairRoomFrom r c e (suc b) (movedBy 0 ds o) (movedBy 1 es o) os
   room-fits b ds es o os h = ap (λ (j : Judged). orElse j (pairRoomFrom r c e (suc b) (movedBy 0 ds o) (movedBy 1 es o) os)) (room-end b ds es h)
 
-  -- there is room at every moment
+  -- the table is large enough at every moment
   pub room-none : (b : ℕ) (ds es os : List ℕ) → ((k : ℕ) → k ≤ length os → needs ds es os k ≤ r) → pairRoomFrom r c e b ds es os ≡ Good
   room-none b ds es [] f = room-end b ds es (f 0 (omega arith))
   room-none b ds es (o ∷ os) f =
@@ -62,7 +61,7 @@ module _ (r : ℕ) (c e : Corner) where
       ∙ room-first (suc b) (movedBy 0 ds o) (movedBy 1 es o) os k p (omega arith) (λ h m. subst (λ (n : ℕ). n ≤ r) (needs-suc ds es o os h) (f (suc h) (omega arith)))
       (subst (λ (n : ℕ). r < n) (needs-suc ds es o os k) x) (omega arith)
 
-  -- there was room at every moment
+  -- the table was large enough at every moment
   pub room-all : (b : ℕ) (ds es os : List ℕ) → pairRoomFrom r c e b ds es os ≡ Good → (k : ℕ) → k ≤ length os → needs ds es os k ≤ r
   room-all b ds es [] g zero l = ltb-false r (length (needsOf c e ds es)) (when-good (ltb r (length (needsOf c e ds es))) (NoRoom (pred b)) g)
   room-all b ds es [] g (suc k) l = absurd (omega arith)
@@ -91,7 +90,7 @@ moved-append q s o os b = go (moves q o) refl
       subst (Below 4) (own-other q o os e) b,
     )
 
--- steps alone have room at every moment if there is room in the end
+-- steps alone have a table that is large enough at every moment if it is in the end
 pub room-steps : (r : ℕ) (c e : Corner) (b : ℕ) (ds es os : List ℕ) → Below 4 (ownOps 0 os) → Below 4 (ownOps 1 os) → length (needsOf c e (ds ++ ownOps 0 os) (es ++ ownOps 1 os)) ≤ r → pairRoomFrom r c e b ds es os ≡ Good
 room-steps r c e b ds es [] p q h = room-end r c e b ds es (let m = needs-mono c e ds es [] [] in omega arith)
 room-steps r c e b ds es (o ∷ os) p q h =

@@ -204,7 +204,7 @@ module _ (t : List ℕ) (slots : List Slot) (B : Both) (q u : ℕ) (c : Corner) 
 near : (S : State) (d : ℕ) (b : Corner) → Apart S d b → parentOf (stepped d b) ≡ stepped d (parentOf b)
 near S d b k = ⊎-elim (λ e. absurd (true≢false (sym (same-refl (parentOf b)) ∙ ap (same (parentOf b)) (sym e) ∙ k .parents))) (λ e. e) (parentOf-stepped d b)
 
--- no room at a level above is none below
+-- a table that is too small at a level above is too small below
 no-room-sinks : (slots : List Slot) (S : State) (d : ℕ) (c : Corner) (t : List ℕ) (level : ℕ) → ((j : ℕ) → j < level → Apart S d (upBy j c)) → NoRoomFor slots (stepped d (upBy level c)) t → NoRoomFor slots (stepped d c) t
 no-room-sinks slots S d c t zero below f = f
 no-room-sinks slots S d c t (suc i) below f =

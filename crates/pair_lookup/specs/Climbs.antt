@@ -57,7 +57,7 @@ pub record Lifting (t : List ℕ) (q : ℕ) (v : Located) (u : ℕ) (a : Corner)
   pub both : Both
   pub lifts : Lifts t slots both q v u a d s
 
--- the neighbour v of the node so many levels above c, which stands in record u, is found, made and linked
+-- the neighbour v of the node this many levels above c, which stands in record u, is found, made and linked
 pub record ComesDown (t : List ℕ) (slots : List Slot) (B : Both) (q : ℕ) (v : Located) (u : ℕ) (c : Corner)
     (d s level : ℕ) : Type 0 where
   pub settled : SettledIn slots B

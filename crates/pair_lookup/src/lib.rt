@@ -64,7 +64,7 @@ fn climb(t: &[u32], q: usize, u: usize, c: Corner, d: u8) -> Ledge
     Ledge { node, at, level }
 }
 
-// The ref of the parent of u, which stands for c; that of u itself where c is the root.
+// The ref of the parent of u, which stands for c; that of u itself if c is the root.
 fn parent_or_self(t: &[u32], u: usize, c: Corner) -> usize
     requires { ⌜ InTable (now t) u × (u < 2 ^ 32) ⌝ }
     ensures { λ r. ⌜ r ≡ cond (isRoot c) (u + 1) (wordsIn (now (t .entry)) u parentWord) ⌝ }
@@ -124,7 +124,7 @@ fn top(t: &mut [u32], q: usize, s: Stock, u: usize, c: Corner, d: u8, step: u32)
     level_down(t, q, over, u, c, d, step)
 }
 
-// Down again to the neighbour of c, from that of the node u so many levels above c, which is v. The node of a level is read in
+// Down again to the neighbour of c, from that of the node u this many levels above c, which is v. The node of a level is read in
 // the record of the one above, its corner worked out from c.
 fn come_down(
     t: &mut [u32],
@@ -176,7 +176,7 @@ fn neighbour(t: &mut [u32], q: usize, s: Stock, u: usize, c: Corner, d: u8, step
     come_down(t, q, v, p.node, c, d, step, p.level)
 }
 
-// The neighbour as `neighbour` finds it, in two reads where party q links the two.
+// The neighbour as `neighbour` finds it, in two reads if party q links the two.
 pub fn reach(t: &mut [u32], q: usize, s: Stock, u: usize, c: Corner, d: u8, step: u32) -> Located
     requires { ⌜ Looking (now t) q u c s ⌝ }
     requires { ⌜ (natAbs (c .0) < 65536) × (natAbs (c .1) < 65536) × (d < 4) × (q < 2) × (0 < step) × (step + 1 < 2 ^ 32)

@@ -23,7 +23,7 @@ use Rattle.walk_step.specs.Tallies.{TallyIs}
 use Rattle.pair_move.specs.declared.Party.{Party}
 use Rattle.pair_move.specs.declared.Strode.{Strode}
 
--- the steps of the first and of the second, where party q goes one more
+-- the steps of the first and of the second, if party q goes one more
 abbrev pub firstAfter : ℕ → List ℕ → ℕ → List ℕ
 firstAfter q ds d = byParty q (ds ++ (d ∷ [])) ds
 
@@ -56,7 +56,7 @@ pub record Moving (t : List ℕ) (q : ℕ) (p : Party) (s : Stock) : Type 0 wher
   pub slots : List Slot
   pub moves : Moves t first second firsts seconds slots q p s
 
--- of some walks, of which the last step of party q is d
+-- of some walks in which the last step of party q is d
 pub record Withdrawing (t : List ℕ) (q : ℕ) (p : Party) (s : Stock) (d : ℕ) : Type 0 where
   pub first : Corner
   pub second : Corner

@@ -62,7 +62,7 @@ pub enum Strode {
     Full,
 }
 
-// The tally with a visit as corner n: there were so many visits of the corner with it, the first as corner `first` - 1.
+// The tally with a visit as corner n: there were this many visits of the corner with it, the first as corner `first` - 1.
 fn tallied(m: Tally, visits: u32, first: usize, n: usize) -> Tally
     requires { ⌜ (m .corners < 65536) × (0 < first) × (n < noMeeting) ⌝ }
     ensures { λ r. ⌜ ((c : Node) (ds : List ℕ) (d : ℕ) → StepCounted c ds d visits first n → TallyIs c ds m

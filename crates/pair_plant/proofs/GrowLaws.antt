@@ -49,7 +49,7 @@ pub record Grows (slots : List Slot) (C : Both) (q : ℕ) (a : Corner) (t : List
   pub look : Look C slots q (plantedOf a) a t (v .at)
   pub stock : StockIs (v .stock) (placedAll slots (pathOf a))
 
--- no room for a part of the path is no room for the whole
+-- a table that is too small for a part of the path is too small for the whole
 no-room-sinks : (slots : List Slot) (c : Corner) (t : List ℕ) (left : ℕ) → ((j : ℕ) → j < left → isRoot (upBy j c) ≡ false) → NoRoomFor slots (upBy left c) t → NoRoomFor slots c t
 no-room-sinks slots c t zero below f = f
 no-room-sinks slots c t (suc i) below f = no-room-sinks slots c t i (λ j l. below j (omega arith)) (no-room-down slots (upBy i c) t (below i (omega arith)) f)

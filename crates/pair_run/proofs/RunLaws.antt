@@ -202,7 +202,7 @@ module _ (words : ℕ) (c e : Corner) (ops t ms first second : List ℕ) (one tw
     to-second : movedBy 1 es b ≡ ys
     to-second = moved-second q known es b mine ∙ ap (secondBy q es) (sym is)
 
-    -- there was room so far
+    -- the table was large enough so far
     went : pairRoomFrom R c e 0 [] [] ops ≡ pairRoomFrom R c e (suc i) xs ys rest
     went =
         k .room
@@ -215,7 +215,7 @@ module _ (words : ℕ) (c e : Corner) (ops t ms first second : List ℕ) (one tw
       done : PairPerformed words ms i c e ds es (k .slots) q o t′ ms′ ch r
       done = f c e ds es (k .slots) (both-kept t first second c e ds es (k .slots) one two s (k .both) q)
 
-      -- no room
+      -- the table is full
       pub running-full : r ≡ Strode.Full → pairRoomFrom (pairRecordsIn words) c e 0 [] [] ops ≡ Refused (NoRoom i)
       running-full j = went ∙ room-full R c e (suc i) xs ys rest (subst (PairPerformed words ms i c e ds es (k .slots) q o t′ ms′ ch) j done)
 

@@ -119,7 +119,7 @@ module _ (t ch : List ℕ) (c e : Corner) (ds es : List ℕ) (slots : List Slot)
               let n = keeps-near start (set ch (p .steps) d) (byParty q (firstAfter q ds d) (secondAfter q es d)) keeps (w .party .at) (h .party .corner) in
               (n .0, n .1, omega (arith, h .party .steps, keeps .sound .few))
 
-          -- both are as after the step, and so many records changed
+          -- both are as after the step, and this many records changed
           pub step-turned : (x : Turn) → x .stride ≡ w → Changes t′ (bothOf (cornersFrom c ds) (cornersFrom e es)) slots (x .changed) → length t′ ≡ length t → length t % pairWidth ≡ 0
               → PairActed (length t) c e ds es slots q d t′ (set ch (p .steps) d) (Acted.To x)
           step-turned x i g l whole =
@@ -168,7 +168,7 @@ module _ (t ch : List ℕ) (c e : Corner) (ds es : List ℕ) (slots : List Slot)
       pub turn-some : SomeStep t q (p .node) (p .at) (p .steps) (getD ch (p .steps - 1) 0)
       turn-some = record { both = bothOf (cornersFrom c xs) (cornersFrom e ys); slots = settle slots (needsOf c e xs ys); more = slots; start = endFrom start (byParty q xs ys); holds = turn-holds; end = turn-corner }
 
-      -- both are as before the step, and so many records changed
+      -- both are as before the step, and this many records changed
       pub back-turned : (t′ : List ℕ) (x : Turn)
           → Moves t′ c e (byParty q (take (p .steps - 1) ch) ds) (byParty q es (take (p .steps - 1) ch)) (settle slots (needsOf c e (byParty q (take (p .steps - 1) ch) ds) (byParty q es (take (p .steps - 1) ch)))) q (x .stride .party) (x .stride .stock)
           → Changes t (bothOf (cornersFrom c (byParty q (take (p .steps - 1) ch) ds)) (cornersFrom e (byParty q es (take (p .steps - 1) ch)))) (settle slots (needsOf c e (byParty q (take (p .steps - 1) ch) ds) (byParty q es (take (p .steps - 1) ch)))) (x .changed)

@@ -43,7 +43,7 @@ pub record PairKept (t chain : List ℕ) (c e : Corner) (ds es : List ℕ) (slot
   pub moves : Moves t c e ds es slots q p s
   pub own : ChainKeeps (byParty q c e) chain (byParty q ds es)
 
--- of some walks for which the operation o of party q is no fault, with room in its chain
+-- of some walks for which the operation o of party q is not a fault, with space in its chain
 pub record PairReady (t chain : List ℕ) (q : ℕ) (p : Party) (s : Stock) (o : ℕ) : Type 0 where
   pub first : Corner
   pub second : Corner
@@ -54,14 +54,14 @@ pub record PairReady (t chain : List ℕ) (q : ℕ) (p : Party) (s : Stock) (o :
   pub fine : Fine (p .steps) o
   pub next : (o ≡ 4 → ⊥) → p .steps < length chain
 
--- how many of so many records the operation o of party q changes
+-- how many of this many records the operation o of party q changes
 abbrev changesTo : ℕ → Corner → Corner → List Slot → ℕ → List ℕ → List ℕ → ℕ → ℕ
 changesTo records c e slots q ds es o =
     changesBy pairWidth records (pairTableOf (records * pairWidth) c e slots ds es)
     (pairTableOf (records * pairWidth) c e (slotsBy c e slots q ds es o) (firstBy q ds o) (secondBy q es o))
 
--- the answer to operation o of party q, in a table of so many words: both after it, and how many records it changed; or the nodes
--- that both then need are more than the records
+-- the answer to operation o of party q, in a table of this many words: both after it, and how many records it changed; or the
+-- nodes that both then need are more than the records
 abbrev pub PairActed : ℕ → Corner → Corner → List ℕ → List ℕ → List Slot → ℕ → ℕ → List ℕ → List ℕ → Acted → Type 0
 PairActed words c e ds es slots q o t chain (Acted.To x) =
     PairKept t chain c e (firstBy q ds o) (secondBy q es o) (slotsBy c e slots q ds es o) q (x .stride .party) (x .stride .stock)

@@ -28,7 +28,7 @@ pub struct Pair {
     pub stock: Stock,
 }
 
-// Both parties after all operations, or the place of the first for which the table has no room.
+// Both parties after all operations, or the place of the first for which the table is too small.
 pub enum Course {
     All(Pair),
     Full(usize),

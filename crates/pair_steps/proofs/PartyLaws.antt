@@ -1,5 +1,5 @@
 -- Each party's steps follow from its own operations; neighbouring operations of different parties may be exchanged; and nothing is wrong
--- with the bytes of two parties exactly where each party is known and nothing is wrong with its own operations.
+-- with the bytes of two parties exactly if each party is known and nothing is wrong with its own operations.
 -- Assumes nothing.
 use mathlib.Core.Bool.{Bool, true, false, cond}
 use mathlib.Core.List.{List, [], _∷_, _++_}
@@ -155,7 +155,7 @@ afterBy-length q s o = go (moves q o) refl
     go true e = after-mine q o (length s) e ∙ after-length s (opOf o) ∙ ap length (sym (moved-mine q o s e))
     go false e = after-other q o (length s) e ∙ ap length (sym (moved-other q o s e))
 
--- the operations of both parties are as many as the bytes, where every party is known
+-- the operations of both parties are as many as the bytes, if every party is known
 pub own-lengths : (os : List ℕ) → Below 32 os → length (ownOps 0 os) + length (ownOps 1 os) ≡ length os
 own-lengths [] b = refl
 own-lengths (o ∷ os) b =

@@ -38,8 +38,8 @@ movedBy q steps o = elim (moves q o) [ true ↦ operate steps (opOf o) | false �
 abbrev pub afterBy : ℕ → ℕ → ℕ → ℕ
 afterBy q n o = elim (moves q o) [ true ↦ after n (opOf o) | false ↦ n ]
 
--- what is wrong with byte o at place i, where m steps of party 0 and n steps of party 1 survive: 20, unknown party; then 4, 5 and
--- 6 for the party that moves
+-- what is wrong with byte o at place i, if m steps of party 0 and n steps of party 1 survive: 20, unknown party; then 4, 5 and 6
+-- for the party that moves
 abbrev pub byteFaultOf : ℕ → ℕ → ℕ → ℕ → Judged
 byteFaultOf i m n o = orElse (when (ltb 1 (partyOf o)) (UnknownParty i)) (faultOf i (cond (moves 0 o) m n) (opOf o))
 

@@ -44,7 +44,7 @@ module _ (t first second : List ℕ) (c e : Corner) (ds es : List ℕ) (slots : 
   over-nodes : s .nodes ≡ length (needsOf c e ds es)
   over-nodes = k .stock .nodes ∙ held-nodes slots (needsOf c e ds es) (k .walked .place) (union-distinct (cornersFrom c ds) (cornersFrom e es))
 
--- no room for the starts
+-- the table is too small for the starts
 pub starts-full : (words : ℕ) (c e : Corner) (os t ms first second : List ℕ) → pairRecordsIn words < length (needsOf c e [] []) → PairRan words c e os t ms first second (Course.Full 0)
 starts-full words c e os t ms first second h = room-full (pairRecordsIn words) c e 0 [] [] os h
 
@@ -84,7 +84,7 @@ module _ (c e : Corner) (os : List ℕ) (b : PairLent) where
     decides : judged ≡ room
     decides = pair-judged-split c e os W (length (b .marks)) (length (b .first)) (length (b .second)) ∙ ap (λ (j : Judged). orElse j room) (sym good)
 
-    -- no room
+    -- the table is full
     pub pair-full : (t ms ch ch′ : List ℕ) (i : ℕ) → PairRan (length (b .table)) c e os t ms ch ch′ (Course.Full i) → (b′ : PairLent)
         → b′ .table ≡ replicate (length (b .table)) 0 → b′ .marks ≡ replicate (length (b .marks)) 0 → b′ .first ≡ replicate (length (b .first)) 0 → b′ .second ≡ replicate (length (b .second)) 0
         → PairIs c e os b (PairAnswer.Refused (NoRoom i)) b′

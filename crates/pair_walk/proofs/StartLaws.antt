@@ -59,7 +59,7 @@ module _ (c e : Corner) (near : Near c) (near′ : Near e) (words : ℕ) (t t₁
   abbrev slots : List Slot
   slots = placedAll roots (pathOf c)
 
-  -- no room for the first
+  -- the table is too small for the first
   pub first-full : one .at ≡ 0 → pairRecordsIn words < length (needsOf c e [] [])
   first-full z = subst (λ (n : ℕ). pairRecordsIn n < length (needsOf c e [] [])) long (f .none z (needsOf c e [] []) (root-at c e) (path-first c e))
 
@@ -75,7 +75,7 @@ module _ (c e : Corner) (near : Near c) (near′ : Near e) (words : ℕ) (t t₁
     }
 
     module _ (t₂ : List ℕ) (two : Located) (g : Finds (withParty (λ p. plantedOf root) 0 (stateOf (c ∷ []))) (placedAll (held root ∷ []) (pathOf c)) 1 (stateOf (e ∷ [])) e t₁ t₂ two) (long₁ : length t₁ ≡ words) where
-      -- no room for the second
+      -- the table is too small for the second
       pub second-full : two .at ≡ 0 → pairRecordsIn words < length (needsOf c e [] [])
       second-full z =
           subst (λ (n : ℕ). pairRecordsIn n < length (needsOf c e [] [])) long₁

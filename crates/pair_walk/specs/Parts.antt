@@ -19,7 +19,7 @@ use Rattle.pair_walk.specs.declared.Rooted.{Rooted}
 abbrev pub partiesAt : Corner → Located → Corner → Located → Pair
 partiesAt c one e two = record { first = freshParty c (one .at - 1); second = freshParty e (two .at - 1); stock = two .stock }
 
--- both starts in a table of so many words, or the nodes that they need are more than the records
+-- both starts in a table of this many words, or the nodes that they need are more than the records
 abbrev pub PairPlanted : ℕ → Corner → Corner → List ℕ → Rooted → Type 0
 PairPlanted words c e t (Rooted.Both w) =
     (w .first .at ≡ c) × (w .second .at ≡ e) × ((first second : List ℕ) → PairStarts t first second w)
@@ -29,6 +29,6 @@ PairPlanted words c e t Rooted.Full = pairRecordsIn words < length (needsOf c e 
 abbrev pub ChainEnds : List ℕ → List ℕ → List ℕ → Type 0
 ChainEnds chain ds chain′ = chain′ ≡ ds ++ replicate (length chain - length ds) 0
 
--- the facts of both, with so many nodes
+-- the facts of both, with this many nodes
 abbrev pub factsWith : ℕ → Corner → Corner → List ℕ → List ℕ → PairFacts
 factsWith n c e ds es = record { nodes = n; first = partyFactsOf c ds; second = partyFactsOf e es }

@@ -53,7 +53,7 @@ fn pair_at(start: Corner, one: Located, start2: Corner, two: Located) -> Pair
     }
 }
 
-// Both starts, or no room for them.
+// Both starts, or the table is too small for them.
 enum Rooted {
     Both(Pair),
     Full,
@@ -111,8 +111,8 @@ fn facts(start: Corner, start2: Corner, first: &mut [u8], second: &mut [u8], w: 
     }
 }
 
-// Both walks, whose operations have no fault; or the place of the first operation for which there is no room, 0 if the starts
-// have none.
+// Both walks, whose operations have no fault; or the place of the first operation for which the table is too small, 0 if it is
+// too small for the starts.
 fn go(
     start: Corner,
     start2: Corner,
@@ -137,10 +137,10 @@ fn go(
 }
 
 // Follows the operations of two parties from their starts, one byte each: 16 times the party, 0 or 1, plus the operation's
-// number. If they are refused, the buffers are untouched, but all zero if there is no room. Else the table t holds the records of
-// the nodes that either needs, free records being zero; the marks, three words an operation, hold the nodes in use, the visits of
-// the party that moved at its corner, and how many records changed; and each chain holds the surviving steps of its party, then
-// zeros.
+// number. If they are refused, the buffers are untouched, but all zero if the table is too small. Otherwise the table t holds the
+// records of the nodes that either needs, free records being zero; the marks, three words for each operation, hold the nodes in
+// use, the visits of the party that moved at its corner, and how many records changed; and each chain holds the surviving steps
+// of its party, then zeros.
 pub fn follow(
     start: Corner,
     start2: Corner,

@@ -10,7 +10,7 @@ use Rattle.grid.specs.Grid.{corner, origin, panelAt}
 use Rattle.panels.specs.Edges.{edgesFrom, surplusOf}
 use Rattle.panels.specs.Box.{boxOf, panelsIn, panelSum}
 use Rattle.panels.specs.Inside.{panelsInside, leftOf, rightOf, InsideLeft, InsideRight}
-use Rattle.panels.specs.Outline.{turned, mirrored, flipped, startedAt, backward}
+use Rattle.panels.specs.Moved.{turned, mirrored, flipped, startedAt, backward}
 
 -- P2 and P3: one panel, walked round to the left and to the right
 abbrev pub p2 : List ℕ
@@ -80,7 +80,7 @@ sum-of-p11 = refl
 pub sum-of-twice : panelSum (corner (negsuc 16383) (pos 16384)) twice ≡ pos 2
 sum-of-twice = refl
 
--- a U has surplus 0 in its mouth, and a spiral -1 where it has panels; row by row from the south
+-- a U has surplus 0 in its mouth, and a spiral -1 at each of its panels; row by row from the south
 surplus-of-u : map (surplusOf origin u) (panelsIn (boxOf origin u)) ≡ pos 1 ∷ pos 1 ∷ pos 1 ∷ pos 1 ∷ pos 0 ∷ pos 1 ∷ []
 surplus-of-u = refl
 

@@ -1,4 +1,4 @@
--- The vertical edges of a walk, with their sense, and those that a panel sees (RULES 1.8). Assumes nothing.
+-- The vertical edges of a walk, with their direction, and those that a panel sees (RULES 1.8). Assumes nothing.
 use Rattle.lists.specs.Lists.{Bool, true, false, not, _&&_, List, [], _∷_, _++_, ℕ, zero, suc, ℤ, pos, _-ℤ_, ltZ, count}
 use Rattle.grid.specs.{declared.Corner.Corner, declared.Panel.Panel, Grid.eqZ, Grid.stepped}
 

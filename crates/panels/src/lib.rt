@@ -1,2 +1,2 @@
-// The panels that a walk goes round: its vertical edges seen from a panel, its bounding box, the panels inside it, and outlines
-// changed as a whole. There is no code here.
+// The panels that a walk goes round: its vertical edges seen from a panel, its bounding box, the panels inside it, and loops
+// moved, turned or mirrored. There is no code here.

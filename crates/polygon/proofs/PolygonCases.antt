@@ -76,7 +76,7 @@ just-enough : polygonJudged (corner (pos 0) (pos 0)) (0 ∷ 1 ∷ 2 ∷ 3 ∷ []
 unfolding polygonBytes pointsBytes pointBytes coordinateBytes coordinateOf bytesOf ofInt toBits
 just-enough = refl
 
--- what is no room is refused before the buffer is looked at
-no-room-first : polygonJudged (corner (pos 0) (pos 0)) (0 ∷ 1 ∷ 2 ∷ []) 0 ≡ Refused NotRoom
+-- what is not a room is refused before the buffer is looked at
+not-a-room-first : polygonJudged (corner (pos 0) (pos 0)) (0 ∷ 1 ∷ 2 ∷ []) 0 ≡ Refused NotRoom
 unfolding polygonBytes pointsBytes pointBytes coordinateBytes coordinateOf bytesOf ofInt toBits
-no-room-first = refl
+not-a-room-first = refl

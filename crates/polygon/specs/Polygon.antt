@@ -12,11 +12,11 @@ use Rattle.polygon.specs.{Bytes.bytesOf, Coordinate.coordinateOf}
 abbrev pub prefix : List ℕ
 prefix = 1 ∷ 3 ∷ 0 ∷ 0 ∷ 0 ∷ 1 ∷ 0 ∷ 0 ∷ 0 ∷ []
 
--- eight bytes a coordinate
+-- eight bytes for each coordinate
 unfoldable pub coordinateBytes : ℤ → List ℕ
 coordinateBytes z = bytesOf 8 (toBits binary64 (coordinateOf z))
 
--- sixteen a point, x first
+-- sixteen for each point, x first
 unfoldable pub pointBytes : Corner → List ℕ
 pointBytes c = coordinateBytes (c .0) ++ coordinateBytes (c .1)
 
@@ -32,38 +32,38 @@ polygonBytes ps = prefix ++ bytesOf 4 (length ps) ++ pointsBytes ps
 abbrev pub bends : ℕ → ℕ → Bool
 bends a d = not (eqb (turnOf a d) 0)
 
--- c, where it does
+-- c, if it does
 abbrev pub bendAt : ℕ → ℕ → Corner → List Corner
 bendAt a d c = cond (bends a d) (c ∷ []) []
 
--- the corners with a turn that is not 0, from c on, where the step a led to c
+-- the corners with a turn that is not 0, from c on, if the step a led to c
 abbrev pub bendsFrom : ℕ → Corner → List ℕ → List Corner
 bendsFrom a c [] = []
 bendsFrom a c (d ∷ ds) = bendAt a d c ++ bendsFrom d (stepped d c) ds
 
 -- each later corner of a walk where the turn is not 0
 abbrev pub bendsOf : Corner → List ℕ → List Corner
-bendsOf s [] = []
-bendsOf s (d ∷ ds) = bendsFrom d (stepped d s) ds
+bendsOf c [] = []
+bendsOf c (d ∷ ds) = bendsFrom d (stepped d c) ds
 
 -- the start, each later corner where the turn is not 0, and the start again
 abbrev pub pointsOf : Corner → List ℕ → List Corner
-pointsOf s ds = s ∷ bendsOf s ds ++ (s ∷ [])
+pointsOf c ds = c ∷ bendsOf c ds ++ (c ∷ [])
 
 -- the polygon of a walk
 abbrev pub polygonOf : Corner → List ℕ → List ℕ
-polygonOf s ds = polygonBytes (pointsOf s ds)
+polygonOf c ds = polygonBytes (pointsOf c ds)
 
--- 13 where the buffer has fewer bytes than the polygon
+-- 13 if the buffer has fewer bytes than the polygon
 abbrev pub polygonRoomJudged : Corner → List ℕ → ℕ → Judged
-polygonRoomJudged s ds room = when (ltb room (length (polygonOf s ds))) PolygonRoom
+polygonRoomJudged c ds size = when (ltb size (length (polygonOf c ds))) PolygonRoom
 
 -- the refusals of a room, then 13
 abbrev pub polygonJudged : Corner → List ℕ → ℕ → Judged
-polygonJudged s ds room = firstOf (asRoomJudged s ds ∷ polygonRoomJudged s ds room ∷ [])
+polygonJudged c ds size = firstOf (asRoomJudged c ds ∷ polygonRoomJudged c ds size ∷ [])
 
 -- the promise of the call: how many bytes there are, and a buffer that holds them and then what stood after them, unless there is
 -- a refusal
-pub record PolygonCall (s : Corner) (ds before : List ℕ) (r : Counted) (after : List ℕ) : Type 0 where
-  pub answer : r ≡ countedOf (polygonJudged s ds (length before)) (length (polygonOf s ds))
-  pub buffer : after ≡ laidIf (polygonJudged s ds (length before)) (polygonOf s ds) before
+pub record PolygonCall (c : Corner) (ds before : List ℕ) (r : Counted) (after : List ℕ) : Type 0 where
+  pub answer : r ≡ countedOf (polygonJudged c ds (length before)) (length (polygonOf c ds))
+  pub buffer : after ≡ laidIf (polygonJudged c ds (length before)) (polygonOf c ds) before

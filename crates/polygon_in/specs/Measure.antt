@@ -7,7 +7,7 @@ use Rattle.polygon_ring.specs.declared.GridPoint.{GridPoint}
 use Rattle.polygon_ring_laws.specs.Reading.{capped}
 use Rattle.polygon_in.specs.declared.Measured.{Measured, the-variants.Faulty, the-variants.Broken, the-variants.Ring}
 
--- by two tests: whether a point is no corner, and whether the points are a ring
+-- by two tests: whether a point is not a corner, and whether the points are a ring
 abbrev pub measuredBy : Bool → Bool → Corner → ℕ → Measured
 measuredBy true ring c n = Faulty
 measuredBy false false c n = Broken

@@ -29,8 +29,8 @@ ghost use Rattle.polygon_ring.specs.Ring.{isNeither, isLittle, pointAt, pointsF
 ghost use Rattle.polygon_ring_laws.specs.Reading.{PointFits, ringFrom, capped, ringJudged, ReadIn};
 ghost use Rattle.polygon_in.specs.Measure.{measuredBy, measuredOf};
 
-// What the first pass finds: a point that is no corner, points that are no ring, or the start of a ring and how many steps it
-// has. MANY stands for any number above 16,384.
+// What the first pass finds: a point that is not a corner, points that are not a ring, or the start of a ring and how many steps
+// it has. MANY stands for any number above 16,384.
 enum Measured {
     Faulty,
     Broken,
@@ -49,7 +49,7 @@ fn first_at(points: &[u8], little: bool) -> GridPoint
     judge(point(points, little), Point::MOST_FIRST)
 }
 
-// What point i is as a corner, where it is not the first.
+// What point i is as a corner, if it is not the first.
 fn later_at(points: &[u8], little: bool, i: usize) -> GridPoint
     requires { ⌜ (0 < i) × (16 * (i + 1) ≤ length (now points)) ⌝ }
     ensures { λ r. ⌜ r ≡ pointAt little (now (points .entry)) i ⌝ }
@@ -81,7 +81,7 @@ fn corner_in(j: GridPoint) -> Corner
     }
 }
 
-// The corner that point i is, where it was accepted before.
+// The corner that point i is, if it was accepted before.
 fn corner_at(points: &[u8], little: bool, i: usize) -> Corner
     requires { ⌜ (0 < i) × (16 * (i + 1) ≤ length (now points)) × (isFaulty (pointAt «little» (now points) i) ≡ false) ⌝ }
     ensures { λ r. ⌜ r ≡ cornerIn (pointAt little (now (points .entry)) i) ⌝ }
@@ -129,7 +129,7 @@ fn distance(a: Corner, b: Corner) -> usize
     gap(a.0, b.0) + gap(a.1, b.1)
 }
 
-// The direction of the way from x to y along an axis, where d is that of a way up.
+// The direction of the way from x to y along an axis, if d is that of a way up.
 fn along(x: i32, y: i32, d: u8) -> u8
     requires { ⌜ d < 2 ⌝ }
     ensures { λ r. ⌜ r ≡ cond (ltZ x y) d (d + 2) ⌝ }
@@ -166,7 +166,7 @@ fn goes_on(line: bool, a: Corner, b: Corner) -> bool
     if line { straight } else { false }
 }
 
-// What n points on one line after the other are, where the ring begins at first, ends at last and has so many steps.
+// What n points are, each on one line with the one before, if the ring begins at `first`, ends at `last` and has this many steps.
 fn closed(n: usize, line: bool, first: Corner, last: Corner, steps: usize) -> Measured
     ensures { λ r. ⌜ r ≡ measuredBy false (leb 4 n && same last first && «line») first steps ⌝ }
 {
@@ -252,10 +252,10 @@ fn put_chain(points: &[u8], little: bool, n: usize, start: Corner, out: &mut [u8
 }
 
 // Judges the n points, and answers start and number of steps. Refuses 16, 17, 6 and 18.
-fn survey(points: &[u8], little: bool, n: usize, room: usize) -> Given
+fn survey(points: &[u8], little: bool, n: usize, size: usize) -> Given
     requires { ⌜ 16 * n ≤ length (now points) ⌝ }
     ensures { λ r. ⌜ r
-        ≡ givenOf (ringJudged (pointsFrom little (now (points .entry)) 0 n) room) (ringFrom little (now (points .entry)) 0 n) ⌝ }
+        ≡ givenOf (ringJudged (pointsFrom little (now (points .entry)) 0 n) size) (ringFrom little (now (points .entry)) 0 n) ⌝ }
 {
     match measure(points, little, n) {
         Measured::Faulty => Given::Refused(Refusal::BadCoordinate),
@@ -264,7 +264,7 @@ fn survey(points: &[u8], little: bool, n: usize, room: usize) -> Given
             if found.steps > Limits::MOST_STEPS {
                 return Given::Refused(Refusal::TooLong(Limits::MOST_STEPS));
             }
-            if room < found.steps {
+            if size < found.steps {
                 return Given::Refused(Refusal::ChainRoom);
             }
             Given::Chain(found)

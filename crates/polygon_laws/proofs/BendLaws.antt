@@ -32,7 +32,7 @@ straight-on d h = ap not (eq-eqb (turnOf d d) 0 (same d h))
     same : (d : ℕ) → d < 4 → (d + (4 - d)) % 4 ≡ 0
     same d h = omega arith
 
--- a turn is not 0 exactly where the two steps differ
+-- a turn is not 0 exactly if the two steps differ
 pub bends-differ : (a d : ℕ) → a < 4 → d < 4 → not (eqb a d) ≡ bends a d
 bends-differ a d h g = elim (ℕ-discrete a d) [
   | yes e ↦ ap not (eq-eqb a d e ∙ sym (eq-eqb (turnOf a d) 0 (same a d h e)))
@@ -129,7 +129,7 @@ bent-first l s ds last p e = record {
 laid-over : (out : List ℕ) (k : ℕ) (b : Bool) (c : Corner) → pointLaid out k b c ≡ over out (16 * k) (bytesIf b c)
 laid-over out k b c = ap (λ (n : ℕ). take (16 * k) out ++ bytesIf b c ++ drop n out) (place k (tally b) (length (bytesIf b c)) (length-bytesIf b c))
 
--- the bends that are left fit into the room that is left
+-- the bends that are left fit into the space that is left
 pub bent-room : (l : List ℕ) (s : Corner) (ds out : List ℕ) (at : Corner) (last k i : ℕ) → 16 * turning ds ≤ length l → i < length ds → Bent l s ds out at last k i
     → 16 * (k + tally (bends last (getD ds i 0))) ≤ length out
 bent-room l s ds out at last k i fit h p =

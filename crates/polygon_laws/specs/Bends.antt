@@ -8,9 +8,9 @@ use Rattle.answer.specs.Listed.{countedOf, laidIf}
 use Rattle.polygon.specs.Polygon.{bends, pointBytes, polygonOf, polygonRoomJudged}
 
 -- a start in range, and a chain of steps that is not too long: refusals 10, 4 and 6 leave nothing else
-pub record Drawable (s : Corner) (ds : List ℕ) : Type 0 where
-  pub near-x : natAbs (s .0) ≤ mostStart
-  pub near-y : natAbs (s .1) ≤ mostStart
+pub record Drawable (c : Corner) (ds : List ℕ) : Type 0 where
+  pub near-x : natAbs (c .0) ≤ mostStart
+  pub near-y : natAbs (c .1) ≤ mostStart
   pub digits : Below 4 ds
   pub few : length ds ≤ mostSteps
 
@@ -22,16 +22,16 @@ turningFrom a (d ∷ ds) = tally (bends a d) + turningFrom d ds
 abbrev pub turning : List ℕ → ℕ
 turning ds = turningFrom (getD ds 0 0) ds
 
--- the bytes of a point, where there is one
+-- the bytes of a point, if there is one
 abbrev pub bytesIf : Bool → Corner → List ℕ
 bytesIf true c = pointBytes c
 bytesIf false c = []
 
--- a buffer with point k laid down, where there is one
+-- a buffer with point k laid down, if there is one
 abbrev pub pointLaid : List ℕ → ℕ → Bool → Corner → List ℕ
 pointLaid l k b c = take (16 * k) l ++ bytesIf b c ++ drop (16 * (k + tally b)) l
 
 -- the promise of the call for a walk that can be drawn
-pub record Drawn (s : Corner) (ds before : List ℕ) (r : Counted) (after : List ℕ) : Type 0 where
-  pub answer : r ≡ countedOf (polygonRoomJudged s ds (length before)) (length (polygonOf s ds))
-  pub buffer : after ≡ laidIf (polygonRoomJudged s ds (length before)) (polygonOf s ds) before
+pub record Drawn (c : Corner) (ds before : List ℕ) (r : Counted) (after : List ℕ) : Type 0 where
+  pub answer : r ≡ countedOf (polygonRoomJudged c ds (length before)) (length (polygonOf c ds))
+  pub buffer : after ≡ laidIf (polygonRoomJudged c ds (length before)) (polygonOf c ds) before

@@ -1,4 +1,4 @@
--- Coordinates in, computed: signs, zeros, fractions, ends of the range, and what is no number.
+-- Coordinates in, computed: signs, zeros, fractions, ends of the range, and what is not a number.
 -- Assumes nothing.
 use mathlib.Core.Path.{_≡_, refl}
 use mathlib.Core.Bool.{true, false}

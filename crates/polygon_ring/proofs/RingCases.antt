@@ -9,7 +9,7 @@ use Rattle.polygon_ring.specs.Coordinate.{wholeAt, wholeOf}
 use Rattle.answer.specs.Refusal.{judgedNumber, judgedPlace}
 use Rattle.polygon_ring.specs.Ring.{orderOf, countIn, pointIn, pointAt, pointsFrom, readJudged, ringOf, chainOfPoints}
 
--- number and place of the judgement on a file, where the chain buffer has this length
+-- number and place of the judgement on a file, if the chain buffer has this length
 abbrev pub judgedAs : List ℕ → ℕ → ℕ × ℕ
 judgedAs file room = (judgedNumber (readJudged file room), judgedPlace (readJudged file room))
 
@@ -112,7 +112,7 @@ counted-six : judgedAs (lowest 6 ((mm1, mm0) ∷ (mm600, mm0) ∷ (mm600, mm600)
 unfolding orderOf startsWith countIn numberIn numberOf pointsFrom pointAt pointIn wholeOf wholeAt ofBits
 counted-six = refl
 
--- 16: 300 is no multiple of 600; before 17
+-- 16: 300 is not a multiple of 600; before 17
 off-grid : judgedAs (lowest 5 ((mm0, mm0) ∷ (mm600, mm0) ∷ (mm600, mm300) ∷ (mm0, mm600) ∷ (mm0, mm0) ∷ [])) 4 ≡ (16, 0)
 unfolding orderOf startsWith countIn numberIn numberOf pointsFrom pointAt pointIn wholeOf wholeAt ofBits
 off-grid = refl
@@ -162,15 +162,15 @@ too-long : judgedAs (lowest 5 ((mm0, mm0) ∷ (mm2457600, mm0) ∷ (mm2457600, m
 unfolding orderOf startsWith countIn numberIn numberOf pointsFrom pointAt pointIn wholeOf wholeAt ofBits
 too-long = refl
 
--- 16,384 steps are read, if there is room: 18
+-- 16,384 steps are read, if the buffer is long enough: 18
 just-long : judgedAs (lowest 5 ((mm0, mm0) ∷ (mm2457600, mm0) ∷ (mm2457600, mm2457600) ∷ (mm0, mm2457600) ∷ (mm0, mm0) ∷ [])) 16383 ≡ (18, 0)
 unfolding orderOf startsWith countIn numberIn numberOf pointsFrom pointAt pointIn wholeOf wholeAt ofBits
 just-long = refl
 
--- 18: room for three steps
-no-room : judgedAs (lowest 5 unitRing) 3 ≡ (18, 0)
+-- 18: a buffer of three steps
+short-chain : judgedAs (lowest 5 unitRing) 3 ≡ (18, 0)
 unfolding orderOf startsWith countIn numberIn numberOf pointsFrom pointAt pointIn wholeOf wholeAt ofBits
-no-room = refl
+short-chain = refl
 
 -- a point between straight walls, and a crossed ring
 pub between : judgedAs (lowest 7 ((mm0, mm0) ∷ (mm600, mm0) ∷ (mm1200, mm0) ∷ (mm1200, mm600) ∷ (mm600, mm600) ∷ (mm600, mm0) ∷ (mm0, mm0) ∷ [])) 9 ≡ (0, 0)

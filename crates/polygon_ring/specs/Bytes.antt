@@ -7,7 +7,7 @@ unfoldable pub numberOf : List ℕ → ℕ
 numberOf [] = 0
 numberOf (d ∷ ds) = d + 256 * numberOf ds
 
--- the number with these digits, the lowest first where the order is little, and else the highest
+-- the number with these digits, the lowest first if the order is little, and else the highest
 unfoldable pub numberIn : Bool → List ℕ → ℕ
 unfolding numberOf
 numberIn little ds = numberOf (cond little ds (reverse ds))

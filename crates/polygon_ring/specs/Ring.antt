@@ -27,13 +27,13 @@ isLittle Little = true
 isLittle Big = false
 isLittle Neither = false
 
--- the first nine bytes are no header of a polygon of one ring
+-- the first nine bytes are not the header of a polygon of one ring
 abbrev pub isNeither : Order → Bool
 isNeither Little = false
 isNeither Big = false
 isNeither Neither = true
 
--- a point is a corner where both of its floats are coordinates
+-- a point is a corner if both of its floats are coordinates
 abbrev pub both : Whole → Whole → GridPoint
 both (Of a) (Of b) = At a b
 both (Of a) Refused = Faulty
@@ -72,7 +72,7 @@ cornerIn Faulty = origin
 abbrev pub straight : Corner → Corner → Bool
 straight a b = cond (eqZ (a .0) (b .0)) (not (eqZ (a .1) (b .1))) (eqZ (a .1) (b .1))
 
--- each of the list and the one before it do, where a stands before the list
+-- each of the list and the one before it do, if a stands before the list
 abbrev pub straightFrom : Corner → List Corner → Bool
 straightFrom a [] = true
 straightFrom a (b ∷ cs) = straight a b && straightFrom b cs
@@ -137,14 +137,14 @@ ringOf file = map cornerIn (pointsGiven file)
 
 -- 14, shorter than thirteen bytes; 15; 14 again, the length; 16; 17; 6 at place 16,384; 18
 abbrev pub readJudged : List ℕ → ℕ → Judged
-readJudged file room =
+readJudged file size =
     firstOf (when (ltb (length file) 13) FileLength
     ∷ when (isNeither (orderOf file)) FileKind
     ∷ when (not (eqb (length file) (13 + 16 * countGiven file))) FileLength
     ∷ when (any isFaulty (pointsGiven file)) BadCoordinate
     ∷ when (not (isRing (ringOf file))) BadRing
     ∷ when (ltb mostSteps (lengthOf (ringOf file))) (TooLong mostSteps)
-    ∷ when (ltb room (lengthOf (ringOf file))) ChainRoom
+    ∷ when (ltb size (lengthOf (ringOf file))) ChainRoom
     ∷ [])
 
 -- start and number of steps, unless there is a refusal

@@ -4,7 +4,7 @@ use answer::Refusal;
 use answer::Start;
 use grid::Corner;
 
-// What a polygon of one ring begins with where the highest byte comes first: byte order 0, type 3 and ring count 1.
+// What a polygon of one ring begins with if the highest byte comes first: byte order 0, type 3 and ring count 1.
 pub const BIG_PREFIX: [u8; 9] = *b"\x00\x00\x00\x00\x03\x00\x00\x00\x01";
 
 // A point of a ring, until it is judged.

@@ -29,7 +29,7 @@ use Rattle.polygon_ring_laws.proofs.BitsLaws.{ofBits-is, mid-value, val
 use Rattle.polygon_ring_laws.proofs.TakeLaws.{natAbs-signed, accepted-value}
 use Rattle.polygon_ring_laws.proofs.WholeLaws.{wholeOf-value, wholeAt-multiple}
 
--- ---- what is kept: the float, or an infinity for what is no number
+-- ---- what is kept: the float, or an infinity for what is not a number
 
 kept-as : (most : ℕ) (x : Float) (t : Bool) → t ≡ isNan x → wholeOf most (cond t (inf false) x) ≡ wholeOf most x
 unfolding isNan wholeOf
@@ -91,7 +91,7 @@ one-value (fin g m e) s t a c a′ c′ v w = (
       (mul-right-comm a c′ (down e) ∙ ap (λ (n : ℕ). n * c′) (sym (v .1)) ∙ mul-right-comm (m * up e) c c′ ∙ ap (λ (n : ℕ). n * c) (w .1) ∙ mul-right-comm a′ (down e) c),
 )
 
--- ---- the exponent of 600 n, where n is from 1 to 32,768
+-- ---- the exponent of 600 n, with n from 1 to 32,768
 
 too-large : (d q x : ℕ) → 2 ^ 52 ≤ d → q < 2 ^ 25 → 1047 ≤ x → d * 2 ^ x ≡ q * 2 ^ 1074 → ⊥
 too-large d q x h l g e =

@@ -1,4 +1,4 @@
--- The tests of a file pass exactly where it is what is asked.
+-- The tests of a file pass exactly if it is what is asked.
 -- Assumes nothing.
 use mathlib.Core.Path.{_≡_, refl, sym, ap, ap₂, _∙_, subst}
 use mathlib.Core.Logic.{_↔_, _⊎_, inl, inr, ⊎-elim}
@@ -98,7 +98,7 @@ module _ (little : Bool) (file : List ℕ) (s : Sized little file) where
   counted : pointsIn little file ≡ pointsFrom little (drop 13 file) 0 (countIn little file)
   counted = ap (pointsFrom little (drop 13 file) 0) (sized-count little file s)
 
-  -- a point that is no corner
+  -- a point that is not a corner
   pub point-faulty : (i : ℕ) → i < countIn little file → ((c : Corner) → IsPoint little (drop 13 file) i c → ⊥) → any isFaulty (pointsIn little file) ≡ true
   point-faulty i h f = go (any isFaulty (pointsIn little file)) refl
     where

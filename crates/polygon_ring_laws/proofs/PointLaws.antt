@@ -103,7 +103,7 @@ all-good little s i (suc n) f =
     next : (i k : ℕ) → suc i + k ≡ i + suc k
     next i k = omega arith
 
--- no point is refused exactly where each is 600 times a corner in range
+-- no point is refused exactly if each is 600 times a corner in range
 pub sixteen-exactly : (little : Bool) (s : List ℕ) (n : ℕ) → (any isFaulty (pointsFrom little s 0 n) ≡ false) ↔ ((i : ℕ) → i < n → (c : Corner) × IsPoint little s i c)
 sixteen-exactly little s n = (
   (λ e i h. (cornerIn (pointAt little s i), point-good little s i (cornerIn (pointAt little s i)) .0 (at i ∙ good-all little s 0 n e i h ∙ ap (λ (m : ℕ). gridPointOf (cornerIn (pointAt little s m))) (zero-plus i)))),

@@ -34,7 +34,7 @@ natAbs-signed true zero = refl
 natAbs-signed true (suc n) = refl
 natAbs-signed false n = refl
 
--- ---- in: a coordinate is accepted exactly where the float is 600 times a whole number in range, and it is that number
+-- ---- in: a coordinate is accepted exactly if the float is 600 times a whole number in range, and it is that number
 
 scaled-signed : (s : Bool) (n : ℕ) → pos scale *ℤ signed s n ≡ signed s (scale * n)
 scaled-signed false n = pos-*ℤ-pos scale n

@@ -119,6 +119,6 @@ module _ (s : Corner) (ds out : List ℕ) (n : ℕ) (out′ chain : List ℕ) (r
   pub round-trip : length ds ≤ length chain → (r ≡ Given.Chain (record { start = s; steps = length ds })) × (chain′ ≡ ds ++ drop (length ds) chain)
   round-trip h = back-read s ds (v .drawn) (v .room .closed) turns chain r chain′ h again
 
-  -- with less room for the chain it is refused 18
+  -- with a shorter chain buffer it is refused 18
   pub round-trip-short : length chain < length ds → (r ≡ Given.Refused ChainRoom) × (chain′ ≡ chain)
   round-trip-short h = back-short s ds (v .drawn) (v .room .closed) turns chain r chain′ h again

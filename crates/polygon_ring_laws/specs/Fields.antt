@@ -7,7 +7,8 @@ use Rattle.polygon.specs.Coordinate.{scale}
 use Rattle.polygon_ring.specs.Coordinate.{wholeOf}
 use Rattle.polygon_ring.specs.declared.Whole.the-variants.{Of}
 
--- the float of these bits as it is kept: what is no number is kept as an infinity, which is no coordinate either; and its bits
+-- the float of these bits as it is kept: what is not a number is kept as an infinity, which is not a coordinate either; and its
+-- bits
 unfoldable pub floatKept : ℕ → Float
 floatKept b = cond (nanBits binary64 b) (inf false) (ofBits binary64 b)
 

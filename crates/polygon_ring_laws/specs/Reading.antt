@@ -36,17 +36,17 @@ capped n = cond (ltb mostSteps n) (suc mostSteps) n
 
 -- 16, 17, 6 and 18
 abbrev pub ringJudged : List GridPoint → ℕ → Judged
-ringJudged ps room =
+ringJudged ps size =
     firstOf (when (any isFaulty ps) BadCoordinate
     ∷ when (not (isRing (map cornerIn ps))) BadRing
     ∷ when (ltb mostSteps (lengthOf (map cornerIn ps))) (TooLong mostSteps)
-    ∷ when (ltb room (lengthOf (map cornerIn ps))) ChainRoom
+    ∷ when (ltb size (lengthOf (map cornerIn ps))) ChainRoom
     ∷ [])
 
 -- 14 by the length, and then these
 abbrev pub pointsJudged : Bool → List ℕ → ℕ → Judged
-pointsJudged little file room =
-    orElse (when (not (eqb (length file) (13 + 16 * countIn little file))) FileLength) (ringJudged (pointsIn little file) room)
+pointsJudged little file size =
+    orElse (when (not (eqb (length file) (13 + 16 * countIn little file))) FileLength) (ringJudged (pointsIn little file) size)
 
 -- the promise of a file that is read in this byte order
 pub record ReadIn (little : Bool) (file out : List ℕ) (r : Given) (out′ : List ℕ) : Type 0 where

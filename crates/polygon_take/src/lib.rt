@@ -101,8 +101,7 @@ fn swapped(v: u64) -> u64
     r
 }
 
-// The number with the eight bytes of s, in their order: they are read the lowest first, and swapped where that is the other
-// order.
+// The number with the eight bytes of s, in their order: they are read the lowest first, and swapped if that is the other order.
 fn eight(s: &[u8], first_lowest: bool) -> u64
     requires { ⌜ length (now s) ≡ 8 ⌝ }
     ensures { λ r. ⌜ r ≡ numberIn «first_lowest» (now (s .entry)) ⌝ }
@@ -111,7 +110,7 @@ fn eight(s: &[u8], first_lowest: bool) -> u64
     if first_lowest { v } else { swapped(v) }
 }
 
-// These bits, or those of an infinity if they are no number's.
+// These bits, or those of an infinity if they are not those of a number.
 fn kept(bits: u64) -> u64
     ensures { λ r. ⌜ r ≡ bitsKept bits ⌝ }
 {
@@ -122,7 +121,7 @@ fn kept(bits: u64) -> u64
     }
 }
 
-// The float with these bits, as it is kept: an infinity for what is no number.
+// The float with these bits, as it is kept: an infinity for what is not a number.
 fn float_of(bits: u64) -> f64
     ensures { λ r. ⌜ r ≡ floatKept bits ⌝ }
 {
@@ -227,7 +226,7 @@ pub fn point(s: &[u8], little: bool) -> Point
     Point { x, y }
 }
 
-// The coordinate that the eight bytes of s are, where they were accepted before.
+// The coordinate that the eight bytes of s are, if they were accepted before.
 fn known(s: &[u8], little: bool) -> i32
     requires { ⌜ (length (now s) ≡ 8) × IsAccepted (ofBits binary64 (numberIn «little» (now s))) ⌝ }
     ensures { λ r. ⌜ Whole.Of r ≡ wholeOf farthest (ofBits binary64 (numberIn «little» (now (s .entry)))) ⌝ }
@@ -240,7 +239,7 @@ fn known(s: &[u8], little: bool) -> i32
     signed(panels(unsigned), SIGN <= bits)
 }
 
-// The corner that the point at the start of s is, where it was accepted before.
+// The corner that the point at the start of s is, if it was accepted before.
 pub fn corner(s: &[u8], little: bool) -> Corner
     requires { ⌜ (16 ≤ length (now s)) × (isFaulty (pointIn farthest «little» (now s)) ≡ false) ⌝ }
     ensures { λ r. ⌜ r ≡ cornerIn (pointIn farthest «little» (now (s .entry))) ⌝ }

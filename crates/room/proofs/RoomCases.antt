@@ -14,7 +14,7 @@ use Rattle.room.specs.Room.{asRoomJudged}
 one-panel : asRoomJudged (corner (pos 16384) (negsuc 16383)) (0 ∷ 1 ∷ 2 ∷ 3 ∷ []) ≡ Good
 one-panel = refl
 
--- there and back is no room, though it is closed and meets nowhere else
+-- there and back is not a room, though it is closed and meets nowhere else
 pub there-and-back : asRoomJudged origin (0 ∷ 2 ∷ []) ≡ Refused NotRoom
 there-and-back = refl
 

@@ -1,4 +1,4 @@
--- Refusal 12 is given exactly where the walk is no room, and what an accepted start and chain are.
+-- Refusal 12 is given exactly if the walk is not a room, and what an accepted start and chain are.
 -- Assumes nothing.
 use mathlib.Core.Bool.{true, not}
 use mathlib.Core.List.{List, [], _∷_}

@@ -1,4 +1,4 @@
-// Judges a start and a chain where a room is asked for.
+// Judges a start and a chain for the calls on a room.
 use answer::Judged;
 use answer::Refusal;
 use grid::Corner;

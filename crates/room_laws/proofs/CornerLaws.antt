@@ -42,7 +42,7 @@ never true true f = absurd (f refl refl)
 never true false f = refl
 never false y f = refl
 
--- and one where the way says the corner
+-- and one if the way says the corner
 ever : (x y : Bool) → (x ≡ true → y ≡ true) → tally (x && y) ≡ tally x
 ever true y f = ap tally (f refl)
 ever false y f = refl

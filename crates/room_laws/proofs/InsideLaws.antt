@@ -1,5 +1,5 @@
 -- A panel is inside exactly if its surplus is odd; the panels inside a closed walk lie in its bounding box, so any list of them has as many as
--- the box; and where every surplus is 0 or s the sum over the panels is s times the number inside.
+-- the box; and if every surplus is 0 or s the sum over the panels is s times the number inside.
 -- Assumes nothing.
 use mathlib.Core.Bool.{Bool, true, false, _&&_}
 use mathlib.Core.List.{List, [], _∷_, List·Memᴰ}

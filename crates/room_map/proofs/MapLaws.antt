@@ -1,4 +1,4 @@
--- The map is filled corner by corner, and tells whether a closed walk is a room.
+-- The map is filled corner by corner, and shows whether a closed walk is a room.
 -- Assumes nothing.
 use mathlib.Core.Path.{_≡_, refl, sym, ap, ap₂, _∙_, subst}
 use mathlib.Core.Bool.{Bool, true, false, true≢false, false≢true}

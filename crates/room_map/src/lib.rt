@@ -1,5 +1,5 @@
 // Whether a walk is a room, by a byte for each corner of its box: a byte that is 1 already is a meeting. If the box is too large
-// for the store, threads through the columns tell it.
+// for the store, threads through the columns show it.
 use box_walk::WalkBox;
 use box_walk::enclose;
 use columns::Columns;

@@ -57,9 +57,9 @@ ThreadFollowed next hs before t last r after =
     → ((h : ℕ) → getD before h 0 < t) → Outcome xs hs n c t r after
 
 -- the threads lead back, and the heights are below the number of stamps
-pub record Leads (next hs : List ℕ) (room : ℕ) : Type 0 where
+pub record Leads (next hs : List ℕ) (size : ℕ) : Type 0 where
   pub falls : (j : ℕ) → getD next j 0 ≤ j
-  pub heights : (j : ℕ) → getD hs j 0 < room
+  pub heights : (j : ℕ) → getD hs j 0 < size
   pub both : length next ≤ length hs
 
 -- at place p of the thread, or at its end
@@ -92,10 +92,10 @@ abbrev pub rowsFrom : ℕ → List ℕ → List ℕ
 rowsFrom y ds = alongFrom rowAfter y ds
 
 -- the walk that starts in column and height m stays above 0 and below room
-pub record Stays (chain : List ℕ) (m room : ℕ) : Type 0 where
-  pub columns : (j : ℕ) → j < length chain → (0 < getD (columnsFrom m chain) j 0) × (getD (columnsFrom m chain) j 0 < room)
-  pub rows : (j : ℕ) → j < length chain → (0 < getD (rowsFrom m chain) j 0) × (getD (rowsFrom m chain) j 0 < room)
-  pub narrow : room ≤ suc top
+pub record Stays (chain : List ℕ) (m size : ℕ) : Type 0 where
+  pub columns : (j : ℕ) → j < length chain → (0 < getD (columnsFrom m chain) j 0) × (getD (columnsFrom m chain) j 0 < size)
+  pub rows : (j : ℕ) → j < length chain → (0 < getD (rowsFrom m chain) j 0) × (getD (rowsFrom m chain) j 0 < size)
+  pub narrow : size ≤ suc top
 
 -- its first i places are threaded and have their heights; nothing stands after them
 pub record Laid (chain : List ℕ) (m i : ℕ) (head next hs : List ℕ) : Type 0 where
@@ -114,12 +114,12 @@ pub record Laying (chain : List ℕ) (m x y i : ℕ) (head next hs : List ℕ) :
 abbrev pub Zero : List ℕ → Type 0
 Zero l = (j : ℕ) → getD l j 0 ≡ 0
 
--- whether no two places of the walk that starts in column and height m, but for its last, are one
+-- whether no two places of the walk that starts in column and height m, apart from its last, are one
 pub record Scattered (chain : List ℕ) (m : ℕ) (r : Bool) : Type 0 where
   pub yes : r ≡ true → Double (columnsFrom m chain) (rowsFrom m chain) (length chain) → ⊥
   pub no : r ≡ false → Double (columnsFrom m chain) (rowsFrom m chain) (length chain)
 
--- the working store has room for the walk, and holds nothing yet
+-- the working store is large enough for the walk, and holds nothing yet
 pub record ThreadStore (chain : List ℕ) (m : ℕ) (head next hs stamps : List ℕ) : Type 0 where
   pub stays : Stays chain m (length head)
   pub some : 0 < length head

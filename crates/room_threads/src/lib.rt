@@ -70,8 +70,8 @@ fn lay(chain: &[u8], m: u16, head: &mut [u16], next: &mut [u16], hs: &mut [u16])
     }
 }
 
-// Whether no two places of the walk that starts in column and height m, but for its last, are one. Only the columns that it can
-// reach are looked at. The working store is lent.
+// Whether no two places of the walk that starts in column and height m, apart from its last, are one. Only the columns that it
+// can reach are looked at. The working store is lent.
 fn scattered(
     chain: &[u8],
     m: u16,

@@ -50,7 +50,7 @@ strung-tail next h p l s = s .2
 pub line-start : (next at : List ℕ) (b : Corner) (l : List ℕ) (before : List ℤ) (o first : ℕ) → Strung next first l → length l % 2 ≡ 0 → LineAt next at b l before o first o before
 line-start next at b l before o first s e = record { rest = l; thread = s; even = e; numbers = refl; whole = refl }
 
--- the two places that come next can be read, and there is room for a span
+-- the two places that come next can be read, and the buffer is long enough for a span
 pub record Two (next : List ℕ) (p o room : ℕ) : Type 0 where
   pub first : p - 1 < length next
   pub there : 0 < getD next (p - 1) 0

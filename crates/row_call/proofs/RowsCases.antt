@@ -42,11 +42,11 @@ on-both-ends = (record { row = refl; after = leZ-yes tt; before = leZ-yes tt }, 
 lengths : lengthsOf (span (pos 0) (pos 0) (pos 1) ∷ span (pos 0) (pos 3) (pos 3) ∷ span (pos 1) (negsuc 0) (negsuc 0) ∷ []) ≡ 4
 lengths = refl
 
--- what is no room is refused before a buffer that is too short
-no-room-first : rowsJudged origin (0 ∷ 2 ∷ []) 0 1 ≡ Refused NotRoom
-no-room-first = refl
+-- what is not a room is refused before a buffer that is too short
+not-a-room-first : rowsJudged origin (0 ∷ 2 ∷ []) 0 1 ≡ Refused NotRoom
+not-a-room-first = refl
 
--- three numbers a span are enough, two are not
+-- three numbers for each span are enough, two are not
 three-numbers : rowsJudged origin (0 ∷ 1 ∷ 2 ∷ 3 ∷ []) 3 1 ≡ Good
 three-numbers = refl
 

@@ -7,17 +7,17 @@ use Rattle.room.specs.Room.{asRoomJudged}
 use Rattle.panels.specs.Inside.{Inside}
 use Rattle.row_call.specs.Rows.{Span, RowsIs, spanNumbers}
 
--- 21 where the buffer has fewer than three numbers a span
+-- 21 if the buffer has fewer than three numbers for each span
 abbrev pub spanRoomJudged : ℕ → ℕ → Judged
-spanRoomJudged room spans = when (ltb room (3 * spans)) SpanRoom
+spanRoomJudged size spans = when (ltb size (3 * spans)) SpanRoom
 
 -- the refusals of a room, then 21
 abbrev pub rowsJudged : Corner → List ℕ → ℕ → ℕ → Judged
-rowsJudged s ds room spans = firstOf (asRoomJudged s ds ∷ spanRoomJudged room spans ∷ [])
+rowsJudged c ds size spans = firstOf (asRoomJudged c ds ∷ spanRoomJudged size spans ∷ [])
 
--- the promise of the call: `list` has the panels inside the room by rows. What is no room is refused, whatever its list
-pub record RowsCall (s : Corner) (ds : List ℕ) (before : List ℤ) (r : Counted) (after : List ℤ) : Type 0 where
+-- the promise of the call: `list` has the panels inside the room by rows. What is not a room is refused, whatever its list
+pub record RowsCall (c : Corner) (ds : List ℕ) (before : List ℤ) (r : Counted) (after : List ℤ) : Type 0 where
   pub list : List Span
-  pub rows : asRoomJudged s ds ≡ Good → RowsIs (Inside s ds) list
-  pub answer : r ≡ countedOf (rowsJudged s ds (length before) (length list)) (length list)
-  pub buffer : after ≡ laidIf (rowsJudged s ds (length before) (length list)) (spanNumbers list) before
+  pub rows : asRoomJudged c ds ≡ Good → RowsIs (Inside c ds) list
+  pub answer : r ≡ countedOf (rowsJudged c ds (length before) (length list)) (length list)
+  pub buffer : after ≡ laidIf (rowsJudged c ds (length before) (length list)) (spanNumbers list) before

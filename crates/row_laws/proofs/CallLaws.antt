@@ -42,7 +42,7 @@ module _ (c : Corner) (ds : List ℕ) (g : asRoomJudged c ds ≡ Good) where
       omega (arith, ap length (rowsIs-rowsOf c ds L (r .closed) k), room-half c ds r (good-steps .0), count-le (λ d. eqb (d % 2) 1) ds, good-steps .1)
 
 module _ (c : Corner) (ds : List ℕ) (room n : ℕ) where
-  -- what is no room is refused whatever the buffer
+  -- what is not a room is refused whatever the buffer
   pub rows-refused : (q : Refusal) → asRoomJudged c ds ≡ Refused q → rowsJudged c ds room n ≡ Refused q
   rows-refused q e = ap (λ (j : Judged). orElse j (orElse (when (ltb room (3 * n)) SpanRoom) Good)) e
 

@@ -63,7 +63,7 @@ all-beside p lo (q ∷ qs) h g =
     here (inl a) = let f : q .1 ≡ p .1 → ⊥ = λ e. omega (zarith, e, a) in ap tally (beside-other p q f ∙ sym (eqZ-not (q .1) (p .1) f))
     here (inr a) = ap tally (beside-row p q (sym (a .0)) ∙ true-lt (p .0) (q .0) (a .1) ∙ sym (ap (eqZ (q .1)) (a .0) ∙ eqZ-refl (q .1)))
 
--- a pair before others, of which an even number is beside any panel that lies ahead of the second
+-- a pair before others; an even number of those is beside any panel that lies ahead of the second
 pair-cover : (x y : Corner) (qs : List Corner) (p : Panel) (C : Type 0) → x .1 ≡ y .1 → x .0 ≤ℤ y .0 → C ↔ (count (beside p) qs % 2 ≡ 1) → (Ahead (place p) y → count (beside p) qs % 2 ≡ 0)
     → (OnSpan (spanOf x y) p ⊎ C) ↔ (count (beside p) (x ∷ y ∷ qs) % 2 ≡ 1)
 pair-cover x y qs p C r h ih even = by (eqZ (x .1) (p .1)) refl (le-or-lt (x .0) (p .0)) (le-or-lt (y .0) (p .0))

@@ -64,7 +64,7 @@ room-rows c ds qs r g m = sorted-rows c ds qs (r .closed) (turn-ahead qs g (once
     once : (q : Corner) → count (same q) qs ≤ 1
     once q = omega (arith, m (same q), distinct-once (feetFrom c ds) q (room-feet c ds r))
 
--- nothing cancels where all are different
+-- nothing cancels if all are different
 toggle-mem : (p q : Corner) (qs : List Corner) → List·Memᴰ q (toggle p qs) → (q ≡ p) ⊎ List·Memᴰ q qs
 toggle-mem p q [] m = inl (List·Memᴰ·eq-of-singleton m)
 toggle-mem p q (r ∷ qs) m = by (ahead p r) (same p r) (toggle-mem p q qs) m

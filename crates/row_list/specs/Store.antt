@@ -16,7 +16,7 @@ pub record Walled (c : Corner) (ds : List ℕ) : Type 0 where
   pub digits : Below 4 ds
   pub near : Near c
 
--- room for a walk of so many steps that starts in column and height m; the buckets are empty
+-- space for a walk of this many steps that starts in column and height m; the buckets are empty
 pub record RowStore (steps m : ℕ) (head row next at : List ℕ) : Type 0 where
   pub wide : steps < 2 * m
   pub columns : 2 * m ≤ length head

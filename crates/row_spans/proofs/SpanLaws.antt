@@ -1,4 +1,4 @@
--- Three numbers a span, and where a row begins.
+-- Three numbers for each span, and where a row begins.
 -- Assumes nothing.
 use mathlib.Core.Path.{_≡_, sym, ap, ap₂, _∙_, subst}
 use mathlib.Core.List.{List, [], _∷_}

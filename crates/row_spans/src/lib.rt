@@ -29,7 +29,7 @@ fn column_before(west: i32, n: u16) -> i32
     west + n as i32 - 1
 }
 
-// The panel behind the edge that stands n steps east of base.
+// The panel after the edge that stands n steps east of base.
 fn first_panel(base: Corner, n: u16) -> Panel
     requires { ⌜ natAbs (base .0) ≤ mostStart + 65535 ⌝ }
     ensures { λ r. ⌜ r ≡ panelAt (corner (base .0 +ℤ pos n) (base .1)) ⌝ }
@@ -87,7 +87,7 @@ fn put_row(out: &mut [i32], o: usize, base: Corner, first: u16, next: &[u16], at
     to
 }
 
-// The coordinate at place n, where z stands at m.
+// The coordinate at place n, if z stands at m.
 fn shifted(z: i32, m: u16, n: usize) -> i32
     requires { ⌜ (natAbs z ≤ mostStart) × (n ≤ top) ⌝ }
     ensures { λ r. ⌜ r ≡ (z -ℤ pos m) +ℤ pos n ⌝ }
@@ -95,7 +95,7 @@ fn shifted(z: i32, m: u16, n: usize) -> i32
     z - m as i32 + n as i32
 }
 
-// Where row h begins, where start stands at m.
+// Where row h begins, if start stands at m.
 fn row_base(start: Corner, m: u16, h: usize) -> Corner
     requires { ⌜ (natAbs (start .0) ≤ mostStart) × (natAbs (start .1) ≤ mostStart) × (h ≤ top) ⌝ }
     ensures { λ r. ⌜ r ≡ corner ((start .0 -ℤ pos m) +ℤ pos 0) ((start .1 -ℤ pos m) +ℤ pos h) ⌝ }

@@ -34,14 +34,14 @@ pub below-nought : signedOf 20 (negsuc 9) ≡ text.bytesOf "-10"
 unfolding decimalOf text.bytesOf
 below-nought = refl
 
--- a panel; a walk that is no room; turns; a line that is no frame
+-- a panel; a walk that is not a room; turns; a line that is not a frame
 pub panel : entryOf (text.bytesOf "0000040123") ≡ text.bytesOf "0,0,2,4,4,4,0,4,1,01030000000100000005000000000000000000000000000000000000000000000000c0824000000000000000000000000000c082400000000000c0824000000000000000000000000000c0824000000000000000000000000000000000"
 unfolding entryOf lineWalked frameOf allHex valuesOf numberFrom decimalOf hexBytes hexOf bytesOf coordinateOf coordinateBytes pointBytes pointsBytes polygonBytes ofInt toBits text.bytesOf
 panel = refl
 
-pub no-room : entryOf (text.bytesOf "00000202") ≡ text.bytesOf "0,0,5,2,2,2,0,2,0,"
+pub not-a-room : entryOf (text.bytesOf "00000202") ≡ text.bytesOf "0,0,5,2,2,2,0,2,0,"
 unfolding entryOf lineWalked frameOf allHex valuesOf numberFrom decimalOf hexBytes hexOf text.bytesOf
-no-room = refl
+not-a-room = refl
 
 pub retired : entryOf (text.bytesOf "0100014") ≡ text.bytesOf "19,0,,,,,,,,"
 unfolding entryOf lineWalked frameOf allHex valuesOf numberFrom decimalOf emptyCells text.bytesOf
@@ -56,7 +56,7 @@ pub numbers : numberedFrom true 9 (text.bytesOf "a\n\nb\n") ≡ text.bytesOf "9,
 unfolding numberedFrom decimalOf text.bytesOf
 numbers = refl
 
--- a whole input: an empty line is no frame, and the last line may lack its line feed
+-- a whole input: an empty line is not a frame, and the last line may lack its line feed
 pub whole : sheet (text.bytesOf "\n00000202") ≡ header ++ text.bytesOf "1,9,0,,,,,,,,\n2,0,0,5,2,2,2,0,2,0,\n"
 unfolding outputFrom numberedFrom entryOf lineWalked frameOf allHex valuesOf numberFrom decimalOf emptyCells hexBytes hexOf text.bytesOf
 whole = refl

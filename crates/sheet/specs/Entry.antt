@@ -27,7 +27,7 @@ cellsOf number place f =
     ++ signedOf mostDecimals (f .area)
     ++ (44 ∷ [])
 
--- so many cells with nothing in them
+-- this many cells with nothing in them
 unfoldable pub emptyCells : ℕ → List ℕ
 emptyCells zero = []
 emptyCells (suc k) = emptyCells k ++ (44 ∷ [])
@@ -45,11 +45,11 @@ unfoldable pub hexBytes : List ℕ → List ℕ
 hexBytes [] = []
 hexBytes (b ∷ s) = hexOf 2 b ++ hexBytes s
 
--- the polygon of a room; nothing for a walk that is none
+-- the polygon of a room; nothing for a walk that is not a room
 abbrev pub polygonCell : List ℕ → List ℕ
 polygonCell w = cond (isRoom origin w) (hexBytes (polygonOf origin w)) []
 
--- an answer to a walk of which the steps w survive
+-- an answer to a walk, if its steps w survive
 abbrev pub entryBy : Answer → List ℕ → List ℕ
 entryBy (Answer.Accepted f) w = cellsOf 0 0 f ++ polygonCell w
 entryBy (Answer.Refused r) w = refusedCells (refusalNumber r) (refusalPlace r)

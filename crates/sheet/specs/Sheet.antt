@@ -22,7 +22,7 @@ unfoldable pub beginsAfter : Bool → List ℕ → Bool
 beginsAfter begins [] = begins
 beginsAfter begins (b ∷ s) = beginsAfter (eqb b 10) s
 
--- how many lines an input has: as many as line feeds, and one more where the last lacks it
+-- how many lines an input has: as many as line feeds, and one more if the last lacks it
 abbrev pub linesIn : List ℕ → ℕ
 linesIn s = feedsIn s + tally (not (beginsAfter true s))
 
@@ -53,7 +53,7 @@ sheet s = header ++ entriesFrom 1 s
 abbrev pub atTop : Margin
 atTop = record { line = 0; begins = true }
 
--- what is written before all else: the header, unless it is there
+-- what is written before everything else: the header, unless it is there
 abbrev pub headOf : ℕ → List ℕ
 headOf zero = header
 headOf (suc n) = []

@@ -14,6 +14,7 @@ mostCell = suc mostDecimals
 abbrev pub mostPolygon : ℕ
 mostPolygon = 13 + 16 * suc mostDigits
 
--- bytes of what is said of a line at most: nine cells, the sign of the area, two digits a byte of the polygon, and the line feed
+-- bytes of what is said of a line at most: nine cells, the sign of the area, two digits for each byte of the polygon, and the
+-- line feed
 abbrev pub mostEntry : ℕ
 mostEntry = 9 * mostCell + 1 + 2 * mostPolygon + 1

@@ -30,7 +30,7 @@ impl Entry {
     // bytes of a frame's polygon at most: the header, and sixteen for each point, one more than the steps
     const MOST_POLYGON: usize = 13 + 16 * (Frame::MOST_DIGITS + 1);
 
-    // bytes of an entry at most: nine cells, the sign of the area, two digits a byte of the polygon, and the line feed
+    // bytes of an entry at most: nine cells, the sign of the area, two digits for each byte of the polygon, and the line feed
     pub const MOST: usize = 9 * Cell::MOST + 1 + 2 * Entry::MOST_POLYGON + 1;
 }
 

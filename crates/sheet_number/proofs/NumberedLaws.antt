@@ -59,7 +59,7 @@ module _ {starts : Bool} {first : ℕ} {s : List ℕ} {at : ℕ} {before : List 
   pub numbering-long : length after ≡ length before
   numbering-long = ap length (g .output .buffer) ∙ length-put (numberedFrom starts first (take i s)) at before (omega (arith, some, g .room, g .within))
 
-  -- there is room for one more, and for its number
+  -- the buffer is long enough for one more, and for its number
   pub numbering-room : i < length s → (used + suc mostCell ≤ length after) × (n < 18446744073709551615)
   numbering-room h = (
     omega (arith, g .output .end, some, g .room, numbering-long),
@@ -100,7 +100,7 @@ module _ {starts : Bool} {first : ℕ} {s : List ℕ} {at : ℕ} {before : List 
       }
 
 module _ (m : Margin) (s : List ℕ) where
-  -- there is room after the header, and for the numbers
+  -- there is space after the header, and for the numbers
   pub page-room : {a b : List ℕ} {e : ℕ} → length s ≤ mostPiece → length a ≡ mostPage → Wrote (headOf (m .line)) 0 a e b → length b ≡ length a → e + suc mostCell * length s ≤ length b
   page-room f r w l = omega (arith, f, r, w .end, head-most (m .line), l)
 

@@ -22,7 +22,7 @@ pub record NumberedFrom (begins : Bool) (n : ℕ) (s : List ℕ) (at : ℕ) (bef
   pub output : Wrote (numberedFrom begins n s) at before (r .used) after
   pub margin : r .margin ≡ record { line = n + feedsIn s; begins = beginsAfter begins s }
 
--- those bytes where the sheet stands at m
+-- those bytes, if the sheet stands at m
 pub record NumberedIs (m : Margin) (s before : List ℕ) (r : Numbered) (after : List ℕ) : Type 0 where
   pub output : Wrote (pageOf m s) 0 before (r .used) after
   pub margin : r .margin ≡ marginAfter m s

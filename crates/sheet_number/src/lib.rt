@@ -112,7 +112,7 @@ fn number_from(out: &mut [u8], at: usize, starts: bool, first: usize, s: &[u8]) 
     Numbered { used, margin }
 }
 
-// Writes the bytes s of the entries, where the sheet stands at m, at the start of out.
+// Writes the bytes s of the entries, if the sheet stands at m, at the start of out.
 pub fn number(m: Margin, s: &[u8], out: &mut [u8]) -> Numbered
     requires { ⌜ length (now s) ≤ mostPiece ⌝ }
     requires { ⌜ length (now out) ≡ mostPage ⌝ }

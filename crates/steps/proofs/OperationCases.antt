@@ -14,7 +14,7 @@ last-taken = refl
 taken-and-walked-on : survivors (0 ∷ 0 ∷ 4 ∷ 1 ∷ 2 ∷ 3 ∷ []) ≡ 0 ∷ 1 ∷ 2 ∷ 3 ∷ []
 taken-and-walked-on = refl
 
--- 5, where no step survives any more
+-- 5, if no step survives any more
 nothing-left : operationsJudged 0 0 (0 ∷ 4 ∷ 4 ∷ []) ≡ Refused (NothingToTake 2)
 nothing-left = refl
 
@@ -33,6 +33,6 @@ longest = refl
 bad-before-long : operationsJudged 0 mostSteps (5 ∷ []) ≡ Refused (BadDigit 0)
 bad-before-long = refl
 
--- a step taken back makes room for another
+-- a step taken back makes space for another
 room-again : operationsJudged 0 mostSteps (4 ∷ 3 ∷ []) ≡ Good
 room-again = refl

@@ -78,7 +78,7 @@ accepted : (f : List ℕ → List ℕ) (ds out out′ : List ℕ) → ConvertedB
 accepted f ds out out′ p =
     (p .buffer ∙ ap (λ (j : Judged). writtenIf j (f ds) out) (sym (p .answer)), turnsJudged-good ds (length out) (sym (p .answer)))
 
--- what an accepted call wrote is accepted by the other call, which gives back what was handed to the first
+-- what an accepted call wrote is accepted by the other call, which gives back what the first got
 back-again : {f g : List ℕ → List ℕ} → Undoes f g → (s t₀ t u₀ u : List ℕ) (r : Judged)
     → ConvertedBy f s t₀ Good t → ConvertedBy g t u₀ r u → length u₀ ≡ length s → (r ≡ Good) × (u ≡ s)
 back-again {f} {g} w s t₀ t u₀ u r p q e =

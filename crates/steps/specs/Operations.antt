@@ -15,7 +15,7 @@ survivorsFrom steps (o ∷ os) = survivorsFrom (operate steps o) os
 abbrev pub survivors : List ℕ → List ℕ
 survivors os = survivorsFrom [] os
 
--- what is wrong with operation o at place i, where n steps survive: 4, a byte above 4; 5, nothing to take; 6, a step too many
+-- what is wrong with operation o at place i, if n steps survive: 4, a byte above 4; 5, nothing to take; 6, a step too many
 abbrev pub faultOf : ℕ → ℕ → ℕ → Judged
 faultOf i n o =
     firstOf (when (ltb 4 o) (BadDigit i)
@@ -23,7 +23,7 @@ faultOf i n o =
     ∷ when (not (eqb o 4) && not (ltb n mostSteps)) (TooLong i)
     ∷ [])
 
--- an operation with no fault, where n steps survive: a take-back with a step to take, or a step that is not too many
+-- an operation with no fault, if n steps survive: a take-back with a step to take, or a step that is not too many
 abbrev pub Fine : ℕ → ℕ → Type 0
 Fine n o = ((o ≡ 4) × (0 < n)) ⊎ ((o < 4) × (n < mostSteps))
 

@@ -36,9 +36,9 @@ digitsJudged i (d ∷ ds) = orElse (when (ltb 3 d) (BadDigit i)) (digitsJudged (
 
 -- 1, then 3, then 4, for digits and a buffer of that length
 abbrev pub turnsJudged : List ℕ → ℕ → Judged
-turnsJudged ds room =
+turnsJudged ds size =
     firstOf (when (ltb mostInput (length ds)) TooMany
-    ∷ when (not (eqb room (length ds))) ResultRoom
+    ∷ when (not (eqb size (length ds))) ResultRoom
     ∷ digitsJudged 0 ds
     ∷ [])
 

@@ -45,7 +45,7 @@ module _ (S : State) (sound : Sound S) (s d : ℕ) (pos : 0 < s) (small : d < 4)
   abbrev L : Corner → Corner → ℕ
   L = S .step
 
-  -- the root is no node that is made
+  -- the root is never made
   pub rooted : (e : Corner) → isFresh ns e ≡ true → isRoot e ≡ false
   rooted e h = go (isRoot e) refl
     where
@@ -88,7 +88,7 @@ module _ (S : State) (sound : Sound S) (s d : ℕ) (pos : 0 < s) (small : d < 4)
       (⊎-elim (λ u. Memᴰ·cast u (but-mem (parentOf e) a r)) (λ u. List·Memᴰ·tail (Memᴰ·append-right (but (parentOf e) a) u)) (List·Memᴰ·cases-cons q)))
       (List·Memᴰ·cases-cons m′))
 
-  -- a record that is not among them stays, where the neighbour is looked up
+  -- a record that is not among them stays, if the neighbour is looked up
   module _ (x : Corner) (there : List·Memᴰ x ns) where
     over : (a : Corner) → List·Memᴰ a ns → L a (stepped d a) ≡ 0 → isRoot (stepped d a) ≡ false → (x ≡ a → ⊥) → (x ≡ stepped d a → ⊥) → ((List·Memᴰ (stepped d a) ns → ⊥) → x ≡ parentOf (stepped d a) → ⊥)
         → recordBy (raised S s a (stepped d a)) x ≡ recordBy S x → recordBy (reached S s a (stepped d a)) x ≡ recordBy S x
@@ -234,7 +234,7 @@ module _ (S : State) (sound : Sound S) (s d : ℕ) (pos : 0 < s) (small : d < 4)
         go (higher r i) ih = ih (up r) (there r) (subst (λ (y : Corner). List·Memᴰ x (risenBy L ns k (parentOf b) y)) (near r) i) q
         go (topmost r s t) ih = child-new g (rooted g r) (λ i. true≢false (sym r ∙ ap not (mem→any same same-sound same-refl i))) n (subst Kept s q)
 
-    -- the record of a node before the step: zeros where it is made
+    -- the record of a node before the step: zeros if it is made
     abbrev pub before : Corner → List ℕ
     before x = cond (any (same x) ns) (recordBy S x) (replicate width 0)
 

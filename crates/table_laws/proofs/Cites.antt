@@ -28,7 +28,7 @@ module _ (t : List ℕ) (n u w s : ℕ) where
   child-is zero e f = absurd (f refl)
   child-is (suc k) e f = rw (sym e, childIn)
 
-  -- no room
+  -- the table is full
   pub child-full : 0 ≡ getD t (wordAt u w) 0 → recordsIn (length t) ≤ n → childIn t n u w s ≡ out t 0 n
   child-full e h = rw (sym e, childIn) (rw (le-ltb n (recordsIn (length t)) h))
 
@@ -47,7 +47,7 @@ module _ (t : List ℕ) (n u w s : ℕ) where
 pub ref-below : (ns : List Corner) (c : Corner) (u : ℕ) → refOf ns c ≡ suc u → u < length ns
 ref-below ns c u h = omega (arith, find-le (same c) ns)
 
--- an answer that is no 0: the table holds the state, and the answer is the node
+-- an answer that is not 0: the table holds the state, and the answer is the node
 pub made-holds : (words : ℕ) (T : State) → Sound T → (e : Corner) (t : List ℕ) (a n : ℕ) → Made words T e t a n → (a ≡ 0 → ⊥) → Holds t n T × (refOf (T .nodes) e ≡ suc (a - 1)) × (length t ≡ words)
 made-holds words T sound e t a n made f = go (ltb words (width * length (T .nodes))) refl
   where
@@ -100,7 +100,7 @@ module _ (t : List ℕ) (n u : ℕ) (c : Corner) (d s : ℕ) (S : State) (h : Ho
   pub near-root : 0 ≡ getD t (wordAt u (neighbourWord d)) 0 → isRoot (stepped d c) ≡ true → Reaches (linkIn t u 0 d s) 1 n
   near-root e g = near-holds (suc (sizeOf c)) (omega arith) (out (linkIn t u 0 d s) 1 n) (rw (sym e, neighbourIn) (rw g))
 
-  -- no room for the parents, nor for the child
+  -- the table is too small for the parents, or for the child
   pub near-no-parent : 0 ≡ getD t (wordAt u (neighbourWord d)) 0 → isRoot (stepped d c) ≡ false → (t₁ : List ℕ) (a₁ n₁ : ℕ) → Raises t₁ a₁ n₁ → a₁ ≡ 0 → Reaches t₁ a₁ n₁
   near-no-parent e g t₁ a₁ n₁ m z =
       subst (λ y. Reaches (y .table) (y .at) (y .nodes)) (finish-none (out t₁ a₁ n₁) u (stepped d c) d s z) (finish-made (length t) S (h .sound) s d pos small room c u r g (not-linked e) (out t₁ a₁ n₁) m)
@@ -186,6 +186,6 @@ module _ (t : List ℕ) (n u : ℕ) (c : Corner) (d s : ℕ) (S : State) (h : Ho
 pub stood : (t : List ℕ) (n u : ℕ) (c : Corner) (S : State) → Holds t n S → refOf (S .nodes) c ≡ suc u → Stood t n u c
 stood t n u c S h r = record { state = S; holds = h; here = r; below = omega (arith, ref-below (S .nodes) c u r, h .count) }
 
--- word 0 of a node that is no root
+-- word 0 of a node that is not the root
 pub parent-word : (t : List ℕ) (n u : ℕ) (c : Corner) (S : State) → Holds t n S → refOf (S .nodes) c ≡ suc u → isRoot c ≡ false → getD t (wordAt u parentWord) 0 ≡ refOf (S .nodes) (parentOf c)
 parent-word t n u c S h r g = ap (λ (x : List ℕ). getD x (wordAt u parentWord) 0) (h .table) ∙ read-parent (length t) S c u r ∙ rw g

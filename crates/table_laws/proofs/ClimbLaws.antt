@@ -44,7 +44,7 @@ length-link t u v d s =
 pub node-bound : (t : List ℕ) (n u : ℕ) (c : Corner) (S : State) → Holds t n S → refOf (S .nodes) c ≡ suc u → HasRecord t u
 node-bound t n u c S h r = omega (arith, ref-below (S .nodes) c u r, h .count, h .room)
 
--- the coordinates of a node above are no greater
+-- the coordinates of a node above are not greater
 pub up-small : (i : ℕ) (c : Corner) → (natAbs (upBy i c .0) ≤ natAbs (c .0)) × (natAbs (upBy i c .1) ≤ natAbs (c .1))
 up-small zero c = (omega arith, omega arith)
 up-small (suc i) c =
@@ -106,7 +106,7 @@ module _ (words : ℕ) (S : State) (sound : Sound S) (n : ℕ) (count : n ≡ le
         above-call (tableBy words S) n (refOf (S .nodes) b - 1) b d s S held number-is small pos (p .outer) (p .inner) (p .parents) t₁ a₁ n₁
         (subst (λ (w : ℕ). Made w (reached S s (parentOf b) (stepped d (parentOf b))) (stepped d (parentOf b)) t₁ a₁ n₁) (sym same-words) made)
 
-    -- no room for the parents, no room here
+    -- a table that is too small for the parents is too small here
     none-above : (t₁ : List ℕ) (a₁ n₁ : ℕ) → a₁ ≡ 0 → Reached (parentOf b) t₁ a₁ n₁ → Reached b t₁ a₁ n₁
     none-above t₁ a₁ n₁ z made =
         subst (λ (w : ℕ). Made w (reached S s b (stepped d b)) (stepped d b) t₁ a₁ n₁) same-words
@@ -138,7 +138,7 @@ module _ (words : ℕ) (S : State) (sound : Sound S) (n : ℕ) (count : n ≡ le
         grew₀ : Made (length (tableBy words S)) (grown (raised S s b (stepped d b)) (stepped d b) s) (stepped d b) t₂ a₂ n₂
         grew₀ = subst (λ (w : ℕ). Made w (grown (raised S s b (stepped d b)) (stepped d b) s) (stepped d b) t₂ a₂ n₂) (sym same-words) grew
 
-        -- no room for the child; the child linked
+        -- the table is too small for the child; the child linked
         down-none : a₂ ≡ 0 → Reached b t₂ a₂ n₂
         down-none z =
             subst (λ (w : ℕ). Made w (reached S s b (stepped d b)) (stepped d b) t₂ a₂ n₂) same-words
@@ -160,7 +160,7 @@ module _ (words : ℕ) (S : State) (sound : Sound S) (n : ℕ) (count : n ≡ le
     up-mem zero f = start
     up-mem (suc l) f = sound .good .closed (upBy l c) (up-mem l (λ j h. f j (omega arith))) (f l (omega arith) .inner)
 
-    -- no room at a level is no room at all those below
+    -- a table that is too small at a level is too small at all those below
     sunk : (level : ℕ) → ((j : ℕ) → j < level → Apart S d (upBy j c)) → (t : List ℕ) (a m : ℕ) → a ≡ 0 → Reached (upBy level c) t a m → Reached c t a m
     sunk zero f t a m z made = made
     sunk (suc l) f t a m z made =

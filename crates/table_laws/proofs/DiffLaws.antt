@@ -94,7 +94,7 @@ module _ (S : State) (sound : Sound S) (s d : ℕ) (pos : 0 < s) (small : d < 4)
       ∙ sym (append-assoc rs (replicate (k * width) 0) (replicate (words - width * length all) 0))
       ∙ ap (λ (l : List ℕ). l ++ replicate (words - width * length all) 0) (sym rows)
 
-  -- how many records the step changes, in a table of any size that has room for it
+  -- how many records the step changes, in a table of any size that is large enough
   step-changes : (k words n : ℕ) → sizeOf a < k → width * length all ≤ words → length all ≤ n → changesIn n (tableBy words S) (tableBy words (after S sound s d pos small a)) ≡ length (changed S sound s d pos small k a)
   step-changes k words n h room more =
       let T : State = after S sound s d pos small a in
@@ -131,7 +131,7 @@ module _ (c : Corner) (ds : List ℕ) (d : ℕ) (small : d < 4) where
       let r = step-changes S (sound-walk c ds) (suc (length ds)) d (omega arith) small (endFrom c ds) (finish-node c ds) k (n * width) n h (omega arith) (omega arith) in
       t ∙ r ∙ omega arith
 
-  -- at most 33 where no coordinate reaches 65,536
+  -- at most 33 if no coordinate reaches 65,536
   pub walk-few : WithinLevels 16 (endFrom c ds) → WithinLevels 16 (stepped d (endFrom c ds)) → changesOf c ds (ds ++ (d ∷ [])) ≤ 33
   walk-few v w =
       let S : State = stateOf (cornersFrom c ds) in

@@ -136,7 +136,7 @@ pub unlink-table : (S : State) (a : Corner) (d words u v : ℕ) → d < 4 → Di
     → set (set (set (set (tableBy words S) (wordAt u (neighbourWord d)) 0) (wordAt u (linkWord d)) 0) (wordAt v (neighbourWord ((d + 2) % 4))) 0) (wordAt v (linkWord ((d + 2) % 4))) 0 ≡ tableBy words (withLink S a (stepped d a) 0)
 unlink-table S a d words u v small dis h k = rw (← (back-mod d small)) (link-stores S a d 0 small words u v dis h k)
 
--- ---- an edge's count set at both its ends, all else as it was
+-- ---- an edge's count set at both its ends, everything else as it was
 module _ (S : State) (E : Corner → Corner → ℕ) (a : Corner) (d x : ℕ) (small : d < 4)
     (yes : (p q : Corner) → joins p q (a, stepped d a) ≡ true → E p q ≡ x) (no : (p q : Corner) → (joins p q (a, stepped d a) ≡ true → ⊥) → E p q ≡ S .edges p q) where
   abbrev T : State

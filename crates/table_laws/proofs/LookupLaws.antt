@@ -99,7 +99,7 @@ module _ (words : ℕ) (S : State) (sound : Sound S) (s d : ℕ) (pos : 0 < s) (
   pub root-parent : (a : Corner) → List·Memᴰ a (S .nodes) → isRoot a ≡ true → List·Memᴰ (parentOf (stepped d a)) (S .nodes)
   root-parent a m r = Memᴰ·cast (ap (λ (c : Corner). parentOf (stepped d c)) (root-is a r) ∙ root-child d ∙ sym (root-is a r)) m
 
-  -- the last stores, where the neighbour e of a is no root and they are not linked: the child, and then the link
+  -- the last stores, if the neighbour e of a is not the root and they are not linked: the child, and then the link
   module _ (a : Corner) (u : ℕ) (h : refOf (S .nodes) a ≡ suc u) (deep : isRoot (stepped d a) ≡ false) (z : S .step a (stepped d a) ≡ 0) where
     abbrev e : Corner
     e = stepped d a

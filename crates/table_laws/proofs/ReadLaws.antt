@@ -53,7 +53,7 @@ module _ (S : State) (sound : Sound S) (s d : ℕ) (pos : 0 < s) (small : d < 4)
   abbrev L : Corner → Corner → ℕ
   L = S .step
 
-  -- a pair x and its neighbour is not the pair b and its neighbour where x is smaller
+  -- a pair x and its neighbour is not the pair b and its neighbour if x is smaller
   apart : (x b : Corner) → sizeOf x < sizeOf b → joins x (stepped d x) (b, stepped d b) ≡ false
   apart x b h = is-false (joins x (stepped d x) (b, stepped d b)) (λ j. ⊎-elim (λ q. omega (arith, ap sizeOf (q .0))) (λ q. back-ne d small (q .1)) (joins-stepped d d x b small small j))
 
@@ -75,7 +75,7 @@ module _ (S : State) (sound : Sound S) (s d : ℕ) (pos : 0 < s) (small : d < 4)
       ∙ linkPut-apart (linked L s (parentOf b) (parentOf (stepped d b))) x b h
       ∙ ap (λ (y : Corner). linked L s (parentOf b) y x (stepped d x)) (up-near L ns (rooted S sound s d pos small) d b (stepped d b) refl r)
 
-  -- the link of the parents has the step's number exactly where the pair goes up
+  -- the link of the parents has the step's number exactly if the pair goes up
   pub goes-word : (b : Corner) → linksUp L b (stepped d b) ≡ true → linked L s b (stepped d b) (parentOf b) (stepped d (parentOf b)) ≡ s
   goes-word b r =
       let g = goes-up L b (stepped d b) r in
@@ -222,7 +222,7 @@ module _ (S : State) (sound : Sound S) (s d : ℕ) (pos : 0 < s) (small : d < 4)
       pub near-pos : (p : ℕ) → getD t (wordAt u parentWord) 0 ≡ suc p → getD t (wordAt p (linkWord d)) 0 ≡ s → 0 < getD t (wordAt p (neighbourWord d)) 0
       near-pos p h w = omega (arith, near-is p h w, ref-pos all (stepped d (parentOf b)) (mem-gather-right same same-sound same-refl ns (pathOf e) (next-path (climbs p h w))))
 
-      -- x counts unless it is y, told by their refs
+      -- x counts unless it is y, as their refs show
       counts : (x y : Corner) (m n : ℕ) → refOf all x ≡ suc m → refOf all y ≡ suc n → length (but x y) ≡ tally (not (eqb m n))
       counts x y m n h i = go (same x y) refl
         where

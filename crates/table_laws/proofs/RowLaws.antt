@@ -58,7 +58,7 @@ module _ {A : Type 0} where
   pub once : (ns : List A) → Distinct ns → (a : A) → Once a ns
   once ns d a l r e = distinct-right l r a (subst (λ x. Distinct x) e d)
 
--- keys, which a test tells apart
+-- keys, which a test distinguishes
 pub record Keys (A : Type 0) : Type 0 where
   pub test : A → A → Bool
   pub sound : (x y : A) → test x y ≡ true → x ≡ y
@@ -138,7 +138,7 @@ module _ {A : Type 0} (K : Keys A) where
     rows-split : (ns l r : List A) (a : A) → ns ≡ l ++ (a ∷ r) → rowsBy R ns ≡ rowsBy R l ++ (R a ++ rowsBy R r)
     rows-split ns l r a e = ap (rowsBy R) e ∙ rows-append R l (a ∷ r)
 
-    -- word w of the row before which so many stand
+    -- word w of the row before which this many stand
     word-place : (l : List A) (u w : ℕ) → length l ≡ u → u * width + w ≡ length (rowsBy R l) + w
     word-place l u w e = let m : length l * width ≡ u * width = ap (λ (n : ℕ). n * width) e in omega (arith, length-rows R wide l)
 

@@ -1,4 +1,4 @@
--- The states on the way of a lookup, as tables, and the room that they need.
+-- The states on the way of a lookup, as tables, and the records that they need.
 -- Assumes nothing.
 use mathlib.Core.Bool.{Bool, true, false, cond}
 use mathlib.Core.List.{List, [], _∷_, _++_, List·Memᴰ, List·Memᴰ·head, Memᴰ·cast}

@@ -28,7 +28,7 @@ use Rattle.table_laws.proofs.StateLaws.{step-table, sound-step, links-s
 use Rattle.table_laws.proofs.CellLaws.{read-edge}
 use Rattle.table_laws.proofs.TakeLaws.{visit-made, unvisit-made, tread-made, untread-made}
 
--- the table of a walk, where it has room for the nodes, holds the walk's state
+-- the table of a walk, if it is large enough for the nodes, holds the walk's state
 pub walk-holds : (words : ℕ) (c : Corner) (ds : List ℕ) (t : List ℕ) (n : ℕ) → t ≡ tableOf words c ds → n ≡ length (nodesOf (cornersFrom c ds)) → width * n ≤ words → Holds t n (stateOf (cornersFrom c ds)) × (length t ≡ words)
 walk-holds words c ds t n e p h =
     let q : t ≡ tableBy words (stateOf (cornersFrom c ds)) = e ∙ table-state words c ds in

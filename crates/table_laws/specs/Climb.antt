@@ -27,12 +27,13 @@ pub record Apart (S : State) (d : ℕ) (a : Corner) : Type 0 where
   pub outer : isRoot (stepped d a) ≡ false
   pub parents : same (parentOf a) (parentOf (stepped d a)) ≡ false
 
--- a is so many levels above c, and the climb goes on at each level below it
+-- a is this many levels above c, and the climb goes on at each level below it
 pub record Climbed (S : State) (d : ℕ) (c : Corner) (level : ℕ) (a : Corner) : Type 0 where
   pub above : a ≡ upBy level c
   pub below : (j : ℕ) → j < level → Apart S d (upBy j c)
 
--- the neighbour, of ref v, of the node u so many levels above c is found or made; S is the state before the lookup, with n nodes
+-- the neighbour, of ref v, of the node u this many levels above c is found or made; S is the state before the lookup, with n
+-- nodes
 pub record Descends (t : List ℕ) (n u v : ℕ) (c : Corner) (d s level : ℕ) (S : State) : Type 0 where
   pub sound : Sound S
   pub count : n ≡ length (S .nodes)

@@ -1,4 +1,4 @@
--- The first meeting: it is one, no meeting has a smaller k, its j is the only one, and there is none exactly where nothing meets.
+-- The first meeting: it is one, no meeting has a smaller k, its j is the only one, and there is none exactly if nothing meets.
 -- Assumes nothing.
 use mathlib.Core.List.{List, [], _∷_, _++_, append-nil, append-assoc}
 use mathlib.Core.Path.{_≡_, refl, sym, _∙_, subst}
@@ -112,7 +112,7 @@ meetingOf-meets c ds j k e = subst (MeetingSays c ds) e (meeting-says c ds)
 pub meets-meetingOf : (c : Corner) (ds : List ℕ) (j k : ℕ) → FirstMeets c ds j k → meetingOf c ds ≡ meet j k
 meets-meetingOf c ds j k f = meetingSays-one c ds (meetingOf c ds) (meet j k) (meeting-says c ds) f
 
--- and none is found exactly where there is none
+-- and none is found exactly if there is none
 pub meetingOf-none : (c : Corner) (ds : List ℕ) → meetingOf c ds ≡ none → (j k : ℕ) → Meets c ds j k → ⊥
 meetingOf-none c ds e = subst (MeetingSays c ds) e (meeting-says c ds)
 

@@ -26,7 +26,7 @@ no-step = refl
 one-step : verdictOf origin (0 ∷ []) ≡ Open
 one-step = refl
 
--- the closing corner of a room is no crossing
+-- the closing corner of a room is not a crossing
 round-one-panel : verdictOf origin (0 ∷ 1 ∷ 2 ∷ 3 ∷ []) ≡ Room
 round-one-panel = refl
 
@@ -42,7 +42,7 @@ two-there-and-back = refl
 there-and-back-twice : verdictOf origin (0 ∷ 2 ∷ 0 ∷ 2 ∷ []) ≡ ClosedMeeting
 there-and-back-twice = refl
 
--- a there-and-back is no room
+-- a there-and-back is not a room
 no-area-there-and-back : areaOf origin (1 ∷ 3 ∷ []) ≡ pos 0
 no-area-there-and-back = refl
 
@@ -52,10 +52,10 @@ left-round = refl
 right-round : areaOf origin (3 ∷ 2 ∷ 1 ∷ 0 ∷ []) ≡ negsuc 0
 right-round = refl
 
--- the sum over the steps is 1 here too, but the walk is no room
-no-room-no-area : areaOf origin (0 ∷ 1 ∷ []) ≡ pos 0
-no-room-no-area = refl
+-- the sum over the steps is 1 here too, but the walk is not a room
+not-a-room-no-area : areaOf origin (0 ∷ 1 ∷ []) ≡ pos 0
+not-a-room-no-area = refl
 
--- five corners of which two are one
+-- five corners, two of them the same
 different-corners : length (visitedOf (cornersFrom origin (0 ∷ 1 ∷ 2 ∷ 3 ∷ []))) ≡ 4
 different-corners = refl

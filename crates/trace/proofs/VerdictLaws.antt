@@ -38,7 +38,7 @@ module _ (c : Corner) (ds : List ℕ) where
   ends-meet : 0 < length ds → endFrom c ds ≡ c → Meets c ds 0 (length ds)
   ends-meet h e = record { earlier = h; within = omega arith; equal = sym (cornerAt-end c ds ∙ e) }
 
-  -- where the first meeting is (0,n), there is no other
+  -- if the first meeting is (0,n), there is no other
   ends-only : FirstMeets c ds 0 (length ds) → (j k : ℕ) → Meets c ds j k → (j ≡ 0) × (k ≡ length ds)
   ends-only f j k m =
       let e : k ≡ length ds = omega (arith, f .least j k m, m .within) in

@@ -34,7 +34,7 @@ visited-mem ps m = ⊎-elim (λ n. absurd (List·Memᴰ·not-nil n)) (λ n. n) (
 pub length-visited-le : (ps : List Corner) → length (visitedOf ps) ≤ length ps
 length-visited-le ps = pigeon (visitedOf ps) ps (visited-distinct ps) (λ a m. visited-mem ps m)
 
--- and as many, n + 1, where nothing meets
+-- and as many, n + 1, if nothing meets
 pub visited-meetless : (c : Corner) (ds : List ℕ) → ((j k : ℕ) → Meets c ds j k → ⊥) → length (visitedOf (cornersFrom c ds)) ≡ suc (length ds)
 visited-meetless c ds f =
     ap length (gather-distinct same same-sound same-refl [] (cornersFrom c ds) (corners-distinct c ds (none-meetingOf c ds f)))

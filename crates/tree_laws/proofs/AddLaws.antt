@@ -230,7 +230,7 @@ module _ (ns : List Corner) (N : Corner → ℕ) (s : ℕ) (e : Corner) where
           rw (p, u, v)
       go false p = rw (path-any, p, or-nothing (any (same x) (pathOf (parentOf e))))
 
--- where the parent of e is in use, e alone is needed
+-- if the parent of e is in use, e alone is needed
 pub needed-child : (ns : List Corner) → ((c : Corner) → List·Memᴰ c ns → isRoot c ≡ false → List·Memᴰ (parentOf c) ns) → (N : Corner → ℕ) (s : ℕ) (e : Corner)
     → isRoot e ≡ false → List·Memᴰ (parentOf e) ns → (List·Memᴰ e ns → ⊥) → (x : Corner) → needed ns N s e x ≡ cond (same x e) s (N x)
 needed-child ns closed N s e h m f x = needed-step ns N s e h f x ∙ ap (λ (n : ℕ). cond (same x e) s n) (needed-known ns N s (parentOf e) closed m x)

@@ -108,7 +108,7 @@ module _ (ns : List Corner) (L : Corner → Corner → ℕ) (good : WellLinked n
   pub root-known : List·Memᴰ root ns
   root-known = rw (good .root .1) (List·Memᴰ·head refl)
 
-  -- where a and e are linked, a pair that is a and e is linked, and where they are not, it is not
+  -- if a and e are linked, a pair that is a and e is linked, and if they are not, it is not
   joins-linked : (x y a e : Corner) → joins x y (a, e) ≡ true → L x y ≡ L a e
   joins-linked x y a e h = ⊎-elim (λ p. ap₂ L (sym (p .0)) (sym (p .1))) (λ p. ap₂ L (sym (p .1)) (sym (p .0)) ∙ good .both e a) (joins-cases x y a e h)
 

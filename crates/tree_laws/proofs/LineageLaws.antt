@@ -81,7 +81,7 @@ links-same x y p f = go (links x y (p, p)) refl
     go true e = absurd (links-ind (λ a b. a ≡ b → ⊥) x y (λ a b h g. ⊎-elim (λ q. f (sym (q .0) ∙ g ∙ q .1)) (λ q. f (sym (q .1) ∙ sym g ∙ q .0)) (joins-cases x y a b h)) (λ a b h i k g. k (ap parentOf g)) p p e refl)
     go false e = e
 
--- the two nodes are no farther out than the ends
+-- the two nodes are not farther out than the ends
 pub links-size : (x y a e : Corner) → links x y (a, e) ≡ true → sizeOf x + sizeOf y ≤ sizeOf a + sizeOf e
 links-size x y =
     links-ind (λ a e. sizeOf x + sizeOf y ≤ sizeOf a + sizeOf e) x y

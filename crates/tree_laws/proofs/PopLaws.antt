@@ -129,7 +129,7 @@ module _ (ns : List Corner) (closed : (c : Corner) → List·Memᴰ c ns → isR
   pub drop-stop : (e : Corner) → (needed ns N s e e ≡ s → ⊥) → (gather same ns (pathOf e) ≡ ns) × ((x : Corner) → needed ns N s e x ≡ N x)
   drop-stop e f = let m = need-old e f in (nodes-known ns closed e m, needed-known ns N s e closed m)
 
-  -- a new node is no root, and is the last of the nodes
+  -- a new node is not the root, and is the last of the nodes
   pub drop-root : (e : Corner) → needed ns N s e e ≡ s → isRoot e ≡ false
   drop-root e h = go (isRoot e) refl
     where

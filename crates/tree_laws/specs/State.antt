@@ -1,4 +1,4 @@
--- What the table holds at any moment, also in the middle of a step: the nodes, and the words of a node that are no refs.
+-- What the table holds at any moment, also in the middle of a step: the nodes, and the words of a node that are not refs.
 -- Assumes nothing.
 use mathlib.Core.Bool.{Bool, true, false, cond, not, _&&_}
 use mathlib.Core.List.{List, [], _∷_, _++_, List·Memᴰ}
@@ -29,7 +29,7 @@ abbrev pub linkPut : (Corner → Corner → ℕ) → ℕ → Corner → Corner �
 linkPut L s a e x y = cond (joins x y (a, e)) s (L x y)
 
 -- what holds of the nodes and the link steps at every moment: the root is first, the parents are there and come before, no
--- node stands twice, a link's ends are nodes, it stands both ways, and the parents, where they differ, are linked too
+-- node stands twice, a link's ends are nodes, it stands both ways, and the parents, if they differ, are linked too
 pub record WellLinked (ns : List Corner) (L : Corner → Corner → ℕ) : Type 0 where
   pub root : (r : List Corner) × (ns ≡ root ∷ r)
   pub closed : (c : Corner) → List·Memᴰ c ns → isRoot c ≡ false → List·Memᴰ (parentOf c) ns
@@ -147,7 +147,7 @@ Agree M K = (x y : Corner) → (x ≡ y → ⊥) → M x y ≡ K x y
 abbrev pub Unlinking : (Corner → Corner → ℕ) → ℕ → Corner → ℕ → (Corner → Corner → ℕ) → Corner → Type 0
 Unlinking L s z d M at = Agree M L ⊎ (Agree M (linked L s at (stepped d at)) × List·Memᴰ (stepped d at) (pathOf z))
 
--- ---- what a step from a to its neighbour e changes, where the nodes are ns and the link steps L before it
+-- ---- what a step from a to its neighbour e changes, if the nodes are ns and the link steps L before it
 -- the link of the parents is made too: neither is the root, the parents differ, and they had no link
 abbrev pub linksUp : (Corner → Corner → ℕ) → Corner → Corner → Bool
 linksUp L a e = not (isRoot a) && not (isRoot e) && not (same (parentOf a) (parentOf e)) && eqb (L (parentOf a) (parentOf e)) 0
@@ -160,8 +160,8 @@ isFresh ns e = not (any (same e) ns)
 abbrev pub but : Corner → Corner → List Corner
 but x y = cond (same x y) [] (x ∷ [])
 
--- the nodes above a and e whose records change, in at most k levels: the ends of the links that are made there, each left out
--- where it is the other end of the level below, and the parent of the topmost node that is made
+-- the nodes above a and e whose records change, in at most k levels: the ends of the links that are made there, each left out if
+-- it is the other end of the level below, and the parent of the topmost node that is made
 abbrev pub risenBy : (Corner → Corner → ℕ) → List Corner → ℕ → Corner → Corner → List Corner
 risenBy L ns zero a e = []
 risenBy L ns (suc k) a e =
@@ -177,7 +177,7 @@ pub record Alike (S T : State) : Type 0 where
   pub first : (x : Corner) → S .first x ≡ T .first x
   pub edges : (x y : Corner) → S .edges x y ≡ T .edges x y
 
--- a state that may stand in the table: its links are good, what is no node has no visits, no step needs it and no edge of it
+-- a state that may stand in the table: its links are good, what is not a node has no visits, no step needs it and no edge of it
 -- was walked, the visited nodes are those with a first visit, and an edge has one count at both its ends
 pub record Sound (S : State) : Type 0 where
   pub good : WellLinked (S .nodes) (S .step)
@@ -225,7 +225,7 @@ abbrev pub rowsBy : {A : Type 0} → (A → List ℕ) → List A → List ℕ
 rowsBy R [] = []
 rowsBy R (a ∷ l) = R a ++ rowsBy R l
 
--- so many words: these, then zeros
+-- this many words: these, then zeros
 abbrev pub filled : ℕ → List ℕ → List ℕ
 filled words rs = rs ++ replicate (words - length rs) 0
 
@@ -248,13 +248,13 @@ pub record DropAt (words : ℕ) (S : State) (s : ℕ) (t : List ℕ) (left u : �
   pub here : refOf (gather same (S .nodes) (pathOf h)) h ≡ suc u
   pub room : width * left ≤ words
 
--- what a lookup makes of the table (t), answering the ref `at` of the node e and the number of nodes: the state T, if there is
--- room for it
+-- what a lookup makes of the table (t), answering the ref `at` of the node e and the number of nodes: the state T, if the table
+-- is large enough
 pub record Made (words : ℕ) (T : State) (e : Corner) (t : List ℕ) (at nodes : ℕ) : Type 0 where
   pub fits : width * length (T .nodes) ≤ words → (t ≡ tableBy words T) × (at ≡ refOf (T .nodes) e) × (nodes ≡ length (T .nodes))
   pub full : words < width * length (T .nodes) → at ≡ 0
 
--- a table that holds a state, with so many nodes in use
+-- a table that holds a state, with this many nodes in use
 pub record Holds (t : List ℕ) (n : ℕ) (S : State) : Type 0 where
   pub sound : Sound S
   pub table : t ≡ tableBy (length t) S

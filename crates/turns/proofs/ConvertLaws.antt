@@ -64,7 +64,7 @@ all-done way ds out a i h b s =
     let r : convertFrom way a (drop i ds) ≡ [] = ap (convertFrom way a) (drop-of-length-le ds h) ∙ from-nil way a in
     sym (append-nil out) ∙ sym (ap₂ (λ (k l : List ℕ). k ++ l) t r) ∙ s .left ∙ from-east way ds b
 
--- the whole call: written where the judgement is good, left as it was where it is not
+-- the whole call: written if the judgement is good, left as it was if it is not
 pub converted : (convert : List ℕ → List ℕ) (ds out out′ : List ℕ) (r : Judged) → r ≡ turnsJudged ds (length out) → r ≡ Good → out′ ≡ convert ds → ConvertedBy convert ds out r out′
 converted convert ds out out′ r e g w = record { answer = e; buffer = w ∙ ap (λ (j : Judged). writtenIf j (convert ds) out) (sym g ∙ e) }
 

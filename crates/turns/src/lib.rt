@@ -56,7 +56,7 @@ fn fault(digits: &[u8]) -> Judged
     Judged::Good
 }
 
-// The same, in one pass without a test where there is none.
+// The same, but bytes are looked at one by one only if something is wrong.
 fn judge_digits(digits: &[u8]) -> Judged
     ensures { λ r. ⌜ r ≡ digitsJudged 0 (now (digits .entry)) ⌝ }
 {
@@ -67,13 +67,13 @@ fn judge_digits(digits: &[u8]) -> Judged
 }
 
 // Refuses too many digits, then a buffer of another length, then the first digit above 3.
-fn judge(digits: &[u8], room: usize) -> Judged
-    ensures { λ r. ⌜ r ≡ turnsJudged (now (digits .entry)) room ⌝ }
+fn judge(digits: &[u8], size: usize) -> Judged
+    ensures { λ r. ⌜ r ≡ turnsJudged (now (digits .entry)) size ⌝ }
 {
     if digits.len() > Limits::MOST_INPUT {
         return Judged::Refused(Refusal::TooMany);
     }
-    if room != digits.len() {
+    if size != digits.len() {
         return Judged::Refused(Refusal::ResultRoom);
     }
     judge_digits(digits)
@@ -95,7 +95,7 @@ fn write(way: Way, digits: &[u8], out: &mut [u8])
     }
 }
 
-// The digits converted, in a buffer of their number. Refuses 1, 3 and 4.
+// The digits converted, in a buffer of the same length. Refuses 1, 3 and 4.
 pub fn convert(way: Way, digits: &[u8], out: &mut [u8]) -> Judged
     ensures { λ r. ⌜ ConvertedBy (convertOf way) (now (digits .entry)) (now (out .entry)) r (now (out .exit)) ⌝ }
 {

@@ -48,38 +48,38 @@ pub record HullGives (c : Corner) (chain : List ℕ) (before : List ℤ) (n : �
   pub result : n ≡ countedNumber answer
 
 -- the outline's
-pub record OutlineGives (s : Corner) (chain before : List ℕ) (n : ℕ) (after words : List ℕ) : Type 0 where
+pub record OutlineGives (c : Corner) (chain before : List ℕ) (n : ℕ) (after words : List ℕ) : Type 0 where
   pub answer : Counted
-  pub written : OutlineCall s chain before answer after
+  pub written : OutlineCall c chain before answer after
   pub words-are : words ≡ countedWords answer
   pub result : n ≡ countedNumber answer
 
 -- that of a room that is written as a polygon
-pub record PolygonGives (s : Corner) (chain before : List ℕ) (n : ℕ) (after words : List ℕ) : Type 0 where
+pub record PolygonGives (c : Corner) (chain before : List ℕ) (n : ℕ) (after words : List ℕ) : Type 0 where
   pub answer : Counted
-  pub written : PolygonCall s chain before answer after
+  pub written : PolygonCall c chain before answer after
   pub words-are : words ≡ countedWords answer
   pub result : n ≡ countedNumber answer
 
 -- that of a room that is listed by rows
-pub record RowsGives (s : Corner) (chain : List ℕ) (before : List ℤ) (n : ℕ) (after : List ℤ) (words : List ℕ) : Type 0 where
+pub record RowsGives (c : Corner) (chain : List ℕ) (before : List ℤ) (n : ℕ) (after : List ℤ) (words : List ℕ) : Type 0 where
   pub answer : Counted
-  pub listed : RowsCall s chain before answer after
+  pub listed : RowsCall c chain before answer after
   pub words-are : words ≡ countedWords answer
   pub result : n ≡ countedNumber answer
 
 -- that of two rooms that are laid over each other
-pub record OverlayGives (s : Corner) (chain : List ℕ) (t : Corner) (steps : List ℕ) (before : Part → List ℤ) (n : ℕ)
+pub record OverlayGives (c : Corner) (chain : List ℕ) (e : Corner) (steps : List ℕ) (before : Part → List ℤ) (n : ℕ)
     (after : Part → List ℤ) (words : List ℕ) : Type 0 where
   pub answer : Overlaid
-  pub laid : OverlayCall s chain t steps before answer after
+  pub laid : OverlayCall c chain e steps before answer after
   pub words-are : words ≡ overlaidWords answer
   pub result : n ≡ overlaidNumber answer
 
 -- that of the question whether a room is convex
-pub record ConvexGives (s : Corner) (chain : List ℕ) (n : ℕ) (words : List ℕ) : Type 0 where
+pub record ConvexGives (c : Corner) (chain : List ℕ) (n : ℕ) (words : List ℕ) : Type 0 where
   pub answer : Counted
-  pub told : ConvexCall s chain answer
+  pub told : ConvexCall c chain answer
   pub words-are : words ≡ countedWords answer
   pub result : n ≡ countedNumber answer
 

@@ -168,7 +168,7 @@ pub extern "C" fn undrwyth_overlay(
     words[0]
 }
 
-// Tells whether a room is convex.
+// Says whether a room is convex.
 #[no_mangle]
 pub extern "C" fn undrwyth_convex(
     start_x: i32,

@@ -158,7 +158,7 @@ pub fn pair_answer_words(a: PairAnswer) -> [u32; 19]
     }
 }
 
-// The numbers of the answer of a call that lists.
+// The numbers of the answer of a call that counts.
 pub fn counted_words(c: Counted) -> [u32; 3]
     requires { ⌜ CountedFits c ⌝ }
     ensures { λ w. ⌜ w ≡ countedWords c ⌝ }

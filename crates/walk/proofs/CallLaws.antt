@@ -57,7 +57,7 @@ walk-refused c os t ms ch r e =
 starts : (c : Corner) → 0 < length (nodesOf (cornersFrom c []))
 starts c = let h = nodesOf-first c [] in omega (arith, ap length (h .1))
 
--- no room for it: refused before the first operation, and the table is cleared
+-- the table is too small for it: refused before the first operation, and the table is cleared
 pub planted-full : (words : ℕ) (c : Corner) (os t : List ℕ) (r : ℕ) → Planted words c t r → r ≡ 0 → (roomFrom (recordsIn words) c 0 [] os ≡ Refused (NoRoom 0)) × (t ≡ replicate words 0)
 planted-full words c os t r k e = elim (decLt words (width * n)) [
   | yes h ↦ (room-full (recordsIn words) c 0 [] os (over words n h), k .full h .1)
@@ -113,7 +113,7 @@ followed-all c os t ms ch t′ ms′ ch′ w f k h q e l g = record {
   chain = h ∙ sym (ap (λ (x : Judged). bufferBy x (chainOf os) ch) e);
 }
 
--- "no room" is all that the room can decide
+-- "no room" is all that the size of the table can decide
 abbrev RoomAlone : Judged → Type 0
 RoomAlone j = (j ≡ Good) ⊎ ((i : ℕ) × (j ≡ Refused (NoRoom i)))
 
@@ -129,7 +129,7 @@ room-cases : (r : ℕ) (c : Corner) (k : ℕ) (ds os : List ℕ) → RoomAlone (
 room-cases r c k ds [] = room-when (ltb r (length (nodesOf (cornersFrom c ds)))) (pred k)
 room-cases r c k ds (o ∷ os) = room-or (roomAt r c k ds) (roomFrom r c (suc k) (operate ds o) os) (room-when (ltb r (length (nodesOf (cornersFrom c ds)))) (pred k)) (room-cases r c (suc k) (operate ds o) os)
 
--- what was there before does not matter, but for its length
+-- what was there before does not matter, apart from its length
 room-buffer : (j : Judged) (new old old′ : List ℕ) → length old ≡ length old′ → RoomAlone j → bufferBy j new old ≡ bufferBy j new old′
 room-buffer j new old old′ l (inl e) = rw e
 room-buffer j new old old′ l (inr e) = rw (e .1) (ap (λ (n : ℕ). replicate n 0) l)

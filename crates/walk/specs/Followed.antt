@@ -11,7 +11,7 @@ use Rattle.layout.specs.Marks.{marksOf, chainOf}
 use Rattle.layout.specs.Table.{recordsIn, tableOf}
 use Rattle.steps.specs.Operations.{survivors}
 
--- what operations with no fault leave, from the start c: the room decides
+-- what operations with no fault leave, from the start c: the size of the table decides
 pub record Followed (c : Corner) (os t ms ch : List ℕ) (r : Answer) (t′ ms′ ch′ : List ℕ) : Type 0 where
   pub answer : r ≡ answerBy (roomFrom (recordsIn (length t)) c 0 [] os) (factsOf c (survivors os))
   pub table : t′ ≡ bufferBy (roomFrom (recordsIn (length t)) c 0 [] os) (tableOf (length t) c (survivors os)) t

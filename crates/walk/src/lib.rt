@@ -64,10 +64,10 @@ fn set_out(start: Corner, ops: &[u8], t: &mut [u32], marks: &mut [u32], chain: &
     go_on(start, at - 1, ops, t, marks, chain)
 }
 
-// Follows the operations from start. If they are refused, the buffers are untouched, but all zero where there is no room. Else
-// the table t holds the records of the nodes in use, then zeros; the marks, three words an operation, hold the nodes in use and
-// the visits at the corner stood on after it, and how many records it changed; and the chain holds the surviving steps, then
-// zeros.
+// Follows the operations from start. If they are refused, the buffers are untouched, but all zero if the table is too small.
+// Otherwise the table t holds the records of the nodes in use, then zeros; the marks, three words for each operation, hold the
+// nodes in use and the visits at the corner stood on after it, and how many records it changed; and the chain holds the surviving
+// steps, then zeros.
 pub fn follow(
     start: Corner,
     ops: &[u8],
@@ -86,7 +86,7 @@ pub fn follow(
     set_out(start, ops, t, marks, chain)
 }
 
-// The same where the table is all zero, and need not be cleared.
+// The same if the table is all zero, and need not be cleared.
 pub fn follow_clear(
     start: Corner,
     ops: &[u8],

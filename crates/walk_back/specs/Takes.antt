@@ -12,7 +12,7 @@ use Rattle.lists.specs.Lists.{gather}
 use Rattle.tree_laws.specs.State.{State, Sound, UnlinkAt, DropAt}
 use Rattle.table_laws.specs.Model.{unsetIn}
 
--- u is a node in the table, and so is its neighbour in the direction d where the two are linked
+-- u is a node in the table, and so is its neighbour in the direction d if the two are linked
 pub record Joined (t : List ℕ) (u d : ℕ) : Type 0 where
   pub here : HasRecord t u
   pub way : d < 4

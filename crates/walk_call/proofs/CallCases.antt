@@ -16,7 +16,7 @@ use Rattle.layout.specs.Marks.{markWords}
 use Rattle.layout.specs.Table.{width}
 use Rattle.walk_call.specs.Walk.{tableFits, walkJudged, walkAnswer, factsOf, bufferBy}
 
--- the judgement with so many records, and marks and a chain of the lengths asked
+-- the judgement with this many records, and marks and a chain of the lengths asked
 abbrev judgedIn : ℕ → List ℕ → Judged
 judgedIn records os = walkJudged origin os (width * records) (markWords * length os) (length os)
 
@@ -57,7 +57,7 @@ start-before-digits = refl
 farthest-start : walkJudged (corner (pos 16384) (negsuc 16383)) [] (width * 400) 0 0 ≡ Good
 farthest-start = refl
 
--- 7 before the first operation, at place 0, where the start and its ancestors have no room; 4, 5 and 6 come before it
+-- 7 before the first operation, at place 0, if the table is too small for the start and its ancestors; 4, 5 and 6 come before it
 start-without-room : walkJudged (corner (pos 3) (negsuc 1)) [] (width * 2) 0 0 ≡ Refused (NoRoom 0)
 start-without-room = refl
 
@@ -74,7 +74,7 @@ digits-before-room = refl
 nothing-before-room : judgedIn 1 (0 ∷ 4 ∷ 4 ∷ []) ≡ Refused (NothingToTake 2)
 nothing-before-room = refl
 
--- 7 at the first place after which the nodes needed exceed the records, also where a take-back would mend it
+-- 7 at the first place after which the nodes needed exceed the records, also if a take-back would mend it
 first-without-room : judgedIn 2 (0 ∷ 0 ∷ 4 ∷ []) ≡ Refused (NoRoom 1)
 first-without-room = refl
 

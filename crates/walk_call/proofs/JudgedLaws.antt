@@ -1,4 +1,4 @@
--- The judgement of the input and then of the room, and what an input that is not refused has.
+-- The judgement of the input and then of the size of the table, and what an input that is not refused has.
 -- Assumes nothing.
 use mathlib.Core.Bool.{true, not, _&&_}
 use mathlib.Core.List.{List, []}
@@ -21,7 +21,7 @@ use Rattle.answer.proofs.StartLaws.{fits-near}
 use Rattle.walk_call.specs.Walk.{tableFits, inputJudgements, roomFrom, walkJudged}
 use Rattle.walk_call.proofs.CallCases as cases
 
--- the room decides last
+-- the size of the table decides last
 pub judged-split : (c : Corner) (os : List ℕ) (w m k : ℕ) → walkJudged c os w m k ≡ orElse (firstOf (inputJudgements c os w m k)) (roomFrom (recordsIn w) c 0 [] os)
 judged-split c os w m k = firstOf-last (inputJudgements c os w m k) (roomFrom (recordsIn w) c 0 [] os)
 

@@ -1,6 +1,5 @@
--- Refusal 7: room for all of a walk is room at each step, and after the last operation there was room. So the surviving steps
--- of an accepted record are accepted alone.
--- Assumes nothing.
+-- Refusal 7: a table that is large enough for all of a walk is large enough at each step, and after the last operation it was. So
+-- the surviving steps of an accepted record are accepted alone. Assumes nothing.
 use mathlib.Core.Bool.{false}
 use mathlib.Core.List.{List, [], _∷_, _++_, append-assoc, append-nil}
 use mathlib.Core.Path.{_≡_, refl, ap, _∙_}

@@ -100,7 +100,7 @@ walk-placed c os w m k = go (ltb mostInput (length os)) refl
     go true e = rw e (omega arith)
     go false e = rw e (rest (ltb-false mostInput (length os) e))
 
--- the facts of a walk of so many steps
+-- the facts of a walk of this many steps
 pub record FewSeen (c : Corner) (ds : List ℕ) : Type 0 where
   pub steps : length ds ≤ mostSteps
   pub corners : length (visitedOf (cornersFrom c ds)) ≤ suc mostSteps

@@ -74,8 +74,7 @@ answerBy (Refused r) f = Answer.Refused r
 abbrev pub walkAnswer : Corner → List ℕ → ℕ → ℕ → ℕ → Answer
 walkAnswer c os words marks chain = answerBy (walkJudged c os words marks chain) (factsOf c (survivors os))
 
--- a buffer after the call: written if accepted; after a refusal all zero where it is "no room", and untouched where it is any
--- other
+-- a buffer after the call: written if accepted; after a refusal all zero if it is "no room", and untouched if it is any other
 abbrev pub bufferBy : Judged → List ℕ → List ℕ → List ℕ
 bufferBy Good new old = new
 bufferBy (Refused r) new old = cond (eqb (refusalNumber r) (refusalNumber (NoRoom 0))) (replicate (length old) 0) old

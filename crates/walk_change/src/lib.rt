@@ -38,7 +38,7 @@ fn links_up(t: &[u32], u: usize, d: usize, step: u32) -> bool
     word(t, up - 1, Record::LINK_STEP + d) == step
 }
 
-// The two nodes of one level, and how many of them are no end of the level below.
+// The two nodes of one level, and how many of them are not an end of the level below.
 struct Level {
     u: usize,
     v: usize,
@@ -62,7 +62,7 @@ fn rise(t: &[u32], u: usize, v: usize, d: usize) -> Level
     }
 }
 
-// 1 where the step made the node v, and the parent of v is not u.
+// 1 if the step made the node v, and the parent of v is not u.
 fn above_made(t: &[u32], u: usize, v: usize, step: u32) -> u32
     requires { ⌜ HasRecord (now t) v × (u < 2 ^ 32) ⌝ }
     ensures { λ r. ⌜ r ≡ tally (eqb (getD (now (t .entry)) (wordAt v needWord) 0) step

@@ -33,6 +33,6 @@ either true y k f g = ap not (f refl)
 either false true k f g = ap not (g refl)
 either false false k f g = refl
 
--- the parents alone tell it
+-- the parents alone show it
 pub parents-tell : (d : ℕ) (c : Corner) → not (same (parentOf c) (parentOf (stepped d c))) ≡ partedBy d c
 parents-tell d c = either (isRoot (stepped d c)) (isRoot c) (same (parentOf c) (parentOf (stepped d c))) (to-root d c) (from-root d c)

@@ -22,7 +22,7 @@ pub fn parent_of(c: Corner) -> Corner
     Corner(half_of(c.0), half_of(c.1))
 }
 
-// The i-th parent of c, where the root is its own.
+// The i-th parent of c; the root is its own parent.
 pub fn up_by(c: Corner, i: usize) -> Corner
     ensures { λ r. ⌜ r ≡ upBy i c ⌝ }
 {
@@ -35,7 +35,7 @@ pub fn up_by(c: Corner, i: usize) -> Corner
     at
 }
 
-// 1 where the first alone holds, -1 where the second alone does.
+// 1 if only the first holds, -1 if only the second does.
 fn difference(a: bool, b: bool) -> i32
     ensures { λ r. ⌜ r ≡ differenceOf a b ⌝ }
 {
@@ -121,7 +121,7 @@ pub fn alike(a: Corner, b: Corner) -> bool
     true
 }
 
-// Whether neither c nor its neighbour in the direction d is the root, and their parents differ. The parents alone tell it: those
+// Whether neither c nor its neighbour in the direction d is the root, and their parents differ. The parents alone show it: those
 // of the root and of each neighbour of it are both the root.
 pub fn parted(c: Corner, d: u8) -> bool
     requires { ⌜ (natAbs (c .0) < 65536) × (natAbs (c .1) < 65536) ⌝ }

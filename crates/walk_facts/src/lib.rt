@@ -42,7 +42,7 @@ fn sweep(start: Corner, chain: &[u8], n: usize) -> i32
     sum
 }
 
-// The signed area of the first n steps: 0 where they are no room.
+// The signed area of the first n steps: 0 if they are not a room.
 fn area(start: Corner, chain: &[u8], n: usize, v: Verdict) -> i32
     requires { ⌜ Near start × (n ≤ length (now chain)) × (n ≤ mostSteps) ⌝ }
     ensures { λ r. ⌜ r ≡ areaBy v (sweepFrom start (take n (now (chain .entry)))) ⌝ }

@@ -11,7 +11,7 @@ ghost use Rattle.walk_call.specs.Walk.{tableFits};
 ghost use Rattle.steps.specs.Operations.{faultOf, operationsJudged, after, Fine};
 ghost use Rattle.walk_input.specs.Input.{inputJudged};
 
-// What is wrong with the operation at place i, where so many steps survive.
+// What is wrong with the operation at place i, if this many steps survive.
 pub fn fault(op: u8, steps: usize, i: usize) -> Judged
     ensures { λ r. ⌜ r ≡ faultOf i steps op ⌝ }
 {

@@ -1,4 +1,4 @@
--- A lookup that found no room promises nothing of its table, so that any table may be left.
+-- A lookup that found the table full promises nothing about it, so that any table may be left.
 -- Assumes nothing.
 use mathlib.Core.List.{List}
 use mathlib.Core.Path.{_≡_, refl}

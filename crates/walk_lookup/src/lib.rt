@@ -1,6 +1,6 @@
 // The neighbour of a node, found or made: a loop climbs to the parents until a link, the root or a shared parent is found, and a
-// loop comes down again. Nothing here calls itself. A node is answered by its ref, 0 if there was no room; so many nodes are in
-// use then as the greater of how many there were and that ref, since a node that is made is the last one.
+// loop comes down again. Nothing here calls itself. The answer is the node's ref, or 0 if the table is full. Afterwards the
+// number of nodes in use is the larger of the old number and that ref, because a new node is always the last.
 ghost use mathlib.Core.Path.{_≡_};
 ghost use mathlib.Core.Bool.{false, cond};
 ghost use Prim.Native.Nat.{suc, _+_, _^_, _<_, max};
@@ -83,7 +83,7 @@ fn climb(t: &[u32], nodes: usize, u: usize, c: Corner, d: u8) -> Perch
     Perch { node, at, level }
 }
 
-// The ref of the parent of u, which stands for c; that of u itself where c is the root.
+// The ref of the parent of u, which stands for c; that of u itself if c is the root.
 fn parent_or_self(t: &[u32], u: usize, c: Corner) -> usize
     requires { ⌜ HasRecord (now t) u × (u < 2 ^ 32) ⌝ }
     ensures { λ r. ⌜ r ≡ cond (isRoot c) (u + 1) (getD (now (t .entry)) (wordAt u parentWord) 0) ⌝ }
@@ -121,7 +121,7 @@ fn top(t: &mut [u32], nodes: usize, u: usize, c: Corner, d: u8, step: u32) -> us
     v
 }
 
-// Down again to the neighbour of c, from that of the node u so many levels above c, whose ref is v. The node of a level is read
+// Down again to the neighbour of c, from that of the node u this many levels above c, whose ref is v. The node of a level is read
 // in the record of the one above, its corner worked out from c.
 fn come_down(
     t: &mut [u32],
@@ -177,7 +177,7 @@ fn neighbour(t: &mut [u32], nodes: usize, u: usize, c: Corner, d: u8, step: u32)
     come_down(t, nodes, p.node, v, c, d, step, p.level)
 }
 
-// The neighbour as `neighbour` finds it, in one read where the two are linked. If there is no room, the table is left all zero.
+// The neighbour as `neighbour` finds it, in one read if the two are linked. If the table is full, it is left all zero.
 pub fn reach(t: &mut [u32], nodes: usize, u: usize, c: Corner, d: u8, step: u32) -> usize
     requires { ⌜ Stood (now t) nodes u c ⌝ }
     requires { ⌜ (natAbs (c .0) < 65536) × (natAbs (c .1) < 65536) × (d < 4) × (0 < step) × (length (now t) < 2 ^ 32) ⌝ }

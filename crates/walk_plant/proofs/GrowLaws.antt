@@ -100,7 +100,7 @@ module _ (words : ℕ) (c : Corner) (t : List ℕ) (left nodes : ℕ) (k : Growi
     size : length (T .nodes) ≡ length (pathOf e)
     size = ap length nodes-are
 
-    -- no room for a part of the path is no room for the whole
+    -- a table that is too small for a part of the path is too small for the whole
     pub growing-full : r ≡ 0 → words < width * length (pathOf c)
     growing-full z = elim (decLt words (width * length (T .nodes))) [
       | yes h ↦ omega (arith, size, path-up c left)

@@ -18,13 +18,13 @@ pub record Deep (c : Corner) (n : ℕ) : Type 0 where
   pub below : (j : ℕ) → j < n → isRoot (upBy j c) ≡ false
   pub few : n ≤ sizeOf c
 
--- the path of c with nothing on it, if there is room: r is the ref of c
+-- the path of c with nothing on it, if the table is large enough: r is the ref of c
 pub record Grown (words : ℕ) (c : Corner) (t : List ℕ) (r : ℕ) : Type 0 where
   pub fits : width * length (pathOf c) ≤ words → (t ≡ tableBy words (plantedOf c)) × (r ≡ length (pathOf c))
   pub full : words < width * length (pathOf c) → r ≡ 0
 
--- the table of the walk from c with no step, if there is room: r is the ref of c, and how many nodes there are; else a cleared
--- table
+-- the table of the walk from c with no step, if the table is large enough: r is the ref of c, and how many nodes there are; else
+-- a cleared table
 pub record Planted (words : ℕ) (c : Corner) (t : List ℕ) (r : ℕ) : Type 0 where
   pub fits : width * length (nodesOf (cornersFrom c [])) ≤ words
       → (t ≡ tableOf words c []) × (r ≡ length (nodesOf (cornersFrom c []))) × (r ≡ refOf (nodesOf (cornersFrom c [])) c)

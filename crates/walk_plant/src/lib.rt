@@ -22,8 +22,8 @@ pub fn depth(c: Corner) -> usize
     levels
 }
 
-// The nodes from the root down to c, in a table of zeros; no step needs them. Answers the ref of c, which is how many they are, 0
-// if there is no room.
+// The nodes from the root down to c, in a table of zeros; no step needs them. Answers the ref of c, which is how many there are,
+// or 0 if the table is too small.
 fn grow(t: &mut [u32], c: Corner) -> usize
     requires { ⌜ Near c × (now t ≡ replicate (length (now t)) 0) × (width ≤ length (now t)) × (length (now t) < 2 ^ 32) ⌝ }
     ensures { λ r. ⌜ Grown (length (now (t .entry))) c (now (t .exit)) r ⌝ }
@@ -41,7 +41,7 @@ fn grow(t: &mut [u32], c: Corner) -> usize
     nodes
 }
 
-// Makes a table of zeros that of the walk from c with no step. Answers the ref of c, 0 if there is no room: then the table is
+// Makes a table of zeros that of the walk from c with no step. Answers the ref of c, or 0 if the table is too small: then it is
 // cleared.
 pub fn plant(t: &mut [u32], c: Corner) -> usize
     requires { ⌜ Near c × (now t ≡ replicate (length (now t)) 0) × (width ≤ length (now t)) × (length (now t) < 2 ^ 32) ⌝ }

@@ -106,14 +106,14 @@ module _ (words : ℕ) (ms : List ℕ) (i : ℕ) (c : Corner) (t ch cs ds : List
   applied-to r v e h = subst (λ y. Applied words c t ch ds y) e h
 
   module _ (r : Moved) (v : Walk) (e : r ≡ Moved.To v) (h : Applied words c t ch ds r) where
-    -- where it was a step, the walk stands at the end of it
+    -- if it was a step, the walk stands at the end of it
     pub applied-step : (o : ℕ) → Fine (length cs) o → ds ≡ operate cs o → StepDone t (v .spot) o
     applied-step o f q n =
         let g = applied-to r v e h .0 in
         let l = fine-step (length cs) o f n in
         (record { start = c; chain = cs; walked = subst (λ (l : List ℕ). Walked t c l (v .spot)) (q ∙ operate-step cs o (l .0)) (g .known .walked) }, l .0, omega (arith, chained-few c t ch ds v g))
 
-    -- what is told of it is the number of records that differ
+    -- what is answered for it is the number of records that differ
     pub applied-tells : (o b n : ℕ) → Fine (length cs) o → ds ≡ operate cs o → (o ≡ 4 → b ≡ changesOf c cs (operate cs o)) → Tells t (v .spot) o b n → n ≡ changesOf c cs ds
     applied-tells o b n f q z told = go (eqb o 4) refl
       where

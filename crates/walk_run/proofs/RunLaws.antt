@@ -71,11 +71,11 @@ module _ (words : ℕ) (c : Corner) (ops t ms ch : List ℕ) (w : Walk) (i : ℕ
     next = λ f. omega (arith, k .few, k .chained .known .walked .steps);
   }
 
-  -- there was room so far
+  -- the table was large enough so far
   went : roomFrom (recordsIn words) c 0 [] ops ≡ roomFrom (recordsIn words) c (suc i) (operate (k .steps) (getD ops i 0)) (drop (suc i) ops)
   went = k .room ∙ ap (λ (l : List ℕ). roomFrom (recordsIn words) c i (k .steps) l) left ∙ room-fits (recordsIn words) c i (k .steps) (getD ops i 0) (drop (suc i) ops) (k .fits)
 
-  -- no room
+  -- the table is full
   pub running-full : (t′ ms′ ch′ : List ℕ) (r : Moved) → ((ds : List ℕ) → Chained c t ch ds w → Performed words ms i c t′ ms′ ch′ ds (operate ds (getD ops i 0)) r) → r ≡ Moved.Full → PerformedAll words c ops t′ ms′ ch′ (Ran.Full i)
   running-full t′ ms′ ch′ r f e =
       let h : (words < width * length (nodesOf (cornersFrom c (operate (k .steps) (getD ops i 0))))) × (t′ ≡ replicate words 0) = subst (λ y. Performed words ms i c t′ ms′ ch′ (k .steps) (operate (k .steps) (getD ops i 0)) y) e (f (k .steps) (k .chained)) in

@@ -27,7 +27,7 @@ pub record Chained (c : Corner) (t chain ds : List ℕ) (w : Walk) : Type 0 wher
   pub known : Known t c ds w
   pub own : ChainKeeps c chain ds
 
--- some walk for which the operation o is no fault, with room in the chain
+-- some walk for which the operation o is not a fault, with space in the chain
 pub record Ready (t chain : List ℕ) (w : Walk) (o : ℕ) : Type 0 where
   pub start : Corner
   pub steps : List ℕ
@@ -40,11 +40,11 @@ abbrev pub Applied : ℕ → Corner → List ℕ → List ℕ → List ℕ → M
 Applied words c t chain ds (Moved.To w) = Chained c t chain ds w × (length t ≡ words)
 Applied words c t chain ds Moved.Full = (words < width * length (nodesOf (cornersFrom c ds))) × (t ≡ replicate words 0)
 
--- where the operation o was a step, the walk stands at the end of it
+-- if the operation o was a step, the walk stands at the end of it
 abbrev pub StepDone : List ℕ → Spot → ℕ → Type 0
 StepDone t w o = (o ≡ 4 → ⊥) → Stepped t w o × (o < 4) × (w .steps < 65537)
 
--- how many records the operation o changed: so many as were told before a take-back, and as the step did otherwise
+-- how many records the operation o changed: as many as were counted before a take-back, and otherwise as many as the step changed
 abbrev pub Tells : List ℕ → Spot → ℕ → ℕ → ℕ → Type 0
 Tells t w o before r =
     (o ≡ 4 → r ≡ before)
@@ -64,7 +64,7 @@ PerformedAll words c ops t ms chain (Ran.All w) =
 PerformedAll words c ops t ms chain (Ran.Full i) =
     (roomFrom (recordsIn words) c 0 [] ops ≡ Refused (NoRoom i)) × (t ≡ replicate words 0)
 
--- the answer to all of them: the walk, with zeros behind its steps in the chain, or all three buffers zero
+-- the answer to all of them: the walk, with zeros after its steps in the chain, or all three buffers zero
 abbrev pub Ended : ℕ → Corner → List ℕ → List ℕ → List ℕ → List ℕ → Ran → Type 0
 Ended words c ops t ms chain (Ran.All w) =
     Chained c t chain (survivors ops) w × (chain ≡ chainOf ops) × (ms ≡ marksOf c ops)

@@ -20,7 +20,7 @@ use walk_table::Record;
 use walk_table::zero;
 use walk_table::zero_from;
 
-// The walk after all operations, or the place of the first for which the table has no room.
+// The walk after all operations, or the place of the first for which the table is too small.
 pub enum Ran {
     All(Walk),
     Full(usize),
@@ -60,7 +60,7 @@ fn taken(t: &[u32], chain: &[u8], w: Walk, op: u8) -> u32
     0
 }
 
-// How many records the operation changed: so many as were told before a take-back; a step is asked now.
+// How many records the operation changed: as many as were counted before a take-back; a step is counted now.
 fn told(t: &[u32], w: Spot, op: u8, before: u32) -> u32
     requires { ⌜ StepDone (now t) w op × (length (now t) < 2 ^ 32) ⌝ }
     ensures { λ r. ⌜ Tells (now (t .entry)) w op before r ⌝ }
@@ -71,7 +71,7 @@ fn told(t: &[u32], w: Spot, op: u8, before: u32) -> u32
     walk_change::changed(t, w, op)
 }
 
-// The mark at place i: the nodes in use, the visits at the corner stood on, and the records that changed.
+// The mark at place i: the nodes in use, the visits at the corner where the walk stands, and the records that changed.
 fn mark(t: &[u32], marks: &mut [u32], w: Spot, i: usize, changed: u32)
     requires { ⌜ (wordAt (w .node) visitsWord < length (now t)) × (markWords * i + 2 < length (now marks))
         × (w .nodes < 2 ^ 32) × (i < 2 ^ 32) ⌝ }
@@ -136,8 +136,8 @@ fn perform_all(
     Ran::All(w)
 }
 
-// All operations, in the table of the walk from start with no step, which stands at the node. Behind the surviving steps the
-// chain is cleared. If the table has no room, all three buffers are.
+// All operations, in the table of the walk from start with no step, which stands at the node. After the surviving steps the chain
+// is cleared. If the table is too small, all three buffers are.
 pub fn run(
     start: Corner,
     node: usize,

@@ -32,8 +32,8 @@ pub record Stepped (t : List ℕ) (w : Spot) (d : ℕ) : Type 0 where
   pub chain : List ℕ
   pub walked : Walked t start (chain ++ (d ∷ [])) w
 
--- the answer to a step, where ds are the steps with it: the walk stands there, or its nodes are more than the table has records,
--- and the table is left all zero
+-- the answer to a step, if ds are the steps with it: the walk stands there, or its nodes are more than the table has records, and
+-- the table is left all zero
 abbrev pub Went : ℕ → List ℕ → Corner → List ℕ → Gone → Type 0
 Went words t c ds (Gone.To w) = Walked t c ds w × (length t ≡ words)
 Went words t c ds Gone.Full = (words < width * length (nodesOf (cornersFrom c ds))) × (t ≡ replicate words 0)

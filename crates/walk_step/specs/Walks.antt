@@ -39,8 +39,8 @@ pub record Withdrawable (t : List ℕ) (w : Walk) (d : ℕ) : Type 0 where
   pub chain : List ℕ
   pub known : Known t start (chain ++ (d ∷ [])) w
 
--- the answer to a step, where ds are the steps with it: the walk stands there, or its nodes are more than the table has records,
--- and the table is left all zero
+-- the answer to a step, if ds are the steps with it: the walk stands there, or its nodes are more than the table has records, and
+-- the table is left all zero
 abbrev pub Advanced : ℕ → List ℕ → Corner → List ℕ → Moved → Type 0
 Advanced words t c ds (Moved.To w) = Known t c ds w × (length t ≡ words)
 Advanced words t c ds Moved.Full = (words < width * length (nodesOf (cornersFrom c ds))) × (t ≡ replicate words 0)

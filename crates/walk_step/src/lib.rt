@@ -36,7 +36,7 @@ pub struct Tally {
 }
 
 impl Tally {
-    // j and k where there is no meeting.
+    // j and k if there is no meeting.
     pub const NO_MEETING: usize = 65535;
 }
 

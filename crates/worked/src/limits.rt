@@ -63,7 +63,7 @@ fn east(n: usize, words: usize, marks: usize, chain: usize)
     walked(&ops[..n], &mut t[..words], &mut m[..marks], &mut c[..chain]);
 }
 
-// No record, a word too many and too few, a mark too few, a byte too many, no room; then the limits of length.
+// No record, a word too many and too few, a mark too few, a byte too many, a table that is too small; then the limits of length.
 pub(crate) fn all() {
     east(3, 0, 3 * Walk::MARK_WORDS, 3);
     east(3, Record::WORDS + 1, 3 * Walk::MARK_WORDS, 3);

@@ -1,4 +1,4 @@
-// Walks in a small table, one a line: a letter for the records of the table, a for 1 to l for 12, then the operations.
+// Walks in a small table, one on each line: a letter for the records of the table, a for 1 to l for 12, then the operations.
 use crate::show;
 use grid::Corner;
 use line_stream::line_end;

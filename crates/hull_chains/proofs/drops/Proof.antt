@@ -5,7 +5,7 @@ use native.Mathlib.Omega.{arith}
 use mathlib.Core.Path.{ap, ap₂, _∙_}
 use mathlib.Core.Bool.{not}
 use Prim.Native.Nat.{_+_}
-use Rattle.hull_laws.specs.Outline.{turnsAt}
+use Rattle.hull_laws.specs.Chain.{turnsAt}
 use Rattle.hull_laws.proofs.StackLaws.{drops-short, drops-long}
 use Rattle.hull_chains.proofs.drops.Statement.{statement}
 use Rattle.hull_chains.proofs.drops.Tie as tie

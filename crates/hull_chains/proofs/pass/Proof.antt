@@ -4,7 +4,7 @@ use borrow.Author.Needs.{needs}
 use native.Mathlib.Omega.{arith}
 use mathlib.Core.Path.{_≡_, refl, sym, _∙_}
 use Prim.Native.Nat.{_≤_}
-use Rattle.hull_laws.specs.Outline.{turnFrom}
+use Rattle.hull_laws.specs.Chain.{turnFrom}
 use Rattle.hull_laws.proofs.IdleLaws.{turn-none, turn-here, turn-next}
 use Rattle.hull_chains.proofs.pass.Statement.{statement}
 use Rattle.hull_chains.proofs.pass.Tie as tie

@@ -5,7 +5,7 @@ use native.Mathlib.Omega.{arith}
 use mathlib.Core.Path.{_≡_, refl, sym, _∙_}
 use Prim.Native.Nat.{_-_, _≤_}
 use lib.ListN.{length, drop}
-use Rattle.hull_laws.specs.Outline.{cutAt}
+use Rattle.hull_laws.specs.Chain.{cutAt}
 use Rattle.hull_laws.proofs.StackLaws.{drops-room, drops-next, push-front}
 use Rattle.hull_chains.proofs.push.Statement.{statement}
 use Rattle.hull_chains.proofs.push.Tie as tie

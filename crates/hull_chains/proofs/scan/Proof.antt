@@ -5,7 +5,7 @@ use native.Mathlib.Omega.{arith}
 use mathlib.Core.Path.{_≡_, refl, _∙_}
 use Prim.Native.Nat.{_+_, _-_, _≤_}
 use lib.ListN.{length, drop}
-use Rattle.hull_laws.specs.Outline.{chainFrom}
+use Rattle.hull_laws.specs.Chain.{chainFrom}
 use Rattle.hull_laws.proofs.StackLaws.{stack-columns, scan-none}
 use Rattle.hull_laws.proofs.IdleLaws.{next-lt, scan-next, scan-done}
 use Rattle.hull_chains.proofs.scan.Statement.{statement}

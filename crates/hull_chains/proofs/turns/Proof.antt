@@ -2,7 +2,7 @@
 -- Assumes nothing.
 use borrow.Author.Needs.{needs}
 use native.Mathlib.Omega.{arith}
-use Rattle.hull_laws.specs.Outline.{turnsAt}
+use Rattle.hull_laws.specs.Chain.{turnsAt}
 use Rattle.hull_chains.proofs.turns.Statement.{statement}
 use Rattle.hull_chains.proofs.turns.Tie as tie
 

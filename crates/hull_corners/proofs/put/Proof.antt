@@ -13,7 +13,7 @@ use mir.Val.{toZ, ofZ}
 use mir.Facts.{toZ-ofZ}
 use Rattle.grid.specs.declared.Corner.{Corner}
 use Rattle.grid.specs.Grid.{numbers}
-use Rattle.hull_laws.specs.Outline.{spotBy, colAt}
+use Rattle.hull_laws.specs.Chain.{spotBy, colAt}
 use Rattle.hull_laws.proofs.JoinLaws.{put-turn, put-end}
 use Rattle.hull_corners.proofs.put.Statement.{statement}
 use Rattle.hull_corners.proofs.put.Tie as tie

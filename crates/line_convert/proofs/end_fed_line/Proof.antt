@@ -1,4 +1,4 @@
--- `line_convert::end_fed_line` meets its contract: there is room for the line feed.
+-- `line_convert::end_fed_line` meets its contract: the buffer is long enough for the line feed.
 -- Assumes nothing.
 use mathlib.Core.Path.{refl}
 use mathlib.Core.List.{[], _∷_}

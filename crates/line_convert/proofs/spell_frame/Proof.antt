@@ -1,5 +1,5 @@
--- `line_convert::spell_frame` meets its contract: the kind, the count and the steps one after the other, for which there is room.
--- Assumes nothing.
+-- `line_convert::spell_frame` meets its contract: the kind, the count and the steps one after the other; the buffer is long
+-- enough. Assumes nothing.
 use native.Mathlib.Omega.{arith}
 use borrow.Author.Needs.{needs}
 use lib.ListN.{length, length-append}

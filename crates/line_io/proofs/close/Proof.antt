@@ -1,4 +1,4 @@
--- `line_io::close` meets its contract: the output has room.
+-- `line_io::close` meets its contract: the output is long enough.
 -- Assumes nothing.
 use mathlib.Core.Path.{sym}
 use native.Mathlib.Omega.{arith}

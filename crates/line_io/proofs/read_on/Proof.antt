@@ -1,4 +1,4 @@
--- `line_io::read_on` meets its contract: where the input is over, as many bytes are held as were.
+-- `line_io::read_on` meets its contract: if the input is over, as many bytes are held as were.
 -- Assumes nothing.
 use mathlib.Core.Path.{refl}
 use borrow.Author.Needs.{needs}

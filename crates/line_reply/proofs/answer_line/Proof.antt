@@ -7,7 +7,7 @@ use borrow.Author.Needs.{needs}
 use lib.ListN.{length}
 use Rattle.grid.specs.Grid.{origin}
 use Rattle.answer.specs.declared.Answer.the-variants.{Accepted, Refused}
-use Rattle.hull_laws.specs.Outline.{hullOf}
+use Rattle.hull_laws.specs.Chain.{hullOf}
 use Rattle.line_frame.specs.Spelled.{factsLine, hullLine}
 use Rattle.line_fields.specs.Put.{Wrote}
 use Rattle.line_room.proofs.WalkedLaws.{lineAnswer-walked}

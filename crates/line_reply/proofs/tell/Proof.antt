@@ -1,4 +1,4 @@
--- `line_reply::tell` meets its contract: an answer leaves room for its line feed.
+-- `line_reply::tell` meets its contract: an answer leaves space for its line feed.
 -- Assumes nothing.
 use mathlib.Core.Path.{refl}
 use mathlib.Core.List.{[], _∷_}

@@ -1,10 +1,10 @@
--- `line_reply::write_accepted` meets its contract: facts, count and corners one after the other, for which there is room.
+-- `line_reply::write_accepted` meets its contract: facts, count and corners one after the other; the buffer is long enough.
 -- Assumes nothing.
 use native.Mathlib.Omega.{arith}
 use borrow.Author.Needs.{needs}
 use Rattle.line_frame.proofs.HexLaws.{length-hexOf}
 use Rattle.grid.specs.Grid.{origin}
-use Rattle.hull_laws.specs.Outline.{hullOf}
+use Rattle.hull_laws.specs.Chain.{hullOf}
 use Rattle.line_frame.specs.Spelled.{factsLine}
 use Rattle.hull_laws.proofs.HullLaws.{length-hullOf}
 use Rattle.line_frame.proofs.SpelledLaws.{length-factsLine}

@@ -1,5 +1,5 @@
--- `line_rows::tell` meets its contract: the surviving steps of an accepted walk are told as a room, and a refused walk by its refusal.
--- Assumes nothing.
+-- `line_rows::tell` meets its contract: the surviving steps of an accepted walk are written as a room, and a refused walk as its
+-- refusal. Assumes nothing.
 use mathlib.Core.Path.{sym, ap, _∙_, subst}
 use mathlib.Core.List.{List}
 use Prim.Native.Nat.{ℕ}

@@ -1,4 +1,4 @@
--- `line_send::send` meets its contract: entries are numbered, all else stays as it is.
+-- `line_send::send` meets its contract: entries are numbered, everything else stays as it is.
 -- Assumes nothing.
 use mathlib.Core.Path.{sym, subst}
 use borrow.Author.Needs.{needs}

@@ -1,4 +1,4 @@
--- `line_stream::hold` meets its contract: the bytes copied so far stand behind those that were held.
+-- `line_stream::hold` meets its contract: the bytes copied so far stand after those that were held.
 -- Assumes nothing.
 use mathlib.Core.Path.{_≡_, refl, ap, _∙_}
 use Prim.Native.Nat.{_≤_, _+_, _-_}

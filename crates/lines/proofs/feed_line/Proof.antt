@@ -1,5 +1,5 @@
--- `lines::feed_line` meets its contract: what is written early and what is told of the bytes that are kept is what is written of the line.
--- Assumes nothing.
+-- `lines::feed_line` meets its contract: what is written early and what is written for the bytes that are kept is what is written
+-- of the line. Assumes nothing.
 use Prim.Native.Nat.{_-_}
 use native.Mathlib.Omega.{arith}
 use borrow.Author.Needs.{needs}

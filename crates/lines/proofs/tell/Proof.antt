@@ -1,4 +1,4 @@
--- `lines::tell` meets its contract: each task writes what it writes where a line ends.
+-- `lines::tell` meets its contract: each task writes what it writes at the end of a line.
 -- Assumes nothing.
 use mathlib.Core.Path.{sym, ap, _∙_, subst}
 use mathlib.Core.List.{List, []}

@@ -1,5 +1,5 @@
--- `lines::tell_end` meets its contract: a line of which nothing is held is read where it stands, any other is put together in the buffer.
--- Assumes nothing.
+-- `lines::tell_end` meets its contract: if nothing of the line was held, it is read in place; any other line is put together in
+-- the buffer. Assumes nothing.
 use mathlib.Core.Path.{_≡_, sym, ap, _∙_, subst}
 use mathlib.Core.List.{List, [], _++_}
 use Prim.Native.Nat.{ℕ, _+_, _-_, min}

@@ -1,4 +1,4 @@
--- `lines::tell_last` meets its contract: each task writes what it writes where the input ends.
+-- `lines::tell_last` meets its contract: each task writes what it writes at the end of the input.
 -- Assumes nothing.
 use mathlib.Core.Path.{sym, ap, _∙_, subst}
 use mathlib.Core.List.{List}

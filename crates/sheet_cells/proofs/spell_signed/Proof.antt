@@ -1,4 +1,4 @@
--- `sheet_cells::spell_signed` meets its contract: the bits tell whether there is a sign.
+-- `sheet_cells::spell_signed` meets its contract: the bits show whether there is a sign.
 -- Assumes nothing.
 use mathlib.Core.Path.{ap, _∙_, subst}
 use mathlib.Core.List.{List}

@@ -1,4 +1,4 @@
--- `sheet_entry::enter` meets its contract: what is said leaves room for its line feed.
+-- `sheet_entry::enter` meets its contract: what is said leaves space for its line feed.
 -- Assumes nothing.
 use native.Mathlib.Omega.{arith}
 use mathlib.Core.List.{[], _∷_}

@@ -1,4 +1,4 @@
--- `sheet_entry::enter_line` meets its contract: an accepted walk hands on its surviving steps.
+-- `sheet_entry::enter_line` meets its contract: an accepted walk passes on its surviving steps.
 -- Assumes nothing.
 use mathlib.Core.Path.{sym, subst}
 use mathlib.Core.List.{List}

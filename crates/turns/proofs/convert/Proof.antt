@@ -1,4 +1,4 @@
--- `turns::convert` meets its contract: the buffer is written where the judgement is good, and left as it was where it is not.
+-- `turns::convert` meets its contract: the buffer is written if the judgement is good, and left as it was if it is not.
 -- Assumes nothing.
 use mathlib.Core.Path.{sym, _∙_}
 use borrow.Author.Needs.{needs}

@@ -10,18 +10,18 @@ use Rattle.turns.proofs.judge.Tie as tie
 returns : tie.Need-returns
 returns c =
     let at-start = c .before .before in
-    sym (judged-many (at-start .args .digits .now) (at-start .args .room) (c .if1 .taken))
+    sym (judged-many (at-start .args .digits .now) (at-start .args .size) (c .if1 .taken))
 
 returns-2 : tie.Need-returns-2
 returns-2 c =
     let at-start = c .before .before .before in
-    sym (judged-room (at-start .args .digits .now) (at-start .args .room) (c .before .if1 .left) (c .if2 .taken))
+    sym (judged-room (at-start .args .digits .now) (at-start .args .size) (c .before .if1 .left) (c .if2 .taken))
 
 returns-3 : tie.Need-returns-3
 returns-3 c =
     let at-if1 = c .before .before in let at-start = at-if1 .before .before in
     c .judge-digits .ensures ∙ sym
-    (judged-digits (at-start .args .digits .now) (at-start .args .room) (at-if1 .if1 .left) (omega arith))
+    (judged-digits (at-start .args .digits .now) (at-start .args .size) (at-if1 .if1 .left) (omega arith))
 
 pub judge-spec : {M : Type 1} → statement M
 judge-spec = tie.close (tie.spec returns returns-2 (λ c κs. search needs) returns-3)

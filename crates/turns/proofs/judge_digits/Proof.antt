@@ -1,4 +1,4 @@
--- `turns::judge_digits` meets its contract: where no digit is above 3 there is no fault.
+-- `turns::judge_digits` meets its contract: if no digit is above 3 there is no fault.
 -- Assumes nothing.
 use mathlib.Core.Path.{sym}
 use native.Mathlib.Omega.{arith}

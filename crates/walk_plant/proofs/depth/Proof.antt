@@ -1,4 +1,4 @@
--- `walk_plant::depth` meets its contract. The invariant: so many levels up, and none of those passed was the root.
+-- `walk_plant::depth` meets its contract. The invariant: this many levels up, and none of those passed was the root.
 -- Assumes nothing.
 use mathlib.Core.Bool.{false}
 use mathlib.Core.Path.{_≡_, sym, subst, _∙_}

@@ -73,11 +73,11 @@ hullBy x0 y0 w e h lo hi =
 
 -- the hull of a walk of n steps, in columns that reach n corners to every side of its start
 abbrev hullAt : Corner → List ℕ → ℕ → ℕ → ℕ → List Corner
-hullAt s ds n w e =
-    hullBy (s .0 -ℤ pos n) (s .1 -ℤ pos n) w e (2 * n)
+hullAt c ds n w e =
+    hullBy (c .0 -ℤ pos n) (c .1 -ℤ pos n) w e (2 * n)
     (sinks (replicate (suc (e - w)) (suc (2 * n))) (map (countedFrom w) (trail n n ds)))
     (sinks (replicate (suc (e - w)) (suc (2 * n))) (map (halfTurned e (2 * n)) (trail n n ds)))
 
--- the hull of the walk ds from s: `hullOf-hull` says that it is
+-- the hull of the walk ds from c: `hullOf-hull` says that it is
 unfoldable pub hullOf : Corner → List ℕ → List Corner
-hullOf s ds = hullAt s ds (length ds) (westFrom (length ds) ds) (eastFrom (length ds) ds)
+hullOf c ds = hullAt c ds (length ds) (westFrom (length ds) ds) (eastFrom (length ds) ds)

@@ -1,4 +1,4 @@
--- An outline turned, mirrored, walked from another of its corners, and walked backwards (RULES 1.10). Assumes nothing.
+-- A loop turned, mirrored, walked from another of its corners, and walked backwards (RULES 1.10). Assumes nothing.
 use Rattle.lists.specs.Lists.{List, [], _∷_, _++_, take, drop, ℕ, zero, suc}
 use Rattle.grid.specs.Grid.{back}
 

@@ -11,7 +11,7 @@ use Rattle.grid.specs.declared.Corner.{Corner}
 use Rattle.grid.specs.Grid.{stepped, endFrom, cornerAt, back}
 use Rattle.grid.proofs.StepLaws.{stepped-back, endFrom-append}
 use Rattle.trace.specs.Verdict.{sweepFrom}
-use Rattle.panels.specs.Outline.{startedAt, backward}
+use Rattle.panels.specs.Moved.{startedAt, backward}
 use Rattle.area_laws.proofs.SweepLaws.{sweep-append, straight}
 use Rattle.area_laws.proofs.ImageLaws.{sweep-moved}
 
