@@ -16,7 +16,7 @@ use Rattle.trace.specs.Verdict.{verdictOf, areaOf}
 use Rattle.tree.specs.Nodes.{nodesOf, refOf, linkStepOf}
 use Rattle.layout.specs.Table.{width, tableOf}
 use Rattle.layout.specs.Marks.{markWords, marksOf}
-use Rattle.walk_call.specs.Walk.{walkJudged}
+use Rattle.walk.specs.Walk.{walkJudged}
 use Rattle.hull.specs.Hull.{HullIs}
 
 -- what is said of a walk from the origin

@@ -20,7 +20,7 @@ use Rattle.trace.specs.Verdict.{VerdictSays, IsRoom, sweepFrom}
 use Rattle.tree.specs.Nodes.{nodesOf}
 use Rattle.layout.specs.Marks.{markWords}
 use Rattle.layout.specs.Table.{width, recordsIn, wordAt}
-use Rattle.walk_call.specs.Walk.{factsOf, WalkIs}
+use Rattle.walk.specs.Walk.{factsOf, WalkIs}
 use Rattle.panels.specs.Inside.{panelsInside}
 use Rattle.room_laws.proofs.RoomLaws.{room-magnitude}
 use Rattle.lists.proofs.DistinctLaws.{mem-getD}

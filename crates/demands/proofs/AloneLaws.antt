@@ -19,13 +19,13 @@ use Rattle.grid.specs.Tree.{WithinLevels}
 use Rattle.steps.specs.Operations.{survivors, Fine, Walkable}
 use Rattle.layout.specs.Marks.{chainOf}
 use Rattle.layout.specs.Table.{recordsIn, tableOf}
-use Rattle.walk_call.specs.Walk.{walkJudged, factsOf, answerBy, bufferBy, WalkIs}
+use Rattle.walk.specs.Walk.{walkJudged, factsOf, answerBy, bufferBy, WalkIs}
 use Rattle.grid.proofs.BoundLaws.{endFrom-bound}
 use Rattle.grid.proofs.StepLaws.{length-cornersFrom, cornersFrom-at}
 use Rattle.lists.proofs.DistinctLaws.{getD-mem}
 use Rattle.steps.proofs.SurvivorLaws.{walkable-survivors}
 use Rattle.trace.proofs.VisitLaws.{length-visited-le}
-use Rattle.walk_call.proofs.RoomLaws.{alone}
+use Rattle.walk.proofs.RoomLaws.{alone}
 use Rattle.tree_laws.proofs.CountLaws.{few-nodes, few-nodes-from}
 use Rattle.demands.specs.Moments.{stepsAfter, nodesAfter, cornersAfter, AtMostEight, FourAndStart, FourLessThree}
 use Rattle.demands.specs.Given.{Faultless}

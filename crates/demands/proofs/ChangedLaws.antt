@@ -19,7 +19,7 @@ use Rattle.grid.proofs.CornerLaws.{same-refl}
 use Rattle.grid.proofs.PathLaws.{root-of-size}
 use Rattle.steps.specs.Operations.{operate, survivorsFrom, Fine, Walkable}
 use Rattle.layout.specs.Marks.{markWords, changesOf}
-use Rattle.walk_call.specs.Walk.{WalkIs}
+use Rattle.walk.specs.Walk.{WalkIs}
 use Rattle.steps.proofs.SurvivorLaws.{operate-step, operate-back, below-last}
 use Rattle.tree_laws.specs.State.{State, stateOf, linksUp, isFresh, but, risenBy}
 use Rattle.tree_laws.proofs.CountLaws.{within-parent}

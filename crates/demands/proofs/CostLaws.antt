@@ -19,7 +19,7 @@ use Rattle.grid.specs.Tree.{parentOf, isRoot, sizeOf, pathOf}
 use Rattle.lists.specs.Lists.{count, tally, Distinct, Below}
 use Rattle.steps.specs.Operations.{survivors}
 use Rattle.trace.specs.Meeting.{visitedOf}
-use Rattle.walk_call.specs.Walk.{WalkIs}
+use Rattle.walk.specs.Walk.{WalkIs}
 use Rattle.layout.specs.Marks.{markWords, changesOf}
 use Rattle.tree.specs.Nodes.{nodesOf, links}
 use Rattle.tree_laws.specs.State.{later, stateOf, linksUp, isFresh, but, risenBy}

@@ -30,7 +30,7 @@ use Rattle.trace.specs.Verdict.{VerdictSays, IsRoom, sweepFrom, areaOf}
 use Rattle.tree.specs.Nodes.{nodesOf, refOf, needOf, InUse, LinkedBy}
 use Rattle.layout.specs.Marks.{markWords, changesIn, changesOf}
 use Rattle.layout.specs.Table.{width, recordsIn, wordAt, edgesOf, tableOf}
-use Rattle.walk_call.specs.Walk.{factsOf, WalkIs}
+use Rattle.walk.specs.Walk.{factsOf, WalkIs}
 use Rattle.hull.specs.Hull.{Exposed, HullIs, Encloses}
 use Rattle.hull.specs.Call.{HullCall}
 use Rattle.panels.specs.{Edges.surplusOf, Box.panelSum, Inside.panelsInside, Inside.ListsInside, Inside.InsideLeft, Inside.InsideRight}

@@ -17,7 +17,7 @@ use Rattle.answer.specs.Words.{bitsOf}
 use Rattle.grid.specs.declared.Corner.{Corner}
 use Rattle.grid.specs.Grid.{origin, numbers}
 use Rattle.hull_laws.proofs.JoinLaws.{length-numbers}
-use Rattle.row_call.specs.Rows.{Span, spanNumbers}
+use Rattle.row.specs.Rows.{Span, spanNumbers}
 use Rattle.line_frame.specs.Hex.{numberFrom, hexOf}
 use Rattle.line_frame.specs.Program.{feedsIn}
 use Rattle.line_frame.specs.Spelled.{refusedLine, factsLine, numbersLine, hullLine}

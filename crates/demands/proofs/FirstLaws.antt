@@ -19,8 +19,8 @@ use Rattle.grid.specs.Grid.{cornersFrom}
 use Rattle.tree.specs.Nodes.{nodesOf}
 use Rattle.steps.specs.Operations.{operate, survivorsFrom, faultOf, Fine, operationsJudged, after}
 use Rattle.steps.proofs.SurvivorLaws.{after-length}
-use Rattle.walk_call.specs.Walk.{roomFrom}
-use Rattle.walk_call.proofs.RoomLaws.{room-full, room-fits, room-end}
+use Rattle.walk.specs.Walk.{roomFrom}
+use Rattle.walk.proofs.RoomLaws.{room-full, room-fits, room-end}
 use Rattle.demands.specs.Given.{FirstAt}
 use Rattle.demands.proofs.DemandCases as cases
 

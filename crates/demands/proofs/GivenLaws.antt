@@ -20,7 +20,7 @@ use Rattle.grid.specs.declared.Corner.{Corner}
 use Rattle.steps.specs.Operations.{faultOf, operationsJudged}
 use Rattle.layout.specs.Marks.{markWords}
 use Rattle.layout.specs.Table.{width, recordsIn}
-use Rattle.walk_call.specs.Walk.{tableFits, roomFrom, walkJudged}
+use Rattle.walk.specs.Walk.{tableFits, roomFrom, walkJudged}
 use Rattle.answer.proofs.RefusalLaws.{orElse-right}
 use Rattle.answer.proofs.StartLaws.{fits-near, near-fits}
 use Rattle.lists.proofs.GatherLaws.{and-left, and-right}

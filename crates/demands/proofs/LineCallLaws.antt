@@ -35,7 +35,7 @@ use Rattle.trace.specs.Verdict.{verdictOf, sweepFrom, areaOf}
 use Rattle.trace.proofs.MeetingLaws.{meetingOf-meets}
 use Rattle.trace.proofs.VisitLaws.{length-visited-le}
 use Rattle.tree_laws.proofs.CountLaws.{few-nodes}
-use Rattle.walk_call.specs.Walk.{walkJudged, factsOf, answerBy}
+use Rattle.walk.specs.Walk.{walkJudged, factsOf, answerBy}
 use Rattle.hull.specs.Hull.{HullIs}
 use Rattle.hull_laws.proofs.{HullLaws.hullOf-hull, HullLaws.hull-count-steps, OneLaws.hullIs-one}
 use Rattle.hull_laws.specs.Chain.{hullOf}

@@ -18,10 +18,10 @@ use Rattle.grid.specs.Grid.{origin}
 use Rattle.panels.specs.Inside.{Inside}
 use Rattle.steps.specs.Operations.{survivors, Walkable}
 use Rattle.trace.specs.Verdict.{IsRoom}
-use Rattle.walk_call.specs.Walk.{factsOf}
+use Rattle.walk.specs.Walk.{factsOf}
 use Rattle.room.specs.Room.{isRoom}
 use Rattle.room.proofs.RoomLaws.{isRoom-exactly}
-use Rattle.row_call.specs.Rows.{Span, RowsIs, spanNumbers}
+use Rattle.row.specs.Rows.{Span, RowsIs, spanNumbers}
 use Rattle.row_laws.specs.Feet.{rowsOf}
 use Rattle.row_laws.proofs.RowLaws.{rowsOf-rows, rowsIs-rowsOf}
 use Rattle.overlay_laws.proofs.ReadLaws.{room-small}

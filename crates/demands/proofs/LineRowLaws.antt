@@ -19,7 +19,7 @@ use Rattle.steps.proofs.SurvivorLaws.{length-survivors}
 use Rattle.trace.specs.Verdict.{IsRoom}
 use Rattle.hull_laws.specs.Chain.{hullOf}
 use Rattle.hull_laws.proofs.HullLaws.{hullOf-hull}
-use Rattle.walk_call.specs.Walk.{factsOf}
+use Rattle.walk.specs.Walk.{factsOf}
 use Rattle.room.specs.Room.{isRoom}
 use Rattle.room.proofs.RoomLaws.{isRoom-exactly}
 use Rattle.polygon.specs.Polygon.{pointsOf, polygonOf}

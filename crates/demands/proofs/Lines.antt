@@ -17,11 +17,11 @@ use Rattle.grid.specs.Grid.{origin, cornersFrom}
 use Rattle.steps.specs.Operations.{survivors}
 use Rattle.steps.specs.Turns.{stepsOf}
 use Rattle.trace.specs.Verdict.{IsRoom}
-use Rattle.walk_call.specs.Walk.{factsOf}
+use Rattle.walk.specs.Walk.{factsOf}
 use Rattle.hull.specs.Hull.{HullIs}
 use Rattle.panels.specs.Inside.{Inside}
 use Rattle.polygon.specs.Polygon.{polygonOf}
-use Rattle.row_call.specs.Rows.{Span, RowsIs}
+use Rattle.row.specs.Rows.{Span, RowsIs}
 use Rattle.line_frame.specs.declared.{Kind.the-variants.Operations, Kind.the-variants.Turns, Frame.the-variants.Of}
 use Rattle.line_frame.specs.Line.{frameOf, digitsOf, lineAnswer, kindWalked}
 use Rattle.line_frame.specs.Spelled.{refusedLine, factsLine, hullLine, answerLine}

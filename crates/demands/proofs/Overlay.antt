@@ -14,7 +14,7 @@ use Rattle.grid.specs.declared.{Corner.Corner, Panel.Panel}
 use Rattle.trace.specs.Verdict.{IsRoom, areaOf}
 use Rattle.room.proofs.RoomLaws.{good-room}
 use Rattle.panels.specs.Inside.{Inside}
-use Rattle.row_call.specs.Rows.{Span, RowsIs, lengthsOf, spanNumbers}
+use Rattle.row.specs.Rows.{Span, RowsIs, lengthsOf, spanNumbers}
 use Rattle.row_laws.proofs.{OneLaws.rowsIs-one, RowLaws.rowsIs-rowsOf}
 use Rattle.room_laws.proofs.RoomLaws.{room-panels}
 use Rattle.overlay.specs.declared.{Part.Part, Part.the-variants.First, Part.the-variants.Second, Part.the-variants.Both, Measure.Measure, Measures.Measures, Overlaid.Overlaid}

@@ -17,7 +17,7 @@ use Rattle.trace.specs.Verdict.{areaOf}
 use Rattle.trace.proofs.VerdictLaws.{area-room}
 use Rattle.room.specs.Room.{asRoomJudged}
 use Rattle.room.proofs.RoomLaws.{good-room}
-use Rattle.row_call.specs.{Rows.Span, Rows.RowsIs, Rows.lengthsOf, Rows.spanNumbers}
+use Rattle.row.specs.{Rows.Span, Rows.RowsIs, Rows.lengthsOf, Rows.spanNumbers}
 use Rattle.row_laws.proofs.{OneLaws.rowsIs-one, CallLaws.good-steps, SpanLaws.panelsOf, SpanLaws.length-panels, SpanLaws.spans-panels, NumberLaws.numbers-thrice}
 use Rattle.overlay.specs.declared.{Part.Part, Part.the-variants.First, Part.the-variants.Second, Part.the-variants.Both, Measures.Measures, Overlaid.Overlaid}
 use Rattle.overlay.specs.{Overlay.InPart, Call.ofParts, Call.overlayJudged, Call.measureOf, Call.measuresOf, Call.overlaidOf, Call.OverlayCall}

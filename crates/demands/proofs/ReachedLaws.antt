@@ -32,7 +32,7 @@ use Rattle.table_laws.proofs.DiffLaws.{walk-changes}
 use Rattle.layout.specs.Marks.{markWords, changesOf}
 use Rattle.layout.specs.Table.{width, recordsIn}
 use Rattle.steps.specs.Operations.{survivorsFrom, survivors}
-use Rattle.walk_call.specs.Walk.{factsOf, WalkIs}
+use Rattle.walk.specs.Walk.{factsOf, WalkIs}
 use Rattle.trace.proofs.VisitLaws.{length-visited-le}
 use Rattle.demands.specs.Moments.{stepsAfter, nodesAfter, changesAt}
 use Rattle.demands.specs.Given.{HasRecords, Faultless}

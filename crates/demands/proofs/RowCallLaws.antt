@@ -20,7 +20,7 @@ use Rattle.answer.specs.Listed.{countedOf, laidIf}
 use Rattle.room.specs.Room.{asRoomJudged}
 use Rattle.room.proofs.RoomLaws.{good-room}
 use Rattle.panels.specs.Inside.{Inside}
-use Rattle.row_call.specs.{Rows.Span, Rows.RowsIs, Rows.lengthsOf, Rows.spanNumbers, Call.rowsJudged, Call.RowsCall}
+use Rattle.row.specs.{Rows.Span, Rows.RowsIs, Rows.lengthsOf, Rows.spanNumbers, Call.rowsJudged, Call.RowsCall}
 use Rattle.row_laws.specs.Feet.{rowsOf}
 use Rattle.row_laws.proofs.{OneLaws.rowsIs-one, RowLaws.rowsOf-rows, RowLaws.rowsIs-rowsOf, SortedLaws.room-half, SpanLaws.panelsOf, SpanLaws.length-panels, SpanLaws.spans-listed, CallLaws.rows-refused, CallLaws.rows-room, NumberLaws.numbers-thrice}
 use Rattle.room_laws.proofs.RoomLaws.{room-panels}

@@ -14,7 +14,7 @@ use Rattle.answer.specs.Words.{countedWords}
 use Rattle.grid.specs.declared.{Corner.Corner, Panel.Panel}
 use Rattle.trace.specs.Verdict.{IsRoom, areaOf}
 use Rattle.panels.specs.Inside.{Inside}
-use Rattle.row_call.specs.{Rows.Span, Rows.Covers, Rows.RowsIs, Rows.NextTo, Rows.lengthsOf, Rows.spanNumbers, Call.RowsCall}
+use Rattle.row.specs.{Rows.Span, Rows.Covers, Rows.RowsIs, Rows.NextTo, Rows.lengthsOf, Rows.spanNumbers, Call.RowsCall}
 use Rattle.row_laws.proofs.OneLaws as oneLaws
 use Rattle.row_laws.proofs.CallLaws as callLaws
 use Rattle.demands.specs.GivenRows.{GivenRows}

@@ -19,7 +19,7 @@ use Rattle.grid.specs.declared.Corner.{Corner}
 use Rattle.layout.specs.Marks.{marksOf, chainOf}
 use Rattle.layout.specs.Table.{recordsIn, tableOf}
 use Rattle.steps.specs.Operations.{survivors}
-use Rattle.walk_call.specs.Walk.{walkJudged, walkAnswer, factsOf, answerBy, bufferBy, WalkIs}
+use Rattle.walk.specs.Walk.{walkJudged, walkAnswer, factsOf, answerBy, bufferBy, WalkIs}
 use Rattle.demands.specs.Moments.{nodesAfter, Exceeds}
 use Rattle.demands.specs.Given.{Faultless, NoRoomAfter, GivenWalk}
 use Rattle.demands.specs.Given as given

@@ -3,7 +3,7 @@ use Rattle.lists.specs.Lists.{_≡_, cond, List, length, take, drop, getD, ℕ,
 use Rattle.answer.specs.declared.{Facts.Facts, Refusal.Refusal}
 use Rattle.answer.specs.Refusal.{refusalNumber, refusalPlace, verdictNumber}
 use Rattle.grid.specs.{declared.Corner.Corner, Grid.origin}
-use Rattle.row_call.specs.Rows.{Span}
+use Rattle.row.specs.Rows.{Span}
 use Rattle.line_frame.specs.{Hex.numberFrom, Program.feedsIn}
 
 -- the number that n digits from place i on spell

@@ -7,7 +7,7 @@ use Rattle.answer.specs.declared.Judged.the-variants.{Good, Refused}
 use Rattle.answer.specs.declared.Refusal.{Refusal}
 use Rattle.answer.specs.declared.Refusal.the-variants.{SpanRoom}
 use Rattle.grid.specs.declared.Corner.{Corner}
-use Rattle.row_call.specs.Rows.{Span, RowsIs}
+use Rattle.row.specs.Rows.{Span, RowsIs}
 use Rattle.overlay.specs.declared.{Part.Part, Overlaid.Overlaid}
 use Rattle.overlay.specs.{Overlay.InPart, Call.measuresOf}
 use Rattle.demands.specs.GivenRoom.{GivenRoom}

@@ -9,7 +9,7 @@ use Rattle.answer.specs.declared.Refusal.{Refusal}
 use Rattle.answer.specs.declared.Refusal.the-variants.{SpanRoom}
 use Rattle.grid.specs.declared.Corner.{Corner}
 use Rattle.panels.specs.Inside.{Inside}
-use Rattle.row_call.specs.Rows.{Span, RowsIs}
+use Rattle.row.specs.Rows.{Span, RowsIs}
 use Rattle.demands.specs.GivenRoom.{GivenRoom}
 
 -- the occasion of each answer if the buffer has this many numbers: the refusals of a room, then 21; otherwise the number of spans

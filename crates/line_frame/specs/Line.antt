@@ -4,7 +4,7 @@ use Rattle.grid.specs.Grid.{origin}
 use Rattle.answer.specs.declared.{Refusal.the-variants.BadLine, Refusal.the-variants.RetiredKind, Answer.Answer}
 use Rattle.steps.specs.Operations.{survivors}
 use Rattle.layout.specs.Marks.{markWords}
-use Rattle.walk_call.specs.Walk.{walkAnswer}
+use Rattle.walk.specs.Walk.{walkAnswer}
 use Rattle.line_frame.specs.declared.{Kind.Kind, Kind.the-variants.Operations, Kind.the-variants.Turns, Frame.Frame, Frame.the-variants.Of, Frame.the-variants.Bad}
 use Rattle.line_frame.specs.{Sizes.headDigits, Sizes.mostDigits, Sizes.tableWords, Hex.allHex, Hex.valuesOf, Hex.numberFrom, Spelled.answerLine}
 

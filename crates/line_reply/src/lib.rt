@@ -55,7 +55,7 @@ fn list_hull(steps: &[u8], hull: &mut [i32]) -> usize
     requires { ⌜ length (now hull) ≡ hullNumbers ⌝ }
     ensures { λ n. ⌜ HoldsCorners (hullOf origin (now (steps .entry))) n (now (hull .exit)) ⌝ }
 {
-    match hull_scan::list_short(Corner(0, 0), steps, hull) {
+    match hull_call::list_short(Corner(0, 0), steps, hull) {
         Counted::Many(n) => n,
         Counted::Refused(_) => 0,
     }

@@ -17,7 +17,7 @@ use Rattle.steps.proofs.ChainLaws.{walk-good}
 use Rattle.room.specs.Room.{isRoom, asRoomJudged}
 use Rattle.room.proofs.RoomLaws.{isRoom-exactly, judged-room, good-room}
 use Rattle.panels.specs.Inside.{Inside}
-use Rattle.row_call.specs.Rows.{Span, RowsIs}
+use Rattle.row.specs.Rows.{Span, RowsIs}
 use Rattle.row_laws.specs.Feet.{rowsOf}
 use Rattle.row_laws.proofs.{RoomLaws.feetFrom, RowLaws.rowsIs-rowsOf, SortedLaws.room-count}
 use Rattle.line_frame.specs.declared.{Frame.Frame, Frame.the-variants.Of, Frame.the-variants.Bad}

@@ -13,8 +13,8 @@ use Rattle.answer.specs.declared.Refusal.the-variants.{BadLine}
 use Rattle.steps.specs.Operations.{survivors, Walkable}
 use Rattle.steps.proofs.SurvivorLaws.{walkable-survivors}
 use Rattle.layout.specs.Marks.{markWords}
-use Rattle.walk_call.specs.Walk.{walkJudged, factsOf, answerBy, walkAnswer}
-use Rattle.walk_call.proofs.JudgedLaws.{walk-fits}
+use Rattle.walk.specs.Walk.{walkJudged, factsOf, answerBy, walkAnswer}
+use Rattle.walk.proofs.JudgedLaws.{walk-fits}
 use Rattle.line_frame.specs.declared.Frame.{Frame, the-variants.Of, the-variants.Bad}
 use Rattle.line_frame.specs.declared.Kind.the-variants.{Operations, Turns}
 use Rattle.line_frame.specs.Sizes.{mostLine, tableWords}

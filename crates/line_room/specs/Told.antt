@@ -4,7 +4,7 @@ use Rattle.grid.specs.Grid.{origin}
 use Rattle.answer.specs.declared.{Refusal.Refusal, Judged.Judged, Judged.the-variants.Good, Judged.the-variants.Refused, Answer.Answer}
 use Rattle.steps.specs.Operations.{survivors}
 use Rattle.room.specs.Room.{asRoomJudged}
-use Rattle.row_call.specs.Rows.{Span}
+use Rattle.row.specs.Rows.{Span}
 use Rattle.row_laws.specs.Feet.{rowsOf}
 use Rattle.line_frame.specs.{Sizes.mostDigits, Spelled.refusedLine, Spelled.numbersLine, Line.digitsOf, Program.outputFrom, Line.lineWalked}
 

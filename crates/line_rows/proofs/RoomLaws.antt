@@ -13,7 +13,7 @@ use Rattle.answer.specs.Refusal.{when}
 use Rattle.answer.specs.Listed.{countedOf, laidIf}
 use Rattle.room.specs.Room.{asRoomJudged}
 use Rattle.room.proofs.RoomLaws.{good-room}
-use Rattle.row_call.specs.{Rows.spanNumbers, Call.rowsJudged, Call.RowsCall}
+use Rattle.row.specs.{Rows.spanNumbers, Call.rowsJudged, Call.RowsCall}
 use Rattle.row_laws.specs.Feet.{rowsOf}
 use Rattle.row_laws.proofs.{RowLaws.rowsIs-rowsOf, CallLaws.rows-refused, CallLaws.rows-room}
 use Rattle.line_frame.specs.Sizes.{mostDigits, hullNumbers}

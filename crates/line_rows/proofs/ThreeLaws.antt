@@ -8,7 +8,7 @@ use native.Mathlib.Numerals.{add-one}
 use lib.IntN.{ℤ}
 use lib.ListN.{length, take, drop, length-append, length-drop}
 use lib.Seq.{length-take-le, drop-drop}
-use Rattle.row_call.specs.Rows.{Span, spanNumbers}
+use Rattle.row.specs.Rows.{Span, spanNumbers}
 use Rattle.line_frame.specs.Spelled.{numbersLine}
 use Rattle.line_frame.proofs.SpelledLaws.{length-numbersLine}
 use Rattle.line_fields.specs.Put.{Wrote}

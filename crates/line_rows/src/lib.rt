@@ -71,7 +71,7 @@ fn tell_room(steps: &[u8], numbers: &mut [i32], out: &mut [u8], at: usize) -> us
     ensures { λ e. ⌜ Wrote (roomTold (asRoomJudged origin (now (steps .entry))) (now (steps .entry))) at
         (now (out .entry)) e (now (out .exit)) ⌝ }
 {
-    match row_list::list(Corner(0, 0), steps, numbers) {
+    match row_call::list(Corner(0, 0), steps, numbers) {
         Counted::Many(n) => tell_threes(out, at, numbers, n),
         Counted::Refused(r) => tell_refusal(out, at, r),
     }

@@ -17,7 +17,7 @@ use Rattle.steps.specs.Operations.{survivors}
 use Rattle.tree.specs.Nodes.{nodesOf}
 use Rattle.layout.specs.Table.{width, recordsOf, tableOf}
 use Rattle.layout.proofs.IndexLaws.{length-records}
-use Rattle.walk_call.specs.Walk.{walkJudged, factsOf, answerBy, bufferBy, WalkIs}
+use Rattle.walk.specs.Walk.{walkJudged, factsOf, answerBy, bufferBy, WalkIs}
 use Rattle.line_frame.specs.Sizes.{tableWords}
 use Rattle.line_walk.specs.Walk.{Clear, recordsLeft}
 

@@ -14,7 +14,7 @@ use Rattle.answer.specs.declared.Answer.{Answer}
 use Rattle.steps.specs.Operations.{survivors}
 use Rattle.steps.proofs.SurvivorLaws.{length-survivors}
 use Rattle.layout.specs.Marks.{markWords, chainOf}
-use Rattle.walk_call.specs.Walk.{walkAnswer, bufferBy, WalkIs}
+use Rattle.walk.specs.Walk.{walkAnswer, bufferBy, WalkIs}
 use Rattle.line_frame.specs.declared.Kind.the-variants.{Operations}
 use Rattle.line_frame.specs.Sizes.{mostDigits, tableWords}
 use Rattle.line_frame.specs.Line.{kindWalked}

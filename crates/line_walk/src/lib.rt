@@ -40,7 +40,7 @@ fn walk_digits(s: &[u8], n: usize, table: &mut [u32], marks: &mut [u32], chain: 
 {
     let mut digits = [0u8; Frame::MOST_DIGITS];
     copy_digits(s, &mut digits);
-    let a = walk::follow_clear(
+    let a = walk_call::follow_clear(
         Corner(0, 0),
         &digits[..n],
         table,

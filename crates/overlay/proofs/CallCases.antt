@@ -7,7 +7,7 @@ use lib.IntN.{ℤ, pos}
 use Rattle.answer.specs.declared.{Judged.Judged, Judged.the-variants.Good, Judged.the-variants.Refused, Refusal.the-variants.BadDigit, Refusal.the-variants.NotRoom, Refusal.the-variants.SpanRoom}
 use Rattle.answer.specs.Listed.{laidIf}
 use Rattle.grid.specs.Grid.{origin}
-use Rattle.row_call.specs.{Rows.Span, Rows.spanNumbers}
+use Rattle.row.specs.{Rows.Span, Rows.spanNumbers}
 use Rattle.overlay.specs.declared.{Part.Part, Part.the-variants.First, Part.the-variants.Second, Overlaid.Overlaid}
 use Rattle.overlay.specs.Call.{ofParts, overlayJudged, overlaidOf, OverlayCall, overlaidWords, overlaidNumber}
 use Rattle.overlay.proofs.OverlayCases.{one}

@@ -5,7 +5,7 @@ use Rattle.grid.specs.declared.Corner.{Corner}
 use Rattle.answer.specs.declared.{Judged.Judged, Judged.the-variants.Good, Judged.the-variants.Refused}
 use Rattle.answer.specs.{Refusal.firstOf, Refusal.refusalNumber, Refusal.refusalPlace, Listed.laidIf}
 use Rattle.room.specs.Room.{asRoomJudged}
-use Rattle.row_call.specs.{Rows.Span, Rows.RowsIs, Rows.lengthsOf, Call.spanRoomJudged, Rows.spanNumbers}
+use Rattle.row.specs.{Rows.Span, Rows.RowsIs, Rows.lengthsOf, Call.spanRoomJudged, Rows.spanNumbers}
 use Rattle.overlay.specs.declared.{Part.Part, Part.the-variants.First, Part.the-variants.Second, Part.the-variants.Both, Measure.Measure, Measures.Measures, Overlaid.Overlaid}
 use Rattle.overlay.specs.Overlay.{InPart}
 

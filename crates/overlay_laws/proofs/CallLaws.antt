@@ -17,7 +17,7 @@ use Rattle.answer.proofs.RefusalLaws.{clear-first}
 use Rattle.answer.specs.Listed.{laidIf}
 use Rattle.grid.specs.declared.Corner.{Corner}
 use Rattle.room.specs.Room.{asRoomJudged}
-use Rattle.row_call.specs.{Rows.Span, Rows.spanNumbers}
+use Rattle.row.specs.{Rows.Span, Rows.spanNumbers}
 use Rattle.row_laws.proofs.OneLaws.{rowsIs-one}
 use Rattle.overlay.specs.declared.{Part.Part, Part.the-variants.First, Part.the-variants.Second, Part.the-variants.Both, Overlaid.Overlaid}
 use Rattle.overlay.specs.{Overlay.InPart, Call.partRoomJudged, Call.overlayJudged, Call.overlaidOf, Call.OverlayCall}

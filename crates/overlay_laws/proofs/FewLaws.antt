@@ -15,7 +15,7 @@ use Rattle.grid.specs.declared.Corner.{Corner}
 use Rattle.grid.specs.Grid.{stepped, endFrom}
 use Rattle.grid.proofs.BoundLaws.{stepped-bound}
 use Rattle.trace.specs.Verdict.{sweepFrom}
-use Rattle.row_call.specs.Rows.{Span, InOrder, spanLength, lengthsOf}
+use Rattle.row.specs.Rows.{Span, InOrder, spanLength, lengthsOf}
 use Rattle.row_laws.specs.Feet.{pairsOf, rowsOf}
 use Rattle.row_laws.proofs.PairLaws.{pairs-length, turn-up-to}
 use Rattle.overlay.specs.declared.Part.{Part}

@@ -14,7 +14,7 @@ use Rattle.grid.specs.Grid.{endFrom}
 use Rattle.panels.specs.Edges.{edgesFrom, beside}
 use Rattle.panels.specs.Inside.{edgesBeside, Inside, inside, ListsInside}
 use Rattle.area_laws.proofs.EvenLaws.{row-even}
-use Rattle.row_call.specs.Rows.{Span, RowsIs, lengthsOf}
+use Rattle.row.specs.Rows.{Span, RowsIs, lengthsOf}
 use Rattle.row_laws.proofs.FootLaws.{feet-in-turn, feet-parity}
 use Rattle.row_laws.proofs.PairLaws.{onRow}
 use Rattle.row_laws.proofs.OneLaws.{rowsIs-one}

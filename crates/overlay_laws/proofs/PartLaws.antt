@@ -20,7 +20,7 @@ use Rattle.grid.proofs.CornerLaws.{eqZ-refl, eqZ-not}
 use Rattle.panels.specs.Edges.{beside}
 use Rattle.panels.proofs.BesideLaws.{beside-other, beside-row}
 use Rattle.area_laws.proofs.EvenLaws.{crossed}
-use Rattle.row_call.specs.Rows.{RowsIs}
+use Rattle.row.specs.Rows.{RowsIs}
 use Rattle.row_laws.specs.Feet.{ahead, pairsOf}
 use Rattle.row_laws.proofs.FootLaws.{Ahead, UpTo, InTurn, ahead-true, ahead-yes, ahead-trans, climbs-in-turn}
 use Rattle.row_laws.proofs.PairLaws.{onRow, EvenRows, pair-row, pairs-even, pairs-rows, pairs-length, turn-up-to}

@@ -20,7 +20,7 @@ use Rattle.grid.specs.Grid.{corner}
 use Rattle.grid.proofs.CornerLaws.{eqZ-refl}
 use Rattle.panels.specs.Edges.{edgesFrom}
 use Rattle.trace.specs.Verdict.{IsRoom}
-use Rattle.row_call.specs.Rows.{spanNumbers}
+use Rattle.row.specs.Rows.{spanNumbers}
 use Rattle.row_laws.specs.Feet.{feetOf, pairsOf, rowsOf}
 use Rattle.row_laws.proofs.FootLaws.{UpTo, InTurn, climbs-in-turn}
 use Rattle.row_laws.proofs.PairLaws.{EvenRows, pair-row, pairs-even, turn-up-to}

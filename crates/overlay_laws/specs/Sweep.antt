@@ -11,7 +11,7 @@ use Rattle.answer.specs.Limits.{mostSteps}
 use Rattle.grid.specs.declared.Corner.{Corner}
 use Rattle.grid.specs.Grid.{corner}
 use Rattle.panels.specs.Edges.{edgesFrom}
-use Rattle.row_call.specs.Rows.{Span}
+use Rattle.row.specs.Rows.{Span}
 use Rattle.row_laws.specs.Feet.{feetOf, pairsOf}
 use Rattle.overlay.specs.declared.{Part.Part, Part.the-variants.First, Part.the-variants.Second, Part.the-variants.Both}
 use Rattle.overlay_laws.specs.Join.{join, changes}

@@ -8,7 +8,7 @@ use lib.IntN.{ℤ}
 use lib.ListN.{length}
 use Rattle.answer.specs.declared.{Judged.Judged, Refusal.the-variants.SpanRoom}
 use Rattle.answer.specs.Listed.{laidIf}
-use Rattle.row_call.specs.{Rows.Span, Rows.spanNumbers}
+use Rattle.row.specs.{Rows.Span, Rows.spanNumbers}
 use Rattle.row_laws.proofs.NumberLaws.{written}
 use Rattle.overlay.specs.declared.{Part.Part, Part.the-variants.First, Part.the-variants.Second, Part.the-variants.Both, Measure.Measure, Measures.Measures, Overlaid.Overlaid}
 use Rattle.overlay.specs.Call.{ofParts, measureOf, measuresOf, overlaidOf}

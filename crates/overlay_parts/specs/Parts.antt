@@ -8,7 +8,7 @@ use lib.ListN.{length}
 use Rattle.answer.specs.declared.Judged.{Judged}
 use Rattle.answer.specs.Refusal.{firstOf}
 use Rattle.answer.specs.Listed.{laidIf}
-use Rattle.row_call.specs.{Rows.Span, Rows.spanNumbers}
+use Rattle.row.specs.{Rows.Span, Rows.spanNumbers}
 use Rattle.overlay.specs.declared.{Part.Part, Part.the-variants.First, Part.the-variants.Second, Part.the-variants.Both, Overlaid.Overlaid}
 use Rattle.overlay.specs.Call.{partRoomJudged, overlaidOf}
 

@@ -15,7 +15,7 @@ use Rattle.int_laws.proofs.LinearLaws.{zarith}
 use Rattle.lists.specs.Lists.{tally}
 use Rattle.grid.specs.declared.Corner.{Corner}
 use Rattle.grid.specs.Grid.{corner}
-use Rattle.row_call.specs.Rows.{Span, spanNumbers, lengthsOf}
+use Rattle.row.specs.Rows.{Span, spanNumbers, lengthsOf}
 use Rattle.row_laws.specs.Feet.{pairsOf}
 use Rattle.row_laws.proofs.{FootLaws.Ahead, FootLaws.climbs-in-turn, PairLaws.pair-row, PairLaws.pairs-even, PairLaws.turn-up-to}
 use Rattle.row_bucket_laws.proofs.WriteLaws.{sets-append}

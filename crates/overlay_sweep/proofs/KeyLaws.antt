@@ -16,7 +16,7 @@ use Rattle.int_laws.proofs.LinearLaws.{zarith, bal+, bal-}
 use Rattle.int_laws.proofs.RangeLaws.{abs-nat, abs+, abs-}
 use Rattle.grid.specs.declared.Corner.{Corner}
 use Rattle.grid.specs.Grid.{corner}
-use Rattle.row_call.specs.Rows.{spanLength}
+use Rattle.row.specs.Rows.{spanLength}
 use Rattle.row_laws.specs.Feet.{ahead, spanOf}
 use Rattle.row_laws.proofs.FootLaws.{Ahead, ahead-true, ahead-yes, ahead-three}
 use Rattle.overlay_laws.specs.Join.{leads}

@@ -8,7 +8,7 @@ use lib.ListN.{length}
 use lib.Seq.{sets}
 use Rattle.grid.specs.declared.Corner.{Corner}
 use Rattle.grid.specs.Grid.{endFrom}
-use Rattle.row_call.specs.Rows.{Span, spanNumbers}
+use Rattle.row.specs.Rows.{Span, spanNumbers}
 use Rattle.row_laws.specs.Feet.{pairsOf}
 use Rattle.overlay.specs.declared.{Part.Part, Measure.Measure}
 use Rattle.overlay.specs.Call.{measureOf}

@@ -33,7 +33,7 @@ use Rattle.trace.proofs.VisitLaws.{length-visited-le}
 use Rattle.grid.proofs.StepLaws.{length-cornersFrom}
 use Rattle.pair_table.specs.Slots.{needsOf, slotsOf}
 use Rattle.pair_table.specs.Words.{pairRecordsIn}
-use Rattle.pair_call.specs.Call.{pairRoomFrom, pairJudgements, pairFactsOf, pairAnswerBy, PairLent, pairJudgedIn, PairIs}
+use Rattle.pair.specs.Call.{pairRoomFrom, pairJudgements, pairFactsOf, pairAnswerBy, PairLent, pairJudgedIn, PairIs}
 use Rattle.pair_laws.specs.Same.{SameButNumbers}
 use Rattle.pair_laws.specs.Moments.{ownAfter, pairNodesAfter, pairCornersAfter}
 use Rattle.pair_laws.specs.Alone.{AloneOf, PairLentAlone, aloneIn}

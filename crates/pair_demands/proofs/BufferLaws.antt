@@ -20,7 +20,7 @@ use Rattle.pair_steps.specs.Parties.{byParty, partyOf, moves, ownOps, stepsBy, 
 use Rattle.pair_steps.proofs.PartyLaws.{own-next, by-party}
 use Rattle.pair_table.specs.Slots.{needsOf, Slot, settle, slotsFrom, slotsAtStart, slotsOf}
 use Rattle.pair_table.specs.Words.{pairWidth, pairRecordsIn, visitsOf, pairTableOf, pairMarkOf, pairMarksFrom, ownChainOf}
-use Rattle.pair_call.specs.Call.{PairLent, PairIs}
+use Rattle.pair.specs.Call.{PairLent, PairIs}
 use Rattle.pair_laws.specs.Moments.{ownAfter, pairNodesAfter, slotsAfter, pairTableAfter}
 use Rattle.pair_laws.proofs.ByteLaws.{moved-after}
 use Rattle.pair_laws.proofs.MomentLaws.{slotsAfter-next, slotsOf-length}

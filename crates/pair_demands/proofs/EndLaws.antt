@@ -17,13 +17,13 @@ use Rattle.grid.proofs.StepLaws.{length-cornersFrom}
 use Rattle.tree.specs.Nodes.{InUse}
 use Rattle.tree.proofs.InUseLaws.{inUse-node}
 use Rattle.steps.specs.Operations.{survivors}
-use Rattle.walk_call.specs.Walk.{partyFactsOf, WalkIs}
+use Rattle.walk.specs.Walk.{partyFactsOf, WalkIs}
 use Rattle.demands.proofs.WalkLaws as walkLaws
 use Rattle.pair_steps.specs.Parties.{byParty, partyOf, ownOps, stepsBy}
 use Rattle.pair_steps.proofs.PartyLaws.{own-exchanged}
 use Rattle.pair_table.specs.Slots.{needsOf, slotsOf}
 use Rattle.pair_table.specs.Words.{pairWidth, pairWordAt, ownWord, ownOf, pairTableOn, pairTableOf, ownChainOf}
-use Rattle.pair_call.specs.Call.{pairFactsOf, PairLent, PairIs}
+use Rattle.pair.specs.Call.{pairFactsOf, PairLent, PairIs}
 use Rattle.pair_laws.specs.Stand.{At, FreeAt, InPlace}
 use Rattle.pair_laws.specs.Same.{SameButNumbers}
 use Rattle.pair_laws.proofs.MomentLaws.{slotsOf-inPlace}

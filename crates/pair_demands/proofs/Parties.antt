@@ -20,12 +20,12 @@ use Rattle.grid.specs.declared.Corner.{Corner}
 use Rattle.grid.specs.Grid.{origin, cornersFrom, endFrom}
 use Rattle.grid.specs.Tree.{pathOf}
 use Rattle.tree.specs.Nodes.{nodesOf, InUse}
-use Rattle.walk_call.specs.Walk.{partyFactsOf, WalkIs}
+use Rattle.walk.specs.Walk.{partyFactsOf, WalkIs}
 use Rattle.pair_steps.specs.Parties.{byParty, partyOf, opOf, ownOps, stepsBy}
 use Rattle.pair_table.specs.Slots.{unionOf, Slot, keptFor, placed, placedAll, settle, slotsOf}
 use Rattle.pair_table.specs.Words.{pairWidth, pairRecordsIn, pairWordAt, ownWord, ownOf, visitsOf}
 use Rattle.layout.specs.Marks.{markWords, changesBy}
-use Rattle.pair_call.specs.Call.{pairFactsOf, PairLent, PairIs}
+use Rattle.pair.specs.Call.{pairFactsOf, PairLent, PairIs}
 use Rattle.pair_laws.specs.Stand.{At, FreeAt, InPlace, TakesLowest}
 use Rattle.pair_laws.specs.Same.{SameButNumbers}
 use Rattle.pair_laws.specs.Moments.{ownAfter, needsAfter, pairNodesAfter, slotsAfter, pairTableAfter, pairCornersAfter}

@@ -21,7 +21,7 @@ use Rattle.answer.proofs.StartLaws.{fits-near}
 use Rattle.lists.proofs.GatherLaws.{and-left, and-right}
 use Rattle.pair_steps.specs.Parties.{partyOf, opOf, moves, afterBy, byteFaultOf, bytesJudged}
 use Rattle.pair_table.specs.Words.{pairWidth, pairRecordsIn}
-use Rattle.pair_call.specs.Call.{pairFits, pairRoomy, pairRoomFrom, pairJudged}
+use Rattle.pair.specs.Call.{pairFits, pairRoomy, pairRoomFrom, pairJudged}
 use Rattle.walk_input.proofs.JudgeLaws.{Early, early-when, early-or, early-fault}
 use Rattle.pair_input.specs.Judges.{pairInputJudgements, pairInputJudged}
 

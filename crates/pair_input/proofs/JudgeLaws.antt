@@ -22,7 +22,7 @@ use Rattle.answer.proofs.RefusalLaws.{orElse-right}
 use Rattle.pair_steps.specs.Parties.{opOf, moves, afterBy, byteFaultOf, bytesJudged}
 use Rattle.pair_steps.proofs.PartyLaws.{pair-fault-none}
 use Rattle.pair_table.specs.Words.{pairWidth, pairRecordsIn}
-use Rattle.pair_call.specs.Call.{pairFits, pairRoomy}
+use Rattle.pair.specs.Call.{pairFits, pairRoomy}
 use Rattle.walk_input.proofs.JudgeLaws.{after-le}
 use Rattle.pair_input.specs.Judges.{ownFaultOf, pairInputJudged}
 

@@ -20,7 +20,7 @@ use Rattle.steps.proofs.SurvivorLaws.{operate-step}
 use Rattle.pair_steps.specs.Parties.{opOf, moves, ownOps, movedBy}
 use Rattle.pair_steps.proofs.PartyLaws.{own-mine, own-other, moved-mine, moved-other}
 use Rattle.pair_table.specs.Slots.{needsOf}
-use Rattle.pair_call.specs.Call.{pairRoomFrom}
+use Rattle.pair.specs.Call.{pairRoomFrom}
 use Rattle.pair_laws.proofs.UnionLaws.{needs-mono}
 use Rattle.pair_laws.proofs.MomentLaws.{needs-next}
 

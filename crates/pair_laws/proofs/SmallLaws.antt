@@ -19,12 +19,12 @@ use Rattle.steps.specs.Operations.{faultOf, operationsJudged, Walkable}
 use Rattle.answer.proofs.RefusalLaws.{clear, when-good}
 use Rattle.lists.proofs.GatherLaws.{and-right}
 use Rattle.steps.proofs.SurvivorLaws.{walkable-survivors}
-use Rattle.walk_call.proofs.SmallLaws.{Placed, placed-when, placed-or, placed-more, placed-fault, FewSeen, seen-few}
+use Rattle.walk.proofs.SmallLaws.{Placed, placed-when, placed-or, placed-more, placed-fault, FewSeen, seen-few}
 use Rattle.pair_steps.specs.Parties.{partyOf, opOf, moves, ownOps, stepsBy, movedBy, afterBy, bytesJudged}
 use Rattle.pair_steps.proofs.PartyLaws.{pair-faults-own}
 use Rattle.pair_table.specs.Slots.{needsOf}
 use Rattle.pair_table.specs.Words.{pairWidth, pairRecordsIn}
-use Rattle.pair_call.specs.Call.{pairFits, pairRoomy, pairRoomAt, pairRoomFrom, pairJudgements, pairJudged}
+use Rattle.pair.specs.Call.{pairFits, pairRoomy, pairRoomAt, pairRoomFrom, pairJudgements, pairJudged}
 use Rattle.pair_laws.proofs.RoomLaws.{room-all}
 
 placed-bytes : (i m n : ℕ) (os : List ℕ) → Placed (i + length os) (bytesJudged i m n os)

@@ -20,7 +20,7 @@ use Rattle.pair_steps.specs.Parties.{byParty, partyOf, opOf, moves, ownOps, ste
 use Rattle.pair_steps.proofs.PartyLaws.{moved-mine, moved-other, own-next, afterBy-length, pair-fault-none}
 use Rattle.pair_table.specs.Slots.{Slot, needsOf, settle, slotsFrom, slotsOf}
 use Rattle.pair_table.specs.Words.{pairWidth, pairRecordsIn, pairTableOf, visitsOf, pairMarkOf, pairMarksFrom, pairMarksOf}
-use Rattle.pair_call.specs.Call.{pairRoomFrom}
+use Rattle.pair.specs.Call.{pairRoomFrom}
 use Rattle.pair_laws.proofs.RoomLaws.{room-end, room-full, room-fits}
 use Rattle.pair_child.specs.declared.Stock.{Stock}
 use Rattle.pair_move.specs.declared.Party.{Party}

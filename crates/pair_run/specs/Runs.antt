@@ -14,7 +14,7 @@ use Rattle.steps.specs.Operations.{operate, Fine}
 use Rattle.pair_steps.specs.Parties.{byParty, stepsBy}
 use Rattle.pair_table.specs.Slots.{Slot, needsOf, settle, slotsAtStart, slotsOf}
 use Rattle.pair_table.specs.Words.{pairWidth, pairRecordsIn, pairTableOf, pairMarksOf, visitsOf}
-use Rattle.pair_call.specs.Call.{pairRoomFrom}
+use Rattle.pair.specs.Call.{pairRoomFrom}
 use Rattle.pair_table_laws.specs.Walked.{PairWalked}
 use Rattle.pair_child.specs.declared.Stock.{Stock}
 use Rattle.pair_child.specs.Finds.{StockIs}

@@ -10,7 +10,7 @@ use lib.IntN.{ℤ, pos, predℤ, _+ℤ_, _-ℤ_}
 use lib.Seq.{sets}
 use Rattle.grid.specs.declared.Corner.{Corner}
 use Rattle.grid.specs.Grid.{corner}
-use Rattle.row_call.specs.Rows.{spanNumbers}
+use Rattle.row.specs.Rows.{spanNumbers}
 use Rattle.row_laws.specs.Feet.{pairsOf}
 use Rattle.row_bucket_laws.specs.Buckets.{Strung, picked, rowsUp, Poured, spotAt, numbersOf, inRow, Line, LineDone, LineAt, SheetAt}
 use Rattle.row_bucket_laws.proofs.BucketLaws.{picked-mem}

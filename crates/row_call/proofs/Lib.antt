@@ -1,1 +1,1 @@
-pub mod RowsCases
+pub mod CallLaws

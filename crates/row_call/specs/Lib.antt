@@ -1,3 +1,2 @@
--- Spans of panels by rows, and what the call that lists them promises.
-pub mod Rows
-pub mod Call
+-- What the listing of rows asks of the walk and of its working store.
+pub mod Store

@@ -20,7 +20,7 @@ use Rattle.steps.proofs.ChainLaws.{good-digits, good-short}
 use Rattle.room.specs.Room.{asRoomJudged}
 use Rattle.room.proofs.RoomLaws.{good-room}
 use Rattle.panels.specs.Inside.{Inside}
-use Rattle.row_call.specs.{Rows.Span, Rows.RowsIs, Call.rowsJudged, Call.RowsCall, Rows.spanNumbers}
+use Rattle.row.specs.{Rows.Span, Rows.RowsIs, Call.rowsJudged, Call.RowsCall, Rows.spanNumbers}
 use Rattle.row_laws.proofs.{OneLaws.rowsIs-one, RowLaws.rowsIs-rowsOf, SortedLaws.room-half}
 
 count-le : (t : ℕ → Bool) (l : List ℕ) → count t l ≤ length l

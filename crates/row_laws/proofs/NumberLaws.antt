@@ -7,7 +7,7 @@ use native.Mathlib.Omega.{arith}
 use lib.IntN.{ℤ}
 use lib.ListN.{length, drop}
 use lib.Seq.{sets, sets-eq}
-use Rattle.row_call.specs.Rows.{Span, spanNumbers}
+use Rattle.row.specs.Rows.{Span, spanNumbers}
 
 pub length-numbers : (L : List Span) → length (spanNumbers L) ≡ 3 * length L
 length-numbers [] = refl

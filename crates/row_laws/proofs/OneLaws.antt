@@ -9,7 +9,7 @@ use Rattle.int_laws.proofs.LinearLaws.{zarith, le-or-lt}
 use Rattle.int_laws.proofs.NextLaws.{bal-suc}
 use Rattle.grid.specs.declared.Panel.{Panel}
 use Rattle.grid.specs.Grid.{corner, panelAt}
-use Rattle.row_call.specs.Rows.{Span, OnSpan, Covers, Before, Every, InOrder, RowsIs, NextTo}
+use Rattle.row.specs.Rows.{Span, OnSpan, Covers, Before, Every, InOrder, RowsIs, NextTo}
 
 abbrev panel : ℤ → ℤ → Panel
 panel a b = panelAt (corner a b)

@@ -17,7 +17,7 @@ use Rattle.grid.specs.declared.{Corner.Corner, Panel.Panel}
 use Rattle.grid.specs.Grid.{corner, eqZ}
 use Rattle.grid.proofs.CornerLaws.{eqZ-sound, eqZ-refl, eqZ-not}
 use Rattle.panels.specs.Edges.{beside}
-use Rattle.row_call.specs.Rows.{Span, OnSpan, Covers, Before, Every, InOrder, RowsIs}
+use Rattle.row.specs.Rows.{Span, OnSpan, Covers, Before, Every, InOrder, RowsIs}
 use Rattle.panels.proofs.BesideLaws.{beside-other, beside-past, beside-row}
 use Rattle.row_laws.specs.Feet.{spanOf, pairsOf}
 use Rattle.row_laws.proofs.FootLaws.{Ahead, UpTo, Climbs, InTurn, climbs-in-turn, climbs-lower, ahead-trans}

@@ -4,7 +4,7 @@ use mathlib.Core.List.{[], _∷_}
 use mathlib.Core.Path.{_≡_, refl}
 use lib.IntN.{pos, negsuc}
 use Rattle.grid.specs.Grid.{corner, origin}
-use Rattle.row_call.proofs.RowsCases.{span}
+use Rattle.row.proofs.RowsCases.{span}
 use Rattle.row_laws.specs.Feet.{toggle, rowsOf}
 
 -- one that is there goes out, another comes in at its place: by row, then by x

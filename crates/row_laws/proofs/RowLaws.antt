@@ -8,7 +8,7 @@ use Rattle.lists.specs.Lists.{count}
 use Rattle.grid.specs.declared.Corner.{Corner}
 use Rattle.grid.specs.Grid.{endFrom}
 use Rattle.panels.specs.{Edges.edgesFrom, Edges.beside, Inside.Inside}
-use Rattle.row_call.specs.Rows.{Span, RowsIs}
+use Rattle.row.specs.Rows.{Span, RowsIs}
 use Rattle.area_laws.proofs.EvenLaws.{row-even}
 use Rattle.row_laws.specs.Feet.{feetOf, pairsOf, rowsOf}
 use Rattle.row_laws.proofs.{OneLaws.rowsIs-one, FootLaws.Ahead, FootLaws.InTurn, FootLaws.feet-in-turn, FootLaws.feet-parity, PairLaws.onRow, PairLaws.pairs-rows}

@@ -14,7 +14,7 @@ use Rattle.grid.specs.Grid.{corner, same, stepped}
 use Rattle.grid.proofs.{CornerLaws.same-sound, CornerLaws.same-refl}
 use Rattle.trace.specs.Verdict.{IsRoom}
 use Rattle.panels.specs.{Edges.Edge, Edges.edgesFrom, Inside.Inside}
-use Rattle.row_call.specs.Rows.{RowsIs}
+use Rattle.row.specs.Rows.{RowsIs}
 use Rattle.area_laws.proofs.EvenLaws.{row-even}
 use Rattle.row_laws.specs.Feet.{ahead, toggle, feetOf, pairsOf, rowsOf}
 use Rattle.row_laws.proofs.{FootLaws.feet-in-turn, FootLaws.feet-parity, PairLaws.onRow, PairLaws.turn-up-to, PairLaws.pairs-length, RoomLaws.feetFrom, RoomLaws.count-feet, RoomLaws.room-feet, FootLaws.Ahead, FootLaws.UpTo, FootLaws.Climbs, FootLaws.InTurn, RowLaws.sorted-rows}

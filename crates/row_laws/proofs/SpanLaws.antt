@@ -15,7 +15,7 @@ use Rattle.lists.proofs.DistinctLaws.{distinct-append}
 use Rattle.grid.specs.declared.{Corner.Corner, Panel.Panel}
 use Rattle.panels.specs.Inside.{Inside, ListsInside}
 use Rattle.panels.specs.Box.{panelRow}
-use Rattle.row_call.specs.Rows.{Span, OnSpan, Covers, Before, Every, InOrder, RowsIs, spanLength, lengthsOf}
+use Rattle.row.specs.Rows.{Span, OnSpan, Covers, Before, Every, InOrder, RowsIs, spanLength, lengthsOf}
 use Rattle.area_laws.proofs.PanelLaws.{row-mem, mem-row, row-once}
 
 -- the panels of a span, and of a list of spans

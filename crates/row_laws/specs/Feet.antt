@@ -4,7 +4,7 @@
 use Rattle.lists.specs.Lists.{Bool, cond, _&&_, _||_, List, [], _∷_, ℕ, predℤ, ltZ}
 use Rattle.grid.specs.{declared.Corner.Corner, Grid.eqZ, Grid.same}
 use Rattle.panels.specs.Edges.{Edge, edgesFrom}
-use Rattle.row_call.specs.Rows.{Span}
+use Rattle.row.specs.Rows.{Span}
 
 -- further south, or in one row further west
 abbrev pub ahead : Corner → Corner → Bool

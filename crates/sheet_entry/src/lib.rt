@@ -41,7 +41,7 @@ fn enter_polygon(steps: &[u8], out: &mut [u8], at: usize) -> usize
     ensures { λ e. ⌜ Wrote (polygonCell (now (steps .entry))) at (now (out .entry)) e (now (out .exit)) ⌝ }
 {
     let mut polygon = [0u8; Entry::MOST_POLYGON];
-    match polygon_out::write(Corner(0, 0), steps, &mut polygon) {
+    match polygon_call::write(Corner(0, 0), steps, &mut polygon) {
         Counted::Many(n) => spell_bytes(out, at, &polygon[..n]),
         Counted::Refused(_) => at,
     }

@@ -17,7 +17,7 @@ use Rattle.answer.specs.declared.Judged.the-variants.{Good, Refused}
 use Rattle.answer.specs.declared.Refusal.the-variants.{TooMany, ResultRoom, BadDigit, TooLong, HullRoom, StartRange, OutlineRoom, NotRoom, PolygonRoom, FileLength, FileKind, BadCoordinate, BadRing, ChainRoom, SpanRoom}
 use Rattle.answer.specs.Limits.{mostInput, mostSteps, startFits}
 use Rattle.answer.specs.Refusal.{when, orElse, firstOf, judgedPlace}
-use Rattle.walk_call.specs.Walk.{walkJudged, factsOf, answerBy, WalkIs}
+use Rattle.walk.specs.Walk.{walkJudged, factsOf, answerBy, WalkIs}
 use Rattle.grid.specs.declared.Corner.{Corner}
 use Rattle.hull.specs.Call.{hullJudged, HullCall}
 use Rattle.steps.specs.Chain.{chainJudged, asWalkJudged}
@@ -36,18 +36,18 @@ use Rattle.polygon_ring.specs.declared.Given.{Given}
 use Rattle.polygon_ring.specs.Ring.{orderOf, isNeither, isFaulty, isRing, lengthOf, countGiven, pointsGiven, ringOf, readJudged, givenOf, ReadCall}
 use Rattle.polygon_laws.proofs.WriteLaws.{polygon-few}
 use Rattle.polygon_ring_laws.proofs.TripLaws.{read-few}
-use Rattle.row_call.specs.Rows.{Span}
-use Rattle.row_call.specs.Call.{rowsJudged, RowsCall}
+use Rattle.row.specs.Rows.{Span}
+use Rattle.row.specs.Call.{rowsJudged, RowsCall}
 use Rattle.overlay.specs.declared.{Part.Part, Part.the-variants.First, Part.the-variants.Second, Part.the-variants.Both, Measures.Measures, Overlaid.Overlaid}
 use Rattle.overlay.specs.Call.{ofParts, partRoomJudged, overlayJudged, measuresOf, overlaidOf, OverlayCall}
 use Rattle.overlay_laws.proofs.CallLaws.{buffersJudged}
 use Rattle.demands.proofs.Overlay.{overlay-few}
 use Rattle.row_laws.proofs.CallLaws.{rows-few}
 use Rattle.answer.proofs.RefusalLaws.{orElse-good, first-good}
-use Rattle.walk_call.proofs.SmallLaws.{Placed, placed-when, placed-or, walk-placed, walk-few}
+use Rattle.walk.proofs.SmallLaws.{Placed, placed-when, placed-or, walk-placed, walk-few}
 use Rattle.hull_laws.proofs.HullLaws.{hull-count-steps}
 use Rattle.pair_steps.specs.Parties.{stepsBy}
-use Rattle.pair_call.specs.Call.{pairFactsOf, pairAnswerBy, PairLent, pairJudgedIn, PairIs}
+use Rattle.pair.specs.Call.{pairFactsOf, pairAnswerBy, PairLent, pairJudgedIn, PairIs}
 use Rattle.pair_laws.proofs.SmallLaws.{pair-placed, pair-few}
 use Rattle.undrwyth_words.specs.Words.{AnswerFits, PairAnswerFits, CountedFits, GivenFits, MeasureFits, MeasuresFit, OverlaidFits}
 

@@ -12,8 +12,8 @@ use Rattle.line_reply.proofs.ReplyLaws as replyLaws
 use Rattle.line_convert.specs.Convert.{ConvertedIs}
 use Rattle.line_convert.proofs.ConvertLaws as convertLaws
 use Rattle.polygon_ring.specs.Words.{givenWords, givenNumber}
-use Rattle.pair_call.specs.Call.{PairLent}
-use Rattle.pair_call.specs.Words.{pairAnswerWords, pairAnswerNumber}
+use Rattle.pair.specs.Call.{PairLent}
+use Rattle.pair.specs.Words.{pairAnswerWords, pairAnswerNumber}
 use Rattle.pair_demands.proofs.Parties.{pairIs-one}
 use Rattle.demands.proofs.Demand.{walkIs-one, hullCall-one, turns-one}
 use Rattle.demands.proofs.Outline.{outlineCall-one}

@@ -9,9 +9,9 @@ use Rattle.answer.specs.declared.Counted.{Counted}
 use Rattle.answer.specs.declared.Judged.{Judged}
 use Rattle.answer.specs.Refusal.{judgedNumber}
 use Rattle.answer.specs.declared.PairAnswer.{PairAnswer}
-use Rattle.walk_call.specs.Walk.{WalkIs}
-use Rattle.pair_call.specs.Call.{PairLent, PairIs}
-use Rattle.pair_call.specs.Words.{pairAnswerWords, pairAnswerNumber}
+use Rattle.walk.specs.Walk.{WalkIs}
+use Rattle.pair.specs.Call.{PairLent, PairIs}
+use Rattle.pair.specs.Words.{pairAnswerWords, pairAnswerNumber}
 use Rattle.grid.specs.declared.Corner.{Corner}
 use Rattle.hull.specs.Call.{HullCall}
 use Rattle.outline.specs.Call.{OutlineCall}
@@ -20,7 +20,7 @@ use Rattle.polygon.specs.Polygon.{PolygonCall}
 use Rattle.convex.specs.Convex.{ConvexCall}
 use Rattle.overlay.specs.declared.{Part.Part, Overlaid.Overlaid}
 use Rattle.overlay.specs.Call.{OverlayCall, overlaidWords, overlaidNumber}
-use Rattle.row_call.specs.Call.{RowsCall}
+use Rattle.row.specs.Call.{RowsCall}
 use Rattle.polygon_ring.specs.declared.Given.{Given}
 use Rattle.polygon_ring.specs.Ring.{ReadCall}
 use Rattle.polygon_ring.specs.Words.{givenWords, givenNumber}

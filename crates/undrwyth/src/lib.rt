@@ -29,7 +29,7 @@ pub extern "C" fn undrwyth_walk(
     ensures { λ n. ⌜ WalkGives (corner «start_x» «start_y») (now (ops .entry)) (now (table .entry)) (now (marks .entry))
         (now (chain .entry)) n (now (table .exit)) (now (marks .exit)) (now (chain .exit)) (now (answer .exit)) ⌝ }
 {
-    let a = walk::follow(Corner(start_x, start_y), ops, table, marks, chain);
+    let a = walk_call::follow(Corner(start_x, start_y), ops, table, marks, chain);
     let words = walk_words(a);
     *answer = words;
     words[0]
@@ -64,7 +64,7 @@ pub extern "C" fn undrwyth_walk_two(
 {
     let start = Corner(start0_x, start0_y);
     let start2 = Corner(start1_x, start1_y);
-    let a = pair_walk::follow(start, start2, ops, table, marks, chain0, chain1);
+    let a = pair_call::follow(start, start2, ops, table, marks, chain0, chain1);
     let words = pair_answer_words(a);
     *answer = words;
     words[0]
@@ -82,7 +82,7 @@ pub extern "C" fn undrwyth_hull(
     ensures { λ n. ⌜ HullGives (corner «start_x» «start_y») (now (chain .entry)) (now (out .entry)) n (now (out .exit))
         (now (answer .exit)) ⌝ }
 {
-    let c = hull_scan::list(Corner(start_x, start_y), chain, out);
+    let c = hull_call::list(Corner(start_x, start_y), chain, out);
     let words = counted_words(c);
     *answer = words;
     words[0]
@@ -100,7 +100,7 @@ pub extern "C" fn undrwyth_outline(
     ensures { λ n. ⌜ OutlineGives (corner «start_x» «start_y») (now (chain .entry)) (now (out .entry)) n (now (out .exit))
         (now (answer .exit)) ⌝ }
 {
-    let c = outline_scan::write(Corner(start_x, start_y), chain, out);
+    let c = outline_call::write(Corner(start_x, start_y), chain, out);
     let words = counted_words(c);
     *answer = words;
     words[0]
@@ -118,7 +118,7 @@ pub extern "C" fn undrwyth_polygon_of_room(
     ensures { λ n. ⌜ PolygonGives (corner «start_x» «start_y») (now (chain .entry)) (now (out .entry)) n (now (out .exit))
         (now (answer .exit)) ⌝ }
 {
-    let c = polygon_out::write(Corner(start_x, start_y), chain, out);
+    let c = polygon_call::write(Corner(start_x, start_y), chain, out);
     let words = counted_words(c);
     *answer = words;
     words[0]
@@ -136,7 +136,7 @@ pub extern "C" fn undrwyth_rows(
     ensures { λ n. ⌜ RowsGives (corner «start_x» «start_y») (now (chain .entry)) (now (out .entry)) n (now (out .exit))
         (now (answer .exit)) ⌝ }
 {
-    let c = row_list::list(Corner(start_x, start_y), chain, out);
+    let c = row_call::list(Corner(start_x, start_y), chain, out);
     let words = counted_words(c);
     *answer = words;
     words[0]
@@ -162,7 +162,7 @@ pub extern "C" fn undrwyth_overlay(
 {
     let one = Corner(start1_x, start1_y);
     let other = Corner(start2_x, start2_y);
-    let o = overlay_list::list(one, chain1, other, chain2, first, second, both);
+    let o = overlay_call::list(one, chain1, other, chain2, first, second, both);
     let words = overlaid_words(o);
     *answer = words;
     words[0]
@@ -178,7 +178,7 @@ pub extern "C" fn undrwyth_convex(
 ) -> u32
     ensures { λ n. ⌜ ConvexGives (corner «start_x» «start_y») (now (chain .entry)) n (now (answer .exit)) ⌝ }
 {
-    let c = convex_room::tell(Corner(start_x, start_y), chain);
+    let c = convex_call::tell(Corner(start_x, start_y), chain);
     let words = counted_words(c);
     *answer = words;
     words[0]
@@ -193,7 +193,7 @@ pub extern "C" fn undrwyth_chain_of_polygon(
 ) -> u32
     ensures { λ n. ⌜ ChainGives (now (file .entry)) (now (chain .entry)) n (now (chain .exit)) (now (answer .exit)) ⌝ }
 {
-    let g = polygon_in::read(file, chain);
+    let g = polygon_ring_call::read(file, chain);
     let words = given_words(g);
     *answer = words;
     words[0]

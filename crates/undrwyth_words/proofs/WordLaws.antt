@@ -23,7 +23,7 @@ use Rattle.orthogonal.specs.declared.{Enclosed.Enclosed, Orthogonal.Orthogonal}
 use Rattle.orthogonal.specs.Call.{orthogonalWords, orthogonalNumber}
 use Rattle.overlay.specs.declared.{Overlaid.Overlaid}
 use Rattle.overlay.specs.Call.{overlaidWords, overlaidNumber}
-use Rattle.pair_call.specs.Words.{partyWords, pairAnswerWords, pairAnswerNumber}
+use Rattle.pair.specs.Words.{partyWords, pairAnswerWords, pairAnswerNumber}
 use Rattle.answer.specs.Words.{bitsOf, factsWords, answerWords, countedWords, judgedWords, answerNumber, countedNumber}
 
 -- ---- the words of a refusal

@@ -24,7 +24,7 @@ ghost use Rattle.overlay.specs.Call.{overlaidWords};
 ghost use Rattle.orthogonal.specs.declared.Orthogonal.{Orthogonal};
 ghost use Rattle.orthogonal.specs.Call.{orthogonalWords};
 ghost use Rattle.answer.specs.declared.PairAnswer.{PairAnswer};
-ghost use Rattle.pair_call.specs.Words.{partyWords, pairAnswerWords};
+ghost use Rattle.pair.specs.Words.{partyWords, pairAnswerWords};
 ghost use Rattle.undrwyth_words.specs.Words.{AnswerFits, PartyFits, PairFits, PairAnswerFits, CountedFits, GivenFits, MeasuresFit, OverlaidFits, EnclosedFits, OrthogonalFits};
 
 // The numbers of an accepted walk.

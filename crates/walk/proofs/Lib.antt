@@ -1,1 +1,4 @@
-pub mod CallLaws
+pub mod CallCases
+pub mod JudgedLaws
+pub mod RoomLaws
+pub mod SmallLaws

@@ -1,4 +1,1 @@
-pub mod CallCases
-pub mod JudgedLaws
-pub mod RoomLaws
-pub mod SmallLaws
+pub mod CallLaws

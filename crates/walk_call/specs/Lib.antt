@@ -1,2 +1,2 @@
--- What the walk's call answers and leaves.
-pub mod Walk
+-- What the parts of the walk's call leave.
+pub mod Followed

@@ -24,7 +24,7 @@ use Rattle.answer.specs.declared.Facts.{Facts}
 use Rattle.answer.specs.declared.PartyFacts.{PartyFacts}
 use Rattle.answer.specs.Limits.{mostSteps, noMeeting, mostStart, farthest}
 use Rattle.tree.specs.Nodes.{nodesOf}
-use Rattle.walk_call.specs.Walk.{factsOf, partyFactsOf}
+use Rattle.walk.specs.Walk.{factsOf, partyFactsOf}
 use Rattle.walk_step.specs.declared.Tally.{Tally}
 use Rattle.walk_facts.specs.Settled.{gain, WalkOver}
 

@@ -10,7 +10,7 @@ ghost use mathlib.Core.Path.{_≡_};
 ghost use Prim.Native.Nat.{ℕ, _*_, _<_, _≤_};
 ghost use lib.IntN.{natAbs, _+ℤ_};
 ghost use lib.ListN.{length, take};
-ghost use Rattle.walk_call.specs.Walk.{factsOf, partyFactsOf};
+ghost use Rattle.walk.specs.Walk.{factsOf, partyFactsOf};
 ghost use Rattle.answer.specs.Limits.{mostSteps, noMeeting, farthest, Near};
 ghost use Rattle.walk_step.specs.Tallies.{Says};
 ghost use Rattle.trace.specs.Meeting.{Meeting};

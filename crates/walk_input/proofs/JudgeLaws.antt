@@ -16,14 +16,14 @@ use Rattle.answer.specs.declared.Refusal.the-variants.{TooMany, Table, ResultRo
 use Rattle.answer.specs.Refusal.{orElse, when, refusalNumber}
 use Rattle.answer.specs.Limits.{mostInput, mostSteps, mostRecords, Near, startFits}
 use Rattle.grid.specs.declared.Corner.{Corner}
-use Rattle.walk_call.specs.Walk.{tableFits, bufferBy}
+use Rattle.walk.specs.Walk.{tableFits, bufferBy}
 use Rattle.steps.specs.Operations.{faultOf, operationsJudged, after}
 use Rattle.layout.specs.Marks.{markWords}
 use Rattle.layout.specs.Table.{width, recordsIn}
 use Rattle.answer.proofs.RefusalLaws.{orElse-right}
 use Rattle.lists.proofs.GatherLaws.{and-left, and-right}
 use Rattle.order.specs.Highest.{highestOf}
-use Rattle.walk_call.proofs.JudgedLaws.{input-fits}
+use Rattle.walk.proofs.JudgedLaws.{input-fits}
 use Rattle.walk_input.specs.Input.{inputJudged}
 
 pub fault-bad : (i n o : ℕ) → 4 < o → Refused (BadDigit i) ≡ faultOf i n o

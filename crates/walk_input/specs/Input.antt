@@ -5,7 +5,7 @@ use Prim.Native.Nat.{ℕ}
 use Rattle.answer.specs.declared.Judged.{Judged}
 use Rattle.answer.specs.Refusal.{firstOf}
 use Rattle.grid.specs.declared.Corner.{Corner}
-use Rattle.walk_call.specs.Walk.{inputJudgements}
+use Rattle.walk.specs.Walk.{inputJudgements}
 
 abbrev pub inputJudged : Corner → List ℕ → ℕ → ℕ → ℕ → Judged
 inputJudged c os words marks chain = firstOf (inputJudgements c os words marks chain)

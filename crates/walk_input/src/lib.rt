@@ -7,7 +7,7 @@ use walk_step::Walk;
 use walk_table::Record;
 ghost use mathlib.Core.Path.{_≡_};
 ghost use Prim.Native.Nat.{_^_, _<_};
-ghost use Rattle.walk_call.specs.Walk.{tableFits};
+ghost use Rattle.walk.specs.Walk.{tableFits};
 ghost use Rattle.steps.specs.Operations.{faultOf, operationsJudged, after, Fine};
 ghost use Rattle.walk_input.specs.Input.{inputJudged};
 

@@ -8,7 +8,7 @@ use lib.ListN.{length, length-append, take, drop, getD, replicate, drop-of-lengt
 use lib.Seq.{sets, length-sets, sets-eq, length-take-le, drop-cons, take-at, take-all}
 use Rattle.answer.specs.Limits.{Near}
 use Rattle.answer.specs.declared.Judged.the-variants.{Good}
-use Rattle.walk_call.specs.Walk.{roomFrom}
+use Rattle.walk.specs.Walk.{roomFrom}
 use Rattle.grid.specs.declared.Corner.{Corner}
 use Rattle.grid.specs.Grid.{cornersFrom}
 use Rattle.layout.specs.Marks.{markWords, markOf, marksOf, marksFrom}
@@ -20,7 +20,7 @@ use Rattle.walk_step.specs.Walks.{fresh}
 use Rattle.walk_step.proofs.ChainLaws.{keeps-none, keeps-zeros, keeps-end}
 use Rattle.tree.specs.Nodes.{nodesOf}
 use Rattle.steps.specs.Operations.{operate, survivorsFrom, survivors, faultOf, operationsJudged, after, Fine}
-use Rattle.walk_call.proofs.RoomLaws.{room-full, room-fits, room-end}
+use Rattle.walk.proofs.RoomLaws.{room-full, room-fits, room-end}
 use Rattle.steps.proofs.SurvivorLaws.{fault-none, fault-step, after-length, length-operate}
 use Rattle.walk_run.specs.declared.Ran.{Ran}
 use Rattle.walk_run.specs.Runs.{Chained, Ready, Performed, PerformedAll, Ended}

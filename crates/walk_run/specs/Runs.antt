@@ -7,7 +7,7 @@ use lib.ListN.{length, replicate}
 use lib.Seq.{sets}
 use Rattle.answer.specs.declared.Judged.the-variants.{Good, Refused}
 use Rattle.answer.specs.declared.Refusal.the-variants.{NoRoom}
-use Rattle.walk_call.specs.Walk.{roomFrom}
+use Rattle.walk.specs.Walk.{roomFrom}
 use Rattle.grid.specs.declared.Corner.{Corner}
 use Rattle.grid.specs.Grid.{cornersFrom}
 use Rattle.layout.specs.Table.{width, recordsIn}

@@ -39,7 +39,7 @@ fn ends(marks: &[u32], chain: &[u8]) {
 
 // Walks the operations, and shows the answer and the ends of the buffers; then their hull and turns.
 fn walked(ops: &[u8], table: &mut [u32], marks: &mut [u32], chain: &mut [u8]) {
-    show::answer(walk::follow(Corner(0, 0), ops, table, marks, chain));
+    show::answer(walk_call::follow(Corner(0, 0), ops, table, marks, chain));
     last(table);
     ends(marks, chain);
     let mut hull = [7i32; 5];

@@ -9,7 +9,7 @@ ghost use lib.ListN.{length};
 
 // Walks the operations, and shows the answer and all of the buffers.
 fn shown(ops: &[u8], table: &mut [u32], marks: &mut [u32], chain: &mut [u8]) {
-    show::answer(walk::follow(Corner(0, 0), ops, table, marks, chain));
+    show::answer(walk_call::follow(Corner(0, 0), ops, table, marks, chain));
     show::words(b"  table", table);
     show::words(b"  marks", marks);
     show::bytes(b"  chain", chain);
@@ -17,7 +17,7 @@ fn shown(ops: &[u8], table: &mut [u32], marks: &mut [u32], chain: &mut [u8]) {
 
 // The hull of the operations, if they are steps.
 pub(crate) fn hulled(ops: &[u8], hull: &mut [i32]) {
-    show::counted(hull_scan::list(Corner(0, 0), ops, hull));
+    show::counted(hull_call::list(Corner(0, 0), ops, hull));
     show::numbers(b"  hull", hull);
 }
 

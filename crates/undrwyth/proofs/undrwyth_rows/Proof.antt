@@ -6,7 +6,7 @@ use mir.Syntax.{w32}
 use mir.ValLaws.{toZ-ofZ}
 use Rattle.grid.specs.declared.Corner.{Corner}
 use Rattle.grid.specs.Grid.{corner}
-use Rattle.row_call.specs.Call.{RowsCall}
+use Rattle.row.specs.Call.{RowsCall}
 use Rattle.undrwyth_words.proofs.WordLaws.{counted-first}
 use Rattle.undrwyth.proofs.BoundaryLaws.{rows-fit}
 use Rattle.undrwyth.proofs.undrwyth_rows.Statement.{statement}

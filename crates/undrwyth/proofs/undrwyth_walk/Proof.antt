@@ -6,7 +6,7 @@ use mir.Syntax.{w32}
 use mir.ValLaws.{toZ-ofZ}
 use Rattle.grid.specs.declared.Corner.{Corner}
 use Rattle.grid.specs.Grid.{corner}
-use Rattle.walk_call.specs.Walk.{WalkIs}
+use Rattle.walk.specs.Walk.{WalkIs}
 use Rattle.undrwyth_words.proofs.WordLaws.{answer-first}
 use Rattle.undrwyth.proofs.BoundaryLaws.{answer-fits}
 use Rattle.undrwyth.proofs.undrwyth_walk.Statement.{statement}

@@ -6,7 +6,7 @@ use mir.Syntax.{w32}
 use mir.ValLaws.{toZ-ofZ}
 use Rattle.grid.specs.declared.Corner.{Corner}
 use Rattle.grid.specs.Grid.{corner}
-use Rattle.pair_call.specs.Call.{PairIs}
+use Rattle.pair.specs.Call.{PairIs}
 use Rattle.undrwyth_words.proofs.WordLaws.{pair-first}
 use Rattle.undrwyth.proofs.BoundaryLaws.{pair-fits}
 use Rattle.undrwyth.proofs.undrwyth_walk_two.Statement.{statement}

@@ -3,7 +3,7 @@
 use mathlib.Core.Path.{ap, sym, subst, _∙_}
 use native.Mathlib.Omega.{arith}
 use borrow.Author.Needs.{needs}
-use Rattle.pair_call.specs.Words.{pairAnswerWords}
+use Rattle.pair.specs.Words.{pairAnswerWords}
 use Rattle.undrwyth_words.specs.Words.{PairAnswerFits}
 use Rattle.undrwyth_words.proofs.WordLaws.{refused-pair}
 use Rattle.undrwyth_words.proofs.pair_answer_words.Statement.{statement}

@@ -12,7 +12,7 @@ use Rattle.layout.specs.Marks.{markWords}
 use Rattle.answer.specs.declared.Judged.the-variants.{Refused}
 use Rattle.answer.specs.declared.Refusal.the-variants.{NoRoom}
 use Rattle.layout.specs.Table.{recordsIn}
-use Rattle.walk_call.specs.Walk.{roomFrom}
+use Rattle.walk.specs.Walk.{roomFrom}
 use Rattle.walk_step.specs.declared.Walk.{Walk}
 use Rattle.walk_step.specs.Walks.{fresh}
 use Rattle.walk_run.specs.declared.Ran.{Ran}

@@ -1,2 +1,0 @@
--- The parts of the call of two parties.
-pub mod Parts

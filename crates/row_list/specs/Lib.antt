@@ -1,2 +1,0 @@
--- What the listing of rows asks of the walk and of its working store.
-pub mod Store
