@@ -68,7 +68,7 @@ module _ (s : Corner) (ds : List ℕ) (r : IsRoom s ds) (b : Below 4 ds) where
         → (H p ≡ true) ↔ Quadrants (HoldsInside s ds g) p
     hull-quadrants = hullLaws.hull-quadrants s ds r b g some
 
-    -- it is contained in every unbroken set that contains the room's blocks, whether a test tells that set or not
+    -- it is contained in every unbroken set that contains the room's blocks, whether there is a test for that set or not
     pub hull-least : (H : Panel → Bool) → OrthogonalHullIs (HoldsInside s ds g) H → (K : Panel → Type 0)
         → Contains (HoldsInside s ds g) K → Unbroken K → Contains (Passing H) K
     hull-least = hullLaws.hull-least s ds r b g some

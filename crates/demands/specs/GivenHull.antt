@@ -9,7 +9,7 @@ use Rattle.answer.specs.declared.Refusal.the-variants.{HullRoom}
 use Rattle.grid.specs.declared.Corner.{Corner}
 use Rattle.demands.specs.GivenChain.{GivenChain}
 
--- the occasion of each judgement, for a hull with so many corners: those of a start and a chain, then 8
+-- the occasion of each judgement, for a hull with this many corners: those of a start and a chain, then 8
 pub data GivenHull (c : Corner) (chain : List ℕ) (size corners : ℕ) : Judged → Type 0 where
   notWalk : (q : Refusal) → GivenChain c chain (Refused q) → GivenHull c chain size corners (Refused q)
   hullRoom : GivenChain c chain Good → size < 2 * corners → GivenHull c chain size corners (Refused HullRoom)

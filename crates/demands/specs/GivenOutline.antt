@@ -9,7 +9,7 @@ use Rattle.answer.specs.declared.Refusal.the-variants.{OutlineRoom}
 use Rattle.grid.specs.declared.Corner.{Corner}
 use Rattle.demands.specs.GivenChain.{GivenChain}
 
--- the occasion of each judgement, for an outline of so many steps: those of a start and a chain, then 11
+-- the occasion of each judgement, for an outline of this many steps: those of a start and a chain, then 11
 pub data GivenOutline (c : Corner) (ds : List ℕ) (size steps : ℕ) : Judged → Type 0 where
   notWalk : (q : Refusal) → GivenChain c ds (Refused q) → GivenOutline c ds size steps (Refused q)
   outlineRoom : GivenChain c ds Good → size < steps → GivenOutline c ds size steps (Refused OutlineRoom)

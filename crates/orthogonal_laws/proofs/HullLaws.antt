@@ -162,6 +162,6 @@ module _ (c : Corner) (ds : List ℕ) (r : IsRoom c ds) (b : Below 4 ds) (g : �
   pub hull-quadrants : (H : Panel → Bool) → OrthogonalHullIs B H → (p : Panel) → (H p ≡ true) ↔ Quadrants B p
   hull-quadrants H h p = let e = hull-one h quarters-hull p in (λ i. quarters-has p .0 (sym e ∙ i), λ q. e ∙ quarters-has p .1 q)
 
-  -- and it is contained in every unbroken set that contains them, whether a test tells that set or not
+  -- and it is contained in every unbroken set that contains them, whether there is a test for that set or not
   pub hull-least : (H : Panel → Bool) → OrthogonalHullIs B H → (K : Panel → Type 0) → Contains B K → Unbroken K → Contains (Passing H) K
   hull-least H h K k u p i = quadrants-in B (blocks-connected g some c ds r b) p (hull-quadrants H h p .0 i) K k u

@@ -64,7 +64,7 @@ unitRing = (mm0, mm0) ∷ (mm600, mm0) ∷ (mm600, mm600) ∷ (mm0, mm600) ∷ (
 abbrev headed : List ℕ → List (List ℕ × List ℕ) → List ℕ
 headed head ps = head ++ pointBytes ps
 
--- a polygon of one ring, of so many points, with the lowest byte of each number first
+-- a polygon of one ring with this many points, with the lowest byte of each number first
 abbrev lowest : ℕ → List (List ℕ × List ℕ) → List ℕ
 lowest n = headed (1 ∷ 3 ∷ 0 ∷ 0 ∷ 0 ∷ 1 ∷ 0 ∷ 0 ∷ 0 ∷ n ∷ 0 ∷ 0 ∷ 0 ∷ [])
 

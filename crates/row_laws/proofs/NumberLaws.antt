@@ -20,6 +20,6 @@ written before L h = sets-eq (spanNumbers L) before 0 (omega (arith, length-numb
     all : 0 + length (spanNumbers L) ≡ length (spanNumbers L)
     all = omega arith
 
--- three numbers a span
+-- three numbers for each span
 pub numbers-thrice : (before : List ℤ) (L : List Span) → spanNumbers L ++ drop (length (spanNumbers L)) before ≡ spanNumbers L ++ drop (3 * length L) before
 numbers-thrice before L = ap (λ (k : ℕ). spanNumbers L ++ drop k before) (length-numbers L)

@@ -188,7 +188,7 @@ module _ (S : State) (sound : Sound S) (e : Corner) (s : ℕ) (deep : isRoot e �
           (λ f. upd-is corners T (recordBy S) (parentOf e) cleared back-parent x (λ g. node-row-x x (old x m f) g) ∙ sym (upd-off corners (recordBy S) e (replicate width 0) x f))
 
 -- ---- a visit counted, and taken back: words 18 and 20 of one row
--- T is S but for the visits at e
+-- T is S apart from the visits at e
 record Revisited (S T : State) (e : Corner) : Type 0 where
   nodes : T .nodes ≡ S .nodes
   step : (p q : Corner) → T .step p q ≡ S .step p q
