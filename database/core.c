@@ -118,6 +118,17 @@ int outline_of(const struct room *room, struct room *outline, struct refusal *wh
     return 1;
 }
 
+int orthogonal_of(const struct room *room, int64_t grid, struct room *outline, uint32_t *blocks, struct refusal *why) {
+    uint32_t answer[UNDRWYTH_ORTHOGONAL_ANSWER_WORDS], size = grid < 0 ? 0 : grid > UINT32_MAX ? UINT32_MAX : (uint32_t)grid;
+    if (undrwyth_orthogonal_hull(room->x, room->y, room->chain, room->steps, size, outline->chain, sizeof outline->chain, answer) != 0)
+        return refused(why, answer[UNDRWYTH_ORTHOGONAL_NUMBER], answer[UNDRWYTH_ORTHOGONAL_PLACE], room);
+    outline->steps = answer[UNDRWYTH_ORTHOGONAL_STEPS];
+    outline->x = (int32_t)answer[UNDRWYTH_ORTHOGONAL_START_X];
+    outline->y = (int32_t)answer[UNDRWYTH_ORTHOGONAL_START_Y];
+    *blocks = answer[UNDRWYTH_ORTHOGONAL_BLOCKS];
+    return 1;
+}
+
 size_t polygon_bytes(const struct room *room) {
     return UNDRWYTH_POLYGON_HEADER_BYTES + UNDRWYTH_POINT_BYTES * (room->steps + 1);
 }

@@ -50,6 +50,10 @@ int lay_over(const struct room *first, const struct room *second, int32_t *const
 /* The outer outline of the chain's walk, as another chain; whether the chain is taken. */
 int outline_of(const struct room *room, struct room *outline, struct refusal *why);
 
+/* The outline of a room's orthogonal hull in blocks of this size, as another chain, and how many blocks it has; whether the chain and
+ * the size are taken. */
+int orthogonal_of(const struct room *room, int64_t grid, struct room *outline, uint32_t *blocks, struct refusal *why);
+
 /* The polygon of a room in a buffer of polygon_bytes: its length, or -1 if the chain is not a room. */
 size_t polygon_bytes(const struct room *room);
 long polygon_of(const struct room *room, uint8_t *out, struct refusal *why);

@@ -227,6 +227,28 @@ static void convex_rooms(void) {
     CHECK(undrwyth_convex(0, 0, one, 0, answer) == UNDRWYTH_REFUSAL_NOT_ROOM);
 }
 
+static void orthogonal_hulls(void) {
+    const uint8_t u[] = {0, 0, 0, 1, 1, 2, 3, 2, 1, 2, 3, 3}, back[] = {0, 2}, bad[] = {0, 4};
+    const uint8_t around[] = {0, 0, 0, 1, 1, 2, 2, 2, 3, 3, 7, 7}, kept[] = {7, 7, 7, 7, 7, 7, 7, 7, 7, 7, 7, 7};
+    uint8_t out[] = {7, 7, 7, 7, 7, 7, 7, 7, 7, 7, 7, 7};
+    uint32_t answer[UNDRWYTH_ORTHOGONAL_ANSWER_WORDS];
+    const uint32_t panels[] = {0, 0, 10, (uint32_t)-3, 5, 6}, pairs[] = {0, 0, 8, (uint32_t)-2, 2, 4};
+    const uint32_t digit[UNDRWYTH_ORTHOGONAL_ANSWER_WORDS] = {UNDRWYTH_REFUSAL_BAD_DIGIT, 1};
+    CHECK(undrwyth_orthogonal_hull(16385, 0, bad, 2, 0, out, 0, answer) == UNDRWYTH_REFUSAL_START_RANGE);
+    CHECK(undrwyth_orthogonal_hull(0, 0, bad, 2, 0, out, 0, answer) == UNDRWYTH_REFUSAL_GRID_SIZE);
+    CHECK(undrwyth_orthogonal_hull(0, 0, bad, 2, UNDRWYTH_MOST_GRID + 1, out, 0, answer) == UNDRWYTH_REFUSAL_GRID_SIZE);
+    CHECK(undrwyth_orthogonal_hull(0, 0, bad, 2, 1, out, 0, answer) == UNDRWYTH_REFUSAL_BAD_DIGIT && SAME(answer, digit));
+    CHECK(undrwyth_orthogonal_hull(0, 0, back, 2, 1, NULL, 0, answer) == UNDRWYTH_REFUSAL_NOT_ROOM);
+    CHECK(undrwyth_orthogonal_hull(-3, 5, u, LENGTH(u), 1, out, 9, answer) == UNDRWYTH_REFUSAL_CHAIN_ROOM);
+    CHECK(SAME(out, kept) && answer[UNDRWYTH_ORTHOGONAL_STEPS] == 0);
+    CHECK(undrwyth_orthogonal_hull(-3, 5, u, LENGTH(u), 1, out, LENGTH(u), answer) == UNDRWYTH_ACCEPTED);
+    CHECK(SAME(answer, panels) && SAME(out, around));
+    CHECK(undrwyth_orthogonal_hull(-3, 5, u, LENGTH(u), 2, out, LENGTH(u), answer) == UNDRWYTH_ACCEPTED && SAME(answer, pairs));
+    CHECK(undrwyth_orthogonal_hull(-3, 5, u, LENGTH(u), UNDRWYTH_MOST_GRID, out, 4, answer) == UNDRWYTH_ACCEPTED);
+    CHECK((int32_t)answer[UNDRWYTH_ORTHOGONAL_START_X] == -1 && answer[UNDRWYTH_ORTHOGONAL_START_Y] == 0);
+    CHECK(answer[UNDRWYTH_ORTHOGONAL_BLOCKS] == 1);
+}
+
 static void polygon_as_chain(void) {
     const uint8_t room[] = {0, 1, 2, 3}, kept[] = {7, 7, 7, 7, 7}, read[] = {0, 1, 2, 3, 7};
     const uint32_t found[] = {0, 0, 4, 16384, (uint32_t)-16384};
@@ -327,6 +349,7 @@ int main(void) {
     room_by_rows();
     rooms_laid_over();
     convex_rooms();
+    orthogonal_hulls();
     polygon_as_chain();
     starts();
     turns_and_back();

@@ -75,6 +75,12 @@ static void overlay(void) {
 
 static void convex(void) { undrwyth_convex(-7, 5, digits, count, answer); }
 
+/* In blocks of one panel, of some, and of as many as may be. */
+static void orthogonal(void) {
+    for (uint32_t grid = 1; grid <= UNDRWYTH_MOST_GRID; grid *= 128)
+        undrwyth_orthogonal_hull(-7, 5, digits, count, grid, round, sizeof round, answer);
+}
+
 static void chain_of(void) {
     undrwyth_chain_of_polygon(rings[0], sizeof rings[0], chain, sizeof chain, answer);
     undrwyth_chain_of_polygon(rings[1], sizeof rings[1], chain, sizeof chain, answer);
@@ -172,6 +178,8 @@ static void overlay_256(void) { count <= 256 ? overlay() : nothing(); }
 static void overlay_2048(void) { count <= 2048 ? overlay() : nothing(); }
 static void convex_256(void) { count <= 256 ? convex() : nothing(); }
 static void convex_2048(void) { count <= 2048 ? convex() : nothing(); }
+static void orthogonal_256(void) { count <= 256 ? orthogonal() : nothing(); }
+static void orthogonal_2048(void) { count <= 2048 ? orthogonal() : nothing(); }
 
 /* n digits of a kind: out along one axis and then along the other, so that a step crosses a border of the tree at every
  * level; a staircase; a spiral; steps at random, with and without take-backs; round a rectangle; east. */
@@ -245,6 +253,9 @@ int main(void) {
         {"undrwyth_convex", convex, UNDRWYTH_CONVEX_STACK_BYTES},
         {"undrwyth_convex, at most 2,048 steps", convex_2048, UNDRWYTH_CONVEX_2048_STACK_BYTES},
         {"undrwyth_convex, at most 256 steps", convex_256, UNDRWYTH_CONVEX_256_STACK_BYTES},
+        {"undrwyth_orthogonal_hull", orthogonal, UNDRWYTH_ORTHOGONAL_STACK_BYTES},
+        {"undrwyth_orthogonal_hull, at most 2,048 steps", orthogonal_2048, UNDRWYTH_ORTHOGONAL_2048_STACK_BYTES},
+        {"undrwyth_orthogonal_hull, at most 256 steps", orthogonal_256, UNDRWYTH_ORTHOGONAL_256_STACK_BYTES},
         {"undrwyth_chain_of_polygon", chain_of, UNDRWYTH_CHAIN_STACK_BYTES},
         {"undrwyth_turns_of_steps, undrwyth_steps_of_turns", turns, UNDRWYTH_TURNS_STACK_BYTES},
         {"undrwyth_line", line, UNDRWYTH_LINE_STACK_BYTES},

@@ -15,8 +15,8 @@
  * the input; a refusal without a place has place 0. Signed values stand in the 32-bit words of an answer in two's
  * complement.
  *
- * First comes what all calls share: version, limits, lengths of buffers, stack, refusals and verdicts. Then comes each
- * call, after the words of its answer:
+ * These are the calls. In undrwyth.h each stands after the words of its answer, and before them all stands what they share:
+ * version, limits, lengths of buffers, stack, refusals and verdicts.
  *
  *   undrwyth_walk               judges a walk, and leaves its linked quadtree in a table
  *   undrwyth_walk_two           judges the walks of two parties, in one table
@@ -26,6 +26,7 @@
  *   undrwyth_rows               lists the panels inside a room, by rows
  *   undrwyth_overlay            lists the panels of two rooms: those in one only, and those in both
  *   undrwyth_convex             says whether a room is convex
+ *   undrwyth_orthogonal_hull    writes the outline of the orthogonal hull of a room, in panels or in larger blocks
  *   undrwyth_chain_of_polygon   reads a polygon, as a start and a chain of steps
  *   undrwyth_turns_of_steps     makes turns of steps
  *   undrwyth_steps_of_turns     makes steps of turns
@@ -75,6 +76,7 @@ typedef uint64_t undrwyth_size;
 #define UNDRWYTH_MOST_INPUT_BYTES 32768    /* operations, steps or turns in a call */
 #define UNDRWYTH_MOST_STEPS 16384          /* surviving steps, at any moment */
 #define UNDRWYTH_MOST_START 16384          /* magnitude of a start's coordinates */
+#define UNDRWYTH_MOST_GRID 16384           /* panels along a side of a block */
 #define UNDRWYTH_MOST_RECORDS 131148       /* records in a table */
 #define UNDRWYTH_MOST_PAIR_RECORDS 262296  /* records in a table that two parties share */
 #define UNDRWYTH_MOST_CORNER 32768         /* magnitude of the coordinates of a polygon's corners */
@@ -116,13 +118,16 @@ typedef uint64_t undrwyth_size;
 #define UNDRWYTH_CONVEX_256_STACK_BYTES 3072    /* 2,568 measured */
 #define UNDRWYTH_CONVEX_2048_STACK_BYTES 17408  /* 16,872 measured */
 #define UNDRWYTH_CONVEX_STACK_BYTES 132096      /* 131,544 measured */
+#define UNDRWYTH_ORTHOGONAL_256_STACK_BYTES 3072   /* 0 measured */
+#define UNDRWYTH_ORTHOGONAL_2048_STACK_BYTES 17408 /* 0 measured */
+#define UNDRWYTH_ORTHOGONAL_STACK_BYTES 132096     /* 0 measured */
 #define UNDRWYTH_CHAIN_STACK_BYTES 512          /* 152 measured */
 #define UNDRWYTH_TURNS_STACK_BYTES 256          /* 16 measured */
 #define UNDRWYTH_CONVERT_LINE_STACK_BYTES 2560  /* 2,200 measured */
 #define UNDRWYTH_LINE_STACK_BYTES 65536         /* 62,432 measured */
 
-/* Refusals. A call looks for them in this order: 1, 2, 3, 10; then 4, 5, 6 at the first faulty place; then 7, at its first
- * place; then 12; 8, 11, 13 and 21 last. If a polygon is read, the order is 14, 15, 14 again, 16, 17, 6, 18. If there are
+/* Refusals. A call looks for them in this order: 1, 2, 3, 10, 22; then 4, 5, 6 at the first faulty place; then 7, at its first
+ * place; then 12; 8, 11, 13, 18 and 21 last. If a polygon is read, the order is 14, 15, 14 again, 16, 17, 6, 18. If there are
  * two rooms, all refusals of the first come before those of the second, and 21 comes after both. If there are two parties,
  * 20 comes with 4, 5 and 6, and before them on one byte. For a line, 9 and then 19 come before the refusals of its walk. */
 #define UNDRWYTH_ACCEPTED 0
@@ -149,6 +154,7 @@ typedef uint64_t undrwyth_size;
 #define UNDRWYTH_REFUSAL_RETIRED_KIND 19   /* a frame with turns; only in answers of undrwyth_line */
 #define UNDRWYTH_REFUSAL_UNKNOWN_PARTY 20  /* a byte above 31; only in undrwyth_walk_two. Has a place */
 #define UNDRWYTH_REFUSAL_SPAN_ROOM 21      /* a buffer shorter than three numbers for each span */
+#define UNDRWYTH_REFUSAL_GRID_SIZE 22      /* a grid size of 0, or above UNDRWYTH_MOST_GRID */
 
 /* Verdicts. A walk is closed if pn = p0, and crossed if it has a meeting other than (0,n). */
 #define UNDRWYTH_VERDICT_NOWHERE 0         /* n is 0 */
@@ -474,6 +480,40 @@ uint32_t undrwyth_overlay(int32_t start1_x, int32_t start1_y,
 uint32_t undrwyth_convex(int32_t start_x, int32_t start_y,
                          const uint8_t *chain, undrwyth_size n,
                          uint32_t answer[UNDRWYTH_CONVEX_ANSWER_WORDS]);
+
+/* -------- undrwyth_orthogonal_hull -------- */
+
+/* Words of the answer to undrwyth_orthogonal_hull. The start is a corner of blocks. */
+#define UNDRWYTH_ORTHOGONAL_ANSWER_WORDS 6
+#define UNDRWYTH_ORTHOGONAL_NUMBER 0       /* the refusal's number */
+#define UNDRWYTH_ORTHOGONAL_PLACE 1        /* the refusal's place */
+#define UNDRWYTH_ORTHOGONAL_STEPS 2        /* how many steps the outline has */
+#define UNDRWYTH_ORTHOGONAL_START_X 3      /* signed: x of the corner at which it starts */
+#define UNDRWYTH_ORTHOGONAL_START_Y 4      /* signed: y of that corner */
+#define UNDRWYTH_ORTHOGONAL_BLOCKS 5       /* how many blocks are inside */
+
+/* Writes the outline of the orthogonal hull of a room, in blocks of grid by grid panels, as steps.
+ *
+ * The room is the walk of the n steps in chain from the corner (start_x, start_y). grid is 1 to UNDRWYTH_MOST_GRID. The panel
+ * (x,y), between the corners (x,y) and (x+1,y+1), is in the block (x/grid, y/grid), each quotient rounded down, also below 0.
+ * The hull is the smallest set of blocks that has every block with a panel inside the room and, with any two blocks of one
+ * row or of one column, all blocks between them.
+ *
+ * The outline goes counterclockwise from the lowest of the leftmost corners of the hull, a step for each edge of a block.
+ * Its corners are counted in blocks: (x,y) is the corner (grid * x, grid * y) of the panels. It is a room itself, and its
+ * area is the number of blocks. It has twice as many steps as the box around the blocks has columns and rows of blocks.
+ *
+ * out_bytes is at least the steps of the outline. Any length is taken, and the outline never has more than n steps: a
+ * buffer as long as the chain always suffices.
+ *
+ * Accepted: out begins with the outline, one byte for each step; the bytes after it are as they were.
+ * Refused with 1, 10, 22, 4, 6, 12 or 18, in this order: out is as it was.
+ *
+ * Stack: UNDRWYTH_ORTHOGONAL_256_STACK_BYTES for at most 256 steps, and so on. */
+uint32_t undrwyth_orthogonal_hull(int32_t start_x, int32_t start_y,
+                                  const uint8_t *chain, undrwyth_size n, uint32_t grid,
+                                  uint8_t *out, undrwyth_size out_bytes,
+                                  uint32_t answer[UNDRWYTH_ORTHOGONAL_ANSWER_WORDS]);
 
 /* -------- undrwyth_chain_of_polygon -------- */
 

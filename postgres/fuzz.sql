@@ -13,7 +13,7 @@ BEGIN
   BEGIN PERFORM undrwyth_rows(v); EXCEPTION WHEN SQLSTATE '22023' THEN raised := raised + 1; END;
   BEGIN PERFORM undrwyth_overlay(v, v); EXCEPTION WHEN SQLSTATE '22023' THEN raised := raised + 1; END;
   IF raised NOT IN (0, 4) OR (raised = 0) <> undrwyth_is_room(v) THEN RAISE EXCEPTION 'the functions do not agree on %', v; END IF;
-  BEGIN PERFORM undrwyth_chain(v); PERFORM undrwyth_outline(v); EXCEPTION WHEN SQLSTATE '22023' THEN NULL; END;
+  BEGIN PERFORM undrwyth_chain(v); PERFORM undrwyth_outline(v); PERFORM undrwyth_orthogonal_hull(v, 3); EXCEPTION WHEN SQLSTATE '22023' THEN NULL; END;
   RETURN 7;
 END $$;
 CREATE TEMP TABLE b AS SELECT i, decode(string_agg(md5(random()::text || j), ''), 'hex') AS v FROM generate_series(1, 3000) i, generate_series(1, 1 + i % 40) j GROUP BY i;

@@ -189,6 +189,19 @@ Datum undrwyth_sql_outline(PG_FUNCTION_ARGS) {
     PG_RETURN_DATUM(row_of_chain(fcinfo, outline));
 }
 
+PG_FUNCTION_INFO_V1(undrwyth_sql_orthogonal_hull);
+Datum undrwyth_sql_orthogonal_hull(PG_FUNCTION_ARGS) {
+    struct room *room = room_of(PG_GETARG_VARLENA_PP(0)), *outline = palloc(sizeof *outline);
+    struct refusal why;
+    uint32_t blocks;
+    if (!orthogonal_of(room, PG_GETARG_INT32(1), outline, &blocks, &why)) refuse_call(&why);
+    bool nulls[4] = {false, false, false, false};
+    for (size_t i = 0; i < outline->steps; i++) outline->chain[i] = (uint8_t)(outline->chain[i] + '0');
+    Datum chain = PointerGetDatum(cstring_to_text_with_len((char *)outline->chain, (int)outline->steps));
+    Datum values[4] = {Int32GetDatum(outline->x), Int32GetDatum(outline->y), chain, Int32GetDatum((int32)blocks)};
+    PG_RETURN_DATUM(row(fcinfo, values, nulls));
+}
+
 PG_FUNCTION_INFO_V1(undrwyth_sql_polygon);
 Datum undrwyth_sql_polygon(PG_FUNCTION_ARGS) {
     struct room *room = palloc(sizeof *room);

@@ -45,14 +45,16 @@ int write_bytes(const void *from, size_t n);
 
 /* The commands: each gives its status. */
 int run_lines(int (*proved)(int, char **), int in_words);
-int explain(void), outline(void), hull(void), convex(void), spans(void), chains(void), overlay(void), table(void), draw(void), dxf(void), summary(void);
+int explain(void), outline(void), hull(void), convex(void), orthogonal(void), spans(void), chains(void), overlay(void), table(void), draw(void), dxf(void), summary(void);
 int page(void);
 
 /* Commands that read their words themselves: MISUSED if these are wrong, and then they have said nothing. */
 int parts(char **words, int count), orders(char **words, int count);
 
-/* What options say: rooms are drawn apart, their polygons are written too, and the file for refused lines, or null. */
-extern int apart, with_polygons;
+/* What options say: rooms are drawn apart, their polygons are written too, their orthogonal hulls are drawn too, the grid size of
+ * orthogonal hulls, and the file for refused lines, or null. */
+extern int apart, with_polygons, with_hull;
+extern unsigned long grid_size;
 extern const char *refused_lines;
 
 #endif

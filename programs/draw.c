@@ -26,6 +26,11 @@ static struct drawn one, two;
 static struct overlay laid;
 static int32_t hull_corners[UNDRWYTH_MOST_STEPS + 1][2];
 static uint32_t hull_answer[UNDRWYTH_HULL_ANSWER_WORDS];
+/* The orthogonal hull, if it is asked for: its corners, in blocks, what was answered, and a sentence. */
+int with_hull;
+static int32_t around[UNDRWYTH_MOST_STEPS + 1][2];
+static uint32_t around_answer[UNDRWYTH_ORTHOGONAL_ANSWER_WORDS];
+static char around_words[UNDRWYTH_SENTENCE_BYTES];
 /* The picture: the west and the north edge of the grid, from which the pixels of a corner are reckoned, and its size. */
 static int west, east, south, north, width, height;
 
@@ -40,25 +45,49 @@ static void write_out(const char *format, ...) {
     put(piece);
 }
 
-/* Widens the picture by the walk, and finds the walk's corners. */
+/* Widens the picture by a corner. */
+static void widen(int x, int y) {
+    if (x < west) west = x;
+    if (x > east) east = x;
+    if (y < south) south = y;
+    if (y > north) north = y;
+}
+
+/* The corners of the walk of n steps from (x,y). */
+static void corners_of(int32_t x, int32_t y, const uint8_t *steps, uint32_t n, int32_t (*corners)[2]) {
+    for (uint32_t i = 0;; i++) {
+        corners[i][0] = x;
+        corners[i][1] = y;
+        if (i == n) return;
+        x += (steps[i] == 0) - (steps[i] == 2);
+        y += (steps[i] == 1) - (steps[i] == 3);
+    }
+}
+
+/* Finds the walk's corners, and widens the picture by them. */
 static void follow(struct drawn *drawn, int first) {
     int x = drawn->record.x, y = drawn->record.y;
     if (first) {
         west = east = x;
         south = north = y;
     }
-    for (uint32_t i = 0;; i++) {
-        drawn->corners[i][0] = x;
-        drawn->corners[i][1] = y;
-        if (x < west) west = x;
-        if (x > east) east = x;
-        if (y < south) south = y;
-        if (y > north) north = y;
-        if (i == drawn->walk.answer[UNDRWYTH_WALK_STEPS]) return;
-        uint8_t step = drawn->walk.steps[i];
-        x += (step == 0) - (step == 2);
-        y += (step == 1) - (step == 3);
-    }
+    uint32_t n = drawn->walk.answer[UNDRWYTH_WALK_STEPS];
+    corners_of(x, y, drawn->walk.steps, n, drawn->corners);
+    for (uint32_t i = 0; i <= n; i++) widen(drawn->corners[i][0], drawn->corners[i][1]);
+}
+
+/* Finds the orthogonal hull of the room: whether it is accepted. Its corners become those of panels. */
+static int find_hull(void) {
+    static uint8_t out[UNDRWYTH_MOST_STEPS];
+    struct record *record = &one.record;
+    uint32_t *answer = around_answer, grid = (uint32_t)grid_size;
+    if (undrwyth_orthogonal_hull(record->x, record->y, one.walk.steps, one.walk.answer[UNDRWYTH_WALK_STEPS], grid, out, sizeof out, answer) != 0)
+        return refuse(record, answer[UNDRWYTH_ORTHOGONAL_NUMBER], answer[UNDRWYTH_ORTHOGONAL_PLACE]);
+    undrwyth_orthogonal_sentence(around_words, sizeof around_words, grid, answer);
+    corners_of((int32_t)answer[UNDRWYTH_ORTHOGONAL_START_X], (int32_t)answer[UNDRWYTH_ORTHOGONAL_START_Y], out, answer[UNDRWYTH_ORTHOGONAL_STEPS], around);
+    for (uint32_t i = 0; i <= answer[UNDRWYTH_ORTHOGONAL_STEPS]; i++)
+        for (int axis = 0; axis < 2; axis++) around[i][axis] *= (int32_t)grid;
+    return 1;
 }
 
 /* One panel more than the walks on each side. */
@@ -106,6 +135,29 @@ static void grid(void) {
     put("\" stroke=\"#bbbbbb\"/>\n");
 }
 
+/* The orthogonal hull as a ground, below the panels of the room. */
+static void hull_ground(void) {
+    put("<polygon points=\"");
+    points(around, around_answer[UNDRWYTH_ORTHOGONAL_STEPS]);
+    put("\" fill=\"#fbe3c0\"/>\n");
+}
+
+/* The lines between blocks of more than one panel, and the hull as a line. */
+static void hull_line(void) {
+    int by = (int)grid_size, first_x = around[0][0], first_y = around[0][1];
+    while (first_x - by >= west) first_x -= by;
+    while (first_y + by <= north) first_y += by;
+    if (by > 1) {
+        put("<path d=\"");
+        for (int x = first_x; pixel_x(x) <= width; x += by) write_out("M%d,0V%d ", pixel_x(x), height);
+        for (int y = first_y; pixel_y(y) <= height; y -= by) write_out("M0,%dH%d ", pixel_y(y), width);
+        put("\" stroke=\"#888888\" stroke-width=\"2\"/>\n");
+    }
+    put("<polygon points=\"");
+    points(around, around_answer[UNDRWYTH_ORTHOGONAL_STEPS]);
+    put("\" fill=\"none\" stroke=\"#c26a00\" stroke-width=\"7\" stroke-linejoin=\"round\"/>\n");
+}
+
 /* The walk, an arrow for each of its steps, and a dot where it starts. */
 static void line(struct drawn *drawn, const char *colour) {
     uint32_t n = drawn->walk.answer[UNDRWYTH_WALK_STEPS];
@@ -144,16 +196,29 @@ static int draw_one(const char *note) {
         refuse(record, hull_answer[UNDRWYTH_HULL_NUMBER], hull_answer[UNDRWYTH_HULL_PLACE]);
     else if (room && undrwyth_rows(record->x, record->y, one.walk.steps, n, spans, sizeof spans / sizeof *spans, rows) != 0)
         refuse(record, rows[UNDRWYTH_ROWS_NUMBER], rows[UNDRWYTH_ROWS_PLACE]);
+    if (record->refusal == 0 && with_hull) find_hull();
     if (record->refusal != 0) return say_refused(record);
     follow(&one, 1);
+    for (uint32_t i = 0; with_hull && i < around_answer[UNDRWYTH_ORTHOGONAL_STEPS]; i++) widen(around[i][0], around[i][1]);
     frame();
-    size_t said = strlen(record->sentence), noted = note != NULL ? strlen(note) : 0;
-    begin(record->sentence, note != NULL ? 2 : 1, said > noted ? said : noted);
+    const char *lines[] = {record->sentence, around_words, note};
+    size_t longest = 0;
+    int count = 0;
+    for (int i = 0; i < 3; i++) {
+        size_t n = lines[i] != NULL ? strlen(lines[i]) : 0;
+        longest = n > longest ? n : longest;
+        count += n > 0;
+    }
+    begin(record->sentence, count, longest);
+    if (with_hull) hull_ground();
     panels(spans, rows[UNDRWYTH_ROWS_SPANS], "#cfe8cf");
     grid();
-    put("<polygon points=\"");
-    points(hull_corners, hull_answer[UNDRWYTH_HULL_COUNT]);
-    put("\" fill=\"none\" stroke=\"#3366cc\" stroke-dasharray=\"6 4\"/>\n");
+    if (with_hull) hull_line();
+    else {
+        put("<polygon points=\"");
+        points(hull_corners, hull_answer[UNDRWYTH_HULL_COUNT]);
+        put("\" fill=\"none\" stroke=\"#3366cc\" stroke-dasharray=\"6 4\"/>\n");
+    }
     line(&one, "#222222");
     if (one.walk.answer[UNDRWYTH_WALK_K] != UNDRWYTH_NO_MEETING) {
         uint32_t j = one.walk.answer[UNDRWYTH_WALK_J], k = one.walk.answer[UNDRWYTH_WALK_K];
@@ -162,8 +227,9 @@ static int draw_one(const char *note) {
         write_out("<text x=\"%d\" y=\"%d\" fill=\"#cc2222\">%u, %u</text>\n", pixel_x(at[0]) + 10, pixel_y(at[1]) - 12, (unsigned)j, (unsigned)k);
     }
     words(0, record->sentence, "#222222");
+    if (with_hull) words(1, around_words, "#8a4b00");
     if (note != NULL) {
-        words(1, note, "#cc2222");
+        words(count - 1, note, "#cc2222");
         fail("%s", note);
     }
     put("</svg>\n");
@@ -208,6 +274,7 @@ int draw(void) {
     third.number = two.record.number;
     if (more > 0 && next_line(0, &third) > 0) return fail("the input has more than two lines, and a picture is of one record, or of two rooms");
     if (more > 0 && two.record.refusal != 0) return say_refused(&two.record);
+    if (more > 0 && with_hull) return fail("an orthogonal hull is drawn of one room, and the input has two lines");
     int status = more > 0 ? draw_two() : draw_one(note), ended = end_of_input(0);
     return status != WHOLE ? status : ended;
 }

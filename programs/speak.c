@@ -183,6 +183,38 @@ int convex(void) {
     return answer_each(facts, told_convex);
 }
 
+unsigned long grid_size = 1;
+
+static int hulled_by_blocks(void) {
+    static uint8_t out[UNDRWYTH_MOST_STEPS];
+    uint32_t answer[UNDRWYTH_ORTHOGONAL_ANSWER_WORDS], n = of_walk(UNDRWYTH_WALK_STEPS);
+    if (undrwyth_orthogonal_hull(record.x, record.y, walk.steps, n, (uint32_t)grid_size, out, sizeof out, answer) != 0)
+        return refuse(&record, answer[UNDRWYTH_ORTHOGONAL_NUMBER], answer[UNDRWYTH_ORTHOGONAL_PLACE]);
+    uint32_t steps = answer[UNDRWYTH_ORTHOGONAL_STEPS];
+    int32_t x = (int32_t)answer[UNDRWYTH_ORTHOGONAL_START_X], y = (int32_t)answer[UNDRWYTH_ORTHOGONAL_START_Y];
+    as_digits(out, steps);
+    if (form == SENTENCES) {
+        put_chain(x, y, out, steps);
+        return 1;
+    }
+    char sentence[UNDRWYTH_SENTENCE_BYTES];
+    undrwyth_orthogonal_sentence(sentence, sizeof sentence, (uint32_t)grid_size, answer);
+    record.x = x;
+    record.y = y;
+    begin_row(&record);
+    fact((long long)grid_size);
+    fact(answer[UNDRWYTH_ORTHOGONAL_BLOCKS]);
+    fact(steps);
+    fact_text(out, steps);
+    end_row(sentence);
+    return 1;
+}
+
+int orthogonal(void) {
+    static const char *const facts[] = {"grid", "blocks", "steps", "chain", NULL};
+    return answer_each(facts, hulled_by_blocks);
+}
+
 /* The rows of a room: a line for each span, but JSON has one for each record. */
 static int spanned(void) {
     static int32_t out[3 * UNDRWYTH_MOST_STEPS / 2];

@@ -23,6 +23,7 @@
     text outline_help, "programs/outline.txt"
     text hull_help, "programs/hull.txt"
     text convex_help, "programs/convex.txt"
+    text orthogonal_help, "programs/orthogonal.txt"
     text spans_help, "programs/spans.txt"
     text overlay_help, "programs/overlay.txt"
     text table_help, "programs/table.txt"

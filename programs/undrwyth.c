@@ -5,7 +5,9 @@
 #include <fcntl.h>
 #include <signal.h>
 #include <stdarg.h>
+#include <stdint.h>
 #include <stdio.h>
+#include <stdlib.h>
 #include <string.h>
 #include <unistd.h>
 
@@ -31,6 +33,7 @@ TEXT(chains_help);
 TEXT(outline_help);
 TEXT(hull_help);
 TEXT(convex_help);
+TEXT(orthogonal_help);
 TEXT(spans_help);
 TEXT(overlay_help);
 TEXT(table_help);
@@ -48,7 +51,7 @@ TEXT(tenant_sample);
 #define OF(name) {name, name##_end}
 
 /* What a command takes besides --help, --sample and files. */
-enum { PRETTY = 1, RECORDS = 2, FORMS = 4, APART = 8, REFUSED = 16, PAIRED = 32, WKB = 64, NO_INPUT = 128 };
+enum { PRETTY = 1, RECORDS = 2, FORMS = 4, APART = 8, REFUSED = 16, PAIRED = 32, WKB = 64, NO_INPUT = 128, GRID = 256, HULL = 512 };
 
 struct command {
     const char *name;
@@ -66,12 +69,13 @@ static const struct command commands[] = {
     {"polygons", OF(polygons_help), OF(records_sample), polygons_main, NULL, 0, NULL},
     {"explain", OF(explain_help), OF(orders_sample), NULL, explain, RECORDS | FORMS | WKB, NULL},
     {"summary", OF(summary_help), OF(orders_sample), NULL, summary, RECORDS | FORMS | REFUSED, NULL},
-    {"draw", OF(draw_help), OF(picture_sample), NULL, draw, RECORDS, NULL},
+    {"draw", OF(draw_help), OF(picture_sample), NULL, draw, RECORDS | GRID | HULL, NULL},
     {"dxf", OF(dxf_help), OF(orders_sample), NULL, dxf, RECORDS | APART, NULL},
     {"chains", OF(chains_help), OF(polygons_sample), NULL, chains, FORMS, NULL},
     {"outline", OF(outline_help), OF(orders_sample), NULL, outline, RECORDS | FORMS, NULL},
     {"hull", OF(hull_help), OF(orders_sample), NULL, hull, RECORDS | FORMS, NULL},
     {"convex", OF(convex_help), OF(orders_sample), NULL, convex, RECORDS | FORMS, NULL},
+    {"orthogonal", OF(orthogonal_help), OF(orders_sample), NULL, orthogonal, RECORDS | FORMS | GRID, NULL},
     {"spans", OF(spans_help), OF(orders_sample), NULL, spans, RECORDS | FORMS, NULL},
     {"overlay", OF(overlay_help), OF(landlord_sample), NULL, overlay, RECORDS | FORMS | PAIRED, NULL},
     {"table", OF(table_help), OF(picture_sample), NULL, table, RECORDS | FORMS, NULL},
@@ -162,6 +166,14 @@ static struct {
     const char *record;
 } asked;
 
+/* A grid size, 0 if the word is not a whole number: what is above the most is refused by the proved call. */
+static int take_grid(const char *word) {
+    if (word[0] == 0 || strspn(word, "0123456789") != strlen(word)) return 0;
+    grid_size = strtoul(word, NULL, 10);
+    if (grid_size > UINT32_MAX) grid_size = UINT32_MAX;
+    return 1;
+}
+
 /* Takes the option that stands first in the words: how many words it has, or 0 if the command has none of that name. */
 static int option(char **words, int count) {
     int takes = chosen->takes;
@@ -173,6 +185,8 @@ static int option(char **words, int count) {
     else if (is(*words, "--digits") && takes & RECORDS) reading = DIGITS;
     else if (is(*words, "--wkb") && takes & WKB) with_polygons = 1;
     else if (is(*words, "--apart") && takes & APART) apart = 1;
+    else if (is(*words, "--orthogonal") && takes & HULL) with_hull = 1;
+    else if (is(*words, "--grid") && takes & GRID && count > 1 && take_grid(words[1])) return 2;
     else if (is(*words, "--refused") && takes & REFUSED && count > 1) refused_lines = words[1];
     else if (is(*words, "--record") && takes & RECORDS && !(takes & PAIRED) && count > 1) asked.record = words[1];
     else return 0;
@@ -210,6 +224,7 @@ static int run(char **words, int count) {
     if ((asked.sampled || asked.record != NULL) && count > 0) return misused(*words);
     if (asked.sampled && asked.record != NULL) return misused("--sample and --record");
     if (chosen->takes & NO_INPUT && (asked.sampled || count > 0)) return misused(asked.sampled ? "--sample" : *words);
+    if (grid_size != 1 && chosen->takes & HULL && !with_hull) return misused("--grid without --orthogonal");
     if (with_polygons && form == SENTENCES) form = CSV;
     if (fcntl(1, F_GETFD) < 0) return fail("standard output is closed");
     if (chosen->takes & NO_INPUT) return chosen->shown();

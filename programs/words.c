@@ -133,6 +133,7 @@ static const char *const refusals[] = {
     [UNDRWYTH_REFUSAL_CHAIN_ROOM] = "the lent buffer is shorter than the chain",
     [UNDRWYTH_REFUSAL_RETIRED_KIND] = "the record has turns, which are retired; convert makes a record with steps of it",
     [UNDRWYTH_REFUSAL_SPAN_ROOM] = "a lent buffer is shorter than three numbers for each span",
+    [UNDRWYTH_REFUSAL_GRID_SIZE] = "the grid size is not a number from 1 to 16,384",
 };
 
 enum { REFUSALS = sizeof refusals / sizeof *refusals };
@@ -224,6 +225,22 @@ size_t undrwyth_overlay_sentence(char *out, size_t room, const uint32_t answer[U
     return ended(&s);
 }
 
+size_t undrwyth_orthogonal_sentence(char *out, size_t room, uint32_t grid, const uint32_t answer[UNDRWYTH_ORTHOGONAL_ANSWER_WORDS]) {
+    struct sentence s = {out, room, 0};
+    add(&s, "an orthogonal hull of ");
+    add_count(&s, answer[UNDRWYTH_ORTHOGONAL_BLOCKS], grid == 1 ? "panel" : "block");
+    if (grid != 1) {
+        add(&s, " of ");
+        add_number(&s, grid);
+        add(&s, " by ");
+        add_number(&s, grid);
+        add(&s, " panels");
+    }
+    add(&s, ", ");
+    add_count(&s, answer[UNDRWYTH_ORTHOGONAL_STEPS], "step");
+    return ended(&s);
+}
+
 const char *undrwyth_convex_word(const uint32_t answer[UNDRWYTH_CONVEX_ANSWER_WORDS]) {
     return answer[UNDRWYTH_CONVEX_YES] == 1 ? "convex" : "not convex";
 }
@@ -237,7 +254,7 @@ const char *undrwyth_verdict_name(uint32_t verdict) {
 static const char *const refusal_names[] = {
     "accepted", "too_many", "table", "result_room", "bad_digit", "nothing_to_take", "too_long", "no_room", "hull_room", "bad_line", "start_range",
     "outline_room", "not_room", "polygon_room", "file_length", "file_kind", "bad_coordinate", "bad_ring", "chain_room", "retired_kind", "unknown_party",
-    "span_room",
+    "span_room", "grid_size",
 };
 
 const char *undrwyth_refusal_name(uint32_t number) {

@@ -29,6 +29,10 @@ void undrwyth_text_fault(char out[UNDRWYTH_FAULT_BYTES], const uint8_t *text, si
 /* Two rooms that were laid over each other: "12 panels in the first only, 1 panel in the second only, 4 panels in both". */
 size_t undrwyth_overlay_sentence(char *out, size_t room, const uint32_t answer[UNDRWYTH_OVERLAY_ANSWER_WORDS]);
 
+/* The orthogonal hull of a room in blocks of this size: "an orthogonal hull of 4 blocks of 2 by 2 panels, 8 steps", and if a block
+ * is a panel "an orthogonal hull of 6 panels, 10 steps". */
+size_t undrwyth_orthogonal_sentence(char *out, size_t room, uint32_t grid, const uint32_t answer[UNDRWYTH_ORTHOGONAL_ANSWER_WORDS]);
+
 /* "convex", or "not convex". */
 const char *undrwyth_convex_word(const uint32_t answer[UNDRWYTH_CONVEX_ANSWER_WORDS]);
 

@@ -51,6 +51,7 @@ static int calls(long count) {
     static const char *const statements[] = {
         "SELECT undrwyth_is_room(?)",        "SELECT undrwyth_panels(?)",          "SELECT undrwyth_is_convex(?)",
         "SELECT * FROM undrwyth_rows(?)",    "SELECT undrwyth_overlay(?1, ?1)",    "SELECT * FROM undrwyth_overlay_rows(?1, ?1)",
+        "SELECT undrwyth_orthogonal_hull(?)", "SELECT undrwyth_orthogonal_hull(?, 3)",
         "SELECT undrwyth_chain(?)",          "SELECT undrwyth_outline(?)",         "SELECT undrwyth_judge(?)",
         "SELECT undrwyth_explain(?)",        "SELECT undrwyth_walk(?)",            "SELECT undrwyth_line(?)",
     };
@@ -79,7 +80,7 @@ static int calls(long count) {
         rooms += is;
         for (int k = 1; k < KINDS; k++) {
             int answer = asked(prepared[k], blob, m);
-            if ((k < 6 && (answer >= 0) != is) || (k > 7 && answer < 0)) return fail(statements[k]);
+            if ((k < 8 && (answer >= 0) != is) || (k > 9 && answer < 0)) return fail(statements[k]);
         }
     }
     sqlite3_int64 after = sqlite3_memory_used();

@@ -66,10 +66,10 @@ static void result_facts(sqlite3_context *context, const int32_t facts[FACTS]) {
     else sqlite3_result_text(context, whole, n, sqlite3_free);
 }
 
-/* {"x":0,"y":0,"chain":"0123"} */
-static void result_chain(sqlite3_context *context, struct room *room) {
+/* {"x":0,"y":0,"chain":"0123"}, or with something more before the last brace */
+static void result_chain(sqlite3_context *context, struct room *room, const char *more) {
     for (size_t i = 0; i < room->steps; i++) room->chain[i] = (uint8_t)(room->chain[i] + '0');
-    char *whole = sqlite3_mprintf("{\"x\":%d,\"y\":%d,\"chain\":\"%.*s\"}", (int)room->x, (int)room->y, (int)room->steps, (const char *)room->chain);
+    char *whole = sqlite3_mprintf("{\"x\":%d,\"y\":%d,\"chain\":\"%.*s\"%s}", (int)room->x, (int)room->y, (int)room->steps, (const char *)room->chain, more);
     if (whole == NULL) sqlite3_result_error_nomem(context);
     else sqlite3_result_text(context, whole, -1, sqlite3_free);
 }
@@ -189,7 +189,7 @@ static void chain(sqlite3_context *context, int count, sqlite3_value **given) {
     struct refusal why;
     if (any_null(count, given)) return;
     if (!take(&room, given[0], &why)) result_refused(context, &why);
-    else result_chain(context, &room);
+    else result_chain(context, &room, "");
 }
 
 static void outline(sqlite3_context *context, int count, sqlite3_value **given) {
@@ -197,7 +197,21 @@ static void outline(sqlite3_context *context, int count, sqlite3_value **given) 
     struct refusal why;
     if (any_null(count, given)) return;
     if (!take(&room, given[0], &why) || !outline_of(&room, &around, &why)) result_refused(context, &why);
-    else result_chain(context, &around);
+    else result_chain(context, &around, "");
+}
+
+static void orthogonal(sqlite3_context *context, int count, sqlite3_value **given) {
+    struct room room, around;
+    struct refusal why;
+    uint32_t blocks;
+    char more[32];
+    if (any_null(count, given)) return;
+    if (!take(&room, given[0], &why) || !orthogonal_of(&room, count > 1 ? sqlite3_value_int64(given[1]) : 1, &around, &blocks, &why)) {
+        result_refused(context, &why);
+        return;
+    }
+    sqlite3_snprintf(sizeof more, more, ",\"blocks\":%u", (unsigned)blocks);
+    result_chain(context, &around, more);
 }
 
 static void polygon(sqlite3_context *context, int count, sqlite3_value **given) {
@@ -409,7 +423,7 @@ static const struct {
     {"undrwyth_judge", 1, judge},     {"undrwyth_explain", 1, explain},  {"undrwyth_line", 1, line},       {"undrwyth_walk", 1, walk_from},
     {"undrwyth_walk", 3, walk_from},  {"undrwyth_is_room", 1, room_is},  {"undrwyth_panels", 1, panels},   {"undrwyth_is_convex", 1, convex},
     {"undrwyth_chain", 1, chain},     {"undrwyth_outline", 1, outline},  {"undrwyth_overlay", 2, overlay}, {"undrwyth_polygon", 3, polygon},
-    {"undrwyth_polygon", 4, polygon},
+    {"undrwyth_polygon", 4, polygon}, {"undrwyth_orthogonal_hull", 1, orthogonal}, {"undrwyth_orthogonal_hull", 2, orthogonal},
 };
 
 static int begin(sqlite3 *db) {

@@ -29,6 +29,9 @@ export const PICTURE_STYLE = `
 .arrow.second { fill: var(--second, #a86a00); }
 .hull { fill: none; stroke: var(--hull, #3366cc); stroke-width: 1.5; stroke-dasharray: 6 4; }
 .outline { fill: none; stroke: var(--outline, #b0468f); stroke-width: 8; stroke-opacity: 0.45; stroke-linejoin: round; }
+.blocks { fill: none; stroke: var(--line, #8b938e); stroke-width: 2; }
+.orthogonal-ground { fill: var(--around, #fbe3c0); }
+.orthogonal { fill: none; stroke: var(--orthogonal, #b35c00); stroke-width: 7; stroke-dasharray: 14 6; }
 .meeting { fill: none; stroke: var(--meeting, #cc2222); stroke-width: 3; }
 .meeting-label { fill: var(--meeting, #cc2222); font-family: sans-serif; font-weight: bold; }
 .meeting-label { paint-order: stroke; stroke: var(--paper, #ffffff); stroke-width: 4; }
@@ -146,6 +149,20 @@ const hullLayer = (frame, corners) => [svg("polygon", { class: "hull", points: p
 
 const outlineLayer = (frame, corners) => [svg("polyline", { class: "outline", points: pointsOf(frame, corners) })];
 
+/** The corners of an orthogonal hull as corners of panels, the last the first. */
+const hullCorners = ({ chain, start, grid }) => cornersOf(chain, start).map(([x, y]) => [x * grid, y * grid]);
+
+const orthogonalGround = (frame, corners) => [svg("polygon", { class: "orthogonal-ground", points: pointsOf(frame, corners) })];
+
+/** The orthogonal hull as a line, and the lines between blocks if a block is more than a panel and they are not too near. */
+function orthogonalLayer(frame, corners, grid) {
+  const { x0, y0, x1, y1, px, py, side } = frame, line = svg("polygon", { class: "orthogonal", points: pointsOf(frame, corners) });
+  if (grid === 1 || grid * side < 7) return [line];
+  const up = multiples(x0, x1, grid).map((x) => `M${px(x)},${py(y0)}V${py(y1)}`);
+  const across = multiples(y0, y1, grid).map((y) => `M${px(x0)},${py(y)}H${px(x1)}`);
+  return [svg("path", { class: "blocks", d: [...up, ...across].join("") }), line];
+}
+
 /** A walk with its arrows and its start. `look` is "", "first" or "second"; the start of a second walk is a square. */
 export function walkLayer(frame, chain, corners, look = "") {
   const line = svg("polyline", { class: `walk ${look}`, points: pointsOf(frame, corners) });
@@ -258,11 +275,14 @@ export function picture(frame, title, layers) {
 }
 
 /** The picture of one walk. What is null is left out; `around` is the corner where the outline starts. */
-export function walkPicture({ walk, start, hull, outline, around, spans, numbered, next, title }, options) {
-  const corners = cornersOf(walk.chain, start), frame = frameOf(boxOf(corners), options);
+export function walkPicture({ walk, start, hull, outline, around, orthogonal, spans, numbered, next, title }, options) {
+  const corners = cornersOf(walk.chain, start), outer = orthogonal ? hullCorners(orthogonal) : [];
+  const frame = frameOf(boxOf(corners, outer), options);
   const layers = [
+    orthogonal ? orthogonalGround(frame, outer) : [],
     spans ? spansLayer(frame, spans, { class: "inside" }) : [],
     gridLayer(frame),
+    orthogonal ? orthogonalLayer(frame, outer, orthogonal.grid) : [],
     hull ? hullLayer(frame, hull.corners) : [],
     outline ? outlineLayer(frame, cornersOf(outline.chain, around)) : [],
     spans && numbered ? rowCountsLayer(frame, spans) : [],

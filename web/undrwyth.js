@@ -20,6 +20,7 @@
 export const MOST_INPUT_BYTES = 32768;
 export const MOST_STEPS = 16384;
 export const MOST_START = 16384;
+export const MOST_GRID = 16384;
 export const MOST_RECORDS = 131148;
 export const MOST_PAIR_RECORDS = 262296;
 export const MOST_LINE_DIGITS = 1024;
@@ -44,7 +45,7 @@ export const ROOM = 2;
 export const REFUSALS = [
   "accepted", "too_many", "table", "result_room", "bad_digit", "nothing_to_take", "too_long", "no_room", "hull_room",
   "bad_line", "start_range", "outline_room", "not_room", "polygon_room", "file_length", "file_kind", "bad_coordinate", "bad_ring",
-  "chain_room", "retired_kind", "unknown_party", "span_room",
+  "chain_room", "retired_kind", "unknown_party", "span_room", "grid_size",
 ];
 
 /** The answer that is a refusal, and nothing else. */
@@ -76,6 +77,12 @@ function numbersOfStart(start) {
   const isPair = Array.isArray(start) && start.length === 2 && start.every(Number.isInteger);
   if (!isPair) throw new TypeError("a start is [x, y], two whole numbers");
   return start.map((number) => Math.max(-(2 ** 31), Math.min(number, 2 ** 31 - 1)));
+}
+
+/** A grid size, brought into 32 bits: what is farther out is refused all the same. */
+function numberOfGrid(grid) {
+  if (!Number.isInteger(grid)) throw new TypeError("a grid size is a whole number");
+  return Math.max(0, Math.min(grid, 2 ** 32 - 1));
 }
 
 /** How many records to lend: what was asked for, or what is always enough. */
@@ -259,6 +266,20 @@ export class Undrwyth {
   convex(chain, start = [0, 0]) {
     const { words } = this.#ask("convex", [...numbersOfStart(start), input(bytesOfDigits(chain))], 3);
     return words[0] !== 0 ? refused(words[0], words[1]) : { refusal: null, convex: words[2] === 1 };
+  }
+
+  /**
+   * The outline of the orthogonal hull of a room as steps, in blocks of `grid` by `grid` panels, from the lowest of its leftmost
+   * corners; that corner in blocks, start ([x, y]); and how many blocks are inside. It never has more steps than the chain.
+   */
+  orthogonalHull(chain, start = [0, 0], grid = 1) {
+    const bytes = bytesOfDigits(chain), lent = lentBytes(Math.min(bytes.length, MOST_STEPS)), size = numberOfGrid(grid);
+    const { words, take } = this.#ask("orthogonal_hull", [...numbersOfStart(start), input(bytes), size, lent], 6);
+    if (words[0] !== 0) return refused(words[0], words[1]);
+    const steps = take(0, words[2]);
+    return {
+      refusal: null, count: words[2], chain: steps, digits: digitsOf(steps), start: [words[3], words[4]], blocks: words[5], grid: size,
+    };
   }
 
   /** Reads a polygon in Well-Known Binary: the start and the chain along its ring. */

@@ -1,7 +1,8 @@
 // SPDX-License-Identifier: MIT
 // The view of one walk: keys and taps make steps, and after each the picture and the words are those of the walk so far.
 import { MOST_LINE_DIGITS, PANEL_MILLIMETRES, ROOM, bytesOfHex } from "./undrwyth.js";
-import { OPERATION_NAMES, convexWord, cornerText, counted, meetingCorner, refusalSentence, walkSentence } from "./words.js";
+import { OPERATION_NAMES, convexWord, cornerText, counted, meetingCorner } from "./words.js";
+import { orthogonalSentence, refusalSentence, walkSentence } from "./words.js";
 import { pictureFile, stepOfTap, walkPicture } from "./picture.js";
 import { dxfOf, geojsonOf, hexOf, numberedRows, rowsCsv, saveFile } from "./save.js";
 import { fragmentOf, judgeLine, lineOf, recordOf } from "./record.js";
@@ -45,7 +46,12 @@ export class WalkView {
     this.#listenToKeys();
     this.#listenToForm();
     this.#listenToFiles();
-    for (const id of ["show-hull", "show-outline", "show-rows"]) byId(id).addEventListener("change", () => this.draw());
+    const choices = ["show-hull", "show-outline", "show-orthogonal", "show-rows"];
+    for (const id of choices) byId(id).addEventListener("change", () => this.draw());
+    byId("grid").addEventListener("input", () => {
+      this.#showHull();
+      this.draw();
+    });
     byId("marks-details").addEventListener("toggle", () => this.#showMarks());
   }
 
@@ -182,8 +188,9 @@ export class WalkView {
   draw() {
     if (!this.#known) return byId("picture").replaceChildren();
     const { walk, start, hull, outline, spans } = this.#known, place = byId("picture"), asked = (id) => byId(id).checked;
+    const around = spans && asked("show-orthogonal") ? this.#orthogonal() : null, orthogonal = around?.refusal ? null : around;
     const drawn = walkPicture({
-      walk, start, spans, hull: asked("show-hull") ? hull : null, outline: asked("show-outline") ? outline : null,
+      walk, start, spans, orthogonal, hull: asked("show-hull") ? hull : null, outline: asked("show-outline") ? outline : null,
       around: hull.corners[0], numbered: asked("show-rows"), next: true, title: walkSentence(walk, start),
     }, { ...roomFor(place), margin: 2, least: [5, 3] });
     this.#frame = drawn.frame;
@@ -217,6 +224,17 @@ export class WalkView {
     const [width, height] = sizeOf(hull).map((panels) => spaced(panels * PANEL_MILLIMETRES));
     byId("room-words").textContent = `${counted(walk.panels, "panel")}, ${convexWord(convex)}, ${width} by ${height} mm`;
     byId("rows").replaceChildren(...rowsTable(spans));
+    this.#showHull();
+  }
+
+  /** The orthogonal hull of the room, in blocks of the size that is asked for. */
+  #orthogonal() {
+    return this.#judge.orthogonalHull(this.#known.walk.chain, this.#start, numberIn("grid"));
+  }
+
+  #showHull() {
+    const hull = this.#orthogonal();
+    say(byId("orthogonal-words"), hull.refusal ? `refused: ${refusalSentence(hull.refusal)}` : orthogonalSentence(hull));
   }
 
   /** The table of marks, made when it is unfolded. */

@@ -62,6 +62,7 @@ const REFUSAL_SENTENCES = {
   18: "the lent buffer is shorter than the chain",
   19: "the record has turns, which are retired; convert makes a record with steps of it",
   21: "a lent buffer is shorter than three numbers for each span",
+  22: "the grid size is not a number from 1 to 16,384",
 };
 
 /**
@@ -91,6 +92,12 @@ export function textFault(text) {
 export function overlaySentence({ first, second, both }) {
   const part = (one, where) => `${counted(one.panels, "panel")} in ${where}`;
   return `${part(first, "the first only")}, ${part(second, "the second only")}, ${part(both, "both")}`;
+}
+
+/** How large an orthogonal hull is: in panels, or in blocks of more than one. */
+export function orthogonalSentence({ blocks, count, grid }) {
+  const size = grid === 1 ? counted(blocks, "panel") : `${counted(blocks, "block")} of ${grid} by ${grid} panels`;
+  return `an orthogonal hull of ${size}, ${counted(count, "step")}`;
 }
 
 export const convexWord = (convex) => (convex ? "convex" : "not convex");

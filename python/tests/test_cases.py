@@ -74,6 +74,8 @@ def words(name, answer):
         return [0, 0, *(part.panels for part in parts), *(part.count for part in parts)]
     if name == "convex":
         return [0, 0, int(answer)]
+    if name == "orthogonal_hull":
+        return [0, 0, answer.count, *answer.start, answer.blocks]
     return [0, 0]
 
 
@@ -103,7 +105,8 @@ class Cases(unittest.TestCase):
     def ask(self, name, arguments, result, after):
         """One call, with buffers as they were lent, and if it is accepted, another with buffers of the package's own."""
         numbers = [value for letter, value in arguments if letter == "n"]
-        starts = list(zip(numbers[::2], numbers[1::2]))
+        grid = [numbers.pop() % 2**32] if name == "orthogonal_hull" else []
+        starts = [*zip(numbers[::2], numbers[1::2]), *grid]
         inputs = [value for letter, value in arguments if letter == "i"]
         before = [value for letter, value in arguments if letter == "l"]
         held = [bytearray(b"\xa5" * MARGIN + value + b"\xa5" * MARGIN) for value in before]
@@ -172,7 +175,7 @@ class Cases(unittest.TestCase):
                 with self.subTest(call=sum(asked.values()), name=name):
                     self.ask(name, arguments, result, after)
                 asked[name] += 1
-        self.assertEqual(len(asked), 13, "each function is asked")
+        self.assertEqual(len(asked), 14, "each function is asked")
         print(f"{sum(asked.values())} calls of {len(asked)} functions, {self.bytes} bytes as native", flush=True)
 
 

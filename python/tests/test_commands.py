@@ -63,12 +63,12 @@ def lines(draw, count):
 
 
 class Commands(unittest.TestCase):
-    def compare(self, command, answer, of=lines, count=300):
+    def compare(self, command, answer, *options, of=lines, count=300):
         """Each line of JSON, and of CSV, has what `answer` gives; a refusal of it is the line's."""
         draw = random.Random(SEED)
         made = of(draw, count)
         given = "".join(line + "\n" for line, *_ in made)
-        status, out, said = run(command, "--json", given=given)
+        status, out, said = run(command, "--json", *options, given=given)
         self.assertEqual((status, said), (0, ""))
         rows = [json.loads(line) for line in out.splitlines()]
         self.assertEqual(len(rows), len(made))
@@ -145,6 +145,22 @@ class Commands(unittest.TestCase):
             return {"x": start[0], "y": start[1], "convex": undrwyth.convex(undrwyth.walk(ops, start).chain, start)}
 
         self.compare("convex", answer)
+
+    def test_orthogonal(self):
+        for grid in "1", "2", "7", "16384":
+            def answer(ops, start):
+                made = undrwyth.orthogonal_hull(undrwyth.walk(ops, start).chain, start, int(grid))
+                x, y = made.start
+                return {"x": x, "y": y, "grid": int(grid), "blocks": made.blocks, "steps": made.count, "chain": made.digits}
+
+            given = self.compare("orthogonal", answer, "--grid", grid)
+            made = [line for line in run("orthogonal", "--grid", grid, given=given)[1].splitlines() if b": refused: " not in line]
+            inside = [line for line in made if all(abs(int(number)) <= 16384 for number in line.split(b",")[-3:-1])]
+            self.assertGreater(len(inside), 100)
+            # the hull of a hull is itself
+            self.assertEqual(run("orthogonal", "--digits", given=b"".join(line + b"\n" for line in inside))[1].splitlines(), inside)
+        self.assertEqual(run("orthogonal", "--grid", "0", "0123")[1], b"refused: the grid size is not a number from 1 to 16,384\n")
+        self.assertEqual(run("orthogonal", "--grid", str(2**70), "0123")[1], b"refused: the grid size is not a number from 1 to 16,384\n")
 
     def test_spans(self):
         def answer(ops, start):

@@ -120,6 +120,7 @@ class Lending(unittest.TestCase):
             (11, lambda lent: undrwyth.outline("0123", out=lent), 3),
             (13, lambda lent: undrwyth.polygon_of_room("0123", out=lent), 92),
             (18, lambda lent: undrwyth.chain_of_polygon(undrwyth.polygon_of_room("0123").wkb, chain=lent), 3),
+            (18, lambda lent: undrwyth.orthogonal_hull("0123", out=lent), 3),
             (21, lambda lent: undrwyth.rows("0123", out=lent), 8),
             (21, lambda lent: undrwyth.overlay("0123", "0123", both=lent), 8),
             (3, lambda lent: undrwyth.turns_of_steps("0123", out=lent), 3),
@@ -211,6 +212,25 @@ class Input(unittest.TestCase):
         for start in 0, (0,), (0, 0, 0), (0.0, 0), "00", None:
             with self.subTest(start=start), self.assertRaises(TypeError):
                 undrwyth.hull("0123", start)
+
+    def test_grids(self):
+        for grid in 0, 16385, -1, 2**32 + 1, -(2**70):
+            with self.assertRaises(Refused) as caught:
+                undrwyth.orthogonal_hull("0124", grid=grid)
+            self.assertEqual((caught.exception.name, str(caught.exception)), ("GRID_SIZE", "the grid size is not a number from 1 to 16,384"))
+        with self.assertRaises(Refused) as caught:
+            undrwyth.orthogonal_hull("0124", (16385, 0), grid=0)
+        self.assertEqual(caught.exception.name, "START_RANGE")
+        for grid in 1.0, "1", None:
+            with self.subTest(grid=grid), self.assertRaises(TypeError):
+                undrwyth.orthogonal_hull("0123", grid=grid)
+        u = "000112321233"
+        out = bytearray(b"\7" * 12)
+        hull = undrwyth.orthogonal_hull(u, (-3, 5), out=out)
+        self.assertEqual((hull.count, hull.start, hull.blocks, hull.grid), (10, (-3, 5), 6, 1))
+        self.assertEqual((out, hull.digits), (b"\0\0\0\1\1\2\2\2\3\3\7\7", "0001122233"))
+        self.assertEqual(undrwyth.walk(hull.chain, hull.start).area, hull.blocks)
+        self.assertEqual(undrwyth.orthogonal_hull(u, (-3, 5), 16384).corners, ((-16384, 0), (0, 0), (0, 16384), (-16384, 16384)))
 
     def test_answers(self):
         answer = undrwyth.walk(ROOM)

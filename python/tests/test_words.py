@@ -27,7 +27,7 @@ class Words(unittest.TestCase):
         cls.c = ctypes.CDLL(built)
         for name in "verdict_name", "refusal_name", "convex_word":
             getattr(cls.c, "undrwyth_" + name).restype = ctypes.c_char_p
-        for name in "walk_sentence", "refusal_sentence", "overlay_sentence":
+        for name in "walk_sentence", "refusal_sentence", "overlay_sentence", "orthogonal_sentence":
             getattr(cls.c, "undrwyth_" + name).restype = ctypes.c_size_t
 
     @classmethod
@@ -93,8 +93,8 @@ class Words(unittest.TestCase):
         with self.assertRaises(undrwyth.Refused) as caught:
             undrwyth.walk_two(b"\x25")
         self.assertEqual(self.said("refusal", 20, 0, self.fault(b"\x25", 0), 4), str(caught.exception))
-        self.assertEqual(self.said("refusal", 22, 0, None, 4), "refusal 22")
-        self.assertEqual(self.c.undrwyth_refusal_name(22), b"unknown")
+        self.assertEqual(self.said("refusal", 23, 0, None, 4), "refusal 23")
+        self.assertEqual(self.c.undrwyth_refusal_name(23), b"unknown")
 
     def test_verdicts(self):
         for verdict in undrwyth.Verdict:
@@ -102,7 +102,12 @@ class Words(unittest.TestCase):
         self.assertEqual(self.c.undrwyth_verdict_name(6), b"unknown")
 
     def test_rooms(self):
-        """An overlay and a convex room."""
+        """An overlay, orthogonal hulls and a convex room."""
+        hull = (ctypes.c_uint32 * 6)(0, 0, 8, 7, 9, 4)
+        self.assertEqual(self.said("orthogonal", 1, hull), "an orthogonal hull of 4 panels, 8 steps")
+        self.assertEqual(self.said("orthogonal", 2, hull), "an orthogonal hull of 4 blocks of 2 by 2 panels, 8 steps")
+        hull[5] = 1
+        self.assertEqual(self.said("orthogonal", 16384, hull), "an orthogonal hull of 1 block of 16384 by 16384 panels, 8 steps")
         answer = (ctypes.c_uint32 * 8)(0, 0, 12, 1, 4, 3, 1, 2)
         self.assertEqual(self.said("overlay", answer), "12 panels in the first only, 1 panel in the second only, 4 panels in both")
         self.assertEqual(self.c.undrwyth_convex_word((ctypes.c_uint32 * 3)(0, 0, 1)), b"convex")

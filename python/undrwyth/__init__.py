@@ -20,30 +20,31 @@ from typing import NoReturn, Optional, Sequence, Union
 
 from . import _native
 from ._answers import (
-    CORNER_NUMBERS, LINE_BYTES, MARK_WORDS, MOST_INPUT_BYTES, MOST_PAIR_RECORDS, MOST_RECORDS, MOST_START, MOST_STEPS,
+    CORNER_NUMBERS, LINE_BYTES, MARK_WORDS, MOST_GRID, MOST_INPUT_BYTES, MOST_PAIR_RECORDS, MOST_RECORDS, MOST_START, MOST_STEPS,
     NO_MEETING, PAIR_RECORD_WORDS, POINT_BYTES, POLYGON_HEADER_BYTES, RECORD_WORDS, SENTENCES, SPAN_NUMBERS, VERDICTS, Chain,
-    Corner, Hull, Line, Mark, Marks, Overlay, PairRecord, PairTable, Part, Party, PartyFacts, Polygon, Record, Refusal, Refused,
+    Corner, Hull, Line, Mark, Marks, OrthogonalHull, Overlay, PairRecord, PairTable, Part, Party, PartyFacts, Polygon, Record, Refusal, Refused,
     Rows, Span, Steps, Table, Text, Verdict, Walk, WalkTwo,
 )
-from ._native import ORIGIN, Buffer, Input, LibraryMissing, apart, corner, raw, room, rooms, steps, text
+from ._native import ORIGIN, Buffer, Input, LibraryMissing, apart, corner, grid_size, raw, room, rooms, steps, text
 
 __version__ = "1.0.0"
 __all__ = [
     "walk", "walk_two", "hull", "outline", "polygon_of_room", "chain_of_polygon", "rows", "overlay", "convex",
-    "turns_of_steps", "steps_of_turns", "line", "convert_line", "Refused", "Refusal", "LibraryMissing", "Verdict", "Walk",
-    "WalkTwo", "PartyFacts", "Hull", "Steps", "Chain", "Polygon", "Rows", "Overlay", "Part", "Line", "Text", "Table",
+    "orthogonal_hull", "turns_of_steps", "steps_of_turns", "line", "convert_line", "Refused", "Refusal", "LibraryMissing", "Verdict", "Walk",
+    "WalkTwo", "PartyFacts", "Hull", "Steps", "Chain", "OrthogonalHull", "Polygon", "Rows", "Overlay", "Part", "Line", "Text", "Table",
     "PairTable", "Record", "PairRecord", "Party", "Marks", "Mark", "Span", "Corner", "Input", "Buffer", "MOST_INPUT_BYTES",
-    "MOST_STEPS", "MOST_START", "MOST_RECORDS", "MOST_PAIR_RECORDS", "RECORD_WORDS", "PAIR_RECORD_WORDS", "MARK_WORDS",
+    "MOST_STEPS", "MOST_START", "MOST_GRID", "MOST_RECORDS", "MOST_PAIR_RECORDS", "RECORD_WORDS", "PAIR_RECORD_WORDS", "MARK_WORDS",
     "CORNER_NUMBERS", "POLYGON_HEADER_BYTES", "POINT_BYTES", "SPAN_NUMBERS", "LINE_BYTES", "NO_MEETING",
 ]
 
-(_walk, _walk_two, _hull, _outline, _polygon_of_room, _chain_of_polygon, _rows, _overlay, _convex, _turns_of_steps,
- _steps_of_turns, _line, _convert_line) = _native.functions()
+(_walk, _walk_two, _hull, _outline, _polygon_of_room, _chain_of_polygon, _rows, _overlay, _convex,
+ _orthogonal_hull, _turns_of_steps, _steps_of_turns, _line, _convert_line) = _native.functions()
 
 for _class in (Refused, LibraryMissing):
     _class.__module__ = __name__  # by this name they are caught, and shown
 
-_Two, _Three, _Five, _Eight, _Eleven, _Nineteen = c_int32 * 2, c_int32 * 3, c_int32 * 5, c_int32 * 8, c_int32 * 11, c_int32 * 19
+_Two, _Three, _Five, _Six, _Eight = c_int32 * 2, c_int32 * 3, c_int32 * 5, c_int32 * 6, c_int32 * 8
+_Eleven, _Nineteen = c_int32 * 11, c_int32 * 19
 
 
 def _refuse(number: int, place: int, given: Optional[Input] = None, most: int = 3) -> NoReturn:
@@ -261,6 +262,29 @@ def convex(chain: Input, start: Corner = ORIGIN) -> bool:
     if number:
         _refuse(number, answer[1], chain)
     return answer[2] == 1
+
+
+def orthogonal_hull(chain: Input, start: Corner = ORIGIN, grid: int = 1, *, out: Optional[Buffer] = None) -> OrthogonalHull:
+    """Writes the outline of the orthogonal hull of a room, in blocks of grid by grid panels.
+
+    >>> hull = orthogonal_hull("000112321233")
+    >>> hull.digits, hull.start, hull.blocks
+    ('0001122233', (0, 0), 6)
+    >>> orthogonal_hull("000112321233", (-3, 5), 2).corners
+    ((-4, 4), (-2, 4), (0, 4), (0, 6), (0, 8), (-2, 8), (-4, 8), (-4, 6))
+
+    It never has more steps than the chain.
+    """
+    data = steps(chain)
+    x, y = corner(start)
+    size = grid_size(grid)
+    o = room(out, "B", min(len(data), MOST_STEPS))
+    answer = _Six()
+    number = _orthogonal_hull(x, y, data, len(data), size, o[0], o[1], answer)
+    if number:
+        _refuse(number, answer[1], chain)
+    _, _, count, start_x, start_y, blocks = answer[:]
+    return OrthogonalHull(count, o[2][:count], (start_x, start_y), blocks, size)
 
 
 def turns_of_steps(chain: Input, *, out: Optional[Buffer] = None) -> Steps:

@@ -9,6 +9,7 @@ from typing import Iterator, NamedTuple, Optional, Sequence, Tuple, TypeVar, Uni
 MOST_INPUT_BYTES = 32768
 MOST_STEPS = 16384
 MOST_START = 16384
+MOST_GRID = 16384
 MOST_RECORDS = 131148
 MOST_PAIR_RECORDS = 262296
 RECORD_WORDS = 25
@@ -62,6 +63,7 @@ class Refusal(IntEnum):
     RETIRED_KIND = 19
     UNKNOWN_PARTY = 20
     SPAN_ROOM = 21
+    GRID_SIZE = 22
 
 
 SENTENCES = {
@@ -84,6 +86,7 @@ SENTENCES = {
     Refusal.CHAIN_ROOM: "the lent buffer is shorter than the chain",
     Refusal.RETIRED_KIND: "the record has turns, which are retired; convert makes a record with steps of it",
     Refusal.SPAN_ROOM: "a lent buffer is shorter than three numbers for each span",
+    Refusal.GRID_SIZE: "the grid size is not a number from 1 to 16,384",
 }
 
 
@@ -340,6 +343,26 @@ class Chain(Steps):
     """The chain of a polygon, and the corner at which it starts."""
 
     start: Corner
+
+
+@dataclass(frozen=True)
+class OrthogonalHull(Steps):
+    """The outline of an orthogonal hull, the corner at which it starts, and how many blocks are inside. A block has `grid` by
+    `grid` panels, and the corner (x, y) of blocks is the corner (grid * x, grid * y) of panels."""
+
+    start: Corner
+    blocks: int
+    grid: int
+
+    @property
+    def corners(self) -> Tuple[Corner, ...]:
+        """The corners of the outline as corners of panels, each once, from its start on."""
+        (x, y), found = self.start, []
+        for step in self.buffer:
+            found.append((self.grid * x, self.grid * y))
+            x += (step == 0) - (step == 2)
+            y += (step == 1) - (step == 3)
+        return tuple(found)
 
 
 @dataclass(frozen=True)

@@ -55,6 +55,8 @@ def _types(name: str) -> Tuple[List[Any], Any]:
     for letter in SIGNATURES[name]:
         if letter == "s":
             arguments += [ctypes.c_int32, ctypes.c_int32]
+        elif letter == "g":
+            arguments += [ctypes.c_uint32]
         elif letter == "a":
             arguments += [ctypes.c_void_p]
         else:
@@ -62,7 +64,7 @@ def _types(name: str) -> Tuple[List[Any], Any]:
     return arguments, ctypes.c_uint64 if name in ("line", "convert_line") else ctypes.c_uint32
 
 
-# The arguments of each function: s a start, i an input, l a lent buffer, a the answer.
+# The arguments of each function: s a start, i an input, g a grid size, l a lent buffer, a the answer.
 SIGNATURES = {
     "walk": "sillla",
     "walk_two": "ssilllla",
@@ -73,6 +75,7 @@ SIGNATURES = {
     "rows": "sila",
     "overlay": "sisillla",
     "convex": "sia",
+    "orthogonal_hull": "sigla",
     "turns_of_steps": "ila",
     "steps_of_turns": "ila",
     "line": "il",
@@ -135,6 +138,14 @@ def corner(given: Corner) -> Corner:
     except (TypeError, ValueError):
         raise TypeError(f"a start is a pair of ints, not {given!r}") from None
     return max(-(2**31), min(x, 2**31 - 1)), max(-(2**31), min(y, 2**31 - 1))
+
+
+def grid_size(given: int) -> int:
+    """An int, brought into 32 bits: what is further out is refused all the same."""
+    try:
+        return max(0, min(index(given), 2**32 - 1))
+    except TypeError:
+        raise TypeError(f"a grid size is an int, not {given!r}") from None
 
 
 _byte_at = ctypes.c_char.from_buffer

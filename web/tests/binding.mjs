@@ -68,6 +68,10 @@ const CALLS = {
     const answer = judge.convex(chain, given);
     return { answer, pairs: () => [[[0, 0, Number(answer.convex)], words]] };
   },
+  orthogonal_hull: ({ given: [x, y, grid], inputs: [chain], after, words }) => {
+    const answer = judge.orthogonalHull(chain, [x, y], grid >>> 0), native = () => after[0].subarray(0, answer.count);
+    return { answer, pairs: () => [[[0, 0, answer.count, ...answer.start, answer.blocks], words], [answer.chain, native()]] };
+  },
   overlay: ({ given, inputs: [one, other], after, words }) => {
     const answer = judge.overlay(one, other, given.slice(0, 2), given.slice(2));
     const parts = () => [answer.first, answer.second, answer.both];

@@ -9,7 +9,7 @@ const TEXT_COLOURS = [
   ["ink", "paper"], ["ink", "ground"], ["soft", "paper"], ["soft", "ground"], ["meeting", "paper"], ["on-accent", "accent"],
   ["ink", "mark"], ["ink", "inside"],
 ];
-const LINE_COLOURS = ["hull", "outline", "first", "second", "both", "line"];
+const LINE_COLOURS = ["hull", "outline", "orthogonal", "first", "second", "both", "line"];
 
 /** What can have the focus, and is seen, but is not reached by Tab from the view's tab. */
 async function missedByTab(t, name) {

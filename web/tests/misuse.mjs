@@ -41,11 +41,15 @@ for (const ops of [undefined, null, 17, [0, 1], new Uint16Array(2), {}]) throws(
 for (const start of [null, 5, [1], [1, 2, 3], ["1", "2"], [0.5, 0], [NaN, 0], [Infinity, 0]])
   throws("no start", () => judge.walk("0", start));
 for (const records of [0, -1, 1.5, NaN, "9", 131149]) throws("no number of records", () => judge.walk("0", [0, 0], { records }));
+for (const grid of [null, "2", 1.5, NaN, Infinity]) throws("no grid size", () => judge.orthogonalHull("0123", [0, 0], grid));
 throws("an odd number of hexadecimal digits", () => judge.walkTwo("001"));
 throws("a file that is a string", () => judge.chainOfPolygon("01"));
 
 // starts far out are refused, not cut to 32 bits
 for (const far of [2 ** 31, 2 ** 32, -(2 ** 40), 16385]) same(`start ${far}`, judge.walk("0123", [far, 0]).refusal?.number, 10);
+
+for (const grid of [0, -1, 16385, 2 ** 32 + 1, -(2 ** 40)])
+  same(`grid size ${grid}`, judge.orthogonalHull("0123", [0, 0], grid).refusal, { number: 22, name: "grid_size", place: 0 });
 
 // a place is where the first faulty character stands
 same("a letter", judge.walk("01a").refusal, { number: 4, name: "bad_digit", place: 2 });
@@ -65,6 +69,9 @@ same("the first answer", JSON.stringify([...first.table, ...first.chain]), copy)
 const marks = judge.walk("004123").marks.map(({ nodes, visits, changed }) => `${nodes} ${visits} ${changed}`);
 same("P9's marks", marks, ["2 1 2", "3 1 2", "2 1 2", "3 1 3", "4 1 3", "4 2 2"]);
 same("P11's hull", judge.hull("001100322223").corners, [[0, 0], [2, 0], [4, 1], [4, 2], [2, 2], [0, 1]]);
+const u = judge.orthogonalHull("000112321233", [-3, 5]), pairs = judge.orthogonalHull("000112321233", [-3, 5], 2);
+same("the orthogonal hull of a U", [u.digits, u.start, u.blocks], ["0001122233", [-3, 5], 6]);
+same("in blocks of four panels", [pairs.digits, pairs.start, pairs.blocks], ["00112233", [-2, 2], 4]);
 same("turns and back", judge.stepsOfTurns(judge.turnsOfSteps("001100322223").digits).digits, "001100322223");
 same("a line", judge.line("0000015").text, "8400000000");
 same("a line converted", judge.convertLine("0100040111"), "0000040123");

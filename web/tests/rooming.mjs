@@ -87,6 +87,32 @@ export const rooming = {
     }
   },
 
+  async "the orthogonal hull of a room"(t) {
+    const said = () => t.tab.text("#orthogonal-words"), put = (grid) => t.tab.fill("#grid", String(grid));
+    const corners = async () => (await t.tab.attribute("#picture .orthogonal", "points")).split(" ").length;
+    await t.open(U_SHAPE);
+    t.same("words", await said(), "an orthogonal hull of 40 panels, 26 steps");
+    t.same("not drawn unless it is asked for", await t.tab.count("#picture .orthogonal"), 0);
+    await t.tab.tap("#show-orthogonal");
+    t.same("its corners, the first twice", await corners(), 27);
+    t.same("no lines between blocks of one panel", await t.tab.count("#picture .blocks"), 0);
+    await put(3);
+    t.same("in blocks", await said(), "an orthogonal hull of 6 blocks of 3 by 3 panels, 10 steps");
+    t.same("corners of blocks", await corners(), 11);
+    t.same("lines between blocks", await t.tab.count("#picture .blocks"), 1);
+    await t.shoot("page-orthogonal", { of: "#view-walk > div" });
+    for (const grid of ["0", "16385", "", "1.5"]) {
+      await put(grid);
+      t.same(`grid size ${grid}`, await said(), "refused: the grid size is not a number from 1 to 16,384");
+      t.same("no hull is drawn", await t.tab.count("#picture .orthogonal"), 0);
+    }
+    await put(16384);
+    t.same("one block", await said(), "an orthogonal hull of 1 block of 16384 by 16384 panels, 4 steps");
+    await put(1);
+    await t.show("0012");
+    t.same("what is not a room has none", await t.tab.count("#picture .orthogonal"), 0);
+  },
+
   async "two rooms over each other"(t) {
     const said = () => t.tab.text("#overlay-words");
     await t.open();

@@ -1,7 +1,7 @@
 /* SPDX-License-Identifier: MIT
  * Says the sentences of programs/words.c for the check of the page. A line of the input is a letter and numbers: W the start, the
  * words of an answer to a walk and its chain; R number, place, most and what is faulty (- for nothing); O the words of an answer
- * to two rooms; C convex; V and N the number of a verdict or a refusal; F a text whose first character is named. */
+ * to two rooms; G a grid size and the words of an answer to an orthogonal hull; C convex; V and N the number of a verdict or a refusal; F a text whose first character is named. */
 #include <stdio.h>
 #include <string.h>
 
@@ -50,6 +50,13 @@ static const char *overlay(void) {
     return out;
 }
 
+static const char *orthogonal(void) {
+    uint32_t answer[UNDRWYTH_ORTHOGONAL_ANSWER_WORDS], grid = (uint32_t)number();
+    words_into(answer, UNDRWYTH_ORTHOGONAL_ANSWER_WORDS);
+    undrwyth_orthogonal_sentence(out, sizeof out, grid, answer);
+    return out;
+}
+
 static const char *convex(void) {
     uint32_t answer[UNDRWYTH_CONVEX_ANSWER_WORDS] = {0, 0, (uint32_t)number()};
     return undrwyth_convex_word(answer);
@@ -76,6 +83,7 @@ int main(void) {
         case 'W': puts(walk()); break;
         case 'R': puts(refusal()); break;
         case 'O': puts(overlay()); break;
+        case 'G': puts(orthogonal()); break;
         case 'C': puts(convex()); break;
         case 'V': puts(undrwyth_verdict_name((uint32_t)number())); break;
         default: puts(undrwyth_refusal_name((uint32_t)number())); break;

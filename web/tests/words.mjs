@@ -4,7 +4,7 @@
 import { spawnSync } from "node:child_process";
 import { readFileSync } from "node:fs";
 import { REFUSALS, VERDICTS, loadUndrwyth } from "../undrwyth.js";
-import { convexWord, overlaySentence, refusalSentence, textFault, walkSentence } from "../words.js";
+import { convexWord, orthogonalSentence, overlaySentence, refusalSentence, textFault, walkSentence } from "../words.js";
 import { judgeLine } from "../record.js";
 
 const [program] = process.argv.slice(2), root = new URL("../../", import.meta.url).pathname;
@@ -34,7 +34,7 @@ const strings = (n) => (n === 0 ? [""] : strings(n - 1).flatMap((s) => ["0", "1"
 const long = ["0".repeat(300), "01".repeat(50) + "2".repeat(50) + "3".repeat(50)], odd = ["0x1", "12é"];
 for (const start of [[0, 0], [-3, 7], [16384, -16384], [16385, 0]])
   for (const ops of [...WORKED, ...[1, 2, 3, 4, 5].flatMap(strings), ...long, ...odd]) askWalk(ops, start);
-for (let number = 1; number <= 22; number++)
+for (let number = 1; number <= 23; number++)
   for (const place of [0, 1, 16384, 32767])
     for (const [most, fault] of [[3, "byte 200"], [4, "'x'"], [4, undefined]])
       ask(`R ${number} ${place} ${most} ${fault ?? "-"}`, refusalSentence({ number, place }, fault, most));
@@ -42,6 +42,8 @@ for (const counts of [[0, 1, 2], [1, 0, 1], [12, 34, 1]]) {
   const [first, second, both] = counts.map((panels) => ({ panels }));
   ask(`O 0 0 ${counts.join(" ")} 1 1 1`, overlaySentence({ first, second, both }));
 }
+for (const [grid, count, blocks] of [[1, 4, 1], [1, 10, 6], [2, 8, 4], [16384, 4, 1]])
+  ask(`G ${grid} 0 0 ${count} -2 5 ${blocks}`, orthogonalSentence({ grid, count, blocks }));
 for (const convex of [0, 1]) ask(`C ${convex}`, convexWord(convex === 1));
 VERDICTS.forEach((name, number) => ask(`V ${number}`, name));
 REFUSALS.forEach((name, number) => ask(`N ${number}`, name));

@@ -1,7 +1,7 @@
 -- Refusals and verdicts as the numbers of RULES 1.6 and 6.1, and the first of several refusals. Assumes nothing.
 use Rattle.lists.specs.Lists.{Bool, true, false, List, [], _∷_, ℕ}
 use Rattle.answer.specs.declared.{Refusal.Refusal, Judged.Judged, Judged.the-variants.Good, Judged.the-variants.Refused, Verdict.Verdict}
-use Rattle.answer.specs.declared.Refusal.the-variants.{TooMany, Table, ResultRoom, BadDigit, NothingToTake, TooLong, NoRoom, HullRoom, BadLine, StartRange, OutlineRoom, NotRoom, PolygonRoom, FileLength, FileKind, BadCoordinate, BadRing, ChainRoom, RetiredKind, UnknownParty, SpanRoom}
+use Rattle.answer.specs.declared.Refusal.the-variants.{TooMany, Table, ResultRoom, BadDigit, NothingToTake, TooLong, NoRoom, HullRoom, BadLine, StartRange, OutlineRoom, NotRoom, PolygonRoom, FileLength, FileKind, BadCoordinate, BadRing, ChainRoom, RetiredKind, UnknownParty, SpanRoom, GridSize}
 use Rattle.answer.specs.declared.Verdict.the-variants.{Nowhere, Open, Room, OpenMeeting, ClosedMeeting, ThereAndBack}
 
 -- the number of a refusal
@@ -27,6 +27,7 @@ refusalNumber ChainRoom = 18
 refusalNumber RetiredKind = 19
 refusalNumber (UnknownParty i) = 20
 refusalNumber SpanRoom = 21
+refusalNumber GridSize = 22
 
 -- refusals without a place give 0
 abbrev pub refusalPlace : Refusal → ℕ
@@ -51,6 +52,7 @@ refusalPlace ChainRoom = 0
 refusalPlace RetiredKind = 0
 refusalPlace (UnknownParty i) = i
 refusalPlace SpanRoom = 0
+refusalPlace GridSize = 0
 
 -- the number and the place of a judgement: 0 for both where nothing is refused
 abbrev pub judgedNumber : Judged → ℕ

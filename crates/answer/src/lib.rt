@@ -31,6 +31,7 @@ pub enum Refusal {
     RetiredKind,
     UnknownParty(usize),
     SpanRoom,
+    GridSize,
 }
 
 // Whether there is a refusal.
@@ -123,6 +124,7 @@ pub fn refusal_number(r: Refusal) -> usize
         Refusal::RetiredKind => 19,
         Refusal::UnknownParty(_) => 20,
         Refusal::SpanRoom => 21,
+        Refusal::GridSize => 22,
     }
 }
 
@@ -152,6 +154,7 @@ pub fn refusal_place(r: Refusal) -> usize
         Refusal::RetiredKind => 0,
         Refusal::UnknownParty(i) => i,
         Refusal::SpanRoom => 0,
+        Refusal::GridSize => 0,
     }
 }
 

@@ -10,7 +10,7 @@ use lib.ListN.{length, take, drop, getD, length-append, length-drop, List·getD-
 use lib.Seq.{getD-append-add, take-all, take-append-le, drop-append-le, drop-append-add}
 use Rattle.answer.specs.declared.Facts.{Facts}
 use Rattle.answer.specs.declared.Refusal.{Refusal}
-use Rattle.answer.specs.declared.Refusal.the-variants.{TooMany, Table, ResultRoom, BadDigit, NothingToTake, TooLong, NoRoom, HullRoom, BadLine, StartRange, OutlineRoom, NotRoom, PolygonRoom, FileLength, FileKind, BadCoordinate, BadRing, ChainRoom, RetiredKind, UnknownParty, SpanRoom}
+use Rattle.answer.specs.declared.Refusal.the-variants.{TooMany, Table, ResultRoom, BadDigit, NothingToTake, TooLong, NoRoom, HullRoom, BadLine, StartRange, OutlineRoom, NotRoom, PolygonRoom, FileLength, FileKind, BadCoordinate, BadRing, ChainRoom, RetiredKind, UnknownParty, SpanRoom, GridSize}
 use Rattle.answer.specs.declared.Verdict.{Verdict, the-variants.Nowhere, the-variants.Open, the-variants.Room, the-variants.OpenMeeting, the-variants.ClosedMeeting, the-variants.ThereAndBack}
 use Rattle.answer.specs.Refusal.{refusalNumber, refusalPlace, verdictNumber}
 use Rattle.answer.specs.Words.{bitsOf}
@@ -65,7 +65,7 @@ four-back (negsuc n) h =
     high-back (16 ^ 4) (numberFrom 0 (hexOf 4 v)) n (omega (arith, x .1, x .2)) (omega arith)
 
 -- ---- the line of a refusal
-pub number-few : (q : Refusal) → (0 < refusalNumber q) × (refusalNumber q < 22)
+pub number-few : (q : Refusal) → (0 < refusalNumber q) × (refusalNumber q < 23)
 number-few TooMany = (omega arith, omega arith)
 number-few Table = (omega arith, omega arith)
 number-few ResultRoom = (omega arith, omega arith)
@@ -87,6 +87,7 @@ number-few ChainRoom = (omega arith, omega arith)
 number-few RetiredKind = (omega arith, omega arith)
 number-few (UnknownParty i) = (omega arith, omega arith)
 number-few SpanRoom = (omega arith, omega arith)
+number-few GridSize = (omega arith, omega arith)
 
 pub refusal-read : (q : Refusal) → refusalPlace q < 16 ^ 8 → RefusalRead (refusedLine q) q
 refusal-read q h =

@@ -15,6 +15,7 @@ pub mod RoomCallLaws
 pub mod RowCallLaws
 pub mod OverlayCallLaws
 pub mod OutlineCallLaws
+pub mod OrthogonalCallLaws
 pub mod FileCallLaws
 pub mod Area
 pub mod Polygon
@@ -31,5 +32,6 @@ pub mod CellLaws
 pub mod LineRowLaws
 pub mod Lines
 pub mod Overlay
+pub mod Orthogonal
 pub mod PolygonIn
 pub mod Demand

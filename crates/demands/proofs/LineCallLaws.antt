@@ -14,7 +14,7 @@ use Rattle.answer.specs.declared.Answer.{Answer}
 use Rattle.answer.specs.declared.Judged.{Judged}
 use Rattle.answer.specs.declared.Judged.the-variants.{Good, Refused}
 use Rattle.answer.specs.declared.Refusal.{Refusal}
-use Rattle.answer.specs.declared.Refusal.the-variants.{TooMany, Table, ResultRoom, BadDigit, NothingToTake, TooLong, NoRoom, HullRoom, BadLine, StartRange, OutlineRoom, NotRoom, PolygonRoom, FileLength, FileKind, BadCoordinate, BadRing, ChainRoom, RetiredKind, UnknownParty, SpanRoom}
+use Rattle.answer.specs.declared.Refusal.the-variants.{TooMany, Table, ResultRoom, BadDigit, NothingToTake, TooLong, NoRoom, HullRoom, BadLine, StartRange, OutlineRoom, NotRoom, PolygonRoom, FileLength, FileKind, BadCoordinate, BadRing, ChainRoom, RetiredKind, UnknownParty, SpanRoom, GridSize}
 use Rattle.answer.specs.declared.Verdict.the-variants.{Room}
 use Rattle.answer.specs.Refusal.{refusalNumber, refusalPlace, verdictNumber}
 use Rattle.lists.specs.Lists.{Below}
@@ -175,7 +175,8 @@ named n i =
     (cond (eqb n 17) BadRing
     (cond (eqb n 18) ChainRoom
     (cond (eqb n 19) RetiredKind
-    (cond (eqb n 20) (UnknownParty i) SpanRoom)))))))))))))))))))
+    (cond (eqb n 20) (UnknownParty i)
+    (cond (eqb n 21) SpanRoom GridSize))))))))))))))))))))
 
 named-back : (q : Refusal) → named (refusalNumber q) (refusalPlace q) ≡ q
 named-back TooMany = refl
@@ -199,6 +200,7 @@ named-back ChainRoom = refl
 named-back RetiredKind = refl
 named-back (UnknownParty i) = refl
 named-back SpanRoom = refl
+named-back GridSize = refl
 
 -- number and place are those of one refusal
 pub refusal-same : (q r : Refusal) → refusalNumber q ≡ refusalNumber r → refusalPlace q ≡ refusalPlace r → q ≡ r

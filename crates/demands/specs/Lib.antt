@@ -8,6 +8,7 @@ pub mod GivenRoom
 pub mod GivenRows
 pub mod GivenOverlay
 pub mod GivenOutline
+pub mod GivenOrthogonal
 pub mod GivenFile
 pub mod GivenLine
 pub mod Record

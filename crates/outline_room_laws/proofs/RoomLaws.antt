@@ -74,7 +74,7 @@ place-edge c [] i h = absurd (omega arith)
 place-edge c (d ∷ ds) zero h = List·Memᴰ·head refl
 place-edge c (d ∷ ds) (suc i) h = List·Memᴰ·tail (place-edge (stepped d c) ds i (omega arith))
 
-corner-next : (c : Corner) (ds : List ℕ) (i : ℕ) → i < length ds → cornerAt c ds (suc i) ≡ stepped (getD ds i 0) (cornerAt c ds i)
+pub corner-next : (c : Corner) (ds : List ℕ) (i : ℕ) → i < length ds → cornerAt c ds (suc i) ≡ stepped (getD ds i 0) (cornerAt c ds i)
 corner-next c [] i h = absurd (omega arith)
 corner-next c (d ∷ ds) zero h = refl
 corner-next c (d ∷ ds) (suc i) h = corner-next (stepped d c) ds i (omega arith)
@@ -152,13 +152,13 @@ module _ (c : Corner) (ds : List ℕ) (r : IsRoom c ds) (b : Below 4 ds) (long :
         first z = let g = same-late (suc m) k (omega arith) (omega (arith, z .1)) (omega (arith, hm)) (omega arith) twice in omega (arith, g, z .0, z .1)
 
     -- the room forwards
-    room-next : next c ds (p k, d k) ≡ (p m, d m)
+    pub room-next : next c ds (p k, d k) ≡ (p m, d m)
     room-next =
         let q : stepped (d k) (p k) ≡ p m = sym (corner-next c ds k hk) ∙ sym em in
         ap₂ (λ (a : Corner) (x : ℕ). (a, x)) q (ap (λ (a : Corner). onward (walked c ds a) (d k)) q ∙ onward-only (walked c ds (p m)) (d k) (d m) (small k hk) (small m hm) (forward m hm) not-back only-two)
 
     -- and backwards
-    room-back : next c ds (p (suc m), back (d m)) ≡ (p m, back (d k))
+    pub room-back : next c ds (p (suc m), back (d m)) ≡ (p m, back (d k))
     room-back =
         let q : stepped (back (d m)) (p (suc m)) ≡ p m = ap (stepped (back (d m))) (corner-next c ds m hm) ∙ stepped-back (d m) (p m) in
         let b : back (back (d m)) ≡ d m = back-back (d m) (small m hm) in

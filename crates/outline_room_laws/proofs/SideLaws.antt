@@ -47,8 +47,9 @@ module _ (c : Corner) (ds : List ℕ) (r : IsRoom c ds) (b : Below 4 ds) where
   parted : EachStep (λ d v. Parts (leftOf d v) (rightOf d v)) c ds ⊎ EachStep (λ d v. Parts (rightOf d v) (leftOf d v)) c ds
   parted = ⊎-elim (λ k. inl (k .0)) (λ k. inr (k .0)) (room-counts c ds r)
 
-  beside : (v : Corner) (d : ℕ) → d < 4 → walked c ds v d ≡ true → Parts (leftOf d v) (rightOf d v) ⊎ Parts (rightOf d v) (leftOf d v)
-  beside v d h w = ⊎-elim forth against (walked-edge c ds v d w)
+  -- of the two panels beside a walked edge one is inside and the other is not
+  pub walked-parts : (v : Corner) (d : ℕ) → d < 4 → walked c ds v d ≡ true → Parts (leftOf d v) (rightOf d v) ⊎ Parts (rightOf d v) (leftOf d v)
+  walked-parts v d h w = ⊎-elim forth against (walked-edge c ds v d w)
     where
       forth : List·Memᴰ (v, stepped d v) (legsFrom c ds) → Parts (leftOf d v) (rightOf d v) ⊎ Parts (rightOf d v) (leftOf d v)
       forth m = ⊎-elim (λ f. inl (each-edge (λ d v. Parts (leftOf d v) (rightOf d v)) c ds b f v d h m)) (λ f. inr (each-edge (λ d v. Parts (rightOf d v) (leftOf d v)) c ds b f v d h m)) parted
@@ -71,4 +72,4 @@ module _ (c : Corner) (ds : List ℕ) (r : IsRoom c ds) (b : Below 4 ds) where
       sides y m =
           let w = outline-ways o y m in
           let n = outside-not-inside c ds (r .closed) (rightOf (y .1) (y .0)) (each-way (λ d v. Outside c ds (rightOf d v)) (homeOf c ds) es (outline-outside o) y m) in
-          ⊎-elim (λ p. p) (λ p. absurd (n (p .0))) (beside (y .0) (y .1) (w .0) (w .1))
+          ⊎-elim (λ p. p) (λ p. absurd (n (p .0))) (walked-parts (y .0) (y .1) (w .0) (w .1))

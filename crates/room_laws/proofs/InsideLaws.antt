@@ -71,7 +71,7 @@ module _ (c : Corner) (ds : List ℕ) where
       let w : boxOf c ds .west ≤ℤ p .0 = ⊎-elim (λ l. l) (λ l. absurd (west-even h p l i)) (le-or-lt (boxOf c ds .west) (p .0)) in
       record { west = w; east = omega (zarith, x, g .east); south = omega (zarith, y, g .south); north = omega (zarith, y, g .north) }
 
-  inside-found : endFrom c ds ≡ c → (p : Panel) → Inside c ds p → List·Memᴰ p (panelsIn (boxOf c ds)) × (inside c ds p ≡ true)
+  pub inside-found : endFrom c ds ≡ c → (p : Panel) → Inside c ds p → List·Memᴰ p (panelsIn (boxOf c ds)) × (inside c ds p ≡ true)
   inside-found h p i = (box-panels c ds p .1 (inside-held h p i), eq-eqb (edgesBeside c ds p % 2) 1 i)
 
   -- a list of the panels inside has as many as the box has: there are no others

@@ -12,6 +12,8 @@ pub const MOST_INPUT: usize = 32_768;
 pub const MOST_STEPS: usize = 16_384;
 /// How far from 0 a coordinate of a start may be.
 pub const MOST_START: i32 = 16_384;
+/// Panels along a side of a block at most.
+pub const MOST_GRID: u32 = 16_384;
 /// Words in a record.
 pub const RECORD_WORDS: usize = 25;
 /// Words of the marks for each operation: nodes in use, visits at the corner where it ends, records that changed.
@@ -49,6 +51,8 @@ pub const ROWS_ANSWER_WORDS: usize = 3;
 pub const OVERLAY_ANSWER_WORDS: usize = 8;
 /// Words of the answer to the question whether a room is convex: number, place, 1 for yes or 0 for no.
 pub const CONVEX_ANSWER_WORDS: usize = 3;
+/// Words of the answer to an orthogonal hull: number, place, steps, start x, start y, blocks.
+pub const ORTHOGONAL_ANSWER_WORDS: usize = 6;
 /// Words of the answer to a polygon that is read: number, place, steps, start x, start y.
 pub const CHAIN_ANSWER_WORDS: usize = 5;
 /// Words of the answer to a conversion between steps and turns: number, place.
@@ -153,6 +157,8 @@ pub enum Refusal {
     UnknownParty(u32),
     /// The buffer is shorter than three numbers for each span.
     SpanRoom,
+    /// A grid size that is 0 or above [`MOST_GRID`].
+    GridSize,
 }
 
 impl Refusal {
@@ -180,6 +186,7 @@ impl Refusal {
             19 => Refusal::RetiredKind,
             20 => Refusal::UnknownParty(place),
             21 => Refusal::SpanRoom,
+            22 => Refusal::GridSize,
             _ => return None,
         })
     }
@@ -208,6 +215,7 @@ impl Refusal {
             Refusal::RetiredKind => 19,
             Refusal::UnknownParty(_) => 20,
             Refusal::SpanRoom => 21,
+            Refusal::GridSize => 22,
         }
     }
 
@@ -255,6 +263,7 @@ impl Refusal {
             Refusal::RetiredKind => "a frame with turns, which are retired",
             Refusal::UnknownParty(_) => "a byte of neither party",
             Refusal::SpanRoom => "a buffer is shorter than three numbers for each span",
+            Refusal::GridSize => "the grid size is not a number from 1 to 16,384",
         }
     }
 }
@@ -386,4 +395,15 @@ pub struct Overlaid {
     pub second: Measure,
     /// In both.
     pub both: Measure,
+}
+
+/// The outline of the orthogonal hull of a room, in blocks.
+#[derive(Clone, Copy, Debug, PartialEq, Eq)]
+pub struct OrthogonalHull {
+    /// The corner at which it starts: the lowest of the leftmost.
+    pub start: Corner,
+    /// Its steps.
+    pub steps: usize,
+    /// The blocks inside.
+    pub blocks: usize,
 }

@@ -235,6 +235,21 @@ pub fn convex<'a, T, E: Debug>(
     })
 }
 
+/// The orthogonal hull of each room in blocks of this size, in a buffer as long as the chain, which is always large enough.
+pub fn orthogonal<'a, T, E: Debug>(
+    hull: impl Fn((i32, i32), &[u8], u32, &mut [u8]) -> Result<T, E> + 'static,
+    inputs: &'a [Vec<u8>],
+    grid: u32,
+) -> Call<'a> {
+    let mut out = vec![0; inputs[0].len()];
+    Box::new(move || {
+        for chain in inputs {
+            let answer = hull((-7, 5), black_box(chain), black_box(grid), &mut out);
+            black_box(answer.expect("it is a room"));
+        }
+    })
+}
+
 /// Each polygon as a start and a chain.
 pub fn chain<'a, T, E: Debug>(
     chain: impl Fn(&[u8], &mut [u8]) -> Result<T, E> + 'static,

@@ -11,8 +11,8 @@ use std::path::Path;
 use std::sync::LazyLock;
 
 use calls::{
-    chain, convert, convex, count_visits, hull, outline, overlay, polygon, rows, sorted_rows, walk,
-    walk_alone, walk_two,
+    chain, convert, convex, count_visits, hull, orthogonal, outline, overlay, polygon, rows,
+    sorted_rows, walk, walk_alone, walk_two,
 };
 use compare::inputs::{self, Random};
 use compare::loaded::{Loaded, pages};
@@ -97,6 +97,10 @@ fn print() {
     overlays();
     println!("\nconvex rooms, ns a step");
     convexes();
+    println!("\northogonal hulls, ns a step of the room");
+    orthogonals();
+    println!("\northogonal hulls of rooms of 16384 steps in larger blocks, ns a step of the room");
+    blocks();
     println!("\npolygons as chains, MB/s of the file");
     files();
     println!("\nturns, ns a digit");
@@ -268,6 +272,42 @@ fn convexes() {
     }
 }
 
+/// Hulls in blocks of one panel, and of more.
+fn orthogonals() {
+    for n in SIZES {
+        for (shape, inputs) in rooms(n) {
+            for grid in [1, 8] {
+                race(vec![
+                    (
+                        "proved",
+                        orthogonal(undrwyth::orthogonal_hull, &inputs, grid),
+                    ),
+                    ("twin", orthogonal(twin::orthogonal_hull, &inputs, grid)),
+                    ("fill", orthogonal(plain::orthogonal_hull, &inputs, grid)),
+                    ("rows", rows(undrwyth::rows, &inputs)),
+                ])
+                .print(&format!("orthogonal-{grid}/{shape}/{n}"), ns);
+            }
+        }
+    }
+}
+
+/// What larger blocks bring: the same rooms in blocks of ever more panels, beside blocks of one.
+fn blocks() {
+    for (shape, inputs) in rooms(16_384) {
+        let sized = |grid| orthogonal(undrwyth::orthogonal_hull, &inputs, grid);
+        race(vec![
+            ("1", sized(1)),
+            ("4", sized(4)),
+            ("8", sized(8)),
+            ("14", sized(14)),
+            ("64", sized(64)),
+            ("1024", sized(1_024)),
+        ])
+        .print(&format!("blocks/{shape}"), ns);
+    }
+}
+
 /// The polygons of these rooms, in either byte order.
 fn polygons_of(rooms: &[Vec<u8>], little: bool) -> Vec<Vec<u8>> {
     let points = |room| inputs::points((-7, 5), room, usize::MAX, &mut Random(1));
@@ -358,6 +398,11 @@ fn growth() {
             ("8192", overlay(undrwyth::overlay, &short)),
         ])
         .print(&format!("growth-overlay/{shape}"), ns);
+        race(vec![
+            ("16384", orthogonal(undrwyth::orthogonal_hull, &long, 1)),
+            ("8192", orthogonal(undrwyth::orthogonal_hull, &short, 1)),
+        ])
+        .print(&format!("growth-orthogonal/{shape}"), ns);
         let (long, short) = (polygons_of(&long, true), polygons_of(&short, true));
         race(vec![
             ("16384", chain(undrwyth::chain_of_polygon, &long)),

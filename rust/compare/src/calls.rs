@@ -4,9 +4,9 @@ use std::fmt::Debug;
 use std::sync::atomic::{AtomicU64, Ordering};
 
 use answer::{
-    CHAIN_ANSWER_WORDS, CONVEX_ANSWER_WORDS, HULL_ANSWER_WORDS, OUTLINE_ANSWER_WORDS,
-    OVERLAY_ANSWER_WORDS, POLYGON_ANSWER_WORDS, ROWS_ANSWER_WORDS, TURNS_ANSWER_WORDS,
-    WALK_ANSWER_WORDS, WALK_TWO_ANSWER_WORDS,
+    CHAIN_ANSWER_WORDS, CONVEX_ANSWER_WORDS, HULL_ANSWER_WORDS, ORTHOGONAL_ANSWER_WORDS,
+    OUTLINE_ANSWER_WORDS, OVERLAY_ANSWER_WORDS, POLYGON_ANSWER_WORDS, ROWS_ANSWER_WORDS,
+    TURNS_ANSWER_WORDS, WALK_ANSWER_WORDS, WALK_TWO_ANSWER_WORDS,
 };
 
 use crate::{Convert, Library, Line, PLAIN, Room, Starts};
@@ -217,6 +217,27 @@ pub fn convex(library: &Library, start: (i32, i32), chain: &[u8]) -> [u32; CONVE
     let (ours, plain) = (run(library), run(&PLAIN));
     same("convex's number", chain, &ours.0, &plain.0);
     same("convex's answer", chain, &ours.1, &plain.1);
+    plain.1
+}
+
+/// Compares the orthogonal hull of a room, in blocks of this size and in a buffer of this length, and gives the answer.
+pub fn orthogonal(
+    library: &Library,
+    start: (i32, i32),
+    chain: &[u8],
+    grid: u32,
+    out: usize,
+) -> [u32; ORTHOGONAL_ANSWER_WORDS] {
+    let run = |library: &Library| {
+        let (mut out, mut answer) = (Lent::bytes(out), [u32::MAX; ORTHOGONAL_ANSWER_WORDS]);
+        let number = (library.orthogonal_hull)(start, chain, grid, out.part(), &mut answer);
+        ([number], answer, out.0)
+    };
+    let (ours, plain) = (run(library), run(&PLAIN));
+    let what = |of: &str| format!("{of} of the orthogonal hull from {start:?} in blocks of {grid}");
+    same(&what("number"), chain, &ours.0, &plain.0);
+    same(&what("answer"), chain, &ours.1, &plain.1);
+    same(&what("buffer"), chain, &ours.2, &plain.2);
     plain.1
 }
 

@@ -7,8 +7,9 @@ pub mod suite;
 
 use answer::{
     CHAIN_ANSWER_WORDS, CONVEX_ANSWER_WORDS, Facts, HULL_ANSWER_WORDS, NO_MEETING,
-    OUTLINE_ANSWER_WORDS, OVERLAY_ANSWER_WORDS, Overlaid, POLYGON_ANSWER_WORDS, PairFacts,
-    ROWS_ANSWER_WORDS, Refusal, TURNS_ANSWER_WORDS, WALK_ANSWER_WORDS, WALK_TWO_ANSWER_WORDS,
+    ORTHOGONAL_ANSWER_WORDS, OUTLINE_ANSWER_WORDS, OVERLAY_ANSWER_WORDS, OrthogonalHull, Overlaid,
+    POLYGON_ANSWER_WORDS, PairFacts, ROWS_ANSWER_WORDS, Refusal, TURNS_ANSWER_WORDS,
+    WALK_ANSWER_WORDS, WALK_TWO_ANSWER_WORDS,
 };
 
 /// The calls of an implementation, with the answers of the C boundary.
@@ -20,6 +21,7 @@ pub struct Library {
     pub polygon_of_room: Polygon,
     pub rows: Rows,
     pub convex: Convex,
+    pub orthogonal_hull: Orthogonal,
     pub overlay: Overlay,
     pub chain_of_polygon: Chain,
     pub turns_of_steps: Convert,
@@ -63,6 +65,10 @@ pub type Line = fn(&[u8], &mut [u8]) -> usize;
 /// Whether a room, by its start and chain, is convex.
 pub type Convex = fn((i32, i32), &[u8], &mut [u32; CONVEX_ANSWER_WORDS]) -> u32;
 
+/// The orthogonal hull of a room, by its start and chain, in blocks of a grid size.
+pub type Orthogonal =
+    fn((i32, i32), &[u8], u32, &mut [u8], &mut [u32; ORTHOGONAL_ANSWER_WORDS]) -> u32;
+
 /// A start and a chain.
 pub type Room<'a> = ((i32, i32), &'a [u8]);
 
@@ -85,6 +91,7 @@ pub const PROVED: Library = Library {
     polygon_of_room: undrwyth::raw::polygon_of_room,
     rows: undrwyth::raw::rows,
     convex: undrwyth::raw::convex,
+    orthogonal_hull: undrwyth::raw::orthogonal_hull,
     overlay: undrwyth::raw::overlay,
     chain_of_polygon: undrwyth::raw::chain_of_polygon,
     turns_of_steps: undrwyth::raw::turns_of_steps,
@@ -130,6 +137,10 @@ macro_rules! library {
                     answer,
                     $of::convex(start, chain).map(|yes| [u32::from(yes)]),
                 )
+            },
+            orthogonal_hull: |start, chain, grid, out, answer| {
+                let hull = $of::orthogonal_hull(start, chain, grid, out);
+                tell(answer, hull.map(hull_words))
             },
             overlay: |one, other, out, answer| {
                 tell(answer, $of::overlay(one, other, out).map(measures))
@@ -181,6 +192,16 @@ fn measures(parts: Overlaid) -> [u32; OVERLAY_ANSWER_WORDS - 2] {
     let [a, b, c] = parts.map(|part| part.panels as u32);
     let [d, e, f] = parts.map(|part| part.spans as u32);
     [a, b, c, d, e, f]
+}
+
+/// Steps, start and blocks of an orthogonal hull.
+fn hull_words(hull: OrthogonalHull) -> [u32; ORTHOGONAL_ANSWER_WORDS - 2] {
+    [
+        hull.steps as u32,
+        hull.start.x.cast_unsigned(),
+        hull.start.y.cast_unsigned(),
+        hull.blocks as u32,
+    ]
 }
 
 /// The facts of two parties as words: those of each without its nodes, which both have in common.

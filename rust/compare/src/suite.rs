@@ -1,9 +1,10 @@
 //! What is compared: all short inputs, every limit and one past it, random and damaged inputs of all lengths.
 
 use answer::{
-    CHAIN_ANSWER_WORDS, LINE_BYTES, MARK_WORDS, MOST_INPUT, MOST_LINE_DIGITS, MOST_PAIR_RECORDS,
-    MOST_RECORDS, MOST_START, MOST_STEPS, OVERLAY_ANSWER_WORDS, PAIR_RECORD_WORDS,
-    POLYGON_ANSWER_WORDS, RECORD_WORDS, WALK_TWO_ANSWER_WORDS,
+    CHAIN_ANSWER_WORDS, LINE_BYTES, MARK_WORDS, MOST_GRID, MOST_INPUT, MOST_LINE_DIGITS,
+    MOST_PAIR_RECORDS, MOST_RECORDS, MOST_START, MOST_STEPS, ORTHOGONAL_ANSWER_WORDS,
+    OVERLAY_ANSWER_WORDS, PAIR_RECORD_WORDS, POLYGON_ANSWER_WORDS, RECORD_WORDS,
+    WALK_TWO_ANSWER_WORDS,
 };
 
 use crate::inputs::{self, Random};
@@ -144,11 +145,47 @@ fn overlay_near(library: &Library, one: Room, other: Room) -> [u32; OVERLAY_ANSW
     answer
 }
 
-/// A start and a chain in every call on a room.
+/// The grid sizes that are tried: the least, some that split small rooms, powers of two, the greatest, and what is refused.
+const GRIDS: [u32; 10] = [
+    0,
+    1,
+    2,
+    3,
+    5,
+    64,
+    MOST_GRID - 1,
+    MOST_GRID,
+    MOST_GRID + 1,
+    u32::MAX,
+];
+
+/// The orthogonal hull of a room in the shortest buffer that is long enough, in none, in one byte less, in one more and in one as
+/// long as the chain, which is always long enough; gives the answer.
+fn orthogonal_near(
+    library: &Library,
+    start: (i32, i32),
+    chain: &[u8],
+    grid: u32,
+) -> [u32; ORTHOGONAL_ANSWER_WORDS] {
+    let answer = calls::orthogonal(library, start, chain, grid, chain.len());
+    let [number, _, steps, ..] = answer;
+    assert_ne!(number, 18);
+    if number == 0 {
+        let right = steps as usize;
+        for out in [0, right - 1, right, right + 1] {
+            calls::orthogonal(library, start, chain, grid, out);
+        }
+    }
+    answer
+}
+
+/// A start and a chain in every call on a room, with one grid size, which is chosen by the chain.
 fn room_near(library: &Library, start: (i32, i32), chain: &[u8]) {
     polygon_near(library, start, chain);
     rows_near(library, start, chain);
     calls::convex(library, start, chain);
+    let chosen = chain.iter().map(|&byte| usize::from(byte)).sum::<usize>() + chain.len();
+    orthogonal_near(library, start, chain, GRIDS[chosen % GRIDS.len()]);
 }
 
 /// Both conversions in a buffer of the right length, of one less and of one more.
@@ -191,6 +228,7 @@ pub fn every_byte(library: &Library) {
                 calls::polygon(library, (0, 0), &ops, 93);
                 calls::rows(library, (0, 0), &ops, 3);
                 calls::convex(library, (0, 0), &ops);
+                calls::orthogonal(library, (0, 0), &ops, u32::from(byte % 4), 4);
                 calls::turns(library, &ops, ops.len());
             }
             ops[place] = kept;
@@ -214,6 +252,7 @@ pub fn sizes(library: &Library) {
             calls::turns(library, ops, out);
             calls::polygon(library, (0, 0), &[0, 1, 2, 3], 87 + out);
             calls::rows(library, (0, 0), &[0, 0, 1, 2, 1, 2, 3, 3], out);
+            calls::orthogonal(library, (-1, 0), &[0, 0, 1, 2, 1, 2, 3, 3], 1, out);
             calls::line(library, &inputs::frame(0, ops), LINE_BYTES - 6 + out);
         }
     }
@@ -380,6 +419,9 @@ pub fn boxes(library: &Library) {
             if columns * rows < 20_000 {
                 rows_near(library, (5, -9), &room);
                 rows_near(library, (5, -9), &crossed);
+                for grid in [1, 3, 16] {
+                    orthogonal_near(library, (5, -9), &room, grid);
+                }
                 overlay_near(library, ((5, -9), &room), ((6, -7), &room));
             }
         }
@@ -468,6 +510,138 @@ fn convex_of(library: &Library, room: &[u8], random: &mut Random) {
         }
     }
     calls::convex(library, (0, 0), &chain[1..]);
+}
+
+/// Orthogonal hulls of every room of up to `longest` steps, in blocks of one panel and of more, from starts at every place in a
+/// block; hulls that are known; long rooms in many grid sizes, of every size of the working store and one beyond; and each refusal
+/// beside those that come after it.
+pub fn orthogonal_hulls(library: &Library, longest: usize) {
+    let mut notched = 0;
+    inputs::every_room(longest, &mut |room| {
+        let [number, _, steps, ..] = calls::orthogonal(library, (0, 0), room, 1, room.len());
+        assert_eq!(number, 0);
+        notched += usize::from((steps as usize) < room.len());
+    });
+    // At least the U of five panels in its four positions, from each of its 12 corners, both ways round.
+    assert!(notched >= 96);
+    inputs::every_room(longest.min(10), &mut |room| {
+        for (x, y) in (-3..=3).flat_map(|x| (-3..=3).map(move |y| (x, y))) {
+            calls::orthogonal(library, (x, y), room, 2, room.len());
+            calls::orthogonal(library, (x, y), room, 3, room.len());
+        }
+    });
+    known_hulls(library);
+    refused_hulls(library);
+    let mut random = Random(29);
+    for n in [8, 20, 254, 256, 258, 2_046, 2_048, 2_050, MOST_STEPS] {
+        for mut room in [
+            inputs::room(n, &mut random),
+            inputs::closed_spiral(n),
+            inputs::closed_comb(n, 7),
+            inputs::corridor(n, &mut random),
+            inputs::tower(n),
+            inputs::grown(n.min(2_050), &mut random),
+        ] {
+            for grid in [
+                1,
+                2,
+                3,
+                7,
+                64,
+                1 + random.below(MOST_GRID as usize) as u32,
+                MOST_GRID,
+            ] {
+                let turns = random.below(room.len());
+                room.rotate_left(turns);
+                room.iter_mut().for_each(|step| *step = (*step + 1) % 4);
+                let start = inputs::start(&mut random);
+                orthogonal_near(library, start, &room, grid);
+                again(library, start, &room, grid);
+            }
+        }
+    }
+}
+
+/// The hull of the hull, in blocks of one, is the hull. It is a room, whose area is the number of the blocks, and its length is that
+/// of its box.
+fn again(library: &Library, start: (i32, i32), room: &[u8], grid: u32) {
+    let (mut out, mut answer) = (vec![9; room.len()], [0; ORTHOGONAL_ANSWER_WORDS]);
+    (library.orthogonal_hull)(start, room, grid, &mut out, &mut answer);
+    let [number, _, steps, x, y, blocks] = answer;
+    if number != 0 {
+        return;
+    }
+    let hull = &out[..steps as usize];
+    assert!(out[steps as usize..].iter().all(|&byte| byte == 9));
+    let (mut at, mut area) = ((0_i64, 0_i64), 0);
+    let (mut least, mut most) = (at, at);
+    for &step in hull {
+        let (east, north) = [(1, 0), (0, 1), (-1, 0), (0, -1)][usize::from(step)];
+        area += at.0 * north;
+        at = (at.0 + east, at.1 + north);
+        least = (least.0.min(at.0), least.1.min(at.1));
+        most = (most.0.max(at.0), most.1.max(at.1));
+    }
+    assert_eq!((at, area), ((0, 0), i64::from(blocks)));
+    let around = 2 * (most.0 - least.0 + most.1 - least.1);
+    assert_eq!(i64::from(steps), around);
+    let corner = (x.cast_signed(), y.cast_signed());
+    let far = |v: i32| v.abs() > MOST_START;
+    let (mut twice, mut second) = (vec![9; hull.len()], [0; ORTHOGONAL_ANSWER_WORDS]);
+    (library.orthogonal_hull)(corner, hull, 1, &mut twice, &mut second);
+    if far(corner.0) || far(corner.1) {
+        assert_eq!(second, [10, 0, 0, 0, 0, 0]);
+    } else {
+        assert_eq!((&second, &twice[..]), (&answer, hull));
+    }
+}
+
+/// Hulls that are known: the U of five panels, a plus, stairs, a spiral, and one block round it all.
+fn known_hulls(library: &Library) {
+    let u = [0, 0, 0, 1, 1, 2, 3, 2, 1, 2, 3, 3];
+    let plus = [0, 1, 0, 1, 2, 1, 2, 3, 2, 3, 0, 3];
+    let stairs = [0, 1, 0, 1, 0, 1, 1, 2, 2, 2, 3, 3, 3, 3];
+    let spiral = inputs::closed_spiral(40);
+    let minus = |v: i32| v.cast_unsigned();
+    for (start, room, grid, facts) in [
+        ((-3, 5), &u[..], 1, [10, minus(-3), 5, 6]),
+        ((-3, 5), &u, 2, [8, minus(-2), 2, 4]),
+        ((-3, 5), &u, 3, [6, minus(-1), 1, 2]),
+        ((-3, 5), &u, MOST_GRID, [4, minus(-1), 0, 1]),
+        ((1, 0), &plus, 1, [12, 0, 1, 5]),
+        ((1, 0), &plus, 2, [8, 0, 0, 3]),
+        ((0, 0), &stairs, 1, [14, 0, 0, 9]),
+        ((0, 0), &spiral, 1, [24, minus(-2), minus(-2), 27]),
+        ((0, 0), &spiral, 4, [10, minus(-1), minus(-1), 5]),
+    ] {
+        let [number, place, answered @ ..] = orthogonal_near(library, start, room, grid);
+        assert_eq!((number, place, answered), (0, 0, facts));
+    }
+}
+
+/// Every refusal beside every grid size, with buffers of every length.
+fn refused_hulls(library: &Library) {
+    let faults: Vec<((i32, i32), Vec<u8>)> = vec![
+        ((0, 0), vec![0; MOST_INPUT + 1]),
+        ((MOST_START + 1, 0), vec![0, 1, 2, 9]),
+        ((0, i32::MIN), vec![4]),
+        ((0, 0), vec![0, 1, 4, 9]),
+        (
+            (0, 0),
+            [inputs::straight(MOST_STEPS + 1, 0), vec![9]].concat(),
+        ),
+        ((0, 0), vec![0, 2]),
+        ((0, 0), vec![]),
+        ((1, -1), vec![0, 1, 2, 3]),
+        ((0, 0), vec![0, 0, 1, 2, 1, 2, 3, 3]),
+    ];
+    for (start, chain) in &faults {
+        for grid in GRIDS {
+            for out in 0..10 {
+                calls::orthogonal(library, *start, chain, grid, out);
+            }
+        }
+    }
 }
 
 /// Every pair of rooms of up to `longest` steps at every distance at which they can touch, pairs of long ones, and walks that are not rooms in every

@@ -3,7 +3,7 @@
 use std::io::Write;
 use std::process::{Command, Stdio};
 
-use answer::{Facts, Overlaid, PairFacts, Refusal};
+use answer::{Facts, OrthogonalHull, Overlaid, PairFacts, Refusal};
 use compare::PROVED as LIBRARY;
 use compare::inputs::{self, Random};
 use compare::suite;
@@ -73,6 +73,14 @@ fn wrapper() {
             undrwyth::convex((n as i32, -1), &ops),
             plain::convex((n as i32, -1), &ops)
         );
+        type Orthogonal = fn((i32, i32), &[u8], u32, &mut [u8]) -> Result<OrthogonalHull, Refusal>;
+        for grid in 0..4 {
+            let round = |hull: Orthogonal| hull((n as i32, -1), &ops, grid, &mut [0; 60]);
+            assert_eq!(
+                round(undrwyth::orthogonal_hull),
+                round(plain::orthogonal_hull)
+            );
+        }
         type Overlay =
             fn(compare::Room, compare::Room, [&mut [i32]; 3]) -> Result<Overlaid, Refusal>;
         let over = |overlay: Overlay| {

@@ -57,6 +57,7 @@ fn limits_and_lengths() {
     assert_eq!(number("MOST_INPUT_BYTES"), answer::MOST_INPUT);
     assert_eq!(number("MOST_STEPS"), answer::MOST_STEPS);
     assert_eq!(number("MOST_START"), answer::MOST_START as usize);
+    assert_eq!(number("MOST_GRID"), answer::MOST_GRID as usize);
     assert_eq!(number("MOST_RECORDS"), answer::MOST_RECORDS);
     assert_eq!(number("MOST_PAIR_RECORDS"), answer::MOST_PAIR_RECORDS);
     assert_eq!(number("MOST_LINE_DIGITS"), answer::MOST_LINE_DIGITS);
@@ -81,6 +82,10 @@ fn words() {
     assert_eq!(number("ROWS_ANSWER_WORDS"), answer::ROWS_ANSWER_WORDS);
     assert_eq!(number("OVERLAY_ANSWER_WORDS"), answer::OVERLAY_ANSWER_WORDS);
     assert_eq!(number("CONVEX_ANSWER_WORDS"), answer::CONVEX_ANSWER_WORDS);
+    assert_eq!(
+        number("ORTHOGONAL_ANSWER_WORDS"),
+        answer::ORTHOGONAL_ANSWER_WORDS
+    );
     assert_eq!(number("CHAIN_ANSWER_WORDS"), answer::CHAIN_ANSWER_WORDS);
     assert_eq!(number("TURNS_ANSWER_WORDS"), answer::TURNS_ANSWER_WORDS);
     assert_eq!(number("WORD_PARENT"), word::PARENT);

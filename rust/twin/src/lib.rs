@@ -4,6 +4,7 @@
 mod convex;
 mod hull;
 mod line;
+mod orthogonal;
 mod outline;
 mod overlay;
 mod pair;
@@ -18,6 +19,7 @@ mod walk_box;
 pub use convex::convex;
 pub use hull::hull;
 pub use line::{convert_line, converter, line, program, rows_program, sheet};
+pub use orthogonal::orthogonal_hull;
 pub use outline::outline;
 pub use overlay::overlay;
 pub use pair::walk_two;

@@ -206,6 +206,44 @@ pub fn convex(start: impl Into<Corner>, chain: &[u8]) -> Result<bool, Refusal> {
     Ok(answer[2] == 1)
 }
 
+/// Writes the steps round the orthogonal hull of the room with this start and chain to the start of `out`. The plane is cut into
+/// blocks of `grid` by `grid` panels, 1 to [`MOST_GRID`], and the hull is the smallest set of blocks that has each block with a
+/// panel of the room and, with any two blocks of one row or one column, all blocks between them. The steps go counterclockwise
+/// along the edges of blocks, from the lowest of the leftmost corners, which is answered in blocks too: corner (x, y) is corner
+/// (grid x, grid y) of the panels. There are never more steps than in `chain`; the bytes after them are unchanged. Refused with 1,
+/// 10, 22, 4, 6, 12 or 18.
+///
+/// ```
+/// let u = [0, 0, 0, 1, 1, 2, 3, 2, 1, 2, 3, 3];
+/// let mut out = [7; 12];
+/// let hull = undrwyth::orthogonal_hull((-3, 5), &u, 1, &mut out)?;
+/// assert_eq!((hull.start.into(), hull.steps, hull.blocks), ((-3, 5), 10, 6));
+/// assert_eq!(out, [0, 0, 0, 1, 1, 2, 2, 2, 3, 3, 7, 7]);
+/// let hull = undrwyth::orthogonal_hull((-3, 5), &u, 2, &mut out)?;
+/// assert_eq!((hull.start.into(), hull.steps, hull.blocks), ((-2, 2), 8, 4));
+/// assert_eq!(
+///     undrwyth::orthogonal_hull((-3, 5), &u, 0, &mut out),
+///     Err(undrwyth::Refusal::GridSize)
+/// );
+/// # Ok::<(), undrwyth::Refusal>(())
+/// ```
+pub fn orthogonal_hull(
+    start: impl Into<Corner>,
+    chain: &[u8],
+    grid: u32,
+    out: &mut [u8],
+) -> Result<OrthogonalHull, Refusal> {
+    let mut answer = [0; ORTHOGONAL_ANSWER_WORDS];
+    let number = raw::orthogonal_hull(start, chain, grid, out, &mut answer);
+    accepted(number, answer[1])?;
+    let [_, _, steps, x, y, blocks] = answer;
+    Ok(OrthogonalHull {
+        start: corner(x, y),
+        steps: steps as usize,
+        blocks: blocks as usize,
+    })
+}
+
 /// Writes the spans of the panels that are in the first room only, in the second only and in both, each to the start of its
 /// buffer and as [`rows`] does, and answers how many panels and spans each of them has. A room is its start and its chain. The
 /// numbers after the spans are unchanged; if a buffer is too short for its list, nothing is written. Refused with 1, 10, 4, 6 or 12

@@ -1,9 +1,9 @@
 //! The calls of the C boundary as they are, on slices: include/undrwyth.h says what each does.
 
 use answer::{
-    CHAIN_ANSWER_WORDS, CONVEX_ANSWER_WORDS, Corner, HULL_ANSWER_WORDS, OUTLINE_ANSWER_WORDS,
-    OVERLAY_ANSWER_WORDS, POLYGON_ANSWER_WORDS, ROWS_ANSWER_WORDS, TURNS_ANSWER_WORDS,
-    WALK_ANSWER_WORDS, WALK_TWO_ANSWER_WORDS,
+    CHAIN_ANSWER_WORDS, CONVEX_ANSWER_WORDS, Corner, HULL_ANSWER_WORDS, ORTHOGONAL_ANSWER_WORDS,
+    OUTLINE_ANSWER_WORDS, OVERLAY_ANSWER_WORDS, POLYGON_ANSWER_WORDS, ROWS_ANSWER_WORDS,
+    TURNS_ANSWER_WORDS, WALK_ANSWER_WORDS, WALK_TWO_ANSWER_WORDS,
 };
 
 mod c {
@@ -79,6 +79,16 @@ mod c {
             start_y: i32,
             chain: *const u8,
             n: usize,
+            answer: *mut u32,
+        ) -> u32;
+        pub fn undrwyth_orthogonal_hull(
+            start_x: i32,
+            start_y: i32,
+            chain: *const u8,
+            n: usize,
+            grid: u32,
+            out: *mut u8,
+            out_bytes: usize,
             answer: *mut u32,
         ) -> u32;
         pub fn undrwyth_overlay(
@@ -284,6 +294,30 @@ pub fn convex(
     let Corner { x, y } = start.into();
     // SAFETY: as for walk.
     unsafe { c::undrwyth_convex(x, y, chain.as_ptr(), chain.len(), answer.as_mut_ptr()) }
+}
+
+/// `undrwyth_orthogonal_hull`: the refusal's number, 0 for none.
+pub fn orthogonal_hull(
+    start: impl Into<Corner>,
+    chain: &[u8],
+    grid: u32,
+    out: &mut [u8],
+    answer: &mut [u32; ORTHOGONAL_ANSWER_WORDS],
+) -> u32 {
+    let Corner { x, y } = start.into();
+    // SAFETY: as for walk.
+    unsafe {
+        c::undrwyth_orthogonal_hull(
+            x,
+            y,
+            chain.as_ptr(),
+            chain.len(),
+            grid,
+            out.as_mut_ptr(),
+            out.len(),
+            answer.as_mut_ptr(),
+        )
+    }
 }
 
 /// `undrwyth_overlay` of two rooms, each a start and a chain: the refusal's number, 0 for none.

@@ -16,7 +16,7 @@ use compare::{Library, PROVED, Room, suite};
 
 /// All walks of at most this many operations are asked.
 const LONGEST: u32 = 5;
-/// All rooms of at most this many steps are asked whether they are convex.
+/// All rooms of at most this many steps are asked whether they are convex, and for their orthogonal hulls.
 const LONGEST_ROOM: usize = 12;
 /// Rounds of random calls.
 const ROUNDS: usize = 300;
@@ -81,6 +81,10 @@ impl Case {
     fn start(self, (x, y): (i32, i32)) -> Case {
         let case = self.letter(b'n').put(&x.to_le_bytes());
         case.letter(b'n').put(&y.to_le_bytes())
+    }
+
+    fn number(self, number: u32) -> Case {
+        self.letter(b'n').put(&number.to_le_bytes())
     }
 
     fn input(self, bytes: &[u8]) -> Case {
@@ -192,6 +196,16 @@ const WRITTEN: Library = Library {
         case.result(number.into()).buffer(answer).write();
         number
     },
+    orthogonal_hull: |start, chain, grid, out, answer| {
+        let case = Case::of("orthogonal_hull", chain.len()).start(start);
+        let case = case.input(chain).number(grid).lent(out).answer(answer);
+        let number = (PROVED.orthogonal_hull)(start, chain, grid, out, answer);
+        case.result(number.into())
+            .buffer(out)
+            .buffer(answer)
+            .write();
+        number
+    },
     overlay: |one: Room, other: Room, out, answer| {
         let [first, second, both] = out;
         let case = Case::of("overlay", one.1.len() + other.1.len())
@@ -260,6 +274,7 @@ fn chosen() {
     suite::boxes(&WRITTEN);
     suite::outlines(&WRITTEN);
     suite::convex_rooms(&WRITTEN, LONGEST_ROOM);
+    suite::orthogonal_hulls(&WRITTEN, LONGEST_ROOM);
     suite::overlays(&WRITTEN, LONGEST as usize);
     suite::short_pairs(&WRITTEN, LONGEST / 2);
     suite::pair_bytes(&WRITTEN);

@@ -51,6 +51,11 @@ fn convex_rooms() {
 }
 
 #[test]
+fn orthogonal_hulls() {
+    suite::orthogonal_hulls(&LIBRARY, 2 * LONGEST as usize);
+}
+
+#[test]
 fn overlays() {
     suite::overlays(&LIBRARY, LONGEST as usize);
 }

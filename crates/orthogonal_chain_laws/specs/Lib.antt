@@ -1,0 +1,2 @@
+-- The chain around a pile of rows.
+pub mod Chain

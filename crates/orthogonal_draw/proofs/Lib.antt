@@ -1,0 +1,2 @@
+-- Laws of the outline's parts.
+pub mod SideLaws

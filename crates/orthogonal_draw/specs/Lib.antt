@@ -1,0 +1,2 @@
+-- The sides of a pile of rows.
+pub mod Sides

@@ -1,0 +1,2 @@
+-- Laws of lanes.
+pub mod LaneLaws
