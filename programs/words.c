@@ -115,7 +115,7 @@ size_t undrwyth_walk_sentence(char *out, size_t room, int32_t x, int32_t y, cons
 /* The sentences of refusals; # stands for the place. Those of a bad digit and of an unknown party are made below. */
 static const char *const refusals[] = {
     [UNDRWYTH_REFUSAL_TOO_MANY] = "the input has more than 32,768 bytes",
-    [UNDRWYTH_REFUSAL_TABLE] = "the lent table does not have the words of 1 record or more, or has more than the most",
+    [UNDRWYTH_REFUSAL_TABLE] = "the lent table does not have a whole number of records, or has none, or too many",
     [UNDRWYTH_REFUSAL_RESULT_ROOM] = "a lent buffer does not have the length that the input asks for",
     [UNDRWYTH_REFUSAL_NOTHING_TO_TAKE] = "the operation at place # takes a step back, and no step is left",
     [UNDRWYTH_REFUSAL_TOO_LONG] = "the step at place # would be the 16,385th that survives",
@@ -131,7 +131,7 @@ static const char *const refusals[] = {
     [UNDRWYTH_REFUSAL_BAD_COORDINATE] = "a coordinate is not a whole multiple of 600, or is too far out",
     [UNDRWYTH_REFUSAL_BAD_RING] = "the ring has a slant, a repeated point or fewer than four points, or is not closed",
     [UNDRWYTH_REFUSAL_CHAIN_ROOM] = "the lent buffer is shorter than the chain",
-    [UNDRWYTH_REFUSAL_RETIRED_KIND] = "the record has turns, which are retired; convert makes a record with steps of it",
+    [UNDRWYTH_REFUSAL_RETIRED_KIND] = "the record has turns, which are retired; convert changes them to steps",
     [UNDRWYTH_REFUSAL_SPAN_ROOM] = "a lent buffer is shorter than three numbers for each span",
     [UNDRWYTH_REFUSAL_GRID_SIZE] = "the grid size is not a number from 1 to 16,384",
 };

@@ -44,7 +44,7 @@ export function walkSentence(walk, start) {
 // The sentences of refusals; # stands for the place. Those of 4 and 20 are made below.
 const REFUSAL_SENTENCES = {
   1: "the input has more than 32,768 bytes",
-  2: "the lent table does not have the words of 1 record or more, or has more than the most",
+  2: "the lent table does not have a whole number of records, or has none, or too many",
   3: "a lent buffer does not have the length that the input asks for",
   5: "the operation at place # takes a step back, and no step is left",
   6: "the step at place # would be the 16,385th that survives",
@@ -60,7 +60,7 @@ const REFUSAL_SENTENCES = {
   16: "a coordinate is not a whole multiple of 600, or is too far out",
   17: "the ring has a slant, a repeated point or fewer than four points, or is not closed",
   18: "the lent buffer is shorter than the chain",
-  19: "the record has turns, which are retired; convert makes a record with steps of it",
+  19: "the record has turns, which are retired; convert changes them to steps",
   21: "a lent buffer is shorter than three numbers for each span",
   22: "the grid size is not a number from 1 to 16,384",
 };

@@ -115,7 +115,7 @@ def walk_two(
     chain0: Optional[Buffer] = None, chain1: Optional[Buffer] = None,
 ) -> WalkTwo:
     """Judges the walks of two parties in one table. A byte is 16 times the party plus an operation; a string has two
-    hexadecimal digits a byte.
+    hexadecimal digits for each byte.
 
     >>> answer = walk_two("00 12 00 12 11 14 01 13 02 10 02 10 03 11", (0, 0), (3, 1))
     >>> answer.nodes, [party.area for party in answer.parties]
@@ -250,7 +250,7 @@ def overlay(
 
 
 def convex(chain: Input, start: Corner = ORIGIN) -> bool:
-    """Tells whether a room is convex.
+    """Says whether a room is convex.
 
     >>> convex("0123"), convex("000111233223")
     (True, False)
@@ -288,7 +288,7 @@ def orthogonal_hull(chain: Input, start: Corner = ORIGIN, grid: int = 1, *, out:
 
 
 def turns_of_steps(chain: Input, *, out: Optional[Buffer] = None) -> Steps:
-    """Turns steps into turns.
+    """Makes turns of steps.
 
     >>> turns_of_steps("0123").digits
     '0111'
@@ -303,7 +303,7 @@ def turns_of_steps(chain: Input, *, out: Optional[Buffer] = None) -> Steps:
 
 
 def steps_of_turns(turns: Input, *, out: Optional[Buffer] = None) -> Steps:
-    """Turns turns into steps.
+    """Makes steps of turns.
 
     >>> steps_of_turns("0111").digits
     '0123'

@@ -68,7 +68,7 @@ class Refusal(IntEnum):
 
 SENTENCES = {
     Refusal.TOO_MANY: "the input has more than 32,768 bytes",
-    Refusal.TABLE: "the lent table does not have the words of 1 record or more, or has more than the most",
+    Refusal.TABLE: "the lent table does not have a whole number of records, or has none, or too many",
     Refusal.RESULT_ROOM: "a lent buffer does not have the length that the input asks for",
     Refusal.NOTHING_TO_TAKE: "the operation at place {place} takes a step back, and no step is left",
     Refusal.TOO_LONG: "the step at place {place} would be the 16,385th that survives",
@@ -84,7 +84,7 @@ SENTENCES = {
     Refusal.BAD_COORDINATE: "a coordinate is not a whole multiple of 600, or is too far out",
     Refusal.BAD_RING: "the ring has a slant, a repeated point or fewer than four points, or is not closed",
     Refusal.CHAIN_ROOM: "the lent buffer is shorter than the chain",
-    Refusal.RETIRED_KIND: "the record has turns, which are retired; convert makes a record with steps of it",
+    Refusal.RETIRED_KIND: "the record has turns, which are retired; convert changes them to steps",
     Refusal.SPAN_ROOM: "a lent buffer is shorter than three numbers for each span",
     Refusal.GRID_SIZE: "the grid size is not a number from 1 to 16,384",
 }
@@ -179,7 +179,7 @@ class PairRecord(NamedTuple):
 
 
 class Mark(NamedTuple):
-    """What an operation left: the nodes in use, the visits at the corner stood on, and how many records it changed."""
+    """What an operation left: the nodes in use, the visits at the corner where it ends, and how many records it changed."""
 
     nodes: int
     visits: int

@@ -167,7 +167,7 @@ def room(given: Optional[Buffer], code: str, count: int) -> Lent:
 
 
 def rooms(words: int, marks: int, count: int) -> Tuple[Lent, Lent, Lent]:
-    """New buffers of these many words, words again, and bytes, in one piece, which is quicker."""
+    """New buffers of this many words, words again, and bytes, in one piece, which is quicker."""
     first, second = 4 * words, 4 * (words + marks)
     made = bytearray(second + count)
     at, view = _address(_byte_at(made)), memoryview(made)

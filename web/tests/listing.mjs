@@ -15,7 +15,7 @@ const LINES = [
   ["000003044", "refused: the operation at place 2 takes a step back, and no step is left", "4"],
   ["00000a012301230f", `refused: byte 15 at place 9 ${NOT_A_DIGIT}`, "f"],
   ["01234x", `refused: 'x' at place 5 ${NOT_A_DIGIT}`, "x"],
-  ["0100040111", "refused: the record has turns, which are retired; convert makes a record with steps of it", "1"],
+  ["0100040111", "refused: the record has turns, which are retired; convert changes them to steps", "1"],
   ["", NOT_A_RECORD, ""],
   ["0000FF", NOT_A_RECORD, "F"],
   ["a,b,0123", `${NOT_A_RECORD}: its start is not two whole numbers`, "a"],

@@ -47,3 +47,13 @@ orElse-assoc (Refused r) b c = refl
 pub firstOf-last : (js : List Judged) (j : Judged) → firstOf (js ++ (j ∷ [])) ≡ orElse (firstOf js) j
 firstOf-last [] j = orElse-right j
 firstOf-last (i ∷ js) j = ap (orElse i) (firstOf-last js j) ∙ sym (orElse-assoc i (firstOf js) j)
+
+-- of two judgements: the first if it is a refusal, otherwise the second
+pub first-refused : (a b : Judged) (r : Refusal) → a ≡ Refused r → firstOf (a ∷ b ∷ []) ≡ Refused r
+first-refused a b r e = ap (λ (j : Judged). orElse j (orElse b Good)) e
+
+pub first-last : (a b : Judged) → a ≡ Good → firstOf (a ∷ b ∷ []) ≡ b
+first-last a b e = ap (λ (j : Judged). orElse j (orElse b Good)) e ∙ orElse-right b
+
+pub first-good : (a b : Judged) → firstOf (a ∷ b ∷ []) ≡ Good → (a ≡ Good) × (b ≡ Good)
+first-good a b e = let h = clear (a ∷ b ∷ []) e in (h .0, h .1 .0)

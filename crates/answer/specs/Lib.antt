@@ -2,3 +2,4 @@
 pub mod Limits
 pub mod Refusal
 pub mod Words
+pub mod Listed

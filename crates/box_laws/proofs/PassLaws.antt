@@ -14,9 +14,9 @@ use Rattle.int_laws.proofs.LinearLaws.{zarith, bal+, bal-}
 use Rattle.grid.specs.declared.Corner.{Corner}
 use Rattle.grid.specs.Grid.{endFrom, cornerAt}
 use Rattle.grid.proofs.StepLaws.{cornerAt-end}
-use Rattle.hull_laws.specs.Columns.{middle, top, colAfter, rowAfter}
-use Rattle.hull_laws.proofs.CornerLaws.{corner-eq}
-use Rattle.hull_laws.proofs.TrailLaws.{near, near-row}
+use Rattle.column_laws.specs.Columns.{middle, top, colAfter, rowAfter}
+use Rattle.grid.proofs.CornerLaws.{corner-eq}
+use Rattle.column_laws.proofs.TrailLaws.{near, near-row}
 use Rattle.room_thread_laws.specs.Threads.{Closes}
 use Rattle.box_laws.specs.Box.{lastFrom, lowFrom, highFrom, columnAt, heightAt, boxWidth, boxHeight, boxPlace, placeAt, Boxable, Reached, Framed}
 use Rattle.box_laws.proofs.AxisLaws.{low-le, high-ge, last-next, low-next, high-next, last-near, span-le}

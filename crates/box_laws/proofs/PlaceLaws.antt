@@ -12,9 +12,9 @@ use lib.IntN.{ℤ, pos, _+ℤ_, _-ℤ_}
 use Rattle.int_laws.proofs.LinearLaws.{zarith, bal+, bal-}
 use Rattle.grid.specs.declared.Corner.{Corner}
 use Rattle.grid.specs.Grid.{stepped, endFrom, cornerAt}
-use Rattle.hull_laws.specs.Columns.{middle, colAfter, rowAfter}
-use Rattle.hull_laws.proofs.CornerLaws.{corner-eq}
-use Rattle.hull_laws.proofs.TrailLaws.{near, near-row}
+use Rattle.column_laws.specs.Columns.{middle, colAfter, rowAfter}
+use Rattle.grid.proofs.CornerLaws.{corner-eq}
+use Rattle.column_laws.proofs.TrailLaws.{near, near-row}
 use Rattle.room_thread_laws.proofs.RoomLaws.{move-x, move-y}
 use Rattle.box_laws.specs.Box.{lastFrom, columnAt, heightAt, boxWest, boxSouth, boxNorth, boxWidth, boxHeight, InBox, boxPlace, placeAt, Boxable}
 use Rattle.box_laws.proofs.AxisLaws.{low-le, high-ge, span-le}

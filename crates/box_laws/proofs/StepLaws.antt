@@ -6,8 +6,8 @@ use Prim.Native.Nat.{ℕ, zero, suc, _+_, _*_, _-_, _^_, _%_, _≤_, _<_}
 use native.Mathlib.Omega.{arith}
 use native.Mathlib.Nat.{suc-mul, mul-le-mul}
 use lib.ListN.{length, getD, take, length-take}
-use Rattle.hull_laws.specs.Columns.{middle, top, colAfter, rowAfter}
-use Rattle.hull_laws.proofs.TrailLaws.{near, near-row}
+use Rattle.column_laws.specs.Columns.{middle, top, colAfter, rowAfter}
+use Rattle.column_laws.proofs.TrailLaws.{near, near-row}
 use Rattle.box_laws.specs.Box.{columnAt, heightAt, boxWest, boxSouth, boxWidth, boxHeight, InBox, boxPlace, placeAt, placeSteps, columnSteps, heightSteps, Boxable}
 use Rattle.box_laws.proofs.AxisLaws.{last-next, last-near}
 use Rattle.box_laws.proofs.PlaceLaws.{place-below, corner-in, width-few, height-few}

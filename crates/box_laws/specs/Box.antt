@@ -5,7 +5,7 @@ use mathlib.Core.Path.{_≡_}
 use mathlib.Core.List.{List, [], _∷_}
 use Prim.Native.Nat.{ℕ, suc, _+_, _*_, _-_, _≤_, _<_, min, max}
 use lib.ListN.{length, getD, take}
-use Rattle.hull_laws.specs.Columns.{middle, colAfter, rowAfter}
+use Rattle.column_laws.specs.Columns.{middle, colAfter, rowAfter}
 
 -- where a walk ends along an axis, by where each step leads
 unfoldable pub lastFrom : (ℕ → ℕ → ℕ) → ℕ → List ℕ → ℕ

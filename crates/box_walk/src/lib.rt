@@ -1,11 +1,11 @@
 // The box of a walk, in one pass over its chain.
-use hull_columns::Columns;
+use columns::Columns;
 use order::greater;
 use order::lesser;
 ghost use mathlib.Core.Path.{_≡_};
 ghost use mathlib.Core.Bool.{true};
 ghost use mathlib.Core.Logic.{_↔_};
-ghost use Rattle.hull_laws.specs.Columns.{middle};
+ghost use Rattle.column_laws.specs.Columns.{middle};
 ghost use Rattle.box_laws.specs.Box.{Boxable, Reached, Framed};
 ghost use Rattle.box_walk.specs.Boxed.{Boxed};
 

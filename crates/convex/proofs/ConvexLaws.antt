@@ -7,7 +7,7 @@ use Prim.Native.Nat.{ℕ}
 use Rattle.lists.specs.Lists.{tally}
 use Rattle.answer.specs.declared.{Counted.Counted, Judged.Judged, Judged.the-variants.Good, Judged.the-variants.Refused}
 use Rattle.grid.specs.declared.Corner.{Corner}
-use Rattle.hull.specs.Call.{countedOf}
+use Rattle.answer.specs.Listed.{countedOf}
 use Rattle.room.specs.Room.{asRoomJudged}
 use Rattle.convex.specs.Convex.{ConvexIs, ConvexCall}
 use Rattle.convex.proofs.ConvexCases as cases

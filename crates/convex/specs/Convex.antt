@@ -2,7 +2,8 @@
 use Rattle.lists.specs.Lists.{_≡_, Bool, true, List, List·Memᴰ, _↔_, ℕ, pos, _≤ℤ_, _<ℤ_, tally, Below}
 use Rattle.grid.specs.{declared.Corner.Corner, Grid.origin, Grid.cornersFrom}
 use Rattle.answer.specs.declared.{Counted.Counted, Judged.the-variants.Good}
-use Rattle.hull.specs.{Hull.cross, Call.countedOf}
+use Rattle.hull.specs.{Hull.cross}
+use Rattle.answer.specs.Listed.{countedOf}
 use Rattle.room.specs.Room.{asRoomJudged}
 use Rattle.convex.specs.Parts.{turnedBy, clockwise, Split}
 

@@ -16,7 +16,7 @@ use Rattle.grid.specs.declared.{Corner.Corner}
 use Rattle.grid.specs.Grid.{corner, panelAt, stepped, cornersFrom, endFrom, legsFrom}
 use Rattle.grid.proofs.StepLaws.{endFrom-append}
 use Rattle.trace.specs.Verdict.{IsRoom}
-use Rattle.hull_laws.proofs.CornerLaws.{corner-eq}
+use Rattle.grid.proofs.CornerLaws.{corner-eq}
 use Rattle.panels.specs.Inside.{Inside, leftOf, rightOf, InsideRight}
 use Rattle.convex.specs.Parts.{LowestLeft, LeftmostTop, Extremal}
 use Rattle.convex_hull_laws.proofs.MeanLaws.{Filled, row-gap, column-gap}

@@ -18,7 +18,7 @@ use Rattle.grid.specs.declared.{Corner.Corner}
 use Rattle.grid.specs.Grid.{corner, origin, panelAt, stepped, cornersFrom, endFrom}
 use Rattle.trace.specs.Verdict.{IsRoom}
 use Rattle.hull.specs.Hull.{cross}
-use Rattle.hull_laws.proofs.CornerLaws.{corner-eq}
+use Rattle.grid.proofs.CornerLaws.{corner-eq}
 use Rattle.panels.specs.Inside.{Inside, InsideRight}
 use Rattle.area_laws.proofs.ImageLaws.{moved, move}
 use Rattle.convex.specs.Parts.{LowestLeft, LeftmostTop, Extremal}

@@ -18,10 +18,9 @@ use Rattle.lists.proofs.GatherLaws.{and-left}
 use Rattle.lists.proofs.FindLaws.{count-append, bool-agree}
 use Rattle.grid.specs.declared.{Corner.Corner, Panel.Panel}
 use Rattle.grid.specs.Grid.{corner, panelAt, eqZ, same, stepped, endFrom, cornerAt, back}
-use Rattle.grid.proofs.CornerLaws.{same-sound, same-refl, eqZ-sound}
+use Rattle.grid.proofs.CornerLaws.{same-sound, same-refl, eqZ-sound, corner-eq}
 use Rattle.grid.proofs.StepLaws.{endFrom-append, stepped-back}
 use Rattle.trace.specs.Verdict.{IsRoom}
-use Rattle.hull_laws.proofs.CornerLaws.{corner-eq}
 use Rattle.panels.specs.Edges.{Edge, edgeOf, edgesFrom, beside, surplusOf}
 use Rattle.panels.specs.Box.{boxOf}
 use Rattle.panels.specs.Inside.{edgesBeside, Inside, leftOf, rightOf}

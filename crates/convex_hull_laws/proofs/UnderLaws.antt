@@ -13,10 +13,10 @@ use Rattle.int_laws.proofs.RingLaws.{ring, v, k, _⊕_, _⊖_, _⊗_}
 use Rattle.int_laws.proofs.SignLaws.{h≤, h<, hw, _⊞_, _⊠_, _⊡_, by≤, by<, by≤÷, by<÷}
 use Rattle.lists.specs.Lists.{sumOf}
 use Rattle.grid.specs.declared.{Corner.Corner, Panel.Panel}
-use Rattle.grid.specs.Grid.{corner, origin, cornersFrom}
+use Rattle.grid.specs.Grid.{corner, origin, cornersFrom, numbers}
 use Rattle.hull.specs.Hull.{cross}
-use Rattle.hull.specs.Call.{numbers}
-use Rattle.hull_laws.proofs.CornerLaws.{X, Y, O, cr, corner-eq}
+use Rattle.hull_laws.proofs.CornerLaws.{X, Y, O, cr}
+use Rattle.grid.proofs.CornerLaws.{corner-eq}
 use Rattle.convex.specs.Centres.{MeanOf}
 use Rattle.convex.specs.Convex.{Between, ConvexPart}
 use Rattle.convex_hull_laws.proofs.MeanLaws.{pos-suc}

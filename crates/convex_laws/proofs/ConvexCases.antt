@@ -5,7 +5,7 @@ use mathlib.Core.Bool.{true, false}
 use mathlib.Core.List.{[], _∷_}
 use lib.IntN.{pos, negsuc}
 use Rattle.grid.specs.Grid.{corner, origin}
-use Rattle.hull_laws.specs.Columns.{colAfter, rowAfter}
+use Rattle.column_laws.specs.Columns.{colAfter, rowAfter}
 use Rattle.hull_laws.specs.Outline.{turnsAt, cutAt, chainFrom}
 use Rattle.convex_laws.specs.Level.{depthsFrom, areLetters, level, levels, levelAlong, levelOf, convexPart}
 use Rattle.convex_laws.specs.Place.{leastFrom, placeOf}

@@ -16,7 +16,7 @@ use Rattle.grid.specs.Grid.{stepped, endFrom, cornersFrom, cornerAt}
 use Rattle.grid.proofs.StepLaws.{endFrom-append}
 use Rattle.trace.specs.Verdict.{sweepFrom, IsRoom}
 use Rattle.panels.specs.Outline.{backward}
-use Rattle.hull_laws.specs.Columns.{middle}
+use Rattle.column_laws.specs.Columns.{middle}
 use Rattle.convex.specs.Parts.{turnedBy, clockwise}
 use Rattle.convex.specs.Convex.{ConvexRoom}
 use Rattle.convex_laws.proofs.CycleLaws.{in-place, cut-in, cycle-in, cycle-closed, backward-at, clockwise-room}

@@ -16,10 +16,10 @@ use Rattle.int_laws.proofs.LinearLaws.{zarith, bal+, bal-}
 use Rattle.int_laws.proofs.RingLaws.{E, v, k, _⊕_, _⊖_, _⊗_, ring}
 use Rattle.int_laws.proofs.SignLaws.{h≤, h<, hw, _⊞_, _⊠_, _⊡_, by<÷}
 use Rattle.grid.specs.declared.Corner.{Corner}
-use Rattle.grid.specs.Grid.{corner}
+use Rattle.grid.specs.Grid.{corner, numbers}
 use Rattle.hull.specs.Hull.{OnLeft, AllLeft, cross}
-use Rattle.hull.specs.Call.{numbers}
-use Rattle.hull_laws.specs.Outline.{chainFrom, cutAt, spot}
+use Rattle.hull_laws.specs.Outline.{chainFrom, cutAt}
+use Rattle.column_laws.specs.Columns.{spot}
 use Rattle.hull_laws.proofs.ChainLaws.{Chain, chain-ok}
 use Rattle.hull_laws.proofs.CornerLaws.{X, cr, O}
 use Rattle.hull_laws.proofs.ScanLaws.{chain-cols, chain-in, chain-last}

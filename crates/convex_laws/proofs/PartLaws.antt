@@ -19,7 +19,7 @@ use Rattle.lists.specs.Lists.{Below}
 use Rattle.grid.specs.declared.Corner.{Corner}
 use Rattle.grid.specs.Grid.{corner, origin, stepped, cornersFrom}
 use Rattle.hull.specs.Hull.{cross}
-use Rattle.hull_laws.proofs.CornerLaws.{corner-eq}
+use Rattle.grid.proofs.CornerLaws.{corner-eq}
 use Rattle.convex.specs.Convex.{Between, ConvexPart}
 use Rattle.convex_laws.specs.Level.{depthsFrom, areLetters, level, levelOf, convexPart}
 use Rattle.convex_laws.proofs.LevelLaws.{Level, both, two, levelOf-exactly}

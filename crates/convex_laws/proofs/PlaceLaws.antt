@@ -13,8 +13,8 @@ use lib.Seq.{drop-cons}
 use Rattle.int_laws.proofs.LinearLaws.{zarith, bal+}
 use Rattle.grid.specs.declared.Corner.{Corner}
 use Rattle.grid.specs.Grid.{corner, cornerAt}
-use Rattle.hull_laws.specs.Columns.{middle, top, colAfter, rowAfter}
-use Rattle.hull_laws.proofs.CornerLaws.{corner-eq}
+use Rattle.column_laws.specs.Columns.{middle, top, colAfter, rowAfter}
+use Rattle.grid.proofs.CornerLaws.{corner-eq}
 use Rattle.room_thread_laws.specs.Threads.{Goes}
 use Rattle.room_thread_laws.proofs.RoomLaws.{goes-start, goes-step}
 use Rattle.convex.specs.Parts.{LowestLeft, LeftmostTop, HighestRight, RightmostBottom, ComesFirst, Extremal}

@@ -16,7 +16,7 @@ use Rattle.int_laws.proofs.NextLaws.{suc-sub, pred-sub, true-lt, false-lt}
 use Rattle.int_laws.proofs.RingLaws.{ring, v, k, _⊕_, _⊖_, _⊗_}
 use Rattle.grid.specs.Grid.{corner, stepped}
 use Rattle.trace.specs.Verdict.{sweepFrom}
-use Rattle.hull_laws.specs.Columns.{middle, colAfter}
+use Rattle.column_laws.specs.Columns.{middle, colAfter}
 use Rattle.area_laws.proofs.ImageLaws.{sweep-moved}
 use Rattle.convex_laws.specs.Way.{northIn, southIn, columnSum, Leftward}
 

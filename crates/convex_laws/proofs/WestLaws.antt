@@ -14,7 +14,7 @@ use Rattle.grid.specs.declared.Corner.{Corner}
 use Rattle.grid.specs.Grid.{corner, stepped, cornersFrom, endFrom, cornerAt}
 use Rattle.grid.proofs.StepLaws.{endFrom-snoc, cornerAt-end}
 use Rattle.trace.specs.Verdict.{IsRoom}
-use Rattle.hull_laws.proofs.CornerLaws.{corner-eq}
+use Rattle.grid.proofs.CornerLaws.{corner-eq}
 use Rattle.convex.specs.Parts.{LowestLeft, LeftmostTop, HighestRight, RightmostBottom, Extremal}
 use Rattle.convex_laws.proofs.PlaceLaws.{Anti}
 use Rattle.convex_laws.proofs.CycleLaws.{place-in, room-places}

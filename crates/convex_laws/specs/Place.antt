@@ -3,7 +3,7 @@
 -- Assumes nothing.
 use mathlib.Core.List.{List, [], _∷_}
 use Prim.Native.Nat.{ℕ, zero, suc, _+_, _*_, _-_, _%_, min}
-use Rattle.hull_laws.specs.Columns.{middle, top, colAfter, rowAfter}
+use Rattle.column_laws.specs.Columns.{middle, top, colAfter, rowAfter}
 
 -- the number of a corner: the farther left, then the lower, the less; of the others after one, two and three quarter turns to the left
 abbrev pub rank : ℕ → ℕ → ℕ → ℕ

@@ -9,7 +9,7 @@ use lib.Signed.{ltZ}
 use Rattle.grid.specs.declared.Corner.{Corner}
 use Rattle.grid.specs.Grid.{endFrom}
 use Rattle.trace.specs.Verdict.{sweepFrom}
-use Rattle.hull_laws.specs.Columns.{colAfter}
+use Rattle.column_laws.specs.Columns.{colAfter}
 use Rattle.panels.specs.Outline.{backward}
 
 -- the column x where the step d leads north, else 0

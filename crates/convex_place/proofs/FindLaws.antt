@@ -7,8 +7,8 @@ use native.Mathlib.Numerals.{add-one}
 use native.Mathlib.Omega.{arith}
 use lib.ListN.{length, getD, drop, drop-of-length-le}
 use lib.Seq.{drop-cons}
-use Rattle.hull_laws.specs.Columns.{middle, top, colAfter, rowAfter}
-use Rattle.hull_laws.proofs.TrailLaws.{near, near-row}
+use Rattle.column_laws.specs.Columns.{middle, top, colAfter, rowAfter}
+use Rattle.column_laws.proofs.TrailLaws.{near, near-row}
 use Rattle.convex_laws.specs.Place.{rank, rankAt, leastFrom, placeOf}
 
 pub rank-le : (t x y : ℕ) → x ≤ top → y ≤ top → rank t x y ≤ 2147516416

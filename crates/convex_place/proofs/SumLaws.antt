@@ -11,8 +11,8 @@ use lib.Dec.{eqb, ltb}
 use lib.ListN.{length, getD, drop, drop-of-length-le}
 use lib.Seq.{drop-cons}
 use mir.Val.{boolByte}
-use Rattle.hull_laws.specs.Columns.{middle, top, colAfter}
-use Rattle.hull_laws.proofs.TrailLaws.{near}
+use Rattle.column_laws.specs.Columns.{middle, top, colAfter}
+use Rattle.column_laws.proofs.TrailLaws.{near}
 use Rattle.convex_laws.specs.Way.{northIn, southIn, columnSum}
 
 by-one : (x n : ℕ) → n ≡ 1 → x * n ≡ x

@@ -1,13 +1,13 @@
 // Where the extremal corners of a walk stand, and which way round it goes.
-use hull_columns::Columns;
-use hull_columns::column;
-use hull_columns::height;
+use columns::Columns;
+use columns::column;
+use columns::height;
 use order::lesser;
 ghost use mathlib.Core.Path.{_≡_};
 ghost use Prim.Native.Nat.{_≤_};
 ghost use lib.Dec.{ltb};
 ghost use lib.ListN.{length};
-ghost use Rattle.hull_laws.specs.Columns.{middle, top};
+ghost use Rattle.column_laws.specs.Columns.{middle, top};
 ghost use Rattle.convex_laws.specs.Place.{rank, rankAt, placeOf};
 ghost use Rattle.convex_laws.specs.Way.{northIn, southIn, columnSum};
 

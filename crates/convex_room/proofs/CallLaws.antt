@@ -12,9 +12,10 @@ use Rattle.answer.specs.declared.{Counted.Counted, Judged.Judged, Judged.the-va
 use Rattle.answer.specs.Refusal.{when}
 use Rattle.grid.specs.declared.Corner.{Corner}
 use Rattle.trace.specs.Verdict.{IsRoom}
-use Rattle.hull.specs.Call.{countedOf}
-use Rattle.hull_laws.specs.Columns.{middle}
-use Rattle.hull_laws.proofs.SurveyLaws.{good-short}
+use Rattle.answer.specs.Listed.{countedOf}
+use Rattle.column_laws.specs.Columns.{middle}
+use Rattle.steps.specs.Chain.{asWalkJudged}
+use Rattle.steps.proofs.ChainLaws.{good-short}
 use Rattle.room.specs.Room.{asRoomJudged}
 use Rattle.room.proofs.RoomLaws.{AsRoom, good-room}
 use Rattle.convex.specs.Convex.{ConvexIs, ConvexCall}
@@ -24,8 +25,7 @@ use Rattle.convex_laws.proofs.GirthLaws.{convex-girth}
 use Rattle.box_laws.specs.Box.{Boxable, boxWidth, boxHeight}
 use Rattle.box_laws.proofs.PlaceLaws.{width-few, height-few}
 use Rattle.room_thread_laws.specs.Threads.{Told}
-use Rattle.room_judge.specs.Steps.{stepsJudged}
-use Rattle.room_judge.proofs.JudgeLaws.{steps-refused, steps-room}
+use Rattle.room_judge.proofs.JudgeLaws.{told-refused, told-room}
 use Rattle.convex_part.specs.Steps.{Digits}
 
 pub told-yes : (b : Bool) → b ≡ true → Counted.Many 1 ≡ Counted.Many (tally b)
@@ -63,16 +63,16 @@ module _ (s : Corner) (ds : List ℕ) (j : Judged) (e : j ≡ asRoomJudged s ds)
       clash : asRoomJudged s ds ≡ Good → Refused q ≡ asRoomJudged s ds → ⊥
       clash x y = let z : _≡_ {A = ℕ} 0 1 = cc in omega arith
 
-pub call-refused : (s : Corner) (ds : List ℕ) (j : Judged) → j ≡ stepsJudged s ds → (q : Refusal) → j ≡ Refused q → ConvexCall s ds (Counted.Refused q)
-call-refused s ds j e q g = refused s ds (Refused q) (steps-refused s ds j e q g) q refl
+pub call-refused : (s : Corner) (ds : List ℕ) (j : Judged) → j ≡ asWalkJudged s ds → (q : Refusal) → j ≡ Refused q → ConvexCall s ds (Counted.Refused q)
+call-refused s ds j e q g = refused s ds (Refused q) (told-refused s ds j e q g) q refl
 
 -- the same where nothing is wrong before it is asked whether they are a room
 module _ (ds : List ℕ) (m : Bool) (t : Told ds m) where
-  judged : (s : Corner) → stepsJudged s ds ≡ Good → (b : Bool) → m ≡ b → when (not b) NotRoom ≡ asRoomJudged s ds
-  judged s g b x = steps-room s ds Good (sym g) refl m t (when (not b) NotRoom) (ap (λ (z : Bool). when (not z) NotRoom) (sym x))
+  judged : (s : Corner) → asWalkJudged s ds ≡ Good → (b : Bool) → m ≡ b → when (not b) NotRoom ≡ asRoomJudged s ds
+  judged s g b x = told-room s ds Good (sym g) m (when (not b) NotRoom) refl t (ap (λ (z : Bool). when (not z) NotRoom) (sym x))
 
-  pub call-open : m ≡ false → (s : Corner) → stepsJudged s ds ≡ Good → ConvexCall s ds (Counted.Refused NotRoom)
+  pub call-open : m ≡ false → (s : Corner) → asWalkJudged s ds ≡ Good → ConvexCall s ds (Counted.Refused NotRoom)
   call-open x s g = refused s ds (Refused NotRoom) (judged s g false x) NotRoom refl
 
-  pub call-room : m ≡ true → (b : Bool) → ((c : Corner) → IsRoom c ds → b ≡ convexOf c ds) → (r : Counted) → r ≡ Counted.Many (tally b) → (s : Corner) → stepsJudged s ds ≡ Good → ConvexCall s ds r
+  pub call-room : m ≡ true → (b : Bool) → ((c : Corner) → IsRoom c ds → b ≡ convexOf c ds) → (r : Counted) → r ≡ Counted.Many (tally b) → (s : Corner) → asWalkJudged s ds ≡ Good → ConvexCall s ds r
   call-room x b f r h s g = told s ds Good (judged s g true x) b refl f r h

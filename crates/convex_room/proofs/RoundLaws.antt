@@ -13,7 +13,7 @@ use Rattle.area_laws.proofs.OutlineLaws.{length-backward}
 use Rattle.grid.specs.declared.Corner.{Corner}
 use Rattle.grid.specs.Grid.{origin, endFrom, back}
 use Rattle.grid.proofs.StepLaws.{back-mod, back-small}
-use Rattle.hull_laws.specs.Columns.{middle}
+use Rattle.column_laws.specs.Columns.{middle}
 use Rattle.panels.specs.Outline.{startedAt, backward}
 use Rattle.convex_laws.specs.Place.{placeOf}
 use Rattle.convex_laws.specs.Way.{northIn, southIn, columnSum, travelled}

@@ -4,7 +4,7 @@ use mathlib.Core.List.{List}
 use mathlib.Core.Path.{_≡_}
 use Prim.Native.Nat.{ℕ, _+_, _*_, _<_, _≤_}
 use lib.ListN.{length, getD}
-use Rattle.hull_laws.specs.Columns.{middle}
+use Rattle.column_laws.specs.Columns.{middle}
 use Rattle.convex_part.specs.Steps.{Digits}
 
 -- the first i steps of w stand at the start of out and from place n on

@@ -6,12 +6,11 @@ use answer::Limits;
 use answer::Refusal;
 use box_walk::WalkBox;
 use box_walk::enclose;
+use columns::Columns;
 use convex_part::judge;
 use convex_place::leftward;
 use convex_place::place;
 use grid::Corner;
-use hull_columns::Columns;
-use room_judge::judge_steps;
 use room_map::is_room_in;
 ghost use mathlib.Core.Path.{_≡_};
 ghost use mathlib.Core.Bool.{_&&_};
@@ -23,10 +22,10 @@ ghost use Rattle.answer.specs.declared.Judged.the-variants.{Good};
 ghost use Rattle.grid.specs.declared.Corner.{Corner};
 ghost use Rattle.grid.specs.Grid.{endFrom};
 ghost use Rattle.trace.specs.Verdict.{IsRoom};
-ghost use Rattle.hull_laws.specs.Columns.{middle, narrowSize, widerSize};
+ghost use Rattle.column_laws.specs.Columns.{middle, narrowSize, widerSize};
 ghost use Rattle.box_laws.specs.Box.{Boxable, boxWidth, boxHeight};
 ghost use Rattle.box_walk.specs.Boxed.{Boxed};
-ghost use Rattle.room_judge.specs.Steps.{stepsJudged};
+ghost use Rattle.steps.specs.Chain.{asWalkJudged};
 ghost use Rattle.convex.specs.Parts.{turnedBy};
 ghost use Rattle.convex.specs.Convex.{ConvexCall};
 ghost use Rattle.convex_laws.specs.Way.{travelled};
@@ -192,7 +191,7 @@ fn counted(b: bool) -> Counted
 // Tells whether a walk with this box is a room, and whether it is convex, from any start that is not refused.
 fn tell_in(chain: &[u8], b: WalkBox) -> Counted
     requires { ⌜ Boxable (now chain) × Boxed (now chain) (b .width) (b .height) (b .from) (b .closed) ⌝ }
-    ensures { λ r. ⌜ ((c : Corner) → stepsJudged c (now (chain .entry)) ≡ Good → ConvexCall c (now (chain .entry)) r) ⌝ }
+    ensures { λ r. ⌜ ((c : Corner) → asWalkJudged c (now (chain .entry)) ≡ Good → ConvexCall c (now (chain .entry)) r) ⌝ }
 {
     let width = b.width;
     let height = b.height;
@@ -206,7 +205,7 @@ fn tell_in(chain: &[u8], b: WalkBox) -> Counted
 pub fn tell(start: Corner, chain: &[u8]) -> Counted
     ensures { λ r. ⌜ ConvexCall start (now (chain .entry)) r ⌝ }
 {
-    match judge_steps(start, chain) {
+    match chain_judge::judge(start, chain) {
         Judged::Good => tell_in(chain, enclose(chain)),
         Judged::Refused(r) => Counted::Refused(r),
     }

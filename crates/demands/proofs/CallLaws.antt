@@ -12,8 +12,11 @@ use Rattle.answer.specs.declared.Judged.the-variants.{Good, Refused}
 use Rattle.answer.specs.declared.Refusal.{Refusal}
 use Rattle.grid.specs.declared.Corner.{Corner}
 use Rattle.steps.specs.Turns.{turnsJudged, writtenIf, ConvertedBy}
-use Rattle.hull.specs.Call.{hullJudged, countedOf, numbers, bufferOf, HullCall}
+use Rattle.hull.specs.Call.{hullJudged, HullCall}
+use Rattle.answer.specs.Listed.{countedOf, laidIf}
+use Rattle.grid.specs.Grid.{numbers}
 use Rattle.hull_laws.proofs.HullLaws.{hull-exists}
+use Rattle.hull_laws.proofs.JoinLaws.{length-numbers}
 
 -- ---- conversions
 pub converted-some : (convert : List ℕ → List ℕ) (ds out : List ℕ) → (r : Judged) × (out′ : List ℕ) × ConvertedBy convert ds out r out′
@@ -33,18 +36,18 @@ module _ (s : Corner) (chain : List ℕ) (before : List ℤ) where
   pub hullCall-some : (r : Counted) × (after : List ℤ) × HullCall s chain before r after
   hullCall-some =
       let h = hull-exists s chain in
-      (countedOf (judged (h .0)) (length (h .0)), bufferOf (judged (h .0)) (h .0) before, record { list = h .0; hull = h .1; answer = refl; buffer = refl })
+      (countedOf (judged (h .0)) (length (h .0)), laidIf (judged (h .0)) (numbers (h .0)) before, record { list = h .0; hull = h .1; answer = refl; buffer = refl })
 
   pub hull-untouched : {after : List ℤ} (q : Refusal) → HullCall s chain before (Counted.Refused q) after → after ≡ before
   hull-untouched q p = p .buffer ∙ by (judged (p .list)) (p .answer)
     where
-      by : (j : Judged) → Counted.Refused q ≡ countedOf j (length (p .list)) → bufferOf j (p .list) before ≡ before
+      by : (j : Judged) → Counted.Refused q ≡ countedOf j (length (p .list)) → laidIf j (numbers (p .list)) before ≡ before
       by Good e = absurd (let z : _≡_ {A = ℕ} 0 1 = cc in omega arith)
       by (Refused r) e = refl
 
   pub hull-written : {after : List ℤ} (n : ℕ) (p : HullCall s chain before (Counted.Many n) after) → (n ≡ length (p .list)) × (after ≡ numbers (p .list) ++ drop (2 * length (p .list)) before)
   hull-written {after} n p = by (judged (p .list)) (p .answer) (p .buffer)
     where
-      by : (j : Judged) → Counted.Many n ≡ countedOf j (length (p .list)) → after ≡ bufferOf j (p .list) before → (n ≡ length (p .list)) × (after ≡ numbers (p .list) ++ drop (2 * length (p .list)) before)
-      by Good e b = (cc, b)
+      by : (j : Judged) → Counted.Many n ≡ countedOf j (length (p .list)) → after ≡ laidIf j (numbers (p .list)) before → (n ≡ length (p .list)) × (after ≡ numbers (p .list) ++ drop (2 * length (p .list)) before)
+      by Good e b = (cc, b ∙ ap (λ (k : ℕ). numbers (p .list) ++ drop k before) (length-numbers (p .list)))
       by (Refused r) e b = absurd (let z : _≡_ {A = ℕ} 0 1 = cc in omega arith)

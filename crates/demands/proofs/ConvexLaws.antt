@@ -14,8 +14,8 @@ use Rattle.answer.specs.declared.Judged.the-variants.{Good, Refused}
 use Rattle.answer.specs.declared.Refusal.{Refusal}
 use Rattle.grid.specs.declared.{Corner.Corner, Panel.Panel}
 use Rattle.trace.specs.Verdict.{IsRoom}
-use Rattle.hull.specs.Call.{countedOf}
-use Rattle.hull_laws.proofs.SurveyLaws.{good-short}
+use Rattle.answer.specs.Listed.{countedOf}
+use Rattle.steps.proofs.ChainLaws.{good-short}
 use Rattle.room.specs.Room.{asRoomJudged}
 use Rattle.room.proofs.RoomLaws.{good-room}
 use Rattle.row_laws.proofs.CallLaws.{good-steps}
@@ -28,7 +28,7 @@ use Rattle.convex_laws.proofs.RoomLaws.{convexOf-exactly}
 use Rattle.convex_laws.proofs.SplitLaws.{convex-parts, some-part}
 use Rattle.convex_hull_laws.proofs.HullLaws.{convex-exactly}
 use Rattle.demands.specs.GivenRoom.{GivenRoom}
-use Rattle.demands.proofs.DigitLaws.{count-refused}
+use Rattle.answer.proofs.ListedLaws.{count-refused}
 use Rattle.demands.proofs.RoomCallLaws.{room-when}
 
 pub convex-some : (s : Corner) (ds : List ℕ) → (r : Counted) × ConvexCall s ds r

@@ -20,7 +20,7 @@ use Rattle.answer.specs.Refusal.{refusalNumber, refusalPlace}
 use Rattle.answer.specs.Words.{factsWords, answerWords, countedWords, judgedWords}
 use Rattle.lists.specs.Lists.{sumOf, Distinct, Below}
 use Rattle.grid.specs.declared.{Corner.Corner, Panel.Panel}
-use Rattle.grid.specs.Grid.{corner, origin, cornersFrom, endFrom, stepped, back}
+use Rattle.grid.specs.Grid.{corner, origin, cornersFrom, endFrom, stepped, back, numbers}
 use Rattle.grid.specs.Tree.{AncestorAt, root, WithinLevels, pathOf}
 use Rattle.steps.specs.Operations.{survivors}
 use Rattle.steps.specs.Turns.{turnOf, turnsOf, stepAfter, stepsOf, ConvertedBy}
@@ -31,7 +31,7 @@ use Rattle.layout.specs.Marks.{markWords, changesIn, changesOf}
 use Rattle.layout.specs.Table.{width, recordsIn, wordAt, edgesOf, tableOf}
 use Rattle.walk_call.specs.Walk.{factsOf, WalkIs}
 use Rattle.hull.specs.Hull.{Exposed, HullIs, Encloses}
-use Rattle.hull.specs.Call.{numbers, HullCall}
+use Rattle.hull.specs.Call.{HullCall}
 use Rattle.panels.specs.{Edges.surplusOf, Box.panelSum, Inside.panelsInside, Inside.ListsInside, Inside.InsideLeft, Inside.InsideRight}
 use Rattle.hull_laws.proofs.CallLaws as hullCallLaws
 use Rattle.hull_laws.proofs.HullLaws as hullLaws

@@ -15,8 +15,7 @@ use Rattle.answer.specs.declared.Verdict.{Verdict, the-variants.Nowhere, the-va
 use Rattle.answer.specs.Refusal.{refusalNumber, refusalPlace, verdictNumber}
 use Rattle.answer.specs.Words.{bitsOf}
 use Rattle.grid.specs.declared.Corner.{Corner}
-use Rattle.grid.specs.Grid.{origin}
-use Rattle.hull.specs.Call.{numbers}
+use Rattle.grid.specs.Grid.{origin, numbers}
 use Rattle.hull_laws.proofs.JoinLaws.{length-numbers}
 use Rattle.row_call.specs.Rows.{Span, spanNumbers}
 use Rattle.line_frame.specs.Hex.{numberFrom, hexOf}

@@ -1,7 +1,7 @@
 -- The judgements of a file are given on their occasions and on no other; the promise of the call that reads it taken apart.
 -- Assumes nothing.
 use mathlib.Core.Bool.{Bool, true, false, false≢true}
-use mathlib.Core.List.{List, _++_, map}
+use mathlib.Core.List.{List, map}
 use mathlib.Core.Logic.{_↔_}
 use mathlib.Core.Path.{_≡_, refl, ap, sym, _∙_, subst}
 use Prim.Native.Nat.{ℕ, _+_, _*_, _≤_}
@@ -9,7 +9,7 @@ use native.Mathlib.Decide.{ℕ-discrete, decLt}
 use native.Mathlib.Omega.{arith}
 use borrow.Author.Tests.{lt-ltb, le-ltb, eq-eqb, ne-eqb}
 use lib.Dec.{ltb}
-use lib.ListN.{length, drop}
+use lib.ListN.{length}
 use Rattle.lists.specs.Lists.{any}
 use Rattle.answer.specs.declared.Judged.{Judged}
 use Rattle.answer.specs.declared.Judged.the-variants.{Good, Refused}
@@ -17,7 +17,6 @@ use Rattle.answer.specs.declared.Refusal.{Refusal}
 use Rattle.answer.specs.declared.Refusal.the-variants.{FileLength, FileKind, BadCoordinate, BadRing, TooLong, ChainRoom}
 use Rattle.answer.specs.Limits.{mostSteps}
 use Rattle.grid.specs.declared.Corner.{Corner}
-use Rattle.steps.specs.Turns.{writtenIf}
 use Rattle.polygon_ring.specs.declared.{Found.Found, Given.Given}
 use Rattle.polygon_ring.specs.Ring.{orderOf, isLittle, isNeither, isFaulty, cornerIn, startOf, lengthOf, chainOfPoints, isRing, countIn, pointsIn, ringOf, readJudged, givenOf, ReadCall}
 use Rattle.polygon_ring_laws.specs.Reading.{ringJudged, pointsJudged}
@@ -25,6 +24,7 @@ use Rattle.polygon_ring_laws.specs.Files.{Headed, Sized, HasCorners, IsRing}
 use Rattle.polygon_ring_laws.proofs.ReadLaws.{given-fine, given-refused, judgedBy, ring-tests, judged-sized, judged-short, judged-neither, judged-ordered}
 use Rattle.polygon_ring_laws.proofs.FileLaws.{headed-order, order-some, point-faulty, faulty-point, points-corners, corners-read, ring-exactly}
 use Rattle.answer.proofs.RefusalLaws.{refused-not-good}
+use Rattle.answer.specs.Listed.{laidIf}
 use Rattle.demands.specs.GivenFile.{GivenFile}
 use Rattle.demands.specs.GivenFile as given
 
@@ -125,7 +125,7 @@ module _ {file out : List ℕ} {r : Given} {out′ : List ℕ} (c : ReadCall fil
 pub chain-some : (file out : List ℕ) → (r : Given) × (out′ : List ℕ) × ReadCall file out r out′
 chain-some file out =
     let j = readJudged file (length out) in
-    (givenOf j (ringOf file), writtenIf j (chainOfPoints (ringOf file) ++ drop (length (chainOfPoints (ringOf file))) out) out, record { answer = refl; buffer = refl })
+    (givenOf j (ringOf file), laidIf j (chainOfPoints (ringOf file)) out, record { answer = refl; buffer = refl })
 
 -- the corners and the ring of a file that is accepted
 good-ring : (file : List ℕ) (room : ℕ) (j : Judged) → j ≡ Good → GivenFile file room j → (little : Bool) × HasCorners little file (ringOf file) × IsRing (ringOf file)

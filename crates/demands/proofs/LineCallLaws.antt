@@ -41,7 +41,7 @@ use Rattle.hull_laws.proofs.{HullLaws.hullOf-hull, HullLaws.hull-count-steps, O
 use Rattle.hull_laws.specs.Outline.{hullOf}
 use Rattle.line_frame.specs.declared.{Kind.Kind, Kind.the-variants.Operations, Kind.the-variants.Turns, Frame.Frame, Frame.the-variants.Of, Frame.the-variants.Bad}
 use Rattle.line_frame.specs.Sizes.{mostDigits, tableWords}
-use Rattle.line_frame.specs.Line.{kindNamed, frameOf, digitsOf, lineAnswer}
+use Rattle.line_frame.specs.Line.{kindNamed, frameOf, digitsOf, lineAnswer, lineWalked}
 use Rattle.line_frame.specs.Spelled.{refusedLine, factsLine, hullLine, answerLine}
 use Rattle.line_frame.specs.Converted.{Turned, convertedLine}
 use Rattle.line_frame.proofs.ConvertedLaws.{converted-frame, converted-digits}
@@ -52,7 +52,6 @@ use Rattle.line_frame.proofs.OutputLaws.{feedsIn-append}
 use Rattle.line_frame.proofs.SpelledLaws.{length-refusedLine, length-accepted}
 use Rattle.sheet.specs.Sheet.{linesIn}
 use Rattle.sheet.proofs.RowLaws.{output-lines}
-use Rattle.line_room.specs.Walked.{lineWalked}
 use Rattle.line_room.proofs.WalkedLaws.{lineWalked-by, lineAnswer-walked}
 use Rattle.demands.specs.Moments.{stepsAfter}
 use Rattle.demands.specs.Given.{WalkSized, Faultless, GivenWalk}

@@ -21,9 +21,9 @@ use Rattle.hull.specs.Hull.{HullIs}
 use Rattle.panels.specs.Inside.{Inside}
 use Rattle.polygon.specs.Polygon.{polygonOf}
 use Rattle.row_call.specs.Rows.{Span, RowsIs}
-use Rattle.line_frame.specs.declared.{Kind.the-variants.Turns, Frame.the-variants.Of}
-use Rattle.line_frame.specs.Line.{frameOf, digitsOf, lineAnswer}
-use Rattle.line_frame.specs.Spelled.{refusedLine, factsLine, hullLine, walkedLine}
+use Rattle.line_frame.specs.declared.{Kind.the-variants.Operations, Kind.the-variants.Turns, Frame.the-variants.Of}
+use Rattle.line_frame.specs.Line.{frameOf, digitsOf, lineAnswer, kindWalked}
+use Rattle.line_frame.specs.Spelled.{refusedLine, factsLine, hullLine, answerLine}
 use Rattle.line_frame.specs.Program.{outputFrom, feedsIn, answered, program}
 use Rattle.line_frame.specs.Converted.{Turned, convertedLine, converter}
 use Rattle.line_room.specs.Told.{spansTold, refusedTold, rowsTold}
@@ -80,7 +80,7 @@ retired = lineLaws.lineAnswer-turns
 
 -- ---- the converter
 -- "each 01 frame as the 00 frame with the same steps": converted, it is answered as the steps of its turns are
-pub converted-walked : (s : List ℕ) → Turned s → lineAnswer (convertedLine s) ≡ walkedLine (stepsOf (digitsOf s))
+pub converted-walked : (s : List ℕ) → Turned s → lineAnswer (convertedLine s) ≡ answerLine (kindWalked Operations (stepsOf (digitsOf s))) (survivors (stepsOf (digitsOf s)))
 converted-walked = convertedLaws.converted-answer
 
 -- the frame itself: of kind 00, with the same count and the steps of the turns

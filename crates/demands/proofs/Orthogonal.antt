@@ -10,13 +10,14 @@ use lib.IntN.{pos, natAbs, _-ℤ_}
 use lib.ListN.{length, drop}
 use Rattle.lists.specs.Lists.{Below}
 use Rattle.answer.specs.declared.{Judged.the-variants.Good, Refusal.Refusal}
+use Rattle.answer.specs.Limits.{mostSteps}
 use Rattle.grid.specs.declared.{Corner.Corner, Panel.Panel}
 use Rattle.trace.specs.Verdict.{IsRoom, areaOf}
 use Rattle.panels.specs.Box.{Box}
-use Rattle.panels.specs.Inside.{Inside, inside, panelsInside}
+use Rattle.panels.specs.Inside.{Inside, panelsInside}
 use Rattle.outline.specs.Outline.{homeOf, OutlineIs}
 use Rattle.orthogonal.specs.declared.{Enclosed.Enclosed, Orthogonal.Orthogonal}
-use Rattle.orthogonal.specs.Blocks.{HoldsInside, Unbroken, OrthogonalHullIs}
+use Rattle.orthogonal.specs.Blocks.{HoldsInside, Contains, Unbroken, Passing, OrthogonalHullIs}
 use Rattle.orthogonal.specs.Call.{OutlinesHull, enclosedOf, OrthogonalCall, orthogonalWords}
 use Rattle.orthogonal_laws.specs.Connected.{Connected, Quadrants}
 use Rattle.orthogonal_laws.specs.BlockBox.{BoundedBy}
@@ -38,11 +39,11 @@ pub hull-one : {B : Panel → Type 0} {H J : Panel → Bool} → OrthogonalHullI
 hull-one = hullLaws.hull-one
 
 -- "the hull of the hull is the hull"
-pub hull-again : {B : Panel → Type 0} {H : Panel → Bool} → OrthogonalHullIs B H → OrthogonalHullIs (λ b. H b ≡ true) H
+pub hull-again : {B : Panel → Type 0} {H : Panel → Bool} → OrthogonalHullIs B H → OrthogonalHullIs (Passing H) H
 hull-again = hullLaws.hull-again
 
 -- "a larger set has a larger hull"
-pub hull-larger : {B C : Panel → Type 0} {H J : Panel → Bool} → OrthogonalHullIs B H → OrthogonalHullIs C J → ((b : Panel) → B b → C b) → (b : Panel) → H b ≡ true → J b ≡ true
+pub hull-larger : {B C : Panel → Type 0} {H J : Panel → Bool} → OrthogonalHullIs B H → OrthogonalHullIs C J → Contains B C → Contains (Passing H) (Passing J)
 hull-larger = hullLaws.hull-larger
 
 -- ---- a room
@@ -64,6 +65,10 @@ module _ (s : Corner) (ds : List ℕ) (r : IsRoom s ds) (b : Below 4 ds) where
     -- "a block is in the hull exactly when each of its four closed quadrants holds a block of the room"
     pub hull-quadrants : (H : Panel → Bool) → OrthogonalHullIs (HoldsInside s ds g) H → (p : Panel) → (H p ≡ true) ↔ Quadrants (HoldsInside s ds g) p
     hull-quadrants = hullLaws.hull-quadrants s ds r b g some
+
+    -- it is contained in every unbroken set that contains the room's blocks, whether a test tells that set or not
+    pub hull-least : (H : Panel → Bool) → OrthogonalHullIs (HoldsInside s ds g) H → (K : Panel → Type 0) → Contains (HoldsInside s ds g) K → Unbroken K → Contains (Passing H) K
+    hull-least = hullLaws.hull-least s ds r b g some
 
     -- the hull has an outline
     pub outline-some : (start : Corner) × (steps : List ℕ) × OutlinesHull s ds g start steps
@@ -88,7 +93,7 @@ module _ (s : Corner) (ds : List ℕ) (r : IsRoom s ds) (b : Below 4 ds) where
     hull-around = notchLaws.hull-around s ds r b start steps o
 
     -- "and it equals the room's own outline exactly when the room has no notch"
-    pub hull-own : ((start ≡ homeOf s ds) × OutlineIs s ds steps) ↔ Unbroken (inside s ds)
+    pub hull-own : ((start ≡ homeOf s ds) × OutlineIs s ds steps) ↔ Unbroken (Inside s ds)
     hull-own = notchLaws.hull-own s ds r b start steps o
 
 module _ {s : Corner} {ds : List ℕ} {g : ℕ} (start : Corner) (steps : List ℕ) (o : OutlinesHull s ds g start steps) where
@@ -135,3 +140,7 @@ module _ (s : Corner) (ds : List ℕ) (g : ℕ) (before : List ℕ) where
     -- the outline, and "bytes after the chain are unchanged"
     pub orthogonal-written : (h : Enclosed) → OrthogonalCall s ds g before (Orthogonal.Outlined h) after → (start : Corner) × (steps : List ℕ) × OutlinesHull s ds g start steps × (h ≡ enclosedOf start steps) × (after ≡ steps ++ drop (length steps) before)
     orthogonal-written = givenLaws.orthogonal-written s ds g before
+
+    -- 16,384 bytes are enough, and there are at most 67,108,864 blocks
+    pub orthogonal-most : (h : Enclosed) → OrthogonalCall s ds g before (Orthogonal.Outlined h) after → (h .steps ≤ mostSteps) × (4 * h .blocks ≤ mostSteps * mostSteps)
+    orthogonal-most = givenLaws.orthogonal-most s ds g before

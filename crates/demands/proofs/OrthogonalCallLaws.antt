@@ -4,14 +4,15 @@ use mathlib.Core.Bool.{Bool, true, false, false≢true}
 use mathlib.Core.List.{List, [], _∷_, _++_}
 use mathlib.Core.Logic.{_↔_}
 use mathlib.Core.Path.{_≡_, refl, ap, sym, _∙_, subst}
-use Prim.Native.Nat.{ℕ, _<_, _≤_}
+use Prim.Native.Nat.{ℕ, _*_, _<_, _≤_}
 use native.Mathlib.Decide.{decLt}
+use native.Mathlib.Nat.{mul-le-mul}
 use native.Mathlib.Omega.{arith}
 use lib.Dec.{ltb}
 use lib.ListN.{length, drop}
 use Rattle.lists.proofs.BoolLaws.{unfit}
 use Rattle.answer.specs.declared.{Judged.Judged, Judged.the-variants.Good, Judged.the-variants.Refused, Refusal.Refusal, Refusal.the-variants.GridSize, Refusal.the-variants.StartRange, Refusal.the-variants.TooMany, Refusal.the-variants.ChainRoom}
-use Rattle.answer.specs.Limits.{mostInput, Near, startFits}
+use Rattle.answer.specs.Limits.{mostInput, mostSteps, Near, startFits}
 use Rattle.answer.specs.Refusal.{when}
 use Rattle.answer.proofs.RefusalLaws.{clear}
 use Rattle.answer.proofs.StartLaws.{fits-near, near-fits}
@@ -24,7 +25,8 @@ use Rattle.orthogonal.specs.declared.{Enclosed.Enclosed, Orthogonal.Orthogonal}
 use Rattle.orthogonal.specs.Call.{gridFits, OutlinesHull, onGridJudged, enclosedOf, orthogonalOf, orthogonalJudged, OrthogonalCall}
 use Rattle.orthogonal_laws.proofs.OutlineLaws.{outline-some}
 use Rattle.orthogonal_laws.proofs.BoxLaws.{hull-short}
-use Rattle.orthogonal_laws.proofs.CallLaws.{onGrid-good, onGrid-many, onGrid-range, onGrid-size, onGrid-room, grid-within, within-grid, refused-call, short-call, outlined-call, orthogonalCall-one}
+use Rattle.orthogonal_laws.proofs.LengthLaws.{inside-few}
+use Rattle.orthogonal_laws.proofs.CallLaws.{hull-outlines, onGrid-good, onGrid-many, onGrid-range, onGrid-size, onGrid-room, grid-within, within-grid, refused-call, short-call, outlined-call, orthogonalCall-one}
 use Rattle.demands.specs.GivenRoom.{GivenRoom}
 use Rattle.demands.specs.GivenOrthogonal.{GridSized, GivenOrthogonal}
 use Rattle.demands.specs.GivenOrthogonal as given
@@ -125,18 +127,37 @@ module _ (s : Corner) (ds : List ℕ) (g : ℕ) where
           by Good e = absurd (refused-outlined q (enclosedOf (w .start) (w .steps)) (w .answer ∙ ap (λ (j : Judged). orthogonalOf j (w .start) (w .steps)) e))
           by (Refused x) e = w .buffer ∙ ap (λ (j : Judged). writtenIf j (w .steps ++ drop (length (w .steps)) before) before) e
 
+      -- what is outlined is not refused
+      outlined-good : (h : Enclosed) → (w : OrthogonalCall s ds g before (Orthogonal.Outlined h) after) → orthogonalJudged s ds g (length before) (length (w .steps)) ≡ Good
+      outlined-good h w = by (orthogonalJudged s ds g (length before) (length (w .steps))) refl
+        where
+          by : (j : Judged) → orthogonalJudged s ds g (length before) (length (w .steps)) ≡ j → j ≡ Good
+          by Good e = refl
+          by (Refused x) e = absurd (refused-outlined x h (sym (w .answer ∙ ap (λ (j : Judged). orthogonalOf j (w .start) (w .steps)) e)))
+
+      on-grid : (h : Enclosed) → (w : OrthogonalCall s ds g before (Orthogonal.Outlined h) after) → onGridJudged s ds g ≡ Good
+      on-grid h w = clear (onGridJudged s ds g ∷ when (ltb (length before) (length (w .steps))) ChainRoom ∷ []) (outlined-good h w) .0
+
       pub orthogonal-written : (h : Enclosed) → OrthogonalCall s ds g before (Orthogonal.Outlined h) after → (start : Corner) × (steps : List ℕ) × OutlinesHull s ds g start steps × (h ≡ enclosedOf start steps) × (after ≡ steps ++ drop (length steps) before)
-      orthogonal-written h w = by (orthogonalJudged s ds g (length before) (length (w .steps))) refl
+      orthogonal-written h w =
+          let e = outlined-good h w in (
+            w .start,
+            w .steps,
+            w .outline (on-grid h w),
+            same (enclosedOf (w .start) (w .steps)) (w .answer ∙ ap (λ (j : Judged). orthogonalOf j (w .start) (w .steps)) e),
+            w .buffer ∙ ap (λ (j : Judged). writtenIf j (w .steps ++ drop (length (w .steps)) before) before) e,
+          )
         where
           same : (k : Enclosed) → Orthogonal.Outlined h ≡ Orthogonal.Outlined k → h ≡ k
           same k f = cc
 
-          by : (j : Judged) → orthogonalJudged s ds g (length before) (length (w .steps)) ≡ j → (start : Corner) × (steps : List ℕ) × OutlinesHull s ds g start steps × (h ≡ enclosedOf start steps) × (after ≡ steps ++ drop (length steps) before)
-          by Good e = (
-            w .start,
-            w .steps,
-            w .outline (clear (onGridJudged s ds g ∷ when (ltb (length before) (length (w .steps))) ChainRoom ∷ []) e .0),
-            same (enclosedOf (w .start) (w .steps)) (w .answer ∙ ap (λ (j : Judged). orthogonalOf j (w .start) (w .steps)) e),
-            w .buffer ∙ ap (λ (j : Judged). writtenIf j (w .steps ++ drop (length (w .steps)) before) before) e,
-          )
-          by (Refused x) e = absurd (refused-outlined x h (sym (w .answer ∙ ap (λ (j : Judged). orthogonalOf j (w .start) (w .steps)) e)))
+      -- how many steps and blocks there can be
+      pub orthogonal-most : (h : Enclosed) → OrthogonalCall s ds g before (Orthogonal.Outlined h) after → (h .steps ≤ mostSteps) × (4 * h .blocks ≤ mostSteps * mostSteps)
+      orthogonal-most h w =
+          let k = onGrid-good s ds g (on-grid h w) in
+          let r = orthogonal-written h w in
+          let n = hull-short g (grid-within g (k .1) .0) s ds (good-room s ds (k .0) .room) (good-steps s ds (k .0) .0) (r .0) (r .1) (r .2) in
+          let m : length (r .1) ≤ mostSteps = let b = good-steps s ds (k .0) .1 in omega (arith, n, b) in
+          let f = inside-few (r .0) (r .1) (hull-outlines (r .2) .room .closed) in
+          let q = mul-le-mul m m in
+          (omega (arith, m, ap (λ (x : Enclosed). x .steps) (r .3)), omega (arith, f, q, ap (λ (x : Enclosed). x .blocks) (r .3)))

@@ -12,9 +12,8 @@ use Rattle.answer.specs.Limits.{mostSteps}
 use Rattle.answer.specs.Refusal.{refusalNumber, refusalPlace}
 use Rattle.answer.specs.Words.{countedWords}
 use Rattle.grid.specs.declared.{Corner.Corner, Panel.Panel}
-use Rattle.grid.specs.Grid.{stepped, cornersFrom, endFrom, cornerAt, legsFrom}
+use Rattle.grid.specs.Grid.{stepped, cornersFrom, endFrom, cornerAt, legsFrom, Begins}
 use Rattle.trace.specs.Verdict.{IsRoom}
-use Rattle.hull.specs.Hull.{Begins}
 use Rattle.panels.specs.Inside.{Inside, leftOf, rightOf, EachStep}
 use Rattle.panels.specs.Outline.{startedAt, backward}
 use Rattle.outline.specs.Outline.{walked, homeOf, OutlineIs}

@@ -1,7 +1,7 @@
--- The judgements of the outline's call are given on their occasions and on no other; its promise taken apart. All but 11 are those of a hull that needs no room.
+-- The judgements of the outline's call are given on their occasions and on no other; its promise taken apart.
 -- Assumes nothing.
-use mathlib.Core.Bool.{Bool, not}
-use mathlib.Core.List.{List, [], _∷_, _++_}
+use mathlib.Core.Bool.{Bool}
+use mathlib.Core.List.{List, _++_}
 use mathlib.Core.Logic.{_↔_}
 use mathlib.Core.Path.{_≡_, refl, ap, sym, _∙_, subst}
 use Prim.Native.Nat.{ℕ, _*_, _≤_}
@@ -11,50 +11,41 @@ use borrow.Author.Tests.{lt-ltb, le-ltb}
 use lib.Dec.{ltb}
 use lib.ListN.{length, drop}
 use Rattle.answer.specs.declared.{Counted.Counted, Judged.Judged, Judged.the-variants.Good, Judged.the-variants.Refused, Refusal.Refusal}
-use Rattle.answer.specs.declared.Refusal.the-variants.{TooMany, StartRange, BadDigit, TooLong, OutlineRoom}
-use Rattle.answer.specs.Limits.{mostInput, mostSteps, startFits}
+use Rattle.answer.specs.declared.Refusal.the-variants.{OutlineRoom}
+use Rattle.answer.specs.Limits.{mostSteps}
 use Rattle.answer.specs.Refusal.{when}
-use Rattle.answer.proofs.RefusalLaws.{clear}
+use Rattle.answer.specs.Listed.{countedOf, laidIf}
+use Rattle.answer.proofs.RefusalLaws.{first-good}
+use Rattle.answer.proofs.ListedLaws.{count-refused, count-good}
 use Rattle.grid.specs.declared.Corner.{Corner}
-use Rattle.steps.specs.Turns.{writtenIf}
-use Rattle.hull.specs.Call.{chainJudged, countedOf}
-use Rattle.hull_laws.proofs.SurveyLaws.{good-short}
-use Rattle.outline.specs.Call.{outlineRoomJudged, outlineJudged, OutlineCall}
+use Rattle.steps.specs.Chain.{asWalkJudged}
+use Rattle.steps.proofs.ChainLaws.{good-walk}
+use Rattle.outline.specs.Call.{outlineJudged, OutlineCall}
 use Rattle.outline_laws.proofs.OutlineLaws.{outline-short}
 use Rattle.outline_laws.proofs.CallLaws.{judged-refused, judged-last}
-use Rattle.demands.specs.GivenHull.{GivenHull}
-use Rattle.demands.specs.GivenHull as hull
+use Rattle.demands.specs.GivenChain.{GivenChain}
 use Rattle.demands.specs.GivenOutline.{GivenOutline}
 use Rattle.demands.specs.GivenOutline as given
-use Rattle.demands.proofs.DigitLaws.{given-hull, some-hull, count-refused, count-good}
+use Rattle.demands.proofs.DigitLaws.{chain-when}
 
 module _ (s : Corner) (ds : List ℕ) (room steps : ℕ) where
-  refused : (q : Refusal) → GivenHull s ds 0 0 (Refused q) → outlineJudged s ds room steps ≡ Refused q
-  refused q g = judged-refused s ds room steps q (given-hull s ds 0 0 (Refused q) g)
-
-  last : GivenHull s ds 0 0 Good → outlineJudged s ds room steps ≡ outlineRoomJudged room steps
-  last g = judged-last s ds room steps (given-hull s ds 0 0 Good g)
+  last : GivenChain s ds Good → outlineJudged s ds room steps ≡ when (ltb room steps) OutlineRoom
+  last g = judged-last s ds room steps (chain-when s ds Good .1 g)
 
   given-outline : (j : Judged) → GivenOutline s ds room steps j → outlineJudged s ds room steps ≡ j
-  given-outline _ (given.tooMany h) = refused TooMany (hull.tooMany h)
-  given-outline _ (given.startRange h f) = refused StartRange (hull.startRange h f)
-  given-outline _ (given.badDigit i h f) = refused (BadDigit i) (hull.badDigit i h f)
-  given-outline _ (given.tooLong i h f) = refused (TooLong i) (hull.tooLong i h f)
-  given-outline _ (given.outlineRoom h f l) = last (hull.accepted h f (omega arith)) ∙ ap (λ (b : Bool). when b OutlineRoom) (lt-ltb room steps l)
-  given-outline _ (given.accepted h f l) = last (hull.accepted h f (omega arith)) ∙ ap (λ (b : Bool). when b OutlineRoom) (le-ltb room steps l)
+  given-outline _ (given.notWalk q g) = judged-refused s ds room steps q (chain-when s ds (Refused q) .1 g)
+  given-outline _ (given.outlineRoom g l) = last g ∙ ap (λ (b : Bool). when b OutlineRoom) (lt-ltb room steps l)
+  given-outline _ (given.accepted g l) = last g ∙ ap (λ (b : Bool). when b OutlineRoom) (le-ltb room steps l)
 
-  by-hull : (j : Judged) → GivenHull s ds 0 0 j → (k : Judged) × GivenOutline s ds room steps k
-  by-hull _ (hull.tooMany h) = (Refused TooMany, given.tooMany h)
-  by-hull _ (hull.startRange h f) = (Refused StartRange, given.startRange h f)
-  by-hull _ (hull.badDigit i h f) = (Refused (BadDigit i), given.badDigit i h f)
-  by-hull _ (hull.tooLong i h f) = (Refused (TooLong i), given.tooLong i h f)
-  by-hull _ (hull.hullRoom h f l) = absurd (omega arith)
-  by-hull _ (hull.accepted h f l) = elim (decLt room steps) [ yes k ↦ (Refused OutlineRoom, given.outlineRoom h f k) | no k ↦ (Good, given.accepted h f (omega arith)) ]
+  by-chain : (j : Judged) → asWalkJudged s ds ≡ j → (k : Judged) × GivenOutline s ds room steps k
+  by-chain Good e =
+      let g = chain-when s ds Good .0 e in
+      elim (decLt room steps) [ yes k ↦ (Refused OutlineRoom, given.outlineRoom g k) | no k ↦ (Good, given.accepted g (omega arith)) ]
+  by-chain (Refused q) e = (Refused q, given.notWalk q (chain-when s ds (Refused q) .0 e))
 
   outline-when : (j : Judged) → outlineJudged s ds room steps ≡ j ↔ GivenOutline s ds room steps j
   outline-when j =
-      let x = some-hull s ds 0 0 in
-      let y = by-hull (x .0) (x .1) in
+      let y = by-chain (asWalkJudged s ds) refl in
       (λ e. subst (GivenOutline s ds room steps) (sym (given-outline (y .0) (y .1)) ∙ e) (y .1), given-outline j)
 
 module _ {s : Corner} {ds before : List ℕ} {r : Counted} {after : List ℕ} (w : OutlineCall s ds before r after) where
@@ -80,7 +71,7 @@ module _ (s : Corner) (ds before : List ℕ) {after : List ℕ} (n : ℕ) (w : O
   call-good : (outlineJudged s ds (length before) (length (w .steps)) ≡ Good) × (n ≡ length (w .steps)) × (after ≡ w .steps ++ drop (length (w .steps)) before)
   call-good = go (outlineJudged s ds (length before) (length (w .steps))) refl (w .answer) (w .buffer)
     where
-      go : (j : Judged) → outlineJudged s ds (length before) (length (w .steps)) ≡ j → Counted.Many n ≡ countedOf j (length (w .steps)) → after ≡ writtenIf j (w .steps ++ drop (length (w .steps)) before) before
+      go : (j : Judged) → outlineJudged s ds (length before) (length (w .steps)) ≡ j → Counted.Many n ≡ countedOf j (length (w .steps)) → after ≡ laidIf j (w .steps) before
           → (outlineJudged s ds (length before) (length (w .steps)) ≡ Good) × (n ≡ length (w .steps)) × (after ≡ w .steps ++ drop (length (w .steps)) before)
       go Good f e b = (f, cc, b)
       go (Refused q) f e b = absurd (let z : _≡_ {A = ℕ} 0 1 = cc in omega arith)
@@ -92,5 +83,5 @@ module _ (s : Corner) (ds before : List ℕ) {after : List ℕ} (n : ℕ) (w : O
   pub call-most : n ≤ 2 * mostSteps
   call-most =
       let g = call-good in
-      let h = clear (when (ltb mostInput (length ds)) TooMany ∷ when (not (startFits s)) StartRange ∷ chainJudged 0 ds ∷ outlineRoomJudged (length before) (length (w .steps)) ∷ []) (g .0) in
-      omega (arith, g .1, outline-short (w .outline), good-short 0 ds (omega arith) (h .1 .1 .0))
+      let e = first-good (asWalkJudged s ds) (when (ltb (length before) (length (w .steps))) OutlineRoom) (g .0) .0 in
+      omega (arith, g .1, outline-short (w .outline), good-walk s ds e .short)

@@ -11,13 +11,14 @@ use Rattle.lists.specs.Lists.{Distinct}
 use Rattle.lists.proofs.PigeonLaws.{pigeon}
 use Rattle.answer.specs.declared.{Judged.Judged, Judged.the-variants.Good, Judged.the-variants.Refused, Refusal.Refusal, Refusal.the-variants.SpanRoom}
 use Rattle.answer.specs.Limits.{farthest}
+use Rattle.answer.specs.Listed.{laidIf}
 use Rattle.grid.specs.declared.{Corner.Corner, Panel.Panel}
 use Rattle.trace.specs.Verdict.{areaOf}
 use Rattle.trace.proofs.VerdictLaws.{area-room}
 use Rattle.room.specs.Room.{asRoomJudged}
 use Rattle.room.proofs.RoomLaws.{good-room}
-use Rattle.row_call.specs.{Rows.Span, Rows.RowsIs, Rows.lengthsOf, Rows.spanNumbers, Call.spansIn}
-use Rattle.row_laws.proofs.{OneLaws.rowsIs-one, CallLaws.good-steps, SpanLaws.panelsOf, SpanLaws.length-panels, SpanLaws.spans-panels}
+use Rattle.row_call.specs.{Rows.Span, Rows.RowsIs, Rows.lengthsOf, Rows.spanNumbers}
+use Rattle.row_laws.proofs.{OneLaws.rowsIs-one, CallLaws.good-steps, SpanLaws.panelsOf, SpanLaws.length-panels, SpanLaws.spans-panels, NumberLaws.numbers-thrice}
 use Rattle.overlay.specs.declared.{Part.Part, Part.the-variants.First, Part.the-variants.Second, Part.the-variants.Both, Measures.Measures, Overlaid.Overlaid}
 use Rattle.overlay.specs.{Overlay.InPart, Call.ofParts, Call.overlayJudged, Call.measureOf, Call.measuresOf, Call.overlaidOf, Call.OverlayCall}
 use Rattle.overlay_laws.specs.Sweep.{listsOf}
@@ -56,12 +57,12 @@ module _ (s : Corner) (ds : List ℕ) (t : Corner) (es : List ℕ) (before : Par
   pub overlay-answers : (r : Overlaid) × (after : Part → List ℤ) × OverlayCall s ds t es before r after
   overlay-answers =
       let L = listsOf s ds t es in
-      (overlaidOf (judgedBy L) L, (λ k. spansIn (judgedBy L) (L k) (before k)), record { lists = L; rows = λ g h k. lists-rows s ds t es (good-room s ds g .room .closed) (good-room t es h .room .closed) k; answer = refl; buffers = λ k. refl })
+      (overlaidOf (judgedBy L) L, (λ k. laidIf (judgedBy L) (spanNumbers (L k)) (before k)), record { lists = L; rows = λ g h k. lists-rows s ds t es (good-room s ds g .room .closed) (good-room t es h .room .closed) k; answer = refl; buffers = λ k. refl })
 
   module _ {r : Overlaid} {after : Part → List ℤ} (w : OverlayCall s ds t es before r after) where
     -- answer and buffers by what is judged
-    at-judged : (j : Judged) → judgedBy (w .lists) ≡ j → (r ≡ overlaidOf j (w .lists)) × ((k : Part) → after k ≡ spansIn j (w .lists k) (before k))
-    at-judged j e = (w .answer ∙ ap (λ (i : Judged). overlaidOf i (w .lists)) e, λ k. w .buffers k ∙ ap (λ (i : Judged). spansIn i (w .lists k) (before k)) e)
+    at-judged : (j : Judged) → judgedBy (w .lists) ≡ j → (r ≡ overlaidOf j (w .lists)) × ((k : Part) → after k ≡ laidIf j (spanNumbers (w .lists k)) (before k))
+    at-judged j e = (w .answer ∙ ap (λ (i : Judged). overlaidOf i (w .lists)) e, λ k. w .buffers k ∙ ap (λ (i : Judged). laidIf i (spanNumbers (w .lists k)) (before k)) e)
 
     module _ (e : asRoomJudged s ds ≡ Good) (f : asRoomJudged t es ≡ Good) where
       judged-short : (k : Part) → room k < 3 * length (w .lists k) → judgedBy (w .lists) ≡ Refused SpanRoom
@@ -138,5 +139,5 @@ module _ (s : Corner) (ds : List ℕ) (t : Corner) (es : List ℕ) (before : Par
           second-good = f;
           rows = w .rows e f;
           measures = same-measures m (measuresOf (w .lists)) (at-judged w Good g .0);
-          buffers = at-judged w Good g .1;
+          buffers = λ k. at-judged w Good g .1 k ∙ numbers-thrice (before k) (w .lists k);
         }

@@ -2,83 +2,59 @@
 -- Assumes nothing.
 use mathlib.Core.Bool.{Bool, true, false, not, false≢true}
 use mathlib.Core.List.{List, _++_, List·Memᴰ}
-use mathlib.Core.Logic.{_⊎_, _↔_, ⊎-elim}
+use mathlib.Core.Logic.{_↔_}
 use mathlib.Core.Path.{_≡_, refl, ap, sym, _∙_, subst}
 use Prim.Native.Nat.{ℕ, _+_, _*_, _≤_}
 use native.Mathlib.Decide.{decLt}
 use native.Mathlib.Omega.{arith}
 use borrow.Author.Tests.{lt-ltb, le-ltb}
 use lib.Dec.{ltb}
-use lib.ListN.{length, getD, drop}
-use Rattle.lists.proofs.BoolLaws.{unfit}
+use lib.ListN.{length, drop}
 use Rattle.answer.specs.declared.Counted.{Counted}
 use Rattle.answer.specs.declared.Judged.{Judged}
 use Rattle.answer.specs.declared.Judged.the-variants.{Good, Refused}
 use Rattle.answer.specs.declared.Refusal.{Refusal}
-use Rattle.answer.specs.declared.Refusal.the-variants.{TooMany, StartRange, BadDigit, TooLong, NotRoom, PolygonRoom}
-use Rattle.answer.specs.Limits.{mostInput, Near, startFits}
+use Rattle.answer.specs.declared.Refusal.the-variants.{NotRoom, PolygonRoom}
 use Rattle.answer.specs.Refusal.{when, orElse}
 use Rattle.grid.specs.declared.Corner.{Corner}
-use Rattle.steps.specs.Turns.{writtenIf}
 use Rattle.trace.specs.Verdict.{IsRoom}
-use Rattle.hull.specs.Call.{faultAt, chainJudged, countedOf}
+use Rattle.steps.specs.Chain.{asWalkJudged}
+use Rattle.answer.specs.Listed.{countedOf, laidIf}
 use Rattle.room.specs.Room.{isRoom, asRoomJudged}
-use Rattle.room.proofs.RoomLaws.{isRoom-exactly, judged-many, judged-range, judged-fault, judged-room}
+use Rattle.room.proofs.RoomLaws.{isRoom-exactly, judged-refused, judged-room}
 use Rattle.polygon.specs.Polygon.{pointsOf, polygonOf, polygonJudged, PolygonCall}
 use Rattle.polygon.specs.Coordinate.{Exact}
 use Rattle.polygon_laws.proofs.PointLaws.{points-exact}
 use Rattle.polygon_laws.proofs.WriteLaws.{room-drawable, polygon-few}
 use Rattle.answer.proofs.RefusalLaws.{orElse-good, orElse-right}
-use Rattle.answer.proofs.StartLaws.{fits-near, near-fits}
-use Rattle.demands.specs.Given.{FirstAt}
-use Rattle.demands.specs.GivenTurns.{AboveThreeAt}
-use Rattle.demands.specs.GivenHull.{StepAt, StepTooManyAt}
-use Rattle.demands.specs.GivenRoom.{AllSteps, GivenRoom, GivenPolygon}
+use Rattle.demands.specs.GivenChain.{GivenChain}
+use Rattle.demands.specs.GivenRoom.{GivenRoom, GivenPolygon}
 use Rattle.demands.specs.GivenRoom as given
-use Rattle.demands.proofs.FirstLaws.{all-or-first}
-use Rattle.demands.proofs.DigitLaws.{none-from, first-from, step-none, step-above, step-long, at-most, step-or-fault, count-refused, count-good}
+use Rattle.demands.proofs.DigitLaws.{chain-when}
+use Rattle.answer.proofs.ListedLaws.{count-refused, count-good}
 
 -- ---- a start and a chain as a room
 
 module _ (s : Corner) (ds : List ℕ) where
-  fault-first : (bad : ℕ → Type 0) (i : ℕ) (r : Refusal) → FirstAt (length ds) (StepAt ds) bad i → faultAt i (getD ds i 0) ≡ Refused r → chainJudged 0 ds ≡ Refused r
-  fault-first bad i r f e = first-from faultAt chainJudged (λ p. refl) (λ p d l. refl) 0 ds i i r (f .inside) (λ k q m g. step-none s ds 0 0 q (getD ds k 0) (f .before k m .0) (omega (arith, f .before k m .1))) (omega arith) e
-
-  no-fault : AllSteps ds → chainJudged 0 ds ≡ Good
-  no-fault f = none-from faultAt chainJudged (λ p. refl) (λ p d l. refl) 0 ds (λ i p k g. step-none s ds 0 0 p (getD ds i 0) (f i k .0) (omega (arith, f i k .1)))
-
   no-room : (b : Bool) → isRoom s ds ≡ b → (IsRoom s ds → ⊥) → when (not (isRoom s ds)) NotRoom ≡ Refused NotRoom
   no-room true e f = absurd (f (isRoom-exactly s ds .0 e))
   no-room false e f = ap (λ (b : Bool). when (not b) NotRoom) e
 
   given-room : (j : Judged) → GivenRoom s ds j → asRoomJudged s ds ≡ j
-  given-room _ (given.tooMany h) = judged-many s ds h
-  given-room _ (given.startRange h f) = judged-range s ds h (unfit (startFits s) (fits-near s) f)
-  given-room _ (given.badDigit i h n f) = judged-fault s ds h (near-fits s n) (BadDigit i) (fault-first (AboveThreeAt ds) i (BadDigit i) f (step-above s ds 0 0 i (getD ds i 0) (f .here)))
-  given-room _ (given.tooLong i h n f) =
-      judged-fault s ds h (near-fits s n) (TooLong i)
-      (fault-first (StepTooManyAt ds) i (TooLong i) f (step-long s ds 0 0 i (getD ds i 0) (f .here .0) (at-most s ds 0 0 i (f .before) (f .here .1))))
-  given-room _ (given.notRoom h n f r) = judged-room s ds h (near-fits s n) (no-fault f) ∙ no-room (isRoom s ds) refl r
-  given-room _ (given.isRoom h n f r) = judged-room s ds h (near-fits s n) (no-fault f) ∙ ap (λ (b : Bool). when (not b) NotRoom) (isRoom-exactly s ds .1 r)
+  given-room _ (given.notWalk q g) = judged-refused s ds q (chain-when s ds (Refused q) .1 g)
+  given-room _ (given.notRoom g r) = judged-room s ds (chain-when s ds Good .1 g) ∙ no-room (isRoom s ds) refl r
+  given-room _ (given.isRoom g r) = judged-room s ds (chain-when s ds Good .1 g) ∙ ap (λ (b : Bool). when (not b) NotRoom) (isRoom-exactly s ds .1 r)
 
-  by-steps : length ds ≤ mostInput → Near s → AllSteps ds → (b : Bool) → isRoom s ds ≡ b → (j : Judged) × GivenRoom s ds j
-  by-steps h n f true e = (Good, given.isRoom h n f (isRoom-exactly s ds .0 e))
-  by-steps h n f false e = (Refused NotRoom, given.notRoom h n f (λ r. false≢true (sym e ∙ isRoom-exactly s ds .1 r)))
+  by-steps : GivenChain s ds Good → (b : Bool) → isRoom s ds ≡ b → (j : Judged) × GivenRoom s ds j
+  by-steps g true e = (Good, given.isRoom g (isRoom-exactly s ds .0 e))
+  by-steps g false e = (Refused NotRoom, given.notRoom g (λ r. false≢true (sym e ∙ isRoom-exactly s ds .1 r)))
 
-  by-start : length ds ≤ mostInput → (b : Bool) → startFits s ≡ b → (j : Judged) × GivenRoom s ds j
-  by-start h false e = (Refused StartRange, given.startRange h (λ n. false≢true (sym e ∙ near-fits s n)))
-  by-start h true e =
-      let n = fits-near s e in
-      ⊎-elim
-      (λ f. by-steps h n f (isRoom s ds) refl)
-      (λ x. ⊎-elim
-      (λ k. (Refused (BadDigit (x .0)), given.badDigit (x .0) h n (record { inside = x .1 .inside; before = x .1 .before; here = k })))
-      (λ k. (Refused (TooLong (x .0)), given.tooLong (x .0) h n (record { inside = x .1 .inside; before = x .1 .before; here = k })))
-      (x .1 .here))
-      (all-or-first (length ds) (StepAt ds) (λ i. AboveThreeAt ds i ⊎ StepTooManyAt ds i) (step-or-fault s ds 0 0))
+  by-chain : (j : Judged) → asWalkJudged s ds ≡ j → (k : Judged) × GivenRoom s ds k
+  by-chain Good e = by-steps (chain-when s ds Good .0 e) (isRoom s ds) refl
+  by-chain (Refused q) e = (Refused q, given.notWalk q (chain-when s ds (Refused q) .0 e))
 
   some-room : (j : Judged) × GivenRoom s ds j
-  some-room = elim (decLt mostInput (length ds)) [ yes h ↦ (Refused TooMany, given.tooMany h) | no h ↦ by-start (omega arith) (startFits s) refl ]
+  some-room = by-chain (asWalkJudged s ds) refl
 
   pub room-when : (j : Judged) → asRoomJudged s ds ≡ j ↔ GivenRoom s ds j
   room-when j = let x = some-room in (λ e. subst (GivenRoom s ds) (sym (given-room (x .0) (x .1)) ∙ e) (x .1), given-room j)
@@ -131,13 +107,13 @@ module _ (s : Corner) (ds before : List ℕ) where
   pub polygon-some : (r : Counted) × (after : List ℕ) × PolygonCall s ds before r after
   polygon-some =
       let j = polygonJudged s ds (length before) in
-      (countedOf j (length (polygonOf s ds)), writtenIf j (polygonOf s ds ++ drop (length (polygonOf s ds)) before) before, record { answer = refl; buffer = refl })
+      (countedOf j (length (polygonOf s ds)), laidIf j (polygonOf s ds) before, record { answer = refl; buffer = refl })
 
   module _ {after : List ℕ} where
     pub call-good : (n : ℕ) → PolygonCall s ds before (Counted.Many n) after → (polygonJudged s ds (length before) ≡ Good) × (n ≡ length (polygonOf s ds)) × (after ≡ polygonOf s ds ++ drop (length (polygonOf s ds)) before)
     call-good n p = go (polygonJudged s ds (length before)) refl (p .answer) (p .buffer)
       where
-        go : (j : Judged) → polygonJudged s ds (length before) ≡ j → Counted.Many n ≡ countedOf j (length (polygonOf s ds)) → after ≡ writtenIf j (polygonOf s ds ++ drop (length (polygonOf s ds)) before) before → (polygonJudged s ds (length before) ≡ Good) × (n ≡ length (polygonOf s ds)) × (after ≡ polygonOf s ds ++ drop (length (polygonOf s ds)) before)
+        go : (j : Judged) → polygonJudged s ds (length before) ≡ j → Counted.Many n ≡ countedOf j (length (polygonOf s ds)) → after ≡ laidIf j (polygonOf s ds) before → (polygonJudged s ds (length before) ≡ Good) × (n ≡ length (polygonOf s ds)) × (after ≡ polygonOf s ds ++ drop (length (polygonOf s ds)) before)
         go Good f e b = (f, cc, b)
         go (Refused q) f e b = absurd (let z : _≡_ {A = ℕ} 0 1 = cc in omega arith)
 

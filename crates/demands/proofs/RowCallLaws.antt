@@ -16,13 +16,13 @@ use Rattle.answer.specs.declared.{Counted.Counted, Judged.Judged, Judged.the-va
 use Rattle.answer.specs.Refusal.{when}
 use Rattle.grid.specs.declared.Corner.{Corner}
 use Rattle.trace.specs.Verdict.{IsRoom, areaOf}
-use Rattle.hull.specs.Call.{countedOf}
+use Rattle.answer.specs.Listed.{countedOf, laidIf}
 use Rattle.room.specs.Room.{asRoomJudged}
 use Rattle.room.proofs.RoomLaws.{good-room}
 use Rattle.panels.specs.Inside.{Inside}
-use Rattle.row_call.specs.{Rows.Span, Rows.RowsIs, Rows.lengthsOf, Rows.spanNumbers, Call.rowsJudged, Call.spansIn, Call.RowsCall}
+use Rattle.row_call.specs.{Rows.Span, Rows.RowsIs, Rows.lengthsOf, Rows.spanNumbers, Call.rowsJudged, Call.RowsCall}
 use Rattle.row_laws.specs.Feet.{rowsOf}
-use Rattle.row_laws.proofs.{OneLaws.rowsIs-one, RowLaws.rowsOf-rows, RowLaws.rowsIs-rowsOf, SortedLaws.room-half, SpanLaws.panelsOf, SpanLaws.length-panels, SpanLaws.spans-listed, CallLaws.rows-refused, CallLaws.rows-room}
+use Rattle.row_laws.proofs.{OneLaws.rowsIs-one, RowLaws.rowsOf-rows, RowLaws.rowsIs-rowsOf, SortedLaws.room-half, SpanLaws.panelsOf, SpanLaws.length-panels, SpanLaws.spans-listed, CallLaws.rows-refused, CallLaws.rows-room, NumberLaws.numbers-thrice}
 use Rattle.room_laws.proofs.RoomLaws.{room-panels}
 use Rattle.demands.specs.GivenRows.{GivenRows}
 use Rattle.demands.specs.GivenRows as given
@@ -51,27 +51,27 @@ module _ (c : Corner) (ds : List ℕ) (before : List ℤ) where
   rows-answers =
       let L = rowsOf c ds in
       let j = rowsJudged c ds room (length L) in
-      (countedOf j (length L), spansIn j L before, record { list = L; rows = λ g. rowsOf-rows c ds (good-room c ds g .room .closed); answer = refl; buffer = refl })
+      (countedOf j (length L), laidIf j (spanNumbers L) before, record { list = L; rows = λ g. rowsOf-rows c ds (good-room c ds g .room .closed); answer = refl; buffer = refl })
 
   module _ {r : Counted} {after : List ℤ} (w : RowsCall c ds before r after) where
     -- the answer and the buffer where start and chain are refused
     at-refused : (q : Refusal) → asRoomJudged c ds ≡ Refused q → (r ≡ Counted.Refused q) × (after ≡ before)
     at-refused q e =
         let k = rows-refused c ds room (length (w .list)) q e in
-        (w .answer ∙ ap (λ (j : Judged). countedOf j (length (w .list))) k, w .buffer ∙ ap (λ (j : Judged). spansIn j (w .list) before) k)
+        (w .answer ∙ ap (λ (j : Judged). countedOf j (length (w .list))) k, w .buffer ∙ ap (λ (j : Judged). laidIf j (spanNumbers (w .list)) before) k)
 
     -- where they are a room
     module _ (e : asRoomJudged c ds ≡ Good) where
-      by-room : (b : Bool) → ltb room (3 * length (w .list)) ≡ b → (r ≡ countedOf (when b SpanRoom) (length (w .list))) × (after ≡ spansIn (when b SpanRoom) (w .list) before)
+      by-room : (b : Bool) → ltb room (3 * length (w .list)) ≡ b → (r ≡ countedOf (when b SpanRoom) (length (w .list))) × (after ≡ laidIf (when b SpanRoom) (spanNumbers (w .list)) before)
       by-room b t =
           let k = rows-room c ds room (length (w .list)) e ∙ ap (λ (b : Bool). when b SpanRoom) t in
-          (w .answer ∙ ap (λ (j : Judged). countedOf j (length (w .list))) k, w .buffer ∙ ap (λ (j : Judged). spansIn j (w .list) before) k)
+          (w .answer ∙ ap (λ (j : Judged). countedOf j (length (w .list))) k, w .buffer ∙ ap (λ (j : Judged). laidIf j (spanNumbers (w .list)) before) k)
 
       at-short : room < 3 * length (w .list) → (r ≡ Counted.Refused SpanRoom) × (after ≡ before)
       at-short h = by-room true (lt-ltb room (3 * length (w .list)) h)
 
       at-listed : 3 * length (w .list) ≤ room → (r ≡ Counted.Many (length (w .list))) × (after ≡ spanNumbers (w .list) ++ drop (3 * length (w .list)) before)
-      at-listed h = by-room false (le-ltb room (3 * length (w .list)) h)
+      at-listed h = let k = by-room false (le-ltb room (3 * length (w .list)) h) in (k .0, k .1 ∙ numbers-thrice before (w .list))
 
       same-list : (L : List Span) → RowsIs (Inside c ds) L → L ≡ w .list
       same-list L k = rowsIs-one (Inside c ds) L (w .list) k (w .rows e)

@@ -10,7 +10,7 @@ use Rattle.answer.specs.Limits.{mostInput, Near}
 use Rattle.grid.specs.declared.Corner.{Corner}
 use Rattle.orthogonal.specs.declared.Orthogonal.{Orthogonal}
 use Rattle.orthogonal.specs.Call.{mostGrid, OutlinesHull, enclosedOf}
-use Rattle.demands.specs.GivenHull.{ChainSized}
+use Rattle.demands.specs.GivenChain.{ChainSized}
 use Rattle.demands.specs.GivenRoom.{GivenRoom}
 
 -- a grid size

@@ -3,6 +3,7 @@
 pub mod Moments
 pub mod Given
 pub mod GivenTurns
+pub mod GivenChain
 pub mod GivenHull
 pub mod GivenRoom
 pub mod GivenRows

@@ -9,6 +9,9 @@ use Rattle.lists.proofs.GatherLaws.{and-left, and-right}
 use Rattle.grid.specs.declared.Corner.{Corner}
 use Rattle.grid.specs.Grid.{corner, eqZ, same}
 
+pub corner-eq : (p q : Corner) → p .0 ≡ q .0 → p .1 ≡ q .1 → p ≡ q
+corner-eq p q e f = λ i. corner (e i) (f i)
+
 pub eqZ-sound : (a b : ℤ) → eqZ a b ≡ true → a ≡ b
 eqZ-sound (pos a) (pos b) e = ap pos (eqb-true a b e)
 eqZ-sound (pos a) (negsuc b) e = absurd (false≢true e)

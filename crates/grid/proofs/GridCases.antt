@@ -3,8 +3,9 @@
 use mathlib.Core.List.{[], _∷_}
 use mathlib.Core.Bool.{true, false}
 use mathlib.Core.Path.{_≡_, refl}
+use mathlib.Core.Logic.{inl, inr}
 use lib.IntN.{pos, negsuc}
-use Rattle.grid.specs.Grid.{corner, origin, back, cornersFrom, cornerAt, legsFrom, joins}
+use Rattle.grid.specs.Grid.{corner, origin, Begins, back, cornersFrom, cornerAt, legsFrom, joins}
 use Rattle.grid.specs.Tree.{root, halfOf, lineageOf, pathOf, slotOf, childWord}
 
 -- -1 is a child of 0
@@ -70,3 +71,10 @@ joined-the-other-way = refl
 
 joined-to-another : joins origin (corner (pos 0) (pos 1)) (origin, corner (pos 1) (pos 0)) ≡ false
 joined-to-another = refl
+
+-- the lowest of the leftmost comes first
+lowest-first : Begins origin (corner (pos 0) (pos 1))
+lowest-first = inr (refl, record { le = tt })
+
+leftmost-first : Begins (corner (negsuc 0) (pos 5)) origin
+leftmost-first = inl (record { lt = tt })

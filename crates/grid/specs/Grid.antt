@@ -1,5 +1,5 @@
 -- Corners, panels and steps (RULES 1.1, 1.2, 1.4). A step is a digit: 0 east, 1 north, 2 west, 3 south. Assumes nothing.
-use Rattle.lists.specs.Lists.{Bool, false, _&&_, _||_, List, [], _∷_, take, ℕ, zero, suc, eqb, ℤ, pos, negsuc, sucℤ, predℤ, zip}
+use Rattle.lists.specs.Lists.{_≡_, _⊎_, Bool, false, _&&_, _||_, List, [], _∷_, take, ℕ, zero, suc, eqb, ℤ, pos, negsuc, sucℤ, predℤ, _≤ℤ_, _<ℤ_, zip}
 use Rattle.grid.specs.declared.{Corner.Corner, Panel.Panel}
 
 -- the corner with these coordinates
@@ -24,6 +24,15 @@ eqZ (negsuc a) (negsuc b) = eqb a b
 -- the two are one corner
 abbrev pub same : Corner → Corner → Bool
 same a b = eqZ (a .0) (b .0) && eqZ (a .1) (b .1)
+
+-- b is left of q, or straight below it or at it
+abbrev pub Begins : Corner → Corner → Type 0
+Begins b q = (b .0 <ℤ q .0) ⊎ ((b .0 ≡ q .0) × (b .1 ≤ℤ q .1))
+
+-- x and y of each corner
+abbrev pub numbers : List Corner → List ℤ
+numbers [] = []
+numbers (c ∷ cs) = c .0 ∷ c .1 ∷ numbers cs
 
 -- where a step leads: 0 east (+1,0), 1 north (0,+1), 2 west (-1,0), 3 south (0,-1); a digit above 3 is never walked
 abbrev pub stepped : ℕ → Corner → Corner

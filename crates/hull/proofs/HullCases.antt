@@ -2,16 +2,15 @@
 -- Assumes nothing.
 use mathlib.Core.Path.{_≡_, refl, sym, subst, _∙_}
 use mathlib.Core.List.{[], _∷_, List·Memᴰ, List·Memᴰ·head, List·Memᴰ·tail, List·Memᴰ·not-nil}
-use mathlib.Core.Logic.{inl, inr}
-use lib.IntN.{pos, negsuc}
+use mathlib.Core.Logic.{inr}
+use lib.IntN.{pos}
 use lib.Signed.{_≤ℤ_, ≤ℤ-refl}
 use Rattle.grid.specs.declared.Corner.{Corner}
-use Rattle.grid.specs.Grid.{corner, origin}
+use Rattle.grid.specs.Grid.{corner, origin, Begins}
 use Rattle.answer.specs.declared.Judged.the-variants as judged
-use Rattle.answer.specs.declared.Counted.{Counted}
-use Rattle.answer.specs.declared.Refusal.the-variants.{BadDigit, TooLong, HullRoom, StartRange}
-use Rattle.hull.specs.Hull.{cross, Left, Begins, HullIs}
-use Rattle.hull.specs.Call.{faultAt, hullJudged, countedOf, bufferOf}
+use Rattle.answer.specs.declared.Refusal.the-variants.{BadDigit, HullRoom}
+use Rattle.hull.specs.Hull.{cross, Left, HullIs}
+use Rattle.hull.specs.Call.{hullJudged}
 
 -- three in a line do not turn left
 line-is-no-turn : ¬ Left origin (corner (pos 1) (pos 0)) (corner (pos 2) (pos 0))
@@ -22,13 +21,6 @@ line-is-no-turn h = h .left .lt
 east-then-north : Left origin (corner (pos 1) (pos 0)) (corner (pos 1) (pos 1))
 unfolding cross
 east-then-north = record { left = record { lt = tt } }
-
--- the lowest of the leftmost comes first
-lowest-first : Begins origin (corner (pos 0) (pos 1))
-lowest-first = inr (refl, record { le = tt })
-
-leftmost-first : Begins (corner (negsuc 0) (pos 5)) origin
-leftmost-first = inl (record { lt = tt })
 
 -- one corner gives one
 pub hull-of-one : (c : Corner) → HullIs (c ∷ []) (c ∷ [])
@@ -51,20 +43,6 @@ hull-of-one c = record {
     alone p q (List·Memᴰ·head e) (List·Memᴰ·tail m) d = absurd (List·Memᴰ·not-nil m)
     alone p q (List·Memᴰ·tail m) n d = absurd (List·Memᴰ·not-nil m)
 
--- 4 comes before 6 at one place, and 6 only at place 16,384
-bad-digit-first : faultAt 16384 4 ≡ judged.Refused (BadDigit 16384)
-bad-digit-first = refl
-
-step-too-many : faultAt 16384 3 ≡ judged.Refused (TooLong 16384)
-step-too-many = refl
-
-last-step : faultAt 16383 3 ≡ judged.Good
-last-step = refl
-
--- 10 comes before 4
-start-before-digit : hullJudged (corner (pos 0) (pos 16385)) (4 ∷ []) 4 1 ≡ judged.Refused StartRange
-start-before-digit = refl
-
 -- 8 comes last
 digit-before-room : hullJudged origin (0 ∷ 4 ∷ []) 0 2 ≡ judged.Refused (BadDigit 1)
 digit-before-room = refl
@@ -75,15 +53,3 @@ room-of-one-number = refl
 
 room-of-two-numbers : hullJudged origin [] 2 1 ≡ judged.Good
 room-of-two-numbers = refl
-
--- how many there are, and no refusal
-count-of-six : countedOf judged.Good 6 ≡ Counted.Many 6
-count-of-six = refl
-
--- numbers after the list stay
-rest-stays : bufferOf judged.Good (origin ∷ []) (pos 7 ∷ pos 8 ∷ pos 9 ∷ []) ≡ pos 0 ∷ pos 0 ∷ pos 9 ∷ []
-rest-stays = refl
-
--- a refused call writes nothing
-refused-writes-nothing : bufferOf (judged.Refused HullRoom) (origin ∷ []) (pos 7 ∷ pos 8 ∷ []) ≡ pos 7 ∷ pos 8 ∷ []
-refused-writes-nothing = refl

@@ -2,8 +2,8 @@
 -- L lists it when it begins at the lowest of the leftmost corners, holds exactly the exposed ones, each once, and any three in its
 -- order turn left: so no three are in a line and the order is counterclockwise. There is no case apart: one corner gives one, and
 -- corners along one line give their two outermost. Assumes nothing.
-use Rattle.lists.specs.Lists.{_≡_, List, [], _∷_, _++_, List·Memᴰ, _⊎_, _↔_, ℤ, pos, _+ℤ_, _-ℤ_, _*ℤ_, _≤ℤ_, _<ℤ_, Distinct}
-use Rattle.grid.specs.declared.Corner.{Corner}
+use Rattle.lists.specs.Lists.{_≡_, List, [], _∷_, _++_, List·Memᴰ, _↔_, ℤ, pos, _+ℤ_, _-ℤ_, _*ℤ_, _≤ℤ_, _<ℤ_, Distinct}
+use Rattle.grid.specs.{declared.Corner.Corner, Grid.Begins}
 
 -- above 0 where c lies left of the way from a to b, below 0 where right of it, 0 where the three are in a line
 unfoldable pub cross : Corner → Corner → Corner → ℤ
@@ -23,10 +23,6 @@ pub record Exposed (P : List Corner) (q : Corner) : Type 0 where
   pub u : ℤ
   pub v : ℤ
   pub most : (p : Corner) → List·Memᴰ p P → ¬ (p ≡ q) → reach u v p <ℤ reach u v q
-
--- b is left of q, or straight below it or at it
-abbrev pub Begins : Corner → Corner → Type 0
-Begins b q = (b .0 <ℤ q .0) ⊎ ((b .0 ≡ q .0) × (b .1 ≤ℤ q .1))
 
 -- every two of the list, in its order, are related
 abbrev pub Pairs : (Corner → Corner → Type 0) → List Corner → Type 0

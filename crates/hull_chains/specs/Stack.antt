@@ -4,7 +4,7 @@ use mathlib.Core.Path.{_≡_}
 use mathlib.Core.List.{List}
 use Prim.Native.Nat.{ℕ, suc, _<_, _≤_}
 use lib.ListN.{length, getD, drop}
-use Rattle.hull_laws.specs.Columns.{blank}
+use Rattle.hull_laws.specs.Lowest.{blank}
 use Rattle.hull_laws.specs.Outline.{chainFrom}
 
 -- from place q on s has columns of ys that are right of p

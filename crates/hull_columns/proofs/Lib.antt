@@ -1,3 +1,2 @@
 -- The laws of the columns.
-pub mod StepLaws
 pub mod MirrorLaws

@@ -8,7 +8,8 @@ use native.Mathlib.Omega.{arith}
 use native.Mathlib.Decide.{decLt, ℕ-discrete}
 use lib.ListN.{length, getD, set, replicate, getD-replicate, length-set}
 use lib.Seq.{getD-set-same, getD-set-other, ext-getD}
-use Rattle.hull_laws.specs.Columns.{sink, sinks, colAfter, rowAfter, trail, halfTurned, middle, top}
+use Rattle.hull_laws.specs.Lowest.{sink, sinks, halfTurned}
+use Rattle.column_laws.specs.Columns.{colAfter, rowAfter, trail, middle, top}
 use Rattle.hull_laws.proofs.FillLaws.{Filling, filling-start, filling-west, filling-east, filling-in-hi, filling-step, filling-high}
 use Rattle.hull_columns.specs.Extent.{Spans, Mirrored}
 

@@ -1,19 +1,16 @@
 -- What the passes over a walk's columns ask and promise.
 -- Assumes nothing.
 use mathlib.Core.Path.{_≡_}
-use mathlib.Core.List.{List, [], _∷_}
+use mathlib.Core.List.{List}
 use Prim.Native.Nat.{ℕ, _-_, _<_, _≤_}
 use lib.ListN.{length, getD}
-use Rattle.answer.specs.declared.Judged.{Judged}
-use Rattle.answer.specs.declared.Judged.the-variants as judged
 use Rattle.answer.specs.Limits.{mostSteps}
-use Rattle.hull_laws.specs.Columns.{middle, westFrom, eastFrom}
+use Rattle.column_laws.specs.Columns.{middle, westFrom, eastFrom}
 use Rattle.hull_columns.specs.declared.Extent.{Extent}
 
--- the westmost and the eastmost column, unless there is a refusal
-abbrev pub extentBy : Judged → ℕ → ℕ → Extent
-extentBy judged.Good w e = Extent.Within w e
-extentBy (judged.Refused r) w e = Extent.Refused r
+-- the westmost and the eastmost column of a walk
+abbrev pub extentOf : List ℕ → Extent
+extentOf chain = record { west = westFrom middle chain; east = eastFrom middle chain }
 
 -- a chain of steps that is not refused, and the columns that it goes through
 pub record Spans (chain : List ℕ) (w e : ℕ) : Type 0 where
@@ -21,13 +18,6 @@ pub record Spans (chain : List ℕ) (w e : ℕ) : Type 0 where
   pub short : length chain ≤ mostSteps
   pub west : w ≡ westFrom middle chain
   pub east : e ≡ eastFrom middle chain
-
--- the steps 0 to 3 as what is added to a column, modulo 2^32, and to a height, modulo 2^16
-abbrev pub eastSteps : List ℕ
-eastSteps = 1 ∷ 0 ∷ 4294967295 ∷ 0 ∷ []
-
-abbrev pub northSteps : List ℕ
-northSteps = 0 ∷ 1 ∷ 0 ∷ 65535 ∷ []
 
 -- after has the columns 0 to m of before from right to left, and the others as they are
 pub record Mirrored (m : ℕ) (before after : List ℕ) : Type 0 where

@@ -18,14 +18,17 @@ use Rattle.answer.specs.declared.Judged.the-variants as judged
 use Rattle.answer.specs.declared.Refusal.the-variants.{HullRoom}
 use Rattle.answer.specs.declared.Counted.{Counted}
 use Rattle.answer.specs.Limits.{mostSteps}
-use Rattle.hull.specs.Call.{hullRoomJudged, countedOf, numbers, bufferOf}
-use Rattle.hull_laws.specs.Outline.{spot, spotBy, hullBy}
+use Rattle.answer.specs.Refusal.{when}
+use Rattle.answer.specs.Listed.{countedOf, laidIf}
+use Rattle.grid.specs.Grid.{numbers}
+use Rattle.hull_laws.specs.Outline.{spotBy, hullBy}
+use Rattle.column_laws.specs.Columns.{spot, middle, top}
 use Rattle.hull_laws.proofs.StackLaws.{stack-in}
 use Rattle.hull_laws.proofs.JoinLaws.{seam-room, close-room, length-both, parts-hull, spot-by}
 use Rattle.hull_laws.proofs.CallLaws.{room-short, room-enough, written}
 use Rattle.answer.specs.Limits.{Near}
 use Rattle.hull_corners.specs.Parts.{bothSides, twoAt, ListGiven, Puts, Parts, TwoChains}
-use Rattle.hull_laws.specs.Columns.{middle, top, blank}
+use Rattle.hull_laws.specs.Lowest.{blank}
 
 -- a corner of the columns fits the numbers of the buffer
 near-axis : (z : ℤ) (n : ℕ) → natAbs z ≤ mostSteps → n ≤ top → natAbs ((z -ℤ pos middle) +ℤ pos n) ≤ suc blank
@@ -88,19 +91,19 @@ module _ {w e : ℕ} {lo hi s t : List ℕ} {a b : ℕ} (h : TwoChains w e lo hi
     pub listed-short : (before : List ℤ) → length before < 2 * ((length s - a) + (g - f)) → ListGiven (hullBy (c .0 -ℤ pos middle) (c .1 -ℤ pos middle) w e top lo hi) before (Counted.Refused HullRoom) before
     listed-short before k = record {
       answer = sym (ap (λ (j : Judged). countedOf j (length (hullBy (c .0 -ℤ pos middle) (c .1 -ℤ pos middle) w e top lo hi))) short);
-      buffer = sym (ap (λ (j : Judged). bufferOf j (hullBy (c .0 -ℤ pos middle) (c .1 -ℤ pos middle) w e top lo hi) before) short);
+      buffer = sym (ap (λ (j : Judged). laidIf j (numbers (hullBy (c .0 -ℤ pos middle) (c .1 -ℤ pos middle) w e top lo hi)) before) short);
     }
       where
-        short : hullRoomJudged (length before) (length (hullBy (c .0 -ℤ pos middle) (c .1 -ℤ pos middle) w e top lo hi)) ≡ judged.Refused HullRoom
+        short : when (ltb (length before) (2 * length (hullBy (c .0 -ℤ pos middle) (c .1 -ℤ pos middle) w e top lo hi))) HullRoom ≡ judged.Refused HullRoom
         short = room-short (length before) (length (hullBy (c .0 -ℤ pos middle) (c .1 -ℤ pos middle) w e top lo hi)) (omega (arith, count))
 
     pub listed-enough : (before after : List ℤ) → 2 * ((length s - a) + (g - f)) ≤ length before → after ≡ sets before 0 (numbers (bothSides c w e lo hi s t a f g)) → ListGiven (hullBy (c .0 -ℤ pos middle) (c .1 -ℤ pos middle) w e top lo hi) before (Counted.Many ((length s - a) + (g - f))) after
     listed-enough before after k z = record {
       answer = ap Counted.Many (sym count) ∙ sym (ap (λ (j : Judged). countedOf j (length (hullBy (c .0 -ℤ pos middle) (c .1 -ℤ pos middle) w e top lo hi))) enough);
-      buffer = z ∙ ap (λ (l : List Corner). sets before 0 (numbers l)) is ∙ written (hullBy (c .0 -ℤ pos middle) (c .1 -ℤ pos middle) w e top lo hi) before (omega (arith, count)) ∙ sym (ap (λ (j : Judged). bufferOf j (hullBy (c .0 -ℤ pos middle) (c .1 -ℤ pos middle) w e top lo hi) before) enough);
+      buffer = z ∙ ap (λ (l : List Corner). sets before 0 (numbers l)) is ∙ written (hullBy (c .0 -ℤ pos middle) (c .1 -ℤ pos middle) w e top lo hi) before (omega (arith, count)) ∙ sym (ap (λ (j : Judged). laidIf j (numbers (hullBy (c .0 -ℤ pos middle) (c .1 -ℤ pos middle) w e top lo hi)) before) enough);
     }
       where
-        enough : hullRoomJudged (length before) (length (hullBy (c .0 -ℤ pos middle) (c .1 -ℤ pos middle) w e top lo hi)) ≡ judged.Good
+        enough : when (ltb (length before) (2 * length (hullBy (c .0 -ℤ pos middle) (c .1 -ℤ pos middle) w e top lo hi))) HullRoom ≡ judged.Good
         enough = room-enough (length before) (length (hullBy (c .0 -ℤ pos middle) (c .1 -ℤ pos middle) w e top lo hi)) (omega (arith, count))
 
 -- two corners in the buffer
@@ -112,10 +115,10 @@ module _ (c : Corner) (w e : ℕ) where
   pub ends-short : (before : List ℤ) → length before < 4 → ListGiven (twoAt c w e) before (Counted.Refused HullRoom) before
   ends-short before k = record {
     answer = sym (ap (λ (j : Judged). countedOf j 2) short);
-    buffer = sym (ap (λ (j : Judged). bufferOf j (twoAt c w e) before) short);
+    buffer = sym (ap (λ (j : Judged). laidIf j (numbers (twoAt c w e)) before) short);
   }
     where
-      short : hullRoomJudged (length before) 2 ≡ judged.Refused HullRoom
+      short : when (ltb (length before) (2 * 2)) HullRoom ≡ judged.Refused HullRoom
       short = room-short (length before) 2 k
 
   from-base : (base : Corner) → base ≡ spot (c .0 -ℤ pos middle) (c .1 -ℤ pos middle) (0, 0) → (v : ℕ × ℕ) → spotBy base (pos 1) v ≡ spot (c .0 -ℤ pos middle) (c .1 -ℤ pos middle) v
@@ -135,8 +138,8 @@ module _ (c : Corner) (w e : ℕ) where
     answer = sym (ap (λ (j : Judged). countedOf j 2) enough);
     buffer =
         q ∙ ap₂ (λ (l : List ℤ) (z : Corner). set (set l 2 (z .0)) 3 (z .1)) (p ∙ ap (λ (z : Corner). set (set before 0 (z .0)) 1 (z .1)) (from-base base r (w, middle))) (from-base base r (e, middle))
-        ∙ written (twoAt c w e) before k ∙ sym (ap (λ (j : Judged). bufferOf j (twoAt c w e) before) enough);
+        ∙ written (twoAt c w e) before k ∙ sym (ap (λ (j : Judged). laidIf j (numbers (twoAt c w e)) before) enough);
   }
     where
-      enough : hullRoomJudged (length before) 2 ≡ judged.Good
+      enough : when (ltb (length before) (2 * 2)) HullRoom ≡ judged.Good
       enough = room-enough (length before) 2 k

@@ -3,21 +3,26 @@
 use mathlib.Core.Path.{_≡_}
 use mathlib.Core.List.{List, [], _∷_, _++_, map}
 use Prim.Native.Nat.{ℕ, suc, _+_, _*_, _-_, _<_, _≤_}
+use lib.Dec.{ltb}
 use lib.IntN.{ℤ, pos, natAbs, _+ℤ_, _-ℤ_}
 use lib.ListN.{length, getD, drop}
 use lib.Seq.{slice}
 use Rattle.grid.specs.declared.Corner.{Corner}
+use Rattle.grid.specs.Grid.{numbers}
 use Rattle.answer.specs.declared.Counted.{Counted}
+use Rattle.answer.specs.declared.Refusal.the-variants.{HullRoom}
 use Rattle.answer.specs.Limits.{farthest}
-use Rattle.hull.specs.Call.{hullRoomJudged, countedOf, bufferOf}
-use Rattle.hull_laws.specs.Columns.{middle, top, blank}
-use Rattle.hull_laws.specs.Outline.{spot, spotBack, colAt}
+use Rattle.answer.specs.Refusal.{when}
+use Rattle.answer.specs.Listed.{countedOf, laidIf}
+use Rattle.column_laws.specs.Columns.{middle, top, spot}
+use Rattle.hull_laws.specs.Lowest.{blank}
+use Rattle.hull_laws.specs.Outline.{spotBack, colAt}
 use Rattle.hull_chains.specs.Stack.{Scanned}
 
 -- the list L is counted, and written where there is room
 pub record ListGiven (L : List Corner) (before : List ℤ) (r : Counted) (after : List ℤ) : Type 0 where
-  pub answer : r ≡ countedOf (hullRoomJudged (length before) (length L)) (length L)
-  pub buffer : after ≡ bufferOf (hullRoomJudged (length before) (length L)) L before
+  pub answer : r ≡ countedOf (when (ltb (length before) (2 * length L)) HullRoom) (length L)
+  pub buffer : after ≡ laidIf (when (ltb (length before) (2 * length L)) HullRoom) (numbers L) before
 
 -- the columns s[from] up to s[to] can be written from place o on, counted from base
 pub record Puts (room o : ℕ) (base : Corner) (way : ℤ) (ys s : List ℕ) (from to : ℕ) : Type 0 where

@@ -1,8 +1,8 @@
 // From the two chains to the corners in the buffer.
 use answer::Counted;
 use answer::Refusal;
+use columns::Columns;
 use grid::Corner;
-use hull_columns::Columns;
 ghost use mathlib.Core.Path.{_≡_};
 ghost use mathlib.Core.List.{map};
 ghost use mathlib.Core.Bool.{_&&_};
@@ -12,9 +12,9 @@ ghost use Rattle.lists.specs.Lists.{tally};
 ghost use lib.IntN.{pos, natAbs, _+ℤ_, _-ℤ_, _*ℤ_};
 ghost use lib.ListN.{length, set};
 ghost use lib.Seq.{sets, slice};
-ghost use Rattle.hull.specs.Call.{numbers};
-ghost use Rattle.hull_laws.specs.Outline.{hullBy, spot, spotBy, colAt};
-ghost use Rattle.hull_laws.specs.Columns.{middle, top};
+ghost use Rattle.grid.specs.Grid.{numbers};
+ghost use Rattle.hull_laws.specs.Outline.{hullBy, spotBy, colAt};
+ghost use Rattle.column_laws.specs.Columns.{spot, middle, top};
 ghost use Rattle.answer.specs.Limits.{mostStart, farthest, Near};
 ghost use Rattle.hull_corners.specs.Parts.{bothSides, twoAt, Puts, Parts, TwoChains, ListGiven};
 

@@ -10,10 +10,9 @@ use Rattle.int_laws.proofs.LinearLaws.{zarith}
 use Rattle.int_laws.proofs.RingLaws.{E, v, k, _⊖_, _⊗_, ring}
 use Rattle.int_laws.proofs.SignLaws.{h≤, h<, hw, eqt, _⊞_, _⊠_, _⊡_, by≤, by≤÷, by<÷}
 use Rattle.grid.specs.declared.Corner.{Corner}
-use Rattle.grid.specs.Grid.{corner, same}
+use Rattle.grid.specs.Grid.{same, numbers}
 use Rattle.grid.proofs.CornerLaws.{same-sound, same-refl}
 use Rattle.hull.specs.Hull.{Left, OnLeft, cross}
-use Rattle.hull.specs.Call.{numbers}
 
 -- the variables of the i-th corner of a list, of which `numbers` are the values
 abbrev pub X : ℕ → E
@@ -27,9 +26,6 @@ cr i j l = (X j ⊖ X i) ⊗ (Y l ⊖ Y i) ⊖ (Y j ⊖ Y i) ⊗ (X l ⊖ X i)
 
 abbrev pub O : E
 O = k (pos 0)
-
-pub corner-eq : (p q : Corner) → p .0 ≡ q .0 → p .1 ≡ q .1 → p ≡ q
-corner-eq p q e f = λ i. corner (e i) (f i)
 
 unfoldable pub corner-dec : (p q : Corner) → Dec (p ≡ q)
 corner-dec p q = go (same p q) (same-sound p q) (λ e. subst (λ (z : Corner). same p z ≡ true) e (same-refl p))

@@ -12,10 +12,11 @@ use Rattle.int_laws.proofs.RangeLaws.{abs-nat}
 use Rattle.int_laws.proofs.RingLaws.{E, v, k, _⊕_, _⊖_, _⊗_, ⊝}
 use Rattle.int_laws.proofs.SignLaws.{h≤, h<, h0, hp, eqt, by≤, by<, by⊥, by≤÷, _⊞_, _⊠_, _⋆_}
 use Rattle.grid.specs.declared.Corner.{Corner}
-use Rattle.hull.specs.Call.{numbers}
-use Rattle.hull.specs.Hull.{Begins, Exposed, Left, cross, reach, AllLeft, OnLeft}
+use Rattle.grid.specs.Grid.{numbers, Begins}
+use Rattle.hull.specs.Hull.{Exposed, Left, cross, reach, AllLeft, OnLeft}
 use Rattle.hull_laws.proofs.ChainLaws.{Chain, Ends}
-use Rattle.hull_laws.proofs.CornerLaws.{O, X, Y, cr, corner-dec, corner-eq}
+use Rattle.hull_laws.proofs.CornerLaws.{O, X, Y, cr, corner-dec}
+use Rattle.grid.proofs.CornerLaws.{corner-eq}
 
 -- how far corner i lies in the direction of variables 0 and 1
 abbrev dt : ℕ → E

@@ -8,8 +8,9 @@ use native.Mathlib.Numerals.{add-one}
 use lib.ListN.{length, getD, drop, drop-of-length-le}
 use lib.Seq.{drop-cons}
 use Rattle.answer.specs.Limits.{mostSteps}
-use Rattle.hull_laws.specs.Columns.{colAfter, rowAfter, trail, westFrom, eastFrom, sink, sinks, countedFrom, halfTurned}
-use Rattle.hull_laws.proofs.TrailLaws.{near, near-row, west-le, east-ge}
+use Rattle.column_laws.specs.Columns.{colAfter, rowAfter, trail, westFrom, eastFrom}
+use Rattle.hull_laws.specs.Lowest.{sink, sinks, countedFrom, halfTurned}
+use Rattle.column_laws.proofs.TrailLaws.{near, near-row, west-le, east-ge}
 use Rattle.hull_laws.proofs.SinkLaws.{length-sink}
 
 -- after i steps the walk stands at column x and height y; what is left of it gives the columns of the whole

@@ -4,7 +4,8 @@ use mathlib.Core.Path.{_≡_, refl}
 use mathlib.Core.List.{[], _∷_}
 use lib.IntN.{pos, negsuc}
 use Rattle.grid.specs.Grid.{corner, origin}
-use Rattle.hull_laws.specs.Columns.{colAfter, rowAfter, trail, westFrom, eastFrom, sink, sinks}
+use Rattle.column_laws.specs.Columns.{colAfter, rowAfter, trail, westFrom, eastFrom}
+use Rattle.hull_laws.specs.Lowest.{sink, sinks}
 use Rattle.hull_laws.specs.Outline.{turnsAt, cutAt, chainFrom, hullBy, hullOf}
 
 -- P1

@@ -12,12 +12,11 @@ use Rattle.lists.specs.Lists.{gather}
 use Rattle.lists.proofs.GatherLaws.{mem-gather-right}
 use Rattle.lists.proofs.PigeonLaws.{pigeon}
 use Rattle.grid.specs.Grid.{same, cornersFrom}
-use Rattle.grid.proofs.CornerLaws.{same-sound, same-refl}
+use Rattle.grid.proofs.CornerLaws.{same-sound, same-refl, corner-eq}
 use Rattle.grid.proofs.StepLaws.{length-cornersFrom}
 use Rattle.hull.specs.Hull.{HullIs, Encloses}
-use Rattle.hull_laws.specs.Columns.{westFrom, eastFrom}
-use Rattle.hull_laws.specs.Outline.{spot, hullOf}
-use Rattle.hull_laws.proofs.CornerLaws.{corner-eq}
+use Rattle.column_laws.specs.Columns.{westFrom, eastFrom, spot}
+use Rattle.hull_laws.specs.Outline.{hullOf}
 use Rattle.hull_laws.proofs.WalkLaws.{Room, columns-both}
 use Rattle.hull_laws.proofs.OneLaws.{hullIs-one}
 

@@ -16,7 +16,7 @@ use Rattle.int_laws.proofs.RingLaws.{_⊖_}
 use Rattle.int_laws.proofs.SignLaws.{h≤, h<, hw, _⊞_, _⊠_, by≤÷}
 use Rattle.grid.specs.declared.Corner.{Corner}
 use Rattle.hull.specs.Hull.{cross}
-use Rattle.hull.specs.Call.{numbers}
+use Rattle.grid.specs.Grid.{numbers}
 use Rattle.hull_laws.specs.Outline.{turnsAt, cutAt, chainFrom, turnFrom}
 use Rattle.hull_laws.proofs.CornerLaws.{X, cr, O}
 use Rattle.hull_laws.proofs.ChainLaws.{turns}

@@ -16,9 +16,10 @@ use Rattle.int_laws.proofs.LinearLaws.{zarith, bal+}
 use Rattle.lists.specs.Lists.{tally, front}
 use Rattle.lists.proofs.BoolLaws.{tally-le}
 use Rattle.grid.specs.declared.Corner.{Corner}
-use Rattle.hull.specs.Call.{numbers}
-use Rattle.hull_laws.specs.Outline.{chainFrom, spot, spotBack, spotBy, colAt, skip, stop, upper, hullBy}
-use Rattle.hull_laws.proofs.CornerLaws.{corner-eq}
+use Rattle.grid.specs.Grid.{numbers}
+use Rattle.hull_laws.specs.Outline.{chainFrom, spotBack, spotBy, colAt, skip, stop, upper, hullBy}
+use Rattle.column_laws.specs.Columns.{spot}
+use Rattle.grid.proofs.CornerLaws.{corner-eq}
 
 -- where the upper chain begins and ends
 pub one-more : (b m n : ℕ) → m ≡ n → b + 1 ≡ b + tally (eqb m n)

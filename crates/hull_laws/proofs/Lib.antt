@@ -7,10 +7,9 @@ pub mod OrderLaws
 pub mod TurnedLaws
 pub mod RoundLaws
 pub mod SideLaws
-pub mod TrailLaws
+pub mod SpotLaws
 pub mod SinkLaws
 pub mod ScanLaws
-pub mod SurveyLaws
 pub mod FillLaws
 pub mod StackLaws
 pub mod IdleLaws

@@ -4,15 +4,15 @@ use mathlib.Core.Path.{_≡_, refl, sym, ap, _∙_, subst}
 use mathlib.Core.List.{List, [], _∷_, List·Memᴰ, List·Memᴰ·head, List·Memᴰ·tail, List·Memᴰ·not-nil}
 use mathlib.Core.Logic.{_⊎_, inl, inr, ⊎-elim}
 use lib.IntN.{ℤ, pos, negℤ}
-use lib.Signed.{_≤ℤ_, _<ℤ_, ≤ℤ-refl}
+use lib.Signed.{_≤ℤ_, _<ℤ_}
 use Rattle.int_laws.proofs.LinearLaws.{zarith, le-or-lt, up-neg, dn-neg}
 use Rattle.int_laws.proofs.RingLaws.{_⊖_}
 use Rattle.int_laws.proofs.SignLaws.{eqt, by≡, _⊞_}
 use Rattle.grid.specs.declared.Corner.{Corner}
-use Rattle.hull.specs.Hull.{cross, Begins, Exposed, HullIs}
-use Rattle.hull.specs.Call.{numbers}
+use Rattle.hull.specs.Hull.{cross, Exposed, HullIs}
+use Rattle.grid.specs.Grid.{Begins, numbers}
 use Rattle.hull_laws.proofs.CornerLaws.{X, Y, cr, O}
-use Rattle.hull_laws.proofs.OneLaws.{begins-both}
+use Rattle.column_laws.proofs.BeginLaws.{begins-both, begins-trans, begins-self}
 use Rattle.hull_laws.proofs.ExposedLaws.{first-exposed}
 use Rattle.hull_laws.proofs.TurnedLaws.{neg, negs, neg-neg, in-negs, negs-in, neg-exposed}
 
@@ -24,15 +24,6 @@ begins-total a b = go (le-or-lt (b .0) (a .0)) (le-or-lt (a .0) (b .0)) (le-or-l
     go (inl h) (inr g) k = inr (inl g)
     go (inl h) (inl g) (inl k) = inl (inr (omega zarith, k))
     go (inl h) (inl g) (inr k) = inr (inr (omega zarith, omega zarith))
-
-pub begins-trans : (a b c : Corner) → Begins a b → Begins b c → Begins a c
-begins-trans a b c (inl h) (inl g) = inl (omega zarith)
-begins-trans a b c (inl h) (inr g) = inl (omega (zarith, g .0))
-begins-trans a b c (inr h) (inl g) = inl (omega (zarith, h .0))
-begins-trans a b c (inr h) (inr g) = inr (h .0 ∙ g .0, omega (zarith, h .1, g .1))
-
-pub begins-self : (a : Corner) → Begins a a
-begins-self a = inr (refl, ≤ℤ-refl (a .1))
 
 -- the highest of the rightmost
 greatest : (p : Corner) (l : List Corner) → (e : Corner) × List·Memᴰ e (p ∷ l) × ((q : Corner) → List·Memᴰ q (p ∷ l) → Begins q e)

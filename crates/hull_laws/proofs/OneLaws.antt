@@ -3,34 +3,18 @@
 use mathlib.Core.Path.{_≡_, refl, sym, ap₂, _∙_, subst}
 use mathlib.Core.List.{List, [], _∷_, List·Memᴰ, List·Memᴰ·head, List·Memᴰ·tail, List·Memᴰ·not-nil, List·Memᴰ·cases-cons, Memᴰ·cast}
 use mathlib.Core.Logic.{_⊎_, inl, inr}
-use lib.Signed.{_<ℤ_}
-use Rattle.int_laws.proofs.LinearLaws.{zarith}
 use Rattle.int_laws.proofs.SignLaws.{h<, by⊥, _⊞_}
 use Rattle.grid.specs.declared.Corner.{Corner}
-use Rattle.hull.specs.Call.{numbers}
-use Rattle.hull.specs.Hull.{Begins, HullIs, Left, Pairs, cross}
-use Rattle.hull_laws.proofs.CornerLaws.{O, cr, corner-eq}
+use Rattle.grid.specs.Grid.{numbers}
+use Rattle.hull.specs.Hull.{HullIs, Left, Pairs, cross}
+use Rattle.column_laws.proofs.BeginLaws.{begins-both}
+use Rattle.hull_laws.proofs.CornerLaws.{O, cr}
 
 left-asym : {a b c : Corner} → Left a b c → Left a c b → ⊥
 unfolding cross
 left-asym {a} {b} {c} h g =
     let ρ = numbers (a ∷ b ∷ c ∷ []) in
     by⊥ (h< 6 ρ O (cr 0 1 2) (h .left) ⊞ h< 6 ρ O (cr 0 2 1) (g .left)) tt
-
-pub begins-both : (a b : Corner) → Begins a b → Begins b a → a ≡ b
-begins-both a b (inl h) (inl g) = absurd (bad h g)
-  where
-    bad : a .0 <ℤ b .0 → b .0 <ℤ a .0 → ⊥
-    bad h g = omega zarith
-begins-both a b (inl h) (inr g) = absurd (bad h (g .0))
-  where
-    bad : a .0 <ℤ b .0 → b .0 ≡ a .0 → ⊥
-    bad h g = omega zarith
-begins-both a b (inr h) (inl g) = absurd (bad (h .0) g)
-  where
-    bad : a .0 ≡ b .0 → b .0 <ℤ a .0 → ⊥
-    bad h g = omega zarith
-begins-both a b (inr h) (inr g) = corner-eq a b (h .0) (omega (zarith, h .1, g .1))
 
 -- two lists in the order of a relation that goes one way only, with the same members, are one list
 module _ (R : Corner → Corner → Type 0) (asym : (a b : Corner) → R a b → R b a → ⊥) where

@@ -10,10 +10,11 @@ use Rattle.int_laws.proofs.LinearLaws.{zarith, le-or-lt}
 use Rattle.int_laws.proofs.RingLaws.{E, v, _⊕_, _⊖_, _⊗_}
 use Rattle.int_laws.proofs.SignLaws.{h≤, h<, hw, h≡, h≢, h0, hp, eqt, by≤, by<, by⊥, by≡, by<÷, _⊞_, _⊠_, _⊡_}
 use Rattle.grid.specs.declared.Corner.{Corner}
-use Rattle.hull.specs.Call.{numbers}
+use Rattle.grid.specs.Grid.{numbers, Begins}
 use Rattle.lists.specs.Lists.{Distinct}
-use Rattle.hull.specs.Hull.{Begins, Ccw, Exposed, Left, Pairs, cross, reach, AllLeft, OnLeft}
-use Rattle.hull_laws.proofs.CornerLaws.{O, X, Y, cr, left-rot, on-rot, corner-eq}
+use Rattle.hull.specs.Hull.{Ccw, Exposed, Left, Pairs, cross, reach, AllLeft, OnLeft}
+use Rattle.hull_laws.proofs.CornerLaws.{O, X, Y, cr, left-rot, on-rot}
+use Rattle.grid.proofs.CornerLaws.{corner-eq}
 
 abbrev dt : ℕ → E
 dt i = v 0 ⊗ X i ⊕ v 1 ⊗ Y i

@@ -12,8 +12,10 @@ use lib.IntN.{ℤ, pos, _+ℤ_, _-ℤ_}
 use lib.Signed.{_<ℤ_}
 use Rattle.int_laws.proofs.LinearLaws.{zarith, bal+, bal-}
 use Rattle.grid.specs.declared.Corner.{Corner}
-use Rattle.hull_laws.specs.Outline.{chainFrom, cutAt, spot, spotBack, colAt, skip, stop, upper}
-use Rattle.hull_laws.proofs.CornerLaws.{corner-eq, corner-dec}
+use Rattle.hull_laws.specs.Outline.{chainFrom, cutAt, spotBack, colAt, skip, stop, upper}
+use Rattle.column_laws.specs.Columns.{spot}
+use Rattle.hull_laws.proofs.CornerLaws.{corner-dec}
+use Rattle.grid.proofs.CornerLaws.{corner-eq}
 use Rattle.hull_laws.proofs.RoundLaws.{lastOf, behead, trim, round}
 use Rattle.hull_laws.proofs.SideLaws.{ne-x}
 use Rattle.hull_laws.proofs.ScanLaws.{chain-rest, chain-last}

@@ -9,12 +9,11 @@ use lib.ListN.{length}
 use lib.IntN.{ℤ, pos, _+ℤ_}
 use Rattle.int_laws.proofs.LinearLaws.{zarith, bal+, le-or-lt}
 use Rattle.grid.specs.declared.Corner.{Corner}
-use Rattle.grid.specs.Grid.{cornersFrom}
-use Rattle.hull.specs.Hull.{Begins, HullIs}
-use Rattle.hull_laws.specs.Columns.{colAfter, rowAfter, trail, westFrom, eastFrom}
-use Rattle.hull_laws.specs.Outline.{spot}
-use Rattle.hull_laws.proofs.OneLaws.{begins-both}
-use Rattle.hull_laws.proofs.TrailLaws.{Reaches, trail-corners, trail-column, trail-reaches, west-le, east-ge, width-le}
+use Rattle.grid.specs.Grid.{cornersFrom, Begins}
+use Rattle.hull.specs.Hull.{HullIs}
+use Rattle.column_laws.specs.Columns.{colAfter, rowAfter, trail, westFrom, eastFrom, spot}
+use Rattle.column_laws.proofs.BeginLaws.{begins-both}
+use Rattle.column_laws.proofs.TrailLaws.{Reaches, trail-corners, trail-column, trail-reaches, west-le, east-ge, width-le}
 use Rattle.hull_laws.proofs.HullLaws.{hull-exists}
 use Rattle.hull_laws.proofs.LineLaws.{InLine, Outermost, hull-of-line, row-in-line}
 

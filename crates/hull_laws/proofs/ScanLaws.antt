@@ -13,7 +13,8 @@ use Rattle.int_laws.proofs.LinearLaws.{zarith, bal-}
 use Rattle.int_laws.proofs.RingLaws.{E, v, _⊕_, _⊖_, _⊗_, ring}
 use Rattle.grid.specs.declared.Corner.{Corner}
 use Rattle.hull.specs.Hull.{cross}
-use Rattle.hull_laws.specs.Outline.{turnsAt, cutAt, chainFrom, spot}
+use Rattle.hull_laws.specs.Outline.{turnsAt, cutAt, chainFrom}
+use Rattle.column_laws.specs.Columns.{spot}
 use Rattle.hull_laws.proofs.ChainLaws.{turns, cut, chain}
 use Rattle.hull_laws.proofs.RoundLaws.{lastOf}
 use Rattle.hull_laws.proofs.SinkLaws.{upFrom, at}

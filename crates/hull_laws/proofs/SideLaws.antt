@@ -9,9 +9,9 @@ use Rattle.int_laws.proofs.LinearLaws.{zarith, le-or-lt, up-neg, dn-neg}
 use Rattle.int_laws.proofs.RingLaws.{v, k, _⊖_}
 use Rattle.int_laws.proofs.SignLaws.{h≤, eqt, by≤, _⊞_, _⊠_}
 use Rattle.grid.specs.declared.Corner.{Corner}
-use Rattle.hull.specs.Call.{numbers}
+use Rattle.grid.specs.Grid.{numbers, Begins}
 use Rattle.lists.specs.Lists.{Distinct}
-use Rattle.hull.specs.Hull.{Begins, Ccw, Exposed, HullIs, cross, AllLeft, LeftOfPath, Encloses, OnLeft}
+use Rattle.hull.specs.Hull.{Ccw, Exposed, HullIs, cross, AllLeft, LeftOfPath, Encloses, OnLeft}
 use Rattle.hull_laws.proofs.ChainLaws.{Chain, Ends, chain, chain-ok, chain-sub, cut, turns}
 use Rattle.hull_laws.proofs.CornerLaws.{on-same, O, X, Y, cr, corner-dec}
 use Rattle.hull_laws.proofs.ExposedLaws.{chain-exposed, cover}

@@ -13,8 +13,9 @@ use lib.IntN.{ℤ, pos, _+ℤ_}
 use lib.Signed.{_≤ℤ_, _<ℤ_}
 use Rattle.int_laws.proofs.LinearLaws.{zarith, bal+}
 use Rattle.grid.specs.declared.Corner.{Corner}
-use Rattle.hull_laws.specs.Columns.{sink, sinks}
-use Rattle.hull_laws.specs.Outline.{spot, colAt}
+use Rattle.hull_laws.specs.Lowest.{sink, sinks}
+use Rattle.hull_laws.specs.Outline.{colAt}
+use Rattle.column_laws.specs.Columns.{spot}
 use Rattle.hull_laws.proofs.ChainLaws.{Sorted}
 use Rattle.hull_laws.proofs.TurnedLaws.{Lows}
 

@@ -9,11 +9,11 @@ use lib.Signed.{_≤ℤ_, _<ℤ_}
 use Rattle.int_laws.proofs.LinearLaws.{zarith}
 use Rattle.int_laws.proofs.RingLaws.{E, v, _⊕_, _⊖_, _⊗_, ⊝, ring}
 use Rattle.grid.specs.declared.Corner.{Corner}
-use Rattle.hull.specs.Call.{numbers}
-use Rattle.hull.specs.Hull.{Begins, Exposed, cross, reach, OnLeft}
-use Rattle.grid.specs.Grid.{corner}
+use Rattle.hull.specs.Hull.{Exposed, cross, reach, OnLeft}
+use Rattle.grid.specs.Grid.{corner, numbers, Begins}
 use Rattle.hull_laws.proofs.ChainLaws.{Chain, Ends, Sorted}
-use Rattle.hull_laws.proofs.CornerLaws.{X, Y, cr, on-above, corner-eq}
+use Rattle.hull_laws.proofs.CornerLaws.{X, Y, cr, on-above}
+use Rattle.grid.proofs.CornerLaws.{corner-eq}
 
 -- ms is the lowest of P in each column of P, from left to right
 pub record Lows (P ms : List Corner) : Type 0 where

@@ -10,14 +10,16 @@ use Rattle.int_laws.proofs.LinearLaws.{zarith, bal+, bal-, up-neg, dn-neg}
 use Rattle.grid.specs.declared.Corner.{Corner}
 use Rattle.grid.specs.Grid.{cornersFrom}
 use Rattle.hull.specs.Hull.{HullIs, Encloses}
-use Rattle.hull_laws.specs.Columns.{trail, westFrom, eastFrom, sinks, countedFrom, halfTurned}
-use Rattle.hull_laws.specs.Outline.{chainFrom, spot, spotBack, colAt, upper, hullBy}
-use Rattle.hull_laws.proofs.CornerLaws.{corner-eq}
+use Rattle.column_laws.specs.Columns.{trail, westFrom, eastFrom, spot}
+use Rattle.hull_laws.specs.Lowest.{sinks, countedFrom, halfTurned}
+use Rattle.hull_laws.specs.Outline.{chainFrom, spotBack, colAt, upper, hullBy}
+use Rattle.grid.proofs.CornerLaws.{corner-eq}
 use Rattle.hull_laws.proofs.ChainLaws.{chain}
 use Rattle.hull_laws.proofs.TurnedLaws.{Lows, neg, negs}
 use Rattle.hull_laws.proofs.RoundLaws.{round}
 use Rattle.hull_laws.proofs.SideLaws.{hull-ok}
-use Rattle.hull_laws.proofs.TrailLaws.{trail-corners, trail-reaches, trail-column, Reaches, west-le, east-ge, spots-east, spots-halfTurned}
+use Rattle.column_laws.proofs.TrailLaws.{trail-corners, trail-reaches, trail-column, Reaches, west-le, east-ge}
+use Rattle.hull_laws.proofs.SpotLaws.{spots-east, spots-halfTurned}
 use Rattle.hull_laws.proofs.SinkLaws.{at, upFrom, cols-lows}
 use Rattle.hull_laws.proofs.ScanLaws.{chain-cols}
 use Rattle.hull_laws.proofs.OutlineLaws.{round-cols}

@@ -1,3 +1,3 @@
 -- The method by columns.
-pub mod Columns
+pub mod Lowest
 pub mod Outline

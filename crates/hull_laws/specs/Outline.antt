@@ -9,7 +9,8 @@ use lib.ListN.{length, getD, drop, replicate}
 use Rattle.lists.specs.Lists.{front}
 use Rattle.grid.specs.declared.Corner.{Corner}
 use Rattle.grid.specs.Grid.{corner}
-use Rattle.hull_laws.specs.Columns.{trail, westFrom, eastFrom, sinks, countedFrom, halfTurned}
+use Rattle.column_laws.specs.Columns.{spot, trail, westFrom, eastFrom}
+use Rattle.hull_laws.specs.Lowest.{sinks, countedFrom, halfTurned}
 
 -- columns p, b and a, from left to right, turn left at b
 unfoldable pub turnsAt : List ℕ → ℕ → ℕ → ℕ → Bool
@@ -37,11 +38,7 @@ unfoldable pub turnFrom : List ℕ → ℕ → ℕ
 turnFrom ys zero = zero
 turnFrom ys (suc i) = elim (turnsAt ys i (suc i) (suc (suc i))) [ true ↦ suc i | false ↦ turnFrom ys i ]
 
--- the corner at column and height v, where (0,0) stands for (x0,y0)
-abbrev pub spot : ℤ → ℤ → ℕ × ℕ → Corner
-spot x0 y0 v = corner (x0 +ℤ pos (v .0)) (y0 +ℤ pos (v .1))
-
--- the same, where columns are counted westward and heights downward
+-- the corner at column and height v, where (0,0) stands for (x1,y1), columns are counted westward and heights downward
 abbrev pub spotBack : ℤ → ℤ → ℕ × ℕ → Corner
 spotBack x1 y1 v = corner (x1 -ℤ pos (v .0)) (y1 -ℤ pos (v .1))
 

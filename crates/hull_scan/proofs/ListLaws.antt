@@ -1,57 +1,50 @@
 -- From the parts of the hull call to the whole.
 -- Assumes nothing.
-use mathlib.Core.Path.{_≡_, refl, sym, ap, ap₂, _∙_, subst}
-use mathlib.Core.Bool.{true}
+use mathlib.Core.Path.{_≡_, sym, ap, ap₂, _∙_, subst}
 use mathlib.Core.List.{List, map}
-use Prim.Native.Nat.{ℕ, suc, _+_, _-_, _≤_, _<_}
+use Prim.Native.Nat.{ℕ, suc, _+_, _*_, _-_, _≤_, _<_}
 use native.Mathlib.Omega.{arith}
 use native.Mathlib.Numerals.{add-one}
+use lib.Dec.{ltb}
 use lib.IntN.{ℤ, pos, _+ℤ_, _-ℤ_}
 use lib.ListN.{length, getD, replicate, getD-replicate, length-replicate}
 use Rattle.int_laws.proofs.LinearLaws.{zarith, bal+, bal-}
 use Rattle.grid.specs.declared.Corner.{Corner}
-use Rattle.grid.specs.Grid.{cornersFrom}
+use Rattle.grid.specs.Grid.{cornersFrom, numbers}
 use Rattle.answer.specs.declared.Judged.{Judged}
 use Rattle.answer.specs.declared.Judged.the-variants as judged
-use Rattle.answer.specs.declared.Refusal.{Refusal}
+use Rattle.answer.specs.declared.Refusal.the-variants.{HullRoom}
 use Rattle.answer.specs.declared.Counted.{Counted}
-use Rattle.answer.specs.Limits.{mostInput, mostSteps, startFits}
+use Rattle.answer.specs.Limits.{mostSteps}
+use Rattle.answer.specs.Refusal.{when}
+use Rattle.answer.specs.Listed.{countedOf, laidIf}
 use Rattle.hull.specs.Hull.{HullIs}
-use Rattle.hull.specs.Call.{chainJudged, hullRoomJudged, hullJudged, countedOf, bufferOf, HullCall}
-use Rattle.hull_laws.specs.Columns.{westFrom, eastFrom, trail, sinks, countedFrom, halfTurned}
-use Rattle.hull_laws.specs.Outline.{spot, hullBy}
-use Rattle.hull_laws.proofs.CornerLaws.{corner-eq}
-use Rattle.hull_laws.proofs.TrailLaws.{width-le, east-le, west-le, east-ge}
+use Rattle.steps.specs.Chain.{chainJudged, asWalkJudged}
+use Rattle.steps.proofs.ChainLaws.{good-digits, good-short}
+use Rattle.hull.specs.Call.{hullJudged, HullCall}
+use Rattle.column_laws.specs.Columns.{westFrom, eastFrom, trail, spot, middle, top}
+use Rattle.hull_laws.specs.Lowest.{sinks, countedFrom, halfTurned, blank}
+use Rattle.hull_laws.specs.Outline.{hullBy}
+use Rattle.grid.proofs.CornerLaws.{corner-eq}
+use Rattle.column_laws.proofs.TrailLaws.{width-le, east-le, west-le, east-ge}
 use Rattle.hull_laws.proofs.SinkLaws.{length-sinks}
-use Rattle.hull_laws.proofs.SurveyLaws.{good-digits, good-short}
 use Rattle.hull_laws.proofs.WalkLaws.{Room, columns-hull}
 use Rattle.hull_laws.proofs.CallLaws.{judged-room}
 use Rattle.hull_laws.proofs.RowLaws.{row-hull}
-use Rattle.hull_columns.specs.declared.Extent.{Extent}
 use Rattle.hull_chains.specs.Stack.{Scanned}
-use Rattle.hull_columns.specs.Extent.{extentBy, Spans}
+use Rattle.hull_columns.specs.declared.Extent.{Extent}
+use Rattle.hull_columns.specs.Extent.{extentOf, Spans}
 use Rattle.hull_corners.specs.Parts.{ListGiven, TwoChains, twoAt}
-use Rattle.hull_laws.specs.Columns.{middle, top, blank}
 use Rattle.hull_scan.specs.Store.{HullStore, Hulled}
 
--- what the survey tells
-pub extent-good : (j : Judged) (w e x y : ℕ) → extentBy j w e ≡ Extent.Within x y → (j ≡ judged.Good) × (x ≡ w) × (y ≡ e)
-extent-good judged.Good w e x y h = (refl, cc, cc)
-extent-good (judged.Refused r) w e x y h = let z : _≡_ {A = ℕ} 0 1 = cc in absurd (bad z)
-  where
-    bad : _≡_ {A = ℕ} 0 1 → ⊥
-    bad z = omega arith
-
-pub extent-refused : (j : Judged) (w e : ℕ) (r : Refusal) → extentBy j w e ≡ Extent.Refused r → j ≡ judged.Refused r
-extent-refused judged.Good w e r h = let z : _≡_ {A = ℕ} 0 1 = cc in absurd (bad z)
-  where
-    bad : _≡_ {A = ℕ} 0 1 → ⊥
-    bad z = omega arith
-extent-refused (judged.Refused q) w e r h = let i : q ≡ r = cc in ap judged.Refused i
-
 -- a walk that is not refused
-pub walked : (chain : List ℕ) (w e : ℕ) → chainJudged 0 chain ≡ judged.Good → w ≡ westFrom middle chain → e ≡ eastFrom middle chain → Spans chain w e
-walked chain w e g a b = record { digits = good-digits 0 chain g; short = omega (arith, good-short 0 chain (omega arith) g); west = a; east = b }
+pub walked : (chain : List ℕ) (e : Extent) → chainJudged 0 chain ≡ judged.Good → e ≡ extentOf chain → Spans chain (e .west) (e .east)
+walked chain e g q = record {
+  digits = good-digits 0 chain g;
+  short = omega (arith, good-short 0 chain (omega arith) g);
+  west = ap (λ (x : Extent). x .west) q;
+  east = ap (λ (x : Extent). x .east) q;
+}
 
 pub walked-order : {chain : List ℕ} {w e : ℕ} → Spans chain w e → w ≤ e
 walked-order {chain} {w} {e} h = omega (arith, h .west, h .east, west-le middle chain, east-ge middle chain)
@@ -150,13 +143,13 @@ module _ {chain : List ℕ} {w e : ℕ} {lo hi s t : List ℕ} (k : Spans chain 
       whole = subst (HullIs (cornersFrom c chain)) same at
 
 -- and where nothing else is refused that is the call
-pub call-listed : {s : Corner} {chain : List ℕ} {before after : List ℤ} {r : Counted} → length chain ≤ mostInput → startFits s ≡ true → chainJudged 0 chain ≡ judged.Good → Hulled s chain before r after → HullCall s chain before r after
-call-listed {s} {chain} {before} h f g k = record {
+pub call-listed : {s : Corner} {chain : List ℕ} {before after : List ℤ} {r : Counted} → asWalkJudged s chain ≡ judged.Good → Hulled s chain before r after → HullCall s chain before r after
+call-listed {s} {chain} {before} e k = record {
   list = k .list;
   hull = k .hull;
   answer = k .listed .answer ∙ sym (ap (λ (j : Judged). countedOf j (length (k .list))) same);
-  buffer = k .listed .buffer ∙ sym (ap (λ (j : Judged). bufferOf j (k .list) before) same);
+  buffer = k .listed .buffer ∙ sym (ap (λ (j : Judged). laidIf j (numbers (k .list)) before) same);
 }
   where
-    same : hullJudged s chain (length before) (length (k .list)) ≡ hullRoomJudged (length before) (length (k .list))
-    same = judged-room s chain (length before) (length (k .list)) h f g
+    same : hullJudged s chain (length before) (length (k .list)) ≡ when (ltb (length before) (2 * length (k .list))) HullRoom
+    same = judged-room s chain (length before) (length (k .list)) e

@@ -9,7 +9,7 @@ use Rattle.grid.specs.declared.Corner.{Corner}
 use Rattle.grid.specs.Grid.{cornersFrom}
 use Rattle.answer.specs.declared.Counted.{Counted}
 use Rattle.hull.specs.Hull.{HullIs}
-use Rattle.hull_laws.specs.Columns.{blank}
+use Rattle.hull_laws.specs.Lowest.{blank}
 use Rattle.hull_corners.specs.Parts.{ListGiven}
 
 -- the columns for which the small store has room: as many as 31 steps go through

@@ -1,25 +1,25 @@
 // Lists the convex hull of a walk's corners: the lowest and the highest corner of each column, a chain over each, and both as one
 // list. The upper chain is the lower one of the walk turned by half a turn.
 use answer::Counted;
+use answer::Judged;
 use answer::Limits;
-use answer::Refusal;
-use answer::start_fits;
+use chain_judge::judge;
+use columns::Columns;
 use grid::Corner;
 use hull_chains::scan;
-use hull_columns::Columns;
-use hull_columns::Extent;
 use hull_columns::fill;
 use hull_columns::survey;
 use hull_corners::ends;
 use hull_corners::finish;
 ghost use mathlib.Core.Path.{_≡_};
-ghost use mathlib.Core.Bool.{true};
 ghost use Prim.Native.Nat.{_-_, _<_};
 ghost use lib.ListN.{length};
+ghost use Rattle.answer.specs.declared.Judged.the-variants.{Good};
+ghost use Rattle.answer.specs.Limits.{Near};
+ghost use Rattle.steps.specs.Chain.{chainJudged};
+ghost use Rattle.column_laws.specs.Columns.{narrowSize, widerSize};
 ghost use Rattle.hull.specs.Call.{HullCall};
 ghost use Rattle.hull_columns.specs.Extent.{Spans};
-ghost use Rattle.answer.specs.Limits.{Near, startFits};
-ghost use Rattle.hull_laws.specs.Columns.{narrowSize, widerSize};
 ghost use Rattle.hull_scan.specs.Store.{smallSize, mediumSize, HullStore, Hulled};
 
 // The columns for which the small store has room, and the medium one.
@@ -161,10 +161,13 @@ fn list_widest(chain: &[u8], start: Corner, west: usize, east: usize, out: &mut 
 
 // The hull of the walk from start, with a store that is not much larger than it needs: to clear it takes time. A walk that goes through a
 // new column at each step is along one line, and needs none.
-fn list_from(chain: &[u8], start: Corner, west: usize, east: usize, out: &mut [i32]) -> Counted
-    requires { ⌜ Spans (now chain) west east × Near start ⌝ }
+fn list_from(chain: &[u8], start: Corner, out: &mut [i32]) -> Counted
+    requires { ⌜ (chainJudged 0 (now chain) ≡ Good) × Near start ⌝ }
     ensures { λ r. ⌜ Hulled start (now (chain .entry)) (now (out .entry)) r (now (out .exit)) ⌝ }
 {
+    let e = survey(chain);
+    let west = e.west;
+    let east = e.east;
     if west < east {
         if east - west == chain.len() {
             return ends(start, west, east, out);
@@ -187,42 +190,33 @@ fn list_from(chain: &[u8], start: Corner, west: usize, east: usize, out: &mut [i
 pub fn list(start: Corner, chain: &[u8], out: &mut [i32]) -> Counted
     ensures { λ r. ⌜ HullCall start (now (chain .entry)) (now (out .entry)) r (now (out .exit)) ⌝ }
 {
-    if chain.len() > Limits::MOST_INPUT {
-        return Counted::Refused(Refusal::TooMany);
-    }
-    if !start_fits(start) {
-        return Counted::Refused(Refusal::StartRange);
-    }
-    match survey(chain) {
-        Extent::Within(west, east) => list_from(chain, start, west, east, out),
-        Extent::Refused(r) => Counted::Refused(r),
+    match judge(start, chain) {
+        Judged::Good => list_from(chain, start, out),
+        Judged::Refused(r) => Counted::Refused(r),
     }
 }
 
 // The hull of a walk from start through at most 1,025 columns.
-fn list_short_from(
-    chain: &[u8],
-    start: Corner,
-    west: usize,
-    east: usize,
-    out: &mut [i32],
-) -> Counted
-    requires { ⌜ Spans (now chain) west east × Near start × (east - west < mediumSize) ⌝ }
+fn list_short_from(chain: &[u8], start: Corner, out: &mut [i32]) -> Counted
+    requires { ⌜ (chainJudged 0 (now chain) ≡ Good) × Near start × (length (now chain) < mediumSize) ⌝ }
     ensures { λ r. ⌜ Hulled start (now (chain .entry)) (now (out .entry)) r (now (out .exit)) ⌝ }
 {
+    let e = survey(chain);
+    let west = e.west;
+    let east = e.east;
     if east - west >= Columns::NARROW {
         return list_medium(chain, start, west, east, out);
     }
     list_narrow(chain, start, west, east, out)
 }
 
-// What `list` does, for at most 1,024 bytes and a start in range: no larger store is in its frame.
+// What `list` does, for at most 1,024 bytes: no larger store is in its frame.
 pub fn list_short(start: Corner, chain: &[u8], out: &mut [i32]) -> Counted
-    requires { ⌜ (startFits start ≡ true) × (length (now chain) < mediumSize) ⌝ }
+    requires { ⌜ length (now chain) < mediumSize ⌝ }
     ensures { λ r. ⌜ HullCall start (now (chain .entry)) (now (out .entry)) r (now (out .exit)) ⌝ }
 {
-    match survey(chain) {
-        Extent::Within(west, east) => list_short_from(chain, start, west, east, out),
-        Extent::Refused(r) => Counted::Refused(r),
+    match judge(start, chain) {
+        Judged::Good => list_short_from(chain, start, out),
+        Judged::Refused(r) => Counted::Refused(r),
     }
 }

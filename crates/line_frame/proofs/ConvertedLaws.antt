@@ -13,13 +13,14 @@ use Rattle.answer.specs.declared.Judged.the-variants.{Good, Refused}
 use Rattle.steps.specs.Turns.{stepsOf, turnsJudged, writtenIf}
 use Rattle.steps.proofs.TurnLaws.{stepsOf-below, length-stepsOf}
 use Rattle.steps.proofs.TurnPromiseLaws.{turnsJudged-good, good-turnsJudged}
+use Rattle.steps.specs.Operations.{survivors}
 use Rattle.line_frame.specs.declared.Kind.the-variants.{Operations, Turns}
 use Rattle.line_frame.specs.declared.Frame.{Frame}
 use Rattle.line_frame.specs.declared.Frame.the-variants.{Of, Bad}
 use Rattle.line_frame.specs.Sizes.{headDigits, mostDigits, mostLine}
 use Rattle.line_frame.specs.Hex.{isHex, allHex}
-use Rattle.line_frame.specs.Line.{frameOf, digitsOf, lineAnswer}
-use Rattle.line_frame.specs.Spelled.{walkedLine}
+use Rattle.line_frame.specs.Line.{frameOf, digitsOf, kindWalked, lineAnswer}
+use Rattle.line_frame.specs.Spelled.{answerLine}
 use Rattle.line_frame.specs.Program.{outputFrom, feedsIn}
 use Rattle.line_frame.specs.Converted.{stepsFrame, convertedBy, Turned, convertedLine, converted, converter}
 use Rattle.line_frame.proofs.HexLaws.{isHex-range}
@@ -109,10 +110,10 @@ module _ (s : List ℕ) (t : Turned s) where
   converted-digits = ap digitsOf (converted-turned s t) ∙ digits-framed 0 (omega arith) (stepsOf (digitsOf s)) steps-digits
 
   -- converted, it is answered as they are
-  pub converted-answer : lineAnswer (convertedLine s) ≡ walkedLine (stepsOf (digitsOf s))
+  pub converted-answer : lineAnswer (convertedLine s) ≡ answerLine (kindWalked Operations (stepsOf (digitsOf s))) (survivors (stepsOf (digitsOf s)))
   converted-answer =
       sym (lineAnswer-by (convertedLine s) (Of Operations (length (stepsOf (digitsOf s)))) converted-frame)
-      ∙ ap walkedLine converted-digits
+      ∙ ap (λ (ds : List ℕ). answerLine (kindWalked Operations ds) (survivors ds)) converted-digits
 
   turned-length : length (convertedLine s) ≡ length s
   turned-length =

@@ -8,7 +8,7 @@ use Rattle.answer.specs.Words.{bitsOf}
 use Rattle.line_frame.specs.declared.Kind.the-variants.{Operations, Turns}
 use Rattle.line_frame.specs.declared.Frame.the-variants.{Of, Bad}
 use Rattle.line_frame.specs.Hex.{allHex, valuesOf, numberFrom, hexOf}
-use Rattle.line_frame.specs.Line.{frameOf, digitsOf, lineAnswer}
+use Rattle.line_frame.specs.Line.{frameOf, digitsOf, lineWalked, lineAnswer}
 use Rattle.line_frame.specs.Program.{outputFrom, program}
 use Rattle.line_frame.proofs.Bytes.{bytesOf}
 
@@ -54,7 +54,7 @@ unfolding frameOf allHex numberFrom bytesOf
 carriage-return = refl
 
 pub ninth-refusal : lineAnswer [] ≡ bytesOf "8900000000"
-unfolding lineAnswer frameOf allHex numberFrom hexOf bytesOf
+unfolding lineAnswer lineWalked frameOf allHex numberFrom hexOf bytesOf
 ninth-refusal = refl
 
 -- two's complement, in four digits and in eight

@@ -9,17 +9,19 @@ use borrow.Author.Tests.{leb-true, eqb-true, ne-eqb, le-ltb, lt-leb, lt-ltb, le-
 use lib.ListN.{length, drop, length-drop}
 use lib.Dec.{leb, ltb, eqb}
 use Rattle.answer.specs.declared.Refusal.the-variants.{BadLine, RetiredKind}
+use Rattle.steps.specs.Operations.{survivors}
+use Rattle.steps.proofs.SurvivorLaws.{length-survivors}
 use Rattle.line_frame.specs.declared.Kind.{Kind}
-use Rattle.line_frame.specs.declared.Kind.the-variants.{Operations, Turns}
+use Rattle.line_frame.specs.declared.Kind.the-variants.{Turns}
 use Rattle.line_frame.specs.declared.Frame.{Frame}
 use Rattle.line_frame.specs.declared.Frame.the-variants.{Of, Bad}
 use Rattle.line_frame.specs.Sizes.{headDigits, mostDigits, mostLine, mostAnswer}
 use Rattle.line_frame.specs.Hex.{allHex, pairAt, numberFrom}
-use Rattle.line_frame.specs.Line.{frameOf, kindNamed, isFrame, kindOf, countOf, digitsOf, digitsAnswer, answerOf, lineAnswer}
-use Rattle.line_frame.specs.Spelled.{refusedLine}
+use Rattle.line_frame.specs.Line.{frameOf, kindNamed, isFrame, kindOf, countOf, digitsOf, kindWalked, frameWalked, lineWalked, lineAnswer}
+use Rattle.line_frame.specs.Spelled.{refusedLine, answerLine}
 use Rattle.line_frame.specs.Program.{feedsIn}
 use Rattle.line_frame.proofs.HexLaws.{length-valuesOf}
-use Rattle.line_frame.proofs.SpelledLaws.{length-refusedLine, walkedLine-most, refusedLine-feeds, walkedLine-feeds}
+use Rattle.line_frame.proofs.SpelledLaws.{length-refusedLine, answerLine-most, answerLine-feeds}
 
 -- of four tests that pass, the last two
 last-two : (a b c d : Bool) → a && b && c && d ≡ true → (c ≡ true) × (d ≡ true)
@@ -46,8 +48,8 @@ frameOf-long s h = go (isFrame s) refl
 
 -- so is its answer
 pub lineAnswer-long : (s : List ℕ) → mostLine < length s → lineAnswer s ≡ refusedLine BadLine
-unfolding lineAnswer
-lineAnswer-long s h = ap (λ (f : Frame). answerOf f (digitsOf s)) (frameOf-long s h)
+unfolding lineAnswer lineWalked
+lineAnswer-long s h = ap (λ (f : Frame). answerLine (frameWalked f (digitsOf s)) (survivors (digitsOf s))) (frameOf-long s h)
 
 -- the first bytes of a line that has six
 pub kindOf-six : (s : List ℕ) → headDigits ≤ length s → kindOf s ≡ pairAt s 0
@@ -130,9 +132,9 @@ unfolding frameOf
 frame-good s k n e = has-good s k n (isFrame s) refl e
 
 -- the answer by the frame
-pub lineAnswer-by : (s : List ℕ) (f : Frame) → frameOf s ≡ f → answerOf f (digitsOf s) ≡ lineAnswer s
-unfolding lineAnswer
-lineAnswer-by s f e = sym (ap (λ (g : Frame). answerOf g (digitsOf s)) e)
+pub lineAnswer-by : (s : List ℕ) (f : Frame) → frameOf s ≡ f → answerLine (frameWalked f (digitsOf s)) (survivors (digitsOf s)) ≡ lineAnswer s
+unfolding lineAnswer lineWalked
+lineAnswer-by s f e = sym (ap (λ (g : Frame). answerLine (frameWalked g (digitsOf s)) (survivors (digitsOf s))) e)
 
 -- a frame of kind 01 is retired, whatever its digits are
 pub lineAnswer-turns : (s : List ℕ) (n : ℕ) → frameOf s ≡ Of Turns n → lineAnswer s ≡ refusedLine RetiredKind
@@ -142,26 +144,17 @@ pub length-digitsOf : (s : List ℕ) (n : ℕ) → length s ≡ headDigits + n �
 length-digitsOf s n e = omega (arith, length-valuesOf (drop headDigits s), length-drop headDigits s)
 
 -- an answer, with its line feed, is not longer than the limit
-digitsAnswer-most : (k : Kind) (ds : List ℕ) → length ds ≤ mostDigits → length (digitsAnswer k ds) + 1 ≤ mostAnswer
-digitsAnswer-most Operations ds h = walkedLine-most ds h
-digitsAnswer-most Turns ds h = omega (arith, length-refusedLine RetiredKind)
-
-answerOf-most : (s : List ℕ) (f : Frame) → frameOf s ≡ f → length (answerOf f (digitsOf s)) + 1 ≤ mostAnswer
-answerOf-most s (Of k n) e =
+walked-most : (s : List ℕ) (f : Frame) → frameOf s ≡ f → length (answerLine (frameWalked f (digitsOf s)) (survivors (digitsOf s))) + 1 ≤ mostAnswer
+walked-most s (Of k n) e =
     let g = frame-good s k n e in
-    digitsAnswer-most k (digitsOf s) (omega (arith, length-digitsOf s n (g .size), g .most))
-answerOf-most s Bad e = omega (arith, length-refusedLine BadLine)
+    answerLine-most (kindWalked k (digitsOf s)) (survivors (digitsOf s)) (omega (arith, length-survivors [] (digitsOf s), length-digitsOf s n (g .size), g .most))
+walked-most s Bad e = omega (arith, length-refusedLine BadLine)
 
 pub lineAnswer-most : (s : List ℕ) → length (lineAnswer s) + 1 ≤ mostAnswer
-unfolding lineAnswer
-lineAnswer-most s = answerOf-most s (frameOf s) refl
+unfolding lineAnswer lineWalked
+lineAnswer-most s = walked-most s (frameOf s) refl
 
 -- and it is one line
-answerOf-feeds : (f : Frame) (ds : List ℕ) → feedsIn (answerOf f ds) ≡ 0
-answerOf-feeds (Of Operations n) ds = walkedLine-feeds ds
-answerOf-feeds (Of Turns n) ds = refusedLine-feeds RetiredKind
-answerOf-feeds Bad ds = refusedLine-feeds BadLine
-
 pub lineAnswer-feeds : (s : List ℕ) → feedsIn (lineAnswer s) ≡ 0
 unfolding lineAnswer
-lineAnswer-feeds s = answerOf-feeds (frameOf s) (digitsOf s)
+lineAnswer-feeds s = answerLine-feeds (lineWalked s) (survivors (digitsOf s))

@@ -12,20 +12,15 @@ use Rattle.answer.specs.declared.Answer.{Answer}
 use Rattle.answer.specs.Refusal.{refusalNumber, refusalPlace, verdictNumber}
 use Rattle.answer.specs.Words.{bitsOf}
 use Rattle.grid.specs.declared.Corner.{Corner}
-use Rattle.grid.specs.Grid.{origin}
-use Rattle.steps.specs.Operations.{survivors}
-use Rattle.steps.proofs.SurvivorLaws.{length-survivors}
-use Rattle.layout.specs.Marks.{markWords}
-use Rattle.walk_call.specs.Walk.{walkAnswer}
-use Rattle.hull.specs.Call.{numbers}
+use Rattle.grid.specs.Grid.{origin, numbers}
 use Rattle.hull_laws.specs.Outline.{hullOf}
 use Rattle.hull_laws.proofs.HullLaws.{length-hullOf}
 use Rattle.hull_laws.proofs.JoinLaws.{length-numbers}
 use Rattle.answer.specs.declared.Answer.the-variants as walked
-use Rattle.line_frame.specs.Sizes.{mostDigits, tableWords, refusedDigits, factsDigits, mostAnswer}
+use Rattle.line_frame.specs.Sizes.{mostDigits, refusedDigits, factsDigits, mostAnswer}
 use Rattle.line_frame.specs.Hex.{hexOf}
 use Rattle.line_frame.specs.Program.{feedsIn}
-use Rattle.line_frame.specs.Spelled.{refusedLine, factsLine, numbersLine, hullLine, answerLine, walkedLine}
+use Rattle.line_frame.specs.Spelled.{refusedLine, factsLine, numbersLine, hullLine, answerLine}
 use Rattle.line_frame.proofs.HexLaws.{length-hexOf, none-append, field-feeds}
 
 pub length-refusedLine : (r : Refusal) → length (refusedLine r) ≡ refusedDigits
@@ -47,14 +42,9 @@ length-hullLine cs =
 pub length-accepted : (f : Facts) (w : List ℕ) → length (answerLine (walked.Accepted f) w) ≡ factsDigits + 4 + 8 * length (hullOf origin w)
 length-accepted f w = omega (arith, length-append (factsLine f) (hullLine (hullOf origin w)), length-factsLine f, length-hullLine (hullOf origin w))
 
-answerLine-most : (a : Answer) (w : List ℕ) → length w ≤ mostDigits → length (answerLine a w) + 1 ≤ mostAnswer
+pub answerLine-most : (a : Answer) (w : List ℕ) → length w ≤ mostDigits → length (answerLine a w) + 1 ≤ mostAnswer
 answerLine-most (walked.Accepted f) w h = omega (arith, length-accepted f w, length-hullOf origin w)
 answerLine-most (walked.Refused r) w h = omega (arith, length-refusedLine r)
-
-pub walkedLine-most : (os : List ℕ) → length os ≤ mostDigits → length (walkedLine os) + 1 ≤ mostAnswer
-unfolding walkedLine
-walkedLine-most os h =
-    answerLine-most (walkAnswer origin os tableWords (markWords * length os) (length os)) (survivors os) (omega (arith, length-survivors [] os))
 
 -- ---- no line feed
 field-more : (l : List ℕ) (n v : ℕ) → feedsIn l ≡ 0 → feedsIn (l ++ hexOf n v) ≡ 0
@@ -79,12 +69,8 @@ unfolding numbersLine
 numbersLine-feeds [] = refl
 numbersLine-feeds (z ∷ zs) = none-append (hexOf 4 (bitsOf z)) (numbersLine zs) (field-feeds 4 (bitsOf z)) (numbersLine-feeds zs)
 
-answerLine-feeds : (a : Answer) (w : List ℕ) → feedsIn (answerLine a w) ≡ 0
+pub answerLine-feeds : (a : Answer) (w : List ℕ) → feedsIn (answerLine a w) ≡ 0
 answerLine-feeds (walked.Accepted f) w =
     let L = hullOf origin w in
     none-append (factsLine f) (hullLine L) (factsLine-feeds f) (none-append (hexOf 4 (length L)) (numbersLine (numbers L)) (field-feeds 4 (length L)) (numbersLine-feeds (numbers L)))
 answerLine-feeds (walked.Refused r) w = refusedLine-feeds r
-
-pub walkedLine-feeds : (os : List ℕ) → feedsIn (walkedLine os) ≡ 0
-unfolding walkedLine
-walkedLine-feeds os = answerLine-feeds (walkAnswer origin os tableWords (markWords * length os) (length os)) (survivors os)

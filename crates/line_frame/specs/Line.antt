@@ -1,8 +1,12 @@
 -- One line: the frame that it is, and its answer without the line feed (RULES 7.2, 7.5). Assumes nothing.
-use Rattle.lists.specs.Lists.{Bool, cond, _&&_, List, length, take, drop, ℕ, zero, suc, _+_, eqb, ltb, leb}
-use Rattle.answer.specs.declared.Refusal.the-variants.{BadLine, RetiredKind}
+use Rattle.lists.specs.Lists.{Bool, cond, _&&_, List, length, take, drop, ℕ, zero, suc, _+_, _*_, eqb, ltb, leb}
+use Rattle.grid.specs.Grid.{origin}
+use Rattle.answer.specs.declared.{Refusal.the-variants.BadLine, Refusal.the-variants.RetiredKind, Answer.Answer}
+use Rattle.steps.specs.Operations.{survivors}
+use Rattle.layout.specs.Marks.{markWords}
+use Rattle.walk_call.specs.Walk.{walkAnswer}
 use Rattle.line_frame.specs.declared.{Kind.Kind, Kind.the-variants.Operations, Kind.the-variants.Turns, Frame.Frame, Frame.the-variants.Of, Frame.the-variants.Bad}
-use Rattle.line_frame.specs.{Sizes.headDigits, Sizes.mostDigits, Hex.allHex, Hex.valuesOf, Hex.numberFrom, Spelled.walkedLine, Spelled.refusedLine}
+use Rattle.line_frame.specs.{Sizes.headDigits, Sizes.mostDigits, Sizes.tableWords, Hex.allHex, Hex.valuesOf, Hex.numberFrom, Spelled.answerLine}
 
 -- the first two digits
 abbrev pub kindOf : List ℕ → ℕ
@@ -29,16 +33,21 @@ frameOf s = cond (isFrame s) (Of (kindNamed (kindOf s)) (countOf s)) Bad
 abbrev pub digitsOf : List ℕ → List ℕ
 digitsOf s = valuesOf (drop headDigits s)
 
--- operations are walked; turns are retired, whatever their digits are: refusal 19
-abbrev pub digitsAnswer : Kind → List ℕ → List ℕ
-digitsAnswer Operations ds = walkedLine ds
-digitsAnswer Turns ds = refusedLine RetiredKind
+-- operations are walked in the program's table, with marks and a chain of the lengths that the walk asks for; turns are retired,
+-- whatever their digits are: refusal 19
+abbrev pub kindWalked : Kind → List ℕ → Answer
+kindWalked Operations os = walkAnswer origin os tableWords (markWords * length os) (length os)
+kindWalked Turns ds = Answer.Refused RetiredKind
 
--- the answer to a frame with these digits; to anything else, refusal 9
-abbrev pub answerOf : Frame → List ℕ → List ℕ
-answerOf (Of k n) ds = digitsAnswer k ds
-answerOf Bad ds = refusedLine BadLine
+-- a line that is not a frame is refused: refusal 9
+abbrev pub frameWalked : Frame → List ℕ → Answer
+frameWalked (Of k n) ds = kindWalked k ds
+frameWalked Bad ds = Answer.Refused BadLine
 
--- the answer to a line
+-- the answer to the walk of a line
+unfoldable pub lineWalked : List ℕ → Answer
+lineWalked s = frameWalked (frameOf s) (digitsOf s)
+
+-- the answer to a line: that, and the hull of the surviving steps if the walk is accepted
 unfoldable pub lineAnswer : List ℕ → List ℕ
-lineAnswer s = answerOf (frameOf s) (digitsOf s)
+lineAnswer s = answerLine (lineWalked s) (survivors (digitsOf s))

@@ -1,14 +1,10 @@
 -- The answer to a good frame, without the line feed (RULES 7.3 to 7.5). Assumes nothing.
-use Rattle.lists.specs.Lists.{List, [], _∷_, _++_, length, ℕ, _+_, _*_, ℤ}
+use Rattle.lists.specs.Lists.{List, [], _∷_, _++_, length, ℕ, _+_, ℤ}
 use Rattle.answer.specs.declared.{Refusal.Refusal, Facts.Facts, Answer.Answer}
 use Rattle.answer.specs.{Refusal.refusalNumber, Refusal.refusalPlace, Refusal.verdictNumber, Words.bitsOf}
-use Rattle.grid.specs.{declared.Corner.Corner, Grid.origin}
-use Rattle.steps.specs.Operations.{survivors}
-use Rattle.layout.specs.Marks.{markWords}
-use Rattle.walk_call.specs.Walk.{walkAnswer}
-use Rattle.hull.specs.Call.{numbers}
+use Rattle.grid.specs.{declared.Corner.Corner, Grid.origin, Grid.numbers}
 use Rattle.hull_laws.specs.Outline.{hullOf}
-use Rattle.line_frame.specs.{Sizes.tableWords, Hex.hexOf}
+use Rattle.line_frame.specs.Hex.{hexOf}
 
 -- refused: hexadecimal 80 plus the number, then the place in 8 digits
 abbrev pub refusedLine : Refusal → List ℕ
@@ -38,7 +34,3 @@ hullLine cs = hexOf 4 (length cs) ++ numbersLine (numbers cs)
 abbrev pub answerLine : Answer → List ℕ → List ℕ
 answerLine (Answer.Accepted f) w = factsLine f ++ hullLine (hullOf origin w)
 answerLine (Answer.Refused r) w = refusedLine r
-
--- operations are walked in the program's table, with marks and a chain of the lengths that the walk asks for
-unfoldable pub walkedLine : List ℕ → List ℕ
-walkedLine os = answerLine (walkAnswer origin os tableWords (markWords * length os) (length os)) (survivors os)

@@ -1,24 +1,26 @@
 -- The hull of a frame's steps is never refused, and its list is the one that the answer spells.
 -- Assumes nothing.
 use mathlib.Core.Path.{_≡_, refl, ap, _∙_, subst}
-use mathlib.Core.List.{List, [], _∷_, _++_, append-assoc}
-use Prim.Native.Nat.{ℕ, suc, _+_, _*_, _≤_}
+use mathlib.Core.List.{List, _++_, append-assoc}
+use Prim.Native.Nat.{ℕ, _+_, _*_, _≤_}
 use native.Mathlib.Omega.{arith}
-use borrow.Author.Tests.{le-ltb, ne-eqb}
 use lib.IntN.{ℤ}
 use lib.ListN.{length, take, drop, length-append}
 use lib.Seq.{take-at}
 use Rattle.lists.specs.Lists.{Below}
 use Rattle.grid.specs.declared.Corner.{Corner}
-use Rattle.grid.specs.Grid.{origin, cornersFrom}
+use Rattle.grid.specs.Grid.{origin, cornersFrom, numbers}
 use Rattle.answer.specs.declared.Judged.{Judged}
 use Rattle.answer.specs.declared.Counted.{Counted}
 use Rattle.answer.specs.declared.Refusal.{Refusal}
-use Rattle.hull.specs.Call.{chainJudged, hullJudged, countedOf, numbers, bufferOf, HullCall}
+use Rattle.hull.specs.Call.{hullJudged, HullCall}
+use Rattle.steps.proofs.ChainLaws.{walk-good}
+use Rattle.answer.specs.Listed.{countedOf, laidIf}
 use Rattle.hull_laws.specs.Outline.{hullOf}
 use Rattle.hull_laws.proofs.OneLaws.{hullIs-one}
 use Rattle.hull_laws.proofs.HullLaws.{hullOf-hull, length-hullOf}
 use Rattle.hull_laws.proofs.JoinLaws.{length-numbers}
+use Rattle.hull_laws.proofs.CallLaws.{judged-room, room-enough}
 use Rattle.line_frame.specs.Sizes.{mostDigits, mostCorners, hullNumbers, factsDigits, mostAnswer}
 use Rattle.line_frame.specs.Hex.{hexOf}
 use Rattle.line_frame.specs.Spelled.{numbersLine, hullLine}
@@ -28,17 +30,11 @@ use Rattle.line_fields.proofs.PutLaws.{wrote-append}
 use Rattle.line_frame.proofs.SpelledLaws.{length-numbersLine}
 use Rattle.answer.specs.declared.Judged.the-variants as judged
 use Rattle.answer.specs.declared.Counted.the-variants as counted
-use Rattle.answer.specs.Limits.{mostInput, mostSteps}
 use Rattle.line_reply.specs.Reply.{HoldsCorners}
-
-steps-none : (i : ℕ) (w : List ℕ) → Below 4 w → i + length w ≤ mostSteps → chainJudged i w ≡ judged.Good
-steps-none i [] b h = refl
-steps-none i (d ∷ w) b h =
-    rw (le-ltb 3 d (omega (arith, b .0)), ne-eqb i mostSteps (λ e. omega arith)) (steps-none (suc i) w (b .1) (omega arith))
 
 hull-good : (w : List ℕ) (room n : ℕ) → Below 4 w → length w ≤ mostDigits → 2 * n ≤ room → hullJudged origin w room n ≡ judged.Good
 hull-good w room n b h r =
-    rw (le-ltb mostInput (length w) (omega arith), steps-none 0 w b (omega arith), le-ltb room (2 * n) r)
+    judged-room origin w room n (walk-good origin w refl (record { digits = b; few = omega arith })) ∙ room-enough room n r
 
 module _ {w : List ℕ} {before after : List ℤ} {r : Counted} (h : HullCall origin w before r after) (b : Below 4 w) (m : length w ≤ mostDigits) (room : length before ≡ hullNumbers) where
   one : h .list ≡ hullOf origin w
@@ -59,8 +55,8 @@ module _ {w : List ℕ} {before after : List ℤ} {r : Counted} (h : HullCall or
       record {
         count = k ∙ ap length one;
         buffer =
-            ap (take (2 * n)) (h .buffer ∙ ap (λ (j : Judged). bufferOf j (h .list) before) good)
-            ∙ take-at (numbers (h .list)) (drop (2 * length (h .list)) before) (2 * n) (omega (arith, length-numbers (h .list)))
+            ap (take (2 * n)) (h .buffer ∙ ap (λ (j : Judged). laidIf j (numbers (h .list)) before) good)
+            ∙ take-at (numbers (h .list)) (drop (length (numbers (h .list))) before) (2 * n) (omega (arith, length-numbers (h .list)))
             ∙ ap numbers one;
       }
 

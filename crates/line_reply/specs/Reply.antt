@@ -1,7 +1,7 @@
 -- What the calls for one line take and leave. Assumes nothing.
 use Rattle.lists.specs.Lists.{_≡_, cond, List, length, take, ℕ, _*_, leb, ℤ}
 use Rattle.grid.specs.declared.Corner.{Corner}
-use Rattle.hull.specs.Call.{numbers}
+use Rattle.grid.specs.Grid.{numbers}
 use Rattle.line_frame.specs.{Sizes.marksWords, Sizes.hullNumbers, Sizes.mostAnswer, Line.lineAnswer}
 use Rattle.line_fields.specs.Put.{put}
 use Rattle.line_walk.specs.Walk.{Clear}

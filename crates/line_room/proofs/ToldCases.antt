@@ -2,11 +2,10 @@
 -- Assumes nothing.
 use mathlib.Core.Path.{_≡_, refl}
 use Rattle.line_frame.specs.Hex.{allHex, valuesOf, numberFrom, hexOf}
-use Rattle.line_frame.specs.Line.{frameOf}
+use Rattle.line_frame.specs.Line.{frameOf, lineWalked}
 use Rattle.line_frame.specs.Program.{outputFrom}
 use Rattle.line_frame.specs.Spelled.{numbersLine}
 use Rattle.line_frame.proofs.Bytes.{bytesOf}
-use Rattle.line_room.specs.Walked.{lineWalked}
 use Rattle.line_room.specs.Told.{spansTold, rowsTold, rowsProgram}
 
 -- the input of RULES 14.8, and its output

@@ -5,8 +5,7 @@ use mathlib.Core.Bool.{Bool, true, false, not}
 use mathlib.Core.List.{List, [], _∷_, _++_}
 use Prim.Native.Nat.{ℕ, zero, suc, _+_, _*_, _<_, _≤_}
 use native.Mathlib.Omega.{arith}
-use lib.ListN.{length, getD, length-append}
-use Rattle.lists.specs.Lists.{Below}
+use lib.ListN.{length, length-append}
 use Rattle.grid.specs.declared.Corner.{Corner}
 use Rattle.grid.specs.Grid.{origin, stepped}
 use Rattle.answer.specs.declared.{Facts.Facts, Answer.Answer, Judged.Judged, Judged.the-variants.Good, Judged.the-variants.Refused, Refusal.Refusal, Refusal.the-variants.BadLine, Refusal.the-variants.NotRoom}
@@ -14,7 +13,7 @@ use Rattle.answer.specs.Refusal.{when}
 use Rattle.steps.specs.Operations.{survivors}
 use Rattle.steps.proofs.SurvivorLaws.{length-survivors}
 use Rattle.trace.specs.Verdict.{IsRoom}
-use Rattle.hull_laws.proofs.SurveyLaws.{no-fault}
+use Rattle.steps.proofs.ChainLaws.{walk-good}
 use Rattle.room.specs.Room.{isRoom, asRoomJudged}
 use Rattle.room.proofs.RoomLaws.{isRoom-exactly, judged-room, good-room}
 use Rattle.panels.specs.Inside.{Inside}
@@ -23,11 +22,10 @@ use Rattle.row_laws.specs.Feet.{rowsOf}
 use Rattle.row_laws.proofs.{RoomLaws.feetFrom, RowLaws.rowsIs-rowsOf, SortedLaws.room-count}
 use Rattle.line_frame.specs.declared.{Frame.Frame, Frame.the-variants.Of, Frame.the-variants.Bad}
 use Rattle.line_frame.specs.Sizes.{mostDigits, mostLine}
-use Rattle.line_frame.specs.Line.{frameOf, digitsOf, lineAnswer}
+use Rattle.line_frame.specs.Line.{frameOf, digitsOf, lineAnswer, lineWalked}
 use Rattle.line_frame.specs.Spelled.{refusedLine, numbersLine}
 use Rattle.line_frame.proofs.LineLaws.{frame-good, length-digitsOf}
 use Rattle.line_frame.proofs.SpelledLaws.{length-refusedLine, length-numbersLine}
-use Rattle.line_room.specs.Walked.{lineWalked}
 use Rattle.line_room.specs.Told.{spansTold, refusedTold, roomTold, walkTold, rowsTold, mostRows}
 use Rattle.line_room.proofs.WalkedLaws.{lineWalked-by, lineWalked-long, lineAnswer-walked, line-sound}
 
@@ -92,14 +90,8 @@ module _ (s : List ℕ) (f : Facts) (e : lineWalked s ≡ Answer.Accepted f) whe
 
   told-by : (b : Bool) → isRoom origin left ≡ b → rowsTold s ≡ roomTold (when (not b) NotRoom) left
   told-by b h =
-      let w = line-sound s f e in
       sym (rowsTold-by s (Answer.Accepted f) e)
-      ∙ ap (λ (j : Judged). roomTold j left) (judged-room origin left (omega (arith, w .few)) refl (no-fault 0 left (omega (arith, w .few)) (below left (w .digits))) ∙ ap (λ (c : Bool). when (not c) NotRoom) h)
-    where
-      below : (ds : List ℕ) → Below 4 ds → (k : ℕ) → getD ds k 0 ≤ 3
-      below [] b k = omega arith
-      below (d ∷ ds) b zero = omega (arith, b .0)
-      below (d ∷ ds) b (suc k) = below ds (b .1) k
+      ∙ ap (λ (j : Judged). roomTold j left) (judged-room origin left (walk-good origin left refl (line-sound s f e)) ∙ ap (λ (c : Bool). when (not c) NotRoom) h)
 
   -- its spans are the list of the panels inside it
   pub room-told : IsRoom origin left → (L : List Span) → RowsIs (Inside origin left) L → rowsTold s ≡ spansTold L

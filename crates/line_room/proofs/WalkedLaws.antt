@@ -1,6 +1,6 @@
 -- The walk of a line: what it answers by the line's frame, that the line program's answer is made of it, and what an accepted walk is.
 -- Assumes nothing.
-use mathlib.Core.Path.{_≡_, refl, sym, ap, _∙_}
+use mathlib.Core.Path.{_≡_, refl, sym, ap}
 use mathlib.Core.List.{List, []}
 use Prim.Native.Nat.{ℕ, _*_, _<_}
 use native.Mathlib.Omega.{arith}
@@ -18,10 +18,9 @@ use Rattle.walk_call.proofs.JudgedLaws.{walk-fits}
 use Rattle.line_frame.specs.declared.Frame.{Frame, the-variants.Of, the-variants.Bad}
 use Rattle.line_frame.specs.declared.Kind.the-variants.{Operations, Turns}
 use Rattle.line_frame.specs.Sizes.{mostLine, tableWords}
-use Rattle.line_frame.specs.Line.{frameOf, digitsOf, answerOf, lineAnswer}
-use Rattle.line_frame.specs.Spelled.{answerLine, walkedLine}
+use Rattle.line_frame.specs.Line.{frameOf, digitsOf, lineAnswer, frameWalked, lineWalked}
+use Rattle.line_frame.specs.Spelled.{answerLine}
 use Rattle.line_frame.proofs.LineLaws.{frameOf-long}
-use Rattle.line_room.specs.Walked.{frameWalked, lineWalked}
 
 -- by the frame
 pub lineWalked-by : (s : List ℕ) (f : Frame) → frameOf s ≡ f → frameWalked f (digitsOf s) ≡ lineWalked s
@@ -33,15 +32,9 @@ pub lineWalked-long : (s : List ℕ) → mostLine < length s → lineWalked s �
 lineWalked-long s h = sym (lineWalked-by s Bad (frameOf-long s h))
 
 -- the line program answers by the walk and the surviving steps
-answered-by : (f : Frame) (ds : List ℕ) → answerLine (frameWalked f ds) (survivors ds) ≡ answerOf f ds
-unfolding walkedLine
-answered-by (Of Operations n) ds = refl
-answered-by (Of Turns n) ds = refl
-answered-by Bad ds = refl
-
 pub lineAnswer-walked : (s : List ℕ) (a : Answer) → lineWalked s ≡ a → answerLine a (survivors (digitsOf s)) ≡ lineAnswer s
-unfolding lineWalked lineAnswer
-lineAnswer-walked s a e = ap (λ (b : Answer). answerLine b (survivors (digitsOf s))) (sym e) ∙ answered-by (frameOf s) (digitsOf s)
+unfolding lineAnswer
+lineAnswer-walked s a e = ap (λ (b : Answer). answerLine b (survivors (digitsOf s))) (sym e)
 
 -- an answer that accepts was judged good
 by-good : (j : Judged) (f g : Facts) → answerBy j g ≡ Answer.Accepted f → (j ≡ Good) × (g ≡ f)

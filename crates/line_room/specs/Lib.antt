@@ -1,3 +1,2 @@
 -- The definitions of the programs that take lines as rooms.
-pub mod Walked
 pub mod Told

@@ -6,8 +6,7 @@ use Rattle.steps.specs.Operations.{survivors}
 use Rattle.room.specs.Room.{asRoomJudged}
 use Rattle.row_call.specs.Rows.{Span}
 use Rattle.row_laws.specs.Feet.{rowsOf}
-use Rattle.line_frame.specs.{Sizes.mostDigits, Spelled.refusedLine, Spelled.numbersLine, Line.digitsOf, Program.outputFrom}
-use Rattle.line_room.specs.Walked.{lineWalked}
+use Rattle.line_frame.specs.{Sizes.mostDigits, Spelled.refusedLine, Spelled.numbersLine, Line.digitsOf, Program.outputFrom, Line.lineWalked}
 
 -- row, first and last panel of a span, 4 digits each, and a line feed
 abbrev spanTold : Span → List ℕ

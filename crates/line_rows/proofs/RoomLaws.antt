@@ -10,10 +10,10 @@ use lib.ListN.{length, drop}
 use Rattle.grid.specs.Grid.{origin}
 use Rattle.answer.specs.declared.{Counted.Counted, Judged.Judged, Judged.the-variants.Good, Judged.the-variants.Refused, Refusal.Refusal, Refusal.the-variants.SpanRoom}
 use Rattle.answer.specs.Refusal.{when}
-use Rattle.hull.specs.Call.{countedOf}
+use Rattle.answer.specs.Listed.{countedOf, laidIf}
 use Rattle.room.specs.Room.{asRoomJudged}
 use Rattle.room.proofs.RoomLaws.{good-room}
-use Rattle.row_call.specs.{Rows.spanNumbers, Call.rowsJudged, Call.spansIn, Call.RowsCall}
+use Rattle.row_call.specs.{Rows.spanNumbers, Call.rowsJudged, Call.RowsCall}
 use Rattle.row_laws.specs.Feet.{rowsOf}
 use Rattle.row_laws.proofs.{RowLaws.rowsIs-rowsOf, CallLaws.rows-refused, CallLaws.rows-room}
 use Rattle.line_frame.specs.Sizes.{mostDigits, hullNumbers}
@@ -36,8 +36,8 @@ module _ {ds : List ℕ} {before after : List ℤ} {r : Counted} (w : RowsCall o
     answered : r ≡ Counted.Many (length (w .list))
     answered = w .answer ∙ ap (λ (j : Judged). countedOf j (length (w .list))) judged
 
-    left : after ≡ spanNumbers (w .list) ++ drop (3 * length (w .list)) before
-    left = w .buffer ∙ ap (λ (j : Judged). spansIn j (w .list) before) judged
+    left : after ≡ spanNumbers (w .list) ++ drop (length (spanNumbers (w .list))) before
+    left = w .buffer ∙ ap (λ (j : Judged). laidIf j (spanNumbers (w .list)) before) judged
 
   refused : (q : Refusal) → asRoomJudged origin ds ≡ Refused q → r ≡ Counted.Refused q
   refused q e = w .answer ∙ ap (λ (j : Judged). countedOf j (length (w .list))) (rows-refused origin ds (length before) (length (w .list)) q e)
@@ -53,7 +53,7 @@ module _ {ds : List ℕ} {before after : List ℤ} {r : Counted} (w : RowsCall o
           let l = ap length (list-is g) in (
             omega (arith, enough g),
             omega arith,
-            ap (λ (k : ℕ). threesTold k after) k ∙ ap (threesTold (length (w .list))) (left g) ∙ threes-spans (w .list) (drop (3 * length (w .list)) before) ∙ ap spansTold (list-is g),
+            ap (λ (k : ℕ). threesTold k after) k ∙ ap (threesTold (length (w .list))) (left g) ∙ threes-spans (w .list) (drop (length (spanNumbers (w .list))) before) ∙ ap spansTold (list-is g),
           )
       by (Refused q) g = let z : _≡_ {A = ℕ} 0 1 = cc (refused q g) in absurd (omega arith)
 

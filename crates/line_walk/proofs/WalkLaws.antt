@@ -17,7 +17,7 @@ use Rattle.layout.specs.Marks.{markWords, chainOf}
 use Rattle.walk_call.specs.Walk.{walkAnswer, bufferBy, WalkIs}
 use Rattle.line_frame.specs.declared.Kind.the-variants.{Operations}
 use Rattle.line_frame.specs.Sizes.{mostDigits, tableWords}
-use Rattle.line_room.specs.Walked.{kindWalked}
+use Rattle.line_frame.specs.Line.{kindWalked}
 use Rattle.line_room.proofs.WalkedLaws.{accepted-good, accepted-steps, accepted-sound}
 use Rattle.answer.specs.declared.Answer.the-variants as walked
 use Rattle.line_walk.specs.Walk.{Survived, WalkedBy}

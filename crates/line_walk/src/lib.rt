@@ -15,9 +15,8 @@ ghost use Prim.Native.Nat.{_+_, _≤_};
 ghost use lib.ListN.{length};
 ghost use Rattle.line_frame.specs.Sizes.{headDigits, mostDigits};
 ghost use Rattle.line_frame.specs.Hex.{allHex};
-ghost use Rattle.line_frame.specs.Line.{digitsOf};
+ghost use Rattle.line_frame.specs.Line.{digitsOf, kindWalked, lineWalked};
 ghost use Rattle.line_frame.specs.declared.Kind.the-variants as kinds;
-ghost use Rattle.line_room.specs.Walked.{kindWalked, lineWalked};
 ghost use Rattle.line_walk.specs.Walk.{Clear, recordsLeft, WalkBuffers, WalkedBy};
 
 // How many records a walk has left in the table.

@@ -1,16 +1,17 @@
 -- Blocks and the hull on small rooms, decided; the refusals, the buffer and the numbers of the call, computed.
 -- Assumes nothing.
 use mathlib.Core.List.{List, [], _∷_, map}
-use mathlib.Core.Path.{_≡_, refl}
-use mathlib.Core.Bool.{Bool, true, false}
-use Prim.Native.Nat.{ℕ}
-use lib.IntN.{pos, negsuc}
+use mathlib.Core.Path.{_≡_, refl, ap}
+use mathlib.Core.Bool.{Bool, true, false, false≢true}
+use Prim.Native.Nat.{ℕ, _<_}
+use native.Mathlib.Omega.{arith}
+use lib.IntN.{pos, negsuc, natAbs}
 use lib.Signed.{leZ-yes}
-use Rattle.grid.specs.declared.Panel.{Panel}
+use Rattle.grid.specs.declared.{Corner.Corner, Panel.Panel}
 use Rattle.grid.specs.Grid.{corner, origin}
 use Rattle.answer.specs.declared.{Judged.the-variants.Good, Judged.the-variants.Refused, Refusal.the-variants.BadDigit, Refusal.the-variants.StartRange, Refusal.the-variants.NotRoom, Refusal.the-variants.ChainRoom, Refusal.the-variants.GridSize}
 use Rattle.orthogonal.specs.Blocks.{floorBy, block, blockOf, HoldsInside, OrthogonalHullIs}
-use Rattle.orthogonal.specs.Call.{gridFits, orthogonalJudged, orthogonalOf, orthogonalWords, orthogonalNumber}
+use Rattle.orthogonal.specs.Call.{gridFits, OutlinesHull, orthogonalJudged, orthogonalOf, orthogonalWords, orthogonalNumber}
 
 -- -4, -3, -1, 0, 2 and 3 by 3
 pub floors : map (floorBy 3) (negsuc 3 ∷ negsuc 2 ∷ negsuc 0 ∷ pos 0 ∷ pos 2 ∷ pos 3 ∷ []) ≡ negsuc 1 ∷ negsuc 0 ∷ negsuc 0 ∷ pos 0 ∷ pos 0 ∷ pos 1 ∷ []
@@ -43,6 +44,27 @@ mouth-in-a-column H h =
 -- with a grid size of 2 the panel at the east end of the U is in another block than the one at its west end
 by-twos : HoldsInside origin upright 2 (block (pos 1) (pos 0))
 by-twos = record { panel = block (pos 2) (pos 1); inside = refl; block = refl }
+
+-- ---- what is not an outline of a hull, whatever the room
+
+module _ {s : Corner} {ds : List ℕ} {g : ℕ} where
+  -- from another corner than the lowest of the leftmost
+  not-from-the-right : OutlinesHull s ds g (corner (pos 1) (pos 0)) (1 ∷ 2 ∷ 3 ∷ 0 ∷ []) → ⊥
+  not-from-the-right o = let e : _≡_ {A = ℕ} 0 1 = ap (λ (c : Corner). natAbs (c .0)) (o .home) in omega (arith, e)
+
+  -- clockwise
+  not-clockwise : OutlinesHull s ds g origin (1 ∷ 0 ∷ 3 ∷ 2 ∷ []) → ⊥
+  not-clockwise o = let e : _≡_ {A = ℕ} 0 1 = o .left .0 .0 in omega (arith, e)
+
+  -- with a digit that is not a step
+  not-a-step : OutlinesHull s ds g origin (0 ∷ 1 ∷ 2 ∷ 7 ∷ []) → ⊥
+  not-a-step o = let h : 7 < 4 = o .digits .1 .1 .1 .0 in omega (arith, h)
+
+  -- that is not a room
+  not-there-and-back : OutlinesHull s ds g origin (0 ∷ 2 ∷ []) → ⊥
+  not-there-and-back o = false≢true (o .room)
+
+-- ---- the call
 
 -- 1 and 16,384 are grid sizes, 0 and 16,385 are not
 sizes : map gridFits (0 ∷ 1 ∷ 16384 ∷ 16385 ∷ []) ≡ false ∷ true ∷ true ∷ false ∷ []

@@ -1,5 +1,4 @@
--- Blocks of panels, and the orthogonal hull of some blocks (RULES 21.2, 21.3). A set of blocks that is compared with all others is a
--- test. Assumes nothing.
+-- Blocks of panels, and the orthogonal hull of some blocks (RULES 21.2, 21.3). Assumes nothing.
 use Rattle.lists.specs.Lists.{_≡_, Bool, true, List, ℕ, suc, _/_, ℤ, pos, negsuc, negℤ, _≤ℤ_}
 use Rattle.grid.specs.{declared.Corner.Corner, declared.Panel.Panel, Grid.corner, Grid.panelAt}
 use Rattle.panels.specs.Inside.{Inside}
@@ -23,16 +22,20 @@ pub record HoldsInside (s : Corner) (ds : List ℕ) (g : ℕ) (b : Panel) : Type
   pub block : blockOf g panel ≡ b
 
 -- every block of B is in K
-abbrev pub Contains : (Panel → Type 0) → (Panel → Bool) → Type 0
-Contains B K = (b : Panel) → B b → K b ≡ true
+abbrev pub Contains : (Panel → Type 0) → (Panel → Type 0) → Type 0
+Contains B K = (b : Panel) → B b → K b
 
 -- with any two blocks of one row or of one column, all blocks between them are in K
-pub record Unbroken (K : Panel → Bool) : Type 0 where
-  pub row : (a c e b : ℤ) → a ≤ℤ c → c ≤ℤ e → K (block a b) ≡ true → K (block e b) ≡ true → K (block c b) ≡ true
-  pub column : (a b d f : ℤ) → b ≤ℤ d → d ≤ℤ f → K (block a b) ≡ true → K (block a f) ≡ true → K (block a d) ≡ true
+pub record Unbroken (K : Panel → Type 0) : Type 0 where
+  pub row : (a c e b : ℤ) → a ≤ℤ c → c ≤ℤ e → K (block a b) → K (block e b) → K (block c b)
+  pub column : (a b d f : ℤ) → b ≤ℤ d → d ≤ℤ f → K (block a b) → K (block a f) → K (block a d)
 
--- H is the orthogonal hull of B: the smallest set of blocks that contains B and is unbroken
+-- the blocks that pass a test
+abbrev pub Passing : (Panel → Bool) → Panel → Type 0
+Passing K b = K b ≡ true
+
+-- H is the orthogonal hull of B: the smallest set of blocks that contains B and is unbroken. It is compared with the sets that a test tells
 pub record OrthogonalHullIs (B : Panel → Type 0) (H : Panel → Bool) : Type 0 where
-  pub contains : Contains B H
-  pub unbroken : Unbroken H
-  pub smallest : (K : Panel → Bool) → Contains B K → Unbroken K → (b : Panel) → H b ≡ true → K b ≡ true
+  pub contains : Contains B (Passing H)
+  pub unbroken : Unbroken (Passing H)
+  pub smallest : (K : Panel → Bool) → Contains B (Passing K) → Unbroken (Passing K) → Contains (Passing H) (Passing K)

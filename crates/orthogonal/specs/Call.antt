@@ -5,7 +5,7 @@ use Rattle.grid.specs.declared.Corner.{Corner}
 use Rattle.answer.specs.declared.{Judged.Judged, Judged.the-variants.Good, Judged.the-variants.Refused, Refusal.the-variants.TooMany, Refusal.the-variants.StartRange, Refusal.the-variants.GridSize, Refusal.the-variants.NotRoom, Refusal.the-variants.ChainRoom}
 use Rattle.answer.specs.{Limits.mostInput, Limits.startFits, Refusal.when, Refusal.firstOf, Refusal.refusalNumber, Refusal.refusalPlace, Words.bitsOf}
 use Rattle.steps.specs.Turns.{writtenIf}
-use Rattle.hull.specs.Call.{chainJudged}
+use Rattle.steps.specs.Chain.{chainJudged}
 use Rattle.room.specs.Room.{isRoom}
 use Rattle.outline.specs.Outline.{homeOf}
 use Rattle.panels.specs.Inside.{inside, panelsInside, InsideLeft}

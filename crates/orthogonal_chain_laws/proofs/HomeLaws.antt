@@ -14,8 +14,8 @@ use lib.ListN.{length}
 use Rattle.int_laws.proofs.LinearLaws.{zarith, bal+}
 use Rattle.grid.specs.declared.Corner.{Corner}
 use Rattle.grid.proofs.StepLaws.{startFrom-mem}
-use Rattle.hull.specs.Hull.{Begins}
-use Rattle.hull_laws.proofs.LineLaws.{begins-self}
+use Rattle.grid.specs.Grid.{Begins}
+use Rattle.column_laws.proofs.BeginLaws.{begins-self}
 use Rattle.outline.specs.Outline.{homeOf}
 use Rattle.outline_laws.proofs.HomeLaws.{home-one}
 use Rattle.orthogonal_chain_laws.specs.Chain.{Piled, Bulges, cornerBy, chainFromRow, homeRow, chainFromHome}
@@ -36,19 +36,16 @@ homeRow-is l zero = record { among = omega arith; least = λ q h. omega (arith, 
     same q h = ap l (omega arith)
 homeRow-is l (suc t) = by (ltb (l (suc t)) (l (homeRow l t))) refl (homeRow-is l t)
   where
+    last : (q : ℕ) → (q < suc t → ⊥) → q ≤ suc t → l (suc t) ≡ l q
+    last q u h = ap l (omega arith)
+
     by : (b : Bool) → ltb (l (suc t)) (l (homeRow l t)) ≡ b → LowestLeast l t (homeRow l t) → LowestLeast l (suc t) (cond b (suc t) (homeRow l t))
     by true e i =
         let g = ltb-true (l (suc t)) (l (homeRow l t)) e in
-        record { among = omega arith; least = λ q h. elim (decLt q (suc t)) [ yes u ↦ omega (arith, g, i .least q (omega arith)) | no u ↦ omega (arith, last q (omega arith)) ]; lowest = λ q h. omega (arith, g, i .least q (omega arith)) }
-      where
-        last : (q : ℕ) → suc t ≡ q → l (suc t) ≡ l q
-        last q e = ap l e
+        record { among = omega arith; least = λ q h. elim (decLt q (suc t)) [ yes u ↦ omega (arith, g, i .least q (omega arith)) | no u ↦ omega (arith, last q u h) ]; lowest = λ q h. omega (arith, g, i .least q (omega arith)) }
     by false e i =
         let g = ltb-false (l (suc t)) (l (homeRow l t)) e in
-        record { among = omega (arith, i .among); least = λ q h. elim (decLt q (suc t)) [ yes u ↦ i .least q (omega arith) | no u ↦ omega (arith, g, last q (omega arith)) ]; lowest = i .lowest }
-      where
-        last : (q : ℕ) → suc t ≡ q → l (suc t) ≡ l q
-        last q e = ap l e
+        record { among = omega (arith, i .among); least = λ q h. elim (decLt q (suc t)) [ yes u ↦ i .least q (omega arith) | no u ↦ omega (arith, g, last q u h) ]; lowest = i .lowest }
 
 module _ (o : Corner) (l r : ℕ → ℕ) (t : ℕ) (p : Piled l r t) (m : ℕ) (i : LowestLeast l t m) where
   -- (x,y) does not come before the left end of row m's foot

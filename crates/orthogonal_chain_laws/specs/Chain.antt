@@ -13,7 +13,7 @@ pub record Piled (l r : ℕ → ℕ) (t : ℕ) : Type 0 where
 abbrev pub cornerBy : Corner → ℕ → ℕ → Corner
 cornerBy o x y = corner (o .0 +ℤ pos x) (o .1 +ℤ pos y)
 
--- the block is one of these rows, whose column 0 begins at o and whose row 0 stands on it
+-- the block is in one of these rows; column 0 begins at o, and so does row 0
 pub record InPile (o : Corner) (l r : ℕ → ℕ) (t : ℕ) (p : Panel) : Type 0 where
   pub row : ℕ
   pub among : row ≤ t

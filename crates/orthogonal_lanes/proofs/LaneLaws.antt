@@ -12,7 +12,8 @@ use lib.Dec.{ltb}
 use lib.ListN.{length, getD, drop, set, drop-of-length-le}
 use lib.Seq.{drop-cons, drop-drop, getD-drop, getD-set-same, getD-set-other}
 use Rattle.lists.specs.Lists.{tally}
-use Rattle.hull_laws.specs.Columns.{blank, sink, sinks, colAfter, rowAfter}
+use Rattle.hull_laws.specs.Lowest.{blank, sink, sinks}
+use Rattle.column_laws.specs.Columns.{colAfter, rowAfter}
 use Rattle.room_thread_laws.specs.Threads.{Stays, alongFrom, columnsFrom, rowsFrom}
 use Rattle.orthogonal_laws.specs.HullRows.{leastOver, hullLeft}
 use Rattle.orthogonal_laws.proofs.RowLaws.{least-next}

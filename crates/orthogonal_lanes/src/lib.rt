@@ -1,8 +1,8 @@
 // The least column of each row of blocks, and of each row of the hull. A list of lanes has a column for each row. Columns are counted from
 // west in one list and from east in another, so that the least of them is the end of the row on that side.
-use hull_columns::Columns;
-use hull_columns::across;
-use hull_columns::upward;
+use columns::Columns;
+use columns::across;
+use columns::upward;
 use order::greater;
 use order::lesser;
 use order::wide;
@@ -11,7 +11,7 @@ ghost use Prim.Native.Nat.{ℕ, _+_, _*_, _-_, _/_, _<_, _≤_};
 ghost use lib.Dec.{ltb};
 ghost use lib.ListN.{length, getD};
 ghost use Rattle.lists.specs.Lists.{tally, Below};
-ghost use Rattle.hull_laws.specs.Columns.{sink, sinks};
+ghost use Rattle.hull_laws.specs.Lowest.{sink, sinks};
 ghost use Rattle.room_thread_laws.specs.Threads.{Stays};
 ghost use Rattle.orthogonal_laws.specs.HullRows.{leastOver, hullLeft};
 ghost use Rattle.orthogonal_row_laws.specs.Lanes.{laneAt, lanesFrom, fromWest, fromEast, Ruled, EmptyBefore, EmptyFrom};

@@ -18,9 +18,9 @@ use Rattle.lists.proofs.BoolLaws.{not-false}
 use Rattle.lists.proofs.GatherLaws.{and-left, and-right}
 use Rattle.grid.specs.declared.{Corner.Corner, Panel.Panel}
 use Rattle.steps.specs.Turns.{writtenIf}
-use Rattle.hull.specs.Call.{chainJudged}
+use Rattle.steps.specs.Chain.{chainJudged}
 use Rattle.room.specs.Room.{isRoom, asRoomJudged}
-use Rattle.room.proofs.RoomLaws.{isRoom-exactly}
+use Rattle.room.proofs.RoomLaws.{isRoom-exactly, judged-four}
 use Rattle.trace.specs.Verdict.{areaOf}
 use Rattle.panels.specs.Inside.{edgesBeside, Inside, inside, panelsInside}
 use Rattle.room_laws.proofs.RoomLaws.{room-counts, room-sign}
@@ -54,7 +54,9 @@ outlinesHull-one start steps start′ steps′ o o′ = outlines-one start steps
 
 -- 1 and 10, then 22, then those of a room
 onGrid-split : (s : Corner) (ds : List ℕ) (g : ℕ) → onGridJudged s ds g ≡ firstOf (when (ltb mostInput (length ds)) TooMany ∷ when (not (startFits s)) StartRange ∷ when (not (gridFits g)) GridSize ∷ asRoomJudged s ds ∷ [])
-onGrid-split s ds g = by (when (ltb mostInput (length ds)) TooMany) (when (not (startFits s)) StartRange) (when (not (gridFits g)) GridSize) (chainJudged 0 ds) (when (not (isRoom s ds)) NotRoom)
+onGrid-split s ds g =
+    by (when (ltb mostInput (length ds)) TooMany) (when (not (startFits s)) StartRange) (when (not (gridFits g)) GridSize) (chainJudged 0 ds) (when (not (isRoom s ds)) NotRoom)
+    ∙ ap (λ (j : Judged). firstOf (when (ltb mostInput (length ds)) TooMany ∷ when (not (startFits s)) StartRange ∷ when (not (gridFits g)) GridSize ∷ j ∷ [])) (sym (judged-four s ds))
   where
     by : (a b c d e : Judged) → firstOf (a ∷ b ∷ c ∷ d ∷ e ∷ []) ≡ firstOf (a ∷ b ∷ c ∷ firstOf (a ∷ b ∷ d ∷ e ∷ []) ∷ [])
     by (Refused q) b c d e = refl
@@ -74,7 +76,10 @@ module _ (s : Corner) (ds : List ℕ) (g : ℕ) where
 
   -- with a grid size, those of a room
   pub onGrid-room : gridFits g ≡ true → onGridJudged s ds g ≡ asRoomJudged s ds
-  onGrid-room e = rw e
+  onGrid-room e = four ∙ sym (judged-four s ds)
+    where
+      four : onGridJudged s ds g ≡ firstOf (when (ltb mostInput (length ds)) TooMany ∷ when (not (startFits s)) StartRange ∷ chainJudged 0 ds ∷ when (not (isRoom s ds)) NotRoom ∷ [])
+      four = ap (λ (b : Bool). firstOf (when (ltb mostInput (length ds)) TooMany ∷ when (not (startFits s)) StartRange ∷ when (not b) GridSize ∷ chainJudged 0 ds ∷ when (not (isRoom s ds)) NotRoom ∷ [])) e
 
 -- what is accepted is a room, with a grid size
 pub onGrid-good : (s : Corner) (ds : List ℕ) (g : ℕ) → onGridJudged s ds g ≡ Good → (asRoomJudged s ds ≡ Good) × (gridFits g ≡ true)
@@ -83,7 +88,7 @@ onGrid-good s ds g e =
     let range = when (not (startFits s)) StartRange in
     let other = when (not (isRoom s ds)) NotRoom in
     let k = clear (many ∷ range ∷ when (not (gridFits g)) GridSize ∷ chainJudged 0 ds ∷ other ∷ []) e in
-    (clear-first (many ∷ range ∷ chainJudged 0 ds ∷ other ∷ []) (k .0, (k .1 .0, (k .1 .1 .1 .0, k .1 .1 .1 .1))), not-false (gridFits g) (when-good (not (gridFits g)) GridSize (k .1 .1 .0)))
+    (judged-four s ds ∙ clear-first (many ∷ range ∷ chainJudged 0 ds ∷ other ∷ []) (k .0, (k .1 .0, (k .1 .1 .1 .0, k .1 .1 .1 .1))), not-false (gridFits g) (when-good (not (gridFits g)) GridSize (k .1 .1 .0)))
 
 pub grid-within : (g : ℕ) → gridFits g ≡ true → (0 < g) × (g ≤ mostGrid)
 grid-within g e = (le-of 1 g (and-left (leb 1 g) (leb g mostGrid) e), le-of g mostGrid (and-right (leb 1 g) (leb g mostGrid) e))

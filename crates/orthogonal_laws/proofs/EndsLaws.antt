@@ -33,14 +33,14 @@ use Rattle.orthogonal_laws.proofs.BlockLaws.{blocks-connected, holds-of
 
 -- of those that pass a test one has the least value
 module _ (P : Panel → Bool) (f : Panel → ℤ) where
-  least-of : (xs : List Panel) (x : Panel) → P x ≡ true → (m : Panel) × (P m ≡ true) × (f m ≤ℤ f x) × ((y : Panel) → List·Memᴰ y xs → P y ≡ true → f m ≤ℤ f y)
+  abbrev Least : List Panel → Panel → Type 0
+  Least xs x = (m : Panel) × (P m ≡ true) × (f m ≤ℤ f x) × ((y : Panel) → List·Memᴰ y xs → P y ≡ true → f m ≤ℤ f y)
+
+  least-of : (xs : List Panel) (x : Panel) → P x ≡ true → Least xs x
   least-of [] x e = (x, e, omega zarith, λ y m. absurd (List·Memᴰ·not-nil m))
   least-of (a ∷ xs) x e = by (P a) refl (λ e. least-of xs a e) (least-of xs x e)
     where
-      by : (p : Bool) → P a ≡ p
-          → (P a ≡ true → (m : Panel) × (P m ≡ true) × (f m ≤ℤ f a) × ((y : Panel) → List·Memᴰ y xs → P y ≡ true → f m ≤ℤ f y))
-          → (m : Panel) × (P m ≡ true) × (f m ≤ℤ f x) × ((y : Panel) → List·Memᴰ y xs → P y ≡ true → f m ≤ℤ f y)
-          → (m : Panel) × (P m ≡ true) × (f m ≤ℤ f x) × ((y : Panel) → List·Memᴰ y (a ∷ xs) → P y ≡ true → f m ≤ℤ f y)
+      by : (p : Bool) → P a ≡ p → (P a ≡ true → Least xs a) → Least xs x → Least (a ∷ xs) x
       by false q new old =
           (old .0, old .1, old .2, λ y m g. ⊎-elim (λ z. absurd (true≢false (sym g ∙ ap P z ∙ q))) (λ z. old .3 y z g) (List·Memᴰ·cases-cons m))
       by true q new old =
@@ -63,7 +63,10 @@ module _ (c : Corner) (ds : List ℕ) (r : IsRoom c ds) (b : Below 4 ds) (g : �
   yes-inside u e = eqb-true (edgesBeside c ds u % 2) 1 e
 
   -- of the panels inside that pass a test
-  outermost : (P : Panel → Bool) (f : Panel → ℤ) (x : Panel) → Inside c ds x → P x ≡ true → (m : Panel) × Inside c ds m × (P m ≡ true) × ((y : Panel) → Inside c ds y → P y ≡ true → f m ≤ℤ f y)
+  abbrev Outermost : (Panel → Bool) → (Panel → ℤ) → Type 0
+  Outermost P f = (m : Panel) × Inside c ds m × (P m ≡ true) × ((y : Panel) → Inside c ds y → P y ≡ true → f m ≤ℤ f y)
+
+  outermost : (P : Panel → Bool) (f : Panel → ℤ) (x : Panel) → Inside c ds x → P x ≡ true → Outermost P f
   outermost P f x i e =
       let Q : Panel → Bool = λ u. inside c ds u && P u in
       let k = least-of Q f (panelsIn (boxOf c ds)) x (ap₂ _&&_ (inside-found c ds (r .closed) x i .1) e) in
@@ -74,13 +77,13 @@ module _ (c : Corner) (ds : List ℕ) (r : IsRoom c ds) (b : Below 4 ds) (g : �
   one = let k = count-some (inside c ds) (panelsIn (boxOf c ds)) (room-some c ds r) in (k .0, yes-inside (k .0) (k .2))
 
   -- the westernmost block, the lowest and the highest
-  west : (m : Panel) × Inside c ds m × (true ≡ true) × ((y : Panel) → Inside c ds y → true ≡ true → fx m ≤ℤ fx y)
+  west : Outermost (λ u. true) fx
   west = outermost (λ u. true) fx (one .0) (one .1) refl
 
-  low : (m : Panel) × Inside c ds m × (true ≡ true) × ((y : Panel) → Inside c ds y → true ≡ true → fy m ≤ℤ fy y)
+  low : Outermost (λ u. true) fy
   low = outermost (λ u. true) fy (one .0) (one .1) refl
 
-  high : (m : Panel) × Inside c ds m × (true ≡ true) × ((y : Panel) → Inside c ds y → true ≡ true → negℤ (fy m) ≤ℤ negℤ (fy y))
+  high : Outermost (λ u. true) (λ u. negℤ (fy u))
   high = outermost (λ u. true) (λ u. negℤ (fy u)) (one .0) (one .1) refl
 
   abbrev o : Corner
@@ -147,10 +150,10 @@ module _ (c : Corner) (ds : List ℕ) (r : IsRoom c ds) (b : Below 4 ds) (g : �
       in-row : (y : Panel) → fy y ≡ o .1 +ℤ pos q → eqZ (fy y) (o .1 +ℤ pos q) ≡ true
       in-row y e = ap (λ (z : ℤ). eqZ z (o .1 +ℤ pos q)) e ∙ eqZ-refl (o .1 +ℤ pos q)
 
-      m : (m : Panel) × Inside c ds m × (eqZ (fy m) (o .1 +ℤ pos q) ≡ true) × ((y : Panel) → Inside c ds y → eqZ (fy y) (o .1 +ℤ pos q) ≡ true → fx m ≤ℤ fx y)
+      m : Outermost (λ u. eqZ (fy u) (o .1 +ℤ pos q)) fx
       m = outermost (λ u. eqZ (fy u) (o .1 +ℤ pos q)) fx (s .0) (s .1) (in-row (s .0) (s .2))
 
-      n : (m : Panel) × Inside c ds m × (eqZ (fy m) (o .1 +ℤ pos q) ≡ true) × ((y : Panel) → Inside c ds y → eqZ (fy y) (o .1 +ℤ pos q) ≡ true → negℤ (fx m) ≤ℤ negℤ (fx y))
+      n : Outermost (λ u. eqZ (fy u) (o .1 +ℤ pos q)) (λ u. negℤ (fx u))
       n = outermost (λ u. eqZ (fy u) (o .1 +ℤ pos q)) (λ u. negℤ (fx u)) (s .0) (s .1) (in-row (s .0) (s .2))
 
   -- as columns from the west end

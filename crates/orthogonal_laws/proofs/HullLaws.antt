@@ -15,13 +15,13 @@ use Rattle.trace.specs.Verdict.{IsRoom}
 use Rattle.panels.specs.Box.{boxOf, panelsIn}
 use Rattle.panels.specs.Inside.{edgesBeside, inside}
 use Rattle.room_laws.proofs.InsideLaws.{inside-found}
-use Rattle.orthogonal.specs.Blocks.{floorBy, block, blockOf, HoldsInside, Unbroken, OrthogonalHullIs}
+use Rattle.orthogonal.specs.Blocks.{floorBy, block, blockOf, HoldsInside, Contains, Unbroken, Passing, OrthogonalHullIs}
 use Rattle.orthogonal_laws.specs.Connected.{Connected, Holding, Quadrants}
 use Rattle.orthogonal_laws.proofs.JoinedLaws.{Side, side, side-yes, yes-side, quadrants-in}
 use Rattle.orthogonal_laws.proofs.BlockLaws.{blocks-connected}
 
 -- a larger set has a larger hull
-pub hull-larger : {B C : Panel → Type 0} {H J : Panel → Bool} → OrthogonalHullIs B H → OrthogonalHullIs C J → ((b : Panel) → B b → C b) → (b : Panel) → H b ≡ true → J b ≡ true
+pub hull-larger : {B C : Panel → Type 0} {H J : Panel → Bool} → OrthogonalHullIs B H → OrthogonalHullIs C J → Contains B C → Contains (Passing H) (Passing J)
 hull-larger {J = J} h j f = h .smallest J (λ b i. j .contains b (f b i)) (j .unbroken)
 
 -- so there is only one
@@ -29,23 +29,27 @@ pub hull-one : {B : Panel → Type 0} {H J : Panel → Bool} → OrthogonalHullI
 hull-one {H = H} {J = J} h j b = bool-agree (H b) (J b) (hull-larger h j (λ c i. i) b) (hull-larger j h (λ c i. i) b)
 
 -- an unbroken set is its own hull
-pub unbroken-hull : (H : Panel → Bool) → Unbroken H → OrthogonalHullIs (λ b. H b ≡ true) H
+pub unbroken-hull : (H : Panel → Bool) → Unbroken (Passing H) → OrthogonalHullIs (Passing H) H
 unbroken-hull H u = record { contains = λ b i. i; unbroken = u; smallest = λ K c v b i. c b i }
 
 -- so the hull of the hull is the hull
-pub hull-again : {B : Panel → Type 0} {H : Panel → Bool} → OrthogonalHullIs B H → OrthogonalHullIs (λ b. H b ≡ true) H
+pub hull-again : {B : Panel → Type 0} {H : Panel → Bool} → OrthogonalHullIs B H → OrthogonalHullIs (Passing H) H
 hull-again {H = H} h = unbroken-hull H (h .unbroken)
+
+-- sets with the same blocks are unbroken together
+pub unbroken-same : {K L : Panel → Type 0} → ((b : Panel) → K b ↔ L b) → Unbroken K → Unbroken L
+unbroken-same e u =
+    record {
+      row = λ a c d b x y i j. e (block c b) .0 (u .row a c d b x y (e (block a b) .1 i) (e (block d b) .1 j));
+      column = λ a b c d x y i j. e (block a c) .0 (u .column a b c d x y (e (block a b) .1 i) (e (block a d) .1 j));
+    }
 
 -- one hull serves two sets with the same blocks, and two tests that agree
 pub hull-same : {B C : Panel → Type 0} {H J : Panel → Bool} → ((b : Panel) → B b ↔ C b) → ((b : Panel) → H b ≡ J b) → OrthogonalHullIs B H → OrthogonalHullIs C J
 hull-same {H = H} {J = J} e f h =
     record {
       contains = λ b i. sym (f b) ∙ h .contains b (e b .1 i);
-      unbroken =
-          record {
-            row = λ a c d b x y i j. sym (f (block c b)) ∙ h .unbroken .row a c d b x y (f (block a b) ∙ i) (f (block d b) ∙ j);
-            column = λ a b c d x y i j. sym (f (block a c)) ∙ h .unbroken .column a b c d x y (f (block a b) ∙ i) (f (block a d) ∙ j);
-          };
+      unbroken = unbroken-same (λ b. (λ i. sym (f b) ∙ i, λ i. f b ∙ i)) (h .unbroken);
       smallest = λ K c u b i. h .smallest K (λ b k. c b (e b .0 k)) u b (f b ∙ i);
     }
 
@@ -86,7 +90,7 @@ quadrants-hull B joined K k =
                   north-east = further (λ p i. i) (λ p i. omega (zarith, i, l)) (v .north-east);
                 });
           };
-      smallest = λ L c u p i. quadrants-in B joined p (k p .0 i) L c u;
+      smallest = λ L c u p i. quadrants-in B joined p (k p .0 i) (Passing L) c u;
     }
 
 -- the blocks of a room
@@ -157,3 +161,7 @@ module _ (c : Corner) (ds : List ℕ) (r : IsRoom c ds) (b : Below 4 ds) (g : �
   -- a block is in it exactly if each of its four quadrants holds a block of the room
   pub hull-quadrants : (H : Panel → Bool) → OrthogonalHullIs B H → (p : Panel) → (H p ≡ true) ↔ Quadrants B p
   hull-quadrants H h p = let e = hull-one h quarters-hull p in (λ i. quarters-has p .0 (sym e ∙ i), λ q. e ∙ quarters-has p .1 q)
+
+  -- and it is contained in every unbroken set that contains them, whether a test tells that set or not
+  pub hull-least : (H : Panel → Bool) → OrthogonalHullIs B H → (K : Panel → Type 0) → Contains B K → Unbroken K → Contains (Passing H) K
+  hull-least H h K k u p i = quadrants-in B (blocks-connected g some c ds r b) p (hull-quadrants H h p .0 i) K k u

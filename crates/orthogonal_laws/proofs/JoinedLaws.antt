@@ -204,17 +204,17 @@ module _ (B : Panel → Type 0) (joined : Connected B) (p : Panel) (quadrants : 
       first (inr s) (inr n) = inr (s, n)
 
   -- so p is in every unbroken set that contains B
-  pub quadrants-in : (K : Panel → Bool) → Contains B K → Unbroken K → K p ≡ true
+  pub quadrants-in : (K : Panel → Type 0) → Contains B K → Unbroken K → K p
   quadrants-in K c u = ⊎-elim in-row in-column between
     where
-      in-row : InRow true × InRow false → K p ≡ true
+      in-row : InRow true × InRow false → K p
       in-row (w, e) =
           u .row (w .at .0) (p .0) (e .at .0) (p .1) (w .x) (e .x)
-          (subst (λ (z : ℤ). K (block (w .at .0) z) ≡ true) (w .y) (c (w .at) (w .one)))
-          (subst (λ (z : ℤ). K (block (e .at .0) z) ≡ true) (e .y) (c (e .at) (e .one)))
+          (subst (λ (z : ℤ). K (block (w .at .0) z)) (w .y) (c (w .at) (w .one)))
+          (subst (λ (z : ℤ). K (block (e .at .0) z)) (e .y) (c (e .at) (e .one)))
 
-      in-column : InColumn true × InColumn false → K p ≡ true
+      in-column : InColumn true × InColumn false → K p
       in-column (s, n) =
           u .column (p .0) (s .at .1) (p .1) (n .at .1) (s .y) (n .y)
-          (subst (λ (z : ℤ). K (block z (s .at .1)) ≡ true) (s .x) (c (s .at) (s .one)))
-          (subst (λ (z : ℤ). K (block z (n .at .1)) ≡ true) (n .x) (c (n .at) (n .one)))
+          (subst (λ (z : ℤ). K (block z (s .at .1))) (s .x) (c (s .at) (s .one)))
+          (subst (λ (z : ℤ). K (block z (n .at .1))) (n .x) (c (n .at) (n .one)))

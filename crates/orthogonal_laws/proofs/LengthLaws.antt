@@ -1,23 +1,28 @@
 -- The outline of the hull is as long as twice the width and twice the height of the bounding box of the blocks, and a room's chain is no
 -- shorter than that.
 -- Assumes nothing.
+use mathlib.Core.Bool.{Bool}
 use mathlib.Core.List.{List, [], _∷_, List·Memᴰ, List·Memᴰ·head}
 use mathlib.Core.Logic.{_⊎_, inl, inr, ⊎-elim}
-use mathlib.Core.Path.{_≡_, refl, ap, sym, _∙_}
+use mathlib.Core.Path.{_≡_, refl, ap, ap₂, sym, _∙_}
 use Prim.Native.Nat.{ℕ, zero, suc, _+_, _-_, _*_, _≤_}
 use native.Mathlib.Decide.{decLt}
+use native.Mathlib.Nat.{zero-mul, suc-mul, mul-assoc, mul-left-comm, mul-le-mul}
 use native.Mathlib.Omega.{arith}
 use lib.IntN.{ℤ, pos, sucℤ, predℤ, natAbs, _+ℤ_, _-ℤ_}
-use lib.ListN.{length, take}
+use lib.ListN.{length, take, length-append}
 use lib.Seq.{take-all}
 use lib.Signed.{_≤ℤ_}
 use Rattle.int_laws.proofs.LinearLaws.{zarith, bal+}
 use Rattle.int_laws.proofs.NextLaws.{bal-suc, bal-pred, above}
+use Rattle.lists.specs.Lists.{count}
+use Rattle.lists.proofs.BoolLaws.{tally-le}
 use Rattle.lists.proofs.DistinctLaws.{getD-mem}
 use Rattle.grid.specs.declared.{Corner.Corner}
 use Rattle.grid.specs.Grid.{stepped, cornersFrom, cornerAt, endFrom}
 use Rattle.grid.proofs.StepLaws.{cornersFrom-at, length-cornersFrom, cornerAt-end}
-use Rattle.panels.specs.Box.{boxOf}
+use Rattle.panels.specs.Box.{boxOf, panelRow, panelRows, panelsIn}
+use Rattle.panels.specs.Inside.{inside, panelsInside}
 use Rattle.area_laws.proofs.BoxLaws.{HoldsCorner, box-holds, box-met}
 
 -- ---- a closed walk is twice as long as its box is wide and high
@@ -131,3 +136,41 @@ box-around c ds closed = let e = totals ds in omega (arith, e, across, along)
         let z = box-met c ds .3 in
         wide-walk (λ p. p .1) upSteps up-near c ds closed (a .0) (z .0) (a .1) (z .1) (natAbs (boxOf c ds .north -ℤ boxOf c ds .south))
         (z .2 ∙ above (boxOf c ds .south) (boxOf c ds .north) (omega (zarith, held .south, held .north)) ∙ ap (λ (x : ℤ). x +ℤ pos (natAbs (boxOf c ds .north -ℤ boxOf c ds .south))) (sym (a .2)))
+
+-- ---- how many panels it can have inside
+
+count-most : {A : Type 0} (f : A → Bool) (l : List A) → count f l ≤ length l
+count-most f [] = omega arith
+count-most f (x ∷ l) = let k = count-most f l in let h = tally-le (f x) in omega (arith, k, h)
+
+length-row : (b a : ℤ) (n : ℕ) → length (panelRow b a n) ≡ n
+length-row b a zero = refl
+length-row b a (suc n) = ap suc (length-row b (sucℤ a) n)
+
+length-rows : (b a : ℤ) (n m : ℕ) → length (panelRows b a n m) ≡ m * n
+length-rows b a n zero = sym (zero-mul n)
+length-rows b a n (suc m) = length-append (panelRow b a n) (panelRows (sucℤ b) a n m) ∙ ap₂ (λ (x y : ℕ). x + y) (length-row b a n) (length-rows (sucℤ b) a n m) ∙ let e : n + m * n ≡ suc m * n = omega (arith, suc-mul m n) in e
+
+quadruple : (h w : ℕ) → 2 * h * (2 * w) ≡ 4 * (h * w)
+quadruple h w = mul-assoc 2 h (2 * w) ∙ ap (λ (x : ℕ). 2 * x) (mul-left-comm h 2 w) ∙ let e : 2 * (2 * (h * w)) ≡ 4 * (h * w) = omega arith in e
+
+-- no more than its box has
+pub inside-few : (c : Corner) (ds : List ℕ) → endFrom c ds ≡ c → 4 * panelsInside c ds ≤ length ds * length ds
+inside-few c ds closed = few (box-around c ds closed)
+  where
+    w : ℕ
+    w = natAbs (boxOf c ds .east -ℤ boxOf c ds .west)
+
+    h : ℕ
+    h = natAbs (boxOf c ds .north -ℤ boxOf c ds .south)
+
+    size : panelsInside c ds ≤ h * w
+    size = let k = count-most (inside c ds) (panelsIn (boxOf c ds)) in let e = length-rows (boxOf c ds .south) (boxOf c ds .west) w h in omega (arith, k, e)
+
+    few : 2 * w + 2 * h ≤ length ds → 4 * panelsInside c ds ≤ length ds * length ds
+    few a =
+        let p : 2 * w ≤ length ds = omega (arith, a) in
+        let q : 2 * h ≤ length ds = omega (arith, a) in
+        let m = mul-le-mul q p in
+        let e = quadruple h w in
+        omega (arith, size, m, e)

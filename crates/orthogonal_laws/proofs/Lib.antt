@@ -1,4 +1,5 @@
 -- Laws of the orthogonal hull.
+pub mod RowCases
 pub mod JoinedLaws
 pub mod RowLaws
 pub mod InsideLaws

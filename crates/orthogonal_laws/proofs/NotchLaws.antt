@@ -9,7 +9,6 @@ use native.Mathlib.Omega.{arith}
 use borrow.Author.Tests.{eqb-true, eq-eqb}
 use lib.ListN.{length, take, drop, take-append-drop}
 use Rattle.lists.specs.Lists.{Below}
-use Rattle.lists.proofs.FindLaws.{bool-agree}
 use Rattle.grid.specs.declared.{Corner.Corner, Panel.Panel}
 use Rattle.grid.specs.Grid.{cornerAt, endFrom}
 use Rattle.grid.proofs.StepLaws.{endFrom-append}
@@ -23,7 +22,7 @@ use Rattle.convex_hull_laws.proofs.TurnedLaws.{inside-cycle, inside-backward}
 use Rattle.orthogonal.specs.Blocks.{Unbroken}
 use Rattle.orthogonal.specs.Call.{OutlinesHull}
 use Rattle.orthogonal_laws.proofs.BlockLaws.{holds-one}
-use Rattle.orthogonal_laws.proofs.HullLaws.{hull-one, hull-same, unbroken-hull}
+use Rattle.orthogonal_laws.proofs.HullLaws.{hull-one, hull-same, unbroken-same, unbroken-hull}
 use Rattle.orthogonal_laws.proofs.OneLaws.{own-outline, same-walked, home-same}
 use Rattle.orthogonal_laws.proofs.CallLaws.{hull-outlines}
 
@@ -65,8 +64,8 @@ module _ (s : Corner) (ds : List ℕ) (r : IsRoom s ds) (b : Below 4 ds) (start 
   hull-around p i = inside-is start steps p .0 (o .hull .contains p (holds-one s ds p .1 i))
 
   -- a room without a notch is its own hull
-  unbroken-same : Unbroken (inside s ds) → (p : Panel) → inside s ds p ≡ inside start steps p
-  unbroken-same u = hull-one (hull-same (λ p. (λ e. holds-one s ds p .1 (inside-is s ds p .0 e), λ h. inside-is s ds p .1 (holds-one s ds p .0 h))) (λ p. refl) (unbroken-hull (inside s ds) u)) (o .hull)
+  own-hull : Unbroken (Inside s ds) → (p : Panel) → inside s ds p ≡ inside start steps p
+  own-hull u = hull-one (hull-same (λ p. (λ e. holds-one s ds p .1 (inside-is s ds p .0 e), λ h. inside-is s ds p .1 (holds-one s ds p .0 h))) (λ p. refl) (unbroken-hull (inside s ds) (unbroken-same (λ p. (inside-is s ds p .1, inside-is s ds p .0)) u))) (o .hull)
 
   -- rooms with the same panels inside have one outline
   same-outline : ((p : Panel) → Inside s ds p ↔ Inside start steps p) → (start ≡ homeOf s ds) × OutlineIs s ds steps
@@ -80,13 +79,10 @@ module _ (s : Corner) (ds : List ℕ) (r : IsRoom s ds) (b : Below 4 ds) (start 
       )
 
   -- the hull's outline is the room's own exactly if the panels of each row and of each column are one piece
-  pub hull-own : ((start ≡ homeOf s ds) × OutlineIs s ds steps) ↔ Unbroken (inside s ds)
-  hull-own = (unbroken, λ u. same-outline (λ p. let e = unbroken-same u p in (λ i. inside-is start steps p .0 (sym e ∙ inside-is s ds p .1 i), λ i. inside-is s ds p .0 (e ∙ inside-is start steps p .1 i))))
+  pub hull-own : ((start ≡ homeOf s ds) × OutlineIs s ds steps) ↔ Unbroken (Inside s ds)
+  hull-own = (unbroken, λ u. same-outline (λ p. let e = own-hull u p in (λ i. inside-is start steps p .0 (sym e ∙ inside-is s ds p .1 i), λ i. inside-is s ds p .0 (e ∙ inside-is start steps p .1 i))))
     where
-      unbroken : (start ≡ homeOf s ds) × OutlineIs s ds steps → Unbroken (inside s ds)
+      unbroken : (start ≡ homeOf s ds) × OutlineIs s ds steps → Unbroken (Inside s ds)
       unbroken (e, k) =
-          let same : (p : Panel) → inside start steps p ≡ inside s ds p =
-          λ p. let i = outline-inside s ds r b steps k p in
-          let i′ : Inside s ds p ↔ Inside start steps p = subst (λ (c : Corner). Inside s ds p ↔ Inside c steps p) (sym e) i in
-          bool-agree (inside start steps p) (inside s ds p) (λ x. inside-is s ds p .1 (i′ .1 (inside-is start steps p .0 x))) (λ x. inside-is start steps p .1 (i′ .0 (inside-is s ds p .0 x))) in
-          hull-same (λ p. (λ x. x, λ x. x)) same (o .hull) .unbroken
+          let same : (p : Panel) → Inside s ds p ↔ Inside start steps p = λ p. subst (λ (c : Corner). Inside s ds p ↔ Inside c steps p) (sym e) (outline-inside s ds r b steps k p) in
+          unbroken-same (λ p. (λ x. same p .1 (inside-is start steps p .0 x), λ i. inside-is start steps p .1 (same p .0 i))) (o .hull .unbroken)

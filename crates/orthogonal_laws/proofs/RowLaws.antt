@@ -12,13 +12,14 @@ use Rattle.int_laws.proofs.LinearLaws.{zarith, bal+}
 use Rattle.int_laws.proofs.NextLaws.{bal-suc, le-false, above}
 use Rattle.int_laws.proofs.RangeLaws.{le-true}
 use Rattle.grid.specs.declared.{Corner.Corner, Panel.Panel}
-use Rattle.orthogonal.specs.Blocks.{block, Contains, Unbroken, OrthogonalHullIs}
+use Rattle.orthogonal.specs.Blocks.{block, Contains, Unbroken, Passing, OrthogonalHullIs}
 use Rattle.orthogonal_chain_laws.specs.Chain.{Piled, InPile, Bulges}
 use Rattle.orthogonal_laws.specs.Connected.{Connected, Holding, Quadrants}
 use Rattle.orthogonal_laws.specs.HullRows.{pickOver, leastOver, mostOver, hullLeft, hullRight, RowEnds}
 use Rattle.lists.proofs.BoolLaws.{is-false}
 use Rattle.orthogonal_laws.proofs.JoinedLaws.{Beside, Leaves, joined-leaves, quadrants-in, true-le}
 use Rattle.orthogonal_laws.proofs.JoinedLaws as joinedLaws
+use Rattle.orthogonal_laws.proofs.RowCases as cases
 
 -- what is picked of some numbers
 module _ (pick : ℕ → ℕ → ℕ) (f : ℕ → ℕ) where
@@ -215,7 +216,7 @@ module _ (B : Panel → Type 0) (joined : Connected B) (o : Corner) (l r : ℕ �
 
   -- the rows of the hull are its blocks
   module _ (H : Panel → Bool) (rows : (p : Panel) → (H p ≡ true) ↔ InPile o (hullLeft l t) (hullRight r t) t p) where
-    rows-contain : Contains B H
+    rows-contain : Contains B (Passing H)
     rows-contain p b =
         let w = ends .within p b in
         let x = left-out l t (w .row) (w .among) in
@@ -229,7 +230,7 @@ module _ (B : Panel → Type 0) (joined : Connected B) (o : Corner) (l r : ℕ �
           east = omega (zarith, w .east, y, bal+ (o .0) (pos (r (w .row))), bal+ (o .0) (pos (hullRight r t (w .row))));
         })
 
-    rows-unbroken : Unbroken H
+    rows-unbroken : Unbroken (Passing H)
     rows-unbroken =
         record {
           row = λ a c e b h k x y.
@@ -259,4 +260,4 @@ module _ (B : Panel → Type 0) (joined : Connected B) (o : Corner) (l r : ℕ �
             })
 
     pub rows-hull : OrthogonalHullIs B H
-    rows-hull = record { contains = rows-contain; unbroken = rows-unbroken; smallest = λ K c u p h. quadrants-in B joined p (rows-quadrants p (rows p .0 h)) K c u }
+    rows-hull = record { contains = rows-contain; unbroken = rows-unbroken; smallest = λ K c u p h. quadrants-in B joined p (rows-quadrants p (rows p .0 h)) (Passing K) c u }

@@ -23,7 +23,7 @@ use Rattle.trace.specs.Verdict.{IsRoom}
 use Rattle.panels.specs.Edges.{Edge, edgesFrom}
 use Rattle.panels.specs.Inside.{Inside, leftOf, rightOf}
 use Rattle.room_laws.proofs.RoomLaws.{room-counts}
-use Rattle.hull_laws.specs.Columns.{blank, sink, sinks}
+use Rattle.hull_laws.specs.Lowest.{blank, sink, sinks}
 use Rattle.room_thread_laws.specs.Threads.{Stays}
 use Rattle.orthogonal.specs.Blocks.{floorBy, block, blockOf, HoldsInside}
 use Rattle.orthogonal_chain_laws.specs.Chain.{InPile}

@@ -11,7 +11,7 @@ use lib.ListN.{length, getD}
 use Rattle.grid.specs.declared.Corner.{Corner}
 use Rattle.grid.specs.Grid.{stepped}
 use Rattle.panels.specs.Edges.{Edge, edgeOf, edgesFrom}
-use Rattle.hull_laws.specs.Columns.{colAfter, rowAfter}
+use Rattle.column_laws.specs.Columns.{colAfter, rowAfter}
 use Rattle.room_thread_laws.specs.Threads.{alongFrom, columnsFrom, rowsFrom}
 use Rattle.room_thread_laws.proofs.RoomLaws.{move-x, move-y}
 use Rattle.orthogonal_row_laws.specs.Lanes.{lowEndOf, lowEndsFrom}

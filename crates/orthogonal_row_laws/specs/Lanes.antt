@@ -4,7 +4,8 @@ use mathlib.Core.List.{List, [], _∷_, _++_, map}
 use Prim.Native.Nat.{ℕ, zero, suc, _+_, _*_, _-_, _/_, _<_, _≤_}
 use lib.IntN.{ℤ, pos, _+ℤ_}
 use lib.ListN.{length, getD}
-use Rattle.hull_laws.specs.Columns.{blank, colAfter, rowAfter}
+use Rattle.hull_laws.specs.Lowest.{blank}
+use Rattle.column_laws.specs.Columns.{colAfter, rowAfter}
 use Rattle.orthogonal.specs.Blocks.{floorBy}
 
 -- column and height of the lower end of the edge of a step d from column x and height y, if it is vertical; and those of a walk

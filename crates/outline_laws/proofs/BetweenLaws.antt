@@ -11,8 +11,7 @@ use native.Mathlib.Omega.{arith}
 use lib.ListN.{length}
 use Rattle.lists.specs.Lists.{Distinct}
 use Rattle.grid.specs.declared.Corner.{Corner}
-use Rattle.grid.specs.Grid.{stepped, cornersFrom, legsFrom}
-use Rattle.hull.specs.Hull.{Begins}
+use Rattle.grid.specs.Grid.{stepped, cornersFrom, legsFrom, Begins}
 use Rattle.outline.specs.Outline.{walked, homeOf, firstWay, pathFromHome, OutlineIs}
 use Rattle.outline_laws.proofs.OrbitLaws.{after, orbit, after-suc, after-mem, orbit-on, no-sooner, after-agree, orbit-agree}
 use Rattle.outline_laws.proofs.TurnLaws.{onward-fewer}

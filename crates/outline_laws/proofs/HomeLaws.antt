@@ -13,11 +13,9 @@ use Rattle.lists.proofs.FindLaws.{or-false, bool-agree}
 use Rattle.int_laws.proofs.LinearLaws.{zarith, le-or-lt}
 use Rattle.int_laws.proofs.RangeLaws.{lt-true, lt-false}
 use Rattle.grid.specs.declared.Corner.{Corner}
-use Rattle.grid.specs.Grid.{eqZ, stepped, cornersFrom}
+use Rattle.grid.specs.Grid.{eqZ, stepped, cornersFrom, Begins}
 use Rattle.grid.proofs.CornerLaws.{eqZ-sound, eqZ-refl}
-use Rattle.hull.specs.Hull.{Begins}
-use Rattle.hull_laws.proofs.OneLaws.{begins-both}
-use Rattle.hull_laws.proofs.LineLaws.{begins-trans, begins-self}
+use Rattle.column_laws.proofs.BeginLaws.{begins-both, begins-trans, begins-self}
 use Rattle.outline.specs.Outline.{beginsBefore, homeOf, walked}
 use Rattle.outline_laws.proofs.EdgeLaws.{walked-visited}
 

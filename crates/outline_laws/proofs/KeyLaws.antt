@@ -13,10 +13,9 @@ use Rattle.answer.specs.Limits.{mostSteps}
 use Rattle.int_laws.specs.Signed.{up, dn}
 use Rattle.int_laws.proofs.LinearLaws.{nat-eq, nat-lt, nat-le, bal-}
 use Rattle.grid.specs.declared.Corner.{Corner}
-use Rattle.grid.specs.Grid.{stepped, cornersFrom, endFrom}
+use Rattle.grid.specs.Grid.{stepped, cornersFrom, endFrom, Begins}
 use Rattle.grid.proofs.StepLaws.{endFrom-mem}
-use Rattle.hull.specs.Hull.{Begins}
-use Rattle.hull_laws.proofs.CornerLaws.{corner-eq}
+use Rattle.grid.proofs.CornerLaws.{corner-eq}
 use Rattle.outline_laws.specs.Keys.{offset, keyOf, keyAfter, columnRows}
 
 -- z lies at most n from a, on either side

@@ -13,10 +13,9 @@ use Rattle.lists.proofs.DistinctLaws.{getD-mem}
 use Rattle.int_laws.specs.Signed.{up, dn}
 use Rattle.int_laws.proofs.LinearLaws.{nat-eq, nat-lt, nat-le, bal+, bal-}
 use Rattle.grid.specs.declared.Corner.{Corner}
-use Rattle.grid.specs.Grid.{origin, stepped, cornersFrom, cornerAt}
+use Rattle.grid.specs.Grid.{origin, stepped, cornersFrom, cornerAt, Begins}
 use Rattle.grid.proofs.StepLaws.{cornersFrom-at, length-cornersFrom, startFrom-mem}
-use Rattle.hull.specs.Hull.{Begins}
-use Rattle.hull_laws.specs.Columns.{middle}
+use Rattle.column_laws.specs.Columns.{middle}
 use Rattle.outline_laws.specs.Keys.{offset}
 use Rattle.box_laws.specs.Box.{columnAt, heightAt, boxWest, boxSouth, boxWidth, boxHeight, InBox, boxPlace, placeAt, Boxable}
 use Rattle.box_laws.proofs.PlaceLaws.{corner-in, corner-column, corner-height, height-few}

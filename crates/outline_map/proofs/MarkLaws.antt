@@ -19,7 +19,7 @@ use Rattle.grid.specs.declared.Corner.{Corner}
 use Rattle.grid.specs.Grid.{origin, same, stepped, back, cornersFrom, endFrom}
 use Rattle.grid.proofs.CornerLaws.{same-refl, same-sound}
 use Rattle.grid.proofs.StepLaws.{back-small, endFrom-snoc, cornersFrom-snoc, cornersFrom-at, length-cornersFrom, startFrom-mem}
-use Rattle.hull_laws.proofs.OneLaws.{begins-both}
+use Rattle.column_laws.proofs.BeginLaws.{begins-both}
 use Rattle.outline.specs.Outline.{walked}
 use Rattle.outline_laws.proofs.HomeLaws.{home-one}
 use Rattle.outline_laws.proofs.LinkLaws.{walked-last, walked-last-back, walked-other}

@@ -2,8 +2,7 @@
 use Rattle.lists.specs.Lists.{_≡_, Bool, List, List·Memᴰ, ℕ, _+_, _/_, _%_, _^_, _<_, _≤_, eqb, length, getD}
 use lib.Bits.{bitOr}
 use lib.ListN.{set}
-use Rattle.grid.specs.{declared.Corner.Corner, Grid.stepped, Grid.cornersFrom}
-use Rattle.hull.specs.Hull.{Begins}
+use Rattle.grid.specs.{declared.Corner.Corner, Grid.stepped, Grid.cornersFrom, Grid.Begins}
 use Rattle.outline.specs.Outline.{walked, homeOf}
 
 -- bit e of a byte is set

@@ -12,11 +12,10 @@ use lib.Signed.{_≤ℤ_, _<ℤ_}
 use Rattle.int_laws.proofs.LinearLaws.{zarith, bal+}
 use Rattle.int_laws.proofs.NextLaws.{bal-pred}
 use Rattle.grid.specs.declared.{Corner.Corner, Panel.Panel}
-use Rattle.grid.specs.Grid.{same, stepped, endFrom, legsFrom, back}
+use Rattle.grid.specs.Grid.{same, stepped, endFrom, legsFrom, back, Begins}
 use Rattle.grid.proofs.CornerLaws.{same-sound}
 use Rattle.grid.proofs.StepLaws.{stepped-back}
 use Rattle.steps.specs.Turns.{stepAfter}
-use Rattle.hull.specs.Hull.{Begins}
 use Rattle.panels.specs.Edges.{surplusOf}
 use Rattle.panels.specs.Inside.{Inside, leftOf, rightOf, EachStep}
 use Rattle.area_laws.proofs.AreaLaws.{surplus-inside}

@@ -1,22 +1,21 @@
 -- From the parts of the outline's call to the whole.
 -- Assumes nothing.
 use mathlib.Core.Bool.{Bool, true, false}
-use mathlib.Core.List.{List, [], _∷_, _++_}
+use mathlib.Core.List.{List, [], _∷_}
 use mathlib.Core.Path.{_≡_, refl, ap, sym, _∙_}
 use Prim.Native.Nat.{ℕ, zero, suc, _*_, _<_, _≤_}
 use native.Mathlib.Omega.{arith}
 use borrow.Author.Tests.{lt-ltb, le-ltb, ltb-false, not-true, not-false}
 use lib.Dec.{ltb}
-use lib.ListN.{length, getD, drop, replicate, length-replicate}
+use lib.ListN.{length, getD, replicate, length-replicate}
 use Rattle.answer.specs.declared.{Judged.Judged, Judged.the-variants.Good, Judged.the-variants.Refused, Refusal.the-variants.OutlineRoom, Counted.Counted}
-use Rattle.answer.specs.Limits.{mostInput, mostSteps, startFits}
+use Rattle.answer.specs.Limits.{mostSteps}
 use Rattle.answer.specs.Refusal.{when}
+use Rattle.answer.specs.Listed.{countedOf, laidIf}
 use Rattle.grid.specs.declared.Corner.{Corner}
-use Rattle.steps.specs.Turns.{writtenIf}
-use Rattle.hull.specs.Call.{chainJudged, countedOf}
-use Rattle.hull_laws.proofs.CallLaws as hulls
-use Rattle.hull_laws.proofs.SurveyLaws.{good-digits, good-short}
-use Rattle.outline.specs.Call.{outlineRoomJudged, outlineJudged, OutlineCall}
+use Rattle.steps.specs.Chain.{asWalkJudged}
+use Rattle.steps.proofs.ChainLaws.{good-walk}
+use Rattle.outline.specs.Call.{OutlineCall}
 use Rattle.outline.specs.Computed.{outlineOf}
 use Rattle.outline_laws.proofs.OutlineLaws.{outlineOf-is}
 use Rattle.outline_laws.proofs.CallLaws.{judged-last}
@@ -51,13 +50,10 @@ box-lent chain width height from closed size f = (record { steady = f .steady; s
 -- ---- too little room, or all of it written
 
 module _ (chain before : List ℕ) where
-  abbrev whole : Corner → List ℕ
-  whole c = outlineOf c chain ++ drop (length (outlineOf c chain)) before
-
-  by-room : (c : Corner) (j : Judged) (r : Counted) (after : List ℕ) → outlineRoomJudged (length before) (length (outlineOf c chain)) ≡ j → r ≡ countedOf j (length (outlineOf c chain)) → after ≡ writtenIf j (whole c) before → Traced c chain before r after
+  by-room : (c : Corner) (j : Judged) (r : Counted) (after : List ℕ) → when (ltb (length before) (length (outlineOf c chain))) OutlineRoom ≡ j → r ≡ countedOf j (length (outlineOf c chain)) → after ≡ laidIf j (outlineOf c chain) before → Traced c chain before r after
   by-room c j r after e a b = record {
     answer = a ∙ sym (ap (λ (k : Judged). countedOf k (length (outlineOf c chain))) e);
-    buffer = b ∙ sym (ap (λ (k : Judged). writtenIf k (whole c) before) e);
+    buffer = b ∙ sym (ap (λ (k : Judged). laidIf k (outlineOf c chain) before) e);
   }
 
   pub traced-short : (n : ℕ) → Long chain n → length before < n → (c : Corner) → Traced c chain before (Counted.Refused OutlineRoom) before
@@ -82,17 +78,17 @@ traced-empty (d ∷ chain) before e c = absurd (omega arith)
 
 -- ---- the call
 
--- a chain without a fault
-pub steady : (chain : List ℕ) → chainJudged 0 chain ≡ Good → Steady chain
-steady chain g = record { digits = good-digits 0 chain g; short = omega (arith, good-short 0 chain (omega arith) g) }
+module _ (s : Corner) (ds : List ℕ) (e : asWalkJudged s ds ≡ Good) where
+  pub steady : Steady ds
+  steady = let w = good-walk s ds e in record { digits = w .digits; short = w .short }
 
-pub call-traced : (s : Corner) (ds before : List ℕ) (r : Counted) (after : List ℕ) → length ds ≤ mostInput → startFits s ≡ true → chainJudged 0 ds ≡ Good → Traced s ds before r after → OutlineCall s ds before r after
-call-traced s ds before r after h f g t =
-    let es = outlineOf s ds in
-    let j : outlineJudged s ds (length before) (length es) ≡ outlineRoomJudged (length before) (length es) = judged-last s ds (length before) (length es) (hulls.judged-room s ds 0 0 h f g) in
-    record {
-      steps = es;
-      outline = outlineOf-is s ds;
-      answer = t .answer ∙ sym (ap (λ (k : Judged). countedOf k (length es)) j);
-      buffer = t .buffer ∙ sym (ap (λ (k : Judged). writtenIf k (es ++ drop (length es) before) before) j);
-    }
+  pub call-traced : (before : List ℕ) (r : Counted) (after : List ℕ) → Traced s ds before r after → OutlineCall s ds before r after
+  call-traced before r after t =
+      let es = outlineOf s ds in
+      let j = judged-last s ds (length before) (length es) e in
+      record {
+        steps = es;
+        outline = outlineOf-is s ds;
+        answer = t .answer ∙ sym (ap (λ (k : Judged). countedOf k (length es)) j);
+        buffer = t .buffer ∙ sym (ap (λ (k : Judged). laidIf k es before) j);
+      }

@@ -1,11 +1,8 @@
 -- What is done with a chain that is not refused, wherever the walk starts. Assumes nothing.
-use Rattle.lists.specs.Lists.{_≡_, Bool, List, ℕ, _*_, _<_, _≤_, length, getD, drop, _++_}
+use Rattle.lists.specs.Lists.{_≡_, Bool, List, ℕ, _*_, _<_, _≤_, ltb, length, getD}
 use Rattle.grid.specs.declared.Corner.{Corner}
-use Rattle.answer.specs.declared.Counted.{Counted}
-use Rattle.answer.specs.Limits.{mostSteps}
-use Rattle.steps.specs.Turns.{writtenIf}
-use Rattle.hull.specs.Call.{countedOf}
-use Rattle.outline.specs.Call.{outlineRoomJudged}
+use Rattle.answer.specs.declared.{Counted.Counted, Refusal.the-variants.OutlineRoom}
+use Rattle.answer.specs.{Limits.mostSteps, Refusal.when, Listed.countedOf, Listed.laidIf}
 use Rattle.outline.specs.Computed.{outlineOf}
 use Rattle.box_walk.specs.Boxed.{Boxed}
 
@@ -23,5 +20,5 @@ pub record MapFits (chain : List ℕ) (width height from : ℕ) (closed : Bool) 
 
 -- the outline of the walk from c is counted and written, unless the room is shorter
 pub record Traced (c : Corner) (chain before : List ℕ) (r : Counted) (after : List ℕ) : Type 0 where
-  pub answer : r ≡ countedOf (outlineRoomJudged (length before) (length (outlineOf c chain))) (length (outlineOf c chain))
-  pub buffer : after ≡ writtenIf (outlineRoomJudged (length before) (length (outlineOf c chain))) (outlineOf c chain ++ drop (length (outlineOf c chain)) before) before
+  pub answer : r ≡ countedOf (when (ltb (length before) (length (outlineOf c chain))) OutlineRoom) (length (outlineOf c chain))
+  pub buffer : after ≡ laidIf (when (ltb (length before) (length (outlineOf c chain))) OutlineRoom) (outlineOf c chain) before

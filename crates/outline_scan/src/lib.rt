@@ -3,12 +3,11 @@ use answer::Counted;
 use answer::Judged;
 use answer::Limits;
 use answer::Refusal;
-use answer::start_fits;
 use box_walk::WalkBox;
 use box_walk::enclose;
+use chain_judge::judge;
+use columns::Columns;
 use grid::Corner;
-use hull_columns::Columns;
-use hull_columns::judge;
 use outline_links::build;
 use outline_map::across;
 use outline_map::fits;
@@ -20,7 +19,7 @@ ghost use Prim.Native.Nat.{ℕ, _*_, _<_, _≤_};
 ghost use mathlib.Core.Path.{_≡_};
 ghost use lib.ListN.{length, getD};
 ghost use Rattle.answer.specs.Limits.{mostSteps};
-ghost use Rattle.hull_laws.specs.Columns.{narrowSize, widerSize};
+ghost use Rattle.column_laws.specs.Columns.{narrowSize, widerSize};
 ghost use Rattle.grid.specs.declared.Corner.{Corner};
 ghost use Rattle.outline.specs.Call.{OutlineCall};
 ghost use Rattle.outline_links.specs.Built.{Blank};
@@ -163,13 +162,7 @@ fn write_from(chain: &[u8], out: &mut [u8]) -> Counted
 pub fn write(start: Corner, chain: &[u8], out: &mut [u8]) -> Counted
     ensures { λ r. ⌜ OutlineCall start (now (chain .entry)) (now (out .entry)) r (now (out .exit)) ⌝ }
 {
-    if chain.len() > Limits::MOST_INPUT {
-        return Counted::Refused(Refusal::TooMany);
-    }
-    if !start_fits(start) {
-        return Counted::Refused(Refusal::StartRange);
-    }
-    match judge(chain) {
+    match judge(start, chain) {
         Judged::Good => write_from(chain, out),
         Judged::Refused(r) => Counted::Refused(r),
     }

@@ -5,8 +5,9 @@ use mathlib.Core.Path.{_≡_, refl, ap, _∙_}
 use Prim.Native.Nat.{ℕ}
 use lib.IntN.{ℤ, pos}
 use Rattle.answer.specs.declared.{Judged.Judged, Judged.the-variants.Good, Judged.the-variants.Refused, Refusal.the-variants.BadDigit, Refusal.the-variants.NotRoom, Refusal.the-variants.SpanRoom}
+use Rattle.answer.specs.Listed.{laidIf}
 use Rattle.grid.specs.Grid.{origin}
-use Rattle.row_call.specs.{Rows.Span, Call.spansIn}
+use Rattle.row_call.specs.{Rows.Span, Rows.spanNumbers}
 use Rattle.overlay.specs.declared.{Part.Part, Part.the-variants.First, Part.the-variants.Second, Overlaid.Overlaid}
 use Rattle.overlay.specs.Call.{ofParts, overlayJudged, overlaidOf, OverlayCall, overlaidWords, overlaidNumber}
 use Rattle.overlay.proofs.OverlayCases.{one}
@@ -48,10 +49,10 @@ room-for-all = refl
 
 -- one list is too long: the other is not written either
 one-short : {r : Overlaid} {after : Part → List ℤ} (w : OverlayCall origin one origin one (buffers five) r after) → w .lists ≡ lists → after First ≡ three
-one-short w e = w .buffers First ∙ ap (λ (L : Part → List Span). spansIn (overlayJudged origin one origin one (buffers five) L) (L First) three) e
+one-short w e = w .buffers First ∙ ap (λ (L : Part → List Span). laidIf (overlayJudged origin one origin one (buffers five) L) (spanNumbers (L First)) three) e
 
 -- the number behind a list stays
-number-behind : spansIn (judged one one (pos 7 ∷ pos 7 ∷ five)) (lists Second) (pos 7 ∷ pos 7 ∷ five) ≡ pos 0 ∷ pos 1 ∷ pos 2 ∷ pos 0 ∷ pos 4 ∷ pos 4 ∷ pos 7 ∷ []
+number-behind : laidIf (judged one one (pos 7 ∷ pos 7 ∷ five)) (spanNumbers (lists Second)) (pos 7 ∷ pos 7 ∷ five) ≡ pos 0 ∷ pos 1 ∷ pos 2 ∷ pos 0 ∷ pos 4 ∷ pos 4 ∷ pos 7 ∷ []
 number-behind = refl
 
 -- panels 2, 3 and 0, spans 1, 2 and 0

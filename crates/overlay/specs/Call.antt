@@ -2,9 +2,9 @@
 use Rattle.lists.specs.Lists.{_≡_, List, [], _∷_, length, ℕ, ℤ}
 use Rattle.grid.specs.declared.Corner.{Corner}
 use Rattle.answer.specs.declared.{Judged.Judged, Judged.the-variants.Good, Judged.the-variants.Refused}
-use Rattle.answer.specs.{Refusal.firstOf, Refusal.refusalNumber, Refusal.refusalPlace}
+use Rattle.answer.specs.{Refusal.firstOf, Refusal.refusalNumber, Refusal.refusalPlace, Listed.laidIf}
 use Rattle.room.specs.Room.{asRoomJudged}
-use Rattle.row_call.specs.{Rows.Span, Rows.RowsIs, Rows.lengthsOf, Call.spanRoomJudged, Call.spansIn}
+use Rattle.row_call.specs.{Rows.Span, Rows.RowsIs, Rows.lengthsOf, Call.spanRoomJudged, Rows.spanNumbers}
 use Rattle.overlay.specs.declared.{Part.Part, Part.the-variants.First, Part.the-variants.Second, Part.the-variants.Both, Measure.Measure, Measures.Measures, Overlaid.Overlaid}
 use Rattle.overlay.specs.Overlay.{InPart}
 
@@ -40,7 +40,7 @@ pub record OverlayCall (s : Corner) (ds : List ℕ) (t : Corner) (es : List ℕ)
   pub lists : Part → List Span
   pub rows : asRoomJudged s ds ≡ Good → asRoomJudged t es ≡ Good → (k : Part) → RowsIs (InPart k s ds t es) (lists k)
   pub answer : r ≡ overlaidOf (overlayJudged s ds t es before lists) lists
-  pub buffers : (k : Part) → after k ≡ spansIn (overlayJudged s ds t es before lists) (lists k) (before k)
+  pub buffers : (k : Part) → after k ≡ laidIf (overlayJudged s ds t es before lists) (spanNumbers (lists k)) (before k)
 
 -- number, place, the panels of the three parts, and their spans
 abbrev pub overlaidWords : Overlaid → List ℕ

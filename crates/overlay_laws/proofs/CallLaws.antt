@@ -14,9 +14,10 @@ use lib.ListN.{length}
 use Rattle.answer.specs.declared.{Judged.Judged, Judged.the-variants.Good, Judged.the-variants.Refused, Refusal.Refusal, Refusal.the-variants.SpanRoom}
 use Rattle.answer.specs.Refusal.{when, orElse, firstOf}
 use Rattle.answer.proofs.RefusalLaws.{clear-first}
+use Rattle.answer.specs.Listed.{laidIf}
 use Rattle.grid.specs.declared.Corner.{Corner}
 use Rattle.room.specs.Room.{asRoomJudged}
-use Rattle.row_call.specs.{Rows.Span, Call.spansIn}
+use Rattle.row_call.specs.{Rows.Span, Rows.spanNumbers}
 use Rattle.row_laws.proofs.OneLaws.{rowsIs-one}
 use Rattle.overlay.specs.declared.{Part.Part, Part.the-variants.First, Part.the-variants.Second, Part.the-variants.Both, Overlaid.Overlaid}
 use Rattle.overlay.specs.{Overlay.InPart, Call.partRoomJudged, Call.overlayJudged, Call.overlaidOf, Call.OverlayCall}
@@ -97,13 +98,13 @@ module _ (s : Corner) (ds : List ℕ) (t : Corner) (es : List ℕ) (before : Par
     refused-same : (x : Refusal) → judgedBy (c .lists) ≡ Refused x → judgedBy (d .lists) ≡ Refused x → Same
     refused-same x e f = (
       c .answer ∙ ap (λ (j : Judged). overlaidOf j (c .lists)) e ∙ sym (d .answer ∙ ap (λ (j : Judged). overlaidOf j (d .lists)) f),
-      λ k. c .buffers k ∙ ap (λ (j : Judged). spansIn j (c .lists k) (before k)) e ∙ sym (d .buffers k ∙ ap (λ (j : Judged). spansIn j (d .lists k) (before k)) f),
+      λ k. c .buffers k ∙ ap (λ (j : Judged). laidIf j (spanNumbers (c .lists k)) (before k)) e ∙ sym (d .buffers k ∙ ap (λ (j : Judged). laidIf j (spanNumbers (d .lists k)) (before k)) f),
     )
 
     lists-same : c .lists ≡ d .lists → Same
     lists-same e = (
       c .answer ∙ ap (λ (L : Part → List Span). overlaidOf (judgedBy L) L) e ∙ sym (d .answer),
-      λ k. c .buffers k ∙ ap (λ (L : Part → List Span). spansIn (judgedBy L) (L k) (before k)) e ∙ sym (d .buffers k),
+      λ k. c .buffers k ∙ ap (λ (L : Part → List Span). laidIf (judgedBy L) (spanNumbers (L k)) (before k)) e ∙ sym (d .buffers k),
     )
 
     pub overlayCall-one : Same

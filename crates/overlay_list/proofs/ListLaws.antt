@@ -11,9 +11,10 @@ use lib.ListN.{length, getD, set, drop, List·getD-append}
 use lib.Seq.{sets, getD-set-same, getD-set-other}
 use Rattle.lists.specs.Lists.{count}
 use Rattle.answer.specs.declared.{Judged.Judged, Judged.the-variants.Good, Judged.the-variants.Refused, Refusal.Refusal}
+use Rattle.answer.specs.Listed.{laidIf}
 use Rattle.grid.specs.declared.Corner.{Corner}
 use Rattle.room.specs.Room.{asRoomJudged}
-use Rattle.row_call.specs.{Rows.Span, Rows.spanNumbers, Call.spansIn}
+use Rattle.row_call.specs.{Rows.Span, Rows.spanNumbers}
 use Rattle.row_laws.specs.Feet.{pairsOf, rowsOf}
 use Rattle.row_laws.proofs.{PairLaws.pairs-length, PairLaws.turn-up-to, SortedLaws.room-half, NumberLaws.length-numbers, NumberLaws.written}
 use Rattle.row_list.proofs.CallLaws.{good-walled}
@@ -67,13 +68,13 @@ module _ (s : Corner) (ds : List ℕ) (g : asRoomJudged s ds ≡ Good) (v : ℕ)
       let n : v ≡ length (endsOfWalk s ds) = room-spans ∙ twice in
       record {
         closed = w .room .closed;
-        ends = ap₂ (λ (a : List ℤ) (m : ℕ). endsFrom a 0 m) f n ∙ ends-read (endsOfWalk s ds) (drop (3 * length (rowsOf s ds)) before) ends-of;
+        ends = ap₂ (λ (a : List ℤ) (m : ℕ). endsFrom a 0 m) f n ∙ ends-read (endsOfWalk s ds) (drop (length (spanNumbers (rowsOf s ds))) before) ends-of;
         short = l;
         numbers = record {
           even = omega (arith, room-spans);
           room = omega (arith, h, k, l);
           small = λ i b. subst (λ (a : List ℤ). natAbs (getD a i (pos 0)) ≤ 32767) (sym f)
-              (subst (λ (z : ℤ). natAbs z ≤ 32767) (sym (List·getD-append (spanNumbers (rowsOf s ds)) (drop (3 * length (rowsOf s ds)) before) (pos 0) i (omega (arith, b, room-spans, length-numbers (rowsOf s ds))))) (room-small s ds (w .room) (w .digits) (w .few) (w .near) i));
+              (subst (λ (z : ℤ). natAbs z ≤ 32767) (sym (List·getD-append (spanNumbers (rowsOf s ds)) (drop (length (spanNumbers (rowsOf s ds))) before) (pos 0) i (omega (arith, b, room-spans, length-numbers (rowsOf s ds))))) (room-small s ds (w .room) (w .digits) (w .few) (w .near) i));
           few = omega (arith, l, w .few);
         };
       }
@@ -89,7 +90,7 @@ module _ (s : Corner) (ds : List ℕ) (t : Corner) (es : List ℕ) (before : Par
         lists = listsOf s ds t es;
         rows = λ _ _. lists-rows s ds t es (x .closed) (y .closed);
         answer = c .answer ∙ ap (λ (L : Part → List Span). overlaidOf (partsJudged before L) L) w ∙ sym (ap (λ (i : Judged). overlaidOf i (listsOf s ds t es)) j);
-        buffers = λ k. c .buffers k ∙ ap (λ (L : Part → List Span). spansIn (partsJudged before L) (L k) (before k)) w ∙ sym (ap (λ (i : Judged). spansIn i (listsOf s ds t es k) (before k)) j);
+        buffers = λ k. c .buffers k ∙ ap (λ (L : Part → List Span). laidIf (partsJudged before L) (spanNumbers (L k)) (before k)) w ∙ sym (ap (λ (i : Judged). laidIf i (spanNumbers (listsOf s ds t es k)) (before k)) j);
       }
 
   abbrev none : Part → List Span
@@ -103,7 +104,7 @@ module _ (s : Corner) (ds : List ℕ) (t : Corner) (es : List ℕ) (before : Par
     lists = none;
     rows = λ g h. absurd (f g h);
     answer = sym (ap (λ (j : Judged). overlaidOf j none) e);
-    buffers = λ k. sym (ap (λ (j : Judged). spansIn j [] (before k)) e);
+    buffers = λ k. sym (ap (λ (j : Judged). laidIf j (spanNumbers []) (before k)) e);
   }
 
   pub call-first : (q : Refusal) → asRoomJudged s ds ≡ Refused q → OverlayCall s ds t es before (Overlaid.Refused q) before

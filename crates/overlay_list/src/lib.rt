@@ -1,6 +1,7 @@
 // Lists the panels of two rooms that are in the first only, in the second only and in both: the call.
 use answer::Judged;
 use answer::Limits;
+use columns::Columns;
 use grid::Corner;
 use overlay::Overlaid;
 use overlay_parts::put_parts;
@@ -11,17 +12,12 @@ ghost use Prim.Native.Nat.{_*_, _/_, _≤_};
 ghost use lib.IntN.{natAbs};
 ghost use lib.ListN.{length};
 ghost use Rattle.answer.specs.declared.Judged.the-variants.{Good};
-ghost use Rattle.hull_laws.specs.Columns.{narrowSize, widerSize};
+ghost use Rattle.column_laws.specs.Columns.{narrowSize, widerSize};
 ghost use Rattle.room.specs.Room.{asRoomJudged};
 ghost use Rattle.overlay.specs.Call.{ofParts, OverlayCall};
 ghost use Rattle.overlay_laws.specs.Sweep.{Numbers};
 ghost use Rattle.overlay_sweep.specs.Parts.{HoldsSpans};
 ghost use Rattle.overlay_list.specs.Copies.{Copied};
-
-// The steps for which the two lesser stores have room.
-const NARROW: usize = 256;
-
-const WIDER: usize = 2048;
 
 // The same number in 16 bits.
 fn short(x: i32) -> i16
@@ -77,8 +73,8 @@ fn list_narrow(
     requires { ⌜ (asRoomJudged s (now ds) ≡ Good) × (asRoomJudged t (now es) ≡ Good) × (length (now ds) ≤ narrowSize) × (length (now es) ≤ narrowSize) ⌝ }
     ensures { λ r. ⌜ OverlayCall s (now (ds .entry)) t (now (es .entry)) (ofParts (now (first .entry)) (now (second .entry)) (now (both .entry))) r (ofParts (now (first .exit)) (now (second .exit)) (now (both .exit))) ⌝ }
 {
-    let mut a = [0i16; 3 * (NARROW / 2)];
-    let mut b = [0i32; 3 * (NARROW / 2)];
+    let mut a = [0i16; 3 * (Columns::NARROW / 2)];
+    let mut b = [0i32; 3 * (Columns::NARROW / 2)];
     list_in(&mut a, &mut b, s, ds, t, es, first, second, both)
 }
 
@@ -115,8 +111,8 @@ fn list_wider(
     requires { ⌜ (asRoomJudged s (now ds) ≡ Good) × (asRoomJudged t (now es) ≡ Good) × (length (now ds) ≤ widerSize) × (length (now es) ≤ widerSize) ⌝ }
     ensures { λ r. ⌜ OverlayCall s (now (ds .entry)) t (now (es .entry)) (ofParts (now (first .entry)) (now (second .entry)) (now (both .entry))) r (ofParts (now (first .exit)) (now (second .exit)) (now (both .exit))) ⌝ }
 {
-    let mut a = [0i16; 3 * (WIDER / 2)];
-    let mut b = [0i32; 3 * (WIDER / 2)];
+    let mut a = [0i16; 3 * (Columns::WIDER / 2)];
+    let mut b = [0i32; 3 * (Columns::WIDER / 2)];
     list_in(&mut a, &mut b, s, ds, t, es, first, second, both)
 }
 
@@ -134,10 +130,10 @@ fn list_rooms(
     ensures { λ r. ⌜ OverlayCall s (now (ds .entry)) t (now (es .entry)) (ofParts (now (first .entry)) (now (second .entry)) (now (both .entry))) r (ofParts (now (first .exit)) (now (second .exit)) (now (both .exit))) ⌝ }
 {
     let longer = order::greater(ds.len(), es.len());
-    if longer <= NARROW {
+    if longer <= Columns::NARROW {
         return list_narrow(s, ds, t, es, first, second, both);
     }
-    if longer <= WIDER {
+    if longer <= Columns::WIDER {
         return list_wider(s, ds, t, es, first, second, both);
     }
     list_widest(s, ds, t, es, first, second, both)

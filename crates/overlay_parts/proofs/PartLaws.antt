@@ -7,7 +7,8 @@ use native.Mathlib.Omega.{arith}
 use lib.IntN.{ℤ}
 use lib.ListN.{length}
 use Rattle.answer.specs.declared.{Judged.Judged, Refusal.the-variants.SpanRoom}
-use Rattle.row_call.specs.{Rows.Span, Call.spansIn}
+use Rattle.answer.specs.Listed.{laidIf}
+use Rattle.row_call.specs.{Rows.Span, Rows.spanNumbers}
 use Rattle.row_laws.proofs.NumberLaws.{written}
 use Rattle.overlay.specs.declared.{Part.Part, Part.the-variants.First, Part.the-variants.Second, Part.the-variants.Both, Measure.Measure, Measures.Measures, Overlaid.Overlaid}
 use Rattle.overlay.specs.Call.{ofParts, measureOf, measuresOf, overlaidOf}
@@ -35,7 +36,7 @@ module _ (L : Part → List Span) where
     pub parts-short : (k : Part) → length (ofParts f g h k) < 3 * length (L k) → PartsCall L (ofParts f g h) (Overlaid.Refused SpanRoom) (ofParts f g h)
     parts-short k l =
         let e = any-short (ofParts f g h) L k l in
-        record { answer = sym (ap (λ (j : Judged). overlaidOf j L) e); buffers = λ i. sym (ap (λ (j : Judged). spansIn j (L i) (ofParts f g h i)) e) }
+        record { answer = sym (ap (λ (j : Judged). overlaidOf j L) e); buffers = λ i. sym (ap (λ (j : Judged). laidIf j (spanNumbers (L i)) (ofParts f g h i)) e) }
 
     pub parts-room : 3 * length (L First) ≤ length f → 3 * length (L Second) ≤ length g → 3 * length (L Both) ≤ length h → HaveRoom L (ofParts f g h)
     parts-room l m n First = l
@@ -47,5 +48,5 @@ module _ (L : Part → List Span) where
         let e = all-enough (ofParts f g h) L all in
         record {
           answer = ap Overlaid.Listed (parts-measured r (λ k. w k .measure)) ∙ sym (ap (λ (j : Judged). overlaidOf j L) e);
-          buffers = λ k. w k .buffer (all k) ∙ written (ofParts f g h k) (L k) (all k) ∙ sym (ap (λ (j : Judged). spansIn j (L k) (ofParts f g h k)) e);
+          buffers = λ k. w k .buffer (all k) ∙ written (ofParts f g h k) (L k) (all k) ∙ sym (ap (λ (j : Judged). laidIf j (spanNumbers (L k)) (ofParts f g h k)) e);
         }

@@ -7,7 +7,8 @@ use lib.IntN.{ℤ}
 use lib.ListN.{length}
 use Rattle.answer.specs.declared.Judged.{Judged}
 use Rattle.answer.specs.Refusal.{firstOf}
-use Rattle.row_call.specs.{Rows.Span, Call.spansIn}
+use Rattle.answer.specs.Listed.{laidIf}
+use Rattle.row_call.specs.{Rows.Span, Rows.spanNumbers}
 use Rattle.overlay.specs.declared.{Part.Part, Part.the-variants.First, Part.the-variants.Second, Part.the-variants.Both, Overlaid.Overlaid}
 use Rattle.overlay.specs.Call.{partRoomJudged, overlaidOf}
 
@@ -22,4 +23,4 @@ partsJudged before lists = firstOf (partRoomJudged before lists First ∷ partRo
 -- the answer and the buffers by the three lists
 pub record PartsCall (lists : Part → List Span) (before : Part → List ℤ) (r : Overlaid) (after : Part → List ℤ) : Type 0 where
   pub answer : r ≡ overlaidOf (partsJudged before lists) lists
-  pub buffers : (k : Part) → after k ≡ spansIn (partsJudged before lists) (lists k) (before k)
+  pub buffers : (k : Part) → after k ≡ laidIf (partsJudged before lists) (spanNumbers (lists k)) (before k)

@@ -18,7 +18,7 @@ use Rattle.grid.proofs.PathLaws.{pathOf-snoc}
 use Rattle.tree.proofs.NodeLaws.{mem-path}
 use Rattle.tree_laws.proofs.LevelLaws.{root-is, path-known}
 use Rattle.table_laws.proofs.LookupLaws.{root-child}
-use Rattle.table_climb_laws.specs.Climb.{Apart, Climbed}
+use Rattle.table_laws.specs.Climb.{Apart, Climbed}
 use Rattle.pair_table.specs.Slots.{Slot, placed, placedAll, refIn}
 use Rattle.pair_table.specs.Words.{pairWidth}
 use Rattle.pair_laws.specs.Stand.{At, HeldOnce}

@@ -9,7 +9,7 @@ ghost use lib.ListN.{length};
 ghost use Rattle.grid.specs.Grid.{stepped};
 ghost use Rattle.grid.specs.Tree.{isRoot};
 ghost use Rattle.layout.specs.Table.{parentWord};
-ghost use Rattle.table_climb_laws.specs.Climb.{Climbed};
+ghost use Rattle.table_laws.specs.Climb.{Climbed};
 ghost use Rattle.tree_laws.specs.State.{reached};
 ghost use Rattle.pair_table.specs.Slots.{Slot};
 ghost use Rattle.pair_table_laws.specs.Hold.{Both, wordsIn};

@@ -1,11 +1,10 @@
 -- The polygon of a room, little-endian, and the promise of the call that writes it (RULES 13). Assumes nothing.
-use Rattle.lists.specs.Lists.{_≡_, Bool, not, cond, List, [], _∷_, _++_, length, drop, ℕ, eqb, ltb, ℤ}
+use Rattle.lists.specs.Lists.{_≡_, Bool, not, cond, List, [], _∷_, _++_, length, ℕ, eqb, ltb, ℤ}
 use lib.Ieee.{binary64, toBits}
 use Rattle.grid.specs.{declared.Corner.Corner, Grid.stepped}
 use Rattle.answer.specs.declared.{Judged.Judged, Counted.Counted, Refusal.the-variants.PolygonRoom}
-use Rattle.answer.specs.{Refusal.when, Refusal.firstOf}
-use Rattle.steps.specs.Turns.{turnOf, writtenIf}
-use Rattle.hull.specs.Call.{countedOf}
+use Rattle.answer.specs.{Refusal.when, Refusal.firstOf, Listed.countedOf, Listed.laidIf}
+use Rattle.steps.specs.Turns.{turnOf}
 use Rattle.room.specs.Room.{asRoomJudged}
 use Rattle.polygon.specs.{Bytes.bytesOf, Coordinate.coordinateOf}
 
@@ -66,4 +65,4 @@ polygonJudged s ds room = firstOf (asRoomJudged s ds ∷ polygonRoomJudged s ds 
 -- the promise of the call: how many bytes there are, and a buffer that holds them and then what stood after them, unless there is a refusal
 pub record PolygonCall (s : Corner) (ds before : List ℕ) (r : Counted) (after : List ℕ) : Type 0 where
   pub answer : r ≡ countedOf (polygonJudged s ds (length before)) (length (polygonOf s ds))
-  pub buffer : after ≡ writtenIf (polygonJudged s ds (length before)) (polygonOf s ds ++ drop (length (polygonOf s ds)) before) before
+  pub buffer : after ≡ laidIf (polygonJudged s ds (length before)) (polygonOf s ds) before

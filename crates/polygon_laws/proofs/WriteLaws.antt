@@ -14,9 +14,8 @@ use Rattle.polygon.specs.Bytes.{bytesOf}
 use Rattle.answer.specs.Limits.{mostSteps}
 use Rattle.answer.specs.Refusal.{when, orElse}
 use Rattle.answer.proofs.RefusalLaws.{orElse-right, orElse-good}
-use Rattle.steps.specs.Turns.{writtenIf}
-use Rattle.hull.specs.Call.{countedOf}
-use Rattle.hull_laws.proofs.SurveyLaws.{good-digits, good-short}
+use Rattle.answer.specs.Listed.{countedOf, laidIf}
+use Rattle.steps.proofs.ChainLaws.{good-digits, good-short}
 use Rattle.room.specs.Room.{asRoomJudged}
 use Rattle.room.proofs.RoomLaws.{good-room}
 use Rattle.polygon.specs.Polygon.{prefix, pointBytes, pointsBytes, polygonBytes, bendsOf, pointsOf, polygonOf, polygonRoomJudged, polygonJudged, PolygonCall}
@@ -78,7 +77,7 @@ pub draw-short : (s : Corner) (ds out : List ℕ) (n : ℕ) → Below 4 ds → n
 draw-short s ds out n b e h =
     let j : polygonRoomJudged s ds (length out) ≡ Refused PolygonRoom = ap (λ (t : Bool). when t PolygonRoom) (lt-ltb (length out) (length (polygonOf s ds)) (omega (arith, length-polygonOf s ds b))) in record {
       answer = ap (λ (c : Judged). countedOf c (length (polygonOf s ds))) (sym j);
-      buffer = ap (λ (c : Judged). writtenIf c (polygonOf s ds ++ drop (length (polygonOf s ds)) out) out) (sym j);
+      buffer = ap (λ (c : Judged). laidIf c (polygonOf s ds) out) (sym j);
     }
 
 pub draw-done : (s : Corner) (ds out after : List ℕ) (n : ℕ) → Below 4 ds → n ≡ turning ds + 2 → (length out < 13 + 16 * n → ⊥) → after ≡ polygonOf s ds ++ drop (length (polygonOf s ds)) out
@@ -86,7 +85,7 @@ pub draw-done : (s : Corner) (ds out after : List ℕ) (n : ℕ) → Below 4 ds 
 draw-done s ds out after n b e h w =
     let j : polygonRoomJudged s ds (length out) ≡ Good = ap (λ (t : Bool). when t PolygonRoom) (le-ltb (length out) (length (polygonOf s ds)) (omega (arith, length-polygonOf s ds b))) in record {
       answer = ap Counted.Many (ap (λ (m : ℕ). 13 + 16 * m) e ∙ sym (length-polygonOf s ds b)) ∙ ap (λ (c : Judged). countedOf c (length (polygonOf s ds))) (sym j);
-      buffer = w ∙ ap (λ (c : Judged). writtenIf c (polygonOf s ds ++ drop (length (polygonOf s ds)) out) out) (sym j);
+      buffer = w ∙ ap (λ (c : Judged). laidIf c (polygonOf s ds) out) (sym j);
     }
 
 -- a start and a chain that nothing is wrong with can be drawn
@@ -101,14 +100,14 @@ module _ (s : Corner) (ds out : List ℕ) (j : Judged) (e : j ≡ asRoomJudged s
       let k : polygonRoomJudged s ds (length out) ≡ polygonJudged s ds (length out) =
       sym (ap (λ (c : Judged). orElse c (orElse (polygonRoomJudged s ds (length out)) Good)) (sym e ∙ g) ∙ orElse-right (polygonRoomJudged s ds (length out))) in record {
         answer = d .answer ∙ ap (λ (c : Judged). countedOf c (length (polygonOf s ds))) k;
-        buffer = d .buffer ∙ ap (λ (c : Judged). writtenIf c (polygonOf s ds ++ drop (length (polygonOf s ds)) out) out) k;
+        buffer = d .buffer ∙ ap (λ (c : Judged). laidIf c (polygonOf s ds) out) k;
       }
 
   pub call-refused : (r : Refusal) → j ≡ Refused r → PolygonCall s ds out (Counted.Refused r) out
   call-refused r q =
       let k : Refused r ≡ polygonJudged s ds (length out) = sym (ap (λ (c : Judged). orElse c (orElse (polygonRoomJudged s ds (length out)) Good)) (sym e ∙ q)) in record {
         answer = ap (λ (c : Judged). countedOf c (length (polygonOf s ds))) k;
-        buffer = ap (λ (c : Judged). writtenIf c (polygonOf s ds ++ drop (length (polygonOf s ds)) out) out) k;
+        buffer = ap (λ (c : Judged). laidIf c (polygonOf s ds) out) k;
       }
 
 -- the polygon of an accepted call has sixteen bytes for each step at most, and 29

@@ -4,8 +4,7 @@ use Rattle.lists.specs.Lists.{_≡_, List, [], _∷_, _++_, length, take, drop,
 use Rattle.answer.specs.Limits.{mostSteps, mostStart}
 use Rattle.grid.specs.declared.Corner.{Corner}
 use Rattle.answer.specs.declared.{Counted.Counted}
-use Rattle.steps.specs.Turns.{writtenIf}
-use Rattle.hull.specs.Call.{countedOf}
+use Rattle.answer.specs.Listed.{countedOf, laidIf}
 use Rattle.polygon.specs.Polygon.{bends, pointBytes, polygonOf, polygonRoomJudged}
 
 -- a start in range, and a chain of steps that is not too long: refusals 10, 4 and 6 leave nothing else
@@ -35,4 +34,4 @@ pointLaid l k b c = take (16 * k) l ++ bytesIf b c ++ drop (16 * (k + tally b)) 
 -- the promise of the call for a walk that can be drawn
 pub record Drawn (s : Corner) (ds before : List ℕ) (r : Counted) (after : List ℕ) : Type 0 where
   pub answer : r ≡ countedOf (polygonRoomJudged s ds (length before)) (length (polygonOf s ds))
-  pub buffer : after ≡ writtenIf (polygonRoomJudged s ds (length before)) (polygonOf s ds ++ drop (length (polygonOf s ds)) before) before
+  pub buffer : after ≡ laidIf (polygonRoomJudged s ds (length before)) (polygonOf s ds) before

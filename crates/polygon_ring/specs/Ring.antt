@@ -4,8 +4,7 @@ use mathlib.Core.List.{map}
 use lib.Ieee.{binary64, ofBits}
 use Rattle.grid.specs.{declared.Corner.Corner, Grid.origin, Grid.corner, Grid.eqZ, Grid.same}
 use Rattle.answer.specs.declared.{Judged.Judged, Judged.the-variants.Good, Refusal.the-variants.FileLength, Refusal.the-variants.FileKind, Refusal.the-variants.BadCoordinate, Refusal.the-variants.BadRing, Refusal.the-variants.TooLong, Refusal.the-variants.ChainRoom}
-use Rattle.answer.specs.{Limits.mostSteps, Limits.mostStart, Limits.farthest, Refusal.when, Refusal.firstOf}
-use Rattle.steps.specs.Turns.{writtenIf}
+use Rattle.answer.specs.{Limits.mostSteps, Limits.mostStart, Limits.farthest, Refusal.when, Refusal.firstOf, Listed.laidIf}
 use Rattle.polygon.specs.Polygon.{prefix}
 use Rattle.polygon_ring.specs.{Bytes.startsWith, Bytes.numberIn, Coordinate.wholeOf}
 use Rattle.polygon_ring.specs.declared.{GridPoint.GridPoint, GridPoint.the-variants.At, GridPoint.the-variants.Faulty, Whole.Whole, Whole.the-variants.Of, Whole.the-variants.Refused, Order.Order, Order.the-variants.Little, Order.the-variants.Big, Order.the-variants.Neither, Given.Given}
@@ -153,4 +152,4 @@ givenOf (Judged.Refused r) ps = Given.Refused r
 -- the promise of a file that is read
 pub record ReadCall (file out : List ℕ) (r : Given) (out′ : List ℕ) : Type 0 where
   pub answer : r ≡ givenOf (readJudged file (length out)) (ringOf file)
-  pub buffer : out′ ≡ writtenIf (readJudged file (length out)) (chainOfPoints (ringOf file) ++ drop (length (chainOfPoints (ringOf file))) out) out
+  pub buffer : out′ ≡ laidIf (readJudged file (length out)) (chainOfPoints (ringOf file)) out

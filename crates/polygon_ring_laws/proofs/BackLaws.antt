@@ -29,7 +29,8 @@ use Rattle.polygon_ring_laws.proofs.RingLaws.{mostAt-le, length-stepsFr
 use Rattle.polygon_ring_laws.proofs.RunLaws.{ahead, ahead-one, ahead-more, Run, run-ahead}
 use Rattle.polygon_ring_laws.proofs.TakeLaws.{point-back}
 use Rattle.answer.specs.Refusal.{when, orElse, firstOf}
-use Rattle.polygon_ring_laws.specs.Reading.{gridPointOf, laidIf}
+use Rattle.polygon_ring_laws.specs.Reading.{gridPointOf}
+use Rattle.answer.specs.Listed.{laidIf}
 use Rattle.answer.specs.declared.{Judged.Judged, Judged.the-variants.Good, Judged.the-variants.Refused, Refusal.the-variants.FileLength, Refusal.the-variants.FileKind, Refusal.the-variants.BadCoordinate, Refusal.the-variants.BadRing, Refusal.the-variants.TooLong, Refusal.the-variants.ChainRoom}
 use Rattle.polygon_ring.specs.declared.{GridPoint.GridPoint, Order.Order, Order.the-variants.Little, Given.Given}
 

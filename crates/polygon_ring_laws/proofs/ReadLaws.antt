@@ -12,7 +12,7 @@ use Rattle.lists.specs.Lists.{any}
 use Rattle.answer.specs.Limits.{mostSteps}
 use Rattle.grid.specs.declared.Corner.{Corner}
 use Rattle.answer.specs.Refusal.{when, orElse, firstOf}
-use Rattle.polygon_ring_laws.specs.Reading.{laidIf}
+use Rattle.answer.specs.Listed.{laidIf}
 use Rattle.polygon_ring.specs.Ring.{orderOf, isLittle, isNeither, pointAt, pointsFrom, isFaulty, cornerIn, startOf, laterOf, lengthOf, chainOfPoints, isRing, countIn, pointsIn, ringOf, readJudged, givenOf, ReadCall}
 use Rattle.polygon_ring_laws.specs.Reading.{ringFrom, ringJudged, pointsJudged, ReadIn}
 use Rattle.polygon_laws.proofs.BytesLaws.{part}

@@ -17,8 +17,7 @@ use Rattle.grid.specs.Grid.{origin, same, endFrom}
 use Rattle.grid.proofs.CornerLaws.{same-sound}
 use Rattle.trace.specs.Verdict.{IsRoom}
 use Rattle.answer.specs.Refusal.{when, orElse}
-use Rattle.polygon_ring_laws.specs.Reading.{laidIf}
-use Rattle.hull.specs.Call.{countedOf}
+use Rattle.answer.specs.Listed.{laidIf, countedOf}
 use Rattle.room.specs.Room.{asRoomJudged}
 use Rattle.room.proofs.RoomLaws.{good-room}
 use Rattle.answer.proofs.RefusalLaws.{orElse-good}

@@ -15,7 +15,8 @@ use Rattle.polygon_ring.specs.Bytes.{numberOf, numberIn}
 use Rattle.polygon_ring.specs.Coordinate.{wholeOf}
 use Rattle.polygon_ring.specs.Ring.{both, mostAt, pointIn, pointAt, pointsFrom, cornerIn, chainOfPoints, countIn, pointsIn, givenOf, ReadCall}
 use Rattle.polygon_ring.specs.declared.{GridPoint.GridPoint, Given.Given}
-use Rattle.polygon_ring_laws.specs.Reading.{laidIf, ringJudged, pointsJudged, ReadIn}
+use Rattle.polygon_ring_laws.specs.Reading.{ringJudged, pointsJudged, ReadIn}
+use Rattle.answer.specs.Listed.{laidIf}
 use Rattle.polygon_ring_laws.specs.Files.{headerIn, Headed, eightsReversed, twinOf}
 use Rattle.polygon_ring_laws.proofs.ReadLaws.{read-ordered, ordered-read}
 use Rattle.polygon_ring_laws.proofs.FileLaws.{headed-order}

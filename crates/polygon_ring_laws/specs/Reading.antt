@@ -1,20 +1,16 @@
 -- What the passes over a ring find.
 -- Assumes nothing.
-use Rattle.lists.specs.Lists.{_≡_, Bool, cond, not, List, [], _∷_, _++_, length, take, drop, ℕ, suc, _+_, _*_, _≤_, eqb, ltb, any, natAbs}
+use Rattle.lists.specs.Lists.{_≡_, Bool, cond, not, List, [], _∷_, length, take, drop, ℕ, suc, _+_, _*_, _≤_, eqb, ltb, any, natAbs}
 use mathlib.Core.List.{map}
 use Rattle.answer.specs.Limits.{mostSteps, farthest}
 use Rattle.answer.specs.Refusal.{when, orElse, firstOf}
-use Rattle.steps.specs.Turns.{writtenIf}
 use Rattle.grid.specs.declared.Corner.{Corner}
 use Rattle.polygon_ring.specs.Bytes.{numberIn}
 use Rattle.polygon_ring_laws.specs.Fields.{floatKept}
 use Rattle.polygon_ring.specs.Ring.{pointsFrom, isFaulty, cornerIn, isRing, lengthOf, chainOfPoints, countIn, pointsIn, givenOf}
 use Rattle.answer.specs.declared.{Judged.Judged, Refusal.the-variants.FileLength, Refusal.the-variants.BadCoordinate, Refusal.the-variants.BadRing, Refusal.the-variants.TooLong, Refusal.the-variants.ChainRoom}
+use Rattle.answer.specs.Listed.{laidIf}
 use Rattle.polygon_ring.specs.declared.{Point.Point, GridPoint.GridPoint, GridPoint.the-variants.At, Given.Given}
-
--- a buffer with a list laid down at its start, unless there is a refusal
-abbrev pub laidIf : Judged → List ℕ → List ℕ → List ℕ
-laidIf j new old = writtenIf j (new ++ drop (length new) old) old
 
 -- a corner that a point can be
 pub record PointFits (c : Corner) : Type 0 where

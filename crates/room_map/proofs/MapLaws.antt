@@ -8,7 +8,7 @@ use native.Mathlib.Omega.{arith}
 use native.Mathlib.Decide.{ℕ-discrete, decLt}
 use lib.ListN.{length, getD, set, take, replicate, getD-replicate, length-replicate, List·getD-eq-default}
 use lib.Seq.{getD-set-same, getD-set-other}
-use Rattle.hull_laws.specs.Columns.{middle, colAfter, rowAfter}
+use Rattle.column_laws.specs.Columns.{middle, colAfter, rowAfter}
 use Rattle.room_thread_laws.specs.Threads.{Double, Scattered, Closes, Told, alongFrom, columnsFrom, rowsFrom}
 use Rattle.room_thread_laws.proofs.RoomLaws.{told-open, told-closed}
 use Rattle.box_laws.specs.Box.{lastFrom, columnAt, heightAt, boxWidth, boxHeight, boxPlace, placeAt, placeSteps, Boxable}

@@ -2,7 +2,7 @@
 // the store, threads through the columns tell it.
 use box_walk::WalkBox;
 use box_walk::enclose;
-use hull_columns::Columns;
+use columns::Columns;
 ghost use Rattle.box_laws.specs.Box.{Boxable};
 ghost use Rattle.box_walk.specs.Boxed.{Boxed};
 ghost use Rattle.room_thread_laws.specs.Threads.{Told};

@@ -9,7 +9,7 @@ use native.Mathlib.Numerals.{add-one}
 use native.Mathlib.Decide.{decLt, ℕ-discrete}
 use lib.ListN.{length, getD, drop, set, List·getD-eq-default}
 use lib.Seq.{drop-cons, drop-drop, getD-drop, getD-set-same, getD-set-other}
-use Rattle.hull_laws.specs.Columns.{colAfter, rowAfter}
+use Rattle.column_laws.specs.Columns.{colAfter, rowAfter}
 use Rattle.room_thread_laws.specs.Threads.{Stays, Leads, Double, Parted, Scattered, Laid, Laying, alongFrom, columnsFrom, rowsFrom}
 use Rattle.room_thread_laws.proofs.ThreadLaws.{thread-none, thread-step, last-le}
 

@@ -18,9 +18,9 @@ use Rattle.grid.specs.Grid.{corner, stepped, endFrom, cornerAt}
 use Rattle.grid.proofs.StepLaws.{cornerAt-end, endFrom-snoc}
 use Rattle.trace.specs.Meeting.{Meets}
 use Rattle.trace.specs.Verdict.{IsRoom}
-use Rattle.hull_laws.specs.Columns.{top, colAfter, rowAfter}
-use Rattle.hull_laws.proofs.CornerLaws.{corner-eq}
-use Rattle.hull_laws.proofs.TrailLaws.{near, near-row}
+use Rattle.column_laws.specs.Columns.{top, colAfter, rowAfter}
+use Rattle.grid.proofs.CornerLaws.{corner-eq}
+use Rattle.column_laws.proofs.TrailLaws.{near, near-row}
 use Rattle.room_thread_laws.specs.Threads.{Double, Stays, Scattered, Goes, Closes, Told, ThreadStore, alongFrom, columnsFrom, rowsFrom}
 
 -- a step leads one on, one back, or nowhere along an axis

@@ -11,7 +11,7 @@ use lib.IntN.{pos, _+ℤ_, _-ℤ_}
 use Rattle.grid.specs.declared.Corner.{Corner}
 use Rattle.grid.specs.Grid.{endFrom, cornerAt}
 use Rattle.trace.specs.Verdict.{IsRoom}
-use Rattle.hull_laws.specs.Columns.{top, colAfter, rowAfter}
+use Rattle.column_laws.specs.Columns.{top, colAfter, rowAfter}
 
 -- 1 + the last place before i in column c; 0 if there is none
 unfoldable pub lastIn : List ℕ → ℕ → ℕ → ℕ

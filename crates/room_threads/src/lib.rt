@@ -1,12 +1,12 @@
 // Whether two places of a walk are one corner: each column's thread is followed back, and each height on it is stamped.
-use hull_columns::Columns;
-use hull_columns::across;
-use hull_columns::upward;
+use columns::Columns;
+use columns::across;
+use columns::upward;
 use order::wide;
 ghost use mathlib.Core.Path.{_≡_};
 ghost use mathlib.Core.Bool.{true};
 ghost use Prim.Native.Nat.{ℕ, _+_, _*_, _≤_, _<_};
-ghost use Rattle.hull_laws.specs.Columns.{middle, narrowSize, widerSize};
+ghost use Rattle.column_laws.specs.Columns.{middle, narrowSize, widerSize};
 ghost use lib.ListN.{length, getD};
 ghost use Rattle.room_thread_laws.specs.Threads.{Leads, ThreadFollowed, Parted, Stays, Laid, ThreadStore, Scattered, Closes, Told};
 

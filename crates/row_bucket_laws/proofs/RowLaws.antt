@@ -23,7 +23,7 @@ use Rattle.panels.specs.Edges.{edgesFrom}
 use Rattle.row_laws.specs.Feet.{feetOf, pairsOf, rowsOf}
 use Rattle.area_laws.proofs.EvenLaws.{row-even}
 use Rattle.row_laws.proofs.{FootLaws.UpTo, FootLaws.Climbs, FootLaws.InTurn, RoomLaws.feetFrom, RoomLaws.footOf, RoomLaws.count-feet, SortedLaws.room-all, SortedLaws.room-rows, SortedLaws.room-count, RowLaws.rowsIs-rowsOf}
-use Rattle.hull_laws.specs.Columns.{top, colAfter, rowAfter}
+use Rattle.column_laws.specs.Columns.{top, colAfter, rowAfter}
 use Rattle.room_thread_laws.specs.Threads.{Stays, alongFrom, columnsFrom, rowsFrom}
 use Rattle.room_thread_laws.proofs.RoomLaws.{move-x, move-y, closed-stays}
 use Rattle.row_bucket_laws.specs.Buckets.{picked, downFrom, Ranked, bucketOf, lowOf, spotAt, pouredOf, rowOrderOf}

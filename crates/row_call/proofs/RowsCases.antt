@@ -9,8 +9,9 @@ use lib.IntN.{ℤ, pos, negsuc}
 use lib.Signed.{leZ-yes, ltZ-yes}
 use Rattle.answer.specs.declared.Judged.the-variants.{Good, Refused}
 use Rattle.answer.specs.declared.Refusal.the-variants.{NotRoom, SpanRoom}
+use Rattle.answer.specs.Listed.{laidIf}
 use Rattle.grid.specs.Grid.{corner, origin, panelAt}
-use Rattle.row_call.specs.{Rows.Span, Rows.OnSpan, Rows.InOrder, Rows.lengthsOf, Call.rowsJudged, Call.spansIn}
+use Rattle.row_call.specs.{Rows.Span, Rows.OnSpan, Rows.InOrder, Rows.lengthsOf, Call.rowsJudged, Rows.spanNumbers}
 
 abbrev pub span : ℤ → ℤ → ℤ → Span
 span b x y = record { row = b; first = x; last = y }
@@ -53,9 +54,5 @@ two-numbers : rowsJudged origin (0 ∷ 1 ∷ 2 ∷ 3 ∷ []) 2 1 ≡ Refused Spa
 two-numbers = refl
 
 -- row, first panel, last panel, and a number that stays
-written : spansIn Good (span (negsuc 1) (pos 3) (pos 5) ∷ []) (pos 7 ∷ pos 7 ∷ pos 7 ∷ pos 7 ∷ []) ≡ negsuc 1 ∷ pos 3 ∷ pos 5 ∷ pos 7 ∷ []
+written : laidIf Good (spanNumbers (span (negsuc 1) (pos 3) (pos 5) ∷ [])) (pos 7 ∷ pos 7 ∷ pos 7 ∷ pos 7 ∷ []) ≡ negsuc 1 ∷ pos 3 ∷ pos 5 ∷ pos 7 ∷ []
 written = refl
-
--- nothing is written where there is a refusal
-nothing-written : spansIn (Refused SpanRoom) (span (pos 0) (pos 0) (pos 0) ∷ []) (pos 7 ∷ pos 7 ∷ []) ≡ pos 7 ∷ pos 7 ∷ []
-nothing-written = refl

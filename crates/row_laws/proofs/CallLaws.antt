@@ -15,12 +15,12 @@ use Rattle.answer.specs.Limits.{mostSteps}
 use Rattle.answer.specs.Refusal.{when, orElse}
 use Rattle.answer.proofs.RefusalLaws.{orElse-right}
 use Rattle.grid.specs.declared.Corner.{Corner}
-use Rattle.hull.specs.Call.{countedOf}
-use Rattle.hull_laws.proofs.SurveyLaws.{good-digits, good-short}
+use Rattle.answer.specs.Listed.{countedOf, laidIf}
+use Rattle.steps.proofs.ChainLaws.{good-digits, good-short}
 use Rattle.room.specs.Room.{asRoomJudged}
 use Rattle.room.proofs.RoomLaws.{good-room}
 use Rattle.panels.specs.Inside.{Inside}
-use Rattle.row_call.specs.{Rows.Span, Rows.RowsIs, Call.rowsJudged, Call.spansIn, Call.RowsCall}
+use Rattle.row_call.specs.{Rows.Span, Rows.RowsIs, Call.rowsJudged, Call.RowsCall, Rows.spanNumbers}
 use Rattle.row_laws.proofs.{OneLaws.rowsIs-one, RowLaws.rowsIs-rowsOf, SortedLaws.room-half}
 
 count-le : (t : ℕ → Bool) (l : List ℕ) → count t l ≤ length l
@@ -60,7 +60,7 @@ module _ (c : Corner) (ds : List ℕ) (before : List ℤ) where
     list = [];
     rows = λ g. absurd (good-refused (sym g ∙ e));
     answer = sym (ap (λ (j : Judged). countedOf j 0) (rows-refused c ds (length before) 0 q e));
-    buffer = sym (ap (λ (j : Judged). spansIn j [] before) (rows-refused c ds (length before) 0 q e));
+    buffer = sym (ap (λ (j : Judged). laidIf j (spanNumbers []) before) (rows-refused c ds (length before) 0 q e));
   }
     where
       good-refused : Good ≡ Refused q → ⊥
@@ -72,10 +72,10 @@ module _ (c : Corner) (ds : List ℕ) (before : List ℤ) where
       by : (j : Judged) → asRoomJudged c ds ≡ j → (r ≡ s) × (after ≡ end)
       by Good e =
           let l = rowsIs-one (Inside c ds) (g .list) (h .list) (g .rows e) (h .rows e) in
-          (g .answer ∙ ap (λ (L : List Span). countedOf (judgedBy L) (length L)) l ∙ sym (h .answer), g .buffer ∙ ap (λ (L : List Span). spansIn (judgedBy L) L before) l ∙ sym (h .buffer))
+          (g .answer ∙ ap (λ (L : List Span). countedOf (judgedBy L) (length L)) l ∙ sym (h .answer), g .buffer ∙ ap (λ (L : List Span). laidIf (judgedBy L) (spanNumbers L) before) l ∙ sym (h .buffer))
       by (Refused q) e =
           let a = rows-refused c ds (length before) (length (g .list)) q e in
           let b = rows-refused c ds (length before) (length (h .list)) q e in (
             g .answer ∙ ap (λ (j : Judged). countedOf j (length (g .list))) a ∙ sym (h .answer ∙ ap (λ (j : Judged). countedOf j (length (h .list))) b),
-            g .buffer ∙ ap (λ (j : Judged). spansIn j (g .list) before) a ∙ sym (h .buffer ∙ ap (λ (j : Judged). spansIn j (h .list) before) b),
+            g .buffer ∙ ap (λ (j : Judged). laidIf j (spanNumbers (g .list)) before) a ∙ sym (h .buffer ∙ ap (λ (j : Judged). laidIf j (spanNumbers (h .list)) before) b),
           )

@@ -16,13 +16,13 @@ use Rattle.grid.specs.declared.Corner.{Corner}
 use Rattle.answer.specs.declared.{Counted.Counted, Judged.Judged, Judged.the-variants.Good, Refusal.the-variants.SpanRoom}
 use Rattle.answer.specs.Refusal.{when}
 use Rattle.answer.specs.Limits.{mostSteps}
-use Rattle.hull.specs.Call.{countedOf}
+use Rattle.answer.specs.Listed.{countedOf, laidIf}
 use Rattle.room.specs.Room.{asRoomJudged}
 use Rattle.room.proofs.RoomLaws.{good-room}
-use Rattle.row_call.specs.{Rows.Span, Rows.spanNumbers, Call.rowsJudged, Call.spansIn, Call.RowsCall}
+use Rattle.row_call.specs.{Rows.Span, Rows.spanNumbers, Call.rowsJudged, Call.RowsCall}
 use Rattle.row_laws.specs.Feet.{rowsOf}
 use Rattle.row_laws.proofs.{RowLaws.rowsOf-rows, SortedLaws.room-half, NumberLaws.written, CallLaws.good-steps, CallLaws.rows-room}
-use Rattle.hull_laws.specs.Columns.{top}
+use Rattle.column_laws.specs.Columns.{top}
 use Rattle.room_thread_laws.specs.Threads.{Stays}
 use Rattle.room_thread_laws.proofs.RoomLaws.{closed-stays}
 use Rattle.row_bucket_laws.specs.Buckets.{bucketOf, lowOf, pouredOf, Filed, ColumnsReady, ColumnsDone, Sheet, SheetDone, Poured}
@@ -119,7 +119,7 @@ module _ (c : Corner) (ds : List ℕ) (g : asRoomJudged c ds ≡ Good) (v : ℕ)
         list = rowsOf c ds;
         rows = λ _. rowsOf-rows c ds (w .room .closed);
         answer = sym (ap (λ (j : Judged). countedOf j (length (rowsOf c ds))) t);
-        buffer = sym (ap (λ (j : Judged). spansIn j (rowsOf c ds) before) t);
+        buffer = sym (ap (λ (j : Judged). laidIf j (spanNumbers (rowsOf c ds)) before) t);
       }
 
   pub call-listed : (before after : List ℤ) → 3 * (v / 2) ≤ length before → after ≡ sets before 0 (spanNumbers (rowsOf c ds)) → RowsCall c ds before (Counted.Many (v / 2)) after
@@ -129,5 +129,5 @@ module _ (c : Corner) (ds : List ℕ) (g : asRoomJudged c ds ≡ Good) (v : ℕ)
         list = rowsOf c ds;
         rows = λ _. rowsOf-rows c ds (w .room .closed);
         answer = ap Counted.Many (sym spans-half) ∙ sym (ap (λ (j : Judged). countedOf j (length (rowsOf c ds))) t);
-        buffer = u ∙ written before (rowsOf c ds) (omega (arith, spans-half)) ∙ sym (ap (λ (j : Judged). spansIn j (rowsOf c ds) before) t);
+        buffer = u ∙ written before (rowsOf c ds) (omega (arith, spans-half)) ∙ sym (ap (λ (j : Judged). laidIf j (spanNumbers (rowsOf c ds)) before) t);
       }

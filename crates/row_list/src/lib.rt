@@ -3,6 +3,7 @@ use answer::Counted;
 use answer::Judged;
 use answer::Limits;
 use answer::Refusal;
+use columns::Columns;
 use grid::Corner;
 use order::wide;
 use row_buckets::gather;
@@ -14,17 +15,12 @@ ghost use Prim.Native.Nat.{_*_, _≤_};
 ghost use lib.ListN.{length};
 ghost use lib.Seq.{sets};
 ghost use Rattle.answer.specs.declared.Judged.the-variants.{Good};
-ghost use Rattle.hull_laws.specs.Columns.{narrowSize, widerSize};
+ghost use Rattle.column_laws.specs.Columns.{narrowSize, widerSize};
 ghost use Rattle.room.specs.Room.{asRoomJudged};
 ghost use Rattle.row_call.specs.Rows.{spanNumbers};
 ghost use Rattle.row_call.specs.Call.{RowsCall};
 ghost use Rattle.row_laws.specs.Feet.{rowsOf};
 ghost use Rattle.row_list.specs.Store.{Walled, RowStore};
-
-// The steps for which the two lesser stores have room.
-const NARROW: usize = 256;
-
-const WIDER: usize = 2048;
 
 // Writes the rows of a room. The working store is lent.
 fn list_in(
@@ -51,10 +47,10 @@ fn list_narrow(start: Corner, chain: &[u8], out: &mut [i32])
     requires { ⌜ Walled start (now chain) × (length (now chain) ≤ narrowSize) × (3 * length (rowsOf start (now chain)) ≤ length (now out)) ⌝ }
     ensures { λ _. ⌜ now (out .exit) ≡ sets (now (out .entry)) 0 (spanNumbers (rowsOf start (now (chain .entry)))) ⌝ }
 {
-    let mut head = [0u16; NARROW + 2];
-    let mut row = [0u16; NARROW + 2];
-    let mut next = [0u16; NARROW];
-    let mut at = [0u16; NARROW];
+    let mut head = [0u16; Columns::NARROW + 2];
+    let mut row = [0u16; Columns::NARROW + 2];
+    let mut next = [0u16; Columns::NARROW];
+    let mut at = [0u16; Columns::NARROW];
     let m = room_threads::start(chain.len());
     list_in(
         start,
@@ -73,10 +69,10 @@ fn list_wider(start: Corner, chain: &[u8], out: &mut [i32])
     requires { ⌜ Walled start (now chain) × (length (now chain) ≤ widerSize) × (3 * length (rowsOf start (now chain)) ≤ length (now out)) ⌝ }
     ensures { λ _. ⌜ now (out .exit) ≡ sets (now (out .entry)) 0 (spanNumbers (rowsOf start (now (chain .entry)))) ⌝ }
 {
-    let mut head = [0u16; WIDER + 2];
-    let mut row = [0u16; WIDER + 2];
-    let mut next = [0u16; WIDER];
-    let mut at = [0u16; WIDER];
+    let mut head = [0u16; Columns::WIDER + 2];
+    let mut row = [0u16; Columns::WIDER + 2];
+    let mut next = [0u16; Columns::WIDER];
+    let mut at = [0u16; Columns::WIDER];
     let m = room_threads::start(chain.len());
     list_in(
         start,
@@ -117,11 +113,11 @@ pub fn write(start: Corner, chain: &[u8], out: &mut [i32])
     requires { ⌜ Walled start (now chain) × (3 * length (rowsOf start (now chain)) ≤ length (now out)) ⌝ }
     ensures { λ _. ⌜ now (out .exit) ≡ sets (now (out .entry)) 0 (spanNumbers (rowsOf start (now (chain .entry)))) ⌝ }
 {
-    if chain.len() <= NARROW {
+    if chain.len() <= Columns::NARROW {
         list_narrow(start, chain, out);
         return;
     }
-    if chain.len() <= WIDER {
+    if chain.len() <= Columns::WIDER {
         list_wider(start, chain, out);
         return;
     }

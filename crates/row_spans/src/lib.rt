@@ -10,7 +10,7 @@ ghost use lib.ListN.{length};
 ghost use lib.Seq.{sets};
 ghost use Rattle.answer.specs.Limits.{mostStart};
 ghost use Rattle.grid.specs.Grid.{corner, panelAt};
-ghost use Rattle.hull_laws.specs.Columns.{top};
+ghost use Rattle.column_laws.specs.Columns.{top};
 ghost use Rattle.row_bucket_laws.specs.Buckets.{Line, LineDone, Sheet, SheetDone};
 
 // The column n steps east of `west`.

@@ -13,9 +13,8 @@ use Rattle.steps.proofs.SurvivorLaws.{length-survivors}
 use Rattle.line_frame.specs.declared.Frame.{Frame}
 use Rattle.line_frame.specs.declared.Frame.the-variants.{Of, Bad}
 use Rattle.line_frame.specs.Sizes.{mostLine}
-use Rattle.line_frame.specs.Line.{frameOf, digitsOf}
+use Rattle.line_frame.specs.Line.{frameOf, digitsOf, lineWalked}
 use Rattle.line_frame.proofs.LineLaws.{frameOf-long, frame-good, length-digitsOf}
-use Rattle.line_room.specs.Walked.{lineWalked}
 use Rattle.line_room.proofs.WalkedLaws.{lineWalked-by}
 use Rattle.sheet.specs.Sizes.{mostEntry}
 use Rattle.sheet.specs.Entry.{entryBy, entryOf}

@@ -18,11 +18,10 @@ use Rattle.polygon.specs.Polygon.{polygonOf}
 use Rattle.room.specs.Room.{isRoom}
 use Rattle.steps.specs.Operations.{survivors}
 use Rattle.line_frame.specs.Hex.{hexOf}
-use Rattle.line_frame.specs.Line.{digitsOf}
+use Rattle.line_frame.specs.Line.{digitsOf, lineWalked}
 use Rattle.line_frame.specs.Program.{outputFrom, feedsIn}
 use Rattle.line_frame.proofs.OutputLaws.{feedsIn-append, feedsIn-feed, feedsIn-more, output-line, output-last}
 use Rattle.line_frame.proofs.HexLaws.{none-append, field-feeds}
-use Rattle.line_room.specs.Walked.{lineWalked}
 use Rattle.sheet.specs.Decimal.{decimalOf, signedOf}
 use Rattle.sheet.specs.Sizes.{mostDecimals}
 use Rattle.sheet.specs.Entry.{cellOf, cellsOf, emptyCells, factCount, refusedCells, hexBytes, polygonCell, entryBy, entryOf}

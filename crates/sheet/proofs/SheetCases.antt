@@ -9,10 +9,9 @@ use Rattle.polygon.specs.Bytes.{bytesOf}
 use Rattle.polygon.specs.Coordinate.{coordinateOf}
 use Rattle.polygon.specs.Polygon.{coordinateBytes, pointBytes, pointsBytes, polygonBytes}
 use Rattle.line_frame.specs.Hex.{allHex, valuesOf, numberFrom, hexOf}
-use Rattle.line_frame.specs.Line.{frameOf}
+use Rattle.line_frame.specs.Line.{frameOf, lineWalked}
 use Rattle.line_frame.specs.Program.{outputFrom}
 use Rattle.line_frame.proofs.Bytes as text
-use Rattle.line_room.specs.Walked.{lineWalked}
 use Rattle.sheet.specs.Decimal.{decimalOf, signedOf}
 use Rattle.sheet.specs.Entry.{emptyCells, hexBytes, entryOf}
 use Rattle.sheet.specs.Sheet.{header, numberedFrom, sheet}

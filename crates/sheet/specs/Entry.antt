@@ -6,8 +6,7 @@ use Rattle.answer.specs.Refusal.{refusalNumber, refusalPlace, verdictNumber}
 use Rattle.steps.specs.Operations.{survivors}
 use Rattle.room.specs.Room.{isRoom}
 use Rattle.polygon.specs.Polygon.{polygonOf}
-use Rattle.line_frame.specs.{Hex.hexOf, Line.digitsOf}
-use Rattle.line_room.specs.Walked.{lineWalked}
+use Rattle.line_frame.specs.{Hex.hexOf, Line.digitsOf, Line.lineWalked}
 use Rattle.sheet.specs.{Decimal.decimalOf, Decimal.signedOf, Sizes.mostDecimals}
 
 -- a number and a comma

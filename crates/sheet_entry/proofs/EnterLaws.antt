@@ -2,11 +2,11 @@
 -- Assumes nothing.
 use mathlib.Core.Path.{_≡_, refl, sym, ap, _∙_, subst}
 use mathlib.Core.Bool.{Bool, true, false, not, cond}
-use mathlib.Core.List.{List, [], _∷_, _++_}
-use Prim.Native.Nat.{ℕ, zero, suc, _+_, _≤_}
+use mathlib.Core.List.{List, []}
+use Prim.Native.Nat.{ℕ, _+_, _≤_}
 use native.Mathlib.Omega.{arith}
 use borrow.Author.Tests.{le-ltb}
-use lib.ListN.{length, take, drop, getD}
+use lib.ListN.{length, take, drop}
 use lib.Seq.{take-at}
 use Rattle.lists.specs.Lists.{Below}
 use Rattle.grid.specs.Grid.{origin}
@@ -20,15 +20,13 @@ use Rattle.answer.specs.declared.Answer.the-variants as walked
 use Rattle.answer.specs.declared.Judged.the-variants as judged
 use Rattle.answer.specs.declared.Counted.the-variants as counted
 use Rattle.answer.specs.Refusal.{when, orElse}
-use Rattle.steps.specs.Turns.{writtenIf}
-use Rattle.hull.specs.Call.{countedOf}
-use Rattle.hull_laws.proofs.SurveyLaws.{no-fault}
+use Rattle.answer.specs.Listed.{countedOf, laidIf}
+use Rattle.steps.proofs.ChainLaws.{walk-good}
 use Rattle.room.specs.Room.{isRoom, asRoomJudged}
 use Rattle.room.proofs.RoomLaws.{judged-room}
 use Rattle.polygon.specs.Polygon.{polygonOf, polygonJudged, PolygonCall}
 use Rattle.line_frame.specs.Sizes.{mostDigits}
-use Rattle.line_frame.specs.Line.{digitsOf}
-use Rattle.line_room.specs.Walked.{lineWalked}
+use Rattle.line_frame.specs.Line.{digitsOf, lineWalked}
 use Rattle.line_fields.specs.Put.{Wrote}
 use Rattle.line_fields.proofs.PutLaws.{wrote-append}
 use Rattle.line_walk.specs.Walk.{WalkedBy}
@@ -37,15 +35,10 @@ use Rattle.sheet.specs.Entry.{cellsOf, hexBytes, polygonCell, entryBy, entryOf}
 use Rattle.sheet.proofs.SizeLaws.{polygonOf-most, polygonCell-most, length-cellsOf}
 use Rattle.sheet.proofs.EntryLaws.{entryOf-by}
 
-digits-most : (w : List ℕ) → Below 4 w → (k : ℕ) → getD w k 0 ≤ 3
-digits-most [] b k = omega arith
-digits-most (d ∷ w) b zero = omega (arith, b .0)
-digits-most (d ∷ w) b (suc k) = digits-most w (b .1) k
-
 -- the steps of a frame as a room: refusal 12 alone
 module _ (w : List ℕ) (b : Below 4 w) (m : length w ≤ mostDigits) where
   room-judged : asRoomJudged origin w ≡ when (not (isRoom origin w)) NotRoom
-  room-judged = judged-room origin w (omega arith) refl (no-fault 0 w (omega arith) (digits-most w b))
+  room-judged = judged-room origin w (walk-good origin w refl (record { digits = b; few = omega arith }))
 
   polygon-judged : (room : ℕ) → mostPolygon ≤ room → polygonJudged origin w room ≡ when (not (isRoom origin w)) NotRoom
   polygon-judged room h =
@@ -61,15 +54,15 @@ module _ (w : List ℕ) (b : Below 4 w) (m : length w ≤ mostDigits) where
     by : r ≡ countedOf (when (not (isRoom origin w)) NotRoom) (length (polygonOf origin w))
     by = h .answer ∙ ap (λ (j : Judged). countedOf j (length (polygonOf origin w))) (polygon-judged (length before) (omega arith))
 
-    buffer : after ≡ writtenIf (when (not (isRoom origin w)) NotRoom) (polygonOf origin w ++ drop (length (polygonOf origin w)) before) before
-    buffer = h .buffer ∙ ap (λ (j : Judged). writtenIf j (polygonOf origin w ++ drop (length (polygonOf origin w)) before) before) (polygon-judged (length before) (omega arith))
+    buffer : after ≡ laidIf (when (not (isRoom origin w)) NotRoom) (polygonOf origin w) before
+    buffer = h .buffer ∙ ap (λ (j : Judged). laidIf j (polygonOf origin w) before) (polygon-judged (length before) (omega arith))
 
     -- a room has its polygon at the start of the buffer
     pub polygon-many : (n : ℕ) → r ≡ counted.Many n → (n ≤ mostPolygon) × (hexBytes (take n after) ≡ polygonCell w)
     polygon-many n e = go (isRoom origin w) by buffer
       where
         go : (t : Bool) → r ≡ countedOf (when (not t) NotRoom) (length (polygonOf origin w))
-            → after ≡ writtenIf (when (not t) NotRoom) (polygonOf origin w ++ drop (length (polygonOf origin w)) before) before
+            → after ≡ laidIf (when (not t) NotRoom) (polygonOf origin w) before
             → (n ≤ mostPolygon) × (hexBytes (take n after) ≡ cond t (hexBytes (polygonOf origin w)) [])
         go true p q =
             let k : n ≡ length (polygonOf origin w) = cc in (

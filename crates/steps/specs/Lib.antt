@@ -1,3 +1,4 @@
--- Operations and turns.
+-- Operations, turns, and chains of steps.
 pub mod Operations
 pub mod Turns
+pub mod Chain

@@ -11,3 +11,4 @@ pub mod PlantLaws
 pub mod ChangeLaws
 pub mod DiffLaws
 pub mod ReadLaws
+pub mod ClimbLaws

@@ -19,9 +19,11 @@ use Rattle.answer.specs.Limits.{mostInput, mostSteps, startFits}
 use Rattle.answer.specs.Refusal.{when, orElse, firstOf, judgedPlace}
 use Rattle.walk_call.specs.Walk.{walkJudged, factsOf, answerBy, WalkIs}
 use Rattle.grid.specs.declared.Corner.{Corner}
-use Rattle.hull.specs.Call.{chainJudged, hullRoomJudged, hullJudged, countedOf, HullCall}
-use Rattle.outline.specs.Call.{outlineRoomJudged, outlineJudged, OutlineCall}
-use Rattle.outline_laws.proofs.CallLaws.{judged-split}
+use Rattle.hull.specs.Call.{hullJudged, HullCall}
+use Rattle.steps.specs.Chain.{chainJudged, asWalkJudged}
+use Rattle.steps.proofs.ChainLaws.{good-walk}
+use Rattle.answer.specs.Listed.{countedOf}
+use Rattle.outline.specs.Call.{outlineJudged, OutlineCall}
 use Rattle.outline_laws.proofs.OutlineLaws.{outline-short}
 use Rattle.lists.specs.Lists.{any}
 use Rattle.steps.specs.Operations.{survivors}
@@ -41,7 +43,7 @@ use Rattle.overlay.specs.Call.{ofParts, partRoomJudged, overlayJudged, measures
 use Rattle.overlay_laws.proofs.CallLaws.{buffersJudged}
 use Rattle.demands.proofs.Overlay.{overlay-few}
 use Rattle.row_laws.proofs.CallLaws.{rows-few}
-use Rattle.answer.proofs.RefusalLaws.{refused-not-good, orElse-good}
+use Rattle.answer.proofs.RefusalLaws.{orElse-good, first-good}
 use Rattle.walk_call.proofs.SmallLaws.{Placed, placed-when, placed-or, walk-placed, walk-few}
 use Rattle.hull_laws.proofs.HullLaws.{hull-count-steps}
 use Rattle.pair_steps.specs.Parties.{stepsBy}
@@ -102,31 +104,32 @@ turns-fit ds room j e =
     place-fits j (subst (Placed mostInput) (sym e) (placed-after (length ds) (orElse (when x ResultRoom) (orElse f Good)) (λ h.
     placed-or mostInput (when x ResultRoom) (orElse f Good) (placed-when mostInput x ResultRoom (omega arith)) (placed-or mostInput f Good (placed-digits 0 ds mostInput (omega arith)) tt))))
 
-hull-placed : (c : Corner) (chain : List ℕ) (room n : ℕ) → Placed mostInput (hullJudged c chain room n)
-hull-placed c chain room n =
+chain-placed : (c : Corner) (chain : List ℕ) → Placed mostInput (asWalkJudged c chain)
+chain-placed c chain =
     let q = when (not (startFits c)) StartRange in
     let f = chainJudged 0 chain in
-    let r = hullRoomJudged room n in
-    placed-after (length chain) (orElse q (orElse f (orElse r Good))) (λ h.
-    placed-or mostInput q (orElse f (orElse r Good)) (placed-when mostInput (not (startFits c)) StartRange (omega arith))
-    (placed-or mostInput f (orElse r Good) (placed-hull 0 chain mostInput (omega arith)) (placed-or mostInput r Good (placed-when mostInput (ltb room (2 * n)) HullRoom (omega arith)) tt)))
+    placed-after (length chain) (orElse q (orElse f Good)) (λ h.
+    placed-or mostInput q (orElse f Good) (placed-when mostInput (not (startFits c)) StartRange (omega arith)) (placed-or mostInput f Good (placed-hull 0 chain mostInput (omega arith)) tt))
 
-hull-short : (c : Corner) (chain : List ℕ) (room n : ℕ) → hullJudged c chain room n ≡ Good → length chain ≤ mostInput
-hull-short c chain room n e = go (ltb mostInput (length chain)) refl
-  where
-    go : (b : Bool) → ltb mostInput (length chain) ≡ b → length chain ≤ mostInput
-    go true p = absurd (refused-not-good TooMany (rw p at e))
-    go false p = ltb-false mostInput (length chain) p
+-- and then one of its own
+placed-then : (c : Corner) (chain : List ℕ) (own : Judged) → Placed mostInput own → Placed mostInput (firstOf (asWalkJudged c chain ∷ own ∷ []))
+placed-then c chain own p = placed-or mostInput (asWalkJudged c chain) (orElse own Good) (chain-placed c chain) (placed-or mostInput own Good p tt)
+
+chain-short : (c : Corner) (chain : List ℕ) (own : Judged) → firstOf (asWalkJudged c chain ∷ own ∷ []) ≡ Good → length chain ≤ mostInput
+chain-short c chain own e = omega (arith, good-walk c chain (first-good (asWalkJudged c chain) own e .0) .short)
+
+hull-placed : (c : Corner) (chain : List ℕ) (room n : ℕ) → Placed mostInput (hullJudged c chain room n)
+hull-placed c chain room n = placed-then c chain (when (ltb room (2 * n)) HullRoom) (placed-when mostInput (ltb room (2 * n)) HullRoom (omega arith))
 
 pub counted-fits : (c : Corner) (chain : List ℕ) (before : List ℤ) (r : Counted) (after : List ℤ) → HullCall c chain before r after → CountedFits r
 counted-fits c chain before r after h = subst CountedFits (sym (h .answer)) (go (hullJudged c chain (length before) (length (h .list))) refl)
   where
     go : (j : Judged) → hullJudged c chain (length before) (length (h .list)) ≡ j → CountedFits (countedOf (hullJudged c chain (length before) (length (h .list))) (length (h .list)))
-    go Good e = rw e (omega (arith, hull-count-steps c chain (h .list) (h .hull), hull-short c chain (length before) (length (h .list)) e))
+    go Good e = rw e (omega (arith, hull-count-steps c chain (h .list) (h .hull), chain-short c chain (when (ltb (length before) (2 * length (h .list))) HullRoom) e))
     go (Refused x) e = rw e (omega (arith, subst (Placed mostInput) e (hull-placed c chain (length before) (length (h .list)))))
 
 outline-placed : (s : Corner) (ds : List ℕ) (room n : ℕ) → Placed mostInput (outlineJudged s ds room n)
-outline-placed s ds room n = subst (Placed mostInput) (sym (judged-split s ds room n)) (placed-or mostInput (hullJudged s ds 0 0) (outlineRoomJudged room n) (hull-placed s ds 0 0) (placed-when mostInput (ltb room n) OutlineRoom (omega arith)))
+outline-placed s ds room n = placed-then s ds (when (ltb room n) OutlineRoom) (placed-when mostInput (ltb room n) OutlineRoom (omega arith))
 
 pub outline-fits : (s : Corner) (ds before : List ℕ) (r : Counted) (after : List ℕ) → OutlineCall s ds before r after → CountedFits r
 outline-fits s ds before r after w = subst CountedFits (sym (w .answer)) (go (outlineJudged s ds (length before) n) refl)
@@ -135,17 +138,11 @@ outline-fits s ds before r after w = subst CountedFits (sym (w .answer)) (go (ou
     n = length (w .steps)
 
     go : (j : Judged) → outlineJudged s ds (length before) n ≡ j → CountedFits (countedOf (outlineJudged s ds (length before) n) n)
-    go Good e = rw e (omega (arith, outline-short (w .outline), hull-short s ds 0 0 (orElse-good (hullJudged s ds 0 0) (outlineRoomJudged (length before) n) (sym (judged-split s ds (length before) n) ∙ e) .0)))
+    go Good e = rw e (omega (arith, outline-short (w .outline), chain-short s ds (when (ltb (length before) n) OutlineRoom) e))
     go (Refused x) e = rw e (omega (arith, subst (Placed mostInput) e (outline-placed s ds (length before) n)))
 
 room-placed : (s : Corner) (ds : List ℕ) → Placed mostInput (asRoomJudged s ds)
-room-placed s ds =
-    let a = when (not (startFits s)) StartRange in
-    let f = chainJudged 0 ds in
-    let r = when (not (isRoom s ds)) NotRoom in
-    placed-after (length ds) (orElse a (orElse f (orElse r Good))) (λ h.
-    placed-or mostInput a (orElse f (orElse r Good)) (placed-when mostInput (not (startFits s)) StartRange (omega arith))
-    (placed-or mostInput f (orElse r Good) (placed-hull 0 ds mostInput (omega arith)) (placed-or mostInput r Good (placed-when mostInput (not (isRoom s ds)) NotRoom (omega arith)) tt)))
+room-placed s ds = placed-then s ds (when (not (isRoom s ds)) NotRoom) (placed-when mostInput (not (isRoom s ds)) NotRoom (omega arith))
 
 polygon-placed : (s : Corner) (ds : List ℕ) (room : ℕ) → Placed mostInput (polygonJudged s ds room)
 polygon-placed s ds room =

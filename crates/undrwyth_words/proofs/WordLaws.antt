@@ -19,6 +19,8 @@ use Rattle.answer.specs.declared.Verdict.the-variants.{Nowhere, Open, Room, Ope
 use Rattle.answer.specs.Refusal.{refusalNumber, refusalPlace, verdictNumber}
 use Rattle.polygon_ring.specs.declared.{Given.Given, Found.Found}
 use Rattle.polygon_ring.specs.Words.{givenWords, givenNumber}
+use Rattle.orthogonal.specs.declared.{Enclosed.Enclosed, Orthogonal.Orthogonal}
+use Rattle.orthogonal.specs.Call.{orthogonalWords, orthogonalNumber}
 use Rattle.overlay.specs.declared.{Overlaid.Overlaid}
 use Rattle.overlay.specs.Call.{overlaidWords, overlaidNumber}
 use Rattle.pair_call.specs.Words.{partyWords, pairAnswerWords, pairAnswerNumber}
@@ -39,6 +41,9 @@ refused-given g r n p e h k = ap₂ (λ (x y : ℕ). x ∷ y ∷ 0 ∷ 0 ∷ 0 �
 
 pub refused-overlaid : (o : Overlaid) (r : Refusal) (n p : ℕ) → o ≡ Overlaid.Refused r → n ≡ refusalNumber r → p ≡ refusalPlace r → n ∷ p ∷ 0 ∷ 0 ∷ 0 ∷ 0 ∷ 0 ∷ 0 ∷ [] ≡ overlaidWords o
 refused-overlaid o r n p e h k = ap₂ (λ (x y : ℕ). x ∷ y ∷ 0 ∷ 0 ∷ 0 ∷ 0 ∷ 0 ∷ 0 ∷ []) h k ∙ sym (ap overlaidWords e)
+
+pub refused-orthogonal : (o : Orthogonal) (r : Refusal) (n p : ℕ) → o ≡ Orthogonal.Refused r → n ≡ refusalNumber r → p ≡ refusalPlace r → n ∷ p ∷ 0 ∷ 0 ∷ 0 ∷ 0 ∷ [] ≡ orthogonalWords o
+refused-orthogonal o r n p e h k = ap₂ (λ (x y : ℕ). x ∷ y ∷ 0 ∷ 0 ∷ 0 ∷ 0 ∷ []) h k ∙ sym (ap orthogonalWords e)
 
 pub refused-pair : (a : PairAnswer) (r : Refusal) (n p : ℕ) → a ≡ PairAnswer.Refused r → n ≡ refusalNumber r → p ≡ refusalPlace r
     → n ∷ p ∷ 0 ∷ 0 ∷ 0 ∷ 0 ∷ 0 ∷ 0 ∷ 0 ∷ 0 ∷ 0 ∷ 0 ∷ 0 ∷ 0 ∷ 0 ∷ 0 ∷ 0 ∷ 0 ∷ 0 ∷ [] ≡ pairAnswerWords a
@@ -64,6 +69,10 @@ given-first (Given.Refused r) w e = ap (λ (l : List ℕ). getD l 0 0) e
 pub overlaid-first : (o : Overlaid) (w : List ℕ) → w ≡ overlaidWords o → getD w 0 0 ≡ overlaidNumber o
 overlaid-first (Overlaid.Listed m) w e = ap (λ (l : List ℕ). getD l 0 0) e
 overlaid-first (Overlaid.Refused r) w e = ap (λ (l : List ℕ). getD l 0 0) e
+
+pub orthogonal-first : (o : Orthogonal) (w : List ℕ) → w ≡ orthogonalWords o → getD w 0 0 ≡ orthogonalNumber o
+orthogonal-first (Orthogonal.Outlined h) w e = ap (λ (l : List ℕ). getD l 0 0) e
+orthogonal-first (Orthogonal.Refused r) w e = ap (λ (l : List ℕ). getD l 0 0) e
 
 -- ---- the words of an accepted walk
 pub verdict-small : (v : Verdict) (n : ℕ) → n ≡ verdictNumber v → n < 6
@@ -97,3 +106,7 @@ pair-words f a b d e = ap₂ (λ (x y : List ℕ).
 -- ---- those of a polygon that is accepted
 pub found-words : (f : Found) (x y : ℕ) → x ≡ bitsOf (f .start .0) → y ≡ bitsOf (f .start .1) → 0 ∷ 0 ∷ f .steps ∷ x ∷ y ∷ [] ≡ givenWords (Given.Chain f)
 found-words f x y e h = ap₂ (λ (p q : ℕ). 0 ∷ 0 ∷ f .steps ∷ p ∷ q ∷ []) e h
+
+-- ---- and those of an outline of a hull
+pub enclosed-words : (h : Enclosed) (x y : ℕ) → x ≡ bitsOf (h .start .0) → y ≡ bitsOf (h .start .1) → 0 ∷ 0 ∷ h .steps ∷ x ∷ y ∷ h .blocks ∷ [] ≡ orthogonalWords (Orthogonal.Outlined h)
+enclosed-words h x y e k = ap₂ (λ (p q : ℕ). 0 ∷ 0 ∷ h .steps ∷ p ∷ q ∷ h .blocks ∷ []) e k

@@ -3,6 +3,7 @@ use Rattle.lists.specs.Lists.{_^_, _<_}
 use Rattle.answer.specs.declared.{Answer.Answer, Counted.Counted, PartyFacts.PartyFacts, PairFacts.PairFacts, PairAnswer.PairAnswer}
 use Rattle.answer.specs.Refusal.{refusalPlace}
 use Rattle.polygon_ring.specs.declared.{Given.Given}
+use Rattle.orthogonal.specs.declared.{Enclosed.Enclosed, Orthogonal.Orthogonal}
 use Rattle.overlay.specs.declared.{Measure.Measure, Measures.Measures, Overlaid.Overlaid}
 
 -- of a walk
@@ -41,3 +42,11 @@ MeasuresFit m = MeasureFits (m .first) × MeasureFits (m .second) × MeasureFits
 abbrev pub OverlaidFits : Overlaid → Type 0
 OverlaidFits (Overlaid.Listed m) = MeasuresFit m
 OverlaidFits (Overlaid.Refused r) = refusalPlace r < 2 ^ 32
+
+-- of an orthogonal hull
+abbrev pub EnclosedFits : Enclosed → Type 0
+EnclosedFits h = (h .steps < 2 ^ 32) × (h .blocks < 2 ^ 32)
+
+abbrev pub OrthogonalFits : Orthogonal → Type 0
+OrthogonalFits (Orthogonal.Outlined h) = EnclosedFits h
+OrthogonalFits (Orthogonal.Refused r) = refusalPlace r < 2 ^ 32

@@ -7,6 +7,8 @@ use answer::PairAnswer;
 use answer::PairFacts;
 use answer::PartyFacts;
 use line_fields::hex::bits;
+use orthogonal::Enclosed;
+use orthogonal::Orthogonal;
 use overlay::Measures;
 use overlay::Overlaid;
 use polygon_ring::Found;
@@ -19,9 +21,11 @@ ghost use Rattle.polygon_ring.specs.declared.Given.{Given};
 ghost use Rattle.polygon_ring.specs.Words.{givenWords};
 ghost use Rattle.overlay.specs.declared.Overlaid.{Overlaid};
 ghost use Rattle.overlay.specs.Call.{overlaidWords};
+ghost use Rattle.orthogonal.specs.declared.Orthogonal.{Orthogonal};
+ghost use Rattle.orthogonal.specs.Call.{orthogonalWords};
 ghost use Rattle.answer.specs.declared.PairAnswer.{PairAnswer};
 ghost use Rattle.pair_call.specs.Words.{partyWords, pairAnswerWords};
-ghost use Rattle.undrwyth_words.specs.Words.{AnswerFits, PartyFits, PairFits, PairAnswerFits, CountedFits, GivenFits, MeasuresFit, OverlaidFits};
+ghost use Rattle.undrwyth_words.specs.Words.{AnswerFits, PartyFits, PairFits, PairAnswerFits, CountedFits, GivenFits, MeasuresFit, OverlaidFits, EnclosedFits, OrthogonalFits};
 
 // The numbers of an accepted walk.
 fn facts_words(f: Facts) -> [u32; 11]
@@ -226,6 +230,32 @@ pub fn overlaid_words(o: Overlaid) -> [u32; 8]
             let number = answer::refusal_number(r) as u32;
             let place = answer::refusal_place(r) as u32;
             [number, place, 0, 0, 0, 0, 0, 0]
+        }
+    }
+}
+
+// The numbers of an outline of a hull.
+fn enclosed_words(h: Enclosed) -> [u32; 6]
+    requires { ⌜ EnclosedFits h ⌝ }
+    ensures { λ w. ⌜ w ≡ orthogonalWords (Orthogonal.Outlined h) ⌝ }
+{
+    let start = h.start;
+    let x = bits(start.0);
+    let y = bits(start.1);
+    [0, 0, h.steps as u32, x, y, h.blocks as u32]
+}
+
+// The numbers of the answer of the orthogonal hull.
+pub fn orthogonal_words(o: Orthogonal) -> [u32; 6]
+    requires { ⌜ OrthogonalFits o ⌝ }
+    ensures { λ w. ⌜ w ≡ orthogonalWords o ⌝ }
+{
+    match o {
+        Orthogonal::Outlined(h) => enclosed_words(h),
+        Orthogonal::Refused(r) => {
+            let number = answer::refusal_number(r) as u32;
+            let place = answer::refusal_place(r) as u32;
+            [number, place, 0, 0, 0, 0]
         }
     }
 }

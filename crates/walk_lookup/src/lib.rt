@@ -10,7 +10,7 @@ ghost use Rattle.grid.specs.declared.Corner.{Corner as Node};
 ghost use Rattle.grid.specs.Grid.{stepped};
 ghost use Rattle.grid.specs.Tree.{isRoot, parentOf, childWord};
 ghost use Rattle.layout.specs.Table.{HasRecord, wordAt, parentWord};
-ghost use Rattle.table_climb_laws.specs.Climb.{goesUp, Climbed, Descends, Descending};
+ghost use Rattle.table_laws.specs.Climb.{goesUp, Climbed, Descends, Descending};
 ghost use Rattle.table_laws.specs.Model.{childIn};
 ghost use Rattle.tree.specs.Nodes.{refOf};
 ghost use Rattle.tree_laws.specs.State.{State, Holds, Held, Stood, Made, grown, reached};

@@ -239,7 +239,9 @@ impl Refusal {
     pub fn words(self) -> &'static str {
         match self {
             Refusal::TooMany => "more than 32,768 bytes of input",
-            Refusal::Table => "the table does not hold 1 record or more, or holds too many",
+            Refusal::Table => {
+                "the table does not have a whole number of records, or has none, or too many"
+            }
             Refusal::ResultRoom => "a buffer does not have the length that the input asks for",
             Refusal::BadDigit(_) => "a bad digit",
             Refusal::NothingToTake(_) => "nothing to take back",

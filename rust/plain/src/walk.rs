@@ -85,7 +85,7 @@ pub fn no_room(most: u32, alone: u32, marks: &[[u32; MARK_WORDS]]) -> Result<(),
     }
 }
 
-/// The surviving steps, and after each operation its mark: the nodes in use, the visits at the corner then stood on, and
+/// The surviving steps, and after each operation its mark: the nodes in use, the visits at the corner where it ends, and
 /// the records that differ from what they were before it.
 fn run(start: Corner, ops: &[u8]) -> (Vec<u8>, Vec<[u32; MARK_WORDS]>) {
     let (mut steps, mut trail) = (Vec::new(), vec![start]);

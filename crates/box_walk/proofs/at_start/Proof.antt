@@ -2,7 +2,7 @@
 -- Assumes nothing.
 use mathlib.Core.Bool.{false≢true}
 use borrow.Author.Tests.{eqb-true, eq-eqb}
-use Rattle.hull_laws.specs.Columns.{middle}
+use Rattle.column_laws.specs.Columns.{middle}
 use Rattle.box_walk.proofs.at_start.Statement.{statement}
 use Rattle.box_walk.proofs.at_start.Tie as tie
 

@@ -5,7 +5,7 @@ use native.Mathlib.Omega.{arith}
 use mathlib.Core.Path.{sym, _∙_, subst}
 use Prim.Native.Nat.{_≤_, _-_}
 use lib.ListN.{length, getD}
-use Rattle.hull_laws.specs.Columns.{colAfter, rowAfter}
+use Rattle.column_laws.specs.Columns.{colAfter, rowAfter}
 use Rattle.room_thread_laws.specs.Threads.{Closes}
 use Rattle.box_laws.specs.Box.{columnSteps, heightSteps}
 use Rattle.box_laws.proofs.PassLaws.{Passed, passed-start, passed-step, column-near, height-near, closed-at, found-reached, found-wide, found-high, found-start}

@@ -2,7 +2,7 @@
 -- Assumes nothing.
 use borrow.Author.Needs.{needs}
 use Prim.Native.Nat.{_+_, _*_}
-use Rattle.hull_laws.specs.Columns.{narrowSize}
+use Rattle.column_laws.specs.Columns.{narrowSize}
 use Rattle.convex_room.proofs.RoundLaws.{store-new}
 use native.Mathlib.Omega.{arith}
 use Rattle.convex_room.proofs.narrow.Statement.{statement}

@@ -10,25 +10,25 @@ use Rattle.convex_room.proofs.tell.Tie as tie
 enclose-requires : tie.Need-enclose-requires
 enclose-requires c κs =
     let a = c .before .before .before .before .args in
-    let j = c .before .before .judge-steps in
+    let j = c .before .before .judge in
     good-steps (a .start) (a .chain .now) (j .result) (j .ensures) (c .enum-told .given .1)
 
 tell-in-requires : tie.Need-tell-in-requires
 tell-in-requires c κs =
     let a = c .before .before .before .before .before .args in
-    let j = c .before .before .before .judge-steps in
+    let j = c .before .before .before .judge in
     (good-steps (a .start) (a .chain .now) (j .result) (j .ensures) (c .before .enum-told .given .1), c .enclose .ensures)
 
 returns : tie.Need-returns
 returns c =
     let a = c .before .before .before .before .before .before .args in
-    let j = c .before .before .before .before .judge-steps in
+    let j = c .before .before .before .before .judge in
     c .tell-in .ensures (a .start) (sym (j .ensures) ∙ c .before .before .enum-told .given .1)
 
 returns-2 : tie.Need-returns-2
 returns-2 c =
     let a = c .before .before .before .before .before .args in
-    let j = c .before .before .before .judge-steps in
+    let j = c .before .before .before .judge in
     call-refused (a .start) (a .chain .now) (j .result) (j .ensures) _ (c .before .r .given .1)
 
 pub tell-spec : {M : Type 1} → statement M

@@ -2,7 +2,7 @@
 -- Assumes nothing.
 use borrow.Author.Needs.{needs}
 use Prim.Native.Nat.{_+_, _*_}
-use Rattle.hull_laws.specs.Columns.{widerSize}
+use Rattle.column_laws.specs.Columns.{widerSize}
 use Rattle.convex_room.proofs.RoundLaws.{store-new}
 use native.Mathlib.Omega.{arith}
 use Rattle.convex_room.proofs.wider.Statement.{statement}

@@ -5,8 +5,8 @@ use native.Mathlib.Omega.{arith}
 use mathlib.Core.Path.{refl}
 use Prim.Native.Nat.{_-_}
 use lib.ListN.{length}
-use Rattle.hull_laws.specs.Columns.{blank}
-use Rattle.hull_laws.proofs.SurveyLaws.{falls}
+use Rattle.hull_laws.specs.Lowest.{blank}
+use Rattle.column_laws.proofs.SurveyLaws.{falls}
 use Rattle.hull_laws.proofs.FillLaws.{filling-west, filling-east, filling-top, filling-in-lo, filling-column, filling-row, filling-low}
 use Rattle.hull_columns.proofs.MirrorLaws.{Filled, filled-start, filled-in-hi, filled-step, filled-high}
 use Rattle.hull_columns.proofs.fill.Statement.{statement}

@@ -3,7 +3,7 @@
 use borrow.Author.Needs.{needs}
 use mathlib.Core.Path.{ap}
 use lib.ListN.{set}
-use Rattle.hull_laws.specs.Columns.{sink}
+use Rattle.hull_laws.specs.Lowest.{sink}
 use Rattle.hull_columns.proofs.keep.Statement.{statement}
 use Rattle.hull_columns.proofs.keep.Tie as tie
 

@@ -2,7 +2,7 @@
 -- Assumes nothing.
 use borrow.Author.Needs.{needs}
 use Prim.Native.Nat.{_+_}
-use Rattle.hull_laws.specs.Columns.{top}
+use Rattle.column_laws.specs.Columns.{top}
 use Rattle.hull_laws.proofs.JoinLaws.{one-less, no-less, none-less}
 use Rattle.hull_corners.proofs.close.Statement.{statement}
 use Rattle.hull_corners.proofs.close.Tie as tie

@@ -7,10 +7,9 @@ use lib.IntN.{pos, _-ℤ_}
 use mir.Syntax.{w32}
 use mir.Val.{toZ, ofZ}
 use mir.Facts.{toZ-ofZ}
-use Rattle.hull_laws.specs.Columns.{middle}
+use Rattle.column_laws.specs.Columns.{middle, spot}
 use Rattle.grid.specs.Grid.{corner}
-use Rattle.hull_laws.specs.Outline.{spot}
-use Rattle.hull_laws.proofs.CornerLaws.{corner-eq}
+use Rattle.grid.proofs.CornerLaws.{corner-eq}
 use Rattle.hull_corners.proofs.placed.Statement.{statement}
 use Rattle.hull_corners.proofs.placed.Tie as tie
 

@@ -12,7 +12,7 @@ use mir.Syntax.{w32}
 use mir.Val.{toZ, ofZ}
 use mir.Facts.{toZ-ofZ}
 use Rattle.grid.specs.declared.Corner.{Corner}
-use Rattle.hull.specs.Call.{numbers}
+use Rattle.grid.specs.Grid.{numbers}
 use Rattle.hull_laws.specs.Outline.{spotBy, colAt}
 use Rattle.hull_laws.proofs.JoinLaws.{put-turn, put-end}
 use Rattle.hull_corners.proofs.put.Statement.{statement}

@@ -2,7 +2,7 @@
 -- Assumes nothing.
 use borrow.Author.Needs.{needs}
 use Prim.Native.Nat.{_+_}
-use Rattle.hull_laws.specs.Columns.{top}
+use Rattle.column_laws.specs.Columns.{top}
 use Rattle.hull_laws.proofs.JoinLaws.{one-more, no-more}
 use Rattle.hull_corners.proofs.seam.Statement.{statement}
 use Rattle.hull_corners.proofs.seam.Tie as tie

@@ -7,7 +7,7 @@ use lib.IntN.{pos, _+ℤ_, _-ℤ_}
 use mir.Syntax.{w32}
 use mir.Val.{SFits, toZ}
 use mir.Facts.{toZ-ofZ, toZ-pos}
-use Rattle.hull_laws.specs.Columns.{middle}
+use Rattle.column_laws.specs.Columns.{middle}
 use Rattle.int_laws.proofs.RangeLaws.{abs+, abs-, sfits-abs}
 use Rattle.hull_corners.proofs.shifted.Statement.{statement}
 use Rattle.hull_corners.proofs.shifted.Tie as tie

@@ -3,7 +3,7 @@
 use borrow.Author.Needs.{needs}
 use lib.IntN.{pos, _-ℤ_}
 use lib.ListN.{length}
-use Rattle.hull_laws.specs.Columns.{middle, top}
+use Rattle.column_laws.specs.Columns.{middle, top}
 use Rattle.hull_laws.proofs.JoinLaws.{write-both}
 use Rattle.hull_corners.proofs.PartsLaws.{puts-lower, puts-upper}
 use Rattle.hull_corners.proofs.write.Statement.{statement}

@@ -1,54 +1,27 @@
 -- `hull_scan::list` meets its contract.
 -- Assumes nothing.
 use borrow.Author.Needs.{needs}
-use borrow.Author.Tests.{not-true, not-false}
 use mathlib.Core.Path.{sym, _∙_}
-use lib.ListN.{length}
-use Rattle.answer.specs.declared.Refusal.the-variants.{TooMany, StartRange}
-use Rattle.answer.proofs.StartLaws.{fits-near}
-use Rattle.hull.specs.Call.{chainJudged}
-use Rattle.hull_laws.specs.Columns.{westFrom, eastFrom, middle}
-use Rattle.hull_laws.proofs.CallLaws.{judged-many, judged-start, judged-fault, call-refused}
-use Rattle.hull_scan.proofs.ListLaws.{extent-good, extent-refused, walked, call-listed}
+use Rattle.steps.proofs.ChainLaws.{good-walk}
+use Rattle.hull_laws.proofs.CallLaws.{call-refused}
+use Rattle.hull_scan.proofs.ListLaws.{call-listed}
 use Rattle.hull_scan.proofs.list.Statement.{statement}
 use Rattle.hull_scan.proofs.list.Tie as tie
 
+list-from-requires : tie.Need-list-from-requires
+list-from-requires c κs =
+    let s = c .before .before .before .before .before in
+    let w = good-walk (s .args .start) (s .args .chain .now) (sym (c .before .before .before .judge .ensures) ∙ c .before .enum-told .given .1) in
+    (w .steps, w .near)
+
 returns : tie.Need-returns
-returns c =
-    let a = c .before .before .args in
-    call-refused (a .start) (a .chain .now) (a .out .now) TooMany (λ n. judged-many (a .start) (a .chain .now) (length (a .out .now)) n (c .if1 .taken))
+returns c = call-listed (sym (c .before .before .before .before .before .judge .ensures) ∙ c .before .before .before .enum-told .given .1) (c .before .list-from .ensures)
 
 returns-2 : tie.Need-returns-2
 returns-2 c =
-    let a = c .before .before .before .before .args in
-    let f = c .before .start-fits in
-    call-refused (a .start) (a .chain .now) (a .out .now) StartRange (λ n. judged-start (a .start) (a .chain .now) (length (a .out .now)) n (c .before .before .if1 .left) (sym (f .ensures) ∙ not-true (f .result) (c .if2 .taken)))
-
-list-from-requires : tie.Need-list-from-requires
-list-from-requires c κs =
-    let a = c .before .before .before .before .before .before .before .before .before .args in
-    let f = c .before .before .before .before .before .before .start-fits in
-    let w = c .before .before .west .given in
-    let t = extent-good (chainJudged 0 (a .chain .now)) (westFrom middle (a .chain .now)) (eastFrom middle (a .chain .now)) (w .0 .0) (w .0 .1 .0) (sym (c .before .before .before .before .survey .ensures) ∙ w .1) in
-    (walked (a .chain .now) (w .0 .0) (w .0 .1 .0) (t .0) (t .1) (t .2), fits-near (a .start) (sym (f .ensures) ∙ not-false (f .result) (c .before .before .before .before .before .if2 .left)))
-
-returns-3 : tie.Need-returns-3
-returns-3 c =
-    let a = c .before .before .before .before .before .before .before .before .before .before .before .args in
-    let f = c .before .before .before .before .before .before .before .before .start-fits in
-    let w = c .before .before .before .before .west .given in
-    let t = extent-good (chainJudged 0 (a .chain .now)) (westFrom middle (a .chain .now)) (eastFrom middle (a .chain .now)) (w .0 .0) (w .0 .1 .0) (sym (c .before .before .before .before .before .before .survey .ensures) ∙ w .1) in
-    call-listed (c .before .before .before .before .before .before .before .before .before .if1 .left) (sym (f .ensures) ∙ not-false (f .result) (c .before .before .before .before .before .before .before .if2 .left)) (t .0) (c .before .list-from .ensures)
-
-returns-4 : tie.Need-returns-4
-returns-4 c =
-    let a = c .before .before .before .before .before .before .before .before .args in
-    let f = c .before .before .before .before .before .start-fits in
+    let a = c .before .before .before .before .before .args in
     let r = c .before .r .given in
-    let e = extent-refused (chainJudged 0 (a .chain .now)) (westFrom middle (a .chain .now)) (eastFrom middle (a .chain .now)) (r .0 .0) (sym (c .before .before .before .survey .ensures) ∙ r .1) in
-    call-refused (a .start) (a .chain .now) (a .out .now) (r .0 .0) (λ n. judged-fault (a .start) (a .chain .now) (length (a .out .now)) n (c .before .before .before .before .before .before .if1 .left) (sym (f .ensures) ∙ not-false (f .result) (c .before .before .before .before .if2 .left)) (r .0 .0) e)
+    call-refused (a .start) (a .chain .now) (a .out .now) (r .0 .0) (sym (c .before .before .before .judge .ensures) ∙ r .1)
 
 pub list-spec : {M : Type 1} → statement M
-list-spec =
-    tie.close
-    (tie.spec returns (λ c κs. search needs) returns-2 (λ c κs. search needs) (λ c. search needs) list-from-requires (λ c. search needs) (λ c. search needs) returns-3 returns-4)
+list-spec = tie.close (tie.spec (λ c κs. search needs) (λ c. search needs) list-from-requires (λ c. search needs) (λ c. search needs) returns returns-2)

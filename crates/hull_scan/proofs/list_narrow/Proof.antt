@@ -2,7 +2,7 @@
 -- Assumes nothing.
 use borrow.Author.Needs.{needs}
 use native.Mathlib.Omega.{arith}
-use Rattle.hull_laws.specs.Columns.{narrowSize}
+use Rattle.column_laws.specs.Columns.{narrowSize}
 use Rattle.hull_scan.proofs.ListLaws.{stored}
 use Rattle.hull_scan.proofs.list_narrow.Statement.{statement}
 use Rattle.hull_scan.proofs.list_narrow.Tie as tie

@@ -1,51 +1,27 @@
 -- `hull_scan::list_short` meets its contract.
 -- Assumes nothing.
 use borrow.Author.Needs.{needs}
-use native.Mathlib.Omega.{arith}
 use mathlib.Core.Path.{sym, _∙_}
-use lib.ListN.{length}
-use Rattle.answer.proofs.StartLaws.{fits-near}
-use Rattle.hull.specs.Call.{chainJudged}
-use Rattle.hull_laws.specs.Columns.{westFrom, eastFrom, middle}
-use Rattle.hull_laws.proofs.CallLaws.{judged-fault, call-refused}
-use Rattle.hull_scan.proofs.ListLaws.{extent-good, extent-refused, walked, walked-across, call-listed}
+use Rattle.steps.proofs.ChainLaws.{good-walk}
+use Rattle.hull_laws.proofs.CallLaws.{call-refused}
+use Rattle.hull_scan.proofs.ListLaws.{call-listed}
 use Rattle.hull_scan.proofs.list_short.Statement.{statement}
 use Rattle.hull_scan.proofs.list_short.Tie as tie
 
--- so few steps go through so few columns
 list-short-from-requires : tie.Need-list-short-from-requires
 list-short-from-requires c κs =
-    let s = c .before .before .before .before .before .before in
-    let a = s .args in
-    let w = c .before .before .west .given in
-    let t = extent-good (chainJudged 0 (a .chain .now)) (westFrom middle (a .chain .now)) (eastFrom middle (a .chain .now)) (w .0 .0) (w .0 .1 .0) (sym (c .before .before .before .before .survey .ensures) ∙ w .1) in
-    let k = walked (a .chain .now) (w .0 .0) (w .0 .1 .0) (t .0) (t .1) (t .2) in
-    (k, fits-near (a .start) (s .pre .0), omega (arith, walked-across k, s .pre .1))
+    let s = c .before .before .before .before .before in
+    let w = good-walk (s .args .start) (s .args .chain .now) (sym (c .before .before .before .judge .ensures) ∙ c .before .enum-told .given .1) in
+    (w .steps, w .near, s .pre)
 
 returns : tie.Need-returns
-returns c =
-    let s = c .before .before .before .before .before .before .before .before in
-    let a = s .args in
-    let w = c .before .before .before .before .west .given in
-    let t = extent-good (chainJudged 0 (a .chain .now)) (westFrom middle (a .chain .now)) (eastFrom middle (a .chain .now)) (w .0 .0) (w .0 .1 .0) (sym (c .before .before .before .before .before .before .survey .ensures) ∙ w .1) in
-    call-listed (omega (arith, s .pre .1)) (s .pre .0) (t .0) (c .before .list-short-from .ensures)
+returns c = call-listed (sym (c .before .before .before .before .before .judge .ensures) ∙ c .before .before .before .enum-told .given .1) (c .before .list-short-from .ensures)
 
 returns-2 : tie.Need-returns-2
 returns-2 c =
-    let s = c .before .before .before .before .before in
-    let a = s .args in
+    let a = c .before .before .before .before .before .args in
     let r = c .before .r .given in
-    let e = extent-refused (chainJudged 0 (a .chain .now)) (westFrom middle (a .chain .now)) (eastFrom middle (a .chain .now)) (r .0 .0) (sym (c .before .before .before .survey .ensures) ∙ r .1) in
-    call-refused (a .start) (a .chain .now) (a .out .now) (r .0 .0) (λ n. judged-fault (a .start) (a .chain .now) (length (a .out .now)) n (omega (arith, s .pre .1)) (s .pre .0) (r .0 .0) e)
+    call-refused (a .start) (a .chain .now) (a .out .now) (r .0 .0) (sym (c .before .before .before .judge .ensures) ∙ r .1)
 
 pub list-short-spec : {M : Type 1} → statement M
-list-short-spec =
-    tie.close
-    (tie.spec
-    (λ c κs. search needs)
-    (λ c. search needs)
-    list-short-from-requires
-    (λ c. search needs)
-    (λ c. search needs)
-    returns
-    returns-2)
+list-short-spec = tie.close (tie.spec (λ c κs. search needs) (λ c. search needs) list-short-from-requires (λ c. search needs) (λ c. search needs) returns returns-2)

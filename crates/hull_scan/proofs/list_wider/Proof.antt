@@ -2,7 +2,7 @@
 -- Assumes nothing.
 use borrow.Author.Needs.{needs}
 use native.Mathlib.Omega.{arith}
-use Rattle.hull_laws.specs.Columns.{widerSize}
+use Rattle.column_laws.specs.Columns.{widerSize}
 use Rattle.hull_scan.proofs.ListLaws.{stored}
 use Rattle.hull_scan.proofs.list_wider.Statement.{statement}
 use Rattle.hull_scan.proofs.list_wider.Tie as tie

@@ -4,8 +4,7 @@ use mathlib.Core.Path.{sym, ap}
 use borrow.Author.Needs.{needs}
 use Rattle.answer.specs.declared.Refusal.the-variants.{RetiredKind}
 use Rattle.line_frame.specs.declared.Kind.{Kind}
-use Rattle.line_frame.specs.Line.{digitsOf}
-use Rattle.line_room.specs.Walked.{kindWalked}
+use Rattle.line_frame.specs.Line.{digitsOf, kindWalked}
 use Rattle.line_walk.proofs.WalkLaws.{refused-handed, handed-by}
 use Rattle.line_walk.proofs.walk_frame.Statement.{statement}
 use Rattle.line_walk.proofs.walk_frame.Tie as tie

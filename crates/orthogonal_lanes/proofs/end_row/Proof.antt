@@ -6,7 +6,7 @@ use native.Mathlib.Omega.{arith}
 use mathlib.Core.Path.{_≡_}
 use Prim.Native.Nat.{ℕ, _-_, _≤_, _<_}
 use lib.ListN.{length, getD}
-use Rattle.hull_laws.specs.Columns.{blank}
+use Rattle.hull_laws.specs.Lowest.{blank}
 use Rattle.orthogonal_lanes.proofs.end_row.Statement.{statement}
 use Rattle.orthogonal_lanes.proofs.end_row.Tie as tie
 

@@ -6,7 +6,7 @@ use mathlib.Core.Path.{_≡_}
 use Prim.Native.Nat.{ℕ, _-_, _≤_, _<_}
 use lib.ListN.{length, getD}
 use borrow.Author.Count.{below-more}
-use Rattle.hull_laws.specs.Columns.{blank}
+use Rattle.hull_laws.specs.Lowest.{blank}
 use Rattle.orthogonal_lanes.proofs.first_row.Statement.{statement}
 use Rattle.orthogonal_lanes.proofs.first_row.Tie as tie
 

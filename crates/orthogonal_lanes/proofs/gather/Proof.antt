@@ -4,7 +4,7 @@ use borrow.Author.Needs.{needs}
 use mathlib.Core.Path.{refl, ap, _∙_}
 use Prim.Native.Nat.{_+_, _*_}
 use Rattle.lists.proofs.BelowLaws.{below-getD}
-use Rattle.hull_laws.specs.Columns.{sinks}
+use Rattle.hull_laws.specs.Lowest.{sinks}
 use Rattle.orthogonal_row_laws.specs.Lanes.{fromWest, fromEast}
 use Rattle.orthogonal_lanes.proofs.LaneLaws.{edge-shift}
 use native.Mathlib.Omega.{arith}

@@ -4,7 +4,7 @@ use borrow.Author.Needs.{needs}
 use mathlib.Core.Path.{ap, _∙_}
 use Prim.Native.Nat.{ℕ, min}
 use lib.ListN.{set}
-use Rattle.hull_laws.specs.Columns.{sink}
+use Rattle.hull_laws.specs.Lowest.{sink}
 use Rattle.orthogonal_lanes.proofs.keep.Statement.{statement}
 use Rattle.orthogonal_lanes.proofs.keep.Tie as tie
 

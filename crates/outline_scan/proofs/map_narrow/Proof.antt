@@ -2,7 +2,7 @@
 -- Assumes nothing.
 use borrow.Author.Needs.{needs}
 use Prim.Native.Nat.{_*_}
-use Rattle.hull_laws.specs.Columns.{narrowSize}
+use Rattle.column_laws.specs.Columns.{narrowSize}
 use Rattle.outline_scan.proofs.ScanLaws.{box-lent}
 use Rattle.outline_scan.proofs.map_narrow.Statement.{statement}
 use Rattle.outline_scan.proofs.map_narrow.Tie as tie

@@ -2,7 +2,7 @@
 -- Assumes nothing.
 use borrow.Author.Needs.{needs}
 use Prim.Native.Nat.{_*_}
-use Rattle.hull_laws.specs.Columns.{widerSize}
+use Rattle.column_laws.specs.Columns.{widerSize}
 use Rattle.outline_scan.proofs.ScanLaws.{box-lent}
 use Rattle.outline_scan.proofs.map_wider.Statement.{statement}
 use Rattle.outline_scan.proofs.map_wider.Tie as tie

@@ -4,7 +4,7 @@ use borrow.Author.Needs.{needs}
 use mathlib.Core.Path.{refl}
 use native.Mathlib.Omega.{arith}
 use Prim.Native.Nat.{_+_, _*_}
-use Rattle.hull_laws.specs.Columns.{widerSize}
+use Rattle.column_laws.specs.Columns.{widerSize}
 use Rattle.outline_scan.proofs.ScanLaws.{blank-of}
 use Rattle.outline_scan.proofs.write_wider.Statement.{statement}
 use Rattle.outline_scan.proofs.write_wider.Tie as tie

@@ -11,7 +11,7 @@ use Rattle.grid.specs.declared.Corner.{Corner}
 use Rattle.grid.specs.Grid.{stepped}
 use Rattle.grid.specs.Tree.{upBy, childWord}
 use Rattle.tree_laws.specs.State.{reached}
-use Rattle.table_climb_laws.proofs.ClimbLaws.{up-small}
+use Rattle.table_laws.proofs.ClimbLaws.{up-small}
 use Rattle.table_laws.proofs.StoreLaws.{child-word-small}
 use Rattle.pair_table.specs.Slots.{Slot}
 use Rattle.pair_laws.specs.Stand.{At}

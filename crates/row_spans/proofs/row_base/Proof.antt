@@ -7,7 +7,7 @@ use mir.Syntax.{w32}
 use mir.Val.{toZ, ofZ}
 use mir.Facts.{toZ-ofZ}
 use Rattle.grid.specs.Grid.{corner}
-use Rattle.hull_laws.proofs.CornerLaws.{corner-eq}
+use Rattle.grid.proofs.CornerLaws.{corner-eq}
 use Rattle.row_spans.proofs.row_base.Statement.{statement}
 use Rattle.row_spans.proofs.row_base.Tie as tie
 

@@ -10,8 +10,8 @@ use Rattle.grid.specs.Tree.{parentOf, sizeOf}
 use Rattle.tree.specs.Nodes.{refOf}
 use Rattle.tree_laws.specs.State.{State, Holds}
 use Rattle.grid.proofs.PathLaws.{sizeOf-parentOf, natAbs-halfOf}
-use Rattle.table_climb_laws.specs.Climb.{Climbed}
-use Rattle.table_climb_laws.proofs.ClimbLaws.{node-bound, up-reads, goes-apart, climb-next}
+use Rattle.table_laws.specs.Climb.{Climbed}
+use Rattle.table_laws.proofs.ClimbLaws.{node-bound, up-reads, goes-apart, climb-next}
 use Rattle.walk_lookup.proofs.climb.Statement.{statement}
 use Rattle.walk_lookup.proofs.climb.Tie as tie
 

@@ -13,8 +13,8 @@ use Rattle.grid.specs.Tree.{upBy}
 use Rattle.tree_laws.specs.State.{State, Holds, Made, raised, reached}
 use Rattle.table_laws.proofs.Cites.{ref-below}
 use Rattle.table_laws.proofs.StoreLaws.{child-word-small}
-use Rattle.table_climb_laws.specs.Climb.{Descends}
-use Rattle.table_climb_laws.proofs.ClimbLaws.{up-small, step-grew, step-held, step-word, step-number, step-none, step-bounds, step-next}
+use Rattle.table_laws.specs.Climb.{Descends}
+use Rattle.table_laws.proofs.ClimbLaws.{up-small, step-grew, step-held, step-word, step-number, step-none, step-bounds, step-next}
 use Rattle.layout.specs.Table.{wordAt}
 use Rattle.walk_lookup.proofs.come_down.Statement.{statement}
 use Rattle.walk_lookup.proofs.come_down.Tie as tie

@@ -9,7 +9,7 @@ use Rattle.grid.specs.declared.Corner.{Corner}
 use Rattle.grid.specs.Grid.{stepped}
 use Rattle.tree_laws.specs.State.{Made, reached}
 use Rattle.table_laws.proofs.Cites.{stood}
-use Rattle.table_climb_laws.proofs.ClimbLaws.{up-small, level-none, level-descends}
+use Rattle.table_laws.proofs.ClimbLaws.{up-small, level-none, level-descends}
 use Rattle.walk_lookup.proofs.neighbour.Statement.{statement}
 use Rattle.walk_lookup.proofs.neighbour.Tie as tie
 

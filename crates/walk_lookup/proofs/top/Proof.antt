@@ -12,7 +12,7 @@ use Rattle.tree_laws.specs.State.{Made, raised, reached}
 use Rattle.table_laws.proofs.Cites.{near-known, near-root, ref-below}
 use Rattle.table_laws.proofs.LastLaws.{near-last}
 use Rattle.table_laws.proofs.StoreLaws.{child-word-small}
-use Rattle.table_climb_laws.proofs.ClimbLaws.{top-raises, top-held, top-none, top-linked, top-bounds}
+use Rattle.table_laws.proofs.ClimbLaws.{top-raises, top-held, top-none, top-linked, top-bounds}
 use Rattle.walk_lookup.proofs.top.Statement.{statement}
 use Rattle.walk_lookup.proofs.top.Tie as tie
 

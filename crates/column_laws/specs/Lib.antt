@@ -1,0 +1,2 @@
+-- The columns of a walk.
+pub mod Columns

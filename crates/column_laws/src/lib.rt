@@ -1,0 +1,1 @@
+// The columns of a walk: mathematics. There is no code here.

@@ -1,0 +1,2 @@
+-- The laws of a step in the columns.
+pub mod StepLaws

@@ -1,0 +1,2 @@
+-- What each step adds.
+pub mod Steps
