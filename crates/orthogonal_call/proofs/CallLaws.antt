@@ -1,13 +1,13 @@
 -- From an accepted room to its lanes, from lanes to the ends of rows, and from these to the answer.
 -- Assumes nothing.
 use mathlib.Core.Bool.{Bool, true, false, not, _&&_}
-use mathlib.Core.List.{List, [], _∷_, _++_}
+use mathlib.Core.List.{List, _∷_, _++_}
 use mathlib.Core.Path.{_≡_, refl, sym, ap, ap₂, _∙_, subst, subst₂}
 use Prim.Native.Nat.{ℕ, zero, suc, _+_, _*_, _-_, _/_, _%_, _<_, _≤_}
 use native.Mathlib.Omega.{arith}
 use native.Mathlib.Nat.{mod-lt, div-add-mod', div-lt-iff-lt-mul, div-le-self, add-mul}
-use borrow.Author.Tests.{lt-ltb, le-ltb, le-leb, lt-leb}
-use lib.Dec.{T, ltb, leb}
+use borrow.Author.Tests.{le-leb, lt-leb}
+use lib.Dec.{T, leb}
 use lib.IntN.{ℤ, pos, negsuc, natAbs, _+ℤ_, _-ℤ_}
 use lib.ListN.{length, getD, take, drop, replicate, length-replicate, length-drop}
 use lib.Seq.{sets, sets-eq, length-take-le, getD-take, getD-drop}
@@ -22,11 +22,10 @@ use Rattle.lists.proofs.BoolLaws.{not-true, not-false}
 use Rattle.grid.specs.declared.Corner.{Corner}
 use Rattle.grid.specs.Grid.{corner}
 use Rattle.answer.specs.declared.{Judged.Judged, Judged.the-variants.Good, Judged.the-variants.Refused, Refusal.the-variants.TooMany, Refusal.the-variants.StartRange, Refusal.the-variants.GridSize, Refusal.the-variants.ChainRoom}
-use Rattle.answer.specs.{Limits.mostInput, Limits.mostStart, Limits.mostSteps, Limits.startFits, Limits.Near, Refusal.when, Refusal.firstOf}
+use Rattle.answer.specs.{Limits.mostInput, Limits.mostStart, Limits.mostSteps, Limits.startFits, Limits.Near}
 use Rattle.trace.specs.Verdict.{IsRoom}
 use Rattle.room.specs.Room.{asRoomJudged}
 use Rattle.room.proofs.RoomLaws.{good-room}
-use Rattle.panels.specs.Inside.{panelsInside}
 use Rattle.hull_laws.specs.Lowest.{blank, sinks}
 use Rattle.column_laws.specs.Columns.{top}
 use Rattle.hull_laws.proofs.SinkLaws.{length-sinks}
@@ -35,8 +34,8 @@ use Rattle.room_thread_laws.specs.Threads.{Stays}
 use Rattle.room_thread_laws.proofs.RoomLaws.{closed-stays}
 use Rattle.orthogonal.specs.declared.{Enclosed.Enclosed, Orthogonal.Orthogonal}
 use Rattle.orthogonal.specs.Blocks.{HoldsInside}
-use Rattle.orthogonal.specs.Call.{mostGrid, gridFits, onGridJudged, OutlinesHull, OrthogonalCall, enclosedOf}
-use Rattle.orthogonal_chain_laws.specs.Chain.{cornerBy, homeRow, blocksFrom, chainFromHome}
+use Rattle.orthogonal.specs.Call.{mostGrid, gridFits, onGridJudged, OrthogonalCall, enclosedOf}
+use Rattle.orthogonal_chain_laws.specs.Chain.{homeRow, blocksFrom}
 use Rattle.orthogonal_chain_laws.proofs.HomeLaws.{homeRow-is}
 use Rattle.orthogonal_laws.specs.HullRows.{hullLeft, RowEnds}
 use Rattle.orthogonal_laws.proofs.CallLaws.{onGrid-many, onGrid-range, onGrid-size, onGrid-room, onGrid-good, grid-within, short-call, outlined-call}
@@ -98,7 +97,7 @@ module _ (z : ℤ) (m g : ℕ) (near : natAbs z ≤ mostStart) (few : m ≤ most
   not-less (pos n) h = tt
   not-less (negsuc n) h = absurd (omega (zarith, h))
 
-  pub lift-within : natAbs lift < 65536 * g
+  lift-within : natAbs lift < 65536 * g
   lift-within = omega (zarith, near, few, some, abs-nat z, abs-pos lift lift-pos, bal- z (pos m), bal+ (z -ℤ pos m) (pos (32768 * g)))
 
   pub lift-casts : T (nonNeg lift) × Fits w64 (natAbs lift)
@@ -221,7 +220,7 @@ module _ {s : Corner} {ds : List ℕ} {g m span x y : ℕ} {lo hi : List ℕ} (w
   pub laned-rows : south < north
   laned-rows = some-rows s ds (a .room) (a .digits) m g (x % g) (y % g) span span (w .ruled) (w .stays) bx by ax ay south north eb ef size
 
-  pub laned-within : north ≤ span
+  laned-within : north ≤ span
   laned-within = omega (arith, ef .within, size)
 
   part : List ℕ → List ℕ

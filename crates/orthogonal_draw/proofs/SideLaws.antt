@@ -1,7 +1,7 @@
 -- The sides of a pile, and what is written from a place on.
 -- Assumes nothing.
 use mathlib.Core.Path.{_≡_, refl, sym, ap, ap₂, _∙_}
-use mathlib.Core.Bool.{Bool, true, false, cond}
+use mathlib.Core.Bool.{Bool, cond}
 use mathlib.Core.List.{List, [], _∷_, _++_, append-nil, append-assoc}
 use mathlib.Core.Logic.{_⊎_, inl, inr}
 use Prim.Native.Nat.{ℕ, zero, suc, _+_, _-_, _<_, _≤_}
@@ -9,12 +9,12 @@ use native.Mathlib.Omega.{arith}
 use native.Mathlib.Numerals.{add-one}
 use borrow.Author.Tests.{lt-ltb, le-ltb}
 use lib.Dec.{ltb}
-use lib.ListN.{length, replicate, getD, set, length-replicate, length-append}
+use lib.ListN.{length, replicate, set, length-replicate, length-append}
 use lib.Seq.{sets}
 use Rattle.orthogonal_chain_laws.specs.Chain.{sideways, leftSide, rightSide, chainFromRow, homeRow, chainFromHome, blocksFrom}
-use Rattle.orthogonal_draw.specs.Sides.{leftIn, rightIn, descent, ascent}
+use Rattle.orthogonal_draw.specs.Sides.{descent, ascent}
 
-pub sets-append : (l : List ℕ) (i : ℕ) (a b : List ℕ) → sets l i (a ++ b) ≡ sets (sets l i a) (i + length a) b
+sets-append : (l : List ℕ) (i : ℕ) (a b : List ℕ) → sets l i (a ++ b) ≡ sets (sets l i a) (i + length a) b
 sets-append l i [] b = ap (λ (n : ℕ). sets l n b) none
   where
     none : i ≡ i + 0
@@ -25,19 +25,19 @@ sets-append l i (x ∷ a) b = sets-append (set l i x) (suc i) a b ∙ ap (λ (n 
     next = omega arith
 
 -- the left side is a descent from the end of the row above it
-pub left-descent : (l : ℕ → ℕ) (m n : ℕ) → leftSide l m n ≡ descent l (l (m + n)) m n
+left-descent : (l : ℕ → ℕ) (m n : ℕ) → leftSide l m n ≡ descent l (l (m + n)) m n
 unfolding descent
 left-descent l m zero = refl
 left-descent l m (suc n) = ap (λ (s : List ℕ). sideways (l (m + suc n)) (l (m + n)) ++ (3 ∷ s)) (left-descent l m n)
 
 -- the right side, with the way to its foot before it, is an ascent
-pub right-ascent : (r : ℕ → ℕ) (x q n : ℕ) → sideways x (r q) ++ rightSide r q n ≡ ascent r x q (suc n)
+right-ascent : (r : ℕ → ℕ) (x q n : ℕ) → sideways x (r q) ++ rightSide r q n ≡ ascent r x q (suc n)
 unfolding ascent
 right-ascent r x q zero = refl
 right-ascent r x q (suc n) = ap (λ (s : List ℕ). sideways x (r q) ++ (1 ∷ s)) (right-ascent r (r q) (suc q) n)
 
 -- the chain: down to row 0, up to the top, and down to the row that it starts from
-pub chain-sides : (l r : ℕ → ℕ) (t k : ℕ) → k ≤ t → chainFromRow l r t k ≡ descent l (l k) 0 k ++ (ascent r (l 0) 0 (suc t) ++ descent l (r t) k (suc (t - k)))
+chain-sides : (l r : ℕ → ℕ) (t k : ℕ) → k ≤ t → chainFromRow l r t k ≡ descent l (l k) 0 k ++ (ascent r (l 0) 0 (suc t) ++ descent l (r t) k (suc (t - k)))
 unfolding descent
 chain-sides l r t k h =
     ap₂ (λ (a b : List ℕ). a ++ b) (left-descent l 0 k ∙ ap (λ (n : ℕ). descent l (l n) 0 k) none)

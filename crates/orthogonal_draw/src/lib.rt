@@ -3,7 +3,7 @@
 use order::wide;
 ghost use mathlib.Core.Path.{_≡_};
 ghost use mathlib.Core.List.{[], _∷_, _++_};
-ghost use Prim.Native.Nat.{ℕ, _+_, _*_, _-_, _<_, _≤_};
+ghost use Prim.Native.Nat.{ℕ, _+_, _-_, _<_, _≤_};
 ghost use lib.ListN.{length, replicate, getD};
 ghost use lib.Seq.{sets};
 ghost use Rattle.orthogonal_chain_laws.specs.Chain.{sideways, homeRow, blocksFrom, chainFromHome};

@@ -1,12 +1,11 @@
 -- Lanes that keep the least column of each row, step by step, and the minima over their rows.
 -- Assumes nothing.
 use mathlib.Core.Path.{_≡_, refl, sym, ap, ap₂, _∙_, subst}
-use mathlib.Core.Bool.{Bool, true, false}
 use mathlib.Core.List.{List, [], _∷_, _++_, map}
 use Prim.Native.Nat.{ℕ, zero, suc, _+_, _*_, _-_, _/_, _%_, _<_, _≤_, min, max}
 use native.Mathlib.Omega.{arith}
 use native.Mathlib.Numerals.{add-one}
-use native.Mathlib.Nat.{div-lt-iff-lt-mul, div-le-self}
+use native.Mathlib.Nat.{div-lt-iff-lt-mul}
 use native.Mathlib.Decide.{ℕ-discrete}
 use lib.Dec.{ltb}
 use lib.ListN.{length, getD, drop, set, drop-of-length-le}
@@ -72,9 +71,6 @@ pub record Gathering (chain : List ℕ) (m g right up far : ℕ) (lo₀ hi₀ lo
   pub rows : drop i (rowsFrom m chain) ≡ rowsFrom y (drop i chain)
   pub lows : sinks lo (lanesFrom g up (fromWest right) x y (drop i chain)) ≡ sinks lo₀ (lanesFrom g up (fromWest right) m m chain)
   pub highs : sinks hi (lanesFrom g up (fromEast far right) x y (drop i chain)) ≡ sinks hi₀ (lanesFrom g up (fromEast far right) m m chain)
-
-pub gathering-start : (chain : List ℕ) (m g right up far : ℕ) (lo hi : List ℕ) → Gathering chain m g right up far lo hi lo hi m m 0
-gathering-start chain m g right up far lo hi = record { columns = refl; rows = refl; lows = refl; highs = refl }
 
 module _ {chain : List ℕ} {m g right up far : ℕ} {lo₀ hi₀ lo hi : List ℕ} {x y i : ℕ} (w : Gathering chain m g right up far lo₀ hi₀ lo hi x y i) where
   pub gathering-bounds : i < length chain → (room : ℕ) → Stays chain m room → (0 < x) × (x < room) × (0 < y) × (y < room)
@@ -217,9 +213,6 @@ pub record Settling (a₀ : List ℕ) (len : ℕ) (a : List ℕ) (least q : ℕ)
   pub before : (k : ℕ) → k < q → getD a k 0 ≡ hullLeft (λ j. getD a₀ j 0) (len - 1) k
   pub after : (k : ℕ) → q ≤ k → getD a k 0 ≡ getD a₀ k 0
 
-pub settling-start : (a : List ℕ) (len least : ℕ) → least ≡ getD a 0 0 → Settling a len a least 0
-settling-start a len least e = record { within = omega arith; least-is = e; before = λ k l. absurd (omega arith); after = λ k l. refl }
-
 module _ {a₀ : List ℕ} {len : ℕ} {a : List ℕ} {least q : ℕ} (w : Settling a₀ len a least q) (l : q < len) (sa : len ≤ length a) where
   pub settling-step : (least′ v x : ℕ) → least′ ≡ min least (getD a q 0) → v ≡ leastOver (λ k. getD a₀ k 0) q (len - 1 - q) → x ≡ max least′ v → Settling a₀ len (set a q x) least′ (q + 1)
   settling-step least′ v x el ev ex = record {
@@ -259,10 +252,10 @@ over-eq : (f h : ℕ → ℕ) (m n : ℕ) → ((k : ℕ) → m ≤ k → k ≤ m
 over-eq f h m zero e = e m (omega arith) (omega arith)
 over-eq f h m (suc n) e = ap₂ min (e m (omega arith) (omega arith)) (over-eq f h (suc m) n (λ k l b. e k (omega arith) (omega arith)))
 
-pub least-eq : (f h : ℕ → ℕ) (len q : ℕ) → q < len → ((k : ℕ) → k < len → f k ≡ h k) → leastOver f q (len - 1 - q) ≡ leastOver h q (len - 1 - q)
+least-eq : (f h : ℕ → ℕ) (len q : ℕ) → q < len → ((k : ℕ) → k < len → f k ≡ h k) → leastOver f q (len - 1 - q) ≡ leastOver h q (len - 1 - q)
 least-eq f h len q l e = over-eq f h q (len - 1 - q) (λ k a b. e k (omega arith))
 
-pub left-eq : (f h : ℕ → ℕ) (len q : ℕ) → q < len → ((k : ℕ) → k < len → f k ≡ h k) → hullLeft f (len - 1) q ≡ hullLeft h (len - 1) q
+left-eq : (f h : ℕ → ℕ) (len q : ℕ) → q < len → ((k : ℕ) → k < len → f k ≡ h k) → hullLeft f (len - 1) q ≡ hullLeft h (len - 1) q
 left-eq f h len q l e = ap₂ max (over-eq f h 0 q (λ k a b. e k (omega arith))) (least-eq f h len q l e)
 
 -- one row more that has no edge

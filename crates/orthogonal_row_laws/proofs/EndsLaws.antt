@@ -1,10 +1,10 @@
 -- The least column of each row of blocks, counted from west and from east, gives the ends of the rows of a room's blocks.
 -- Assumes nothing.
-use mathlib.Core.Bool.{Bool, true, false}
-use mathlib.Core.List.{List, [], _∷_, map, List·Memᴰ, List·Memᴰ·head, List·Memᴰ·tail, List·Memᴰ·not-nil, Memᴰ·map, Memᴰ·of-map}
+use mathlib.Core.Bool.{Bool}
+use mathlib.Core.List.{List, [], _∷_, List·Memᴰ, List·Memᴰ·head, List·Memᴰ·tail, List·Memᴰ·not-nil, Memᴰ·map, Memᴰ·of-map}
 use mathlib.Core.Logic.{_⊎_, inl, inr, ⊎-elim}
 use mathlib.Core.Path.{_≡_, refl, ap, ap₂, sym, _∙_, subst}
-use Prim.Native.Nat.{ℕ, zero, suc, _+_, _*_, _-_, _/_, _<_, _≤_, min}
+use Prim.Native.Nat.{ℕ, suc, _+_, _*_, _-_, _/_, _<_, _≤_, min}
 use native.Mathlib.Decide.{decLt, ℕ-discrete}
 use native.Mathlib.Nat.{div-lt-iff-lt-mul}
 use native.Mathlib.Omega.{arith}
@@ -25,7 +25,7 @@ use Rattle.panels.specs.Inside.{Inside, leftOf, rightOf}
 use Rattle.room_laws.proofs.RoomLaws.{room-counts}
 use Rattle.hull_laws.specs.Lowest.{blank, sink, sinks}
 use Rattle.room_thread_laws.specs.Threads.{Stays}
-use Rattle.orthogonal.specs.Blocks.{floorBy, block, blockOf, HoldsInside}
+use Rattle.orthogonal.specs.Blocks.{floorBy, block, HoldsInside}
 use Rattle.orthogonal_chain_laws.specs.Chain.{InPile}
 use Rattle.orthogonal_laws.specs.HullRows.{RowEnds}
 use Rattle.orthogonal_laws.proofs.InsideLaws.{first-step}

@@ -1,10 +1,9 @@
 -- Floors of numbers that are counted from the beginning of a block, and sums of quotients.
 -- Assumes nothing.
-use mathlib.Core.Logic.{_⊎_, inl, inr}
-use mathlib.Core.Path.{_≡_, refl, ap, ap₂, sym, _∙_}
+use mathlib.Core.Path.{_≡_, ap, sym, _∙_}
 use Prim.Native.Nat.{ℕ, zero, suc, _+_, _*_, _-_, _/_, _%_, _<_, _≤_}
 use native.Mathlib.Decide.{decLt}
-use native.Mathlib.Nat.{div-add-mod', mod-lt, suc-mul, add-div-right, div-eq-of-lt, div-lt-iff-lt-mul, mul-add-div-right, div-mul-le-self, div-one, zero-div, add-mul}
+use native.Mathlib.Nat.{div-add-mod', mod-lt, suc-mul, add-div-right, div-eq-of-lt, div-lt-iff-lt-mul, mul-add-div-right, div-mul-le-self, add-mul}
 use native.Mathlib.Omega.{arith}
 use lib.Arith.{digits-div}
 use lib.IntN.{ℤ, pos, negsuc, _+ℤ_, _-ℤ_}
@@ -32,7 +31,7 @@ module _ (g : ℕ) (some : 0 < g) where
       ap (floorBy g) e ∙ omega (zarith, q, bal- (negsuc (n / g)) (pos 1))
 
   -- b blocks less
-  pub floor-blocks : (u b : ℕ) → floorBy g (pos u -ℤ pos (b * g)) ≡ pos (u / g) -ℤ pos b
+  floor-blocks : (u b : ℕ) → floorBy g (pos u -ℤ pos (b * g)) ≡ pos (u / g) -ℤ pos b
   floor-blocks u zero =
       let e : pos u -ℤ pos (0 * g) ≡ pos u = omega (zarith, bal- (pos u) (pos (0 * g)), zero-mul g) in
       ap (floorBy g) e ∙ omega (zarith, bal- (pos (u / g)) (pos 0))

@@ -2,9 +2,9 @@
 -- Assumes nothing.
 use mathlib.Core.Bool.{true, false}
 use mathlib.Core.List.{List, [], _∷_, _++_, List·Memᴰ, List·Memᴰ·head, List·Memᴰ·tail, List·Memᴰ·not-nil}
-use mathlib.Core.Logic.{_⊎_, inl, inr, ⊎-elim}
-use mathlib.Core.Path.{_≡_, refl, ap, sym, _∙_, subst}
-use Prim.Native.Nat.{ℕ, zero, suc, _+_, _*_, _-_, _<_, _≤_}
+use mathlib.Core.Logic.{_⊎_, ⊎-elim}
+use mathlib.Core.Path.{_≡_, refl, ap, sym, _∙_}
+use Prim.Native.Nat.{ℕ, zero, suc, _+_, _-_, _<_}
 use native.Mathlib.Omega.{arith}
 use lib.IntN.{ℤ, pos, _+ℤ_}
 use lib.ListN.{length, getD}
@@ -21,11 +21,6 @@ use Rattle.orthogonal_row_laws.proofs.EdgeLaws.{mem-append}
 pub record EndOf (o u : ℤ) (e : Edge) (v : ℕ × ℕ) : Type 0 where
   pub column : e .foot .0 ≡ o +ℤ pos (v .0)
   pub height : e .foot .1 ≡ u +ℤ pos (v .1)
-
-mem-left : {A : Type 0} (x : A) (a b : List A) → List·Memᴰ x a → List·Memᴰ x (a ++ b)
-mem-left x (y ∷ a) b (List·Memᴰ·head e) = List·Memᴰ·head e
-mem-left x (y ∷ a) b (List·Memᴰ·tail m) = List·Memᴰ·tail (mem-left x a b m)
-mem-left x [] b m = absurd (List·Memᴰ·not-nil m)
 
 mem-right : {A : Type 0} (x : A) (a b : List A) → List·Memᴰ x b → List·Memᴰ x (a ++ b)
 mem-right x [] b m = m

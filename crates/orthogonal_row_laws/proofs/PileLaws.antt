@@ -2,8 +2,8 @@
 -- Assumes nothing.
 use mathlib.Core.Bool.{cond}
 use mathlib.Core.List.{List, _∷_, _++_}
-use mathlib.Core.Path.{_≡_, refl, ap, ap₂, sym, _∙_, subst, subst₂}
-use Prim.Native.Nat.{ℕ, zero, suc, _+_, _*_, _-_, _<_, _≤_, min, max}
+use mathlib.Core.Path.{_≡_, refl, ap, ap₂, sym, _∙_, subst₂}
+use Prim.Native.Nat.{ℕ, zero, suc, _+_, _*_, _-_, _<_, _≤_}
 use native.Mathlib.Omega.{arith}
 use lib.Dec.{ltb}
 use lib.ListN.{length, getD}
@@ -13,11 +13,11 @@ use Rattle.trace.specs.Verdict.{IsRoom}
 use Rattle.panels.specs.Inside.{panelsInside}
 use Rattle.orthogonal.specs.Blocks.{HoldsInside}
 use Rattle.orthogonal.specs.Call.{OutlinesHull}
-use Rattle.orthogonal_chain_laws.specs.Chain.{Piled, Bulges, cornerBy, blocksFrom, sideways, leftSide, rightSide, chainFromRow, homeRow, chainFromHome}
+use Rattle.orthogonal_chain_laws.specs.Chain.{Piled, cornerBy, blocksFrom, sideways, leftSide, rightSide, chainFromRow, homeRow, chainFromHome}
 use Rattle.orthogonal_chain_laws.proofs.RoomLaws.{chain-panels}
 use Rattle.orthogonal_chain_laws.proofs.LengthLaws.{bulge-least, bulge-most}
 use Rattle.orthogonal_chain_laws.proofs.HomeLaws.{homeRow-is, chain-length}
-use Rattle.orthogonal_laws.specs.HullRows.{pickOver, leastOver, mostOver, hullLeft, hullRight, RowEnds}
+use Rattle.orthogonal_laws.specs.HullRows.{leastOver, mostOver, hullLeft, hullRight, RowEnds}
 use Rattle.orthogonal_laws.proofs.BlockLaws.{blocks-connected}
 use Rattle.orthogonal_laws.proofs.RowLaws.{hull-bulges, hull-piled}
 use Rattle.orthogonal_laws.proofs.OutlineLaws.{rows-outline}
