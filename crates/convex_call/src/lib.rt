@@ -173,9 +173,9 @@ fn is_convex(chain: &[u8]) -> bool
     widest(chain)
 }
 
-// Whether a room is convex, whatever corner it starts from, if its box has this many columns and rows of corners. First its girth:
-// each part of a convex room goes two ways only, so that its steps add up to the edges around its box. A room with more is not
-// convex, and nothing is laid down.
+// Whether a room is convex, whatever corner it starts from, if its box has this many columns and rows of corners. First its
+// girth: each part of a convex room goes two ways only, so that its steps add up to the edges around its box. A room with more is
+// not convex, and nothing is laid down.
 fn decide(chain: &[u8], width: usize, height: usize) -> bool
     requires { ⌜ Digits (now chain) × (length (now chain) ≤ middle) × (width ≡ boxWidth (now chain))
         × (height ≡ boxHeight (now chain)) ⌝ }
