@@ -17,7 +17,7 @@ use Rattle.answer.specs.Refusal.{when}
 use Rattle.answer.proofs.RefusalLaws.{clear}
 use Rattle.answer.proofs.StartLaws.{fits-near, near-fits}
 use Rattle.grid.specs.declared.Corner.{Corner}
-use Rattle.steps.specs.Turns.{writtenIf}
+use Rattle.answer.specs.Listed.{laidIf}
 use Rattle.room.specs.Room.{asRoomJudged}
 use Rattle.room.proofs.RoomLaws.{good-room}
 use Rattle.row_laws.proofs.CallLaws.{good-steps}
@@ -125,7 +125,7 @@ module _ (s : Corner) (ds : List ℕ) (g : ℕ) where
         where
           by : (j : Judged) → orthogonalJudged s ds g (length before) (length (w .steps)) ≡ j → after ≡ before
           by Good e = absurd (refused-outlined q (enclosedOf (w .start) (w .steps)) (w .answer ∙ ap (λ (j : Judged). orthogonalOf j (w .start) (w .steps)) e))
-          by (Refused x) e = w .buffer ∙ ap (λ (j : Judged). writtenIf j (w .steps ++ drop (length (w .steps)) before) before) e
+          by (Refused x) e = w .buffer ∙ ap (λ (j : Judged). laidIf j (w .steps) before) e
 
       -- what is outlined is not refused
       outlined-good : (h : Enclosed) → (w : OrthogonalCall s ds g before (Orthogonal.Outlined h) after) → orthogonalJudged s ds g (length before) (length (w .steps)) ≡ Good
@@ -145,7 +145,7 @@ module _ (s : Corner) (ds : List ℕ) (g : ℕ) where
             w .steps,
             w .outline (on-grid h w),
             same (enclosedOf (w .start) (w .steps)) (w .answer ∙ ap (λ (j : Judged). orthogonalOf j (w .start) (w .steps)) e),
-            w .buffer ∙ ap (λ (j : Judged). writtenIf j (w .steps ++ drop (length (w .steps)) before) before) e,
+            w .buffer ∙ ap (λ (j : Judged). laidIf j (w .steps) before) e,
           )
         where
           same : (k : Enclosed) → Orthogonal.Outlined h ≡ Orthogonal.Outlined k → h ≡ k

@@ -1,10 +1,10 @@
 -- What the call that outlines the orthogonal hull of a room answers, and what it leaves in the buffer (RULES 21.4 to 21.6).
 -- Assumes nothing.
-use Rattle.lists.specs.Lists.{_≡_, Bool, true, not, _&&_, List, [], _∷_, _++_, length, drop, ℕ, leb, ltb, Below}
+use Rattle.lists.specs.Lists.{_≡_, Bool, true, not, _&&_, List, [], _∷_, length, ℕ, leb, ltb, Below}
 use Rattle.grid.specs.declared.Corner.{Corner}
 use Rattle.answer.specs.declared.{Judged.Judged, Judged.the-variants.Good, Judged.the-variants.Refused, Refusal.the-variants.TooMany, Refusal.the-variants.StartRange, Refusal.the-variants.GridSize, Refusal.the-variants.NotRoom, Refusal.the-variants.ChainRoom}
 use Rattle.answer.specs.{Limits.mostInput, Limits.startFits, Refusal.when, Refusal.firstOf, Refusal.refusalNumber, Refusal.refusalPlace, Words.bitsOf}
-use Rattle.steps.specs.Turns.{writtenIf}
+use Rattle.answer.specs.Listed.{laidIf}
 use Rattle.steps.specs.Chain.{chainJudged}
 use Rattle.room.specs.Room.{isRoom}
 use Rattle.outline.specs.Outline.{homeOf}
@@ -58,8 +58,7 @@ pub record OrthogonalCall (c : Corner) (ds : List ℕ) (g : ℕ) (before : List 
   pub steps : List ℕ
   pub outline : onGridJudged c ds g ≡ Good → OutlinesHull c ds g start steps
   pub answer : r ≡ orthogonalOf (orthogonalJudged c ds g (length before) (length steps)) start steps
-  pub buffer : after
-      ≡ writtenIf (orthogonalJudged c ds g (length before) (length steps)) (steps ++ drop (length steps) before) before
+  pub buffer : after ≡ laidIf (orthogonalJudged c ds g (length before) (length steps)) steps before
 
 -- number, place, steps, x and y of the start in two's complement, blocks; a refused answer holds number and place, and 0 in all
 -- other words

@@ -17,7 +17,7 @@ use Rattle.answer.proofs.RefusalLaws.{refused-not-good, clear, clear-first, whe
 use Rattle.lists.proofs.BoolLaws.{not-false}
 use Rattle.lists.proofs.GatherLaws.{and-left, and-right}
 use Rattle.grid.specs.declared.{Corner.Corner, Panel.Panel}
-use Rattle.steps.specs.Turns.{writtenIf}
+use Rattle.answer.specs.Listed.{laidIf}
 use Rattle.steps.specs.Chain.{chainJudged}
 use Rattle.room.specs.Room.{isRoom, asRoomJudged}
 use Rattle.room.proofs.RoomLaws.{isRoom-exactly, judged-four}
@@ -130,11 +130,11 @@ module _ (s : Corner) (ds : List ℕ) (g : ℕ) (before : List ℕ) where
         steps = [];
         outline = λ f. absurd (refused-not-good q (sym e ∙ f));
         answer = sym (ap (λ (k : Judged). orthogonalOf k s []) j);
-        buffer = sym (ap (λ (k : Judged). writtenIf k before before) j);
+        buffer = sym (ap (λ (k : Judged). laidIf k [] before) j);
       }
 
   module _ (start : Corner) (steps : List ℕ) (e : onGridJudged s ds g ≡ Good) (o : OutlinesHull s ds g start steps) where
-    by-room : (b : Bool) → ltb (length before) (length steps) ≡ b → OrthogonalCall s ds g before (orthogonalOf (when b ChainRoom) start steps) (writtenIf (when b ChainRoom) (steps ++ drop (length steps) before) before)
+    by-room : (b : Bool) → ltb (length before) (length steps) ≡ b → OrthogonalCall s ds g before (orthogonalOf (when b ChainRoom) start steps) (laidIf (when b ChainRoom) steps before)
     by-room b t =
         let j = orthogonal-last s ds g (length before) (length steps) e ∙ ap (λ (x : Bool). when x ChainRoom) t in
         record {
@@ -142,7 +142,7 @@ module _ (s : Corner) (ds : List ℕ) (g : ℕ) (before : List ℕ) where
           steps = steps;
           outline = λ f. o;
           answer = sym (ap (λ (k : Judged). orthogonalOf k start steps) j);
-          buffer = sym (ap (λ (k : Judged). writtenIf k (steps ++ drop (length steps) before) before) j);
+          buffer = sym (ap (λ (k : Judged). laidIf k steps before) j);
         }
 
     -- a buffer that is too short
@@ -161,11 +161,11 @@ module _ (s : Corner) (ds : List ℕ) (g : ℕ) (before : List ℕ) where
       by Good e =
           let k = outlinesHull-one (w .start) (w .steps) (w′ .start) (w′ .steps) (w .outline e) (w′ .outline e) in (
             w .answer ∙ ap₂ (λ (c : Corner) (es : List ℕ). orthogonalOf (judgedBy es) c es) (k .0) (k .1) ∙ sym (w′ .answer),
-            w .buffer ∙ ap (λ (es : List ℕ). writtenIf (judgedBy es) (es ++ drop (length es) before) before) (k .1) ∙ sym (w′ .buffer),
+            w .buffer ∙ ap (λ (es : List ℕ). laidIf (judgedBy es) es before) (k .1) ∙ sym (w′ .buffer),
           )
       by (Refused q) e =
           let a = orthogonal-refused s ds g (length before) (length (w .steps)) q e in
           let a′ = orthogonal-refused s ds g (length before) (length (w′ .steps)) q e in (
             w .answer ∙ ap (λ (k : Judged). orthogonalOf k (w .start) (w .steps)) a ∙ sym (w′ .answer ∙ ap (λ (k : Judged). orthogonalOf k (w′ .start) (w′ .steps)) a′),
-            w .buffer ∙ ap (λ (k : Judged). writtenIf k (w .steps ++ drop (length (w .steps)) before) before) a ∙ sym (w′ .buffer ∙ ap (λ (k : Judged). writtenIf k (w′ .steps ++ drop (length (w′ .steps)) before) before) a′),
+            w .buffer ∙ ap (λ (k : Judged). laidIf k (w .steps) before) a ∙ sym (w′ .buffer ∙ ap (λ (k : Judged). laidIf k (w′ .steps) before) a′),
           )
