@@ -14,7 +14,7 @@ use Rattle.answer.specs.declared.Counted.{Counted}
 use Rattle.answer.specs.declared.Judged.{Judged}
 use Rattle.answer.specs.declared.PairAnswer.{PairAnswer}
 use Rattle.answer.specs.declared.Judged.the-variants.{Good, Refused}
-use Rattle.answer.specs.declared.Refusal.the-variants.{TooMany, ResultRoom, BadDigit, TooLong, HullRoom, StartRange, OutlineRoom, NotRoom, PolygonRoom, FileLength, FileKind, BadCoordinate, BadRing, ChainRoom, SpanRoom}
+use Rattle.answer.specs.declared.Refusal.the-variants.{TooMany, ResultRoom, BadDigit, TooLong, HullRoom, StartRange, OutlineRoom, NotRoom, PolygonRoom, FileLength, FileKind, BadCoordinate, BadRing, ChainRoom, SpanRoom, GridSize}
 use Rattle.answer.specs.Limits.{mostInput, mostSteps, startFits}
 use Rattle.answer.specs.Refusal.{when, orElse, firstOf, judgedPlace}
 use Rattle.walk.specs.Walk.{walkJudged, factsOf, answerBy, WalkIs}
@@ -38,6 +38,9 @@ use Rattle.polygon_laws.proofs.WriteLaws.{polygon-few}
 use Rattle.polygon_ring_laws.proofs.TripLaws.{read-few}
 use Rattle.row.specs.Rows.{Span}
 use Rattle.row.specs.Call.{rowsJudged, RowsCall}
+use Rattle.orthogonal.specs.declared.{Enclosed.Enclosed, Orthogonal.Orthogonal}
+use Rattle.orthogonal.specs.Call.{gridFits, onGridJudged, orthogonalJudged, enclosedOf, orthogonalOf, OrthogonalCall}
+use Rattle.demands.proofs.Orthogonal.{orthogonal-most}
 use Rattle.overlay.specs.declared.{Part.Part, Part.the-variants.First, Part.the-variants.Second, Part.the-variants.Both, Measures.Measures, Overlaid.Overlaid}
 use Rattle.overlay.specs.Call.{ofParts, partRoomJudged, overlayJudged, measuresOf, overlaidOf, OverlayCall}
 use Rattle.overlay_laws.proofs.CallLaws.{buffersJudged}
@@ -49,7 +52,7 @@ use Rattle.hull_laws.proofs.HullLaws.{hull-count-steps}
 use Rattle.pair_steps.specs.Parties.{stepsBy}
 use Rattle.pair.specs.Call.{pairFactsOf, pairAnswerBy, PairLent, pairJudgedIn, PairIs}
 use Rattle.pair_laws.proofs.SmallLaws.{pair-placed, pair-few}
-use Rattle.undrwyth_words.specs.Words.{AnswerFits, PairAnswerFits, CountedFits, GivenFits, MeasureFits, MeasuresFit, OverlaidFits}
+use Rattle.undrwyth_words.specs.Words.{AnswerFits, PairAnswerFits, CountedFits, GivenFits, MeasureFits, MeasuresFit, OverlaidFits, EnclosedFits, OrthogonalFits}
 
 place-fits : (j : Judged) → Placed mostInput j → judgedPlace j < 2 ^ 32
 place-fits Good p = omega arith
@@ -198,6 +201,37 @@ overlay-fit s ds t es before r after w = go (overlayJudged s ds t es before (w .
     go (Refused x) e =
         let f = w .answer ∙ ap (λ (i : Judged). overlaidOf i (w .lists)) e in
         subst OverlaidFits (sym f) (omega (arith, subst (Placed mostInput) e (overlay-placed s ds t es before (w .lists))))
+
+-- a room on a grid: 22 after 10, and 18 last
+orthogonal-placed : (s : Corner) (ds : List ℕ) (g room n : ℕ) → Placed mostInput (orthogonalJudged s ds g room n)
+orthogonal-placed s ds g room n =
+    placed-or mostInput (onGridJudged s ds g) (orElse (when (ltb room n) ChainRoom) Good) on-grid
+    (placed-or mostInput (when (ltb room n) ChainRoom) Good (placed-when mostInput (ltb room n) ChainRoom (omega arith)) tt)
+  where
+    on-grid : Placed mostInput (onGridJudged s ds g)
+    on-grid =
+        let a = when (not (startFits s)) StartRange in
+        let z = when (not (gridFits g)) GridSize in
+        let f = chainJudged 0 ds in
+        let r = when (not (isRoom s ds)) NotRoom in
+        placed-after (length ds) (orElse a (orElse z (orElse f (orElse r Good)))) (λ h.
+        placed-or mostInput a (orElse z (orElse f (orElse r Good))) (placed-when mostInput (not (startFits s)) StartRange (omega arith))
+        (placed-or mostInput z (orElse f (orElse r Good)) (placed-when mostInput (not (gridFits g)) GridSize (omega arith))
+        (placed-or mostInput f (orElse r Good) (placed-hull 0 ds mostInput (omega arith)) (placed-or mostInput r Good (placed-when mostInput (not (isRoom s ds)) NotRoom (omega arith)) tt))))
+
+pub orthogonal-fit : (s : Corner) (ds : List ℕ) (g : ℕ) (before : List ℕ) (r : Orthogonal) (after : List ℕ) → OrthogonalCall s ds g before r after → OrthogonalFits r
+orthogonal-fit s ds g before r after w = go (orthogonalJudged s ds g (length before) (length (w .steps))) refl
+  where
+    few : (h : Enclosed) → OrthogonalCall s ds g before (Orthogonal.Outlined h) after → EnclosedFits h
+    few h v = let k = orthogonal-most s ds g before h v in (omega (arith, k .0), omega (arith, k .1))
+
+    go : (j : Judged) → orthogonalJudged s ds g (length before) (length (w .steps)) ≡ j → OrthogonalFits r
+    go Good e =
+        let f = w .answer ∙ ap (λ (i : Judged). orthogonalOf i (w .start) (w .steps)) e in
+        subst OrthogonalFits (sym f) (few (enclosedOf (w .start) (w .steps)) (subst (λ (x : Orthogonal). OrthogonalCall s ds g before x after) f w))
+    go (Refused x) e =
+        let f = w .answer ∙ ap (λ (i : Judged). orthogonalOf i (w .start) (w .steps)) e in
+        subst OrthogonalFits (sym f) (omega (arith, subst (Placed mostInput) e (orthogonal-placed s ds g (length before) (length (w .steps)))))
 
 pub convex-fits : (s : Corner) (ds : List ℕ) (r : Counted) → ConvexCall s ds r → CountedFits r
 convex-fits s ds r w = subst CountedFits (sym (w .answer)) (go (asRoomJudged s ds) (room-placed s ds) (w .says))

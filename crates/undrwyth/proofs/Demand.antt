@@ -22,9 +22,11 @@ use Rattle.demands.proofs.Convex.{convexCall-one}
 use Rattle.demands.proofs.PolygonIn.{readCall-one}
 use Rattle.demands.proofs.Rows.{rowsCall-one}
 use Rattle.demands.proofs.Overlay.{overlayCall-one}
+use Rattle.demands.proofs.Orthogonal.{orthogonalCall-one}
+use Rattle.orthogonal.specs.Call.{orthogonalWords, orthogonalNumber}
 use Rattle.overlay.specs.declared.Part.{Part}
 use Rattle.overlay.specs.Call.{overlaidWords, overlaidNumber}
-use Rattle.undrwyth.specs.Boundary.{WalkGives, PairGives, HullGives, OutlineGives, TurnsGive, PolygonGives, ChainGives, ConvexGives, RowsGives, OverlayGives}
+use Rattle.undrwyth.specs.Boundary.{WalkGives, PairGives, HullGives, OutlineGives, TurnsGive, PolygonGives, ChainGives, ConvexGives, RowsGives, OverlayGives, OrthogonalGives}
 
 pub walkGives-one : {c : Corner} {os t ms ch t₁ ms₁ ch₁ w₁ t₂ ms₂ ch₂ w₂ : List ℕ} {n₁ n₂ : ℕ} → WalkGives c os t ms ch n₁ t₁ ms₁ ch₁ w₁ → WalkGives c os t ms ch n₂ t₂ ms₂ ch₂ w₂
     → (n₁ ≡ n₂) × (t₁ ≡ t₂) × (ms₁ ≡ ms₂) × (ch₁ ≡ ch₂) × (w₁ ≡ w₂)
@@ -71,6 +73,12 @@ pub convexGives-one : {s : Corner} {chain w₁ w₂ : List ℕ} {n₁ n₂ : ℕ
 convexGives-one g h =
     let e = convexCall-one (g .told) (h .told) in
     (g .result ∙ ap countedNumber e ∙ sym (h .result), g .words-are ∙ ap countedWords e ∙ sym (h .words-are))
+
+pub orthogonalGives-one : {s : Corner} {chain before after₁ after₂ w₁ w₂ : List ℕ} {g n₁ n₂ : ℕ} → OrthogonalGives s chain g before n₁ after₁ w₁ → OrthogonalGives s chain g before n₂ after₂ w₂
+    → (n₁ ≡ n₂) × (after₁ ≡ after₂) × (w₁ ≡ w₂)
+orthogonalGives-one {s} {chain} {before} {after₁} {after₂} {w₁} {w₂} {g} p q =
+    let e = orthogonalCall-one s chain g before (p .outlined) (q .outlined) in
+    (p .result ∙ ap orthogonalNumber (e .0) ∙ sym (q .result), e .1, p .words-are ∙ ap orthogonalWords (e .0) ∙ sym (q .words-are))
 
 pub chainGives-one : {file before after₁ after₂ w₁ w₂ : List ℕ} {n₁ n₂ : ℕ} → ChainGives file before n₁ after₁ w₁ → ChainGives file before n₂ after₂ w₂
     → (n₁ ≡ n₂) × (after₁ ≡ after₂) × (w₁ ≡ w₂)

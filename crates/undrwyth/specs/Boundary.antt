@@ -18,6 +18,8 @@ use Rattle.outline.specs.Call.{OutlineCall}
 use Rattle.steps.specs.Turns.{ConvertedBy}
 use Rattle.polygon.specs.Polygon.{PolygonCall}
 use Rattle.convex.specs.Convex.{ConvexCall}
+use Rattle.orthogonal.specs.declared.Orthogonal.{Orthogonal}
+use Rattle.orthogonal.specs.Call.{OrthogonalCall, orthogonalWords, orthogonalNumber}
 use Rattle.overlay.specs.declared.{Part.Part, Overlaid.Overlaid}
 use Rattle.overlay.specs.Call.{OverlayCall, overlaidWords, overlaidNumber}
 use Rattle.row.specs.Call.{RowsCall}
@@ -82,6 +84,13 @@ pub record ConvexGives (c : Corner) (chain : List ℕ) (n : ℕ) (words : List �
   pub told : ConvexCall c chain answer
   pub words-are : words ≡ countedWords answer
   pub result : n ≡ countedNumber answer
+
+-- that of the orthogonal hull of a room's blocks
+pub record OrthogonalGives (s : Corner) (chain : List ℕ) (g : ℕ) (before : List ℕ) (n : ℕ) (after words : List ℕ) : Type 0 where
+  pub answer : Orthogonal
+  pub outlined : OrthogonalCall s chain g before answer after
+  pub words-are : words ≡ orthogonalWords answer
+  pub result : n ≡ orthogonalNumber answer
 
 -- that of a polygon that is read
 pub record ChainGives (file before : List ℕ) (n : ℕ) (after words : List ℕ) : Type 0 where

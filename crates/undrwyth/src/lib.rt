@@ -3,6 +3,7 @@ use grid::Corner;
 use turns::Way;
 use undrwyth_words::counted_words;
 use undrwyth_words::given_words;
+use undrwyth_words::orthogonal_words;
 use undrwyth_words::overlaid_words;
 use undrwyth_words::pair_answer_words;
 use undrwyth_words::turns_words;
@@ -13,7 +14,7 @@ ghost use Rattle.overlay.specs.Call.{ofParts};
 ghost use Rattle.line_reply.specs.Reply.{LineIs};
 ghost use Rattle.line_convert.specs.Convert.{ConvertedIs};
 ghost use Rattle.steps.specs.Turns.{turnsOf, stepsOf};
-ghost use Rattle.undrwyth.specs.Boundary.{WalkGives, PairGives, HullGives, OutlineGives, TurnsGive, PolygonGives, ChainGives, ConvexGives, RowsGives, OverlayGives};
+ghost use Rattle.undrwyth.specs.Boundary.{WalkGives, PairGives, HullGives, OutlineGives, TurnsGive, PolygonGives, ChainGives, ConvexGives, RowsGives, OverlayGives, OrthogonalGives};
 
 // Follows the operations from a start.
 #[no_mangle]
@@ -180,6 +181,24 @@ pub extern "C" fn undrwyth_convex(
 {
     let c = convex_call::tell(Corner(start_x, start_y), chain);
     let words = counted_words(c);
+    *answer = words;
+    words[0]
+}
+
+// Outlines the orthogonal hull of a room's blocks.
+#[no_mangle]
+pub extern "C" fn undrwyth_orthogonal_hull(
+    start_x: i32,
+    start_y: i32,
+    chain: &[u8],
+    grid: u32,
+    out: &mut [u8],
+    answer: &mut [u32; 6],
+) -> u32
+    ensures { λ n. ⌜ OrthogonalGives (corner «start_x» «start_y») (now (chain .entry)) grid (now (out .entry)) n (now (out .exit)) (now (answer .exit)) ⌝ }
+{
+    let o = orthogonal_call::outline(Corner(start_x, start_y), chain, grid, out);
+    let words = orthogonal_words(o);
     *answer = words;
     words[0]
 }
