@@ -195,7 +195,8 @@ pub extern "C" fn undrwyth_orthogonal_hull(
     out: &mut [u8],
     answer: &mut [u32; 6],
 ) -> u32
-    ensures { λ n. ⌜ OrthogonalGives (corner «start_x» «start_y») (now (chain .entry)) grid (now (out .entry)) n (now (out .exit)) (now (answer .exit)) ⌝ }
+    ensures { λ n. ⌜ OrthogonalGives (corner «start_x» «start_y») (now (chain .entry)) grid (now (out .entry)) n (now (out .exit))
+        (now (answer .exit)) ⌝ }
 {
     let o = orthogonal_call::outline(Corner(start_x, start_y), chain, grid, out);
     let words = orthogonal_words(o);

@@ -14,17 +14,20 @@ use Rattle.undrwyth.proofs.undrwyth_orthogonal_hull.Tie as tie
 
 orthogonal-words-requires : tie.Need-orthogonal-words-requires
 orthogonal-words-requires c κs =
-    let a = c .before .before .before .before .before .before .args in
-    let w = c .before .before .outline in
+    let at-outline = c .before .before in let at-start = at-outline .before .before .before .before in
+    let a = at-start .args in
+    let w = at-outline .outline in
     orthogonal-fit _ (a .chain .now) (a .grid) (a .out .now) (w .result) (w .last .1 .1 .1 .0) (w .ensures)
 
 returns : tie.Need-returns
 returns c =
-    let a = c .before .before .before .before .before .before .before .args in
-    let w = c .before .before .before .outline in
+    let at-outline = c .before .before .before in let at-start = at-outline .before .before .before .before in
+    let a = at-start .args in
+    let w = at-outline .outline in
     record {
       answer = w .result;
-      outlined = subst (λ (s : Corner). OrthogonalCall s (a .chain .now) (a .grid) (a .out .now) (w .result) (w .last .1 .1 .1 .0)) (ap₂ corner (toZ-ofZ w32 (a .start-x) (c .before .before .before .before .before .before .before .fits .start-x)) (toZ-ofZ w32 (a .start-y) (c .before .before .before .before .before .before .before .fits .start-y))) (w .ensures);
+      outlined = subst (λ (s : Corner). OrthogonalCall s (a .chain .now) (a .grid) (a .out .now) (w .result)
+          (w .last .1 .1 .1 .0)) (ap₂ corner (toZ-ofZ w32 (a .start-x) (at-start .fits .start-x)) (toZ-ofZ w32 (a .start-y) (at-start .fits .start-y))) (w .ensures);
       words-are = c .orthogonal-words .ensures;
       result = orthogonal-first (w .result) (c .orthogonal-words .result) (c .orthogonal-words .ensures);
     }
