@@ -15,13 +15,12 @@ use Rattle.int_laws.proofs.NextLaws.{above, true-lt, false-lt}
 use Rattle.int_laws.proofs.RingLaws.{ring, v, k, _⊕_, _⊖_, ⊝}
 use Rattle.lists.specs.Lists.{tally, Distinct}
 use Rattle.lists.proofs.DistinctLaws.{distinct-getD}
-use Rattle.answer.specs.declared.Verdict.the-variants.{Room}
 use Rattle.grid.specs.declared.{Corner.Corner, Panel.Panel}
 use Rattle.grid.specs.Grid.{laterFrom, endFrom, cornerAt}
 use Rattle.grid.proofs.StepLaws.{cornersFrom-at, length-cornersFrom, cornerAt-end}
 use Rattle.trace.specs.Meeting.{Meets}
-use Rattle.trace.specs.Verdict.{IsRoom, verdictOf, areaOf}
-use Rattle.trace.proofs.VerdictLaws.{says-verdict, area-room}
+use Rattle.trace.specs.Verdict.{IsRoom, areaOf}
+use Rattle.trace.proofs.VerdictLaws.{area-room}
 use Rattle.panels.specs.Edges.{beside}
 use Rattle.panels.specs.Inside.{edgesBeside, Inside, panelsInside, InsideLeft}
 use Rattle.panels.proofs.BesideLaws.{beside-other, beside-row}
@@ -145,9 +144,6 @@ module _ (o : Corner) (l r : ℕ → ℕ) (t : ℕ) (p : Piled l r t) (m : ℕ) 
   pub chain-room : IsRoom c ds
   chain-room = let a = arc-chain o l r t p m h in round-room c ds (chain-four l r t m p) (a .ends) (a .once)
 
-  pub chain-verdict : verdictOf c ds ≡ Room
-  chain-verdict = says-verdict c ds Room chain-room
-
   -- the blocks inside are those of the rows
   pub chain-inside : (b : Panel) → Inside c ds b ↔ InPile o l r t b
   chain-inside b =
@@ -155,7 +151,7 @@ module _ (o : Corner) (l r : ℕ → ℕ) (t : ℕ) (p : Piled l r t) (m : ℕ) 
       (odd-pile o l r t b (p .wide) (edgesBeside c ds b) e, pile-odd o l r t b (p .wide) (edgesBeside c ds b) e)
 
   -- there are as many as the rows have
-  pub chain-area : areaOf c ds ≡ pos (blocksFrom l r 0 (suc t))
+  chain-area : areaOf c ds ≡ pos (blocksFrom l r 0 (suc t))
   chain-area = area-room c ds chain-room ∙ adds-chain sweep-adds o l r t m h ∙ ends-blocks o l r (suc t) 0 (λ q u. p .wide q (omega arith))
 
   pub chain-panels : panelsInside c ds ≡ blocksFrom l r 0 (suc t)
