@@ -59,7 +59,7 @@ extern "C" {
 /* The version of the library and of its programs; other files are compared with this one. docs/DECISIONS.md says what a
  * change of each number promises. */
 #define UNDRWYTH_VERSION_MAJOR 1
-#define UNDRWYTH_VERSION_MINOR 0
+#define UNDRWYTH_VERSION_MINOR 1
 #define UNDRWYTH_VERSION_PATCH 0
 #define UNDRWYTH_VERSION_JOINED(a, b, c) #a "." #b "." #c
 #define UNDRWYTH_VERSION_TEXT(a, b, c) UNDRWYTH_VERSION_JOINED(a, b, c)
@@ -118,9 +118,9 @@ typedef uint64_t undrwyth_size;
 #define UNDRWYTH_CONVEX_256_STACK_BYTES 3072    /* 2,600 measured */
 #define UNDRWYTH_CONVEX_2048_STACK_BYTES 17408  /* 16,936 measured */
 #define UNDRWYTH_CONVEX_STACK_BYTES 132096      /* 131,608 measured */
-#define UNDRWYTH_ORTHOGONAL_256_STACK_BYTES 3072   /* 2,616 measured */
-#define UNDRWYTH_ORTHOGONAL_2048_STACK_BYTES 17408 /* 16,952 measured */
-#define UNDRWYTH_ORTHOGONAL_STACK_BYTES 132096     /* 131,624 measured */
+#define UNDRWYTH_ORTHOGONAL_256_STACK_BYTES 3072   /* 2,744 measured */
+#define UNDRWYTH_ORTHOGONAL_2048_STACK_BYTES 17408 /* 17,080 measured */
+#define UNDRWYTH_ORTHOGONAL_STACK_BYTES 132096     /* 131,752 measured */
 #define UNDRWYTH_CHAIN_STACK_BYTES 512          /* 152 measured */
 #define UNDRWYTH_TURNS_STACK_BYTES 256          /* 16 measured */
 #define UNDRWYTH_CONVERT_LINE_STACK_BYTES 2560  /* 2,200 measured */

@@ -18,8 +18,6 @@ CREATE FUNCTION undrwyth_panels(polygon bytea) RETURNS int AS 'MODULE_PATHNAME',
 CREATE FUNCTION undrwyth_is_convex(polygon bytea) RETURNS bool AS 'MODULE_PATHNAME', 'undrwyth_sql_is_convex' LANGUAGE C IMMUTABLE STRICT PARALLEL SAFE COST 50;
 CREATE FUNCTION undrwyth_chain(polygon bytea, OUT x int, OUT y int, OUT chain text) AS 'MODULE_PATHNAME', 'undrwyth_sql_chain' LANGUAGE C IMMUTABLE STRICT PARALLEL SAFE COST 50;
 CREATE FUNCTION undrwyth_outline(polygon bytea, OUT x int, OUT y int, OUT chain text) AS 'MODULE_PATHNAME', 'undrwyth_sql_outline' LANGUAGE C IMMUTABLE STRICT PARALLEL SAFE COST 100;
-CREATE FUNCTION undrwyth_orthogonal_hull(polygon bytea, grid int DEFAULT 1, OUT x int, OUT y int, OUT chain text, OUT blocks int)
-  AS 'MODULE_PATHNAME', 'undrwyth_sql_orthogonal_hull' LANGUAGE C IMMUTABLE STRICT PARALLEL SAFE COST 100;
 CREATE FUNCTION undrwyth_polygon(x int, y int, chain text) RETURNS bytea AS 'MODULE_PATHNAME', 'undrwyth_sql_polygon' LANGUAGE C IMMUTABLE STRICT PARALLEL SAFE COST 100;
 CREATE FUNCTION undrwyth_rows(polygon bytea) RETURNS TABLE ("row" int, first int, last int)
   AS 'MODULE_PATHNAME', 'undrwyth_sql_rows' LANGUAGE C IMMUTABLE STRICT PARALLEL SAFE COST 100 ROWS 20;

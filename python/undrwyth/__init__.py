@@ -27,7 +27,7 @@ from ._answers import (
 )
 from ._native import ORIGIN, Buffer, Input, LibraryMissing, apart, corner, grid_size, raw, room, rooms, steps, text
 
-__version__ = "1.0.0"
+__version__ = "1.1.0"
 __all__ = [
     "walk", "walk_two", "hull", "outline", "polygon_of_room", "chain_of_polygon", "rows", "overlay", "convex",
     "orthogonal_hull", "turns_of_steps", "steps_of_turns", "line", "convert_line", "Refused", "Refusal", "LibraryMissing", "Verdict", "Walk",
