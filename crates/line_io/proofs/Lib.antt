@@ -1,2 +1,3 @@
 -- The laws of the rounds of a program on lines.
 pub mod RoundLaws
+pub mod SendLaws

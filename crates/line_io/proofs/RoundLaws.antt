@@ -11,7 +11,7 @@ use Rattle.line_frame.specs.Sizes.{mostHeld}
 use Rattle.line_stream.specs.declared.Progress.{Progress}
 use Rattle.sheet.specs.declared.Margin.{Margin}
 use Rattle.lines.specs.{declared.Task.Task, declared.Task.the-variants.Answer, declared.Task.the-variants.Convert, declared.Task.the-variants.Rows, declared.Task.the-variants.Enter, Tasks.mostTold, Tasks.marginOf}
-use Rattle.line_send.specs.{declared.Sent.Sent, declared.Sent.the-variants.At, Send.SentIs}
+use Rattle.line_io.specs.{declared.Sent.Sent, declared.Sent.the-variants.At, Send.SentIs}
 use Rattle.line_io.specs.declared.Round.{Round, the-variants.More, the-variants.Over}
 use Rattle.line_io.specs.Round.{ReadOn, PassedOn, RoundIs}
 

@@ -1,2 +1,0 @@
--- The laws of pages passed on.
-pub mod SendLaws

@@ -1,2 +1,0 @@
--- What the functions that pass bytes on promise.
-pub mod Send
