@@ -1,4 +1,4 @@
-/* Undrwyth, the program polygons for aarch64 under Linux: made by scripts/dist from the sources of state d1524811b86cb645e8604ba39b17295f9857b6a3a01e52b055ffb1c065c8b23e, which the Rattle kit proved; do not edit. SPDX-License-Identifier: MIT */
+/* Undrwyth, the program polygons for aarch64 under Linux: made by scripts/dist from the sources of state 666b2966752cdd50bf9bbc66935da6dc5ad6154e171b32ba469f463e70d7527b, which the Rattle kit proved; do not edit. SPDX-License-Identifier: MIT */
 	.file	"rattle"
 	.section	".text.room_map::lone_wider","ax",@progbits
 	.p2align	2
@@ -2299,10 +2299,10 @@
 	.byte	44
 	.byte	119
 	.byte	107
-	.section	".text.line_send::send","ax",@progbits
+	.section	".text.line_io::send","ax",@progbits
 	.p2align	2
-	.type	"line_send::send",@function
-"line_send::send":
+	.type	"line_io::send",@function
+"line_io::send":
 	str	d8, [sp, #-112]!
 	stp	x29, x30, [sp, #16]
 	stp	x28, x27, [sp, #32]
@@ -2794,7 +2794,7 @@
 	stur	w10, [sp, #91]
 	b	.LBB7_88
 .Lfunc_end7:
-	.size	"line_send::send", .Lfunc_end7-"line_send::send"
+	.size	"line_io::send", .Lfunc_end7-"line_io::send"
 
 	.section	.rodata.cst16,"aM",@progbits,16
 	.p2align	4, 0x0
@@ -2913,7 +2913,7 @@ main:
 	mov	w1, #3
 	mov	w5, #32826
 	movk	w5, #5, lsl #16
-	bl	"line_send::send"
+	bl	"line_io::send"
 	ldrb	w8, [x21, #40]
 	cbnz	w8, .LBB8_32
 	add	x9, sp, #136, lsl #12
@@ -3141,7 +3141,7 @@ main:
 	mov	w1, #3
 	mov	w5, #32826
 	movk	w5, #5, lsl #16
-	bl	"line_send::send"
+	bl	"line_io::send"
 	add	x8, sp, #138, lsl #12
 	add	x8, x8, #1249
 	ldrb	w8, [x8, #4095]

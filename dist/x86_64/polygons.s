@@ -1,4 +1,4 @@
-/* Undrwyth, the program polygons for x86_64 under Linux: made by scripts/dist from the sources of state d1524811b86cb645e8604ba39b17295f9857b6a3a01e52b055ffb1c065c8b23e, which the Rattle kit proved; do not edit. SPDX-License-Identifier: MIT */
+/* Undrwyth, the program polygons for x86_64 under Linux: made by scripts/dist from the sources of state 666b2966752cdd50bf9bbc66935da6dc5ad6154e171b32ba469f463e70d7527b, which the Rattle kit proved; do not edit. SPDX-License-Identifier: MIT */
 	.file	"rattle"
 	.section	".text.room_map::lone_wider","ax",@progbits
 	.p2align	4
@@ -2750,10 +2750,10 @@
 	.byte	106
 	.byte	44
 	.byte	107
-	.section	".text.line_send::send","ax",@progbits
+	.section	".text.line_io::send","ax",@progbits
 	.p2align	4
-	.type	"line_send::send",@function
-"line_send::send":
+	.type	"line_io::send",@function
+"line_io::send":
 	pushq	%rbp
 	pushq	%r15
 	pushq	%r14
@@ -3383,8 +3383,8 @@
 	popq	%rbp
 	retq
 .Lfunc_end8:
-	.size	"line_send::send", .Lfunc_end8-"line_send::send"
-	.section	".rodata.line_send::send","a",@progbits
+	.size	"line_io::send", .Lfunc_end8-"line_io::send"
+	.section	".rodata.line_io::send","a",@progbits
 	.p2align	2, 0x0
 .LJTI8_0:
 	.long	.LBB8_1-.LJTI8_0
@@ -3453,7 +3453,7 @@ main:
 	leaq	96(%rsp), %rdx
 	leaq	112(%rsp), %rcx
 	leaq	242078(%rsp), %r8
-	callq	"line_send::send"
+	callq	"line_io::send"
 	cmpb	$0, 48(%rsp)
 	jne	.LBB9_32
 	movq	56(%rsp), %r14
@@ -3666,7 +3666,7 @@ main:
 	leaq	242078(%rsp), %r8
 	movl	$360506, %r9d
 	movl	$3, %esi
-	callq	"line_send::send"
+	callq	"line_io::send"
 	cmpb	$0, 13464(%rsp)
 	setne	%al
 	addb	%al, %al

@@ -1,4 +1,4 @@
-// The programs on lines: the rounds that they go, reading and writing, the pages of the table of polygons, and saying how they ended.
+// The programs on lines: their rounds, reading and writing, the pages of the table of polygons, and saying how they ended.
 use libc::STDIN_FILENO;
 use libc::STDOUT_FILENO;
 use line_stream::Progress;
