@@ -1,5 +1,7 @@
 // What the calls answer, the numbers of refusals and verdicts (no other function distinguishes one refusal from another), and
 // where a walk may start.
+#![tactic(auto)]
+
 ghost use Rattle.std.specs.Prelude.{◌≡◌, ◌<◌, leb, nat_abs};
 ghost use Rattle.answer.specs.Limits.{most_start, start_fits};
 ghost use Rattle.answer.specs.Refusal.{refusal_number, refusal_place, verdict_number};

@@ -1,4 +1,6 @@
 // The box of a walk, in one pass over its chain.
+#![tactic(auto)]
+
 ghost use Rattle.std.specs.Prelude.{◌≡◌, true, ◌↔◌};
 ghost use Rattle.column_laws.specs.Columns.{middle};
 ghost use Rattle.box_laws.specs.Box.{Boxable, Reached, Framed};

@@ -1,4 +1,6 @@
 // Judges a start and a chain of steps, as every call on a chain does first.
+#![tactic(auto)]
+
 ghost use Rattle.std.specs.Prelude.{◌≡◌};
 ghost use Rattle.steps.specs.Chain.{chain_judged, as_walk_judged};
 

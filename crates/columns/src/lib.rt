@@ -1,4 +1,6 @@
 // The columns of a walk, counted so that its start stands in the middle one.
+#![tactic(auto)]
+
 ghost use Rattle.std.specs.Prelude.{◌≡◌, ◌<◌, ◌≤◌};
 ghost use Rattle.column_laws.specs.Columns.{col_after, row_after, top};
 ghost use Rattle.columns.specs.Steps.{east_steps, north_steps};

@@ -1,4 +1,6 @@
 // The converter: each line with turns becomes the line with their steps.
+#![tactic(auto)]
+
 use lines::Task;
 
 fn main() {

@@ -1,5 +1,7 @@
 // Whether a room is convex: it is travelled clockwise from its lowest corner on the left, cut at the other three extremal
 // corners, and each part is judged.
+#![tactic(auto)]
+
 ghost use Rattle.std.specs.Prelude.{◌≡◌, ◌&&◌, ◌+◌, ◌*◌, ◌-◌, ◌<◌, ◌≤◌, length, get_or, take, drop};
 ghost use Rattle.lists.specs.Lists.{tally};
 ghost use Rattle.answer.specs.declared.Counted.{Counted};

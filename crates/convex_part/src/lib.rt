@@ -1,4 +1,6 @@
 // Whether a part of a room is convex: the depths of its columns, the chain over them, and a test for each column.
+#![tactic(auto)]
+
 ghost use Rattle.std.specs.Prelude.{◌≡◌, ◌+◌, ◌*◌, ◌-◌, ◌%◌, ◌<◌, ◌≤◌, ltb, length, take, drop};
 ghost use Rattle.convex.specs.Parts.{turned_by};
 ghost use Rattle.convex_laws.specs.Level.{depths_from, are_letters, level, levels, level_along, level_of, convex_part};

@@ -1,4 +1,6 @@
 // Where the extremal corners of a walk stand, and which way round it goes.
+#![tactic(auto)]
+
 ghost use Rattle.std.specs.Prelude.{◌≡◌, ◌≤◌, ltb, length};
 ghost use Rattle.column_laws.specs.Columns.{middle, top};
 ghost use Rattle.convex_laws.specs.Place.{rank, rank_at, place_of};

@@ -1,5 +1,6 @@
 // Corners and panels: the grid points of the floor, and its unit squares. Each is a type of its own, so that neither can be
 // passed if the other is expected.
+#![tactic(auto)]
 
 // A grid point: x to the east, y to the north.
 #[derive(Drop)]

@@ -1,1 +1,2 @@
 // The convex hull of a walk. There is no code here.
+#![tactic(auto)]

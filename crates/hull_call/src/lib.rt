@@ -1,5 +1,7 @@
 // Lists the convex hull of a walk's corners: the lowest and the highest corner of each column, a chain over each, and both as one
 // list. The upper chain is the lower one of the walk turned by half a turn.
+#![tactic(auto)]
+
 ghost use Rattle.std.specs.Prelude.{◌≡◌, ◌-◌, ◌<◌, length};
 ghost use Rattle.answer.specs.declared.Judged.TheVariants.{Good};
 ghost use Rattle.answer.specs.Limits.{Near};

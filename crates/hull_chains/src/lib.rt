@@ -1,5 +1,7 @@
 // The chain over columns: from the last column to the first, each is put in front of those that still make a left turn, unless
 // it makes none between its own neighbours. The chain stands at the end of its array.
+#![tactic(auto)]
+
 ghost use Rattle.std.specs.Prelude.{◌≡◌, ◌∷◌, ◌+◌, ◌*◌, ◌-◌, ◌<◌, ◌≤◌, ltb, length, drop};
 ghost use Rattle.hull_laws.specs.Chain.{turns_at, drops_at, cut_at, turn_from};
 ghost use Rattle.hull_chains.specs.Stack.{Scanned, Stack};

@@ -1,4 +1,6 @@
 // How far a walk goes, and the lowest corner of each of its columns.
+#![tactic(auto)]
+
 ghost use Rattle.std.specs.Prelude.{◌≡◌, map, ◌-◌, ◌<◌, min, length, replicate};
 ghost use Rattle.answer.specs.declared.Judged.TheVariants.{Good};
 ghost use Rattle.steps.specs.Chain.{chain_judged};

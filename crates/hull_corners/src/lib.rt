@@ -1,4 +1,6 @@
 // From the two chains to the corners in the buffer.
+#![tactic(auto)]
+
 ghost use Rattle.std.specs.Prelude.{◌≡◌, map, ◌&&◌, ◌+◌, ◌*◌, ◌-◌, ◌<◌, ◌≤◌, eqb, ltb, pos, nat_abs, ◌+ℤ◌, ◌-ℤ◌, ◌*ℤ◌, length, set};
 ghost use Rattle.lists.specs.Lists.{tally};
 ghost use Rattle.std.proofs.lemmas.List.Edits.{sets};

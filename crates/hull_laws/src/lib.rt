@@ -1,1 +1,2 @@
 // Laws of the convex hull. There is no code here.
+#![tactic(auto)]

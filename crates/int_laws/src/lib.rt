@@ -1,1 +1,2 @@
 // Laws on the integers. There is no code here.
+#![tactic(auto)]

@@ -1,4 +1,6 @@
 // The line program: each line is answered.
+#![tactic(auto)]
+
 use lines::Task;
 
 fn main() {

@@ -1,4 +1,6 @@
 // One line, converted: a call; and what the converter writes for a line that comes in parts.
+#![tactic(auto)]
+
 ghost use Rattle.std.specs.Prelude.{◌≡◌, true, cond, ◌++◌, ◌∷◌, [], ◌+◌, ◌≤◌, length};
 ghost use Rattle.lists.specs.Lists.{Below};
 ghost use Rattle.steps.specs.Turns.{steps_of, turns_judged, written_if};

@@ -1,2 +1,4 @@
 // Fields of hexadecimal digits, in lent buffers.
+#![tactic(auto)]
+
 pub mod hex;

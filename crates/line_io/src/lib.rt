@@ -1,4 +1,6 @@
 // The programs on lines: their rounds, reading and writing, the pages of the table of polygons, and saying how they ended.
+#![tactic(auto)]
+
 ghost use Rattle.std.specs.Prelude.{◌≡◌, ◌≤◌, length, take};
 ghost use Rattle.sheet.specs.Sheet.{margin_after};
 ghost use Rattle.sheet_number.specs.Numbered.{most_piece, most_page};

@@ -1,4 +1,6 @@
 // The frame that a line is and its digits, and the parts of an answer line as fields of digits.
+#![tactic(auto)]
+
 ghost use Rattle.std.specs.Prelude.{◌≡◌, true, ◌++◌, ◌+◌, ◌*◌, ◌<◌, ◌≤◌, length, take};
 ghost use Rattle.line_frame.specs.Sizes.{head_digits, refused_digits, facts_digits};
 ghost use Rattle.line_frame.specs.Hex.{all_hex, pair_at, hex_of};

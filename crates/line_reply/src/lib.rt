@@ -1,4 +1,6 @@
 // The answer to one line.
+#![tactic(auto)]
+
 ghost use Rattle.std.specs.Prelude.{◌≡◌, ◌++◌, ◌∷◌, [], ◌+◌, ◌≤◌, length};
 ghost use Rattle.lists.specs.Lists.{Below};
 ghost use Rattle.grid.specs.Grid.{origin};

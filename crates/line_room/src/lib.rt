@@ -1,1 +1,2 @@
 // What the walk of a line answers, and what the rows program writes for it: definitions, laws and cases.
+#![tactic(auto)]

@@ -1,4 +1,6 @@
 // What the rows program writes for a line.
+#![tactic(auto)]
+
 ghost use Rattle.std.specs.Prelude.{◌≡◌, ◌∷◌, [], ◌+◌, ◌*◌, ◌<◌, ◌≤◌, length};
 ghost use Rattle.grid.specs.Grid.{origin};
 ghost use Rattle.room.specs.Room.{as_room_judged};

@@ -1,5 +1,7 @@
 // Input that comes in parts: how far a call went, where a line ends, and the bytes of a line begun, which are held in a lent
 // buffer.
+#![tactic(auto)]
+
 ghost use Rattle.std.specs.Prelude.{◌≡◌, ◌+◌, ◌-◌, ◌≤◌, length, take, drop, ltb, ◌++◌};
 ghost use Rattle.line_frame.specs.Begun.{line_length, kept_of};
 ghost use Rattle.line_stream.specs.Stream.{near};

@@ -1,4 +1,6 @@
 // The walk of a line, in lent buffers.
+#![tactic(auto)]
+
 ghost use Rattle.std.specs.Prelude.{◌≡◌, true, ◌+◌, ◌≤◌, length};
 ghost use Rattle.line_frame.specs.Sizes.{head_digits, most_digits};
 ghost use Rattle.line_frame.specs.Hex.{all_hex};

@@ -1,6 +1,8 @@
 // The work of the programs on a part of their input: what is done with its lines is a task. These functions are the programs'
 // own, with a requires on the buffers that they make; the library's calls for a line are line_reply::reply and
 // line_convert::convert.
+#![tactic(auto)]
+
 ghost use Rattle.std.specs.Prelude.{◌≡◌, [], ◌++◌, ◌+◌, ◌-◌, ◌<◌, ◌≤◌, length, take, drop};
 ghost use Rattle.line_frame.specs.Sizes.{most_held};
 ghost use Rattle.line_frame.specs.Begun.{kept_of};

@@ -16,6 +16,7 @@ module _ {A : Type 0} where
   mem_get_d (x ∷ l) (suc i) z h = Memᴰ.tail (mem_get_d l i z (omega arith))
 
   pub get_d_mem : (l : List A) (z : A) {a : A} → Memᴰ a l → (i : ℕ) × (i < length l) × (get_or l i z ≡ a)
+  get_d_mem [] z {a = a} m = elim m [ ]
   get_d_mem (x ∷ l) z (Memᴰ.head e) = (0, omega arith, sym e)
   get_d_mem (x ∷ l) z (Memᴰ.tail m) = let h = get_d_mem l z m in (suc h.0, omega (arith, h.1), h.2)
 

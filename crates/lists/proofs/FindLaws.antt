@@ -56,6 +56,7 @@ module _ {A : Type 0} (f : A → Bool) where
       rw (p.0, place-more (find f (s ++ t)) (omega (arith, k, h))) (omega (arith, k))
 
 pub distinct_split : {A : Type 0} (s t : List A) (c : A) → Distinct (s ++ (c ∷ t)) → Memᴰ c s → ⊥
+distinct_split {A = A} [] t c d m = elim m [ ]
 distinct_split (x ∷ s) t c d (Memᴰ.head e) = d.0 (Memᴰ.append_right s (Memᴰ.head (sym e)))
 distinct_split (x ∷ s) t c d (Memᴰ.tail m) = distinct_split s t c d.1 m
 
@@ -93,6 +94,7 @@ module _ {A : Type 0} (f : A → Bool) where
       go false e = absurd (omega (arith, find_none l e))
 
   pub any-mem : (x : A) (l : List A) → Memᴰ x l → f x ≡ true → any f l ≡ true
+  any-mem x [] m h = elim m [ ]
   any-mem x (y ∷ l) (Memᴰ.head e) h = rw (ap f (sym e) ∙ h)
   any-mem x (y ∷ l) (Memᴰ.tail m) h = or_right (f y) (any-mem x l m h)
 

@@ -84,6 +84,7 @@ module _ {A : Type 0} (eq : A → A → Bool) (sound : (x y : A) → eq x y ≡ 
   mem-gather-left seen xs m = let h = gather-more eq seen xs in rw h.1 (Memᴰ.append_left h.0 m)
 
   pub mem-gather-right : (seen xs : List A) {a : A} → Memᴰ a xs → Memᴰ a (gather eq seen xs)
+  mem-gather-right seen [] {a = a} m = elim m [ ]
   mem-gather-right seen (x ∷ xs) (Memᴰ.head e) = mem-gather-left (add eq seen x) xs (Memᴰ.cast e (mem-add seen x))
   mem-gather-right seen (x ∷ xs) (Memᴰ.tail m) = mem-gather-right (add eq seen x) xs m
 
@@ -134,5 +135,6 @@ module _ {A : Type 0} (eq : A → A → Bool) (sound : (x y : A) → eq x y ≡ 
       (add_cases eq seen x)
     where
       seam : (s : List A) → Distinct (s ++ (x ∷ xs)) → Memᴰ x s → ⊥
+      seam [] d m = elim m [ ]
       seam (y ∷ s) d (Memᴰ.head e) = d.0 (Memᴰ.append_right s (Memᴰ.head (sym e)))
       seam (y ∷ s) d (Memᴰ.tail m) = seam s d.1 m

@@ -1,1 +1,2 @@
 // Words about lists, and their laws. There is no code here.
+#![tactic(auto)]

@@ -1,4 +1,6 @@
 // The lesser and the greater of two numbers, the greatest of some bytes, and a number of 16 bits as a usize.
+#![tactic(auto)]
+
 ghost use Rattle.std.specs.Prelude.{◌≡◌, ◌<◌, min, max};
 ghost use Rattle.order.specs.Highest.{highest_of};
 

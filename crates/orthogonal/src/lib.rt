@@ -1,4 +1,6 @@
 // What the call that outlines the orthogonal hull of a room answers.
+#![tactic(auto)]
+
 use answer::Refusal;
 use grid::Corner;
 

@@ -1,5 +1,7 @@
 // The orthogonal hull of a room on a grid: the call. The vertical edges of the room, by rows of blocks, give the ends of each
 // row, two passes of minima the ends of the hull's rows, and the outline goes along them.
+#![tactic(auto)]
+
 ghost use Rattle.std.specs.Prelude.{◌≡◌, List, ℕ, ◌+◌, ◌*◌, ◌-◌, ◌<◌, ◌≤◌, pos, nat_abs, ◌-ℤ◌, length, get_or};
 ghost use Rattle.answer.specs.Limits.{most_start, most_steps};
 ghost use Rattle.answer.specs.declared.Judged.TheVariants.{Good};

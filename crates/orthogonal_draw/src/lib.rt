@@ -1,5 +1,7 @@
 // The outline of a pile of rows of blocks, measured and written. A list has the left end of each row, and another the right end
 // counted from east, from a column `span`.
+#![tactic(auto)]
+
 ghost use Rattle.std.specs.Prelude.{◌≡◌, [], ◌∷◌, ◌++◌, ℕ, ◌+◌, ◌-◌, ◌<◌, ◌≤◌, length, replicate, get_or};
 ghost use Rattle.std.proofs.lemmas.List.Edits.{sets};
 ghost use Rattle.orthogonal_chain_laws.specs.Chain.{sideways, home_row, blocks_from, chain_from_home};

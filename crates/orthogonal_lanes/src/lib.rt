@@ -1,5 +1,7 @@
 // The least column of each row of blocks, and of each row of the hull. A list of lanes has a column for each row. Columns are
 // counted from west in one list and from east in another, so that the least of them is the end of the row on that side.
+#![tactic(auto)]
+
 ghost use Rattle.std.specs.Prelude.{◌≡◌, ℕ, ◌+◌, ◌*◌, ◌-◌, ◌/◌, ◌<◌, ◌≤◌, ltb, length, get_or};
 ghost use Rattle.lists.specs.Lists.{tally, Below};
 ghost use Rattle.hull_laws.specs.Lowest.{sink, sinks};

@@ -1,4 +1,6 @@
 // The outer outline of a walk: the call.
+#![tactic(auto)]
+
 ghost use Rattle.std.specs.Prelude.{ℕ, ◌*◌, ◌<◌, ◌≤◌, ◌≡◌, length, get_or};
 ghost use Rattle.answer.specs.Limits.{most_steps};
 ghost use Rattle.column_laws.specs.Columns.{narrow_size, wider_size};

@@ -1,5 +1,7 @@
 // The different corners of a walk and the walked edges between them: corner i has the words 4 * i to 4 * i + 3 of links, one for
 // each direction. Each is 1 + the number of the corner that a walked edge leads to, or 0.
+#![tactic(auto)]
+
 ghost use Rattle.std.specs.Prelude.{◌≡◌, cond, ◌+◌, ◌*◌, ◌<◌, ◌≤◌, ltb};
 ghost use Rattle.grid.specs.declared.Corner.{Corner};
 ghost use Rattle.grid.specs.Grid.{back};

@@ -1,5 +1,7 @@
 // A map of the corners of a walk: one byte for each corner, with a bit for each way whose edge was walked, and the path of the
 // outline over it.
+#![tactic(auto)]
+
 ghost use Rattle.std.specs.Prelude.{◌≡◌, ◌+◌, ◌*◌, ◌/◌, ◌%◌, ◌^◌, ◌<◌, length, if◌then◌else◌, slice_index};
 ghost use Rattle.grid.specs.declared.Corner.{Corner};
 ghost use Rattle.grid.specs.Grid.{back};

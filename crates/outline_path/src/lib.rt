@@ -1,4 +1,6 @@
 // The path of the outline along the links of a walk's corners: once to count its steps, once to write them.
+#![tactic(auto)]
+
 ghost use Rattle.std.specs.Prelude.{◌≡◌, cond, not, ◌&&◌, ◌+◌, ◌*◌, ◌-◌, ◌<◌, ◌≤◌, eqb, length, get_or};
 ghost use Rattle.answer.specs.Limits.{most_steps};
 ghost use Rattle.outline.specs.Outline.{onward};

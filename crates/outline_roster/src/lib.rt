@@ -1,6 +1,8 @@
 // Different keys, numbered in the order in which they came, and a digital tree that finds them. Node i has the key keys[i] and
 // two children, kids[2 * i] and kids[2 * i + 1], 0 if there is none; the way down to a key goes by its binary digits, so it has
 // 33 nodes at most.
+#![tactic(auto)]
+
 ghost use Rattle.std.specs.Prelude.{◌≡◌, ◌*◌, ◌%◌, ◌<◌, length};
 ghost use Rattle.outline_roster.specs.declared.Sought.{Sought};
 ghost use Rattle.outline_roster.specs.Tree.{seek_from, Tree, Seated};

@@ -1,4 +1,6 @@
 // The parts of the panels of two rooms that are laid over each other, and what the call that lists them answers.
+#![tactic(auto)]
+
 use answer::Refusal;
 
 // In the first room only, in the second only, in both.

@@ -1,4 +1,6 @@
 // Lists the panels of two rooms that are in the first only, in the second only and in both: the call.
+#![tactic(auto)]
+
 ghost use Rattle.std.specs.Prelude.{◌≡◌, ◌*◌, ◌/◌, ◌≤◌, nat_abs, length};
 ghost use Rattle.answer.specs.declared.Judged.TheVariants.{Good};
 ghost use Rattle.column_laws.specs.Columns.{narrow_size, wider_size};

@@ -1,4 +1,6 @@
 // Writes the parts of two lists of spans, in the first only, in the second only and in both, unless a buffer is too short.
+#![tactic(auto)]
+
 ghost use Rattle.std.specs.Prelude.{true, ◌≡◌, ◌≤◌};
 ghost use Rattle.overlay.specs.Call.{of_parts, measures_of};
 ghost use Rattle.overlay_sweep.specs.Parts.{Spanned, part_spans};

@@ -1,5 +1,7 @@
 // Sweeps over two lists of spans at once, from end to end of the spans of either, and writes the spans of all three parts. Ends
 // are compared as keys.
+#![tactic(auto)]
+
 ghost use Rattle.std.specs.Prelude.{[], ◌∷◌, ◌≡◌, ◌+◌, ◌*◌, ◌%◌, ◌<◌, ◌≤◌, pos, nat_abs, ◌+ℤ◌, length};
 ghost use Rattle.std.proofs.Math.IntN.{pred_ℤ};
 ghost use Rattle.std.proofs.lemmas.List.Edits.{sets};

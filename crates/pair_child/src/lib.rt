@@ -1,5 +1,7 @@
 // The child of a node, for one of two parties: a node that is there is needed by this party from now on, a node that is not there
 // takes the lowest free record.
+#![tactic(auto)]
+
 ghost use Rattle.std.specs.Prelude.{◌≡◌, ℕ, suc, ◌+◌, ◌^◌, ◌<◌, length};
 ghost use Rattle.pair_table_laws.specs.Hold.{words_in};
 ghost use Rattle.pair_words.specs.Places.{InTable};

@@ -1,5 +1,7 @@
 // The neighbour of a node, found or made for one of two parties. It is looked up as for one party, by that party's own links: a
 // loop climbs to the parents until a link of its own, the root or a shared parent is found, and a loop comes down again.
+#![tactic(auto)]
+
 ghost use Rattle.std.specs.Prelude.{◌≡◌, false, cond, List, ◌+◌, ◌^◌, ◌<◌, nat_abs, length};
 ghost use Rattle.grid.specs.Grid.{stepped};
 ghost use Rattle.grid.specs.Tree.{is_root};

@@ -1,5 +1,7 @@
 // The starts of two parties, planted in a cleared table: the root for both, then the ancestors of the first from the root down,
 // then those of the second that are not there, and the first visit of each.
+#![tactic(auto)]
+
 ghost use Rattle.std.specs.Prelude.{List, [], ◌∷◌, ◌≡◌, ◌^◌, ◌<◌, ◌≤◌, length};
 ghost use Rattle.pair_table_laws.specs.Stores.{root_table};
 ghost use Rattle.answer.specs.Limits.{Near};

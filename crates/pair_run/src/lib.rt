@@ -1,4 +1,6 @@
 // Two parties follow their operations in one table, one operation after the other, and each is marked.
+#![tactic(auto)]
+
 ghost use Rattle.std.specs.Prelude.{List, ◌≡◌, ℕ, suc, ◌+◌, ◌*◌, ◌%◌, ◌^◌, ◌<◌, ◌≤◌, length, set};
 ghost use Rattle.answer.specs.Limits.{most_input};
 ghost use Rattle.answer.specs.declared.Judged.TheVariants.{Good};

@@ -1,4 +1,6 @@
 // Rooms out as polygons: numbers, points and rings written into a buffer, and the call.
+#![tactic(auto)]
+
 ghost use Rattle.std.specs.Prelude.{◌≡◌, not, ◌++◌, ◌+◌, ◌*◌, ◌≤◌, ◌<◌, T, nat_abs, length, drop, get_or};
 ghost use Rattle.std.specs.Float.Ieee.{is_nan, to_bits};
 ghost use Rattle.std.specs.Float.{binary64};

@@ -1,1 +1,2 @@
 // Laws of polygons: bytes, floats, bends, and parts of a buffer laid down one after the other.
+#![tactic(auto)]

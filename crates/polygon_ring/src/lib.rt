@@ -1,4 +1,6 @@
 // What a polygon that is read is kept as until it is judged, and what is answered of it.
+#![tactic(auto)]
+
 use answer::{Limits, Refusal, Start};
 use grid::Corner;
 

@@ -1,5 +1,7 @@
 // Rings in, in two passes over the points: the first judges them and their neighbours, the second writes the chain. No pass keeps
 // more than three corners.
+#![tactic(auto)]
+
 ghost use Rattle.std.specs.Prelude.{◌≡◌, ◌&&◌, false, cond, ◌++◌, ◌+◌, ◌-◌, ◌*◌, ◌≤◌, ◌<◌, eqb, leb, nat_abs, ◌-ℤ◌, length, drop, replicate};
 ghost use Rattle.std.specs.Int.Signed.{lt_z};
 ghost use Rattle.answer.specs.Limits.{farthest};

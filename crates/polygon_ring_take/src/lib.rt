@@ -1,4 +1,5 @@
 // Polygons in, of either byte order.
+#![tactic(auto)]
 
 ghost use Rattle.std.specs.Prelude.{◌≡◌, true, false, not, ◌*◌, ◌^◌, ◌≤◌, T, eqb, length};
 ghost use Rattle.std.specs.Float.{binary64};

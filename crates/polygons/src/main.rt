@@ -1,4 +1,6 @@
 // The table of polygons: each line is a row, with the polygon of a room.
+#![tactic(auto)]
+
 use lines::Task;
 
 fn main() {

@@ -1,1 +1,2 @@
 // Rooms are definitions and laws; the code that judges them stands in room_judge.
+#![tactic(auto)]

@@ -1,4 +1,6 @@
 // Judges a start and a chain for the calls on a room.
+#![tactic(auto)]
+
 ghost use Rattle.std.specs.Prelude.{◌≡◌, not};
 ghost use Rattle.answer.specs.declared.Refusal.TheVariants.{NotRoom};
 ghost use Rattle.answer.specs.Refusal.{when};

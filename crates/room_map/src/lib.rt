@@ -1,5 +1,7 @@
 // Whether a walk is a room, by a byte for each corner of its box: a byte that is 1 already is a meeting. If the box is too large
 // for the store, threads through the columns show it.
+#![tactic(auto)]
+
 ghost use Rattle.box_laws.specs.Box.{Boxable};
 ghost use Rattle.box_walk.specs.Boxed.{Boxed};
 ghost use Rattle.room_thread_laws.specs.Threads.{Told};

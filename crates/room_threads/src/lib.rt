@@ -1,4 +1,6 @@
 // Whether two places of a walk are one corner: each column's thread is followed back, and each height on it is stamped.
+#![tactic(auto)]
+
 ghost use Rattle.std.specs.Prelude.{◌≡◌, true, ℕ, ◌+◌, ◌*◌, ◌≤◌, ◌<◌, length, get_or};
 ghost use Rattle.column_laws.specs.Columns.{middle, narrow_size, wider_size};
 ghost use Rattle.room_thread_laws.specs.Threads.{Leads, ThreadFollowed, Parted, Stays, Laid, ThreadStore, Scattered, Closes, Told};

@@ -1,1 +1,2 @@
 // Definitions alone: panels by rows.
+#![tactic(auto)]

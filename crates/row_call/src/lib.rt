@@ -1,4 +1,6 @@
 // Lists the rows of a room: the call. The vertical edges of a row, from west to east and two by two, are its spans.
+#![tactic(auto)]
+
 ghost use Rattle.std.specs.Prelude.{◌≡◌, ◌*◌, ◌≤◌, length};
 ghost use Rattle.std.proofs.lemmas.List.Edits.{sets};
 ghost use Rattle.answer.specs.declared.Judged.TheVariants.{Good};

@@ -1,4 +1,6 @@
 // Writes spans of panels, row by row, from buckets by row.
+#![tactic(auto)]
+
 ghost use Rattle.std.specs.Prelude.{◌≡◌, [], ◌∷◌, ◌+◌, ◌<◌, ◌≤◌, pos, nat_abs, ◌+ℤ◌, ◌-ℤ◌, length};
 ghost use Rattle.std.proofs.Math.IntN.{pred_ℤ};
 ghost use Rattle.std.proofs.lemmas.List.Edits.{sets};

@@ -1,4 +1,5 @@
 // What the sheet of polygons says of a line of its input. The definitions stand in specs/.
+#![tactic(auto)]
 
 // Where a sheet stands: the next byte belongs to this line, and begins it or goes on in it. Before anything is written that is
 // line 0, the header.

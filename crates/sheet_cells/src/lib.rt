@@ -1,4 +1,6 @@
 // The cells of the sheet, written into a lent buffer: numbers in decimal, and bytes in hexadecimal.
+#![tactic(auto)]
+
 ghost use Rattle.std.specs.Prelude.{◌++◌, ◌+◌, ◌*◌, ◌≤◌, length};
 ghost use Rattle.line_frame.specs.Hex.{hex_of};
 ghost use Rattle.line_fields.specs.Put.{Wrote};

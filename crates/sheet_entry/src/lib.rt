@@ -1,4 +1,6 @@
 // What the sheet says of one line.
+#![tactic(auto)]
+
 ghost use Rattle.std.specs.Prelude.{◌≡◌, [], ◌+◌, ◌*◌, ◌≤◌, length};
 ghost use Rattle.lists.specs.Lists.{Below};
 ghost use Rattle.answer.specs.declared.Answer.TheVariants as walked;

@@ -1,4 +1,6 @@
 // Lines of the sheet with their numbers, and its header.
+#![tactic(auto)]
+
 ghost use Rattle.std.specs.Prelude.{◌≡◌, cond, ◌++◌, ◌∷◌, [], suc, ◌+◌, ◌*◌, ◌<◌, ◌≤◌, eqb, length};
 ghost use Rattle.lists.specs.Lists.{tally};
 ghost use Rattle.line_fields.specs.Put.{Wrote};

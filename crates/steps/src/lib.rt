@@ -1,1 +1,2 @@
 // Operations, steps and turns: definitions and laws. There is no code here.
+#![tactic(auto)]

@@ -1,1 +1,2 @@
 // The nodes in use and their links: definitions and laws. There is no code here.
+#![tactic(auto)]

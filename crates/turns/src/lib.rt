@@ -1,4 +1,6 @@
 // Steps to turns and back. Each call takes digits and a buffer of the same length, and leaves the buffer as it was if it refuses.
+#![tactic(auto)]
+
 ghost use Rattle.std.specs.Prelude.{◌≡◌, ◌<◌, length};
 ghost use Rattle.lists.specs.Lists.{Below};
 ghost use Rattle.steps.specs.Turns.{turns_of, steps_of, digits_judged, turns_judged, ConvertedBy};

@@ -1,4 +1,6 @@
 // The C boundary: include/undrwyth.h says what each function does. A slice is a pointer and then a length.
+#![tactic(auto)]
+
 ghost use Rattle.grid.specs.Grid.{corner};
 ghost use Rattle.turns.specs.Way.{convert_of};
 ghost use Rattle.overlay.specs.Call.{of_parts};

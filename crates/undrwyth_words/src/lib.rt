@@ -1,4 +1,6 @@
 // The numbers of each answer, as C gets them.
+#![tactic(auto)]
+
 ghost use Rattle.std.specs.Prelude.{◌≡◌, ◌^◌, ◌<◌};
 ghost use Rattle.answer.specs.Refusal.{judged_place};
 ghost use Rattle.answer.specs.Words.{facts_words, answer_words, counted_words, judged_words};

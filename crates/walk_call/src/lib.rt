@@ -1,4 +1,6 @@
 // The walk: any operations, judged in a lent table.
+#![tactic(auto)]
+
 ghost use Rattle.std.specs.Prelude.{[], ◌≡◌, ◌*◌, ◌^◌, ◌<◌, ◌≤◌, length, replicate};
 ghost use Rattle.answer.specs.declared.Judged.TheVariants.{Good};
 ghost use Rattle.walk.specs.Walk.{WalkIs};

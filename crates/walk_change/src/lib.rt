@@ -1,4 +1,6 @@
 // How many records the last step of a walk changed, read off the table that it left.
+#![tactic(auto)]
+
 ghost use Rattle.std.specs.Prelude.{not, ◌&&◌, List, [], ◌∷◌, ◌++◌, ◌≡◌, ℕ, ◌+◌, ◌-◌, ◌^◌, ◌<◌, eqb, length, get_or};
 ghost use Rattle.lists.specs.Lists.{tally};
 ghost use Rattle.grid.specs.declared.Corner.{Corner as Node};

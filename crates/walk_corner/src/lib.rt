@@ -1,5 +1,7 @@
 // Corners as the code has them: where a step leads, the parent, the child's word, and whether the parents of two neighbours
 // differ.
+#![tactic(auto)]
+
 ghost use Rattle.std.specs.Prelude.{◌≡◌, ◌<◌, ◌≤◌, nat_abs, ◌+ℤ◌};
 ghost use Rattle.grid.specs.Grid.{same, stepped, east_of, north_of};
 ghost use Rattle.walk_corner.specs.Moves.{difference_of, parted_by};

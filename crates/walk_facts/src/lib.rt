@@ -1,4 +1,6 @@
 // The facts of an accepted walk: its verdict, its area, and what it counted.
+#![tactic(auto)]
+
 ghost use Rattle.std.specs.Prelude.{List, ◌≡◌, ℕ, ◌*◌, ◌<◌, ◌≤◌, nat_abs, ◌+ℤ◌, length, take};
 ghost use Rattle.walk.specs.Walk.{facts_of, party_facts_of};
 ghost use Rattle.answer.specs.Limits.{most_steps, no_meeting, farthest, Near};

@@ -1,4 +1,6 @@
 // The judgement of a walk's input, before anything is written: refusals 1 to 6 and 10.
+#![tactic(auto)]
+
 ghost use Rattle.std.specs.Prelude.{◌≡◌, ◌^◌, ◌<◌};
 ghost use Rattle.walk.specs.Walk.{table_fits};
 ghost use Rattle.steps.specs.Operations.{fault_of, operations_judged, after, Fine};

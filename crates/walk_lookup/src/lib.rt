@@ -1,6 +1,8 @@
 // The neighbour of a node, found or made: a loop climbs to the parents until a link, the root or a shared parent is found, and a
 // loop comes down again. Nothing here calls itself. The answer is the node's ref, or 0 if the table is full. Afterwards the
 // number of nodes in use is the larger of the old number and that ref, because a new node is always the last.
+#![tactic(auto)]
+
 ghost use Rattle.std.specs.Prelude.{◌≡◌, false, cond, suc, ◌+◌, ◌^◌, ◌<◌, max, nat_abs, length, get_or, replicate};
 ghost use Rattle.grid.specs.declared.Corner.{Corner as Node};
 ghost use Rattle.grid.specs.Grid.{stepped};

@@ -1,5 +1,7 @@
 // The start of a walk, planted in a table of zeros: its ancestors from the root down, each the child of the one before, then the
 // start itself and its first visit.
+#![tactic(auto)]
+
 ghost use Rattle.std.specs.Prelude.{◌≡◌, ◌^◌, ◌<◌, ◌≤◌, length, replicate};
 ghost use Rattle.answer.specs.Limits.{Near};
 ghost use Rattle.layout.specs.Table.{width};

@@ -1,4 +1,6 @@
 // A walk follows its operations, one after the other, and marks each.
+#![tactic(auto)]
+
 ghost use Rattle.std.specs.Prelude.{List, [], ◌≡◌, ℕ, suc, ◌+◌, ◌*◌, ◌^◌, ◌<◌, ◌≤◌, length, set, get_or};
 ghost use Rattle.answer.specs.declared.Judged.TheVariants.{Good};
 ghost use Rattle.grid.specs.declared.Corner.{Corner as Node};

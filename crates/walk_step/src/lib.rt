@@ -1,4 +1,6 @@
 // A walk goes a step, or takes its last step back.
+#![tactic(auto)]
+
 ghost use Rattle.std.specs.Prelude.{◌≡◌, List, [], ◌∷◌, ◌++◌, ℕ, ◌+◌, ◌^◌, ◌<◌, nat_abs, length};
 ghost use Rattle.answer.specs.Limits.{no_meeting};
 ghost use Rattle.grid.specs.declared.Corner.{Corner as Node};

@@ -1,4 +1,6 @@
 // The words of the lent table: node records at fixed offsets, what is written there, and what is taken away.
+#![tactic(auto)]
+
 ghost use Rattle.std.specs.Prelude.{◌≡◌, ◌+◌, ◌*◌, ◌^◌, ◌<◌, ◌-◌, ◌≤◌, length, get_or, set, take, replicate, ◌++◌};
 ghost use Rattle.table_laws.specs.Model.{link_in, visit_in, unvisit_in, edge_in, tread_in, untread_in, unset_in};
 ghost use Rattle.std.proofs.lemmas.List.Edits.{sets};

@@ -1,5 +1,7 @@
 // The worked walks, run through the calls: what each answers, and what every buffer holds then. The walks stand in the file
 // stdin.
+#![tactic(auto)]
+
 mod limits;
 mod show;
 mod walks;
