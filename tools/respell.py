@@ -19,6 +19,7 @@ DECLARED = re.compile(r"(?m)^ *((?:(?:pub|abbrev|unfoldable|opaque|inductive|rec
 ALIAS = re.compile(r"\bas ([^\s(){}.;,]+)")
 TYPED = re.compile(r"(?m)^ *(?:pub +)?(?:abbrev|unfoldable|record|data|inductive)\b")
 COMMENT = re.compile(r"(?m)(?<![^\s])--.*$|//.*$")
+LIBRARY = re.compile(r"(?m)\buse (?!Rattle\.(?!std\b))([\w.]+)\.\{([^}\n]*)\}")
 SPAN = re.compile(r"`[^`\n]+`")
 MADE = re.compile(r"/proofs/[^/]+/")
 # Lemmas that would have the name of a function that is respelled.
@@ -94,6 +95,10 @@ def main(argv):
         if new != n:
             table[n] = new
     table |= {n: n + "_lem" for n in LEMMAS if n in lemmas}
+    # a name that some file takes from a library stays in all files
+    for m in (m for t in texts.values() for m in LIBRARY.finditer(t)):
+        for n in re.split(r"[,\s]+", m[2]):
+            table.pop(n, None)
     # where each word stands by itself: not as a step of a path or behind a dot, and in src/ in clauses and as a parameter alone
     used = collections.defaultdict(set)
     for p, t in texts.items():

@@ -4,7 +4,7 @@ use mathlib.Core.Bool.{Bool, true, false, not}
 use mathlib.Core.Path.{◌≡◌, refl, sym, ap, ◌∙◌, subst}
 use Prim.Native.Nat.{ℕ, suc, ◌-◌, ◌<◌, ◌^◌}
 use native.Mathlib.Omega.{arith}
-use borrow.Author.Tests.{ltb-true, ltb-false, leb-true, le-leb, lt-leb, not_true, not_false}
+use borrow.Author.Tests.{ltb-true, ltb-false, leb-true, le-leb, lt-leb, not-true, not-false}
 use lib.Dec.{leb}
 use lib.IntN.{ℤ, pos, negsuc, neg_ℤ, nat_abs}
 use lib.Signed.{lt_z, le_z, mag}
@@ -46,8 +46,8 @@ axis : (z : ℤ) (b : Bool) → mag z < 2 ^ 31 → b ≡ leb (nat_abs (to_z w32 
 axis z b h e = e ∙ ap (λ (x : ℤ). leb (nat_abs x) most_start) (to_z-of_z w32 z (record { sfits = h }))
 
 pub start-out : (c : Corner) (b : Bool) → mag c.0 < 2 ^ 31 → b ≡ leb (nat_abs (to_z w32 (of_z w32 c.0))) most_start → not b ≡ true → false ≡ start_fits c
-start-out c b h e n = let f : leb (nat_abs c.0) most_start ≡ false = sym (axis c.0 b h e) ∙ not_true b n in rw f
+start-out c b h e n = let f : leb (nat_abs c.0) most_start ≡ false = sym (axis c.0 b h e) ∙ not-true b n in rw f
 
 pub start_in_lem : (c : Corner) (a b : Bool) → mag c.0 < 2 ^ 31 → a ≡ leb (nat_abs (to_z w32 (of_z w32 c.0))) most_start → not a ≡ false
     → mag c.1 < 2 ^ 31 → b ≡ leb (nat_abs (to_z w32 (of_z w32 c.1))) most_start → b ≡ start_fits c
-start_in_lem c a b h e n k f = let t : leb (nat_abs c.0) most_start ≡ true = sym (axis c.0 a h e) ∙ not_false a n in axis c.1 b k f ∙ (rw t)
+start_in_lem c a b h e n k f = let t : leb (nat_abs c.0) most_start ≡ true = sym (axis c.0 a h e) ∙ not-false a n in axis c.1 b k f ∙ (rw t)

@@ -10,7 +10,7 @@ use borrow.Author.Tests.{le-leb, lt-leb}
 use lib.Dec.{leb}
 use lib.ListN.{length, get_or, take, drop, length-take, length-drop, get_or-eq_default}
 use lib.Seq.{take_all, get_or-take, get_or-drop}
-use Rattle.lists.proofs.BoolLaws.{not_true, not_false}
+use Rattle.lists.proofs.BoolLaws.{not-true, not-false}
 use Rattle.convex.specs.Parts.{turned_by}
 use Rattle.convex_laws.specs.Level.{convex_part}
 use Rattle.convex_laws.specs.Place.{place_of}
@@ -44,10 +44,10 @@ part_of t j k ds = convex_part (turned_by t (take (k - j) (drop j ds)))
 
 module _ (ds : List ℕ) (t i j k : ℕ) (r : Bool) (f : r ≡ part_of t i j ds) where
   pub half_fails : not r ≡ true → false ≡ (part_of t i j ds && part_of (t + 1) j k ds)
-  half_fails e = and_false (part_of t i j ds) (part_of (t + 1) j k ds) (sym f ∙ not_true r e)
+  half_fails e = and_false (part_of t i j ds) (part_of (t + 1) j k ds) (sym f ∙ not-true r e)
 
   pub half_tells : (s : Bool) → not r ≡ false → s ≡ part_of (t + 1) j k ds → s ≡ (part_of t i j ds && part_of (t + 1) j k ds)
-  half_tells s e g = and_true (part_of t i j ds) (part_of (t + 1) j k ds) s (sym f ∙ not_false r e) g
+  half_tells s e g = and_true (part_of t i j ds) (part_of (t + 1) j k ds) s (sym f ∙ not-false r e) g
 
 -- the test on a room by its two halves
 module _ (ds : List ℕ) (j k l : ℕ) where
@@ -85,10 +85,10 @@ module _ (ds : List ℕ) (j k l : ℕ) where
         last = sym (take_all (length ds - l) (drop l ds) (omega (arith, length-drop l ds)))
 
     pub first_fails : (r : Bool) → not r ≡ true → r ≡ first_half → false ≡ convex_at j k l ds
-    first_fails r e f = and_false first_half second_half (sym f ∙ not_true r e) ∙ sym halves
+    first_fails r e f = and_false first_half second_half (sym f ∙ not-true r e) ∙ sym halves
 
     pub second_tells : (r t : Bool) → not r ≡ false → r ≡ first_half → t ≡ second_half → t ≡ convex_at j k l ds
-    second_tells r t e f s = and_true first_half second_half t (sym f ∙ not_false r e) s ∙ sym halves
+    second_tells r t e f s = and_true first_half second_half t (sym f ∙ not-false r e) s ∙ sym halves
 
 -- the places are those of the other extremal corners
 pub west_told : (ds : List ℕ) (j k l : ℕ) (r : Bool) → j ≡ place_of 1 ds → k ≡ place_of 2 ds → l ≡ place_of 3 ds → r ≡ convex_at j k l ds → r ≡ convex_from ds

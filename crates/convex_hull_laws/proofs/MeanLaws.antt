@@ -182,10 +182,10 @@ module _ (S : Panel → Type 0) (filled : Filled S) where
       some : 0 < h * α
       some = times h α (omega (zarith, lr, abs_nat (q.1 -ℤ r.1), bal- q.1 r.1)) (omega (zarith, lb, abs_nat (b.0 -ℤ q.0), bal- b.0 q.0))
         where
-          mul_suc : (m n : ℕ) → suc m * suc n ≡ suc (suc m * n + m)
-          mul_suc m n = simp unary_clauses refl
+          mul-suc : (m n : ℕ) → suc m * suc n ≡ suc (suc m * n + m)
+          mul-suc m n = simp unary_clauses refl
 
           times : (m n : ℕ) → 0 < m → 0 < n → 0 < m * n
-          times (suc m) (suc n) f g = omega (arith, mul_suc m n)
+          times (suc m) (suc n) f g = omega (arith, mul-suc m n)
           times zero n f g = absurd (omega arith)
           times (suc m) zero f g = absurd (omega arith)

@@ -16,7 +16,7 @@ use Rattle.grid.proofs.ChildLaws.{child_one, slot_small}
 use Rattle.grid.proofs.CornerLaws.{same_refl, same_sound}
 use Rattle.lists.proofs.FindLaws.{find_cong, find_get, bool_agree}
 use Rattle.lists.proofs.GatherLaws.{and_left, and_right}
-use Rattle.lists.proofs.BoolLaws.{not_true}
+use Rattle.lists.proofs.BoolLaws.{not-true}
 use Rattle.layout.specs.Table.{child_ref_of}
 use Rattle.layout.proofs.TableCases as cases
 
@@ -58,7 +58,7 @@ child_there ns a w r e =
     let h = and_left (n && p) v f.1 in (
       f.0,
       record {
-        below = not_true (is_root c) (and_left n p h);
+        below = not-true (is_root c) (and_left n p h);
         parent = same_sound (parent_of c) a (and_right n p h);
         word = eqb-true (child_word c) w (and_right (n && p) v f.1);
       },

@@ -5,7 +5,7 @@ use mathlib.Core.Bool.{Bool, true, false, cond, ◌&&◌, true≢false}
 use mathlib.Core.List.{List, [], ◌∷◌, ◌++◌}
 use Prim.Native.Nat.{ℕ, zero, suc, ◌+◌, ◌-◌, ◌<◌, ◌≤◌}
 use native.Mathlib.Omega.{arith}
-use native.Mathlib.Nat.{add_zero}
+use native.Mathlib.Nat.{add-zero}
 use native.Mathlib.Numerals.{add-one}
 use native.Mathlib.Decide.{dec_lt}
 use borrow.Author.Tests.{le-leb, lt-leb, le-ltb, lt-ltb, ltb-false, leb-false, eq-eqb, ne_eqb}
@@ -35,7 +35,7 @@ use Rattle.line_convert.specs.Convert.{ConvertedIs, names_turns}
 
 -- nothing of f is written yet
 pub put_begun : (f out : List ℕ) (at : ℕ) → put (drop 0 f) (at + 0) out ≡ put f at out
-put_begun f out at = ap (λ (n : ℕ). put f n out) (add_zero at)
+put_begun f out at = ap (λ (n : ℕ). put f n out) (add-zero at)
 
 -- the next byte of f is written, and what is left of it gives the whole
 pub put_next : (f out w : List ℕ) (at i b : ℕ) → i < length f → at + length f ≤ length out → b ≡ get_or f i 0 → put (drop i f) (at + i) out ≡ w → put (drop (i + 1) f) (at + (i + 1)) (set out (at + i) b) ≡ w

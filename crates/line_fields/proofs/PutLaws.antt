@@ -4,7 +4,7 @@ use mathlib.Core.Path.{◌≡◌, sym, ap, ◌∙◌}
 use mathlib.Core.List.{List, [], ◌∷◌, ◌++◌, append_assoc, append-nil}
 use Prim.Native.Nat.{ℕ, suc, ◌+◌, ◌-◌, ◌<◌, ◌≤◌}
 use native.Mathlib.Omega.{arith}
-use native.Mathlib.Nat.{add_zero}
+use native.Mathlib.Nat.{add-zero}
 use native.Mathlib.Numerals.{add-one}
 use lib.ListN.{length, take, drop, set, length-append, length-drop, take-append-drop}
 use lib.Seq.{length-take-le, take_at, drop_at, take-set-le, set_split, drop-drop, append_snoc}
@@ -12,7 +12,7 @@ use Rattle.line_fields.specs.Put.{put, Wrote}
 
 pub put_nil : (at : ℕ) (buf : List ℕ) → put [] at buf ≡ buf
 unfolding put
-put_nil at buf = rw (add_zero at, append-nil (take at buf)) (take-append-drop at buf)
+put_nil at buf = rw (add-zero at, append-nil (take at buf)) (take-append-drop at buf)
 
 pub length-put : (f : List ℕ) (at : ℕ) (buf : List ℕ) → at + length f ≤ length buf → length (put f at buf) ≡ length buf
 unfolding put
@@ -89,7 +89,7 @@ wrote_append {f} {g} {at} {m} {end} {a} {b} {c} p q h = record {
 }
 
 pub wrote_nil : (at : ℕ) (a : List ℕ) → Wrote [] at a at a
-wrote_nil at a = record { end = sym (add_zero at); buffer = sym (put_nil at a) }
+wrote_nil at a = record { end = sym (add-zero at); buffer = sym (put_nil at a) }
 
 -- what was written at the start
 pub take-put-start : (f buf : List ℕ) (n : ℕ) → n ≡ length f → n ≤ length buf → take n (put f 0 buf) ≡ f

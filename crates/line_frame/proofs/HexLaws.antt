@@ -6,7 +6,7 @@ use mathlib.Core.List.{List, [], ◌∷◌, ◌++◌}
 use Prim.Native.Nat.{ℕ, zero, suc, ◌+◌, ◌-◌, ◌*◌, ◌/◌, ◌%◌, ◌^◌, ◌<◌, ◌≤◌}
 use native.Mathlib.Omega.{arith}
 use native.Mathlib.Decide.{dec_lt}
-use native.Mathlib.Nat.{pow-succ', mul_assoc, mul_suc}
+use native.Mathlib.Nat.{pow-succ', mul_assoc, mul-suc}
 use borrow.Author.Tests.{leb-true, le-leb, lt-leb, lt-ltb, le-ltb, ne_eqb}
 use lib.ListN.{length, drop, get_or, length-append, drop_of_length-le}
 use lib.Seq.{drop-cons}
@@ -110,7 +110,7 @@ field_back n v h = let x = field_number n v in go x.0 x.1
   where
     go : (q : ℕ) → v ≡ 16 ^ n * q + number_from 0 (hex_of n v) → number_from 0 (hex_of n v) ≡ v
     go zero e = omega (arith, e)
-    go (suc q) e = absurd (omega (arith, e, mul_suc (16 ^ n) q))
+    go (suc q) e = absurd (omega (arith, e, mul-suc (16 ^ n) q))
 
 -- no digit is a line feed
 letter_feeds : (d : ℕ) → feeds_in (letter_of d ∷ []) ≡ 0

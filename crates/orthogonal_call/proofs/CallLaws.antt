@@ -18,7 +18,7 @@ use Rattle.int_laws.proofs.LinearLaws.{zarith, bal+, bal-}
 use Rattle.int_laws.proofs.RangeLaws.{abs_nat}
 use Rattle.lists.specs.Lists.{Below}
 use Rattle.lists.proofs.BelowLaws.{below_all}
-use Rattle.lists.proofs.BoolLaws.{not_true, not_false}
+use Rattle.lists.proofs.BoolLaws.{not-true, not-false}
 use Rattle.grid.specs.declared.Corner.{Corner}
 use Rattle.grid.specs.Grid.{corner}
 use Rattle.answer.specs.declared.{Judged.Judged, Judged.TheVariants.Good, Judged.TheVariants.Refused, Refusal.TheVariants.TooMany, Refusal.TheVariants.StartRange, Refusal.TheVariants.GridSize, Refusal.TheVariants.ChainRoom}
@@ -70,14 +70,14 @@ module _ (s : Corner) (ds : List ℕ) (g : ℕ) where
 
   module _ (h : length ds ≤ most_input) (b : Bool) (eb : b ≡ start_fits s) where
     pub told_range : not b ≡ true → Refused StartRange ≡ on_grid_judged s ds g
-    told_range n = sym (on_grid_range s ds g h (sym eb ∙ not_true b n))
+    told_range n = sym (on_grid_range s ds g h (sym eb ∙ not-true b n))
 
     module _ (n : not b ≡ false) (c : Bool) (ec : c ≡ grid_fits g) where
       pub told_grid : not c ≡ true → Refused GridSize ≡ on_grid_judged s ds g
-      told_grid m = sym (on_grid_size s ds g h (sym eb ∙ not_false b n) (sym ec ∙ not_true c m))
+      told_grid m = sym (on_grid_size s ds g h (sym eb ∙ not-false b n) (sym ec ∙ not-true c m))
 
       pub told_room : not c ≡ false → (j : Judged) → j ≡ as_room_judged s ds → j ≡ on_grid_judged s ds g
-      told_room m j e = e ∙ sym (on_grid_room s ds g (sym ec ∙ not_false c m))
+      told_room m j e = e ∙ sym (on_grid_room s ds g (sym ec ∙ not-false c m))
 
 -- ---- coordinates
 

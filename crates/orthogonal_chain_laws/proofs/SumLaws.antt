@@ -49,8 +49,8 @@ abbrev pub row_sum : (ℕ → ℤ) → ℕ → ℕ → ℤ
 row_sum g m zero = pos 0
 row_sum g m (suc n) = g (m + n) +ℤ row_sum g m n
 
-add_zero : (a : ℕ) → a + 0 ≡ a
-add_zero a = omega arith
+add-zero : (a : ℕ) → a + 0 ≡ a
+add-zero a = omega arith
 
 add_suc : (a b : ℕ) → a + suc b ≡ suc (a + b)
 add_suc a b = omega arith
@@ -64,7 +64,7 @@ module _ (g : ℕ → ℤ) where
       ∙ ring 3 (g (suc m + n) ∷ g m ∷ row_sum g (suc m) n ∷ []) (v 0 ⊕ (v 1 ⊕ v 2)) (v 1 ⊕ (v 0 ⊕ v 2)) tt
 
   sum_split : (m a b : ℕ) → row_sum g m (a + b) ≡ row_sum g m a +ℤ row_sum g (m + a) b
-  sum_split m a zero = ap (row_sum g m) (add_zero a) ∙ ring 1 (row_sum g m a ∷ []) (v 0) (v 0 ⊕ k (pos 0)) tt
+  sum_split m a zero = ap (row_sum g m) (add-zero a) ∙ ring 1 (row_sum g m a ∷ []) (v 0) (v 0 ⊕ k (pos 0)) tt
   sum_split m a (suc b) =
       let e : g (m + (a + b)) ≡ g ((m + a) + b) = ap g (omega arith) in
       ap (row_sum g m) (add_suc a b)

@@ -14,7 +14,7 @@ use Rattle.answer.specs.declared.{Judged.Judged, Judged.TheVariants.Good, Judged
 use Rattle.answer.specs.Limits.{most_input, start_fits}
 use Rattle.answer.specs.Refusal.{when, or_else, first_of}
 use Rattle.answer.proofs.RefusalLaws.{refused_not_good, clear, clear_first, when_good, or_else-right}
-use Rattle.lists.proofs.BoolLaws.{not_false}
+use Rattle.lists.proofs.BoolLaws.{not-false}
 use Rattle.lists.proofs.GatherLaws.{and_left, and_right}
 use Rattle.grid.specs.declared.{Corner.Corner, Panel.Panel}
 use Rattle.answer.specs.Listed.{laid_if}
@@ -88,7 +88,7 @@ on_grid_good s ds g e =
     let range = when (not (start_fits s)) StartRange in
     let other = when (not (is_room s ds)) NotRoom in
     let k = clear (many ∷ range ∷ when (not (grid_fits g)) GridSize ∷ chain_judged 0 ds ∷ other ∷ []) e in
-    (judged_four s ds ∙ clear_first (many ∷ range ∷ chain_judged 0 ds ∷ other ∷ []) (k.0, (k.1.0, (k.1.1.1.0, k.1.1.1.1))), not_false (grid_fits g) (when_good (not (grid_fits g)) GridSize k.1.1.0))
+    (judged_four s ds ∙ clear_first (many ∷ range ∷ chain_judged 0 ds ∷ other ∷ []) (k.0, (k.1.0, (k.1.1.1.0, k.1.1.1.1))), not-false (grid_fits g) (when_good (not (grid_fits g)) GridSize k.1.1.0))
 
 pub grid_within : (g : ℕ) → grid_fits g ≡ true → (0 < g) × (g ≤ most_grid)
 grid_within g e = (le_of 1 g (and_left (leb 1 g) (leb g most_grid) e), le_of g most_grid (and_right (leb 1 g) (leb g most_grid) e))

@@ -7,7 +7,7 @@ use mathlib.Core.Logic.{◌⊎◌, inl, inr, ⊎_elim}
 use mathlib.Core.Path.{◌≡◌, refl, ap, ap₂, sym, ◌∙◌}
 use Prim.Native.Nat.{ℕ, zero, suc, ◌+◌, ◌-◌, ◌*◌, ◌≤◌}
 use native.Mathlib.Decide.{dec_lt}
-use native.Mathlib.Nat.{zero_mul, suc-mul, mul_assoc, mul_left_comm, mul-le-mul}
+use native.Mathlib.Nat.{zero-mul, suc-mul, mul_assoc, mul_left_comm, mul-le-mul}
 use native.Mathlib.Omega.{arith}
 use lib.IntN.{ℤ, pos, suc_ℤ, pred_ℤ, nat_abs, ◌+ℤ◌, ◌-ℤ◌}
 use lib.ListN.{length, take, length-append}
@@ -148,7 +148,7 @@ length-row b a zero = refl
 length-row b a (suc n) = ap suc (length-row b (suc_ℤ a) n)
 
 length-rows : (b a : ℤ) (n m : ℕ) → length (panel_rows b a n m) ≡ m * n
-length-rows b a n zero = sym (zero_mul n)
+length-rows b a n zero = sym (zero-mul n)
 length-rows b a n (suc m) = length-append (panel_row b a n) (panel_rows (suc_ℤ b) a n m) ∙ ap₂ (λ (x y : ℕ). x + y) (length-row b a n) (length-rows (suc_ℤ b) a n m) ∙ let e : n + m * n ≡ suc m * n = omega (arith, suc-mul m n) in e
 
 quadruple : (h w : ℕ) → 2 * h * (2 * w) ≡ 4 * (h * w)

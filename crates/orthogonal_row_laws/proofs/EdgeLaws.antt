@@ -11,7 +11,7 @@ use lib.IntN.{ℤ, pred_ℤ}
 use lib.Signed.{◌≤ℤ◌, ◌<ℤ◌, lt_z}
 use Rattle.int_laws.proofs.RangeLaws.{lt_true, lt_false}
 use Rattle.lists.specs.Lists.{tally, count}
-use Rattle.lists.proofs.BoolLaws.{not_true}
+use Rattle.lists.proofs.BoolLaws.{not-true}
 use Rattle.lists.proofs.CountLaws.{count_some}
 use Rattle.grid.specs.declared.{Corner.Corner, Panel.Panel}
 use Rattle.grid.specs.Grid.{corner, panel_at, eq_z, stepped, end_from}
@@ -58,7 +58,7 @@ module _ (c : Corner) (ds : List ℕ) (p : Panel) (i : Inside c ds p) where
       let es = edges_from c ds in
       let w = count_some (λ e. eq_z e.foot.1 p.1 && not (lt_z p.0 e.foot.0)) es (odd-rest (count (λ e. eq_z e.foot.1 p.1) es) (edges_beside c ds p) (count (λ e. eq_z e.foot.1 p.1 && not (lt_z p.0 e.foot.0)) es) (count_split (λ e. eq_z e.foot.1 p.1) (λ e. lt_z p.0 e.foot.0) es) (row_even p.1 c ds closed) i) in
       let a = and_both (eq_z w.0.foot.1 p.1) (not (lt_z p.0 w.0.foot.0)) w.2 in
-      (w.0, record { walked = w.1; row = eq_z_sound w.0.foot.1 p.1 a.0 }, lt_false (not_true (lt_z p.0 w.0.foot.0) a.1))
+      (w.0, record { walked = w.1; row = eq_z_sound w.0.foot.1 p.1 a.0 }, lt_false (not-true (lt_z p.0 w.0.foot.0) a.1))
     where
       odd-rest : (a b r : ℕ) → a ≡ b + r → a % 2 ≡ 0 → b % 2 ≡ 1 → 0 < r
       odd-rest a b zero e h k = absurd (omega (arith, e, h, k))

@@ -33,11 +33,11 @@ module _ (g : ℕ) (some : 0 < g) where
   -- b blocks less
   floor_blocks : (u b : ℕ) → floor_by g (pos u -ℤ pos (b * g)) ≡ pos (u / g) -ℤ pos b
   floor_blocks u zero =
-      let e : pos u -ℤ pos (0 * g) ≡ pos u = omega (zarith, bal- (pos u) (pos (0 * g)), zero_mul g) in
+      let e : pos u -ℤ pos (0 * g) ≡ pos u = omega (zarith, bal- (pos u) (pos (0 * g)), zero-mul g) in
       ap (floor_by g) e ∙ omega (zarith, bal- (pos (u / g)) (pos 0))
     where
-      zero_mul : (n : ℕ) → 0 * n ≡ 0
-      zero_mul n = omega arith
+      zero-mul : (n : ℕ) → 0 * n ≡ 0
+      zero-mul n = omega arith
   floor_blocks u (suc b) =
       let e : pos u -ℤ pos (suc b * g) ≡ (pos u -ℤ pos (b * g)) -ℤ pos g = omega (zarith, suc-mul b g, bal- (pos u) (pos (suc b * g)), bal- (pos u) (pos (b * g)), bal- (pos u -ℤ pos (b * g)) (pos g)) in
       ap (floor_by g) e ∙ floor_less (pos u -ℤ pos (b * g)) ∙ ap (λ (z : ℤ). z -ℤ pos 1) (floor_blocks u b)

@@ -5,7 +5,7 @@ use mathlib.Core.List.{List, [], ◌∷◌}
 use mathlib.Core.Path.{◌≡◌, refl, ap, sym, ◌∙◌}
 use Prim.Native.Nat.{ℕ, zero, suc, ◌*◌, ◌<◌, ◌≤◌}
 use native.Mathlib.Omega.{arith}
-use borrow.Author.Tests.{lt-ltb, le-ltb, ltb-false, not_true, not_false}
+use borrow.Author.Tests.{lt-ltb, le-ltb, ltb-false, not-true, not-false}
 use lib.Dec.{ltb}
 use lib.ListN.{length, get_or, replicate, length-replicate}
 use Rattle.answer.specs.declared.{Judged.Judged, Judged.TheVariants.Good, Judged.TheVariants.Refused, Refusal.TheVariants.OutlineRoom, Counted.Counted}
@@ -67,10 +67,10 @@ module _ (chain before : List ℕ) where
   -- the same by a test of the room
   module _ (t : Bool) (f : FitsBy chain (length before) t) where
     pub traced_refused : t ≡ false → (c : Corner) → Traced c chain before (Counted.Refused OutlineRoom) before
-    traced_refused e c = by-room c (Refused OutlineRoom) (Counted.Refused OutlineRoom) before (ap (λ b. when b OutlineRoom) (not_false (ltb (length before) (length (outline_of c chain))) (sym (f c) ∙ e))) refl refl
+    traced_refused e c = by-room c (Refused OutlineRoom) (Counted.Refused OutlineRoom) before (ap (λ b. when b OutlineRoom) (not-false (ltb (length before) (length (outline_of c chain))) (sym (f c) ∙ e))) refl refl
 
     pub fits_of : t ≡ true → Fits chain (length before)
-    fits_of e c = ltb-false (length before) (length (outline_of c chain)) (not_true (ltb (length before) (length (outline_of c chain))) (sym (f c) ∙ e))
+    fits_of e c = ltb-false (length before) (length (outline_of c chain)) (not-true (ltb (length before) (length (outline_of c chain))) (sym (f c) ∙ e))
 
 pub traced_empty : (chain before : List ℕ) → length chain ≡ 0 → (c : Corner) → Traced c chain before (Counted.Many 0) before
 traced_empty [] before e c = traced_written [] before before 0 (λ a. refl) (omega arith) (λ a. refl) c

@@ -65,12 +65,12 @@ first_true a true e f = refl
 first_true true false e f = absurd (let z : ◌≡◌ {A = ℕ} 0 1 = cc in omega arith)
 first_true false false e f = absurd (let z : ◌≡◌ {A = ℕ} 0 1 = cc in omega arith)
 
-not_false : (b : Bool) → not b ≡ true → b ≡ false
-not_false false e = refl
-not_false true e = absurd (let z : ◌≡◌ {A = ℕ} 0 1 = cc in omega arith)
+not-false : (b : Bool) → not b ≡ true → b ≡ false
+not-false false e = refl
+not-false true e = absurd (let z : ◌≡◌ {A = ℕ} 0 1 = cc in omega arith)
 
 taken_word : (t : List ℕ) (r : ℕ) → taken_at t r ≡ true → 0 < words_in t r parent_word
-taken_word t r e = omega (arith, eqb-false (words_in t r parent_word) 0 (not_false (eqb (words_in t r parent_word) 0) (not_both (in_table t r) (not (eqb (words_in t r parent_word) 0)) e)))
+taken_word t r e = omega (arith, eqb-false (words_in t r parent_word) 0 (not-false (eqb (words_in t r parent_word) 0) (not_both (in_table t r) (not (eqb (words_in t r parent_word) 0)) e)))
 
 free_word : (t : List ℕ) (r : ℕ) → in_table t r ≡ true → taken_at t r ≡ false → words_in t r parent_word ≡ 0
 free_word t r e f = eqb-true (words_in t r parent_word) 0 (first_true (in_table t r) (eqb (words_in t r parent_word) 0) e f)

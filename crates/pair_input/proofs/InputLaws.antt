@@ -6,7 +6,7 @@ use mathlib.Core.List.{List, [], ◌∷◌}
 use mathlib.Core.Path.{◌≡◌, refl}
 use Prim.Native.Nat.{ℕ, suc, ◌*◌, ◌%◌, ◌<◌, ◌≤◌, ◌^◌}
 use native.Mathlib.Omega.{arith}
-use borrow.Author.Tests.{eqb-true, ltb-false, leb-true, not_false}
+use borrow.Author.Tests.{eqb-true, ltb-false, leb-true, not-false}
 use lib.Dec.{eqb, ltb, leb}
 use lib.ListN.{length}
 use Rattle.answer.specs.declared.Judged.TheVariants.{Good}
@@ -59,9 +59,9 @@ pair_input_good c e os w m k l p =
     let x = eqb m (mark_words * length os) in
     let y = eqb k (length os) in
     let z = eqb l (length os) in
-    let r : x && y && z ≡ true = not_false (x && y && z) (when_good (not (x && y && z)) ResultRoom h.1.1.0) in
+    let r : x && y && z ≡ true = not-false (x && y && z) (when_good (not (x && y && z)) ResultRoom h.1.1.0) in
     let s : x && y ≡ true = and_left (x && y) z r in
-    let t = fits_words w (not_false (pair_fits w) (when_good (not (pair_fits w)) Table h.1.0)) in
+    let t = fits_words w (not-false (pair_fits w) (when_good (not (pair_fits w)) Table h.1.0)) in
     record {
       few = ltb-false most_input (length os) (when_good (ltb most_input (length os)) TooMany h.0);
       whole = t.0;
@@ -70,8 +70,8 @@ pair_input_good c e os w m k l p =
       marks = eqb-true m (mark_words * length os) (and_left x y s);
       first = eqb-true k (length os) (and_right x y s);
       second = eqb-true l (length os) (and_right (x && y) z r);
-      start = fits_near c (not_false (start_fits c) (when_good (not (start_fits c)) StartRange h.1.1.1.0));
-      other = fits_near e (not_false (start_fits e) (when_good (not (start_fits e)) StartRange h.1.1.1.1.0));
+      start = fits_near c (not-false (start_fits c) (when_good (not (start_fits c)) StartRange h.1.1.1.0));
+      other = fits_near e (not-false (start_fits e) (when_good (not (start_fits e)) StartRange h.1.1.1.1.0));
       fine = h.1.1.1.1.1.0;
     }
 

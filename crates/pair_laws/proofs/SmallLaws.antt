@@ -5,7 +5,7 @@ use mathlib.Core.List.{List, [], ◌∷◌}
 use mathlib.Core.Path.{◌≡◌, refl, subst}
 use Prim.Native.Nat.{ℕ, zero, suc, ◌+◌, ◌%◌, ◌≤◌}
 use native.Mathlib.Omega.{arith}
-use borrow.Author.Tests.{ltb-false, leb-true, not_false}
+use borrow.Author.Tests.{ltb-false, leb-true, not-false}
 use lib.Dec.{eqb, ltb, leb}
 use lib.ListN.{length, take}
 use lib.Seq.{take_all}
@@ -100,7 +100,7 @@ pair_few c e os w m k l g =
     let t : take (length os) os ≡ os = take_all (length os) os (omega arith) in
     let n : length (needs_of c e (steps_by 0 os) (steps_by 1 os)) ≤ pair_records_in w = subst (λ (x : List ℕ). length (needs_of c e (steps_by 0 x) (steps_by 1 x)) ≤ pair_records_in w) t r in
     record {
-      nodes = omega (arith, n, fits_most w (not_false (pair_fits w) (when_good (not (pair_fits w)) Table h.1.0)));
+      nodes = omega (arith, n, fits_most w (not-false (pair_fits w) (when_good (not (pair_fits w)) Table h.1.0)));
       first = seen_few c (steps_by 0 os) (own_few 0 os f.1);
       second = seen_few e (steps_by 1 os) (own_few 1 os f.2);
     }

@@ -5,7 +5,7 @@ use mathlib.Core.Logic.{◌⊎◌, inl, inr, ⊎_elim}
 use mathlib.Core.Bool.{Bool, true, false, not, ◌&&◌, cond, false≢true}
 use Prim.Native.Nat.{ℕ, zero, suc, ◌+◌, ◌-◌, ◌*◌, ◌/◌, ◌%◌, ◌^◌, ◌≤◌, ◌<◌}
 use native.Mathlib.Decide.{dec_lt}
-use native.Mathlib.Nat.{mul_assoc, mul_comm, mul-one, one-mul, mul_right_comm, mul-pos, zero_mul, zero-lt-suc, lt_irrefl, le_trans, lt_of_lt_of_le, lt_of_le_of_lt, le_of_eq, mul-le-mul_left, mul-le-mul_right, eq_of_mul-eq-mul_right, div-le_self, div-mul-le_self, mod-eq_of_lt}
+use native.Mathlib.Nat.{mul_assoc, mul_comm, mul-one, one-mul, mul_right_comm, mul-pos, zero-mul, zero-lt-suc, lt_irrefl, le_trans, lt_of_lt_of_le, lt_of_le_of_lt, le_of_eq, mul-le-mul_left, mul-le-mul_right, eq_of_mul-eq-mul_right, div-le_self, div-mul-le_self, mod-eq_of_lt}
 use native.Mathlib.Omega.{arith}
 use borrow.Author.Tests.{lt-leb, le-leb, leb-true, lt-ltb, le-ltb, eqb-true, eq-eqb}
 use lib.Dec.{T, eqb, leb, lit≤}
@@ -192,7 +192,7 @@ module _ (most : ℕ) (u : most ≤ farthest) (b : ℕ) where
       record { coordinate = ap₂ signed (sym g) (sym k); within = subst (λ (j : ℕ). j ≤ most) (sym k) (omega arith); digits = inl z }
     where
       unit : (r : ℕ) → r * 2 ^ 0 * 1 ≡ scale * 0 * 2 ^ 1074 → r ≡ 0
-      unit r h = sym (mul-one r) ∙ sym (mul-one (r * 1)) ∙ h ∙ zero_mul (2 ^ 1074)
+      unit r h = sym (mul-one r) ∙ sym (mul-one (r * 1)) ∙ h ∙ zero-mul (2 ^ 1074)
 
       none : (m : ℕ) → m / 2 ^ 52 ≡ 0 → m % 2 ^ 52 ≡ 0 → m ≡ 0
       none m e h = omega arith
@@ -212,7 +212,7 @@ module _ (most : ℕ) (u : most ≤ farthest) (b : ℕ) where
   -- any other: the digits are those of 600 n
   shown_mid : (s : Bool) (n x : ℕ) → size_in b / 2 ^ 52 ≡ suc x → negative_in b ≡ s → n ≤ most → digits_in (size_in b) * 2 ^ x * 1 ≡ scale * n * 2 ^ 1074 → Shown most b (signed s n)
   shown_mid s zero x e g l h =
-      absurd (lt_irrefl 0 (lt_of_lt_of_le (mul-pos (lead (size_in b)) (pow_pos x)) (le_of_eq (sym (mul-one (digits_in (size_in b) * 2 ^ x)) ∙ h ∙ zero_mul (2 ^ 1074)))))
+      absurd (lt_irrefl 0 (lt_of_lt_of_le (mul-pos (lead (size_in b)) (pow_pos x)) (le_of_eq (sym (mul-one (digits_in (size_in b) * 2 ^ x)) ∙ h ∙ zero-mul (2 ^ 1074)))))
     where
       lead : (m : ℕ) → 0 < digits_in m
       lead m = omega arith
@@ -264,7 +264,7 @@ module _ (most : ℕ) (u : most ≤ farthest) (b : ℕ) where
   is_zero : size_in b ≡ 0 → Of (pos 0) ≡ whole_of most (of_bits binary64 b)
   is_zero h =
       let e : size_in b / 2 ^ 52 ≡ 0 = ap (λ (m : ℕ). m / 2 ^ 52) h in
-      let r : b % 2 ^ 52 * 2 ^ 0 ≡ 0 * (scale * 2 ^ 1074) = ap (λ (n : ℕ). n * 2 ^ 0) (sym (mod-mod-pow b 11 52) ∙ ap (λ (m : ℕ). m % 2 ^ 52) h) ∙ sym (zero_mul (scale * 2 ^ 1074)) in
+      let r : b % 2 ^ 52 * 2 ^ 0 ≡ 0 * (scale * 2 ^ 1074) = ap (λ (n : ℕ). n * 2 ^ 0) (sym (mod-mod-pow b 11 52) ∙ ap (λ (m : ℕ). m % 2 ^ 52) h) ∙ sym (zero-mul (scale * 2 ^ 1074)) in
       sym (whole_of_value most (of_bits binary64 b) (negative_in b) (b % 2 ^ 52 * 2 ^ 0) (2 ^ 1074) (pow_pos 1074) (least b e)
       ∙ ap (λ (n : ℕ). whole_at most (negative_in b) n (2 ^ 1074)) r
       ∙ whole_at_multiple most (negative_in b) 0 (2 ^ 1074) (pow_pos 1074) (omega arith)

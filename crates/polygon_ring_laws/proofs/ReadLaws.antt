@@ -16,7 +16,7 @@ use Rattle.answer.specs.Listed.{laid_if}
 use Rattle.polygon_ring.specs.Ring.{order_of, is_little, is_neither, point_at, points_from, is_faulty, corner_in, start_of, later_of, length_of, chain_of_points, is_ring, count_in, points_in, ring_of, read_judged, given_of, ReadCall}
 use Rattle.polygon_ring_laws.specs.Reading.{ring_from, ring_judged, points_judged, ReadIn}
 use Rattle.polygon_laws.proofs.BytesLaws.{part}
-use Rattle.polygon_ring_laws.proofs.RingLaws.{ring-first, ring_some, not_true, not_false, length-steps_from}
+use Rattle.polygon_ring_laws.proofs.RingLaws.{ring-first, ring_some, not-true, not-false, length-steps_from}
 use Rattle.answer.specs.declared.{Judged.Judged, Judged.TheVariants.Good, Judged.TheVariants.Refused, Refusal.Refusal, Refusal.TheVariants.FileLength, Refusal.TheVariants.FileKind, Refusal.TheVariants.BadCoordinate, Refusal.TheVariants.BadRing, Refusal.TheVariants.TooLong, Refusal.TheVariants.ChainRoom}
 use Rattle.polygon_ring.specs.declared.{GridPoint.GridPoint, Found.Found, Given.Given}
 
@@ -60,14 +60,14 @@ judged_sized little file room b e = ap (λ (b : Bool). or_else (when (not b) Fil
 module _ (little : Bool) (file : List ℕ) (r : Bool) (e : r ≡ eqb (length file) (13 + 16 * count_in little file)) where
   pub read_uneven : (out : List ℕ) → not r ≡ true → ReadIn little file out (Given.Refused FileLength) out
   read_uneven out f =
-      let j : points_judged little file (length out) ≡ Refused FileLength = judged_sized little file (length out) false (sym e ∙ not_true r f) in record {
+      let j : points_judged little file (length out) ≡ Refused FileLength = judged_sized little file (length out) false (sym e ∙ not-true r f) in record {
         answer = ap (λ (c : Judged). given_of c (map corner_in (points_in little file))) (sym j);
         buffer = ap (λ (c : Judged). laid_if c (chain_of_points (map corner_in (points_in little file))) out) (sym j);
       }
 
   module _ (f : not r ≡ false) where
     judged : (room : ℕ) → points_judged little file room ≡ ring_judged (points_in little file) room
-    judged room = judged_sized little file room true (sym e ∙ not_false r f)
+    judged room = judged_sized little file room true (sym e ∙ not-false r f)
 
     there : points_from little (take (length file - 13) (drop 13 file)) 0 ((length file - 13) / 16) ≡ points_in little file
     there = ap (λ (s : List ℕ). points_from little s 0 ((length file - 13) / 16)) (part file 13)

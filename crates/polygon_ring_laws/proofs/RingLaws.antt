@@ -410,13 +410,13 @@ no_points little s n e = sym (places_all little s n ∙ places_none little s 0 n
 
 -- ---- a test that the code turns round
 
-pub not_true : (b : Bool) → not b ≡ true → b ≡ false
-not_true false e = refl
-not_true true e = sym e
+pub not-true : (b : Bool) → not b ≡ true → b ≡ false
+not-true false e = refl
+not-true true e = sym e
 
-pub not_false : (b : Bool) → not b ≡ false → b ≡ true
-not_false true e = refl
-not_false false e = sym e
+pub not-false : (b : Bool) → not b ≡ false → b ≡ true
+not-false true e = refl
+not-false false e = sym e
 
 pub part_room : (l : List ℕ) (a k : ℕ) → a + k ≤ length l → k ≤ length (take (length l - a) (drop a l))
 part_room l a k h = simp (length-take, length-drop) (omega arith)

@@ -4,7 +4,7 @@ use mathlib.Core.Path.{◌≡◌, refl, sym, ap, ap₂, ◌∙◌, subst}
 use mathlib.Core.Bool.{Bool, true, false, ◌&&◌}
 use mathlib.Core.List.{List, ◌++◌, append_assoc}
 use Prim.Native.Nat.{ℕ, zero, suc, ◌+◌, ◌*◌, ◌/◌, ◌%◌, ◌≤◌, ◌<◌}
-use native.Mathlib.Nat.{mul_assoc, mul-one, zero-lt-suc, lt_irrefl, div-add-mod', add_zero, mul_left_comm, lt_of_lt_of_le}
+use native.Mathlib.Nat.{mul_assoc, mul-one, zero-lt-suc, lt_irrefl, div-add-mod', add-zero, mul_left_comm, lt_of_lt_of_le}
 use native.Mathlib.Omega.{arith}
 use borrow.Author.Tests.{eqb-true, leb-true}
 use lib.Dec.{eqb, leb, lit≤}
@@ -63,7 +63,7 @@ accepted most (fin s m e) k h =
     let p = picked (eqb (a % u) 0) (leb q most) (signed s q) k h in
     let r : a % u ≡ 0 = eqb-true (a % u) 0 p.0 in
     let w : a ≡ scale * q * down e =
-    sym (div-add-mod' a u) ∙ ap (λ (n : ℕ). q * u + n) r ∙ add_zero (q * u) ∙ mul_left_comm q scale (down e) ∙ sym (mul_assoc scale q (down e)) in
+    sym (div-add-mod' a u) ∙ ap (λ (n : ℕ). q * u + n) r ∙ add-zero (q * u) ∙ mul_left_comm q scale (down e) ∙ sym (mul_assoc scale q (down e)) in
     let g : nat_abs k ≡ q = ap nat_abs p.2 ∙ nat_abs-signed s q in
     ((scale * q, w, ap (λ (z : ℤ). pos scale *ℤ z) p.2 ∙ scaled_signed s q), subst (λ (n : ℕ). n ≤ most) (sym g) (leb-true q most p.1))
 

@@ -3,7 +3,7 @@
 use mathlib.Core.Path.{◌≡◌, refl, sym, ap, ◌∙◌, subst}
 use mathlib.Core.Bool.{Bool, ◌&&◌}
 use Prim.Native.Nat.{ℕ, zero, suc, ◌+◌, ◌*◌, ◌/◌, ◌%◌, ◌≤◌, ◌<◌}
-use native.Mathlib.Nat.{mul_comm, mul_left_comm, mul_right_comm, mul-pos, mul-div_cancel, mul-mod_left, zero-lt-suc, lt_irrefl, add-mul, div-add-mod', zero_mul}
+use native.Mathlib.Nat.{mul_comm, mul_left_comm, mul_right_comm, mul-pos, mul-div_cancel, mul-mod_left, zero-lt-suc, lt_irrefl, add-mul, div-add-mod', zero-mul}
 use native.Mathlib.Omega.{arith}
 use borrow.Author.Tests.{le-leb}
 use lib.Dec.{eqb, leb, eqb-suc-zero}
@@ -22,8 +22,8 @@ use Rattle.polygon_ring.specs.declared.Whole.TheVariants.{Of, Refused}
 
 zero_test : (x y b d : ℕ) → 0 < b → 0 < d → x * d ≡ y * b → eqb x 0 ≡ eqb y 0
 zero_test zero zero b d B D h = refl
-zero_test zero (suc y) b d B D h = absurd (lt_irrefl 0 (subst (λ (z : ℕ). 0 < z) (sym h ∙ zero_mul d) (mul-pos (zero-lt-suc y) B)))
-zero_test (suc x) zero b d B D h = absurd (lt_irrefl 0 (subst (λ (z : ℕ). 0 < z) (h ∙ zero_mul b) (mul-pos (zero-lt-suc x) D)))
+zero_test zero (suc y) b d B D h = absurd (lt_irrefl 0 (subst (λ (z : ℕ). 0 < z) (sym h ∙ zero-mul d) (mul-pos (zero-lt-suc y) B)))
+zero_test (suc x) zero b d B D h = absurd (lt_irrefl 0 (subst (λ (z : ℕ). 0 < z) (h ∙ zero-mul b) (mul-pos (zero-lt-suc x) D)))
 zero_test (suc x) (suc y) b d B D h = eqb-suc-zero x ∙ sym (eqb-suc-zero y)
 
 cancel : (p q x y z w : ℕ) → p + x ≡ z → q + y ≡ w → p ≡ q → z ≡ w → x ≡ y

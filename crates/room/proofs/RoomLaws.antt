@@ -9,7 +9,7 @@ use native.Mathlib.Omega.{arith}
 use borrow.Author.Tests.{eqb-true}
 use lib.Dec.{eqb, ltb}
 use lib.ListN.{length}
-use Rattle.lists.proofs.BoolLaws.{not_false}
+use Rattle.lists.proofs.BoolLaws.{not-false}
 use Rattle.answer.specs.declared.{Judged.Judged, Refusal.Refusal}
 use Rattle.answer.specs.declared.Judged.TheVariants.{Good, Refused}
 use Rattle.answer.specs.declared.Verdict.{Verdict}
@@ -73,5 +73,5 @@ good_room c ds e =
     record {
       near = w.near;
       steps = w.steps;
-      room = (is_room_exactly c ds).0 (not_false (is_room c ds) (when_good (not (is_room c ds)) NotRoom h.1));
+      room = (is_room_exactly c ds).0 (not-false (is_room c ds) (when_good (not (is_room c ds)) NotRoom h.1));
     }

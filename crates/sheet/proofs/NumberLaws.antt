@@ -5,7 +5,7 @@ use mathlib.Core.Bool.{Bool, true, false, cond}
 use mathlib.Core.List.{List, [], ◌∷◌, ◌++◌, append_assoc}
 use Prim.Native.Nat.{ℕ, zero, suc, ◌+◌, ◌*◌, ◌/◌, ◌%◌, ◌<◌, ◌≤◌}
 use native.Mathlib.Omega.{arith}
-use native.Mathlib.Nat.{add_zero}
+use native.Mathlib.Nat.{add-zero}
 use borrow.Author.Tests.{ne_eqb}
 use lib.Dec.{eqb, ltb}
 use lib.ListN.{length, length-append}
@@ -29,7 +29,7 @@ next-number b n = go (eqb b 10)
 -- the number of the line after them
 pub numbered_append : (begins : Bool) (n : ℕ) (r s : List ℕ) → numbered_from begins n (r ++ s) ≡ numbered_from begins n r ++ numbered_from (begins_after begins r) (n + feeds_in r) s
 unfolding numbered_from begins_after
-numbered_append begins n [] s = ap (λ (m : ℕ). numbered_from begins m s) (sym (add_zero n))
+numbered_append begins n [] s = ap (λ (m : ℕ). numbered_from begins m s) (sym (add-zero n))
 numbered_append begins n (b ∷ r) s =
     let m : ℕ = cond (eqb b 10) (suc n) n in
     let e : m + feeds_in r ≡ n + feeds_in (b ∷ r) = omega (arith, next-number b n) in

@@ -11,7 +11,7 @@ use borrow.Author.Tests.{lt-ltb, le-ltb, eq-eqb, ne_eqb, ltb-false, eqb-false}
 use lib.ListN.{length, get_or, drop, drop_of_length-le}
 use lib.Seq.{drop-cons}
 use Rattle.lists.specs.Lists.{Below}
-use Rattle.lists.proofs.BoolLaws.{not_false}
+use Rattle.lists.proofs.BoolLaws.{not-false}
 use Rattle.grid.specs.declared.Corner.{Corner}
 use Rattle.answer.specs.declared.Judged.{Judged}
 use Rattle.answer.specs.declared.Judged.TheVariants.{Good, Refused}
@@ -128,7 +128,7 @@ pub record AsWalk (s : Corner) (ds : List ℕ) : Type 0 where
 pub good_walk : (s : Corner) (ds : List ℕ) → as_walk_judged s ds ≡ Good → AsWalk s ds
 good_walk s ds e =
     let h = clear (when (ltb most_input (length ds)) TooMany ∷ when (not (start_fits s)) StartRange ∷ chain_judged 0 ds ∷ []) e in
-    let f = not_false (start_fits s) (when_good (not (start_fits s)) StartRange h.1.0) in
+    let f = not-false (start_fits s) (when_good (not (start_fits s)) StartRange h.1.0) in
     let c = h.1.1.0 in
     record { fits = f; near = fits_near s f; steps = c; digits = good_digits 0 ds c; short = omega (arith, good_short 0 ds (omega arith) c) }
 

@@ -9,7 +9,7 @@ use borrow.Author.Tests.{ltb-false, lt-ltb, le-ltb, eqb-true, eq-eqb, ne_eqb}
 use lib.Dec.{eqb, ltb}
 use lib.ListN.{length}
 use Rattle.lists.specs.Lists.{Below}
-use Rattle.lists.proofs.BoolLaws.{not_false}
+use Rattle.lists.proofs.BoolLaws.{not-false}
 use Rattle.answer.specs.declared.Judged.{Judged}
 use Rattle.answer.specs.declared.Judged.TheVariants.{Good, Refused}
 use Rattle.answer.specs.declared.Refusal.TheVariants.{TooMany, ResultRoom, BadDigit}
@@ -55,7 +55,7 @@ turns_judged_good ds room e =
     let h = clear (when (ltb most_input (length ds)) TooMany ∷ when (not (eqb room (length ds))) ResultRoom ∷ digits_judged 0 ds ∷ []) e in
     record {
       few = ltb-false most_input (length ds) (when_good (ltb most_input (length ds)) TooMany h.0);
-      long = eqb-true room (length ds) (not_false (eqb room (length ds)) (when_good (not (eqb room (length ds))) ResultRoom h.1.0));
+      long = eqb-true room (length ds) (not-false (eqb room (length ds)) (when_good (not (eqb room (length ds))) ResultRoom h.1.0));
       digits = digit_faults_below 0 ds h.1.1.0;
     }
 

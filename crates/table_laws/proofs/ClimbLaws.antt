@@ -19,7 +19,7 @@ use Rattle.tree_laws.specs.State.{State, Sound, table_by, grown, raised, reached
 use Rattle.grid.proofs.PathLaws.{nat_abs-half_of}
 use Rattle.layout.proofs.ChildLaws.{child_ref}
 use Rattle.lists.proofs.GatherLaws.{and_left, and_right}
-use Rattle.lists.proofs.BoolLaws.{not_true}
+use Rattle.lists.proofs.BoolLaws.{not-true}
 use Rattle.tree_laws.proofs.AddLaws.{ref_pos, ref_append}
 use Rattle.table_laws.specs.Model.{link_in}
 use Rattle.table_laws.proofs.Cites.{made_holds, ref_below, not_linked, above_root, above_same, above_call, over_holds, near_no_parent, near_no_child, near-linked, link_bounds, parent_word_lem}
@@ -63,9 +63,9 @@ goes_apart t n u c d s S h r small pos g =
     let l = and_right b (e && f) k in
     record {
       none = not_linked t n u c d s S h r small pos (sym (eqb-true w 0 (and_left a (b && (e && f)) g)));
-      inner = not_true (is_root c) (and_left e f l);
-      outer = not_true (is_root (stepped d c)) (and_left b (e && f) k);
-      parents = not_true (same (parent_of c) (parent_of (stepped d c))) (and_right e f l);
+      inner = not-true (is_root c) (and_left e f l);
+      outer = not-true (is_root (stepped d c)) (and_left b (e && f) k);
+      parents = not-true (same (parent_of c) (parent_of (stepped d c))) (and_right e f l);
     }
 
 pub climb_next : (S : State) (d : ℕ) (c : Corner) (level : ℕ) (a : Corner) → Climbed S d c level a → Apart S d a → Climbed S d c (suc level) (parent_of a)

@@ -20,7 +20,7 @@ use Rattle.grid.proofs.PathLaws.{size_of-parent_of, path_of-root, path_of_snoc, 
 use Rattle.layout.proofs.ChildLaws.{child_ref}
 use Rattle.lists.proofs.FindLaws.{find_pos, find-left, find_none, any_append, any_some}
 use Rattle.lists.proofs.GatherLaws.{and_left, and_right, add_cases, any→mem, mem→any, not_mem}
-use Rattle.lists.proofs.BoolLaws.{not_true, is_false}
+use Rattle.lists.proofs.BoolLaws.{not-true, is_false}
 use Rattle.tree.proofs.NodeLaws.{mem_path}
 use Rattle.tree.proofs.RefLaws.{not_any}
 use Rattle.tree_laws.proofs.LaterLaws.{later_new, later-none, find_snoc}
@@ -51,7 +51,7 @@ child_test-is a w x e =
     let p = same (parent_of x) a in
     let v = eqb (child_word x) w in
     let h = and_left (n && p) v e in
-    (not_true (is_root x) (and_left n p h), same_sound (parent_of x) a (and_right n p h), eqb-true (child_word x) w (and_right (n && p) v e))
+    (not-true (is_root x) (and_left n p h), same_sound (parent_of x) a (and_right n p h), eqb-true (child_word x) w (and_right (n && p) v e))
 
 -- no word but its own changes for a new node
 pub child_other : (ns : List Corner) (e a : Corner) (w : ℕ) → (a ≡ parent_of e → w ≡ child_word e → ⊥) → child_ref_of (ns ++ (e ∷ [])) a w ≡ child_ref_of ns a w

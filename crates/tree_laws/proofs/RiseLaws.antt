@@ -21,7 +21,7 @@ use Rattle.grid.proofs.ParentLaws.{parent_of-stepped}
 use Rattle.grid.proofs.PathLaws.{size_of-parent_of, root_of_size}
 use Rattle.grid.proofs.StepLaws.{stepped-back, stepped_ne}
 use Rattle.lists.proofs.GatherLaws.{and_left, and_right, any→mem, not_mem, mem-add_cases}
-use Rattle.lists.proofs.BoolLaws.{not_true}
+use Rattle.lists.proofs.BoolLaws.{not-true}
 use Rattle.tree.proofs.RefLaws.{not_any}
 use Rattle.tree_laws.specs.State.{WellLinked, links_up, is_fresh, but, risen_by}
 use Rattle.tree_laws.proofs.CountLaws.{within_parent}
@@ -72,9 +72,9 @@ module _ (L : Corner → Corner → ℕ) where
       let w = eqb (L (parent_of a) (parent_of e)) 0 in
       let i = and_left (x && y && z) w h in
       let j = and_left (x && y) z i in (
-        not_true (is_root a) (and_left x y j),
-        not_true (is_root e) (and_right x y j),
-        differ (parent_of a) (parent_of e) (not_true (same (parent_of a) (parent_of e)) (and_right (x && y) z i)),
+        not-true (is_root a) (and_left x y j),
+        not-true (is_root e) (and_right x y j),
+        differ (parent_of a) (parent_of e) (not-true (same (parent_of a) (parent_of e)) (and_right (x && y) z i)),
         eqb-true (L (parent_of a) (parent_of e)) 0 (and_right (x && y && z) w h),
       )
 

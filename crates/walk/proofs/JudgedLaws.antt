@@ -4,7 +4,7 @@ use mathlib.Core.Bool.{true, not, ◌&&◌}
 use mathlib.Core.List.{List, []}
 use mathlib.Core.Path.{◌≡◌, sym, ◌∙◌}
 use Prim.Native.Nat.{ℕ, ◌*◌, ◌≤◌}
-use borrow.Author.Tests.{ltb-false, eqb-true, not_false}
+use borrow.Author.Tests.{ltb-false, eqb-true, not-false}
 use lib.Dec.{eqb, ltb}
 use lib.ListN.{length}
 use Rattle.answer.specs.declared.Judged.TheVariants.{Good}
@@ -39,13 +39,13 @@ input_fits c os w m k e =
     let a = eqb m (mark_words * length os) in
     let b = eqb k (length os) in
     let h = clear (input_judgements c os w m k) e in
-    let r : a && b ≡ true = not_false (a && b) (when_good (not (a && b)) ResultRoom h.1.1.0) in
+    let r : a && b ≡ true = not-false (a && b) (when_good (not (a && b)) ResultRoom h.1.1.0) in
     record {
       few = ltb-false most_input (length os) (when_good (ltb most_input (length os)) TooMany h.0);
-      table = not_false (table_fits w) (when_good (not (table_fits w)) Table h.1.0);
+      table = not-false (table_fits w) (when_good (not (table_fits w)) Table h.1.0);
       marks = eqb-true m (mark_words * length os) (and_left a b r);
       chain = eqb-true k (length os) (and_right a b r);
-      start = fits_near c (not_false (start_fits c) (when_good (not (start_fits c)) StartRange h.1.1.1.0));
+      start = fits_near c (not-false (start_fits c) (when_good (not (start_fits c)) StartRange h.1.1.1.0));
       fine = h.1.1.1.1.0;
     }
 

@@ -17,7 +17,7 @@ use Rattle.lists.specs.Lists.{gather, tally}
 use Rattle.tree.specs.Nodes.{nodes_of, ref_of}
 use Rattle.tree_laws.specs.State.{State, state_of, table_by, links_up}
 use Rattle.grid.proofs.StepLaws.{end_from_snoc}
-use Rattle.lists.proofs.BoolLaws.{not_true}
+use Rattle.lists.proofs.BoolLaws.{not-true}
 use Rattle.lists.proofs.GatherLaws.{and_left, and_right}
 use Rattle.tree_laws.proofs.PushLaws.{push_nodes, sound_walk, finish_node}
 use Rattle.table_laws.proofs.ChangeLaws.{after}
@@ -97,7 +97,7 @@ module _ (c : Corner) (ds : List ℕ) (d : ℕ) (small : d < 4) where
       -- one level up
       module _ (h : (not (eqb (get_or t (word_at u parent_word) 0) 0) && eqb (get_or t (word_at (get_or t (word_at u parent_word) 0 - 1) (link_word d)) 0) w.steps) ≡ true) where
         parent : 0 < get_or t (word_at u parent_word) 0
-        parent = some (get_or t (word_at u parent_word) 0) (not_true (eqb (get_or t (word_at u parent_word) 0) 0) (and_left (not (eqb (get_or t (word_at u parent_word) 0) 0)) (eqb (get_or t (word_at (get_or t (word_at u parent_word) 0 - 1) (link_word d)) 0) w.steps) h))
+        parent = some (get_or t (word_at u parent_word) 0) (not-true (eqb (get_or t (word_at u parent_word) 0) 0) (and_left (not (eqb (get_or t (word_at u parent_word) 0) 0)) (eqb (get_or t (word_at (get_or t (word_at u parent_word) 0 - 1) (link_word d)) 0) w.steps) h))
           where
             some : (x : ℕ) → eqb x 0 ≡ false → 0 < x
             some x q = omega (arith, eqb-false x 0 q)

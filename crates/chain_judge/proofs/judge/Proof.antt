@@ -1,7 +1,7 @@
 -- `chain_judge::judge` meets its contract.
 -- Assumes nothing.
 use borrow.Author.Rules.{rules}
-use borrow.Author.Tests.{not_true, not_false}
+use borrow.Author.Tests.{not-true, not-false}
 use mathlib.Core.Path.{sym, ◌∙◌}
 use Rattle.steps.proofs.ChainLaws.{walk_many, walk_start, walk_chain}
 use Rattle.chain_judge.proofs.judge.Statement.{statement}
@@ -15,7 +15,7 @@ returns-2 c =
     let at-if1 = c.before.before in
     let a = at-if1.before.before.args in
     let f = c.before.start-fits in
-    sym (walk_start a.start a.chain.now at-if1.if1.false (sym f.ensures ∙ not_true f.result c.if2.true))
+    sym (walk_start a.start a.chain.now at-if1.if1.false (sym f.ensures ∙ not-true f.result c.if2.true))
 
 returns-3 : tie.Need-returns-3
 returns-3 c =
@@ -24,7 +24,7 @@ returns-3 c =
     let f = at-start-fits.start-fits in
     c.judge-steps.ensures
     ∙ sym (walk_chain a.start a.chain.now at-if1.if1.false
-    (sym f.ensures ∙ not_false f.result c.before.if2.false))
+    (sym f.ensures ∙ not-false f.result c.before.if2.false))
 
 pub judge-spec : {M : Type 1} → statement M
 judge-spec = tie.close (tie.spec returns (λ c κs. search rules) returns-2 (λ c κs. search rules) returns-3)

@@ -5,7 +5,7 @@ use native.Mathlib.Omega.{arith}
 use mathlib.Core.Path.{◌≡◌, refl, sym, ◌∙◌}
 use Prim.Native.Nat.{◌+◌, ◌-◌, ◌≤◌}
 use lib.ListN.{length, drop}
-use Rattle.lists.proofs.BoolLaws.{not_true, not_false}
+use Rattle.lists.proofs.BoolLaws.{not-true, not-false}
 use Rattle.convex_laws.specs.Level.{level_along}
 use Rattle.convex_part.proofs.PassLaws.{along_here, along-next, along-none}
 use Rattle.convex_part.proofs.along.Statement.{statement}
@@ -38,7 +38,7 @@ returns c =
     let a = at-start.args in
     along_here a.ys.now a.s.now l.q at_wide.wide.result at-wide2.wide2.result (omega arith)
     at_wide.wide.ensures.0 at-wide2.wide2.ensures.0
-    (sym at_Edge.edge.ensures ∙ not_true at_Edge.edge.result c.if1.true) ∙ l.invariant.2
+    (sym at_Edge.edge.ensures ∙ not-true at_Edge.edge.result c.if1.true) ∙ l.invariant.2
 
 loop-again : tie.Need-loop-preserved invariant-loop decreases-loop
 loop-again c =
@@ -50,7 +50,7 @@ loop-again c =
       omega arith,
       along-next a.ys.now a.s.now l.q at_wide.wide.result at-wide2.wide2.result (omega arith)
           at_wide.wide.ensures.0 at-wide2.wide2.ensures.0
-          (sym at_Edge.edge.ensures ∙ not_false at_Edge.edge.result c.if1.false) ∙ l.invariant.2,
+          (sym at_Edge.edge.ensures ∙ not-false at_Edge.edge.result c.if1.false) ∙ l.invariant.2,
     )
 
 returns-2 : tie.Need-returns-2 invariant-loop decreases-loop

@@ -4,7 +4,7 @@ use borrow.Author.Rules.{rules}
 use native.Mathlib.Omega.{arith}
 use mathlib.Core.Path.{◌≡◌, refl, sym, ◌∙◌}
 use Prim.Native.Nat.{◌+◌, ◌-◌, ◌≤◌}
-use Rattle.lists.proofs.BoolLaws.{not_true, not_false}
+use Rattle.lists.proofs.BoolLaws.{not-true, not-false}
 use Rattle.convex_laws.specs.Level.{levels}
 use Rattle.convex_part.proofs.PassLaws.{levels_here, levels-next, levels-none}
 use Rattle.convex_part.proofs.edge.Statement.{statement}
@@ -28,14 +28,14 @@ returns c =
     let l = at-loop.loop in
     let a = at-loop.before.before.args in
     sym (levels_here a.ys.now a.p a.b l.c (omega arith)
-    (sym at-stands.stands.ensures ∙ not_true at-stands.stands.result c.if1.true)) ∙ l.invariant.2
+    (sym at-stands.stands.ensures ∙ not-true at-stands.stands.result c.if1.true)) ∙ l.invariant.2
 
 loop-again : tie.Need-loop-preserved invariant-loop decreases-loop
 loop-again c =
     let at-stands = c.before in let at-loop = at-stands.before.before in
     let l = at-loop.loop in
     let a = at-loop.before.before.args in
-    (omega (arith, l.invariant.0), omega arith, levels-next a.ys.now a.p a.b l.c (omega arith) (sym at-stands.stands.ensures ∙ not_false at-stands.stands.result c.if1.false) ∙ l.invariant.2)
+    (omega (arith, l.invariant.0), omega arith, levels-next a.ys.now a.p a.b l.c (omega arith) (sym at-stands.stands.ensures ∙ not-false at-stands.stands.result c.if1.false) ∙ l.invariant.2)
 
 returns-2 : tie.Need-returns-2 invariant-loop decreases-loop
 returns-2 c =

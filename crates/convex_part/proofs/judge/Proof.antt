@@ -5,7 +5,7 @@ use native.Mathlib.Omega.{arith}
 use mathlib.Core.Path.{sym, ◌∙◌}
 use lib.ListN.{length, take}
 use lib.Seq.{length-take-le}
-use Rattle.lists.proofs.BoolLaws.{not_true, not_false}
+use Rattle.lists.proofs.BoolLaws.{not-true, not-false}
 use Rattle.convex.specs.Parts.{turned_by}
 use Rattle.convex_part.proofs.PassLaws.{length-turned, judge_letters, judge_columns}
 use Rattle.convex_part.proofs.judge.Statement.{statement}
@@ -16,7 +16,7 @@ returns c =
     let at_plain = c.before in let at-start = at_plain.before.before.before.before in
     let a = at-start.args in
     judge_letters (turned_by a.turn a.part.now)
-    (sym at_plain.plain.ensures ∙ not_true at_plain.plain.result c.if1.true)
+    (sym at_plain.plain.ensures ∙ not-true at_plain.plain.result c.if1.true)
 
 slice-aggregate-columns : tie.Need-slice-aggregate-columns
 slice-aggregate-columns c =
@@ -42,7 +42,7 @@ returns-2 c =
     let a = at-start.args in
     let e = at-columns.columns.ensures in
     e ∙ judge_columns (turned_by a.turn a.part.now) (take d.result d.new.1.1.0) (length a.part.now)
-    (sym p.ensures ∙ not_false p.result i.false) (sym (length-turned a.turn a.part.now)) d.ensures.0
+    (sym p.ensures ∙ not-false p.result i.false) (sym (length-turned a.turn a.part.now)) d.ensures.0
 
 pub judge-spec : {M : Type 1} → statement M
 judge-spec =

@@ -3,7 +3,7 @@
 use mathlib.Core.Path.{sym, ◌∙◌, subst}
 use mathlib.Core.List.{List}
 use Prim.Native.Nat.{ℕ}
-use borrow.Author.Tests.{not_true}
+use borrow.Author.Tests.{not-true}
 use borrow.Author.Rules.{rules}
 use Rattle.line_fields.specs.Put.{Wrote}
 use Rattle.line_frame.specs.declared.Frame.TheVariants.{Of, Bad}
@@ -20,7 +20,7 @@ returns c =
     let r = at_copy.copy in
     let a = at-start.args in
     subst (λ (l : List ℕ). Wrote l a.at a.out.now r.result r.new.1.0)
-    (other_stays a.s.now at-if1.before.names-turns.ensures (not_true _ at-if1.if1.true)) r.ensures
+    (other_stays a.s.now at-if1.before.names-turns.ensures (not-true _ at-if1.if1.true)) r.ensures
 
 convert-kind-requires : tie.Need-convert-kind-requires
 convert-kind-requires c κs =

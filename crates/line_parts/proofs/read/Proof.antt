@@ -2,7 +2,7 @@
 -- Assumes nothing.
 use mathlib.Core.Path.{ap, sym, ◌∙◌}
 use native.Mathlib.Omega.{arith}
-use borrow.Author.Tests.{not_true, not_false}
+use borrow.Author.Tests.{not-true, not-false}
 use borrow.Author.Rules.{rules}
 use Rattle.line_frame.specs.Line.{kind_named}
 use Rattle.line_frame.proofs.LineLaws.{frame_of-short, frame_of-long, frame_of_digit, frame_of_kind, frame_of_size, frame_of_frame}
@@ -20,10 +20,10 @@ returns-2 c =
 returns-3 : tie.Need-returns-3
 returns-3 c =
     let at-start = c.before.before.before.before.before in
-    frame_of_digit at-start.args.s.now (sym c.before.all-hex.ensures ∙ not_true _ c.if3.true)
+    frame_of_digit at-start.args.s.now (sym c.before.all-hex.ensures ∙ not-true _ c.if3.true)
 
 kind-requires : tie.Need-kind-requires
-kind-requires c κs = (sym c.before.all-hex.ensures ∙ not_false _ c.if3.false, omega arith)
+kind-requires c κs = (sym c.before.all-hex.ensures ∙ not-false _ c.if3.false, omega arith)
 
 returns-4 : tie.Need-returns-4
 returns-4 c =
@@ -33,7 +33,7 @@ returns-4 c =
 count-requires : tie.Need-count-requires
 count-requires c κs =
     let at-if3 = c.before.before in
-    (sym at-if3.before.all-hex.ensures ∙ not_false _ at-if3.if3.false, omega arith)
+    (sym at-if3.before.all-hex.ensures ∙ not-false _ at-if3.if3.false, omega arith)
 
 returns-5 : tie.Need-returns-5
 returns-5 c =
@@ -45,7 +45,7 @@ returns-6 c =
     let at-if5 = c.before in let at_count = at-if5.before in let at-kind = at_count.before.before in
     let at-all-hex = at-kind.before.before in let at-start = at-all-hex.before.before.before.before in
     frame_of_frame at-start.args.s.now c.named.result at_count.count.result
-    (sym at-all-hex.all-hex.ensures ∙ not_false _ at-kind.before.if3.false) (omega (arith, at-kind.kind.ensures))
+    (sym at-all-hex.all-hex.ensures ∙ not-false _ at-kind.before.if3.false) (omega (arith, at-kind.kind.ensures))
     (omega (arith, at-if5.if5.false)) (omega (arith, at-if5.if5.false))
     (c.named.ensures ∙ ap kind_named at-kind.kind.ensures) at_count.count.ensures
 

@@ -1,7 +1,7 @@
 -- `outline_call::write_on` meets its contract.
 -- Assumes nothing.
 use borrow.Author.Rules.{rules}
-use borrow.Author.Tests.{not_true, not_false}
+use borrow.Author.Tests.{not-true, not-false}
 use mathlib.Core.Path.{refl}
 use native.Mathlib.Omega.{arith}
 use Rattle.grid.specs.Grid.{origin}
@@ -40,7 +40,7 @@ returns : tie.Need-returns
 returns c =
     let at-start = c.before.before.before.before.before.before.before.before.before.before.before.before.before.before.before in
     let f = c.before.fits2 in traced_refused at-start.args.chain.now at-start.args.out.now f.result f.ensures
-    (not_true f.result c.if1.true)
+    (not-true f.result c.if1.true)
 
 put-requires : tie.Need-put-requires
 put-requires c κs =
@@ -48,7 +48,7 @@ put-requires c κs =
     let at_mark = at-first-way.before.before.before.before in
     let at-start = at_mark.before.before.before.before.before.before.before in
     let f = at-if1.before.fits2 in
-    (map-ring _ _ _ _ _ at-start.requires.0.some at-start.requires.0.steady.short refl at_mark.mark.ensures at-first-way.first_way.ensures, fits_of at-start.args.chain.now at-start.args.out.now f.result f.ensures (not_false f.result at-if1.if1.false))
+    (map-ring _ _ _ _ _ at-start.requires.0.some at-start.requires.0.steady.short refl at_mark.mark.ensures at-first-way.first_way.ensures, fits_of at-start.args.chain.now at-start.args.out.now f.result f.ensures (not-false f.result at-if1.if1.false))
 
 returns-2 : tie.Need-returns-2
 returns-2 c =
@@ -57,7 +57,7 @@ returns-2 c =
     let f = at-if1.before.fits2 in
     let p = at-put.put in
     let h = fits_of at-start.args.chain.now at-start.args.out.now f.result f.ensures
-    (not_false f.result at-if1.if1.false) in
+    (not-false f.result at-if1.if1.false) in
     traced_written at-start.args.chain.now at-start.args.out.now _ p.result p.ensures.0
     (omega (arith, h origin, p.ensures.0 origin)) p.ensures.1
 

@@ -1,7 +1,7 @@
 -- `room_map::is_room_in` meets its contract.
 -- Assumes nothing.
 use Rattle.std.proofs.Common.{subst, arith, rules}
-use Rattle.lists.proofs.BoolLaws.{not_true, not_false}
+use Rattle.lists.proofs.BoolLaws.{not-true, not-false}
 use Rattle.room_thread_laws.specs.Threads.{Closes}
 use Rattle.room_thread_laws.proofs.RoomLaws.{told_short}
 use Rattle.room_map.proofs.MapLaws.{size_few, box_fits, box_told, box_open}
@@ -16,7 +16,7 @@ returns-2 c =
     let at-start = c.before.before.before.before in
     let r = at-start.args.b in
     box_open at-start.args.chain.now at-start.requires.0 r.width r.height r.from r.closed at-start.requires.1
-    (not_true r.closed c.if2.true)
+    (not-true r.closed c.if2.true)
 
 mul-size : tie.Need-overflow-mul-size
 mul-size c =
@@ -36,7 +36,7 @@ returns-3 c =
     let at-if2 = c.before.before.before in let at-start = at-if2.before.before.before.before in
     let r = at-start.args.b in
     box_told at-start.args.chain.now at-start.requires.0 r.width r.height r.from r.closed at-start.requires.1
-    c.lone-small.result (omega arith) (not_false r.closed at-if2.if2.false) c.lone-small.ensures
+    c.lone-small.result (omega arith) (not-false r.closed at-if2.if2.false) c.lone-small.ensures
 
 lone-narrow-requires : tie.Need-lone-narrow-requires
 lone-narrow-requires c κs =
@@ -50,7 +50,7 @@ returns-4 c =
     let at-if2 = c.before.before.before.before in let at-start = at-if2.before.before.before.before in
     let r = at-start.args.b in
     box_told at-start.args.chain.now at-start.requires.0 r.width r.height r.from r.closed at-start.requires.1
-    c.lone-narrow.result (omega arith) (not_false r.closed at-if2.if2.false) c.lone-narrow.ensures
+    c.lone-narrow.result (omega arith) (not-false r.closed at-if2.if2.false) c.lone-narrow.ensures
 
 lone-wider-requires : tie.Need-lone-wider-requires
 lone-wider-requires c κs =
@@ -64,7 +64,7 @@ returns-5 c =
     let at-if2 = c.before.before.before.before.before.before in let at-start = at-if2.before.before.before.before in
     let r = at-start.args.b in
     box_told at-start.args.chain.now at-start.requires.0 r.width r.height r.from r.closed at-start.requires.1
-    c.lone-wider.result (omega arith) (not_false r.closed at-if2.if2.false) c.lone-wider.ensures
+    c.lone-wider.result (omega arith) (not-false r.closed at-if2.if2.false) c.lone-wider.ensures
 
 lone-widest-requires : tie.Need-lone-widest-requires
 lone-widest-requires c κs =
@@ -79,13 +79,13 @@ returns-6 c =
     let at-start = at-if2.before.before.before.before in
     let r = at-start.args.b in
     box_told at-start.args.chain.now at-start.requires.0 r.width r.height r.from r.closed at-start.requires.1
-    c.lone-widest.result (omega arith) (not_false r.closed at-if2.if2.false) c.lone-widest.ensures
+    c.lone-widest.result (omega arith) (not-false r.closed at-if2.if2.false) c.lone-widest.ensures
 
 is-room-requires : tie.Need-is-room-requires
 is-room-requires c κs =
     let at-if2 = c.before.before.before.before in let at-start = at-if2.before.before.before.before in
     let r = at-start.args.b in
-    (omega arith, at-start.requires.0.short, subst (Closes at-start.args.chain.now) (not_false r.closed at-if2.if2.false) at-start.requires.1.round, at-start.requires.0.digits)
+    (omega arith, at-start.requires.0.short, subst (Closes at-start.args.chain.now) (not-false r.closed at-if2.if2.false) at-start.requires.1.round, at-start.requires.0.digits)
 
 pub is-room-in-spec : {M : Type 1} → statement M
 is-room-in-spec =

@@ -6,7 +6,7 @@ use mathlib.Core.Path.{◌≡◌, refl, sym, ◌∙◌, subst}
 use mathlib.Core.Bool.{Bool}
 use Prim.Native.Nat.{◌+◌, ◌-◌, ◌≤◌}
 use lib.ListN.{length, get_or}
-use Rattle.lists.proofs.BoolLaws.{not_true, not_false}
+use Rattle.lists.proofs.BoolLaws.{not-true, not-false}
 use Rattle.room_thread_laws.specs.Threads.{Leads, ThreadFollowed, Parting}
 use Rattle.room_thread_laws.proofs.ThreadLaws.{part_start, part_step, part_twice, part_end}
 use Rattle.room_threads.proofs.apart.Statement.{statement}
@@ -38,7 +38,7 @@ returns c =
     let f = at-follow.follow in
     part_twice a.head.now a.next.now a.hs.now l.c l.stamps f.new.1.1.1.1.0 l.invariant.2 (omega arith)
     (subst (λ (b : Bool). ThreadFollowed a.next.now a.hs.now l.stamps (l.c + 1) (get_or a.head.now l.c 0) b
-    f.new.1.1.1.1.0) (not_true f.result c.if1.true) f.ensures)
+    f.new.1.1.1.1.0) (not-true f.result c.if1.true) f.ensures)
 
 loop-again : tie.Need-loop-preserved invariant-loop decreases-loop
 loop-again c =
@@ -51,7 +51,7 @@ loop-again c =
       f.auto.1.1.1.1.0 ∙ l.invariant.1,
       part_step a.head.now a.next.now a.hs.now l.c l.stamps f.new.1.1.1.1.0 l.invariant.2 (omega arith)
           (subst (λ (b : Bool). ThreadFollowed a.next.now a.hs.now l.stamps (l.c + 1) (get_or a.head.now l.c 0) b
-          f.new.1.1.1.1.0) (not_false f.result c.if1.false) f.ensures),
+          f.new.1.1.1.1.0) (not-false f.result c.if1.false) f.ensures),
     )
 
 returns-2 : tie.Need-returns-2 invariant-loop decreases-loop

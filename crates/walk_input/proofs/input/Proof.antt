@@ -3,7 +3,7 @@
 use mathlib.Core.Path.{sym, ◌∙◌}
 use native.Mathlib.Omega.{arith}
 use borrow.Author.Rules.{rules}
-use borrow.Author.Tests.{not_true, not_false}
+use borrow.Author.Tests.{not-true, not-false}
 use Rattle.walk_input.proofs.JudgeLaws.{input_many, input_table, input_marks, input_chain, input_start, input_rest}
 use Rattle.walk_input.proofs.input.Statement.{statement}
 use Rattle.walk_input.proofs.input.Tie as tie
@@ -20,7 +20,7 @@ returns-2 c =
     let a = at-start.args in
     let t = c.before.table in
     input_table a.start a.ops.now a.words a.marks a.chain (omega arith)
-    (sym t.ensures ∙ not_true t.result c.if2.true)
+    (sym t.ensures ∙ not-true t.result c.if2.true)
 
 returns-3 : tie.Need-returns-3
 returns-3 c =
@@ -28,7 +28,7 @@ returns-3 c =
     let a = at-start.args in
     let t = at_table.table in
     input_marks a.start a.ops.now a.words a.marks a.chain (omega arith)
-    (sym t.ensures ∙ not_false t.result c.before.if2.false) c.if3.true
+    (sym t.ensures ∙ not-false t.result c.before.if2.false) c.if3.true
 
 returns-4 : tie.Need-returns-4
 returns-4 c =
@@ -36,7 +36,7 @@ returns-4 c =
     let a = at-start.args in
     let t = at_table.table in
     input_chain a.start a.ops.now a.words a.marks a.chain (omega arith)
-    (sym t.ensures ∙ not_false t.result at-if2.if2.false) c.before.if3.false c.if4.true
+    (sym t.ensures ∙ not-false t.result at-if2.if2.false) c.before.if3.false c.if4.true
 
 returns-5 : tie.Need-returns-5
 returns-5 c =
@@ -46,8 +46,8 @@ returns-5 c =
     let t = at_table.table in
     let f = c.before.start-fits in
     input_start a.start a.ops.now a.words a.marks a.chain (omega arith)
-    (sym t.ensures ∙ not_false t.result at-if3.before.if2.false) at-if3.if3.false at-if4.if4.false
-    (sym f.ensures ∙ not_true f.result c.if5.true)
+    (sym t.ensures ∙ not-false t.result at-if3.before.if2.false) at-if3.if3.false at-if4.if4.false
+    (sym f.ensures ∙ not-true f.result c.if5.true)
 
 operations-requires : tie.Need-operations-requires
 operations-requires c κs = tt
@@ -60,8 +60,8 @@ returns-6 c =
     let t = at_table.table in
     let f = at-start-fits.start-fits in
     c.operations.ensures ∙ input_rest a.start a.ops.now a.words a.marks a.chain (omega arith)
-    (sym t.ensures ∙ not_false t.result at-if2.if2.false) at-if4.before.if3.false at-if4.if4.false
-    (sym f.ensures ∙ not_false f.result c.before.if5.false)
+    (sym t.ensures ∙ not-false t.result at-if2.if2.false) at-if4.before.if3.false at-if4.if4.false
+    (sym f.ensures ∙ not-false f.result c.before.if5.false)
 
 pub input-spec : {M : Type 1} → statement M
 input-spec = tie.close (tie.spec returns table-requires returns-2 (λ c. search rules) returns-3 returns-4 (λ c κs. search rules) returns-5 operations-requires returns-6)

@@ -5,7 +5,7 @@ use mathlib.Core.Path.{◌≡◌, sym, subst, ◌∙◌}
 use Prim.Native.Nat.{◌<◌}
 use native.Mathlib.Omega.{arith}
 use borrow.Author.Rules.{rules}
-use borrow.Author.Tests.{not_true, not_false}
+use borrow.Author.Tests.{not-true, not-false}
 use Rattle.grid.specs.declared.Corner.{Corner}
 use Rattle.grid.specs.Tree.{parent_of, is_root, size_of}
 use Rattle.grid.proofs.PathLaws.{size_of-parent_of}
@@ -37,14 +37,14 @@ loop-less c =
     let at-is-root = c.before.before in
     let l = at-is-root.before.loop in
     less l.at c.parent_of.result
-    (sym at-is-root.is-root.ensures ∙ not_true at-is-root.is-root.result c.before.if1.true) c.parent_of.ensures
+    (sym at-is-root.is-root.ensures ∙ not-true at-is-root.is-root.result c.before.if1.true) c.parent_of.ensures
 
 loop-again : tie.Need-loop-preserved invariant-loop decreases-loop
 loop-again c =
     let at-is-root = c.before.before in
     let l = at-is-root.before.loop in
     climb_next at-is-root.before.before.args.c l.at c.parent_of.result l.levels l.invariant
-    (sym at-is-root.is-root.ensures ∙ not_true at-is-root.is-root.result c.before.if1.true) c.parent_of.ensures
+    (sym at-is-root.is-root.ensures ∙ not-true at-is-root.is-root.result c.before.if1.true) c.parent_of.ensures
 
 returns : tie.Need-returns invariant-loop decreases-loop
 returns c =
@@ -52,7 +52,7 @@ returns c =
     let l = at-is-root.before.loop in
     let r = at-is-root.is-root in
     climb_end at-is-root.before.before.args.c l.at l.levels l.invariant
-    (sym r.ensures ∙ not_false r.result c.if1.false)
+    (sym r.ensures ∙ not-false r.result c.if1.false)
 
 pub depth-spec : {M : Type 1} → statement M
 depth-spec =
