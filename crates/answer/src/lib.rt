@@ -9,7 +9,7 @@ ghost use Rattle.answer.specs.Refusal.{refusal_number, refusal_place, verdict_nu
 use grid::Corner;
 
 // Why a call is refused; a place counts from 0 in the input.
-#[derive(Drop)]
+#[derive(Clone, Copy)]
 pub enum Refusal {
     TooMany,
     Table,
@@ -36,14 +36,14 @@ pub enum Refusal {
 }
 
 // Whether there is a refusal.
-#[derive(Drop)]
+#[derive(Clone, Copy)]
 pub enum Judged {
     Good,
     Refused(Refusal),
 }
 
 // What the surviving steps make of the walk.
-#[derive(Drop)]
+#[derive(Clone, Copy)]
 pub enum Verdict {
     Nowhere,
     Open,
@@ -54,7 +54,7 @@ pub enum Verdict {
 }
 
 // The facts of an accepted walk: j and k are the first meeting, 65,535 twice if there is none.
-#[derive(Drop)]
+#[derive(Clone, Copy)]
 pub struct Facts {
     pub verdict: Verdict,
     pub steps: usize,
@@ -67,21 +67,21 @@ pub struct Facts {
 }
 
 // The answer to a walk.
-#[derive(Drop)]
+#[derive(Clone, Copy)]
 pub enum Answer {
     Accepted(Facts),
     Refused(Refusal),
 }
 
 // The answer of a call that counts: how many corners, steps, bytes or spans there are; or 1 for yes and 0 for no.
-#[derive(Drop)]
+#[derive(Clone, Copy)]
 pub enum Counted {
     Many(usize),
     Refused(Refusal),
 }
 
 // The facts of one party's walk in a table that two parties share.
-#[derive(Drop)]
+#[derive(Clone, Copy)]
 pub struct PartyFacts {
     pub verdict: Verdict,
     pub steps: usize,
@@ -93,7 +93,7 @@ pub struct PartyFacts {
 }
 
 // The facts of an accepted call of two parties: the nodes that either needs, once, and what each party has.
-#[derive(Drop)]
+#[derive(Clone, Copy)]
 pub struct PairFacts {
     pub nodes: usize,
     pub first: PartyFacts,
@@ -101,7 +101,7 @@ pub struct PairFacts {
 }
 
 // The answer to two parties.
-#[derive(Drop)]
+#[derive(Clone, Copy)]
 pub enum PairAnswer {
     Accepted(PairFacts),
     Refused(Refusal),
@@ -182,7 +182,7 @@ pub fn verdict_number(v: Verdict) -> usize
 }
 
 // The limits of the calls.
-#[derive(Drop)]
+#[derive(Clone, Copy)]
 pub struct Limits;
 
 impl Limits {
@@ -200,7 +200,7 @@ impl Limits {
 }
 
 // The start of a walk.
-#[derive(Drop)]
+#[derive(Clone, Copy)]
 pub struct Start;
 
 impl Start {

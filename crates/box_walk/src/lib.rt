@@ -11,7 +11,7 @@ use order::{greater, lesser};
 
 // How many columns and how many rows of corners the box has, the place of the walk's start in it, and whether the walk ends
 // there.
-#[derive(Drop)]
+#[derive(Clone, Copy)]
 pub struct WalkBox {
     pub width: usize,
     pub height: usize,

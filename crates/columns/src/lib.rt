@@ -8,7 +8,7 @@ ghost use Rattle.columns.specs.Steps.{east_steps, north_steps};
 use answer::Limits;
 
 // The columns that a walk may go through, and the heights of its corners. Its start stands in the middle of both.
-#[derive(Drop)]
+#[derive(Clone, Copy)]
 pub struct Columns;
 
 impl Columns {

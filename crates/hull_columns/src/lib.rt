@@ -12,7 +12,7 @@ use columns::{Columns, across, upward};
 use order::{greater, lesser};
 
 // The westmost and the eastmost column of a walk.
-#[derive(Drop)]
+#[derive(Clone, Copy)]
 pub struct Extent {
     pub west: usize,
     pub east: usize,

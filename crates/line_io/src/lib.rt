@@ -19,7 +19,7 @@ use sheet::Margin;
 use sheet_number::{Numbered, number};
 
 // Where the sheet stands after bytes were passed on; or a write failed.
-#[derive(Drop)]
+#[derive(Clone, Copy)]
 enum Sent {
     At(Margin),
     Unwritten,
@@ -88,7 +88,7 @@ fn send(task: Task, m: Margin, s: &[u8], page: &mut [u8]) -> Sent
 
 // After a round: how far the chunk was passed, how many bytes it has, and where the sheet stands; or the input is over with this
 // many bytes of a line held; or a read or a write failed.
-#[derive(Drop)]
+#[derive(Clone, Copy)]
 enum Round {
     More(Progress, usize, Margin),
     Over(usize),
@@ -97,7 +97,7 @@ enum Round {
 }
 
 // How a program ended: all was read and written, or a read or a write failed.
-#[derive(Drop)]
+#[derive(Clone, Copy)]
 enum Ending {
     Whole,
     Unread,

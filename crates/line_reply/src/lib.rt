@@ -22,7 +22,7 @@ use walk_step::Walk;
 use walk_table::Record;
 
 // The buffers in which lines are judged.
-#[derive(Drop)]
+#[derive(Clone, Copy)]
 pub struct Desk;
 
 impl Desk {

@@ -12,7 +12,7 @@ use line_frame::Frame;
 use order::lesser;
 
 // After a call: this many bytes of the line begun are held, the chunk was passed up to at, and the output up to used is written.
-#[derive(Drop)]
+#[derive(Clone, Copy)]
 pub struct Progress {
     pub held: usize,
     pub at: usize,

@@ -20,7 +20,7 @@ use order::lesser;
 use sheet_entry::{Entry, enter};
 
 // What a program does with the lines of its input.
-#[derive(Drop)]
+#[derive(Clone, Copy)]
 pub enum Task {
     Answer,
     Convert,

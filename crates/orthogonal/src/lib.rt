@@ -5,7 +5,7 @@ use answer::Refusal;
 use grid::Corner;
 
 // The outline of a hull: how many steps it has, where it starts, and how many blocks are inside.
-#[derive(Drop)]
+#[derive(Clone, Copy)]
 pub struct Enclosed {
     pub steps: usize,
     pub start: Corner,
@@ -13,7 +13,7 @@ pub struct Enclosed {
 }
 
 // The grid sizes that are accepted.
-#[derive(Drop)]
+#[derive(Clone, Copy)]
 pub struct Grid;
 
 impl Grid {
@@ -22,7 +22,7 @@ impl Grid {
 }
 
 // The answer of the call.
-#[derive(Drop)]
+#[derive(Clone, Copy)]
 pub enum Orthogonal {
     Outlined(Enclosed),
     Refused(Refusal),

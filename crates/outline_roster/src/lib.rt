@@ -10,14 +10,14 @@ ghost use Rattle.outline_roster.specs.Tree.{seek_from, Tree, Seated};
 use order::wide;
 
 // Where the way down ends: at the node of the key, or at a child that is not there.
-#[derive(Drop)]
+#[derive(Clone, Copy)]
 pub enum Sought {
     Node(usize),
     Free(usize),
 }
 
 // The node of a key, and how many nodes there are then.
-#[derive(Drop)]
+#[derive(Clone, Copy)]
 pub struct Seat {
     pub node: usize,
     pub used: usize,

@@ -4,7 +4,7 @@
 use answer::Refusal;
 
 // In the first room only, in the second only, in both.
-#[derive(Drop)]
+#[derive(Clone, Copy)]
 pub enum Part {
     First,
     Second,
@@ -12,14 +12,14 @@ pub enum Part {
 }
 
 // How many panels a part has, and how many spans.
-#[derive(Drop)]
+#[derive(Clone, Copy)]
 pub struct Measure {
     pub panels: usize,
     pub spans: usize,
 }
 
 // That of each part.
-#[derive(Drop)]
+#[derive(Clone, Copy)]
 pub struct Measures {
     pub first: Measure,
     pub second: Measure,
@@ -27,7 +27,7 @@ pub struct Measures {
 }
 
 // The answer of the call.
-#[derive(Drop)]
+#[derive(Clone, Copy)]
 pub enum Overlaid {
     Listed(Measures),
     Refused(Refusal),

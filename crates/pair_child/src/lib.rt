@@ -11,14 +11,14 @@ use pair_words::{has_record, need, own, put, word};
 use walk_table::Record;
 
 // What is in use: how many nodes, and a record before which no record is free.
-#[derive(Drop)]
+#[derive(Clone, Copy)]
 pub struct Stock {
     pub nodes: usize,
     pub low: usize,
 }
 
 // A node by its ref, 0 if the table is full, and what is in use then.
-#[derive(Drop)]
+#[derive(Clone, Copy)]
 pub struct Located {
     pub at: usize,
     pub stock: Stock,

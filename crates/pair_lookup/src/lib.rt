@@ -21,7 +21,7 @@ use pair_words::{link, own, word};
 use walk_table::Record;
 
 // Where a climb stops: a node, its corner, and how many levels up it is.
-#[derive(Drop)]
+#[derive(Clone, Copy)]
 struct Ledge {
     node: usize,
     at: Corner,

@@ -22,7 +22,7 @@ use walk_step::Tally;
 use walk_table::Record;
 
 // Where a party stands: the node's number and its corner, how many of its steps survive, and its tally.
-#[derive(Drop)]
+#[derive(Clone, Copy)]
 pub struct Party {
     pub node: usize,
     pub at: Corner,
@@ -50,14 +50,14 @@ impl Party {
 }
 
 // A party after an operation, and what is in use then.
-#[derive(Drop)]
+#[derive(Clone, Copy)]
 pub struct Stride {
     pub party: Party,
     pub stock: Stock,
 }
 
 // What came of a step: the party stands there, or the table is full.
-#[derive(Drop)]
+#[derive(Clone, Copy)]
 pub enum Strode {
     To(Stride),
     Full,

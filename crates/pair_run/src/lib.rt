@@ -20,7 +20,7 @@ use walk_step::Walk;
 use walk_table::Record;
 
 // Both parties, and what is in use.
-#[derive(Drop)]
+#[derive(Clone, Copy)]
 pub struct Pair {
     pub first: Party,
     pub second: Party,
@@ -28,21 +28,21 @@ pub struct Pair {
 }
 
 // Both parties after all operations, or the place of the first for which the table is too small.
-#[derive(Drop)]
+#[derive(Clone, Copy)]
 pub enum Course {
     All(Pair),
     Full(usize),
 }
 
 // A party after an operation, what is in use then, and how many records changed.
-#[derive(Drop)]
+#[derive(Clone, Copy)]
 struct Turn {
     stride: Stride,
     changed: u32,
 }
 
 // What came of an operation of a party.
-#[derive(Drop)]
+#[derive(Clone, Copy)]
 enum Acted {
     To(Turn),
     Full,

@@ -8,7 +8,7 @@ use grid::Corner;
 pub const BIG_PREFIX: [u8; 9] = *b"\x00\x00\x00\x00\x03\x00\x00\x00\x01";
 
 // A point of a ring, until it is judged.
-#[derive(Drop)]
+#[derive(Clone, Copy)]
 pub struct Point {
     pub x: f64,
     pub y: f64,
@@ -22,21 +22,21 @@ impl Point {
 }
 
 // What a float is as a corner's coordinate.
-#[derive(Drop)]
+#[derive(Clone, Copy)]
 pub enum Whole {
     Of(i32),
     Refused,
 }
 
 // What a point is as a corner: its x and y.
-#[derive(Drop)]
+#[derive(Clone, Copy)]
 pub enum GridPoint {
     At(i32, i32),
     Faulty,
 }
 
 // The order of a polygon's bytes.
-#[derive(Drop)]
+#[derive(Clone, Copy)]
 pub enum Order {
     Little,
     Big,
@@ -44,14 +44,14 @@ pub enum Order {
 }
 
 // A walk out of a polygon: where it starts, and how many steps it has.
-#[derive(Drop)]
+#[derive(Clone, Copy)]
 pub struct Found {
     pub start: Corner,
     pub steps: usize,
 }
 
 // The answer to a polygon that is read.
-#[derive(Drop)]
+#[derive(Clone, Copy)]
 pub enum Given {
     Chain(Found),
     Refused(Refusal),

@@ -19,7 +19,7 @@ use walk_corner::alike;
 
 // What the first pass finds: a point that is not a corner, points that are not a ring, or the start of a ring and how many steps
 // it has. MANY stands for any number above 16,384.
-#[derive(Drop)]
+#[derive(Clone, Copy)]
 enum Measured {
     Faulty,
     Broken,

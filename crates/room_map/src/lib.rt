@@ -11,7 +11,7 @@ use box_walk::{WalkBox, enclose};
 use columns::Columns;
 
 // The sizes of the maps, in corners of the box.
-#[derive(Drop)]
+#[derive(Clone, Copy)]
 struct Map;
 
 impl Map {

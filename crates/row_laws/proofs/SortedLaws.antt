@@ -30,6 +30,7 @@ count-mem q (x ∷ l) h = by (same q x) refl (λ k. count-mem q l k)
     by false e ih = Memᴰ.tail (ih (omega (arith, h, ap tally e)))
 
 mem-count : (q : Corner) (l : List Corner) → Memᴰ q l → 0 < count (same q) l
+mem-count q [] m = elim m [ ]
 mem-count q (x ∷ l) (Memᴰ.head e) = omega (arith, ap tally (ap (same q) (sym e) ∙ same_refl q))
 mem-count q (x ∷ l) (Memᴰ.tail m) = omega (arith, mem-count q l m)
 

@@ -3,7 +3,7 @@
 
 // Where a sheet stands: the next byte belongs to this line, and begins it or goes on in it. Before anything is written that is
 // line 0, the header.
-#[derive(Drop)]
+#[derive(Clone, Copy)]
 pub struct Margin {
     pub line: usize,
     pub begins: bool,

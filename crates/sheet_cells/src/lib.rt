@@ -12,7 +12,7 @@ use answer::Facts;
 use line_fields::hex::{bits, spell};
 
 // The cells.
-#[derive(Drop)]
+#[derive(Clone, Copy)]
 pub struct Cell;
 
 impl Cell {

@@ -18,7 +18,7 @@ use line_walk::walk_line;
 use sheet_cells::{Cell, spell_bytes, spell_cells, spell_refusal};
 
 // The entries of the sheet.
-#[derive(Drop)]
+#[derive(Clone, Copy)]
 pub struct Entry;
 
 impl Entry {

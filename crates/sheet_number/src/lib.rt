@@ -14,7 +14,7 @@ use sheet::Margin;
 use sheet_cells::{Cell, spell_cell};
 
 // How many bytes were written, and where the sheet stands then.
-#[derive(Drop)]
+#[derive(Clone, Copy)]
 pub struct Numbered {
     pub used: usize,
     pub margin: Margin,

@@ -63,6 +63,7 @@ pub nodes_of-rooted : (ps : List Corner) → Rooted [] (nodes_of ps)
 nodes_of-rooted ps = rooted_paths [] ps tt
 
 pub mem_paths : (ps : List Corner) {p a : Corner} → Memᴰ p ps → Memᴰ a (path_of p) → Memᴰ a (paths_of ps)
+mem_paths [] {p = p} {a = a} k m = elim k [ ]
 mem_paths (x ∷ ps) {p} {a} (Memᴰ.head e) m = Memᴰ.append_left (paths_of ps) (subst (λ y. Memᴰ a (path_of y)) e m)
 mem_paths (x ∷ ps) (Memᴰ.tail n) m = Memᴰ.append_right (path_of x) (mem_paths ps n m)
 

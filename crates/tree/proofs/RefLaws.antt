@@ -21,6 +21,7 @@ use Rattle.tree.proofs.NodeLaws.{Rooted, nodes_of-rooted, nodes_of_distinct}
 -- the node before it in the list, and the ref's order
 rooted-mem : (seen l : List Corner) (c : Corner) → Rooted seen l → Memᴰ c l → is_root c ≡ false
     → (s : List Corner) × (t : List Corner) × (l ≡ s ++ (c ∷ t)) × Memᴰ (parent_of c) (seen ++ s)
+rooted-mem seen [] c r m e = elim m [ ]
 rooted-mem seen (x ∷ l) c r m e =
     ⊎_elim
     (λ h. ([], l, ap (λ (y : Corner). y ∷ l) (sym h), rw (append-nil seen) (subst (λ y. Memᴰ (parent_of y) seen) (sym h) (r.0 (ap is_root (sym h) ∙ e)))))

@@ -96,6 +96,7 @@ length-spread (k ∷ ks) = omega (arith, length-append (members k) (spread ks), 
 
 mem-spread : (ks : List Corner) (c : Corner) → Memᴰ (class c) ks → Memᴰ c (spread ks)
 unfolding spread
+mem-spread [] c m = elim m [ ]
 mem-spread (k ∷ ks) c (mathlib.Core.List.Memᴰ.head e) = mathlib.Core.List.Memᴰ.append_left (spread ks) (subst (λ x. Memᴰ c (members x)) e (in_members c))
 mem-spread (k ∷ ks) c (mathlib.Core.List.Memᴰ.tail m) = mathlib.Core.List.Memᴰ.append_right (members k) (mem-spread ks c m)
 

@@ -10,14 +10,14 @@ use answer::{Judged, Limits, Refusal};
 use order::highest;
 
 // Which way digits are converted.
-#[derive(Drop)]
+#[derive(Clone, Copy)]
 pub enum Way {
     ToTurns,
     ToSteps,
 }
 
 // The step before a digit.
-#[derive(Drop)]
+#[derive(Clone, Copy)]
 struct Heading(u8);
 
 impl Heading {

@@ -36,7 +36,7 @@ fn links_up(t: &[u32], u: usize, d: usize, step: u32) -> bool
 }
 
 // The two nodes of one level, and how many of them are not an end of the level below.
-#[derive(Drop)]
+#[derive(Clone, Copy)]
 struct Level {
     u: usize,
     v: usize,

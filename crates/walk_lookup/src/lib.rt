@@ -40,7 +40,7 @@ pub fn child(t: &mut [u32], nodes: usize, u: usize, place: usize, step: u32) -> 
 }
 
 // Where a climb stops: a node, its corner, and how many levels up it is.
-#[derive(Drop)]
+#[derive(Clone, Copy)]
 struct Perch {
     node: usize,
     at: Corner,

@@ -17,7 +17,7 @@ use walk_step::{Moved, Spot, Walk};
 use walk_table::{Record, zero, zero_from};
 
 // The walk after all operations, or the place of the first for which the table is too small.
-#[derive(Drop)]
+#[derive(Clone, Copy)]
 pub enum Ran {
     All(Walk),
     Full(usize),

@@ -13,7 +13,7 @@ use grid::Corner;
 use walk_table::{Record, word};
 
 // Where a walk stands: the node's number and its corner, how many steps survive, and how many nodes are in use.
-#[derive(Drop)]
+#[derive(Clone, Copy)]
 pub struct Spot {
     pub node: usize,
     pub at: Corner,
@@ -22,14 +22,14 @@ pub struct Spot {
 }
 
 // What came of a step: the walk stands there, or the table is full.
-#[derive(Drop)]
+#[derive(Clone, Copy)]
 enum Gone {
     To(Spot),
     Full,
 }
 
 // How many different corners a walk has, and its first meeting.
-#[derive(Drop)]
+#[derive(Clone, Copy)]
 pub struct Tally {
     pub corners: usize,
     pub j: usize,
@@ -42,7 +42,7 @@ impl Tally {
 }
 
 // A walk on its way: where it stands, and its tally.
-#[derive(Drop)]
+#[derive(Clone, Copy)]
 pub struct Walk {
     pub spot: Spot,
     pub tally: Tally,
@@ -82,7 +82,7 @@ impl Walk {
 }
 
 // What came of a step of a walk.
-#[derive(Drop)]
+#[derive(Clone, Copy)]
 pub enum Moved {
     To(Walk),
     Full,

@@ -7,7 +7,7 @@ ghost use Rattle.std.proofs.lemmas.List.Edits.{sets};
 ghost use Rattle.layout.specs.Table.{width, word_at, HasRecord, neighbour_word, link_word, visits_word, edge_word};
 
 // The record of a node, by its number, and the places of its words.
-#[derive(Drop)]
+#[derive(Clone, Copy)]
 pub struct Record(pub usize);
 
 impl Record {
