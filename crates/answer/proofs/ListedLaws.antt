@@ -8,7 +8,6 @@ use Rattle.answer.specs.declared.Judged.TheVariants.{Good, Refused}
 use Rattle.answer.specs.declared.Refusal.{Refusal}
 use Rattle.answer.specs.declared.Counted.{Counted}
 use Rattle.answer.specs.Listed.{counted_of}
-use Rattle.answer.proofs.ListedCases as cases
 
 pub count_refused : (j : Judged) (n : ℕ) (q : Refusal) → Counted.Refused q ≡ counted_of j n → j ≡ Refused q
 count_refused Good n q e = absurd (let z : ◌≡◌ {A = ℕ} 0 1 = cc in omega arith)

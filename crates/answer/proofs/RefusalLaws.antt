@@ -9,7 +9,6 @@ use Rattle.answer.specs.declared.Judged.{Judged}
 use Rattle.answer.specs.declared.Judged.TheVariants.{Good, Refused}
 use Rattle.answer.specs.declared.Refusal.{Refusal}
 use Rattle.answer.specs.Refusal.{when, or_else, first_of}
-use Rattle.answer.proofs.RefusalCases as cases
 
 pub refused_not_good : (r : Refusal) → Refused r ≡ Good → ⊥
 refused_not_good r e = let z : ◌≡◌ {A = ℕ} 0 1 = cc in omega arith
