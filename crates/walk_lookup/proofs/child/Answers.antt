@@ -3,7 +3,6 @@ use mathlib.Core.List.{List}
 use mathlib.Core.Path.{◌≡◌, refl, ap, sym, subst, ◌∙◌}
 use Prim.Native.Nat.{ℕ, ◌+◌}
 use native.Mathlib.Omega.{arith}
-use borrow.Author.Rules.{rules}
 use lib.ListN.{length, set}
 use Rattle.layout.specs.Table.{word_at, parent_word, need_word}
 use Rattle.table_laws.specs.Model.{Out, out, child_in}
@@ -26,7 +25,10 @@ returns-then-known-ne0 c =
     let n = c.args.nodes in
     let q = child_is t n c.args.u c.args.place c.args.step w.result w.ensures
     (λ z. omega arith) in
-    record { made = (λ S e h deep r p. child_last t n S h (length t) c.args.step t w.result n e (child_holds t n c.args.u c.args.place c.args.step S e h deep r p (out t w.result n) q)); t_after = told t n c.args.u c.args.place c.args.step w.result n t q refl }
+    record {
+      made = (λ S e h deep r p. child_last t n S h (length t) c.args.step t w.result n e (child_holds t n c.args.u c.args.place c.args.step S e h deep r p (out t w.result n) q));
+      t_after = told t n c.args.u c.args.place c.args.step w.result n t q refl;
+    }
 
 pub returns-then-t-nodes : goal.returns-then-t-nodes
 returns-then-t-nodes c =
@@ -36,7 +38,10 @@ returns-then-t-nodes c =
     let z : w.result ≡ 0 = omega arith in
     let q = child_full t n c.args.u c.args.place c.args.step (sym z ∙ w.ensures)
     (omega arith) in
-    record { made = (λ S e h deep r p. child_last t n S h (length t) c.args.step t 0 n e (child_holds t n c.args.u c.args.place c.args.step S e h deep r p (out t 0 n) q)); t_after = told t n c.args.u c.args.place c.args.step 0 n t q refl }
+    record {
+      made = (λ S e h deep r p. child_last t n S h (length t) c.args.step t 0 n e (child_holds t n c.args.u c.args.place c.args.step S e h deep r p (out t 0 n) q));
+      t_after = told t n c.args.u c.args.place c.args.step 0 n t q refl;
+    }
 
 pub returns : goal.returns
 returns c =
@@ -47,7 +52,10 @@ returns c =
     let e = three t n c.args.u c.args.place c.args.step c.put.ensures
     c.put-2.ensures c.put-3.ensures in
     let q = child_makes t n c.args.u c.args.place c.args.step (sym z ∙ w.ensures) (omega arith) in
-    record { made = (λ S x h deep r p. child_last t n S h (length t) c.args.step _ (n + 1) (n + 1) x
+    record {
+      made = (λ S x h deep r p. child_last t n S h (length t) c.args.step _ (n + 1) (n + 1) x
           (subst (λ (l : List ℕ). Made (length t) (grown S x c.args.step) x l (n + 1) (n + 1)) (sym e)
-          (child_holds t n c.args.u c.args.place c.args.step S x h deep r p (out (set (set (set t (word_at c.args.u c.args.place) (n + 1)) (word_at n parent_word) (c.args.u + 1)) (word_at n need_word) c.args.step) (n + 1) (n + 1)) q))); t_after = (told t n c.args.u c.args.place c.args.step (n + 1) (n + 1) c.put-3.new.t q
-          (ap (λ (x : List ℕ). out x (n + 1) (n + 1)) (sym e)), ) }
+          (child_holds t n c.args.u c.args.place c.args.step S x h deep r p (out (set (set (set t (word_at c.args.u c.args.place) (n + 1)) (word_at n parent_word) (c.args.u + 1)) (word_at n need_word) c.args.step) (n + 1) (n + 1)) q)));
+      t_after = told t n c.args.u c.args.place c.args.step (n + 1) (n + 1) c.put-3.new.t q
+          (ap (λ (x : List ℕ). out x (n + 1) (n + 1)) (sym e));
+    }

@@ -1,13 +1,11 @@
 -- `walk_lookup::climb` meets its contract.
 use mathlib.Core.Path.{◌≡◌, refl, ap, sym, ◌∙◌, subst}
-use Prim.Native.Nat.{ℕ, suc, ◌+◌, ◌-◌, ◌<◌, ◌≤◌}
+use Prim.Native.Nat.{ℕ, suc, ◌+◌}
 use native.Mathlib.Omega.{arith}
-use borrow.Author.Rules.{rules}
 use lib.IntN.{nat_abs}
 use Rattle.grid.specs.declared.Corner.{Corner}
 use Rattle.grid.specs.Tree.{parent_of, size_of}
 use Rattle.tree.specs.Nodes.{ref_of}
-use Rattle.tree_laws.specs.State.{State, Holds}
 use Rattle.grid.proofs.PathLaws.{size_of-parent_of, nat_abs-half_of}
 use Rattle.table_laws.specs.Climb.{Climbed}
 use Rattle.table_laws.proofs.ClimbLaws.{node_bound, up_reads, goes_apart, climb_next}

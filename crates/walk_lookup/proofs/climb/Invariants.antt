@@ -1,16 +1,11 @@
 -- What the loops of `walk_lookup::climb` keep, and how they end.
-use mathlib.Core.Path.{◌≡◌, refl, ap, sym, ◌∙◌, subst}
-use Prim.Native.Nat.{ℕ, suc, ◌+◌, ◌-◌, ◌<◌, ◌≤◌}
-use native.Mathlib.Omega.{arith}
-use borrow.Author.Rules.{rules}
+use mathlib.Core.Path.{◌≡◌}
+use Prim.Native.Nat.{suc, ◌+◌, ◌<◌, ◌≤◌}
 use lib.IntN.{nat_abs}
-use Rattle.grid.specs.declared.Corner.{Corner}
-use Rattle.grid.specs.Tree.{parent_of, size_of}
+use Rattle.grid.specs.Tree.{size_of}
 use Rattle.tree.specs.Nodes.{ref_of}
 use Rattle.tree_laws.specs.State.{State, Holds}
-use Rattle.grid.proofs.PathLaws.{size_of-parent_of, nat_abs-half_of}
 use Rattle.table_laws.specs.Climb.{Climbed}
-use Rattle.table_laws.proofs.ClimbLaws.{node_bound, up_reads, goes_apart, climb_next}
 use Rattle.walk_lookup.proofs.climb.Given as goal
 
 abbrev pub invariant-loop-node : goal.invariant-loop-node

@@ -1,8 +1,7 @@
 -- `walk_lookup::come_down` meets its contract.
 use mathlib.Core.Path.{◌≡◌, refl, ap, sym, ◌∙◌, subst}
-use Prim.Native.Nat.{ℕ, ◌-◌, ◌<◌, max}
+use Prim.Native.Nat.{ℕ, ◌-◌, max}
 use native.Mathlib.Omega.{arith}
-use borrow.Author.Rules.{rules}
 use lib.IntN.{nat_abs}
 use lib.ListN.{length, get_or}
 use Rattle.grid.specs.declared.Corner.{Corner}
@@ -17,22 +16,6 @@ use Rattle.table_laws.proofs.ClimbLaws.{Level, up_small, step_grew, step_held, s
 use Rattle.layout.specs.Table.{word_at}
 use Rattle.walk_lookup.proofs.come_down.Goals as goal
 
--- within the loop's body: the level of the way down, for each state that the table may hold, and for the one that it holds
-level : (c : tie.In-loop invariant-loop decreases-loop) → let a = c.before.before.before.args in let l = c.before.loop in (S : State)
-    → Descends a.t.now a.nodes a.u a.v a.c a.d a.step a.level S
-    → Level l.t a.nodes l.at l.to a.c a.d a.step l.left S
-level c S x =
-    let at-loop = c.before in
-    let l = at-loop.loop in
-    let q = at-loop.before.before.requires.1 in
-    record { down = l.invariant.2 S x; more = omega (arith, c.loop-test.true); small = q.2; pos = q.3; some = l.invariant.1 }
-
-here : (c : tie.In-loop invariant-loop decreases-loop) → let a = c.before.before.before.args in let l = c.before.loop in
-    Level l.t a.nodes l.at l.to a.c a.d a.step l.left c.before.before.before.requires.0.state
-here c =
-    let at-start = c.before.before.before in
-    let k = at-start.requires.0 in level c k.state k.descends
-
 pub loop-left-init : goal.loop-left-init
 loop-left-init c = (refl, c.requires.c_bound.5, λ S h. h)
 
@@ -43,19 +26,35 @@ pub word-requires : goal.word-requires
 word-requires c =
     let a = c.args in
     let l = c.loop-left in
+    let k = c.requires.descending in
+    let here : Level l.t a.nodes l.at l.to a.c a.d a.step l.left k.state = record {
+      down = l.invariant.2 k.state k.descends;
+      more = omega (arith, c.loop-left-test.true);
+      small = c.requires.c_bound.2;
+      pos = c.requires.c_bound.3;
+      some = l.invariant.1;
+    } in
     let w : c.child_word.result ≡ child_word (up_by (l.left - 1) a.c) = c.child_word.ensures
     ∙ ap child_word c.up_by-a.ensures in
-    omega (arith, step_word (here c), w)
+    omega (arith, step_word here, w)
 
 pub overflow_sub-at : goal.overflow_sub-at
 overflow_sub-at c =
     let a = c.args in
     let l = c.loop-left in
+    let k = c.requires.descending in
+    let here : Level l.t a.nodes l.at l.to a.c a.d a.step l.left k.state = record {
+      down = l.invariant.2 k.state k.descends;
+      more = omega (arith, c.loop-left-test.true);
+      small = c.requires.c_bound.2;
+      pos = c.requires.c_bound.3;
+      some = l.invariant.1;
+    } in
     let w : c.child_word.result ≡ child_word (up_by (l.left - 1) a.c) = c.child_word.ensures
     ∙ ap child_word c.up_by-a.ensures in
     let r : c.word.result ≡ get_or l.t (word_at l.at (child_word (up_by (l.left - 1) a.c))) 0 = c.word.ensures
     ∙ ap (λ (x : ℕ). get_or l.t (word_at l.at x) 0) w in
-    omega (arith, (step_number (here at-up-by.before) c.word.result r).0)
+    omega (arith, (step_number here c.word.result r).0)
 
 pub moved-e-requires : goal.moved-e-requires
 moved-e-requires c =
@@ -75,13 +74,23 @@ child-to-requires c =
     let l = c.loop-left in
     let q = c.requires.c_bound in
     let k = c.requires.descending in
+    let here : Level l.t a.nodes l.at l.to a.c a.d a.step l.left k.state = record {
+      down = l.invariant.2 k.state k.descends;
+      more = omega (arith, c.loop-left-test.true);
+      small = c.requires.c_bound.2;
+      pos = c.requires.c_bound.3;
+      some = l.invariant.1;
+    } in
     let b = up_by (l.left - 1) a.c in
     let T = raised k.state a.step b (stepped a.d b) in
-    let h = step_held (here c) in
+    let h = step_held here in
     let n = c.greater.ensures in
     let w = child_word_small c.moved-e.result in
     let z = c.child_word-in-loop-left.ensures in
-    record { held = record { state = T; holds = subst (λ (x : ℕ). Holds l.t x T) (sym n) h.0 }; u_lt_nodes = ((omega (arith, ref_below T.nodes (parent_of (stepped a.d b)) (l.to - 1) h.1, h.0.count, n), omega (arith, z, w.0), omega (arith, z, w.1), omega (arith, l.invariant.0, q.4)), ) }
+    record {
+      held = record { state = T; holds = subst (λ (x : ℕ). Holds l.t x T) (sym n) h.0 };
+      u_lt_nodes = (omega (arith, ref_below T.nodes (parent_of (stepped a.d b)) (l.to - 1) h.1, h.0.count, n), omega (arith, z, w.0), omega (arith, z, w.1), omega (arith, l.invariant.0, q.4));
+    }
 
 pub returns-then-to-eq0 : goal.returns-then-to-eq0
 returns-then-to-eq0 c =
@@ -91,12 +100,19 @@ returns-then-to-eq0 c =
     let a = c.args in
     let l = c.loop-left in
     λ S x.
-    let g = step_grew (level c S x) b.result e.result b.ensures
+    let level : Level l.t a.nodes l.at l.to a.c a.d a.step l.left S = record {
+      down = l.invariant.2 S x;
+      more = omega (arith, c.loop-left-test.true);
+      small = c.requires.c_bound.2;
+      pos = c.requires.c_bound.3;
+      some = l.invariant.1;
+    } in
+    let g = step_grew level b.result e.result b.ensures
     (e.ensures ∙ ap child_word (c.moved-e.ensures ∙ ap (stepped a.d) c.up_by-a.ensures)) f.new.t
     f.result f.ensures.made in
     subst (λ (w : ℕ). Made w (reached S a.step a.c (stepped a.d a.c)) (stepped a.d a.c) f.new.t f.result
     (max a.nodes f.result)) l.invariant.0
-    (step_none (level c S x) f.new.t f.result g c.if-to-eq0.true)
+    (step_none level f.new.t f.result g c.if-to-eq0.true)
 
 pub overflow_sub-to-in-loop-left : goal.overflow_sub-to-in-loop-left
 overflow_sub-to-in-loop-left c = omega (arith, c.if-to-eq0.false)
@@ -111,16 +127,27 @@ link-requires c =
     let v = c.child-to in
     let a = c.args in
     let l = c.loop-left in
+    let k = c.requires.descending in
+    let here : Level l.t a.nodes l.at l.to a.c a.d a.step l.left k.state = record {
+      down = l.invariant.2 k.state k.descends;
+      more = omega (arith, c.loop-left-test.true);
+      small = c.requires.c_bound.2;
+      pos = c.requires.c_bound.3;
+      some = l.invariant.1;
+    } in
     let q = c.requires.c_bound in
-    let g = step_grew (here c) i.result j.result i.ensures
+    let g = step_grew here i.result j.result i.ensures
     (j.ensures ∙ ap child_word (c.moved-e.ensures ∙ ap (stepped a.d) u.ensures)) v.new.t v.result
     v.ensures.made in
     let f : v.result ≡ 0 → ⊥ = λ z. c.if-to-eq0.false z in
-    let h = step_bounds (here c) v.new.t v.result g f in
+    let h = step_bounds here v.new.t v.result g f in
     let w : b.result ≡ child_word (up_by (l.left - 1) a.c) = b.ensures ∙ ap child_word u.ensures in
     let r = e.ensures ∙ ap (λ (x : ℕ). get_or l.t (word_at l.at x) 0) w in
-    let m = step_number (here c) e.result r in
-    record { has_record = (omega (arith, m.1, h.0), h.1); d_bound = (q.2, omega (arith, h.2, l.invariant.0, q.4)) }
+    let m = step_number here e.result r in
+    record {
+      has_record = (omega (arith, m.1, h.0), h.1);
+      d_bound = (q.2, omega (arith, h.2, l.invariant.0, q.4));
+    }
 
 pub loop-left-smaller : goal.loop-left-smaller
 loop-left-smaller c = omega (arith, c.loop-left-test.true)
@@ -142,9 +169,17 @@ loop-left-preserved c =
     let r = g.ensures ∙ ap (λ (x : ℕ). get_or l.t (word_at l.at x) 0) w in
     let next : (S : State) → Descends a.t.now a.nodes a.u a.v a.c a.d a.step a.level S
     → Descends m.new.t a.nodes (g.result - 1) v.result a.c a.d a.step (l.left - 1) S
-    × (length m.new.t ≡ length l.t) = λ S x. step_next (level c S x) v.new.t v.result
-    (step_grew (level c S x) h.result i.result h.ensures
-    (i.ensures ∙ ap child_word (c.moved-e.ensures ∙ ap (stepped a.d) b.ensures)) v.new.t v.result v.ensures.made) f (g.result - 1) (step_number (level c S x) g.result r).1 m.new.t m.ensures in
+    × (length m.new.t ≡ length l.t) = λ S x.
+    let level : Level l.t a.nodes l.at l.to a.c a.d a.step l.left S = record {
+      down = l.invariant.2 S x;
+      more = omega (arith, c.loop-left-test.true);
+      small = c.requires.c_bound.2;
+      pos = c.requires.c_bound.3;
+      some = l.invariant.1;
+    } in
+    step_next level v.new.t v.result
+    (step_grew level h.result i.result h.ensures
+    (i.ensures ∙ ap child_word (c.moved-e.ensures ∙ ap (stepped a.d) b.ensures)) v.new.t v.result v.ensures.made) f (g.result - 1) (step_number level g.result r).1 m.new.t m.ensures in
     ((next k.state k.descends).1 ∙ l.invariant.0, omega (arith, f), λ S x. (next S x).0)
 
 pub returns : goal.returns

@@ -2,7 +2,6 @@
 use mathlib.Core.Path.{◌≡◌, ap, subst}
 use Prim.Native.Nat.{ℕ, max}
 use native.Mathlib.Omega.{arith}
-use borrow.Author.Rules.{rules}
 use lib.IntN.{nat_abs}
 use Rattle.grid.specs.declared.Corner.{Corner}
 use Rattle.grid.specs.Grid.{stepped}
@@ -20,7 +19,11 @@ top-v-requires c =
     let j = p.ensures.climbed k.state k.holds k.here in
     let e = j.0.above in
     let h = up_small p.result.level a.c in
-    record { stood = stood a.t.now a.nodes p.result.node p.result.at k.state k.holds j.1; c_bound = ((omega (arith, ap (λ (y : Corner). nat_abs y.0) e, h.0, q.0), omega (arith, ap (λ (y : Corner). nat_abs y.1) e, h.1, q.1), q.2, q.3, q.4), p.ensures.d_value); d_value =  }
+    record {
+      stood = stood a.t.now a.nodes p.result.node p.result.at k.state k.holds j.1;
+      c_bound = (omega (arith, ap (λ (y : Corner). nat_abs y.0) e, h.0, q.0), omega (arith, ap (λ (y : Corner). nat_abs y.1) e, h.1, q.1), q.2, q.3, q.4);
+      d_value = p.ensures.d_value;
+    }
 
 pub returns-then-v-eq0 : goal.returns-then-v-eq0
 returns-then-v-eq0 c =
@@ -43,7 +46,10 @@ come_down-requires c =
     p.result.level p.result.node p.result.at (p.ensures.climbed k.state k.holds k.here).0
     (p.ensures.climbed k.state k.holds k.here).1 b.new.t b.result
     (b.ensures k.state k.holds (p.ensures.climbed k.state k.holds k.here).1) f in
-    record { descending = record { state = k.state; descends = d.0 }; c_bound = (q.0, q.1, q.2, q.3, omega (arith, d.1, q.4), omega (arith, f)) }
+    record {
+      descending = record { state = k.state; descends = d.0 };
+      c_bound = (q.0, q.1, q.2, q.3, omega (arith, d.1, q.4), omega (arith, f));
+    }
 
 pub returns : goal.returns
 returns c =
