@@ -1,10 +1,8 @@
 -- `walk_input::first_fault` meets its contract.
-use mathlib.Core.Path.{◌≡◌, refl, sym, ◌∙◌}
-use Prim.Native.Nat.{◌-◌, ◌<◌, ◌≤◌}
+use mathlib.Core.Path.{refl, sym, ◌∙◌}
+use Prim.Native.Nat.{◌<◌}
 use native.Mathlib.Omega.{arith}
-use borrow.Author.Rules.{rules}
-use lib.ListN.{length, drop, get_or, drop_of_length-le}
-use Rattle.steps.specs.Operations.{operations_judged}
+use lib.ListN.{length, get_or, drop_of_length-le}
 use Rattle.steps.proofs.SurvivorLaws.{fault_none}
 use Rattle.walk_input.proofs.JudgeLaws.{faults_here, faults_next, after_le}
 use Rattle.walk_input.proofs.first_fault.Goals as goal

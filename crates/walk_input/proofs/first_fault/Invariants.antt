@@ -1,12 +1,8 @@
 -- What the loops of `walk_input::first_fault` keep, and how they end.
-use mathlib.Core.Path.{◌≡◌, refl, sym, ◌∙◌}
-use Prim.Native.Nat.{◌-◌, ◌<◌, ◌≤◌}
-use native.Mathlib.Omega.{arith}
-use borrow.Author.Rules.{rules}
-use lib.ListN.{length, drop, get_or, drop_of_length-le}
+use mathlib.Core.Path.{◌≡◌}
+use Prim.Native.Nat.{◌-◌, ◌≤◌}
+use lib.ListN.{length, drop}
 use Rattle.steps.specs.Operations.{operations_judged}
-use Rattle.steps.proofs.SurvivorLaws.{fault_none}
-use Rattle.walk_input.proofs.JudgeLaws.{faults_here, faults_next, after_le}
 use Rattle.walk_input.proofs.first_fault.Given as goal
 
 abbrev pub invariant-loop-i : goal.invariant-loop-i

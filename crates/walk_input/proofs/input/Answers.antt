@@ -1,7 +1,6 @@
 -- `walk_input::input` meets its contract.
 use mathlib.Core.Path.{sym, ◌∙◌}
 use native.Mathlib.Omega.{arith}
-use borrow.Author.Rules.{rules}
 use borrow.Author.Tests.{not-true, not-false}
 use Rattle.walk_input.proofs.JudgeLaws.{input_many, input_table, input_marks, input_chain, input_start, input_rest}
 use Rattle.walk_input.proofs.input.Goals as goal

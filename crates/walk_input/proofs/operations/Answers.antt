@@ -1,6 +1,5 @@
 -- `walk_input::operations` meets its contract.
 use native.Mathlib.Omega.{arith}
-use borrow.Author.Rules.{rules}
 use Rattle.walk_input.proofs.JudgeLaws.{steps_fine}
 use Rattle.walk_input.proofs.operations.Goals as goal
 
