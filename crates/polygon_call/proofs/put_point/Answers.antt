@@ -1,6 +1,4 @@
 -- `polygon_call::put_point` meets its contract.
--- Assumes nothing.
-use borrow.Author.Rules.{rules}
 use mathlib.Core.Path.{◌≡◌, sym, ap, ap₂, ◌∙◌, subst}
 use mathlib.Core.Bool.{not}
 use mir.Syntax.{w32}
@@ -8,7 +6,7 @@ use mir.Val.{to_z, of_z}
 use Rattle.answer.specs.Limits.{farthest}
 use Rattle.polygon_laws.proofs.SignedLaws.{sent}
 use mathlib.Core.List.{List, ◌++◌}
-use Prim.Native.Nat.{ℕ, ◌+◌, ◌-◌, ◌≤◌}
+use Prim.Native.Nat.{ℕ, ◌-◌, ◌≤◌}
 use native.Mathlib.Omega.{arith}
 use lib.Dec.{T}
 use lib.ListN.{length, take, drop, length-take, length-drop}
@@ -20,8 +18,7 @@ use Rattle.polygon.specs.Polygon.{coordinate_bytes, point_bytes}
 use Rattle.grid.specs.declared.Corner.{Corner}
 use Rattle.polygon_laws.proofs.BytesLaws.{lent-more, length-bytes_of}
 use Rattle.polygon_laws.proofs.ValueLaws.{coordinate_no_nan}
-use Rattle.polygon_call.proofs.put_point.Statement.{statement}
-use Rattle.polygon_call.proofs.put_point.Tie as tie
+use Rattle.polygon_call.proofs.put_point.Goals as goal
 
 no_nan : (x : Float) (z : ℤ) → nat_abs z ≤ farthest → x ≡ coordinate_of (to_z w32 (of_z w32 z)) → T (not (is_nan x))
 no_nan x z h e = subst (λ (y : Float). T (not (is_nan y))) (sym (sent z h e)) (coordinate_no_nan z h)
@@ -42,36 +39,14 @@ two l cur ys x y c h k p q e w =
     lent-more l cur (bytes_of 8 (to_bits binary64 x)) (bytes_of 8 (to_bits binary64 y)) ys 8 8 (length-bytes_of 8 (to_bits binary64 x)) e w
     ∙ ap₂ (λ (a b : List ℕ). a ++ b ++ drop 16 l) (bytes x c.0 h p) (bytes y c.1 k q)
 
-put-float-requires : tie.Need-put-float-requires
-put-float-requires c κs =
-    let at-start = c.before.before.before.before in
-    (omega arith, no_nan _ at-start.args.c.0 at-start.requires.1 c.millimetres.ensures)
+pub put_float-requires : goal.put_float-requires
+put_float-requires c = (omega arith, no_nan _ c.args.c.0 c.requires.1 c.millimetres.ensures)
 
-put-float-requires-2 : tie.Need-put-float-requires-2
-put-float-requires-2 c κs =
-    let at-put-float = c.before.before.before.before.before in
-    let at-start = at-put-float.before.before.before.before.before in
-    (room at-put-float.put-float.new.0 (omega arith), no_nan _ at-start.args.c.1 at-start.requires.2 c.millimetres2.ensures)
+pub put_float-requires-2 : goal.put_float-requires-2
+put_float-requires-2 c = (room c.put_float.new.buf (omega arith), no_nan _ c.args.c.1 c.requires.2 c.millimetres-2.ensures)
 
-returns : tie.Need-returns
+pub returns : goal.returns
 returns c =
-    let at-put-float2 = c.before.before in let at-millimetres2 = at-put-float2.before in
-    let at-put-float = at-millimetres2.before.before.before.before.before in
-    let at-start = at-put-float.before.before.before.before.before in
-    two at-start.args.buf.now at-put-float.put-float.new.0 at-put-float2.put-float2.new.0 _ _ at-start.args.c
-    at-start.requires.1 at-start.requires.2 at-put-float.before.millimetres.ensures
-    at-millimetres2.millimetres2.ensures at-put-float.put-float.ensures at-put-float2.put-float2.ensures
-
-pub put-point-spec : {M : Type 1} → statement M
-put-point-spec =
-    tie.close
-    (tie.spec
-    (λ c κs. search rules)
-    put-float-requires
-    (λ c. search rules)
-    (λ c. search rules)
-    (λ c. search rules)
-    (λ c κs. search rules)
-    put-float-requires-2
-    (λ c. search rules)
-    returns)
+    two c.args.buf.now c.put_float.new.buf c.put_float-2.new.buf _ _ c.args.c
+    c.requires.1 c.requires.2 c.millimetres.ensures
+    c.millimetres-2.ensures c.put_float.ensures c.put_float-2.ensures
