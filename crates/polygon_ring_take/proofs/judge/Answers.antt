@@ -1,6 +1,4 @@
 -- `polygon_ring_take::judge` meets its contract.
--- Assumes nothing.
-use borrow.Author.Rules.{rules}
 use mathlib.Core.Path.{◌≡◌, refl, sym, ap, ap₂, ◌∙◌}
 use Prim.Native.Nat.{ℕ}
 use lib.IntN.{ℤ}
@@ -14,8 +12,7 @@ use Rattle.polygon_ring.specs.declared.GridPoint.{GridPoint}
 use Rattle.polygon_ring.specs.declared.GridPoint.TheVariants.{At, Faulty}
 use Rattle.polygon_ring.specs.declared.Whole.{Whole}
 use Rattle.polygon_ring.specs.declared.Whole.TheVariants.{Of, Refused}
-use Rattle.polygon_ring_take.proofs.judge.Statement.{statement}
-use Rattle.polygon_ring_take.proofs.judge.Tie as tie
+use Rattle.polygon_ring_take.proofs.judge.Goals as goal
 
 good : (m : ℕ) (x y : Float) (u v : Whole) (i j : ℤ) → u ≡ whole_of m x → v ≡ whole_of m y → u ≡ Of i → v ≡ Of j → SFits w32 i → SFits w32 j
     → ◌≡◌ {A = GridPoint} (At (to_z w32 (of_z w32 i)) (to_z w32 (of_z w32 j))) (both (whole_of m x) (whole_of m y))
@@ -32,36 +29,18 @@ second m x y v e g = sym (ap (both (whole_of m x)) (sym e ∙ g) ∙ any (whole_
     any (Of a) = refl
     any Refused = refl
 
-returns : tie.Need-returns
-returns c =
-    let at-whole-of2 = c.before.before.before in let at_x = at-whole-of2.before.before in
-    let at-whole-of = at_x.before.before in let at-start = at-whole-of.before in
-    good at-start.args.most at-start.args.p.x at-start.args.p.y _ _ _ _ at-whole-of.whole_of.ensures
-    at-whole-of2.whole-of2.ensures at_x.x.given.1 c.before.y.given.1
-    (record { sfits = at-whole-of2.before.known-told.given.0.1 }) (record { sfits = c.known-told2.given.0.1 })
+pub returns-in-Of-whole_of : goal.returns-in-Of-whole_of
+returns-in-Of-whole_of c =
+    good c.args.most c.args.p.x c.args.p.y _ _ _ _ c.whole_of.ensures
+    c.whole_of-in-Of.ensures c.in-Of.is c.in-Of-whole_of.is
+    (record { sfits = c.in-Of.known_told-1-own.given.0.1 }) (record { sfits = c.in-Of-whole_of.known_told-in-Of-whole_of-2-1-own.given.0.1 })
 
-returns-2 : tie.Need-returns-2
-returns-2 c =
-    let at-whole-of2 = c.before.before in let at-start = at-whole-of2.before.before.before.before.before in
-    second at-start.args.most at-start.args.p.x at-start.args.p.y _ at-whole-of2.whole-of2.ensures
-    c.enum_told.given.1
+pub returns-in-Refused-whole_of : goal.returns-in-Refused-whole_of
+returns-in-Refused-whole_of c =
+    second c.args.most c.args.p.x c.args.p.y _ c.whole_of-in-Of.ensures
+    c.in-Refused-whole_of.is
 
-returns-3 : tie.Need-returns-3
-returns-3 c =
-    let at-whole-of = c.before.before in let at-start = at-whole-of.before in
-    first at-start.args.most at-start.args.p.x at-start.args.p.y _ at-whole-of.whole_of.ensures
-    c.enum-told2.given.1
-
-pub judge-spec : {M : Type 1} → statement M
-judge-spec =
-    tie.close
-    (tie.spec
-    (λ c κs. search rules)
-    (λ c. search rules)
-    (λ c κs. search rules)
-    (λ c. search rules)
-    (λ c. search rules)
-    (λ c. search rules)
-    returns
-    returns-2
-    returns-3)
+pub returns-in-Refused : goal.returns-in-Refused
+returns-in-Refused c =
+    first c.args.most c.args.p.x c.args.p.y _ c.whole_of.ensures
+    c.in-Refused.is
