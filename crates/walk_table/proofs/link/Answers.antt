@@ -1,0 +1,10 @@
+-- `walk_table::link` meets its contract.
+use Prim.Native.Nat.{◌+◌, ◌%◌}
+use Rattle.walk_table.proofs.CellLaws.{store_links}
+use Rattle.walk_table.proofs.link.Goals as goal
+
+pub returns : goal.returns
+returns c =
+    let a = c.args in
+    store_links a.t.now a.u a.d (a.v + 1) a.step a.v ((a.d + 2) % 4) (a.u + 1) a.step
+    c.put_link.ensures c.put_link-2.ensures
