@@ -1,6 +1,4 @@
 -- `row_spans::column` meets its contract.
--- Assumes nothing.
-use borrow.Author.Rules.{rules}
 use native.Mathlib.Omega.{arith}
 use mathlib.Core.Path.{◌≡◌}
 use lib.IntN.{pos, ◌+ℤ◌}
@@ -8,10 +6,9 @@ use mir.Syntax.{w32}
 use mir.Val.{SFits, to_z}
 use mir.Facts.{to_z-of_z, to_z_pos}
 use Rattle.int_laws.proofs.RangeLaws.{abs+, sfits_abs}
-use Rattle.row_spans.proofs.column.Statement.{statement}
-use Rattle.row_spans.proofs.column.Tie as tie
 use Rattle.row_spans.proofs.column.Reads as reads
 use Rattle.row_spans.proofs.column.Lts as lts
+use Rattle.row_spans.proofs.column.Goals as goal
 
 steps : (c : lts.Start reads.Pre reads.Post) → to_z w32 c.args.n ≡ pos c.args.n
 steps c = to_z_pos w32 (omega arith)
@@ -19,11 +16,8 @@ steps c = to_z_pos w32 (omega arith)
 sum : (c : lts.Start reads.Pre reads.Post) → SFits w32 (c.args.west +ℤ pos c.args.n)
 sum c = sfits_abs w32 (c.args.west +ℤ pos c.args.n) (omega (arith, abs+ c.args.west (pos c.args.n)))
 
-add-result : tie.Need-overflow-add-result
-add-result c = simp (to_z-of_z c.ranges.west, steps c) (sum c)
+pub overflow_add-result : goal.overflow_add-result
+overflow_add-result c = simp (to_z-of_z c.ranges.west, steps c) (sum c)
 
-returns : tie.Need-returns
+pub returns : goal.returns
 returns c = simp (to_z-of_z c.ranges.west, steps c, to_z-of_z (sum c))
-
-pub column-spec : {M : Type 1} → statement M
-column-spec = tie.close (tie.spec (λ c. search rules) add-result returns)
