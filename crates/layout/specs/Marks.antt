@@ -1,6 +1,6 @@
 -- The marks after each operation, and the chain of surviving steps (RULES 5.3, 5.4). Assumes nothing.
-use Rattle.std.specs.Prelude.{max}
-use Rattle.lists.specs.Lists.{Bool, true, false, not, ◌&&◌, List, [], ◌∷◌, ◌++◌, length, take, drop, replicate, ℕ, zero, suc, ◌+◌, ◌-◌, ◌*◌, eqb, tally, count}
+use Rattle.std.specs.Prelude.{max, Bool, true, false, not, ◌&&◌, List, [], ◌∷◌, ◌++◌, length, take, drop, replicate, ℕ, zero, suc, ◌+◌, ◌-◌, ◌*◌, eqb}
+use Rattle.lists.specs.Lists.{tally, count}
 use Rattle.grid.specs.{declared.Corner.Corner, Grid.same, Grid.corners_from, Grid.end_from}
 use Rattle.steps.specs.Operations.{operate, survivors}
 use Rattle.tree.specs.Nodes.{nodes_of}

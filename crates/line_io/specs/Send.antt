@@ -1,5 +1,5 @@
 -- Bytes that were passed on. Assumes nothing.
-use Rattle.lists.specs.Lists.{◌≡◌}
+use Rattle.std.specs.Prelude.{◌≡◌}
 use Rattle.sheet.specs.declared.Margin.{Margin}
 use Rattle.line_io.specs.declared.Sent.{Sent, TheVariants.At, TheVariants.Unwritten}
 

@@ -1,5 +1,5 @@
 -- What the functions that take a part of the input promise, whatever is written for a line. Assumes nothing.
-use Rattle.lists.specs.Lists.{◌≡◌, Bool, true, false, cond, ◌&&◌, ◌⊎◌, List, [], ◌++◌, length, take, drop, ℕ, zero, suc, ◌+◌, ◌-◌, ◌<◌, ◌≤◌, eqb, ltb, leb}
+use Rattle.std.specs.Prelude.{◌≡◌, Bool, true, false, cond, ◌&&◌, ◌⊎◌, List, [], ◌++◌, length, take, drop, ℕ, zero, suc, ◌+◌, ◌-◌, ◌<◌, ◌≤◌, eqb, ltb, leb}
 use Rattle.line_frame.specs.Sizes.{most_held}
 use Rattle.line_fields.specs.Put.{put, Wrote}
 use Rattle.line_frame.specs.Begun.{line_length, has_feed, kept_of, passed_of, held_of}

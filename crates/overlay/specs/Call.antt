@@ -1,6 +1,6 @@
 -- What the call that lists the parts of two rooms answers, and what it leaves in the three buffers (RULES 16.3 to 16.6). Assumes
 -- nothing.
-use Rattle.lists.specs.Lists.{◌≡◌, List, [], ◌∷◌, length, ℕ, ℤ}
+use Rattle.std.specs.Prelude.{◌≡◌, List, [], ◌∷◌, length, ℕ, ℤ}
 use Rattle.grid.specs.declared.Corner.{Corner}
 use Rattle.answer.specs.declared.{Judged.Judged, Judged.TheVariants.Good, Judged.TheVariants.Refused}
 use Rattle.answer.specs.{Refusal.first_of, Refusal.refusal_number, Refusal.refusal_place, Listed.laid_if}

@@ -1,6 +1,6 @@
 -- The refusals of a call of two parties in their order, its answer, and its four buffers (RULES 19.6, 19.7). c and e are the two
 -- starts. Assumes nothing.
-use Rattle.lists.specs.Lists.{◌≡◌, Bool, not, ◌&&◌, List, [], ◌∷◌, length, ℕ, suc, pred, ◌*◌, ◌%◌, eqb, ltb, leb}
+use Rattle.std.specs.Prelude.{◌≡◌, Bool, not, ◌&&◌, List, [], ◌∷◌, length, ℕ, suc, pred, ◌*◌, ◌%◌, eqb, ltb, leb}
 use Rattle.answer.specs.declared.{Judged.Judged, Judged.TheVariants.Good, Judged.TheVariants.Refused, PairFacts.PairFacts, PairAnswer.PairAnswer}
 use Rattle.answer.specs.declared.Refusal.TheVariants.{TooMany, Table, ResultRoom, NoRoom, StartRange}
 use Rattle.answer.specs.{Limits.most_input, Limits.most_pair_records, Limits.start_fits, Refusal.when, Refusal.or_else, Refusal.first_of}

@@ -1,6 +1,6 @@
 -- What the first pass over the points finds. Assumes nothing.
-use Rattle.lists.specs.Lists.{Bool, true, false, List, ℕ, any}
-use Rattle.std.specs.Prelude.{map}
+use Rattle.lists.specs.Lists.{any}
+use Rattle.std.specs.Prelude.{map, Bool, true, false, List, ℕ}
 use Rattle.grid.specs.declared.Corner.{Corner}
 use Rattle.polygon_ring.specs.Ring.{is_faulty, corner_in, start_of, length_of, is_ring}
 use Rattle.polygon_ring.specs.declared.GridPoint.{GridPoint}

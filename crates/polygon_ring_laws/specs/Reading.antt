@@ -1,7 +1,7 @@
 -- What the passes over a ring find.
 -- Assumes nothing.
-use Rattle.lists.specs.Lists.{◌≡◌, Bool, cond, not, List, [], ◌∷◌, length, take, drop, ℕ, suc, ◌+◌, ◌*◌, ◌≤◌, eqb, ltb, any, nat_abs}
-use Rattle.std.specs.Prelude.{map}
+use Rattle.lists.specs.Lists.{any}
+use Rattle.std.specs.Prelude.{map, ◌≡◌, Bool, cond, not, List, [], ◌∷◌, length, take, drop, ℕ, suc, ◌+◌, ◌*◌, ◌≤◌, eqb, ltb, nat_abs}
 use Rattle.answer.specs.Limits.{most_steps, farthest}
 use Rattle.answer.specs.Refusal.{when, or_else, first_of}
 use Rattle.grid.specs.declared.Corner.{Corner}

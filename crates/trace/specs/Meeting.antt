@@ -1,5 +1,6 @@
 -- Meetings of two visits, and the different corners (RULES 1.4, 1.5). Assumes nothing.
-use Rattle.lists.specs.Lists.{◌≡◌, List, [], ◌∷◌, ◌++◌, length, ℕ, zero, suc, ◌<◌, ◌≤◌, find, gather}
+use Rattle.lists.specs.Lists.{find, gather}
+use Rattle.std.specs.Prelude.{◌≡◌, List, [], ◌∷◌, ◌++◌, length, ℕ, zero, suc, ◌<◌, ◌≤◌}
 use Rattle.answer.specs.Limits.{no_meeting}
 use Rattle.grid.specs.{declared.Corner.Corner, Grid.same, Grid.corners_from, Grid.corner_at}
 
