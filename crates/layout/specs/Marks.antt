@@ -35,7 +35,8 @@ changes_of c ds es =
 -- of an operation with the steps ds before it and es after it: the nodes then in use, the visits at the corner where the walk
 -- then stands, the records that differ
 abbrev pub mark_of : Corner → List ℕ → List ℕ → List ℕ
-mark_of c ds es = length (nodes_of (corners_from c es)) ∷ count (same (end_from c es)) (corners_from c es) ∷ changes_of c ds es ∷ []
+mark_of c ds es =
+    length (nodes_of (corners_from c es)) ∷ count (same (end_from c es)) (corners_from c es) ∷ changes_of c ds es ∷ []
 
 abbrev pub marks_from : Corner → List ℕ → List ℕ → List ℕ
 marks_from c ds [] = []

@@ -13,7 +13,8 @@ line_ended line held r = cond (eqb held 0) line (put (kept_of (take held line ++
 
 -- a line that does not end in the chunk is put together there too
 abbrev pub line_after : List ℕ → ℕ → List ℕ → List ℕ
-line_after line held s = cond (has_feed s) (line_ended line held (take (line_length s) s)) (put (kept_of (take held line ++ s)) 0 line)
+line_after line held s =
+    cond (has_feed s) (line_ended line held (take (line_length s) s)) (put (kept_of (take held line ++ s)) 0 line)
 
 -- one line, or the rest of a chunk that has no more line feed
 pub record FedLine (J : Job) (line : List ℕ) (held : ℕ) (s : List ℕ) (at : ℕ) (out : List ℕ) (used : ℕ) (r : Progress)

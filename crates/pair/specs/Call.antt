@@ -47,7 +47,8 @@ pair_judged c e os words marks chain chain' = first_of (pair_judgements c e os w
 
 -- the facts of both: the nodes that either needs once, the rest for each
 abbrev pub pair_facts_of : Corner → Corner → List ℕ → List ℕ → PairFacts
-pair_facts_of c e ds es = record { nodes = length (needs_of c e ds es); first = party_facts_of c ds; second = party_facts_of e es }
+pair_facts_of c e ds es =
+    record { nodes = length (needs_of c e ds es); first = party_facts_of c ds; second = party_facts_of e es }
 
 -- the facts, or the refusal
 abbrev pub pair_answer_by : Judged → PairFacts → PairAnswer

@@ -115,7 +115,8 @@ chain_of_points ps = steps_along (start_of ps) (later_of ps)
 
 -- at least four points, the last equal to the first, and neighbours differ along exactly one axis
 abbrev pub is_ring : List Corner → Bool
-is_ring ps = leb 4 (length ps) && same (get_or ps (length ps - 1) origin) (start_of ps) && straight_from (start_of ps) (later_of ps)
+is_ring ps =
+    leb 4 (length ps) && same (get_or ps (length ps - 1) origin) (start_of ps) && straight_from (start_of ps) (later_of ps)
 
 -- the point count of a file in this byte order
 unfoldable pub count_in : Bool → List ℕ → ℕ

@@ -15,4 +15,5 @@ measured_by false true c n = Ring (record { start = c; steps = n })
 
 abbrev pub measured_of : List GridPoint → Measured
 measured_of ps =
-    measured_by (any is_faulty ps) (is_ring (map corner_in ps)) (start_of (map corner_in ps)) (capped (length_of (map corner_in ps)))
+    measured_by (any is_faulty ps) (is_ring (map corner_in ps)) (start_of (map corner_in ps))
+    (capped (length_of (map corner_in ps)))

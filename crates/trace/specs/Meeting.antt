@@ -23,7 +23,8 @@ pub data Meeting : Type 0 where
 -- the first k whose corner is among those before it, and the place j there
 abbrev pub meeting_from : List Corner → List Corner → Meeting
 meeting_from seen [] = none
-meeting_from seen (p ∷ ps) = elim (find (same p) seen) [ zero ↦ meeting_from (seen ++ (p ∷ [])) ps | suc j ↦ meet j (length seen) ]
+meeting_from seen (p ∷ ps) =
+    elim (find (same p) seen) [ zero ↦ meeting_from (seen ++ (p ∷ [])) ps | suc j ↦ meet j (length seen) ]
 
 -- the first meeting of a walk, if there is one
 abbrev pub meeting_of : Corner → List ℕ → Meeting
