@@ -1,4 +1,5 @@
-// The programs on lines: their rounds, reading and writing, the pages of the table of polygons, and saying how they ended.
+// The programs on lines: their rounds, reading and writing, the pages of the table of polygons, and the status that says how they
+// ended.
 #![tactic(auto)]
 
 ghost use Rattle.std.specs.Prelude.{◌≡◌, ◌≤◌, length, take};
@@ -11,12 +12,13 @@ ghost use Rattle.line_fields.specs.Put.{put};
 ghost use Rattle.line_stream.specs.Stream.{most_part};
 ghost use Rattle.line_io.specs.Round.{ReadOn, PassedOn, RoundIs};
 
-use libc::{STDIN_FILENO, STDOUT_FILENO};
 use line_stream::Progress;
 use lines::Task;
 use order::lesser;
 use sheet::Margin;
 use sheet_number::{Numbered, number};
+use std::io::{Read, Write};
+use std::process::ExitCode;
 
 // Where the sheet stands after bytes were passed on; or a write failed.
 #[derive(Clone, Copy)]
@@ -26,7 +28,7 @@ enum Sent {
 }
 
 // Writes a page of the sheet, which stands at m: the bytes s of the entries, numbered.
-fn send_page(m: Margin, s: &[u8], page: &mut [u8]) -> Sent
+fn send_page<W: Write>(writer: &mut W, m: Margin, s: &[u8], page: &mut [u8]) -> Sent
     requires s_len_bound { length s.now ≤ most_piece }
     requires page_len { length page.old ≡ most_page }
     ensures { SentIs (margin_after m s.now) result }
@@ -36,7 +38,7 @@ fn send_page(m: Margin, s: &[u8], page: &mut [u8]) -> Sent
     }
     let n = number(m, s, page);
     let used = n.used;
-    if !io::write_all(STDOUT_FILENO, &page[..used]) {
+    if writer.write_all(&page[..used]).is_err() {
         return Sent::Unwritten;
     }
     let next = n.margin;
@@ -44,7 +46,7 @@ fn send_page(m: Margin, s: &[u8], page: &mut [u8]) -> Sent
 }
 
 // Writes the bytes s of the entries, numbered, page after page.
-fn send_pages(m: Margin, s: &[u8], page: &mut [u8]) -> Sent
+fn send_pages<W: Write>(writer: &mut W, m: Margin, s: &[u8], page: &mut [u8]) -> Sent
     requires { length page.old ≡ most_page }
     ensures { SentIs (margin_after m s.now) result }
 {
@@ -52,7 +54,7 @@ fn send_pages(m: Margin, s: &[u8], page: &mut [u8]) -> Sent
     let mut at = 0;
     loop {
         let end = at + lesser(s.len() - at, Numbered::MOST_PIECE);
-        match send_page(next, &s[at..end], page) {
+        match send_page(writer, next, &s[at..end], page) {
             Sent::At(q) => next = q,
             Sent::Unwritten => return Sent::Unwritten,
         }
@@ -64,25 +66,25 @@ fn send_pages(m: Margin, s: &[u8], page: &mut [u8]) -> Sent
 }
 
 // Writes the bytes s as they are.
-fn send_plain(m: Margin, s: &[u8]) -> Sent
+fn send_plain<W: Write>(writer: &mut W, m: Margin, s: &[u8]) -> Sent
     ensures { SentIs m result }
 {
-    if !io::write_all(STDOUT_FILENO, s) {
+    if writer.write_all(s).is_err() {
         return Sent::Unwritten;
     }
     Sent::At(m)
 }
 
 // Passes on the bytes s that a task wrote: entries as pages of the sheet, everything else as it is.
-fn send(task: Task, m: Margin, s: &[u8], page: &mut [u8]) -> Sent
+fn send<W: Write>(writer: &mut W, task: Task, m: Margin, s: &[u8], page: &mut [u8]) -> Sent
     requires { length page.old ≡ most_page }
     ensures { SentIs (margin_of task m s.now) result }
 {
     match task {
-        Task::Answer => send_plain(m, s),
-        Task::Convert => send_plain(m, s),
-        Task::Rows => send_plain(m, s),
-        Task::Enter => send_pages(m, s, page),
+        Task::Answer => send_plain(writer, m, s),
+        Task::Convert => send_plain(writer, m, s),
+        Task::Rows => send_plain(writer, m, s),
+        Task::Enter => send_pages(writer, m, s, page),
     }
 }
 
@@ -104,31 +106,27 @@ enum Ending {
     Unwritten,
 }
 
-// A program has no exit status, so it says on this descriptor how it ended.
-const WORD_FILENO: i32 = 3;
-
 // Reads the next chunk, with this many bytes of a line held, if the sheet stands at m.
-fn read_on(held: usize, buf: &mut [u8], m: Margin) -> Round
+fn read_on<R: Read>(reader: &mut R, held: usize, buf: &mut [u8], m: Margin) -> Round
     ensures { ReadOn held (length buf.new) m result }
 {
-    let got = libc::read(STDIN_FILENO, buf);
-    if got < 0 {
-        return Round::Unread;
+    match reader.read(buf) {
+        Ok(0) => Round::Over(held),
+        Ok(n) => {
+            let begun = Progress {
+                held,
+                at: 0,
+                used: 0,
+            };
+            Round::More(begun, n, m)
+        }
+        Err(_) => Round::Unread,
     }
-    let n = io::count(got, buf);
-    if n == 0 {
-        return Round::Over(held);
-    }
-    let begun = Progress {
-        held,
-        at: 0,
-        used: 0,
-    };
-    Round::More(begun, n, m)
 }
 
 // Passes lines of the chunk from at on, as far as the output is long enough, and passes on what is written of them.
-fn pass(
+fn pass<W: Write>(
+    writer: &mut W,
     task: Task,
     line: &mut [u8],
     held: usize,
@@ -146,14 +144,16 @@ fn pass(
 {
     let p = lines::fill(task, line, held, s, at, out);
     let used = p.used;
-    match send(task, m, &out[..used], page) {
+    match send(writer, task, m, &out[..used], page) {
         Sent::At(q) => Round::More(p, s.len(), q),
         Sent::Unwritten => Round::Unwritten,
     }
 }
 
 // Passes lines of the chunk, the first n bytes of buf, or reads the next one if it is passed.
-fn go_round(
+fn go_round<R: Read, W: Write>(
+    reader: &mut R,
+    writer: &mut W,
     task: Task,
     line: &mut [u8],
     p: Progress,
@@ -170,28 +170,43 @@ fn go_round(
         buf.new out.new }
 {
     if p.at < n {
-        return pass(task, line, p.held, &buf[..n], p.at, out, m, page);
+        return pass(writer, task, line, p.held, &buf[..n], p.at, out, m, page);
     }
-    read_on(p.held, buf, m)
+    read_on(reader, p.held, buf, m)
 }
 
 // Writes what is written of the line that the input ended in, if there is one. Answers whether it could.
-fn close(task: Task, line: &[u8], held: usize, out: &mut [u8], m: Margin, page: &mut [u8]) -> bool
+fn close<W: Write>(
+    writer: &mut W,
+    task: Task,
+    line: &[u8],
+    held: usize,
+    out: &mut [u8],
+    m: Margin,
+    page: &mut [u8],
+) -> bool
     requires held_le_most_held { (held ≤ most_held) × (length line.now ≡ most_held) }
     requires task_in_bounds { most_told task ≤ length out.old }
     requires page_len { length page.old ≡ most_page }
     ensures { out.new ≡ put ((job_of task).last (take held line.now)) 0 out.old }
 {
     let used = lines::finish(task, line, held, out);
-    match send(task, m, &out[..used], page) {
+    match send(writer, task, m, &out[..used], page) {
         Sent::At(_) => true,
         Sent::Unwritten => false,
     }
 }
 
-// A proved loop has to end, and nothing says that the input does. So it counts its rounds down, from a number that no run uses
-// up.
-fn run(task: Task, line: &mut [u8], buf: &mut [u8], out: &mut [u8], page: &mut [u8]) -> Ending
+// A proved loop has to end, and nothing says that the input does. So it counts its rounds, up to a number that no run uses up.
+fn run<R: Read, W: Write>(
+    reader: &mut R,
+    writer: &mut W,
+    task: Task,
+    line: &mut [u8],
+    buf: &mut [u8],
+    out: &mut [u8],
+    page: &mut [u8],
+) -> Ending
     requires line_len { (length line.old ≡ most_held) × (length buf.old ≤ most_part) }
     requires task_in_bounds { (most_told task ≤ length out.old) × (length page.old ≡ most_page) }
 {
@@ -202,16 +217,15 @@ fn run(task: Task, line: &mut [u8], buf: &mut [u8], out: &mut [u8], page: &mut [
         used: 0,
     };
     let mut n: usize = 0;
-    let mut rounds = u64::MAX;
-    while 0 < rounds {
-        match go_round(task, line, p, buf, n, out, m, page) {
+    for _ in 0..u64::MAX {
+        match go_round(reader, writer, task, line, p, buf, n, out, m, page) {
             Round::More(q, k, l) => {
                 p = q;
                 n = k;
                 m = l;
             }
             Round::Over(held) => {
-                if close(task, line, held, out, m, page) {
+                if close(writer, task, line, held, out, m, page) {
                     return Ending::Whole;
                 }
                 return Ending::Unwritten;
@@ -219,25 +233,31 @@ fn run(task: Task, line: &mut [u8], buf: &mut [u8], out: &mut [u8], page: &mut [
             Round::Unread => return Ending::Unread,
             Round::Unwritten => return Ending::Unwritten,
         }
-        rounds -= 1;
     }
     Ending::Unread
 }
 
-// Says how the program ended.
-fn say(e: Ending) {
-    match e {
-        Ending::Whole => io::write_all(WORD_FILENO, b"end\n"),
-        Ending::Unread => io::write_all(WORD_FILENO, b"read\n"),
-        Ending::Unwritten => io::write_all(WORD_FILENO, b"write\n"),
-    };
-}
-
-// A program on lines: standard input to standard output.
-pub fn start(task: Task) {
+// A program on lines, from a reader to a writer.
+fn run_whole<R: Read, W: Write>(reader: &mut R, writer: &mut W, task: Task) -> Ending {
     let mut line = [0u8; Progress::MOST_HELD];
     let mut buf = [0u8; Progress::MOST_PART];
     let mut out = [0u8; 2 * Progress::MOST_PART];
     let mut page = [0u8; Numbered::MOST_PAGE];
-    say(run(task, &mut line, &mut buf, &mut out, &mut page));
+    run(
+        reader, writer, task, &mut line, &mut buf, &mut out, &mut page,
+    )
+}
+
+// The status that says how the program ended.
+fn status(e: Ending) -> ExitCode {
+    match e {
+        Ending::Whole => ExitCode::SUCCESS,
+        Ending::Unread => ExitCode::from(1),
+        Ending::Unwritten => ExitCode::from(2),
+    }
+}
+
+// A program on lines: standard input to standard output.
+pub fn start(rt: HostRuntime, task: Task) -> ExitCode {
+    status(run_whole(&mut rt.stdin(), &mut rt.stdout(), task))
 }
