@@ -1,3 +1,2 @@
--- The laws of the rounds of a program on lines.
-pub mod RoundLaws
+-- The laws of the pages of a program on lines.
 pub mod SendLaws
