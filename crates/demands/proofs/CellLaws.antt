@@ -24,7 +24,6 @@ use Rattle.sheet.specs.Decimal.{decimal_of, signed_of}
 use Rattle.sheet.specs.Sizes.{most_decimals}
 use Rattle.sheet.specs.Entry.{cell_of, cells_of, empty_cells, refused_cells, hex_bytes}
 use Rattle.demands.specs.Cells.{cells_by, cells_in, decimal_from, decimal_read, bytes_read, number_at, RefusedRow, RowRead}
-use Rattle.demands.proofs.LineCases as cases
 
 -- ---- bytes above a limit: those of a cell are above the comma, and digits above the minus sign too
 abbrev Above : ℕ → List ℕ → Type 0

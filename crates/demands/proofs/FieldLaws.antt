@@ -27,7 +27,6 @@ use Rattle.line_frame.proofs.SpelledLaws.{length-refused_line, length-facts_line
 use Rattle.line_room.specs.Told.{spans_told}
 use Rattle.line_room.proofs.ToldLaws.{length-spans_told}
 use Rattle.demands.specs.Fields.{signed_by, signed_at, RefusalRead, AnswerRead, no_span, SpansRead}
-use Rattle.demands.proofs.LineCases as cases
 
 -- ---- a part of a list
 part_left : (l r : List ℕ) (i n : ℕ) → i + n ≤ length l → take n (drop i (l ++ r)) ≡ take n (drop i l)

@@ -22,7 +22,6 @@ use Rattle.steps.proofs.SurvivorLaws.{after-length}
 use Rattle.walk.specs.Walk.{room_from}
 use Rattle.walk.proofs.RoomLaws.{room_full, room_fits, room_end}
 use Rattle.demands.specs.Given.{FirstAt}
-use Rattle.demands.proofs.DemandCases as cases
 
 -- if each place is fine or bad, all are fine or one is the first that is bad
 pub all_or_first : (n : ℕ) (fine bad : ℕ → Type 0) → ((i : ℕ) → fine i ⊎ bad i) → ((i : ℕ) → i < n → fine i) ⊎ ((i : ℕ) × FirstAt n fine bad i)

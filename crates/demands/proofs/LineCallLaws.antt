@@ -58,7 +58,6 @@ use Rattle.demands.specs.Given.{WalkSized, Faultless, GivenWalk}
 use Rattle.demands.specs.Given as goal
 use Rattle.demands.specs.GivenLine.{FrameIs, FineFrame, GivenLine}
 use Rattle.demands.specs.GivenLine as line
-use Rattle.demands.proofs.LineCases as cases
 use Rattle.demands.specs.Fields.{RefusalRead, AnswerRead}
 use Rattle.demands.proofs.GivenLaws.{given_judged, judged_given}
 use Rattle.demands.proofs.AloneLaws.{corners-near}

@@ -28,7 +28,6 @@ use Rattle.layout.proofs.NeighbourLaws.{neighbour_linked, neighbour_none}
 use Rattle.layout.proofs.WordLaws.{child_of, neighbour_of, link_of_lem, edge_of}
 use Rattle.tree_laws.proofs.EdgeLaws.{edge_some, edge_there}
 use Rattle.demands.specs.Record.{IsRef, IsChild, FirstIn, StepBetween, RecordSays}
-use Rattle.demands.proofs.DemandCases as cases
 
 -- ---- first places
 module _ (l : List Corner) (a : Corner) where

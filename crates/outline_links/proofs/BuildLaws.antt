@@ -15,7 +15,7 @@ use lib.Seq.{take-suc, take-suc-set, take-length, length-take-le}
 use Rattle.answer.specs.Limits.{most_steps}
 use Rattle.lists.proofs.DistinctLaws.{mem_get_d}
 use Rattle.grid.specs.declared.Corner.{Corner}
-use Rattle.grid.specs.Grid.{origin, same, stepped, corners_from, end_from}
+use Rattle.grid.specs.Grid.{origin, stepped, corners_from, end_from}
 use Rattle.grid.proofs.StepLaws.{end_from_snoc, end_from-mem, corners_from_snoc, length-corners_from}
 use Rattle.trace.specs.Meeting.{visited_of}
 use Rattle.trace.proofs.VisitLaws.{visited_mem, length_visited_le}

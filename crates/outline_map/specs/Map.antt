@@ -1,6 +1,6 @@
 -- A map of the corners of a walk: one byte for each corner, with a bit for each way whose edge was walked. Assumes nothing.
 use Rattle.lists.specs.Lists.{◌≡◌, Bool, List, List-as-Memᴰ, ℕ, ◌+◌, ◌/◌, ◌%◌, ◌^◌, ◌<◌, ◌≤◌, eqb, length, get_or}
-use Rattle.std.specs.Prelude.{set, bit_or, slice_set}
+use Rattle.std.specs.Prelude.{bit_or, slice_set}
 use Rattle.grid.specs.{declared.Corner.Corner, Grid.stepped, Grid.corners_from, Grid.Begins}
 use Rattle.outline.specs.Outline.{walked, home_of}
 

@@ -95,6 +95,7 @@ pub fits_most : (w : ℕ) → w % pair_width ≡ 0 → 1 ≤ pair_records_in w �
 fits_most w h l = go (pair_records_in w) refl l
   where
     go : (n : ℕ) → pair_records_in w ≡ n → 1 ≤ n → leb (pair_records_in w) most_pair_records ≡ pair_fits w
+    go Prim.Native.Nat.zero e k = elim k [ ]
     go (suc n) e k = rw (eq-eqb (w % pair_width) 0 h, e) (rw (le-leb 1 (suc n) k))
 
 module _ (n m k l : ℕ) where

@@ -85,6 +85,7 @@ pub fits_most : (w : ℕ) → w % width ≡ 0 → 1 ≤ records_in w → leb (re
 fits_most w h l = go (records_in w) refl l
   where
     go : (n : ℕ) → records_in w ≡ n → 1 ≤ n → leb (records_in w) most_records ≡ table_fits w
+    go Prim.Native.Nat.zero e k = elim k [ ]
     go (suc n) e k = rw (eq-eqb (w % width) 0 h, e) (rw (le-leb 1 (suc n) k))
 
 module _ (c : Corner) (os : List ℕ) (w m k : ℕ) where

@@ -1,0 +1,10 @@
+-- `outline_call::map_wider` meets its contract.
+use Prim.Native.Nat.{◌*◌}
+use Rattle.column_laws.specs.Columns.{wider_size}
+use Rattle.outline_call.proofs.ScanLaws.{box_lent}
+use Rattle.outline_call.proofs.map_wider.Goals as goal
+
+pub write_on-requires : goal.write_on-requires
+write_on-requires c =
+    let b = c.args.b in box_lent c.args.chain.now b.width b.height b.from b.closed
+    (16 * wider_size) c.requires

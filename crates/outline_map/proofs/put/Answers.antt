@@ -1,0 +1,102 @@
+-- `outline_map::put` meets its contract.
+use Rattle.std.proofs.Common.{length, sym, refl, ◌∙◌, arith, length-set}
+use Rattle.grid.specs.Grid.{origin}
+use Rattle.outline_map.proofs.WayLaws.{going_start, going_way, going_in, going_first, going_next, going_less, going_end, put_some, put-start, put_next, put_end}
+use Rattle.outline_map.proofs.put.Goals as goal
+
+pub bounds-out-0 : goal.bounds-out-0
+bounds-out-0 c =
+    put_some c.args.chain.now c.args.by.now c.args.map.now c.args.home
+    c.args.first c.requires.0 (length c.args.out.now) c.requires.1
+
+pub go-i-requires : goal.go-i-requires
+go-i-requires c =
+    (going_way c.args.chain.now c.args.by.now c.args.map.now c.args.home
+    c.args.first c.requires.0 0 c.args.home c.args.first
+    (going_start c.args.chain.now c.args.by.now c.args.map.now c.args.home
+    c.args.first c.requires.0)).1
+
+pub bounds-map-i : goal.bounds-map-i
+bounds-map-i c =
+    going_in c.args.chain.now c.args.by.now c.args.map.now c.args.home
+    c.args.first c.requires.0 0 c.args.home c.args.first
+    (going_start c.args.chain.now c.args.by.now c.args.map.now c.args.home
+    c.args.first c.requires.0) c.go-i.result c.go-i.ensures
+
+pub turn-d-requires : goal.turn-d-requires
+turn-d-requires c =
+    (going_way c.args.chain.now c.args.by.now c.args.map.now c.args.home
+    c.args.first c.requires.0 0 c.args.home c.args.first
+    (going_start c.args.chain.now c.args.by.now c.args.map.now c.args.home
+    c.args.first c.requires.0)).0
+
+pub loop-out-init : goal.loop-out-init
+loop-out-init c = (
+  going_first c.args.chain.now c.args.by.now c.args.map.now c.args.home
+      c.args.first c.requires.0 0 c.args.home c.args.first
+      (going_start c.args.chain.now c.args.by.now c.args.map.now c.args.home
+      c.args.first c.requires.0) refl c.go-i.result c.turn-d.result c.go-i.ensures c.turn-d.ensures,
+  omega arith,
+  put-start c.args.chain.now c.args.by.now c.args.map.now c.args.home
+      c.args.first c.requires.0 c.args.out.now
+      (put_some c.args.chain.now c.args.by.now c.args.map.now c.args.home
+      c.args.first c.requires.0 (length c.args.out.now) c.requires.1),
+  refl,
+)
+
+pub bounds-out-n : goal.bounds-out-n
+bounds-out-n c =
+    let l = c.loop-out in
+    omega (arith, l.invariant.3, length-set c.args.out.now 0 c.args.first, c.requires.1 origin, (going_less c.args.chain.now c.args.by.now c.args.map.now c.args.home c.args.first c.requires.0 l.n l.i l.d l.invariant.0 (sym c.away.ensures ∙ c.loop-out-test.true) origin).0)
+
+pub go-i-requires-in-loop-out : goal.go-i-requires-in-loop-out
+go-i-requires-in-loop-out c =
+    let l = c.loop-out in (going_way c.args.chain.now c.args.by.now c.args.map.now
+    c.args.home c.args.first c.requires.0 l.n l.i l.d l.invariant.0).1
+
+pub bounds-map-i-in-loop-out : goal.bounds-map-i-in-loop-out
+bounds-map-i-in-loop-out c =
+    let l = c.loop-out in going_in c.args.chain.now c.args.by.now c.args.map.now
+    c.args.home c.args.first c.requires.0 l.n l.i l.d l.invariant.0 c.go-i-in-loop-out.result
+    c.go-i-in-loop-out.ensures
+
+pub turn-d-requires-in-loop-out : goal.turn-d-requires-in-loop-out
+turn-d-requires-in-loop-out c =
+    let l = c.loop-out in (going_way c.args.chain.now c.args.by.now c.args.map.now
+    c.args.home c.args.first c.requires.0 l.n l.i l.d l.invariant.0).0
+
+pub overflow_add-n : goal.overflow_add-n
+overflow_add-n c =
+    let l = c.loop-out in omega
+    (arith, c.requires.0.short, (going_less c.args.chain.now c.args.by.now c.args.map.now c.args.home c.args.first c.requires.0 l.n l.i l.d l.invariant.0 (sym c.away.ensures ∙ c.loop-out-test.true) origin).1)
+
+pub loop-out-smaller : goal.loop-out-smaller
+loop-out-smaller c =
+    let l = c.loop-out in omega
+    (arith, (going_less c.args.chain.now c.args.by.now c.args.map.now c.args.home c.args.first c.requires.0 l.n l.i l.d l.invariant.0 (sym c.away.ensures ∙ c.loop-out-test.true) origin).1)
+
+pub loop-out-preserved : goal.loop-out-preserved
+loop-out-preserved c =
+    let l = c.loop-out in
+    let g = (going_less c.args.chain.now c.args.by.now c.args.map.now c.args.home c.args.first c.requires.0 l.n l.i l.d l.invariant.0 (sym c.away.ensures ∙ c.loop-out-test.true) origin).0 in (
+      going_next c.args.chain.now c.args.by.now c.args.map.now c.args.home
+          c.args.first c.requires.0 l.n l.i l.d l.invariant.0
+          (sym c.away.ensures ∙ c.loop-out-test.true) c.go-i-in-loop-out.result c.turn-d-in-loop-out.result c.go-i-in-loop-out.ensures
+          c.turn-d-in-loop-out.ensures,
+      omega arith,
+      put_next c.args.chain.now c.args.by.now c.args.map.now c.args.home
+          c.args.first c.requires.0 _ l.out l.n l.i l.d l.invariant.0 l.invariant.2
+          (omega (arith, g, c.requires.1 origin, length-set c.args.out.now 0 c.args.first)),
+      length-set l.out l.n l.d ∙ l.invariant.3,
+    )
+
+pub shape_of-out : goal.shape_of-out
+shape_of-out c = c.loop-out.invariant.3 ∙ length-set c.args.out.now 0 c.args.first
+
+pub returns : goal.returns
+returns c =
+    let l = c.loop-out in
+    let e = going_end c.args.chain.now c.args.by.now c.args.map.now c.args.home
+    c.args.first c.requires.0 l.n l.i l.d l.invariant.0 l.invariant.1
+    (sym c.away.ensures ∙ c.loop-out-test.false) in
+    (e, put_end c.args.chain.now c.args.by.now c.args.map.now c.args.home c.args.first c.requires.0 c.args.out.now l.out l.n l.invariant.1 l.invariant.2 e)

@@ -1,0 +1,64 @@
+-- `outline_path::count` meets its contract.
+use mathlib.Core.Path.{sym, ◌∙◌}
+use native.Mathlib.Omega.{arith}
+use Rattle.grid.specs.Grid.{origin}
+use Rattle.outline_path.proofs.RingLaws.{at-start, at_link, at-to, going_start, going_next, going_less, going_end}
+use Rattle.outline_path.proofs.count.Goals as goal
+
+pub follow-i-requires : goal.follow-i-requires
+follow-i-requires c =
+    let a = c.args in
+    at_link origin a.chain.now a.links.now a.home a.first c.requires 0 a.home a.first (at-start origin a.chain.now a.links.now a.home a.first c.requires)
+
+pub turn-d-requires : goal.turn-d-requires
+turn-d-requires c =
+    let a = c.args in
+    let p = c.requires in
+    at-to origin a.chain.now a.links.now a.home a.first (p) 0 a.home a.first
+    (at-start origin a.chain.now a.links.now a.home a.first (p)) c.follow-i.result c.follow-i.ensures
+
+pub loop-j-init : goal.loop-j-init
+loop-j-init c =
+    going_start c.args.chain.now c.args.links.now c.args.home c.args.first
+    c.requires c.follow-i.result c.turn-d.result c.follow-i.ensures c.turn-d.ensures
+
+pub follow-j-requires : goal.follow-j-requires
+follow-j-requires c =
+    let a = c.args in
+    let l = c.loop-j in
+    at_link origin a.chain.now a.links.now a.home a.first c.requires l.n l.i l.d (l.invariant origin).at
+
+pub turn-d-requires-in-loop-j : goal.turn-d-requires-in-loop-j
+turn-d-requires-in-loop-j c =
+    let a = c.args in
+    let l = c.loop-j in
+    at-to origin a.chain.now a.links.now a.home a.first c.requires l.n l.i l.d (l.invariant origin).at
+    c.follow-j.result c.follow-j.ensures
+
+pub overflow_add-n : goal.overflow_add-n
+overflow_add-n c =
+    let a = c.args in
+    let p = c.requires in
+    let l = c.loop-j in
+    omega (arith, p.short, going_less a.chain.now a.links.now a.home a.first (p) l.n l.i l.d l.invariant (sym c.away.ensures ∙ c.loop-j-test.true))
+
+pub loop-j-smaller : goal.loop-j-smaller
+loop-j-smaller c =
+    let a = c.args in
+    let l = c.loop-j in
+    omega (arith, going_less a.chain.now a.links.now a.home a.first c.requires l.n l.i l.d l.invariant (sym c.away.ensures ∙ c.loop-j-test.true))
+
+pub loop-j-preserved : goal.loop-j-preserved
+loop-j-preserved c =
+    let a = c.args in
+    let l = c.loop-j in
+    going_next a.chain.now a.links.now a.home a.first c.requires l.n l.i l.d l.invariant
+    (sym c.away.ensures ∙ c.loop-j-test.true) c.follow-j.result c.turn-d-in-loop-j.result
+    c.follow-j.ensures c.turn-d-in-loop-j.ensures
+
+pub returns : goal.returns
+returns c =
+    let a = c.args in
+    let l = c.loop-j in
+    going_end a.chain.now a.links.now a.home a.first c.requires l.n l.i l.d l.invariant
+    (sym c.away.ensures ∙ c.loop-j-test.false)

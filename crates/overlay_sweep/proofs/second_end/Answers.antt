@@ -1,0 +1,29 @@
+-- `overlay_sweep::second_end` meets its contract.
+use native.Mathlib.Omega.{arith}
+use mathlib.Core.Path.{ap₂, sym, ◌∙◌, subst}
+use Prim.Native.Nat.{◌+◌, ◌*◌, ◌/◌, ◌%◌, ◌≤◌}
+use lib.ListN.{get_or}
+use lib.IntN.{ℤ, pos, nat_abs, ◌+ℤ◌}
+use Rattle.grid.specs.Grid.{corner}
+use Rattle.overlay_sweep.proofs.EndLaws.{long-back}
+use Rattle.overlay_sweep.proofs.second_end.Goals as goal
+
+pub returns-then-i-n : goal.returns-then-i-n
+returns-then-i-n c = λ h. absurd (omega arith)
+
+pub foot-requires : goal.foot-requires
+foot-requires c =
+    let s = c.requires.small (3 * (c.args.i / 2) + 1 + c.args.i % 2) (omega (arith, c.requires.even)) in
+    subst (λ (v : ℤ). nat_abs v ≤ 32767)
+    (sym (long-back (get_or c.args.list.now (3 * (c.args.i / 2) + 1 + c.args.i % 2) (pos 0))
+    (omega (arith, s)))) s
+
+pub returns : goal.returns
+returns c =
+    λ h.
+    let s = c.requires.small (3 * (c.args.i / 2) + 1 + c.args.i % 2) (omega (arith, c.requires.even)) in
+    let t = c.requires.small (3 * (c.args.i / 2)) (omega (arith, c.requires.even)) in
+    c.foot.ensures
+    ∙ ap₂ (λ (x y : ℤ). corner (x +ℤ pos (c.args.i % 2)) y)
+    (long-back (get_or c.args.list.now (3 * (c.args.i / 2) + 1 + c.args.i % 2) (pos 0))
+    (omega (arith, s))) (long-back (get_or c.args.list.now (3 * (c.args.i / 2)) (pos 0)) (omega (arith, t)))

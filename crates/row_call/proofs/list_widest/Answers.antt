@@ -1,0 +1,12 @@
+-- `row_call::list_widest` meets its contract.
+use native.Mathlib.Omega.{arith}
+use lib.ListN.{length}
+use Rattle.answer.specs.Limits.{most_steps}
+use Prim.Native.Nat.{◌+◌}
+use Rattle.row_call.proofs.CallLaws.{fresh}
+use Rattle.row_call.proofs.list_widest.Goals as goal
+
+pub list_in-requires : goal.list_in-requires
+list_in-requires c =
+    let m = c.start-m in
+    (c.requires.0, fresh (length c.args.chain.now) m.result (most_steps + 2) most_steps m.ensures.0 (omega (arith, m.ensures.1, c.requires.0.few)) (omega arith) (omega (arith, c.requires.0.few)), c.requires.1)
