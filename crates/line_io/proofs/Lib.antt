@@ -1,2 +1,3 @@
--- The laws of the pages of a program on lines.
+-- The laws of the pages and of the rounds of a program on lines.
 pub mod SendLaws
+pub mod RunLaws

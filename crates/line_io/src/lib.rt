@@ -2,15 +2,18 @@
 // ended.
 #![tactic(auto)]
 
-ghost use Rattle.std.specs.Prelude.{◌≡◌, ◌≤◌, length, take};
-ghost use Rattle.sheet.specs.Sheet.{margin_after};
+ghost use Rattle.std.specs.Prelude.{◌≡◌, ◌<◌, ◌≤◌, IsTrue, length, take};
+ghost use Rattle.sheet.specs.Sheet.{margin_after, page_of};
 ghost use Rattle.sheet_number.specs.Numbered.{most_piece, most_page};
-ghost use Rattle.lines.specs.Tasks.{margin_of, most_told, job_of};
-ghost use Rattle.line_io.specs.Send.{SentIs};
+ghost use Rattle.lines.specs.Tasks.{handed_of, margin_of, most_told, job_of};
+ghost use Rattle.line_io.specs.Send.{SentIs, Adds};
 ghost use Rattle.line_frame.specs.Sizes.{most_held};
 ghost use Rattle.line_fields.specs.Put.{put};
 ghost use Rattle.line_stream.specs.Stream.{most_part};
-ghost use Rattle.line_io.specs.Round.{ReadOn, PassedOn, RoundIs};
+ghost use Rattle.line_io.specs.Round.{ReadOn, PassedOn, RoundIs, Takes, Gives, Moves};
+ghost use Rattle.line_io.specs.Whole.{Ends, status_of};
+ghost use Rattle.std.specs.Io.KnownBytes.{Appends};
+ghost use Rattle.std.specs.Process.{exit_status};
 
 use line_stream::Progress;
 use lines::Task;
@@ -31,7 +34,8 @@ enum Sent {
 fn send_page<W: Write>(writer: &mut W, m: Margin, s: &[u8], page: &mut [u8]) -> Sent
     requires s_len_bound { length s.now ≤ most_piece }
     requires page_len { length page.old ≡ most_page }
-    ensures { SentIs (margin_after m s.now) result }
+    ensures at { SentIs (margin_after m s.now) result }
+    ensures bytes { Adds (W.contents writer.old) (W.contents writer.new) (page_of m s.now) result }
 {
     if Numbered::MOST_NUMBER < m.line {
         return Sent::Unwritten;
@@ -48,7 +52,8 @@ fn send_page<W: Write>(writer: &mut W, m: Margin, s: &[u8], page: &mut [u8]) -> 
 // Writes the bytes s of the entries, numbered, page after page.
 fn send_pages<W: Write>(writer: &mut W, m: Margin, s: &[u8], page: &mut [u8]) -> Sent
     requires { length page.old ≡ most_page }
-    ensures { SentIs (margin_after m s.now) result }
+    ensures at { SentIs (margin_after m s.now) result }
+    ensures bytes { Adds (W.contents writer.old) (W.contents writer.new) (page_of m s.now) result }
 {
     let mut next = m;
     let mut at = 0;
@@ -67,7 +72,8 @@ fn send_pages<W: Write>(writer: &mut W, m: Margin, s: &[u8], page: &mut [u8]) ->
 
 // Writes the bytes s as they are.
 fn send_plain<W: Write>(writer: &mut W, m: Margin, s: &[u8]) -> Sent
-    ensures { SentIs m result }
+    ensures at { SentIs m result }
+    ensures bytes { Adds (W.contents writer.old) (W.contents writer.new) s.now result }
 {
     if writer.write_all(s).is_err() {
         return Sent::Unwritten;
@@ -78,7 +84,8 @@ fn send_plain<W: Write>(writer: &mut W, m: Margin, s: &[u8]) -> Sent
 // Passes on the bytes s that a task wrote: entries as pages of the sheet, everything else as it is.
 fn send<W: Write>(writer: &mut W, task: Task, m: Margin, s: &[u8], page: &mut [u8]) -> Sent
     requires { length page.old ≡ most_page }
-    ensures { SentIs (margin_of task m s.now) result }
+    ensures at { SentIs (margin_of task m s.now) result }
+    ensures bytes { Adds (W.contents writer.old) (W.contents writer.new) (handed_of task m s.now) result }
 {
     match task {
         Task::Answer => send_plain(writer, m, s),
@@ -100,7 +107,7 @@ enum Round {
 
 // How a program ended: all was read and written, or a read or a write failed.
 #[derive(Clone, Copy)]
-enum Ending {
+pub enum Ending {
     Whole,
     Unread,
     Unwritten,
@@ -108,7 +115,8 @@ enum Ending {
 
 // Reads the next chunk, with this many bytes of a line held, if the sheet stands at m.
 fn read_on<R: Read>(reader: &mut R, held: usize, buf: &mut [u8], m: Margin) -> Round
-    ensures { ReadOn held (length buf.new) m result }
+    ensures round { ReadOn held (length buf.new) m result }
+    ensures bytes { Takes (R.remaining reader.old) (R.remaining reader.new) buf.new result }
 {
     match reader.read(buf) {
         Ok(0) => Round::Over(held),
@@ -139,8 +147,9 @@ fn pass<W: Write>(
     requires held_le_most_held { (held ≤ most_held) × (length line.old ≡ most_held) }
     requires at_in_bounds { (at ≤ length s.now) × (length s.now ≤ most_part) }
     requires page_len { length page.old ≡ most_page }
-    ensures { PassedOn task line.old held s.now at out.old m result
+    ensures passed { PassedOn task line.old held s.now at out.old m result
         line.new out.new }
+    ensures bytes { Gives task m (W.contents writer.old) (W.contents writer.new) out.new result }
 {
     let p = lines::fill(task, line, held, s, at, out);
     let used = p.used;
@@ -166,8 +175,10 @@ fn go_round<R: Read, W: Write>(
     requires held_le_most_held { (p.held ≤ most_held) × (length line.old ≡ most_held) }
     requires n_in_bounds { (n ≤ length buf.old) × (length buf.old ≤ most_part) }
     requires page_len { length page.old ≡ most_page }
-    ensures { RoundIs task line.old p buf.old n out.old m result line.new
+    ensures round { RoundIs task line.old p buf.old n out.old m result line.new
         buf.new out.new }
+    ensures bytes { Moves task p n m result buf.new out.new (R.remaining reader.old) (R.remaining reader.new)
+        (W.contents writer.old) (W.contents writer.new) }
 {
     if p.at < n {
         return pass(writer, task, line, p.held, &buf[..n], p.at, out, m, page);
@@ -188,7 +199,9 @@ fn close<W: Write>(
     requires held_le_most_held { (held ≤ most_held) × (length line.now ≡ most_held) }
     requires task_in_bounds { most_told task ≤ length out.old }
     requires page_len { length page.old ≡ most_page }
-    ensures { out.new ≡ put ((job_of task).last (take held line.now)) 0 out.old }
+    ensures out { out.new ≡ put ((job_of task).last (take held line.now)) 0 out.old }
+    ensures bytes { IsTrue result → Appends (W.contents writer.old) (W.contents writer.new)
+        (handed_of task m ((job_of task).last (take held line.now))) }
 {
     let used = lines::finish(task, line, held, out);
     match send(writer, task, m, &out[..used], page) {
@@ -209,6 +222,7 @@ fn run<R: Read, W: Write>(
 ) -> Ending
     requires line_len { (length line.old ≡ most_held) × (length buf.old ≤ most_part) }
     requires task_in_bounds { (most_told task ≤ length out.old) × (length page.old ≡ most_page) }
+    ensures { 0 < length buf.old → Ends task (R.remaining reader.old) (W.contents writer.old) (W.contents writer.new) result }
 {
     let mut m = Numbered::top();
     let mut p = Progress {
@@ -238,7 +252,9 @@ fn run<R: Read, W: Write>(
 }
 
 // A program on lines, from a reader to a writer.
-fn run_whole<R: Read, W: Write>(reader: &mut R, writer: &mut W, task: Task) -> Ending {
+pub fn pass_all<R: Read, W: Write>(reader: &mut R, writer: &mut W, task: Task) -> Ending
+    ensures { Ends task (R.remaining reader.old) (W.contents writer.old) (W.contents writer.new) result }
+{
     let mut line = [0u8; Progress::MOST_HELD];
     let mut buf = [0u8; Progress::MOST_PART];
     let mut out = [0u8; 2 * Progress::MOST_PART];
@@ -249,15 +265,19 @@ fn run_whole<R: Read, W: Write>(reader: &mut R, writer: &mut W, task: Task) -> E
 }
 
 // The status that says how the program ended.
-fn status(e: Ending) -> ExitCode {
+fn status(e: Ending) -> ExitCode
+    ensures { exit_status result ≡ status_of e }
+{
     match e {
-        Ending::Whole => ExitCode::SUCCESS,
+        Ending::Whole => ExitCode::from(0),
         Ending::Unread => ExitCode::from(1),
         Ending::Unwritten => ExitCode::from(2),
     }
 }
 
 // A program on lines: standard input to standard output.
-pub fn start(rt: HostRuntime, task: Task) -> ExitCode {
-    status(run_whole(&mut rt.stdin(), &mut rt.stdout(), task))
+pub fn start(rt: HostRuntime, task: Task) -> ExitCode
+    ensures { exit_status result ≤ 2 }
+{
+    status(pass_all(&mut rt.stdin(), &mut rt.stdout(), task))
 }
