@@ -71,10 +71,8 @@ fn run<W: Write>(out: &mut W, ops: &[u8], records: usize) -> io::Result<()>
 fn read(digits: &[u8], ops: &mut [u8])
     requires { length digits.now ≤ length ops.old }
 {
-    let mut i = 0;
-    while i < digits.len() {
-        ops[i] = digits[i] % 16;
-        i += 1;
+    for (i, digit) in digits.iter().enumerate() {
+        ops[i] = *digit % 16;
     }
 }
 
