@@ -1,6 +1,5 @@
 -- What a round of a program on lines leaves: it passes lines of a chunk, or reads the next one. Assumes nothing.
-use Rattle.lists.specs.Lists.{◌≡◌, List, [], length, take, ℕ, ◌<◌, ◌≤◌}
-use Rattle.std.specs.Prelude.{Option}
+use Rattle.std.specs.Prelude.{◌≡◌, List, [], length, take, ℕ, ◌<◌, ◌≤◌, Option}
 use Rattle.std.specs.Io.KnownBytes.{Appends, Consumes, IsAtEnd}
 use Rattle.line_stream.specs.{declared.Progress.Progress, Fill.Filled}
 use Rattle.sheet.specs.declared.Margin.{Margin}

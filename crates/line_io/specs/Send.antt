@@ -1,6 +1,5 @@
 -- Bytes that were passed on. Assumes nothing.
-use Rattle.lists.specs.Lists.{◌≡◌, List, ℕ}
-use Rattle.std.specs.Prelude.{Option}
+use Rattle.std.specs.Prelude.{◌≡◌, List, ℕ, Option}
 use Rattle.std.specs.Io.KnownBytes.{Appends}
 use Rattle.sheet.specs.declared.Margin.{Margin}
 use Rattle.line_io.specs.declared.Sent.{Sent, TheVariants.At, TheVariants.Unwritten}

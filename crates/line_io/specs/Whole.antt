@@ -1,6 +1,5 @@
 -- What a whole run of a program on lines does. Assumes nothing.
-use Rattle.lists.specs.Lists.{◌≡◌, List, ◌++◌, ℕ}
-use Rattle.std.specs.Prelude.{Option, IfSome}
+use Rattle.std.specs.Prelude.{◌≡◌, List, ◌++◌, ℕ, Option, IfSome}
 use Rattle.std.specs.Io.KnownBytes.{Appends}
 use Rattle.lines.specs.{declared.Task.Task, Tasks.all_handed}
 use Rattle.line_io.specs.declared.Ending.{Ending, TheVariants.Whole, TheVariants.Unread, TheVariants.Unwritten}

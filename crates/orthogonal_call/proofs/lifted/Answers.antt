@@ -1,6 +1,4 @@
 -- `orthogonal_call::lifted` meets its contract.
--- Assumes nothing.
-use borrow.Author.Rules.{rules}
 use native.Mathlib.Omega.{arith}
 use mathlib.Core.Path.{◌≡◌}
 use lib.IntN.{pos, ◌+ℤ◌, ◌-ℤ◌}
@@ -10,10 +8,9 @@ use mir.Facts.{to_z-of_z, to_z_pos}
 use Rattle.int_laws.proofs.RangeLaws.{abs+, abs-, sfits_abs}
 use Prim.Native.Nat.{◌*◌}
 use Rattle.orthogonal_call.proofs.CallLaws.{lift_casts, lift-is}
-use Rattle.orthogonal_call.proofs.lifted.Statement.{statement}
-use Rattle.orthogonal_call.proofs.lifted.Tie as tie
 use Rattle.orthogonal_call.proofs.lifted.Reads as reads
 use Rattle.orthogonal_call.proofs.lifted.Lts as lts
+use Rattle.orthogonal_call.proofs.lifted.Goals as goal
 
 middle-is : (c : lts.Start reads.Pre reads.Post) → to_z w32 c.args.m ≡ pos c.args.m
 middle-is c = to_z_pos w32 (omega arith)
@@ -27,19 +24,16 @@ less c = sfits_abs w32 (c.args.z -ℤ pos c.args.m) (omega (arith, c.requires.0,
 sum : (c : lts.Start reads.Pre reads.Post) → SFits w32 ((c.args.z -ℤ pos c.args.m) +ℤ pos (32768 * c.args.g))
 sum c = sfits_abs w32 ((c.args.z -ℤ pos c.args.m) +ℤ pos (32768 * c.args.g)) (omega (arith, c.requires.0, c.requires.1, c.requires.3, abs+ (c.args.z -ℤ pos c.args.m) (pos (32768 * c.args.g)), abs- c.args.z (pos c.args.m)))
 
-sub-result : tie.Need-overflow-sub-result
-sub-result c = simp (to_z-of_z c.ranges.z, middle-is c) (less c)
+pub overflow_sub-result : goal.overflow_sub-result
+overflow_sub-result c = simp (to_z-of_z c.ranges.z, middle-is c) (less c)
 
-add-result : tie.Need-overflow-add-result
-add-result c = simp (to_z-of_z c.ranges.z, middle-is c, blocks-are c, to_z-of_z (less c)) (sum c)
+pub overflow_add-result : goal.overflow_add-result
+overflow_add-result c = simp (to_z-of_z c.ranges.z, middle-is c, blocks-are c, to_z-of_z (less c)) (sum c)
 
-cast-result-3 : tie.Need-overflow-cast-result-3
-cast-result-3 c = simp (to_z-of_z c.ranges.z, middle-is c, blocks-are c, to_z-of_z (less c), to_z-of_z (sum c)) (lift_casts c.args.z c.args.m c.args.g c.requires.0 c.requires.1 c.requires.2 c.requires.3)
+pub overflow_cast-result-3 : goal.overflow_cast-result-3
+overflow_cast-result-3 c =
+    simp (to_z-of_z c.ranges.z, middle-is c, blocks-are c, to_z-of_z (less c), to_z-of_z (sum c)) (lift_casts c.args.z c.args.m c.args.g c.requires.0 c.requires.1 c.requires.2 c.requires.3)
 
-returns : tie.Need-returns
-returns c = simp (to_z-of_z c.ranges.z, middle-is c, blocks-are c, to_z-of_z (less c), to_z-of_z (sum c)) (lift-is c.args.z c.args.m c.args.g c.requires.0 c.requires.1 c.requires.2 c.requires.3)
-
-pub lifted-spec : {M : Type 1} → statement M
-lifted-spec =
-    tie.close
-    (tie.spec (λ c. search rules) sub-result (λ c. search rules) (λ c. search rules) add-result cast-result-3 returns)
+pub returns : goal.returns
+returns c =
+    simp (to_z-of_z c.ranges.z, middle-is c, blocks-are c, to_z-of_z (less c), to_z-of_z (sum c)) (lift-is c.args.z c.args.m c.args.g c.requires.0 c.requires.1 c.requires.2 c.requires.3)
