@@ -14,7 +14,9 @@ OPERATORS = {"→", "×", "⊎", "↔", "≡", "∷", "++", "+", "&&", "||"}
 
 
 def broken(line):
-    """The line in two, or as it is if there is no such place."""
+    """The line in two, or as it is if there is no such place; a comment stays as it is."""
+    if line.lstrip().startswith(("--", "//")):
+        return [line]
     indent = len(line) - len(line.lstrip())
     best, depth = None, 0
     for at, c in enumerate(line):

@@ -29,8 +29,8 @@ pub record RoundIs (t : Task) (line : List ℕ) (p : Progress) (buf : List ℕ) 
   pub on : p.at < n → PassedOn t line p.held (take n buf) p.at out m r line' out' × (buf' ≡ buf)
   pub next : n ≤ p.at → ReadOn p.held (length buf) m r × (line' ≡ line) × (out' ≡ out)
 
--- a read into a buffer, which is buf' after it: the chunk is taken off the known bytes of the reader; if the input is over, none of
--- them are left
+-- a read into a buffer, which is buf' after it: the chunk is taken off the known bytes of the reader; if the input is over, none
+-- of them are left
 abbrev pub Takes : Option (List ℕ) → Option (List ℕ) → List ℕ → Round → Type 0
 Takes old new buf' (More p n q) = Consumes old new (take n buf')
 Takes old new buf' (Over n) = Consumes old new [] × (0 < length buf' → IsAtEnd new)

@@ -8,8 +8,8 @@ use Rattle.line_io.specs.declared.Ending.{Ending, TheVariants.Whole, TheVariants
 abbrev pub Begun : Option (List ℕ) → Option (List ℕ) → List ℕ → Type 0
 Begun old new w = (begun rest : List ℕ) × Appends old new begun × (begun ++ rest ≡ w)
 
--- if it is known which bytes the reader had left, `left`: all that is passed on for them was written, if the run ended whole; and a
--- beginning of it, if a read failed
+-- if it is known which bytes the reader had left, `left`: all that is passed on for them was written, if the run ended whole; and
+-- a beginning of it, if a read failed
 abbrev pub Ends : Task → Option (List ℕ) → Option (List ℕ) → Option (List ℕ) → Ending → Type 0
 Ends t left held held' Whole = IfSome left (λ s. Appends held held' (all_handed t s))
 Ends t left held held' Unread = IfSome left (λ s. Begun held held' (all_handed t s))
