@@ -18,7 +18,7 @@ use Rattle.lines.specs.Tasks.{job_of, fed_line_of, last_line_of, output_of, hand
 use Rattle.lines.proofs.TaskLaws.{job_does}
 use Rattle.lines.proofs.Demand.{run_task}
 use Rattle.line_io.specs.declared.Round.{Round, TheVariants.More, TheVariants.Over, TheVariants.Unread}
-use Rattle.line_io.specs.Round.{RoundIs, Moves}
+use Rattle.line_io.specs.Round.{RoundIs, Flows}
 use Rattle.line_io.specs.Whole.{Begun}
 
 -- what is passed on of two parts, one after the other
@@ -119,14 +119,14 @@ sofar_broken t (Some s) (Some r) held held' f = begun_of f r s f.took
 -- a round: the chunk is the first n bytes of buf, and was passed up to the place of p
 module _ {t : Task} {line buf out line' buf' out' : List ℕ} {p : Progress} {n : ℕ} {m : Margin} {r : Round} {left left' left'' held held' held'' : Option (List ℕ)}
     (f : Sofar t left left' held held' m (take p.held line) (drop p.at (take n buf)))
-    (i : RoundIs t line p buf n out m r line' buf' out') (j : Moves t p n m r buf' out' left' left'' held' held'') (fits : n ≤ length buf) where
+    (i : RoundIs t line p buf n out m r line' buf' out') (j : Flows t p n m r buf' out' left' left'' held' held'') (fits : n ≤ length buf) where
   none_left : n ≤ p.at → drop p.at (take n buf) ≡ []
   none_left l = drop_all p.at (take n buf) (omega (arith, length-take-le n buf fits))
 
   pub round_more : {q : Progress} {k : ℕ} {o : Margin} → r ≡ More q k o → Sofar t left left'' held held'' o (take q.held line') (drop q.at (take k buf'))
   round_more {q} {k} {o} e =
       let a : RoundIs t line p buf n out m (More q k o) line' buf' out' = subst (λ (x : Round). RoundIs t line p buf n out m x line' buf' out') e i in
-      let b : Moves t p n m (More q k o) buf' out' left' left'' held' held'' = subst (λ (x : Round). Moves t p n m x buf' out' left' left'' held' held'') e j in
+      let b : Flows t p n m (More q k o) buf' out' left' left'' held' held'' = subst (λ (x : Round). Flows t p n m x buf' out' left' left'' held' held'') e j in
       elim (dec_lt p.at n) [
         | yes l ↦
             let (passed, same) = a.on l in
@@ -159,7 +159,7 @@ module _ {t : Task} {line buf out line' buf' out' : List ℕ} {p : Progress} {n 
       → IfSome left (λ s. Appends held last (all_handed t s))
   round_over {k} last e z g =
       let a : RoundIs t line p buf n out m (Over k) line' buf' out' = subst (λ (x : Round). RoundIs t line p buf n out m x line' buf' out') e i in
-      let b : Moves t p n m (Over k) buf' out' left' left'' held' held'' = subst (λ (x : Round). Moves t p n m x buf' out' left' left'' held' held'') e j in
+      let b : Flows t p n m (Over k) buf' out' left' left'' held' held'' = subst (λ (x : Round). Flows t p n m x buf' out' left' left'' held' held'') e j in
       elim (dec_lt p.at n) [
         | yes l ↦ absurd (a.on l).0
         | no o ↦
@@ -175,7 +175,7 @@ module _ {t : Task} {line buf out line' buf' out' : List ℕ} {p : Progress} {n 
   pub round_unread : r ≡ Unread → IfSome left (λ s. Begun held held'' (all_handed t s))
   round_unread e =
       let a : RoundIs t line p buf n out m Unread line' buf' out' = subst (λ (x : Round). RoundIs t line p buf n out m x line' buf' out') e i in
-      let b : Moves t p n m Unread buf' out' left' left'' held' held'' = subst (λ (x : Round). Moves t p n m x buf' out' left' left'' held' held'') e j in
+      let b : Flows t p n m Unread buf' out' left' left'' held' held'' = subst (λ (x : Round). Flows t p n m x buf' out' left' left'' held' held'') e j in
       elim (dec_lt p.at n) [
         | yes l ↦ absurd (a.on l).0
         | no o ↦

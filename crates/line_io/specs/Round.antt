@@ -45,7 +45,7 @@ Gives t m old new out' Unread = ⊥
 Gives t m old new out' Unwritten = Unit {0}
 
 -- what a round does to the known bytes that the reader has left and to those that the writer holds
-pub record Moves (t : Task) (p : Progress) (n : ℕ) (m : Margin) (r : Round) (buf' out' : List ℕ)
+pub record Flows (t : Task) (p : Progress) (n : ℕ) (m : Margin) (r : Round) (buf' out' : List ℕ)
     (left left' held held' : Option (List ℕ)) : Type 0 where
   pub on : p.at < n → Gives t m held held' out' r × (left' ≡ left)
   pub next : n ≤ p.at → Takes left left' buf' r × (held' ≡ held)

@@ -10,7 +10,7 @@ ghost use Rattle.line_io.specs.Send.{SentIs, Adds};
 ghost use Rattle.line_frame.specs.Sizes.{most_held};
 ghost use Rattle.line_fields.specs.Put.{put};
 ghost use Rattle.line_stream.specs.Stream.{most_part};
-ghost use Rattle.line_io.specs.Round.{ReadOn, PassedOn, RoundIs, Takes, Gives, Moves};
+ghost use Rattle.line_io.specs.Round.{ReadOn, PassedOn, RoundIs, Takes, Gives, Flows};
 ghost use Rattle.line_io.specs.Whole.{Ends, status_of};
 ghost use Rattle.std.specs.Io.KnownBytes.{Appends};
 ghost use Rattle.std.specs.Process.{exit_status};
@@ -177,7 +177,7 @@ fn go_round<R: Read, W: Write>(
     requires page_len { length page.old ≡ most_page }
     ensures round { RoundIs task line.old p buf.old n out.old m result line.new
         buf.new out.new }
-    ensures bytes { Moves task p n m result buf.new out.new (R.remaining reader.old) (R.remaining reader.new)
+    ensures bytes { Flows task p n m result buf.new out.new (R.remaining reader.old) (R.remaining reader.new)
         (W.contents writer.old) (W.contents writer.new) }
 {
     if p.at < n {
