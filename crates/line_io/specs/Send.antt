@@ -10,6 +10,6 @@ SentIs m (At n) = n ≡ m
 SentIs m Unwritten = Unit {0}
 
 -- if all was written, the known bytes of the writer grew by w
-abbrev pub Adds : Option (List ℕ) → Option (List ℕ) → List ℕ → Sent → Type 0
-Adds old new w (At n) = Appends old new w
-Adds old new w Unwritten = Unit {0}
+abbrev pub Grows : Option (List ℕ) → Option (List ℕ) → List ℕ → Sent → Type 0
+Grows old new w (At n) = Appends old new w
+Grows old new w Unwritten = Unit {0}

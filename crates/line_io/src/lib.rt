@@ -6,7 +6,7 @@ ghost use Rattle.std.specs.Prelude.{◌≡◌, ◌<◌, ◌≤◌, IsTrue, lengt
 ghost use Rattle.sheet.specs.Sheet.{margin_after, page_of};
 ghost use Rattle.sheet_number.specs.Numbered.{most_piece, most_page};
 ghost use Rattle.lines.specs.Tasks.{handed_of, margin_of, most_told, job_of};
-ghost use Rattle.line_io.specs.Send.{SentIs, Adds};
+ghost use Rattle.line_io.specs.Send.{SentIs, Grows};
 ghost use Rattle.line_frame.specs.Sizes.{most_held};
 ghost use Rattle.line_fields.specs.Put.{put};
 ghost use Rattle.line_stream.specs.Stream.{most_part};
@@ -35,7 +35,7 @@ fn send_page<W: Write>(writer: &mut W, m: Margin, s: &[u8], page: &mut [u8]) -> 
     requires s_len_bound { length s.now ≤ most_piece }
     requires page_len { length page.old ≡ most_page }
     ensures at { SentIs (margin_after m s.now) result }
-    ensures bytes { Adds (W.contents writer.old) (W.contents writer.new) (page_of m s.now) result }
+    ensures bytes { Grows (W.contents writer.old) (W.contents writer.new) (page_of m s.now) result }
 {
     if Numbered::MOST_NUMBER < m.line {
         return Sent::Unwritten;
@@ -53,7 +53,7 @@ fn send_page<W: Write>(writer: &mut W, m: Margin, s: &[u8], page: &mut [u8]) -> 
 fn send_pages<W: Write>(writer: &mut W, m: Margin, s: &[u8], page: &mut [u8]) -> Sent
     requires { length page.old ≡ most_page }
     ensures at { SentIs (margin_after m s.now) result }
-    ensures bytes { Adds (W.contents writer.old) (W.contents writer.new) (page_of m s.now) result }
+    ensures bytes { Grows (W.contents writer.old) (W.contents writer.new) (page_of m s.now) result }
 {
     let mut next = m;
     let mut at = 0;
@@ -73,7 +73,7 @@ fn send_pages<W: Write>(writer: &mut W, m: Margin, s: &[u8], page: &mut [u8]) ->
 // Writes the bytes s as they are.
 fn send_plain<W: Write>(writer: &mut W, m: Margin, s: &[u8]) -> Sent
     ensures at { SentIs m result }
-    ensures bytes { Adds (W.contents writer.old) (W.contents writer.new) s.now result }
+    ensures bytes { Grows (W.contents writer.old) (W.contents writer.new) s.now result }
 {
     if writer.write_all(s).is_err() {
         return Sent::Unwritten;
@@ -85,7 +85,7 @@ fn send_plain<W: Write>(writer: &mut W, m: Margin, s: &[u8]) -> Sent
 fn send<W: Write>(writer: &mut W, task: Task, m: Margin, s: &[u8], page: &mut [u8]) -> Sent
     requires { length page.old ≡ most_page }
     ensures at { SentIs (margin_of task m s.now) result }
-    ensures bytes { Adds (W.contents writer.old) (W.contents writer.new) (handed_of task m s.now) result }
+    ensures bytes { Grows (W.contents writer.old) (W.contents writer.new) (handed_of task m s.now) result }
 {
     match task {
         Task::Answer => send_plain(writer, m, s),
