@@ -1,6 +1,7 @@
 /* SPDX-License-Identifier: MIT
- * Runs a proved program on lines. It is the `main` of a file in dist/, under another name, and it calls read and write; those are the
- * functions here. It reads descriptor 0, writes descriptor 1, and says on descriptor 3 how it ended: end, read or write. */
+ * Runs a proved program on lines. It is the `main` of a file in dist/, under another name. It calls read and write, asks for errno after
+ * a failure, and at its start has SIGPIPE ignored; those are the functions here. It reads descriptor 0 and writes descriptor 1. What it
+ * gives back says how it ended: 0 if all was read and written, 1 after a read that failed, 2 after a write that failed. */
 #define _XOPEN_SOURCE 700
 #include <errno.h>
 #include <signal.h>
@@ -12,11 +13,13 @@
 
 ssize_t lines_read(int descriptor, void *to, size_t n);
 ssize_t lines_write(int descriptor, const void *from, size_t n);
+int lines_errno(void);
+void (*lines_signal(int number, void (*action)(int)))(int);
 
-static int words;        /* spans are written in words */
-static char ending[8];   /* what was said on descriptor 3 */
-static size_t ending_size;
-static int reason;       /* errno of the write that failed */
+enum { ALL, UNREAD, UNWRITTEN }; /* what a program gives back */
+
+static int words;  /* spans are written in words */
+static int reason; /* errno of the write that failed */
 
 /* In words, each record is followed by an empty line. The program refuses it, and the line of that refusal ends what is listed for
  * the record. */
@@ -106,12 +109,7 @@ static ssize_t write_words(const char *from, size_t n) {
 
 ssize_t lines_write(int descriptor, const void *from, size_t n) {
     ssize_t done;
-    if (descriptor == 3) {
-        size_t room = sizeof ending - 1 - ending_size, some = n < room ? n : room;
-        memcpy(ending + ending_size, from, some);
-        ending_size += some;
-        return (ssize_t)n;
-    }
+    (void)descriptor;
     if (words) done = write_words(from, n);
     else
         do done = write(1, from, n);
@@ -120,11 +118,20 @@ ssize_t lines_write(int descriptor, const void *from, size_t n) {
     return done;
 }
 
+int lines_errno(void) { return errno; }
+
+/* The command has SIGPIPE ignored before the program starts. */
+void (*lines_signal(int number, void (*action)(int)))(int) {
+    (void)number;
+    return action;
+}
+
 int run_lines(int (*proved)(int, char **), int in_words) {
     words = in_words;
-    proved(0, (char *[]){NULL});
-    if (strcmp(ending, "end\n") == 0) return WHOLE;
-    if (strcmp(ending, "read\n") == 0) return unread(", and a line that was begun is not written");
-    if (strcmp(ending, "write\n") == 0) return fail("a write to standard output failed: %s, and not all output was written", strerror(reason));
+    switch (proved(0, (char *[]){NULL})) {
+        case ALL: return WHOLE;
+        case UNREAD: return unread(", and a line that was begun is not written");
+        case UNWRITTEN: return fail("a write to standard output failed: %s, and not all output was written", strerror(reason));
+    }
     return fail("the program did not say how it ended");
 }

@@ -99,7 +99,7 @@ def main(argv):
     for m in (m for t in texts.values() for m in LIBRARY.finditer(t)):
         for n in re.split(r"[,\s]+", m[2]):
             table.pop(n, None)
-    # where each word stands by itself: not as a step of a path or behind a dot, and in src/ in clauses and as a parameter alone
+    # where each word stands by itself: not as a step of a path or after a dot, and in src/ in clauses and as a parameter alone
     used = collections.defaultdict(set)
     for p, t in texts.items():
         t = bare(t)

@@ -1,5 +1,5 @@
 -- The limits of the calls (RULES 6.1, 6.3). Assumes nothing.
-use Rattle.lists.specs.Lists.{Bool, ◌&&◌, ℕ, ◌+◌, ◌*◌, ◌≤◌, leb, nat_abs}
+use Rattle.std.specs.Prelude.{Bool, ◌&&◌, ℕ, ◌+◌, ◌*◌, ◌≤◌, leb, nat_abs}
 use Rattle.grid.specs.declared.Corner.{Corner}
 
 -- input bytes at most

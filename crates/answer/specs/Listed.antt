@@ -1,5 +1,5 @@
 -- The answer of a call that lists something, and its buffer after the call (RULES 6.6). Assumes nothing.
-use Rattle.lists.specs.Lists.{List, ◌++◌, length, drop, ℕ}
+use Rattle.std.specs.Prelude.{List, ◌++◌, length, drop, ℕ}
 use Rattle.answer.specs.declared.{Judged.Judged, Judged.TheVariants.Good, Judged.TheVariants.Refused, Counted.Counted}
 
 -- how many there are, unless there is a refusal

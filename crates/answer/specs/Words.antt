@@ -1,5 +1,5 @@
 -- The answers as the numbers of each case (RULES 5.2, 6.5). Assumes nothing.
-use Rattle.lists.specs.Lists.{List, [], ◌∷◌, ℕ, ◌+◌, ◌-◌, ◌^◌, ℤ, pos, negsuc}
+use Rattle.std.specs.Prelude.{List, [], ◌∷◌, ℕ, ◌+◌, ◌-◌, ◌^◌, ℤ, pos, negsuc}
 use Rattle.answer.specs.declared.{Answer.Answer, Counted.Counted, Facts.Facts, Judged.Judged}
 use Rattle.answer.specs.Refusal.{refusal_number, refusal_place, verdict_number, judged_number, judged_place}
 

@@ -97,7 +97,8 @@ rows =
     ∷ judged_as 5 7 3 ∷ judged_as 6 0 0 ∷ [])
     ∷ row (0 ∷ 0 ∷ 4 ∷ 1 ∷ 2 ∷ 3 ∷ [])
     (marks_are (2 ∷ 1 ∷ 2 ∷ 3 ∷ 1 ∷ 2 ∷ 2 ∷ 1 ∷ 2 ∷ 3 ∷ 1 ∷ 3 ∷ 4 ∷ 1 ∷ 3 ∷ 4 ∷ 2 ∷ 2 ∷ []) ∷ [])
-    ∷ row (0 ∷ 2 ∷ 0 ∷ 4 ∷ []) (marks_are (2 ∷ 1 ∷ 2 ∷ 2 ∷ 2 ∷ 2 ∷ 2 ∷ 2 ∷ 2 ∷ 2 ∷ 2 ∷ 2 ∷ []) ∷ survive (0 ∷ 2 ∷ []) ∷ verdict_is 5
+    ∷ row (0 ∷ 2 ∷ 0 ∷ 4 ∷ [])
+    (marks_are (2 ∷ 1 ∷ 2 ∷ 2 ∷ 2 ∷ 2 ∷ 2 ∷ 2 ∷ 2 ∷ 2 ∷ 2 ∷ 2 ∷ []) ∷ survive (0 ∷ 2 ∷ []) ∷ verdict_is 5
     ∷ link_is origin 0 1 ∷ [])
     ∷ row (0 ∷ 0 ∷ 1 ∷ 1 ∷ 0 ∷ 0 ∷ 3 ∷ 2 ∷ 2 ∷ 2 ∷ 2 ∷ 3 ∷ [])
     (verdict_is 4 ∷ meeting_is (meet 3 9) ∷ nodes_are 11

@@ -1,5 +1,7 @@
 -- The convex hull of the centres of panels (RULES 17.8). Assumes nothing.
-use Rattle.lists.specs.Lists.{◌≡◌, List, length, List-as-Memᴰ, ◌<◌, pos, ◌*ℤ◌, sum_of}
+use mathlib.Core.List.{Memᴰ}
+use Rattle.lists.specs.Lists.{sum_of}
+use Rattle.std.specs.Prelude.{◌≡◌, List, length, ◌<◌, pos, ◌*ℤ◌}
 use Rattle.grid.specs.declared.Panel.{Panel}
 
 -- q is the mean of the panels of a list, each as often as it is listed
@@ -11,5 +13,5 @@ pub record MeanOf (ps : List Panel) (q : Panel) : Type 0 where
 -- the centre of q lies in the convex hull of the centres of the panels that have S: q is the mean of a list of them
 pub record InHull (S : Panel → Type 0) (q : Panel) : Type 0 where
   pub panels : List Panel
-  pub all : (p : Panel) → List-as-Memᴰ p panels → S p
+  pub all : (p : Panel) → Memᴰ p panels → S p
   pub mean : MeanOf panels q

@@ -1,5 +1,7 @@
 -- When a part is convex, when a room is, and the promise of its call (RULES 17). Assumes nothing.
-use Rattle.lists.specs.Lists.{◌≡◌, Bool, true, List, List-as-Memᴰ, ◌↔◌, ℕ, pos, ◌≤ℤ◌, ◌<ℤ◌, tally, Below}
+use mathlib.Core.List.{Memᴰ}
+use Rattle.lists.specs.Lists.{tally, Below}
+use Rattle.std.specs.Prelude.{◌≡◌, Bool, true, List, ◌↔◌, ℕ, pos, ◌≤ℤ◌, ◌<ℤ◌}
 use Rattle.grid.specs.{declared.Corner.Corner, Grid.origin, Grid.corners_from}
 use Rattle.answer.specs.declared.{Counted.Counted, Judged.TheVariants.Good}
 use Rattle.hull.specs.{Hull.cross}
@@ -12,12 +14,12 @@ use Rattle.convex.specs.Parts.{turned_by, clockwise, Split}
 pub record Between (P : List Corner) (q : Corner) : Type 0 where
   pub a : Corner
   pub b : Corner
-  pub from : List-as-Memᴰ a P
-  pub to : List-as-Memᴰ b P
+  pub from : Memᴰ a P
+  pub to : Memᴰ b P
   pub left : a.0 <ℤ q.0
   pub right : q.0 <ℤ b.0
   pub under : cross a b q ≤ℤ pos 0
-  pub above : (p : Corner) → List-as-Memᴰ p P → p.0 ≡ q.0 → p.1 <ℤ q.1
+  pub above : (p : Corner) → Memᴰ p P → p.0 ≡ q.0 → p.1 <ℤ q.1
 
 -- a part, turned back to the first, uses only the letters 0 and 1, and no grid point off it lies between it and its upper convex
 -- hull

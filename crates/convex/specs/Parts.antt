@@ -1,5 +1,7 @@
 -- A room travelled clockwise, its four extremal corners, and the parts between them (RULES 17.2, 17.3). Assumes nothing.
-use Rattle.lists.specs.Lists.{◌≡◌, cond, List, [], ◌∷◌, ◌++◌, length, List-as-Memᴰ, ◌⊎◌, ℕ, zero, suc, ◌+◌, ◌%◌, ◌<◌, pos, ◌≤ℤ◌, ◌<ℤ◌, lt_z}
+use mathlib.Core.List.{Memᴰ}
+use Rattle.std.specs.Prelude.{◌≡◌, cond, List, [], ◌∷◌, ◌++◌, length, ◌⊎◌, ℕ, zero, suc, ◌+◌, ◌%◌, ◌<◌, pos, ◌≤ℤ◌, ◌<ℤ◌}
+use Rattle.std.specs.Int.Signed.{lt_z}
 use Rattle.grid.specs.{declared.Corner.Corner, Grid.corners_from, Grid.end_from}
 use Rattle.trace.specs.Verdict.{sweep_from}
 use Rattle.panels.specs.Moved.{backward}
@@ -39,7 +41,7 @@ ComesFirst (suc (suc (suc i))) a b = RightmostBottom a b
 
 -- q comes first in this order among the corners of the walk of these steps from c
 abbrev pub Extremal : (Corner → Corner → Type 0) → Corner → List ℕ → Corner → Type 0
-Extremal R c ds q = (p : Corner) → List-as-Memᴰ p (corners_from c ds) → R q p
+Extremal R c ds q = (p : Corner) → Memᴰ p (corners_from c ds) → R q p
 
 -- w is part i, 0 to 3, of the closed walk of ds from c, said by itself: the steps from extremal corner i round to the next, and
 -- less than all of them

@@ -18,7 +18,8 @@ are_letters (d ∷ w) = ltb d 2 && are_letters w
 
 -- the grid point next above column c lies above the straight line from column p to column b
 unfoldable pub level : List ℕ → ℕ → ℕ → ℕ → Bool
-level ys p b c = ltb ((b - p) * get_or ys c 0 + (c - p) * get_or ys p 0) ((c - p) * get_or ys b 0 + (b - p) * get_or ys p 0 + (b - p))
+level ys p b c =
+    ltb ((b - p) * get_or ys c 0 + (c - p) * get_or ys p 0) ((c - p) * get_or ys b 0 + (b - p) * get_or ys p 0 + (b - p))
 
 -- so it is for k columns from c on
 unfoldable pub levels : List ℕ → ℕ → ℕ → ℕ → ℕ → Bool

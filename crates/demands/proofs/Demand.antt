@@ -226,7 +226,8 @@ module _ {c : Corner} {os t ms ch t' ms' ch' : List ℕ} {f : Facts} (w : WalkIs
   changed_fewer = changed_laws.its_fewer w
 
   -- if no step is taken back the records that differ add up to at most three for each step, 16 for each different corner, and 256
-  pub changed-sum : Below 4 os → sum_to (length os) (λ k. get_or ms' (mark_words * k + 2) 0) ≤ 3 * length os + 16 * f.corners + 256
+  pub changed-sum : Below 4 os → sum_to (length os) (λ k. get_or ms' (mark_words * k + 2) 0) ≤ 3 * length os + 16 * f.corners
+      + 256
   changed-sum = cost_laws.its_cost w
 
   -- so what a walk writes grows with its steps alone

@@ -85,7 +85,8 @@ retired = line_laws.line_answer-turns
 -- ---- the converter
 -- "each 01 frame as the 00 frame with the same steps": converted, it is answered as the steps of its turns are
 pub converted-walked : (s : List ℕ) → Turned s
-    → line_answer (converted_line s) ≡ answer_line (kind_walked Operations (steps_of (digits_of s))) (survivors (steps_of (digits_of s)))
+    → line_answer (converted_line s)
+    ≡ answer_line (kind_walked Operations (steps_of (digits_of s))) (survivors (steps_of (digits_of s)))
 converted-walked = converted_laws.converted_answer
 
 -- the frame itself: of kind 00, with the same count and the steps of the turns

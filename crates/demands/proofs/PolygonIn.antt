@@ -52,7 +52,8 @@ module _ {file before after : List ℕ} {r : Given} (c : ReadCall file before r 
   chain_refused_words q g = ap given_words ((chain_refused_exactly q).1 g)
 
   pub chain-read-words : GivenFile file (length before) Good
-      → given_words r ≡ 0 ∷ 0 ∷ length_of (ring_of file) ∷ bits_of (start_of (ring_of file)).0 ∷ bits_of (start_of (ring_of file)).1 ∷ []
+      → given_words r ≡ 0 ∷ 0 ∷ length_of (ring_of file) ∷ bits_of (start_of (ring_of file)).0
+      ∷ bits_of (start_of (ring_of file)).1 ∷ []
   chain-read-words g = ap given_words (chain-read_exactly.1 g)
 
 module _ (file before after : List ℕ) where

@@ -1,5 +1,5 @@
 -- What a reader finds in a row of the table of polygons (RULES 20.2, 20.3). Assumes nothing.
-use Rattle.lists.specs.Lists.{◌≡◌, Bool, true, false, cond, List, [], ◌∷◌, length, get_or, ℕ, ◌+◌, ◌-◌, ◌*◌, ◌≤◌, eqb, ℤ, pos, neg_ℤ}
+use Rattle.std.specs.Prelude.{◌≡◌, Bool, true, false, cond, List, [], ◌∷◌, length, get_or, ℕ, ◌+◌, ◌-◌, ◌*◌, ◌≤◌, eqb, ℤ, pos, neg_ℤ}
 use Rattle.answer.specs.declared.Facts.{Facts}
 use Rattle.answer.specs.Refusal.{verdict_number}
 use Rattle.line_frame.specs.Hex.{value_of}

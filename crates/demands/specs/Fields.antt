@@ -1,5 +1,5 @@
 -- What a reader finds in the lines that the programs write (RULES 7.4, 7.5, 14.7). Assumes nothing.
-use Rattle.lists.specs.Lists.{◌≡◌, cond, List, length, take, drop, get_or, ℕ, suc, ◌+◌, ◌-◌, ◌*◌, ◌^◌, ◌<◌, ltb, ℤ, pos, negsuc}
+use Rattle.std.specs.Prelude.{◌≡◌, cond, List, length, take, drop, get_or, ℕ, suc, ◌+◌, ◌-◌, ◌*◌, ◌^◌, ◌<◌, ltb, ℤ, pos, negsuc}
 use Rattle.answer.specs.declared.{Facts.Facts, Refusal.Refusal}
 use Rattle.answer.specs.Refusal.{refusal_number, refusal_place, verdict_number}
 use Rattle.grid.specs.{declared.Corner.Corner, Grid.origin}

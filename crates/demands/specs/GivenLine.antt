@@ -35,7 +35,8 @@ pub data GivenLine (s : List ℕ) : Judged → Type 0 where
       → GivenLine s (Refused (NothingToTake i))
   no_room : (os : List ℕ) (i k : ℕ) → FineFrame s os → NoRoomAfter origin os frame_records k → i ≡ pred k
       → GivenLine s (Refused (NoRoom i))
-  accepted : (os : List ℕ) → FineFrame s os → ((k : ℕ) → k ≤ length os → nodes_after origin os k ≤ frame_records) → GivenLine s Good
+  accepted : (os : List ℕ) → FineFrame s os → ((k : ℕ) → k ≤ length os → nodes_after origin os k ≤ frame_records)
+      → GivenLine s Good
 
 -- that of each judgement of a line as a room: those, and then 12 if the steps that survive are not a room
 pub data GivenLineRoom (s : List ℕ) : Judged → Type 0 where

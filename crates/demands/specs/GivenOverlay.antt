@@ -18,7 +18,8 @@ PartsAre c ds e es L = (k : Part) → RowsIs (InPart k c ds e es) (L k)
 -- second, then 21; otherwise how many panels and spans each list has
 pub data GivenOverlay (c : Corner) (ds : List ℕ) (e : Corner) (es : List ℕ) (size : Part → ℕ) : Overlaid → Type 0 where
   first_none : (q : Refusal) → GivenRoom c ds (Refused q) → GivenOverlay c ds e es size (Overlaid.Refused q)
-  second_none : (q : Refusal) → GivenRoom c ds Good → GivenRoom e es (Refused q) → GivenOverlay c ds e es size (Overlaid.Refused q)
+  second_none : (q : Refusal) → GivenRoom c ds Good → GivenRoom e es (Refused q)
+      → GivenOverlay c ds e es size (Overlaid.Refused q)
   span_room : GivenRoom c ds Good → GivenRoom e es Good → (L : Part → List Span) → PartsAre c ds e es L → (k : Part)
       → size k < 3 * length (L k) → GivenOverlay c ds e es size (Overlaid.Refused SpanRoom)
   listed : GivenRoom c ds Good → GivenRoom e es Good → (L : Part → List Span) → PartsAre c ds e es L

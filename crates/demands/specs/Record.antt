@@ -31,7 +31,8 @@ FirstIn ps a k = FirstAt (length ps) (λ h. get_or ps h origin ≡ a → ⊥) (�
 abbrev pub StepBetween : List Corner → Corner → Corner → ℕ → Type 0
 StepBetween ps a b k =
     (0 < k) × (k < length ps)
-    × (((get_or ps (pred k) origin ≡ a) × (get_or ps k origin ≡ b)) ⊎ ((get_or ps (pred k) origin ≡ b) × (get_or ps k origin ≡ a)))
+    × (((get_or ps (pred k) origin ≡ a) × (get_or ps k origin ≡ b))
+    ⊎ ((get_or ps (pred k) origin ≡ b) × (get_or ps k origin ≡ a)))
 
 -- the words of the record of node a
 pub record RecordSays (ps : List Corner) (a : Corner) (word : ℕ → ℕ) : Type 0 where

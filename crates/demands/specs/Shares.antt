@@ -1,5 +1,5 @@
 -- An input that is shared out in parts which end where lines end. Assumes nothing.
-use Rattle.lists.specs.Lists.{List, [], ◌∷◌, ◌++◌, ℕ}
+use Rattle.std.specs.Prelude.{List, [], ◌∷◌, ◌++◌, ℕ}
 
 -- the parts, each ended by a line feed, one after the other
 unfoldable pub ended_parts : List (List ℕ) → List ℕ

@@ -9,7 +9,6 @@ use Rattle.grid.specs.Grid.{same, stepped, joins, back}
 use Rattle.grid.proofs.CornerLaws.{same_refl, same_sound}
 use Rattle.grid.proofs.StepLaws.{back_small, stepped_inj, stepped-back}
 use Rattle.lists.proofs.GatherLaws.{and_left, and_right, or_cases}
-use Rattle.grid.proofs.GridCases as cases
 
 -- a pair is x and y: the two ways round
 pub joins_cases : (x y a e : Corner) → joins x y (a, e) ≡ true → ((a ≡ x) × (e ≡ y)) ⊎ ((a ≡ y) × (e ≡ x))

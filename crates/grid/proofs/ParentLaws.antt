@@ -9,7 +9,6 @@ use lib.IntN.{ℤ, pos, negsuc, suc_ℤ, pred_ℤ, neg_ℤ, suc-pred, pred-suc}
 use Rattle.grid.specs.declared.Corner.{Corner}
 use Rattle.grid.specs.Grid.{corner, stepped}
 use Rattle.grid.specs.Tree.{half_of, parent_of}
-use Rattle.grid.proofs.GridCases as cases
 
 parity : (n : ℕ) → (suc n / 2 ≡ n / 2) ⊎ (suc n / 2 ≡ suc (n / 2))
 parity n = elim (ℕ_discrete (n % 2) 0) [ yes e ↦ inl (omega arith) | no f ↦ inr (omega arith) ]

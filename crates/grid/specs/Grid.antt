@@ -1,5 +1,7 @@
 -- Corners, panels and steps (RULES 1.1, 1.2, 1.4). A step is a digit: 0 east, 1 north, 2 west, 3 south. Assumes nothing.
-use Rattle.lists.specs.Lists.{◌≡◌, ◌⊎◌, Bool, false, ◌&&◌, ◌||◌, List, [], ◌∷◌, take, ℕ, zero, suc, eqb, ℤ, pos, negsuc, suc_ℤ, pred_ℤ, ◌≤ℤ◌, ◌<ℤ◌, zip}
+use Rattle.lists.specs.Lists.{zip}
+use Rattle.std.specs.Prelude.{◌≡◌, ◌⊎◌, Bool, false, ◌&&◌, ◌||◌, List, [], ◌∷◌, take, ℕ, zero, suc, eqb, ℤ, pos, negsuc, ◌≤ℤ◌, ◌<ℤ◌}
+use Rattle.std.proofs.Math.IntN.{suc_ℤ, pred_ℤ}
 use Rattle.grid.specs.declared.{Corner.Corner, Panel.Panel}
 
 -- the corner with these coordinates

@@ -1,5 +1,5 @@
 -- The tree over the corners: parent, ancestors, child index (RULES 3.1, 3.2). Assumes nothing.
-use Rattle.lists.specs.Lists.{◌≡◌, Bool, true, false, List, [], ◌∷◌, ◌++◌, ℕ, zero, suc, ◌+◌, ◌*◌, ◌/◌, ◌%◌, ◌^◌, ◌<◌, ℤ, pos, negsuc, neg_ℤ, nat_abs}
+use Rattle.std.specs.Prelude.{◌≡◌, Bool, true, false, List, [], ◌∷◌, ◌++◌, ℕ, zero, suc, ◌+◌, ◌*◌, ◌/◌, ◌%◌, ◌^◌, ◌<◌, ℤ, pos, negsuc, neg_ℤ, nat_abs}
 use Rattle.grid.specs.{declared.Corner.Corner, Grid.corner, Grid.same}
 
 -- half the magnitude, rounded down, with the sign kept

@@ -1,5 +1,5 @@
 -- What the hull call answers, and what it leaves in the buffer (RULES 5.5, 6.3, 6.6). Assumes nothing.
-use Rattle.lists.specs.Lists.{◌≡◌, List, [], ◌∷◌, length, ℕ, ◌*◌, ltb, ℤ}
+use Rattle.std.specs.Prelude.{◌≡◌, List, [], ◌∷◌, length, ℕ, ◌*◌, ltb, ℤ}
 use Rattle.grid.specs.{declared.Corner.Corner, Grid.corners_from, Grid.numbers}
 use Rattle.answer.specs.declared.{Judged.Judged, Refusal.TheVariants.HullRoom, Counted.Counted}
 use Rattle.answer.specs.{Refusal.when, Refusal.first_of, Listed.counted_of, Listed.laid_if}

@@ -1,7 +1,9 @@
 -- The convex hull of some corners (RULES 5.5). L lists it when it begins at the lowest of the leftmost corners, holds exactly the
 -- exposed ones, each once, and any three in its order turn left: so no three are in a line and the order is counterclockwise.
 -- There is no special case: one corner gives one, and corners along one line give their two outermost. Assumes nothing.
-use Rattle.lists.specs.Lists.{◌≡◌, List, [], ◌∷◌, ◌++◌, List-as-Memᴰ, ◌↔◌, ℤ, pos, ◌+ℤ◌, ◌-ℤ◌, ◌*ℤ◌, ◌≤ℤ◌, ◌<ℤ◌, Distinct}
+use mathlib.Core.List.{Memᴰ}
+use Rattle.lists.specs.Lists.{Distinct}
+use Rattle.std.specs.Prelude.{◌≡◌, List, [], ◌∷◌, ◌++◌, ◌↔◌, ℤ, pos, ◌+ℤ◌, ◌-ℤ◌, ◌*ℤ◌, ◌≤ℤ◌, ◌<ℤ◌}
 use Rattle.grid.specs.{declared.Corner.Corner, Grid.Begins}
 
 -- above 0 if c lies left of the way from a to b, below 0 if right of it, 0 if the three are in a line
@@ -18,15 +20,15 @@ reach u v c = (u *ℤ c.0) +ℤ (v *ℤ c.1)
 
 -- q is one of P, and in some direction it alone lies farthest
 pub record Exposed (P : List Corner) (q : Corner) : Type 0 where
-  pub visited : List-as-Memᴰ q P
+  pub visited : Memᴰ q P
   pub u : ℤ
   pub v : ℤ
-  pub most : (p : Corner) → List-as-Memᴰ p P → ¬ (p ≡ q) → reach u v p <ℤ reach u v q
+  pub most : (p : Corner) → Memᴰ p P → ¬ (p ≡ q) → reach u v p <ℤ reach u v q
 
 -- every two of the list, in its order, are related
 abbrev pub Pairs : (Corner → Corner → Type 0) → List Corner → Type 0
 Pairs R [] = Unit {0}
-Pairs R (a ∷ l) = ((b : Corner) → List-as-Memᴰ b l → R a b) × Pairs R l
+Pairs R (a ∷ l) = ((b : Corner) → Memᴰ b l → R a b) × Pairs R l
 
 -- any three of the list, in its order, turn left
 abbrev pub Ccw : List Corner → Type 0
@@ -36,7 +38,7 @@ Ccw (a ∷ l) = Pairs (λ b c. Left a b c) l × Ccw l
 -- the list begins at the lowest of the leftmost of P
 abbrev pub Starts : List Corner → List Corner → Type 0
 Starts P [] = ⊥
-Starts P (b ∷ l) = List-as-Memᴰ b P × ((q : Corner) → List-as-Memᴰ q P → Begins b q)
+Starts P (b ∷ l) = Memᴰ b P × ((q : Corner) → Memᴰ q P → Begins b q)
 
 -- c lies on or left of the way from a to b
 pub record OnLeft (a b c : Corner) : Type 0 where
@@ -44,7 +46,7 @@ pub record OnLeft (a b c : Corner) : Type 0 where
 
 -- every corner of P does
 abbrev pub AllLeft : List Corner → Corner → Corner → Type 0
-AllLeft P a b = (p : Corner) → List-as-Memᴰ p P → OnLeft a b p
+AllLeft P a b = (p : Corner) → Memᴰ p P → OnLeft a b p
 
 -- every corner of P lies on or left of each edge of the path
 abbrev pub LeftOfPath : List Corner → List Corner → Type 0
@@ -60,6 +62,6 @@ Encloses P (b ∷ s) = LeftOfPath P (b ∷ (s ++ (b ∷ [])))
 -- L lists the corners of the convex hull of P
 pub record HullIs (P L : List Corner) : Type 0 where
   pub starts : Starts P L
-  pub corners : (q : Corner) → List-as-Memᴰ q L ↔ Exposed P q
+  pub corners : (q : Corner) → Memᴰ q L ↔ Exposed P q
   pub once : Distinct L
   pub ccw : Ccw L

@@ -1,6 +1,6 @@
 -- The marks after each operation, and the chain of surviving steps (RULES 5.3, 5.4). Assumes nothing.
-use Rattle.std.specs.Prelude.{max}
-use Rattle.lists.specs.Lists.{Bool, true, false, not, ◌&&◌, List, [], ◌∷◌, ◌++◌, length, take, drop, replicate, ℕ, zero, suc, ◌+◌, ◌-◌, ◌*◌, eqb, tally, count}
+use Rattle.std.specs.Prelude.{max, Bool, true, false, not, ◌&&◌, List, [], ◌∷◌, ◌++◌, length, take, drop, replicate, ℕ, zero, suc, ◌+◌, ◌-◌, ◌*◌, eqb}
+use Rattle.lists.specs.Lists.{tally, count}
 use Rattle.grid.specs.{declared.Corner.Corner, Grid.same, Grid.corners_from, Grid.end_from}
 use Rattle.steps.specs.Operations.{operate, survivors}
 use Rattle.tree.specs.Nodes.{nodes_of}
@@ -35,7 +35,8 @@ changes_of c ds es =
 -- of an operation with the steps ds before it and es after it: the nodes then in use, the visits at the corner where the walk
 -- then stands, the records that differ
 abbrev pub mark_of : Corner → List ℕ → List ℕ → List ℕ
-mark_of c ds es = length (nodes_of (corners_from c es)) ∷ count (same (end_from c es)) (corners_from c es) ∷ changes_of c ds es ∷ []
+mark_of c ds es =
+    length (nodes_of (corners_from c es)) ∷ count (same (end_from c es)) (corners_from c es) ∷ changes_of c ds es ∷ []
 
 abbrev pub marks_from : Corner → List ℕ → List ℕ → List ℕ
 marks_from c ds [] = []

@@ -1,5 +1,6 @@
 -- The words of a record, and the table (RULES 4.1 to 4.3). Assumes nothing.
-use Rattle.lists.specs.Lists.{cond, not, ◌&&◌, List, [], ◌∷◌, ◌++◌, length, replicate, ℕ, zero, suc, ◌+◌, ◌-◌, ◌*◌, ◌/◌, ◌≤◌, eqb, find, count}
+use Rattle.lists.specs.Lists.{find, count}
+use Rattle.std.specs.Prelude.{cond, not, ◌&&◌, List, [], ◌∷◌, ◌++◌, length, replicate, ℕ, zero, suc, ◌+◌, ◌-◌, ◌*◌, ◌/◌, ◌≤◌, eqb}
 use Rattle.grid.specs.{declared.Corner.Corner, Grid.same, Grid.stepped, Grid.corners_from, Grid.legs_of, Grid.joins, Tree.parent_of, Tree.is_root, Tree.child_word}
 use Rattle.tree.specs.Nodes.{nodes_of, ref_of, need_of, link_step_of}
 

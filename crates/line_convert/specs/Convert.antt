@@ -1,5 +1,5 @@
 -- What the call for one line takes and leaves. Assumes nothing.
-use Rattle.lists.specs.Lists.{◌≡◌, Bool, cond, ◌&&◌, List, length, get_or, ℕ, eqb, leb}
+use Rattle.std.specs.Prelude.{◌≡◌, Bool, cond, ◌&&◌, List, length, get_or, ℕ, eqb, leb}
 use Rattle.line_frame.specs.Converted.{converted_line}
 use Rattle.line_fields.specs.Put.{put}
 

@@ -1,5 +1,5 @@
 -- Bytes written into a buffer; the rest of the buffer stays as it was. Assumes nothing.
-use Rattle.lists.specs.Lists.{◌≡◌, List, ◌++◌, length, take, drop, ℕ, ◌+◌}
+use Rattle.std.specs.Prelude.{◌≡◌, List, ◌++◌, length, take, drop, ℕ, ◌+◌}
 
 -- the buffer with the bytes f from the place at on
 unfoldable pub put : List ℕ → ℕ → List ℕ → List ℕ

@@ -1,7 +1,7 @@
 -- A line that is begun in one part of the input and goes on in the next (RULES 7.12): how far one call goes, and what it holds of
 -- the line.
 -- Assumes nothing.
-use Rattle.lists.specs.Lists.{Bool, true, false, cond, List, [], ◌∷◌, ◌++◌, length, take, ℕ, suc, eqb, ltb}
+use Rattle.std.specs.Prelude.{Bool, true, false, cond, List, [], ◌∷◌, ◌++◌, length, take, ℕ, suc, eqb, ltb}
 use Rattle.line_frame.specs.Sizes.{most_held}
 
 -- how many bytes stand before the first line feed

@@ -1,5 +1,6 @@
 -- Lines with turns as lines with steps: the converter (RULES 7.8 to 7.10). Assumes nothing.
-use Rattle.lists.specs.Lists.{◌≡◌, List, [], ◌∷◌, ◌++◌, length, ℕ, Below}
+use Rattle.lists.specs.Lists.{Below}
+use Rattle.std.specs.Prelude.{◌≡◌, List, [], ◌∷◌, ◌++◌, length, ℕ}
 use Rattle.steps.specs.Turns.{steps_of, turns_judged, written_if}
 use Rattle.line_frame.specs.declared.{Kind.Kind, Kind.TheVariants.Operations, Kind.TheVariants.Turns, Frame.Frame, Frame.TheVariants.Of, Frame.TheVariants.Bad}
 use Rattle.line_frame.specs.{Hex.letter_of, Hex.hex_of, Line.frame_of, Line.digits_of, Program.output_from}

@@ -1,5 +1,5 @@
 -- Hexadecimal, in lower case (RULES 7.2, 7.4). Assumes nothing.
-use Rattle.lists.specs.Lists.{Bool, true, cond, ◌&&◌, ◌||◌, List, [], ◌∷◌, ◌++◌, get_or, ℕ, zero, suc, ◌+◌, ◌-◌, ◌*◌, ◌/◌, ◌%◌, ltb, leb}
+use Rattle.std.specs.Prelude.{Bool, true, cond, ◌&&◌, ◌||◌, List, [], ◌∷◌, ◌++◌, get_or, ℕ, zero, suc, ◌+◌, ◌-◌, ◌*◌, ◌/◌, ◌%◌, ltb, leb}
 
 -- the byte is 0 to 9 or a to f
 abbrev pub is_hex : ℕ → Bool

@@ -1,5 +1,5 @@
 -- One line: the frame that it is, and its answer without the line feed (RULES 7.2, 7.5). Assumes nothing.
-use Rattle.lists.specs.Lists.{Bool, cond, ◌&&◌, List, length, take, drop, ℕ, zero, suc, ◌+◌, ◌*◌, eqb, ltb, leb}
+use Rattle.std.specs.Prelude.{Bool, cond, ◌&&◌, List, length, take, drop, ℕ, zero, suc, ◌+◌, ◌*◌, eqb, ltb, leb}
 use Rattle.grid.specs.Grid.{origin}
 use Rattle.answer.specs.declared.{Refusal.TheVariants.BadLine, Refusal.TheVariants.RetiredKind, Answer.Answer}
 use Rattle.steps.specs.Operations.{survivors}

@@ -1,5 +1,6 @@
 -- The whole output for a whole input (RULES 7.1). Assumes nothing.
-use Rattle.lists.specs.Lists.{true, false, List, [], ◌∷◌, ◌++◌, count, ℕ, eqb}
+use Rattle.lists.specs.Lists.{count}
+use Rattle.std.specs.Prelude.{true, false, List, [], ◌∷◌, ◌++◌, ℕ, eqb}
 use Rattle.line_frame.specs.Line.{line_answer}
 
 -- what is left of the input after its last line feed: a line, unless there is nothing

@@ -1,5 +1,5 @@
 -- The sizes of the line program (RULES 7.2, 7.3, 7.7). Assumes nothing.
-use Rattle.lists.specs.Lists.{ℕ, suc, ◌+◌, ◌*◌}
+use Rattle.std.specs.Prelude.{ℕ, suc, ◌+◌, ◌*◌}
 use Rattle.layout.specs.{Table.width, Marks.mark_words}
 
 -- digits of a frame before its operations or turns: kind 2, count 4

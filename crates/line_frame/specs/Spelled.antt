@@ -1,5 +1,5 @@
 -- The answer to a good frame, without the line feed (RULES 7.3 to 7.5). Assumes nothing.
-use Rattle.lists.specs.Lists.{List, [], ◌∷◌, ◌++◌, length, ℕ, ◌+◌, ℤ}
+use Rattle.std.specs.Prelude.{List, [], ◌∷◌, ◌++◌, length, ℕ, ◌+◌, ℤ}
 use Rattle.answer.specs.declared.{Refusal.Refusal, Facts.Facts, Answer.Answer}
 use Rattle.answer.specs.{Refusal.refusal_number, Refusal.refusal_place, Refusal.verdict_number, Words.bits_of}
 use Rattle.grid.specs.{declared.Corner.Corner, Grid.origin, Grid.numbers}

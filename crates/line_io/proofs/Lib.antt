@@ -1,3 +1,3 @@
--- The laws of the rounds of a program on lines.
-pub mod RoundLaws
+-- The laws of the pages and of the rounds of a program on lines.
 pub mod SendLaws
+pub mod RunLaws

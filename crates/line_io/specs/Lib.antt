@@ -1,3 +1,4 @@
--- What a round of a program on lines leaves.
+-- What a round of a program on lines leaves, and what a whole run does.
 pub mod Round
 pub mod Send
+pub mod Whole

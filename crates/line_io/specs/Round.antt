@@ -1,8 +1,9 @@
 -- What a round of a program on lines leaves: it passes lines of a chunk, or reads the next one. Assumes nothing.
-use Rattle.lists.specs.Lists.{◌≡◌, List, length, take, ℕ, ◌<◌, ◌≤◌}
+use Rattle.std.specs.Prelude.{◌≡◌, List, [], length, take, ℕ, ◌<◌, ◌≤◌, Option}
+use Rattle.std.specs.Io.KnownBytes.{Appends, Consumes, IsAtEnd}
 use Rattle.line_stream.specs.{declared.Progress.Progress, Fill.Filled}
 use Rattle.sheet.specs.declared.Margin.{Margin}
-use Rattle.lines.specs.{declared.Task.Task, Tasks.job_of, Tasks.margin_of}
+use Rattle.lines.specs.{declared.Task.Task, Tasks.job_of, Tasks.handed_of, Tasks.margin_of}
 use Rattle.line_io.specs.declared.Round.{Round, TheVariants.More, TheVariants.Over, TheVariants.Unread, TheVariants.Unwritten}
 
 -- a read into a buffer of this length: the next chunk is begun with as many bytes held, or the input is over with as many
@@ -27,3 +28,24 @@ pub record RoundIs (t : Task) (line : List ℕ) (p : Progress) (buf : List ℕ) 
     (line' buf' out' : List ℕ) : Type 0 where
   pub on : p.at < n → PassedOn t line p.held (take n buf) p.at out m r line' out' × (buf' ≡ buf)
   pub next : n ≤ p.at → ReadOn p.held (length buf) m r × (line' ≡ line) × (out' ≡ out)
+
+-- a read into a buffer, which is buf' after it: the chunk is taken off the known bytes of the reader; if the input is over, none of
+-- them are left
+abbrev pub Takes : Option (List ℕ) → Option (List ℕ) → List ℕ → Round → Type 0
+Takes old new buf' (More p n q) = Consumes old new (take n buf')
+Takes old new buf' (Over n) = Consumes old new [] × (0 < length buf' → IsAtEnd new)
+Takes old new buf' Unread = Consumes old new []
+Takes old new buf' Unwritten = ⊥
+
+-- lines of a chunk, if the sheet stood at m: what is passed on of the output came to the known bytes of the writer
+abbrev pub Gives : Task → Margin → Option (List ℕ) → Option (List ℕ) → List ℕ → Round → Type 0
+Gives t m old new out' (More p n q) = Appends old new (handed_of t m (take p.used out'))
+Gives t m old new out' (Over n) = ⊥
+Gives t m old new out' Unread = ⊥
+Gives t m old new out' Unwritten = Unit {0}
+
+-- what a round does to the known bytes that the reader has left and to those that the writer holds
+pub record Moves (t : Task) (p : Progress) (n : ℕ) (m : Margin) (r : Round) (buf' out' : List ℕ)
+    (left left' held held' : Option (List ℕ)) : Type 0 where
+  pub on : p.at < n → Gives t m held held' out' r × (left' ≡ left)
+  pub next : n ≤ p.at → Takes left left' buf' r × (held' ≡ held)

@@ -1,22 +1,27 @@
-// The programs on lines: their rounds, reading and writing, the pages of the table of polygons, and saying how they ended.
+// The programs on lines: their rounds, reading and writing, the pages of the table of polygons, and the status that says how they
+// ended.
 #![tactic(auto)]
 
-ghost use Rattle.std.specs.Prelude.{◌≡◌, ◌≤◌, length, take};
-ghost use Rattle.sheet.specs.Sheet.{margin_after};
+ghost use Rattle.std.specs.Prelude.{◌≡◌, ◌<◌, ◌≤◌, IsTrue, length, take};
+ghost use Rattle.sheet.specs.Sheet.{margin_after, page_of};
 ghost use Rattle.sheet_number.specs.Numbered.{most_piece, most_page};
-ghost use Rattle.lines.specs.Tasks.{margin_of, most_told, job_of};
-ghost use Rattle.line_io.specs.Send.{SentIs};
+ghost use Rattle.lines.specs.Tasks.{handed_of, margin_of, most_told, job_of};
+ghost use Rattle.line_io.specs.Send.{SentIs, Adds};
 ghost use Rattle.line_frame.specs.Sizes.{most_held};
 ghost use Rattle.line_fields.specs.Put.{put};
 ghost use Rattle.line_stream.specs.Stream.{most_part};
-ghost use Rattle.line_io.specs.Round.{ReadOn, PassedOn, RoundIs};
+ghost use Rattle.line_io.specs.Round.{ReadOn, PassedOn, RoundIs, Takes, Gives, Moves};
+ghost use Rattle.line_io.specs.Whole.{Ends, status_of};
+ghost use Rattle.std.specs.Io.KnownBytes.{Appends};
+ghost use Rattle.std.specs.Process.{exit_status};
 
-use libc::{STDIN_FILENO, STDOUT_FILENO};
 use line_stream::Progress;
 use lines::Task;
 use order::lesser;
 use sheet::Margin;
 use sheet_number::{Numbered, number};
+use std::io::{Read, Write};
+use std::process::ExitCode;
 
 // Where the sheet stands after bytes were passed on; or a write failed.
 #[derive(Clone, Copy)]
@@ -26,17 +31,18 @@ enum Sent {
 }
 
 // Writes a page of the sheet, which stands at m: the bytes s of the entries, numbered.
-fn send_page(m: Margin, s: &[u8], page: &mut [u8]) -> Sent
+fn send_page<W: Write>(writer: &mut W, m: Margin, s: &[u8], page: &mut [u8]) -> Sent
     requires s_len_bound { length s.now ≤ most_piece }
     requires page_len { length page.old ≡ most_page }
-    ensures { SentIs (margin_after m s.now) result }
+    ensures at { SentIs (margin_after m s.now) result }
+    ensures bytes { Adds (W.contents writer.old) (W.contents writer.new) (page_of m s.now) result }
 {
     if Numbered::MOST_NUMBER < m.line {
         return Sent::Unwritten;
     }
     let n = number(m, s, page);
     let used = n.used;
-    if !io::write_all(STDOUT_FILENO, &page[..used]) {
+    if writer.write_all(&page[..used]).is_err() {
         return Sent::Unwritten;
     }
     let next = n.margin;
@@ -44,15 +50,16 @@ fn send_page(m: Margin, s: &[u8], page: &mut [u8]) -> Sent
 }
 
 // Writes the bytes s of the entries, numbered, page after page.
-fn send_pages(m: Margin, s: &[u8], page: &mut [u8]) -> Sent
+fn send_pages<W: Write>(writer: &mut W, m: Margin, s: &[u8], page: &mut [u8]) -> Sent
     requires { length page.old ≡ most_page }
-    ensures { SentIs (margin_after m s.now) result }
+    ensures at { SentIs (margin_after m s.now) result }
+    ensures bytes { Adds (W.contents writer.old) (W.contents writer.new) (page_of m s.now) result }
 {
     let mut next = m;
     let mut at = 0;
     loop {
         let end = at + lesser(s.len() - at, Numbered::MOST_PIECE);
-        match send_page(next, &s[at..end], page) {
+        match send_page(writer, next, &s[at..end], page) {
             Sent::At(q) => next = q,
             Sent::Unwritten => return Sent::Unwritten,
         }
@@ -64,25 +71,27 @@ fn send_pages(m: Margin, s: &[u8], page: &mut [u8]) -> Sent
 }
 
 // Writes the bytes s as they are.
-fn send_plain(m: Margin, s: &[u8]) -> Sent
-    ensures { SentIs m result }
+fn send_plain<W: Write>(writer: &mut W, m: Margin, s: &[u8]) -> Sent
+    ensures at { SentIs m result }
+    ensures bytes { Adds (W.contents writer.old) (W.contents writer.new) s.now result }
 {
-    if !io::write_all(STDOUT_FILENO, s) {
+    if writer.write_all(s).is_err() {
         return Sent::Unwritten;
     }
     Sent::At(m)
 }
 
 // Passes on the bytes s that a task wrote: entries as pages of the sheet, everything else as it is.
-fn send(task: Task, m: Margin, s: &[u8], page: &mut [u8]) -> Sent
+fn send<W: Write>(writer: &mut W, task: Task, m: Margin, s: &[u8], page: &mut [u8]) -> Sent
     requires { length page.old ≡ most_page }
-    ensures { SentIs (margin_of task m s.now) result }
+    ensures at { SentIs (margin_of task m s.now) result }
+    ensures bytes { Adds (W.contents writer.old) (W.contents writer.new) (handed_of task m s.now) result }
 {
     match task {
-        Task::Answer => send_plain(m, s),
-        Task::Convert => send_plain(m, s),
-        Task::Rows => send_plain(m, s),
-        Task::Enter => send_pages(m, s, page),
+        Task::Answer => send_plain(writer, m, s),
+        Task::Convert => send_plain(writer, m, s),
+        Task::Rows => send_plain(writer, m, s),
+        Task::Enter => send_pages(writer, m, s, page),
     }
 }
 
@@ -98,37 +107,34 @@ enum Round {
 
 // How a program ended: all was read and written, or a read or a write failed.
 #[derive(Clone, Copy)]
-enum Ending {
+pub enum Ending {
     Whole,
     Unread,
     Unwritten,
 }
 
-// A program has no exit status, so it says on this descriptor how it ended.
-const WORD_FILENO: i32 = 3;
-
 // Reads the next chunk, with this many bytes of a line held, if the sheet stands at m.
-fn read_on(held: usize, buf: &mut [u8], m: Margin) -> Round
-    ensures { ReadOn held (length buf.new) m result }
+fn read_on<R: Read>(reader: &mut R, held: usize, buf: &mut [u8], m: Margin) -> Round
+    ensures round { ReadOn held (length buf.new) m result }
+    ensures bytes { Takes (R.remaining reader.old) (R.remaining reader.new) buf.new result }
 {
-    let got = libc::read(STDIN_FILENO, buf);
-    if got < 0 {
-        return Round::Unread;
+    match reader.read(buf) {
+        Ok(0) => Round::Over(held),
+        Ok(n) => {
+            let begun = Progress {
+                held,
+                at: 0,
+                used: 0,
+            };
+            Round::More(begun, n, m)
+        }
+        Err(_) => Round::Unread,
     }
-    let n = io::count(got, buf);
-    if n == 0 {
-        return Round::Over(held);
-    }
-    let begun = Progress {
-        held,
-        at: 0,
-        used: 0,
-    };
-    Round::More(begun, n, m)
 }
 
 // Passes lines of the chunk from at on, as far as the output is long enough, and passes on what is written of them.
-fn pass(
+fn pass<W: Write>(
+    writer: &mut W,
     task: Task,
     line: &mut [u8],
     held: usize,
@@ -141,19 +147,22 @@ fn pass(
     requires held_le_most_held { (held ≤ most_held) × (length line.old ≡ most_held) }
     requires at_in_bounds { (at ≤ length s.now) × (length s.now ≤ most_part) }
     requires page_len { length page.old ≡ most_page }
-    ensures { PassedOn task line.old held s.now at out.old m result
+    ensures passed { PassedOn task line.old held s.now at out.old m result
         line.new out.new }
+    ensures bytes { Gives task m (W.contents writer.old) (W.contents writer.new) out.new result }
 {
     let p = lines::fill(task, line, held, s, at, out);
     let used = p.used;
-    match send(task, m, &out[..used], page) {
+    match send(writer, task, m, &out[..used], page) {
         Sent::At(q) => Round::More(p, s.len(), q),
         Sent::Unwritten => Round::Unwritten,
     }
 }
 
 // Passes lines of the chunk, the first n bytes of buf, or reads the next one if it is passed.
-fn go_round(
+fn go_round<R: Read, W: Write>(
+    reader: &mut R,
+    writer: &mut W,
     task: Task,
     line: &mut [u8],
     p: Progress,
@@ -166,34 +175,54 @@ fn go_round(
     requires held_le_most_held { (p.held ≤ most_held) × (length line.old ≡ most_held) }
     requires n_in_bounds { (n ≤ length buf.old) × (length buf.old ≤ most_part) }
     requires page_len { length page.old ≡ most_page }
-    ensures { RoundIs task line.old p buf.old n out.old m result line.new
+    ensures round { RoundIs task line.old p buf.old n out.old m result line.new
         buf.new out.new }
+    ensures bytes { Moves task p n m result buf.new out.new (R.remaining reader.old) (R.remaining reader.new)
+        (W.contents writer.old) (W.contents writer.new) }
 {
     if p.at < n {
-        return pass(task, line, p.held, &buf[..n], p.at, out, m, page);
+        return pass(writer, task, line, p.held, &buf[..n], p.at, out, m, page);
     }
-    read_on(p.held, buf, m)
+    read_on(reader, p.held, buf, m)
 }
 
 // Writes what is written of the line that the input ended in, if there is one. Answers whether it could.
-fn close(task: Task, line: &[u8], held: usize, out: &mut [u8], m: Margin, page: &mut [u8]) -> bool
+fn close<W: Write>(
+    writer: &mut W,
+    task: Task,
+    line: &[u8],
+    held: usize,
+    out: &mut [u8],
+    m: Margin,
+    page: &mut [u8],
+) -> bool
     requires held_le_most_held { (held ≤ most_held) × (length line.now ≡ most_held) }
     requires task_in_bounds { most_told task ≤ length out.old }
     requires page_len { length page.old ≡ most_page }
-    ensures { out.new ≡ put ((job_of task).last (take held line.now)) 0 out.old }
+    ensures out { out.new ≡ put ((job_of task).last (take held line.now)) 0 out.old }
+    ensures bytes { IsTrue result → Appends (W.contents writer.old) (W.contents writer.new)
+        (handed_of task m ((job_of task).last (take held line.now))) }
 {
     let used = lines::finish(task, line, held, out);
-    match send(task, m, &out[..used], page) {
+    match send(writer, task, m, &out[..used], page) {
         Sent::At(_) => true,
         Sent::Unwritten => false,
     }
 }
 
-// A proved loop has to end, and nothing says that the input does. So it counts its rounds down, from a number that no run uses
-// up.
-fn run(task: Task, line: &mut [u8], buf: &mut [u8], out: &mut [u8], page: &mut [u8]) -> Ending
+// A proved loop has to end, and nothing says that the input does. So it counts its rounds, up to a number that no run uses up.
+fn run<R: Read, W: Write>(
+    reader: &mut R,
+    writer: &mut W,
+    task: Task,
+    line: &mut [u8],
+    buf: &mut [u8],
+    out: &mut [u8],
+    page: &mut [u8],
+) -> Ending
     requires line_len { (length line.old ≡ most_held) × (length buf.old ≤ most_part) }
     requires task_in_bounds { (most_told task ≤ length out.old) × (length page.old ≡ most_page) }
+    ensures { 0 < length buf.old → Ends task (R.remaining reader.old) (W.contents writer.old) (W.contents writer.new) result }
 {
     let mut m = Numbered::top();
     let mut p = Progress {
@@ -202,16 +231,15 @@ fn run(task: Task, line: &mut [u8], buf: &mut [u8], out: &mut [u8], page: &mut [
         used: 0,
     };
     let mut n: usize = 0;
-    let mut rounds = u64::MAX;
-    while 0 < rounds {
-        match go_round(task, line, p, buf, n, out, m, page) {
+    for _ in 0..u64::MAX {
+        match go_round(reader, writer, task, line, p, buf, n, out, m, page) {
             Round::More(q, k, l) => {
                 p = q;
                 n = k;
                 m = l;
             }
             Round::Over(held) => {
-                if close(task, line, held, out, m, page) {
+                if close(writer, task, line, held, out, m, page) {
                     return Ending::Whole;
                 }
                 return Ending::Unwritten;
@@ -219,25 +247,37 @@ fn run(task: Task, line: &mut [u8], buf: &mut [u8], out: &mut [u8], page: &mut [
             Round::Unread => return Ending::Unread,
             Round::Unwritten => return Ending::Unwritten,
         }
-        rounds -= 1;
     }
     Ending::Unread
 }
 
-// Says how the program ended.
-fn say(e: Ending) {
-    match e {
-        Ending::Whole => io::write_all(WORD_FILENO, b"end\n"),
-        Ending::Unread => io::write_all(WORD_FILENO, b"read\n"),
-        Ending::Unwritten => io::write_all(WORD_FILENO, b"write\n"),
-    };
-}
-
-// A program on lines: standard input to standard output.
-pub fn start(task: Task) {
+// A program on lines, from a reader to a writer.
+pub fn pass_all<R: Read, W: Write>(reader: &mut R, writer: &mut W, task: Task) -> Ending
+    ensures { Ends task (R.remaining reader.old) (W.contents writer.old) (W.contents writer.new) result }
+{
     let mut line = [0u8; Progress::MOST_HELD];
     let mut buf = [0u8; Progress::MOST_PART];
     let mut out = [0u8; 2 * Progress::MOST_PART];
     let mut page = [0u8; Numbered::MOST_PAGE];
-    say(run(task, &mut line, &mut buf, &mut out, &mut page));
+    run(
+        reader, writer, task, &mut line, &mut buf, &mut out, &mut page,
+    )
+}
+
+// The status that says how the program ended.
+fn status(e: Ending) -> ExitCode
+    ensures { exit_status result ≡ status_of e }
+{
+    match e {
+        Ending::Whole => ExitCode::from(0),
+        Ending::Unread => ExitCode::from(1),
+        Ending::Unwritten => ExitCode::from(2),
+    }
+}
+
+// A program on lines: standard input to standard output.
+pub fn start(rt: HostRuntime, task: Task) -> ExitCode
+    ensures { exit_status result ≤ 2 }
+{
+    status(pass_all(&mut rt.stdin(), &mut rt.stdout(), task))
 }

@@ -1,5 +1,5 @@
 -- What the calls for one line take and leave. Assumes nothing.
-use Rattle.lists.specs.Lists.{◌≡◌, cond, List, length, take, ℕ, ◌*◌, leb, ℤ}
+use Rattle.std.specs.Prelude.{◌≡◌, cond, List, length, take, ℕ, ◌*◌, leb, ℤ}
 use Rattle.grid.specs.declared.Corner.{Corner}
 use Rattle.grid.specs.Grid.{numbers}
 use Rattle.line_frame.specs.{Sizes.marks_words, Sizes.hull_numbers, Sizes.most_answer, Line.line_answer}

@@ -1,5 +1,5 @@
 -- What the rows program writes for a line, with its line feeds, and for an input (RULES 14.6 to 14.8). Assumes nothing.
-use Rattle.lists.specs.Lists.{List, [], ◌∷◌, ◌++◌, ℕ, ◌*◌, ◌/◌}
+use Rattle.std.specs.Prelude.{List, [], ◌∷◌, ◌++◌, ℕ, ◌*◌, ◌/◌}
 use Rattle.grid.specs.Grid.{origin}
 use Rattle.answer.specs.declared.{Refusal.Refusal, Judged.Judged, Judged.TheVariants.Good, Judged.TheVariants.Refused, Answer.Answer}
 use Rattle.steps.specs.Operations.{survivors}

@@ -1,5 +1,5 @@
 -- The numbers of spans, one span on each line. Assumes nothing.
-use Rattle.lists.specs.Lists.{List, [], ◌∷◌, ◌++◌, take, drop, ℕ, zero, suc, ℤ}
+use Rattle.std.specs.Prelude.{List, [], ◌∷◌, ◌++◌, take, drop, ℕ, zero, suc, ℤ}
 use Rattle.line_frame.specs.Spelled.{numbers_line}
 
 -- the first three numbers, and a line feed

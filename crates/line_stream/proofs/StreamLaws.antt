@@ -145,7 +145,7 @@ module _ (J : Job) (told last : List ℕ → List ℕ) (d : Does J told last) wh
   run_owed {h} ended = sym (d.rest h) ∙ ap (λ (l : List ℕ). J.early h [] ++ J.last (kept_of l)) (sym (append-nil h))
   run_owed {h} (fed {ss = ss} s w h' f r) = ap (λ (l : List ℕ). w ++ l) (run_owed r) ∙ f (joined ss)
 
-  owed_output : (r s : List ℕ) → owed_from J [] r s ≡ output_from told last r s
+  pub owed_output : (r s : List ℕ) → owed_from J [] r s ≡ output_from told last r s
   unfolding owed_from output_from
   owed_output r [] = d.end r
   owed_output r (b ∷ s) = go (eqb b 10) (ap (λ (l : List ℕ). J.told [] r ++ l) (owed_output [] s) ∙ ap (λ (l : List ℕ). l ++ output_from told last [] s) (d.whole r)) (owed_output (r ++ (b ∷ [])) s)

@@ -1,5 +1,5 @@
 -- What the functions that take a part of the input promise, whatever is written for a line. Assumes nothing.
-use Rattle.lists.specs.Lists.{◌≡◌, Bool, true, false, cond, ◌&&◌, ◌⊎◌, List, [], ◌++◌, length, take, drop, ℕ, zero, suc, ◌+◌, ◌-◌, ◌<◌, ◌≤◌, eqb, ltb, leb}
+use Rattle.std.specs.Prelude.{◌≡◌, Bool, true, false, cond, ◌&&◌, ◌⊎◌, List, [], ◌++◌, length, take, drop, ℕ, zero, suc, ◌+◌, ◌-◌, ◌<◌, ◌≤◌, eqb, ltb, leb}
 use Rattle.line_frame.specs.Sizes.{most_held}
 use Rattle.line_fields.specs.Put.{put, Wrote}
 use Rattle.line_frame.specs.Begun.{line_length, has_feed, kept_of, passed_of, held_of}
@@ -13,7 +13,8 @@ line_ended line held r = cond (eqb held 0) line (put (kept_of (take held line ++
 
 -- a line that does not end in the chunk is put together there too
 abbrev pub line_after : List ℕ → ℕ → List ℕ → List ℕ
-line_after line held s = cond (has_feed s) (line_ended line held (take (line_length s) s)) (put (kept_of (take held line ++ s)) 0 line)
+line_after line held s =
+    cond (has_feed s) (line_ended line held (take (line_length s) s)) (put (kept_of (take held line ++ s)) 0 line)
 
 -- one line, or the rest of a chunk that has no more line feed
 pub record FedLine (J : Job) (line : List ℕ) (held : ℕ) (s : List ℕ) (at : ℕ) (out : List ℕ) (used : ℕ) (r : Progress)

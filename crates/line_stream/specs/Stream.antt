@@ -1,6 +1,6 @@
 -- Input that comes in parts: what one call writes, whatever a program writes for a line.
 -- Assumes nothing.
-use Rattle.lists.specs.Lists.{◌≡◌, Bool, true, false, cond, List, [], ◌∷◌, ◌++◌, length, take, ℕ, eqb, ltb}
+use Rattle.std.specs.Prelude.{◌≡◌, Bool, true, false, cond, List, [], ◌∷◌, ◌++◌, length, take, ℕ, eqb, ltb}
 use Rattle.line_frame.specs.{Sizes.most_line, Program.last_of, Begun.line_length, Begun.has_feed, Begun.kept_of}
 
 -- what a program writes for a line, if the bytes h of it are held: when the line ends after the bytes r; when a part of the input

@@ -1,5 +1,6 @@
 -- What the walk of a line takes and leaves. Assumes nothing.
-use Rattle.lists.specs.Lists.{◌≡◌, List, length, take, replicate, ℕ, ◌≤◌, Below}
+use Rattle.lists.specs.Lists.{Below}
+use Rattle.std.specs.Prelude.{◌≡◌, List, length, take, replicate, ℕ, ◌≤◌}
 use Rattle.answer.specs.declared.{Facts.Facts, Answer.Answer}
 use Rattle.steps.specs.Operations.{survivors}
 use Rattle.line_frame.specs.Sizes.{most_digits, table_words, marks_words}

@@ -1,5 +1,5 @@
 -- What each program does with the lines of its input. Assumes nothing.
-use Rattle.lists.specs.Lists.{List, [], ◌∷◌, ◌++◌, ℕ, ◌+◌}
+use Rattle.std.specs.Prelude.{List, [], ◌∷◌, ◌++◌, ℕ, ◌+◌}
 use Rattle.line_frame.specs.{Sizes.most_held, Sizes.most_answer, Program.output_from, Program.answered, Converted.converted_line, Converted.converted}
 use Rattle.line_stream.specs.Stream.{Job, tells_each, passes_on, Fed, most_part}
 use Rattle.line_room.specs.Told.{rows_told, most_rows}

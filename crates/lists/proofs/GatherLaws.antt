@@ -10,7 +10,6 @@ use native.Mathlib.Omega.{arith}
 use lib.ListN.{length, length-append}
 pub use Rattle.lists.specs.Lists.{Distinct}
 use Rattle.lists.specs.Lists.{any, add, gather}
-use Rattle.lists.proofs.ListCases as cases
 
 module _ {A : Type 0} where
   pub distinct_snoc : (s : List A) (x : A) → Distinct s → (Memᴰ x s → ⊥) → Distinct (s ++ (x ∷ []))

@@ -1,9 +1,7 @@
--- The library's words that the definitions use, passed on: they mean what the library says. Then words about lists over a type
--- with a Boolean test of equality: membership, first place, count, and the list without repeats. Assumes nothing.
-pub use Rattle.std.specs.Prelude.{◌≡◌, Bool, true, false, cond, not, ◌&&◌, ◌||◌, ◌⊎◌, ◌↔◌, ℕ, zero, suc, pred, ◌+◌, ◌-◌, ◌*◌, ◌/◌, ◌%◌, ◌^◌, ◌<◌, ◌≤◌, ℤ, pos, negsuc, neg_ℤ, nat_abs, ◌+ℤ◌, ◌-ℤ◌, ◌*ℤ◌, ◌≤ℤ◌, ◌<ℤ◌, length, take, drop, replicate, get_or, eqb, ltb, leb}
-pub use mathlib.Core.List.{List, [], ◌∷◌, ◌++◌, Memᴰ as List-as-Memᴰ}
-pub use Rattle.std.proofs.Math.IntN.{suc_ℤ, pred_ℤ}
-pub use Rattle.std.specs.Int.Signed.{le_z, lt_z}
+-- Words about lists over a type with a Boolean test of equality: membership, first place, count, and the list without repeats.
+-- Assumes nothing.
+use Rattle.std.specs.Prelude.{Bool, true, false, ◌||◌, ℕ, zero, suc, ◌+◌, ◌<◌, ℤ, pos, ◌+ℤ◌, List, [], ◌∷◌, ◌++◌}
+use mathlib.Core.List.{Memᴰ}
 
 -- 1 for a test that passes
 abbrev pub tally : Bool → ℕ
@@ -65,7 +63,7 @@ module _ {A : Type 0} where
 -- no element stands twice
 abbrev pub Distinct : {A : Type 0} → List A → Type 0
 Distinct [] = Unit {0}
-Distinct (x ∷ xs) = (List-as-Memᴰ x xs → ⊥) × Distinct xs
+Distinct (x ∷ xs) = (Memᴰ x xs → ⊥) × Distinct xs
 
 -- every element is below k
 abbrev pub Below : ℕ → List ℕ → Type 0

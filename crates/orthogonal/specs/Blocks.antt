@@ -1,5 +1,5 @@
 -- Blocks of panels, and the orthogonal hull of some blocks (RULES 21.2, 21.3). Assumes nothing.
-use Rattle.lists.specs.Lists.{◌≡◌, Bool, true, List, ℕ, suc, ◌/◌, ℤ, pos, negsuc, neg_ℤ, ◌≤ℤ◌}
+use Rattle.std.specs.Prelude.{◌≡◌, Bool, true, List, ℕ, suc, ◌/◌, ℤ, pos, negsuc, neg_ℤ, ◌≤ℤ◌}
 use Rattle.grid.specs.{declared.Corner.Corner, declared.Panel.Panel, Grid.corner, Grid.panel_at}
 use Rattle.panels.specs.Inside.{Inside}
 

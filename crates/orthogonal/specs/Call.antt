@@ -1,6 +1,7 @@
 -- What the call that outlines the orthogonal hull of a room answers, and what it leaves in the buffer (RULES 21.4 to 21.6).
 -- Assumes nothing.
-use Rattle.lists.specs.Lists.{◌≡◌, Bool, true, not, ◌&&◌, List, [], ◌∷◌, length, ℕ, leb, ltb, Below}
+use Rattle.lists.specs.Lists.{Below}
+use Rattle.std.specs.Prelude.{◌≡◌, Bool, true, not, ◌&&◌, List, [], ◌∷◌, length, ℕ, leb, ltb}
 use Rattle.grid.specs.declared.Corner.{Corner}
 use Rattle.answer.specs.declared.{Judged.Judged, Judged.TheVariants.Good, Judged.TheVariants.Refused, Refusal.TheVariants.TooMany, Refusal.TheVariants.StartRange, Refusal.TheVariants.GridSize, Refusal.TheVariants.NotRoom, Refusal.TheVariants.ChainRoom}
 use Rattle.answer.specs.{Limits.most_input, Limits.start_fits, Refusal.when, Refusal.first_of, Refusal.refusal_number, Refusal.refusal_place, Words.bits_of}

@@ -27,7 +27,6 @@ use Rattle.trace.specs.Verdict.{IsRoom}
 use Rattle.room.specs.Room.{as_room_judged}
 use Rattle.room.proofs.RoomLaws.{good_room}
 use Rattle.hull_laws.specs.Lowest.{blank, sinks}
-use Rattle.column_laws.specs.Columns.{top}
 use Rattle.hull_laws.proofs.SinkLaws.{length-sinks}
 use Rattle.steps.proofs.ChainLaws.{good_digits, good_short}
 use Rattle.room_thread_laws.specs.Threads.{Stays}

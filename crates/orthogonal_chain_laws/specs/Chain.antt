@@ -1,7 +1,7 @@
 -- A pile of rows of blocks, and the chain around it. The rows are 0 to t from the south. Row q has the blocks with the columns l
 -- q to r q - 1.
 -- Code that has the ends in two lists passes `λ q. get_or ls q 0` and `λ q. get_or rs q 0`. Assumes nothing.
-use Rattle.lists.specs.Lists.{◌≡◌, cond, List, [], ◌∷◌, ◌++◌, replicate, ℕ, zero, suc, ◌+◌, ◌-◌, ◌<◌, ◌≤◌, ltb, pos, ◌+ℤ◌, ◌≤ℤ◌, ◌<ℤ◌}
+use Rattle.std.specs.Prelude.{◌≡◌, cond, List, [], ◌∷◌, ◌++◌, replicate, ℕ, zero, suc, ◌+◌, ◌-◌, ◌<◌, ◌≤◌, ltb, pos, ◌+ℤ◌, ◌≤ℤ◌, ◌<ℤ◌}
 use Rattle.grid.specs.{declared.Corner.Corner, declared.Panel.Panel, Grid.corner}
 
 -- every row has a block, and two rows next to each other have blocks of one column

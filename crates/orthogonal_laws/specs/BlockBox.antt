@@ -1,5 +1,6 @@
 -- The bounding box of some blocks (RULES 21.8). Assumes nothing.
-use Rattle.lists.specs.Lists.{◌≡◌, suc_ℤ, ◌≤ℤ◌, ◌<ℤ◌}
+use Rattle.std.specs.Prelude.{◌≡◌, ◌≤ℤ◌, ◌<ℤ◌}
+use Rattle.std.proofs.Math.IntN.{suc_ℤ}
 use Rattle.grid.specs.declared.Panel.{Panel}
 use Rattle.panels.specs.Box.{Box}
 

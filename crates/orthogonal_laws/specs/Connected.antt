@@ -1,5 +1,5 @@
 -- Connected sets of panels or blocks, and the four quadrants of a block (RULES 21.7). Assumes nothing.
-use Rattle.lists.specs.Lists.{ℕ, ◌≤ℤ◌}
+use Rattle.std.specs.Prelude.{ℕ, ◌≤ℤ◌}
 use Rattle.grid.specs.{declared.Corner.Corner, declared.Panel.Panel}
 use Rattle.panels.specs.Inside.{left_of, right_of}
 

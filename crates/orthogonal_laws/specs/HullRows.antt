@@ -1,8 +1,7 @@
 -- The rows of an orthogonal hull, from the ends of the rows of blocks. Rows are 0 to t from the south, columns count from the
 -- west end of the bounding box, and the right end of a row is one past its last block. Code that has the ends in two lists passes
 -- `λ q. get_or ls q 0` and `λ q. get_or rs q 0`. Assumes nothing.
-use Rattle.std.specs.Prelude.{min, max}
-use Rattle.lists.specs.Lists.{◌≡◌, ℕ, zero, suc, ◌-◌, ◌≤◌, ◌<◌, pos, ◌+ℤ◌}
+use Rattle.std.specs.Prelude.{min, max, ◌≡◌, ℕ, zero, suc, ◌-◌, ◌≤◌, ◌<◌, pos, ◌+ℤ◌}
 use Rattle.grid.specs.{declared.Corner.Corner, declared.Panel.Panel}
 use Rattle.orthogonal.specs.Blocks.{block}
 use Rattle.orthogonal_chain_laws.specs.Chain.{InPile}

@@ -1,5 +1,5 @@
 -- What the outline's call answers, and what it leaves in the buffer (RULES 15.5, 15.6). Assumes nothing.
-use Rattle.lists.specs.Lists.{◌≡◌, List, [], ◌∷◌, length, ℕ, ltb}
+use Rattle.std.specs.Prelude.{◌≡◌, List, [], ◌∷◌, length, ℕ, ltb}
 use Rattle.grid.specs.declared.Corner.{Corner}
 use Rattle.answer.specs.declared.{Judged.Judged, Refusal.TheVariants.OutlineRoom, Counted.Counted}
 use Rattle.answer.specs.{Refusal.when, Refusal.first_of, Listed.counted_of, Listed.laid_if}

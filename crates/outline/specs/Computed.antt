@@ -1,6 +1,6 @@
 -- The outline, computed: outline_laws proves that this is the outline, so that a reader of the call needs none of it. Assumes
 -- nothing.
-use Rattle.lists.specs.Lists.{true, false, List, length, ℕ, zero, suc, ◌*◌}
+use Rattle.std.specs.Prelude.{true, false, List, length, ℕ, zero, suc, ◌*◌}
 use Rattle.grid.specs.declared.Corner.{Corner}
 use Rattle.outline.specs.Outline.{path_from_home, is_done}
 

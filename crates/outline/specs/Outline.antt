@@ -1,7 +1,9 @@
 -- The outer outline of a walk (RULES 15.1 to 15.4): the path along walked edges that keeps to the right, from the lowest of the
 -- leftmost corners until it is back there with each of that corner's walked edges used. A walk without steps is not a special
 -- case: it has no walked edge, so that its path is done at once. Assumes nothing.
-use Rattle.lists.specs.Lists.{◌≡◌, Bool, true, false, cond, not, ◌&&◌, ◌||◌, List, [], ◌∷◌, length, ℕ, zero, suc, ◌<◌, lt_z, any}
+use Rattle.lists.specs.Lists.{any}
+use Rattle.std.specs.Prelude.{◌≡◌, Bool, true, false, cond, not, ◌&&◌, ◌||◌, List, [], ◌∷◌, length, ℕ, zero, suc, ◌<◌}
+use Rattle.std.specs.Int.Signed.{lt_z}
 use Rattle.grid.specs.{declared.Corner.Corner, Grid.eq_z, Grid.same, Grid.stepped, Grid.end_from, Grid.legs_from, Grid.joins}
 use Rattle.steps.specs.Turns.{step_after}
 

@@ -1,5 +1,6 @@
 -- The different edges of a walk. Assumes nothing.
-use Rattle.lists.specs.Lists.{Bool, List, [], ℕ, gather}
+use Rattle.lists.specs.Lists.{gather}
+use Rattle.std.specs.Prelude.{Bool, List, [], ℕ}
 use Rattle.grid.specs.{declared.Corner.Corner, Grid.legs_from, Grid.joins}
 
 -- the two have the same ends

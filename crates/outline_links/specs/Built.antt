@@ -1,7 +1,7 @@
 -- What the store holds of a walk: its different corners as keys, and their links. Assumes nothing.
 use Rattle.answer.specs.Limits.{most_steps}
-use Rattle.lists.specs.Lists.{◌≡◌, List, List-as-Memᴰ, ℕ, suc, ◌*◌, ◌<◌, ◌≤◌, length, take, get_or}
-use Rattle.std.specs.Prelude.{map}
+use mathlib.Core.List.{Memᴰ}
+use Rattle.std.specs.Prelude.{map, ◌≡◌, List, ℕ, suc, ◌*◌, ◌<◌, ◌≤◌, length, take, get_or}
 use Rattle.grid.specs.{declared.Corner.Corner, Grid.origin, Grid.corners_from, Grid.end_from}
 use Rattle.trace.specs.Meeting.{visited_of}
 use Rattle.outline.specs.Outline.{home_of}
@@ -31,7 +31,7 @@ pub record WalkStored (c : Corner) (ds keys kids links : List ℕ) (used node : 
 pub record Least (c : Corner) (ds : List ℕ) (home least : ℕ) : Type 0 where
   pub number : home < length (visited_of (corners_from c ds))
   pub its : least ≡ key_of c (get_or (visited_of (corners_from c ds)) home origin)
-  pub most : (q : Corner) → List-as-Memᴰ q (corners_from c ds) → least ≤ key_of c q
+  pub most : (q : Corner) → Memᴰ q (corners_from c ds) → least ≤ key_of c q
 
 -- the links of the walk, and the number of the lowest of its leftmost corners
 pub record Built (c : Corner) (chain links : List ℕ) (home : ℕ) : Type 0 where

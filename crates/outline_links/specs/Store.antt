@@ -1,7 +1,6 @@
 -- What a step asks of the store and leaves in it. Assumes nothing.
 use Rattle.answer.specs.Limits.{most_steps}
-use Rattle.lists.specs.Lists.{◌≡◌, ◌⊎◌, List, ℕ, suc, ◌+◌, ◌*◌, ◌<◌, ◌≤◌, length, get_or}
-use Rattle.std.specs.Prelude.{set}
+use Rattle.std.specs.Prelude.{set, ◌≡◌, ◌⊎◌, List, ℕ, suc, ◌+◌, ◌*◌, ◌<◌, ◌≤◌, length, get_or}
 use Rattle.grid.specs.Grid.{back}
 use Rattle.outline_roster.specs.Tree.{Tree, Seated}
 

@@ -1,5 +1,5 @@
 -- What the pass along the outline asks, wherever the walk starts. Assumes nothing.
-use Rattle.lists.specs.Lists.{◌≡◌, Bool, not, List, ℕ, ◌<◌, ◌≤◌, ltb, length}
+use Rattle.std.specs.Prelude.{◌≡◌, Bool, not, List, ℕ, ◌<◌, ◌≤◌, ltb, length}
 use Rattle.answer.specs.Limits.{most_steps}
 use Rattle.grid.specs.declared.Corner.{Corner}
 use Rattle.outline.specs.Outline.{first_way}

@@ -1,6 +1,6 @@
 -- What the passes along the outline ask and promise, wherever the walk starts. Assumes nothing.
 use Rattle.answer.specs.Limits.{most_steps}
-use Rattle.lists.specs.Lists.{◌≡◌, Bool, List, ℕ, suc, ◌+◌, ◌*◌, ◌<◌, ◌≤◌, ltb, length, get_or, drop, ◌++◌}
+use Rattle.std.specs.Prelude.{◌≡◌, Bool, List, ℕ, suc, ◌+◌, ◌*◌, ◌<◌, ◌≤◌, ltb, length, get_or, drop, ◌++◌}
 use Rattle.grid.specs.declared.Corner.{Corner}
 use Rattle.outline.specs.Outline.{first_way}
 use Rattle.outline.specs.Computed.{outline_of}

@@ -1,5 +1,6 @@
 -- The way down a digital tree, and what is kept of the tree while keys are added. Assumes nothing.
-use Rattle.lists.specs.Lists.{◌≡◌, true, false, List, ℕ, zero, suc, ◌+◌, ◌*◌, ◌/◌, ◌%◌, ◌<◌, ◌≤◌, eqb, length, take, get_or, find, add}
+use Rattle.lists.specs.Lists.{find, add}
+use Rattle.std.specs.Prelude.{◌≡◌, true, false, List, ℕ, zero, suc, ◌+◌, ◌*◌, ◌/◌, ◌%◌, ◌<◌, ◌≤◌, eqb, length, take, get_or}
 use Rattle.outline_roster.specs.declared.Sought.{Sought}
 use Rattle.outline_roster.specs.declared.Sought.TheVariants.{Node, Free}
 

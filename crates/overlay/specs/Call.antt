@@ -1,6 +1,6 @@
 -- What the call that lists the parts of two rooms answers, and what it leaves in the three buffers (RULES 16.3 to 16.6). Assumes
 -- nothing.
-use Rattle.lists.specs.Lists.{◌≡◌, List, [], ◌∷◌, length, ℕ, ℤ}
+use Rattle.std.specs.Prelude.{◌≡◌, List, [], ◌∷◌, length, ℕ, ℤ}
 use Rattle.grid.specs.declared.Corner.{Corner}
 use Rattle.answer.specs.declared.{Judged.Judged, Judged.TheVariants.Good, Judged.TheVariants.Refused}
 use Rattle.answer.specs.{Refusal.first_of, Refusal.refusal_number, Refusal.refusal_place, Listed.laid_if}
@@ -22,7 +22,8 @@ part_room_judged before lists k = span_room_judged (length (before k)) (length (
 -- the refusals of the first room, then those of the second, then 21 for any of the three lists
 abbrev pub overlay_judged : Corner → List ℕ → Corner → List ℕ → (Part → List ℤ) → (Part → List Span) → Judged
 overlay_judged c ds e es before lists =
-    first_of (as_room_judged c ds ∷ as_room_judged e es ∷ part_room_judged before lists First ∷ part_room_judged before lists Second
+    first_of (as_room_judged c ds ∷ as_room_judged e es ∷ part_room_judged before lists First
+    ∷ part_room_judged before lists Second
     ∷ part_room_judged before lists Both ∷ [])
 
 -- how many panels and how many spans a list has, and each of three lists
@@ -30,7 +31,8 @@ abbrev pub measure_of : List Span → Measure
 measure_of L = record { panels = lengths_of L; spans = length L }
 
 abbrev pub measures_of : (Part → List Span) → Measures
-measures_of lists = record { first = measure_of (lists First); second = measure_of (lists Second); both = measure_of (lists Both) }
+measures_of lists =
+    record { first = measure_of (lists First); second = measure_of (lists Second); both = measure_of (lists Both) }
 
 -- those of the three lists, unless there is a refusal
 abbrev pub overlaid_of : Judged → (Part → List Span) → Overlaid

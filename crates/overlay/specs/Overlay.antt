@@ -1,5 +1,5 @@
 -- The panels of two rooms that are in the first only, in the second only, and in both (RULES 16). Assumes nothing.
-use Rattle.lists.specs.Lists.{List, ℕ}
+use Rattle.std.specs.Prelude.{List, ℕ}
 use Rattle.grid.specs.declared.{Corner.Corner, Panel.Panel}
 use Rattle.panels.specs.Inside.{Inside}
 use Rattle.overlay.specs.declared.{Part.Part, Part.TheVariants.First, Part.TheVariants.Second, Part.TheVariants.Both}

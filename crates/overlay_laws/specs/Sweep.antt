@@ -49,4 +49,5 @@ odd i = eqb (i % 2) 1
 
 -- what is left of a part's ends at the places i and j
 abbrev pub part_rest : Part → List ℤ → ℕ → ℕ → List ℤ → ℕ → ℕ → ℕ → List Corner
-part_rest k a i na b j nb fuel = changes (part_has k) (odd i) (odd j) (join fuel (ends_from a i (na - i)) (ends_from b j (nb - j)))
+part_rest k a i na b j nb fuel =
+    changes (part_has k) (odd i) (odd j) (join fuel (ends_from a i (na - i)) (ends_from b j (nb - j)))

@@ -15,7 +15,8 @@ HaveRoom lists before = (k : Part) → 3 * length (lists k) ≤ length (before k
 -- 21 for any of the three lists
 abbrev pub parts_judged : (Part → List ℤ) → (Part → List Span) → Judged
 parts_judged before lists =
-    first_of (part_room_judged before lists First ∷ part_room_judged before lists Second ∷ part_room_judged before lists Both ∷ [])
+    first_of (part_room_judged before lists First ∷ part_room_judged before lists Second ∷ part_room_judged before lists Both
+    ∷ [])
 
 -- the answer and the buffers by the three lists
 pub record PartsCall (lists : Part → List Span) (before : Part → List ℤ) (r : Overlaid) (after : Part → List ℤ) : Type 0 where

@@ -1,6 +1,6 @@
 -- The refusals of a call of two parties in their order, its answer, and its four buffers (RULES 19.6, 19.7). c and e are the two
 -- starts. Assumes nothing.
-use Rattle.lists.specs.Lists.{◌≡◌, Bool, not, ◌&&◌, List, [], ◌∷◌, length, ℕ, suc, pred, ◌*◌, ◌%◌, eqb, ltb, leb}
+use Rattle.std.specs.Prelude.{◌≡◌, Bool, not, ◌&&◌, List, [], ◌∷◌, length, ℕ, suc, pred, ◌*◌, ◌%◌, eqb, ltb, leb}
 use Rattle.answer.specs.declared.{Judged.Judged, Judged.TheVariants.Good, Judged.TheVariants.Refused, PairFacts.PairFacts, PairAnswer.PairAnswer}
 use Rattle.answer.specs.declared.Refusal.TheVariants.{TooMany, Table, ResultRoom, NoRoom, StartRange}
 use Rattle.answer.specs.{Limits.most_input, Limits.most_pair_records, Limits.start_fits, Refusal.when, Refusal.or_else, Refusal.first_of}
@@ -47,7 +47,8 @@ pair_judged c e os words marks chain chain' = first_of (pair_judgements c e os w
 
 -- the facts of both: the nodes that either needs once, the rest for each
 abbrev pub pair_facts_of : Corner → Corner → List ℕ → List ℕ → PairFacts
-pair_facts_of c e ds es = record { nodes = length (needs_of c e ds es); first = party_facts_of c ds; second = party_facts_of e es }
+pair_facts_of c e ds es =
+    record { nodes = length (needs_of c e ds es); first = party_facts_of c ds; second = party_facts_of e es }
 
 -- the facts, or the refusal
 abbrev pub pair_answer_by : Judged → PairFacts → PairAnswer

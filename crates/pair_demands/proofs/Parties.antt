@@ -149,7 +149,8 @@ known_stays = slot_laws.placed_known
 -- ---- Demand 2: what an accepted call answers and leaves
 module _ {c e : Corner} {os : List ℕ} {b b' : PairLent} {f : PairFacts} (w : PairIs c e os b (PairAnswer.Accepted f) b') where
   -- nothing was wrong with it, and the table was large enough at every moment
-  pub faultless : PairFaultless c e os b × ((k : ℕ) → k ≤ length os → pair_nodes_after c e os k ≤ pair_records_in (length b.table))
+  pub faultless : PairFaultless c e os b
+      × ((k : ℕ) → k ≤ length os → pair_nodes_after c e os k ≤ pair_records_in (length b.table))
   faultless = pair_laws.its_faultless w
 
   -- the nodes in use once, the rest for each party
@@ -220,7 +221,8 @@ pub changes_counted : (r : ℕ) (t u : List ℕ) → changes_by pair_width r t u
 changes_counted = change_laws.changes_counted pair_width
 
 -- a record does not differ exactly if all its words are the same
-pub differs_exactly : (t u : List ℕ) (i : ℕ) → differs_at pair_width t u i ≡ false ↔ record_at pair_width t i ≡ record_at pair_width u i
+pub differs_exactly : (t u : List ℕ) (i : ℕ) → differs_at pair_width t u i ≡ false ↔ record_at pair_width t i
+    ≡ record_at pair_width u i
 differs_exactly = change_laws.differs_exactly pair_width
 
 -- ---- "a party's verdict, meeting, area, chain, visits and edge counts depend on its own start and operations alone"
@@ -295,7 +297,8 @@ module _ {c e : Corner} {os : List ℕ} {b : PairLent} (h : PairFaultless c e os
 
 module _ {c e : Corner} {os : List ℕ} {b b' : PairLent} {r : PairAnswer} (w : PairIs c e os b r b') where
   -- so a table that large at every moment is never too small
-  pub enough_eight : ((k : ℕ) → k ≤ length os → 8 * pair_corners_after c e os k + 136 ≤ pair_records_in (length b.table)) → (i : ℕ)
+  pub enough_eight : ((k : ℕ) → k ≤ length os → 8 * pair_corners_after c e os k + 136 ≤ pair_records_in (length b.table))
+      → (i : ℕ)
       → r ≡ PairAnswer.Refused (NoRoom i) → ⊥
   enough_eight = alone_laws.enough_eight w
 

@@ -1,11 +1,11 @@
 -- One of two parties on its way: where it stands and its tally, in the table that both share, as the definitions have them. The
 -- first walks ds from c, the second es from e.
 -- Assumes nothing.
-use Rattle.std.specs.Prelude.{List, [], ◌∷◌, ◌++◌, ◌≡◌, ℕ, suc, ◌+◌, ◌<◌, length}
+use Rattle.std.specs.Prelude.{List, [], ◌∷◌, ◌++◌, ◌≡◌, ℕ, suc, ◌+◌, ◌<◌, length, true}
 use Rattle.answer.specs.Limits.{no_meeting}
 use Rattle.grid.specs.declared.Corner.{Corner}
 use Rattle.grid.specs.Grid.{same, stepped, corners_from, end_from}
-use Rattle.lists.specs.Lists.{true, find, count}
+use Rattle.lists.specs.Lists.{find, count}
 use Rattle.tree_laws.specs.State.{later, state_of, reached}
 use Rattle.pair_steps.specs.Parties.{by_party}
 use Rattle.pair_table.specs.Slots.{Slot, needs_of, settle}

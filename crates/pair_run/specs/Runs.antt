@@ -107,4 +107,5 @@ PairRan words c e ops t ms first second (Course.All w) =
     BothKept t first second c e (steps_by 0 ops) (steps_by 1 ops) (slots_of c e ops) w.first w.second w.stock
     × (ms ≡ pair_marks_of (pair_records_in words) c e ops)
     × (pair_room_from (pair_records_in words) c e 0 [] [] ops ≡ Good)
-PairRan words c e ops t ms first second (Course.Full i) = pair_room_from (pair_records_in words) c e 0 [] [] ops ≡ Refused (NoRoom i)
+PairRan words c e ops t ms first second (Course.Full i) =
+    pair_room_from (pair_records_in words) c e 0 [] [] ops ≡ Refused (NoRoom i)

@@ -1,6 +1,6 @@
 -- Operations of two parties in one string of bytes, the surviving steps of each, and the refusals 20, 4, 5 and 6 (RULES 19.1,
 -- 19.7). Assumes nothing.
-use Rattle.lists.specs.Lists.{Bool, true, false, cond, List, [], ◌∷◌, ℕ, zero, suc, ◌/◌, ◌%◌, eqb, ltb}
+use Rattle.std.specs.Prelude.{Bool, true, false, cond, List, [], ◌∷◌, ℕ, zero, suc, ◌/◌, ◌%◌, eqb, ltb}
 use Rattle.answer.specs.declared.{Judged.Judged, Judged.TheVariants.Good, Refusal.TheVariants.UnknownParty}
 use Rattle.answer.specs.Refusal.{when, or_else}
 use Rattle.steps.specs.Operations.{operate, survivors, fault_of, after}

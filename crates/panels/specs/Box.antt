@@ -1,5 +1,8 @@
 -- The bounding box of a walk, and the sum over its panels (RULES 1.10). Assumes nothing.
-use Rattle.lists.specs.Lists.{cond, List, [], ◌∷◌, ◌++◌, ℕ, zero, suc, ℤ, suc_ℤ, nat_abs, ◌-ℤ◌, le_z, sum_of}
+use Rattle.lists.specs.Lists.{sum_of}
+use Rattle.std.specs.Prelude.{cond, List, [], ◌∷◌, ◌++◌, ℕ, zero, suc, ℤ, nat_abs, ◌-ℤ◌}
+use Rattle.std.proofs.Math.IntN.{suc_ℤ}
+use Rattle.std.specs.Int.Signed.{le_z}
 use Rattle.grid.specs.{declared.Corner.Corner, declared.Panel.Panel, Grid.corner, Grid.panel_at, Grid.stepped}
 use Rattle.panels.specs.Edges.{surplus_of}
 

@@ -1,5 +1,7 @@
 -- The vertical edges of a walk, with their direction, and those that a panel sees (RULES 1.8). Assumes nothing.
-use Rattle.lists.specs.Lists.{Bool, true, false, not, ◌&&◌, List, [], ◌∷◌, ◌++◌, ℕ, zero, suc, ℤ, pos, ◌-ℤ◌, lt_z, count}
+use Rattle.lists.specs.Lists.{count}
+use Rattle.std.specs.Prelude.{Bool, true, false, not, ◌&&◌, List, [], ◌∷◌, ◌++◌, ℕ, zero, suc, ℤ, pos, ◌-ℤ◌}
+use Rattle.std.specs.Int.Signed.{lt_z}
 use Rattle.grid.specs.{declared.Corner.Corner, declared.Panel.Panel, Grid.eq_z, Grid.stepped}
 
 -- a vertical edge: its lower end, and whether it is walked north

@@ -1,5 +1,8 @@
 -- The panels inside a walk, and on which side of its steps they lie (RULES 1.9). Assumes nothing.
-use Rattle.lists.specs.Lists.{◌≡◌, Bool, ◌↔◌, List, [], ◌∷◌, List-as-Memᴰ, ℕ, zero, suc, ◌%◌, pred_ℤ, eqb, count, Distinct}
+use mathlib.Core.List.{Memᴰ}
+use Rattle.lists.specs.Lists.{count, Distinct}
+use Rattle.std.specs.Prelude.{◌≡◌, Bool, ◌↔◌, List, [], ◌∷◌, ℕ, zero, suc, ◌%◌, eqb}
+use Rattle.std.proofs.Math.IntN.{pred_ℤ}
 use Rattle.grid.specs.{declared.Corner.Corner, declared.Panel.Panel, Grid.corner, Grid.panel_at, Grid.stepped}
 use Rattle.panels.specs.{Edges.edges_from, Edges.beside, Box.box_of, Box.panels_in}
 
@@ -22,7 +25,7 @@ panels_inside c ds = count (inside c ds) (panels_in (box_of c ds))
 -- ps lists the panels inside the walk, each once
 pub record ListsInside (c : Corner) (ds : List ℕ) (ps : List Panel) : Type 0 where
   pub once : Distinct ps
-  pub panels : (p : Panel) → List-as-Memᴰ p ps ↔ Inside c ds p
+  pub panels : (p : Panel) → Memᴰ p ps ↔ Inside c ds p
 
 -- the panel on the left of the step d from c
 abbrev pub left_of : ℕ → Corner → Panel

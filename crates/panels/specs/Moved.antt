@@ -1,5 +1,5 @@
 -- A loop turned, mirrored, walked from another of its corners, and walked backwards (RULES 1.10). Assumes nothing.
-use Rattle.lists.specs.Lists.{List, [], ◌∷◌, ◌++◌, take, drop, ℕ, zero, suc}
+use Rattle.std.specs.Prelude.{List, [], ◌∷◌, ◌++◌, take, drop, ℕ, zero, suc}
 use Rattle.grid.specs.Grid.{back}
 
 -- a quarter turn to the left: east to north, north to west, west to south, south to east

@@ -1,6 +1,6 @@
 -- Coordinates and polygons as bytes, computed; the bytes are those of another implementation of the format.
 -- Assumes nothing.
-use Rattle.lists.specs.Lists.{◌≡◌, [], ◌∷◌}
+use Rattle.std.specs.Prelude.{◌≡◌, [], ◌∷◌}
 use mathlib.Core.Path.{refl}
 use lib.IntN.{pos, negsuc}
 use lib.Ieee.{of_int, to_bits}

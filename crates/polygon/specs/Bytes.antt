@@ -1,5 +1,5 @@
 -- Numbers as bytes (RULES 13.2). Assumes nothing.
-use Rattle.lists.specs.Lists.{List, [], ◌∷◌, ℕ, zero, suc, ◌/◌, ◌%◌}
+use Rattle.std.specs.Prelude.{List, [], ◌∷◌, ℕ, zero, suc, ◌/◌, ◌%◌}
 
 -- the n lowest digits of b to the base 256, the lowest first
 unfoldable pub bytes_of : ℕ → ℕ → List ℕ

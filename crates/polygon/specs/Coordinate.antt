@@ -1,6 +1,5 @@
 -- Coordinates in millimetres, as floats (RULES 13.4). Assumes nothing.
-use Rattle.lists.specs.Lists.{◌≡◌, Bool, true, false, ℕ, ◌*◌, ℤ, pos, neg_ℤ, ◌*ℤ◌}
-use Rattle.std.specs.Prelude.{Float}
+use Rattle.std.specs.Prelude.{Float, ◌≡◌, Bool, true, false, ℕ, ◌*◌, ℤ, pos, neg_ℤ, ◌*ℤ◌}
 use Rattle.std.specs.Float.{nan, inf, fin, binary64}
 use Rattle.std.specs.Float.Ieee.{up, down, of_int}
 use Rattle.grid.specs.declared.Corner.{Corner}

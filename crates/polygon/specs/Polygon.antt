@@ -1,5 +1,5 @@
 -- The polygon of a room, little-endian, and the promise of the call that writes it (RULES 13). Assumes nothing.
-use Rattle.lists.specs.Lists.{◌≡◌, Bool, not, cond, List, [], ◌∷◌, ◌++◌, length, ℕ, eqb, ltb, ℤ}
+use Rattle.std.specs.Prelude.{◌≡◌, Bool, not, cond, List, [], ◌∷◌, ◌++◌, length, ℕ, eqb, ltb, ℤ}
 use Rattle.std.specs.Float.{binary64}
 use Rattle.std.specs.Float.Ieee.{to_bits}
 use Rattle.grid.specs.{declared.Corner.Corner, Grid.stepped}

@@ -1,6 +1,7 @@
 -- The walks that can be drawn, and how many bends they have.
 -- Assumes nothing.
-use Rattle.lists.specs.Lists.{◌≡◌, List, [], ◌∷◌, ◌++◌, length, take, drop, get_or, ℕ, ◌+◌, ◌*◌, ◌≤◌, Bool, true, false, nat_abs, tally, Below}
+use Rattle.lists.specs.Lists.{tally, Below}
+use Rattle.std.specs.Prelude.{◌≡◌, List, [], ◌∷◌, ◌++◌, length, take, drop, get_or, ℕ, ◌+◌, ◌*◌, ◌≤◌, Bool, true, false, nat_abs}
 use Rattle.answer.specs.Limits.{most_steps, most_start}
 use Rattle.grid.specs.declared.Corner.{Corner}
 use Rattle.answer.specs.declared.{Counted.Counted}

@@ -1,6 +1,6 @@
 -- The points of a ring, as a reader looks for them.
 -- Assumes nothing.
-use Rattle.lists.specs.Lists.{◌≡◌, List, length, get_or, ℕ, suc, ◌<◌}
+use Rattle.std.specs.Prelude.{◌≡◌, List, length, get_or, ℕ, suc, ◌<◌}
 use Rattle.grid.specs.{declared.Corner.Corner, Grid.corner_at}
 use Rattle.steps.specs.Turns.{turn_of}
 

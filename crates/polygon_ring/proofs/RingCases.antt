@@ -1,6 +1,6 @@
 -- Files as the call judges them, computed; files, numbers and places are those of another implementation.
 -- Assumes nothing.
-use Rattle.lists.specs.Lists.{◌≡◌, List, [], ◌∷◌, ◌++◌, ℕ}
+use Rattle.std.specs.Prelude.{◌≡◌, List, [], ◌∷◌, ◌++◌, ℕ}
 use mathlib.Core.List.{reverse}
 use mathlib.Core.Path.{refl}
 use lib.Ieee.{of_bits}

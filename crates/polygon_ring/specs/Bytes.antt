@@ -1,6 +1,5 @@
 -- Numbers out of bytes, in either order (RULES 18.2). Assumes nothing.
-use Rattle.lists.specs.Lists.{Bool, true, false, cond, ◌&&◌, List, [], ◌∷◌, ℕ, ◌+◌, ◌*◌, eqb}
-use Rattle.std.specs.Prelude.{reverse}
+use Rattle.std.specs.Prelude.{reverse, Bool, true, false, cond, ◌&&◌, List, [], ◌∷◌, ℕ, ◌+◌, ◌*◌, eqb}
 
 -- the number with these digits, the lowest first
 unfoldable pub number_of : List ℕ → ℕ

@@ -1,6 +1,5 @@
 -- The whole coordinate that a float is (RULES 18.4). Assumes nothing.
-use Rattle.lists.specs.Lists.{Bool, true, false, ◌&&◌, ℕ, ◌*◌, ◌/◌, ◌%◌, eqb, leb}
-use Rattle.std.specs.Prelude.{Float}
+use Rattle.std.specs.Prelude.{Float, Bool, true, false, ◌&&◌, ℕ, ◌*◌, ◌/◌, ◌%◌, eqb, leb}
 use Rattle.std.specs.Float.{nan, inf, fin}
 use Rattle.std.specs.Float.Ieee.{up, down}
 use Rattle.polygon.specs.Coordinate.{scale, signed}

@@ -1,6 +1,7 @@
 -- A polygon that is read: its points, the walk along them, and the refusals in their order (RULES 18). Assumes nothing.
-use Rattle.lists.specs.Lists.{◌≡◌, Bool, true, false, cond, not, ◌&&◌, List, [], ◌∷◌, ◌++◌, length, take, drop, replicate, get_or, ℕ, zero, suc, ◌+◌, ◌-◌, ◌*◌, ◌/◌, eqb, ltb, leb, nat_abs, ◌-ℤ◌, lt_z, any}
-use Rattle.std.specs.Prelude.{map}
+use Rattle.lists.specs.Lists.{any}
+use Rattle.std.specs.Int.Signed.{lt_z}
+use Rattle.std.specs.Prelude.{map, ◌≡◌, Bool, true, false, cond, not, ◌&&◌, List, [], ◌∷◌, ◌++◌, length, take, drop, replicate, get_or, ℕ, zero, suc, ◌+◌, ◌-◌, ◌*◌, ◌/◌, eqb, ltb, leb, nat_abs, ◌-ℤ◌}
 use Rattle.std.specs.Float.{binary64}
 use Rattle.std.specs.Float.Ieee.{of_bits}
 use Rattle.grid.specs.{declared.Corner.Corner, Grid.origin, Grid.corner, Grid.eq_z, Grid.same}
@@ -114,7 +115,8 @@ chain_of_points ps = steps_along (start_of ps) (later_of ps)
 
 -- at least four points, the last equal to the first, and neighbours differ along exactly one axis
 abbrev pub is_ring : List Corner → Bool
-is_ring ps = leb 4 (length ps) && same (get_or ps (length ps - 1) origin) (start_of ps) && straight_from (start_of ps) (later_of ps)
+is_ring ps =
+    leb 4 (length ps) && same (get_or ps (length ps - 1) origin) (start_of ps) && straight_from (start_of ps) (later_of ps)
 
 -- the point count of a file in this byte order
 unfoldable pub count_in : Bool → List ℕ → ℕ

@@ -1,5 +1,5 @@
 -- The answer to a polygon that is read as numbers (RULES 18.8). Assumes nothing.
-use Rattle.lists.specs.Lists.{List, [], ◌∷◌, ℕ}
+use Rattle.std.specs.Prelude.{List, [], ◌∷◌, ℕ}
 use Rattle.answer.specs.{Refusal.refusal_number, Refusal.refusal_place, Words.bits_of}
 use Rattle.polygon_ring.specs.declared.{Given.Given}
 

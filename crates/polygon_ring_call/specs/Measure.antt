@@ -1,6 +1,6 @@
 -- What the first pass over the points finds. Assumes nothing.
-use Rattle.lists.specs.Lists.{Bool, true, false, List, ℕ, any}
-use Rattle.std.specs.Prelude.{map}
+use Rattle.lists.specs.Lists.{any}
+use Rattle.std.specs.Prelude.{map, Bool, true, false, List, ℕ}
 use Rattle.grid.specs.declared.Corner.{Corner}
 use Rattle.polygon_ring.specs.Ring.{is_faulty, corner_in, start_of, length_of, is_ring}
 use Rattle.polygon_ring.specs.declared.GridPoint.{GridPoint}
@@ -15,4 +15,5 @@ measured_by false true c n = Ring (record { start = c; steps = n })
 
 abbrev pub measured_of : List GridPoint → Measured
 measured_of ps =
-    measured_by (any is_faulty ps) (is_ring (map corner_in ps)) (start_of (map corner_in ps)) (capped (length_of (map corner_in ps)))
+    measured_by (any is_faulty ps) (is_ring (map corner_in ps)) (start_of (map corner_in ps))
+    (capped (length_of (map corner_in ps)))

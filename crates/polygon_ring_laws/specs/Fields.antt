@@ -1,8 +1,7 @@
 -- What a float's bits show of a coordinate: its exponent and its digits.
 -- Assumes nothing.
 use Rattle.answer.specs.Limits.{farthest}
-use Rattle.lists.specs.Lists.{◌≡◌, Bool, false, cond, ◌&&◌, ℕ, ◌+◌, ◌-◌, ◌/◌, ◌%◌, ◌^◌, leb, ℤ}
-use Rattle.std.specs.Prelude.{Float}
+use Rattle.std.specs.Prelude.{Float, ◌≡◌, Bool, false, cond, ◌&&◌, ℕ, ◌+◌, ◌-◌, ◌/◌, ◌%◌, ◌^◌, leb, ℤ}
 use Rattle.std.specs.Float.{inf, binary64}
 use Rattle.std.specs.Float.Ieee.{of_bits, nan_bits}
 use Rattle.polygon.specs.Coordinate.{scale}

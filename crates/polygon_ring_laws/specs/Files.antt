@@ -1,6 +1,5 @@
 -- What is asked of a file, without tests (RULES 18.2 to 18.6), and the file in the other byte order. Assumes nothing.
-use Rattle.lists.specs.Lists.{◌≡◌, Bool, true, false, List, ◌∷◌, ◌++◌, length, take, drop, get_or, ℕ, zero, suc, ◌+◌, ◌-◌, ◌*◌, ◌/◌, ◌≤◌, ◌<◌, ℤ, pos, nat_abs, ◌*ℤ◌}
-use Rattle.std.specs.Prelude.{reverse, ◌⊎◌, Float}
+use Rattle.std.specs.Prelude.{reverse, ◌⊎◌, Float, ◌≡◌, Bool, true, false, List, ◌∷◌, ◌++◌, length, take, drop, get_or, ℕ, zero, suc, ◌+◌, ◌-◌, ◌*◌, ◌/◌, ◌≤◌, ◌<◌, ℤ, pos, nat_abs, ◌*ℤ◌}
 use Rattle.std.specs.Float.{binary64}
 use Rattle.std.specs.Float.Ieee.{of_bits}
 use Rattle.grid.specs.{declared.Corner.Corner, Grid.origin}

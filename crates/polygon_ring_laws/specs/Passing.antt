@@ -1,6 +1,6 @@
 -- A walk that passes the points of a ring.
 -- Assumes nothing.
-use Rattle.lists.specs.Lists.{◌≡◌, List, [], ◌∷◌, ◌++◌, take, drop, replicate, ℕ, ◌<◌}
+use Rattle.std.specs.Prelude.{◌≡◌, List, [], ◌∷◌, ◌++◌, take, drop, replicate, ℕ, ◌<◌}
 use Rattle.polygon_ring.specs.Ring.{start_of, later_of, ring_of}
 use Rattle.polygon_ring.specs.declared.Found.{Found}
 use Rattle.grid.specs.{declared.Corner.Corner, Grid.end_from}

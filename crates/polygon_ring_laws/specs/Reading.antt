@@ -1,7 +1,7 @@
 -- What the passes over a ring find.
 -- Assumes nothing.
-use Rattle.lists.specs.Lists.{◌≡◌, Bool, cond, not, List, [], ◌∷◌, length, take, drop, ℕ, suc, ◌+◌, ◌*◌, ◌≤◌, eqb, ltb, any, nat_abs}
-use Rattle.std.specs.Prelude.{map}
+use Rattle.lists.specs.Lists.{any}
+use Rattle.std.specs.Prelude.{map, ◌≡◌, Bool, cond, not, List, [], ◌∷◌, length, take, drop, ℕ, suc, ◌+◌, ◌*◌, ◌≤◌, eqb, ltb, nat_abs}
 use Rattle.answer.specs.Limits.{most_steps, farthest}
 use Rattle.answer.specs.Refusal.{when, or_else, first_of}
 use Rattle.grid.specs.declared.Corner.{Corner}
@@ -46,9 +46,11 @@ ring_judged ps size =
 -- 14 by the length, and then these
 abbrev pub points_judged : Bool → List ℕ → ℕ → Judged
 points_judged little file size =
-    or_else (when (not (eqb (length file) (13 + 16 * count_in little file))) FileLength) (ring_judged (points_in little file) size)
+    or_else (when (not (eqb (length file) (13 + 16 * count_in little file))) FileLength)
+    (ring_judged (points_in little file) size)
 
 -- the promise of a file that is read in this byte order
 pub record ReadIn (little : Bool) (file out : List ℕ) (r : Given) (out' : List ℕ) : Type 0 where
   pub answer : r ≡ given_of (points_judged little file (length out)) (map corner_in (points_in little file))
-  pub buffer : out' ≡ laid_if (points_judged little file (length out)) (chain_of_points (map corner_in (points_in little file))) out
+  pub buffer : out'
+      ≡ laid_if (points_judged little file (length out)) (chain_of_points (map corner_in (points_in little file))) out

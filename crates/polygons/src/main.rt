@@ -2,7 +2,8 @@
 #![tactic(auto)]
 
 use lines::Task;
+use std::process::ExitCode;
 
-fn main() {
-    line_io::start(Task::Enter);
+fn main(rt: HostRuntime) -> ExitCode {
+    line_io::start(rt, Task::Enter)
 }

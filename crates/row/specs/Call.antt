@@ -1,5 +1,5 @@
 -- What the rows call answers, and what it leaves in the buffer (RULES 14.4, 14.5). Assumes nothing.
-use Rattle.lists.specs.Lists.{◌≡◌, List, [], ◌∷◌, length, ℕ, ◌*◌, ltb, ℤ}
+use Rattle.std.specs.Prelude.{◌≡◌, List, [], ◌∷◌, length, ℕ, ◌*◌, ltb, ℤ}
 use Rattle.grid.specs.declared.Corner.{Corner}
 use Rattle.answer.specs.declared.{Judged.Judged, Judged.TheVariants.Good, Refusal.TheVariants.SpanRoom, Counted.Counted}
 use Rattle.answer.specs.{Refusal.when, Refusal.first_of, Listed.counted_of, Listed.laid_if}

@@ -1,5 +1,6 @@
 -- Spans of panels by rows (RULES 14.2, 14.3). Assumes nothing.
-use Rattle.lists.specs.Lists.{◌≡◌, List, [], ◌∷◌, ◌⊎◌, ◌↔◌, ℕ, ◌+◌, ℤ, suc_ℤ, nat_abs, ◌-ℤ◌, ◌≤ℤ◌, ◌<ℤ◌}
+use Rattle.std.specs.Prelude.{◌≡◌, List, [], ◌∷◌, ◌⊎◌, ◌↔◌, ℕ, ◌+◌, ℤ, nat_abs, ◌-ℤ◌, ◌≤ℤ◌, ◌<ℤ◌}
+use Rattle.std.proofs.Math.IntN.{suc_ℤ}
 use Rattle.grid.specs.declared.Panel.{Panel}
 
 -- the panels of one row from the first to the last

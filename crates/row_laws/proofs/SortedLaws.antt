@@ -9,7 +9,8 @@ use Prim.Native.Nat.{ℕ, zero, suc, ◌+◌, ◌*◌, ◌%◌, ◌<◌, ◌≤�
 use native.Mathlib.Omega.{arith}
 use lib.ListN.{length}
 use Rattle.int_laws.proofs.LinearLaws.{zarith, le_or_lt}
-use Rattle.lists.specs.Lists.{tally, count, eqb, Distinct, Below}
+use Rattle.lists.specs.Lists.{tally, count, Distinct, Below}
+use Rattle.std.specs.Prelude.{eqb}
 use Rattle.grid.specs.declared.Corner.{Corner}
 use Rattle.grid.specs.Grid.{corner, same, stepped}
 use Rattle.grid.proofs.{CornerLaws.same_sound, CornerLaws.same_refl}

@@ -1,7 +1,9 @@
 -- The list of rows from the lower ends of the vertical edges: they are sorted by row and then by x, equal ones cancel, and the
 -- others pair up.
 -- Assumes nothing.
-use Rattle.lists.specs.Lists.{Bool, cond, ◌&&◌, ◌||◌, List, [], ◌∷◌, ℕ, pred_ℤ, lt_z}
+use Rattle.std.specs.Prelude.{Bool, cond, ◌&&◌, ◌||◌, List, [], ◌∷◌, ℕ}
+use Rattle.std.proofs.Math.IntN.{pred_ℤ}
+use Rattle.std.specs.Int.Signed.{lt_z}
 use Rattle.grid.specs.{declared.Corner.Corner, Grid.eq_z, Grid.same}
 use Rattle.panels.specs.Edges.{Edge, edges_from}
 use Rattle.row.specs.Rows.{Span}

@@ -1,5 +1,5 @@
 -- Numbers in decimal (RULES 20.2). Assumes nothing.
-use Rattle.lists.specs.Lists.{cond, List, [], ◌∷◌, ◌++◌, ℕ, zero, suc, ◌+◌, ◌/◌, ◌%◌, ltb, ℤ, pos, negsuc}
+use Rattle.std.specs.Prelude.{cond, List, [], ◌∷◌, ◌++◌, ℕ, zero, suc, ◌+◌, ◌/◌, ◌%◌, ltb, ℤ, pos, negsuc}
 
 -- the digits of n, the highest first, without zeros before it: at most k of them
 unfoldable pub decimal_of : ℕ → ℕ → List ℕ

@@ -1,5 +1,5 @@
 -- What the sheet says of a line, without its number and its line feed (RULES 20.2, 20.3). Assumes nothing.
-use Rattle.lists.specs.Lists.{cond, List, [], ◌∷◌, ◌++◌, ℕ, zero, suc}
+use Rattle.std.specs.Prelude.{cond, List, [], ◌∷◌, ◌++◌, ℕ, zero, suc}
 use Rattle.grid.specs.Grid.{origin}
 use Rattle.answer.specs.declared.{Facts.Facts, Answer.Answer}
 use Rattle.answer.specs.Refusal.{refusal_number, refusal_place, verdict_number}

@@ -1,5 +1,6 @@
 -- The whole sheet for a whole input (RULES 20.1, 20.2), and a part of it. Assumes nothing.
-use Rattle.lists.specs.Lists.{Bool, true, not, cond, tally, List, [], ◌∷◌, ◌++◌, ℕ, zero, suc, ◌+◌, eqb}
+use Rattle.lists.specs.Lists.{tally}
+use Rattle.std.specs.Prelude.{Bool, true, not, cond, List, [], ◌∷◌, ◌++◌, ℕ, zero, suc, ◌+◌, eqb}
 use Rattle.line_frame.specs.Program.{output_from, feeds_in}
 use Rattle.sheet.specs.declared.Margin.{Margin}
 use Rattle.sheet.specs.Entry.{cell_of, entry_of}

@@ -1,5 +1,5 @@
 -- The sizes of the sheet of polygons. Assumes nothing.
-use Rattle.lists.specs.Lists.{ℕ, suc, ◌+◌, ◌*◌}
+use Rattle.std.specs.Prelude.{ℕ, suc, ◌+◌, ◌*◌}
 use Rattle.line_frame.specs.Sizes.{most_digits}
 
 -- digits of a number of 64 bits at most

@@ -1,5 +1,5 @@
 -- A part of the sheet, written at the start of a buffer. Assumes nothing.
-use Rattle.lists.specs.Lists.{◌≡◌, Bool, List, ℕ, suc, ◌+◌, ◌*◌}
+use Rattle.std.specs.Prelude.{◌≡◌, Bool, List, ℕ, suc, ◌+◌, ◌*◌}
 use Rattle.line_frame.specs.Program.{feeds_in}
 use Rattle.line_fields.specs.Put.{Wrote}
 use Rattle.sheet.specs.{declared.Margin.Margin, Sizes.most_cell, Sheet.numbered_from, Sheet.begins_after, Sheet.page_of, Sheet.margin_after}

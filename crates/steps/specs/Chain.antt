@@ -1,5 +1,5 @@
 -- What every call judges first of a start and a chain of steps (RULES 6.3). Assumes nothing.
-use Rattle.lists.specs.Lists.{not, List, [], ◌∷◌, length, ℕ, suc, eqb, ltb}
+use Rattle.std.specs.Prelude.{not, List, [], ◌∷◌, length, ℕ, suc, eqb, ltb}
 use Rattle.grid.specs.declared.Corner.{Corner}
 use Rattle.answer.specs.declared.{Judged.Judged, Judged.TheVariants.Good, Refusal.TheVariants.TooMany, Refusal.TheVariants.BadDigit, Refusal.TheVariants.TooLong, Refusal.TheVariants.StartRange}
 use Rattle.answer.specs.{Limits.most_input, Limits.most_steps, Limits.start_fits, Refusal.when, Refusal.or_else, Refusal.first_of}

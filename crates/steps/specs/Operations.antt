@@ -1,5 +1,6 @@
 -- The surviving steps of a string of operations, and the refusals 4, 5 and 6 (RULES 1.3, 6.1). Assumes nothing.
-use Rattle.lists.specs.Lists.{◌≡◌, ◌⊎◌, true, false, not, ◌&&◌, List, [], ◌∷◌, ◌++◌, length, ℕ, suc, ◌+◌, ◌-◌, ◌<◌, ◌≤◌, eqb, ltb, front, Below}
+use Rattle.lists.specs.Lists.{front, Below}
+use Rattle.std.specs.Prelude.{◌≡◌, ◌⊎◌, true, false, not, ◌&&◌, List, [], ◌∷◌, ◌++◌, length, ℕ, suc, ◌+◌, ◌-◌, ◌<◌, ◌≤◌, eqb, ltb}
 use Rattle.answer.specs.declared.{Judged.Judged, Judged.TheVariants.Good, Refusal.TheVariants.BadDigit, Refusal.TheVariants.NothingToTake, Refusal.TheVariants.TooLong}
 use Rattle.answer.specs.{Limits.most_steps, Refusal.when, Refusal.or_else, Refusal.first_of}
 

@@ -1,5 +1,5 @@
 -- Steps as turns and turns as steps (RULES 2.1, 2.2, 6.3), and the refusals of both calls. Assumes nothing.
-use Rattle.lists.specs.Lists.{◌≡◌, not, List, [], ◌∷◌, length, ℕ, suc, ◌+◌, ◌-◌, ◌%◌, eqb, ltb}
+use Rattle.std.specs.Prelude.{◌≡◌, not, List, [], ◌∷◌, length, ℕ, suc, ◌+◌, ◌-◌, ◌%◌, eqb, ltb}
 use Rattle.answer.specs.declared.{Judged.Judged, Judged.TheVariants.Good, Judged.TheVariants.Refused, Refusal.TheVariants.TooMany, Refusal.TheVariants.ResultRoom, Refusal.TheVariants.BadDigit}
 use Rattle.answer.specs.{Limits.most_input, Refusal.when, Refusal.or_else, Refusal.first_of}
 

@@ -22,7 +22,8 @@ abbrev pub child_in : List ℕ → ℕ → ℕ → ℕ → ℕ → Out
 child_in t n u w s =
     elim (get_or t (word_at u w) 0) [
       | zero ↦ elim (ltb n (records_in (length t))) [
-        | true ↦ out (set (set (set t (word_at u w) (n + 1)) (word_at n parent_word) (u + 1)) (word_at n need_word) s) (n + 1) (n + 1)
+        | true ↦ out (set (set (set t (word_at u w) (n + 1)) (word_at n parent_word) (u + 1)) (word_at n need_word) s) (n + 1)
+            (n + 1)
         | false ↦ out t 0 n
       ]
       | suc k ↦ out t (suc k) n
@@ -31,7 +32,8 @@ child_in t n u w s =
 -- ---- the lookup
 abbrev pub link_in : List ℕ → ℕ → ℕ → ℕ → ℕ → List ℕ
 link_in t u v d s =
-    set (set (set (set t (word_at u (neighbour_word d)) (v + 1)) (word_at u (link_word d)) s) (word_at v (neighbour_word ((d + 2) % 4)))
+    set (set (set (set t (word_at u (neighbour_word d)) (v + 1)) (word_at u (link_word d)) s)
+    (word_at v (neighbour_word ((d + 2) % 4)))
     (u + 1)) (word_at v (link_word ((d + 2) % 4))) s
 
 -- the node found is linked with u
@@ -47,8 +49,11 @@ abbrev pub above_in : (ℕ → Corner → Out) → List ℕ → ℕ → ℕ → 
 above_in call t n u c e =
     elim (is_root c) [
       | true ↦ out t (u + 1) n
-      | false ↦ elim (same (parent_of c) (parent_of e))
-          [ true ↦ out t (get_or t (word_at u parent_word) 0) n | false ↦ call (get_or t (word_at u parent_word) 0 - 1) (parent_of c) ]
+      | false ↦ elim (same (parent_of c) (parent_of e)) [
+        | true ↦ out t (get_or t (word_at u parent_word) 0) n
+        | false ↦
+            call (get_or t (word_at u parent_word) 0 - 1) (parent_of c)
+      ]
     ]
 
 -- the neighbour of node u, which is the corner c, in direction d, by step s: `neighbour`
@@ -93,5 +98,6 @@ untread_in t u v d = edge_in t u v d (get_or t (word_at u (edge_word d)) 0 - 1)
 -- ---- the take-back: the links, and then the nodes
 abbrev pub unset_in : List ℕ → ℕ → ℕ → ℕ → List ℕ
 unset_in t u v d =
-    set (set (set (set t (word_at u (neighbour_word d)) 0) (word_at u (link_word d)) 0) (word_at v (neighbour_word ((d + 2) % 4))) 0)
+    set (set (set (set t (word_at u (neighbour_word d)) 0) (word_at u (link_word d)) 0) (word_at v (neighbour_word ((d + 2) % 4)))
+    0)
     (word_at v (link_word ((d + 2) % 4))) 0

@@ -1,5 +1,6 @@
 -- Meetings of two visits, and the different corners (RULES 1.4, 1.5). Assumes nothing.
-use Rattle.lists.specs.Lists.{◌≡◌, List, [], ◌∷◌, ◌++◌, length, ℕ, zero, suc, ◌<◌, ◌≤◌, find, gather}
+use Rattle.lists.specs.Lists.{find, gather}
+use Rattle.std.specs.Prelude.{◌≡◌, List, [], ◌∷◌, ◌++◌, length, ℕ, zero, suc, ◌<◌, ◌≤◌}
 use Rattle.answer.specs.Limits.{no_meeting}
 use Rattle.grid.specs.{declared.Corner.Corner, Grid.same, Grid.corners_from, Grid.corner_at}
 
@@ -22,7 +23,8 @@ pub data Meeting : Type 0 where
 -- the first k whose corner is among those before it, and the place j there
 abbrev pub meeting_from : List Corner → List Corner → Meeting
 meeting_from seen [] = none
-meeting_from seen (p ∷ ps) = elim (find (same p) seen) [ zero ↦ meeting_from (seen ++ (p ∷ [])) ps | suc j ↦ meet j (length seen) ]
+meeting_from seen (p ∷ ps) =
+    elim (find (same p) seen) [ zero ↦ meeting_from (seen ++ (p ∷ [])) ps | suc j ↦ meet j (length seen) ]
 
 -- the first meeting of a walk, if there is one
 abbrev pub meeting_of : Corner → List ℕ → Meeting

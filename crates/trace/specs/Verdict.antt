@@ -1,5 +1,5 @@
 -- The verdict on a walk, and the signed area of a room (RULES 1.6, 1.7). Assumes nothing.
-use Rattle.lists.specs.Lists.{◌≡◌, Bool, true, false, cond, ◌&&◌, List, [], ◌∷◌, length, ℕ, zero, suc, ◌<◌, ◌≤◌, eqb, ℤ, pos, ◌+ℤ◌, ◌-ℤ◌, ◌*ℤ◌}
+use Rattle.std.specs.Prelude.{◌≡◌, Bool, true, false, cond, ◌&&◌, List, [], ◌∷◌, length, ℕ, zero, suc, ◌<◌, ◌≤◌, eqb, ℤ, pos, ◌+ℤ◌, ◌-ℤ◌, ◌*ℤ◌}
 use Rattle.answer.specs.declared.Verdict.{Verdict, TheVariants.Nowhere, TheVariants.Open, TheVariants.Room, TheVariants.OpenMeeting, TheVariants.ClosedMeeting, TheVariants.ThereAndBack}
 use Rattle.answer.specs.Refusal.{verdict_number}
 use Rattle.grid.specs.{declared.Corner.Corner, Grid.same, Grid.stepped, Grid.end_from}

@@ -1,5 +1,7 @@
 -- The nodes in use in their order, and the links between them (RULES 3.3 to 3.6). ps are the corners p0 to pn. Assumes nothing.
-use Rattle.lists.specs.Lists.{◌≡◌, Bool, List, [], ◌∷◌, ◌++◌, List-as-Memᴰ, length, get_or, ◌⊎◌, ℕ, pred, ◌<◌, any, find, gather, zip}
+use mathlib.Core.List.{Memᴰ}
+use Rattle.lists.specs.Lists.{any, find, gather, zip}
+use Rattle.std.specs.Prelude.{◌≡◌, Bool, List, [], ◌∷◌, ◌++◌, length, get_or, ◌⊎◌, ℕ, pred, ◌<◌}
 use Rattle.grid.specs.{declared.Corner.Corner, Grid.origin, Grid.same, Grid.stepped, Grid.legs_of, Grid.joins, Tree.AncestorAt, Tree.lineage_of, Tree.path_of}
 
 -- the paths of a list of corners, each from the root, one after the other
@@ -13,7 +15,7 @@ nodes_of ps = gather same [] (paths_of ps)
 
 -- what it is to be one: a visited corner, or an ancestor of one
 abbrev pub InUse : List Corner → Corner → Type 0
-InUse ps a = (p : Corner) × List-as-Memᴰ p ps × ((i : ℕ) × AncestorAt i p a)
+InUse ps a = (p : Corner) × Memᴰ p ps × ((i : ℕ) × AncestorAt i p a)
 
 -- 1 + the number of a node; 0 if it is none
 abbrev pub ref_of : List Corner → Corner → ℕ

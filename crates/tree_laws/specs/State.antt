@@ -145,7 +145,8 @@ Unlinking L s z d M at = Agree M L ⊎ (Agree M (linked L s at (stepped d at)) �
 -- ---- what a step from a to its neighbour e changes, if the nodes are ns and the link steps L before it
 -- the link of the parents is made too: neither is the root, the parents differ, and they had no link
 abbrev pub links_up : (Corner → Corner → ℕ) → Corner → Corner → Bool
-links_up L a e = not (is_root a) && not (is_root e) && not (same (parent_of a) (parent_of e)) && eqb (L (parent_of a) (parent_of e)) 0
+links_up L a e =
+    not (is_root a) && not (is_root e) && not (same (parent_of a) (parent_of e)) && eqb (L (parent_of a) (parent_of e)) 0
 
 -- the node is made
 abbrev pub is_fresh : List Corner → Corner → Bool

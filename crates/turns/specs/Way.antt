@@ -1,5 +1,5 @@
 -- Both conversions, digit by digit, as one with its way as a parameter. Assumes nothing.
-use Rattle.lists.specs.Lists.{List, ℕ}
+use Rattle.std.specs.Prelude.{List, ℕ}
 use Rattle.steps.specs.Turns.{turn_of, step_after, turns_from, turns_of, steps_from, steps_of}
 use Rattle.turns.specs.declared.Way.{Way, TheVariants.ToTurns, TheVariants.ToSteps}
 

@@ -1,5 +1,5 @@
 -- Answers whose numbers fit 32 bits. Assumes nothing.
-use Rattle.lists.specs.Lists.{◌^◌, ◌<◌}
+use Rattle.std.specs.Prelude.{◌^◌, ◌<◌}
 use Rattle.answer.specs.declared.{Answer.Answer, Counted.Counted, PartyFacts.PartyFacts, PairFacts.PairFacts, PairAnswer.PairAnswer}
 use Rattle.answer.specs.Refusal.{refusal_place}
 use Rattle.polygon_ring.specs.declared.{Given.Given}

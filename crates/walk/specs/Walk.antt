@@ -1,5 +1,5 @@
 -- The walk's refusals in their order, its answer, and its three buffers (RULES 5.2, 6.2, 6.5, 6.6). Assumes nothing.
-use Rattle.lists.specs.Lists.{◌≡◌, Bool, cond, not, ◌&&◌, List, [], ◌∷◌, length, replicate, ℕ, suc, ◌*◌, ◌%◌, eqb, ltb, leb, ◌++◌, pred}
+use Rattle.std.specs.Prelude.{◌≡◌, Bool, cond, not, ◌&&◌, List, [], ◌∷◌, length, replicate, ℕ, suc, ◌*◌, ◌%◌, eqb, ltb, leb, ◌++◌, pred}
 use Rattle.answer.specs.declared.{Judged.Judged, Judged.TheVariants.Good, Judged.TheVariants.Refused, Refusal.TheVariants.TooMany, Refusal.TheVariants.Table, Refusal.TheVariants.ResultRoom, Refusal.TheVariants.NoRoom, Refusal.TheVariants.StartRange, Facts.Facts, PartyFacts.PartyFacts, Answer.Answer}
 use Rattle.answer.specs.{Limits.most_input, Limits.most_records, Limits.start_fits, Refusal.when, Refusal.or_else, Refusal.first_of, Refusal.refusal_number}
 use Rattle.grid.specs.{declared.Corner.Corner, Grid.corners_from, Grid.end_from}

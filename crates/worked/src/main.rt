@@ -6,9 +6,17 @@ mod limits;
 mod show;
 mod walks;
 
-fn main() {
-    let mut buf = io::buffer();
-    let n = io::read_full(libc::STDIN_FILENO, &mut buf);
-    walks::each(&buf[..n]);
-    limits::all();
+use std::io;
+use std::io::{BufWriter, Read, Write};
+
+// bytes of the walks at most
+const MOST_INPUT: u64 = 4_096;
+
+fn main(rt: HostRuntime) -> io::Result<()> {
+    let mut input = Vec::new(rt.alloc());
+    rt.stdin().take(MOST_INPUT).read_to_end(&mut input)?;
+    let mut out = BufWriter::new(rt.alloc(), rt.stdout())?;
+    walks::each(&mut out, &input)?;
+    limits::all(&mut out)?;
+    out.flush()
 }

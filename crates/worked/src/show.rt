@@ -1,105 +1,88 @@
-// What is written to standard output.
+// What is written: the answers, and what the buffers hold.
 use answer::{Answer, Counted, Facts, Judged, Refusal};
-use libc::STDOUT_FILENO;
+use std::io;
+use std::io::Write;
 use walk_table::Record;
 
-pub(crate) fn text(s: &[u8]) {
-    io::write_all(STDOUT_FILENO, s);
-}
-
-pub(crate) fn number(n: u64) {
-    text(b" ");
-    io::print_decimal(STDOUT_FILENO, n);
-}
-
 // In 8 hexadecimal digits, a negative in two's complement.
-fn signed(x: i32) {
-    text(b" ");
-    io::print_hex(STDOUT_FILENO, line_fields::hex::bits(x) as u64, 8);
-}
-
-fn byte(x: u8) -> u64 {
-    x as u64
-}
-
-fn word(x: u32) -> u64 {
-    x as u64
+fn signed<W: Write>(out: &mut W, x: i32) -> io::Result<()> {
+    let bits = line_fields::hex::bits(x);
+    write!(out, " {bits:08x}")
 }
 
 // A name, then each byte.
-pub(crate) fn bytes(name: &[u8], s: &[u8]) {
-    text(name);
-    let mut i = 0;
-    while i < s.len() {
-        number(byte(s[i]));
-        i += 1;
+pub(crate) fn bytes<W: Write>(out: &mut W, name: &str, s: &[u8]) -> io::Result<()> {
+    write!(out, "{name}")?;
+    for x in s {
+        write!(out, " {x}")?;
     }
-    text(b"\n");
+    writeln!(out)
 }
 
 // A name, then each word, a record to a line.
-pub(crate) fn words(name: &[u8], s: &[u32]) {
-    text(name);
-    let mut i = 0;
-    while i < s.len() {
+pub(crate) fn words<W: Write>(out: &mut W, name: &str, s: &[u32]) -> io::Result<()> {
+    write!(out, "{name}")?;
+    for (i, x) in s.iter().enumerate() {
         if i % Record::WORDS == 0 {
-            text(b"\n   ");
+            write!(out, "\n   ")?;
         }
-        number(word(s[i]));
-        i += 1;
+        write!(out, " {x}")?;
     }
-    text(b"\n");
+    writeln!(out)
 }
 
 // A name, then each signed number.
-pub(crate) fn numbers(name: &[u8], s: &[i32]) {
-    text(name);
-    let mut i = 0;
-    while i < s.len() {
-        signed(s[i]);
-        i += 1;
+pub(crate) fn numbers<W: Write>(out: &mut W, name: &str, s: &[i32]) -> io::Result<()> {
+    write!(out, "{name}")?;
+    for x in s {
+        signed(out, *x)?;
     }
-    text(b"\n");
+    writeln!(out)
 }
 
-pub(crate) fn refusal(r: Refusal) {
-    text(b"  refused");
-    number(answer::refusal_number(r) as u64);
-    number(answer::refusal_place(r) as u64);
-    text(b"\n");
+pub(crate) fn refusal<W: Write>(out: &mut W, r: Refusal) -> io::Result<()> {
+    let number = answer::refusal_number(r);
+    let place = answer::refusal_place(r);
+    writeln!(out, "  refused {number} {place}")
 }
 
 // Verdict, steps, nodes, corners, j, k; then area and last corner.
-fn facts(f: Facts) {
-    let verdict = f.verdict;
-    let last = f.last;
-    text(b"  accepted");
-    number(answer::verdict_number(verdict) as u64);
-    number(f.steps as u64);
-    number(f.nodes as u64);
-    number(f.corners as u64);
-    number(f.j as u64);
-    number(f.k as u64);
-    numbers(b"", &[f.area, last.0, last.1]);
+fn facts<W: Write>(out: &mut W, f: Facts) -> io::Result<()> {
+    let verdict = answer::verdict_number(f.verdict);
+    let Facts {
+        steps,
+        nodes,
+        corners,
+        j,
+        k,
+        last,
+        area,
+        ..
+    } = f;
+    write!(
+        out,
+        "  accepted {verdict} {steps} {nodes} {corners} {j} {k}"
+    )?;
+    numbers(out, "", &[area, last.0, last.1])
 }
 
-pub(crate) fn answer(a: Answer) {
+pub(crate) fn answer<W: Write>(out: &mut W, a: Answer) -> io::Result<()> {
     match a {
-        Answer::Accepted(f) => facts(f),
-        Answer::Refused(r) => refusal(r),
+        Answer::Accepted(f) => facts(out, f),
+        Answer::Refused(r) => refusal(out, r),
     }
 }
 
-pub(crate) fn counted(c: Counted) {
+pub(crate) fn counted<W: Write>(out: &mut W, c: Counted) -> io::Result<()> {
     match c {
-        Counted::Many(n) => number(n as u64),
-        Counted::Refused(r) => refusal(r),
+        Counted::Many(n) => write!(out, " {n}"),
+        Counted::Refused(r) => refusal(out, r),
     }
 }
 
-pub(crate) fn judged(j: Judged) {
+pub(crate) fn judged<W: Write>(out: &mut W, j: Judged) -> io::Result<()> {
     match j {
-        Judged::Good => text(b"  good\n"),
-        Judged::Refused(r) => refusal(r),
+        Judged::Good => writeln!(out, "  good"),
+        Judged::Refused(r) => refusal(out, r),
     }
 }

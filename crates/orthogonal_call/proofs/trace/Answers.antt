@@ -1,0 +1,48 @@
+-- `orthogonal_call::trace` meets its contract.
+use native.Mathlib.Omega.{arith}
+use borrow.Author.Rules.{sfits_of}
+use mathlib.Core.Path.{sym, ap, ◌∙◌, subst}
+use Prim.Native.Nat.{◌≤◌}
+use lib.IntN.{ℤ, pos, nat_abs, ◌-ℤ◌}
+use lib.ListN.{length}
+use mir.Syntax.{w32}
+use mir.Facts.{to_z-of_z}
+use Rattle.answer.specs.Limits.{most_start}
+use Rattle.orthogonal_call.proofs.CallLaws.{ready_accepted, ready_m, ready_stays, ready_span, ready_far, ready_ruled, ready_laned, ready_low, ready_high}
+use Rattle.orthogonal_call.proofs.trace.Goals as goal
+
+pub lifted-x-requires : goal.lifted-x-requires
+lifted-x-requires c =
+    let a = ready_accepted c.requires in (subst (λ (w : ℤ). nat_abs w ≤ most_start) (sym (to_z-of_z (sfits_of {w = w32} {z = c.args.start.0} c.struct_told-1.given.0.1))) a.near.0, ready_m c.requires, a.some, a.most)
+
+pub lifted-y-requires : goal.lifted-y-requires
+lifted-y-requires c =
+    let a = ready_accepted c.requires in (subst (λ (w : ℤ). nat_abs w ≤ most_start) (sym (to_z-of_z (sfits_of {w = w32} {z = c.args.start.1} c.struct_told-2-1.given.1.0.1))) a.near.1, ready_m c.requires, a.some, a.most)
+
+pub overflow_mul-span : goal.overflow_mul-span
+overflow_mul-span c = record { fits = omega (arith, ready_far c.requires) }
+
+pub gather-requires : goal.gather-requires
+gather-requires c =
+    let p = c.requires in
+    (ready_stays p, (ready_accepted p).digits, ready_ruled p c.lifted-x.result c.lifted-y.result (length c.args.lo.now) (ready_low p), ready_high p ∙ sym (ready_low p))
+
+pub cut-requires : goal.cut-requires
+cut-requires c =
+    let a = c.args in
+    let p = c.requires in
+    let g = c.gather in
+    let x = c.lifted-x in
+    let y = c.lifted-y in
+    ((ready_accepted p).some, g.auto.lo ∙ ready_low p, g.auto.hi ∙ ready_high p, p.store, ready_span p, x.ensures.1, y.ensures.1, (a.start, a.chain.now, a.m, ready_laned p x.result y.result g.new.lo g.new.hi (ap (λ (w : ℤ). w -ℤ pos a.m) (sym (to_z-of_z (sfits_of {w = w32} {z = a.start.0} c.struct_told-1.given.0.1))) ∙ x.ensures.0) (ap (λ (w : ℤ). w -ℤ pos a.m) (sym (to_z-of_z (sfits_of {w = w32} {z = a.start.1} c.struct_told-2-1.given.1.0.1))) ∙ y.ensures.0) g.ensures.0 g.ensures.1))
+
+pub returns : goal.returns
+returns c =
+    let a = c.args in
+    let p = c.requires in
+    let g = c.gather in
+    let x = c.lifted-x in
+    let y = c.lifted-y in
+    c.cut.ensures a.start a.chain.now a.m
+    (ready_laned p x.result y.result g.new.lo g.new.hi
+    (ap (λ (w : ℤ). w -ℤ pos a.m) (sym (to_z-of_z (sfits_of {w = w32} {z = a.start.0} c.struct_told-1.given.0.1))) ∙ x.ensures.0) (ap (λ (w : ℤ). w -ℤ pos a.m) (sym (to_z-of_z (sfits_of {w = w32} {z = a.start.1} c.struct_told-2-1.given.1.0.1))) ∙ y.ensures.0) g.ensures.0 g.ensures.1)
