@@ -14,7 +14,7 @@ OPERATORS = {"→", "×", "⊎", "↔", "≡", "∷", "++", "+", "&&", "||"}
 
 
 def broken(line):
-    """The line in two, or as it is if there is no such place; a comment stays as it is."""
+    """The line in two. A comment, and a line without such a place, stay as they are."""
     if line.lstrip().startswith(("--", "//")):
         return [line]
     indent = len(line) - len(line.lstrip())
