@@ -1,4 +1,4 @@
-/* Undrwyth, the program convert for aarch64 under Linux: made by scripts/dist from the sources of state 35aeb2011c946be5668d8b0dfe20d0dae656c471ee859ff588ba99eaffefcce6, which the Rattle kit proved; do not edit. SPDX-License-Identifier: MIT */
+/* Undrwyth, the program convert for aarch64 under Linux: made by scripts/dist from the sources of state d98e18567a4b06b2e00b5bf6fab9666c8676bd85bf26bffa67ae350be689612c, which the Rattle kit proved; do not edit. SPDX-License-Identifier: MIT */
 	.file	"rattle"
 	.section	".text.line_convert::end_line","ax",@progbits
 	.p2align	2
@@ -397,8 +397,8 @@
 	ldp	q2, q3, [x11, #-16]
 	subs	x13, x13, #32
 	add	x11, x11, #32
-	umax	v0.16b, v0.16b, v2.16b
-	umax	v1.16b, v1.16b, v3.16b
+	umax	v0.16b, v2.16b, v0.16b
+	umax	v1.16b, v3.16b, v1.16b
 	b.ne	.LBB0_71
 	umax	v0.16b, v0.16b, v1.16b
 	cmp	x20, x10
@@ -422,7 +422,7 @@
 	bic	v0.4h, #255, lsl #8
 	adds	x13, x13, #4
 	ushll	v1.8h, v1.8b, #0
-	umax	v0.4h, v0.4h, v1.4h
+	umax	v0.4h, v1.4h, v0.4h
 	b.ne	.LBB0_75
 	umaxv	h0, v0.4h
 	fmov	w11, s0
@@ -437,8 +437,8 @@
 .LBB0_78:
 	ldrb	w13, [x10], #1
 	and	w11, w11, #0xff
-	cmp	w11, w13
-	csel	w11, w11, w13, hi
+	cmp	w13, w11
+	csel	w11, w13, w11, hi
 	subs	x12, x12, #1
 	b.ne	.LBB0_78
 .LBB0_79:
@@ -749,20 +749,22 @@
 	mov	w8, #1
 	b	.LBB1_10
 .LBB1_9:
-	mov	x8, xzr
+	mov	w8, wzr
 	stur	wzr, [x29, #27]
 .LBB1_10:
 	str	wzr, [x29, #24]
 	ldp	x24, x23, [sp, #128]
 	ldur	w9, [x29, #27]
-	stp	x8, x21, [x19]
-	strb	w20, [x19, #16]
+	strb	w8, [x19]
 	ldr	x25, [sp, #112]
-	stur	wzr, [x19, #17]
+	strb	w8, [x19, #1]
+	str	x21, [x19, #8]
 	ldp	x22, x21, [sp, #144]
+	strb	w20, [x19, #16]
+	ldp	x29, x30, [sp, #96]
+	stur	wzr, [x19, #17]
 	str	w9, [x19, #20]
 	ldp	x20, x19, [sp, #160]
-	ldp	x29, x30, [sp, #96]
 	add	sp, sp, #176
 	ret
 .Lfunc_end1:
@@ -1098,8 +1100,8 @@ main:
 	mov	w2, #131072
 	bl	memset
 	mov	x25, xzr
-	mov	x19, xzr
 	mov	x26, xzr
+	mov	x19, xzr
 	mov	x28, xzr
 	mov	x21, xzr
 	b	.LBB3_6
@@ -1113,52 +1115,50 @@ main:
 	mov	x4, x22
 	bl	"line_io::send::<#df9e9f1468b30f79>"
 	ldrb	w8, [x24]
-	cbnz	w8, .LBB3_39
+	cbnz	w8, .LBB3_40
 	ldr	x19, [x24, #8]
 	ldrb	w20, [x24, #16]
 	add	x25, x25, #1
 	mov	x28, x27
 	cmn	x25, #1
-	b.eq	.LBB3_38
+	b.eq	.LBB3_34
 .LBB3_6:
 	cmp	x28, x26
-	b.hs	.LBB3_35
+	b.hs	.LBB3_31
 	mov	x22, xzr
 	str	x19, [sp]
 	stp	xzr, xzr, [x24]
 	str	xzr, [x24, #16]
-	b	.LBB3_10
+	b	.LBB3_9
 .LBB3_8:
-	cmp	x23, #1031
 	mov	w8, #1031
-	add	x0, x19, x28
-	csel	x1, x23, x8, lo
-.LBB3_9:
-	add	x2, sp, #9
-	mov	x3, x22
-	add	x19, sp, #9
-	bl	"line_convert::end_line"
-	mov	x21, xzr
-	add	x22, x0, #1
-	add	x27, x27, #1
-	mov	w8, #10
-	strb	w8, [x19, x0]
+	add	x1, x19, x28
+	sub	x8, x8, x21
+	cmp	x8, x23
+	csel	x23, x8, x23, lo
+	add	x8, sp, #48, lsl #12
+	add	x8, x8, #9
+	mov	x2, x23
+	add	x0, x8, x21
+	bl	memcpy
+	add	x21, x23, x21
 	cmp	x27, x26
 	mov	x28, x27
 	b.hs	.LBB3_4
-.LBB3_10:
+.LBB3_9:
 	mov	x8, #-63475
 	mov	w9, #2062
 	add	x8, x22, x8
 	movk	w9, #1, lsl #16
 	cmp	x8, x9
 	b.lo	.LBB3_3
+	sub	x23, x26, x28
+	mov	x27, x28
+	cmp	x23, #32
+	b.lo	.LBB3_14
 	sub	x8, x26, x28
 	mov	x27, x28
-	cmp	x8, #32
-	b.lo	.LBB3_15
-	mov	x27, x28
-.LBB3_13:
+.LBB3_12:
 	add	x9, sp, #32, lsl #12
 	movi	v0.16b, #10
 	add	x9, x9, #9
@@ -1180,104 +1180,109 @@ main:
 	fmov	w10, s0
 	orr	w9, w10, w9
 	tst	w9, #0xffff
-	b.ne	.LBB3_15
+	b.ne	.LBB3_14
 	sub	x8, x8, #32
 	add	x27, x27, #32
 	cmp	x8, #31
-	b.hi	.LBB3_13
-.LBB3_15:
+	b.hi	.LBB3_12
+.LBB3_14:
 	cmp	x27, x26
-	b.hs	.LBB3_19
-.LBB3_16:
+	b.hs	.LBB3_17
+.LBB3_15:
 	add	x8, sp, #32, lsl #12
 	add	x8, x8, #9
 	ldrb	w8, [x8, x27]
 	cmp	w8, #10
-	b.eq	.LBB3_19
+	b.eq	.LBB3_21
 	add	x27, x27, #1
 	cmp	x26, x27
-	b.ne	.LBB3_16
+	b.ne	.LBB3_15
+.LBB3_17:
 	mov	x27, x26
-.LBB3_19:
 	add	x19, sp, #32, lsl #12
 	cmp	x21, #1031
-	sub	x23, x27, x28
 	add	x19, x19, #9
-	b.lo	.LBB3_23
+	b.lo	.LBB3_22
+.LBB3_18:
 	cmp	x27, x28
-	b.eq	.LBB3_22
-.LBB3_21:
+	b.eq	.LBB3_20
+.LBB3_19:
 	add	x8, sp, #9
 	add	x1, x19, x28
-	sub	x2, x27, x28
+	mov	x2, x23
 	add	x0, x8, x22
 	bl	memcpy
-.LBB3_22:
+.LBB3_20:
 	add	x22, x23, x22
-	b	.LBB3_24
-.LBB3_23:
+	b	.LBB3_23
+.LBB3_21:
+	sub	x23, x27, x28
+	add	x19, sp, #32, lsl #12
+	cmp	x21, #1031
+	add	x19, x19, #9
+	b.hs	.LBB3_18
+.LBB3_22:
 	add	x8, x23, x21
 	cmp	x8, #1031
-	b.hs	.LBB3_32
-.LBB3_24:
+	b.hs	.LBB3_26
+.LBB3_23:
 	cmp	x26, x27
-	b.ls	.LBB3_29
-	cbz	x21, .LBB3_8
+	b.ls	.LBB3_8
+	cbz	x21, .LBB3_29
 	mov	w8, #1031
-	sub	x8, x8, x21
-	cmp	x23, x8
-	csel	x23, x23, x8, lo
-	cbz	x23, .LBB3_28
-	add	x8, sp, #48, lsl #12
 	add	x1, x19, x28
-	mov	x2, x23
+	sub	x8, x8, x21
+	cmp	x8, x23
+	csel	x23, x8, x23, lo
+	add	x8, sp, #48, lsl #12
 	add	x8, x8, #9
+	mov	x2, x23
 	add	x0, x8, x21
 	bl	memcpy
-.LBB3_28:
 	add	x0, sp, #48, lsl #12
 	add	x1, x23, x21
 	add	x0, x0, #9
-	b	.LBB3_9
-.LBB3_29:
-	mov	w8, #1031
-	sub	x8, x8, x21
-	cmp	x23, x8
-	csel	x23, x23, x8, lo
-	cbz	x23, .LBB3_31
-	add	x8, sp, #48, lsl #12
-	add	x1, x19, x28
-	mov	x2, x23
-	add	x8, x8, #9
-	add	x0, x8, x21
-	bl	memcpy
-.LBB3_31:
-	add	x21, x23, x21
-	cmp	x27, x26
-	mov	x28, x27
-	b.lo	.LBB3_10
-	b	.LBB3_4
-.LBB3_32:
-	cbz	x21, .LBB3_34
+	b	.LBB3_30
+.LBB3_26:
+	cbz	x21, .LBB3_28
 	add	x8, sp, #9
 	add	x1, sp, #48, lsl #12
 	mov	x2, x21
 	add	x0, x8, x22
 	add	x1, x1, #9
 	bl	memcpy
-.LBB3_34:
+.LBB3_28:
 	cmp	x27, x28
 	add	x22, x21, x22
-	b.ne	.LBB3_21
-	b	.LBB3_22
-.LBB3_35:
+	b.ne	.LBB3_19
+	b	.LBB3_20
+.LBB3_29:
+	cmp	x23, #1031
+	mov	w8, #1031
+	add	x0, x19, x28
+	csel	x1, x23, x8, lo
+.LBB3_30:
+	add	x2, sp, #9
+	mov	x3, x22
+	add	x19, sp, #9
+	bl	"line_convert::end_line"
+	mov	x21, xzr
+	add	x22, x0, #1
+	add	x27, x27, #1
+	mov	w8, #10
+	strb	w8, [x19, x0]
+	cmp	x27, x26
+	mov	x28, x27
+	b.lo	.LBB3_9
+	b	.LBB3_4
+.LBB3_31:
 	add	x1, sp, #32, lsl #12
 	mov	w0, wzr
 	mov	w2, #65536
 	add	x1, x1, #9
 	bl	read
-	tbnz	x0, #63, .LBB3_40
-	cbz	x0, .LBB3_41
+	tbnz	x0, #63, .LBB3_35
+	cbz	x0, .LBB3_36
 	cmp	x0, #16, lsl #12
 	mov	w8, #65536
 	mov	x27, xzr
@@ -1286,21 +1291,18 @@ main:
 	mov	x28, x27
 	cmn	x25, #1
 	b.ne	.LBB3_6
-.LBB3_38:
+.LBB3_34:
 	mov	w0, #1
-	b	.LBB3_45
-.LBB3_39:
-	mov	w0, #2
-	b	.LBB3_45
-.LBB3_40:
+	b	.LBB3_41
+.LBB3_35:
 	sub	x0, x29, #96
 	bl	"std_io::io::error::last_error"
 	mov	w0, #1
-	b	.LBB3_45
-.LBB3_41:
+	b	.LBB3_41
+.LBB3_36:
 	stp	xzr, xzr, [x24]
 	str	xzr, [x24, #16]
-	cbz	x21, .LBB3_43
+	cbz	x21, .LBB3_38
 	add	x0, sp, #48, lsl #12
 	add	x2, sp, #9
 	mov	x1, x21
@@ -1308,20 +1310,23 @@ main:
 	mov	x3, xzr
 	bl	"line_convert::end_line"
 	mov	x4, x0
-	b	.LBB3_44
-.LBB3_43:
+	b	.LBB3_39
+.LBB3_38:
 	mov	x4, xzr
-.LBB3_44:
+.LBB3_39:
 	sub	x0, x29, #96
 	add	x3, sp, #9
 	mov	x1, x19
 	mov	w2, w20
 	bl	"line_io::send::<#df9e9f1468b30f79>"
 	ldrb	w8, [x24]
-	cmp	w8, #0
-	mov	w8, #2
-	csel	w0, wzr, w8, eq
-.LBB3_45:
+	cbz	w8, .LBB3_42
+.LBB3_40:
+	ldrb	w8, [x24, #1]
+	tst	w8, #0xff
+	mov	w8, #1
+	cinc	w0, w8, ne
+.LBB3_41:
 	add	sp, sp, #48, lsl #12
 	add	sp, sp, #1136
 	ldp	x20, x19, [sp, #80]
@@ -1331,6 +1336,9 @@ main:
 	ldp	x28, x27, [sp, #16]
 	ldp	x29, x30, [sp], #96
 	ret
+.LBB3_42:
+	mov	w0, wzr
+	b	.LBB3_41
 .Lfunc_end3:
 	.size	main, .Lfunc_end3-main
 

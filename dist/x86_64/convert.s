@@ -1,4 +1,4 @@
-/* Undrwyth, the program convert for x86_64 under Linux: made by scripts/dist from the sources of state 35aeb2011c946be5668d8b0dfe20d0dae656c471ee859ff588ba99eaffefcce6, which the Rattle kit proved; do not edit. SPDX-License-Identifier: MIT */
+/* Undrwyth, the program convert for x86_64 under Linux: made by scripts/dist from the sources of state d98e18567a4b06b2e00b5bf6fab9666c8676bd85bf26bffa67ae350be689612c, which the Rattle kit proved; do not edit. SPDX-License-Identifier: MIT */
 	.file	"rattle"
 	.section	.rodata.cst16,"aM",@progbits,16
 	.p2align	4, 0x0
@@ -531,7 +531,7 @@
 	callq	memset@PLT
 	movq	16(%rsp), %rax
 	movq	24(%rsp), %rcx
-	jmp	.LBB0_105
+	jmp	.LBB0_104
 .LBB0_67:
 	cmpl	$32, %ebx
 	movq	(%rsp), %rax
@@ -639,7 +639,7 @@
 	movq	24(%rsp), %rcx
 	movq	32(%rsp), %rdx
 	movq	(%rsp), %rsi
-	jmp	.LBB0_92
+	jmp	.LBB0_91
 .LBB0_82:
 	cmpl	$32, %ebx
 	movq	16(%rsp), %rax
@@ -649,7 +649,7 @@
 	xorl	%edi, %edi
 	xorl	%r12d, %r12d
 	movq	(%rsp), %rsi
-	jmp	.LBB0_89
+	jmp	.LBB0_88
 .LBB0_84:
 	movl	%ebx, %edi
 	andl	$-32, %edi
@@ -678,13 +678,10 @@
 	movd	%xmm0, %r12d
 	cmpl	%edi, %ebx
 	movq	(%rsp), %rsi
-	jne	.LBB0_88
-	movl	%r12d, %r9d
-	jmp	.LBB0_94
-.LBB0_88:
+	je	.LBB0_93
 	testb	$28, %bl
-	je	.LBB0_92
-.LBB0_89:
+	je	.LBB0_91
+.LBB0_88:
 	movq	8(%rsp), %r9
 	movl	%r9d, %r8d
 	andl	$3, %r8d
@@ -701,12 +698,12 @@
 	pshuflw	$0, %xmm0, %xmm0
 	subq	%r8, %r9
 	xorl	%r11d, %r11d
-.LBB0_90:
+.LBB0_89:
 	movd	(%r10,%r11), %xmm1
 	pmaxub	%xmm1, %xmm0
 	addq	$4, %r11
 	cmpq	%r11, %r9
-	jne	.LBB0_90
+	jne	.LBB0_89
 	movdqa	%xmm0, %xmm1
 	psrld	$16, %xmm1
 	pmaxub	%xmm0, %xmm1
@@ -714,38 +711,36 @@
 	psrlw	$8, %xmm0
 	pmaxub	%xmm1, %xmm0
 	movd	%xmm0, %r12d
-	movl	%r12d, %r9d
 	testq	%r8, %r8
-	je	.LBB0_94
-.LBB0_92:
+	je	.LBB0_93
+.LBB0_91:
 	movq	8(%rsp), %r8
 	addq	%r15, %r8
 	addq	%r14, %r8
 	subq	%rdi, %r8
 	addq	%rsp, %rdi
 	addq	$40, %rdi
-	xorl	%r10d, %r10d
+	xorl	%r9d, %r9d
+.LBB0_92:
+	movzbl	(%rdi,%r9), %r10d
+	movzbl	%r12b, %r12d
+	cmpb	%r12b, %r10b
+	cmoval	%r10d, %r12d
+	incq	%r9
+	cmpq	%r9, %r8
+	jne	.LBB0_92
 .LBB0_93:
-	movzbl	(%rdi,%r10), %r9d
-	movzbl	%r12b, %r11d
-	cmpb	%r9b, %r11b
-	cmoval	%r11d, %r9d
-	incq	%r10
-	movl	%r9d, %r12d
-	cmpq	%r10, %r8
-	jne	.LBB0_93
-.LBB0_94:
-	cmpb	$4, %r9b
+	cmpb	$4, %r12b
 	movq	8(%rsp), %r12
-	jb	.LBB0_98
+	jb	.LBB0_97
 	xorl	%edi, %edi
-.LBB0_96:
+.LBB0_95:
 	cmpb	$3, 40(%rsp,%rdi)
-	ja	.LBB0_110
+	ja	.LBB0_109
 	incq	%rdi
 	cmpq	%rdi, %rbx
-	jne	.LBB0_96
-.LBB0_98:
+	jne	.LBB0_95
+.LBB0_97:
 	addl	%ebp, %r13d
 	leal	(%r15,%r13), %edx
 	leal	(%r12,%rdx), %esi
@@ -753,16 +748,16 @@
 	movl	%r12d, %edx
 	andl	$3, %edx
 	cmpl	$3, %esi
-	jae	.LBB0_100
+	jae	.LBB0_99
 	xorl	%esi, %esi
 	xorl	%edi, %edi
-	jmp	.LBB0_103
-.LBB0_100:
+	jmp	.LBB0_102
+.LBB0_99:
 	movq	%rbx, %r8
 	subq	%rdx, %r8
 	xorl	%esi, %esi
 	xorl	%edi, %edi
-.LBB0_101:
+.LBB0_100:
 	addb	40(%rsp,%rdi), %sil
 	movl	%esi, %r9d
 	andb	$3, %r9b
@@ -780,23 +775,23 @@
 	movb	%sil, 1067(%rsp,%rdi)
 	addq	$4, %rdi
 	cmpq	%rdi, %r8
-	jne	.LBB0_101
+	jne	.LBB0_100
 	testq	%rdx, %rdx
-	je	.LBB0_105
-.LBB0_103:
+	je	.LBB0_104
+.LBB0_102:
 	leaq	(%rsp,%rdi), %r8
 	addq	$1064, %r8
 	addq	%rsp, %rdi
 	addq	$40, %rdi
 	xorl	%r9d, %r9d
-.LBB0_104:
+.LBB0_103:
 	addb	(%rdi,%r9), %sil
 	andb	$3, %sil
 	movb	%sil, (%r8,%r9)
 	incq	%r9
 	cmpq	%r9, %rdx
-	jne	.LBB0_104
-.LBB0_105:
+	jne	.LBB0_103
+.LBB0_104:
 	movl	%ebx, %edx
 	andb	$15, %dl
 	leal	48(%rdx), %esi
@@ -823,31 +818,31 @@
 	movb	%dil, 3(%rcx,%rax)
 	movb	$48, 2(%rcx,%rax)
 	testq	%rbx, %rbx
-	je	.LBB0_121
+	je	.LBB0_120
 	cmpl	$8, %ebx
-	jae	.LBB0_108
+	jae	.LBB0_107
 	xorl	%esi, %esi
-	jmp	.LBB0_119
-.LBB0_108:
+	jmp	.LBB0_118
+.LBB0_107:
 	cmpl	$32, %ebx
-	jae	.LBB0_112
+	jae	.LBB0_111
 	xorl	%esi, %esi
-	jmp	.LBB0_116
-.LBB0_110:
+	jmp	.LBB0_115
+.LBB0_109:
 	leaq	(%rcx,%rax), %rdi
 	movq	%rdi, %r8
 	subq	%rsi, %r8
 	cmpq	$32, %r8
-	jae	.LBB0_122
+	jae	.LBB0_121
 	xorl	%r8d, %r8d
-	jmp	.LBB0_131
-.LBB0_112:
+	jmp	.LBB0_130
+.LBB0_111:
 	movl	%ebx, %esi
 	andl	$-32, %esi
 	leaq	(%rax,%rcx), %rdi
 	addq	$22, %rdi
 	xorl	%r8d, %r8d
-.LBB0_113:
+.LBB0_112:
 	movdqu	1064(%rsp,%r8), %xmm0
 	movdqu	1080(%rsp,%r8), %xmm1
 	movdqa	.LCPI0_2(%rip), %xmm2
@@ -873,12 +868,12 @@
 	movdqu	%xmm2, (%rdi,%r8)
 	addq	$32, %r8
 	cmpq	%r8, %rsi
-	jne	.LBB0_113
+	jne	.LBB0_112
 	cmpl	%esi, %ebx
-	je	.LBB0_121
+	je	.LBB0_120
 	testb	$24, %bl
-	je	.LBB0_119
-.LBB0_116:
+	je	.LBB0_118
+.LBB0_115:
 	movl	%r12d, %edi
 	andl	$7, %edi
 	leaq	(%r15,%r12), %r8
@@ -893,7 +888,7 @@
 	addq	%rcx, %r10
 	addq	$6, %r10
 	xorl	%r11d, %r11d
-.LBB0_117:
+.LBB0_116:
 	movq	(%r9,%r11), %xmm0
 	movdqa	.LCPI0_7(%rip), %xmm1
 	pmaxub	%xmm0, %xmm1
@@ -907,10 +902,10 @@
 	movq	%xmm1, (%r10,%r11)
 	addq	$8, %r11
 	cmpq	%r11, %r8
-	jne	.LBB0_117
+	jne	.LBB0_116
 	testq	%rdi, %rdi
-	je	.LBB0_121
-.LBB0_119:
+	je	.LBB0_120
+.LBB0_118:
 	addq	%r12, %r15
 	addq	%r15, %r14
 	subq	%rsi, %r14
@@ -920,7 +915,7 @@
 	leaq	(%rsp,%rsi), %rcx
 	addq	$1064, %rcx
 	xorl	%esi, %esi
-.LBB0_120:
+.LBB0_119:
 	movzbl	(%rcx,%rsi), %edi
 	movl	%edi, %r8d
 	orb	$48, %r8b
@@ -932,65 +927,65 @@
 	movb	%r8b, (%rax,%rsi)
 	incq	%rsi
 	cmpq	%rsi, %r14
-	jne	.LBB0_120
-.LBB0_121:
+	jne	.LBB0_119
+.LBB0_120:
 	addq	%rdx, %rbx
 	movq	%rbx, %rax
 	jmp	.LBB0_65
-.LBB0_122:
+.LBB0_121:
 	cmpq	$32, %rdx
-	jae	.LBB0_124
+	jae	.LBB0_123
 	xorl	%r8d, %r8d
-	jmp	.LBB0_128
-.LBB0_124:
+	jmp	.LBB0_127
+.LBB0_123:
 	movl	%edx, %r8d
 	andl	$2016, %r8d
 	leaq	(%rax,%rcx), %r9
 	addq	$16, %r9
 	xorl	%r10d, %r10d
-.LBB0_125:
+.LBB0_124:
 	movdqu	(%rsi,%r10), %xmm0
 	movdqu	16(%rsi,%r10), %xmm1
 	movdqu	%xmm0, -16(%r9,%r10)
 	movdqu	%xmm1, (%r9,%r10)
 	addq	$32, %r10
 	cmpq	%r10, %r8
-	jne	.LBB0_125
+	jne	.LBB0_124
 	cmpq	%r8, %rdx
-	je	.LBB0_137
+	je	.LBB0_136
 	testb	$28, %dl
-	je	.LBB0_131
-.LBB0_128:
+	je	.LBB0_130
+.LBB0_127:
 	movq	%r8, %r9
 	movl	%edx, %r8d
 	andl	$2044, %r8d
-.LBB0_129:
+.LBB0_128:
 	movl	(%rsi,%r9), %r10d
 	movl	%r10d, (%rdi,%r9)
 	addq	$4, %r9
 	cmpq	%r9, %r8
-	jne	.LBB0_129
+	jne	.LBB0_128
 	cmpq	%r8, %rdx
-	je	.LBB0_137
-.LBB0_131:
+	je	.LBB0_136
+.LBB0_130:
 	movq	%rdx, %r10
 	movq	%r8, %r9
 	andq	$3, %r10
-	je	.LBB0_134
+	je	.LBB0_133
 	movq	%r8, %r9
-.LBB0_133:
+.LBB0_132:
 	movzbl	(%rsi,%r9), %r11d
 	movb	%r11b, (%rdi,%r9)
 	incq	%r9
 	decq	%r10
-	jne	.LBB0_133
-.LBB0_134:
+	jne	.LBB0_132
+.LBB0_133:
 	subq	%rdx, %r8
 	cmpq	$-4, %r8
-	ja	.LBB0_137
+	ja	.LBB0_136
 	addq	%rax, %rcx
 	addq	$3, %rcx
-.LBB0_136:
+.LBB0_135:
 	movzbl	(%rsi,%r9), %edi
 	movb	%dil, -3(%rcx,%r9)
 	movzbl	1(%rsi,%r9), %edi
@@ -1001,8 +996,8 @@
 	movb	%dil, (%rcx,%r9)
 	addq	$4, %r9
 	cmpq	%r9, %rdx
-	jne	.LBB0_136
-.LBB0_137:
+	jne	.LBB0_135
+.LBB0_136:
 	addq	%rdx, %rax
 	jmp	.LBB0_65
 .Lfunc_end0:
@@ -1102,7 +1097,7 @@
 .LBB1_8:
 	movl	$0, 11(%rsp)
 	movl	$0, 8(%rsp)
-	movl	$1, %eax
+	movb	$1, %al
 	xorl	%r14d, %r14d
 	xorl	%r15d, %r15d
 	jmp	.LBB1_10
@@ -1111,7 +1106,8 @@
 	movl	$0, 8(%rsp)
 	xorl	%eax, %eax
 .LBB1_10:
-	movq	%rax, (%rbx)
+	movb	%al, (%rbx)
+	movb	%al, 1(%rbx)
 	movq	%r14, 8(%rbx)
 	movb	%r15b, 16(%rbx)
 	movl	8(%rsp), %eax
@@ -1425,7 +1421,7 @@ main:
 	movl	$13, %edi
 	callq	__sysv_signal@PLT
 	leaq	129(%rsp), %rdi
-	xorl	%r15d, %r15d
+	xorl	%r14d, %r14d
 	movl	$1031, %edx
 	xorl	%esi, %esi
 	callq	memset@PLT
@@ -1437,221 +1433,234 @@ main:
 	movl	$131072, %edx
 	xorl	%esi, %esi
 	callq	memset@PLT
-	movb	$1, 15(%rsp)
+	movb	$1, 7(%rsp)
 	xorl	%eax, %eax
-	xorl	%ebx, %ebx
+	xorl	%r15d, %r15d
 	xorl	%ebp, %ebp
-	xorl	%r14d, %r14d
-	jmp	.LBB3_3
+	xorl	%r8d, %r8d
 	.p2align	4
-.LBB3_6:
-	movq	%rbp, %r13
-.LBB3_34:
-	movzbl	15(%rsp), %edx
-	leaq	32(%rsp), %rdi
-	leaq	66696(%rsp), %rcx
-	movq	24(%rsp), %rsi
-	movq	%r15, %r8
-	callq	"line_io::send::<#df9e9f1468b30f79>"
-	cmpb	$0, 32(%rsp)
-	jne	.LBB3_46
-	movq	40(%rsp), %r15
-	movzbl	48(%rsp), %eax
-	movb	%al, 15(%rsp)
-.LBB3_40:
-	movq	16(%rsp), %rax
-	incq	%rax
-	movq	%r13, %rbp
-	cmpq	$-1, %rax
-	je	.LBB3_41
 .LBB3_3:
-	movq	%rax, 16(%rsp)
-	cmpq	%rbx, %rbp
-	jae	.LBB3_36
-	movq	%r15, 24(%rsp)
+	movq	%rax, 8(%rsp)
+	cmpq	%r14, %rbp
+	jae	.LBB3_35
+	movq	%r15, 16(%rsp)
 	pxor	%xmm0, %xmm0
 	movdqa	%xmm0, 32(%rsp)
 	movq	$0, 48(%rsp)
 	xorl	%r15d, %r15d
 	jmp	.LBB3_5
-.LBB3_28:
-	cmpq	$1031, %r12
-	movl	$1031, %esi
-	cmovbq	%r12, %rsi
-	leaq	66696(%rsp), %rdx
-	movq	%rcx, %rdi
-.LBB3_32:
-	movq	%r15, %rcx
-	callq	"line_convert::end_line"
-	movq	%rax, %r15
-	movb	$10, 66696(%rsp,%rax)
-	incq	%r15
-	incq	%r13
-	xorl	%r14d, %r14d
-	movq	%r13, %rbp
-	cmpq	%rbx, %r13
-	jae	.LBB3_34
+	.p2align	4
+.LBB3_27:
+	movl	$1031, %ebp
+	subq	%r8, %rbp
+	cmpq	%r12, %rbp
+	cmovaeq	%r12, %rbp
+	leaq	129(%rsp,%r8), %rdi
+	movq	%r13, %rsi
+	movq	%rbp, %rdx
+	movq	%r8, %r12
+	callq	memcpy@PLT
+	movq	%r12, %r8
+	addq	%rbp, %r8
+	movq	%rbx, %rbp
+	cmpq	%r14, %rbx
+	jae	.LBB3_33
 .LBB3_5:
 	leaq	-63475(%r15), %rax
 	cmpq	$67598, %rax
 	jb	.LBB3_6
-	movq	%rbx, %rax
-	subq	%rbp, %rax
-	movq	%rbp, %r13
-	cmpq	$32, %rax
-	jb	.LBB3_11
-	movq	%rbp, %r13
+	movq	%r14, %r12
+	subq	%rbp, %r12
+	movq	%rbp, %rbx
+	cmpq	$32, %r12
+	jb	.LBB3_13
+	movq	%r12, %rax
+	movq	%rbp, %rbx
 	.p2align	4
-.LBB3_9:
-	movdqu	1160(%rsp,%r13), %xmm0
-	movdqu	1176(%rsp,%r13), %xmm1
+.LBB3_11:
+	movdqu	1160(%rsp,%rbx), %xmm0
+	movdqu	1176(%rsp,%rbx), %xmm1
 	movdqa	.LCPI3_0(%rip), %xmm2
 	pcmpeqb	%xmm2, %xmm1
 	pcmpeqb	%xmm2, %xmm0
 	por	%xmm1, %xmm0
 	pmovmskb	%xmm0, %ecx
 	testl	%ecx, %ecx
-	jne	.LBB3_11
-	addq	$32, %r13
+	jne	.LBB3_13
+	addq	$32, %rbx
 	addq	$-32, %rax
 	cmpq	$31, %rax
-	ja	.LBB3_9
-.LBB3_11:
-	cmpq	%rbx, %r13
-	jae	.LBB3_15
+	ja	.LBB3_11
+.LBB3_13:
+	cmpq	%r14, %rbx
+	jae	.LBB3_17
 	.p2align	4
-.LBB3_12:
-	cmpb	$10, 1160(%rsp,%r13)
+.LBB3_14:
+	cmpb	$10, 1160(%rsp,%rbx)
 	je	.LBB3_15
-	incq	%r13
-	cmpq	%r13, %rbx
-	jne	.LBB3_12
-	movq	%rbx, %r13
-.LBB3_15:
-	leaq	(%rsp,%rbp), %rcx
-	addq	$1160, %rcx
-	movq	%r13, %r12
-	subq	%rbp, %r12
-	cmpq	$1031, %r14
-	jae	.LBB3_20
-	leaq	(%r12,%r14), %rax
-	cmpq	$1031, %rax
-	jb	.LBB3_23
-	testq	%r14, %r14
-	je	.LBB3_19
-	leaq	(%rsp,%r15), %rdi
-	addq	$66696, %rdi
-	leaq	129(%rsp), %rsi
-	movq	%r14, %rdx
-	callq	memcpy@PLT
-	leaq	(%rsp,%rbp), %rcx
-	addq	$1160, %rcx
-.LBB3_19:
-	addq	%r14, %r15
-.LBB3_20:
-	cmpq	%rbp, %r13
-	je	.LBB3_22
-	leaq	(%rsp,%r15), %rdi
-	addq	$66696, %rdi
-	movq	%rcx, %rsi
-	movq	%r12, %rdx
-	movq	%rcx, %rbp
-	callq	memcpy@PLT
-	movq	%rbp, %rcx
-.LBB3_22:
-	addq	%r12, %r15
+	incq	%rbx
+	cmpq	%rbx, %r14
+	jne	.LBB3_14
+.LBB3_17:
+	movq	%r14, %rbx
+	leaq	(%rsp,%rbp), %r13
+	addq	$1160, %r13
+	cmpq	$1031, %r8
+	jb	.LBB3_19
 .LBB3_23:
-	cmpq	%r13, %rbx
-	jbe	.LBB3_24
-	testq	%r14, %r14
-	je	.LBB3_28
-	movl	$1031, %ebp
-	subq	%r14, %rbp
-	cmpq	%rbp, %r12
-	cmovbq	%r12, %rbp
-	testq	%rbp, %rbp
-	je	.LBB3_31
-	leaq	(%rsp,%r14), %rdi
-	addq	$129, %rdi
-	movq	%rcx, %rsi
-	movq	%rbp, %rdx
+	cmpq	%rbp, %rbx
+	je	.LBB3_25
+.LBB3_24:
+	leaq	(%rsp,%r15), %rdi
+	addq	$66696, %rdi
+	movq	%r13, %rsi
+	movq	%r12, %rdx
+	movq	%r8, %rbp
 	callq	memcpy@PLT
-.LBB3_31:
-	addq	%r14, %rbp
+	movq	%rbp, %r8
+.LBB3_25:
+	addq	%r12, %r15
+	jmp	.LBB3_26
+	.p2align	4
+.LBB3_15:
+	movq	%rbx, %r12
+	subq	%rbp, %r12
+	leaq	(%rsp,%rbp), %r13
+	addq	$1160, %r13
+	cmpq	$1031, %r8
+	jae	.LBB3_23
+.LBB3_19:
+	leaq	(%r12,%r8), %rax
+	cmpq	$1031, %rax
+	jae	.LBB3_20
+.LBB3_26:
+	cmpq	%rbx, %r14
+	jbe	.LBB3_27
+	testq	%r8, %r8
+	je	.LBB3_29
+	movl	$1031, %ebp
+	subq	%r8, %rbp
+	cmpq	%r12, %rbp
+	cmovaeq	%r12, %rbp
+	leaq	129(%rsp,%r8), %rdi
+	movq	%r13, %rsi
+	movq	%rbp, %rdx
+	movq	%r8, %r12
+	callq	memcpy@PLT
+	addq	%r12, %rbp
 	leaq	129(%rsp), %rdi
 	leaq	66696(%rsp), %rdx
 	movq	%rbp, %rsi
-	jmp	.LBB3_32
+	jmp	.LBB3_31
 	.p2align	4
-.LBB3_24:
-	movl	$1031, %ebp
-	subq	%r14, %rbp
-	cmpq	%rbp, %r12
-	cmovbq	%r12, %rbp
-	testq	%rbp, %rbp
-	je	.LBB3_26
-	leaq	(%rsp,%r14), %rdi
-	addq	$129, %rdi
-	movq	%rcx, %rsi
-	movq	%rbp, %rdx
+.LBB3_20:
+	testq	%r8, %r8
+	je	.LBB3_22
+	leaq	(%rsp,%r15), %rdi
+	addq	$66696, %rdi
+	leaq	129(%rsp), %rsi
+	movq	%r8, %rdx
+	movq	%r8, 24(%rsp)
 	callq	memcpy@PLT
-.LBB3_26:
-	addq	%rbp, %r14
-	movq	%r13, %rbp
-	cmpq	%rbx, %r13
+	movq	24(%rsp), %r8
+.LBB3_22:
+	addq	%r8, %r15
+	cmpq	%rbp, %rbx
+	jne	.LBB3_24
+	jmp	.LBB3_25
+.LBB3_29:
+	cmpq	$1031, %r12
+	movl	$1031, %esi
+	cmovbq	%r12, %rsi
+	leaq	66696(%rsp), %rdx
+	movq	%r13, %rdi
+.LBB3_31:
+	movq	%r15, %rcx
+	callq	"line_convert::end_line"
+	movq	%rax, %r15
+	movb	$10, 66696(%rsp,%rax)
+	incq	%r15
+	incq	%rbx
+	xorl	%r8d, %r8d
+	movq	%rbx, %rbp
+	cmpq	%r14, %rbx
 	jb	.LBB3_5
-	jmp	.LBB3_34
+	jmp	.LBB3_33
 	.p2align	4
-.LBB3_36:
+.LBB3_35:
+	movq	%r8, %r12
 	leaq	1160(%rsp), %rsi
 	movl	$65536, %edx
 	xorl	%edi, %edi
 	callq	read@PLT
 	testq	%rax, %rax
-	js	.LBB3_37
-	je	.LBB3_42
+	js	.LBB3_36
+	je	.LBB3_40
 	cmpq	$65536, %rax
-	movl	$65536, %ebx
-	cmovbq	%rax, %rbx
-	xorl	%r13d, %r13d
-	jmp	.LBB3_40
-.LBB3_41:
+	movl	$65536, %r14d
+	cmovbq	%rax, %r14
+	xorl	%ebx, %ebx
+	jmp	.LBB3_39
+	.p2align	4
+.LBB3_6:
+	movq	%rbp, %rbx
+.LBB3_33:
+	movq	%r8, %r12
+	movzbl	7(%rsp), %edx
+	leaq	32(%rsp), %rdi
+	leaq	66696(%rsp), %rcx
+	movq	16(%rsp), %rsi
+	movq	%r15, %r8
+	callq	"line_io::send::<#df9e9f1468b30f79>"
+	cmpb	$0, 32(%rsp)
+	jne	.LBB3_44
+	movq	40(%rsp), %r15
+	movzbl	48(%rsp), %eax
+	movb	%al, 7(%rsp)
+.LBB3_39:
+	movq	8(%rsp), %rax
+	movq	%r12, %r8
+	incq	%rax
+	movq	%rbx, %rbp
+	cmpq	$-1, %rax
+	jne	.LBB3_3
 	movl	$1, %eax
-	jmp	.LBB3_47
-.LBB3_46:
-	movl	$2, %eax
-	jmp	.LBB3_47
-.LBB3_37:
+	jmp	.LBB3_45
+.LBB3_36:
 	leaq	32(%rsp), %rdi
 	callq	"std_io::io::error::last_error"
 	movl	$1, %eax
-	jmp	.LBB3_47
-.LBB3_42:
-	xorps	%xmm0, %xmm0
-	movaps	%xmm0, 32(%rsp)
+	jmp	.LBB3_45
+.LBB3_40:
+	pxor	%xmm0, %xmm0
+	movdqa	%xmm0, 32(%rsp)
 	movq	$0, 48(%rsp)
-	testq	%r14, %r14
-	je	.LBB3_43
+	testq	%r12, %r12
+	je	.LBB3_41
+	movq	%r12, %rsi
 	leaq	129(%rsp), %rdi
 	leaq	66696(%rsp), %rdx
-	movq	%r14, %rsi
 	xorl	%ecx, %ecx
 	callq	"line_convert::end_line"
 	movq	%rax, %r8
-	jmp	.LBB3_45
-.LBB3_43:
+	jmp	.LBB3_43
+.LBB3_41:
 	xorl	%r8d, %r8d
-.LBB3_45:
-	movzbl	15(%rsp), %edx
+.LBB3_43:
+	movzbl	7(%rsp), %edx
 	leaq	32(%rsp), %rdi
 	leaq	66696(%rsp), %rcx
 	movq	%r15, %rsi
 	callq	"line_io::send::<#df9e9f1468b30f79>"
-	xorl	%eax, %eax
 	cmpb	$0, 32(%rsp)
-	setne	%al
-	addl	%eax, %eax
-.LBB3_47:
+	movl	$0, %eax
+	je	.LBB3_45
+.LBB3_44:
+	movzbl	33(%rsp), %eax
+	cmpb	$1, %al
+	movl	$2, %eax
+	sbbl	$0, %eax
+.LBB3_45:
 	addq	$197768, %rsp
 	popq	%rbx
 	popq	%r12

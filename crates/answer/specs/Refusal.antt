@@ -1,6 +1,7 @@
 -- Refusals and verdicts as the numbers of RULES 1.6 and 6.1, and the first of several refusals. Assumes nothing.
-use Rattle.std.specs.Prelude.{Bool, true, false, List, [], ◌∷◌, ℕ}
-use Rattle.answer.specs.declared.{Refusal.Refusal, Judged.Judged, Judged.TheVariants.Good, Judged.TheVariants.Refused, Verdict.Verdict}
+use Rattle.std.specs.Prelude.{Bool, true, false, List, [], ◌∷◌, Err, Ok, ℕ}
+use Rattle.answer.specs.Answers.{Judged}
+use Rattle.answer.specs.declared.{Refusal.Refusal, Verdict.Verdict}
 use Rattle.answer.specs.declared.Refusal.TheVariants.{TooMany, Table, ResultRoom, BadDigit, NothingToTake, TooLong, NoRoom, HullRoom, BadLine, StartRange, OutlineRoom, NotRoom, PolygonRoom, FileLength, FileKind, BadCoordinate, BadRing, ChainRoom, RetiredKind, UnknownParty, SpanRoom, GridSize}
 use Rattle.answer.specs.declared.Verdict.TheVariants.{Nowhere, Open, Room, OpenMeeting, ClosedMeeting, ThereAndBack}
 
@@ -56,12 +57,12 @@ refusal_place GridSize = 0
 
 -- the number and the place of a judgement: 0 for both if nothing is refused
 abbrev pub judged_number : Judged → ℕ
-judged_number Good = 0
-judged_number (Refused r) = refusal_number r
+judged_number (Ok _) = 0
+judged_number (Err r) = refusal_number r
 
 abbrev pub judged_place : Judged → ℕ
-judged_place Good = 0
-judged_place (Refused r) = refusal_place r
+judged_place (Ok _) = 0
+judged_place (Err r) = refusal_place r
 
 -- the number of a verdict
 abbrev pub verdict_number : Verdict → ℕ
@@ -74,15 +75,15 @@ verdict_number ThereAndBack = 5
 
 -- a refusal if the test passes
 abbrev pub when : Bool → Refusal → Judged
-when true r = Refused r
-when false r = Good
+when true r = Err r
+when false r = Ok tt
 
 -- the first of two that is a refusal
 abbrev pub or_else : Judged → Judged → Judged
-or_else Good k = k
-or_else (Refused r) k = Refused r
+or_else (Ok _) k = k
+or_else (Err r) k = Err r
 
 -- the first of a list that is one
 abbrev pub first_of : List Judged → Judged
-first_of [] = Good
+first_of [] = Ok tt
 first_of (j ∷ js) = or_else j (first_of js)

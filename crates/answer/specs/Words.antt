@@ -1,6 +1,7 @@
 -- The answers as the numbers of each case (RULES 5.2, 6.5). Assumes nothing.
-use Rattle.std.specs.Prelude.{List, [], ◌∷◌, ℕ, ◌+◌, ◌-◌, ◌^◌, ℤ, pos, negsuc}
-use Rattle.answer.specs.declared.{Answer.Answer, Counted.Counted, Facts.Facts, Judged.Judged}
+use Rattle.std.specs.Prelude.{List, [], ◌∷◌, ℕ, ◌+◌, ◌-◌, ◌^◌, ℤ, pos, Err, Ok, negsuc}
+use Rattle.answer.specs.Answers.{Answer, Counted, Judged}
+use Rattle.answer.specs.declared.{Facts.Facts}
 use Rattle.answer.specs.Refusal.{refusal_number, refusal_place, verdict_number, judged_number, judged_place}
 
 -- a whole number as 32 bits, negatives in two's complement
@@ -17,23 +18,23 @@ facts_words f =
 
 -- a refused answer holds number and place, and 0 in all other words; an accepted one holds 0 for both
 abbrev pub answer_words : Answer → List ℕ
-answer_words (Answer.Accepted f) = facts_words f
-answer_words (Answer.Refused r) = refusal_number r ∷ refusal_place r ∷ 0 ∷ 0 ∷ 0 ∷ 0 ∷ 0 ∷ 0 ∷ 0 ∷ 0 ∷ 0 ∷ []
+answer_words (Ok f) = facts_words f
+answer_words (Err r) = refusal_number r ∷ refusal_place r ∷ 0 ∷ 0 ∷ 0 ∷ 0 ∷ 0 ∷ 0 ∷ 0 ∷ 0 ∷ 0 ∷ []
 
 -- the refusal's number, 0 if it is accepted
 abbrev pub answer_number : Answer → ℕ
-answer_number (Answer.Accepted f) = 0
-answer_number (Answer.Refused r) = refusal_number r
+answer_number (Ok f) = 0
+answer_number (Err r) = refusal_number r
 
 -- number, place, count
 abbrev pub counted_words : Counted → List ℕ
-counted_words (Counted.Many n) = 0 ∷ 0 ∷ n ∷ []
-counted_words (Counted.Refused r) = refusal_number r ∷ refusal_place r ∷ 0 ∷ []
+counted_words (Ok n) = 0 ∷ 0 ∷ n ∷ []
+counted_words (Err r) = refusal_number r ∷ refusal_place r ∷ 0 ∷ []
 
 -- the refusal's number, in the same way
 abbrev pub counted_number : Counted → ℕ
-counted_number (Counted.Many n) = 0
-counted_number (Counted.Refused r) = refusal_number r
+counted_number (Ok n) = 0
+counted_number (Err r) = refusal_number r
 
 -- number, place
 abbrev pub judged_words : Judged → List ℕ

@@ -35,13 +35,6 @@ pub enum Refusal {
     GridSize,
 }
 
-// Whether there is a refusal.
-#[derive(Clone, Copy)]
-pub enum Judged {
-    Good,
-    Refused(Refusal),
-}
-
 // What the surviving steps make of the walk.
 #[derive(Clone, Copy)]
 pub enum Verdict {
@@ -66,20 +59,6 @@ pub struct Facts {
     pub last: Corner,
 }
 
-// The answer to a walk.
-#[derive(Clone, Copy)]
-pub enum Answer {
-    Accepted(Facts),
-    Refused(Refusal),
-}
-
-// The answer of a call that counts: how many corners, steps, bytes or spans there are; or 1 for yes and 0 for no.
-#[derive(Clone, Copy)]
-pub enum Counted {
-    Many(usize),
-    Refused(Refusal),
-}
-
 // The facts of one party's walk in a table that two parties share.
 #[derive(Clone, Copy)]
 pub struct PartyFacts {
@@ -98,13 +77,6 @@ pub struct PairFacts {
     pub nodes: usize,
     pub first: PartyFacts,
     pub second: PartyFacts,
-}
-
-// The answer to two parties.
-#[derive(Clone, Copy)]
-pub enum PairAnswer {
-    Accepted(PairFacts),
-    Refused(Refusal),
 }
 
 // The refusal's number.

@@ -7,7 +7,6 @@ ghost use Rattle.box_laws.specs.Box.{Boxable, Reached, Framed};
 ghost use Rattle.box_walk.specs.Boxed.{Boxed};
 
 use columns::Columns;
-use order::{greater, lesser};
 
 // How many columns and how many rows of corners the box has, the place of the walk's start in it, and whether the walk ends
 // there.
@@ -23,10 +22,7 @@ pub struct WalkBox {
 fn at_start(x: usize, y: usize) -> bool
     ensures { (result ≡ true) ↔ ((x ≡ middle) × (y ≡ middle)) }
 {
-    if x != Columns::MIDDLE {
-        return false;
-    }
-    y == Columns::MIDDLE
+    x == Columns::MIDDLE && y == Columns::MIDDLE
 }
 
 // The box that reaches from the column west to the column east, and from the height south to the height north.
@@ -36,10 +32,10 @@ fn framed(west: usize, east: usize, south: usize, north: usize, closed: bool) ->
 {
     let width = east - west + 1;
     WalkBox {
-        width: width,
+        width,
         height: north - south + 1,
         from: (Columns::MIDDLE - south) * width + (Columns::MIDDLE - west),
-        closed: closed,
+        closed,
     }
 }
 
@@ -48,24 +44,22 @@ pub fn enclose(chain: &[u8]) -> WalkBox
     requires { Boxable chain.now }
     ensures { Boxed chain.now result.width result.height result.from result.closed }
 {
-    let dx = [1usize, 0, 18446744073709551615, 0];
-    let dy = [0usize, 1, 0, 18446744073709551615];
+    let dx = [1, 0, usize::MAX, 0];
+    let dy = [0, 1, 0, usize::MAX];
     let mut x = Columns::MIDDLE;
     let mut y = Columns::MIDDLE;
     let mut west = x;
     let mut east = x;
     let mut south = y;
     let mut north = y;
-    let mut i = 0;
-    while i < chain.len() {
-        let d = chain[i] as usize;
-        x = std::num::wrapping_add_usize(x, dx[d]);
-        y = std::num::wrapping_add_usize(y, dy[d]);
-        west = lesser(west, x);
-        east = greater(east, x);
-        south = lesser(south, y);
-        north = greater(north, y);
-        i += 1;
+    for &step in chain {
+        let d = usize::from(step);
+        x = x.wrapping_add(dx[d]);
+        y = y.wrapping_add(dy[d]);
+        west = west.min(x);
+        east = east.max(x);
+        south = south.min(y);
+        north = north.max(y);
     }
     framed(west, east, south, north, at_start(x, y))
 }

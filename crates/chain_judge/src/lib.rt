@@ -4,49 +4,44 @@
 ghost use Rattle.std.specs.Prelude.{◌≡◌};
 ghost use Rattle.steps.specs.Chain.{chain_judged, as_walk_judged};
 
-use answer::{Judged, Limits, Refusal, start_fits};
+use answer::{Limits, Refusal, start_fits};
 use grid::Corner;
 use order::highest;
 
 // The first fault of a chain: a byte above 3, or a step that is one too many.
-fn fault(chain: &[u8]) -> Judged
+fn fault(chain: &[u8]) -> Result<(), Refusal>
     ensures { result ≡ chain_judged 0 chain.now }
 {
-    let mut i = 0;
-    while i < chain.len() {
-        if chain[i] > 3 {
-            return Judged::Refused(Refusal::BadDigit(i));
+    for (i, &d) in chain.iter().enumerate() {
+        if d > 3 {
+            return Err(Refusal::BadDigit(i));
         }
         if i == Limits::MOST_STEPS {
-            return Judged::Refused(Refusal::TooLong(i));
+            return Err(Refusal::TooLong(i));
         }
-        i += 1;
     }
-    Judged::Good
+    Ok(())
 }
 
 // The same, but bytes are looked at one by one only if something is wrong.
-fn judge_steps(chain: &[u8]) -> Judged
+fn judge_steps(chain: &[u8]) -> Result<(), Refusal>
     ensures { result ≡ chain_judged 0 chain.now }
 {
-    if chain.len() > Limits::MOST_STEPS {
+    if chain.len() > Limits::MOST_STEPS || highest(chain) > 3 {
         return fault(chain);
     }
-    if highest(chain) > 3 {
-        return fault(chain);
-    }
-    Judged::Good
+    Ok(())
 }
 
 // What is wrong with a start and a chain as a walk: 1, then 10, then 4 or 6 at the first faulty place.
-pub fn judge(start: Corner, chain: &[u8]) -> Judged
+pub fn judge(start: Corner, chain: &[u8]) -> Result<(), Refusal>
     ensures { result ≡ as_walk_judged start chain.now }
 {
     if chain.len() > Limits::MOST_INPUT {
-        return Judged::Refused(Refusal::TooMany);
+        return Err(Refusal::TooMany);
     }
     if !start_fits(start) {
-        return Judged::Refused(Refusal::StartRange);
+        return Err(Refusal::StartRange);
     }
     judge_steps(chain)
 }

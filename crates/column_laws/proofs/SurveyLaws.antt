@@ -2,7 +2,7 @@
 -- Assumes nothing.
 use mathlib.Core.Path.{◌≡◌, sym, ap, ◌∙◌}
 use mathlib.Core.List.{List, []}
-use Prim.Native.Nat.{ℕ, ◌+◌, ◌*◌, ◌-◌, ◌≤◌, ◌<◌, min, max}
+use Prim.Native.Nat.{ℕ, ◌+◌, ◌*◌, ◌≤◌, ◌<◌, min, max}
 use native.Mathlib.Omega.{arith}
 use native.Mathlib.Numerals.{add-one}
 use lib.ListN.{length, get_or, drop, drop_of_length-le}
@@ -11,10 +11,6 @@ use Rattle.answer.specs.Limits.{most_steps}
 use Rattle.column_laws.specs.Columns.{col_after, west_from, east_from}
 use Rattle.column_laws.proofs.TrailLaws.{near, west_le, east_ge}
 use Rattle.steps.proofs.ChainLaws.{Judging, judging_start, judging_step}
-
--- what is left of a pass
-pub falls : (n i : ℕ) → i < n → n - (i + 1) < n - i
-falls n i h = omega arith
 
 none_left : (chain : List ℕ) (i : ℕ) → length chain ≤ i → drop i chain ≡ []
 none_left chain i h = drop_of_length-le chain {i = i} h

@@ -13,13 +13,6 @@ middle = most_steps
 abbrev pub top : ℕ
 top = 2 * middle
 
--- the sizes of the two lesser working stores, in steps or in columns: the largest takes long to clear
-abbrev pub narrow_size : ℕ
-narrow_size = 256
-
-abbrev pub wider_size : ℕ
-wider_size = 2048
-
 -- a column or a height with a whole number added
 abbrev plus : ℕ → ℤ → ℕ
 plus x (pos zero) = x

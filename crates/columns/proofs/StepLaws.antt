@@ -1,13 +1,9 @@
 -- Where a step leads, by its digit: a test counts 1 if it holds.
 -- Assumes nothing.
-use Rattle.std.proofs.Common.{◌≡◌, ℕ, zero, suc, ◌+◌, ◌-◌, ◌%◌, ◌^◌, ◌<◌, ◌≤◌, Bool, true, false, eqb, ltb, get_or, ap, arith, lt-ltb, ne_eqb}
+use Rattle.std.proofs.Common.{◌≡◌, ℕ, zero, suc, ◌+◌, ◌-◌, ◌%◌, ◌^◌, ◌<◌, ◌≤◌, eqb, ltb, get_or, ap, arith, lt-ltb, ne_eqb}
 use mir.Val.{bool_byte}
 use Rattle.column_laws.specs.Columns.{col_after, row_after, top}
 use Rattle.columns.specs.Steps.{east_steps, north_steps}
-
-pub test_le : (b : Bool) → bool_byte b ≤ 1
-test_le true = omega arith
-test_le false = omega arith
 
 -- the test for another digit counts nothing
 other : (d e : ℕ) → (d ≡ e → ⊥) → bool_byte (eqb d e) ≡ 0

@@ -29,16 +29,16 @@ impl Columns {
 
     pub const WIDER: usize = 2048;
 
-    // the height of a column that has none yet
-    pub const BLANK: u16 = 65535;
+    // the height of a column that has none yet: above all heights, so that the lower of it and a height is the height
+    pub const BLANK: u16 = u16::MAX;
 
     // how far the start lies from column 0 and from height 0
     pub const SHIFT: i32 = Columns::MIDDLE as i32;
 
     // how far each step goes east, and how far north, to be added modulo 2^32 and modulo 2^16
-    pub const EAST: [u32; 4] = [1, 0, 4294967295, 0];
+    pub const EAST: [u32; 4] = [1, 0, u32::MAX, 0];
 
-    pub const NORTH: [u16; 4] = [0, 1, 0, 65535];
+    pub const NORTH: [u16; 4] = [0, 1, 0, u16::MAX];
 }
 
 // The column after step d.
@@ -46,7 +46,7 @@ pub fn column(x: usize, d: u8) -> usize
     requires { (0 < x) × (x ≤ top) }
     ensures { result ≡ col_after x d }
 {
-    x + (d == 0) as usize - (d == 2) as usize
+    x + usize::from(d == 0) - usize::from(d == 2)
 }
 
 // The height after step d.
@@ -54,7 +54,7 @@ pub fn height(y: u16, d: u8) -> u16
     requires { (0 < y) × (y ≤ top) }
     ensures { result ≡ row_after y d }
 {
-    y + (d == 1) as u16 - (d > 2) as u16
+    y + u16::from(d == 1) - u16::from(d > 2)
 }
 
 // The column after step d, by the table of steps east.
@@ -62,7 +62,7 @@ pub fn across(x: u32, by: &[u32; 4], d: u8) -> u32
     requires { (by.now ≡ east_steps) × (d < 4) × (0 < x) × (x ≤ top) }
     ensures { result ≡ col_after x d }
 {
-    std::num::wrapping_add_u32(x, by[d as usize])
+    x.wrapping_add(by[usize::from(d)])
 }
 
 // The height after step d, by the table of steps north.
@@ -70,5 +70,5 @@ pub fn upward(y: u16, by: &[u16; 4], d: u8) -> u16
     requires { (by.now ≡ north_steps) × (d < 4) × (0 < y) × (y ≤ top) }
     ensures { result ≡ row_after y d }
 {
-    std::num::wrapping_add_u16(y, by[d as usize])
+    y.wrapping_add(by[usize::from(d)])
 }

@@ -1,11 +1,12 @@
 -- There is one answer.
 -- Assumes nothing.
+use Rattle.std.specs.Prelude.{Err, Ok}
 use mathlib.Core.Bool.{Bool, true, false}
 use mathlib.Core.List.{List}
 use mathlib.Core.Path.{◌≡◌, refl, sym, ap, ◌∙◌}
 use Prim.Native.Nat.{ℕ}
+use Rattle.answer.specs.Answers.{Counted, Judged}
 use Rattle.lists.specs.Lists.{tally}
-use Rattle.answer.specs.declared.{Counted.Counted, Judged.Judged, Judged.TheVariants.Good, Judged.TheVariants.Refused}
 use Rattle.grid.specs.declared.Corner.{Corner}
 use Rattle.answer.specs.Listed.{counted_of}
 use Rattle.room.specs.Room.{as_room_judged}
@@ -24,5 +25,5 @@ pub convex_call_one : {s : Corner} {ds : List ℕ} {r r' : Counted} → ConvexCa
 convex_call_one {s} {ds} p q = p.answer ∙ go (as_room_judged s ds) refl ∙ sym q.answer
   where
     go : (j : Judged) → as_room_judged s ds ≡ j → counted_of j (tally p.says) ≡ counted_of j (tally q.says)
-    go Good e = ap (λ (b : Bool). Counted.Many (tally b)) (convex_is_one s ds p.says q.says (p.convex e) (q.convex e))
-    go (Refused r) e = refl
+    go (Ok _) e = ap (λ (b : Bool). Ok (tally b)) (convex_is_one s ds p.says q.says (p.convex e) (q.convex e))
+    go (Err r) e = refl

@@ -1,9 +1,9 @@
 -- When a part is convex, when a room is, and the promise of its call (RULES 17). Assumes nothing.
 use mathlib.Core.List.{Memᴰ}
 use Rattle.lists.specs.Lists.{tally, Below}
-use Rattle.std.specs.Prelude.{◌≡◌, Bool, true, List, ◌↔◌, ℕ, pos, ◌≤ℤ◌, ◌<ℤ◌}
+use Rattle.std.specs.Prelude.{◌≡◌, Bool, true, List, ◌↔◌, ℕ, pos, ◌≤ℤ◌, Ok, ◌<ℤ◌}
+use Rattle.answer.specs.Answers.{Counted}
 use Rattle.grid.specs.{declared.Corner.Corner, Grid.origin, Grid.corners_from}
-use Rattle.answer.specs.declared.{Counted.Counted, Judged.TheVariants.Good}
 use Rattle.hull.specs.{Hull.cross}
 use Rattle.answer.specs.Listed.{counted_of}
 use Rattle.room.specs.Room.{as_room_judged}
@@ -46,5 +46,5 @@ ConvexIs c ds b = (b ≡ true) ↔ ConvexRoom c ds
 -- the promise of the call: 1 for yes and 0 for no, unless it is refused as every call on a room refuses
 pub record ConvexCall (c : Corner) (ds : List ℕ) (r : Counted) : Type 0 where
   pub says : Bool
-  pub convex : as_room_judged c ds ≡ Good → ConvexIs c ds says
+  pub convex : as_room_judged c ds ≡ Ok tt → ConvexIs c ds says
   pub answer : r ≡ counted_of (as_room_judged c ds) (tally says)

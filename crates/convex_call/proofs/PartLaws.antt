@@ -1,7 +1,8 @@
 -- The parts of a room, one after the other.
 -- Assumes nothing.
-use mathlib.Core.Bool.{Bool, true, false, not, ◌&&◌}
+use mathlib.Core.Bool.{Bool, true, false, ◌&&◌}
 use mathlib.Core.List.{List, [], ◌∷◌}
+use mathlib.Core.Logic.{◌⊎◌, inl, inr}
 use mathlib.Core.Path.{◌≡◌, refl, sym, ap, ap₂, ◌∙◌}
 use Prim.Native.Nat.{ℕ, suc, ◌+◌, ◌-◌, ◌%◌, ◌≤◌, ◌<◌}
 use native.Mathlib.Decide.{dec_lt}
@@ -10,7 +11,6 @@ use borrow.Author.Tests.{le-leb, lt-leb}
 use lib.Dec.{leb}
 use lib.ListN.{length, get_or, take, drop, length-take, length-drop, get_or-eq_default}
 use lib.Seq.{take_all, get_or-take, get_or-drop}
-use Rattle.lists.proofs.BoolLaws.{not-true, not-false}
 use Rattle.convex.specs.Parts.{turned_by}
 use Rattle.convex_laws.specs.Level.{convex_part}
 use Rattle.convex_laws.specs.Place.{place_of}
@@ -39,28 +39,19 @@ and_true : (s t r : Bool) → s ≡ true → r ≡ t → r ≡ (s && t)
 and_true s t r e f = f ∙ sym (ap (λ (x : Bool). x && t) e)
 
 -- the decision on the part from place j to place k, turned back to the first
-abbrev pub part_of : ℕ → ℕ → ℕ → List ℕ → Bool
+abbrev part_of : ℕ → ℕ → ℕ → List ℕ → Bool
 part_of t j k ds = convex_part (turned_by t (take (k - j) (drop j ds)))
-
-module _ (ds : List ℕ) (t i j k : ℕ) (r : Bool) (f : r ≡ part_of t i j ds) where
-  pub half_fails : not r ≡ true → false ≡ (part_of t i j ds && part_of (t + 1) j k ds)
-  half_fails e = and_false (part_of t i j ds) (part_of (t + 1) j k ds) (sym f ∙ not-true r e)
-
-  pub half_tells : (s : Bool) → not r ≡ false → s ≡ part_of (t + 1) j k ds → s ≡ (part_of t i j ds && part_of (t + 1) j k ds)
-  half_tells s e g = and_true (part_of t i j ds) (part_of (t + 1) j k ds) s (sym f ∙ not-false r e) g
 
 -- the test on a room by its two halves
 module _ (ds : List ℕ) (j k l : ℕ) where
   abbrev rest : Bool
   rest = (convex_part (take j ds) && convex_part (turned_by 1 (take (k - j) (drop j ds)))) && (convex_part (turned_by 2 (take (l - k) (drop k ds))) && convex_part (turned_by 3 (drop l ds)))
 
-  pub late_second : k < j → false ≡ convex_at j k l ds
+  -- one of the places lies before the one that it is to follow
+  pub late : (k < j) ⊎ ((j ≤ k) × (l < k)) → false ≡ convex_at j k l ds
   unfolding convex_at
-  late_second h = sym (ap (λ (b : Bool). (b && leb k l) && rest) (lt-leb j k h))
-
-  pub late_third : j ≤ k → l < k → false ≡ convex_at j k l ds
-  unfolding convex_at
-  late_third g h = sym (ap₂ (λ (a b : Bool). (a && b) && rest) (le-leb j k g) (lt-leb k l h))
+  late (inl h) = sym (ap (λ (b : Bool). (b && leb k l) && rest) (lt-leb j k h))
+  late (inr h) = sym (ap₂ (λ (a b : Bool). (a && b) && rest) (le-leb j k h.0) (lt-leb k l h.1))
 
   module _ (d : Digits ds) (g : j ≤ k) (h : k ≤ l) (i : l ≤ length ds) where
     abbrev pub first_half : Bool
@@ -84,11 +75,11 @@ module _ (ds : List ℕ) (j k l : ℕ) where
         last : drop l ds ≡ take (length ds - l) (drop l ds)
         last = sym (take_all (length ds - l) (drop l ds) (omega (arith, length-drop l ds)))
 
-    pub first_fails : (r : Bool) → not r ≡ true → r ≡ first_half → false ≡ convex_at j k l ds
-    first_fails r e f = and_false first_half second_half (sym f ∙ not-true r e) ∙ sym halves
+    pub first_fails : (r : Bool) → r ≡ false → r ≡ first_half → r ≡ convex_at j k l ds
+    first_fails r e f = e ∙ and_false first_half second_half (sym f ∙ e) ∙ sym halves
 
-    pub second_tells : (r t : Bool) → not r ≡ false → r ≡ first_half → t ≡ second_half → t ≡ convex_at j k l ds
-    second_tells r t e f s = and_true first_half second_half t (sym f ∙ not-false r e) s ∙ sym halves
+    pub second_tells : (r t : Bool) → r ≡ true → r ≡ first_half → t ≡ second_half → t ≡ convex_at j k l ds
+    second_tells r t e f s = and_true first_half second_half t (sym f ∙ e) s ∙ sym halves
 
 -- the places are those of the other extremal corners
 pub west_told : (ds : List ℕ) (j k l : ℕ) (r : Bool) → j ≡ place_of 1 ds → k ≡ place_of 2 ds → l ≡ place_of 3 ds → r ≡ convex_at j k l ds → r ≡ convex_from ds

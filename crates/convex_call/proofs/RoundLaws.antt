@@ -7,7 +7,7 @@ use Prim.Native.Nat.{ℕ, suc, ◌+◌, ◌*◌, ◌-◌, ◌%◌, ◌≤◌, �
 use native.Mathlib.Decide.{dec_lt, ℕ_discrete}
 use native.Mathlib.Omega.{arith}
 use lib.Dec.{ltb}
-use lib.ListN.{length, get_or, take, drop, set, replicate, length-replicate, length-take, length-drop, length-set, get_or-append, get_or-eq_default}
+use lib.ListN.{length, get_or, take, drop, set, length-take, length-drop, length-set, get_or-append, get_or-eq_default}
 use lib.Seq.{get_or-take, get_or-drop, get_or-append_seam, get_or-append-add, get_or-set_same, get_or-set_other, ext_get_or}
 use Rattle.area_laws.proofs.MovedLaws.{length-backward}
 use Rattle.grid.specs.declared.Corner.{Corner}
@@ -23,7 +23,7 @@ use Rattle.convex_laws.proofs.RoomLaws.{length_started}
 use Rattle.convex_laws.proofs.WayLaws.{sums_way}
 use Rattle.convex_part.specs.Steps.{Digits}
 use Rattle.convex_call.proofs.PartLaws.{digits_slice}
-use Rattle.convex_call.specs.Laid.{LaidTwice, Roomy}
+use Rattle.convex_call.specs.Laid.{LaidTwice}
 
 -- ---- the chain backwards
 
@@ -148,14 +148,3 @@ module _ (ds out : List ℕ) (b : Bool) (d : Digits ds) (short : length ds ≤ m
       g ∙ ap convex_from round
       ∙ ap (λ (k : ℕ). convex_from (started_at k (travelled b ds))) at
       ∙ ap (λ (x : Bool). convex_from (started_at (place_of 0 (travelled x ds)) (travelled x ds))) (f ∙ sums_way ds short c h)
-
--- a store that is new
-pub store_new : (ds : List ℕ) (a n : ℕ) → Digits ds → length ds ≤ middle → 2 * length ds ≤ a → length ds < n → n ≤ 65536 → Roomy ds (replicate a 0) (replicate n 0) (replicate n 0)
-store_new ds a n d h i j k = record {
-  digits = d;
-  short = h;
-  out-room = omega (arith, length-replicate {A = ℕ} a 0);
-  depths = omega (arith, length-replicate {A = ℕ} n 0);
-  stack = omega (arith, length-replicate {A = ℕ} n 0);
-  narrow = omega (arith, length-replicate {A = ℕ} n 0);
-}

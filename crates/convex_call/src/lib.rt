@@ -2,14 +2,11 @@
 // corners, and each part is judged.
 #![tactic(auto)]
 
-ghost use Rattle.std.specs.Prelude.{◌≡◌, ◌&&◌, ◌+◌, ◌*◌, ◌-◌, ◌<◌, ◌≤◌, length, get_or, take, drop};
-ghost use Rattle.lists.specs.Lists.{tally};
-ghost use Rattle.answer.specs.declared.Counted.{Counted};
-ghost use Rattle.answer.specs.declared.Judged.TheVariants.{Good};
+ghost use Rattle.std.specs.Prelude.{◌≡◌, ◌&&◌, ◌+◌, ◌*◌, ◌-◌, ◌<◌, ◌≤◌, length, get_or, take, Ok, drop};
 ghost use Rattle.grid.specs.declared.Corner.{Corner};
 ghost use Rattle.grid.specs.Grid.{end_from};
 ghost use Rattle.trace.specs.Verdict.{IsRoom};
-ghost use Rattle.column_laws.specs.Columns.{middle, narrow_size, wider_size};
+ghost use Rattle.column_laws.specs.Columns.{middle};
 ghost use Rattle.box_laws.specs.Box.{Boxable, box_width, box_height};
 ghost use Rattle.box_walk.specs.Boxed.{Boxed};
 ghost use Rattle.steps.specs.Chain.{as_walk_judged};
@@ -21,13 +18,20 @@ ghost use Rattle.convex_laws.specs.Decide.{convex_at, convex_from, convex_of};
 ghost use Rattle.convex_part.specs.Steps.{Digits};
 ghost use Rattle.convex_call.specs.Laid.{LaidTwice, Roomy};
 
-use answer::{Counted, Judged, Limits, Refusal};
+use answer::{Limits, Refusal};
 use box_walk::{WalkBox, enclose};
 use columns::Columns;
 use convex_part::judge;
 use convex_place::{leftward, place};
 use grid::Corner;
 use room_map::is_room_in;
+
+// A room of at most 256, of at most 2,048 and of any number of steps has fewer steps than this.
+const NARROW: usize = Columns::NARROW + 1;
+
+const WIDER: usize = Columns::WIDER + 1;
+
+const WIDEST: usize = Limits::MOST_STEPS + 1;
 
 // Step i of a chain, or of the chain backwards.
 fn step_at(chain: &[u8], back: bool, i: usize) -> u8
@@ -47,12 +51,10 @@ fn lay(chain: &[u8], back: bool, out: &mut [u8])
         (length chain.now) }
 {
     let n = chain.len();
-    let mut i = 0;
-    while i < n {
+    for i in 0..n {
         let d = step_at(chain, back, i);
         out[i] = d;
         out[n + i] = d;
-        i += 1;
     }
 }
 
@@ -73,10 +75,7 @@ fn half(room: &[u8], i: usize, j: usize, k: usize, turn: u8, ys: &mut [u16], s: 
     ensures { result ≡ (convex_part (turned_by turn (take (j - i) (drop i room.now)))
         && convex_part (turned_by (turn + 1) (take (k - j) (drop j room.now)))) }
 {
-    if !part(room, i, j, turn, ys, s) {
-        return false;
-    }
-    part(room, j, k, turn + 1, ys, s)
+    part(room, i, j, turn, ys, s) && part(room, j, k, turn + 1, ys, s)
 }
 
 // Whether a room that begins at its first extremal corner and has the others at places j, k and l is convex. The working store is
@@ -86,16 +85,10 @@ fn by_parts(room: &[u8], j: usize, k: usize, l: usize, ys: &mut [u16], s: &mut [
         × (length room.now < length s.old) × (length ys.old ≤ 65536) }
     ensures { result ≡ convex_at j k l room.now }
 {
-    if k < j {
+    if k < j || l < k {
         return false;
     }
-    if l < k {
-        return false;
-    }
-    if !half(room, 0, j, k, 0, ys, s) {
-        return false;
-    }
-    half(room, k, l, room.len(), 2, ys, s)
+    half(room, 0, j, k, 0, ys, s) && half(room, k, l, room.len(), 2, ys, s)
 }
 
 // The same if the places are still to be found.
@@ -121,37 +114,15 @@ fn in_store(chain: &[u8], out: &mut [u8], ys: &mut [u16], s: &mut [u16]) -> bool
     from_west(&out[m..m + n], ys, s)
 }
 
-// Whether a room of at most 256 steps is convex.
-fn narrow(chain: &[u8]) -> bool
-    requires { Digits chain.now × (length chain.now ≤ narrow_size) }
+// Whether a room of fewer than N steps is convex, with a store for as many columns.
+fn in_sized<const N: usize>(chain: &[u8]) -> bool
+    requires { Digits chain.now × (length chain.now < N) × (length chain.now ≤ middle) × (N ≤ 65536) }
     ensures { (c : Corner) → end_from c chain.now ≡ c → result ≡ convex_of c chain.now }
 {
-    let mut out = [0u8; 2 * Columns::NARROW];
-    let mut ys = [0u16; Columns::NARROW + 1];
-    let mut s = [0u16; Columns::NARROW + 1];
-    in_store(chain, &mut out, &mut ys, &mut s)
-}
-
-// Whether a room of at most 2,048 steps is convex.
-fn wider(chain: &[u8]) -> bool
-    requires { Digits chain.now × (length chain.now ≤ wider_size) }
-    ensures { (c : Corner) → end_from c chain.now ≡ c → result ≡ convex_of c chain.now }
-{
-    let mut out = [0u8; 2 * Columns::WIDER];
-    let mut ys = [0u16; Columns::WIDER + 1];
-    let mut s = [0u16; Columns::WIDER + 1];
-    in_store(chain, &mut out, &mut ys, &mut s)
-}
-
-// Whether a room of at most 16,384 steps is convex.
-fn widest(chain: &[u8]) -> bool
-    requires { Digits chain.now × (length chain.now ≤ middle) }
-    ensures { (c : Corner) → end_from c chain.now ≡ c → result ≡ convex_of c chain.now }
-{
-    let mut out = [0u8; 2 * Limits::MOST_STEPS];
-    let mut ys = [0u16; Limits::MOST_STEPS + 1];
-    let mut s = [0u16; Limits::MOST_STEPS + 1];
-    in_store(chain, &mut out, &mut ys, &mut s)
+    let mut out = [[0u8; N]; 2];
+    let mut ys = [0u16; N];
+    let mut s = [0u16; N];
+    in_store(chain, out.as_flattened_mut(), &mut ys, &mut s)
 }
 
 // Whether a room is convex, whatever corner it starts from.
@@ -159,13 +130,13 @@ fn is_convex(chain: &[u8]) -> bool
     requires { Digits chain.now × (length chain.now ≤ middle) }
     ensures { (c : Corner) → end_from c chain.now ≡ c → result ≡ convex_of c chain.now }
 {
-    if chain.len() <= Columns::NARROW {
-        return narrow(chain);
+    if chain.len() < NARROW {
+        return in_sized::<NARROW>(chain);
     }
-    if chain.len() <= Columns::WIDER {
-        return wider(chain);
+    if chain.len() < WIDER {
+        return in_sized::<WIDER>(chain);
     }
-    widest(chain)
+    in_sized::<WIDEST>(chain)
 }
 
 // Whether a room is convex, whatever corner it starts from, if its box has this many columns and rows of corners. First its
@@ -182,35 +153,21 @@ fn decide(chain: &[u8], width: usize, height: usize) -> bool
     is_convex(chain)
 }
 
-// 1 for yes, 0 for no.
-fn counted(b: bool) -> Counted
-    ensures { result ≡ Counted.Many (tally b) }
-{
-    if b {
-        return Counted::Many(1);
-    }
-    Counted::Many(0)
-}
-
 // Tells whether a walk with this box is a room, and whether it is convex, from any start that is not refused.
-fn tell_in(chain: &[u8], b: WalkBox) -> Counted
+fn tell_in(chain: &[u8], b: WalkBox) -> Result<usize, Refusal>
     requires { Boxable chain.now × Boxed chain.now b.width b.height b.from b.closed }
-    ensures { (c : Corner) → as_walk_judged c chain.now ≡ Good → ConvexCall c chain.now result }
+    ensures { (c : Corner) → as_walk_judged c chain.now ≡ Ok tt → ConvexCall c chain.now result }
 {
-    let width = b.width;
-    let height = b.height;
     if !is_room_in(chain, b) {
-        return Counted::Refused(Refusal::NotRoom);
+        return Err(Refusal::NotRoom);
     }
-    counted(decide(chain, width, height))
+    Ok(usize::from(decide(chain, b.width, b.height)))
 }
 
 // Says whether a room is convex: 1 for yes and 0 for no.
-pub fn tell(start: Corner, chain: &[u8]) -> Counted
+pub fn tell(start: Corner, chain: &[u8]) -> Result<usize, Refusal>
     ensures { ConvexCall start chain.now result }
 {
-    match chain_judge::judge(start, chain) {
-        Judged::Good => tell_in(chain, enclose(chain)),
-        Judged::Refused(r) => Counted::Refused(r),
-    }
+    chain_judge::judge(start, chain)?;
+    tell_in(chain, enclose(chain))
 }

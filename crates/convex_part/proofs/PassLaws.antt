@@ -59,22 +59,30 @@ module _ (ys : List ℕ) (p b : ℕ) where
       none : 0 ≡ b - c
       none = omega arith
 
--- the neighbours of the chain: those from place q on are left
+-- the neighbours of the chain: those from the one before place q on are left
 module _ (ys s : List ℕ) where
-  there : (q p b : ℕ) → q + 1 < length s → p ≡ get_or s q 0 → b ≡ get_or s (q + 1) 0 → level_along ys (drop q s) ≡ (levels ys p b (p + 1) (b - (p + 1)) && level_along ys (drop (q + 1) s))
+  there : (q p b : ℕ) → 0 < q → q < length s → p ≡ get_or s (q - 1) 0 → b ≡ get_or s q 0 → level_along ys (drop (q - 1) s) ≡ (levels ys p b (p + 1) (b - (p + 1)) && level_along ys (drop q s))
   unfolding level_along
-  there q p b h e f =
-      ap (level_along ys) (drop-cons s q 0 (omega arith) ∙ ap₂ (λ (x : ℕ) (l : List ℕ). x ∷ l) (sym e) (ap (λ (i : ℕ). drop i s) (sym (add-one q)) ∙ tail))
+  there q p b g h e f =
+      ap (level_along ys) (drop-cons s (q - 1) 0 (omega arith) ∙ ap₂ (λ (x : ℕ) (l : List ℕ). x ∷ l) (sym e) (ap (λ (i : ℕ). drop i s) after ∙ tail))
       ∙ ap₂ (λ (m : ℕ) (l : List ℕ). levels ys p b m (b - m) && level_along ys l) (sym (add-one p)) (sym tail)
     where
-      tail : drop (q + 1) s ≡ b ∷ drop (suc (q + 1)) s
-      tail = drop-cons s (q + 1) 0 h ∙ ap (λ (x : ℕ). x ∷ drop (suc (q + 1)) s) (sym f)
+      after : suc (q - 1) ≡ q
+      after = omega arith
 
-  pub along_here : (q p b : ℕ) → q + 1 < length s → p ≡ get_or s q 0 → b ≡ get_or s (q + 1) 0 → levels ys p b (p + 1) (b - (p + 1)) ≡ false → false ≡ level_along ys (drop q s)
-  along_here q p b h e f t = sym (there q p b h e f ∙ and_false (levels ys p b (p + 1) (b - (p + 1))) (level_along ys (drop (q + 1) s)) t)
+      tail : drop q s ≡ b ∷ drop (suc q) s
+      tail = drop-cons s q 0 h ∙ ap (λ (x : ℕ). x ∷ drop (suc q) s) (sym f)
 
-  pub along-next : (q p b : ℕ) → q + 1 < length s → p ≡ get_or s q 0 → b ≡ get_or s (q + 1) 0 → levels ys p b (p + 1) (b - (p + 1)) ≡ true → level_along ys (drop (q + 1) s) ≡ level_along ys (drop q s)
-  along-next q p b h e f t = sym (there q p b h e f ∙ and_true (levels ys p b (p + 1) (b - (p + 1))) (level_along ys (drop (q + 1) s)) t)
+  pub along_here : (q p b : ℕ) → 0 < q → q < length s → p ≡ get_or s (q - 1) 0 → b ≡ get_or s q 0 → levels ys p b (p + 1) (b - (p + 1)) ≡ false → false ≡ level_along ys (drop (q - 1) s)
+  along_here q p b g h e f t = sym (there q p b g h e f ∙ and_false (levels ys p b (p + 1) (b - (p + 1))) (level_along ys (drop q s)) t)
+
+  pub along-next : (q p b : ℕ) → 0 < q → q < length s → p ≡ get_or s (q - 1) 0 → b ≡ get_or s q 0 → levels ys p b (p + 1) (b - (p + 1)) ≡ true → level_along ys (drop (q + 1 - 1) s) ≡ level_along ys (drop (q - 1) s)
+  along-next q p b g h e f t =
+      ap (λ (i : ℕ). level_along ys (drop i s)) same
+      ∙ sym (there q p b g h e f ∙ and_true (levels ys p b (p + 1) (b - (p + 1))) (level_along ys (drop q s)) t)
+    where
+      same : q + 1 - 1 ≡ q
+      same = omega arith
 
   few : (l : List ℕ) → length l < 2 → true ≡ level_along ys l
   unfolding level_along
@@ -82,8 +90,8 @@ module _ (ys s : List ℕ) where
   few (p ∷ []) h = refl
   few (p ∷ (b ∷ l)) h = let z : ⊥ = omega arith in absurd z
 
-  pub along-none : (q : ℕ) → length s ≤ q + 1 → true ≡ level_along ys (drop q s)
-  along-none q h = few (drop q s) (omega (arith, length-drop q s))
+  pub along-none : (q : ℕ) → length s ≤ q → true ≡ level_along ys (drop (q - 1) s)
+  along-none q h = few (drop (q - 1) s) (omega (arith, length-drop (q - 1) s))
 
 -- the letters of a part, turned: those from place i on are left
 pub length-turned : (i : ℕ) (ds : List ℕ) → length (turned_by i ds) ≡ length ds

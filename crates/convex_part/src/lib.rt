@@ -7,16 +7,16 @@ ghost use Rattle.convex_laws.specs.Level.{depths_from, are_letters, level, level
 ghost use Rattle.convex_part.specs.Steps.{over, under, Rises, Digits};
 
 use hull_chains::scan;
-use order::wide;
 
 // Whether one step above depth c, w columns right of p, lies above the straight line from depth p to depth b, u columns right of
 // it.
+#[tactic(auto, using(crate::proofs::ProductLaws::times_lt))]
 fn above(u: usize, w: usize, p: u16, b: u16, c: u16) -> bool
     requires { (u < 65536) × (w < 65536) }
     ensures { result ≡ ltb (u * c + w * p) (w * b + u * p + u) }
 {
-    let h = p as usize;
-    u * (c as usize) + w * h < w * (b as usize) + u * h + u
+    let p = usize::from(p);
+    u * usize::from(c) + w * p < w * usize::from(b) + u * p + u
 }
 
 // Whether the grid point next above column c lies above the straight line from column p to column b.
@@ -32,12 +32,10 @@ fn edge(ys: &[u16], p: usize, b: usize) -> bool
     requires { (p < b) × (b < length ys.now) × (length ys.now ≤ 65536) }
     ensures { result ≡ levels ys.now p b (p + 1) (b - (p + 1)) }
 {
-    let mut c = p + 1;
-    while c < b {
+    for c in p + 1..b {
         if !stands(ys, p, b, c) {
             return false;
         }
-        c += 1;
     }
     true
 }
@@ -47,14 +45,12 @@ fn along(ys: &[u16], s: &[u16], a: usize) -> bool
     requires { Rises (length ys.now) s.now a × (length ys.now ≤ 65536) }
     ensures { result ≡ level_along ys.now (drop a s.now) }
 {
-    let mut q = a;
-    while q + 1 < s.len() {
-        let p = wide(s[q]);
-        let b = wide(s[q + 1]);
+    for q in a + 1..s.len() {
+        let p = usize::from(s[q - 1]);
+        let b = usize::from(s[q]);
         if !edge(ys, p, b) {
             return false;
         }
-        q += 1;
     }
     true
 }
@@ -72,12 +68,10 @@ fn plain(part: &[u8], turn: u8) -> bool
     requires { Digits part.now × (turn < 4) }
     ensures { result ≡ are_letters (turned_by turn part.now) }
 {
-    let mut i = 0;
-    while i < part.len() {
-        if letter(part[i], turn) > 1 {
+    for &d in part {
+        if letter(d, turn) > 1 {
             return false;
         }
-        i += 1;
     }
     true
 }
@@ -87,7 +81,7 @@ fn column(k: usize, d: u8) -> usize
     requires { k < 65536 }
     ensures { result ≡ over k d }
 {
-    k + (d == 0) as usize
+    k + usize::from(d == 0)
 }
 
 // The depth after a letter.
@@ -95,7 +89,7 @@ fn depth(y: u16, d: u8) -> u16
     requires { 0 < y }
     ensures { result ≡ under y d }
 {
-    y - (d != 0) as u16
+    y - u16::from(d != 0)
 }
 
 // Writes the depths of the columns of a part, turned, and answers how many columns it has.
@@ -106,13 +100,11 @@ fn dig(part: &[u8], turn: u8, ys: &mut [u16]) -> usize
 {
     let mut y = part.len() as u16;
     let mut k = 0;
-    let mut i = 0;
-    while i < part.len() {
+    for &step in part {
         ys[k] = y;
-        let d = letter(part[i], turn);
+        let d = letter(step, turn);
         k = column(k, d);
         y = depth(y, d);
-        i += 1;
     }
     ys[k] = y;
     k + 1

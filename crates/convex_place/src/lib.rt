@@ -7,7 +7,6 @@ ghost use Rattle.convex_laws.specs.Place.{rank, rank_at, place_of};
 ghost use Rattle.convex_laws.specs.Way.{north_in, south_in, column_sum};
 
 use columns::{Columns, column, height};
-use order::lesser;
 
 // The number of the corner in column x at height y, after some quarter turns.
 fn number(turn: u8, x: usize, y: usize) -> usize
@@ -27,7 +26,7 @@ fn number_at(turn: u8, x: usize, y: u16, i: usize) -> usize
     requires { (x ≤ top) × (y ≤ top) × (i ≤ middle) }
     ensures { result ≡ rank_at turn x y i }
 {
-    number(turn, x, y as usize) * 32768 + i
+    number(turn, x, usize::from(y)) * 32768 + i
 }
 
 // The place of the first extremal corner: of the lowest on the left, or of the one that is so after some quarter turns.
@@ -38,13 +37,10 @@ pub fn place(chain: &[u8], turn: u8) -> usize
     let mut x = Columns::MIDDLE;
     let mut y = Columns::LEVEL;
     let mut least = number_at(turn, x, y, 0);
-    let mut i = 0;
-    while i < chain.len() {
-        let d = chain[i];
+    for (i, &d) in chain.iter().enumerate() {
         x = column(x, d);
         y = height(y, d);
-        i += 1;
-        least = lesser(least, number_at(turn, x, y, i));
+        least = least.min(number_at(turn, x, y, i + 1));
     }
     least % 32768
 }
@@ -54,7 +50,7 @@ fn north(x: usize, d: u8) -> usize
     requires { x ≤ top }
     ensures { result ≡ north_in x d }
 {
-    x * (d == 1) as usize
+    x * usize::from(d == 1)
 }
 
 // The column of a step south, 0 for another step.
@@ -62,7 +58,7 @@ fn south(x: usize, d: u8) -> usize
     requires { x ≤ top }
     ensures { result ≡ south_in x d }
 {
-    x * (d > 2) as usize
+    x * usize::from(d > 2)
 }
 
 // Whether the columns of the steps north have the greater sum: then a closed walk goes round with its inside on the left.
@@ -73,13 +69,10 @@ pub fn leftward(chain: &[u8]) -> bool
     let mut x = Columns::MIDDLE;
     let mut up = 0;
     let mut down = 0;
-    let mut i = 0;
-    while i < chain.len() {
-        let d = chain[i];
+    for &d in chain {
         up += north(x, d);
         down += south(x, d);
         x = column(x, d);
-        i += 1;
     }
     down < up
 }

@@ -1,5 +1,6 @@
 -- The facts and the buffers of an accepted walk.
 -- Assumes nothing.
+use Rattle.std.specs.Prelude.{Ok}
 use mathlib.Core.List.{List, []}
 use mathlib.Core.Logic.{◌⊎◌, inl, inr}
 use mathlib.Core.Path.{◌≡◌, refl, ap, sym, ◌∙◌, subst}
@@ -8,9 +9,7 @@ use native.Mathlib.Omega.{arith}
 use lib.IntN.{pos, nat_abs}
 use lib.ListN.{length, get_or}
 use lib.Seq.{take-length}
-use Rattle.answer.specs.declared.Answer.{Answer}
 use Rattle.answer.specs.declared.Facts.{Facts}
-use Rattle.answer.specs.declared.Judged.TheVariants.{Good}
 use Rattle.answer.specs.Limits.{no_meeting}
 use Rattle.grid.specs.declared.Corner.{Corner}
 use Rattle.grid.specs.Grid.{origin, corners_from}
@@ -46,7 +45,7 @@ meeting_is_lem c ds = by (meeting_of c ds) refl
     by none e = inr (refl, refl, meeting_of-none c ds e)
     by (meet j k) e = inl (meeting_of_meets c ds j k e)
 
-module _ {c : Corner} {os t ms ch t' ms' ch' : List ℕ} {f : Facts} (w : WalkIs c os t ms ch (Answer.Accepted f) t' ms' ch') where
+module _ {c : Corner} {os t ms ch t' ms' ch' : List ℕ} {f : Facts} (w : WalkIs c os t ms ch (Ok f) t' ms' ch') where
   abbrev ds : List ℕ
   ds = survivors os
 
@@ -89,7 +88,7 @@ module _ {c : Corner} {os t ms ch t' ms' ch' : List ℕ} {f : Facts} (w : WalkIs
   pub its_lengths : (length t' ≡ length t) × (length ms' ≡ length ms) × (length ch' ≡ length ch)
   its_lengths = by (its_occasion w)
     where
-      by : GivenWalk c os (length t) (length ms) (length ch) Good → (length t' ≡ length t) × (length ms' ≡ length ms) × (length ch' ≡ length ch)
+      by : GivenWalk c os (length t) (length ms) (length ch) (Ok tt) → (length t' ≡ length t) × (length ms' ≡ length ms) × (length ch' ≡ length ch)
       by (goal.accepted h a) =
           let n : length (nodes_of (corners_from c (survivors os))) ≤ records_in (length t) =
           subst (λ (l : List ℕ). length (nodes_of (corners_from c (survivors l))) ≤ records_in (length t)) (take-length os) (a (length os) (omega arith)) in

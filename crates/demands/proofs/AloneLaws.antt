@@ -1,5 +1,6 @@
 -- The record of the surviving steps alone gives the same; the nodes at every moment; and tables that are large enough.
 -- Assumes nothing.
+use Rattle.std.specs.Prelude.{Err, Ok}
 use mathlib.Core.List.{List, [], ◌++◌, append-nil, Memᴰ}
 use mathlib.Core.Path.{◌≡◌, refl, ap, ap₂, sym, ◌∙◌, subst}
 use Prim.Native.Nat.{ℕ, suc, ◌+◌, ◌-◌, ◌*◌, ◌<◌, ◌≤◌}
@@ -7,10 +8,8 @@ use native.Mathlib.Omega.{arith}
 use lib.IntN.{nat_abs}
 use lib.ListN.{length, get_or, take, replicate}
 use lib.Seq.{take_at, take-take, get_or-take, length-take-le}
-use Rattle.answer.specs.declared.Answer.{Answer}
+use Rattle.answer.specs.Answers.{Answer, Judged}
 use Rattle.answer.specs.declared.Facts.{Facts}
-use Rattle.answer.specs.declared.Judged.{Judged}
-use Rattle.answer.specs.declared.Judged.TheVariants.{Good}
 use Rattle.answer.specs.declared.Refusal.TheVariants.{NoRoom}
 use Rattle.answer.specs.Limits.{most_steps, farthest, Near}
 use Rattle.grid.specs.declared.Corner.{Corner}
@@ -40,13 +39,13 @@ chain_alone ds e =
     ap₂ (λ (s : List ℕ) (k : ℕ). s ++ replicate k 0) e n ∙ append-nil ds
 
 -- the first words of the chain are the surviving steps
-chain_steps : {c : Corner} {os t ms ch t' ms' ch' : List ℕ} {f : Facts} → WalkIs c os t ms ch (Answer.Accepted f) t' ms' ch' → take f.steps ch' ≡ survivors os
+chain_steps : {c : Corner} {os t ms ch t' ms' ch' : List ℕ} {f : Facts} → WalkIs c os t ms ch (Ok f) t' ms' ch' → take f.steps ch' ≡ survivors os
 chain_steps {os = os} w =
     ap₂ (λ (k : ℕ) (l : List ℕ). take k l) (ap (λ (g : Facts). g.steps) (its_facts w)) (its-chain w)
     ∙ take_at (survivors os) (replicate (length os - length (survivors os)) 0) (length (survivors os)) refl
 
 module _ {c : Corner} {os t ms ch t' ms' ch' t₁ ms₁ ch₁ t₂ ms₂ ch₂ : List ℕ} {f : Facts} {r : Answer}
-    (w : WalkIs c os t ms ch (Answer.Accepted f) t' ms' ch') (v : WalkIs c (survivors os) t₁ ms₁ ch₁ r t₂ ms₂ ch₂)
+    (w : WalkIs c os t ms ch (Ok f) t' ms' ch') (v : WalkIs c (survivors os) t₁ ms₁ ch₁ r t₂ ms₂ ch₂)
     (lent : LentAlone (survivors os) t t₁ ms₁ ch₁) where
   abbrev ds : List ℕ
   ds = survivors os
@@ -54,14 +53,14 @@ module _ {c : Corner} {os t ms ch t' ms' ch' t₁ ms₁ ch₁ t₂ ms₂ ch₂ :
   kept : survivors ds ≡ ds
   kept = (alone c os (length t) (length ms) (length ch) (judged_good w)).0
 
-  good : walk_judged c ds (length t₁) (length ms₁) (length ch₁) ≡ Good
+  good : walk_judged c ds (length t₁) (length ms₁) (length ch₁) ≡ Ok tt
   good = rw (lent.table, lent.marks, lent.chain) (alone c os (length t) (length ms) (length ch) (judged_good w)).1
 
-  pub same_answer : r ≡ Answer.Accepted f
+  pub same_answer : r ≡ Ok f
   same_answer =
       v.answer
       ∙ ap₂ answer_by good (ap (facts_of c) kept)
-      ∙ ap (λ (g : Facts). Answer.Accepted g) (sym (its_facts w))
+      ∙ ap (λ (g : Facts). Ok g) (sym (its_facts w))
 
   pub same_table : t₂ ≡ t'
   same_table =
@@ -121,18 +120,18 @@ module _ {c : Corner} {os : List ℕ} {words marks chain : ℕ} (f : Faultless c
 
 -- ---- tables that are large enough at every moment
 module _ {c : Corner} {os t ms ch t' ms' ch' : List ℕ} {r : Answer} (w : WalkIs c os t ms ch r t' ms' ch') where
-  pub enough_four : ((k : ℕ) → k ≤ length os → 4 * corners_after c os k + 64 ≤ records_in (length t)) → (i : ℕ) → r ≡ Answer.Refused (NoRoom i) → ⊥
+  pub enough_four : ((k : ℕ) → k ≤ length os → 4 * corners_after c os k + 64 ≤ records_in (length t)) → (i : ℕ) → r ≡ Err (NoRoom i) → ⊥
   enough_four f i e =
       let n = (no_room-at w i).0 e in
       let k = n.1.0 in
       let m : k ≤ length os = omega (arith, n.1.1.inside) in
       omega (arith, f k m, n.1.1.here, four_and_start n.0 k m)
 
-  pub enough_eight : ((k : ℕ) → k ≤ length os → 8 * corners_after c os k + 68 ≤ records_in (length t)) → (i : ℕ) → r ≡ Answer.Refused (NoRoom i) → ⊥
+  pub enough_eight : ((k : ℕ) → k ≤ length os → 8 * corners_after c os k + 68 ≤ records_in (length t)) → (i : ℕ) → r ≡ Err (NoRoom i) → ⊥
   enough_eight f = enough_four (λ k h. omega (arith, f k h))
 
   -- whatever the walk
-  pub enough_largest : 65604 ≤ records_in (length t) → (i : ℕ) → r ≡ Answer.Refused (NoRoom i) → ⊥
+  pub enough_largest : 65604 ≤ records_in (length t) → (i : ℕ) → r ≡ Err (NoRoom i) → ⊥
   enough_largest l i e =
       let n = (no_room-at w i).0 e in
       let k = n.1.0 in
@@ -140,7 +139,7 @@ module _ {c : Corner} {os t ms ch t' ms' ch' : List ℕ} {r : Answer} (w : WalkI
       omega (arith, n.1.1.here, four_and_start n.0 k m, most_corners_lem n.0 k m)
 
 -- from the origin
-pub enough_origin : {os t ms ch t' ms' ch' : List ℕ} {r : Answer} → WalkIs origin os t ms ch r t' ms' ch' → ((k : ℕ) → k ≤ length os → 4 * corners_after origin os k ≤ records_in (length t) + 3) → (i : ℕ) → r ≡ Answer.Refused (NoRoom i) → ⊥
+pub enough_origin : {os t ms ch t' ms' ch' : List ℕ} {r : Answer} → WalkIs origin os t ms ch r t' ms' ch' → ((k : ℕ) → k ≤ length os → 4 * corners_after origin os k ≤ records_in (length t) + 3) → (i : ℕ) → r ≡ Err (NoRoom i) → ⊥
 enough_origin {os} w f i e =
     let n = ((no_room-at w i).0 e).1 in
     omega (arith, f n.0 (omega (arith, n.1.inside)), n.1.here, four_less-three os n.0)

@@ -1,5 +1,6 @@
 -- No operation changes more than 32 records.
 -- Assumes nothing.
+use Rattle.std.specs.Prelude.{Ok}
 use mathlib.Core.Bool.{Bool, true, false, cond, true≢false}
 use mathlib.Core.List.{List, [], ◌∷◌, ◌++◌}
 use mathlib.Core.Logic.{⊎_elim}
@@ -7,9 +8,7 @@ use mathlib.Core.Path.{◌≡◌, refl, ap, ap₂, sym, ◌∙◌, subst}
 use Prim.Native.Nat.{ℕ, zero, suc, ◌+◌, ◌*◌, ◌<◌, ◌≤◌}
 use native.Mathlib.Omega.{arith}
 use lib.ListN.{length, get_or, take, length-append}
-use Rattle.answer.specs.declared.Answer.{Answer}
 use Rattle.answer.specs.declared.Facts.{Facts}
-use Rattle.answer.specs.declared.Judged.TheVariants.{Good}
 use Rattle.answer.specs.Limits.{most_steps, Near}
 use Rattle.grid.specs.declared.Corner.{Corner}
 use Rattle.grid.specs.Grid.{same, stepped, corners_from, end_from}
@@ -125,13 +124,13 @@ one_operation c ds es o n v w f e =
     subst (λ (l : List ℕ). changes_of c ds l ≤ 32) (sym r) (one_step c ds o n (subst Walkable r w)))
     f
 
-pub its_fewer : {c : Corner} {os t ms ch t' ms' ch' : List ℕ} {f : Facts} → WalkIs c os t ms ch (Answer.Accepted f) t' ms' ch' → (k : ℕ) → k < length os → get_or ms' (mark_words * k + 2) 0 ≤ 32
+pub its_fewer : {c : Corner} {os t ms ch t' ms' ch' : List ℕ} {f : Facts} → WalkIs c os t ms ch (Ok f) t' ms' ch' → (k : ℕ) → k < length os → get_or ms' (mark_words * k + 2) 0 ≤ 32
 its_fewer {c} {os} {t} {ms} {ch} {ms' = ms'} w k h = by (its_occasion w)
   where
-    by : GivenWalk c os (length t) (length ms) (length ch) Good → get_or ms' (mark_words * k + 2) 0 ≤ 32
+    by : GivenWalk c os (length t) (length ms) (length ch) (Ok tt) → get_or ms' (mark_words * k + 2) 0 ≤ 32
     by (goal.accepted g a) =
         subst (λ (n : ℕ). n ≤ 32) (sym (its-mark w k h).2)
         (one_operation c (steps_after os k) (steps_after os (suc k)) (get_or os k 0) g.sized.start (walkable_after os g.fine k (omega arith)) (walkable_after os g.fine (suc k) h) (g.fine k h) (steps_next [] os k h))
 
-pub its_few : {c : Corner} {os t ms ch t' ms' ch' : List ℕ} {f : Facts} → WalkIs c os t ms ch (Answer.Accepted f) t' ms' ch' → (k : ℕ) → k < length os → get_or ms' (mark_words * k + 2) 0 ≤ 33
+pub its_few : {c : Corner} {os t ms ch t' ms' ch' : List ℕ} {f : Facts} → WalkIs c os t ms ch (Ok f) t' ms' ch' → (k : ℕ) → k < length os → get_or ms' (mark_words * k + 2) 0 ≤ 33
 its_few w k h = omega (arith, its_fewer w k h)

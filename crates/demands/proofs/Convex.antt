@@ -1,11 +1,13 @@
 -- What is asked of the call that says whether a room is convex (RULES 17), as theorems about its promise, `ConvexCall`. Each is
 -- proved by naming a law. Assumes nothing.
+use Rattle.std.specs.Prelude.{Err, Ok}
 use mathlib.Core.List.{List, [], ◌∷◌, map}
 use mathlib.Core.Logic.{◌↔◌}
 use mathlib.Core.Path.{◌≡◌, ap}
 use Prim.Native.Nat.{ℕ, ◌<◌}
+use Rattle.answer.specs.Answers.{Counted}
 use Rattle.lists.specs.Lists.{Below}
-use Rattle.answer.specs.declared.{Counted.Counted, Judged.TheVariants.Good, Judged.TheVariants.Refused, Refusal.Refusal}
+use Rattle.answer.specs.declared.{Refusal.Refusal}
 use Rattle.answer.specs.Refusal.{refusal_number, refusal_place}
 use Rattle.answer.specs.Words.{counted_words}
 use Rattle.grid.specs.declared.{Corner.Corner, Panel.Panel}
@@ -34,47 +36,47 @@ convex_call_one = convex_laws.convex_call_one
 
 module _ {s : Corner} {ds : List ℕ} {r : Counted} (w : ConvexCall s ds r) where
   -- "Refusals: 12", after 1, 10, 4 and 6: each exactly on its occasion
-  pub convex_refused_exactly : (q : Refusal) → r ≡ Counted.Refused q ↔ GivenRoom s ds (Refused q)
+  pub convex_refused_exactly : (q : Refusal) → r ≡ Err q ↔ GivenRoom s ds (Err q)
   convex_refused_exactly = convex_call_laws.convex_refused_when w
 
   -- yes exactly for a convex room
-  pub convex_yes_exactly : r ≡ Counted.Many 1 ↔ (GivenRoom s ds Good × ConvexRoom s ds)
+  pub convex_yes_exactly : r ≡ Ok 1 ↔ (GivenRoom s ds (Ok tt) × ConvexRoom s ds)
   convex_yes_exactly = convex_call_laws.convex_yes_when w
 
   -- no exactly for a room that is not convex
-  pub convex_no_exactly : r ≡ Counted.Many 0 ↔ (GivenRoom s ds Good × (ConvexRoom s ds → ⊥))
+  pub convex_no_exactly : r ≡ Ok 0 ↔ (GivenRoom s ds (Ok tt) × (ConvexRoom s ds → ⊥))
   convex_no_exactly = convex_call_laws.convex_no_when w
 
   -- "Yes exactly when each part uses only its two letters and no grid point off the part lies between it and the upper convex
   -- hull of its points, the hull line included": each of the four
-  pub convex_yes_parts : r ≡ Counted.Many 1
-      ↔ (GivenRoom s ds Good × ((i : ℕ) → i < 4 → (w : List ℕ) → PartIs i s (clockwise s ds) w → ConvexPart (turned_by i w)))
+  pub convex_yes_parts : r ≡ Ok 1
+      ↔ (GivenRoom s ds (Ok tt) × ((i : ℕ) → i < 4 → (w : List ℕ) → PartIs i s (clockwise s ds) w → ConvexPart (turned_by i w)))
   convex_yes_parts = convex_call_laws.yes_parts_when w
 
   -- and no exactly when some part is not so
-  pub convex_no_part : r ≡ Counted.Many 0 ↔ (GivenRoom s ds Good
+  pub convex_no_part : r ≡ Ok 0 ↔ (GivenRoom s ds (Ok tt)
       × ((i : ℕ) × (i < 4) × (w : List ℕ) × PartIs i s (clockwise s ds) w × (ConvexPart (turned_by i w) → ⊥)))
   convex_no_part = convex_call_laws.no_part_when w
 
   -- in other words: yes exactly if every panel whose centre lies in the convex hull of the centres of the room's panels is one of
   -- them
-  pub convex_yes_centres : r ≡ Counted.Many 1 ↔ (GivenRoom s ds Good × ((q : Panel) → InHull (Inside s ds) q → Inside s ds q))
+  pub convex_yes_centres : r ≡ Ok 1 ↔ (GivenRoom s ds (Ok tt) × ((q : Panel) → InHull (Inside s ds) q → Inside s ds q))
   convex_yes_centres = convex_call_laws.yes_centres_when w
 
   -- and no exactly if not every such panel is
-  pub convex_no_centres : r ≡ Counted.Many 0
-      ↔ (GivenRoom s ds Good × (((q : Panel) → InHull (Inside s ds) q → Inside s ds q) → ⊥))
+  pub convex_no_centres : r ≡ Ok 0
+      ↔ (GivenRoom s ds (Ok tt) × (((q : Panel) → InHull (Inside s ds) q → Inside s ds q) → ⊥))
   convex_no_centres = convex_call_laws.no_centres_when w
 
   -- the numbers of each
-  pub convex_refused_words : (q : Refusal) → GivenRoom s ds (Refused q)
+  pub convex_refused_words : (q : Refusal) → GivenRoom s ds (Err q)
       → counted_words r ≡ refusal_number q ∷ refusal_place q ∷ 0 ∷ []
   convex_refused_words q g = ap counted_words ((convex_refused_exactly q).1 g)
 
-  pub convex_yes_words : GivenRoom s ds Good → ConvexRoom s ds → counted_words r ≡ 0 ∷ 0 ∷ 1 ∷ []
+  pub convex_yes_words : GivenRoom s ds (Ok tt) → ConvexRoom s ds → counted_words r ≡ 0 ∷ 0 ∷ 1 ∷ []
   convex_yes_words g h = ap counted_words (convex_yes_exactly.1 (g, h))
 
-  pub convex_no_words : GivenRoom s ds Good → (ConvexRoom s ds → ⊥) → counted_words r ≡ 0 ∷ 0 ∷ 0 ∷ []
+  pub convex_no_words : GivenRoom s ds (Ok tt) → (ConvexRoom s ds → ⊥) → counted_words r ≡ 0 ∷ 0 ∷ 0 ∷ []
   convex_no_words g h = ap counted_words (convex_no_exactly.1 (g, h))
 
 module _ (c : Corner) (ds : List ℕ) (r : IsRoom c ds) where

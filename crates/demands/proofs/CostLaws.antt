@@ -1,5 +1,6 @@
 -- What the steps of a walk change in all: each record above the two ends of a step, but one, has a link more than before, and no record has more than four.
 -- Assumes nothing.
+use Rattle.std.specs.Prelude.{Ok}
 use mathlib.Core.Bool.{Bool, true, false, cond, true≢false}
 use mathlib.Core.List.Memᴰ
 use mathlib.Core.List.{List, [], ◌∷◌, ◌++◌, Memᴰ}
@@ -11,9 +12,7 @@ use borrow.Author.Tests.{ltb-true, lt-ltb}
 use lib.Dec.{ltb}
 use lib.ListN.{length, get_or, take, length-append}
 use lib.Seq.{take-length}
-use Rattle.answer.specs.declared.Answer.{Answer}
 use Rattle.answer.specs.declared.Facts.{Facts}
-use Rattle.answer.specs.declared.Judged.TheVariants.{Good}
 use Rattle.grid.specs.declared.Corner.{Corner}
 use Rattle.grid.specs.Grid.{origin, same, stepped, corners_from, end_from}
 use Rattle.grid.specs.Tree.{parent_of, is_root, size_of, path_of}
@@ -316,7 +315,7 @@ steps_cost c os b (suc n) h =
       ap (links_of c) next,
     )
 
-module _ {c : Corner} {os t ms ch t' ms' ch' : List ℕ} {f : Facts} (w : WalkIs c os t ms ch (Answer.Accepted f) t' ms' ch') (steps : Below 4 os) where
+module _ {c : Corner} {os t ms ch t' ms' ch' : List ℕ} {f : Facts} (w : WalkIs c os t ms ch (Ok f) t' ms' ch') (steps : Below 4 os) where
   abbrev thirds : ℕ
   thirds = sum_to (length os) (λ k. get_or ms' (mark_words * k + 2) 0)
 
@@ -335,7 +334,7 @@ module _ {c : Corner} {os t ms ch t' ms' ch' : List ℕ} {f : Facts} (w : WalkIs
   pub its_cost : sum_to (length os) (λ k. get_or ms' (mark_words * k + 2) 0) ≤ 3 * length os + 16 * f.corners + 256
   its_cost = by (its_occasion w)
     where
-      by : GivenWalk c os (length t) (length ms) (length ch) Good → thirds ≤ 3 * length os + 16 * f.corners + 256
+      by : GivenWalk c os (length t) (length ms) (length ch) (Ok tt) → thirds ≤ 3 * length os + 16 * f.corners + 256
       by (goal.accepted g a) = omega (arith, its-sum, its-corners, four_and_start g (length os) (omega arith))
 
   few_corners : f.corners ≤ suc (length os)
@@ -346,5 +345,5 @@ module _ {c : Corner} {os t ms ch t' ms' ch' : List ℕ} {f : Facts} (w : WalkIs
   pub its_line : sum_to (length os) (λ k. get_or ms' (mark_words * k + 2) 0) ≤ 19 * length os + 272
   its_line = omega (arith, its_cost, few_corners)
 
-pub its_cost_origin : {os t ms ch t' ms' ch' : List ℕ} {f : Facts} → WalkIs origin os t ms ch (Answer.Accepted f) t' ms' ch' → Below 4 os → sum_to (length os) (λ k. get_or ms' (mark_words * k + 2) 0) + 12 ≤ 3 * length os + 16 * f.corners
+pub its_cost_origin : {os t ms ch t' ms' ch' : List ℕ} {f : Facts} → WalkIs origin os t ms ch (Ok f) t' ms' ch' → Below 4 os → sum_to (length os) (λ k. get_or ms' (mark_words * k + 2) 0) + 12 ≤ 3 * length os + 16 * f.corners
 its_cost_origin {os} w b = omega (arith, its-sum w b, its-corners w b, four_less-three os (length os))

@@ -1,6 +1,7 @@
 -- What the three demands ask for, as theorems about the promises: `WalkIs` of the walk, `ConvertedBy` of the turns, `HullCall` of
 -- the hull.
 -- Each is proved by naming a law. Assumes nothing.
+use Rattle.std.specs.Prelude.{Err, Ok}
 use mathlib.Core.List.{List, [], ◌∷◌, ◌++◌, Memᴰ}
 use mathlib.Core.Logic.{◌⊎◌, ◌↔◌}
 use mathlib.Core.Path.{◌≡◌, ap}
@@ -8,11 +9,8 @@ use Prim.Native.Nat.{ℕ, suc, ◌+◌, ◌-◌, ◌*◌, ◌%◌, ◌<◌, ◌�
 use lib.IntN.{ℤ, pos, negsuc, neg_ℤ, nat_abs}
 use lib.ListN.{length, get_or, take, drop, replicate}
 use lib.Signed.{◌<ℤ◌}
-use Rattle.answer.specs.declared.Answer.{Answer}
-use Rattle.answer.specs.declared.Counted.{Counted}
+use Rattle.answer.specs.Answers.{Answer, Counted, Judged}
 use Rattle.answer.specs.declared.Facts.{Facts}
-use Rattle.answer.specs.declared.Judged.{Judged}
-use Rattle.answer.specs.declared.Judged.TheVariants.{Good, Refused}
 use Rattle.answer.specs.declared.Refusal.{Refusal}
 use Rattle.answer.specs.declared.Refusal.TheVariants.{NoRoom}
 use Rattle.answer.specs.declared.Verdict.{Verdict, TheVariants.ThereAndBack}
@@ -84,44 +82,44 @@ walk_is_one = walk_laws.walk_is_one
 module _ {c : Corner} {os t ms ch t' ms' ch' : List ℕ} {r : Answer} (w : WalkIs c os t ms ch r t' ms' ch') where
   -- "an answer or a numbered refusal": each refusal exactly on its occasion, 1, 2, 3, 10, then 4, 5, 6 at the first faulty place,
   -- then 7
-  pub refused_exactly : (q : Refusal) → r ≡ Answer.Refused q ↔ GivenWalk c os (length t) (length ms) (length ch) (Refused q)
+  pub refused_exactly : (q : Refusal) → r ≡ Err q ↔ GivenWalk c os (length t) (length ms) (length ch) (Err q)
   refused_exactly = walk_laws.refused_when w
 
   -- and acceptance exactly on its own, with the facts of the surviving steps
-  pub accepted_exactly : r ≡ Answer.Accepted (facts_of c (survivors os)) ↔ GivenWalk c os (length t) (length ms) (length ch) Good
+  pub accepted_exactly : r ≡ Ok (facts_of c (survivors os)) ↔ GivenWalk c os (length t) (length ms) (length ch) (Ok tt)
   accepted_exactly = walk_laws.accepted_when w
 
   -- the numbers of each: a refused answer holds number and place, and 0 in all other words; an accepted one 0 for both, and the
   -- facts
-  pub refused_words : (q : Refusal) → GivenWalk c os (length t) (length ms) (length ch) (Refused q)
+  pub refused_words : (q : Refusal) → GivenWalk c os (length t) (length ms) (length ch) (Err q)
       → answer_words r ≡ refusal_number q ∷ refusal_place q ∷ replicate 9 0
   refused_words q g = ap answer_words ((refused_exactly q).1 g)
 
-  pub accepted_words : GivenWalk c os (length t) (length ms) (length ch) Good
+  pub accepted_words : GivenWalk c os (length t) (length ms) (length ch) (Ok tt)
       → answer_words r ≡ facts_words (facts_of c (survivors os))
   accepted_words g = ap answer_words (accepted_exactly.1 g)
 
 module _ {c : Corner} {os t ms ch t' ms' ch' : List ℕ} where
   -- "a refusal leaves the buffers untouched"
-  pub refused_untouched : (q : Refusal) → (refusal_number q ≡ 7 → ⊥) → WalkIs c os t ms ch (Answer.Refused q) t' ms' ch'
+  pub refused_untouched : (q : Refusal) → (refusal_number q ≡ 7 → ⊥) → WalkIs c os t ms ch (Err q) t' ms' ch'
       → (t' ≡ t) × (ms' ≡ ms) × (ch' ≡ ch)
   refused_untouched = walk_laws.untouched
 
   -- "except that 'no room' leaves them all zero"
-  pub no_room_zero : (i : ℕ) → WalkIs c os t ms ch (Answer.Refused (NoRoom i)) t' ms' ch'
+  pub no_room_zero : (i : ℕ) → WalkIs c os t ms ch (Err (NoRoom i)) t' ms' ch'
       → (t' ≡ replicate (length t) 0) × (ms' ≡ replicate (length ms) 0) × (ch' ≡ replicate (length ch) 0)
   no_room_zero = walk_laws.all_zero
 
 module _ {c : Corner} {os t ms ch t' ms' ch' : List ℕ} {r : Answer} (w : WalkIs c os t ms ch r t' ms' ch') where
   -- "'no room' is given exactly when nothing else is wrong with the call and the walk at some moment needs more nodes than the
   -- table has records"
-  pub no_room_exactly : ((i : ℕ) × (r ≡ Answer.Refused (NoRoom i)))
+  pub no_room_exactly : ((i : ℕ) × (r ≡ Err (NoRoom i)))
       ↔ Faultless c os (length t) (length ms) (length ch)
       × ((k : ℕ) × (k ≤ length os) × Exceeds (nodes_after c os k) (records_in (length t)))
   no_room_exactly = walk_laws.no_room-when w
 
   -- its place is k - 1, where k operations are the fewest after which this is so
-  pub no_room-place : (i : ℕ) → r ≡ Answer.Refused (NoRoom i)
+  pub no_room-place : (i : ℕ) → r ≡ Err (NoRoom i)
       ↔ Faultless c os (length t) (length ms) (length ch) × ((k : ℕ) × NoRoomAfter c os (records_in (length t)) k × (i ≡ pred k))
   no_room-place = walk_laws.no_room-at w
 
@@ -143,7 +141,7 @@ pub turns-words : {convert : List ℕ → List ℕ} {ds out out' : List ℕ} {r 
 turns-words w j g = ap judged_words ((turns_exactly w j).1 g)
 
 pub turns_untouched : {convert : List ℕ → List ℕ} {ds out out' : List ℕ} (q : Refusal)
-    → ConvertedBy convert ds out (Refused q) out' → out' ≡ out
+    → ConvertedBy convert ds out (Err q) out' → out' ≡ out
 turns_untouched = call_laws.converted_untouched
 
 -- and of the hull
@@ -157,29 +155,29 @@ hull_call_one = hull_call_laws.hull_call_one
 
 pub hull_refused_exactly : {s : Corner} {chain : List ℕ} {before after : List ℤ} {r : Counted}
     (w : HullCall s chain before r after) (q : Refusal)
-    → r ≡ Counted.Refused q ↔ GivenHull s chain (length before) (length w.list) (Refused q)
+    → r ≡ Err q ↔ GivenHull s chain (length before) (length w.list) (Err q)
 hull_refused_exactly = digit_laws.hull_refused_when
 
 pub hull_counted_exactly : {s : Corner} {chain : List ℕ} {before after : List ℤ} {r : Counted}
     (w : HullCall s chain before r after)
-    → r ≡ Counted.Many (length w.list) ↔ GivenHull s chain (length before) (length w.list) Good
+    → r ≡ Ok (length w.list) ↔ GivenHull s chain (length before) (length w.list) (Ok tt)
 hull_counted_exactly = digit_laws.hull_counted_when
 
 pub hull_refused_words : {s : Corner} {chain : List ℕ} {before after : List ℤ} {r : Counted} (w : HullCall s chain before r after)
-    (q : Refusal) → GivenHull s chain (length before) (length w.list) (Refused q)
+    (q : Refusal) → GivenHull s chain (length before) (length w.list) (Err q)
     → counted_words r ≡ refusal_number q ∷ refusal_place q ∷ 0 ∷ []
 hull_refused_words w q g = ap counted_words ((hull_refused_exactly w q).1 g)
 
 pub hull_counted_words : {s : Corner} {chain : List ℕ} {before after : List ℤ} {r : Counted} (w : HullCall s chain before r after)
-    → GivenHull s chain (length before) (length w.list) Good → counted_words r ≡ 0 ∷ 0 ∷ length w.list ∷ []
+    → GivenHull s chain (length before) (length w.list) (Ok tt) → counted_words r ≡ 0 ∷ 0 ∷ length w.list ∷ []
 hull_counted_words w g = ap counted_words ((hull_counted_exactly w).1 g)
 
 pub hull_untouched : (s : Corner) (chain : List ℕ) (before : List ℤ) {after : List ℤ} (q : Refusal)
-    → HullCall s chain before (Counted.Refused q) after → after ≡ before
+    → HullCall s chain before (Err q) after → after ≡ before
 hull_untouched = call_laws.hull_untouched
 
 -- ---- Demand 2
-module _ {c : Corner} {os t ms ch t' ms' ch' : List ℕ} {f : Facts} (w : WalkIs c os t ms ch (Answer.Accepted f) t' ms' ch') where
+module _ {c : Corner} {os t ms ch t' ms' ch' : List ℕ} {f : Facts} (w : WalkIs c os t ms ch (Ok f) t' ms' ch') where
   -- the facts are those of the surviving steps: steps, nodes, different corners, last corner
   pub facts : f ≡ facts_of c (survivors os)
   facts = walk_laws.its_facts w
@@ -246,11 +244,11 @@ module _ {c : Corner} {os t ms ch t' ms' ch' : List ℕ} {f : Facts} (w : WalkIs
 pub changed-reached : {t ms ch t' ms' ch' : List ℕ} {r : Answer}
     → WalkIs (corner (pos 16384) (pos 16384)) (replicate 16384 0) t ms ch r t' ms' ch'
     → length t ≡ 65604 * width → length ms ≡ mark_words * 16384 → length ch ≡ 16384
-    → (f : Facts) × (r ≡ Answer.Accepted f) × (get_or ms' (mark_words * 16383 + 2) 0 ≡ 32)
+    → (f : Facts) × (r ≡ Ok f) × (get_or ms' (mark_words * 16383 + 2) 0 ≡ 32)
 changed-reached = reached_laws.sixteen_thousand
 
 -- if no step is taken back they add up from the origin to at most three for each step and 16 for each different corner, less 12
-pub changed-sum-origin : {os t ms ch t' ms' ch' : List ℕ} {f : Facts} → WalkIs origin os t ms ch (Answer.Accepted f) t' ms' ch'
+pub changed-sum-origin : {os t ms ch t' ms' ch' : List ℕ} {f : Facts} → WalkIs origin os t ms ch (Ok f) t' ms' ch'
     → Below 4 os → sum_to (length os) (λ k. get_or ms' (mark_words * k + 2) 0) + 12 ≤ 3 * length os + 16 * f.corners
 changed-sum-origin = cost_laws.its_cost_origin
 
@@ -359,7 +357,8 @@ pub corners_once : (ps : List Corner) → Distinct (visited_of ps)
 corners_once = visit_laws.visited_distinct
 
 -- an accepted conversion leaves the digits converted
-pub turns_written : {convert : List ℕ → List ℕ} {ds out out' : List ℕ} → ConvertedBy convert ds out Good out' → out' ≡ convert ds
+pub turns_written : {convert : List ℕ → List ℕ} {ds out out' : List ℕ}
+    → ConvertedBy convert ds out (Ok tt) out' → out' ≡ convert ds
 turns_written = call_laws.converted_written
 
 -- "Freeman chains": the first digit of turns is the first step, each later digit is that step minus the one before
@@ -386,12 +385,12 @@ pub steps-length : (ts : List ℕ) → length (steps_of ts) ≡ length ts
 steps-length = turn_laws.length-steps_of
 
 -- "steps turned into turns and back give the same steps, and turns into steps and back the same turns"
-pub steps-turns-steps : (s t₀ t u₀ u : List ℕ) (r : Judged) → ConvertedBy turns_of s t₀ Good t → ConvertedBy steps_of t u₀ r u
-    → length u₀ ≡ length s → (r ≡ Good) × (u ≡ s)
+pub steps-turns-steps : (s t₀ t u₀ u : List ℕ) (r : Judged) → ConvertedBy turns_of s t₀ (Ok tt) t → ConvertedBy steps_of t u₀ r u
+    → length u₀ ≡ length s → (r ≡ Ok tt) × (u ≡ s)
 steps-turns-steps = promise_laws.turns_and_back
 
-pub turns-steps-turns : (s t₀ t u₀ u : List ℕ) (r : Judged) → ConvertedBy steps_of s t₀ Good t → ConvertedBy turns_of t u₀ r u
-    → length u₀ ≡ length s → (r ≡ Good) × (u ≡ s)
+pub turns-steps-turns : (s t₀ t u₀ u : List ℕ) (r : Judged) → ConvertedBy steps_of s t₀ (Ok tt) t → ConvertedBy turns_of t u₀ r u
+    → length u₀ ≡ length s → (r ≡ Ok tt) × (u ≡ s)
 turns-steps-turns = promise_laws.steps_and_back
 
 -- "the hull corners": every walk has a hull list, it is the only one, and it holds exactly the extreme corners
@@ -410,17 +409,17 @@ hull_extreme P L h = h.corners
 
 -- an accepted call answers how many they are and leaves x and y of each; the numbers after the list are unchanged
 pub hull_written : (s : Corner) (chain : List ℕ) (before : List ℤ) {after : List ℤ} (n : ℕ)
-    (w : HullCall s chain before (Counted.Many n) after)
+    (w : HullCall s chain before (Ok n) after)
     → (n ≡ length w.list) × (after ≡ numbers w.list ++ drop (2 * length w.list) before)
 hull_written = call_laws.hull_written
 
 -- ---- Demand 3
 -- "if it is accepted, so is the record of the surviving steps alone in a table of the same size"
 module _ {c : Corner} {os t ms ch t' ms' ch' t₁ ms₁ ch₁ t₂ ms₂ ch₂ : List ℕ} {f : Facts} {r : Answer}
-    (w : WalkIs c os t ms ch (Answer.Accepted f) t' ms' ch') (v : WalkIs c (survivors os) t₁ ms₁ ch₁ r t₂ ms₂ ch₂)
+    (w : WalkIs c os t ms ch (Ok f) t' ms' ch') (v : WalkIs c (survivors os) t₁ ms₁ ch₁ r t₂ ms₂ ch₂)
     (lent : LentAlone (survivors os) t t₁ ms₁ ch₁) where
   -- "both give the same answer"
-  pub alone_answer : r ≡ Answer.Accepted f
+  pub alone_answer : r ≡ Ok f
   alone_answer = alone_laws.same_answer w v lent
 
   -- "the same table"
@@ -467,20 +466,20 @@ four_and_levels = count_laws.few_nodes_from
 module _ {c : Corner} {os t ms ch t' ms' ch' : List ℕ} {r : Answer} (w : WalkIs c os t ms ch r t' ms' ch') where
   -- "so a table that large at every moment is never refused for room"
   pub enough_eight : ((k : ℕ) → k ≤ length os → 8 * corners_after c os k + 68 ≤ records_in (length t)) → (i : ℕ)
-      → r ≡ Answer.Refused (NoRoom i) → ⊥
+      → r ≡ Err (NoRoom i) → ⊥
   enough_eight = alone_laws.enough_eight w
 
   -- nor one with four records for each corner and 64
   pub enough_four : ((k : ℕ) → k ≤ length os → 4 * corners_after c os k + 64 ≤ records_in (length t)) → (i : ℕ)
-      → r ≡ Answer.Refused (NoRoom i) → ⊥
+      → r ≡ Err (NoRoom i) → ⊥
   enough_four = alone_laws.enough_four w
 
   -- nor one with 65,604 records, whatever the walk
-  pub enough_always : 65604 ≤ records_in (length t) → (i : ℕ) → r ≡ Answer.Refused (NoRoom i) → ⊥
+  pub enough_always : 65604 ≤ records_in (length t) → (i : ℕ) → r ≡ Err (NoRoom i) → ⊥
   enough_always = alone_laws.enough_largest w
 
 -- from the origin four records for each corner, less three, are enough
 pub enough_origin : {os t ms ch t' ms' ch' : List ℕ} {r : Answer} → WalkIs origin os t ms ch r t' ms' ch'
     → ((k : ℕ) → k ≤ length os → 4 * corners_after origin os k ≤ records_in (length t) + 3) → (i : ℕ)
-    → r ≡ Answer.Refused (NoRoom i) → ⊥
+    → r ≡ Err (NoRoom i) → ⊥
 enough_origin = alone_laws.enough_origin

@@ -1,5 +1,6 @@
 -- The judgements of a file are given on their occasions and on no other; the promise of the call that reads it taken apart.
 -- Assumes nothing.
+use Rattle.std.specs.Prelude.{Err, Ok}
 use mathlib.Core.Bool.{Bool, true, false, false≢true}
 use mathlib.Core.List.{List, map}
 use mathlib.Core.Logic.{◌↔◌}
@@ -10,14 +11,14 @@ use native.Mathlib.Omega.{arith}
 use borrow.Author.Tests.{lt-ltb, le-ltb, eq-eqb, ne_eqb}
 use lib.Dec.{ltb}
 use lib.ListN.{length}
+use Rattle.polygon_ring.specs.Answers.{Given}
+use Rattle.answer.specs.Answers.{Judged}
 use Rattle.lists.specs.Lists.{any}
-use Rattle.answer.specs.declared.Judged.{Judged}
-use Rattle.answer.specs.declared.Judged.TheVariants.{Good, Refused}
 use Rattle.answer.specs.declared.Refusal.{Refusal}
 use Rattle.answer.specs.declared.Refusal.TheVariants.{FileLength, FileKind, BadCoordinate, BadRing, TooLong, ChainRoom}
 use Rattle.answer.specs.Limits.{most_steps}
 use Rattle.grid.specs.declared.Corner.{Corner}
-use Rattle.polygon_ring.specs.declared.{Found.Found, Given.Given}
+use Rattle.polygon_ring.specs.declared.{Found.Found}
 use Rattle.polygon_ring.specs.Ring.{order_of, is_little, is_neither, is_faulty, corner_in, start_of, length_of, chain_of_points, is_ring, count_in, points_in, ring_of, read_judged, given_of, ReadCall}
 use Rattle.polygon_ring_laws.specs.Reading.{ring_judged, points_judged}
 use Rattle.polygon_ring_laws.specs.Files.{Headed, Sized, HasCorners, IsRing}
@@ -71,34 +72,34 @@ module _ (file : List ℕ) (room : ℕ) where
   by_length : (little : Bool) (ps : List Corner) → HasCorners little file ps → IsRing ps → (j : Judged) × GivenFile file room j
   by_length little ps h r =
       elim (dec_lt most_steps (length_of ps)) [
-        | yes l ↦ (Refused (TooLong most_steps), given.too_long little ps h r l)
+        | yes l ↦ (Err (TooLong most_steps), given.too_long little ps h r l)
         | no l ↦ elim (dec_lt room (length_of ps)) [
-          | yes t ↦ (Refused ChainRoom, given.chain_room little ps h r (omega arith) t)
-          | no t ↦ (Good, given.accepted little ps h r (omega arith) (omega arith))
+          | yes t ↦ (Err ChainRoom, given.chain_room little ps h r (omega arith) t)
+          | no t ↦ (Ok tt, given.accepted little ps h r (omega arith) (omega arith))
         ]
       ]
 
   by-ring : (little : Bool) (ps : List Corner) → HasCorners little file ps → (b : Bool) → is_ring ps ≡ b → (j : Judged) × GivenFile file room j
   by-ring little ps h true e = by_length little ps h ((ring_exactly ps).0 e)
-  by-ring little ps h false e = (Refused BadRing, given.bad_ring little ps h (λ r. false≢true (sym e ∙ (ring_exactly ps).1 r)))
+  by-ring little ps h false e = (Err BadRing, given.bad_ring little ps h (λ r. false≢true (sym e ∙ (ring_exactly ps).1 r)))
 
   by_points : (little : Bool) → Sized little file → (b : Bool) → any is_faulty (points_in little file) ≡ b → (j : Judged) × GivenFile file room j
-  by_points little s true e = let f = faulty_point little file s e in (Refused BadCoordinate, given.bad_coordinate little f.0 s f.1 f.2)
+  by_points little s true e = let f = faulty_point little file s e in (Err BadCoordinate, given.bad_coordinate little f.0 s f.1 f.2)
   by_points little s false e = let ps = map corner_in (points_in little file) in by-ring little ps (points_corners little file s e) (is_ring ps) refl
 
   by_size : (little : Bool) → Headed little file → (j : Judged) × GivenFile file room j
   by_size little h =
       elim (ℕ_discrete (length file) (13 + 16 * count_in little file)) [
         | yes s ↦ by_points little (record { headed = h; size = s }) (any is_faulty (points_in little file)) refl
-        | no s ↦ (Refused FileLength, given.other_length little h s)
+        | no s ↦ (Err FileLength, given.other_length little h s)
       ]
 
   by_order : 13 ≤ length file → (b : Bool) → is_neither (order_of file) ≡ b → (j : Judged) × GivenFile file room j
-  by_order h true e = (Refused FileKind, given.other_kind h (λ little k. false≢true (sym (headed_order little file k).0 ∙ e)))
+  by_order h true e = (Err FileKind, given.other_kind h (λ little k. false≢true (sym (headed_order little file k).0 ∙ e)))
   by_order h false e = by_size (is_little (order_of file)) (order_some file h e)
 
   some_file : (j : Judged) × GivenFile file room j
-  some_file = elim (dec_lt (length file) 13) [ yes h ↦ (Refused FileLength, given.too_short h) | no h ↦ by_order (omega arith) (is_neither (order_of file)) refl ]
+  some_file = elim (dec_lt (length file) 13) [ yes h ↦ (Err FileLength, given.too_short h) | no h ↦ by_order (omega arith) (is_neither (order_of file)) refl ]
 
   pub file-when : (j : Judged) → read_judged file room ≡ j ↔ GivenFile file room j
   file-when j = let x = some_file in (λ e. subst (GivenFile file room) (sym (given_file x.0 x.1) ∙ e) x.1, given_file j)
@@ -110,16 +111,16 @@ abbrev pub found_in : List ℕ → Found
 found_in file = record { start = start_of (ring_of file); steps = length_of (ring_of file) }
 
 module _ {file out : List ℕ} {r : Given} {out' : List ℕ} (c : ReadCall file out r out') where
-  pub chain_refused_when : (q : Refusal) → r ≡ Given.Refused q ↔ GivenFile file (length out) (Refused q)
+  pub chain_refused_when : (q : Refusal) → r ≡ Err q ↔ GivenFile file (length out) (Err q)
   chain_refused_when q = (
-    λ e. (file-when file (length out) (Refused q)).0 (given_refused (read_judged file (length out)) (ring_of file) q (sym c.answer ∙ e)),
-    λ g. c.answer ∙ ap (λ (j : Judged). given_of j (ring_of file)) ((file-when file (length out) (Refused q)).1 g),
+    λ e. (file-when file (length out) (Err q)).0 (given_refused (read_judged file (length out)) (ring_of file) q (sym c.answer ∙ e)),
+    λ g. c.answer ∙ ap (λ (j : Judged). given_of j (ring_of file)) ((file-when file (length out) (Err q)).1 g),
   )
 
-  pub chain-read-when : r ≡ Given.Chain (found_in file) ↔ GivenFile file (length out) Good
+  pub chain-read-when : r ≡ Ok (found_in file) ↔ GivenFile file (length out) (Ok tt)
   chain-read-when = (
-    λ e. (file-when file (length out) Good).0 (given_fine (read_judged file (length out)) (ring_of file) (found_in file) (sym c.answer ∙ e)).0,
-    λ g. c.answer ∙ ap (λ (j : Judged). given_of j (ring_of file)) ((file-when file (length out) Good).1 g),
+    λ e. (file-when file (length out) (Ok tt)).0 (given_fine (read_judged file (length out)) (ring_of file) (found_in file) (sym c.answer ∙ e)).0,
+    λ g. c.answer ∙ ap (λ (j : Judged). given_of j (ring_of file)) ((file-when file (length out) (Ok tt)).1 g),
   )
 
 pub chain_some : (file out : List ℕ) → (r : Given) × (out' : List ℕ) × ReadCall file out r out'
@@ -128,7 +129,7 @@ chain_some file out =
     (given_of j (ring_of file), laid_if j (chain_of_points (ring_of file)) out, record { answer = refl; buffer = refl })
 
 -- the corners and the ring of a file that is accepted
-good_ring : (file : List ℕ) (room : ℕ) (j : Judged) → j ≡ Good → GivenFile file room j → (little : Bool) × HasCorners little file (ring_of file) × IsRing (ring_of file)
+good_ring : (file : List ℕ) (room : ℕ) (j : Judged) → j ≡ Ok tt → GivenFile file room j → (little : Bool) × HasCorners little file (ring_of file) × IsRing (ring_of file)
 good_ring file room _ e (given.accepted little ps h r l t) =
     let o = headed_order little file h.sized.headed in
     let same : ring_of file ≡ ps = ap (λ (b : Bool). map corner_in (points_in b file)) o.1 ∙ (corners-read little file ps h).1 in
@@ -141,6 +142,6 @@ good_ring file room _ e (given.bad_ring little ps h f) = absurd (refused_not_goo
 good_ring file room _ e (given.too_long little ps h r l) = absurd (refused_not_good (TooLong most_steps) e)
 good_ring file room _ e (given.chain_room little ps h r l t) = absurd (refused_not_good ChainRoom e)
 
-pub chain-corners : {file out out' : List ℕ} {f : Found} → ReadCall file out (Given.Chain f) out' → (little : Bool) × HasCorners little file (ring_of file) × IsRing (ring_of file)
+pub chain-corners : {file out out' : List ℕ} {f : Found} → ReadCall file out (Ok f) out' → (little : Bool) × HasCorners little file (ring_of file) × IsRing (ring_of file)
 chain-corners {file = file} {out = out} {f = f} c =
-    good_ring file (length out) Good refl ((file-when file (length out) Good).0 (given_fine (read_judged file (length out)) (ring_of file) f (sym c.answer)).0)
+    good_ring file (length out) (Ok tt) refl ((file-when file (length out) (Ok tt)).0 (given_fine (read_judged file (length out)) (ring_of file) f (sym c.answer)).0)

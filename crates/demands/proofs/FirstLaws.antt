@@ -1,5 +1,6 @@
 -- The first bad place: either all places are fine, or there is one. And what the searches of the definitions find.
 -- Assumes nothing.
+use Rattle.std.specs.Prelude.{Err, Ok}
 use mathlib.Core.List.{List, [], ◌∷◌}
 use mathlib.Core.Logic.{◌⊎◌, inl, inr, ⊎_elim}
 use mathlib.Core.Path.{◌≡◌, refl, ap, sym, ◌∙◌, subst}
@@ -8,8 +9,7 @@ use native.Mathlib.Decide.{ℕ_discrete, dec_lt}
 use native.Mathlib.Omega.{arith}
 use borrow.Author.Tests.{lt-ltb, le-ltb, ne_eqb}
 use lib.ListN.{length, get_or, take}
-use Rattle.answer.specs.declared.Judged.{Judged}
-use Rattle.answer.specs.declared.Judged.TheVariants.{Good, Refused}
+use Rattle.answer.specs.Answers.{Judged}
 use Rattle.answer.specs.declared.Refusal.{Refusal}
 use Rattle.answer.specs.declared.Refusal.TheVariants.{BadDigit, NothingToTake, TooLong, NoRoom}
 use Rattle.answer.specs.Limits.{most_steps}
@@ -47,17 +47,17 @@ fine_or_fault s o =
       ]
     ]
 
-fine_fault : (i : ℕ) (s : List ℕ) (o : ℕ) → Fine (length s) o → fault_of i (length s) o ≡ Good
+fine_fault : (i : ℕ) (s : List ℕ) (o : ℕ) → Fine (length s) o → fault_of i (length s) o ≡ Ok tt
 fine_fault i s o (inl k) = rw (k.0, ne_eqb (length s) 0 (λ e. omega (arith, k.1)))
 fine_fault i s o (inr k) = rw (le-ltb 4 o (omega (arith, k.0)), ne_eqb o 4 (λ e. omega (arith, k.0)), lt-ltb (length s) most_steps k.1)
 
-pub fault_digit : (i n o : ℕ) → 4 < o → fault_of i n o ≡ Refused (BadDigit i)
+pub fault_digit : (i n o : ℕ) → 4 < o → fault_of i n o ≡ Err (BadDigit i)
 fault_digit i n o h = rw (lt-ltb 4 o h)
 
-pub fault_nothing : (i n o : ℕ) → (o ≡ 4) × (n ≡ 0) → fault_of i n o ≡ Refused (NothingToTake i)
+pub fault_nothing : (i n o : ℕ) → (o ≡ 4) × (n ≡ 0) → fault_of i n o ≡ Err (NothingToTake i)
 fault_nothing i n o h = rw (h.0, h.1)
 
-pub fault_long : (i n o : ℕ) → (o < 4) × (most_steps ≤ n) → fault_of i n o ≡ Refused (TooLong i)
+pub fault_long : (i n o : ℕ) → (o < 4) × (most_steps ≤ n) → fault_of i n o ≡ Err (TooLong i)
 fault_long i n o h = rw (le-ltb 4 o (omega (arith, h.0)), ne_eqb o 4 (λ e. omega (arith, h.0)), le-ltb n most_steps h.1)
 
 -- what is left of the operations after a fine one
@@ -66,16 +66,16 @@ faults_next b s o os f =
     ap (λ (j : Judged). or_else j (operations_judged (suc b) (after (length s) o) os)) (fine_fault b s o f)
     ∙ ap (λ (n : ℕ). operations_judged (suc b) n os) (after-length s o)
 
-pub faults_none : (b : ℕ) (s os : List ℕ) → ((i : ℕ) → i < length os → Fine (length (survivors_from s (take i os))) (get_or os i 0)) → operations_judged b (length s) os ≡ Good
+pub faults_none : (b : ℕ) (s os : List ℕ) → ((i : ℕ) → i < length os → Fine (length (survivors_from s (take i os))) (get_or os i 0)) → operations_judged b (length s) os ≡ Ok tt
 faults_none b s [] f = refl
 faults_none b s (o ∷ os) f = faults_next b s o os (f 0 (omega arith)) ∙ faults_none (suc b) (operate s o) os (λ i h. f (suc i) (omega arith))
 
 pub faults_first : (b : ℕ) (s os : List ℕ) (i p : ℕ) (r : Refusal) → i < length os → ((h : ℕ) → h < i → Fine (length (survivors_from s (take h os))) (get_or os h 0))
-    → p ≡ b + i → fault_of p (length (survivors_from s (take i os))) (get_or os i 0) ≡ Refused r → operations_judged b (length s) os ≡ Refused r
+    → p ≡ b + i → fault_of p (length (survivors_from s (take i os))) (get_or os i 0) ≡ Err r → operations_judged b (length s) os ≡ Err r
 faults_first b s [] i p r h f q e = absurd (omega arith)
 faults_first b s (o ∷ os) zero p r h f q e =
     let g : p ≡ b = omega arith in
-    ap (λ (j : Judged). or_else j (operations_judged (suc b) (after (length s) o) os)) (subst (λ (n : ℕ). fault_of n (length s) o ≡ Refused r) g e)
+    ap (λ (j : Judged). or_else j (operations_judged (suc b) (after (length s) o) os)) (subst (λ (n : ℕ). fault_of n (length s) o ≡ Err r) g e)
 faults_first b s (o ∷ os) (suc i) p r h f q e =
     faults_next b s o os (f 0 (omega arith)) ∙ faults_first (suc b) (operate s o) os i p r (omega arith) (λ h k. f (suc h) (omega arith)) (omega arith) e
 
@@ -85,12 +85,12 @@ module _ (r : ℕ) (c : Corner) where
   abbrev needs : List ℕ → List ℕ → ℕ → ℕ
   needs s os k = length (nodes_of (corners_from c (survivors_from s (take k os))))
 
-  pub room-none : (b : ℕ) (s os : List ℕ) → ((k : ℕ) → k ≤ length os → needs s os k ≤ r) → room_from r c b s os ≡ Good
+  pub room-none : (b : ℕ) (s os : List ℕ) → ((k : ℕ) → k ≤ length os → needs s os k ≤ r) → room_from r c b s os ≡ Ok tt
   room-none b s [] f = room_end r c b s (f 0 (omega arith))
   room-none b s (o ∷ os) f = room_fits r c b s o os (f 0 (omega arith)) ∙ room-none (suc b) (operate s o) os (λ k h. f (suc k) (omega arith))
 
-  pub room-first : (b : ℕ) (s os : List ℕ) (k n : ℕ) → k ≤ length os → ((h : ℕ) → h < k → needs s os h ≤ r) → n ≡ b + k → r < needs s os k → room_from r c b s os ≡ Refused (NoRoom (pred n))
-  room-first b s os zero n h f q e = let g : b ≡ n = omega arith in room_full r c b s os e ∙ ap (λ (m : ℕ). Refused (NoRoom (pred m))) g
+  pub room-first : (b : ℕ) (s os : List ℕ) (k n : ℕ) → k ≤ length os → ((h : ℕ) → h < k → needs s os h ≤ r) → n ≡ b + k → r < needs s os k → room_from r c b s os ≡ Err (NoRoom (pred n))
+  room-first b s os zero n h f q e = let g : b ≡ n = omega arith in room_full r c b s os e ∙ ap (λ (m : ℕ). Err (NoRoom (pred m))) g
   room-first b s [] (suc k) n h f q e = absurd (omega arith)
   room-first b s (o ∷ os) (suc k) n h f q e =
       room_fits r c b s o os (f 0 (omega arith)) ∙ room-first (suc b) (operate s o) os k n (omega arith) (λ h l. f (suc h) (omega arith)) (omega arith) e

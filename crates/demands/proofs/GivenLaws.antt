@@ -1,5 +1,6 @@
 -- Each judgement is given on its occasion and on no other, and for every call there is one.
 -- Assumes nothing.
+use Rattle.std.specs.Prelude.{Err, Ok}
 use mathlib.Core.Bool.{Bool, true, false, not, ◌&&◌}
 use mathlib.Core.List.{List, []}
 use mathlib.Core.Logic.{◌⊎◌, inl, inr, ⊎_elim, ⊎_map}
@@ -10,8 +11,7 @@ use native.Mathlib.Omega.{arith}
 use borrow.Author.Tests.{leb-true, eqb-true, lt-ltb, le-ltb, le-leb, eq-eqb}
 use lib.Dec.{eqb, ltb, leb}
 use lib.ListN.{length, get_or}
-use Rattle.answer.specs.declared.Judged.{Judged}
-use Rattle.answer.specs.declared.Judged.TheVariants.{Good, Refused}
+use Rattle.answer.specs.Answers.{Judged}
 use Rattle.answer.specs.declared.Refusal.{Refusal}
 use Rattle.answer.specs.declared.Refusal.TheVariants.{TooMany, Table, ResultRoom, BadDigit, NothingToTake, TooLong, NoRoom, StartRange}
 use Rattle.answer.specs.Limits.{most_input, most_records, start_fits}
@@ -67,12 +67,12 @@ module _ (c : Corner) (os : List ℕ) (w m k : ℕ) where
   -- the six judgements one after the other
   judged-by : (a b d e f g : Judged)
       → when (ltb most_input (length os)) TooMany ≡ a → when (not (table_fits w)) Table ≡ b → when (not (room_fits os m k)) ResultRoom ≡ d → when (not (start_fits c)) StartRange ≡ e → operations_judged 0 0 os ≡ f → room_from (records_in w) c 0 [] os ≡ g
-      → walk_judged c os w m k ≡ or_else a (or_else b (or_else d (or_else e (or_else f (or_else g Good)))))
+      → walk_judged c os w m k ≡ or_else a (or_else b (or_else d (or_else e (or_else f (or_else g (Ok tt))))))
   judged-by a b d e f g p q r o s t = rw (p, q, r, o, s, t)
 
   judged_sized : WalkSized c os w m k → walk_judged c os w m k ≡ or_else (operations_judged 0 0 os) (room_from (records_in w) c 0 [] os)
   judged_sized s =
-      judged-by Good Good Good Good (operations_judged 0 0 os) (room_from (records_in w) c 0 [] os)
+      judged-by (Ok tt) (Ok tt) (Ok tt) (Ok tt) (operations_judged 0 0 os) (room_from (records_in w) c 0 [] os)
       (ap (λ (b : Bool). when b TooMany) (le-ltb most_input (length os) s.few))
       (ap (λ (b : Bool). when (not b) Table) (records_fit w s.table))
       (ap (λ (b : Bool). when (not b) ResultRoom) (room_fit os m k s.room))
@@ -81,7 +81,7 @@ module _ (c : Corner) (os : List ℕ) (w m k : ℕ) where
       refl
       ∙ ap (or_else (operations_judged 0 0 os)) (or_else-right (room_from (records_in w) c 0 [] os))
 
-  judged_fault : (bad : ℕ → Type 0) (i : ℕ) (r : Refusal) → WalkSized c os w m k → FirstAt (length os) (FineAt os) bad i → (bad i → fault_of i (length (steps_after os i)) (get_or os i 0) ≡ Refused r) → walk_judged c os w m k ≡ Refused r
+  judged_fault : (bad : ℕ → Type 0) (i : ℕ) (r : Refusal) → WalkSized c os w m k → FirstAt (length os) (FineAt os) bad i → (bad i → fault_of i (length (steps_after os i)) (get_or os i 0) ≡ Err r) → walk_judged c os w m k ≡ Err r
   judged_fault bad i r s f e =
       judged_sized s ∙ ap (λ (j : Judged). or_else j (room_from (records_in w) c 0 [] os)) (faults_first 0 [] os i i r f.inside f.before (omega arith) (e f.here))
 
@@ -100,17 +100,17 @@ module _ (c : Corner) (os : List ℕ) (w m k : ℕ) where
   given_judged _ (goal.no_room i k h f e) =
       judged_faultless h
       ∙ room-first (records_in w) c 0 [] os k k (omega (arith, f.inside)) f.before (omega arith) f.here
-      ∙ ap (λ (n : ℕ). Refused (NoRoom n)) (sym e)
+      ∙ ap (λ (n : ℕ). Err (NoRoom n)) (sym e)
   given_judged _ (goal.accepted h f) = judged_faultless h ∙ room-none (records_in w) c 0 [] os f
 
   -- the place of a fault, by its kind
   by_fault : WalkSized c os w m k → (i : ℕ) → FirstAt (length os) (FineAt os) (λ h. BadDigitAt os h ⊎ (NothingAt os h ⊎ TooLongAt os h)) i → (j : Judged) × GivenWalk c os w m k j
   by_fault s i f =
       ⊎_elim
-      (λ h. (Refused (BadDigit i), goal.bad_digit i s (record { inside = f.inside; before = f.before; here = h })))
+      (λ h. (Err (BadDigit i), goal.bad_digit i s (record { inside = f.inside; before = f.before; here = h })))
       (⊎_elim
-      (λ h. (Refused (NothingToTake i), goal.nothing_to_take i s (record { inside = f.inside; before = f.before; here = h })))
-      (λ h. (Refused (TooLong i), goal.too_long i s (record { inside = f.inside; before = f.before; here = h }))))
+      (λ h. (Err (NothingToTake i), goal.nothing_to_take i s (record { inside = f.inside; before = f.before; here = h })))
+      (λ h. (Err (TooLong i), goal.too_long i s (record { inside = f.inside; before = f.before; here = h }))))
       f.here
 
   roomy : (k : ℕ) → (nodes_after c os k ≤ records_in w) ⊎ (records_in w < nodes_after c os k)
@@ -127,8 +127,8 @@ module _ (c : Corner) (os : List ℕ) (w m k : ℕ) where
   by-room : Faultless c os w m k → (j : Judged) × GivenWalk c os w m k j
   by-room h =
       ⊎_elim
-      (λ f. (Good, goal.accepted h f))
-      (λ x. (Refused (NoRoom (pred x.0)), goal.no_room (pred x.0) x.0 h x.1 refl))
+      (λ f. (Ok tt, goal.accepted h f))
+      (λ x. (Err (NoRoom (pred x.0)), goal.no_room (pred x.0) x.0 h x.1 refl))
       room_or_not
 
   by_size : WalkSized c os w m k → (j : Judged) × GivenWalk c os w m k j
@@ -141,16 +141,16 @@ module _ (c : Corner) (os : List ℕ) (w m k : ℕ) where
   some_occasion : (j : Judged) × GivenWalk c os w m k j
   some_occasion =
       elim (dec_lt most_input (length os)) [
-        | yes h ↦ (Refused TooMany, goal.too_many h)
+        | yes h ↦ (Err TooMany, goal.too_many h)
         | no h ↦ ⊎_elim
             (λ t. ⊎_elim
             (λ r. ⊎_elim
             (λ n. by_size (record { few = omega arith; table = t; room = r; start = n }))
-            (λ f. (Refused StartRange, goal.start_range (omega arith) t r f.0))
+            (λ f. (Err StartRange, goal.start_range (omega arith) t r f.0))
             (decided (start_fits c) (fits_near c) (near_fits c)))
-            (λ f. (Refused ResultRoom, goal.result_room (omega arith) t f.0))
+            (λ f. (Err ResultRoom, goal.result_room (omega arith) t f.0))
             (decided (room_fits os m k) (fits_room os m k) (room_fit os m k)))
-            (λ f. (Refused Table, goal.table (omega arith) f.0))
+            (λ f. (Err Table, goal.table (omega arith) f.0))
             (decided (table_fits w) (fits_records w) (records_fit w))
       ]
 

@@ -1,5 +1,6 @@
 -- Lines: each answer is given on its occasion and on no other, and every number of an answer has its digits.
 -- Assumes nothing.
+use Rattle.std.specs.Prelude.{Err, Ok, Option, Some, None}
 use mathlib.Core.Bool.{Bool, true, false, cond}
 use mathlib.Core.List.{List, [], ◌∷◌, ◌++◌}
 use mathlib.Core.Logic.{◌↔◌}
@@ -10,9 +11,7 @@ use lib.Dec.{eqb}
 use lib.IntN.{pos, nat_abs, ◌-ℤ◌, ◌*ℤ◌, +ℤ_invr}
 use lib.ListN.{length, get_or, take}
 use lib.Seq.{length-take-le}
-use Rattle.answer.specs.declared.Answer.{Answer}
-use Rattle.answer.specs.declared.Judged.{Judged}
-use Rattle.answer.specs.declared.Judged.TheVariants.{Good, Refused}
+use Rattle.answer.specs.Answers.{Judged}
 use Rattle.answer.specs.declared.Refusal.{Refusal}
 use Rattle.answer.specs.declared.Refusal.TheVariants.{TooMany, Table, ResultRoom, BadDigit, NothingToTake, TooLong, NoRoom, HullRoom, BadLine, StartRange, OutlineRoom, NotRoom, PolygonRoom, FileLength, FileKind, BadCoordinate, BadRing, ChainRoom, RetiredKind, UnknownParty, SpanRoom, GridSize}
 use Rattle.answer.specs.declared.Verdict.TheVariants.{Room}
@@ -39,7 +38,7 @@ use Rattle.walk.specs.Walk.{walk_judged, facts_of, answer_by}
 use Rattle.hull.specs.Hull.{HullIs}
 use Rattle.hull_laws.proofs.{HullLaws.hull_of_hull, HullLaws.hull_count-steps, OneLaws.hull_is_one}
 use Rattle.hull_laws.specs.Chain.{hull_of}
-use Rattle.line_frame.specs.declared.{Kind.Kind, Kind.TheVariants.Operations, Kind.TheVariants.Turns, Frame.Frame, Frame.TheVariants.Of, Frame.TheVariants.Bad}
+use Rattle.line_frame.specs.declared.{Kind.Kind, Kind.TheVariants.Operations, Kind.TheVariants.Turns}
 use Rattle.line_frame.specs.Sizes.{most_digits, table_words}
 use Rattle.line_frame.specs.Line.{kind_named, frame_of, digits_of, line_answer, line_walked}
 use Rattle.line_frame.specs.Spelled.{refused_line, facts_line, hull_line, answer_line}
@@ -47,7 +46,7 @@ use Rattle.line_frame.specs.Converted.{Turned, converted_line}
 use Rattle.line_frame.proofs.ConvertedLaws.{converted_frame, converted_digits}
 use Rattle.line_frame.proofs.FrameLaws.{frame_of-framed, digits_framed, kind_number, kind_number_lem, frame_spelled}
 use Rattle.line_frame.specs.Program.{feeds_in, answered, program}
-use Rattle.line_frame.proofs.LineLaws.{line_answer_feeds}
+use Rattle.line_frame.proofs.LineLaws.{one_frame, line_answer_feeds}
 use Rattle.line_frame.proofs.OutputLaws.{feeds_in-append}
 use Rattle.line_frame.proofs.SpelledLaws.{length-refused_line, length_accepted}
 use Rattle.sheet.specs.Sheet.{lines_in}
@@ -64,10 +63,10 @@ use Rattle.demands.proofs.AloneLaws.{corners-near}
 use Rattle.demands.proofs.FieldLaws.{Spellable, refusal_read, answer_read}
 
 -- ---- what a frame spells, and what is read
-pub frame_read : {s : List ℕ} {k : ℕ} {ds : List ℕ} → k < 2 → FrameIs s k ds → (frame_of s ≡ Of (kind_named k) (length ds)) × (digits_of s ≡ ds)
+pub frame_read : {s : List ℕ} {k : ℕ} {ds : List ℕ} → k < 2 → FrameIs s k ds → (frame_of s ≡ Some (kind_named k, length ds)) × (digits_of s ≡ ds)
 frame_read {s} {k} {ds} h f = (ap frame_of f.spelled ∙ frame_of-framed k h ds f.digits (omega (arith, f.few)), ap digits_of f.spelled ∙ digits_framed k h ds f.digits)
 
-read_frame : (s : List ℕ) (k : Kind) (n : ℕ) → frame_of s ≡ Of k n → FrameIs s (kind_number k) (digits_of s)
+read_frame : (s : List ℕ) (k : Kind) (n : ℕ) → frame_of s ≡ Some (k, n) → FrameIs s (kind_number k) (digits_of s)
 read_frame s k n e = let x = frame_spelled s k n e in record { few = x.0; digits = x.1; spelled = x.2 }
 
 -- a line is a frame in one way at most
@@ -75,8 +74,7 @@ pub frame_one : {s : List ℕ} {k j : ℕ} {ds es : List ℕ} → k < 2 → j < 
 frame_one {s} {k} {j} {ds} {es} h i f g =
     let a = frame_read h f in
     let b = frame_read i g in
-    let e : Of (kind_named k) (length ds) ≡ Of (kind_named j) (length es) = sym a.0 ∙ b.0 in
-    let n : kind_named k ≡ kind_named j = cc in
+    let n : kind_named k ≡ kind_named j = (one_frame (sym a.0 ∙ b.0)).0 in
     (sym (kind_number_lem k h) ∙ ap kind_number n ∙ kind_number_lem j i, sym a.1 ∙ b.1)
 
 -- ---- the walk of a frame is taken as it is
@@ -92,7 +90,7 @@ walk_of os = walk_judged origin os table_words (mark_words * length os) (length 
 walk_judged_lem : {s os : List ℕ} (j : Judged) → FrameIs s 0 os → GivenWalk origin os table_words (mark_words * length os) (length os) j → line_walked s ≡ answer_by j (facts_of origin (survivors (digits_of s)))
 walk_judged_lem {s} {os} j f g =
     let r = frame_read (omega arith) f in
-    sym (line_walked-by s (Of Operations (length os)) r.0)
+    sym (line_walked-by s (Some (Operations, length os)) r.0)
     ∙ ap (λ (i : Judged). answer_by i (facts_of origin (survivors (digits_of s)))) (ap walk_of r.1 ∙ given_judged origin os table_words (mark_words * length os) (length os) j g)
 
 faultless : {s os : List ℕ} → FineFrame s os → Faultless origin os table_words (mark_words * length os) (length os)
@@ -102,15 +100,15 @@ faultless {s} {os} f = record { sized = sized os f.frame.few; fine = f.fine }
 pub line_judged : (s : List ℕ) (j : Judged) → GivenLine s j → line_walked s ≡ answer_by j (facts_of origin (survivors (digits_of s)))
 line_judged s _ (line.bad_line f) = by (frame_of s) refl
   where
-    by : (g : Frame) → frame_of s ≡ g → line_walked s ≡ Answer.Refused BadLine
-    by (Of Operations n) e = absurd (f 0 (digits_of s) (omega arith) (read_frame s Operations n e))
-    by (Of Turns n) e = absurd (f 1 (digits_of s) (omega arith) (read_frame s Turns n e))
-    by Bad e = sym (line_walked-by s Bad e)
-line_judged s _ (line.retired_kind ds f) = sym (line_walked-by s (Of Turns (length ds)) (frame_read (omega arith) f).0)
-line_judged s _ (line.bad_digit os i f h) = walk_judged_lem (Refused (BadDigit i)) f (goal.bad_digit i (sized os f.few) h)
-line_judged s _ (line.nothing_to_take os i f h) = walk_judged_lem (Refused (NothingToTake i)) f (goal.nothing_to_take i (sized os f.few) h)
-line_judged s _ (line.no_room os i k f h e) = walk_judged_lem (Refused (NoRoom i)) f.frame (goal.no_room i k (faultless f) h e)
-line_judged s _ (line.accepted os f h) = walk_judged_lem Good f.frame (goal.accepted (faultless f) h)
+    by : (g : Option (Kind × ℕ)) → frame_of s ≡ g → line_walked s ≡ Err BadLine
+    by (Some (Operations, n)) e = absurd (f 0 (digits_of s) (omega arith) (read_frame s Operations n e))
+    by (Some (Turns, n)) e = absurd (f 1 (digits_of s) (omega arith) (read_frame s Turns n e))
+    by None e = sym (line_walked-by s None e)
+line_judged s _ (line.retired_kind ds f) = sym (line_walked-by s (Some (Turns, length ds)) (frame_read (omega arith) f).0)
+line_judged s _ (line.bad_digit os i f h) = walk_judged_lem (Err (BadDigit i)) f (goal.bad_digit i (sized os f.few) h)
+line_judged s _ (line.nothing_to_take os i f h) = walk_judged_lem (Err (NothingToTake i)) f (goal.nothing_to_take i (sized os f.few) h)
+line_judged s _ (line.no_room os i k f h e) = walk_judged_lem (Err (NoRoom i)) f.frame (goal.no_room i k (faultless f) h e)
+line_judged s _ (line.accepted os f h) = walk_judged_lem (Ok tt) f.frame (goal.accepted (faultless f) h)
 
 -- of the walk's occasions those that a frame can have
 walk_line : {s os : List ℕ} (j : Judged) → FrameIs s 0 os → GivenWalk origin os table_words (mark_words * length os) (length os) j → GivenLine s j
@@ -128,22 +126,22 @@ walk_line {s} {os} _ f (goal.accepted w h) = line.accepted os (record { frame = 
 pub line_given : (s : List ℕ) → (j : Judged) × GivenLine s j
 line_given s = by (frame_of s) refl
   where
-    none : frame_of s ≡ Bad → (k : ℕ) (ds : List ℕ) → k < 2 → FrameIs s k ds → ⊥
-    none e k ds h f = let z : ◌≡◌ {A = Frame} Bad (Of (kind_named k) (length ds)) = sym e ∙ (frame_read h f).0 in let y : ◌≡◌ {A = ℕ} 0 1 = cc in omega arith
+    none : frame_of s ≡ None → (k : ℕ) (ds : List ℕ) → k < 2 → FrameIs s k ds → ⊥
+    none e k ds h f = let z : ◌≡◌ {A = Option (Kind × ℕ)} None (Some (kind_named k, length ds)) = sym e ∙ (frame_read h f).0 in let y : ◌≡◌ {A = ℕ} 0 1 = cc in omega arith
 
-    by : (g : Frame) → frame_of s ≡ g → (j : Judged) × GivenLine s j
-    by (Of Operations n) e =
+    by : (g : Option (Kind × ℕ)) → frame_of s ≡ g → (j : Judged) × GivenLine s j
+    by (Some (Operations, n)) e =
         let os = digits_of s in
         (walk_of os, walk_line (walk_of os) (read_frame s Operations n e) (judged_given origin os table_words (mark_words * length os) (length os)))
-    by (Of Turns n) e = (Refused RetiredKind, line.retired_kind (digits_of s) (read_frame s Turns n e))
-    by Bad e = (Refused BadLine, line.bad_line (none e))
+    by (Some (Turns, n)) e = (Err RetiredKind, line.retired_kind (digits_of s) (read_frame s Turns n e))
+    by None e = (Err BadLine, line.bad_line (none e))
 
 -- an accepted line is a frame
-pub accepted_frame : (s : List ℕ) → GivenLine s Good → FrameIs s 0 (digits_of s)
+pub accepted_frame : (s : List ℕ) → GivenLine s (Ok tt) → FrameIs s 0 (digits_of s)
 accepted_frame s (line.accepted os f h) = subst (FrameIs s 0) (sym (frame_read (omega arith) f.frame).1) f.frame
 
 -- the place of a refusal is one of the frame's
-pub place_few : {s : List ℕ} (q : Refusal) → GivenLine s (Refused q) → refusal_place q ≤ most_digits
+pub place_few : {s : List ℕ} (q : Refusal) → GivenLine s (Err q) → refusal_place q ≤ most_digits
 place_few _ (line.bad_line f) = omega arith
 place_few _ (line.retired_kind ds f) = omega arith
 place_few _ (line.bad_digit os i f h) = omega (arith, f.few, h.inside)
@@ -215,36 +213,36 @@ module _ (s : List ℕ) where
   line_answer_lem : (j : Judged) → GivenLine s j → line_answer s ≡ answer_line (answer_by j (facts_of origin left)) left
   line_answer_lem j g = sym (line_answer-walked s (answer_by j (facts_of origin left)) (line_judged s j g))
 
-  pub line_refused : (q : Refusal) → GivenLine s (Refused q) → (line_answer s ≡ refused_line q) × RefusalRead (line_answer s) q
+  pub line_refused : (q : Refusal) → GivenLine s (Err q) → (line_answer s ≡ refused_line q) × RefusalRead (line_answer s) q
   line_refused q g =
-      let e = line_answer_lem (Refused q) g in
+      let e = line_answer_lem (Err q) g in
       (e, subst (λ (l : List ℕ). RefusalRead l q) (sym e) (refusal_read q (omega (arith, place_few q g))))
 
-  pub refused_line_lem : (q : Refusal) → refusal_place q < 16 ^ 8 → line_answer s ≡ refused_line q → GivenLine s (Refused q)
+  pub refused_line_lem : (q : Refusal) → refusal_place q < 16 ^ 8 → line_answer s ≡ refused_line q → GivenLine s (Err q)
   refused_line_lem q h e = let x = line_given s in by x.0 x.1
     where
-      by : (j : Judged) → GivenLine s j → GivenLine s (Refused q)
-      by Good g = absurd (omega (arith, ap length (sym e ∙ line_answer_lem Good g), length-refused_line q, length_accepted (facts_of origin left) left))
-      by (Refused r) g = subst (λ (x : Refusal). GivenLine s (Refused x)) (refusal_one r q (line_refused r g).1 (subst (λ (l : List ℕ). RefusalRead l q) (sym e) (refusal_read q h))) g
+      by : (j : Judged) → GivenLine s j → GivenLine s (Err q)
+      by (Ok _) g = absurd (omega (arith, ap length (sym e ∙ line_answer_lem (Ok tt) g), length-refused_line q, length_accepted (facts_of origin left) left))
+      by (Err r) g = subst (λ (x : Refusal). GivenLine s (Err x)) (refusal_one r q (line_refused r g).1 (subst (λ (l : List ℕ). RefusalRead l q) (sym e) (refusal_read q h))) g
 
   -- an accepted line has the hull of the steps that survive
   module _ (L : List Corner) (hull : HullIs (corners_from origin left) L) where
     its_hull : hull_of origin left ≡ L
     its_hull = hull_is_one (corners_from origin left) (hull_of origin left) L (hull_of_hull origin left) hull
 
-    line_accepted : GivenLine s Good → line_answer s ≡ facts_line (facts_of origin left) ++ hull_line L
-    line_accepted g = line_answer_lem Good g ∙ ap (λ (l : List Corner). facts_line (facts_of origin left) ++ hull_line l) its_hull
+    line_accepted : GivenLine s (Ok tt) → line_answer s ≡ facts_line (facts_of origin left) ++ hull_line L
+    line_accepted g = line_answer_lem (Ok tt) g ∙ ap (λ (l : List Corner). facts_line (facts_of origin left) ++ hull_line l) its_hull
 
-    accepted_line : line_answer s ≡ facts_line (facts_of origin left) ++ hull_line L → GivenLine s Good
+    accepted_line : line_answer s ≡ facts_line (facts_of origin left) ++ hull_line L → GivenLine s (Ok tt)
     accepted_line e = let x = line_given s in by x.0 x.1
       where
-        by : (j : Judged) → GivenLine s j → GivenLine s Good
-        by Good g = g
-        by (Refused r) g =
+        by : (j : Judged) → GivenLine s j → GivenLine s (Ok tt)
+        by (Ok _) g = g
+        by (Err r) g =
             absurd (omega (arith, ap length (sym (line_refused r g).0 ∙ e ∙ ap (λ (l : List Corner). facts_line (facts_of origin left) ++ hull_line l) (sym its_hull)), length-refused_line r, length_accepted (facts_of origin left) left))
 
 -- of a frame with these operations
-pub accepted_when : (s os : List ℕ) → FrameIs s 0 os → (L : List Corner) → HullIs (corners_from origin (survivors os)) L → line_answer s ≡ facts_line (facts_of origin (survivors os)) ++ hull_line L ↔ GivenLine s Good
+pub accepted_when : (s os : List ℕ) → FrameIs s 0 os → (L : List Corner) → HullIs (corners_from origin (survivors os)) L → line_answer s ≡ facts_line (facts_of origin (survivors os)) ++ hull_line L ↔ GivenLine s (Ok tt)
 accepted_when s os f L hull =
     let e : digits_of s ≡ os = (frame_read (omega arith) f).1 in
     let h = subst (λ (ds : List ℕ). HullIs (corners_from origin (survivors ds)) L) (sym e) hull in
@@ -305,7 +303,7 @@ line_spellable ds L h hull =
           (omega (arith, b.0), omega (arith, b.1));
     }
 
-pub line_read : (s os : List ℕ) → FrameIs s 0 os → (L : List Corner) → HullIs (corners_from origin (survivors os)) L → GivenLine s Good → AnswerRead (line_answer s) (facts_of origin (survivors os)) L
+pub line_read : (s os : List ℕ) → FrameIs s 0 os → (L : List Corner) → HullIs (corners_from origin (survivors os)) L → GivenLine s (Ok tt) → AnswerRead (line_answer s) (facts_of origin (survivors os)) L
 line_read s os f L hull g =
     let few : length (survivors os) ≤ most_digits = omega (arith, length-survivors [] os, f.few) in
     subst (λ (l : List ℕ). AnswerRead l (facts_of origin (survivors os)) L) (sym ((accepted_when s os f L hull).1 g)) (answer_read (facts_of origin (survivors os)) L (line_spellable (survivors os) L few hull))

@@ -1,5 +1,6 @@
 -- Lines taken as rooms: each answer of the rows program is given on its occasion and on no other, and its spans are read back.
 -- Assumes nothing.
+use Rattle.std.specs.Prelude.{Err, Ok}
 use mathlib.Core.Bool.{Bool, true, false}
 use mathlib.Core.List.{List, [], ◌∷◌, ◌++◌}
 use mathlib.Core.Logic.{◌↔◌}
@@ -9,8 +10,7 @@ use native.Mathlib.Omega.{arith}
 use lib.IntN.{pos, nat_abs}
 use lib.ListN.{length, take, get_or}
 use lib.Seq.{take-append_seam}
-use Rattle.answer.specs.declared.Judged.{Judged}
-use Rattle.answer.specs.declared.Judged.TheVariants.{Good, Refused}
+use Rattle.answer.specs.Answers.{Judged}
 use Rattle.answer.specs.declared.Refusal.{Refusal}
 use Rattle.answer.specs.declared.Refusal.TheVariants.{NotRoom}
 use Rattle.answer.specs.Refusal.{refusal_place}
@@ -48,45 +48,45 @@ module _ (s : List ℕ) where
   line_room_given = let x = line_given s in by x.0 x.1
     where
       by : (j : Judged) → GivenLine s j → (i : Judged) × GivenLineRoom s i
-      by (Refused q) g = (Refused q, line.refused q g)
-      by Good g = room (is_room origin left) refl
+      by (Err q) g = (Err q, line.refused q g)
+      by (Ok _) g = room (is_room origin left) refl
         where
           room : (b : Bool) → is_room origin left ≡ b → (i : Judged) × GivenLineRoom s i
-          room true e = (Good, line.is_room (digits_of s) g (accepted_frame s g) ((is_room_exactly origin left).0 e))
-          room false e = (Refused NotRoom, line.not_room (digits_of s) g (accepted_frame s g) (λ r. let z : ◌≡◌ {A = ℕ} 0 1 = cc ((is_room_exactly origin left).1 r) in omega arith))
+          room true e = (Ok tt, line.is_room (digits_of s) g (accepted_frame s g) ((is_room_exactly origin left).0 e))
+          room false e = (Err NotRoom, line.not_room (digits_of s) g (accepted_frame s g) (λ r. let z : ◌≡◌ {A = ℕ} 0 1 = cc ((is_room_exactly origin left).1 r) in omega arith))
 
-  pub rows_refused : (q : Refusal) → GivenLineRoom s (Refused q) → rows_told s ≡ refused_told q
-  rows_refused _ (line.refused q g) = (refused_told_lem s q (line_judged s (Refused q) g)).0
+  pub rows_refused : (q : Refusal) → GivenLineRoom s (Err q) → rows_told s ≡ refused_told q
+  rows_refused _ (line.refused q g) = (refused_told_lem s q (line_judged s (Err q) g)).0
   rows_refused _ (line.not_room os g f n) =
-      not_room_told s (facts_of origin left) (line_judged s Good g) (λ r. n (subst (λ (ds : List ℕ). IsRoom origin (survivors ds)) (frame_read (omega arith) f).1 r))
+      not_room_told s (facts_of origin left) (line_judged s (Ok tt) g) (λ r. n (subst (λ (ds : List ℕ). IsRoom origin (survivors ds)) (frame_read (omega arith) f).1 r))
 
-  place_small : (q : Refusal) → GivenLineRoom s (Refused q) → refusal_place q < 16 ^ 8
+  place_small : (q : Refusal) → GivenLineRoom s (Err q) → refusal_place q < 16 ^ 8
   place_small _ (line.refused q g) = omega (arith, place_few q g)
   place_small _ (line.not_room os g f n) = omega arith
 
   -- the steps of a room
-  room_of : GivenLineRoom s Good → GivenLine s Good × IsRoom origin left
+  room_of : GivenLineRoom s (Ok tt) → GivenLine s (Ok tt) × IsRoom origin left
   room_of (line.is_room os g f r) = (g, subst (λ (ds : List ℕ). IsRoom origin (survivors ds)) (sym (frame_read (omega arith) f).1) r)
 
   module _ (L : List Span) (rows : RowsIs (Inside origin left) L) where
-    rows-room : GivenLineRoom s Good → rows_told s ≡ spans_told L
-    rows-room g = let x = room_of g in room_told_lem s (facts_of origin left) (line_judged s Good x.0) x.1 L rows
+    rows-room : GivenLineRoom s (Ok tt) → rows_told s ≡ spans_told L
+    rows-room g = let x = room_of g in room_told_lem s (facts_of origin left) (line_judged s (Ok tt) x.0) x.1 L rows
 
-    rows_spans : GivenLineRoom s Good → SpansRead (rows_told s) L
+    rows_spans : GivenLineRoom s (Ok tt) → SpansRead (rows_told s) L
     rows_spans g =
         let x = room_of g in
-        let w : Walkable left = line_sound s (facts_of origin left) (line_judged s Good x.0) in
+        let w : Walkable left = line_sound s (facts_of origin left) (line_judged s (Ok tt) x.0) in
         subst (λ (l : List ℕ). SpansRead l L) (sym (rows-room g))
         (spans_read L (λ k. subst (λ (M : List Span). nat_abs (get_or (span_numbers M) k (pos 0)) < 2 ^ 15) (sym (rows_is_rows_of origin left L x.1.closed rows)) (omega (arith, room_small origin left x.1 w.digits w.few (omega arith, omega arith) k))))
 
-    room-rows : rows_told s ≡ spans_told L → GivenLineRoom s Good
+    room-rows : rows_told s ≡ spans_told L → GivenLineRoom s (Ok tt)
     room-rows e = let x = line_room_given in by x.0 x.1
       where
-        by : (j : Judged) → GivenLineRoom s j → GivenLineRoom s Good
-        by Good g = g
-        by (Refused q) g = absurd (omega (arith, ap length (sym (rows_refused q g) ∙ e), length-refused_told q, length-spans_told L))
+        by : (j : Judged) → GivenLineRoom s j → GivenLineRoom s (Ok tt)
+        by (Ok _) g = g
+        by (Err q) g = absurd (omega (arith, ap length (sym (rows_refused q g) ∙ e), length-refused_told q, length-spans_told L))
 
-  pub refused_rows : (q : Refusal) → refusal_place q < 16 ^ 8 → rows_told s ≡ refused_told q → GivenLineRoom s (Refused q)
+  pub refused_rows : (q : Refusal) → refusal_place q < 16 ^ 8 → rows_told s ≡ refused_told q → GivenLineRoom s (Err q)
   refused_rows q h e = let x = line_room_given in by x.0 x.1
     where
       seam : (r : Refusal) → take refused_digits (refused_told r) ≡ refused_line r
@@ -95,22 +95,22 @@ module _ (s : List ℕ) where
       bare : (r : Refusal) → refused_told r ≡ refused_told q → refused_line r ≡ refused_line q
       bare r f = sym (seam r) ∙ ap (take refused_digits) f ∙ seam q
 
-      by : (j : Judged) → GivenLineRoom s j → GivenLineRoom s (Refused q)
-      by Good g =
+      by : (j : Judged) → GivenLineRoom s j → GivenLineRoom s (Err q)
+      by (Ok _) g =
           let L = rows_of origin left in
           absurd (omega (arith, ap length (sym (rows-room L (rows_of-rows origin left (room_of g).1.closed) g) ∙ e), length-refused_told q, length-spans_told L))
-      by (Refused r) g = subst (λ (x : Refusal). GivenLineRoom s (Refused x)) (refusal_one r q (refusal_read r (place_small r g)) (subst (λ (l : List ℕ). RefusalRead l q) (sym (bare r (sym (rows_refused r g) ∙ e))) (refusal_read q h))) g
+      by (Err r) g = subst (λ (x : Refusal). GivenLineRoom s (Err x)) (refusal_one r q (refusal_read r (place_small r g)) (subst (λ (l : List ℕ). RefusalRead l q) (sym (bare r (sym (rows_refused r g) ∙ e))) (refusal_read q h))) g
 
 -- of a frame with these operations
 module _ (s os : List ℕ) (frame : FrameIs s 0 os) (L : List Span) (rows : RowsIs (Inside origin (survivors os)) L) where
   read-rows : RowsIs (Inside origin (survivors (digits_of s))) L
   read-rows = subst (λ (ds : List ℕ). RowsIs (Inside origin (survivors ds)) L) (sym (frame_read (omega arith) frame).1) rows
 
-  pub rows-when : rows_told s ≡ spans_told L ↔ GivenLineRoom s Good
+  pub rows-when : rows_told s ≡ spans_told L ↔ GivenLineRoom s (Ok tt)
   rows-when = (room-rows s L read-rows, rows-room s L read-rows)
 
-  pub spans_when : GivenLineRoom s Good → SpansRead (rows_told s) L
+  pub spans_when : GivenLineRoom s (Ok tt) → SpansRead (rows_told s) L
   spans_when = rows_spans s L read-rows
 
-pub rows_refusal : (s : List ℕ) (q : Refusal) → GivenLineRoom s (Refused q) → (l : List ℕ) × (rows_told s ≡ l ++ (10 ∷ [])) × RefusalRead l q × (feeds_in l ≡ 0)
+pub rows_refusal : (s : List ℕ) (q : Refusal) → GivenLineRoom s (Err q) → (l : List ℕ) × (rows_told s ≡ l ++ (10 ∷ [])) × RefusalRead l q × (feeds_in l ≡ 0)
 rows_refusal s q g = (refused_line q, rows_refused s q g, refusal_read q (place_small s q g), refused_line_feeds q)

@@ -1,13 +1,13 @@
 -- What is asked of the programs on lines (RULES 7, 14.6 to 14.8, 20), as theorems about their definitions. Each is proved by
 -- naming a law.
 -- Assumes nothing.
+use Rattle.std.specs.Prelude.{Err, Ok, Some}
 use mathlib.Core.Path.{◌≡◌}
 use mathlib.Core.List.{List, [], ◌∷◌, ◌++◌}
 use mathlib.Core.Logic.{◌↔◌}
 use Prim.Native.Nat.{ℕ, ◌^◌, ◌<◌}
 use lib.ListN.{length}
-use Rattle.answer.specs.declared.Judged.{Judged}
-use Rattle.answer.specs.declared.Judged.TheVariants.{Good, Refused}
+use Rattle.answer.specs.Answers.{Judged}
 use Rattle.answer.specs.declared.Refusal.{Refusal}
 use Rattle.answer.specs.declared.Refusal.TheVariants.{RetiredKind}
 use Rattle.answer.specs.Refusal.{refusal_number, refusal_place}
@@ -22,7 +22,7 @@ use Rattle.hull.specs.Hull.{HullIs}
 use Rattle.panels.specs.Inside.{Inside}
 use Rattle.polygon.specs.Polygon.{polygon_of}
 use Rattle.row.specs.Rows.{Span, RowsIs}
-use Rattle.line_frame.specs.declared.{Kind.TheVariants.Operations, Kind.TheVariants.Turns, Frame.TheVariants.Of}
+use Rattle.line_frame.specs.declared.{Kind.TheVariants.Operations, Kind.TheVariants.Turns}
 use Rattle.line_frame.specs.Line.{frame_of, digits_of, line_answer, kind_walked}
 use Rattle.line_frame.specs.Spelled.{refused_line, facts_line, hull_line, answer_line}
 use Rattle.line_frame.specs.Program.{output_from, feeds_in, answered, program}
@@ -54,21 +54,21 @@ line_answers = line_call_laws.line_given
 
 -- each refusal is written exactly on its occasion; a place that has more than eight digits is not a place of a line
 pub line_refused_exactly : (s : List ℕ) (q : Refusal) → refusal_place q < 16 ^ 8
-    → line_answer s ≡ refused_line q ↔ GivenLine s (Refused q)
+    → line_answer s ≡ refused_line q ↔ GivenLine s (Err q)
 line_refused_exactly s q h = (line_call_laws.refused_line_lem s q h, λ g. (line_call_laws.line_refused s q g).0)
 
 -- and the facts of the surviving steps with their hull exactly on the occasion of acceptance
 pub line_accepted_exactly : (s os : List ℕ) → FrameIs s 0 os → (L : List Corner) → HullIs (corners_from origin (survivors os)) L
-    → line_answer s ≡ facts_line (facts_of origin (survivors os)) ++ hull_line L ↔ GivenLine s Good
+    → line_answer s ≡ facts_line (facts_of origin (survivors os)) ++ hull_line L ↔ GivenLine s (Ok tt)
 line_accepted_exactly = line_call_laws.accepted_when
 
 -- what is read in a line that is written: its fields give number and place of the refusal, or the facts and the corners of the
 -- hull
-pub line_refused_read : (s : List ℕ) (q : Refusal) → GivenLine s (Refused q) → RefusalRead (line_answer s) q
+pub line_refused_read : (s : List ℕ) (q : Refusal) → GivenLine s (Err q) → RefusalRead (line_answer s) q
 line_refused_read s q g = (line_call_laws.line_refused s q g).1
 
 pub line_accepted_read : (s os : List ℕ) → FrameIs s 0 os → (L : List Corner) → HullIs (corners_from origin (survivors os)) L
-    → GivenLine s Good → AnswerRead (line_answer s) (facts_of origin (survivors os)) L
+    → GivenLine s (Ok tt) → AnswerRead (line_answer s) (facts_of origin (survivors os)) L
 line_accepted_read = line_call_laws.line_read
 
 -- "each frame gives one line, ended by a line feed": there is none in an answer, and as many lines are written as are read
@@ -79,7 +79,7 @@ pub program_lines : (s : List ℕ) → feeds_in (program s) ≡ lines_in s
 program_lines = line_call_laws.program_lines
 
 -- "19, retired kind, for any well-formed 01 frame, before its digits are judged"
-pub retired : (s : List ℕ) (n : ℕ) → frame_of s ≡ Of Turns n → line_answer s ≡ refused_line RetiredKind
+pub retired : (s : List ℕ) (n : ℕ) → frame_of s ≡ Some (Turns, n) → line_answer s ≡ refused_line RetiredKind
 retired = line_laws.line_answer-turns
 
 -- ---- the converter
@@ -131,20 +131,20 @@ pub rows_line_answers : (s : List ℕ) → (j : Judged) × GivenLineRoom s j
 rows_line_answers = line_room_laws.line_room_given
 
 pub rows_line_refused_exactly : (s : List ℕ) (q : Refusal) → refusal_place q < 16 ^ 8
-    → rows_told s ≡ refused_told q ↔ GivenLineRoom s (Refused q)
+    → rows_told s ≡ refused_told q ↔ GivenLineRoom s (Err q)
 rows_line_refused_exactly s q h = (line_room_laws.refused_rows s q h, line_room_laws.rows_refused s q)
 
 -- the spans are those of the panels inside the room
 pub rows_line_exactly : (s os : List ℕ) → FrameIs s 0 os → (L : List Span) → RowsIs (Inside origin (survivors os)) L
-    → rows_told s ≡ spans_told L ↔ GivenLineRoom s Good
+    → rows_told s ≡ spans_told L ↔ GivenLineRoom s (Ok tt)
 rows_line_exactly = line_room_laws.rows-when
 
 -- and row, first and last panel of each are read back, one span on each line
 pub rows_line_read : (s os : List ℕ) → FrameIs s 0 os → (L : List Span) → RowsIs (Inside origin (survivors os)) L
-    → GivenLineRoom s Good → SpansRead (rows_told s) L
+    → GivenLineRoom s (Ok tt) → SpansRead (rows_told s) L
 rows_line_read = line_room_laws.spans_when
 
-pub rows_line_refused_read : (s : List ℕ) (q : Refusal) → GivenLineRoom s (Refused q)
+pub rows_line_refused_read : (s : List ℕ) (q : Refusal) → GivenLineRoom s (Err q)
     → (l : List ℕ) × (rows_told s ≡ l ++ (10 ∷ [])) × RefusalRead l q × (feeds_in l ≡ 0)
 rows_line_refused_read = line_room_laws.rows_refusal
 
@@ -152,25 +152,25 @@ rows_line_refused_read = line_room_laws.rows_refusal
 -- row n has a line's refusal exactly on its occasion, and none exactly if the line is accepted
 pub row_refused_exactly : (s : List ℕ) (n : ℕ) → n < 10 ^ most_decimals → (q : Refusal)
     → (number_at (cell_of n ++ entry_of s) 1 ≡ refusal_number q) × (number_at (cell_of n ++ entry_of s) 2 ≡ refusal_place q)
-    ↔ GivenLine s (Refused q)
+    ↔ GivenLine s (Err q)
 row_refused_exactly = line_row_laws.row_refused_exactly
 
 pub row_accepted_exactly : (s : List ℕ) (n : ℕ) → n < 10 ^ most_decimals
-    → number_at (cell_of n ++ entry_of s) 1 ≡ 0 ↔ GivenLine s Good
+    → number_at (cell_of n ++ entry_of s) 1 ≡ 0 ↔ GivenLine s (Ok tt)
 row_accepted_exactly = line_row_laws.row_accepted_exactly
 
 -- what is read in its cells: nothing after the refusal and its place if a line is refused
-pub row_refused_read : (s : List ℕ) (n : ℕ) → n < 10 ^ most_decimals → (q : Refusal) → GivenLine s (Refused q)
+pub row_refused_read : (s : List ℕ) (n : ℕ) → n < 10 ^ most_decimals → (q : Refusal) → GivenLine s (Err q)
     → RefusedRow (cell_of n ++ entry_of s) n (refusal_number q) (refusal_place q)
 row_refused_read = line_row_laws.row_refused
 
 -- otherwise the facts, with the bytes of the polygon of a room, and no byte for a walk that is not a room
-pub row-room-read : (s : List ℕ) (n : ℕ) → n < 10 ^ most_decimals → (os : List ℕ) → FrameIs s 0 os → GivenLine s Good
+pub row-room-read : (s : List ℕ) (n : ℕ) → n < 10 ^ most_decimals → (os : List ℕ) → FrameIs s 0 os → GivenLine s (Ok tt)
     → IsRoom origin (survivors os)
     → RowRead (cell_of n ++ entry_of s) n 0 0 (facts_of origin (survivors os)) (polygon_of origin (survivors os))
 row-room-read = line_row_laws.row_room
 
-pub row_other_read : (s : List ℕ) (n : ℕ) → n < 10 ^ most_decimals → (os : List ℕ) → FrameIs s 0 os → GivenLine s Good
+pub row_other_read : (s : List ℕ) (n : ℕ) → n < 10 ^ most_decimals → (os : List ℕ) → FrameIs s 0 os → GivenLine s (Ok tt)
     → (IsRoom origin (survivors os) → ⊥)
     → RowRead (cell_of n ++ entry_of s) n 0 0 (facts_of origin (survivors os)) []
 row_other_read = line_row_laws.row_other

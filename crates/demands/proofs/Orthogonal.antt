@@ -1,6 +1,7 @@
 -- What is asked of the orthogonal hull of a room (RULES 21), as theorems about the hull, `OrthogonalHullIs`, its outline,
 -- `OutlinesHull`, and the call's promise, `OrthogonalCall`. Each is proved by naming a law.
 -- Assumes nothing.
+use Rattle.std.specs.Prelude.{Err, Ok}
 use mathlib.Core.Bool.{Bool, true}
 use mathlib.Core.List.{List, ◌++◌}
 use mathlib.Core.Logic.{◌↔◌}
@@ -8,15 +9,16 @@ use mathlib.Core.Path.{◌≡◌, ap}
 use Prim.Native.Nat.{ℕ, ◌+◌, ◌*◌, ◌<◌, ◌≤◌}
 use lib.IntN.{pos, nat_abs, ◌-ℤ◌}
 use lib.ListN.{length, drop}
+use Rattle.orthogonal.specs.Answers.{Orthogonal}
 use Rattle.lists.specs.Lists.{Below}
-use Rattle.answer.specs.declared.{Judged.TheVariants.Good, Refusal.Refusal}
+use Rattle.answer.specs.declared.{Refusal.Refusal}
 use Rattle.answer.specs.Limits.{most_steps}
 use Rattle.grid.specs.declared.{Corner.Corner, Panel.Panel}
 use Rattle.trace.specs.Verdict.{IsRoom, area_of}
 use Rattle.panels.specs.Box.{Box}
 use Rattle.panels.specs.Inside.{Inside, panels_inside}
 use Rattle.outline.specs.Outline.{home_of, OutlineIs}
-use Rattle.orthogonal.specs.declared.{Enclosed.Enclosed, Orthogonal.Orthogonal}
+use Rattle.orthogonal.specs.declared.{Enclosed.Enclosed}
 use Rattle.orthogonal.specs.Blocks.{HoldsInside, Contains, Unbroken, Passing, OrthogonalHullIs}
 use Rattle.orthogonal.specs.Call.{OutlinesHull, enclosed_of, OrthogonalCall, orthogonal_words}
 use Rattle.orthogonal_laws.specs.Connected.{Connected, Quadrants}
@@ -139,21 +141,21 @@ module _ (s : Corner) (ds : List ℕ) (g : ℕ) (before : List ℕ) where
 
   -- "a buffer as long as the chain always suffices": then a room with a grid size is accepted
   pub orthogonal_enough : {r : Orthogonal} {after : List ℕ} → OrthogonalCall s ds g before r after → GridSized g
-      → GivenRoom s ds Good → length ds ≤ length before → (h : Enclosed) × (r ≡ Orthogonal.Outlined h)
+      → GivenRoom s ds (Ok tt) → length ds ≤ length before → (h : Enclosed) × (r ≡ Ok h)
   orthogonal_enough = given_laws.orthogonal_enough s ds g before
 
   module _ {after : List ℕ} where
     -- "nothing written"
-    pub orthogonal_untouched : (q : Refusal) → OrthogonalCall s ds g before (Orthogonal.Refused q) after → after ≡ before
+    pub orthogonal_untouched : (q : Refusal) → OrthogonalCall s ds g before (Err q) after → after ≡ before
     orthogonal_untouched = given_laws.orthogonal_untouched s ds g before
 
     -- the outline, and "bytes after the chain are unchanged"
-    pub orthogonal_written : (h : Enclosed) → OrthogonalCall s ds g before (Orthogonal.Outlined h) after
+    pub orthogonal_written : (h : Enclosed) → OrthogonalCall s ds g before (Ok h) after
         → (start : Corner) × (steps : List ℕ) × OutlinesHull s ds g start steps × (h ≡ enclosed_of start steps)
         × (after ≡ steps ++ drop (length steps) before)
     orthogonal_written = given_laws.orthogonal_written s ds g before
 
     -- 16,384 bytes are enough, and there are at most 67,108,864 blocks
-    pub orthogonal_most : (h : Enclosed) → OrthogonalCall s ds g before (Orthogonal.Outlined h) after
+    pub orthogonal_most : (h : Enclosed) → OrthogonalCall s ds g before (Ok h) after
         → (h.steps ≤ most_steps) × (4 * h.blocks ≤ most_steps * most_steps)
     orthogonal_most = given_laws.orthogonal_most s ds g before

@@ -1,14 +1,16 @@
 -- What is asked of the outer outline of a walk (RULES 15), as theorems about the definition, `OutlineIs`, and about the call's
 -- promise, `OutlineCall`. Each is proved by naming a law.
 -- Assumes nothing.
+use Rattle.std.specs.Prelude.{Err, Ok}
 use mathlib.Core.Bool.{true}
 use mathlib.Core.List.{List, [], ◌∷◌, ◌++◌, Memᴰ}
 use mathlib.Core.Logic.{◌⊎◌, ◌↔◌}
 use mathlib.Core.Path.{◌≡◌, ap}
 use Prim.Native.Nat.{ℕ, ◌*◌, ◌<◌, ◌≤◌}
 use lib.ListN.{length, drop}
+use Rattle.answer.specs.Answers.{Counted}
 use Rattle.lists.specs.Lists.{Distinct, Below}
-use Rattle.answer.specs.declared.{Counted.Counted, Judged.TheVariants.Good, Judged.TheVariants.Refused, Refusal.Refusal}
+use Rattle.answer.specs.declared.{Refusal.Refusal}
 use Rattle.answer.specs.Limits.{most_steps}
 use Rattle.answer.specs.Refusal.{refusal_number, refusal_place}
 use Rattle.answer.specs.Words.{counted_words}
@@ -134,32 +136,32 @@ outline_call_one = outline_call_laws.outline_call_one
 module _ {s : Corner} {ds before after : List ℕ} {r : Counted} (w : OutlineCall s ds before r after) where
   -- "1, 10, 4 and 6 for start and chain; then 11": each exactly on its occasion
   pub outline_refused_exactly : (q : Refusal)
-      → r ≡ Counted.Refused q ↔ GivenOutline s ds (length before) (length w.steps) (Refused q)
+      → r ≡ Err q ↔ GivenOutline s ds (length before) (length w.steps) (Err q)
   outline_refused_exactly = given_laws.refused_when w
 
   -- and acceptance exactly on its own, with the number of steps
-  pub outline_written_exactly : r ≡ Counted.Many (length w.steps) ↔ GivenOutline s ds (length before) (length w.steps) Good
+  pub outline_written_exactly : r ≡ Ok (length w.steps) ↔ GivenOutline s ds (length before) (length w.steps) (Ok tt)
   outline_written_exactly = given_laws.written_when w
 
   -- the numbers of each
-  pub outline_refused_words : (q : Refusal) → GivenOutline s ds (length before) (length w.steps) (Refused q)
+  pub outline_refused_words : (q : Refusal) → GivenOutline s ds (length before) (length w.steps) (Err q)
       → counted_words r ≡ refusal_number q ∷ refusal_place q ∷ 0 ∷ []
   outline_refused_words q g = ap counted_words ((outline_refused_exactly q).1 g)
 
-  pub outline_written_words : GivenOutline s ds (length before) (length w.steps) Good
+  pub outline_written_words : GivenOutline s ds (length before) (length w.steps) (Ok tt)
       → counted_words r ≡ 0 ∷ 0 ∷ length w.steps ∷ []
   outline_written_words g = ap counted_words (outline_written_exactly.1 g)
 
 module _ (s : Corner) (ds before : List ℕ) {after : List ℕ} where
   -- "nothing written"
-  pub outline_untouched : (q : Refusal) → OutlineCall s ds before (Counted.Refused q) after → after ≡ before
+  pub outline_untouched : (q : Refusal) → OutlineCall s ds before (Err q) after → after ≡ before
   outline_untouched = call_laws.call_untouched
 
   -- "the length is answered; bytes after it are unchanged"
-  pub outline_written : (n : ℕ) (w : OutlineCall s ds before (Counted.Many n) after)
+  pub outline_written : (n : ℕ) (w : OutlineCall s ds before (Ok n) after)
       → (n ≡ length w.steps) × (after ≡ w.steps ++ drop (length w.steps) before)
   outline_written = given_laws.call_written s ds before
 
   -- 32,768 bytes are enough
-  pub outline_most : (n : ℕ) → OutlineCall s ds before (Counted.Many n) after → n ≤ 2 * most_steps
+  pub outline_most : (n : ℕ) → OutlineCall s ds before (Ok n) after → n ≤ 2 * most_steps
   outline_most = given_laws.call_most s ds before

@@ -1,5 +1,6 @@
 -- The judgements of the outline's call are given on their occasions and on no other; its promise taken apart.
 -- Assumes nothing.
+use Rattle.std.specs.Prelude.{Err, Ok}
 use mathlib.Core.Bool.{Bool}
 use mathlib.Core.List.{List, ◌++◌}
 use mathlib.Core.Logic.{◌↔◌}
@@ -10,7 +11,8 @@ use native.Mathlib.Omega.{arith}
 use borrow.Author.Tests.{lt-ltb, le-ltb}
 use lib.Dec.{ltb}
 use lib.ListN.{length, drop}
-use Rattle.answer.specs.declared.{Counted.Counted, Judged.Judged, Judged.TheVariants.Good, Judged.TheVariants.Refused, Refusal.Refusal}
+use Rattle.answer.specs.Answers.{Counted, Judged}
+use Rattle.answer.specs.declared.{Refusal.Refusal}
 use Rattle.answer.specs.declared.Refusal.TheVariants.{OutlineRoom}
 use Rattle.answer.specs.Limits.{most_steps}
 use Rattle.answer.specs.Refusal.{when}
@@ -29,19 +31,19 @@ use Rattle.demands.specs.GivenOutline as given
 use Rattle.demands.proofs.DigitLaws.{chain-when}
 
 module _ (s : Corner) (ds : List ℕ) (room steps : ℕ) where
-  last : GivenChain s ds Good → outline_judged s ds room steps ≡ when (ltb room steps) OutlineRoom
-  last g = judged-last s ds room steps ((chain-when s ds Good).1 g)
+  last : GivenChain s ds (Ok tt) → outline_judged s ds room steps ≡ when (ltb room steps) OutlineRoom
+  last g = judged-last s ds room steps ((chain-when s ds (Ok tt)).1 g)
 
   given_outline : (j : Judged) → GivenOutline s ds room steps j → outline_judged s ds room steps ≡ j
-  given_outline _ (given.not_walk q g) = judged_refused s ds room steps q ((chain-when s ds (Refused q)).1 g)
+  given_outline _ (given.not_walk q g) = judged_refused s ds room steps q ((chain-when s ds (Err q)).1 g)
   given_outline _ (given.outline_room g l) = last g ∙ ap (λ (b : Bool). when b OutlineRoom) (lt-ltb room steps l)
   given_outline _ (given.accepted g l) = last g ∙ ap (λ (b : Bool). when b OutlineRoom) (le-ltb room steps l)
 
   by_chain : (j : Judged) → as_walk_judged s ds ≡ j → (k : Judged) × GivenOutline s ds room steps k
-  by_chain Good e =
-      let g = (chain-when s ds Good).0 e in
-      elim (dec_lt room steps) [ yes k ↦ (Refused OutlineRoom, given.outline_room g k) | no k ↦ (Good, given.accepted g (omega arith)) ]
-  by_chain (Refused q) e = (Refused q, given.not_walk q ((chain-when s ds (Refused q)).0 e))
+  by_chain (Ok _) e =
+      let g = (chain-when s ds (Ok tt)).0 e in
+      elim (dec_lt room steps) [ yes k ↦ (Err OutlineRoom, given.outline_room g k) | no k ↦ (Ok tt, given.accepted g (omega arith)) ]
+  by_chain (Err q) e = (Err q, given.not_walk q ((chain-when s ds (Err q)).0 e))
 
   outline_when : (j : Judged) → outline_judged s ds room steps ≡ j ↔ GivenOutline s ds room steps j
   outline_when j =
@@ -55,26 +57,26 @@ module _ {s : Corner} {ds before : List ℕ} {r : Counted} {after : List ℕ} (w
   abbrev judged : Judged
   judged = outline_judged s ds (length before) n
 
-  pub refused_when : (q : Refusal) → r ≡ Counted.Refused q ↔ GivenOutline s ds (length before) (length w.steps) (Refused q)
+  pub refused_when : (q : Refusal) → r ≡ Err q ↔ GivenOutline s ds (length before) (length w.steps) (Err q)
   refused_when q = (
-    λ e. (outline_when s ds (length before) n (Refused q)).0 (count_refused judged n q (sym e ∙ w.answer)),
-    λ g. w.answer ∙ ap (λ (j : Judged). counted_of j n) ((outline_when s ds (length before) n (Refused q)).1 g),
+    λ e. (outline_when s ds (length before) n (Err q)).0 (count_refused judged n q (sym e ∙ w.answer)),
+    λ g. w.answer ∙ ap (λ (j : Judged). counted_of j n) ((outline_when s ds (length before) n (Err q)).1 g),
   )
 
-  pub written_when : r ≡ Counted.Many (length w.steps) ↔ GivenOutline s ds (length before) (length w.steps) Good
+  pub written_when : r ≡ Ok (length w.steps) ↔ GivenOutline s ds (length before) (length w.steps) (Ok tt)
   written_when = (
-    λ e. (outline_when s ds (length before) n Good).0 (count_good judged n (sym e ∙ w.answer)),
-    λ g. w.answer ∙ ap (λ (j : Judged). counted_of j n) ((outline_when s ds (length before) n Good).1 g),
+    λ e. (outline_when s ds (length before) n (Ok tt)).0 (count_good judged n (sym e ∙ w.answer)),
+    λ g. w.answer ∙ ap (λ (j : Judged). counted_of j n) ((outline_when s ds (length before) n (Ok tt)).1 g),
   )
 
-module _ (s : Corner) (ds before : List ℕ) {after : List ℕ} (n : ℕ) (w : OutlineCall s ds before (Counted.Many n) after) where
-  call_good : (outline_judged s ds (length before) (length w.steps) ≡ Good) × (n ≡ length w.steps) × (after ≡ w.steps ++ drop (length w.steps) before)
+module _ (s : Corner) (ds before : List ℕ) {after : List ℕ} (n : ℕ) (w : OutlineCall s ds before (Ok n) after) where
+  call_good : (outline_judged s ds (length before) (length w.steps) ≡ Ok tt) × (n ≡ length w.steps) × (after ≡ w.steps ++ drop (length w.steps) before)
   call_good = go (outline_judged s ds (length before) (length w.steps)) refl w.answer w.buffer
     where
-      go : (j : Judged) → outline_judged s ds (length before) (length w.steps) ≡ j → Counted.Many n ≡ counted_of j (length w.steps) → after ≡ laid_if j w.steps before
-          → (outline_judged s ds (length before) (length w.steps) ≡ Good) × (n ≡ length w.steps) × (after ≡ w.steps ++ drop (length w.steps) before)
-      go Good f e b = (f, cc, b)
-      go (Refused q) f e b = absurd (let z : ◌≡◌ {A = ℕ} 0 1 = cc in omega arith)
+      go : (j : Judged) → outline_judged s ds (length before) (length w.steps) ≡ j → Ok n ≡ counted_of j (length w.steps) → after ≡ laid_if j w.steps before
+          → (outline_judged s ds (length before) (length w.steps) ≡ Ok tt) × (n ≡ length w.steps) × (after ≡ w.steps ++ drop (length w.steps) before)
+      go (Ok _) f e b = (f, cc, b)
+      go (Err q) f e b = absurd (let z : ◌≡◌ {A = ℕ} 0 1 = cc in omega arith)
 
   pub call_written : (n ≡ length w.steps) × (after ≡ w.steps ++ drop (length w.steps) before)
   call_written = let g = call_good in (g.1, g.2)

@@ -1,6 +1,7 @@
 -- What holds of two rooms laid over each other (RULES 16), as theorems about the parts and about the promise of the call that
 -- lists them, `OverlayCall`. A room is a start and steps.
 -- Assumes nothing.
+use Rattle.std.specs.Prelude.{Err, Ok}
 use mathlib.Core.List.{List, [], ◌++◌, Memᴰ}
 use mathlib.Core.Logic.{◌↔◌}
 use mathlib.Core.Path.{◌≡◌, ap, sym, ◌∙◌}
@@ -8,6 +9,7 @@ use Prim.Native.Nat.{ℕ, ◌+◌, ◌*◌, ◌^◌, ◌≤◌}
 use native.Mathlib.Omega.{arith}
 use lib.IntN.{ℤ, nat_abs}
 use lib.ListN.{length, drop}
+use Rattle.overlay.specs.Answers.{Overlaid}
 use Rattle.lists.specs.Lists.{Distinct}
 use Rattle.answer.specs.declared.Refusal.{Refusal}
 use Rattle.grid.specs.declared.{Corner.Corner, Panel.Panel}
@@ -17,7 +19,7 @@ use Rattle.panels.specs.Inside.{Inside}
 use Rattle.row.specs.Rows.{Span, RowsIs, lengths_of, span_numbers}
 use Rattle.row_laws.proofs.{OneLaws.rows_is_one, RowLaws.rows_is_rows_of}
 use Rattle.room_laws.proofs.RoomLaws.{room_panels}
-use Rattle.overlay.specs.declared.{Part.Part, Part.TheVariants.First, Part.TheVariants.Second, Part.TheVariants.Both, Measure.Measure, Measures.Measures, Overlaid.Overlaid}
+use Rattle.overlay.specs.declared.{Part.Part, Part.TheVariants.First, Part.TheVariants.Second, Part.TheVariants.Both, Measure.Measure, Measures.Measures}
 use Rattle.overlay.specs.{Overlay.InPart, Call.of_parts, Call.measure_of, Call.measures_of, Call.overlaid_words, Call.OverlayCall}
 use Rattle.overlay_laws.specs.Sweep.{lists_of}
 use Rattle.overlay_laws.proofs.OverlayLaws.{lists-rows, parts_listed, length_parts, none_listed}
@@ -102,11 +104,11 @@ module _ (s : Corner) (ds : List ℕ) (t : Corner) (es : List ℕ) (before : Par
 
   module _ {after : Part → List ℤ} where
     -- a refusal writes in none of the three buffers
-    pub overlay_untouched : (q : Refusal) → OverlayCall s ds t es before (Overlaid.Refused q) after
+    pub overlay_untouched : (q : Refusal) → OverlayCall s ds t es before (Err q) after
         → (k : Part) → after k ≡ before k
     overlay_untouched = overlay_call_laws.overlay_untouched s ds t es before
 
-    module _ (m : Measures) (w : OverlayCall s ds t es before (Overlaid.Listed m) after) where
+    module _ (m : Measures) (w : OverlayCall s ds t es before (Ok m) after) where
       -- the lists, and the numbers after each as they were
       pub overlay_written : (L : Part → List Span) × PartsAre s ds t es L × (m ≡ measures_of L)
           × ((k : Part) → after k ≡ span_numbers (L k) ++ drop (3 * length (L k)) (before k))
@@ -162,7 +164,7 @@ module _ (s : Corner) (ds : List ℕ) (t : Corner) (es : List ℕ) where
   )
 
   pub overlay_exchanged : {before after before' after' : Part → List ℤ} (m n : Measures)
-      → OverlayCall s ds t es before (Overlaid.Listed m) after → OverlayCall t es s ds before' (Overlaid.Listed n) after'
+      → OverlayCall s ds t es before (Ok m) after → OverlayCall t es s ds before' (Ok n) after'
       → (m.first ≡ n.second) × (m.second ≡ n.first) × (m.both ≡ n.both)
   overlay_exchanged {before} {after} {before'} {after'} m n w v =
       let d = overlay_call_laws.overlay_laid s ds t es before m w in
@@ -175,7 +177,7 @@ module _ (s : Corner) (ds : List ℕ) (t : Corner) (es : List ℕ) where
 
 -- a room over itself: nothing in the first only or in the second only, and the magnitude of its area in both
 pub overlay_itself : (s : Corner) (ds : List ℕ) {before after : Part → List ℤ} (m : Measures)
-    → OverlayCall s ds s ds before (Overlaid.Listed m) after
+    → OverlayCall s ds s ds before (Ok m) after
     → (m.first ≡ measure_of []) × (m.second ≡ measure_of []) × (m.both.panels ≡ nat_abs (area_of s ds))
 overlay_itself s ds {before} m w =
     let d = overlay_call_laws.overlay_laid s ds s ds before m w in

@@ -1,5 +1,6 @@
 -- The answers of the call on two rooms are given on their occasions and on no other; its promise taken apart; how many panels a list has.
 -- Assumes nothing.
+use Rattle.std.specs.Prelude.{Err, Ok}
 use mathlib.Core.List.{List, ◌++◌, Memᴰ}
 use mathlib.Core.Logic.{◌↔◌, ⊎_elim}
 use mathlib.Core.Path.{◌≡◌, refl, ap, sym, ◌∙◌, subst}
@@ -7,9 +8,11 @@ use Prim.Native.Nat.{ℕ, ◌*◌, ◌^◌, ◌<◌, ◌≤◌}
 use native.Mathlib.Omega.{arith}
 use lib.IntN.{ℤ, nat_abs}
 use lib.ListN.{length, drop}
+use Rattle.overlay.specs.Answers.{Overlaid}
+use Rattle.answer.specs.Answers.{Judged}
 use Rattle.lists.specs.Lists.{Distinct}
 use Rattle.lists.proofs.PigeonLaws.{pigeon}
-use Rattle.answer.specs.declared.{Judged.Judged, Judged.TheVariants.Good, Judged.TheVariants.Refused, Refusal.Refusal, Refusal.TheVariants.SpanRoom}
+use Rattle.answer.specs.declared.{Refusal.Refusal, Refusal.TheVariants.SpanRoom}
 use Rattle.answer.specs.Limits.{farthest}
 use Rattle.answer.specs.Listed.{laid_if}
 use Rattle.grid.specs.declared.{Corner.Corner, Panel.Panel}
@@ -19,7 +22,7 @@ use Rattle.room.specs.Room.{as_room_judged}
 use Rattle.room.proofs.RoomLaws.{good_room}
 use Rattle.row.specs.{Rows.Span, Rows.RowsIs, Rows.lengths_of, Rows.span_numbers}
 use Rattle.row_laws.proofs.{OneLaws.rows_is_one, CallLaws.good_steps, SpanLaws.panels_of, SpanLaws.length_panels, SpanLaws.spans_panels, NumberLaws.numbers_thrice}
-use Rattle.overlay.specs.declared.{Part.Part, Part.TheVariants.First, Part.TheVariants.Second, Part.TheVariants.Both, Measures.Measures, Overlaid.Overlaid}
+use Rattle.overlay.specs.declared.{Part.Part, Part.TheVariants.First, Part.TheVariants.Second, Part.TheVariants.Both, Measures.Measures}
 use Rattle.overlay.specs.{Overlay.InPart, Call.of_parts, Call.overlay_judged, Call.measure_of, Call.measures_of, Call.overlaid_of, Call.OverlayCall}
 use Rattle.overlay_laws.specs.Sweep.{lists_of}
 use Rattle.overlay_laws.proofs.{OverlayLaws.lists-rows, FewLaws.sweep_bound, CallLaws.first_refused, CallLaws.second_refused, CallLaws.both_rooms, CallLaws.any-short, CallLaws.all_enough, CallLaws.short_or_enough}
@@ -36,7 +39,7 @@ panels_counted M L k ps once in-ps =
     omega (arith, a, b, length_panels L)
 
 -- the magnitude of a room's area
-pub area_few : (c : Corner) (ds : List ℕ) → as_room_judged c ds ≡ Good → nat_abs (area_of c ds) ≤ 2 ^ 29
+pub area_few : (c : Corner) (ds : List ℕ) → as_room_judged c ds ≡ Ok tt → nat_abs (area_of c ds) ≤ 2 ^ 29
 area_few c ds e =
     let r = good_room c ds e in
     let n = (good_steps c ds e).1 in
@@ -64,80 +67,80 @@ module _ (s : Corner) (ds : List ℕ) (t : Corner) (es : List ℕ) (before : Par
     at-judged : (j : Judged) → judged_by w.lists ≡ j → (r ≡ overlaid_of j w.lists) × ((k : Part) → after k ≡ laid_if j (span_numbers (w.lists k)) (before k))
     at-judged j e = (w.answer ∙ ap (λ (i : Judged). overlaid_of i w.lists) e, λ k. w.buffers k ∙ ap (λ (i : Judged). laid_if i (span_numbers (w.lists k)) (before k)) e)
 
-    module _ (e : as_room_judged s ds ≡ Good) (f : as_room_judged t es ≡ Good) where
-      judged-short : (k : Part) → room k < 3 * length (w.lists k) → judged_by w.lists ≡ Refused SpanRoom
+    module _ (e : as_room_judged s ds ≡ Ok tt) (f : as_room_judged t es ≡ Ok tt) where
+      judged-short : (k : Part) → room k < 3 * length (w.lists k) → judged_by w.lists ≡ Err SpanRoom
       judged-short k h = both_rooms s ds t es before w.lists e f ∙ any-short before w.lists k h
 
-      judged_listed : ((k : Part) → 3 * length (w.lists k) ≤ room k) → judged_by w.lists ≡ Good
+      judged_listed : ((k : Part) → 3 * length (w.lists k) ≤ room k) → judged_by w.lists ≡ Ok tt
       judged_listed h = both_rooms s ds t es before w.lists e f ∙ all_enough before w.lists h
 
       same_lists : (L : Part → List Span) → PartsAre s ds t es L → (k : Part) → L k ≡ w.lists k
       same_lists L g k = rows_is_one (InPart k s ds t es) (L k) (w.lists k) (g k) (w.rows e f k)
 
     given_answer : (x : Overlaid) → GivenOverlay s ds t es room x → r ≡ x
-    given_answer _ (given.first_none q g) = (at-judged (Refused q) (first_refused s ds t es before w.lists q ((room-when s ds (Refused q)).1 g))).0
-    given_answer _ (given.second_none q g h) = (at-judged (Refused q) (second_refused s ds t es before w.lists q ((room-when s ds Good).1 g) ((room-when t es (Refused q)).1 h))).0
+    given_answer _ (given.first_none q g) = (at-judged (Err q) (first_refused s ds t es before w.lists q ((room-when s ds (Err q)).1 g))).0
+    given_answer _ (given.second_none q g h) = (at-judged (Err q) (second_refused s ds t es before w.lists q ((room-when s ds (Ok tt)).1 g) ((room-when t es (Err q)).1 h))).0
     given_answer _ (given.span_room g h L l k i) =
-        let e = (room-when s ds Good).1 g in
-        let f = (room-when t es Good).1 h in
-        (at-judged (Refused SpanRoom) (judged-short e f k (omega (arith, ap length (same_lists e f L l k))))).0
+        let e = (room-when s ds (Ok tt)).1 g in
+        let f = (room-when t es (Ok tt)).1 h in
+        (at-judged (Err SpanRoom) (judged-short e f k (omega (arith, ap length (same_lists e f L l k))))).0
     given_answer _ (given.listed g h L l i) =
-        let e = (room-when s ds Good).1 g in
-        let f = (room-when t es Good).1 h in
+        let e = (room-when s ds (Ok tt)).1 g in
+        let f = (room-when t es (Ok tt)).1 h in
         let x : L ≡ w.lists = λ j k. same_lists e f L l k j in
-        (at-judged Good (judged_listed e f (λ k. omega (arith, i k, ap length (same_lists e f L l k))))).0 ∙ ap (λ (l : Part → List Span). Overlaid.Listed (measures_of l)) (sym x)
+        (at-judged (Ok tt) (judged_listed e f (λ k. omega (arith, i k, ap length (same_lists e f L l k))))).0 ∙ ap (λ (l : Part → List Span). Ok (measures_of l)) (sym x)
 
     some_answer : (i j : Judged) → as_room_judged s ds ≡ i → as_room_judged t es ≡ j → (x : Overlaid) × GivenOverlay s ds t es room x
-    some_answer (Refused q) j e f = (Overlaid.Refused q, given.first_none q ((room-when s ds (Refused q)).0 e))
-    some_answer Good (Refused q) e f = (Overlaid.Refused q, given.second_none q ((room-when s ds Good).0 e) ((room-when t es (Refused q)).0 f))
-    some_answer Good Good e f =
-        let g = (room-when s ds Good).0 e in
-        let h = (room-when t es Good).0 f in
-        ⊎_elim (λ x. (Overlaid.Refused SpanRoom, given.span_room g h w.lists (w.rows e f) x.0 x.1)) (λ x. (Overlaid.Listed (measures_of w.lists), given.listed g h w.lists (w.rows e f) x)) (short_or_enough before w.lists)
+    some_answer (Err q) j e f = (Err q, given.first_none q ((room-when s ds (Err q)).0 e))
+    some_answer (Ok _) (Err q) e f = (Err q, given.second_none q ((room-when s ds (Ok tt)).0 e) ((room-when t es (Err q)).0 f))
+    some_answer (Ok _) (Ok _) e f =
+        let g = (room-when s ds (Ok tt)).0 e in
+        let h = (room-when t es (Ok tt)).0 f in
+        ⊎_elim (λ x. (Err SpanRoom, given.span_room g h w.lists (w.rows e f) x.0 x.1)) (λ x. (Ok (measures_of w.lists), given.listed g h w.lists (w.rows e f) x)) (short_or_enough before w.lists)
 
     pub overlay_when : (x : Overlaid) → r ≡ x ↔ GivenOverlay s ds t es room x
     overlay_when x =
         let y = some_answer (as_room_judged s ds) (as_room_judged t es) refl refl in
         ((λ e. subst (GivenOverlay s ds t es room) (sym (given_answer y.0 y.1) ∙ e) y.1), given_answer x)
 
-  refused_listed : (q : Refusal) (m : Measures) → Overlaid.Refused q ≡ Overlaid.Listed m → ⊥
+  refused_listed : (q : Refusal) (m : Measures) → Err q ≡ Ok m → ⊥
   refused_listed q m f = let z : ◌≡◌ {A = ℕ} 0 1 = cc in omega arith
 
-  same_measures : (m n : Measures) → Overlaid.Listed m ≡ Overlaid.Listed n → m ≡ n
+  same_measures : (m n : Measures) → ◌≡◌ {A = Overlaid} (Ok m) (Ok n) → m ≡ n
   same_measures m n f = cc
 
   -- an accepted call: two rooms, three lists
   pub record Laid (after : Part → List ℤ) (m : Measures) : Type 0 where
     pub lists : Part → List Span
-    pub first_good : as_room_judged s ds ≡ Good
-    pub second_good : as_room_judged t es ≡ Good
+    pub first_good : as_room_judged s ds ≡ Ok tt
+    pub second_good : as_room_judged t es ≡ Ok tt
     pub rows : PartsAre s ds t es lists
     pub measures : m ≡ measures_of lists
     pub buffers : (k : Part) → after k ≡ span_numbers (lists k) ++ drop (3 * length (lists k)) (before k)
 
   module _ {after : Part → List ℤ} where
-    pub overlay_untouched : (q : Refusal) → OverlayCall s ds t es before (Overlaid.Refused q) after → (k : Part) → after k ≡ before k
+    pub overlay_untouched : (q : Refusal) → OverlayCall s ds t es before (Err q) after → (k : Part) → after k ≡ before k
     overlay_untouched q w = by (judged_by w.lists) refl
       where
         by : (j : Judged) → judged_by w.lists ≡ j → (k : Part) → after k ≡ before k
-        by Good e k = absurd (refused_listed q (measures_of w.lists) (at-judged w Good e).0)
-        by (Refused x) e k = (at-judged w (Refused x) e).1 k
+        by (Ok _) e k = absurd (refused_listed q (measures_of w.lists) (at-judged w (Ok tt) e).0)
+        by (Err x) e k = (at-judged w (Err x) e).1 k
 
-    pub overlay_laid : (m : Measures) → OverlayCall s ds t es before (Overlaid.Listed m) after → Laid after m
+    pub overlay_laid : (m : Measures) → OverlayCall s ds t es before (Ok m) after → Laid after m
     overlay_laid m w = by (as_room_judged s ds) (as_room_judged t es) (judged_by w.lists) refl refl refl
       where
-        no : (q : Refusal) → judged_by w.lists ≡ Refused q → ⊥
-        no q e = refused_listed q m (sym (at-judged w (Refused q) e).0)
+        no : (q : Refusal) → judged_by w.lists ≡ Err q → ⊥
+        no q e = refused_listed q m (sym (at-judged w (Err q) e).0)
 
         by : (i j k : Judged) → as_room_judged s ds ≡ i → as_room_judged t es ≡ j → judged_by w.lists ≡ k → Laid after m
-        by (Refused q) j k e f g = absurd (no q (first_refused s ds t es before w.lists q e))
-        by Good (Refused q) k e f g = absurd (no q (second_refused s ds t es before w.lists q e f))
-        by Good Good (Refused q) e f g = absurd (no q g)
-        by Good Good Good e f g = record {
+        by (Err q) j k e f g = absurd (no q (first_refused s ds t es before w.lists q e))
+        by (Ok _) (Err q) k e f g = absurd (no q (second_refused s ds t es before w.lists q e f))
+        by (Ok _) (Ok _) (Err q) e f g = absurd (no q g)
+        by (Ok _) (Ok _) (Ok _) e f g = record {
           lists = w.lists;
           first_good = e;
           second_good = f;
           rows = w.rows e f;
-          measures = same_measures m (measures_of w.lists) (at-judged w Good g).0;
-          buffers = λ k. (at-judged w Good g).1 k ∙ numbers_thrice (before k) (w.lists k);
+          measures = same_measures m (measures_of w.lists) (at-judged w (Ok tt) g).0;
+          buffers = λ k. (at-judged w (Ok tt) g).1 k ∙ numbers_thrice (before k) (w.lists k);
         }

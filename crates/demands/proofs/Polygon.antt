@@ -1,6 +1,7 @@
 -- What is asked of a room that goes out as a polygon (RULES 13), as theorems about the call's promise, `PolygonCall`. Each is
 -- proved by naming a law.
 -- Assumes nothing.
+use Rattle.std.specs.Prelude.{Err, Ok}
 use mathlib.Core.List.{List, [], ◌∷◌, ◌++◌, Memᴰ}
 use mathlib.Core.Logic.{◌↔◌}
 use mathlib.Core.Path.{◌≡◌, refl, ap}
@@ -9,7 +10,8 @@ use lib.IntN.{ℤ, pos}
 use lib.Ieee.{Float, fin}
 use lib.ListN.{length, drop}
 use mathlib.Core.Bool.{false}
-use Rattle.answer.specs.declared.{Counted.Counted, Judged.Judged, Judged.TheVariants.Good, Judged.TheVariants.Refused, Refusal.Refusal}
+use Rattle.answer.specs.Answers.{Counted, Judged}
+use Rattle.answer.specs.declared.{Refusal.Refusal}
 use Rattle.answer.specs.Refusal.{refusal_number, refusal_place}
 use Rattle.answer.specs.Words.{counted_words}
 use Rattle.grid.specs.declared.Corner.{Corner}
@@ -39,39 +41,39 @@ polygon_call_one = polygon_laws.polygon_call_one
 module _ {s : Corner} {ds before after : List ℕ} {r : Counted} (w : PolygonCall s ds before r after) where
   -- "12, not a room; 13, buffer too short; in that order", after 1, 10, 4 and 6: each exactly on its occasion
   pub polygon_refused_exactly : (q : Refusal)
-      → r ≡ Counted.Refused q ↔ GivenPolygon s ds (length before) (length (polygon_of s ds)) (Refused q)
+      → r ≡ Err q ↔ GivenPolygon s ds (length before) (length (polygon_of s ds)) (Err q)
   polygon_refused_exactly = room_call_laws.refused_when w
 
   -- and acceptance exactly on its own, with the number of bytes
-  pub polygon_written_exactly : r ≡ Counted.Many (length (polygon_of s ds))
-      ↔ GivenPolygon s ds (length before) (length (polygon_of s ds)) Good
+  pub polygon_written_exactly : r ≡ Ok (length (polygon_of s ds))
+      ↔ GivenPolygon s ds (length before) (length (polygon_of s ds)) (Ok tt)
   polygon_written_exactly = room_call_laws.written_when w
 
   -- the numbers of each
-  pub polygon_refused_words : (q : Refusal) → GivenPolygon s ds (length before) (length (polygon_of s ds)) (Refused q)
+  pub polygon_refused_words : (q : Refusal) → GivenPolygon s ds (length before) (length (polygon_of s ds)) (Err q)
       → counted_words r ≡ refusal_number q ∷ refusal_place q ∷ 0 ∷ []
   polygon_refused_words q g = ap counted_words ((polygon_refused_exactly q).1 g)
 
-  pub polygon_written_words : GivenPolygon s ds (length before) (length (polygon_of s ds)) Good
+  pub polygon_written_words : GivenPolygon s ds (length before) (length (polygon_of s ds)) (Ok tt)
       → counted_words r ≡ 0 ∷ 0 ∷ length (polygon_of s ds) ∷ []
   polygon_written_words g = ap counted_words (polygon_written_exactly.1 g)
 
 module _ (s : Corner) (ds before : List ℕ) {after : List ℕ} where
   -- "nothing written"
-  pub polygon_untouched : (q : Refusal) → PolygonCall s ds before (Counted.Refused q) after → after ≡ before
+  pub polygon_untouched : (q : Refusal) → PolygonCall s ds before (Err q) after → after ≡ before
   polygon_untouched = polygon_laws.call_untouched
 
   -- the polygon, and "bytes after the polygon are unchanged"
-  pub polygon_written : (n : ℕ) → PolygonCall s ds before (Counted.Many n) after
+  pub polygon_written : (n : ℕ) → PolygonCall s ds before (Ok n) after
       → (n ≡ length (polygon_of s ds)) × (after ≡ polygon_of s ds ++ drop (length (polygon_of s ds)) before)
   polygon_written n p = let g = room_call_laws.call_good s ds before n p in (g.1, g.2)
 
   -- sixteen bytes for each step and 29 are always enough
-  pub polygon_few : (n : ℕ) → PolygonCall s ds before (Counted.Many n) after → n ≤ 16 * length ds + 29
+  pub polygon_few : (n : ℕ) → PolygonCall s ds before (Ok n) after → n ≤ 16 * length ds + 29
   polygon_few = room_call_laws.call_few s ds before
 
   -- "it must be exact": the floats of every point that is written are 600 times the corner's coordinates
-  pub polygon_exact : (n : ℕ) → PolygonCall s ds before (Counted.Many n) after → (p : Corner)
+  pub polygon_exact : (n : ℕ) → PolygonCall s ds before (Ok n) after → (p : Corner)
       → Memᴰ p (points_of s ds) → Exact p
   polygon_exact = room_call_laws.call_exact s ds before
 

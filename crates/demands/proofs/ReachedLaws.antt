@@ -1,5 +1,6 @@
 -- The most records that an operation changes: the last of 2 ^ n steps east from (2 ^ n, 2 ^ n) makes a link at every level.
 -- Assumes nothing.
+use Rattle.std.specs.Prelude.{Ok}
 use mathlib.Core.Bool.{Bool, true, false, cond, ◌||◌}
 use mathlib.Core.List.{List, [], ◌∷◌, ◌++◌, append_assoc, append-nil}
 use mathlib.Core.Logic.{◌⊎◌, inl, inr, ⊎_elim}
@@ -10,7 +11,7 @@ use native.Mathlib.Decide.{dec_lt, ℕ_discrete}
 use native.Mathlib.Nat.{pow-succ', pow-le-pow_right}
 use lib.IntN.{ℤ, pos, nat_abs}
 use lib.ListN.{length, take, get_or, replicate, length-append, length-replicate}
-use Rattle.answer.specs.declared.Answer.{Answer}
+use Rattle.answer.specs.Answers.{Answer}
 use Rattle.answer.specs.declared.Facts.{Facts}
 use Rattle.answer.specs.Limits.{most_steps}
 use Rattle.grid.specs.declared.Corner.{Corner}
@@ -276,17 +277,17 @@ module _ (n : ℕ) (few : 2 ^ n ≤ most_steps) where
   }
 
   reached_call : {t ms ch t' ms' ch' : List ℕ} {r : Answer} → WalkIs (far n) (east j) t ms ch r t' ms' ch' → length t ≡ 65604 * width → length ms ≡ mark_words * j → length ch ≡ j
-      → (f : Facts) × (r ≡ Answer.Accepted f) × (get_or ms' (mark_words * last + 2) 0 ≡ 2 * n + 4)
+      → (f : Facts) × (r ≡ Ok f) × (get_or ms' (mark_words * last + 2) 0 ≡ 2 * n + 4)
   reached_call {t} {ms} {ch} {t'} {ms'} {ch'} {r} w lt lm lc =
       let fl = east_sound (length t) (length ms) (length ch) (65604, omega arith, omega arith, lt) lm lc in
       let room : (k : ℕ) → k ≤ length (east j) → nodes_after (far n) (east j) k ≤ records_in (length t) = λ k h.
       let s = steps_after (east j) k in
       omega (arith, lt, four_and_start fl k h, few_steps fl k h, length_visited_le (corners_from (far n) s), length-corners_from (far n) s) in
       let f = facts_of (far n) (survivors (east j)) in
-      let e : r ≡ Answer.Accepted f = (accepted_when w).1 (goal.accepted fl room) in
-      let v : WalkIs (far n) (east j) t ms ch (Answer.Accepted f) t' ms' ch' = subst (λ (x : Answer). WalkIs (far n) (east j) t ms ch x t' ms' ch') e w in
+      let e : r ≡ Ok f = (accepted_when w).1 (goal.accepted fl room) in
+      let v : WalkIs (far n) (east j) t ms ch (Ok f) t' ms' ch' = subst (λ (x : Answer). WalkIs (far n) (east j) t ms ch x t' ms' ch') e w in
       (f, e, (its-mark v last (omega (arith, size, power_up n))).2 ∙ reached)
 
 pub sixteen_thousand : {t ms ch t' ms' ch' : List ℕ} {r : Answer} → WalkIs (corner (pos 16384) (pos 16384)) (replicate 16384 0) t ms ch r t' ms' ch' → length t ≡ 65604 * width → length ms ≡ mark_words * 16384 → length ch ≡ 16384
-    → (f : Facts) × (r ≡ Answer.Accepted f) × (get_or ms' (mark_words * 16383 + 2) 0 ≡ 32)
+    → (f : Facts) × (r ≡ Ok f) × (get_or ms' (mark_words * 16383 + 2) 0 ≡ 32)
 sixteen_thousand = reached_call 14 (omega arith)

@@ -1,5 +1,6 @@
 -- The judgements of the calls on a room are given on their occasions and on no other; the promise of the polygon's call taken apart.
 -- Assumes nothing.
+use Rattle.std.specs.Prelude.{Err, Ok}
 use mathlib.Core.Bool.{Bool, true, false, not, false≢true}
 use mathlib.Core.List.{List, ◌++◌, Memᴰ}
 use mathlib.Core.Logic.{◌↔◌}
@@ -10,9 +11,7 @@ use native.Mathlib.Omega.{arith}
 use borrow.Author.Tests.{lt-ltb, le-ltb}
 use lib.Dec.{ltb}
 use lib.ListN.{length, drop}
-use Rattle.answer.specs.declared.Counted.{Counted}
-use Rattle.answer.specs.declared.Judged.{Judged}
-use Rattle.answer.specs.declared.Judged.TheVariants.{Good, Refused}
+use Rattle.answer.specs.Answers.{Counted, Judged}
 use Rattle.answer.specs.declared.Refusal.{Refusal}
 use Rattle.answer.specs.declared.Refusal.TheVariants.{NotRoom, PolygonRoom}
 use Rattle.answer.specs.Refusal.{when, or_else}
@@ -36,22 +35,22 @@ use Rattle.answer.proofs.ListedLaws.{count_refused, count_good}
 -- ---- a start and a chain as a room
 
 module _ (s : Corner) (ds : List ℕ) where
-  not_a-room : (b : Bool) → is_room s ds ≡ b → (IsRoom s ds → ⊥) → when (not (is_room s ds)) NotRoom ≡ Refused NotRoom
+  not_a-room : (b : Bool) → is_room s ds ≡ b → (IsRoom s ds → ⊥) → when (not (is_room s ds)) NotRoom ≡ Err NotRoom
   not_a-room true e f = absurd (f ((is_room_exactly s ds).0 e))
   not_a-room false e f = ap (λ (b : Bool). when (not b) NotRoom) e
 
   given_room : (j : Judged) → GivenRoom s ds j → as_room_judged s ds ≡ j
-  given_room _ (given.not_walk q g) = judged_refused s ds q ((chain-when s ds (Refused q)).1 g)
-  given_room _ (given.not_room g r) = judged-room s ds ((chain-when s ds Good).1 g) ∙ not_a-room (is_room s ds) refl r
-  given_room _ (given.is_room g r) = judged-room s ds ((chain-when s ds Good).1 g) ∙ ap (λ (b : Bool). when (not b) NotRoom) ((is_room_exactly s ds).1 r)
+  given_room _ (given.not_walk q g) = judged_refused s ds q ((chain-when s ds (Err q)).1 g)
+  given_room _ (given.not_room g r) = judged-room s ds ((chain-when s ds (Ok tt)).1 g) ∙ not_a-room (is_room s ds) refl r
+  given_room _ (given.is_room g r) = judged-room s ds ((chain-when s ds (Ok tt)).1 g) ∙ ap (λ (b : Bool). when (not b) NotRoom) ((is_room_exactly s ds).1 r)
 
-  by-steps : GivenChain s ds Good → (b : Bool) → is_room s ds ≡ b → (j : Judged) × GivenRoom s ds j
-  by-steps g true e = (Good, given.is_room g ((is_room_exactly s ds).0 e))
-  by-steps g false e = (Refused NotRoom, given.not_room g (λ r. false≢true (sym e ∙ (is_room_exactly s ds).1 r)))
+  by-steps : GivenChain s ds (Ok tt) → (b : Bool) → is_room s ds ≡ b → (j : Judged) × GivenRoom s ds j
+  by-steps g true e = (Ok tt, given.is_room g ((is_room_exactly s ds).0 e))
+  by-steps g false e = (Err NotRoom, given.not_room g (λ r. false≢true (sym e ∙ (is_room_exactly s ds).1 r)))
 
   by_chain : (j : Judged) → as_walk_judged s ds ≡ j → (k : Judged) × GivenRoom s ds k
-  by_chain Good e = by-steps ((chain-when s ds Good).0 e) (is_room s ds) refl
-  by_chain (Refused q) e = (Refused q, given.not_walk q ((chain-when s ds (Refused q)).0 e))
+  by_chain (Ok _) e = by-steps ((chain-when s ds (Ok tt)).0 e) (is_room s ds) refl
+  by_chain (Err q) e = (Err q, given.not_walk q ((chain-when s ds (Err q)).0 e))
 
   some_room : (j : Judged) × GivenRoom s ds j
   some_room = by_chain (as_walk_judged s ds) refl
@@ -64,20 +63,20 @@ module _ (s : Corner) (ds : List ℕ) where
     abbrev bytes : ℕ
     bytes = length (polygon_of s ds)
 
-    refused_first : (q : Refusal) → as_room_judged s ds ≡ Refused q → polygon_judged s ds room ≡ Refused q
-    refused_first q e = ap (λ (j : Judged). or_else j (or_else (when (ltb room bytes) PolygonRoom) Good)) e
+    refused_first : (q : Refusal) → as_room_judged s ds ≡ Err q → polygon_judged s ds room ≡ Err q
+    refused_first q e = ap (λ (j : Judged). or_else j (or_else (when (ltb room bytes) PolygonRoom) (Ok tt))) e
 
-    room_then : as_room_judged s ds ≡ Good → polygon_judged s ds room ≡ when (ltb room bytes) PolygonRoom
-    room_then e = ap (λ (j : Judged). or_else j (or_else (when (ltb room bytes) PolygonRoom) Good)) e ∙ or_else-right (when (ltb room bytes) PolygonRoom)
+    room_then : as_room_judged s ds ≡ Ok tt → polygon_judged s ds room ≡ when (ltb room bytes) PolygonRoom
+    room_then e = ap (λ (j : Judged). or_else j (or_else (when (ltb room bytes) PolygonRoom) (Ok tt))) e ∙ or_else-right (when (ltb room bytes) PolygonRoom)
 
     given_polygon : (j : Judged) → GivenPolygon s ds room bytes j → polygon_judged s ds room ≡ j
-    given_polygon _ (given.refused q g) = refused_first q (given_room (Refused q) g)
-    given_polygon _ (given.polygon_room g h) = room_then (given_room Good g) ∙ ap (λ (b : Bool). when b PolygonRoom) (lt-ltb room bytes h)
-    given_polygon _ (given.accepted g h) = room_then (given_room Good g) ∙ ap (λ (b : Bool). when b PolygonRoom) (le-ltb room bytes h)
+    given_polygon _ (given.refused q g) = refused_first q (given_room (Err q) g)
+    given_polygon _ (given.polygon_room g h) = room_then (given_room (Ok tt) g) ∙ ap (λ (b : Bool). when b PolygonRoom) (lt-ltb room bytes h)
+    given_polygon _ (given.accepted g h) = room_then (given_room (Ok tt) g) ∙ ap (λ (b : Bool). when b PolygonRoom) (le-ltb room bytes h)
 
     by-room : (j : Judged) → GivenRoom s ds j → (k : Judged) × GivenPolygon s ds room bytes k
-    by-room Good g = elim (dec_lt room bytes) [ yes h ↦ (Refused PolygonRoom, given.polygon_room g h) | no h ↦ (Good, given.accepted g (omega arith)) ]
-    by-room (Refused q) g = (Refused q, given.refused q g)
+    by-room (Ok _) g = elim (dec_lt room bytes) [ yes h ↦ (Err PolygonRoom, given.polygon_room g h) | no h ↦ (Ok tt, given.accepted g (omega arith)) ]
+    by-room (Err q) g = (Err q, given.refused q g)
 
     some_polygon : (j : Judged) × GivenPolygon s ds room bytes j
     some_polygon = let x = some_room in by-room x.0 x.1
@@ -91,16 +90,16 @@ module _ {s : Corner} {ds before : List ℕ} {r : Counted} {after : List ℕ} (w
   abbrev judged : Judged
   judged = polygon_judged s ds (length before)
 
-  pub refused_when : (q : Refusal) → r ≡ Counted.Refused q ↔ GivenPolygon s ds (length before) (length (polygon_of s ds)) (Refused q)
+  pub refused_when : (q : Refusal) → r ≡ Err q ↔ GivenPolygon s ds (length before) (length (polygon_of s ds)) (Err q)
   refused_when q = (
-    λ e. (polygon_when s ds (length before) (Refused q)).0 (count_refused judged (length (polygon_of s ds)) q (sym e ∙ w.answer)),
-    λ g. w.answer ∙ ap (λ (j : Judged). counted_of j (length (polygon_of s ds))) ((polygon_when s ds (length before) (Refused q)).1 g),
+    λ e. (polygon_when s ds (length before) (Err q)).0 (count_refused judged (length (polygon_of s ds)) q (sym e ∙ w.answer)),
+    λ g. w.answer ∙ ap (λ (j : Judged). counted_of j (length (polygon_of s ds))) ((polygon_when s ds (length before) (Err q)).1 g),
   )
 
-  pub written_when : r ≡ Counted.Many (length (polygon_of s ds)) ↔ GivenPolygon s ds (length before) (length (polygon_of s ds)) Good
+  pub written_when : r ≡ Ok (length (polygon_of s ds)) ↔ GivenPolygon s ds (length before) (length (polygon_of s ds)) (Ok tt)
   written_when = (
-    λ e. (polygon_when s ds (length before) Good).0 (count_good judged (length (polygon_of s ds)) (sym e ∙ w.answer)),
-    λ g. w.answer ∙ ap (λ (j : Judged). counted_of j (length (polygon_of s ds))) ((polygon_when s ds (length before) Good).1 g),
+    λ e. (polygon_when s ds (length before) (Ok tt)).0 (count_good judged (length (polygon_of s ds)) (sym e ∙ w.answer)),
+    λ g. w.answer ∙ ap (λ (j : Judged). counted_of j (length (polygon_of s ds))) ((polygon_when s ds (length before) (Ok tt)).1 g),
   )
 
 module _ (s : Corner) (ds before : List ℕ) where
@@ -110,17 +109,17 @@ module _ (s : Corner) (ds before : List ℕ) where
       (counted_of j (length (polygon_of s ds)), laid_if j (polygon_of s ds) before, record { answer = refl; buffer = refl })
 
   module _ {after : List ℕ} where
-    pub call_good : (n : ℕ) → PolygonCall s ds before (Counted.Many n) after → (polygon_judged s ds (length before) ≡ Good) × (n ≡ length (polygon_of s ds)) × (after ≡ polygon_of s ds ++ drop (length (polygon_of s ds)) before)
+    pub call_good : (n : ℕ) → PolygonCall s ds before (Ok n) after → (polygon_judged s ds (length before) ≡ Ok tt) × (n ≡ length (polygon_of s ds)) × (after ≡ polygon_of s ds ++ drop (length (polygon_of s ds)) before)
     call_good n p = go (polygon_judged s ds (length before)) refl p.answer p.buffer
       where
-        go : (j : Judged) → polygon_judged s ds (length before) ≡ j → Counted.Many n ≡ counted_of j (length (polygon_of s ds)) → after ≡ laid_if j (polygon_of s ds) before → (polygon_judged s ds (length before) ≡ Good) × (n ≡ length (polygon_of s ds)) × (after ≡ polygon_of s ds ++ drop (length (polygon_of s ds)) before)
-        go Good f e b = (f, cc, b)
-        go (Refused q) f e b = absurd (let z : ◌≡◌ {A = ℕ} 0 1 = cc in omega arith)
+        go : (j : Judged) → polygon_judged s ds (length before) ≡ j → Ok n ≡ counted_of j (length (polygon_of s ds)) → after ≡ laid_if j (polygon_of s ds) before → (polygon_judged s ds (length before) ≡ Ok tt) × (n ≡ length (polygon_of s ds)) × (after ≡ polygon_of s ds ++ drop (length (polygon_of s ds)) before)
+        go (Ok _) f e b = (f, cc, b)
+        go (Err q) f e b = absurd (let z : ◌≡◌ {A = ℕ} 0 1 = cc in omega arith)
 
-    pub call_few : (n : ℕ) → PolygonCall s ds before (Counted.Many n) after → n ≤ 16 * length ds + 29
+    pub call_few : (n : ℕ) → PolygonCall s ds before (Ok n) after → n ≤ 16 * length ds + 29
     call_few n p = let g = call_good n p in omega (arith, g.1, (polygon_few s ds (length before) g.0).0)
 
-    pub call_exact : (n : ℕ) → PolygonCall s ds before (Counted.Many n) after → (p : Corner) → Memᴰ p (points_of s ds) → Exact p
+    pub call_exact : (n : ℕ) → PolygonCall s ds before (Ok n) after → (p : Corner) → Memᴰ p (points_of s ds) → Exact p
     call_exact n p q m =
         let g = call_good n p in
-        points_exact s ds (room_drawable s ds (as_room_judged s ds) refl (or_else_good (as_room_judged s ds) (or_else (when (ltb (length before) (length (polygon_of s ds))) PolygonRoom) Good) g.0).0) q m
+        points_exact s ds (room_drawable s ds (as_room_judged s ds) refl (or_else_good (as_room_judged s ds) (or_else (when (ltb (length before) (length (polygon_of s ds))) PolygonRoom) (Ok tt)) g.0).0) q m

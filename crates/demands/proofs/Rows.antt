@@ -1,6 +1,7 @@
 -- What is asked of the rows of a room (RULES 14), as theorems about the list, `RowsIs`, and the call's promise, `RowsCall`. Each
 -- is proved by naming a law.
 -- Assumes nothing.
+use Rattle.std.specs.Prelude.{Err, Ok}
 use mathlib.Core.List.{List, ◌++◌, Memᴰ}
 use mathlib.Core.Logic.{◌↔◌}
 use mathlib.Core.Path.{◌≡◌, ap}
@@ -8,8 +9,9 @@ use Prim.Native.Nat.{ℕ, ◌*◌, ◌%◌}
 use lib.Dec.{eqb}
 use lib.IntN.{ℤ, nat_abs}
 use lib.ListN.{length, drop}
+use Rattle.answer.specs.Answers.{Counted}
 use Rattle.lists.specs.Lists.{count, Below}
-use Rattle.answer.specs.declared.{Counted.Counted, Refusal.Refusal}
+use Rattle.answer.specs.declared.{Refusal.Refusal}
 use Rattle.answer.specs.Words.{counted_words}
 use Rattle.grid.specs.declared.{Corner.Corner, Panel.Panel}
 use Rattle.trace.specs.Verdict.{IsRoom, area_of}
@@ -67,10 +69,10 @@ module _ (c : Corner) (ds : List ℕ) (before : List ℤ) where
 
   module _ {after : List ℤ} where
     -- "nothing written"
-    pub rows_untouched : (q : Refusal) → RowsCall c ds before (Counted.Refused q) after → after ≡ before
+    pub rows_untouched : (q : Refusal) → RowsCall c ds before (Err q) after → after ≡ before
     rows_untouched = row_call_laws.rows_untouched c ds before
 
     -- the list, and "numbers after the list are unchanged"
-    pub rows_written : (n : ℕ) → RowsCall c ds before (Counted.Many n) after
+    pub rows_written : (n : ℕ) → RowsCall c ds before (Ok n) after
         → (L : List Span) × RowsIs (Inside c ds) L × (n ≡ length L) × (after ≡ span_numbers L ++ drop (3 * length L) before)
     rows_written = row_call_laws.rows_written c ds before

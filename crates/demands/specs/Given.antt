@@ -1,8 +1,7 @@
 -- When each answer of the walk is given: the table of refusals, one row for each constructor (RULES 6.1 to 6.3).
 -- Assumes nothing.
-use Rattle.std.specs.Prelude.{List, ◌≡◌, ℕ, suc, ◌*◌, ◌<◌, ◌≤◌, pred, length, get_or}
-use Rattle.answer.specs.declared.Judged.{Judged}
-use Rattle.answer.specs.declared.Judged.TheVariants.{Good, Refused}
+use Rattle.std.specs.Prelude.{List, ◌≡◌, ℕ, suc, ◌*◌, ◌<◌, ◌≤◌, pred, length, Err, Ok, get_or}
+use Rattle.answer.specs.Answers.{Judged}
 use Rattle.answer.specs.declared.Refusal.TheVariants.{TooMany, Table, ResultRoom, BadDigit, NothingToTake, TooLong, NoRoom, StartRange}
 use Rattle.answer.specs.Limits.{most_input, most_steps, most_records, Near}
 use Rattle.grid.specs.declared.Corner.{Corner}
@@ -58,19 +57,19 @@ NoRoomAfter c os records k =
 
 -- the occasion of each judgement; the place of "no room" is k - 1, and 0 before the first operation
 pub data GivenWalk (c : Corner) (os : List ℕ) (words marks chain : ℕ) : Judged → Type 0 where
-  too_many : most_input < length os → GivenWalk c os words marks chain (Refused TooMany)
-  table : length os ≤ most_input → (HasRecords words → ⊥) → GivenWalk c os words marks chain (Refused Table)
+  too_many : most_input < length os → GivenWalk c os words marks chain (Err TooMany)
+  table : length os ≤ most_input → (HasRecords words → ⊥) → GivenWalk c os words marks chain (Err Table)
   result_room : length os ≤ most_input → HasRecords words → (HasRoom os marks chain → ⊥)
-      → GivenWalk c os words marks chain (Refused ResultRoom)
+      → GivenWalk c os words marks chain (Err ResultRoom)
   start_range : length os ≤ most_input → HasRecords words → HasRoom os marks chain → (Near c → ⊥)
-      → GivenWalk c os words marks chain (Refused StartRange)
+      → GivenWalk c os words marks chain (Err StartRange)
   bad_digit : (i : ℕ) → WalkSized c os words marks chain → FirstAt (length os) (FineAt os) (BadDigitAt os) i
-      → GivenWalk c os words marks chain (Refused (BadDigit i))
+      → GivenWalk c os words marks chain (Err (BadDigit i))
   nothing_to_take : (i : ℕ) → WalkSized c os words marks chain → FirstAt (length os) (FineAt os) (NothingAt os) i
-      → GivenWalk c os words marks chain (Refused (NothingToTake i))
+      → GivenWalk c os words marks chain (Err (NothingToTake i))
   too_long : (i : ℕ) → WalkSized c os words marks chain → FirstAt (length os) (FineAt os) (TooLongAt os) i
-      → GivenWalk c os words marks chain (Refused (TooLong i))
+      → GivenWalk c os words marks chain (Err (TooLong i))
   no_room : (i k : ℕ) → Faultless c os words marks chain → NoRoomAfter c os (records_in words) k → i ≡ pred k
-      → GivenWalk c os words marks chain (Refused (NoRoom i))
+      → GivenWalk c os words marks chain (Err (NoRoom i))
   accepted : Faultless c os words marks chain → ((k : ℕ) → k ≤ length os → nodes_after c os k ≤ records_in words)
-      → GivenWalk c os words marks chain Good
+      → GivenWalk c os words marks chain (Ok tt)

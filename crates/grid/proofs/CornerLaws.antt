@@ -1,11 +1,13 @@
 -- `same` decides equality of corners.
 -- Assumes nothing.
-use mathlib.Core.Bool.{Bool, true, false, false≢true}
+use mathlib.Core.Bool.{Bool, true, false, ◌&&◌, false≢true}
 use mathlib.Core.Path.{◌≡◌, refl, ap, ap₂, sym, ◌∙◌}
+use borrow.Author.Rules.{rules}
 use borrow.Author.Tests.{eqb-true, eq-eqb}
 use lib.IntN.{ℤ, pos, negsuc, suc_ℤ, pred_ℤ, suc-pred, pred-suc}
 use Rattle.lists.proofs.FindLaws.{bool_agree}
 use Rattle.lists.proofs.GatherLaws.{and_left, and_right}
+use Rattle.std.specs.Ordering.{int_eq}
 use Rattle.grid.specs.declared.Corner.{Corner}
 use Rattle.grid.specs.Grid.{corner, eq_z, same}
 
@@ -48,3 +50,7 @@ same_sound a b e =
 
 pub same_refl : (a : Corner) → same a a ≡ true
 same_refl a = rw (eq_z_refl a.0, eq_z_refl a.1)
+
+-- what the code's `==` answers
+pub equal_same : (a b : Corner) → (int_eq a.0 b.0 && int_eq a.1 b.1) ≡ same a b
+equal_same a b = search rules

@@ -3,9 +3,9 @@
 #![tactic(auto)]
 
 // A grid point: x to the east, y to the north.
-#[derive(Clone, Copy)]
+#[derive(Clone, Copy, PartialEq, Eq)]
 pub struct Corner(pub i32, pub i32);
 
 // The unit square whose lower left corner has these coordinates.
-#[derive(Clone, Copy)]
+#[derive(Clone, Copy, PartialEq, Eq)]
 pub struct Panel(pub i32, pub i32);

@@ -1,5 +1,6 @@
 -- The hull and its call on small inputs, computed.
 -- Assumes nothing.
+use Rattle.std.specs.Prelude.{Err, Ok}
 use mathlib.Core.Path.{◌≡◌, refl, sym, subst, ◌∙◌}
 use mathlib.Core.List.Memᴰ
 use mathlib.Core.List.{[], ◌∷◌, Memᴰ}
@@ -8,7 +9,6 @@ use lib.IntN.{pos}
 use lib.Signed.{◌≤ℤ◌, ≤ℤ_refl}
 use Rattle.grid.specs.declared.Corner.{Corner}
 use Rattle.grid.specs.Grid.{corner, origin, Begins}
-use Rattle.answer.specs.declared.Judged.TheVariants as judged
 use Rattle.answer.specs.declared.Refusal.TheVariants.{BadDigit, HullRoom}
 use Rattle.hull.specs.Hull.{cross, Left, HullIs}
 use Rattle.hull.specs.Call.{hull_judged}
@@ -45,12 +45,12 @@ hull_of_one c = record {
     alone p q (Memᴰ.tail m) n d = absurd (Memᴰ.not-nil m)
 
 -- 8 comes last
-digit_before-room : hull_judged origin (0 ∷ 4 ∷ []) 0 2 ≡ judged.Refused (BadDigit 1)
+digit_before-room : hull_judged origin (0 ∷ 4 ∷ []) 0 2 ≡ Err (BadDigit 1)
 digit_before-room = refl
 
 -- a corner needs two numbers
-room_of_one-number : hull_judged origin [] 1 1 ≡ judged.Refused HullRoom
+room_of_one-number : hull_judged origin [] 1 1 ≡ Err HullRoom
 room_of_one-number = refl
 
-room_of_two-numbers : hull_judged origin [] 2 1 ≡ judged.Good
+room_of_two-numbers : hull_judged origin [] 2 1 ≡ Ok tt
 room_of_two-numbers = refl

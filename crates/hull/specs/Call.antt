@@ -1,7 +1,8 @@
 -- What the hull call answers, and what it leaves in the buffer (RULES 5.5, 6.3, 6.6). Assumes nothing.
 use Rattle.std.specs.Prelude.{◌≡◌, List, [], ◌∷◌, length, ℕ, ◌*◌, ltb, ℤ}
+use Rattle.answer.specs.Answers.{Counted, Judged}
 use Rattle.grid.specs.{declared.Corner.Corner, Grid.corners_from, Grid.numbers}
-use Rattle.answer.specs.declared.{Judged.Judged, Refusal.TheVariants.HullRoom, Counted.Counted}
+use Rattle.answer.specs.declared.{Refusal.TheVariants.HullRoom}
 use Rattle.answer.specs.{Refusal.when, Refusal.first_of, Listed.counted_of, Listed.laid_if}
 use Rattle.steps.specs.Chain.{as_walk_judged}
 use Rattle.hull.specs.Hull.{HullIs}

@@ -1,5 +1,6 @@
 -- From the parts of the hull call to the whole.
 -- Assumes nothing.
+use Rattle.std.specs.Prelude.{Ok}
 use mathlib.Core.Path.{◌≡◌, sym, ap, ap₂, ◌∙◌, subst}
 use mathlib.Core.List.{List, map}
 use Prim.Native.Nat.{ℕ, suc, ◌+◌, ◌*◌, ◌-◌, ◌≤◌, ◌<◌}
@@ -8,13 +9,11 @@ use native.Mathlib.Numerals.{add-one}
 use lib.Dec.{ltb}
 use lib.IntN.{ℤ, pos, ◌+ℤ◌, ◌-ℤ◌}
 use lib.ListN.{length, get_or, replicate, get_or-replicate, length-replicate}
+use Rattle.answer.specs.Answers.{Counted, Judged}
 use Rattle.int_laws.proofs.LinearLaws.{zarith, bal+, bal-}
 use Rattle.grid.specs.declared.Corner.{Corner}
 use Rattle.grid.specs.Grid.{corners_from, numbers}
-use Rattle.answer.specs.declared.Judged.{Judged}
-use Rattle.answer.specs.declared.Judged.TheVariants as judged
 use Rattle.answer.specs.declared.Refusal.TheVariants.{HullRoom}
-use Rattle.answer.specs.declared.Counted.{Counted}
 use Rattle.answer.specs.Limits.{most_steps}
 use Rattle.answer.specs.Refusal.{when}
 use Rattle.answer.specs.Listed.{counted_of, laid_if}
@@ -38,7 +37,7 @@ use Rattle.hull_corners.specs.Parts.{ListGiven, TwoChains, two_at}
 use Rattle.hull_call.specs.Store.{HullStore, Hulled}
 
 -- a walk that is not refused
-pub walked : (chain : List ℕ) (e : Extent) → chain_judged 0 chain ≡ judged.Good → e ≡ extent_of chain → Spans chain e.west e.east
+pub walked : (chain : List ℕ) (e : Extent) → chain_judged 0 chain ≡ Ok tt → e ≡ extent_of chain → Spans chain e.west e.east
 walked chain e g q = record {
   digits = good_digits 0 chain g;
   short = omega (arith, good_short 0 chain (omega arith) g);
@@ -143,7 +142,7 @@ module _ {chain : List ℕ} {w e : ℕ} {lo hi s t : List ℕ} (k : Spans chain 
       whole = subst (HullIs (corners_from c chain)) same at
 
 -- and if nothing else is refused that is the call
-pub call_listed : {s : Corner} {chain : List ℕ} {before after : List ℤ} {r : Counted} → as_walk_judged s chain ≡ judged.Good → Hulled s chain before r after → HullCall s chain before r after
+pub call_listed : {s : Corner} {chain : List ℕ} {before after : List ℤ} {r : Counted} → as_walk_judged s chain ≡ Ok tt → Hulled s chain before r after → HullCall s chain before r after
 call_listed {s} {chain} {before} e k = record {
   list = k.list;
   hull = k.hull;

@@ -1,16 +1,12 @@
 -- What the parts of the hull call ask and promise.
 -- Assumes nothing.
 use Rattle.std.specs.Prelude.{◌≡◌, List, ℕ, suc, ◌-◌, ◌<◌, ◌≤◌, ℤ, length, replicate}
+use Rattle.answer.specs.Answers.{Counted}
 use Rattle.grid.specs.declared.Corner.{Corner}
 use Rattle.grid.specs.Grid.{corners_from}
-use Rattle.answer.specs.declared.Counted.{Counted}
 use Rattle.hull.specs.Hull.{HullIs}
 use Rattle.hull_laws.specs.Lowest.{blank}
 use Rattle.hull_corners.specs.Parts.{ListGiven}
-
--- the columns that the small store has: as many as 31 steps go through
-abbrev pub small_size : ℕ
-small_size = 32
 
 -- the columns that the medium store has: as many as 1,024 steps go through
 abbrev pub medium_size : ℕ

@@ -6,15 +6,15 @@ ghost use Rattle.std.specs.Prelude.{◌≡◌, ◌∷◌, ◌+◌, ◌*◌, ◌-
 ghost use Rattle.hull_laws.specs.Chain.{turns_at, drops_at, cut_at, turn_from};
 ghost use Rattle.hull_chains.specs.Stack.{Scanned, Stack};
 
-use order::wide;
-
 // Whether heights p, b and a turn left at b, if b and a lie u and w columns to the right of p.
 fn bends(u: usize, w: usize, p: u16, b: u16, a: u16) -> bool
     requires { (u < 65536) × (w < 65536) }
     ensures { result ≡ ltb (w * b + u * p) (u * a + w * p) }
 {
-    let h = p as usize;
-    w * (b as usize) + u * h < u * (a as usize) + w * h
+    let p = usize::from(p);
+    let b = usize::from(b);
+    let a = usize::from(a);
+    w * b + u * p < u * a + w * p
 }
 
 // Whether the columns p, b and a turn left at b.
@@ -30,12 +30,10 @@ fn drops(ys: &[u16], s: &[u16], q: usize, p: usize) -> bool
     requires { Stack ys.now s.now q p }
     ensures { result ≡ drops_at ys.now p (drop q s.now) }
 {
-    if s.len() - q < 2 {
+    let &[b, a, ..] = &s[q..] else {
         return false;
-    }
-    let b = wide(s[q]);
-    let a = wide(s[q + 1]);
-    !turns(ys, p, b, a)
+    };
+    !turns(ys, p, usize::from(b), usize::from(a))
 }
 
 // Puts p in front of the chain from q on, and answers where it begins then.
@@ -58,14 +56,12 @@ fn pass(ys: &[u16], i: usize) -> usize
     requires { (i + 1 < length ys.now) × (length ys.now ≤ 65536) }
     ensures { result ≡ turn_from ys.now i }
 {
-    let mut j = i;
-    while j > 0 {
+    for j in (1..=i).rev() {
         if turns(ys, j - 1, j, j + 1) {
             return j;
         }
-        j -= 1;
     }
-    j
+    0
 }
 
 // The column that comes in front of the chain of the columns i to n: the others make no left turn between their two neighbours.

@@ -2,7 +2,6 @@
 -- Assumes nothing.
 use mathlib.Core.Path.{◌≡◌, refl, sym, ap, ◌∙◌, subst}
 use mathlib.Core.List.{List, map}
-use mathlib.Core.Logic.{◌⊎◌, inl, inr}
 use Prim.Native.Nat.{ℕ, ◌+◌, ◌-◌, ◌≤◌, ◌<◌, min}
 use native.Mathlib.Omega.{arith}
 use native.Mathlib.Decide.{dec_lt, ℕ_discrete}
@@ -56,92 +55,6 @@ mirrored-one {m} {a} {b} {c} r s = ext_get_or 0 b c (sym r.size ∙ s.size) (λ 
     at : (n : ℕ) → Dec (m < n) → get_or b n 0 ≡ get_or c n 0
     at n (yes l) = r.beyond n l ∙ sym (s.beyond n l)
     at n (no l) = r.inside n (omega arith) ∙ sym (s.inside n (omega arith))
-
--- the columns before i and those after j have changed places, of the columns 0 to m
-pub record Turning (m : ℕ) (a b : List ℕ) (i j : ℕ) : Type 0 where
-  pub sum : i + j ≡ m
-  pub size : length a ≡ length b
-  pub done : (c : ℕ) → c ≤ m → (c < i) ⊎ (j < c) → get_or b c 0 ≡ get_or a (m - c) 0
-  pub rest : (c : ℕ) → i ≤ c → c ≤ j → get_or b c 0 ≡ get_or a c 0
-  pub beyond : (c : ℕ) → m < c → get_or b c 0 ≡ get_or a c 0
-
-pub turning-start : (m : ℕ) (a : List ℕ) → Turning m a a 0 m
-turning-start m a = record {
-  sum = omega arith;
-  size = refl;
-  done = λ c l s. absurd (none c l s);
-  rest = λ c l u. refl;
-  beyond = λ c l. refl;
-}
-  where
-    none : (c : ℕ) → c ≤ m → (c < 0) ⊎ (m < c) → ⊥
-    none c l (inl u) = omega arith
-    none c l (inr u) = omega arith
-
-module _ {m : ℕ} {a b : List ℕ} {i j : ℕ} (t : Turning m a b i j) where
-  pub turning_step : m < length a → i < j → Turning m a (set (set b i (get_or b j 0)) j (get_or b i 0)) (i + 1) (j - 1)
-  turning_step h l = record {
-    sum = omega (arith, t.sum);
-    size = t.size ∙ sym (simp length-set);
-    done = λ c u s. done c u s (ℕ_discrete c i) (ℕ_discrete c j);
-    rest = λ c u v. other c (λ q. omega arith) (λ q. omega arith) ∙ t.rest c (omega arith) (omega arith);
-    beyond = λ c u. other c (λ q. omega (arith, t.sum)) (λ q. omega (arith, t.sum)) ∙ t.beyond c u;
-  }
-    where
-      other : (c : ℕ) → (c ≡ i → ⊥) → (c ≡ j → ⊥) → get_or (set (set b i (get_or b j 0)) j (get_or b i 0)) c 0 ≡ get_or b c 0
-      other c p q = get_or-set_other (set b i (get_or b j 0)) j c (get_or b i 0) 0 q ∙ get_or-set_other b i c (get_or b j 0) 0 p
-
-      long : length (set b i (get_or b j 0)) ≡ length b
-      long = simp length-set
-
-      first : get_or (set (set b i (get_or b j 0)) j (get_or b i 0)) i 0 ≡ get_or a (m - i) 0
-      first =
-          get_or-set_other (set b i (get_or b j 0)) j i (get_or b i 0) 0 (λ q. omega arith)
-          ∙ get_or-set_same b i (get_or b j 0) 0 (omega (arith, t.sum, t.size))
-          ∙ t.rest j (omega arith) (omega arith)
-          ∙ ap (λ (n : ℕ). get_or a n 0) there
-        where
-          there : j ≡ m - i
-          there = omega (arith, t.sum)
-
-      last : get_or (set (set b i (get_or b j 0)) j (get_or b i 0)) j 0 ≡ get_or a (m - j) 0
-      last =
-          get_or-set_same (set b i (get_or b j 0)) j (get_or b i 0) 0 (omega (arith, t.sum, t.size, long))
-          ∙ t.rest i (omega arith) (omega arith)
-          ∙ ap (λ (n : ℕ). get_or a n 0) there
-        where
-          there : i ≡ m - j
-          there = omega (arith, t.sum)
-
-      done : (c : ℕ) → c ≤ m → (c < i + 1) ⊎ (j - 1 < c) → Dec (c ≡ i) → Dec (c ≡ j) → get_or (set (set b i (get_or b j 0)) j (get_or b i 0)) c 0 ≡ get_or a (m - c) 0
-      done c u s (yes p) q = subst (λ (n : ℕ). get_or (set (set b i (get_or b j 0)) j (get_or b i 0)) n 0 ≡ get_or a (m - n) 0) (sym p) first
-      done c u s (no p) (yes q) = subst (λ (n : ℕ). get_or (set (set b i (get_or b j 0)) j (get_or b i 0)) n 0 ≡ get_or a (m - n) 0) (sym q) last
-      done c u s (no p) (no q) = other c p q ∙ t.done c u (side s)
-        where
-          side : (c < i + 1) ⊎ (j - 1 < c) → (c < i) ⊎ (j < c)
-          side (inl v) = inl (omega arith)
-          side (inr v) = inr (omega arith)
-
-  -- both are there to be read and written
-  pub turning-left : m < length a → i < j → i < length b
-  turning-left h l = omega (arith, t.sum, t.size)
-
-  pub turning-right : m < length a → j < length b
-  turning-right h = omega (arith, t.sum, t.size)
-
-  pub turning-right_still : (v : ℕ) → m < length a → j < length (set b i v)
-  turning-right_still v h = rw length-set (turning-right h)
-
-  pub turning_done : j ≤ i → Mirrored m a b
-  turning_done l = record { size = t.size; inside = λ c u. inside c u (dec_lt c i) (dec_lt j c); beyond = t.beyond }
-    where
-      inside : (c : ℕ) → c ≤ m → Dec (c < i) → Dec (j < c) → get_or b c 0 ≡ get_or a (m - c) 0
-      inside c u (yes p) q = t.done c u (inl p)
-      inside c u (no p) (yes q) = t.done c u (inr q)
-      inside c u (no p) (no q) = t.rest c (omega arith) (omega arith) ∙ ap (λ (n : ℕ). get_or a n 0) here
-        where
-          here : c ≡ m - c
-          here = omega (arith, t.sum)
 
 -- the pass that fills the columns, if hi is what it would be from right to left
 pub record Filled (chain : List ℕ) (w e : ℕ) (lo₀ hi₀ lo hi : List ℕ) (x y i : ℕ) : Type 0 where

@@ -1,15 +1,13 @@
 // How far a walk goes, and the lowest corner of each of its columns.
 #![tactic(auto)]
 
-ghost use Rattle.std.specs.Prelude.{◌≡◌, map, ◌-◌, ◌<◌, min, length, replicate};
-ghost use Rattle.answer.specs.declared.Judged.TheVariants.{Good};
+ghost use Rattle.std.specs.Prelude.{◌≡◌, map, ◌-◌, ◌<◌, length, Ok, replicate};
 ghost use Rattle.steps.specs.Chain.{chain_judged};
 ghost use Rattle.column_laws.specs.Columns.{middle, top, trail};
 ghost use Rattle.hull_laws.specs.Lowest.{blank, sink, sinks, counted_from, half_turned};
 ghost use Rattle.hull_columns.specs.Extent.{extent_of, Spans, Mirrored};
 
 use columns::{Columns, across, upward};
-use order::{greater, lesser};
 
 // The westmost and the eastmost column of a walk.
 #[derive(Clone, Copy)]
@@ -20,31 +18,19 @@ pub struct Extent {
 
 // How far a walk without a fault goes.
 pub fn survey(chain: &[u8]) -> Extent
-    requires { chain_judged 0 chain.now ≡ Good }
+    requires { chain_judged 0 chain.now ≡ Ok tt }
     ensures { result ≡ extent_of chain.now }
 {
     let by = Columns::EAST;
     let mut x = Columns::MIDDLE as u32;
     let mut west = Columns::MIDDLE;
     let mut east = Columns::MIDDLE;
-    let mut i = 0;
-    while i < chain.len() {
-        x = across(x, &by, chain[i]);
-        west = lesser(west, x as usize);
-        east = greater(east, x as usize);
-        i += 1;
+    for &d in chain {
+        x = across(x, &by, d);
+        west = west.min(x as usize);
+        east = east.max(x as usize);
     }
     Extent { west, east }
-}
-
-// The lower of two heights.
-fn lower(a: u16, b: u16) -> u16
-    ensures { result ≡ min a b }
-{
-    if a < b {
-        return a;
-    }
-    b
 }
 
 // Column c keeps the height y if it is lower.
@@ -52,8 +38,7 @@ fn keep(ys: &mut [u16], c: usize, y: u16)
     requires { c < length ys.old }
     ensures { ys.new ≡ sink ys.old (c, y) }
 {
-    let before = ys[c];
-    ys[c] = lower(before, y);
+    ys[c] = ys[c].min(y);
 }
 
 // Puts the columns 0 to m into the order from right to left.
@@ -61,15 +46,7 @@ fn mirror(ys: &mut [u16], m: usize)
     requires { m < length ys.old }
     ensures { Mirrored m ys.old ys.new }
 {
-    let mut i = 0;
-    let mut j = m;
-    while i < j {
-        let left = ys[i];
-        ys[i] = ys[j];
-        ys[j] = left;
-        i += 1;
-        j -= 1;
-    }
+    ys[..=m].reverse();
 }
 
 // Keeps the lowest corner of each column in lo, counted from west, and in hi that of the walk turned by half a turn, from east.
@@ -85,16 +62,15 @@ pub fn fill(chain: &[u8], west: usize, east: usize, lo: &mut [u16], hi: &mut [u1
     let up = Columns::NORTH;
     let mut x = Columns::MIDDLE as u32;
     let mut y = Columns::LEVEL;
-    let mut i = 0;
-    while i < chain.len() {
-        keep(lo, x as usize - west, y);
-        keep(hi, x as usize - west, Columns::TOP - y);
-        let d = chain[i];
+    for &d in chain {
+        let c = x as usize - west;
+        keep(lo, c, y);
+        keep(hi, c, Columns::TOP - y);
         x = across(x, &by, d);
         y = upward(y, &up, d);
-        i += 1;
     }
-    keep(lo, x as usize - west, y);
-    keep(hi, x as usize - west, Columns::TOP - y);
+    let c = x as usize - west;
+    keep(lo, c, y);
+    keep(hi, c, Columns::TOP - y);
     mirror(hi, east - west);
 }

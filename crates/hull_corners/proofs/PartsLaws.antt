@@ -1,7 +1,9 @@
 -- From the two chains to the list in the buffer.
 -- Assumes nothing.
-use mathlib.Core.Path.{◌≡◌, sym, ap, ap₂, ◌∙◌, subst}
-use mathlib.Core.Bool.{◌&&◌}
+use Rattle.std.specs.Prelude.{Err, Ok}
+use mir.Val.{bool_byte}
+use mathlib.Core.Path.{refl, ◌≡◌, sym, ap, ap₂, ◌∙◌, subst}
+use mathlib.Core.Bool.{Bool, true, false, ◌&&◌}
 use mathlib.Core.List.{List}
 use Prim.Native.Nat.{ℕ, suc, ◌+◌, ◌*◌, ◌-◌, ◌≤◌, ◌<◌}
 use native.Mathlib.Omega.{arith}
@@ -9,14 +11,12 @@ use lib.Dec.{ltb, eqb}
 use lib.IntN.{ℤ, pos, negsuc, nat_abs, ◌+ℤ◌, ◌-ℤ◌}
 use lib.ListN.{length, get_or, set}
 use lib.Seq.{sets}
+use Rattle.answer.specs.Answers.{Judged}
 use Rattle.int_laws.proofs.LinearLaws.{zarith, bal+}
 use Rattle.int_laws.proofs.RangeLaws.{abs+, abs-}
 use Rattle.lists.specs.Lists.{tally}
 use Rattle.grid.specs.declared.Corner.{Corner}
-use Rattle.answer.specs.declared.Judged.{Judged}
-use Rattle.answer.specs.declared.Judged.TheVariants as judged
 use Rattle.answer.specs.declared.Refusal.TheVariants.{HullRoom}
-use Rattle.answer.specs.declared.Counted.{Counted}
 use Rattle.answer.specs.Limits.{most_steps}
 use Rattle.answer.specs.Refusal.{when}
 use Rattle.answer.specs.Listed.{counted_of, laid_if}
@@ -29,6 +29,11 @@ use Rattle.hull_laws.proofs.CallLaws.{room-short, room_enough, written}
 use Rattle.answer.specs.Limits.{Near}
 use Rattle.hull_corners.specs.Parts.{both_sides, two_at, ListGiven, Puts, Parts, TwoChains}
 use Rattle.hull_laws.specs.Lowest.{blank}
+
+-- a test counts 1 if it holds
+pub tally-byte : (t : Bool) → bool_byte t ≡ tally t
+tally-byte true = refl
+tally-byte false = refl
 
 -- a corner of the columns fits the numbers of the buffer
 near_axis : (z : ℤ) (n : ℕ) → nat_abs z ≤ most_steps → n ≤ top → nat_abs ((z -ℤ pos middle) +ℤ pos n) ≤ suc blank
@@ -88,22 +93,22 @@ module _ {w e : ℕ} {lo hi s t : List ℕ} {a b : ℕ} (h : TwoChains w e lo hi
     count : length (hull_by (c.0 -ℤ pos middle) (c.1 -ℤ pos middle) w e top lo hi) ≡ (length s - a) + (g - f)
     count = ap length (sym is) ∙ length_both (c.0 -ℤ pos middle) (c.1 -ℤ pos middle) w e top lo hi s t a f g close_ge close_le
 
-    pub listed_short : (before : List ℤ) → length before < 2 * ((length s - a) + (g - f)) → ListGiven (hull_by (c.0 -ℤ pos middle) (c.1 -ℤ pos middle) w e top lo hi) before (Counted.Refused HullRoom) before
+    pub listed_short : (before : List ℤ) → length before < 2 * ((length s - a) + (g - f)) → ListGiven (hull_by (c.0 -ℤ pos middle) (c.1 -ℤ pos middle) w e top lo hi) before (Err HullRoom) before
     listed_short before k = record {
       answer = sym (ap (λ (j : Judged). counted_of j (length (hull_by (c.0 -ℤ pos middle) (c.1 -ℤ pos middle) w e top lo hi))) short);
       buffer = sym (ap (λ (j : Judged). laid_if j (numbers (hull_by (c.0 -ℤ pos middle) (c.1 -ℤ pos middle) w e top lo hi)) before) short);
     }
       where
-        short : when (ltb (length before) (2 * length (hull_by (c.0 -ℤ pos middle) (c.1 -ℤ pos middle) w e top lo hi))) HullRoom ≡ judged.Refused HullRoom
+        short : when (ltb (length before) (2 * length (hull_by (c.0 -ℤ pos middle) (c.1 -ℤ pos middle) w e top lo hi))) HullRoom ≡ Err HullRoom
         short = room-short (length before) (length (hull_by (c.0 -ℤ pos middle) (c.1 -ℤ pos middle) w e top lo hi)) (omega (arith, count))
 
-    pub listed_enough : (before after : List ℤ) → 2 * ((length s - a) + (g - f)) ≤ length before → after ≡ sets before 0 (numbers (both_sides c w e lo hi s t a f g)) → ListGiven (hull_by (c.0 -ℤ pos middle) (c.1 -ℤ pos middle) w e top lo hi) before (Counted.Many ((length s - a) + (g - f))) after
+    pub listed_enough : (before after : List ℤ) → 2 * ((length s - a) + (g - f)) ≤ length before → after ≡ sets before 0 (numbers (both_sides c w e lo hi s t a f g)) → ListGiven (hull_by (c.0 -ℤ pos middle) (c.1 -ℤ pos middle) w e top lo hi) before (Ok ((length s - a) + (g - f))) after
     listed_enough before after k z = record {
-      answer = ap Counted.Many (sym count) ∙ sym (ap (λ (j : Judged). counted_of j (length (hull_by (c.0 -ℤ pos middle) (c.1 -ℤ pos middle) w e top lo hi))) enough);
+      answer = ap Ok (sym count) ∙ sym (ap (λ (j : Judged). counted_of j (length (hull_by (c.0 -ℤ pos middle) (c.1 -ℤ pos middle) w e top lo hi))) enough);
       buffer = z ∙ ap (λ (l : List Corner). sets before 0 (numbers l)) is ∙ written (hull_by (c.0 -ℤ pos middle) (c.1 -ℤ pos middle) w e top lo hi) before (omega (arith, count)) ∙ sym (ap (λ (j : Judged). laid_if j (numbers (hull_by (c.0 -ℤ pos middle) (c.1 -ℤ pos middle) w e top lo hi)) before) enough);
     }
       where
-        enough : when (ltb (length before) (2 * length (hull_by (c.0 -ℤ pos middle) (c.1 -ℤ pos middle) w e top lo hi))) HullRoom ≡ judged.Good
+        enough : when (ltb (length before) (2 * length (hull_by (c.0 -ℤ pos middle) (c.1 -ℤ pos middle) w e top lo hi))) HullRoom ≡ Ok tt
         enough = room_enough (length before) (length (hull_by (c.0 -ℤ pos middle) (c.1 -ℤ pos middle) w e top lo hi)) (omega (arith, count))
 
 -- two corners in the buffer
@@ -112,13 +117,13 @@ ends_base c base r n =
     (subst (λ (z : Corner). nat_abs z.0 ≤ suc blank) (sym r) (near_axis c.0 0 n.0 (omega arith)), subst (λ (z : Corner). nat_abs z.1 ≤ suc blank) (sym r) (near_axis c.1 0 n.1 (omega arith)))
 
 module _ (c : Corner) (w e : ℕ) where
-  pub ends-short : (before : List ℤ) → length before < 4 → ListGiven (two_at c w e) before (Counted.Refused HullRoom) before
+  pub ends-short : (before : List ℤ) → length before < 4 → ListGiven (two_at c w e) before (Err HullRoom) before
   ends-short before k = record {
     answer = sym (ap (λ (j : Judged). counted_of j 2) short);
     buffer = sym (ap (λ (j : Judged). laid_if j (numbers (two_at c w e)) before) short);
   }
     where
-      short : when (ltb (length before) (2 * 2)) HullRoom ≡ judged.Refused HullRoom
+      short : when (ltb (length before) (2 * 2)) HullRoom ≡ Err HullRoom
       short = room-short (length before) 2 k
 
   from_base : (base : Corner) → base ≡ spot (c.0 -ℤ pos middle) (c.1 -ℤ pos middle) (0, 0) → (v : ℕ × ℕ) → spot_by base (pos 1) v ≡ spot (c.0 -ℤ pos middle) (c.1 -ℤ pos middle) v
@@ -133,7 +138,7 @@ module _ (c : Corner) (w e : ℕ) where
   pub ends_enough : (base : Corner) (before one after : List ℤ) → base ≡ spot (c.0 -ℤ pos middle) (c.1 -ℤ pos middle) (0, 0) → 4 ≤ length before
       → one ≡ set (set before 0 (spot_by base (pos 1) (w, middle)).0) 1 (spot_by base (pos 1) (w, middle)).1
       → after ≡ set (set one 2 (spot_by base (pos 1) (e, middle)).0) 3 (spot_by base (pos 1) (e, middle)).1
-      → ListGiven (two_at c w e) before (Counted.Many 2) after
+      → ListGiven (two_at c w e) before (Ok 2) after
   ends_enough base before one after r k p q = record {
     answer = sym (ap (λ (j : Judged). counted_of j 2) enough);
     buffer =
@@ -141,5 +146,5 @@ module _ (c : Corner) (w e : ℕ) where
         ∙ written (two_at c w e) before k ∙ sym (ap (λ (j : Judged). laid_if j (numbers (two_at c w e)) before) enough);
   }
     where
-      enough : when (ltb (length before) (2 * 2)) HullRoom ≡ judged.Good
+      enough : when (ltb (length before) (2 * 2)) HullRoom ≡ Ok tt
       enough = room_enough (length before) 2 k

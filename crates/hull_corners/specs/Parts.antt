@@ -2,9 +2,9 @@
 -- Assumes nothing.
 use Rattle.std.specs.Prelude.{◌≡◌, List, [], ◌∷◌, ◌++◌, map, ℕ, suc, ◌+◌, ◌*◌, ◌-◌, ◌<◌, ◌≤◌, ltb, ℤ, pos, nat_abs, ◌+ℤ◌, ◌-ℤ◌, length, get_or, drop}
 use Rattle.std.proofs.Math.Seq.{slice}
+use Rattle.answer.specs.Answers.{Counted}
 use Rattle.grid.specs.declared.Corner.{Corner}
 use Rattle.grid.specs.Grid.{numbers}
-use Rattle.answer.specs.declared.Counted.{Counted}
 use Rattle.answer.specs.declared.Refusal.TheVariants.{HullRoom}
 use Rattle.answer.specs.Limits.{farthest}
 use Rattle.answer.specs.Refusal.{when}

@@ -11,7 +11,7 @@ ghost use Rattle.column_laws.specs.Columns.{spot, middle, top};
 ghost use Rattle.answer.specs.Limits.{most_start, farthest, Near};
 ghost use Rattle.hull_corners.specs.Parts.{both_sides, two_at, Puts, Parts, TwoChains, ListGiven};
 
-use answer::{Counted, Refusal};
+use answer::Refusal;
 use columns::Columns;
 use grid::Corner;
 
@@ -20,7 +20,7 @@ fn coordinate(base: i32, way: i32, n: u16) -> i32
     requires { (nat_abs base ≤ 2 * farthest) × (nat_abs way ≤ 1) }
     ensures { result ≡ base +ℤ (way *ℤ pos n) }
 {
-    base + way * (n as i32)
+    base + way * i32::from(n)
 }
 
 // Writes x and y of the corner at column c and height y to place o.
@@ -49,14 +49,18 @@ fn put(
     ensures { out.new ≡ sets out.old at
         (numbers (map (λ c. spot_by base way (col_at ys.now c)) (slice from to s.now))) }
 {
-    let mut i = from;
     let mut o = at;
-    while i < to {
-        let c = s[i];
-        put_corner(out, o, base, way, c, ys[c as usize]);
+    for &c in &s[from..to] {
+        put_corner(out, o, base, way, c, ys[usize::from(c)]);
         o += 2;
-        i += 1;
     }
+}
+
+// Whether the lowest and the highest corner of a column are one, if the second is counted from above.
+fn meet(lo: u16, hi: u16) -> bool
+    ensures { result ≡ eqb (lo + hi) top }
+{
+    u32::from(lo) + u32::from(hi) == u32::from(Columns::TOP)
 }
 
 // Where the upper chain begins, without a first corner that the lower one ends with.
@@ -64,22 +68,14 @@ fn seam(lo: u16, hi: u16, b: usize) -> usize
     requires { b ≤ 65536 }
     ensures { result ≡ b + tally (eqb (lo + hi) top) }
 {
-    if lo as u32 + hi as u32 == Columns::TOP as u32 {
-        return b + 1;
-    }
-    b
+    b + usize::from(meet(lo, hi))
 }
 
 // Where it ends, without a last corner that the lower one begins with.
 fn close(lo: u16, hi: u16, f: usize, n: usize) -> usize
     ensures { result ≡ n - tally (ltb f n && eqb (lo + hi) top) }
 {
-    if f < n {
-        if lo as u32 + hi as u32 == Columns::TOP as u32 {
-            return n - 1;
-        }
-    }
-    n
+    n - usize::from(f < n && meet(lo, hi))
 }
 
 // The coordinate at place n, if z stands in the middle.
@@ -137,7 +133,7 @@ pub fn finish(
     t: &[u16],
     b: usize,
     out: &mut [i32],
-) -> Counted
+) -> Result<usize, Refusal>
     requires { Near start × TwoChains west east lo.now hi.now s.now t.now a b }
     ensures { ListGiven (hull_by (start.0 -ℤ pos middle) (start.1 -ℤ pos middle) west east top lo.now
         hi.now) out.old result out.new }
@@ -147,22 +143,22 @@ pub fn finish(
     let g = close(lo[0], hi[k], f, t.len());
     let count = (s.len() - a) + (g - f);
     if out.len() < 2 * count {
-        return Counted::Refused(Refusal::HullRoom);
+        return Err(Refusal::HullRoom);
     }
     write(start, west, east, lo, hi, s, a, t, f, g, out);
-    Counted::Many(count)
+    Ok(count)
 }
 
 // Writes the corners at the start's height in these two columns if the buffer is long enough, and answers that there are two.
-pub fn ends(start: Corner, west: usize, east: usize, out: &mut [i32]) -> Counted
+pub fn ends(start: Corner, west: usize, east: usize, out: &mut [i32]) -> Result<usize, Refusal>
     requires { Near start × (west ≤ top) × (east ≤ top) }
     ensures { ListGiven (two_at start west east) out.old result out.new }
 {
     if out.len() < 4 {
-        return Counted::Refused(Refusal::HullRoom);
+        return Err(Refusal::HullRoom);
     }
     let base = placed(start, 0, 0);
     put_corner(out, 0, base, 1, west as u16, Columns::LEVEL);
     put_corner(out, 2, base, 1, east as u16, Columns::LEVEL);
-    Counted::Many(2)
+    Ok(2)
 }

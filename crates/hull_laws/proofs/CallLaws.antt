@@ -1,5 +1,6 @@
 -- The refusals of the hull call in their order, and the buffer after a list is written.
 -- Assumes nothing.
+use Rattle.std.specs.Prelude.{Err, Ok}
 use mathlib.Core.Path.{◌≡◌, sym, ap, ◌∙◌}
 use mathlib.Core.Bool.{Bool}
 use mathlib.Core.List.{List, ◌++◌}
@@ -10,13 +11,11 @@ use lib.Dec.{ltb}
 use lib.IntN.{ℤ}
 use lib.ListN.{length, drop}
 use lib.Seq.{sets, sets-eq}
+use Rattle.answer.specs.Answers.{Counted, Judged}
 use Rattle.grid.specs.declared.Corner.{Corner}
 use Rattle.grid.specs.Grid.{corners_from, numbers}
-use Rattle.answer.specs.declared.Judged.{Judged}
-use Rattle.answer.specs.declared.Judged.TheVariants.{Good, Refused}
 use Rattle.answer.specs.declared.Refusal.{Refusal}
 use Rattle.answer.specs.declared.Refusal.TheVariants.{HullRoom}
-use Rattle.answer.specs.declared.Counted.{Counted}
 use Rattle.answer.specs.Refusal.{when}
 use Rattle.answer.specs.Listed.{counted_of, laid_if}
 use Rattle.answer.proofs.RefusalLaws.{first_refused, first-last}
@@ -27,10 +26,10 @@ use Rattle.hull_laws.proofs.OneLaws.{hull_is_one}
 use Rattle.hull_laws.proofs.HullLaws.{hull_of_hull}
 use Rattle.hull_laws.proofs.JoinLaws.{length-numbers}
 
-pub room-short : (room n : ℕ) → room < 2 * n → when (ltb room (2 * n)) HullRoom ≡ Refused HullRoom
+pub room-short : (room n : ℕ) → room < 2 * n → when (ltb room (2 * n)) HullRoom ≡ Err HullRoom
 room-short room n h = ap (λ (b : Bool). when b HullRoom) (lt-ltb room (2 * n) h)
 
-pub room_enough : (room n : ℕ) → 2 * n ≤ room → when (ltb room (2 * n)) HullRoom ≡ Good
+pub room_enough : (room n : ℕ) → 2 * n ≤ room → when (ltb room (2 * n)) HullRoom ≡ Ok tt
 room_enough room n h = ap (λ (b : Bool). when b HullRoom) (le-ltb room (2 * n) h)
 
 -- stores from the first place on
@@ -41,14 +40,14 @@ written L before h = sets-eq (numbers L) before 0 (omega (arith, length-numbers 
     none = omega arith
 
 module _ (s : Corner) (chain : List ℕ) (room n : ℕ) where
-  pub judged_refused : (r : Refusal) → as_walk_judged s chain ≡ Refused r → hull_judged s chain room n ≡ Refused r
+  pub judged_refused : (r : Refusal) → as_walk_judged s chain ≡ Err r → hull_judged s chain room n ≡ Err r
   judged_refused r e = first_refused (as_walk_judged s chain) (when (ltb room (2 * n)) HullRoom) r e
 
-  pub judged-room : as_walk_judged s chain ≡ Good → hull_judged s chain room n ≡ when (ltb room (2 * n)) HullRoom
+  pub judged-room : as_walk_judged s chain ≡ Ok tt → hull_judged s chain room n ≡ when (ltb room (2 * n)) HullRoom
   judged-room e = first-last (as_walk_judged s chain) (when (ltb room (2 * n)) HullRoom) e
 
 -- a refused call leaves the buffer as it was
-pub call_refused : (s : Corner) (chain : List ℕ) (before : List ℤ) (r : Refusal) → as_walk_judged s chain ≡ Refused r → HullCall s chain before (Counted.Refused r) before
+pub call_refused : (s : Corner) (chain : List ℕ) (before : List ℤ) (r : Refusal) → as_walk_judged s chain ≡ Err r → HullCall s chain before (Err r) before
 call_refused s chain before r e =
     let L = hull_of s chain in
     let j = judged_refused s chain (length before) (length L) r e in

@@ -8,7 +8,7 @@ use native.Mathlib.Omega.{arith}
 use native.Mathlib.Numerals.{add-one, add-two}
 use native.Mathlib.Decide.{dec_lt}
 use lib.Dec.{ltb, eqb}
-use borrow.Author.Tests.{eq-eqb, ne_eqb, lt-ltb, le-ltb}
+use borrow.Author.Tests.{lt-ltb, le-ltb}
 use lib.IntN.{ℤ, pos, negsuc, ◌+ℤ◌, ◌-ℤ◌, ◌*ℤ◌}
 use lib.ListN.{length, get_or, set, drop, take, length-append, length-drop, length-map, drop_of_length-le}
 use lib.Seq.{sets, slice, slice-cons, slice_empty, length-slice, take-length, drop-drop}
@@ -20,31 +20,6 @@ use Rattle.grid.specs.Grid.{numbers}
 use Rattle.hull_laws.specs.Chain.{chain_from, spot_back, spot_by, col_at, skip, stop, upper, hull_by}
 use Rattle.column_laws.specs.Columns.{spot}
 use Rattle.grid.proofs.CornerLaws.{corner_eq}
-
--- where the upper chain begins and ends
-pub one_more : (b m n : ℕ) → m ≡ n → b + 1 ≡ b + tally (eqb m n)
-one_more b m n e = ap (λ (t : Bool). b + tally t) (sym (eq-eqb m n e))
-
-pub no_more : (b m n : ℕ) → ¬ (m ≡ n) → b ≡ b + tally (eqb m n)
-no_more b m n e = sum ∙ ap (λ (t : Bool). b + tally t) (sym (ne_eqb m n e))
-  where
-    sum : b ≡ b + 0
-    sum = omega arith
-
-pub one_less : (f n m k : ℕ) → f < n → m ≡ k → n - 1 ≡ n - tally (ltb f n && eqb m k)
-one_less f n m k h e = ap₂ (λ (s t : Bool). n - tally (s && t)) (sym (lt-ltb f n h)) (sym (eq-eqb m k e))
-
-pub no_less : (f n m k : ℕ) → f < n → ¬ (m ≡ k) → n ≡ n - tally (ltb f n && eqb m k)
-no_less f n m k h e = sum ∙ ap₂ (λ (s t : Bool). n - tally (s && t)) (sym (lt-ltb f n h)) (sym (ne_eqb m k e))
-  where
-    sum : n ≡ n - 0
-    sum = omega arith
-
-pub none-less : (f n m k : ℕ) → n ≤ f → n ≡ n - tally (ltb f n && eqb m k)
-none-less f n m k h = sum ∙ ap (λ (s : Bool). n - tally (s && eqb m k)) (sym (le-ltb f n h))
-  where
-    sum : n ≡ n - 0
-    sum = omega arith
 
 -- a turn of the loop that writes, and its end
 module _ (f : ℕ → Corner) (s : List ℕ) (to : ℕ) where

@@ -3,19 +3,14 @@
 use mathlib.Core.Path.{◌≡◌, refl, sym, ap, ap₂, ◌∙◌, subst}
 use mathlib.Core.Bool.{Bool, true, false, not}
 use mathlib.Core.List.{List, [], ◌∷◌, Memᴰ}
-use Prim.Native.Nat.{ℕ, zero, suc, ◌+◌, ◌*◌, ◌-◌, ◌≤◌, ◌<◌}
+use Prim.Native.Nat.{ℕ, zero, suc, ◌+◌, ◌-◌, ◌≤◌, ◌<◌}
 use native.Mathlib.Omega.{arith}
-use native.Mathlib.Nat.{mul-le-mul}
 use native.Mathlib.Numerals.{add-one}
 use native.Mathlib.Decide.{dec_lt}
 use lib.ListN.{length, get_or, drop, set, length-drop, drop_of_length-le}
 use lib.Seq.{drop-cons, drop-set-lt, get_or-set_same, lt-length-set, get_or-drop}
 use Rattle.hull_laws.specs.Chain.{turns_at, drops_at, cut_at, chain_from}
 use Rattle.hull_laws.proofs.ScanLaws.{chain_in_lem}
-
--- a product of two numbers of 16 bits
-pub times_lt : (m n : ℕ) → m < 65536 → n < 65536 → m * n < 4294967296
-times_lt m n h g = omega (arith, mul-le-mul {n₁ = m} {m₁ = n} {n₂ = 65535} {m₂ = 65535} (omega arith) (omega arith))
 
 -- whether the first of the chain is dropped
 module _ (ys : List ℕ) (p : ℕ) where

@@ -1,32 +1,31 @@
 -- One line, converted: bytes written one after the other, and the call.
 -- Assumes nothing.
+use Rattle.std.specs.Prelude.{Err, Ok, Option, Some, None}
 use mathlib.Core.Path.{◌≡◌, refl, sym, ap, ◌∙◌, subst}
-use mathlib.Core.Bool.{Bool, true, false, cond, ◌&&◌, true≢false}
+use mathlib.Core.Bool.{Bool, true, false, cond, true≢false}
 use mathlib.Core.List.{List, [], ◌∷◌, ◌++◌}
 use Prim.Native.Nat.{ℕ, zero, suc, ◌+◌, ◌-◌, ◌<◌, ◌≤◌}
 use native.Mathlib.Omega.{arith}
 use native.Mathlib.Nat.{add-zero}
 use native.Mathlib.Numerals.{add-one}
 use native.Mathlib.Decide.{dec_lt}
-use borrow.Author.Tests.{le-leb, lt-leb, le-ltb, lt-ltb, ltb-false, leb-false, eq-eqb, ne_eqb}
+use borrow.Author.Tests.{le-leb, lt-leb, le-ltb, lt-ltb, ltb-false, leb-false, eq-eqb}
 use lib.ListN.{length, drop, get_or, set, length-drop, drop_of_length-le, length-append}
 use lib.Seq.{drop-cons}
-use lib.Dec.{leb, eqb}
+use lib.Dec.{leb}
+use Rattle.answer.specs.Answers.{Judged}
 use Rattle.lists.specs.Lists.{Below}
-use Rattle.answer.specs.declared.Judged.{Judged}
-use Rattle.answer.specs.declared.Judged.TheVariants.{Good, Refused}
 use Rattle.answer.specs.declared.Refusal.{Refusal}
 use Rattle.steps.specs.Turns.{steps_of, turns_judged, written_if, ConvertedBy}
 use Rattle.steps.proofs.TurnLaws.{steps_of_below, length-steps_of}
 use Rattle.steps.proofs.TurnPromiseLaws.{turns_judged_good}
 use Rattle.line_frame.specs.Sizes.{most_line}
-use Rattle.line_frame.specs.declared.Kind.TheVariants.{Turns}
-use Rattle.line_frame.specs.declared.Frame.TheVariants.{Of, Bad}
+use Rattle.line_frame.specs.declared.Kind.{Kind, TheVariants.Turns}
 use Rattle.line_frame.specs.Hex.{is_hex, value_of, pair_at, letter_of}
 use Rattle.line_frame.specs.Line.{kind_of, count_of, kind_named, is_frame, frame_of}
 use Rattle.line_frame.specs.Converted.{letters_of, steps_frame, Turned, converted_line}
 use Rattle.line_frame.proofs.HexLaws.{all_hex-at, is_hex_range}
-use Rattle.line_frame.proofs.LineLaws.{kind_of_six, frame_of_kind, frame_good}
+use Rattle.line_frame.proofs.LineLaws.{kind_of_six, frame_of_kind, one_frame, frame_good}
 use Rattle.line_frame.proofs.ConvertedLaws.{converted-length, converted_other}
 use Rattle.line_fields.specs.Put.{put, Wrote}
 use Rattle.line_fields.proofs.PutLaws.{put_first, put_nil, wrote_nil, wrote_append}
@@ -73,7 +72,7 @@ value_below b d h v l = go (leb b 57) refl v
     go true e w = omega (arith, (is_hex_range b h).0, w)
     go false e w = absurd (omega (arith, (is_hex_range b h).2 (leb-false b 57 e), w))
 
-one-named : (s : List ℕ) (n : ℕ) → frame_of s ≡ Of Turns n → kind_of s ≡ 1
+one-named : (s : List ℕ) (n : ℕ) → frame_of s ≡ Some (Turns, n) → kind_of s ≡ 1
 unfolding frame_of
 one-named s n e =
     elim (dec_lt 1 (kind_of s)) [
@@ -81,12 +80,12 @@ one-named s n e =
       | no f ↦ omega (arith, f, some (is_frame s) (kind_of s) (count_of s) e)
     ]
   where
-    bad : Bad ≡ Of Turns n → ⊥
+    bad : ◌≡◌ {A = Option (Kind × ℕ)} None (Some (Turns, n)) → ⊥
     bad z = let y : ◌≡◌ {A = ℕ} 0 1 = cc in omega arith
 
-    some : (b : Bool) (k m : ℕ) → cond b (Of (kind_named k) m) Bad ≡ Of Turns n → 0 < k
+    some : (b : Bool) (k m : ℕ) → cond {A = Option (Kind × ℕ)} b (Some (kind_named k, m)) None ≡ Some (Turns, n) → 0 < k
     some false k m z = absurd (bad z)
-    some true zero m z = let y : ◌≡◌ {A = ℕ} 0 1 = cc in absurd (omega arith)
+    some true zero m z = let x = (one_frame z).0 in let y : ◌≡◌ {A = ℕ} 0 1 = cc in absurd (omega arith)
     some true (suc k) m z = omega arith
 
 turned_names : (s : List ℕ) → Turned s → names_turns s ≡ true
@@ -99,22 +98,6 @@ turned_names s t =
 
 pub other_stays : (s : List ℕ) {r : Bool} → r ≡ names_turns s → r ≡ false → s ≡ converted_line s
 other_stays s e f = sym (converted_other s (λ t. true≢false (sym (turned_names s t) ∙ sym e ∙ f)))
-
--- how that is written
-pub names_short : (s : List ℕ) → length s < 2 → false ≡ names_turns s
-names_short [] h = refl
-names_short (a ∷ []) h = go (eqb a 48)
-  where
-    go : (b : Bool) → false ≡ b && false
-    go true = refl
-    go false = refl
-names_short (a ∷ b ∷ s) h = absurd (omega arith)
-
-pub names_other : (s : List ℕ) → (get_or s 0 0 ≡ 48 → ⊥) → false ≡ names_turns s
-names_other s f = rw (ne_eqb (get_or s 0 0) 48 f) refl
-
-pub names_first : (s : List ℕ) → get_or s 0 0 ≡ 48 → eqb (get_or s 1 0) 49 ≡ names_turns s
-names_first s e = rw (eq-eqb (get_or s 0 0) 48 e) refl
 
 -- the call, if the buffer is too short, and if it is not
 pub convert_short : (s out : List ℕ) → length out < length s → ConvertedIs s out 0 out
@@ -143,9 +126,9 @@ module _ {ts out : List ℕ} {r : Judged} {out' : List ℕ} (w : ConvertedBy ste
   judged : r ≡ turns_judged ts (length ts)
   judged = w.answer ∙ ap (turns_judged ts) l
 
-  pub turns_good : r ≡ Good → StepsWritten ts out'
+  pub turns_good : r ≡ Ok tt → StepsWritten ts out'
   turns_good e =
-      let j : turns_judged ts (length ts) ≡ Good = sym judged ∙ e in
+      let j : turns_judged ts (length ts) ≡ Ok tt = sym judged ∙ e in
       let k : out' ≡ steps_of ts = w.buffer ∙ ap (λ (n : ℕ). written_if (turns_judged ts n) (steps_of ts) out) l ∙ ap (λ (x : Judged). written_if x (steps_of ts) out) j in
       record {
         below = subst (Below 4) (sym k) (steps_of_below ts (turns_judged_good ts (length ts) j).digits);
@@ -154,7 +137,7 @@ module _ {ts out : List ℕ} {r : Judged} {out' : List ℕ} (w : ConvertedBy ste
       }
 
   -- for others the line stays
-  pub turns_refused : (x : Refusal) → r ≡ Refused x → (s : List ℕ) → s ≡ written_if (turns_judged ts (length ts)) (steps_frame (steps_of ts)) s
+  pub turns_refused : (x : Refusal) → r ≡ Err x → (s : List ℕ) → s ≡ written_if (turns_judged ts (length ts)) (steps_frame (steps_of ts)) s
   turns_refused x e s = sym (ap (λ (j : Judged). written_if j (steps_frame (steps_of ts)) s) (sym judged ∙ e))
 
 -- what is passed on of a line that goes on: what comes, if the line was too long already; nothing, if it is not yet; or all of it

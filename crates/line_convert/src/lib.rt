@@ -12,7 +12,6 @@ ghost use Rattle.line_fields.specs.Put.{Wrote};
 ghost use Rattle.line_stream.specs.Stream.{is_long};
 ghost use Rattle.line_convert.specs.Convert.{ConvertedIs, names_turns};
 
-use answer::Judged;
 use line_fields::hex::{letter, spell};
 use line_frame::{Frame, Kind};
 use line_parts::{copy_digits, read};
@@ -22,12 +21,11 @@ pub fn copy(s: &[u8], out: &mut [u8], at: usize) -> usize
     requires { at + length s.now ≤ length out.old }
     ensures { Wrote s.now at out.old result out.new }
 {
-    let mut i = 0;
-    while i < s.len() {
+    // a loop: `copy_from_slice` calls the C library, whose first call takes more stack than the header says
+    for i in 0..s.len() {
         out[at + i] = s[i];
-        i += 1;
     }
-    at + i
+    at + s.len()
 }
 
 // Writes the steps, one digit each.
@@ -36,12 +34,10 @@ fn spell_steps(steps: &[u8], out: &mut [u8], at: usize) -> usize
     requires steps_in_bounds { at + length steps.now ≤ length out.old }
     ensures { Wrote (letters_of steps.now) at out.old result out.new }
 {
-    let mut i = 0;
-    while i < steps.len() {
+    for i in 0..steps.len() {
         out[at + i] = letter(steps[i]);
-        i += 1;
     }
-    at + i
+    at + steps.len()
 }
 
 // Writes the frame of kind 00 with these steps.
@@ -63,8 +59,8 @@ fn convert_turns(s: &[u8], turns: &[u8], steps: &mut [u8], out: &mut [u8], at: u
         (steps_frame (steps_of turns.now)) s.now) at out.old result out.new }
 {
     match turns::steps_of(turns, steps) {
-        Judged::Good => spell_frame(steps, out, at),
-        Judged::Refused(_) => copy(s, out, at),
+        Ok(()) => spell_frame(steps, out, at),
+        Err(_) => copy(s, out, at),
     }
 }
 
@@ -98,13 +94,7 @@ fn convert_kind(s: &[u8], kind: Kind, n: usize, out: &mut [u8], at: usize) -> us
 fn names_turns(s: &[u8]) -> bool
     ensures { result ≡ names_turns s.now }
 {
-    if s.len() < 2 {
-        return false;
-    }
-    if s[0] != 48 {
-        return false;
-    }
-    s[1] == 49
+    matches!(s, [b'0', b'1', ..])
 }
 
 // Writes the line s, converted, from the place at on. Answers the place after it. A line of another kind stays, so it need not be
@@ -117,8 +107,8 @@ fn convert_line(s: &[u8], out: &mut [u8], at: usize) -> usize
         return copy(s, out, at);
     }
     match read(s) {
-        Frame::Of(kind, n) => convert_kind(s, kind, n, out, at),
-        Frame::Bad => copy(s, out, at),
+        Some((kind, n)) => convert_kind(s, kind, n, out, at),
+        None => copy(s, out, at),
     }
 }
 

@@ -1,4 +1,3 @@
 -- The laws that the proofs of fields cite.
 pub mod PutLaws
 pub mod DigitLaws
-pub mod BitsLaws

@@ -8,6 +8,7 @@ use native.Mathlib.Nat.{add-zero}
 use native.Mathlib.Numerals.{add-one}
 use lib.ListN.{length, take, drop, set, length-append, length-drop, take-append-drop}
 use lib.Seq.{length-take-le, take_at, drop_at, take-set-le, set_split, drop-drop, append_snoc}
+use borrow.Rule.Slice.PartMut.{put_mid}
 use Rattle.line_fields.specs.Put.{put, Wrote}
 
 pub put_nil : (at : ℕ) (buf : List ℕ) → put [] at buf ≡ buf
@@ -90,6 +91,16 @@ wrote_append {f} {g} {at} {m} {end} {a} {b} {c} p q h = record {
 
 pub wrote_nil : (at : ℕ) (a : List ℕ) → Wrote [] at a at a
 wrote_nil at a = record { end = sym (add-zero at); buffer = sym (put_nil at a) }
+
+-- a part of k bytes that is written as a whole
+pub wrote_mid : (f : List ℕ) (at k : ℕ) (a : List ℕ) → length f ≡ k → Wrote f at a (at + k) (put_mid at k a f)
+unfolding put
+wrote_mid f at k a e = record {
+  end = ap (λ (n : ℕ). at + n) (sym e);
+  buffer =
+      ap (λ (l : List ℕ). take at a ++ (f ++ l)) (drop-drop k at a ∙ ap (λ (n : ℕ). drop (at + n) a) (sym e))
+      ∙ sym (append_assoc (take at a) f (drop (at + length f) a));
+}
 
 -- what was written at the start
 pub take-put-start : (f buf : List ℕ) (n : ℕ) → n ≡ length f → n ≤ length buf → take n (put f 0 buf) ≡ f

@@ -38,12 +38,10 @@ pub fn spell(out: &mut [u8], at: usize, v: usize, n: usize) -> usize
     requires { at + n ≤ length out.old }
     ensures { Wrote (hex_of n v) at out.old result out.new }
 {
-    let mut left = n;
     let mut rest = v;
-    while 0 < left {
-        left -= 1;
+    for left in (0..n).rev() {
         out[at + left] = letter((rest % 16) as u8);
-        rest = rest / 16;
+        rest /= 16;
     }
     at + n
 }
@@ -52,11 +50,7 @@ pub fn spell(out: &mut [u8], at: usize, v: usize, n: usize) -> usize
 pub fn bits(x: i32) -> u32
     ensures { result ≡ bits_of x }
 {
-    if x < 0 {
-        let m = -(x + 1);
-        return 4294967295 - (m as u32);
-    }
-    x as u32
+    x.cast_unsigned()
 }
 
 // Writes the low n digits of x, a negative in two's complement.

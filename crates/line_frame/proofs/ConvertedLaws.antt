@@ -1,5 +1,6 @@
 -- Lines converted: which change, what they become, and the whole output of the converter.
 -- Assumes nothing.
+use Rattle.std.specs.Prelude.{Err, Ok, Option, Some, None}
 use mathlib.Core.Path.{◌≡◌, refl, sym, ap, ◌∙◌, subst}
 use mathlib.Core.Bool.{Bool, true, false, ◌&&◌}
 use mathlib.Core.List.{List, [], ◌∷◌, ◌++◌}
@@ -7,16 +8,13 @@ use Prim.Native.Nat.{ℕ, ◌+◌, ◌<◌, ◌≤◌}
 use native.Mathlib.Omega.{arith}
 use borrow.Author.Tests.{ne_eqb}
 use lib.ListN.{length}
+use Rattle.answer.specs.Answers.{Judged}
 use Rattle.lists.specs.Lists.{Below}
-use Rattle.answer.specs.declared.Judged.{Judged}
-use Rattle.answer.specs.declared.Judged.TheVariants.{Good, Refused}
 use Rattle.steps.specs.Turns.{steps_of, turns_judged, written_if}
 use Rattle.steps.proofs.TurnLaws.{steps_of_below, length-steps_of}
 use Rattle.steps.proofs.TurnPromiseLaws.{turns_judged_good, good_turns_judged}
 use Rattle.steps.specs.Operations.{survivors}
 use Rattle.line_frame.specs.declared.Kind.TheVariants.{Operations, Turns}
-use Rattle.line_frame.specs.declared.Frame.{Frame}
-use Rattle.line_frame.specs.declared.Frame.TheVariants.{Of, Bad}
 use Rattle.line_frame.specs.Sizes.{head_digits, most_digits, most_line}
 use Rattle.line_frame.specs.Hex.{is_hex, all_hex}
 use Rattle.line_frame.specs.Line.{frame_of, digits_of, kind_walked, line_answer}
@@ -24,9 +22,10 @@ use Rattle.line_frame.specs.Spelled.{answer_line}
 use Rattle.line_frame.specs.Program.{output_from, feeds_in}
 use Rattle.line_frame.specs.Converted.{steps_frame, converted_by, Turned, converted_line, converted, converter}
 use Rattle.line_frame.proofs.HexLaws.{is_hex_range}
-use Rattle.line_frame.proofs.LineLaws.{frame_good, line_answer-by, length-digits_of}
+use Rattle.line_frame.proofs.LineLaws.{one_frame, frame_good, line_answer-by, length-digits_of}
 use Rattle.line_frame.proofs.FrameLaws.{length-framed, framed_hex, frame_of-framed, digits_framed}
 use Rattle.line_frame.proofs.OutputLaws.{feeds_in-more, output_same, output_length, output_feeds, output_then}
+use Rattle.line_frame.specs.declared.Kind.{Kind}
 
 below_more : (m n : ℕ) (ds : List ℕ) → m ≤ n → Below m ds → Below n ds
 below_more m n [] h b = tt
@@ -50,29 +49,29 @@ few_turns s t =
     (omega (arith, g.size, e), omega (arith, g.most, e))
 
 -- those that may be converted are judged good
-turned_good : (s : List ℕ) → Turned s → turns_judged (digits_of s) (length (digits_of s)) ≡ Good
+turned_good : (s : List ℕ) → Turned s → turns_judged (digits_of s) (length (digits_of s)) ≡ Ok tt
 turned_good s t = good_turns_judged (digits_of s) (length (digits_of s)) (record { few = omega (arith, few_turns s t); long = refl; digits = t.turns })
 
 -- which lines change
 dec_turned : (s : List ℕ) → Dec (Turned s)
 dec_turned s = go (frame_of s) (turns_judged (digits_of s) (length (digits_of s))) refl refl
   where
-    go : (f : Frame) (j : Judged) → frame_of s ≡ f → turns_judged (digits_of s) (length (digits_of s)) ≡ j → Dec (Turned s)
-    go (Of Operations n) j e k = no (λ t. let z : ◌≡◌ {A = Frame} (Of Operations n) (Of Turns t.count) = sym e ∙ t.frame in let y : ◌≡◌ {A = ℕ} 0 1 = cc in omega arith)
-    go Bad j e k = no (λ t. let z : ◌≡◌ {A = Frame} Bad (Of Turns t.count) = sym e ∙ t.frame in let y : ◌≡◌ {A = ℕ} 0 1 = cc in omega arith)
-    go (Of Turns n) Good e k = yes (record { count = n; frame = e; turns = (turns_judged_good (digits_of s) (length (digits_of s)) k).digits })
-    go (Of Turns n) (Refused r) e k = no (λ t. let z : ◌≡◌ {A = Judged} Good (Refused r) = sym (turned_good s t) ∙ k in let y : ◌≡◌ {A = ℕ} 0 1 = cc in omega arith)
+    go : (f : Option (Kind × ℕ)) (j : Judged) → frame_of s ≡ f → turns_judged (digits_of s) (length (digits_of s)) ≡ j → Dec (Turned s)
+    go (Some (Operations, n)) j e k = no (λ t. let z : ◌≡◌ {A = Option (Kind × ℕ)} (Some (Operations, n)) (Some (Turns, t.count)) = sym e ∙ t.frame in let x = (one_frame z).0 in let y : ◌≡◌ {A = ℕ} 0 1 = cc in omega arith)
+    go None j e k = no (λ t. let z : ◌≡◌ {A = Option (Kind × ℕ)} None (Some (Turns, t.count)) = sym e ∙ t.frame in let y : ◌≡◌ {A = ℕ} 0 1 = cc in omega arith)
+    go (Some (Turns, n)) (Ok _) e k = yes (record { count = n; frame = e; turns = (turns_judged_good (digits_of s) (length (digits_of s)) k).digits })
+    go (Some (Turns, n)) (Err r) e k = no (λ t. let z : ◌≡◌ {A = Judged} (Ok tt) (Err r) = sym (turned_good s t) ∙ k in let y : ◌≡◌ {A = ℕ} 0 1 = cc in omega arith)
 
 -- by its frame
-pub converted_line-by : (s : List ℕ) (f : Frame) → frame_of s ≡ f → converted_by f s ≡ converted_line s
+pub converted_line-by : (s : List ℕ) (f : Option (Kind × ℕ)) → frame_of s ≡ f → converted_by f s ≡ converted_line s
 unfolding converted_line
-converted_line-by s f e = sym (ap (λ (g : Frame). converted_by g s) e)
+converted_line-by s f e = sym (ap (λ (g : Option (Kind × ℕ)). converted_by g s) e)
 
 -- what they become
 converted-turned : (s : List ℕ) → Turned s → converted_line s ≡ steps_frame (steps_of (digits_of s))
 unfolding converted_line
 converted-turned s t =
-    ap (λ (f : Frame). converted_by f s) t.frame
+    ap (λ (f : Option (Kind × ℕ)). converted_by f s) t.frame
     ∙ ap (λ (j : Judged). written_if j (steps_frame (steps_of (digits_of s))) s) (turned_good s t)
 
 -- and that the others stay
@@ -80,11 +79,11 @@ pub converted_other : (s : List ℕ) → (Turned s → ⊥) → converted_line s
 unfolding converted_line
 converted_other s n = go (frame_of s) (turns_judged (digits_of s) (length (digits_of s))) refl refl
   where
-    go : (f : Frame) (j : Judged) → frame_of s ≡ f → turns_judged (digits_of s) (length (digits_of s)) ≡ j → converted_by f s ≡ s
-    go (Of Operations m) j e k = refl
-    go Bad j e k = refl
-    go (Of Turns m) Good e k = absurd (n (record { count = m; frame = e; turns = (turns_judged_good (digits_of s) (length (digits_of s)) k).digits }))
-    go (Of Turns m) (Refused r) e k = ap (λ (j : Judged). written_if j (steps_frame (steps_of (digits_of s))) s) k
+    go : (f : Option (Kind × ℕ)) (j : Judged) → frame_of s ≡ f → turns_judged (digits_of s) (length (digits_of s)) ≡ j → converted_by f s ≡ s
+    go (Some (Operations, m)) j e k = refl
+    go None j e k = refl
+    go (Some (Turns, m)) (Ok _) e k = absurd (n (record { count = m; frame = e; turns = (turns_judged_good (digits_of s) (length (digits_of s)) k).digits }))
+    go (Some (Turns, m)) (Err r) e k = ap (λ (j : Judged). written_if j (steps_frame (steps_of (digits_of s))) s) k
 
 pub converted-long : (s : List ℕ) → most_line < length s → converted_line s ≡ s
 converted-long s h = converted_other s (λ t. omega (arith, few_turns s t))
@@ -103,7 +102,7 @@ module _ (s : List ℕ) (t : Turned s) where
   steps_few : length (steps_of (digits_of s)) ≤ most_digits
   steps_few = omega (arith, length-steps_of (digits_of s), few_turns s t)
 
-  pub converted_frame : frame_of (converted_line s) ≡ Of Operations (length (steps_of (digits_of s)))
+  pub converted_frame : frame_of (converted_line s) ≡ Some (Operations, length (steps_of (digits_of s)))
   converted_frame = ap frame_of (converted-turned s t) ∙ frame_of-framed 0 (omega arith) (steps_of (digits_of s)) steps_digits steps_few
 
   pub converted_digits : digits_of (converted_line s) ≡ steps_of (digits_of s)
@@ -112,7 +111,7 @@ module _ (s : List ℕ) (t : Turned s) where
   -- converted, it is answered as they are
   pub converted_answer : line_answer (converted_line s) ≡ answer_line (kind_walked Operations (steps_of (digits_of s))) (survivors (steps_of (digits_of s)))
   converted_answer =
-      sym (line_answer-by (converted_line s) (Of Operations (length (steps_of (digits_of s)))) converted_frame)
+      sym (line_answer-by (converted_line s) (Some (Operations, length (steps_of (digits_of s)))) converted_frame)
       ∙ ap (λ (ds : List ℕ). answer_line (kind_walked Operations ds) (survivors ds)) converted_digits
 
   turned-length : length (converted_line s) ≡ length s
@@ -135,8 +134,8 @@ converted_feeds s = elim (dec_turned s) [ yes t ↦ turned_feeds s t | no n ↦ 
 pub converted-none : (s : List ℕ) → Turned (converted_line s) → ⊥
 converted-none s u = elim (dec_turned s) [ yes t ↦ two (converted_frame s t) u.frame | no n ↦ n (subst Turned (converted_other s n) u) ]
   where
-    two : {f : Frame} {m k : ℕ} → f ≡ Of Operations m → f ≡ Of Turns k → ⊥
-    two {f} {m} {k} p q = let z : ◌≡◌ {A = Frame} (Of Operations m) (Of Turns k) = sym p ∙ q in let y : ◌≡◌ {A = ℕ} 0 1 = cc in omega arith
+    two : {f : Option (Kind × ℕ)} {m k : ℕ} → f ≡ Some (Operations, m) → f ≡ Some (Turns, k) → ⊥
+    two {f} {m} {k} p q = let z : ◌≡◌ {A = Option (Kind × ℕ)} (Some (Operations, m)) (Some (Turns, k)) = sym p ∙ q in let x = (one_frame z).0 in let y : ◌≡◌ {A = ℕ} 0 1 = cc in omega arith
 
 -- the whole output: what is done with its lines is done with the lines converted
 pub converter_then : (told last : List ℕ → List ℕ) (s : List ℕ) → output_from told last [] (converter s) ≡ output_from (λ l. told (converted_line l)) (λ l. last (converted_line l)) [] s

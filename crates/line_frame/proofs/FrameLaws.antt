@@ -1,6 +1,7 @@
 -- A line is a frame of a kind with some digits exactly when it is what they spell.
 -- Assumes nothing.
 use mathlib.Core.Path.{◌≡◌, refl, sym, ap, ap₂, ◌∙◌}
+use Rattle.std.specs.Prelude.{Option, Some, None}
 use mathlib.Core.Bool.{Bool, true, false, cond, ◌&&◌}
 use mathlib.Core.List.{List, [], ◌∷◌, ◌++◌}
 use Prim.Native.Nat.{ℕ, zero, suc, ◌+◌, ◌*◌, ◌/◌, ◌%◌, ◌<◌, ◌≤◌}
@@ -11,13 +12,12 @@ use lib.ListN.{length, length-append, drop}
 use Rattle.lists.specs.Lists.{Below}
 use Rattle.lists.proofs.GatherLaws.{and_left, and_right}
 use Rattle.line_frame.specs.declared.Kind.{Kind, TheVariants.Operations, TheVariants.Turns}
-use Rattle.line_frame.specs.declared.Frame.{TheVariants.Of, TheVariants.Bad}
 use Rattle.line_frame.specs.Sizes.{head_digits, most_digits}
 use Rattle.line_frame.specs.Hex.{is_hex, value_of, all_hex, values_of, number_from, letter_of, hex_of}
 use Rattle.line_frame.specs.Line.{kind_of, count_of, is_frame, kind_named, frame_of, digits_of}
 use Rattle.line_frame.specs.Converted.{letters_of, framed}
 use Rattle.line_frame.proofs.HexLaws.{length-hex_of, letter_value, value_letter}
-use Rattle.line_frame.proofs.LineLaws.{frame_of_frame, frame_good, length-digits_of}
+use Rattle.line_frame.proofs.LineLaws.{frame_of_frame, one_frame, frame_good, length-digits_of}
 
 pub length-letters_of : (ds : List ℕ) → length (letters_of ds) ≡ length ds
 unfolding letters_of
@@ -64,7 +64,7 @@ module _ (k : ℕ) (small : k < 2) (ds : List ℕ) (b : Below 16 ds) where
       let n : ℕ = length ds in
       omega (arith, (letter_value (n / 16 / 16 / 16 % 16) (omega arith)).1, (letter_value (n / 16 / 16 % 16) (omega arith)).1, (letter_value (n / 16 % 16) (omega arith)).1, (letter_value (n % 16) (omega arith)).1)
 
-  pub frame_of-framed : length ds ≤ most_digits → frame_of (framed k ds) ≡ Of (kind_named k) (length ds)
+  pub frame_of-framed : length ds ≤ most_digits → frame_of (framed k ds) ≡ Some (kind_named k, length ds)
   frame_of-framed h = sym (frame_of_frame (framed k ds) (kind_named k) (length ds) framed_hex (omega (arith, framed_kind)) h length-framed (ap kind_named (sym framed_kind)) (framed-count h))
 
   pub digits_framed : digits_of (framed k ds) ≡ ds
@@ -121,16 +121,13 @@ kind_number_lem zero h = refl
 kind_number_lem (suc zero) h = refl
 kind_number_lem (suc (suc n)) h = absurd (omega arith)
 
-frame_head : (s : List ℕ) (k : Kind) (n : ℕ) → frame_of s ≡ Of k n → (kind_of s ≡ kind_number k) × (count_of s ≡ n)
+frame_head : (s : List ℕ) (k : Kind) (n : ℕ) → frame_of s ≡ Some (k, n) → (kind_of s ≡ kind_number k) × (count_of s ≡ n)
 unfolding frame_of
 frame_head s k n e = go (is_frame s) refl e
   where
-    parts : (j : Kind) (m : ℕ) → Of j m ≡ Of k n → (j ≡ k) × (m ≡ n)
-    parts j m w = (cc, cc)
-
-    go : (b : Bool) → is_frame s ≡ b → cond b (Of (kind_named (kind_of s)) (count_of s)) Bad ≡ Of k n → (kind_of s ≡ kind_number k) × (count_of s ≡ n)
+    go : (b : Bool) → is_frame s ≡ b → cond {A = Option (Kind × ℕ)} b (Some (kind_named (kind_of s), count_of s)) None ≡ Some (k, n) → (kind_of s ≡ kind_number k) × (count_of s ≡ n)
     go true p w =
-        let q = parts (kind_named (kind_of s)) (count_of s) w in
+        let q = one_frame w in
         let two = and_right (all_hex s) (ltb (kind_of s) 2) (and_left (all_hex s && ltb (kind_of s) 2) (leb (count_of s) most_digits) (and_left (all_hex s && ltb (kind_of s) 2 && leb (count_of s) most_digits) (eqb (length s) (head_digits + count_of s)) p)) in
         (sym (kind_number_lem (kind_of s) (ltb-true (kind_of s) 2 two)) ∙ ap kind_number q.0, q.1)
     go false p w = let z : ◌≡◌ {A = ℕ} 0 1 = cc in absurd (omega arith)
@@ -150,7 +147,7 @@ letters_again (a ∷ b ∷ []) h l = absurd (omega arith)
 letters_again (a ∷ []) h l = absurd (omega arith)
 letters_again [] h l = absurd (omega arith)
 
-pub frame_spelled : (s : List ℕ) (k : Kind) (n : ℕ) → frame_of s ≡ Of k n → (length (digits_of s) ≤ most_digits) × Below 16 (digits_of s) × (s ≡ framed (kind_number k) (digits_of s))
+pub frame_spelled : (s : List ℕ) (k : Kind) (n : ℕ) → frame_of s ≡ Some (k, n) → (length (digits_of s) ≤ most_digits) × Below 16 (digits_of s) × (s ≡ framed (kind_number k) (digits_of s))
 frame_spelled s k n e =
     let g = frame_good s k n e in
     let h = frame_head s k n e in

@@ -1,22 +1,22 @@
 -- Frames and fields, computed on small inputs.
 -- Assumes nothing.
 use mathlib.Core.Path.{◌≡◌, refl}
+use Rattle.std.specs.Prelude.{Some, None}
 use mathlib.Core.List.{List, [], ◌∷◌, ◌++◌}
 use Prim.Native.Nat.{ℕ}
 use lib.IntN.{negsuc}
 use Rattle.answer.specs.Words.{bits_of}
 use Rattle.line_frame.specs.declared.Kind.TheVariants.{Operations, Turns}
-use Rattle.line_frame.specs.declared.Frame.TheVariants.{Of, Bad}
 use Rattle.line_frame.specs.Hex.{all_hex, values_of, number_from, hex_of}
 use Rattle.line_frame.specs.Line.{frame_of, digits_of, line_walked, line_answer}
 use Rattle.line_frame.specs.Program.{output_from, program}
 use Rattle.line_frame.proofs.Bytes.{bytes_of}
 
-pub one_operation : frame_of (bytes_of "0000015") ≡ Of Operations 1
+pub one_operation : frame_of (bytes_of "0000015") ≡ Some (Operations, 1)
 unfolding frame_of all_hex number_from bytes_of
 one_operation = refl
 
-pub two-turns : frame_of (bytes_of "0100020f") ≡ Of Turns 2
+pub two-turns : frame_of (bytes_of "0100020f") ≡ Some (Turns, 2)
 unfolding frame_of all_hex number_from bytes_of
 two-turns = refl
 
@@ -24,32 +24,32 @@ pub its_digits : digits_of (bytes_of "0100020f") ≡ 0 ∷ 15 ∷ []
 unfolding values_of bytes_of
 its_digits = refl
 
-pub empty_line : frame_of [] ≡ Bad
+pub empty_line : frame_of [] ≡ None
 unfolding frame_of all_hex number_from
 empty_line = refl
 
-pub short_line : frame_of (bytes_of "0000") ≡ Bad
+pub short_line : frame_of (bytes_of "0000") ≡ None
 unfolding frame_of all_hex number_from bytes_of
 short_line = refl
 
-pub kind_two : frame_of (bytes_of "020000") ≡ Bad
+pub kind_two : frame_of (bytes_of "020000") ≡ None
 unfolding frame_of all_hex number_from bytes_of
 kind_two = refl
 
-pub digit_missing : frame_of (bytes_of "000001") ≡ Bad
+pub digit_missing : frame_of (bytes_of "000001") ≡ None
 unfolding frame_of all_hex number_from bytes_of
 digit_missing = refl
 
-pub digit_too_many : frame_of (bytes_of "00000101") ≡ Bad
+pub digit_too_many : frame_of (bytes_of "00000101") ≡ None
 unfolding frame_of all_hex number_from bytes_of
 digit_too_many = refl
 
-pub upper_case : frame_of (bytes_of "000001F") ≡ Bad
+pub upper_case : frame_of (bytes_of "000001F") ≡ None
 unfolding frame_of all_hex number_from bytes_of
 upper_case = refl
 
 -- a carriage return belongs to the line, and is not a digit
-pub carriage_return : frame_of (bytes_of "0000010\r") ≡ Bad
+pub carriage_return : frame_of (bytes_of "0000010\r") ≡ None
 unfolding frame_of all_hex number_from bytes_of
 carriage_return = refl
 

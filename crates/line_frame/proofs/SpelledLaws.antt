@@ -1,14 +1,15 @@
 -- How long the answers to good frames are, and that each is one line.
 -- Assumes nothing.
+use Rattle.std.specs.Prelude.{Err, Ok}
 use mathlib.Core.Path.{◌≡◌, refl}
 use mathlib.Core.List.{List, [], ◌∷◌, ◌++◌}
 use Prim.Native.Nat.{ℕ, ◌+◌, ◌*◌, ◌≤◌}
 use native.Mathlib.Omega.{arith}
 use lib.IntN.{ℤ}
 use lib.ListN.{length, length-append}
+use Rattle.answer.specs.Answers.{Answer}
 use Rattle.answer.specs.declared.Refusal.{Refusal}
 use Rattle.answer.specs.declared.Facts.{Facts}
-use Rattle.answer.specs.declared.Answer.{Answer}
 use Rattle.answer.specs.Refusal.{refusal_number, refusal_place, verdict_number}
 use Rattle.answer.specs.Words.{bits_of}
 use Rattle.grid.specs.declared.Corner.{Corner}
@@ -16,7 +17,6 @@ use Rattle.grid.specs.Grid.{origin, numbers}
 use Rattle.hull_laws.specs.Chain.{hull_of}
 use Rattle.hull_laws.proofs.HullLaws.{length-hull_of}
 use Rattle.hull_laws.proofs.JoinLaws.{length-numbers}
-use Rattle.answer.specs.declared.Answer.TheVariants as walked
 use Rattle.line_frame.specs.Sizes.{most_digits, refused_digits, facts_digits, most_answer}
 use Rattle.line_frame.specs.Hex.{hex_of}
 use Rattle.line_frame.specs.Program.{feeds_in}
@@ -39,12 +39,12 @@ length-hull_line cs =
     omega (arith, length-append (hex_of 4 (length cs)) (numbers_line (numbers cs)), length-hex_of 4 (length cs), length-numbers_line (numbers cs), length-numbers cs)
 
 -- an accepted frame gives the digits of the facts, 4 for the count, and 8 for each hull corner
-pub length_accepted : (f : Facts) (w : List ℕ) → length (answer_line (walked.Accepted f) w) ≡ facts_digits + 4 + 8 * length (hull_of origin w)
+pub length_accepted : (f : Facts) (w : List ℕ) → length (answer_line (Ok f) w) ≡ facts_digits + 4 + 8 * length (hull_of origin w)
 length_accepted f w = omega (arith, length-append (facts_line f) (hull_line (hull_of origin w)), length-facts_line f, length-hull_line (hull_of origin w))
 
 pub answer_line_most : (a : Answer) (w : List ℕ) → length w ≤ most_digits → length (answer_line a w) + 1 ≤ most_answer
-answer_line_most (walked.Accepted f) w h = omega (arith, length_accepted f w, length-hull_of origin w)
-answer_line_most (walked.Refused r) w h = omega (arith, length-refused_line r)
+answer_line_most (Ok f) w h = omega (arith, length_accepted f w, length-hull_of origin w)
+answer_line_most (Err r) w h = omega (arith, length-refused_line r)
 
 -- ---- no line feed
 field_more : (l : List ℕ) (n v : ℕ) → feeds_in l ≡ 0 → feeds_in (l ++ hex_of n v) ≡ 0
@@ -70,7 +70,7 @@ numbers_line_feeds [] = refl
 numbers_line_feeds (z ∷ zs) = none-append (hex_of 4 (bits_of z)) (numbers_line zs) (field_feeds 4 (bits_of z)) (numbers_line_feeds zs)
 
 pub answer_line_feeds : (a : Answer) (w : List ℕ) → feeds_in (answer_line a w) ≡ 0
-answer_line_feeds (walked.Accepted f) w =
+answer_line_feeds (Ok f) w =
     let L = hull_of origin w in
     none-append (facts_line f) (hull_line L) (facts_line_feeds f) (none-append (hex_of 4 (length L)) (numbers_line (numbers L)) (field_feeds 4 (length L)) (numbers_line_feeds (numbers L)))
-answer_line_feeds (walked.Refused r) w = refused_line_feeds r
+answer_line_feeds (Err r) w = refused_line_feeds r

@@ -1,8 +1,8 @@
 -- Lines with turns as lines with steps: the converter (RULES 7.8 to 7.10). Assumes nothing.
 use Rattle.lists.specs.Lists.{Below}
-use Rattle.std.specs.Prelude.{◌≡◌, List, [], ◌∷◌, ◌++◌, length, ℕ}
+use Rattle.std.specs.Prelude.{◌≡◌, List, [], ◌∷◌, ◌++◌, length, ℕ, Option, Some, None}
 use Rattle.steps.specs.Turns.{steps_of, turns_judged, written_if}
-use Rattle.line_frame.specs.declared.{Kind.Kind, Kind.TheVariants.Operations, Kind.TheVariants.Turns, Frame.Frame, Frame.TheVariants.Of, Frame.TheVariants.Bad}
+use Rattle.line_frame.specs.declared.{Kind.Kind, Kind.TheVariants.Operations, Kind.TheVariants.Turns}
 use Rattle.line_frame.specs.{Hex.letter_of, Hex.hex_of, Line.frame_of, Line.digits_of, Program.output_from}
 
 -- the digits that are worth these
@@ -24,14 +24,14 @@ kind_converted Operations s = s
 kind_converted Turns s = written_if (turns_judged (digits_of s) (length (digits_of s))) (steps_frame (steps_of (digits_of s))) s
 
 -- so does a line that is not a frame
-abbrev pub converted_by : Frame → List ℕ → List ℕ
-converted_by (Of k n) s = kind_converted k s
-converted_by Bad s = s
+abbrev pub converted_by : Option (Kind × ℕ) → List ℕ → List ℕ
+converted_by (Some (k, n)) s = kind_converted k s
+converted_by None s = s
 
 -- the line is a frame of kind 01 whose turns may be converted: they are all below 4
 pub record Turned (s : List ℕ) : Type 0 where
   pub count : ℕ
-  pub frame : frame_of s ≡ Of Turns count
+  pub frame : frame_of s ≡ Some (Turns, count)
   pub turns : Below 4 (digits_of s)
 
 -- a line, converted

@@ -1,11 +1,12 @@
 -- One line: the frame that it is, and its answer without the line feed (RULES 7.2, 7.5). Assumes nothing.
-use Rattle.std.specs.Prelude.{Bool, cond, ◌&&◌, List, length, take, drop, ℕ, zero, suc, ◌+◌, ◌*◌, eqb, ltb, leb}
+use Rattle.std.specs.Prelude.{Bool, cond, ◌&&◌, List, length, take, drop, ℕ, zero, suc, ◌+◌, ◌*◌, eqb, ltb, Err, leb, Option, Some, None}
+use Rattle.answer.specs.Answers.{Answer}
 use Rattle.grid.specs.Grid.{origin}
-use Rattle.answer.specs.declared.{Refusal.TheVariants.BadLine, Refusal.TheVariants.RetiredKind, Answer.Answer}
+use Rattle.answer.specs.declared.{Refusal.TheVariants.BadLine, Refusal.TheVariants.RetiredKind}
 use Rattle.steps.specs.Operations.{survivors}
 use Rattle.layout.specs.Marks.{mark_words}
 use Rattle.walk.specs.Walk.{walk_answer}
-use Rattle.line_frame.specs.declared.{Kind.Kind, Kind.TheVariants.Operations, Kind.TheVariants.Turns, Frame.Frame, Frame.TheVariants.Of, Frame.TheVariants.Bad}
+use Rattle.line_frame.specs.declared.{Kind.Kind, Kind.TheVariants.Operations, Kind.TheVariants.Turns}
 use Rattle.line_frame.specs.{Sizes.head_digits, Sizes.most_digits, Sizes.table_words, Hex.all_hex, Hex.values_of, Hex.number_from, Spelled.answer_line}
 
 -- the first two digits
@@ -25,9 +26,9 @@ abbrev pub kind_named : ℕ → Kind
 kind_named zero = Operations
 kind_named (suc k) = Turns
 
--- the frame that a line is; anything else is bad
-unfoldable pub frame_of : List ℕ → Frame
-frame_of s = cond (is_frame s) (Of (kind_named (kind_of s)) (count_of s)) Bad
+-- the kind of the frame that a line is, and how many operations or turns it has; any other line has none
+unfoldable pub frame_of : List ℕ → Option (Kind × ℕ)
+frame_of s = cond (is_frame s) (Some (kind_named (kind_of s), count_of s)) None
 
 -- the operations or turns of a frame
 abbrev pub digits_of : List ℕ → List ℕ
@@ -37,12 +38,12 @@ digits_of s = values_of (drop head_digits s)
 -- whatever their digits are: refusal 19
 abbrev pub kind_walked : Kind → List ℕ → Answer
 kind_walked Operations os = walk_answer origin os table_words (mark_words * length os) (length os)
-kind_walked Turns ds = Answer.Refused RetiredKind
+kind_walked Turns ds = Err RetiredKind
 
 -- a line that is not a frame is refused: refusal 9
-abbrev pub frame_walked : Frame → List ℕ → Answer
-frame_walked (Of k n) ds = kind_walked k ds
-frame_walked Bad ds = Answer.Refused BadLine
+abbrev pub frame_walked : Option (Kind × ℕ) → List ℕ → Answer
+frame_walked (Some (k, n)) ds = kind_walked k ds
+frame_walked None ds = Err BadLine
 
 -- the answer to the walk of a line
 unfoldable pub line_walked : List ℕ → Answer

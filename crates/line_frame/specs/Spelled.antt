@@ -1,6 +1,7 @@
 -- The answer to a good frame, without the line feed (RULES 7.3 to 7.5). Assumes nothing.
-use Rattle.std.specs.Prelude.{List, [], ◌∷◌, ◌++◌, length, ℕ, ◌+◌, ℤ}
-use Rattle.answer.specs.declared.{Refusal.Refusal, Facts.Facts, Answer.Answer}
+use Rattle.std.specs.Prelude.{List, [], ◌∷◌, ◌++◌, length, ℕ, ◌+◌, Err, Ok, ℤ}
+use Rattle.answer.specs.Answers.{Answer}
+use Rattle.answer.specs.declared.{Refusal.Refusal, Facts.Facts}
 use Rattle.answer.specs.{Refusal.refusal_number, Refusal.refusal_place, Refusal.verdict_number, Words.bits_of}
 use Rattle.grid.specs.{declared.Corner.Corner, Grid.origin, Grid.numbers}
 use Rattle.hull_laws.specs.Chain.{hull_of}
@@ -32,5 +33,5 @@ hull_line cs = hex_of 4 (length cs) ++ numbers_line (numbers cs)
 
 -- the walk's answer, and the hull of the surviving steps if it is accepted
 abbrev pub answer_line : Answer → List ℕ → List ℕ
-answer_line (Answer.Accepted f) w = facts_line f ++ hull_line (hull_of origin w)
-answer_line (Answer.Refused r) w = refused_line r
+answer_line (Ok f) w = facts_line f ++ hull_line (hull_of origin w)
+answer_line (Err r) w = refused_line r

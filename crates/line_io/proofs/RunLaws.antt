@@ -3,7 +3,7 @@
 -- Assumes nothing.
 use Rattle.std.proofs.Common.{◌≡◌, ℕ, ◌+◌, ◌-◌, ◌<◌, ◌≤◌, List, [], ◌++◌, None, Some, IfSome, length, take, drop, refl, sym, ap, ◌∙◌, subst, arith, append_assoc, append-nil, take-append-drop, length-take-le, drop-drop}
 use native.Mathlib.Decide.{dec_lt}
-use Rattle.std.specs.Prelude.{Option}
+use Rattle.std.specs.Prelude.{Option, Result, Ok, Err}
 use Rattle.std.specs.Io.KnownBytes.{Appends, Consumes, IsAtEnd}
 use Rattle.std.proofs.KnownBytes.{Appends-nil, Appends-trans, Consumes-nil, Consumes-trans, Consumes-whole}
 use Rattle.std.proofs.lemmas.List.{drop_all}
@@ -17,9 +17,10 @@ use Rattle.lines.specs.declared.Task.{Task, TheVariants.Answer, TheVariants.Conv
 use Rattle.lines.specs.Tasks.{job_of, fed_line_of, last_line_of, output_of, handed_of, margin_of, all_handed}
 use Rattle.lines.proofs.TaskLaws.{job_does}
 use Rattle.lines.proofs.Demand.{run_task}
-use Rattle.line_io.specs.declared.Round.{Round, TheVariants.More, TheVariants.Over, TheVariants.Unread}
+use Rattle.line_io.specs.declared.{Round.Round, Round.TheVariants.More, Round.TheVariants.Over, Failure.Failure, Failure.TheVariants.Unread, Failure.TheVariants.Unwritten}
 use Rattle.line_io.specs.Round.{RoundIs, Flows}
-use Rattle.line_io.specs.Whole.{Begun}
+use Rattle.line_io.specs.Send.{ClosesBy}
+use Rattle.line_io.specs.Whole.{Begun, Ends}
 
 -- what is passed on of two parts, one after the other
 handed_append : (t : Task) (m : Margin) (r s : List ℕ) → handed_of t m (r ++ s) ≡ handed_of t m r ++ handed_of t (margin_of t m r) s
@@ -117,16 +118,16 @@ sofar_broken t (Some s) None held held' f = absurd f.took
 sofar_broken t (Some s) (Some r) held held' f = begun_of f r s f.took
 
 -- a round: the chunk is the first n bytes of buf, and was passed up to the place of p
-module _ {t : Task} {line buf out line' buf' out' : List ℕ} {p : Progress} {n : ℕ} {m : Margin} {r : Round} {left left' left'' held held' held'' : Option (List ℕ)}
+module _ {t : Task} {line buf out line' buf' out' : List ℕ} {p : Progress} {n : ℕ} {m : Margin} {r : Result Round Failure} {left left' left'' held held' held'' : Option (List ℕ)}
     (f : Sofar t left left' held held' m (take p.held line) (drop p.at (take n buf)))
     (i : RoundIs t line p buf n out m r line' buf' out') (j : Flows t p n m r buf' out' left' left'' held' held'') (fits : n ≤ length buf) where
   none_left : n ≤ p.at → drop p.at (take n buf) ≡ []
   none_left l = drop_all p.at (take n buf) (omega (arith, length-take-le n buf fits))
 
-  pub round_more : {q : Progress} {k : ℕ} {o : Margin} → r ≡ More q k o → Sofar t left left'' held held'' o (take q.held line') (drop q.at (take k buf'))
+  pub round_more : {q : Progress} {k : ℕ} {o : Margin} → r ≡ Ok (More q k o) → Sofar t left left'' held held'' o (take q.held line') (drop q.at (take k buf'))
   round_more {q} {k} {o} e =
-      let a : RoundIs t line p buf n out m (More q k o) line' buf' out' = subst (λ (x : Round). RoundIs t line p buf n out m x line' buf' out') e i in
-      let b : Flows t p n m (More q k o) buf' out' left' left'' held' held'' = subst (λ (x : Round). Flows t p n m x buf' out' left' left'' held' held'') e j in
+      let a : RoundIs t line p buf n out m (Ok (More q k o)) line' buf' out' = subst (λ (x : Result Round Failure). RoundIs t line p buf n out m x line' buf' out') e i in
+      let b : Flows t p n m (Ok (More q k o)) buf' out' left' left'' held' held'' = subst (λ (x : Result Round Failure). Flows t p n m x buf' out' left' left'' held' held'') e j in
       elim (dec_lt p.at n) [
         | yes l ↦
             let (passed, same) = a.on l in
@@ -155,11 +156,11 @@ module _ {t : Task} {line buf out line' buf' out' : List ℕ} {p : Progress} {n 
             (subst (λ (x : Option (List ℕ)). Sofar t left left'' held x m (take p.held line) (take k buf')) (sym kept) d)))
       ]
 
-  pub round_over : {k : ℕ} (last : Option (List ℕ)) → r ≡ Over k → 0 < length buf' → Appends held'' last (handed_of t m ((job_of t).last (take k line')))
+  pub round_over : {k : ℕ} (last : Option (List ℕ)) → r ≡ Ok (Over k) → 0 < length buf' → Appends held'' last (handed_of t m ((job_of t).last (take k line')))
       → IfSome left (λ s. Appends held last (all_handed t s))
   round_over {k} last e z g =
-      let a : RoundIs t line p buf n out m (Over k) line' buf' out' = subst (λ (x : Round). RoundIs t line p buf n out m x line' buf' out') e i in
-      let b : Flows t p n m (Over k) buf' out' left' left'' held' held'' = subst (λ (x : Round). Flows t p n m x buf' out' left' left'' held' held'') e j in
+      let a : RoundIs t line p buf n out m (Ok (Over k)) line' buf' out' = subst (λ (x : Result Round Failure). RoundIs t line p buf n out m x line' buf' out') e i in
+      let b : Flows t p n m (Ok (Over k)) buf' out' left' left'' held' held'' = subst (λ (x : Result Round Failure). Flows t p n m x buf' out' left' left'' held' held'') e j in
       elim (dec_lt p.at n) [
         | yes l ↦ absurd (a.on l).0
         | no o ↦
@@ -172,10 +173,10 @@ module _ {t : Task} {line buf out line' buf' out' : List ℕ} {p : Progress} {n 
             (subst (λ (x : Option (List ℕ)). Appends x last (handed_of t m ((job_of t).last (take k line')))) kept g))
       ]
 
-  pub round_unread : r ≡ Unread → IfSome left (λ s. Begun held held'' (all_handed t s))
+  pub round_unread : r ≡ Err Unread → IfSome left (λ s. Begun held held'' (all_handed t s))
   round_unread e =
-      let a : RoundIs t line p buf n out m Unread line' buf' out' = subst (λ (x : Round). RoundIs t line p buf n out m x line' buf' out') e i in
-      let b : Flows t p n m Unread buf' out' left' left'' held' held'' = subst (λ (x : Round). Flows t p n m x buf' out' left' left'' held' held'') e j in
+      let a : RoundIs t line p buf n out m (Err Unread) line' buf' out' = subst (λ (x : Result Round Failure). RoundIs t line p buf n out m x line' buf' out') e i in
+      let b : Flows t p n m (Err Unread) buf' out' left' left'' held' held'' = subst (λ (x : Result Round Failure). Flows t p n m x buf' out' left' left'' held' held'') e j in
       elim (dec_lt p.at n) [
         | yes l ↦ absurd (a.on l).0
         | no o ↦
@@ -184,3 +185,13 @@ module _ {t : Task} {line buf out line' buf' out' : List ℕ} {p : Progress} {n 
             subst (λ (x : Option (List ℕ)). IfSome left (λ s. Begun held x (all_handed t s))) (sym kept)
             (sofar_broken t left left'' held held' (sofar_taken f [] (none_left l) took))
       ]
+
+  -- the run ends as the close does, and a failure ends it
+  pub round_closed : {k : ℕ} (last : Option (List ℕ)) (e : Result (Unit {0}) Failure) → r ≡ Ok (Over k) → 0 < length buf'
+      → ClosesBy held'' last (handed_of t m ((job_of t).last (take k line'))) e → Ends t left held last e
+  round_closed last (Ok u) q z g = round_over last q z g
+  round_closed last (Err x) q z g = subst (λ (y : Failure). Ends t left held last (Err y)) (sym g) tt
+
+  pub round_failed : (e : Failure) → r ≡ Err e → Ends t left held held'' (Err e)
+  round_failed Unread q = round_unread q
+  round_failed Unwritten q = tt

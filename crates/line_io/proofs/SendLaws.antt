@@ -8,7 +8,8 @@ use Rattle.sheet.specs.Sheet.{page_of, margin_after}
 use Rattle.sheet.proofs.NumberLaws.{page_most, page_append, margin_append}
 use Rattle.sheet_number.specs.Numbered.{most_piece, most_page, NumberedIs}
 use Rattle.sheet_number.specs.declared.Numbered.{Numbered}
-use Rattle.line_io.specs.declared.Sent.{Sent, TheVariants.At}
+use Rattle.std.specs.Prelude.{Result, Ok}
+use Rattle.line_io.specs.declared.Failure.{Failure}
 use Rattle.line_io.specs.Send.{SentIs}
 
 -- a page fits its buffer
@@ -20,11 +21,11 @@ pub wrote_start : {f before after : List ℕ} {used : ℕ} → Wrote f 0 before 
 wrote_start {f} {before} {after} {used} w l k = ap (take used) w.buffer ∙ take-put-start f before used (omega (arith, w.end)) (omega arith)
 
 -- where the sheet stands, as it was answered
-sent_at : {m : Margin} {r : Sent} (q : Margin) → SentIs m r → r ≡ At q → q ≡ m
+sent_at : {m : Margin} {r : Result Margin Failure} (q : Margin) → SentIs m r → r ≡ Ok q → q ≡ m
 sent_at {m} q h e = subst (SentIs m) e h
 
 -- the pages so far, and those to come: from the next on the sheet comes to where it comes from the first on
-module _ (s : List ℕ) (first next q : Margin) (at end : ℕ) (from : at ≤ end) (i : margin_after next (drop at s) ≡ margin_after first s) {r : Sent} (h : SentIs (margin_after next (take (end - at) (drop at s))) r) (e : r ≡ At q) where
+module _ (s : List ℕ) (first next q : Margin) (at end : ℕ) (from : at ≤ end) (i : margin_after next (drop at s) ≡ margin_after first s) {r : Result Margin Failure} (h : SentIs (margin_after next (take (end - at) (drop at s))) r) (e : r ≡ Ok q) where
   pub pages_more : margin_after q (drop end s) ≡ margin_after first s
   pages_more =
       let d : List ℕ = drop at s in

@@ -2,55 +2,61 @@
 // ended.
 #![tactic(auto)]
 
-ghost use Rattle.std.specs.Prelude.{◌≡◌, ◌<◌, ◌≤◌, IsTrue, length, take};
+ghost use Rattle.std.specs.Prelude.{◌≡◌, ◌<◌, ◌≤◌, length, take};
 ghost use Rattle.sheet.specs.Sheet.{margin_after, page_of};
 ghost use Rattle.sheet_number.specs.Numbered.{most_piece, most_page};
 ghost use Rattle.lines.specs.Tasks.{handed_of, margin_of, most_told, job_of};
-ghost use Rattle.line_io.specs.Send.{SentIs, Grows};
+ghost use Rattle.line_io.specs.Send.{SentIs, Grows, ClosesBy};
 ghost use Rattle.line_frame.specs.Sizes.{most_held};
 ghost use Rattle.line_fields.specs.Put.{put};
 ghost use Rattle.line_stream.specs.Stream.{most_part};
 ghost use Rattle.line_io.specs.Round.{ReadOn, PassedOn, RoundIs, Takes, Gives, Flows};
 ghost use Rattle.line_io.specs.Whole.{Ends, status_of};
-ghost use Rattle.std.specs.Io.KnownBytes.{Appends};
 ghost use Rattle.std.specs.Process.{exit_status};
 
 use line_stream::Progress;
 use lines::Task;
-use order::lesser;
 use sheet::Margin;
 use sheet_number::{Numbered, number};
 use std::io::{Read, Write};
 use std::process::ExitCode;
 
-// Where the sheet stands after bytes were passed on; or a write failed.
+// Why a program stopped early: a read or a write failed.
 #[derive(Clone, Copy)]
-enum Sent {
-    At(Margin),
+pub enum Failure {
+    Unread,
     Unwritten,
 }
 
-// Writes a page of the sheet, which stands at m: the bytes s of the entries, numbered.
-fn send_page<W: Write>(writer: &mut W, m: Margin, s: &[u8], page: &mut [u8]) -> Sent
+// Writes a page of the sheet, which stands at m: the bytes s of the entries, numbered. Answers where the sheet stands then.
+fn send_page<W: Write>(
+    writer: &mut W,
+    m: Margin,
+    s: &[u8],
+    page: &mut [u8],
+) -> Result<Margin, Failure>
     requires s_len_bound { length s.now ≤ most_piece }
     requires page_len { length page.old ≡ most_page }
     ensures at { SentIs (margin_after m s.now) result }
     ensures bytes { Grows (W.contents writer.old) (W.contents writer.new) (page_of m s.now) result }
 {
     if Numbered::MOST_NUMBER < m.line {
-        return Sent::Unwritten;
+        return Err(Failure::Unwritten);
     }
     let n = number(m, s, page);
-    let used = n.used;
-    if writer.write_all(&page[..used]).is_err() {
-        return Sent::Unwritten;
+    if writer.write_all(&page[..n.used]).is_err() {
+        return Err(Failure::Unwritten);
     }
-    let next = n.margin;
-    Sent::At(next)
+    Ok(n.margin)
 }
 
 // Writes the bytes s of the entries, numbered, page after page.
-fn send_pages<W: Write>(writer: &mut W, m: Margin, s: &[u8], page: &mut [u8]) -> Sent
+fn send_pages<W: Write>(
+    writer: &mut W,
+    m: Margin,
+    s: &[u8],
+    page: &mut [u8],
+) -> Result<Margin, Failure>
     requires { length page.old ≡ most_page }
     ensures at { SentIs (margin_after m s.now) result }
     ensures bytes { Grows (W.contents writer.old) (W.contents writer.new) (page_of m s.now) result }
@@ -58,31 +64,34 @@ fn send_pages<W: Write>(writer: &mut W, m: Margin, s: &[u8], page: &mut [u8]) ->
     let mut next = m;
     let mut at = 0;
     loop {
-        let end = at + lesser(s.len() - at, Numbered::MOST_PIECE);
-        match send_page(writer, next, &s[at..end], page) {
-            Sent::At(q) => next = q,
-            Sent::Unwritten => return Sent::Unwritten,
-        }
+        let end = at + (s.len() - at).min(Numbered::MOST_PIECE);
+        next = send_page(writer, next, &s[at..end], page)?;
         if s.len() <= end {
-            return Sent::At(next);
+            return Ok(next);
         }
         at = end;
     }
 }
 
 // Writes the bytes s as they are.
-fn send_plain<W: Write>(writer: &mut W, m: Margin, s: &[u8]) -> Sent
+fn send_plain<W: Write>(writer: &mut W, m: Margin, s: &[u8]) -> Result<Margin, Failure>
     ensures at { SentIs m result }
     ensures bytes { Grows (W.contents writer.old) (W.contents writer.new) s.now result }
 {
     if writer.write_all(s).is_err() {
-        return Sent::Unwritten;
+        return Err(Failure::Unwritten);
     }
-    Sent::At(m)
+    Ok(m)
 }
 
 // Passes on the bytes s that a task wrote: entries as pages of the sheet, everything else as it is.
-fn send<W: Write>(writer: &mut W, task: Task, m: Margin, s: &[u8], page: &mut [u8]) -> Sent
+fn send<W: Write>(
+    writer: &mut W,
+    task: Task,
+    m: Margin,
+    s: &[u8],
+    page: &mut [u8],
+) -> Result<Margin, Failure>
     requires { length page.old ≡ most_page }
     ensures at { SentIs (margin_of task m s.now) result }
     ensures bytes { Grows (W.contents writer.old) (W.contents writer.new) (handed_of task m s.now) result }
@@ -96,39 +105,34 @@ fn send<W: Write>(writer: &mut W, task: Task, m: Margin, s: &[u8], page: &mut [u
 }
 
 // After a round: how far the chunk was passed, how many bytes it has, and where the sheet stands; or the input is over with this
-// many bytes of a line held; or a read or a write failed.
+// many bytes of a line held.
 #[derive(Clone, Copy)]
 enum Round {
     More(Progress, usize, Margin),
     Over(usize),
-    Unread,
-    Unwritten,
-}
-
-// How a program ended: all was read and written, or a read or a write failed.
-#[derive(Clone, Copy)]
-pub enum Ending {
-    Whole,
-    Unread,
-    Unwritten,
 }
 
 // Reads the next chunk, with this many bytes of a line held, if the sheet stands at m.
-fn read_on<R: Read>(reader: &mut R, held: usize, buf: &mut [u8], m: Margin) -> Round
+fn read_on<R: Read>(
+    reader: &mut R,
+    held: usize,
+    buf: &mut [u8],
+    m: Margin,
+) -> Result<Round, Failure>
     ensures round { ReadOn held (length buf.new) m result }
     ensures bytes { Takes (R.remaining reader.old) (R.remaining reader.new) buf.new result }
 {
     match reader.read(buf) {
-        Ok(0) => Round::Over(held),
+        Ok(0) => Ok(Round::Over(held)),
         Ok(n) => {
             let begun = Progress {
                 held,
                 at: 0,
                 used: 0,
             };
-            Round::More(begun, n, m)
+            Ok(Round::More(begun, n, m))
         }
-        Err(_) => Round::Unread,
+        Err(_) => Err(Failure::Unread),
     }
 }
 
@@ -143,7 +147,7 @@ fn pass<W: Write>(
     out: &mut [u8],
     m: Margin,
     page: &mut [u8],
-) -> Round
+) -> Result<Round, Failure>
     requires held_le_most_held { (held ≤ most_held) × (length line.old ≡ most_held) }
     requires at_in_bounds { (at ≤ length s.now) × (length s.now ≤ most_part) }
     requires page_len { length page.old ≡ most_page }
@@ -152,11 +156,8 @@ fn pass<W: Write>(
     ensures bytes { Gives task m (W.contents writer.old) (W.contents writer.new) out.new result }
 {
     let p = lines::fill(task, line, held, s, at, out);
-    let used = p.used;
-    match send(writer, task, m, &out[..used], page) {
-        Sent::At(q) => Round::More(p, s.len(), q),
-        Sent::Unwritten => Round::Unwritten,
-    }
+    let q = send(writer, task, m, &out[..p.used], page)?;
+    Ok(Round::More(p, s.len(), q))
 }
 
 // Passes lines of the chunk, the first n bytes of buf, or reads the next one if it is passed.
@@ -171,7 +172,7 @@ fn go_round<R: Read, W: Write>(
     out: &mut [u8],
     m: Margin,
     page: &mut [u8],
-) -> Round
+) -> Result<Round, Failure>
     requires held_le_most_held { (p.held ≤ most_held) × (length line.old ≡ most_held) }
     requires n_in_bounds { (n ≤ length buf.old) × (length buf.old ≤ most_part) }
     requires page_len { length page.old ≡ most_page }
@@ -186,7 +187,7 @@ fn go_round<R: Read, W: Write>(
     read_on(reader, p.held, buf, m)
 }
 
-// Writes what is written of the line that the input ended in, if there is one. Answers whether it could.
+// Writes what is written of the line that the input ended in, if there is one.
 fn close<W: Write>(
     writer: &mut W,
     task: Task,
@@ -195,19 +196,17 @@ fn close<W: Write>(
     out: &mut [u8],
     m: Margin,
     page: &mut [u8],
-) -> bool
+) -> Result<(), Failure>
     requires held_le_most_held { (held ≤ most_held) × (length line.now ≡ most_held) }
     requires task_in_bounds { most_told task ≤ length out.old }
     requires page_len { length page.old ≡ most_page }
     ensures out { out.new ≡ put ((job_of task).last (take held line.now)) 0 out.old }
-    ensures bytes { IsTrue result → Appends (W.contents writer.old) (W.contents writer.new)
-        (handed_of task m ((job_of task).last (take held line.now))) }
+    ensures bytes { ClosesBy (W.contents writer.old) (W.contents writer.new)
+        (handed_of task m ((job_of task).last (take held line.now))) result }
 {
     let used = lines::finish(task, line, held, out);
-    match send(writer, task, m, &out[..used], page) {
-        Sent::At(_) => true,
-        Sent::Unwritten => false,
-    }
+    send(writer, task, m, &out[..used], page)?;
+    Ok(())
 }
 
 // A proved loop has to end, and nothing says that the input does. So it counts its rounds, up to a number that no run uses up.
@@ -219,7 +218,7 @@ fn run<R: Read, W: Write>(
     buf: &mut [u8],
     out: &mut [u8],
     page: &mut [u8],
-) -> Ending
+) -> Result<(), Failure>
     requires line_len { (length line.old ≡ most_held) × (length buf.old ≤ most_part) }
     requires task_in_bounds { (most_told task ≤ length out.old) × (length page.old ≡ most_page) }
     ensures { 0 < length buf.old → Ends task (R.remaining reader.old) (W.contents writer.old) (W.contents writer.new) result }
@@ -232,27 +231,24 @@ fn run<R: Read, W: Write>(
     };
     let mut n: usize = 0;
     for _ in 0..u64::MAX {
-        match go_round(reader, writer, task, line, p, buf, n, out, m, page) {
+        match go_round(reader, writer, task, line, p, buf, n, out, m, page)? {
             Round::More(q, k, l) => {
                 p = q;
                 n = k;
                 m = l;
             }
-            Round::Over(held) => {
-                if close(writer, task, line, held, out, m, page) {
-                    return Ending::Whole;
-                }
-                return Ending::Unwritten;
-            }
-            Round::Unread => return Ending::Unread,
-            Round::Unwritten => return Ending::Unwritten,
+            Round::Over(held) => return close(writer, task, line, held, out, m, page),
         }
     }
-    Ending::Unread
+    Err(Failure::Unread)
 }
 
 // A program on lines, from a reader to a writer.
-pub fn pass_all<R: Read, W: Write>(reader: &mut R, writer: &mut W, task: Task) -> Ending
+pub fn pass_all<R: Read, W: Write>(
+    reader: &mut R,
+    writer: &mut W,
+    task: Task,
+) -> Result<(), Failure>
     ensures { Ends task (R.remaining reader.old) (W.contents writer.old) (W.contents writer.new) result }
 {
     let mut line = [0u8; Progress::MOST_HELD];
@@ -265,13 +261,13 @@ pub fn pass_all<R: Read, W: Write>(reader: &mut R, writer: &mut W, task: Task) -
 }
 
 // The status that says how the program ended.
-fn status(e: Ending) -> ExitCode
+fn status(e: Result<(), Failure>) -> ExitCode
     ensures { exit_status result ≡ status_of e }
 {
     match e {
-        Ending::Whole => ExitCode::from(0),
-        Ending::Unread => ExitCode::from(1),
-        Ending::Unwritten => ExitCode::from(2),
+        Ok(()) => ExitCode::from(0),
+        Err(Failure::Unread) => ExitCode::from(1),
+        Err(Failure::Unwritten) => ExitCode::from(2),
     }
 }
 

@@ -17,10 +17,8 @@ fn all_hex(s: &[u8]) -> bool
     ensures { result ≡ all_hex s.now }
 {
     let mut all = true;
-    let mut i = 0;
-    while i < s.len() {
-        all = all & is_hex(s[i]);
-        i += 1;
+    for &b in s {
+        all = all & is_hex(b);
     }
     all
 }
@@ -30,7 +28,7 @@ fn pair(s: &[u8], i: usize) -> usize
     requires { (all_hex s.now ≡ true) × (i + 1 < length s.now) }
     ensures { (result ≡ pair_at s.now i) × (result < 256) }
 {
-    (value(s[i]) as usize) * 16 + (value(s[i + 1]) as usize)
+    usize::from(value(s[i])) * 16 + usize::from(value(s[i + 1]))
 }
 
 // The number that the first two digits spell.
@@ -59,28 +57,28 @@ fn named(k: usize) -> Kind
     Kind::Turns
 }
 
-// The frame that the line is, or Bad.
-pub fn read(s: &[u8]) -> Frame
+// The kind of the frame that the line is, and how many operations or turns it has; or None.
+pub fn read(s: &[u8]) -> Option<(Kind, usize)>
     ensures { result ≡ frame_of s.now }
 {
     if s.len() < Frame::HEAD {
-        return Frame::Bad;
+        return None;
     }
     if Frame::MOST_LINE < s.len() {
-        return Frame::Bad;
+        return None;
     }
     if !all_hex(s) {
-        return Frame::Bad;
+        return None;
     }
     let k = kind(s);
     if 1 < k {
-        return Frame::Bad;
+        return None;
     }
     let n = count(s);
     if s.len() - Frame::HEAD != n {
-        return Frame::Bad;
+        return None;
     }
-    Frame::Of(named(k), n)
+    Some((named(k), n))
 }
 
 // Writes the values of the frame's digits to the start of the buffer.
@@ -90,10 +88,8 @@ pub fn copy_digits(s: &[u8], buf: &mut [u8])
     ensures { buf.new ≡ put (digits_of s.now) 0 buf.old }
 {
     let n = s.len() - Frame::HEAD;
-    let mut i = 0;
-    while i < n {
+    for i in 0..n {
         buf[i] = value(s[Frame::HEAD + i]);
-        i += 1;
     }
 }
 
@@ -121,8 +117,7 @@ pub fn spell_facts(out: &mut [u8], at: usize, f: Facts) -> usize
     requires { at + facts_digits ≤ length out.old }
     ensures { Wrote (facts_line f) at out.old result out.new }
 {
-    let verdict = f.verdict;
-    let a = spell_two(out, at, answer::verdict_number(verdict), 2, f.steps, 4);
+    let a = spell_two(out, at, answer::verdict_number(f.verdict), 2, f.steps, 4);
     let b = spell_two(out, a, f.nodes, 8, f.corners, 4);
     let c = spell_two(out, b, f.j, 4, f.k, 4);
     spell_signed(out, c, f.area, 8)
@@ -133,11 +128,9 @@ pub fn spell_numbers(out: &mut [u8], at: usize, xs: &[i32], n: usize) -> usize
     requires { (n ≤ length xs.now) × (at + 4 * n ≤ length out.old) }
     ensures { Wrote (numbers_line (take n xs.now)) at out.old result out.new }
 {
-    let mut i = 0;
     let mut next = at;
-    while i < n {
-        next = spell_signed(out, next, xs[i], 4);
-        i += 1;
+    for &x in &xs[..n] {
+        next = spell_signed(out, next, x, 4);
     }
     next
 }

@@ -1,5 +1,6 @@
 -- The hull of a frame's steps is never refused, and its list is the one that the answer spells.
 -- Assumes nothing.
+use Rattle.std.specs.Prelude.{Err, Ok}
 use mathlib.Core.Path.{◌≡◌, refl, ap, ◌∙◌, subst}
 use mathlib.Core.List.{List, ◌++◌, append_assoc}
 use Prim.Native.Nat.{ℕ, ◌+◌, ◌*◌, ◌≤◌}
@@ -10,13 +11,13 @@ use lib.Seq.{take_at}
 use Rattle.lists.specs.Lists.{Below}
 use Rattle.grid.specs.declared.Corner.{Corner}
 use Rattle.grid.specs.Grid.{origin, corners_from, numbers}
-use Rattle.answer.specs.declared.Judged.{Judged}
-use Rattle.answer.specs.declared.Counted.{Counted}
-use Rattle.answer.specs.declared.Refusal.{Refusal}
 use Rattle.hull.specs.Call.{hull_judged, HullCall}
 use Rattle.steps.proofs.ChainLaws.{walk_good}
 use Rattle.answer.specs.Listed.{counted_of, laid_if}
 use Rattle.hull_laws.specs.Chain.{hull_of}
+use Rattle.std.specs.Result.{result_unwrap_or}
+use Rattle.answer.specs.Answers.{Counted, Judged}
+use Rattle.answer.specs.declared.Refusal.{Refusal}
 use Rattle.hull_laws.proofs.OneLaws.{hull_is_one}
 use Rattle.hull_laws.proofs.HullLaws.{hull_of_hull, length-hull_of}
 use Rattle.hull_laws.proofs.JoinLaws.{length-numbers}
@@ -28,11 +29,9 @@ use Rattle.line_fields.specs.Put.{Wrote}
 use Rattle.line_frame.proofs.HexLaws.{length-hex_of}
 use Rattle.line_fields.proofs.PutLaws.{wrote_append}
 use Rattle.line_frame.proofs.SpelledLaws.{length-numbers_line}
-use Rattle.answer.specs.declared.Judged.TheVariants as judged
-use Rattle.answer.specs.declared.Counted.TheVariants as counted
 use Rattle.line_reply.specs.Reply.{HoldsCorners}
 
-hull_good : (w : List ℕ) (room n : ℕ) → Below 4 w → length w ≤ most_digits → 2 * n ≤ room → hull_judged origin w room n ≡ judged.Good
+hull_good : (w : List ℕ) (room n : ℕ) → Below 4 w → length w ≤ most_digits → 2 * n ≤ room → hull_judged origin w room n ≡ Ok tt
 hull_good w room n b h r =
     judged-room origin w room n (walk_good origin w refl (record { digits = b; few = omega arith })) ∙ room_enough room n r
 
@@ -43,15 +42,16 @@ module _ {w : List ℕ} {before after : List ℤ} {r : Counted} (h : HullCall or
   fits : 2 * length h.list ≤ length before
   fits = omega (arith, ap length one, length-hull_of origin w)
 
-  good : hull_judged origin w (length before) (length h.list) ≡ judged.Good
+  good : hull_judged origin w (length before) (length h.list) ≡ Ok tt
   good = hull_good w (length before) (length h.list) b m fits
 
-  count : r ≡ counted.Many (length h.list)
+  count : r ≡ Ok (length h.list)
   count = h.answer ∙ ap (λ (j : Judged). counted_of j (length h.list)) good
 
-  pub hull_listed : (n : ℕ) → r ≡ counted.Many n → HoldsCorners (hull_of origin w) n after
-  hull_listed n e =
-      let k : n ≡ length h.list = cc count in
+  pub hull_listed : HoldsCorners (hull_of origin w) (result_unwrap_or r 0) after
+  hull_listed =
+      let n : ℕ = result_unwrap_or r 0 in
+      let k : n ≡ length h.list = ap (λ (x : Counted). result_unwrap_or x 0) count in
       record {
         count = k ∙ ap length one;
         buffer =
@@ -60,7 +60,7 @@ module _ {w : List ℕ} {before after : List ℤ} {r : Counted} (h : HullCall or
             ∙ ap numbers one;
       }
 
-  pub hull_not_refused : (x : Refusal) → r ≡ counted.Refused x → ⊥
+  pub hull_not_refused : (x : Refusal) → r ≡ Err x → ⊥
   hull_not_refused x e = let z : ◌≡◌ {A = ℕ} 0 1 = cc count in omega arith
 
 -- facts, count and corners, one after the other

@@ -12,7 +12,7 @@ ghost use Rattle.line_fields.specs.Put.{Wrote};
 ghost use Rattle.line_walk.specs.Walk.{Clear};
 ghost use Rattle.line_reply.specs.Reply.{Lent, HoldsCorners, LineIs};
 
-use answer::{Answer, Counted, Facts};
+use answer::Facts;
 use grid::Corner;
 use line_fields::hex::spell;
 use line_frame::Frame;
@@ -52,10 +52,7 @@ fn list_hull(steps: &[u8], hull: &mut [i32]) -> usize
     requires hull_len { length hull.old ≡ hull_numbers }
     ensures { HoldsCorners (hull_of origin steps.now) result hull.new }
 {
-    match hull_call::list_short(Corner(0, 0), steps, hull) {
-        Counted::Many(n) => n,
-        Counted::Refused(_) => 0,
-    }
+    hull_call::list_short(Corner(0, 0), steps, hull).unwrap_or(0)
 }
 
 // Writes the facts of an accepted walk and the hull of its surviving steps.
@@ -88,11 +85,8 @@ fn answer_line(
 {
     let mut chain = [0u8; Frame::MOST_DIGITS];
     match walk_line(s, table, marks, &mut chain) {
-        Answer::Accepted(f) => {
-            let steps = f.steps;
-            write_accepted(f, &chain[..steps], hull, out, at)
-        }
-        Answer::Refused(r) => spell_refusal(out, at, r),
+        Ok(f) => write_accepted(f, &chain[..f.steps], hull, out, at),
+        Err(r) => spell_refusal(out, at, r),
     }
 }
 

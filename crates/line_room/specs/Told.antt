@@ -1,7 +1,8 @@
 -- What the rows program writes for a line, with its line feeds, and for an input (RULES 14.6 to 14.8). Assumes nothing.
-use Rattle.std.specs.Prelude.{List, [], ◌∷◌, ◌++◌, ℕ, ◌*◌, ◌/◌}
+use Rattle.std.specs.Prelude.{Err, List, Ok, [], ◌∷◌, ◌++◌, ℕ, ◌*◌, ◌/◌}
+use Rattle.answer.specs.Answers.{Answer, Judged}
 use Rattle.grid.specs.Grid.{origin}
-use Rattle.answer.specs.declared.{Refusal.Refusal, Judged.Judged, Judged.TheVariants.Good, Judged.TheVariants.Refused, Answer.Answer}
+use Rattle.answer.specs.declared.{Refusal.Refusal}
 use Rattle.steps.specs.Operations.{survivors}
 use Rattle.room.specs.Room.{as_room_judged}
 use Rattle.row.specs.Rows.{Span}
@@ -23,13 +24,13 @@ refused_told r = refused_line r ++ (10 ∷ [])
 
 -- the spans of a room; what is not a room is refused as the rows call refuses it
 abbrev pub room_told : Judged → List ℕ → List ℕ
-room_told Good ds = spans_told (rows_of origin ds)
-room_told (Refused r) ds = refused_told r
+room_told (Ok _) ds = spans_told (rows_of origin ds)
+room_told (Err r) ds = refused_told r
 
 -- a walk that is refused has its refusal; of any other the surviving steps are taken as a room
 abbrev pub walk_told : Answer → List ℕ → List ℕ
-walk_told (Answer.Accepted f) ds = room_told (as_room_judged origin ds) ds
-walk_told (Answer.Refused r) ds = refused_told r
+walk_told (Ok f) ds = room_told (as_room_judged origin ds) ds
+walk_told (Err r) ds = refused_told r
 
 -- what is written for a line
 unfoldable pub rows_told : List ℕ → List ℕ

@@ -10,7 +10,7 @@ ghost use Rattle.line_walk.specs.Walk.{Clear};
 ghost use Rattle.line_room.specs.Told.{refused_told, room_told, rows_told, most_rows};
 ghost use Rattle.line_rows.specs.Numbers.{three_told, threes_told};
 
-use answer::{Answer, Counted, Refusal};
+use answer::Refusal;
 use grid::Corner;
 use line_frame::Frame;
 use line_parts::{spell_numbers, spell_refusal};
@@ -51,12 +51,9 @@ fn tell_threes(out: &mut [u8], at: usize, xs: &[i32], n: usize) -> usize
     requires { (3 * n ≤ length xs.now) × (at + 13 * n ≤ length out.old) }
     ensures { Wrote (threes_told n xs.now) at out.old result out.new }
 {
-    let mut i = 0;
     let mut next = at;
-    while i < n {
-        let from = 3 * i;
-        next = tell_three(out, next, &xs[from..]);
-        i += 1;
+    for i in 0..n {
+        next = tell_three(out, next, &xs[3 * i..]);
     }
     next
 }
@@ -69,8 +66,8 @@ fn tell_room(steps: &[u8], numbers: &mut [i32], out: &mut [u8], at: usize) -> us
         out.old result out.new }
 {
     match row_call::list(Corner(0, 0), steps, numbers) {
-        Counted::Many(n) => tell_threes(out, at, numbers, n),
-        Counted::Refused(r) => tell_refusal(out, at, r),
+        Ok(n) => tell_threes(out, at, numbers, n),
+        Err(r) => tell_refusal(out, at, r),
     }
 }
 
@@ -90,10 +87,7 @@ pub fn tell(
 {
     let mut chain = [0u8; Frame::MOST_DIGITS];
     match walk_line(s, table, marks, &mut chain) {
-        Answer::Accepted(f) => {
-            let steps = f.steps;
-            tell_room(&chain[..steps], numbers, out, at)
-        }
-        Answer::Refused(r) => tell_refusal(out, at, r),
+        Ok(f) => tell_room(&chain[..f.steps], numbers, out, at),
+        Err(r) => tell_refusal(out, at, r),
     }
 }

@@ -1,4 +1,4 @@
--- One more byte in each loop over a chunk.
+-- One more byte in each loop over a chunk, and the bytes of a piece that are kept.
 -- Assumes nothing.
 use mathlib.Core.Path.{◌≡◌, refl, sym, ap, ap₂, ◌∙◌}
 use mathlib.Core.Bool.{Bool, true, false, ◌||◌}
@@ -7,10 +7,12 @@ use Prim.Native.Nat.{ℕ, zero, suc, ◌+◌, ◌-◌, ◌<◌, ◌≤◌, min}
 use native.Mathlib.Omega.{arith}
 use native.Mathlib.Numerals.{add-one}
 use native.Mathlib.Decide.{dec_le}
-use lib.ListN.{length, take, drop, get_or, set, length-drop, drop_of_length-le}
-use lib.Seq.{drop-cons, paste, paste-suc, get_or-drop, take-append-add, take_all, take-take, drop-drop, length-take-le, length_paste_head}
+use lib.ListN.{length, take, drop, get_or, length-drop, drop_of_length-le}
+use lib.Seq.{drop-cons, get_or-drop, take-append-add, take_all, take-take, drop-drop, length-take-le, length_paste_head}
 use lib.Dec.{ltb, eqb}
 use borrow.Author.Tests.{eq-eqb, ne_eqb, ltb-true, ltb-false, lt-ltb, le-ltb}
+use borrow.Rule.Slice.PartMut.{put_mid}
+use Rattle.std.proofs.lemmas.Slice.{put_mid-paste}
 use Rattle.line_frame.specs.Sizes.{most_held}
 use Rattle.line_fields.specs.Put.{put, Wrote}
 use Rattle.line_frame.specs.Begun.{line_length, kept_of}
@@ -74,14 +76,6 @@ skip-next s at n e f =
     let d : line_length (drop n (drop at s)) ≡ line_length (drop (at + n) s) = ap line_length (drop-drop n at s) in
     omega (arith, line_further (drop at s) n (omega (arith, h)), d)
 
-pub paste_next : (d s : List ℕ) (held at j : ℕ) (l : List ℕ) → held + j < length d → at + j < length s → l ≡ paste d held (drop at s) j
-    → set l (held + j) (get_or s (at + j) 0) ≡ paste d held (drop at s) (j + 1)
-paste_next d s held at j l h k e =
-    ap (λ (x : List ℕ). set x (held + j) (get_or s (at + j) 0)) e
-    ∙ ap (λ (b : ℕ). set (paste d held (drop at s) j) (held + j) b) (sym (get_or-drop at s j 0))
-    ∙ paste-suc d held (drop at s) j 0 h (omega (arith, length-drop at s))
-    ∙ ap (paste d held (drop at s)) (sym (add-one j))
-
 -- the bytes that are kept of the held ones and of a piece
 module _ (line s : List ℕ) (held at end m : ℕ) (hh : held ≤ most_held) (hl : length line ≡ most_held) (ha : at ≤ end) (he : end ≤ length s)
     (hm : m ≡ min (end - at) (most_held - held)) where
@@ -107,13 +101,20 @@ module _ (line s : List ℕ) (held at end m : ℕ) (hh : held ≤ most_held) (hl
   pub kept_here : held ≡ 0 → take m (drop at s) ≡ kept_of (take held line ++ take (end - at) (drop at s))
   kept_here z = ap (λ (n : ℕ). take n line ++ take m (drop at s)) (sym z) ∙ sym kept_piece
 
-  pub hold_kept : Wrote (kept_of (take held line ++ take (end - at) (drop at s))) 0 line (held + m) (paste line held (drop at s) m)
+  -- k is how long the part is that is written, and ys what it holds then
+  pub hold_kept : (k : ℕ) (ys : List ℕ) → k ≡ m → ys ≡ take m (drop at s)
+      → Wrote (kept_of (take held line ++ take (end - at) (drop at s))) 0 line (held + m) (put_mid held k line ys)
   unfolding put
-  hold_kept =
+  hold_kept w ys wm y =
       let k : kept_of (take held line ++ take (end - at) (drop at s)) ≡ take held line ++ take m (drop at s) = kept_piece in
+      let l : length (take m (drop at s)) ≡ m = length-take-le m (drop at s) (omega (arith, length-drop at s)) in
       let n : length (take held line ++ take m (drop at s)) ≡ held + m = length_paste_head line held (drop at s) m (omega arith) (omega (arith, length-drop at s)) in
       let e : held + m ≡ 0 + length (take held line ++ take m (drop at s)) = omega arith in
       record {
         end = e ∙ ap (λ (l : List ℕ). 0 + length l) (sym k);
-        buffer = ap (λ (i : ℕ). take held line ++ take m (drop at s) ++ drop i line) e ∙ ap (λ (l : List ℕ). put l 0 line) (sym k);
+        buffer =
+            put_mid-paste held w line ys (take m (drop at s)) m y (sym wm) (omega arith)
+            ∙ ap (λ (p : List ℕ). take held line ++ p ++ drop (held + m) line) (take_all m (take m (drop at s)) (omega arith))
+            ∙ ap (λ (i : ℕ). take held line ++ take m (drop at s) ++ drop i line) e
+            ∙ ap (λ (l : List ℕ). put l 0 line) (sym k);
       }

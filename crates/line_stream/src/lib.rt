@@ -9,7 +9,6 @@ ghost use Rattle.line_frame.specs.Sizes.{most_held};
 ghost use Rattle.line_fields.specs.Put.{Wrote};
 
 use line_frame::Frame;
-use order::lesser;
 
 // After a call: this many bytes of the line begun are held, the chunk was passed up to at, and the output up to used is written.
 #[derive(Clone, Copy)]
@@ -36,10 +35,8 @@ fn is_near(s: &[u8], at: usize) -> bool
     ensures { result ≡ ltb (line_length (drop at s.now)) near }
 {
     let mut found = false;
-    let mut k = 0;
-    while k < Progress::NEAR {
+    for k in 0..Progress::NEAR {
         found = found | (s[at + k] == 10);
-        k += 1;
     }
     found
 }
@@ -51,6 +48,7 @@ fn skip(s: &[u8], at: usize) -> usize
         × (result + line_length (drop result s.now) ≡ at + line_length (drop at s.now)) }
 {
     let mut i = at;
+    // a `while`: it goes on by many bytes, and ends where fewer are left
     while Progress::NEAR <= s.len() - i {
         if is_near(s, i) {
             return i;
@@ -65,14 +63,12 @@ pub fn line_end(s: &[u8], at: usize) -> usize
     requires { at ≤ length s.now }
     ensures { result ≡ at + line_length (drop at s.now) }
 {
-    let mut i = skip(s, at);
-    while i < s.len() {
+    for i in skip(s, at)..s.len() {
         if s[i] == 10 {
             return i;
         }
-        i += 1;
     }
-    i
+    s.len()
 }
 
 // Holds the bytes of the chunk from at up to end, as far as the buffer is long enough. Answers how many are held then.
@@ -82,11 +78,7 @@ pub fn hold(line: &mut [u8], held: usize, s: &[u8], at: usize, end: usize) -> us
     ensures { Wrote (kept_of (take held line.old ++ take (end - at) (drop at s.now))) 0
         line.old result line.new }
 {
-    let m = lesser(end - at, Progress::MOST_HELD - held);
-    let mut i = 0;
-    while i < m {
-        line[held + i] = s[at + i];
-        i += 1;
-    }
+    let m = (end - at).min(Progress::MOST_HELD - held);
+    line[held..held + m].copy_from_slice(&s[at..at + m]);
     held + m
 }

@@ -1,5 +1,6 @@
 -- What a walk leaves in a table of zeros: the records in use, which its answer counts, and zeros after them.
 -- Assumes nothing.
+use Rattle.std.specs.Prelude.{Err, Ok}
 use mathlib.Core.Bool.{Bool, true, false, cond}
 use mathlib.Core.Path.{◌≡◌, sym, ap, ◌∙◌, subst}
 use mathlib.Core.List.{List, ◌++◌}
@@ -8,10 +9,9 @@ use native.Mathlib.Omega.{arith}
 use lib.Dec.{eqb}
 use lib.ListN.{length, take, drop, replicate, length-append, length-replicate, replicate-append-replicate}
 use lib.Seq.{drop_at, length-take-le}
+use Rattle.answer.specs.Answers.{Answer, Judged}
 use Rattle.grid.specs.declared.Corner.{Corner}
 use Rattle.grid.specs.Grid.{corners_from}
-use Rattle.answer.specs.declared.Judged.{Judged, TheVariants.Good, TheVariants.Refused}
-use Rattle.answer.specs.declared.Answer.{Answer}
 use Rattle.answer.specs.Refusal.{refusal_number}
 use Rattle.steps.specs.Operations.{survivors}
 use Rattle.tree.specs.Nodes.{nodes_of}
@@ -43,13 +43,13 @@ module _ {c : Corner} {os t ms ch : List ℕ} {r : Answer} {t' ms' ch' : List �
   After = (width * records_left r ≤ length t') × Clear (replicate (width * records_left r) 0 ++ drop (width * records_left r) t')
 
   by : (j : Judged) → r ≡ answer_by j (facts_of c (survivors os)) → t' ≡ buffer_by j (table_of (length t) c (survivors os)) t → After
-  by Good e b =
+  by (Ok _) e b =
       let ps = corners_from c (survivors os) in
       let rs = records_of ps (nodes_of ps) (nodes_of ps) in
       let zs : List ℕ = replicate (length t - length rs) 0 in
       let n : width * records_left r ≡ length rs = ap (λ (a : Answer). width * records_left a) e ∙ sym (length-records ps (nodes_of ps) (nodes_of ps)) in
       cleared (width * records_left r) t' rs zs b (sym n) (ap (λ (m : ℕ). replicate m 0) (sym (length-replicate {A = ℕ} (length t - length rs) 0))) (same ∙ clear_length clear)
-  by (Refused x) e b = zeros (eqb (refusal_number x) 7) b
+  by (Err x) e b = zeros (eqb (refusal_number x) 7) b
     where
       none : records_left r ≡ 0
       none = ap records_left e

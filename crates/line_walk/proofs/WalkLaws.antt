@@ -1,16 +1,16 @@
 -- A walk in lent buffers: what it passes on, accepted or refused.
 -- Assumes nothing.
+use Rattle.std.specs.Prelude.{Err, Ok}
 use mathlib.Core.Path.{◌≡◌, refl, sym, ap, ap₂, ◌∙◌, subst}
 use mathlib.Core.List.{List, [], ◌++◌, append_assoc}
 use Prim.Native.Nat.{ℕ, ◌-◌, ◌*◌, ◌≤◌}
 use native.Mathlib.Omega.{arith}
 use lib.ListN.{length, take, replicate, length-append}
 use lib.Seq.{take_at}
+use Rattle.answer.specs.Answers.{Answer, Judged}
 use Rattle.grid.specs.Grid.{origin}
-use Rattle.answer.specs.declared.Judged.{Judged}
 use Rattle.answer.specs.declared.Refusal.{Refusal}
 use Rattle.answer.specs.declared.Facts.{Facts}
-use Rattle.answer.specs.declared.Answer.{Answer}
 use Rattle.steps.specs.Operations.{survivors}
 use Rattle.steps.proofs.SurvivorLaws.{length-survivors}
 use Rattle.layout.specs.Marks.{mark_words, chain_of}
@@ -19,7 +19,6 @@ use Rattle.line_frame.specs.declared.Kind.TheVariants.{Operations}
 use Rattle.line_frame.specs.Sizes.{most_digits, table_words}
 use Rattle.line_frame.specs.Line.{kind_walked}
 use Rattle.line_room.proofs.WalkedLaws.{accepted_good, accepted_steps, accepted_sound}
-use Rattle.answer.specs.declared.Answer.TheVariants as walked
 use Rattle.line_walk.specs.Walk.{Survived, WalkedBy}
 
 module _ {os t ms ch : List ℕ} {r : Answer} {t' ms' ch' : List ℕ} (w : WalkIs origin os t ms ch r t' ms' ch') (table : length t ≡ table_words) (marks : length ms ≡ mark_words * length os) (chain : length ch ≡ length os) (most : length os ≤ most_digits) (rest : List ℕ) where
@@ -29,8 +28,8 @@ module _ {os t ms ch : List ℕ} {r : Answer} {t' ms' ch' : List ℕ} (w : WalkI
       ∙ ap (λ (n : ℕ). walk_answer origin os n (length ms) (length ch)) table
       ∙ ap₂ (λ (m n : ℕ). walk_answer origin os table_words m n) marks chain
 
-  module _ (f : Facts) (e : r ≡ walked.Accepted f) where
-    accepted : walk_answer origin os (length t) (length ms) (length ch) ≡ walked.Accepted f
+  module _ (f : Facts) (e : r ≡ Ok f) where
+    accepted : walk_answer origin os (length t) (length ms) (length ch) ≡ Ok f
     accepted = sym w.answer ∙ e
 
     count : f.steps ≡ length (survivors os)
@@ -58,7 +57,7 @@ module _ {os t ms ch : List ℕ} {r : Answer} {t' ms' ch' : List ℕ} (w : WalkI
   walk_handed ds e = subst (λ (l : List ℕ). WalkedBy (kind_walked Operations l) l r (ch' ++ rest)) e (record { answer = answer_is; survived = survived })
 
 -- a refusal passes nothing on
-pub refused_handed : (x : Refusal) (os ch : List ℕ) → WalkedBy (walked.Refused x) os (walked.Refused x) ch
+pub refused_handed : (x : Refusal) (os ch : List ℕ) → WalkedBy (Err x) os (Err x) ch
 refused_handed x os ch = record { answer = refl; survived = λ f e. let z : ◌≡◌ {A = ℕ} 0 1 = cc in absurd (omega arith) }
 
 -- the same answer by another name

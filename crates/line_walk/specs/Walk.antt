@@ -1,7 +1,8 @@
 -- What the walk of a line takes and leaves. Assumes nothing.
 use Rattle.lists.specs.Lists.{Below}
-use Rattle.std.specs.Prelude.{◌≡◌, List, length, take, replicate, ℕ, ◌≤◌}
-use Rattle.answer.specs.declared.{Facts.Facts, Answer.Answer}
+use Rattle.std.specs.Prelude.{◌≡◌, List, length, take, replicate, ℕ, Err, Ok, ◌≤◌}
+use Rattle.answer.specs.Answers.{Answer}
+use Rattle.answer.specs.declared.{Facts.Facts}
 use Rattle.steps.specs.Operations.{survivors}
 use Rattle.line_frame.specs.Sizes.{most_digits, table_words, marks_words}
 
@@ -11,8 +12,8 @@ Clear t = t ≡ replicate table_words 0
 
 -- how many records the walk that is answered so has left in such a table
 abbrev pub records_left : Answer → ℕ
-records_left (Answer.Accepted f) = f.nodes
-records_left (Answer.Refused r) = 0
+records_left (Ok f) = f.nodes
+records_left (Err r) = 0
 
 -- buffers for the walk of any line
 pub record WalkBuffers (t ms ch : List ℕ) : Type 0 where
@@ -31,4 +32,4 @@ pub record Survived (os : List ℕ) (f : Facts) (ch : List ℕ) : Type 0 where
 -- the walk is answered by a, and if that accepts it, its surviving steps are passed on
 pub record WalkedBy (a : Answer) (os : List ℕ) (r : Answer) (ch : List ℕ) : Type 0 where
   pub answer : r ≡ a
-  pub survived : (f : Facts) → r ≡ Answer.Accepted f → Survived os f ch
+  pub survived : (f : Facts) → r ≡ Ok f → Survived os f ch

@@ -8,7 +8,7 @@ ghost use Rattle.line_frame.specs.Line.{digits_of, kind_walked, line_walked};
 ghost use Rattle.line_frame.specs.declared.Kind.TheVariants as kinds;
 ghost use Rattle.line_walk.specs.Walk.{Clear, records_left, WalkBuffers, WalkedBy};
 
-use answer::{Answer, Refusal};
+use answer::{Facts, Refusal};
 use grid::Corner;
 use line_frame::{Frame, Kind};
 use line_parts::{copy_digits, read};
@@ -16,17 +16,20 @@ use walk_step::Walk;
 use walk_table::{Record, zero};
 
 // How many records a walk has left in the table.
-fn records(a: Answer) -> usize
+fn records(a: Result<Facts, Refusal>) -> usize
     ensures { result ≡ records_left a }
 {
-    match a {
-        Answer::Accepted(f) => f.nodes,
-        Answer::Refused(_) => 0,
-    }
+    a.map_or(0, |f| f.nodes)
 }
 
 // Walks the n operations of a frame, and clears the records that this took.
-fn walk_digits(s: &[u8], n: usize, table: &mut [u32], marks: &mut [u32], chain: &mut [u8]) -> Answer
+fn walk_digits(
+    s: &[u8],
+    n: usize,
+    table: &mut [u32],
+    marks: &mut [u32],
+    chain: &mut [u8],
+) -> Result<Facts, Refusal>
     requires s_value { all_hex s.now ≡ true }
     requires n_le_most_digits { (n ≤ most_digits) × (length s.now ≡ head_digits + n) }
     requires walk_buffers { WalkBuffers table.old marks.old chain.old }
@@ -56,7 +59,7 @@ fn walk_frame(
     table: &mut [u32],
     marks: &mut [u32],
     chain: &mut [u8],
-) -> Answer
+) -> Result<Facts, Refusal>
     requires s_value { all_hex s.now ≡ true }
     requires n_le_most_digits { (n ≤ most_digits) × (length s.now ≡ head_digits + n) }
     requires walk_buffers { WalkBuffers table.old marks.old chain.old }
@@ -65,18 +68,21 @@ fn walk_frame(
 {
     match kind {
         Kind::Operations => walk_digits(s, n, table, marks, chain),
-        Kind::Turns => Answer::Refused(Refusal::RetiredKind),
+        Kind::Turns => Err(Refusal::RetiredKind),
     }
 }
 
 // Walks the line s in a table of zeros, and leaves it so. The chain of an accepted walk begins with its surviving steps.
-pub fn walk_line(s: &[u8], table: &mut [u32], marks: &mut [u32], chain: &mut [u8]) -> Answer
+pub fn walk_line(
+    s: &[u8],
+    table: &mut [u32],
+    marks: &mut [u32],
+    chain: &mut [u8],
+) -> Result<Facts, Refusal>
     requires { WalkBuffers table.old marks.old chain.old }
     ensures walked_by { WalkedBy (line_walked s.now) (digits_of s.now) result chain.new }
     ensures clear { Clear table.new }
 {
-    match read(s) {
-        Frame::Of(kind, n) => walk_frame(s, kind, n, table, marks, chain),
-        Frame::Bad => Answer::Refused(Refusal::BadLine),
-    }
+    let (kind, n) = read(s).ok_or(Refusal::BadLine)?;
+    walk_frame(s, kind, n, table, marks, chain)
 }

@@ -1,5 +1,6 @@
 -- The programs' tasks: each does what it should, and writes no more than the buffer holds.
 -- Assumes nothing.
+use Rattle.std.specs.Prelude.{Err}
 use mathlib.Core.Path.{◌≡◌, refl, sym, ap, ◌∙◌, subst}
 use mathlib.Core.Bool.{cond}
 use mathlib.Core.List.{List, [], ◌∷◌, ◌++◌, append-nil}
@@ -9,7 +10,6 @@ use native.Mathlib.Decide.{dec_le}
 use lib.ListN.{length, take, drop, length-append, length-take, length-drop}
 use lib.Seq.{length-take-le, take_all}
 use Rattle.answer.specs.declared.Refusal.TheVariants.{BadLine}
-use Rattle.answer.specs.declared.Answer.TheVariants as walked
 use Rattle.line_frame.specs.Sizes.{most_line, most_held, most_answer}
 use Rattle.line_frame.specs.Program.{answered}
 use Rattle.line_frame.specs.Converted.{converted_line}
@@ -42,7 +42,7 @@ kept_same f b long s =
 answered-long : (s : List ℕ) → most_line < length s → answered s ≡ refused_told BadLine
 answered-long s h = ap (λ (l : List ℕ). l ++ (10 ∷ [])) (line_answer-long s h)
 
-entered-long : (s : List ℕ) → most_line < length s → entered s ≡ entry_by (walked.Refused BadLine) [] ++ (10 ∷ [])
+entered-long : (s : List ℕ) → most_line < length s → entered s ≡ entry_by (Err BadLine) [] ++ (10 ∷ [])
 entered-long s h = ap (λ (l : List ℕ). l ++ (10 ∷ [])) (entry_of-long s h)
 
 answered_most : (s : List ℕ) → length (answered s) ≤ most_answer
@@ -53,7 +53,7 @@ pub job_does : (t : Task) → Does (job_of t) (fed_line_of t) (last_line_of t)
 job_does Answer = each_does answered most_answer (kept_same answered (refused_told BadLine) answered-long)
 job_does Convert = pass_laws.passes_does converted_line (most_early Convert + most_told Convert) converted-long converted_nil
 job_does Rows = each_does rows_told most_rows (kept_same rows_told (refused_told BadLine) rows_told-long)
-job_does Enter = each_does entered most_entry (kept_same entered (entry_by (walked.Refused BadLine) [] ++ (10 ∷ [])) entered-long)
+job_does Enter = each_does entered most_entry (kept_same entered (entry_by (Err BadLine) [] ++ (10 ∷ [])) entered-long)
 
 -- how much is written
 job_most : (t : Task) → (job_of t).most ≡ most_early t + most_told t

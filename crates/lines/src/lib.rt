@@ -16,7 +16,6 @@ ghost use Rattle.lines.specs.Tasks.{most_early, most_told, job_of};
 use line_convert::{end_fed_line, end_line, pass_on};
 use line_reply::Desk;
 use line_stream::{Progress, hold, line_end};
-use order::lesser;
 use sheet_entry::{Entry, enter};
 
 // What a program does with the lines of its input.
@@ -137,7 +136,7 @@ fn tell_end(
     ensures clear { Clear table.new }
 {
     if held == 0 {
-        let stop = at + lesser(end - at, Progress::MOST_HELD);
+        let stop = at + (end - at).min(Progress::MOST_HELD);
         return tell(task, &s[at..stop], table, marks, hull, out, used);
     }
     let kept = hold(line, held, s, at, end);

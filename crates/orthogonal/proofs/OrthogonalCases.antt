@@ -1,5 +1,6 @@
 -- Blocks and the hull on small rooms, decided; the refusals, the buffer and the numbers of the call, computed.
 -- Assumes nothing.
+use Rattle.std.specs.Prelude.{Err, Ok}
 use mathlib.Core.List.{List, [], ◌∷◌, map}
 use mathlib.Core.Path.{◌≡◌, refl, ap}
 use mathlib.Core.Bool.{Bool, true, false, false≢true}
@@ -9,7 +10,7 @@ use lib.IntN.{pos, negsuc, nat_abs}
 use lib.Signed.{le_z_yes}
 use Rattle.grid.specs.declared.{Corner.Corner, Panel.Panel}
 use Rattle.grid.specs.Grid.{corner, origin}
-use Rattle.answer.specs.declared.{Judged.TheVariants.Good, Judged.TheVariants.Refused, Refusal.TheVariants.BadDigit, Refusal.TheVariants.StartRange, Refusal.TheVariants.NotRoom, Refusal.TheVariants.ChainRoom, Refusal.TheVariants.GridSize}
+use Rattle.answer.specs.declared.{Refusal.TheVariants.BadDigit, Refusal.TheVariants.StartRange, Refusal.TheVariants.NotRoom, Refusal.TheVariants.ChainRoom, Refusal.TheVariants.GridSize}
 use Rattle.orthogonal.specs.Blocks.{floor_by, block, block_of, HoldsInside, OrthogonalHullIs}
 use Rattle.orthogonal.specs.Call.{grid_fits, OutlinesHull, orthogonal_judged, orthogonal_of, orthogonal_words, orthogonal_number}
 
@@ -75,15 +76,15 @@ abbrev one : List ℕ
 one = 0 ∷ 1 ∷ 2 ∷ 3 ∷ []
 
 -- the start is judged before the grid size, the grid size before the digits, the room before the buffer
-orders : orthogonal_judged (corner (pos 16385) (pos 0)) (9 ∷ []) 0 0 4 ∷ orthogonal_judged origin (9 ∷ []) 0 0 4 ∷ orthogonal_judged origin (9 ∷ []) 1 0 4 ∷ orthogonal_judged origin (0 ∷ 2 ∷ []) 1 0 4 ∷ orthogonal_judged origin one 1 3 4 ∷ orthogonal_judged origin one 1 4 4 ∷ [] ≡ Refused StartRange ∷ Refused GridSize ∷ Refused (BadDigit 0) ∷ Refused NotRoom ∷ Refused ChainRoom ∷ Good ∷ []
+orders : orthogonal_judged (corner (pos 16385) (pos 0)) (9 ∷ []) 0 0 4 ∷ orthogonal_judged origin (9 ∷ []) 0 0 4 ∷ orthogonal_judged origin (9 ∷ []) 1 0 4 ∷ orthogonal_judged origin (0 ∷ 2 ∷ []) 1 0 4 ∷ orthogonal_judged origin one 1 3 4 ∷ orthogonal_judged origin one 1 4 4 ∷ [] ≡ Err StartRange ∷ Err GridSize ∷ Err (BadDigit 0) ∷ Err NotRoom ∷ Err ChainRoom ∷ Ok tt ∷ []
 orders = refl
 
 -- number, place, steps, start and blocks; a refused answer has zeros after its place
-words_outlined : orthogonal_words (orthogonal_of Good (corner (negsuc 0) (pos 2)) one) ≡ 0 ∷ 0 ∷ 4 ∷ 4294967295 ∷ 2 ∷ 1 ∷ []
+words_outlined : orthogonal_words (orthogonal_of (Ok tt) (corner (negsuc 0) (pos 2)) one) ≡ 0 ∷ 0 ∷ 4 ∷ 4294967295 ∷ 2 ∷ 1 ∷ []
 words_outlined = refl
 
-words_refused : orthogonal_words (orthogonal_of (Refused (BadDigit 7)) origin one) ≡ 4 ∷ 7 ∷ 0 ∷ 0 ∷ 0 ∷ 0 ∷ []
+words_refused : orthogonal_words (orthogonal_of (Err (BadDigit 7)) origin one) ≡ 4 ∷ 7 ∷ 0 ∷ 0 ∷ 0 ∷ 0 ∷ []
 words_refused = refl
 
-number_refused : orthogonal_number (orthogonal_of (Refused GridSize) origin one) ≡ 22
+number_refused : orthogonal_number (orthogonal_of (Err GridSize) origin one) ≡ 22
 number_refused = refl

@@ -1,7 +1,6 @@
 // What the call that outlines the orthogonal hull of a room answers.
 #![tactic(auto)]
 
-use answer::Refusal;
 use grid::Corner;
 
 // The outline of a hull: how many steps it has, where it starts, and how many blocks are inside.
@@ -19,11 +18,4 @@ pub struct Grid;
 impl Grid {
     // Panels along a side of a block at most.
     pub const MOST: u32 = 16384;
-}
-
-// The answer of the call.
-#[derive(Clone, Copy)]
-pub enum Orthogonal {
-    Outlined(Enclosed),
-    Refused(Refusal),
 }

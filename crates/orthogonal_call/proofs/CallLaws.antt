@@ -1,19 +1,20 @@
 -- From an accepted room to its lanes, from lanes to the ends of rows, and from these to the answer.
 -- Assumes nothing.
-use mathlib.Core.Bool.{Bool, true, false, not, ◌&&◌}
+use Rattle.std.specs.Prelude.{Err, Ok}
+use mathlib.Core.Bool.{Bool, true, false, not}
 use mathlib.Core.List.{List, ◌∷◌, ◌++◌}
 use mathlib.Core.Path.{◌≡◌, refl, sym, ap, ap₂, ◌∙◌, subst, subst₂}
 use Prim.Native.Nat.{ℕ, zero, suc, ◌+◌, ◌*◌, ◌-◌, ◌/◌, ◌%◌, ◌<◌, ◌≤◌}
 use native.Mathlib.Omega.{arith}
 use native.Mathlib.Nat.{mod-lt, div-add-mod', div-lt_iff_lt-mul, div-le_self, add-mul}
-use borrow.Author.Tests.{le-leb, lt-leb}
-use lib.Dec.{T, leb}
+use lib.Dec.{T}
 use lib.IntN.{ℤ, pos, negsuc, nat_abs, ◌+ℤ◌, ◌-ℤ◌}
 use lib.ListN.{length, get_or, take, drop, replicate, length-replicate, length-drop}
 use lib.Seq.{sets, sets-eq, length-take-le, get_or-take, get_or-drop}
 use lib.Signed.{non_neg, ◌≤ℤ◌}
 use mir.Syntax.{w64}
 use mir.Val.{Fits}
+use Rattle.answer.specs.Answers.{Judged}
 use Rattle.int_laws.proofs.LinearLaws.{zarith, bal+, bal-}
 use Rattle.int_laws.proofs.RangeLaws.{abs_nat}
 use Rattle.lists.specs.Lists.{Below}
@@ -21,7 +22,7 @@ use Rattle.lists.proofs.BelowLaws.{below_all}
 use Rattle.lists.proofs.BoolLaws.{not-true, not-false}
 use Rattle.grid.specs.declared.Corner.{Corner}
 use Rattle.grid.specs.Grid.{corner}
-use Rattle.answer.specs.declared.{Judged.Judged, Judged.TheVariants.Good, Judged.TheVariants.Refused, Refusal.TheVariants.TooMany, Refusal.TheVariants.StartRange, Refusal.TheVariants.GridSize, Refusal.TheVariants.ChainRoom}
+use Rattle.answer.specs.declared.{Refusal.TheVariants.TooMany, Refusal.TheVariants.StartRange, Refusal.TheVariants.GridSize, Refusal.TheVariants.ChainRoom}
 use Rattle.answer.specs.{Limits.most_input, Limits.most_start, Limits.most_steps, Limits.start_fits, Limits.Near}
 use Rattle.trace.specs.Verdict.{IsRoom}
 use Rattle.room.specs.Room.{as_room_judged}
@@ -31,7 +32,7 @@ use Rattle.hull_laws.proofs.SinkLaws.{length-sinks}
 use Rattle.steps.proofs.ChainLaws.{good_digits, good_short}
 use Rattle.room_thread_laws.specs.Threads.{Stays}
 use Rattle.room_thread_laws.proofs.RoomLaws.{closed_stays}
-use Rattle.orthogonal.specs.declared.{Enclosed.Enclosed, Orthogonal.Orthogonal}
+use Rattle.orthogonal.specs.declared.{Enclosed.Enclosed}
 use Rattle.orthogonal.specs.Blocks.{HoldsInside}
 use Rattle.orthogonal.specs.Call.{most_grid, grid_fits, on_grid_judged, OrthogonalCall, enclosed_of}
 use Rattle.orthogonal_chain_laws.specs.Chain.{home_row, blocks_from}
@@ -56,7 +57,7 @@ pub record Accepted (s : Corner) (ds : List ℕ) (g : ℕ) : Type 0 where
   pub some : 0 < g
   pub most : g ≤ most_grid
 
-pub accepted : (s : Corner) (ds : List ℕ) (g : ℕ) → on_grid_judged s ds g ≡ Good → Accepted s ds g
+pub accepted : (s : Corner) (ds : List ℕ) (g : ℕ) → on_grid_judged s ds g ≡ Ok tt → Accepted s ds g
 accepted s ds g e =
     let k = on_grid_good s ds g e in
     let r = good_room s ds k.0 in
@@ -64,15 +65,15 @@ accepted s ds g e =
     record { room = r.room; digits = below_all 4 ds (good_digits 0 ds r.steps); few = omega (arith, good_short 0 ds (omega arith) r.steps); near = r.near; some = w.0; most = w.1 }
 
 module _ (s : Corner) (ds : List ℕ) (g : ℕ) where
-  pub told_many : most_input < length ds → Refused TooMany ≡ on_grid_judged s ds g
+  pub told_many : most_input < length ds → Err TooMany ≡ on_grid_judged s ds g
   told_many h = sym (on_grid_many s ds g h)
 
   module _ (h : length ds ≤ most_input) (b : Bool) (eb : b ≡ start_fits s) where
-    pub told_range : not b ≡ true → Refused StartRange ≡ on_grid_judged s ds g
+    pub told_range : not b ≡ true → Err StartRange ≡ on_grid_judged s ds g
     told_range n = sym (on_grid_range s ds g h (sym eb ∙ not-true b n))
 
     module _ (n : not b ≡ false) (c : Bool) (ec : c ≡ grid_fits g) where
-      pub told_grid : not c ≡ true → Refused GridSize ≡ on_grid_judged s ds g
+      pub told_grid : not c ≡ true → Err GridSize ≡ on_grid_judged s ds g
       told_grid m = sym (on_grid_size s ds g h (sym eb ∙ not-false b n) (sym ec ∙ not-true c m))
 
       pub told_room : not c ≡ false → (j : Judged) → j ≡ as_room_judged s ds → j ≡ on_grid_judged s ds g
@@ -115,12 +116,12 @@ module _ {s : Corner} {ds : List ℕ} {g span x y : ℕ} {lo hi : List ℕ} (d :
   pub steps_are : steps ≡ length (chain_in span lo hi)
   steps_are = es ∙ ap (λ (k : ℕ). 2 * (span - get_or hi (home_in hi) 0 - get_or lo k 0 + length lo)) eh ∙ sym d.long
 
-  pub answer_short : (before : List ℕ) → length before < steps → OrthogonalCall s ds g before (Orthogonal.Refused ChainRoom) before
+  pub answer_short : (before : List ℕ) → length before < steps → OrthogonalCall s ds g before (Err ChainRoom) before
   answer_short before h = short_call s ds g before (start_in x y lo) (chain_in span lo hi) d.good d.outline (omega (arith, steps_are))
 
-  pub answer_outlined : (before after : List ℕ) → steps ≤ length before → after ≡ sets before 0 (chain_in span lo hi) → (cx cy : ℤ) (e n : ℕ) → e ≡ get_or lo home 0 → cx ≡ pos (x + e) -ℤ pos shift → cy ≡ pos (y + home) -ℤ pos shift → n ≡ blocks_from (left_in lo) (right_in span hi) 0 (length lo) → OrthogonalCall s ds g before (Orthogonal.Outlined (record { steps = steps; start = corner cx cy; blocks = n })) after
+  pub answer_outlined : (before after : List ℕ) → steps ≤ length before → after ≡ sets before 0 (chain_in span lo hi) → (cx cy : ℤ) (e n : ℕ) → e ≡ get_or lo home 0 → cx ≡ pos (x + e) -ℤ pos shift → cy ≡ pos (y + home) -ℤ pos shift → n ≡ blocks_from (left_in lo) (right_in span hi) 0 (length lo) → OrthogonalCall s ds g before (Ok (record { steps = steps; start = corner cx cy; blocks = n })) after
   answer_outlined before after h ea cx cy e n ee ex ey en =
-      subst₂ (λ (r : Enclosed) (b : List ℕ). OrthogonalCall s ds g before (Orthogonal.Outlined r) b) same (sym written) (outlined_call s ds g before (start_in x y lo) (chain_in span lo hi) d.good d.outline (omega (arith, steps_are)))
+      subst₂ (λ (r : Enclosed) (b : List ℕ). OrthogonalCall s ds g before (Ok r) b) same (sym written) (outlined_call s ds g before (start_in x y lo) (chain_in span lo hi) d.good d.outline (omega (arith, steps_are)))
     where
       written : after ≡ chain_in span lo hi ++ drop (length (chain_in span lo hi)) before
       written = ea ∙ sets-eq (chain_in span lo hi) before 0 (omega (arith, steps_are)) ∙ ap (λ (k : ℕ). chain_in span lo hi ++ drop k before) none
@@ -336,7 +337,7 @@ module _ (m g : ℕ) (pm : 0 < m) (some : 0 < g) where
   pub need_few : need ≤ 2 * m
   need_few = let k : (2 * m - 2) / g ≤ 2 * m - 2 = div-le_self (2 * m - 2) g in omega (arith, k)
 
-  pub store_ready : (s : Corner) (ds : List ℕ) (lo hi t : List ℕ) → on_grid_judged s ds g ≡ Good → length ds < 2 * m → 2 * m ≤ length ds + 2 → length ds + 2 ≤ length lo → Edgeless lo → Edgeless hi → length hi ≡ length lo → length t ≡ length lo → LanesReady s ds g m need (take need lo) (take need hi) (take need t)
+  pub store_ready : (s : Corner) (ds : List ℕ) (lo hi t : List ℕ) → on_grid_judged s ds g ≡ Ok tt → length ds < 2 * m → 2 * m ≤ length ds + 2 → length ds + 2 ≤ length lo → Edgeless lo → Edgeless hi → length hi ≡ length lo → length t ≡ length lo → LanesReady s ds g m need (take need lo) (take need hi) (take need t)
   store_ready s ds lo hi t e a b h el eh nh nt =
       record {
         good = e;
@@ -353,21 +354,7 @@ module _ (m g : ℕ) (pm : 0 < m) (some : 0 < g) where
   pub store_size : (l : List ℕ) (k : ℕ) → 2 * m ≤ k → length l ≡ k → length (take need l) ≡ need
   store_size l k h e = length-take-le need l (omega (arith, need_few, e))
 
-new_edgeless : (n : ℕ) → Edgeless (replicate n blank)
-new_edgeless n = ap (λ (k : ℕ). replicate k blank) (sym (length-replicate {A = ℕ} n blank))
-
--- ---- the grid size
-
-pub grid_none : (g : ℕ) → g < 1 → false ≡ grid_fits g
-grid_none g h = sym (ap (λ (b : Bool). b && leb g most_grid) (lt-leb 1 g h))
-
-pub grid_some : (g : ℕ) → 1 ≤ g → leb g most_grid ≡ grid_fits g
-grid_some g h = sym (ap (λ (b : Bool). b && leb g most_grid) (le-leb 1 g h))
-
--- ---- stores that are new, and stores that are kept
-
-pub new_store : (n k : ℕ) → k + 2 ≤ n → (k + 2 ≤ length (replicate {A = ℕ} n blank)) × Edgeless (replicate n blank) × Edgeless (replicate n blank) × (length (replicate {A = ℕ} n blank) ≡ length (replicate {A = ℕ} n blank)) × (length (replicate {A = ℕ} n 0) ≡ length (replicate {A = ℕ} n blank))
-new_store n k h = (omega (arith, length-replicate {A = ℕ} n blank), new_edgeless n, new_edgeless n, refl, length-replicate {A = ℕ} n 0 ∙ sym (length-replicate {A = ℕ} n blank))
+-- ---- stores that are kept
 
 pub small_kept : {span x y : ℕ} {lo hi : List ℕ} (lo' hi' : List ℕ) → Small span x y lo hi → length lo' ≡ length lo → length hi' ≡ length hi → Small span x y lo' hi'
 small_kept lo' hi' s el eh = record { some = omega (arith, s.some, el); same = eh ∙ s.same ∙ sym el; few = omega (arith, s.few, el); narrow = s.narrow; west = s.west; south = s.south }

@@ -1,8 +1,7 @@
 -- What the parts of the call ask of their stores. Blocks are counted from block -32,768. Assumes nothing.
-use Rattle.std.specs.Prelude.{◌≡◌, List, ℕ, ◌+◌, ◌*◌, ◌-◌, ◌/◌, ◌%◌, ◌<◌, ◌≤◌, pos, ◌-ℤ◌, length, get_or, replicate}
+use Rattle.std.specs.Prelude.{◌≡◌, List, ℕ, ◌+◌, ◌*◌, ◌-◌, ◌/◌, ◌%◌, ◌<◌, ◌≤◌, pos, ◌-ℤ◌, length, get_or, Ok, replicate}
 use Rattle.grid.specs.declared.Corner.{Corner}
 use Rattle.grid.specs.Grid.{corner}
-use Rattle.answer.specs.declared.Judged.TheVariants.{Good}
 use Rattle.panels.specs.Inside.{panels_inside}
 use Rattle.hull_laws.specs.Lowest.{blank, sinks}
 use Rattle.room_thread_laws.specs.Threads.{Stays}
@@ -43,7 +42,7 @@ pub record Small (span x y : ℕ) (lo hi : List ℕ) : Type 0 where
 
 -- the lists have the ends of the rows of the hull of the room's blocks, the right ends counted from column `span`
 pub record Outlinable (c : Corner) (ds : List ℕ) (g span x y : ℕ) (lo hi : List ℕ) : Type 0 where
-  pub good : on_grid_judged c ds g ≡ Good
+  pub good : on_grid_judged c ds g ≡ Ok tt
   pub fits : (q : ℕ) → q < length lo → get_or lo q 0 + get_or hi q 0 ≤ span
   pub outline : OutlinesHull c ds g (start_in x y lo) (chain_in span lo hi)
   pub long : length (chain_in span lo hi) ≡ 2 * (span - get_or hi (home_in hi) 0 - get_or lo (home_in lo) 0 + length lo)
@@ -51,7 +50,7 @@ pub record Outlinable (c : Corner) (ds : List ℕ) (g span x y : ℕ) (lo hi : L
 
 -- the lists have the columns of the ends of the rows of the room's blocks
 pub record Shaped (c : Corner) (ds : List ℕ) (g span x y : ℕ) (lo hi : List ℕ) : Type 0 where
-  pub good : on_grid_judged c ds g ≡ Good
+  pub good : on_grid_judged c ds g ≡ Ok tt
   pub ends : RowEnds (HoldsInside c ds g) (shifted x y) (λ q. get_or lo q 0 / g) (λ q. span - get_or hi q 0 / g) (length lo - 1)
 
 -- rows that have no edge yet
@@ -61,7 +60,7 @@ Edgeless l = l ≡ replicate (length l) blank
 -- the vertical edges of an accepted room in the lanes of their rows. The walk starts in column and height m, which lie x and y
 -- after the beginning of block -32,768
 pub record Laned (c : Corner) (ds : List ℕ) (g m span x y : ℕ) (lo hi : List ℕ) : Type 0 where
-  pub good : on_grid_judged c ds g ≡ Good
+  pub good : on_grid_judged c ds g ≡ Ok tt
   pub ruled : Ruled m g (x % g) (y % g) (span * g) span
   pub stays : Stays ds m (2 * m)
   pub west : c.0 -ℤ pos m ≡ pos x -ℤ pos (shift * g)
@@ -72,7 +71,7 @@ pub record Laned (c : Corner) (ds : List ℕ) (g m span x y : ℕ) (lo hi : List
 -- an accepted room, a walk in the store that starts in column and height m, and `span` rows that have no edge yet, as many as it
 -- needs
 pub record LanesReady (c : Corner) (ds : List ℕ) (g m span : ℕ) (lo hi t : List ℕ) : Type 0 where
-  pub good : on_grid_judged c ds g ≡ Good
+  pub good : on_grid_judged c ds g ≡ Ok tt
   pub wide : length ds < 2 * m
   pub tight : 2 * m ≤ length ds + 2
   pub low : lo ≡ replicate span blank

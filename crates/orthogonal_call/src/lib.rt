@@ -2,25 +2,29 @@
 // row, two passes of minima the ends of the hull's rows, and the outline goes along them.
 #![tactic(auto)]
 
-ghost use Rattle.std.specs.Prelude.{◌≡◌, List, ℕ, ◌+◌, ◌*◌, ◌-◌, ◌<◌, ◌≤◌, pos, nat_abs, ◌-ℤ◌, length, get_or};
+ghost use Rattle.std.specs.Prelude.{◌≡◌, List, ℕ, ◌+◌, ◌*◌, ◌-◌, ◌<◌, ◌≤◌, pos, nat_abs, ◌-ℤ◌, length, Ok, get_or};
 ghost use Rattle.answer.specs.Limits.{most_start, most_steps};
-ghost use Rattle.answer.specs.declared.Judged.TheVariants.{Good};
 ghost use Rattle.grid.specs.declared.Corner.{Corner};
 ghost use Rattle.hull_laws.specs.Lowest.{blank};
-ghost use Rattle.column_laws.specs.Columns.{narrow_size, wider_size};
 ghost use Rattle.orthogonal.specs.Call.{most_grid, grid_fits, on_grid_judged, OrthogonalCall};
 ghost use Rattle.orthogonal_call.specs.Store.{shift, home_in, Edgeless, Small, Outlinable, Shaped, Laned, LanesReady};
 
-use answer::{Judged, Limits, Refusal, start_fits};
+use answer::{Limits, Refusal, start_fits};
 use columns::Columns;
 use grid::Corner;
-use order::wide;
-use orthogonal::{Enclosed, Grid, Orthogonal};
+use orthogonal::{Enclosed, Grid};
 use orthogonal_draw::{count, draw, home_row};
 use orthogonal_lanes::{end_row, fill, first_row, gather};
 
 // Blocks are counted from this one west and south of block 0.
 const SHIFT: usize = 32768;
+
+// How many rows of blocks a room of at most 256, of at most 2,048 and of any number of steps may need.
+const NARROW: usize = Columns::NARROW + 2;
+
+const WIDER: usize = Columns::WIDER + 2;
+
+const WIDEST: usize = Limits::MOST_STEPS + 2;
 
 // How far a coordinate lies after the beginning of block -32,768, where z stands at m.
 fn lifted(z: i32, m: u16, g: usize) -> usize
@@ -45,8 +49,8 @@ fn around(lo: &[u16], hi: &[u16], span: usize, home: usize) -> usize
     ensures { result ≡ 2 * (span - get_or hi.now (home_in hi.now) 0 - get_or lo.now home
         0 + length lo.now) }
 {
-    let east = wide(hi[home_row(hi)]);
-    2 * (span - east - wide(lo[home]) + lo.len())
+    let east = usize::from(hi[home_row(hi)]);
+    2 * (span - east - usize::from(lo[home]) + lo.len())
 }
 
 // Writes the outline of the rows, unless out is too short.
@@ -57,7 +61,7 @@ fn outline_rows(
     x: usize,
     y: usize,
     out: &mut [u8],
-) -> Orthogonal
+) -> Result<Enclosed, Refusal>
     requires { Small span x y lo.now hi.now
         × ((s : Corner) × (ds : List ℕ) × (g : ℕ) × Outlinable s ds g span x y lo.now hi.now) }
     ensures { (s : Corner) (ds : List ℕ) (g : ℕ) → Outlinable s ds g span x y lo.now hi.now
@@ -66,15 +70,15 @@ fn outline_rows(
     let home = home_row(lo);
     let steps = around(lo, hi, span, home);
     if out.len() < steps {
-        return Orthogonal::Refused(Refusal::ChainRoom);
+        return Err(Refusal::ChainRoom);
     }
     draw(lo, hi, span, home, out);
-    let start = Corner(lowered(x + wide(lo[home])), lowered(y + home));
+    let start = Corner(lowered(x + usize::from(lo[home])), lowered(y + home));
     let blocks = count(lo, hi, span);
-    Orthogonal::Outlined(Enclosed {
-        steps: steps,
-        start: start,
-        blocks: blocks,
+    Ok(Enclosed {
+        steps,
+        start,
+        blocks,
     })
 }
 
@@ -88,7 +92,7 @@ fn shape(
     x: usize,
     y: usize,
     out: &mut [u8],
-) -> Orthogonal
+) -> Result<Enclosed, Refusal>
     requires { Small span x y lo.old hi.old × (length lo.old ≤ length t.old) × (0 < g)
         × ((s : Corner) × (ds : List ℕ) × Shaped s ds g span x y lo.old hi.old) }
     ensures { (s : Corner) (ds : List ℕ) → Shaped s ds g span x y lo.old hi.old
@@ -109,7 +113,7 @@ fn cut(
     x: usize,
     y: usize,
     out: &mut [u8],
-) -> Orthogonal
+) -> Result<Enclosed, Refusal>
     requires { (0 < g) × (length lo.old ≡ span) × (length hi.old ≡ span) × (length t.old ≡ span) × (span < blank)
         × (x < 65536 * g) × (y < 65536 * g)
         × ((s : Corner) × (ds : List ℕ) × (m : ℕ) × Laned s ds g m span x y lo.old hi.old) }
@@ -141,7 +145,7 @@ fn trace(
     hi: &mut [u16],
     t: &mut [u16],
     out: &mut [u8],
-) -> Orthogonal
+) -> Result<Enclosed, Refusal>
     requires { LanesReady start chain.now g m span lo.old hi.old t.old }
     ensures { OrthogonalCall start chain.now g out.old result out.new }
 {
@@ -160,13 +164,13 @@ fn outline_in(
     hi: &mut [u16],
     t: &mut [u16],
     out: &mut [u8],
-) -> Orthogonal
-    requires { (on_grid_judged start chain.now g ≡ Good) × (length chain.now + 2 ≤ length lo.old) × Edgeless lo.old
+) -> Result<Enclosed, Refusal>
+    requires { (on_grid_judged start chain.now g ≡ Ok tt) × (length chain.now + 2 ≤ length lo.old) × Edgeless lo.old
         × Edgeless hi.old × (length hi.old ≡ length lo.old) × (length t.old ≡ length lo.old) }
     ensures { OrthogonalCall start chain.now g out.old result out.new }
 {
     let m = room_threads::start(chain.len());
-    let span = (2 * wide(m) - 2) / g + 2;
+    let span = (2 * usize::from(m) - 2) / g + 2;
     trace(
         start,
         chain,
@@ -180,86 +184,64 @@ fn outline_in(
     )
 }
 
-// The outline for a room of at most 256 steps.
-fn outline_narrow(start: Corner, chain: &[u8], g: usize, out: &mut [u8]) -> Orthogonal
-    requires { (on_grid_judged start chain.now g ≡ Good) × (length chain.now ≤ narrow_size) }
+// The outline for a room, with a store for N rows of blocks: two more than the room has steps, or still more.
+fn outline_sized<const N: usize>(
+    start: Corner,
+    chain: &[u8],
+    g: usize,
+    out: &mut [u8],
+) -> Result<Enclosed, Refusal>
+    requires { (on_grid_judged start chain.now g ≡ Ok tt) × (length chain.now + 2 ≤ N) × (N < 65536) }
     ensures { OrthogonalCall start chain.now g out.old result out.new }
 {
-    let mut lo = [Columns::BLANK; Columns::NARROW + 2];
-    let mut hi = [Columns::BLANK; Columns::NARROW + 2];
-    let mut t = [0u16; Columns::NARROW + 2];
-    outline_in(start, chain, g, &mut lo, &mut hi, &mut t, out)
-}
-
-// The outline for a room of at most 2,048 steps.
-fn outline_wider(start: Corner, chain: &[u8], g: usize, out: &mut [u8]) -> Orthogonal
-    requires { (on_grid_judged start chain.now g ≡ Good) × (length chain.now ≤ wider_size) }
-    ensures { OrthogonalCall start chain.now g out.old result out.new }
-{
-    let mut lo = [Columns::BLANK; Columns::WIDER + 2];
-    let mut hi = [Columns::BLANK; Columns::WIDER + 2];
-    let mut t = [0u16; Columns::WIDER + 2];
-    outline_in(start, chain, g, &mut lo, &mut hi, &mut t, out)
-}
-
-// The outline for any room.
-fn outline_widest(start: Corner, chain: &[u8], g: usize, out: &mut [u8]) -> Orthogonal
-    requires { on_grid_judged start chain.now g ≡ Good }
-    ensures { OrthogonalCall start chain.now g out.old result out.new }
-{
-    let mut lo = [Columns::BLANK; Limits::MOST_STEPS + 2];
-    let mut hi = [Columns::BLANK; Limits::MOST_STEPS + 2];
-    let mut t = [0u16; Limits::MOST_STEPS + 2];
+    let mut lo = [Columns::BLANK; N];
+    let mut hi = [Columns::BLANK; N];
+    let mut t = [0u16; N];
     outline_in(start, chain, g, &mut lo, &mut hi, &mut t, out)
 }
 
 // The same with a store that is not much larger than it needs: to clear it takes time.
-fn outline_room(start: Corner, chain: &[u8], g: usize, out: &mut [u8]) -> Orthogonal
-    requires { on_grid_judged start chain.now g ≡ Good }
+fn outline_room(start: Corner, chain: &[u8], g: usize, out: &mut [u8]) -> Result<Enclosed, Refusal>
+    requires { on_grid_judged start chain.now g ≡ Ok tt }
     ensures { OrthogonalCall start chain.now g out.old result out.new }
 {
     if chain.len() <= Columns::NARROW {
-        return outline_narrow(start, chain, g, out);
+        return outline_sized::<NARROW>(start, chain, g, out);
     }
     if chain.len() <= Columns::WIDER {
-        return outline_wider(start, chain, g, out);
+        return outline_sized::<WIDER>(start, chain, g, out);
     }
-    outline_widest(start, chain, g, out)
+    outline_sized::<WIDEST>(start, chain, g, out)
 }
 
 // Whether it is a grid size.
 fn grid_fits(grid: u32) -> bool
     ensures { result ≡ grid_fits grid }
 {
-    if grid < 1 {
-        return false;
-    }
-    grid <= Grid::MOST
+    grid >= 1 && grid <= Grid::MOST
 }
 
 // What is wrong with a start, a chain and a grid size: 1, then 10, then 22, then 4 or 6 at the first faulty place, then 12.
-fn judge(start: Corner, chain: &[u8], grid: u32) -> Judged
+fn judge(start: Corner, chain: &[u8], grid: u32) -> Result<(), Refusal>
     ensures { result ≡ on_grid_judged start chain.now grid }
 {
     if chain.len() > Limits::MOST_INPUT {
-        return Judged::Refused(Refusal::TooMany);
+        return Err(Refusal::TooMany);
     }
     if !start_fits(start) {
-        return Judged::Refused(Refusal::StartRange);
+        return Err(Refusal::StartRange);
     }
     if !grid_fits(grid) {
-        return Judged::Refused(Refusal::GridSize);
+        return Err(Refusal::GridSize);
     }
     room_judge::judge(start, chain)
 }
 
 // Writes the outline of the orthogonal hull of a room's blocks, counterclockwise from the lowest of its leftmost corners, and
 // answers how many steps it has, where it starts and how many blocks are inside. A refused call writes nothing.
-pub fn outline(start: Corner, chain: &[u8], grid: u32, out: &mut [u8]) -> Orthogonal
+pub fn outline(start: Corner, chain: &[u8], grid: u32, out: &mut [u8]) -> Result<Enclosed, Refusal>
     ensures { OrthogonalCall start chain.now grid out.old result out.new }
 {
-    match judge(start, chain, grid) {
-        Judged::Good => outline_room(start, chain, grid as usize, out),
-        Judged::Refused(r) => Orthogonal::Refused(r),
-    }
+    judge(start, chain, grid)?;
+    outline_room(start, chain, grid as usize, out)
 }

@@ -9,8 +9,11 @@ use native.Mathlib.Omega.{arith}
 use native.Mathlib.Numerals.{add-one}
 use borrow.Author.Tests.{lt-ltb, le-ltb}
 use lib.Dec.{ltb}
-use lib.ListN.{length, replicate, set, length-replicate, length-append}
+use lib.ListN.{length, replicate, set, take, drop, length-replicate, length-append, length-take, length-drop}
 use lib.Seq.{sets}
+use borrow.Rule.Slice.PartMut.{put_mid}
+use Rattle.std.proofs.lemmas.Slice.{put_mid-paste}
+use Rattle.std.proofs.lemmas.List.Edits.{sets-eq, paste_all}
 use Rattle.orthogonal_chain_laws.specs.Chain.{sideways, left_side, right_side, chain_from_row, home_row, chain_from_home, blocks_from}
 use Rattle.orthogonal_draw.specs.Sides.{descent, ascent}
 
@@ -53,24 +56,16 @@ chain_sides l r t k h =
     last : sideways (r t) (l t) ++ (3 ∷ left_side l k (t - k)) ≡ descent l (r t) k (suc (t - k))
     last = ap (λ (s : List ℕ). sideways (r t) (l t) ++ (3 ∷ s)) (left-descent l k (t - k)) ∙ ap (λ (n : ℕ). sideways (r t) (l n) ++ (3 ∷ descent l (l (k + (t - k))) k (t - k))) (sym same)
 
--- what is left of a run, from its start, after a step of it, and at its end
-pub run_start : (out : List ℕ) (at k d : ℕ) → sets out at (replicate (at + k - at) d) ≡ sets out at (replicate k d)
-run_start out at k d = ap (λ (n : ℕ). sets out at (replicate n d)) left
+-- what a fill of k places from place `at` on leaves
+pub filled : (out ys : List ℕ) (at n k d : ℕ) → n ≡ k → at + k ≤ length out → ys ≡ replicate (length (take n (drop at out))) d → put_mid at n out ys ≡ sets out at (replicate k d)
+filled out ys at n k d e h f =
+    put_mid-paste at n out ys (replicate k d) (length (replicate k d)) (f ∙ ap (λ (m : ℕ). replicate m d) size) (length-replicate k d ∙ sym e) refl
+    ∙ paste_all out at (replicate k d) (length (replicate k d)) refl
+    ∙ sym (append_assoc (take at out) (replicate k d) (drop (at + length (replicate k d)) out))
+    ∙ sym (sets-eq (replicate k d) out at (omega (arith, length-replicate k d)))
   where
-    left : at + k - at ≡ k
-    left = omega arith
-
-pub run_step : (out : List ℕ) (i end d : ℕ) (G : List ℕ) → i < end → sets out i (replicate (end - i) d) ≡ G → sets (set out i d) (i + 1) (replicate (end - (i + 1)) d) ≡ G
-run_step out i end d G h e = ap (λ (n : ℕ). sets (set out i d) n (replicate (end - (i + 1)) d)) (add-one i) ∙ ap (λ (n : ℕ). sets out i (replicate n d)) (sym left) ∙ e
-  where
-    left : end - i ≡ suc (end - (i + 1))
-    left = omega arith
-
-pub run_end : (out : List ℕ) (i end d : ℕ) (G : List ℕ) → end ≤ i → sets out i (replicate (end - i) d) ≡ G → out ≡ G
-run_end out i end d G h e = ap (λ (n : ℕ). sets out i (replicate n d)) (sym left) ∙ e
-  where
-    left : end - i ≡ 0
-    left = omega arith
+    size : length (take n (drop at out)) ≡ k
+    size = omega (arith, length-take n (drop at out), length-drop at out)
 
 -- the home row of one row more
 pub home_next : (l : ℕ → ℕ) (q home home' : ℕ) → 1 ≤ q → home < q → home ≡ home_row l (q - 1) → ((l q < l home) × (home' ≡ q)) ⊎ ((l home ≤ l q) × (home' ≡ home)) → (home' < q + 1) × (home' ≡ home_row l (q + 1 - 1))

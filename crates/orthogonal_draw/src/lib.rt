@@ -7,20 +7,16 @@ ghost use Rattle.std.proofs.lemmas.List.Edits.{sets};
 ghost use Rattle.orthogonal_chain_laws.specs.Chain.{sideways, home_row, blocks_from, chain_from_home};
 ghost use Rattle.orthogonal_draw.specs.Sides.{left_in, right_in, descent, ascent};
 
-use order::wide;
-
 // The lowest of the rows whose end is least.
 pub fn home_row(a: &[u16]) -> usize
     requires { 0 < length a.now }
     ensures { (result ≡ home_row (left_in a.now) (length a.now - 1)) × (result < length a.now) }
 {
     let mut home: usize = 0;
-    let mut q = 1;
-    while q < a.len() {
+    for q in 1..a.len() {
         if a[q] < a[home] {
             home = q;
         }
-        q += 1;
     }
     home
 }
@@ -32,10 +28,8 @@ pub fn count(lo: &[u16], hi: &[u16], span: usize) -> usize
     ensures { result ≡ blocks_from (left_in lo.now) (right_in span hi.now) 0 (length lo.now) }
 {
     let mut n: usize = 0;
-    let mut q = 0;
-    while q < lo.len() {
-        n += span - wide(hi[q]) - wide(lo[q]);
-        q += 1;
+    for (q, &west) in lo.iter().enumerate() {
+        n += span - usize::from(hi[q]) - usize::from(west);
     }
     n
 }
@@ -45,12 +39,7 @@ fn run(out: &mut [u8], at: usize, k: usize, d: u8)
     requires { at + k ≤ length out.old }
     ensures { out.new ≡ sets out.old at (replicate k d) }
 {
-    let end = at + k;
-    let mut i = at;
-    while i < end {
-        out[i] = d;
-        i += 1;
-    }
+    out[at..at + k].fill(d);
 }
 
 // Writes the steps from column x to column `to` from place `at` on, and answers where they end.
@@ -86,10 +75,8 @@ fn fall(out: &mut [u8], from: usize, x: usize, lo: &[u16], first: usize, end: us
 {
     let mut at = from;
     let mut col = x;
-    let mut q = end;
-    while q > first {
-        q -= 1;
-        let to = wide(lo[q]);
+    for q in (first..end).rev() {
+        let to = usize::from(lo[q]);
         at = leg(out, at, col, to, 3);
         col = to;
     }
@@ -106,12 +93,10 @@ fn rise(out: &mut [u8], from: usize, x: usize, hi: &[u16], span: usize) -> usize
 {
     let mut at = from;
     let mut col = x;
-    let mut q = 0;
-    while q < hi.len() {
-        let to = span - wide(hi[q]);
+    for &east in hi {
+        let to = span - usize::from(east);
         at = leg(out, at, col, to, 1);
         col = to;
-        q += 1;
     }
     at
 }
@@ -125,8 +110,8 @@ pub fn draw(lo: &[u16], hi: &[u16], span: usize, home: usize, out: &mut [u8])
     ensures { out.new ≡ sets out.old 0
         (chain_from_home (left_in lo.now) (right_in span hi.now) (length lo.now - 1)) }
 {
-    let south = fall(out, 0, wide(lo[home]), lo, 0, home);
-    let north = rise(out, south, wide(lo[0]), hi, span);
-    let east = span - wide(hi[hi.len() - 1]);
+    let south = fall(out, 0, usize::from(lo[home]), lo, 0, home);
+    let north = rise(out, south, usize::from(lo[0]), hi, span);
+    let east = span - usize::from(hi[hi.len() - 1]);
     fall(out, north, east, lo, home, lo.len());
 }

@@ -10,15 +10,13 @@ ghost use Rattle.orthogonal_laws.specs.HullRows.{least_over, hull_left};
 ghost use Rattle.orthogonal_row_laws.specs.Lanes.{lane_at, lanes_from, from_west, from_east, Ruled, EmptyBefore, EmptyFrom};
 
 use columns::{Columns, across, upward};
-use order::{greater, lesser, wide};
 
 // Row q keeps the column x if it is less.
 fn keep(a: &mut [u16], q: usize, x: usize)
     requires { (q < length a.old) × (x < 65536) }
     ensures { a.new ≡ sink a.old (q, x) }
 {
-    let before = wide(a[q]);
-    a[q] = lesser(before, x) as u16;
+    a[q] = a[q].min(x as u16);
 }
 
 // The height of the lower end of a vertical step d from height y.
@@ -26,7 +24,7 @@ fn foot(y: u16, d: u8) -> usize
     requires { 0 < y }
     ensures { result ≡ y - tally (ltb 2 d) }
 {
-    (y - (d > 2) as u16) as usize
+    usize::from(y - u16::from(d > 2))
 }
 
 // The edge of a step d from column x and height y, if it is vertical, in the lanes of its row.
@@ -62,15 +60,12 @@ pub fn gather(
 {
     let by = Columns::EAST;
     let north = Columns::NORTH;
-    let mut x = m as u32;
+    let mut x = u32::from(m);
     let mut y = m;
-    let mut i = 0;
-    while i < chain.len() {
-        let d = chain[i];
+    for &d in chain {
         mark(d, x as usize + right, y, g, up, far, lo, hi);
         x = across(x, &by, d);
         y = upward(y, &north, d);
-        i += 1;
     }
 }
 
@@ -78,6 +73,7 @@ pub fn gather(
 pub fn first_row(a: &[u16]) -> usize
     ensures { EmptyBefore a.now result }
 {
+    // no `position`: an `Option` of a reference is laid out otherwise in the module for 32-bit WebAssembly
     let mut q = 0;
     while q < a.len() {
         if a[q] != Columns::BLANK {
@@ -110,12 +106,10 @@ fn look_back(a: &mut [u16], t: &mut [u16], g: usize)
         → get_or t.new q 0 ≡ least_over (λ k. get_or a.old k 0 / g) q (length a.old - 1 - q)) }
 {
     let top = a.len() - 1;
-    let mut least = wide(a[top]) / g;
-    let mut q = a.len();
-    while q > 0 {
-        q -= 1;
-        let x = wide(a[q]) / g;
-        least = lesser(least, x);
+    let mut least = usize::from(a[top]) / g;
+    for q in (0..a.len()).rev() {
+        let x = usize::from(a[q]) / g;
+        least = least.min(x);
         a[q] = x as u16;
         t[q] = least as u16;
     }
@@ -128,12 +122,10 @@ fn settle(a: &mut [u16], t: &[u16])
     ensures { (q : ℕ) → q < length a.old
         → get_or a.new q 0 ≡ hull_left (λ k. get_or a.old k 0) (length a.old - 1) q }
 {
-    let mut least = wide(a[0]);
-    let mut q = 0;
-    while q < a.len() {
-        least = lesser(least, wide(a[q]));
-        a[q] = greater(least, wide(t[q])) as u16;
-        q += 1;
+    let mut least = a[0];
+    for q in 0..a.len() {
+        least = least.min(a[q]);
+        a[q] = least.max(t[q]);
     }
 }
 

@@ -1,5 +1,6 @@
 -- The refusals of the call, what is accepted, and that the call has one answer and leaves one buffer.
 -- Assumes nothing.
+use Rattle.std.specs.Prelude.{Err, Ok}
 use mathlib.Core.Bool.{Bool, true, false, not, ◌&&◌}
 use mathlib.Core.List.{List, [], ◌∷◌, ◌++◌}
 use mathlib.Core.Logic.{◌↔◌, ⊎_elim}
@@ -9,8 +10,10 @@ use borrow.Author.Tests.{eqb-true, eq-eqb, lt-ltb, le-ltb}
 use lib.Dec.{T, leb, ltb, leb→le, le→leb}
 use lib.IntN.{pos}
 use lib.ListN.{length, drop}
+use Rattle.orthogonal.specs.Answers.{Orthogonal}
+use Rattle.answer.specs.Answers.{Judged}
 use Rattle.int_laws.proofs.LinearLaws.{zarith, neg_nat}
-use Rattle.answer.specs.declared.{Judged.Judged, Judged.TheVariants.Good, Judged.TheVariants.Refused, Refusal.Refusal, Refusal.TheVariants.TooMany, Refusal.TheVariants.StartRange, Refusal.TheVariants.GridSize, Refusal.TheVariants.NotRoom, Refusal.TheVariants.ChainRoom}
+use Rattle.answer.specs.declared.{Refusal.Refusal, Refusal.TheVariants.TooMany, Refusal.TheVariants.StartRange, Refusal.TheVariants.GridSize, Refusal.TheVariants.NotRoom, Refusal.TheVariants.ChainRoom}
 use Rattle.answer.specs.Limits.{most_input, start_fits}
 use Rattle.answer.specs.Refusal.{when, or_else, first_of}
 use Rattle.answer.proofs.RefusalLaws.{refused_not_good, clear, clear_first, when_good, or_else-right}
@@ -24,7 +27,6 @@ use Rattle.room.proofs.RoomLaws.{is_room_exactly, judged_four}
 use Rattle.trace.specs.Verdict.{area_of}
 use Rattle.panels.specs.Inside.{edges_beside, Inside, inside, panels_inside}
 use Rattle.room_laws.proofs.RoomLaws.{room-counts, room_sign}
-use Rattle.orthogonal.specs.declared.Orthogonal.{Orthogonal}
 use Rattle.orthogonal.specs.Call.{most_grid, grid_fits, OutlinesHull, on_grid_judged, orthogonal_judged, enclosed_of, orthogonal_of, OrthogonalCall}
 use Rattle.orthogonal_laws.proofs.HullLaws.{hull_one}
 use Rattle.orthogonal_laws.proofs.OneLaws.{Outlines, outlines_one}
@@ -59,19 +61,19 @@ on_grid_split s ds g =
     ∙ ap (λ (j : Judged). first_of (when (ltb most_input (length ds)) TooMany ∷ when (not (start_fits s)) StartRange ∷ when (not (grid_fits g)) GridSize ∷ j ∷ [])) (sym (judged_four s ds))
   where
     by : (a b c d e : Judged) → first_of (a ∷ b ∷ c ∷ d ∷ e ∷ []) ≡ first_of (a ∷ b ∷ c ∷ first_of (a ∷ b ∷ d ∷ e ∷ []) ∷ [])
-    by (Refused q) b c d e = refl
-    by Good (Refused q) c d e = refl
-    by Good Good c d e = ap (or_else c) (sym (or_else-right (or_else d (or_else e Good))))
+    by (Err q) b c d e = refl
+    by (Ok _) (Err q) c d e = refl
+    by (Ok _) (Ok _) c d e = ap (or_else c) (sym (or_else-right (or_else d (or_else e (Ok tt)))))
 
 -- each of them alone
 module _ (s : Corner) (ds : List ℕ) (g : ℕ) where
-  pub on_grid_many : most_input < length ds → on_grid_judged s ds g ≡ Refused TooMany
+  pub on_grid_many : most_input < length ds → on_grid_judged s ds g ≡ Err TooMany
   on_grid_many h = rw (lt-ltb most_input (length ds) h)
 
-  pub on_grid_range : length ds ≤ most_input → start_fits s ≡ false → on_grid_judged s ds g ≡ Refused StartRange
+  pub on_grid_range : length ds ≤ most_input → start_fits s ≡ false → on_grid_judged s ds g ≡ Err StartRange
   on_grid_range h e = rw (le-ltb most_input (length ds) h, e)
 
-  pub on_grid_size : length ds ≤ most_input → start_fits s ≡ true → grid_fits g ≡ false → on_grid_judged s ds g ≡ Refused GridSize
+  pub on_grid_size : length ds ≤ most_input → start_fits s ≡ true → grid_fits g ≡ false → on_grid_judged s ds g ≡ Err GridSize
   on_grid_size h e f = on_grid_split s ds g ∙ rw (le-ltb most_input (length ds) h, e, f)
 
   -- with a grid size, those of a room
@@ -82,7 +84,7 @@ module _ (s : Corner) (ds : List ℕ) (g : ℕ) where
       four = ap (λ (b : Bool). first_of (when (ltb most_input (length ds)) TooMany ∷ when (not (start_fits s)) StartRange ∷ when (not b) GridSize ∷ chain_judged 0 ds ∷ when (not (is_room s ds)) NotRoom ∷ [])) e
 
 -- what is accepted is a room, with a grid size
-pub on_grid_good : (s : Corner) (ds : List ℕ) (g : ℕ) → on_grid_judged s ds g ≡ Good → (as_room_judged s ds ≡ Good) × (grid_fits g ≡ true)
+pub on_grid_good : (s : Corner) (ds : List ℕ) (g : ℕ) → on_grid_judged s ds g ≡ Ok tt → (as_room_judged s ds ≡ Ok tt) × (grid_fits g ≡ true)
 on_grid_good s ds g e =
     let many = when (ltb most_input (length ds)) TooMany in
     let range = when (not (start_fits s)) StartRange in
@@ -108,12 +110,12 @@ within_grid g h k = ap₂ ◌&&◌ (yes_le 1 g h) (yes_le g most_grid k)
 
 module _ (s : Corner) (ds : List ℕ) (g room n : ℕ) where
   -- what is refused is so whatever the buffer
-  orthogonal_refused : (q : Refusal) → on_grid_judged s ds g ≡ Refused q → orthogonal_judged s ds g room n ≡ Refused q
-  orthogonal_refused q e = ap (λ (j : Judged). or_else j (or_else (when (ltb room n) ChainRoom) Good)) e
+  orthogonal_refused : (q : Refusal) → on_grid_judged s ds g ≡ Err q → orthogonal_judged s ds g room n ≡ Err q
+  orthogonal_refused q e = ap (λ (j : Judged). or_else j (or_else (when (ltb room n) ChainRoom) (Ok tt))) e
 
   -- and what is not, by its buffer alone
-  orthogonal_last : on_grid_judged s ds g ≡ Good → orthogonal_judged s ds g room n ≡ when (ltb room n) ChainRoom
-  orthogonal_last e = ap (λ (j : Judged). or_else j (or_else (when (ltb room n) ChainRoom) Good)) e ∙ or_else-right (when (ltb room n) ChainRoom)
+  orthogonal_last : on_grid_judged s ds g ≡ Ok tt → orthogonal_judged s ds g room n ≡ when (ltb room n) ChainRoom
+  orthogonal_last e = ap (λ (j : Judged). or_else j (or_else (when (ltb room n) ChainRoom) (Ok tt))) e ∙ or_else-right (when (ltb room n) ChainRoom)
 
 -- ---- the call
 
@@ -122,7 +124,7 @@ module _ (s : Corner) (ds : List ℕ) (g : ℕ) (before : List ℕ) where
   judged_by es = orthogonal_judged s ds g (length before) (length es)
 
   -- a refused call
-  pub refused_call : (q : Refusal) → on_grid_judged s ds g ≡ Refused q → OrthogonalCall s ds g before (Orthogonal.Refused q) before
+  pub refused_call : (q : Refusal) → on_grid_judged s ds g ≡ Err q → OrthogonalCall s ds g before (Err q) before
   refused_call q e =
       let j = orthogonal_refused s ds g (length before) 0 q e in
       record {
@@ -133,7 +135,7 @@ module _ (s : Corner) (ds : List ℕ) (g : ℕ) (before : List ℕ) where
         buffer = sym (ap (λ (k : Judged). laid_if k [] before) j);
       }
 
-  module _ (start : Corner) (steps : List ℕ) (e : on_grid_judged s ds g ≡ Good) (o : OutlinesHull s ds g start steps) where
+  module _ (start : Corner) (steps : List ℕ) (e : on_grid_judged s ds g ≡ Ok tt) (o : OutlinesHull s ds g start steps) where
     by-room : (b : Bool) → ltb (length before) (length steps) ≡ b → OrthogonalCall s ds g before (orthogonal_of (when b ChainRoom) start steps) (laid_if (when b ChainRoom) steps before)
     by-room b t =
         let j = orthogonal_last s ds g (length before) (length steps) e ∙ ap (λ (x : Bool). when x ChainRoom) t in
@@ -146,11 +148,11 @@ module _ (s : Corner) (ds : List ℕ) (g : ℕ) (before : List ℕ) where
         }
 
     -- a buffer that is too short
-    pub short_call : length before < length steps → OrthogonalCall s ds g before (Orthogonal.Refused ChainRoom) before
+    pub short_call : length before < length steps → OrthogonalCall s ds g before (Err ChainRoom) before
     short_call h = by-room true (lt-ltb (length before) (length steps) h)
 
     -- and one that is not
-    pub outlined_call : length steps ≤ length before → OrthogonalCall s ds g before (Orthogonal.Outlined (enclosed_of start steps)) (steps ++ drop (length steps) before)
+    pub outlined_call : length steps ≤ length before → OrthogonalCall s ds g before (Ok (enclosed_of start steps)) (steps ++ drop (length steps) before)
     outlined_call h = by-room false (le-ltb (length before) (length steps) h)
 
   -- one answer, and one state of the buffer
@@ -158,12 +160,12 @@ module _ (s : Corner) (ds : List ℕ) (g : ℕ) (before : List ℕ) where
   orthogonal_call_one {r} {r'} {after} {after'} w w' = by (on_grid_judged s ds g) refl
     where
       by : (j : Judged) → on_grid_judged s ds g ≡ j → (r ≡ r') × (after ≡ after')
-      by Good e =
+      by (Ok _) e =
           let k = outlines_hull_one w.start w.steps w'.start w'.steps (w.outline e) (w'.outline e) in (
             w.answer ∙ ap₂ (λ (c : Corner) (es : List ℕ). orthogonal_of (judged_by es) c es) k.0 k.1 ∙ sym w'.answer,
             w.buffer ∙ ap (λ (es : List ℕ). laid_if (judged_by es) es before) k.1 ∙ sym w'.buffer,
           )
-      by (Refused q) e =
+      by (Err q) e =
           let a = orthogonal_refused s ds g (length before) (length w.steps) q e in
           let a' = orthogonal_refused s ds g (length before) (length w'.steps) q e in (
             w.answer ∙ ap (λ (k : Judged). orthogonal_of k w.start w.steps) a ∙ sym (w'.answer ∙ ap (λ (k : Judged). orthogonal_of k w'.start w'.steps) a'),

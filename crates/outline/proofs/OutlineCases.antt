@@ -1,11 +1,12 @@
 -- Outlines of small walks, computed.
 -- Assumes nothing.
+use Rattle.std.specs.Prelude.{Err, Ok}
 use mathlib.Core.Bool.{true, false}
 use mathlib.Core.List.{[], ◌∷◌}
 use mathlib.Core.Path.{◌≡◌, refl}
 use lib.IntN.{pos, negsuc}
 use Rattle.grid.specs.Grid.{corner, origin}
-use Rattle.answer.specs.declared.{Judged.TheVariants.Good, Judged.TheVariants.Refused, Refusal.TheVariants.StartRange, Refusal.TheVariants.BadDigit, Refusal.TheVariants.OutlineRoom}
+use Rattle.answer.specs.declared.{Refusal.TheVariants.StartRange, Refusal.TheVariants.BadDigit, Refusal.TheVariants.OutlineRoom}
 use Rattle.outline.specs.Outline.{walked, home_of, onward, is_done}
 use Rattle.outline.specs.Call.{outline_judged}
 use Rattle.outline.specs.Computed.{outline_of}
@@ -67,14 +68,14 @@ first_return = refl
 
 -- a buffer of one byte is one too short for a step there and back; what is wrong with the digits is judged first, and what is
 -- wrong with the start before that
-one_byte_short : outline_judged origin (0 ∷ []) 1 2 ≡ Refused OutlineRoom
+one_byte_short : outline_judged origin (0 ∷ []) 1 2 ≡ Err OutlineRoom
 one_byte_short = refl
 
-just_enough : outline_judged origin (0 ∷ []) 2 2 ≡ Good
+just_enough : outline_judged origin (0 ∷ []) 2 2 ≡ Ok tt
 just_enough = refl
 
-digit_first : outline_judged origin (0 ∷ 4 ∷ []) 0 4 ≡ Refused (BadDigit 1)
+digit_first : outline_judged origin (0 ∷ 4 ∷ []) 0 4 ≡ Err (BadDigit 1)
 digit_first = refl
 
-start_first : outline_judged (corner (pos 16385) (pos 0)) (4 ∷ []) 0 2 ≡ Refused StartRange
+start_first : outline_judged (corner (pos 16385) (pos 0)) (4 ∷ []) 0 2 ≡ Err StartRange
 start_first = refl

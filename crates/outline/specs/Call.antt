@@ -1,7 +1,8 @@
 -- What the outline's call answers, and what it leaves in the buffer (RULES 15.5, 15.6). Assumes nothing.
 use Rattle.std.specs.Prelude.{◌≡◌, List, [], ◌∷◌, length, ℕ, ltb}
+use Rattle.answer.specs.Answers.{Counted, Judged}
 use Rattle.grid.specs.declared.Corner.{Corner}
-use Rattle.answer.specs.declared.{Judged.Judged, Refusal.TheVariants.OutlineRoom, Counted.Counted}
+use Rattle.answer.specs.declared.{Refusal.TheVariants.OutlineRoom}
 use Rattle.answer.specs.{Refusal.when, Refusal.first_of, Listed.counted_of, Listed.laid_if}
 use Rattle.steps.specs.Chain.{as_walk_judged}
 use Rattle.outline.specs.Outline.{OutlineIs}

@@ -1,7 +1,8 @@
 -- What is done with a chain that is not refused, wherever the walk starts. Assumes nothing.
 use Rattle.std.specs.Prelude.{◌≡◌, Bool, List, ℕ, ◌*◌, ◌<◌, ◌≤◌, ltb, length, get_or}
+use Rattle.answer.specs.Answers.{Counted}
 use Rattle.grid.specs.declared.Corner.{Corner}
-use Rattle.answer.specs.declared.{Counted.Counted, Refusal.TheVariants.OutlineRoom}
+use Rattle.answer.specs.declared.{Refusal.TheVariants.OutlineRoom}
 use Rattle.answer.specs.{Limits.most_steps, Refusal.when, Listed.counted_of, Listed.laid_if}
 use Rattle.outline.specs.Computed.{outline_of}
 use Rattle.box_walk.specs.Boxed.{Boxed}

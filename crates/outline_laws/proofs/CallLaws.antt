@@ -1,11 +1,13 @@
 -- The refusals of the outline's call in their order, and that it has one answer.
 -- Assumes nothing.
+use Rattle.std.specs.Prelude.{Err, Ok}
 use mathlib.Core.List.{List}
 use mathlib.Core.Path.{◌≡◌, refl, sym, ap, ◌∙◌}
 use Prim.Native.Nat.{ℕ}
 use lib.Dec.{ltb}
 use lib.ListN.{length}
-use Rattle.answer.specs.declared.{Judged.Judged, Judged.TheVariants.Good, Judged.TheVariants.Refused, Refusal.Refusal, Refusal.TheVariants.OutlineRoom, Counted.Counted}
+use Rattle.answer.specs.Answers.{Counted, Judged}
+use Rattle.answer.specs.declared.{Refusal.Refusal, Refusal.TheVariants.OutlineRoom}
 use Rattle.answer.specs.Refusal.{when}
 use Rattle.answer.specs.Listed.{counted_of, laid_if}
 use Rattle.answer.proofs.RefusalLaws.{first_refused, first-last}
@@ -16,10 +18,10 @@ use Rattle.outline.specs.Computed.{outline_of}
 use Rattle.outline_laws.proofs.OutlineLaws.{outline_of-is, outline_is_one}
 
 module _ (s : Corner) (ds : List ℕ) (room n : ℕ) where
-  pub judged_refused : (r : Refusal) → as_walk_judged s ds ≡ Refused r → outline_judged s ds room n ≡ Refused r
+  pub judged_refused : (r : Refusal) → as_walk_judged s ds ≡ Err r → outline_judged s ds room n ≡ Err r
   judged_refused r e = first_refused (as_walk_judged s ds) (when (ltb room n) OutlineRoom) r e
 
-  pub judged-last : as_walk_judged s ds ≡ Good → outline_judged s ds room n ≡ when (ltb room n) OutlineRoom
+  pub judged-last : as_walk_judged s ds ≡ Ok tt → outline_judged s ds room n ≡ when (ltb room n) OutlineRoom
   judged-last e = first-last (as_walk_judged s ds) (when (ltb room n) OutlineRoom) e
 
 -- every call has an answer
@@ -40,7 +42,7 @@ outline_call_one {s} {ds} {before} p q = (
     one = outline_is_one p.outline q.outline
 
 -- a refused call leaves the buffer as it was
-pub call_refused : (s : Corner) (ds before : List ℕ) (r : Refusal) → as_walk_judged s ds ≡ Refused r → OutlineCall s ds before (Counted.Refused r) before
+pub call_refused : (s : Corner) (ds before : List ℕ) (r : Refusal) → as_walk_judged s ds ≡ Err r → OutlineCall s ds before (Err r) before
 call_refused s ds before r e =
     let es = outline_of s ds in
     let j = judged_refused s ds (length before) (length es) r e in

@@ -8,15 +8,8 @@ use native.Mathlib.Numerals.{add-one}
 use native.Mathlib.Omega.{arith}
 use lib.ListN.{get_or, set}
 use Rattle.grid.specs.Grid.{back}
-use Rattle.outline_laws.specs.Keys.{key_after}
 use Rattle.outline_roster.specs.Tree.{Seated}
 use Rattle.outline_links.specs.Store.{StepLinked}
-
-pub key_south : (k d : ℕ) → (d ≡ 0 → ⊥) → (d ≡ 1 → ⊥) → (d ≡ 2 → ⊥) → k - 1 ≡ key_after k d
-key_south k zero a b c = absurd (a refl)
-key_south k (suc zero) a b c = absurd (b refl)
-key_south k (suc (suc zero)) a b c = absurd (c refl)
-key_south k (suc (suc (suc d))) a b c = refl
 
 module _ (keys kids links : List ℕ) (used node k d l : ℕ) (e : l ≡ get_or links (4 * node + d) 0) where
   pub along_link : (l ≡ 0 → ⊥) → StepLinked keys kids links used node k d keys kids links (l - 1) used

@@ -1,5 +1,6 @@
 -- The store while a walk is read: from the blank store, step by step, to the whole walk.
 -- Assumes nothing.
+use Rattle.std.specs.Prelude.{Ok}
 use mathlib.Core.Bool.{Bool, true, false, cond}
 use mathlib.Core.List.Memᴰ
 use mathlib.Core.List.{List, [], ◌∷◌, ◌++◌, Memᴰ}
@@ -8,7 +9,7 @@ use mathlib.Core.Path.{◌≡◌, refl, ap, sym, ◌∙◌, subst}
 use Prim.Native.Nat.{ℕ, zero, suc, ◌+◌, ◌*◌, ◌<◌, ◌≤◌}
 use native.Mathlib.Numerals.{add-one}
 use native.Mathlib.Omega.{arith}
-use borrow.Author.Tests.{eq-eqb, ltb-true, ltb-false}
+use borrow.Author.Tests.{eq-eqb, lt-ltb, le-ltb, ltb-true, ltb-false}
 use lib.Dec.{ltb}
 use lib.ListN.{length, get_or, set, take, length-map, length-set}
 use lib.Seq.{take-suc, take-suc-set, take-length, length-take-le}
@@ -24,7 +25,6 @@ use Rattle.outline_laws.specs.Links.{Linked}
 use Rattle.outline_laws.proofs.HomeLaws.{home_one}
 use Rattle.outline_laws.proofs.KeyLaws.{Close, corner_close, key_start, key_step, key_begins, key_small, key_large, end_close}
 use Rattle.outline_laws.proofs.LinkLaws.{ws_visited, ws-old, ws-more}
-use Rattle.outline_roster.specs.declared.Sought.TheVariants.{Node}
 use Rattle.outline_roster.specs.Tree.{seek_from}
 use Rattle.outline_links.specs.Store.{RoomForMore, StepLinked}
 use Rattle.outline_links.specs.Built.{Blank, WalkStored, Least, Built}
@@ -61,10 +61,10 @@ module _ (c : Corner) (chain keys kids links : List ℕ) (b : Blank chain keys k
     here = refl;
   }
     where
-      at : (x : ℕ) → get_or (set keys 0 536903680) 0 0 ≡ x → seek_from 1 (set keys 0 536903680) kids x 0 x ≡ Node 0
+      at : (x : ℕ) → get_or (set keys 0 536903680) 0 0 ≡ x → seek_from 1 (set keys 0 536903680) kids x 0 x ≡ Ok 0
       at x e = rw (eq-eqb (get_or (set keys 0 536903680) 0 0) x e, seek_from)
 
-      only : (j : ℕ) → j < 1 → seek_from 1 (set keys 0 536903680) kids (get_or (set keys 0 536903680) j 0) 0 (get_or (set keys 0 536903680) j 0) ≡ Node j
+      only : (j : ℕ) → j < 1 → seek_from 1 (set keys 0 536903680) kids (get_or (set keys 0 536903680) j 0) 0 (get_or (set keys 0 536903680) j 0) ≡ Ok j
       only zero h = at (get_or (set keys 0 536903680) 0 0) refl
       only (suc j) h = absurd (omega arith)
 
@@ -166,17 +166,19 @@ module _ (c : Corner) (chain keys kids links : List ℕ) (k least home used node
       low = subst (λ (l : List ℕ). Least c l (cond (ltb k' least) node' home) (cond (ltb k' least) k' least)) (sym next-take) (least_step c ds d (b.sized.digits i) keys' kids' links' used' node' stored home least k' ek' b.low);
     }
 
+-- one of two numbers, as the code has chosen it
+pub first_of : (k least b : ℕ) {a x : ℕ} → k < least → x ≡ a → x ≡ cond (ltb k least) a b
+first_of k least b {a} h e = e ∙ sym (ap (λ (t : Bool). cond t a b) (lt-ltb k least h))
+
+pub second_of : (k least a : ℕ) {b x : ℕ} → least ≤ k → x ≡ b → x ≡ cond (ltb k least) a b
+second_of k least a {b} h e = e ∙ sym (ap (λ (t : Bool). cond t a b) (le-ltb k least h))
+
 -- the same with what the code has at the end of a turn
 pub building_next : (c : Corner) (chain keys kids links : List ℕ) (k least home used node i : ℕ) → Building c chain keys kids links k least home used node i → i < length chain → {k' : ℕ} → k' ≡ key_after k (get_or chain i 0)
     → {keys' kids' links' : List ℕ} {node' used' : ℕ} → StepLinked keys kids links used node k' (get_or chain i 0) keys' kids' links' node' used' → {least' home' : ℕ} → least' ≡ cond (ltb k' least) k' least → home' ≡ cond (ltb k' least) node' home
-    → Building c chain keys' kids' links' k' least' home' used' node' (i + 1) × (length keys' ≡ length keys)
+    → Building c chain keys' kids' links' k' least' home' used' node' (i + 1)
 building_next c chain keys kids links k least home used node i b h {k'} ek {keys'} {kids'} {links'} {node'} {used'} a {least'} {home'} el eh =
-    let t = building_step c chain keys kids links k least home used node i b h k' ek keys' kids' links' node' used' a in
-    (rw (el, eh, add-one i) t, (sizes c chain keys kids links k least home used node i b h k' ek keys' kids' links' node' used' a).0)
-
--- the sizes of the store, from that of the keys
-pub building_sizes : (c : Corner) (chain keys kids links : List ℕ) (k least home used node i : ℕ) → Building c chain keys kids links k least home used node i → (length kids ≡ 2 * length keys) × (length links ≡ 4 * length keys)
-building_sizes c chain keys kids links k least home used node i b = (b.store.tree.pairs, b.sized.words)
+    rw (el, eh, add-one i) (building_step c chain keys kids links k least home used node i b h k' ek keys' kids' links' node' used' a)
 
 -- the whole walk
 pub building_end : (c : Corner) (chain keys kids links : List ℕ) (k least home used node i : ℕ) → Building c chain keys kids links k least home used node i → length chain ≤ i → Built c chain links home

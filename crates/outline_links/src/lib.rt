@@ -2,7 +2,7 @@
 // each direction. Each is 1 + the number of the corner that a walked edge leads to, or 0.
 #![tactic(auto)]
 
-ghost use Rattle.std.specs.Prelude.{◌≡◌, cond, ◌+◌, ◌*◌, ◌<◌, ◌≤◌, ltb};
+ghost use Rattle.std.specs.Prelude.{◌≡◌, ◌+◌, ◌*◌, ◌<◌, ◌≤◌};
 ghost use Rattle.grid.specs.declared.Corner.{Corner};
 ghost use Rattle.grid.specs.Grid.{back};
 ghost use Rattle.outline_laws.specs.Keys.{column_rows, key_after};
@@ -10,11 +10,13 @@ ghost use Rattle.outline_links.specs.Store.{StepLinked, RoomForMore};
 ghost use Rattle.outline_links.specs.Built.{Blank, Built};
 
 use answer::Limits;
-use order::wide;
 use outline_roster::{Seat, enter};
 
 // The rows of a column: the start's, and as many before and after it as a walk has steps.
 const ROWS: u32 = 2 * Limits::MOST_STEPS as u32 + 1;
+
+// The key of the start, which stands in the middle row of the middle column.
+const START: u32 = (ROWS + 1) * Limits::MOST_STEPS as u32;
 
 // The direction back.
 fn opposite(d: u8) -> u8
@@ -29,16 +31,12 @@ fn key_after(k: u32, d: u8) -> u32
     requires { (column_rows ≤ k) × (k < column_rows * column_rows) }
     ensures { result ≡ key_after k d }
 {
-    if d == 0 {
-        return k + ROWS;
+    match d {
+        0 => k + ROWS,
+        1 => k + 1,
+        2 => k - ROWS,
+        _ => k - 1,
     }
-    if d == 1 {
-        return k + 1;
-    }
-    if d == 2 {
-        return k - ROWS;
-    }
-    k - 1
 }
 
 // One step in direction d, from corner `node` to the corner with the key k: along a link, or with the two words of a new one.
@@ -55,38 +53,16 @@ fn advance(
     ensures { StepLinked keys.old kids.old links.old used node k d keys.new
         kids.new links.new result.node result.used }
 {
-    let at = 4 * node + d as usize;
-    let l = wide(links[at]);
+    let at = 4 * node + usize::from(d);
+    let l = usize::from(links[at]);
     if l != 0 {
-        return Seat {
-            node: l - 1,
-            used: used,
-        };
+        return Seat { node: l - 1, used };
     }
     let s = enter(keys, kids, used, k);
-    let to = 4 * s.node + opposite(d) as usize;
+    let to = 4 * s.node + usize::from(opposite(d));
     links[at] = (s.node + 1) as u16;
     links[to] = (node + 1) as u16;
     s
-}
-
-fn lesser(k: u32, least: u32) -> u32
-    ensures { result ≡ cond (ltb k least) k least }
-{
-    if k < least {
-        return k;
-    }
-    least
-}
-
-// The number that goes with the lesser key.
-fn lower(k: u32, least: u32, node: usize, home: usize) -> usize
-    ensures { result ≡ cond (ltb k least) node home }
-{
-    if k < least {
-        return node;
-    }
-    home
 }
 
 // The corners of a walk and their links, wherever it starts. It answers the number of the lowest of the leftmost corners.
@@ -94,22 +70,21 @@ pub fn build(chain: &[u8], keys: &mut [u32], kids: &mut [u16], links: &mut [u16]
     requires { Blank chain.now keys.old kids.old links.old }
     ensures { (c : Corner) → Built c chain.now links.new result }
 {
-    let mut k: u32 = 536903680;
+    let mut k = START;
     keys[0] = k;
     let mut least = k;
     let mut home = 0;
     let mut used = 1;
     let mut node = 0;
-    let mut i = 0;
-    while i < chain.len() {
-        let d = chain[i];
+    for &d in chain {
         k = key_after(k, d);
         let s = advance(keys, kids, links, used, node, k, d);
         used = s.used;
         node = s.node;
-        home = lower(k, least, node, home);
-        least = lesser(k, least);
-        i += 1;
+        if k < least {
+            least = k;
+            home = node;
+        }
     }
     home
 }

@@ -1,9 +1,8 @@
 -- The outline place by place: where the path stands after n steps, as a place and a direction.
 -- Assumes nothing.
-use Rattle.std.proofs.Common.{◌≡◌, ℕ, zero, suc, ◌+◌, ◌*◌, ◌%◌, ◌^◌, ◌<◌, ◌≤◌, Bool, true, false, cond, not, ◌&&◌, eqb, ltb, leb, List, [], ◌∷◌, ◌++◌, length, get_or, drop, set, sym, refl, ap, ◌∙◌, ap₂, add-one, arith, le-ltb, lt-ltb, le-leb}
+use Rattle.std.proofs.Common.{◌≡◌, ℕ, zero, suc, ◌+◌, ◌*◌, ◌%◌, ◌^◌, ◌<◌, ◌≤◌, Bool, true, false, cond, not, ◌&&◌, eqb, ltb, List, [], ◌∷◌, ◌++◌, length, get_or, drop, set, sym, refl, ap, ◌∙◌, ap₂, add-one, arith, le-ltb}
 use mathlib.Core.List.{Memᴰ}
 use native.Mathlib.Decide.{dec_lt}
-use borrow.Author.Tests.{lt-leb}
 use Rattle.answer.specs.Limits.{most_steps}
 use Rattle.grid.specs.declared.Corner.{Corner}
 use Rattle.grid.specs.Grid.{origin, stepped, corners_from}
@@ -154,13 +153,6 @@ module _ (chain by map : List ℕ) (home first : ℕ) (r : MapRing chain by map 
   -- it fits if there are two steps for each of the walk's
   pub fits_surely : (room : ℕ) → 2 * length chain ≤ room → (c : Corner) → true ≡ not (ltb room (length (outline_of c chain)))
   fits_surely room h c = sym (ap not (le-ltb room (length (outline_of c chain)) (omega (arith, h, (round c chain r.some).few))))
-
-  pub fits_counted : (room n : ℕ) → Long chain n → (c : Corner) → leb n room ≡ not (ltb room (length (outline_of c chain)))
-  fits_counted room n l c =
-      elim (dec_lt room n) [
-        | yes h ↦ lt-leb n room h ∙ sym (ap not (lt-ltb room (length (outline_of c chain)) (omega (arith, l c))))
-        | no h ↦ le-leb n room (omega arith) ∙ sym (ap not (le-ltb room (length (outline_of c chain)) (omega (arith, l c))))
-      ]
 
 -- the map of a walk with steps makes a ring
 pub map-ring : (chain by map : List ℕ) (home first : ℕ) → 0 < length chain → length chain ≤ most_steps → length by ≡ 4 → ((c : Corner) → Mapped c chain by map home) → first ≡ cond (way_on (get_or map home 0) 0) 0 1 → MapRing chain by map home first

@@ -10,7 +10,6 @@ ghost use Rattle.outline_path.specs.Ring.{Long, Written};
 ghost use Rattle.outline_map.specs.Map.{way_on, MapBlank, Mapped};
 ghost use Rattle.outline_map.specs.Ring.{MapRing, Fits, FitsBy};
 
-use order::lesser;
 use outline_path::away;
 
 // The bit of a way.
@@ -42,7 +41,7 @@ fn go(by: &[usize], b: usize, d: u8) -> usize
     requires { d < length by.now }
     ensures { result ≡ (b + slice_index by.now d) % 2 ^ 64 }
 {
-    std::num::wrapping_add_usize(b, by[d as usize])
+    b.wrapping_add(by[usize::from(d)])
 }
 
 // The place of the start if places go column after column, from its place if they go row after row.
@@ -62,16 +61,13 @@ pub fn mark(chain: &[u8], from: usize, by: &[usize], map: &mut [u8]) -> usize
     let mut b = from;
     let mut home = from;
     let mut last = 0;
-    let mut i = 0;
-    while i < chain.len() {
-        let d = chain[i];
+    for &d in chain {
         map[b] = map[b] | last | bit(d);
         b = go(by, b, d);
-        home = lesser(home, b);
+        home = home.min(b);
         last = bit_back(d);
-        i += 1;
     }
-    map[b] = map[b] | last;
+    map[b] |= last;
     home
 }
 
@@ -99,10 +95,7 @@ pub fn first_way(map: &[u8], home: usize) -> u8
     requires { home < length map.now }
     ensures { result ≡ (if way_on (slice_index map.now home) 0 then 0 else 1) }
 {
-    if has(map[home], 0) {
-        return 0;
-    }
-    1
+    if has(map[home], 0) { 0 } else { 1 }
 }
 
 // How many steps the outline has.
@@ -127,10 +120,7 @@ pub fn fits(chain: &[u8], by: &[usize], map: &[u8], home: usize, first: u8, size
     requires { MapRing chain.now by.now map.now home first }
     ensures { FitsBy chain.now size result }
 {
-    if 2 * chain.len() <= size {
-        return true;
-    }
-    count(chain, by, map, home, first) <= size
+    2 * chain.len() <= size || count(chain, by, map, home, first) <= size
 }
 
 // Writes the outline into a buffer that is long enough, and answers how many steps it has.

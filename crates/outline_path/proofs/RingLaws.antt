@@ -9,7 +9,7 @@ use native.Mathlib.Omega.{arith}
 use native.Mathlib.Numerals.{add-one}
 use borrow.Author.Tests.{lt-ltb, le-ltb, eqb-true, eq-eqb}
 use lib.Dec.{eqb}
-use lib.ListN.{length, get_or, set, drop, length-append, length-drop}
+use lib.ListN.{length, get_or, set, drop}
 use lib.Seq.{drop-cons, set_at}
 use Rattle.answer.specs.Limits.{most_steps}
 use Rattle.lists.specs.Lists.{find}
@@ -211,9 +211,6 @@ module _ (chain links : List ℕ) (home first : ℕ) (r : RingStore chain links 
   writing_start = record { at = λ c. at-start c chain links home first r; written = λ c. refl }
 
   module _ (out : List ℕ) (k i d : ℕ) (w : Writing chain before out k i d) where
-    pub writing_length : k ≤ length before → length out ≡ length before
-    writing_length h = ap length (w.written origin) ∙ length-append (path_from_home origin chain k) (drop k before) ∙ omega (arith, length_path origin chain k (home_of origin chain) (first_way origin chain), length-drop k before)
-
     pub writing_next : k < length before → (j e : ℕ) → j ≡ get_or links (4 * i + d) 0 - 1 → e ≡ onward (ways_at links j) d → Writing chain before (set out k d) (k + 1) j e
     writing_next h j e ej ee = rw (add-one k) (record { at = λ c. at_next c chain links home first r k i d (w.at c) j e ej ee; written = λ c. written_next c chain before out k d h (ap (λ (y : Way). y.1) (w.at c).way) (w.written c) })
 

@@ -6,14 +6,12 @@ ghost use Rattle.answer.specs.Limits.{most_steps};
 ghost use Rattle.outline.specs.Outline.{onward};
 ghost use Rattle.outline_path.specs.Ring.{ways_at, RingStore, Long, Written};
 
-use order::wide;
-
 // Whether the edge of corner i in direction e was walked.
 fn leads(links: &[u16], i: usize, e: u8) -> bool
     requires { (4 * i + 3 < length links.now) × (e < 4) × (i ≤ most_steps) }
     ensures { result ≡ ways_at links.now i e }
 {
-    links[4 * i + e as usize] > 0
+    links[4 * i + usize::from(e)] > 0
 }
 
 // The direction by which the path goes on from corner i, if it came by d.
@@ -40,17 +38,14 @@ fn follow(links: &[u16], i: usize, d: u8) -> usize
     requires { (4 * i + 3 < length links.now) × (d < 4) × (i ≤ most_steps) × (0 < get_or links.now (4 * i + d) 0) }
     ensures { result ≡ get_or links.now (4 * i + d) 0 - 1 }
 {
-    wide(links[4 * i + d as usize]) - 1
+    usize::from(links[4 * i + usize::from(d)]) - 1
 }
 
 // Whether this is another way than the first.
 pub fn away(i: usize, d: u8, home: usize, first: u8) -> bool
     ensures { result ≡ not (eqb i home && eqb d first) }
 {
-    if i != home {
-        return true;
-    }
-    d != first
+    i != home || d != first
 }
 
 // How many steps the outline has.
@@ -62,9 +57,8 @@ pub fn count(chain: &[u8], links: &[u16], home: usize, first: u8) -> usize
     let mut d = turn(links, i, first);
     let mut n = 1;
     while away(i, d, home, first) {
-        let j = follow(links, i, d);
-        d = turn(links, j, d);
-        i = j;
+        i = follow(links, i, d);
+        d = turn(links, i, d);
         n += 1;
     }
     n
@@ -77,13 +71,10 @@ pub fn put(chain: &[u8], links: &[u16], home: usize, first: u8, n: usize, out: &
 {
     let mut i = home;
     let mut d = first;
-    let mut k = 0;
-    while k < n {
+    for k in 0..n {
         out[k] = d;
-        let j = follow(links, i, d);
-        d = turn(links, j, d);
-        i = j;
-        k += 1;
+        i = follow(links, i, d);
+        d = turn(links, i, d);
     }
 }
 
@@ -92,8 +83,5 @@ pub fn first_way(links: &[u16], home: usize) -> u8
     requires { (4 * home + 3 < length links.now) × (home ≤ most_steps) }
     ensures { result ≡ cond (ways_at links.now home 0) 0 1 }
 {
-    if leads(links, home, 0) {
-        return 0;
-    }
-    1
+    if leads(links, home, 0) { 0 } else { 1 }
 }

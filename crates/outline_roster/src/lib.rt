@@ -4,17 +4,7 @@
 #![tactic(auto)]
 
 ghost use Rattle.std.specs.Prelude.{◌≡◌, ◌*◌, ◌%◌, ◌<◌, length};
-ghost use Rattle.outline_roster.specs.declared.Sought.{Sought};
 ghost use Rattle.outline_roster.specs.Tree.{seek_from, Tree, Seated};
-
-use order::wide;
-
-// Where the way down ends: at the node of the key, or at a child that is not there.
-#[derive(Clone, Copy)]
-pub enum Sought {
-    Node(usize),
-    Free(usize),
-}
 
 // The node of a key, and how many nodes there are then.
 #[derive(Clone, Copy)]
@@ -30,7 +20,7 @@ fn digit(r: u32) -> usize
 }
 
 // The way down to the key k among `used` nodes.
-fn seek(keys: &[u32], kids: &[u16], used: usize, k: u32) -> Sought
+fn seek(keys: &[u32], kids: &[u16], used: usize, k: u32) -> Result<usize, usize>
     requires { Tree keys.now kids.now used }
     ensures { result ≡ seek_from used keys.now kids.now k 0 k }
 {
@@ -38,14 +28,14 @@ fn seek(keys: &[u32], kids: &[u16], used: usize, k: u32) -> Sought
     let mut r = k;
     while keys[i] != k {
         let at = 2 * i + digit(r);
-        let c = wide(kids[at]);
+        let c = usize::from(kids[at]);
         if c == 0 {
-            return Sought::Free(at);
+            return Err(at);
         }
         i = c;
-        r = r / 2;
+        r /= 2;
     }
-    Sought::Node(i)
+    Ok(i)
 }
 
 // The node of the key k, which is made if it is not there yet.
@@ -54,11 +44,8 @@ pub fn enter(keys: &mut [u32], kids: &mut [u16], used: usize, k: u32) -> Seat
     ensures { Seated keys.old used k keys.new kids.new result.node result.used }
 {
     match seek(keys, kids, used, k) {
-        Sought::Node(i) => Seat {
-            node: i,
-            used: used,
-        },
-        Sought::Free(at) => {
+        Ok(node) => Seat { node, used },
+        Err(at) => {
             keys[used] = k;
             kids[at] = used as u16;
             Seat {

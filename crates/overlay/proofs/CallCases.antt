@@ -1,14 +1,17 @@
 -- The refusals of two rooms, and what is answered and written, computed.
 -- Assumes nothing.
+use Rattle.std.specs.Prelude.{Err, Ok}
 use mathlib.Core.List.{List, [], ◌∷◌}
 use mathlib.Core.Path.{◌≡◌, refl, ap, ◌∙◌}
 use Prim.Native.Nat.{ℕ}
 use lib.IntN.{ℤ, pos}
-use Rattle.answer.specs.declared.{Judged.Judged, Judged.TheVariants.Good, Judged.TheVariants.Refused, Refusal.TheVariants.BadDigit, Refusal.TheVariants.NotRoom, Refusal.TheVariants.SpanRoom}
+use Rattle.overlay.specs.Answers.{Overlaid}
+use Rattle.answer.specs.Answers.{Judged}
+use Rattle.answer.specs.declared.{Refusal.TheVariants.BadDigit, Refusal.TheVariants.NotRoom, Refusal.TheVariants.SpanRoom}
 use Rattle.answer.specs.Listed.{laid_if}
 use Rattle.grid.specs.Grid.{origin}
 use Rattle.row.specs.{Rows.Span, Rows.span_numbers}
-use Rattle.overlay.specs.declared.{Part.Part, Part.TheVariants.First, Part.TheVariants.Second, Overlaid.Overlaid}
+use Rattle.overlay.specs.declared.{Part.Part, Part.TheVariants.First, Part.TheVariants.Second}
 use Rattle.overlay.specs.Call.{of_parts, overlay_judged, overlaid_of, OverlayCall, overlaid_words, overlaid_number}
 use Rattle.overlay.proofs.OverlayCases.{one}
 
@@ -33,18 +36,18 @@ abbrev judged : List ℕ → List ℕ → List ℤ → Judged
 judged ds es b = overlay_judged origin ds origin es (buffers b) lists
 
 -- the first room's last refusal comes before the second's first
-first-room-first : judged (0 ∷ 2 ∷ []) (0 ∷ 9 ∷ []) [] ≡ Refused NotRoom
+first-room-first : judged (0 ∷ 2 ∷ []) (0 ∷ 9 ∷ []) [] ≡ Err NotRoom
 first-room-first = refl
 
 -- and the second's before a buffer that is too short
-rooms_before-buffers : judged one (0 ∷ 9 ∷ []) [] ≡ Refused (BadDigit 1)
+rooms_before-buffers : judged one (0 ∷ 9 ∷ []) [] ≡ Err (BadDigit 1)
 rooms_before-buffers = refl
 
 -- any list can be too long for its buffer; an empty one needs no buffer
-short_for_one : judged one one five ≡ Refused SpanRoom
+short_for_one : judged one one five ≡ Err SpanRoom
 short_for_one = refl
 
-room_for_all : judged one one (pos 7 ∷ five) ≡ Good
+room_for_all : judged one one (pos 7 ∷ five) ≡ Ok tt
 room_for_all = refl
 
 -- one list is too long: the other is not written either

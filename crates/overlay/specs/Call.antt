@@ -1,12 +1,13 @@
 -- What the call that lists the parts of two rooms answers, and what it leaves in the three buffers (RULES 16.3 to 16.6). Assumes
 -- nothing.
-use Rattle.std.specs.Prelude.{◌≡◌, List, [], ◌∷◌, length, ℕ, ℤ}
+use Rattle.std.specs.Prelude.{◌≡◌, List, [], ◌∷◌, length, ℕ, Err, Ok, ℤ}
+use Rattle.overlay.specs.Answers.{Overlaid}
+use Rattle.answer.specs.Answers.{Judged}
 use Rattle.grid.specs.declared.Corner.{Corner}
-use Rattle.answer.specs.declared.{Judged.Judged, Judged.TheVariants.Good, Judged.TheVariants.Refused}
 use Rattle.answer.specs.{Refusal.first_of, Refusal.refusal_number, Refusal.refusal_place, Listed.laid_if}
 use Rattle.room.specs.Room.{as_room_judged}
 use Rattle.row.specs.{Rows.Span, Rows.RowsIs, Rows.lengths_of, Call.span_room_judged, Rows.span_numbers}
-use Rattle.overlay.specs.declared.{Part.Part, Part.TheVariants.First, Part.TheVariants.Second, Part.TheVariants.Both, Measure.Measure, Measures.Measures, Overlaid.Overlaid}
+use Rattle.overlay.specs.declared.{Part.Part, Part.TheVariants.First, Part.TheVariants.Second, Part.TheVariants.Both, Measure.Measure, Measures.Measures}
 use Rattle.overlay.specs.Overlay.{InPart}
 
 -- what belongs to each part, in their order
@@ -36,24 +37,24 @@ measures_of lists =
 
 -- those of the three lists, unless there is a refusal
 abbrev pub overlaid_of : Judged → (Part → List Span) → Overlaid
-overlaid_of Good lists = Overlaid.Listed (measures_of lists)
-overlaid_of (Refused r) lists = Overlaid.Refused r
+overlaid_of (Ok _) lists = Ok (measures_of lists)
+overlaid_of (Err r) lists = Err r
 
 -- the promise of the call: `lists` has the panels of each part by rows. What is not two rooms is refused, whatever the lists
 pub record OverlayCall (c : Corner) (ds : List ℕ) (e : Corner) (es : List ℕ) (before : Part → List ℤ) (r : Overlaid)
     (after : Part → List ℤ) : Type 0 where
   pub lists : Part → List Span
-  pub rows : as_room_judged c ds ≡ Good → as_room_judged e es ≡ Good → (k : Part) → RowsIs (InPart k c ds e es) (lists k)
+  pub rows : as_room_judged c ds ≡ Ok tt → as_room_judged e es ≡ Ok tt → (k : Part) → RowsIs (InPart k c ds e es) (lists k)
   pub answer : r ≡ overlaid_of (overlay_judged c ds e es before lists) lists
   pub buffers : (k : Part) → after k ≡ laid_if (overlay_judged c ds e es before lists) (span_numbers (lists k)) (before k)
 
 -- number, place, the panels of the three parts, and their spans
 abbrev pub overlaid_words : Overlaid → List ℕ
-overlaid_words (Overlaid.Listed m) =
+overlaid_words (Ok m) =
     0 ∷ 0 ∷ m.first.panels ∷ m.second.panels ∷ m.both.panels ∷ m.first.spans ∷ m.second.spans ∷ m.both.spans ∷ []
-overlaid_words (Overlaid.Refused r) = refusal_number r ∷ refusal_place r ∷ 0 ∷ 0 ∷ 0 ∷ 0 ∷ 0 ∷ 0 ∷ []
+overlaid_words (Err r) = refusal_number r ∷ refusal_place r ∷ 0 ∷ 0 ∷ 0 ∷ 0 ∷ 0 ∷ 0 ∷ []
 
 -- the refusal's number, 0 if there is none
 abbrev pub overlaid_number : Overlaid → ℕ
-overlaid_number (Overlaid.Listed m) = 0
-overlaid_number (Overlaid.Refused r) = refusal_number r
+overlaid_number (Ok m) = 0
+overlaid_number (Err r) = refusal_number r

@@ -1,8 +1,6 @@
 // The parts of the panels of two rooms that are laid over each other, and what the call that lists them answers.
 #![tactic(auto)]
 
-use answer::Refusal;
-
 // In the first room only, in the second only, in both.
 #[derive(Clone, Copy)]
 pub enum Part {
@@ -24,11 +22,4 @@ pub struct Measures {
     pub first: Measure,
     pub second: Measure,
     pub both: Measure,
-}
-
-// The answer of the call.
-#[derive(Clone, Copy)]
-pub enum Overlaid {
-    Listed(Measures),
-    Refused(Refusal),
 }

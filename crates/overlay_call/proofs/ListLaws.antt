@@ -1,5 +1,6 @@
 -- From rooms to their lists of spans, and from the parts of two lists to the answer.
 -- Assumes nothing.
+use Rattle.std.specs.Prelude.{Err, Ok}
 use mathlib.Core.List.{List, []}
 use mathlib.Core.Path.{◌≡◌, sym, ap, ap₂, ◌∙◌, subst}
 use Prim.Native.Nat.{ℕ, ◌+◌, ◌*◌, ◌/◌, ◌%◌, ◌<◌, ◌≤◌}
@@ -9,8 +10,10 @@ use lib.Dec.{eqb}
 use lib.IntN.{ℤ, pos, nat_abs}
 use lib.ListN.{length, get_or, set, drop, get_or-append}
 use lib.Seq.{sets, get_or-set_same, get_or-set_other}
+use Rattle.overlay.specs.Answers.{Overlaid}
+use Rattle.answer.specs.Answers.{Judged}
 use Rattle.lists.specs.Lists.{count}
-use Rattle.answer.specs.declared.{Judged.Judged, Judged.TheVariants.Good, Judged.TheVariants.Refused, Refusal.Refusal}
+use Rattle.answer.specs.declared.{Refusal.Refusal}
 use Rattle.answer.specs.Listed.{laid_if}
 use Rattle.grid.specs.declared.Corner.{Corner}
 use Rattle.room.specs.Room.{as_room_judged}
@@ -18,7 +21,7 @@ use Rattle.row.specs.{Rows.Span, Rows.span_numbers}
 use Rattle.row_laws.specs.Feet.{pairs_of, rows_of}
 use Rattle.row_laws.proofs.{PairLaws.pairs_length, PairLaws.turn_up-to, SortedLaws.room_half, NumberLaws.length-numbers, NumberLaws.written}
 use Rattle.row_call.proofs.CallLaws.{good_walled}
-use Rattle.overlay.specs.declared.{Part.Part, Overlaid.Overlaid}
+use Rattle.overlay.specs.declared.{Part.Part}
 use Rattle.overlay.specs.Call.{overlay_judged, overlaid_of, OverlayCall}
 use Rattle.overlay_laws.specs.Sweep.{part_ends, ends_from, ends_of_walk, lists_of}
 use Rattle.overlay_laws.proofs.{PartLaws.Ends, OverlayLaws.walk_ends, OverlayLaws.lists-rows, ReadLaws.ends_read, ReadLaws.ends_same, ReadLaws.room_small}
@@ -51,7 +54,7 @@ copied_holds s ds list out n h c r =
 
 -- ---- the list of a room
 
-module _ (s : Corner) (ds : List ℕ) (g : as_room_judged s ds ≡ Good) (v : ℕ) (e : v ≡ count (λ d. eqb (d % 2) 1) ds) (l : v ≤ length ds) where
+module _ (s : Corner) (ds : List ℕ) (g : as_room_judged s ds ≡ Ok tt) (v : ℕ) (e : v ≡ count (λ d. eqb (d % 2) 1) ds) (l : v ≤ length ds) where
   ends_of : Ends (ends_of_walk s ds)
   ends_of = walk_ends s ds (good_walled s ds g).room.closed
 
@@ -82,7 +85,7 @@ module _ (s : Corner) (ds : List ℕ) (g : as_room_judged s ds ≡ Good) (v : �
 -- ---- the call
 
 module _ (s : Corner) (ds : List ℕ) (t : Corner) (es : List ℕ) (before : Part → List ℤ) where
-  pub call_listed : as_room_judged s ds ≡ Good → as_room_judged t es ≡ Good → (a : List ℤ) (na : ℕ) (b : List ℤ) (nb : ℕ) (r : Overlaid) (after : Part → List ℤ) → HoldsSpans s ds a na → HoldsSpans t es b nb → PartsCall (part_spans a na b nb) before r after → OverlayCall s ds t es before r after
+  pub call_listed : as_room_judged s ds ≡ Ok tt → as_room_judged t es ≡ Ok tt → (a : List ℤ) (na : ℕ) (b : List ℤ) (nb : ℕ) (r : Overlaid) (after : Part → List ℤ) → HoldsSpans s ds a na → HoldsSpans t es b nb → PartsCall (part_spans a na b nb) before r after → OverlayCall s ds t es before r after
   call_listed e f a na b nb r after x y c =
       let w : part_spans a na b nb ≡ lists_of s ds t es = ap₂ {C = Part → List Span} (λ (P Q : List Corner) (k : Part). pairs_of (part_ends k P Q)) x.ends y.ends in
       let j = both_rooms s ds t es before (lists_of s ds t es) e f in
@@ -96,10 +99,10 @@ module _ (s : Corner) (ds : List ℕ) (t : Corner) (es : List ℕ) (before : Par
   abbrev none : Part → List Span
   none k = []
 
-  good_refused : (q : Refusal) → Good ≡ Refused q → ⊥
+  good_refused : (q : Refusal) → ◌≡◌ {A = Judged} (Ok tt) (Err q) → ⊥
   good_refused q f = let z : ◌≡◌ {A = ℕ} 0 1 = cc in omega arith
 
-  call_refused : (q : Refusal) → overlay_judged s ds t es before none ≡ Refused q → (as_room_judged s ds ≡ Good → as_room_judged t es ≡ Good → ⊥) → OverlayCall s ds t es before (Overlaid.Refused q) before
+  call_refused : (q : Refusal) → overlay_judged s ds t es before none ≡ Err q → (as_room_judged s ds ≡ Ok tt → as_room_judged t es ≡ Ok tt → ⊥) → OverlayCall s ds t es before (Err q) before
   call_refused q e f = record {
     lists = none;
     rows = λ g h. absurd (f g h);
@@ -107,8 +110,8 @@ module _ (s : Corner) (ds : List ℕ) (t : Corner) (es : List ℕ) (before : Par
     buffers = λ k. sym (ap (λ (j : Judged). laid_if j (span_numbers []) (before k)) e);
   }
 
-  pub call_first : (q : Refusal) → as_room_judged s ds ≡ Refused q → OverlayCall s ds t es before (Overlaid.Refused q) before
+  pub call_first : (q : Refusal) → as_room_judged s ds ≡ Err q → OverlayCall s ds t es before (Err q) before
   call_first q e = call_refused q (first_refused s ds t es before none q e) (λ g h. good_refused q (sym g ∙ e))
 
-  pub call_second : (q : Refusal) → as_room_judged s ds ≡ Good → as_room_judged t es ≡ Refused q → OverlayCall s ds t es before (Overlaid.Refused q) before
+  pub call_second : (q : Refusal) → as_room_judged s ds ≡ Ok tt → as_room_judged t es ≡ Err q → OverlayCall s ds t es before (Err q) before
   call_second q e f = call_refused q (second_refused s ds t es before none q e f) (λ g h. good_refused q (sym h ∙ f))

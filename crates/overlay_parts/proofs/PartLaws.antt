@@ -1,16 +1,18 @@
 -- From the lists of the parts to what is answered for them.
 -- Assumes nothing.
+use Rattle.std.specs.Prelude.{Err, Ok}
 use mathlib.Core.List.{List}
 use mathlib.Core.Path.{◌≡◌, sym, ap, ap₂, ◌∙◌}
 use Prim.Native.Nat.{ℕ, ◌+◌, ◌*◌, ◌/◌, ◌<◌, ◌≤◌}
 use native.Mathlib.Omega.{arith}
 use lib.IntN.{ℤ}
 use lib.ListN.{length}
-use Rattle.answer.specs.declared.{Judged.Judged, Refusal.TheVariants.SpanRoom}
+use Rattle.answer.specs.Answers.{Judged}
+use Rattle.answer.specs.declared.{Refusal.TheVariants.SpanRoom}
 use Rattle.answer.specs.Listed.{laid_if}
 use Rattle.row.specs.{Rows.Span, Rows.span_numbers}
 use Rattle.row_laws.proofs.NumberLaws.{written}
-use Rattle.overlay.specs.declared.{Part.Part, Part.TheVariants.First, Part.TheVariants.Second, Part.TheVariants.Both, Measure.Measure, Measures.Measures, Overlaid.Overlaid}
+use Rattle.overlay.specs.declared.{Part.Part, Part.TheVariants.First, Part.TheVariants.Second, Part.TheVariants.Both, Measure.Measure, Measures.Measures}
 use Rattle.overlay.specs.Call.{of_parts, measure_of, measures_of, overlaid_of}
 use Rattle.overlay_laws.specs.Sweep.{ends_from}
 use Rattle.overlay_laws.proofs.{FewLaws.part_half, SweepLaws.length-ends_from}
@@ -33,7 +35,7 @@ module _ (L : Part → List Span) where
   parts_spans r e Both = ap (λ (m : Measures). m.both.spans) e
 
   module _ (f g h : List ℤ) where
-    pub parts_short : (k : Part) → length (of_parts f g h k) < 3 * length (L k) → PartsCall L (of_parts f g h) (Overlaid.Refused SpanRoom) (of_parts f g h)
+    pub parts_short : (k : Part) → length (of_parts f g h k) < 3 * length (L k) → PartsCall L (of_parts f g h) (Err SpanRoom) (of_parts f g h)
     parts_short k l =
         let e = any-short (of_parts f g h) L k l in
         record { answer = sym (ap (λ (j : Judged). overlaid_of j L) e); buffers = λ i. sym (ap (λ (j : Judged). laid_if j (span_numbers (L i)) (of_parts f g h i)) e) }
@@ -43,10 +45,10 @@ module _ (L : Part → List Span) where
     parts_room l m n Second = m
     parts_room l m n Both = n
 
-    pub parts_listed : (r : Measures) (after : Part → List ℤ) → HaveRoom L (of_parts f g h) → ((k : Part) → Swept (L k) (of_parts f g h k) (in_parts r k) (after k)) → PartsCall L (of_parts f g h) (Overlaid.Listed r) after
+    pub parts_listed : (r : Measures) (after : Part → List ℤ) → HaveRoom L (of_parts f g h) → ((k : Part) → Swept (L k) (of_parts f g h k) (in_parts r k) (after k)) → PartsCall L (of_parts f g h) (Ok r) after
     parts_listed r after all w =
         let e = all_enough (of_parts f g h) L all in
         record {
-          answer = ap Overlaid.Listed (parts_measured r (λ k. (w k).measure)) ∙ sym (ap (λ (j : Judged). overlaid_of j L) e);
+          answer = ap Ok (parts_measured r (λ k. (w k).measure)) ∙ sym (ap (λ (j : Judged). overlaid_of j L) e);
           buffers = λ k. (w k).buffer (all k) ∙ written (of_parts f g h k) (L k) (all k) ∙ sym (ap (λ (j : Judged). laid_if j (span_numbers (L k)) (of_parts f g h k)) e);
         }

@@ -1,11 +1,12 @@
 -- What is answered and left in the buffers for the parts of two lists of spans.
 -- Assumes nothing.
 use Rattle.std.specs.Prelude.{List, [], ◌∷◌, ◌≡◌, ◌*◌, ◌≤◌, ℤ, length}
-use Rattle.answer.specs.declared.Judged.{Judged}
+use Rattle.overlay.specs.Answers.{Overlaid}
+use Rattle.answer.specs.Answers.{Judged}
 use Rattle.answer.specs.Refusal.{first_of}
 use Rattle.answer.specs.Listed.{laid_if}
 use Rattle.row.specs.{Rows.Span, Rows.span_numbers}
-use Rattle.overlay.specs.declared.{Part.Part, Part.TheVariants.First, Part.TheVariants.Second, Part.TheVariants.Both, Overlaid.Overlaid}
+use Rattle.overlay.specs.declared.{Part.Part, Part.TheVariants.First, Part.TheVariants.Second, Part.TheVariants.Both}
 use Rattle.overlay.specs.Call.{part_room_judged, overlaid_of}
 
 -- each buffer is long enough for its list

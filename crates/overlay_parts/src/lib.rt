@@ -7,23 +7,14 @@ ghost use Rattle.overlay_sweep.specs.Parts.{Spanned, part_spans};
 ghost use Rattle.overlay_parts.specs.Parts.{HaveRoom, PartsCall};
 
 use answer::Refusal;
-use overlay::{Measures, Overlaid};
+use overlay::Measures;
 use overlay_sweep::sweep;
 
 // Whether each of three buffers has at least `most` numbers.
 fn enough(most: usize, first: usize, second: usize, both: usize) -> bool
     ensures { result ≡ true → (most ≤ first) × (most ≤ second) × (most ≤ both) }
 {
-    if first < most {
-        return false;
-    }
-    if second < most {
-        return false;
-    }
-    if both < most {
-        return false;
-    }
-    true
+    most <= first && most <= second && most <= both
 }
 
 // How many panels and spans the parts have, by a sweep that writes no span.
@@ -46,7 +37,7 @@ fn put_all(
     first: &mut [i32],
     second: &mut [i32],
     both: &mut [i32],
-) -> Overlaid
+) -> Result<Measures, Refusal>
     requires { Spanned a.now na × Spanned b.now nb
         × HaveRoom (part_spans a.now na b.now nb) (of_parts first.old second.old both.old) }
     ensures { PartsCall (part_spans a.now na b.now nb)
@@ -54,7 +45,7 @@ fn put_all(
         (of_parts first.new second.new both.new) }
 {
     let m = sweep(a, na, b, nb, first, second, both);
-    Overlaid::Listed(m)
+    Ok(m)
 }
 
 // Writes the three lists, unless one of them is too long for its buffer. A list has at most three numbers for each two ends: no
@@ -67,7 +58,7 @@ pub fn put_parts(
     first: &mut [i32],
     second: &mut [i32],
     both: &mut [i32],
-) -> Overlaid
+) -> Result<Measures, Refusal>
     requires { Spanned a.now na × Spanned b.now nb }
     ensures { PartsCall (part_spans a.now na b.now nb)
         (of_parts first.old second.old both.old) result
@@ -81,13 +72,13 @@ pub fn put_parts(
     let g = m.second;
     let h = m.both;
     if first.len() < 3 * f.spans {
-        return Overlaid::Refused(Refusal::SpanRoom);
+        return Err(Refusal::SpanRoom);
     }
     if second.len() < 3 * g.spans {
-        return Overlaid::Refused(Refusal::SpanRoom);
+        return Err(Refusal::SpanRoom);
     }
     if both.len() < 3 * h.spans {
-        return Overlaid::Refused(Refusal::SpanRoom);
+        return Err(Refusal::SpanRoom);
     }
     put_all(a, na, b, nb, first, second, both)
 }

@@ -1,10 +1,12 @@
 -- Lower ends are compared by their keys, and read back from them.
 -- Assumes nothing.
+use Rattle.std.specs.Prelude.{None, Option, Some}
 use mathlib.Core.Bool.{Bool, true, false, cond, not, true≢false}
 use mathlib.Core.List.{List, [], ◌∷◌}
 use mathlib.Core.Logic.{inl, inr, ⊎_elim}
 use mathlib.Core.Path.{◌≡◌, refl, sym, ap, ap₂, ◌∙◌, subst}
 use Prim.Native.Nat.{ℕ, ◌+◌, ◌-◌, ◌*◌, ◌/◌, ◌%◌, ◌<◌, ◌≤◌, min}
+use native.Mathlib.Decide.{dec_lt}
 use native.Mathlib.Omega.{arith}
 use borrow.Author.Tests.{ltb-true, ltb-false, lt-ltb, le-ltb, eq-eqb, ne_eqb}
 use lib.Dec.{ltb, eqb}
@@ -98,6 +100,23 @@ key_there list n i h = ap (λ (b : Bool). cond b (end_key (end_at list i)) last_
 
 pub key_none : (list : List ℤ) (n i : ℕ) → n ≤ i → key_at list n i ≡ last_key
 key_none list n i h = ap (λ (b : Bool). cond b (end_key (end_at list i)) last_key) (le-ltb i n h)
+
+-- an end that is read is there, and one that is not is after the last
+module _ (list : List ℤ) (n i : ℕ) (r : Option Corner) (there : i < n → r ≡ Some (end_at list i)) (none : n ≤ i → r ≡ None) where
+  pub read_there : (at : Corner) → r ≡ Some at → (i < n) × (at ≡ end_at list i)
+  read_there at e = elim (dec_lt i n) [
+    | yes h ↦ (h, cc (there h))
+    | no h ↦ absurd (apart at (sym e ∙ none (omega arith)))
+  ]
+    where
+      apart : (c : Corner) → Some c ≡ None → ⊥
+      apart c f = let z : ◌≡◌ {A = ℕ} 0 1 = cc in omega arith
+
+  pub read_none : r ≡ None → n ≤ i
+  read_none e = elim (dec_lt i n) [ yes h ↦ absurd (apart (end_at list i) (sym (there h) ∙ e)) | no h ↦ omega arith ]
+    where
+      apart : (c : Corner) → Some c ≡ None → ⊥
+      apart c f = let z : ◌≡◌ {A = ℕ} 0 1 = cc in omega arith
 
 pub lead_key : (a : List ℤ) (i na : ℕ) (b : List ℤ) (j nb : ℕ) → Numbers a na → Numbers b nb → i + j < na + nb → (p q k : ℕ) → p ≡ key_at a na i → q ≡ key_at b nb j → k ≡ min p q → i ≤ na → j ≤ nb
     → leads (ends_from a i (na - i)) (ends_from b j (nb - j)) ≡ eqb p k

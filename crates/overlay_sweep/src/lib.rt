@@ -2,7 +2,7 @@
 // are compared as keys.
 #![tactic(auto)]
 
-ghost use Rattle.std.specs.Prelude.{[], ◌∷◌, ◌≡◌, ◌+◌, ◌*◌, ◌%◌, ◌<◌, ◌≤◌, pos, nat_abs, ◌+ℤ◌, length};
+ghost use Rattle.std.specs.Prelude.{None, Some, [], ◌∷◌, ◌≡◌, ◌+◌, ◌*◌, ◌%◌, ◌<◌, ◌≤◌, pos, nat_abs, ◌+ℤ◌, length};
 ghost use Rattle.std.proofs.Math.IntN.{pred_ℤ};
 ghost use Rattle.std.proofs.lemmas.List.Edits.{sets};
 ghost use Rattle.answer.specs.Limits.{most_steps, farthest};
@@ -15,19 +15,11 @@ ghost use Rattle.overlay_sweep.specs.Keys.{KeyFits, last_key, end_key, key_at, s
 ghost use Rattle.overlay_sweep.specs.Parts.{Spanned, part_spans, Swept};
 
 use grid::{Corner, Panel};
-use order::lesser;
 use overlay::{Measure, Measures};
 
-// The key after the last end of a list: it is greater than any other.
+// The key after the last end of a list: it is greater than any other, so that a list that has ended never leads. A number and no
+// None, since the sweep takes the lesser of two keys.
 const END: usize = 17179869184;
-
-// The same number in 32 bits.
-fn wider(x: i16) -> i32
-    requires { nat_abs x ≤ 32767 }
-    ensures { result ≡ x }
-{
-    x as i32
-}
 
 // The x of the end at place i, by that of its panel: every other end is one past a panel.
 fn past(x: i32, i: usize) -> i32
@@ -48,31 +40,32 @@ fn foot(p: Panel, i: usize) -> Corner
 }
 
 // The end at place i of the first list, if it is there.
-fn first_end(list: &[i16], n: usize, i: usize) -> Corner
+fn first_end(list: &[i16], n: usize, i: usize) -> Option<Corner>
     requires { Numbers list.now n }
-    ensures { i < n → result ≡ end_at list.now i }
+    ensures { (i < n → result ≡ Some (end_at list.now i)) × (n ≤ i → result ≡ None) }
 {
     if i >= n {
-        return Corner(0, 0);
+        return None;
     }
     let row = 3 * (i / 2);
-    let y = wider(list[row]);
-    let x = wider(list[row + 1 + i % 2]);
-    foot(Panel(x, y), i)
+    let y = i32::from(list[row]);
+    let x = i32::from(list[row + 1 + i % 2]);
+    Some(foot(Panel(x, y), i))
 }
 
-// The end at place i of the second list, if it is there.
-fn second_end(list: &[i32], n: usize, i: usize) -> Corner
+// The end at place i of the second list, if it is there. A function of its own: clauses speak of a list of numbers, and the items
+// of a type parameter are none.
+fn second_end(list: &[i32], n: usize, i: usize) -> Option<Corner>
     requires { Numbers list.now n }
-    ensures { i < n → result ≡ end_at list.now i }
+    ensures { (i < n → result ≡ Some (end_at list.now i)) × (n ≤ i → result ≡ None) }
 {
     if i >= n {
-        return Corner(0, 0);
+        return None;
     }
     let row = 3 * (i / 2);
     let y = list[row];
     let x = list[row + 1 + i % 2];
-    foot(Panel(x, y), i)
+    Some(foot(Panel(x, y), i))
 }
 
 // A coordinate of a walk's corner, counted from the least.
@@ -98,10 +91,10 @@ fn first_key(list: &[i16], n: usize, i: usize) -> usize
     requires { Numbers list.now n }
     ensures { result ≡ key_at list.now n i }
 {
-    if i >= n {
-        return END;
+    match first_end(list, n, i) {
+        Some(at) => key(at),
+        None => END,
     }
-    key(first_end(list, n, i))
 }
 
 // The key of the end at place i of the second list, if it is there.
@@ -109,10 +102,10 @@ fn second_key(list: &[i32], n: usize, i: usize) -> usize
     requires { Numbers list.now n }
     ensures { result ≡ key_at list.now n i }
 {
-    if i >= n {
-        return END;
+    match second_end(list, n, i) {
+        Some(at) => key(at),
+        None => END,
     }
-    key(second_end(list, n, i))
 }
 
 // One further, if it goes on.
@@ -120,10 +113,7 @@ fn further(i: usize, on: bool) -> usize
     requires { i ≤ most_steps }
     ensures { result ≡ i + tally on }
 {
-    if on {
-        return i + 1;
-    }
-    i
+    i + usize::from(on)
 }
 
 // The coordinate that was lifted to n.
@@ -221,38 +211,19 @@ fn close(
         (of_parts first.old second.old both.old k) (in_parts result k)
         (of_parts first.new second.new both.new k) }
 {
-    let f = m.first;
-    let g = m.second;
-    let h = m.both;
     if i % 2 == 1 {
         if j % 2 == 1 {
-            let n = put_span(both, h, from, to);
-            return Measures {
-                first: f,
-                second: g,
-                both: n,
-            };
+            let both = put_span(both, m.both, from, to);
+            return Measures { both, ..m };
         }
-        let n = put_span(first, f, from, to);
-        return Measures {
-            first: n,
-            second: g,
-            both: h,
-        };
+        let first = put_span(first, m.first, from, to);
+        return Measures { first, ..m };
     }
     if j % 2 == 1 {
-        let n = put_span(second, g, from, to);
-        return Measures {
-            first: f,
-            second: n,
-            both: h,
-        };
+        let second = put_span(second, m.second, from, to);
+        return Measures { second, ..m };
     }
-    Measures {
-        first: f,
-        second: g,
-        both: h,
-    }
+    m
 }
 
 // Writes the spans of the three parts of two lists of spans, as far as the buffers are long enough, and counts them and their
@@ -286,7 +257,7 @@ pub fn sweep(
     while i + j < na + nb {
         let p = first_key(a, na, i);
         let q = second_key(b, nb, j);
-        let next = lesser(p, q);
+        let next = p.min(q);
         m = close(i, j, last, next, m, first, second, both);
         i = further(i, p == next);
         j = further(j, q == next);

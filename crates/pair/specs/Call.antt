@@ -1,7 +1,8 @@
 -- The refusals of a call of two parties in their order, its answer, and its four buffers (RULES 19.6, 19.7). c and e are the two
 -- starts. Assumes nothing.
-use Rattle.std.specs.Prelude.{◌≡◌, Bool, not, ◌&&◌, List, [], ◌∷◌, length, ℕ, suc, pred, ◌*◌, ◌%◌, eqb, ltb, leb}
-use Rattle.answer.specs.declared.{Judged.Judged, Judged.TheVariants.Good, Judged.TheVariants.Refused, PairFacts.PairFacts, PairAnswer.PairAnswer}
+use Rattle.std.specs.Prelude.{◌≡◌, Bool, not, ◌&&◌, List, [], ◌∷◌, length, ℕ, suc, pred, ◌*◌, ◌%◌, eqb, ltb, Err, Ok, leb}
+use Rattle.answer.specs.Answers.{Judged, PairAnswer}
+use Rattle.answer.specs.declared.{PairFacts.PairFacts}
 use Rattle.answer.specs.declared.Refusal.TheVariants.{TooMany, Table, ResultRoom, NoRoom, StartRange}
 use Rattle.answer.specs.{Limits.most_input, Limits.most_pair_records, Limits.start_fits, Refusal.when, Refusal.or_else, Refusal.first_of}
 use Rattle.grid.specs.declared.Corner.{Corner}
@@ -52,8 +53,8 @@ pair_facts_of c e ds es =
 
 -- the facts, or the refusal
 abbrev pub pair_answer_by : Judged → PairFacts → PairAnswer
-pair_answer_by Good f = PairAnswer.Accepted f
-pair_answer_by (Refused r) f = PairAnswer.Refused r
+pair_answer_by (Ok _) f = Ok f
+pair_answer_by (Err r) f = Err r
 
 -- the answer to operations with a table, marks and two chains of these lengths
 abbrev pub pair_answer : Corner → Corner → List ℕ → ℕ → ℕ → ℕ → ℕ → PairAnswer

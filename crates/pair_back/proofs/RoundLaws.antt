@@ -1,5 +1,6 @@
 -- One round of each loop of a take-back of one party.
 -- Assumes nothing.
+use Rattle.std.specs.Prelude.{None, Option, Some}
 use mathlib.Core.List.{List, Memᴰ}
 use mathlib.Core.Path.{◌≡◌, refl, ap, sym, ◌∙◌, subst}
 use Prim.Native.Nat.{ℕ, zero, suc, ◌+◌, ◌-◌, ◌<◌}
@@ -25,11 +26,23 @@ use Rattle.pair_table_laws.proofs.DropLaws.{drop_done, drop-up, drop_falls, drop
 use Rattle.pair_words.specs.Places.{InTable}
 use Rattle.pair_child.specs.declared.Stock.{Stock}
 use Rattle.pair_child.specs.Finds.{StockIs}
-use Rattle.pair_back.specs.Leaves.{PairJoined, PairCleared, PairUnlinks, PairUnlinkable, freed_in, PairLeft, PairDrops, PairDroppable, PairDropped}
+use Rattle.pair_back.specs.Leaves.{node_at_ref, PairJoined, PairCleared, PairUnlinks, PairUnlinkable, freed_in, PairLeft, PairDrops, PairDroppable, PairDropped}
 
 -- the record of a node lies in the table
 in_table : (t : List ℕ) (slots : List Slot) (B : Both) (u : ℕ) (a : Corner) → PairTable t slots B → At slots u a → InTable t u
 in_table t slots B u a h x = omega (arith, at_below slots u a x, h.room)
+
+-- ---- the record of a ref
+none_some : (v : ℕ) → None ≡ Some v → ⊥
+none_some v e = cc
+
+ref-none : (n : ℕ) → node_at_ref n ≡ None → n ≡ 0
+ref-none zero e = refl
+ref-none (suc v) e = absurd (none_some v (sym e))
+
+ref-some : (n v : ℕ) → node_at_ref n ≡ Some v → n ≡ suc v
+ref-some zero v e = absurd (none_some v e)
+ref-some (suc u) v e = let f : u ≡ v = cc in ap suc f
 
 -- ---- the links
 module _ (t : List ℕ) (q u : ℕ) (c : Corner) (d s : ℕ) (C : Both) (slots : List Slot) (S : State) (z : Corner) (k : PairUnlinks t q u c d s C slots S z) where
@@ -87,52 +100,45 @@ module _ (t : List ℕ) (q u : ℕ) (c : Corner) (d s : ℕ) (C : Both) (slots :
           subst (λ y. size_of (parent_of y) < size_of y) k.is x.2,
         )
 
-  unlinks_level : (t' : List ℕ) (r : ℕ) → PairCleared t q u d s t' r → (r ≡ 0 → PairTable t' slots (with_party C q (unlinking S s z S.step))) × ((w : ℕ) → r ≡ suc w → PairUnlinks t' q w (parent_of c) d s C slots S z × (size_of (parent_of c) < size_of c))
+  unlinks_level : (t' : List ℕ) (r : Option ℕ) → PairCleared t q u d s t' r → (r ≡ None → PairTable t' slots (with_party C q (unlinking S s z S.step))) × ((w : ℕ) → r ≡ Some w → PairUnlinks t' q w (parent_of c) d s C slots S z × (size_of (parent_of c) < size_of c))
   unlinks_level t' r h =
       elim (ℕ_discrete (words_in t u (of_party q (link_word d))) s) [
-        | yes e ↦ let g = h.own e in ((λ p. unlinks_top t' e g.0 (sym g.1 ∙ p)), (λ w p. unlinks_next t' e g.0 w (sym g.1 ∙ p)))
-        | no f ↦ let g = h.other f in ((λ p. unlinks_other t' f g.0), (λ w p. absurd (omega (arith, g.1))))
+        | yes e ↦ let g = h.own e in ((λ p. unlinks_top t' e g.0 (ref-none (words_in t' u parent_word) (sym g.1 ∙ p))), (λ w p. unlinks_next t' e g.0 w (ref-some (words_in t' u parent_word) w (sym g.1 ∙ p))))
+        | no f ↦ let g = h.other f in ((λ p. unlinks_other t' f g.0), (λ w p. absurd (none_some w (sym g.1 ∙ p))))
       ]
 
--- the next level is at the node of ref r, which stands for h, or all is done
-abbrev pub PairUnlinked : List ℕ → ℕ → ℕ → Corner → ℕ → ℕ → List ℕ → ℕ → Corner → Type 0
+-- the next level is at the node in record r, which stands for h, or all is done
+abbrev pub PairUnlinked : List ℕ → ℕ → ℕ → Corner → ℕ → ℕ → List ℕ → Option ℕ → Corner → Type 0
 PairUnlinked t₀ q u₀ c d s t r h =
     (C : Both) (slots : List Slot) (S : State) (z : Corner) → PairUnlinks t₀ q u₀ c d s C slots S z
-    → (r ≡ 0 → PairTable t slots (with_party C q (unlinking S s z S.step))) × ((v : ℕ) → r ≡ suc v → PairUnlinks t q v h d s C slots S z)
+    → (r ≡ None → PairTable t slots (with_party C q (unlinking S s z S.step))) × ((v : ℕ) → r ≡ Some v → PairUnlinks t q v h d s C slots S z)
 
 -- how many levels are left at most
-abbrev pub levels_left : ℕ → Corner → ℕ
-levels_left zero h = 0
-levels_left (suc v) h = suc (size_of h)
+abbrev pub levels_left : Option ℕ → Corner → ℕ
+levels_left None h = 0
+levels_left (Some v) h = suc (size_of h)
 
-pub unlinked_start : (t : List ℕ) (q u : ℕ) (c : Corner) (d s : ℕ) → PairUnlinked t q u c d s t (u + 1) c
-unlinked_start t q u c d s C slots S z h = ((λ p. absurd (omega arith)), (λ v p. subst (λ (n : ℕ). PairUnlinks t q n c d s C slots S z) (omega arith) h))
+module _ (t₀ : List ℕ) (q u₀ : ℕ) (c : Corner) (d s : ℕ) (h : PairUnlinkable t₀ q u₀ c d s) (t : List ℕ) (r : Option ℕ) (a : Corner) (f : PairUnlinked t₀ q u₀ c d s t r a) (v : ℕ) (p : r ≡ Some v) where
+  here : PairUnlinks t q v a d s h.both h.slots h.state h.end
+  here = (f h.both h.slots h.state h.end h.holds).1 v p
 
-module _ (t₀ : List ℕ) (q u₀ : ℕ) (c : Corner) (d s : ℕ) (h : PairUnlinkable t₀ q u₀ c d s) (t : List ℕ) (r : ℕ) (a : Corner) (f : PairUnlinked t₀ q u₀ c d s t r a) (p : 0 < r) where
-  here : PairUnlinks t q (r - 1) a d s h.both h.slots h.state h.end
-  here = (f h.both h.slots h.state h.end h.holds).1 (r - 1) (omega arith)
+  pub unlinked_joined : PairJoined t q v d s
+  unlinked_joined = unlinks_joined t q v a d s h.both h.slots h.state h.end here
 
-  pub unlinked_joined : PairJoined t q (r - 1) d s
-  unlinked_joined = unlinks_joined t q (r - 1) a d s h.both h.slots h.state h.end here
-
-  module _ (t' : List ℕ) (r' : ℕ) (k : PairCleared t q (r - 1) d s t' r') (a' : Corner) (e : a' ≡ parent_of a) where
+  module _ (t' : List ℕ) (r' : Option ℕ) (k : PairCleared t q v d s t' r') (a' : Corner) (e : a' ≡ parent_of a) where
     pub unlinked_falls : levels_left r' a' < levels_left r a
-    unlinked_falls = go r' refl r refl
+    unlinked_falls = subst (λ (n : Option ℕ). levels_left r' a' < levels_left n a) (sym p) (go r' refl)
       where
-        go : (n : ℕ) → r' ≡ n → (m : ℕ) → r ≡ m → levels_left n a' < levels_left m a
-        go n i zero j = absurd (omega arith)
-        go zero i (suc m) j = omega arith
-        go (suc v) i (suc m) j =
-            let x : size_of a' < size_of a = subst (λ y. size_of y < size_of a) (sym e) ((unlinks_level t q (r - 1) a d s h.both h.slots h.state h.end here t' r' k).1 v i).1 in
+        go : (n : Option ℕ) → r' ≡ n → levels_left n a' < suc (size_of a)
+        go None i = omega arith
+        go (Some w) i =
+            let x : size_of a' < size_of a = subst (λ y. size_of y < size_of a) (sym e) ((unlinks_level t q v a d s h.both h.slots h.state h.end here t' r' k).1 w i).1 in
             omega arith
 
     pub unlinked_next : PairUnlinked t₀ q u₀ c d s t' r' a'
     unlinked_next C slots S z l =
-        let g = unlinks_level t q (r - 1) a d s C slots S z ((f C slots S z l).1 (r - 1) (omega arith)) t' r' k in
-        (g.0, λ v i. subst (λ y. PairUnlinks t' q v y d s C slots S z) (sym e) (g.1 v i).0)
-
-pub unlinkable_bound : (t : List ℕ) (q u : ℕ) (c : Corner) (d s : ℕ) → PairUnlinkable t q u c d s → InTable t u
-unlinkable_bound t q u c d s h = (unlinks_joined t q u c d s h.both h.slots h.state h.end h.holds).here
+        let g = unlinks_level t q v a d s C slots S z ((f C slots S z l).1 v p) t' r' k in
+        (g.0, λ w i. subst (λ y. PairUnlinks t' q w y d s C slots S z) (sym e) (g.1 w i).0)
 
 -- ---- the nodes
 -- what is in use after record u, which is not the first, is freed

@@ -2,7 +2,7 @@
 -- state of party q that it leads to.
 -- Assumes nothing.
 use mathlib.Core.List.{List, Memᴰ}
-use Rattle.std.specs.Prelude.{◌≡◌, ℕ, ◌-◌, ◌<◌, min}
+use Rattle.std.specs.Prelude.{◌≡◌, ℕ, zero, suc, ◌-◌, ◌<◌, min, None, Option, Some}
 use Rattle.grid.specs.declared.Corner.{Corner}
 use Rattle.grid.specs.Grid.{same}
 use Rattle.grid.specs.Tree.{root, path_of, child_word}
@@ -27,11 +27,16 @@ pub record PairJoined (t : List ℕ) (q u d s : ℕ) : Type 0 where
   pub there : words_in t u (of_party q (link_word d)) ≡ s
       → (0 < words_in t u (neighbour_word d)) × InTable t (words_in t u (neighbour_word d) - 1)
 
--- one level: a link of the step s is taken away, and the parent's ref is next; any other link stays, and nothing is next
-pub record PairCleared (t : List ℕ) (q u d s : ℕ) (t' : List ℕ) (next : ℕ) : Type 0 where
+-- the record of a ref; there is none of 0
+abbrev pub node_at_ref : ℕ → Option ℕ
+node_at_ref zero = None
+node_at_ref (suc u) = Some u
+
+-- one level: a link of the step s is taken away, and the parent is next; any other link stays, and nothing is next
+pub record PairCleared (t : List ℕ) (q u d s : ℕ) (t' : List ℕ) (next : Option ℕ) : Type 0 where
   pub own : words_in t u (of_party q (link_word d)) ≡ s
-      → (t' ≡ pair_unlink_in q t u (words_in t u (neighbour_word d) - 1) d) × (next ≡ words_in t' u parent_word)
-  pub other : (words_in t u (of_party q (link_word d)) ≡ s → ⊥) → (t' ≡ t) × (next ≡ 0)
+      → (t' ≡ pair_unlink_in q t u (words_in t u (neighbour_word d) - 1) d) × (next ≡ node_at_ref (words_in t' u parent_word))
+  pub other : (words_in t u (of_party q (link_word d)) ≡ s → ⊥) → (t' ≡ t) × (next ≡ None)
 
 -- the links that step s made on its way to z are being taken away; next is the node c, in record u
 pub record PairUnlinks (t : List ℕ) (q u : ℕ) (c : Corner) (d s : ℕ) (C : Both) (slots : List Slot) (S : State)

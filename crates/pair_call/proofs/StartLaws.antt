@@ -1,5 +1,6 @@
 -- The starts of two parties: the first planted in a cleared table, the second in what that leaves.
 -- Assumes nothing.
+use Rattle.std.specs.Prelude.{Some}
 use mathlib.Core.List.{List, [], ◌∷◌, Memᴰ}
 use mathlib.Core.Logic.{⊎_elim}
 use mathlib.Core.Path.{◌≡◌, refl, sym, ◌∙◌, subst, subst₂}
@@ -29,7 +30,6 @@ use Rattle.pair_plant.proofs.GrowLaws.{root_plants}
 use Rattle.pair_move.proofs.MoveLaws.{party_new}
 use Rattle.walk_step.proofs.ChainLaws.{keeps_none}
 use Rattle.pair_run.specs.declared.Pair.{Pair}
-use Rattle.pair_call.specs.declared.Rooted.{Rooted}
 use Rattle.pair_call.specs.Parts.{parties_at, PairPlanted}
 
 -- the root alone
@@ -82,7 +82,7 @@ module _ (c e : Corner) (near : Near c) (near' : Near e) (words : ℕ) (t t₁ :
           (g.none z (needs_of c e [] []) (λ b i x. ⊎_elim (λ h. root-at c e b i h) (λ m. path_first c e b m) (all-at roots (path_of c) i b x)) (path_second c e))
 
       -- both stand at their starts
-      pub both_planted : (two.at ≡ 0 → ⊥) → (w : Pair) → w ≡ parties_at c one e two → PairPlanted words c e t₂ (Rooted.Both w)
+      pub both_planted : (two.at ≡ 0 → ⊥) → (w : Pair) → w ≡ parties_at c one e two → PairPlanted words c e t₂ (Some w)
       both_planted some' w i =
           let all = placed_all slots (path_of e) in
           let h = g.some some' in
@@ -90,7 +90,7 @@ module _ (c e : Corner) (near : Near c) (near' : Near e) (words : ℕ) (t t₁ :
           let m : two.at ≡ suc (two.at - 1) = omega (arith, some') in
           let x : At (slots_at_start c e) (one.at - 1) c = subst (λ (l : List Slot). At l (one.at - 1) c) (starts_are c e) (all_keeps slots (path_of e) (one.at - 1) c (ref_at slots (one.at - 1) c ((f.some some).0.ref ∙ n))) in
           let y : At (slots_at_start c e) (two.at - 1) e = subst (λ (l : List Slot). At l (two.at - 1) e) (starts_are c e) (ref_at all (two.at - 1) e (h.0.ref ∙ m)) in
-          subst (λ (v : Pair). PairPlanted words c e t₂ (Rooted.Both v)) (sym i) (
+          subst (λ (v : Pair). PairPlanted words c e t₂ (Some v)) (sym i) (
             refl,
             refl,
             λ a b. record {

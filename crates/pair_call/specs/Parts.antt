@@ -1,6 +1,6 @@
 -- The starts of two parties planted, and their walks when they are over.
 -- Assumes nothing.
-use Rattle.std.specs.Prelude.{List, [], ◌++◌, ◌≡◌, ℕ, ◌-◌, ◌<◌, length, replicate}
+use Rattle.std.specs.Prelude.{List, [], ◌++◌, ◌≡◌, ℕ, ◌-◌, ◌<◌, length, None, Option, Some, replicate}
 use Rattle.answer.specs.declared.PairFacts.{PairFacts}
 use Rattle.grid.specs.declared.Corner.{Corner}
 use Rattle.pair_table.specs.Slots.{needs_of}
@@ -10,17 +10,16 @@ use Rattle.pair_child.specs.declared.Located.{Located}
 use Rattle.pair_move.specs.Moves.{fresh_party}
 use Rattle.pair_run.specs.declared.Pair.{Pair}
 use Rattle.pair_run.specs.Runs.{PairStarts}
-use Rattle.pair_call.specs.declared.Rooted.{Rooted}
 
 -- both parties with no step, at the nodes that were located
 abbrev pub parties_at : Corner → Located → Corner → Located → Pair
 parties_at c one e two = record { first = fresh_party c (one.at - 1); second = fresh_party e (two.at - 1); stock = two.stock }
 
 -- both starts in a table of this many words, or the nodes that they need are more than the records
-abbrev pub PairPlanted : ℕ → Corner → Corner → List ℕ → Rooted → Type 0
-PairPlanted words c e t (Rooted.Both w) =
+abbrev pub PairPlanted : ℕ → Corner → Corner → List ℕ → Option Pair → Type 0
+PairPlanted words c e t (Some w) =
     (w.first.at ≡ c) × (w.second.at ≡ e) × ((first second : List ℕ) → PairStarts t first second w)
-PairPlanted words c e t Rooted.Full = pair_records_in words < length (needs_of c e [] [])
+PairPlanted words c e t None = pair_records_in words < length (needs_of c e [] [])
 
 -- a chain that held the steps ds holds them, then zeros
 abbrev pub ChainEnds : List ℕ → List ℕ → List ℕ → Type 0

@@ -29,13 +29,7 @@ fn taken(t: &[u32], r: usize) -> bool
     requires { r < 2 ^ 32 }
     ensures { result ≡ taken_at t.now r }
 {
-    if !has_record(t, r) {
-        return false;
-    }
-    if word(t, r, Record::PARENT) == 0 {
-        return false;
-    }
-    true
+    has_record(t, r) && word(t, r, Record::PARENT) != 0
 }
 
 // The first record from here on that is not in use; the number of records, if all are.
@@ -77,7 +71,6 @@ fn claim(t: &mut [u32], q: usize, v: usize, step: u32)
 {
     if own(t, q, v, Record::NEED) == 0 {
         need(t, q, v, step);
-        return;
     }
 }
 

@@ -1,5 +1,6 @@
 -- The record of both parties' surviving steps alone gives the same; the nodes at every moment; and tables that are large enough.
 -- Assumes nothing.
+use Rattle.std.specs.Prelude.{Err, Ok}
 use mathlib.Core.Bool.{false}
 use mathlib.Core.List.{List, [], ◌∷◌}
 use mathlib.Core.Path.{◌≡◌, refl, ap, ap₂, sym, ◌∙◌, subst, subst₂}
@@ -9,9 +10,7 @@ use borrow.Author.Tests.{ltb-false, le-ltb, eq-eqb}
 use lib.Dec.{ltb}
 use lib.ListN.{length, take}
 use lib.Seq.{take_all}
-use Rattle.answer.specs.declared.Judged.{Judged}
-use Rattle.answer.specs.declared.Judged.TheVariants.{Good}
-use Rattle.answer.specs.declared.PairAnswer.{PairAnswer}
+use Rattle.answer.specs.Answers.{Judged, PairAnswer}
 use Rattle.answer.specs.declared.PairFacts.{PairFacts}
 use Rattle.answer.specs.declared.Refusal.TheVariants.{TooMany, NoRoom}
 use Rattle.answer.specs.Refusal.{or_else}
@@ -48,7 +47,7 @@ use Rattle.pair_demands.proofs.EndLaws.{own-steps, same_table}
 
 -- ---- what survives of bytes with no fault
 -- no fault in the bytes, none in the first k of them
-faults_take : (k i m n : ℕ) (os : List ℕ) → bytes_judged i m n os ≡ Good → bytes_judged i m n (take k os) ≡ Good
+faults_take : (k i m n : ℕ) (os : List ℕ) → bytes_judged i m n os ≡ Ok tt → bytes_judged i m n (take k os) ≡ Ok tt
 faults_take zero i m n os e = refl
 faults_take (suc k) i m n [] e = e
 faults_take (suc k) i m n (o ∷ os) e =
@@ -56,18 +55,18 @@ faults_take (suc k) i m n (o ∷ os) e =
     ap₂ or_else h.0 (faults_take k (suc i) (after_by 0 m o) (after_by 1 n o) os h.1)
 
 -- the steps of both are directions, and few
-sound_both : (os : List ℕ) → bytes_judged 0 0 0 os ≡ Good → Walkable (steps_by 0 os) × Walkable (steps_by 1 os)
+sound_both : (os : List ℕ) → bytes_judged 0 0 0 os ≡ Ok tt → Walkable (steps_by 0 os) × Walkable (steps_by 1 os)
 sound_both os e =
     let h = pair_faults_own 0 0 0 os e in
-    let f : (j : ℕ) → operations_judged j 0 (own_ops 0 os) ≡ Good = h.1 in
-    let g : (j : ℕ) → operations_judged j 0 (own_ops 1 os) ≡ Good = h.2 in
+    let f : (j : ℕ) → operations_judged j 0 (own_ops 0 os) ≡ Ok tt = h.1 in
+    let g : (j : ℕ) → operations_judged j 0 (own_ops 1 os) ≡ Ok tt = h.2 in
     (walkable_survivors 0 [] (own_ops 0 os) (record { digits = tt; few = omega arith }) (f 0), walkable_survivors 0 [] (own_ops 1 os) (record { digits = tt; few = omega arith }) (g 0))
 
-module _ (c e : Corner) {os alone : List ℕ} {b b₁ : PairLent} (good : pair_judged_in c e os b ≡ Good) (a : AloneOf os alone) (lent : PairLentAlone alone b b₁) where
+module _ (c e : Corner) {os alone : List ℕ} {b b₁ : PairLent} (good : pair_judged_in c e os b ≡ Ok tt) (a : AloneOf os alone) (lent : PairLentAlone alone b b₁) where
   abbrev kept : List Judged
   kept = pair_judgements c e os (length b.table) (length b.marks) (length b.first) (length b.second)
 
-  no_fault : bytes_judged 0 0 0 os ≡ Good
+  no_fault : bytes_judged 0 0 0 os ≡ Ok tt
   no_fault = (clear kept good).1.1.1.1.1.0
 
   -- each party's surviving steps survive
@@ -87,14 +86,14 @@ module _ (c e : Corner) {os alone : List ℕ} {b b₁ : PairLent} (good : pair_j
         length-survivors [] (own_ops 1 os),
       )
 
-  no_fault_alone : bytes_judged 0 0 0 alone ≡ Good
+  no_fault_alone : bytes_judged 0 0 0 alone ≡ Ok tt
   no_fault_alone =
       let s = sound_both os no_fault in
       own_faults_pair 0 0 0 0 0 alone a.known
-      (subst (λ (l : List ℕ). operations_judged 0 0 l ≡ Good) (sym a.first) (steps_accepted 0 0 (steps_by 0 os) s.0.digits (omega (arith, s.0.few))))
-      (subst (λ (l : List ℕ). operations_judged 0 0 l ≡ Good) (sym a.second) (steps_accepted 0 0 (steps_by 1 os) s.1.digits (omega (arith, s.1.few))))
+      (subst (λ (l : List ℕ). operations_judged 0 0 l ≡ Ok tt) (sym a.first) (steps_accepted 0 0 (steps_by 0 os) s.0.digits (omega (arith, s.0.few))))
+      (subst (λ (l : List ℕ). operations_judged 0 0 l ≡ Ok tt) (sym a.second) (steps_accepted 0 0 (steps_by 1 os) s.1.digits (omega (arith, s.1.few))))
 
-  room_alone : pair_room_from (pair_records_in (length b.table)) c e 0 [] [] alone ≡ Good
+  room_alone : pair_room_from (pair_records_in (length b.table)) c e 0 [] [] alone ≡ Ok tt
   room_alone =
       let s = sound_both os no_fault in
       let r = pair_records_in (length b.table) in
@@ -104,7 +103,7 @@ module _ (c e : Corner) {os alone : List ℕ} {b b₁ : PairLent} (good : pair_j
       (subst₂ (λ (x y : List ℕ). length (needs_of c e x y) ≤ r) (sym a.first) (sym a.second) end)
 
   -- they are accepted alone, in a table of the same size
-  good_alone : pair_judged_in c e alone b₁ ≡ Good
+  good_alone : pair_judged_in c e alone b₁ ≡ Ok tt
   good_alone =
       let h = clear kept good in
       let l : length os ≤ most_input = ltb-false most_input (length os) (when_good (ltb most_input (length os)) TooMany h.0) in
@@ -122,20 +121,20 @@ module _ (c e : Corner) {os alone : List ℕ} {b b₁ : PairLent} (good : pair_j
       ))
 
 module _ {c e : Corner} {os alone : List ℕ} {b b' b₁ b₂ : PairLent} {f : PairFacts} {r : PairAnswer}
-    (w : PairIs c e os b (PairAnswer.Accepted f) b') (a : AloneOf os alone) (v : PairIs c e alone b₁ r b₂) (lent : PairLentAlone alone b b₁) where
+    (w : PairIs c e os b (Ok f) b') (a : AloneOf os alone) (v : PairIs c e alone b₁ r b₂) (lent : PairLentAlone alone b b₁) where
   firsts : steps_by 0 alone ≡ steps_by 0 os
   firsts = steps_stay c e (judged_good w) a lent 0 a.first (sound_both os (no_fault c e (judged_good w) a lent)).0
 
   seconds : steps_by 1 alone ≡ steps_by 1 os
   seconds = steps_stay c e (judged_good w) a lent 1 a.second (sound_both os (no_fault c e (judged_good w) a lent)).1
 
-  pub alone_answer : r ≡ PairAnswer.Accepted f
+  pub alone_answer : r ≡ Ok f
   alone_answer =
       v.answer
       ∙ ap₂ pair_answer_by (good_alone c e (judged_good w) a lent) (ap₂ (pair_facts_of c e) firsts seconds)
-      ∙ ap (λ (g : PairFacts). PairAnswer.Accepted g) (sym (its_facts w))
+      ∙ ap (λ (g : PairFacts). Ok g) (sym (its_facts w))
 
-  accepted : PairIs c e alone b₁ (PairAnswer.Accepted f) b₂
+  accepted : PairIs c e alone b₁ (Ok f) b₂
   accepted = subst (λ (x : PairAnswer). PairIs c e alone b₁ x b₂) alone_answer v
 
   pub alone_table : SameButNumbers (slots_of c e os) (slots_of c e alone) b'.table b₂.table
@@ -150,7 +149,7 @@ module _ {c e : Corner} {os alone : List ℕ} {b b' b₁ b₂ : PairLent} {f : P
   alone_steps q h = own-steps accepted q h ∙ by-steps q h ∙ sym (own-steps w q h)
 
 -- the bytes whose steps survive, mixed as they came, are such a record
-pub alone_some : {c e : Corner} {os : List ℕ} {b b' : PairLent} {f : PairFacts} → PairIs c e os b (PairAnswer.Accepted f) b' → AloneOf os (alone_in os)
+pub alone_some : {c e : Corner} {os : List ℕ} {b b' : PairLent} {f : PairFacts} → PairIs c e os b (Ok f) b' → AloneOf os (alone_in os)
 alone_some {c} {e} {os} {b} w =
     let h = clear (pair_judgements c e os (length b.table) (length b.marks) (length b.first) (length b.second)) (judged_good w) in
     alone_mixed os (pair_faults_own 0 0 0 os h.1.1.1.1.1.0).0
@@ -182,18 +181,18 @@ module _ {c e : Corner} {os : List ℕ} {b : PairLent} (h : PairFaultless c e os
 
 module _ {c e : Corner} {os : List ℕ} {b b' : PairLent} {r : PairAnswer} (w : PairIs c e os b r b') where
   -- a table that has this many records at every moment
-  enough_four : ((k : ℕ) → k ≤ length os → 4 * pair_corners_after c e os k + 128 ≤ pair_records_in (length b.table)) → (i : ℕ) → r ≡ PairAnswer.Refused (NoRoom i) → ⊥
+  enough_four : ((k : ℕ) → k ≤ length os → 4 * pair_corners_after c e os k + 128 ≤ pair_records_in (length b.table)) → (i : ℕ) → r ≡ Err (NoRoom i) → ⊥
   enough_four f i x =
       let n = (no_room-at w i).0 x in
       let y = n.1 in
       let l : y.0 ≤ length os = omega (arith, y.2.inside) in
       omega (arith, f y.0 l, y.2.here, four_and_more n.0 y.0)
 
-  pub enough_eight : ((k : ℕ) → k ≤ length os → 8 * pair_corners_after c e os k + 136 ≤ pair_records_in (length b.table)) → (i : ℕ) → r ≡ PairAnswer.Refused (NoRoom i) → ⊥
+  pub enough_eight : ((k : ℕ) → k ≤ length os → 8 * pair_corners_after c e os k + 136 ≤ pair_records_in (length b.table)) → (i : ℕ) → r ≡ Err (NoRoom i) → ⊥
   enough_eight f = enough_four (λ k h. omega (arith, f k h))
 
   -- 131,208 records are enough for any two walks
-  pub enough_always : 131208 ≤ pair_records_in (length b.table) → (i : ℕ) → r ≡ PairAnswer.Refused (NoRoom i) → ⊥
+  pub enough_always : 131208 ≤ pair_records_in (length b.table) → (i : ℕ) → r ≡ Err (NoRoom i) → ⊥
   enough_always h i x =
       let n = (no_room-at w i).0 x in
       let y = n.1 in

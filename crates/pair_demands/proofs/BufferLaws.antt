@@ -1,5 +1,6 @@
 -- The words of the marks, and the lengths of the buffers of an accepted call of two parties.
 -- Assumes nothing.
+use Rattle.std.specs.Prelude.{Ok}
 use mathlib.Core.Bool.{Bool, true, false, cond}
 use mathlib.Core.List.{List, [], ◌∷◌}
 use mathlib.Core.Logic.{⊎_elim}
@@ -9,7 +10,6 @@ use native.Mathlib.Omega.{arith}
 use borrow.Author.Tests.{eqb-true}
 use lib.ListN.{length, get_or, take, replicate, length-append, length-replicate, get_or-append}
 use lib.Seq.{get_or-append-add}
-use Rattle.answer.specs.declared.PairAnswer.{PairAnswer}
 use Rattle.answer.specs.declared.PairFacts.{PairFacts}
 use Rattle.grid.specs.declared.Corner.{Corner}
 use Rattle.grid.specs.Grid.{corners_from}
@@ -67,7 +67,7 @@ visits_by zero c e s h = refl
 visits_by (suc zero) c e s h = refl
 visits_by (suc (suc q)) c e s h = absurd (omega arith)
 
-module _ {c e : Corner} {os : List ℕ} {b b' : PairLent} {f : PairFacts} (w : PairIs c e os b (PairAnswer.Accepted f) b') where
+module _ {c e : Corner} {os : List ℕ} {b b' : PairLent} {f : PairFacts} (w : PairIs c e os b (Ok f) b') where
   abbrev records : ℕ
   records = pair_records_in (length b.table)
 

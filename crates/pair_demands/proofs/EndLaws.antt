@@ -1,15 +1,14 @@
 -- The ends of accepted calls of two parties: what each party has of its own, and what two calls with the same surviving steps have in common.
 -- Assumes nothing.
+use Rattle.std.specs.Prelude.{Ok}
 use mathlib.Core.List.{List, ◌∷◌, ◌++◌}
 use mathlib.Core.Path.{◌≡◌, refl, ap, ap₂, sym, ◌∙◌, subst, subst₂}
 use Prim.Native.Nat.{ℕ, zero, suc, ◌+◌, ◌-◌, ◌*◌, ◌<◌}
 use native.Mathlib.Omega.{arith}
 use lib.ListN.{length, get_or, take, replicate, length-append}
 use lib.Seq.{take_at}
-use Rattle.answer.specs.declared.Answer.{Answer}
 use Rattle.answer.specs.declared.Facts.{Facts}
 use Rattle.answer.specs.declared.PartyFacts.{PartyFacts}
-use Rattle.answer.specs.declared.PairAnswer.{PairAnswer}
 use Rattle.answer.specs.declared.PairFacts.{PairFacts}
 use Rattle.grid.specs.declared.Corner.{Corner}
 use Rattle.grid.specs.Grid.{corners_from}
@@ -36,7 +35,7 @@ use Rattle.pair_demands.proofs.RecordLaws.{own-none, pair_says}
 use Rattle.pair_demands.proofs.PairLaws.{its_facts, its_table, its-first, its_second}
 
 -- ---- what a party has of its own
-module _ {c e : Corner} {os : List ℕ} {b b' : PairLent} {f : PairFacts} (w : PairIs c e os b (PairAnswer.Accepted f) b') where
+module _ {c e : Corner} {os : List ℕ} {b b' : PairLent} {f : PairFacts} (w : PairIs c e os b (Ok f) b') where
   pub own_facts : (q : ℕ) → q < 2 → by_party q f.first f.second ≡ party_facts_of (by_party q c e) (steps_by q os)
   own_facts zero h = ap (λ (g : PairFacts). g.first) (its_facts w)
   own_facts (suc zero) h = ap (λ (g : PairFacts). g.second) (its_facts w)
@@ -65,7 +64,7 @@ module _ {c e : Corner} {os : List ℕ} {b b' : PairLent} {f : PairFacts} (w : P
       ∙ take_at (steps_by q os) (replicate (length os - length (steps_by q os)) 0) (length (steps_by q os)) refl
 
   -- what the party is answered is what it would be answered alone
-  pub as_alone : (q : ℕ) → q < 2 → {t ms ch t' ms' ch' : List ℕ} {g : Facts} → WalkIs (by_party q c e) (own_ops q os) t ms ch (Answer.Accepted g) t' ms' ch' → by_party q f.first f.second ≡ own_in g
+  pub as_alone : (q : ℕ) → q < 2 → {t ms ch t' ms' ch' : List ℕ} {g : Facts} → WalkIs (by_party q c e) (own_ops q os) t ms ch (Ok g) t' ms' ch' → by_party q f.first f.second ≡ own_in g
   as_alone q h v = own_facts q h ∙ ap own_in (sym (walk_laws.its_facts v))
 
   -- what a party does not need has none of its words
@@ -99,7 +98,7 @@ module _ {c e : Corner} {os : List ℕ} {b b' : PairLent} {f : PairFacts} (w : P
 
 -- ---- two accepted calls in which a party has the same start and the same operations
 module _ {c e c₁ e₁ : Corner} {os os₁ : List ℕ} {b b' b₁ b₁' : PairLent} {f f₁ : PairFacts}
-    (w : PairIs c e os b (PairAnswer.Accepted f) b') (v : PairIs c₁ e₁ os₁ b₁ (PairAnswer.Accepted f₁) b₁')
+    (w : PairIs c e os b (Ok f) b') (v : PairIs c₁ e₁ os₁ b₁ (Ok f₁) b₁')
     (q : ℕ) (party : q < 2) (start : by_party q c e ≡ by_party q c₁ e₁) (operations : own_ops q os ≡ own_ops q os₁) where
   steps-same : steps_by q os ≡ steps_by q os₁
   steps-same = ap survivors operations
@@ -124,7 +123,7 @@ module _ {c e c₁ e₁ : Corner} {os os₁ : List ℕ} {b b' b₁ b₁' : PairL
 
 -- ---- two accepted calls with the same surviving steps of both
 module _ {c e : Corner} {os os₁ : List ℕ} {b b' b₁ b₁' : PairLent} {f f₁ : PairFacts}
-    (w : PairIs c e os b (PairAnswer.Accepted f) b') (v : PairIs c e os₁ b₁ (PairAnswer.Accepted f₁) b₁')
+    (w : PairIs c e os b (Ok f) b') (v : PairIs c e os₁ b₁ (Ok f₁) b₁')
     (first : steps_by 0 os ≡ steps_by 0 os₁) (second : steps_by 1 os ≡ steps_by 1 os₁) where
   same_facts : f ≡ f₁
   same_facts = its_facts w ∙ ap₂ (pair_facts_of c e) first second ∙ sym (its_facts v)
@@ -144,7 +143,7 @@ length_exchanged : (xs : List ℕ) (o p : ℕ) (ys : List ℕ) → length (xs ++
 length_exchanged xs o p ys = omega (arith, length-append xs (o ∷ p ∷ ys), length-append xs (p ∷ o ∷ ys))
 
 module _ {c e : Corner} (xs : List ℕ) (o p : ℕ) (ys : List ℕ) {b b' b₁ b₁' : PairLent} {f f₁ : PairFacts}
-    (w : PairIs c e (xs ++ (o ∷ p ∷ ys)) b (PairAnswer.Accepted f) b') (v : PairIs c e (xs ++ (p ∷ o ∷ ys)) b₁ (PairAnswer.Accepted f₁) b₁') (different : party_of o ≡ party_of p → ⊥) where
+    (w : PairIs c e (xs ++ (o ∷ p ∷ ys)) b (Ok f) b') (v : PairIs c e (xs ++ (p ∷ o ∷ ys)) b₁ (Ok f₁) b₁') (different : party_of o ≡ party_of p → ⊥) where
   steps : (q : ℕ) → steps_by q (xs ++ (o ∷ p ∷ ys)) ≡ steps_by q (xs ++ (p ∷ o ∷ ys))
   steps q = ap survivors (own_exchanged q xs o p ys different)
 

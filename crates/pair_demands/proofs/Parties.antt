@@ -1,16 +1,15 @@
 -- What the demands (RULES 8) and RULES 19 ask of two parties in one table, as theorems about the promise `PairIs` of their call.
 -- Each is proved by naming a law. c and e are the two starts, os the bytes, b the four buffers that are lent and b' what they
 -- hold then. Assumes nothing.
+use Rattle.std.specs.Prelude.{Err, Ok}
 use mathlib.Core.Bool.{false}
 use mathlib.Core.List.{List, [], ◌∷◌, ◌++◌, map, Memᴰ}
 use mathlib.Core.Logic.{◌⊎◌, ◌↔◌}
 use mathlib.Core.Path.{◌≡◌}
 use Prim.Native.Nat.{ℕ, suc, pred, ◌+◌, ◌-◌, ◌*◌, ◌<◌, ◌≤◌}
 use lib.ListN.{length, get_or, take, replicate}
-use Rattle.answer.specs.declared.Answer.{Answer}
+use Rattle.answer.specs.Answers.{PairAnswer}
 use Rattle.answer.specs.declared.Facts.{Facts}
-use Rattle.answer.specs.declared.Judged.TheVariants.{Good, Refused}
-use Rattle.answer.specs.declared.PairAnswer.{PairAnswer}
 use Rattle.answer.specs.declared.PairFacts.{PairFacts}
 use Rattle.answer.specs.declared.Refusal.{Refusal}
 use Rattle.answer.specs.declared.Refusal.TheVariants.{NoRoom}
@@ -58,31 +57,31 @@ pair_is_one = pair_laws.pair_is_one
 
 module _ {c e : Corner} {os : List ℕ} {b b' : PairLent} {r : PairAnswer} (w : PairIs c e os b r b') where
   -- each refusal exactly on its occasion: 1, 2, 3, 10; then 20, 4, 5, 6 at the first faulty place; then 7
-  pub refused_exactly : (q : Refusal) → r ≡ PairAnswer.Refused q ↔ GivenPair c e os b (Refused q)
+  pub refused_exactly : (q : Refusal) → r ≡ Err q ↔ GivenPair c e os b (Err q)
   refused_exactly = pair_laws.refused_when w
 
   -- and acceptance exactly on its own, with the facts of both parties' surviving steps
-  pub accepted_exactly : r ≡ PairAnswer.Accepted (pair_facts_of c e (steps_by 0 os) (steps_by 1 os)) ↔ GivenPair c e os b Good
+  pub accepted_exactly : r ≡ Ok (pair_facts_of c e (steps_by 0 os) (steps_by 1 os)) ↔ GivenPair c e os b (Ok tt)
   accepted_exactly = pair_laws.accepted_when w
 
   -- "no room" is exact over the union: nothing else is wrong, and at some moment the nodes that either needs exceed the records
-  pub no_room_exactly : ((i : ℕ) × (r ≡ PairAnswer.Refused (NoRoom i)))
+  pub no_room_exactly : ((i : ℕ) × (r ≡ Err (NoRoom i)))
       ↔ PairFaultless c e os b
       × ((k : ℕ) × (k ≤ length os) × Exceeds (pair_nodes_after c e os k) (pair_records_in (length b.table)))
   no_room_exactly = pair_laws.no_room-when w
 
   -- its place is that of the last operation done at the first such moment, 0 before the first
-  pub no_room-place : (i : ℕ) → r ≡ PairAnswer.Refused (NoRoom i)
+  pub no_room-place : (i : ℕ) → r ≡ Err (NoRoom i)
       ↔ PairFaultless c e os b × ((k : ℕ) × (i ≡ pred k) × PairNoRoomAfter c e os (pair_records_in (length b.table)) k)
   no_room-place = pair_laws.no_room-at w
 
 module _ {c e : Corner} {os : List ℕ} {b b' : PairLent} where
   -- a refusal leaves the buffers untouched
-  pub refused_untouched : (q : Refusal) → (refusal_number q ≡ 7 → ⊥) → PairIs c e os b (PairAnswer.Refused q) b' → b' ≡ b
+  pub refused_untouched : (q : Refusal) → (refusal_number q ≡ 7 → ⊥) → PairIs c e os b (Err q) b' → b' ≡ b
   refused_untouched = pair_laws.untouched
 
   -- except that "no room" leaves them all zero
-  pub no_room_zero : (i : ℕ) → PairIs c e os b (PairAnswer.Refused (NoRoom i)) b'
+  pub no_room_zero : (i : ℕ) → PairIs c e os b (Err (NoRoom i)) b'
       → (b'.table ≡ replicate (length b.table) 0) × (b'.marks ≡ replicate (length b.marks) 0)
       × (b'.first ≡ replicate (length b.first) 0) × (b'.second ≡ replicate (length b.second) 0)
   no_room_zero = pair_laws.all_zero
@@ -147,7 +146,7 @@ pub known_stays : (slots : List Slot) (a : Corner) (i : ℕ) → At slots i a �
 known_stays = slot_laws.placed_known
 
 -- ---- Demand 2: what an accepted call answers and leaves
-module _ {c e : Corner} {os : List ℕ} {b b' : PairLent} {f : PairFacts} (w : PairIs c e os b (PairAnswer.Accepted f) b') where
+module _ {c e : Corner} {os : List ℕ} {b b' : PairLent} {f : PairFacts} (w : PairIs c e os b (Ok f) b') where
   -- nothing was wrong with it, and the table was large enough at every moment
   pub faultless : PairFaultless c e os b
       × ((k : ℕ) → k ≤ length os → pair_nodes_after c e os k ≤ pair_records_in (length b.table))
@@ -163,7 +162,7 @@ module _ {c e : Corner} {os : List ℕ} {b b' : PairLent} {f : PairFacts} (w : P
 
   -- which is what a call of its own would answer, apart from the nodes
   pub as_alone : (q : ℕ) → q < 2 → {t ms ch t' ms' ch' : List ℕ} {g : Facts}
-      → WalkIs (by_party q c e) (own_ops q os) t ms ch (Answer.Accepted g) t' ms' ch' → by_party q f.first f.second ≡ own_in g
+      → WalkIs (by_party q c e) (own_ops q os) t ms ch (Ok g) t' ms' ch' → by_party q f.first f.second ≡ own_in g
   as_alone = end_laws.as_alone w
 
   -- so is its chain: the surviving steps, then zeros
@@ -227,7 +226,7 @@ differs_exactly = change_laws.differs_exactly pair_width
 
 -- ---- "a party's verdict, meeting, area, chain, visits and edge counts depend on its own start and operations alone"
 module _ {c e c₁ e₁ : Corner} {os os₁ : List ℕ} {b b' b₁ b₁' : PairLent} {f f₁ : PairFacts}
-    (w : PairIs c e os b (PairAnswer.Accepted f) b') (v : PairIs c₁ e₁ os₁ b₁ (PairAnswer.Accepted f₁) b₁')
+    (w : PairIs c e os b (Ok f) b') (v : PairIs c₁ e₁ os₁ b₁ (Ok f₁) b₁')
     (q : ℕ) (party : q < 2) (start : by_party q c e ≡ by_party q c₁ e₁) (operations : own_ops q os ≡ own_ops q os₁) where
   -- verdict, steps, corners, meeting, area, last corner
   pub alike_facts : by_party q f.first f.second ≡ by_party q f₁.first f₁.second
@@ -251,8 +250,8 @@ module _ {c e c₁ e₁ : Corner} {os os₁ : List ℕ} {b b' b₁ b₁' : PairL
 -- ---- "two neighbouring operations of different parties, exchanged, give the same end apart from node numbers, the refs that
 -- hold them and marks, provided both orders are accepted"
 module _ {c e : Corner} (xs : List ℕ) (o p : ℕ) (ys : List ℕ) {b b' b₁ b₁' : PairLent} {f f₁ : PairFacts}
-    (w : PairIs c e (xs ++ (o ∷ p ∷ ys)) b (PairAnswer.Accepted f) b')
-    (v : PairIs c e (xs ++ (p ∷ o ∷ ys)) b₁ (PairAnswer.Accepted f₁) b₁') (different : party_of o ≡ party_of p → ⊥) where
+    (w : PairIs c e (xs ++ (o ∷ p ∷ ys)) b (Ok f) b')
+    (v : PairIs c e (xs ++ (p ∷ o ∷ ys)) b₁ (Ok f₁) b₁') (different : party_of o ≡ party_of p → ⊥) where
   pub exchanged_facts : f ≡ f₁
   exchanged_facts = end_laws.exchanged_facts xs o p ys w v different
 
@@ -267,10 +266,10 @@ module _ {c e : Corner} (xs : List ℕ) (o p : ℕ) (ys : List ℕ) {b b' b₁ b
 -- if it is accepted, so is the record of the surviving steps alone in a table of the same size, in whatever way the two parties'
 -- steps are mixed
 module _ {c e : Corner} {os alone : List ℕ} {b b' b₁ b₂ : PairLent} {f : PairFacts} {r : PairAnswer}
-    (w : PairIs c e os b (PairAnswer.Accepted f) b') (a : AloneOf os alone) (v : PairIs c e alone b₁ r b₂)
+    (w : PairIs c e os b (Ok f) b') (a : AloneOf os alone) (v : PairIs c e alone b₁ r b₂)
     (lent : PairLentAlone alone b b₁) where
   -- both give the same answer
-  pub alone_answer : r ≡ PairAnswer.Accepted f
+  pub alone_answer : r ≡ Ok f
   alone_answer = alone_laws.alone_answer w a v lent
 
   -- the same table apart from node numbers and refs
@@ -283,7 +282,7 @@ module _ {c e : Corner} {os alone : List ℕ} {b b' b₁ b₂ : PairLent} {f : P
   alone_steps = alone_laws.alone_steps w a v lent
 
 -- one such record: the bytes whose steps survive, mixed as they came
-pub alone_some : {c e : Corner} {os : List ℕ} {b b' : PairLent} {f : PairFacts} → PairIs c e os b (PairAnswer.Accepted f) b'
+pub alone_some : {c e : Corner} {os : List ℕ} {b b' : PairLent} {f : PairFacts} → PairIs c e os b (Ok f) b'
     → AloneOf os (alone_in os)
 alone_some = alone_laws.alone_some
 
@@ -299,9 +298,9 @@ module _ {c e : Corner} {os : List ℕ} {b b' : PairLent} {r : PairAnswer} (w : 
   -- so a table that large at every moment is never too small
   pub enough_eight : ((k : ℕ) → k ≤ length os → 8 * pair_corners_after c e os k + 136 ≤ pair_records_in (length b.table))
       → (i : ℕ)
-      → r ≡ PairAnswer.Refused (NoRoom i) → ⊥
+      → r ≡ Err (NoRoom i) → ⊥
   enough_eight = alone_laws.enough_eight w
 
   -- nor one with 131,208 records, whatever the two walks
-  pub enough_always : 131208 ≤ pair_records_in (length b.table) → (i : ℕ) → r ≡ PairAnswer.Refused (NoRoom i) → ⊥
+  pub enough_always : 131208 ≤ pair_records_in (length b.table) → (i : ℕ) → r ≡ Err (NoRoom i) → ⊥
   enough_always = alone_laws.enough_always w

@@ -1,6 +1,7 @@
 -- What the judgement of the input of two parties says to the call: the room decides last, an input that is not refused has these sizes, and no
 -- refusal of the input is "no room".
 -- Assumes nothing.
+use Rattle.std.specs.Prelude.{Ok}
 use mathlib.Core.Bool.{true, cond, not, ◌&&◌}
 use mathlib.Core.List.{List, [], ◌∷◌}
 use mathlib.Core.Path.{◌≡◌, refl}
@@ -9,7 +10,6 @@ use native.Mathlib.Omega.{arith}
 use borrow.Author.Tests.{eqb-true, ltb-false, leb-true, not-false}
 use lib.Dec.{eqb, ltb, leb}
 use lib.ListN.{length}
-use Rattle.answer.specs.declared.Judged.TheVariants.{Good}
 use Rattle.answer.specs.declared.Refusal.TheVariants.{TooMany, Table, ResultRoom, StartRange, UnknownParty}
 use Rattle.answer.specs.Refusal.{or_else, when}
 use Rattle.answer.specs.Limits.{most_input, most_pair_records, Near, start_fits}
@@ -51,9 +51,9 @@ pub record PairSized (c e : Corner) (os : List ℕ) (w m k l : ℕ) : Type 0 whe
   pub second : l ≡ length os
   pub start : Near c
   pub other : Near e
-  pub fine : bytes_judged 0 0 0 os ≡ Good
+  pub fine : bytes_judged 0 0 0 os ≡ Ok tt
 
-pub pair_input_good : (c e : Corner) (os : List ℕ) (w m k l : ℕ) → pair_input_judged c e os w m k l ≡ Good → PairSized c e os w m k l
+pub pair_input_good : (c e : Corner) (os : List ℕ) (w m k l : ℕ) → pair_input_judged c e os w m k l ≡ Ok tt → PairSized c e os w m k l
 pair_input_good c e os w m k l p =
     let h = clear (pair_input_judgements c e os w m k l) p in
     let x = eqb m (mark_words * length os) in
@@ -92,9 +92,9 @@ early_pair c e os w m k l =
     let s = when (not (start_fits c)) StartRange in
     let s' = when (not (start_fits e)) StartRange in
     let f = bytes_judged 0 0 0 os in
-    early_or a (or_else b (or_else d (or_else s (or_else s' (or_else f Good))))) (early_when (ltb most_input (length os)) TooMany refl)
-    (early_or b (or_else d (or_else s (or_else s' (or_else f Good)))) (early_when (not (pair_fits w)) Table refl)
-    (early_or d (or_else s (or_else s' (or_else f Good))) (early_when (not (pair_roomy (length os) m k l)) ResultRoom refl)
-    (early_or s (or_else s' (or_else f Good)) (early_when (not (start_fits c)) StartRange refl)
-    (early_or s' (or_else f Good) (early_when (not (start_fits e)) StartRange refl)
-    (early_or f Good (early_bytes 0 0 0 os) tt)))))
+    early_or a (or_else b (or_else d (or_else s (or_else s' (or_else f (Ok tt)))))) (early_when (ltb most_input (length os)) TooMany refl)
+    (early_or b (or_else d (or_else s (or_else s' (or_else f (Ok tt))))) (early_when (not (pair_fits w)) Table refl)
+    (early_or d (or_else s (or_else s' (or_else f (Ok tt)))) (early_when (not (pair_roomy (length os) m k l)) ResultRoom refl)
+    (early_or s (or_else s' (or_else f (Ok tt))) (early_when (not (start_fits c)) StartRange refl)
+    (early_or s' (or_else f (Ok tt)) (early_when (not (start_fits e)) StartRange refl)
+    (early_or f (Ok tt) (early_bytes 0 0 0 os) tt)))))

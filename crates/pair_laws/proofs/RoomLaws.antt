@@ -1,5 +1,6 @@
 -- Refusal 7 of two parties: given at the first moment at which the nodes that either needs exceed the records, and never if all
 -- of the steps survive and the table is large enough in the end. Assumes nothing.
+use Rattle.std.specs.Prelude.{Err, Ok}
 use mathlib.Core.Bool.{Bool, true, false}
 use mathlib.Core.List.{List, [], ◌∷◌, ◌++◌, append_assoc}
 use mathlib.Core.Path.{◌≡◌, refl, ap, ap₂, sym, ◌∙◌, subst}
@@ -8,8 +9,7 @@ use native.Mathlib.Omega.{arith}
 use borrow.Author.Tests.{ltb-false, lt-ltb, le-ltb}
 use lib.Dec.{ltb}
 use lib.ListN.{length, take}
-use Rattle.answer.specs.declared.Judged.{Judged}
-use Rattle.answer.specs.declared.Judged.TheVariants.{Good, Refused}
+use Rattle.answer.specs.Answers.{Judged}
 use Rattle.answer.specs.declared.Refusal.TheVariants.{NoRoom}
 use Rattle.answer.specs.Refusal.{when, or_else}
 use Rattle.lists.specs.Lists.{Below}
@@ -33,28 +33,28 @@ module _ (r : ℕ) (c e : Corner) where
   needs_suc ds es o os k = ap length (needs-next c e ds es o (take k os))
 
   -- the table is large enough now: what is left decides
-  pub room_end : (b : ℕ) (ds es : List ℕ) → length (needs_of c e ds es) ≤ r → when (ltb r (length (needs_of c e ds es))) (NoRoom (pred b)) ≡ Good
+  pub room_end : (b : ℕ) (ds es : List ℕ) → length (needs_of c e ds es) ≤ r → when (ltb r (length (needs_of c e ds es))) (NoRoom (pred b)) ≡ Ok tt
   room_end b ds es h = ap (λ (t : Bool). when t (NoRoom (pred b))) (le-ltb r (length (needs_of c e ds es)) h)
 
   pub room_fits : (b : ℕ) (ds es : List ℕ) (o : ℕ) (os : List ℕ) → length (needs_of c e ds es) ≤ r → pair_room_from r c e b ds es (o ∷ os) ≡ pair_room_from r c e (suc b) (moved_by 0 ds o) (moved_by 1 es o) os
   room_fits b ds es o os h = ap (λ (j : Judged). or_else j (pair_room_from r c e (suc b) (moved_by 0 ds o) (moved_by 1 es o) os)) (room_end b ds es h)
 
   -- the table is large enough at every moment
-  pub room-none : (b : ℕ) (ds es os : List ℕ) → ((k : ℕ) → k ≤ length os → needs ds es os k ≤ r) → pair_room_from r c e b ds es os ≡ Good
+  pub room-none : (b : ℕ) (ds es os : List ℕ) → ((k : ℕ) → k ≤ length os → needs ds es os k ≤ r) → pair_room_from r c e b ds es os ≡ Ok tt
   room-none b ds es [] f = room_end b ds es (f 0 (omega arith))
   room-none b ds es (o ∷ os) f =
       ap₂ or_else (room_end b ds es (f 0 (omega arith)))
       (room-none (suc b) (moved_by 0 ds o) (moved_by 1 es o) os (λ k h. subst (λ (n : ℕ). n ≤ r) (needs_suc ds es o os k) (f (suc k) (omega arith))))
 
-  pub room_full : (b : ℕ) (ds es os : List ℕ) → r < length (needs_of c e ds es) → pair_room_from r c e b ds es os ≡ Refused (NoRoom (pred b))
+  pub room_full : (b : ℕ) (ds es os : List ℕ) → r < length (needs_of c e ds es) → pair_room_from r c e b ds es os ≡ Err (NoRoom (pred b))
   room_full b ds es [] h = ap (λ (t : Bool). when t (NoRoom (pred b))) (lt-ltb r (length (needs_of c e ds es)) h)
   room_full b ds es (o ∷ os) h =
       ap (λ (t : Bool). or_else (when t (NoRoom (pred b))) (pair_room_from r c e (suc b) (moved_by 0 ds o) (moved_by 1 es o) os)) (lt-ltb r (length (needs_of c e ds es)) h)
 
-  pub room-first : (b : ℕ) (ds es os : List ℕ) (k p : ℕ) → k ≤ length os → ((h : ℕ) → h < k → needs ds es os h ≤ r) → r < needs ds es os k → p ≡ pred (b + k) → pair_room_from r c e b ds es os ≡ Refused (NoRoom p)
+  pub room-first : (b : ℕ) (ds es os : List ℕ) (k p : ℕ) → k ≤ length os → ((h : ℕ) → h < k → needs ds es os h ≤ r) → r < needs ds es os k → p ≡ pred (b + k) → pair_room_from r c e b ds es os ≡ Err (NoRoom p)
   room-first b ds es os zero p l f x q =
       let g : pred b ≡ p = omega arith in
-      room_full b ds es os x ∙ ap (λ (n : ℕ). Refused (NoRoom n)) g
+      room_full b ds es os x ∙ ap (λ (n : ℕ). Err (NoRoom n)) g
   room-first b ds es [] (suc k) p l f x q = absurd (omega arith)
   room-first b ds es (o ∷ os) (suc k) p l f x q =
       room_fits b ds es o os (f 0 (omega arith))
@@ -62,7 +62,7 @@ module _ (r : ℕ) (c e : Corner) where
       (subst (λ (n : ℕ). r < n) (needs_suc ds es o os k) x) (omega arith)
 
   -- the table was large enough at every moment
-  pub room-all : (b : ℕ) (ds es os : List ℕ) → pair_room_from r c e b ds es os ≡ Good → (k : ℕ) → k ≤ length os → needs ds es os k ≤ r
+  pub room-all : (b : ℕ) (ds es os : List ℕ) → pair_room_from r c e b ds es os ≡ Ok tt → (k : ℕ) → k ≤ length os → needs ds es os k ≤ r
   room-all b ds es [] g zero l = ltb-false r (length (needs_of c e ds es)) (when_good (ltb r (length (needs_of c e ds es))) (NoRoom (pred b)) g)
   room-all b ds es [] g (suc k) l = absurd (omega arith)
   room-all b ds es (o ∷ os) g zero l =
@@ -91,7 +91,7 @@ moved-append q s o os b = go (moves q o) refl
     )
 
 -- steps alone have a table that is large enough at every moment if it is in the end
-pub room-steps : (r : ℕ) (c e : Corner) (b : ℕ) (ds es os : List ℕ) → Below 4 (own_ops 0 os) → Below 4 (own_ops 1 os) → length (needs_of c e (ds ++ own_ops 0 os) (es ++ own_ops 1 os)) ≤ r → pair_room_from r c e b ds es os ≡ Good
+pub room-steps : (r : ℕ) (c e : Corner) (b : ℕ) (ds es os : List ℕ) → Below 4 (own_ops 0 os) → Below 4 (own_ops 1 os) → length (needs_of c e (ds ++ own_ops 0 os) (es ++ own_ops 1 os)) ≤ r → pair_room_from r c e b ds es os ≡ Ok tt
 room-steps r c e b ds es [] p q h = room_end r c e b ds es (let m = needs_mono c e ds es [] [] in omega arith)
 room-steps r c e b ds es (o ∷ os) p q h =
     let x = moved-append 0 ds o os p in

@@ -1,5 +1,6 @@
 -- The numbers of an answer to two parties are small: a place is one of the input, and an accepted call has few nodes, steps and corners.
 -- Assumes nothing.
+use Rattle.std.specs.Prelude.{Ok}
 use mathlib.Core.Bool.{Bool, true, false, cond, not, ◌&&◌}
 use mathlib.Core.List.{List, [], ◌∷◌}
 use mathlib.Core.Path.{◌≡◌, refl, subst}
@@ -9,8 +10,7 @@ use borrow.Author.Tests.{ltb-false, leb-true, not-false}
 use lib.Dec.{eqb, ltb, leb}
 use lib.ListN.{length, take}
 use lib.Seq.{take_all}
-use Rattle.answer.specs.declared.Judged.{Judged}
-use Rattle.answer.specs.declared.Judged.TheVariants.{Good}
+use Rattle.answer.specs.Answers.{Judged}
 use Rattle.answer.specs.declared.Refusal.TheVariants.{Table, ResultRoom, NoRoom, StartRange, UnknownParty}
 use Rattle.answer.specs.Refusal.{when, or_else}
 use Rattle.answer.specs.Limits.{most_input, most_steps, most_pair_records, start_fits}
@@ -64,16 +64,16 @@ pair_placed c e os w m k l = go (ltb most_input (length os)) refl
     s' : Judged
     s' = when (not (start_fits e)) StartRange
 
-    rest : length os ≤ most_input → Placed most_input (or_else b (or_else d (or_else s (or_else s' (or_else (bytes_judged 0 0 0 os) (or_else (pair_room_from (pair_records_in w) c e 0 [] [] os) Good))))))
+    rest : length os ≤ most_input → Placed most_input (or_else b (or_else d (or_else s (or_else s' (or_else (bytes_judged 0 0 0 os) (or_else (pair_room_from (pair_records_in w) c e 0 [] [] os) (Ok tt)))))))
     rest h =
         let f = bytes_judged 0 0 0 os in
         let r = pair_room_from (pair_records_in w) c e 0 [] [] os in
-        placed_or most_input b (or_else d (or_else s (or_else s' (or_else f (or_else r Good))))) (placed-when most_input (not (pair_fits w)) Table (omega arith))
-        (placed_or most_input d (or_else s (or_else s' (or_else f (or_else r Good)))) (placed-when most_input (not (pair_roomy (length os) m k l)) ResultRoom (omega arith))
-        (placed_or most_input s (or_else s' (or_else f (or_else r Good))) (placed-when most_input (not (start_fits c)) StartRange (omega arith))
-        (placed_or most_input s' (or_else f (or_else r Good)) (placed-when most_input (not (start_fits e)) StartRange (omega arith))
-        (placed_or most_input f (or_else r Good) (placed-more (0 + length os) most_input f (omega arith) (placed-bytes 0 0 0 os))
-        (placed_or most_input r Good (placed-more (0 + length os) most_input r (omega arith) (placed-room (pair_records_in w) c e 0 [] [] os)) tt)))))
+        placed_or most_input b (or_else d (or_else s (or_else s' (or_else f (or_else r (Ok tt)))))) (placed-when most_input (not (pair_fits w)) Table (omega arith))
+        (placed_or most_input d (or_else s (or_else s' (or_else f (or_else r (Ok tt))))) (placed-when most_input (not (pair_roomy (length os) m k l)) ResultRoom (omega arith))
+        (placed_or most_input s (or_else s' (or_else f (or_else r (Ok tt)))) (placed-when most_input (not (start_fits c)) StartRange (omega arith))
+        (placed_or most_input s' (or_else f (or_else r (Ok tt))) (placed-when most_input (not (start_fits e)) StartRange (omega arith))
+        (placed_or most_input f (or_else r (Ok tt)) (placed-more (0 + length os) most_input f (omega arith) (placed-bytes 0 0 0 os))
+        (placed_or most_input r (Ok tt) (placed-more (0 + length os) most_input r (omega arith) (placed-room (pair_records_in w) c e 0 [] [] os)) tt)))))
 
     go : (t : Bool) → ltb most_input (length os) ≡ t → Placed most_input (pair_judged c e os w m k l)
     go true e = rw e (omega arith)
@@ -89,10 +89,10 @@ fits_most : (w : ℕ) → pair_fits w ≡ true → pair_records_in w ≤ most_pa
 fits_most w e = leb-true (pair_records_in w) most_pair_records (and_right (eqb (w % pair_width) 0 && leb 1 (pair_records_in w)) (leb (pair_records_in w) most_pair_records) e)
 
 -- the surviving steps of a party are few
-own_few : (q : ℕ) (os : List ℕ) → ((j : ℕ) → operations_judged j 0 (own_ops q os) ≡ Good) → length (steps_by q os) ≤ most_steps
+own_few : (q : ℕ) (os : List ℕ) → ((j : ℕ) → operations_judged j 0 (own_ops q os) ≡ Ok tt) → length (steps_by q os) ≤ most_steps
 own_few q os h = let s : Walkable (steps_by q os) = walkable_survivors 0 [] (own_ops q os) (record { digits = tt; few = omega arith }) (h 0) in s.few
 
-pub pair_few : (c e : Corner) (os : List ℕ) (w m k l : ℕ) → pair_judged c e os w m k l ≡ Good → PairFew c e os
+pub pair_few : (c e : Corner) (os : List ℕ) (w m k l : ℕ) → pair_judged c e os w m k l ≡ Ok tt → PairFew c e os
 pair_few c e os w m k l g =
     let h = clear (pair_judgements c e os w m k l) g in
     let f = pair_faults_own 0 0 0 os h.1.1.1.1.1.0 in

@@ -1,5 +1,6 @@
 // The neighbour of a node, found or made for one of two parties. It is looked up as for one party, by that party's own links: a
 // loop climbs to the parents until a link of its own, the root or a shared parent is found, and a loop comes down again.
+// That the table is full is said as pair_child says it, by a `Located` with the ref 0, and not by an Option.
 #![tactic(auto)]
 
 ghost use Rattle.std.specs.Prelude.{◌≡◌, false, cond, List, ◌+◌, ◌^◌, ◌<◌, nat_abs, length};
@@ -78,14 +79,12 @@ fn level_down(t: &mut [u32], q: usize, v: Located, u: usize, a: Corner, d: u8, s
     ensures { (slots : List Slot) (B : Both) → Lifts t.old slots B q v u a d step
         → Finds B slots q (reached (B q) step a (stepped d a)) (stepped d a) t.old t.new result }
 {
-    let s = v.stock;
     let e = walk_corner::moved(a, d);
-    let to = child(t, q, s, v.at - 1, walk_corner::child_word(e), step);
-    let at = to.at;
-    if at == 0 {
+    let to = child(t, q, v.stock, v.at - 1, walk_corner::child_word(e), step);
+    if to.at == 0 {
         return to;
     }
-    link(t, q, u, at - 1, d as usize, step);
+    link(t, q, u, to.at - 1, d as usize, step);
     to
 }
 
@@ -140,9 +139,7 @@ fn come_down(
 {
     let mut at = u;
     let mut to = v;
-    let mut left = level;
-    while left > 0 {
-        left -= 1;
+    for left in (0..level).rev() {
         let a = walk_corner::up_by(c, left);
         at = word(t, at, walk_corner::child_word(a)) as usize - 1;
         to = level_down(t, q, to, at, a, d, step);
@@ -163,8 +160,7 @@ fn neighbour(t: &mut [u32], q: usize, s: Stock, u: usize, c: Corner, d: u8, step
         → Finds B slots q (reached (B q) step c (stepped d c)) (stepped d c) t.old t.new result }
 {
     let p = climb(t, q, u, c, d);
-    let corner = p.at;
-    let v = top(t, q, s, p.node, corner, d, step);
+    let v = top(t, q, s, p.node, p.at, d, step);
     if v.at == 0 {
         return v;
     }

@@ -1,5 +1,6 @@
 -- A step of one of two parties, from its lookup, its visit and its edge.
 -- Assumes nothing.
+use Rattle.std.specs.Prelude.{None, Some}
 use mathlib.Core.Bool.{Bool, true}
 use mathlib.Core.List.{List, [], ◌∷◌, ◌++◌, Memᴰ}
 use mathlib.Core.Path.{◌≡◌, refl, ap, sym, ◌∙◌, subst}
@@ -40,7 +41,6 @@ use Rattle.walk_step.specs.Tallies.{TallyIs}
 use Rattle.walk_step.proofs.WalkLaws.{visited_few}
 use Rattle.pair_move.specs.declared.Party.{Party}
 use Rattle.pair_move.specs.declared.Stride.{Stride}
-use Rattle.pair_move.specs.declared.Strode.{Strode}
 use Rattle.pair_move.specs.Moves.{first_after, second_after, fresh_party, PartyIs, Moves, StepCounted, Arrives, PairAdvanced}
 
 -- a party with no step
@@ -195,7 +195,7 @@ module _ (t : List ℕ) (c e : Corner) (ds es : List ℕ) (slots : List Slot) (q
     number : n ≡ suc (length chain)
     number = omega (arith, i, k.party.steps)
 
-    pub moves_full : v.at ≡ 0 → (t' : List ℕ) → PairAdvanced t c e ds es slots q d t' Strode.Full
+    pub moves_full : v.at ≡ 0 → (t' : List ℕ) → PairAdvanced t c e ds es slots q d t' None
     moves_full z t' = full_after q t c e ds es slots k.walked d small (subst (λ (x : Corner). NoRoomFor slots (stepped d x) t) k.party.corner (f.none z))
 
     module _ (g : v.at ≡ 0 → ⊥) where
@@ -211,7 +211,7 @@ module _ (t : List ℕ) (c e : Corner) (ds es : List ℕ) (slots : List Slot) (q
       moves_arrives = record { once = k.walked.place.once; party = k.party; look = look; number = number }
 
       pub moves-to : (t₂ : List ℕ) → t₂ ≡ pair_tread_in q (pair_visit_in q t₁ (v.at - 1) n) p.node (v.at - 1) d → (w : Stride)
-          → PartyIs (placed_all slots (path_of (stepped d (end_from (by_party q c e) (by_party q ds es))))) (by_party q c e) (by_party q ds es ++ (d ∷ [])) w.party → w.stock ≡ v.stock → PairAdvanced t c e ds es slots q d t₂ (Strode.To w)
+          → PartyIs (placed_all slots (path_of (stepped d (end_from (by_party q c e) (by_party q ds es))))) (by_party q c e) (by_party q ds es ++ (d ∷ [])) w.party → w.stock ≡ v.stock → PairAdvanced t c e ds es slots q d t₂ (Some w)
       moves-to t₂ j w h o =
           let now = settle slots (needs_of c e (first_after q ds d) (second_after q es d)) in
           let l = slots-after q c e ds es slots d k.walked.place in

@@ -1,7 +1,8 @@
 -- One of two parties on its way: where it stands and its tally, in the table that both share, as the definitions have them. The
 -- first walks ds from c, the second es from e.
 -- Assumes nothing.
-use Rattle.std.specs.Prelude.{List, [], ◌∷◌, ◌++◌, ◌≡◌, ℕ, suc, ◌+◌, ◌<◌, length, true}
+use Rattle.std.specs.Prelude.{List, [], ◌∷◌, ◌++◌, ◌≡◌, ℕ, suc, ◌+◌, ◌<◌, length, None, Option, Some, true}
+use Rattle.pair_move.specs.declared.Stride.{Stride}
 use Rattle.answer.specs.Limits.{no_meeting}
 use Rattle.grid.specs.declared.Corner.{Corner}
 use Rattle.grid.specs.Grid.{same, stepped, corners_from, end_from}
@@ -18,7 +19,6 @@ use Rattle.pair_child.specs.declared.Stock.{Stock}
 use Rattle.pair_child.specs.Finds.{StockIs}
 use Rattle.walk_step.specs.Tallies.{TallyIs}
 use Rattle.pair_move.specs.declared.Party.{Party}
-use Rattle.pair_move.specs.declared.Strode.{Strode}
 
 -- the steps of the first and of the second, if party q goes one more
 abbrev pub first_after : ℕ → List ℕ → ℕ → List ℕ
@@ -86,9 +86,9 @@ pub record Arriving (t : List ℕ) (q : ℕ) (p : Party) (v d n : ℕ) : Type 0 
 
 -- the answer to a step d: the table, the party and what is in use are those of one step more; or the nodes that both then need
 -- are more than the records
-abbrev pub PairAdvanced : List ℕ → Corner → Corner → List ℕ → List ℕ → List Slot → ℕ → ℕ → List ℕ → Strode → Type 0
-PairAdvanced t c e ds es slots q d t' (Strode.To w) =
+abbrev pub PairAdvanced : List ℕ → Corner → Corner → List ℕ → List ℕ → List Slot → ℕ → ℕ → List ℕ → Option Stride → Type 0
+PairAdvanced t c e ds es slots q d t' (Some w) =
     Moves t' c e (first_after q ds d) (second_after q es d)
     (settle slots (needs_of c e (first_after q ds d) (second_after q es d))) q w.party w.stock
-PairAdvanced t c e ds es slots q d t' Strode.Full =
+PairAdvanced t c e ds es slots q d t' None =
     pair_records_in (length t) < length (needs_of c e (first_after q ds d) (second_after q es d))

@@ -56,13 +56,6 @@ pub struct Stride {
     pub stock: Stock,
 }
 
-// What came of a step: the party stands there, or the table is full.
-#[derive(Clone, Copy)]
-pub enum Strode {
-    To(Stride),
-    Full,
-}
-
 // The tally with a visit as corner n: there were this many visits of the corner with it, the first as corner `first` - 1.
 fn tallied(m: Tally, visits: u32, first: usize, n: usize) -> Tally
     requires { (m.corners < 65536) × (0 < first) × (n < no_meeting) }
@@ -72,15 +65,14 @@ fn tallied(m: Tally, visits: u32, first: usize, n: usize) -> Tally
     if visits == 1 {
         return Tally {
             corners: m.corners + 1,
-            j: m.j,
-            k: m.k,
+            ..m
         };
     }
     if m.k == Tally::NO_MEETING {
         return Tally {
-            corners: m.corners,
             j: first - 1,
             k: n,
+            ..m
         };
     }
     m
@@ -95,15 +87,14 @@ fn untallied(m: Tally, visits: u32, n: usize) -> Tally
     if visits == 1 {
         return Tally {
             corners: m.corners - 1,
-            j: m.j,
-            k: m.k,
+            ..m
         };
     }
     if m.k == n {
         return Tally {
-            corners: m.corners,
             j: Tally::NO_MEETING,
             k: Tally::NO_MEETING,
+            ..m
         };
     }
     m
@@ -119,11 +110,9 @@ fn arrive(t: &mut [u32], q: usize, p: Party, v: usize, d: u8, n: usize) -> Party
 {
     pair_words::visit(t, q, v, n);
     pair_words::tread(t, q, p.node, v, d as usize);
-    let before = p.tally;
-    let here = p.at;
     let first = own(t, q, v, Record::FIRST) as usize;
-    let tally = tallied(before, own(t, q, v, Record::VISITS), first, n);
-    let at = walk_corner::moved(here, d);
+    let tally = tallied(p.tally, own(t, q, v, Record::VISITS), first, n);
+    let at = walk_corner::moved(p.at, d);
     Party {
         node: v,
         at,
@@ -133,7 +122,7 @@ fn arrive(t: &mut [u32], q: usize, p: Party, v: usize, d: u8, n: usize) -> Party
 }
 
 // One step of party q in the direction d.
-pub fn advance(t: &mut [u32], q: usize, p: Party, s: Stock, d: u8) -> Strode
+pub fn advance(t: &mut [u32], q: usize, p: Party, s: Stock, d: u8) -> Option<Stride>
     requires moving { Moving t.old q p s }
     requires at_bound { (nat_abs p.at.0 < 65536) × (nat_abs p.at.1 < 65536) × (d < 4) × (q < 2) × (p.steps + 1 < no_meeting)
         × (length t.old < 2 ^ 32) }
@@ -141,15 +130,15 @@ pub fn advance(t: &mut [u32], q: usize, p: Party, s: Stock, d: u8) -> Strode
         → PairAdvanced t.old c e ds es slots q d t.new result }
 {
     let n = p.steps + 1;
-    let here = p.at;
-    let to = pair_lookup::reach(t, q, s, p.node, here, d, n as u32);
-    let at = to.at;
-    if at == 0 {
-        return Strode::Full;
+    let to = pair_lookup::reach(t, q, s, p.node, p.at, d, n as u32);
+    if to.at == 0 {
+        return None;
     }
-    let party = arrive(t, q, p, at - 1, d, n);
-    let stock = to.stock;
-    Strode::To(Stride { party, stock })
+    let party = arrive(t, q, p, to.at - 1, d, n);
+    Some(Stride {
+        party,
+        stock: to.stock,
+    })
 }
 
 // The node from which the last step came, which went in the direction d to the node.

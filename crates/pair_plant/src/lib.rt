@@ -34,13 +34,10 @@ fn grow(t: &mut [u32], q: usize, s: Stock, c: Corner) -> Located
     ensures { (slots : List Slot) (C : Both) → Plants t.old slots C q s
         → Finds C slots q (planted_of c) c t.old t.new result }
 {
-    let mut left = walk_plant::depth(c);
     let mut to = Located { at: 1, stock: s };
-    while left > 0 {
-        left -= 1;
-        let stock = to.stock;
+    for left in (0..walk_plant::depth(c)).rev() {
         let place = walk_corner::child_word(walk_corner::up_by(c, left));
-        to = pair_child::child(t, q, stock, to.at - 1, place, 0);
+        to = pair_child::child(t, q, to.stock, to.at - 1, place, 0);
         if to.at == 0 {
             return to;
         }
@@ -56,10 +53,9 @@ pub fn plant(t: &mut [u32], q: usize, s: Stock, c: Corner) -> Located
         → Finds C slots q (state_of (c ∷ [])) c t.old t.new result }
 {
     let to = grow(t, q, s, c);
-    let at = to.at;
-    if at == 0 {
+    if to.at == 0 {
         return to;
     }
-    pair_words::visit(t, q, at - 1, 0);
+    pair_words::visit(t, q, to.at - 1, 0);
     to
 }

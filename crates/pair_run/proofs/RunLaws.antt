@@ -1,5 +1,6 @@
 -- The run of two parties: before operation i, both after the operations before it, and what is left to do.
 -- Assumes nothing.
+use Rattle.std.specs.Prelude.{Err, Ok, Result}
 use mathlib.Core.Bool.{Bool, cond}
 use mathlib.Core.List.{List, [], ◌∷◌, ◌++◌, append_assoc, append-nil}
 use mathlib.Core.Path.{◌≡◌, refl, ap, ap₂, sym, ◌∙◌, subst, subst₂}
@@ -8,11 +9,10 @@ use native.Mathlib.Omega.{arith}
 use borrow.Author.Tests.{eq-eqb, ne_eqb}
 use lib.ListN.{length, take, drop, get_or, drop_of_length-le}
 use lib.Seq.{length-sets, drop-cons, take_all}
-use Rattle.answer.specs.declared.Judged.TheVariants.{Good, Refused}
-use Rattle.answer.specs.declared.Refusal.TheVariants.{NoRoom}
+use Rattle.answer.specs.declared.Refusal.{Refusal}
 use Rattle.grid.specs.declared.Corner.{Corner}
 use Rattle.layout.specs.Marks.{mark_words, changes_by}
-use Rattle.steps.specs.Operations.{survivors_from, Fine}
+use Rattle.steps.specs.Operations.{survivors_from}
 use Rattle.answer.proofs.RefusalLaws.{or_else_good}
 use Rattle.steps.proofs.SurvivorLaws.{length-operate}
 use Rattle.walk_run.proofs.RunLaws.{take_sets}
@@ -25,12 +25,10 @@ use Rattle.pair_laws.proofs.RoomLaws.{room_end, room_full, room_fits}
 use Rattle.pair_child.specs.declared.Stock.{Stock}
 use Rattle.pair_move.specs.declared.Party.{Party}
 use Rattle.pair_move.specs.declared.Stride.{Stride}
-use Rattle.pair_move.specs.declared.Strode.{Strode}
 use Rattle.pair_move.proofs.MoveLaws.{party_stays}
 use Rattle.pair_move.proofs.BackLaws.{own-needed}
 use Rattle.pair_run.specs.declared.Pair.{Pair}
-use Rattle.pair_run.specs.declared.Course.{Course}
-use Rattle.pair_run.specs.Runs.{first_by, second_by, slots_by, PairKept, PairReady, mark_by, PairPerformed, BothKept, PairStarts, PairRan}
+use Rattle.pair_run.specs.Runs.{first_by, second_by, slots_by, PairKept, mark_by, PairPerformed, BothKept, PairRan}
 use Rattle.pair_run.proofs.TurnLaws.{kept_nodes, kept-room}
 
 -- ---- the party of a byte, and its operation
@@ -57,10 +55,6 @@ chosen (suc q) o m x y = ap (λ (b : Bool). cond b x y) (ne_eqb (party_of o) 0 (
 visits_by : (q : ℕ) (c e : Corner) (xs ys : List ℕ) → by_party q (visits_of c xs) (visits_of e ys) ≡ visits_of (by_party q c e) (by_party q xs ys)
 visits_by zero c e xs ys = refl
 visits_by (suc q) c e xs ys = refl
-
-length-by : (q : ℕ) (xs ys : List ℕ) → by_party q (length xs) (length ys) ≡ length (by_party q xs ys)
-length-by zero xs ys = refl
-length-by (suc q) xs ys = refl
 
 few_by-first : (q : ℕ) (ds : List ℕ) (o : ℕ) → length (first_by q ds o) ≤ length ds + 1
 few_by-first zero ds o = length-operate ds o
@@ -115,27 +109,11 @@ pub record PairRunning (words : ℕ) (c e : Corner) (ops t ms first second : Lis
   pub rest-first : steps_by 0 ops ≡ survivors_from firsts (own_ops 0 (drop i ops))
   pub rest_second : steps_by 1 ops ≡ survivors_from seconds (own_ops 1 (drop i ops))
   pub rest-slots : slots_of c e ops ≡ slots_from c e slots firsts seconds (drop i ops)
-  pub fine : bytes_judged i (length firsts) (length seconds) (drop i ops) ≡ Good
+  pub fine : bytes_judged i (length firsts) (length seconds) (drop i ops) ≡ Ok tt
   pub room : pair_room_from (pair_records_in words) c e 0 [] [] ops ≡ pair_room_from (pair_records_in words) c e i firsts seconds (drop i ops)
   pub marked : pair_marks_of (pair_records_in words) c e ops ≡ take (mark_words * i) ms ++ pair_marks_from (pair_records_in words) c e slots firsts seconds (drop i ops)
   pub few_first : length firsts ≤ i
   pub few_second : length seconds ≤ i
-
-pub running_start : (words : ℕ) (ops t ms first second : List ℕ) (w : Pair) → PairStarts t first second w → bytes_judged 0 0 0 ops ≡ Good → PairRunning words w.first.at w.second.at ops t ms first second w.first w.second w.stock 0
-running_start words ops t ms first second w k f = record {
-  firsts = [];
-  seconds = [];
-  slots = _;
-  both = k;
-  rest-first = refl;
-  rest_second = refl;
-  rest-slots = refl;
-  fine = f;
-  room = refl;
-  marked = refl;
-  few_first = omega arith;
-  few_second = omega arith;
-}
 
 -- the nodes that both need have records
 fits : (t first second : List ℕ) (c e : Corner) (ds es : List ℕ) (slots : List Slot) (one two : Party) (s : Stock) → BothKept t first second c e ds es slots one two s → length (needs_of c e ds es) ≤ pair_records_in (length t)
@@ -162,8 +140,8 @@ module _ (words : ℕ) (c e : Corner) (ops t ms first second : List ℕ) (one tw
   left : drop i ops ≡ b ∷ rest
   left = drop-cons ops i 0 more
 
-  faults : (byte_fault_of i (length ds) (length es) b ≡ Good) × (bytes_judged (suc i) (after_by 0 (length ds) b) (after_by 1 (length es) b) rest ≡ Good)
-  faults = or_else_good (byte_fault_of i (length ds) (length es) b) (bytes_judged (suc i) (after_by 0 (length ds) b) (after_by 1 (length es) b) rest) (subst (λ (l : List ℕ). bytes_judged i (length ds) (length es) l ≡ Good) left k.fine)
+  faults : (byte_fault_of i (length ds) (length es) b ≡ Ok tt) × (bytes_judged (suc i) (after_by 0 (length ds) b) (after_by 1 (length es) b) rest ≡ Ok tt)
+  faults = or_else_good (byte_fault_of i (length ds) (length es) b) (bytes_judged (suc i) (after_by 0 (length ds) b) (after_by 1 (length es) b) rest) (subst (λ (l : List ℕ). bytes_judged i (length ds) (length es) l ≡ Ok tt) left k.fine)
 
   -- the party is known
   pub running_known : get_or ops i 0 < 32
@@ -176,25 +154,6 @@ module _ (words : ℕ) (c e : Corner) (ops t ms first second : List ℕ) (one tw
 
     abbrev ys : List ℕ
     ys = second_by q es o
-
-    pub running_ready : length first ≡ length ops → length second ≡ length ops → PairReady t (by_party q first second) q (by_party q one two) s o
-    running_ready l m =
-        let h = both-kept t first second c e ds es k.slots one two s k.both q in
-        let f : Fine (length (by_party q ds es)) o = subst₂ Fine (chosen q b mine (length ds) (length es) ∙ length-by q ds es) (sym is) (pair_fault_none i (length ds) (length es) b faults.0).1 in
-        record {
-          first = c;
-          second = e;
-          firsts = ds;
-          seconds = es;
-          slots = k.slots;
-          here = h;
-          fine = subst (λ (n : ℕ). Fine n o) (sym h.moves.party.steps) f;
-          next = λ g. space q h.moves.party.steps;
-        }
-      where
-        space : (q : ℕ) → (by_party q one two).steps ≡ length (by_party q ds es) → (by_party q one two).steps < length (by_party q first second)
-        space zero j = omega (arith, j, k.few_first, l, more)
-        space (suc q) j = omega (arith, j, k.few_second, m, more)
 
     to-first : moved_by 0 ds b ≡ xs
     to-first = moved-first q ds b mine ∙ ap (first_by q ds) (sym is)
@@ -210,17 +169,19 @@ module _ (words : ℕ) (c e : Corner) (ops t ms first second : List ℕ) (one tw
         ∙ room_fits R c e i ds es b rest (subst (λ (n : ℕ). length (needs_of c e ds es) ≤ pair_records_in n) long (fits t first second c e ds es k.slots one two s k.both))
         ∙ ap₂ (λ (f g : List ℕ). pair_room_from R c e (suc i) f g rest) to-first to_second
 
-    module _ (t' ms' ch : List ℕ) (r : Strode)
-        (f : (c e : Corner) (ds es : List ℕ) (slots : List Slot) → PairKept t (by_party q first second) c e ds es slots q (by_party q one two) s → PairPerformed words ms i c e ds es slots q o t' ms' ch r) where
+    module _ (t' ms' ch : List ℕ) (r : Result Stride Refusal)
+        (f : (c e : Corner) (ds es : List ℕ) (slots : List Slot) → PairKept t (by_party q first second) c e ds es slots q (by_party q one two) s → PairPerformed (length t) ms i c e ds es slots q o t' ms' ch r) where
       done : PairPerformed words ms i c e ds es k.slots q o t' ms' ch r
-      done = f c e ds es k.slots (both-kept t first second c e ds es k.slots one two s k.both q)
+      done = subst (λ (n : ℕ). PairPerformed n ms i c e ds es k.slots q o t' ms' ch r) long (f c e ds es k.slots (both-kept t first second c e ds es k.slots one two s k.both q))
 
       -- the table is full
-      pub running_full : r ≡ Strode.Full → pair_room_from (pair_records_in words) c e 0 [] [] ops ≡ Refused (NoRoom i)
-      running_full j = went ∙ room_full R c e (suc i) xs ys rest (subst (PairPerformed words ms i c e ds es k.slots q o t' ms' ch) j done)
+      pub running_full : (n : Refusal) → r ≡ Err n → pair_room_from (pair_records_in words) c e 0 [] [] ops ≡ Err n
+      running_full n j =
+          let g = subst (PairPerformed words ms i c e ds es k.slots q o t' ms' ch) j done in
+          subst (λ (x : Refusal). pair_room_from R c e 0 [] [] ops ≡ Err x) (sym g.0) (went ∙ room_full R c e (suc i) xs ys rest g.1)
 
       -- both go on, and the operation is marked
-      pub running_next : (x : Stride) → r ≡ Strode.To x → mark_words * suc i ≤ length ms
+      pub running_next : (x : Stride) → r ≡ Ok x → mark_words * suc i ≤ length ms
           → (length t' ≡ words) × (length ms' ≡ length ms) × PairRunning words c e ops t' ms' (by_party q ch first) (by_party q second ch) (by_party q x.party one) (by_party q two x.party) x.stock (i + 1)
       running_next x j l =
           let g = subst (PairPerformed words ms i c e ds es k.slots q o t' ms' ch) j done in
@@ -241,8 +202,8 @@ module _ (words : ℕ) (c e : Corner) (ops t ms first second : List ℕ) (one tw
               rest_second = k.rest_second ∙ ap (λ (y : List ℕ). survivors_from es (own_ops 1 y)) left ∙ own-next 1 es b rest ∙ ap₂ (λ (y : List ℕ) (m : ℕ). survivors_from y (own_ops 1 (drop m ops))) to_second n;
               rest-slots = k.rest-slots ∙ ap (slots_from c e k.slots ds es) left ∙ ap₂ (λ (f g : List ℕ). slots_from c e (settle k.slots (needs_of c e f g)) f g rest) to-first to_second ∙ ap (λ (m : ℕ). slots_from c e slots' xs ys (drop m ops)) n;
               fine =
-                  subst (λ (m : ℕ). bytes_judged m (length xs) (length ys) (drop m ops) ≡ Good) n
-                  (subst₂ (λ (f g : ℕ). bytes_judged (suc i) f g rest ≡ Good) (after_by-length 0 ds b ∙ ap length to-first) (after_by-length 1 es b ∙ ap length to_second) faults.1);
+                  subst (λ (m : ℕ). bytes_judged m (length xs) (length ys) (drop m ops) ≡ Ok tt) n
+                  (subst₂ (λ (f g : ℕ). bytes_judged (suc i) f g rest ≡ Ok tt) (after_by-length 0 ds b ∙ ap length to-first) (after_by-length 1 es b ∙ ap length to_second) faults.1);
               room = went ∙ ap (λ (m : ℕ). pair_room_from R c e m xs ys (drop m ops)) n;
               marked =
                   k.marked
@@ -258,7 +219,7 @@ module _ (words : ℕ) (c e : Corner) (ops t ms first second : List ℕ) (one tw
 
 -- the end
 pub running_end : (words : ℕ) (c e : Corner) (ops t ms first second : List ℕ) (one two : Party) (s : Stock) (i : ℕ) → PairRunning words c e ops t ms first second one two s i → length t ≡ words
-    → length ops ≤ i → length ms ≡ mark_words * length ops → i ≤ length ops → (w : Pair) → w.first ≡ one → w.second ≡ two → w.stock ≡ s → PairRan words c e ops t ms first second (Course.All w)
+    → length ops ≤ i → length ms ≡ mark_words * length ops → i ≤ length ops → (w : Pair) → w.first ≡ one → w.second ≡ two → w.stock ≡ s → PairRan words c e ops t ms first second (Ok w)
 running_end words c e ops t ms first second one two s i k long h l m w p q r =
     let R = pair_records_in words in
     let d : drop i ops ≡ [] = drop_of_length-le ops h in

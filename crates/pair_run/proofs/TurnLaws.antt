@@ -1,5 +1,6 @@
 -- One operation of one of two parties: a step or a take-back, with its chain, the records that it changed, and its mark.
 -- Assumes nothing.
+use Rattle.std.specs.Prelude.{Err, None, Ok, Option, Some}
 use mathlib.Core.List.{List, [], ◌∷◌, ◌++◌}
 use mathlib.Core.Path.{◌≡◌, refl, ap, ap₂, sym, ◌∙◌, subst, subst₂}
 use Prim.Native.Nat.{ℕ, zero, suc, ◌+◌, ◌-◌, ◌*◌, ◌%◌, ◌<◌, ◌≤◌}
@@ -8,6 +9,7 @@ use lib.IntN.{nat_abs}
 use lib.ListN.{length, length-append, take, get_or, set}
 use lib.Seq.{sets}
 use Rattle.answer.specs.Limits.{most_steps}
+use Rattle.answer.specs.declared.Refusal.TheVariants.{NoRoom}
 use Rattle.grid.specs.declared.Corner.{Corner}
 use Rattle.grid.specs.Grid.{stepped, corners_from, end_from}
 use Rattle.layout.specs.Marks.{mark_words, changes_by}
@@ -29,13 +31,11 @@ use Rattle.walk_step.specs.Chains.{ChainKeeps}
 use Rattle.walk_step.proofs.ChainLaws.{keeps_near, keeps_place, keeps_split, keeps_digit, keeps_back, keeps_step}
 use Rattle.pair_move.specs.declared.Party.{Party}
 use Rattle.pair_move.specs.declared.Stride.{Stride}
-use Rattle.pair_move.specs.declared.Strode.{Strode}
 use Rattle.pair_move.specs.Moves.{first_after, second_after, Moves, PairAdvanced}
 use Rattle.pair_move.proofs.MoveLaws.{own_state, own-after}
 use Rattle.pair_move.proofs.BackLaws.{back-corner, back-steps}
 use Rattle.pair_change.specs.Counts.{WithStep, SomeStep, Changes}
 use Rattle.pair_change.proofs.WalkedLaws.{step_with, back_with, mark_step, mark-back}
-use Rattle.pair_run.specs.declared.Acted.{Acted}
 use Rattle.pair_run.specs.declared.Turn.{Turn}
 use Rattle.pair_run.specs.Runs.{first_by, second_by, slots_by, PairKept, PairActed, PairPerformed}
 
@@ -86,10 +86,10 @@ module _ (t ch : List ℕ) (c e : Corner) (ds es : List ℕ) (slots : List Slot)
   module _ (known : q < 2) where
     -- ---- a step
     module _ (d : ℕ) (small : d < 4) (t' : List ℕ) where
-      pub turned_full : PairAdvanced t c e ds es slots q d t' Strode.Full → (ch' : List ℕ) → PairActed (length t) c e ds es slots q d t' ch' Acted.Full
+      pub turned_full : PairAdvanced t c e ds es slots q d t' None → (ch' : List ℕ) → PairActed (length t) c e ds es slots q d t' ch' None
       turned_full h ch' = subst₂ (λ (xs ys : List ℕ). pair_records_in (length t) < length (needs_of c e xs ys)) (sym (by_step_first q ds d small)) (sym (by_step_second q es d small)) h
 
-      module _ (w : Stride) (h : PairAdvanced t c e ds es slots q d t' (Strode.To w)) where
+      module _ (w : Stride) (h : PairAdvanced t c e ds es slots q d t' (Some w)) where
         abbrev more : List Slot
         more = settle slots (needs_of c e (first_after q ds d) (second_after q es d))
 
@@ -121,7 +121,7 @@ module _ (t ch : List ℕ) (c e : Corner) (ds es : List ℕ) (slots : List Slot)
 
           -- both are as after the step, and this many records changed
           pub step_turned : (x : Turn) → x.stride ≡ w → Changes t' (both_of (corners_from c ds) (corners_from e es)) slots x.changed → length t' ≡ length t → length t % pair_width ≡ 0
-              → PairActed (length t) c e ds es slots q d t' (set ch p.steps d) (Acted.To x)
+              → PairActed (length t) c e ds es slots q d t' (set ch p.steps d) (Some x)
           step_turned x i g l whole =
               let R = pair_records_in (length t) in
               let P : List ℕ → List ℕ → Type 0 = λ xs ys. PairKept t' (set ch p.steps d) c e xs ys (settle slots (needs_of c e xs ys)) q x.stride.party x.stride.stock × (length t' ≡ length t) × (x.changed ≡ changes_by pair_width R (pair_table_of (R * pair_width) c e slots ds es) (pair_table_of (R * pair_width) c e (settle slots (needs_of c e xs ys)) xs ys)) in
@@ -172,11 +172,11 @@ module _ (t ch : List ℕ) (c e : Corner) (ds es : List ℕ) (slots : List Slot)
       pub back-turned : (t' : List ℕ) (x : Turn)
           → Moves t' c e (by_party q (take (p.steps - 1) ch) ds) (by_party q es (take (p.steps - 1) ch)) (settle slots (needs_of c e (by_party q (take (p.steps - 1) ch) ds) (by_party q es (take (p.steps - 1) ch)))) q x.stride.party x.stride.stock
           → Changes t (both_of (corners_from c (by_party q (take (p.steps - 1) ch) ds)) (corners_from e (by_party q es (take (p.steps - 1) ch)))) (settle slots (needs_of c e (by_party q (take (p.steps - 1) ch) ds) (by_party q es (take (p.steps - 1) ch)))) x.changed
-          → length t' ≡ length t → length t % pair_width ≡ 0 → (o : ℕ) → o ≡ 4 → PairActed (length t) c e ds es slots q o t' ch (Acted.To x)
+          → length t' ≡ length t → length t % pair_width ≡ 0 → (o : ℕ) → o ≡ 4 → PairActed (length t) c e ds es slots q o t' ch (Some x)
       back-turned t' x h g i whole o j =
           let R = pair_records_in (length t) in
           let P : List ℕ → List ℕ → Type 0 = λ f g. PairKept t' ch c e f g (settle slots (needs_of c e f g)) q x.stride.party x.stride.stock × (length t' ≡ length t) × (x.changed ≡ changes_by pair_width R (pair_table_of (R * pair_width) c e slots ds es) (pair_table_of (R * pair_width) c e (settle slots (needs_of c e f g)) f g)) in
-          subst (λ (n : ℕ). PairActed (length t) c e ds es slots q n t' ch (Acted.To x)) (sym j)
+          subst (λ (n : ℕ). PairActed (length t) c e ds es slots q n t' ch (Some x)) (sym j)
           (subst₂ P (sym (by-back-first ds es l d q split)) (sym (by-back_second ds es l d q split)) (
             record { moves = h; own = subst (ChainKeeps start ch) (own-less ds es l d q) (keeps_back start ch own k.own p.steps k.moves.party.steps some) },
             i,
@@ -207,12 +207,12 @@ module _ (t ch : List ℕ) (c e : Corner) (ds es : List ℕ) (slots : List Slot)
         ∙ ap₂ (λ (f g : ℕ). set (set (set ms (mark_words * i) f) (suc (mark_words * i)) g) (suc (suc (mark_words * i))) n) kept_nodes seen
 
 -- ---- the same with its mark
-module _ (words : ℕ) (ms : List ℕ) (i : ℕ) (c e : Corner) (ds es : List ℕ) (slots : List Slot) (q : ℕ) (known : q < 2) (o : ℕ) (t ch : List ℕ) (r : Acted) (h : PairActed words c e ds es slots q o t ch r) where
-  pub performed_full : r ≡ Acted.Full → (ms' : List ℕ) → PairPerformed words ms i c e ds es slots q o t ms' ch Strode.Full
-  performed_full j ms' = subst (PairActed words c e ds es slots q o t ch) j h
+module _ (words : ℕ) (ms : List ℕ) (i : ℕ) (c e : Corner) (ds es : List ℕ) (slots : List Slot) (q : ℕ) (known : q < 2) (o : ℕ) (t ch : List ℕ) (r : Option Turn) (h : PairActed words c e ds es slots q o t ch r) where
+  pub performed_full : r ≡ None → (ms' : List ℕ) → PairPerformed words ms i c e ds es slots q o t ms' ch (Err (NoRoom i))
+  performed_full j ms' = (refl, subst (PairActed words c e ds es slots q o t ch) j h)
 
-  module _ (x : Turn) (j : r ≡ Acted.To x) where
-    turned : PairActed words c e ds es slots q o t ch (Acted.To x)
+  module _ (x : Turn) (j : r ≡ Some x) where
+    turned : PairActed words c e ds es slots q o t ch (Some x)
     turned = subst (PairActed words c e ds es slots q o t ch) j h
 
     pub performed_in : (suc x.stride.party.node * pair_width ≤ length t) × (x.stride.stock.nodes * pair_width ≤ length t)
@@ -222,7 +222,7 @@ module _ (words : ℕ) (ms : List ℕ) (i : ℕ) (c e : Corner) (ds es : List �
     )
 
     pub performed_to : (ms' : List ℕ) → ms' ≡ set (set (set ms (mark_words * i) x.stride.stock.nodes) (mark_words * i + 1) (words_in t x.stride.party.node (of_party q visits_word))) (mark_words * i + 2) x.changed
-        → PairPerformed words ms i c e ds es slots q o t ms' ch (Strode.To x.stride)
+        → PairPerformed words ms i c e ds es slots q o t ms' ch (Ok x.stride)
     performed_to ms' m =
         let g = turned in (
           g.0,

@@ -1,9 +1,11 @@
 -- Two parties that follow their operations in one table: the steps of each in its chain, and what the run answers. The first has
 -- walked ds from c, the second es from e.
 -- Assumes nothing.
-use Rattle.std.specs.Prelude.{List, [], ◌∷◌, ◌≡◌, ℕ, ◌*◌, ◌<◌, length}
+use Rattle.std.specs.Prelude.{List, [], ◌∷◌, ◌≡◌, ℕ, ◌*◌, ◌<◌, Err, None, Ok, Option, Result, Some, length}
+use Rattle.pair_run.specs.declared.Turn.{Turn}
+use Rattle.pair_move.specs.declared.Stride.{Stride}
 use Rattle.std.proofs.lemmas.List.Edits.{sets}
-use Rattle.answer.specs.declared.Judged.TheVariants.{Good, Refused}
+use Rattle.answer.specs.declared.Refusal.{Refusal}
 use Rattle.answer.specs.declared.Refusal.TheVariants.{NoRoom}
 use Rattle.grid.specs.declared.Corner.{Corner}
 use Rattle.layout.specs.Marks.{mark_words, changes_by}
@@ -17,11 +19,8 @@ use Rattle.pair_child.specs.declared.Stock.{Stock}
 use Rattle.pair_child.specs.Finds.{StockIs}
 use Rattle.walk_step.specs.Chains.{ChainKeeps}
 use Rattle.pair_move.specs.declared.Party.{Party}
-use Rattle.pair_move.specs.declared.Strode.{Strode}
 use Rattle.pair_move.specs.Moves.{PartyIs, Moves}
 use Rattle.pair_run.specs.declared.Pair.{Pair}
-use Rattle.pair_run.specs.declared.Course.{Course}
-use Rattle.pair_run.specs.declared.Acted.{Acted}
 
 -- the steps of the first and of the second after operation o of party q
 abbrev pub first_by : ℕ → List ℕ → ℕ → List ℕ
@@ -59,12 +58,12 @@ changes_to records c e slots q ds es o =
 
 -- the answer to operation o of party q, in a table of this many words: both after it, and how many records it changed; or the
 -- nodes that both then need are more than the records
-abbrev pub PairActed : ℕ → Corner → Corner → List ℕ → List ℕ → List Slot → ℕ → ℕ → List ℕ → List ℕ → Acted → Type 0
-PairActed words c e ds es slots q o t chain (Acted.To x) =
+abbrev pub PairActed : ℕ → Corner → Corner → List ℕ → List ℕ → List Slot → ℕ → ℕ → List ℕ → List ℕ → Option Turn → Type 0
+PairActed words c e ds es slots q o t chain (Some x) =
     PairKept t chain c e (first_by q ds o) (second_by q es o) (slots_by c e slots q ds es o) q x.stride.party x.stride.stock
     × (length t ≡ words)
     × (x.changed ≡ changes_to (pair_records_in words) c e slots q ds es o)
-PairActed words c e ds es slots q o t chain Acted.Full =
+PairActed words c e ds es slots q o t chain None =
     pair_records_in words < length (needs_of c e (first_by q ds o) (second_by q es o))
 
 -- the mark of operation o of party q
@@ -75,15 +74,15 @@ mark_by records c e slots q ds es o =
     ∷ changes_to records c e slots q ds es o
     ∷ []
 
--- the same with its mark, at place i of the marks ms₀
+-- the same with its mark, at place i of the marks ms₀; the refusal is "no room" at i
 abbrev pub PairPerformed : ℕ → List ℕ → ℕ → Corner → Corner → List ℕ → List ℕ → List Slot → ℕ → ℕ → List ℕ → List ℕ
-    → List ℕ → Strode → Type 0
-PairPerformed words ms₀ i c e ds es slots q o t ms chain (Strode.To x) =
+    → List ℕ → Result Stride Refusal → Type 0
+PairPerformed words ms₀ i c e ds es slots q o t ms chain (Ok x) =
     PairKept t chain c e (first_by q ds o) (second_by q es o) (slots_by c e slots q ds es o) q x.party x.stock
     × (length t ≡ words)
     × (ms ≡ sets ms₀ (mark_words * i) (mark_by (pair_records_in words) c e slots q ds es o))
-PairPerformed words ms₀ i c e ds es slots q o t ms chain Strode.Full =
-    pair_records_in words < length (needs_of c e (first_by q ds o) (second_by q es o))
+PairPerformed words ms₀ i c e ds es slots q o t ms chain (Err r) =
+    (r ≡ NoRoom i) × (pair_records_in words < length (needs_of c e (first_by q ds o) (second_by q es o)))
 
 -- both parties between two operations
 pub record BothKept (t first second : List ℕ) (c e : Corner) (ds es : List ℕ) (slots : List Slot) (one two : Party)
@@ -102,10 +101,10 @@ PairStarts t first second w =
     w.first w.second w.stock
 
 -- the answer to all operations, with the chains as they then stand
-abbrev pub PairRan : ℕ → Corner → Corner → List ℕ → List ℕ → List ℕ → List ℕ → List ℕ → Course → Type 0
-PairRan words c e ops t ms first second (Course.All w) =
+abbrev pub PairRan : ℕ → Corner → Corner → List ℕ → List ℕ → List ℕ → List ℕ → List ℕ → Result Pair Refusal → Type 0
+PairRan words c e ops t ms first second (Ok w) =
     BothKept t first second c e (steps_by 0 ops) (steps_by 1 ops) (slots_of c e ops) w.first w.second w.stock
     × (ms ≡ pair_marks_of (pair_records_in words) c e ops)
-    × (pair_room_from (pair_records_in words) c e 0 [] [] ops ≡ Good)
-PairRan words c e ops t ms first second (Course.Full i) =
-    pair_room_from (pair_records_in words) c e 0 [] [] ops ≡ Refused (NoRoom i)
+    × (pair_room_from (pair_records_in words) c e 0 [] [] ops ≡ Ok tt)
+PairRan words c e ops t ms first second (Err r) =
+    pair_room_from (pair_records_in words) c e 0 [] [] ops ≡ Err r

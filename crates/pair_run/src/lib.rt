@@ -1,9 +1,8 @@
 // Two parties follow their operations in one table, one operation after the other, and each is marked.
 #![tactic(auto)]
 
-ghost use Rattle.std.specs.Prelude.{List, ◌≡◌, ℕ, suc, ◌+◌, ◌*◌, ◌%◌, ◌^◌, ◌<◌, ◌≤◌, length, set};
+ghost use Rattle.std.specs.Prelude.{List, ◌≡◌, ℕ, suc, ◌+◌, ◌*◌, ◌%◌, ◌^◌, ◌<◌, ◌≤◌, length, Ok, set};
 ghost use Rattle.answer.specs.Limits.{most_input};
-ghost use Rattle.answer.specs.declared.Judged.TheVariants.{Good};
 ghost use Rattle.grid.specs.declared.Corner.{Corner as Node};
 ghost use Rattle.layout.specs.Marks.{mark_words};
 ghost use Rattle.layout.specs.Table.{visits_word};
@@ -14,8 +13,9 @@ ghost use Rattle.pair_table_laws.specs.Hold.{of_party, words_in};
 ghost use Rattle.pair_words.specs.Places.{InTable};
 ghost use Rattle.pair_run.specs.Runs.{PairKept, PairReady, PairActed, PairPerformed, PairStarts, PairRan};
 
+use answer::Refusal;
 use pair_child::Stock;
-use pair_move::{Party, Stride, Strode};
+use pair_move::{Party, Stride};
 use walk_step::Walk;
 use walk_table::Record;
 
@@ -27,13 +27,6 @@ pub struct Pair {
     pub stock: Stock,
 }
 
-// Both parties after all operations, or the place of the first for which the table is too small.
-#[derive(Clone, Copy)]
-pub enum Course {
-    All(Pair),
-    Full(usize),
-}
-
 // A party after an operation, what is in use then, and how many records changed.
 #[derive(Clone, Copy)]
 struct Turn {
@@ -41,35 +34,22 @@ struct Turn {
     changed: u32,
 }
 
-// What came of an operation of a party.
-#[derive(Clone, Copy)]
-enum Acted {
-    To(Turn),
-    Full,
-}
-
 // A step of party q.
-fn step(t: &mut [u32], chain: &mut [u8], q: usize, p: Party, s: Stock, d: u8) -> Acted
+fn step(t: &mut [u32], chain: &mut [u8], q: usize, p: Party, s: Stock, d: u8) -> Option<Turn>
     requires pair_ready { PairReady t.old chain.old q p s d × (d < 4) }
     requires q_bound { (q < 2) × (length t.old < 2 ^ 32) × (length t.old % pair_width ≡ 0) }
     ensures { (c e : Node) (ds es : List ℕ) (slots : List Slot)
         → PairKept t.old chain.old c e ds es slots q p s
         → PairActed (length t.old) c e ds es slots q d t.new chain.new result }
 {
-    let place = p.steps;
-    chain[place] = d;
-    match pair_move::advance(t, q, p, s, d) {
-        Strode::To(stride) => {
-            let party = stride.party;
-            let changed = pair_change::changed(t, q, party, d);
-            Acted::To(Turn { stride, changed })
-        }
-        Strode::Full => Acted::Full,
-    }
+    chain[p.steps] = d;
+    let stride = pair_move::advance(t, q, p, s, d)?;
+    let changed = pair_change::changed(t, q, stride.party, d);
+    Some(Turn { stride, changed })
 }
 
 // One operation of party q: 4 takes its last surviving step back, any other is a step.
-fn apply(t: &mut [u32], chain: &mut [u8], q: usize, p: Party, s: Stock, op: u8) -> Acted
+fn apply(t: &mut [u32], chain: &mut [u8], q: usize, p: Party, s: Stock, op: u8) -> Option<Turn>
     requires pair_ready { PairReady t.old chain.old q p s op }
     requires q_bound { (q < 2) × (length t.old < 2 ^ 32) × (length t.old % pair_width ≡ 0) }
     ensures { (c e : Node) (ds es : List ℕ) (slots : List Slot)
@@ -79,11 +59,10 @@ fn apply(t: &mut [u32], chain: &mut [u8], q: usize, p: Party, s: Stock, op: u8) 
     if op != 4 {
         return step(t, chain, q, p, s, op);
     }
-    let last = p.steps - 1;
-    let d = chain[last];
+    let d = chain[p.steps - 1];
     let changed = pair_change::changed(t, q, p, d);
     let stride = pair_move::withdraw(t, q, p, s, d);
-    Acted::To(Turn { stride, changed })
+    Some(Turn { stride, changed })
 }
 
 // The mark at place i: the nodes in use, the visits of party q at the corner that it stands on, and the records that changed.
@@ -93,14 +72,12 @@ fn mark(t: &[u32], marks: &mut [u32], q: usize, x: Stride, i: usize, changed: u3
     ensures { marks.new ≡ set (set (set marks.old (mark_words * i) x.stock.nodes) (mark_words * i + 1)
         (words_in t.now x.party.node (of_party q visits_word))) (mark_words * i + 2) changed }
 {
-    let party = x.party;
-    let stock = x.stock;
-    marks[Walk::MARK_WORDS * i] = stock.nodes as u32;
-    marks[Walk::MARK_WORDS * i + 1] = pair_words::own(t, q, party.node, Record::VISITS);
+    marks[Walk::MARK_WORDS * i] = x.stock.nodes as u32;
+    marks[Walk::MARK_WORDS * i + 1] = pair_words::own(t, q, x.party.node, Record::VISITS);
     marks[Walk::MARK_WORDS * i + 2] = changed;
 }
 
-// One operation of party q at place i: done, and then marked.
+// One operation of party q at place i: done, and then marked; or refused, if the table is too small for it.
 fn perform(
     t: &mut [u32],
     marks: &mut [u32],
@@ -110,7 +87,7 @@ fn perform(
     s: Stock,
     op: u8,
     i: usize,
-) -> Strode
+) -> Result<Stride, Refusal>
     requires pair_ready { PairReady t.old chain.old q p s op }
     requires q_bound { (q < 2) × (length t.old < 2 ^ 32) × (length t.old % pair_width ≡ 0) }
     requires i_in_bounds { (mark_words * suc i ≤ length marks.old) × (i < 2 ^ 32) }
@@ -119,17 +96,13 @@ fn perform(
         → PairPerformed (length t.old) marks.old i c e ds es slots q op t.new marks.new
         chain.new result }
 {
-    match apply(t, chain, q, p, s, op) {
-        Acted::To(x) => {
-            let stride = x.stride;
-            mark(t, marks, q, stride, i, x.changed);
-            Strode::To(stride)
-        }
-        Acted::Full => Strode::Full,
-    }
+    let x = apply(t, chain, q, p, s, op).ok_or(Refusal::NoRoom(i))?;
+    mark(t, marks, q, x.stride, i, x.changed);
+    Ok(x.stride)
 }
 
-// All operations, one after the other, from the table of both parties with no step.
+// All operations, one after the other, from the table of both parties with no step; or "no room" at the first for which the table
+// is too small.
 pub fn run(
     ops: &[u8],
     t: &mut [u32],
@@ -137,8 +110,8 @@ pub fn run(
     first: &mut [u8],
     second: &mut [u8],
     start: Pair,
-) -> Course
-    requires pair_starts { PairStarts t.old first.old second.old start × (bytes_judged 0 0 0 ops.now ≡ Good) }
+) -> Result<Pair, Refusal>
+    requires pair_starts { PairStarts t.old first.old second.old start × (bytes_judged 0 0 0 ops.now ≡ Ok tt) }
     requires t_len_bound { (length t.old < 2 ^ 32) × (length t.old % pair_width ≡ 0) × (length ops.now ≤ most_input) }
     requires marks_len { (length marks.old ≡ mark_words * length ops.now) × (length first.old ≡ length ops.now)
         × (length second.old ≡ length ops.now) }
@@ -148,26 +121,18 @@ pub fn run(
     let mut one = start.first;
     let mut two = start.second;
     let mut stock = start.stock;
-    let mut i = 0;
-    while i < ops.len() {
-        let op = ops[i];
+    for (i, &op) in ops.iter().enumerate() {
         if op < 16 {
-            let Strode::To(x) = perform(t, marks, first, 0, one, stock, op, i) else {
-                return Course::Full(i);
-            };
+            let x = perform(t, marks, first, 0, one, stock, op, i)?;
             one = x.party;
             stock = x.stock;
-            i += 1;
-            continue;
+        } else {
+            let x = perform(t, marks, second, 1, two, stock, op - 16, i)?;
+            two = x.party;
+            stock = x.stock;
         }
-        let Strode::To(x) = perform(t, marks, second, 1, two, stock, op - 16, i) else {
-            return Course::Full(i);
-        };
-        two = x.party;
-        stock = x.stock;
-        i += 1;
     }
-    Course::All(Pair {
+    Ok(Pair {
         first: one,
         second: two,
         stock,

@@ -1,6 +1,7 @@
 -- Each party's steps follow from its own operations; neighbouring operations of different parties may be exchanged; and nothing is wrong
 -- with the bytes of two parties exactly if each party is known and nothing is wrong with its own operations.
 -- Assumes nothing.
+use Rattle.std.specs.Prelude.{Ok}
 use mathlib.Core.Bool.{Bool, true, false, cond}
 use mathlib.Core.List.{List, [], ◌∷◌, ◌++◌}
 use mathlib.Core.Logic.{◌⊎◌, inl, inr, ⊎_elim}
@@ -10,7 +11,6 @@ use native.Mathlib.Omega.{arith}
 use borrow.Author.Tests.{ltb-false, eqb-true, eqb-false, ne_eqb, eq-eqb, lt-ltb, le-ltb}
 use lib.Dec.{ltb}
 use lib.ListN.{length}
-use Rattle.answer.specs.declared.Judged.TheVariants.{Good}
 use Rattle.answer.specs.declared.Refusal.TheVariants.{UnknownParty}
 use Rattle.answer.specs.Refusal.{when, or_else}
 use Rattle.lists.specs.Lists.{Below}
@@ -83,37 +83,37 @@ by_party_lem o h = go (moves 0 o) refl
     go false e = inr (e, eq-eqb (o / 16) 1 (omega (arith, eqb-false (o / 16) 0 e)))
 
 -- ---- faults
-fine_fault : (i n o : ℕ) → Fine n o → fault_of i n o ≡ Good
+fine_fault : (i n o : ℕ) → Fine n o → fault_of i n o ≡ Ok tt
 fine_fault i n o (inl k) = rw (k.0, ne_eqb n 0 (λ e. omega (arith, k.1)))
 fine_fault i n o (inr k) = rw (le-ltb 4 o (omega (arith, k.0)), ne_eqb o 4 (λ e. omega (arith, k.0)), lt-ltb n 16384 k.1)
 
 -- a byte that is fine: its party is known, and its operation is fine for that party
-pub pair_fault_none : (i m n o : ℕ) → byte_fault_of i m n o ≡ Good → (o < 32) × Fine (cond (moves 0 o) m n) (op_of o)
+pub pair_fault_none : (i m n o : ℕ) → byte_fault_of i m n o ≡ Ok tt → (o < 32) × Fine (cond (moves 0 o) m n) (op_of o)
 pair_fault_none i m n o e =
     let h = or_else_good (when (ltb 1 (party_of o)) (UnknownParty i)) (fault_of i (cond (moves 0 o) m n) (op_of o)) e in
     (omega (arith, ltb-false 1 (o / 16) (when_good (ltb 1 (party_of o)) (UnknownParty i) h.0)), fault_none i (cond (moves 0 o) m n) (op_of o) h.1)
 
-pub pair_fine_fault : (i m n o : ℕ) → o < 32 → Fine (cond (moves 0 o) m n) (op_of o) → byte_fault_of i m n o ≡ Good
+pub pair_fine_fault : (i m n o : ℕ) → o < 32 → Fine (cond (moves 0 o) m n) (op_of o) → byte_fault_of i m n o ≡ Ok tt
 pair_fine_fault i m n o h f =
     ap₂ or_else (ap (λ (b : Bool). when b (UnknownParty i)) (le-ltb 1 (o / 16) (omega arith))) (fine_fault i (cond (moves 0 o) m n) (op_of o) f)
 
 -- the next operation of a party
-faults_more : (j n o : ℕ) (os : List ℕ) → Fine n o → operations_judged (suc j) (after n o) os ≡ Good → operations_judged j n (o ∷ os) ≡ Good
+faults_more : (j n o : ℕ) (os : List ℕ) → Fine n o → operations_judged (suc j) (after n o) os ≡ Ok tt → operations_judged j n (o ∷ os) ≡ Ok tt
 faults_more j n o os f e = ap₂ or_else (fine_fault j n o f) e
 
 abbrev Own : ℕ → ℕ → List ℕ → Type 0
-Own q n os = (j : ℕ) → operations_judged j n (own_ops q os) ≡ Good
+Own q n os = (j : ℕ) → operations_judged j n (own_ops q os) ≡ Ok tt
 
 own-more : (q n o : ℕ) (os : List ℕ) → moves q o ≡ true → Fine n (op_of o) → Own q (after_by q n o) os → Own q n (o ∷ os)
 own-more q n o os e f h j =
-    ap (operations_judged j n) (own_mine q o os e) ∙ faults_more j n (op_of o) (own_ops q os) f (subst (λ (k : ℕ). operations_judged (suc j) k (own_ops q os) ≡ Good) (after_mine q o n e) (h (suc j)))
+    ap (operations_judged j n) (own_mine q o os e) ∙ faults_more j n (op_of o) (own_ops q os) f (subst (λ (k : ℕ). operations_judged (suc j) k (own_ops q os) ≡ Ok tt) (after_mine q o n e) (h (suc j)))
 
 own-less : (q n o : ℕ) (os : List ℕ) → moves q o ≡ false → Own q (after_by q n o) os → Own q n (o ∷ os)
-own-less q n o os e h j = ap (operations_judged j n) (own_other q o os e) ∙ subst (λ (k : ℕ). operations_judged j k (own_ops q os) ≡ Good) (after_other q o n e) (h j)
+own-less q n o os e h j = ap (operations_judged j n) (own_other q o os e) ∙ subst (λ (k : ℕ). operations_judged j k (own_ops q os) ≡ Ok tt) (after_other q o n e) (h j)
 
 -- nothing is wrong with the bytes: every party is known, and nothing is wrong with the operations of either
-pub pair_faults_own : (i m n : ℕ) (os : List ℕ) → bytes_judged i m n os ≡ Good
-    → Below 32 os × ((j : ℕ) → operations_judged j m (own_ops 0 os) ≡ Good) × ((j : ℕ) → operations_judged j n (own_ops 1 os) ≡ Good)
+pub pair_faults_own : (i m n : ℕ) (os : List ℕ) → bytes_judged i m n os ≡ Ok tt
+    → Below 32 os × ((j : ℕ) → operations_judged j m (own_ops 0 os) ≡ Ok tt) × ((j : ℕ) → operations_judged j n (own_ops 1 os) ≡ Ok tt)
 pair_faults_own i m n [] e = (tt, λ j. refl, λ j. refl)
 pair_faults_own i m n (o ∷ os) e =
     let h = or_else_good (byte_fault_of i m n o) (bytes_judged (suc i) (after_by 0 m o) (after_by 1 n o) os) e in
@@ -126,25 +126,25 @@ pair_faults_own i m n (o ∷ os) e =
     (by_party_lem o k.0)
 
 -- and back
-faults_head : (j n o : ℕ) (os : List ℕ) → operations_judged j n (o ∷ os) ≡ Good → Fine n o × (operations_judged (suc j) (after n o) os ≡ Good)
+faults_head : (j n o : ℕ) (os : List ℕ) → operations_judged j n (o ∷ os) ≡ Ok tt → Fine n o × (operations_judged (suc j) (after n o) os ≡ Ok tt)
 faults_head j n o os e = let h = fault_step j n o os e in (fault_none j n o h.0, h.1)
 
-pub own_faults_pair : (i j k m n : ℕ) (os : List ℕ) → Below 32 os → operations_judged j m (own_ops 0 os) ≡ Good → operations_judged k n (own_ops 1 os) ≡ Good → bytes_judged i m n os ≡ Good
+pub own_faults_pair : (i j k m n : ℕ) (os : List ℕ) → Below 32 os → operations_judged j m (own_ops 0 os) ≡ Ok tt → operations_judged k n (own_ops 1 os) ≡ Ok tt → bytes_judged i m n os ≡ Ok tt
 own_faults_pair i j k m n [] b e f = refl
 own_faults_pair i j k m n (o ∷ os) b e f =
-    let rest : (j k : ℕ) → operations_judged j (after_by 0 m o) (own_ops 0 os) ≡ Good → operations_judged k (after_by 1 n o) (own_ops 1 os) ≡ Good → bytes_judged (suc i) (after_by 0 m o) (after_by 1 n o) os ≡ Good =
+    let rest : (j k : ℕ) → operations_judged j (after_by 0 m o) (own_ops 0 os) ≡ Ok tt → operations_judged k (after_by 1 n o) (own_ops 1 os) ≡ Ok tt → bytes_judged (suc i) (after_by 0 m o) (after_by 1 n o) os ≡ Ok tt =
     λ j k e f. own_faults_pair (suc i) j k (after_by 0 m o) (after_by 1 n o) os b.1 e f in
     ⊎_elim
     (λ x.
     let h = faults_head j m (op_of o) (own_ops 0 os) (ap (operations_judged j m) (sym (own_mine 0 o os x.0)) ∙ e) in
-    let g : operations_judged k n (own_ops 1 os) ≡ Good = ap (operations_judged k n) (sym (own_other 1 o os x.1)) ∙ f in
+    let g : operations_judged k n (own_ops 1 os) ≡ Ok tt = ap (operations_judged k n) (sym (own_other 1 o os x.1)) ∙ f in
     ap₂ or_else (pair_fine_fault i m n o b.0 (subst (λ (t : Bool). Fine (cond t m n) (op_of o)) (sym x.0) h.0))
-    (rest (suc j) k (subst (λ (z : ℕ). operations_judged (suc j) z (own_ops 0 os) ≡ Good) (sym (after_mine 0 o m x.0)) h.1) (subst (λ (z : ℕ). operations_judged k z (own_ops 1 os) ≡ Good) (sym (after_other 1 o n x.1)) g)))
+    (rest (suc j) k (subst (λ (z : ℕ). operations_judged (suc j) z (own_ops 0 os) ≡ Ok tt) (sym (after_mine 0 o m x.0)) h.1) (subst (λ (z : ℕ). operations_judged k z (own_ops 1 os) ≡ Ok tt) (sym (after_other 1 o n x.1)) g)))
     (λ x.
     let h = faults_head k n (op_of o) (own_ops 1 os) (ap (operations_judged k n) (sym (own_mine 1 o os x.1)) ∙ f) in
-    let g : operations_judged j m (own_ops 0 os) ≡ Good = ap (operations_judged j m) (sym (own_other 0 o os x.0)) ∙ e in
+    let g : operations_judged j m (own_ops 0 os) ≡ Ok tt = ap (operations_judged j m) (sym (own_other 0 o os x.0)) ∙ e in
     ap₂ or_else (pair_fine_fault i m n o b.0 (subst (λ (t : Bool). Fine (cond t m n) (op_of o)) (sym x.0) h.0))
-    (rest j (suc k) (subst (λ (z : ℕ). operations_judged j z (own_ops 0 os) ≡ Good) (sym (after_other 0 o m x.0)) g) (subst (λ (z : ℕ). operations_judged (suc k) z (own_ops 1 os) ≡ Good) (sym (after_mine 1 o n x.1)) h.1)))
+    (rest j (suc k) (subst (λ (z : ℕ). operations_judged j z (own_ops 0 os) ≡ Ok tt) (sym (after_other 0 o m x.0)) g) (subst (λ (z : ℕ). operations_judged (suc k) z (own_ops 1 os) ≡ Ok tt) (sym (after_mine 1 o n x.1)) h.1)))
     (by_party_lem o b.0)
 
 -- the lengths of both parties' steps

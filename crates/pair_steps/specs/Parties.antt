@@ -1,7 +1,8 @@
 -- Operations of two parties in one string of bytes, the surviving steps of each, and the refusals 20, 4, 5 and 6 (RULES 19.1,
 -- 19.7). Assumes nothing.
-use Rattle.std.specs.Prelude.{Bool, true, false, cond, List, [], ◌∷◌, ℕ, zero, suc, ◌/◌, ◌%◌, eqb, ltb}
-use Rattle.answer.specs.declared.{Judged.Judged, Judged.TheVariants.Good, Refusal.TheVariants.UnknownParty}
+use Rattle.std.specs.Prelude.{Bool, true, false, cond, List, [], ◌∷◌, ℕ, zero, suc, ◌/◌, ◌%◌, eqb, Ok, ltb}
+use Rattle.answer.specs.Answers.{Judged}
+use Rattle.answer.specs.declared.{Refusal.TheVariants.UnknownParty}
 use Rattle.answer.specs.Refusal.{when, or_else}
 use Rattle.steps.specs.Operations.{operate, survivors, fault_of, after}
 
@@ -45,5 +46,5 @@ byte_fault_of i m n o = or_else (when (ltb 1 (party_of o)) (UnknownParty i)) (fa
 
 -- the first fault, with m and n steps surviving at place i
 abbrev pub bytes_judged : ℕ → ℕ → ℕ → List ℕ → Judged
-bytes_judged i m n [] = Good
+bytes_judged i m n [] = Ok tt
 bytes_judged i m n (o ∷ os) = or_else (byte_fault_of i m n o) (bytes_judged (suc i) (after_by 0 m o) (after_by 1 n o) os)

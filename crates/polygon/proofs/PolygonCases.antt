@@ -1,11 +1,10 @@
 -- Coordinates and polygons as bytes, computed; the bytes are those of another implementation of the format.
 -- Assumes nothing.
-use Rattle.std.specs.Prelude.{◌≡◌, [], ◌∷◌}
+use Rattle.std.specs.Prelude.{◌≡◌, [], Err, Ok, ◌∷◌}
 use mathlib.Core.Path.{refl}
 use lib.IntN.{pos, negsuc}
 use lib.Ieee.{of_int, to_bits}
 use Rattle.grid.specs.Grid.{corner}
-use Rattle.answer.specs.declared.Judged.TheVariants.{Good, Refused}
 use Rattle.answer.specs.declared.Refusal.TheVariants.{NotRoom, PolygonRoom}
 use Rattle.polygon.specs.Bytes.{bytes_of}
 use Rattle.polygon.specs.Coordinate.{coordinate_of, IsWhole, Exact}
@@ -68,15 +67,15 @@ pub counterclockwise : points_of (corner (pos 0) (pos 0)) (0 ∷ 0 ∷ 1 ∷ 2 �
 counterclockwise = refl
 
 -- a buffer of 92 bytes is one too short for the unit room, whose polygon has 93
-one_byte_short : polygon_judged (corner (pos 0) (pos 0)) (0 ∷ 1 ∷ 2 ∷ 3 ∷ []) 92 ≡ Refused PolygonRoom
+one_byte_short : polygon_judged (corner (pos 0) (pos 0)) (0 ∷ 1 ∷ 2 ∷ 3 ∷ []) 92 ≡ Err PolygonRoom
 unfolding polygon_bytes points_bytes point_bytes coordinate_bytes coordinate_of bytes_of of_int to_bits
 one_byte_short = refl
 
-just_enough : polygon_judged (corner (pos 0) (pos 0)) (0 ∷ 1 ∷ 2 ∷ 3 ∷ []) 93 ≡ Good
+just_enough : polygon_judged (corner (pos 0) (pos 0)) (0 ∷ 1 ∷ 2 ∷ 3 ∷ []) 93 ≡ Ok tt
 unfolding polygon_bytes points_bytes point_bytes coordinate_bytes coordinate_of bytes_of of_int to_bits
 just_enough = refl
 
 -- what is not a room is refused before the buffer is looked at
-not_a-room-first : polygon_judged (corner (pos 0) (pos 0)) (0 ∷ 1 ∷ 2 ∷ []) 0 ≡ Refused NotRoom
+not_a-room-first : polygon_judged (corner (pos 0) (pos 0)) (0 ∷ 1 ∷ 2 ∷ []) 0 ≡ Err NotRoom
 unfolding polygon_bytes points_bytes point_bytes coordinate_bytes coordinate_of bytes_of of_int to_bits
 not_a-room-first = refl

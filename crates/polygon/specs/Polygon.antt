@@ -2,8 +2,9 @@
 use Rattle.std.specs.Prelude.{◌≡◌, Bool, not, cond, List, [], ◌∷◌, ◌++◌, length, ℕ, eqb, ltb, ℤ}
 use Rattle.std.specs.Float.{binary64}
 use Rattle.std.specs.Float.Ieee.{to_bits}
+use Rattle.answer.specs.Answers.{Counted, Judged}
 use Rattle.grid.specs.{declared.Corner.Corner, Grid.stepped}
-use Rattle.answer.specs.declared.{Judged.Judged, Counted.Counted, Refusal.TheVariants.PolygonRoom}
+use Rattle.answer.specs.declared.{Refusal.TheVariants.PolygonRoom}
 use Rattle.answer.specs.{Refusal.when, Refusal.first_of, Listed.counted_of, Listed.laid_if}
 use Rattle.steps.specs.Turns.{turn_of}
 use Rattle.room.specs.Room.{as_room_judged}

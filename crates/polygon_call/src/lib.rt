@@ -11,7 +11,7 @@ ghost use Rattle.polygon.specs.Coordinate.{coordinate_of};
 ghost use Rattle.polygon.specs.Polygon.{point_bytes, points_bytes, prefix, bends, bends_of, points_of, PolygonCall};
 ghost use Rattle.polygon_laws.specs.Bends.{Drawable, turning, point_laid, Drawn};
 
-use answer::{Counted, Judged, Refusal};
+use answer::Refusal;
 use grid::Corner;
 use walk_corner::moved;
 
@@ -22,29 +22,23 @@ fn millimetres(x: i32) -> f64
     requires { nat_abs x ≤ farthest }
     ensures { result ≡ coordinate_of x }
 {
-    (SIDE * x) as f64
+    f64::from(SIDE * x)
 }
 
-// Writes the n lowest bytes of b at the start of buf, the lowest first.
-fn put_number(buf: &mut [u8], n: usize, b: u64)
-    requires { n ≤ length buf.old }
-    ensures { buf.new ≡ bytes_of n b ++ drop n buf.old }
+// Writes the four bytes of n at the start of buf, the lowest first.
+fn put_count(buf: &mut [u8], n: u32)
+    requires { 4 ≤ length buf.old }
+    ensures { buf.new ≡ bytes_of 4 n ++ drop 4 buf.old }
 {
-    let mut rest = b;
-    let mut i = 0;
-    while i < n {
-        buf[i] = (rest % 256) as u8;
-        rest = rest / 256;
-        i += 1;
-    }
+    buf[..4].copy_from_slice(&n.to_le_bytes());
 }
 
-// Writes the eight bytes of x at the start of buf.
+// Writes the eight bytes of x at the start of buf, the lowest first.
 fn put_float(buf: &mut [u8], x: f64)
     requires { (8 ≤ length buf.old) × T (not (is_nan x)) }
     ensures { buf.new ≡ bytes_of 8 (to_bits binary64 x) ++ drop 8 buf.old }
 {
-    put_number(buf, 8, f64::to_bits(x));
+    buf[..8].copy_from_slice(&x.to_bits().to_le_bytes());
 }
 
 // Writes the sixteen bytes of the corner c at the start of buf.
@@ -61,11 +55,10 @@ fn put_prefix(buf: &mut [u8])
     requires { 9 ≤ length buf.old }
     ensures { buf.new ≡ prefix ++ drop 9 buf.old }
 {
+    // a loop: of `copy_from_slice` from a constant the compiler makes a WebAssembly module that is not valid
     let p = polygon::PREFIX;
-    let mut i = 0;
-    while i < 9 {
+    for i in 0..9 {
         buf[i] = p[i];
-        i += 1;
     }
 }
 
@@ -73,10 +66,8 @@ fn put_prefix(buf: &mut [u8])
 fn first(chain: &[u8]) -> u8
     ensures { result ≡ get_or chain.now 0 0 }
 {
-    if chain.len() == 0 {
-        return 0;
-    }
-    chain[0]
+    // no `first()`: an `Option` of a reference is laid out otherwise in the module for 32-bit WebAssembly
+    if chain.is_empty() { 0 } else { chain[0] }
 }
 
 // Whether the step d goes another way than the step a.
@@ -87,12 +78,6 @@ fn bent(a: u8, d: u8) -> bool
     a != d
 }
 
-fn one_if(b: bool) -> u16
-    ensures { result ≡ tally b }
-{
-    if b { 1 } else { 0 }
-}
-
 // How many later corners of the chain have a turn that is not 0. They are counted in 16 bits, so that the compiler counts eight
 // at once.
 fn count(chain: &[u8]) -> usize
@@ -101,14 +86,11 @@ fn count(chain: &[u8]) -> usize
 {
     let mut last = first(chain);
     let mut k: u16 = 0;
-    let mut i = 0;
-    while i < chain.len() {
-        let d = chain[i];
-        k += one_if(bent(last, d));
+    for &d in chain {
+        k += u16::from(bent(last, d));
         last = d;
-        i += 1;
     }
-    k as usize
+    usize::from(k)
 }
 
 // Writes c as point k of buf if it is a bend, and answers how many points there are then.
@@ -133,13 +115,10 @@ fn put_bends(buf: &mut [u8], start: Corner, chain: &[u8]) -> usize
     let mut at = start;
     let mut last = first(chain);
     let mut k = 0;
-    let mut i = 0;
-    while i < chain.len() {
-        let d = chain[i];
+    for &d in chain {
         k = put_bend(buf, k, bent(last, d), at);
         at = moved(at, d);
         last = d;
-        i += 1;
     }
     k
 }
@@ -156,26 +135,24 @@ fn put_ring(buf: &mut [u8], start: Corner, chain: &[u8])
 }
 
 // Writes the polygon of a walk at the start of out, unless out is too short.
-fn draw(start: Corner, chain: &[u8], out: &mut [u8]) -> Counted
+fn draw(start: Corner, chain: &[u8], out: &mut [u8]) -> Result<usize, Refusal>
     requires { Drawable start chain.now }
     ensures { Drawn start chain.now out.old result out.new }
 {
     let n = count(chain) + 2;
     if out.len() < 13 + 16 * n {
-        return Counted::Refused(Refusal::PolygonRoom);
+        return Err(Refusal::PolygonRoom);
     }
     put_prefix(out);
-    put_number(&mut out[9..], 4, n as u64);
+    put_count(&mut out[9..], n as u32);
     put_ring(&mut out[13..], start, chain);
-    Counted::Many(13 + 16 * n)
+    Ok(13 + 16 * n)
 }
 
 // Writes a room as a polygon at the start of out, and answers how many bytes it has.
-pub fn write(start: Corner, chain: &[u8], out: &mut [u8]) -> Counted
+pub fn write(start: Corner, chain: &[u8], out: &mut [u8]) -> Result<usize, Refusal>
     ensures { PolygonCall start chain.now out.old result out.new }
 {
-    match room_judge::judge(start, chain) {
-        Judged::Good => draw(start, chain, out),
-        Judged::Refused(r) => Counted::Refused(r),
-    }
+    room_judge::judge(start, chain)?;
+    draw(start, chain, out)
 }

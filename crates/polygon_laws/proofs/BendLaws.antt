@@ -193,13 +193,6 @@ pub record Counting (ds : List ℕ) (last k i : ℕ) : Type 0 where
   pub within : i ≤ length ds
   pub few : k ≤ i
 
-pub first-none : (ds : List ℕ) → length ds ≡ 0 → 0 ≡ get_or ds 0 0
-first-none [] h = refl
-first-none (d ∷ ds) h = absurd (none (length ds) h)
-  where
-    none : (n : ℕ) → suc n ≡ 0 → ⊥
-    none n h = omega arith
-
 pub count-first : (ds : List ℕ) (last : ℕ) → Below 4 ds → last ≡ get_or ds 0 0 → Counting ds last 0 0
 count-first ds last b e = record {
   number = ap (λ (a : ℕ). turning_from a ds) (sym e) ∙ plain (turning_from last ds);

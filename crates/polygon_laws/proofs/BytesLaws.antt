@@ -1,46 +1,14 @@
--- Numbers as bytes, and lists that are laid down in a buffer from its start.
+-- Numbers as bytes, and lists that are laid down in a buffer part by part.
 -- Assumes nothing.
-use mathlib.Core.Path.{◌≡◌, refl, sym, ap, ap₂, ◌∙◌, subst}
+use mathlib.Core.Path.{◌≡◌, refl, sym, ap, ap₂, ◌∙◌}
 use mathlib.Core.List.{List, [], ◌∷◌, ◌++◌, append_assoc, append-nil}
-use Prim.Native.Nat.{ℕ, zero, suc, ◌+◌, ◌-◌, ◌*◌, ◌/◌, ◌%◌, ◌≤◌, ◌<◌}
+use Prim.Native.Nat.{ℕ, zero, suc, ◌+◌, ◌-◌, ◌*◌, ◌/◌, ◌≤◌}
 use native.Mathlib.Omega.{arith}
-use native.Mathlib.Numerals.{add-one}
-use lib.ListN.{length, take, drop, set, get_or, length-append, length-drop, length-set, take-append-drop, drop_of_length-le}
-use lib.Seq.{take-suc-set, take-suc, drop-set-lt, drop-cons, drop-drop, take_at, drop_at, take_all, length-take-le}
+use lib.ListN.{length, take, drop, length-append, length-drop, take-append-drop, drop_of_length-le}
+use lib.Seq.{drop-drop, take_at, drop_at, take_all, length-take-le}
 use Rattle.polygon.specs.Bytes.{bytes_of}
 use Rattle.polygon.specs.Polygon.{coordinate_bytes, point_bytes, points_bytes, polygon_bytes}
 use Rattle.grid.specs.declared.Corner.{Corner}
-
--- ---- a list W laid down over the start of l, as far as place i
-
-pub record Laid (l W out : List ℕ) (i : ℕ) : Type 0 where
-  pub within : i ≤ length W
-  pub same : length out ≡ length l
-  pub done : take i out ≡ take i W
-  pub after : drop i out ≡ drop i l
-
-module _ {l W : List ℕ} where
-  pub laid_first : Laid l W l 0
-  laid_first = record { within = omega arith; same = refl; done = refl; after = refl }
-
-  pub laid_more : {out : List ℕ} {i : ℕ} → length W ≤ length l → i < length W → Laid l W out i → Laid l W (set out i (get_or W i 0)) (i + 1)
-  laid_more {out} {i} fit h p =
-      let o : i < length out = omega arith in
-      record {
-        within = omega arith;
-        same = length-set out i (get_or W i 0) ∙ p.same;
-        done = rw add-one (take-suc-set out i (get_or W i 0) o ∙ ap (λ (z : List ℕ). z ++ (get_or W i 0 ∷ [])) p.done ∙ sym (take-suc W i 0 h));
-        after =
-            drop-set-lt (i + 1) out i (get_or W i 0) (omega arith)
-            ∙ sym (drop-drop 1 i out) ∙ ap (drop 1) p.after ∙ drop-drop 1 i l;
-      }
-
-  pub laid_last : {out : List ℕ} {i : ℕ} → length W ≤ i → Laid l W out i → out ≡ W ++ drop (length W) l
-  laid_last {out} {i} h p =
-      let e : i ≡ length W = omega arith in
-      sym (take-append-drop i out)
-      ∙ ap (λ (z : List ℕ). z ++ drop i out) (p.done ∙ take_all i W h)
-      ∙ ap (λ (z : List ℕ). W ++ z) (p.after ∙ ap (λ (n : ℕ). drop n l) e)
 
 -- ---- a list B laid down after A, in the part from place a on that was lent
 
@@ -126,19 +94,6 @@ pub length-bytes_of : (n b : ℕ) → length (bytes_of n b) ≡ n
 unfolding bytes_of
 length-bytes_of zero b = refl
 length-bytes_of (suc n) b = ap suc (length-bytes_of n (b / 256))
-
--- the bytes that are left at place i are those of what is left of the number
-pub bytes_next : (n b rest i : ℕ) → i < n → drop i (bytes_of n b) ≡ bytes_of (n - i) rest
-    → (get_or (bytes_of n b) i 0 ≡ rest % 256) × (drop (i + 1) (bytes_of n b) ≡ bytes_of (n - (i + 1)) (rest / 256))
-unfolding bytes_of
-bytes_next n b rest i h e =
-    let w = bytes_of n b in
-    let c : drop i w ≡ get_or w i 0 ∷ drop (suc i) w = drop-cons w i 0 (subst (λ (z : ℕ). i < z) (sym (length-bytes_of n b)) h) in
-    let k : n - i ≡ suc (n - suc i) = omega arith in
-    let d : get_or w i 0 ∷ drop (suc i) w ≡ rest % 256 ∷ bytes_of (n - suc i) (rest / 256) = sym c ∙ e ∙ ap (λ (z : ℕ). bytes_of z rest) k in
-    let p : get_or w i 0 ≡ rest % 256 = cc in
-    let q : drop (suc i) w ≡ bytes_of (n - suc i) (rest / 256) = cc in
-    (p, rw add-one q)
 
 -- ---- the number of bytes
 

@@ -2,9 +2,9 @@
 -- Assumes nothing.
 use Rattle.lists.specs.Lists.{tally, Below}
 use Rattle.std.specs.Prelude.{◌≡◌, List, [], ◌∷◌, ◌++◌, length, take, drop, get_or, ℕ, ◌+◌, ◌*◌, ◌≤◌, Bool, true, false, nat_abs}
+use Rattle.answer.specs.Answers.{Counted}
 use Rattle.answer.specs.Limits.{most_steps, most_start}
 use Rattle.grid.specs.declared.Corner.{Corner}
-use Rattle.answer.specs.declared.{Counted.Counted}
 use Rattle.answer.specs.Listed.{counted_of, laid_if}
 use Rattle.polygon.specs.Polygon.{bends, point_bytes, polygon_of, polygon_room_judged}
 

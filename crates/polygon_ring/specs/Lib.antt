@@ -1,4 +1,5 @@
 -- Polygons in: numbers, coordinates, rings.
+pub mod Answers
 pub mod Bytes
 pub mod Coordinate
 pub mod Ring

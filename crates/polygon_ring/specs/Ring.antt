@@ -1,45 +1,46 @@
 -- A polygon that is read: its points, the walk along them, and the refusals in their order (RULES 18). Assumes nothing.
 use Rattle.lists.specs.Lists.{any}
 use Rattle.std.specs.Int.Signed.{lt_z}
-use Rattle.std.specs.Prelude.{map, ◌≡◌, Bool, true, false, cond, not, ◌&&◌, List, [], ◌∷◌, ◌++◌, length, take, drop, replicate, get_or, ℕ, zero, suc, ◌+◌, ◌-◌, ◌*◌, ◌/◌, eqb, ltb, leb, nat_abs, ◌-ℤ◌}
+use Rattle.std.specs.Prelude.{map, ◌≡◌, Bool, true, false, cond, not, ◌&&◌, List, [], ◌∷◌, ◌++◌, length, take, drop, replicate, get_or, ℕ, zero, suc, ◌+◌, ◌-◌, ◌*◌, ◌/◌, eqb, ltb, leb, nat_abs, Err, None, Ok, Option, Some, ℤ, ◌-ℤ◌}
 use Rattle.std.specs.Float.{binary64}
 use Rattle.std.specs.Float.Ieee.{of_bits}
+use Rattle.polygon_ring.specs.Answers.{Given}
+use Rattle.answer.specs.Answers.{Judged}
 use Rattle.grid.specs.{declared.Corner.Corner, Grid.origin, Grid.corner, Grid.eq_z, Grid.same}
-use Rattle.answer.specs.declared.{Judged.Judged, Judged.TheVariants.Good, Refusal.TheVariants.FileLength, Refusal.TheVariants.FileKind, Refusal.TheVariants.BadCoordinate, Refusal.TheVariants.BadRing, Refusal.TheVariants.TooLong, Refusal.TheVariants.ChainRoom}
+use Rattle.answer.specs.declared.{Refusal.TheVariants.FileLength, Refusal.TheVariants.FileKind, Refusal.TheVariants.BadCoordinate, Refusal.TheVariants.BadRing, Refusal.TheVariants.TooLong, Refusal.TheVariants.ChainRoom}
 use Rattle.answer.specs.{Limits.most_steps, Limits.most_start, Limits.farthest, Refusal.when, Refusal.first_of, Listed.laid_if}
 use Rattle.polygon.specs.Polygon.{prefix}
 use Rattle.polygon_ring.specs.{Bytes.starts_with, Bytes.number_in, Coordinate.whole_of}
-use Rattle.polygon_ring.specs.declared.{GridPoint.GridPoint, GridPoint.TheVariants.At, GridPoint.TheVariants.Faulty, Whole.Whole, Whole.TheVariants.Of, Whole.TheVariants.Refused, Order.Order, Order.TheVariants.Little, Order.TheVariants.Big, Order.TheVariants.Neither, Given.Given}
+use Rattle.polygon_ring.specs.declared.{Order.Order, Order.TheVariants.Little, Order.TheVariants.Big}
 
 -- byte order 0, then type 3 and ring count 1, the highest byte first
 abbrev pub big_prefix : List ℕ
 big_prefix = 0 ∷ 0 ∷ 0 ∷ 0 ∷ 3 ∷ 0 ∷ 0 ∷ 0 ∷ 1 ∷ []
 
-abbrev pub pick_order : Bool → Order → Order → Order
+abbrev pub pick_order : Bool → Option Order → Option Order → Option Order
 pick_order true a b = a
 pick_order false a b = b
 
 -- the byte order of a polygon of one ring
-unfoldable pub order_of : List ℕ → Order
-order_of s = pick_order (starts_with prefix s) Little (pick_order (starts_with big_prefix s) Big Neither)
+unfoldable pub order_of : List ℕ → Option Order
+order_of s = pick_order (starts_with prefix s) (Some Little) (pick_order (starts_with big_prefix s) (Some Big) None)
 
 -- the lowest byte comes first
-abbrev pub is_little : Order → Bool
-is_little Little = true
-is_little Big = false
-is_little Neither = false
+abbrev pub is_little : Option Order → Bool
+is_little (Some Little) = true
+is_little (Some Big) = false
+is_little None = false
 
 -- the first nine bytes are not the header of a polygon of one ring
-abbrev pub is_neither : Order → Bool
-is_neither Little = false
-is_neither Big = false
-is_neither Neither = true
+abbrev pub is_neither : Option Order → Bool
+is_neither (Some o) = false
+is_neither None = true
 
 -- a point is a corner if both of its floats are coordinates
-abbrev pub both : Whole → Whole → GridPoint
-both (Of a) (Of b) = At a b
-both (Of a) Refused = Faulty
-both Refused y = Faulty
+abbrev pub both : Option ℤ → Option ℤ → Option Corner
+both (Some a) (Some b) = Some (corner a b)
+both (Some a) None = None
+both None y = None
 
 -- how far a coordinate may lie from 0, in panels: that of the first point, and that of any other
 abbrev pub most_at : ℕ → ℕ
@@ -47,28 +48,28 @@ most_at zero = most_start
 most_at (suc i) = farthest
 
 -- the point at the start of these bytes
-unfoldable pub point_in : ℕ → Bool → List ℕ → GridPoint
+unfoldable pub point_in : ℕ → Bool → List ℕ → Option Corner
 point_in most little s =
     both (whole_of most (of_bits binary64 (number_in little (take 8 s))))
     (whole_of most (of_bits binary64 (number_in little (take 8 (drop 8 s)))))
 
 -- point i of a list of points
-unfoldable pub point_at : Bool → List ℕ → ℕ → GridPoint
+unfoldable pub point_at : Bool → List ℕ → ℕ → Option Corner
 point_at little s i = point_in (most_at i) little (drop (16 * i) s)
 
 -- n points, from point i on
-unfoldable pub points_from : Bool → List ℕ → ℕ → ℕ → List GridPoint
+unfoldable pub points_from : Bool → List ℕ → ℕ → ℕ → List (Option Corner)
 points_from little s i zero = []
 points_from little s i (suc n) = point_at little s i ∷ points_from little s (suc i) n
 
-abbrev pub is_faulty : GridPoint → Bool
-is_faulty (At x y) = false
-is_faulty Faulty = true
+abbrev pub is_faulty : Option Corner → Bool
+is_faulty (Some c) = false
+is_faulty None = true
 
 -- the corner that a point is; a faulty one is refused, whatever its corner
-abbrev pub corner_in : GridPoint → Corner
-corner_in (At x y) = corner x y
-corner_in Faulty = origin
+abbrev pub corner_in : Option Corner → Corner
+corner_in (Some c) = c
+corner_in None = origin
 
 -- the two differ along exactly one axis
 abbrev pub straight : Corner → Corner → Bool
@@ -124,14 +125,14 @@ count_in little file = number_in little (take 4 (drop 9 file))
 
 -- its points, as many as there are sixteen bytes after the thirteen header bytes: a file that counts another number of them is
 -- refused
-abbrev pub points_in : Bool → List ℕ → List GridPoint
+abbrev pub points_in : Bool → List ℕ → List (Option Corner)
 points_in little file = points_from little (drop 13 file) 0 ((length file - 13) / 16)
 
 -- the same in the byte order that the header shows
 abbrev pub count_given : List ℕ → ℕ
 count_given file = count_in (is_little (order_of file)) file
 
-abbrev pub points_given : List ℕ → List GridPoint
+abbrev pub points_given : List ℕ → List (Option Corner)
 points_given file = points_in (is_little (order_of file)) file
 
 -- the corners of the ring of a file
@@ -152,8 +153,8 @@ read_judged file size =
 
 -- start and number of steps, unless there is a refusal
 abbrev pub given_of : Judged → List Corner → Given
-given_of Good ps = Given.Chain (record { start = start_of ps; steps = length_of ps })
-given_of (Judged.Refused r) ps = Given.Refused r
+given_of (Ok _) ps = Ok (record { start = start_of ps; steps = length_of ps })
+given_of (Err r) ps = Err r
 
 -- the promise of a file that is read
 pub record ReadCall (file out : List ℕ) (r : Given) (out' : List ℕ) : Type 0 where

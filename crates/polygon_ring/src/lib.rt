@@ -1,7 +1,7 @@
 // What a polygon that is read is kept as until it is judged, and what is answered of it.
 #![tactic(auto)]
 
-use answer::{Limits, Refusal, Start};
+use answer::{Limits, Start};
 use grid::Corner;
 
 // What a polygon of one ring begins with if the highest byte comes first: byte order 0, type 3 and ring count 1.
@@ -21,26 +21,11 @@ impl Point {
     pub const MOST: u64 = Point::MOST_FIRST + Limits::MOST_STEPS as u64;
 }
 
-// What a float is as a corner's coordinate.
-#[derive(Clone, Copy)]
-pub enum Whole {
-    Of(i32),
-    Refused,
-}
-
-// What a point is as a corner: its x and y.
-#[derive(Clone, Copy)]
-pub enum GridPoint {
-    At(i32, i32),
-    Faulty,
-}
-
 // The order of a polygon's bytes.
 #[derive(Clone, Copy)]
 pub enum Order {
     Little,
     Big,
-    Neither,
 }
 
 // A walk out of a polygon: where it starts, and how many steps it has.
@@ -48,11 +33,4 @@ pub enum Order {
 pub struct Found {
     pub start: Corner,
     pub steps: usize,
-}
-
-// The answer to a polygon that is read.
-#[derive(Clone, Copy)]
-pub enum Given {
-    Chain(Found),
-    Refused(Refusal),
 }

@@ -2,36 +2,25 @@
 // more than three corners.
 #![tactic(auto)]
 
-ghost use Rattle.std.specs.Prelude.{◌≡◌, ◌&&◌, false, cond, ◌++◌, ◌+◌, ◌-◌, ◌*◌, ◌≤◌, ◌<◌, eqb, leb, nat_abs, ◌-ℤ◌, length, drop, replicate};
+ghost use Rattle.std.specs.Prelude.{◌≡◌, ◌&&◌, false, cond, ◌++◌, ◌+◌, ◌-◌, ◌*◌, ◌≤◌, ◌<◌, eqb, leb, nat_abs, ◌-ℤ◌, Some, length, drop, replicate};
 ghost use Rattle.std.specs.Int.Signed.{lt_z};
 ghost use Rattle.answer.specs.Limits.{farthest};
-ghost use Rattle.grid.specs.Grid.{corner, eq_z, same};
+ghost use Rattle.grid.specs.Grid.{eq_z, same};
 ghost use Rattle.lists.specs.Lists.{any};
-ghost use Rattle.polygon_ring.specs.Ring.{is_neither, is_little, point_at, points_from, is_faulty, corner_in, straight, apart, direction_of, length_of, chain_of_points, count_in, given_of, ReadCall};
+ghost use Rattle.polygon_ring.specs.Ring.{is_little, point_at, points_from, is_faulty, corner_in, straight, apart, direction_of, length_of, chain_of_points, count_in, given_of, ReadCall};
 ghost use Rattle.polygon_ring_laws.specs.Reading.{PointFits, ring_from, capped, ring_judged, ReadIn};
 ghost use Rattle.polygon_ring_call.specs.Measure.{measured_by, measured_of};
 
 use answer::{Limits, Refusal};
 use grid::Corner;
-use polygon_ring::{Found, Given, GridPoint, Order, Point};
+use polygon_ring::{Found, Order, Point};
 use polygon_ring_take::{corner, judge, number, order, point};
-use walk_corner::alike;
 
-// What the first pass finds: a point that is not a corner, points that are not a ring, or the start of a ring and how many steps
-// it has. MANY stands for any number above 16,384.
-#[derive(Clone, Copy)]
-enum Measured {
-    Faulty,
-    Broken,
-    Ring(Found),
-}
-
-impl Measured {
-    const MANY: usize = Limits::MOST_STEPS + 1;
-}
+// Stands for any number of steps above 16,384.
+const MANY: usize = Limits::MOST_STEPS + 1;
 
 // What the first point is as a corner.
-fn first_at(points: &[u8], little: bool) -> GridPoint
+fn first_at(points: &[u8], little: bool) -> Option<Corner>
     requires { 16 ≤ length points.now }
     ensures { result ≡ point_at little points.now 0 }
 {
@@ -39,35 +28,11 @@ fn first_at(points: &[u8], little: bool) -> GridPoint
 }
 
 // What point i is as a corner, if it is not the first.
-fn later_at(points: &[u8], little: bool, i: usize) -> GridPoint
+fn later_at(points: &[u8], little: bool, i: usize) -> Option<Corner>
     requires { (0 < i) × (16 * (i + 1) ≤ length points.now) }
     ensures { result ≡ point_at little points.now i }
 {
     judge(point(&points[16 * i..], little), Point::MOST)
-}
-
-fn is_faulty(j: GridPoint) -> bool
-    ensures { result ≡ is_faulty j }
-{
-    match j {
-        GridPoint::At(_, _) => false,
-        GridPoint::Faulty => true,
-    }
-}
-
-fn corner_of(x: i32, y: i32) -> Corner
-    ensures { result ≡ corner x y }
-{
-    Corner(x, y)
-}
-
-fn corner_in(j: GridPoint) -> Corner
-    ensures { result ≡ corner_in j }
-{
-    match j {
-        GridPoint::At(x, y) => corner_of(x, y),
-        GridPoint::Faulty => Corner(0, 0),
-    }
 }
 
 // The corner that point i is, if it was accepted before.
@@ -94,11 +59,7 @@ fn gap(x: i32, y: i32) -> usize
     requires { (nat_abs x ≤ farthest) × (nat_abs y ≤ farthest) }
     ensures { result ≡ nat_abs (y -ℤ x) }
 {
-    if less(x, y) {
-        (y - x) as usize
-    } else {
-        (x - y) as usize
-    }
+    x.abs_diff(y) as usize
 }
 
 // Whether a and b differ along exactly one axis.
@@ -139,11 +100,7 @@ fn direction(a: Corner, b: Corner) -> u8
 fn cap(n: usize) -> usize
     ensures { result ≡ capped n }
 {
-    if n > Limits::MOST_STEPS {
-        Measured::MANY
-    } else {
-        n
-    }
+    n.min(MANY)
 }
 
 // Whether a and b differ along exactly one axis, and so it was before.
@@ -156,53 +113,35 @@ fn goes_on(line: bool, a: Corner, b: Corner) -> bool
 }
 
 // What n points are, each on one line with the one before, if the ring begins at `first`, ends at `last` and has this many steps.
-fn closed(n: usize, line: bool, first: Corner, last: Corner, steps: usize) -> Measured
+fn closed(n: usize, line: bool, first: Corner, last: Corner, steps: usize) -> Result<Found, Refusal>
     ensures { result ≡ measured_by false (leb 4 n && same last first && «line») first steps }
 {
-    if n < 4 {
-        return Measured::Broken;
+    if n < 4 || last != first || !line {
+        return Err(Refusal::BadRing);
     }
-    if !alike(last, first) {
-        return Measured::Broken;
-    }
-    if line {
-        Measured::Ring(Found {
-            start: first,
-            steps,
-        })
-    } else {
-        Measured::Broken
-    }
+    Ok(Found {
+        start: first,
+        steps,
+    })
 }
 
-// Judges the n points and their neighbours, and adds up how far apart they are.
-fn measure(points: &[u8], little: bool, n: usize) -> Measured
+// Judges the n points and their neighbours, and adds up how far apart they are. Refuses 16 and 17.
+fn measure(points: &[u8], little: bool, n: usize) -> Result<Found, Refusal>
     requires { 16 * n ≤ length points.now }
     ensures { result ≡ measured_of (points_from little points.now 0 n) }
 {
     if n == 0 {
-        return Measured::Broken;
+        return Err(Refusal::BadRing);
     }
-    let p = first_at(points, little);
-    if is_faulty(p) {
-        return Measured::Faulty;
-    }
-    let first = corner_in(p);
+    let first = first_at(points, little).ok_or(Refusal::BadCoordinate)?;
     let mut a = first;
     let mut line = true;
     let mut steps = 0;
-    let mut i = 1;
-    while i < n {
-        match later_at(points, little, i) {
-            GridPoint::Faulty => return Measured::Faulty,
-            GridPoint::At(x, y) => {
-                let b = corner_of(x, y);
-                line = goes_on(line, a, b);
-                steps = cap(steps + distance(a, b));
-                a = b;
-            }
-        }
-        i += 1;
+    for i in 1..n {
+        let b = later_at(points, little, i).ok_or(Refusal::BadCoordinate)?;
+        line = goes_on(line, a, b);
+        steps = cap(steps + distance(a, b));
+        a = b;
     }
     closed(n, line, first, a, steps)
 }
@@ -212,11 +151,7 @@ fn fill(buf: &mut [u8], d: u8, n: usize)
     requires { n ≤ length buf.old }
     ensures { buf.new ≡ replicate n d ++ drop n buf.old }
 {
-    let mut i = 0;
-    while i < n {
-        buf[i] = d;
-        i += 1;
-    }
+    buf[..n].fill(d);
 }
 
 // Writes the steps along the n points, which were accepted before, at the start of out: the part that is left is lent for each
@@ -229,36 +164,29 @@ fn put_chain(points: &[u8], little: bool, n: usize, start: Corner, out: &mut [u8
 {
     let mut a = start;
     let mut at = 0;
-    let mut i = 1;
-    while i < n {
+    for i in 1..n {
         let b = corner_at(points, little, i);
         let k = distance(a, b);
         fill(&mut out[at..], direction(a, b), k);
         at += k;
         a = b;
-        i += 1;
     }
 }
 
 // Judges the n points, and answers start and number of steps. Refuses 16, 17, 6 and 18.
-fn survey(points: &[u8], little: bool, n: usize, size: usize) -> Given
+fn survey(points: &[u8], little: bool, n: usize, size: usize) -> Result<Found, Refusal>
     requires { 16 * n ≤ length points.now }
     ensures { result
         ≡ given_of (ring_judged (points_from little points.now 0 n) size) (ring_from little points.now 0 n) }
 {
-    match measure(points, little, n) {
-        Measured::Faulty => Given::Refused(Refusal::BadCoordinate),
-        Measured::Broken => Given::Refused(Refusal::BadRing),
-        Measured::Ring(found) => {
-            if found.steps > Limits::MOST_STEPS {
-                return Given::Refused(Refusal::TooLong(Limits::MOST_STEPS));
-            }
-            if size < found.steps {
-                return Given::Refused(Refusal::ChainRoom);
-            }
-            Given::Chain(found)
-        }
+    let found = measure(points, little, n)?;
+    if found.steps > Limits::MOST_STEPS {
+        return Err(Refusal::TooLong(Limits::MOST_STEPS));
     }
+    if size < found.steps {
+        return Err(Refusal::ChainRoom);
+    }
+    Ok(found)
 }
 
 // Whether the file has thirteen bytes and sixteen for each point counted. The product is not taken: it might not fit.
@@ -275,52 +203,32 @@ fn is_whole(file: &[u8], little: bool) -> bool
 }
 
 // Reads a file in this byte order. Refuses 14 by the length, and then what the survey refuses.
-fn read_in(file: &[u8], little: bool, chain: &mut [u8]) -> Given
+fn read_in(file: &[u8], little: bool, chain: &mut [u8]) -> Result<Found, Refusal>
     requires { 13 ≤ length file.now }
     ensures { ReadIn little file.now chain.old result chain.new }
 {
     if !is_whole(file, little) {
-        return Given::Refused(Refusal::FileLength);
+        return Err(Refusal::FileLength);
     }
     let n = (file.len() - 13) / 16;
-    let given = survey(&file[13..], little, n, chain.len());
-    if let Given::Chain(found) = given {
-        let start = found.start;
-        put_chain(&file[13..], little, n, start, chain);
-    }
-    given
-}
-
-fn is_neither(o: Order) -> bool
-    ensures { result ≡ is_neither o }
-{
-    match o {
-        Order::Little => false,
-        Order::Big => false,
-        Order::Neither => true,
-    }
+    let found = survey(&file[13..], little, n, chain.len())?;
+    put_chain(&file[13..], little, n, found.start, chain);
+    Ok(found)
 }
 
 fn is_little(o: Order) -> bool
-    ensures { result ≡ is_little o }
+    ensures { result ≡ is_little (Some o) }
 {
-    match o {
-        Order::Little => true,
-        Order::Big => false,
-        Order::Neither => false,
-    }
+    matches!(o, Order::Little)
 }
 
 // Reads a polygon of one ring: its start and number of steps are answered, its steps written at the start of chain.
-pub fn read(file: &[u8], chain: &mut [u8]) -> Given
+pub fn read(file: &[u8], chain: &mut [u8]) -> Result<Found, Refusal>
     ensures { ReadCall file.now chain.old result chain.new }
 {
     if file.len() < 13 {
-        return Given::Refused(Refusal::FileLength);
+        return Err(Refusal::FileLength);
     }
-    let o = order(file);
-    if is_neither(o) {
-        return Given::Refused(Refusal::FileKind);
-    }
+    let o = order(file).ok_or(Refusal::FileKind)?;
     read_in(file, is_little(o), chain)
 }

@@ -1,19 +1,19 @@
 -- Two coordinates in 32 bits: whether they are equal or in order, and how far apart they are.
 -- Assumes nothing.
-use mathlib.Core.Path.{◌≡◌, refl, sym, ap, ap₂, ◌∙◌, subst}
+use mathlib.Core.Path.{◌≡◌, refl, sym, ap, ap₂, ◌∙◌}
 use mathlib.Core.Bool.{Bool, true, false, not, cond, false≢true}
 use Prim.Native.Nat.{ℕ, ◌+◌, ◌*◌, ◌≤◌}
 use native.Mathlib.Omega.{arith}
 use borrow.Author.Tests.{eq-eqb, ne_eqb}
-use lib.Dec.{T, eqb}
-use lib.IntN.{ℤ, pos, neg_ℤ, nat_abs, ◌-ℤ◌}
-use lib.Signed.{◌≤ℤ◌, ◌<ℤ◌, lt_z, non_neg, yes_non_neg}
-use mir.Syntax.{w32, w64}
-use mir.Val.{SFits, Fits, to_z, of_z}
+use lib.Dec.{eqb}
+use lib.IntN.{ℤ, neg_ℤ, nat_abs, ◌-ℤ◌}
+use lib.Signed.{◌<ℤ◌, lt_z}
+use mir.Syntax.{w32}
+use mir.Val.{SFits, to_z, of_z}
 use mir.Facts.{to_z-of_z}
 use Rattle.answer.specs.Limits.{farthest}
-use Rattle.int_laws.proofs.LinearLaws.{nat_le, nat_eq, bal-, up_neg, dn-neg, zarith}
-use Rattle.int_laws.proofs.RangeLaws.{abs-, abs_neg, sfits_abs, lt_true, lt_false}
+use Rattle.int_laws.proofs.LinearLaws.{nat_eq, bal-, up_neg, dn-neg, zarith}
+use Rattle.int_laws.proofs.RangeLaws.{abs-, abs_neg, lt_true, lt_false}
 use Rattle.grid.specs.declared.Corner.{Corner}
 use Rattle.grid.specs.Grid.{eq_z}
 use Rattle.grid.proofs.CornerLaws.{eq_z_sound, eq_z_refl}
@@ -27,31 +27,10 @@ read z = to_z w32 (of_z w32 z)
 
 -- ---- a difference
 
-module _ (x y : ℤ) (h : nat_abs x ≤ farthest) (k : nat_abs y ≤ farthest) where
-  pub diff_fits : SFits w32 (read y -ℤ read x)
-  diff_fits = subst (SFits w32) (sym (ap₂ ◌-ℤ◌ (back y k) (back x h))) (sfits_abs w32 (y -ℤ x) (omega (arith, abs- y x)))
-
-  diff_read : read (read y -ℤ read x) ≡ y -ℤ x
-  diff_read = to_z-of_z diff_fits ∙ ap₂ ◌-ℤ◌ (back y k) (back x h)
-
-  pub diff_cast : x ≤ℤ y → T (non_neg (read (read y -ℤ read x))) × Fits w64 (nat_abs (read (read y -ℤ read x)))
-  diff_cast le =
-      subst (λ (z : ℤ). T (non_neg z) × Fits w64 (nat_abs z)) (sym diff_read)
-      (yes_non_neg (nat_le (pos 0) (y -ℤ x) (omega (zarith, bal- y x))), record { fits = omega (arith, abs- y x) })
-
-  pub diff_is : nat_abs (read (read y -ℤ read x)) ≡ nat_abs (y -ℤ x)
-  diff_is = ap nat_abs diff_read
-
 pub diff_swap : (x y : ℤ) → nat_abs (x -ℤ y) ≡ nat_abs (y -ℤ x)
 diff_swap x y =
     sym (abs_neg (x -ℤ y))
     ∙ ap nat_abs (nat_eq (neg_ℤ (x -ℤ y)) (y -ℤ x) (omega (arith, bal- x y, bal- y x, up_neg (x -ℤ y), dn-neg (x -ℤ y))))
-
-pub before_le : (x y : ℤ) (b : Bool) → b ≡ lt_z x y → b ≡ true → x ≤ℤ y
-before_le x y b e f = nat_le x y (omega (zarith, lt_true {a = x} {b = y} (sym e ∙ f)))
-
-pub after_le : (x y : ℤ) (b : Bool) → b ≡ lt_z x y → b ≡ false → y ≤ℤ x
-after_le x y b e f = lt_false {a = x} {b = y} (sym e ∙ f)
 
 -- ---- equality, by the bits that the code compares
 

@@ -1,5 +1,6 @@
 -- Reading what was written: the header, the points, and the walk along them.
 -- Assumes nothing.
+use Rattle.std.specs.Prelude.{Err, Ok, Option, Some}
 use mathlib.Core.Path.{◌≡◌, refl, sym, ap, ap₂, ◌∙◌, subst}
 use mathlib.Core.Bool.{Bool, true, false, not, cond, ◌&&◌}
 use mathlib.Core.List.{List, [], ◌∷◌, ◌++◌, map, append_assoc}
@@ -10,6 +11,8 @@ use lib.Dec.{eqb, ltb}
 use lib.IntN.{nat_abs}
 use lib.ListN.{length, take, drop, replicate, get_or, length-append}
 use lib.Seq.{take_at, drop_at, drop-drop, get_or_at}
+use Rattle.polygon_ring.specs.Answers.{Given}
+use Rattle.answer.specs.Answers.{Judged}
 use Rattle.lists.specs.Lists.{any, Below}
 use Rattle.answer.specs.Limits.{most_steps, farthest}
 use Rattle.steps.specs.Turns.{turn_of}
@@ -31,12 +34,12 @@ use Rattle.polygon_ring_laws.proofs.TakeLaws.{point_back}
 use Rattle.answer.specs.Refusal.{when, or_else, first_of}
 use Rattle.polygon_ring_laws.specs.Reading.{grid_point_of}
 use Rattle.answer.specs.Listed.{laid_if}
-use Rattle.answer.specs.declared.{Judged.Judged, Judged.TheVariants.Good, Judged.TheVariants.Refused, Refusal.TheVariants.FileLength, Refusal.TheVariants.FileKind, Refusal.TheVariants.BadCoordinate, Refusal.TheVariants.BadRing, Refusal.TheVariants.TooLong, Refusal.TheVariants.ChainRoom}
-use Rattle.polygon_ring.specs.declared.{GridPoint.GridPoint, Order.Order, Order.TheVariants.Little, Given.Given}
+use Rattle.answer.specs.declared.{Refusal.TheVariants.FileLength, Refusal.TheVariants.FileKind, Refusal.TheVariants.BadCoordinate, Refusal.TheVariants.BadRing, Refusal.TheVariants.TooLong, Refusal.TheVariants.ChainRoom}
+use Rattle.polygon_ring.specs.declared.{Order.Order, Order.TheVariants.Little}
 
 -- ---- the header
 
-order_back : (ps : List Corner) → order_of (polygon_bytes ps) ≡ Little
+order_back : (ps : List Corner) → order_of (polygon_bytes ps) ≡ Some Little
 unfolding order_of starts_with polygon_bytes
 order_back ps = refl
 
@@ -67,7 +70,7 @@ places_back s i (c ∷ ps) e w =
     ap (point_in (most_at i) true) e ∙ point_back (most_at i) c (points_bytes ps) w.0 w.1 (most_at_le i) in
     let more : drop (16 * suc i) s ≡ points_bytes ps =
     ap (λ (n : ℕ). drop n s) (next i) ∙ sym (drop-drop 16 (16 * i) s) ∙ ap (drop 16) e ∙ drop_at (point_bytes c) (points_bytes ps) 16 (length-point_bytes c) in
-    ap₂ (λ (j : GridPoint) (js : List GridPoint). j ∷ js) here (places_back s (suc i) ps more w.2)
+    ap₂ (λ (j : Option Corner) (js : List (Option Corner)). j ∷ js) here (places_back s (suc i) ps more w.2)
   where
     next : (i : ℕ) → 16 * suc i ≡ 16 * i + 16
     next i = omega arith
@@ -166,7 +169,7 @@ length_back s ds e = sym (length-steps_from s (bends_of s ds ++ (s ∷ []))) ∙
 module _ (s : Corner) (ds : List ℕ) (p : Drawable s ds) where
   count-is : count_given (polygon_of s ds) ≡ length (points_of s ds)
   count-is =
-      ap (λ (o : Order). count_in (is_little o) (polygon_of s ds)) (order_back (points_of s ds))
+      ap (λ (o : Option Order). count_in (is_little o) (polygon_of s ds)) (order_back (points_of s ds))
       ∙ count-back (points_of s ds) (few (length (points_of s ds)) (turning ds) (length ds) (length-points_of s ds p.digits) (turning_le ds) p.few)
     where
       few : (n t l : ℕ) → n ≡ t + 2 → t ≤ l → l ≤ most_steps → n < 256 ^ 4
@@ -180,7 +183,7 @@ module _ (s : Corner) (ds : List ℕ) (p : Drawable s ds) where
 
   places_are : points_given (polygon_of s ds) ≡ map grid_point_of (points_of s ds)
   places_are =
-      ap₂ (λ (o : Order) (n : ℕ). points_from (is_little o) (drop 13 (polygon_of s ds)) 0 n) (order_back (points_of s ds)) many_are
+      ap₂ (λ (o : Option Order) (n : ℕ). points_from (is_little o) (drop 13 (polygon_of s ds)) 0 n) (order_back (points_of s ds)) many_are
       ∙ ap (λ (l : List ℕ). points_from true l 0 (length (points_of s ds))) (points_back (points_of s ds))
       ∙ places_back (points_bytes (points_of s ds)) 0 (points_of s ds) refl (within_points s ds p)
 
@@ -194,7 +197,7 @@ module _ (s : Corner) (ds : List ℕ) (p : Drawable s ds) where
       let file = polygon_of s ds in
       let n = length (points_of s ds) in
       let size : length file ≡ 13 + 16 * n = length-polygon_bytes (points_of s ds) in
-      let rest : List Corner → Judged = λ ps. or_else (when (not (is_ring ps)) BadRing) (or_else (when (ltb most_steps (length_of ps)) (TooLong most_steps)) (or_else (when (ltb room (length_of ps)) ChainRoom) Good)) in
+      let rest : List Corner → Judged = λ ps. or_else (when (not (is_ring ps)) BadRing) (or_else (when (ltb most_steps (length_of ps)) (TooLong most_steps)) (or_else (when (ltb room (length_of ps)) ChainRoom) (Ok tt))) in
       let long : ltb (length file) 13 ≡ false = le-ltb (length file) 13 (omega arith) in
       let even : eqb (length file) (13 + 16 * count_given file) ≡ true = eq-eqb (length file) (13 + 16 * count_given file) (size ∙ ap (λ (k : ℕ). 13 + 16 * k) (sym count-is)) in
       let good : any is_faulty (points_given file) ≡ false = ap (any is_faulty) places_are ∙ none_faulty (points_of s ds) in
@@ -214,26 +217,26 @@ module _ (s : Corner) (ds : List ℕ) (p : Drawable s ds) where
       judged-room : (room : ℕ) → read_judged (polygon_of s ds) room ≡ when (ltb room (length ds)) ChainRoom
       judged-room room =
           judged-by room
-          ∙ ap₂ (λ (b : Bool) (n : ℕ). or_else (when (not b) BadRing) (or_else (when (ltb most_steps n) (TooLong most_steps)) (or_else (when (ltb room n) ChainRoom) Good))) (ring-back s ds p.digits some e t) long
-          ∙ ap (λ (b : Bool). or_else (when b (TooLong most_steps)) (or_else (when (ltb room (length ds)) ChainRoom) Good)) (le-ltb most_steps (length ds) p.few)
+          ∙ ap₂ (λ (b : Bool) (n : ℕ). or_else (when (not b) BadRing) (or_else (when (ltb most_steps n) (TooLong most_steps)) (or_else (when (ltb room n) ChainRoom) (Ok tt)))) (ring-back s ds p.digits some e t) long
+          ∙ ap (λ (b : Bool). or_else (when b (TooLong most_steps)) (or_else (when (ltb room (length ds)) ChainRoom) (Ok tt))) (le-ltb most_steps (length ds) p.few)
           ∙ plain (when (ltb room (length ds)) ChainRoom)
         where
-          plain : (c : Judged) → or_else c Good ≡ c
-          plain Good = refl
-          plain (Refused r) = refl
+          plain : (c : Judged) → or_else c (Ok tt) ≡ c
+          plain (Ok _) = refl
+          plain (Err r) = refl
 
       pub back_read : (out : List ℕ) (r : Given) (out' : List ℕ) → length ds ≤ length out → ReadCall (polygon_of s ds) out r out'
-          → (r ≡ Given.Chain (record { start = s; steps = length ds })) × (out' ≡ ds ++ drop (length ds) out)
+          → (r ≡ Ok (record { start = s; steps = length ds })) × (out' ≡ ds ++ drop (length ds) out)
       back_read out r out' h c =
-          let j : read_judged (polygon_of s ds) (length out) ≡ Good = judged-room (length out) ∙ ap (λ (b : Bool). when b ChainRoom) (le-ltb (length out) (length ds) h) in
+          let j : read_judged (polygon_of s ds) (length out) ≡ Ok tt = judged-room (length out) ∙ ap (λ (b : Bool). when b ChainRoom) (le-ltb (length out) (length ds) h) in
           let w : chain_of_points (ring_of (polygon_of s ds)) ≡ ds = ap chain_of_points ring_written ∙ (chain_back s ds p.digits some e).0 in (
             c.answer
                 ∙ ap₂ given_of j ring_written
-                ∙ ap (λ (n : ℕ). Given.Chain (record { start = s; steps = n })) long,
+                ∙ ap (λ (n : ℕ). Ok (record { start = s; steps = n })) long,
             c.buffer ∙ ap₂ (λ (k : Judged) (l : List ℕ). laid_if k l out) j w,
           )
 
-      pub back-short : (out : List ℕ) (r : Given) (out' : List ℕ) → length out < length ds → ReadCall (polygon_of s ds) out r out' → (r ≡ Given.Refused ChainRoom) × (out' ≡ out)
+      pub back-short : (out : List ℕ) (r : Given) (out' : List ℕ) → length out < length ds → ReadCall (polygon_of s ds) out r out' → (r ≡ Err ChainRoom) × (out' ≡ out)
       back-short out r out' h c =
-          let j : read_judged (polygon_of s ds) (length out) ≡ Refused ChainRoom = judged-room (length out) ∙ ap (λ (b : Bool). when b ChainRoom) (lt-ltb (length out) (length ds) h) in
+          let j : read_judged (polygon_of s ds) (length out) ≡ Err ChainRoom = judged-room (length out) ∙ ap (λ (b : Bool). when b ChainRoom) (lt-ltb (length out) (length ds) h) in
           (c.answer ∙ ap (λ (k : Judged). given_of k (ring_of (polygon_of s ds))) j, c.buffer ∙ ap (λ (k : Judged). laid_if k (chain_of_points (ring_of (polygon_of s ds))) out) j)

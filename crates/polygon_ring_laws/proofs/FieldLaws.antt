@@ -1,5 +1,6 @@
 -- The exponent and the digits of a float show whether it is a coordinate, and which.
 -- Assumes nothing.
+use Rattle.std.specs.Prelude.{None, Option, Some}
 use mathlib.Core.Path.{◌≡◌, refl, sym, ap, ap₂, ◌∙◌, subst}
 use mathlib.Core.Logic.{◌⊎◌, inl, inr, ⊎_elim}
 use mathlib.Core.Bool.{Bool, true, false, not, ◌&&◌, cond, false≢true}
@@ -22,8 +23,6 @@ use Rattle.lists.proofs.GatherLaws.{and_left, and_right}
 use Rattle.polygon.specs.Coordinate.{scale, signed}
 use Rattle.polygon_laws.proofs.SignedLaws.{back}
 use Rattle.polygon_ring.specs.Coordinate.{whole_at, whole_of}
-use Rattle.polygon_ring.specs.declared.Whole.{Whole}
-use Rattle.polygon_ring.specs.declared.Whole.TheVariants.{Of, Refused}
 use Rattle.polygon_ring_laws.specs.Fields.{float_kept, bits_kept, negative_in, size_in, digits_in, places_in, in_reach, panels_shown, IsAccepted}
 use Rattle.polygon_ring_laws.proofs.BitsLaws.{of_bits_is, mid_value, value_unit}
 use Rattle.polygon_ring_laws.proofs.TakeLaws.{nat_abs-signed, accepted_value}
@@ -105,14 +104,14 @@ too_small d q x h l g e =
 
 -- ---- the value by the fields
 
-refused_of : {z : ℤ} → Refused ≡ Of z → ⊥
+refused_of : {z : ℤ} → None ≡ Some z → ⊥
 refused_of e = let z : ◌≡◌ {A = ℕ} 0 1 = cc in omega arith
 
-refused_top : (most : ℕ) (s : Bool) (t : ℕ) → whole_of most (of_fields binary64 s 2047 t) ≡ Refused
+refused_top : (most : ℕ) (s : Bool) (t : ℕ) → whole_of most (of_fields binary64 s 2047 t) ≡ None
 unfolding whole_of of_fields
 refused_top most s t = go (eqb t 0)
   where
-    go : (z : Bool) → whole_of most (cond z (inf s) nan) ≡ Refused
+    go : (z : Bool) → whole_of most (cond z (inf s) nan) ≡ None
     go true = refl
     go false = refl
 
@@ -128,7 +127,7 @@ module _ (b : ℕ) where
       subst (λ (v : Float). HasValue v (negative_in b) (b % 2 ^ 52 * 2 ^ 0) (2 ^ 1074)) (sym (of_bits_is b ∙ ap (λ (n : ℕ). of_fields binary64 (negative_in b) n (b % 2 ^ 52)) e))
       (odd_sign 53 (negative_in b) (b % 2 ^ 52) 0 1074)
 
-  top_refused : (most : ℕ) → size_in b / 2 ^ 52 ≡ 2047 → whole_of most (of_bits binary64 b) ≡ Refused
+  top_refused : (most : ℕ) → size_in b / 2 ^ 52 ≡ 2047 → whole_of most (of_bits binary64 b) ≡ None
   top_refused most e = ap (whole_of most) (of_bits_is b ∙ ap (λ (n : ℕ). of_fields binary64 (negative_in b) n (b % 2 ^ 52)) e) ∙ refused_top most (negative_in b) (b % 2 ^ 52)
 
 -- ---- the panels that the fields show
@@ -241,7 +240,7 @@ module _ (most : ℕ) (u : most ≤ farthest) (b : ℕ) where
             digits = inr (range_reach (size_in b) (omega arith) (omega arith), ap (λ (j : ℕ). scale * j * 2 ^ places_in (size_in b)) k ∙ w);
           }
 
-  shown : (z : ℤ) → whole_of most (of_bits binary64 b) ≡ Of z → Shown most b z
+  shown : (z : ℤ) → whole_of most (of_bits binary64 b) ≡ Some z → Shown most b z
   shown z h = subst (Shown most b) w.2 (go (size_in b / 2 ^ 52) refl (dec_lt (size_in b / 2 ^ 52) 2047))
     where
       w : (s : Bool) × HasValue (of_bits binary64 b) s (scale * nat_abs z) 1 × (signed s (nat_abs z) ≡ z) × (nat_abs z ≤ most)
@@ -261,26 +260,26 @@ module _ (most : ℕ) (u : most ≤ farthest) (b : ℕ) where
 
   -- ---- and a float that shows one is it
 
-  is_zero : size_in b ≡ 0 → Of (pos 0) ≡ whole_of most (of_bits binary64 b)
+  is_zero : size_in b ≡ 0 → Some (pos 0) ≡ whole_of most (of_bits binary64 b)
   is_zero h =
       let e : size_in b / 2 ^ 52 ≡ 0 = ap (λ (m : ℕ). m / 2 ^ 52) h in
       let r : b % 2 ^ 52 * 2 ^ 0 ≡ 0 * (scale * 2 ^ 1074) = ap (λ (n : ℕ). n * 2 ^ 0) (sym (mod-mod-pow b 11 52) ∙ ap (λ (m : ℕ). m % 2 ^ 52) h) ∙ sym (zero-mul (scale * 2 ^ 1074)) in
       sym (whole_of_value most (of_bits binary64 b) (negative_in b) (b % 2 ^ 52 * 2 ^ 0) (2 ^ 1074) (pow_pos 1074) (least b e)
       ∙ ap (λ (n : ℕ). whole_at most (negative_in b) n (2 ^ 1074)) r
       ∙ whole_at_multiple most (negative_in b) 0 (2 ^ 1074) (pow_pos 1074) (omega arith)
-      ∙ ap Of (unsigned (negative_in b)))
+      ∙ ap Some (unsigned (negative_in b)))
     where
       unsigned : (s : Bool) → signed s 0 ≡ pos 0
       unsigned true = refl
       unsigned false = refl
 
-  is_coordinate : in_reach (size_in b) ≡ true → scale * panels_shown (size_in b) * 2 ^ places_in (size_in b) ≡ digits_in (size_in b) → panels_shown (size_in b) ≤ most → Of (signed (negative_in b) (panels_shown (size_in b))) ≡ whole_of most (of_bits binary64 b)
+  is_coordinate : in_reach (size_in b) ≡ true → scale * panels_shown (size_in b) * 2 ^ places_in (size_in b) ≡ digits_in (size_in b) → panels_shown (size_in b) ≤ most → Some (signed (negative_in b) (panels_shown (size_in b))) ≡ whole_of most (of_bits binary64 b)
   is_coordinate h d l = go (size_in b / 2 ^ 52) refl
     where
       r : (1032 ≤ size_in b / 2 ^ 52) × (size_in b / 2 ^ 52 ≤ 1047)
       r = reach_range (size_in b) h
 
-      go : (e : ℕ) → size_in b / 2 ^ 52 ≡ e → Of (signed (negative_in b) (panels_shown (size_in b))) ≡ whole_of most (of_bits binary64 b)
+      go : (e : ℕ) → size_in b / 2 ^ 52 ≡ e → Some (signed (negative_in b) (panels_shown (size_in b))) ≡ whole_of most (of_bits binary64 b)
       go zero f = absurd (omega (arith, r.0))
       go (suc x) f =
           let v : digits_in (size_in b) * 2 ^ x ≡ scale * panels_shown (size_in b) * 2 ^ 1074 =
@@ -321,29 +320,29 @@ module _ (most : ℕ) (u : most ≤ farthest) (x : Float) (f : T (fits binary64 
   its : of_bits binary64 (to_bits binary64 x) ≡ x
   its = of_bits-to_bits binary64 x f
 
-  none_of : ((z : ℤ) → Shown most (to_bits binary64 x) z → ⊥) → Refused ≡ whole_of most x
+  none_of : ((z : ℤ) → Shown most (to_bits binary64 x) z → ⊥) → None ≡ whole_of most x
   none_of h = go (whole_of most x) refl
     where
-      go : (w : Whole) → whole_of most x ≡ w → Refused ≡ w
-      go Refused e = refl
-      go (Of z) e = absurd (h z (shown most u (to_bits binary64 x) z (ap (whole_of most) its ∙ e)))
+      go : (w : Option ℤ) → whole_of most x ≡ w → None ≡ w
+      go None e = refl
+      go (Some z) e = absurd (h z (shown most u (to_bits binary64 x) z (ap (whole_of most) its ∙ e)))
 
-  pub whole_zero : size_in (to_bits binary64 x) ≡ 0 → Of (pos 0) ≡ whole_of most x
+  pub whole_zero : size_in (to_bits binary64 x) ≡ 0 → Some (pos 0) ≡ whole_of most x
   whole_zero h = is_zero most u (to_bits binary64 x) h ∙ ap (whole_of most) its
 
-  pub whole_out : (size_in (to_bits binary64 x) ≡ 0 → ⊥) → in_reach (size_in (to_bits binary64 x)) ≡ false → Refused ≡ whole_of most x
+  pub whole_out : (size_in (to_bits binary64 x) ≡ 0 → ⊥) → in_reach (size_in (to_bits binary64 x)) ≡ false → None ≡ whole_of most x
   whole_out h k = none_of (λ z w. ⊎_elim h (λ p. false≢true (sym k ∙ p.0)) w.digits)
 
   module _ (n : ℕ) (e : n ≡ panels_shown (size_in (to_bits binary64 x))) where
-    pub whole-far : most < n → Refused ≡ whole_of most x
+    pub whole-far : most < n → None ≡ whole_of most x
     whole-far h = none_of (λ z w. let l = w.within in omega (arith, e, l, h))
 
-    pub whole_other : (size_in (to_bits binary64 x) ≡ 0 → ⊥) → eqb (scale * n * 2 ^ places_in (size_in (to_bits binary64 x))) (digits_in (size_in (to_bits binary64 x))) ≡ false → Refused ≡ whole_of most x
+    pub whole_other : (size_in (to_bits binary64 x) ≡ 0 → ⊥) → eqb (scale * n * 2 ^ places_in (size_in (to_bits binary64 x))) (digits_in (size_in (to_bits binary64 x))) ≡ false → None ≡ whole_of most x
     whole_other k h = none_of (λ z w. ⊎_elim k (λ p. false≢true (sym h ∙ eq-eqb (scale * n * 2 ^ places_in (size_in (to_bits binary64 x))) (digits_in (size_in (to_bits binary64 x))) (ap (λ (j : ℕ). scale * j * 2 ^ places_in (size_in (to_bits binary64 x))) e ∙ p.1))) w.digits)
 
-    pub whole_is : (r : ℤ) → in_reach (size_in (to_bits binary64 x)) ≡ true → n ≤ most → eqb (scale * n * 2 ^ places_in (size_in (to_bits binary64 x))) (digits_in (size_in (to_bits binary64 x))) ≡ true → r ≡ signed (negative_in (to_bits binary64 x)) n → Of (to_z w32 (of_z w32 r)) ≡ whole_of most x
+    pub whole_is : (r : ℤ) → in_reach (size_in (to_bits binary64 x)) ≡ true → n ≤ most → eqb (scale * n * 2 ^ places_in (size_in (to_bits binary64 x))) (digits_in (size_in (to_bits binary64 x))) ≡ true → r ≡ signed (negative_in (to_bits binary64 x)) n → Some (to_z w32 (of_z w32 r)) ≡ whole_of most x
     whole_is r k l h g =
-        ap Of (back r (subst (λ (z : ℤ). nat_abs z ≤ farthest) (sym g) (omega (arith, nat_abs-signed (negative_in (to_bits binary64 x)) n))) ∙ g ∙ ap (signed (negative_in (to_bits binary64 x))) e)
+        ap Some (back r (subst (λ (z : ℤ). nat_abs z ≤ farthest) (sym g) (omega (arith, nat_abs-signed (negative_in (to_bits binary64 x)) n))) ∙ g ∙ ap (signed (negative_in (to_bits binary64 x))) e)
         ∙ is_coordinate most u (to_bits binary64 x) k (ap (λ (j : ℕ). scale * j * 2 ^ places_in (size_in (to_bits binary64 x))) (sym e) ∙ eqb-true (scale * n * 2 ^ places_in (size_in (to_bits binary64 x))) (digits_in (size_in (to_bits binary64 x))) h) (subst (λ (j : ℕ). j ≤ most) e l)
         ∙ ap (whole_of most) its
 
@@ -353,7 +352,7 @@ module _ (b : ℕ) (a : IsAccepted (of_bits binary64 b)) where
   before : Shown farthest b a.0
   before = shown farthest (omega arith) b a.0 a.1
 
-  pub known_zero : size_in b ≡ 0 → Of (pos 0) ≡ whole_of farthest (of_bits binary64 b)
+  pub known_zero : size_in b ≡ 0 → Some (pos 0) ≡ whole_of farthest (of_bits binary64 b)
   known_zero h = is_zero farthest (omega arith) b h
 
   pub known_reach : (size_in b ≡ 0 → ⊥) → in_reach (size_in b) ≡ true
@@ -363,5 +362,5 @@ module _ (b : ℕ) (a : IsAccepted (of_bits binary64 b)) where
     pub known_le : n ≤ farthest
     known_le = subst (λ (j : ℕ). j ≤ farthest) (sym e) before.within
 
-    pub known_is : (r : ℤ) → r ≡ signed (negative_in b) n → Of (to_z w32 (of_z w32 r)) ≡ whole_of farthest (of_bits binary64 b)
-    known_is r g = ap Of (back r (subst (λ (z : ℤ). nat_abs z ≤ farthest) (sym g) (omega (arith, known_le, nat_abs-signed (negative_in b) n))) ∙ g ∙ ap (signed (negative_in b)) e ∙ sym before.coordinate) ∙ sym a.1
+    pub known_is : (r : ℤ) → r ≡ signed (negative_in b) n → Some (to_z w32 (of_z w32 r)) ≡ whole_of farthest (of_bits binary64 b)
+    known_is r g = ap Some (back r (subst (λ (z : ℤ). nat_abs z ≤ farthest) (sym g) (omega (arith, known_le, nat_abs-signed (negative_in b) n))) ∙ g ∙ ap (signed (negative_in b)) e ∙ sym before.coordinate) ∙ sym a.1

@@ -1,5 +1,6 @@
 -- The tests of a file pass exactly if it is what is asked.
 -- Assumes nothing.
+use Rattle.std.specs.Prelude.{None, Option, Some}
 use mathlib.Core.Path.{◌≡◌, refl, sym, ap, ap₂, ◌∙◌, subst}
 use mathlib.Core.Logic.{◌↔◌, inl, inr, ⊎_elim}
 use mathlib.Core.Bool.{Bool, true, false, not, cond, ◌&&◌, ◌||◌, false≢true}
@@ -18,7 +19,7 @@ use Rattle.grid.proofs.CornerLaws.{eq_z_sound, eq_z_refl, same_sound, same_refl}
 use Rattle.polygon.specs.Polygon.{prefix}
 use Rattle.polygon_ring.specs.Bytes.{starts_with}
 use Rattle.polygon_ring.specs.Ring.{big_prefix, pick_order, order_of, is_little, is_neither, point_at, points_from, is_faulty, corner_in, straight, straight_from, is_ring, count_in, points_in}
-use Rattle.polygon_ring.specs.declared.{Order.Order, Order.TheVariants.Little, Order.TheVariants.Big, Order.TheVariants.Neither}
+use Rattle.polygon_ring.specs.declared.{Order.Order, Order.TheVariants.Little, Order.TheVariants.Big}
 use Rattle.polygon_ring_laws.specs.Reading.{ring_from}
 use Rattle.polygon_ring_laws.specs.Files.{header_in, Headed, Sized, IsPoint, HasCorners, OneAxis, IsRing}
 use Rattle.polygon_ring_laws.proofs.RingLaws.{length_places, get_d_places}
@@ -39,14 +40,14 @@ unfolding starts_with
 starts_append [] rest = refl
 starts_append (p ∷ ps) rest = ap₂ ◌&&◌ (eq-eqb p p refl) (starts_append ps rest)
 
-abbrev order_in : Bool → Order
-order_in true = Little
-order_in false = Big
+abbrev order_in : Bool → Option Order
+order_in true = Some Little
+order_in false = Some Big
 
 order_headed : (little : Bool) (rest : List ℕ) → order_of (header_in little ++ rest) ≡ order_in little
 unfolding order_of starts_with
-order_headed true rest = ap (λ (b : Bool). pick_order b Little (pick_order (starts_with big_prefix (prefix ++ rest)) Big Neither)) (starts_append prefix rest)
-order_headed false rest = ap (λ (b : Bool). pick_order b Big Neither) (starts_append big_prefix rest)
+order_headed true rest = ap (λ (b : Bool). pick_order b (Some Little) (pick_order (starts_with big_prefix (prefix ++ rest)) (Some Big) None)) (starts_append prefix rest)
+order_headed false rest = ap (λ (b : Bool). pick_order b (Some Big) None) (starts_append big_prefix rest)
 
 pub headed_order : (little : Bool) (file : List ℕ) → Headed little file → (is_neither (order_of file) ≡ false) × (is_little (order_of file) ≡ little)
 headed_order little file h = let e = ap order_of h.header ∙ order_headed little h.rest in (ap is_neither e ∙ sure little, ap is_little e ∙ back little)
@@ -66,14 +67,14 @@ order_some file h e = go (starts_with prefix file) (starts_with big_prefix file)
     go : (a b : Bool) → starts_with prefix file ≡ a → starts_with big_prefix file ≡ b → Headed (is_little (order_of file)) file
     go true b f g =
         let r = starts_sound prefix file f in
-        let o : order_of file ≡ Little = ap (λ (t : Bool). pick_order t Little (pick_order (starts_with big_prefix file) Big Neither)) f in
+        let o : order_of file ≡ Some Little = ap (λ (t : Bool). pick_order t (Some Little) (pick_order (starts_with big_prefix file) (Some Big) None)) f in
         subst (λ (l : Bool). Headed l file) (sym (ap is_little o)) (record { enough = h; rest = r.0; header = r.1 })
     go false true f g =
         let r = starts_sound big_prefix file g in
-        let o : order_of file ≡ Big = ap₂ (λ (t u : Bool). pick_order t Little (pick_order u Big Neither)) f g in
+        let o : order_of file ≡ Some Big = ap₂ (λ (t u : Bool). pick_order t (Some Little) (pick_order u (Some Big) None)) f g in
         subst (λ (l : Bool). Headed l file) (sym (ap is_little o)) (record { enough = h; rest = r.0; header = r.1 })
     go false false f g =
-        let o : order_of file ≡ Neither = ap₂ (λ (t u : Bool). pick_order t Little (pick_order u Big Neither)) f g in
+        let o : order_of file ≡ None = ap₂ (λ (t u : Bool). pick_order t (Some Little) (pick_order u (Some Big) None)) f g in
         absurd (false≢true (sym e ∙ ap is_neither o))
 
 -- ---- the points

@@ -1,19 +1,19 @@
 -- Numbers out of bytes, and lists that begin with another.
 -- Assumes nothing.
 use mathlib.Core.Path.{◌≡◌, refl, sym, ap, ap₂, ◌∙◌}
-use mathlib.Core.Bool.{Bool, true, false, ◌&&◌}
+use mathlib.Core.Bool.{true, false, ◌&&◌}
 use mathlib.Core.List.{List, [], ◌∷◌, ◌++◌, reverse, reverse-cons}
 use Prim.Native.Nat.{ℕ, zero, suc, ◌+◌, ◌-◌, ◌*◌, ◌/◌, ◌%◌, ◌^◌, ◌≤◌, ◌<◌}
-use native.Mathlib.Nat.{pow-succ', le_trans, lt_of_lt_of_le, pow-le-pow_right}
+use native.Mathlib.Nat.{pow-succ', div-div-eq-div-mul, le_trans, lt_of_lt_of_le, pow-le-pow_right}
 use native.Mathlib.Omega.{arith}
 use native.Mathlib.Numerals.{add-one}
-use lib.ListN.{length, take, drop, get_or, drop_of_length-le}
-use lib.Seq.{drop-length, take-suc, take_all, drop-cons}
-use borrow.Author.Tests.{ne_eqb, eq-eqb}
+use lib.ListN.{length, take, drop, get_or}
+use lib.Seq.{drop-length, take-suc, drop-cons}
+use Rattle.std.specs.Int.{w64, swap_bytes}
+use Rattle.std.specs.List as list
 use lib.Dec.{eqb}
 use Rattle.polygon.specs.Bytes.{bytes_of}
 use Rattle.polygon_ring.specs.Bytes.{number_of, number_in, starts_with}
-use Rattle.polygon_laws.proofs.BytesLaws.{length-bytes_of}
 
 pub number_of-bytes_of : (n b : ℕ) → b < 256 ^ n → number_of (bytes_of n b) ≡ b
 unfolding bytes_of number_of
@@ -80,66 +80,18 @@ pub eight_swapped : (s : List ℕ) (v : ℕ) → length s ≡ 8 → ((i : ℕ) �
 unfolding number_in
 eight_swapped s v l h e = ap (number_in false) (ap₂ bytes_of (sym l) e ∙ bytes_of-number_of s h)
 
--- r is the number of the first i bytes of s, the highest first, and rest the number of those left
-pub record Swapping (s : List ℕ) (r rest i : ℕ) : Type 0 where
-  pub within : i ≤ length s
-  pub small : r < 256 ^ i
-  pub is : r ≡ number_of (reverse (take i s))
-  pub left : bytes_of (length s - i) rest ≡ drop i s
-
-pub swapping_first : (v : ℕ) → Swapping (bytes_of 8 v) 0 v 0
-unfolding number_of bytes_of
-swapping_first v = record { within = omega arith; small = omega arith; is = refl; left = ap (λ (n : ℕ). bytes_of n v) (length-bytes_of 8 v) }
-
-pub swapping_more : (s : List ℕ) (r rest i : ℕ) → i < length s → Swapping s r rest i → Swapping s (r * 256 + rest % 256) (rest / 256) (i + 1)
-unfolding bytes_of
-swapping_more s r rest i h p =
-    let n = length s - (i + 1) in
-    let e : length s - i ≡ suc n = omega arith in
-    let c : rest % 256 ∷ bytes_of n (rest / 256) ≡ get_or s i 0 ∷ drop (suc i) s = ap (λ (k : ℕ). bytes_of k rest) (sym e) ∙ p.left ∙ drop-cons s i 0 h in
-    let d : rest % 256 ≡ get_or s i 0 = ap head c in record {
-      within = omega arith;
-      small = grows r (rest % 256) i p.small (omega arith);
-      is = ap (λ (k : ℕ). r * 256 + k) d ∙ big_more s i r h p.is;
-      left = ap tail c ∙ ap (λ (k : ℕ). drop k s) (sym (add-one i));
-    }
-  where
-    head : List ℕ → ℕ
-    head [] = 0
-    head (a ∷ l) = a
-
-    tail : List ℕ → List ℕ
-    tail [] = []
-    tail (a ∷ l) = l
-
-pub swapping_room : (s : List ℕ) (r rest i d : ℕ) → length s ≡ 8 → i < 8 → d < 256 → Swapping s r rest i → r * 256 + d < 2 ^ 64
-swapping_room s r rest i d l h e p = fits_eight (r * 256 + d) (i + 1) (omega arith) (grows r d i p.small e)
-
-pub swapping_last : (s : List ℕ) (r rest i : ℕ) → length s ≤ i → Swapping s r rest i → r ≡ number_in false s
-unfolding number_in
-swapping_last s r rest i h p = p.is ∙ ap (λ (l : List ℕ). number_of (reverse l)) (take_all i s h)
+-- the eight bytes of a number, in the other order
+pub swapped_is : (v : ℕ) → swap_bytes w64 v ≡ number_in false (bytes_of 8 v)
+unfolding number_in bytes_of
+swapped_is v = simp div-div-eq-div-mul (omega arith)
 
 -- ---- a list that begins with another
 
-pub starts_all : (p s : List ℕ) (i : ℕ) → length p ≤ i → starts_with (drop i p) (drop i s) ≡ true
+pub starts_is : (p s : List ℕ) → list.starts_with eqb s p ≡ starts_with p s
 unfolding starts_with
-starts_all p s i h = ap (λ (z : List ℕ). starts_with z (drop i s)) (drop_of_length-le p h)
-
-pub starts_short : (p s : List ℕ) (i : ℕ) → i < length p → length s ≤ i → starts_with (drop i p) (drop i s) ≡ false
-unfolding starts_with
-starts_short p s i h k = ap (λ (z : List ℕ). starts_with z (drop i s)) (drop-cons p i 0 h) ∙ ap (starts_with (get_or p i 0 ∷ drop (suc i) p)) (drop_of_length-le s k)
-
-starts_cons : (p s : List ℕ) (i : ℕ) → i < length p → i < length s → starts_with (drop i p) (drop i s) ≡ (eqb (get_or s i 0) (get_or p i 0) && starts_with (drop (suc i) p) (drop (suc i) s))
-unfolding starts_with
-starts_cons p s i h k = ap (λ (z : List ℕ). starts_with z (drop i s)) (drop-cons p i 0 h) ∙ ap (starts_with (get_or p i 0 ∷ drop (suc i) p)) (drop-cons s i 0 k)
-
-pub starts_other : (p s : List ℕ) (i : ℕ) → i < length p → i < length s → (get_or s i 0 ≡ get_or p i 0 → ⊥) → starts_with (drop i p) (drop i s) ≡ false
-starts_other p s i h k n =
-    starts_cons p s i h k ∙ ap (λ (b : Bool). b && starts_with (drop (suc i) p) (drop (suc i) s)) (ne_eqb (get_or s i 0) (get_or p i 0) n)
-
-pub starts_same : (p s : List ℕ) (i : ℕ) → i < length p → i < length s → get_or s i 0 ≡ get_or p i 0
-    → starts_with (drop i p) (drop i s) ≡ starts_with (drop (i + 1) p) (drop (i + 1) s)
-starts_same p s i h k e =
-    starts_cons p s i h k
-    ∙ ap (λ (b : Bool). b && starts_with (drop (suc i) p) (drop (suc i) s)) (eq-eqb (get_or s i 0) (get_or p i 0) e)
-    ∙ ap (λ (n : ℕ). starts_with (drop n p) (drop n s)) (sym (add-one i))
+starts_is [] s = refl
+starts_is (p ∷ ps) [] = refl
+starts_is (p ∷ ps) (b ∷ s) = ap₂ ◌&&◌ (either_way p b) (starts_is ps s)
+  where
+    either_way : (a b : ℕ) → eqb a b ≡ eqb b a
+    either_way a b = grind arith

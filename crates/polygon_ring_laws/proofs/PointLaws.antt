@@ -1,5 +1,6 @@
 -- Refusal 16, exactly: what each point of a file that passes it is.
 -- Assumes nothing.
+use Rattle.std.specs.Prelude.{None, Option, Some}
 use mathlib.Core.Path.{◌≡◌, refl, sym, ap, ap₂, ◌∙◌}
 use mathlib.Core.Logic.{◌↔◌}
 use mathlib.Core.Bool.{Bool, false, ◌||◌, false≢true}
@@ -24,30 +25,29 @@ use Rattle.polygon_ring_laws.specs.Reading.{grid_point_of}
 use Rattle.polygon_ring_laws.specs.Files.{x_at, y_at, IsPoint}
 use Rattle.polygon_ring_laws.specs.Fields.{IsAccepted}
 use Rattle.polygon_ring_laws.proofs.TakeLaws.{accepted, accepted_value, accepts}
-use Rattle.polygon_ring.specs.declared.{GridPoint.GridPoint, GridPoint.TheVariants.At, GridPoint.TheVariants.Faulty, Whole.Whole, Whole.TheVariants.Of, Whole.TheVariants.Refused}
 
 clash : ◌≡◌ {A = ℕ} 0 1 → ⊥
 clash z = omega arith
 
-both_good : (v w : Whole) (c : Corner) → both v w ≡ grid_point_of c → (v ≡ Of c.0) × (w ≡ Of c.1)
-both_good (Of a) (Of b) c e =
-    (ap (λ (s : GridPoint). Of (corner_in s).0) e, ap (λ (s : GridPoint). Of (corner_in s).1) e)
-both_good (Of a) Refused c e = let z : ◌≡◌ {A = ℕ} 0 1 = cc in absurd (clash z)
-both_good Refused w c e = let z : ◌≡◌ {A = ℕ} 0 1 = cc in absurd (clash z)
+both_good : (v w : Option ℤ) (c : Corner) → both v w ≡ grid_point_of c → (v ≡ Some c.0) × (w ≡ Some c.1)
+both_good (Some a) (Some b) c e =
+    (ap (λ (s : Option Corner). Some (corner_in s).0) e, ap (λ (s : Option Corner). Some (corner_in s).1) e)
+both_good (Some a) None c e = let z : ◌≡◌ {A = ℕ} 0 1 = cc in absurd (clash z)
+both_good None w c e = let z : ◌≡◌ {A = ℕ} 0 1 = cc in absurd (clash z)
 
 -- a point that was accepted before: its floats are, and its corner is theirs
-both_parts : (v w : Whole) → is_faulty (both v w) ≡ false → ((a : ℤ) × (v ≡ Of a)) × ((b : ℤ) × (w ≡ Of b))
-both_parts (Of a) (Of b) e = ((a, refl), (b, refl))
-both_parts (Of a) Refused e = absurd (false≢true (sym e))
-both_parts Refused w e = absurd (false≢true (sym e))
+both_parts : (v w : Option ℤ) → is_faulty (both v w) ≡ false → ((a : ℤ) × (v ≡ Some a)) × ((b : ℤ) × (w ≡ Some b))
+both_parts (Some a) (Some b) e = ((a, refl), (b, refl))
+both_parts (Some a) None e = absurd (false≢true (sym e))
+both_parts None w e = absurd (false≢true (sym e))
 
 pub point_parts : (little : Bool) (s : List ℕ) → is_faulty (point_in farthest little s) ≡ false
     → IsAccepted (of_bits binary64 (number_in little (take 8 s))) × IsAccepted (of_bits binary64 (number_in little (take 8 (drop 8 s))))
 unfolding point_in
 point_parts little s e = both_parts (whole_of farthest (of_bits binary64 (number_in little (take 8 s)))) (whole_of farthest (of_bits binary64 (number_in little (take 8 (drop 8 s))))) e
 
-pub point_corner : (little : Bool) (s : List ℕ) (x y : ℤ) → Of x ≡ whole_of farthest (of_bits binary64 (number_in little (take 8 s)))
-    → Of y ≡ whole_of farthest (of_bits binary64 (number_in little (take 8 (drop 8 s)))) → corner (to_z w32 (of_z w32 x)) (to_z w32 (of_z w32 y)) ≡ corner_in (point_in farthest little s)
+pub point_corner : (little : Bool) (s : List ℕ) (x y : ℤ) → Some x ≡ whole_of farthest (of_bits binary64 (number_in little (take 8 s)))
+    → Some y ≡ whole_of farthest (of_bits binary64 (number_in little (take 8 (drop 8 s)))) → corner (to_z w32 (of_z w32 x)) (to_z w32 (of_z w32 y)) ≡ corner_in (point_in farthest little s)
 unfolding point_in
 point_corner little s x y e f =
     ap₂ corner (back x (accepted_value farthest (of_bits binary64 (number_in little (take 8 s))) x (sym e)).3) (back y (accepted_value farthest (of_bits binary64 (number_in little (take 8 (drop 8 s)))) y (sym f)).3)
@@ -62,9 +62,9 @@ point_good little s i c = (
   (λ p. ap₂ both (accepts (most_at i) (x_at little s i) c.0 p.0) (accepts (most_at i) (y_at little s i) c.1 p.1)),
 )
 
-sound_good : (j : GridPoint) → is_faulty j ≡ false → j ≡ grid_point_of (corner_in j)
-sound_good (At x y) e = refl
-sound_good Faulty e = absurd (false≢true (sym e))
+sound_good : (j : Option Corner) → is_faulty j ≡ false → j ≡ grid_point_of (corner_in j)
+sound_good (Some c) e = refl
+sound_good None e = absurd (false≢true (sym e))
 
 good_all : (little : Bool) (s : List ℕ) (i n : ℕ) → any is_faulty (points_from little s i n) ≡ false → (k : ℕ) → k < n → point_at little s (i + k) ≡ grid_point_of (corner_in (point_at little s (i + k)))
 unfolding points_from

@@ -1,5 +1,6 @@
 -- The passes over the points of a ring, one point after the other.
 -- Assumes nothing.
+use Rattle.std.specs.Prelude.{None, Option, Some, ℤ}
 use mathlib.Core.Path.{◌≡◌, refl, sym, ap, ap₂, ◌∙◌, subst}
 use mathlib.Core.Bool.{Bool, true, false, not, cond, ◌&&◌, ◌||◌, false≢true}
 use mathlib.Core.List.{List, [], ◌∷◌, ◌++◌, map}
@@ -9,7 +10,7 @@ use native.Mathlib.Numerals.{add-one}
 use borrow.Author.Tests.{eqb-true, eq-eqb, ne_eqb, ltb-true, ltb-false, lt-ltb, le-ltb, leb-true}
 use lib.Dec.{T, eqb, ltb, leb}
 use lib.Ieee.{Float, binary64, of_bits, is_nan}
-use lib.ListN.{length, take, drop, replicate, set, get_or, length-append, length-drop, length-take, length-replicate}
+use lib.ListN.{length, take, drop, replicate, get_or, length-append, length-drop, length-take, length-replicate}
 use Rattle.lists.specs.Lists.{any}
 use Rattle.lists.proofs.GatherLaws.{and_left}
 use Rattle.answer.specs.Limits.{most_steps, most_start, farthest}
@@ -19,14 +20,14 @@ use Rattle.polygon_ring.specs.Bytes.{number_in}
 use Rattle.polygon_ring.specs.Coordinate.{whole_of}
 use Rattle.polygon_ring.specs.Ring.{both, most_at, point_in, point_at, points_from, is_faulty, corner_in, straight, straight_from, apart, length_from, direction_of, steps_along, start_of, later_of, length_of, chain_of_points, is_ring}
 use Rattle.polygon_ring_laws.specs.Reading.{PointFits, PointIs, ring_from, capped}
-use Rattle.polygon_laws.proofs.BytesLaws.{Laid, laid_more, laid_last, Laying, laying_first, laying_more, laying_last, over-lent, part}
+use Rattle.polygon_laws.proofs.BytesLaws.{Laying, laying_first, laying_more, laying_last, over-lent, part}
 use Rattle.polygon_ring_laws.proofs.TakeLaws.{accepted}
 use Rattle.polygon_ring_laws.proofs.FieldLaws.{kept_whole, kept-number}
-use Rattle.polygon_ring.specs.declared.{Point.Point, GridPoint.GridPoint, Whole.Whole, Whole.TheVariants.Of, Whole.TheVariants.Refused}
+use Rattle.polygon_ring.specs.declared.Point.{Point}
 
 -- ---- one point
 
-pub point_is : (most : ℕ) (little : Bool) (s : List ℕ) (j : GridPoint) (p : Point) → PointIs little s p → j ≡ both (whole_of most p.x) (whole_of most p.y) → j ≡ point_in most little s
+pub point_is : (most : ℕ) (little : Bool) (s : List ℕ) (j : Option Corner) (p : Point) → PointIs little s p → j ≡ both (whole_of most p.x) (whole_of most p.y) → j ≡ point_in most little s
 unfolding point_in
 point_is most little s j p q e = e ∙ ap₂ both (ap (whole_of most) q.x ∙ kept_whole most (number_in little (take 8 s))) (ap (whole_of most) q.y ∙ kept_whole most (number_in little (take 8 (drop 8 s))))
 
@@ -53,10 +54,10 @@ pub most_at_le : (i : ℕ) → most_at i ≤ farthest
 most_at_le zero = omega arith
 most_at_le (suc i) = omega arith
 
-within : (most : ℕ) (x y : Float) (v w : Whole) → most ≤ farthest → whole_of most x ≡ v → whole_of most y ≡ w → PointFits (corner_in (both v w))
-within most x y (Of a) (Of b) h e f = record { x = omega (arith, (accepted most x a e).1); y = omega (arith, (accepted most y b f).1) }
-within most x y (Of a) Refused h e f = record { x = omega arith; y = omega arith }
-within most x y Refused w h e f = record { x = omega arith; y = omega arith }
+within : (most : ℕ) (x y : Float) (v w : Option ℤ) → most ≤ farthest → whole_of most x ≡ v → whole_of most y ≡ w → PointFits (corner_in (both v w))
+within most x y (Some a) (Some b) h e f = record { x = omega (arith, (accepted most x a e).1); y = omega (arith, (accepted most y b f).1) }
+within most x y (Some a) None h e f = record { x = omega arith; y = omega arith }
+within most x y None w h e f = record { x = omega arith; y = omega arith }
 
 pub near-at : (little : Bool) (s : List ℕ) (i : ℕ) → PointFits (corner_in (point_at little s i))
 unfolding point_at point_in
@@ -233,20 +234,6 @@ whole_is len k n h z e = go (eqb k ((len - 13) / 16)) refl
       where
         same : len ≡ 13 + 16 * n → k ≡ (len - 13) / 16
         same g = omega arith
-
--- ---- n times the same step
-
-get_d_replicate : (n d i : ℕ) → i < n → get_or (replicate n d) i 0 ≡ d
-get_d_replicate zero d i h = absurd (omega arith)
-get_d_replicate (suc n) d zero h = refl
-get_d_replicate (suc n) d (suc i) h = get_d_replicate n d i (omega arith)
-
-pub fill_more : (l out : List ℕ) (d n i : ℕ) → n ≤ length l → i < n → Laid l (replicate n d) out i → Laid l (replicate n d) (set out i d) (i + 1)
-fill_more l out d n i fit h p =
-    subst (λ (x : ℕ). Laid l (replicate n d) (set out i x) (i + 1)) (get_d_replicate n d i h) (laid_more (subst (λ (k : ℕ). k ≤ length l) (sym (length-replicate n d)) fit) (subst (λ (k : ℕ). i < k) (sym (length-replicate n d)) h) p)
-
-pub fill_last : (l out : List ℕ) (d n i : ℕ) → n ≤ i → Laid l (replicate n d) out i → out ≡ replicate n d ++ drop n l
-fill_last l out d n i h p = laid_last (subst (λ (k : ℕ). k ≤ i) (sym (length-replicate n d)) h) p ∙ ap (λ (k : ℕ). replicate n d ++ drop k l) (length-replicate n d)
 
 -- ---- the pass that writes the chain
 

@@ -1,5 +1,6 @@
 -- What the office and the landlords ask of coordinates: exact out, nothing lost in, and back again.
 -- Assumes nothing.
+use Rattle.std.specs.Prelude.{None, Some}
 use mathlib.Core.Path.{◌≡◌, refl, sym, ap, ap₂, ◌∙◌, subst}
 use mathlib.Core.Bool.{Bool, true, false, ◌&&◌}
 use mathlib.Core.List.{List, ◌++◌, append_assoc}
@@ -27,7 +28,6 @@ use Rattle.polygon_ring_laws.proofs.NumberLaws.{number_of-bytes_of}
 use Rattle.polygon_laws.proofs.BytesLaws.{length-bytes_of}
 use Rattle.polygon_ring_laws.proofs.WholeLaws.{whole_of-coordinate_of, whole_at_multiple}
 use Rattle.grid.specs.declared.Corner.{Corner}
-use Rattle.polygon_ring.specs.declared.Whole.TheVariants.{Of, Refused}
 
 pub nat_abs-signed : (s : Bool) (n : ℕ) → nat_abs (signed s n) ≡ n
 nat_abs-signed true zero = refl
@@ -41,7 +41,7 @@ scaled_signed false n = pos-*ℤ-pos scale n
 scaled_signed true zero = refl
 scaled_signed true (suc n) = pos-*ℤ-negsuc scale n
 
-picked : (t u : Bool) (j k : ℤ) → pick (t && u) (Of j) Refused ≡ Of k → (t ≡ true) × (u ≡ true) × (k ≡ j)
+picked : (t u : Bool) (j k : ℤ) → pick (t && u) (Some j) None ≡ Some k → (t ≡ true) × (u ≡ true) × (k ≡ j)
 picked true true j k e = (refl, refl, cc)
 picked true false j k e = let z : ◌≡◌ {A = ℕ} 0 1 = cc in absurd (clash z)
   where
@@ -52,7 +52,7 @@ picked false u j k e = let z : ◌≡◌ {A = ℕ} 0 1 = cc in absurd (clash z)
     clash : ◌≡◌ {A = ℕ} 0 1 → ⊥
     clash z = omega arith
 
-pub accepted : (most : ℕ) (x : Float) (k : ℤ) → whole_of most x ≡ Of k → IsCoordinate most x k
+pub accepted : (most : ℕ) (x : Float) (k : ℤ) → whole_of most x ≡ Some k → IsCoordinate most x k
 unfolding whole_of whole_at IsWhole
 accepted most nan k e = let z : ◌≡◌ {A = ℕ} 0 1 = cc in absurd (lt_irrefl 0 (subst (λ (n : ℕ). 0 < n) (sym z) (zero-lt-suc 0)))
 accepted most (inf s) k e = let z : ◌≡◌ {A = ℕ} 0 1 = cc in absurd (lt_irrefl 0 (subst (λ (n : ℕ). 0 < n) (sym z) (zero-lt-suc 0)))
@@ -88,7 +88,7 @@ unscaled s n (negsuc j) e = go s n (ap (λ (i : ℕ). neg_ℤ (pos i)) (more j) 
     go true (suc n) e = let z : 599 + 600 * j ≡ n = cc in (omega arith, refl)
 
 -- the value of an accepted float: 600 times the magnitude, with a sign of the coordinate
-pub accepted_value : (most : ℕ) (x : Float) (k : ℤ) → whole_of most x ≡ Of k → (s : Bool) × HasValue x s (scale * nat_abs k) 1 × (signed s (nat_abs k) ≡ k) × (nat_abs k ≤ most)
+pub accepted_value : (most : ℕ) (x : Float) (k : ℤ) → whole_of most x ≡ Some k → (s : Bool) × HasValue x s (scale * nat_abs k) 1 × (signed s (nat_abs k) ≡ k) × (nat_abs k ≤ most)
 unfolding IsWhole
 accepted_value most x k e = go x (accepted most x k e)
   where
@@ -99,7 +99,7 @@ accepted_value most x k e = go x (accepted most x k e)
         let r = unscaled s p.0.0 k p.0.2 in
         (s, (refl, mul-one (m * up e) ∙ p.0.1 ∙ ap (λ (n : ℕ). n * down e) r.0), r.1, p.1)
 
-pub accepts : (most : ℕ) (x : Float) (k : ℤ) → IsCoordinate most x k → whole_of most x ≡ Of k
+pub accepts : (most : ℕ) (x : Float) (k : ℤ) → IsCoordinate most x k → whole_of most x ≡ Some k
 unfolding whole_of IsWhole
 accepts most nan k p = absurd p.0
 accepts most (inf s) k p = absurd p.0
@@ -108,7 +108,7 @@ accepts most (fin s m e) k p =
     let r = unscaled s n k p.0.2 in
     let w : m * up e ≡ nat_abs k * (scale * down e) =
     p.0.1 ∙ ap (λ (z : ℕ). z * down e) r.0 ∙ mul_assoc scale (nat_abs k) (down e) ∙ mul_left_comm scale (nat_abs k) (down e) in
-    ap (λ (a : ℕ). whole_at most s a (down e)) w ∙ whole_at_multiple most s (nat_abs k) (down e) (down_pos e) p.1 ∙ ap Of r.1
+    ap (λ (a : ℕ). whole_at most s a (down e)) w ∙ whole_at_multiple most s (nat_abs k) (down e) (down_pos e) p.1 ∙ ap Some r.1
 
 -- ---- out and in again
 
@@ -120,7 +120,7 @@ float_back : (z : ℤ) → of_bits binary64 (to_bits binary64 (coordinate_of z))
 unfolding coordinate_of
 float_back z = of_bits-to_bits binary64 (of_int binary64 (pos scale *ℤ z)) (of_int-fits binary64 (pos scale *ℤ z))
 
-round_trip : (most : ℕ) (z : ℤ) → nat_abs z ≤ most → most ≤ farthest → whole_of most (of_bits binary64 (number_in true (coordinate_bytes z))) ≡ Of z
+round_trip : (most : ℕ) (z : ℤ) → nat_abs z ≤ most → most ≤ farthest → whole_of most (of_bits binary64 (number_in true (coordinate_bytes z))) ≡ Some z
 round_trip most z h m = ap (λ (b : ℕ). whole_of most (of_bits binary64 b)) (bits_back z) ∙ ap (whole_of most) (float_back z) ∙ whole_of-coordinate_of most z h m
 
 -- ---- points and rings

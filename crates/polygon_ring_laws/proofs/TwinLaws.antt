@@ -1,5 +1,6 @@
 -- A file in the other byte order is read as the file is.
 -- Assumes nothing.
+use Rattle.std.specs.Prelude.{Option}
 use mathlib.Core.Path.{◌≡◌, refl, sym, ap, ap₂, ◌∙◌, subst}
 use mathlib.Core.Bool.{Bool, true, false, not}
 use mathlib.Core.List.{List, ◌∷◌, ◌++◌, map, reverse, reverse-reverse}
@@ -9,12 +10,14 @@ use lib.Dec.{eqb}
 use lib.Ieee.{binary64, of_bits}
 use lib.ListN.{length, take, drop, length-append, length-take, length-drop, length-reverse}
 use lib.Seq.{take_at, drop_at, drop-drop, drop-append-add}
-use Rattle.answer.specs.declared.{Judged.Judged, Refusal.TheVariants.FileLength}
+use Rattle.polygon_ring.specs.Answers.{Given}
+use Rattle.answer.specs.Answers.{Judged}
+use Rattle.grid.specs.declared.Corner.{Corner}
+use Rattle.answer.specs.declared.{Refusal.TheVariants.FileLength}
 use Rattle.answer.specs.Refusal.{when, or_else}
 use Rattle.polygon_ring.specs.Bytes.{number_of, number_in}
 use Rattle.polygon_ring.specs.Coordinate.{whole_of}
 use Rattle.polygon_ring.specs.Ring.{both, most_at, point_in, point_at, points_from, corner_in, chain_of_points, count_in, points_in, given_of, ReadCall}
-use Rattle.polygon_ring.specs.declared.{GridPoint.GridPoint, Given.Given}
 use Rattle.polygon_ring_laws.specs.Reading.{ring_judged, points_judged, ReadIn}
 use Rattle.answer.specs.Listed.{laid_if}
 use Rattle.polygon_ring_laws.specs.Files.{header_in, Headed, eights_reversed, twin_of}
@@ -82,7 +85,7 @@ module _ (little : Bool) (m : ℕ) (s : List ℕ) (w : 8 * m ≤ length s) where
   points_twin : (i n : ℕ) → 2 * (i + n) ≤ m → points_from (not little) (eights_reversed m s) i n ≡ points_from little s i n
   unfolding points_from
   points_twin i zero h = refl
-  points_twin i (suc n) h = ap₂ (λ (p : GridPoint) (ps : List GridPoint). p ∷ ps) (point_twin i (omega arith)) (points_twin (suc i) n (omega arith))
+  points_twin i (suc n) h = ap₂ (λ (p : Option Corner) (ps : List (Option Corner)). p ∷ ps) (point_twin i (omega arith)) (points_twin (suc i) n (omega arith))
 
 -- ---- the header
 
@@ -151,12 +154,12 @@ module _ (little : Bool) (rest : List ℕ) (h : 4 ≤ length rest) where
 
   twin-judged : (room : ℕ) → points_judged (not little) twin room ≡ points_judged little file room
   twin-judged room =
-      ap₂ (λ (b : Bool) (ps : List GridPoint). or_else (when (not b) FileLength) (ring_judged ps room)) (ap₂ (λ (l n : ℕ). eqb l (13 + 16 * n)) twin-length twin-count) twin_points
+      ap₂ (λ (b : Bool) (ps : List (Option Corner)). or_else (when (not b) FileLength) (ring_judged ps room)) (ap₂ (λ (l n : ℕ). eqb l (13 + 16 * n)) twin-length twin-count) twin_points
 
   twin_in : (out : List ℕ) (g : Given) (out' : List ℕ) → ReadIn little file out g out' → ReadIn (not little) twin out g out'
   twin_in out g out' p = record {
-    answer = p.answer ∙ sym (ap₂ (λ (c : Judged) (ps : List GridPoint). given_of c (map corner_in ps)) (twin-judged (length out)) twin_points);
-    buffer = p.buffer ∙ sym (ap₂ (λ (c : Judged) (ps : List GridPoint). laid_if c (chain_of_points (map corner_in ps)) out) (twin-judged (length out)) twin_points);
+    answer = p.answer ∙ sym (ap₂ (λ (c : Judged) (ps : List (Option Corner)). given_of c (map corner_in ps)) (twin-judged (length out)) twin_points);
+    buffer = p.buffer ∙ sym (ap₂ (λ (c : Judged) (ps : List (Option Corner)). laid_if c (chain_of_points (map corner_in ps)) out) (twin-judged (length out)) twin_points);
   }
 
   twin_call : (out : List ℕ) (g : Given) (out' : List ℕ) → ReadCall file out g out' → ReadCall twin out g out'

@@ -1,5 +1,6 @@
 -- The coordinate of a float goes by its value, and that of a coordinate's float is the coordinate.
 -- Assumes nothing.
+use Rattle.std.specs.Prelude.{None, Some}
 use mathlib.Core.Path.{◌≡◌, refl, sym, ap, ◌∙◌, subst}
 use mathlib.Core.Bool.{Bool, ◌&&◌}
 use Prim.Native.Nat.{ℕ, zero, suc, ◌+◌, ◌*◌, ◌/◌, ◌%◌, ◌≤◌, ◌<◌}
@@ -16,7 +17,6 @@ use Rattle.answer.specs.Limits.{farthest}
 use Rattle.polygon.specs.Coordinate.{scale, signed, coordinate_of}
 use Rattle.polygon_ring.specs.Coordinate.{pick, whole_at, whole_of}
 use Rattle.polygon_laws.proofs.ValueLaws.{is_neg, of_int_value, nat_abs_scaled, scaled_le}
-use Rattle.polygon_ring.specs.declared.Whole.TheVariants.{Of, Refused}
 
 -- ---- equal fractions are the same coordinate
 
@@ -47,8 +47,8 @@ whole_at-same most s a c a' c' C C' h =
     let g : a * d ≡ a' * b = mul_left_comm a scale c' ∙ ap (λ (z : ℕ). scale * z) h ∙ mul_left_comm scale a' c in
     let q : a / b ≡ a' / d = div_same a b a' d B D g in
     let z : eqb (a % b) 0 ≡ eqb (a' % d) 0 = zero_test (a % b) (a' % d) b d B D (rest-same a b a' d B D g) in
-    ap (λ (t : Bool). pick (t && leb (a / b) most) (Of (signed s (a / b))) Refused) z
-    ∙ ap (λ (n : ℕ). pick (eqb (a' % d) 0 && leb n most) (Of (signed s n)) Refused) q
+    ap (λ (t : Bool). pick (t && leb (a / b) most) (Some (signed s (a / b))) None) z
+    ∙ ap (λ (n : ℕ). pick (eqb (a' % d) 0 && leb n most) (Some (signed s n)) None) q
 
 pub whole_of_value : (most : ℕ) (x : Float) (s : Bool) (a c : ℕ) → 0 < c → HasValue x s a c → whole_of most x ≡ whole_at most s a c
 unfolding whole_of
@@ -59,13 +59,13 @@ whole_of_value most (fin t m e) s a c C v =
 
 -- ---- a multiple of 600 is its coordinate
 
-pub whole_at_multiple : (most : ℕ) (s : Bool) (k c : ℕ) → 0 < c → k ≤ most → whole_at most s (k * (scale * c)) c ≡ Of (signed s k)
+pub whole_at_multiple : (most : ℕ) (s : Bool) (k c : ℕ) → 0 < c → k ≤ most → whole_at most s (k * (scale * c)) c ≡ Some (signed s k)
 unfolding whole_at
 whole_at_multiple most s k c C h =
     let B : 0 < scale * c = mul-pos (zero-lt-suc 599) C in
-    ap (λ (n : ℕ). pick (eqb n 0 && leb (k * (scale * c) / (scale * c)) most) (Of (signed s (k * (scale * c) / (scale * c)))) Refused) (mul-mod_left k (scale * c))
-    ∙ ap (λ (n : ℕ). pick (leb n most) (Of (signed s n)) Refused) (mul-div_cancel k B)
-    ∙ ap (λ (t : Bool). pick t (Of (signed s k)) Refused) (le-leb k most h)
+    ap (λ (n : ℕ). pick (eqb n 0 && leb (k * (scale * c) / (scale * c)) most) (Some (signed s (k * (scale * c) / (scale * c)))) None) (mul-mod_left k (scale * c))
+    ∙ ap (λ (n : ℕ). pick (leb n most) (Some (signed s n)) None) (mul-div_cancel k B)
+    ∙ ap (λ (t : Bool). pick t (Some (signed s k)) None) (le-leb k most h)
 
 same_sign : (z : ℤ) → signed (is_neg (pos scale *ℤ z)) (nat_abs z) ≡ z
 same_sign (pos n) = ap (λ (y : ℤ). signed (is_neg y) n) (pos-*ℤ-pos scale n)
@@ -75,11 +75,11 @@ same_sign (negsuc n) = ap (λ (y : ℤ). signed (is_neg y) (suc n)) (pos-*ℤ-ne
     more n = omega arith
 
 -- the coordinate of the float of a coordinate
-pub whole_of-coordinate_of : (most : ℕ) (z : ℤ) → nat_abs z ≤ most → most ≤ farthest → whole_of most (coordinate_of z) ≡ Of z
+pub whole_of-coordinate_of : (most : ℕ) (z : ℤ) → nat_abs z ≤ most → most ≤ farthest → whole_of most (coordinate_of z) ≡ Some z
 unfolding coordinate_of
 whole_of-coordinate_of most z h m =
     let y = pos scale *ℤ z in
     whole_of_value most (of_int binary64 y) (is_neg y) (nat_abs y) 1 (zero-lt-suc 0) (of_int_value y (scaled_le z (omega arith)))
     ∙ ap (λ (n : ℕ). whole_at most (is_neg y) n 1) (nat_abs_scaled z ∙ mul_comm scale (nat_abs z))
     ∙ whole_at_multiple most (is_neg y) (nat_abs z) 1 (zero-lt-suc 0) h
-    ∙ ap Of (same_sign z)
+    ∙ ap Some (same_sign z)

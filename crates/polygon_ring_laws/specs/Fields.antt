@@ -1,12 +1,11 @@
 -- What a float's bits show of a coordinate: its exponent and its digits.
 -- Assumes nothing.
 use Rattle.answer.specs.Limits.{farthest}
-use Rattle.std.specs.Prelude.{Float, ◌≡◌, Bool, false, cond, ◌&&◌, ℕ, ◌+◌, ◌-◌, ◌/◌, ◌%◌, ◌^◌, leb, ℤ}
+use Rattle.std.specs.Prelude.{Float, ◌≡◌, Bool, false, cond, ◌&&◌, ℕ, ◌+◌, ◌-◌, ◌/◌, ◌%◌, ◌^◌, leb, Some, ℤ}
 use Rattle.std.specs.Float.{inf, binary64}
 use Rattle.std.specs.Float.Ieee.{of_bits, nan_bits}
 use Rattle.polygon.specs.Coordinate.{scale}
 use Rattle.polygon_ring.specs.Coordinate.{whole_of}
-use Rattle.polygon_ring.specs.declared.Whole.TheVariants.{Of}
 
 -- the float of these bits as it is kept: what is not a number is kept as an infinity, which is not a coordinate either; and its
 -- bits
@@ -40,4 +39,4 @@ panels_shown m = digits_in m / 2 ^ places_in m / scale
 
 -- the float is a coordinate
 abbrev pub IsAccepted : Float → Type 0
-IsAccepted x = (z : ℤ) × (whole_of farthest x ≡ Of z)
+IsAccepted x = (z : ℤ) × (whole_of farthest x ≡ Some z)

@@ -1,16 +1,18 @@
 -- What the passes over a ring find.
 -- Assumes nothing.
 use Rattle.lists.specs.Lists.{any}
-use Rattle.std.specs.Prelude.{map, ◌≡◌, Bool, cond, not, List, [], ◌∷◌, length, take, drop, ℕ, suc, ◌+◌, ◌*◌, ◌≤◌, eqb, ltb, nat_abs}
+use Rattle.std.specs.Prelude.{map, ◌≡◌, Bool, cond, not, List, [], ◌∷◌, length, take, drop, ℕ, suc, ◌+◌, ◌*◌, ◌≤◌, eqb, ltb, nat_abs, Option, Some}
+use Rattle.polygon_ring.specs.Answers.{Given}
+use Rattle.answer.specs.Answers.{Judged}
 use Rattle.answer.specs.Limits.{most_steps, farthest}
 use Rattle.answer.specs.Refusal.{when, or_else, first_of}
 use Rattle.grid.specs.declared.Corner.{Corner}
 use Rattle.polygon_ring.specs.Bytes.{number_in}
 use Rattle.polygon_ring_laws.specs.Fields.{float_kept}
 use Rattle.polygon_ring.specs.Ring.{points_from, is_faulty, corner_in, is_ring, length_of, chain_of_points, count_in, points_in, given_of}
-use Rattle.answer.specs.declared.{Judged.Judged, Refusal.TheVariants.FileLength, Refusal.TheVariants.BadCoordinate, Refusal.TheVariants.BadRing, Refusal.TheVariants.TooLong, Refusal.TheVariants.ChainRoom}
+use Rattle.answer.specs.declared.{Refusal.TheVariants.FileLength, Refusal.TheVariants.BadCoordinate, Refusal.TheVariants.BadRing, Refusal.TheVariants.TooLong, Refusal.TheVariants.ChainRoom}
 use Rattle.answer.specs.Listed.{laid_if}
-use Rattle.polygon_ring.specs.declared.{Point.Point, GridPoint.GridPoint, GridPoint.TheVariants.At, Given.Given}
+use Rattle.polygon_ring.specs.declared.Point.{Point}
 
 -- a corner that a point can be
 pub record PointFits (c : Corner) : Type 0 where
@@ -18,8 +20,8 @@ pub record PointFits (c : Corner) : Type 0 where
   pub y : nat_abs c.1 ≤ farthest
 
 -- the point that is the corner c
-abbrev pub grid_point_of : Corner → GridPoint
-grid_point_of c = At c.0 c.1
+abbrev pub grid_point_of : Corner → Option Corner
+grid_point_of c = Some c
 
 -- the floats of the point at the start of these bytes, as they are kept
 pub record PointIs (little : Bool) (s : List ℕ) (p : Point) : Type 0 where
@@ -35,7 +37,7 @@ abbrev pub capped : ℕ → ℕ
 capped n = cond (ltb most_steps n) (suc most_steps) n
 
 -- 16, 17, 6 and 18
-abbrev pub ring_judged : List GridPoint → ℕ → Judged
+abbrev pub ring_judged : List (Option Corner) → ℕ → Judged
 ring_judged ps size =
     first_of (when (any is_faulty ps) BadCoordinate
     ∷ when (not (is_ring (map corner_in ps))) BadRing

@@ -1,49 +1,31 @@
 // Polygons in, of either byte order.
 #![tactic(auto)]
 
-ghost use Rattle.std.specs.Prelude.{◌≡◌, true, false, not, ◌*◌, ◌^◌, ◌≤◌, T, eqb, length};
+ghost use Rattle.std.specs.Prelude.{◌≡◌, true, false, not, ◌*◌, ◌^◌, ◌≤◌, T, eqb, Some, length};
 ghost use Rattle.std.specs.Float.{binary64};
 ghost use Rattle.std.specs.Float.Ieee.{of_bits, is_nan};
 ghost use Rattle.answer.specs.Limits.{farthest};
-ghost use Rattle.polygon_ring.specs.Bytes.{number_in, starts_with};
-ghost use Rattle.polygon.specs.{Bytes.bytes_of, Coordinate.scale, Coordinate.signed as signed_of};
+ghost use Rattle.polygon_ring.specs.Bytes.{number_in};
+ghost use Rattle.polygon.specs.Coordinate.{scale, signed as signed_of};
 ghost use Rattle.polygon_ring.specs.Coordinate.{whole_of};
 ghost use Rattle.polygon_ring.specs.Ring.{both, order_of, point_in, corner_in, is_faulty};
 ghost use Rattle.polygon_ring_laws.specs.Reading.{PointIs};
 ghost use Rattle.polygon_ring_laws.specs.Fields.{float_kept, bits_kept, digits_in, places_in, in_reach, panels_shown, IsAccepted};
-ghost use Rattle.polygon_ring.specs.declared.Whole.{Whole};
 
 use grid::Corner;
-use polygon_ring::{GridPoint, Order, Point, Whole};
-
-// Whether s begins with p.
-fn starts(s: &[u8], p: &[u8]) -> bool
-    ensures { result ≡ starts_with p.now s.now }
-{
-    let mut i = 0;
-    while i < p.len() {
-        if s.len() <= i {
-            return false;
-        }
-        if s[i] != p[i] {
-            return false;
-        }
-        i += 1;
-    }
-    true
-}
+use polygon_ring::{Order, Point};
 
 // The byte order of the polygon s, by its first nine bytes.
-pub fn order(s: &[u8]) -> Order
+pub fn order(s: &[u8]) -> Option<Order>
     ensures { result ≡ order_of s.now }
 {
-    if starts(s, &polygon::PREFIX) {
-        return Order::Little;
+    if s.starts_with(&polygon::PREFIX) {
+        return Some(Order::Little);
     }
-    if starts(s, &polygon_ring::BIG_PREFIX) {
-        return Order::Big;
+    if s.starts_with(&polygon_ring::BIG_PREFIX) {
+        return Some(Order::Big);
     }
-    Order::Neither
+    None
 }
 
 // The number with the bytes of s, the lowest first.
@@ -52,10 +34,8 @@ fn little(s: &[u8]) -> u64
     ensures { result ≡ number_in true s.now }
 {
     let mut v = 0u64;
-    let mut i = s.len();
-    while 0 < i {
-        v = v * 256 + (s[i - 1] as u64);
-        i -= 1;
+    for i in (0..s.len()).rev() {
+        v = v * 256 + u64::from(s[i]);
     }
     v
 }
@@ -66,10 +46,8 @@ fn big(s: &[u8]) -> u64
     ensures { result ≡ number_in false s.now }
 {
     let mut v = 0u64;
-    let mut i = 0;
-    while i < s.len() {
-        v = v * 256 + (s[i] as u64);
-        i += 1;
+    for &d in s {
+        v = v * 256 + u64::from(d);
     }
     v
 }
@@ -82,28 +60,13 @@ pub fn number(s: &[u8], first_lowest: bool) -> u64
     if first_lowest { little(s) } else { big(s) }
 }
 
-// The number with the eight bytes of v in the other order.
-fn swapped(v: u64) -> u64
-    ensures { result ≡ number_in false (bytes_of 8 v) }
-{
-    let mut r = 0u64;
-    let mut rest = v;
-    let mut i = 0usize;
-    while i < 8 {
-        r = r * 256 + rest % 256;
-        rest = rest / 256;
-        i += 1;
-    }
-    r
-}
-
 // The number with the eight bytes of s, in their order: they are read the lowest first, and swapped if that is the other order.
 fn eight(s: &[u8], first_lowest: bool) -> u64
     requires { length s.now ≡ 8 }
     ensures { result ≡ number_in first_lowest s.now }
 {
     let v = little(s);
-    if first_lowest { v } else { swapped(v) }
+    if first_lowest { v } else { v.swap_bytes() }
 }
 
 // These bits, or those of an infinity if they are not those of a number.
@@ -175,41 +138,37 @@ fn signed(n: u64, below: bool) -> i32
 }
 
 // The coordinate that x is: its bits are those of 600 times a whole number.
-fn whole_of(x: f64, most: u64) -> Whole
+fn whole_of(x: f64, most: u64) -> Option<i32>
     requires { (most ≤ farthest) × T (not (is_nan x)) }
     ensures { result ≡ whole_of most x }
 {
     let bits = f64::to_bits(x);
     let size = bits % SIGN;
     if size == 0 {
-        return Whole::Of(0);
+        return Some(0);
     }
     if !in_reach(size) {
-        return Whole::Refused;
+        return None;
     }
     let n = panels(size);
     if most < n {
-        return Whole::Refused;
+        return None;
     }
     if is_all(n, size) {
-        Whole::Of(signed(n, SIGN <= bits))
+        Some(signed(n, SIGN <= bits))
     } else {
-        Whole::Refused
+        None
     }
 }
 
 // What the point p is as a corner.
-pub fn judge(p: Point, most: u64) -> GridPoint
+pub fn judge(p: Point, most: u64) -> Option<Corner>
     requires { (most ≤ farthest) × T (not (is_nan p.x)) × T (not (is_nan p.y)) }
     ensures { result ≡ both (whole_of most p.x) (whole_of most p.y) }
 {
-    match whole_of(p.x, most) {
-        Whole::Of(x) => match whole_of(p.y, most) {
-            Whole::Of(y) => GridPoint::At(x, y),
-            Whole::Refused => GridPoint::Faulty,
-        },
-        Whole::Refused => GridPoint::Faulty,
-    }
+    let x = whole_of(p.x, most)?;
+    let y = whole_of(p.y, most)?;
+    Some(Corner(x, y))
 }
 
 // The point at the start of s.
@@ -225,7 +184,7 @@ pub fn point(s: &[u8], little: bool) -> Point
 // The coordinate that the eight bytes of s are, if they were accepted before.
 fn known(s: &[u8], little: bool) -> i32
     requires { (length s.now ≡ 8) × IsAccepted (of_bits binary64 (number_in «little» s.now)) }
-    ensures { Whole.Of result ≡ whole_of farthest (of_bits binary64 (number_in «little» s.now)) }
+    ensures { Some result ≡ whole_of farthest (of_bits binary64 (number_in «little» s.now)) }
 {
     let bits = eight(s, little);
     let unsigned = bits % SIGN;

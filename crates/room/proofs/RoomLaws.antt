@@ -1,5 +1,6 @@
 -- Refusal 12 is given exactly if the walk is not a room, and what an accepted start and chain are.
 -- Assumes nothing.
+use Rattle.std.specs.Prelude.{Err, Ok}
 use mathlib.Core.Bool.{true, not}
 use mathlib.Core.List.{List, [], ◌∷◌}
 use mathlib.Core.Logic.{◌↔◌}
@@ -9,9 +10,9 @@ use native.Mathlib.Omega.{arith}
 use borrow.Author.Tests.{eqb-true}
 use lib.Dec.{eqb, ltb}
 use lib.ListN.{length}
+use Rattle.answer.specs.Answers.{Judged}
 use Rattle.lists.proofs.BoolLaws.{not-false}
-use Rattle.answer.specs.declared.{Judged.Judged, Refusal.Refusal}
-use Rattle.answer.specs.declared.Judged.TheVariants.{Good, Refused}
+use Rattle.answer.specs.declared.{Refusal.Refusal}
 use Rattle.answer.specs.declared.Verdict.{Verdict}
 use Rattle.answer.specs.declared.Verdict.TheVariants.{Nowhere, Open, Room, OpenMeeting, ClosedMeeting, ThereAndBack}
 use Rattle.answer.specs.declared.Refusal.TheVariants.{TooMany, StartRange, NotRoom}
@@ -44,10 +45,10 @@ is_room_exactly c ds = (
 -- ---- the refusals in their order
 
 module _ (c : Corner) (ds : List ℕ) where
-  pub judged_refused : (r : Refusal) → as_walk_judged c ds ≡ Refused r → as_room_judged c ds ≡ Refused r
+  pub judged_refused : (r : Refusal) → as_walk_judged c ds ≡ Err r → as_room_judged c ds ≡ Err r
   judged_refused r e = first_refused (as_walk_judged c ds) (when (not (is_room c ds)) NotRoom) r e
 
-  pub judged-room : as_walk_judged c ds ≡ Good → as_room_judged c ds ≡ when (not (is_room c ds)) NotRoom
+  pub judged-room : as_walk_judged c ds ≡ Ok tt → as_room_judged c ds ≡ when (not (is_room c ds)) NotRoom
   judged-room e = first-last (as_walk_judged c ds) (when (not (is_room c ds)) NotRoom) e
 
 -- all four in one list
@@ -55,18 +56,18 @@ pub judged_four : (c : Corner) (ds : List ℕ) → as_room_judged c ds ≡ first
 judged_four c ds = by (when (ltb most_input (length ds)) TooMany) (when (not (start_fits c)) StartRange) (chain_judged 0 ds) (when (not (is_room c ds)) NotRoom)
   where
     by : (a b d e : Judged) → first_of (first_of (a ∷ b ∷ d ∷ []) ∷ e ∷ []) ≡ first_of (a ∷ b ∷ d ∷ e ∷ [])
-    by (Refused q) b d e = refl
-    by Good (Refused q) d e = refl
-    by Good Good (Refused q) e = refl
-    by Good Good Good e = refl
+    by (Err q) b d e = refl
+    by (Ok _) (Err q) d e = refl
+    by (Ok _) (Ok _) (Err q) e = refl
+    by (Ok _) (Ok _) (Ok _) e = refl
 
 -- what a start and a chain are that nothing is wrong with
 pub record AsRoom (c : Corner) (ds : List ℕ) : Type 0 where
   pub near : Near c
-  pub steps : chain_judged 0 ds ≡ Good
+  pub steps : chain_judged 0 ds ≡ Ok tt
   pub room : IsRoom c ds
 
-pub good_room : (c : Corner) (ds : List ℕ) → as_room_judged c ds ≡ Good → AsRoom c ds
+pub good_room : (c : Corner) (ds : List ℕ) → as_room_judged c ds ≡ Ok tt → AsRoom c ds
 good_room c ds e =
     let h = first_good (as_walk_judged c ds) (when (not (is_room c ds)) NotRoom) e in
     let w = good_walk c ds h.0 in

@@ -1,7 +1,8 @@
 -- Whether a start and a chain are a room, and the refusals of every call that asks for one (RULES 12.1). Assumes nothing.
 use Rattle.std.specs.Prelude.{Bool, not, List, [], ◌∷◌, ℕ, eqb}
+use Rattle.answer.specs.Answers.{Judged}
 use Rattle.grid.specs.declared.Corner.{Corner}
-use Rattle.answer.specs.declared.{Judged.Judged, Refusal.TheVariants.NotRoom, Verdict.TheVariants.Room}
+use Rattle.answer.specs.declared.{Refusal.TheVariants.NotRoom, Verdict.TheVariants.Room}
 use Rattle.answer.specs.{Refusal.when, Refusal.first_of, Refusal.verdict_number}
 use Rattle.steps.specs.Chain.{as_walk_judged}
 use Rattle.trace.specs.Verdict.{verdict_of}

@@ -6,26 +6,24 @@ ghost use Rattle.answer.specs.declared.Refusal.TheVariants.{NotRoom};
 ghost use Rattle.answer.specs.Refusal.{when};
 ghost use Rattle.room.specs.Room.{as_room_judged};
 
-use answer::{Judged, Refusal};
+use answer::Refusal;
 use grid::Corner;
 use room_map::is_room;
 
 // Refusal 12 unless it is a room.
-fn told(room: bool) -> Judged
+fn told(room: bool) -> Result<(), Refusal>
     ensures { result ≡ when (not room) NotRoom }
 {
     if room {
-        return Judged::Good;
+        return Ok(());
     }
-    Judged::Refused(Refusal::NotRoom)
+    Err(Refusal::NotRoom)
 }
 
 // What is wrong with a start and a chain as a room: the refusals of a walk, then 12.
-pub fn judge(start: Corner, chain: &[u8]) -> Judged
+pub fn judge(start: Corner, chain: &[u8]) -> Result<(), Refusal>
     ensures { result ≡ as_room_judged start chain.now }
 {
-    match chain_judge::judge(start, chain) {
-        Judged::Good => told(is_room(chain)),
-        Judged::Refused(r) => Judged::Refused(r),
-    }
+    chain_judge::judge(start, chain)?;
+    told(is_room(chain))
 }

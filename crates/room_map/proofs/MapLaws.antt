@@ -134,7 +134,7 @@ module _ (chain : List ℕ) (from w room : ℕ) (f : BoxFits chain from w room) 
           go (no l) = get_or-eq_default (replicate room 0) 0 {n = j} (omega (arith, length-replicate {A = ℕ} room 0))
 
 -- the box as the pass found it
-module _ (chain : List ℕ) (s : Boxable chain) (width height from : ℕ) (closed : Bool) (b : Boxed chain width height from closed) where
+module _ {chain : List ℕ} (s : Boxable chain) {width height from : ℕ} {closed : Bool} (b : Boxed chain width height from closed) where
   -- the number of its corners
   size_is : width * height ≡ box_width chain * box_height chain
   size_is = ap₂ ◌*◌ b.wide b.high

@@ -2,6 +2,7 @@
 // for the store, threads through the columns show it.
 #![tactic(auto)]
 
+ghost use Rattle.std.specs.Prelude.{◌≤◌};
 ghost use Rattle.box_laws.specs.Box.{Boxable};
 ghost use Rattle.box_walk.specs.Boxed.{Boxed};
 ghost use Rattle.room_thread_laws.specs.Threads.{Told};
@@ -31,75 +32,23 @@ fn lone(chain: &[u8], from: usize, by: &[usize], map: &mut [u8]) -> bool
     ensures { Lone chain.now result }
 {
     let mut at = from;
-    let mut i = 0;
-    while i < chain.len() {
+    for &d in chain {
         if map[at] != 0 {
             return false;
         }
         map[at] = 1;
-        at = std::num::wrapping_add_usize(at, by[chain[i] as usize]);
-        i += 1;
+        at = at.wrapping_add(by[usize::from(d)]);
     }
     true
 }
 
-// The same with a map of 256 corners.
-fn lone_small(chain: &[u8], from: usize, w: usize) -> bool
-    requires { BoxFits chain.now from w 256 }
+// The same with a map of SIZE corners.
+fn lone_sized<const SIZE: usize>(chain: &[u8], from: usize, w: usize) -> bool
+    requires { BoxFits chain.now from w SIZE × (SIZE ≤ 131072) }
     ensures { Lone chain.now result }
 {
-    let by = [
-        1usize,
-        w,
-        18446744073709551615,
-        std::num::wrapping_sub_usize(0, w),
-    ];
-    let mut map = [0u8; Map::SMALL];
-    lone(chain, from, &by, &mut map)
-}
-
-// The same with a map of 2,048 corners.
-fn lone_narrow(chain: &[u8], from: usize, w: usize) -> bool
-    requires { BoxFits chain.now from w 2048 }
-    ensures { Lone chain.now result }
-{
-    let by = [
-        1usize,
-        w,
-        18446744073709551615,
-        std::num::wrapping_sub_usize(0, w),
-    ];
-    let mut map = [0u8; Map::NARROW];
-    lone(chain, from, &by, &mut map)
-}
-
-// The same with a map of 16,384 corners.
-fn lone_wider(chain: &[u8], from: usize, w: usize) -> bool
-    requires { BoxFits chain.now from w 16384 }
-    ensures { Lone chain.now result }
-{
-    let by = [
-        1usize,
-        w,
-        18446744073709551615,
-        std::num::wrapping_sub_usize(0, w),
-    ];
-    let mut map = [0u8; Map::WIDER];
-    lone(chain, from, &by, &mut map)
-}
-
-// The same with a map of 131,072 corners.
-fn lone_widest(chain: &[u8], from: usize, w: usize) -> bool
-    requires { BoxFits chain.now from w 131072 }
-    ensures { Lone chain.now result }
-{
-    let by = [
-        1usize,
-        w,
-        18446744073709551615,
-        std::num::wrapping_sub_usize(0, w),
-    ];
-    let mut map = [0u8; Map::WIDEST];
+    let by = [1, w, usize::MAX, w.wrapping_neg()];
+    let mut map = [0u8; SIZE];
     lone(chain, from, &by, &mut map)
 }
 
@@ -109,30 +58,23 @@ pub fn is_room_in(chain: &[u8], b: WalkBox) -> bool
     requires { Boxable chain.now × Boxed chain.now b.width b.height b.from b.closed }
     ensures { Told chain.now result }
 {
-    if chain.len() < 4 {
-        return false;
-    }
-    if !b.closed {
+    if chain.len() < 4 || !b.closed {
         return false;
     }
     let w = b.width;
     let from = b.from;
     let size = w * b.height;
     if size <= Map::SMALL {
-        return lone_small(chain, from, w);
+        return lone_sized::<{ Map::SMALL }>(chain, from, w);
     }
     if size <= Map::NARROW {
-        return lone_narrow(chain, from, w);
+        return lone_sized::<{ Map::NARROW }>(chain, from, w);
     }
-    if chain.len() > Columns::NARROW {
-        if size <= Map::WIDER {
-            return lone_wider(chain, from, w);
-        }
-        if chain.len() > Columns::WIDER {
-            if size <= Map::WIDEST {
-                return lone_widest(chain, from, w);
-            }
-        }
+    if chain.len() > Columns::NARROW && size <= Map::WIDER {
+        return lone_sized::<{ Map::WIDER }>(chain, from, w);
+    }
+    if chain.len() > Columns::WIDER && size <= Map::WIDEST {
+        return lone_sized::<{ Map::WIDEST }>(chain, from, w);
     }
     room_threads::is_room(chain)
 }

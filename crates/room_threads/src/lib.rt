@@ -2,27 +2,33 @@
 #![tactic(auto)]
 
 ghost use Rattle.std.specs.Prelude.{◌≡◌, true, ℕ, ◌+◌, ◌*◌, ◌≤◌, ◌<◌, length, get_or};
-ghost use Rattle.column_laws.specs.Columns.{middle, narrow_size, wider_size};
+ghost use Rattle.column_laws.specs.Columns.{middle};
 ghost use Rattle.room_thread_laws.specs.Threads.{Leads, ThreadFollowed, Parted, Stays, Laid, ThreadStore, Scattered, Closes, Told};
 
 use columns::{Columns, across, upward};
-use order::wide;
+
+// The sizes of the working stores: two more than the steps of a walk that fits.
+const NARROW: usize = Columns::NARROW + 2;
+
+const WIDER: usize = Columns::WIDER + 2;
+
+const WIDEST: usize = Columns::MIDDLE + 2;
 
 // Follows the thread that ends at place `last`, counted from 1, and answers whether no height on it comes twice. Each gets the
-// stamp.
+// stamp. A thread ends at 0, and not at a None: so a link takes 16 bits.
 fn follow(tag: u16, last: u16, next: &[u16], hs: &[u16], stamps: &mut [u16]) -> bool
     requires { Leads next.now hs.now (length stamps.old) × (last ≤ length next.now) }
     ensures { ThreadFollowed next.now hs.now stamps.old tag last result
         stamps.new }
 {
-    let mut p = wide(last);
+    let mut p = usize::from(last);
     while p > 0 {
-        let h = wide(hs[p - 1]);
+        let h = usize::from(hs[p - 1]);
         if stamps[h] == tag {
             return false;
         }
         stamps[h] = tag;
-        p = wide(next[p - 1]);
+        p = usize::from(next[p - 1]);
     }
     true
 }
@@ -33,12 +39,10 @@ fn apart(head: &[u16], next: &[u16], hs: &[u16], stamps: &mut [u16]) -> bool
         × (length head.now < 65536) × ((h : ℕ) → get_or stamps.old h 0 ≡ 0) }
     ensures { Parted head.now next.now hs.now result }
 {
-    let mut c = 0;
-    while c < head.len() {
-        if !follow((c + 1) as u16, head[c], next, hs, stamps) {
+    for (c, &last) in head.iter().enumerate() {
+        if !follow((c + 1) as u16, last, next, hs, stamps) {
             return false;
         }
-        c += 1;
     }
     true
 }
@@ -54,17 +58,14 @@ fn lay(chain: &[u8], m: u16, head: &mut [u16], next: &mut [u16], hs: &mut [u16])
 {
     let by = Columns::EAST;
     let up = Columns::NORTH;
-    let mut x = m as u32;
+    let mut x = u32::from(m);
     let mut y = m;
-    let mut i = 0;
-    while i < chain.len() {
-        let d = chain[i];
+    for (i, &d) in chain.iter().enumerate() {
         hs[i] = y;
         next[i] = head[x as usize];
         head[x as usize] = (i + 1) as u16;
         x = across(x, &by, d);
         y = upward(y, &up, d);
-        i += 1;
     }
 }
 
@@ -83,7 +84,7 @@ fn scattered(
     ensures { Scattered chain.now m result }
 {
     lay(chain, m, head, next, hs);
-    apart(&head[..2 * wide(m)], next, hs, stamps)
+    apart(&head[..2 * usize::from(m)], next, hs, stamps)
 }
 
 // Where the walk starts in the working store: a closed walk stays within half its steps of it.
@@ -94,44 +95,16 @@ pub fn start(n: usize) -> u16
     (n / 2 + 1) as u16
 }
 
-// Whether a closed walk of at most 256 steps is a room.
-fn told_narrow(chain: &[u8]) -> bool
-    requires { (4 ≤ length chain.now) × (length chain.now ≤ narrow_size) × Closes chain.now true
+// Whether a closed walk of at most SIZE - 2 steps is a room.
+fn told_sized<const SIZE: usize>(chain: &[u8]) -> bool
+    requires { (4 ≤ length chain.now) × (length chain.now + 2 ≤ SIZE) × (SIZE ≤ middle + 2) × Closes chain.now true
         × ((j : ℕ) → get_or chain.now j 0 < 4) }
     ensures { Told chain.now result }
 {
-    let mut head = [0u16; Columns::NARROW + 2];
-    let mut next = [0u16; Columns::NARROW];
-    let mut hs = [0u16; Columns::NARROW];
-    let mut stamps = [0u16; Columns::NARROW + 2];
-    let m = start(chain.len());
-    scattered(chain, m, &mut head, &mut next, &mut hs, &mut stamps)
-}
-
-// Whether a closed walk of at most 2,048 steps is a room.
-fn told_wider(chain: &[u8]) -> bool
-    requires { (4 ≤ length chain.now) × (length chain.now ≤ wider_size) × Closes chain.now true
-        × ((j : ℕ) → get_or chain.now j 0 < 4) }
-    ensures { Told chain.now result }
-{
-    let mut head = [0u16; Columns::WIDER + 2];
-    let mut next = [0u16; Columns::WIDER];
-    let mut hs = [0u16; Columns::WIDER];
-    let mut stamps = [0u16; Columns::WIDER + 2];
-    let m = start(chain.len());
-    scattered(chain, m, &mut head, &mut next, &mut hs, &mut stamps)
-}
-
-// Whether a closed walk of at most 16,384 steps is a room.
-fn told_widest(chain: &[u8]) -> bool
-    requires { (4 ≤ length chain.now) × (length chain.now ≤ middle) × Closes chain.now true
-        × ((j : ℕ) → get_or chain.now j 0 < 4) }
-    ensures { Told chain.now result }
-{
-    let mut head = [0u16; Columns::MIDDLE + 2];
-    let mut next = [0u16; Columns::MIDDLE];
-    let mut hs = [0u16; Columns::MIDDLE];
-    let mut stamps = [0u16; Columns::MIDDLE + 2];
+    let mut head = [0u16; SIZE];
+    let mut next = [0u16; SIZE];
+    let mut hs = [0u16; SIZE];
+    let mut stamps = [0u16; SIZE];
     let m = start(chain.len());
     scattered(chain, m, &mut head, &mut next, &mut hs, &mut stamps)
 }
@@ -144,10 +117,10 @@ pub fn is_room(chain: &[u8]) -> bool
     ensures { Told chain.now result }
 {
     if chain.len() <= Columns::NARROW {
-        return told_narrow(chain);
+        return told_sized::<NARROW>(chain);
     }
     if chain.len() <= Columns::WIDER {
-        return told_wider(chain);
+        return told_sized::<WIDER>(chain);
     }
-    told_widest(chain)
+    told_sized::<WIDEST>(chain)
 }

@@ -1,5 +1,6 @@
 -- Orders of spans, decided; the refusals and the buffer of the call, computed.
 -- Assumes nothing.
+use Rattle.std.specs.Prelude.{Err, Ok}
 use mathlib.Core.List.{[], ◌∷◌}
 use mathlib.Core.Logic.{inl, inr, ⊎_elim}
 use mathlib.Core.Path.{◌≡◌, refl}
@@ -7,7 +8,6 @@ use Prim.Native.Nat.{ℕ}
 use native.Mathlib.Omega.{arith}
 use lib.IntN.{ℤ, pos, negsuc}
 use lib.Signed.{le_z_yes, lt_z_yes}
-use Rattle.answer.specs.declared.Judged.TheVariants.{Good, Refused}
 use Rattle.answer.specs.declared.Refusal.TheVariants.{NotRoom, SpanRoom}
 use Rattle.answer.specs.Listed.{laid_if}
 use Rattle.grid.specs.Grid.{corner, origin, panel_at}
@@ -43,16 +43,16 @@ lengths : lengths_of (span (pos 0) (pos 0) (pos 1) ∷ span (pos 0) (pos 3) (pos
 lengths = refl
 
 -- what is not a room is refused before a buffer that is too short
-not_a-room-first : rows_judged origin (0 ∷ 2 ∷ []) 0 1 ≡ Refused NotRoom
+not_a-room-first : rows_judged origin (0 ∷ 2 ∷ []) 0 1 ≡ Err NotRoom
 not_a-room-first = refl
 
 -- three numbers for each span are enough, two are not
-three-numbers : rows_judged origin (0 ∷ 1 ∷ 2 ∷ 3 ∷ []) 3 1 ≡ Good
+three-numbers : rows_judged origin (0 ∷ 1 ∷ 2 ∷ 3 ∷ []) 3 1 ≡ Ok tt
 three-numbers = refl
 
-two-numbers : rows_judged origin (0 ∷ 1 ∷ 2 ∷ 3 ∷ []) 2 1 ≡ Refused SpanRoom
+two-numbers : rows_judged origin (0 ∷ 1 ∷ 2 ∷ 3 ∷ []) 2 1 ≡ Err SpanRoom
 two-numbers = refl
 
 -- row, first panel, last panel, and a number that stays
-written : laid_if Good (span_numbers (span (negsuc 1) (pos 3) (pos 5) ∷ [])) (pos 7 ∷ pos 7 ∷ pos 7 ∷ pos 7 ∷ []) ≡ negsuc 1 ∷ pos 3 ∷ pos 5 ∷ pos 7 ∷ []
+written : laid_if (Ok tt) (span_numbers (span (negsuc 1) (pos 3) (pos 5) ∷ [])) (pos 7 ∷ pos 7 ∷ pos 7 ∷ pos 7 ∷ []) ≡ negsuc 1 ∷ pos 3 ∷ pos 5 ∷ pos 7 ∷ []
 written = refl

@@ -1,7 +1,8 @@
 -- What the rows call answers, and what it leaves in the buffer (RULES 14.4, 14.5). Assumes nothing.
-use Rattle.std.specs.Prelude.{◌≡◌, List, [], ◌∷◌, length, ℕ, ◌*◌, ltb, ℤ}
+use Rattle.std.specs.Prelude.{◌≡◌, List, [], ◌∷◌, length, ℕ, ◌*◌, ltb, Ok, ℤ}
+use Rattle.answer.specs.Answers.{Counted, Judged}
 use Rattle.grid.specs.declared.Corner.{Corner}
-use Rattle.answer.specs.declared.{Judged.Judged, Judged.TheVariants.Good, Refusal.TheVariants.SpanRoom, Counted.Counted}
+use Rattle.answer.specs.declared.{Refusal.TheVariants.SpanRoom}
 use Rattle.answer.specs.{Refusal.when, Refusal.first_of, Listed.counted_of, Listed.laid_if}
 use Rattle.room.specs.Room.{as_room_judged}
 use Rattle.panels.specs.Inside.{Inside}
@@ -18,6 +19,6 @@ rows_judged c ds size spans = first_of (as_room_judged c ds ∷ span_room_judged
 -- the promise of the call: `list` has the panels inside the room by rows. What is not a room is refused, whatever its list
 pub record RowsCall (c : Corner) (ds : List ℕ) (before : List ℤ) (r : Counted) (after : List ℤ) : Type 0 where
   pub list : List Span
-  pub rows : as_room_judged c ds ≡ Good → RowsIs (Inside c ds) list
+  pub rows : as_room_judged c ds ≡ Ok tt → RowsIs (Inside c ds) list
   pub answer : r ≡ counted_of (rows_judged c ds (length before) (length list)) (length list)
   pub buffer : after ≡ laid_if (rows_judged c ds (length before) (length list)) (span_numbers list) before

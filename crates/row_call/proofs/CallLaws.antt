@@ -1,5 +1,6 @@
 -- From the working store to the list in the buffer, and from a room to the answer.
 -- Assumes nothing.
+use Rattle.std.specs.Prelude.{Err, Ok}
 use mathlib.Core.Path.{◌≡◌, sym, ap, ◌∙◌, subst}
 use mathlib.Core.Bool.{Bool, true, false}
 use mathlib.Core.List.{List}
@@ -11,9 +12,10 @@ use lib.Dec.{eqb, ltb}
 use lib.IntN.{ℤ}
 use lib.ListN.{length, get_or, replicate, get_or-replicate, length-replicate, get_or-eq_default}
 use lib.Seq.{sets}
+use Rattle.answer.specs.Answers.{Judged}
 use Rattle.lists.specs.Lists.{count}
 use Rattle.grid.specs.declared.Corner.{Corner}
-use Rattle.answer.specs.declared.{Counted.Counted, Judged.Judged, Judged.TheVariants.Good, Refusal.TheVariants.SpanRoom}
+use Rattle.answer.specs.declared.{Refusal.TheVariants.SpanRoom}
 use Rattle.answer.specs.Refusal.{when}
 use Rattle.answer.specs.Limits.{most_steps}
 use Rattle.answer.specs.Listed.{counted_of, laid_if}
@@ -76,13 +78,13 @@ module _ {c : Corner} {ds : List ℕ} {m : ℕ} {head row next at : List ℕ} (w
           ∙ ap (λ (l : List Span). sets before 0 (span_numbers l)) (order_rows c ds m w.room w.digits s.wide narrow)
 
 -- a store that is new
-pub fresh : (steps m room places : ℕ) → steps < 2 * m → 2 * m ≤ room → room ≤ most_steps + 2 → steps ≤ places → RowStore steps m (replicate room 0) (replicate room 0) (replicate places 0) (replicate places 0)
-fresh steps m room places a b d g = record {
+pub fresh : (steps m room : ℕ) → steps < 2 * m → 2 * m ≤ room → room ≤ most_steps + 2 → steps ≤ room → RowStore steps m (replicate room 0) (replicate room 0) (replicate room 0) (replicate room 0)
+fresh steps m room a b d g = record {
   wide = a;
   columns = omega (arith, length-replicate {A = ℕ} room 0);
   rows = omega (arith, length-replicate {A = ℕ} room 0);
   narrow = omega (arith, length-replicate {A = ℕ} room 0);
-  links = omega (arith, length-replicate {A = ℕ} places 0);
+  links = omega (arith, length-replicate {A = ℕ} room 0);
   values = omega arith;
   empty = (zero_all room, zero_all room);
 }
@@ -95,14 +97,14 @@ fresh steps m room places a b d g = record {
         go (no l) = get_or-eq_default (replicate n 0) 0 {n = j} (omega (arith, length-replicate {A = ℕ} n 0))
 
 -- what is judged to be a room can be listed
-pub good_walled : (c : Corner) (ds : List ℕ) → as_room_judged c ds ≡ Good → Walled c ds
+pub good_walled : (c : Corner) (ds : List ℕ) → as_room_judged c ds ≡ Ok tt → Walled c ds
 good_walled c ds g =
     let r = good_room c ds g in
     let k = good_steps c ds g in
     record { room = r.room; few = k.1; digits = k.0; near = r.near }
 
 -- the answer, from how many steps are vertical
-module _ (c : Corner) (ds : List ℕ) (g : as_room_judged c ds ≡ Good) (v : ℕ) (e : v ≡ count (λ d. eqb (d % 2) 1) ds) where
+module _ (c : Corner) (ds : List ℕ) (g : as_room_judged c ds ≡ Ok tt) (v : ℕ) (e : v ≡ count (λ d. eqb (d % 2) 1) ds) where
   w : Walled c ds
   w = good_walled c ds g
 
@@ -112,7 +114,7 @@ module _ (c : Corner) (ds : List ℕ) (g : as_room_judged c ds ≡ Good) (v : �
   judged-by : (room : ℕ) (b : Bool) → ltb room (3 * length (rows_of c ds)) ≡ b → rows_judged c ds room (length (rows_of c ds)) ≡ when b SpanRoom
   judged-by room b t = rows-room c ds room (length (rows_of c ds)) g ∙ ap (λ (b : Bool). when b SpanRoom) t
 
-  pub call_short : (before : List ℤ) → length before < 3 * (v / 2) → RowsCall c ds before (Counted.Refused SpanRoom) before
+  pub call_short : (before : List ℤ) → length before < 3 * (v / 2) → RowsCall c ds before (Err SpanRoom) before
   call_short before h =
       let t = judged-by (length before) true (lt-ltb (length before) (3 * length (rows_of c ds)) (omega (arith, spans_half))) in
       record {
@@ -122,12 +124,12 @@ module _ (c : Corner) (ds : List ℕ) (g : as_room_judged c ds ≡ Good) (v : �
         buffer = sym (ap (λ (j : Judged). laid_if j (span_numbers (rows_of c ds)) before) t);
       }
 
-  pub call_listed : (before after : List ℤ) → 3 * (v / 2) ≤ length before → after ≡ sets before 0 (span_numbers (rows_of c ds)) → RowsCall c ds before (Counted.Many (v / 2)) after
+  pub call_listed : (before after : List ℤ) → 3 * (v / 2) ≤ length before → after ≡ sets before 0 (span_numbers (rows_of c ds)) → RowsCall c ds before (Ok (v / 2)) after
   call_listed before after h u =
       let t = judged-by (length before) false (le-ltb (length before) (3 * length (rows_of c ds)) (omega (arith, spans_half))) in
       record {
         list = rows_of c ds;
         rows = λ _. rows_of-rows c ds w.room.closed;
-        answer = ap Counted.Many (sym spans_half) ∙ sym (ap (λ (j : Judged). counted_of j (length (rows_of c ds))) t);
+        answer = ap Ok (sym spans_half) ∙ sym (ap (λ (j : Judged). counted_of j (length (rows_of c ds))) t);
         buffer = u ∙ written before (rows_of c ds) (omega (arith, spans_half)) ∙ sym (ap (λ (j : Judged). laid_if j (span_numbers (rows_of c ds)) before) t);
       }

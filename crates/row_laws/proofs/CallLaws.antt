@@ -1,5 +1,6 @@
 -- The promise of the rows call: what is judged to be a room has few spans, refused calls, and that there is one answer and one buffer.
 -- Assumes nothing.
+use Rattle.std.specs.Prelude.{Err, Ok}
 use mathlib.Core.Bool.{Bool, true, false}
 use mathlib.Core.List.{List, ◌∷◌, []}
 use mathlib.Core.Path.{◌≡◌, refl, ap, sym, ◌∙◌}
@@ -8,9 +9,10 @@ use native.Mathlib.Omega.{arith}
 use lib.Dec.{eqb, ltb}
 use lib.IntN.{ℤ}
 use lib.ListN.{length}
+use Rattle.answer.specs.Answers.{Counted, Judged}
 use Rattle.lists.specs.Lists.{tally, count, Below}
 use Rattle.lists.proofs.BelowLaws.{below_all}
-use Rattle.answer.specs.declared.{Counted.Counted, Judged.Judged, Judged.TheVariants.Good, Judged.TheVariants.Refused, Refusal.Refusal, Refusal.TheVariants.SpanRoom}
+use Rattle.answer.specs.declared.{Refusal.Refusal, Refusal.TheVariants.SpanRoom}
 use Rattle.answer.specs.Limits.{most_steps}
 use Rattle.answer.specs.Refusal.{when, or_else}
 use Rattle.answer.proofs.RefusalLaws.{or_else-right}
@@ -32,7 +34,7 @@ count_le t (x ∷ l) = by (t x) (count_le t l)
     by false h = omega arith
 
 -- what is judged to be a room has few steps, and half as many spans at most
-module _ (c : Corner) (ds : List ℕ) (g : as_room_judged c ds ≡ Good) where
+module _ (c : Corner) (ds : List ℕ) (g : as_room_judged c ds ≡ Ok tt) where
   pub good_steps : Below 4 ds × (length ds ≤ most_steps)
   good_steps = let r = good_room c ds g in (below_all 4 ds (good_digits 0 ds r.steps), omega (arith, good_short 0 ds (omega arith) r.steps))
 
@@ -43,19 +45,19 @@ module _ (c : Corner) (ds : List ℕ) (g : as_room_judged c ds ≡ Good) where
 
 module _ (c : Corner) (ds : List ℕ) (room n : ℕ) where
   -- what is not a room is refused whatever the buffer
-  pub rows_refused : (q : Refusal) → as_room_judged c ds ≡ Refused q → rows_judged c ds room n ≡ Refused q
-  rows_refused q e = ap (λ (j : Judged). or_else j (or_else (when (ltb room (3 * n)) SpanRoom) Good)) e
+  pub rows_refused : (q : Refusal) → as_room_judged c ds ≡ Err q → rows_judged c ds room n ≡ Err q
+  rows_refused q e = ap (λ (j : Judged). or_else j (or_else (when (ltb room (3 * n)) SpanRoom) (Ok tt))) e
 
   -- a room by its buffer alone
-  pub rows-room : as_room_judged c ds ≡ Good → rows_judged c ds room n ≡ when (ltb room (3 * n)) SpanRoom
-  rows-room e = ap (λ (j : Judged). or_else j (or_else (when (ltb room (3 * n)) SpanRoom) Good)) e ∙ or_else-right (when (ltb room (3 * n)) SpanRoom)
+  pub rows-room : as_room_judged c ds ≡ Ok tt → rows_judged c ds room n ≡ when (ltb room (3 * n)) SpanRoom
+  rows-room e = ap (λ (j : Judged). or_else j (or_else (when (ltb room (3 * n)) SpanRoom) (Ok tt))) e ∙ or_else-right (when (ltb room (3 * n)) SpanRoom)
 
 module _ (c : Corner) (ds : List ℕ) (before : List ℤ) where
   abbrev judged_by : List Span → Judged
   judged_by L = rows_judged c ds (length before) (length L)
 
   -- a refused call
-  pub refused_call : (q : Refusal) → as_room_judged c ds ≡ Refused q → RowsCall c ds before (Counted.Refused q) before
+  pub refused_call : (q : Refusal) → as_room_judged c ds ≡ Err q → RowsCall c ds before (Err q) before
   refused_call q e = record {
     list = [];
     rows = λ g. absurd (good_refused (sym g ∙ e));
@@ -63,17 +65,17 @@ module _ (c : Corner) (ds : List ℕ) (before : List ℤ) where
     buffer = sym (ap (λ (j : Judged). laid_if j (span_numbers []) before) (rows_refused c ds (length before) 0 q e));
   }
     where
-      good_refused : Good ≡ Refused q → ⊥
+      good_refused : ◌≡◌ {A = Judged} (Ok tt) (Err q) → ⊥
       good_refused f = let z : ◌≡◌ {A = ℕ} 0 1 = cc in omega arith
 
   pub rows_call_one : {r s : Counted} {after end : List ℤ} → RowsCall c ds before r after → RowsCall c ds before s end → (r ≡ s) × (after ≡ end)
   rows_call_one {r} {s} {after} {end} g h = by (as_room_judged c ds) refl
     where
       by : (j : Judged) → as_room_judged c ds ≡ j → (r ≡ s) × (after ≡ end)
-      by Good e =
+      by (Ok _) e =
           let l = rows_is_one (Inside c ds) g.list h.list (g.rows e) (h.rows e) in
           (g.answer ∙ ap (λ (L : List Span). counted_of (judged_by L) (length L)) l ∙ sym h.answer, g.buffer ∙ ap (λ (L : List Span). laid_if (judged_by L) (span_numbers L) before) l ∙ sym h.buffer)
-      by (Refused q) e =
+      by (Err q) e =
           let a = rows_refused c ds (length before) (length g.list) q e in
           let b = rows_refused c ds (length before) (length h.list) q e in (
             g.answer ∙ ap (λ (j : Judged). counted_of j (length g.list)) a ∙ sym (h.answer ∙ ap (λ (j : Judged). counted_of j (length h.list)) b),

@@ -9,7 +9,7 @@ use lib.IntN.{ℤ, pos, nat_abs, ◌+ℤ◌, ◌-ℤ◌}
 use Rattle.int_laws.proofs.LinearLaws.{zarith, bal+}
 use Rattle.int_laws.proofs.RangeLaws.{abs+, abs-}
 use Rattle.grid.specs.declared.Corner.{Corner}
-use Rattle.grid.specs.Grid.{corner, panel_at}
+use Rattle.grid.specs.Grid.{corner}
 use Rattle.answer.specs.Limits.{most_start}
 use lib.Seq.{sets}
 
@@ -25,10 +25,6 @@ three-put l o y' a' b' y a b e f g =
 
     two : o + 2 ≡ suc (suc o)
     two = omega arith
-
--- a panel by its numbers
-pub panel-is : (x' y' x y : ℤ) → x' ≡ x → y' ≡ y → panel_at (corner x' y') ≡ panel_at (corner x y)
-panel-is x' y' x y e f = ap₂ (λ (u v : ℤ). panel_at (corner u v)) e f
 
 -- where a row begins
 pub base_is : (c b : Corner) (m h : ℕ) → b ≡ corner ((c.0 -ℤ pos m) +ℤ pos 0) ((c.1 -ℤ pos m) +ℤ pos h) → b ≡ corner (c.0 -ℤ pos m) ((c.1 -ℤ pos m) +ℤ pos h)

@@ -10,32 +10,13 @@ ghost use Rattle.column_laws.specs.Columns.{top};
 ghost use Rattle.row_bucket_laws.specs.Buckets.{Line, LineDone, Sheet, SheetDone};
 
 use grid::{Corner, Panel};
-use order::wide;
-
-// The column n steps east of `west`.
-fn column(west: i32, n: u16) -> i32
-    requires { nat_abs west ≤ most_start + 65535 }
-    ensures { result ≡ west +ℤ pos n }
-{
-    west + n as i32
-}
-
-// The column before that.
-fn column_before(west: i32, n: u16) -> i32
-    requires { nat_abs west ≤ most_start + 65535 }
-    ensures { result ≡ (west +ℤ pos n) -ℤ pos 1 }
-{
-    west + n as i32 - 1
-}
 
 // The panel after the edge that stands n steps east of base.
 fn first_panel(base: Corner, n: u16) -> Panel
     requires { nat_abs base.0 ≤ most_start + 65535 }
     ensures { result ≡ panel_at (corner (base.0 +ℤ pos n) base.1) }
 {
-    let x = column(base.0, n);
-    let y = base.1;
-    Panel(x, y)
+    Panel(base.0 + i32::from(n), base.1)
 }
 
 // The panel before it.
@@ -43,9 +24,7 @@ fn last_panel(base: Corner, n: u16) -> Panel
     requires { nat_abs base.0 ≤ most_start + 65535 }
     ensures { result ≡ panel_at (corner (pred_ℤ (base.0 +ℤ pos n)) base.1) }
 {
-    let x = column_before(base.0, n);
-    let y = base.1;
-    Panel(x, y)
+    Panel(base.0 + i32::from(n) - 1, base.1)
 }
 
 // Writes the span from a panel to another of its row.
@@ -53,12 +32,9 @@ fn put_panels(out: &mut [i32], o: usize, first: Panel, last: Panel)
     requires { o + 2 < length out.old }
     ensures { out.new ≡ sets out.old o (first.1 ∷ first.0 ∷ last.0 ∷ []) }
 {
-    let y = first.1;
-    let west = first.0;
-    let east = last.0;
-    out[o] = y;
-    out[o + 1] = west;
-    out[o + 2] = east;
+    out[o] = first.1;
+    out[o + 1] = first.0;
+    out[o + 2] = last.0;
 }
 
 // Writes the span between the edges a and b of the row that begins at base.
@@ -75,13 +51,13 @@ fn put_row(out: &mut [i32], o: usize, base: Corner, first: u16, next: &[u16], at
     requires { Line next.now at.now o (length out.old) first × (nat_abs base.0 ≤ most_start + 65535) }
     ensures { LineDone next.now at.now base first out.old o result out.new }
 {
-    let mut p = wide(first);
+    let mut p = usize::from(first);
     let mut to = o;
     while p > 0 {
-        let q = wide(next[p - 1]);
+        let q = usize::from(next[p - 1]);
         put_span(out, to, base, at[p - 1], at[q - 1]);
         to += 3;
-        p = wide(next[q - 1]);
+        p = usize::from(next[q - 1]);
     }
     to
 }
@@ -91,7 +67,7 @@ fn shifted(z: i32, m: u16, n: usize) -> i32
     requires { (nat_abs z ≤ most_start) × (n ≤ top) }
     ensures { result ≡ (z -ℤ pos m) +ℤ pos n }
 {
-    z - m as i32 + n as i32
+    z - i32::from(m) + n as i32
 }
 
 // Where row h begins, if start stands at m.
@@ -99,9 +75,7 @@ fn row_base(start: Corner, m: u16, h: usize) -> Corner
     requires { (nat_abs start.0 ≤ most_start) × (nat_abs start.1 ≤ most_start) × (h ≤ top) }
     ensures { result ≡ corner ((start.0 -ℤ pos m) +ℤ pos 0) ((start.1 -ℤ pos m) +ℤ pos h) }
 {
-    let x = shifted(start.0, m, 0);
-    let y = shifted(start.1, m, h);
-    Corner(x, y)
+    Corner(shifted(start.0, m, 0), shifted(start.1, m, h))
 }
 
 // Writes the spans of all rows below `end`.
@@ -119,11 +93,9 @@ pub fn put_rows(
     ensures { SheetDone start m end next.now at.now row.now
         out.old out.new }
 {
-    let mut h = 0;
     let mut o = 0;
-    while h < end {
+    for h in 0..end {
         let base = row_base(start, m, h);
         o = put_row(out, o, base, row[h], next, at);
-        h += 1;
     }
 }

@@ -88,7 +88,7 @@ pub head_none : (n : ℕ) → 0 < n → head_of n ≡ []
 head_none zero h = absurd (omega arith)
 head_none (suc n) h = refl
 
-pub line_some : (n : ℕ) → 0 < n → line_of n ≡ n
+line_some : (n : ℕ) → 0 < n → line_of n ≡ n
 line_some zero h = absurd (omega arith)
 line_some (suc n) h = refl
 

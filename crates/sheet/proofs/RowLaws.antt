@@ -1,5 +1,6 @@
 -- Every line of the input has one row of the sheet, with its number.
 -- Assumes nothing.
+use Rattle.std.specs.Prelude.{Err, Ok}
 use mathlib.Core.Path.{◌≡◌, refl, sym, ap, ◌∙◌}
 use mathlib.Core.Bool.{Bool, true, false, not, cond}
 use mathlib.Core.List.{List, [], ◌∷◌, ◌++◌, append_assoc}
@@ -8,11 +9,10 @@ use native.Mathlib.Omega.{arith}
 use lib.IntN.{ℤ, pos, negsuc}
 use lib.Dec.{eqb}
 use lib.ListN.{length}
+use Rattle.answer.specs.Answers.{Answer}
 use Rattle.lists.specs.Lists.{tally}
 use Rattle.grid.specs.Grid.{origin}
 use Rattle.answer.specs.declared.Facts.{Facts}
-use Rattle.answer.specs.declared.Answer.{Answer}
-use Rattle.answer.specs.declared.Answer.TheVariants as walked
 use Rattle.answer.specs.Refusal.{verdict_number, refusal_number, refusal_place}
 use Rattle.polygon.specs.Polygon.{polygon_of}
 use Rattle.room.specs.Room.{is_room}
@@ -68,8 +68,8 @@ refused_feeds : (number place : ℕ) → feeds_in (refused_cells number place) �
 refused_feeds number place = none-append (cell_of number ++ cell_of place) (empty_cells fact_count) (none-append (cell_of number) (cell_of place) (cell_feeds number) (cell_feeds place)) (empty_feeds fact_count)
 
 by_feeds : (a : Answer) (w : List ℕ) → feeds_in (entry_by a w) ≡ 0
-by_feeds (walked.Accepted f) w = none-append (cells_of 0 0 f) (polygon_cell w) (cells_feeds 0 0 f) (polygon_feeds w)
-by_feeds (walked.Refused r) w = refused_feeds (refusal_number r) (refusal_place r)
+by_feeds (Ok f) w = none-append (cells_of 0 0 f) (polygon_cell w) (cells_feeds 0 0 f) (polygon_feeds w)
+by_feeds (Err r) w = refused_feeds (refusal_number r) (refusal_place r)
 
 -- what is said of a line is one line
 entry_feeds : (s : List ℕ) → feeds_in (entry_of s) ≡ 0

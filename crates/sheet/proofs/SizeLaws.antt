@@ -1,5 +1,6 @@
 -- How long the parts of the sheet are at most.
 -- Assumes nothing.
+use Rattle.std.specs.Prelude.{Err, Ok}
 use mathlib.Core.Path.{◌≡◌, refl}
 use mathlib.Core.Bool.{Bool, true, false, cond}
 use mathlib.Core.List.{List, [], ◌∷◌, ◌++◌}
@@ -8,10 +9,9 @@ use native.Mathlib.Omega.{arith}
 use lib.IntN.{ℤ, pos, negsuc}
 use lib.Dec.{ltb}
 use lib.ListN.{length, length-append}
+use Rattle.answer.specs.Answers.{Answer}
 use Rattle.grid.specs.Grid.{origin, stepped}
 use Rattle.answer.specs.declared.Facts.{Facts}
-use Rattle.answer.specs.declared.Answer.{Answer}
-use Rattle.answer.specs.declared.Answer.TheVariants as walked
 use Rattle.answer.specs.Refusal.{verdict_number, refusal_number, refusal_place}
 use Rattle.grid.specs.declared.Corner.{Corner}
 use Rattle.polygon.specs.Polygon.{polygon_of, points_of, bends, bends_from}
@@ -103,5 +103,5 @@ polygon_cell_most w h = go (is_room origin w)
     go false = omega arith
 
 pub entry_by_most : (a : Answer) (w : List ℕ) → length w ≤ most_digits → length (entry_by a w) + 1 ≤ most_entry
-entry_by_most (walked.Accepted f) w h = omega (arith, length-append (cells_of 0 0 f) (polygon_cell w), length-cells_of 0 0 f, polygon_cell_most w h)
-entry_by_most (walked.Refused r) w h = omega (arith, length-refused_cells (refusal_number r) (refusal_place r))
+entry_by_most (Ok f) w h = omega (arith, length-append (cells_of 0 0 f) (polygon_cell w), length-cells_of 0 0 f, polygon_cell_most w h)
+entry_by_most (Err r) w h = omega (arith, length-refused_cells (refusal_number r) (refusal_place r))

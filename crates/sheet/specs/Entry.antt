@@ -1,7 +1,8 @@
 -- What the sheet says of a line, without its number and its line feed (RULES 20.2, 20.3). Assumes nothing.
-use Rattle.std.specs.Prelude.{cond, List, [], ◌∷◌, ◌++◌, ℕ, zero, suc}
+use Rattle.std.specs.Prelude.{cond, List, [], ◌∷◌, ◌++◌, ℕ, zero, Err, Ok, suc}
+use Rattle.answer.specs.Answers.{Answer}
 use Rattle.grid.specs.Grid.{origin}
-use Rattle.answer.specs.declared.{Facts.Facts, Answer.Answer}
+use Rattle.answer.specs.declared.{Facts.Facts}
 use Rattle.answer.specs.Refusal.{refusal_number, refusal_place, verdict_number}
 use Rattle.steps.specs.Operations.{survivors}
 use Rattle.room.specs.Room.{is_room}
@@ -51,8 +52,8 @@ polygon_cell w = cond (is_room origin w) (hex_bytes (polygon_of origin w)) []
 
 -- an answer to a walk, if its steps w survive
 abbrev pub entry_by : Answer → List ℕ → List ℕ
-entry_by (Answer.Accepted f) w = cells_of 0 0 f ++ polygon_cell w
-entry_by (Answer.Refused r) w = refused_cells (refusal_number r) (refusal_place r)
+entry_by (Ok f) w = cells_of 0 0 f ++ polygon_cell w
+entry_by (Err r) w = refused_cells (refusal_number r) (refusal_place r)
 
 -- what is said of a line: its walk's answer, and the polygon of the steps that survive
 unfoldable pub entry_of : List ℕ → List ℕ

@@ -11,6 +11,8 @@ use lib.ListN.{length, take, set, get_or, length-append}
 use lib.Seq.{take-suc, take_all, length-take-le}
 use mir.Syntax.{w32}
 use mir.Val.{SFits}
+use Rattle.std.specs.Prelude.{replicate}
+use Rattle.std.proofs.lemmas.Grind.{replicate_next}
 use Rattle.answer.specs.declared.Facts.{Facts}
 use Rattle.answer.specs.Refusal.{verdict_number}
 use Rattle.answer.specs.Words.{bits_of}
@@ -97,19 +99,11 @@ length_two v w = omega (arith, length-append (cell_of v) (cell_of w), length-cel
 pub wrote_two : (v w at : ℕ) {i e : ℕ} {a b c : List ℕ} → at + 2 * most_cell ≤ length a → Wrote (cell_of v) at a i b → Wrote (cell_of w) i b e c → Wrote (cell_of v ++ cell_of w) at a e c
 wrote_two v w at h p q = wrote_append p q (omega (arith, length-cell_of v, length-cell_of w))
 
--- no empty cell, and one more
-pub empty_none : (k at : ℕ) (a : List ℕ) → k ≡ 0 → Wrote (empty_cells k) at a at a
+-- empty cells are commas
+pub empty_all : (k : ℕ) → replicate k 44 ≡ empty_cells k
 unfolding empty_cells
-empty_none zero at a e = wrote_nil at a
-empty_none (suc k) at a e = absurd (omega arith)
-
-pub empty_more : (k at : ℕ) {e : ℕ} {a b : List ℕ} → (k ≡ 0 → ⊥) → at + k ≤ length a → Wrote (empty_cells (k - 1)) at a e b → Wrote (empty_cells k) at a (e + 1) (set b e 44)
-unfolding empty_cells
-empty_more zero at z l w = absurd (z refl)
-empty_more (suc k) at {e} {a} {b} z l w =
-    let j : suc k - 1 ≡ k = omega arith in
-    let v : Wrote (empty_cells k) at a e b = subst (λ (i : ℕ). Wrote (empty_cells i) at a e b) j w in
-    wrote_then (empty_cells k) 44 at v (omega (arith, length-empty_cells k))
+empty_all zero = refl
+empty_all (suc k) = ap (λ (n : ℕ). replicate n 44) (sym (add-one k)) ∙ replicate_next k 44 ∙ ap (λ (l : List ℕ). l ++ (44 ∷ [])) (empty_all k)
 
 -- a refusal, and the cells of the facts, which are empty
 pub wrote_refusal : (number place at : ℕ) {i e : ℕ} {a b c : List ℕ} → at + 2 * most_cell + 7 ≤ length a → Wrote (cell_of number ++ cell_of place) at a i b → Wrote (empty_cells 7) i b e c

@@ -77,9 +77,8 @@ pub fn spell_cells(out: &mut [u8], at: usize, number: usize, place: usize, f: Fa
     requires { at + 9 * most_cell + 1 ≤ length out.old }
     ensures { Wrote (cells_of number place f) at out.old result out.new }
 {
-    let verdict = f.verdict;
     let a = spell_two(out, at, number, place);
-    let b = spell_two(out, a, answer::verdict_number(verdict), f.steps);
+    let b = spell_two(out, a, answer::verdict_number(f.verdict), f.steps);
     let c = spell_two(out, b, f.nodes, f.corners);
     let d = spell_two(out, c, f.j, f.k);
     let e = spell_signed(out, d, f.area);
@@ -92,12 +91,8 @@ fn spell_empty(out: &mut [u8], at: usize, k: usize) -> usize
     requires { at + k ≤ length out.old }
     ensures { Wrote (empty_cells k) at out.old result out.new }
 {
-    if k == 0 {
-        return at;
-    }
-    let next = spell_empty(out, at, k - 1);
-    out[next] = 44;
-    next + 1
+    out[at..at + k].fill(44);
+    at + k
 }
 
 // Writes a refusal's number and place, each with a comma after it, and no facts.
@@ -114,7 +109,7 @@ fn spell_byte(out: &mut [u8], at: usize, b: u8) -> usize
     requires { at + 2 ≤ length out.old }
     ensures { Wrote (hex_of 2 b) at out.old result out.new }
 {
-    spell(out, at, b as usize, 2)
+    spell(out, at, usize::from(b), 2)
 }
 
 // Writes the bytes, two digits each.
@@ -122,11 +117,9 @@ pub fn spell_bytes(out: &mut [u8], at: usize, s: &[u8]) -> usize
     requires { at + 2 * length s.now ≤ length out.old }
     ensures { Wrote (hex_bytes s.now) at out.old result out.new }
 {
-    let mut i = 0;
     let mut next = at;
-    while i < s.len() {
-        next = spell_byte(out, next, s[i]);
-        i += 1;
+    for &b in s {
+        next = spell_byte(out, next, b);
     }
     next
 }

@@ -1,9 +1,8 @@
 // What the sheet says of one line.
 #![tactic(auto)]
 
-ghost use Rattle.std.specs.Prelude.{◌≡◌, [], ◌+◌, ◌*◌, ◌≤◌, length};
+ghost use Rattle.std.specs.Prelude.{◌≡◌, [], ◌+◌, ◌*◌, ◌≤◌, Err, Ok, length};
 ghost use Rattle.lists.specs.Lists.{Below};
-ghost use Rattle.answer.specs.declared.Answer.TheVariants as walked;
 ghost use Rattle.line_frame.specs.Sizes.{most_digits, marks_words};
 ghost use Rattle.line_fields.specs.Put.{Wrote};
 ghost use Rattle.line_walk.specs.Walk.{Clear};
@@ -11,7 +10,7 @@ ghost use Rattle.sheet.specs.Sizes.{most_polygon, most_entry};
 ghost use Rattle.sheet.specs.Entry.{polygon_cell, entry_by, entry_of};
 ghost use Rattle.sheet.specs.Sheet.{entered};
 
-use answer::{Answer, Counted, Facts, Refusal};
+use answer::{Facts, Refusal};
 use grid::Corner;
 use line_frame::Frame;
 use line_walk::walk_line;
@@ -37,8 +36,8 @@ fn enter_polygon(steps: &[u8], out: &mut [u8], at: usize) -> usize
 {
     let mut polygon = [0u8; Entry::MOST_POLYGON];
     match polygon_call::write(Corner(0, 0), steps, &mut polygon) {
-        Counted::Many(n) => spell_bytes(out, at, &polygon[..n]),
-        Counted::Refused(_) => at,
+        Ok(n) => spell_bytes(out, at, &polygon[..n]),
+        Err(_) => at,
     }
 }
 
@@ -46,7 +45,7 @@ fn enter_polygon(steps: &[u8], out: &mut [u8], at: usize) -> usize
 fn enter_accepted(f: Facts, steps: &[u8], out: &mut [u8], at: usize) -> usize
     requires below { Below 4 steps.now × (length steps.now ≤ most_digits) }
     requires most_entry_in_bounds { at + most_entry ≤ length out.old }
-    ensures { Wrote (entry_by (walked.Accepted f) steps.now) at out.old result out.new }
+    ensures { Wrote (entry_by (Ok f) steps.now) at out.old result out.new }
 {
     let next = spell_cells(out, at, 0, 0, f);
     enter_polygon(steps, out, next)
@@ -55,7 +54,7 @@ fn enter_accepted(f: Facts, steps: &[u8], out: &mut [u8], at: usize) -> usize
 // Writes a refusal: its number and place, and no facts.
 fn enter_refused(r: Refusal, out: &mut [u8], at: usize) -> usize
     requires { at + most_entry ≤ length out.old }
-    ensures { Wrote (entry_by (walked.Refused r) []) at out.old result out.new }
+    ensures { Wrote (entry_by (Err r) []) at out.old result out.new }
 {
     let number = answer::refusal_number(r);
     let place = answer::refusal_place(r);
@@ -71,11 +70,8 @@ fn enter_line(s: &[u8], table: &mut [u32], marks: &mut [u32], out: &mut [u8], at
 {
     let mut chain = [0u8; Frame::MOST_DIGITS];
     match walk_line(s, table, marks, &mut chain) {
-        Answer::Accepted(f) => {
-            let steps = f.steps;
-            enter_accepted(f, &chain[..steps], out, at)
-        }
-        Answer::Refused(r) => enter_refused(r, out, at),
+        Ok(f) => enter_accepted(f, &chain[..f.steps], out, at),
+        Err(r) => enter_refused(r, out, at),
     }
 }
 

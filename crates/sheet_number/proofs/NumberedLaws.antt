@@ -30,11 +30,6 @@ pub head_first : (line : ℕ) {e : ℕ} {a b : List ℕ} → line ≤ 0 → Wrot
 head_first zero h w = w
 head_first (suc n) h w = absurd (omega arith)
 
--- and the number of the next line
-pub line_first : (line : ℕ) → line ≤ 0 → 1 ≡ line_of line
-line_first zero h = refl
-line_first (suc n) h = absurd (omega arith)
-
 -- the bytes before place i are written
 pub record Numbering (starts : Bool) (first : ℕ) (s : List ℕ) (at : ℕ) (before : List ℕ) (begins : Bool) (n used i : ℕ) (after : List ℕ) : Type 0 where
   pub within : i ≤ length s

@@ -49,18 +49,14 @@ fn put_head(line: usize, out: &mut [u8]) -> usize
     if 0 < line {
         return 0;
     }
-    let names = sheet::HEADER;
-    copy(&names, out, 0)
+    copy(&sheet::HEADER, out, 0)
 }
 
 // The number of the line in which the next byte stands.
 fn line_of(line: usize) -> usize
     ensures { result ≡ line_of line }
 {
-    if 0 < line {
-        return line;
-    }
-    1
+    line.max(1)
 }
 
 // Writes the byte, after the number n if a line begins with it.
@@ -82,10 +78,7 @@ fn number_after(n: usize, b: u8) -> usize
     requires { n < 18446744073709551615 }
     ensures { result ≡ n + tally (eqb b 10) }
 {
-    if b == 10 {
-        return n + 1;
-    }
-    n
+    n + usize::from(b == 10)
 }
 
 // Writes the bytes s of the entries from the place at on, each line after its number, from the number first on; a line begins
@@ -98,13 +91,10 @@ fn number_from(out: &mut [u8], at: usize, starts: bool, first: usize, s: &[u8]) 
     let mut begins = starts;
     let mut n = first;
     let mut used = at;
-    let mut i = 0;
-    while i < s.len() {
-        let b = s[i];
+    for &b in s {
         used = put_byte(out, used, begins, n, b);
         begins = b == 10;
         n = number_after(n, b);
-        i += 1;
     }
     let margin = Margin { line: n, begins };
     Numbered { used, margin }

@@ -1,5 +1,6 @@
 -- Operations with no fault, and what survives of them: digits below 4, and not too many. Steps alone survive as they are.
 -- Assumes nothing.
+use Rattle.std.specs.Prelude.{Ok}
 use mathlib.Core.Bool.{Bool, true, false}
 use mathlib.Core.List.{List, [], ◌∷◌, ◌++◌, append-nil, append_assoc}
 use mathlib.Core.Logic.{inl, inr, ⊎_elim}
@@ -9,7 +10,6 @@ use native.Mathlib.Omega.{arith}
 use borrow.Author.Tests.{ltb-true, ltb-false, eqb-true, eqb-false, ne_eqb, lt-ltb, le-ltb}
 use lib.Dec.{eqb, ltb}
 use lib.ListN.{length, length-append}
-use Rattle.answer.specs.declared.Judged.TheVariants.{Good}
 use Rattle.answer.specs.declared.Refusal.TheVariants.{BadDigit, NothingToTake, TooLong}
 use Rattle.lists.specs.Lists.{front, Below}
 use Rattle.answer.proofs.RefusalLaws.{refused_not_good, or_else_good}
@@ -50,7 +50,7 @@ pub below_last : (s : List ℕ) (d : ℕ) → Below 4 (s ++ (d ∷ [])) → d < 
 below_last [] d b = b.0
 below_last (x ∷ s) d b = below_last s d b.1
 
-pub fault_none : (i n o : ℕ) → fault_of i n o ≡ Good → Fine n o
+pub fault_none : (i n o : ℕ) → fault_of i n o ≡ Ok tt → Fine n o
 fault_none i n o e = go (ltb 4 o) refl (eqb o 4) refl (eqb n 0) refl (ltb n most_steps) refl
   where
     go : (a : Bool) → ltb 4 o ≡ a → (b : Bool) → eqb o 4 ≡ b → (c : Bool) → eqb n 0 ≡ c → (d : Bool) → ltb n most_steps ≡ d → Fine n o
@@ -60,7 +60,7 @@ fault_none i n o e = go (ltb 4 o) refl (eqb o 4) refl (eqb n 0) refl (ltb n most
     go false p false q c r true s = inr (omega (arith, ltb-false 4 o p, eqb-false o 4 q), ltb-true n most_steps s)
     go false p false q c r false s = absurd (refused_not_good (TooLong i) (rw (p, q, s) at e))
 
-pub fault_step : (i n o : ℕ) (os : List ℕ) → operations_judged i n (o ∷ os) ≡ Good → (fault_of i n o ≡ Good) × (operations_judged (suc i) (after n o) os ≡ Good)
+pub fault_step : (i n o : ℕ) (os : List ℕ) → operations_judged i n (o ∷ os) ≡ Ok tt → (fault_of i n o ≡ Ok tt) × (operations_judged (suc i) (after n o) os ≡ Ok tt)
 fault_step i n o os e = or_else_good (fault_of i n o) (operations_judged (suc i) (after n o) os) e
 
 pub after-length : (s : List ℕ) (o : ℕ) → after (length s) o ≡ length (operate s o)
@@ -84,17 +84,17 @@ walkable_operate s o h f =
     (λ k. rw (operate_step s o k.0) (record { digits = below_snoc s o h.digits k.0; few = omega (arith, length-append s (o ∷ []), k.1) }))
     f
 
-pub walkable_survivors : (i : ℕ) (s os : List ℕ) → Walkable s → operations_judged i (length s) os ≡ Good → Walkable (survivors_from s os)
+pub walkable_survivors : (i : ℕ) (s os : List ℕ) → Walkable s → operations_judged i (length s) os ≡ Ok tt → Walkable (survivors_from s os)
 walkable_survivors i s [] h e = h
 walkable_survivors i s (o ∷ os) h e =
     let k = fault_step i (length s) o os e in
-    walkable_survivors (suc i) (operate s o) os (walkable_operate s o h (fault_none i (length s) o k.0)) (subst (λ n. operations_judged (suc i) n os ≡ Good) (after-length s o) k.1)
+    walkable_survivors (suc i) (operate s o) os (walkable_operate s o h (fault_none i (length s) o k.0)) (subst (λ n. operations_judged (suc i) n os ≡ Ok tt) (after-length s o) k.1)
 
 -- steps alone have no fault
-step_fault : (i n d : ℕ) → d < 4 → n < most_steps → fault_of i n d ≡ Good
+step_fault : (i n d : ℕ) → d < 4 → n < most_steps → fault_of i n d ≡ Ok tt
 step_fault i n d h k = rw (le-ltb 4 d (omega arith), ne_eqb d 4 (λ e. omega arith), lt-ltb n most_steps k, fault_of)
 
-pub steps_accepted : (i n : ℕ) (ds : List ℕ) → Below 4 ds → n + length ds ≤ most_steps → operations_judged i n ds ≡ Good
+pub steps_accepted : (i n : ℕ) (ds : List ℕ) → Below 4 ds → n + length ds ≤ most_steps → operations_judged i n ds ≡ Ok tt
 steps_accepted i n [] b h = refl
 steps_accepted i n (d ∷ ds) b h =
     let a : after n d ≡ n + 1 = rw (ne_eqb d 4 (λ e. omega (arith, b.0)), after) in

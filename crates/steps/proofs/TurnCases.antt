@@ -1,8 +1,8 @@
 -- Turns and their refusals, computed on small inputs.
 -- Assumes nothing.
+use Rattle.std.specs.Prelude.{Err, Ok}
 use mathlib.Core.List.{[], ◌∷◌}
 use mathlib.Core.Path.{◌≡◌, refl}
-use Rattle.answer.specs.declared.Judged.TheVariants.{Good, Refused}
 use Rattle.answer.specs.declared.Refusal.TheVariants.{ResultRoom, BadDigit}
 use Rattle.steps.specs.Turns.{turns_of, steps_of, turns_judged, written_if}
 
@@ -21,15 +21,15 @@ turns_of_none : turns_of [] ≡ []
 turns_of_none = refl
 
 -- room before digits
-room-before_digits : turns_judged (4 ∷ []) 0 ≡ Refused ResultRoom
+room-before_digits : turns_judged (4 ∷ []) 0 ≡ Err ResultRoom
 room-before_digits = refl
 
 -- the first bad digit of several
-first_bad_digit : turns_judged (3 ∷ 4 ∷ 5 ∷ []) 3 ≡ Refused (BadDigit 1)
+first_bad_digit : turns_judged (3 ∷ 4 ∷ 5 ∷ []) 3 ≡ Err (BadDigit 1)
 first_bad_digit = refl
 
-all_digits : turns_judged (3 ∷ 0 ∷ []) 2 ≡ Good
+all_digits : turns_judged (3 ∷ 0 ∷ []) 2 ≡ Ok tt
 all_digits = refl
 
-untouched : written_if (Refused ResultRoom) (1 ∷ []) (7 ∷ 7 ∷ []) ≡ 7 ∷ 7 ∷ []
+untouched : written_if (Err ResultRoom) (1 ∷ []) (7 ∷ 7 ∷ []) ≡ 7 ∷ 7 ∷ []
 untouched = refl

@@ -1,7 +1,8 @@
 -- The surviving steps of a string of operations, and the refusals 4, 5 and 6 (RULES 1.3, 6.1). Assumes nothing.
 use Rattle.lists.specs.Lists.{front, Below}
-use Rattle.std.specs.Prelude.{◌≡◌, ◌⊎◌, true, false, not, ◌&&◌, List, [], ◌∷◌, ◌++◌, length, ℕ, suc, ◌+◌, ◌-◌, ◌<◌, ◌≤◌, eqb, ltb}
-use Rattle.answer.specs.declared.{Judged.Judged, Judged.TheVariants.Good, Refusal.TheVariants.BadDigit, Refusal.TheVariants.NothingToTake, Refusal.TheVariants.TooLong}
+use Rattle.std.specs.Prelude.{◌≡◌, ◌⊎◌, true, false, not, ◌&&◌, List, [], ◌∷◌, ◌++◌, length, ℕ, suc, ◌+◌, ◌-◌, ◌<◌, ◌≤◌, eqb, Ok, ltb}
+use Rattle.answer.specs.Answers.{Judged}
+use Rattle.answer.specs.declared.{Refusal.TheVariants.BadDigit, Refusal.TheVariants.NothingToTake, Refusal.TheVariants.TooLong}
 use Rattle.answer.specs.{Limits.most_steps, Refusal.when, Refusal.or_else, Refusal.first_of}
 
 -- one operation: 4 takes the last surviving step back, any other is a step
@@ -39,5 +40,5 @@ after n o = elim (eqb o 4) [ true ↦ n - 1 | false ↦ n + 1 ]
 
 -- the first fault, with n steps surviving at place i
 abbrev pub operations_judged : ℕ → ℕ → List ℕ → Judged
-operations_judged i n [] = Good
+operations_judged i n [] = Ok tt
 operations_judged i n (o ∷ os) = or_else (fault_of i n o) (operations_judged (suc i) (after n o) os)

@@ -1,6 +1,7 @@
 -- Steps as turns and turns as steps (RULES 2.1, 2.2, 6.3), and the refusals of both calls. Assumes nothing.
-use Rattle.std.specs.Prelude.{◌≡◌, not, List, [], ◌∷◌, length, ℕ, suc, ◌+◌, ◌-◌, ◌%◌, eqb, ltb}
-use Rattle.answer.specs.declared.{Judged.Judged, Judged.TheVariants.Good, Judged.TheVariants.Refused, Refusal.TheVariants.TooMany, Refusal.TheVariants.ResultRoom, Refusal.TheVariants.BadDigit}
+use Rattle.std.specs.Prelude.{◌≡◌, not, List, [], ◌∷◌, length, ℕ, suc, ◌+◌, ◌-◌, ◌%◌, eqb, Err, Ok, ltb}
+use Rattle.answer.specs.Answers.{Judged}
+use Rattle.answer.specs.declared.{Refusal.TheVariants.TooMany, Refusal.TheVariants.ResultRoom, Refusal.TheVariants.BadDigit}
 use Rattle.answer.specs.{Limits.most_input, Refusal.when, Refusal.or_else, Refusal.first_of}
 
 -- a step minus the one before it, modulo 4
@@ -31,7 +32,7 @@ steps_of (t ∷ ts) = t ∷ steps_from t ts
 
 -- the first digit above 3, from place i on
 abbrev pub digits_judged : ℕ → List ℕ → Judged
-digits_judged i [] = Good
+digits_judged i [] = Ok tt
 digits_judged i (d ∷ ds) = or_else (when (ltb 3 d) (BadDigit i)) (digits_judged (suc i) ds)
 
 -- 1, then 3, then 4, for digits and a buffer of that length
@@ -44,8 +45,8 @@ turns_judged ds size =
 
 -- a buffer after the call: written if accepted, untouched if refused
 abbrev pub written_if : Judged → List ℕ → List ℕ → List ℕ
-written_if Good new old = new
-written_if (Refused r) new old = old
+written_if (Ok _) new old = new
+written_if (Err r) new old = old
 
 -- the promise of a conversion, turns_of or steps_of: the answer, and what the buffer holds then
 pub record ConvertedBy (convert : List ℕ → List ℕ) (ds out : List ℕ) (r : Judged) (out' : List ℕ) : Type 0 where

@@ -276,8 +276,3 @@ module _ {A : Type 0} (K : Keys A) {width : ℕ} where
 
       wide-Q : (b : A) → length (Q b) ≡ width
       wide-Q = wide-upd K R wide a (set (set (R a) w₁ x₁) w₂ x₂) (length-set (set (R a) w₁ x₁) w₂ x₂ ∙ length-set (R a) w₁ x₁ ∙ wide a)
-
--- a run of stores, one more at its end
-pub sets_snoc : (f : ℕ) (l : List ℕ) (i : ℕ) → sets l i (replicate (suc f) 0) ≡ set (sets l i (replicate f 0)) (i + f) 0
-sets_snoc zero l i = let z : i ≡ i + 0 = omega arith in ap (λ (k : ℕ). set l k 0) z
-sets_snoc (suc f) l i = let z : suc i + f ≡ i + suc f = omega arith in sets_snoc f (set l i 0) (suc i) ∙ ap (λ (k : ℕ). set (sets (set l i 0) (suc i) (replicate f 0)) k 0) z

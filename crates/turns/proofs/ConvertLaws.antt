@@ -2,9 +2,9 @@
 -- Assumes nothing.
 use Rattle.std.proofs.Common.{◌≡◌, ℕ, suc, ◌+◌, ◌<◌, ◌≤◌, List, [], ◌∷◌, ◌++◌, length, get_or, take, drop, set, sym, refl, ap, ◌∙◌, ap₂, append-nil, add-one, arith, length-set, drop_of_length-le, take_all, drop-cons, take-suc-set}
 use lib.Seq.{append_snoc}
+use Rattle.std.specs.Prelude.{Err}
 use Rattle.lists.specs.Lists.{Below}
-use Rattle.answer.specs.declared.Judged.{Judged}
-use Rattle.answer.specs.declared.Judged.TheVariants.{Good, Refused}
+use Rattle.answer.specs.Answers.{Judged}
 use Rattle.answer.specs.declared.Refusal.{Refusal}
 use Rattle.steps.specs.Turns.{turns_judged, written_if, ConvertedBy}
 use Rattle.steps.proofs.TurnLaws.{turns_from-east, steps_from-east}
@@ -59,9 +59,6 @@ all_done way ds out a i h b s =
     let r : convert_from way a (drop i ds) ≡ [] = ap (convert_from way a) (drop_of_length-le ds h) ∙ from_nil way a in
     sym (append-nil out) ∙ sym (ap₂ (λ (k l : List ℕ). k ++ l) t r) ∙ s.left ∙ from-east way ds b
 
--- the whole call: written if the judgement is good, left as it was if it is not
-pub converted : (convert : List ℕ → List ℕ) (ds out out' : List ℕ) (r : Judged) → r ≡ turns_judged ds (length out) → r ≡ Good → out' ≡ convert ds → ConvertedBy convert ds out r out'
-converted convert ds out out' r e g w = record { answer = e; buffer = w ∙ ap (λ (j : Judged). written_if j (convert ds) out) (sym g ∙ e) }
-
-pub kept : (convert : List ℕ → List ℕ) (ds out : List ℕ) (r : Judged) (x : Refusal) → r ≡ turns_judged ds (length out) → r ≡ Refused x → ConvertedBy convert ds out r out
+-- a refused call leaves the buffer as it was
+pub kept : (convert : List ℕ → List ℕ) (ds out : List ℕ) (r : Judged) (x : Refusal) → r ≡ turns_judged ds (length out) → r ≡ Err x → ConvertedBy convert ds out r out
 kept convert ds out r x e f = record { answer = e; buffer = ap (λ (j : Judged). written_if j (convert ds) out) (sym f ∙ e) }

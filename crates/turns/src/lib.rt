@@ -6,7 +6,7 @@ ghost use Rattle.lists.specs.Lists.{Below};
 ghost use Rattle.steps.specs.Turns.{turns_of, steps_of, digits_judged, turns_judged, ConvertedBy};
 ghost use Rattle.turns.specs.Way.{digit_by, step_by, convert_of};
 
-use answer::{Judged, Limits, Refusal};
+use answer::{Limits, Refusal};
 use order::highest;
 
 // Which way digits are converted.
@@ -44,38 +44,36 @@ fn step_at(way: Way, x: u8, y: u8) -> u8
 }
 
 // Refuses the first digit above 3, by a test of each.
-fn fault(digits: &[u8]) -> Judged
+fn fault(digits: &[u8]) -> Result<(), Refusal>
     ensures { result ≡ digits_judged 0 digits.now }
 {
-    let mut i = 0;
-    while i < digits.len() {
-        if digits[i] > 3 {
-            return Judged::Refused(Refusal::BadDigit(i));
+    for (i, &d) in digits.iter().enumerate() {
+        if d > 3 {
+            return Err(Refusal::BadDigit(i));
         }
-        i += 1;
     }
-    Judged::Good
+    Ok(())
 }
 
 // The same, but bytes are looked at one by one only if something is wrong.
-fn judge_digits(digits: &[u8]) -> Judged
+fn judge_digits(digits: &[u8]) -> Result<(), Refusal>
     ensures { result ≡ digits_judged 0 digits.now }
 {
     if highest(digits) > 3 {
         return fault(digits);
     }
-    Judged::Good
+    Ok(())
 }
 
 // Refuses too many digits, then a buffer of another length, then the first digit above 3.
-fn judge(digits: &[u8], size: usize) -> Judged
+fn judge(digits: &[u8], size: usize) -> Result<(), Refusal>
     ensures { result ≡ turns_judged digits.now size }
 {
     if digits.len() > Limits::MOST_INPUT {
-        return Judged::Refused(Refusal::TooMany);
+        return Err(Refusal::TooMany);
     }
     if size != digits.len() {
-        return Judged::Refused(Refusal::ResultRoom);
+        return Err(Refusal::ResultRoom);
     }
     judge_digits(digits)
 }
@@ -86,36 +84,31 @@ fn write(way: Way, digits: &[u8], out: &mut [u8])
     ensures { out.new ≡ convert_of way digits.now }
 {
     let mut last = 0u8;
-    let mut i = 0;
-    while i < digits.len() {
-        let x = digits[i];
+    for (i, &x) in digits.iter().enumerate() {
         let y = Heading(last).digit(way, x);
         out[i] = y;
         last = step_at(way, x, y);
-        i += 1;
     }
 }
 
 // The digits converted, in a buffer of the same length. Refuses 1, 3 and 4.
-pub fn convert(way: Way, digits: &[u8], out: &mut [u8]) -> Judged
+pub fn convert(way: Way, digits: &[u8], out: &mut [u8]) -> Result<(), Refusal>
     ensures { ConvertedBy (convert_of way) digits.now out.old result out.new }
 {
-    let judged = judge(digits, out.len());
-    if let Judged::Good = judged {
-        write(way, digits, out);
-    }
-    judged
+    judge(digits, out.len())?;
+    write(way, digits, out);
+    Ok(())
 }
 
 // The turns of the steps.
-pub fn turns_of(steps: &[u8], out: &mut [u8]) -> Judged
+pub fn turns_of(steps: &[u8], out: &mut [u8]) -> Result<(), Refusal>
     ensures { ConvertedBy turns_of steps.now out.old result out.new }
 {
     convert(Way::ToTurns, steps, out)
 }
 
 // The steps of the turns.
-pub fn steps_of(turns: &[u8], out: &mut [u8]) -> Judged
+pub fn steps_of(turns: &[u8], out: &mut [u8]) -> Result<(), Refusal>
     ensures { ConvertedBy steps_of turns.now out.old result out.new }
 {
     convert(Way::ToSteps, turns, out)

@@ -1,11 +1,11 @@
 -- The promises of the exported functions.
 -- Assumes nothing.
 use Rattle.std.specs.Prelude.{List, ◌≡◌, ℕ, ℤ}
-use Rattle.answer.specs.declared.Answer.{Answer}
-use Rattle.answer.specs.declared.Counted.{Counted}
-use Rattle.answer.specs.declared.Judged.{Judged}
+use Rattle.polygon_ring.specs.Answers.{Given}
+use Rattle.overlay.specs.Answers.{Overlaid}
+use Rattle.orthogonal.specs.Answers.{Orthogonal}
+use Rattle.answer.specs.Answers.{Answer, Counted, Judged, PairAnswer}
 use Rattle.answer.specs.Refusal.{judged_number}
-use Rattle.answer.specs.declared.PairAnswer.{PairAnswer}
 use Rattle.walk.specs.Walk.{WalkIs}
 use Rattle.pair.specs.Call.{PairLent, PairIs}
 use Rattle.pair.specs.Words.{pair_answer_words, pair_answer_number}
@@ -15,12 +15,10 @@ use Rattle.outline.specs.Call.{OutlineCall}
 use Rattle.steps.specs.Turns.{ConvertedBy}
 use Rattle.polygon.specs.Polygon.{PolygonCall}
 use Rattle.convex.specs.Convex.{ConvexCall}
-use Rattle.orthogonal.specs.declared.Orthogonal.{Orthogonal}
 use Rattle.orthogonal.specs.Call.{OrthogonalCall, orthogonal_words, orthogonal_number}
-use Rattle.overlay.specs.declared.{Part.Part, Overlaid.Overlaid}
+use Rattle.overlay.specs.declared.{Part.Part}
 use Rattle.overlay.specs.Call.{OverlayCall, overlaid_words, overlaid_number}
 use Rattle.row.specs.Call.{RowsCall}
-use Rattle.polygon_ring.specs.declared.Given.{Given}
 use Rattle.polygon_ring.specs.Ring.{ReadCall}
 use Rattle.polygon_ring.specs.Words.{given_words, given_number}
 use Rattle.answer.specs.Words.{answer_words, answer_number, counted_words, counted_number, judged_words}

@@ -1,24 +1,32 @@
 // The numbers of each answer, as C gets them.
 #![tactic(auto)]
 
-ghost use Rattle.std.specs.Prelude.{◌≡◌, ◌^◌, ◌<◌};
-ghost use Rattle.answer.specs.Refusal.{judged_place};
+ghost use Rattle.std.specs.Prelude.{◌≡◌, ◌^◌, Ok, ◌<◌, ◌≤◌};
+ghost use Rattle.answer.specs.Refusal.{judged_place, refusal_place};
 ghost use Rattle.answer.specs.Words.{facts_words, answer_words, counted_words, judged_words};
-ghost use Rattle.polygon_ring.specs.declared.Given.{Given};
 ghost use Rattle.polygon_ring.specs.Words.{given_words};
-ghost use Rattle.overlay.specs.declared.Overlaid.{Overlaid};
 ghost use Rattle.overlay.specs.Call.{overlaid_words};
-ghost use Rattle.orthogonal.specs.declared.Orthogonal.{Orthogonal};
 ghost use Rattle.orthogonal.specs.Call.{orthogonal_words};
-ghost use Rattle.answer.specs.declared.PairAnswer.{PairAnswer};
 ghost use Rattle.pair.specs.Words.{party_words, pair_answer_words};
-ghost use Rattle.undrwyth_words.specs.Words.{AnswerFits, PartyFits, PairFits, PairAnswerFits, CountedFits, GivenFits, MeasuresFit, OverlaidFits, EnclosedFits, OrthogonalFits};
+ghost use Rattle.undrwyth_words.specs.Words.{refused_words, AnswerFits, PartyFits, PairFits, PairAnswerFits, CountedFits, GivenFits, MeasuresFit, OverlaidFits, EnclosedFits, OrthogonalFits};
 
-use answer::{Answer, Counted, Facts, Judged, PairAnswer, PairFacts, PartyFacts};
+use answer::{Facts, PairFacts, PartyFacts, Refusal};
 use line_fields::hex::bits;
-use orthogonal::{Enclosed, Orthogonal};
-use overlay::{Measures, Overlaid};
-use polygon_ring::{Found, Given};
+use orthogonal::Enclosed;
+use overlay::Measures;
+use polygon_ring::Found;
+
+// The numbers of a refusal: its number and place, and 0 in all other words.
+fn refused<const N: usize>(r: Refusal) -> [u32; N]
+    requires enough { 2 ≤ N }
+    requires place { refusal_place r < 2 ^ 32 }
+    ensures { result ≡ refused_words N r }
+{
+    let mut words = [0; N];
+    words[0] = answer::refusal_number(r) as u32;
+    words[1] = answer::refusal_place(r) as u32;
+    words
+}
 
 // The numbers of an accepted walk.
 fn facts_words(f: Facts) -> [u32; 11]
@@ -47,17 +55,13 @@ fn facts_words(f: Facts) -> [u32; 11]
 }
 
 // The numbers of a walk's answer.
-pub fn walk_words(a: Answer) -> [u32; 11]
+pub fn walk_words(a: Result<Facts, Refusal>) -> [u32; 11]
     requires { AnswerFits a }
     ensures { result ≡ answer_words a }
 {
     match a {
-        Answer::Accepted(f) => facts_words(f),
-        Answer::Refused(r) => {
-            let number = answer::refusal_number(r) as u32;
-            let place = answer::refusal_place(r) as u32;
-            [number, place, 0, 0, 0, 0, 0, 0, 0, 0, 0]
-        }
+        Ok(f) => facts_words(f),
+        Err(r) => refused(r),
     }
 }
 
@@ -87,7 +91,7 @@ fn party_words(f: PartyFacts) -> [u32; 8]
 // The numbers of two parties that are accepted.
 fn pair_facts_words(f: PairFacts) -> [u32; 19]
     requires { PairFits f }
-    ensures { result ≡ pair_answer_words (PairAnswer.Accepted f) }
+    ensures { result ≡ pair_answer_words (Ok f) }
 {
     let first = f.first;
     let second = f.second;
@@ -117,41 +121,31 @@ fn pair_facts_words(f: PairFacts) -> [u32; 19]
 }
 
 // The numbers of the answer to two parties.
-pub fn pair_answer_words(a: PairAnswer) -> [u32; 19]
+pub fn pair_answer_words(a: Result<PairFacts, Refusal>) -> [u32; 19]
     requires { PairAnswerFits a }
     ensures { result ≡ pair_answer_words a }
 {
     match a {
-        PairAnswer::Accepted(f) => pair_facts_words(f),
-        PairAnswer::Refused(r) => {
-            let number = answer::refusal_number(r) as u32;
-            let place = answer::refusal_place(r) as u32;
-            [
-                number, place, 0, 0, 0, 0, 0, 0, 0, 0, 0, 0, 0, 0, 0, 0, 0, 0, 0,
-            ]
-        }
+        Ok(f) => pair_facts_words(f),
+        Err(r) => refused(r),
     }
 }
 
 // The numbers of the answer of a call that counts.
-pub fn counted_words(c: Counted) -> [u32; 3]
+pub fn counted_words(c: Result<usize, Refusal>) -> [u32; 3]
     requires { CountedFits c }
     ensures { result ≡ counted_words c }
 {
     match c {
-        Counted::Many(n) => [0, 0, n as u32],
-        Counted::Refused(r) => {
-            let number = answer::refusal_number(r) as u32;
-            let place = answer::refusal_place(r) as u32;
-            [number, place, 0]
-        }
+        Ok(n) => [0, 0, n as u32],
+        Err(r) => refused(r),
     }
 }
 
 // The numbers of a polygon that is accepted.
 fn found_words(f: Found) -> [u32; 5]
     requires { f.steps < 2 ^ 32 }
-    ensures { result ≡ given_words (Given.Chain f) }
+    ensures { result ≡ given_words (Ok f) }
 {
     let start = f.start;
     let x = bits(start.0);
@@ -160,24 +154,20 @@ fn found_words(f: Found) -> [u32; 5]
 }
 
 // The numbers of the answer to a polygon that is read.
-pub fn given_words(g: Given) -> [u32; 5]
+pub fn given_words(g: Result<Found, Refusal>) -> [u32; 5]
     requires { GivenFits g }
     ensures { result ≡ given_words g }
 {
     match g {
-        Given::Chain(f) => found_words(f),
-        Given::Refused(r) => {
-            let number = answer::refusal_number(r) as u32;
-            let place = answer::refusal_place(r) as u32;
-            [number, place, 0, 0, 0]
-        }
+        Ok(f) => found_words(f),
+        Err(r) => refused(r),
     }
 }
 
 // The numbers of three lists.
 fn measures_words(m: Measures) -> [u32; 8]
     requires { MeasuresFit m }
-    ensures { result ≡ overlaid_words (Overlaid.Listed m) }
+    ensures { result ≡ overlaid_words (Ok m) }
 {
     let f = m.first;
     let g = m.second;
@@ -195,24 +185,20 @@ fn measures_words(m: Measures) -> [u32; 8]
 }
 
 // The numbers of the answer to two rooms.
-pub fn overlaid_words(o: Overlaid) -> [u32; 8]
+pub fn overlaid_words(o: Result<Measures, Refusal>) -> [u32; 8]
     requires { OverlaidFits o }
     ensures { result ≡ overlaid_words o }
 {
     match o {
-        Overlaid::Listed(m) => measures_words(m),
-        Overlaid::Refused(r) => {
-            let number = answer::refusal_number(r) as u32;
-            let place = answer::refusal_place(r) as u32;
-            [number, place, 0, 0, 0, 0, 0, 0]
-        }
+        Ok(m) => measures_words(m),
+        Err(r) => refused(r),
     }
 }
 
 // The numbers of an outline of a hull.
 fn enclosed_words(h: Enclosed) -> [u32; 6]
     requires { EnclosedFits h }
-    ensures { result ≡ orthogonal_words (Orthogonal.Outlined h) }
+    ensures { result ≡ orthogonal_words (Ok h) }
 {
     let start = h.start;
     let x = bits(start.0);
@@ -221,31 +207,23 @@ fn enclosed_words(h: Enclosed) -> [u32; 6]
 }
 
 // The numbers of the answer of the orthogonal hull.
-pub fn orthogonal_words(o: Orthogonal) -> [u32; 6]
+pub fn orthogonal_words(o: Result<Enclosed, Refusal>) -> [u32; 6]
     requires { OrthogonalFits o }
     ensures { result ≡ orthogonal_words o }
 {
     match o {
-        Orthogonal::Outlined(h) => enclosed_words(h),
-        Orthogonal::Refused(r) => {
-            let number = answer::refusal_number(r) as u32;
-            let place = answer::refusal_place(r) as u32;
-            [number, place, 0, 0, 0, 0]
-        }
+        Ok(h) => enclosed_words(h),
+        Err(r) => refused(r),
     }
 }
 
 // The numbers of a conversion's answer.
-pub fn turns_words(j: Judged) -> [u32; 2]
+pub fn turns_words(j: Result<(), Refusal>) -> [u32; 2]
     requires { judged_place j < 2 ^ 32 }
     ensures { result ≡ judged_words j }
 {
     match j {
-        Judged::Good => [0, 0],
-        Judged::Refused(r) => {
-            let number = answer::refusal_number(r) as u32;
-            let place = answer::refusal_place(r) as u32;
-            [number, place]
-        }
+        Ok(()) => [0, 0],
+        Err(r) => refused(r),
     }
 }

@@ -1,5 +1,6 @@
 -- The judgement of the input and then of the size of the table, and what an input that is not refused has.
 -- Assumes nothing.
+use Rattle.std.specs.Prelude.{Ok}
 use mathlib.Core.Bool.{true, not, ◌&&◌}
 use mathlib.Core.List.{List, []}
 use mathlib.Core.Path.{◌≡◌, sym, ◌∙◌}
@@ -7,7 +8,6 @@ use Prim.Native.Nat.{ℕ, ◌*◌, ◌≤◌}
 use borrow.Author.Tests.{ltb-false, eqb-true, not-false}
 use lib.Dec.{eqb, ltb}
 use lib.ListN.{length}
-use Rattle.answer.specs.declared.Judged.TheVariants.{Good}
 use Rattle.answer.specs.declared.Refusal.TheVariants.{TooMany, Table, ResultRoom, StartRange}
 use Rattle.answer.specs.Limits.{most_input, Near, start_fits}
 use Rattle.answer.specs.Refusal.{or_else, first_of}
@@ -32,9 +32,9 @@ pub record InputFits (c : Corner) (os : List ℕ) (w m k : ℕ) : Type 0 where
   pub marks : m ≡ mark_words * length os
   pub chain : k ≡ length os
   pub start : Near c
-  pub fine : operations_judged 0 0 os ≡ Good
+  pub fine : operations_judged 0 0 os ≡ Ok tt
 
-pub input_fits : (c : Corner) (os : List ℕ) (w m k : ℕ) → first_of (input_judgements c os w m k) ≡ Good → InputFits c os w m k
+pub input_fits : (c : Corner) (os : List ℕ) (w m k : ℕ) → first_of (input_judgements c os w m k) ≡ Ok tt → InputFits c os w m k
 input_fits c os w m k e =
     let a = eqb m (mark_words * length os) in
     let b = eqb k (length os) in
@@ -50,7 +50,7 @@ input_fits c os w m k e =
     }
 
 -- a walk that is accepted
-pub walk_fits : (c : Corner) (os : List ℕ) (w m k : ℕ) → walk_judged c os w m k ≡ Good → InputFits c os w m k × (room_from (records_in w) c 0 [] os ≡ Good)
+pub walk_fits : (c : Corner) (os : List ℕ) (w m k : ℕ) → walk_judged c os w m k ≡ Ok tt → InputFits c os w m k × (room_from (records_in w) c 0 [] os ≡ Ok tt)
 walk_fits c os w m k e =
     let h = or_else_good (first_of (input_judgements c os w m k)) (room_from (records_in w) c 0 [] os) (sym (judged_split c os w m k) ∙ e) in
     (input_fits c os w m k h.0, h.1)

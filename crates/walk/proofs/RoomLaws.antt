@@ -1,5 +1,6 @@
 -- Refusal 7: a table that is large enough for all of a walk is large enough at each step, and after the last operation it was. So
 -- the surviving steps of an accepted record are accepted alone. Assumes nothing.
+use Rattle.std.specs.Prelude.{Err, Ok}
 use mathlib.Core.Bool.{false}
 use mathlib.Core.List.{List, [], ◌∷◌, ◌++◌, append_assoc, append-nil}
 use mathlib.Core.Path.{◌≡◌, refl, ap, ◌∙◌}
@@ -8,7 +9,6 @@ use native.Mathlib.Omega.{arith}
 use borrow.Author.Tests.{ltb-false, eq-eqb, lt-ltb, le-ltb}
 use lib.Dec.{ltb}
 use lib.ListN.{length}
-use Rattle.answer.specs.declared.Judged.TheVariants.{Good, Refused}
 use Rattle.answer.specs.declared.Refusal.TheVariants.{NoRoom}
 use Rattle.grid.specs.declared.Corner.{Corner}
 use Rattle.grid.specs.Grid.{corners_from}
@@ -31,7 +31,7 @@ abbrev needs : Corner → List ℕ → ℕ
 needs c ds = length (nodes_of (corners_from c ds))
 
 -- more nodes than records: refused here
-pub room_full : (r : ℕ) (c : Corner) (k : ℕ) (s os : List ℕ) → r < needs c s → room_from r c k s os ≡ Refused (NoRoom (pred k))
+pub room_full : (r : ℕ) (c : Corner) (k : ℕ) (s os : List ℕ) → r < needs c s → room_from r c k s os ≡ Err (NoRoom (pred k))
 room_full r c k s [] h = rw (lt-ltb r (needs c s) h)
 room_full r c k s (o ∷ os) h = rw (lt-ltb r (needs c s) h)
 
@@ -39,10 +39,10 @@ room_full r c k s (o ∷ os) h = rw (lt-ltb r (needs c s) h)
 pub room_fits : (r : ℕ) (c : Corner) (k : ℕ) (s : List ℕ) (o : ℕ) (os : List ℕ) → needs c s ≤ r → room_from r c k s (o ∷ os) ≡ room_from r c (suc k) (operate s o) os
 room_fits r c k s o os h = rw (le-ltb r (needs c s) h)
 
-pub room_end : (r : ℕ) (c : Corner) (k : ℕ) (s : List ℕ) → needs c s ≤ r → room_from r c k s [] ≡ Good
+pub room_end : (r : ℕ) (c : Corner) (k : ℕ) (s : List ℕ) → needs c s ≤ r → room_from r c k s [] ≡ Ok tt
 room_end r c k s h = rw (le-ltb r (needs c s) h)
 
-room-steps : (r : ℕ) (c : Corner) (k : ℕ) (s ds : List ℕ) → Below 4 ds → needs c (s ++ ds) ≤ r → room_from r c k s ds ≡ Good
+room-steps : (r : ℕ) (c : Corner) (k : ℕ) (s ds : List ℕ) → Below 4 ds → needs c (s ++ ds) ≤ r → room_from r c k s ds ≡ Ok tt
 room-steps r c k s [] b h = room_end r c k s (rw (append-nil s) at h)
 room-steps r c k s (d ∷ ds) b h =
     let e : operate s d ≡ s ++ (d ∷ []) = operate_step s d b.0 in
@@ -51,19 +51,19 @@ room-steps r c k s (d ∷ ds) b h =
     ∙ ap (λ (l : List ℕ). room_from r c (suc k) l ds) e
     ∙ room-steps r c (suc k) (s ++ (d ∷ [])) ds b.1 g
 
-pub room-last : (r : ℕ) (c : Corner) (k : ℕ) (s os : List ℕ) → room_from r c k s os ≡ Good → needs c (survivors_from s os) ≤ r
+pub room-last : (r : ℕ) (c : Corner) (k : ℕ) (s os : List ℕ) → room_from r c k s os ≡ Ok tt → needs c (survivors_from s os) ≤ r
 room-last r c k s [] e = ltb-false r (needs c s) (when_good (ltb r (needs c s)) (NoRoom (pred k)) e)
 room-last r c k s (o ∷ os) e = room-last r c (suc k) (operate s o) os (or_else_good (room_at r c k s) (room_from r c (suc k) (operate s o) os) e).1
 
 -- an accepted record's surviving steps are accepted alone, in a table of the same size, and they survive
-pub alone : (c : Corner) (os : List ℕ) (words m k : ℕ) → walk_judged c os words m k ≡ Good
-    → (survivors (survivors os) ≡ survivors os) × (walk_judged c (survivors os) words (mark_words * length (survivors os)) (length (survivors os)) ≡ Good)
+pub alone : (c : Corner) (os : List ℕ) (words m k : ℕ) → walk_judged c os words m k ≡ Ok tt
+    → (survivors (survivors os) ≡ survivors os) × (walk_judged c (survivors os) words (mark_words * length (survivors os)) (length (survivors os)) ≡ Ok tt)
 alone c os words m k e =
     let ds = survivors os in
     let h = walk_fits c os words m k e in
     let s : Walkable ds = walkable_survivors 0 [] os (record { digits = tt; few = omega arith }) h.0.fine in
     let b : ltb most_input (length ds) ≡ false = le-ltb most_input (length ds) (omega (arith, h.0.few, length-survivors [] os)) in
-    let r : room_from (records_in words) c 0 [] ds ≡ Good = room-steps (records_in words) c 0 [] ds s.digits (room-last (records_in words) c 0 [] os h.1) in (
+    let r : room_from (records_in words) c 0 [] ds ≡ Ok tt = room-steps (records_in words) c 0 [] ds s.digits (room-last (records_in words) c 0 [] os h.1) in (
       survivors-steps [] ds s.digits,
       clear_first (walk_judgements c ds words (mark_words * length ds) (length ds)) (
         rw b,

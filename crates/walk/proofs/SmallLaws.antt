@@ -1,5 +1,6 @@
 -- The numbers of an answer are small: a place is one of the input, and a walk that is accepted has few steps, nodes and corners.
 -- Assumes nothing.
+use Rattle.std.specs.Prelude.{Err, Ok}
 use mathlib.Core.Bool.{Bool, true, false, not, ◌&&◌}
 use mathlib.Core.List.{List, [], ◌∷◌}
 use mathlib.Core.Path.{◌≡◌, refl}
@@ -8,8 +9,7 @@ use native.Mathlib.Omega.{arith}
 use borrow.Author.Tests.{ltb-false, leb-true}
 use lib.Dec.{eqb, ltb, leb}
 use lib.ListN.{length}
-use Rattle.answer.specs.declared.Judged.{Judged}
-use Rattle.answer.specs.declared.Judged.TheVariants.{Good, Refused}
+use Rattle.answer.specs.Answers.{Judged}
 use Rattle.answer.specs.declared.Refusal.{Refusal}
 use Rattle.answer.specs.declared.Refusal.TheVariants.{Table, ResultRoom, BadDigit, NothingToTake, TooLong, NoRoom, StartRange}
 use Rattle.answer.specs.Refusal.{when, or_else, refusal_place}
@@ -31,29 +31,29 @@ use Rattle.walk.proofs.RoomLaws.{room-last}
 
 -- a refusal's place is at most b
 abbrev pub Placed : ℕ → Judged → Type 0
-Placed b Good = Unit {0}
-Placed b (Refused r) = refusal_place r ≤ b
+Placed b (Ok _) = Unit {0}
+Placed b (Err r) = refusal_place r ≤ b
 
 pub placed-when : (b : ℕ) (t : Bool) (r : Refusal) → refusal_place r ≤ b → Placed b (when t r)
 placed-when b true r h = h
 placed-when b false r h = tt
 
 pub placed_or : (b : ℕ) (j k : Judged) → Placed b j → Placed b k → Placed b (or_else j k)
-placed_or b Good k p q = q
-placed_or b (Refused r) k p q = p
+placed_or b (Ok _) k p q = q
+placed_or b (Err r) k p q = p
 
 pub placed-more : (a b : ℕ) (j : Judged) → a ≤ b → Placed a j → Placed b j
-placed-more a b Good h p = tt
-placed-more a b (Refused r) h p = omega arith
+placed-more a b (Ok _) h p = tt
+placed-more a b (Err r) h p = omega arith
 
 pub placed_fault : (i n o : ℕ) → Placed i (fault_of i n o)
 placed_fault i n o =
     let a = when (ltb 4 o) (BadDigit i) in
     let b = when (eqb o 4 && eqb n 0) (NothingToTake i) in
     let d = when (not (eqb o 4) && not (ltb n most_steps)) (TooLong i) in
-    placed_or i a (or_else b (or_else d Good)) (placed-when i (ltb 4 o) (BadDigit i) (omega arith))
-    (placed_or i b (or_else d Good) (placed-when i (eqb o 4 && eqb n 0) (NothingToTake i) (omega arith))
-    (placed_or i d Good (placed-when i (not (eqb o 4) && not (ltb n most_steps)) (TooLong i) (omega arith)) tt))
+    placed_or i a (or_else b (or_else d (Ok tt))) (placed-when i (ltb 4 o) (BadDigit i) (omega arith))
+    (placed_or i b (or_else d (Ok tt)) (placed-when i (eqb o 4 && eqb n 0) (NothingToTake i) (omega arith))
+    (placed_or i d (Ok tt) (placed-when i (not (eqb o 4) && not (ltb n most_steps)) (TooLong i) (omega arith)) tt))
 
 placed_faults : (i n : ℕ) (os : List ℕ) → Placed (i + length os) (operations_judged i n os)
 placed_faults i n [] = tt
@@ -86,15 +86,15 @@ walk_placed c os w m k = go (ltb most_input (length os)) refl
     s : Judged
     s = when (not (start_fits c)) StartRange
 
-    rest : length os ≤ most_input → Placed most_input (or_else b (or_else d (or_else s (or_else (operations_judged 0 0 os) (or_else (room_from (records_in w) c 0 [] os) Good)))))
+    rest : length os ≤ most_input → Placed most_input (or_else b (or_else d (or_else s (or_else (operations_judged 0 0 os) (or_else (room_from (records_in w) c 0 [] os) (Ok tt))))))
     rest h =
         let f = operations_judged 0 0 os in
         let r = room_from (records_in w) c 0 [] os in
-        placed_or most_input b (or_else d (or_else s (or_else f (or_else r Good)))) (placed-when most_input (not (table_fits w)) Table (omega arith))
-        (placed_or most_input d (or_else s (or_else f (or_else r Good))) (placed-when most_input (not (eqb m (mark_words * length os) && eqb k (length os))) ResultRoom (omega arith))
-        (placed_or most_input s (or_else f (or_else r Good)) (placed-when most_input (not (start_fits c)) StartRange (omega arith))
-        (placed_or most_input f (or_else r Good) (placed-more (0 + length os) most_input f (omega arith) (placed_faults 0 0 os))
-        (placed_or most_input r Good (placed-more (0 + length os) most_input r (omega arith) (placed-room (records_in w) c 0 [] os)) tt))))
+        placed_or most_input b (or_else d (or_else s (or_else f (or_else r (Ok tt))))) (placed-when most_input (not (table_fits w)) Table (omega arith))
+        (placed_or most_input d (or_else s (or_else f (or_else r (Ok tt)))) (placed-when most_input (not (eqb m (mark_words * length os) && eqb k (length os))) ResultRoom (omega arith))
+        (placed_or most_input s (or_else f (or_else r (Ok tt))) (placed-when most_input (not (start_fits c)) StartRange (omega arith))
+        (placed_or most_input f (or_else r (Ok tt)) (placed-more (0 + length os) most_input f (omega arith) (placed_faults 0 0 os))
+        (placed_or most_input r (Ok tt) (placed-more (0 + length os) most_input r (omega arith) (placed-room (records_in w) c 0 [] os)) tt))))
 
     go : (t : Bool) → ltb most_input (length os) ≡ t → Placed most_input (walk_judged c os w m k)
     go true e = rw e (omega arith)
@@ -133,7 +133,7 @@ fits_records w e =
     let d = leb (records_in w) most_records in
     (leb-true 1 (records_in w) (and_right a b (and_left (a && b) d e)), leb-true (records_in w) most_records (and_right (a && b) d e))
 
-pub walk_few : (c : Corner) (os : List ℕ) (w m k : ℕ) → walk_judged c os w m k ≡ Good → Few c (survivors os)
+pub walk_few : (c : Corner) (os : List ℕ) (w m k : ℕ) → walk_judged c os w m k ≡ Ok tt → Few c (survivors os)
 walk_few c os w m k e =
     let ds = survivors os in
     let h = walk_fits c os w m k e in

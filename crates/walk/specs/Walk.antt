@@ -1,6 +1,7 @@
 -- The walk's refusals in their order, its answer, and its three buffers (RULES 5.2, 6.2, 6.5, 6.6). Assumes nothing.
-use Rattle.std.specs.Prelude.{◌≡◌, Bool, cond, not, ◌&&◌, List, [], ◌∷◌, length, replicate, ℕ, suc, ◌*◌, ◌%◌, eqb, ltb, leb, ◌++◌, pred}
-use Rattle.answer.specs.declared.{Judged.Judged, Judged.TheVariants.Good, Judged.TheVariants.Refused, Refusal.TheVariants.TooMany, Refusal.TheVariants.Table, Refusal.TheVariants.ResultRoom, Refusal.TheVariants.NoRoom, Refusal.TheVariants.StartRange, Facts.Facts, PartyFacts.PartyFacts, Answer.Answer}
+use Rattle.std.specs.Prelude.{◌≡◌, Bool, cond, not, ◌&&◌, List, [], ◌∷◌, length, replicate, ℕ, suc, ◌*◌, ◌%◌, eqb, ltb, leb, ◌++◌, Err, Ok, pred}
+use Rattle.answer.specs.Answers.{Answer, Judged}
+use Rattle.answer.specs.declared.{Refusal.TheVariants.TooMany, Refusal.TheVariants.Table, Refusal.TheVariants.ResultRoom, Refusal.TheVariants.NoRoom, Refusal.TheVariants.StartRange, Facts.Facts, PartyFacts.PartyFacts}
 use Rattle.answer.specs.{Limits.most_input, Limits.most_records, Limits.start_fits, Refusal.when, Refusal.or_else, Refusal.first_of, Refusal.refusal_number}
 use Rattle.grid.specs.{declared.Corner.Corner, Grid.corners_from, Grid.end_from}
 use Rattle.steps.specs.Operations.{operate, survivors, operations_judged}
@@ -67,8 +68,8 @@ party_facts_of c ds = record {
 
 -- the facts, or the refusal
 abbrev pub answer_by : Judged → Facts → Answer
-answer_by Good f = Answer.Accepted f
-answer_by (Refused r) f = Answer.Refused r
+answer_by (Ok _) f = Ok f
+answer_by (Err r) f = Err r
 
 -- the answer to operations with a table, marks and a chain of these lengths
 abbrev pub walk_answer : Corner → List ℕ → ℕ → ℕ → ℕ → Answer
@@ -76,8 +77,8 @@ walk_answer c os words marks chain = answer_by (walk_judged c os words marks cha
 
 -- a buffer after the call: written if accepted; after a refusal all zero if it is "no room", and untouched if it is any other
 abbrev pub buffer_by : Judged → List ℕ → List ℕ → List ℕ
-buffer_by Good new old = new
-buffer_by (Refused r) new old = cond (eqb (refusal_number r) (refusal_number (NoRoom 0))) (replicate (length old) 0) old
+buffer_by (Ok _) new old = new
+buffer_by (Err r) new old = cond (eqb (refusal_number r) (refusal_number (NoRoom 0))) (replicate (length old) 0) old
 
 -- the call's promise: the answer and what each of the three buffers holds then
 pub record WalkIs (c : Corner) (os t ms ch : List ℕ) (r : Answer) (t' ms' ch' : List ℕ) : Type 0 where

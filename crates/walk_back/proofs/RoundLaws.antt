@@ -66,31 +66,25 @@ module _ (t : List ℕ) (u d s : ℕ) (S : State) (z : Corner) (k : Unlinks t u 
 abbrev pub Unlinked : List ℕ → ℕ → ℕ → ℕ → List ℕ → ℕ → Type 0
 Unlinked t₀ u₀ d s t r = (S : State) (z : Corner) → Unlinks t₀ u₀ d s S z → (r ≡ 0 → t ≡ table_by (length t₀) (unlinking S s z S.step)) × ((v : ℕ) → r ≡ suc v → Unlinks t v d s S z)
 
-pub unlinked_start : (t : List ℕ) (u d s : ℕ) → Unlinked t u d s t (u + 1)
-unlinked_start t u d s S z h = ((λ p. absurd (omega arith)), (λ v p. subst (λ (n : ℕ). Unlinks t n d s S z) (omega arith) h))
+module _ (t₀ : List ℕ) (u₀ d s : ℕ) (h : Unlinkable t₀ u₀ d s) (t : List ℕ) (r u : ℕ) (q : r ≡ u + 1) (f : Unlinked t₀ u₀ d s t r) where
+  here : Unlinks t u d s h.state h.end
+  here = (f h.state h.end h.holds).1 u (omega arith)
 
-module _ (t₀ : List ℕ) (u₀ d s : ℕ) (h : Unlinkable t₀ u₀ d s) (t : List ℕ) (r : ℕ) (f : Unlinked t₀ u₀ d s t r) (p : 0 < r) where
-  here : Unlinks t (r - 1) d s h.state h.end
-  here = (f h.state h.end h.holds).1 (r - 1) (omega arith)
+  pub unlinked_joined : Joined t u d × (0 < s)
+  unlinked_joined = (unlinks_joined t u d s h.state h.end here, here.pos)
 
-  pub unlinked_joined : Joined t (r - 1) d × (0 < s)
-  unlinked_joined = (unlinks_joined t (r - 1) d s h.state h.end here, here.pos)
-
-  module _ (t' : List ℕ) (r' : ℕ) (c : Cleared t (r - 1) d s t' r') where
+  module _ (t' : List ℕ) (r' : ℕ) (c : Cleared t u d s t' r') where
     pub unlinked_falls : r' < r
     unlinked_falls = go r' refl
       where
         go : (n : ℕ) → r' ≡ n → r' < r
-        go zero q = omega arith
-        go (suc v) q = omega (arith, ((unlinks_level t (r - 1) d s h.state h.end here t' r' c).1 v q).1)
+        go zero e = omega arith
+        go (suc v) e = omega (arith, ((unlinks_level t u d s h.state h.end here t' r' c).1 v e).1)
 
     pub unlinked_next : length t ≡ length t₀ → Unlinked t₀ u₀ d s t' r'
     unlinked_next l S z k =
-        let g = unlinks_level t (r - 1) d s S z ((f S z k).1 (r - 1) (omega arith)) t' r' c in
-        ((λ q. g.0 q ∙ ap (λ (w : ℕ). table_by w (unlinking S s z S.step)) l), (λ v q. (g.1 v q).0))
-
-pub unlinkable_bound : (t : List ℕ) (u d s : ℕ) → Unlinkable t u d s → HasRecord t u
-unlinkable_bound t u d s h = (unlinks_joined t u d s h.state h.end h.holds).here
+        let g = unlinks_level t u d s S z ((f S z k).1 u (omega arith)) t' r' c in
+        ((λ e. g.0 e ∙ ap (λ (w : ℕ). table_by w (unlinking S s z S.step)) l), (λ v e. (g.1 v e).0))
 
 -- the words of the table stay as many
 pub length_node : (t : List ℕ) (u : ℕ) (h : Corner) (v : ℕ) → length (sets (set t (word_at v (child_word h)) 0) (u * width) (replicate width 0)) ≡ length t

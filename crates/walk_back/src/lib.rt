@@ -7,23 +7,24 @@ ghost use Rattle.grid.specs.declared.Corner.{Corner as Node};
 ghost use Rattle.grid.specs.Tree.{child_word};
 ghost use Rattle.layout.specs.Table.{width, word_at, parent_word};
 ghost use Rattle.tree_laws.specs.State.{State, unlinking, table_by};
-ghost use Rattle.walk_back.specs.Takes.{Joined, Cleared, Unlinks, Unlinkable, Newest, Drops, Droppable};
+ghost use Rattle.walk_back.specs.Takes.{ref_by, Joined, Cleared, Unlinks, Unlinkable, Newest, Drops, Droppable};
 
 use grid::Corner;
 use walk_table::{Record, put, word};
 
-// One level: clears the link of u in the direction d if the step made it. Answers the ref of the parent, the next level, or 0 if
-// all is done.
-fn unlink_level(t: &mut [u32], u: usize, d: usize, step: u32) -> usize
+// One level: clears the link of u in the direction d if the step made it. Answers the parent, the next level, or None if all is
+// done.
+fn unlink_level(t: &mut [u32], u: usize, d: usize, step: u32) -> Option<usize>
     requires { Joined t.old u d × (0 < step) }
-    ensures { Cleared t.old u d step t.new result }
+    ensures { Cleared t.old u d step t.new (ref_by result) }
 {
     if word(t, u, Record::LINK_STEP + d) == step {
         let to = word(t, u, Record::NEIGHBOUR + d) as usize;
         walk_table::unlink(t, u, to - 1, d);
-        return word(t, u, Record::PARENT) as usize;
+        let up = word(t, u, Record::PARENT) as usize;
+        return up.checked_sub(1);
     }
-    0
+    None
 }
 
 // Clears the links that the step made, from u in the direction d and up.
@@ -32,9 +33,9 @@ pub fn unlink_up(t: &mut [u32], u: usize, d: usize, step: u32)
     ensures { (S : State) (z : Node) → Unlinks t.old u d step S z
         → t.new ≡ table_by (length t.old) (unlinking S step z S.step) }
 {
-    let mut at = u + 1;
-    while at > 0 {
-        at = unlink_level(t, at - 1, d, step);
+    let mut next = Some(u);
+    while let Some(at) = next {
+        next = unlink_level(t, at, d, step);
     }
 }
 

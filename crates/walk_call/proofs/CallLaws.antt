@@ -1,5 +1,6 @@
 -- The parts of the call put together: its input, its start, the walk that is over, and the refusals.
 -- Assumes nothing.
+use Rattle.std.specs.Prelude.{Err, Ok}
 use mathlib.Core.Bool.{Bool, true, false}
 use mathlib.Core.List.{List, [], ◌∷◌, ◌++◌}
 use mathlib.Core.Logic.{◌⊎◌, inl, inr}
@@ -9,10 +10,8 @@ use native.Mathlib.Decide.{dec_lt}
 use native.Mathlib.Omega.{arith}
 use lib.Dec.{ltb}
 use lib.ListN.{length, replicate, take}
-use Rattle.answer.specs.declared.Answer.{Answer}
+use Rattle.answer.specs.Answers.{Answer, Judged}
 use Rattle.answer.specs.declared.Facts.{Facts}
-use Rattle.answer.specs.declared.Judged.{Judged}
-use Rattle.answer.specs.declared.Judged.TheVariants.{Good, Refused}
 use Rattle.answer.specs.declared.Refusal.{Refusal}
 use Rattle.answer.specs.declared.Refusal.TheVariants.{NoRoom}
 use Rattle.answer.specs.Refusal.{when, or_else}
@@ -42,10 +41,10 @@ cleared ch ch' e = let n : length ch - 0 ≡ length ch = omega arith in e ∙ ap
 
 -- ---- the input
 -- a refused input
-pub walk_refused : (c : Corner) (os t ms ch : List ℕ) (r : Refusal) → Refused r ≡ input_judged c os (length t) (length ms) (length ch) → WalkIs c os t ms ch (Answer.Refused r) t ms ch
+pub walk_refused : (c : Corner) (os t ms ch : List ℕ) (r : Refusal) → Err r ≡ input_judged c os (length t) (length ms) (length ch) → WalkIs c os t ms ch (Err r) t ms ch
 walk_refused c os t ms ch r e =
-    let j : walk_judged c os (length t) (length ms) (length ch) ≡ Refused r = judged_split c os (length t) (length ms) (length ch) ∙ ap (λ (x : Judged). or_else x (room_from (records_in (length t)) c 0 [] os)) (sym e) in
-    let n : Early (Refused r) = subst Early (sym e) (early_input c os (length t) (length ms) (length ch)) in
+    let j : walk_judged c os (length t) (length ms) (length ch) ≡ Err r = judged_split c os (length t) (length ms) (length ch) ∙ ap (λ (x : Judged). or_else x (room_from (records_in (length t)) c 0 [] os)) (sym e) in
+    let n : Early (Err r) = subst Early (sym e) (early_input c os (length t) (length ms) (length ch)) in
     record {
       answer = sym (ap (λ (x : Judged). answer_by x (facts_of c (survivors os))) j);
       table = sym (ap (λ (x : Judged). buffer_by x (table_of (length t) c (survivors os)) t) j ∙ untouched r (table_of (length t) c (survivors os)) t n);
@@ -58,7 +57,7 @@ starts : (c : Corner) → 0 < length (nodes_of (corners_from c []))
 starts c = let h = nodes_of-first c [] in omega (arith, ap length h.1)
 
 -- the table is too small for it: refused before the first operation, and the table is cleared
-pub planted_full : (words : ℕ) (c : Corner) (os t : List ℕ) (r : ℕ) → Planted words c t r → r ≡ 0 → (room_from (records_in words) c 0 [] os ≡ Refused (NoRoom 0)) × (t ≡ replicate words 0)
+pub planted_full : (words : ℕ) (c : Corner) (os t : List ℕ) (r : ℕ) → Planted words c t r → r ≡ 0 → (room_from (records_in words) c 0 [] os ≡ Err (NoRoom 0)) × (t ≡ replicate words 0)
 planted_full words c os t r k e = elim (dec_lt words (width * n)) [
   | yes h ↦ (room_full (records_in words) c 0 [] os (over words n h), (k.full h).1)
   | no h ↦ absurd (omega (arith, (k.fits (omega arith)).1, starts c))
@@ -95,35 +94,17 @@ settled_of c t ch ds w k = record {
 }
 
 -- ---- the operations
-pub followed_full : (c : Corner) (os t ms ch t' ms' ch' : List ℕ) (i : ℕ) → room_from (records_in (length t)) c 0 [] os ≡ Refused (NoRoom i)
-    → t' ≡ replicate (length t) 0 → ms' ≡ replicate (length ms) 0 → ch' ≡ replicate (length ch) 0 → Followed c os t ms ch (Answer.Refused (NoRoom i)) t' ms' ch'
-followed_full c os t ms ch t' ms' ch' i e p q r = record {
-  answer = sym (ap (λ (x : Judged). answer_by x (facts_of c (survivors os))) e);
-  table = p ∙ sym (ap (λ (x : Judged). buffer_by x (table_of (length t) c (survivors os)) t) e);
-  marks = q ∙ sym (ap (λ (x : Judged). buffer_by x (marks_of c os) ms) e);
-  chain = r ∙ sym (ap (λ (x : Judged). buffer_by x (chain_of os) ch) e);
-}
-
-pub followed_all : (c : Corner) (os t ms ch t' ms' ch' : List ℕ) (w : Walk) (f : Facts) → Chained c t' ch' (survivors os) w → ch' ≡ chain_of os → ms' ≡ marks_of c os → room_from (records_in (length t)) c 0 [] os ≡ Good
-    → length t' ≡ length t → f ≡ facts_of c (survivors os) → Followed c os t ms ch (Answer.Accepted f) t' ms' ch'
-followed_all c os t ms ch t' ms' ch' w f k h q e l g = record {
-  answer = ap Answer.Accepted g ∙ sym (ap (λ (x : Judged). answer_by x (facts_of c (survivors os))) e);
-  table = k.known.walked.whole ∙ ap (λ (x : ℕ). table_of x c (survivors os)) l ∙ sym (ap (λ (x : Judged). buffer_by x (table_of (length t) c (survivors os)) t) e);
-  marks = q ∙ sym (ap (λ (x : Judged). buffer_by x (marks_of c os) ms) e);
-  chain = h ∙ sym (ap (λ (x : Judged). buffer_by x (chain_of os) ch) e);
-}
-
 -- "no room" is all that the size of the table can decide
 abbrev RoomAlone : Judged → Type 0
-RoomAlone j = (j ≡ Good) ⊎ ((i : ℕ) × (j ≡ Refused (NoRoom i)))
+RoomAlone j = (j ≡ Ok tt) ⊎ ((i : ℕ) × (j ≡ Err (NoRoom i)))
 
 room-when : (b : Bool) (i : ℕ) → RoomAlone (when b (NoRoom i))
 room-when true i = inr (i, refl)
 room-when false i = inl refl
 
 room_or : (j k : Judged) → RoomAlone j → RoomAlone k → RoomAlone (or_else j k)
-room_or Good k p q = q
-room_or (Refused r) k p q = p
+room_or (Ok _) k p q = q
+room_or (Err r) k p q = p
 
 room_cases : (r : ℕ) (c : Corner) (k : ℕ) (ds os : List ℕ) → RoomAlone (room_from r c k ds os)
 room_cases r c k ds [] = room-when (ltb r (length (nodes_of (corners_from c ds)))) (pred k)
@@ -133,6 +114,32 @@ room_cases r c k ds (o ∷ os) = room_or (room_at r c k ds) (room_from r c (suc 
 room_buffer : (j : Judged) (new old old' : List ℕ) → length old ≡ length old' → RoomAlone j → buffer_by j new old ≡ buffer_by j new old'
 room_buffer j new old old' l (inl e) = rw e
 room_buffer j new old old' l (inr e) = rw e.1 (ap (λ (n : ℕ). replicate n 0) l)
+
+-- "no room" leaves zeros
+zeros_left : (j : Judged) (r : Refusal) (new old : List ℕ) → RoomAlone j → j ≡ Err r → replicate (length old) 0 ≡ buffer_by j new old
+zeros_left j r new old (inl e) q = absurd (cc)
+zeros_left j r new old (inr e) q = rw e.1
+
+pub followed_full : (c : Corner) (os t ms ch t' ms' ch' : List ℕ) (r : Refusal) → room_from (records_in (length t)) c 0 [] os ≡ Err r
+    → t' ≡ replicate (length t) 0 → ms' ≡ replicate (length ms) 0 → ch' ≡ replicate (length ch) 0 → Followed c os t ms ch (Err r) t' ms' ch'
+followed_full c os t ms ch t' ms' ch' r e p q s =
+    let j = room_from (records_in (length t)) c 0 [] os in
+    let k = room_cases (records_in (length t)) c 0 [] os in
+    record {
+      answer = sym (ap (λ (x : Judged). answer_by x (facts_of c (survivors os))) e);
+      table = p ∙ zeros_left j r (table_of (length t) c (survivors os)) t k e;
+      marks = q ∙ zeros_left j r (marks_of c os) ms k e;
+      chain = s ∙ zeros_left j r (chain_of os) ch k e;
+    }
+
+pub followed_all : (c : Corner) (os t ms ch t' ms' ch' : List ℕ) (w : Walk) (f : Facts) → Chained c t' ch' (survivors os) w → ch' ≡ chain_of os → ms' ≡ marks_of c os → room_from (records_in (length t)) c 0 [] os ≡ Ok tt
+    → length t' ≡ length t → f ≡ facts_of c (survivors os) → Followed c os t ms ch (Ok f) t' ms' ch'
+followed_all c os t ms ch t' ms' ch' w f k h q e l g = record {
+  answer = ap Ok g ∙ sym (ap (λ (x : Judged). answer_by x (facts_of c (survivors os))) e);
+  table = k.known.walked.whole ∙ ap (λ (x : ℕ). table_of x c (survivors os)) l ∙ sym (ap (λ (x : Judged). buffer_by x (table_of (length t) c (survivors os)) t) e);
+  marks = q ∙ sym (ap (λ (x : Judged). buffer_by x (marks_of c os) ms) e);
+  chain = h ∙ sym (ap (λ (x : Judged). buffer_by x (chain_of os) ch) e);
+}
 
 pub followed_from : (c : Corner) (os t t₁ ms ch : List ℕ) (r : Answer) (t' ms' ch' : List ℕ) → length t₁ ≡ length t → Followed c os t₁ ms ch r t' ms' ch' → Followed c os t ms ch r t' ms' ch'
 followed_from c os t t₁ ms ch r t' ms' ch' l f =
@@ -149,7 +156,7 @@ followed_from c os t t₁ ms ch r t' ms' ch' l f =
     }
 
 -- an input with no fault, followed
-pub walk_followed : (c : Corner) (os t ms ch : List ℕ) (r : Answer) (t' ms' ch' : List ℕ) → Good ≡ input_judged c os (length t) (length ms) (length ch)
+pub walk_followed : (c : Corner) (os t ms ch : List ℕ) (r : Answer) (t' ms' ch' : List ℕ) → Ok tt ≡ input_judged c os (length t) (length ms) (length ch)
     → Followed c os t ms ch r t' ms' ch' → WalkIs c os t ms ch r t' ms' ch'
 walk_followed c os t ms ch r t' ms' ch' e f =
     let R : Judged = room_from (records_in (length t)) c 0 [] os in

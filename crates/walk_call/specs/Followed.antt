@@ -1,7 +1,7 @@
 -- What the operations of a walk leave.
 -- Assumes nothing.
 use Rattle.std.specs.Prelude.{List, [], ◌≡◌, ℕ, length}
-use Rattle.answer.specs.declared.Answer.{Answer}
+use Rattle.answer.specs.Answers.{Answer}
 use Rattle.walk.specs.Walk.{room_from, facts_of, answer_by, buffer_by}
 use Rattle.grid.specs.declared.Corner.{Corner}
 use Rattle.layout.specs.Marks.{marks_of, chain_of}

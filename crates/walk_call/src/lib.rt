@@ -1,8 +1,7 @@
 // The walk: any operations, judged in a lent table.
 #![tactic(auto)]
 
-ghost use Rattle.std.specs.Prelude.{[], ◌≡◌, ◌*◌, ◌^◌, ◌<◌, ◌≤◌, length, replicate};
-ghost use Rattle.answer.specs.declared.Judged.TheVariants.{Good};
+ghost use Rattle.std.specs.Prelude.{[], ◌≡◌, ◌*◌, ◌^◌, ◌<◌, ◌≤◌, length, Ok, replicate};
 ghost use Rattle.walk.specs.Walk.{WalkIs};
 ghost use Rattle.answer.specs.Limits.{most_input, Near};
 ghost use Rattle.layout.specs.Marks.{mark_words};
@@ -12,9 +11,8 @@ ghost use Rattle.walk_step.specs.Walks.{fresh};
 ghost use Rattle.steps.specs.Operations.{operations_judged};
 ghost use Rattle.walk_call.specs.Followed.{Followed};
 
-use answer::{Answer, Judged, Refusal};
+use answer::{Facts, Refusal};
 use grid::Corner;
-use walk_run::Ran;
 
 // Marks and chain zero.
 fn clear(marks: &mut [u32], chain: &mut [u8])
@@ -33,23 +31,27 @@ fn go_on(
     t: &mut [u32],
     marks: &mut [u32],
     chain: &mut [u8],
-) -> Answer
+) -> Result<Facts, Refusal>
     requires near { Near start × Walked t.old start [] (fresh start node).spot × (length t.old < 2 ^ 32) }
     requires marks_len { (length marks.old ≡ mark_words * length ops.now) × (length chain.old ≡ length ops.now)
         × (length ops.now ≤ most_input) }
-    requires ops_value { operations_judged 0 0 ops.now ≡ Good }
+    requires ops_value { operations_judged 0 0 ops.now ≡ Ok tt }
     ensures { Followed start ops.now t.old marks.old chain.old result
         t.new marks.new chain.new }
 {
-    match walk_run::run(start, node, ops, t, marks, chain) {
-        Ran::Full(i) => Answer::Refused(Refusal::NoRoom(i)),
-        Ran::All(w) => Answer::Accepted(walk_facts::facts(start, chain, w)),
-    }
+    let w = walk_run::run(start, node, ops, t, marks, chain)?;
+    Ok(walk_facts::facts(start, chain, w))
 }
 
 // Follows operations that have no fault from start, in a table of zeros.
-fn set_out(start: Corner, ops: &[u8], t: &mut [u32], marks: &mut [u32], chain: &mut [u8]) -> Answer
-    requires chain_value { input_judged start ops.now (length t.old) (length marks.old) (length chain.old) ≡ Good }
+fn set_out(
+    start: Corner,
+    ops: &[u8],
+    t: &mut [u32],
+    marks: &mut [u32],
+    chain: &mut [u8],
+) -> Result<Facts, Refusal>
+    requires chain_value { input_judged start ops.now (length t.old) (length marks.old) (length chain.old) ≡ Ok tt }
     requires t_value { t.old ≡ replicate (length t.old) 0 }
     ensures { Followed start ops.now t.old marks.old chain.old result
         t.new marks.new chain.new }
@@ -57,7 +59,7 @@ fn set_out(start: Corner, ops: &[u8], t: &mut [u32], marks: &mut [u32], chain: &
     let at = walk_plant::plant(t, start);
     if at == 0 {
         clear(marks, chain);
-        return Answer::Refused(Refusal::NoRoom(0));
+        return Err(Refusal::NoRoom(0));
     }
     go_on(start, at - 1, ops, t, marks, chain)
 }
@@ -72,14 +74,11 @@ pub fn follow(
     t: &mut [u32],
     marks: &mut [u32],
     chain: &mut [u8],
-) -> Answer
+) -> Result<Facts, Refusal>
     ensures { WalkIs start ops.now t.old marks.old chain.old result t.new
         marks.new chain.new }
 {
-    let j = walk_input::input(start, ops, t.len(), marks.len(), chain.len());
-    if let Judged::Refused(r) = j {
-        return Answer::Refused(r);
-    }
+    walk_input::input(start, ops, t.len(), marks.len(), chain.len())?;
     walk_table::zero(t);
     set_out(start, ops, t, marks, chain)
 }
@@ -91,14 +90,11 @@ pub fn follow_clear(
     t: &mut [u32],
     marks: &mut [u32],
     chain: &mut [u8],
-) -> Answer
+) -> Result<Facts, Refusal>
     requires { t.old ≡ replicate (length t.old) 0 }
     ensures { WalkIs start ops.now t.old marks.old chain.old result t.new
         marks.new chain.new }
 {
-    let j = walk_input::input(start, ops, t.len(), marks.len(), chain.len());
-    if let Judged::Refused(r) = j {
-        return Answer::Refused(r);
-    }
+    walk_input::input(start, ops, t.len(), marks.len(), chain.len())?;
     set_out(start, ops, t, marks, chain)
 }

@@ -12,16 +12,6 @@ ghost use Rattle.walk_change.specs.Above.{ParentHeld, LinkedAbove};
 use walk_step::Spot;
 use walk_table::{Record, word};
 
-// 1, unless the two are the same.
-fn one_unless(x: usize, y: usize) -> u32
-    ensures { result ≡ tally (not (eqb x y)) }
-{
-    if x == y {
-        return 0;
-    }
-    1
-}
-
 // Whether the link of the parents, in the direction d of the parent of u, is the step's.
 fn links_up(t: &[u32], u: usize, d: usize, step: u32) -> bool
     requires { HasRecord t.now u × (d < 4) × ParentHeld t.now u }
@@ -29,10 +19,7 @@ fn links_up(t: &[u32], u: usize, d: usize, step: u32) -> bool
         && eqb (get_or t.now (word_at (get_or t.now (word_at u parent_word) 0 - 1) (link_word d)) 0) step) }
 {
     let up = word(t, u, Record::PARENT) as usize;
-    if up == 0 {
-        return false;
-    }
-    word(t, up - 1, Record::LINK_STEP + d) == step
+    up != 0 && word(t, up - 1, Record::LINK_STEP + d) == step
 }
 
 // The two nodes of one level, and how many of them are not an end of the level below.
@@ -52,7 +39,7 @@ fn rise(t: &[u32], u: usize, v: usize, d: usize) -> Level
 {
     let above = word(t, u, Record::PARENT) as usize - 1;
     let beside = word(t, above, Record::NEIGHBOUR + d) as usize - 1;
-    let count = one_unless(above, v) + one_unless(beside, u);
+    let count = u32::from(above != v) + u32::from(beside != u);
     Level {
         u: above,
         v: beside,
@@ -66,11 +53,8 @@ fn above_made(t: &[u32], u: usize, v: usize, step: u32) -> u32
     ensures { result ≡ tally (eqb (get_or t.now (word_at v need_word) 0) step
         && not (eqb (get_or t.now (word_at v parent_word) 0) (u + 1))) }
 {
-    if word(t, v, Record::NEED) == step {
-        let up = word(t, v, Record::PARENT) as usize;
-        return one_unless(up, u + 1);
-    }
-    0
+    let made = word(t, v, Record::NEED) == step;
+    u32::from(made && word(t, v, Record::PARENT) as usize != u + 1)
 }
 
 // How many records the last step changed, which went in the direction d: its two ends, the ends of the links that it made above

@@ -3,7 +3,7 @@
 #![tactic(auto)]
 
 ghost use Rattle.std.specs.Prelude.{◌≡◌, ◌<◌, ◌≤◌, nat_abs, ◌+ℤ◌};
-ghost use Rattle.grid.specs.Grid.{same, stepped, east_of, north_of};
+ghost use Rattle.grid.specs.Grid.{stepped, east_of, north_of};
 ghost use Rattle.walk_corner.specs.Moves.{difference_of, parted_by};
 ghost use Rattle.grid.specs.Tree.{up_by, half_of, parent_of, is_root, slot_of, child_word};
 
@@ -28,10 +28,8 @@ pub fn up_by(c: Corner, i: usize) -> Corner
     ensures { result ≡ up_by i c }
 {
     let mut at = c;
-    let mut k: usize = 0;
-    while k < i {
+    for _ in 0..i {
         at = parent_of(at);
-        k += 1;
     }
     at
 }
@@ -40,7 +38,7 @@ pub fn up_by(c: Corner, i: usize) -> Corner
 fn difference(a: bool, b: bool) -> i32
     ensures { result ≡ difference_of a b }
 {
-    a as i32 - b as i32
+    i32::from(a) - i32::from(b)
 }
 
 // What the step d adds to x.
@@ -75,7 +73,7 @@ pub fn moved(c: Corner, d: u8) -> Corner
 }
 
 // 1 + the child's index on one axis.
-fn slot_of(x: i32) -> u32
+fn slot_of(x: i32) -> usize
     ensures { result ≡ slot_of x }
 {
     if x == -1 {
@@ -91,35 +89,14 @@ fn slot_of(x: i32) -> u32
 pub fn child_word(e: Corner) -> usize
     ensures { result ≡ child_word e }
 {
-    let x = slot_of(e.0) as usize;
-    let y = slot_of(e.1) as usize;
-    1 + 3 * x + y
+    1 + 3 * slot_of(e.0) + slot_of(e.1)
 }
 
 // Whether c is the root.
 pub fn is_root(c: Corner) -> bool
     ensures { result ≡ is_root c }
 {
-    if c.0 == 0 {
-        if c.1 == 0 { true } else { false }
-    } else {
-        false
-    }
-}
-
-// Whether a and b are one corner.
-pub fn alike(a: Corner, b: Corner) -> bool
-    ensures { result ≡ same a b }
-{
-    let x = a.0;
-    let y = a.1;
-    if x != b.0 {
-        return false;
-    }
-    if y != b.1 {
-        return false;
-    }
-    true
+    c == Corner(0, 0)
 }
 
 // Whether neither c nor its neighbour in the direction d is the root, and their parents differ. The parents alone show it: those
@@ -129,5 +106,5 @@ pub fn parted(c: Corner, d: u8) -> bool
     ensures { result ≡ parted_by d c }
 {
     let e = moved(c, d);
-    !alike(parent_of(c), parent_of(e))
+    parent_of(c) != parent_of(e)
 }

@@ -1,30 +1,27 @@
--- The area, the verdict and the facts, as the proofs of the code cite them.
+-- The area and the facts, as the proofs of the code cite them.
 -- Assumes nothing.
-use mathlib.Core.Bool.{Bool, true, false, cond, ◌&&◌}
+use mathlib.Core.Bool.{Bool, true, cond}
 use mathlib.Core.List.{List}
 use mathlib.Core.Path.{◌≡◌, refl, ap, ap₂, sym, subst, ◌∙◌}
 use Prim.Native.Nat.{ℕ, zero, suc, ◌+◌, ◌*◌, ◌<◌, ◌≤◌}
 use native.Mathlib.Omega.{arith}
-use borrow.Author.Tests.{eq-eqb, ne_eqb}
-use lib.Dec.{eqb}
-use lib.IntN.{ℤ, pos, negsuc, neg_ℤ, nat_abs, ◌+ℤ◌, ◌-ℤ◌, ◌*ℤ◌, +ℤ_idr, +ℤ_assoc, +ℤ_invr, *ℤ-zero, *ℤ-negsuc, pos-*ℤ-pos, negsuc-*ℤ-pos}
-use lib.ListN.{length, take, drop, get_or, drop_of_length-le}
-use lib.Seq.{drop-cons, get_or-take, length-take-le}
+use borrow.Author.Tests.{eq-eqb}
+use lib.IntN.{ℤ, pos, negsuc, neg_ℤ, nat_abs, ◌+ℤ◌, ◌-ℤ◌, ◌*ℤ◌, +ℤ_assoc, +ℤ_invr, *ℤ-zero, *ℤ-negsuc, pos-*ℤ-pos, negsuc-*ℤ-pos}
+use lib.ListN.{length, take, drop, get_or}
+use lib.Seq.{drop-cons}
 use Rattle.answer.specs.declared.Verdict.{Verdict}
-use Rattle.answer.specs.declared.Verdict.TheVariants.{Nowhere, Open, Room, OpenMeeting, ClosedMeeting, ThereAndBack}
+use Rattle.answer.specs.declared.Verdict.TheVariants.{Room, ThereAndBack}
 use Rattle.grid.specs.declared.Corner.{Corner}
-use Rattle.grid.specs.Grid.{stepped, same, corners_from, end_from, north_of}
+use Rattle.grid.specs.Grid.{stepped, same, end_from, north_of}
 use Rattle.walk_step.specs.Tallies.{Says}
 use Rattle.trace.specs.Meeting.{Meeting, none, meet, meeting_of, meeting_j, meeting_k}
-use Rattle.trace.specs.Verdict.{only_ends, round_by, verdict_by, sweep_from, area_by}
+use Rattle.trace.specs.Verdict.{round_by, verdict_by, sweep_from, area_by}
 use Rattle.grid.proofs.BoundLaws.{stepped_bound}
 use Rattle.int_laws.proofs.NextLaws.{suc_sub, pred_sub}
 use Rattle.int_laws.proofs.RangeLaws.{abs+, abs_neg}
-use Rattle.answer.specs.declared.Facts.{Facts}
 use Rattle.answer.specs.declared.PartyFacts.{PartyFacts}
-use Rattle.answer.specs.Limits.{most_steps, no_meeting, most_start, farthest}
-use Rattle.tree.specs.Nodes.{nodes_of}
-use Rattle.walk.specs.Walk.{facts_of, party_facts_of}
+use Rattle.answer.specs.Limits.{most_steps, most_start, farthest}
+use Rattle.walk.specs.Walk.{party_facts_of}
 use Rattle.walk_step.specs.declared.Tally.{Tally}
 use Rattle.walk_facts.specs.Settled.{gain, WalkOver}
 
@@ -66,94 +63,21 @@ gain_bound (suc (suc (suc d))) x = omega (arith, ap nat_abs (*ℤ-negsuc x 0 ∙
 sum_bound : (sum x : ℤ) (d i : ℕ) → nat_abs sum ≤ i * farthest → nat_abs x ≤ farthest → nat_abs (sum +ℤ gain d x) ≤ (i + 1) * farthest
 sum_bound sum x d i h k = omega (arith, abs+ sum (gain d x), gain_bound d x)
 
--- one step more of the sum over the first n steps
-pub sweep_again : (chain : List ℕ) (n i : ℕ) (at at' : Corner) (sum sum' w : ℤ) → n ≤ length chain → n ≤ most_steps → i < n → nat_abs at.0 ≤ most_start + i → nat_abs at.1 ≤ most_start + i → nat_abs sum ≤ i * farthest
-    → w ≡ sum +ℤ sweep_from at (drop i (take n chain)) → at' ≡ stepped (get_or chain i 0) at → sum' ≡ sum +ℤ gain (get_or chain i 0) at.0
-    → (nat_abs at'.0 ≤ most_start + (i + 1)) × (nat_abs at'.1 ≤ most_start + (i + 1)) × (nat_abs sum' ≤ (i + 1) * farthest) × (w ≡ sum' +ℤ sweep_from at' (drop (i + 1) (take n chain)))
-sweep_again chain n i at at' sum sum' w long few more x y z e p q =
-    let d = get_or chain i 0 in
-    let h = stepped_bound d at in
-    let l : i < length (take n chain) = omega (arith, length-take-le n chain long) in
-    let g : get_or (take n chain) i 0 ≡ d = get_or-take n chain i 0 more in
-    let f = sweep_next w sum at (take n chain) i l e in (
+-- one step more of the sum
+pub sweep_again : (ds : List ℕ) (i : ℕ) (at at' : Corner) (sum sum' w : ℤ) → length ds ≤ most_steps → i < length ds → nat_abs at.0 ≤ most_start + i → nat_abs at.1 ≤ most_start + i → nat_abs sum ≤ i * farthest
+    → w ≡ sum +ℤ sweep_from at (drop i ds) → at' ≡ stepped (get_or ds i 0) at → sum' ≡ sum +ℤ gain (get_or ds i 0) at.0
+    → (nat_abs at'.0 ≤ most_start + (i + 1)) × (nat_abs at'.1 ≤ most_start + (i + 1)) × (nat_abs sum' ≤ (i + 1) * farthest) × (w ≡ sum' +ℤ sweep_from at' (drop (i + 1) ds))
+sweep_again ds i at at' sum sum' w few more x y z e p q =
+    let d = get_or ds i 0 in
+    let h = stepped_bound d at in (
       subst (λ (a : Corner). nat_abs a.0 ≤ most_start + (i + 1)) (sym p) (omega (arith, h.0)),
       subst (λ (a : Corner). nat_abs a.1 ≤ most_start + (i + 1)) (sym p) (omega (arith, h.1)),
       subst (λ (a : ℤ). nat_abs a ≤ (i + 1) * farthest) (sym q) (sum_bound sum at.0 d i z (omega arith)),
-      f
-          ∙ ap (λ (k : ℕ). (sum +ℤ gain k at.0) +ℤ sweep_from (stepped k at) (drop (i + 1) (take n chain))) g
-          ∙ ap₂ (λ (a : ℤ) (b : Corner). a +ℤ sweep_from b (drop (i + 1) (take n chain))) (sym q) (sym p),
+      sweep_next w sum at ds i more e ∙ ap₂ (λ (a : ℤ) (b : Corner). a +ℤ sweep_from b (drop (i + 1) ds)) (sym q) (sym p),
     )
 
-pub sweep_end : (chain : List ℕ) (n i : ℕ) (at : Corner) (sum w : ℤ) → n ≤ length chain → n ≤ i → w ≡ sum +ℤ sweep_from at (drop i (take n chain)) → sum ≡ w
-sweep_end chain n i at sum w long h e =
-    let l : length (take n chain) ≤ i = omega (arith, length-take-le n chain long) in
-    sym (e ∙ ap (λ (x : List ℕ). sum +ℤ sweep_from at x) (drop_of_length-le (take n chain) l) ∙ +ℤ_idr sum)
-
--- ---- the verdict
-module _ (m : Meeting) (j k n : ℕ) (s : Says m j k) where
-  pub verdict_nowhere : (b : Bool) → n ≡ 0 → Nowhere ≡ verdict_by n b m
-  verdict_nowhere b e = ap (λ (l : ℕ). verdict_by l b m) (sym e)
-
-  module _ (some : n ≡ 0 → ⊥) where
-    pub verdict_open : (b : Bool) → b ≡ false → k ≡ no_meeting → Open ≡ verdict_by n b m
-    verdict_open b e q = go n some m s
-      where
-        go : (n : ℕ) → (n ≡ 0 → ⊥) → (m : Meeting) → Says m j k → Open ≡ verdict_by n b m
-        go zero f m s = absurd (f refl)
-        go (suc n) f none s = rw (e, verdict_by)
-        go (suc n) f (meet a c) s = absurd (omega (arith, s.1, s.2, q))
-
-    pub verdict_meets : (b : Bool) → b ≡ false → (k ≡ no_meeting → ⊥) → OpenMeeting ≡ verdict_by n b m
-    verdict_meets b e q = go n some m s
-      where
-        go : (n : ℕ) → (n ≡ 0 → ⊥) → (m : Meeting) → Says m j k → OpenMeeting ≡ verdict_by n b m
-        go zero f m s = absurd (f refl)
-        go (suc n) f none s = absurd (q s.1)
-        go (suc n) f (meet a c) s = rw (e, verdict_by)
-
-    verdict_round : (b : Bool) → b ≡ true → j ≡ 0 → k ≡ n → round_by n ≡ verdict_by n b m
-    verdict_round b e p q = go n some q m s
-      where
-        go : (n : ℕ) → (n ≡ 0 → ⊥) → k ≡ n → (m : Meeting) → Says m j k → round_by n ≡ verdict_by n b m
-        go zero f q m s = absurd (f refl)
-        go (suc n) f q none s = absurd (omega (arith, s.0, p))
-        go (suc n) f q (meet a c) s = rw (e, verdict_by) (rw (eq-eqb a 0 (sym s.0 ∙ p), eq-eqb c (suc n) (sym s.1 ∙ q)))
-
-    pub verdict_back : (b : Bool) → b ≡ true → j ≡ 0 → k ≡ n → n ≡ 2 → ThereAndBack ≡ verdict_by n b m
-    verdict_back b e p q l = sym (ap (λ (b : Bool). cond b ThereAndBack Room) (eq-eqb n 2 l)) ∙ verdict_round b e p q
-
-    pub verdict_room : (b : Bool) → b ≡ true → j ≡ 0 → k ≡ n → (n ≡ 2 → ⊥) → Room ≡ verdict_by n b m
-    verdict_room b e p q f = sym (ap (λ (b : Bool). cond b ThereAndBack Room) (ne_eqb n 2 f)) ∙ verdict_round b e p q
-
-    pub verdict_crossed : (b : Bool) → b ≡ true → only_ends n m ≡ false → ClosedMeeting ≡ verdict_by n b m
-    verdict_crossed b e g = go n some g
-      where
-        go : (n : ℕ) → (n ≡ 0 → ⊥) → only_ends n m ≡ false → ClosedMeeting ≡ verdict_by n b m
-        go zero f g = absurd (f refl)
-        go (suc n) f g = rw (e, verdict_by) (rw g)
-
-and_none : (a : Bool) → (a && false) ≡ false
-and_none true = refl
-and_none false = refl
-
-pub ends-first : (m : Meeting) (j k n : ℕ) → Says m j k → (j ≡ 0 → ⊥) → only_ends n m ≡ false
-ends-first none j k n s f = refl
-ends-first (meet a c) j k n s f = rw (ne_eqb a 0 (λ e. f (s.0 ∙ e)))
-
-pub ends_last : (m : Meeting) (j k n : ℕ) → Says m j k → (k ≡ n → ⊥) → only_ends n m ≡ false
-ends_last none j k n s f = refl
-ends_last (meet a c) j k n s f = rw (ne_eqb c n (λ e. f (s.1 ∙ e))) (and_none (eqb a 0))
-
-pub area_none : (v : Verdict) (z : ℤ) → (v ≡ Room → ⊥) → pos 0 ≡ area_by v z
-area_none Nowhere z f = refl
-area_none Open z f = refl
-area_none Room z f = absurd (f refl)
-area_none OpenMeeting z f = refl
-area_none ClosedMeeting z f = refl
-area_none ThereAndBack z f = refl
-
 -- ---- the facts
-abbrev pub party_facts_with : Verdict → ℕ → ℕ → ℕ → ℕ → ℤ → Corner → PartyFacts
+abbrev party_facts_with : Verdict → ℕ → ℕ → ℕ → ℕ → ℤ → Corner → PartyFacts
 party_facts_with v n s j k a l = record { verdict = v; steps = n; corners = s; j = j; k = k; area = a; last = l }
 
 party_equal : {v v' : Verdict} {n n' s s' j j' k k' : ℕ} {a a' : ℤ} {l l' : Corner}
@@ -179,10 +103,15 @@ party_are c ch ds n last t k v b a p f q g e =
     let z : take n ch ≡ ds = ap (λ (n : ℕ). take n ch) k.steps ∙ sym k.own.kept in
     e ∙ party_equal x k.steps k.counted.seen (says_j m t.j t.k s) (says_k m t.j t.k s) (q ∙ ap₂ (λ (y : Verdict) (l : List ℕ). area_by y (sweep_from c l)) x z) k.corner
 
--- with the nodes
-abbrev facts_with : PartyFacts → ℕ → ℤ → Facts
-facts_with f m a = record { verdict = f.verdict; steps = f.steps; nodes = m; corners = f.corners; j = f.j; k = f.k; area = a; last = f.last }
+-- there and back: a closed walk of two steps whose first meeting is at its ends
+module _ (m : Meeting) (j k n : ℕ) (s : Says m j k) (some : n ≡ 0 → ⊥) where
+  verdict_round : (b : Bool) → b ≡ true → j ≡ 0 → k ≡ n → round_by n ≡ verdict_by n b m
+  verdict_round b e p q = go n some q m s
+    where
+      go : (n : ℕ) → (n ≡ 0 → ⊥) → k ≡ n → (m : Meeting) → Says m j k → round_by n ≡ verdict_by n b m
+      go zero f q m s = absurd (f refl)
+      go (suc n) f q none s = absurd (omega (arith, s.0, p))
+      go (suc n) f q (meet a c) s = rw (e, verdict_by) (rw (eq-eqb a 0 (sym s.0 ∙ p), eq-eqb c (suc n) (sym s.1 ∙ q)))
 
-pub facts_are : (c : Corner) (ds : List ℕ) (f : PartyFacts) (m : ℕ) (a : ℤ) (l : Corner) → f ≡ party_facts_of c ds → m ≡ length (nodes_of (corners_from c ds)) → a ≡ f.area → l ≡ end_from c ds
-    → record { verdict = f.verdict; steps = f.steps; nodes = m; corners = f.corners; j = f.j; k = f.k; area = a; last = l } ≡ facts_of c ds
-facts_are c ds f m a l e n x y = ap₂ (λ (b : ℤ) (z : Corner). record { verdict = f.verdict; steps = f.steps; nodes = m; corners = f.corners; j = f.j; k = f.k; area = b; last = z }) x (y ∙ ap (λ (g : PartyFacts). g.last) (sym e)) ∙ ap₂ (λ (g : PartyFacts) (b : ℕ). facts_with g b g.area) e n
+  pub verdict_back : (b : Bool) → b ≡ true → j ≡ 0 → k ≡ n → n ≡ 2 → ThereAndBack ≡ verdict_by n b m
+  verdict_back b e p q l = sym (ap (λ (b : Bool). cond b ThereAndBack Room) (eq-eqb n 2 l)) ∙ verdict_round b e p q

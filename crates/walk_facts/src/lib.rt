@@ -1,7 +1,7 @@
 // The facts of an accepted walk: its verdict, its area, and what it counted.
 #![tactic(auto)]
 
-ghost use Rattle.std.specs.Prelude.{List, ◌≡◌, ℕ, ◌*◌, ◌<◌, ◌≤◌, nat_abs, ◌+ℤ◌, length, take};
+ghost use Rattle.std.specs.Prelude.{List, ◌≡◌, ℕ, ◌*◌, ◌<◌, ◌≤◌, nat_abs, ◌+ℤ◌, length};
 ghost use Rattle.walk.specs.Walk.{facts_of, party_facts_of};
 ghost use Rattle.answer.specs.Limits.{most_steps, no_meeting, farthest, Near};
 ghost use Rattle.walk_step.specs.Tallies.{Says};
@@ -21,32 +21,29 @@ fn gained(sum: i32, x: i32, d: u8) -> i32
     sum + x * walk_corner::north(d)
 }
 
-// The sum over the first n steps of x times the change of y.
-fn sweep(start: Corner, chain: &[u8], n: usize) -> i32
-    requires { Near start × (n ≤ length chain.now) × (n ≤ most_steps) }
-    ensures { result ≡ sweep_from start (take n chain.now) }
+// The sum over the steps of x times the change of y.
+fn sweep(start: Corner, steps: &[u8]) -> i32
+    requires { Near start × (length steps.now ≤ most_steps) }
+    ensures { result ≡ sweep_from start steps.now }
 {
     let mut at = start;
-    let mut sum: i32 = 0;
-    let mut i: usize = 0;
-    while i < n {
-        let d = chain[i];
+    let mut sum = 0;
+    for &d in steps {
         sum = gained(sum, at.0, d);
         at = walk_corner::moved(at, d);
-        i += 1;
     }
     sum
 }
 
-// The signed area of the first n steps: 0 if they are not a room.
-fn area(start: Corner, chain: &[u8], n: usize, v: Verdict) -> i32
-    requires { Near start × (n ≤ length chain.now) × (n ≤ most_steps) }
-    ensures { result ≡ area_by v (sweep_from start (take n chain.now)) }
+// The signed area of the steps: 0 if they are not a room.
+fn area(start: Corner, steps: &[u8], v: Verdict) -> i32
+    requires { Near start × (length steps.now ≤ most_steps) }
+    ensures { result ≡ area_by v (sweep_from start steps.now) }
 {
-    if let Verdict::Room = v {
-        return sweep(start, chain, n);
+    match v {
+        Verdict::Room => sweep(start, steps),
+        _ => 0,
     }
-    0
 }
 
 // The verdict on n steps with the first meeting (j, k).
@@ -54,25 +51,14 @@ fn verdict(n: usize, closed: bool, j: usize, k: usize) -> Verdict
     requires { n < no_meeting }
     ensures { (m : Meeting) → Says m j k → result ≡ verdict_by n closed m }
 {
-    if n == 0 {
-        return Verdict::Nowhere;
+    match (n, closed) {
+        (0, _) => Verdict::Nowhere,
+        (_, false) if k == Tally::NO_MEETING => Verdict::Open,
+        (_, false) => Verdict::OpenMeeting,
+        _ if j != 0 || k != n => Verdict::ClosedMeeting,
+        (2, _) => Verdict::ThereAndBack,
+        _ => Verdict::Room,
     }
-    if !closed {
-        if k == Tally::NO_MEETING {
-            return Verdict::Open;
-        }
-        return Verdict::OpenMeeting;
-    }
-    if j != 0 {
-        return Verdict::ClosedMeeting;
-    }
-    if k != n {
-        return Verdict::ClosedMeeting;
-    }
-    if n == 2 {
-        return Verdict::ThereAndBack;
-    }
-    Verdict::Room
 }
 
 // The facts of n steps from start, which stand in the chain and end at the corner last: all but the nodes. They are closed if
@@ -81,8 +67,8 @@ pub fn party_facts(start: Corner, chain: &[u8], n: usize, last: Corner, tally: T
     requires { SomeOver start chain.now n last tally }
     ensures { (ds : List ℕ) → WalkOver start chain.now ds n last tally → result ≡ party_facts_of start ds }
 {
-    let v = verdict(n, walk_corner::alike(last, start), tally.j, tally.k);
-    let a = area(start, chain, n, v);
+    let v = verdict(n, last == start, tally.j, tally.k);
+    let a = area(start, &chain[..n], v);
     PartyFacts {
         verdict: v,
         steps: n,
@@ -100,18 +86,15 @@ pub fn facts(start: Corner, chain: &[u8], w: Walk) -> Facts
     ensures { (ds : List ℕ) → Settled start chain.now ds w → result ≡ facts_of start ds }
 {
     let spot = w.spot;
-    let tally = w.tally;
-    let last = spot.at;
-    let f = party_facts(start, chain, spot.steps, last, tally);
-    let v = f.verdict;
+    let f = party_facts(start, chain, spot.steps, spot.at, w.tally);
     Facts {
-        verdict: v,
+        verdict: f.verdict,
         steps: f.steps,
         nodes: spot.nodes,
         corners: f.corners,
         j: f.j,
         k: f.k,
         area: f.area,
-        last,
+        last: f.last,
     }
 }

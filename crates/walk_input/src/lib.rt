@@ -6,28 +6,21 @@ ghost use Rattle.walk.specs.Walk.{table_fits};
 ghost use Rattle.steps.specs.Operations.{fault_of, operations_judged, after, Fine};
 ghost use Rattle.walk_input.specs.Input.{input_judged};
 
-use answer::{Judged, Refusal, start_fits};
+use answer::{Refusal, start_fits};
 use grid::Corner;
 use walk_step::Walk;
 use walk_table::Record;
 
 // What is wrong with the operation at place i, if this many steps survive.
-pub fn fault(op: u8, steps: usize, i: usize) -> Judged
+pub fn fault(op: u8, steps: usize, i: usize) -> Result<(), Refusal>
     ensures { result ≡ fault_of i steps op }
 {
-    if op > 4 {
-        return Judged::Refused(Refusal::BadDigit(i));
+    match op {
+        0..=3 if steps >= Walk::MOST_STEPS => Err(Refusal::TooLong(i)),
+        4 if steps == 0 => Err(Refusal::NothingToTake(i)),
+        0..=4 => Ok(()),
+        _ => Err(Refusal::BadDigit(i)),
     }
-    if op == 4 {
-        if steps == 0 {
-            return Judged::Refused(Refusal::NothingToTake(i));
-        }
-        return Judged::Good;
-    }
-    if steps < Walk::MOST_STEPS {
-        return Judged::Good;
-    }
-    Judged::Refused(Refusal::TooLong(i))
 }
 
 // How many steps survive an operation that has no fault.
@@ -36,75 +29,60 @@ pub fn survive(op: u8, steps: usize) -> usize
     requires steps_bound { steps < 2 ^ 63 }
     ensures { result ≡ after steps op }
 {
-    if op == 4 {
-        return steps - 1;
-    }
-    steps + 1
+    if op == 4 { steps - 1 } else { steps + 1 }
 }
 
 // The first fault of the operations, one after the other.
-fn first_fault(ops: &[u8]) -> Judged
+fn first_fault(ops: &[u8]) -> Result<(), Refusal>
     ensures { result ≡ operations_judged 0 0 ops.now }
 {
-    let mut steps: usize = 0;
-    let mut i: usize = 0;
-    while i < ops.len() {
-        let op = ops[i];
-        let f = fault(op, steps, i);
-        if let Judged::Refused(_) = f {
-            return f;
-        }
+    let mut steps = 0;
+    for (i, &op) in ops.iter().enumerate() {
+        fault(op, steps, i)?;
         steps = survive(op, steps);
-        i += 1;
     }
-    Judged::Good
+    Ok(())
 }
 
 // The first fault of the operations. If all are steps, and not too many, there is none.
-fn operations(ops: &[u8]) -> Judged
+fn operations(ops: &[u8]) -> Result<(), Refusal>
     ensures { result ≡ operations_judged 0 0 ops.now }
 {
-    if ops.len() > Walk::MOST_STEPS {
+    if ops.len() > Walk::MOST_STEPS || order::highest(ops) > 3 {
         return first_fault(ops);
     }
-    if order::highest(ops) > 3 {
-        return first_fault(ops);
-    }
-    Judged::Good
+    Ok(())
 }
 
 // Whether the words are those of 1 to 131,148 records.
 fn table(words: usize) -> bool
     ensures { result ≡ table_fits words }
 {
-    if words % Record::WORDS != 0 {
-        return false;
-    }
-    if words / Record::WORDS < 1 {
-        return false;
-    }
-    words / Record::WORDS <= Walk::MOST_RECORDS
+    words % Record::WORDS == 0 && (1..=Walk::MOST_RECORDS).contains(&(words / Record::WORDS))
 }
 
 // Refusals 1, 2, 3 and 10, then 4, 5 and 6 at the first faulty place.
-pub fn input(start: Corner, ops: &[u8], words: usize, marks: usize, chain: usize) -> Judged
+pub fn input(
+    start: Corner,
+    ops: &[u8],
+    words: usize,
+    marks: usize,
+    chain: usize,
+) -> Result<(), Refusal>
     ensures { result ≡ input_judged start ops.now words marks chain }
 {
     let n = ops.len();
     if n > Walk::MOST_INPUT {
-        return Judged::Refused(Refusal::TooMany);
+        return Err(Refusal::TooMany);
     }
     if !table(words) {
-        return Judged::Refused(Refusal::Table);
+        return Err(Refusal::Table);
     }
-    if marks != Walk::MARK_WORDS * n {
-        return Judged::Refused(Refusal::ResultRoom);
-    }
-    if chain != n {
-        return Judged::Refused(Refusal::ResultRoom);
+    if marks != Walk::MARK_WORDS * n || chain != n {
+        return Err(Refusal::ResultRoom);
     }
     if !start_fits(start) {
-        return Judged::Refused(Refusal::StartRange);
+        return Err(Refusal::StartRange);
     }
     operations(ops)
 }

@@ -1,6 +1,7 @@
 // The neighbour of a node, found or made: a loop climbs to the parents until a link, the root or a shared parent is found, and a
-// loop comes down again. Nothing here calls itself. The answer is the node's ref, or 0 if the table is full. Afterwards the
-// number of nodes in use is the larger of the old number and that ref, because a new node is always the last.
+// loop comes down again. Nothing here calls itself. The answer is the node's ref, or 0 if the table is full: it is no Option,
+// because the laws of the table speak of refs, and 0 is that of no node. Afterwards the number of nodes in use is the larger of
+// the old number and that ref, because a new node is always the last.
 #![tactic(auto)]
 
 ghost use Rattle.std.specs.Prelude.{◌≡◌, false, cond, suc, ◌+◌, ◌^◌, ◌<◌, max, nat_abs, length, get_or, replicate};
@@ -137,19 +138,11 @@ fn come_down(
 {
     let mut at = u;
     let mut to = v;
-    let mut left = level;
-    while left > 0 {
-        left -= 1;
+    for left in (0..level).rev() {
         let a = walk_corner::up_by(c, left);
         at = word(t, at, walk_corner::child_word(a)) as usize - 1;
         let e = walk_corner::moved(a, d);
-        to = child(
-            t,
-            order::greater(nodes, to),
-            to - 1,
-            walk_corner::child_word(e),
-            step,
-        );
+        to = child(t, nodes.max(to), to - 1, walk_corner::child_word(e), step);
         if to == 0 {
             return to;
         }

@@ -29,10 +29,8 @@ fn grow(t: &mut [u32], c: Corner) -> usize
     requires { Near c × (t.old ≡ replicate (length t.old) 0) × (width ≤ length t.old) × (length t.old < 2 ^ 32) }
     ensures { Grown (length t.old) c t.new result }
 {
-    let mut left = depth(c);
-    let mut nodes: usize = 1;
-    while left > 0 {
-        left -= 1;
+    let mut nodes = 1;
+    for left in (0..depth(c)).rev() {
         let place = walk_corner::child_word(walk_corner::up_by(c, left));
         nodes = walk_lookup::child(t, nodes, nodes - 1, place, 0);
         if nodes == 0 {

@@ -1,5 +1,6 @@
 -- The laws of one operation, as its proof cites them.
 -- Assumes nothing.
+use Rattle.std.specs.Prelude.{None, Option, Some}
 use mathlib.Core.Bool.{Bool, true, false}
 use mathlib.Core.List.{List, [], ◌∷◌, ◌++◌}
 use mathlib.Core.Path.{◌≡◌, refl, ap, ap₂, sym, ◌∙◌, subst}
@@ -14,7 +15,6 @@ use Rattle.answer.specs.Limits.{most_steps}
 use Rattle.grid.specs.declared.Corner.{Corner}
 use Rattle.grid.specs.Grid.{same, corners_from, end_from}
 use Rattle.lists.specs.Lists.{count}
-use Rattle.walk_step.specs.declared.Moved.{Moved}
 use Rattle.walk_step.specs.declared.Walk.{Walk}
 use Rattle.walk_step.specs.Spots.{Walked}
 use Rattle.walk_step.specs.Walks.{Known, Advanced}
@@ -71,9 +71,9 @@ module _ (c : Corner) (t ch ds : List ℕ) (w : Walk) (k : Chained c t ch ds w) 
         subst (λ (l : List ℕ). Chained c t' (set ch w.spot.steps o) l v) (sym (operate_step ds o small))
         (record { known = h; own = keeps_step c ch ds k.own w.spot.steps k.known.walked.steps o small few place })
 
-    pub chained_applied : (words : ℕ) (t' : List ℕ) (r : Moved) → Advanced words t' c (ds ++ (o ∷ [])) r → Applied words c t' (set ch w.spot.steps o) (operate ds o) r
-    chained_applied words t' (Moved.To v) h = (chained_go t' v h.0, h.1)
-    chained_applied words t' Moved.Full h = (subst (λ (l : List ℕ). words < width * length (nodes_of (corners_from c l))) (sym (operate_step ds o small)) h.0, h.1)
+    pub chained_applied : (words : ℕ) (t' : List ℕ) (r : Option Walk) → Advanced words t' c (ds ++ (o ∷ [])) r → Applied words c t' (set ch w.spot.steps o) (operate ds o) r
+    chained_applied words t' (Some v) h = (chained_go t' v h.0, h.1)
+    chained_applied words t' None h = (subst (λ (l : List ℕ). words < width * length (nodes_of (corners_from c l))) (sym (operate_step ds o small)) h.0, h.1)
 
   -- its mark
   module _ (words : ℕ) (l : length t ≡ words) where
@@ -99,13 +99,13 @@ module _ (c : Corner) (t ch ds : List ℕ) (w : Walk) (k : Chained c t ch ds w) 
 
 -- one operation with its mark, from the answer to it
 module _ (words : ℕ) (ms : List ℕ) (i : ℕ) (c : Corner) (t ch cs ds : List ℕ) where
-  pub performed_full : (r : Moved) → r ≡ Moved.Full → Applied words c t ch ds r → (ms' : List ℕ) → Performed words ms i c t ms' ch cs ds Moved.Full
+  pub performed_full : (r : Option Walk) → r ≡ None → Applied words c t ch ds r → (ms' : List ℕ) → Performed words ms i c t ms' ch cs ds None
   performed_full r e h ms' = subst (λ y. Applied words c t ch ds y) e h
 
-  applied_to : (r : Moved) (v : Walk) → r ≡ Moved.To v → Applied words c t ch ds r → Chained c t ch ds v × (length t ≡ words)
+  applied_to : (r : Option Walk) (v : Walk) → r ≡ Some v → Applied words c t ch ds r → Chained c t ch ds v × (length t ≡ words)
   applied_to r v e h = subst (λ y. Applied words c t ch ds y) e h
 
-  module _ (r : Moved) (v : Walk) (e : r ≡ Moved.To v) (h : Applied words c t ch ds r) where
+  module _ (r : Option Walk) (v : Walk) (e : r ≡ Some v) (h : Applied words c t ch ds r) where
     -- if it was a step, the walk stands at the end of it
     pub applied_step : (o : ℕ) → Fine (length cs) o → ds ≡ operate cs o → StepDone t v.spot o
     applied_step o f q n =
@@ -128,5 +128,5 @@ module _ (words : ℕ) (ms : List ℕ) (i : ℕ) (c : Corner) (t ch cs ds : List
     pub applied_bounds : (word_at v.spot.node visits_word < length t) × (width * v.spot.nodes ≤ words)
     applied_bounds = let g = applied_to r v e h in chained_bounds c t ch ds v g.0 words g.1
 
-    pub performed_to : (ms' : List ℕ) (n : ℕ) → n ≡ changes_of c cs ds → ms' ≡ set (set (set ms (mark_words * i) v.spot.nodes) (mark_words * i + 1) (get_or t (word_at v.spot.node visits_word) 0)) (mark_words * i + 2) n → Performed words ms i c t ms' ch cs ds (Moved.To v)
+    pub performed_to : (ms' : List ℕ) (n : ℕ) → n ≡ changes_of c cs ds → ms' ≡ set (set (set ms (mark_words * i) v.spot.nodes) (mark_words * i + 1) (get_or t (word_at v.spot.node visits_word) 0)) (mark_words * i + 2) n → Performed words ms i c t ms' ch cs ds (Some v)
     performed_to ms' n z q = let g = applied_to r v e h in (g.0, g.1, chained_mark c t ch ds v g.0 cs ms ms' i n z q)

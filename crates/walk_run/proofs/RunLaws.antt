@@ -1,5 +1,6 @@
 -- The laws of a run, as its proof cites them: before operation i, the walk of those before it, and what is left to do.
 -- Assumes nothing.
+use Rattle.std.specs.Prelude.{Err, None, Ok, Option, Some}
 use mathlib.Core.List.{List, [], ◌∷◌, ◌++◌, append_assoc, append-nil}
 use mathlib.Core.Path.{◌≡◌, refl, ap, ap₂, sym, ◌∙◌, subst}
 use Prim.Native.Nat.{ℕ, suc, ◌+◌, ◌-◌, ◌*◌, ◌<◌, ◌≤◌}
@@ -7,13 +8,12 @@ use native.Mathlib.Omega.{arith}
 use lib.ListN.{length, length-append, take, drop, get_or, replicate, drop_of_length-le}
 use lib.Seq.{sets, length-sets, sets-eq, length-take-le, drop-cons, take_at, take_all}
 use Rattle.answer.specs.Limits.{Near}
-use Rattle.answer.specs.declared.Judged.TheVariants.{Good}
+use Rattle.answer.specs.declared.Refusal.TheVariants.{NoRoom}
 use Rattle.walk.specs.Walk.{room_from}
 use Rattle.grid.specs.declared.Corner.{Corner}
 use Rattle.grid.specs.Grid.{corners_from}
 use Rattle.layout.specs.Marks.{mark_words, mark_of, marks_of, marks_from}
 use Rattle.layout.specs.Table.{width, records_in}
-use Rattle.walk_step.specs.declared.Moved.{Moved}
 use Rattle.walk_step.specs.declared.Walk.{Walk}
 use Rattle.walk_step.specs.Spots.{Walked}
 use Rattle.walk_step.specs.Walks.{fresh}
@@ -22,7 +22,6 @@ use Rattle.tree.specs.Nodes.{nodes_of}
 use Rattle.steps.specs.Operations.{operate, survivors_from, survivors, fault_of, operations_judged, after, Fine}
 use Rattle.walk.proofs.RoomLaws.{room_full, room_fits, room_end}
 use Rattle.steps.proofs.SurvivorLaws.{fault_none, fault_step, after-length, length-operate}
-use Rattle.walk_run.specs.declared.Ran.{Ran}
 use Rattle.walk_run.specs.Runs.{Chained, Ready, Performed, PerformedAll, Ended}
 
 -- what stands before a run of stores, and the run
@@ -36,14 +35,14 @@ pub record Running (words : ℕ) (c : Corner) (ops t ms ch : List ℕ) (w : Walk
   pub steps : List ℕ
   pub chained : Chained c t ch steps w
   pub rest : survivors ops ≡ survivors_from steps (drop i ops)
-  pub fine : operations_judged i (length steps) (drop i ops) ≡ Good
+  pub fine : operations_judged i (length steps) (drop i ops) ≡ Ok tt
   pub fits : length (nodes_of (corners_from c steps)) ≤ records_in words
   pub room : room_from (records_in words) c 0 [] ops ≡ room_from (records_in words) c i steps (drop i ops)
   pub marked : marks_of c ops ≡ take (mark_words * i) ms ++ marks_from c steps (drop i ops)
   pub few : length steps ≤ i
 
 -- the start
-pub running_start : (c : Corner) (node : ℕ) (ops t ms ch : List ℕ) → Near c → Walked t c [] (fresh c node).spot → operations_judged 0 0 ops ≡ Good → (w : Walk) → w ≡ fresh c node → Running (length t) c ops t ms ch w 0
+pub running_start : (c : Corner) (node : ℕ) (ops t ms ch : List ℕ) → Near c → Walked t c [] (fresh c node).spot → operations_judged 0 0 ops ≡ Ok tt → (w : Walk) → w ≡ fresh c node → Running (length t) c ops t ms ch w 0
 running_start c node ops t ms ch n k f w q = subst (λ (v : Walk). Running (length t) c ops t ms ch v 0) (sym q) (record {
   steps = [];
   chained = record { known = record { walked = k; counted = record { seen = refl; met = (refl, refl) } }; own = keeps_none c ch n };
@@ -59,8 +58,8 @@ module _ (words : ℕ) (c : Corner) (ops t ms ch : List ℕ) (w : Walk) (i : ℕ
   left : drop i ops ≡ get_or ops i 0 ∷ drop (suc i) ops
   left = drop-cons ops i 0 more
 
-  faults : (fault_of i (length k.steps) (get_or ops i 0) ≡ Good) × (operations_judged (suc i) (after (length k.steps) (get_or ops i 0)) (drop (suc i) ops) ≡ Good)
-  faults = fault_step i (length k.steps) (get_or ops i 0) (drop (suc i) ops) (subst (λ (l : List ℕ). operations_judged i (length k.steps) l ≡ Good) left k.fine)
+  faults : (fault_of i (length k.steps) (get_or ops i 0) ≡ Ok tt) × (operations_judged (suc i) (after (length k.steps) (get_or ops i 0)) (drop (suc i) ops) ≡ Ok tt)
+  faults = fault_step i (length k.steps) (get_or ops i 0) (drop (suc i) ops) (subst (λ (l : List ℕ). operations_judged i (length k.steps) l ≡ Ok tt) left k.fine)
 
   pub running_ready : length ch ≡ length ops → Ready t ch w (get_or ops i 0)
   running_ready l = record {
@@ -76,7 +75,7 @@ module _ (words : ℕ) (c : Corner) (ops t ms ch : List ℕ) (w : Walk) (i : ℕ
   went = k.room ∙ ap (λ (l : List ℕ). room_from (records_in words) c i k.steps l) left ∙ room_fits (records_in words) c i k.steps (get_or ops i 0) (drop (suc i) ops) k.fits
 
   -- the table is full
-  pub running_full : (t' ms' ch' : List ℕ) (r : Moved) → ((ds : List ℕ) → Chained c t ch ds w → Performed words ms i c t' ms' ch' ds (operate ds (get_or ops i 0)) r) → r ≡ Moved.Full → PerformedAll words c ops t' ms' ch' (Ran.Full i)
+  pub running_full : (t' ms' ch' : List ℕ) (r : Option Walk) → ((ds : List ℕ) → Chained c t ch ds w → Performed words ms i c t' ms' ch' ds (operate ds (get_or ops i 0)) r) → r ≡ None → PerformedAll words c ops t' ms' ch' (Err (NoRoom i))
   running_full t' ms' ch' r f e =
       let h : (words < width * length (nodes_of (corners_from c (operate k.steps (get_or ops i 0))))) × (t' ≡ replicate words 0) = subst (λ y. Performed words ms i c t' ms' ch' k.steps (operate k.steps (get_or ops i 0)) y) e (f k.steps k.chained) in
       (went ∙ room_full (records_in words) c (suc i) (operate k.steps (get_or ops i 0)) (drop (suc i) ops) (over words (length (nodes_of (corners_from c (operate k.steps (get_or ops i 0))))) h.0), h.1)
@@ -85,7 +84,7 @@ module _ (words : ℕ) (c : Corner) (ops t ms ch : List ℕ) (w : Walk) (i : ℕ
       over a n p = omega arith
 
   -- the walk goes on, and is marked
-  pub running_next : (t' ms' ch' : List ℕ) (r : Moved) → ((ds : List ℕ) → Chained c t ch ds w → Performed words ms i c t' ms' ch' ds (operate ds (get_or ops i 0)) r) → (v : Walk) → r ≡ Moved.To v → mark_words * suc i ≤ length ms → (length t' ≡ words) × (length ms' ≡ length ms) × Running words c ops t' ms' ch' v (i + 1)
+  pub running_next : (t' ms' ch' : List ℕ) (r : Option Walk) → ((ds : List ℕ) → Chained c t ch ds w → Performed words ms i c t' ms' ch' ds (operate ds (get_or ops i 0)) r) → (v : Walk) → r ≡ Some v → mark_words * suc i ≤ length ms → (length t' ≡ words) × (length ms' ≡ length ms) × Running words c ops t' ms' ch' v (i + 1)
   running_next t' ms' ch' r f v e l =
       let o = get_or ops i 0 in
       let ds = operate k.steps o in
@@ -101,7 +100,7 @@ module _ (words : ℕ) (c : Corner) (ops t ms ch : List ℕ) (w : Walk) (i : ℕ
           steps = ds;
           chained = g.0;
           rest = k.rest ∙ ap (survivors_from k.steps) left ∙ ap (λ (j : ℕ). survivors_from ds (drop j ops)) n₃;
-          fine = subst (λ (j : ℕ). operations_judged j (length ds) (drop j ops) ≡ Good) n₃ (subst (λ (n : ℕ). operations_judged (suc i) n (drop (suc i) ops) ≡ Good) (after-length k.steps o) faults.1);
+          fine = subst (λ (j : ℕ). operations_judged j (length ds) (drop j ops) ≡ Ok tt) n₃ (subst (λ (n : ℕ). operations_judged (suc i) n (drop (suc i) ops) ≡ Ok tt) (after-length k.steps o) faults.1);
           fits = under v.spot.nodes a words (length t') h.count h.room g.1;
           room = went ∙ ap (λ (j : ℕ). room_from (records_in words) c j ds (drop j ops)) n₃;
           marked =
@@ -116,7 +115,7 @@ module _ (words : ℕ) (c : Corner) (ops t ms ch : List ℕ) (w : Walk) (i : ℕ
       under m n l q p s r = omega arith
 
 -- the end
-pub running_end : (words : ℕ) (c : Corner) (ops t ms ch : List ℕ) (w : Walk) (i : ℕ) → Running words c ops t ms ch w i → length ops ≤ i → length ms ≡ mark_words * length ops → i ≤ length ops → PerformedAll words c ops t ms ch (Ran.All w)
+pub running_end : (words : ℕ) (c : Corner) (ops t ms ch : List ℕ) (w : Walk) (i : ℕ) → Running words c ops t ms ch w i → length ops ≤ i → length ms ≡ mark_words * length ops → i ≤ length ops → PerformedAll words c ops t ms ch (Ok w)
 running_end words c ops t ms ch w i k h l b =
     let e : drop i ops ≡ [] = drop_of_length-le ops h in (
       subst (λ (ds : List ℕ). Chained c t ch ds w) (sym (k.rest ∙ ap (survivors_from k.steps) e)) k.chained,
@@ -125,8 +124,8 @@ running_end words c ops t ms ch w i k h l b =
     )
 
 -- the buffers cleared
-pub ended-all : (words : ℕ) (c : Corner) (ops t ms ch : List ℕ) (w : Walk) → length ch ≡ length ops → PerformedAll words c ops t ms ch (Ran.All w)
-    → (ch' : List ℕ) → ch' ≡ take w.spot.steps ch ++ replicate (length ch - w.spot.steps) 0 → Ended words c ops t ms ch' (Ran.All w)
+pub ended-all : (words : ℕ) (c : Corner) (ops t ms ch : List ℕ) (w : Walk) → length ch ≡ length ops → PerformedAll words c ops t ms ch (Ok w)
+    → (ch' : List ℕ) → ch' ≡ take w.spot.steps ch ++ replicate (length ch - w.spot.steps) 0 → Ended words c ops t ms ch' (Ok w)
 ended-all words c ops t ms ch w l h ch' e =
     let k = h.0 in
     let ds = survivors ops in (
@@ -136,7 +135,7 @@ ended-all words c ops t ms ch w l h ch' e =
       h.2,
     )
 
-pub ended-steps : (words : ℕ) (c : Corner) (ops t ms ch : List ℕ) (w : Walk) → PerformedAll words c ops t ms ch (Ran.All w) → w.spot.steps ≤ length ch
+pub ended-steps : (words : ℕ) (c : Corner) (ops t ms ch : List ℕ) (w : Walk) → PerformedAll words c ops t ms ch (Ok w) → w.spot.steps ≤ length ch
 ended-steps words c ops t ms ch w h = omega (arith, h.0.known.walked.steps, h.0.own.space)
 
 pub cleared_from-0 : (ch ch' : List ℕ) → length ch' ≡ length ch → ch' ≡ take 0 ch ++ replicate (length ch - 0) 0 → ch' ≡ replicate (length ch') 0

@@ -1,15 +1,13 @@
 -- A walk that follows its operations: its steps in the chain, and what the run answers.
 -- Assumes nothing.
-use Rattle.std.specs.Prelude.{List, [], ◌∷◌, ◌++◌, ◌≡◌, ℕ, ◌*◌, ◌<◌, length, replicate}
+use Rattle.std.specs.Prelude.{List, [], ◌∷◌, ◌++◌, ◌≡◌, ℕ, ◌*◌, ◌<◌, length, Err, None, Ok, Option, Result, Some, replicate}
 use Rattle.std.proofs.lemmas.List.Edits.{sets}
-use Rattle.answer.specs.declared.Judged.TheVariants.{Good, Refused}
-use Rattle.answer.specs.declared.Refusal.TheVariants.{NoRoom}
+use Rattle.answer.specs.declared.Refusal.{Refusal}
 use Rattle.walk.specs.Walk.{room_from}
 use Rattle.grid.specs.declared.Corner.{Corner}
 use Rattle.grid.specs.Grid.{corners_from}
 use Rattle.layout.specs.Table.{width, records_in}
 use Rattle.layout.specs.Marks.{mark_words, changes_of, mark_of, marks_of, chain_of}
-use Rattle.walk_step.specs.declared.Moved.{Moved}
 use Rattle.walk_step.specs.declared.Walk.{Walk}
 use Rattle.walk_step.specs.declared.Spot.{Spot}
 use Rattle.walk_step.specs.Spots.{Walked, Stepped}
@@ -17,7 +15,6 @@ use Rattle.walk_step.specs.Walks.{Known}
 use Rattle.walk_step.specs.Chains.{ChainKeeps}
 use Rattle.tree.specs.Nodes.{nodes_of}
 use Rattle.steps.specs.Operations.{survivors, Fine}
-use Rattle.walk_run.specs.declared.Ran.{Ran}
 
 -- the walk from c with the steps ds, which stand in the chain
 pub record Chained (c : Corner) (t chain ds : List ℕ) (w : Walk) : Type 0 where
@@ -33,9 +30,9 @@ pub record Ready (t chain : List ℕ) (w : Walk) (o : ℕ) : Type 0 where
   pub next : (o ≡ 4 → ⊥) → w.spot.steps < length chain
 
 -- the answer to an operation, after which the steps are ds
-abbrev pub Applied : ℕ → Corner → List ℕ → List ℕ → List ℕ → Moved → Type 0
-Applied words c t chain ds (Moved.To w) = Chained c t chain ds w × (length t ≡ words)
-Applied words c t chain ds Moved.Full = (words < width * length (nodes_of (corners_from c ds))) × (t ≡ replicate words 0)
+abbrev pub Applied : ℕ → Corner → List ℕ → List ℕ → List ℕ → Option Walk → Type 0
+Applied words c t chain ds (Some w) = Chained c t chain ds w × (length t ≡ words)
+Applied words c t chain ds None = (words < width * length (nodes_of (corners_from c ds))) × (t ≡ replicate words 0)
 
 -- if the operation o was a step, the walk stands at the end of it
 abbrev pub StepDone : List ℕ → Spot → ℕ → Type 0
@@ -48,24 +45,24 @@ Tells t w o before r =
     × ((o ≡ 4 → ⊥) → (c : Corner) (ds : List ℕ) → Walked t c (ds ++ (o ∷ [])) w → r ≡ changes_of c ds (ds ++ (o ∷ [])))
 
 -- the same with its mark, at place i of the marks ms₀; the steps were ds, and are es
-abbrev pub Performed : ℕ → List ℕ → ℕ → Corner → List ℕ → List ℕ → List ℕ → List ℕ → List ℕ → Moved → Type 0
-Performed words ms₀ i c t ms chain ds es (Moved.To w) =
+abbrev pub Performed : ℕ → List ℕ → ℕ → Corner → List ℕ → List ℕ → List ℕ → List ℕ → List ℕ → Option Walk → Type 0
+Performed words ms₀ i c t ms chain ds es (Some w) =
     Chained c t chain es w × (length t ≡ words) × (ms ≡ sets ms₀ (mark_words * i) (mark_of c ds es))
-Performed words ms₀ i c t ms chain ds es Moved.Full =
+Performed words ms₀ i c t ms chain ds es None =
     (words < width * length (nodes_of (corners_from c es))) × (t ≡ replicate words 0)
 
 -- the answer to all of them, with the chain as it then stands
-abbrev pub PerformedAll : ℕ → Corner → List ℕ → List ℕ → List ℕ → List ℕ → Ran → Type 0
-PerformedAll words c ops t ms chain (Ran.All w) =
-    Chained c t chain (survivors ops) w × (ms ≡ marks_of c ops) × (room_from (records_in words) c 0 [] ops ≡ Good)
-PerformedAll words c ops t ms chain (Ran.Full i) =
-    (room_from (records_in words) c 0 [] ops ≡ Refused (NoRoom i)) × (t ≡ replicate words 0)
+abbrev pub PerformedAll : ℕ → Corner → List ℕ → List ℕ → List ℕ → List ℕ → Result Walk Refusal → Type 0
+PerformedAll words c ops t ms chain (Ok w) =
+    Chained c t chain (survivors ops) w × (ms ≡ marks_of c ops) × (room_from (records_in words) c 0 [] ops ≡ Ok tt)
+PerformedAll words c ops t ms chain (Err r) =
+    (room_from (records_in words) c 0 [] ops ≡ Err r) × (t ≡ replicate words 0)
 
 -- the answer to all of them: the walk, with zeros after its steps in the chain, or all three buffers zero
-abbrev pub Ended : ℕ → Corner → List ℕ → List ℕ → List ℕ → List ℕ → Ran → Type 0
-Ended words c ops t ms chain (Ran.All w) =
+abbrev pub Ended : ℕ → Corner → List ℕ → List ℕ → List ℕ → List ℕ → Result Walk Refusal → Type 0
+Ended words c ops t ms chain (Ok w) =
     Chained c t chain (survivors ops) w × (chain ≡ chain_of ops) × (ms ≡ marks_of c ops)
-    × (room_from (records_in words) c 0 [] ops ≡ Good)
-Ended words c ops t ms chain (Ran.Full i) =
-    (room_from (records_in words) c 0 [] ops ≡ Refused (NoRoom i)) × (t ≡ replicate words 0) × (ms ≡ replicate (length ms) 0)
+    × (room_from (records_in words) c 0 [] ops ≡ Ok tt)
+Ended words c ops t ms chain (Err r) =
+    (room_from (records_in words) c 0 [] ops ≡ Err r) × (t ≡ replicate words 0) × (ms ≡ replicate (length ms) 0)
     × (chain ≡ replicate (length chain) 0)

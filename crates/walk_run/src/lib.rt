@@ -1,8 +1,7 @@
 // A walk follows its operations, one after the other, and marks each.
 #![tactic(auto)]
 
-ghost use Rattle.std.specs.Prelude.{List, [], ◌≡◌, ℕ, suc, ◌+◌, ◌*◌, ◌^◌, ◌<◌, ◌≤◌, length, set, get_or};
-ghost use Rattle.answer.specs.declared.Judged.TheVariants.{Good};
+ghost use Rattle.std.specs.Prelude.{List, [], ◌≡◌, ℕ, suc, ◌+◌, ◌*◌, ◌^◌, ◌<◌, ◌≤◌, length, set, Ok, get_or};
 ghost use Rattle.grid.specs.declared.Corner.{Corner as Node};
 ghost use Rattle.answer.specs.Limits.{most_input, Near};
 ghost use Rattle.walk_step.specs.Spots.{Walked};
@@ -12,19 +11,13 @@ ghost use Rattle.layout.specs.Table.{word_at, visits_word};
 ghost use Rattle.steps.specs.Operations.{operate, operations_judged};
 ghost use Rattle.walk_run.specs.Runs.{Chained, Ready, Applied, StepDone, Tells, Performed, PerformedAll, Ended};
 
+use answer::Refusal;
 use grid::Corner;
-use walk_step::{Moved, Spot, Walk};
+use walk_step::{Spot, Walk};
 use walk_table::{Record, zero, zero_from};
 
-// The walk after all operations, or the place of the first for which the table is too small.
-#[derive(Clone, Copy)]
-pub enum Ran {
-    All(Walk),
-    Full(usize),
-}
-
 // One operation: 4 takes the last surviving step back, any other is a step.
-fn apply(t: &mut [u32], chain: &mut [u8], w: Walk, op: u8) -> Moved
+fn apply(t: &mut [u32], chain: &mut [u8], w: Walk, op: u8) -> Option<Walk>
     requires ready { Ready t.old chain.old w op }
     requires t_len_bound { length t.old < 2 ^ 32 }
     ensures { (c : Node) (ds : List ℕ) → Chained c t.old chain.old ds w
@@ -33,7 +26,7 @@ fn apply(t: &mut [u32], chain: &mut [u8], w: Walk, op: u8) -> Moved
     if op == 4 {
         let last = w.spot.steps - 1;
         let d = chain[last];
-        return Moved::To(walk_step::withdraw(t, w, d));
+        return Some(walk_step::withdraw(t, w, d));
     }
     let place = w.spot.steps;
     chain[place] = op;
@@ -63,9 +56,10 @@ fn told(t: &[u32], w: Spot, op: u8, before: u32) -> u32
     ensures { Tells t.now w op before result }
 {
     if op == 4 {
-        return before;
+        before
+    } else {
+        walk_change::changed(t, w, op)
     }
-    walk_change::changed(t, w, op)
 }
 
 // The mark at place i: the nodes in use, the visits at the corner where the walk stands, and the records that changed.
@@ -82,7 +76,14 @@ fn mark(t: &[u32], marks: &mut [u32], w: Spot, i: usize, changed: u32)
 }
 
 // One operation, at place i: applied, and then marked.
-fn perform(t: &mut [u32], marks: &mut [u32], chain: &mut [u8], w: Walk, op: u8, i: usize) -> Moved
+fn perform(
+    t: &mut [u32],
+    marks: &mut [u32],
+    chain: &mut [u8],
+    w: Walk,
+    op: u8,
+    i: usize,
+) -> Option<Walk>
     requires ready { Ready t.old chain.old w op }
     requires t_len_bound { (length t.old < 2 ^ 32) × (mark_words * suc i ≤ length marks.old) × (i < 2 ^ 32) }
     ensures { (c : Node) (ds : List ℕ) → Chained c t.old chain.old ds w
@@ -90,15 +91,11 @@ fn perform(t: &mut [u32], marks: &mut [u32], chain: &mut [u8], w: Walk, op: u8, 
         ds (operate ds op) result }
 {
     let before = taken(t, chain, w, op);
-    match apply(t, chain, w, op) {
-        Moved::To(next) => {
-            let spot = next.spot;
-            let n = told(t, spot, op, before);
-            mark(t, marks, spot, i, n);
-            Moved::To(next)
-        }
-        Moved::Full => Moved::Full,
-    }
+    let next = apply(t, chain, w, op)?;
+    let spot = next.spot;
+    let n = told(t, spot, op, before);
+    mark(t, marks, spot, i, n);
+    Some(next)
 }
 
 // All operations, one after the other, in the table of the walk from start with no step, which stands at the node.
@@ -109,28 +106,19 @@ fn perform_all(
     t: &mut [u32],
     marks: &mut [u32],
     chain: &mut [u8],
-) -> Ran
+) -> Result<Walk, Refusal>
     requires near { Near start × Walked t.old start [] (fresh start node).spot × (length t.old < 2 ^ 32) }
     requires marks_len { (length marks.old ≡ mark_words * length ops.now) × (length chain.old ≡ length ops.now)
         × (length ops.now ≤ most_input) }
-    requires ops_value { operations_judged 0 0 ops.now ≡ Good }
+    requires ops_value { operations_judged 0 0 ops.now ≡ Ok tt }
     ensures { PerformedAll (length t.old) start ops.now t.new marks.new
         chain.new result }
 {
     let mut w = Walk::new(start, node);
-    let mut i = 0;
-    while i < ops.len() {
-        match perform(t, marks, chain, w, ops[i], i) {
-            Moved::To(next) => {
-                w = next;
-            }
-            Moved::Full => {
-                return Ran::Full(i);
-            }
-        }
-        i += 1;
+    for (i, &op) in ops.iter().enumerate() {
+        w = perform(t, marks, chain, w, op, i).ok_or(Refusal::NoRoom(i))?;
     }
-    Ran::All(w)
+    Ok(w)
 }
 
 // All operations, in the table of the walk from start with no step, which stands at the node. After the surviving steps the chain
@@ -142,24 +130,24 @@ pub fn run(
     t: &mut [u32],
     marks: &mut [u32],
     chain: &mut [u8],
-) -> Ran
+) -> Result<Walk, Refusal>
     requires near { Near start × Walked t.old start [] (fresh start node).spot × (length t.old < 2 ^ 32) }
     requires marks_len { (length marks.old ≡ mark_words * length ops.now) × (length chain.old ≡ length ops.now)
         × (length ops.now ≤ most_input) }
-    requires ops_value { operations_judged 0 0 ops.now ≡ Good }
+    requires ops_value { operations_judged 0 0 ops.now ≡ Ok tt }
     ensures { Ended (length t.old) start ops.now t.new marks.new
         chain.new result }
 {
     match perform_all(start, node, ops, t, marks, chain) {
-        Ran::All(w) => {
+        Ok(w) => {
             let n = w.spot.steps;
             zero_from(chain, n);
-            Ran::All(w)
+            Ok(w)
         }
-        Ran::Full(i) => {
+        Err(r) => {
             zero(marks);
             zero_from(chain, 0);
-            Ran::Full(i)
+            Err(r)
         }
     }
 }

@@ -1,5 +1,6 @@
 -- A step and a take-back of a walk with its tally, from those of the two parts.
 -- Assumes nothing.
+use Rattle.std.specs.Prelude.{None, Option, Some}
 use mathlib.Core.List.{List, [], ◌∷◌, ◌++◌}
 use mathlib.Core.Path.{◌≡◌, sym, subst}
 use Prim.Native.Nat.{ℕ, suc, ◌+◌, ◌<◌, ◌≤◌}
@@ -11,8 +12,6 @@ use Rattle.grid.specs.Grid.{same, stepped, corners_from}
 use Rattle.trace.specs.Meeting.{visited_of}
 use Rattle.grid.proofs.StepLaws.{length-corners_from}
 use Rattle.lists.proofs.GatherLaws.{gather_le, gather_ge}
-use Rattle.walk_step.specs.declared.Gone.{Gone}
-use Rattle.walk_step.specs.declared.Moved.{Moved}
 use Rattle.walk_step.specs.declared.Spot.{Spot}
 use Rattle.walk_step.specs.declared.Tally.{Tally}
 use Rattle.walk_step.specs.declared.Walk.{Walk}
@@ -38,9 +37,9 @@ corners_few t c ds w k = less w.tally.corners (length (visited_of (corners_from 
     less a b n s p q r = omega arith
 
 -- where the step led
-module _ (t t' : List ℕ) (w : Walk) (d : ℕ) (r : Gone) (next : Spot) (f : (c : Corner) (ds : List ℕ) → Walked t c ds w.spot → Went (length t) t' c (ds ++ (d ∷ [])) r) (e : r ≡ Gone.To next) where
+module _ (t t' : List ℕ) (w : Walk) (d : ℕ) (r : Option Spot) (next : Spot) (f : (c : Corner) (ds : List ℕ) → Walked t c ds w.spot → Went (length t) t' c (ds ++ (d ∷ [])) r) (e : r ≡ Some next) where
   went : (c : Corner) (ds : List ℕ) → Walked t c ds w.spot → Walked t' c (ds ++ (d ∷ [])) next × (length t' ≡ length t)
-  went c ds k = subst (λ (g : Gone). Went (length t) t' c (ds ++ (d ∷ [])) g) e (f c ds k)
+  went c ds k = subst (λ (g : Option Spot). Went (length t) t' c (ds ++ (d ∷ [])) g) e (f c ds k)
 
   pub advance_stepped : Knowing t w → w.spot.steps + 1 < no_meeting → Stepped t' next d × (next.steps < no_meeting) × (w.tally.corners < 65536)
   advance_stepped k small =
@@ -52,14 +51,14 @@ module _ (t t' : List ℕ) (w : Walk) (d : ℕ) (r : Gone) (next : Spot) (f : (c
       one a b n s p q z = omega arith
 
   pub advance_to : (m : Tally) → ((c : Corner) (ds : List ℕ) → Walked t' c (ds ++ (d ∷ [])) next → TallyIs c ds w.tally → TallyIs c (ds ++ (d ∷ [])) m)
-      → (v : Walk) → v.spot ≡ next → v.tally ≡ m → (c : Corner) (ds : List ℕ) → Known t c ds w → Advanced (length t) t' c (ds ++ (d ∷ [])) (Moved.To v)
+      → (v : Walk) → v.spot ≡ next → v.tally ≡ m → (c : Corner) (ds : List ℕ) → Known t c ds w → Advanced (length t) t' c (ds ++ (d ∷ [])) (Some v)
   advance_to m g v p q c ds k =
       let h = went c ds k.walked in
       (record { walked = subst (λ (s : Spot). Walked t' c (ds ++ (d ∷ [])) s) (sym p) h.0; counted = subst (λ (x : Tally). TallyIs c (ds ++ (d ∷ [])) x) (sym q) (g c ds h.0 k.counted) }, h.1)
 
-pub advance_full : (t t' : List ℕ) (w : Walk) (d : ℕ) (r : Gone) → ((c : Corner) (ds : List ℕ) → Walked t c ds w.spot → Went (length t) t' c (ds ++ (d ∷ [])) r) → r ≡ Gone.Full
-    → (c : Corner) (ds : List ℕ) → Known t c ds w → Advanced (length t) t' c (ds ++ (d ∷ [])) Moved.Full
-advance_full t t' w d r f e c ds k = subst (λ (g : Gone). Went (length t) t' c (ds ++ (d ∷ [])) g) e (f c ds k.walked)
+pub advance_full : (t t' : List ℕ) (w : Walk) (d : ℕ) (r : Option Spot) → ((c : Corner) (ds : List ℕ) → Walked t c ds w.spot → Went (length t) t' c (ds ++ (d ∷ [])) r) → r ≡ None
+    → (c : Corner) (ds : List ℕ) → Known t c ds w → Advanced (length t) t' c (ds ++ (d ∷ [])) None
+advance_full t t' w d r f e c ds k = subst (λ (g : Option Spot). Went (length t) t' c (ds ++ (d ∷ [])) g) e (f c ds k.walked)
 
 -- and back
 pub withdraw_to : (t t' : List ℕ) (w : Walk) (d : ℕ) (s : Spot) (m : Tally)

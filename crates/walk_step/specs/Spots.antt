@@ -1,11 +1,10 @@
 -- A walk in the table: where it stands, and what a step makes of it.
 -- Assumes nothing.
-use Rattle.std.specs.Prelude.{List, [], ◌∷◌, ◌++◌, ◌≡◌, ℕ, suc, ◌*◌, ◌<◌, ◌≤◌, length, replicate}
+use Rattle.std.specs.Prelude.{List, [], ◌∷◌, ◌++◌, ◌≡◌, ℕ, suc, ◌*◌, ◌<◌, ◌≤◌, length, None, Option, Some, replicate}
 use Rattle.grid.specs.declared.Corner.{Corner}
 use Rattle.grid.specs.Grid.{corners_from, end_from}
 use Rattle.layout.specs.Table.{width, table_of}
 use Rattle.tree.specs.Nodes.{nodes_of, ref_of}
-use Rattle.walk_step.specs.declared.Gone.{Gone}
 use Rattle.walk_step.specs.declared.Spot.{Spot}
 
 -- the table is that of the walk from c with the steps ds, and w is where the walk stands
@@ -31,6 +30,6 @@ pub record Stepped (t : List ℕ) (w : Spot) (d : ℕ) : Type 0 where
 
 -- the answer to a step, if ds are the steps with it: the walk stands there, or its nodes are more than the table has records, and
 -- the table is left all zero
-abbrev pub Went : ℕ → List ℕ → Corner → List ℕ → Gone → Type 0
-Went words t c ds (Gone.To w) = Walked t c ds w × (length t ≡ words)
-Went words t c ds Gone.Full = (words < width * length (nodes_of (corners_from c ds))) × (t ≡ replicate words 0)
+abbrev pub Went : ℕ → List ℕ → Corner → List ℕ → Option Spot → Type 0
+Went words t c ds (Some w) = Walked t c ds w × (length t ≡ words)
+Went words t c ds None = (words < width * length (nodes_of (corners_from c ds))) × (t ≡ replicate words 0)

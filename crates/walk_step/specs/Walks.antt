@@ -1,12 +1,11 @@
 -- A walk on its way: where it stands and its tally, both as the definitions have them.
 -- Assumes nothing.
-use Rattle.std.specs.Prelude.{List, [], ◌∷◌, ◌++◌, ◌≡◌, ℕ, ◌+◌, ◌*◌, ◌<◌, length, replicate}
+use Rattle.std.specs.Prelude.{List, [], ◌∷◌, ◌++◌, ◌≡◌, ℕ, ◌+◌, ◌*◌, ◌<◌, length, None, Option, Some, replicate}
 use Rattle.answer.specs.Limits.{no_meeting}
 use Rattle.grid.specs.declared.Corner.{Corner}
 use Rattle.grid.specs.Grid.{corners_from}
 use Rattle.tree.specs.Nodes.{nodes_of}
 use Rattle.layout.specs.Table.{width}
-use Rattle.walk_step.specs.declared.Moved.{Moved}
 use Rattle.walk_step.specs.declared.Walk.{Walk}
 use Rattle.walk_step.specs.Spots.{Walked}
 use Rattle.walk_step.specs.Tallies.{TallyIs}
@@ -38,6 +37,6 @@ pub record Withdrawable (t : List ℕ) (w : Walk) (d : ℕ) : Type 0 where
 
 -- the answer to a step, if ds are the steps with it: the walk stands there, or its nodes are more than the table has records, and
 -- the table is left all zero
-abbrev pub Advanced : ℕ → List ℕ → Corner → List ℕ → Moved → Type 0
-Advanced words t c ds (Moved.To w) = Known t c ds w × (length t ≡ words)
-Advanced words t c ds Moved.Full = (words < width * length (nodes_of (corners_from c ds))) × (t ≡ replicate words 0)
+abbrev pub Advanced : ℕ → List ℕ → Corner → List ℕ → Option Walk → Type 0
+Advanced words t c ds (Some w) = Known t c ds w × (length t ≡ words)
+Advanced words t c ds None = (words < width * length (nodes_of (corners_from c ds))) × (t ≡ replicate words 0)

@@ -21,13 +21,6 @@ pub struct Spot {
     pub nodes: usize,
 }
 
-// What came of a step: the walk stands there, or the table is full.
-#[derive(Clone, Copy)]
-enum Gone {
-    To(Spot),
-    Full,
-}
-
 // How many different corners a walk has, and its first meeting.
 #[derive(Clone, Copy)]
 pub struct Tally {
@@ -81,15 +74,8 @@ impl Walk {
     }
 }
 
-// What came of a step of a walk.
-#[derive(Clone, Copy)]
-pub enum Moved {
-    To(Walk),
-    Full,
-}
-
 // One step in the direction d.
-fn go(t: &mut [u32], w: Spot, d: u8) -> Gone
+fn go(t: &mut [u32], w: Spot, d: u8) -> Option<Spot>
     requires standing { Standing t.old w }
     requires at_bound { (nat_abs w.at.0 < 65536) × (nat_abs w.at.1 < 65536) × (d < 4) × (w.steps < 65536)
         × (length t.old < 2 ^ 32) }
@@ -101,16 +87,16 @@ fn go(t: &mut [u32], w: Spot, d: u8) -> Gone
     let nodes = w.nodes;
     let at = walk_lookup::reach(t, nodes, w.node, here, d, n as u32);
     if at == 0 {
-        return Gone::Full;
+        return None;
     }
     walk_table::visit(t, at - 1, n);
     walk_table::tread(t, w.node, at - 1, d as usize);
     let there = walk_corner::moved(here, d);
-    Gone::To(Spot {
+    Some(Spot {
         node: at - 1,
         at: there,
         steps: n,
-        nodes: order::greater(nodes, at),
+        nodes: nodes.max(at),
     })
 }
 
@@ -152,16 +138,15 @@ fn tallied(t: &[u32], w: Spot, m: Tally, d: u8) -> Tally
     if word(t, node, Record::VISITS) == 1 {
         return Tally {
             corners: m.corners + 1,
-            j: m.j,
-            k,
+            ..m
         };
     }
     if k == Tally::NO_MEETING {
         let first = word(t, node, Record::FIRST) as usize;
         return Tally {
-            corners: m.corners,
             j: first - 1,
             k: n,
+            ..m
         };
     }
     m
@@ -180,22 +165,21 @@ fn untallied(t: &[u32], w: Spot, m: Tally, d: u8) -> Tally
     if word(t, node, Record::VISITS) == 1 {
         return Tally {
             corners: m.corners - 1,
-            j: m.j,
-            k,
+            ..m
         };
     }
     if k == n {
         return Tally {
-            corners: m.corners,
             j: Tally::NO_MEETING,
             k: Tally::NO_MEETING,
+            ..m
         };
     }
     m
 }
 
 // One step of the walk in the direction d.
-pub fn advance(t: &mut [u32], w: Walk, d: u8) -> Moved
+pub fn advance(t: &mut [u32], w: Walk, d: u8) -> Option<Walk>
     requires knowing { Knowing t.old w }
     requires at_bound { (nat_abs w.spot.at.0 < 65536) × (nat_abs w.spot.at.1 < 65536) × (d < 4)
         × (w.spot.steps + 1 < no_meeting) × (length t.old < 2 ^ 32) }
@@ -204,16 +188,12 @@ pub fn advance(t: &mut [u32], w: Walk, d: u8) -> Moved
 {
     let spot = w.spot;
     let tally = w.tally;
-    match go(t, spot, d) {
-        Gone::To(next) => {
-            let counts = tallied(t, next, tally, d);
-            Moved::To(Walk {
-                spot: next,
-                tally: counts,
-            })
-        }
-        Gone::Full => Moved::Full,
-    }
+    let next = go(t, spot, d)?;
+    let counts = tallied(t, next, tally, d);
+    Some(Walk {
+        spot: next,
+        tally: counts,
+    })
 }
 
 // The walk before its last step, which went in the direction d.

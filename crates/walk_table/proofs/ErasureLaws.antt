@@ -1,14 +1,17 @@
 -- Stores of 0 that follow one another, and the words that they leave.
 -- Assumes nothing.
-use mathlib.Core.List.{List}
+use mathlib.Core.List.{List, ◌++◌}
 use mathlib.Core.Path.{◌≡◌, ap, sym, ◌∙◌}
-use Prim.Native.Nat.{ℕ, ◌+◌, ◌*◌, ◌%◌, suc}
+use borrow.Rule.Slice.PartMut.{put_mid}
+use Rattle.std.proofs.lemmas.Slice.{put_mid-paste}
+use Rattle.std.proofs.lemmas.List.{take_all}
+use Rattle.std.proofs.lemmas.List.Edits.{sets-eq}
+use Prim.Native.Nat.{ℕ, ◌+◌, ◌%◌, ◌≤◌}
 use native.Mathlib.Omega.{arith}
-use lib.ListN.{set, length, length-set, replicate}
+use lib.ListN.{set, length, length-set, length-take, length-drop, length-replicate, replicate, take, drop}
 use lib.Seq.{sets}
-use Rattle.layout.specs.Table.{width, word_at, neighbour_word, link_word}
+use Rattle.layout.specs.Table.{word_at, neighbour_word, link_word}
 use Rattle.table_laws.specs.Model.{unset_in}
-use Rattle.table_laws.proofs.RowLaws.{sets_snoc}
 
 pub length_unset : (t : List ℕ) (u v d : ℕ) → length (unset_in t u v d) ≡ length t
 length_unset t u v d =
@@ -17,11 +20,12 @@ length_unset t u v d =
     ∙ length-set (set t (word_at u (neighbour_word d)) 0) (word_at u (link_word d)) 0
     ∙ length-set t (word_at u (neighbour_word d)) 0
 
--- a record cleared
-pub clear_next : (t₀ t t' : List ℕ) (r f : ℕ) → t ≡ sets t₀ (r * width) (replicate f 0) → t' ≡ set t (word_at r f) 0 → t' ≡ sets t₀ (r * width) (replicate (f + 1) 0)
-clear_next t₀ t t' r f e q =
-    let z : suc f ≡ f + 1 = omega arith in
-    q ∙ ap (λ (x : List ℕ). set x (word_at r f) 0) e ∙ sym (sets_snoc f t₀ (r * width)) ∙ ap (λ (n : ℕ). sets t₀ (r * width) (replicate n 0)) z
-
-pub clear_end : (t₀ t : List ℕ) (r f : ℕ) → t ≡ sets t₀ (r * width) (replicate f 0) → f ≡ width → t ≡ sets t₀ (r * width) (replicate width 0)
-clear_end t₀ t r f e p = e ∙ ap (λ (n : ℕ). sets t₀ (r * width) (replicate n 0)) p
+-- a part that was filled
+pub filled_part : (t ys : List ℕ) (a k n x : ℕ) → k ≡ n → a + n ≤ length t → ys ≡ replicate (length (take k (drop a t))) x → put_mid a k t ys ≡ sets t a (replicate n x)
+filled_part t ys a k n x e h f =
+    let m : length (take k (drop a t)) ≡ n = simp (length-take, length-drop) (omega arith) in
+    let w : n ≡ length (replicate n x) = omega (arith, length-replicate {A = ℕ}) in
+    put_mid-paste a k t ys (replicate n x) n (f ∙ ap (λ (j : ℕ). replicate j x) m) (sym e) w
+    ∙ ap (λ (l : List ℕ). take a t ++ l ++ drop (a + n) t) (take_all n (replicate n x) (omega arith))
+    ∙ ap (λ (j : ℕ). take a t ++ replicate n x ++ drop (a + j) t) w
+    ∙ sym (sets-eq (replicate n x) t a (omega arith))

@@ -73,7 +73,6 @@ pub fn visit(t: &mut [u32], r: usize, k: usize)
     put(t, r, Record::VISITS, v + 1);
     if v == 0 {
         put(t, r, Record::FIRST, (k + 1) as u32);
-        return;
     }
 }
 
@@ -86,7 +85,6 @@ pub fn unvisit(t: &mut [u32], r: usize)
     put(t, r, Record::VISITS, v - 1);
     if v == 1 {
         put(t, r, Record::FIRST, 0);
-        return;
     }
 }
 
@@ -133,22 +131,15 @@ pub fn clear_record(t: &mut [u32], r: usize)
     requires { HasRecord t.old r }
     ensures { t.new ≡ sets t.old (r * width) (replicate width 0) }
 {
-    let mut f: usize = 0;
-    while f < Record::WORDS {
-        put(t, r, f, 0);
-        f += 1;
-    }
+    let start = r * Record::WORDS;
+    t[start..start + Record::WORDS].fill(0);
 }
 
 // Clears all words.
 pub fn zero(t: &mut [u32])
     ensures { t.new ≡ replicate (length t.old) 0 }
 {
-    let mut i = 0;
-    while i < t.len() {
-        t[i] = 0;
-        i += 1;
-    }
+    t.fill(0);
 }
 
 // Clears the bytes from a place on.
@@ -156,9 +147,5 @@ pub fn zero_from(s: &mut [u8], from: usize)
     requires { from ≤ length s.old }
     ensures { s.new ≡ take from s.old ++ replicate (length s.old - from) 0 }
 {
-    let mut i = from;
-    while i < s.len() {
-        s[i] = 0;
-        i += 1;
-    }
+    s[from..].fill(0);
 }

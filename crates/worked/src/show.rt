@@ -1,5 +1,5 @@
 // What is written: the answers, and what the buffers hold.
-use answer::{Answer, Counted, Facts, Judged, Refusal};
+use answer::{Facts, Refusal};
 use std::io;
 use std::io::Write;
 use walk_table::Record;
@@ -66,23 +66,23 @@ fn facts<W: Write>(out: &mut W, f: Facts) -> io::Result<()> {
     numbers(out, "", &[area, last.0, last.1])
 }
 
-pub(crate) fn answer<W: Write>(out: &mut W, a: Answer) -> io::Result<()> {
+pub(crate) fn answer<W: Write>(out: &mut W, a: Result<Facts, Refusal>) -> io::Result<()> {
     match a {
-        Answer::Accepted(f) => facts(out, f),
-        Answer::Refused(r) => refusal(out, r),
+        Ok(f) => facts(out, f),
+        Err(r) => refusal(out, r),
     }
 }
 
-pub(crate) fn counted<W: Write>(out: &mut W, c: Counted) -> io::Result<()> {
+pub(crate) fn counted<W: Write>(out: &mut W, c: Result<usize, Refusal>) -> io::Result<()> {
     match c {
-        Counted::Many(n) => write!(out, " {n}"),
-        Counted::Refused(r) => refusal(out, r),
+        Ok(n) => write!(out, " {n}"),
+        Err(r) => refusal(out, r),
     }
 }
 
-pub(crate) fn judged<W: Write>(out: &mut W, j: Judged) -> io::Result<()> {
+pub(crate) fn judged<W: Write>(out: &mut W, j: Result<(), Refusal>) -> io::Result<()> {
     match j {
-        Judged::Good => writeln!(out, "  good"),
-        Judged::Refused(r) => refusal(out, r),
+        Ok(()) => writeln!(out, "  good"),
+        Err(r) => refusal(out, r),
     }
 }

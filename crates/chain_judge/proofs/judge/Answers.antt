@@ -1,5 +1,4 @@
 -- `chain_judge::judge` meets its contract.
-use borrow.Author.Tests.{not-true, not-false}
 use mathlib.Core.Path.{sym, ◌∙◌}
 use Rattle.steps.proofs.ChainLaws.{walk_many, walk_start, walk_chain}
 use Rattle.chain_judge.proofs.judge.Goals as goal
@@ -11,7 +10,7 @@ pub returns-then-not-start_fits : goal.returns-then-not-start_fits
 returns-then-not-start_fits c =
     let a = c.args in
     let f = c.start_fits in
-    sym (walk_start a.start a.chain.now c.if-chain-gt-MOST_INPUT.false (sym f.ensures ∙ not-true f.result c.if-not-start_fits.true-raw))
+    sym (walk_start a.start a.chain.now c.if-chain-gt-MOST_INPUT.false (sym f.ensures ∙ c.if-not-start_fits.true))
 
 pub returns : goal.returns
 returns c =
@@ -19,4 +18,4 @@ returns c =
     let f = c.start_fits in
     c.judge_steps.ensures
     ∙ sym (walk_chain a.start a.chain.now c.if-chain-gt-MOST_INPUT.false
-    (sym f.ensures ∙ not-false f.result c.if-not-start_fits.false-raw))
+    (sym f.ensures ∙ c.if-not-start_fits.false))

@@ -1,43 +1,42 @@
 -- `convex_part::along` meets its contract.
 use native.Mathlib.Omega.{arith}
-use mathlib.Core.Path.{refl, sym, ◌∙◌}
-use Prim.Native.Nat.{◌+◌}
-use Rattle.lists.proofs.BoolLaws.{not-true, not-false}
+use mathlib.Core.Path.{◌≡◌, ap, sym, ◌∙◌}
+use Prim.Native.Nat.{◌+◌, ◌-◌}
+use lib.ListN.{drop}
+use Rattle.convex_laws.specs.Level.{level_along}
 use Rattle.convex_part.proofs.PassLaws.{along_here, along-next, along-none}
 use Rattle.convex_part.proofs.along.Goals as goal
 
 pub loop-q-init : goal.loop-q-init
-loop-q-init c = (omega arith, c.requires.0.begins, refl)
+loop-q-init c =
+    let a = c.args in
+    let same : a.a + 1 - 1 ≡ a.a = omega arith in
+    ap (λ i. level_along a.ys.now (drop i a.s.now)) same
 
 pub edge-requires : goal.edge-requires
 edge-requires c =
-    let l = c.loop-q in
+    let q = c.loop-q.q in
     let r = c.requires.0 in
-    let p = c.wide-p.ensures.0 in
-    let b = c.wide-b.ensures.0 in
-    (omega (arith, p, b, r.rises l.q l.invariant.0 (omega arith)), omega (arith, b, r.columns (l.q + 1) (omega (arith, l.invariant.0)) (omega arith)), omega arith)
+    let same : q - 1 + 1 ≡ q = omega arith in
+    let up = rw same at (r.rises (q - 1) (omega arith) (omega arith)) in
+    (omega (arith, up), omega (arith, r.columns q (omega arith) (omega arith)), omega arith)
 
 pub returns-then-not-edge : goal.returns-then-not-edge
 returns-then-not-edge c =
     let l = c.loop-q in
     let a = c.args in
-    along_here a.ys.now a.s.now l.q c.wide-p.result c.wide-b.result (omega arith)
-    c.wide-p.ensures.0 c.wide-b.ensures.0
-    (sym c.edge.ensures ∙ not-true c.edge.result c.if-not-edge.true-raw) ∙ l.invariant.2
+    along_here a.ys.now a.s.now l.q c.from-p.result c.from-b.result (omega arith) (omega arith) c.from-p.ensures
+    c.from-b.ensures (sym c.edge.ensures ∙ c.if-not-edge.true) ∙ l.invariant
 
 pub loop-q-preserved : goal.loop-q-preserved
 loop-q-preserved c =
     let l = c.loop-q in
-    let a = c.args in (
-      omega (arith, l.invariant.0),
-      omega arith,
-      along-next a.ys.now a.s.now l.q c.wide-p.result c.wide-b.result (omega arith)
-          c.wide-p.ensures.0 c.wide-b.ensures.0
-          (sym c.edge.ensures ∙ not-false c.edge.result c.if-not-edge.false-raw) ∙ l.invariant.2,
-    )
+    let a = c.args in
+    along-next a.ys.now a.s.now l.q c.from-p.result c.from-b.result (omega arith) (omega arith) c.from-p.ensures
+    c.from-b.ensures (sym c.edge.ensures ∙ c.if-not-edge.false) ∙ l.invariant
 
 pub returns : goal.returns
 returns c =
     let l = c.loop-q in
     let a = c.args in
-    along-none a.ys.now a.s.now l.q (omega arith) ∙ l.invariant.2
+    along-none a.ys.now a.s.now l.q (omega arith) ∙ l.invariant

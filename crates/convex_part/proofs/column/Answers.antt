@@ -8,4 +8,4 @@ pub overflow_add-result : goal.overflow_add-result
 overflow_add-result c = omega (arith, test_le (eqb c.args.d 0))
 
 pub returns : goal.returns
-returns c = column-by c.args.k c.args.d
+returns c = omega (arith, column-by c.args.k c.args.d)

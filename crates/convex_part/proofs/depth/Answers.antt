@@ -9,4 +9,4 @@ pub overflow_sub-result : goal.overflow_sub-result
 overflow_sub-result c = omega (arith, test_le (not (eqb c.args.d 0)))
 
 pub returns : goal.returns
-returns c = depth_by c.args.y c.args.d
+returns c = omega (arith, depth_by c.args.y c.args.d)

@@ -1,7 +1,6 @@
 -- `convex_part::edge` meets its contract.
 use native.Mathlib.Omega.{arith}
 use mathlib.Core.Path.{refl, sym, ◌∙◌}
-use Rattle.lists.proofs.BoolLaws.{not-true, not-false}
 use Rattle.convex_part.proofs.PassLaws.{levels_here, levels-next, levels-none}
 use Rattle.convex_part.proofs.edge.Goals as goal
 
@@ -16,13 +15,13 @@ returns-then-not-stands c =
     let l = c.loop-c in
     let a = c.args in
     sym (levels_here a.ys.now a.p a.b l.c (omega arith)
-    (sym c.stands.ensures ∙ not-true c.stands.result c.if-not-stands.true-raw)) ∙ l.invariant.2
+    (sym c.stands.ensures ∙ c.if-not-stands.true)) ∙ l.invariant.2
 
 pub loop-c-preserved : goal.loop-c-preserved
 loop-c-preserved c =
     let l = c.loop-c in
     let a = c.args in
-    (omega (arith, l.invariant.0), omega arith, levels-next a.ys.now a.p a.b l.c (omega arith) (sym c.stands.ensures ∙ not-false c.stands.result c.if-not-stands.false-raw) ∙ l.invariant.2)
+    (omega (arith, l.invariant.0), omega arith, levels-next a.ys.now a.p a.b l.c (omega arith) (sym c.stands.ensures ∙ c.if-not-stands.false) ∙ l.invariant.2)
 
 pub returns : goal.returns
 returns c =

@@ -1,4 +1,4 @@
--- What the loops of `convex_part::edge` keep, and how they end.
+-- What the loop of `convex_part::edge` keeps.
 use mathlib.Core.Path.{◌≡◌}
 use Prim.Native.Nat.{◌+◌, ◌-◌, ◌≤◌}
 use Rattle.convex_laws.specs.Level.{levels}
@@ -6,6 +6,3 @@ use Rattle.convex_part.proofs.edge.Given as goal
 
 abbrev pub invariant-loop-c : goal.invariant-loop-c
 invariant-loop-c l = (l.p + 1 ≤ l.c) × (l.c ≤ l.b) × (levels l.ys l.p l.b l.c (l.b - l.c) ≡ levels l.ys l.p l.b (l.p + 1) (l.b - (l.p + 1)))
-
-abbrev pub decreases-loop-c : goal.decreases-loop-c
-decreases-loop-c l = l.b - l.c

@@ -3,7 +3,6 @@ use native.Mathlib.Omega.{arith}
 use mathlib.Core.Path.{sym, ◌∙◌}
 use lib.ListN.{length, take}
 use lib.Seq.{length-take-le}
-use Rattle.lists.proofs.BoolLaws.{not-true, not-false}
 use Rattle.convex.specs.Parts.{turned_by}
 use Rattle.convex_part.proofs.PassLaws.{length-turned, judge_letters, judge_columns}
 use Rattle.convex_part.proofs.judge.Goals as goal
@@ -12,7 +11,7 @@ pub returns-then-not-plain : goal.returns-then-not-plain
 returns-then-not-plain c =
     let a = c.args in
     judge_letters (turned_by a.turn a.part.now)
-    (sym c.plain.ensures ∙ not-true c.plain.result c.if-not-plain.true-raw)
+    (sym c.plain.ensures ∙ c.if-not-plain.true)
 
 pub slice_bounds-columns-end-2 : goal.slice_bounds-columns-end-2
 slice_bounds-columns-end-2 c =
@@ -33,4 +32,4 @@ returns c =
     let a = c.args in
     let e = c.columns.ensures in
     e ∙ judge_columns (turned_by a.turn a.part.now) (take d.result d.new.ys) (length a.part.now)
-    (sym p.ensures ∙ not-false p.result i.false-raw) (sym (length-turned a.turn a.part.now)) d.ensures.0
+    (sym p.ensures ∙ i.false) (sym (length-turned a.turn a.part.now)) d.ensures.0

@@ -5,24 +5,24 @@ use Rattle.convex_part.proofs.PassLaws.{letters_here, letters_next, letters_none
 use Rattle.convex_part.proofs.plain.Goals as goal
 
 pub letter-requires : goal.letter-requires
-letter-requires c = (c.requires.0.digits c.loop-i.i, c.requires.1)
+letter-requires c = (c.requires.0.digits c.loop-d.d-index, c.requires.1)
 
 pub returns-then-letter-gt1 : goal.returns-then-letter-gt1
 returns-then-letter-gt1 c =
-    let l = c.loop-i in
+    let l = c.loop-d in
     let a = c.args in
-    letters_here a.part.now a.turn l.i c.letter.result (omega arith) c.letter.ensures
+    letters_here a.part.now a.turn l.d-index c.letter.result (omega arith) c.letter.ensures
     (omega arith) ∙ l.invariant
 
-pub loop-i-preserved : goal.loop-i-preserved
-loop-i-preserved c =
-    let l = c.loop-i in
+pub loop-d-preserved : goal.loop-d-preserved
+loop-d-preserved c =
+    let l = c.loop-d in
     let a = c.args in
-    letters_next a.part.now a.turn l.i c.letter.result (omega arith) c.letter.ensures
+    letters_next a.part.now a.turn l.d-index c.letter.result (omega arith) c.letter.ensures
     (omega arith) ∙ l.invariant
 
 pub returns : goal.returns
 returns c =
-    let l = c.loop-i in
+    let l = c.loop-d in
     let a = c.args in
-    letters_none a.part.now a.turn l.i (omega arith) ∙ l.invariant
+    letters_none a.part.now a.turn l.d-index (omega arith) ∙ l.invariant

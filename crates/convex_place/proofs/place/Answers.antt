@@ -29,7 +29,7 @@ loop-i-preserved c =
     let y = c.height-y in
     let n = c.number_at in
     seeks_step a.chain.now a.turn l.x l.y l.least l.i l.invariant x.result y.result n.result
-    c.lesser-least.result (omega arith) (omega arith) x.ensures y.ensures n.ensures c.lesser-least.ensures
+    c.min-least.result (omega arith) (omega arith) x.ensures y.ensures n.ensures c.min-least.ensures
 
 pub returns : goal.returns
 returns c =

@@ -1,5 +1,6 @@
 -- `hull_call::list_short` meets its contract.
 use mathlib.Core.Path.{sym, ◌∙◌}
+use Rattle.std.proofs.lemmas.Result.{err_from_is_err_and}
 use Rattle.steps.proofs.ChainLaws.{good_walk}
 use Rattle.hull_laws.proofs.CallLaws.{call_refused}
 use Rattle.hull_call.proofs.ListLaws.{call_listed}
@@ -8,15 +9,14 @@ use Rattle.hull_call.proofs.list_short.Goals as goal
 pub list_short_from-requires : goal.list_short_from-requires
 list_short_from-requires c =
     let w = good_walk c.args.start c.args.chain.now
-    (sym c.judge.ensures ∙ c.in-Good.is) in
+    (sym c.judge.ensures ∙ c.in_ok-judge.was) in
     (w.steps, w.near, c.requires)
 
-pub returns-in-Good : goal.returns-in-Good
-returns-in-Good c =
-    call_listed (sym c.judge.ensures ∙ c.in-Good.is)
-    c.list_short_from.ensures
+pub returns : goal.returns
+returns c = call_listed (sym c.judge.ensures ∙ c.in_ok-judge.was) c.list_short_from.ensures
 
-pub returns-in-Refused : goal.returns-in-Refused
-returns-in-Refused c =
+pub returns-in_err-judge : goal.returns-in_err-judge
+returns-in_err-judge c =
     let a = c.args in
-    call_refused a.start a.chain.now a.out.now c.in-Refused.r (sym c.judge.ensures ∙ c.in-Refused.is)
+    let p = err_from_is_err_and c.from_residual.result c.from_residual.ensures.1 in
+    rw (p.1, p.2) (call_refused a.start a.chain.now a.out.now c.in_err-judge.field-0.0 (sym c.judge.ensures ∙ c.in_err-judge.was))

@@ -1,6 +1,6 @@
 -- `hull_chains::pass` meets its contract.
 use native.Mathlib.Omega.{arith}
-use mathlib.Core.Path.{refl, sym, ◌∙◌}
+use mathlib.Core.Path.{◌≡◌, refl, sym, ◌∙◌}
 use Rattle.hull_laws.proofs.IdleLaws.{turn_none, turn_here, turn_next}
 use Rattle.hull_chains.proofs.pass.Goals as goal
 
@@ -19,4 +19,7 @@ loop-j-preserved c =
     (omega arith, turn_next c.args.ys.now l.j (omega arith) (sym c.turns.ensures ∙ c.if-turns.false) ∙ l.invariant.1)
 
 pub returns : goal.returns
-returns c = let l = c.loop-j in turn_none c.args.ys.now l.j (omega arith) ∙ l.invariant.1
+returns c =
+    let l = c.loop-j in
+    let done : 0 ≡ l.j = omega arith in
+    done ∙ turn_none c.args.ys.now l.j (omega arith) ∙ l.invariant.1

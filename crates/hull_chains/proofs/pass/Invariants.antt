@@ -1,4 +1,4 @@
--- What the loops of `hull_chains::pass` keep, and how they end.
+-- What the loops of `hull_chains::pass` keep.
 use mathlib.Core.Path.{◌≡◌}
 use Prim.Native.Nat.{◌≤◌}
 use Rattle.hull_laws.specs.Chain.{turn_from}
@@ -6,6 +6,3 @@ use Rattle.hull_chains.proofs.pass.Given as goal
 
 abbrev pub invariant-loop-j : goal.invariant-loop-j
 invariant-loop-j l = (l.j ≤ l.i) × (turn_from l.ys l.j ≡ turn_from l.ys l.i)
-
-abbrev pub decreases-loop-j : goal.decreases-loop-j
-decreases-loop-j l = l.j

@@ -8,4 +8,4 @@ pub returns : goal.returns
 unfolding sink
 returns c =
     let a = c.args in
-    ap (set a.ys.now a.c) c.lower.ensures
+    ap (set a.ys.now a.c) c.min.ensures

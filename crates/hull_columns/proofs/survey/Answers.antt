@@ -7,33 +7,33 @@ use Rattle.steps.proofs.ChainLaws.{good_digits, good_short}
 use Rattle.hull_columns.specs.declared.Extent.{Extent}
 use Rattle.hull_columns.proofs.survey.Goals as goal
 
-pub loop-i-init : goal.loop-i-init
-loop-i-init c = surveyed_start c.args.chain.now
+pub loop-d-init : goal.loop-d-init
+loop-d-init c = surveyed_start c.args.chain.now
 
 pub across-x-requires : goal.across-x-requires
 across-x-requires c =
-    let l = c.loop-i in
+    let l = c.loop-d in
     let chain = c.args.chain.now in
-    let r = surveyed_room chain l.x l.west l.east l.i l.invariant
+    let r = surveyed_room chain l.x l.west l.east l.d-index l.invariant
     (λ e. omega (arith, e, good_short 0 chain (omega arith) c.requires)) in
-    (refl, good_digits 0 chain c.requires l.i, r.0, r.1)
+    (refl, good_digits 0 chain c.requires l.d-index, r.0, r.1)
 
-pub loop-i-preserved : goal.loop-i-preserved
-loop-i-preserved c =
-    let l = c.loop-i in
+pub loop-d-preserved : goal.loop-d-preserved
+loop-d-preserved c =
+    let l = c.loop-d in
     let chain = c.args.chain.now in
-    surveyed_step chain l.x l.west l.east l.i l.invariant c.across-x.result c.lesser-west.result
-    c.greater-east.result c.loop-i-test.true (omega (arith, good_digits 0 chain c.requires l.i))
+    surveyed_step chain l.x l.west l.east l.d-index l.invariant c.across-x.result c.min-west.result
+    c.max-east.result c.loop-d-test.true (omega (arith, good_digits 0 chain c.requires l.d-index))
     (λ e. omega (arith, e, good_short 0 chain (omega arith) c.requires)) c.across-x.ensures
-    c.lesser-west.ensures c.greater-east.ensures
+    c.min-west.ensures c.max-east.ensures
 
 pub returns : goal.returns
 returns c =
-    let l = c.loop-i in
-    let n = c.loop-i-test.false in
+    let l = c.loop-d in
+    let n = c.loop-d-test.false in
     let chain = c.args.chain.now in
-    ap₂ extent (surveyed_west chain l.x l.west l.east l.i l.invariant n)
-    (surveyed_east chain l.x l.west l.east l.i l.invariant n)
+    ap₂ extent (surveyed_west chain l.x l.west l.east l.d-index l.invariant n)
+    (surveyed_east chain l.x l.west l.east l.d-index l.invariant n)
   where
     extent : ℕ → ℕ → Extent
     extent w e = record { west = w; east = e }

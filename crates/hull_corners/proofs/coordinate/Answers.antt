@@ -1,29 +1,34 @@
 -- `hull_corners::coordinate` meets its contract.
 use native.Mathlib.Omega.{arith}
-use mathlib.Core.Path.{◌≡◌}
-use lib.IntN.{pos, ◌+ℤ◌, ◌*ℤ◌}
+use Prim.Native.Nat.{ℕ, ◌≤◌, ◌<◌}
+use lib.IntN.{ℤ, pos, nat_abs, ◌+ℤ◌, ◌*ℤ◌}
 use mir.Syntax.{w32}
-use mir.Val.{SFits, to_z}
-use mir.Facts.{to_z-of_z, to_z_pos}
+use mir.Val.{SFits}
+use mir.Facts.{to_z-of_z}
 use Rattle.int_laws.proofs.RangeLaws.{abs+, abs*≤, sfits_abs}
-use Rattle.hull_corners.proofs.coordinate.Reads as reads
-use Rattle.hull_corners.proofs.coordinate.Lts as lts
 use Rattle.hull_corners.proofs.coordinate.Goals as goal
 
-steps : (c : lts.Start reads.Pre reads.Post) → to_z w32 c.args.n ≡ pos c.args.n
-steps c = to_z_pos w32 (omega arith)
+steps : (n : ℕ) → n < 65536 → SFits w32 (pos n)
+steps n h = sfits_abs w32 (pos n) (omega arith)
 
-product : (c : lts.Start reads.Pre reads.Post) → SFits w32 (c.args.way *ℤ pos c.args.n)
-product c = sfits_abs w32 (c.args.way *ℤ pos c.args.n) (omega (arith, abs*≤ c.args.way (pos c.args.n) 1 65535 c.requires.1 (omega arith)))
+product : (way : ℤ) (n : ℕ) → nat_abs way ≤ 1 → n < 65536 → SFits w32 (way *ℤ pos n)
+product way n g h = sfits_abs w32 (way *ℤ pos n) (omega (arith, abs*≤ way (pos n) 1 65535 g (omega arith)))
 
-sum : (c : lts.Start reads.Pre reads.Post) → SFits w32 (c.args.base +ℤ (c.args.way *ℤ pos c.args.n))
-sum c = sfits_abs w32 (c.args.base +ℤ (c.args.way *ℤ pos c.args.n)) (omega (arith, abs+ c.args.base (c.args.way *ℤ pos c.args.n), abs*≤ c.args.way (pos c.args.n) 1 65535 c.requires.1 (omega arith)))
+sum : (base way : ℤ) (n : ℕ) → nat_abs base ≤ 65536 → nat_abs way ≤ 1 → n < 65536 → SFits w32 (base +ℤ (way *ℤ pos n))
+sum base way n l g h = sfits_abs w32 (base +ℤ (way *ℤ pos n)) (omega (arith, abs+ base (way *ℤ pos n), abs*≤ way (pos n) 1 65535 g (omega arith)))
 
 pub overflow_mul-result : goal.overflow_mul-result
-overflow_mul-result c = simp (to_z-of_z c.ranges.way, steps c) (product c)
+overflow_mul-result c =
+    let a = c.args in
+    simp (to_z-of_z c.ranges.way, c.from.ensures, to_z-of_z (steps a.n (omega arith))) (product a.way a.n c.requires.1 (omega arith))
 
 pub overflow_add-result : goal.overflow_add-result
-overflow_add-result c = simp (to_z-of_z c.ranges.way, to_z-of_z c.ranges.base, steps c, to_z-of_z (product c)) (sum c)
+overflow_add-result c =
+    let a = c.args in
+    simp (to_z-of_z c.ranges.way, to_z-of_z c.ranges.base, c.from.ensures, to_z-of_z (steps a.n (omega arith)), to_z-of_z (product a.way a.n c.requires.1 (omega arith)))
+    (sum a.base a.way a.n c.requires.0 c.requires.1 (omega arith))
 
 pub returns : goal.returns
-returns c = simp (to_z-of_z c.ranges.way, to_z-of_z c.ranges.base, steps c, to_z-of_z (product c), to_z-of_z (sum c))
+returns c =
+    let a = c.args in
+    simp (to_z-of_z c.ranges.way, to_z-of_z c.ranges.base, c.from.ensures, to_z-of_z (steps a.n (omega arith)), to_z-of_z (product a.way a.n c.requires.1 (omega arith)), to_z-of_z (sum a.base a.way a.n c.requires.0 c.requires.1 (omega arith)))

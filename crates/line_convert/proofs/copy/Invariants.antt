@@ -1,12 +1,9 @@
--- What the loops of `line_convert::copy` keep, and how they end.
+-- What the loop of `line_convert::copy` keeps.
 use mathlib.Core.Path.{◌≡◌}
-use Prim.Native.Nat.{◌+◌, ◌-◌, ◌≤◌}
-use lib.ListN.{length, drop}
+use Prim.Native.Nat.{◌+◌}
+use lib.ListN.{drop}
 use Rattle.line_fields.specs.Put.{put}
 use Rattle.line_convert.proofs.copy.Given as goal
 
 abbrev pub invariant-loop-i : goal.invariant-loop-i
-invariant-loop-i l = (l.i ≤ length l.s) × (l.at + length l.s ≤ length l.out) × (length l.out ≡ length l.initial.out) × (put (drop l.i l.s) (l.at + l.i) l.out ≡ put l.s l.at l.initial.out)
-
-abbrev pub decreases-loop-i : goal.decreases-loop-i
-decreases-loop-i l = length l.s - l.i
+invariant-loop-i l = put (drop l.i l.s) (l.at + l.i) l.out ≡ put l.s l.at l.initial.out

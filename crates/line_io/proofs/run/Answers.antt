@@ -1,6 +1,7 @@
 -- `line_io::run` meets its contract.
-use Rattle.std.proofs.Common.{rules, arith, length, ◌<◌, [], sym, subst}
-use Rattle.line_io.proofs.RunLaws.{Sofar, sofar_begun, sofar_broken, round_more, round_over, round_unread}
+use Rattle.std.specs.Prelude.{Ok, Err}
+use Rattle.std.proofs.Common.{rules, ◌≡◌, ◌∙◌, arith, length, ◌<◌, [], sym, ap, subst}
+use Rattle.line_io.proofs.RunLaws.{Sofar, sofar_begun, sofar_broken, round_more, round_closed, round_failed}
 use Rattle.line_io.proofs.run.Goals as goal
 
 pub loop-init : goal.loop-init
@@ -26,20 +27,21 @@ loop-preserved g c =
       omega arith,
       omega arith,
       omega arith,
-      round_more f c.go_round.ensures.round c.go_round.ensures.bytes fits c.in-More.is,
+      round_more f c.go_round.ensures.round c.go_round.ensures.bytes fits (c.in_ok-q.was ∙ ap Ok c.in-More.is),
     )
 
-pub returns-then-close : goal.returns-then-close
-returns-then-close g c =
+pub returns-in-Over : goal.returns-in-Over
+returns-in-Over g c =
     let (_, fits, _, same, _, _, f) = c.loop.invariant in
     λ z.
     let some : 0 < length c.go_round.new.buf = omega (arith, c.go_round.auto.buf) in
-    round_over f c.go_round.ensures.round c.go_round.ensures.bytes fits _ c.in-Over.is some (search rules)
+    round_closed f c.go_round.ensures.round c.go_round.ensures.bytes fits _ c.close.result (c.in_ok-q.was ∙ ap Ok c.in-Over.is) some c.close.ensures.bytes
 
-pub returns-in-Unread : goal.returns-in-Unread
-returns-in-Unread g c =
+pub returns-in_err-q : goal.returns-in_err-q
+returns-in_err-q g c =
     let (_, fits, _, _, _, _, f) = c.loop.invariant in
-    λ z. round_unread f c.go_round.ensures.round c.go_round.ensures.bytes fits c.in-Unread.is
+    let r : c.from_residual.result ≡ Err c.in_err-q.field-0.0 = search rules in
+    rw r (λ z. round_failed f c.go_round.ensures.round c.go_round.ensures.bytes fits c.in_err-q.field-0.0 c.in_err-q.was)
 
 pub returns : goal.returns
 returns g c =

@@ -5,12 +5,12 @@ use Rattle.sheet.specs.Sheet.{margin_after, page_of}
 use Rattle.sheet_number.specs.Numbered.{most_page}
 use Rattle.line_io.proofs.send_pages.Given as goal
 
-abbrev pub invariant-loop-q : goal.invariant-loop-q
-invariant-loop-q g l =
+abbrev pub invariant-loop-next : goal.invariant-loop-next
+invariant-loop-next g l =
     (w : List ℕ) × (l.at ≤ length l.s) × (length l.page ≡ most_page)
     × (margin_after l.next (drop l.at l.s) ≡ margin_after l.fn.m l.s)
     × Appends (g.W.Write.contents l.fn.writer) (g.W.Write.contents l.writer) w
     × (w ++ page_of l.next (drop l.at l.s) ≡ page_of l.fn.m l.s)
 
-abbrev pub decreases-loop-q : goal.decreases-loop-q
-decreases-loop-q g l = length l.s - l.at
+abbrev pub decreases-loop-next : goal.decreases-loop-next
+decreases-loop-next g l = length l.s - l.at

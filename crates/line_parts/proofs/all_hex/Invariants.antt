@@ -1,13 +1,9 @@
--- What the loops of `line_parts::all_hex` keep, and how they end.
+-- What the loop of `line_parts::all_hex` keeps.
 use mathlib.Core.Path.{◌≡◌}
 use mathlib.Core.Bool.{◌&&◌}
-use Prim.Native.Nat.{◌≤◌, ◌-◌}
-use lib.ListN.{length, drop}
+use lib.ListN.{drop}
 use Rattle.line_frame.specs.Hex.{all_hex}
 use Rattle.line_parts.proofs.all_hex.Given as goal
 
-abbrev pub invariant-loop-i : goal.invariant-loop-i
-invariant-loop-i l = (l.i ≤ length l.s) × (l.all && all_hex (drop l.i l.s) ≡ all_hex l.s)
-
-abbrev pub decreases-loop-i : goal.decreases-loop-i
-decreases-loop-i l = length l.s - l.i
+abbrev pub invariant-loop-b : goal.invariant-loop-b
+invariant-loop-b l = l.all && all_hex (drop l.b-index l.s) ≡ all_hex l.s

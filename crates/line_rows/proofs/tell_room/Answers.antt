@@ -10,19 +10,19 @@ use Rattle.line_rows.proofs.tell_room.Goals as goal
 pub tell_threes-requires : goal.tell_threes-requires
 tell_threes-requires c =
     let l = c.list in
-    let k = room_listed l.ensures c.requires.steps_len_bound.0 c.requires.steps_len_bound.1 c.in-Many.n c.in-Many.is in
+    let k = room_listed l.ensures c.requires.steps_len_bound.0 c.requires.steps_len_bound.1 c.in-Ok.n c.in-Ok.is in
     (omega (arith, k.0, l.auto.out), omega (arith, k.1, c.requires.most_rows_in_bounds))
 
-pub returns-in-Many : goal.returns-in-Many
-returns-in-Many c =
+pub returns-in-Ok : goal.returns-in-Ok
+returns-in-Ok c =
     let a = c.args in
     let r = c.tell_threes in
     subst (λ (l : List ℕ). Wrote l a.at a.out.now r.result r.new.out)
-    (room_listed c.list.ensures c.requires.steps_len_bound.0 c.requires.steps_len_bound.1 c.in-Many.n c.in-Many.is).2 r.ensures
+    (room_listed c.list.ensures c.requires.steps_len_bound.0 c.requires.steps_len_bound.1 c.in-Ok.n c.in-Ok.is).2 r.ensures
 
-pub returns-in-Refused : goal.returns-in-Refused
-returns-in-Refused c =
+pub returns-in-Err : goal.returns-in-Err
+returns-in-Err c =
     let a = c.args in
     let r = c.tell_refusal in
     subst (λ (l : List ℕ). Wrote l a.at a.out.now r.result r.new.out)
-    (room_refused c.list.ensures c.requires.steps_len_bound.0 c.requires.steps_len_bound.1 c.in-Refused.r c.in-Refused.is) r.ensures
+    (room_refused c.list.ensures c.requires.steps_len_bound.0 c.requires.steps_len_bound.1 c.in-Err.r c.in-Err.is) r.ensures

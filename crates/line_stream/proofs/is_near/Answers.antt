@@ -1,7 +1,6 @@
 -- `line_stream::is_near` meets its contract.
 use mathlib.Core.Path.{◌≡◌, ap, ◌∙◌}
 use native.Mathlib.Omega.{arith}
-use borrow.Author.Rules.{rules}
 use lib.ListN.{drop}
 use lib.Dec.{ltb}
 use Rattle.line_frame.specs.Begun.{line_length}
@@ -10,15 +9,15 @@ use Rattle.line_stream.proofs.HoldLaws.{near_none, near_next}
 use Rattle.line_stream.proofs.is_near.Goals as goal
 
 pub loop-k-init : goal.loop-k-init
-loop-k-init c = (omega arith, near_none (drop c.args.at c.args.s.now))
+loop-k-init c = near_none (drop c.args.at c.args.s.now)
 
 pub loop-k-preserved : goal.loop-k-preserved
 loop-k-preserved c =
     let a = c.args in
-    (search rules, near_next a.s.now a.at c.loop-k.k (omega arith) c.loop-k.invariant.1)
+    near_next a.s.now a.at c.loop-k.k (omega arith) c.loop-k.invariant
 
 pub returns : goal.returns
 returns c =
     let a = c.args in
     let e : c.loop-k.k ≡ near = omega arith in
-    c.loop-k.invariant.1 ∙ ap (ltb (line_length (drop a.at a.s.now))) e
+    c.loop-k.invariant ∙ ap (ltb (line_length (drop a.at a.s.now))) e

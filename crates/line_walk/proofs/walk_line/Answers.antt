@@ -1,27 +1,34 @@
 -- `line_walk::walk_line` meets its contract.
-use mathlib.Core.Path.{sym, ◌∙◌}
+use mathlib.Core.Path.{sym, ap, ◌∙◌}
+use borrow.Author.Rules.{rules}
+use Rattle.std.specs.Prelude.{◌≡◌, Err, Option, Some, None}
+use Rattle.std.specs.Option.{ok_or}
+use Prim.Native.Nat.{ℕ}
 use Rattle.answer.specs.declared.Refusal.TheVariants.{BadLine}
-use Rattle.line_frame.specs.declared.Frame.TheVariants.{Of, Bad}
-use Rattle.line_frame.specs.Line.{digits_of}
+use Rattle.line_frame.specs.declared.Kind.{Kind}
+use Rattle.line_frame.specs.Line.{digits_of, frame_of}
 use Rattle.line_frame.proofs.LineLaws.{frame_good}
 use Rattle.line_room.proofs.WalkedLaws.{line_walked-by}
 use Rattle.line_walk.proofs.WalkLaws.{refused_handed, handed_by}
 use Rattle.line_walk.proofs.walk_line.Goals as goal
 
-pub walk_frame-requires : goal.walk_frame-requires
-walk_frame-requires c =
-    let g = frame_good c.args.s.now c.in-Of.kind c.in-Of.n (sym c.read.ensures ∙ c.in-Of.is) in record { s_value = g.digits; n_le_most_digits = (g.most, g.size); walk_buffers = c.requires }
+pub returns-in_err-kind-clause-walked_by : goal.returns-in_err-kind-clause-walked_by
+returns-in_err-kind-clause-walked_by c =
+    let s = c.args.s.now in
+    let e : frame_of s ≡ None = sym c.read.ensures ∙ c.in_err-kind.ensures.ok_part in
+    let r : c.from_residual.result ≡ Err c.in_err-kind.field-0.0 = search rules in
+    let v = c.in_err-kind.ensures.value ∙ ap (λ (o : Option (Kind × ℕ)). ok_or o BadLine) c.in_err-kind.ensures.ok_part in
+    let b : c.in_err-kind.field-0.0 ≡ BadLine = cc in
+    rw (r, b) (handed_by (line_walked-by s None e) (refused_handed BadLine (digits_of s) c.args.chain.now))
 
-pub returns-in-Of : goal.returns-in-Of
-returns-in-Of c =
-    record {
-      walked_by = handed_by (line_walked-by c.args.s.now (Of c.in-Of.kind c.in-Of.n) (sym c.read.ensures ∙ c.in-Of.is)) c.walk_frame.ensures.walked_by;
-      clear = c.walk_frame.ensures.clear;
-    }
+pub walk_frame-requires-clause-s_value : goal.walk_frame-requires-clause-s_value
+walk_frame-requires-clause-s_value c =
+    (frame_good c.args.s.now c.in_ok-kind.kind c.in_ok-kind.n (sym c.read.ensures ∙ c.in_ok-kind.ensures.ok_part)).digits
 
-pub returns-in-Bad : goal.returns-in-Bad
-returns-in-Bad c =
-    let a = c.args in record {
-      walked_by = handed_by (line_walked-by a.s.now Bad (sym c.read.ensures ∙ c.in-Bad.is)) (refused_handed BadLine (digits_of a.s.now) a.chain.now);
-      clear = c.requires.table;
-    }
+pub walk_frame-requires-clause-n_le_most_digits : goal.walk_frame-requires-clause-n_le_most_digits
+walk_frame-requires-clause-n_le_most_digits c =
+    let g = frame_good c.args.s.now c.in_ok-kind.kind c.in_ok-kind.n (sym c.read.ensures ∙ c.in_ok-kind.ensures.ok_part) in (g.most, g.size)
+
+pub returns-clause-walked_by : goal.returns-clause-walked_by
+returns-clause-walked_by c =
+    handed_by (line_walked-by c.args.s.now (Some (c.in_ok-kind.kind, c.in_ok-kind.n)) (sym c.read.ensures ∙ c.in_ok-kind.ensures.ok_part)) c.walk_frame.ensures.walked_by

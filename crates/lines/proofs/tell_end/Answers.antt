@@ -15,7 +15,7 @@ use Rattle.lines.proofs.tell_end.Goals as goal
 
 pub tell-requires : goal.tell-requires
 tell-requires c =
-    let m = c.lesser in
+    let m = c.min in
     let a = c.args in
     record {
       s_len_bound = omega (arith, length-take ((a.at + m.result) - a.at) (drop a.at a.s.now), m.ensures);
@@ -26,7 +26,7 @@ tell-requires c =
 pub returns-then-held-eq0 : goal.returns-then-held-eq0
 returns-then-held-eq0 c =
     let r = c.tell in
-    let m = c.lesser in
+    let m = c.min in
     let z = c.if-held-eq0.true in
     let a = c.args in
     let q : List ℕ = drop a.at a.s.now in

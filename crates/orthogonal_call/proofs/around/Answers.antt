@@ -8,14 +8,14 @@ use Rattle.orthogonal_call.proofs.around.Goals as goal
 pub overflow_sub-result : goal.overflow_sub-result
 overflow_sub-result c =
     let a = c.args in omega
-    (arith, c.requires.5, c.wide-east.ensures.0, ap (λ (n : ℕ). get_or a.hi.now n 0) c.home_row.ensures.0)
+    (arith, c.requires.5, c.from-east.ensures, ap (λ (n : ℕ). get_or a.hi.now n 0) c.home_row.ensures.0)
 
 pub overflow_sub-result-2 : goal.overflow_sub-result-2
 overflow_sub-result-2 c =
     let a = c.args in omega
-    (arith, c.requires.5, c.wide-east.ensures.0, c.wide.ensures.0, ap (λ (n : ℕ). get_or a.hi.now n 0) c.home_row.ensures.0)
+    (arith, c.requires.5, c.from-east.ensures, c.from.ensures, ap (λ (n : ℕ). get_or a.hi.now n 0) c.home_row.ensures.0)
 
 pub returns : goal.returns
 returns c =
     let a = c.args in omega
-    (arith, c.wide-east.ensures.0, c.wide.ensures.0, ap (λ (n : ℕ). get_or a.hi.now n 0) c.home_row.ensures.0)
+    (arith, c.from-east.ensures, c.from.ensures, ap (λ (n : ℕ). get_or a.hi.now n 0) c.home_row.ensures.0)

@@ -28,6 +28,6 @@ returns c =
     let v = c.lowered-2 in
     λ s ds g d. answer_outlined d c.home_row-home.result c.home_row-home.ensures.0 c.around-steps.result
     c.around-steps.ensures a.out.now c.draw.new.out c.if-out-steps.false c.draw.ensures
-    (to_z w32 (of_z w32 u.result)) (to_z w32 (of_z w32 v.result)) c.wide.result c.count-blocks.result
-    c.wide.ensures.0 (to_z-of_z (sfits_of {w = w32} {z = u.result} u.type_inv) ∙ u.ensures)
+    (to_z w32 (of_z w32 u.result)) (to_z w32 (of_z w32 v.result)) c.from.result c.count-blocks.result
+    c.from.ensures (to_z-of_z (sfits_of {w = w32} {z = u.result} u.type_inv) ∙ u.ensures)
     (to_z-of_z (sfits_of {w = w32} {z = v.result} v.type_inv) ∙ v.ensures) c.count-blocks.ensures

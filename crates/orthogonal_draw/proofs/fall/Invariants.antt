@@ -1,12 +1,8 @@
--- What the loops of `orthogonal_draw::fall` keep, and how they end.
-use Prim.Native.Nat.{◌-◌, ◌≤◌}
-use lib.ListN.{length}
+-- What the loop of `orthogonal_draw::fall` keeps.
+use Prim.Native.Nat.{◌-◌}
 use Rattle.orthogonal_draw.specs.Sides.{left_in, descent}
 use Rattle.orthogonal_draw.proofs.SideLaws.{Drawing}
 use Rattle.orthogonal_draw.proofs.fall.Given as goal
 
 abbrev pub invariant-loop-q : goal.invariant-loop-q
-invariant-loop-q l = (l.first ≤ l.q) × (l.q ≤ length l.lo) × Drawing l.initial.out l.from (descent (left_in l.lo) l.x l.first (l.end - l.first)) l.out l.at (descent (left_in l.lo) l.col l.first (l.q - l.first))
-
-abbrev pub decreases-loop-q : goal.decreases-loop-q
-decreases-loop-q l = l.q - l.first
+invariant-loop-q l = Drawing l.initial.out l.from (descent (left_in l.lo) l.x l.first (l.end - l.first)) l.out l.at (descent (left_in l.lo) l.col l.first (l.q - l.first))

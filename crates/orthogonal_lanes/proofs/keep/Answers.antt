@@ -1,12 +1,9 @@
 -- `orthogonal_lanes::keep` meets its contract.
-use mathlib.Core.Path.{ap, ◌∙◌}
-use Prim.Native.Nat.{ℕ, min}
+use mathlib.Core.Path.{ap}
 use lib.ListN.{set}
 use Rattle.hull_laws.specs.Lowest.{sink}
 use Rattle.orthogonal_lanes.proofs.keep.Goals as goal
 
 pub returns : goal.returns
 unfolding sink
-returns c =
-    let a = c.args in ap (set a.a.now a.q)
-    (c.lesser.ensures ∙ ap (λ (n : ℕ). min n a.x) c.wide-before.ensures.0)
+returns c = let a = c.args in ap (set a.a.now a.q) c.min.ensures

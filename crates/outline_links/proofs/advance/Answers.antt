@@ -1,4 +1,5 @@
 -- `outline_links::advance` meets its contract.
+use mathlib.Core.Path.{◌∙◌}
 use native.Mathlib.Omega.{arith}
 use lib.ListN.{length-set}
 use Rattle.grid.proofs.StepLaws.{back_small}
@@ -9,8 +10,8 @@ use Rattle.outline_links.proofs.advance.Goals as goal
 pub returns-then-l-ne0 : goal.returns-then-l-ne0
 returns-then-l-ne0 c =
     let a = c.args in
-    along_link a.keys.now a.kids.now a.links.now a.used a.node a.k a.d c.wide-l.result
-    c.wide-l.ensures.0 c.if-l-ne0.true
+    along_link a.keys.now a.kids.now a.links.now a.used a.node a.k a.d c.from-l.result
+    (rw c.from.ensures at c.from-l.ensures) c.if-l-ne0.true
 
 pub overflow_mul-to : goal.overflow_mul-to
 overflow_mul-to c =
@@ -45,6 +46,6 @@ bounds-links-to c =
 pub returns : goal.returns
 returns c =
     let a = c.args in
-    let w = c.wide-l in
-    joined_new a.keys.now a.kids.now a.links.now a.used a.node a.k a.d w.result w.ensures.0
-    c.opposite.result c.if-l-ne0.false c.opposite.ensures c.enter-s.ensures
+    let w = c.from-l in
+    rw c.from.ensures (joined_new a.keys.now a.kids.now a.links.now a.used a.node a.k a.d w.result (rw c.from.ensures at w.ensures)
+    c.from-2.result c.if-l-ne0.false (c.from-2.ensures ∙ c.opposite.ensures) c.enter-s.ensures)

@@ -1,59 +1,40 @@
 -- `outline_links::build` meets its contract.
-use mathlib.Core.Path.{◌≡◌, refl, ◌∙◌}
-use native.Mathlib.Omega.{arith}
-use lib.ListN.{length, length-set}
+use mathlib.Core.Path.{◌≡◌}
+use mathlib.Core.Bool.{cond}
+use lib.Dec.{ltb}
 use Rattle.grid.specs.Grid.{origin}
-use Rattle.outline_links.proofs.BuildLaws.{building_start, building_key, building_ready, building_next, building_sizes, building_end}
+use Rattle.outline_links.proofs.BuildLaws.{building_start, building_key, building_ready, building_next, building_end, first_of, second_of}
+use Rattle.outline_links.proofs.build.Goals.{then-k-least, else-k-least}
 use Rattle.outline_links.proofs.build.Goals as goal
 
-pub loop-i-init : goal.loop-i-init
-loop-i-init c = ((λ a. building_start a c.args.chain.now c.args.keys.now c.args.kids.now c.args.links.now c.requires), refl)
+pub loop-d-init : goal.loop-d-init
+loop-d-init c = λ a. building_start a c.args.chain.now c.args.keys.now c.args.kids.now c.args.links.now c.requires
 
 pub key_after-k-requires : goal.key_after-k-requires
 key_after-k-requires c =
-    let l = c.loop-i in
+    let l = c.loop-d in
     building_key origin c.args.chain.now l.keys l.kids l.links l.k l.least l.home l.used
-    l.node l.i (l.invariant.0 origin) c.loop-i-test.true
+    l.node l.d-index (l.invariant origin) c.loop-d-test.true
 
 pub advance-s-requires : goal.advance-s-requires
 advance-s-requires c =
-    let l = c.loop-i in
-    (building_ready origin c.args.chain.now l.keys l.kids l.links l.k l.least l.home l.used l.node l.i (l.invariant.0 origin) c.loop-i-test.true, (l.invariant.0 origin).sized.digits l.i)
+    let l = c.loop-d in
+    (building_ready origin c.args.chain.now l.keys l.kids l.links l.k l.least l.home l.used l.node l.d-index (l.invariant origin) c.loop-d-test.true, (l.invariant origin).sized.digits l.d-index)
 
-pub loop-i-smaller : goal.loop-i-smaller
-loop-i-smaller c = omega (arith, c.loop-i-test.true)
-
-pub loop-i-preserved : goal.loop-i-preserved
-loop-i-preserved c =
+pub loop-d-preserved : goal.loop-d-preserved
+loop-d-preserved c =
     let b = c.args in
-    let d = c.loop-i-test in
+    let t = c.loop-d-test.true in
     let e = c.key_after-k in
     let f = c.advance-s in
-    let l = c.loop-i in
-    ((λ a. (building_next a b.chain.now l.keys l.kids l.links l.k l.least l.home l.used l.node l.i (l.invariant.0 a) d.true e.ensures f.ensures c.lesser-least.ensures c.lower-home.ensures).0), (building_next origin b.chain.now l.keys l.kids l.links l.k l.least l.home l.used l.node l.i (l.invariant.0 origin) d.true e.ensures f.ensures c.lesser-least.ensures c.lower-home.ensures).1 ∙ l.invariant.1)
-
-pub shape_of-keys : goal.shape_of-keys
-shape_of-keys c = c.loop-i.invariant.1 ∙ length-set c.args.keys.now 0 536903680
-
-pub shape_of-kids : goal.shape_of-kids
-shape_of-kids c =
-    let a = c.args in
-    let l = c.loop-i in
-    let z = building_sizes origin a.chain.now l.keys l.kids l.links l.k l.least l.home l.used l.node
-    l.i (l.invariant.0 origin) in
-    let e : length l.keys ≡ length a.keys.now = l.invariant.1 ∙ length-set a.keys.now 0 536903680 in
-    omega (arith, z.0, e, c.requires.pairs)
-
-pub shape_of-links : goal.shape_of-links
-shape_of-links c =
-    let a = c.args in
-    let l = c.loop-i in
-    let z = building_sizes origin a.chain.now l.keys l.kids l.links l.k l.least l.home l.used l.node
-    l.i (l.invariant.0 origin) in
-    let e : length l.keys ≡ length a.keys.now = l.invariant.1 ∙ length-set a.keys.now 0 536903680 in
-    omega (arith, z.1, e, c.requires.words)
+    let l = c.loop-d in
+    let m : c.if-k-least.least ≡ cond (ltb e.result l.least) e.result l.least =
+    elim c.if-k-least.branch [ then-k-least w ↦ first_of _ _ _ w.if-k-least.true w.least-is | else-k-least w ↦ second_of _ _ _ w.if-k-least.false w.least-is ] in
+    let h : c.if-k-least.home ≡ cond (ltb e.result l.least) f.result.node l.home =
+    elim c.if-k-least.branch [ then-k-least w ↦ first_of _ _ _ w.if-k-least.true w.home-is | else-k-least w ↦ second_of _ _ _ w.if-k-least.false w.home-is ] in
+    λ a. building_next a b.chain.now l.keys l.kids l.links l.k l.least l.home l.used l.node l.d-index (l.invariant a) t e.ensures f.ensures m h
 
 pub returns : goal.returns
 returns c =
-    λ a. let l = c.loop-i in building_end a c.args.chain.now l.keys l.kids l.links l.k l.least
-    l.home l.used l.node l.i (l.invariant.0 a) c.loop-i-test.false
+    λ a. let l = c.loop-d in building_end a c.args.chain.now l.keys l.kids l.links l.k l.least
+    l.home l.used l.node l.d-index (l.invariant a) c.loop-d-test.false

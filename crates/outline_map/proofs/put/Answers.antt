@@ -41,13 +41,12 @@ loop-out-init c = (
       c.args.first c.requires.0 c.args.out.now
       (put_some c.args.chain.now c.args.by.now c.args.map.now c.args.home
       c.args.first c.requires.0 (length c.args.out.now) c.requires.1),
-  refl,
 )
 
 pub bounds-out-n : goal.bounds-out-n
 bounds-out-n c =
     let l = c.loop-out in
-    omega (arith, l.invariant.3, length-set c.args.out.now 0 c.args.first, c.requires.1 origin, (going_less c.args.chain.now c.args.by.now c.args.map.now c.args.home c.args.first c.requires.0 l.n l.i l.d l.invariant.0 (sym c.away.ensures ∙ c.loop-out-test.true) origin).0)
+    omega (arith, l.auto.out, length-set c.args.out.now 0 c.args.first, c.requires.1 origin, (going_less c.args.chain.now c.args.by.now c.args.map.now c.args.home c.args.first c.requires.0 l.n l.i l.d l.invariant.0 (sym c.away.ensures ∙ c.loop-out-test.true) origin).0)
 
 pub go-i-requires-in-loop-out : goal.go-i-requires-in-loop-out
 go-i-requires-in-loop-out c =
@@ -87,11 +86,7 @@ loop-out-preserved c =
       put_next c.args.chain.now c.args.by.now c.args.map.now c.args.home
           c.args.first c.requires.0 _ l.out l.n l.i l.d l.invariant.0 l.invariant.2
           (omega (arith, g, c.requires.1 origin, length-set c.args.out.now 0 c.args.first)),
-      length-set l.out l.n l.d ∙ l.invariant.3,
     )
-
-pub shape_of-out : goal.shape_of-out
-shape_of-out c = c.loop-out.invariant.3 ∙ length-set c.args.out.now 0 c.args.first
 
 pub returns : goal.returns
 returns c =

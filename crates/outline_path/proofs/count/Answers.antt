@@ -17,48 +17,48 @@ turn-d-requires c =
     at-to origin a.chain.now a.links.now a.home a.first (p) 0 a.home a.first
     (at-start origin a.chain.now a.links.now a.home a.first (p)) c.follow-i.result c.follow-i.ensures
 
-pub loop-j-init : goal.loop-j-init
-loop-j-init c =
+pub loop-i-init : goal.loop-i-init
+loop-i-init c =
     going_start c.args.chain.now c.args.links.now c.args.home c.args.first
     c.requires c.follow-i.result c.turn-d.result c.follow-i.ensures c.turn-d.ensures
 
-pub follow-j-requires : goal.follow-j-requires
-follow-j-requires c =
+pub follow-i-requires-in-loop-i : goal.follow-i-requires-in-loop-i
+follow-i-requires-in-loop-i c =
     let a = c.args in
-    let l = c.loop-j in
+    let l = c.loop-i in
     at_link origin a.chain.now a.links.now a.home a.first c.requires l.n l.i l.d (l.invariant origin).at
 
-pub turn-d-requires-in-loop-j : goal.turn-d-requires-in-loop-j
-turn-d-requires-in-loop-j c =
+pub turn-d-requires-in-loop-i : goal.turn-d-requires-in-loop-i
+turn-d-requires-in-loop-i c =
     let a = c.args in
-    let l = c.loop-j in
+    let l = c.loop-i in
     at-to origin a.chain.now a.links.now a.home a.first c.requires l.n l.i l.d (l.invariant origin).at
-    c.follow-j.result c.follow-j.ensures
+    c.follow-i-in-loop-i.result c.follow-i-in-loop-i.ensures
 
 pub overflow_add-n : goal.overflow_add-n
 overflow_add-n c =
     let a = c.args in
     let p = c.requires in
-    let l = c.loop-j in
-    omega (arith, p.short, going_less a.chain.now a.links.now a.home a.first (p) l.n l.i l.d l.invariant (sym c.away.ensures ∙ c.loop-j-test.true))
+    let l = c.loop-i in
+    omega (arith, p.short, going_less a.chain.now a.links.now a.home a.first (p) l.n l.i l.d l.invariant (sym c.away.ensures ∙ c.loop-i-test.true))
 
-pub loop-j-smaller : goal.loop-j-smaller
-loop-j-smaller c =
+pub loop-i-smaller : goal.loop-i-smaller
+loop-i-smaller c =
     let a = c.args in
-    let l = c.loop-j in
-    omega (arith, going_less a.chain.now a.links.now a.home a.first c.requires l.n l.i l.d l.invariant (sym c.away.ensures ∙ c.loop-j-test.true))
+    let l = c.loop-i in
+    omega (arith, going_less a.chain.now a.links.now a.home a.first c.requires l.n l.i l.d l.invariant (sym c.away.ensures ∙ c.loop-i-test.true))
 
-pub loop-j-preserved : goal.loop-j-preserved
-loop-j-preserved c =
+pub loop-i-preserved : goal.loop-i-preserved
+loop-i-preserved c =
     let a = c.args in
-    let l = c.loop-j in
+    let l = c.loop-i in
     going_next a.chain.now a.links.now a.home a.first c.requires l.n l.i l.d l.invariant
-    (sym c.away.ensures ∙ c.loop-j-test.true) c.follow-j.result c.turn-d-in-loop-j.result
-    c.follow-j.ensures c.turn-d-in-loop-j.ensures
+    (sym c.away.ensures ∙ c.loop-i-test.true) c.follow-i-in-loop-i.result c.turn-d-in-loop-i.result
+    c.follow-i-in-loop-i.ensures c.turn-d-in-loop-i.ensures
 
 pub returns : goal.returns
 returns c =
     let a = c.args in
-    let l = c.loop-j in
+    let l = c.loop-i in
     going_end a.chain.now a.links.now a.home a.first c.requires l.n l.i l.d l.invariant
-    (sym c.away.ensures ∙ c.loop-j-test.false)
+    (sym c.away.ensures ∙ c.loop-i-test.false)

@@ -5,8 +5,8 @@ use Rattle.grid.specs.declared.Corner.{Corner}
 use Rattle.outline_path.proofs.RingLaws.{Going}
 use Rattle.outline_path.proofs.count.Given as goal
 
-abbrev pub invariant-loop-j : goal.invariant-loop-j
-invariant-loop-j l = ((a : Corner) → Going a l.chain l.n l.i l.d)
+abbrev pub invariant-loop-i : goal.invariant-loop-i
+invariant-loop-i l = ((a : Corner) → Going a l.chain l.n l.i l.d)
 
-abbrev pub decreases-loop-j : goal.decreases-loop-j
-decreases-loop-j l = 2 * length l.chain - l.n
+abbrev pub decreases-loop-i : goal.decreases-loop-i
+decreases-loop-i l = 2 * length l.chain - l.n

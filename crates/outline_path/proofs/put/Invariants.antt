@@ -1,10 +1,6 @@
 -- What the loops of `outline_path::put` keep, and how they end.
-use Prim.Native.Nat.{◌-◌, ◌≤◌}
 use Rattle.outline_path.proofs.RingLaws.{Writing}
 use Rattle.outline_path.proofs.put.Given as goal
 
 abbrev pub invariant-loop-k : goal.invariant-loop-k
-invariant-loop-k l = Writing l.chain l.initial.out l.out l.k l.i l.d × (l.k ≤ l.n)
-
-abbrev pub decreases-loop-k : goal.decreases-loop-k
-decreases-loop-k l = l.n - l.k
+invariant-loop-k l = Writing l.chain l.initial.out l.out l.k l.i l.d

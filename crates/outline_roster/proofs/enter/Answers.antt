@@ -10,27 +10,27 @@ pub offset_bounds-kids-at : goal.offset_bounds-kids-at
 offset_bounds-kids-at c =
     let a = c.args in
     let p = c.requires in
-    let f = free_child a.keys.now a.kids.now a.used p.0 a.k c.in-Free.at
-    (sym c.seek.ensures ∙ c.in-Free.is) in
+    let f = free_child a.keys.now a.kids.now a.used p.0 a.k c.in-Err.at
+    (sym c.seek.ensures ∙ c.in-Err.is) in
     omega (arith, f.0, p.2)
 
 pub bounds-kids-at : goal.bounds-kids-at
 bounds-kids-at c =
     let a = c.args in
     let p = c.requires in
-    let f = free_child a.keys.now a.kids.now a.used p.0 a.k c.in-Free.at
-    (sym c.seek.ensures ∙ c.in-Free.is) in
+    let f = free_child a.keys.now a.kids.now a.used p.0 a.k c.in-Err.at
+    (sym c.seek.ensures ∙ c.in-Err.is) in
     omega (arith, f.0, p.0.pairs, p.1)
 
-pub returns-in-Node : goal.returns-in-Node
-returns-in-Node c =
+pub returns-in-Ok : goal.returns-in-Ok
+returns-in-Ok c =
     let a = c.args in
-    seated_there a.keys.now a.kids.now a.used c.requires.0 a.k c.in-Node.i
-    (sym c.seek.ensures ∙ c.in-Node.is)
+    seated_there a.keys.now a.kids.now a.used c.requires.0 a.k c.in-Ok.node
+    (sym c.seek.ensures ∙ c.in-Ok.is)
 
-pub returns-in-Free : goal.returns-in-Free
-returns-in-Free c =
+pub returns-in-Err : goal.returns-in-Err
+returns-in-Err c =
     let a = c.args in
     let p = c.requires in
-    rw (add-one a.used) (seated_new a.keys.now a.kids.now a.used p.0 a.k c.in-Free.at
-    (sym c.seek.ensures ∙ c.in-Free.is) p.1)
+    rw (add-one a.used) (seated_new a.keys.now a.kids.now a.used p.0 a.k c.in-Err.at
+    (sym c.seek.ensures ∙ c.in-Err.is) p.1)

@@ -7,31 +7,13 @@ use Rattle.outline_roster.proofs.seek.Goals as goal
 pub loop-i-init : goal.loop-i-init
 loop-i-init c = seeking_start c.args.keys.now c.args.kids.now c.args.used c.requires c.args.k
 
-pub offset_bounds-keys-i : goal.offset_bounds-keys-i
-offset_bounds-keys-i c = omega (arith, c.loop-i.invariant.inside, c.requires.room)
-
-pub bounds-keys-i : goal.bounds-keys-i
-bounds-keys-i c = omega (arith, c.loop-i.invariant.inside, c.requires.room)
-
-pub overflow_mul-at : goal.overflow_mul-at
-overflow_mul-at c = omega (arith, c.loop-i.invariant.inside, c.requires.room)
-
-pub overflow_add-at : goal.overflow_add-at
-overflow_add-at c = omega (arith, c.loop-i.invariant.inside, c.requires.room, c.digit.ensures)
-
-pub offset_bounds-kids-at : goal.offset_bounds-kids-at
-offset_bounds-kids-at c = omega (arith, c.loop-i.invariant.inside, c.requires.room, c.requires.pairs, c.digit.ensures)
-
-pub bounds-kids-at : goal.bounds-kids-at
-bounds-kids-at c = omega (arith, c.loop-i.invariant.inside, c.requires.room, c.requires.pairs, c.digit.ensures)
-
 pub returns-then-c-eq0 : goal.returns-then-c-eq0
 returns-then-c-eq0 c =
     let a = c.args in
     let d = c.digit in
     let l = c.loop-i in
     seeking_stop a.keys.now a.kids.now a.used c.requires a.k l.i l.r l.invariant d.result
-    c.wide-c.result d.ensures c.wide-c.ensures.0 c.loop-i-test.true c.if-c-eq0.true
+    c.from-c.result d.ensures c.from-c.ensures c.loop-i-test.true c.if-c-eq0.true
 
 pub loop-i-smaller : goal.loop-i-smaller
 loop-i-smaller c =
@@ -39,7 +21,7 @@ loop-i-smaller c =
     let b = c.digit in
     let l = c.loop-i in
     let d = seeking_less a.keys.now a.kids.now a.used c.requires a.k l.i l.r l.invariant b.result
-    c.wide-c.result b.ensures c.wide-c.ensures.0 c.loop-i-test.true c.if-c-eq0.false in
+    c.from-c.result b.ensures c.from-c.ensures c.loop-i-test.true c.if-c-eq0.false in
     omega (arith, d.0, d.1)
 
 pub loop-i-preserved : goal.loop-i-preserved
@@ -48,7 +30,7 @@ loop-i-preserved c =
     let d = c.digit in
     let l = c.loop-i in
     seeking_on a.keys.now a.kids.now a.used c.requires a.k l.i l.r l.invariant d.result
-    c.wide-c.result d.ensures c.wide-c.ensures.0 c.loop-i-test.true c.if-c-eq0.false
+    c.from-c.result d.ensures c.from-c.ensures c.loop-i-test.true c.if-c-eq0.false
 
 pub returns : goal.returns
 returns c =

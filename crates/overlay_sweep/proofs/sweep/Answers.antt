@@ -28,7 +28,7 @@ close-m-requires c =
     let more : l.i + l.j < c.args.na + c.args.nb = omega (arith, c.loop-i-test.true) in
     let p = c.first_key-p in
     let q = c.second_key-q in
-    let k = c.lesser-next in
+    let k = c.min-next in
     sweep_closable c.requires.0 c.requires.1 l.invariant more p.ensures q.ensures k.ensures
 
 pub further-i-requires : goal.further-i-requires
@@ -43,7 +43,7 @@ loop-i-smaller c =
     let more : l.i + l.j < c.args.na + c.args.nb = omega (arith, c.loop-i-test.true) in
     let p = c.first_key-p in
     let q = c.second_key-q in
-    let k = c.lesser-next in
+    let k = c.min-next in
     let s = sweep_nearer c.requires.0 c.requires.1 l.invariant more p.ensures q.ensures k.ensures in
     omega (arith, s.0, s.1, s.2, c.further-i.ensures, c.further-j.ensures)
 
@@ -53,7 +53,7 @@ loop-i-preserved c =
     let more : l.i + l.j < c.args.na + c.args.nb = omega (arith, c.loop-i-test.true) in
     let p = c.first_key-p in
     let q = c.second_key-q in
-    let k = c.lesser-next in
+    let k = c.min-next in
     let d = c.close-m in
     let f = d.new.first in
     let g = d.new.second in

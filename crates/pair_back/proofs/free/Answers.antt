@@ -18,5 +18,5 @@ returns c =
     let z : List ℕ = replicate pair_width 0 in (
       c.clear_record.ensures ∙ ap (λ (x : List ℕ). sets x (a.u * pair_width) z)
           (c.put.ensures ∙ ap (λ (n : ℕ). set a.t.now (pair_word_at a.up n) 0) c.child_word.ensures),
-      ap (λ (n : ℕ). record { nodes = a.s.nodes - 1; low = n }) c.lesser.ensures,
+      ap (λ (n : ℕ). record { nodes = a.s.nodes - 1; low = n }) c.min.ensures,
     )

@@ -6,8 +6,8 @@ use Rattle.pair_call.proofs.facts.Goals as goal
 pub returns : goal.returns
 returns c =
     let a = c.args in
-    let x = c.conclude-f in
-    let y = c.conclude-g in
+    let x = c.conclude in
+    let y = c.conclude-2 in
     λ ds es k l.
     let f = x.ensures ds k in
     let g = y.ensures es l in

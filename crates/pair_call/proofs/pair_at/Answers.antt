@@ -6,4 +6,4 @@ use Rattle.pair_call.proofs.pair_at.Goals as goal
 pub returns : goal.returns
 returns c =
     let a = c.args in
-    ap₂ (λ (f g : Party). record { first = f; second = g; stock = a.two.stock }) c.new-first.ensures c.new-second.ensures
+    ap₂ (λ (f g : Party). record { first = f; second = g; stock = a.two.stock }) c.new.ensures c.new-2.ensures

@@ -1,6 +1,10 @@
 -- `pair_change::above_made` meets its contract.
+use mathlib.Core.Bool.{not}
+use mathlib.Core.Path.{◌∙◌}
+use Prim.Native.Nat.{◌+◌}
 use native.Mathlib.Omega.{arith}
-use Rattle.pair_change.proofs.CountLaws.{made_none, made_shared, made_alone}
+use lib.Dec.{eqb}
+use Rattle.pair_change.proofs.CountLaws.{counted, made_none, made_shared, made_alone}
 use Rattle.pair_change.proofs.above_made.Goals as goal
 
 pub returns-then-own-step : goal.returns-then-own-step
@@ -19,4 +23,4 @@ returns c =
     let a = c.args in
     made_alone a.q a.t.now a.u a.v a.step c.own.result c.own.ensures
     c.if-own-step.false c.others.result c.others.ensures c.if-others-ne0.false
-    c.word.result c.one_unless.result c.word.ensures c.one_unless.ensures
+    c.word.result c.from.result c.word.ensures (c.from.ensures ∙ counted (not (eqb c.word.result (a.u + 1))))

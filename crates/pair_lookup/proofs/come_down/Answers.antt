@@ -1,6 +1,6 @@
 -- `pair_lookup::come_down` meets its contract.
 use mathlib.Core.List.{List}
-use mathlib.Core.Path.{◌≡◌, refl, ap, sym, ◌∙◌, subst}
+use mathlib.Core.Path.{◌≡◌, ap, sym, ◌∙◌, subst}
 use Prim.Native.Nat.{ℕ, suc, ◌-◌, ◌<◌}
 use native.Mathlib.Omega.{arith}
 use lib.IntN.{nat_abs}
@@ -39,9 +39,6 @@ module _ (t : List ℕ) (slots : List Slot) (B : Both) (q : ℕ) (v : Located) (
 
   level-next : (r.at ≡ 0 → ⊥) → ComesDown t' slots B q r (w - 1) c d s left
   level-next = comes_next t slots B q v u c d s left k known small pos (w - 1) here t' r answer
-
-pub loop-left-init : goal.loop-left-init
-loop-left-init c = (refl, c.requires.at_nonzero, λ slots B k. k)
 
 pub word-requires : goal.word-requires
 word-requires c =

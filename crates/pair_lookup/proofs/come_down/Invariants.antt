@@ -10,6 +10,3 @@ use Rattle.pair_lookup.proofs.come_down.Given as goal
 
 abbrev pub invariant-loop-left : goal.invariant-loop-left
 invariant-loop-left l = (length l.t ≡ length l.initial.t) × (0 < l.to.at) × ((slots : List Slot) (B : Both) → ComesDown l.initial.t slots B l.q l.initial.to l.u l.c l.d l.step l.level → ComesDown l.t slots B l.q l.to l.at l.c l.d l.step l.left)
-
-abbrev pub decreases-loop-left : goal.decreases-loop-left
-decreases-loop-left l = l.left

@@ -31,8 +31,8 @@ child-to-requires c =
       by_index = λ w e. lift_child a.t.now k.slots k.both a.q a.v a.u a.a a.d a.step k.lifts q.3 q.2 q.4 w (ap (words_in a.t.now (a.v.at - 1)) (sym p) ∙ e);
     }
 
-pub returns-then-at-eq0 : goal.returns-then-at-eq0
-returns-then-at-eq0 c =
+pub returns-then-to-eq0 : goal.returns-then-to-eq0
+returns-then-to-eq0 c =
     let a = c.args in
     let q = c.requires.a_bound in
     let r = c.child-to in
@@ -41,7 +41,7 @@ returns-then-at-eq0 c =
     let h = subst (λ (w : ℕ). Childed a.q a.t.now a.v.stock (a.v.at - 1) w a.step r.new.t r.result) p
     r.ensures in
     λ slots B k. lift-none a.t.now slots B a.q a.v a.u a.a a.d a.step k q.3 q.2 q.4 r.new.t
-    r.result h c.if-at-eq0.true
+    r.result h c.if-to-eq0.true
 
 pub link-requires : goal.link-requires
 link-requires c =
@@ -54,7 +54,7 @@ link-requires c =
     let h = subst (λ (w : ℕ). Childed a.q a.t.now a.v.stock (a.v.at - 1) w a.step r.new.t r.result) p
     r.ensures in
     let b = lift-ends a.t.now k.slots k.both a.q a.v a.u a.a a.d a.step k.lifts q.3 q.2
-    q.4 r.new.t r.result h c.if-at-eq0.false in
+    q.4 r.new.t r.result h c.if-to-eq0.false in
     record { in_table = b; q_bound = (q.3, q.2, omega (arith, r.auto.t, q.6)) }
 
 pub returns : goal.returns
@@ -67,4 +67,4 @@ returns c =
     let h = subst (λ (w : ℕ). Childed a.q a.t.now a.v.stock (a.v.at - 1) w a.step r.new.t r.result) p
     r.ensures in
     λ slots B k. lift-linked a.t.now slots B a.q a.v a.u a.a a.d a.step k q.3 q.2 q.4 r.new.t
-    r.result h c.if-at-eq0.false c.link.new.t c.link.ensures
+    r.result h c.if-to-eq0.false c.link.new.t c.link.ensures

@@ -24,15 +24,15 @@ reach-to-requires c =
       c_bound = (q.0, q.1, q.2, q.3, omega arith, omega (arith, q.4), q.5);
     }
 
-pub returns-then-at-eq0 : goal.returns-then-at-eq0
-returns-then-at-eq0 c =
+pub returns-then-to-eq0 : goal.returns-then-to-eq0
+returns-then-to-eq0 c =
     let a = c.args in
     let q = c.requires.at_bound in
     let r = c.reach-to in
     λ x y ds es slots k.
     moves_full a.t.now x y ds es slots a.q a.p a.s k q.3 a.d q.2 (a.p.steps + 1) refl r.new.t
     r.result (r.ensures slots (both_of (corners_from x ds) (corners_from y es))
-    (moves_looks a.t.now x y ds es slots a.q a.p a.s k q.3)) c.if-at-eq0.true r.new.t
+    (moves_looks a.t.now x y ds es slots a.q a.p a.s k q.3)) c.if-to-eq0.true r.new.t
 
 pub arrive-party-requires : goal.arrive-party-requires
 arrive-party-requires c =
@@ -50,7 +50,7 @@ arrive-party-requires c =
         chain = by_party a.q k.firsts k.seconds;
         arrives = moves_arrives a.t.now k.first k.second k.firsts k.seconds k.slots a.q a.p a.s
             k.moves q.3 a.d q.2 (a.p.steps + 1) refl r.new.t r.result (r.ensures k.slots B l)
-            c.if-at-eq0.false;
+            c.if-to-eq0.false;
       };
       at_bound = (q.0, q.1, q.2, q.3, q.4);
     }
@@ -66,7 +66,7 @@ returns c =
     let B = both_of (corners_from x ds) (corners_from y es) in
     let f = r.ensures slots B (moves_looks a.t.now x y ds es slots a.q a.p a.s k q.3) in
     moves-to a.t.now x y ds es slots a.q a.p a.s k q.3 a.d q.2 (a.p.steps + 1) refl r.new.t
-    r.result f c.if-at-eq0.false v.new.t v.ensures.t_after w
+    r.result f c.if-to-eq0.false v.new.t v.ensures.t_after w
     (v.ensures.party_is slots B (by_party a.q x y) (by_party a.q ds es)
-    (moves_arrives a.t.now x y ds es slots a.q a.p a.s k q.3 a.d q.2 (a.p.steps + 1) refl r.new.t r.result f c.if-at-eq0.false))
+    (moves_arrives a.t.now x y ds es slots a.q a.p a.s k q.3 a.d q.2 (a.p.steps + 1) refl r.new.t r.result f c.if-to-eq0.false))
     refl

@@ -23,9 +23,6 @@ loop-left-init c =
     let d = c.depth-left in
     (refl, omega arith, d.ensures, omega arith, λ slots C k. grows_start a.t.now slots C a.q a.s k c.requires.near.1 a.c d.result d.ensures)
 
-pub overflow_sub-to : goal.overflow_sub-to
-overflow_sub-to c = omega (arith, c.loop-left.invariant.1)
-
 pub child-to-requires : goal.child-to-requires
 child-to-requires c =
     let a = c.args in

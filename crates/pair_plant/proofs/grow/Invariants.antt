@@ -13,6 +13,3 @@ use Rattle.pair_plant.proofs.grow.Given as goal
 
 abbrev pub invariant-loop-left : goal.invariant-loop-left
 invariant-loop-left l = (length l.t ≡ length l.initial.t) × (0 < l.to.at) × Deep l.c l.initial.left × (l.left ≤ l.initial.left) × ((slots : List Slot) (C : Both) → Plants l.initial.t slots C l.q l.initial.to.stock → Grows slots C l.q (up_by l.left l.c) l.t l.to)
-
-abbrev pub decreases-loop-left : goal.decreases-loop-left
-decreases-loop-left l = l.left

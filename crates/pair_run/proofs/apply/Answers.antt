@@ -21,11 +21,11 @@ step-requires c =
       q_bound = c.requires.q_bound;
     }
 
-pub overflow_sub-last : goal.overflow_sub-last
-overflow_sub-last c = omega (arith, fine_back c.args.p.steps c.args.op c.requires.pair_ready.fine c.if-op-ne4.false)
+pub overflow_sub-d : goal.overflow_sub-d
+overflow_sub-d c = omega (arith, fine_back c.args.p.steps c.args.op c.requires.pair_ready.fine c.if-op-ne4.false)
 
-pub bounds-chain-last : goal.bounds-chain-last
-bounds-chain-last c =
+pub bounds-chain-p : goal.bounds-chain-p
+bounds-chain-p c =
     let a = c.args in
     let k = c.requires.pair_ready in
     turn_place a.t.now a.chain.now k.first k.second k.firsts k.seconds k.slots a.q a.p a.s

@@ -1,6 +1,6 @@
 -- What the loops of `pair_run::run` keep, and how they end.
 use mathlib.Core.Path.{◌≡◌}
-use Prim.Native.Nat.{◌-◌, ◌*◌, ◌≤◌}
+use Prim.Native.Nat.{◌*◌, ◌≤◌}
 use lib.ListN.{length}
 use Rattle.layout.specs.Marks.{mark_words}
 use Rattle.pair_run.proofs.RunLaws.{PairRunning}
@@ -14,6 +14,3 @@ invariant-loop-i l =
     × (length l.second ≡ length l.ops)
     × (l.i ≤ length l.ops)
     × PairRunning (length l.initial.t) l.initial.one.at l.initial.two.at l.ops l.t l.marks l.first l.second l.one l.two l.stock l.i
-
-abbrev pub decreases-loop-i : goal.decreases-loop-i
-decreases-loop-i l = length l.ops - l.i

@@ -1,19 +1,12 @@
 -- `pair_words::clear_record` meets its contract.
-use mathlib.Core.Path.{refl, ap, ◌∙◌}
 use native.Mathlib.Omega.{arith}
-use lib.ListN.{length, length-set}
-use Rattle.pair_words.proofs.StoreLaws.{clear_next, clear_end}
+use Prim.Native.Nat.{◌+◌, ◌*◌, ◌-◌}
+use Rattle.pair_table.specs.Words.{pair_width}
+use Rattle.pair_words.proofs.StoreLaws.{filled_part}
 use Rattle.pair_words.proofs.clear_record.Goals as goal
-
-pub loop-f-init : goal.loop-f-init
-loop-f-init c = (refl, omega arith, refl)
-
-pub loop-f-preserved : goal.loop-f-preserved
-loop-f-preserved c =
-    let l = c.loop-f in
-    (ap length c.put.ensures ∙ length-set l.t _ _ ∙ l.invariant.0, omega arith, clear_next c.args.t.now l.t c.put.new.t c.args.r l.f l.invariant.2 c.put.ensures)
 
 pub returns : goal.returns
 returns c =
-    let l = c.loop-f in
-    clear_end c.args.t.now l.t c.args.r l.f l.invariant.2 (omega arith)
+    let a = c.args in
+    filled_part a.t.now c.fill.new.self (a.r * pair_width) (a.r * 36 + 36 - a.r * 36) pair_width 0 (omega arith)
+    (omega arith) (c.fill.ensures.after (λ y e. e))

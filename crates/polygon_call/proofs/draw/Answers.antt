@@ -15,6 +15,9 @@ overflow_mul-n c = record { fits = omega (arith, c.count-n.ensures, turning_le c
 pub overflow_add-n-2 : goal.overflow_add-n-2
 overflow_add-n-2 c = record { fits = omega (arith, c.count-n.ensures, turning_le c.args.chain.now, c.requires.few) }
 
+pub overflow_cast-n : goal.overflow_cast-n
+overflow_cast-n c = record { fits = omega (arith, c.count-n.ensures, turning_le c.args.chain.now, c.requires.few) }
+
 pub returns-then-out-n : goal.returns-then-out-n
 returns-then-out-n c =
     draw_short c.args.start c.args.chain.now c.args.out.now (c.count-n.result + 2)
@@ -26,7 +29,7 @@ returns c =
     let n = ap (λ (k : ℕ). k + 2) k.ensures in
     let h = c.if-out-n.false in
     let a = c.put_prefix in
-    let b = c.put_number in
+    let b = c.put_count in
     let z = c.put_ring in
     draw_done c.args.start c.args.chain.now c.args.out.now _ (k.result + 2)
     c.requires.digits n (λ w. omega (arith, h, w))

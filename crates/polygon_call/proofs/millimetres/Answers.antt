@@ -8,9 +8,9 @@ use Rattle.polygon.specs.Coordinate.{coordinate_of}
 use Rattle.polygon_laws.proofs.SignedLaws.{scaled_fits}
 use Rattle.polygon_call.proofs.millimetres.Goals as goal
 
-pub overflow_mul-result : goal.overflow_mul-result
-overflow_mul-result c = subst (λ (z : ℤ). SFits w32 (pos 600 *ℤ z)) (sym (to_z-of_z c.ranges.x)) (scaled_fits c.args.x c.requires)
+pub overflow_mul-x : goal.overflow_mul-x
+overflow_mul-x c = subst (λ (z : ℤ). SFits w32 (pos 600 *ℤ z)) (sym (to_z-of_z c.ranges.x)) (scaled_fits c.args.x c.requires)
 
 pub returns : goal.returns
 unfolding coordinate_of
-returns c = rw (to_z-of_z c.ranges.x, to_z-of_z (scaled_fits c.args.x c.requires))
+returns c = simp (to_z-of_z c.ranges.x, to_z-of_z (scaled_fits c.args.x c.requires)) at c.from.ensures

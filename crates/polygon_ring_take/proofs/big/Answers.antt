@@ -16,25 +16,22 @@ next s v i p h r = record { within = omega arith; small = grows v (get_or s i 0)
 room : (s : List ℕ) (v i d : ℕ) → length s ≤ 8 → i < length s → d < 256 → Read s v i → v * 256 + d < 2 ^ 64
 room s v i d l p h r = fits_eight (v * 256 + d) (i + 1) (omega arith) (grows v d i r.small h)
 
-pub loop-i-init : goal.loop-i-init
+pub loop-d-init : goal.loop-d-init
 unfolding number_of
-loop-i-init c = record { within = omega arith; small = omega arith; is = refl }
+loop-d-init c = record { within = omega arith; small = omega arith; is = refl }
 
 pub overflow_mul-v : goal.overflow_mul-v
-overflow_mul-v c = record { fits = omega (arith, room _ _ _ 0 c.requires c.loop-i-test.true (omega arith) c.loop-i.invariant) }
-
-pub overflow_cast-v : goal.overflow_cast-v
-overflow_cast-v c = omega (arith, c.shared_slice_known-1.given c.loop-i.i)
+overflow_mul-v c = record { fits = omega (arith, room _ _ _ 0 c.requires c.loop-d-test.true (omega arith) c.loop-d.invariant) }
 
 pub overflow_add-v : goal.overflow_add-v
 overflow_add-v c =
-    record { fits = room _ _ _ _ c.requires c.loop-i-test.true (c.shared_slice_known-1.given c.loop-i.i).fits c.loop-i.invariant }
+    rw c.from.ensures (record { fits = room _ _ _ _ c.requires c.loop-d-test.true (c.type_inv.s c.loop-d.d-index).fits c.loop-d.invariant })
 
-pub loop-i-preserved : goal.loop-i-preserved
-loop-i-preserved c = next _ _ _ c.loop-i-test.true (c.shared_slice_known-1.given c.loop-i.i).fits c.loop-i.invariant
+pub loop-d-preserved : goal.loop-d-preserved
+loop-d-preserved c = rw c.from.ensures (next _ _ _ c.loop-d-test.true (c.type_inv.s c.loop-d.d-index).fits c.loop-d.invariant)
 
 pub returns : goal.returns
 unfolding number_in
 returns c =
-    let e : length c.args.s.now ≤ c.loop-i.i = omega arith in
-    c.loop-i.invariant.is ∙ ap (λ (z : List ℕ). number_of (reverse z)) (take_all c.loop-i.i c.args.s.now e)
+    let e : length c.args.s.now ≤ c.loop-d.d-index = omega arith in
+    c.loop-d.invariant.is ∙ ap (λ (z : List ℕ). number_of (reverse z)) (take_all c.loop-d.d-index c.args.s.now e)

@@ -1,7 +1,7 @@
 -- What the loops of `polygon_ring_take::big` keep, and how they end.
 use mathlib.Core.Path.{◌≡◌}
 use mathlib.Core.List.{List, reverse}
-use Prim.Native.Nat.{ℕ, ◌-◌, ◌^◌, ◌≤◌, ◌<◌}
+use Prim.Native.Nat.{ℕ, ◌^◌, ◌≤◌, ◌<◌}
 use lib.ListN.{length, take}
 use Rattle.polygon_ring.specs.Bytes.{number_of}
 use Rattle.polygon_ring_take.proofs.big.Given as goal
@@ -12,8 +12,5 @@ pub record Read (s : List ℕ) (v i : ℕ) : Type 0 where
   pub small : v < 256 ^ i
   pub is : v ≡ number_of (reverse (take i s))
 
-abbrev pub invariant-loop-i : goal.invariant-loop-i
-invariant-loop-i l = Read l.s l.v l.i
-
-abbrev pub decreases-loop-i : goal.decreases-loop-i
-decreases-loop-i l = length l.s - l.i
+abbrev pub invariant-loop-d : goal.invariant-loop-d
+invariant-loop-d l = Read l.s l.v l.d-index

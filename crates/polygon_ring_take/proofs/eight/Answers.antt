@@ -2,7 +2,7 @@
 use mathlib.Core.Path.{sym, ap, ◌∙◌}
 use mathlib.Core.Bool.{Bool}
 use Rattle.polygon_ring.specs.Bytes.{number_in}
-use Rattle.polygon_ring_laws.proofs.NumberLaws.{eight_swapped}
+use Rattle.polygon_ring_laws.proofs.NumberLaws.{eight_swapped, swapped_is}
 use Rattle.polygon_ring_take.proofs.eight.Goals as goal
 
 pub returns-then-first_lowest : goal.returns-then-first_lowest
@@ -10,7 +10,7 @@ returns-then-first_lowest c = c.little-v.ensures ∙ ap (λ (b : Bool). number_i
 
 pub returns-else-first_lowest : goal.returns-else-first_lowest
 returns-else-first_lowest c =
-    c.swapped.ensures
+    c.swap_bytes.ensures ∙ swapped_is c.little-v.result
     ∙ eight_swapped c.args.s.now c.little-v.result c.requires
-    (λ i. (c.shared_slice_known-1.given i).fits) c.little-v.ensures
+    (λ i. (c.type_inv.s i).fits) c.little-v.ensures
     ∙ ap (λ (b : Bool). number_in b c.args.s.now) (sym c.if-first_lowest.false)

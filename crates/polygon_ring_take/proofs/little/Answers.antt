@@ -32,15 +32,12 @@ loop-i-init c = first c.args.s.now
 pub overflow_mul-v : goal.overflow_mul-v
 overflow_mul-v c = record { fits = omega (arith, room _ _ _ 0 c.requires c.loop-i-test.true (omega arith) c.loop-i.invariant) }
 
-pub overflow_cast-v : goal.overflow_cast-v
-overflow_cast-v c = omega (arith, c.shared_slice_known-1.given (c.loop-i.i - 1))
-
 pub overflow_add-v : goal.overflow_add-v
 overflow_add-v c =
-    record { fits = room _ _ _ _ c.requires c.loop-i-test.true (c.shared_slice_known-1.given (c.loop-i.i - 1)).fits c.loop-i.invariant }
+    rw c.from.ensures (record { fits = room _ _ _ _ c.requires c.loop-i-test.true (c.type_inv.s (c.loop-i.i - 1)).fits c.loop-i.invariant })
 
 pub loop-i-preserved : goal.loop-i-preserved
-loop-i-preserved c = next _ _ _ c.loop-i-test.true (c.shared_slice_known-1.given (c.loop-i.i - 1)).fits c.loop-i.invariant
+loop-i-preserved c = rw c.from.ensures (next _ _ _ c.loop-i-test.true (c.type_inv.s (c.loop-i.i - 1)).fits c.loop-i.invariant)
 
 pub returns : goal.returns
 unfolding number_in

@@ -13,18 +13,18 @@ pub slice_bounds-apart-end-2 : goal.slice_bounds-apart-end-2
 slice_bounds-apart-end-2 c =
     let f = c.lay in
     let a = c.args in
-    let w = c.wide in
+    let w = c.from in
     let h = f.new.head in
-    let reach : 2 * w.result ≤ length h = omega (arith, w.ensures.0, c.requires.4, f.auto.head) in
+    let reach : 2 * w.result ≤ length h = omega (arith, w.ensures, c.requires.4, f.auto.head) in
     sym (length-take-le (2 * w.result) h reach)
 
 pub apart-requires : goal.apart-requires
 apart-requires c =
     let f = c.lay in
     let a = c.args in
-    let w = c.wide in
+    let w = c.from in
     let h = f.new.head in
-    let reach : 2 * w.result ≤ length h = omega (arith, w.ensures.0, c.requires.4, f.auto.head) in
+    let reach : 2 * w.result ≤ length h = omega (arith, w.ensures, c.requires.4, f.auto.head) in
     let s = c.requires.0 in (
       subst (Leads f.new.next f.new.hs) (sym s.marks)
           (laid_leads a.chain.now a.m h f.new.next f.new.hs (length a.head.now) s.stays
@@ -40,11 +40,11 @@ pub returns : goal.returns
 returns c =
     let f = c.lay in
     let a = c.args in
-    let w = c.wide in
+    let w = c.from in
     let h = f.new.head in
-    let reach : 2 * w.result ≤ length h = omega (arith, w.ensures.0, c.requires.4, f.auto.head) in
+    let reach : 2 * w.result ≤ length h = omega (arith, w.ensures, c.requires.4, f.auto.head) in
     let p = c.apart in
     laid_scattered a.chain.now a.m (take (2 * w.result) h) f.new.next f.new.hs (2 * a.m)
-    p.result c.requires.3 (omega (arith, w.ensures.0, length-take-le (2 * w.result) h reach))
+    p.result c.requires.3 (omega (arith, w.ensures, length-take-le (2 * w.result) h reach))
     (laid_reach a.chain.now a.m h f.new.next f.new.hs (2 * w.result) reach f.ensures)
     p.ensures

@@ -14,24 +14,24 @@ lay-requires c =
 pub gather-requires : goal.gather-requires
 gather-requires c =
     let f = c.lay in
-    let e = c.wide-end.ensures.0 in
-    store_columns c.requires.0 c.requires.1 (2 * c.wide-end.result) (ap (λ (k : ℕ). 2 * k) e) f.auto.head
+    let e = c.from-end.ensures in
+    store_columns c.requires.0 c.requires.1 (2 * c.from-end.result) (ap (λ (k : ℕ). 2 * k) e) f.auto.head
     f.auto.next f.auto.at f.ensures
 
 pub put_rows-requires : goal.put_rows-requires
 put_rows-requires c =
-    let w = c.wide-end in
+    let w = c.from-end in
     let f = c.lay in
     let g = c.gather in
-    let e = w.ensures.0 in
+    let e = w.ensures in
     (store_sheet c.requires.0 c.requires.1 (2 * w.result) (ap (λ (k : ℕ). 2 * k) e) f.auto.head f.auto.next f.auto.at f.ensures g.auto.next g.auto.at g.auto.row g.ensures (length c.args.out.now) c.requires.2, c.requires.0.near.0, c.requires.0.near.1, omega (arith, c.requires.1.columns, c.requires.1.narrow, e))
 
 pub returns : goal.returns
 returns c =
-    let w = c.wide-end in
+    let w = c.from-end in
     let f = c.lay in
     let g = c.gather in
-    let e = w.ensures.0 in
+    let e = w.ensures in
     store_rows c.requires.0 c.requires.1 (2 * w.result) (ap (λ (k : ℕ). 2 * k) e) f.auto.head
     f.auto.next f.auto.at f.ensures g.auto.next g.auto.at g.auto.row
     g.ensures c.args.out.now c.put_rows.new.out c.put_rows.ensures

@@ -7,7 +7,7 @@ use Rattle.row_bucket_laws.specs.Buckets.{Strung, LineAt}
 use Rattle.row_spans.proofs.put_row.Given as goal
 
 abbrev pub invariant-loop-p : goal.invariant-loop-p
-invariant-loop-p l = (l.p < 65536) × (length l.out ≡ length l.initial.out) × ((ls : List ℕ) → Strung l.next l.first ls → length ls % 2 ≡ 0 → LineAt l.next l.at l.base ls l.initial.out l.o l.p l.to l.out)
+invariant-loop-p l = (l.p < 65536) × ((ls : List ℕ) → Strung l.next l.first ls → length ls % 2 ≡ 0 → LineAt l.next l.at l.base ls l.initial.out l.o l.p l.to l.out)
 
 abbrev pub decreases-loop-p : goal.decreases-loop-p
 decreases-loop-p l = length l.out - l.to

@@ -1,6 +1,5 @@
 -- `row_spans::put_rows` meets its contract.
 use native.Mathlib.Omega.{arith}
-use mathlib.Core.Path.{refl, ◌∙◌}
 use lib.ListN.{length}
 use Rattle.row_bucket_laws.proofs.WriteLaws.{sheet-start, sheet_line, sheet_step, sheet_end}
 use Rattle.row_spans.proofs.SpanLaws.{base_is, base_fits}
@@ -9,16 +8,10 @@ use Rattle.row_spans.proofs.put_rows.Goals as goal
 pub loop-h-init : goal.loop-h-init
 loop-h-init c =
     let a = c.args in
-    (omega arith, refl, λ key foot done p e. sheet-start a.start a.m a.end key foot done a.out.now)
+    λ key foot done p e. sheet-start a.start a.m a.end key foot done a.out.now
 
 pub row_base-base-requires : goal.row_base-base-requires
 row_base-base-requires c = (c.requires.1, c.requires.2, omega (arith, c.requires.3))
-
-pub offset_bounds-row-h : goal.offset_bounds-row-h
-offset_bounds-row-h c = record { fits = omega (arith, c.requires.3) }
-
-pub bounds-row-h : goal.bounds-row-h
-bounds-row-h c = omega (arith, c.requires.0.within)
 
 pub put_row-o-requires : goal.put_row-o-requires
 put_row-o-requires c =
@@ -26,7 +19,7 @@ put_row-o-requires c =
     let a = c.args in
     let r = c.requires.0 in
     let b = c.row_base-base in
-    (sheet_line (l.invariant.2 r.key r.foot r.done r.poured r.even) a.next.now a.at.now a.row.now (length l.out) (omega arith) r.within r.poured r.even (omega (arith, r.fits, l.invariant.1)) r.store, base_fits a.start b.result a.m c.requires.1 (omega arith) b.ensures)
+    (sheet_line (l.invariant r.key r.foot r.done r.poured r.even) a.next.now a.at.now a.row.now (length l.out) (omega arith) r.within r.poured r.even (omega (arith, r.fits, l.auto.out)) r.store, base_fits a.start b.result a.m c.requires.1 (omega arith) b.ensures)
 
 pub loop-h-preserved : goal.loop-h-preserved
 loop-h-preserved c =
@@ -34,10 +27,7 @@ loop-h-preserved c =
     let a = c.args in
     let b = c.row_base-base in
     let u = c.put_row-o in
-    (omega arith, u.auto.out ∙ l.invariant.1, λ key foot done p e. sheet_step (l.invariant.2 key foot done p e) a.next.now a.at.now a.row.now b.result u.result u.new.out (omega arith) c.requires.0.within p e (base_is a.start b.result a.m l.h b.ensures) u.ensures)
-
-pub shape_of-out : goal.shape_of-out
-shape_of-out c = c.loop-h.invariant.1
+    λ key foot done p e. sheet_step (l.invariant key foot done p e) a.next.now a.at.now a.row.now b.result u.result u.new.out (omega arith) c.requires.0.within p e (base_is a.start b.result a.m l.h b.ensures) u.ensures
 
 pub returns : goal.returns
-returns c = λ key foot done p e. sheet_end (c.loop-h.invariant.2 key foot done p e) (omega arith)
+returns c = λ key foot done p e. sheet_end (c.loop-h.invariant key foot done p e) (omega arith)

@@ -1,21 +1,19 @@
 -- `undrwyth_words::counted_words` meets its contract.
-use mathlib.Core.Path.{ap, sym, subst}
+use mathlib.Core.Path.{ap, sym, subst, ◌∙◌}
 use native.Mathlib.Omega.{arith}
+use borrow.Author.Rules.{rules}
 use Rattle.answer.specs.Words.{counted_words}
 use Rattle.undrwyth_words.specs.Words.{CountedFits}
-use Rattle.undrwyth_words.proofs.WordLaws.{refused_counted}
 use Rattle.undrwyth_words.proofs.counted_words.Goals as goal
 
 pub overflow_cast-result : goal.overflow_cast-result
-overflow_cast-result c = omega (arith, subst CountedFits c.in-Many.is c.requires)
+overflow_cast-result c = omega (arith, subst CountedFits c.in-Ok.is c.requires)
 
-pub overflow_cast-place : goal.overflow_cast-place
-overflow_cast-place c = omega (arith, c.refusal_place-place.ensures, subst CountedFits c.in-Refused.is c.requires)
+pub returns-in-Ok : goal.returns-in-Ok
+returns-in-Ok c = sym (ap counted_words c.in-Ok.is)
 
-pub returns-in-Many : goal.returns-in-Many
-returns-in-Many c = sym (ap counted_words c.in-Many.is)
+pub refused-requires : goal.refused-requires
+refused-requires c = (omega arith, (search rules, subst CountedFits c.in-Err.is c.requires))
 
-pub returns-in-Refused : goal.returns-in-Refused
-returns-in-Refused c =
-    refused_counted c.args.c c.in-Refused.r c.refusal_number-number.result
-    c.refusal_place-place.result c.in-Refused.is c.refusal_number-number.ensures.0 c.refusal_place-place.ensures
+pub returns-in-Err : goal.returns-in-Err
+returns-in-Err c = c.refused.ensures ∙ sym (ap counted_words c.in-Err.is)

@@ -1,21 +1,19 @@
 -- `undrwyth_words::overlaid_words` meets its contract.
 use mathlib.Core.Path.{ap, sym, subst, ◌∙◌}
 use native.Mathlib.Omega.{arith}
+use borrow.Author.Rules.{rules}
 use Rattle.overlay.specs.Call.{overlaid_words}
 use Rattle.undrwyth_words.specs.Words.{OverlaidFits}
-use Rattle.undrwyth_words.proofs.WordLaws.{refused_overlaid}
 use Rattle.undrwyth_words.proofs.overlaid_words.Goals as goal
 
 pub measures_words-requires : goal.measures_words-requires
-measures_words-requires c = subst OverlaidFits c.in-Listed.is c.requires
+measures_words-requires c = subst OverlaidFits c.in-Ok.is c.requires
 
-pub overflow_cast-place : goal.overflow_cast-place
-overflow_cast-place c = omega (arith, c.refusal_place-place.ensures, subst OverlaidFits c.in-Refused.is c.requires)
+pub returns-in-Ok : goal.returns-in-Ok
+returns-in-Ok c = c.measures_words.ensures ∙ sym (ap overlaid_words c.in-Ok.is)
 
-pub returns-in-Listed : goal.returns-in-Listed
-returns-in-Listed c = c.measures_words.ensures ∙ sym (ap overlaid_words c.in-Listed.is)
+pub refused-requires : goal.refused-requires
+refused-requires c = (omega arith, (search rules, subst OverlaidFits c.in-Err.is c.requires))
 
-pub returns-in-Refused : goal.returns-in-Refused
-returns-in-Refused c =
-    refused_overlaid c.args.o c.in-Refused.r c.refusal_number-number.result
-    c.refusal_place-place.result c.in-Refused.is c.refusal_number-number.ensures.0 c.refusal_place-place.ensures
+pub returns-in-Err : goal.returns-in-Err
+returns-in-Err c = c.refused.ensures ∙ sym (ap overlaid_words c.in-Err.is)

@@ -1,21 +1,19 @@
 -- `undrwyth_words::pair_answer_words` meets its contract.
 use mathlib.Core.Path.{ap, sym, subst, ◌∙◌}
 use native.Mathlib.Omega.{arith}
+use borrow.Author.Rules.{rules}
 use Rattle.pair.specs.Words.{pair_answer_words}
 use Rattle.undrwyth_words.specs.Words.{PairAnswerFits}
-use Rattle.undrwyth_words.proofs.WordLaws.{refused_pair}
 use Rattle.undrwyth_words.proofs.pair_answer_words.Goals as goal
 
 pub pair_facts_words-requires : goal.pair_facts_words-requires
-pair_facts_words-requires c = subst PairAnswerFits c.in-Accepted.is c.requires
+pair_facts_words-requires c = subst PairAnswerFits c.in-Ok.is c.requires
 
-pub overflow_cast-place : goal.overflow_cast-place
-overflow_cast-place c = omega (arith, c.refusal_place-place.ensures, subst PairAnswerFits c.in-Refused.is c.requires)
+pub returns-in-Ok : goal.returns-in-Ok
+returns-in-Ok c = c.pair_facts_words.ensures ∙ sym (ap pair_answer_words c.in-Ok.is)
 
-pub returns-in-Accepted : goal.returns-in-Accepted
-returns-in-Accepted c = c.pair_facts_words.ensures ∙ sym (ap pair_answer_words c.in-Accepted.is)
+pub refused-requires : goal.refused-requires
+refused-requires c = (omega arith, (search rules, subst PairAnswerFits c.in-Err.is c.requires))
 
-pub returns-in-Refused : goal.returns-in-Refused
-returns-in-Refused c =
-    refused_pair c.args.a c.in-Refused.r c.refusal_number-number.result
-    c.refusal_place-place.result c.in-Refused.is c.refusal_number-number.ensures.0 c.refusal_place-place.ensures
+pub returns-in-Err : goal.returns-in-Err
+returns-in-Err c = c.refused.ensures ∙ sym (ap pair_answer_words c.in-Err.is)

@@ -1,36 +1,32 @@
 -- `walk_back::unlink_up` meets its contract.
-use mathlib.Core.Path.{refl, ◌∙◌}
+use mathlib.Core.Path.{ap, ◌∙◌}
 use native.Mathlib.Omega.{arith}
-use Rattle.walk_back.proofs.RoundLaws.{unlinked_start, unlinked_joined, unlinked_falls, unlinked_next, unlinkable_bound}
+use Rattle.walk_back.specs.Takes.{ref_by}
+use Rattle.walk_back.proofs.RoundLaws.{unlinked_joined, unlinked_falls, unlinked_next}
 use Rattle.walk_back.proofs.unlink_up.Goals as goal
 
-pub overflow_add-at : goal.overflow_add-at
-overflow_add-at c = omega (arith, unlinkable_bound c.args.t.now c.args.u c.args.d c.args.step c.requires)
-
-pub loop-at-init : goal.loop-at-init
-loop-at-init c = let a = c.args in (refl, unlinked_start a.t.now a.u a.d a.step)
-
-pub unlink_level-at-requires : goal.unlink_level-at-requires
-unlink_level-at-requires c =
-    let l = c.loop-at in
+pub unlink_level-next-requires : goal.unlink_level-next-requires
+unlink_level-next-requires c =
+    let l = c.loop-next in
     let a = c.args in
-    unlinked_joined a.t.now a.u a.d a.step c.requires l.t l.at l.invariant.1
-    (omega (arith, c.loop-at-test.true))
+    let at = c.in-Some in
+    unlinked_joined a.t.now a.u a.d a.step c.requires l.t (ref_by l.next) at.at (ap ref_by at.is) l.invariant.1
 
-pub loop-at-smaller : goal.loop-at-smaller
-loop-at-smaller c =
-    let l = c.loop-at in
+pub loop-next-smaller : goal.loop-next-smaller
+loop-next-smaller c =
+    let l = c.loop-next in
     let a = c.args in
-    let n = c.unlink_level-at in
-    unlinked_falls a.t.now a.u a.d a.step c.requires l.t l.at l.invariant.1
-    (omega (arith, c.loop-at-test.true)) n.new.t n.result n.ensures
+    let at = c.in-Some in
+    let n = c.unlink_level-next in
+    omega (arith, unlinked_falls a.t.now a.u a.d a.step c.requires l.t (ref_by l.next) at.at (ap ref_by at.is) l.invariant.1 n.new.t (ref_by n.result) n.ensures)
 
-pub loop-at-preserved : goal.loop-at-preserved
-loop-at-preserved c =
-    let l = c.loop-at in
+pub loop-next-preserved : goal.loop-next-preserved
+loop-next-preserved c =
+    let l = c.loop-next in
     let a = c.args in
-    let n = c.unlink_level-at in
-    (n.auto.t ∙ l.invariant.0, unlinked_next a.t.now a.u a.d a.step c.requires l.t l.at l.invariant.1 (omega (arith, c.loop-at-test.true)) n.new.t n.result n.ensures l.invariant.0)
-
-pub returns : goal.returns
-returns c = let l = c.loop-at in λ S z h. (l.invariant.1 S z h).0 (omega (arith, c.loop-at-test.false))
+    let at = c.in-Some in
+    let n = c.unlink_level-next in (
+      n.auto.t ∙ l.invariant.0,
+      unlinked_next a.t.now a.u a.d a.step c.requires l.t (ref_by l.next) at.at (ap ref_by at.is) l.invariant.1
+          n.new.t (ref_by n.result) n.ensures l.invariant.0,
+    )

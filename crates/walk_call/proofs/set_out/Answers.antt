@@ -3,6 +3,7 @@ use mathlib.Core.Path.{◌≡◌}
 use native.Mathlib.Omega.{arith}
 use borrow.Author.Rules.{rules}
 use lib.ListN.{length}
+use Rattle.answer.specs.declared.Refusal.TheVariants.{NoRoom}
 use Rattle.walk_input.proofs.JudgeLaws.{input_good}
 use Rattle.walk_call.proofs.CallLaws.{planted_full, planted_walked, followed_full, followed_from}
 use Rattle.walk_call.proofs.set_out.Goals as goal
@@ -21,7 +22,7 @@ returns-then-at-eq0 c =
     let z = c.clear in
     let f = planted_full (length a.t.now) a.start a.ops.now p.new.t p.result p.ensures
     c.if-at-eq0.true in
-    followed_full a.start a.ops.now a.t.now a.marks.now a.chain.now p.new.t z.new.marks z.new.chain 0
+    followed_full a.start a.ops.now a.t.now a.marks.now a.chain.now p.new.t z.new.marks z.new.chain (NoRoom 0)
     f.0 f.1 z.ensures.marks z.ensures.chain
 
 pub go_on-requires : goal.go_on-requires

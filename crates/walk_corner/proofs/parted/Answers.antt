@@ -3,12 +3,15 @@ use mathlib.Core.Bool.{not}
 use mathlib.Core.Path.{ap, ap₂, ◌∙◌}
 use Rattle.grid.specs.Grid.{same}
 use Rattle.grid.specs.Tree.{parent_of}
+use Rattle.grid.proofs.CornerLaws.{equal_same}
 use Rattle.walk_corner.proofs.PartLaws.{parents_tell}
 use Rattle.walk_corner.proofs.parted.Goals as goal
 
 pub returns : goal.returns
 returns c =
     let a = c.args in
-    let m = c.moved-e.ensures in
-    ap not (c.alike.ensures ∙ ap₂ same c.parent_of.ensures (c.parent_of-2.ensures ∙ ap parent_of m))
+    let p = c.parent_of in
+    let q = c.parent_of-2 in
+    c.ne.ensures
+    ∙ ap not (equal_same p.result q.result ∙ ap₂ same p.ensures (q.ensures ∙ ap parent_of c.moved-e.ensures))
     ∙ parents_tell a.d a.c

@@ -1,6 +1,7 @@
 -- `walk_lookup::come_down` meets its contract.
+use mathlib.Core.List.{List}
 use mathlib.Core.Path.{◌≡◌, refl, ap, sym, ◌∙◌, subst}
-use Prim.Native.Nat.{ℕ, ◌-◌, max}
+use Prim.Native.Nat.{ℕ, ◌-◌, ◌<◌, max}
 use native.Mathlib.Omega.{arith}
 use lib.IntN.{nat_abs}
 use lib.ListN.{length, get_or}
@@ -16,24 +17,19 @@ use Rattle.table_laws.proofs.ClimbLaws.{Level, up_small, step_grew, step_held, s
 use Rattle.layout.specs.Table.{word_at}
 use Rattle.walk_lookup.proofs.come_down.Goals as goal
 
+-- a level that is not the last
+level_here : {t : List ℕ} {n u v : ℕ} {c : Corner} {d s left : ℕ} {S : State} → Descends t n u v c d s left S → 0 < left → d < 4 → 0 < s → 0 < v → Level t n u v c d s left S
+level_here down more small pos some = record { down = down; more = more; small = small; pos = pos; some = some }
+
 pub loop-left-init : goal.loop-left-init
 loop-left-init c = (refl, c.requires.c_bound.5, λ S h. h)
-
-pub overflow_sub-left : goal.overflow_sub-left
-overflow_sub-left c = omega (arith, c.loop-left-test.true)
 
 pub word-requires : goal.word-requires
 word-requires c =
     let a = c.args in
     let l = c.loop-left in
     let k = c.requires.descending in
-    let here : Level l.t a.nodes l.at l.to a.c a.d a.step l.left k.state = record {
-      down = l.invariant.2 k.state k.descends;
-      more = omega (arith, c.loop-left-test.true);
-      small = c.requires.c_bound.2;
-      pos = c.requires.c_bound.3;
-      some = l.invariant.1;
-    } in
+    let here = level_here (l.invariant.2 k.state k.descends) c.loop-left-test.true c.requires.c_bound.2 c.requires.c_bound.3 l.invariant.1 in
     let w : c.child_word.result ≡ child_word (up_by (l.left - 1) a.c) = c.child_word.ensures
     ∙ ap child_word c.up_by-a.ensures in
     omega (arith, step_word here, w)
@@ -43,13 +39,7 @@ overflow_sub-at c =
     let a = c.args in
     let l = c.loop-left in
     let k = c.requires.descending in
-    let here : Level l.t a.nodes l.at l.to a.c a.d a.step l.left k.state = record {
-      down = l.invariant.2 k.state k.descends;
-      more = omega (arith, c.loop-left-test.true);
-      small = c.requires.c_bound.2;
-      pos = c.requires.c_bound.3;
-      some = l.invariant.1;
-    } in
+    let here = level_here (l.invariant.2 k.state k.descends) c.loop-left-test.true c.requires.c_bound.2 c.requires.c_bound.3 l.invariant.1 in
     let w : c.child_word.result ≡ child_word (up_by (l.left - 1) a.c) = c.child_word.ensures
     ∙ ap child_word c.up_by-a.ensures in
     let r : c.word.result ≡ get_or l.t (word_at l.at (child_word (up_by (l.left - 1) a.c))) 0 = c.word.ensures
@@ -74,17 +64,11 @@ child-to-requires c =
     let l = c.loop-left in
     let q = c.requires.c_bound in
     let k = c.requires.descending in
-    let here : Level l.t a.nodes l.at l.to a.c a.d a.step l.left k.state = record {
-      down = l.invariant.2 k.state k.descends;
-      more = omega (arith, c.loop-left-test.true);
-      small = c.requires.c_bound.2;
-      pos = c.requires.c_bound.3;
-      some = l.invariant.1;
-    } in
+    let here = level_here (l.invariant.2 k.state k.descends) c.loop-left-test.true c.requires.c_bound.2 c.requires.c_bound.3 l.invariant.1 in
     let b = up_by (l.left - 1) a.c in
     let T = raised k.state a.step b (stepped a.d b) in
     let h = step_held here in
-    let n = c.greater.ensures in
+    let n = c.max.ensures in
     let w = child_word_small c.moved-e.result in
     let z = c.child_word-in-loop-left.ensures in
     record {
@@ -94,19 +78,13 @@ child-to-requires c =
 
 pub returns-then-to-eq0 : goal.returns-then-to-eq0
 returns-then-to-eq0 c =
-    let b = c.greater in
+    let b = c.max in
     let e = c.child_word-in-loop-left in
     let f = c.child-to in
     let a = c.args in
     let l = c.loop-left in
     λ S x.
-    let level : Level l.t a.nodes l.at l.to a.c a.d a.step l.left S = record {
-      down = l.invariant.2 S x;
-      more = omega (arith, c.loop-left-test.true);
-      small = c.requires.c_bound.2;
-      pos = c.requires.c_bound.3;
-      some = l.invariant.1;
-    } in
+    let level = level_here (l.invariant.2 S x) c.loop-left-test.true c.requires.c_bound.2 c.requires.c_bound.3 l.invariant.1 in
     let g = step_grew level b.result e.result b.ensures
     (e.ensures ∙ ap child_word (c.moved-e.ensures ∙ ap (stepped a.d) c.up_by-a.ensures)) f.new.t
     f.result f.ensures.made in
@@ -122,19 +100,13 @@ link-requires c =
     let u = c.up_by-a in
     let b = c.child_word in
     let e = c.word in
-    let i = c.greater in
+    let i = c.max in
     let j = c.child_word-in-loop-left in
     let v = c.child-to in
     let a = c.args in
     let l = c.loop-left in
     let k = c.requires.descending in
-    let here : Level l.t a.nodes l.at l.to a.c a.d a.step l.left k.state = record {
-      down = l.invariant.2 k.state k.descends;
-      more = omega (arith, c.loop-left-test.true);
-      small = c.requires.c_bound.2;
-      pos = c.requires.c_bound.3;
-      some = l.invariant.1;
-    } in
+    let here = level_here (l.invariant.2 k.state k.descends) c.loop-left-test.true c.requires.c_bound.2 c.requires.c_bound.3 l.invariant.1 in
     let q = c.requires.c_bound in
     let g = step_grew here i.result j.result i.ensures
     (j.ensures ∙ ap child_word (c.moved-e.ensures ∙ ap (stepped a.d) u.ensures)) v.new.t v.result
@@ -149,15 +121,12 @@ link-requires c =
       d_bound = (q.2, omega (arith, h.2, l.invariant.0, q.4));
     }
 
-pub loop-left-smaller : goal.loop-left-smaller
-loop-left-smaller c = omega (arith, c.loop-left-test.true)
-
 pub loop-left-preserved : goal.loop-left-preserved
 loop-left-preserved c =
     let b = c.up_by-a in
     let e = c.child_word in
     let g = c.word in
-    let h = c.greater in
+    let h = c.max in
     let i = c.child_word-in-loop-left in
     let v = c.child-to in
     let m = c.link in
@@ -170,13 +139,7 @@ loop-left-preserved c =
     let next : (S : State) → Descends a.t.now a.nodes a.u a.v a.c a.d a.step a.level S
     → Descends m.new.t a.nodes (g.result - 1) v.result a.c a.d a.step (l.left - 1) S
     × (length m.new.t ≡ length l.t) = λ S x.
-    let level : Level l.t a.nodes l.at l.to a.c a.d a.step l.left S = record {
-      down = l.invariant.2 S x;
-      more = omega (arith, c.loop-left-test.true);
-      small = c.requires.c_bound.2;
-      pos = c.requires.c_bound.3;
-      some = l.invariant.1;
-    } in
+    let level = level_here (l.invariant.2 S x) c.loop-left-test.true c.requires.c_bound.2 c.requires.c_bound.3 l.invariant.1 in
     step_next level v.new.t v.result
     (step_grew level h.result i.result h.ensures
     (i.ensures ∙ ap child_word (c.moved-e.ensures ∙ ap (stepped a.d) b.ensures)) v.new.t v.result v.ensures.made) f (g.result - 1) (step_number level g.result r).1 m.new.t m.ensures in

@@ -8,6 +8,3 @@ use Rattle.walk_lookup.proofs.come_down.Given as goal
 
 abbrev pub invariant-loop-left : goal.invariant-loop-left
 invariant-loop-left l = (length l.t ≡ length l.initial.t) × (0 < l.to) × ((S : State) → Descends l.initial.t l.nodes l.u l.v l.c l.d l.step l.level S → Descends l.t l.nodes l.at l.to l.c l.d l.step l.left S)
-
-abbrev pub decreases-loop-left : goal.decreases-loop-left
-decreases-loop-left l = l.left

@@ -8,6 +8,3 @@ use Rattle.walk_plant.proofs.grow.Given as goal
 
 abbrev pub invariant-loop-left : goal.invariant-loop-left
 invariant-loop-left l = (length l.t ≡ length l.initial.t) × Deep l.c l.initial.left × (l.left ≤ l.initial.left) × Growing (length l.initial.t) l.c l.t l.left l.nodes
-
-abbrev pub decreases-loop-left : goal.decreases-loop-left
-decreases-loop-left l = l.left

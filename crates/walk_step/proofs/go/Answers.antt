@@ -53,7 +53,7 @@ returns c =
     let v = c.visit in
     let e = c.tread in
     let m = c.moved-there in
-    let r : Spot = record { node = o.result - 1; at = m.result; steps = a.w.steps + 1; nodes = c.greater.result } in
+    let r : Spot = record { node = o.result - 1; at = m.result; steps = a.w.steps + 1; nodes = c.max.result } in
     λ x ds h.
     step_to a.t.now x ds a.w h a.d q.2 o.new.t o.result (max a.w.nodes o.result) o.ensures.made
-    c.if-at-eq0.false v.new.t e.new.t v.ensures e.ensures r refl m.ensures refl c.greater.ensures
+    c.if-at-eq0.false v.new.t e.new.t v.ensures e.ensures r refl m.ensures refl c.max.ensures

@@ -1,19 +1,12 @@
 -- `walk_table::clear_record` meets its contract.
-use mathlib.Core.Path.{refl, ap, ◌∙◌}
 use native.Mathlib.Omega.{arith}
-use lib.ListN.{length, length-set}
-use Rattle.walk_table.proofs.ErasureLaws.{clear_next, clear_end}
+use Prim.Native.Nat.{◌+◌, ◌*◌, ◌-◌}
+use Rattle.layout.specs.Table.{width}
+use Rattle.walk_table.proofs.ErasureLaws.{filled_part}
 use Rattle.walk_table.proofs.clear_record.Goals as goal
-
-pub loop-f-init : goal.loop-f-init
-loop-f-init c = (refl, omega arith, refl)
-
-pub loop-f-preserved : goal.loop-f-preserved
-loop-f-preserved c =
-    let l = c.loop-f in
-    (ap length c.put.ensures ∙ length-set l.t _ _ ∙ l.invariant.0, omega arith, clear_next c.args.t.now l.t c.put.new.t c.args.r l.f l.invariant.2 c.put.ensures)
 
 pub returns : goal.returns
 returns c =
-    let l = c.loop-f in
-    clear_end c.args.t.now l.t c.args.r l.f l.invariant.2 (omega arith)
+    let a = c.args in
+    filled_part a.t.now c.fill.new.self (a.r * width) (a.r * 25 + 25 - a.r * 25) width 0 (omega arith)
+    (omega arith) (c.fill.ensures.after (λ y e. e))

@@ -1,0 +1,2 @@
+-- The laws of the polygon's prefix.
+pub mod PrefixLaws
