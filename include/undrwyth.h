@@ -98,33 +98,33 @@ typedef uint64_t undrwyth_size;
  * that cannot be touched. Some calls choose one of three working stores, for at most 256, for at most 2,048, and for more.
  * What counts is the columns that the walk goes through for a hull, and the steps of the chain for an outline and for a
  * room; of two rooms the longer chain counts. */
-#define UNDRWYTH_WALK_STACK_BYTES 1024          /* 504 measured */
-#define UNDRWYTH_WALK_TWO_STACK_BYTES 1536      /* 1,072 measured */
-#define UNDRWYTH_HULL_256_STACK_BYTES 3072      /* 2,800 measured */
-#define UNDRWYTH_HULL_2048_STACK_BYTES 17408    /* 17,136 measured */
-#define UNDRWYTH_HULL_STACK_BYTES 132096        /* 131,824 measured */
-#define UNDRWYTH_OUTLINE_256_STACK_BYTES 5120   /* 4,504 measured */
-#define UNDRWYTH_OUTLINE_2048_STACK_BYTES 33792 /* 33,176 measured */
-#define UNDRWYTH_OUTLINE_STACK_BYTES 263168     /* 262,536 measured */
-#define UNDRWYTH_POLYGON_256_STACK_BYTES 3072   /* 2,712 measured */
-#define UNDRWYTH_POLYGON_2048_STACK_BYTES 17408 /* 17,048 measured */
-#define UNDRWYTH_POLYGON_STACK_BYTES 132096     /* 131,720 measured */
-#define UNDRWYTH_ROWS_256_STACK_BYTES 3072      /* 2,728 measured */
-#define UNDRWYTH_ROWS_2048_STACK_BYTES 17408    /* 17,064 measured */
-#define UNDRWYTH_ROWS_STACK_BYTES 132096        /* 131,736 measured */
-#define UNDRWYTH_OVERLAY_256_STACK_BYTES 5632   /* 5,384 measured */
-#define UNDRWYTH_OVERLAY_2048_STACK_BYTES 36864 /* 35,848 measured */
-#define UNDRWYTH_OVERLAY_STACK_BYTES 280576     /* 279,544 measured */
+#define UNDRWYTH_WALK_STACK_BYTES 1024          /* 520 measured */
+#define UNDRWYTH_WALK_TWO_STACK_BYTES 1536      /* 1,144 measured */
+#define UNDRWYTH_HULL_256_STACK_BYTES 3072      /* 2,952 measured */
+#define UNDRWYTH_HULL_2048_STACK_BYTES 17408    /* 17,288 measured */
+#define UNDRWYTH_HULL_STACK_BYTES 132096        /* 131,976 measured */
+#define UNDRWYTH_OUTLINE_256_STACK_BYTES 5120   /* 4,528 measured */
+#define UNDRWYTH_OUTLINE_2048_STACK_BYTES 33792 /* 33,200 measured */
+#define UNDRWYTH_OUTLINE_STACK_BYTES 263168     /* 262,560 measured */
+#define UNDRWYTH_POLYGON_256_STACK_BYTES 3072   /* 2,728 measured */
+#define UNDRWYTH_POLYGON_2048_STACK_BYTES 17408 /* 17,064 measured */
+#define UNDRWYTH_POLYGON_STACK_BYTES 132096     /* 131,736 measured */
+#define UNDRWYTH_ROWS_256_STACK_BYTES 3072      /* 2,760 measured */
+#define UNDRWYTH_ROWS_2048_STACK_BYTES 17408    /* 17,096 measured */
+#define UNDRWYTH_ROWS_STACK_BYTES 132096        /* 131,768 measured */
+#define UNDRWYTH_OVERLAY_256_STACK_BYTES 5632   /* 5,256 measured */
+#define UNDRWYTH_OVERLAY_2048_STACK_BYTES 36864 /* 35,720 measured */
+#define UNDRWYTH_OVERLAY_STACK_BYTES 280576     /* 279,416 measured */
 #define UNDRWYTH_CONVEX_256_STACK_BYTES 3072    /* 2,600 measured */
 #define UNDRWYTH_CONVEX_2048_STACK_BYTES 17408  /* 16,936 measured */
 #define UNDRWYTH_CONVEX_STACK_BYTES 132096      /* 131,608 measured */
-#define UNDRWYTH_ORTHOGONAL_256_STACK_BYTES 3072   /* 2,744 measured */
-#define UNDRWYTH_ORTHOGONAL_2048_STACK_BYTES 17408 /* 17,080 measured */
-#define UNDRWYTH_ORTHOGONAL_STACK_BYTES 132096     /* 131,752 measured */
-#define UNDRWYTH_CHAIN_STACK_BYTES 512          /* 152 measured */
-#define UNDRWYTH_TURNS_STACK_BYTES 256          /* 16 measured */
-#define UNDRWYTH_CONVERT_LINE_STACK_BYTES 2560  /* 2,200 measured */
-#define UNDRWYTH_LINE_STACK_BYTES 65536         /* 62,432 measured */
+#define UNDRWYTH_ORTHOGONAL_256_STACK_BYTES 3072   /* 2,776 measured */
+#define UNDRWYTH_ORTHOGONAL_2048_STACK_BYTES 17408 /* 17,112 measured */
+#define UNDRWYTH_ORTHOGONAL_STACK_BYTES 132096     /* 131,784 measured */
+#define UNDRWYTH_CHAIN_STACK_BYTES 512          /* 184 measured */
+#define UNDRWYTH_TURNS_STACK_BYTES 256          /* 48 measured */
+#define UNDRWYTH_CONVERT_LINE_STACK_BYTES 2560  /* 2,216 measured */
+#define UNDRWYTH_LINE_STACK_BYTES 65536         /* 62,456 measured */
 
 /* Refusals. A call looks for them in this order: 1, 2, 3, 10, 22; then 4, 5, 6 at the first faulty place; then 7, at its first
  * place; then 12; 8, 11, 13, 18 and 21 last. If a polygon is read, the order is 14, 15, 14 again, 16, 17, 6, 18. If there are

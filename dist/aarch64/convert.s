@@ -1,4 +1,4 @@
-/* Undrwyth, the program convert for aarch64 under Linux: made by scripts/dist from the sources of state d98e18567a4b06b2e00b5bf6fab9666c8676bd85bf26bffa67ae350be689612c, which the Rattle kit proved; do not edit. SPDX-License-Identifier: MIT */
+/* Undrwyth, the program convert for aarch64 under Linux: made by scripts/dist from the sources of state 8956b2295801cbe48f8f9e000110d1fe149d89e4770c1440b15c158402419bdc, which the Rattle kit proved; do not edit. SPDX-License-Identifier: MIT */
 	.file	"rattle"
 	.section	".text.line_convert::end_line","ax",@progbits
 	.p2align	2
@@ -1082,7 +1082,7 @@ main:
 	mov	w0, #13
 	mov	w1, #1
 	str	xzr, [sp]
-	sub	x24, x29, #96
+	sub	x26, x29, #96
 	mov	w20, #1
 	bl	__sysv_signal
 	add	x0, sp, #48, lsl #12
@@ -1099,70 +1099,67 @@ main:
 	mov	w1, wzr
 	mov	w2, #131072
 	bl	memset
-	mov	x25, xzr
-	mov	x26, xzr
-	mov	x19, xzr
+	mov	x27, xzr
 	mov	x28, xzr
+	mov	x22, xzr
+	mov	x19, xzr
 	mov	x21, xzr
-	b	.LBB3_6
+	b	.LBB3_5
 .LBB3_3:
-	mov	x27, x28
-.LBB3_4:
 	ldr	x1, [sp]
 	sub	x0, x29, #96
 	add	x3, sp, #9
 	mov	w2, w20
 	mov	x4, x22
 	bl	"line_io::send::<#df9e9f1468b30f79>"
-	ldrb	w8, [x24]
+	ldrb	w8, [x26]
 	cbnz	w8, .LBB3_40
-	ldr	x19, [x24, #8]
-	ldrb	w20, [x24, #16]
-	add	x25, x25, #1
-	mov	x28, x27
-	cmn	x25, #1
+	ldr	x22, [x26, #8]
+	ldrb	w20, [x26, #16]
+	add	x27, x27, #1
+	cmn	x27, #1
 	b.eq	.LBB3_34
-.LBB3_6:
-	cmp	x28, x26
+.LBB3_5:
+	cmp	x19, x28
 	b.hs	.LBB3_31
+	str	x22, [sp]
 	mov	x22, xzr
-	str	x19, [sp]
-	stp	xzr, xzr, [x24]
-	str	xzr, [x24, #16]
-	b	.LBB3_9
-.LBB3_8:
+	stp	xzr, xzr, [x26]
+	str	xzr, [x26, #16]
+	b	.LBB3_8
+.LBB3_7:
 	mov	w8, #1031
-	add	x1, x19, x28
+	mov	x1, x24
 	sub	x8, x8, x21
 	cmp	x8, x23
-	csel	x23, x8, x23, lo
+	csel	x25, x8, x23, lo
 	add	x8, sp, #48, lsl #12
 	add	x8, x8, #9
-	mov	x2, x23
+	mov	x2, x25
 	add	x0, x8, x21
 	bl	memcpy
-	add	x21, x23, x21
-	cmp	x27, x26
-	mov	x28, x27
-	b.hs	.LBB3_4
-.LBB3_9:
+	add	x21, x25, x21
+	add	x19, x23, x19
+	cmp	x19, x28
+	b.hs	.LBB3_3
+.LBB3_8:
 	mov	x8, #-63475
 	mov	w9, #2062
 	add	x8, x22, x8
 	movk	w9, #1, lsl #16
 	cmp	x8, x9
 	b.lo	.LBB3_3
-	sub	x23, x26, x28
-	mov	x27, x28
-	cmp	x23, #32
+	add	x8, sp, #32, lsl #12
+	sub	x25, x28, x19
+	mov	x23, xzr
+	add	x8, x8, #9
+	cmp	x25, #32
+	add	x24, x8, x19
 	b.lo	.LBB3_14
-	sub	x8, x26, x28
-	mov	x27, x28
-.LBB3_12:
-	add	x9, sp, #32, lsl #12
+	sub	x8, x28, x19
+.LBB3_11:
 	movi	v0.16b, #10
-	add	x9, x9, #9
-	add	x9, x9, x27
+	add	x9, x24, x23
 	ldp	q1, q2, [x9]
 	adrp	x9, .LCPI3_0
 	cmeq	v2.16b, v2.16b, v0.16b
@@ -1182,65 +1179,56 @@ main:
 	tst	w9, #0xffff
 	b.ne	.LBB3_14
 	sub	x8, x8, #32
-	add	x27, x27, #32
+	add	x23, x23, #32
 	cmp	x8, #31
-	b.hi	.LBB3_12
+	b.hi	.LBB3_11
+	and	x23, x25, #0xffffffffffffffe0
 .LBB3_14:
-	cmp	x27, x26
+	cmp	x23, x25
 	b.hs	.LBB3_17
 .LBB3_15:
-	add	x8, sp, #32, lsl #12
-	add	x8, x8, #9
-	ldrb	w8, [x8, x27]
+	ldrb	w8, [x24, x23]
 	cmp	w8, #10
-	b.eq	.LBB3_21
-	add	x27, x27, #1
-	cmp	x26, x27
+	b.eq	.LBB3_18
+	add	x23, x23, #1
+	cmp	x25, x23
 	b.ne	.LBB3_15
 .LBB3_17:
-	mov	x27, x26
-	add	x19, sp, #32, lsl #12
-	cmp	x21, #1031
-	add	x19, x19, #9
-	b.lo	.LBB3_22
+	sub	x23, x28, x19
 .LBB3_18:
-	cmp	x27, x28
-	b.eq	.LBB3_20
-.LBB3_19:
+	cmp	x21, #1031
+	b.lo	.LBB3_22
+	cbz	x23, .LBB3_21
+.LBB3_20:
 	add	x8, sp, #9
-	add	x1, x19, x28
+	mov	x1, x24
 	mov	x2, x23
 	add	x0, x8, x22
 	bl	memcpy
-.LBB3_20:
+.LBB3_21:
 	add	x22, x23, x22
 	b	.LBB3_23
-.LBB3_21:
-	sub	x23, x27, x28
-	add	x19, sp, #32, lsl #12
-	cmp	x21, #1031
-	add	x19, x19, #9
-	b.hs	.LBB3_18
 .LBB3_22:
 	add	x8, x23, x21
 	cmp	x8, #1031
 	b.hs	.LBB3_26
 .LBB3_23:
-	cmp	x26, x27
-	b.ls	.LBB3_8
+	cmp	x25, x23
+	b.ls	.LBB3_7
 	cbz	x21, .LBB3_29
 	mov	w8, #1031
-	add	x1, x19, x28
+	mov	x1, x24
 	sub	x8, x8, x21
 	cmp	x8, x23
-	csel	x23, x8, x23, lo
+	csel	x25, x8, x23, lo
 	add	x8, sp, #48, lsl #12
 	add	x8, x8, #9
-	mov	x2, x23
+	mov	x2, x25
 	add	x0, x8, x21
 	bl	memcpy
 	add	x0, sp, #48, lsl #12
-	add	x1, x23, x21
+	add	x1, x25, x21
+	add	x2, sp, #9
 	add	x0, x0, #9
 	b	.LBB3_30
 .LBB3_26:
@@ -1252,29 +1240,28 @@ main:
 	add	x1, x1, #9
 	bl	memcpy
 .LBB3_28:
-	cmp	x27, x28
 	add	x22, x21, x22
-	b.ne	.LBB3_19
-	b	.LBB3_20
+	cbnz	x23, .LBB3_20
+	b	.LBB3_21
 .LBB3_29:
 	cmp	x23, #1031
 	mov	w8, #1031
-	add	x0, x19, x28
-	csel	x1, x23, x8, lo
-.LBB3_30:
 	add	x2, sp, #9
+	csel	x1, x23, x8, lo
+	mov	x0, x24
+.LBB3_30:
 	mov	x3, x22
-	add	x19, sp, #9
+	add	x21, sp, #9
 	bl	"line_convert::end_line"
-	mov	x21, xzr
-	add	x22, x0, #1
-	add	x27, x27, #1
 	mov	w8, #10
-	strb	w8, [x19, x0]
-	cmp	x27, x26
-	mov	x28, x27
-	b.lo	.LBB3_9
-	b	.LBB3_4
+	strb	w8, [x21, x0]
+	mov	x21, xzr
+	add	x8, x19, x23
+	add	x22, x0, #1
+	add	x19, x8, #1
+	cmp	x19, x28
+	b.lo	.LBB3_8
+	b	.LBB3_3
 .LBB3_31:
 	add	x1, sp, #32, lsl #12
 	mov	w0, wzr
@@ -1285,12 +1272,11 @@ main:
 	cbz	x0, .LBB3_36
 	cmp	x0, #16, lsl #12
 	mov	w8, #65536
-	mov	x27, xzr
-	csel	x26, x0, x8, lo
-	add	x25, x25, #1
-	mov	x28, x27
-	cmn	x25, #1
-	b.ne	.LBB3_6
+	mov	x19, xzr
+	csel	x28, x0, x8, lo
+	add	x27, x27, #1
+	cmn	x27, #1
+	b.ne	.LBB3_5
 .LBB3_34:
 	mov	w0, #1
 	b	.LBB3_41
@@ -1300,8 +1286,8 @@ main:
 	mov	w0, #1
 	b	.LBB3_41
 .LBB3_36:
-	stp	xzr, xzr, [x24]
-	str	xzr, [x24, #16]
+	stp	xzr, xzr, [x26]
+	str	xzr, [x26, #16]
 	cbz	x21, .LBB3_38
 	add	x0, sp, #48, lsl #12
 	add	x2, sp, #9
@@ -1316,13 +1302,13 @@ main:
 .LBB3_39:
 	sub	x0, x29, #96
 	add	x3, sp, #9
-	mov	x1, x19
+	mov	x1, x22
 	mov	w2, w20
 	bl	"line_io::send::<#df9e9f1468b30f79>"
-	ldrb	w8, [x24]
+	ldrb	w8, [x26]
 	cbz	w8, .LBB3_42
 .LBB3_40:
-	ldrb	w8, [x24, #1]
+	ldrb	w8, [x26, #1]
 	tst	w8, #0xff
 	mov	w8, #1
 	cinc	w0, w8, ne

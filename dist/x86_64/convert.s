@@ -1,4 +1,4 @@
-/* Undrwyth, the program convert for x86_64 under Linux: made by scripts/dist from the sources of state d98e18567a4b06b2e00b5bf6fab9666c8676bd85bf26bffa67ae350be689612c, which the Rattle kit proved; do not edit. SPDX-License-Identifier: MIT */
+/* Undrwyth, the program convert for x86_64 under Linux: made by scripts/dist from the sources of state 8956b2295801cbe48f8f9e000110d1fe149d89e4770c1440b15c158402419bdc, which the Rattle kit proved; do not edit. SPDX-License-Identifier: MIT */
 	.file	"rattle"
 	.section	.rodata.cst16,"aM",@progbits,16
 	.p2align	4, 0x0
@@ -1421,246 +1421,237 @@ main:
 	movl	$13, %edi
 	callq	__sysv_signal@PLT
 	leaq	129(%rsp), %rdi
-	xorl	%r14d, %r14d
+	xorl	%ebp, %ebp
 	movl	$1031, %edx
 	xorl	%esi, %esi
 	callq	memset@PLT
-	leaq	1160(%rsp), %rdi
+	leaq	132232(%rsp), %rdi
 	movl	$65536, %edx
 	xorl	%esi, %esi
 	callq	memset@PLT
-	leaq	66696(%rsp), %rdi
+	leaq	1160(%rsp), %rdi
 	movl	$131072, %edx
 	xorl	%esi, %esi
 	callq	memset@PLT
 	movb	$1, 7(%rsp)
 	xorl	%eax, %eax
 	xorl	%r15d, %r15d
-	xorl	%ebp, %ebp
-	xorl	%r8d, %r8d
+	xorl	%ebx, %ebx
+	xorl	%r14d, %r14d
+	jmp	.LBB3_3
 	.p2align	4
+.LBB3_32:
+	movzbl	7(%rsp), %edx
+	leaq	32(%rsp), %rdi
+	leaq	1160(%rsp), %rcx
+	movq	24(%rsp), %rsi
+	movq	%r15, %r8
+	callq	"line_io::send::<#df9e9f1468b30f79>"
+	cmpb	$0, 32(%rsp)
+	jne	.LBB3_42
+	movq	40(%rsp), %r15
+	movzbl	48(%rsp), %eax
+	movb	%al, 7(%rsp)
+	movq	16(%rsp), %rax
+	incq	%rax
+	cmpq	$-1, %rax
+	je	.LBB3_14
 .LBB3_3:
-	movq	%rax, 8(%rsp)
-	cmpq	%r14, %rbp
-	jae	.LBB3_35
-	movq	%r15, 16(%rsp)
+	movq	%rax, 16(%rsp)
+	cmpq	%rbp, %rbx
+	jae	.LBB3_34
+	movq	%r15, 24(%rsp)
 	pxor	%xmm0, %xmm0
 	movdqa	%xmm0, 32(%rsp)
 	movq	$0, 48(%rsp)
 	xorl	%r15d, %r15d
+	movq	%rbp, 8(%rsp)
 	jmp	.LBB3_5
 	.p2align	4
-.LBB3_27:
+.LBB3_26:
 	movl	$1031, %ebp
-	subq	%r8, %rbp
-	cmpq	%r12, %rbp
-	cmovaeq	%r12, %rbp
-	leaq	129(%rsp,%r8), %rdi
-	movq	%r13, %rsi
+	subq	%r14, %rbp
+	cmpq	%r13, %rbp
+	cmovaeq	%r13, %rbp
+	leaq	(%rsp,%r14), %rdi
+	addq	$129, %rdi
+	movq	%r12, %rsi
 	movq	%rbp, %rdx
-	movq	%r8, %r12
 	callq	memcpy@PLT
-	movq	%r12, %r8
-	addq	%rbp, %r8
-	movq	%rbx, %rbp
-	cmpq	%r14, %rbx
-	jae	.LBB3_33
+	addq	%rbp, %r14
+	addq	%r13, %rbx
+	movq	8(%rsp), %rbp
+	cmpq	%rbp, %rbx
+	jae	.LBB3_32
 .LBB3_5:
 	leaq	-63475(%r15), %rax
 	cmpq	$67598, %rax
-	jb	.LBB3_6
-	movq	%r14, %r12
-	subq	%rbp, %r12
-	movq	%rbp, %rbx
-	cmpq	$32, %r12
-	jb	.LBB3_13
-	movq	%r12, %rax
-	movq	%rbp, %rbx
+	jb	.LBB3_32
+	leaq	(%rsp,%rbx), %r12
+	addq	$132232, %r12
+	subq	%rbx, %rbp
+	xorl	%eax, %eax
+	cmpq	$32, %rbp
+	jb	.LBB3_10
+	movq	%rbp, %rcx
 	.p2align	4
-.LBB3_11:
-	movdqu	1160(%rsp,%rbx), %xmm0
-	movdqu	1176(%rsp,%rbx), %xmm1
+.LBB3_8:
+	movdqu	(%r12,%rax), %xmm0
+	movdqu	16(%r12,%rax), %xmm1
 	movdqa	.LCPI3_0(%rip), %xmm2
 	pcmpeqb	%xmm2, %xmm1
 	pcmpeqb	%xmm2, %xmm0
 	por	%xmm1, %xmm0
-	pmovmskb	%xmm0, %ecx
-	testl	%ecx, %ecx
-	jne	.LBB3_13
-	addq	$32, %rbx
-	addq	$-32, %rax
-	cmpq	$31, %rax
-	ja	.LBB3_11
-.LBB3_13:
-	cmpq	%r14, %rbx
+	pmovmskb	%xmm0, %edx
+	testl	%edx, %edx
+	jne	.LBB3_10
+	addq	$32, %rax
+	addq	$-32, %rcx
+	cmpq	$31, %rcx
+	ja	.LBB3_8
+.LBB3_10:
+	movq	%rbp, %r13
+	cmpq	%rbp, %rax
 	jae	.LBB3_17
 	.p2align	4
-.LBB3_14:
-	cmpb	$10, 1160(%rsp,%rbx)
-	je	.LBB3_15
-	incq	%rbx
-	cmpq	%rbx, %r14
-	jne	.LBB3_14
+.LBB3_11:
+	cmpb	$10, (%r12,%rax)
+	je	.LBB3_12
+	incq	%rax
+	cmpq	%rax, %rbp
+	jne	.LBB3_11
+	movq	%rbp, %r13
 .LBB3_17:
-	movq	%r14, %rbx
-	leaq	(%rsp,%rbp), %r13
-	addq	$1160, %r13
-	cmpq	$1031, %r8
-	jb	.LBB3_19
-.LBB3_23:
-	cmpq	%rbp, %rbx
-	je	.LBB3_25
-.LBB3_24:
-	leaq	(%rsp,%r15), %rdi
-	addq	$66696, %rdi
-	movq	%r13, %rsi
-	movq	%r12, %rdx
-	movq	%r8, %rbp
-	callq	memcpy@PLT
-	movq	%rbp, %r8
-.LBB3_25:
-	addq	%r12, %r15
-	jmp	.LBB3_26
-	.p2align	4
-.LBB3_15:
-	movq	%rbx, %r12
-	subq	%rbp, %r12
-	leaq	(%rsp,%rbp), %r13
-	addq	$1160, %r13
-	cmpq	$1031, %r8
-	jae	.LBB3_23
-.LBB3_19:
-	leaq	(%r12,%r8), %rax
-	cmpq	$1031, %rax
-	jae	.LBB3_20
-.LBB3_26:
-	cmpq	%rbx, %r14
-	jbe	.LBB3_27
-	testq	%r8, %r8
-	je	.LBB3_29
-	movl	$1031, %ebp
-	subq	%r8, %rbp
-	cmpq	%r12, %rbp
-	cmovaeq	%r12, %rbp
-	leaq	129(%rsp,%r8), %rdi
-	movq	%r13, %rsi
-	movq	%rbp, %rdx
-	movq	%r8, %r12
-	callq	memcpy@PLT
-	addq	%r12, %rbp
-	leaq	129(%rsp), %rdi
-	leaq	66696(%rsp), %rdx
-	movq	%rbp, %rsi
-	jmp	.LBB3_31
-	.p2align	4
-.LBB3_20:
-	testq	%r8, %r8
-	je	.LBB3_22
-	leaq	(%rsp,%r15), %rdi
-	addq	$66696, %rdi
-	leaq	129(%rsp), %rsi
-	movq	%r8, %rdx
-	movq	%r8, 24(%rsp)
-	callq	memcpy@PLT
-	movq	24(%rsp), %r8
+	cmpq	$1031, %r14
+	jb	.LBB3_18
 .LBB3_22:
-	addq	%r8, %r15
-	cmpq	%rbp, %rbx
-	jne	.LBB3_24
+	testq	%r13, %r13
+	je	.LBB3_24
+.LBB3_23:
+	leaq	(%rsp,%r15), %rdi
+	addq	$1160, %rdi
+	movq	%r12, %rsi
+	movq	%r13, %rdx
+	callq	memcpy@PLT
+.LBB3_24:
+	addq	%r13, %r15
 	jmp	.LBB3_25
-.LBB3_29:
-	cmpq	$1031, %r12
+	.p2align	4
+.LBB3_12:
+	movq	%rax, %r13
+	cmpq	$1031, %r14
+	jae	.LBB3_22
+.LBB3_18:
+	leaq	(%r14,%r13), %rax
+	cmpq	$1031, %rax
+	jae	.LBB3_19
+.LBB3_25:
+	cmpq	%r13, %rbp
+	jbe	.LBB3_26
+	testq	%r14, %r14
+	je	.LBB3_28
+	movl	$1031, %ebp
+	subq	%r14, %rbp
+	cmpq	%r13, %rbp
+	cmovaeq	%r13, %rbp
+	leaq	(%rsp,%r14), %rdi
+	addq	$129, %rdi
+	movq	%r12, %rsi
+	movq	%rbp, %rdx
+	callq	memcpy@PLT
+	addq	%r14, %rbp
+	leaq	129(%rsp), %rdi
+	leaq	1160(%rsp), %rdx
+	movq	%rbp, %rsi
+	jmp	.LBB3_30
+	.p2align	4
+.LBB3_19:
+	testq	%r14, %r14
+	je	.LBB3_21
+	leaq	(%rsp,%r15), %rdi
+	addq	$1160, %rdi
+	leaq	129(%rsp), %rsi
+	movq	%r14, %rdx
+	callq	memcpy@PLT
+.LBB3_21:
+	addq	%r14, %r15
+	testq	%r13, %r13
+	jne	.LBB3_23
+	jmp	.LBB3_24
+.LBB3_28:
+	cmpq	$1031, %r13
 	movl	$1031, %esi
-	cmovbq	%r12, %rsi
-	leaq	66696(%rsp), %rdx
-	movq	%r13, %rdi
-.LBB3_31:
+	cmovbq	%r13, %rsi
+	leaq	1160(%rsp), %rdx
+	movq	%r12, %rdi
+.LBB3_30:
 	movq	%r15, %rcx
 	callq	"line_convert::end_line"
 	movq	%rax, %r15
-	movb	$10, 66696(%rsp,%rax)
+	movb	$10, 1160(%rsp,%rax)
+	movq	8(%rsp), %rbp
 	incq	%r15
+	addq	%r13, %rbx
 	incq	%rbx
-	xorl	%r8d, %r8d
-	movq	%rbx, %rbp
-	cmpq	%r14, %rbx
+	xorl	%r14d, %r14d
+	cmpq	%rbp, %rbx
 	jb	.LBB3_5
-	jmp	.LBB3_33
+	jmp	.LBB3_32
 	.p2align	4
-.LBB3_35:
-	movq	%r8, %r12
-	leaq	1160(%rsp), %rsi
+.LBB3_34:
+	leaq	132232(%rsp), %rsi
 	movl	$65536, %edx
 	xorl	%edi, %edi
 	callq	read@PLT
 	testq	%rax, %rax
-	js	.LBB3_36
-	je	.LBB3_40
+	js	.LBB3_35
+	je	.LBB3_38
 	cmpq	$65536, %rax
-	movl	$65536, %r14d
-	cmovbq	%rax, %r14
+	movl	$65536, %ebp
+	cmovbq	%rax, %rbp
 	xorl	%ebx, %ebx
-	jmp	.LBB3_39
-	.p2align	4
-.LBB3_6:
-	movq	%rbp, %rbx
-.LBB3_33:
-	movq	%r8, %r12
-	movzbl	7(%rsp), %edx
-	leaq	32(%rsp), %rdi
-	leaq	66696(%rsp), %rcx
-	movq	16(%rsp), %rsi
-	movq	%r15, %r8
-	callq	"line_io::send::<#df9e9f1468b30f79>"
-	cmpb	$0, 32(%rsp)
-	jne	.LBB3_44
-	movq	40(%rsp), %r15
-	movzbl	48(%rsp), %eax
-	movb	%al, 7(%rsp)
-.LBB3_39:
-	movq	8(%rsp), %rax
-	movq	%r12, %r8
+	movq	16(%rsp), %rax
 	incq	%rax
-	movq	%rbx, %rbp
 	cmpq	$-1, %rax
 	jne	.LBB3_3
+.LBB3_14:
 	movl	$1, %eax
-	jmp	.LBB3_45
-.LBB3_36:
+	jmp	.LBB3_43
+.LBB3_35:
 	leaq	32(%rsp), %rdi
 	callq	"std_io::io::error::last_error"
 	movl	$1, %eax
-	jmp	.LBB3_45
-.LBB3_40:
+	jmp	.LBB3_43
+.LBB3_38:
 	pxor	%xmm0, %xmm0
 	movdqa	%xmm0, 32(%rsp)
 	movq	$0, 48(%rsp)
-	testq	%r12, %r12
-	je	.LBB3_41
-	movq	%r12, %rsi
+	testq	%r14, %r14
+	je	.LBB3_39
 	leaq	129(%rsp), %rdi
-	leaq	66696(%rsp), %rdx
+	leaq	1160(%rsp), %rdx
+	movq	%r14, %rsi
 	xorl	%ecx, %ecx
 	callq	"line_convert::end_line"
 	movq	%rax, %r8
-	jmp	.LBB3_43
-.LBB3_41:
+	jmp	.LBB3_41
+.LBB3_39:
 	xorl	%r8d, %r8d
-.LBB3_43:
+.LBB3_41:
 	movzbl	7(%rsp), %edx
 	leaq	32(%rsp), %rdi
-	leaq	66696(%rsp), %rcx
+	leaq	1160(%rsp), %rcx
 	movq	%r15, %rsi
 	callq	"line_io::send::<#df9e9f1468b30f79>"
 	cmpb	$0, 32(%rsp)
 	movl	$0, %eax
-	je	.LBB3_45
-.LBB3_44:
+	je	.LBB3_43
+.LBB3_42:
 	movzbl	33(%rsp), %eax
 	cmpb	$1, %al
 	movl	$2, %eax
 	sbbl	$0, %eax
-.LBB3_45:
+.LBB3_43:
 	addq	$197768, %rsp
 	popq	%rbx
 	popq	%r12

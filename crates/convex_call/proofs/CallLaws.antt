@@ -16,7 +16,6 @@ use Rattle.answer.specs.Refusal.{when}
 use Rattle.grid.specs.declared.Corner.{Corner}
 use Rattle.trace.specs.Verdict.{IsRoom}
 use Rattle.answer.specs.Listed.{counted_of}
-use Rattle.column_laws.specs.Columns.{middle}
 use Rattle.steps.specs.Chain.{as_walk_judged}
 use Rattle.steps.proofs.ChainLaws.{good_short}
 use Rattle.room.specs.Room.{as_room_judged}
@@ -29,18 +28,14 @@ use Rattle.box_laws.specs.Box.{Boxable, box_width, box_height}
 use Rattle.box_laws.proofs.PlaceLaws.{width_few, height_few}
 use Rattle.room_thread_laws.specs.Threads.{Told}
 use Rattle.room_judge.proofs.JudgeLaws.{told_room}
-use Rattle.convex_part.specs.Steps.{Digits}
 
 -- a box of a chain with few steps, and a room with more steps than the edges around its box, which is not convex
-module _ (ds : List ℕ) (d : Digits ds) (h : length ds ≤ middle) (width height : ℕ) (w : width ≡ box_width ds) (g : height ≡ box_height ds) where
-  steps_box : Boxable ds
-  steps_box = record { digits = λ k. omega (arith, d.digits k); short = h }
-
+module _ (ds : List ℕ) (b : Boxable ds) (width height : ℕ) (w : width ≡ box_width ds) (g : height ≡ box_height ds) where
   pub box_few : (width ≤ 16385) × (height ≤ 16385)
-  box_few = (omega (arith, w, width_few ds steps_box), omega (arith, g, height_few ds steps_box))
+  box_few = (omega (arith, w, width_few ds b), omega (arith, g, height_few ds b))
 
   pub girth_no : 2 * (width + height) < length ds + 4 → (c : Corner) → IsRoom c ds → false ≡ convex_of c ds
-  girth_no l c r = sym (is_false (convex_of c ds) (λ t. omega (arith, w, g, convex_girth c ds r steps_box ((convex_of_exactly c ds r h).0 t))))
+  girth_no l c r = sym (is_false (convex_of c ds) (λ t. omega (arith, w, g, convex_girth c ds r b ((convex_of_exactly c ds r b.short).0 t))))
 
 -- the call's promise, by what is wrong with the start and the chain as a room
 module _ (s : Corner) (ds : List ℕ) (j : Judged) (e : j ≡ as_room_judged s ds) where

@@ -15,7 +15,8 @@ use Rattle.convex.specs.Parts.{turned_by}
 use Rattle.convex_laws.specs.Level.{convex_part}
 use Rattle.convex_laws.specs.Place.{place_of}
 use Rattle.convex_laws.specs.Decide.{convex_at, convex_from}
-use Rattle.convex_part.specs.Steps.{Digits}
+use Rattle.box_laws.specs.Box.{Boxable}
+use Rattle.convex_part.specs.Steps.{Digits, PartStore}
 
 pub digits_slice : (ds : List ℕ) (n m : ℕ) → Digits ds → Digits (take n (drop m ds))
 digits_slice ds n m d = record { digits = λ k. go k (dec_lt k n) }
@@ -23,6 +24,14 @@ digits_slice ds n m d = record { digits = λ k. go k (dec_lt k n) }
     go : (k : ℕ) → Dec (k < n) → get_or (take n (drop m ds)) k 0 < 4
     go k (yes h) = omega (arith, get_or-take n (drop m ds) k 0 h, get_or-drop m ds k 0, d.digits (m + k))
     go k (no h) = omega (arith, get_or-eq_default (take n (drop m ds)) 0 {n = k} (omega (arith, length-take n (drop m ds))))
+
+-- steps of a chain that is not refused
+pub digits_of : {ds : List ℕ} → Boxable ds → Digits ds
+digits_of b = record { digits = b.digits }
+
+-- a store serves shorter parts too, and after it was written in
+pub store_less : {n m : ℕ} {ys ys' s s' : List ℕ} → PartStore n ys s → m ≤ n → length ys' ≡ length ys → length s' ≡ length s → PartStore m ys' s'
+store_less p h e f = record { depths = omega (arith, p.depths); stack = omega (arith, p.stack); narrow = omega (arith, p.narrow) }
 
 turned_none : (w : List ℕ) → Digits w → turned_by 0 w ≡ w
 turned_none [] d = refl
@@ -55,7 +64,7 @@ module _ (ds : List ℕ) (j k l : ℕ) where
 
   module _ (d : Digits ds) (g : j ≤ k) (h : k ≤ l) (i : l ≤ length ds) where
     abbrev pub first_half : Bool
-    first_half = part_of 0 0 j ds && part_of 1 j k ds
+    first_half = convex_part (turned_by 0 (take j ds)) && part_of 1 j k ds
 
     abbrev pub second_half : Bool
     second_half = part_of 2 k l ds && part_of 3 l (length ds) ds
@@ -66,11 +75,8 @@ module _ (ds : List ℕ) (j k l : ℕ) where
         ap₂ (λ (a b : Bool). (a && b) && rest) (le-leb j k g) (le-leb k l h)
         ∙ ap₂ (λ (a b : List ℕ). (convex_part a && convex_part (turned_by 1 (take (k - j) (drop j ds)))) && (convex_part (turned_by 2 (take (l - k) (drop k ds))) && convex_part (turned_by 3 b))) start last
       where
-        none : j ≡ j - 0
-        none = omega arith
-
-        start : take j ds ≡ turned_by 0 (take (j - 0) (drop 0 ds))
-        start = ap (λ (n : ℕ). take n ds) none ∙ sym (turned_none (take (j - 0) (drop 0 ds)) (digits_slice ds (j - 0) 0 d))
+        start : take j ds ≡ turned_by 0 (take j ds)
+        start = sym (turned_none (take j ds) (digits_slice ds j 0 d))
 
         last : drop l ds ≡ take (length ds - l) (drop l ds)
         last = sym (take_all (length ds - l) (drop l ds) (omega (arith, length-drop l ds)))

@@ -1,8 +1,7 @@
 -- A chain laid down twice, one after the other, in a buffer.
 -- Assumes nothing.
 use Rattle.std.specs.Prelude.{List, ◌≡◌, ℕ, ◌+◌, ◌*◌, ◌<◌, ◌≤◌, length, get_or}
-use Rattle.column_laws.specs.Columns.{middle}
-use Rattle.convex_part.specs.Steps.{Digits}
+use Rattle.box_laws.specs.Box.{Boxable}
 
 -- the first i steps of w stand at the start of out and from place n on
 pub record LaidTwice (w : List ℕ) (n : ℕ) (out : List ℕ) (i : ℕ) : Type 0 where
@@ -11,8 +10,7 @@ pub record LaidTwice (w : List ℕ) (n : ℕ) (out : List ℕ) (i : ℕ) : Type 
 
 -- the store is large enough to lay down a chain of at most n steps, and to judge its parts
 pub record Roomy (ds out ys s : List ℕ) : Type 0 where
-  pub digits : Digits ds
-  pub short : length ds ≤ middle
+  pub steps : Boxable ds
   pub out-room : 2 * length ds ≤ length out
   pub depths : length ds < length ys
   pub stack : length ds < length s

@@ -2,11 +2,10 @@
 // corners, and each part is judged.
 #![tactic(auto)]
 
-ghost use Rattle.std.specs.Prelude.{◌≡◌, ◌&&◌, ◌+◌, ◌*◌, ◌-◌, ◌<◌, ◌≤◌, length, get_or, take, Ok, drop};
+ghost use Rattle.std.specs.Prelude.{◌≡◌, ◌&&◌, ◌+◌, ◌*◌, ◌<◌, ◌≤◌, length, get_or, Ok};
 ghost use Rattle.grid.specs.declared.Corner.{Corner};
 ghost use Rattle.grid.specs.Grid.{end_from};
 ghost use Rattle.trace.specs.Verdict.{IsRoom};
-ghost use Rattle.column_laws.specs.Columns.{middle};
 ghost use Rattle.box_laws.specs.Box.{Boxable, box_width, box_height};
 ghost use Rattle.box_walk.specs.Boxed.{Boxed};
 ghost use Rattle.steps.specs.Chain.{as_walk_judged};
@@ -15,7 +14,7 @@ ghost use Rattle.convex.specs.Convex.{ConvexCall};
 ghost use Rattle.convex_laws.specs.Way.{travelled};
 ghost use Rattle.convex_laws.specs.Level.{convex_part};
 ghost use Rattle.convex_laws.specs.Decide.{convex_at, convex_from, convex_of};
-ghost use Rattle.convex_part.specs.Steps.{Digits};
+ghost use Rattle.convex_part.specs.Steps.{Digits, PartStore};
 ghost use Rattle.convex_call.specs.Laid.{LaidTwice, Roomy};
 
 use answer::{Limits, Refusal};
@@ -58,43 +57,30 @@ fn lay(chain: &[u8], back: bool, out: &mut [u8])
     }
 }
 
-// Whether the part from place j to place k, turned back to the first, is convex. The working store is lent.
-fn part(room: &[u8], j: usize, k: usize, turn: u8, ys: &mut [u16], s: &mut [u16]) -> bool
-    requires { Digits room.now × (j ≤ k) × (k ≤ length room.now) × (turn < 4) × (length room.now < length ys.old)
-        × (length room.now < length s.old) × (length ys.old ≤ 65536) }
-    ensures { result ≡ convex_part (turned_by turn (take (k - j) (drop j room.now))) }
+// Whether a part and the next one are both convex, turned back to the first. The working store is lent.
+fn half(part: &[u8], next: &[u8], turn: u8, ys: &mut [u16], s: &mut [u16]) -> bool
+    requires { Digits part.now × Digits next.now × (turn < 3) × PartStore (length part.now) ys.old s.old
+        × PartStore (length next.now) ys.old s.old }
+    ensures { result ≡ (convex_part (turned_by turn part.now) && convex_part (turned_by (turn + 1) next.now)) }
 {
-    judge(&room[j..k], turn, ys, s)
-}
-
-// Whether the part from place i to place j and the next one to place k are both convex, turned back to the first. The working
-// store is lent.
-fn half(room: &[u8], i: usize, j: usize, k: usize, turn: u8, ys: &mut [u16], s: &mut [u16]) -> bool
-    requires { Digits room.now × (i ≤ j) × (j ≤ k) × (k ≤ length room.now) × (turn < 3)
-        × (length room.now < length ys.old) × (length room.now < length s.old) × (length ys.old ≤ 65536) }
-    ensures { result ≡ (convex_part (turned_by turn (take (j - i) (drop i room.now)))
-        && convex_part (turned_by (turn + 1) (take (k - j) (drop j room.now)))) }
-{
-    part(room, i, j, turn, ys, s) && part(room, j, k, turn + 1, ys, s)
+    judge(part, turn, ys, s) && judge(next, turn + 1, ys, s)
 }
 
 // Whether a room that begins at its first extremal corner and has the others at places j, k and l is convex. The working store is
 // lent.
 fn by_parts(room: &[u8], j: usize, k: usize, l: usize, ys: &mut [u16], s: &mut [u16]) -> bool
-    requires { Digits room.now × (l ≤ length room.now) × (length room.now < length ys.old)
-        × (length room.now < length s.old) × (length ys.old ≤ 65536) }
+    requires { Digits room.now × (l ≤ length room.now) × PartStore (length room.now) ys.old s.old }
     ensures { result ≡ convex_at j k l room.now }
 {
     if k < j || l < k {
         return false;
     }
-    half(room, 0, j, k, 0, ys, s) && half(room, k, l, room.len(), 2, ys, s)
+    half(&room[..j], &room[j..k], 0, ys, s) && half(&room[k..l], &room[l..], 2, ys, s)
 }
 
 // The same if the places are still to be found.
 fn from_west(room: &[u8], ys: &mut [u16], s: &mut [u16]) -> bool
-    requires { Digits room.now × (length room.now ≤ middle) × (length room.now < length ys.old)
-        × (length room.now < length s.old) × (length ys.old ≤ 65536) }
+    requires { Boxable room.now × PartStore (length room.now) ys.old s.old }
     ensures { result ≡ convex_from room.now }
 {
     let j = place(room, 1);
@@ -116,7 +102,7 @@ fn in_store(chain: &[u8], out: &mut [u8], ys: &mut [u16], s: &mut [u16]) -> bool
 
 // Whether a room of fewer than N steps is convex, with a store for as many columns.
 fn in_sized<const N: usize>(chain: &[u8]) -> bool
-    requires { Digits chain.now × (length chain.now < N) × (length chain.now ≤ middle) × (N ≤ 65536) }
+    requires { Boxable chain.now × (length chain.now < N) × (N ≤ 65536) }
     ensures { (c : Corner) → end_from c chain.now ≡ c → result ≡ convex_of c chain.now }
 {
     let mut out = [[0u8; N]; 2];
@@ -127,7 +113,7 @@ fn in_sized<const N: usize>(chain: &[u8]) -> bool
 
 // Whether a room is convex, whatever corner it starts from.
 fn is_convex(chain: &[u8]) -> bool
-    requires { Digits chain.now × (length chain.now ≤ middle) }
+    requires { Boxable chain.now }
     ensures { (c : Corner) → end_from c chain.now ≡ c → result ≡ convex_of c chain.now }
 {
     if chain.len() < NARROW {
@@ -143,8 +129,7 @@ fn is_convex(chain: &[u8]) -> bool
 // girth: each part of a convex room goes two ways only, so that its steps add up to the edges around its box. A room with more is
 // not convex, and nothing is laid down.
 fn decide(chain: &[u8], width: usize, height: usize) -> bool
-    requires { Digits chain.now × (length chain.now ≤ middle) × (width ≡ box_width chain.now)
-        × (height ≡ box_height chain.now) }
+    requires { Boxable chain.now × (width ≡ box_width chain.now) × (height ≡ box_height chain.now) }
     ensures { (c : Corner) → IsRoom c chain.now → result ≡ convex_of c chain.now }
 {
     if 2 * (width + height) < chain.len() + 4 {

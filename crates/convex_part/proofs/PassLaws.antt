@@ -8,7 +8,7 @@ use native.Mathlib.Omega.{arith}
 use native.Mathlib.Numerals.{add-one}
 use lib.Dec.{eqb, ltb}
 use lib.ListN.{length, get_or, take, drop, set, length-drop, drop_of_length-le}
-use lib.Seq.{get_or-drop, drop-cons, take-set-le, take-suc-set, append_snoc}
+use lib.Seq.{drop-cons, take-set-le, take-suc-set, append_snoc}
 use borrow.Author.Tests.{ne_eqb, lt-ltb, le-ltb}
 use mir.Val.{bool_byte}
 use Rattle.hull_laws.specs.Chain.{chain_from}
@@ -149,14 +149,11 @@ under_le n y i zero h = omega arith
 under_le n y i (suc d) h = omega arith
 
 -- the chain that a scan leaves stands from left to right
-pub scan_rises : (ys s : List ℕ) (a n : ℕ) → drop a s ≡ chain_from ys 0 n → a ≤ length s → n ≤ length ys → Rises (length ys) s a
-scan_rises ys s a n e h g = record { begins = h; rises = up; columns = λ j l r. omega (arith, (stack_in ys s a 0 n j e l r).1) }
-  where
-    at : (i j : ℕ) → a + i ≡ j → get_or (chain_from ys 0 n) i 0 ≡ get_or s j 0
-    at i j f = ap (λ (l : List ℕ). get_or l i 0) (sym e) ∙ get_or-drop a s i 0 ∙ ap (λ (m : ℕ). get_or s m 0) f
-
-    up : (j : ℕ) → a ≤ j → j + 1 < length s → get_or s j 0 < get_or s (j + 1) 0
-    up j l r = omega (arith, chain_rises ys n (j - a) (omega (arith, ap length e, length-drop a s)), at (j - a) j (omega arith), at (j - a + 1) (j + 1) (omega arith))
+pub scan_rises : (ys s : List ℕ) (n : ℕ) → s ≡ chain_from ys 0 n → n ≤ length ys → Rises (length ys) s
+scan_rises ys s n e g = record {
+  rises = λ j r. rw e (chain_rises ys n j (omega (arith, ap length e)));
+  columns = λ j r. omega (arith, (stack_in ys s 0 0 n j e (omega arith) r).1);
+}
 
 -- a part is judged by its letters and by its columns
 pub judge_letters : (w : List ℕ) → are_letters w ≡ false → false ≡ convex_part w

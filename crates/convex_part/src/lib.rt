@@ -1,10 +1,10 @@
 // Whether a part of a room is convex: the depths of its columns, the chain over them, and a test for each column.
 #![tactic(auto)]
 
-ghost use Rattle.std.specs.Prelude.{◌≡◌, ◌+◌, ◌*◌, ◌-◌, ◌%◌, ◌<◌, ◌≤◌, ltb, length, take, drop};
+ghost use Rattle.std.specs.Prelude.{◌≡◌, ◌+◌, ◌*◌, ◌-◌, ◌%◌, ◌<◌, ◌≤◌, ltb, length, take};
 ghost use Rattle.convex.specs.Parts.{turned_by};
 ghost use Rattle.convex_laws.specs.Level.{depths_from, are_letters, level, levels, level_along, level_of, convex_part};
-ghost use Rattle.convex_part.specs.Steps.{over, under, Rises, Digits};
+ghost use Rattle.convex_part.specs.Steps.{over, under, Rises, Digits, PartStore};
 
 use hull_chains::scan;
 
@@ -40,12 +40,12 @@ fn edge(ys: &[u16], p: usize, b: usize) -> bool
     true
 }
 
-// The same for all neighbours of the chain that stands in s from place a on.
-fn along(ys: &[u16], s: &[u16], a: usize) -> bool
-    requires { Rises (length ys.now) s.now a × (length ys.now ≤ 65536) }
-    ensures { result ≡ level_along ys.now (drop a s.now) }
+// The same for all neighbours of the chain s.
+fn along(ys: &[u16], s: &[u16]) -> bool
+    requires { Rises (length ys.now) s.now × (length ys.now ≤ 65536) }
+    ensures { result ≡ level_along ys.now s.now }
 {
-    for q in a + 1..s.len() {
+    for q in 1..s.len() {
         let p = usize::from(s[q - 1]);
         let b = usize::from(s[q]);
         if !edge(ys, p, b) {
@@ -115,14 +115,13 @@ fn columns(ys: &[u16], s: &mut [u16]) -> bool
     requires { (length ys.now ≤ length s.old) × (length ys.now ≤ 65536) }
     ensures { result ≡ level_of ys.now }
 {
-    let a = scan(ys, ys.len(), s);
-    along(ys, s, a)
+    let a = scan(ys, s);
+    along(ys, &s[a..])
 }
 
 // Whether a part, turned back to the first, is convex. The working store is lent.
 pub fn judge(part: &[u8], turn: u8, ys: &mut [u16], s: &mut [u16]) -> bool
-    requires { Digits part.now × (turn < 4) × (length part.now < length ys.old) × (length part.now < length s.old)
-        × (length ys.old ≤ 65536) }
+    requires { Digits part.now × (turn < 4) × PartStore (length part.now) ys.old s.old }
     ensures { result ≡ convex_part (turned_by turn part.now) }
 {
     if !plain(part, turn) {

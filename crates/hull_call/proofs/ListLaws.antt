@@ -5,10 +5,12 @@ use mathlib.Core.Path.{◌≡◌, sym, ap, ap₂, ◌∙◌, subst}
 use mathlib.Core.List.{List, map}
 use Prim.Native.Nat.{ℕ, suc, ◌+◌, ◌*◌, ◌-◌, ◌≤◌, ◌<◌}
 use native.Mathlib.Omega.{arith}
-use native.Mathlib.Numerals.{add-one}
 use lib.Dec.{ltb}
 use lib.IntN.{ℤ, pos, ◌+ℤ◌, ◌-ℤ◌}
-use lib.ListN.{length, get_or, replicate, get_or-replicate, length-replicate}
+use lib.ListN.{length, get_or, take, drop, replicate, get_or-replicate, length-replicate, length-drop}
+use Rattle.std.specs.List.{between}
+use Rattle.std.proofs.lemmas.List.{take-replicate}
+use Rattle.std.proofs.lemmas.Slice.{between_to_end}
 use Rattle.answer.specs.Answers.{Counted, Judged}
 use Rattle.int_laws.proofs.LinearLaws.{zarith, bal+, bal-}
 use Rattle.grid.specs.declared.Corner.{Corner}
@@ -18,12 +20,11 @@ use Rattle.answer.specs.Limits.{most_steps}
 use Rattle.answer.specs.Refusal.{when}
 use Rattle.answer.specs.Listed.{counted_of, laid_if}
 use Rattle.hull.specs.Hull.{HullIs}
-use Rattle.steps.specs.Chain.{chain_judged, as_walk_judged}
-use Rattle.steps.proofs.ChainLaws.{good_digits, good_short}
+use Rattle.steps.specs.Chain.{as_walk_judged}
 use Rattle.hull.specs.Call.{hull_judged, HullCall}
 use Rattle.column_laws.specs.Columns.{west_from, east_from, trail, spot, middle, top}
 use Rattle.hull_laws.specs.Lowest.{sinks, counted_from, half_turned, blank}
-use Rattle.hull_laws.specs.Chain.{hull_by}
+use Rattle.hull_laws.specs.Chain.{hull_by, chain_from}
 use Rattle.grid.proofs.CornerLaws.{corner_eq}
 use Rattle.column_laws.proofs.TrailLaws.{width_le, east_le, west_le, east_ge}
 use Rattle.hull_laws.proofs.SinkLaws.{length-sinks}
@@ -31,20 +32,11 @@ use Rattle.hull_laws.proofs.WalkLaws.{Room, columns_hull}
 use Rattle.hull_laws.proofs.CallLaws.{judged-room}
 use Rattle.hull_laws.proofs.RowLaws.{row_hull}
 use Rattle.hull_chains.specs.Stack.{Scanned}
-use Rattle.hull_columns.specs.declared.Extent.{Extent}
-use Rattle.hull_columns.specs.Extent.{extent_of, Spans}
+use Rattle.hull_columns.specs.Extent.{Spans}
 use Rattle.hull_corners.specs.Parts.{ListGiven, TwoChains, two_at}
 use Rattle.hull_call.specs.Store.{HullStore, Hulled}
 
 -- a walk that is not refused
-pub walked : (chain : List ℕ) (e : Extent) → chain_judged 0 chain ≡ Ok tt → e ≡ extent_of chain → Spans chain e.west e.east
-walked chain e g q = record {
-  digits = good_digits 0 chain g;
-  short = omega (arith, good_short 0 chain (omega arith) g);
-  west = ap (λ (x : Extent). x.west) q;
-  east = ap (λ (x : Extent). x.east) q;
-}
-
 pub walked_order : {chain : List ℕ} {w e : ℕ} → Spans chain w e → w ≤ e
 walked_order {chain} {w} {e} h = omega (arith, h.west, h.east, west_le middle chain, east_ge middle chain)
 
@@ -58,26 +50,27 @@ walked_across {chain} {w} {e} h = omega (arith, h.west, h.east, width_le middle 
 pub walked-width : {chain : List ℕ} {w e : ℕ} → Spans chain w e → e - w ≤ most_steps
 walked-width h = omega (arith, h.short, walked_across h)
 
--- a store of one length
-pub stored : {w e : ℕ} (n : ℕ) → e - w < n → n ≤ suc blank → HullStore w e (replicate n blank) (replicate n blank) (replicate n 0) (replicate n 0)
-stored {w} {e} n h g = record {
-  low = omega (arith, size blank);
-  high = omega (arith, size blank);
-  stack = omega (arith, size 0);
-  stack2 = omega (arith, size 0);
-  short = omega (arith, size 0);
-  short2 = omega (arith, size 0);
-  columns = omega (arith, size blank);
-  columns2 = omega (arith, size blank);
+-- the columns of a store of one length
+pub stored : {w e : ℕ} (n : ℕ) → e - w < n → n ≤ suc blank → HullStore w e (take ((e - w) + 1) (replicate n blank)) (take ((e - w) + 1) (replicate n blank)) (replicate n 0) (replicate n 0)
+stored {w} {e} n h g = rw (take-replicate ((e - w) + 1) n blank (omega arith)) record {
+  low = omega (arith, columns);
+  high = omega (arith, columns);
+  stack = omega (arith, size);
+  stack2 = omega (arith, size);
+  short = omega (arith, size);
+  short2 = omega (arith, size);
   clear = clear;
   clear2 = clear;
 }
   where
-    size : (v : ℕ) → length (replicate n v) ≡ n
-    size v = length-replicate n v
+    size : length (replicate {A = ℕ} n 0) ≡ n
+    size = length-replicate n 0
 
-    clear : replicate n blank ≡ replicate (length (replicate {A = ℕ} n blank)) blank
-    clear = ap (λ (k : ℕ). replicate k blank) (sym (size blank))
+    columns : length (replicate {A = ℕ} ((e - w) + 1) blank) ≡ (e - w) + 1
+    columns = length-replicate ((e - w) + 1) blank
+
+    clear : replicate ((e - w) + 1) blank ≡ replicate (length (replicate {A = ℕ} ((e - w) + 1) blank)) blank
+    clear = ap (λ (k : ℕ). replicate k blank) (sym columns)
 
 -- the start stands in the middle
 start_is : (c : Corner) → spot (c.0 -ℤ pos middle) (c.1 -ℤ pos middle) (middle, middle) ≡ c
@@ -113,17 +106,29 @@ module _ {chain : List ℕ} {w e : ℕ} {lo hi s t : List ℕ} (k : Spans chain 
   }
 
   -- what the scans leave
-  pub chained : (lo' hi' s' t' : List ℕ) (a b : ℕ) → lo' ≡ sinks lo (map (counted_from w) (trail middle middle chain)) → hi' ≡ sinks hi (map (half_turned e top) (trail middle middle chain)) → length s' ≡ length s → length t' ≡ length t → Scanned lo' s' a ((e - w) + 1) → Scanned hi' t' b ((e - w) + 1) → TwoChains w e lo' hi' s' t' a b
+  pub chained : (lo' hi' s' t' : List ℕ) (a b : ℕ) → lo' ≡ sinks lo (map (counted_from w) (trail middle middle chain)) → hi' ≡ sinks hi (map (half_turned e top) (trail middle middle chain)) → length s' ≡ length s → length t' ≡ length t → Scanned lo' s' a → Scanned hi' t' b → TwoChains w e lo' hi' (between a (length s') s') (between b (length t') t')
   chained lo' hi' s' t' a b p q i j x y = record {
     ordered = walked_order k;
     within = walked-top k;
-    low = omega (arith, m.low, ap length p, length-sinks lo (map (counted_from w) (trail middle middle chain)));
-    high = omega (arith, m.high, ap length q, length-sinks hi (map (half_turned e top) (trail middle middle chain)));
-    lower = subst (Scanned lo' s' a) (add-one (e - w)) x;
-    upper = subst (Scanned hi' t' b) (add-one (e - w)) y;
-    short = omega (arith, m.short);
-    short2 = omega (arith, m.short2);
+    low = omega (arith, low);
+    high = omega (arith, high);
+    lower = from_a ∙ x.chain ∙ ap (chain_from lo' 0) low;
+    upper = from_b ∙ y.chain ∙ ap (chain_from hi' 0) high;
+    short = omega (arith, m.short, i, ap length from_a, length-drop a s');
+    short2 = omega (arith, m.short2, j, ap length from_b, length-drop b t');
   }
+    where
+      low : length lo' ≡ suc (e - w)
+      low = ap length p ∙ length-sinks lo (map (counted_from w) (trail middle middle chain)) ∙ m.low
+
+      high : length hi' ≡ suc (e - w)
+      high = ap length q ∙ length-sinks hi (map (half_turned e top) (trail middle middle chain)) ∙ m.high
+
+      from_a : between a (length s') s' ≡ drop a s'
+      from_a = between_to_end s' a (length s') (omega arith)
+
+      from_b : between b (length t') t' ≡ drop b t'
+      from_b = between_to_end t' b (length t') (omega arith)
 
   pub hulled : (c : Corner) (lo' hi' : List ℕ) (before after : List ℤ) (r : Counted) → lo' ≡ sinks lo (map (counted_from w) (trail middle middle chain)) → hi' ≡ sinks hi (map (half_turned e top) (trail middle middle chain)) → ListGiven (hull_by (c.0 -ℤ pos middle) (c.1 -ℤ pos middle) w e top lo' hi') before r after → Hulled c chain before r after
   hulled c lo' hi' before after r p q l = record {

@@ -14,14 +14,12 @@ medium_size = 1025
 
 -- working store for the columns w to e
 pub record HullStore (w e : ℕ) (lo hi s t : List ℕ) : Type 0 where
-  pub low : e - w < length lo
-  pub high : e - w < length hi
+  pub low : length lo ≡ suc (e - w)
+  pub high : length hi ≡ suc (e - w)
   pub stack : e - w < length s
   pub stack2 : e - w < length t
   pub short : length s ≤ suc blank
   pub short2 : length t ≤ suc blank
-  pub columns : length lo ≤ suc blank
-  pub columns2 : length hi ≤ suc blank
   pub clear : lo ≡ replicate (length lo) blank
   pub clear2 : hi ≡ replicate (length hi) blank
 

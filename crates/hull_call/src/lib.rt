@@ -24,45 +24,52 @@ const MEDIUM: usize = 1025;
 
 const WIDEST: usize = Limits::MOST_STEPS + 1;
 
-// The hull of the walk from start through the columns west to east. The working store is lent; lo and hi hold no height yet.
+// The hull of the walk from start, which goes through these columns. The working store is lent; lo and hi have a place for each
+// column, and hold no height yet.
 fn list_in(
     chain: &[u8],
     start: Corner,
-    west: usize,
-    east: usize,
+    extent: Extent,
     lo: &mut [u16],
     hi: &mut [u16],
     s: &mut [u16],
     t: &mut [u16],
     out: &mut [i32],
 ) -> Result<usize, Refusal>
-    requires { Spans chain.now west east × Near start × HullStore west east lo.old hi.old s.old t.old }
+    requires { Spans chain.now extent.west extent.east × Near start
+        × HullStore extent.west extent.east lo.old hi.old s.old t.old }
     ensures { Hulled start chain.now out.old result out.new }
 {
-    fill(chain, west, east, lo, hi);
-    let n = east - west + 1;
-    let a = scan(lo, n, s);
-    let b = scan(hi, n, t);
-    finish(start, west, east, lo, hi, s, a, t, b, out)
+    fill(chain, extent, lo, hi);
+    let a = scan(lo, s);
+    let b = scan(hi, t);
+    finish(start, extent, lo, hi, &s[a..], &t[b..], out)
 }
 
 // The same with a store for SIZE columns.
 fn list_sized<const SIZE: usize>(
     chain: &[u8],
     start: Corner,
-    west: usize,
-    east: usize,
+    extent: Extent,
     out: &mut [i32],
 ) -> Result<usize, Refusal>
-    requires { Spans chain.now west east × Near start × (east - west < SIZE) × (SIZE ≤ 65536) }
+    requires { Spans chain.now extent.west extent.east × Near start × (extent.east - extent.west < SIZE) × (SIZE ≤ 65536) }
     ensures { Hulled start chain.now out.old result out.new }
 {
     let mut lo = [Columns::BLANK; SIZE];
     let mut hi = [Columns::BLANK; SIZE];
     let mut s = [0u16; SIZE];
     let mut t = [0u16; SIZE];
+    let n = extent.east - extent.west + 1;
     list_in(
-        chain, start, west, east, &mut lo, &mut hi, &mut s, &mut t, out,
+        chain,
+        start,
+        extent,
+        &mut lo[..n],
+        &mut hi[..n],
+        &mut s,
+        &mut t,
+        out,
     )
 }
 
@@ -72,20 +79,21 @@ fn list_from(chain: &[u8], start: Corner, out: &mut [i32]) -> Result<usize, Refu
     requires { (chain_judged 0 chain.now ≡ Ok tt) × Near start }
     ensures { Hulled start chain.now out.old result out.new }
 {
-    let Extent { west, east } = survey(chain);
+    let extent = survey(chain);
+    let Extent { west, east } = extent;
     if west < east && east - west == chain.len() {
-        return ends(start, west, east, out);
+        return ends(start, extent, out);
     }
     if chain.len() < SMALL {
-        return list_sized::<SMALL>(chain, start, west, east, out);
+        return list_sized::<SMALL>(chain, start, extent, out);
     }
     if east - west < Columns::NARROW {
-        return list_sized::<{ Columns::NARROW }>(chain, start, west, east, out);
+        return list_sized::<{ Columns::NARROW }>(chain, start, extent, out);
     }
     if east - west < Columns::WIDER {
-        return list_sized::<{ Columns::WIDER }>(chain, start, west, east, out);
+        return list_sized::<{ Columns::WIDER }>(chain, start, extent, out);
     }
-    list_sized::<WIDEST>(chain, start, west, east, out)
+    list_sized::<WIDEST>(chain, start, extent, out)
 }
 
 // Writes x and y of each corner of the hull of the walk from start, and answers how many corners there are. Refuses too many
@@ -102,11 +110,11 @@ fn list_short_from(chain: &[u8], start: Corner, out: &mut [i32]) -> Result<usize
     requires { (chain_judged 0 chain.now ≡ Ok tt) × Near start × (length chain.now < medium_size) }
     ensures { Hulled start chain.now out.old result out.new }
 {
-    let Extent { west, east } = survey(chain);
-    if east - west >= Columns::NARROW {
-        return list_sized::<MEDIUM>(chain, start, west, east, out);
+    let extent = survey(chain);
+    if extent.east - extent.west >= Columns::NARROW {
+        return list_sized::<MEDIUM>(chain, start, extent, out);
     }
-    list_sized::<{ Columns::NARROW }>(chain, start, west, east, out)
+    list_sized::<{ Columns::NARROW }>(chain, start, extent, out)
 }
 
 // What `list` does, for at most 1,024 bytes: no larger store is in its frame.

@@ -10,7 +10,7 @@ pub record Stack (ys s : List ℕ) (q p : ℕ) : Type 0 where
   pub columns : (j : ℕ) → q ≤ j → j < length s → (p < get_or s j 0) × (get_or s j 0 < length ys)
   pub short : length ys ≤ suc blank
 
--- s has the chain of the first n columns of ys, from place a on
-pub record Scanned (ys s : List ℕ) (a n : ℕ) : Type 0 where
-  pub chain : drop a s ≡ chain_from ys 0 n
+-- s has the chain of the columns of ys, from place a on
+pub record Scanned (ys s : List ℕ) (a : ℕ) : Type 0 where
+  pub chain : drop a s ≡ chain_from ys 0 (length ys)
   pub begins : a ≤ length s

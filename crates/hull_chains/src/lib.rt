@@ -25,12 +25,12 @@ fn turns(ys: &[u16], p: usize, b: usize, a: usize) -> bool
     bends(b - p, a - p, ys[p], ys[b], ys[a])
 }
 
-// Whether the first of the chain from q on makes no left turn after p.
-fn drops(ys: &[u16], s: &[u16], q: usize, p: usize) -> bool
-    requires { Stack ys.now s.now q p }
-    ensures { result ≡ drops_at ys.now p (drop q s.now) }
+// Whether the first column of the chain s makes no left turn after p.
+fn drops(ys: &[u16], s: &[u16], p: usize) -> bool
+    requires { Stack ys.now s.now 0 p }
+    ensures { result ≡ drops_at ys.now p s.now }
 {
-    let &[b, a, ..] = &s[q..] else {
+    let &[b, a, ..] = s else {
         return false;
     };
     !turns(ys, p, usize::from(b), usize::from(a))
@@ -43,7 +43,7 @@ fn push(ys: &[u16], s: &mut [u16], q: usize, p: usize) -> usize
         × (result < length s.old) }
 {
     let mut f = q;
-    while drops(ys, s, f, p) {
+    while drops(ys, &s[f..], p) {
         f += 1;
     }
     f -= 1;
@@ -64,26 +64,27 @@ fn pass(ys: &[u16], i: usize) -> usize
     0
 }
 
-// The column that comes in front of the chain of the columns i to n: the others make no left turn between their two neighbours.
-fn next(ys: &[u16], n: usize, i: usize) -> usize
-    requires { (0 < i) × (i ≤ n) × (n ≤ length ys.now) × (length ys.now ≤ 65536) }
-    ensures { (n ≡ i → result ≡ i - 1) × (i < n → result ≡ turn_from ys.now (i - 1)) }
+// The column that comes in front of the chain of the columns from i on: the others make no left turn between their two
+// neighbours.
+fn next(ys: &[u16], i: usize) -> usize
+    requires { (0 < i) × (i ≤ length ys.now) × (length ys.now ≤ 65536) }
+    ensures { (length ys.now ≡ i → result ≡ i - 1) × (i < length ys.now → result ≡ turn_from ys.now (i - 1)) }
 {
-    if i == n {
+    if i == ys.len() {
         return i - 1;
     }
     pass(ys, i - 1)
 }
 
-// The chain of the first n columns: where it begins in s.
-pub fn scan(ys: &[u16], n: usize, s: &mut [u16]) -> usize
-    requires { (n ≤ length ys.now) × (n ≤ length s.old) × (length ys.now ≤ 65536) }
-    ensures { Scanned ys.now s.new result n }
+// The chain of the columns: where it begins in s.
+pub fn scan(ys: &[u16], s: &mut [u16]) -> usize
+    requires { (length ys.now ≤ length s.old) × (length ys.now ≤ 65536) }
+    ensures { Scanned ys.now s.new result }
 {
     let mut q = s.len();
-    let mut i = n;
+    let mut i = ys.len();
     while i > 0 {
-        i = next(ys, n, i);
+        i = next(ys, i);
         q = push(ys, s, q, i);
     }
     q

@@ -19,7 +19,8 @@ pub struct Extent {
 // How far a walk without a fault goes.
 pub fn survey(chain: &[u8]) -> Extent
     requires { chain_judged 0 chain.now ≡ Ok tt }
-    ensures { result ≡ extent_of chain.now }
+    ensures extent { result ≡ extent_of chain.now }
+    ensures spans { Spans chain.now result.west result.east }
 {
     let by = Columns::EAST;
     let mut x = Columns::MIDDLE as u32;
@@ -51,26 +52,26 @@ fn mirror(ys: &mut [u16], m: usize)
 
 // Keeps the lowest corner of each column in lo, counted from west, and in hi that of the walk turned by half a turn, from east.
 // Both are counted from west at first, so that a corner has one place in both.
-pub fn fill(chain: &[u8], west: usize, east: usize, lo: &mut [u16], hi: &mut [u16])
-    requires { Spans chain.now west east × (east - west < length lo.old) × (east - west < length hi.old)
-        × (hi.old ≡ replicate (length hi.old) blank) }
+pub fn fill(chain: &[u8], extent: Extent, lo: &mut [u16], hi: &mut [u16])
+    requires { Spans chain.now extent.west extent.east × (extent.east - extent.west < length lo.old)
+        × (extent.east - extent.west < length hi.old) × (hi.old ≡ replicate (length hi.old) blank) }
     ensures { (lo.new ≡ sinks lo.old
-        (map (counted_from west) (trail middle middle chain.now)))
-        × (hi.new ≡ sinks hi.old (map (half_turned east top) (trail middle middle chain.now))) }
+        (map (counted_from extent.west) (trail middle middle chain.now)))
+        × (hi.new ≡ sinks hi.old (map (half_turned extent.east top) (trail middle middle chain.now))) }
 {
     let by = Columns::EAST;
     let up = Columns::NORTH;
     let mut x = Columns::MIDDLE as u32;
     let mut y = Columns::LEVEL;
     for &d in chain {
-        let c = x as usize - west;
+        let c = x as usize - extent.west;
         keep(lo, c, y);
         keep(hi, c, Columns::TOP - y);
         x = across(x, &by, d);
         y = upward(y, &up, d);
     }
-    let c = x as usize - west;
+    let c = x as usize - extent.west;
     keep(lo, c, y);
     keep(hi, c, Columns::TOP - y);
-    mirror(hi, east - west);
+    mirror(hi, extent.east - extent.west);
 }

@@ -4,7 +4,6 @@
 ghost use Rattle.std.specs.Prelude.{◌≡◌, map, ◌&&◌, ◌+◌, ◌*◌, ◌-◌, ◌<◌, ◌≤◌, eqb, ltb, pos, nat_abs, ◌+ℤ◌, ◌-ℤ◌, ◌*ℤ◌, length, set};
 ghost use Rattle.lists.specs.Lists.{tally};
 ghost use Rattle.std.proofs.lemmas.List.Edits.{sets};
-ghost use Rattle.std.proofs.Math.Seq.{slice};
 ghost use Rattle.grid.specs.Grid.{numbers};
 ghost use Rattle.hull_laws.specs.Chain.{hull_by, spot_by, col_at};
 ghost use Rattle.column_laws.specs.Columns.{spot, middle, top};
@@ -14,6 +13,7 @@ ghost use Rattle.hull_corners.specs.Parts.{both_sides, two_at, Puts, Parts, TwoC
 use answer::Refusal;
 use columns::Columns;
 use grid::Corner;
+use hull_columns::Extent;
 
 // A coordinate: n steps of `way`, which is 1 or -1, from `base`.
 fn coordinate(base: i32, way: i32, n: u16) -> i32
@@ -34,23 +34,14 @@ fn put_corner(out: &mut [i32], o: usize, base: Corner, way: i32, c: u16, y: u16)
     out[o + 1] = coordinate(base.1, way, y);
 }
 
-// Writes the corners of the columns s[from] up to s[to] from place `at` on.
-fn put(
-    out: &mut [i32],
-    at: usize,
-    base: Corner,
-    way: i32,
-    ys: &[u16],
-    s: &[u16],
-    from: usize,
-    to: usize,
-)
-    requires { Puts (length out.old) at base way ys.now s.now from to }
+// Writes the corners of the columns s from place `at` on.
+fn put(out: &mut [i32], at: usize, base: Corner, way: i32, ys: &[u16], s: &[u16])
+    requires { Puts (length out.old) at base way ys.now s.now }
     ensures { out.new ≡ sets out.old at
-        (numbers (map (λ c. spot_by base way (col_at ys.now c)) (slice from to s.now))) }
+        (numbers (map (λ c. spot_by base way (col_at ys.now c)) s.now)) }
 {
     let mut o = at;
-    for &c in &s[from..to] {
+    for &c in s {
         put_corner(out, o, base, way, c, ys[usize::from(c)]);
         o += 2;
     }
@@ -63,12 +54,11 @@ fn meet(lo: u16, hi: u16) -> bool
     u32::from(lo) + u32::from(hi) == u32::from(Columns::TOP)
 }
 
-// Where the upper chain begins, without a first corner that the lower one ends with.
-fn seam(lo: u16, hi: u16, b: usize) -> usize
-    requires { b ≤ 65536 }
-    ensures { result ≡ b + tally (eqb (lo + hi) top) }
+// How many corners the upper chain begins with that the lower one ends with.
+fn seam(lo: u16, hi: u16) -> usize
+    ensures { result ≡ tally (eqb (lo + hi) top) }
 {
-    b + usize::from(meet(lo, hi))
+    usize::from(meet(lo, hi))
 }
 
 // Where it ends, without a last corner that the lower one begins with.
@@ -96,69 +86,63 @@ fn placed(start: Corner, column: usize, height: usize) -> Corner
     Corner(x, y)
 }
 
-// Writes the lower chain, from s[a] on, and then t[f] up to t[g] of the upper one.
+// Writes the lower chain, s, and then t, which is a part of the upper one.
 fn write(
     start: Corner,
-    west: usize,
-    east: usize,
+    extent: Extent,
     lo: &[u16],
     hi: &[u16],
     s: &[u16],
-    a: usize,
     t: &[u16],
-    f: usize,
-    g: usize,
     out: &mut [i32],
 )
-    requires { Near start × Parts west east lo.now hi.now s.now t.now a f g (length out.old) }
+    requires { Near start × Parts extent.west extent.east lo.now hi.now s.now t.now (length out.old) }
     ensures { out.new ≡ sets out.old 0
-        (numbers (both_sides start west east lo.now hi.now s.now t.now a f g)) }
+        (numbers (both_sides start extent.west extent.east lo.now hi.now s.now t.now)) }
 {
-    let first = placed(start, west, 0);
-    let last = placed(start, east, Columns::LAST);
-    let n = s.len();
-    put(out, 0, first, 1, lo, s, a, n);
-    put(out, 2 * (n - a), last, -1, hi, t, f, g);
+    let first = placed(start, extent.west, 0);
+    let last = placed(start, extent.east, Columns::LAST);
+    put(out, 0, first, 1, lo, s);
+    put(out, 2 * s.len(), last, -1, hi, t);
 }
 
 // Writes both chains if the buffer is long enough, and answers how many corners there are.
 pub fn finish(
     start: Corner,
-    west: usize,
-    east: usize,
+    extent: Extent,
     lo: &[u16],
     hi: &[u16],
     s: &[u16],
-    a: usize,
     t: &[u16],
-    b: usize,
     out: &mut [i32],
 ) -> Result<usize, Refusal>
-    requires { Near start × TwoChains west east lo.now hi.now s.now t.now a b }
-    ensures { ListGiven (hull_by (start.0 -ℤ pos middle) (start.1 -ℤ pos middle) west east top lo.now
-        hi.now) out.old result out.new }
+    requires { Near start × TwoChains extent.west extent.east lo.now hi.now s.now t.now }
+    ensures { ListGiven (hull_by (start.0 -ℤ pos middle) (start.1 -ℤ pos middle) extent.west
+        extent.east top lo.now hi.now) out.old result out.new }
 {
-    let k = east - west;
-    let f = seam(lo[k], hi[0], b);
+    let k = extent.east - extent.west;
+    let f = seam(lo[k], hi[0]);
     let g = close(lo[0], hi[k], f, t.len());
-    let count = (s.len() - a) + (g - f);
+    let part = &t[f..g];
+    let count = s.len() + part.len();
     if out.len() < 2 * count {
         return Err(Refusal::HullRoom);
     }
-    write(start, west, east, lo, hi, s, a, t, f, g, out);
+    write(start, extent, lo, hi, s, part, out);
     Ok(count)
 }
 
-// Writes the corners at the start's height in these two columns if the buffer is long enough, and answers that there are two.
-pub fn ends(start: Corner, west: usize, east: usize, out: &mut [i32]) -> Result<usize, Refusal>
-    requires { Near start × (west ≤ top) × (east ≤ top) }
-    ensures { ListGiven (two_at start west east) out.old result out.new }
+// Writes the corners at the start's height in the first and the last column if the buffer is long enough, and answers that there
+// are two.
+pub fn ends(start: Corner, extent: Extent, out: &mut [i32]) -> Result<usize, Refusal>
+    requires { Near start × (extent.west ≤ top) × (extent.east ≤ top) }
+    ensures { ListGiven (two_at start extent.west extent.east) out.old result out.new }
 {
     if out.len() < 4 {
         return Err(Refusal::HullRoom);
     }
     let base = placed(start, 0, 0);
-    put_corner(out, 0, base, 1, west as u16, Columns::LEVEL);
-    put_corner(out, 2, base, 1, east as u16, Columns::LEVEL);
+    put_corner(out, 0, base, 1, extent.west as u16, Columns::LEVEL);
+    put_corner(out, 2, base, 1, extent.east as u16, Columns::LEVEL);
     Ok(2)
 }

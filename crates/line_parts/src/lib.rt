@@ -4,7 +4,7 @@
 ghost use Rattle.std.specs.Prelude.{◌≡◌, true, ◌++◌, ◌+◌, ◌*◌, ◌<◌, ◌≤◌, length, take};
 ghost use Rattle.line_frame.specs.Sizes.{head_digits, refused_digits, facts_digits};
 ghost use Rattle.line_frame.specs.Hex.{all_hex, pair_at, hex_of};
-ghost use Rattle.line_frame.specs.Line.{kind_of, count_of, kind_named, frame_of, digits_of};
+ghost use Rattle.line_frame.specs.Line.{kind_named, frame_of, digits_of};
 ghost use Rattle.line_frame.specs.Spelled.{refused_line, facts_line, numbers_line};
 ghost use Rattle.line_fields.specs.Put.{put, Wrote};
 
@@ -31,22 +31,6 @@ fn pair(s: &[u8], i: usize) -> usize
     usize::from(value(s[i])) * 16 + usize::from(value(s[i + 1]))
 }
 
-// The number that the first two digits spell.
-fn kind(s: &[u8]) -> usize
-    requires { (all_hex s.now ≡ true) × (head_digits ≤ length s.now) }
-    ensures { result ≡ kind_of s.now }
-{
-    pair(s, 0)
-}
-
-// The number that the four digits after them spell.
-fn count(s: &[u8]) -> usize
-    requires { (all_hex s.now ≡ true) × (head_digits ≤ length s.now) }
-    ensures { result ≡ count_of s.now }
-{
-    pair(s, 2) * 256 + pair(s, 4)
-}
-
 // The kind with this number, which is 0 or 1.
 fn named(k: usize) -> Kind
     ensures { result ≡ kind_named k }
@@ -57,7 +41,8 @@ fn named(k: usize) -> Kind
     Kind::Turns
 }
 
-// The kind of the frame that the line is, and how many operations or turns it has; or None.
+// The kind of the frame that the line is, two digits, and how many operations or turns it has, four digits. None: the line is not
+// a frame.
 pub fn read(s: &[u8]) -> Option<(Kind, usize)>
     ensures { result ≡ frame_of s.now }
 {
@@ -70,11 +55,11 @@ pub fn read(s: &[u8]) -> Option<(Kind, usize)>
     if !all_hex(s) {
         return None;
     }
-    let k = kind(s);
+    let k = pair(s, 0);
     if 1 < k {
         return None;
     }
-    let n = count(s);
+    let n = pair(s, 2) * 256 + pair(s, 4);
     if s.len() - Frame::HEAD != n {
         return None;
     }

@@ -9,7 +9,7 @@ use native.Mathlib.Omega.{arith}
 use lib.ListN.{length, take, drop, length-drop, length-take, length-append}
 use lib.Seq.{take_all, take-add, drop-drop, length-take-le}
 use lib.Dec.{ltb, leb}
-use borrow.Author.Tests.{le-ltb, lt-ltb, le-leb, lt-leb, eq-eqb, ne_eqb}
+use borrow.Author.Tests.{le-ltb, lt-ltb, le-leb, lt-leb}
 use Rattle.line_frame.specs.Sizes.{most_held}
 use Rattle.line_fields.specs.Put.{put, Wrote}
 use Rattle.line_frame.specs.Begun.{line_length, has_feed, kept_of, passed_of, held_of}
@@ -22,67 +22,52 @@ use Rattle.line_stream.proofs.StreamLaws.{line_length_most, fed_passed, fed_nil,
 pub length-kept_of : (l : List ℕ) → length (kept_of l) ≤ most_held
 length-kept_of l = omega (arith, length-take most_held l)
 
--- one line, or the rest of the chunk: e is the place of its line feed, or the chunk's length
-module _ (J : Job) (line s out : List ℕ) (held at used e : ℕ) (he : e ≡ at + line_length (drop at s)) (ha : at ≤ length s) where
+-- one line, or the rest q of the chunk: n is the place of its line feed in it, or its length
+module _ (J : Job) (line q out : List ℕ) (held at used n : ℕ) (e : n ≡ line_length q) where
   -- no line feed: what is written early, and the rest of the chunk is held
-  pub fed_held : (k u : ℕ) (line' out' : List ℕ) → length line ≡ most_held → length s ≤ e
-      → Wrote (kept_of (take held line ++ take (e - at) (drop at s))) 0 line k line'
-      → Wrote (J.early (take held line) (take (e - at) (drop at s))) used out u out'
-      → FedLine J line held (drop at s) at out used (record { held = k; at = e; used = u }) line' out'
+  pub fed_held : (k u : ℕ) (line' out' : List ℕ) → length line ≡ most_held → length q ≤ n
+      → Wrote (kept_of (take held line ++ take n q)) 0 line k line'
+      → Wrote (J.early (take held line) (take n q)) used out u out'
+      → FedLine J line held q at out used (record { held = k; at = at + n; used = u }) line' out'
   fed_held k u line' out' hl h w o =
-      let q : List ℕ = drop at s in
-      let n : length q ≡ length s - at = length-drop at s in
-      let m = line_length_most (drop at s) in
+      let m = line_length_most q in
       let f : has_feed q ≡ false = le-ltb (line_length q) (length q) (omega arith) in
-      let a : take (e - at) q ≡ q = take_all (e - at) q (omega arith) in
-      let g : kept_of (take held line ++ take (e - at) q) ≡ kept_of (take held line ++ q) = ap (λ (l : List ℕ). kept_of (take held line ++ l)) a in
-      let k1 : k ≡ length (kept_of (take held line ++ take (e - at) q)) = omega (arith, w.end) in
+      let a : take n q ≡ q = take_all n q h in
+      let g : kept_of (take held line ++ take n q) ≡ kept_of (take held line ++ q) = ap (λ (l : List ℕ). kept_of (take held line ++ l)) a in
+      let k1 : k ≡ length (kept_of (take held line ++ take n q)) = omega (arith, w.end) in
       record {
         output = rw f (subst (λ (l : List ℕ). Wrote (J.early (take held line) l) used out u out') a o);
         passed = rw f (omega arith);
         count = rw f (k1 ∙ ap length g);
-        holds = rw f (ap (take k) w.buffer ∙ take-put-start (kept_of (take held line ++ take (e - at) q)) line k k1 (omega (arith, length-kept_of (take held line ++ take (e - at) q))) ∙ g);
+        holds = rw f (ap (take k) w.buffer ∙ take-put-start (kept_of (take held line ++ take n q)) line k k1 (omega (arith, length-kept_of (take held line ++ take n q))) ∙ g);
         buffer = rw f (w.buffer ∙ ap (λ (l : List ℕ). put l 0 line) g);
       }
 
   -- a line that ends there: what is written early, and then what is written for the bytes that are kept, wherever these were read
   -- from
-  module _ {told last : List ℕ → List ℕ} (does : Does J told last) (h : e < length s) (room : used + length (told_of J (take held line) (drop at s)) ≤ length out)
-      (v u : ℕ) (line' mid out' : List ℕ) (o : Wrote (J.early (take held line) (take (e - at) (drop at s))) used out v mid)
-      (w : Wrote (J.told (kept_of (take held line ++ take (e - at) (drop at s))) []) v mid u out') where
-    fed_told : Wrote (told_of J (take held line) (drop at s)) used out u out'
+  module _ {told last : List ℕ → List ℕ} (does : Does J told last) (h : n < length q) (room : used + length (told_of J (take held line) q) ≤ length out)
+      (v u : ℕ) (line' mid out' : List ℕ) (o : Wrote (J.early (take held line) (take n q)) used out v mid)
+      (w : Wrote (J.told (kept_of (take held line ++ take n q)) []) v mid u out') where
+    feeds : has_feed q ≡ true
+    feeds = lt-ltb (line_length q) (length q) (omega arith)
+
+    fed_told : Wrote (told_of J (take held line) q) used out u out'
     fed_told =
-        let q : List ℕ = drop at s in
-        let n : length q ≡ length s - at = length-drop at s in
-        let f : has_feed q ≡ true = lt-ltb (line_length q) (length q) (omega arith) in
-        let d : e - at ≡ line_length q = omega arith in
         let x : List ℕ = take held line in
-        let r : List ℕ = take (e - at) q in
+        let r : List ℕ = take n q in
         let m : J.early x r ++ J.told (kept_of (x ++ r)) [] ≡ told_of J x q =
-        does.more x r [] ∙ ap (J.told x) (append-nil r ∙ ap (λ (i : ℕ). take i q) d) ∙ sym (ap (λ (c : Bool). cond c (J.told x (take (line_length q) q)) (J.early x q)) f)
+        does.more x r [] ∙ ap (J.told x) (append-nil r ∙ ap (λ (i : ℕ). take i q) e) ∙ sym (ap (λ (c : Bool). cond c (J.told x (take (line_length q) q)) (J.early x q)) feeds)
         in
         subst (λ (l : List ℕ). Wrote l used out u out') m (wrote_append o w (omega (arith, room, ap length m, length-append (J.early x r) (J.told (kept_of (x ++ r)) []))))
 
-    pub fed_ended : line' ≡ line_ended line held (take (e - at) (drop at s)) → FedLine J line held (drop at s) at out used (record { held = 0; at = e + 1; used = u }) line' out'
-    fed_ended b =
-        let q : List ℕ = drop at s in
-        let n : length q ≡ length s - at = length-drop at s in
-        let f : has_feed q ≡ true = lt-ltb (line_length q) (length q) (omega arith) in
-        let d : e - at ≡ line_length q = omega arith in
-        record {
-          output = fed_told;
-          passed = rw f (omega arith);
-          count = rw f refl;
-          holds = rw f refl;
-          buffer = rw f (b ∙ ap (λ (i : ℕ). line_ended line held (take i q)) d);
-        }
-
--- what a line that ends leaves in the buffer: nothing of it, if none was held, and else the bytes that were put together
-pub ended_here : (line r : List ℕ) (held : ℕ) → held ≡ 0 → line ≡ line_ended line held r
-ended_here line r held z = rw (eq-eqb held 0 z)
-
-pub ended-kept : (line r line' : List ℕ) (held k : ℕ) → (held ≡ 0 → ⊥) → Wrote (kept_of (take held line ++ r)) 0 line k line' → line' ≡ line_ended line held r
-ended-kept line r line' held k z w = rw (ne_eqb held 0 z) w.buffer
+    pub fed_ended : line' ≡ line_ended line held (take n q) → FedLine J line held q at out used (record { held = 0; at = at + n + 1; used = u }) line' out'
+    fed_ended b = record {
+      output = fed_told;
+      passed = rw feeds (omega arith);
+      count = rw feeds refl;
+      holds = rw feeds refl;
+      buffer = rw feeds (b ∙ ap (λ (i : ℕ). line_ended line held (take i q)) e);
+    }
 
 -- the bytes that were put together
 pub kept-bytes : (line : List ℕ) (k : ℕ) (line' : List ℕ) (l : List ℕ) → length line ≡ most_held → Wrote (kept_of l) 0 line k line' → take k line' ≡ kept_of l

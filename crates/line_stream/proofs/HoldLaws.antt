@@ -1,14 +1,14 @@
 -- One more byte in each loop over a chunk, and the bytes of a piece that are kept.
 -- Assumes nothing.
-use mathlib.Core.Path.{◌≡◌, refl, sym, ap, ap₂, ◌∙◌}
+use mathlib.Core.Path.{◌≡◌, refl, sym, ap, ◌∙◌}
 use mathlib.Core.Bool.{Bool, true, false, ◌||◌}
 use mathlib.Core.List.{List, [], ◌∷◌, ◌++◌}
 use Prim.Native.Nat.{ℕ, zero, suc, ◌+◌, ◌-◌, ◌<◌, ◌≤◌, min}
 use native.Mathlib.Omega.{arith}
 use native.Mathlib.Numerals.{add-one}
 use native.Mathlib.Decide.{dec_le}
-use lib.ListN.{length, take, drop, get_or, length-drop, drop_of_length-le}
-use lib.Seq.{drop-cons, get_or-drop, take-append-add, take_all, take-take, drop-drop, length-take-le, length_paste_head}
+use lib.ListN.{length, take, drop, get_or, drop_of_length-le}
+use lib.Seq.{drop-cons, take-append-add, take_all, drop-drop, length-take-le, length_paste_head}
 use lib.Dec.{ltb, eqb}
 use borrow.Author.Tests.{eq-eqb, ne_eqb, ltb-true, ltb-false, lt-ltb, le-ltb}
 use borrow.Rule.Slice.PartMut.{put_mid}
@@ -54,11 +54,9 @@ near_suc (b ∷ s) k h = go (eqb b 10) refl k h (λ m l. near_suc s m l)
     go false e (suc k) l f =
         rw (line_length-more s b e) (ap (λ (c : Bool). c || eqb (get_or s k 0) 10) (sym (ltb_suc (line_length s) k)) ∙ f k (omega arith) ∙ ltb_suc (line_length s) (suc k))
 
-pub near_next : (s : List ℕ) (at k : ℕ) {found : Bool} → at + k < length s → found ≡ ltb (line_length (drop at s)) k → found || eqb (get_or s (at + k) 0) 10 ≡ ltb (line_length (drop at s)) (k + 1)
-near_next s at k h e =
-    ap₂ (λ (c : Bool) (b : ℕ). c || eqb b 10) e (sym (get_or-drop at s k 0))
-    ∙ near_suc (drop at s) k (omega (arith, length-drop at s))
-    ∙ ap (ltb (line_length (drop at s))) (sym (add-one k))
+pub near_next : (s : List ℕ) (k : ℕ) {found : Bool} → k < length s → found ≡ ltb (line_length s) k → found || eqb (get_or s k 0) 10 ≡ ltb (line_length s) (k + 1)
+near_next s k h e =
+    ap (λ (c : Bool). c || eqb (get_or s k 0) 10) e ∙ near_suc s k h ∙ ap (ltb (line_length s)) (sym (add-one k))
 
 -- a line that has this many bytes more goes on after them
 line_further : (s : List ℕ) (n : ℕ) → n ≤ line_length s → line_length s ≡ n + line_length (drop n s)
@@ -77,44 +75,38 @@ skip-next s at n e f =
     omega (arith, line_further (drop at s) n (omega (arith, h)), d)
 
 -- the bytes that are kept of the held ones and of a piece
-module _ (line s : List ℕ) (held at end m : ℕ) (hh : held ≤ most_held) (hl : length line ≡ most_held) (ha : at ≤ end) (he : end ≤ length s)
-    (hm : m ≡ min (end - at) (most_held - held)) where
-  kept_piece : kept_of (take held line ++ take (end - at) (drop at s)) ≡ take held line ++ take m (drop at s)
+module _ (line s : List ℕ) (held m : ℕ) (hh : held ≤ most_held) (hl : length line ≡ most_held) (hm : m ≡ min (length s) (most_held - held)) where
+  kept_piece : kept_of (take held line ++ s) ≡ take held line ++ take m s
   kept_piece =
-      let p : List ℕ = take (end - at) (drop at s) in
       let a : length (take held line) ≡ held = length-take-le held line (omega arith) in
-      let lp : length p ≡ end - at = length-take-le (end - at) (drop at s) (omega (arith, length-drop at s)) in
       let e : most_held ≡ length (take held line) + (most_held - held) = omega arith in
-      ap (λ (n : ℕ). take n (take held line ++ p)) e
-      ∙ take-append-add (take held line) p (most_held - held)
-      ∙ ap (λ (l : List ℕ). take held line ++ l) (two (dec_le (end - at) (most_held - held)) lp)
+      ap (λ (n : ℕ). take n (take held line ++ s)) e
+      ∙ take-append-add (take held line) s (most_held - held)
+      ∙ ap (λ (l : List ℕ). take held line ++ l) (two (dec_le (length s) (most_held - held)))
     where
-      two : Dec (end - at ≤ most_held - held) → length (take (end - at) (drop at s)) ≡ end - at → take (most_held - held) (take (end - at) (drop at s)) ≡ take m (drop at s)
-      two (yes y) lp =
-          let e : end - at ≡ m = omega (arith, hm) in
-          take_all (most_held - held) (take (end - at) (drop at s)) (omega arith) ∙ ap (λ (n : ℕ). take n (drop at s)) e
-      two (no f) lp =
+      two : Dec (length s ≤ most_held - held) → take (most_held - held) s ≡ take m s
+      two (yes y) = take_all (most_held - held) s y ∙ sym (take_all m s (omega (arith, hm)))
+      two (no f) =
           let e : most_held - held ≡ m = omega (arith, f, hm) in
-          take-take (most_held - held) (end - at) (drop at s) (omega (arith, f)) ∙ ap (λ (n : ℕ). take n (drop at s)) e
+          ap (λ (n : ℕ). take n s) e
 
   -- if none are held, those of the piece
-  pub kept_here : held ≡ 0 → take m (drop at s) ≡ kept_of (take held line ++ take (end - at) (drop at s))
-  kept_here z = ap (λ (n : ℕ). take n line ++ take m (drop at s)) (sym z) ∙ sym kept_piece
+  pub kept_here : held ≡ 0 → take m s ≡ kept_of (take held line ++ s)
+  kept_here z = ap (λ (n : ℕ). take n line ++ take m s) (sym z) ∙ sym kept_piece
 
   -- k is how long the part is that is written, and ys what it holds then
-  pub hold_kept : (k : ℕ) (ys : List ℕ) → k ≡ m → ys ≡ take m (drop at s)
-      → Wrote (kept_of (take held line ++ take (end - at) (drop at s))) 0 line (held + m) (put_mid held k line ys)
+  pub hold_kept : (k : ℕ) (ys : List ℕ) → k ≡ m → ys ≡ take m s → Wrote (kept_of (take held line ++ s)) 0 line (held + m) (put_mid held k line ys)
   unfolding put
   hold_kept w ys wm y =
-      let k : kept_of (take held line ++ take (end - at) (drop at s)) ≡ take held line ++ take m (drop at s) = kept_piece in
-      let l : length (take m (drop at s)) ≡ m = length-take-le m (drop at s) (omega (arith, length-drop at s)) in
-      let n : length (take held line ++ take m (drop at s)) ≡ held + m = length_paste_head line held (drop at s) m (omega arith) (omega (arith, length-drop at s)) in
-      let e : held + m ≡ 0 + length (take held line ++ take m (drop at s)) = omega arith in
+      let k : kept_of (take held line ++ s) ≡ take held line ++ take m s = kept_piece in
+      let l : length (take m s) ≡ m = length-take-le m s (omega arith) in
+      let n : length (take held line ++ take m s) ≡ held + m = length_paste_head line held s m (omega arith) (omega arith) in
+      let e : held + m ≡ 0 + length (take held line ++ take m s) = omega arith in
       record {
         end = e ∙ ap (λ (l : List ℕ). 0 + length l) (sym k);
         buffer =
-            put_mid-paste held w line ys (take m (drop at s)) m y (sym wm) (omega arith)
-            ∙ ap (λ (p : List ℕ). take held line ++ p ++ drop (held + m) line) (take_all m (take m (drop at s)) (omega arith))
-            ∙ ap (λ (i : ℕ). take held line ++ take m (drop at s) ++ drop i line) e
+            put_mid-paste held w line ys (take m s) m y (sym wm) (omega arith)
+            ∙ ap (λ (p : List ℕ). take held line ++ p ++ drop (held + m) line) (take_all m (take m s) (omega arith))
+            ∙ ap (λ (i : ℕ). take held line ++ take m s ++ drop i line) e
             ∙ ap (λ (l : List ℕ). put l 0 line) (sym k);
       }

@@ -70,7 +70,7 @@ module _ (f : List ℕ → List ℕ) (n : ℕ) (long : (l : List ℕ) → most_l
 
 -- how much is written if f keeps the length: at most what is held and what comes, and a line feed
 module _ (f : List ℕ → List ℕ) (n : ℕ) (size : (l : List ℕ) → length (f l) ≡ length l) where
-  pub early_most : (h r : List ℕ) → length ((passes_on f n).early h r) ≤ length h + length r
+  early_most : (h r : List ℕ) → length ((passes_on f n).early h r) ≤ length h + length r
   early_most h r = go (is_long h) (is_long (h ++ r))
     where
       go : (a b : Bool) → length (cond a r (cond b (h ++ r) [])) ≤ length h + length r

@@ -3,10 +3,10 @@
 use mathlib.Core.Path.{◌≡◌, refl, sym, ap, ◌∙◌}
 use mathlib.Core.Bool.{Bool, true, false, cond}
 use mathlib.Core.List.{List, [], ◌∷◌, ◌++◌, append_assoc, append-nil}
-use Prim.Native.Nat.{ℕ, zero, suc, ◌<◌, ◌≤◌}
+use Prim.Native.Nat.{ℕ, zero, suc, ◌-◌, ◌<◌, ◌≤◌}
 use native.Mathlib.Omega.{arith}
-use lib.ListN.{length, take}
-use lib.Seq.{take-length}
+use lib.ListN.{length, take, drop, length-drop}
+use lib.Seq.{take-length, take_all}
 use lib.Dec.{eqb}
 use borrow.Author.Tests.{ltb-true, ltb-false}
 use Rattle.line_frame.specs.Sizes.{most_held}
@@ -36,6 +36,10 @@ pub take-take-append : (n : ℕ) (h s : List ℕ) → take n (take n h ++ s) ≡
 take-take-append zero h s = refl
 take-take-append (suc n) [] s = refl
 take-take-append (suc n) (b ∷ h) s = ap (λ (l : List ℕ). b ∷ l) (take-take-append n h s)
+
+-- the bytes from a place up to the end
+pub take-rest : (s : List ℕ) (i : ℕ) → take (length s - i) (drop i s) ≡ drop i s
+take-rest s i = take_all (length s - i) (drop i s) (omega (arith, length-drop i s))
 
 -- how far a call goes
 pub passed_of_most : (s : List ℕ) → passed_of s ≤ length s

@@ -2,7 +2,7 @@
 // buffer.
 #![tactic(auto)]
 
-ghost use Rattle.std.specs.Prelude.{◌≡◌, ◌+◌, ◌-◌, ◌≤◌, length, take, drop, ltb, ◌++◌};
+ghost use Rattle.std.specs.Prelude.{◌≡◌, ◌+◌, ◌≤◌, length, take, drop, ltb, ◌++◌};
 ghost use Rattle.line_frame.specs.Begun.{line_length, kept_of};
 ghost use Rattle.line_stream.specs.Stream.{near};
 ghost use Rattle.line_frame.specs.Sizes.{most_held};
@@ -29,28 +29,26 @@ impl Progress {
     const NEAR: usize = 32;
 }
 
-// Whether there is a line feed among the next bytes. All of them are looked at, so that they can be looked at together.
-fn is_near(s: &[u8], at: usize) -> bool
-    requires { at + near ≤ length s.now }
-    ensures { result ≡ ltb (line_length (drop at s.now)) near }
+// Whether there is a line feed among the first bytes. All of them are looked at, so that they can be looked at together.
+fn is_near(s: &[u8]) -> bool
+    requires { near ≤ length s.now }
+    ensures { result ≡ ltb (line_length s.now) near }
 {
     let mut found = false;
     for k in 0..Progress::NEAR {
-        found = found | (s[at + k] == 10);
+        found = found | (s[k] == 10);
     }
     found
 }
 
-// A place from at on that no line feed stands before: near the first one, or near the end.
-fn skip(s: &[u8], at: usize) -> usize
-    requires { at ≤ length s.now }
-    ensures { (result ≤ length s.now)
-        × (result + line_length (drop result s.now) ≡ at + line_length (drop at s.now)) }
+// A place that no line feed stands before: near the first one, or near the end.
+fn skip(s: &[u8]) -> usize
+    ensures { (result ≤ length s.now) × (result + line_length (drop result s.now) ≡ line_length s.now) }
 {
-    let mut i = at;
+    let mut i = 0;
     // a `while`: it goes on by many bytes, and ends where fewer are left
     while Progress::NEAR <= s.len() - i {
-        if is_near(s, i) {
+        if is_near(&s[i..]) {
             return i;
         }
         i += Progress::NEAR;
@@ -58,12 +56,11 @@ fn skip(s: &[u8], at: usize) -> usize
     i
 }
 
-// The place of the first line feed from at on, or the length.
-pub fn line_end(s: &[u8], at: usize) -> usize
-    requires { at ≤ length s.now }
-    ensures { result ≡ at + line_length (drop at s.now) }
+// The place of the first line feed, or the length.
+pub fn line_end(s: &[u8]) -> usize
+    ensures { result ≡ line_length s.now }
 {
-    for i in skip(s, at)..s.len() {
+    for i in skip(s)..s.len() {
         if s[i] == 10 {
             return i;
         }
@@ -71,14 +68,12 @@ pub fn line_end(s: &[u8], at: usize) -> usize
     s.len()
 }
 
-// Holds the bytes of the chunk from at up to end, as far as the buffer is long enough. Answers how many are held then.
-pub fn hold(line: &mut [u8], held: usize, s: &[u8], at: usize, end: usize) -> usize
+// Holds the bytes s of the chunk, as far as the buffer is long enough. Answers how many are held then.
+pub fn hold(line: &mut [u8], held: usize, s: &[u8]) -> usize
     requires held_le_most_held { (held ≤ most_held) × (length line.old ≡ most_held) }
-    requires at_le_end { (at ≤ end) × (end ≤ length s.now) }
-    ensures { Wrote (kept_of (take held line.old ++ take (end - at) (drop at s.now))) 0
-        line.old result line.new }
+    ensures { Wrote (kept_of (take held line.old ++ s.now)) 0 line.old result line.new }
 {
-    let m = (end - at).min(Progress::MOST_HELD - held);
-    line[held..held + m].copy_from_slice(&s[at..at + m]);
+    let m = s.len().min(Progress::MOST_HELD - held);
+    line[held..held + m].copy_from_slice(&s[..m]);
     held + m
 }

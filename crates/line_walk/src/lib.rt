@@ -51,27 +51,6 @@ fn walk_digits(
     a
 }
 
-// Walks a frame of this kind with n digits.
-fn walk_frame(
-    s: &[u8],
-    kind: Kind,
-    n: usize,
-    table: &mut [u32],
-    marks: &mut [u32],
-    chain: &mut [u8],
-) -> Result<Facts, Refusal>
-    requires s_value { all_hex s.now ≡ true }
-    requires n_le_most_digits { (n ≤ most_digits) × (length s.now ≡ head_digits + n) }
-    requires walk_buffers { WalkBuffers table.old marks.old chain.old }
-    ensures walked_by { WalkedBy (kind_walked kind (digits_of s.now)) (digits_of s.now) result chain.new }
-    ensures clear { Clear table.new }
-{
-    match kind {
-        Kind::Operations => walk_digits(s, n, table, marks, chain),
-        Kind::Turns => Err(Refusal::RetiredKind),
-    }
-}
-
 // Walks the line s in a table of zeros, and leaves it so. The chain of an accepted walk begins with its surviving steps.
 pub fn walk_line(
     s: &[u8],
@@ -84,5 +63,8 @@ pub fn walk_line(
     ensures clear { Clear table.new }
 {
     let (kind, n) = read(s).ok_or(Refusal::BadLine)?;
-    walk_frame(s, kind, n, table, marks, chain)
+    match kind {
+        Kind::Operations => walk_digits(s, n, table, marks, chain),
+        Kind::Turns => Err(Refusal::RetiredKind),
+    }
 }

@@ -2,12 +2,11 @@
 -- Assumes nothing.
 use Rattle.std.specs.Prelude.{Err}
 use mathlib.Core.Path.{◌≡◌, refl, sym, ap, ◌∙◌, subst}
-use mathlib.Core.Bool.{cond}
-use mathlib.Core.List.{List, [], ◌∷◌, ◌++◌, append-nil}
-use Prim.Native.Nat.{ℕ, ◌+◌, ◌-◌, ◌<◌, ◌≤◌}
+use mathlib.Core.List.{List, [], ◌∷◌, ◌++◌}
+use Prim.Native.Nat.{ℕ, ◌+◌, ◌<◌, ◌≤◌}
 use native.Mathlib.Omega.{arith}
 use native.Mathlib.Decide.{dec_le}
-use lib.ListN.{length, take, drop, length-append, length-take, length-drop}
+use lib.ListN.{length, take, length-append}
 use lib.Seq.{length-take-le, take_all}
 use Rattle.answer.specs.declared.Refusal.TheVariants.{BadLine}
 use Rattle.line_frame.specs.Sizes.{most_line, most_held, most_answer}
@@ -20,7 +19,7 @@ use Rattle.line_room.proofs.ToldLaws.{rows_told-long, rows_told_most}
 use Rattle.line_fields.specs.Put.{Wrote}
 use Rattle.line_fields.proofs.PutLaws.{wrote_nil}
 use Rattle.line_frame.specs.Begun.{kept_of}
-use Rattle.line_stream.specs.Stream.{told_of, Does, tells_each, is_long, most_part}
+use Rattle.line_stream.specs.Stream.{told_of, Does, most_part}
 use Rattle.line_stream.proofs.JobLaws.{each_does, each_most}
 use Rattle.line_stream.proofs.JobLaws as job_laws
 use Rattle.line_stream.proofs.PassLaws as pass_laws
@@ -55,19 +54,6 @@ job_does Convert = pass_laws.passes_does converted_line (most_early Convert + mo
 job_does Rows = each_does rows_told most_rows (kept_same rows_told (refused_told BadLine) rows_told-long)
 job_does Enter = each_does entered most_entry (kept_same entered (entry_by (Err BadLine) [] ++ (10 ∷ [])) entered-long)
 
--- how much is written
-job_most : (t : Task) → (job_of t).most ≡ most_early t + most_told t
-job_most Answer = refl
-job_most Convert = refl
-job_most Rows = refl
-job_most Enter = refl
-
-early_most : (t : Task) (h r : List ℕ) → length h ≤ most_held → length r ≤ most_part → length ((job_of t).early h r) ≤ most_early t
-early_most Answer h r a b = omega arith
-early_most Convert h r a b = omega (arith, pass_laws.early_most converted_line (most_early Convert + most_told Convert) converted-length h r)
-early_most Rows h r a b = omega arith
-early_most Enter h r a b = omega arith
-
 told_most : (t : Task) (h s : List ℕ) → length h ≤ most_held → length s ≤ most_part → length (told_of (job_of t) h s) ≤ (job_of t).most
 told_most Answer h s a b = each_most answered most_answer answered_most h s
 told_most Convert h s a b = omega (arith, pass_laws.passes_most converted_line (most_early Convert + most_told Convert) converted-length h s)
@@ -80,31 +66,9 @@ last_most Convert h a = omega (arith, pass_laws.passes-last converted_line (most
 last_most Rows h a = job_laws.last_most rows_told most_rows rows_told_most h
 last_most Enter h a = job_laws.last_most entered most_entry entered_most h
 
--- a buffer that is long enough for all of it is long enough for each part
-pub room_early : (t : Task) (used : ℕ) {n : ℕ} → used + (job_of t).most ≤ n → used + most_early t ≤ n
-room_early t used h = omega (arith, job_most t)
-
-module _ (t : Task) (line s : List ℕ) (held at : ℕ) where
-  pub room_told_lem : (e : ℕ) → held ≤ most_held → length s ≤ most_part → {used v : ℕ} {out mid : List ℕ} → used + (job_of t).most ≤ length out
-      → Wrote ((job_of t).early (take held line) (take (e - at) (drop at s))) used out v mid → length mid ≡ length out → v + most_told t ≤ length mid
-  room_told_lem e a b h w l =
-      omega (arith, job_most t, h, w.end, l, early_most t (take held line) (take (e - at) (drop at s)) (omega (arith, length-take held line, a)) (omega (arith, length-take (e - at) (drop at s), length-drop at s, b)))
-
-  pub room_line : held ≤ most_held → length s ≤ most_part → (used : ℕ) {n : ℕ} → used + (job_of t).most ≤ n → used + length (told_of (job_of t) (take held line) (drop at s)) ≤ n
-  room_line a b used h = omega (arith, h, told_most t (take held line) (drop at s) (omega (arith, length-take held line, a)) (omega (arith, length-drop at s, b)))
-
--- what a task writes of each line it writes of the kept bytes, and of a last line that is one
-module _ (f : List ℕ → List ℕ) (n : ℕ) where
-  pub each_told : (h : List ℕ) → f h ≡ (tells_each f n).told h []
-  each_told h = ap f (sym (append-nil h))
-
-  pub each_last : (h : List ℕ) → 0 < length h → f h ≡ (tells_each f n).last h
-  each_last [] l = absurd (omega arith)
-  each_last (b ∷ h) l = refl
-
--- so is a line converted
-pub convert_told : (h : List ℕ) → cond (is_long h) [] (converted_line h) ++ (10 ∷ []) ≡ (job_of Convert).told h []
-convert_told h = ap (λ (l : List ℕ). cond (is_long h) [] (converted_line l) ++ (10 ∷ [])) (sym (append-nil h))
+module _ (t : Task) (h s : List ℕ) (held : length h ≤ most_held) (part : length s ≤ most_part) where
+  pub room_line : (used : ℕ) {n : ℕ} → used + (job_of t).most ≤ n → used + length (told_of (job_of t) h s) ≤ n
+  room_line used r = omega (arith, r, told_most t h s held part)
 
 -- if nothing is held, nothing is written at the end
 last_nil : (t : Task) → (job_of t).last [] ≡ []

@@ -2,10 +2,11 @@
 -- Assumes nothing.
 use Rattle.std.specs.Prelude.{Err, Ok}
 use mathlib.Core.Bool.{Bool, true, false, not}
-use mathlib.Core.List.{List, ◌∷◌, ◌++◌}
+use mathlib.Core.List.{List, ◌++◌}
 use mathlib.Core.Path.{◌≡◌, refl, sym, ap, ap₂, ◌∙◌, subst, subst₂}
-use Prim.Native.Nat.{ℕ, zero, suc, ◌+◌, ◌*◌, ◌-◌, ◌/◌, ◌%◌, ◌<◌, ◌≤◌}
+use Prim.Native.Nat.{ℕ, suc, ◌+◌, ◌*◌, ◌-◌, ◌/◌, ◌%◌, ◌<◌, ◌≤◌}
 use native.Mathlib.Omega.{arith}
+use Rattle.std.proofs.lemmas.List.{take-replicate}
 use native.Mathlib.Nat.{mod-lt, div-add-mod', div-lt_iff_lt-mul, div-le_self, add-mul}
 use lib.Dec.{T}
 use lib.IntN.{ℤ, pos, negsuc, nat_abs, ◌+ℤ◌, ◌-ℤ◌}
@@ -268,15 +269,15 @@ module _ {s : Corner} {ds : List ℕ} {g m span x y : ℕ} {lo hi : List ℕ} (w
 
 -- ---- from an accepted room to its lanes
 
-module _ {s : Corner} {ds : List ℕ} {g m span : ℕ} {lo hi t : List ℕ} (w : LanesReady s ds g m span lo hi t) where
+module _ {s : Corner} {ds : List ℕ} {g m : ℕ} {lo hi t : List ℕ} (w : LanesReady s ds g m lo hi t) where
+  abbrev span : ℕ
+  span = length lo
+
   pub ready_accepted : Accepted s ds g
   ready_accepted = accepted s ds g w.good
 
   pub ready_m : m ≤ most_steps
   ready_m = let a = ready_accepted in omega (arith, w.tight, a.few)
-
-  pub ready_low : length lo ≡ span
-  ready_low = ap length w.low ∙ length-replicate {A = ℕ} span blank
 
   pub ready_high : length hi ≡ span
   ready_high = ap length w.high ∙ length-replicate {A = ℕ} span blank
@@ -301,9 +302,9 @@ module _ {s : Corner} {ds : List ℕ} {g m span : ℕ} {lo hi t : List ℕ} (w :
         low = omega (arith, mod-lt y a.some, a.most);
       }
 
-  pub ready_laned : (x y : ℕ) (lo' hi' : List ℕ) → s.0 -ℤ pos m ≡ pos x -ℤ pos (shift * g) → s.1 -ℤ pos m ≡ pos y -ℤ pos (shift * g) → lo' ≡ sinks lo (lanes_from g (y % g) (from_west (x % g)) m m ds) → hi' ≡ sinks hi (lanes_from g (y % g) (from_east (span * g) (x % g)) m m ds) → Laned s ds g m span x y lo' hi'
-  ready_laned x y lo' hi' ex ey el eh =
-      record {
+  pub ready_laned : (x y : ℕ) (lo' hi' : List ℕ) → length lo' ≡ span → s.0 -ℤ pos m ≡ pos x -ℤ pos (shift * g) → s.1 -ℤ pos m ≡ pos y -ℤ pos (shift * g) → lo' ≡ sinks lo (lanes_from g (y % g) (from_west (x % g)) m m ds) → hi' ≡ sinks hi (lanes_from g (y % g) (from_east (span * g) (x % g)) m m ds) → Laned s ds g m (length lo') x y lo' hi'
+  ready_laned x y lo' hi' n ex ey el eh =
+      subst (λ (k : ℕ). Laned s ds g m k x y lo' hi') (sym n) (record {
         good = w.good;
         ruled = ready_ruled x y span refl;
         stays = ready_stays;
@@ -311,14 +312,9 @@ module _ {s : Corner} {ds : List ℕ} {g m span : ℕ} {lo hi t : List ℕ} (w :
         south = ey;
         low = el ∙ ap (λ (l : List ℕ). sinks l (lanes_from g (y % g) (from_west (x % g)) m m ds)) w.low;
         high = eh ∙ ap (λ (l : List ℕ). sinks l (lanes_from g (y % g) (from_east (span * g) (x % g)) m m ds)) w.high;
-      }
+      })
 
 -- ---- the store
-
-take-blank : (n k : ℕ) → n ≤ k → take n (replicate {A = ℕ} k blank) ≡ replicate n blank
-take-blank zero k h = refl
-take-blank (suc n) zero h = absurd (omega arith)
-take-blank (suc n) (suc k) h = ap (λ (l : List ℕ). blank ∷ l) (take-blank n k (omega arith))
 
 -- the rows of blocks that a walk needs
 module _ (m g : ℕ) (pm : 0 < m) (some : 0 < g) where
@@ -334,25 +330,28 @@ module _ (m g : ℕ) (pm : 0 < m) (some : 0 < g) where
   need-near : need * g ≤ 2 * m + 2 * g
   need-near = omega (arith, whole_blocks, div-add-mod' (2 * m - 2) g)
 
-  pub need_few : need ≤ 2 * m
+  need_few : need ≤ 2 * m
   need_few = let k : (2 * m - 2) / g ≤ 2 * m - 2 = div-le_self (2 * m - 2) g in omega (arith, k)
 
-  pub store_ready : (s : Corner) (ds : List ℕ) (lo hi t : List ℕ) → on_grid_judged s ds g ≡ Ok tt → length ds < 2 * m → 2 * m ≤ length ds + 2 → length ds + 2 ≤ length lo → Edgeless lo → Edgeless hi → length hi ≡ length lo → length t ≡ length lo → LanesReady s ds g m need (take need lo) (take need hi) (take need t)
+  pub store_ready : (s : Corner) (ds : List ℕ) (lo hi t : List ℕ) → on_grid_judged s ds g ≡ Ok tt → length ds < 2 * m → 2 * m ≤ length ds + 2 → length ds + 2 ≤ length lo → Edgeless lo → Edgeless hi → length hi ≡ length lo → length t ≡ length lo → LanesReady s ds g m (take need lo) (take need hi) (take need t)
   store_ready s ds lo hi t e a b h el eh nh nt =
       record {
         good = e;
         wide = a;
         tight = b;
-        low = ap (take need) el ∙ take-blank need (length lo) (omega (arith, need_few));
-        high = ap (take need) eh ∙ take-blank need (length hi) (omega (arith, need_few, nh));
-        store = length-take-le need t (omega (arith, need_few, nt));
-        whole = need-whole;
-        near = need-near;
-        few = need_few;
+        low = ap (take need) el ∙ take-replicate need (length lo) blank (omega (arith, need_few)) ∙ rows;
+        high = ap (take need) eh ∙ take-replicate need (length hi) blank (omega (arith, need_few, nh)) ∙ rows;
+        store = length-take-le need t (omega (arith, need_few, nt)) ∙ sym size;
+        whole = rw size need-whole;
+        near = rw size need-near;
+        few = rw size need_few;
       }
+    where
+      size : length (take need lo) ≡ need
+      size = length-take-le need lo (omega (arith, need_few))
 
-  pub store_size : (l : List ℕ) (k : ℕ) → 2 * m ≤ k → length l ≡ k → length (take need l) ≡ need
-  store_size l k h e = length-take-le need l (omega (arith, need_few, e))
+      rows : replicate {A = ℕ} need blank ≡ replicate (length (take need lo)) blank
+      rows = ap (λ (k : ℕ). replicate k blank) (sym size)
 
 -- ---- stores that are kept
 

@@ -68,15 +68,14 @@ pub record Laned (c : Corner) (ds : List ℕ) (g m span x y : ℕ) (lo hi : List
   pub low : lo ≡ sinks (replicate span blank) (lanes_from g (y % g) (from_west (x % g)) m m ds)
   pub high : hi ≡ sinks (replicate span blank) (lanes_from g (y % g) (from_east (span * g) (x % g)) m m ds)
 
--- an accepted room, a walk in the store that starts in column and height m, and `span` rows that have no edge yet, as many as it
--- needs
-pub record LanesReady (c : Corner) (ds : List ℕ) (g m span : ℕ) (lo hi t : List ℕ) : Type 0 where
+-- an accepted room, a walk in the store that starts in column and height m, and rows that have no edge yet, as many as it needs
+pub record LanesReady (c : Corner) (ds : List ℕ) (g m : ℕ) (lo hi t : List ℕ) : Type 0 where
   pub good : on_grid_judged c ds g ≡ Ok tt
   pub wide : length ds < 2 * m
   pub tight : 2 * m ≤ length ds + 2
-  pub low : lo ≡ replicate span blank
-  pub high : hi ≡ replicate span blank
-  pub store : length t ≡ span
-  pub whole : 2 * m + g ≤ span * g + 1
-  pub near : span * g ≤ 2 * m + 2 * g
-  pub few : span ≤ 2 * m
+  pub low : Edgeless lo
+  pub high : hi ≡ replicate (length lo) blank
+  pub store : length t ≡ length lo
+  pub whole : 2 * m + g ≤ length lo * g + 1
+  pub near : length lo * g ≤ 2 * m + 2 * g
+  pub few : length lo ≤ 2 * m

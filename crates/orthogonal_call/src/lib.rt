@@ -2,7 +2,7 @@
 // row, two passes of minima the ends of the hull's rows, and the outline goes along them.
 #![tactic(auto)]
 
-ghost use Rattle.std.specs.Prelude.{◌≡◌, List, ℕ, ◌+◌, ◌*◌, ◌-◌, ◌<◌, ◌≤◌, pos, nat_abs, ◌-ℤ◌, length, Ok, get_or};
+ghost use Rattle.std.specs.Prelude.{◌≡◌, List, ℕ, ◌+◌, ◌*◌, ◌-◌, ◌/◌, ◌<◌, ◌≤◌, pos, nat_abs, ◌-ℤ◌, length, Ok, get_or};
 ghost use Rattle.answer.specs.Limits.{most_start, most_steps};
 ghost use Rattle.grid.specs.declared.Corner.{Corner};
 ghost use Rattle.hull_laws.specs.Lowest.{blank};
@@ -109,17 +109,17 @@ fn cut(
     hi: &mut [u16],
     t: &mut [u16],
     g: usize,
-    span: usize,
     x: usize,
     y: usize,
     out: &mut [u8],
 ) -> Result<Enclosed, Refusal>
-    requires { (0 < g) × (length lo.old ≡ span) × (length hi.old ≡ span) × (length t.old ≡ span) × (span < blank)
+    requires { (0 < g) × (length hi.old ≡ length lo.old) × (length t.old ≡ length lo.old) × (length lo.old < blank)
         × (x < 65536 * g) × (y < 65536 * g)
-        × ((s : Corner) × (ds : List ℕ) × (m : ℕ) × Laned s ds g m span x y lo.old hi.old) }
-    ensures { (s : Corner) (ds : List ℕ) (m : ℕ) → Laned s ds g m span x y lo.old hi.old
+        × ((s : Corner) × (ds : List ℕ) × (m : ℕ) × Laned s ds g m (length lo.old) x y lo.old hi.old) }
+    ensures { (s : Corner) (ds : List ℕ) (m : ℕ) → Laned s ds g m (length lo.old) x y lo.old hi.old
         → OrthogonalCall s ds g out.old result out.new }
 {
+    let span = lo.len();
     let south = first_row(lo);
     let north = end_row(lo);
     shape(
@@ -134,84 +134,92 @@ fn cut(
     )
 }
 
-// The outline for a room on a grid, with a store for as many rows of blocks as it may need.
+// The outline for a room on a grid, in a store with as many rows of blocks as it may need.
 fn trace(
     start: Corner,
     chain: &[u8],
     m: u16,
     g: usize,
-    span: usize,
     lo: &mut [u16],
     hi: &mut [u16],
     t: &mut [u16],
     out: &mut [u8],
 ) -> Result<Enclosed, Refusal>
-    requires { LanesReady start chain.now g m span lo.old hi.old t.old }
+    requires { LanesReady start chain.now g m lo.old hi.old t.old }
     ensures { OrthogonalCall start chain.now g out.old result out.new }
 {
     let x = lifted(start.0, m, g);
     let y = lifted(start.1, m, g);
-    gather(chain, m, g, x % g, y % g, span * g, lo, hi);
-    cut(lo, hi, t, g, span, x, y, out)
+    gather(chain, m, g, x % g, y % g, lo.len() * g, lo, hi);
+    cut(lo, hi, t, g, x, y, out)
 }
 
-// The same with a store that is lent.
-fn outline_in(
+// How many rows of blocks a room needs if its walk starts in column and height m.
+fn rows(m: u16, g: usize) -> usize
+    requires { (0 < m) × (0 < g) }
+    ensures { (result ≡ (2 * m - 2) / g + 2) × (result ≤ 2 * m) }
+{
+    (2 * usize::from(m) - 2) / g + 2
+}
+
+// A start and a chain that were judged to be a room, with the size of the grid.
+#[derive(Clone, Copy)]
+struct Site<'a> {
     start: Corner,
-    chain: &[u8],
+    chain: &'a [u8],
     g: usize,
+    ghost judged: { on_grid_judged start chain.now g ≡ Ok tt },
+}
+
+// The outline for a room on a grid. The working store is lent.
+fn outline_in(
+    site: &Site<'_>,
     lo: &mut [u16],
     hi: &mut [u16],
     t: &mut [u16],
     out: &mut [u8],
 ) -> Result<Enclosed, Refusal>
-    requires { (on_grid_judged start chain.now g ≡ Ok tt) × (length chain.now + 2 ≤ length lo.old) × Edgeless lo.old
-        × Edgeless hi.old × (length hi.old ≡ length lo.old) × (length t.old ≡ length lo.old) }
-    ensures { OrthogonalCall start chain.now g out.old result out.new }
+    requires { (length site.now.chain.now + 2 ≤ length lo.old) × Edgeless lo.old × Edgeless hi.old
+        × (length hi.old ≡ length lo.old) × (length t.old ≡ length lo.old) }
+    ensures { OrthogonalCall site.now.start site.now.chain.now site.now.g out.old result out.new }
 {
-    let m = room_threads::start(chain.len());
-    let span = (2 * usize::from(m) - 2) / g + 2;
+    let m = room_threads::start(site.chain.len());
+    let n = rows(m, site.g);
     trace(
-        start,
-        chain,
+        site.start,
+        site.chain,
         m,
-        g,
-        span,
-        &mut lo[..span],
-        &mut hi[..span],
-        &mut t[..span],
+        site.g,
+        &mut lo[..n],
+        &mut hi[..n],
+        &mut t[..n],
         out,
     )
 }
 
-// The outline for a room, with a store for N rows of blocks: two more than the room has steps, or still more.
-fn outline_sized<const N: usize>(
-    start: Corner,
-    chain: &[u8],
-    g: usize,
-    out: &mut [u8],
-) -> Result<Enclosed, Refusal>
-    requires { (on_grid_judged start chain.now g ≡ Ok tt) × (length chain.now + 2 ≤ N) × (N < 65536) }
-    ensures { OrthogonalCall start chain.now g out.old result out.new }
+// The same with a store for N rows of blocks: two more than the room has steps, or still more.
+fn outline_sized<const N: usize>(site: &Site<'_>, out: &mut [u8]) -> Result<Enclosed, Refusal>
+    requires { (length site.now.chain.now + 2 ≤ N) × (N < 65536) }
+    ensures { OrthogonalCall site.now.start site.now.chain.now site.now.g out.old result out.new }
 {
     let mut lo = [Columns::BLANK; N];
     let mut hi = [Columns::BLANK; N];
     let mut t = [0u16; N];
-    outline_in(start, chain, g, &mut lo, &mut hi, &mut t, out)
+    outline_in(site, &mut lo, &mut hi, &mut t, out)
 }
 
 // The same with a store that is not much larger than it needs: to clear it takes time.
-fn outline_room(start: Corner, chain: &[u8], g: usize, out: &mut [u8]) -> Result<Enclosed, Refusal>
-    requires { on_grid_judged start chain.now g ≡ Ok tt }
-    ensures { OrthogonalCall start chain.now g out.old result out.new }
+fn outline_room(site: &Site<'_>, out: &mut [u8]) -> Result<Enclosed, Refusal>
+    ensures { OrthogonalCall site.now.start site.now.chain.now site.now.g out.old result out.new }
 {
-    if chain.len() <= Columns::NARROW {
-        return outline_sized::<NARROW>(start, chain, g, out);
+    let steps = site.chain.len();
+    if steps <= Columns::NARROW {
+        return outline_sized::<NARROW>(site, out);
     }
-    if chain.len() <= Columns::WIDER {
-        return outline_sized::<WIDER>(start, chain, g, out);
+    if steps <= Columns::WIDER {
+        return outline_sized::<WIDER>(site, out);
     }
-    outline_sized::<WIDEST>(start, chain, g, out)
+    outline_sized::<WIDEST>(site, out)
 }
 
 // Whether it is a grid size.
@@ -243,5 +251,10 @@ pub fn outline(start: Corner, chain: &[u8], grid: u32, out: &mut [u8]) -> Result
     ensures { OrthogonalCall start chain.now grid out.old result out.new }
 {
     judge(start, chain, grid)?;
-    outline_room(start, chain, grid as usize, out)
+    let site = Site {
+        start,
+        chain,
+        g: grid as usize,
+    };
+    outline_room(&site, out)
 }

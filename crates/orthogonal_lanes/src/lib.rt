@@ -74,28 +74,24 @@ pub fn first_row(a: &[u16]) -> usize
     ensures { EmptyBefore a.now result }
 {
     // no `position`: an `Option` of a reference is laid out otherwise in the module for 32-bit WebAssembly
-    let mut q = 0;
-    while q < a.len() {
-        if a[q] != Columns::BLANK {
+    for (q, &x) in a.iter().enumerate() {
+        if x != Columns::BLANK {
             return q;
         }
-        q += 1;
     }
-    q
+    a.len()
 }
 
 // The row after the last one with an edge.
 pub fn end_row(a: &[u16]) -> usize
     ensures { EmptyFrom a.now result }
 {
-    let mut q = a.len();
-    while q > 0 {
-        if a[q - 1] != Columns::BLANK {
-            return q;
+    for q in (0..a.len()).rev() {
+        if a[q] != Columns::BLANK {
+            return q + 1;
         }
-        q -= 1;
     }
-    q
+    0
 }
 
 // The columns as columns of blocks in a, and the least of each row and all rows after it in t.

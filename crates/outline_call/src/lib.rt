@@ -14,7 +14,7 @@ use chain_judge::judge;
 use columns::Columns;
 use grid::Corner;
 use outline_links::build;
-use outline_map::{across, fits, mark};
+use outline_map::{Ring, across, fits, mark};
 use outline_path::{count, first_way, put};
 
 // The sizes of the stores in corners: a walk comes to one more than it has steps.
@@ -79,10 +79,17 @@ fn write_on(chain: &[u8], b: WalkBox, map: &mut [u8], out: &mut [u8]) -> Result<
     let by = [h, 1, usize::MAX - h + 1, usize::MAX];
     let home = mark(chain, across(b.from, b.width, h), &by, map);
     let first = outline_map::first_way(map, home);
-    if !fits(chain, &by, map, home, first, out.len()) {
+    let ring = Ring {
+        chain,
+        by: &by,
+        map,
+        home,
+        first,
+    };
+    if !fits(&ring, out.len()) {
         return Err(Refusal::OutlineRoom);
     }
-    Ok(outline_map::put(chain, &by, map, home, first, out))
+    Ok(outline_map::put(&ring, out))
 }
 
 // The same with a map of SIZE bytes.

@@ -92,7 +92,7 @@ module _ (c : Corner) (chain by map : List ℕ) (home first : ℕ) (s : 0 < leng
               absurd (g (w.place ∙ ap (λ (y : Way). m.at y.0) z ∙ sym m.lowest, w.way ∙ ap (λ (y : Way). y.1) z ∙ sym f))
         ]
 
-module _ (chain by map : List ℕ) (home first : ℕ) (r : MapRing chain by map home first) where
+module _ {chain by map : List ℕ} {home first : ℕ} (r : MapRing chain by map home first) where
   pub going_start : GoingOn chain by map home 0 home first
   going_start c m = stands_start c chain by map home first r.some m (r.firstly c)
 

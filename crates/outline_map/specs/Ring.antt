@@ -5,6 +5,7 @@ use Rattle.grid.specs.declared.Corner.{Corner}
 use Rattle.outline.specs.Outline.{first_way}
 use Rattle.outline.specs.Computed.{outline_of}
 use Rattle.outline_map.specs.Map.{Mapped}
+use Rattle.outline_map.specs.declared.Ring.{Ring}
 
 -- the map of a walk with steps, with the place and the way by which its outline starts
 pub record MapRing (chain by map : List ℕ) (home first : ℕ) : Type 0 where
@@ -13,6 +14,9 @@ pub record MapRing (chain by map : List ℕ) (home first : ℕ) : Type 0 where
   pub four : length by ≡ 4
   pub mapped : (c : Corner) → Mapped c chain by map home
   pub firstly : (c : Corner) → first ≡ first_way c chain
+
+abbrev pub IsMapRing : Ring → Type 0
+IsMapRing r = MapRing r.chain.now r.by.now r.map.now r.home r.first
 
 -- the outline fits into the room
 abbrev pub Fits : List ℕ → ℕ → Type 0

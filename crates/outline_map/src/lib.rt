@@ -8,7 +8,7 @@ ghost use Rattle.grid.specs.Grid.{back};
 ghost use Rattle.outline.specs.Outline.{onward};
 ghost use Rattle.outline_path.specs.Ring.{Long, Written};
 ghost use Rattle.outline_map.specs.Map.{way_on, MapBlank, Mapped};
-ghost use Rattle.outline_map.specs.Ring.{MapRing, Fits, FitsBy};
+ghost use Rattle.outline_map.specs.Ring.{IsMapRing, Fits, FitsBy};
 
 use outline_path::away;
 
@@ -98,11 +98,27 @@ pub fn first_way(map: &[u8], home: usize) -> u8
     if has(map[home], 0) { 0 } else { 1 }
 }
 
+// The map of a walk with steps, with the place and the way by which its outline starts. A plain struct: that it is such a map
+// holds data, a place for each corner, and a ghost field holds facts alone.
+#[derive(Clone, Copy)]
+pub struct Ring<'a> {
+    pub chain: &'a [u8],
+    pub by: &'a [usize],
+    pub map: &'a [u8],
+    pub home: usize,
+    pub first: u8,
+}
+
 // How many steps the outline has.
-fn count(chain: &[u8], by: &[usize], map: &[u8], home: usize, first: u8) -> usize
-    requires { MapRing chain.now by.now map.now home first }
-    ensures { Long chain.now result }
+fn count(ring: &Ring<'_>) -> usize
+    requires { IsMapRing ring.now }
+    ensures { Long ring.now.chain.now result }
 {
+    // the fields are read once, not at each step
+    let by = ring.by;
+    let map = ring.map;
+    let home = ring.home;
+    let first = ring.first;
     let mut i = go(by, home, first);
     let mut d = turn(map[i], first);
     let mut n = 1;
@@ -114,20 +130,25 @@ fn count(chain: &[u8], by: &[usize], map: &[u8], home: usize, first: u8) -> usiz
     n
 }
 
-// Whether the buffer is long enough for the outline. The outline has at most two steps for each step of the walk: if the buffer
-// is long enough for these, they are not counted.
-pub fn fits(chain: &[u8], by: &[usize], map: &[u8], home: usize, first: u8, size: usize) -> bool
-    requires { MapRing chain.now by.now map.now home first }
-    ensures { FitsBy chain.now size result }
+// Whether the buffer is long enough for the outline. The outline has at most two steps for each step of the walk: if the
+// buffer is long enough for these, they are not counted.
+pub fn fits(ring: &Ring<'_>, size: usize) -> bool
+    requires { IsMapRing ring.now }
+    ensures { FitsBy ring.now.chain.now size result }
 {
-    2 * chain.len() <= size || count(chain, by, map, home, first) <= size
+    2 * ring.chain.len() <= size || count(ring) <= size
 }
 
 // Writes the outline into a buffer that is long enough, and answers how many steps it has.
-pub fn put(chain: &[u8], by: &[usize], map: &[u8], home: usize, first: u8, out: &mut [u8]) -> usize
-    requires { MapRing chain.now by.now map.now home first × Fits chain.now (length out.old) }
-    ensures { Long chain.now result × Written chain.now out.old out.new }
+pub fn put(ring: &Ring<'_>, out: &mut [u8]) -> usize
+    requires { IsMapRing ring.now × Fits ring.now.chain.now (length out.old) }
+    ensures { Long ring.now.chain.now result × Written ring.now.chain.now out.old out.new }
 {
+    // the fields are read once, not at each step
+    let by = ring.by;
+    let map = ring.map;
+    let home = ring.home;
+    let first = ring.first;
     out[0] = first;
     let mut i = go(by, home, first);
     let mut d = turn(map[i], first);

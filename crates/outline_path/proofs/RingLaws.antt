@@ -79,7 +79,7 @@ module _ (c : Corner) (chain links : List ℕ) (home : ℕ) (b : Built c chain l
           let m : get_or links (4 * i + e) 0 - 1 ≡ j = omega (arith, z) in
           (omega (arith, z), omega (arith, m, f.0), ap (λ (y : ℕ). get_or vs y origin) m ∙ sym (same_sound (stepped e (get_or vs i origin)) (get_or vs j origin) f.1))
 
-module _ (c : Corner) (chain links : List ℕ) (home first : ℕ) (r : RingStore chain links home first) where
+module _ (c : Corner) {chain links : List ℕ} {home first : ℕ} (r : RingStore chain links home first) where
   abbrev ws : List Corner
   ws = visited_of (corners_from c chain)
 
@@ -168,19 +168,19 @@ module _ (home first : ℕ) where
           go true p = p
           go false p = absurd (true≢false (sym (ap not p) ∙ e))
 
-module _ (chain links : List ℕ) (home first : ℕ) (r : RingStore chain links home first) where
+module _ {chain links : List ℕ} {home first : ℕ} (r : RingStore chain links home first) where
   pub going_start : (j e : ℕ) → j ≡ get_or links (4 * home + first) 0 - 1 → e ≡ onward (ways_at links j) first → (c : Corner) → Going c chain 1 j e
-  going_start j e ej ee c = record { at = at_next c chain links home first r 0 home first (at-start c chain links home first r) j e ej ee; some = omega arith; within = (round c chain links home first r).some }
+  going_start j e ej ee c = record { at = at_next c r 0 home first (at-start c r) j e ej ee; some = omega arith; within = (round c r).some }
 
   module _ (n i d : ℕ) (g : (c : Corner) → Going c chain n i d) where
     pub going_next : not (eqb i home && eqb d first) ≡ true → (j e : ℕ) → j ≡ get_or links (4 * i + d) 0 - 1 → e ≡ onward (ways_at links j) d → (c : Corner) → Going c chain (n + 1) j e
-    going_next t j e ej ee c = rw (add-one n) (record { at = at_next c chain links home first r n i d (g c).at j e ej ee; some = omega arith; within = not_end c chain links home first r n i d (g c).at (g c).within (not_first home first i d t) })
+    going_next t j e ej ee c = rw (add-one n) (record { at = at_next c r n i d (g c).at j e ej ee; some = omega arith; within = not_end c r n i d (g c).at (g c).within (not_first home first i d t) })
 
     pub going_less : not (eqb i home && eqb d first) ≡ true → n < 2 * length chain
-    going_less t = omega (arith, not_end origin chain links home first r n i d (g origin).at (g origin).within (not_first home first i d t), (round origin chain links home first r).few)
+    going_less t = omega (arith, not_end origin r n i d (g origin).at (g origin).within (not_first home first i d t), (round origin r).few)
 
     pub going_end : not (eqb i home && eqb d first) ≡ false → Long chain n
-    going_end t c = let z = is-first home first i d t in at_end c chain links home first r n i d (g c).at (g c).some (g c).within z.0 z.1
+    going_end t c = let z = is-first home first i d t in at_end c r n i d (g c).at (g c).some (g c).within z.0 z.1
 
 -- the first k steps are written
 pub record Writing (chain before out : List ℕ) (k i d : ℕ) : Type 0 where
@@ -206,13 +206,13 @@ written_next c chain before out k d h e w =
     ∙ sym (append_assoc (path_from_home c chain k) (d ∷ []) (drop (suc k) before))
     ∙ ap (λ (l : List ℕ). l ++ drop (suc k) before) (ap (λ (x : ℕ). path_from_home c chain k ++ (x ∷ [])) e ∙ sym (path_snoc c chain k))
 
-module _ (chain links : List ℕ) (home first : ℕ) (r : RingStore chain links home first) (before : List ℕ) where
+module _ {chain links : List ℕ} {home first : ℕ} (r : RingStore chain links home first) (before : List ℕ) where
   pub writing_start : Writing chain before before 0 home first
-  writing_start = record { at = λ c. at-start c chain links home first r; written = λ c. refl }
+  writing_start = record { at = λ c. at-start c r; written = λ c. refl }
 
   module _ (out : List ℕ) (k i d : ℕ) (w : Writing chain before out k i d) where
     pub writing_next : k < length before → (j e : ℕ) → j ≡ get_or links (4 * i + d) 0 - 1 → e ≡ onward (ways_at links j) d → Writing chain before (set out k d) (k + 1) j e
-    writing_next h j e ej ee = rw (add-one k) (record { at = λ c. at_next c chain links home first r k i d (w.at c) j e ej ee; written = λ c. written_next c chain before out k d h (ap (λ (y : Way). y.1) (w.at c).way) (w.written c) })
+    writing_next h j e ej ee = rw (add-one k) (record { at = λ c. at_next c r k i d (w.at c) j e ej ee; written = λ c. written_next c chain before out k d h (ap (λ (y : Way). y.1) (w.at c).way) (w.written c) })
 
     pub writing_end : (n : ℕ) → Long chain n → k ≡ n → Written chain before out
     writing_end n l e c =

@@ -19,7 +19,8 @@ fn digit(r: u32) -> usize
     (r % 2) as usize
 }
 
-// The way down to the key k among `used` nodes.
+// The node of the key k among `used` nodes. Err if it has none: then with the place in kids where the way down to it ends, and
+// where its node is to be hung.
 fn seek(keys: &[u32], kids: &[u16], used: usize, k: u32) -> Result<usize, usize>
     requires { Tree keys.now kids.now used }
     ensures { result ≡ seek_from used keys.now kids.now k 0 k }

@@ -8,8 +8,8 @@ use native.Mathlib.Omega.{arith}
 use native.Mathlib.Decide.{ℕ_discrete}
 use lib.Dec.{eqb}
 use lib.IntN.{ℤ, pos, nat_abs}
-use lib.ListN.{length, get_or, set, drop, get_or-append}
-use lib.Seq.{sets, get_or-set_same, get_or-set_other}
+use lib.ListN.{length, get_or, set, take, drop, get_or-append}
+use lib.Seq.{sets, length-take-le, get_or-take, get_or-set_same, get_or-set_other}
 use Rattle.overlay.specs.Answers.{Overlaid}
 use Rattle.answer.specs.Answers.{Judged}
 use Rattle.lists.specs.Lists.{count}
@@ -26,9 +26,9 @@ use Rattle.overlay.specs.Call.{overlay_judged, overlaid_of, OverlayCall}
 use Rattle.overlay_laws.specs.Sweep.{part_ends, ends_from, ends_of_walk, lists_of}
 use Rattle.overlay_laws.proofs.{PartLaws.Ends, OverlayLaws.walk_ends, OverlayLaws.lists-rows, ReadLaws.ends_read, ReadLaws.ends_same, ReadLaws.room_small}
 use Rattle.overlay_laws.proofs.CallLaws.{first_refused, second_refused, both_rooms}
-use Rattle.overlay_sweep.specs.Parts.{HoldsSpans, part_spans}
+use Rattle.overlay_sweep.specs.Parts.{ends_in, HoldsSpans, part_spans}
 use Rattle.overlay_parts.specs.Parts.{parts_judged, PartsCall}
-use Rattle.overlay_call.specs.Copies.{Copied}
+use Rattle.overlay_call.specs.Lists.{ListsSpans}
 
 -- ---- copies
 
@@ -42,7 +42,7 @@ copied_step list out k v h e f j l = go (ℕ_discrete j k)
         below : (j ≡ k → ⊥) → j < k
         below u = omega (arith, l, u)
 
-pub copied_holds : (s : Corner) (ds : List ℕ) (list out : List ℤ) (n : ℕ) → HoldsSpans s ds list n → Copied list n out → 3 * (n / 2) ≤ length out → HoldsSpans s ds out n
+copied_holds : (s : Corner) (ds : List ℕ) (list out : List ℤ) (n : ℕ) → HoldsSpans s ds list n → ((j : ℕ) → j < 3 * (n / 2) → get_or out j (pos 0) ≡ get_or list j (pos 0)) → 3 * (n / 2) ≤ length out → HoldsSpans s ds out n
 copied_holds s ds list out n h c r =
     let m = h.numbers in
     record {
@@ -51,6 +51,9 @@ copied_holds s ds list out n h c r =
       short = h.short;
       numbers = record { even = m.even; room = r; small = λ k l. subst (λ (z : ℤ). nat_abs z ≤ 32767) (sym (c k l)) (m.small k l); few = m.few };
     }
+
+pub lists_taken : (s : Corner) (ds : List ℕ) (list out : List ℤ) (n : ℕ) → ListsSpans s ds list n → take n out ≡ take n list → n ≤ length out → ListsSpans s ds out n
+lists_taken s ds list out n h e r = record { within = r; whole = h.whole; spans = subst (λ (l : List ℤ). HoldsSpans s ds l (ends_in l)) (sym e) h.spans }
 
 -- ---- the list of a room
 
@@ -64,7 +67,7 @@ module _ (s : Corner) (ds : List ℕ) (g : as_room_judged s ds ≡ Ok tt) (v : �
   pub room_spans : v ≡ 2 * length (rows_of s ds)
   room_spans = let w = good_walled s ds g in e ∙ sym (room_half s ds w.room w.digits)
 
-  pub room_holds : (before after : List ℤ) → 3 * (length ds / 2) ≤ length before → after ≡ sets before 0 (span_numbers (rows_of s ds)) → length after ≡ length before → HoldsSpans s ds after v
+  room_holds : (before after : List ℤ) → 3 * (length ds / 2) ≤ length before → after ≡ sets before 0 (span_numbers (rows_of s ds)) → length after ≡ length before → HoldsSpans s ds after v
   room_holds before after h u k =
       let w = good_walled s ds g in
       let f = u ∙ written before (rows_of s ds) (omega (arith, room_spans, l, h)) in
@@ -80,6 +83,17 @@ module _ (s : Corner) (ds : List ℕ) (g : as_room_judged s ds ≡ Ok tt) (v : �
               (subst (λ (z : ℤ). nat_abs z ≤ 32767) (sym (get_or-append (span_numbers (rows_of s ds)) (drop (length (span_numbers (rows_of s ds))) before) (pos 0) i (omega (arith, b, room_spans, length-numbers (rows_of s ds))))) (room_small s ds w.room w.digits w.few w.near i));
           few = omega (arith, l, w.few);
         };
+      }
+
+  pub room_lists : (before after : List ℤ) → 3 * (length ds / 2) ≤ length before → after ≡ sets before 0 (span_numbers (rows_of s ds)) → length after ≡ length before → ListsSpans s ds after (3 * (v / 2))
+  room_lists before after h u k =
+      let w = room_holds before after h u k in
+      let size = length-take-le (3 * (v / 2)) after w.numbers.room in
+      let same : v ≡ ends_in (take (3 * (v / 2)) after) = omega (arith, size, w.numbers.even) in
+      record {
+        within = w.numbers.room;
+        whole = omega arith;
+        spans = subst (HoldsSpans s ds (take (3 * (v / 2)) after)) same (copied_holds s ds after (take (3 * (v / 2)) after) v w (λ j b. get_or-take (3 * (v / 2)) after j (pos 0) b) (omega (arith, size)));
       }
 
 -- ---- the call

@@ -1,2 +1,2 @@
--- Lists of spans in numbers of two sizes.
-pub mod Copies
+-- Lists of spans in buffers, and numbers of two sizes.
+pub mod Lists

@@ -18,7 +18,8 @@ use Rattle.overlay_laws.specs.Sweep.{ends_from}
 use Rattle.overlay_laws.proofs.{FewLaws.part_half, SweepLaws.length-ends_from}
 use Rattle.overlay_laws.proofs.CallLaws.{any-short, all_enough}
 use Rattle.overlay_sweep.specs.Keys.{in_parts}
-use Rattle.overlay_sweep.specs.Parts.{part_spans, Swept}
+use Rattle.answer.specs.Limits.{most_steps}
+use Rattle.overlay_sweep.specs.Parts.{Spanned, part_spans, Swept}
 use Rattle.overlay_parts.specs.Parts.{HaveRoom, PartsCall}
 
 -- the list of a part has three numbers for each two ends at most
@@ -35,9 +36,9 @@ module _ (L : Part → List Span) where
   parts_spans r e Both = ap (λ (m : Measures). m.both.spans) e
 
   module _ (f g h : List ℤ) where
-    pub parts_short : (k : Part) → length (of_parts f g h k) < 3 * length (L k) → PartsCall L (of_parts f g h) (Err SpanRoom) (of_parts f g h)
-    parts_short k l =
-        let e = any-short (of_parts f g h) L k l in
+    pub parts_short : (r : Measures) → r ≡ measures_of L → (k : Part) → length (of_parts f g h k) < 3 * (in_parts r k).spans → PartsCall L (of_parts f g h) (Err SpanRoom) (of_parts f g h)
+    parts_short r m k l =
+        let e = any-short (of_parts f g h) L k (omega (arith, l, parts_spans r m k)) in
         record { answer = sym (ap (λ (j : Judged). overlaid_of j L) e); buffers = λ i. sym (ap (λ (j : Judged). laid_if j (span_numbers (L i)) (of_parts f g h i)) e) }
 
     pub parts_room : 3 * length (L First) ≤ length f → 3 * length (L Second) ≤ length g → 3 * length (L Both) ≤ length h → HaveRoom L (of_parts f g h)
@@ -52,3 +53,7 @@ module _ (L : Part → List Span) where
           answer = ap Ok (parts_measured r (λ k. (w k).measure)) ∙ sym (ap (λ (j : Judged). overlaid_of j L) e);
           buffers = λ k. (w k).buffer (all k) ∙ written (of_parts f g h k) (L k) (all k) ∙ sym (ap (λ (j : Judged). laid_if j (span_numbers (L k)) (of_parts f g h k)) e);
         }
+
+-- a part has no more spans than the rooms have steps, as they were measured
+pub spans_few : {a b : List ℤ} {na nb : ℕ} → Spanned a na → Spanned b nb → (r : Measures) → r ≡ measures_of (part_spans a na b nb) → (k : Part) → (in_parts r k).spans ≤ most_steps
+spans_few {a} {b} {na} {nb} x y r m k = omega (arith, parts_spans (part_spans a na b nb) r m k, part_most a na b nb k, x.held.numbers.few, y.held.numbers.few)

@@ -3,7 +3,7 @@
 
 ghost use Rattle.std.specs.Prelude.{true, ◌≡◌, ◌≤◌};
 ghost use Rattle.overlay.specs.Call.{of_parts, measures_of};
-ghost use Rattle.overlay_sweep.specs.Parts.{Spanned, part_spans};
+ghost use Rattle.overlay_sweep.specs.Parts.{ends_in, Spanned, part_spans};
 ghost use Rattle.overlay_parts.specs.Parts.{HaveRoom, PartsCall};
 
 use answer::Refusal;
@@ -18,56 +18,52 @@ fn enough(most: usize, first: usize, second: usize, both: usize) -> bool
 }
 
 // How many panels and spans the parts have, by a sweep that writes no span.
-fn measure(a: &[i16], na: usize, b: &[i32], nb: usize) -> Measures
-    requires { Spanned a.now na × Spanned b.now nb }
-    ensures { result ≡ measures_of (part_spans a.now na b.now nb) }
+fn measure(a: &[i16], b: &[i32]) -> Measures
+    requires { Spanned a.now (ends_in a.now) × Spanned b.now (ends_in b.now) }
+    ensures { result ≡ measures_of (part_spans a.now (ends_in a.now) b.now (ends_in b.now)) }
 {
     let mut f = [0i32; 1];
     let mut g = [0i32; 1];
     let mut h = [0i32; 1];
-    sweep(a, na, b, nb, &mut f, &mut g, &mut h)
+    sweep(a, b, &mut f, &mut g, &mut h)
 }
 
 // Writes the three lists; each buffer is long enough.
 fn put_all(
     a: &[i16],
-    na: usize,
     b: &[i32],
-    nb: usize,
     first: &mut [i32],
     second: &mut [i32],
     both: &mut [i32],
 ) -> Result<Measures, Refusal>
-    requires { Spanned a.now na × Spanned b.now nb
-        × HaveRoom (part_spans a.now na b.now nb) (of_parts first.old second.old both.old) }
-    ensures { PartsCall (part_spans a.now na b.now nb)
+    requires { Spanned a.now (ends_in a.now) × Spanned b.now (ends_in b.now)
+        × HaveRoom (part_spans a.now (ends_in a.now) b.now (ends_in b.now)) (of_parts first.old second.old both.old) }
+    ensures { PartsCall (part_spans a.now (ends_in a.now) b.now (ends_in b.now))
         (of_parts first.old second.old both.old) result
         (of_parts first.new second.new both.new) }
 {
-    let m = sweep(a, na, b, nb, first, second, both);
+    let m = sweep(a, b, first, second, both);
     Ok(m)
 }
 
-// Writes the three lists, unless one of them is too long for its buffer. A list has at most three numbers for each two ends: no
-// list is measured if each buffer is long enough for that.
+// Writes the three lists, unless one of them is too long for its buffer. None has more numbers than the two lists together: so
+// none is measured if each buffer is long enough for that many.
 pub fn put_parts(
     a: &[i16],
-    na: usize,
     b: &[i32],
-    nb: usize,
     first: &mut [i32],
     second: &mut [i32],
     both: &mut [i32],
 ) -> Result<Measures, Refusal>
-    requires { Spanned a.now na × Spanned b.now nb }
-    ensures { PartsCall (part_spans a.now na b.now nb)
+    requires { Spanned a.now (ends_in a.now) × Spanned b.now (ends_in b.now) }
+    ensures { PartsCall (part_spans a.now (ends_in a.now) b.now (ends_in b.now))
         (of_parts first.old second.old both.old) result
         (of_parts first.new second.new both.new) }
 {
-    if enough(3 * ((na + nb) / 2), first.len(), second.len(), both.len()) {
-        return put_all(a, na, b, nb, first, second, both);
+    if enough(a.len() + b.len(), first.len(), second.len(), both.len()) {
+        return put_all(a, b, first, second, both);
     }
-    let m = measure(a, na, b, nb);
+    let m = measure(a, b);
     let f = m.first;
     let g = m.second;
     let h = m.both;
@@ -80,5 +76,5 @@ pub fn put_parts(
     if both.len() < 3 * h.spans {
         return Err(Refusal::SpanRoom);
     }
-    put_all(a, na, b, nb, first, second, both)
+    put_all(a, b, first, second, both)
 }

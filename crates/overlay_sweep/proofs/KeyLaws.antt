@@ -1,6 +1,6 @@
 -- Lower ends are compared by their keys, and read back from them.
 -- Assumes nothing.
-use Rattle.std.specs.Prelude.{None, Option, Some}
+use Rattle.std.specs.Prelude.{None, Option, Some, IfSome}
 use mathlib.Core.Bool.{Bool, true, false, cond, not, true≢false}
 use mathlib.Core.List.{List, [], ◌∷◌}
 use mathlib.Core.Logic.{inl, inr, ⊎_elim}
@@ -24,7 +24,7 @@ use Rattle.row_laws.proofs.FootLaws.{Ahead, ahead_true, ahead_yes, ahead-three}
 use Rattle.overlay_laws.specs.Join.{leads}
 use Rattle.overlay_laws.specs.Sweep.{end_at, ends_from, Numbers}
 use Rattle.overlay_laws.proofs.SweepLaws.{lead_none, lead_alone, lead_both}
-use Rattle.overlay_sweep.specs.Keys.{KeyFits, last_key, end_key, key_at, sunk, corner_of, span_between}
+use Rattle.overlay_sweep.specs.Keys.{KeyFits, last_key, end_key, key_or_last, key_at, sunk, corner_of, span_between}
 
 -- ---- a coordinate, counted from the least
 
@@ -43,7 +43,7 @@ unlifted z h = omega (zarith, bal- (pos (nat_abs (z +ℤ pos 32768))) (pos 32768
 
 -- ---- keys distinguish corners
 
-pub end_reached : (list : List ℤ) (n i : ℕ) → Numbers list n → i < n → KeyFits (end_at list i)
+end_reached : (list : List ℤ) (n i : ℕ) → Numbers list n → i < n → KeyFits (end_at list i)
 end_reached list n i h l =
     (omega (arith, abs+ (get_or list (3 * (i / 2) + 1 + i % 2) (pos 0)) (pos (i % 2)), h.small (3 * (i / 2) + 1 + i % 2) (omega (arith, h.even))), omega (arith, h.small (3 * (i / 2)) (omega (arith, h.even))))
 
@@ -95,28 +95,25 @@ first_least p q k e = by (ltb q p) refl
     by true f = let l = ltb-true q p f in ne_eqb p k (λ h. omega (arith, e, l, h))
     by false f = let l = ltb-false q p f in eq-eqb p k (omega (arith, e, l))
 
-pub key_there : (list : List ℤ) (n i : ℕ) → i < n → key_at list n i ≡ end_key (end_at list i)
+key_there : (list : List ℤ) (n i : ℕ) → i < n → key_at list n i ≡ end_key (end_at list i)
 key_there list n i h = ap (λ (b : Bool). cond b (end_key (end_at list i)) last_key) (lt-ltb i n h)
 
-pub key_none : (list : List ℤ) (n i : ℕ) → n ≤ i → key_at list n i ≡ last_key
+key_none : (list : List ℤ) (n i : ℕ) → n ≤ i → key_at list n i ≡ last_key
 key_none list n i h = ap (λ (b : Bool). cond b (end_key (end_at list i)) last_key) (le-ltb i n h)
 
--- an end that is read is there, and one that is not is after the last
+-- an end that is read has its key, and one that is not has the last
 module _ (list : List ℤ) (n i : ℕ) (r : Option Corner) (there : i < n → r ≡ Some (end_at list i)) (none : n ≤ i → r ≡ None) where
-  pub read_there : (at : Corner) → r ≡ Some at → (i < n) × (at ≡ end_at list i)
-  read_there at e = elim (dec_lt i n) [
-    | yes h ↦ (h, cc (there h))
-    | no h ↦ absurd (apart at (sym e ∙ none (omega arith)))
+  pub read_fits : Numbers list n → IfSome r KeyFits
+  read_fits m = elim (dec_lt i n) [
+    | yes h ↦ subst (λ (o : Option Corner). IfSome o KeyFits) (sym (there h)) (end_reached list n i m h)
+    | no h ↦ subst (λ (o : Option Corner). IfSome o KeyFits) (sym (none (omega arith))) tt
   ]
-    where
-      apart : (c : Corner) → Some c ≡ None → ⊥
-      apart c f = let z : ◌≡◌ {A = ℕ} 0 1 = cc in omega arith
 
-  pub read_none : r ≡ None → n ≤ i
-  read_none e = elim (dec_lt i n) [ yes h ↦ absurd (apart (end_at list i) (sym (there h) ∙ e)) | no h ↦ omega arith ]
-    where
-      apart : (c : Corner) → Some c ≡ None → ⊥
-      apart c f = let z : ◌≡◌ {A = ℕ} 0 1 = cc in omega arith
+  pub read_key : key_or_last r ≡ key_at list n i
+  read_key = elim (dec_lt i n) [
+    | yes h ↦ ap key_or_last (there h) ∙ sym (key_there list n i h)
+    | no h ↦ let l : n ≤ i = omega arith in ap key_or_last (none l) ∙ sym (key_none list n i l)
+  ]
 
 pub lead_key : (a : List ℤ) (i na : ℕ) (b : List ℤ) (j nb : ℕ) → Numbers a na → Numbers b nb → i + j < na + nb → (p q k : ℕ) → p ≡ key_at a na i → q ≡ key_at b nb j → k ≡ min p q → i ≤ na → j ≤ nb
     → leads (ends_from a i (na - i)) (ends_from b j (nb - j)) ≡ eqb p k

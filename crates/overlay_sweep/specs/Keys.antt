@@ -1,6 +1,6 @@
 -- Lower ends as keys, and the span between two of them.
 -- Assumes nothing.
-use Rattle.std.specs.Prelude.{Bool, true, false, cond, List, [], ◌∷◌, ◌≡◌, ℕ, ◌+◌, ◌-◌, ◌*◌, ◌/◌, ◌%◌, ◌<◌, ◌≤◌, ltb, ℤ, pos, nat_abs, ◌+ℤ◌, ◌-ℤ◌, length}
+use Rattle.std.specs.Prelude.{Option, None, Some, Bool, true, false, cond, List, [], ◌∷◌, ◌≡◌, ℕ, ◌+◌, ◌-◌, ◌*◌, ◌/◌, ◌%◌, ◌<◌, ◌≤◌, ltb, ℤ, pos, nat_abs, ◌+ℤ◌, ◌-ℤ◌, length}
 use Rattle.std.proofs.Math.IntN.{pred_ℤ}
 use Rattle.std.proofs.lemmas.List.Edits.{sets}
 use Rattle.answer.specs.Limits.{most_steps, farthest}
@@ -21,6 +21,11 @@ end_key c = nat_abs (c.1 +ℤ pos 32768) * 131072 + nat_abs (c.0 +ℤ pos 32768)
 -- what stands after the last end of a list: it is greater than any key
 abbrev pub last_key : ℕ
 last_key = 17179869184
+
+-- the key of an end, if it is there
+abbrev pub key_or_last : Option Corner → ℕ
+key_or_last None = last_key
+key_or_last (Some c) = end_key c
 
 -- the key of the end at place i of n, if it is there
 abbrev pub key_at : List ℤ → ℕ → ℕ → ℕ

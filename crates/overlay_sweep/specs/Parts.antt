@@ -1,6 +1,6 @@
 -- Lists of spans as the sweep reads them, and what it leaves of the parts of two such lists.
 -- Assumes nothing.
-use Rattle.std.specs.Prelude.{List, ◌≡◌, ℕ, ◌*◌, ◌≤◌, ℤ, length}
+use Rattle.std.specs.Prelude.{List, ◌≡◌, ℕ, ◌*◌, ◌/◌, ◌≤◌, ℤ, length}
 use Rattle.std.proofs.lemmas.List.Edits.{sets}
 use Rattle.grid.specs.declared.Corner.{Corner}
 use Rattle.grid.specs.Grid.{end_from}
@@ -22,6 +22,10 @@ pub record Spanned (list : List ℤ) (n : ℕ) : Type 0 where
   pub start : Corner
   pub steps : List ℕ
   pub held : HoldsSpans start steps list n
+
+-- how many ends the spans of a list have: a span has three numbers and two ends
+abbrev pub ends_in : List ℤ → ℕ
+ends_in list = length list / 3 * 2
 
 -- the spans of each part of two lists
 abbrev pub part_spans : List ℤ → ℕ → List ℤ → ℕ → Part → List Span

@@ -2,7 +2,7 @@
 // are compared as keys.
 #![tactic(auto)]
 
-ghost use Rattle.std.specs.Prelude.{None, Some, [], ◌∷◌, ◌≡◌, ◌+◌, ◌*◌, ◌%◌, ◌<◌, ◌≤◌, pos, nat_abs, ◌+ℤ◌, length};
+ghost use Rattle.std.specs.Prelude.{None, Some, IfSome, [], ◌∷◌, ◌≡◌, ◌+◌, ◌*◌, ◌%◌, ◌<◌, ◌≤◌, pos, nat_abs, ◌+ℤ◌, length};
 ghost use Rattle.std.proofs.Math.IntN.{pred_ℤ};
 ghost use Rattle.std.proofs.lemmas.List.Edits.{sets};
 ghost use Rattle.answer.specs.Limits.{most_steps, farthest};
@@ -11,8 +11,8 @@ ghost use Rattle.lists.specs.Lists.{tally};
 ghost use Rattle.overlay.specs.declared.Part.{Part};
 ghost use Rattle.overlay.specs.Call.{of_parts};
 ghost use Rattle.overlay_laws.specs.Sweep.{part_has, end_at, odd, Numbers};
-ghost use Rattle.overlay_sweep.specs.Keys.{KeyFits, last_key, end_key, key_at, sunk, corner_of, Added, Closed, Closable, in_parts};
-ghost use Rattle.overlay_sweep.specs.Parts.{Spanned, part_spans, Swept};
+ghost use Rattle.overlay_sweep.specs.Keys.{KeyFits, last_key, end_key, key_or_last, sunk, corner_of, Added, Closed, Closable, in_parts};
+ghost use Rattle.overlay_sweep.specs.Parts.{ends_in, Spanned, part_spans, Swept};
 
 use grid::{Corner, Panel};
 use overlay::{Measure, Measures};
@@ -86,23 +86,12 @@ fn key(at: Corner) -> usize
     y * 131072 + x
 }
 
-// The key of the end at place i of the first list, if it is there.
-fn first_key(list: &[i16], n: usize, i: usize) -> usize
-    requires { Numbers list.now n }
-    ensures { result ≡ key_at list.now n i }
+// The key of an end, if it is there.
+fn key_of(end: Option<Corner>) -> usize
+    requires { IfSome end KeyFits }
+    ensures { result ≡ key_or_last end }
 {
-    match first_end(list, n, i) {
-        Some(at) => key(at),
-        None => END,
-    }
-}
-
-// The key of the end at place i of the second list, if it is there.
-fn second_key(list: &[i32], n: usize, i: usize) -> usize
-    requires { Numbers list.now n }
-    ensures { result ≡ key_at list.now n i }
-{
-    match second_end(list, n, i) {
+    match end {
         Some(at) => key(at),
         None => END,
     }
@@ -227,18 +216,16 @@ fn close(
 }
 
 // Writes the spans of the three parts of two lists of spans, as far as the buffers are long enough, and counts them and their
-// panels. The lists have na and nb ends.
+// panels.
 pub fn sweep(
     a: &[i16],
-    na: usize,
     b: &[i32],
-    nb: usize,
     first: &mut [i32],
     second: &mut [i32],
     both: &mut [i32],
 ) -> Measures
-    requires { Spanned a.now na × Spanned b.now nb }
-    ensures { (k : Part) → Swept (part_spans a.now na b.now nb k)
+    requires { Spanned a.now (ends_in a.now) × Spanned b.now (ends_in b.now) }
+    ensures { (k : Part) → Swept (part_spans a.now (ends_in a.now) b.now (ends_in b.now) k)
         (of_parts first.old second.old both.old k) (in_parts result k)
         (of_parts first.new second.new both.new k) }
 {
@@ -251,12 +238,14 @@ pub fn sweep(
         second: none,
         both: none,
     };
+    let na = a.len() / 3 * 2;
+    let nb = b.len() / 3 * 2;
     let mut i = 0;
     let mut j = 0;
     let mut last = 0;
     while i + j < na + nb {
-        let p = first_key(a, na, i);
-        let q = second_key(b, nb, j);
+        let p = key_of(first_end(a, na, i));
+        let q = key_of(second_end(b, nb, j));
         let next = p.min(q);
         m = close(i, j, last, next, m, first, second, both);
         i = further(i, p == next);

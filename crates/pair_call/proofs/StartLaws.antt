@@ -1,10 +1,10 @@
 -- The starts of two parties: the first planted in a cleared table, the second in what that leaves.
 -- Assumes nothing.
-use Rattle.std.specs.Prelude.{Some}
+use Rattle.std.specs.Prelude.{None, Some}
 use mathlib.Core.List.{List, [], ◌∷◌, Memᴰ}
 use mathlib.Core.Logic.{⊎_elim}
-use mathlib.Core.Path.{◌≡◌, refl, sym, ◌∙◌, subst, subst₂}
-use Prim.Native.Nat.{ℕ, zero, suc, ◌-◌, ◌<◌, ◌≤◌}
+use mathlib.Core.Path.{◌≡◌, refl, sym, subst, subst₂}
+use Prim.Native.Nat.{ℕ, zero, suc, ◌<◌, ◌≤◌}
 use native.Mathlib.Omega.{arith}
 use lib.ListN.{length}
 use Rattle.pair_table_laws.specs.Stores.{root_table}
@@ -54,50 +54,47 @@ path_second c e x m = union_right (c ∷ []) (e ∷ []) (subst (Memᴰ x) (sym (
 pub first_plants : (words : ℕ) → pair_width ≤ words → (t : List ℕ) (s : Stock) → t ≡ root_table words → s ≡ root_stock → Plants t (held root ∷ []) (λ p. planted_of root) 0 s
 first_plants words room t s i j = subst₂ (λ (l : List ℕ) (x : Stock). Plants l (held root ∷ []) (λ p. planted_of root) 0 x) (sym i) (sym j) (root_plants words room 0)
 
-module _ (c e : Corner) (near : Near c) (near' : Near e) (words : ℕ) (t t₁ : List ℕ) (one : Located)
-    (f : Finds (λ p. planted_of root) (held root ∷ []) 0 (state_of (c ∷ [])) c t t₁ one) (long : length t ≡ words) where
+module _ (c e : Corner) (near : Near c) (near' : Near e) (words : ℕ) (t t₁ : List ℕ) (long : length t ≡ words) where
   abbrev slots : List Slot
   slots = placed_all roots (path_of c)
 
   -- the table is too small for the first
-  pub first_full : one.at ≡ 0 → pair_records_in words < length (needs_of c e [] [])
-  first_full z = subst (λ (n : ℕ). pair_records_in n < length (needs_of c e [] [])) long (f.none z (needs_of c e [] []) (root-at c e) (path_first c e))
+  pub first_full : Finds (λ p. planted_of root) (held root ∷ []) 0 (state_of (c ∷ [])) c t t₁ None → pair_records_in words < length (needs_of c e [] [])
+  first_full f = subst (λ (n : ℕ). pair_records_in n < length (needs_of c e [] [])) long (f (needs_of c e [] []) (root-at c e) (path_first c e))
 
-  module _ (some : one.at ≡ 0 → ⊥) where
+  module _ (one : Located) (f : Finds (λ p. planted_of root) (held root ∷ []) 0 (state_of (c ∷ [])) c t t₁ (Some one)) where
     -- what the second finds
     pub second_plants : Plants t₁ (placed_all (held root ∷ []) (path_of c)) (with_party (λ p. planted_of root) 0 (state_of (c ∷ []))) 1 one.stock
     second_plants = record {
-      table = (f.some some).0.table;
+      table = f.0.table;
       settled = start_settled rooted roots 0 (omega arith) root_settled refl c;
       own = refl;
       top = all_keeps roots (path_of c) 0 root refl;
-      stock = (f.some some).1;
+      stock = f.1;
     }
 
-    module _ (t₂ : List ℕ) (two : Located) (g : Finds (with_party (λ p. planted_of root) 0 (state_of (c ∷ []))) (placed_all (held root ∷ []) (path_of c)) 1 (state_of (e ∷ [])) e t₁ t₂ two) (long₁ : length t₁ ≡ words) where
+    module _ (t₂ : List ℕ) (long₁ : length t₁ ≡ words) where
       -- the table is too small for the second
-      pub second_full : two.at ≡ 0 → pair_records_in words < length (needs_of c e [] [])
-      second_full z =
+      pub second_full : Finds (with_party (λ p. planted_of root) 0 (state_of (c ∷ []))) (placed_all (held root ∷ []) (path_of c)) 1 (state_of (e ∷ [])) e t₁ t₂ None → pair_records_in words < length (needs_of c e [] [])
+      second_full g =
           subst (λ (n : ℕ). pair_records_in n < length (needs_of c e [] [])) long₁
-          (g.none z (needs_of c e [] []) (λ b i x. ⊎_elim (λ h. root-at c e b i h) (λ m. path_first c e b m) (all-at roots (path_of c) i b x)) (path_second c e))
+          (g (needs_of c e [] []) (λ b i x. ⊎_elim (λ h. root-at c e b i h) (λ m. path_first c e b m) (all-at roots (path_of c) i b x)) (path_second c e))
 
       -- both stand at their starts
-      pub both_planted : (two.at ≡ 0 → ⊥) → (w : Pair) → w ≡ parties_at c one e two → PairPlanted words c e t₂ (Some w)
-      both_planted some' w i =
+      pub both_planted : (two : Located) → Finds (with_party (λ p. planted_of root) 0 (state_of (c ∷ []))) (placed_all (held root ∷ []) (path_of c)) 1 (state_of (e ∷ [])) e t₁ t₂ (Some two)
+          → (w : Pair) → w ≡ parties_at c one e two → PairPlanted words c e t₂ (Some w)
+      both_planted two g w i =
           let all = placed_all slots (path_of e) in
-          let h = g.some some' in
-          let n : one.at ≡ suc (one.at - 1) = omega (arith, some) in
-          let m : two.at ≡ suc (two.at - 1) = omega (arith, some') in
-          let x : At (slots_at_start c e) (one.at - 1) c = subst (λ (l : List Slot). At l (one.at - 1) c) (starts_are c e) (all_keeps slots (path_of e) (one.at - 1) c (ref_at slots (one.at - 1) c ((f.some some).0.ref ∙ n))) in
-          let y : At (slots_at_start c e) (two.at - 1) e = subst (λ (l : List Slot). At l (two.at - 1) e) (starts_are c e) (ref_at all (two.at - 1) e (h.0.ref ∙ m)) in
+          let x : At (slots_at_start c e) one.node c = subst (λ (l : List Slot). At l one.node c) (starts_are c e) (all_keeps slots (path_of e) one.node c (ref_at slots one.node c f.0.ref)) in
+          let y : At (slots_at_start c e) two.node e = subst (λ (l : List Slot). At l two.node e) (starts_are c e) (ref_at all two.node e g.0.ref) in
           subst (λ (v : Pair). PairPlanted words c e t₂ (Some v)) (sym i) (
             refl,
             refl,
             λ a b. record {
-              walked = walked_start t₂ c e h.0.table;
-              stock = subst (StockIs two.stock) (starts_are c e) h.1;
-              one-is = party_new (slots_at_start c e) c (one.at - 1) x;
-              two_is = party_new (slots_at_start c e) e (two.at - 1) y;
+              walked = walked_start t₂ c e g.0.table;
+              stock = subst (StockIs two.stock) (starts_are c e) g.1;
+              one-is = party_new (slots_at_start c e) c one.node x;
+              two_is = party_new (slots_at_start c e) e two.node y;
               one_keeps = keeps_none c a near;
               two_keeps = keeps_none e b near';
             },

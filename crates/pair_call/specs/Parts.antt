@@ -13,7 +13,7 @@ use Rattle.pair_run.specs.Runs.{PairStarts}
 
 -- both parties with no step, at the nodes that were located
 abbrev pub parties_at : Corner → Located → Corner → Located → Pair
-parties_at c one e two = record { first = fresh_party c (one.at - 1); second = fresh_party e (two.at - 1); stock = two.stock }
+parties_at c one e two = record { first = fresh_party c one.node; second = fresh_party e two.node; stock = two.stock }
 
 -- both starts in a table of this many words, or the nodes that they need are more than the records
 abbrev pub PairPlanted : ℕ → Corner → Corner → List ℕ → Option Pair → Type 0

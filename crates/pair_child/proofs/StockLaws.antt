@@ -29,6 +29,7 @@ use Rattle.pair_table_laws.specs.Look.{Child, NoRoomFor}
 use Rattle.pair_table_laws.proofs.FrameLaws.{at_below}
 use Rattle.pair_table_laws.proofs.ChildLaws.{child_stands, child_nowhere, child_known, child_need, child_made}
 use Rattle.pair_table_laws.proofs.ScanLaws.{scan_held, scan_done, low_full}
+use Rattle.std.specs.Prelude.{None, Option, Some}
 use Rattle.pair_child.specs.declared.Stock.{Stock}
 use Rattle.pair_child.specs.declared.Located.{Located}
 use Rattle.pair_child.specs.Finds.{in_table, taken_at, ScannedTo, found, stocked, claim_in, Childed, StockIs, ChildFound, Finds}
@@ -91,58 +92,46 @@ module _ (slots : List Slot) (C : Both) (q : ℕ) (known : q < 2) (T : State) (s
         ]
 
     -- ---- it stands already
-    known_found : (v : ℕ) → words_in t p (child_word e) ≡ suc v → (t' : List ℕ) (r : Located) → t' ≡ claim_in q t v s → r ≡ found (suc v) stock → ChildFound C slots q T e s t t' r
-    known_found v w t' r i j = record {
-      none = λ z. absurd (let n : r.at ≡ suc v = ap (λ (x : Located). x.at) j in omega arith);
-      some = λ f. (
-        subst (λ (x : ℕ). Child C slots q (grown T e s) e t' x) (sym (ap (λ (x : Located). x.at) j)) (by (words_in t v (of_party q need_word)) refl),
-        subst (λ (x : Stock). StockIs x (placed slots e)) (sym (ap (λ (x : Located). x.stock) j)) (subst (StockIs stock) (sym (placed_known slots e v (child_stands slots C q known T settled t h e deep p has s v w))) used),
-      );
-    }
+    known_found : (v : ℕ) → words_in t p (child_word e) ≡ suc v → (t' : List ℕ) → t' ≡ claim_in q t v s → ChildFound C slots q T e s t t' (Some (found v stock))
+    known_found v w t' i = (
+      by (words_in t v (of_party q need_word)) refl,
+      subst (StockIs stock) (sym (placed_known slots e v (child_stands slots C q known T settled t h e deep p has s v w))) used,
+    )
       where
         by : (n : ℕ) → words_in t v (of_party q need_word) ≡ n → Child C slots q (grown T e s) e t' (suc v)
         by zero n = subst (λ (l : List ℕ). Child C slots q (grown T e s) e l (suc v)) (claim_new q t v s (words_in t v (of_party q need_word)) refl n refl ∙ sym i) (child_need slots C q known T settled t h e deep p has s v w n)
         by (suc m) n = subst (λ (l : List ℕ). Child C slots q (grown T e s) e l (suc v)) (claim_known q t v s (words_in t v (of_party q need_word)) refl (λ z. omega arith) ∙ sym i) (child_known slots C q known T settled t h e deep p has s v w (omega arith))
 
     -- ---- it is made, in the lowest free record
-    made_found : words_in t p (child_word e) ≡ 0 → (k : ℕ) → ScannedTo t stock.low k → in_table t k ≡ true → (t' : List ℕ) (r : Located) → t' ≡ pair_node_in q t k p (child_word e) s → r ≡ found (k + 1) (stocked stock k) → ChildFound C slots q T e s t t' r
-    made_found w k z b t' r i j =
+    made_found : words_in t p (child_word e) ≡ 0 → (k : ℕ) → ScannedTo t stock.low k → in_table t k ≡ true → (t' : List ℕ) → t' ≡ pair_node_in q t k p (child_word e) s → ChildFound C slots q T e s t t' (Some (found k (stocked stock k)))
+    made_found w k z b t' i =
         let n : lowest slots ≡ k = scan_done t slots (with_party C q T) settled h top k (omega (arith, used.above, z.from)) (scanned_held k z) (free_word t k b z.stops) in
         let fresh = child_nowhere slots C q known T settled t h e deep p has s w in
         let g : placed slots e ≡ put_lowest e slots = ⊎_elim (λ x. let y = x.0 in absurd (fresh y.0 y.1)) (λ x. x.1) (placed_cases slots e) in
         let room : suc (lowest slots) * pair_width ≤ length t = omega (arith, n, leb-true (suc k * pair_width) (length t) b) in
-        let o : suc (lowest slots) ≡ r.at = omega (arith, n, ap (λ (x : Located). x.at) j) in
-        let l : t' ≡ pair_node_in q t (lowest slots) p (child_word e) s = i ∙ ap (λ (x : ℕ). pair_node_in q t x p (child_word e) s) (sym n) in
-        let y = ap (λ (x : Located). x.stock) j in
-        record {
-          none = λ x. absurd (omega (arith, o));
-          some = λ f. (
-            subst (λ (x : ℕ). Child C slots q (grown T e s) e t' x) o (subst (λ (x : List ℕ). Child C slots q (grown T e s) e x (suc (lowest slots))) (sym l) (child_made slots C q known T settled t h e deep p has s w room)),
-            subst (λ (x : Stock). StockIs x (placed slots e)) (sym y) (subst (StockIs (stocked stock k)) (sym g) record {
-              nodes = omega (arith, used.nodes, put_held e slots);
-              above = omega arith;
-              low = let x : suc (lowest slots) ≡ k + 1 = omega (arith, n) in subst (HeldBelow (put_lowest e slots)) x (low_made e slots);
-            }),
-          );
-        }
+        let l : t' ≡ pair_node_in q t (lowest slots) p (child_word e) s = i ∙ ap (λ (x : ℕ). pair_node_in q t x p (child_word e) s) (sym n) in (
+          subst (λ (x : ℕ). Child C slots q (grown T e s) e t' (suc x)) n (subst (λ (x : List ℕ). Child C slots q (grown T e s) e x (suc (lowest slots))) (sym l) (child_made slots C q known T settled t h e deep p has s w room)),
+          subst (StockIs (stocked stock k)) (sym g) record {
+            nodes = omega (arith, used.nodes, put_held e slots);
+            above = omega arith;
+            low = let x : suc (lowest slots) ≡ k + 1 = omega (arith, n) in subst (HeldBelow (put_lowest e slots)) x (low_made e slots);
+          },
+        )
 
     -- ---- or there is no record
-    none_found : words_in t p (child_word e) ≡ 0 → (k : ℕ) → ScannedTo t stock.low k → in_table t k ≡ false → (t' : List ℕ) (r : Located) → r.at ≡ 0 → ChildFound C slots q T e s t t' r
-    none_found w k z b t' r i = record {
-      none = λ x. (child_nowhere slots C q known T settled t h e deep p has s w, omega (arith, low-above slots k (scanned_held k z), leb-false (suc k * pair_width) (length t) b));
-      some = λ f. absurd (f i);
-    }
+    none_found : words_in t p (child_word e) ≡ 0 → (k : ℕ) → ScannedTo t stock.low k → in_table t k ≡ false → (t' : List ℕ) → ChildFound C slots q T e s t t' None
+    none_found w k z b t' = (child_nowhere slots C q known T settled t h e deep p has s w, omega (arith, low-above slots k (scanned_held k z), leb-false (suc k * pair_width) (length t) b))
 
-    pub child_found : (t' : List ℕ) (r : Located) → Childed q t stock p (child_word e) s t' r → ChildFound C slots q T e s t t' r
+    pub child_found : (t' : List ℕ) (r : Option Located) → Childed q t stock p (child_word e) s t' r → ChildFound C slots q T e s t t' r
     child_found t' r ch = go (words_in t p (child_word e)) refl
       where
         go : (w : ℕ) → words_in t p (child_word e) ≡ w → ChildFound C slots q T e s t t' r
-        go (suc v) w = let k = ch.1 v w in known_found v w t' r k.0 k.1
+        go (suc v) w = let k = ch.1 v w in subst (ChildFound C slots q T e s t t') (sym k.1) (known_found v w t' k.0)
         go zero w = by (in_table t (ch.0 w).number) refl
           where
             by : (b : Bool) → in_table t (ch.0 w).number ≡ b → ChildFound C slots q T e s t t' r
-            by true b = let k = (ch.0 w).made.0 b in made_found w (ch.0 w).number (ch.0 w).scanned b t' r k.0 k.1
-            by false b = none_found w (ch.0 w).number (ch.0 w).scanned b t' r ((ch.0 w).made.1 b)
+            by true b = let k = (ch.0 w).made.0 b in subst (ChildFound C slots q T e s t t') (sym k.1) (made_found w (ch.0 w).number (ch.0 w).scanned b t' k.0)
+            by false b = subst (ChildFound C slots q T e s t t') (sym ((ch.0 w).made.1 b)) (none_found w (ch.0 w).number (ch.0 w).scanned b t')
 
 -- ---- the table is full
 -- a table that is too small for the child of a path is too small for its path
@@ -161,5 +150,6 @@ no_room_down slots e t deep f ns all path = f ns all (λ x m. path x (subst (Mem
 pub no_room-long : (slots : List Slot) (e : Corner) (t t' : List ℕ) → length t ≡ length t' → NoRoomFor slots e t → NoRoomFor slots e t'
 no_room-long slots e t t' l f ns all path = omega (arith, l, f ns all path)
 
-pub finds_long : (B : Both) (slots : List Slot) (q : ℕ) (S : State) (e : Corner) (t t₀ t' : List ℕ) (r : Located) → length t ≡ length t₀ → Finds B slots q S e t t' r → Finds B slots q S e t₀ t' r
-finds_long B slots q S e t t₀ t' r l f = record { none = λ z. no_room-long slots e t t₀ l (f.none z); some = f.some }
+pub finds_long : (B : Both) (slots : List Slot) (q : ℕ) (S : State) (e : Corner) (t t₀ t' : List ℕ) (r : Option Located) → length t ≡ length t₀ → Finds B slots q S e t t' r → Finds B slots q S e t₀ t' r
+finds_long B slots q S e t t₀ t' None l f = no_room-long slots e t t₀ l f
+finds_long B slots q S e t t₀ t' (Some v) l f = f

@@ -1,7 +1,7 @@
 -- The child of a node, found, needed from now on, or made in the lowest free record: what it leaves in the table, word by word;
 -- and by the nodes that stand there.
 -- Assumes nothing.
-use Rattle.std.specs.Prelude.{Bool, true, false, not, ◌&&◌, List, ◌≡◌, ℕ, suc, ◌+◌, ◌*◌, ◌<◌, ◌≤◌, eqb, leb, length}
+use Rattle.std.specs.Prelude.{Bool, true, false, not, ◌&&◌, List, None, Option, Some, ◌≡◌, ℕ, suc, ◌+◌, ◌*◌, ◌<◌, ◌≤◌, eqb, leb, length}
 use Rattle.grid.specs.declared.Corner.{Corner}
 use Rattle.grid.specs.Tree.{path_of}
 use Rattle.layout.specs.Table.{parent_word, need_word}
@@ -29,22 +29,22 @@ pub record ScannedTo (t : List ℕ) (low r : ℕ) : Type 0 where
   pub passed : (i : ℕ) → low ≤ i → i < r → taken_at t i ≡ true
   pub stops : taken_at t r ≡ false
 
--- a node by its ref, and what is in use then
+-- a node, and what is in use then
 abbrev pub found : ℕ → Stock → Located
-found at s = record { at = at; stock = s }
+found u s = record { node = u; stock = s }
 
 -- one node more, in record k
 abbrev pub stocked : Stock → ℕ → Stock
 stocked s k = record { nodes = s.nodes + 1; low = k + 1 }
 
 -- record k, or nothing if it is not in the table
-abbrev pub MadeAt : ℕ → List ℕ → Stock → ℕ → ℕ → ℕ → ℕ → List ℕ → Located → Type 0
+abbrev pub MadeAt : ℕ → List ℕ → Stock → ℕ → ℕ → ℕ → ℕ → List ℕ → Option Located → Type 0
 MadeAt q t s u w step k t' r =
-    (in_table t k ≡ true → (t' ≡ pair_node_in q t k u w step) × (r ≡ found (k + 1) (stocked s k)))
-    × (in_table t k ≡ false → r.at ≡ 0)
+    (in_table t k ≡ true → (t' ≡ pair_node_in q t k u w step) × (r ≡ Some (found k (stocked s k))))
+    × (in_table t k ≡ false → r ≡ None)
 
 -- the child in word w of record u, made by step in the first record from low on that is not taken
-pub record Makes (q : ℕ) (t : List ℕ) (s : Stock) (u w step : ℕ) (t' : List ℕ) (r : Located) : Type 0 where
+pub record Makes (q : ℕ) (t : List ℕ) (s : Stock) (u w step : ℕ) (t' : List ℕ) (r : Option Located) : Type 0 where
   pub number : ℕ
   pub scanned : ScannedTo t s.low number
   pub made : MadeAt q t s u w step number t' r
@@ -54,10 +54,10 @@ abbrev pub claim_in : ℕ → List ℕ → ℕ → ℕ → List ℕ
 claim_in q t v step = elim (eqb (words_in t v (of_party q need_word)) 0) [ true ↦ pair_need_in q t v step | false ↦ t ]
 
 -- the child in word w of record u: made, or record v, which stands there
-abbrev pub Childed : ℕ → List ℕ → Stock → ℕ → ℕ → ℕ → List ℕ → Located → Type 0
+abbrev pub Childed : ℕ → List ℕ → Stock → ℕ → ℕ → ℕ → List ℕ → Option Located → Type 0
 Childed q t s u w step t' r =
     (words_in t u w ≡ 0 → Makes q t s u w step t' r)
-    × ((v : ℕ) → words_in t u w ≡ suc v → (t' ≡ claim_in q t v step) × (r ≡ found (suc v) s))
+    × ((v : ℕ) → words_in t u w ≡ suc v → (t' ≡ claim_in q t v step) × (r ≡ Some (found v s)))
 
 -- ---- what is in use: this many nodes, and no record before low is free
 pub record StockIs (s : Stock) (slots : List Slot) : Type 0 where
@@ -66,13 +66,12 @@ pub record StockIs (s : Stock) (slots : List Slot) : Type 0 where
   pub low : HeldBelow slots s.low
 
 -- the child e of a node that stands, for step s of party q, whose state was T: found or made, or there is no record for it
-pub record ChildFound (C : Both) (slots : List Slot) (q : ℕ) (T : State) (e : Corner) (s : ℕ) (t t' : List ℕ)
-    (r : Located) : Type 0 where
-  pub none : r.at ≡ 0 → ((i : ℕ) → At slots i e → ⊥) × (pair_records_in (length t) ≤ lowest slots)
-  pub some : (r.at ≡ 0 → ⊥) → Child C slots q (grown T e s) e t' r.at × StockIs r.stock (placed slots e)
+abbrev pub ChildFound : Both → List Slot → ℕ → State → Corner → ℕ → List ℕ → List ℕ → Option Located → Type 0
+ChildFound C slots q T e s t t' (Some v) = Child C slots q (grown T e s) e t' (suc v.node) × StockIs v.stock (placed slots e)
+ChildFound C slots q T e s t t' None = ((i : ℕ) → At slots i e → ⊥) × (pair_records_in (length t) ≤ lowest slots)
 
 -- a lookup of node e by party q, in records slots of table t, if the states were B: now its state is S, the path of e stands, and
--- e has the ref that is answered; or the table is too small for that path
-pub record Finds (B : Both) (slots : List Slot) (q : ℕ) (S : State) (e : Corner) (t t' : List ℕ) (r : Located) : Type 0 where
-  pub none : r.at ≡ 0 → NoRoomFor slots e t
-  pub some : (r.at ≡ 0 → ⊥) → Look B slots q S e t' r.at × StockIs r.stock (placed_all slots (path_of e))
+-- e is the node that is answered; or the table is too small for that path
+abbrev pub Finds : Both → List Slot → ℕ → State → Corner → List ℕ → List ℕ → Option Located → Type 0
+Finds B slots q S e t t' (Some v) = Look B slots q S e t' (suc v.node) × StockIs v.stock (placed_all slots (path_of e))
+Finds B slots q S e t t' None = NoRoomFor slots e t

@@ -17,10 +17,10 @@ pub struct Stock {
     pub low: usize,
 }
 
-// A node by its ref, 0 if the table is full, and what is in use then.
+// A node, and what is in use then.
 #[derive(Clone, Copy)]
 pub struct Located {
-    pub at: usize,
+    pub node: usize,
     pub stock: Stock,
 }
 
@@ -44,15 +44,15 @@ fn free_from(t: &[u32], low: usize) -> usize
     r
 }
 
-// Makes the child of u that stands in this word of its record, in the lowest free record.
-fn make(t: &mut [u32], q: usize, s: Stock, u: usize, place: usize, step: u32) -> Located
+// Makes the child of u that stands in this word of its record, in the lowest free record. None if the table is full.
+fn make(t: &mut [u32], q: usize, s: Stock, u: usize, place: usize, step: u32) -> Option<Located>
     requires in_table { InTable t.old u × (q < 2) × (place < 10) × (step + 1 < 2 ^ 32) }
     requires low_bound { (s.low < 2 ^ 32) × (s.nodes < 2 ^ 32) × (length t.old < 2 ^ 32) }
     ensures { Makes q t.old s u place step t.new result }
 {
     let r = free_from(t, s.low);
     if !has_record(t, r) {
-        return Located { at: 0, stock: s };
+        return None;
     }
     put(t, u, place, (r + 1) as u32);
     put(t, r, Record::PARENT, (u + 1) as u32);
@@ -61,7 +61,7 @@ fn make(t: &mut [u32], q: usize, s: Stock, u: usize, place: usize, step: u32) ->
         nodes: s.nodes + 1,
         low: r + 1,
     };
-    Located { at: r + 1, stock }
+    Some(Located { node: r, stock })
 }
 
 // Party q needs the node v from the step on, unless it does already.
@@ -74,8 +74,16 @@ fn claim(t: &mut [u32], q: usize, v: usize, step: u32)
     }
 }
 
-// The child of u that stands in this word of its record, needed by party q: found, or made for the step.
-pub fn child(t: &mut [u32], q: usize, s: Stock, u: usize, place: usize, step: u32) -> Located
+// The child of u that stands in this word of its record, needed by party q: found, or made for the step. None if the table is
+// full.
+pub fn child(
+    t: &mut [u32],
+    q: usize,
+    s: Stock,
+    u: usize,
+    place: usize,
+    step: u32,
+) -> Option<Located>
     requires in_table { InTable t.old u × (q < 2) × (place < 10) × (step + 1 < 2 ^ 32) }
     requires low_bound { (s.low < 2 ^ 32) × (s.nodes < 2 ^ 32) × (length t.old < 2 ^ 32) }
     requires by_index { (v : ℕ) → words_in t.old u place ≡ suc v → InTable t.old v }
@@ -86,8 +94,8 @@ pub fn child(t: &mut [u32], q: usize, s: Stock, u: usize, place: usize, step: u3
         return make(t, q, s, u, place, step);
     }
     claim(t, q, known - 1, step);
-    Located {
-        at: known,
+    Some(Located {
+        node: known - 1,
         stock: s,
-    }
+    })
 }

@@ -30,6 +30,7 @@ use Rattle.pair_table_laws.proofs.ClimbLaws.{stops_sibling, down_mem, down_reads
 use Rattle.pair_table_laws.proofs.FrameLaws.{at_below}
 use Rattle.pair_table_laws.proofs.LookLaws.{look_known, look_root, settled_above, look_self, look_parent, look_linked}
 use Rattle.pair_table_laws.proofs.RefLaws.{at_ref, ref_at}
+use Rattle.std.specs.Prelude.{None, Option, Some}
 use Rattle.pair_child.specs.declared.Stock.{Stock}
 use Rattle.pair_child.specs.declared.Located.{Located}
 use Rattle.pair_child.specs.Finds.{found, Childed, StockIs, ChildFound, Finds}
@@ -61,68 +62,55 @@ module _ (t : List ℕ) (slots : List Slot) (B : Both) (q : ℕ) (v : Located) (
   abbrev above : List Slot
   above = placed_all slots (path_of (parent_of e))
 
-  pub lift_some : 0 < v.at
-  lift_some = look_some B slots q T (parent_of e) t v.at k.settled.once k.look
-
-  has : At above (v.at - 1) (parent_of e)
-  has = let n : v.at ≡ suc (v.at - 1) = omega (arith, lift_some) in ref_at above (v.at - 1) (parent_of e) (k.look.ref ∙ n)
+  has : At above v.node (parent_of e)
+  has = ref_at above v.node (parent_of e) k.look.ref
 
   settled : SettledIn above (with_party B q T)
   settled = settled_above slots B q known k.settled d s u small pos a k.here k.needed k.none k.deep
 
   -- what the child asks
-  pub lift_in : suc (v.at - 1) * pair_width ≤ length t
-  lift_in = omega (arith, at_below above (v.at - 1) (parent_of e) has, k.look.table.room)
+  pub lift_in : suc v.node * pair_width ≤ length t
+  lift_in = omega (arith, at_below above v.node (parent_of e) has, k.look.table.room)
 
   pub lift_stock : (v.stock.low ≤ length t) × (v.stock.nodes ≤ length t)
   lift_stock = in_use_small v.stock above t k.stock k.look.table.room
 
-  pub lift_child : (w : ℕ) → words_in t (v.at - 1) (child_word (stepped d a)) ≡ suc w → suc w * pair_width ≤ length t
-  lift_child = child_in_lem above B q known T settled t k.look.table e k.deep (v.at - 1) has s
+  pub lift_child : (w : ℕ) → words_in t v.node (child_word (stepped d a)) ≡ suc w → suc w * pair_width ≤ length t
+  lift_child = child_in_lem above B q known T settled t k.look.table e k.deep v.node has s
 
   -- what it answers
-  module _ (t' : List ℕ) (r : Located) (ch : Childed q t v.stock (v.at - 1) (child_word (stepped d a)) s t' r) where
-    child : ChildFound B above q T e s t t' r
-    child = child_found above B q known T settled t k.look.table e k.deep (v.at - 1) has s v.stock k.stock (all_keeps slots (path_of (parent_of e)) 0 root k.top) t' r ch
+  module _ (t' : List ℕ) where
+    child : (r : Option Located) → Childed q t v.stock v.node (child_word (stepped d a)) s t' r → ChildFound B above q T e s t t' r
+    child = child_found above B q known T settled t k.look.table e k.deep v.node has s v.stock k.stock (all_keeps slots (path_of (parent_of e)) 0 root k.top) t'
 
     path_next : placed_all slots (path_of e) ≡ placed above e
     path_next = ap (placed_all slots) (path_of_snoc e k.deep) ∙ all_append slots (path_of (parent_of e)) (e ∷ [])
 
-    pub lift-none : r.at ≡ 0 → Finds B slots q (reached (B q) s a (stepped d a)) (stepped d a) t t' r
-    lift-none z = record {
-      none = λ y. let f = child.none z in no_room_child slots e t k.deep settled.once f.0 f.1;
-      some = λ f. absurd (f z);
-    }
+    pub lift-none : Childed q t v.stock v.node (child_word (stepped d a)) s t' None → Finds B slots q (reached (B q) s a (stepped d a)) (stepped d a) t t' None
+    lift-none ch = let f = child None ch in no_room_child slots e t k.deep settled.once f.0 f.1
 
-    module _ (f : r.at ≡ 0 → ⊥) where
-      look : Look B slots q (grown T e s) e t' r.at
+    module _ (r : Located) (ch : Childed q t v.stock v.node (child_word (stepped d a)) s t' (Some r)) where
+      look : Look B slots q (grown T e s) e t' (suc r.node)
       look =
-          let c = (child.some f).0 in
+          let c = (child (Some r) ch).0 in
           record {
             table = subst (λ (l : List Slot). PairTable t' l (with_party B q (grown T e s))) (sym path_next) c.table;
             ref = ap (λ (l : List Slot). ref_in l e) path_next ∙ c.ref;
           }
 
-      number : r.at ≡ suc (r.at - 1)
-      number = omega (arith, f)
-
       -- both ends lie in the table
-      pub lift-ends : (suc u * pair_width ≤ length t') × (suc (r.at - 1) * pair_width ≤ length t')
+      pub lift-ends : (suc u * pair_width ≤ length t') × (suc r.node * pair_width ≤ length t')
       lift-ends = (
         omega (arith, at_below (placed_all slots (path_of e)) u a (all_keeps slots (path_of e) u a k.here), look.table.room),
-        omega (arith, at_below (placed_all slots (path_of e)) (r.at - 1) e (ref_at (placed_all slots (path_of e)) (r.at - 1) e (look.ref ∙ number)), look.table.room),
+        omega (arith, at_below (placed_all slots (path_of e)) r.node e (ref_at (placed_all slots (path_of e)) r.node e look.ref), look.table.room),
       )
 
-      pub lift-linked : (t'' : List ℕ) → t'' ≡ pair_link_in q t' u (r.at - 1) d s → Finds B slots q (reached (B q) s a (stepped d a)) (stepped d a) t t'' r
-      lift-linked t'' i = record {
-        none = λ z. absurd (f z);
-        some = λ g. (
-          subst (λ (l : List ℕ). Look B slots q (reached (B q) s a e) e l r.at) (sym i)
-              (subst (λ (n : ℕ). Look B slots q (reached (B q) s a e) e (pair_link_in q t' u (r.at - 1) d s) n) (sym number)
-              (look_linked slots B q known k.settled d s u small pos a k.here k.needed k.none k.deep t' (r.at - 1) (subst (Look B slots q (grown T e s) e t') number look))),
-          subst (StockIs r.stock) (sym path_next) (child.some f).1,
-        );
-      }
+      pub lift-linked : (t'' : List ℕ) → t'' ≡ pair_link_in q t' u r.node d s → Finds B slots q (reached (B q) s a (stepped d a)) (stepped d a) t t'' (Some r)
+      lift-linked t'' i = (
+        subst (λ (l : List ℕ). Look B slots q (reached (B q) s a e) e l (suc r.node)) (sym i)
+            (look_linked slots B q known k.settled d s u small pos a k.here k.needed k.none k.deep t' r.node look),
+        subst (StockIs r.stock) (sym path_next) (child (Some r) ch).1,
+      )
 
 -- ---- where the climb stops
 module _ (t : List ℕ) (slots : List Slot) (B : Both) (q u : ℕ) (c : Corner) (stock : Stock) (k : Looks t slots B q u c stock) (known : q < 2) (d s : ℕ) (small : d < 4) (pos : 0 < s) where
@@ -139,51 +127,51 @@ module _ (t : List ℕ) (slots : List Slot) (B : Both) (q u : ℕ) (c : Corner) 
   closed = (stand.settled.sound q known).good.closed
 
   -- a node whose path stands is found in the records that there are
-  found_here : (e : Corner) → Memᴰ e (B q).nodes → (S : State) (t' : List ℕ) (r : Located) → Look B slots q S e t' r.at → r.stock ≡ stock → Finds B slots q S e t t' r
-  found_here e m S t' r l g = record {
-    none = λ z. absurd (omega (arith, look_some B slots q S e t' r.at stand.settled.once l));
-    some = λ f. (l, subst (λ (x : Stock). StockIs x (placed_all slots (path_of e))) (sym g) (subst (StockIs stock) (sym (path_stands slots B q known stand.settled e m)) k.stock));
-  }
+  found_here : (e : Corner) → Memᴰ e (B q).nodes → (S : State) (t' : List ℕ) (v : ℕ) → Look B slots q S e t' (suc v) → Finds B slots q S e t t' (Some (found v stock))
+  found_here e m S t' v l = (l, subst (StockIs stock) (sym (path_stands slots B q known stand.settled e m)) k.stock)
 
   -- linked by this party
-  pub looks_known : (0 < words_in t u (of_party q (link_word d))) → (r : Located) → r ≡ found (words_in t u (neighbour_word d)) stock → Finds B slots q (reached (B q) s c (stepped d c)) (stepped d c) t t r
-  looks_known w r i =
+  pub looks_known : (0 < words_in t u (of_party q (link_word d))) → (w : ℕ) → w ≡ words_in t u (neighbour_word d) → (0 < w) × Finds B slots q (reached (B q) s c (stepped d c)) (stepped d c) t t (Some (found (w - 1) stock))
+  looks_known g w i =
       let l : 0 < (B q).step c to = omega (arith, link_word_lem) in
-      found_here to ((stand.settled.sound q known).good.ends c to l).1 (reached (B q) s c to) t r
-      (subst (Look B slots q (reached (B q) s c to) to t) (sym (ap (λ (x : Located). x.at) i)) (look_known slots B q known stand.settled t stand.table d s u small c stand.here l))
-      (ap (λ (x : Located). x.stock) i)
+      let h : Look B slots q (reached (B q) s c to) to t w = subst (Look B slots q (reached (B q) s c to) to t) (sym i) (look_known slots B q known stand.settled t stand.table d s u small c stand.here l) in
+      let some = look_some B slots q (reached (B q) s c to) to t w stand.settled.once h in
+      let n : w ≡ suc (w - 1) = omega arith in
+      (some, found_here to ((stand.settled.sound q known).good.ends c to l).1 (reached (B q) s c to) t (w - 1) (subst (Look B slots q (reached (B q) s c to) to t) n h))
 
   -- the root
-  pub looks_root : words_in t u (of_party q (link_word d)) ≡ 0 → is_root (stepped d c) ≡ true → (t' : List ℕ) → t' ≡ pair_link_in q t u 0 d s → (r : Located) → r ≡ found 1 stock → Finds B slots q (reached (B q) s c (stepped d c)) (stepped d c) t t' r
-  looks_root w g t' j r i =
+  pub looks_root : words_in t u (of_party q (link_word d)) ≡ 0 → is_root (stepped d c) ≡ true → (t' : List ℕ) → t' ≡ pair_link_in q t u 0 d s → Finds B slots q (reached (B q) s c (stepped d c)) (stepped d c) t t' (Some (found 0 stock))
+  looks_root w g t' j =
       let m : Memᴰ root (B q).nodes = root-mem in
-      found_here to (mathlib.Core.List.Memᴰ.cast (root_is to g) m) (reached (B q) s c to) t' r
-      (subst (λ (x : List ℕ). Look B slots q (reached (B q) s c to) to x r.at) (sym j)
-      (subst (Look B slots q (reached (B q) s c to) to (pair_link_in q t u 0 d s)) (sym (ap (λ (x : Located). x.at) i))
-      (look_root slots B q known stand.settled t stand.table d s u small c stand.here pos (sym link_word_lem ∙ w) g k.top m)))
-      (ap (λ (x : Located). x.stock) i)
+      found_here to (mathlib.Core.List.Memᴰ.cast (root_is to g) m) (reached (B q) s c to) t' 0
+      (subst (λ (x : List ℕ). Look B slots q (reached (B q) s c to) to x 1) (sym j)
+      (look_root slots B q known stand.settled t stand.table d s u small c stand.here pos (sym link_word_lem ∙ w) g k.top m))
     where
       root-mem : Memᴰ root (B q).nodes
       root-mem = rw (stand.settled.sound q known).good.root.1 (mathlib.Core.List.Memᴰ.head refl)
 
   -- the parent of the neighbour: c itself, or the parent that both have
-  pub looks_lift : words_in t u (of_party q (link_word d)) ≡ 0 → is_root (stepped d c) ≡ false → pair_goes_up q t u c d ≡ false → (v : Located) → v ≡ found (cond (is_root c) (u + 1) (words_in t u parent_word)) stock → Lifts t slots B q v u c d s
-  looks_lift w g up v i =
-      let z : (B q).step c to ≡ 0 = sym link_word_lem ∙ w in
-      subst (λ (x : Located). Lifts t slots B q x u c d s) (sym i)
-      record {
-        settled = stand.settled;
-        here = stand.here;
-        needed = stand.needed;
-        none = z;
-        deep = g;
-        look = by (is_root c) refl;
-        top = k.top;
-        stock = subst (StockIs stock) (sym (path_stands slots B q known stand.settled (parent_of to) (mem (is_root c) refl))) k.stock;
-      }
+  pub looks_lift : words_in t u (of_party q (link_word d)) ≡ 0 → is_root (stepped d c) ≡ false → pair_goes_up q t u c d ≡ false → (w : ℕ) → w ≡ cond (is_root c) (u + 1) (words_in t u parent_word) → (0 < w) × Lifts t slots B q (found (w - 1) stock) u c d s
+  looks_lift n g up w i =
+      let z : (B q).step c to ≡ 0 = sym link_word_lem ∙ n in
+      let h : Look B slots q (raised (B q) s c to) (parent_of to) t w = subst (Look B slots q (raised (B q) s c to) (parent_of to) t) (sym i) (by (is_root c) refl) in
+      let some = look_some B slots q (raised (B q) s c to) (parent_of to) t w stand.settled.once h in
+      let m : w ≡ suc (w - 1) = omega arith in (
+        some,
+        record {
+          settled = stand.settled;
+          here = stand.here;
+          needed = stand.needed;
+          none = z;
+          deep = g;
+          look = subst (Look B slots q (raised (B q) s c to) (parent_of to) t) m h;
+          top = k.top;
+          stock = subst (StockIs stock) (sym (path_stands slots B q known stand.settled (parent_of to) (mem (is_root c) refl))) k.stock;
+        },
+      )
     where
       z : (B q).step c to ≡ 0
-      z = sym link_word_lem ∙ w
+      z = sym link_word_lem ∙ n
 
       sibling : is_root c ≡ false → same (parent_of c) (parent_of to) ≡ true
       sibling r = stops_sibling t slots B q known stand.table d small u c stand.here up z g r
@@ -214,29 +202,26 @@ no_room-sinks slots S d c t (suc i) below f =
 
 -- from a climb that stopped
 module _ (t : List ℕ) (slots : List Slot) (B : Both) (q u : ℕ) (c : Corner) (stock : Stock) (k : Looks t slots B q u c stock) (d s level node : ℕ) (at : Corner) (up : Climbed (B q) d c level at) (h : Stands t slots B q node at)
-    (t' : List ℕ) (r : Located) (f : Finds B slots q (reached (B q) s at (stepped d at)) (stepped d at) t t' r) where
-  pub level-none : r.at ≡ 0 → Finds B slots q (reached (B q) s c (stepped d c)) (stepped d c) t t' r
-  level-none z = record {
-    none = λ y. no_room-sinks slots (B q) d c t level up.below (subst (λ (x : Corner). NoRoomFor slots (stepped d x) t) up.above (f.none z));
-    some = λ g. absurd (g z);
-  }
+    (t' : List ℕ) where
+  pub level-none : Finds B slots q (reached (B q) s at (stepped d at)) (stepped d at) t t' None → Finds B slots q (reached (B q) s c (stepped d c)) (stepped d c) t t' None
+  level-none f = no_room-sinks slots (B q) d c t level up.below (subst (λ (x : Corner). NoRoomFor slots (stepped d x) t) up.above f)
 
-  pub level_comes : (r.at ≡ 0 → ⊥) → ComesDown t' slots B q r node c d s level
-  level_comes g = record {
+  pub level_comes : (r : Located) → Finds B slots q (reached (B q) s at (stepped d at)) (stepped d at) t t' (Some r) → ComesDown t' slots B q r node c d s level
+  level_comes r f = record {
     settled = h.settled;
     start = k.stands.needed;
     top = k.top;
     descends = record {
       below = up.below;
       here = subst (At slots node) up.above h.here;
-      look = subst (λ (x : Corner). Look B slots q (reached (B q) s x (stepped d x)) (stepped d x) t' r.at) up.above (f.some g).0;
+      look = subst (λ (x : Corner). Look B slots q (reached (B q) s x (stepped d x)) (stepped d x) t' (suc r.node)) up.above f.0;
     };
-    stock = subst (λ (x : Corner). StockIs r.stock (placed_all slots (path_of (stepped d x)))) up.above (f.some g).1;
+    stock = subst (λ (x : Corner). StockIs r.stock (placed_all slots (path_of (stepped d x)))) up.above f.1;
   }
 
 -- at the end of it
-pub comes_end : (t₀ t : List ℕ) (slots : List Slot) (B : Both) (q : ℕ) (v : Located) (u : ℕ) (c : Corner) (d s : ℕ) → ComesDown t slots B q v u c d s 0 → 0 < v.at → Finds B slots q (reached (B q) s c (stepped d c)) (stepped d c) t₀ t v
-comes_end t₀ t slots B q v u c d s k pos = record { none = λ z. absurd (omega arith); some = λ f. (k.descends.look, k.stock) }
+pub comes_end : (t₀ t : List ℕ) (slots : List Slot) (B : Both) (q : ℕ) (v : Located) (u : ℕ) (c : Corner) (d s : ℕ) → ComesDown t slots B q v u c d s 0 → Finds B slots q (reached (B q) s c (stepped d c)) (stepped d c) t₀ t (Some v)
+comes_end t₀ t slots B q v u c d s k = (k.descends.look, k.stock)
 
 -- a level down
 module _ (t : List ℕ) (slots : List Slot) (B : Both) (q : ℕ) (v : Located) (u : ℕ) (c : Corner) (d s left : ℕ) (k : ComesDown t slots B q v u c d s (suc left)) (known : q < 2) (small : d < 4) (pos : 0 < s) where
@@ -247,7 +232,7 @@ module _ (t : List ℕ) (slots : List Slot) (B : Both) (q : ℕ) (v : Located) (
   apart = k.descends.below left (omega arith)
 
   reads : (at : ℕ) × At slots at b × (words_in t u (child_word b) ≡ suc at)
-  reads = down_reads slots B q known k.settled c d s left small pos t u v.at k.descends k.start
+  reads = down_reads slots B q known k.settled c d s left small pos t u (suc v.node) k.descends k.start
 
   -- its record is read
   pub comes_in : suc u * pair_width ≤ length t
@@ -263,26 +248,23 @@ module _ (t : List ℕ) (slots : List Slot) (B : Both) (q : ℕ) (v : Located) (
     comes_lift = record {
       settled = k.settled;
       here = here;
-      needed = down_mem slots B q known k.settled c d s left small pos t u v.at k.descends k.start;
+      needed = down_mem slots B q known k.settled c d s left small pos t u (suc v.node) k.descends k.start;
       none = apart.none;
       deep = apart.outer;
-      look = down_look slots B q known k.settled c d s left small pos t u v.at k.descends k.start at here;
+      look = down_look slots B q known k.settled c d s left small pos t u (suc v.node) k.descends k.start at here;
       top = k.top;
       stock = subst (λ (x : Corner). StockIs v.stock (placed_all slots (path_of x))) (sym (near (B q) d b apart)) k.stock;
     }
 
-    module _ (t' : List ℕ) (r : Located) (f : Finds B slots q (reached (B q) s (up_by left c) (stepped d (up_by left c))) (stepped d (up_by left c)) t t' r) where
-      pub comes_none : (t₀ : List ℕ) → length t ≡ length t₀ → r.at ≡ 0 → Finds B slots q (reached (B q) s c (stepped d c)) (stepped d c) t₀ t' r
-      comes_none t₀ l z = record {
-        none = λ y. no_room-long slots (stepped d c) t t₀ l (no_room-sinks slots (B q) d c t left (λ j i. k.descends.below j (omega arith)) (f.none z));
-        some = λ g. absurd (g z);
-      }
+    module _ (t' : List ℕ) where
+      pub comes_none : (t₀ : List ℕ) → length t ≡ length t₀ → Finds B slots q (reached (B q) s (up_by left c) (stepped d (up_by left c))) (stepped d (up_by left c)) t t' None → Finds B slots q (reached (B q) s c (stepped d c)) (stepped d c) t₀ t' None
+      comes_none t₀ l f = no_room-long slots (stepped d c) t t₀ l (no_room-sinks slots (B q) d c t left (λ j i. k.descends.below j (omega arith)) f)
 
-      pub comes_next : (r.at ≡ 0 → ⊥) → ComesDown t' slots B q r at c d s left
-      comes_next g = record {
+      pub comes_next : (r : Located) → Finds B slots q (reached (B q) s (up_by left c) (stepped d (up_by left c))) (stepped d (up_by left c)) t t' (Some r) → ComesDown t' slots B q r at c d s left
+      comes_next r f = record {
         settled = k.settled;
         start = k.start;
         top = k.top;
-        descends = down_next slots B q known k.settled c d s left small pos t u v.at k.descends k.start at here t' r.at (f.some g).0;
-        stock = (f.some g).1;
+        descends = down_next slots B q known k.settled c d s left small pos t u (suc v.node) k.descends k.start at here t' (suc r.node) f.0;
+        stock = f.1;
       }

@@ -1,7 +1,7 @@
 -- Where a party stands in a table that two share, and what a lookup from there starts from: at its node, at the level where its
 -- climb stops, and on the way down again.
 -- Assumes nothing.
-use Rattle.std.specs.Prelude.{false, ◌≡◌, ℕ}
+use Rattle.std.specs.Prelude.{false, ◌≡◌, ℕ, suc}
 use mathlib.Core.List.{List, Memᴰ}
 use Rattle.grid.specs.declared.Corner.{Corner}
 use Rattle.grid.specs.Grid.{stepped}
@@ -46,7 +46,7 @@ pub record Lifts (t : List ℕ) (slots : List Slot) (B : Both) (q : ℕ) (v : Lo
   pub needed : Memᴰ a (B q).nodes
   pub none : (B q).step a (stepped d a) ≡ 0
   pub deep : is_root (stepped d a) ≡ false
-  pub look : Look B slots q (raised (B q) s a (stepped d a)) (parent_of (stepped d a)) t v.at
+  pub look : Look B slots q (raised (B q) s a (stepped d a)) (parent_of (stepped d a)) t (suc v.node)
   pub top : At slots 0 root
   pub stock : StockIs v.stock (placed_all slots (path_of (parent_of (stepped d a))))
 
@@ -61,7 +61,7 @@ pub record ComesDown (t : List ℕ) (slots : List Slot) (B : Both) (q : ℕ) (v 
   pub settled : SettledIn slots B
   pub start : Memᴰ c (B q).nodes
   pub top : At slots 0 root
-  pub descends : PairDescends B slots q s c d level t u v.at
+  pub descends : PairDescends B slots q s c d level t u (suc v.node)
   pub stock : StockIs v.stock (placed_all slots (path_of (stepped d (up_by level c))))
 
 pub record Coming (t : List ℕ) (q : ℕ) (v : Located) (u : ℕ) (c : Corner) (d s level : ℕ) : Type 0 where

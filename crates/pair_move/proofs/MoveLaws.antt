@@ -4,7 +4,7 @@ use Rattle.std.specs.Prelude.{None, Some}
 use mathlib.Core.Bool.{Bool, true}
 use mathlib.Core.List.{List, [], ◌∷◌, ◌++◌, Memᴰ}
 use mathlib.Core.Path.{◌≡◌, refl, ap, sym, ◌∙◌, subst}
-use Prim.Native.Nat.{ℕ, zero, suc, ◌+◌, ◌-◌, ◌*◌, ◌<◌, ◌≤◌}
+use Prim.Native.Nat.{ℕ, zero, suc, ◌+◌, ◌*◌, ◌<◌, ◌≤◌}
 use native.Mathlib.Omega.{arith}
 use lib.ListN.{length, length-append}
 use Rattle.answer.specs.Limits.{no_meeting}
@@ -191,35 +191,33 @@ module _ (t : List ℕ) (c e : Corner) (ds es : List ℕ) (slots : List Slot) (q
   }
 
   -- what the lookup answers
-  module _ (d : ℕ) (small : d < 4) (n : ℕ) (i : n ≡ p.steps + 1) (t₁ : List ℕ) (v : Located) (f : Finds (both_of (corners_from c ds) (corners_from e es)) slots q (reached (both_of (corners_from c ds) (corners_from e es) q) n p.at (stepped d p.at)) (stepped d p.at) t t₁ v) where
+  module _ (d : ℕ) (small : d < 4) (n : ℕ) (i : n ≡ p.steps + 1) (t₁ : List ℕ) where
     number : n ≡ suc (length chain)
     number = omega (arith, i, k.party.steps)
 
-    pub moves_full : v.at ≡ 0 → (t' : List ℕ) → PairAdvanced t c e ds es slots q d t' None
-    moves_full z t' = full_after q t c e ds es slots k.walked d small (subst (λ (x : Corner). NoRoomFor slots (stepped d x) t) k.party.corner (f.none z))
+    pub moves_full : Finds (both_of (corners_from c ds) (corners_from e es)) slots q (reached (both_of (corners_from c ds) (corners_from e es) q) n p.at (stepped d p.at)) (stepped d p.at) t t₁ None → (t' : List ℕ) → PairAdvanced t c e ds es slots q d t' None
+    moves_full f t' = full_after q t c e ds es slots k.walked d small (subst (λ (x : Corner). NoRoomFor slots (stepped d x) t) k.party.corner f)
 
-    module _ (g : v.at ≡ 0 → ⊥) where
-      look : Look B slots q (reached (state_of (corners_from start chain)) (suc (length chain)) (end_from start chain) (stepped d (end_from start chain))) (stepped d (end_from start chain)) t₁ (suc (v.at - 1))
+    module _ (v : Located) (f : Finds (both_of (corners_from c ds) (corners_from e es)) slots q (reached (both_of (corners_from c ds) (corners_from e es) q) n p.at (stepped d p.at)) (stepped d p.at) t t₁ (Some v)) where
+      look : Look B slots q (reached (state_of (corners_from start chain)) (suc (length chain)) (end_from start chain) (stepped d (end_from start chain))) (stepped d (end_from start chain)) t₁ (suc v.node)
       look =
-          let j : v.at ≡ suc (v.at - 1) = omega (arith, g) in
-          subst (λ (T : State). Look B slots q (reached T (suc (length chain)) (end_from start chain) (stepped d (end_from start chain))) (stepped d (end_from start chain)) t₁ (suc (v.at - 1))) (own_state q c e ds es)
-          (subst (λ (x : Corner). Look B slots q (reached (B q) (suc (length chain)) x (stepped d x)) (stepped d x) t₁ (suc (v.at - 1))) k.party.corner
-          (subst (λ (m : ℕ). Look B slots q (reached (B q) m p.at (stepped d p.at)) (stepped d p.at) t₁ (suc (v.at - 1))) number
-          (subst (Look B slots q (reached (B q) n p.at (stepped d p.at)) (stepped d p.at) t₁) j (f.some g).0)))
+          subst (λ (T : State). Look B slots q (reached T (suc (length chain)) (end_from start chain) (stepped d (end_from start chain))) (stepped d (end_from start chain)) t₁ (suc v.node)) (own_state q c e ds es)
+          (subst (λ (x : Corner). Look B slots q (reached (B q) (suc (length chain)) x (stepped d x)) (stepped d x) t₁ (suc v.node)) k.party.corner
+          (subst (λ (m : ℕ). Look B slots q (reached (B q) m p.at (stepped d p.at)) (stepped d p.at) t₁ (suc v.node)) number f.0))
 
-      pub moves_arrives : Arrives t₁ slots (both_of (corners_from c ds) (corners_from e es)) q (by_party q c e) (by_party q ds es) p (v.at - 1) d n
+      pub moves_arrives : Arrives t₁ slots (both_of (corners_from c ds) (corners_from e es)) q (by_party q c e) (by_party q ds es) p v.node d n
       moves_arrives = record { once = k.walked.place.once; party = k.party; look = look; number = number }
 
-      pub moves-to : (t₂ : List ℕ) → t₂ ≡ pair_tread_in q (pair_visit_in q t₁ (v.at - 1) n) p.node (v.at - 1) d → (w : Stride)
+      pub moves-to : (t₂ : List ℕ) → t₂ ≡ pair_tread_in q (pair_visit_in q t₁ v.node n) p.node v.node d → (w : Stride)
           → PartyIs (placed_all slots (path_of (stepped d (end_from (by_party q c e) (by_party q ds es))))) (by_party q c e) (by_party q ds es ++ (d ∷ [])) w.party → w.stock ≡ v.stock → PairAdvanced t c e ds es slots q d t₂ (Some w)
       moves-to t₂ j w h o =
           let now = settle slots (needs_of c e (first_after q ds d) (second_after q es d)) in
           let l = slots-after q c e ds es slots d k.walked.place in
           record {
-            walked = subst (λ (x : List ℕ). PairWalked x c e (first_after q ds d) (second_after q es d) now) (ap (λ (m : ℕ). pair_tread_in q (pair_visit_in q t₁ (v.at - 1) m) p.node (v.at - 1) d) (sym number) ∙ sym j)
-                (walked-after q known t c e ds es slots k.walked d small t₁ p.node (v.at - 1) k.party.here look);
+            walked = subst (λ (x : List ℕ). PairWalked x c e (first_after q ds d) (second_after q es d) now) (ap (λ (m : ℕ). pair_tread_in q (pair_visit_in q t₁ v.node m) p.node v.node d) (sym number) ∙ sym j)
+                (walked-after q known t c e ds es slots k.walked d small t₁ p.node v.node k.party.here look);
             party = subst (λ (x : List ℕ). PartyIs now start x w.party) (own-after q ds es d) (subst (λ (x : List Slot). PartyIs x start (chain ++ (d ∷ [])) w.party) l h);
-            stock = subst (λ (x : Stock). StockIs x now) (sym o) (subst (StockIs v.stock) (ap (λ (x : Corner). placed_all slots (path_of (stepped d x))) k.party.corner ∙ l) (f.some g).1);
+            stock = subst (λ (x : Stock). StockIs x now) (sym o) (subst (StockIs v.stock) (ap (λ (x : Corner). placed_all slots (path_of (stepped d x))) k.party.corner ∙ l) f.1);
           }
 
 -- ---- the other party stays where it is: its node is needed after a step and after a take-back

@@ -18,6 +18,7 @@ ghost use Rattle.pair_move.specs.Moves.{first_after, second_after, fresh_party, 
 use grid::Corner;
 use pair_child::Stock;
 use pair_words::{own, word};
+use walk_lookup::Lookup;
 use walk_step::Tally;
 use walk_table::Record;
 
@@ -49,7 +50,7 @@ impl Party {
     }
 }
 
-// A party after an operation, and what is in use then.
+// A party between two operations, and what is in use then.
 #[derive(Clone, Copy)]
 pub struct Stride {
     pub party: Party,
@@ -121,20 +122,23 @@ fn arrive(t: &mut [u32], q: usize, p: Party, v: usize, d: u8, n: usize) -> Party
     }
 }
 
-// One step of party q in the direction d.
-pub fn advance(t: &mut [u32], q: usize, p: Party, s: Stock, d: u8) -> Option<Stride>
-    requires moving { Moving t.old q p s }
-    requires at_bound { (nat_abs p.at.0 < 65536) × (nat_abs p.at.1 < 65536) × (d < 4) × (q < 2) × (p.steps + 1 < no_meeting)
-        × (length t.old < 2 ^ 32) }
-    ensures { (c e : Node) (ds es : List ℕ) (slots : List Slot) → Moves t.old c e ds es slots q p s
+// One step of party q in the direction d. Answers where it stands then, or None if the table is full.
+pub fn advance(t: &mut [u32], q: usize, w: Stride, d: u8) -> Option<Stride>
+    requires moving { Moving t.old q w.party w.stock }
+    requires at_bound { (nat_abs w.party.at.0 < 65536) × (nat_abs w.party.at.1 < 65536) × (d < 4) × (q < 2)
+        × (w.party.steps + 1 < no_meeting) × (length t.old < 2 ^ 32) }
+    ensures { (c e : Node) (ds es : List ℕ) (slots : List Slot) → Moves t.old c e ds es slots q w.party w.stock
         → PairAdvanced t.old c e ds es slots q d t.new result }
 {
-    let n = p.steps + 1;
-    let to = pair_lookup::reach(t, q, s, p.node, p.at, d, n as u32);
-    if to.at == 0 {
-        return None;
-    }
-    let party = arrive(t, q, p, to.at - 1, d, n);
+    let n = w.party.steps + 1;
+    let from = Lookup {
+        node: w.party.node,
+        at: w.party.at,
+        d,
+        step: n as u32,
+    };
+    let to = pair_lookup::reach(t, q, w.stock, from)?;
+    let party = arrive(t, q, w.party, to.node, d, n);
     Some(Stride {
         party,
         stock: to.stock,
@@ -151,17 +155,18 @@ fn origin(t: &[u32], node: usize, d: u8) -> usize
 }
 
 // Party q before its last step, which went in the direction d.
-pub fn withdraw(t: &mut [u32], q: usize, p: Party, s: Stock, d: u8) -> Stride
-    requires withdrawing { Withdrawing t.old q p s d }
-    requires at_bound { (nat_abs p.at.0 < 65536) × (nat_abs p.at.1 < 65536) × (d < 4) × (q < 2) × (p.steps < no_meeting) }
+pub fn withdraw(t: &mut [u32], q: usize, w: Stride, d: u8) -> Stride
+    requires withdrawing { Withdrawing t.old q w.party w.stock d }
+    requires at_bound { (nat_abs w.party.at.0 < 65536) × (nat_abs w.party.at.1 < 65536) × (d < 4) × (q < 2)
+        × (w.party.steps < no_meeting) }
     ensures { (c e : Node) (ds es : List ℕ) (slots : List Slot)
-        → Moves t.old c e (first_after q ds d) (second_after q es d) slots q p s
+        → Moves t.old c e (first_after q ds d) (second_after q es d) slots q w.party w.stock
         → Moves t.new c e ds es (settle slots (needs_of c e ds es)) q result.party result.stock }
 {
-    let n = p.steps;
-    let node = p.node;
-    let here = p.at;
-    let after = p.tally;
+    let n = w.party.steps;
+    let node = w.party.node;
+    let here = w.party.at;
+    let after = w.party.tally;
     let way = d as usize;
     let tally = untallied(after, own(t, q, node, Record::VISITS), n);
     let from = origin(t, node, d);
@@ -169,7 +174,7 @@ pub fn withdraw(t: &mut [u32], q: usize, p: Party, s: Stock, d: u8) -> Stride
     pair_words::untread(t, q, from, node, way);
     pair_words::unvisit(t, q, node);
     pair_back::unlink_up(t, q, from, at, way, n as u32);
-    let stock = pair_back::drop_up(t, q, s, node, here, n as u32);
+    let stock = pair_back::drop_up(t, q, w.stock, node, here, n as u32);
     let party = Party {
         node: from,
         at,

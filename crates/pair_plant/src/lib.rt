@@ -27,35 +27,30 @@ pub fn begin(t: &mut [u32]) -> Stock
     Stock { nodes: 1, low: 1 }
 }
 
-// The nodes from the root down to c, needed by party q from the beginning.
-fn grow(t: &mut [u32], q: usize, s: Stock, c: Corner) -> Located
+// The nodes from the root down to c, needed by party q from the beginning. Answers c, or None if the table is too small.
+fn grow(t: &mut [u32], q: usize, s: Stock, c: Corner) -> Option<Located>
     requires planting { Planting t.old q s }
     requires near { Near c × (q < 2) × (length t.old < 2 ^ 32) }
     ensures { (slots : List Slot) (C : Both) → Plants t.old slots C q s
         → Finds C slots q (planted_of c) c t.old t.new result }
 {
-    let mut to = Located { at: 1, stock: s };
+    let mut to = Located { node: 0, stock: s };
     for left in (0..walk_plant::depth(c)).rev() {
         let place = walk_corner::child_word(walk_corner::up_by(c, left));
-        to = pair_child::child(t, q, to.stock, to.at - 1, place, 0);
-        if to.at == 0 {
-            return to;
-        }
+        to = pair_child::child(t, q, to.stock, to.node, place, 0)?;
     }
-    to
+    Some(to)
 }
 
-// The start c of party q, which needs the root alone: its nodes, and its first visit.
-pub fn plant(t: &mut [u32], q: usize, s: Stock, c: Corner) -> Located
+// The start c of party q, which needs the root alone: its nodes, and its first visit. Answers c, or None if the table is too
+// small.
+pub fn plant(t: &mut [u32], q: usize, s: Stock, c: Corner) -> Option<Located>
     requires planting { Planting t.old q s }
     requires near { Near c × (q < 2) × (length t.old < 2 ^ 32) }
     ensures { (slots : List Slot) (C : Both) → Plants t.old slots C q s
         → Finds C slots q (state_of (c ∷ [])) c t.old t.new result }
 {
-    let to = grow(t, q, s, c);
-    if to.at == 0 {
-        return to;
-    }
-    pair_words::visit(t, q, to.at - 1, 0);
-    to
+    let to = grow(t, q, s, c)?;
+    pair_words::visit(t, q, to.node, 0);
+    Some(to)
 }

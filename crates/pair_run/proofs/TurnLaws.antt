@@ -36,7 +36,7 @@ use Rattle.pair_move.proofs.MoveLaws.{own_state, own-after}
 use Rattle.pair_move.proofs.BackLaws.{back-corner, back-steps}
 use Rattle.pair_change.specs.Counts.{WithStep, SomeStep, Changes}
 use Rattle.pair_change.proofs.WalkedLaws.{step_with, back_with, mark_step, mark-back}
-use Rattle.pair_run.specs.declared.Turn.{Turn}
+use Rattle.pair_run.specs.declared.PairTurn.{PairTurn}
 use Rattle.pair_run.specs.Runs.{first_by, second_by, slots_by, PairKept, PairActed, PairPerformed}
 
 -- ---- by the party: an operation that is a step, and one that takes the last step d back, before which the steps l of that party stand
@@ -120,7 +120,7 @@ module _ (t ch : List ℕ) (c e : Corner) (ds es : List ℕ) (slots : List Slot)
               (n.0, n.1, omega (arith, h.party.steps, keeps.sound.few))
 
           -- both are as after the step, and this many records changed
-          pub step_turned : (x : Turn) → x.stride ≡ w → Changes t' (both_of (corners_from c ds) (corners_from e es)) slots x.changed → length t' ≡ length t → length t % pair_width ≡ 0
+          pub step_turned : (x : PairTurn) → x.stride ≡ w → Changes t' (both_of (corners_from c ds) (corners_from e es)) slots x.changed → length t' ≡ length t → length t % pair_width ≡ 0
               → PairActed (length t) c e ds es slots q d t' (set ch p.steps d) (Some x)
           step_turned x i g l whole =
               let R = pair_records_in (length t) in
@@ -169,7 +169,7 @@ module _ (t ch : List ℕ) (c e : Corner) (ds es : List ℕ) (slots : List Slot)
       turn_some = record { both = both_of (corners_from c xs) (corners_from e ys); slots = settle slots (needs_of c e xs ys); more = slots; start = end_from start (by_party q xs ys); holds = turn_holds; end = turn_corner }
 
       -- both are as before the step, and this many records changed
-      pub back-turned : (t' : List ℕ) (x : Turn)
+      pub back-turned : (t' : List ℕ) (x : PairTurn)
           → Moves t' c e (by_party q (take (p.steps - 1) ch) ds) (by_party q es (take (p.steps - 1) ch)) (settle slots (needs_of c e (by_party q (take (p.steps - 1) ch) ds) (by_party q es (take (p.steps - 1) ch)))) q x.stride.party x.stride.stock
           → Changes t (both_of (corners_from c (by_party q (take (p.steps - 1) ch) ds)) (corners_from e (by_party q es (take (p.steps - 1) ch)))) (settle slots (needs_of c e (by_party q (take (p.steps - 1) ch) ds) (by_party q es (take (p.steps - 1) ch)))) x.changed
           → length t' ≡ length t → length t % pair_width ≡ 0 → (o : ℕ) → o ≡ 4 → PairActed (length t) c e ds es slots q o t' ch (Some x)
@@ -207,11 +207,11 @@ module _ (t ch : List ℕ) (c e : Corner) (ds es : List ℕ) (slots : List Slot)
         ∙ ap₂ (λ (f g : ℕ). set (set (set ms (mark_words * i) f) (suc (mark_words * i)) g) (suc (suc (mark_words * i))) n) kept_nodes seen
 
 -- ---- the same with its mark
-module _ (words : ℕ) (ms : List ℕ) (i : ℕ) (c e : Corner) (ds es : List ℕ) (slots : List Slot) (q : ℕ) (known : q < 2) (o : ℕ) (t ch : List ℕ) (r : Option Turn) (h : PairActed words c e ds es slots q o t ch r) where
+module _ (words : ℕ) (ms : List ℕ) (i : ℕ) (c e : Corner) (ds es : List ℕ) (slots : List Slot) (q : ℕ) (known : q < 2) (o : ℕ) (t ch : List ℕ) (r : Option PairTurn) (h : PairActed words c e ds es slots q o t ch r) where
   pub performed_full : r ≡ None → (ms' : List ℕ) → PairPerformed words ms i c e ds es slots q o t ms' ch (Err (NoRoom i))
   performed_full j ms' = (refl, subst (PairActed words c e ds es slots q o t ch) j h)
 
-  module _ (x : Turn) (j : r ≡ Some x) where
+  module _ (x : PairTurn) (j : r ≡ Some x) where
     turned : PairActed words c e ds es slots q o t ch (Some x)
     turned = subst (PairActed words c e ds es slots q o t ch) j h
 

@@ -1,8 +1,8 @@
 -- Two parties that follow their operations in one table: the steps of each in its chain, and what the run answers. The first has
 -- walked ds from c, the second es from e.
 -- Assumes nothing.
-use Rattle.std.specs.Prelude.{List, [], ◌∷◌, ◌≡◌, ℕ, ◌*◌, ◌<◌, Err, None, Ok, Option, Result, Some, length}
-use Rattle.pair_run.specs.declared.Turn.{Turn}
+use Rattle.std.specs.Prelude.{List, [], ◌∷◌, ◌≡◌, ℕ, ◌*◌, ◌<◌, Err, None, Ok, Option, Result, Some, length, ◌%◌, ◌^◌}
+use Rattle.pair_run.specs.declared.PairTurn.{PairTurn}
 use Rattle.pair_move.specs.declared.Stride.{Stride}
 use Rattle.std.proofs.lemmas.List.Edits.{sets}
 use Rattle.answer.specs.declared.Refusal.{Refusal}
@@ -39,7 +39,7 @@ pub record PairKept (t chain : List ℕ) (c e : Corner) (ds es : List ℕ) (slot
   pub moves : Moves t c e ds es slots q p s
   pub own : ChainKeeps (by_party q c e) chain (by_party q ds es)
 
--- of some walks for which the operation o of party q is not a fault, with space in its chain
+-- of some walks for which the operation o of party q is not a fault, with space in its chain, in a table of whole records
 pub record PairReady (t chain : List ℕ) (q : ℕ) (p : Party) (s : Stock) (o : ℕ) : Type 0 where
   pub first : Corner
   pub second : Corner
@@ -49,6 +49,9 @@ pub record PairReady (t chain : List ℕ) (q : ℕ) (p : Party) (s : Stock) (o :
   pub here : PairKept t chain first second firsts seconds slots q p s
   pub fine : Fine p.steps o
   pub next : (o ≡ 4 → ⊥) → p.steps < length chain
+  pub party : q < 2
+  pub words : length t < 2 ^ 32
+  pub whole : length t % pair_width ≡ 0
 
 -- how many of this many records the operation o of party q changes
 abbrev changes_to : ℕ → Corner → Corner → List Slot → ℕ → List ℕ → List ℕ → ℕ → ℕ
@@ -58,7 +61,7 @@ changes_to records c e slots q ds es o =
 
 -- the answer to operation o of party q, in a table of this many words: both after it, and how many records it changed; or the
 -- nodes that both then need are more than the records
-abbrev pub PairActed : ℕ → Corner → Corner → List ℕ → List ℕ → List Slot → ℕ → ℕ → List ℕ → List ℕ → Option Turn → Type 0
+abbrev pub PairActed : ℕ → Corner → Corner → List ℕ → List ℕ → List Slot → ℕ → ℕ → List ℕ → List ℕ → Option PairTurn → Type 0
 PairActed words c e ds es slots q o t chain (Some x) =
     PairKept t chain c e (first_by q ds o) (second_by q es o) (slots_by c e slots q ds es o) q x.stride.party x.stride.stock
     × (length t ≡ words)

@@ -29,40 +29,38 @@ pub struct Pair {
 
 // A party after an operation, what is in use then, and how many records changed.
 #[derive(Clone, Copy)]
-struct Turn {
+struct PairTurn {
     stride: Stride,
     changed: u32,
 }
 
-// A step of party q.
-fn step(t: &mut [u32], chain: &mut [u8], q: usize, p: Party, s: Stock, d: u8) -> Option<Turn>
-    requires pair_ready { PairReady t.old chain.old q p s d × (d < 4) }
-    requires q_bound { (q < 2) × (length t.old < 2 ^ 32) × (length t.old % pair_width ≡ 0) }
+// A step of party q. None if the table is full.
+fn step(t: &mut [u32], chain: &mut [u8], q: usize, w: Stride, d: u8) -> Option<PairTurn>
+    requires { PairReady t.old chain.old q w.party w.stock d × (d < 4) }
     ensures { (c e : Node) (ds es : List ℕ) (slots : List Slot)
-        → PairKept t.old chain.old c e ds es slots q p s
+        → PairKept t.old chain.old c e ds es slots q w.party w.stock
         → PairActed (length t.old) c e ds es slots q d t.new chain.new result }
 {
-    chain[p.steps] = d;
-    let stride = pair_move::advance(t, q, p, s, d)?;
+    chain[w.party.steps] = d;
+    let stride = pair_move::advance(t, q, w, d)?;
     let changed = pair_change::changed(t, q, stride.party, d);
-    Some(Turn { stride, changed })
+    Some(PairTurn { stride, changed })
 }
 
-// One operation of party q: 4 takes its last surviving step back, any other is a step.
-fn apply(t: &mut [u32], chain: &mut [u8], q: usize, p: Party, s: Stock, op: u8) -> Option<Turn>
-    requires pair_ready { PairReady t.old chain.old q p s op }
-    requires q_bound { (q < 2) × (length t.old < 2 ^ 32) × (length t.old % pair_width ≡ 0) }
+// One operation of party q: 4 takes its last surviving step back, any other is a step. None if the table is full.
+fn apply(t: &mut [u32], chain: &mut [u8], q: usize, w: Stride, op: u8) -> Option<PairTurn>
+    requires { PairReady t.old chain.old q w.party w.stock op }
     ensures { (c e : Node) (ds es : List ℕ) (slots : List Slot)
-        → PairKept t.old chain.old c e ds es slots q p s
+        → PairKept t.old chain.old c e ds es slots q w.party w.stock
         → PairActed (length t.old) c e ds es slots q op t.new chain.new result }
 {
     if op != 4 {
-        return step(t, chain, q, p, s, op);
+        return step(t, chain, q, w, op);
     }
-    let d = chain[p.steps - 1];
-    let changed = pair_change::changed(t, q, p, d);
-    let stride = pair_move::withdraw(t, q, p, s, d);
-    Some(Turn { stride, changed })
+    let d = chain[w.party.steps - 1];
+    let changed = pair_change::changed(t, q, w.party, d);
+    let stride = pair_move::withdraw(t, q, w, d);
+    Some(PairTurn { stride, changed })
 }
 
 // The mark at place i: the nodes in use, the visits of party q at the corner that it stands on, and the records that changed.
@@ -77,32 +75,29 @@ fn mark(t: &[u32], marks: &mut [u32], q: usize, x: Stride, i: usize, changed: u3
     marks[Walk::MARK_WORDS * i + 2] = changed;
 }
 
-// One operation of party q at place i: done, and then marked; or refused, if the table is too small for it.
+// One operation of party q at place i: done, and then marked. Refuses it, as "no room", if the table is full.
 fn perform(
     t: &mut [u32],
     marks: &mut [u32],
     chain: &mut [u8],
     q: usize,
-    p: Party,
-    s: Stock,
+    w: Stride,
     op: u8,
     i: usize,
 ) -> Result<Stride, Refusal>
-    requires pair_ready { PairReady t.old chain.old q p s op }
-    requires q_bound { (q < 2) × (length t.old < 2 ^ 32) × (length t.old % pair_width ≡ 0) }
-    requires i_in_bounds { (mark_words * suc i ≤ length marks.old) × (i < 2 ^ 32) }
+    requires { PairReady t.old chain.old q w.party w.stock op × (mark_words * suc i ≤ length marks.old) × (i < 2 ^ 32) }
     ensures { (c e : Node) (ds es : List ℕ) (slots : List Slot)
-        → PairKept t.old chain.old c e ds es slots q p s
+        → PairKept t.old chain.old c e ds es slots q w.party w.stock
         → PairPerformed (length t.old) marks.old i c e ds es slots q op t.new marks.new
         chain.new result }
 {
-    let x = apply(t, chain, q, p, s, op).ok_or(Refusal::NoRoom(i))?;
+    let x = apply(t, chain, q, w, op).ok_or(Refusal::NoRoom(i))?;
     mark(t, marks, q, x.stride, i, x.changed);
     Ok(x.stride)
 }
 
-// All operations, one after the other, from the table of both parties with no step; or "no room" at the first for which the table
-// is too small.
+// All operations, one after the other, from the table of both parties with no step. Refuses the first for which the table is too
+// small, as "no room".
 pub fn run(
     ops: &[u8],
     t: &mut [u32],
@@ -123,11 +118,13 @@ pub fn run(
     let mut stock = start.stock;
     for (i, &op) in ops.iter().enumerate() {
         if op < 16 {
-            let x = perform(t, marks, first, 0, one, stock, op, i)?;
+            let w = Stride { party: one, stock };
+            let x = perform(t, marks, first, 0, w, op, i)?;
             one = x.party;
             stock = x.stock;
         } else {
-            let x = perform(t, marks, second, 1, two, stock, op - 16, i)?;
+            let w = Stride { party: two, stock };
+            let x = perform(t, marks, second, 1, w, op - 16, i)?;
             two = x.party;
             stock = x.stock;
         }

@@ -19,30 +19,6 @@ use polygon_ring_take::{corner, judge, number, order, point};
 // Stands for any number of steps above 16,384.
 const MANY: usize = Limits::MOST_STEPS + 1;
 
-// What the first point is as a corner.
-fn first_at(points: &[u8], little: bool) -> Option<Corner>
-    requires { 16 ≤ length points.now }
-    ensures { result ≡ point_at little points.now 0 }
-{
-    judge(point(points, little), Point::MOST_FIRST)
-}
-
-// What point i is as a corner, if it is not the first.
-fn later_at(points: &[u8], little: bool, i: usize) -> Option<Corner>
-    requires { (0 < i) × (16 * (i + 1) ≤ length points.now) }
-    ensures { result ≡ point_at little points.now i }
-{
-    judge(point(&points[16 * i..], little), Point::MOST)
-}
-
-// The corner that point i is, if it was accepted before.
-fn corner_at(points: &[u8], little: bool, i: usize) -> Corner
-    requires { (0 < i) × (16 * (i + 1) ≤ length points.now) × (is_faulty (point_at «little» points.now i) ≡ false) }
-    ensures { result ≡ corner_in (point_at little points.now i) }
-{
-    corner(&points[16 * i..], little)
-}
-
 fn equal(x: i32, y: i32) -> bool
     ensures { result ≡ eq_z x y }
 {
@@ -125,27 +101,6 @@ fn closed(n: usize, line: bool, first: Corner, last: Corner, steps: usize) -> Re
     })
 }
 
-// Judges the n points and their neighbours, and adds up how far apart they are. Refuses 16 and 17.
-fn measure(points: &[u8], little: bool, n: usize) -> Result<Found, Refusal>
-    requires { 16 * n ≤ length points.now }
-    ensures { result ≡ measured_of (points_from little points.now 0 n) }
-{
-    if n == 0 {
-        return Err(Refusal::BadRing);
-    }
-    let first = first_at(points, little).ok_or(Refusal::BadCoordinate)?;
-    let mut a = first;
-    let mut line = true;
-    let mut steps = 0;
-    for i in 1..n {
-        let b = later_at(points, little, i).ok_or(Refusal::BadCoordinate)?;
-        line = goes_on(line, a, b);
-        steps = cap(steps + distance(a, b));
-        a = b;
-    }
-    closed(n, line, first, a, steps)
-}
-
 // Writes n times d at the start of buf.
 fn fill(buf: &mut [u8], d: u8, n: usize)
     requires { n ≤ length buf.old }
@@ -154,39 +109,95 @@ fn fill(buf: &mut [u8], d: u8, n: usize)
     buf[..n].fill(d);
 }
 
-// Writes the steps along the n points, which were accepted before, at the start of out: the part that is left is lent for each
-// pair of neighbours.
-fn put_chain(points: &[u8], little: bool, n: usize, start: Corner, out: &mut [u8])
-    requires { (16 * n ≤ length points.now) × (0 < n) × (length_of (ring_from little points.now 0 n) ≤ length out.old)
-        × (any is_faulty (points_from little points.now 0 n) ≡ false) × (start ≡ corner_in (point_at little points.now 0)) }
-    ensures { out.new ≡ chain_of_points (ring_from little points.now 0 n)
-        ++ drop (length_of (ring_from little points.now 0 n)) out.old }
-{
-    let mut a = start;
-    let mut at = 0;
-    for i in 1..n {
-        let b = corner_at(points, little, i);
-        let k = distance(a, b);
-        fill(&mut out[at..], direction(a, b), k);
-        at += k;
-        a = b;
-    }
+// The points of a file in this byte order, counted before: there are at least sixteen bytes for each.
+#[derive(Clone, Copy)]
+struct Points<'a> {
+    bytes: &'a [u8],
+    little: bool,
+    n: usize,
+    ghost whole: { 16 * n ≤ length bytes.now },
 }
 
-// Judges the n points, and answers start and number of steps. Refuses 16, 17, 6 and 18.
-fn survey(points: &[u8], little: bool, n: usize, size: usize) -> Result<Found, Refusal>
-    requires { 16 * n ≤ length points.now }
-    ensures { result
-        ≡ given_of (ring_judged (points_from little points.now 0 n) size) (ring_from little points.now 0 n) }
-{
-    let found = measure(points, little, n)?;
-    if found.steps > Limits::MOST_STEPS {
-        return Err(Refusal::TooLong(Limits::MOST_STEPS));
+impl<'a> Points<'a> {
+    // What the first point is as a corner.
+    fn first(&self) -> Option<Corner>
+        requires { 0 < self.now.n }
+        ensures { result ≡ point_at self.now.little self.now.bytes.now 0 }
+    {
+        judge(point(self.bytes, self.little), Point::MOST_FIRST)
     }
-    if size < found.steps {
-        return Err(Refusal::ChainRoom);
+
+    // What point i is as a corner, if it is not the first.
+    fn later(&self, i: usize) -> Option<Corner>
+        requires { (0 < i) × (i < self.now.n) }
+        ensures { result ≡ point_at self.now.little self.now.bytes.now i }
+    {
+        judge(point(&self.bytes[16 * i..], self.little), Point::MOST)
     }
-    Ok(found)
+
+    // The corner that point i is, if it was accepted before.
+    fn corner(&self, i: usize) -> Corner
+        requires { (0 < i) × (i < self.now.n) × (is_faulty (point_at self.now.little self.now.bytes.now i) ≡ false) }
+        ensures { result ≡ corner_in (point_at self.now.little self.now.bytes.now i) }
+    {
+        corner(&self.bytes[16 * i..], self.little)
+    }
+
+    // Judges the points and their neighbours, and adds up how far apart they are. Refuses 16 and 17.
+    fn measure(&self) -> Result<Found, Refusal>
+        ensures { result ≡ measured_of (points_from self.now.little self.now.bytes.now 0 self.now.n) }
+    {
+        if self.n == 0 {
+            return Err(Refusal::BadRing);
+        }
+        let first = self.first().ok_or(Refusal::BadCoordinate)?;
+        let mut a = first;
+        let mut line = true;
+        let mut steps = 0;
+        for i in 1..self.n {
+            let b = self.later(i).ok_or(Refusal::BadCoordinate)?;
+            line = goes_on(line, a, b);
+            steps = cap(steps + distance(a, b));
+            a = b;
+        }
+        closed(self.n, line, first, a, steps)
+    }
+
+    // Judges the points, and answers start and number of steps. Refuses 16, 17, 6 and 18.
+    fn survey(&self, size: usize) -> Result<Found, Refusal>
+        ensures { result
+            ≡ given_of (ring_judged (points_from self.now.little self.now.bytes.now 0 self.now.n) size)
+            (ring_from self.now.little self.now.bytes.now 0 self.now.n) }
+    {
+        let found = self.measure()?;
+        if found.steps > Limits::MOST_STEPS {
+            return Err(Refusal::TooLong(Limits::MOST_STEPS));
+        }
+        if size < found.steps {
+            return Err(Refusal::ChainRoom);
+        }
+        Ok(found)
+    }
+
+    // Writes the steps along the points, which were accepted before, at the start of out: the part that is left is lent for each
+    // pair of neighbours.
+    fn put_chain(&self, start: Corner, out: &mut [u8])
+        requires { (0 < self.now.n) × (length_of (ring_from self.now.little self.now.bytes.now 0 self.now.n) ≤ length out.old)
+            × (any is_faulty (points_from self.now.little self.now.bytes.now 0 self.now.n) ≡ false)
+            × (start ≡ corner_in (point_at self.now.little self.now.bytes.now 0)) }
+        ensures { out.new ≡ chain_of_points (ring_from self.now.little self.now.bytes.now 0 self.now.n)
+            ++ drop (length_of (ring_from self.now.little self.now.bytes.now 0 self.now.n)) out.old }
+    {
+        let mut a = start;
+        let mut at = 0;
+        for i in 1..self.n {
+            let b = self.corner(i);
+            let k = distance(a, b);
+            fill(&mut out[at..], direction(a, b), k);
+            at += k;
+            a = b;
+        }
+    }
 }
 
 // Whether the file has thirteen bytes and sixteen for each point counted. The product is not taken: it might not fit.
@@ -210,9 +221,13 @@ fn read_in(file: &[u8], little: bool, chain: &mut [u8]) -> Result<Found, Refusal
     if !is_whole(file, little) {
         return Err(Refusal::FileLength);
     }
-    let n = (file.len() - 13) / 16;
-    let found = survey(&file[13..], little, n, chain.len())?;
-    put_chain(&file[13..], little, n, found.start, chain);
+    let points = Points {
+        bytes: &file[13..],
+        little,
+        n: (file.len() - 13) / 16,
+    };
+    let found = points.survey(chain.len())?;
+    points.put_chain(found.start, chain);
     Ok(found)
 }
 

@@ -15,7 +15,7 @@ ghost use Rattle.polygon_ring_laws.specs.Fields.{float_kept, bits_kept, digits_i
 use grid::Corner;
 use polygon_ring::{Order, Point};
 
-// The byte order of the polygon s, by its first nine bytes.
+// The byte order of the polygon s, by its first nine bytes; None if they begin no polygon of one ring in either order.
 pub fn order(s: &[u8]) -> Option<Order>
     ensures { result ≡ order_of s.now }
 {
@@ -137,7 +137,8 @@ fn signed(n: u64, below: bool) -> i32
     if below { -k } else { k }
 }
 
-// The coordinate that x is: its bits are those of 600 times a whole number.
+// The coordinate that x is: its bits are those of 600 times a whole number. None if they are not, or if the number lies more than
+// `most` from 0.
 fn whole_of(x: f64, most: u64) -> Option<i32>
     requires { (most ≤ farthest) × T (not (is_nan x)) }
     ensures { result ≡ whole_of most x }
@@ -161,7 +162,7 @@ fn whole_of(x: f64, most: u64) -> Option<i32>
     }
 }
 
-// What the point p is as a corner.
+// What the point p is as a corner; None if one of its numbers is not a coordinate, or lies more than `most` from 0.
 pub fn judge(p: Point, most: u64) -> Option<Corner>
     requires { (most ≤ farthest) × T (not (is_nan p.x)) × T (not (is_nan p.y)) }
     ensures { result ≡ both (whole_of most p.x) (whole_of most p.y) }

@@ -11,22 +11,6 @@ ghost use Rattle.row_bucket_laws.specs.Buckets.{Line, LineDone, Sheet, SheetDone
 
 use grid::{Corner, Panel};
 
-// The panel after the edge that stands n steps east of base.
-fn first_panel(base: Corner, n: u16) -> Panel
-    requires { nat_abs base.0 ≤ most_start + 65535 }
-    ensures { result ≡ panel_at (corner (base.0 +ℤ pos n) base.1) }
-{
-    Panel(base.0 + i32::from(n), base.1)
-}
-
-// The panel before it.
-fn last_panel(base: Corner, n: u16) -> Panel
-    requires { nat_abs base.0 ≤ most_start + 65535 }
-    ensures { result ≡ panel_at (corner (pred_ℤ (base.0 +ℤ pos n)) base.1) }
-{
-    Panel(base.0 + i32::from(n) - 1, base.1)
-}
-
 // Writes the span from a panel to another of its row.
 fn put_panels(out: &mut [i32], o: usize, first: Panel, last: Panel)
     requires { o + 2 < length out.old }
@@ -37,29 +21,52 @@ fn put_panels(out: &mut [i32], o: usize, first: Panel, last: Panel)
     out[o + 2] = last.0;
 }
 
-// Writes the span between the edges a and b of the row that begins at base.
-fn put_span(out: &mut [i32], o: usize, base: Corner, a: u16, b: u16)
-    requires { (o + 2 < length out.old) × (nat_abs base.0 ≤ most_start + 65535) }
-    ensures { out.new
-        ≡ sets out.old o (base.1 ∷ (base.0 +ℤ pos a) ∷ pred_ℤ (base.0 +ℤ pos b) ∷ []) }
-{
-    put_panels(out, o, first_panel(base, a), last_panel(base, b));
+// The corner where a row begins. Panels up to 65,535 steps east of it are counted from it.
+#[derive(Clone, Copy)]
+struct Base {
+    at: Corner,
+    ghost near: { nat_abs at.0 ≤ most_start + 65535 },
 }
 
-// Writes the spans of the row that begins at base from number o on, and answers where they end.
-fn put_row(out: &mut [i32], o: usize, base: Corner, first: u16, next: &[u16], at: &[u16]) -> usize
-    requires { Line next.now at.now o (length out.old) first × (nat_abs base.0 ≤ most_start + 65535) }
-    ensures { LineDone next.now at.now base first out.old o result out.new }
-{
-    let mut p = usize::from(first);
-    let mut to = o;
-    while p > 0 {
-        let q = usize::from(next[p - 1]);
-        put_span(out, to, base, at[p - 1], at[q - 1]);
-        to += 3;
-        p = usize::from(next[q - 1]);
+impl Base {
+    // The panel after the edge that stands n steps east.
+    fn first_panel(self, n: u16) -> Panel
+        ensures { result ≡ panel_at (corner (self.at.0 +ℤ pos n) self.at.1) }
+    {
+        Panel(self.at.0 + i32::from(n), self.at.1)
     }
-    to
+
+    // The panel before it.
+    fn last_panel(self, n: u16) -> Panel
+        ensures { result ≡ panel_at (corner (pred_ℤ (self.at.0 +ℤ pos n)) self.at.1) }
+    {
+        Panel(self.at.0 + i32::from(n) - 1, self.at.1)
+    }
+
+    // Writes the span between the edges a and b of the row.
+    fn put_span(self, out: &mut [i32], o: usize, a: u16, b: u16)
+        requires { o + 2 < length out.old }
+        ensures { out.new
+            ≡ sets out.old o (self.at.1 ∷ (self.at.0 +ℤ pos a) ∷ pred_ℤ (self.at.0 +ℤ pos b) ∷ []) }
+    {
+        put_panels(out, o, self.first_panel(a), self.last_panel(b));
+    }
+
+    // Writes the spans of the row from number o on, and answers where they end.
+    fn put_row(self, out: &mut [i32], o: usize, first: u16, next: &[u16], at: &[u16]) -> usize
+        requires { Line next.now at.now o (length out.old) first }
+        ensures { LineDone next.now at.now self.at first out.old o result out.new }
+    {
+        let mut p = usize::from(first);
+        let mut to = o;
+        while p > 0 {
+            let q = usize::from(next[p - 1]);
+            self.put_span(out, to, at[p - 1], at[q - 1]);
+            to += 3;
+            p = usize::from(next[q - 1]);
+        }
+        to
+    }
 }
 
 // The coordinate at place n, if z stands at m.
@@ -95,7 +102,8 @@ pub fn put_rows(
 {
     let mut o = 0;
     for h in 0..end {
-        let base = row_base(start, m, h);
-        o = put_row(out, o, base, row[h], next, at);
+        let corner = row_base(start, m, h);
+        let base = Base { at: corner };
+        o = base.put_row(out, o, row[h], next, at);
     }
 }

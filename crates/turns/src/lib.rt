@@ -27,8 +27,8 @@ impl Heading {
         ensures { (result ≡ digit_by way self.0 x) × (result < 4) }
     {
         match way {
-            Way::ToTurns => std::num::wrapping_sub_u8(x, self.0) % 4,
-            Way::ToSteps => std::num::wrapping_add_u8(self.0, x) % 4,
+            Way::ToTurns => x.wrapping_sub(self.0) % 4,
+            Way::ToSteps => self.0.wrapping_add(x) % 4,
         }
     }
 }

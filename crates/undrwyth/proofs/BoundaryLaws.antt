@@ -1,15 +1,18 @@
--- The numbers that cross the boundary fit 32 bits.
+-- A corner and the numbers that cross the boundary fit 32 bits.
 -- Assumes nothing.
 use Rattle.std.specs.Prelude.{Err, Ok}
 use mathlib.Core.Bool.{Bool, true, false, not}
 use mathlib.Core.List.{List, [], ◌∷◌}
-use mathlib.Core.Path.{◌≡◌, refl, ap, sym, ◌∙◌, subst}
+use mathlib.Core.Path.{◌≡◌, refl, ap, ap₂, sym, ◌∙◌, subst}
 use Prim.Native.Nat.{ℕ, suc, ◌+◌, ◌*◌, ◌^◌, ◌<◌, ◌≤◌}
 use native.Mathlib.Omega.{arith}
 use borrow.Author.Tests.{ltb-false}
 use lib.Dec.{eqb, ltb}
 use lib.IntN.{ℤ}
 use lib.ListN.{length}
+use mir.Syntax.{w32}
+use mir.Val.{SFits, to_z, of_z}
+use mir.ValLaws.{to_z-of_z}
 use Rattle.polygon_ring.specs.Answers.{Given}
 use Rattle.overlay.specs.Answers.{Overlaid}
 use Rattle.orthogonal.specs.Answers.{Orthogonal}
@@ -19,6 +22,7 @@ use Rattle.answer.specs.Limits.{most_input, most_steps, start_fits}
 use Rattle.answer.specs.Refusal.{when, or_else, first_of, judged_place}
 use Rattle.walk.specs.Walk.{walk_judged, facts_of, answer_by, WalkIs}
 use Rattle.grid.specs.declared.Corner.{Corner}
+use Rattle.grid.specs.Grid.{corner}
 use Rattle.hull.specs.Call.{hull_judged, HullCall}
 use Rattle.steps.specs.Chain.{chain_judged, as_walk_judged}
 use Rattle.steps.proofs.ChainLaws.{good_walk}
@@ -52,6 +56,10 @@ use Rattle.pair_steps.specs.Parties.{steps_by}
 use Rattle.pair.specs.Call.{pair_facts_of, pair_answer_by, PairLent, pair_judged_in, PairIs}
 use Rattle.pair_laws.proofs.SmallLaws.{pair_placed, pair_few}
 use Rattle.undrwyth_words.specs.Words.{AnswerFits, PairAnswerFits, CountedFits, GivenFits, MeasureFits, MeasuresFit, OverlaidFits, EnclosedFits, OrthogonalFits}
+
+-- a corner whose coordinates fit 32 bits is read as it was written
+pub same_corner : {x y : ℤ} → SFits w32 x → SFits w32 y → corner (to_z w32 (of_z w32 x)) (to_z w32 (of_z w32 y)) ≡ corner x y
+same_corner {x} {y} f g = ap₂ corner (to_z-of_z w32 x f) (to_z-of_z w32 y g)
 
 place_fits : (j : Judged) → Placed most_input j → judged_place j < 2 ^ 32
 place_fits (Ok _) p = omega arith

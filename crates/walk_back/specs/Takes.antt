@@ -1,6 +1,6 @@
 -- What a take-back finds in the table, and what it leaves there.
 -- Assumes nothing.
-use Rattle.std.specs.Prelude.{List, Option, None, Some, ◌≡◌, ℕ, ◌+◌, ◌-◌, ◌*◌, ◌<◌, ◌≤◌, length, get_or}
+use Rattle.std.specs.Prelude.{List, ◌≡◌, ℕ, ◌-◌, ◌*◌, ◌<◌, ◌≤◌, length, get_or}
 use Rattle.grid.specs.declared.Corner.{Corner}
 use Rattle.grid.specs.Grid.{same}
 use Rattle.grid.specs.Tree.{path_of}
@@ -8,11 +8,6 @@ use Rattle.layout.specs.Table.{width, word_at, HasRecord, parent_word, neighbour
 use Rattle.lists.specs.Lists.{gather}
 use Rattle.tree_laws.specs.State.{State, Sound, UnlinkAt, DropAt}
 use Rattle.table_laws.specs.Model.{unset_in}
-
--- the ref of a node that there may be: 0 if there is none
-abbrev pub ref_by : Option ℕ → ℕ
-ref_by None = 0
-ref_by (Some u) = u + 1
 
 -- u is a node in the table, and so is its neighbour in the direction d if the two are linked
 pub record Joined (t : List ℕ) (u d : ℕ) : Type 0 where

@@ -7,7 +7,8 @@ ghost use Rattle.grid.specs.declared.Corner.{Corner as Node};
 ghost use Rattle.grid.specs.Tree.{child_word};
 ghost use Rattle.layout.specs.Table.{width, word_at, parent_word};
 ghost use Rattle.tree_laws.specs.State.{State, unlinking, table_by};
-ghost use Rattle.walk_back.specs.Takes.{ref_by, Joined, Cleared, Unlinks, Unlinkable, Newest, Drops, Droppable};
+ghost use Rattle.walk_table.specs.Refs.{ref_by};
+ghost use Rattle.walk_back.specs.Takes.{Joined, Cleared, Unlinks, Unlinkable, Newest, Drops, Droppable};
 
 use grid::Corner;
 use walk_table::{Record, put, word};

@@ -5,7 +5,7 @@ use mathlib.Core.Bool.{Bool, true, false}
 use mathlib.Core.List.{List, [], ◌∷◌, ◌++◌}
 use mathlib.Core.Logic.{◌⊎◌, inl, inr}
 use mathlib.Core.Path.{◌≡◌, refl, ap, ap₂, sym, subst, ◌∙◌}
-use Prim.Native.Nat.{ℕ, suc, pred, ◌-◌, ◌*◌, ◌<◌, ◌≤◌}
+use Prim.Native.Nat.{ℕ, suc, ◌+◌, pred, ◌-◌, ◌*◌, ◌<◌, ◌≤◌}
 use native.Mathlib.Decide.{dec_lt}
 use native.Mathlib.Omega.{arith}
 use lib.Dec.{ltb}
@@ -57,8 +57,8 @@ starts : (c : Corner) → 0 < length (nodes_of (corners_from c []))
 starts c = let h = nodes_of-first c [] in omega (arith, ap length h.1)
 
 -- the table is too small for it: refused before the first operation, and the table is cleared
-pub planted_full : (words : ℕ) (c : Corner) (os t : List ℕ) (r : ℕ) → Planted words c t r → r ≡ 0 → (room_from (records_in words) c 0 [] os ≡ Err (NoRoom 0)) × (t ≡ replicate words 0)
-planted_full words c os t r k e = elim (dec_lt words (width * n)) [
+pub planted_full : (words : ℕ) (c : Corner) (os t : List ℕ) → Planted words c t 0 → (room_from (records_in words) c 0 [] os ≡ Err (NoRoom 0)) × (t ≡ replicate words 0)
+planted_full words c os t k = elim (dec_lt words (width * n)) [
   | yes h ↦ (room_full (records_in words) c 0 [] os (over words n h), (k.full h).1)
   | no h ↦ absurd (omega (arith, (k.fits (omega arith)).1, starts c))
 ]
@@ -70,18 +70,18 @@ planted_full words c os t r k e = elim (dec_lt words (width * n)) [
     over a n p = omega arith
 
 -- planted: the walk stands there
-pub planted_walked : (c : Corner) (t₀ t : List ℕ) (r : ℕ) → Planted (length t₀) c t r → length t ≡ length t₀ → (r ≡ 0 → ⊥) → Walked t c [] (fresh c (r - 1)).spot
-planted_walked c t₀ t r k l f = elim (dec_lt (length t₀) (width * n)) [ yes h ↦ absurd (f (k.full h).0) | no h ↦ at (k.fits (omega arith)) (omega arith) ]
+pub planted_walked : (c : Corner) (t₀ t : List ℕ) (u : ℕ) → Planted (length t₀) c t (u + 1) → length t ≡ length t₀ → Walked t c [] (fresh c u).spot
+planted_walked c t₀ t u k l = elim (dec_lt (length t₀) (width * n)) [ yes h ↦ absurd (omega (arith, (k.full h).0)) | no h ↦ at (k.fits (omega arith)) (omega arith) ]
   where
     n : ℕ
     n = length (nodes_of (corners_from c []))
 
-    at : (t ≡ table_of (length t₀) c []) × (r ≡ n) × (r ≡ ref_of (nodes_of (corners_from c [])) c) → width * n ≤ length t₀ → Walked t c [] (fresh c (r - 1)).spot
+    at : (t ≡ table_of (length t₀) c []) × (u + 1 ≡ n) × (u + 1 ≡ ref_of (nodes_of (corners_from c [])) c) → width * n ≤ length t₀ → Walked t c [] (fresh c u).spot
     at g h = record {
       whole = g.0 ∙ ap (λ (m : ℕ). table_of m c []) (sym l);
-      count = omega (arith, g.1, starts c);
-      room = omega (arith, g.1, starts c);
-      here = let e : r ≡ suc (r - 1) = omega (arith, g.1, starts c) in sym g.2 ∙ e;
+      count = omega (arith, g.1);
+      room = omega (arith, g.1);
+      here = let e : u + 1 ≡ suc u = omega arith in sym g.2 ∙ e;
       corner = refl;
       steps = refl;
     }

@@ -1,14 +1,10 @@
 // The walk: any operations, judged in a lent table.
 #![tactic(auto)]
 
-ghost use Rattle.std.specs.Prelude.{[], ◌≡◌, ◌*◌, ◌^◌, ◌<◌, ◌≤◌, length, Ok, replicate};
+ghost use Rattle.std.specs.Prelude.{◌≡◌, length, Ok, replicate};
 ghost use Rattle.walk.specs.Walk.{WalkIs};
-ghost use Rattle.answer.specs.Limits.{most_input, Near};
-ghost use Rattle.layout.specs.Marks.{mark_words};
 ghost use Rattle.walk_input.specs.Input.{input_judged};
-ghost use Rattle.walk_step.specs.Spots.{Walked};
-ghost use Rattle.walk_step.specs.Walks.{fresh};
-ghost use Rattle.steps.specs.Operations.{operations_judged};
+ghost use Rattle.walk_run.specs.Runs.{WalkStarts};
 ghost use Rattle.walk_call.specs.Followed.{Followed};
 
 use answer::{Facts, Refusal};
@@ -32,10 +28,7 @@ fn go_on(
     marks: &mut [u32],
     chain: &mut [u8],
 ) -> Result<Facts, Refusal>
-    requires near { Near start × Walked t.old start [] (fresh start node).spot × (length t.old < 2 ^ 32) }
-    requires marks_len { (length marks.old ≡ mark_words * length ops.now) × (length chain.old ≡ length ops.now)
-        × (length ops.now ≤ most_input) }
-    requires ops_value { operations_judged 0 0 ops.now ≡ Ok tt }
+    requires { WalkStarts start node ops.now t.old marks.old chain.old }
     ensures { Followed start ops.now t.old marks.old chain.old result
         t.new marks.new chain.new }
 {
@@ -56,12 +49,11 @@ fn set_out(
     ensures { Followed start ops.now t.old marks.old chain.old result
         t.new marks.new chain.new }
 {
-    let at = walk_plant::plant(t, start);
-    if at == 0 {
+    let Some(at) = walk_plant::plant(t, start) else {
         clear(marks, chain);
         return Err(Refusal::NoRoom(0));
-    }
-    go_on(start, at - 1, ops, t, marks, chain)
+    };
+    go_on(start, at, ops, t, marks, chain)
 }
 
 // Follows the operations from start. If they are refused, the buffers are untouched, but all zero if the table is too small.

@@ -1,2 +1,2 @@
-pub mod CountLaws
 pub mod ChangedLaws
+pub mod LevelLaws

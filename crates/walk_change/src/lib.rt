@@ -1,13 +1,13 @@
 // How many records the last step of a walk changed, read off the table that it left.
 #![tactic(auto)]
 
-ghost use Rattle.std.specs.Prelude.{not, ◌&&◌, List, [], ◌∷◌, ◌++◌, ◌≡◌, ℕ, ◌+◌, ◌-◌, ◌^◌, ◌<◌, eqb, length, get_or};
+ghost use Rattle.std.specs.Prelude.{not, ◌&&◌, List, [], ◌∷◌, ◌++◌, ◌≡◌, ℕ, suc, ◌+◌, ◌-◌, ◌*◌, ◌^◌, ◌<◌, ◌≤◌, eqb, length, get_or};
 ghost use Rattle.lists.specs.Lists.{tally};
 ghost use Rattle.grid.specs.declared.Corner.{Corner as Node};
 ghost use Rattle.layout.specs.Marks.{changes_of};
-ghost use Rattle.layout.specs.Table.{word_at, HasRecord, parent_word, neighbour_word, link_word, need_word};
+ghost use Rattle.layout.specs.Table.{width, word_at, HasRecord, parent_word, link_word, need_word};
 ghost use Rattle.walk_step.specs.Spots.{Walked, Stepped};
-ghost use Rattle.walk_change.specs.Above.{ParentHeld, LinkedAbove};
+ghost use Rattle.walk_change.specs.Above.{ParentHeld, LinkedIn, level_above};
 
 use walk_step::Spot;
 use walk_table::{Record, word};
@@ -24,21 +24,20 @@ fn links_up(t: &[u32], u: usize, d: usize, step: u32) -> bool
 
 // The two nodes of one level, and how many of them are not an end of the level below.
 #[derive(Clone, Copy)]
-struct Level {
-    u: usize,
-    v: usize,
-    count: u32,
+pub struct Level {
+    pub u: usize,
+    pub v: usize,
+    pub count: u32,
 }
 
-// The level above u and v: the parent of u, and its neighbour in the direction d.
-fn rise(t: &[u32], u: usize, v: usize, d: usize) -> Level
-    requires { HasRecord t.now u × (d < 4) × LinkedAbove t.now u d }
-    ensures { (result.u ≡ get_or t.now (word_at u parent_word) 0 - 1)
-        × (result.v ≡ get_or t.now (word_at (get_or t.now (word_at u parent_word) 0 - 1) (neighbour_word d)) 0 - 1)
-        × (result.count ≡ tally (not (eqb result.u v)) + tally (not (eqb result.v u))) }
+// The level above u and v, in a table with this many words for each record: the parent of u, and its neighbour in the direction
+// d.
+pub fn rise<const WORDS: usize>(t: &[u32], u: usize, v: usize, d: usize) -> Level
+    requires { (suc u * WORDS ≤ length t.now) × (width ≤ WORDS) × (d < 4) × LinkedIn WORDS t.now u d }
+    ensures { result ≡ level_above WORDS t.now u v d }
 {
-    let above = word(t, u, Record::PARENT) as usize - 1;
-    let beside = word(t, above, Record::NEIGHBOUR + d) as usize - 1;
+    let above = t[u * WORDS + Record::PARENT] as usize - 1;
+    let beside = t[above * WORDS + Record::NEIGHBOUR + d] as usize - 1;
     let count = u32::from(above != v) + u32::from(beside != u);
     Level {
         u: above,
@@ -72,7 +71,7 @@ pub fn changed(t: &[u32], w: Spot, d: u8) -> u32
     let mut u = word(t, v, Record::NEIGHBOUR + b) as usize - 1;
     let mut sum: u32 = 2;
     while links_up(t, u, way, step) {
-        let level = rise(t, u, v, way);
+        let level = rise::<{ Record::WORDS }>(t, u, v, way);
         sum += level.count;
         u = level.u;
         v = level.v;

@@ -1,8 +1,7 @@
 // The judgement of a walk's input, before anything is written: refusals 1 to 6 and 10.
 #![tactic(auto)]
 
-ghost use Rattle.std.specs.Prelude.{◌≡◌, ◌^◌, ◌<◌};
-ghost use Rattle.walk.specs.Walk.{table_fits};
+ghost use Rattle.std.specs.Prelude.{◌&&◌, ◌≡◌, ◌%◌, ◌/◌, ◌^◌, ◌<◌, eqb, leb};
 ghost use Rattle.steps.specs.Operations.{fault_of, operations_judged, after, Fine};
 ghost use Rattle.walk_input.specs.Input.{input_judged};
 
@@ -54,11 +53,12 @@ fn operations(ops: &[u8]) -> Result<(), Refusal>
     Ok(())
 }
 
-// Whether the words are those of 1 to 131,148 records.
-fn table(words: usize) -> bool
-    ensures { result ≡ table_fits words }
+// Whether the words are those of 1 record to `most`, of `each` words.
+pub fn table(words: usize, each: usize, most: usize) -> bool
+    requires { 0 < each }
+    ensures { result ≡ eqb (words % each) 0 && leb 1 (words / each) && leb (words / each) most }
 {
-    words % Record::WORDS == 0 && (1..=Walk::MOST_RECORDS).contains(&(words / Record::WORDS))
+    words % each == 0 && (1..=most).contains(&(words / each))
 }
 
 // Refusals 1, 2, 3 and 10, then 4, 5 and 6 at the first faulty place.
@@ -75,7 +75,7 @@ pub fn input(
     if n > Walk::MOST_INPUT {
         return Err(Refusal::TooMany);
     }
-    if !table(words) {
+    if !table(words, Record::WORDS, Walk::MOST_RECORDS) {
         return Err(Refusal::Table);
     }
     if marks != Walk::MARK_WORDS * n || chain != n {

@@ -3,7 +3,7 @@
 use mathlib.Core.Bool.{true, false}
 use mathlib.Core.List.{List, []}
 use mathlib.Core.Path.{◌≡◌, refl, ap, sym, subst, ◌∙◌}
-use Prim.Native.Nat.{ℕ, suc, ◌+◌, ◌-◌, ◌*◌, ◌<◌, ◌≤◌, max}
+use Prim.Native.Nat.{ℕ, suc, ◌+◌, ◌*◌, ◌<◌, ◌≤◌, max}
 use native.Mathlib.Decide.{ℕ_discrete, dec_lt}
 use native.Mathlib.Omega.{arith}
 use lib.ListN.{length, get_or, replicate}
@@ -44,24 +44,22 @@ climb_next c at at' n k e q =
 pub climb_end : (c at : Corner) (n : ℕ) → Climbed c at n → is_root at ≡ true → Deep c n
 climb_end c at n k e = record { top = ap is_root (sym k.here) ∙ e; below = k.below; few = omega (arith, k.few) }
 
--- ---- down: the path to the left-th parent of c stands in the table, and nothing else
-pub record Growing (words : ℕ) (c : Corner) (t : List ℕ) (left nodes : ℕ) : Type 0 where
+-- ---- down: the path to the left-th parent of c stands in the table, and nothing else; last is its last node
+pub record Growing (words : ℕ) (c : Corner) (t : List ℕ) (left last : ℕ) : Type 0 where
   pub table : t ≡ table_by words (planted_of (up_by left c))
-  pub count : nodes ≡ length (path_of (up_by left c))
-  pub room : width * nodes ≤ words
-  pub some : 0 < nodes
+  pub count : last + 1 ≡ length (path_of (up_by left c))
+  pub room : width * (last + 1) ≤ words
 
-pub growing_start : (words : ℕ) (c : Corner) (t : List ℕ) (n : ℕ) → Deep c n → t ≡ replicate words 0 → width ≤ words → Growing words c t n 1
+pub growing_start : (words : ℕ) (c : Corner) (t : List ℕ) (n : ℕ) → Deep c n → t ≡ replicate words 0 → width ≤ words → Growing words c t n 0
 growing_start words c t n d e h =
     let p : up_by n c ≡ root = same_sound (up_by n c) root d.top in
     record {
       table = e ∙ planted_root words h ∙ ap (λ (x : Corner). table_by words (planted_of x)) (sym p);
       count = sym (ap length (path_of-root (up_by n c) d.top));
       room = omega arith;
-      some = omega arith;
     }
 
-module _ (words : ℕ) (c : Corner) (t : List ℕ) (left nodes : ℕ) (k : Growing words c t (left + 1) nodes) where
+module _ (words : ℕ) (c : Corner) (t : List ℕ) (left last : ℕ) (k : Growing words c t (left + 1) last) where
   -- the next node down
   abbrev e : Corner
   e = up_by left c
@@ -69,7 +67,7 @@ module _ (words : ℕ) (c : Corner) (t : List ℕ) (left nodes : ℕ) (k : Growi
   up : up_by (left + 1) c ≡ parent_of e
   up = let s : left + 1 ≡ suc left = omega arith in ap (λ (m : ℕ). up_by m c) s
 
-  pub growing_holds : length t ≡ words → Holds t nodes (planted_of (up_by (left + 1) c))
+  pub growing_holds : length t ≡ words → Holds t (last + 1) (planted_of (up_by (left + 1) c))
   growing_holds l = record {
     sound = planted_sound (up_by (left + 1) c);
     table = k.table ∙ ap (λ (n : ℕ). table_by n (planted_of (up_by (left + 1) c))) (sym l);
@@ -77,19 +75,19 @@ module _ (words : ℕ) (c : Corner) (t : List ℕ) (left nodes : ℕ) (k : Growi
     room = omega (arith, k.room);
   }
 
-  growing_ref : ref_of (path_of (up_by (left + 1) c)) (parent_of e) ≡ suc (nodes - 1)
+  growing_ref : ref_of (path_of (up_by (left + 1) c)) (parent_of e) ≡ suc last
   growing_ref =
-      let s : nodes ≡ suc (nodes - 1) = omega (arith, k.some) in
+      let s : last + 1 ≡ suc last = omega arith in
       ap (ref_of (path_of (up_by (left + 1) c))) (sym up) ∙ ref_path (up_by (left + 1) c) ∙ sym k.count ∙ s
 
   -- what `child` makes of it
   module _ (l : length t ≡ words) (deep : is_root e ≡ false) (place r : ℕ) (p : place ≡ child_word e) (t' : List ℕ)
-      (child : (S : State) (x : Corner) → Holds t nodes S → is_root x ≡ false → ref_of S.nodes (parent_of x) ≡ suc (nodes - 1) → place ≡ child_word x → Made (length t) (grown S x 0) x t' r (max nodes r)) where
+      (child : (S : State) (x : Corner) → Holds t (last + 1) S → is_root x ≡ false → ref_of S.nodes (parent_of x) ≡ suc last → place ≡ child_word x → Made (length t) (grown S x 0) x t' r (max (last + 1) r)) where
     abbrev T : State
     T = grown (planted_of (up_by (left + 1) c)) e 0
 
-    made : Made words T e t' r (max nodes r)
-    made = subst (λ (n : ℕ). Made n T e t' r (max nodes r)) l (child (planted_of (up_by (left + 1) c)) e (growing_holds l) deep growing_ref p)
+    made : Made words T e t' r (max (last + 1) r)
+    made = subst (λ (n : ℕ). Made n T e t' r (max (last + 1) r)) l (child (planted_of (up_by (left + 1) c)) e (growing_holds l) deep growing_ref p)
 
     alike : T ≡ grown (planted_of (parent_of e)) e 0
     alike = ap (λ (x : Corner). grown (planted_of x) e 0) up
@@ -107,63 +105,63 @@ module _ (words : ℕ) (c : Corner) (t : List ℕ) (left nodes : ℕ) (k : Growi
       | no h ↦ absurd (omega (arith, (made.fits (omega arith)).1, ap (λ (l : List Corner). ref_of l e) nodes_are_lem, ref_path e, length_path e deep))
     ]
 
-    pub growing_next : (r ≡ 0 → ⊥) → Growing words c t' left r
-    growing_next f = elim (dec_lt words (width * length T.nodes)) [
-      | yes h ↦ absurd (f (made.full h))
+    pub growing_next : (v : ℕ) → r ≡ v + 1 → Growing words c t' left v
+    growing_next v f = elim (dec_lt words (width * length T.nodes)) [
+      | yes h ↦ absurd (omega (arith, f, made.full h))
       | no h ↦
           let g = made.fits (omega arith) in
           let n : r ≡ length (path_of e) = g.1 ∙ ap (λ (l : List Corner). ref_of l e) nodes_are_lem ∙ ref_path e in
           record {
             table = g.0 ∙ ap (table_by words) alike ∙ alike_table words (grown (planted_of (parent_of e)) e 0) (planted_of e) (planted_next e deep);
-            count = n;
+            count = sym f ∙ n;
             room = omega (arith, n, size);
-            some = omega (arith, n, length_path e deep);
           }
     ]
 
 -- all of it
-pub growing_end : (words : ℕ) (c : Corner) (t : List ℕ) (left nodes : ℕ) → Growing words c t left nodes → left ≡ 0 → Grown words c t nodes
-growing_end words c t left nodes k z =
+pub growing_end : (words : ℕ) (c : Corner) (t : List ℕ) (left last : ℕ) → Growing words c t left last → left ≡ 0 → Grown words c t (last + 1)
+growing_end words c t left last k z =
     let p : up_by left c ≡ c = ap (λ (n : ℕ). up_by n c) z in
-    let n : nodes ≡ length (path_of c) = k.count ∙ ap (λ (x : Corner). length (path_of x)) p in
+    let n : last + 1 ≡ length (path_of c) = k.count ∙ ap (λ (x : Corner). length (path_of x)) p in
     record { fits = λ h. (k.table ∙ ap (λ (x : Corner). table_by words (planted_of x)) p, n); full = λ h. absurd (omega (arith, n, k.room)) }
 
 pub growing_none : (words : ℕ) (c : Corner) (t : List ℕ) → words < width * length (path_of c) → Grown words c t 0
 growing_none words c t h = record { fits = λ g. absurd (omega arith); full = λ g. refl }
 
 -- ---- the first visit
-module _ (words : ℕ) (c : Corner) (t : List ℕ) (r : ℕ) (k : Grown words c t r) where
-  nodes : length (nodes_of (corners_from c [])) ≡ length (path_of c)
-  nodes = ap length (nodes_start c)
+nodes : (c : Corner) → length (nodes_of (corners_from c [])) ≡ length (path_of c)
+nodes c = ap length (nodes_start c)
 
-  grown_fits : (r ≡ 0 → ⊥) → width * length (path_of c) ≤ words
-  grown_fits f = elim (dec_lt words (width * length (path_of c))) [ yes h ↦ absurd (f (k.full h)) | no h ↦ omega arith ]
+pub planted_none : (words : ℕ) (c : Corner) (t : List ℕ) → Grown words c t 0 → (t' : List ℕ) → t' ≡ replicate words 0 → Planted words c t' 0
+planted_none words c t k t' e = record {
+  fits = λ h. absurd (omega (arith, (k.fits (omega (arith, nodes c))).1, path_some));
+  full = λ h. (refl, e);
+}
+  where
+    path_some : 0 < length (path_of c)
+    path_some = let h = path_of-first c in omega (arith, ap length h.1)
 
-  pub planted_none : (t' : List ℕ) → r ≡ 0 → t' ≡ replicate words 0 → Planted words c t' 0
-  planted_none t' z e = record {
-    fits = λ h. absurd (omega (arith, (k.fits (omega (arith, nodes))).1, path_some));
-    full = λ h. (refl, e);
-  }
-    where
-      path_some : 0 < length (path_of c)
-      path_some = let h = path_of-first c in omega (arith, ap length h.1)
+module _ (words : ℕ) (c : Corner) (t : List ℕ) (u : ℕ) (k : Grown words c t (u + 1)) where
+  grown_fits : width * length (path_of c) ≤ words
+  grown_fits = elim (dec_lt words (width * length (path_of c))) [ yes h ↦ absurd (omega (arith, k.full h)) | no h ↦ omega arith ]
 
-  pub planted_at : (t' : List ℕ) → (r ≡ 0 → ⊥) → t' ≡ visit_in t (r - 1) 0 → Planted words c t' r
-  planted_at t' f q =
-      let g = k.fits (grown_fits f) in
-      let s : r ≡ suc (r - 1) = omega (arith, f) in
+  here : ref_of (path_of c) c ≡ suc u
+  here = let s : u + 1 ≡ suc u = omega arith in ref_path c ∙ sym (k.fits grown_fits).1 ∙ s
+
+  pub planted_at : (t' : List ℕ) → t' ≡ visit_in t u 0 → Planted words c t' (u + 1)
+  planted_at t' q =
+      let g = k.fits grown_fits in
       record {
         fits = λ h. (
-          q ∙ ap (λ (l : List ℕ). visit_in l (r - 1) 0) g.0 ∙ visit_made words (planted_of c) (planted_sound c) c 0 (r - 1) (ref_path c ∙ sym g.1 ∙ s) ∙ planted_visit words c,
-          g.1 ∙ sym nodes,
+          q ∙ ap (λ (l : List ℕ). visit_in l u 0) g.0 ∙ visit_made words (planted_of c) (planted_sound c) c 0 u here ∙ planted_visit words c,
+          g.1 ∙ sym (nodes c),
           g.1 ∙ sym (ref_path c) ∙ ap (λ (l : List Corner). ref_of l c) (sym (nodes_start c)),
         );
-        full = λ h. absurd (omega (arith, nodes, grown_fits f));
+        full = λ h. absurd (omega (arith, nodes c, grown_fits));
       }
 
--- what the visit asks of the table
-pub grown_visits : (words : ℕ) (c : Corner) (t : List ℕ) (r : ℕ) → Grown words c t r → (r ≡ 0 → ⊥) → length t ≡ words → HasRecord t (r - 1) × (get_or t (word_at (r - 1) visits_word) 0 ≡ 0)
-grown_visits words c t r k f l =
-    let g = k.fits (grown_fits words c t r k f) in
-    let s : r ≡ suc (r - 1) = omega (arith, f) in
-    (omega (arith, grown_fits words c t r k f, g.1), ap (λ (x : List ℕ). get_or x (word_at (r - 1) visits_word) 0) g.0 ∙ read_visits words (planted_of c) c (r - 1) (ref_path c ∙ sym g.1 ∙ s))
+  -- what the visit asks of the table
+  pub grown_visits : length t ≡ words → HasRecord t u × (get_or t (word_at u visits_word) 0 ≡ 0)
+  grown_visits l =
+      let g = k.fits grown_fits in
+      (omega (arith, grown_fits, g.1), ap (λ (x : List ℕ). get_or x (word_at u visits_word) 0) g.0 ∙ read_visits words (planted_of c) c u here)

@@ -5,6 +5,7 @@
 ghost use Rattle.std.specs.Prelude.{◌≡◌, ◌^◌, ◌<◌, ◌≤◌, length, replicate};
 ghost use Rattle.answer.specs.Limits.{Near};
 ghost use Rattle.layout.specs.Table.{width};
+ghost use Rattle.walk_table.specs.Refs.{ref_by};
 ghost use Rattle.walk_plant.specs.Plants.{Deep, Grown, Planted};
 
 use grid::Corner;
@@ -23,34 +24,30 @@ pub fn depth(c: Corner) -> usize
     levels
 }
 
-// The nodes from the root down to c, in a table of zeros; no step needs them. Answers the ref of c, which is how many there are,
-// or 0 if the table is too small.
-fn grow(t: &mut [u32], c: Corner) -> usize
+// The nodes from the root down to c, in a table of zeros; no step needs them. Answers the node of c, which is the last of them,
+// or None if the table is too small.
+fn grow(t: &mut [u32], c: Corner) -> Option<usize>
     requires { Near c × (t.old ≡ replicate (length t.old) 0) × (width ≤ length t.old) × (length t.old < 2 ^ 32) }
-    ensures { Grown (length t.old) c t.new result }
+    ensures { Grown (length t.old) c t.new (ref_by result) }
 {
-    let mut nodes = 1;
+    let mut last = 0;
     for left in (0..depth(c)).rev() {
         let place = walk_corner::child_word(walk_corner::up_by(c, left));
-        nodes = walk_lookup::child(t, nodes, nodes - 1, place, 0);
-        if nodes == 0 {
-            return 0;
-        }
+        last = walk_lookup::child(t, last + 1, last, place, 0)?;
     }
-    nodes
+    Some(last)
 }
 
-// Makes a table of zeros that of the walk from c with no step. Answers the ref of c, or 0 if the table is too small: then it is
-// cleared.
-pub fn plant(t: &mut [u32], c: Corner) -> usize
+// Makes a table of zeros that of the walk from c with no step. Answers the node of c, or None if the table is too small: then it
+// is cleared.
+pub fn plant(t: &mut [u32], c: Corner) -> Option<usize>
     requires { Near c × (t.old ≡ replicate (length t.old) 0) × (width ≤ length t.old) × (length t.old < 2 ^ 32) }
-    ensures { Planted (length t.old) c t.new result }
+    ensures { Planted (length t.old) c t.new (ref_by result) }
 {
-    let at = grow(t, c);
-    if at == 0 {
+    let Some(at) = grow(t, c) else {
         walk_table::zero(t);
-        return 0;
-    }
-    walk_table::visit(t, at - 1, 0);
-    at
+        return None;
+    };
+    walk_table::visit(t, at, 0);
+    Some(at)
 }

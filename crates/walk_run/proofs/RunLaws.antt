@@ -3,11 +3,10 @@
 use Rattle.std.specs.Prelude.{Err, None, Ok, Option, Some}
 use mathlib.Core.List.{List, [], ◌∷◌, ◌++◌, append_assoc, append-nil}
 use mathlib.Core.Path.{◌≡◌, refl, ap, ap₂, sym, ◌∙◌, subst}
-use Prim.Native.Nat.{ℕ, suc, ◌+◌, ◌-◌, ◌*◌, ◌<◌, ◌≤◌}
+use Prim.Native.Nat.{ℕ, suc, ◌+◌, ◌-◌, ◌*◌, ◌^◌, ◌<◌, ◌≤◌}
 use native.Mathlib.Omega.{arith}
 use lib.ListN.{length, length-append, take, drop, get_or, replicate, drop_of_length-le}
 use lib.Seq.{sets, length-sets, sets-eq, length-take-le, drop-cons, take_at, take_all}
-use Rattle.answer.specs.Limits.{Near}
 use Rattle.answer.specs.declared.Refusal.TheVariants.{NoRoom}
 use Rattle.walk.specs.Walk.{room_from}
 use Rattle.grid.specs.declared.Corner.{Corner}
@@ -15,14 +14,13 @@ use Rattle.grid.specs.Grid.{corners_from}
 use Rattle.layout.specs.Marks.{mark_words, mark_of, marks_of, marks_from}
 use Rattle.layout.specs.Table.{width, records_in}
 use Rattle.walk_step.specs.declared.Walk.{Walk}
-use Rattle.walk_step.specs.Spots.{Walked}
 use Rattle.walk_step.specs.Walks.{fresh}
 use Rattle.walk_step.proofs.ChainLaws.{keeps_none, keeps_zeros, keeps_end}
 use Rattle.tree.specs.Nodes.{nodes_of}
 use Rattle.steps.specs.Operations.{operate, survivors_from, survivors, fault_of, operations_judged, after, Fine}
 use Rattle.walk.proofs.RoomLaws.{room_full, room_fits, room_end}
 use Rattle.steps.proofs.SurvivorLaws.{fault_none, fault_step, after-length, length-operate}
-use Rattle.walk_run.specs.Runs.{Chained, Ready, Performed, PerformedAll, Ended}
+use Rattle.walk_run.specs.Runs.{Chained, Ready, WalkStarts, Performed, PerformedAll, Ended}
 
 -- what stands before a run of stores, and the run
 pub take_sets : (l vs : List ℕ) (i n : ℕ) → i + length vs ≤ length l → i + length vs ≡ n → take n (sets l i vs) ≡ take i l ++ vs
@@ -42,13 +40,13 @@ pub record Running (words : ℕ) (c : Corner) (ops t ms ch : List ℕ) (w : Walk
   pub few : length steps ≤ i
 
 -- the start
-pub running_start : (c : Corner) (node : ℕ) (ops t ms ch : List ℕ) → Near c → Walked t c [] (fresh c node).spot → operations_judged 0 0 ops ≡ Ok tt → (w : Walk) → w ≡ fresh c node → Running (length t) c ops t ms ch w 0
-running_start c node ops t ms ch n k f w q = subst (λ (v : Walk). Running (length t) c ops t ms ch v 0) (sym q) (record {
+pub running_start : (c : Corner) (node : ℕ) (ops t ms ch : List ℕ) → WalkStarts c node ops t ms ch → (w : Walk) → w ≡ fresh c node → Running (length t) c ops t ms ch w 0
+running_start c node ops t ms ch b w q = subst (λ (v : Walk). Running (length t) c ops t ms ch v 0) (sym q) (record {
   steps = [];
-  chained = record { known = record { walked = k; counted = record { seen = refl; met = (refl, refl) } }; own = keeps_none c ch n };
+  chained = record { known = record { walked = b.walked; counted = record { seen = refl; met = (refl, refl) } }; own = keeps_none c ch b.near };
   rest = refl;
-  fine = f;
-  fits = omega (arith, k.count, k.room);
+  fine = b.fine;
+  fits = omega (arith, b.walked.count, b.walked.room);
   room = refl;
   marked = refl;
   few = omega arith;
@@ -61,13 +59,14 @@ module _ (words : ℕ) (c : Corner) (ops t ms ch : List ℕ) (w : Walk) (i : ℕ
   faults : (fault_of i (length k.steps) (get_or ops i 0) ≡ Ok tt) × (operations_judged (suc i) (after (length k.steps) (get_or ops i 0)) (drop (suc i) ops) ≡ Ok tt)
   faults = fault_step i (length k.steps) (get_or ops i 0) (drop (suc i) ops) (subst (λ (l : List ℕ). operations_judged i (length k.steps) l ≡ Ok tt) left k.fine)
 
-  pub running_ready : length ch ≡ length ops → Ready t ch w (get_or ops i 0)
-  running_ready l = record {
+  pub running_ready : length ch ≡ length ops → length t < 2 ^ 32 → Ready t ch w (get_or ops i 0)
+  running_ready l small = record {
     start = c;
     steps = k.steps;
     chained = k.chained;
     fine = subst (λ (n : ℕ). Fine n (get_or ops i 0)) (sym k.chained.known.walked.steps) (fault_none i (length k.steps) (get_or ops i 0) faults.0);
     next = λ f. omega (arith, k.few, k.chained.known.walked.steps);
+    words = small;
   }
 
   -- the table was large enough so far

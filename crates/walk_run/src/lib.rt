@@ -1,65 +1,51 @@
 // A walk follows its operations, one after the other, and marks each.
 #![tactic(auto)]
 
-ghost use Rattle.std.specs.Prelude.{List, [], ◌≡◌, ℕ, suc, ◌+◌, ◌*◌, ◌^◌, ◌<◌, ◌≤◌, length, set, Ok, get_or};
+ghost use Rattle.std.specs.Prelude.{List, ◌≡◌, ℕ, suc, ◌+◌, ◌*◌, ◌^◌, ◌<◌, ◌≤◌, length, set, Ok, get_or};
 ghost use Rattle.grid.specs.declared.Corner.{Corner as Node};
-ghost use Rattle.answer.specs.Limits.{most_input, Near};
-ghost use Rattle.walk_step.specs.Spots.{Walked};
-ghost use Rattle.walk_step.specs.Walks.{fresh};
-ghost use Rattle.layout.specs.Marks.{mark_words, changes_of};
+ghost use Rattle.layout.specs.Marks.{mark_words};
 ghost use Rattle.layout.specs.Table.{word_at, visits_word};
-ghost use Rattle.steps.specs.Operations.{operate, operations_judged};
-ghost use Rattle.walk_run.specs.Runs.{Chained, Ready, Applied, StepDone, Tells, Performed, PerformedAll, Ended};
+ghost use Rattle.steps.specs.Operations.{operate};
+ghost use Rattle.walk_run.specs.Runs.{Chained, Ready, WalkStarts, Acted, Performed, PerformedAll, Ended};
 
 use answer::Refusal;
 use grid::Corner;
 use walk_step::{Spot, Walk};
 use walk_table::{Record, zero, zero_from};
 
-// One operation: 4 takes the last surviving step back, any other is a step.
-fn apply(t: &mut [u32], chain: &mut [u8], w: Walk, op: u8) -> Option<Walk>
-    requires ready { Ready t.old chain.old w op }
-    requires t_len_bound { length t.old < 2 ^ 32 }
+// A walk after an operation, and how many records changed.
+#[derive(Clone, Copy)]
+struct Turn {
+    walk: Walk,
+    changed: u32,
+}
+
+// A step. None if the table is full: then it is all zero.
+fn step(t: &mut [u32], chain: &mut [u8], w: Walk, d: u8) -> Option<Turn>
+    requires { Ready t.old chain.old w d × (d < 4) }
     ensures { (c : Node) (ds : List ℕ) → Chained c t.old chain.old ds w
-        → Applied (length t.old) c t.new chain.new (operate ds op) result }
+        → Acted (length t.old) c t.new chain.new ds (operate ds d) result }
 {
-    if op == 4 {
-        let last = w.spot.steps - 1;
-        let d = chain[last];
-        return Some(walk_step::withdraw(t, w, d));
-    }
-    let place = w.spot.steps;
-    chain[place] = op;
-    walk_step::advance(t, w, op)
+    chain[w.spot.steps] = d;
+    let walk = walk_step::advance(t, w, d)?;
+    let changed = walk_change::changed(t, walk.spot, d);
+    Some(Turn { walk, changed })
 }
 
-// How many records a take-back is about to change: as many as its step did. Asked before it, while the step's words are there; 0
-// for a step.
-fn taken(t: &[u32], chain: &[u8], w: Walk, op: u8) -> u32
-    requires ready { Ready t.now chain.now w op }
-    requires t_len_bound { length t.now < 2 ^ 32 }
-    ensures { (c : Node) (ds : List ℕ) → Chained c t.now chain.now ds w → op ≡ 4
-        → result ≡ changes_of c ds (operate ds op) }
+// One operation: 4 takes the last surviving step back, any other is a step. A take-back is about to change as many records as its
+// step did, which are counted while the step's words are there. None if the table is full: then it is all zero.
+fn apply(t: &mut [u32], chain: &mut [u8], w: Walk, op: u8) -> Option<Turn>
+    requires { Ready t.old chain.old w op }
+    ensures { (c : Node) (ds : List ℕ) → Chained c t.old chain.old ds w
+        → Acted (length t.old) c t.new chain.new ds (operate ds op) result }
 {
-    if op == 4 {
-        let spot = w.spot;
-        let last = spot.steps - 1;
-        let d = chain[last];
-        return walk_change::changed(t, spot, d);
+    if op != 4 {
+        return step(t, chain, w, op);
     }
-    0
-}
-
-// How many records the operation changed: as many as were counted before a take-back; a step is counted now.
-fn told(t: &[u32], w: Spot, op: u8, before: u32) -> u32
-    requires { StepDone t.now w op × (length t.now < 2 ^ 32) }
-    ensures { Tells t.now w op before result }
-{
-    if op == 4 {
-        before
-    } else {
-        walk_change::changed(t, w, op)
-    }
+    let d = chain[w.spot.steps - 1];
+    let changed = walk_change::changed(t, w.spot, d);
+    let walk = walk_step::withdraw(t, w, d);
+    Some(Turn { walk, changed })
 }
 
 // The mark at place i: the nodes in use, the visits at the corner where the walk stands, and the records that changed.
@@ -75,7 +61,7 @@ fn mark(t: &[u32], marks: &mut [u32], w: Spot, i: usize, changed: u32)
     marks[Walk::MARK_WORDS * i + 2] = changed;
 }
 
-// One operation, at place i: applied, and then marked.
+// One operation, at place i: applied, and then marked. None if the table is full: then it is all zero.
 fn perform(
     t: &mut [u32],
     marks: &mut [u32],
@@ -84,21 +70,18 @@ fn perform(
     op: u8,
     i: usize,
 ) -> Option<Walk>
-    requires ready { Ready t.old chain.old w op }
-    requires t_len_bound { (length t.old < 2 ^ 32) × (mark_words * suc i ≤ length marks.old) × (i < 2 ^ 32) }
+    requires { Ready t.old chain.old w op × (mark_words * suc i ≤ length marks.old) × (i < 2 ^ 32) }
     ensures { (c : Node) (ds : List ℕ) → Chained c t.old chain.old ds w
         → Performed (length t.old) marks.old i c t.new marks.new chain.new
         ds (operate ds op) result }
 {
-    let before = taken(t, chain, w, op);
-    let next = apply(t, chain, w, op)?;
-    let spot = next.spot;
-    let n = told(t, spot, op, before);
-    mark(t, marks, spot, i, n);
-    Some(next)
+    let x = apply(t, chain, w, op)?;
+    mark(t, marks, x.walk.spot, i, x.changed);
+    Some(x.walk)
 }
 
-// All operations, one after the other, in the table of the walk from start with no step, which stands at the node.
+// All operations, one after the other, in the table of the walk from start with no step, which stands at the node. Refuses the
+// first for which the table is too small, as "no room": then the table is all zero.
 fn perform_all(
     start: Corner,
     node: usize,
@@ -107,10 +90,7 @@ fn perform_all(
     marks: &mut [u32],
     chain: &mut [u8],
 ) -> Result<Walk, Refusal>
-    requires near { Near start × Walked t.old start [] (fresh start node).spot × (length t.old < 2 ^ 32) }
-    requires marks_len { (length marks.old ≡ mark_words * length ops.now) × (length chain.old ≡ length ops.now)
-        × (length ops.now ≤ most_input) }
-    requires ops_value { operations_judged 0 0 ops.now ≡ Ok tt }
+    requires { WalkStarts start node ops.now t.old marks.old chain.old }
     ensures { PerformedAll (length t.old) start ops.now t.new marks.new
         chain.new result }
 {
@@ -122,7 +102,7 @@ fn perform_all(
 }
 
 // All operations, in the table of the walk from start with no step, which stands at the node. After the surviving steps the chain
-// is cleared. If the table is too small, all three buffers are.
+// is cleared. Refuses the first for which the table is too small, as "no room": then all three buffers are cleared.
 pub fn run(
     start: Corner,
     node: usize,
@@ -131,10 +111,7 @@ pub fn run(
     marks: &mut [u32],
     chain: &mut [u8],
 ) -> Result<Walk, Refusal>
-    requires near { Near start × Walked t.old start [] (fresh start node).spot × (length t.old < 2 ^ 32) }
-    requires marks_len { (length marks.old ≡ mark_words * length ops.now) × (length chain.old ≡ length ops.now)
-        × (length ops.now ≤ most_input) }
-    requires ops_value { operations_judged 0 0 ops.now ≡ Ok tt }
+    requires { WalkStarts start node ops.now t.old marks.old chain.old }
     ensures { Ended (length t.old) start ops.now t.new marks.new
         chain.new result }
 {

@@ -55,51 +55,63 @@ module _ (t : List ℕ) (c : Corner) (ds : List ℕ) (w : Spot) (k : Walked t c 
     pub step_full : a₁ ≡ 0 → length t < width * length (nodes_of (corners_from c (ds ++ (d ∷ []))))
     step_full z = go_full (length t) c ds d dir t₁ a₁ n₁ made z
 
-    -- what the visit needs
-    pub step_visits : (a₁ ≡ 0 → ⊥) → HasRecord t₁ (a₁ - 1) × (get_or t₁ (word_at (a₁ - 1) visits_word) 0 ≤ suc w.steps)
-    step_visits g =
-        let T : State = reached (state_of (corners_from c ds)) (suc (length ds)) (end_from c ds) (stepped d (end_from c ds)) in
-        let h = made_holds (length t) T (sound_step (length t) c ds d) (stepped d (end_from c ds)) t₁ a₁ n₁ made g in
-        let v : get_or t₁ (word_at (a₁ - 1) visits_word) 0 ≡ count (same (stepped d (end_from c ds))) (corners_from c ds) = ap (λ (x : List ℕ). get_or x (word_at (a₁ - 1) visits_word) 0) h.0.table ∙ read_visits (length t₁) T (stepped d (end_from c ds)) (a₁ - 1) h.1 in
-        let m : count (same (stepped d (end_from c ds))) (corners_from c ds) ≤ suc w.steps = omega (arith, k.steps, visits_bound c ds (stepped d (end_from c ds))) in
-        let b = ref_below T.nodes (stepped d (end_from c ds)) (a₁ - 1) h.1 in
-        (bound (a₁ - 1) (length T.nodes) n₁ (length t₁) b h.0.count h.0.room, subst (λ (n : ℕ). n ≤ suc w.steps) (sym v) m)
-      where
-        bound : (a n m l : ℕ) → a < n → m ≡ n → width * m ≤ l → suc a * width ≤ l
-        bound a n m l p q r = omega arith
+    -- the node is found or made
+    module _ (u : ℕ) (found : a₁ ≡ u + 1) where
+      some : a₁ ≡ 0 → ⊥
+      some z = omega arith
 
-    -- what the edge needs
-    pub step_treads : (a₁ ≡ 0 → ⊥) → (t₂ : List ℕ) → length t₂ ≡ length t₁ → t₂ ≡ visit_in t₁ (a₁ - 1) (w.steps + 1) → HasRecord t₂ w.node × HasRecord t₂ (a₁ - 1) × (get_or t₂ (word_at w.node (edge_word d)) 0 ≤ w.steps)
-    step_treads g t₂ l e =
-        let T : State = reached (state_of (corners_from c ds)) (suc (length ds)) (end_from c ds) (stepped d (end_from c ds)) in
-        let h = made_holds (length t) T (sound_step (length t) c ds d) (stepped d (end_from c ds)) t₁ a₁ n₁ made g in
-        let n : w.steps + 1 ≡ suc (length ds) = omega (arith, k.steps) in
-        let v = go_edge (length t) c ds d dir t₁ a₁ n₁ made g w.node k.here t₂ (e ∙ ap (visit_in t₁ (a₁ - 1)) n) in
-        let b = ref_below (nodes_of (corners_from c ds)) (end_from c ds) w.node k.here in (
-          bound w.node (length (nodes_of (corners_from c ds))) w.nodes (length t₂) b k.count (subst (λ (x : ℕ). width * w.nodes ≤ x) (sym (l ∙ h.2)) k.room),
-          subst (λ (x : ℕ). suc (a₁ - 1) * width ≤ x) (sym l) (step_visits g).0,
-          omega (arith, v, k.steps, edges_bound c ds (end_from c ds) (stepped d (end_from c ds))),
-        )
-      where
-        bound : (a n m l : ℕ) → a < n → m ≡ n → width * m ≤ l → suc a * width ≤ l
-        bound a n m l p q r = omega arith
+      number : a₁ - 1 ≡ u
+      number = omega arith
 
-    pub step_to : (a₁ ≡ 0 → ⊥) → (t₂ t₃ : List ℕ) → t₂ ≡ visit_in t₁ (a₁ - 1) (w.steps + 1) → t₃ ≡ tread_in t₂ w.node (a₁ - 1) d → (v : Spot) → v.node ≡ a₁ - 1 → v.at ≡ stepped d w.at → v.steps ≡ w.steps + 1 → v.nodes ≡ n₁
-        → Walked t₃ c (ds ++ (d ∷ [])) v × (length t₃ ≡ length t)
-    step_to g t₂ t₃ e i v p₁ p₂ p₃ p₄ =
-        let n : w.steps + 1 ≡ suc (length ds) = omega (arith, k.steps) in
-        let h = go_fits (length t) c ds d dir t₁ a₁ n₁ made g w.node k.here t₂ t₃ (e ∙ ap (visit_in t₁ (a₁ - 1)) n) i in
-        let l : length t₃ ≡ length t = (walk_holds (length t) c (ds ++ (d ∷ [])) t₃ n₁ h.0 h.1 h.2).1 in (
-          record {
-            whole = h.0 ∙ ap (λ (x : ℕ). table_of x c (ds ++ (d ∷ []))) (sym l);
-            count = p₄ ∙ h.1;
-            room = subst (λ (x : ℕ). width * v.nodes ≤ x) (sym l) (subst (λ (x : ℕ). width * x ≤ length t) (sym p₄) h.2);
-            here = h.3 ∙ ap suc (sym p₁);
-            corner = p₂ ∙ ap (stepped d) k.corner ∙ sym (end_from_snoc c ds d);
-            steps = p₃ ∙ n ∙ sym (length_snoc ds d);
-          },
-          l,
-        )
+      bound : (a n m l : ℕ) → a < n → m ≡ n → width * m ≤ l → suc a * width ≤ l
+      bound a n m l p q r = omega arith
+
+      -- what the visit needs
+      pub step_visits : HasRecord t₁ u × (get_or t₁ (word_at u visits_word) 0 ≤ suc w.steps)
+      step_visits =
+          let T : State = reached (state_of (corners_from c ds)) (suc (length ds)) (end_from c ds) (stepped d (end_from c ds)) in
+          let h = made_holds (length t) T (sound_step (length t) c ds d) (stepped d (end_from c ds)) t₁ a₁ n₁ made some in
+          let r = h.1 ∙ ap suc number in
+          let v : get_or t₁ (word_at u visits_word) 0 ≡ count (same (stepped d (end_from c ds))) (corners_from c ds) = ap (λ (x : List ℕ). get_or x (word_at u visits_word) 0) h.0.table ∙ read_visits (length t₁) T (stepped d (end_from c ds)) u r in
+          let m : count (same (stepped d (end_from c ds))) (corners_from c ds) ≤ suc w.steps = omega (arith, k.steps, visits_bound c ds (stepped d (end_from c ds))) in
+          let b = ref_below T.nodes (stepped d (end_from c ds)) u r in
+          (bound u (length T.nodes) n₁ (length t₁) b h.0.count h.0.room, subst (λ (n : ℕ). n ≤ suc w.steps) (sym v) m)
+
+      module _ (t₂ : List ℕ) (visited : t₂ ≡ visit_in t₁ u (w.steps + 1)) where
+        n : w.steps + 1 ≡ suc (length ds)
+        n = omega (arith, k.steps)
+
+        visit : t₂ ≡ visit_in t₁ (a₁ - 1) (suc (length ds))
+        visit = visited ∙ ap₂ (visit_in t₁) (sym number) n
+
+        -- what the edge needs
+        pub step_treads : length t₂ ≡ length t₁ → HasRecord t₂ w.node × HasRecord t₂ u × (get_or t₂ (word_at w.node (edge_word d)) 0 ≤ w.steps)
+        step_treads l =
+            let T : State = reached (state_of (corners_from c ds)) (suc (length ds)) (end_from c ds) (stepped d (end_from c ds)) in
+            let h = made_holds (length t) T (sound_step (length t) c ds d) (stepped d (end_from c ds)) t₁ a₁ n₁ made some in
+            let v = go_edge (length t) c ds d dir t₁ a₁ n₁ made some w.node k.here t₂ visit in
+            let b = ref_below (nodes_of (corners_from c ds)) (end_from c ds) w.node k.here in (
+              bound w.node (length (nodes_of (corners_from c ds))) w.nodes (length t₂) b k.count (subst (λ (x : ℕ). width * w.nodes ≤ x) (sym (l ∙ h.2)) k.room),
+              subst (λ (x : ℕ). suc u * width ≤ x) (sym l) step_visits.0,
+              omega (arith, v, k.steps, edges_bound c ds (end_from c ds) (stepped d (end_from c ds))),
+            )
+
+        pub step_to : (t₃ : List ℕ) → t₃ ≡ tread_in t₂ w.node u d → (v : Spot) → v.node ≡ u → v.at ≡ stepped d w.at → v.steps ≡ w.steps + 1 → v.nodes ≡ n₁
+            → Walked t₃ c (ds ++ (d ∷ [])) v × (length t₃ ≡ length t)
+        step_to t₃ i v p₁ p₂ p₃ p₄ =
+            let tread = i ∙ ap (λ (x : ℕ). tread_in t₂ w.node x d) (sym number) in
+            let h = go_fits (length t) c ds d dir t₁ a₁ n₁ made some w.node k.here t₂ t₃ visit tread in
+            let l : length t₃ ≡ length t = (walk_holds (length t) c (ds ++ (d ∷ [])) t₃ n₁ h.0 h.1 h.2).1 in (
+              record {
+                whole = h.0 ∙ ap (λ (x : ℕ). table_of x c (ds ++ (d ∷ []))) (sym l);
+                count = p₄ ∙ h.1;
+                room = subst (λ (x : ℕ). width * v.nodes ≤ x) (sym l) (subst (λ (x : ℕ). width * x ≤ length t) (sym p₄) h.2);
+                here = h.3 ∙ ap suc (number ∙ sym p₁);
+                corner = p₂ ∙ ap (stepped d) k.corner ∙ sym (end_from_snoc c ds d);
+                steps = p₃ ∙ n ∙ sym (length_snoc ds d);
+              },
+              l,
+            )
 
 -- ---- a take-back
 module _ (t : List ℕ) (c : Corner) (ds : List ℕ) (d : ℕ) (w : Spot) (k : Walked t c (ds ++ (d ∷ [])) w) (dir : d < 4) where

@@ -10,6 +10,7 @@ ghost use Rattle.walk_step.specs.Walks.{fresh, Known, Knowing, Withdrawable, Adv
 
 use answer::Limits;
 use grid::Corner;
+use walk_lookup::Lookup;
 use walk_table::{Record, word};
 
 // Where a walk stands: the node's number and its corner, how many steps survive, and how many nodes are in use.
@@ -74,7 +75,7 @@ impl Walk {
     }
 }
 
-// One step in the direction d.
+// One step in the direction d. Answers where the walk stands then, or None if the table is full: then it is all zero.
 fn go(t: &mut [u32], w: Spot, d: u8) -> Option<Spot>
     requires standing { Standing t.old w }
     requires at_bound { (nat_abs w.at.0 < 65536) × (nat_abs w.at.1 < 65536) × (d < 4) × (w.steps < 65536)
@@ -83,20 +84,21 @@ fn go(t: &mut [u32], w: Spot, d: u8) -> Option<Spot>
         → Went (length t.old) t.new c (ds ++ (d ∷ [])) result }
 {
     let n = w.steps + 1;
-    let here = w.at;
-    let nodes = w.nodes;
-    let at = walk_lookup::reach(t, nodes, w.node, here, d, n as u32);
-    if at == 0 {
-        return None;
-    }
-    walk_table::visit(t, at - 1, n);
-    walk_table::tread(t, w.node, at - 1, d as usize);
-    let there = walk_corner::moved(here, d);
+    let from = Lookup {
+        node: w.node,
+        at: w.at,
+        d,
+        step: n as u32,
+    };
+    let at = walk_lookup::reach(t, w.nodes, from)?;
+    walk_table::visit(t, at, n);
+    walk_table::tread(t, w.node, at, d as usize);
+    let there = walk_corner::moved(w.at, d);
     Some(Spot {
-        node: at - 1,
+        node: at,
         at: there,
         steps: n,
-        nodes: nodes.max(at),
+        nodes: w.nodes.max(at + 1),
     })
 }
 
@@ -178,7 +180,7 @@ fn untallied(t: &[u32], w: Spot, m: Tally, d: u8) -> Tally
     m
 }
 
-// One step of the walk in the direction d.
+// One step of the walk in the direction d. Answers the walk then, or None if the table is full: then it is all zero.
 pub fn advance(t: &mut [u32], w: Walk, d: u8) -> Option<Walk>
     requires knowing { Knowing t.old w }
     requires at_bound { (nat_abs w.spot.at.0 < 65536) × (nat_abs w.spot.at.1 < 65536) × (d < 4)

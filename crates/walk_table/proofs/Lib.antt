@@ -1,2 +1,3 @@
 pub mod CellLaws
 pub mod ErasureLaws
+pub mod RefLaws

@@ -126,13 +126,20 @@ pub fn unlink(t: &mut [u32], u: usize, v: usize, d: usize)
     put_link(t, v, b, 0, 0);
 }
 
+// Clears n words from a place on.
+pub fn clear_words(t: &mut [u32], from: usize, n: usize)
+    requires { from + n ≤ length t.old }
+    ensures { t.new ≡ sets t.old from (replicate n 0) }
+{
+    t[from..from + n].fill(0);
+}
+
 // Clears the record r.
 pub fn clear_record(t: &mut [u32], r: usize)
     requires { HasRecord t.old r }
     ensures { t.new ≡ sets t.old (r * width) (replicate width 0) }
 {
-    let start = r * Record::WORDS;
-    t[start..start + Record::WORDS].fill(0);
+    clear_words(t, r * Record::WORDS, Record::WORDS);
 }
 
 // Clears all words.

@@ -99,7 +99,7 @@ fn one<W: Write>(out: &mut W, line: &[u8]) -> io::Result<()> {
 pub(crate) fn each<W: Write>(out: &mut W, s: &[u8]) -> io::Result<()> {
     let mut at = 0;
     while at < s.len() {
-        let end = line_end(s, at);
+        let end = at + line_end(&s[at..]);
         one(out, &s[at..end])?;
         at = end + 1;
     }

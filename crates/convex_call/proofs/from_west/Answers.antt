@@ -1,12 +1,13 @@
 -- `convex_call::from_west` meets its contract.
-use Rattle.convex_call.proofs.PartLaws.{west_told}
+use Rattle.convex_call.proofs.PartLaws.{digits_of, west_told}
 use Rattle.convex_call.proofs.RoundLaws.{place-within}
 use native.Mathlib.Omega.{arith}
 use Rattle.convex_call.proofs.from_west.Goals as goal
 
 pub by_parts-requires : goal.by_parts-requires
 by_parts-requires c =
-    (c.requires.0, omega (arith, c.place-l.ensures, place-within 3 c.args.room.now c.requires.1), c.requires.2, c.requires.3, c.requires.4)
+    let b = c.requires.0 in
+    (digits_of b, omega (arith, c.place-l.ensures, place-within 3 c.args.room.now b.short), c.requires.1)
 
 pub returns : goal.returns
 returns c =

@@ -6,4 +6,4 @@ use Rattle.convex_laws.specs.Level.{level_along}
 use Rattle.convex_part.proofs.along.Given as goal
 
 abbrev pub invariant-loop-q : goal.invariant-loop-q
-invariant-loop-q l = level_along l.ys (drop (l.q - 1) l.s) ≡ level_along l.ys (drop l.a l.s)
+invariant-loop-q l = level_along l.ys (drop (l.q - 1) l.s) ≡ level_along l.ys l.s

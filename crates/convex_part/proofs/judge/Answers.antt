@@ -13,16 +13,20 @@ returns-then-not-plain c =
     judge_letters (turned_by a.turn a.part.now)
     (sym c.plain.ensures ∙ c.if-not-plain.true)
 
+pub slice_bounds-columns-end : goal.slice_bounds-columns-end
+slice_bounds-columns-end c = let d = c.dig-n in omega (arith, d.ensures.1, d.auto.ys, c.requires.2.depths)
+
 pub slice_bounds-columns-end-2 : goal.slice_bounds-columns-end-2
 slice_bounds-columns-end-2 c =
     let d = c.dig-n in
-    sym (length-take-le d.result d.new.ys (omega (arith, d.ensures.1, d.auto.ys)))
+    sym (length-take-le d.result d.new.ys (omega (arith, d.ensures.1, d.auto.ys, c.requires.2.depths)))
 
 pub columns-requires : goal.columns-requires
 columns-requires c =
     let d = c.dig-n in
-    let l = length-take-le d.result d.new.ys (omega (arith, d.ensures.1, d.auto.ys)) in
-    (omega (arith, l, d.ensures.1), omega (arith, l, d.ensures.1))
+    let p = c.requires.2 in
+    let l = length-take-le d.result d.new.ys (omega (arith, d.ensures.1, d.auto.ys, p.depths)) in
+    (omega (arith, l, d.ensures.1, p.stack), omega (arith, l, d.ensures.1, p.depths, p.narrow))
 
 pub returns : goal.returns
 returns c =

@@ -1,9 +1,6 @@
 -- `hull_call::list_in` meets its contract.
-use Rattle.hull_call.proofs.ListLaws.{walked_order, chained, hulled}
+use Rattle.hull_call.proofs.ListLaws.{chained, hulled}
 use Rattle.hull_call.proofs.list_in.Goals as goal
-
-pub overflow_sub-n : goal.overflow_sub-n
-overflow_sub-n c = walked_order c.requires.0
 
 pub finish-requires : goal.finish-requires
 finish-requires c =

@@ -52,8 +52,8 @@ overflow_sub-y-2 c = filling_top c.loop-d.invariant.filling
 pub keep-requires-3 : goal.keep-requires-3
 keep-requires-3 c = filled_in_hi c.loop-d.invariant c.requires.2
 
-pub overflow_sub-east : goal.overflow_sub-east
-overflow_sub-east c = let f = c.loop-d.invariant.filling in omega (arith, filling_west f, filling_east f)
+pub overflow_sub-extent : goal.overflow_sub-extent
+overflow_sub-extent c = let f = c.loop-d.invariant.filling in omega (arith, filling_west f, filling_east f)
 
 pub returns : goal.returns
 returns c =

@@ -1,6 +1,6 @@
 -- `hull_columns::survey` meets its contract.
 use native.Mathlib.Omega.{arith}
-use mathlib.Core.Path.{refl, ap₂}
+use mathlib.Core.Path.{ap₂, refl}
 use Prim.Native.Nat.{ℕ}
 use Rattle.column_laws.proofs.SurveyLaws.{surveyed_start, surveyed_room, surveyed_step, surveyed_west, surveyed_east}
 use Rattle.steps.proofs.ChainLaws.{good_digits, good_short}
@@ -32,8 +32,17 @@ returns c =
     let l = c.loop-d in
     let n = c.loop-d-test.false in
     let chain = c.args.chain.now in
-    ap₂ extent (surveyed_west chain l.x l.west l.east l.d-index l.invariant n)
-    (surveyed_east chain l.x l.west l.east l.d-index l.invariant n)
+    let west = surveyed_west chain l.x l.west l.east l.d-index l.invariant n in
+    let east = surveyed_east chain l.x l.west l.east l.d-index l.invariant n in
+    record {
+      extent = ap₂ whole west east;
+      spans = record {
+        digits = good_digits 0 chain c.requires;
+        short = omega (arith, good_short 0 chain (omega arith) c.requires);
+        west = west;
+        east = east;
+      };
+    }
   where
-    extent : ℕ → ℕ → Extent
-    extent w e = record { west = w; east = e }
+    whole : ℕ → ℕ → Extent
+    whole w e = record { west = w; east = e }

@@ -1,10 +1,14 @@
 -- `hull_corners::finish` meets its contract.
+use native.Mathlib.Omega.{arith}
 use lib.ListN.{length}
 use Rattle.hull_corners.proofs.PartsLaws.{close_ge, chained_parts, listed_short, listed_enough}
 use Rattle.hull_corners.proofs.finish.Goals as goal
 
-pub overflow_sub-count-2 : goal.overflow_sub-count-2
-overflow_sub-count-2 c = close_ge c.requires.1 c.seam-f.result c.close-g.result c.seam-f.ensures c.close-g.ensures
+pub slice_bounds-part-count : goal.slice_bounds-part-count
+slice_bounds-part-count c = close_ge c.requires.1 c.seam-f.result c.close-g.result c.seam-f.ensures c.close-g.ensures
+
+pub slice_bounds-part-start : goal.slice_bounds-part-start
+slice_bounds-part-start c = omega (arith, close_ge c.requires.1 c.seam-f.result c.close-g.result c.seam-f.ensures c.close-g.ensures)
 
 pub returns-then-out-count : goal.returns-then-out-count
 returns-then-out-count c =

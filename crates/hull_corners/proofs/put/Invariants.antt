@@ -17,4 +17,4 @@ corner base way ys k = spot_by base way (col_at ys k)
 abbrev pub invariant-loop-c : goal.invariant-loop-c
 invariant-loop-c l =
     (l.o ≡ l.at + 2 * l.c-index) × (length l.out ≡ length l.initial.out)
-    × (sets l.out l.o (numbers (map (corner l.base l.way l.ys) (slice (l.from + l.c-index) l.to l.s))) ≡ sets l.initial.out l.at (numbers (map (corner l.base l.way l.ys) (slice l.from l.to l.s))))
+    × (sets l.out l.o (numbers (map (corner l.base l.way l.ys) (slice l.c-index (length l.s) l.s))) ≡ sets l.initial.out l.at (numbers (map (corner l.base l.way l.ys) l.s)))

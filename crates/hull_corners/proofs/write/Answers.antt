@@ -1,9 +1,6 @@
 -- `hull_corners::write` meets its contract.
-use lib.IntN.{pos, ◌-ℤ◌}
 use lib.ListN.{length}
-use Rattle.column_laws.specs.Columns.{middle, top}
-use Rattle.hull_laws.proofs.JoinLaws.{write_both}
-use Rattle.hull_corners.proofs.PartsLaws.{puts_lower, puts_upper}
+use Rattle.hull_corners.proofs.PartsLaws.{puts_lower, puts_upper, both_written}
 use Rattle.hull_corners.proofs.write.Goals as goal
 
 pub put-requires : goal.put-requires
@@ -20,11 +17,10 @@ put-requires-2 c =
 
 pub returns : goal.returns
 returns c =
+    let a = c.args in
     let p = c.placed-first in
     let b = c.placed-last in
     let d = c.put in
-    write_both (c.args.start.0 -ℤ pos middle) (c.args.start.1 -ℤ pos middle) c.args.west
-    c.args.east top c.args.lo.now c.args.hi.now c.args.s.now
-    c.args.t.now c.args.a c.args.f c.args.g
-    p.result b.result c.args.out.now d.new.out c.put-2.new.out p.ensures b.ensures
+    both_written a.start a.extent.west a.extent.east a.lo.now a.hi.now a.s.now a.t.now
+    p.result b.result a.out.now d.new.out c.put-2.new.out p.ensures b.ensures
     d.ensures c.put-2.ensures

@@ -6,4 +6,4 @@ use Prim.Native.Nat.{◌+◌}
 use Rattle.line_stream.proofs.line_end.Given as goal
 
 abbrev pub invariant-loop-i : goal.invariant-loop-i
-invariant-loop-i l = l.at + line_length (drop l.at l.s) ≡ l.i + line_length (drop l.i l.s)
+invariant-loop-i l = line_length l.s ≡ l.i + line_length (drop l.i l.s)

@@ -6,7 +6,7 @@ use Rattle.line_frame.specs.Begun.{line_length}
 use Rattle.line_stream.proofs.skip.Given as goal
 
 abbrev pub invariant-loop-i : goal.invariant-loop-i
-invariant-loop-i l = (l.i ≤ length l.s) × (l.i + line_length (drop l.i l.s) ≡ l.at + line_length (drop l.at l.s))
+invariant-loop-i l = (l.i ≤ length l.s) × (l.i + line_length (drop l.i l.s) ≡ line_length l.s)
 
 abbrev pub decreases-loop-i : goal.decreases-loop-i
 decreases-loop-i l = length l.s - l.i

@@ -1,7 +1,6 @@
 -- `lines::finish` meets its contract.
 use mathlib.Core.Path.{sym}
 use native.Mathlib.Omega.{arith}
-use borrow.Author.Rules.{rules}
 use lib.Seq.{length-take-le}
 use Rattle.lines.proofs.TaskLaws.{last_none}
 use Rattle.lines.proofs.finish.Goals as goal
@@ -18,6 +17,5 @@ pub tell_last-requires : goal.tell_last-requires
 tell_last-requires c =
     let n = length-take-le c.args.held c.args.line.now (omega (arith, c.requires.held_le_most_held)) in record {
       s_nonzero = (omega (arith, n, c.if-held-lt1.false), omega (arith, n, c.requires.held_le_most_held));
-      lent = search rules;
       task_in_bounds = c.requires.task_in_bounds;
     }

@@ -2,5 +2,5 @@
 use mathlib.Core.Path.{sym, ◌∙◌}
 use Rattle.orthogonal_call.proofs.outline.Goals as goal
 
-pub outline_room-requires : goal.outline_room-requires
-outline_room-requires c = sym c.judge.ensures ∙ c.in_ok-judge.was
+pub invariant_of-site : goal.invariant_of-site
+invariant_of-site c = record { judged = sym c.judge.ensures ∙ c.in_ok-judge.was }

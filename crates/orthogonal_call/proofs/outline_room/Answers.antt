@@ -5,5 +5,5 @@ use Rattle.orthogonal_call.proofs.outline_room.Goals as goal
 
 pub outline_sized-requires-2 : goal.outline_sized-requires-2
 outline_sized-requires-2 c =
-    let a = c.args in
-    (c.requires, omega (arith, (accepted a.start a.chain.now a.g c.requires).few), omega arith)
+    let s = c.args.site.now in
+    (omega (arith, (accepted s.start s.chain.now s.g s.judged).few), omega arith)

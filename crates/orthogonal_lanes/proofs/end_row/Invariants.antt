@@ -1,4 +1,4 @@
--- What the loops of `orthogonal_lanes::end_row` keep, and how they end.
+-- What the loop of `orthogonal_lanes::end_row` keeps.
 use mathlib.Core.Path.{◌≡◌}
 use Prim.Native.Nat.{ℕ, ◌≤◌, ◌<◌}
 use lib.ListN.{length, get_or}
@@ -7,6 +7,3 @@ use Rattle.orthogonal_lanes.proofs.end_row.Given as goal
 
 abbrev pub invariant-loop-q : goal.invariant-loop-q
 invariant-loop-q l = (l.q ≤ length l.a) × ((k : ℕ) → l.q ≤ k → k < length l.a → get_or l.a k 0 ≡ blank)
-
-abbrev pub decreases-loop-q : goal.decreases-loop-q
-decreases-loop-q l = l.q

@@ -1,5 +1,4 @@
 -- `orthogonal_lanes::first_row` meets its contract.
-use native.Mathlib.Omega.{arith}
 use mathlib.Core.Path.{◌≡◌}
 use Prim.Native.Nat.{ℕ}
 use lib.ListN.{get_or}
@@ -9,4 +8,4 @@ use Rattle.orthogonal_lanes.proofs.first_row.Goals as goal
 
 pub loop-q-preserved : goal.loop-q-preserved
 loop-q-preserved c =
-    (omega arith, below_more (λ (k : ℕ). get_or c.args.a.now k 0 ≡ blank) c.loop-q.q c.loop-q.invariant.1 c.if-a-q.false)
+    below_more (λ (k : ℕ). get_or c.args.a.now k 0 ≡ blank) c.loop-q.q c.loop-q.invariant c.if-x.false

@@ -6,61 +6,51 @@ use Rattle.outline_map.proofs.count.Goals as goal
 
 pub go-i-requires : goal.go-i-requires
 go-i-requires c =
-    (going_way c.args.chain.now c.args.by.now c.args.map.now c.args.home
-    c.args.first c.requires 0 c.args.home c.args.first
-    (going_start c.args.chain.now c.args.by.now c.args.map.now c.args.home
-    c.args.first c.requires)).1
+    (going_way c.requires 0 c.args.ring.now.home c.args.ring.now.first
+    (going_start c.requires)).1
 
 pub bounds-map-i : goal.bounds-map-i
 bounds-map-i c =
-    going_in c.args.chain.now c.args.by.now c.args.map.now c.args.home
-    c.args.first c.requires 0 c.args.home c.args.first
-    (going_start c.args.chain.now c.args.by.now c.args.map.now c.args.home
-    c.args.first c.requires) c.go-i.result c.go-i.ensures
+    going_in c.requires 0 c.args.ring.now.home c.args.ring.now.first
+    (going_start c.requires) c.go-i.result c.go-i.ensures
 
 pub turn-d-requires : goal.turn-d-requires
 turn-d-requires c =
-    (going_way c.args.chain.now c.args.by.now c.args.map.now c.args.home
-    c.args.first c.requires 0 c.args.home c.args.first
-    (going_start c.args.chain.now c.args.by.now c.args.map.now c.args.home
-    c.args.first c.requires)).0
+    (going_way c.requires 0 c.args.ring.now.home c.args.ring.now.first
+    (going_start c.requires)).0
 
-pub loop-i-init : goal.loop-i-init
-loop-i-init c =
-    (going_first c.args.chain.now c.args.by.now c.args.map.now c.args.home c.args.first c.requires 0 c.args.home c.args.first (going_start c.args.chain.now c.args.by.now c.args.map.now c.args.home c.args.first c.requires) refl c.go-i.result c.turn-d.result c.go-i.ensures c.turn-d.ensures, omega arith)
+pub loop-by-init : goal.loop-by-init
+loop-by-init c =
+    (going_first c.requires 0 c.args.ring.now.home c.args.ring.now.first (going_start c.requires) refl c.go-i.result c.turn-d.result c.go-i.ensures c.turn-d.ensures, omega arith)
 
-pub go-i-requires-in-loop-i : goal.go-i-requires-in-loop-i
-go-i-requires-in-loop-i c =
-    let l = c.loop-i in (going_way c.args.chain.now c.args.by.now c.args.map.now
-    c.args.home c.args.first c.requires l.n l.i l.d l.invariant.0).1
+pub go-i-requires-in-loop-by : goal.go-i-requires-in-loop-by
+go-i-requires-in-loop-by c =
+    let l = c.loop-by in (going_way c.requires l.n l.i l.d l.invariant.0).1
 
-pub bounds-map-i-in-loop-i : goal.bounds-map-i-in-loop-i
-bounds-map-i-in-loop-i c =
-    let l = c.loop-i in going_in c.args.chain.now c.args.by.now c.args.map.now
-    c.args.home c.args.first c.requires l.n l.i l.d l.invariant.0 c.go-i-in-loop-i.result
-    c.go-i-in-loop-i.ensures
+pub bounds-map-i-in-loop-by : goal.bounds-map-i-in-loop-by
+bounds-map-i-in-loop-by c =
+    let l = c.loop-by in going_in c.requires l.n l.i l.d l.invariant.0 c.go-i-in-loop-by.result
+    c.go-i-in-loop-by.ensures
 
-pub turn-d-requires-in-loop-i : goal.turn-d-requires-in-loop-i
-turn-d-requires-in-loop-i c =
-    let l = c.loop-i in (going_way c.args.chain.now c.args.by.now c.args.map.now
-    c.args.home c.args.first c.requires l.n l.i l.d l.invariant.0).0
+pub turn-d-requires-in-loop-by : goal.turn-d-requires-in-loop-by
+turn-d-requires-in-loop-by c =
+    let l = c.loop-by in (going_way c.requires l.n l.i l.d l.invariant.0).0
 
 pub overflow_add-n : goal.overflow_add-n
 overflow_add-n c =
-    let l = c.loop-i in omega
-    (arith, c.requires.short, (going_less c.args.chain.now c.args.by.now c.args.map.now c.args.home c.args.first c.requires l.n l.i l.d l.invariant.0 (sym c.away.ensures ∙ c.loop-i-test.true) origin).1)
+    let l = c.loop-by in omega
+    (arith, c.requires.short, (going_less c.requires l.n l.i l.d l.invariant.0 (sym c.away.ensures ∙ c.loop-by-test.true) origin).1)
 
-pub loop-i-smaller : goal.loop-i-smaller
-loop-i-smaller c =
-    let l = c.loop-i in omega
-    (arith, (going_less c.args.chain.now c.args.by.now c.args.map.now c.args.home c.args.first c.requires l.n l.i l.d l.invariant.0 (sym c.away.ensures ∙ c.loop-i-test.true) origin).1)
+pub loop-by-smaller : goal.loop-by-smaller
+loop-by-smaller c =
+    let l = c.loop-by in omega
+    (arith, (going_less c.requires l.n l.i l.d l.invariant.0 (sym c.away.ensures ∙ c.loop-by-test.true) origin).1)
 
-pub loop-i-preserved : goal.loop-i-preserved
-loop-i-preserved c =
-    let l = c.loop-i in (going_next c.args.chain.now c.args.by.now c.args.map.now c.args.home c.args.first c.requires l.n l.i l.d l.invariant.0 (sym c.away.ensures ∙ c.loop-i-test.true) c.go-i-in-loop-i.result c.turn-d-in-loop-i.result c.go-i-in-loop-i.ensures c.turn-d-in-loop-i.ensures, omega arith)
+pub loop-by-preserved : goal.loop-by-preserved
+loop-by-preserved c =
+    let l = c.loop-by in (going_next c.requires l.n l.i l.d l.invariant.0 (sym c.away.ensures ∙ c.loop-by-test.true) c.go-i-in-loop-by.result c.turn-d-in-loop-by.result c.go-i-in-loop-by.ensures c.turn-d-in-loop-by.ensures, omega arith)
 
 pub returns : goal.returns
 returns c =
-    let l = c.loop-i in going_end c.args.chain.now c.args.by.now c.args.map.now
-    c.args.home c.args.first c.requires l.n l.i l.d l.invariant.0 l.invariant.1
-    (sym c.away.ensures ∙ c.loop-i-test.false)
+    let l = c.loop-by in going_end c.requires l.n l.i l.d l.invariant.0 l.invariant.1
+    (sym c.away.ensures ∙ c.loop-by-test.false)

@@ -3,8 +3,8 @@ use Rattle.std.proofs.Common.{◌-◌, ◌*◌, ◌<◌, length}
 use Rattle.outline_map.proofs.WayLaws.{GoingOn}
 use Rattle.outline_map.proofs.count.Given as goal
 
-abbrev pub invariant-loop-i : goal.invariant-loop-i
-invariant-loop-i l = GoingOn l.chain l.by l.map l.home l.n l.i l.d × (0 < l.n)
+abbrev pub invariant-loop-by : goal.invariant-loop-by
+invariant-loop-by l = GoingOn l.ring.chain.now l.ring.by.now l.ring.map.now l.ring.home l.n l.i l.d × (0 < l.n)
 
-abbrev pub decreases-loop-i : goal.decreases-loop-i
-decreases-loop-i l = 2 * length l.chain - l.n
+abbrev pub decreases-loop-by : goal.decreases-loop-by
+decreases-loop-by l = 2 * length l.ring.chain.now - l.n

@@ -6,92 +6,75 @@ use Rattle.outline_map.proofs.put.Goals as goal
 
 pub bounds-out-0 : goal.bounds-out-0
 bounds-out-0 c =
-    put_some c.args.chain.now c.args.by.now c.args.map.now c.args.home
-    c.args.first c.requires.0 (length c.args.out.now) c.requires.1
+    put_some c.requires.0 (length c.args.out.now) c.requires.1
 
 pub go-i-requires : goal.go-i-requires
 go-i-requires c =
-    (going_way c.args.chain.now c.args.by.now c.args.map.now c.args.home
-    c.args.first c.requires.0 0 c.args.home c.args.first
-    (going_start c.args.chain.now c.args.by.now c.args.map.now c.args.home
-    c.args.first c.requires.0)).1
+    (going_way c.requires.0 0 c.args.ring.now.home c.args.ring.now.first
+    (going_start c.requires.0)).1
 
 pub bounds-map-i : goal.bounds-map-i
 bounds-map-i c =
-    going_in c.args.chain.now c.args.by.now c.args.map.now c.args.home
-    c.args.first c.requires.0 0 c.args.home c.args.first
-    (going_start c.args.chain.now c.args.by.now c.args.map.now c.args.home
-    c.args.first c.requires.0) c.go-i.result c.go-i.ensures
+    going_in c.requires.0 0 c.args.ring.now.home c.args.ring.now.first
+    (going_start c.requires.0) c.go-i.result c.go-i.ensures
 
 pub turn-d-requires : goal.turn-d-requires
 turn-d-requires c =
-    (going_way c.args.chain.now c.args.by.now c.args.map.now c.args.home
-    c.args.first c.requires.0 0 c.args.home c.args.first
-    (going_start c.args.chain.now c.args.by.now c.args.map.now c.args.home
-    c.args.first c.requires.0)).0
+    (going_way c.requires.0 0 c.args.ring.now.home c.args.ring.now.first
+    (going_start c.requires.0)).0
 
-pub loop-out-init : goal.loop-out-init
-loop-out-init c = (
-  going_first c.args.chain.now c.args.by.now c.args.map.now c.args.home
-      c.args.first c.requires.0 0 c.args.home c.args.first
-      (going_start c.args.chain.now c.args.by.now c.args.map.now c.args.home
-      c.args.first c.requires.0) refl c.go-i.result c.turn-d.result c.go-i.ensures c.turn-d.ensures,
+pub loop-by-init : goal.loop-by-init
+loop-by-init c = (
+  going_first c.requires.0 0 c.args.ring.now.home c.args.ring.now.first
+      (going_start c.requires.0) refl c.go-i.result c.turn-d.result c.go-i.ensures c.turn-d.ensures,
   omega arith,
-  put-start c.args.chain.now c.args.by.now c.args.map.now c.args.home
-      c.args.first c.requires.0 c.args.out.now
-      (put_some c.args.chain.now c.args.by.now c.args.map.now c.args.home
-      c.args.first c.requires.0 (length c.args.out.now) c.requires.1),
+  put-start c.requires.0 c.args.out.now
+      (put_some c.requires.0 (length c.args.out.now) c.requires.1),
 )
 
 pub bounds-out-n : goal.bounds-out-n
 bounds-out-n c =
-    let l = c.loop-out in
-    omega (arith, l.auto.out, length-set c.args.out.now 0 c.args.first, c.requires.1 origin, (going_less c.args.chain.now c.args.by.now c.args.map.now c.args.home c.args.first c.requires.0 l.n l.i l.d l.invariant.0 (sym c.away.ensures ∙ c.loop-out-test.true) origin).0)
+    let l = c.loop-by in
+    omega (arith, l.auto.out, length-set c.args.out.now 0 c.args.ring.now.first, c.requires.1 origin, (going_less c.requires.0 l.n l.i l.d l.invariant.0 (sym c.away.ensures ∙ c.loop-by-test.true) origin).0)
 
-pub go-i-requires-in-loop-out : goal.go-i-requires-in-loop-out
-go-i-requires-in-loop-out c =
-    let l = c.loop-out in (going_way c.args.chain.now c.args.by.now c.args.map.now
-    c.args.home c.args.first c.requires.0 l.n l.i l.d l.invariant.0).1
+pub go-i-requires-in-loop-by : goal.go-i-requires-in-loop-by
+go-i-requires-in-loop-by c =
+    let l = c.loop-by in (going_way c.requires.0 l.n l.i l.d l.invariant.0).1
 
-pub bounds-map-i-in-loop-out : goal.bounds-map-i-in-loop-out
-bounds-map-i-in-loop-out c =
-    let l = c.loop-out in going_in c.args.chain.now c.args.by.now c.args.map.now
-    c.args.home c.args.first c.requires.0 l.n l.i l.d l.invariant.0 c.go-i-in-loop-out.result
-    c.go-i-in-loop-out.ensures
+pub bounds-map-i-in-loop-by : goal.bounds-map-i-in-loop-by
+bounds-map-i-in-loop-by c =
+    let l = c.loop-by in going_in c.requires.0 l.n l.i l.d l.invariant.0 c.go-i-in-loop-by.result
+    c.go-i-in-loop-by.ensures
 
-pub turn-d-requires-in-loop-out : goal.turn-d-requires-in-loop-out
-turn-d-requires-in-loop-out c =
-    let l = c.loop-out in (going_way c.args.chain.now c.args.by.now c.args.map.now
-    c.args.home c.args.first c.requires.0 l.n l.i l.d l.invariant.0).0
+pub turn-d-requires-in-loop-by : goal.turn-d-requires-in-loop-by
+turn-d-requires-in-loop-by c =
+    let l = c.loop-by in (going_way c.requires.0 l.n l.i l.d l.invariant.0).0
 
 pub overflow_add-n : goal.overflow_add-n
 overflow_add-n c =
-    let l = c.loop-out in omega
-    (arith, c.requires.0.short, (going_less c.args.chain.now c.args.by.now c.args.map.now c.args.home c.args.first c.requires.0 l.n l.i l.d l.invariant.0 (sym c.away.ensures ∙ c.loop-out-test.true) origin).1)
+    let l = c.loop-by in omega
+    (arith, c.requires.0.short, (going_less c.requires.0 l.n l.i l.d l.invariant.0 (sym c.away.ensures ∙ c.loop-by-test.true) origin).1)
 
-pub loop-out-smaller : goal.loop-out-smaller
-loop-out-smaller c =
-    let l = c.loop-out in omega
-    (arith, (going_less c.args.chain.now c.args.by.now c.args.map.now c.args.home c.args.first c.requires.0 l.n l.i l.d l.invariant.0 (sym c.away.ensures ∙ c.loop-out-test.true) origin).1)
+pub loop-by-smaller : goal.loop-by-smaller
+loop-by-smaller c =
+    let l = c.loop-by in omega
+    (arith, (going_less c.requires.0 l.n l.i l.d l.invariant.0 (sym c.away.ensures ∙ c.loop-by-test.true) origin).1)
 
-pub loop-out-preserved : goal.loop-out-preserved
-loop-out-preserved c =
-    let l = c.loop-out in
-    let g = (going_less c.args.chain.now c.args.by.now c.args.map.now c.args.home c.args.first c.requires.0 l.n l.i l.d l.invariant.0 (sym c.away.ensures ∙ c.loop-out-test.true) origin).0 in (
-      going_next c.args.chain.now c.args.by.now c.args.map.now c.args.home
-          c.args.first c.requires.0 l.n l.i l.d l.invariant.0
-          (sym c.away.ensures ∙ c.loop-out-test.true) c.go-i-in-loop-out.result c.turn-d-in-loop-out.result c.go-i-in-loop-out.ensures
-          c.turn-d-in-loop-out.ensures,
+pub loop-by-preserved : goal.loop-by-preserved
+loop-by-preserved c =
+    let l = c.loop-by in
+    let g = (going_less c.requires.0 l.n l.i l.d l.invariant.0 (sym c.away.ensures ∙ c.loop-by-test.true) origin).0 in (
+      going_next c.requires.0 l.n l.i l.d l.invariant.0
+          (sym c.away.ensures ∙ c.loop-by-test.true) c.go-i-in-loop-by.result c.turn-d-in-loop-by.result c.go-i-in-loop-by.ensures
+          c.turn-d-in-loop-by.ensures,
       omega arith,
-      put_next c.args.chain.now c.args.by.now c.args.map.now c.args.home
-          c.args.first c.requires.0 _ l.out l.n l.i l.d l.invariant.0 l.invariant.2
-          (omega (arith, g, c.requires.1 origin, length-set c.args.out.now 0 c.args.first)),
+      put_next c.requires.0 _ l.out l.n l.i l.d l.invariant.0 l.invariant.2
+          (omega (arith, g, c.requires.1 origin, length-set c.args.out.now 0 c.args.ring.now.first)),
     )
 
 pub returns : goal.returns
 returns c =
-    let l = c.loop-out in
-    let e = going_end c.args.chain.now c.args.by.now c.args.map.now c.args.home
-    c.args.first c.requires.0 l.n l.i l.d l.invariant.0 l.invariant.1
-    (sym c.away.ensures ∙ c.loop-out-test.false) in
-    (e, put_end c.args.chain.now c.args.by.now c.args.map.now c.args.home c.args.first c.requires.0 c.args.out.now l.out l.n l.invariant.1 l.invariant.2 e)
+    let l = c.loop-by in
+    let e = going_end c.requires.0 l.n l.i l.d l.invariant.0 l.invariant.1
+    (sym c.away.ensures ∙ c.loop-by-test.false) in
+    (e, put_end c.requires.0 c.args.out.now l.out l.n l.invariant.1 l.invariant.2 e)

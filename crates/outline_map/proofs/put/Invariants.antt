@@ -5,8 +5,8 @@ use Rattle.outline.specs.Outline.{path_from_home}
 use Rattle.outline_map.proofs.WayLaws.{GoingOn}
 use Rattle.outline_map.proofs.put.Given as goal
 
-abbrev pub invariant-loop-out : goal.invariant-loop-out
-invariant-loop-out l = GoingOn l.chain l.by l.map l.home l.n l.i l.d × (0 < l.n) × ((c : Corner) → l.out ≡ path_from_home c l.chain l.n ++ drop l.n l.initial.out)
+abbrev pub invariant-loop-by : goal.invariant-loop-by
+invariant-loop-by l = GoingOn l.ring.chain.now l.ring.by.now l.ring.map.now l.ring.home l.n l.i l.d × (0 < l.n) × ((c : Corner) → l.out ≡ path_from_home c l.ring.chain.now l.n ++ drop l.n l.initial.out)
 
-abbrev pub decreases-loop-out : goal.decreases-loop-out
-decreases-loop-out l = 2 * length l.chain - l.n
+abbrev pub decreases-loop-by : goal.decreases-loop-by
+decreases-loop-by l = 2 * length l.ring.chain.now - l.n

@@ -8,57 +8,49 @@ use Rattle.outline_path.proofs.count.Goals as goal
 pub follow-i-requires : goal.follow-i-requires
 follow-i-requires c =
     let a = c.args in
-    at_link origin a.chain.now a.links.now a.home a.first c.requires 0 a.home a.first (at-start origin a.chain.now a.links.now a.home a.first c.requires)
+    at_link origin c.requires 0 a.home a.first (at-start origin c.requires)
 
 pub turn-d-requires : goal.turn-d-requires
 turn-d-requires c =
     let a = c.args in
-    let p = c.requires in
-    at-to origin a.chain.now a.links.now a.home a.first (p) 0 a.home a.first
-    (at-start origin a.chain.now a.links.now a.home a.first (p)) c.follow-i.result c.follow-i.ensures
+    at-to origin c.requires 0 a.home a.first
+    (at-start origin c.requires) c.follow-i.result c.follow-i.ensures
 
 pub loop-i-init : goal.loop-i-init
 loop-i-init c =
-    going_start c.args.chain.now c.args.links.now c.args.home c.args.first
-    c.requires c.follow-i.result c.turn-d.result c.follow-i.ensures c.turn-d.ensures
+    going_start c.requires c.follow-i.result c.turn-d.result c.follow-i.ensures c.turn-d.ensures
 
 pub follow-i-requires-in-loop-i : goal.follow-i-requires-in-loop-i
 follow-i-requires-in-loop-i c =
-    let a = c.args in
     let l = c.loop-i in
-    at_link origin a.chain.now a.links.now a.home a.first c.requires l.n l.i l.d (l.invariant origin).at
+    at_link origin c.requires l.n l.i l.d (l.invariant origin).at
 
 pub turn-d-requires-in-loop-i : goal.turn-d-requires-in-loop-i
 turn-d-requires-in-loop-i c =
-    let a = c.args in
     let l = c.loop-i in
-    at-to origin a.chain.now a.links.now a.home a.first c.requires l.n l.i l.d (l.invariant origin).at
+    at-to origin c.requires l.n l.i l.d (l.invariant origin).at
     c.follow-i-in-loop-i.result c.follow-i-in-loop-i.ensures
 
 pub overflow_add-n : goal.overflow_add-n
 overflow_add-n c =
-    let a = c.args in
     let p = c.requires in
     let l = c.loop-i in
-    omega (arith, p.short, going_less a.chain.now a.links.now a.home a.first (p) l.n l.i l.d l.invariant (sym c.away.ensures ∙ c.loop-i-test.true))
+    omega (arith, p.short, going_less c.requires l.n l.i l.d l.invariant (sym c.away.ensures ∙ c.loop-i-test.true))
 
 pub loop-i-smaller : goal.loop-i-smaller
 loop-i-smaller c =
-    let a = c.args in
     let l = c.loop-i in
-    omega (arith, going_less a.chain.now a.links.now a.home a.first c.requires l.n l.i l.d l.invariant (sym c.away.ensures ∙ c.loop-i-test.true))
+    omega (arith, going_less c.requires l.n l.i l.d l.invariant (sym c.away.ensures ∙ c.loop-i-test.true))
 
 pub loop-i-preserved : goal.loop-i-preserved
 loop-i-preserved c =
-    let a = c.args in
     let l = c.loop-i in
-    going_next a.chain.now a.links.now a.home a.first c.requires l.n l.i l.d l.invariant
+    going_next c.requires l.n l.i l.d l.invariant
     (sym c.away.ensures ∙ c.loop-i-test.true) c.follow-i-in-loop-i.result c.turn-d-in-loop-i.result
     c.follow-i-in-loop-i.ensures c.turn-d-in-loop-i.ensures
 
 pub returns : goal.returns
 returns c =
-    let a = c.args in
     let l = c.loop-i in
-    going_end a.chain.now a.links.now a.home a.first c.requires l.n l.i l.d l.invariant
+    going_end c.requires l.n l.i l.d l.invariant
     (sym c.away.ensures ∙ c.loop-i-test.false)

@@ -6,8 +6,11 @@ use Rattle.overlay.specs.Call.{of_parts}
 use Rattle.overlay_call.proofs.ListLaws.{call_first, call_second}
 use Rattle.overlay_call.proofs.list.Goals as goal
 
-pub list_rooms-requires : goal.list_rooms-requires
-list_rooms-requires c = (sym c.judge.ensures ∙ c.in_ok-judge.was, sym c.judge-2.ensures ∙ c.in_ok-judge-2.was)
+pub invariant_of-one : goal.invariant_of-one
+invariant_of-one c = record { judged = sym c.judge.ensures ∙ c.in_ok-judge.was }
+
+pub invariant_of-other : goal.invariant_of-other
+invariant_of-other c = record { judged = sym c.judge-2.ensures ∙ c.in_ok-judge-2.was }
 
 pub returns-in_err-judge : goal.returns-in_err-judge
 returns-in_err-judge c =

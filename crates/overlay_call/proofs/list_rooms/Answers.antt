@@ -5,6 +5,6 @@ use Rattle.overlay_call.proofs.list_rooms.Goals as goal
 
 pub list_sized-requires-2 : goal.list_sized-requires-2
 list_sized-requires-2 c =
-    let a = (good_walled c.args.s c.args.ds.now c.requires.0).few in
-    let b = (good_walled c.args.t c.args.es.now c.requires.1).few in
-    (c.requires.0, c.requires.1, omega (arith, a), omega (arith, b), omega arith)
+    let a = (good_walled c.args.one.now.start c.args.one.now.chain.now c.args.one.now.judged).few in
+    let b = (good_walled c.args.other.now.start c.args.other.now.chain.now c.args.other.now.judged).few in
+    (omega (arith, a), omega (arith, b), omega arith)

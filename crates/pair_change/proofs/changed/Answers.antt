@@ -3,6 +3,7 @@ use mathlib.Core.Path.{refl, ap, sym, ◌∙◌}
 use Prim.Native.Nat.{ℕ, ◌+◌}
 use native.Mathlib.Omega.{arith}
 use Rattle.grid.specs.Tree.{parent_of}
+use Rattle.walk_change.proofs.LevelLaws.{level_told}
 use Rattle.pair_change.proofs.ChangedLaws.{stepped-from, count_few, count-is, last_held, up_start, up_held, up_few, up-linked, up_next, up_end}
 use Rattle.pair_change.proofs.changed.Goals as goal
 
@@ -45,7 +46,7 @@ rise-level-requires c =
     let l = c.loop-here in
     let x = l.invariant k.both k.slots k.more k.start k.holds
     (c.moved-here.ensures ∙ stepped-from a.d a.p.at k.start k.holds.dir k.end) in
-    ((up_held a.t.now a.q a.p.node a.p.steps a.d k.both k.slots k.more k.start k.holds l.u l.v l.here l.sum x).0, k.holds.dir, up-linked a.t.now a.q a.p.node a.p.steps a.d k.both k.slots k.more k.start k.holds l.u l.v l.here l.sum x (sym c.links_up.ensures ∙ c.loop-here-test.true))
+    ((up_held a.t.now a.q a.p.node a.p.steps a.d k.both k.slots k.more k.start k.holds l.u l.v l.here l.sum x).0, omega arith, k.holds.dir, up-linked a.t.now a.q a.p.node a.p.steps a.d k.both k.slots k.more k.start k.holds l.u l.v l.here l.sum x (sym c.links_up.ensures ∙ c.loop-here-test.true))
 
 pub overflow_add-sum : goal.overflow_add-sum
 overflow_add-sum c =
@@ -55,9 +56,10 @@ overflow_add-sum c =
     let x = l.invariant k.both k.slots k.more k.start k.holds
     (c.moved-here.ensures ∙ stepped-from a.d a.p.at k.start k.holds.dir k.end) in
     let r = c.rise-level in
+    let told = level_told _ _ _ _ _ r.ensures in
     let g = up_next a.t.now a.q a.p.node a.p.steps a.d k.both k.slots k.more k.start k.holds
     l.u l.v l.here l.sum x (sym c.links_up.ensures ∙ c.loop-here-test.true) r.result.u r.result.v
-    r.result.count (parent_of l.here) r.ensures.0 r.ensures.1 r.ensures.2 refl in
+    r.result.count (parent_of l.here) told.0 told.1 told.2 refl in
     let f = up_few a.t.now a.q a.p.node a.p.steps a.d k.both k.slots k.more k.start k.holds
     r.result.u r.result.v (parent_of l.here) (l.sum + r.result.count) g.1 in
     omega (arith, f, count_few k.both a.q a.d a.p.at k.start k.holds.dir k.end c.requires.at_bound.0 c.requires.at_bound.1)
@@ -68,19 +70,21 @@ loop-here-smaller c =
     let k = c.requires.some_step in
     let l = c.loop-here in
     let r = c.rise-level in
+    let told = level_told _ _ _ _ _ r.ensures in
     (up_next a.t.now a.q a.p.node a.p.steps a.d k.both k.slots k.more k.start k.holds l.u
     l.v l.here l.sum (l.invariant k.both k.slots k.more k.start k.holds
-    (c.moved-here.ensures ∙ stepped-from a.d a.p.at k.start k.holds.dir k.end)) (sym c.links_up.ensures ∙ c.loop-here-test.true) r.result.u r.result.v r.result.count c.parent_of-here.result r.ensures.0 r.ensures.1 r.ensures.2 c.parent_of-here.ensures).0
+    (c.moved-here.ensures ∙ stepped-from a.d a.p.at k.start k.holds.dir k.end)) (sym c.links_up.ensures ∙ c.loop-here-test.true) r.result.u r.result.v r.result.count c.parent_of-here.result told.0 told.1 told.2 c.parent_of-here.ensures).0
 
 pub loop-here-preserved : goal.loop-here-preserved
 loop-here-preserved c =
     let a = c.args in
     let l = c.loop-here in
     let r = c.rise-level in
+    let told = level_told _ _ _ _ _ r.ensures in
     λ B slots more o k p.
     (up_next a.t.now a.q a.p.node a.p.steps a.d B slots more o k l.u l.v l.here l.sum
     (l.invariant B slots more o k p) (sym c.links_up.ensures ∙ c.loop-here-test.true) r.result.u r.result.v
-    r.result.count c.parent_of-here.result r.ensures.0 r.ensures.1 r.ensures.2 c.parent_of-here.ensures).1
+    r.result.count c.parent_of-here.result told.0 told.1 told.2 c.parent_of-here.ensures).1
 
 pub above_made-requires : goal.above_made-requires
 above_made-requires c =

@@ -9,10 +9,10 @@ use Rattle.pair_lookup.specs.Climbs.{Stands}
 use Rattle.table_laws.specs.Climb.{Climbed}
 use Rattle.pair_lookup.proofs.climb.Given as goal
 
-abbrev pub invariant-loop-node : goal.invariant-loop-node
-invariant-loop-node l =
-    ((slots : List Slot) (B : Both) → Stands l.t slots B l.q l.u l.initial.at → Climbed (B l.q) l.d l.initial.at l.level l.at × Stands l.t slots B l.q l.node l.at)
+abbrev pub invariant-loop-from : goal.invariant-loop-from
+invariant-loop-from l =
+    ((slots : List Slot) (B : Both) → Stands l.t slots B l.q l.from.node l.initial.at → Climbed (B l.q) l.from.d l.initial.at l.level l.at × Stands l.t slots B l.q l.node l.at)
     × (nat_abs l.at.0 < 65536) × (nat_abs l.at.1 < 65536) × (l.level + size_of l.at ≤ size_of l.initial.at)
 
-abbrev pub decreases-loop-node : goal.decreases-loop-node
-decreases-loop-node l = size_of l.at
+abbrev pub decreases-loop-from : goal.decreases-loop-from
+decreases-loop-from l = size_of l.at

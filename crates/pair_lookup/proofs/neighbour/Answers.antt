@@ -10,61 +10,67 @@ use Rattle.pair_child.proofs.StockLaws.{finds_long}
 use Rattle.pair_lookup.proofs.LiftLaws.{level-none, level_comes}
 use Rattle.pair_lookup.proofs.neighbour.Goals as goal
 
-pub top-v-requires : goal.top-v-requires
-top-v-requires c =
+pub invariant_of-high : goal.invariant_of-high
+invariant_of-high c =
+    let a = c.args in
     let k = c.requires.looking in
-    let q = c.requires.c_bound in
     let p = c.climb-p in
-    let j = p.ensures.climbed k.slots k.both k.looks.stands in
-    let e = j.0.above in
-    let h = up_small p.result.level c.args.c in
+    let e = (p.ensures.climbed k.slots k.both k.looks.stands).0.above in
+    let h = up_small p.result.level a.from.at in
     record {
-      looking = record { slots = k.slots; both = k.both; looks = record { stands = j.1; top = k.looks.top; stock = k.looks.stock } };
-      c_bound = (omega (arith, ap (λ (y : Corner). nat_abs y.0) e, h.0, q.0), omega (arith, ap (λ (y : Corner). nat_abs y.1) e, h.1, q.1), q.2, q.3, q.4, q.5, q.6);
-      d_value = p.ensures.d_value;
+      near = (omega (arith, ap (λ (y : Corner). nat_abs y.0) e, h.0, a.from.near.0), omega (arith, ap (λ (y : Corner). nat_abs y.1) e, h.1, a.from.near.1));
+      way = a.from.way;
+      counted = a.from.counted;
     }
 
-pub returns-then-v-eq0 : goal.returns-then-v-eq0
-returns-then-v-eq0 c =
+pub top-requires : goal.top-requires
+top-requires c =
+    let k = c.requires.looking in
+    let p = c.climb-p in
+    let j = p.ensures.climbed k.slots k.both k.looks.stands in
+    record {
+      looking = record { slots = k.slots; both = k.both; looks = record { stands = j.1; top = k.looks.top; stock = k.looks.stock } };
+      d_value = p.ensures.d_value;
+      q_bound = c.requires.q_bound;
+    }
+
+pub returns-in_err-v : goal.returns-in_err-v
+returns-in_err-v c =
     let a = c.args in
     let p = c.climb-p in
-    let v = c.top-v in
-    λ slots B k.
+    rw c.from_residual.ensures (λ slots B k.
     let j = p.ensures.climbed slots B k.stands in
-    level-none a.t.now slots B a.q a.u a.c a.s k a.d a.step p.result.level p.result.node
-    p.result.at j.0 j.1 v.new.t v.result
-    (v.ensures slots B (record { stands = j.1; top = k.top; stock = k.stock })) c.if-v-eq0.true
+    level-none a.t.now slots B a.q a.from.node a.from.at a.s k a.from.d a.from.step p.result.level p.result.node
+    p.result.at j.0 j.1 c.top.new.t
+    (c.in_err-v.ensures slots B (record { stands = j.1; top = k.top; stock = k.stock })))
 
 pub come_down-requires : goal.come_down-requires
 come_down-requires c =
     let a = c.args in
     let k = c.requires.looking in
-    let q = c.requires.c_bound in
     let p = c.climb-p in
-    let v = c.top-v in
+    let v = c.in_ok-v in
     let j = p.ensures.climbed k.slots k.both k.looks.stands in
     record {
       coming = record {
         slots = k.slots;
         both = k.both;
-        comes = level_comes a.t.now k.slots k.both a.q a.u a.c a.s k.looks a.d a.step
-            p.result.level p.result.node p.result.at j.0 j.1 v.new.t v.result
-            (v.ensures k.slots k.both (record { stands = j.1; top = k.looks.top; stock = k.looks.stock }))
-            c.if-v-eq0.false;
+        comes = level_comes a.t.now k.slots k.both a.q a.from.node a.from.at a.s k.looks a.from.d a.from.step
+            p.result.level p.result.node p.result.at j.0 j.1 c.top.new.t v.v
+            (v.ensures k.slots k.both (record { stands = j.1; top = k.looks.top; stock = k.looks.stock }));
       };
-      c_bound = (q.0, q.1, q.2, q.3, q.4, q.5, omega (arith, v.auto.t, q.6));
-      at_nonzero = omega (arith, c.if-v-eq0.false);
+      q_bound = (c.requires.q_bound.0, c.requires.q_bound.1, omega (arith, c.top.auto.t, c.requires.q_bound.2));
     }
 
 pub returns : goal.returns
 returns c =
     let a = c.args in
     let p = c.climb-p in
-    let v = c.top-v in
+    let v = c.in_ok-v in
     let r = c.come_down in
     λ slots B k.
     let j = p.ensures.climbed slots B k.stands in
-    finds_long B slots a.q (reached (B a.q) a.step a.c (stepped a.d a.c)) (stepped a.d a.c) v.new.t
-    a.t.now r.new.t r.result v.auto.t
-    (r.ensures slots B (level_comes a.t.now slots B a.q a.u a.c a.s k a.d a.step p.result.level
-    p.result.node p.result.at j.0 j.1 v.new.t v.result (v.ensures slots B (record { stands = j.1; top = k.top; stock = k.stock })) c.if-v-eq0.false))
+    finds_long B slots a.q (reached (B a.q) a.from.step a.from.at (stepped a.from.d a.from.at)) (stepped a.from.d a.from.at) c.top.new.t
+    a.t.now r.new.t r.result c.top.auto.t
+    (r.ensures slots B (level_comes a.t.now slots B a.q a.from.node a.from.at a.s k a.from.d a.from.step p.result.level
+    p.result.node p.result.at j.0 j.1 c.top.new.t v.v (v.ensures slots B (record { stands = j.1; top = k.top; stock = k.stock }))))

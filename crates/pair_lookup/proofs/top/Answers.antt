@@ -1,9 +1,7 @@
 -- `pair_lookup::top` meets its contract.
-use mathlib.Core.Path.{◌≡◌, refl, ap, sym, ◌∙◌}
-use Prim.Native.Nat.{ℕ}
+use mathlib.Core.Path.{◌≡◌, ap, sym, ◌∙◌}
 use native.Mathlib.Omega.{arith}
 use Rattle.grid.specs.Tree.{is_root}
-use Rattle.pair_child.specs.Finds.{found}
 use Rattle.pair_lookup.proofs.ClimbLaws.{stands_bound}
 use Rattle.pair_lookup.proofs.LiftLaws.{looks_known, looks_root, looks_lift, looks_first}
 use Rattle.pair_lookup.proofs.top.Goals as goal
@@ -12,78 +10,86 @@ pub own-requires : goal.own-requires
 own-requires c =
     let a = c.args in
     let k = c.requires.looking in
-    let q = c.requires.c_bound in
-    (stands_bound a.t.now k.slots k.both a.q a.u a.c k.looks.stands, q.3, omega (arith, q.2))
+    (stands_bound a.t.now k.slots k.both a.q a.from.node a.from.at k.looks.stands, c.requires.q_bound.0, omega (arith, a.from.way))
 
 pub word-known-requires : goal.word-known-requires
 word-known-requires c =
     let a = c.args in
     let k = c.requires.looking in
-    let q = c.requires.c_bound in
-    omega (arith, stands_bound a.t.now k.slots k.both a.q a.u a.c k.looks.stands, q.2)
+    omega (arith, stands_bound a.t.now k.slots k.both a.q a.from.node a.from.at k.looks.stands, a.from.way)
+
+pub overflow_sub-result : goal.overflow_sub-result
+overflow_sub-result c =
+    let a = c.args in
+    let k = c.requires.looking in
+    omega (arith, (looks_known a.t.now k.slots k.both a.q a.from.node a.from.at a.s k.looks c.requires.q_bound.0 a.from.d a.from.step a.from.way a.from.counted (omega (arith, c.own.ensures, c.if-own-ne0.true)) c.word-known.result c.word-known.ensures).0)
 
 pub returns-then-own-ne0 : goal.returns-then-own-ne0
 returns-then-own-ne0 c =
     let a = c.args in
-    let q = c.requires.c_bound in
-    let o = c.own in
-    λ slots B k. looks_known a.t.now slots B a.q a.u a.c a.s k q.3 a.d a.step q.2 q.4
-    (omega (arith, o.ensures, c.if-own-ne0.true)) _ (ap (λ (x : ℕ). found x a.s) c.word-known.ensures)
+    λ slots B k. (looks_known a.t.now slots B a.q a.from.node a.from.at a.s k c.requires.q_bound.0 a.from.d a.from.step a.from.way a.from.counted
+    (omega (arith, c.own.ensures, c.if-own-ne0.true)) c.word-known.result c.word-known.ensures).1
 
 pub link-requires : goal.link-requires
 link-requires c =
     let a = c.args in
     let k = c.requires.looking in
-    let q = c.requires.c_bound in
     record {
-      in_table = (stands_bound a.t.now k.slots k.both a.q a.u a.c k.looks.stands, looks_first a.t.now k.slots k.both a.q a.u a.c a.s k.looks);
-      q_bound = (q.3, q.2, q.6);
+      in_table = (stands_bound a.t.now k.slots k.both a.q a.from.node a.from.at k.looks.stands, looks_first a.t.now k.slots k.both a.q a.from.node a.from.at a.s k.looks);
+      q_bound = (c.requires.q_bound.0, a.from.way, c.requires.q_bound.2);
     }
 
 pub returns-then-is_root : goal.returns-then-is_root
 returns-then-is_root c =
     let a = c.args in
-    let q = c.requires.c_bound in
     let o = c.own in
     let z : o.result ≡ 0 = omega (arith, c.if-own-ne0.false) in
     let g = ap is_root (sym c.moved-e.ensures) ∙ sym c.is_root.ensures ∙ c.if-is_root.true in
-    λ slots B k. looks_root a.t.now slots B a.q a.u a.c a.s k q.3 a.d a.step q.2 q.4
-    (sym o.ensures ∙ z) g c.link.new.t c.link.ensures _ refl
+    λ slots B k. looks_root a.t.now slots B a.q a.from.node a.from.at a.s k c.requires.q_bound.0 a.from.d a.from.step a.from.way a.from.counted
+    (sym o.ensures ∙ z) g c.link.new.t c.link.ensures
 
-pub parent_or_self-requires : goal.parent_or_self-requires
-parent_or_self-requires c =
+pub parent_or_self-over-requires : goal.parent_or_self-over-requires
+parent_or_self-over-requires c =
     let a = c.args in
     let k = c.requires.looking in
-    let q = c.requires.c_bound in
-    let b = stands_bound a.t.now k.slots k.both a.q a.u a.c k.looks.stands in
-    (b, omega (arith, b, q.6))
+    let b = stands_bound a.t.now k.slots k.both a.q a.from.node a.from.at k.looks.stands in
+    (b, omega (arith, b, c.requires.q_bound.2))
+
+pub overflow_sub-above : goal.overflow_sub-above
+overflow_sub-above c =
+    let a = c.args in
+    let k = c.requires.looking in
+    let o = c.own in
+    let z : o.result ≡ 0 = omega (arith, c.if-own-ne0.false) in
+    let g = ap is_root (sym c.moved-e.ensures) ∙ sym c.is_root.ensures ∙ c.if-is_root.false in
+    let p = c.parent_or_self-over in
+    omega (arith, (looks_lift a.t.now k.slots k.both a.q a.from.node a.from.at a.s k.looks c.requires.q_bound.0 a.from.d a.from.step a.from.way a.from.counted (sym o.ensures ∙ z) g c.requires.d_value p.result p.ensures).0)
 
 pub level_down-requires : goal.level_down-requires
 level_down-requires c =
     let a = c.args in
     let k = c.requires.looking in
-    let q = c.requires.c_bound in
     let o = c.own in
     let z : o.result ≡ 0 = omega (arith, c.if-own-ne0.false) in
     let g = ap is_root (sym c.moved-e.ensures) ∙ sym c.is_root.ensures ∙ c.if-is_root.false in
+    let p = c.parent_or_self-over in
     record {
       lifting = record {
         slots = k.slots;
         both = k.both;
-        lifts = looks_lift a.t.now k.slots k.both a.q a.u a.c a.s k.looks q.3 a.d a.step q.2
-            q.4 (sym o.ensures ∙ z) g c.requires.d_value _
-            (ap (λ (x : ℕ). found x a.s) c.parent_or_self.ensures);
+        lifts = (looks_lift a.t.now k.slots k.both a.q a.from.node a.from.at a.s k.looks c.requires.q_bound.0 a.from.d a.from.step a.from.way
+            a.from.counted (sym o.ensures ∙ z) g c.requires.d_value p.result p.ensures).1;
       };
-      a_bound = q;
+      q_bound = c.requires.q_bound;
     }
 
 pub returns : goal.returns
 returns c =
     let a = c.args in
-    let q = c.requires.c_bound in
     let o = c.own in
     let z : o.result ≡ 0 = omega (arith, c.if-own-ne0.false) in
     let g = ap is_root (sym c.moved-e.ensures) ∙ sym c.is_root.ensures ∙ c.if-is_root.false in
+    let p = c.parent_or_self-over in
     λ slots B k. c.level_down.ensures slots B
-    (looks_lift a.t.now slots B a.q a.u a.c a.s k q.3 a.d a.step q.2 q.4 (sym o.ensures ∙ z) g
-    c.requires.d_value _ (ap (λ (x : ℕ). found x a.s) c.parent_or_self.ensures))
+    (looks_lift a.t.now slots B a.q a.from.node a.from.at a.s k c.requires.q_bound.0 a.from.d a.from.step a.from.way a.from.counted (sym o.ensures ∙ z) g
+    c.requires.d_value p.result p.ensures).1

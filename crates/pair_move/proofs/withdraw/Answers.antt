@@ -17,21 +17,21 @@ own-requires c =
     let a = c.args in
     let k = c.requires.withdrawing in
     let q = c.requires.at_bound in
-    (back_in a.t.now k.first k.second k.firsts k.seconds k.slots a.q a.p a.s a.d k.moves q.3 q.2, q.3, omega arith)
+    (back_in a.t.now k.first k.second k.firsts k.seconds k.slots a.q a.w.party a.w.stock a.d k.moves q.3 q.2, q.3, omega arith)
 
 pub untallied-tally-requires : goal.untallied-tally-requires
 untallied-tally-requires c =
     let a = c.args in
     let k = c.requires.withdrawing in
     let q = c.requires.at_bound in
-    (back-corners a.t.now k.first k.second k.firsts k.seconds k.slots a.q a.p a.s a.d k.moves q.3 q.2, q.4)
+    (back-corners a.t.now k.first k.second k.firsts k.seconds k.slots a.q a.w.party a.w.stock a.d k.moves q.3 q.2, q.4)
 
 pub origin-from-requires : goal.origin-from-requires
 origin-from-requires c =
     let a = c.args in
     let k = c.requires.withdrawing in
     let q = c.requires.at_bound in
-    (back_in a.t.now k.first k.second k.firsts k.seconds k.slots a.q a.p a.s a.d k.moves q.3 q.2, q.2, back-linked a.t.now k.first k.second k.firsts k.seconds k.slots a.q a.p a.s a.d k.moves q.3 q.2)
+    (back_in a.t.now k.first k.second k.firsts k.seconds k.slots a.q a.w.party a.w.stock a.d k.moves q.3 q.2, q.2, back-linked a.t.now k.first k.second k.firsts k.seconds k.slots a.q a.w.party a.w.stock a.d k.moves q.3 q.2)
 
 pub untread-requires : goal.untread-requires
 untread-requires c =
@@ -39,9 +39,9 @@ untread-requires c =
     let k = c.requires.withdrawing in
     let q = c.requires.at_bound in
     let o = c.origin-from in
-    let h = back_treads a.t.now k.first k.second k.firsts k.seconds k.slots a.q a.p a.s a.d
+    let h = back_treads a.t.now k.first k.second k.firsts k.seconds k.slots a.q a.w.party a.w.stock a.d
     k.moves q.3 q.2 o.result o.ensures in
-    (h.0, back_in a.t.now k.first k.second k.firsts k.seconds k.slots a.q a.p a.s a.d k.moves q.3 q.2, q.3, q.2, h.1)
+    (h.0, back_in a.t.now k.first k.second k.firsts k.seconds k.slots a.q a.w.party a.w.stock a.d k.moves q.3 q.2, q.3, q.2, h.1)
 
 pub unvisit-requires : goal.unvisit-requires
 unvisit-requires c =
@@ -50,7 +50,7 @@ unvisit-requires c =
     let q = c.requires.at_bound in
     let o = c.origin-from in
     let v = c.untread in
-    let h = back_visits a.t.now k.first k.second k.firsts k.seconds k.slots a.q a.p a.s a.d
+    let h = back_visits a.t.now k.first k.second k.firsts k.seconds k.slots a.q a.w.party a.w.stock a.d
     k.moves q.3 q.2 o.result o.ensures v.new.t v.ensures in
     (h.0, q.3, h.1)
 
@@ -62,7 +62,7 @@ unlink_up-requires c =
     let o = c.origin-from in
     let v = c.unvisit in
     let m = c.moved-at in
-    let e = v.ensures ∙ ap (λ (l : List ℕ). pair_unvisit_in a.q l a.p.node) c.untread.ensures in
+    let e = v.ensures ∙ ap (λ (l : List ℕ). pair_unvisit_in a.q l a.w.party.node) c.untread.ensures in
     let start = by_party a.q k.first k.second in
     let chain = by_party a.q k.firsts k.seconds in
     record {
@@ -70,9 +70,9 @@ unlink_up-requires c =
       slots = k.slots;
       state = state_of (corners_from start chain);
       end = stepped a.d (end_from start chain);
-      holds = back_clears a.t.now k.first k.second k.firsts k.seconds k.slots a.q a.p a.s a.d
+      holds = back_clears a.t.now k.first k.second k.firsts k.seconds k.slots a.q a.w.party a.w.stock a.d
           k.moves q.3 q.2 o.result o.ensures v.new.t e m.result
-          (back-moved a.t.now k.first k.second k.firsts k.seconds k.slots a.q a.p a.s a.d
+          (back-moved a.t.now k.first k.second k.firsts k.seconds k.slots a.q a.w.party a.w.stock a.d
           k.moves q.3 q.2 m.result m.ensures);
     }
 
@@ -88,22 +88,22 @@ drop_up-stock-requires c =
     let v = c.unvisit in
     let m = c.moved-at in
     let u = c.unlink_up in
-    let e = v.ensures ∙ ap (λ (l : List ℕ). pair_unvisit_in a.q l a.p.node) c.untread.ensures in
+    let e = v.ensures ∙ ap (λ (l : List ℕ). pair_unvisit_in a.q l a.w.party.node) c.untread.ensures in
     let start = by_party a.q k.first k.second in
     let chain = by_party a.q k.firsts k.seconds in
     let B = both_of (corners_from k.first k.firsts) (corners_from k.second k.seconds) in
     let S = state_of (corners_from start chain) in
     let h = u.ensures B k.slots S (stepped a.d (end_from start chain))
-    (back_clears a.t.now k.first k.second k.firsts k.seconds k.slots a.q a.p a.s a.d k.moves
-    q.3 q.2 o.result o.ensures v.new.t e m.result (back-moved a.t.now k.first k.second k.firsts k.seconds k.slots a.q a.p a.s a.d k.moves q.3 q.2 m.result m.ensures)) in
-    (record { both = B; slots = k.slots; state = S; holds = back_leaves a.t.now k.first k.second k.firsts k.seconds k.slots a.q a.p a.s a.d k.moves q.3 q.2 o.result o.ensures u.new.t h }, omega (arith, q.4))
+    (back_clears a.t.now k.first k.second k.firsts k.seconds k.slots a.q a.w.party a.w.stock a.d k.moves
+    q.3 q.2 o.result o.ensures v.new.t e m.result (back-moved a.t.now k.first k.second k.firsts k.seconds k.slots a.q a.w.party a.w.stock a.d k.moves q.3 q.2 m.result m.ensures)) in
+    (record { both = B; slots = k.slots; state = S; holds = back_leaves a.t.now k.first k.second k.firsts k.seconds k.slots a.q a.w.party a.w.stock a.d k.moves q.3 q.2 o.result o.ensures u.new.t h }, omega (arith, q.4))
 
 pub overflow_sub-party : goal.overflow_sub-party
 overflow_sub-party c =
     let a = c.args in
     let k = c.requires.withdrawing in
     let q = c.requires.at_bound in
-    omega (arith, back-steps a.t.now k.first k.second k.firsts k.seconds k.slots a.q a.p a.s a.d k.moves q.3 q.2)
+    omega (arith, back-steps a.t.now k.first k.second k.firsts k.seconds k.slots a.q a.w.party a.w.stock a.d k.moves q.3 q.2)
 
 pub returns : goal.returns
 returns c =
@@ -115,20 +115,20 @@ returns c =
     let v = c.unvisit in
     let u = c.unlink_up in
     let r = c.drop_up-stock in
-    let e = v.ensures ∙ ap (λ (l : List ℕ). pair_unvisit_in a.q l a.p.node) c.untread.ensures in
-    let w : Stride = record { party = record { node = o.result; at = m.result; steps = a.p.steps - 1; tally = c.untallied-tally.result }; stock = r.result } in
+    let e = v.ensures ∙ ap (λ (l : List ℕ). pair_unvisit_in a.q l a.w.party.node) c.untread.ensures in
+    let w : Stride = record { party = record { node = o.result; at = m.result; steps = a.w.party.steps - 1; tally = c.untallied-tally.result }; stock = r.result } in
     λ x y ds es slots k.
     let start = by_party a.q x y in
     let chain = by_party a.q ds es in
     let B = both_of (corners_from x ds) (corners_from y es) in
     let S = state_of (corners_from start chain) in
-    let i = back-moved a.t.now x y ds es slots a.q a.p a.s a.d k q.3 q.2 m.result m.ensures in
+    let i = back-moved a.t.now x y ds es slots a.q a.w.party a.w.stock a.d k q.3 q.2 m.result m.ensures in
     let h = u.ensures B slots S (stepped a.d (end_from start chain))
-    (back_clears a.t.now x y ds es slots a.q a.p a.s a.d k q.3 q.2 o.result o.ensures v.new.t e
+    (back_clears a.t.now x y ds es slots a.q a.w.party a.w.stock a.d k q.3 q.2 o.result o.ensures v.new.t e
     m.result i) in
-    back_to a.t.now x y ds es slots a.q a.p a.s a.d k q.3 q.2 o.result o.ensures r.new.t w
-    (r.ensures B slots S (back_leaves a.t.now x y ds es slots a.q a.p a.s a.d k q.3 q.2 o.result
+    back_to a.t.now x y ds es slots a.q a.w.party a.w.stock a.d k q.3 q.2 o.result o.ensures r.new.t w
+    (r.ensures B slots S (back_leaves a.t.now x y ds es slots a.q a.w.party a.w.stock a.d k q.3 q.2 o.result
     o.ensures u.new.t h))
     refl i refl
     (c.untallied-tally.ensures start chain a.d
-    (back_seen a.t.now x y ds es slots a.q a.p a.s a.d k q.3 q.2 n.result n.ensures) (back-steps a.t.now x y ds es slots a.q a.p a.s a.d k q.3 q.2) (back_counted a.t.now x y ds es slots a.q a.p a.s a.d k q.3 q.2))
+    (back_seen a.t.now x y ds es slots a.q a.w.party a.w.stock a.d k q.3 q.2 n.result n.ensures) (back-steps a.t.now x y ds es slots a.q a.w.party a.w.stock a.d k q.3 q.2) (back_counted a.t.now x y ds es slots a.q a.w.party a.w.stock a.d k q.3 q.2))

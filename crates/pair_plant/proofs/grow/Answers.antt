@@ -8,6 +8,7 @@ use Rattle.grid.specs.Tree.{up_by, child_word}
 use Rattle.layout.proofs.ChildLaws.{child_word_range}
 use Rattle.pair_table.specs.Slots.{Slot}
 use Rattle.pair_table_laws.specs.Hold.{Both, words_in}
+use Rattle.std.specs.Prelude.{None, Some}
 use Rattle.pair_child.specs.declared.Located.{Located}
 use Rattle.pair_child.specs.Finds.{Childed}
 use Rattle.pair_plant.proofs.GrowLaws.{Grows, grows_start, grows_in, grows_stock, grows_child, grows_none, grows_next, grows_end}
@@ -21,62 +22,62 @@ pub loop-left-init : goal.loop-left-init
 loop-left-init c =
     let a = c.args in
     let d = c.depth-left in
-    (refl, omega arith, d.ensures, omega arith, λ slots C k. grows_start a.t.now slots C a.q a.s k c.requires.near.1 a.c d.result d.ensures)
+    (refl, d.ensures, omega arith, λ slots C k. grows_start a.t.now slots C a.q a.s k c.requires.near.1 a.c d.result d.ensures)
 
-pub child-to-requires : goal.child-to-requires
-child-to-requires c =
+pub child-requires : goal.child-requires
+child-requires c =
     let a = c.args in
     let k = c.requires.planting in
     let q = c.requires.near in
     let l = c.loop-left in
     let n = c.depth-left.result in
     let more : 0 < l.left = omega (arith, c.loop-left-test.true) in
-    let less : l.left - 1 < n = omega (arith, l.invariant.3) in
-    let g = down k.slots k.both a.q a.c l.left l.t l.to more (l.invariant.4 k.slots k.both k.plants) in
+    let less : l.left - 1 < n = omega (arith, l.invariant.2) in
+    let g = down k.slots k.both a.q a.c l.left l.t l.to more (l.invariant.3 k.slots k.both k.plants) in
     let p : c.child_word-place.result ≡ child_word (up_by (l.left - 1) a.c) = c.child_word-place.ensures
     ∙ ap child_word c.up_by.ensures in
-    let b = grows_stock a.t.now k.slots k.both a.q a.s k.plants q.1 a.c n (l.left - 1) l.invariant.2 less l.t l.to g l.invariant.1 in
+    let b = grows_stock a.t.now k.slots k.both a.q a.s k.plants q.1 a.c n (l.left - 1) l.invariant.1 less l.t l.to g in
     record {
-      in_table = (grows_in a.t.now k.slots k.both a.q a.s k.plants q.1 a.c n (l.left - 1) l.invariant.2 less l.t l.to g l.invariant.1, q.1, omega (arith, p, (child_word_range (up_by (l.left - 1) a.c)).1), omega arith);
+      in_table = (grows_in a.t.now k.slots k.both a.q a.s k.plants q.1 a.c n (l.left - 1) l.invariant.1 less l.t l.to g, q.1, omega (arith, p, (child_word_range (up_by (l.left - 1) a.c)).1), omega arith);
       low_bound = (omega (arith, b.0, l.invariant.0, q.2), omega (arith, b.1, l.invariant.0, q.2), omega (arith, l.invariant.0, q.2));
-      by_index = λ w e. grows_child a.t.now k.slots k.both a.q a.s k.plants q.1 a.c n (l.left - 1) l.invariant.2 less l.t l.to g l.invariant.1 w (ap (words_in l.t (l.to.at - 1)) (sym p) ∙ e);
+      by_index = λ w e. grows_child a.t.now k.slots k.both a.q a.s k.plants q.1 a.c n (l.left - 1) l.invariant.1 less l.t l.to g w (ap (words_in l.t l.to.node) (sym p) ∙ e);
     }
 
-pub returns-then-to-eq0 : goal.returns-then-to-eq0
-returns-then-to-eq0 c =
+pub returns-in_err-to : goal.returns-in_err-to
+returns-in_err-to c =
     let a = c.args in
     let l = c.loop-left in
     let n = c.depth-left.result in
-    let r = c.child-to in
+    let r = c.child in
     let more : 0 < l.left = omega (arith, c.loop-left-test.true) in
-    let less : l.left - 1 < n = omega (arith, l.invariant.3) in
+    let less : l.left - 1 < n = omega (arith, l.invariant.2) in
     let p : c.child_word-place.result ≡ child_word (up_by (l.left - 1) a.c) = c.child_word-place.ensures
     ∙ ap child_word c.up_by.ensures in
-    let h = subst (λ (w : ℕ). Childed a.q l.t l.to.stock (l.to.at - 1) w 0 r.new.t r.result) p r.ensures in
-    λ slots C k.
-    let g = down slots C a.q a.c l.left l.t l.to more (l.invariant.4 slots C k) in
-    grows_none a.t.now slots C a.q a.s k c.requires.near.1 a.c n (l.left - 1) l.invariant.2 less l.t l.to g
-    l.invariant.1 r.new.t r.result h a.t.now l.invariant.0 c.if-to-eq0.true
+    let h = subst (λ (w : ℕ). Childed a.q l.t l.to.stock l.to.node w 0 r.new.t None) p c.in_err-to.ensures in
+    rw c.from_residual.ensures (λ slots C k.
+    let g = down slots C a.q a.c l.left l.t l.to more (l.invariant.3 slots C k) in
+    grows_none a.t.now slots C a.q a.s k c.requires.near.1 a.c n (l.left - 1) l.invariant.1 less l.t l.to g
+    r.new.t h a.t.now l.invariant.0)
 
 pub loop-left-preserved : goal.loop-left-preserved
 loop-left-preserved c =
     let a = c.args in
     let l = c.loop-left in
     let n = c.depth-left.result in
-    let r = c.child-to in
+    let r = c.child in
+    let o = c.in_ok-to in
     let more : 0 < l.left = omega (arith, c.loop-left-test.true) in
-    let less : l.left - 1 < n = omega (arith, l.invariant.3) in
+    let less : l.left - 1 < n = omega (arith, l.invariant.2) in
     let p : c.child_word-place.result ≡ child_word (up_by (l.left - 1) a.c) = c.child_word-place.ensures
     ∙ ap child_word c.up_by.ensures in
-    let h = subst (λ (w : ℕ). Childed a.q l.t l.to.stock (l.to.at - 1) w 0 r.new.t r.result) p r.ensures in (
+    let h = subst (λ (w : ℕ). Childed a.q l.t l.to.stock l.to.node w 0 r.new.t (Some o.to)) p o.ensures in (
       r.auto.t ∙ l.invariant.0,
-      omega (arith, c.if-to-eq0.false),
-      l.invariant.2,
-      omega (arith, l.invariant.3),
+      l.invariant.1,
+      omega (arith, l.invariant.2),
       λ slots C k.
-          let g = down slots C a.q a.c l.left l.t l.to more (l.invariant.4 slots C k) in
-          grows_next a.t.now slots C a.q a.s k c.requires.near.1 a.c n (l.left - 1) l.invariant.2 less l.t
-          l.to g l.invariant.1 r.new.t r.result h c.if-to-eq0.false,
+          let g = down slots C a.q a.c l.left l.t l.to more (l.invariant.3 slots C k) in
+          grows_next a.t.now slots C a.q a.s k c.requires.near.1 a.c n (l.left - 1) l.invariant.1 less l.t
+          l.to g r.new.t o.to h,
     )
 
 pub returns : goal.returns
@@ -84,4 +85,4 @@ returns c =
     let a = c.args in
     let l = c.loop-left in
     let z : l.left ≡ 0 = omega (arith, c.loop-left-test.false) in
-    λ slots C k. grows_end a.t.now l.t slots C a.q a.c l.left l.to (l.invariant.4 slots C k) l.invariant.1 z
+    λ slots C k. grows_end a.t.now l.t slots C a.q a.c l.left l.to (l.invariant.3 slots C k) z

@@ -1,7 +1,7 @@
 -- What the loops of `pair_plant::grow` keep, and how they end.
 use mathlib.Core.List.{List}
 use mathlib.Core.Path.{◌≡◌}
-use Prim.Native.Nat.{◌<◌, ◌≤◌}
+use Prim.Native.Nat.{◌≤◌}
 use lib.ListN.{length}
 use Rattle.grid.specs.Tree.{up_by}
 use Rattle.pair_table.specs.Slots.{Slot}
@@ -12,4 +12,4 @@ use Rattle.pair_plant.proofs.GrowLaws.{Grows}
 use Rattle.pair_plant.proofs.grow.Given as goal
 
 abbrev pub invariant-loop-left : goal.invariant-loop-left
-invariant-loop-left l = (length l.t ≡ length l.initial.t) × (0 < l.to.at) × Deep l.c l.initial.left × (l.left ≤ l.initial.left) × ((slots : List Slot) (C : Both) → Plants l.initial.t slots C l.q l.initial.to.stock → Grows slots C l.q (up_by l.left l.c) l.t l.to)
+invariant-loop-left l = (length l.t ≡ length l.initial.t) × Deep l.c l.initial.left × (l.left ≤ l.initial.left) × ((slots : List Slot) (C : Both) → Plants l.initial.t slots C l.q l.initial.to.stock → Grows slots C l.q (up_by l.left l.c) l.t l.to)

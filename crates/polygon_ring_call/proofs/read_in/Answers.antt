@@ -21,7 +21,10 @@ put_chain-requires c =
     let w = c.is_whole in
     let r = ready c.args.little c.args.file.now w.result w.ensures c.if-not-is_whole.false-raw
     (length c.args.chain.now) v.result v.ensures c.in_ok-found.found c.in_ok-found.was in
-    (part_room c.args.file.now 13 (16 * ((length c.args.file.now - 13) / 16)) (omega (arith, c.requires)), r.0, r.1, r.2, r.3)
+    (r.0, r.1, r.2, r.3)
+
+pub invariant_of-points : goal.invariant_of-points
+invariant_of-points c = record { whole = part_room c.args.file.now 13 (16 * ((length c.args.file.now - 13) / 16)) (omega (arith, c.requires)) }
 
 pub returns : goal.returns
 returns c =

@@ -4,8 +4,8 @@ use mathlib.Core.Path.{sym, ◌∙◌}
 use Rattle.row_laws.proofs.CallLaws.{refused_call}
 use Rattle.row_call.proofs.list.Goals as goal
 
-pub list_room-requires : goal.list_room-requires
-list_room-requires c = sym c.judge.ensures ∙ c.in_ok-judge.was
+pub invariant_of-room : goal.invariant_of-room
+invariant_of-room c = record { judged = sym c.judge.ensures ∙ c.in_ok-judge.was }
 
 pub returns-in_err-judge : goal.returns-in_err-judge
 returns-in_err-judge c =

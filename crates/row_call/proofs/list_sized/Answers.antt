@@ -8,4 +8,4 @@ pub list_in-requires : goal.list_in-requires
 list_in-requires g c =
     let m = c.start-m in
     let p = c.requires in
-    (p.0, fresh (length c.args.chain.now) m.result g.row.N m.ensures.0 (omega (arith, m.ensures.1, p.1)) p.2 (omega (arith, p.1)), p.3)
+    (fresh (length c.args.room.now.chain.now) m.result g.row.N m.ensures.0 (omega (arith, m.ensures.1, p.0)) p.1 (omega (arith, p.0)), p.2)

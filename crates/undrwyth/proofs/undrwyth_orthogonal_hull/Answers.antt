@@ -1,12 +1,9 @@
 -- `undrwyth::undrwyth_orthogonal_hull` meets its contract.
-use mathlib.Core.Path.{ap₂, subst}
-use mir.Syntax.{w32}
-use mir.ValLaws.{to_z-of_z}
+use mathlib.Core.Path.{subst}
 use Rattle.grid.specs.declared.Corner.{Corner}
-use Rattle.grid.specs.Grid.{corner}
 use Rattle.orthogonal.specs.Call.{OrthogonalCall}
 use Rattle.undrwyth_words.proofs.WordLaws.{orthogonal_first}
-use Rattle.undrwyth.proofs.BoundaryLaws.{orthogonal_fit}
+use Rattle.undrwyth.proofs.BoundaryLaws.{same_corner, orthogonal_fit}
 use Rattle.undrwyth.proofs.undrwyth_orthogonal_hull.Goals as goal
 
 pub orthogonal_words-words-requires : goal.orthogonal_words-words-requires
@@ -22,7 +19,7 @@ returns c =
     record {
       answer = w.result;
       outlined = subst (λ (s : Corner). OrthogonalCall s a.chain.now a.grid a.out.now w.result
-          w.new.out) (ap₂ corner (to_z-of_z w32 a.start_x c.ranges.start_x) (to_z-of_z w32 a.start_y c.ranges.start_y)) w.ensures;
+          w.new.out) (same_corner c.ranges.start_x c.ranges.start_y) w.ensures;
       words_are = c.orthogonal_words-words.ensures;
       result = orthogonal_first w.result c.orthogonal_words-words.result c.orthogonal_words-words.ensures;
     }

@@ -1,12 +1,9 @@
 -- `undrwyth::undrwyth_rows` meets its contract.
-use mathlib.Core.Path.{ap₂, subst}
-use mir.Syntax.{w32}
-use mir.ValLaws.{to_z-of_z}
+use mathlib.Core.Path.{subst}
 use Rattle.grid.specs.declared.Corner.{Corner}
-use Rattle.grid.specs.Grid.{corner}
 use Rattle.row.specs.Call.{RowsCall}
 use Rattle.undrwyth_words.proofs.WordLaws.{counted_first}
-use Rattle.undrwyth.proofs.BoundaryLaws.{rows_fit}
+use Rattle.undrwyth.proofs.BoundaryLaws.{same_corner, rows_fit}
 use Rattle.undrwyth.proofs.undrwyth_rows.Goals as goal
 
 pub counted_words-words-requires : goal.counted_words-words-requires
@@ -22,7 +19,7 @@ returns c =
     record {
       answer = w.result;
       listed = subst (λ (s : Corner). RowsCall s a.chain.now a.out.now w.result w.new.out)
-          (ap₂ corner (to_z-of_z w32 a.start_x c.ranges.start_x) (to_z-of_z w32 a.start_y c.ranges.start_y))
+          (same_corner c.ranges.start_x c.ranges.start_y)
           w.ensures;
       words_are = c.counted_words-words.ensures;
       result = counted_first w.result c.counted_words-words.result c.counted_words-words.ensures;

@@ -1,12 +1,9 @@
 -- `undrwyth::undrwyth_walk` meets its contract.
-use mathlib.Core.Path.{ap₂, subst}
-use mir.Syntax.{w32}
-use mir.ValLaws.{to_z-of_z}
+use mathlib.Core.Path.{subst}
 use Rattle.grid.specs.declared.Corner.{Corner}
-use Rattle.grid.specs.Grid.{corner}
 use Rattle.walk.specs.Walk.{WalkIs}
 use Rattle.undrwyth_words.proofs.WordLaws.{answer_first}
-use Rattle.undrwyth.proofs.BoundaryLaws.{answer_fits}
+use Rattle.undrwyth.proofs.BoundaryLaws.{same_corner, answer_fits}
 use Rattle.undrwyth.proofs.undrwyth_walk.Goals as goal
 
 pub walk_words-words-requires : goal.walk_words-words-requires
@@ -23,7 +20,7 @@ returns c =
     record {
       answer = w.result;
       walked = subst (λ (k : Corner). WalkIs k a.ops.now a.table.now a.marks.now a.chain.now w.result
-          w.new.t w.new.marks w.new.chain) (ap₂ corner (to_z-of_z w32 a.start_x c.ranges.start_x) (to_z-of_z w32 a.start_y c.ranges.start_y)) w.ensures;
+          w.new.t w.new.marks w.new.chain) (same_corner c.ranges.start_x c.ranges.start_y) w.ensures;
       words_are = c.walk_words-words.ensures;
       result = answer_first w.result c.walk_words-words.result c.walk_words-words.ensures;
     }

@@ -1,7 +1,7 @@
 -- `walk_back::unlink_up` meets its contract.
 use mathlib.Core.Path.{ap, ◌∙◌}
 use native.Mathlib.Omega.{arith}
-use Rattle.walk_back.specs.Takes.{ref_by}
+use Rattle.walk_table.specs.Refs.{ref_by}
 use Rattle.walk_back.proofs.RoundLaws.{unlinked_joined, unlinked_falls, unlinked_next}
 use Rattle.walk_back.proofs.unlink_up.Goals as goal
 

@@ -2,7 +2,7 @@
 use mathlib.Core.Path.{◌≡◌}
 use lib.ListN.{length}
 use Rattle.walk_back.proofs.RoundLaws.{Unlinked}
-use Rattle.walk_back.specs.Takes.{ref_by}
+use Rattle.walk_table.specs.Refs.{ref_by}
 use Rattle.walk_back.proofs.unlink_up.Given as goal
 
 abbrev pub invariant-loop-next : goal.invariant-loop-next

@@ -7,6 +7,7 @@ use lib.Dec.{eqb}
 use lib.ListN.{get_or}
 use Rattle.layout.specs.Table.{word_at, parent_word, neighbour_word, link_word}
 use Rattle.walk_step.proofs.SpotLaws.{back_bound}
+use Rattle.walk_change.proofs.LevelLaws.{level_told}
 use Rattle.walk_change.proofs.ChangedLaws.{Up, up_start, up_held, up_few, up-linked, up_next, up_end}
 use Rattle.walk_change.proofs.changed.Goals as goal
 
@@ -46,7 +47,7 @@ rise-level-requires c =
     let l = c.loop-level in
     let r = l.invariant a.w refl refl k.start k.chain q.0 k.walked in
     let h = sym c.links_up.ensures ∙ c.loop-level-test.true in
-    ((up_held k.start k.chain a.d q.0 a.t.now a.w k.walked l.u l.v l.sum r).0, q.0, up-linked k.start k.chain a.d q.0 a.t.now a.w k.walked l.u l.v l.sum r h)
+    ((up_held k.start k.chain a.d q.0 a.t.now a.w k.walked l.u l.v l.sum r).0, omega arith, q.0, up-linked k.start k.chain a.d q.0 a.t.now a.w k.walked l.u l.v l.sum r h)
 
 pub overflow_add-sum : goal.overflow_add-sum
 overflow_add-sum c =
@@ -55,10 +56,11 @@ overflow_add-sum c =
     let q = c.requires.d_bound in
     let l = c.loop-level in
     let x = c.rise-level in
+    let told = level_told _ _ _ _ _ x.ensures in
     let r = l.invariant a.w refl refl k.start k.chain q.0 k.walked in
     let h = sym c.links_up.ensures ∙ c.loop-level-test.true in
     let g = up_next k.start k.chain a.d q.0 a.t.now a.w k.walked l.u l.v l.sum r h x.result.u
-    x.result.v x.result.count x.ensures.0 x.ensures.1 x.ensures.2 in
+    x.result.v x.result.count told.0 told.1 told.2 in
     let f = up_few k.start k.chain a.d q.0 a.t.now a.w k.walked x.result.u x.result.v
     (l.sum + x.result.count) g.1 in
     omega (arith, f.0, f.1, q.2)
@@ -70,21 +72,23 @@ loop-level-smaller c =
     let q = c.requires.d_bound in
     let l = c.loop-level in
     let x = c.rise-level in
+    let told = level_told _ _ _ _ _ x.ensures in
     (up_next k.start k.chain a.d q.0 a.t.now a.w k.walked l.u l.v l.sum
     (l.invariant a.w refl refl k.start k.chain q.0 k.walked) (sym c.links_up.ensures ∙ c.loop-level-test.true)
-    x.result.u x.result.v x.result.count x.ensures.0 x.ensures.1 x.ensures.2).0
+    x.result.u x.result.v x.result.count told.0 told.1 told.2).0
 
 pub loop-level-preserved : goal.loop-level-preserved
 loop-level-preserved c =
     let a = c.args in
     let l = c.loop-level in
     let x = c.rise-level in
+    let told = level_told _ _ _ _ _ x.ensures in
     let h = sym c.links_up.ensures ∙ c.loop-level-test.true in
     λ w n m o ds small k.
     let t = subst (λ (z : ℕ). (not (eqb (get_or a.t.now (word_at l.u parent_word) 0) 0) && eqb
     (get_or a.t.now (word_at (get_or a.t.now (word_at l.u parent_word) 0 - 1) (link_word a.d)) 0) z) ≡ true) (sym m) h in
     (up_next o ds a.d small a.t.now w k l.u l.v l.sum (l.invariant w n m o ds small k) t x.result.u x.result.v
-    x.result.count x.ensures.0 x.ensures.1 x.ensures.2).1
+    x.result.count told.0 told.1 told.2).1
 
 pub above_made-requires : goal.above_made-requires
 above_made-requires c =

@@ -1,7 +1,7 @@
 -- `walk_lookup::child` meets its contract.
 use mathlib.Core.List.{List}
 use mathlib.Core.Path.{◌≡◌, refl, ap, sym, subst, ◌∙◌}
-use Prim.Native.Nat.{ℕ, ◌+◌}
+use Prim.Native.Nat.{ℕ, ◌+◌, ◌-◌, max}
 use native.Mathlib.Omega.{arith}
 use lib.ListN.{length, set}
 use Rattle.layout.specs.Table.{word_at, parent_word, need_word}
@@ -25,9 +25,12 @@ returns-then-known-ne0 c =
     let n = c.args.nodes in
     let q = child_is t n c.args.u c.args.place c.args.step w.result w.ensures
     (λ z. omega arith) in
+    let m : w.result ≡ w.result - 1 + 1 = omega arith in
+    let k = told t n c.args.u c.args.place c.args.step w.result n t q refl in
     record {
-      made = (λ S e h deep r p. child_last t n S h (length t) c.args.step t w.result n e (child_holds t n c.args.u c.args.place c.args.step S e h deep r p (out t w.result n) q));
-      t_after = told t n c.args.u c.args.place c.args.step w.result n t q refl;
+      made = (λ S e h deep r p. subst (λ (a : ℕ). Made (length t) (grown S e c.args.step) e t a (max n a)) m
+          (child_last t n S h (length t) c.args.step t w.result n e (child_holds t n c.args.u c.args.place c.args.step S e h deep r p (out t w.result n) q)));
+      t_after = (k.0, sym m ∙ k.1);
     }
 
 pub returns-then-t-nodes : goal.returns-then-t-nodes

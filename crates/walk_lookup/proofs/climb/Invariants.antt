@@ -8,10 +8,10 @@ use Rattle.tree_laws.specs.State.{State, Holds}
 use Rattle.table_laws.specs.Climb.{Climbed}
 use Rattle.walk_lookup.proofs.climb.Given as goal
 
-abbrev pub invariant-loop-node : goal.invariant-loop-node
-invariant-loop-node l =
-    ((S : State) → Holds l.t l.nodes S → ref_of S.nodes l.initial.at ≡ suc l.u → Climbed S l.d l.initial.at l.level l.at × (ref_of S.nodes l.at ≡ suc l.node))
+abbrev pub invariant-loop-from : goal.invariant-loop-from
+invariant-loop-from l =
+    ((S : State) → Holds l.t l.nodes S → ref_of S.nodes l.initial.at ≡ suc l.from.node → Climbed S l.from.d l.initial.at l.level l.at × (ref_of S.nodes l.at ≡ suc l.node))
     × (nat_abs l.at.0 < 65536) × (nat_abs l.at.1 < 65536) × (l.level + size_of l.at ≤ size_of l.initial.at)
 
-abbrev pub decreases-loop-node : goal.decreases-loop-node
-decreases-loop-node l = size_of l.at
+abbrev pub decreases-loop-from : goal.decreases-loop-from
+decreases-loop-from l = size_of l.at

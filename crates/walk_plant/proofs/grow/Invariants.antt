@@ -7,4 +7,4 @@ use Rattle.walk_plant.proofs.GrowLaws.{Growing}
 use Rattle.walk_plant.proofs.grow.Given as goal
 
 abbrev pub invariant-loop-left : goal.invariant-loop-left
-invariant-loop-left l = (length l.t ≡ length l.initial.t) × Deep l.c l.initial.left × (l.left ≤ l.initial.left) × Growing (length l.initial.t) l.c l.t l.left l.nodes
+invariant-loop-left l = (length l.t ≡ length l.initial.t) × Deep l.c l.initial.left × (l.left ≤ l.initial.left) × Growing (length l.initial.t) l.c l.t l.left l.last

@@ -32,7 +32,7 @@ performed c x ds h = rw (← c.loop-i.invariant.0) (c.perform.ensures x ds h)
 pub loop-i-init : goal.loop-i-init
 loop-i-init c =
     let a = c.args in
-    (refl, c.requires.marks_len.0, c.requires.marks_len.1, omega arith, subst (λ (x : Corner). Running (length a.t.now) x a.ops.now a.t.now a.marks.now a.chain.now c.new-w.result 0) (sym (from c.new-w.ensures)) (running_start a.start a.node a.ops.now a.t.now a.marks.now a.chain.now c.requires.near.0 c.requires.near.1 c.requires.ops_value c.new-w.result c.new-w.ensures))
+    (refl, c.requires.marks_length, c.requires.chain_length, omega arith, subst (λ (x : Corner). Running (length a.t.now) x a.ops.now a.t.now a.marks.now a.chain.now c.new-w.result 0) (sym (from c.new-w.ensures)) (running_start a.start a.node a.ops.now a.t.now a.marks.now a.chain.now c.requires c.new-w.result c.new-w.ensures))
 
 pub perform-requires : goal.perform-requires
 perform-requires c =
@@ -41,10 +41,7 @@ perform-requires c =
     let W = length a.t.now in
     let C = c.new-w.result.spot.at in
     let m : l.i < length a.ops.now = omega (arith, c.loop-i-test.true) in
-    record {
-      ready = running_ready W C a.ops.now l.t l.marks l.chain l.w l.i l.invariant.4 m l.invariant.2;
-      t_len_bound = (omega (arith, l.invariant.0, c.requires.near.2), omega (arith, m, l.invariant.1), omega (arith, m, c.requires.marks_len.2));
-    }
+    (running_ready W C a.ops.now l.t l.marks l.chain l.w l.i l.invariant.4 m l.invariant.2 (omega (arith, l.invariant.0, c.requires.words)), omega (arith, m, l.invariant.1), omega (arith, m, c.requires.few))
 
 pub returns-in_err-w : goal.returns-in_err-w
 returns-in_err-w c =

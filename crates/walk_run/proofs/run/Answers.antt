@@ -29,7 +29,7 @@ returns-in-Ok c =
     let z = c.zero_from in
     let l : length b.new.chain ≡ length a.chain.now = search rules in
     ended-all (length a.t.now) a.start a.ops.now b.new.t b.new.marks
-    b.new.chain c.in-Ok.w (l ∙ c.requires.marks_len.1)
+    b.new.chain c.in-Ok.w (l ∙ c.requires.chain_length)
     (subst (λ (x : Result Walk Refusal). PerformedAll (length a.t.now) a.start a.ops.now b.new.t b.new.marks
     b.new.chain x) c.in-Ok.is b.ensures) z.new.s z.ensures
 

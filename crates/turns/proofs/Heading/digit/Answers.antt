@@ -1,5 +1,5 @@
 -- `turns::Heading::digit` meets its contract.
-use Rattle.std.proofs.Common.{◌≡◌, ◌%◌, sym, ap, ◌∙◌, arith}
+use Rattle.std.proofs.Common.{◌≡◌, ◌+◌, ◌-◌, ◌%◌, ◌^◌, sym, ap, ◌∙◌, arith}
 use Rattle.steps.specs.Turns.{turn_of, step_after}
 use Rattle.turns.specs.declared.Way.{Way}
 use Rattle.turns.specs.Way.{digit_by}
@@ -8,11 +8,11 @@ use Rattle.turns.proofs.Heading.digit.Goals as goal
 pub returns-in-ToTurns : goal.returns-in-ToTurns
 returns-in-ToTurns c =
     let a = c.args in
-    let e : c.wrapping_sub_u8.result % 4 ≡ turn_of a.self.0 a.x = omega arith in
+    let e : (a.x + (2 ^ 8 - a.self.0)) % 2 ^ 8 % 4 ≡ turn_of a.self.0 a.x = omega arith in
     (e ∙ sym (ap (λ (w : Way). digit_by w a.self.0 a.x) c.in-ToTurns.is), omega arith)
 
 pub returns-in-ToSteps : goal.returns-in-ToSteps
 returns-in-ToSteps c =
     let a = c.args in
-    let e : c.wrapping_add_u8.result % 4 ≡ step_after a.self.0 a.x = omega arith in
+    let e : (a.self.0 + a.x) % 2 ^ 8 % 4 ≡ step_after a.self.0 a.x = omega arith in
     (e ∙ sym (ap (λ (w : Way). digit_by w a.self.0 a.x) c.in-ToSteps.is), omega arith)

@@ -1,2 +1,0 @@
--- Counts of 1 or 0.
--- Assumes nothing.
