@@ -1,4 +1,4 @@
-/* Undrwyth, the program polygons for aarch64 under Linux: made by scripts/dist from the sources of state 8956b2295801cbe48f8f9e000110d1fe149d89e4770c1440b15c158402419bdc, which the Rattle kit proved; do not edit. SPDX-License-Identifier: MIT */
+/* Undrwyth, the program polygons for aarch64 under Linux: made by scripts/dist from the sources of state 6ebe34014c5cbdcaab53ada40270abd81a24510c61112a54dce22a0a74dc2a61, which the Rattle kit proved; do not edit. SPDX-License-Identifier: MIT */
 	.file	"rattle"
 	.section	.rodata.cst8,"aM",@progbits,8
 	.p2align	3, 0x0

@@ -13,8 +13,8 @@ use Rattle.line_io.specs.declared.Failure.{Failure}
 use Rattle.line_io.specs.Send.{SentIs}
 
 -- a page fits its buffer
-pub page_fits : (m : Margin) (s : List ℕ) {before after : List ℕ} {r : Numbered} → length s ≤ most_piece → length before ≡ most_page → NumberedIs m s before r after → length after ≡ length before → r.used ≤ length after
-page_fits m s f l n k = omega (arith, n.output.end, page_most m s)
+pub page_fits : (m : Margin) (s : List ℕ) {before after : List ℕ} {r : Numbered} → length s ≤ most_piece → NumberedIs m s before r after → r.used ≤ most_page
+page_fits m s f n = omega (arith, n.output.end, page_most m s)
 
 -- what is written from the start of a buffer that is long enough stands there
 pub wrote_start : {f before after : List ℕ} {used : ℕ} → Wrote f 0 before used after → length after ≡ length before → used ≤ length after → take used after ≡ f

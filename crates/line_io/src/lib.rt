@@ -4,7 +4,7 @@
 
 ghost use Rattle.std.specs.Prelude.{◌≡◌, ◌<◌, ◌≤◌, length, take};
 ghost use Rattle.sheet.specs.Sheet.{margin_after, page_of};
-ghost use Rattle.sheet_number.specs.Numbered.{most_piece, most_page};
+ghost use Rattle.sheet_number.specs.Numbered.{most_piece};
 ghost use Rattle.lines.specs.Tasks.{handed_of, margin_of, most_told, job_of};
 ghost use Rattle.line_io.specs.Send.{SentIs, Grows, ClosesBy};
 ghost use Rattle.line_frame.specs.Sizes.{most_held};
@@ -33,10 +33,9 @@ fn send_page<W: Write>(
     writer: &mut W,
     m: Margin,
     s: &[u8],
-    page: &mut [u8],
+    page: &mut [u8; Numbered::MOST_PAGE],
 ) -> Result<Margin, Failure>
-    requires s_len_bound { length s.now ≤ most_piece }
-    requires page_len { length page.old ≡ most_page }
+    requires { length s.now ≤ most_piece }
     ensures at { SentIs (margin_after m s.now) result }
     ensures bytes { Grows (W.contents writer.old) (W.contents writer.new) (page_of m s.now) result }
 {
@@ -55,9 +54,8 @@ fn send_pages<W: Write>(
     writer: &mut W,
     m: Margin,
     s: &[u8],
-    page: &mut [u8],
+    page: &mut [u8; Numbered::MOST_PAGE],
 ) -> Result<Margin, Failure>
-    requires { length page.old ≡ most_page }
     ensures at { SentIs (margin_after m s.now) result }
     ensures bytes { Grows (W.contents writer.old) (W.contents writer.new) (page_of m s.now) result }
 {
@@ -90,9 +88,8 @@ fn send<W: Write>(
     task: Task,
     m: Margin,
     s: &[u8],
-    page: &mut [u8],
+    page: &mut [u8; Numbered::MOST_PAGE],
 ) -> Result<Margin, Failure>
-    requires { length page.old ≡ most_page }
     ensures at { SentIs (margin_of task m s.now) result }
     ensures bytes { Grows (W.contents writer.old) (W.contents writer.new) (handed_of task m s.now) result }
 {
@@ -140,17 +137,16 @@ fn read_on<R: Read>(
 fn pass<W: Write>(
     writer: &mut W,
     task: Task,
-    line: &mut [u8],
+    line: &mut [u8; Progress::MOST_HELD],
     held: usize,
     s: &[u8],
     at: usize,
     out: &mut [u8],
     m: Margin,
-    page: &mut [u8],
+    page: &mut [u8; Numbered::MOST_PAGE],
 ) -> Result<Round, Failure>
-    requires held_le_most_held { (held ≤ most_held) × (length line.old ≡ most_held) }
+    requires held_le_most_held { held ≤ most_held }
     requires at_in_bounds { (at ≤ length s.now) × (length s.now ≤ most_part) }
-    requires page_len { length page.old ≡ most_page }
     ensures passed { PassedOn task line.old held s.now at out.old m result
         line.new out.new }
     ensures bytes { Gives task m (W.contents writer.old) (W.contents writer.new) out.new result }
@@ -165,17 +161,16 @@ fn go_round<R: Read, W: Write>(
     reader: &mut R,
     writer: &mut W,
     task: Task,
-    line: &mut [u8],
+    line: &mut [u8; Progress::MOST_HELD],
     p: Progress,
     buf: &mut [u8],
     n: usize,
     out: &mut [u8],
     m: Margin,
-    page: &mut [u8],
+    page: &mut [u8; Numbered::MOST_PAGE],
 ) -> Result<Round, Failure>
-    requires held_le_most_held { (p.held ≤ most_held) × (length line.old ≡ most_held) }
+    requires held_le_most_held { p.held ≤ most_held }
     requires n_in_bounds { (n ≤ length buf.old) × (length buf.old ≤ most_part) }
-    requires page_len { length page.old ≡ most_page }
     ensures round { RoundIs task line.old p buf.old n out.old m result line.new
         buf.new out.new }
     ensures bytes { Flows task p n m result buf.new out.new (R.remaining reader.old) (R.remaining reader.new)
@@ -191,15 +186,14 @@ fn go_round<R: Read, W: Write>(
 fn close<W: Write>(
     writer: &mut W,
     task: Task,
-    line: &[u8],
+    line: &[u8; Progress::MOST_HELD],
     held: usize,
     out: &mut [u8],
     m: Margin,
-    page: &mut [u8],
+    page: &mut [u8; Numbered::MOST_PAGE],
 ) -> Result<(), Failure>
-    requires held_le_most_held { (held ≤ most_held) × (length line.now ≡ most_held) }
+    requires held_le_most_held { held ≤ most_held }
     requires task_in_bounds { most_told task ≤ length out.old }
-    requires page_len { length page.old ≡ most_page }
     ensures out { out.new ≡ put ((job_of task).last (take held line.now)) 0 out.old }
     ensures bytes { ClosesBy (W.contents writer.old) (W.contents writer.new)
         (handed_of task m ((job_of task).last (take held line.now))) result }
@@ -214,13 +208,13 @@ fn run<R: Read, W: Write>(
     reader: &mut R,
     writer: &mut W,
     task: Task,
-    line: &mut [u8],
+    line: &mut [u8; Progress::MOST_HELD],
     buf: &mut [u8],
     out: &mut [u8],
-    page: &mut [u8],
+    page: &mut [u8; Numbered::MOST_PAGE],
 ) -> Result<(), Failure>
-    requires line_len { (length line.old ≡ most_held) × (length buf.old ≤ most_part) }
-    requires task_in_bounds { (most_told task ≤ length out.old) × (length page.old ≡ most_page) }
+    requires buf_len_bound { length buf.old ≤ most_part }
+    requires task_in_bounds { most_told task ≤ length out.old }
     ensures { 0 < length buf.old → Ends task (R.remaining reader.old) (W.contents writer.old) (W.contents writer.new) result }
 {
     let mut m = Numbered::top();

@@ -8,19 +8,18 @@ use Rattle.line_io.proofs.SendLaws.{pages_more, bytes_more, bytes_done}
 use Rattle.line_io.proofs.send_pages.Goals as goal
 
 pub loop-next-init : goal.loop-next-init
-loop-next-init g c = ([], omega arith, c.requires, refl, Appends-nil (g.W.Write.contents c.args.writer.now), refl)
+loop-next-init g c = ([], omega arith, refl, Appends-nil (g.W.Write.contents c.args.writer.now), refl)
 
 pub loop-next-preserved : goal.loop-next-preserved
 loop-next-preserved g c =
     let l = c.loop-next in
-    let (w, in_bounds, page_len, stands, given, whole) = l.invariant in
+    let (w, in_bounds, stands, given, whole) = l.invariant in
     let s = c.args.s.now in
     let end = l.at + c.min.result in
     let r = c.send_page.ensures in
     let e = c.in_ok-next.was in
     let held = g.W.Write.contents in (
       w ++ page_of l.next (take (end - l.at) (drop l.at s)),
-      omega arith,
       omega arith,
       pages_more s c.args.m l.next c.in_ok-next.next l.at end (omega arith) stands r.at e,
       Appends-trans (held c.args.writer.now) (held l.writer) (held c.send_page.new.writer) w (page_of l.next (take (end - l.at) (drop l.at s))) given
@@ -31,7 +30,7 @@ loop-next-preserved g c =
 pub returns-then-s-end-clause-bytes : goal.returns-then-s-end-clause-bytes
 returns-then-s-end-clause-bytes g c =
     let l = c.loop-next in
-    let (w, in_bounds, page_len, stands, given, whole) = l.invariant in
+    let (w, in_bounds, stands, given, whole) = l.invariant in
     let s = c.args.s.now in
     let end = l.at + c.min.result in
     let held = g.W.Write.contents in

@@ -2,12 +2,11 @@
 use Rattle.std.proofs.Common.{◌≡◌, ◌≤◌, ◌-◌, ℕ, List, ◌++◌, length, drop}
 use Rattle.std.specs.Io.KnownBytes.{Appends}
 use Rattle.sheet.specs.Sheet.{margin_after, page_of}
-use Rattle.sheet_number.specs.Numbered.{most_page}
 use Rattle.line_io.proofs.send_pages.Given as goal
 
 abbrev pub invariant-loop-next : goal.invariant-loop-next
 invariant-loop-next g l =
-    (w : List ℕ) × (l.at ≤ length l.s) × (length l.page ≡ most_page)
+    (w : List ℕ) × (l.at ≤ length l.s)
     × (margin_after l.next (drop l.at l.s) ≡ margin_after l.fn.m l.s)
     × Appends (g.W.Write.contents l.fn.writer) (g.W.Write.contents l.writer) w
     × (w ++ page_of l.next (drop l.at l.s) ≡ page_of l.fn.m l.s)
