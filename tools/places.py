@@ -84,7 +84,7 @@ def repeated_facts():
         for clause in re.findall(r"requires[^{]*\{(.*?)\}(?= (?:requires|ensures)|$)", clauses):
             for fact in clause.split(" × "):
                 fact = re.sub(r"\.(old|now|new)\b", "", fact).strip(" ()")
-                if len(fact) > 12:
+                if len(fact) > 4 and not re.fullmatch(r"\w+ : [^→]*", fact):  # a fact, and not a name that a later fact is about
                     seen[crate, fact].add(name)
     for (crate, fact), names in sorted(seen.items()):
         if len(names) > 2:
